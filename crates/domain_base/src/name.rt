@@ -1,0 +1,127 @@
+//! Names over octets.
+ghost use Rattle.std.specs.Prelude.{◌≡◌, ℕ, ◌↔◌, List, Some, refl, IsOk, IfOk, IfErr};
+ghost use Rattle.std.specs.Cmp.{partial_equiv_from_equiv};
+ghost use Rattle.std.specs.Hash as fed;
+ghost use Rattle.domain_base.specs.Name.{wire_of, lowered, same_name};
+ghost use Rattle.domain_base.specs.Text.{name_text};
+ghost use Rattle.domain_base.specs.Order.{canonical_cmp, canonical_cmp_total};
+ghost use Rattle.domain_base.specs.Laws.{same_name_equiv, same_name_ties, same_name_fed, canonical_po};
+ghost use Rattle.domain_base.specs.Fault.{FirstFault, fault_of};
+ghost use Rattle.domain_base.specs.Wire.{labels_of, IsWire};
+
+use crate::{ParseError, ToName, text, wire};
+use domain_octets::{Octets, OutOfMemory, TryClone};
+use std::cmp::Ordering;
+use std::fmt;
+use std::hash::{Hash, Hasher};
+use std::marker::Model;
+
+/// A name whose wire form lies in octets.
+#[derive(Drop)]
+pub struct Name<O: Octets> {
+    octets: O,
+}
+
+impl<O: Octets> Model for Name<O> {
+    ghost Value = { List (List ℕ) };
+
+    ghost view = { λ n. labels_of (O.octets n.octets) };
+
+    ghost invariant = { λ n. IsWire (O.octets n.octets) };
+}
+
+impl<O: Octets> Name<O> {
+    /// Octets that are a name and nothing more.
+    #[tactic(auto, using(crate::proofs::FaultLemmas::no_fault))]
+    pub fn from_octets(octets: O) -> Result<Self, ParseError>
+    where
+        O: Drop,
+        ensures ok { IsOk result ↔ IsWire (O.octets octets) }
+        ensures labels { IfOk result (λ name. O.octets octets ≡ wire_of name) }
+        ensures err { IfErr result (λ e. FirstFault 0 (O.octets octets) (fault_of e)) }
+    {
+        wire::check(octets.as_slice())?;
+        Ok(Name { octets })
+    }
+
+    pub fn into_octets(self) -> O
+        ensures { O.octets result ≡ wire_of self }
+    {
+        let Name { octets } = self;
+        octets
+    }
+}
+
+impl<O: Octets> TryClone for Name<O> {
+    ghost is_clone = { λ n copy. copy ≡ n };
+
+    fn try_clone(&self) -> Result<Self, OutOfMemory> {
+        Ok(Name {
+            octets: self.octets.try_clone()?,
+        })
+    }
+}
+
+impl<O: Octets> ToName for Name<O> {
+    ghost labels = { λ n. n };
+
+    fn as_wire(&self) -> &[u8] {
+        self.octets.as_slice()
+    }
+}
+
+impl<O: Octets> PartialEq for Name<O> {
+    ghost eq = { same_name };
+
+    ghost laws = { partial_equiv_from_equiv same_name_equiv };
+
+    fn eq(&self, other: &Self) -> bool {
+        self.name_eq(other)
+    }
+}
+
+impl<O: Octets> Eq for Name<O> {
+    ghost laws = { same_name_equiv };
+}
+
+impl<O: Octets> PartialOrd for Name<O> {
+    ghost partial_cmp = { λ a b. Some (canonical_cmp a b) };
+
+    ghost laws = { canonical_po };
+
+    fn partial_cmp(&self, other: &Self) -> Option<Ordering> {
+        Some(self.name_cmp(other))
+    }
+}
+
+impl<O: Octets> Ord for Name<O> {
+    ghost cmp = { canonical_cmp };
+
+    ghost total = { canonical_cmp_total };
+
+    ghost matches_partial_cmp = { λ a b. refl };
+
+    ghost matches_eq = { same_name_ties };
+
+    fn cmp(&self, other: &Self) -> Ordering {
+        self.name_cmp(other)
+    }
+}
+
+impl<O: Octets> Hash for Name<O> {
+    ghost hash_input = { λ n. fed.slice fed.u8 (wire_of (lowered n)) };
+
+    ghost respects_eq = { (same_name_fed (λ labels. fed.slice fed.u8 (wire_of labels))).fed };
+
+    fn hash<H: Hasher>(&self, state: &mut H) {
+        wire::hash(self.as_wire(), state);
+    }
+}
+
+impl<O: Octets> fmt::Display for Name<O> {
+    ghost output = { λ n. Some (name_text n) };
+
+    fn fmt<W: fmt::Write>(&self, f: &mut fmt::Formatter<W>) -> fmt::Result {
+        text::write_name(self.as_wire(), f)
+    }
+}

@@ -1,0 +1,34 @@
+//! Times to live.
+ghost use Rattle.std.specs.Prelude.{◌≡◌};
+
+use std::marker::Model;
+
+/// How long a record may be cached, in seconds: a number of 32 bits (RFC 1035, section 3.2.1; RFC 2181, section 8).
+#[derive(Clone, Copy, Debug, PartialEq, Eq, PartialOrd, Ord, Hash)]
+pub struct Ttl(u32);
+
+impl Model for Ttl {
+    ghost use Rattle.std.specs.Prelude.{ℕ};
+
+    ghost Value = { ℕ };
+
+    ghost view = { λ t. t.0 };
+
+    ghost inverse = { λ n. record { 0 = n } };
+}
+
+impl Ttl {
+    /// So many seconds.
+    pub const fn from_secs(seconds: u32) -> Ttl
+        ensures { result ≡ seconds }
+    {
+        Ttl(seconds)
+    }
+
+    /// The number of seconds.
+    pub const fn as_secs(self) -> u32
+        ensures { result ≡ self }
+    {
+        self.0
+    }
+}

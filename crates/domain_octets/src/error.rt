@@ -1,0 +1,64 @@
+//! Why octets were not appended, and want of memory.
+ghost use Rattle.std.specs.Prelude.{◌≡◌};
+ghost use Rattle.domain_octets.specs.declared.error.AppendError.TheVariants as append_error;
+
+use std::alloc::{AllocError, AllocFailed};
+use std::error::Error;
+use std::fmt;
+
+/// Want of memory: an allocation was refused.
+#[derive(Clone, Copy, Debug, PartialEq, Eq)]
+pub struct OutOfMemory;
+
+impl fmt::Display for OutOfMemory {
+    fn fmt<W: fmt::Write>(&self, f: &mut fmt::Formatter<W>) -> fmt::Result {
+        f.write_str("out of memory")
+    }
+}
+
+impl Error for OutOfMemory {}
+
+impl From<AllocError> for OutOfMemory {
+    fn from(_error: AllocError) -> OutOfMemory {
+        OutOfMemory
+    }
+}
+
+impl<T: Drop> From<AllocFailed<T>> for OutOfMemory {
+    fn from(_error: AllocFailed<T>) -> OutOfMemory {
+        OutOfMemory
+    }
+}
+
+/// Why a builder did not append octets.
+#[derive(Clone, Copy, Debug, PartialEq, Eq)]
+pub enum AppendError {
+    /// The builder has a limit, and the octets would pass it.
+    ShortBuf,
+    /// There was no memory.
+    OutOfMemory,
+}
+
+impl From<OutOfMemory> for AppendError {
+    ghost from_gives = { λ _ e. e ≡ append_error.OutOfMemory };
+
+    fn from(_error: OutOfMemory) -> AppendError {
+        AppendError::OutOfMemory
+    }
+}
+
+impl From<AllocError> for AppendError {
+    ghost from_gives = { λ _ e. e ≡ append_error.OutOfMemory };
+
+    fn from(_error: AllocError) -> AppendError {
+        AppendError::OutOfMemory
+    }
+}
+
+impl<T: Drop> From<AllocFailed<T>> for AppendError {
+    ghost from_gives = { λ _ e. e ≡ append_error.OutOfMemory };
+
+    fn from(_error: AllocFailed<T>) -> AppendError {
+        AppendError::OutOfMemory
+    }
+}

@@ -1,0 +1,62 @@
+//! Octets that lie together.
+ghost use Rattle.std.specs.Prelude.{◌≡◌, ℕ, List, IfOk};
+
+use crate::OutOfMemory;
+
+/// A value that can be copied, which may take memory.
+pub trait TryClone {
+    ghost is_clone: { Self → Self → Type 0 };
+
+    fn try_clone(&self) -> Result<Self, OutOfMemory>
+    where
+        Self: Sized,
+        ensures { IfOk result (is_clone self.now) };
+}
+
+/// A value that can be read as octets.
+pub trait Octets: TryClone {
+    /// The octets.
+    ghost octets: { Self → List ℕ };
+
+    fn as_slice(&self) -> &[u8]
+        ensures { result.now ≡ octets self.now };
+
+    /// A copy has the same octets.
+    ghost clone_octets: { (value copy : Self) → Self.is_clone value copy → octets copy ≡ octets value };
+}
+
+impl TryClone for Vec<u8> {
+    ghost is_clone = { λ v copy. copy.items ≡ v.items };
+
+    fn try_clone(&self) -> Result<Vec<u8>, OutOfMemory> {
+        Ok(self.clone()?)
+    }
+}
+
+impl<'a> TryClone for &'a [u8] {
+    ghost is_clone = { λ s copy. copy.now ≡ s.now };
+
+    fn try_clone(&self) -> Result<&'a [u8], OutOfMemory> {
+        Ok(*self)
+    }
+}
+
+impl Octets for Vec<u8> {
+    ghost octets = { λ v. v.items };
+
+    ghost clone_octets = { λ v copy same. same };
+
+    fn as_slice(&self) -> &[u8] {
+        Vec::as_slice(self)
+    }
+}
+
+impl<'a> Octets for &'a [u8] {
+    ghost octets = { λ s. s.now };
+
+    ghost clone_octets = { λ s copy same. same };
+
+    fn as_slice(&self) -> &[u8] {
+        self
+    }
+}

@@ -1,0 +1,83 @@
+//! Records.
+ghost use Rattle.std.specs.Prelude.{◌≡◌};
+
+use crate::RecordData;
+use domain_base::{CanonicalOrd, Class, Rtype, ToName, Ttl};
+use std::cmp::Ordering;
+
+/// A record: data of one class at an owner, and how long it may be cached (RFC 1035, section 3.2).
+#[derive(Debug, Drop)]
+pub struct Record<N, D> {
+    owner: N,
+    class: Class,
+    ttl: Ttl,
+    data: D,
+}
+
+impl<N, D> Record<N, D> {
+    /// A record of these parts.
+    pub fn new(owner: N, class: Class, ttl: Ttl, data: D) -> Self
+        ensures { result ≡ record { owner = owner; class = class; ttl = ttl; «data» = «data» } }
+    {
+        Record {
+            owner,
+            class,
+            ttl,
+            data,
+        }
+    }
+
+    /// The name that owns the record.
+    pub fn owner(&self) -> &N
+        ensures { result.now ≡ self.now.owner }
+    {
+        &self.owner
+    }
+
+    /// The class.
+    pub fn class(&self) -> Class
+        ensures { result ≡ self.now.class }
+    {
+        self.class
+    }
+
+    /// How long the record may be cached.
+    pub fn ttl(&self) -> Ttl
+        ensures { result ≡ self.now.ttl }
+    {
+        self.ttl
+    }
+
+    /// The data.
+    pub fn data(&self) -> &D
+        ensures { result.now ≡ self.now.«data» }
+    {
+        &self.data
+    }
+}
+
+impl<N, D: RecordData> Record<N, D> {
+    /// The type of the data.
+    pub fn rtype(&self) -> Rtype
+        ensures { result ≡ D.rtype self.now.«data» }
+    {
+        self.data.rtype()
+    }
+}
+
+// By class, owner, type and data. The TTL is not compared.
+impl<N: ToName, D: RecordData + CanonicalOrd> CanonicalOrd for Record<N, D> {
+    ghost use Rattle.domain_plain.specs.Record.{record_cmp, record_cmp_total};
+
+    ghost canonical_cmp = { record_cmp N.labels D.rtype D.canonical_cmp };
+
+    ghost total = { record_cmp_total N.labels D.rtype D.canonical_cmp D.total };
+
+    fn canonical_cmp(&self, other: &Self) -> Ordering {
+        self.class
+            .cmp(&other.class)
+            .then_with(|| self.owner.name_cmp(&other.owner))
+            .then_with(|| self.data.rtype().cmp(&other.data.rtype()))
+            .then_with(|| self.data.canonical_cmp(&other.data))
+    }
+}
