@@ -7,8 +7,10 @@ mod error;
 mod labels;
 pub mod laws;
 mod name;
+mod number;
 mod parsed;
 mod rtype;
+mod scanner;
 #[cfg(test)]
 mod tests;
 mod text;
@@ -18,10 +20,11 @@ mod wire;
 
 pub use canonical::CanonicalOrd;
 pub use class::Class;
-pub use error::ParseError;
+pub use error::{ParseError, ScanError};
 pub use labels::Labels;
 pub use name::Name;
 pub use parsed::ParsedName;
 pub use rtype::Rtype;
+pub use scanner::{FromToken, Scanner};
 pub use to_name::ToName;
 pub use ttl::Ttl;
