@@ -273,3 +273,7 @@ module _ (text wire : List ℕ) (o : Option (List ℕ)) (found : IsLabelsWire te
         let size : length (wire_of found.0) ≤ 255 = subst (λ l. length (wire_of l) ≤ 255) (sym same) valid.fits in
         absurd (let some = room'.1 (omega (arith, size, ap length found.3, length-append wire (0 ∷ []))) in cc))
     go (Some w) room' = tt
+
+pub name_is_valid : (text : List ℕ) (labels : List (List ℕ)) → NameText text labels → IsName labels
+name_is_valid text labels root = record { of_labels = tt; fits = omega arith }
+name_is_valid text labels (of_labels t l spelled valid) = valid

@@ -25,6 +25,6 @@ pub use labels::Labels;
 pub use name::Name;
 pub use parsed::ParsedName;
 pub use rtype::Rtype;
-pub use scanner::{FromToken, Scanner};
-pub use to_name::ToName;
+pub use scanner::{FromToken, IterScanner, Scanner};
+pub use to_name::{MakeName, ToName};
 pub use ttl::Ttl;
