@@ -6,6 +6,7 @@ mod class;
 mod error;
 mod labels;
 pub mod laws;
+mod named;
 mod name;
 mod number;
 mod parsed;
