@@ -3,6 +3,7 @@ use Rattle.std.specs.Prelude.{◌≡◌, ℕ, ◌<◌, ◌^◌, ◌==◌, List, 
 use Rattle.std.specs.Char.{to_ascii_lowercase}
 use Rattle.std.specs.Cmp.Lexicographic.{pointwise}
 use Rattle.std.specs.Fmt.{decimal}
+use Rattle.std.specs.Borrow.{Bor}
 use Rattle.domain_base.specs.Scan.{IsNumber}
 
 -- a number and its name
@@ -24,11 +25,24 @@ abbrev pub name_of : List Named → ℕ → Option (List ℕ)
 name_of [] n = None
 name_of (entry ∷ table) n = if entry.number == n then Some entry.name else name_of table n
 
--- a name in either case, or the prefix in either case with a decimal number of 16 bits after it (RFC 3597, section 5)
+-- the text is the prefix, in either case, and the rest
+pub record HasPrefix (prefix text rest : List ℕ) : Type 0 where
+  pub front : List ℕ
+  pub parts : text ≡ front ++ rest
+  pub same : map to_ascii_lowercase front ≡ map to_ascii_lowercase prefix
+
+abbrev pub IsWithoutPrefix : List ℕ → List ℕ → Type 0
+IsWithoutPrefix prefix text = (rest : List ℕ) → HasPrefix prefix text rest → ⊥
+
+-- a name in either case, or the prefix in either case with a decimal number of 16 bits after it
 pub data NumberText (table : List Named) (prefix : List ℕ) : List ℕ → ℕ → Type 0 where
   by_name : (text : List ℕ) (n : ℕ) → number_named table text ≡ Some n → NumberText table prefix text n
-  by_number : (front digits : List ℕ) (n : ℕ) → map to_ascii_lowercase front ≡ map to_ascii_lowercase prefix → IsNumber 16 digits n → NumberText table prefix (front ++ digits) n
+  by_number : (text digits : List ℕ) (n : ℕ) → number_named table text ≡ None → HasPrefix prefix text digits → IsNumber 16 digits n → NumberText table prefix text n
 
 -- its name, or the prefix and its decimal digits
 abbrev pub number_text : List Named → List ℕ → ℕ → List ℕ
 number_text table prefix n = unwrap_or (name_of table n) (prefix ++ decimal n)
+
+-- a table as the program has it
+abbrev pub entries : List (ℕ × Bor (List ℕ)) → List Named
+entries = map (λ entry. record { number = entry.0; name = entry.1.now })

@@ -15,7 +15,7 @@ fn read_u8(text: &str) -> Option<u8>
     text.parse::<u8>().ok()
 }
 
-fn read_u16(text: &str) -> Option<u16>
+pub fn read_u16(text: &str) -> Option<u16>
     ensures { SomeIff result (IsNumeral 10 text.now × (digits_value 10 text.now < 2 ^ 16)) (digits_value 10 text.now) }
 {
     if text.as_bytes().first() == Some(&b'+') {
@@ -24,7 +24,7 @@ fn read_u16(text: &str) -> Option<u16>
     text.parse::<u16>().ok()
 }
 
-fn read_u32(text: &str) -> Option<u32>
+pub fn read_u32(text: &str) -> Option<u32>
     ensures { SomeIff result (IsNumeral 10 text.now × (digits_value 10 text.now < 2 ^ 32)) (digits_value 10 text.now) }
 {
     if text.as_bytes().first() == Some(&b'+') {
