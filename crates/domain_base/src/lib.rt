@@ -1,13 +1,14 @@
 //! Names of the DNS.
 #![tactic(auto)]
 
+mod algorithm;
 mod canonical;
 mod class;
 mod error;
 mod labels;
 pub mod laws;
-mod named;
 mod name;
+mod named;
 mod number;
 mod parsed;
 mod rtype;
@@ -19,6 +20,7 @@ mod to_name;
 mod ttl;
 mod wire;
 
+pub use algorithm::{DigestAlgorithm, Nsec3HashAlgorithm, SecurityAlgorithm};
 pub use canonical::CanonicalOrd;
 pub use class::Class;
 pub use error::{ParseError, ScanError};

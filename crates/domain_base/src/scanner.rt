@@ -1,5 +1,6 @@
 //! The tokens of an entry of a zone file.
-ghost use Rattle.std.specs.Prelude.{◌≡◌, ◌≢◌, ◌↔◌, ◌∷◌, [], ℕ, List, drop, map, IsTrue, IfOk, IfErr, MatchOption};
+ghost use Rattle.std.specs.Prelude.{◌≡◌, ◌≢◌, ◌↔◌, ◌∷◌, [], ℕ, List, drop, map, IsTrue, IfOk, IfErr, IsOkAnd, MatchOption};
+ghost use Rattle.std.specs.Fn.{FnOnceReturnsAt};
 ghost use Rattle.domain_base.specs.Scan.{ScanFault, scan_fault_of, TakesToken, RefusesToken, NameFault};
 ghost use Rattle.domain_base.specs.Text.{NameText};
 
@@ -26,6 +27,24 @@ pub trait Scanner {
     /// Goes past the next token, if there is one.
     fn skip_token(&mut self)
         ensures { tokens self.new ≡ drop 1 (tokens self.old) };
+
+    /// Hands the next token to a function, as it stands, goes past it, and answers what the function
+    /// answers. Where no token is left, answers `EndOfEntry`.
+    final fn scan_ascii_str<T, F: FnOnce(&str) -> T>(&mut self, f: F) -> Result<T, ScanError>
+    where
+        Self: Sized,
+        F: Drop,
+        requires { F.IsAlwaysCallable f }
+        ensures none { tokens self.old ≡ [] → (result ≡ Err ScanError.EndOfEntry) × (tokens self.new ≡ []) }
+        ensures some { (token : List ℕ) (rest : List (List ℕ)) → tokens self.old ≡ token ∷ rest → IsOkAnd result (FnOnceReturnsAt F.FnOnce f token) × (tokens self.new ≡ rest) }
+    {
+        let Some(token) = self.first_token() else {
+            return Err(ScanError::EndOfEntry);
+        };
+        let value = f(token);
+        self.skip_token();
+        Ok(value)
+    }
 
     /// The name that the next token spells (RFC 1035, section 5.1), with or without a last dot: in
     /// either case it is absolute. A token that is refused is gone past too.
