@@ -1,0 +1,4 @@
+pub mod RangeLemmas
+pub mod BitLemmas
+pub mod TrimLemmas
+pub mod SlotLemmas
