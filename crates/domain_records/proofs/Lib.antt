@@ -1,0 +1,4 @@
+pub mod OrderLemmas
+pub mod Runs
+pub mod SortedLists
+pub mod Sorting

@@ -1,0 +1,6 @@
+pub mod Groups
+pub mod Order
+pub mod Runs
+pub mod Slices
+pub mod Sort
+pub mod SortedSet
