@@ -1,9 +1,10 @@
-//! Why records were not signed or hashed.
+//! Why records were not put in, signed or hashed.
 ghost use Rattle.std.specs.Prelude.{◌≡◌};
 ghost use Rattle.domain_records.specs.declared.error.SigningError.TheVariants as signing_error;
 ghost use Rattle.domain_records.specs.declared.error.Nsec3HashError.TheVariants as nsec3_hash_error;
 
 use domain_octets::OutOfMemory;
+use domain_plain::Record;
 use std::alloc::{AllocError, AllocFailed};
 
 /// Why a chain of hashed names was not made (RFC 5155, section 7.1).
@@ -84,4 +85,13 @@ impl<T: Drop> From<AllocFailed<T>> for SigningError {
     fn from(_error: AllocFailed<T>) -> SigningError {
         SigningError::OutOfMemory
     }
+}
+
+/// Why a record was not put in. Each variant hands the record back.
+#[derive(Debug, Drop)]
+pub enum InsertError<N, D> {
+    /// A record that is equal under the canonical order stands there already.
+    Present(Record<N, D>),
+    /// There was no memory.
+    OutOfMemory(Record<N, D>),
 }

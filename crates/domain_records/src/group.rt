@@ -1,7 +1,7 @@
 //! Groups of neighbours.
 ghost use Rattle.std.specs.Prelude.{◌≡◌, ◌<◌, ◌↔◌, length, Bool, IsTrue, slice_index_or};
 ghost use Rattle.domain_records.specs.Slices.{items_of};
-ghost use Rattle.domain_records.specs.Groups.{same_owner, same_type, same_rrset, same_class, may_follow};
+ghost use Rattle.domain_records.specs.Groups.{same_owner, same_type, same_rrset, same_class, same_ttl, may_follow};
 ghost use Rattle.domain_records.specs.Runs.{IsFirstRun, HoldsOfNeighbours};
 
 use crate::slice::SliceRefsOrOwned;
@@ -59,6 +59,17 @@ impl<N, D> Grouping<Record<N, D>> for ByClass {
 
     fn same(a: &Record<N, D>, b: &Record<N, D>) -> bool {
         a.class() == b.class()
+    }
+}
+
+/// Records of one TTL.
+pub struct ByTtl;
+
+impl<N, D> Grouping<Record<N, D>> for ByTtl {
+    ghost same = { same_ttl };
+
+    fn same(a: &Record<N, D>, b: &Record<N, D>) -> bool {
+        a.ttl() == b.ttl()
     }
 }
 

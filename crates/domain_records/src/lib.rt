@@ -5,12 +5,14 @@ mod error;
 mod group;
 mod list;
 mod owner;
+mod rrset;
 mod slice;
 mod sorted;
 mod sorter;
 
-pub use error::{Nsec3HashError, SigningError};
+pub use error::{InsertError, Nsec3HashError, SigningError};
 pub use owner::{OwnerRrs, RecordsIter};
+pub use rrset::{OwnerRrsIter, Rrset, RrsetIter};
 pub use slice::{RefSlice, SliceRefsOrOwned, SliceRefsOrOwnedIterator};
 pub use sorted::SortedRecords;
 pub use sorter::{DefaultSorter, Sorter};

@@ -1,16 +1,17 @@
 //! The records of one owner after another.
-ghost use Rattle.std.specs.Prelude.{◌≡◌, ◌≤◌, ◌<◌, ◌↔◌, length, map, slice_get, IsTrue};
+ghost use Rattle.std.specs.Prelude.{◌≡◌, ◌≤◌, ◌<◌, ◌↔◌, [], length, map, drop, Any, IsTrue};
 ghost use Rattle.std.specs.List.{AllByRecursion};
 ghost use Rattle.std.specs.Iterator.{item_count};
-ghost use Rattle.domain_base.specs.Name.{IsSame};
+ghost use Rattle.domain_base.specs.Name.{IsSame, IsAtOrBelow};
 ghost use Rattle.domain_records.specs.Slices.{items_of};
-ghost use Rattle.domain_records.specs.Groups.{same_owner, HasFirst};
+ghost use Rattle.domain_records.specs.Groups.{same_owner, HasFirst, SkipsTo, IsZoneCut};
 ghost use Rattle.domain_records.specs.Order.{IsOneClass, IsInOrder};
 ghost use Rattle.domain_records.specs.Runs.{runs, AreGroups, TakesRun};
 
 use crate::group::{ByClass, ByOwner, InOrder, first_run, is_one_run};
+use crate::rrset::OwnerRrsIter;
 use crate::slice::{SliceRefsOrOwned, SliceRefsOrOwnedIterator};
-use domain_base::{Class, ToName};
+use domain_base::{Class, Rtype, ToName};
 use domain_plain::{Record, RecordData};
 use std::marker::Model;
 
@@ -50,12 +51,71 @@ impl<'a, N: ToName, D> OwnerRrs<'a, N, D> {
         self.records.at(0).class()
     }
 
+    /// Whether some record is NS, and the owner is not the apex. For an owner in the zone it then is a delegation.
+    pub fn is_zone_cut(&self, apex: &N) -> bool
+    where
+        D: RecordData,
+        ensures { IsTrue result ↔ IsZoneCut N.labels D.rtype (N.labels apex.now) self.now }
+    {
+        !self.owner().name_eq(apex) && has_type(&self.records, Rtype::NS)
+    }
+
+    /// Whether the owner is at or below the apex.
+    pub fn is_in_zone(&self, apex: &N) -> bool
+        ensures { IsTrue result ↔ HasFirst (λ r. IsAtOrBelow (N.labels r.owner) (N.labels apex.now)) self.now }
+    {
+        self.owner().ends_with(apex)
+    }
+
+    /// The groups of records of one type, in the order in which they stand.
+    pub fn rrsets(&self) -> OwnerRrsIter<'a, N, D>
+    where
+        D: RecordData,
+        ensures { result ≡ self.now }
+    {
+        OwnerRrsIter::new(self.records.clone())
+    }
+
+    /// The same group. Takes no memory.
+    pub fn clone(&self) -> OwnerRrs<'a, N, D>
+        ensures { result ≡ self.now }
+    {
+        OwnerRrs {
+            records: self.records.clone(),
+        }
+    }
+
     /// The records in order.
     pub fn records(&self) -> SliceRefsOrOwnedIterator<'a, Record<N, D>>
         ensures { result ≡ self.now }
     {
         self.records.iter()
     }
+}
+
+/// Whether some record is of this type.
+fn has_type<N, D: RecordData>(records: &SliceRefsOrOwned<'_, Record<N, D>>, wanted: Rtype) -> bool
+    ensures { IsTrue result ↔ Any (λ r. D.rtype r.«data» ≡ wanted) (items_of records.now) }
+{
+    for i in 0..records.len() {
+        if records.at(i).rtype() == wanted {
+            return true;
+        }
+    }
+    false
+}
+
+/// How many records stand before the first whose owner is at or below the apex.
+fn count_outside<N: ToName, D>(records: &SliceRefsOrOwned<'_, Record<N, D>>, apex: &N) -> usize
+    ensures { SkipsTo (λ r. IsAtOrBelow (N.labels r.owner) (N.labels apex.now)) (items_of records.now)
+        (drop result (items_of records.now)) × (result ≤ length (items_of records.now)) }
+{
+    let total = records.len();
+    let mut n = 0;
+    while n < total && !records.at(n).owner().ends_with(apex) {
+        n += 1;
+    }
+    n
 }
 
 /// An iterator over the groups of records of one owner, in the order in which they stand. The groups borrow from the
@@ -95,6 +155,29 @@ impl<'a, N: ToName, D> RecordsIter<'a, N, D> {
         ensures { result ≡ records.now }
     {
         RecordsIter::new(SliceRefsOrOwned::new_from_owned(records))
+    }
+
+    /// Whether no record is left.
+    pub fn is_empty(&self) -> bool
+        ensures { IsTrue result ↔ (self.now ≡ []) }
+    {
+        self.left.len() == 0
+    }
+
+    /// The first record left.
+    pub fn first(&self) -> &'a Record<N, D>
+        requires { 0 < length self.now }
+        ensures { HasFirst (λ r. r ≡ result.now) self.now }
+    {
+        self.left.at(0)
+    }
+
+    /// Drops records from the front while their owners are not at or below the apex, all where none is.
+    pub fn skip_before(&mut self, apex: &N)
+        ensures { SkipsTo (λ r. IsAtOrBelow (N.labels r.owner) (N.labels apex.now)) self.old self.new }
+    {
+        let n = count_outside(&self.left, apex);
+        self.left = self.left.back(n);
     }
 
     /// Whether the records left have one class. It holds where none is left.
