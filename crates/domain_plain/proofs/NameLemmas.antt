@@ -2,15 +2,17 @@
 use Rattle.std.proofs.Common.{◌≡◌, ℕ, ◌+◌, ◌<◌, ◌≤◌, List, [], ◌∷◌, ◌++◌, length, get_or, take, drop, sym, ap, subst, ◌∙◌, arith, length-append, append_assoc}
 use Rattle.std.specs.Prelude.{codes}
 use Rattle.std.specs.List.{AllByRecursion}
-use Rattle.std.proofs.lemmas.List.{take-append-drop, drop-drop, drop_at, take_at, drop_more, drop_all, length-drop, length-take-le}
+use Rattle.std.proofs.lemmas.List.{length-map, take-append-drop, drop-drop, drop_at, take_at, drop_more, drop_all, length-drop, length-take-le}
 use Rattle.domain_base.specs.Name.{wire_of, IsLabel, IsName}
 use Rattle.domain_base.specs.Wire.{labels_of, IsWire}
 use Rattle.domain_base.specs.Fault.{Fault, ends_early, malformed}
 use Rattle.domain_base.proofs.WireLemmas.{IsWire-wire_of, labels_of-wire_of}
-use Rattle.std.proofs.Common.{map}
+use Rattle.std.proofs.Common.{map, refl}
 use Rattle.std.specs.Char.{to_ascii_lowercase}
 use Rattle.domain_base.specs.Name.{lowered}
 use Rattle.domain_base.proofs.CaseLemmas.{lowered_wire as base_lowered_wire}
+use Rattle.std.specs.Ordering.{nat_cmp}
+use Rattle.std.specs.Cmp.Lexicographic.{slice_cmp}
 use Rattle.domain_plain.specs.Layout.{one, Begins, octets_of}
 use Rattle.domain_plain.specs.Field.{name, NameFault, no_octet, bad_label, long_name, cut_label, past_label}
 
@@ -107,3 +109,12 @@ wire_is octets wire = sym wire.spelled
 
 pub name_fits : (octets : List ℕ) → IsWire octets → IsName (labels_of octets)
 name_fits octets wire = wire.valid
+
+-- the lowered octets of a name, compared with as many others
+pub lowered_order_from : (wire o : List ℕ) → IsWire wire → slice_cmp nat_cmp (map to_ascii_lowercase wire) (take (length wire) o) ≡ slice_cmp nat_cmp (wire_of (lowered (labels_of wire))) (take (length (wire_of (lowered (labels_of wire)))) o)
+lowered_order_from wire o h = rw (lowered_wire wire h, length-map) refl
+
+pub lowered_rest_from : (wire o : List ℕ) → IsWire wire → drop (length wire) o ≡ drop (length (wire_of (lowered (labels_of wire)))) o
+lowered_rest_from wire o h = rw (lowered_wire wire h, length-map) refl
+
+pub ruleset lowered_from = (lowered_order_from, lowered_rest_from)

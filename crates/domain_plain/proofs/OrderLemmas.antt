@@ -1,5 +1,6 @@
 -- the lexicographic order of octets, field by field
-use Rattle.std.proofs.Common.{◌≡◌, ℕ, ◌+◌, true, List, [], ◌∷◌, ◌++◌, length, take, drop, refl, sym, ap, subst, ◌∙◌, arith, length-append, append_assoc, append-nil}
+use Rattle.std.specs.declared.cmp.Ordering.{Ordering}
+use Rattle.std.proofs.Common.{◌≡◌, ℕ, zero, suc, ◌+◌, true, List, [], ◌∷◌, ◌++◌, length, take, drop, refl, sym, ap, subst, ◌∙◌, arith, length-append, append_assoc, append-nil}
 use Rattle.std.specs.declared.cmp.Ordering.TheVariants.{Less, Equal, Greater}
 use Rattle.std.specs.Ordering.{ordering_then, nat_cmp}
 use Rattle.std.specs.Cmp.{first_so, second_so}
@@ -146,3 +147,40 @@ fold_both f s a b v w =
 
 pub tied : (a b : List ℕ) → is_eq (slice_cmp nat_cmp a b) ≡ bytes_eq a b
 tied a b = sym (texts_ties a b)
+
+then_assoc : (o p q : Ordering) → ordering_then o (ordering_then p q) ≡ ordering_then (ordering_then o p) q
+then_assoc Less p q = refl
+then_assoc Equal p q = refl
+then_assoc Greater p q = refl
+
+-- a list is compared with as many octets part by part
+pub front_cmp : (a b o : List ℕ) → slice_cmp nat_cmp (a ++ b) (take (length (a ++ b)) o) ≡ ordering_then (slice_cmp nat_cmp a (take (length a) o)) (slice_cmp nat_cmp b (take (length b) (drop (length a) o)))
+front_cmp [] b o = refl
+front_cmp (x ∷ a) b [] = refl
+front_cmp (x ∷ a) b (y ∷ o) = ap (ordering_then (nat_cmp x y)) (front_cmp a b o) ∙ then_assoc (nat_cmp x y) (slice_cmp nat_cmp a (take (length a) o)) (slice_cmp nat_cmp b (take (length b) (drop (length a) o)))
+
+drop_nil : (n : ℕ) → drop {A = ℕ} n [] ≡ []
+drop_nil zero = refl
+drop_nil (suc n) = refl
+
+pub front_drop : (a b o : List ℕ) → drop (length (a ++ b)) o ≡ drop (length b) (drop (length a) o)
+front_drop [] b o = refl
+front_drop (x ∷ a) b [] = sym (drop_nil (length b))
+front_drop (x ∷ a) b (y ∷ o) = front_drop a b o
+
+pub order_from_both : (a b : Layout) (v : Values a) (w : Values b) (o : List ℕ) → slice_cmp nat_cmp (canonical_of (a ▸ b) (v, w)) (take (length (canonical_of (a ▸ b) (v, w))) o)
+    ≡ ordering_then (slice_cmp nat_cmp (canonical_of a v) (take (length (canonical_of a v)) o)) (slice_cmp nat_cmp (canonical_of b w) (take (length (canonical_of b w)) (drop (length (canonical_of a v)) o)))
+unfolding octets_of
+order_from_both a b v w o = front_cmp (canonical_of a v) (canonical_of b w) o
+
+pub rest_of_both : (a b : Layout) (v : Values a) (w : Values b) (o : List ℕ) → drop (length (canonical_of (a ▸ b) (v, w))) o ≡ drop (length (canonical_of b w)) (drop (length (canonical_of a v)) o)
+unfolding octets_of
+rest_of_both a b v w o = front_drop (canonical_of a v) (canonical_of b w) o
+
+-- octets are compared with others by as many of those, and then by whether more follow
+pub whole_cmp : (a o : List ℕ) → slice_cmp nat_cmp a o ≡ ordering_then (slice_cmp nat_cmp a (take (length a) o)) (slice_cmp nat_cmp [] (drop (length a) o))
+whole_cmp [] o = refl
+whole_cmp (x ∷ a) [] = refl
+whole_cmp (x ∷ a) (y ∷ o) = ap (ordering_then (nat_cmp x y)) (whole_cmp a o) ∙ then_assoc (nat_cmp x y) (slice_cmp nat_cmp a (take (length a) o)) (slice_cmp nat_cmp [] (drop (length a) o))
+
+pub ruleset both_from = (order_from_both, rest_of_both)

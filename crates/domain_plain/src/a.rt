@@ -6,7 +6,7 @@ ghost use Rattle.std.specs.Cmp.Lexicographic.{slice_cmp, on_texts};
 ghost use Rattle.domain_plain.specs.Layout.{octets_of, canonical_of};
 ghost use Rattle.domain_plain.specs.Plain.{a, a_values};
 
-use crate::fields::{Exactly, Fields};
+use crate::fields::{self, Exactly, Fields};
 use crate::{ComposeRecordData, RecordData};
 use domain_base::{CanonicalOrd, Rtype};
 use domain_octets::{AppendError, OctetsBuilder};
@@ -71,6 +71,10 @@ impl ComposeRecordData for A {
 
     fn compose_canonical_rdata<B: OctetsBuilder>(&self, target: &mut B) -> Result<(), AppendError> {
         self.fields().put_canonical(target)
+    }
+
+    fn canonical_cmp_octets(&self, other: &[u8]) -> Ordering {
+        fields::canonical_cmp_octets(&self.fields(), other)
     }
 }
 

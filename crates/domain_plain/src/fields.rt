@@ -1,5 +1,5 @@
 //! The fields of record data: how they are written, compared and hashed, once for every type.
-ghost use Rattle.std.specs.Prelude.{◌≡◌, ◌≤◌, ◌-◌, SomeIff, ℕ, true, refl, length, fold};
+ghost use Rattle.std.specs.Prelude.{◌≡◌, ◌≤◌, ◌-◌, SomeIff, ℕ, true, refl, length, take, drop, fold};
 ghost use Rattle.std.specs.List.{flat_map};
 ghost use Rattle.std.specs.Hash as fed;
 ghost use Rattle.std.specs.Prelude.{map};
@@ -46,6 +46,11 @@ pub trait Fields {
     fn order(&self, other: &Self) -> Ordering
         ensures { result ≡ canonical_order layout (values self.now) (values other.now) };
 
+    /// The order of the canonical octets and of as many other octets, and what follows those.
+    fn order_from<'o>(&self, octets: &'o [u8]) -> (Ordering, &'o [u8])
+        ensures order { result.0 ≡ slice_cmp nat_cmp (canonical_of layout (values self.now)) (take (length (canonical_of layout (values self.now))) octets.now) }
+        ensures rest { result.1.now ≡ drop (length (canonical_of layout (values self.now))) octets.now };
+
     /// Feeds the canonical octets.
     fn feed<H: Hasher>(&self, state: &mut H)
         ensures { state.new ≡ fold H.write state.old (flat_map fed.u8 (canonical_of layout (values self.now))) };
@@ -88,6 +93,42 @@ fn feed_octets<H: Hasher>(octets: &[u8], state: &mut H)
     for octet in octets {
         state.write_u8(*octet);
     }
+}
+
+/// The lexicographic order of the canonical octets of fields and of other octets.
+#[tactic(auto, using(crate::proofs::OrderLemmas::whole_cmp))]
+pub fn canonical_cmp_octets<F: Fields>(fields: &F, octets: &[u8]) -> Ordering
+    ensures { result ≡ slice_cmp nat_cmp (canonical_of F.layout (F.values fields.now)) octets.now }
+{
+    let (order, rest) = fields.order_from(octets);
+    let end: &[u8] = &[];
+    order.then(end.cmp(rest))
+}
+
+/// The first octets, up to so many, and the others.
+fn split_up_to(octets: &[u8], count: usize) -> (&[u8], &[u8])
+    ensures front { result.0.now ≡ take count octets.now }
+    ensures back { result.1.now ≡ drop count octets.now }
+{
+    octets.split_at(count.min(octets.len()))
+}
+
+/// The order of octets, and of as many others.
+fn octets_order_from<'o>(octets: &[u8], others: &'o [u8]) -> (Ordering, &'o [u8])
+    ensures order { result.0 ≡ slice_cmp nat_cmp octets.now (take (length octets.now) others.now) }
+    ensures rest { result.1.now ≡ drop (length octets.now) others.now }
+{
+    let (front, back) = split_up_to(others, octets.len());
+    (octets.cmp(front), back)
+}
+
+/// The order of octets, lowered, and of others.
+fn lowered_with_octets_cmp(a: &[u8], b: &[u8]) -> Ordering
+    ensures { result ≡ slice_cmp nat_cmp (map to_ascii_lowercase a.now) b.now }
+{
+    a.iter()
+        .map(|c| c.to_ascii_lowercase())
+        .cmp(b.iter().copied())
 }
 
 /// The order of octets, lowered.
@@ -151,6 +192,11 @@ impl Fields for u8 {
     }
 
     #[tactic(auto, unfolding(crate::specs::Layout::octets_of))]
+    fn order_from<'o>(&self, octets: &'o [u8]) -> (Ordering, &'o [u8]) {
+        octets_order_from(&[*self], octets)
+    }
+
+    #[tactic(auto, unfolding(crate::specs::Layout::octets_of))]
     fn feed<H: Hasher>(&self, state: &mut H) {
         feed_octets(&[*self], state);
     }
@@ -194,6 +240,11 @@ impl Fields for u16 {
     fn order(&self, other: &Self) -> Ordering {
         let (a, b) = (self.to_be_bytes(), other.to_be_bytes());
         a[..].cmp(&b[..])
+    }
+
+    #[tactic(auto, unfolding(crate::specs::Layout::octets_of))]
+    fn order_from<'o>(&self, octets: &'o [u8]) -> (Ordering, &'o [u8]) {
+        octets_order_from(&self.to_be_bytes(), octets)
     }
 
     #[tactic(auto, unfolding(crate::specs::Layout::octets_of))]
@@ -243,6 +294,11 @@ impl Fields for u32 {
     }
 
     #[tactic(auto, unfolding(crate::specs::Layout::octets_of))]
+    fn order_from<'o>(&self, octets: &'o [u8]) -> (Ordering, &'o [u8]) {
+        octets_order_from(&self.to_be_bytes(), octets)
+    }
+
+    #[tactic(auto, unfolding(crate::specs::Layout::octets_of))]
     fn feed<H: Hasher>(&self, state: &mut H) {
         feed_octets(&self.to_be_bytes(), state);
     }
@@ -285,6 +341,13 @@ impl<'a, N: ToName> Fields for Lowers<'a, N> {
     #[tactic(auto, unfolding(crate::specs::Layout::octets_of))]
     fn order(&self, other: &Self) -> Ordering {
         lowered_cmp(self.0.as_wire(), other.0.as_wire())
+    }
+
+    #[tactic(auto, using(crate::proofs::NameLemmas::lowered_from), unfolding(crate::specs::Layout::octets_of))]
+    fn order_from<'o>(&self, octets: &'o [u8]) -> (Ordering, &'o [u8]) {
+        let wire = self.0.as_wire();
+        let (front, back) = split_up_to(octets, wire.len());
+        (lowered_with_octets_cmp(wire, front), back)
     }
 
     #[tactic(auto, using(crate::proofs::NameLemmas::lowered_wire), unfolding(crate::specs::Layout::octets_of))]
@@ -337,6 +400,11 @@ impl<'a, N: ToName> Fields for Keeps<'a, N> {
     }
 
     #[tactic(auto, using(crate::proofs::NameLemmas::wire_is), unfolding(crate::specs::Layout::octets_of))]
+    fn order_from<'o>(&self, octets: &'o [u8]) -> (Ordering, &'o [u8]) {
+        octets_order_from(self.0.as_wire(), octets)
+    }
+
+    #[tactic(auto, using(crate::proofs::NameLemmas::wire_is), unfolding(crate::specs::Layout::octets_of))]
     fn feed<H: Hasher>(&self, state: &mut H) {
         feed_octets(self.0.as_wire(), state);
     }
@@ -380,6 +448,11 @@ impl<const COUNT: usize> Fields for Exactly<COUNT> {
     #[tactic(auto, unfolding(crate::specs::Layout::octets_of))]
     fn order(&self, other: &Self) -> Ordering {
         self.0[..].cmp(&other.0[..])
+    }
+
+    #[tactic(auto, unfolding(crate::specs::Layout::octets_of))]
+    fn order_from<'o>(&self, octets: &'o [u8]) -> (Ordering, &'o [u8]) {
+        octets_order_from(&self.0, octets)
     }
 
     #[tactic(auto, unfolding(crate::specs::Layout::octets_of))]
@@ -427,6 +500,11 @@ impl<const LIMIT: usize> Fields for AtMost<LIMIT> {
     }
 
     #[tactic(auto, unfolding(crate::specs::Layout::octets_of))]
+    fn order_from<'o>(&self, octets: &'o [u8]) -> (Ordering, &'o [u8]) {
+        (Ordering::Equal, octets)
+    }
+
+    #[tactic(auto, unfolding(crate::specs::Layout::octets_of))]
     fn feed<H: Hasher>(&self, _state: &mut H) {}
 }
 
@@ -469,6 +547,11 @@ impl<'a> Fields for Rest<'a> {
     }
 
     #[tactic(auto, unfolding(crate::specs::Layout::octets_of))]
+    fn order_from<'o>(&self, octets: &'o [u8]) -> (Ordering, &'o [u8]) {
+        octets_order_from(self.0, octets)
+    }
+
+    #[tactic(auto, unfolding(crate::specs::Layout::octets_of))]
     fn feed<H: Hasher>(&self, state: &mut H) {
         feed_octets(self.0, state);
     }
@@ -505,6 +588,13 @@ impl<A: Delimited, B: Fields> Fields for (A, B) {
     fn order(&self, other: &Self) -> Ordering {
         let front = self.0.front_order(&other.0);
         front.then_with(|| self.1.order(&other.1))
+    }
+
+    #[tactic(auto, using(crate::proofs::OrderLemmas::both_from))]
+    fn order_from<'o>(&self, octets: &'o [u8]) -> (Ordering, &'o [u8]) {
+        let (front, after) = self.0.order_from(octets);
+        let (back, rest) = self.1.order_from(after);
+        (front.then(back), rest)
     }
 
     #[tactic(auto, using(crate::proofs::OrderLemmas::feed_both))]

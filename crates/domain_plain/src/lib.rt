@@ -15,6 +15,6 @@ pub use a::A;
 pub use mx::Mx;
 pub use ns::Ns;
 pub use record::Record;
-pub use record_data::{ComposeRecordData, RecordData};
+pub use record_data::{ComposeRecordData, LongRecordData, RecordData};
 pub use soa::Soa;
 pub use unknown::UnknownRecordData;

@@ -5,7 +5,7 @@ ghost use Rattle.std.specs.Cmp.Lexicographic.{slice_cmp, on_texts};
 ghost use Rattle.domain_plain.specs.Layout.{octets_of, canonical_of};
 ghost use Rattle.domain_plain.specs.Plain.{mx, mx_values};
 
-use crate::fields::{Fields, Lowers};
+use crate::fields::{self, Fields, Lowers};
 use crate::{ComposeRecordData, RecordData};
 use domain_base::{CanonicalOrd, Rtype, ToName};
 use domain_octets::{AppendError, OctetsBuilder};
@@ -80,6 +80,10 @@ impl<N: ToName> ComposeRecordData for Mx<N> {
 
     fn compose_canonical_rdata<B: OctetsBuilder>(&self, target: &mut B) -> Result<(), AppendError> {
         self.fields().put_canonical(target)
+    }
+
+    fn canonical_cmp_octets(&self, other: &[u8]) -> Ordering {
+        fields::canonical_cmp_octets(&self.fields(), other)
     }
 }
 

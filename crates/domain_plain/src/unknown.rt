@@ -1,12 +1,12 @@
 //! Data of types that are not known.
-ghost use Rattle.std.specs.Prelude.{◌≡◌};
+ghost use Rattle.std.specs.Prelude.{◌≡◌, ◌≤◌, ◌↔◌, length, IsOk, IfOk};
 ghost use Rattle.std.specs.Ordering.{on, nat_cmp};
 ghost use Rattle.std.specs.Cmp.Lexicographic.{slice_cmp, on_texts};
 ghost use Rattle.domain_plain.specs.Layout.{octets_of, canonical_of};
 ghost use Rattle.domain_plain.specs.Plain.{unknown, unknown_values};
 
-use crate::fields::{Fields, Rest};
-use crate::{ComposeRecordData, RecordData};
+use crate::fields::{self, Fields, Rest};
+use crate::{ComposeRecordData, LongRecordData, RecordData};
 use domain_base::{CanonicalOrd, Rtype};
 use domain_octets::{AppendError, Octets, OctetsBuilder};
 use std::cmp::Ordering;
@@ -19,6 +19,30 @@ pub struct UnknownRecordData<O> {
 }
 
 impl<O: Octets> UnknownRecordData<O> {
+    /// Data of a type.
+    ///
+    /// # Errors
+    ///
+    /// `LongRecordData` exactly where there are over 65,535 octets.
+    pub fn from_octets(rtype: Rtype, data: O) -> Result<Self, LongRecordData>
+    where
+        O: Drop,
+        ensures ok { IsOk result ↔ (length (O.octets «data») ≤ 65535) }
+        ensures fields { IfOk result (λ d. d ≡ record { rtype = rtype; «data» = «data» }) }
+    {
+        if data.as_slice().len() > 65535 {
+            return Err(LongRecordData);
+        }
+        Ok(UnknownRecordData { rtype, data })
+    }
+
+    /// The octets of the data.
+    pub fn data(&self) -> &O
+        ensures { result.now ≡ self.now.«data» }
+    {
+        &self.data
+    }
+
     /// The fields, in the order of the wire.
     fn fields(&self) -> Rest<'_>
         ensures { result.0.now ≡ O.octets self.now.«data» }
@@ -54,6 +78,10 @@ impl<O: Octets> ComposeRecordData for UnknownRecordData<O> {
 
     fn compose_canonical_rdata<B: OctetsBuilder>(&self, target: &mut B) -> Result<(), AppendError> {
         self.fields().put_canonical(target)
+    }
+
+    fn canonical_cmp_octets(&self, other: &[u8]) -> Ordering {
+        fields::canonical_cmp_octets(&self.fields(), other)
     }
 }
 
