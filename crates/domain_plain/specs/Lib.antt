@@ -4,3 +4,4 @@ pub mod Layout
 pub mod Target
 pub mod Laws
 pub mod Plain
+pub mod RecordLends
