@@ -20,6 +20,10 @@ pub or_false : (b : Bool) → (b || false) ≡ b
 or_false true = refl
 or_false false = refl
 
+pub or_true : (b : Bool) → (b || true) ≡ true
+or_true true = refl
+or_true false = refl
+
 pub or_turn : (a b : Bool) → (a || b) ≡ (b || a)
 or_turn true true = refl
 or_turn true false = refl
@@ -35,7 +39,7 @@ or_swap true true c = refl
 or_swap true false c = refl
 or_swap false b c = refl
 
-or_next : (a b c : Bool) → ((a || b) || c) ≡ (a || (b || c))
+pub or_next : (a b c : Bool) → ((a || b) || c) ≡ (a || (b || c))
 or_next true b c = refl
 or_next false b c = refl
 
@@ -43,6 +47,9 @@ or_next false b c = refl
 pub any_more : (p : ℕ → Bool) (n : ℕ) → list_any p (range_with_len 0 (n + 1)) ≡ (list_any p (range_with_len 0 n) || p n)
 any_more p n =
     ap (list_any p) (range_more n) ∙ list_any-append p (range_with_len 0 n) (n ∷ []) ∙ ap (λ b. list_any p (range_with_len 0 n) || b) (or_false (p n))
+
+pub any_suc : (p : ℕ → Bool) (n : ℕ) → list_any p (range_with_len 0 (suc n)) ≡ (list_any p (range_with_len 0 n) || p n)
+any_suc p n = ap (λ m. list_any p (range_with_len 0 m)) (sym (add-one n)) ∙ any_more p n
 
 any_same_from : (p q : ℕ → Bool) (a n : ℕ) → ((j : ℕ) → a ≤ j → j < a + n → p j ≡ q j) → list_any p (range_with_len a n) ≡ list_any q (range_with_len a n)
 any_same_from p q a zero same = refl
