@@ -7,10 +7,12 @@ use Rattle.std.proofs.lemmas.Nat.Bits.{bit_at_or, bit_at-lt}
 use Rattle.std.proofs.lemmas.List.{get_or-take, get_or-drop, length-take, length-drop, take_at}
 use Rattle.std.proofs.lemmas.Bool.Decides.{nat_tests, eqb_tells, leb_tells}
 use Rattle.domain_bitmap.specs.Bits.{bit_of}
-use Rattle.domain_bitmap.specs.Bitmap.{window_octets, block_with}
+use Rattle.domain_bitmap.specs.Bitmap.{window_octets, window_block, block_with, trimmed, bitmap_octets}
 use Rattle.domain_bitmap.specs.Builder.{is_of_window, block_holds, has_window, holds}
 use Rattle.domain_bitmap.proofs.RangeLemmas.{any_more, any_suc, any_none, any_at, or_false, or_true, or_turn}
-use Rattle.domain_bitmap.proofs.BitmapLemmas.{window_octets-is}
+use Rattle.domain_bitmap.proofs.BitmapLemmas.{window_octets-is, window_block-none}
+use Rattle.domain_bitmap.proofs.RangeLemmas.{flat_none, flat_single}
+use Rattle.domain_bitmap.proofs.SlotLemmas.{window_absent}
 
 or_bits : (m n : ℕ) → m < 2 → n < 2 → (max m n == 1) ≡ ((m == 1) || (n == 1))
 or_bits zero zero m_small n_small = refl
@@ -202,3 +204,43 @@ table_window octets value xs w inside all is small bits =
         let bit : t % 8 ≡ b = omega arith in
         let octet : get_or xs k 0 ≡ get_or octets (t / 8) 0 = rw (is, place) (get_or-take 32 (drop (32 * w) octets) k 0 k_small ∙ get_or-drop (32 * w) octets k 0) in
         rw octet (ap (λ c. bit_of (get_or octets (t / 8) 0) c) (sym bit) ∙ bits t (omega arith)))
+
+-- a builder without blocks, and one with one block
+pub holds_nothing : (value : List ℕ) → length value ≡ 0 → bitmap_octets (holds value) ≡ []
+unfolding bitmap_octets holds
+holds_nothing value none =
+    flat_none (window_block (holds value)) 256 (λ w below. window_block-none (holds value) w (λ t of_window. rw none refl))
+
+one_bit : (value : List ℕ) (t : ℕ) → length value ≡ 34 → get_or value 0 0 ≡ t / 256 → holds value t ≡ bit_of (get_or value (2 + t % 256 / 8) 0) (t % 8)
+unfolding holds
+one_bit value t one window =
+    let test : (get_or value 0 0 == t / 256) ≡ true = grind (arith, nat_tests) in
+    rw (one, test) (or_false (bit_of (get_or value (2 + t % 256 / 8) 0) (t % 8)))
+
+pub one_block : (value : List ℕ) → length value ≡ 34 → ((i : ℕ) → get_or value i 0 < 256) → bitmap_octets (holds value) ≡ block_with (get_or value 0 0) (trimmed (drop 2 value))
+unfolding bitmap_octets window_block
+one_block value one small =
+    let w = get_or value 0 0 in
+    let xs = drop 2 value in
+    let long : length xs ≡ 32 = omega (arith, length-drop 2 value) in
+    let octets : window_octets (holds value) w ≡ xs =
+        window_octets-is (holds value) w xs long (λ k. rw (get_or-drop 2 value k 0) (small (2 + k)))
+          (λ k b k_small b_small.
+            let t : ℕ = 256 * w + 8 * k + b in
+            let window : w ≡ t / 256 = omega arith in
+            let place : t % 256 / 8 ≡ k = omega arith in
+            let bit : t % 8 ≡ b = omega arith in
+            rw (get_or-drop 2 value k 0) (sym (one_bit value t one window ∙ rw (place, bit) refl))) in
+    flat_single (window_block (holds value)) w 256 (small 0)
+      (λ v below other. window_block-none (holds value) v (holds-absent value v (window_absent value v (λ j inside. let at : j ≡ 0 = omega arith in rw at (λ is. other (sym is))))))
+    ∙ ap (λ l. block_with w (trimmed l)) octets
+
+-- the only block is cut where it stands
+pub cut_in_place : (value after : List ℕ) (len : ℕ) → length value ≡ 34 → 0 < len → len ≤ 32 → after ≡ take 1 value ++ (len ∷ drop 2 value) → take (len + 2) after ≡ block_with (get_or value 0 0) (take len (drop 2 value))
+cut_in_place [] after len one some fits is = absurd (omega (arith, one))
+cut_in_place (w ∷ []) after len one some fits is = absurd (omega (arith, one))
+cut_in_place (w ∷ o ∷ rest) after len one some fits is =
+    let kept = take len rest in
+    let count : length kept ≡ len = omega (arith, length-take len rest, one) in
+    let all : len + 2 ≡ suc (suc len) = omega arith in
+    rw (is, all) (sym (block_with-some w kept (omega arith) ∙ ap (λ n. w ∷ n ∷ kept) count))

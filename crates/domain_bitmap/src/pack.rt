@@ -1,5 +1,5 @@
 //! Writes a builder's blocks in order, each cut after its last octet with a type.
-ghost use Rattle.std.specs.Prelude.{◌≡◌, ℕ, ◌+◌, ◌*◌, ◌%◌, ◌^◌, ◌<◌, ◌≤◌, ◌++◌, length, slice_index, take};
+ghost use Rattle.std.specs.Prelude.{◌≡◌, ℕ, ◌+◌, ◌*◌, ◌%◌, ◌^◌, ◌<◌, ◌≤◌, ◌++◌, length, slice_index, take, drop};
 ghost use Rattle.domain_bitmap.specs.Builder.{holds};
 ghost use Rattle.domain_bitmap.specs.Bitmap.{trimmed, block_with, bitmap_octets};
 
@@ -41,4 +41,39 @@ fn pack_all<B: OctetsBuilder>(buffer: &mut B) -> usize
         }
     }
     end
+}
+
+/// How many octets of the only block's window are left without the zero octets at the end.
+fn only_len(slots: &[u8]) -> usize
+    requires { length slots.now ≡ 34 }
+    ensures types { bitmap_octets (holds slots.now) ≡ block_with (slice_index slots.now 0) (take result (drop 2 slots.now)) }
+    ensures within { result ≤ 32 }
+{
+    used_len(&slots[2..])
+}
+
+/// Cuts the only block, and says where it ends.
+fn pack_one<B: OctetsBuilder>(buffer: &mut B) -> usize
+    requires { length (B.octets buffer.old) ≡ 34 }
+    ensures { take result (B.octets buffer.new) ≡ bitmap_octets (holds (B.octets buffer.old)) }
+{
+    let len = only_len(buffer.as_slice());
+    if len == 0 {
+        return 0;
+    }
+    buffer.write_at(1, &[len as u8]);
+    len + 2
+}
+
+/// Writes a builder's blocks in the order of their windows, each cut after its last octet with a
+/// type, and says where they end. Takes no memory.
+pub(crate) fn pack<B: OctetsBuilder>(buffer: &mut B) -> usize
+    requires { length (B.octets buffer.old) % 34 ≡ 0 }
+    ensures { take result (B.octets buffer.new) ≡ bitmap_octets (holds (B.octets buffer.old)) }
+{
+    let len = buffer.as_slice().len();
+    if len == 0 {
+        return 0;
+    }
+    if len == SLOT { pack_one(buffer) } else { pack_all(buffer) }
 }
