@@ -20,6 +20,10 @@ pub or_false : (b : Bool) → (b || false) ≡ b
 or_false true = refl
 or_false false = refl
 
+pub or_true : (b : Bool) → (b || true) ≡ true
+or_true true = refl
+or_true false = refl
+
 pub or_turn : (a b : Bool) → (a || b) ≡ (b || a)
 or_turn true true = refl
 or_turn true false = refl
@@ -35,7 +39,7 @@ or_swap true true c = refl
 or_swap true false c = refl
 or_swap false b c = refl
 
-or_next : (a b c : Bool) → ((a || b) || c) ≡ (a || (b || c))
+pub or_next : (a b c : Bool) → ((a || b) || c) ≡ (a || (b || c))
 or_next true b c = refl
 or_next false b c = refl
 
@@ -43,6 +47,9 @@ or_next false b c = refl
 pub any_more : (p : ℕ → Bool) (n : ℕ) → list_any p (range_with_len 0 (n + 1)) ≡ (list_any p (range_with_len 0 n) || p n)
 any_more p n =
     ap (list_any p) (range_more n) ∙ list_any-append p (range_with_len 0 n) (n ∷ []) ∙ ap (λ b. list_any p (range_with_len 0 n) || b) (or_false (p n))
+
+pub any_suc : (p : ℕ → Bool) (n : ℕ) → list_any p (range_with_len 0 (suc n)) ≡ (list_any p (range_with_len 0 n) || p n)
+any_suc p n = ap (λ m. list_any p (range_with_len 0 m)) (sym (add-one n)) ∙ any_more p n
 
 any_same_from : (p q : ℕ → Bool) (a n : ℕ) → ((j : ℕ) → a ≤ j → j < a + n → p j ≡ q j) → list_any p (range_with_len a n) ≡ list_any q (range_with_len a n)
 any_same_from p q a zero same = refl
@@ -94,3 +101,26 @@ flat_same f g n same = flat_same_from f g 0 n (λ j low high. same j (omega arit
 
 pub flat_more : (f : ℕ → List ℕ) (n : ℕ) → flat_map f (range_with_len 0 (n + 1)) ≡ flat_map f (range_with_len 0 n) ++ f n
 flat_more f n = ap (flat_map f) (range_more n) ∙ flat_map-append f (range_with_len 0 n) (n ∷ []) ∙ ap (λ l. flat_map f (range_with_len 0 n) ++ l) (append-nil (f n))
+
+flat_none_from : (f : ℕ → List ℕ) (a n : ℕ) → ((j : ℕ) → a ≤ j → j < a + n → f j ≡ []) → flat_map f (range_with_len a n) ≡ []
+flat_none_from f a zero none = refl
+flat_none_from f a (suc n) none =
+    rw (none a (omega arith) (omega arith)) (flat_none_from f (a + 1) n (λ j low high. none j (omega arith) (omega arith)))
+
+pub flat_none : (f : ℕ → List ℕ) (n : ℕ) → ((j : ℕ) → j < n → f j ≡ []) → flat_map f (range_with_len 0 n) ≡ []
+flat_none f n none = flat_none_from f 0 n (λ j low high. none j (omega arith))
+
+flat_single_from : (f : ℕ → List ℕ) (w a n : ℕ) → a ≤ w → w < a + n → ((j : ℕ) → a ≤ j → j < a + n → j ≢ w → f j ≡ []) → flat_map f (range_with_len a n) ≡ f w
+flat_single_from f w a zero low high none = absurd (omega arith)
+flat_single_from f w a (suc n) low high none =
+    elim (eqb_tells a w) [
+      | inl h ↦
+        let rest = flat_none_from f (a + 1) n (λ j j_low j_high. none j (omega arith) (omega arith) (omega (arith, h.1))) in
+        rw (rest, append-nil (f a)) (ap f h.1)
+      | inr h ↦
+        let rest = flat_single_from f w (a + 1) n (omega (arith, h.1)) (omega arith) (λ j j_low j_high. none j (omega arith) (omega arith)) in
+        rw (none a (omega arith) (omega arith) h.1) rest
+    ]
+
+pub flat_single : (f : ℕ → List ℕ) (w n : ℕ) → w < n → ((j : ℕ) → j < n → j ≢ w → f j ≡ []) → flat_map f (range_with_len 0 n) ≡ f w
+flat_single f w n inside none = flat_single_from f w 0 n (omega arith) (omega arith) (λ j low high. none j (omega arith))

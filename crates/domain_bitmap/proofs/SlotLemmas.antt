@@ -121,6 +121,11 @@ zeros_at zero k = refl
 zeros_at (suc n) zero = refl
 zeros_at (suc n) (suc k) = zeros_at n k
 
+pub same_at : {X : Type 0} (n : ℕ) (x : X) (k : ℕ) → get_or (replicate n x) k x ≡ x
+same_at zero x k = refl
+same_at (suc n) x zero = refl
+same_at (suc n) x (suc k) = same_at n x k
+
 -- a block of a window without types is appended
 module _ (value rest : List ℕ) (window : ℕ) (whole : length value % 34 ≡ 0) (long : length rest ≡ 33) (zeros : (k : ℕ) → get_or rest k 0 ≡ 0) where
   abbrev grown : List ℕ

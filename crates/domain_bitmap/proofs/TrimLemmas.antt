@@ -55,3 +55,13 @@ pub trimmed-none : (xs : List ℕ) → ((k : ℕ) → 0 ≤ k → get_or xs k 0 
 trimmed-none xs zeros = trimmed-zeros xs (λ k. zeros k (omega arith))
 
 pub ruleset trim_steps = (trimmed-cut, trimmed-none)
+
+longer : (x : ℕ) (rest : List ℕ) → length (before_trimmed x rest) ≤ suc (length rest)
+longer zero [] = omega arith
+longer (suc x) [] = omega arith
+longer x (y ∷ ys) = omega (arith, ap length (before_trimmed-cons x y ys))
+
+pub length-trimmed : (xs : List ℕ) → length (trimmed xs) ≤ length xs
+unfolding trimmed
+length-trimmed [] = omega arith
+length-trimmed (x ∷ xs) = omega (arith, longer x (trimmed xs), length-trimmed xs)

@@ -4,7 +4,9 @@ ghost use Rattle.domain_octets.specs.Limit.{IsOver};
 ghost use Rattle.domain_bitmap.specs.Builder.{holds, has_window};
 ghost use Rattle.domain_bitmap.specs.Bitmap.{bitmap_octets};
 
+use crate::RtypeBitmap;
 use crate::bits::split_rtype;
+use crate::pack::pack;
 use crate::slots::{SLOT, find_slot};
 use domain_base::Rtype;
 use domain_octets::{AppendError, EmptyBuilder, FreezeBuilder, Octets, OctetsBuilder, Truncate};
@@ -95,5 +97,17 @@ impl<B: OctetsBuilder> RtypeBitmapBuilder<B> {
         let octet = slots[at] | 1 << (7 - bit);
         self.buffer.write_at(at, &[octet]);
         Ok(())
+    }
+
+    /// The bitmap of the types that were added: the only one that holds them. Takes no memory.
+    pub fn finalize(self) -> RtypeBitmap<B::Frozen>
+    where
+        B: FreezeBuilder + Truncate,
+        ensures { result ≡ bitmap_octets (holds self) }
+    {
+        let RtypeBitmapBuilder { mut buffer } = self;
+        let len = pack(&mut buffer);
+        buffer.truncate(len);
+        RtypeBitmap::over(buffer.freeze())
     }
 }

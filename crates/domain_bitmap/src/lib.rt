@@ -4,7 +4,9 @@
 mod bits;
 mod bitmap;
 mod builder;
+mod pack;
 mod slots;
+mod table;
 
 pub use bitmap::RtypeBitmap;
 pub use builder::RtypeBitmapBuilder;
