@@ -69,6 +69,12 @@ impl<const K: usize> OctetsBuilder for ArrayBuilder<K> {
         self.len = end;
         Ok(())
     }
+
+    fn write_at(&mut self, at: usize, slice: &[u8]) {
+        let octets = &mut self.octets[..];
+        let end = at + slice.len();
+        octets[at..end].copy_from_slice(slice);
+    }
 }
 
 impl<const K: usize> EmptyBuilder for ArrayBuilder<K> {
