@@ -1,0 +1,118 @@
+-- bits of octets
+use Rattle.std.proofs.Common.{◌≡◌, ℕ, zero, suc, ◌+◌, ◌-◌, ◌*◌, ◌/◌, ◌%◌, ◌^◌, ◌<◌, ◌≤◌, ◌≢◌, Bool, true, false, refl, sym, ap, ◌∙◌, inl, inr, w8, arith}
+use Rattle.std.specs.Prelude.{◌||◌, ◌==◌, bit_or, bit_and}
+use Rattle.std.specs.Int.{bit_at}
+use Rattle.std.proofs.lemmas.Nat.Bits.{bit_at_set_same, bit_at_set_other, shr_and_one, same_from_bits_below, bit_at-lt, bit_at-zero}
+use Rattle.std.proofs.lemmas.Bool.Decides.{nat_tests, eqb_tells}
+use Rattle.domain_bitmap.specs.Bits.{bit_of, octet_with, weight}
+
+-- a bit as a number
+digit : Bool → ℕ
+digit true = 1
+digit false = 0
+
+weight-digit : (value : ℕ) (b : Bool) → weight value b ≡ value * digit b
+unfolding digit
+weight-digit value true = omega arith
+weight-digit value false = omega arith
+
+digit_small : (b : Bool) → digit b ≤ 1
+unfolding digit
+digit_small true = omega arith
+digit_small false = omega arith
+
+digit_tells : (b : Bool) → (digit b == 1) ≡ b
+unfolding digit
+digit_tells true = refl
+digit_tells false = refl
+
+-- an octet as the sum of its bits
+record Sum (bit : ℕ → Bool) : Type 0 where
+  whole : octet_with bit ≡ 128 * digit (bit 0) + 64 * digit (bit 1) + 32 * digit (bit 2) + 16 * digit (bit 3) + 8 * digit (bit 4) + 4 * digit (bit 5) + 2 * digit (bit 6) + digit (bit 7)
+  small0 : digit (bit 0) ≤ 1
+  small1 : digit (bit 1) ≤ 1
+  small2 : digit (bit 2) ≤ 1
+  small3 : digit (bit 3) ≤ 1
+  small4 : digit (bit 4) ≤ 1
+  small5 : digit (bit 5) ≤ 1
+  small6 : digit (bit 6) ≤ 1
+  small7 : digit (bit 7) ≤ 1
+
+sum_of : (bit : ℕ → Bool) → Sum bit
+unfolding octet_with
+sum_of bit = record {
+  whole = omega (arith, weight-digit 128 (bit 0), weight-digit 64 (bit 1), weight-digit 32 (bit 2), weight-digit 16 (bit 3), weight-digit 8 (bit 4), weight-digit 4 (bit 5), weight-digit 2 (bit 6), weight-digit 1 (bit 7));
+  small0 = digit_small (bit 0);
+  small1 = digit_small (bit 1);
+  small2 = digit_small (bit 2);
+  small3 = digit_small (bit 3);
+  small4 = digit_small (bit 4);
+  small5 = digit_small (bit 5);
+  small6 = digit_small (bit 6);
+  small7 = digit_small (bit 7);
+}
+
+pub octet_with-lt : (bit : ℕ → Bool) → octet_with bit < 256
+octet_with-lt bit = let s = sum_of bit in omega arith
+
+bit_at-octet_with : (bit : ℕ → Bool) (b : ℕ) → b < 8 → bit_at (octet_with bit) (7 - b) ≡ digit (bit b)
+bit_at-octet_with bit zero small = let s = sum_of bit in omega arith
+bit_at-octet_with bit (suc zero) small = let s = sum_of bit in omega arith
+bit_at-octet_with bit (suc (suc zero)) small = let s = sum_of bit in omega arith
+bit_at-octet_with bit (suc (suc (suc zero))) small = let s = sum_of bit in omega arith
+bit_at-octet_with bit (suc (suc (suc (suc zero)))) small = let s = sum_of bit in omega arith
+bit_at-octet_with bit (suc (suc (suc (suc (suc zero))))) small = let s = sum_of bit in omega arith
+bit_at-octet_with bit (suc (suc (suc (suc (suc (suc zero)))))) small = let s = sum_of bit in omega arith
+bit_at-octet_with bit (suc (suc (suc (suc (suc (suc (suc zero))))))) small = let s = sum_of bit in omega arith
+bit_at-octet_with bit (suc (suc (suc (suc (suc (suc (suc (suc b)))))))) small = absurd (omega (arith, small))
+
+pub bit_of-octet_with : (bit : ℕ → Bool) (b : ℕ) → b < 8 → bit_of (octet_with bit) b ≡ bit b
+unfolding bit_of
+bit_of-octet_with bit b small = ap (λ n. n == 1) (bit_at-octet_with bit b small) ∙ digit_tells (bit b)
+
+-- an octet in which a bit is set
+pub bit_of-set : (octet b k : ℕ) → b < 8 → k < 8 → bit_of (bit_or octet (1 * 2 ^ (7 - k) % 2 ^ 8)) b ≡ ((b == k) || bit_of octet b)
+unfolding bit_of
+bit_of-set octet b k b_small k_small =
+    elim (eqb_tells b k) [
+      | inl h ↦
+        let same : 7 - b ≡ 7 - k = ap (λ n. 7 - n) h.1 in
+        let set = bit_at_set_same w8 octet (7 - k) (omega arith) in
+        rw (same, set, h.0) refl
+      | inr h ↦
+        let other : b ≢ k = h.1 in
+        let kept = bit_at_set_other w8 octet (7 - k) (omega arith) (7 - b) (omega arith) in
+        rw (kept, h.0) refl
+    ]
+
+-- how the code tests a bit
+pub bit_of-shr : (octet b : ℕ) → (bit_and (octet / 2 ^ (7 - b)) 1 == 1) ≡ bit_of octet b
+unfolding bit_of
+bit_of-shr octet b = ap (λ n. n == 1) (shr_and_one octet (7 - b))
+
+pub bit_of-zero : (b : ℕ) → bit_of 0 b ≡ false
+unfolding bit_of
+bit_of-zero b = ap (λ n. n == 1) (bit_at-zero (7 - b))
+
+one_bit : (m n : ℕ) → m < 2 → n < 2 → (m == 1) ≡ (n == 1) → m ≡ n
+one_bit m n m_small n_small same = grind (arith, nat_tests)
+
+-- octets with the same bits are equal
+pub octets_same : (x y : ℕ) → x < 256 → y < 256 → ((b : ℕ) → b < 8 → bit_of x b ≡ bit_of y b) → x ≡ y
+unfolding bit_of
+octets_same x y x_small y_small same =
+    same_from_bits_below 8 x y x_small y_small (λ i small.
+      let back : 7 - (7 - i) ≡ i = omega arith in
+      let equal : (bit_at x i == 1) ≡ (bit_at y i == 1) = rw back at (same (7 - i) (omega arith)) in
+      one_bit (bit_at x i) (bit_at y i) (bit_at-lt x i) (bit_at-lt y i) equal)
+
+pub octet_with-bit_of : (x : ℕ) → x < 256 → octet_with (bit_of x) ≡ x
+octet_with-bit_of x small = octets_same (octet_with (bit_of x)) x (octet_with-lt (bit_of x)) small (bit_of-octet_with (bit_of x))
+
+-- octets of bits that agree are equal
+pub octet_with-same : (p q : ℕ → Bool) → ((b : ℕ) → b < 8 → p b ≡ q b) → octet_with p ≡ octet_with q
+octet_with-same p q same =
+    octets_same (octet_with p) (octet_with q) (octet_with-lt p) (octet_with-lt q) (λ b small. bit_of-octet_with p b small ∙ same b small ∙ sym (bit_of-octet_with q b small))
+
+pub octet_with-none : (p : ℕ → Bool) → ((b : ℕ) → b < 8 → p b ≡ false) → octet_with p ≡ 0
+octet_with-none p none = octets_same (octet_with p) 0 (octet_with-lt p) (omega arith) (λ b small. bit_of-octet_with p b small ∙ none b small ∙ sym (bit_of-zero b))

@@ -1,0 +1,122 @@
+-- the octets of a set of types
+use Rattle.std.proofs.Common.{◌≡◌, ℕ, zero, suc, ◌+◌, ◌-◌, ◌*◌, ◌/◌, ◌%◌, ◌<◌, ◌≤◌, ◌≢◌, Bool, true, false, List, [], ◌∷◌, ◌++◌, length, get_or, take, drop, map, refl, sym, ap, ◌∙◌, subst, inl, inr, arith, add-one, zero-add, length-append}
+use Rattle.std.proofs.lemmas.List.{append-nil, get_or_past}
+use Rattle.std.specs.List.{AllByRecursion, flat_map, range_with_len}
+use Rattle.std.proofs.lemmas.List.FromFn.{length-map-range_with_len, get_or-map-range_with_len, fill_by_all}
+use Rattle.std.proofs.lemmas.Bool.Decides.{nat_tests, eqb_tells, leb_tells}
+use Rattle.domain_bitmap.specs.Bits.{bit_of, octet_with}
+use Rattle.domain_bitmap.specs.Bitmap.{window_octets, trimmed, block_with, window_block, bitmap_octets}
+use Rattle.domain_bitmap.specs.Blocks.{Block, IsBlock, octets_of, blocks_of, IsBitmap}
+use Rattle.domain_bitmap.proofs.RangeLemmas.{flat_same, flat_more}
+use Rattle.domain_bitmap.proofs.BitLemmas.{octet_with-lt, octet_with-same, octet_with-none, octet_with-bit_of, bit_of-octet_with}
+use Rattle.domain_bitmap.proofs.TrimLemmas.{get_or-trimmed, length-trimmed, trimmed-zeros}
+use Rattle.domain_bitmap.proofs.BlockLemmas.{IsBitmap-octets_of, octets_of-append, all-append}
+
+pub length-window_octets : (types : ℕ → Bool) (w : ℕ) → length (window_octets types w) ≡ 32
+unfolding window_octets
+length-window_octets types w = length-map-range_with_len (λ i. octet_with (λ b. types (256 * w + 8 * i + b))) 0 32
+
+pub get_or-window_octets : (types : ℕ → Bool) (w i : ℕ) → i < 32 → get_or (window_octets types w) i 0 ≡ octet_with (λ b. types (256 * w + 8 * i + b))
+unfolding window_octets
+get_or-window_octets types w i inside = get_or-map-range_with_len (λ i. octet_with (λ b. types (256 * w + 8 * i + b))) 0 32 i i 0 inside (zero-add i)
+
+pub bounded : (types : ℕ → Bool) (w i : ℕ) → get_or (window_octets types w) i 0 < 256
+bounded types w i =
+    elim (leb_tells 32 i) [
+      | inl h ↦ let past = get_or_past (window_octets types w) i 0 (omega (arith, h.1, length-window_octets types w)) in omega arith
+      | inr h ↦ let within = get_or-window_octets types w i h.1 in omega (arith, octet_with-lt (λ b. types (256 * w + 8 * i + b)))
+    ]
+
+-- the octets of a window are those with its bits
+pub window_octets-is : (types : ℕ → Bool) (w : ℕ) (xs : List ℕ) → length xs ≡ 32 → ((k : ℕ) → get_or xs k 0 < 256) → ((k b : ℕ) → k < 32 → b < 8 → bit_of (get_or xs k 0) b ≡ types (256 * w + 8 * k + b)) → window_octets types w ≡ xs
+unfolding window_octets
+window_octets-is types w xs long small bits =
+    sym (fill_by_all (λ i. octet_with (λ b. types (256 * w + 8 * i + b))) xs 32 0 long
+      (λ k inside. sym (octet_with-bit_of (get_or xs k 0) (small k)) ∙ octet_with-same (bit_of (get_or xs k 0)) (λ b. types (256 * w + 8 * k + b)) (λ b b_small. bits k b inside b_small)))
+
+-- the types of a window
+in_window : (w k b : ℕ) → k < 32 → b < 8 → (256 * w + 8 * k + b) / 256 ≡ w
+in_window w k b k_small b_small = omega (arith, k_small, b_small)
+
+zero_octets : (types : ℕ → Bool) (w : ℕ) → ((t : ℕ) → t / 256 ≡ w → types t ≡ false) → (k : ℕ) → get_or (window_octets types w) k 0 ≡ 0
+zero_octets types w none k =
+    elim (leb_tells 32 k) [
+      | inl h ↦ get_or_past (window_octets types w) k 0 (omega (arith, h.1, length-window_octets types w))
+      | inr h ↦
+        get_or-window_octets types w k h.1
+        ∙ octet_with-none (λ b. types (256 * w + 8 * k + b)) (λ b small. none (256 * w + 8 * k + b) (in_window w k b h.1 small))
+    ]
+
+-- a window without types has no block
+pub window_block-none : (types : ℕ → Bool) (w : ℕ) → ((t : ℕ) → t / 256 ≡ w → types t ≡ false) → window_block types w ≡ []
+unfolding window_block
+window_block-none types w none = rw (trimmed-zeros (window_octets types w) (zero_octets types w none)) refl
+
+window_octets-same : (p q : ℕ → Bool) (w : ℕ) → ((t : ℕ) → t / 256 ≡ w → p t ≡ q t) → window_octets p w ≡ window_octets q w
+window_octets-same p q w same =
+    window_octets-is p w (window_octets q w) (length-window_octets q w) (bounded q w)
+      (λ k b k_small b_small. rw (get_or-window_octets q w k k_small, bit_of-octet_with (λ c. q (256 * w + 8 * k + c)) b b_small) (sym (same (256 * w + 8 * k + b) (in_window w k b k_small b_small))))
+
+window_block-same : (p q : ℕ → Bool) (w : ℕ) → ((t : ℕ) → t / 256 ≡ w → p t ≡ q t) → window_block p w ≡ window_block q w
+unfolding window_block
+window_block-same p q w same = ap (λ xs. block_with w (trimmed xs)) (window_octets-same p q w same)
+
+-- tests that agree on all types have the same octets
+pub bitmap_octets-same : (p q : ℕ → Bool) → ((t : ℕ) → t < 65536 → p t ≡ q t) → bitmap_octets p ≡ bitmap_octets q
+unfolding bitmap_octets
+bitmap_octets-same p q same =
+    flat_same (window_block p) (window_block q) 256 (λ w below. window_block-same p q w (λ t of_window. same t (omega arith)))
+
+-- the block of a window, if it has types
+block_list : ℕ → List ℕ → List Block
+block_list w [] = []
+block_list w (x ∷ xs) = record { window = w; octets = x ∷ xs } ∷ []
+
+octets_of-block_list : (w : ℕ) (xs : List ℕ) → octets_of (block_list w xs) ≡ block_with w xs
+unfolding block_list
+octets_of-block_list w [] = refl
+octets_of-block_list w (x ∷ xs) = ap (λ l. w ∷ length (x ∷ xs) ∷ x ∷ l) (append-nil xs)
+
+blocks_from : (ℕ → Bool) → ℕ → ℕ → List Block
+blocks_from types a zero = []
+blocks_from types a (suc n) = block_list a (trimmed (window_octets types a)) ++ blocks_from types (a + 1) n
+
+octets_of-blocks_from : (types : ℕ → Bool) (a n : ℕ) → octets_of (blocks_from types a n) ≡ flat_map (window_block types) (range_with_len a n)
+unfolding blocks_from window_block
+octets_of-blocks_from types a zero = refl
+octets_of-blocks_from types a (suc n) =
+    let xs = trimmed (window_octets types a) in
+    octets_of-append (block_list a xs) (blocks_from types (a + 1) n) ∙ rw (octets_of-block_list a xs, octets_of-blocks_from types (a + 1) n) refl
+
+valid_list : (w : ℕ) (xs : List ℕ) → w < 256 → length xs ≤ 32 → ((i : ℕ) → get_or xs i 0 < 256) → AllByRecursion IsBlock (block_list w xs)
+unfolding block_list
+valid_list w [] window fits small = tt
+valid_list w (x ∷ xs) window fits small = (record { window = window; not_empty = omega arith; fits = fits; bounded = small }, tt)
+
+valid_from : (types : ℕ → Bool) (a n : ℕ) → a + n ≤ 256 → AllByRecursion IsBlock (blocks_from types a n)
+unfolding blocks_from
+valid_from types a zero fits = tt
+valid_from types a (suc n) fits =
+    let xs = trimmed (window_octets types a) in
+    let long : length xs ≤ 32 = omega (arith, length-trimmed (window_octets types a), length-window_octets types a) in
+    let small : (i : ℕ) → get_or xs i 0 < 256 = λ i. rw (get_or-trimmed (window_octets types a) i) (bounded types a i) in
+    all-append (block_list a xs) (blocks_from types (a + 1) n) (valid_list a xs (omega arith) long small) (valid_from types (a + 1) n (omega arith))
+
+pub IsBitmap-bitmap_octets : (types : ℕ → Bool) → IsBitmap (bitmap_octets types)
+unfolding bitmap_octets
+IsBitmap-bitmap_octets types =
+    subst IsBitmap (octets_of-blocks_from types 0 256) (IsBitmap-octets_of (blocks_from types 0 256) (valid_from types 0 256 (omega arith)))
+
+-- the blocks of the windows below one, with those of that one
+pub written_more : (types : ℕ → Bool) (w : ℕ) (front out xs : List ℕ) → front ≡ flat_map (window_block types) (range_with_len 0 w) → window_octets types w ≡ xs → out ≡ front ++ block_with w (trimmed xs) → out ≡ flat_map (window_block types) (range_with_len 0 (w + 1))
+unfolding window_block
+written_more types w front out xs before octets is =
+    is ∙ ap (λ l. l ++ block_with w (trimmed xs)) before ∙ ap (λ l. flat_map (window_block types) (range_with_len 0 w) ++ block_with w (trimmed l)) (sym octets) ∙ sym (flat_more (window_block types) w)
+
+pub skipped_more : (types : ℕ → Bool) (w : ℕ) (front : List ℕ) → front ≡ flat_map (window_block types) (range_with_len 0 w) → ((t : ℕ) → t / 256 ≡ w → types t ≡ false) → front ≡ flat_map (window_block types) (range_with_len 0 (w + 1))
+skipped_more types w front before none =
+    before ∙ sym (append-nil (flat_map (window_block types) (range_with_len 0 w))) ∙ ap (λ l. flat_map (window_block types) (range_with_len 0 w) ++ l) (sym (window_block-none types w none)) ∙ sym (flat_more (window_block types) w)
+
+pub all_written : (types : ℕ → Bool) (n : ℕ) (out : List ℕ) → n ≡ 256 → out ≡ flat_map (window_block types) (range_with_len 0 n) → out ≡ bitmap_octets types
+unfolding bitmap_octets
+all_written types n out all is = is ∙ ap (λ m. flat_map (window_block types) (range_with_len 0 m)) all

@@ -1,0 +1,7 @@
+pub mod RangeLemmas
+pub mod BitLemmas
+pub mod TrimLemmas
+pub mod SlotLemmas
+pub mod BlockLemmas
+pub mod BitmapLemmas
+pub mod PackLemmas

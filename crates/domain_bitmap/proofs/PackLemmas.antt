@@ -1,0 +1,246 @@
+-- blocks put in order
+use Rattle.std.proofs.Common.{◌≡◌, ℕ, zero, suc, ◌+◌, ◌-◌, ◌*◌, ◌/◌, ◌%◌, ◌<◌, ◌≤◌, ◌≢◌, min, max, Bool, true, false, List, [], ◌∷◌, ◌++◌, length, get_or, take, drop, refl, sym, ap, ◌∙◌, inl, inr, arith, add-one, add-zero, append_assoc, set, get_or-set_same, get_or-set_other, length-append}
+use Rattle.std.specs.Prelude.{◌||◌, ◌==◌, ◌&&◌, bit_or, nat_lt, if◌then◌else◌}
+use Rattle.std.specs.Int.{bit_at}
+use Rattle.std.specs.List.{range_with_len, list_any}
+use Rattle.std.proofs.lemmas.Nat.Bits.{bit_at_or, bit_at-lt}
+use Rattle.std.proofs.lemmas.List.{get_or-take, get_or-drop, length-take, length-drop, take_at}
+use Rattle.std.proofs.lemmas.Bool.Decides.{nat_tests, eqb_tells, leb_tells}
+use Rattle.domain_bitmap.specs.Bits.{bit_of}
+use Rattle.domain_bitmap.specs.Bitmap.{window_octets, window_block, block_with, trimmed, bitmap_octets}
+use Rattle.domain_bitmap.specs.Builder.{is_of_window, block_holds, has_window, holds}
+use Rattle.domain_bitmap.proofs.RangeLemmas.{any_more, any_suc, any_none, any_at, or_false, or_true, or_turn}
+use Rattle.domain_bitmap.proofs.BitmapLemmas.{window_octets-is, window_block-none}
+use Rattle.domain_bitmap.proofs.RangeLemmas.{flat_none, flat_single}
+use Rattle.domain_bitmap.proofs.SlotLemmas.{window_absent}
+
+or_bits : (m n : ℕ) → m < 2 → n < 2 → (max m n == 1) ≡ ((m == 1) || (n == 1))
+or_bits zero zero m_small n_small = refl
+or_bits zero (suc zero) m_small n_small = refl
+or_bits (suc zero) zero m_small n_small = refl
+or_bits (suc zero) (suc zero) m_small n_small = refl
+or_bits (suc (suc m)) n m_small n_small = absurd (omega (arith, m_small))
+or_bits zero (suc (suc n)) m_small n_small = absurd (omega (arith, n_small))
+or_bits (suc zero) (suc (suc n)) m_small n_small = absurd (omega (arith, n_small))
+
+-- the bits of two octets together
+pub bit_of-or : (x y b : ℕ) → bit_of (bit_or x y) b ≡ (bit_of x b || bit_of y b)
+unfolding bit_of
+bit_of-or x y b = rw (bit_at_or x y (7 - b)) (or_bits (bit_at x (7 - b)) (bit_at y (7 - b)) (bit_at-lt x (7 - b)) (bit_at-lt y (7 - b)))
+
+-- a window that has no block has no types
+no_block : (value : List ℕ) (w : ℕ) → has_window value w ≡ false → (j : ℕ) → j < length value / 34 → is_of_window value w j ≡ false
+unfolding has_window
+no_block value w absent j inside =
+    elim (eqb_tells (get_or value (34 * j) 0) w) [
+      | inl h ↦ let found = any_at (is_of_window value w) (length value / 34) j inside h.0 in absurd (cc (found, absent))
+      | inr h ↦ h.0
+    ]
+
+pub holds-absent : (value : List ℕ) (w : ℕ) → has_window value w ≡ false → (t : ℕ) → t / 256 ≡ w → holds value t ≡ false
+unfolding holds
+holds-absent value w absent t of_window =
+    any_none (block_holds value t) (length value / 34)
+      (λ j inside. let not_here : is_of_window value (t / 256) j ≡ false = rw of_window (no_block value w absent j inside) in rw not_here refl)
+
+-- how many numbers below n pass a test
+unfoldable pub tally : (ℕ → Bool) → ℕ → ℕ
+tally p zero = 0
+tally p (suc n) = tally p n + (if p n then 1 else 0)
+
+pub tally-more : (p : ℕ → Bool) (n : ℕ) → p n ≡ true → tally p (n + 1) ≡ tally p n + 1
+unfolding tally
+tally-more p n passes = rw (add-one, passes) refl
+
+pub tally-less : (p : ℕ → Bool) (n : ℕ) → p n ≡ false → tally p (n + 1) ≡ tally p n
+unfolding tally
+tally-less p n fails = rw (add-one, fails) (add-zero (tally p n))
+
+tally-same : (p q : ℕ → Bool) (n : ℕ) → ((j : ℕ) → p j ≡ q j) → tally p n ≡ tally q n
+unfolding tally
+tally-same p q zero same = refl
+tally-same p q (suc n) same = rw (tally-same p q n same, same n) refl
+
+one_of : (a b : Bool) → (if a || b then 1 else 0) ≤ (if a then 1 else 0) + (if b then 1 else 0)
+one_of true b = omega arith
+one_of false b = omega arith
+
+tally-or : (p q : ℕ → Bool) (n : ℕ) → tally (λ j. p j || q j) n ≤ tally p n + tally q n
+unfolding tally
+tally-or p q zero = omega arith
+tally-or p q (suc n) = omega (arith, tally-or p q n, one_of (p n) (q n))
+
+tally-none : (c n : ℕ) → n ≤ c → tally (λ j. c == j) n ≡ 0
+unfolding tally
+tally-none c zero below = refl
+tally-none c (suc n) below =
+    let differs : (c == n) ≡ false = grind (arith, nat_tests) in
+    rw (differs, tally-none c n (omega arith)) refl
+
+tally-one : (c n : ℕ) → tally (λ j. c == j) n ≤ 1
+unfolding tally
+tally-one c zero = omega arith
+tally-one c (suc n) =
+    elim (eqb_tells c n) [
+      | inl h ↦ rw h.0 (omega (arith, tally-none c n (omega (arith, h.1))))
+      | inr h ↦ rw h.0 (omega (arith, tally-one c n))
+    ]
+
+tally-absent : (n : ℕ) → tally (λ j. false) n ≡ 0
+unfolding tally
+tally-absent zero = refl
+tally-absent (suc n) = rw (tally-absent n) refl
+
+-- k blocks are of k windows at most
+tally-blocks : (value : List ℕ) (k n : ℕ) → tally (λ w. list_any (is_of_window value w) (range_with_len 0 k)) n ≤ k
+tally-blocks value zero n = omega (arith, tally-absent n)
+tally-blocks value (suc k) n =
+    let split = tally-same (λ w. list_any (is_of_window value w) (range_with_len 0 (suc k))) (λ w. list_any (is_of_window value w) (range_with_len 0 k) || is_of_window value w k) n (λ w. any_suc (is_of_window value w) k) in
+    let parts = tally-or (λ w. list_any (is_of_window value w) (range_with_len 0 k)) (λ w. is_of_window value w k) n in
+    omega (arith, split, parts, tally-blocks value k n, tally-one (get_or value (34 * k) 0) n)
+
+pub tally-has_window : (value : List ℕ) (n : ℕ) → tally (has_window value) n ≤ length value / 34
+unfolding has_window
+tally-has_window value n = tally-blocks value (length value / 34) n
+
+-- there is room for the block of a window that is there
+pub room_for : (value : List ℕ) (w : ℕ) → has_window value w ≡ true → tally (has_window value) w + 1 ≤ length value / 34
+room_for value w present = omega (arith, tally-has_window value (w + 1), tally-more (has_window value) w present)
+
+-- octets are written at the end of those that stand
+pub front-written : (value s rest : List ℕ) (at n : ℕ) → at ≤ length value → n ≡ at + length s → take n (take at value ++ (s ++ rest)) ≡ take at value ++ s
+front-written value s rest at n inside count =
+    let long : length (take at value ++ s) ≡ n = omega (arith, length-append (take at value) s, length-take at value) in
+    rw (← append_assoc (take at value) s rest) (take_at (take at value ++ s) rest n long)
+
+pub block_with-some : (w : ℕ) (xs : List ℕ) → 0 < length xs → block_with w xs ≡ w ∷ length xs ∷ xs
+block_with-some w [] some = absurd (omega (arith, some))
+block_with-some w (x ∷ xs) some = refl
+
+-- a step of the merge of a block into its window's octets
+test_here : (p w i : ℕ) → p ≡ w * 32 + i → i < 32 → ((p / 32 == w) && nat_lt (p % 32) (i + 1)) ≡ true
+test_here p w i is small = grind (arith, nat_tests)
+
+test_before : (p w i : ℕ) → p ≡ w * 32 + i → i < 32 → ((p / 32 == w) && nat_lt (p % 32) i) ≡ false
+test_before p w i is small = grind (arith, nat_tests)
+
+test_other : (p w i : ℕ) → p ≢ w * 32 + i → i < 32 → ((p / 32 == w) && nat_lt (p % 32) (i + 1)) ≡ ((p / 32 == w) && nat_lt (p % 32) i)
+test_other p w i other small = grind (arith, nat_tests)
+
+place_in : (p w i : ℕ) → p ≡ w * 32 + i → i < 32 → p % 32 ≡ i
+place_in p w i is small = omega arith
+
+-- the octets after the first i of a block are merged
+abbrev pub merged_at : List ℕ → List ℕ → ℕ → ℕ → ℕ → ℕ
+merged_at initial slots j i p =
+    if (p / 32 == get_or slots (34 * j) 0) && nat_lt (p % 32) i then bit_or (get_or initial p 0) (get_or slots (34 * j + 2 + p % 32) 0) else get_or initial p 0
+
+pub merge_more : (initial now slots : List ℕ) (j i : ℕ) → i < 32 → get_or slots (34 * j) 0 * 32 + i < length now → ((p : ℕ) → get_or now p 0 ≡ merged_at initial slots j i p)
+    → (p : ℕ) → get_or (set now (get_or slots (34 * j) 0 * 32 + i) (bit_or (get_or now (get_or slots (34 * j) 0 * 32 + i) 0) (get_or slots (34 * j + 2 + i) 0))) p 0 ≡ merged_at initial slots j (i + 1) p
+merge_more initial now slots j i small inside same p =
+    let w = get_or slots (34 * j) 0 in
+    let at = w * 32 + i in
+    elim (eqb_tells p at) [
+      | inl h ↦
+        let is : p ≡ w * 32 + i = h.1 in
+        let before : get_or now p 0 ≡ get_or initial p 0 = same p ∙ rw (test_before p w i is small) refl in
+        rw (test_here p w i is small, place_in p w i is small, ← is) (get_or-set_same now p (bit_or (get_or now p 0) (get_or slots (34 * j + 2 + i) 0)) 0 (omega arith) ∙ ap (λ o. bit_or o (get_or slots (34 * j + 2 + i) 0)) before)
+      | inr h ↦
+        let other : p ≢ w * 32 + i = h.1 in
+        rw (test_other p w i other small) (get_or-set_other now at p (bit_or (get_or now at 0) (get_or slots (34 * j + 2 + i) 0)) 0 other ∙ same p)
+    ]
+
+-- the octet of a type among those of all windows
+octet_place : (t : ℕ) → t / 8 / 32 ≡ t / 256
+octet_place t = omega arith
+
+octet_in : (t : ℕ) → t / 8 % 32 ≡ t % 256 / 8
+octet_in t = omega arith
+
+-- the table after the block at a place
+pub types_more : (octets after slots : List ℕ) (j t : ℕ)
+    → ((p : ℕ) → get_or after p 0 ≡ (if p / 32 == get_or slots (34 * j) 0 then bit_or (get_or octets p 0) (get_or slots (34 * j + 2 + p % 32) 0) else get_or octets p 0))
+    → bit_of (get_or octets (t / 8) 0) (t % 8) ≡ list_any (block_holds slots t) (range_with_len 0 j)
+    → bit_of (get_or after (t / 8) 0) (t % 8) ≡ list_any (block_holds slots t) (range_with_len 0 (j + 1))
+types_more octets after slots j t merged before =
+    let old = get_or octets (t / 8) 0 in
+    let more = get_or slots (34 * j + 2 + t % 256 / 8) 0 in
+    let step : get_or after (t / 8) 0 ≡ (if t / 256 == get_or slots (34 * j) 0 then bit_or old more else old) = rw (← octet_place t, ← octet_in t) (merged (t / 8)) in
+    elim (eqb_tells (t / 256) (get_or slots (34 * j) 0)) [
+      | inl h ↦
+        let turned : (get_or slots (34 * j) 0 == t / 256) ≡ true = let is : t / 256 ≡ get_or slots (34 * j) 0 = h.1 in grind (arith, nat_tests) in
+        let block : block_holds slots t j ≡ bit_of more (t % 8) = rw turned refl in
+        rw (step, h.0, any_more (block_holds slots t) j, block, bit_of-or old more (t % 8), before) refl
+      | inr h ↦
+        let turned : (get_or slots (34 * j) 0 == t / 256) ≡ false = let is : t / 256 ≢ get_or slots (34 * j) 0 = h.1 in grind (arith, nat_tests) in
+        let block : block_holds slots t j ≡ false = rw turned refl in
+        rw (step, h.0, any_more (block_holds slots t) j, block) (before ∙ sym (or_false (list_any (block_holds slots t) (range_with_len 0 j))))
+    ]
+
+pub windows_more : (present : List Bool) (slots : List ℕ) (j w : ℕ) → get_or slots (34 * j) 0 < length present
+    → get_or present w false ≡ list_any (is_of_window slots w) (range_with_len 0 j)
+    → get_or (set present (get_or slots (34 * j) 0) true) w false ≡ list_any (is_of_window slots w) (range_with_len 0 (j + 1))
+windows_more present slots j w inside before =
+    let c = get_or slots (34 * j) 0 in
+    elim (eqb_tells c w) [
+      | inl h ↦
+        rw (any_more (is_of_window slots w) j, h.0, ← h.1) (get_or-set_same present c true false inside ∙ sym (or_true (list_any (is_of_window slots c) (range_with_len 0 j))))
+      | inr h ↦
+        let other : w ≢ c = λ e. h.1 (sym e) in
+        rw (any_more (is_of_window slots w) j, h.0) (get_or-set_other present c w true false other ∙ before ∙ sym (or_false (list_any (is_of_window slots w) (range_with_len 0 j))))
+    ]
+
+pub ruleset table_steps = (types_more, windows_more)
+
+-- the octets of a window in the table are those of the types that are held
+pub table_window : (octets value xs : List ℕ) (w : ℕ) → w < 256 → length octets ≡ 8192 → xs ≡ take 32 (drop (32 * w) octets) → ((k : ℕ) → get_or xs k 0 < 256)
+    → ((t : ℕ) → t < 65536 → bit_of (get_or octets (t / 8) 0) (t % 8) ≡ holds value t) → window_octets (holds value) w ≡ xs
+table_window octets value xs w inside all is small bits =
+    let long : length xs ≡ 32 = omega (arith, ap length is, length-take 32 (drop (32 * w) octets), length-drop (32 * w) octets) in
+    window_octets-is (holds value) w xs long small
+      (λ k b k_small b_small.
+        let t : ℕ = 256 * w + 8 * k + b in
+        let place : t / 8 ≡ 32 * w + k = omega arith in
+        let bit : t % 8 ≡ b = omega arith in
+        let octet : get_or xs k 0 ≡ get_or octets (t / 8) 0 = rw (is, place) (get_or-take 32 (drop (32 * w) octets) k 0 k_small ∙ get_or-drop (32 * w) octets k 0) in
+        rw octet (ap (λ c. bit_of (get_or octets (t / 8) 0) c) (sym bit) ∙ bits t (omega arith)))
+
+-- a builder without blocks, and one with one block
+pub holds_nothing : (value : List ℕ) → length value ≡ 0 → bitmap_octets (holds value) ≡ []
+unfolding bitmap_octets holds
+holds_nothing value none =
+    flat_none (window_block (holds value)) 256 (λ w below. window_block-none (holds value) w (λ t of_window. rw none refl))
+
+one_bit : (value : List ℕ) (t : ℕ) → length value ≡ 34 → get_or value 0 0 ≡ t / 256 → holds value t ≡ bit_of (get_or value (2 + t % 256 / 8) 0) (t % 8)
+unfolding holds
+one_bit value t one window =
+    let test : (get_or value 0 0 == t / 256) ≡ true = grind (arith, nat_tests) in
+    rw (one, test) (or_false (bit_of (get_or value (2 + t % 256 / 8) 0) (t % 8)))
+
+pub one_block : (value : List ℕ) → length value ≡ 34 → ((i : ℕ) → get_or value i 0 < 256) → bitmap_octets (holds value) ≡ block_with (get_or value 0 0) (trimmed (drop 2 value))
+unfolding bitmap_octets window_block
+one_block value one small =
+    let w = get_or value 0 0 in
+    let xs = drop 2 value in
+    let long : length xs ≡ 32 = omega (arith, length-drop 2 value) in
+    let octets : window_octets (holds value) w ≡ xs =
+        window_octets-is (holds value) w xs long (λ k. rw (get_or-drop 2 value k 0) (small (2 + k)))
+          (λ k b k_small b_small.
+            let t : ℕ = 256 * w + 8 * k + b in
+            let window : w ≡ t / 256 = omega arith in
+            let place : t % 256 / 8 ≡ k = omega arith in
+            let bit : t % 8 ≡ b = omega arith in
+            rw (get_or-drop 2 value k 0) (sym (one_bit value t one window ∙ rw (place, bit) refl))) in
+    flat_single (window_block (holds value)) w 256 (small 0)
+      (λ v below other. window_block-none (holds value) v (holds-absent value v (window_absent value v (λ j inside. let at : j ≡ 0 = omega arith in rw at (λ is. other (sym is))))))
+    ∙ ap (λ l. block_with w (trimmed l)) octets
+
+-- the only block is cut where it stands
+pub cut_in_place : (value after : List ℕ) (len : ℕ) → length value ≡ 34 → 0 < len → len ≤ 32 → after ≡ take 1 value ++ (len ∷ drop 2 value) → take (len + 2) after ≡ block_with (get_or value 0 0) (take len (drop 2 value))
+cut_in_place [] after len one some fits is = absurd (omega (arith, one))
+cut_in_place (w ∷ []) after len one some fits is = absurd (omega (arith, one))
+cut_in_place (w ∷ o ∷ rest) after len one some fits is =
+    let kept = take len rest in
+    let count : length kept ≡ len = omega (arith, length-take len rest, one) in
+    let all : len + 2 ≡ suc (suc len) = omega arith in
+    rw (is, all) (sym (block_with-some w kept (omega arith) ∙ ap (λ n. w ∷ n ∷ kept) count))

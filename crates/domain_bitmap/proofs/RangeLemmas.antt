@@ -1,0 +1,126 @@
+-- numbers in a row
+use Rattle.std.proofs.Common.{◌≡◌, ℕ, zero, suc, ◌+◌, ◌<◌, ◌≤◌, ◌≢◌, Bool, true, false, List, [], ◌∷◌, ◌++◌, length, get_or, refl, sym, ap, ◌∙◌, inl, inr, arith, add-zero, zero-add, add-one, append_assoc, append-nil, cond, subst}
+use Rattle.std.specs.Prelude.{◌||◌, ◌&&◌, ◌==◌}
+use Rattle.std.specs.List.{range_with_len, list_any, flat_map}
+use Rattle.std.proofs.lemmas.Bool.Decides.{nat_tests, eqb_tells}
+use Rattle.std.proofs.lemmas.List.Folds.{list_any-append, list_any_at, list_any_none}
+use Rattle.std.proofs.lemmas.List.Concat.{flat_map-append}
+use Rattle.std.proofs.lemmas.List.FromFn.{length-range_with_len, get_or-range_with_len}
+
+range-suc : (a n : ℕ) → range_with_len a (suc n) ≡ range_with_len a n ++ (a + n) ∷ []
+range-suc a zero = ap (λ k. k ∷ []) (sym (add-zero a))
+range-suc a (suc n) =
+    let same : a + 1 + n ≡ a + suc n = omega arith in
+    ap (λ l. a ∷ l) (range-suc (a + 1) n ∙ ap (λ k. range_with_len (a + 1) n ++ k ∷ []) same)
+
+pub range_more : (n : ℕ) → range_with_len 0 (n + 1) ≡ range_with_len 0 n ++ n ∷ []
+range_more n = ap (range_with_len 0) (add-one n) ∙ range-suc 0 n ∙ ap (λ k. range_with_len 0 n ++ k ∷ []) (zero-add n)
+
+pub or_false : (b : Bool) → (b || false) ≡ b
+or_false true = refl
+or_false false = refl
+
+pub or_true : (b : Bool) → (b || true) ≡ true
+or_true true = refl
+or_true false = refl
+
+pub or_turn : (a b : Bool) → (a || b) ≡ (b || a)
+or_turn true true = refl
+or_turn true false = refl
+or_turn false true = refl
+or_turn false false = refl
+
+pub and_false : (b : Bool) → (b && false) ≡ false
+and_false true = refl
+and_false false = refl
+
+or_swap : (a b c : Bool) → (a || (b || c)) ≡ (b || (a || c))
+or_swap true true c = refl
+or_swap true false c = refl
+or_swap false b c = refl
+
+pub or_next : (a b c : Bool) → ((a || b) || c) ≡ (a || (b || c))
+or_next true b c = refl
+or_next false b c = refl
+
+-- whether some number in a row passes a test
+pub any_more : (p : ℕ → Bool) (n : ℕ) → list_any p (range_with_len 0 (n + 1)) ≡ (list_any p (range_with_len 0 n) || p n)
+any_more p n =
+    ap (list_any p) (range_more n) ∙ list_any-append p (range_with_len 0 n) (n ∷ []) ∙ ap (λ b. list_any p (range_with_len 0 n) || b) (or_false (p n))
+
+pub any_suc : (p : ℕ → Bool) (n : ℕ) → list_any p (range_with_len 0 (suc n)) ≡ (list_any p (range_with_len 0 n) || p n)
+any_suc p n = ap (λ m. list_any p (range_with_len 0 m)) (sym (add-one n)) ∙ any_more p n
+
+any_same_from : (p q : ℕ → Bool) (a n : ℕ) → ((j : ℕ) → a ≤ j → j < a + n → p j ≡ q j) → list_any p (range_with_len a n) ≡ list_any q (range_with_len a n)
+any_same_from p q a zero same = refl
+any_same_from p q a (suc n) same =
+    let first : p a ≡ q a = same a (omega arith) (omega arith) in
+    let rest : list_any p (range_with_len (a + 1) n) ≡ list_any q (range_with_len (a + 1) n) = any_same_from p q (a + 1) n (λ j low high. same j (omega arith) (omega arith)) in
+    rw (first, rest) refl
+
+pub any_same : (p q : ℕ → Bool) (n : ℕ) → ((j : ℕ) → j < n → p j ≡ q j) → list_any p (range_with_len 0 n) ≡ list_any q (range_with_len 0 n)
+any_same p q n same = any_same_from p q 0 n (λ j low high. same j (omega arith))
+
+pub any_at : (p : ℕ → Bool) (n k : ℕ) → k < n → p k ≡ true → list_any p (range_with_len 0 n) ≡ true
+any_at p n k below passes =
+    let at : get_or (range_with_len 0 n) k 0 ≡ k = get_or-range_with_len 0 n k 0 below ∙ zero-add k in
+    list_any_at p (range_with_len 0 n) k 0 (omega (arith, length-range_with_len 0 n)) (ap p at ∙ passes)
+
+pub any_none : (p : ℕ → Bool) (n : ℕ) → ((j : ℕ) → j < n → p j ≡ false) → list_any p (range_with_len 0 n) ≡ false
+any_none p n fails = any_same p (λ _. false) n fails ∙ list_any_none (λ _. false) (range_with_len 0 n) (λ k d below. refl)
+
+any_with_from : (p q : ℕ → Bool) (c : Bool) (a n k : ℕ) → a ≤ k → k < a + n → ((j : ℕ) → a ≤ j → j < a + n → j ≢ k → q j ≡ p j) → q k ≡ (c || p k) → list_any q (range_with_len a n) ≡ (c || list_any p (range_with_len a n))
+any_with_from p q c a zero k low high same more = absurd (omega arith)
+any_with_from p q c a (suc n) k low high same more =
+    elim (eqb_tells a k) [
+      | inl h ↦
+        let here : q a ≡ (c || p a) = subst (λ j. q j ≡ (c || p j)) (sym h.1) more in
+        let rest : list_any q (range_with_len (a + 1) n) ≡ list_any p (range_with_len (a + 1) n) = any_same_from q p (a + 1) n (λ j j_low j_high. same j (omega arith) (omega arith) (omega (arith, h.1))) in
+        rw (here, rest) (or_next c (p a) (list_any p (range_with_len (a + 1) n)))
+      | inr h ↦
+        let other : a ≢ k = h.1 in
+        let here : q a ≡ p a = same a (omega arith) (omega arith) other in
+        let rest : list_any q (range_with_len (a + 1) n) ≡ (c || list_any p (range_with_len (a + 1) n)) = any_with_from p q c (a + 1) n k (omega arith) (omega arith) (λ j j_low j_high. same j (omega arith) (omega arith)) more in
+        rw (here, rest) (or_swap (p a) c (list_any p (range_with_len (a + 1) n)))
+    ]
+
+-- a test that says more at one place says so of the row
+pub any_with : (p q : ℕ → Bool) (c : Bool) (n k : ℕ) → k < n → ((j : ℕ) → j < n → j ≢ k → q j ≡ p j) → q k ≡ (c || p k) → list_any q (range_with_len 0 n) ≡ (c || list_any p (range_with_len 0 n))
+any_with p q c n k below same more = any_with_from p q c 0 n k (omega arith) (omega arith) (λ j low high. same j (omega arith)) more
+
+-- lists made for each number in a row
+flat_same_from : (f g : ℕ → List ℕ) (a n : ℕ) → ((j : ℕ) → a ≤ j → j < a + n → f j ≡ g j) → flat_map f (range_with_len a n) ≡ flat_map g (range_with_len a n)
+flat_same_from f g a zero same = refl
+flat_same_from f g a (suc n) same =
+    let first : f a ≡ g a = same a (omega arith) (omega arith) in
+    let rest : flat_map f (range_with_len (a + 1) n) ≡ flat_map g (range_with_len (a + 1) n) = flat_same_from f g (a + 1) n (λ j low high. same j (omega arith) (omega arith)) in
+    rw (first, rest) refl
+
+pub flat_same : (f g : ℕ → List ℕ) (n : ℕ) → ((j : ℕ) → j < n → f j ≡ g j) → flat_map f (range_with_len 0 n) ≡ flat_map g (range_with_len 0 n)
+flat_same f g n same = flat_same_from f g 0 n (λ j low high. same j (omega arith))
+
+pub flat_more : (f : ℕ → List ℕ) (n : ℕ) → flat_map f (range_with_len 0 (n + 1)) ≡ flat_map f (range_with_len 0 n) ++ f n
+flat_more f n = ap (flat_map f) (range_more n) ∙ flat_map-append f (range_with_len 0 n) (n ∷ []) ∙ ap (λ l. flat_map f (range_with_len 0 n) ++ l) (append-nil (f n))
+
+flat_none_from : (f : ℕ → List ℕ) (a n : ℕ) → ((j : ℕ) → a ≤ j → j < a + n → f j ≡ []) → flat_map f (range_with_len a n) ≡ []
+flat_none_from f a zero none = refl
+flat_none_from f a (suc n) none =
+    rw (none a (omega arith) (omega arith)) (flat_none_from f (a + 1) n (λ j low high. none j (omega arith) (omega arith)))
+
+pub flat_none : (f : ℕ → List ℕ) (n : ℕ) → ((j : ℕ) → j < n → f j ≡ []) → flat_map f (range_with_len 0 n) ≡ []
+flat_none f n none = flat_none_from f 0 n (λ j low high. none j (omega arith))
+
+flat_single_from : (f : ℕ → List ℕ) (w a n : ℕ) → a ≤ w → w < a + n → ((j : ℕ) → a ≤ j → j < a + n → j ≢ w → f j ≡ []) → flat_map f (range_with_len a n) ≡ f w
+flat_single_from f w a zero low high none = absurd (omega arith)
+flat_single_from f w a (suc n) low high none =
+    elim (eqb_tells a w) [
+      | inl h ↦
+        let rest = flat_none_from f (a + 1) n (λ j j_low j_high. none j (omega arith) (omega arith) (omega (arith, h.1))) in
+        rw (rest, append-nil (f a)) (ap f h.1)
+      | inr h ↦
+        let rest = flat_single_from f w (a + 1) n (omega (arith, h.1)) (omega arith) (λ j j_low j_high. none j (omega arith) (omega arith)) in
+        rw (none a (omega arith) (omega arith) h.1) rest
+    ]
+
+pub flat_single : (f : ℕ → List ℕ) (w n : ℕ) → w < n → ((j : ℕ) → j < n → j ≢ w → f j ≡ []) → flat_map f (range_with_len 0 n) ≡ f w
+flat_single f w n inside none = flat_single_from f w 0 n (omega arith) (omega arith) (λ j low high. none j (omega arith))

@@ -1,0 +1,184 @@
+-- the blocks of 34 octets that a builder holds
+use Rattle.std.proofs.Common.{◌≡◌, ℕ, zero, suc, ◌+◌, ◌-◌, ◌*◌, ◌/◌, ◌%◌, ◌^◌, ◌<◌, ◌≤◌, ◌≢◌, Bool, true, false, List, [], ◌∷◌, ◌++◌, length, get_or, take, drop, refl, sym, ap, ◌∙◌, inl, inr, arith, add-one, length-append, set, get_or-set_same, get_or-set_other, length-set}
+use Rattle.std.specs.Prelude.{◌||◌, ◌==◌, ◌&&◌, bit_or, replicate}
+use Rattle.std.specs.List.{range_with_len, list_any}
+use Rattle.std.proofs.lemmas.Bool.Decides.{nat_tests, eqb_tells}
+use Rattle.std.proofs.lemmas.List.{take-set, drop-set, take-append-drop, get_or-append-add, get_or_append_left}
+use Rattle.std.proofs.Math.Seq.{get_or-append_seam}
+use Rattle.domain_bitmap.specs.Bits.{bit_of}
+use Rattle.domain_bitmap.specs.Builder.{is_of_window, block_holds, has_window, holds}
+use Rattle.domain_bitmap.proofs.RangeLemmas.{any_more, any_same, any_at, any_none, any_with, or_false, or_turn, and_false}
+use Rattle.domain_bitmap.proofs.BitLemmas.{bit_of-set, bit_of-zero}
+
+-- a block is found
+pub window_found : (value : List ℕ) (window j : ℕ) → j < length value / 34 → get_or value (34 * j) 0 ≡ window → has_window value window ≡ true
+unfolding has_window
+window_found value window j inside is = any_at (is_of_window value window) (length value / 34) j inside (grind (arith, nat_tests))
+
+pub window_absent : (value : List ℕ) (window : ℕ) → ((j : ℕ) → j < length value / 34 → get_or value (34 * j) 0 ≢ window) → has_window value window ≡ false
+unfolding has_window
+window_absent value window other = any_none (is_of_window value window) (length value / 34) (λ j inside. let differs = other j inside in grind (arith, nat_tests))
+
+-- one octet written over
+pub written_is : (value : List ℕ) (at octet : ℕ) → at < length value → take at value ++ (octet ∷ drop (at + 1) value) ≡ set value at octet
+written_is value at octet inside =
+    sym (ap (λ l. l ++ (octet ∷ drop (at + 1) value)) (take-set value at octet) )
+    ∙ ap (λ l. take at (set value at octet) ++ l) (sym (drop-set value at octet inside))
+    ∙ take-append-drop at (set value at octet)
+
+same_type : (t r : ℕ) → t / 256 ≡ r / 256 → t % 256 / 8 ≡ r % 256 / 8 → (t == r) ≡ (t % 8 == r % 8)
+same_type t r window octet = grind (arith, nat_tests)
+
+other_window : (t r : ℕ) → t / 256 ≢ r / 256 → (t == r) ≡ false
+other_window t r window = grind (arith, nat_tests)
+
+other_octet : (t r : ℕ) → t % 256 / 8 ≢ r % 256 / 8 → (t == r) ≡ false
+other_octet t r octet = grind (arith, nat_tests)
+
+-- a bit set in a block of the type's window
+module _ (value : List ℕ) (p r : ℕ) (inside : p < length value / 34) (window : get_or value (34 * p) 0 ≡ r / 256) where
+  abbrev at : ℕ
+  at = 34 * p + 2 + r % 256 / 8
+
+  abbrev more : ℕ
+  more = bit_or (get_or value at 0) (1 * 2 ^ (7 - r % 8) % 2 ^ 8)
+
+  abbrev after : List ℕ
+  after = set value at more
+
+  at_inside : at < length value
+  at_inside = omega (arith, inside)
+
+  kept : (k : ℕ) → k ≢ at → get_or after k 0 ≡ get_or value k 0
+  kept k other = get_or-set_other value at k more 0 other
+
+  window_kept : (j : ℕ) → get_or after (34 * j) 0 ≡ get_or value (34 * j) 0
+  window_kept j = kept (34 * j) (omega arith)
+
+  elsewhere : (t j : ℕ) → j ≢ p → block_holds after t j ≡ block_holds value t j
+  elsewhere t j other =
+      let place : 34 * j + 2 + t % 256 / 8 ≢ at = omega arith in
+      rw (window_kept j, kept (34 * j + 2 + t % 256 / 8) place) refl
+
+  -- the bit of a type in the block
+  bit_after : (t : ℕ) → t / 256 ≡ r / 256 → bit_of (get_or after (34 * p + 2 + t % 256 / 8) 0) (t % 8) ≡ ((t == r) || bit_of (get_or value (34 * p + 2 + t % 256 / 8) 0) (t % 8))
+  bit_after t of_window =
+      elim (eqb_tells (t % 256 / 8) (r % 256 / 8)) [
+        | inl h ↦
+          let place : 34 * p + 2 + t % 256 / 8 ≡ at = ap (λ o. 34 * p + 2 + o) h.1 in
+          rw (place, get_or-set_same value at more 0 at_inside, same_type t r of_window h.1)
+          (bit_of-set (get_or value at 0) (t % 8) (r % 8) (omega arith) (omega arith))
+        | inr h ↦
+          let octet : t % 256 / 8 ≢ r % 256 / 8 = h.1 in
+          let place : 34 * p + 2 + t % 256 / 8 ≢ at = omega arith in
+          rw (kept (34 * p + 2 + t % 256 / 8) place, other_octet t r octet) refl
+      ]
+
+  here : (t : ℕ) → block_holds after t p ≡ ((t == r) || block_holds value t p)
+  here t =
+      elim (eqb_tells (t / 256) (r / 256)) [
+        | inl h ↦
+          let test : (get_or value (34 * p) 0 == t / 256) ≡ true = let e : get_or value (34 * p) 0 ≡ t / 256 = window ∙ sym h.1 in grind (arith, nat_tests) in
+          rw (window_kept p, test) (bit_after t h.1)
+        | inr h ↦
+          let differs : t / 256 ≢ r / 256 = h.1 in
+          let test : (get_or value (34 * p) 0 == t / 256) ≡ false = grind (arith, nat_tests, window) in
+          rw (window_kept p, test, other_window t r differs) refl
+      ]
+
+  pub holds-set_bit : (t : ℕ) → holds after t ≡ ((t == r) || holds value t)
+  unfolding holds
+  holds-set_bit t =
+      rw (length-set value at more)
+      (any_with (block_holds value t) (block_holds after t) (t == r) (length value / 34) p inside (λ j below other. elsewhere t j other) (here t))
+
+  pub has_window-set_bit : (w : ℕ) → has_window after w ≡ has_window value w
+  unfolding has_window
+  has_window-set_bit w =
+      rw (length-set value at more)
+      (any_same (is_of_window after w) (is_of_window value w) (length value / 34) (λ j below. ap (λ n. n == w) (window_kept j)))
+
+-- the octets after the code has set a bit
+added : (value slots : List ℕ) (j o b r : ℕ) → slots ≡ value → j < length value / 34 → get_or value (34 * j) 0 ≡ r / 256 → o ≡ r % 256 / 8 → b ≡ r % 8
+    → take (34 * j + 2 + o) value ++ (bit_or (get_or slots (34 * j + 2 + o) 0) (1 * 2 ^ (7 - b) % 2 ^ 8) ∷ drop (34 * j + 2 + o + 1) value)
+      ≡ set value (34 * j + 2 + r % 256 / 8) (bit_or (get_or value (34 * j + 2 + r % 256 / 8) 0) (1 * 2 ^ (7 - r % 8) % 2 ^ 8))
+added value slots j o b r same inside window octet bit =
+    rw (same, octet, bit) (written_is value (34 * j + 2 + r % 256 / 8) (bit_or (get_or value (34 * j + 2 + r % 256 / 8) 0) (1 * 2 ^ (7 - r % 8) % 2 ^ 8)) (omega (arith, inside)))
+
+pub holds-added : (value slots : List ℕ) (j o b r : ℕ) → slots ≡ value → j < length value / 34 → get_or value (34 * j) 0 ≡ r / 256 → o ≡ r % 256 / 8 → b ≡ r % 8
+    → (t : ℕ) → holds (take (34 * j + 2 + o) value ++ (bit_or (get_or slots (34 * j + 2 + o) 0) (1 * 2 ^ (7 - b) % 2 ^ 8) ∷ drop (34 * j + 2 + o + 1) value)) t ≡ ((t == r) || holds value t)
+holds-added value slots j o b r same inside window octet bit t =
+    ap (λ v. holds v t) (added value slots j o b r same inside window octet bit) ∙ holds-set_bit value j r inside window t
+
+pub has_window-added : (value slots : List ℕ) (j o b r : ℕ) → slots ≡ value → j < length value / 34 → get_or value (34 * j) 0 ≡ r / 256 → o ≡ r % 256 / 8 → b ≡ r % 8
+    → (w : ℕ) → has_window (take (34 * j + 2 + o) value ++ (bit_or (get_or slots (34 * j + 2 + o) 0) (1 * 2 ^ (7 - b) % 2 ^ 8) ∷ drop (34 * j + 2 + o + 1) value)) w ≡ has_window value w
+has_window-added value slots j o b r same inside window octet bit w =
+    ap (λ v. has_window v w) (added value slots j o b r same inside window octet bit) ∙ has_window-set_bit value j r inside window w
+
+-- zero octets
+pub zeros_at : (n k : ℕ) → get_or {A = ℕ} (replicate n 0) k 0 ≡ 0
+zeros_at zero k = refl
+zeros_at (suc n) zero = refl
+zeros_at (suc n) (suc k) = zeros_at n k
+
+pub same_at : {X : Type 0} (n : ℕ) (x : X) (k : ℕ) → get_or (replicate n x) k x ≡ x
+same_at zero x k = refl
+same_at (suc n) x zero = refl
+same_at (suc n) x (suc k) = same_at n x k
+
+-- a block of a window without types is appended
+module _ (value rest : List ℕ) (window : ℕ) (whole : length value % 34 ≡ 0) (long : length rest ≡ 33) (zeros : (k : ℕ) → get_or rest k 0 ≡ 0) where
+  abbrev grown : List ℕ
+  grown = value ++ (window ∷ rest)
+
+  one_more : length grown / 34 ≡ length value / 34 + 1
+  one_more = omega (arith, length-append value (window ∷ rest), long)
+
+  place : 34 * (length value / 34) ≡ length value
+  place = omega arith
+
+  front : (k : ℕ) → k < length value → get_or grown k 0 ≡ get_or value k 0
+  front k below = get_or_append_left value (window ∷ rest) 0 k below
+
+  window_front : (w j : ℕ) → j < length value / 34 → is_of_window grown w j ≡ is_of_window value w j
+  window_front w j below = ap (λ n. n == w) (front (34 * j) (omega arith))
+
+  window_last : (w : ℕ) → is_of_window grown w (length value / 34) ≡ (w == window)
+  window_last w =
+      let is : get_or grown (34 * (length value / 34)) 0 ≡ window = rw place (get_or-append_seam value window rest 0) in
+      rw is (grind (arith, nat_tests))
+
+  zero_after : (k : ℕ) → get_or (window ∷ rest) (k + 1) 0 ≡ 0
+  zero_after k = rw add-one (zeros k)
+
+  zero_last : (k : ℕ) → get_or grown (34 * (length value / 34) + 2 + k) 0 ≡ 0
+  zero_last k =
+      let is : 34 * (length value / 34) + 2 + k ≡ length value + (k + 1 + 1) = omega arith in
+      rw is (get_or-append-add value (window ∷ rest) (k + 1 + 1) 0 ∙ zero_after (k + 1))
+
+  pub has_window-grown : (w : ℕ) → has_window grown w ≡ ((w == window) || has_window value w)
+  unfolding has_window
+  has_window-grown w =
+      rw one_more
+      (any_more (is_of_window grown w) (length value / 34)
+        ∙ rw (window_last w, any_same (is_of_window grown w) (is_of_window value w) (length value / 34) (window_front w)) (or_turn (has_window value w) (w == window)))
+
+  block_last : (t : ℕ) → block_holds grown t (length value / 34) ≡ false
+  block_last t = rw (zero_last (t % 256 / 8), bit_of-zero (t % 8)) (and_false (is_of_window grown (t / 256) (length value / 34)))
+
+  pub holds-grown : (t : ℕ) → holds grown t ≡ holds value t
+  unfolding holds
+  holds-grown t =
+      rw one_more
+      (any_more (block_holds grown t) (length value / 34)
+        ∙ rw (block_last t, any_same (block_holds grown t) (block_holds value t) (length value / 34) (λ j below. rw (front (34 * j) (omega arith), front (34 * j + 2 + t % 256 / 8) (omega arith)) refl)) (or_false (holds value t)))
+
+-- a window that has a block already
+pub window_known : (value : List ℕ) (window w : ℕ) → has_window value window ≡ true → ((w == window) || has_window value w) ≡ has_window value w
+window_known value window w known =
+    elim (eqb_tells w window) [
+      | inl h ↦ let is : has_window value w ≡ true = ap (has_window value) h.1 ∙ known in rw (h.0, is) refl
+      | inr h ↦ rw h.0 refl
+    ]
+
+pub ruleset block_steps = (window_known, holds-grown, has_window-grown)

@@ -1,0 +1,4 @@
+pub mod Bits
+pub mod Bitmap
+pub mod Blocks
+pub mod Builder
