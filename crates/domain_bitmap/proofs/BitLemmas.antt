@@ -116,3 +116,5 @@ octet_with-same p q same =
 
 pub octet_with-none : (p : ℕ → Bool) → ((b : ℕ) → b < 8 → p b ≡ false) → octet_with p ≡ 0
 octet_with-none p none = octets_same (octet_with p) 0 (octet_with-lt p) (omega arith) (λ b small. bit_of-octet_with p b small ∙ none b small ∙ sym (bit_of-zero b))
+
+pub ruleset bit_reads = (bit_of-shr, bit_of-zero)

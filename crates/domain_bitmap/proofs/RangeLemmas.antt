@@ -1,7 +1,7 @@
 -- numbers in a row
 use Rattle.std.proofs.Common.{◌≡◌, ℕ, zero, suc, ◌+◌, ◌<◌, ◌≤◌, ◌≢◌, Bool, true, false, List, [], ◌∷◌, ◌++◌, length, get_or, refl, sym, ap, ◌∙◌, inl, inr, arith, add-zero, zero-add, add-one, append_assoc, append-nil, cond, subst}
 use Rattle.std.specs.Prelude.{◌||◌, ◌&&◌, ◌==◌}
-use Rattle.std.specs.List.{range_with_len, list_any, flat_map}
+use Rattle.std.specs.List.{range_with_len, list_any, flat_map, filter}
 use Rattle.std.proofs.lemmas.Bool.Decides.{nat_tests, eqb_tells}
 use Rattle.std.proofs.lemmas.List.Folds.{list_any-append, list_any_at, list_any_none}
 use Rattle.std.proofs.lemmas.List.Concat.{flat_map-append}
@@ -124,3 +124,8 @@ flat_single_from f w a (suc n) low high none =
 
 pub flat_single : (f : ℕ → List ℕ) (w n : ℕ) → w < n → ((j : ℕ) → j < n → j ≢ w → f j ≡ []) → flat_map f (range_with_len 0 n) ≡ f w
 flat_single f w n inside none = flat_single_from f w 0 n (omega arith) (omega arith) (λ j low high. none j (omega arith))
+
+pub filter_none : (p : ℕ → Bool) (a n : ℕ) → ((j : ℕ) → a ≤ j → j < a + n → p j ≡ false) → filter p (range_with_len a n) ≡ []
+filter_none p a zero none = refl
+filter_none p a (suc n) none =
+    rw (none a (omega arith) (omega arith)) (filter_none p (a + 1) n (λ j low high. none j (omega arith) (omega arith)))

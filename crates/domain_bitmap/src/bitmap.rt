@@ -1,7 +1,11 @@
 //! Sets of types as octets.
-ghost use Rattle.std.specs.Prelude.{◌≡◌, ℕ, List};
-ghost use Rattle.domain_bitmap.specs.Blocks.{IsBitmap};
+ghost use Rattle.std.specs.Prelude.{◌≡◌, ℕ, ◌↔◌, List, [], IsTrue};
+ghost use Rattle.domain_bitmap.specs.Blocks.{IsBitmap, contains_type, types_of};
 
+use crate::RtypeBitmapIter;
+use crate::bits::split_rtype;
+use crate::blocks::{is_set, split_block};
+use domain_base::Rtype;
 use domain_octets::Octets;
 use std::marker::Model;
 
@@ -40,5 +44,36 @@ impl<O: Octets> RtypeBitmap<O> {
         ensures { result.now ≡ self.now }
     {
         self.octets.as_slice()
+    }
+
+    /// The types whose bits are set, block by block as they stand.
+    pub fn iter(&self) -> RtypeBitmapIter<'_>
+        ensures { result ≡ types_of self.now }
+    {
+        RtypeBitmapIter::new(self.octets.as_slice())
+    }
+
+    #[tactic(auto, using(crate::proofs::BlockLemmas::look_steps))]
+    /// Whether the first block of the type's window has the bit of the type. Of a bitmap that a
+    /// builder made this says whether the type was added.
+    pub fn contains(&self, rtype: Rtype) -> bool
+        ensures { result ≡ contains_type self.now rtype }
+    {
+        let (window, octet, bit) = split_rtype(rtype);
+        let mut blocks = self.octets.as_slice();
+        while let Some((block, rest)) = split_block(blocks) {
+            if block.number == window {
+                return is_set(block.octets, octet, bit);
+            }
+            blocks = rest;
+        }
+        false
+    }
+
+    /// Whether no bit is set.
+    pub fn is_empty(&self) -> bool
+        ensures { IsTrue result ↔ (types_of self.now ≡ []) }
+    {
+        self.iter().next().is_none()
     }
 }

@@ -3,10 +3,13 @@
 
 mod bits;
 mod bitmap;
+mod blocks;
 mod builder;
+mod iter;
 mod pack;
 mod slots;
 mod table;
 
 pub use bitmap::RtypeBitmap;
 pub use builder::RtypeBitmapBuilder;
+pub use iter::RtypeBitmapIter;
