@@ -77,3 +77,14 @@ impl<O: Octets> RtypeBitmap<O> {
         self.iter().next().is_none()
     }
 }
+
+impl<'a, O: Octets> IntoIterator for &'a RtypeBitmap<O> {
+    type Item = Rtype;
+    type IntoIter = RtypeBitmapIter<'a>;
+
+    ghost into_iter_gives = { λ b types. types ≡ types_of b.now };
+
+    fn into_iter(self) -> RtypeBitmapIter<'a> {
+        self.iter()
+    }
+}

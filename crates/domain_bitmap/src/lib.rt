@@ -9,6 +9,8 @@ mod iter;
 mod pack;
 mod slots;
 mod table;
+#[cfg(test)]
+mod tests;
 
 pub use bitmap::RtypeBitmap;
 pub use builder::RtypeBitmapBuilder;
