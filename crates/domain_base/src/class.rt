@@ -1,6 +1,10 @@
 //! Classes of records.
-ghost use Rattle.std.specs.Prelude.{◌≡◌};
+ghost use Rattle.std.specs.Prelude.{◌≡◌, Some};
+ghost use Rattle.domain_base.specs.Named.{entries};
+ghost use Rattle.domain_base.specs.Numbers.{class_names, ClassText, IsNoClass, class_text};
 
+use crate::{FromToken, ScanError, named};
+use std::fmt;
 use std::marker::Model;
 
 /// The class of a record: a number of 16 bits (RFC 1035, section 3.2.4).
@@ -39,5 +43,36 @@ impl Class {
         ensures { result ≡ self }
     {
         self.0
+    }
+}
+
+/// The classes that are known by a name.
+fn names() -> &'static [(u16, &'static str)]
+    ensures { entries result.now ≡ class_names }
+{
+    &[(1, "IN"), (3, "CH"), (4, "HS")]
+}
+
+/// The name of a class or `CLASS` and its number, in either case (RFC 3597, section 5). Refuses every
+/// other token as `Custom("unknown class")`.
+impl FromToken for Class {
+    ghost spells = { ClassText };
+
+    ghost refuses = { IsNoClass };
+
+    fn from_token(token: &str) -> Result<Class, ScanError> {
+        match named::read_number(names(), "CLASS", token) {
+            Some(number) => Ok(Class(number)),
+            None => Err(ScanError::Custom("unknown class")),
+        }
+    }
+}
+
+/// The class's name in capitals, or `CLASS` and its number.
+impl fmt::Display for Class {
+    ghost output = { λ c. Some (class_text c) };
+
+    fn fmt<W: fmt::Write>(&self, f: &mut fmt::Formatter<W>) -> fmt::Result {
+        named::write_number(names(), "CLASS", self.0, f)
     }
 }

@@ -1,14 +1,18 @@
 //! Names of the DNS.
 #![tactic(auto)]
 
+mod algorithm;
 mod canonical;
 mod class;
 mod error;
 mod labels;
 pub mod laws;
 mod name;
+mod named;
+mod number;
 mod parsed;
 mod rtype;
+mod scanner;
 #[cfg(test)]
 mod tests;
 mod text;
@@ -16,12 +20,14 @@ mod to_name;
 mod ttl;
 mod wire;
 
+pub use algorithm::{DigestAlgorithm, Nsec3HashAlgorithm, SecurityAlgorithm};
 pub use canonical::CanonicalOrd;
 pub use class::Class;
-pub use error::ParseError;
+pub use error::{ParseError, ScanError};
 pub use labels::Labels;
 pub use name::Name;
 pub use parsed::ParsedName;
 pub use rtype::Rtype;
-pub use to_name::ToName;
+pub use scanner::{FromToken, IterScanner, Scanner};
+pub use to_name::{MakeName, ToName};
 pub use ttl::Ttl;

@@ -3,14 +3,16 @@ ghost use Rattle.std.specs.Prelude.{◌≡◌, ℕ, ◌↔◌, List, Some, refl,
 ghost use Rattle.std.specs.Cmp.{partial_equiv_from_equiv};
 ghost use Rattle.std.specs.Hash as fed;
 ghost use Rattle.domain_base.specs.Name.{wire_of, lowered, same_name};
-ghost use Rattle.domain_base.specs.Text.{name_text};
+ghost use Rattle.domain_base.specs.Text.{name_text, NameText};
+ghost use Rattle.domain_base.specs.Scan.{NameFault, scan_fault_of};
 ghost use Rattle.domain_base.specs.Order.{canonical_cmp, canonical_cmp_total};
 ghost use Rattle.domain_base.specs.Laws.{same_name_equiv, same_name_ties, same_name_fed, canonical_po};
 ghost use Rattle.domain_base.specs.Fault.{FirstFault, fault_of};
 ghost use Rattle.domain_base.specs.Wire.{labels_of, IsWire};
 
-use crate::{ParseError, ToName, text, wire};
-use domain_octets::{Octets, OutOfMemory, TryClone};
+use crate::{MakeName, ParseError, ScanError, ToName, text, wire};
+use domain_octets::{EmptyBuilder, FromBuilder, Octets, OctetsBuilder, OutOfMemory, TryClone};
+use std::alloc::Global;
 use std::cmp::Ordering;
 use std::fmt;
 use std::hash::{Hash, Hasher};
@@ -49,6 +51,38 @@ impl<O: Octets> Name<O> {
     {
         let Name { octets } = self;
         octets
+    }
+}
+
+impl<O: FromBuilder> Name<O>
+where
+    O::Builder: EmptyBuilder + Drop,
+{
+    /// The name that a text spells (RFC 1035, section 5.1), with or without a last dot: in either case
+    /// it is absolute. Reads no further than the first character that no name has there.
+    ///
+    /// Refuses a text that is no name as `Custom("illegal name")`, and a name for which the builder has
+    /// no room or no memory.
+    pub fn from_str(alloc: Global, text: &str) -> Result<Self, ScanError>
+        ensures ok { IfOk result (NameText text.now) }
+        ensures err { IfErr result (λ e. NameFault O.Builder.limit (scan_fault_of e) text.now) }
+    {
+        let Some(wire) = text::read_name(text.as_bytes()) else {
+            return Err(ScanError::Custom("illegal name"));
+        };
+        let mut builder = O::Builder::empty(alloc);
+        builder.append_slice(wire.as_slice())?;
+        Ok(Name {
+            octets: O::from_builder(builder),
+        })
+    }
+}
+
+impl MakeName for Name<Vec<u8>> {
+    fn make(alloc: Global, wire: &[u8]) -> Result<Self, OutOfMemory> {
+        Ok(Name {
+            octets: Vec::from_slice(alloc, wire)?,
+        })
     }
 }
 

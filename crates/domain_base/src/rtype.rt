@@ -1,6 +1,10 @@
 //! Types of records.
-ghost use Rattle.std.specs.Prelude.{◌≡◌};
+ghost use Rattle.std.specs.Prelude.{◌≡◌, Some};
+ghost use Rattle.domain_base.specs.Named.{entries};
+ghost use Rattle.domain_base.specs.Numbers.{type_names, TypeText, IsNoType, type_text};
 
+use crate::{FromToken, ScanError, named};
+use std::fmt;
 use std::marker::Model;
 
 /// The type of a record: a number of 16 bits (RFC 1035, section 3.2.2).
@@ -114,5 +118,65 @@ impl Rtype {
         ensures { result ≡ self }
     {
         self.0
+    }
+}
+
+/// The types that are known by a name.
+fn names() -> &'static [(u16, &'static str)]
+    ensures { entries result.now ≡ type_names }
+{
+    &[
+        (1, "A"),
+        (2, "NS"),
+        (5, "CNAME"),
+        (6, "SOA"),
+        (12, "PTR"),
+        (13, "HINFO"),
+        (15, "MX"),
+        (16, "TXT"),
+        (28, "AAAA"),
+        (33, "SRV"),
+        (35, "NAPTR"),
+        (39, "DNAME"),
+        (43, "DS"),
+        (44, "SSHFP"),
+        (46, "RRSIG"),
+        (47, "NSEC"),
+        (48, "DNSKEY"),
+        (50, "NSEC3"),
+        (51, "NSEC3PARAM"),
+        (52, "TLSA"),
+        (59, "CDS"),
+        (60, "CDNSKEY"),
+        (62, "CSYNC"),
+        (63, "ZONEMD"),
+        (64, "SVCB"),
+        (65, "HTTPS"),
+        (99, "SPF"),
+        (257, "CAA"),
+    ]
+}
+
+/// The name of a type or `TYPE` and its number, in either case (RFC 3597, section 5). Refuses every
+/// other token as `Custom("unknown record type")`.
+impl FromToken for Rtype {
+    ghost spells = { TypeText };
+
+    ghost refuses = { IsNoType };
+
+    fn from_token(token: &str) -> Result<Rtype, ScanError> {
+        match named::read_number(names(), "TYPE", token) {
+            Some(number) => Ok(Rtype(number)),
+            None => Err(ScanError::Custom("unknown record type")),
+        }
+    }
+}
+
+/// The type's name in capitals, or `TYPE` and its number.
+impl fmt::Display for Rtype {
+    ghost output = { λ r. Some (type_text r) };
+
+    fn fmt<W: fmt::Write>(&self, f: &mut fmt::Formatter<W>) -> fmt::Result {
+        named::write_number(names(), "TYPE", self.0, f)
     }
 }

@@ -1,6 +1,10 @@
 //! Times to live.
-ghost use Rattle.std.specs.Prelude.{◌≡◌};
+ghost use Rattle.std.specs.Prelude.{◌≡◌, Some};
+ghost use Rattle.std.specs.Fmt.{decimal};
+ghost use Rattle.domain_base.specs.Scan.{IsNumber, IsNoNumber};
 
+use crate::{FromToken, ScanError};
+use std::fmt;
 use std::marker::Model;
 
 /// How long a record may be cached, in seconds: a number of 32 bits (RFC 1035, section 3.2.1; RFC 2181, section 8).
@@ -30,5 +34,26 @@ impl Ttl {
         ensures { result ≡ self }
     {
         self.0
+    }
+}
+
+/// A decimal number of seconds of at most 32 bits. Refuses every other token as
+/// `Custom("decimal number expected")`.
+impl FromToken for Ttl {
+    ghost spells = { IsNumber 32 };
+
+    ghost refuses = { IsNoNumber 32 };
+
+    fn from_token(token: &str) -> Result<Ttl, ScanError> {
+        Ok(Ttl(u32::from_token(token)?))
+    }
+}
+
+/// The number of seconds in decimal digits.
+impl fmt::Display for Ttl {
+    ghost output = { λ t. Some (decimal t) };
+
+    fn fmt<W: fmt::Write>(&self, f: &mut fmt::Formatter<W>) -> fmt::Result {
+        write!(f, "{}", self.0)
     }
 }

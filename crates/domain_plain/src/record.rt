@@ -1,5 +1,7 @@
 //! Records.
 ghost use Rattle.std.specs.Prelude.{◌≡◌};
+ghost use Rattle.std.specs.Borrow.{sem};
+ghost use Rattle.domain_plain.specs.RecordLends.{LendsData};
 
 use crate::RecordData;
 use domain_base::{CanonicalOrd, Class, Rtype, ToName, Ttl};
@@ -53,6 +55,14 @@ impl<N, D> Record<N, D> {
         ensures { result.now ≡ self.now.«data» }
     {
         &self.data
+    }
+
+    /// The data, for writing.
+    pub fn data_mut(&mut self) -> &mut D
+        ensures* writes_back { sem 𝓛 (LendsData N.row D.row self.entry result) }
+        ensures value { result.now ≡ self.old.«data» }
+    {
+        &mut self.data
     }
 }
 

@@ -1,7 +1,26 @@
 //! Data of records.
-ghost use Rattle.std.specs.Prelude.{◌≡◌, ℕ};
+ghost use Rattle.std.specs.Prelude.{◌≡◌, ◌≤◌, ◌↔◌, ℕ, List, Some, length, IsTrue};
+ghost use Rattle.std.specs.Ordering.{nat_cmp};
+ghost use Rattle.std.specs.Cmp.Lexicographic.{slice_cmp};
+ghost use Rattle.domain_plain.specs.Target.{Appends};
 
 use domain_base::Rtype;
+use domain_octets::{AppendError, OctetsBuilder};
+use std::cmp::Ordering;
+use std::error::Error;
+use std::fmt;
+
+/// The data of a record would have over 65,535 octets, more than a record can hold (RFC 1035, section 3.2.1).
+#[derive(Clone, Copy, Debug, PartialEq, Eq)]
+pub struct LongRecordData;
+
+impl fmt::Display for LongRecordData {
+    fn fmt<W: fmt::Write>(&self, f: &mut fmt::Formatter<W>) -> fmt::Result {
+        f.write_str("record data too long")
+    }
+}
+
+impl Error for LongRecordData {}
 
 /// The data of a record.
 pub trait RecordData {
@@ -11,4 +30,34 @@ pub trait RecordData {
     /// The type of the data.
     fn rtype(&self) -> Rtype
         ensures { result ≡ rtype self.now };
+}
+
+/// Data that can be written in wire form (RFC 1035, section 3.2.1) and in canonical form (RFC 4034, section 6.2).
+pub trait ComposeRecordData: RecordData {
+    /// The octets of the data.
+    ghost octets: { Self → List ℕ };
+
+    /// The octets of their canonical form.
+    ghost canonical: { Self → List ℕ };
+
+    /// Whether the data have at most 65,535 octets, as many as a record can hold.
+    fn fits_rdlen(&self) -> bool
+        ensures { IsTrue result ↔ (length (octets self.now) ≤ 65535) };
+
+    /// How many octets the data have. Names are never compressed, so `compress` changes nothing.
+    fn rdlen(&self, compress: bool) -> Option<u16>
+        requires { length (octets self.now) ≤ 65535 }
+        ensures { result ≡ Some (length (octets self.now)) };
+
+    /// Appends the octets. A refusal leaves what stood, and a beginning of the octets.
+    fn compose_rdata<B: OctetsBuilder>(&self, target: &mut B) -> Result<(), AppendError>
+        ensures { Appends B.limit result (B.octets target.old) (B.octets target.new) (octets self.now) };
+
+    /// Appends the octets of the canonical form. A refusal leaves what stood, and a beginning of the octets.
+    fn compose_canonical_rdata<B: OctetsBuilder>(&self, target: &mut B) -> Result<(), AppendError>
+        ensures { Appends B.limit result (B.octets target.old) (B.octets target.new) (canonical self.now) };
+
+    /// The lexicographic order of the canonical octets and of other octets. Takes no memory.
+    fn canonical_cmp_octets(&self, other: &[u8]) -> Ordering
+        ensures { result ≡ slice_cmp nat_cmp (canonical self.now) other.now };
 }

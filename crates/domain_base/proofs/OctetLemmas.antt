@@ -1,0 +1,8 @@
+-- octets in slices
+use Rattle.std.proofs.Common.{ℕ, ◌<◌, List, length, get_or, Fits, w8, arith}
+use Rattle.std.specs.Prelude.{All}
+use Rattle.std.proofs.lemmas.List.Elements.{All-from_get_or}
+
+-- what a slice holds are octets
+pub octets_from_type : (xs : List ℕ) → ((i : ℕ) → Fits w8 (get_or xs i 0)) → All (λ octet. octet < 256) xs
+octets_from_type xs fits = All-from_get_or (λ octet. octet < 256) xs 0 (λ i below. let h = fits i in omega (arith, h))

@@ -1,0 +1,7 @@
+use Rattle.std.proofs.Common.{◌≡◌, drop}
+use Rattle.domain_base.specs.Named.{number_named}
+use Rattle.domain_base.specs.Named.{entries}
+use Rattle.domain_base.proofs.named.number_named.Given as goal
+
+abbrev pub invariant-loop-number : goal.invariant-loop-number
+invariant-loop-number l = number_named (entries l.table) l.text ≡ number_named (entries (drop l.number-index l.table)) l.text

@@ -1,0 +1,57 @@
+-- the tokens of an entry, and what is read from them
+use Rattle.std.specs.Prelude.{◌≡◌, ℕ, ◌<◌, ◌^◌, List, [], ◌∷◌, ◌++◌, codes, Option, IsNone, length}
+use Rattle.std.specs.Str.Parse.{IsNumeral, digits_value}
+use Rattle.domain_octets.specs.Limit.{IsOver}
+use Rattle.domain_octets.specs.declared.error.AppendError.{AppendError}
+use Rattle.domain_octets.specs.declared.error.AppendError.TheVariants as append_error
+use Rattle.domain_base.specs.declared.error.ScanError.{ScanError}
+use Rattle.domain_base.specs.declared.error.ScanError.TheVariants.{EndOfEntry, Custom, ShortBuf, OutOfMemory}
+use Rattle.domain_base.specs.Name.{wire_of}
+use Rattle.domain_base.specs.Text.{NameText, IsNoName}
+
+-- why a builder did not take the octets of a token
+abbrev pub scan_error_of : AppendError → ScanError
+scan_error_of append_error.ShortBuf = ShortBuf
+scan_error_of append_error.OutOfMemory = OutOfMemory
+
+-- what an error says
+pub data ScanFault : Type 0 where
+  entry_ends : ScanFault
+  illegal : List ℕ → ScanFault
+  no_room : ScanFault
+  no_memory : ScanFault
+
+abbrev pub scan_fault_of : ScanError → ScanFault
+scan_fault_of EndOfEntry = entry_ends
+scan_fault_of (Custom text) = illegal text.now
+scan_fault_of ShortBuf = no_room
+scan_fault_of OutOfMemory = no_memory
+
+-- the first token was taken, and P holds of it
+pub record TakesToken (P : List ℕ → Type 0) (old new : List (List ℕ)) : Type 0 where
+  pub token : List ℕ
+  pub first : old ≡ token ∷ new
+  pub holds : P token
+
+-- there was no token, or the first was taken and refused for this reason
+pub data RefusesToken (Why : ScanFault → List ℕ → Type 0) : List (List ℕ) → List (List ℕ) → ScanFault → Type 0 where
+  ended : RefusesToken Why [] [] entry_ends
+  refused : (token : List ℕ) (left : List (List ℕ)) (fault : ScanFault) → Why fault token → RefusesToken Why (token ∷ left) left fault
+
+-- one or more decimal digits for this number, of so many bits
+pub record IsNumber (bits : ℕ) (text : List ℕ) (n : ℕ) : Type 0 where
+  pub digits : IsNumeral 10 text
+  pub fits : digits_value 10 text < 2 ^ bits
+  pub value : n ≡ digits_value 10 text
+
+-- the text is none of those, with this to say
+pub record IsNoNumber (bits : ℕ) (fault : ScanFault) (text : List ℕ) : Type 0 where
+  pub said : fault ≡ illegal (codes "decimal number expected")
+  pub none : (n : ℕ) → IsNumber bits text n → ⊥
+
+-- why a text is not read as a name over octets that have this limit
+abbrev pub NameFault : Option ℕ → ScanFault → List ℕ → Type 0
+NameFault limit entry_ends text = ⊥
+NameFault limit (illegal said) text = (said ≡ codes "illegal name") × IsNoName text
+NameFault limit no_room text = (labels : List (List ℕ)) × NameText text labels × IsOver limit (length (wire_of labels))
+NameFault limit no_memory text = ((labels : List (List ℕ)) × NameText text labels) × IsNone limit

@@ -1,0 +1,79 @@
+//! Numbers that have names of their own.
+ghost use Rattle.std.specs.Prelude.{◌≡◌, ◌<◌, ℕ, length, IfSome, IfNone, MatchOption};
+ghost use Rattle.std.specs.Option.{option_map};
+ghost use Rattle.std.specs.Str.{IsAscii};
+ghost use Rattle.std.specs.Fmt.{WritesOnOk};
+ghost use Rattle.domain_base.specs.Named.{entries, number_named, name_of, HasPrefix, IsWithoutPrefix, NumberText, number_text};
+
+use crate::number;
+use std::fmt;
+
+/// The number that the table has for a name, in either case.
+pub fn number_named(table: &[(u16, &str)], text: &str) -> Option<u16>
+    ensures { result ≡ number_named (entries table.now) text.now }
+{
+    for (number, name) in table {
+        if name.eq_ignore_ascii_case(text) {
+            return Some(*number);
+        }
+    }
+    None
+}
+
+/// The name that the table has for a number.
+pub fn name_of<'a>(table: &[(u16, &'a str)], number: u16) -> Option<&'a str>
+    ensures { option_map (λ name. name.now) result ≡ name_of (entries table.now) number }
+{
+    for (known, name) in table {
+        if *known == number {
+            return Some(name);
+        }
+    }
+    None
+}
+
+/// What follows the prefix, in either case, where the text begins with it.
+fn after_prefix<'a>(text: &'a str, prefix: &str) -> Option<&'a str>
+    requires ascii { IsAscii prefix.now }
+    requires some { 0 < length prefix.now }
+    ensures { MatchOption result (IsWithoutPrefix prefix.now text.now) (λ rest. HasPrefix prefix.now text.now rest.now) }
+{
+    let Some((front, rest)) = text.split_at_checked(prefix.len()) else {
+        return None;
+    };
+    if !front.eq_ignore_ascii_case(prefix) {
+        return None;
+    }
+    Some(rest)
+}
+
+/// The number that a text stands for: by its name, or by the prefix and decimal digits.
+pub fn read_number(table: &[(u16, &str)], prefix: &str, text: &str) -> Option<u16>
+    requires ascii { IsAscii prefix.now }
+    requires some { 0 < length prefix.now }
+    ensures some { IfSome result (NumberText (entries table.now) prefix.now text.now) }
+    ensures none { IfNone result ((n : ℕ) → NumberText (entries table.now) prefix.now text.now n → ⊥) }
+{
+    if let Some(number) = number_named(table, text) {
+        return Some(number);
+    }
+    let Some(digits) = after_prefix(text, prefix) else {
+        return None;
+    };
+    number::read_u16(digits)
+}
+
+/// Writes the name of a number, or the prefix and its decimal digits.
+pub fn write_number<W: fmt::Write>(
+    table: &[(u16, &str)],
+    prefix: &str,
+    number: u16,
+    f: &mut fmt::Formatter<W>,
+) -> fmt::Result
+    ensures { WritesOnOk W.write_str_gives f.old result (number_text (entries table.now) prefix.now number) f.new }
+{
+    match name_of(table, number) {
+        Some(name) => f.write_str(name),
+        None => write!(f, "{prefix}{number}"),
+    }
+}

@@ -1,0 +1,156 @@
+//! The tokens of an entry of a zone file.
+ghost use Rattle.std.specs.Prelude.{◌≡◌, ◌≢◌, ◌↔◌, ◌∷◌, [], ℕ, List, drop, map, IsTrue, IfOk, IfErr, IsOkAnd, MatchOption};
+ghost use Rattle.std.specs.Fn.{FnOnceReturnsAt};
+ghost use Rattle.domain_base.specs.Scan.{ScanFault, scan_fault_of, TakesToken, RefusesToken, NameFault};
+ghost use Rattle.domain_base.specs.Text.{NameText};
+
+use crate::{Name, ScanError, ToName};
+use domain_octets::{EmptyBuilder, FromBuilder};
+use std::alloc::Global;
+use std::marker::{Model, PhantomData};
+
+/// The tokens of one entry of a zone file that are left to be read (RFC 1035, section 5.1).
+pub trait Scanner {
+    /// What octets that tokens stand for are put in.
+    type Octets: FromBuilder;
+
+    /// Names over such octets.
+    type Name: ToName;
+
+    /// The tokens that are left, each as its characters' octets.
+    ghost tokens: { Self → List (List ℕ) };
+
+    /// The next token, which stays where it is.
+    fn first_token(&self) -> Option<&str>
+        ensures { MatchOption result (tokens self.now ≡ []) (λ t. (rest : List (List ℕ)) × (tokens self.now ≡ t.now ∷ rest)) };
+
+    /// Goes past the next token, if there is one.
+    fn skip_token(&mut self)
+        ensures { tokens self.new ≡ drop 1 (tokens self.old) };
+
+    /// Hands the next token to a function, as it stands, goes past it, and answers what the function
+    /// answers. Where no token is left, answers `EndOfEntry`.
+    final fn scan_ascii_str<T, F: FnOnce(&str) -> T>(&mut self, f: F) -> Result<T, ScanError>
+    where
+        Self: Sized,
+        F: Drop,
+        requires { F.IsAlwaysCallable f }
+        ensures none { tokens self.old ≡ [] → (result ≡ Err ScanError.EndOfEntry) × (tokens self.new ≡ []) }
+        ensures some { (token : List ℕ) (rest : List (List ℕ)) → tokens self.old ≡ token ∷ rest → IsOkAnd result (FnOnceReturnsAt F.FnOnce f token) × (tokens self.new ≡ rest) }
+    {
+        let Some(token) = self.first_token() else {
+            return Err(ScanError::EndOfEntry);
+        };
+        let value = f(token);
+        self.skip_token();
+        Ok(value)
+    }
+
+    /// The name that the next token spells (RFC 1035, section 5.1), with or without a last dot: in
+    /// either case it is absolute. A token that is refused is gone past too.
+    ///
+    /// Refuses a token that is no name as `Custom("illegal name")`, and a name for which the builder
+    /// has no room or no memory.
+    fn scan_name(&mut self, alloc: Global) -> Result<Self::Name, ScanError>
+        ensures ok { IfOk result (λ name. TakesToken (λ token. NameText token (Self.Name.labels name)) (tokens self.old) (tokens self.new)) }
+        ensures err { IfErr result (λ e. RefusesToken (NameFault Self.Octets.Builder.limit) (tokens self.old) (tokens self.new) (scan_fault_of e)) };
+
+    /// Whether tokens are left.
+    final fn continues(&self) -> bool
+    where
+        Self: Sized,
+        ensures { IsTrue result ↔ (tokens self.now ≢ []) }
+    {
+        self.first_token().is_some()
+    }
+}
+
+/// Tokens in a slice.
+pub struct IterScanner<'a, O> {
+    left: &'a [&'a str],
+    octets: PhantomData<O>,
+}
+
+impl<'a, O> Model for IterScanner<'a, O> {
+    ghost use Rattle.std.specs.Prelude.{ℕ, List, map};
+
+    ghost Value = { List (List ℕ) };
+
+    ghost view = { λ s. map (λ token. token.now) s.left.now };
+}
+
+impl<'a, O> IterScanner<'a, O> {
+    /// A scanner of these tokens, none of which is read yet.
+    pub fn new(tokens: &'a [&'a str]) -> Self
+        ensures { result ≡ map (λ token. token.now) tokens.now }
+    {
+        IterScanner {
+            left: tokens,
+            octets: PhantomData,
+        }
+    }
+}
+
+impl<'a, O: FromBuilder> Scanner for IterScanner<'a, O>
+where
+    O::Builder: EmptyBuilder + Drop,
+{
+    type Octets = O;
+
+    type Name = Name<O>;
+
+    ghost tokens = { λ s. s };
+
+    fn first_token(&self) -> Option<&str> {
+        match self.left {
+            [] => None,
+            [first, ..] => Some(first),
+        }
+    }
+
+    fn skip_token(&mut self) {
+        if let [_, rest @ ..] = self.left {
+            self.left = rest;
+        }
+    }
+
+    fn scan_name(&mut self, alloc: Global) -> Result<Name<O>, ScanError> {
+        let Some(token) = self.first_token() else {
+            return Err(ScanError::EndOfEntry);
+        };
+        let name = Name::from_str(alloc, token);
+        self.skip_token();
+        name
+    }
+}
+
+/// A value that one token spells.
+pub trait FromToken {
+    /// The token spells the value.
+    ghost spells: { List ℕ → Self → Type 0 };
+
+    /// Why a token is refused.
+    ghost refuses: { ScanFault → List ℕ → Type 0 };
+
+    /// The value that a token spells.
+    fn from_token(token: &str) -> Result<Self, ScanError>
+    where
+        Self: Sized,
+        ensures ok { IfOk result (spells token.now) }
+        ensures err { IfErr result (λ e. refuses (scan_fault_of e) token.now) };
+
+    /// The value that the next token spells. A token that is refused is gone past too.
+    final fn scan<S: Scanner>(scanner: &mut S) -> Result<Self, ScanError>
+    where
+        Self: Sized,
+        ensures ok { IfOk result (λ value. TakesToken (λ token. spells token value) (S.tokens scanner.old) (S.tokens scanner.new)) }
+        ensures err { IfErr result (λ e. RefusesToken refuses (S.tokens scanner.old) (S.tokens scanner.new) (scan_fault_of e)) }
+    {
+        let Some(token) = scanner.first_token() else {
+            return Err(ScanError::EndOfEntry);
+        };
+        let value = Self::from_token(token);
+        scanner.skip_token();
+        value
+    }
+}

@@ -1,0 +1,4 @@
+pub mod NameLemmas
+pub mod TargetLemmas
+pub mod OrderLemmas
+pub mod ExactLemmas

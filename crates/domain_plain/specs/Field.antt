@@ -1,0 +1,110 @@
+-- the kinds of fields of data on the wire
+use Rattle.std.specs.Prelude.{◌≡◌, ℕ, ◌+◌, ◌<◌, ◌≤◌, ◌^◌, List, [], ◌∷◌, ◌++◌, length, codes}
+use Rattle.std.specs.Int.{w16, w32, to_be_bytes}
+use Rattle.domain_base.specs.Name.{wire_of, lowered, IsName}
+use Rattle.domain_base.specs.Fault.{Fault, ends_early, malformed}
+
+-- octet, short, long: numbers of 8, 16 and 32 bits
+-- name, spelled_name: a name, which the canonical form lowers, or keeps as it is spelled (RFC 4034, section 6.2; RFC 6840, section 5.1)
+-- counted: a length octet and so many octets
+-- exactly: so many octets
+-- at_most: no octets, and at most so many after it
+-- rest: all octets that are left
+pub data Field : Type 0 where
+  octet : Field
+  short : Field
+  long : Field
+  name : Field
+  spelled_name : Field
+  counted : Field
+  exactly : ℕ → Field
+  at_most : ℕ → Field
+  rest : Field
+
+abbrev pub Value : Field → Type 0
+Value octet = ℕ
+Value short = ℕ
+Value long = ℕ
+Value name = List (List ℕ)
+Value spelled_name = List (List ℕ)
+Value counted = List ℕ
+Value (exactly count) = List ℕ
+Value (at_most limit) = Unit {0}
+Value rest = List ℕ
+
+abbrev pub field_octets : (f : Field) → Value f → List ℕ
+field_octets octet n = n ∷ []
+field_octets short n = to_be_bytes w16 n
+field_octets long n = to_be_bytes w32 n
+field_octets name labels = wire_of labels
+field_octets spelled_name labels = wire_of labels
+field_octets counted octets = length octets ∷ octets
+field_octets (exactly count) octets = octets
+field_octets (at_most limit) v = []
+field_octets rest octets = octets
+
+-- the values that have octets
+abbrev pub FieldFits : (f : Field) → Value f → Type 0
+FieldFits octet n = n < 2 ^ 8
+FieldFits short n = n < 2 ^ 16
+FieldFits long n = n < 2 ^ 32
+FieldFits name labels = IsName labels
+FieldFits spelled_name labels = IsName labels
+FieldFits counted octets = length octets < 2 ^ 8
+FieldFits (exactly count) octets = length octets ≡ count
+FieldFits (at_most limit) v = Unit {0}
+FieldFits rest octets = Unit {0}
+
+-- what may stand after the field
+abbrev pub FieldEnds : Field → List ℕ → Type 0
+FieldEnds octet after = Unit {0}
+FieldEnds short after = Unit {0}
+FieldEnds long after = Unit {0}
+FieldEnds name after = Unit {0}
+FieldEnds spelled_name after = Unit {0}
+FieldEnds counted after = Unit {0}
+FieldEnds (exactly count) after = Unit {0}
+FieldEnds (at_most limit) after = length after ≤ limit
+FieldEnds rest after = after ≡ []
+
+-- the value in the canonical form
+abbrev pub lower_field : (f : Field) → Value f → Value f
+lower_field octet n = n
+lower_field short n = n
+lower_field long n = n
+lower_field name labels = lowered labels
+lower_field spelled_name labels = labels
+lower_field counted octets = octets
+lower_field (exactly count) octets = octets
+lower_field (at_most limit) v = v
+lower_field rest octets = octets
+
+-- the first fault in octets that are to begin with a name, where so many octets of the name stand before them
+pub data NameFault : ℕ → List ℕ → Fault → Type 0 where
+  no_octet : {used : ℕ} → NameFault used [] ends_early
+  bad_label : {used : ℕ} (len : ℕ) (after : List ℕ) → 63 < len → NameFault used (len ∷ after) (malformed (codes "compressed or bad label"))
+  long_name : {used : ℕ} (len : ℕ) (after : List ℕ) → 0 < len → len ≤ 63 → 255 < used + len + 2 → NameFault used (len ∷ after) (malformed (codes "long domain name"))
+  cut_label : {used : ℕ} (len : ℕ) (after : List ℕ) → 0 < len → len ≤ 63 → used + len + 2 ≤ 255 → length after < len → NameFault used (len ∷ after) ends_early
+  past_label : {used : ℕ} (label after : List ℕ) (fault : Fault) → 0 < length label → length label ≤ 63 → used + length label + 2 ≤ 255 → NameFault (used + length label + 1) after fault → NameFault used (length label ∷ (label ++ after)) fault
+
+-- octets do not begin with so many
+pub record IsCut (octets : List ℕ) (count : ℕ) (fault : Fault) : Type 0 where
+  pub short : length octets < count
+  pub early : fault ≡ ends_early
+
+-- more octets than so many
+pub record IsLong (octets : List ℕ) (limit : ℕ) (fault : Fault) : Type 0 where
+  pub long : limit < length octets
+  pub said : fault ≡ malformed (codes "record data too long")
+
+-- why octets begin with no value of the field
+pub data FieldFault : Field → List ℕ → Fault → Type 0 where
+  cut_octet : (octets : List ℕ) (fault : Fault) → IsCut octets 1 fault → FieldFault octet octets fault
+  cut_short : (octets : List ℕ) (fault : Fault) → IsCut octets 2 fault → FieldFault short octets fault
+  cut_long : (octets : List ℕ) (fault : Fault) → IsCut octets 4 fault → FieldFault long octets fault
+  no_name : (octets : List ℕ) (fault : Fault) → NameFault 0 octets fault → FieldFault name octets fault
+  no_spelled_name : (octets : List ℕ) (fault : Fault) → NameFault 0 octets fault → FieldFault spelled_name octets fault
+  no_count : FieldFault counted [] ends_early
+  cut_counted : (count : ℕ) (after : List ℕ) → length after < count → FieldFault counted (count ∷ after) ends_early
+  cut_exactly : (count : ℕ) (octets : List ℕ) (fault : Fault) → IsCut octets count fault → FieldFault (exactly count) octets fault
+  too_long : (limit : ℕ) (octets : List ℕ) (fault : Fault) → IsLong octets limit fault → FieldFault (at_most limit) octets fault

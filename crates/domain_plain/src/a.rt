@@ -1,0 +1,89 @@
+//! Addresses of hosts.
+ghost use Rattle.std.specs.Prelude.{◌≡◌};
+ghost use Rattle.std.specs.Net.Addr.{ipv4_octets};
+ghost use Rattle.std.specs.Ordering.{on, nat_cmp};
+ghost use Rattle.std.specs.Cmp.Lexicographic.{slice_cmp, on_texts};
+ghost use Rattle.domain_plain.specs.Layout.{octets_of, canonical_of};
+ghost use Rattle.domain_plain.specs.Plain.{a, a_values};
+
+use crate::fields::{self, Exactly, Fields};
+use crate::{ComposeRecordData, RecordData};
+use domain_base::{CanonicalOrd, Rtype};
+use domain_octets::{AppendError, OctetsBuilder};
+use std::cmp::Ordering;
+use std::net::Ipv4Addr;
+
+/// An IPv4 address of a host (RFC 1035, section 3.4.1).
+#[derive(Clone, Copy, Debug, PartialEq, Eq)]
+pub struct A {
+    addr: Ipv4Addr,
+}
+
+impl A {
+    /// The data of this address.
+    pub fn new(addr: Ipv4Addr) -> Self
+        ensures { result ≡ record { addr = addr } }
+    {
+        A { addr }
+    }
+
+    /// The address.
+    pub fn addr(&self) -> Ipv4Addr
+        ensures { result ≡ self.now.addr }
+    {
+        self.addr
+    }
+}
+
+impl A {
+    /// The fields, in the order of the wire.
+    fn fields(&self) -> Exactly<4>
+        ensures { result.0 ≡ ipv4_octets self.now.addr }
+    {
+        Exactly(self.addr.octets())
+    }
+}
+
+impl RecordData for A {
+    ghost rtype = { λ _. 1 };
+
+    fn rtype(&self) -> Rtype {
+        Rtype::A
+    }
+}
+
+impl ComposeRecordData for A {
+    ghost octets = { λ d. octets_of a (a_values d) };
+
+    ghost canonical = { λ d. canonical_of a (a_values d) };
+
+    fn fits_rdlen(&self) -> bool {
+        self.fields().room_after(65535).is_some()
+    }
+
+    fn rdlen(&self, _compress: bool) -> Option<u16> {
+        Some(self.fields().count())
+    }
+
+    fn compose_rdata<B: OctetsBuilder>(&self, target: &mut B) -> Result<(), AppendError> {
+        self.fields().put(target)
+    }
+
+    fn compose_canonical_rdata<B: OctetsBuilder>(&self, target: &mut B) -> Result<(), AppendError> {
+        self.fields().put_canonical(target)
+    }
+
+    fn canonical_cmp_octets(&self, other: &[u8]) -> Ordering {
+        fields::canonical_cmp_octets(&self.fields(), other)
+    }
+}
+
+impl CanonicalOrd for A {
+    ghost canonical_cmp = { on (λ d. canonical_of a (a_values d)) (slice_cmp nat_cmp) };
+
+    ghost total = { on_texts (λ d. canonical_of a (a_values d)) };
+
+    fn canonical_cmp(&self, other: &Self) -> Ordering {
+        self.fields().order(&other.fields())
+    }
+}

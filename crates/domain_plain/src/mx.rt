@@ -1,0 +1,98 @@
+//! Mail exchanges.
+ghost use Rattle.std.specs.Prelude.{◌≡◌};
+ghost use Rattle.std.specs.Ordering.{on, nat_cmp};
+ghost use Rattle.std.specs.Cmp.Lexicographic.{slice_cmp, on_texts};
+ghost use Rattle.domain_plain.specs.Layout.{octets_of, canonical_of};
+ghost use Rattle.domain_plain.specs.Plain.{mx, mx_values};
+
+use crate::fields::{self, Fields, Lowers};
+use crate::{ComposeRecordData, RecordData};
+use domain_base::{CanonicalOrd, Rtype, ToName};
+use domain_octets::{AppendError, OctetsBuilder};
+use std::cmp::Ordering;
+
+/// A host that takes mail for the owner, and how much it is preferred (RFC 1035, section 3.3.9).
+#[derive(Debug, Drop)]
+pub struct Mx<N> {
+    preference: u16,
+    exchange: N,
+}
+
+impl<N> Mx<N> {
+    /// The data of this exchange.
+    pub fn new(preference: u16, exchange: N) -> Self
+        ensures { result ≡ record { preference = preference; exchange = exchange } }
+    {
+        Mx {
+            preference,
+            exchange,
+        }
+    }
+
+    /// The preference: the lowest one is tried first.
+    pub fn preference(&self) -> u16
+        ensures { result ≡ self.now.preference }
+    {
+        self.preference
+    }
+
+    /// The name of the host.
+    pub fn exchange(&self) -> &N
+        ensures { result.now ≡ self.now.exchange }
+    {
+        &self.exchange
+    }
+}
+
+impl<N: ToName> Mx<N> {
+    /// The fields, in the order of the wire.
+    fn fields(&self) -> (u16, Lowers<'_, N>)
+        ensures { (result.0 ≡ self.now.preference) × (result.1.0.now ≡ self.now.exchange) }
+    {
+        (self.preference, Lowers(&self.exchange))
+    }
+}
+
+impl<N: ToName> RecordData for Mx<N> {
+    ghost rtype = { λ _. 15 };
+
+    fn rtype(&self) -> Rtype {
+        Rtype::MX
+    }
+}
+
+impl<N: ToName> ComposeRecordData for Mx<N> {
+    ghost octets = { λ d. octets_of mx (mx_values N.labels d) };
+
+    ghost canonical = { λ d. canonical_of mx (mx_values N.labels d) };
+
+    fn fits_rdlen(&self) -> bool {
+        self.fields().room_after(65535).is_some()
+    }
+
+    fn rdlen(&self, _compress: bool) -> Option<u16> {
+        Some(self.fields().count())
+    }
+
+    fn compose_rdata<B: OctetsBuilder>(&self, target: &mut B) -> Result<(), AppendError> {
+        self.fields().put(target)
+    }
+
+    fn compose_canonical_rdata<B: OctetsBuilder>(&self, target: &mut B) -> Result<(), AppendError> {
+        self.fields().put_canonical(target)
+    }
+
+    fn canonical_cmp_octets(&self, other: &[u8]) -> Ordering {
+        fields::canonical_cmp_octets(&self.fields(), other)
+    }
+}
+
+impl<N: ToName> CanonicalOrd for Mx<N> {
+    ghost canonical_cmp = { on (λ d. canonical_of mx (mx_values N.labels d)) (slice_cmp nat_cmp) };
+
+    ghost total = { on_texts (λ d. canonical_of mx (mx_values N.labels d)) };
+
+    fn canonical_cmp(&self, other: &Self) -> Ordering {
+        self.fields().order(&other.fields())
+    }
+}

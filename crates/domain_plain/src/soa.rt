@@ -1,0 +1,163 @@
+//! Starts of zones.
+ghost use Rattle.std.specs.Prelude.{◌≡◌};
+ghost use Rattle.std.specs.Ordering.{on, nat_cmp};
+ghost use Rattle.std.specs.Cmp.Lexicographic.{slice_cmp, on_texts};
+ghost use Rattle.domain_plain.specs.Layout.{octets_of, canonical_of};
+ghost use Rattle.domain_plain.specs.Plain.{soa, soa_values};
+
+use crate::fields::{self, Fields, Lowers};
+use crate::{ComposeRecordData, RecordData};
+use domain_base::{CanonicalOrd, Rtype, ToName, Ttl};
+use domain_octets::{AppendError, OctetsBuilder};
+use std::cmp::Ordering;
+
+/// The start of a zone of authority (RFC 1035, section 3.3.13).
+#[derive(Debug, Drop)]
+pub struct Soa<N> {
+    mname: N,
+    rname: N,
+    serial: u32,
+    refresh: Ttl,
+    retry: Ttl,
+    expire: Ttl,
+    minimum: Ttl,
+}
+
+type SoaFields<'a, N> = (
+    (Lowers<'a, N>, Lowers<'a, N>),
+    ((u32, (u32, u32)), (u32, u32)),
+);
+
+impl<N> Soa<N> {
+    /// The data of these fields.
+    pub fn new(
+        mname: N,
+        rname: N,
+        serial: u32,
+        refresh: Ttl,
+        retry: Ttl,
+        expire: Ttl,
+        minimum: Ttl,
+    ) -> Self
+        ensures { result ≡ record { mname = mname; rname = rname; serial = serial; refresh = refresh; retry = retry; expire = expire; minimum = minimum } }
+    {
+        Soa {
+            mname,
+            rname,
+            serial,
+            refresh,
+            retry,
+            expire,
+            minimum,
+        }
+    }
+
+    /// The name of the primary server.
+    pub fn mname(&self) -> &N
+        ensures { result.now ≡ self.now.mname }
+    {
+        &self.mname
+    }
+
+    /// The mailbox of the person who is responsible for the zone, as a name.
+    pub fn rname(&self) -> &N
+        ensures { result.now ≡ self.now.rname }
+    {
+        &self.rname
+    }
+
+    /// The version of the zone.
+    pub fn serial(&self) -> u32
+        ensures { result ≡ self.now.serial }
+    {
+        self.serial
+    }
+
+    /// How long a secondary server waits before it asks for changes.
+    pub fn refresh(&self) -> Ttl
+        ensures { result ≡ self.now.refresh }
+    {
+        self.refresh
+    }
+
+    /// How long it waits before it asks again.
+    pub fn retry(&self) -> Ttl
+        ensures { result ≡ self.now.retry }
+    {
+        self.retry
+    }
+
+    /// How long it may answer without having reached its primary server.
+    pub fn expire(&self) -> Ttl
+        ensures { result ≡ self.now.expire }
+    {
+        self.expire
+    }
+
+    /// How long a negative answer may be cached (RFC 2308, section 4).
+    pub fn minimum(&self) -> Ttl
+        ensures { result ≡ self.now.minimum }
+    {
+        self.minimum
+    }
+}
+
+impl<N: ToName> Soa<N> {
+    /// The fields, in the order of the wire.
+    fn fields(&self) -> SoaFields<'_, N>
+        ensures { (result.0.0.0.now ≡ self.now.mname) × (result.0.1.0.now ≡ self.now.rname)
+            × (result.1.0 ≡ (self.now.serial, (self.now.refresh, self.now.retry))) × (result.1.1 ≡ (self.now.expire, self.now.minimum)) }
+    {
+        (
+            (Lowers(&self.mname), Lowers(&self.rname)),
+            (
+                (self.serial, (self.refresh.as_secs(), self.retry.as_secs())),
+                (self.expire.as_secs(), self.minimum.as_secs()),
+            ),
+        )
+    }
+}
+
+impl<N: ToName> RecordData for Soa<N> {
+    ghost rtype = { λ _. 6 };
+
+    fn rtype(&self) -> Rtype {
+        Rtype::SOA
+    }
+}
+
+impl<N: ToName> ComposeRecordData for Soa<N> {
+    ghost octets = { λ d. octets_of soa (soa_values N.labels d) };
+
+    ghost canonical = { λ d. canonical_of soa (soa_values N.labels d) };
+
+    fn fits_rdlen(&self) -> bool {
+        self.fields().room_after(65535).is_some()
+    }
+
+    fn rdlen(&self, _compress: bool) -> Option<u16> {
+        Some(self.fields().count())
+    }
+
+    fn compose_rdata<B: OctetsBuilder>(&self, target: &mut B) -> Result<(), AppendError> {
+        self.fields().put(target)
+    }
+
+    fn compose_canonical_rdata<B: OctetsBuilder>(&self, target: &mut B) -> Result<(), AppendError> {
+        self.fields().put_canonical(target)
+    }
+
+    fn canonical_cmp_octets(&self, other: &[u8]) -> Ordering {
+        fields::canonical_cmp_octets(&self.fields(), other)
+    }
+}
+
+impl<N: ToName> CanonicalOrd for Soa<N> {
+    ghost canonical_cmp = { on (λ d. canonical_of soa (soa_values N.labels d)) (slice_cmp nat_cmp) };
+
+    ghost total = { on_texts (λ d. canonical_of soa (soa_values N.labels d)) };
+
+    fn canonical_cmp(&self, other: &Self) -> Ordering {
+        self.fields().order(&other.fields())
+    }
+}

@@ -1,0 +1,2 @@
+pub mod Rdata
+pub mod Zone

@@ -1,0 +1,45 @@
+-- data of all types as one type
+use Rattle.std.specs.Prelude.{ℕ, List}
+use Rattle.std.specs.declared.cmp.Ordering.{Ordering}
+use Rattle.std.specs.Ordering.{nat_cmp, on, then_cmp}
+use Rattle.std.specs.Cmp.{IsTotalOrder, on_total, then_total, nat_cmp_total}
+use Rattle.std.specs.Cmp.Lexicographic.{slice_cmp, on_texts}
+use Rattle.domain_plain.specs.Layout.{octets_of, canonical_of}
+use Rattle.domain_plain.specs.Plain.{a, a_values, ns, ns_values, soa, soa_values, mx, mx_values, unknown, unknown_values}
+use Rattle.domain_rdata.specs.Rdata.{nsec, nsec_values}
+use Rattle.domain_rdata.specs.declared.zone_record_data.ZoneRecordData.{ZoneRecordData}
+use Rattle.domain_rdata.specs.declared.zone_record_data.ZoneRecordData.TheVariants.{A, Ns, Soa, Mx, Nsec, Unknown}
+
+-- the number of the data's type
+abbrev pub rtype_of : {O N : Type 0} → ZoneRecordData O N → ℕ
+rtype_of (A d) = 1
+rtype_of (Ns d) = 2
+rtype_of (Soa d) = 6
+rtype_of (Mx d) = 15
+rtype_of (Nsec d) = 47
+rtype_of (Unknown d) = d.rtype
+
+-- the octets of the data on the wire
+abbrev pub wire_octets : {O N : Type 0} → (O → List ℕ) → (N → List (List ℕ)) → ZoneRecordData O N → List ℕ
+wire_octets octets labels (A d) = octets_of a (a_values d)
+wire_octets octets labels (Ns d) = octets_of ns (ns_values labels d)
+wire_octets octets labels (Soa d) = octets_of soa (soa_values labels d)
+wire_octets octets labels (Mx d) = octets_of mx (mx_values labels d)
+wire_octets octets labels (Nsec d) = octets_of nsec (nsec_values labels d)
+wire_octets octets labels (Unknown d) = octets_of unknown (unknown_values octets d)
+
+-- the octets of their canonical form (RFC 4034, section 6.2)
+abbrev pub canonical_octets : {O N : Type 0} → (O → List ℕ) → (N → List (List ℕ)) → ZoneRecordData O N → List ℕ
+canonical_octets octets labels (A d) = canonical_of a (a_values d)
+canonical_octets octets labels (Ns d) = canonical_of ns (ns_values labels d)
+canonical_octets octets labels (Soa d) = canonical_of soa (soa_values labels d)
+canonical_octets octets labels (Mx d) = canonical_of mx (mx_values labels d)
+canonical_octets octets labels (Nsec d) = canonical_of nsec (nsec_values labels d)
+canonical_octets octets labels (Unknown d) = canonical_of unknown (unknown_values octets d)
+
+-- by the number of the type, and then by canonical octets
+abbrev pub data_cmp : {O N : Type 0} → (O → List ℕ) → (N → List (List ℕ)) → ZoneRecordData O N → ZoneRecordData O N → Ordering
+data_cmp octets labels = then_cmp (on rtype_of nat_cmp) (on (canonical_octets octets labels) (slice_cmp nat_cmp))
+
+pub data_cmp_total : {O N : Type 0} (octets : O → List ℕ) (labels : N → List (List ℕ)) → IsTotalOrder (data_cmp octets labels)
+data_cmp_total octets labels = then_total (on_total rtype_of nat_cmp_total) (on_texts (canonical_octets octets labels))

@@ -1,0 +1,121 @@
+-- The maximal runs of a list.
+use Rattle.std.proofs.Common.{◌≡◌, ℕ, ◌+◌, ◌<◌, ◌≤◌, eqb, IsTrue, zero, suc, Bool, true, false, cond, List, [], ◌∷◌, ◌++◌, length, get_or, take, drop, refl, sym, ◌∙◌, ap, arith, add-one, append-nil}
+use Rattle.std.proofs.lemmas.Bool.{eqb-true, eq-eqb}
+use Rattle.std.specs.List.{AllByRecursion}
+use Rattle.domain_records.specs.Runs.{AreGroups, RunR, Apart, joined, add_to, runs, IsFirstRun, HoldsOfNeighbours}
+
+module _ {X : Type 0} (same : X → X → Bool) where
+  -- the first run of some elements begins with the first of them
+  heads_step : (x : X) (gs : List (List X)) → (g : List X) × (hs : List (List X)) × (add_to same x gs ≡ (x ∷ g) ∷ hs)
+  heads_step x [] = ([], [], refl)
+  heads_step x ([] ∷ gs) = ([], gs, refl)
+  heads_step x ((y ∷ ys) ∷ gs) = elim (same x y) as (λ b. (g : List X) × (hs : List (List X)) × (cond b ((x ∷ y ∷ ys) ∷ gs) ((x ∷ []) ∷ (y ∷ ys) ∷ gs) ≡ (x ∷ g) ∷ hs)) [
+    | true ↦ (y ∷ ys, gs, refl)
+    | false ↦ ([], (y ∷ ys) ∷ gs, refl)
+  ]
+
+  begins : (x : X) (xs : List X) → (g : List X) × (hs : List (List X)) × (runs same (x ∷ xs) ≡ (x ∷ g) ∷ hs)
+  unfolding runs
+  begins x xs = heads_step x (runs same xs)
+
+  tail_run : (x : X) (xs : List X) (n : ℕ) → 0 < n → IsFirstRun same (x ∷ xs) (suc n) → IsFirstRun same xs n
+  tail_run x xs n some h = record {
+    some = some;
+    within = (let w : suc n ≤ suc (length xs) = h.within in omega arith);
+    alike = λ k d lt. rw add-one (rw add-one at (h.alike (suc k) d (omega arith)));
+    ends = λ k d e lt. h.ends (suc k) d (omega arith) (let w : suc n < suc (length xs) = omega arith in w);
+  }
+
+  one : (x : X) (xs : List X) → IsFirstRun same (x ∷ xs) 1 → runs same (x ∷ xs) ≡ (x ∷ []) ∷ runs same xs
+  unfolding runs
+  one x [] h = refl
+  one x (y ∷ ys) h =
+      let b = begins y ys in
+      let apart : same x y ≡ false = h.ends 0 x refl (omega arith) in
+      ap (add_to same x) b.2 ∙ ap (λ c. cond c ((x ∷ y ∷ b.0) ∷ b.1) ((x ∷ []) ∷ (y ∷ b.0) ∷ b.1)) apart ∙ ap (λ gs. (x ∷ []) ∷ gs) (sym b.2)
+
+  -- the first run, and the runs of what follows
+  pub runs-first : (xs : List X) (n : ℕ) → IsFirstRun same xs n → runs same xs ≡ take n xs ∷ runs same (drop n xs)
+  unfolding runs
+  runs-first xs zero h = absurd (let s = h.some in omega arith)
+  runs-first [] (suc n) h = absurd (let w = h.within in omega arith)
+  runs-first (x ∷ xs) (suc zero) h = one x xs h
+  runs-first (x ∷ []) (suc (suc m)) h = absurd (let w = h.within in omega arith)
+  runs-first (x ∷ y ∷ ys) (suc (suc m)) h =
+      let alike : same x y ≡ true = h.alike 0 x (omega arith) in
+      ap (add_to same x) (runs-first (y ∷ ys) (suc m) (tail_run x (y ∷ ys) (suc m) (omega arith) h))
+      ∙ ap (λ c. cond c ((x ∷ y ∷ take m ys) ∷ runs same (drop m ys)) ((x ∷ []) ∷ (y ∷ take m ys) ∷ runs same (drop m ys))) alike
+
+pub runs_nil : {X : Type 0} (same : X → X → Bool) (xs : List X) → xs ≡ [] → runs same xs ≡ []
+unfolding runs
+runs_nil same xs e = ap (runs same) e
+
+-- once nothing is left, all are taken
+pub all_taken : {X : Type 0} (same : X → X → Bool) (gs all : List (List X)) (xs : List X) → gs ++ runs same xs ≡ all → xs ≡ [] → gs ≡ all
+all_taken same gs all xs h e = sym (append-nil gs) ∙ ap (λ l. gs ++ l) (sym (runs_nil same xs e)) ∙ h
+
+module _ {X : Type 0} (same : X → X → Bool) where
+  join_step : (x y : X) (ys : List X) (gs : List (List X)) (b : Bool) → joined (cond b ((x ∷ y ∷ ys) ∷ gs) ((x ∷ []) ∷ (y ∷ ys) ∷ gs)) ≡ x ∷ joined ((y ∷ ys) ∷ gs)
+  join_step x y ys gs true = refl
+  join_step x y ys gs false = refl
+
+  joined_add : (x : X) (gs : List (List X)) → joined (add_to same x gs) ≡ x ∷ joined gs
+  joined_add x [] = refl
+  joined_add x ([] ∷ gs) = refl
+  joined_add x ((y ∷ ys) ∷ gs) = join_step x y ys gs (same x y)
+
+  each_step : (x y : X) (ys : List X) (gs : List (List X)) (b : Bool) → same x y ≡ b → AllByRecursion (RunR same) ((y ∷ ys) ∷ gs) → AllByRecursion (RunR same) (cond b ((x ∷ y ∷ ys) ∷ gs) ((x ∷ []) ∷ (y ∷ ys) ∷ gs))
+  each_step x y ys gs true e h = ((e, h.0), h.1)
+  each_step x y ys gs false e h = (tt, h)
+
+  each_add : (x : X) (gs : List (List X)) → AllByRecursion (RunR same) gs → AllByRecursion (RunR same) (add_to same x gs)
+  each_add x [] h = (tt, tt)
+  each_add x ([] ∷ gs) h = absurd h.0
+  each_add x ((y ∷ ys) ∷ gs) h = each_step x y ys gs (same x y) refl h
+
+  longer : (x y : X) (ys : List X) (gs : List (List X)) → Apart same ((y ∷ ys) ∷ gs) → Apart same ((x ∷ y ∷ ys) ∷ gs)
+  longer x y ys [] h = tt
+  longer x y ys (g ∷ gs) h = h
+
+  apart_step : (x y : X) (ys : List X) (gs : List (List X)) (b : Bool) → same x y ≡ b → Apart same ((y ∷ ys) ∷ gs) → Apart same (cond b ((x ∷ y ∷ ys) ∷ gs) ((x ∷ []) ∷ (y ∷ ys) ∷ gs))
+  apart_step x y ys gs true e h = longer x y ys gs h
+  apart_step x y ys gs false e h = (e, h)
+
+  apart_add : (x : X) (gs : List (List X)) → AllByRecursion (RunR same) gs → Apart same gs → Apart same (add_to same x gs)
+  apart_add x [] r h = tt
+  apart_add x ([] ∷ gs) r h = absurd r.0
+  apart_add x ((y ∷ ys) ∷ gs) r h = apart_step x y ys gs (same x y) refl h
+
+  -- the groups of a list join to it, each is one run, and neighbours differ
+  pub runs_are_groups : (xs : List X) → AreGroups same xs (runs same xs)
+  unfolding runs
+  runs_are_groups [] = record { all = refl; each = tt; apart = tt }
+  runs_are_groups (x ∷ xs) =
+      let h = runs_are_groups xs in
+      record {
+        all = joined_add x (runs same xs) ∙ ap (λ l. x ∷ l) h.all;
+        each = each_add x (runs same xs) h.each;
+        apart = apart_add x (runs same xs) h.each h.apart;
+      }
+
+module _ {X : Type 0} (same : X → X → Bool) (xs : List X) (n : ℕ) (h : IsFirstRun same xs n) where
+  pub whole_run : IsTrue (eqb n (length xs)) → HoldsOfNeighbours same xs
+  whole_run e k d lt = h.alike k d (let is = eqb-true n (length xs) e in omega arith)
+
+  -- a first run that ends before the list does ends where two neighbours differ
+  ends_short : (m : ℕ) (d : X) → n ≡ suc m → HoldsOfNeighbours same xs → n < length xs → ⊥
+  ends_short m d is all lt =
+      let alike : same (get_or xs m d) (get_or xs (m + 1) d) ≡ true = all m d (omega arith) in
+      let apart : same (get_or xs m d) (get_or xs n d) ≡ false = h.ends m d (omega arith) lt in
+      let place : m + 1 ≡ n = omega arith in
+      let other : same (get_or xs m d) (get_or xs n d) ≡ true = rw place at alike in
+      absurd (cc)
+
+not_short : {X : Type 0} (same : X → X → Bool) (xs : List X) (n : ℕ) → IsFirstRun same xs n → HoldsOfNeighbours same xs → n < length xs → ⊥
+not_short same [] n h all lt = absurd (omega arith)
+not_short same (x ∷ xs) zero h all lt = absurd (let s = h.some in omega arith)
+not_short same (x ∷ xs) (suc m) h all lt = ends_short same (x ∷ xs) (suc m) h m x refl all lt
+
+-- a list whose neighbours are the same is its first run
+pub run_is_whole : {X : Type 0} (same : X → X → Bool) (xs : List X) (n : ℕ) → IsFirstRun same xs n → HoldsOfNeighbours same xs → IsTrue (eqb n (length xs))
+run_is_whole same xs n h all = eq-eqb n (length xs) (let w = h.within in let s = not_short same xs n h all in omega arith)

@@ -1,0 +1,170 @@
+-- Sorted sets as lists: where an element stands or goes, and what a sort and a dedup leave.
+use Rattle.std.proofs.Common.{◌≡◌, ℕ, ◌+◌, ◌<◌, ◌≤◌, suc, Bool, true, false, not, ◌&&◌, cond, List, [], ◌∷◌, ◌++◌, length, get_or, take, drop, Option, Some, None, Result, Ok, Err, IfOk, IfErr, refl, sym, ◌∙◌, ap, subst, arith, is_lt}
+use Rattle.std.specs.List.{AllByRecursion, Contains, dedup, dedup_from, filter, find, insert, remove}
+use Rattle.std.specs.List.Sorted.{IsStrictlySortedBy, IsSorted, IsStable, IsPermutation, IsSearchInRange, IsBinarySearchResult, IsNonDecreasingBy, ties}
+use Rattle.std.specs.Cmp.{IsTotalOrder, IsEquivalence, eq_by_cmp_equiv, tied_back, Equal-is}
+use Rattle.std.specs.Ordering.{eq_by_cmp, is_eq, ordering_index, ordering_reverse}
+use Rattle.std.specs.declared.cmp.Ordering.{Ordering}
+use Rattle.std.specs.declared.cmp.Ordering.TheVariants.{Less, Equal, Greater}
+use Rattle.std.proofs.lemmas.Map.Keys.{Less-from_sorted}
+use Rattle.std.proofs.lemmas.List.Sorted.{searchable_from_sorted, IsPermutation-insert, Contains-permutation, All-permutation}
+use Rattle.std.proofs.lemmas.List.Kept.{IsStrictlySortedBy-dedup, Any-dedup}
+use Rattle.std.proofs.lemmas.List.Filters.{All-dedup}
+use Rattle.std.proofs.lemmas.List.{take-append-drop, get_or-take, get_or-drop, get_or_default, length-take-le, length-drop}
+use Rattle.std.proofs.Math.Seq.{drop-cons}
+use Rattle.std.proofs.lemmas.List.Elements.{filter_agree, All-contains_itself, recursion_from_All}
+use Rattle.domain_records.specs.SortedSet.{IsAt, IsGapFor, Holds, IsSortedSetOf, KeepsEarliest, Adds}
+
+module _ {X : Type 0} where
+  -- the first that passes is the first of those that pass
+  abbrev first_of : List X → Option X
+  first_of [] = None
+  first_of (x ∷ xs) = Some x
+
+  first_step : (p : X → Bool) (x : X) (xs : List X) (b : Bool) → find p xs ≡ first_of (filter p xs) → cond b (Some x) (find p xs) ≡ first_of (cond b (x ∷ filter p xs) (filter p xs))
+  first_step p x xs true h = refl
+  first_step p x xs false h = h
+
+  pub find_first : (p : X → Bool) (xs : List X) → find p xs ≡ first_of (filter p xs)
+  find_first p [] = refl
+  find_first p (x ∷ xs) = first_step p x xs (p x) (find_first p xs)
+
+  -- two lists that one test filters alike begin alike
+  pub find_alike : (p : X → Bool) (xs ys : List X) → filter p xs ≡ filter p ys → find p xs ≡ find p ys
+  find_alike p xs ys h = find_first p xs ∙ ap first_of h ∙ sym (find_first p ys)
+
+  module _ {E : X → X → Bool} (e : IsEquivalence E) (x : X) where
+    alike_step : (k y : X) (f : Option X) (b c : Bool) → c ≡ b → cond b (Some k) f ≡ cond b (Some k) (cond c (Some y) f)
+    alike_step k y f true c h = refl
+    alike_step k y f false c h = sym (ap (λ d. cond d (Some y) f) h)
+
+    dedup_step : (k y : X) (xs : List X) (b : Bool) → E y k ≡ b
+        → find (λ z. E z x) (dedup_from E k xs) ≡ find (λ z. E z x) (k ∷ xs)
+        → find (λ z. E z x) (dedup_from E y xs) ≡ find (λ z. E z x) (y ∷ xs)
+        → find (λ z. E z x) (cond b (dedup_from E k xs) (k ∷ dedup_from E y xs)) ≡ find (λ z. E z x) (k ∷ y ∷ xs)
+    dedup_step k y xs true h one two = one ∙ alike_step k y (find (λ z. E z x) xs) (E k x) (E y x) (e.congr y k x h)
+    dedup_step k y xs false h one two = ap (cond (E k x) (Some k)) two
+
+    find-dedup_from : (k : X) (xs : List X) → find (λ z. E z x) (dedup_from E k xs) ≡ find (λ z. E z x) (k ∷ xs)
+    find-dedup_from k [] = refl
+    find-dedup_from k (y ∷ xs) = dedup_step k y xs (E y k) refl (find-dedup_from k xs) (find-dedup_from y xs)
+
+    -- `dedup` keeps the first of each run
+    pub find-dedup : (xs : List X) → find (λ z. E z x) (dedup E xs) ≡ find (λ z. E z x) xs
+    find-dedup [] = refl
+    find-dedup (y ∷ xs) = find-dedup_from y xs
+
+  rec_join : (P : X → Type 0) (xs : List X) (x : X) (ys : List X) → AllByRecursion P (xs ++ ys) → P x → AllByRecursion P (xs ++ x ∷ ys)
+  rec_join P [] x ys h p = (p, h)
+  rec_join P (y ∷ xs) x ys h p = (h.0, rec_join P xs x ys h.1 p)
+
+  rec_cut : (P : X → Type 0) (xs : List X) (x : X) (ys : List X) → AllByRecursion P (xs ++ x ∷ ys) → AllByRecursion P (xs ++ ys)
+  rec_cut P [] x ys h = h.1
+  rec_cut P (y ∷ xs) x ys h = (h.0, rec_cut P xs x ys h.1)
+
+module _ {X : Type 0} {R : X → X → Ordering} (o : IsTotalOrder R) where
+  pub sorted_join : (xs : List X) (x : X) (ys : List X) → IsStrictlySortedBy R (xs ++ ys) → AllByRecursion (λ y. R y x ≡ Less) xs → AllByRecursion (λ y. R x y ≡ Less) ys → IsStrictlySortedBy R (xs ++ x ∷ ys)
+  unfolding IsStrictlySortedBy
+  sorted_join [] x ys s l g = (g, s)
+  sorted_join (y ∷ xs) x ys s l g = (rec_join _ xs x ys s.0 l.0, sorted_join xs x ys s.1 l.1 g)
+
+  pub sorted_cut : (xs : List X) (x : X) (ys : List X) → IsStrictlySortedBy R (xs ++ x ∷ ys) → IsStrictlySortedBy R (xs ++ ys)
+  unfolding IsStrictlySortedBy
+  sorted_cut [] x ys s = s.1
+  sorted_cut (y ∷ xs) x ys s = (rec_cut _ xs x ys s.0, sorted_cut xs x ys s.1)
+
+  turned : (x y : X) → R x y ≡ Less → is_lt (R y x) ≡ false
+  turned x y h = ap is_lt (o.antisymm y x ∙ ap ordering_reverse h)
+
+  greater : (x y : X) → R y x ≡ Greater → R x y ≡ Less
+  greater x y h = o.antisymm x y ∙ ap ordering_reverse h
+
+  -- the answers at x rise along a sorted list, as a binary search asks
+  pub answers_rise : (xs : List X) (x : X) → IsStrictlySortedBy R xs → IsNonDecreasingBy (λ y. ordering_index (R y x)) xs
+  answers_rise xs x s = searchable_from_sorted o (λ y. y) xs x (λ k d le lt. turned _ _ (Less-from_sorted R xs k (k + 1) d s (omega arith) lt))
+
+  -- where a binary search ends
+  pub searched : (xs : List X) (x : X) (r : Result ℕ ℕ) → IsStrictlySortedBy R xs → IsSearchInRange r (length xs) → IsBinarySearchResult (λ y. R y x) xs r → IfOk r (IsAt R xs x) × IfErr r (IsGapFor R xs x)
+  searched xs x (Ok i) s bound at = (record { in_range = bound; equal = at }, tt)
+  searched xs x (Err i) s bound parted =
+      let p = parted (answers_rise xs x s) in
+      (tt, record { in_range = bound; lesser = λ k d lt. p.0 k d (omega arith) lt; greater = λ k d le lt. p.1 k d le lt })
+
+  -- an order's ties are where it answers `Equal`
+  tie_cases : (x y : X) (r s : Ordering) → R x y ≡ r → R y x ≡ s → not (is_lt r) && not (is_lt s) ≡ is_eq s
+  tie_cases x y Less Less p q = refl
+  tie_cases x y Less Equal p q = absurd (let e = sym q ∙ (o.antisymm y x ∙ ap ordering_reverse p) in cc)
+  tie_cases x y Less Greater p q = refl
+  tie_cases x y Equal Less p q = refl
+  tie_cases x y Equal Equal p q = refl
+  tie_cases x y Equal Greater p q = absurd (let e = sym q ∙ (o.antisymm y x ∙ ap ordering_reverse p) in cc)
+  tie_cases x y Greater Less p q = refl
+  tie_cases x y Greater Equal p q = absurd (let e = sym q ∙ (o.antisymm y x ∙ ap ordering_reverse p) in cc)
+  tie_cases x y Greater Greater p q = absurd (let e = sym q ∙ (o.antisymm y x ∙ ap ordering_reverse p) in cc)
+
+  pub ties_are_equals : (x y : X) → ties (λ a b. is_lt (R a b)) x y ≡ is_eq (R y x)
+  ties_are_equals x y = tie_cases x y (R x y) (R y x) refl refl
+
+  -- a stable sort and a dedup keep the earliest of equals
+  pub earliest : (xs ys : List X) → IsStable R xs ys → KeepsEarliest R xs (dedup (eq_by_cmp R) ys)
+  earliest xs ys stable x =
+      find-dedup (eq_by_cmp_equiv o) x ys
+      ∙ find_alike (λ y. is_eq (R y x)) ys xs
+      (sym (filter_agree _ _ (ties_are_equals x) ys) ∙ stable x ∙ filter_agree _ _ (ties_are_equals x) xs)
+
+  -- a sort and a dedup leave the sorted set
+  pub sorted_set : (xs ys : List X) → IsPermutation xs ys → IsSorted R ys → IsSortedSetOf R xs (dedup (eq_by_cmp R) ys)
+  sorted_set xs ys moved s = record {
+    sorted = IsStrictlySortedBy-dedup o (λ x y. refl) ys s;
+    among = All-dedup (eq_by_cmp R) (Contains xs) ys (All-permutation (Contains xs) xs ys moved (All-contains_itself xs));
+    each = λ x h.
+        let a = Any-dedup (eq_by_cmp_equiv o) ys x (Contains-permutation xs ys x moved h) in
+        (a.0, a.1, a.2, a.3, tied_back o x a.1 ((Equal-is (R x a.1)).0 a.4));
+  }
+
+  -- a new element in its gap
+  pub sorted_insert : (xs : List X) (x : X) (i : ℕ) → IsStrictlySortedBy R xs → IsGapFor R xs x i → Adds R xs x (insert xs i x)
+  sorted_insert xs x i s gap = record {
+    sorted = sorted_join (take i xs) x (drop i xs) (subst (IsStrictlySortedBy R) (sym (take-append-drop i xs)) s)
+        (recursion_from_All (λ y. R y x ≡ Less) (take i xs) (λ k d lt.
+        let below : k < i = omega (arith, length-take-le i xs gap.in_range) in
+        rw (get_or-take i xs k d below) (gap.lesser k d below)))
+        (recursion_from_All (λ y. R x y ≡ Less) (drop i xs) (λ k d lt.
+        rw (get_or-drop i xs k d) (greater x _ (gap.greater (i + k) d (omega arith) (omega (arith, length-drop i xs))))));
+    moved = IsPermutation-insert xs i x;
+  }
+
+  -- one that is taken out
+  pub sorted_remove : (xs : List X) (i : ℕ) → i < length xs → IsStrictlySortedBy R xs → IsStrictlySortedBy R (remove xs i)
+  sorted_remove [] i lt s = absurd (omega arith)
+  sorted_remove (d ∷ ys) i lt s =
+      let xs = d ∷ ys in
+      sorted_cut (take i xs) (get_or xs i d) (drop (suc i) xs)
+      (subst (λ (l : List X). IsStrictlySortedBy R (take i xs ++ l)) (drop-cons xs i d lt) (subst (IsStrictlySortedBy R) (sym (take-append-drop i xs)) s))
+
+  -- where an equal one stands
+  pub holds_at : (xs : List X) (x : X) (i : ℕ) → IsAt R xs x i → Holds R xs x
+  holds_at [] x i at = absurd (let h = at.in_range in omega arith)
+  holds_at (d ∷ ys) x i at = (i, get_or (d ∷ ys) i d, at.in_range, get_or_default (d ∷ ys) i _ d at.in_range, at.equal d)
+
+  less_or_equal : (r : Ordering) → r ≡ Less → r ≡ Equal → ⊥
+  less_or_equal r p q = let e = sym p ∙ q in cc
+
+  greater_or_equal : (r : Ordering) → r ≡ Greater → r ≡ Equal → ⊥
+  greater_or_equal r p q = let e = sym p ∙ q in cc
+
+  -- and where none does
+  pub none_in_gap : (xs : List X) (x : X) (i : ℕ) → IsGapFor R xs x i → Holds R xs x → ⊥
+  none_in_gap xs x i gap h =
+      let eq : R (get_or xs h.0 h.1) x ≡ Equal = rw h.3 h.4 in
+      let apart : h.0 < i → ⊥ = λ lt. less_or_equal _ (gap.lesser h.0 h.1 lt) eq in
+      let above : i ≤ h.0 → ⊥ = λ le. greater_or_equal _ (gap.greater h.0 h.1 le h.2) eq in
+      omega (arith, apart, above)
+
+pub sorted_nil : {X : Type 0} (R : X → X → Ordering) (xs : List X) → xs ≡ [] → IsStrictlySortedBy R xs
+unfolding IsStrictlySortedBy
+sorted_nil R xs e = subst (IsStrictlySortedBy R) (sym e) tt
+
+-- an element that was read
+pub read_is : {X : Type 0} (xs : List X) (i : ℕ) (x : X) → i < length xs → x ≡ get_or xs i x → (d : X) → get_or xs i d ≡ x
+read_is xs i x lt e d = get_or_default xs i d x lt ∙ sym e

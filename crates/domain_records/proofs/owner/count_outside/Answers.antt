@@ -1,0 +1,23 @@
+use Rattle.std.proofs.Common.{arith}
+use Rattle.domain_base.specs.Name.{IsAtOrBelow}
+use Rattle.domain_plain.specs.declared.record.Record.{Record}
+use Rattle.domain_records.specs.Slices.{items_of}
+use Rattle.domain_records.proofs.Firsts.{skips_to, if_first_at, if_first_past}
+use Rattle.domain_records.proofs.owner.count_outside.Goals as goal
+
+pub returns-else-not-ends_with : goal.returns-else-not-ends_with
+returns-else-not-ends_with g c =
+    let P = λ (r : Record g.row.N.Denot g.row.D.Denot). IsAtOrBelow (g.N.ToName.labels r.owner) (g.N.ToName.labels c.args.apex.now) in
+    let below : P c.at.result.now = rw c.owner.ensures at (c.ends_with.ensures.0 c.if-not-ends_with.false) in
+    let items = items_of c.args.records.now in (
+      skips_to P items c.loop-n.n c.loop-n.invariant.within c.loop-n.invariant.outside (if_first_at P items c.loop-n.n c.at.result.now c.at.ensures below),
+      c.loop-n.invariant.within,
+    )
+
+pub returns-after-loop-n : goal.returns-after-loop-n
+returns-after-loop-n g c =
+    let P = λ (r : Record g.row.N.Denot g.row.D.Denot). IsAtOrBelow (g.N.ToName.labels r.owner) (g.N.ToName.labels c.args.apex.now) in
+    let items = items_of c.args.records.now in (
+      skips_to P items c.loop-n.n c.loop-n.invariant.within c.loop-n.invariant.outside (if_first_past P items c.loop-n.n (omega (arith, c.len-total.ensures))),
+      c.loop-n.invariant.within,
+    )

@@ -1,0 +1,49 @@
+-- Records of one owner and one type (RFC 2181, section 5).
+use Rattle.std.specs.Prelude.{◌≡◌, ◌≢◌, ℕ, ◌<◌, Bool, false, List, [], ◌∷◌, ◌++◌, length, Option, Result, Some, None, Ok, MatchOption, MatchResult, ◌==◌, ◌&&◌}
+use Rattle.domain_base.specs.Name.{same_name}
+use Rattle.domain_plain.specs.declared.record.Record.{Record}
+use Rattle.domain_records.specs.declared.error.SigningError.{SigningError}
+use Rattle.domain_records.specs.declared.error.SigningError.TheVariants.{EmptyRecordSlice, MultipleTtlValues, SoaRecordCouldNotBeDetermined, Nsec3HashingError, OutOfMemory}
+use Rattle.domain_records.specs.Groups.{IfFirst}
+use Rattle.domain_records.specs.Order.{HoldsPairwise}
+use Rattle.domain_records.specs.Runs.{runs}
+
+-- no two differ in TTL, unless the type of the first is RRSIG: records of that type are grouped, but no RRset (RFC 4034, section 3)
+abbrev pub HasOneTtl : {N D : Type 0} → (D → ℕ) → List (Record N D) → Type 0
+HasOneTtl rtype records = IfFirst (λ r. rtype r.«data» ≢ 46) records → HoldsPairwise (λ r s. r.ttl ≡ s.ttl) records
+
+-- at least one record, and one TTL
+pub record IsRrset {N D : Type 0} (rtype : D → ℕ) (records : List (Record N D)) : Type 0 where
+  pub some : 0 < length records
+  pub one_ttl : HasOneTtl rtype records
+
+-- why records are no RRset
+abbrev pub Refuses : {N D : Type 0} → (D → ℕ) → List (Record N D) → SigningError → Type 0
+Refuses rtype records EmptyRecordSlice = records ≡ []
+Refuses rtype records MultipleTtlValues = (0 < length records) × ¬ (HasOneTtl rtype records)
+Refuses rtype records SoaRecordCouldNotBeDetermined = ⊥
+Refuses rtype records (Nsec3HashingError e) = ⊥
+Refuses rtype records OutOfMemory = ⊥
+
+-- the group as an RRset, or its refusal, exactly by its own TTLs
+abbrev pub IsRrsetOf : {N D : Type 0} → (D → ℕ) → List (Record N D) → Result (List (Record N D)) SigningError → Type 0
+IsRrsetOf rtype group item = MatchResult item (λ set. (set ≡ group) × HasOneTtl rtype group) (λ e. (e ≡ MultipleTtlValues) × ¬ (HasOneTtl rtype group))
+
+-- a call that hands out the first group of s, or refuses it, and leaves t
+abbrev pub TakesRrset : {N D : Type 0} → (Record N D → Record N D → Bool) → (D → ℕ) → List (Record N D) → Option (Result (List (Record N D)) SigningError) → List (Record N D) → Type 0
+TakesRrset {N} {D} same rtype s r t = MatchOption r ((s ≡ []) × (t ≡ [])) (λ item. (group : List (Record N D)) × (s ≡ group ++ t) × (runs same s ≡ group ∷ runs same t) × IsRrsetOf rtype group item)
+
+-- a group of this type
+abbrev pub is_of_type : {N D : Type 0} → (D → ℕ) → ℕ → List (Record N D) → Bool
+is_of_type rtype t [] = false
+is_of_type rtype t (r ∷ rs) = rtype r.«data» == t
+
+-- a group of this owner and type
+abbrev pub is_of : {N D : Type 0} → (N → List (List ℕ)) → (D → ℕ) → List (List ℕ) → ℕ → List (Record N D) → Bool
+is_of labels rtype owner t [] = false
+is_of labels rtype owner t (r ∷ rs) = same_name (labels r.owner) owner && (rtype r.«data» == t)
+
+-- the group that was found, if there is one, as an RRset, or its refusal
+abbrev pub IsFound : {N D : Type 0} → (D → ℕ) → Option (List (Record N D)) → Result (Option (List (Record N D))) SigningError → Type 0
+IsFound rtype None found = found ≡ Ok None
+IsFound rtype (Some group) found = MatchResult found (λ set. (set ≡ Some group) × HasOneTtl rtype group) (λ e. (e ≡ MultipleTtlValues) × ¬ (HasOneTtl rtype group))

@@ -1,0 +1,97 @@
+//! Why records were not put in, signed or hashed.
+ghost use Rattle.std.specs.Prelude.{◌≡◌};
+ghost use Rattle.domain_records.specs.declared.error.SigningError.TheVariants as signing_error;
+ghost use Rattle.domain_records.specs.declared.error.Nsec3HashError.TheVariants as nsec3_hash_error;
+
+use domain_octets::OutOfMemory;
+use domain_plain::Record;
+use std::alloc::{AllocError, AllocFailed};
+
+/// Why a chain of hashed names was not made (RFC 5155, section 7.1).
+#[derive(Clone, Copy, Debug, PartialEq, Eq)]
+pub enum Nsec3HashError {
+    /// The hasher refused, with its own number for the reason.
+    Hasher(u8),
+    /// Octets were not appended. No call of these crates answers it.
+    AppendError,
+    /// A hash has no octets, or too many for the first label of an owner: over 39, which are 63 digits of Base 32.
+    OwnerHashError,
+    /// The owner of a hash would be longer than a name may be: over 255 octets.
+    Nsec3NameTooLong,
+    /// Two names have one hash.
+    CollisionDetected,
+    /// There was no memory.
+    OutOfMemory,
+}
+
+impl From<OutOfMemory> for Nsec3HashError {
+    ghost from_gives = { λ _ e. e ≡ nsec3_hash_error.OutOfMemory };
+
+    fn from(_error: OutOfMemory) -> Nsec3HashError {
+        Nsec3HashError::OutOfMemory
+    }
+}
+
+impl From<AllocError> for Nsec3HashError {
+    ghost from_gives = { λ _ e. e ≡ nsec3_hash_error.OutOfMemory };
+
+    fn from(_error: AllocError) -> Nsec3HashError {
+        Nsec3HashError::OutOfMemory
+    }
+}
+
+impl<T: Drop> From<AllocFailed<T>> for Nsec3HashError {
+    ghost from_gives = { λ _ e. e ≡ nsec3_hash_error.OutOfMemory };
+
+    fn from(_error: AllocFailed<T>) -> Nsec3HashError {
+        Nsec3HashError::OutOfMemory
+    }
+}
+
+/// Why records were not signed.
+#[derive(Clone, Copy, Debug, PartialEq, Eq)]
+pub enum SigningError {
+    /// A group of records holds none.
+    EmptyRecordSlice,
+    /// Records of one owner and one type differ in their TTLs (RFC 2181, section 5.2).
+    MultipleTtlValues,
+    /// The apex doesn't own exactly one SOA record.
+    SoaRecordCouldNotBeDetermined,
+    /// A name was not hashed, or its hash is of no use.
+    Nsec3HashingError(Nsec3HashError),
+    /// There was no memory.
+    OutOfMemory,
+}
+
+impl From<OutOfMemory> for SigningError {
+    ghost from_gives = { λ _ e. e ≡ signing_error.OutOfMemory };
+
+    fn from(_error: OutOfMemory) -> SigningError {
+        SigningError::OutOfMemory
+    }
+}
+
+impl From<AllocError> for SigningError {
+    ghost from_gives = { λ _ e. e ≡ signing_error.OutOfMemory };
+
+    fn from(_error: AllocError) -> SigningError {
+        SigningError::OutOfMemory
+    }
+}
+
+impl<T: Drop> From<AllocFailed<T>> for SigningError {
+    ghost from_gives = { λ _ e. e ≡ signing_error.OutOfMemory };
+
+    fn from(_error: AllocFailed<T>) -> SigningError {
+        SigningError::OutOfMemory
+    }
+}
+
+/// Why a record was not put in. Each variant hands the record back.
+#[derive(Debug, Drop)]
+pub enum InsertError<N, D> {
+    /// A record that is equal under the canonical order stands there already.
+    Present(Record<N, D>),
+    /// There was no memory.
+    OutOfMemory(Record<N, D>),
+}

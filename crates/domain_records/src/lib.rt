@@ -1,0 +1,18 @@
+//! Sorted records and their groups.
+#![tactic(auto)]
+
+mod error;
+mod group;
+mod list;
+mod owner;
+mod rrset;
+mod slice;
+mod sorted;
+mod sorter;
+
+pub use error::{InsertError, Nsec3HashError, SigningError};
+pub use owner::{OwnerRrs, RecordsIter};
+pub use rrset::{OwnerRrsIter, Rrset, RrsetIter};
+pub use slice::{RefSlice, SliceRefsOrOwned, SliceRefsOrOwnedIterator};
+pub use sorted::SortedRecords;
+pub use sorter::{DefaultSorter, Sorter};
