@@ -90,7 +90,7 @@ pub types_past : (block : Block) (place : ℕ) → 8 * length block.octets ≤ p
 unfolding block_types_from has_bit
 types_past block place past =
     filter_none (has_bit block.octets) (256 * block.window + place) (256 - place)
-      (λ t low high. let beyond : length block.octets ≤ t % 256 / 8 = omega arith in rw (get_or_past block.octets (t % 256 / 8) 0 beyond) (bit_of-zero (t % 8)))
+    (λ t low high. let beyond : length block.octets ≤ t % 256 / 8 = omega arith in rw (get_or_past block.octets (t % 256 / 8) 0 beyond) (bit_of-zero (t % 8)))
 
 -- what the code finds at a place is the type's bit, whatever the window
 abbrev pub IsBitAt : List ℕ → ℕ → Bool → Type 0
@@ -140,4 +140,5 @@ pub types_from_nothing : (octets : List ℕ) (place : ℕ) → blocks_of octets 
 types_from_nothing octets place is = rw is refl
 
 pub ruleset look_steps = (contains_here, contains_later, contains_nothing)
+
 pub ruleset iter_steps = (types_from_next, types_from_here, types_from_nothing)

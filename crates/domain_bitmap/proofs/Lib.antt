@@ -5,3 +5,4 @@ pub mod SlotLemmas
 pub mod BlockLemmas
 pub mod BitmapLemmas
 pub mod PackLemmas
+pub mod MeaningLemmas

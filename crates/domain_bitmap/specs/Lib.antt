@@ -2,3 +2,4 @@ pub mod Bits
 pub mod Bitmap
 pub mod Blocks
 pub mod Builder
+pub mod Text

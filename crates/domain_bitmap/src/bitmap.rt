@@ -80,6 +80,7 @@ impl<O: Octets> RtypeBitmap<O> {
 
 impl<'a, O: Octets> IntoIterator for &'a RtypeBitmap<O> {
     type Item = Rtype;
+
     type IntoIter = RtypeBitmapIter<'a>;
 
     ghost into_iter_gives = { λ b types. types ≡ types_of b.now };

@@ -1,16 +1,18 @@
 //! Sets of record types.
 #![tactic(auto)]
 
-mod bits;
 mod bitmap;
+mod bits;
 mod blocks;
 mod builder;
 mod iter;
+pub mod laws;
 mod pack;
 mod slots;
 mod table;
 #[cfg(test)]
 mod tests;
+mod text;
 
 pub use bitmap::RtypeBitmap;
 pub use builder::RtypeBitmapBuilder;

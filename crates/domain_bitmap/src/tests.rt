@@ -82,6 +82,9 @@ fn gives_types_in_order(rt: HostRuntime) -> Result<(), Fail> {
     for rtype in &bitmap {
         types.push(rtype.to_int())?;
     }
-    assert_eq!(rt; types.as_slice(), [2, 6, 15, 16, 46, 48, 51, 99, 257].as_slice());
+    assert_eq!(rt;
+        types.as_slice(),
+        [2, 6, 15, 16, 46, 48, 51, 99, 257].as_slice()
+    );
     Ok(())
 }
