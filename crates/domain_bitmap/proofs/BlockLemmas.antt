@@ -19,7 +19,7 @@ blocks_within-octets_of (block ∷ blocks) (suc n) fits =
     rw (take_at block.octets (octets_of blocks) (length block.octets) refl, drop_at block.octets (octets_of blocks) (length block.octets) refl)
     (ap (λ rest. block ∷ rest) (blocks_within-octets_of blocks n (omega (arith, fits, length-append block.octets (octets_of blocks)))))
 
-add_two : (n : ℕ) → n + 2 ≡ suc (suc n)
+pub add_two : (n : ℕ) → n + 2 ≡ suc (suc n)
 add_two n = omega arith
 
 -- the blocks are read back

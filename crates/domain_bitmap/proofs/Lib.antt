@@ -6,3 +6,4 @@ pub mod BlockLemmas
 pub mod BitmapLemmas
 pub mod PackLemmas
 pub mod MeaningLemmas
+pub mod FaultLemmas

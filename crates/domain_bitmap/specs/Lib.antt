@@ -3,3 +3,4 @@ pub mod Bitmap
 pub mod Blocks
 pub mod Builder
 pub mod Text
+pub mod Fault

@@ -1,10 +1,11 @@
 //! Sets of types as octets.
-ghost use Rattle.std.specs.Prelude.{◌≡◌, ℕ, ◌↔◌, List, [], IsTrue};
+ghost use Rattle.std.specs.Prelude.{◌≡◌, ℕ, ◌↔◌, List, [], IsTrue, IsOk, IfOk, IfErr};
 ghost use Rattle.domain_bitmap.specs.Blocks.{IsBitmap, contains_type, types_of};
+ghost use Rattle.domain_bitmap.specs.Fault.{FirstFault};
 
-use crate::RtypeBitmapIter;
 use crate::bits::split_rtype;
-use crate::blocks::{is_set, split_block};
+use crate::blocks::{check, is_set, split_block};
+use crate::{RtypeBitmapError, RtypeBitmapIter};
 use domain_base::Rtype;
 use domain_octets::Octets;
 use std::marker::Model;
@@ -24,6 +25,25 @@ impl<O: Octets> Model for RtypeBitmap<O> {
 }
 
 impl<O: Octets> RtypeBitmap<O> {
+    /// Octets that are a list of blocks, each of 1 to 32 octets. Windows may come in any order and
+    /// more than once, and octets may be zero. Takes no memory.
+    ///
+    /// # Errors
+    ///
+    /// The first fault: at each block `ShortInput` where its length is missing, `BadRtypeBitmap`
+    /// where that is not 1 to 32, then `ShortInput` where octets are missing.
+    #[tactic(auto, using(crate::proofs::FaultLemmas::no_fault))]
+    pub fn from_octets(octets: O) -> Result<Self, RtypeBitmapError>
+    where
+        O: Drop,
+        ensures ok { IsOk result ↔ IsBitmap (O.octets octets) }
+        ensures octets { IfOk result (λ bitmap. bitmap ≡ O.octets octets) }
+        ensures err { IfErr result (FirstFault (O.octets octets)) }
+    {
+        check(octets.as_slice())?;
+        Ok(RtypeBitmap { octets })
+    }
+
     /// The bitmap over octets that are a list of blocks.
     pub(crate) fn over(octets: O) -> Self
         requires { IsBitmap (O.octets octets) }

@@ -1,7 +1,10 @@
 //! Octets read as blocks.
-ghost use Rattle.std.specs.Prelude.{◌≡◌, ℕ, ◌+◌, ◌*◌, ◌/◌, ◌%◌, ◌<◌, ◌≤◌, ◌∷◌, [], length, IfSome, IfNone};
+ghost use Rattle.std.specs.Prelude.{◌≡◌, ℕ, ◌+◌, ◌*◌, ◌/◌, ◌%◌, ◌<◌, ◌≤◌, ◌∷◌, [], length, IfSome, IfNone, MatchResult};
 ghost use Rattle.domain_bitmap.specs.Bits.{has_bit};
 ghost use Rattle.domain_bitmap.specs.Blocks.{IsBitmap, blocks_of, block_types_from};
+ghost use Rattle.domain_bitmap.specs.Fault.{FirstFault};
+
+use crate::RtypeBitmapError;
 
 /// A block: the number of its window, and its octets.
 #[derive(Clone, Copy)]
@@ -10,6 +13,27 @@ pub(crate) struct Window<'a> {
     pub number: u8,
     /// The octets, without zero octets at the end that were left out.
     pub octets: &'a [u8],
+}
+
+/// Checks that octets are a list of blocks.
+pub(crate) fn check(octets: &[u8]) -> Result<(), RtypeBitmapError>
+    ensures { MatchResult result (λ _. IsBitmap octets.now) (λ e. FirstFault octets.now e) }
+{
+    let mut rest = octets;
+    while !rest.is_empty() {
+        if rest.len() < 2 {
+            return Err(RtypeBitmapError::ShortInput);
+        }
+        let len = rest[1] as usize;
+        if len == 0 || len > 32 {
+            return Err(RtypeBitmapError::BadRtypeBitmap);
+        }
+        if rest.len() - 2 < len {
+            return Err(RtypeBitmapError::ShortInput);
+        }
+        rest = &rest[len + 2..];
+    }
+    Ok(())
 }
 
 /// The first block, and the blocks after it.

@@ -5,6 +5,7 @@ mod bitmap;
 mod bits;
 mod blocks;
 mod builder;
+mod error;
 mod iter;
 pub mod laws;
 mod pack;
@@ -16,4 +17,5 @@ mod text;
 
 pub use bitmap::RtypeBitmap;
 pub use builder::RtypeBitmapBuilder;
+pub use error::RtypeBitmapError;
 pub use iter::RtypeBitmapIter;
