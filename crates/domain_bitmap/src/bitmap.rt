@@ -1,7 +1,12 @@
 //! Sets of types as octets.
-ghost use Rattle.std.specs.Prelude.{◌≡◌, ℕ, List};
-ghost use Rattle.domain_bitmap.specs.Blocks.{IsBitmap};
+ghost use Rattle.std.specs.Prelude.{◌≡◌, ℕ, ◌↔◌, List, [], IsTrue, IsOk, IfOk, IfErr};
+ghost use Rattle.domain_bitmap.specs.Blocks.{IsBitmap, contains_type, types_of};
+ghost use Rattle.domain_bitmap.specs.Fault.{FirstFault};
 
+use crate::bits::split_rtype;
+use crate::blocks::{check, is_set, split_block};
+use crate::{RtypeBitmapError, RtypeBitmapIter};
+use domain_base::Rtype;
 use domain_octets::Octets;
 use std::marker::Model;
 
@@ -20,6 +25,25 @@ impl<O: Octets> Model for RtypeBitmap<O> {
 }
 
 impl<O: Octets> RtypeBitmap<O> {
+    /// Octets that are a list of blocks, each of 1 to 32 octets. Windows may come in any order and
+    /// more than once, and octets may be zero. Takes no memory.
+    ///
+    /// # Errors
+    ///
+    /// The first fault: at each block `ShortInput` where its length is missing, `BadRtypeBitmap`
+    /// where that is not 1 to 32, then `ShortInput` where octets are missing.
+    #[tactic(auto, using(crate::proofs::FaultLemmas::no_fault))]
+    pub fn from_octets(octets: O) -> Result<Self, RtypeBitmapError>
+    where
+        O: Drop,
+        ensures ok { IsOk result ↔ IsBitmap (O.octets octets) }
+        ensures octets { IfOk result (λ bitmap. bitmap ≡ O.octets octets) }
+        ensures err { IfErr result (FirstFault (O.octets octets)) }
+    {
+        check(octets.as_slice())?;
+        Ok(RtypeBitmap { octets })
+    }
+
     /// The bitmap over octets that are a list of blocks.
     pub(crate) fn over(octets: O) -> Self
         requires { IsBitmap (O.octets octets) }
@@ -40,5 +64,48 @@ impl<O: Octets> RtypeBitmap<O> {
         ensures { result.now ≡ self.now }
     {
         self.octets.as_slice()
+    }
+
+    /// The types whose bits are set, block by block as they stand.
+    pub fn iter(&self) -> RtypeBitmapIter<'_>
+        ensures { result ≡ types_of self.now }
+    {
+        RtypeBitmapIter::new(self.octets.as_slice())
+    }
+
+    #[tactic(auto, using(crate::proofs::BlockLemmas::look_steps))]
+    /// Whether the first block of the type's window has the bit of the type. Of a bitmap that a
+    /// builder made this says whether the type was added.
+    pub fn contains(&self, rtype: Rtype) -> bool
+        ensures { result ≡ contains_type self.now rtype }
+    {
+        let (window, octet, bit) = split_rtype(rtype);
+        let mut blocks = self.octets.as_slice();
+        while let Some((block, rest)) = split_block(blocks) {
+            if block.number == window {
+                return is_set(block.octets, octet, bit);
+            }
+            blocks = rest;
+        }
+        false
+    }
+
+    /// Whether no bit is set.
+    pub fn is_empty(&self) -> bool
+        ensures { IsTrue result ↔ (types_of self.now ≡ []) }
+    {
+        self.iter().next().is_none()
+    }
+}
+
+impl<'a, O: Octets> IntoIterator for &'a RtypeBitmap<O> {
+    type Item = Rtype;
+
+    type IntoIter = RtypeBitmapIter<'a>;
+
+    ghost into_iter_gives = { λ b types. types ≡ types_of b.now };
+
+    fn into_iter(self) -> RtypeBitmapIter<'a> {
+        self.iter()
     }
 }
