@@ -1,5 +1,9 @@
 pub mod Firsts
+pub mod FoundGroups
+pub mod Lookups
+pub mod Matches
 pub mod OrderLemmas
+pub mod Removals
 pub mod RrsetLemmas
 pub mod Runs
 pub mod SortedLists

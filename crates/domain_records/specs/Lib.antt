@@ -1,5 +1,6 @@
 pub mod Edits
 pub mod Groups
+pub mod Lookup
 pub mod Order
 pub mod Rrsets
 pub mod Runs

@@ -4,6 +4,7 @@
 mod error;
 mod group;
 mod list;
+mod lookup;
 mod owner;
 mod rrset;
 mod slice;
