@@ -40,7 +40,7 @@ impl<O: Octets> Name<O> {
         O: Drop,
         ensures ok { IsOk result ↔ IsWire (O.octets octets) }
         ensures labels { IfOk result (λ name. O.octets octets ≡ wire_of name) }
-        ensures err { IfErr result (λ e. FirstFault 0 (O.octets octets) (fault_of e)) }
+        ensures err { IfErr result (λ e. FirstFault (O.octets octets) (fault_of e)) }
     {
         wire::check(octets.as_slice())?;
         Ok(Name { octets })

@@ -1,5 +1,5 @@
 //! Octets that are read from the front.
-ghost use Rattle.std.specs.Prelude.{◌≡◌, ◌<◌, ◌∷◌, ◌↔◌, [], length, IsErr, IfOk, IfErr, OnErr};
+ghost use Rattle.std.specs.Prelude.{◌≡◌, ◌<◌, ◌≤◌, ◌+◌, ◌∷◌, ◌↔◌, [], length, drop, IsErr, IfOk, IfErr, OnErr};
 ghost use Rattle.std.specs.Int.{w16, w32, to_be_bytes};
 
 use crate::ParseError;
@@ -67,6 +67,15 @@ impl<'a> Parser<'a> {
             left: self.left,
             pos: self.pos,
         }
+    }
+
+    /// Goes past so many octets.
+    pub fn advance(&mut self, count: usize)
+        requires { count ≤ length self.old.left }
+        ensures { self.new ≡ record { pos = self.old.pos + count; left = drop count self.old.left } }
+    {
+        self.left = &self.left[count..];
+        self.pos += count;
     }
 
     /// The next octets, so many. Refuses, with `ShortInput`, where fewer are left.
