@@ -69,3 +69,7 @@ last_octet (octet ∷ next ∷ octets) = last_octet (next ∷ octets)
 pub record IsShortest (octets : List ℕ) : Type 0 where
   pub ascending : WindowsAscendFrom 0 (blocks_of octets)
   pub cut : AllByRecursion (λ block. last_octet block.octets ≢ 0) (blocks_of octets)
+
+-- the types below a number that are in a set, in ascending order
+unfoldable pub types_below : ℕ → (ℕ → Bool) → List ℕ
+types_below n types = filter types (range_with_len 0 n)
