@@ -4,6 +4,7 @@
 mod algorithm;
 mod canonical;
 mod class;
+mod convert;
 mod dotted;
 mod error;
 mod labels;

@@ -46,6 +46,15 @@ impl<O: Octets> Name<O> {
         Ok(Name { octets })
     }
 
+    /// A name whose wire form is these octets.
+    pub(crate) fn from_wire(octets: O) -> Self
+        requires { IsWire (O.octets octets) }
+        ensures { result ≡ labels_of (O.octets octets) }
+    {
+        Name { octets }
+    }
+
+    /// The octets of its wire form.
     pub fn into_octets(self) -> O
         ensures { O.octets result ≡ wire_of self }
     {
