@@ -97,19 +97,19 @@ unfolding has_bit
 window_of_block types block valid same i =
     elim (leb_tells 32 i) [
       | inl h ↦
-        get_or_past (window_octets types block.window) i 0 (omega (arith, h.1, length-window_octets types block.window))
-        ∙ sym (get_or_past block.octets i 0 (omega (arith, h.1, valid.fits)))
+          get_or_past (window_octets types block.window) i 0 (omega (arith, h.1, length-window_octets types block.window))
+          ∙ sym (get_or_past block.octets i 0 (omega (arith, h.1, valid.fits)))
       | inr h ↦
-        let inside : i < 32 = h.1 in
-        get_or-window_octets types block.window i inside
-        ∙ octet_with-same (λ b. types (256 * block.window + 8 * i + b)) (bit_of (get_or block.octets i 0))
-            (λ b small.
-              let t : ℕ = 256 * block.window + 8 * i + b in
-              let window : t / 256 ≡ block.window = omega arith in
-              let octet : t % 256 / 8 ≡ i = omega arith in
-              let bit : t % 8 ≡ b = omega arith in
-              same t window ∙ rw (octet, bit) refl)
-        ∙ octet_with-bit_of (get_or block.octets i 0) (valid.bounded i)
+          let inside : i < 32 = h.1 in
+          get_or-window_octets types block.window i inside
+          ∙ octet_with-same (λ b. types (256 * block.window + 8 * i + b)) (bit_of (get_or block.octets i 0))
+          (λ b small.
+          let t : ℕ = 256 * block.window + 8 * i + b in
+          let window : t / 256 ≡ block.window = omega arith in
+          let octet : t % 256 / 8 ≡ i = omega arith in
+          let bit : t % 8 ≡ b = omega arith in
+          same t window ∙ rw (octet, bit) refl)
+          ∙ octet_with-bit_of (get_or block.octets i 0) (valid.bounded i)
     ]
 
 zero_window : (types : ℕ → Bool) (w : ℕ) → ((t : ℕ) → t / 256 ≡ w → types t ≡ false) → block_list w (trimmed (window_octets types w)) ≡ []
@@ -144,18 +144,18 @@ rebuilt types [] a (suc n) whole valid ascend cut same =
 rebuilt types (block ∷ blocks) a (suc n) whole valid ascend cut same =
     elim (eqb_tells block.window a) [
       | inl h ↦
-        let here : block.window ≡ a = h.1 in
-        let first : IsBlock block = valid.0 in
-        let own : trimmed (window_octets types a) ≡ block.octets = rw (← here) (own_window types block first cut.0 (λ t window. same t (omega arith) ∙ in_first block blocks t window)) in
-        let list : block_list a (trimmed (window_octets types a)) ≡ block ∷ [] = rw (own, ← here) (list_of_block block.window block.octets first.not_empty) in
-        let ascend_rest : WindowsAscendFrom (a + 1) blocks = rw (← here) ascend.1 in
-        rw list (ap (λ rest. block ∷ rest) (rebuilt types blocks (a + 1) n (omega arith) valid.1 ascend_rest cut.1 (λ t above. same t (omega arith) ∙ in_later block blocks t (omega arith))))
+          let here : block.window ≡ a = h.1 in
+          let first : IsBlock block = valid.0 in
+          let own : trimmed (window_octets types a) ≡ block.octets = rw (← here) (own_window types block first cut.0 (λ t window. same t (omega arith) ∙ in_first block blocks t window)) in
+          let list : block_list a (trimmed (window_octets types a)) ≡ block ∷ [] = rw (own, ← here) (list_of_block block.window block.octets first.not_empty) in
+          let ascend_rest : WindowsAscendFrom (a + 1) blocks = rw (← here) ascend.1 in
+          rw list (ap (λ rest. block ∷ rest) (rebuilt types blocks (a + 1) n (omega arith) valid.1 ascend_rest cut.1 (λ t above. same t (omega arith) ∙ in_later block blocks t (omega arith))))
       | inr h ↦
-        let other : block.window ≢ a = h.1 in
-        let low : a ≤ block.window = ascend.0 in
-        let ascend_rest : WindowsAscendFrom (a + 1) (block ∷ blocks) = (omega arith, ascend.1) in
-        let empty = zero_window types a (λ t here. same t (omega arith) ∙ none_below (block ∷ blocks) (a + 1) t ascend_rest (omega arith)) in
-        rw empty (rebuilt types (block ∷ blocks) (a + 1) n (omega arith) valid ascend_rest cut (λ t above. same t (omega arith)))
+          let other : block.window ≢ a = h.1 in
+          let low : a ≤ block.window = ascend.0 in
+          let ascend_rest : WindowsAscendFrom (a + 1) (block ∷ blocks) = (omega arith, ascend.1) in
+          let empty = zero_window types a (λ t here. same t (omega arith) ∙ none_below (block ∷ blocks) (a + 1) t ascend_rest (omega arith)) in
+          rw empty (rebuilt types (block ∷ blocks) (a + 1) n (omega arith) valid ascend_rest cut (λ t above. same t (omega arith)))
     ]
 
 -- a list of blocks in that form is a built bitmap: that of the types that it contains

@@ -53,6 +53,15 @@ impl<O: Octets> RtypeBitmap<O> {
         RtypeBitmap { octets }
     }
 
+    /// The same bitmap over other octets, which are the same.
+    pub(crate) fn remade<P: Octets>(&self, octets: P) -> RtypeBitmap<P>
+        requires { P.octets octets ≡ self.now }
+        ensures { result ≡ self.now }
+    {
+        let _ = &self.octets;
+        RtypeBitmap { octets }
+    }
+
     /// A copy. Uses the allocator of the octets.
     pub fn clone(&self) -> Result<Self, OutOfMemory>
         ensures { IfOk result (λ copy. copy ≡ self.now) }
