@@ -38,7 +38,7 @@ window_octets-is types w xs long small bits =
 in_window : (w k b : ℕ) → k < 32 → b < 8 → (256 * w + 8 * k + b) / 256 ≡ w
 in_window w k b k_small b_small = omega (arith, k_small, b_small)
 
-zero_octets : (types : ℕ → Bool) (w : ℕ) → ((t : ℕ) → t / 256 ≡ w → types t ≡ false) → (k : ℕ) → get_or (window_octets types w) k 0 ≡ 0
+pub zero_octets : (types : ℕ → Bool) (w : ℕ) → ((t : ℕ) → t / 256 ≡ w → types t ≡ false) → (k : ℕ) → get_or (window_octets types w) k 0 ≡ 0
 zero_octets types w none k =
     elim (leb_tells 32 k) [
       | inl h ↦ get_or_past (window_octets types w) k 0 (omega (arith, h.1, length-window_octets types w))

@@ -4,7 +4,8 @@ use Rattle.std.proofs.lemmas.List.{take-append-drop, length-take, get_or-take, g
 use Rattle.std.proofs.lemmas.Bool.Decides.{leb_tells}
 use Rattle.domain_bitmap.specs.declared.error.RtypeBitmapError.{RtypeBitmapError}
 use Rattle.domain_bitmap.specs.declared.error.RtypeBitmapError.TheVariants.{ShortInput, BadRtypeBitmap}
-use Rattle.domain_bitmap.specs.Fault.{FirstFault, no_length, bad_length, cut_block, after}
+use Rattle.domain_base.specs.Fault.{Fault}
+use Rattle.domain_bitmap.specs.Fault.{BitmapFault, bitmap_fault_of, FirstFault, no_length, bad_length, cut_block, after}
 use Rattle.domain_bitmap.specs.Blocks.{Block, IsBlock, IsBitmap, octets_of, blocks_of}
 use Rattle.domain_bitmap.proofs.BlockLemmas.{IsBitmap-octets_of, HasBlock, block_at, add_two}
 
@@ -98,3 +99,12 @@ no_fault (after window block rest fault some small later) bitmap =
     let has = block_at (window ∷ length block ∷ (block ++ rest)) bitmap (omega arith) in
     let left : drop (length block + 2) (window ∷ length block ∷ (block ++ rest)) ≡ rest = rw (add_two (length block)) (drop_at block rest (length block) refl) in
     no_fault later (subst IsBitmap left has.rest)
+
+-- a fault by its name
+pub bitmap_fault : (octets : List ℕ) (first : RtypeBitmapError) (fault : Fault) → FirstFault octets first → fault ≡ bitmap_fault_of first → BitmapFault octets fault
+bitmap_fault octets first fault found named = record { first = first; found = found; named = named }
+
+pub no_bitmap_fault : (octets : List ℕ) (fault : Fault) → BitmapFault octets fault → IsBitmap octets → ⊥
+no_bitmap_fault octets fault bad bitmap = no_fault bad.found bitmap
+
+pub ruleset parse_steps = (no_fault, bitmap_fault)

@@ -7,3 +7,4 @@ pub mod BitmapLemmas
 pub mod PackLemmas
 pub mod MeaningLemmas
 pub mod FaultLemmas
+pub mod SpellingLemmas

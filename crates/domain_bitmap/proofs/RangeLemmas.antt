@@ -129,3 +129,19 @@ pub filter_none : (p : ℕ → Bool) (a n : ℕ) → ((j : ℕ) → a ≤ j → 
 filter_none p a zero none = refl
 filter_none p a (suc n) none =
     rw (none a (omega arith) (omega arith)) (filter_none p (a + 1) n (λ j low high. none j (omega arith) (omega arith)))
+
+pub filter_same : (p q : ℕ → Bool) (a n : ℕ) → ((j : ℕ) → a ≤ j → j < a + n → p j ≡ q j) → filter p (range_with_len a n) ≡ filter q (range_with_len a n)
+filter_same p q a zero same = refl
+filter_same p q a (suc n) same =
+    rw (same a (omega arith) (omega arith), filter_same p q (a + 1) n (λ j low high. same j (omega arith) (omega arith))) refl
+
+kept_append : (b : Bool) (x : ℕ) (xs ys : List ℕ) → cond b (x ∷ xs) xs ++ ys ≡ cond b (x ∷ (xs ++ ys)) (xs ++ ys)
+kept_append true x xs ys = refl
+kept_append false x xs ys = refl
+
+pub filter_append : (p : ℕ → Bool) (a m n : ℕ) → filter p (range_with_len a m) ++ filter p (range_with_len (a + m) n) ≡ filter p (range_with_len a (m + n))
+filter_append p a zero n = rw (add-zero a, zero-add n) refl
+filter_append p a (suc m) n =
+    let start : a + suc m ≡ a + 1 + m = omega arith in
+    let count : suc m + n ≡ suc (m + n) = omega arith in
+    rw (start, count) (kept_append (p a) a (filter p (range_with_len (a + 1) m)) (filter p (range_with_len (a + 1 + m) n)) ∙ ap (λ rest. cond (p a) (a ∷ rest) rest) (filter_append p (a + 1) m n))

@@ -4,3 +4,4 @@ pub mod Blocks
 pub mod Builder
 pub mod Text
 pub mod Fault
+pub mod Laws

@@ -5,9 +5,10 @@ ghost use Rattle.domain_bitmap.specs.Fault.{FirstFault};
 
 use crate::bits::split_rtype;
 use crate::blocks::{check, is_set, split_block};
-use crate::{RtypeBitmapError, RtypeBitmapIter};
+use crate::{RtypeBitmapBuilder, RtypeBitmapError, RtypeBitmapIter};
 use domain_base::Rtype;
-use domain_octets::Octets;
+use domain_octets::{EmptyBuilder, FromBuilder, Octets, OutOfMemory, TryClone};
+use std::alloc::Global;
 use std::marker::Model;
 
 /// A list of blocks of types (RFC 4034, section 4.1.2), seen as its octets.
@@ -50,6 +51,24 @@ impl<O: Octets> RtypeBitmap<O> {
         ensures { result ≡ O.octets octets }
     {
         RtypeBitmap { octets }
+    }
+
+    /// The same bitmap over other octets, which are the same.
+    pub(crate) fn remade<P: Octets>(&self, octets: P) -> RtypeBitmap<P>
+        requires { P.octets octets ≡ self.now }
+        ensures { result ≡ self.now }
+    {
+        let _ = &self.octets;
+        RtypeBitmap { octets }
+    }
+
+    /// A copy. Uses the allocator of the octets.
+    pub fn clone(&self) -> Result<Self, OutOfMemory>
+        ensures { IfOk result (λ copy. copy ≡ self.now) }
+    {
+        Ok(RtypeBitmap {
+            octets: self.octets.try_clone()?,
+        })
     }
 
     /// The octets.
@@ -95,6 +114,18 @@ impl<O: Octets> RtypeBitmap<O> {
         ensures { IsTrue result ↔ (types_of self.now ≡ []) }
     {
         self.iter().next().is_none()
+    }
+}
+
+impl<O: FromBuilder> RtypeBitmap<O>
+where
+    O::Builder: EmptyBuilder,
+{
+    /// A builder of such bitmaps that holds no types. Takes no memory.
+    pub fn builder(alloc: Global) -> RtypeBitmapBuilder<O::Builder>
+        ensures empty { result ≡ [] }
+    {
+        RtypeBitmapBuilder::new(alloc)
     }
 }
 

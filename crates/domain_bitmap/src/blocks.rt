@@ -6,6 +6,9 @@ ghost use Rattle.domain_bitmap.specs.Fault.{FirstFault};
 
 use crate::RtypeBitmapError;
 
+/// How many octets a block has at most: those of 256 types.
+const MAX_LEN: usize = 32;
+
 /// A block: the number of its window, and its octets.
 #[derive(Clone, Copy)]
 pub(crate) struct Window<'a> {
@@ -25,7 +28,7 @@ pub(crate) fn check(octets: &[u8]) -> Result<(), RtypeBitmapError>
             return Err(RtypeBitmapError::ShortInput);
         }
         let len = rest[1] as usize;
-        if len == 0 || len > 32 {
+        if len == 0 || len > MAX_LEN {
             return Err(RtypeBitmapError::BadRtypeBitmap);
         }
         if rest.len() - 2 < len {

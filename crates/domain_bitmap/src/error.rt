@@ -1,4 +1,9 @@
 //! Why octets are no list of blocks.
+ghost use Rattle.std.specs.Prelude.{◌≡◌};
+ghost use Rattle.domain_base.specs.Fault.{fault_of};
+ghost use Rattle.domain_bitmap.specs.Fault.{bitmap_fault_of};
+
+use domain_base::ParseError;
 use std::error::Error;
 use std::fmt;
 
@@ -21,3 +26,14 @@ impl fmt::Display for RtypeBitmapError {
 }
 
 impl Error for RtypeBitmapError {}
+
+impl From<RtypeBitmapError> for ParseError {
+    ghost from_gives = { λ f e. fault_of e ≡ bitmap_fault_of f };
+
+    fn from(error: RtypeBitmapError) -> ParseError {
+        match error {
+            RtypeBitmapError::ShortInput => ParseError::ShortInput,
+            RtypeBitmapError::BadRtypeBitmap => ParseError::Form("invalid NSEC bitmap"),
+        }
+    }
+}

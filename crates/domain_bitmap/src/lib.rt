@@ -5,6 +5,8 @@ mod bitmap;
 mod bits;
 mod blocks;
 mod builder;
+mod compare;
+mod convert;
 mod error;
 mod iter;
 pub mod laws;

@@ -22,3 +22,9 @@ impl<O: Octets> Display for RtypeBitmap<O> {
         Ok(())
     }
 }
+
+impl<O: Octets> fmt::Debug for RtypeBitmap<O> {
+    fn fmt<W: fmt::Write>(&self, f: &mut fmt::Formatter<W>) -> fmt::Result {
+        write!(f, "RtypeBitmap({self})")
+    }
+}

@@ -20,7 +20,7 @@ returns-then-len-eq0 c =
 pub returns-then-rest-len : goal.returns-then-rest-len
 returns-then-rest-len c =
     let other : get_or c.loop-rest.rest.now 1 0 ≢ 0 = c.if-len-eq0.false in
-    c.loop-rest.invariant.fault _ (fault_cut_block c.loop-rest.rest.now c.if-rest-lt2.false (omega arith) c.if-len-gt32.false c.if-rest-len.true)
+    c.loop-rest.invariant.fault _ (fault_cut_block c.loop-rest.rest.now c.if-rest-lt2.false (omega arith) c.if-len-gt-MAX_LEN.false c.if-rest-len.true)
 
 pub loop-rest-preserved : goal.loop-rest-preserved
 loop-rest-preserved c =
@@ -28,7 +28,7 @@ loop-rest-preserved c =
     let len = get_or rest 1 0 in
     let other : len ≢ 0 = c.if-len-eq0.false in
     let whole : take (length rest - (len + 2)) (drop (len + 2) rest) ≡ drop (len + 2) rest = grind (arith, common_steps) in
-    rw whole (reading_goes c.args.octets.now rest c.loop-rest.invariant c.if-rest-lt2.false (omega arith) c.if-len-gt32.false c.if-rest-len.false)
+    rw whole (reading_goes c.args.octets.now rest c.loop-rest.invariant c.if-rest-lt2.false (omega arith) c.if-len-gt-MAX_LEN.false c.if-rest-len.false)
 
 pub returns : goal.returns
 returns c =
