@@ -10,6 +10,7 @@ mod rrset;
 mod slice;
 mod sorted;
 mod sorter;
+mod write;
 
 pub use error::{InsertError, Nsec3HashError, SigningError};
 pub use owner::{OwnerRrs, RecordsIter};
