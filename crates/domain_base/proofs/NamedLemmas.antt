@@ -1,6 +1,6 @@
 -- tables of numbers and names, entry by entry
-use Rattle.std.proofs.Common.{◌≡◌, ◌≢◌, ℕ, ◌+◌, ◌-◌, ◌<◌, List, [], ◌∷◌, Bool, true, false, Some, None, map, length, get_or, take, drop, refl, sym, ap, subst, ◌∙◌, arith, ◌↔◌, IsTrue, length-append}
-use Rattle.std.specs.Prelude.{◌==◌, ◌^◌, nat_eq, Option, IsSome, IfSome, IfNone}
+use Rattle.std.proofs.Common.{◌≡◌, ◌≢◌, ℕ, ◌+◌, ◌-◌, ◌<◌, List, [], Bool, true, false, Some, None, map, length, get_or, take, drop, sym, ap, subst, ◌∙◌, arith, ◌↔◌, IsTrue, length-append}
+use Rattle.std.specs.Prelude.{◌==◌, ◌^◌, Option, IsSome, IfSome, IfNone}
 use Rattle.std.specs.Option.{SomeIff}
 use Rattle.std.specs.Str.Parse.{IsNumeral, digits_value}
 use Rattle.domain_base.specs.Scan.{IsNumber}
@@ -8,8 +8,8 @@ use Rattle.std.specs.Borrow.{Bor}
 use Rattle.std.specs.Str.{IsAscii, IsUtf8, IsCharBoundary}
 use Rattle.std.proofs.lemmas.Str.{IsCharBoundary-after_ascii}
 use Rattle.std.specs.Char.{to_ascii_lowercase}
-use Rattle.std.specs.Cmp.Lexicographic.{pointwise, bytes_decides}
-use Rattle.std.proofs.lemmas.List.{drop_more, length-map, get_or-map, get_or_append_left, take_at, drop_at, take-append-drop}
+use Rattle.std.specs.Cmp.Lexicographic.{bytes_decides}
+use Rattle.std.proofs.lemmas.List.{drop_more, length-map, get_or-map, get_or_append_left, take_at, drop_at}
 use Rattle.std.proofs.lemmas.Bool.Decides.{nat_tests, same_from_decides}
 use Rattle.domain_base.specs.Named.{Named, same_text, number_named, name_of, HasPrefix, IsWithoutPrefix, NumberText, by_name, by_number}
 use Rattle.domain_base.specs.Named.{entries}

@@ -1,5 +1,5 @@
 -- octets in slices
-use Rattle.std.proofs.Common.{ℕ, ◌<◌, List, length, get_or, Fits, w8, arith}
+use Rattle.std.proofs.Common.{ℕ, ◌<◌, List, get_or, Fits, w8, arith}
 use Rattle.std.specs.Prelude.{All}
 use Rattle.std.proofs.lemmas.List.Elements.{All-from_get_or}
 

@@ -4,6 +4,7 @@
 mod algorithm;
 mod canonical;
 mod class;
+mod dotted;
 mod error;
 mod labels;
 pub mod laws;
@@ -23,6 +24,7 @@ mod wire;
 pub use algorithm::{DigestAlgorithm, Nsec3HashAlgorithm, SecurityAlgorithm};
 pub use canonical::CanonicalOrd;
 pub use class::Class;
+pub use dotted::DottedName;
 pub use error::{ParseError, ScanError};
 pub use labels::Labels;
 pub use name::Name;

@@ -66,6 +66,7 @@ pub trait Scanner {
 }
 
 /// Tokens in a slice.
+#[derive(Drop)]
 pub struct IterScanner<'a, O> {
     left: &'a [&'a str],
     octets: PhantomData<O>,

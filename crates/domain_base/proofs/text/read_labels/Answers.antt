@@ -1,5 +1,5 @@
-use Rattle.std.proofs.Common.{◌≡◌, ◌≢◌, ◌+◌, ◌≤◌, ◌<◌, ℕ, [], ◌∷◌, ◌++◌, List, length, get_or, drop, refl, ap, ◌∙◌, sym, arith, rules, ◌⊎◌, inl, inr}
-use Rattle.std.proofs.lemmas.List.{take_rest, drop_more, nil_from_length, length-drop}
+use Rattle.std.proofs.Common.{◌≡◌, ◌≢◌, ◌+◌, ◌≤◌, ◌<◌, [], ◌∷◌, ◌++◌, length, get_or, drop, ap, arith, rules, ◌⊎◌}
+use Rattle.std.proofs.lemmas.List.{take_rest, drop_more, length-drop}
 use Rattle.std.proofs.lemmas.Grind.{common_steps}
 use Rattle.std.proofs.lemmas.Bool.Decides.{nat_tests}
 use Rattle.domain_base.specs.Name.{IsLabel}

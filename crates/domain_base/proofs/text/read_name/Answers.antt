@@ -1,4 +1,4 @@
-use Rattle.std.proofs.Common.{◌≡◌, ◌≢◌, ◌++◌, ◌∷◌, [], rules}
+use Rattle.std.proofs.Common.{◌≢◌, ◌∷◌, [], rules}
 use Rattle.domain_base.proofs.SpellingLemmas.{named_root, named_labels, named_none}
 use Rattle.domain_base.proofs.text.read_name.Goals as goal
 

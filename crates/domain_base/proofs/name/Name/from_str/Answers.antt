@@ -1,5 +1,5 @@
-use Rattle.std.proofs.Common.{◌≡◌, ◌++◌, List, ℕ, sym, ap, subst, ◌∙◌}
-use Rattle.domain_base.specs.Name.{wire_of, IsName}
+use Rattle.std.proofs.Common.{◌≡◌, ◌++◌, sym, ap, subst, ◌∙◌}
+use Rattle.domain_base.specs.Name.{wire_of}
 use Rattle.domain_base.specs.Text.{NameText}
 use Rattle.domain_base.specs.Wire.{labels_of, IsWire}
 use Rattle.domain_base.proofs.SpellingLemmas.{name_is_valid}
