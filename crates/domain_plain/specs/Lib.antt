@@ -5,3 +5,4 @@ pub mod Target
 pub mod Laws
 pub mod Plain
 pub mod RecordLends
+pub mod RecordText
