@@ -10,6 +10,8 @@ mod rrset;
 mod slice;
 mod sorted;
 mod sorter;
+#[cfg(test)]
+mod tests;
 mod write;
 
 pub use error::{InsertError, Nsec3HashError, SigningError};

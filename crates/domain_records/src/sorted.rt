@@ -335,7 +335,7 @@ impl<N: ToName, D: RecordData + CanonicalOrd, Sort: Sorter> SortedRecords<N, D, 
     /// The first error of the writer.
     pub fn write<W: fmt::Write>(&self, target: &mut W) -> fmt::Result
     where
-        Record<N, D>: fmt::Display,
+        D: fmt::Display,
         ensures { OnOk result (WritesText W.write_str_gives target.old
             (texts ⟦<Record<N, D> as fmt::Display>⟧.output (soa_first D.rtype self.now)) target.new) }
     {
@@ -356,7 +356,7 @@ impl<N: ToName, D: RecordData + CanonicalOrd, Sort: Sorter> SortedRecords<N, D, 
         comment: F,
     ) -> fmt::Result
     where
-        Record<N, D>: fmt::Display,
+        D: fmt::Display,
         F: Drop,
         requires { F.IsAlwaysCallable comment }
         ensures { OnOk result (WritesWithComments W.write_str_gives ⟦<Record<N, D> as fmt::Display>⟧.output F.Fn
