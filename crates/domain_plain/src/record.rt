@@ -93,12 +93,21 @@ impl<N: ToName, D: RecordData + CanonicalOrd> CanonicalOrd for Record<N, D> {
     }
 }
 
-/// The owner with its last dot, the TTL in seconds, the class, the type and the data, with single spaces (RFC 1035, section 5.1).
+/// The owner with its last dot, the TTL, the class, the type and the data, with single spaces between them.
 impl<N: ToName, D: RecordData + fmt::Display> fmt::Display for Record<N, D> {
+    ghost use Rattle.domain_plain.specs.RecordText.{record_text};
+
+    ghost output = { record_text N.labels D.rtype D.output };
+
     fn fmt<W: fmt::Write>(&self, f: &mut fmt::Formatter<W>) -> fmt::Result {
-        let owner = self.owner.fmt_with_dot();
-        let (ttl, class, rtype) = (self.ttl, self.class, self.data.rtype());
-        let data = &self.data;
-        write!(f, "{owner} {ttl} {class} {rtype} {data}")
+        write!(
+            f,
+            "{} {} {} {} {}",
+            self.owner.fmt_with_dot(),
+            self.ttl,
+            self.class,
+            self.data.rtype(),
+            self.data
+        )
     }
 }
