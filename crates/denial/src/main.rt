@@ -4,6 +4,8 @@
 mod fault;
 mod line;
 mod program;
+#[cfg(test)]
+mod tests;
 
 ghost use Rattle.std.specs.Prelude.{Err};
 
