@@ -2,3 +2,6 @@ pub mod Fault
 pub mod Words
 pub mod Listing
 pub mod Said
+pub mod Text
+pub mod Run
+pub mod Command

@@ -1,7 +1,13 @@
 //! The run of the program, over any reader and any writer.
-ghost use Rattle.std.specs.Prelude.{◌≡◌, ◌≢◌, ◌⊎◌, ℕ, ◌-◌, List, [], ◌∷◌, ◌++◌, IfErr, IfOk, IfSome, length, slice_index};
+ghost use Rattle.std.specs.Prelude.{◌≡◌, ◌≢◌, ◌⊎◌, ℕ, ◌-◌, List, [], ◌∷◌, ◌++◌, IfErr, IfOk, OnOk, IfSome, map, length, slice_index, string_bytes};
 ghost use Rattle.std.specs.Str.Lines.{lines, strip_carriage_return};
+ghost use Rattle.std.specs.Io.KnownBytes.{Appends};
+ghost use Rattle.domain_base.specs.Text.{NameText};
+ghost use Rattle.domain_dnssec.specs.View.{as_link};
 ghost use Rattle.denial.specs.Listing.{Give};
+ghost use Rattle.denial.specs.Text.{listing};
+ghost use Rattle.denial.specs.Run.{IsChainOf, HasNoChain};
+ghost use Rattle.denial.specs.Command.{Asks};
 ghost use Rattle.denial.specs.Fault.{IsBeforeOutput, IsReadingFault, IsChainFault};
 ghost use Rattle.denial.specs.declared.fault.DenialFault.TheVariants.{OutOfMemory};
 
@@ -25,7 +31,8 @@ pub enum Command {
 
 /// A name that a word spells.
 fn name_of(alloc: Global, word: &str) -> Result<ZoneName, DenialFault>
-    ensures { IfErr result (λ e. (e ≡ DenialFault.Usage) ⊎ (e ≡ OutOfMemory)) }
+    ensures ok { IfOk result (NameText word.now) }
+    ensures err { IfErr result (λ e. (e ≡ DenialFault.Usage) ⊎ (e ≡ OutOfMemory)) }
 {
     match ZoneName::from_str(alloc, word) {
         Ok(name) => Ok(name),
@@ -36,7 +43,8 @@ fn name_of(alloc: Global, word: &str) -> Result<ZoneName, DenialFault>
 
 /// What the words after the program's name ask for.
 fn command_of(alloc: Global, words: &[String]) -> Result<Command, DenialFault>
-    ensures { IfErr result (λ e. (e ≡ DenialFault.Usage) ⊎ (e ≡ OutOfMemory)) }
+    ensures ok { IfOk result (Asks (map string_bytes words.now)) }
+    ensures err { IfErr result (λ e. (e ≡ DenialFault.Usage) ⊎ (e ≡ OutOfMemory)) }
 {
     match words {
         [command, apex] if command.as_str() == "nsec" => {
@@ -120,7 +128,8 @@ fn nsec_chain(
     apex: &ZoneName,
     records: Vec<ZoneRr>,
 ) -> Result<Vec<Record<ZoneName, Nsec<Vec<u8>, ZoneName>>>, DenialFault>
-    ensures { IfErr result IsChainFault }
+    ensures ok { IfOk result (λ nsecs. IsChainOf (λ o. o.items) (λ n. n) records.items apex.now (map (as_link (λ n. n)) nsecs.items)) }
+    ensures err { IfErr result (HasNoChain (λ o. o.items) (λ n. n) records.items apex.now) }
 {
     let records: SortedRecords<ZoneName, _> = SortedRecords::from_vec(records)?;
     let groups = records.owner_rrs();
@@ -138,7 +147,9 @@ fn nsec_chain(
 fn write_records<W: Write>(
     records: &[Record<ZoneName, Nsec<Vec<u8>, ZoneName>>],
     output: &mut W,
-) -> io::Result<()> {
+) -> io::Result<()>
+    ensures { OnOk result (Appends (W.contents output.old) (W.contents output.new) (listing (map (as_link (λ n. n)) records.now))) }
+{
     for record in records {
         writeln!(output, "{record}")?;
     }
