@@ -12,16 +12,6 @@ IsReadingFault (Signing e) = ⊥
 IsReadingFault Write = ⊥
 IsReadingFault OutOfMemory = Unit {0}
 
--- a fault of the records
-abbrev pub IsChainFault : DenialFault → Type 0
-IsChainFault Usage = ⊥
-IsChainFault Read = ⊥
-IsChainFault (Line n) = ⊥
-IsChainFault MixedClasses = Unit {0}
-IsChainFault (Signing e) = Unit {0}
-IsChainFault Write = ⊥
-IsChainFault OutOfMemory = Unit {0}
-
 -- a fault that comes before anything is written; want of memory may also come while writing
 abbrev pub IsBeforeOutput : DenialFault → Type 0
 IsBeforeOutput Usage = Unit {0}

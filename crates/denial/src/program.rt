@@ -1,14 +1,16 @@
 //! The run of the program, over any reader and any writer.
-ghost use Rattle.std.specs.Prelude.{◌≡◌, ◌≢◌, ◌⊎◌, ℕ, ◌-◌, List, [], ◌∷◌, ◌++◌, IfErr, IfOk, OnOk, IfSome, map, length, slice_index, string_bytes};
+ghost use Rattle.std.specs.Prelude.{◌≡◌, ◌≢◌, ◌⊎◌, ℕ, ◌-◌, List, [], ◌∷◌, ◌++◌, IfErr, IfOk, OnOk, IsErrOf, IfSome, map, length, slice_index, string_bytes};
 ghost use Rattle.std.specs.Str.Lines.{lines, strip_carriage_return};
 ghost use Rattle.std.specs.Io.KnownBytes.{Appends};
 ghost use Rattle.domain_base.specs.Text.{NameText};
+ghost use Rattle.domain_dnssec.specs.Chain.{Link};
 ghost use Rattle.domain_dnssec.specs.View.{as_link};
+ghost use Rattle.domain_records.specs.declared.error.SigningError.{SigningError};
 ghost use Rattle.denial.specs.Listing.{Give};
 ghost use Rattle.denial.specs.Text.{listing};
-ghost use Rattle.denial.specs.Run.{IsChainOf, HasNoChain};
+ghost use Rattle.denial.specs.Run.{IsChainOf, HasNoChain, Answers, Refuses};
 ghost use Rattle.denial.specs.Command.{Asks};
-ghost use Rattle.denial.specs.Fault.{IsBeforeOutput, IsReadingFault, IsChainFault};
+ghost use Rattle.denial.specs.Fault.{IsBeforeOutput, IsReadingFault};
 ghost use Rattle.denial.specs.declared.fault.DenialFault.TheVariants.{OutOfMemory};
 
 use crate::fault::DenialFault;
@@ -170,6 +172,16 @@ pub fn run_denial<R: BufRead, W: Write, H: Nsec3Hasher>(
     input: &mut R,
     output: &mut W,
 ) -> Result<(), DenialFault>
+    // The text of the chain of the records that the lines give, and nothing else.
+    ensures ok { OnOk result (IfSome (R.remaining input.old) (λ bytes. (links : List Link) × Answers (map string_bytes words.now) (lines bytes) links
+        × Appends (W.contents output.old) (W.contents output.new) (listing links))) }
+
+    // There is no such chain.
+    ensures mixed { IsErrOf result DenialFault.MixedClasses → IfSome (R.remaining input.old) (λ bytes. Refuses (map string_bytes words.now) (lines bytes) DenialFault.MixedClasses) }
+    ensures signing { (e : SigningError) → IsErrOf result (DenialFault.Signing e) → IfSome (R.remaining input.old) (λ bytes. Refuses (map string_bytes words.now) (lines bytes) (DenialFault.Signing e)) }
+
+    // Only where there is such a chain is anything written.
+    ensures write { IsErrOf result DenialFault.Write → IfSome (R.remaining input.old) (λ bytes. (links : List Link) × Answers (map string_bytes words.now) (lines bytes) links) }
     ensures untouched { IfErr result (λ e. IsBeforeOutput e → output.new ≡ output.old) }
 {
     let Command::Nsec(apex) = command_of(alloc, words)?;
