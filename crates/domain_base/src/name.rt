@@ -40,12 +40,21 @@ impl<O: Octets> Name<O> {
         O: Drop,
         ensures ok { IsOk result ↔ IsWire (O.octets octets) }
         ensures labels { IfOk result (λ name. O.octets octets ≡ wire_of name) }
-        ensures err { IfErr result (λ e. FirstFault 0 (O.octets octets) (fault_of e)) }
+        ensures err { IfErr result (λ e. FirstFault (O.octets octets) (fault_of e)) }
     {
         wire::check(octets.as_slice())?;
         Ok(Name { octets })
     }
 
+    /// A name whose wire form is these octets.
+    pub(crate) fn from_wire(octets: O) -> Self
+        requires { IsWire (O.octets octets) }
+        ensures { result ≡ labels_of (O.octets octets) }
+    {
+        Name { octets }
+    }
+
+    /// The octets of its wire form.
     pub fn into_octets(self) -> O
         ensures { O.octets result ≡ wire_of self }
     {

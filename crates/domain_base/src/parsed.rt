@@ -1,12 +1,14 @@
 //! Names that lie in a message.
-ghost use Rattle.std.specs.Prelude.{◌≡◌, IfOk, ℕ, List};
-ghost use Rattle.domain_base.specs.Name.{wire_of};
+ghost use Rattle.std.specs.Prelude.{◌≡◌, IfOk, IfErr, OnErr};
+ghost use Rattle.domain_base.specs.Name.{wire_of, IsName};
+ghost use Rattle.domain_base.specs.Fault.{NameFault, FirstFault, fault_of, name_fault_of};
+ghost use Rattle.domain_octets.specs.Place.{Takes};
 
-use crate::{ParseError, ToName, wire};
-use domain_octets::{Octets, TryClone};
+use crate::{NameError, ParseError, ToName, wire};
+use domain_octets::{OutOfMemory, Parser, TryClone};
 use std::marker::Model;
 
-/// A name in the octets of a message.
+/// A name in the octets of a message, which it borrows.
 #[derive(Drop)]
 pub struct ParsedName<'a> {
     wire: &'a [u8],
@@ -24,12 +26,48 @@ impl<'a> Model for ParsedName<'a> {
 }
 
 impl<'a> ParsedName<'a> {
-    /// A name that is all of these octets.
+    /// The name that comes next (RFC 1035, section 3.1). A pointer to another place is refused.
+    ///
+    /// Refuses, at the first label that is at fault: a missing octet with `ShortInput`, a length over 63
+    /// with `Form("compressed or bad label")`, a name over 255 octets with `Form("long domain name")`.
+    /// The parser then stands where it stood.
+    pub fn parse(parser: &mut Parser<'a>) -> Result<Self, ParseError>
+        ensures ok { IfOk result (λ name. Takes (wire_of name) parser.old parser.new × IsName name) }
+        ensures err { IfErr result (λ e. NameFault 0 parser.old.left (fault_of e)) }
+        ensures unmoved { OnErr result (parser.new ≡ parser.old) }
+    {
+        match Self::read(parser) {
+            Ok(name) => Ok(name),
+            Err(error) => Err(ParseError::from(error)),
+        }
+    }
+
+    /// The name that comes next, as by `parse`, with a refusal that holds no text.
+    pub fn read(parser: &mut Parser<'a>) -> Result<Self, NameError>
+        ensures ok { IfOk result (λ name. Takes (wire_of name) parser.old parser.new × IsName name) }
+        ensures err { IfErr result (λ e. NameFault 0 parser.old.left (name_fault_of e)) }
+        ensures unmoved { OnErr result (parser.new ≡ parser.old) }
+    {
+        let (wire, _) = wire::split_name(parser.peek_all())?;
+        parser.advance(wire.len());
+        Ok(ParsedName { wire })
+    }
+
+    /// A name that is all of these octets. Refuses as `Name::from_octets` does.
     pub fn from_slice(octets: &'a [u8]) -> Result<Self, ParseError>
-        ensures { IfOk result (λ name. octets.now ≡ wire_of name) }
+        ensures ok { IfOk result (λ name. octets.now ≡ wire_of name) }
+        ensures err { IfErr result (λ e. FirstFault octets.now (fault_of e)) }
     {
         wire::check(octets)?;
         Ok(ParsedName { wire: octets })
+    }
+}
+
+impl<'a> TryClone for ParsedName<'a> {
+    ghost is_clone = { λ n copy. copy ≡ n };
+
+    fn try_clone(&self) -> Result<Self, OutOfMemory> {
+        Ok(ParsedName { wire: self.wire })
     }
 }
 

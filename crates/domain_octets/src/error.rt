@@ -1,4 +1,4 @@
-//! Why octets were not appended, and want of memory.
+//! Why octets were not appended or not read, and want of memory.
 ghost use Rattle.std.specs.Prelude.{◌≡◌};
 ghost use Rattle.domain_octets.specs.declared.error.AppendError.TheVariants as append_error;
 
@@ -62,3 +62,23 @@ impl<T: Drop> From<AllocFailed<T>> for AppendError {
         AppendError::OutOfMemory
     }
 }
+
+/// Why octets were not read.
+#[derive(Clone, Copy, Debug, PartialEq, Eq)]
+pub enum ParseError {
+    /// The octets end too early.
+    ShortInput,
+    /// The octets are not of the form that is wanted.
+    Form(&'static str),
+}
+
+impl fmt::Display for ParseError {
+    fn fmt<W: fmt::Write>(&self, f: &mut fmt::Formatter<W>) -> fmt::Result {
+        match self {
+            ParseError::ShortInput => f.write_str("unexpected end of input"),
+            ParseError::Form(text) => f.write_str(text),
+        }
+    }
+}
+
+impl Error for ParseError {}

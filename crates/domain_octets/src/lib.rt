@@ -3,15 +3,20 @@
 
 mod array;
 mod builder;
+mod convert;
 mod error;
 mod impls;
 mod octets;
+mod parser;
+mod shared;
 #[cfg(test)]
 mod tests;
 
 pub use array::ArrayBuilder;
 pub use builder::{
-    EmptyBuilder, FreezeBuilder, FromBuilder, GrowingBuilder, OctetsBuilder, Truncate,
+    Composer, EmptyBuilder, FreezeBuilder, FromBuilder, GrowingBuilder, OctetsBuilder, Truncate,
 };
-pub use error::{AppendError, OutOfMemory};
+pub use convert::{EmptyOctets, FlattenInto, OctetsFrom};
+pub use error::{AppendError, OutOfMemory, ParseError};
 pub use octets::{Octets, TryClone};
+pub use parser::Parser;

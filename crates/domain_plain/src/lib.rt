@@ -7,6 +7,7 @@ mod mx;
 mod ns;
 mod record;
 mod record_data;
+pub mod scan_fields;
 mod soa;
 mod target;
 mod unknown;

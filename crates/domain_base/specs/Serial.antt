@@ -1,0 +1,15 @@
+-- serial numbers (RFC 1982)
+use Rattle.std.specs.Prelude.{ℕ, ◌+◌, ◌-◌, ◌%◌, ◌^◌, ◌==◌, nat_lt, if◌then◌else◌, Option, Some, None}
+use Rattle.std.specs.declared.cmp.Ordering.{Ordering}
+use Rattle.std.specs.declared.cmp.Ordering.TheVariants.{Less, Equal, Greater}
+
+-- how far the second number is ahead of the first
+abbrev pub serial_distance : ℕ → ℕ → ℕ
+serial_distance a b = (b + 2 ^ 32 - a) % 2 ^ 32
+
+-- ahead by less than half of all numbers is after; by just half is neither (RFC 1982, section 3.2)
+abbrev pub serial_cmp : ℕ → ℕ → Option Ordering
+serial_cmp a b =
+    let ahead = serial_distance a b in
+    if ahead == 0 then Some Equal
+    else (if nat_lt ahead (2 ^ 31) then Some Less else (if ahead == 2 ^ 31 then None else Some Greater))

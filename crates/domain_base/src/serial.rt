@@ -1,0 +1,120 @@
+//! Serial numbers.
+ghost use Rattle.std.specs.Prelude.{◌≡◌, ◌<◌, ◌+◌, ◌++◌, ◌↔◌, length, Some, IsNone, IsErr, IfOk, IfErr, OnOk, OnErr, IsErrOf};
+ghost use Rattle.std.specs.Fmt.{decimal};
+ghost use Rattle.std.specs.Int.{w32, to_be_bytes};
+ghost use Rattle.std.specs.Ordering.{nat_cmp};
+ghost use Rattle.std.specs.Str.Parse.{without_leading_plus};
+ghost use Rattle.domain_octets.specs.Limit.{IsOver};
+ghost use Rattle.domain_octets.specs.Place.{Takes};
+ghost use Rattle.domain_base.specs.Scan.{IsNumber, IsNoNumber, scan_fault_of};
+ghost use Rattle.domain_base.specs.Serial.{serial_cmp};
+ghost use Rattle.std.specs.Cmp.{nat_cmp_total};
+
+use crate::{CanonicalOrd, ParseError, ScanError};
+use domain_octets::{AppendError, Composer, Parser};
+use std::cmp::Ordering;
+use std::fmt;
+use std::marker::Model;
+
+/// A serial number: 32 bits, in a circle (RFC 1982).
+#[derive(Clone, Copy, Debug, PartialEq)]
+pub struct Serial(u32);
+
+impl Model for Serial {
+    ghost use Rattle.std.specs.Prelude.{ℕ};
+
+    ghost Value = { ℕ };
+
+    ghost view = { λ s. s.0 };
+
+    ghost inverse = { λ n. record { 0 = n } };
+}
+
+impl From<u32> for Serial {
+    ghost from_gives = { λ number serial. serial ≡ number };
+
+    fn from(number: u32) -> Serial {
+        Serial(number)
+    }
+}
+
+impl Serial {
+    /// How many octets it has on the wire.
+    pub const COMPOSE_LEN: u16 = 4;
+
+    /// The number.
+    pub const fn into_int(self) -> u32
+        ensures { result ≡ self }
+    {
+        self.0
+    }
+
+    /// The serial number that comes next, four octets. Refuses, with `ShortInput`, where fewer are left.
+    pub fn parse(parser: &mut Parser<'_>) -> Result<Serial, ParseError>
+        ensures ok { IfOk result (λ serial. Takes (to_be_bytes w32 serial) parser.old parser.new) }
+        ensures short { IsErr result ↔ (length parser.old.left < 4) }
+        ensures err { IfErr result (λ e. e ≡ ParseError.ShortInput) }
+        ensures unmoved { OnErr result (parser.new ≡ parser.old) }
+    {
+        Ok(Serial(parser.parse_u32()?))
+    }
+
+    /// Appends its four octets.
+    pub fn compose<B: Composer>(&self, target: &mut B) -> Result<(), AppendError>
+        ensures ok { OnOk result (B.octets target.new ≡ B.octets target.old ++ to_be_bytes w32 self.now) }
+        ensures err { OnErr result (B.octets target.new ≡ B.octets target.old) }
+        ensures short { IsErrOf result AppendError.ShortBuf ↔ IsOver B.limit (length (B.octets target.old) + 4) }
+        ensures memory { IsErrOf result AppendError.OutOfMemory → IsNone B.limit }
+    {
+        target.append_slice(&self.0.to_be_bytes())
+    }
+
+    /// The serial number of a text: decimal digits, with one plus sign before them or none. Refuses
+    /// every other text, and a number over 32 bits, as `Custom("decimal number expected")`.
+    pub fn from_str(text: &str) -> Result<Serial, ScanError>
+        ensures ok { IfOk result (IsNumber 32 (without_leading_plus text.now)) }
+        ensures err { IfErr result (λ e. IsNoNumber 32 (scan_fault_of e) (without_leading_plus text.now)) }
+    {
+        match text.parse::<u32>() {
+            Ok(number) => Ok(Serial(number)),
+            Err(_) => Err(ScanError::Custom("decimal number expected")),
+        }
+    }
+
+    /// The order of serial numbers: each is before the 2,147,483,647 that follow it in the circle. Two
+    /// that are just half of the circle apart have none (RFC 1982, section 3.2).
+    pub fn partial_cmp(&self, other: &Serial) -> Option<Ordering>
+        ensures { result ≡ serial_cmp self.now other.now }
+    {
+        let ahead = other.0.wrapping_sub(self.0);
+        if ahead == 0 {
+            Some(Ordering::Equal)
+        } else if ahead < 0x8000_0000 {
+            Some(Ordering::Less)
+        } else if ahead == 0x8000_0000 {
+            None
+        } else {
+            Some(Ordering::Greater)
+        }
+    }
+}
+
+/// The order of the plain numbers.
+impl CanonicalOrd for Serial {
+    ghost canonical_cmp = { nat_cmp };
+
+    ghost total = { nat_cmp_total };
+
+    fn canonical_cmp(&self, other: &Serial) -> Ordering {
+        self.0.cmp(&other.0)
+    }
+}
+
+/// The number in decimal digits.
+impl fmt::Display for Serial {
+    ghost output = { λ s. Some (decimal s) };
+
+    fn fmt<W: fmt::Write>(&self, f: &mut fmt::Formatter<W>) -> fmt::Result {
+        write!(f, "{}", self.0)
+    }
+}

@@ -1,0 +1,131 @@
+//! Octets that are read from the front.
+ghost use Rattle.std.specs.Prelude.{◌≡◌, ◌<◌, ◌≤◌, ◌+◌, ◌∷◌, ◌↔◌, [], length, drop, IsErr, IfOk, IfErr, OnErr};
+ghost use Rattle.std.specs.Int.{w16, w32, to_be_bytes};
+
+use crate::ParseError;
+use std::marker::Model;
+
+/// Octets of which some have been read: those of a message, or of a part of one.
+///
+/// A read that is refused leaves the parser where it stood.
+#[derive(Drop)]
+pub struct Parser<'a> {
+    left: &'a [u8],
+    pos: usize,
+}
+
+impl<'a> Model for Parser<'a> {
+    ghost use Rattle.domain_octets.specs.Place.{Place};
+    ghost use Rattle.std.specs.Prelude.{◌+◌, ◌<◌, ◌^◌, length};
+
+    ghost Value = { Place };
+
+    ghost view = { λ p. record { pos = p.pos; left = p.left.now } };
+
+    ghost invariant = { λ p. p.pos + length p.left.now < 2 ^ 64 };
+}
+
+impl<'a> Parser<'a> {
+    ghost use Rattle.domain_octets.specs.Place.{Takes};
+
+    /// A parser over these octets, none of which are read yet.
+    pub fn new(octets: &'a [u8]) -> Self
+        ensures { result ≡ record { pos = 0; left = octets.now } }
+    {
+        Parser {
+            left: octets,
+            pos: 0,
+        }
+    }
+
+    /// How many octets have been read.
+    pub fn pos(&self) -> usize
+        ensures { result ≡ self.now.pos }
+    {
+        self.pos
+    }
+
+    /// How many octets are left.
+    pub fn remaining(&self) -> usize
+        ensures { result ≡ length self.now.left }
+    {
+        self.left.len()
+    }
+
+    /// The octets that are left, which stay unread.
+    pub fn peek_all(&self) -> &'a [u8]
+        ensures { result.now ≡ self.now.left }
+    {
+        self.left
+    }
+
+    /// A parser that stands where this one does.
+    pub fn fork(&self) -> Parser<'a>
+        ensures { result ≡ self.now }
+    {
+        Parser {
+            left: self.left,
+            pos: self.pos,
+        }
+    }
+
+    /// Goes past so many octets.
+    pub fn advance(&mut self, count: usize)
+        requires { count ≤ length self.old.left }
+        ensures { self.new ≡ record { pos = self.old.pos + count; left = drop count self.old.left } }
+    {
+        self.left = &self.left[count..];
+        self.pos += count;
+    }
+
+    /// The next octets, so many. Refuses, with `ShortInput`, where fewer are left.
+    pub fn parse_octets(&mut self, count: usize) -> Result<&'a [u8], ParseError>
+        ensures ok { IfOk result (λ octets. Takes octets.now self.old self.new × (length octets.now ≡ count)) }
+        ensures short { IsErr result ↔ (length self.old.left < count) }
+        ensures err { IfErr result (λ e. e ≡ ParseError.ShortInput) }
+        ensures unmoved { OnErr result (self.new ≡ self.old) }
+    {
+        if count > self.left.len() {
+            return Err(ParseError::ShortInput);
+        }
+        let (octets, left) = self.left.split_at(count);
+        self.left = left;
+        self.pos += count;
+        Ok(octets)
+    }
+
+    /// A number of one octet. Refuses, with `ShortInput`, where no octet is left.
+    pub fn parse_u8(&mut self) -> Result<u8, ParseError>
+        ensures ok { IfOk result (λ n. Takes (n ∷ []) self.old self.new) }
+        ensures short { IsErr result ↔ (length self.old.left < 1) }
+        ensures err { IfErr result (λ e. e ≡ ParseError.ShortInput) }
+        ensures unmoved { OnErr result (self.new ≡ self.old) }
+    {
+        let octets = self.parse_octets(1)?;
+        Ok(octets[0])
+    }
+
+    /// A number of two octets, the first of which weighs most (RFC 1035, section 2.3.2). Refuses, with
+    /// `ShortInput`, where fewer are left.
+    pub fn parse_u16(&mut self) -> Result<u16, ParseError>
+        ensures ok { IfOk result (λ n. Takes (to_be_bytes w16 n) self.old self.new) }
+        ensures short { IsErr result ↔ (length self.old.left < 2) }
+        ensures err { IfErr result (λ e. e ≡ ParseError.ShortInput) }
+        ensures unmoved { OnErr result (self.new ≡ self.old) }
+    {
+        let octets = self.parse_octets(2)?;
+        Ok(u16::from_be_bytes([octets[0], octets[1]]))
+    }
+
+    /// A number of four octets, the first of which weighs most (RFC 1035, section 2.3.2). Refuses, with
+    /// `ShortInput`, where fewer are left.
+    pub fn parse_u32(&mut self) -> Result<u32, ParseError>
+        ensures ok { IfOk result (λ n. Takes (to_be_bytes w32 n) self.old self.new) }
+        ensures short { IsErr result ↔ (length self.old.left < 4) }
+        ensures err { IfErr result (λ e. e ≡ ParseError.ShortInput) }
+        ensures unmoved { OnErr result (self.new ≡ self.old) }
+    {
+        let octets = self.parse_octets(4)?;
+        Ok(u32::from_be_bytes([octets[0], octets[1], octets[2], octets[3]]))
+    }
+}
