@@ -34,10 +34,10 @@ abbrev pub TakesRun : {X : Type 0} → (X → X → Bool) → List X → Option 
 TakesRun same s r t = MatchOption r ((s ≡ []) × (t ≡ [])) (λ g. (s ≡ g ++ t) × (runs same s ≡ g ∷ runs same t))
 
 -- one run, by recursion
-abbrev pub RunR : {X : Type 0} → (X → X → Bool) → List X → Type 0
-RunR same [] = ⊥
-RunR same (x ∷ []) = Unit {0}
-RunR same (x ∷ y ∷ ys) = (same x y ≡ true) × RunR same (y ∷ ys)
+abbrev pub IsOneRun : {X : Type 0} → (X → X → Bool) → List X → Type 0
+IsOneRun same [] = ⊥
+IsOneRun same (x ∷ []) = Unit {0}
+IsOneRun same (x ∷ y ∷ ys) = (same x y ≡ true) × IsOneRun same (y ∷ ys)
 
 -- the last of a group (x, or the last of xs) and the first of the next differ
 abbrev pub EndsBefore : {X : Type 0} → (X → X → Bool) → List X → List X → Type 0
@@ -58,5 +58,5 @@ joined (g ∷ gs) = g ++ joined gs
 -- gs are the groups of xs
 pub record AreGroups {X : Type 0} (same : X → X → Bool) (xs : List X) (gs : List (List X)) : Type 0 where
   pub all : joined gs ≡ xs
-  pub each : AllByRecursion (RunR same) gs
+  pub each : AllByRecursion (IsOneRun same) gs
   pub apart : Apart same gs

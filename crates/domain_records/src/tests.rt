@@ -1,16 +1,17 @@
 //! Each call at concrete types, against answers worked out by hand.
-ghost use Rattle.std.specs.Prelude.{false};
+ghost use Rattle.std.specs.Prelude.{◌≡◌, false};
+ghost use Rattle.std.specs.Cmp.{tied_itself, nat_cmp_total};
 ghost use Rattle.std.specs.Ordering.{nat_cmp, on};
 ghost use Rattle.std.specs.Cmp.Rules.{comparing};
-ghost use Rattle.std.proofs.Common.{rules};
+ghost use Rattle.std.proofs.Common.{rules, ap, ◌∙◌};
 
 use crate::{
     InsertError, RecordsIter, Rrset, RrsetIter, SigningError, SliceRefsOrOwned, SortedRecords,
     Sorter,
 };
 use domain_base::{CanonicalOrd, Class, Name, Rtype, ToName, Ttl};
-use domain_octets::OutOfMemory;
-use domain_plain::{Record, RecordData};
+use domain_octets::{OutOfMemory, TryClone};
+use domain_plain::{CloneRecordData, Record, RecordData};
 use std::alloc::Global;
 use std::cmp::Ordering;
 use std::fmt;
@@ -40,6 +41,23 @@ impl CanonicalOrd for Number {
     fn canonical_cmp(&self, other: &Self) -> Ordering {
         self.number.cmp(&other.number)
     }
+}
+
+impl TryClone for Number {
+    ghost is_clone = { λ d copy. copy ≡ d };
+
+    fn try_clone(&self) -> Result<Self, OutOfMemory> {
+        Ok(Number {
+            rtype: self.rtype,
+            number: self.number,
+        })
+    }
+}
+
+impl CloneRecordData for Number {
+    ghost clone_rtype = { λ d copy same. ap (λ e. e.rtype) same };
+
+    ghost clone_canonical = { λ d copy same. ap (λ e. nat_cmp d.number e.number) same ∙ tied_itself nat_cmp_total d.number };
 }
 
 impl fmt::Display for Number {
@@ -397,5 +415,17 @@ fn keeps_what_is_stored_without_memory(rt: HostRuntime) -> Result<(), Fail> {
     if !refused {
         assert_eq!(rt; stored.map(|r| r.ttl()), Some(Ttl::from_secs(60)));
     }
+    Ok(())
+}
+
+#[test]
+fn copies_records(rt: HostRuntime) -> Result<(), Fail> {
+    let zone = two_ttls(rt.alloc())?;
+    let copy = zone.clone()?;
+    assert!(rt; has_numbers(copy.as_slice(), &[1, 2, 1]));
+    assert_eq!(rt;
+        copy.iter().next().map(|r| r.ttl()),
+        Some(Ttl::from_secs(60))
+    );
     Ok(())
 }
