@@ -13,10 +13,14 @@ unfoldable pub runs : {X : Type 0} → (X → X → Bool) → List X → List (L
 runs same [] = []
 runs same (x ∷ xs) = add_to same x (runs same xs)
 
+-- neighbours are the same
+abbrev pub HoldsOfNeighbours : {X : Type 0} → (X → X → Bool) → List X → Type 0
+HoldsOfNeighbours {X} same xs = (k : ℕ) (d : X) → k + 1 < length xs → same (slice_index_or xs k d) (slice_index_or xs (k + 1) d) ≡ true
+
 -- one run: at least one element, and neighbours are the same
 pub record IsRun {X : Type 0} (same : X → X → Bool) (xs : List X) : Type 0 where
   pub some : 0 < length xs
-  pub alike : (k : ℕ) (d : X) → k + 1 < length xs → same (slice_index_or xs k d) (slice_index_or xs (k + 1) d) ≡ true
+  pub alike : HoldsOfNeighbours same xs
 
 -- the first n elements of xs are its first maximal run
 pub record IsFirstRun {X : Type 0} (same : X → X → Bool) (xs : List X) (n : ℕ) : Type 0 where
@@ -24,10 +28,6 @@ pub record IsFirstRun {X : Type 0} (same : X → X → Bool) (xs : List X) (n : 
   pub within : n ≤ length xs
   pub alike : (k : ℕ) (d : X) → k + 1 < n → same (slice_index_or xs k d) (slice_index_or xs (k + 1) d) ≡ true
   pub ends : (k : ℕ) (d : X) → k + 1 ≡ n → n < length xs → same (slice_index_or xs k d) (slice_index_or xs n d) ≡ false
-
--- neighbours are the same
-abbrev pub HoldsOfNeighbours : {X : Type 0} → (X → X → Bool) → List X → Type 0
-HoldsOfNeighbours {X} same xs = (k : ℕ) (d : X) → k + 1 < length xs → same (slice_index_or xs k d) (slice_index_or xs (k + 1) d) ≡ true
 
 -- a call that hands out the first of the runs of s, and leaves t
 abbrev pub TakesRun : {X : Type 0} → (X → X → Bool) → List X → Option (List X) → List X → Type 0

@@ -6,8 +6,8 @@ ghost use Rattle.std.specs.Cmp.Rules.{comparing};
 ghost use Rattle.std.proofs.Common.{rules, ap, ◌∙◌};
 
 use crate::{
-    InsertError, RecordsIter, Rrset, RrsetIter, SigningError, SliceRefsOrOwned, SortedRecords,
-    Sorter,
+    InsertError, Nsec3HashError, RecordsIter, Rrset, RrsetIter, SigningError, SliceRefsOrOwned,
+    SortedRecords, Sorter,
 };
 use domain_base::{CanonicalOrd, Class, Name, Rtype, ToName, Ttl};
 use domain_octets::{OutOfMemory, TryClone};
@@ -428,4 +428,21 @@ fn copies_records(rt: HostRuntime) -> Result<(), Fail> {
         Some(Ttl::from_secs(60))
     );
     Ok(())
+}
+
+#[test]
+fn turns_errors(rt: HostRuntime) {
+    let refused = Nsec3HashError::Hasher(7);
+    assert_eq!(rt;
+        SigningError::from(refused),
+        SigningError::Nsec3HashingError(refused)
+    );
+    assert_eq!(rt;
+        SigningError::from(Nsec3HashError::OutOfMemory),
+        SigningError::OutOfMemory
+    );
+    assert_eq!(rt;
+        Nsec3HashError::from(OutOfMemory),
+        Nsec3HashError::OutOfMemory
+    );
 }
