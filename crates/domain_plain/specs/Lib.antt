@@ -7,3 +7,4 @@ pub mod Plain
 pub mod Scan
 pub mod RecordLends
 pub mod RecordText
+pub mod RecordClone

@@ -1,3 +1,4 @@
+pub mod Clones
 pub mod Firsts
 pub mod FoundGroups
 pub mod Lookups

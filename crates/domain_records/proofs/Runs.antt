@@ -2,7 +2,7 @@
 use Rattle.std.proofs.Common.{◌≡◌, ℕ, ◌+◌, ◌<◌, ◌≤◌, eqb, IsTrue, zero, suc, Bool, true, false, cond, List, [], ◌∷◌, ◌++◌, length, get_or, take, drop, refl, sym, ◌∙◌, ap, arith, add-one, append-nil}
 use Rattle.std.proofs.lemmas.Bool.{eqb-true, eq-eqb}
 use Rattle.std.specs.List.{AllByRecursion}
-use Rattle.domain_records.specs.Runs.{AreGroups, RunR, Apart, joined, add_to, runs, IsFirstRun, HoldsOfNeighbours}
+use Rattle.domain_records.specs.Runs.{AreGroups, IsOneRun, Apart, joined, add_to, runs, IsFirstRun, HoldsOfNeighbours}
 
 module _ {X : Type 0} (same : X → X → Bool) where
   -- the first run of some elements begins with the first of them
@@ -64,11 +64,11 @@ module _ {X : Type 0} (same : X → X → Bool) where
   joined_add x ([] ∷ gs) = refl
   joined_add x ((y ∷ ys) ∷ gs) = join_step x y ys gs (same x y)
 
-  each_step : (x y : X) (ys : List X) (gs : List (List X)) (b : Bool) → same x y ≡ b → AllByRecursion (RunR same) ((y ∷ ys) ∷ gs) → AllByRecursion (RunR same) (cond b ((x ∷ y ∷ ys) ∷ gs) ((x ∷ []) ∷ (y ∷ ys) ∷ gs))
+  each_step : (x y : X) (ys : List X) (gs : List (List X)) (b : Bool) → same x y ≡ b → AllByRecursion (IsOneRun same) ((y ∷ ys) ∷ gs) → AllByRecursion (IsOneRun same) (cond b ((x ∷ y ∷ ys) ∷ gs) ((x ∷ []) ∷ (y ∷ ys) ∷ gs))
   each_step x y ys gs true e h = ((e, h.0), h.1)
   each_step x y ys gs false e h = (tt, h)
 
-  each_add : (x : X) (gs : List (List X)) → AllByRecursion (RunR same) gs → AllByRecursion (RunR same) (add_to same x gs)
+  each_add : (x : X) (gs : List (List X)) → AllByRecursion (IsOneRun same) gs → AllByRecursion (IsOneRun same) (add_to same x gs)
   each_add x [] h = (tt, tt)
   each_add x ([] ∷ gs) h = absurd h.0
   each_add x ((y ∷ ys) ∷ gs) h = each_step x y ys gs (same x y) refl h
@@ -81,7 +81,7 @@ module _ {X : Type 0} (same : X → X → Bool) where
   apart_step x y ys gs true e h = longer x y ys gs h
   apart_step x y ys gs false e h = (e, h)
 
-  apart_add : (x : X) (gs : List (List X)) → AllByRecursion (RunR same) gs → Apart same gs → Apart same (add_to same x gs)
+  apart_add : (x : X) (gs : List (List X)) → AllByRecursion (IsOneRun same) gs → Apart same gs → Apart same (add_to same x gs)
   apart_add x [] r h = tt
   apart_add x ([] ∷ gs) r h = absurd r.0
   apart_add x ((y ∷ ys) ∷ gs) r h = apart_step x y ys gs (same x y) refl h

@@ -1,4 +1,5 @@
 pub mod Edits
+pub mod Errors
 pub mod Groups
 pub mod Lookup
 pub mod Order

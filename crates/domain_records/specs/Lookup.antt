@@ -25,7 +25,7 @@ abbrev pub IsFirstPlace : {X : Type 0} → (X → Bool) → List X → Option �
 IsFirstPlace {X} p xs None = (k : ℕ) (d : X) → k < length xs → p (slice_index_or xs k d) ≡ false
 IsFirstPlace {X} p xs (Some i) = (i < length xs) × ((d : X) → p (slice_index_or xs i d) ≡ true) × ((k : ℕ) (d : X) → k < i → p (slice_index_or xs k d) ≡ false)
 
--- what a search compares: class, owner, and the type where one is asked
+-- what a look-up compares: class, owner, and the type where one is asked
 pub record Key : Type 0 where
   pub class : ℕ
   pub owner : List (List ℕ)

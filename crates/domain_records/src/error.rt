@@ -2,6 +2,7 @@
 ghost use Rattle.std.specs.Prelude.{◌≡◌};
 ghost use Rattle.domain_records.specs.declared.error.SigningError.TheVariants as signing_error;
 ghost use Rattle.domain_records.specs.declared.error.Nsec3HashError.TheVariants as nsec3_hash_error;
+ghost use Rattle.domain_records.specs.Errors.{signing_error_of};
 
 use domain_octets::OutOfMemory;
 use domain_plain::Record;
@@ -61,6 +62,18 @@ pub enum SigningError {
     Nsec3HashingError(Nsec3HashError),
     /// There was no memory.
     OutOfMemory,
+}
+
+/// Want of memory stays what it is; every other refusal is one of hashing.
+impl From<Nsec3HashError> for SigningError {
+    ghost from_gives = { λ h e. e ≡ signing_error_of h };
+
+    fn from(error: Nsec3HashError) -> SigningError {
+        match error {
+            Nsec3HashError::OutOfMemory => SigningError::OutOfMemory,
+            other => SigningError::Nsec3HashingError(other),
+        }
+    }
 }
 
 impl From<OutOfMemory> for SigningError {

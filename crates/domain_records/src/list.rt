@@ -1,6 +1,6 @@
 //! Lists as sorted sets.
 ghost use Rattle.std.specs.Prelude.{◌≡◌, ◌++◌, List, IfOk, IfErr, OnOk, OnErr};
-ghost use Rattle.std.specs.List.{dedup};
+ghost use Rattle.std.specs.List.{AllZip, dedup};
 ghost use Rattle.std.specs.List.Sorted.{IsStrictlySortedBy};
 ghost use Rattle.std.specs.Ordering.{eq_by_cmp};
 ghost use Rattle.std.specs.Iterator.{IsFiniteIterable};
@@ -9,7 +9,8 @@ ghost use Rattle.domain_records.specs.SortedSet.{IsAt, IsGapFor, IsUnion};
 
 use crate::sorter::Sorter;
 use domain_base::CanonicalOrd;
-use domain_octets::OutOfMemory;
+use domain_octets::{OutOfMemory, TryClone};
+use std::alloc::Global;
 
 /// Keeps the first of each run of equal elements.
 pub(crate) fn dedup_equal<T: CanonicalOrd + Drop>(items: &mut Vec<T>)
@@ -69,4 +70,18 @@ pub(crate) fn first_match<T, F: Fn(&T) -> bool>(items: &[T], test: &F) -> Option
         }
     }
     None
+}
+
+/// Copies of the items, in the same order.
+pub(crate) fn clone_all<T: TryClone + Drop>(
+    items: &[T],
+    alloc: Global,
+) -> Result<Vec<T>, OutOfMemory>
+    ensures { IfOk result (λ copies. AllZip T.is_clone items.now copies.items) }
+{
+    let mut copies = Vec::with_capacity(alloc, items.len())?;
+    for item in items {
+        copies.push(item.try_clone()?)?;
+    }
+    Ok(copies)
 }

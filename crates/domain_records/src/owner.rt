@@ -1,12 +1,11 @@
 //! The records of one owner after another.
 ghost use Rattle.std.specs.Prelude.{◌≡◌, ◌≤◌, ◌<◌, ◌↔◌, [], length, map, drop, Any, IsTrue};
-ghost use Rattle.std.specs.List.{AllByRecursion};
 ghost use Rattle.std.specs.Iterator.{item_count};
-ghost use Rattle.domain_base.specs.Name.{IsSame, IsAtOrBelow};
+ghost use Rattle.domain_base.specs.Name.{IsAtOrBelow};
 ghost use Rattle.domain_records.specs.Slices.{items_of};
 ghost use Rattle.domain_records.specs.Groups.{same_owner, HasFirst, SkipsTo, IsZoneCut};
 ghost use Rattle.domain_records.specs.Order.{IsOneClass, IsInOrder};
-ghost use Rattle.domain_records.specs.Runs.{runs, AreGroups, TakesRun};
+ghost use Rattle.domain_records.specs.Runs.{TakesRun};
 
 use crate::group::{ByClass, ByOwner, InOrder, first_run, is_one_run};
 use crate::rrset::OwnerRrsIter;
@@ -37,7 +36,7 @@ impl<'a, N: ToName, D> Model for OwnerRrs<'a, N, D> {
 }
 
 impl<'a, N: ToName, D> OwnerRrs<'a, N, D> {
-    /// The owner, as its first record spells it.
+    /// The owner, as the first record spells it. The owners of the others differ from it in the case of letters at most.
     pub fn owner(&self) -> &'a N
         ensures { HasFirst (λ r. r.owner ≡ result.now) self.now }
     {

@@ -1,12 +1,13 @@
 //! Sorted records.
 ghost use Rattle.std.specs.Prelude.{◌≡◌, ◌↔◌, ◌==◌, ◌++◌, ℕ, [], List, length, not, filter, find, Option, IsTrue, IfOk, IfErr, OnOk, OnErr, IsErrOf};
-ghost use Rattle.std.specs.List.{list_any};
+ghost use Rattle.std.specs.List.{AllZip, list_any};
 ghost use Rattle.std.specs.Fmt.{WritesText};
 ghost use Rattle.domain_records.specs.Text.{texts, soa_first, WritesWithComments};
 ghost use Rattle.std.specs.Slice.Iter.{iter_rest};
 ghost use Rattle.std.specs.Iterator.{IsFiniteIterable};
 ghost use Rattle.std.specs.List.Sorted.{IsStrictlySortedBy};
 ghost use Rattle.domain_plain.specs.Record.{record_cmp};
+ghost use Rattle.domain_plain.specs.RecordClone.{IsRecordClone};
 ghost use Rattle.domain_records.specs.Edits.{Gives, refused, without_first, IsFirstMatch, Updates};
 ghost use Rattle.domain_records.specs.Lookup.{matches};
 ghost use Rattle.domain_records.specs.Groups.{same_rrset};
@@ -16,7 +17,7 @@ ghost use Rattle.domain_records.specs.Order.{IsOneClass, IsInOrder};
 ghost use Rattle.domain_records.specs.SortedSet.{IsUnion, Adds, Holds};
 
 use crate::error::{InsertError, SigningError};
-use crate::list::{append, first_match, search, sort_and_dedup};
+use crate::list::{append, clone_all, first_match, search, sort_and_dedup};
 use crate::lookup::{Wanted, first_of_type, first_place, is_wanted, rrset_at};
 use crate::owner::RecordsIter;
 use crate::rrset::{Rrset, RrsetIter};
@@ -24,7 +25,7 @@ use crate::sorter::{DefaultSorter, Sorter};
 use crate::write::{SoaRecords, write_part, write_part_with_comments};
 use domain_base::{CanonicalOrd, Class, Rtype, ToName};
 use domain_octets::OutOfMemory;
-use domain_plain::{Record, RecordData};
+use domain_plain::{CloneName, CloneRecordData, Record, RecordData};
 use std::alloc::Global;
 use std::marker::{Model, PhantomData};
 use std::{fmt, slice};
@@ -326,6 +327,24 @@ impl<N: ToName, D: RecordData + CanonicalOrd, Sort: Sorter> SortedRecords<N, D, 
     {
         let SortedRecords { records, sorter: _ } = self;
         records
+    }
+
+    /// Copies of the records, in the same order. Uses the allocator of the records.
+    ///
+    /// # Errors
+    ///
+    /// `OutOfMemory` where there was no memory.
+    pub fn clone(&self) -> Result<Self, OutOfMemory>
+    where
+        N: CloneName + Drop,
+        D: CloneRecordData + Drop,
+        ensures { IfOk result (AllZip (IsRecordClone N.is_clone D.is_clone) self.now) }
+    {
+        let records = clone_all(self.as_slice(), *self.records.allocator())?;
+        Ok(SortedRecords {
+            records,
+            sorter: PhantomData,
+        })
     }
 
     /// Writes the SOA records and then the others, each in order, with nothing between them.

@@ -1,0 +1,38 @@
+//! Copies of records.
+ghost use Rattle.std.specs.Prelude.{◌≡◌, ℕ, List};
+ghost use Rattle.std.specs.declared.cmp.Ordering.TheVariants.{Equal};
+ghost use Rattle.domain_plain.specs.RecordClone.{IsRecordClone};
+
+use crate::{Record, RecordData};
+use domain_base::{CanonicalOrd, Name, ToName};
+use domain_octets::{Octets, OutOfMemory, TryClone};
+
+/// A name whose copies are spelled alike.
+pub trait CloneName: ToName + TryClone {
+    /// A copy has the same labels.
+    ghost clone_labels: { (name copy : Self) → Self.is_clone name copy → Self.labels copy ≡ Self.labels name };
+}
+
+impl<O: Octets> CloneName for Name<O> {
+    ghost clone_labels = { λ name copy same. same };
+}
+
+/// Data whose copies are of the same type and equal under the canonical order.
+pub trait CloneRecordData: RecordData + CanonicalOrd + TryClone {
+    /// A copy is of the same type.
+    ghost clone_rtype: { (value copy : Self) → Self.is_clone value copy → Self.rtype copy ≡ Self.rtype value };
+
+    /// A copy is equal under the canonical order.
+    ghost clone_canonical: { (value copy : Self) → Self.is_clone value copy → Self.canonical_cmp value copy ≡ Equal };
+}
+
+// The owner and the data are copies, and the class and the TTL are the same.
+impl<N: TryClone + Drop, D: TryClone> TryClone for Record<N, D> {
+    ghost is_clone = { IsRecordClone N.is_clone D.is_clone };
+
+    fn try_clone(&self) -> Result<Self, OutOfMemory> {
+        let owner = self.owner().try_clone()?;
+        let data = self.data().try_clone()?;
+        Ok(Record::new(owner, self.class(), self.ttl(), data))
+    }
+}

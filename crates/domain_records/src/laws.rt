@@ -1,0 +1,27 @@
+//! What holds of groups.
+ghost use Rattle.std.specs.Prelude.{List};
+ghost use Rattle.domain_plain.specs.declared.record.Record.{Record};
+ghost use Rattle.domain_records.specs.Groups.{same_owner, same_type, same_rrset};
+ghost use Rattle.domain_records.specs.Runs.{AreGroups, runs};
+
+use domain_base::ToName;
+use domain_plain::RecordData;
+
+/// The groups of records of one owner joined are the list; in each the neighbours share their owner; and where one ends
+/// and the next begins the owners differ.
+pub fn owner_groups_are_maximal_runs<N: ToName, D>()
+    ensures { (records : List (Record N D))
+        → AreGroups (same_owner N.labels) records (runs (same_owner N.labels) records) }
+{}
+
+/// The same of the groups of records of one type.
+pub fn type_groups_are_maximal_runs<N, D: RecordData>()
+    ensures { (records : List (Record N D))
+        → AreGroups (same_type D.rtype) records (runs (same_type D.rtype) records) }
+{}
+
+/// The same of the groups of records of one owner and one type.
+pub fn rrset_groups_are_maximal_runs<N: ToName, D: RecordData>()
+    ensures { (records : List (Record N D))
+        → AreGroups (same_rrset N.labels D.rtype) records (runs (same_rrset N.labels D.rtype) records) }
+{}
