@@ -1,1 +1,2 @@
 pub mod ArrayLemmas
+pub mod CodecLemmas
