@@ -2,15 +2,16 @@
 use Rattle.std.proofs.Common.{◌≡◌, ℕ, ◌+◌, ◌-◌, ◌*◌, ◌/◌, ◌%◌, ◌<◌, ◌≤◌, Bool, true, false, List, [], ◌∷◌, ◌++◌, Some, None, Ok, Err, length, get_or, take, drop, map, refl, sym, ap, subst, ◌∙◌, arith, ◌⊎◌, inl, inr}
 use Rattle.std.specs.Prelude.{Option, All, nat_le, unwrap_or}
 use Rattle.std.specs.List.{AllPass}
-use Rattle.std.proofs.lemmas.List.{drop_more, append_assoc, append-nil, drop_all}
+use Rattle.std.proofs.lemmas.List.{take_more, drop_more, append_assoc, append-nil, drop_all}
 use Rattle.std.proofs.lemmas.Bool.{cases_eq}
 use Rattle.std.proofs.lemmas.Bool.Decides.{nat_tests}
 use Rattle.std.proofs.Common.{lit<, lit≤}
-use Rattle.hex.specs.Hex.{decode_of}
+use Rattle.hex.specs.Hex.{decode_of, encode_with}
 use Rattle.hex.specs.declared.error.FromHexError.{FromHexError}
 use Rattle.hex.specs.declared.error.FromHexError.TheVariants as hex_error
 use Rattle.hex.proofs.HexLemmas.{decode_of-err, decode_of-odd}
 use Rattle.domain_octets.specs.declared.codec.Codec.TheVariants.{Base16, Base32Hex, Base64}
+use Rattle.domain_octets.specs.Scale.{IsScale, no_bits, one_bit, two_bits, three_bits, four_bits, five_bits, six_bits, seven_bits}
 use Rattle.domain_octets.specs.Codec.{base32_value, base32_octets, base32_digits, is_digit, IsFirstOther}
 
 pub base16_char : (text : List ℕ) (c i : ℕ) → decode_of text ≡ Err (hex_error.InvalidHexCharacter c i) → (length text % 2 ≡ 0) × IsFirstOther Base16 text c
@@ -41,17 +42,6 @@ base16_sized text refused =
       | inl odd ↦ let e = odd.1 in cc
       | inr found ↦ let e = found.1 in cc
     ]
-
--- how many values the bits can have that are left over between two octets of Base 32
-pub data IsScale : ℕ → Type 0 where
-  no_bits : IsScale 1
-  one_bit : IsScale 2
-  two_bits : IsScale 4
-  three_bits : IsScale 8
-  four_bits : IsScale 16
-  five_bits : IsScale 32
-  six_bits : IsScale 64
-  seven_bits : IsScale 128
 
 -- what a digit of five bits makes of it
 pub record Widens (scale : ℕ) : Type 0 where
@@ -120,3 +110,16 @@ refused_for text found said same which other =
 pub digits_end : (text octets : List ℕ) (scale rest at : ℕ) → length text ≤ at → Digits text octets scale rest at → octets ≡ base32_octets 1 0 (base32_digits text)
 unfolding base32_octets
 digits_end text octets scale rest at done so_far = sym (append-nil octets) ∙ rw (drop_all at text done) at so_far.read
+
+-- one octet more in Base 16
+encode_push : (table xs : List ℕ) (x : ℕ) → encode_with table (xs ++ x ∷ []) ≡ encode_with table xs ++ (get_or table (x / 16) 0 ∷ get_or table (x % 16) 0 ∷ [])
+unfolding encode_with
+encode_push table [] x = refl
+encode_push table (y ∷ ys) x = ap (λ l. get_or table (y / 16) 0 ∷ get_or table (y % 16) 0 ∷ l) (encode_push table ys x)
+
+pub encode_more : (table octets : List ℕ) (i : ℕ) → i < length octets → encode_with table (take (i + 1) octets) ≡ encode_with table (take i octets) ++ (get_or table (get_or octets i 0 / 16) 0 ∷ get_or table (get_or octets i 0 % 16) 0 ∷ [])
+encode_more table octets i inside = ap (encode_with table) (take_more octets i 0 inside) ∙ encode_push table (take i octets) (get_or octets i 0)
+
+pub encode_none : (table : List ℕ) → encode_with table [] ≡ []
+unfolding encode_with
+encode_none table = refl

@@ -2,6 +2,9 @@
 #![tactic(auto)]
 
 mod array;
+pub mod base16;
+pub mod base32;
+pub mod base64_standard;
 mod builder;
 mod codec;
 mod convert;

@@ -28,9 +28,9 @@ loop-c-preserved c =
     let small : digit_at text at < 32 = rw (← digit) c.digit_value.ensures.small in
     elim c.if-wider-lt256.branch [
       | then-wider-lt256 w ↦
-        rw (w.octets-is, w.scale-is, w.rest-is, digit) (digits_narrow text c.loop-c.octets.items c.loop-c.scale c.loop-c.rest at c.loop-c-test.true small c.loop-c.invariant w.if-wider-lt256.true)
+          rw (w.octets-is, w.scale-is, w.rest-is, digit) (digits_narrow text c.loop-c.octets.items c.loop-c.scale c.loop-c.rest at c.loop-c-test.true small c.loop-c.invariant w.if-wider-lt256.true)
       | else-wider-lt256+in_ok-push w ↦
-        rw (w.octets-is, w.scale-is, w.rest-is, w.in_ok-push.ensures.items, digit) (digits_wide text c.loop-c.octets.items c.loop-c.scale c.loop-c.rest at c.loop-c-test.true small c.loop-c.invariant w.if-wider-lt256.false)
+          rw (w.octets-is, w.scale-is, w.rest-is, w.in_ok-push.ensures.items, digit) (digits_wide text c.loop-c.octets.items c.loop-c.scale c.loop-c.rest at c.loop-c-test.true small c.loop-c.invariant w.if-wider-lt256.false)
     ]
 
 pub returns : goal.returns
