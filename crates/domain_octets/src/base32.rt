@@ -24,6 +24,7 @@ where
 }
 
 /// The digits of octets that are left, each a number below 32.
+#[derive(Drop)]
 struct Digits<'a> {
     octets: &'a [u8],
     scale: u32,
@@ -79,4 +80,64 @@ impl<'a> Digits<'a> {
         self.rest = value % (wide / 32);
         Some((value / (wide / 32)) as u8)
     }
+}
+
+fn lower_digit(value: u8) -> u8
+    requires { value < 32 }
+    ensures value { result ≡ lower_digit value }
+    ensures ascii { result < 128 }
+{
+    if value < 10 {
+        b'0' + value
+    } else {
+        b'a' + (value - 10)
+    }
+}
+
+fn upper_digit(value: u8) -> u8
+    requires { value < 32 }
+    ensures value { result ≡ upper_digit value }
+    ensures ascii { result < 128 }
+{
+    if value < 10 {
+        b'0' + value
+    } else {
+        b'A' + (value - 10)
+    }
+}
+
+/// The text of octets in lower case, as octets: what the first label of an NSEC3 owner holds (RFC 5155,
+/// section 3).
+pub fn encode_hex_lower(alloc: Global, octets: &[u8]) -> Result<Vec<u8>, OutOfMemory>
+    ensures { IfOk result (λ text. text.items ≡ base32_lower octets.now) }
+{
+    let mut text = Vec::with_capacity(alloc, octets.len() / 5 * 8 + 8)?;
+    let mut digits = Digits::new(octets);
+    while let Some(digit) = digits.next() {
+        text.push(lower_digit(digit))?;
+    }
+    Ok(text)
+}
+
+/// The text of octets, in upper case.
+pub fn encode_string(alloc: Global, octets: &[u8]) -> Result<String, OutOfMemory>
+    ensures { IfOk result (λ text. string_bytes text ≡ base32_upper octets.now) }
+{
+    let mut text = String::new(alloc);
+    let mut digits = Digits::new(octets);
+    while let Some(digit) = digits.next() {
+        text.push(char::from(upper_digit(digit)))?;
+    }
+    Ok(text)
+}
+
+/// Writes the text of octets, in upper case.
+pub fn display<W: fmt::Write>(octets: &[u8], f: &mut fmt::Formatter<W>) -> fmt::Result
+    ensures { WritesOnOk W.write_str_gives f.old result (base32_upper octets.now) f.new }
+{
+    let mut digits = Digits::new(octets);
+    while let Some(digit) = digits.next() {
+        write!(f, "{}", char::from(upper_digit(digit)))?;
+    }
+    Ok(())
 }
