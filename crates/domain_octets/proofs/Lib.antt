@@ -1,3 +1,4 @@
 pub mod ArrayLemmas
 pub mod CodecLemmas
 pub mod Base32Lemmas
+pub mod RefusalLemmas
