@@ -10,9 +10,11 @@ mod codec;
 mod convert;
 mod decoding;
 mod error;
+mod formatter;
 mod impls;
 mod octets;
 mod parser;
+mod pieces;
 mod shared;
 #[cfg(test)]
 mod tests;
@@ -24,5 +26,7 @@ pub use builder::{
 pub use codec::{Codec, DecodeError};
 pub use convert::{EmptyOctets, FlattenInto, OctetsFrom};
 pub use error::{AppendError, OutOfMemory, ParseError};
+pub use formatter::{Formatter, PieceFormatter};
 pub use octets::{Octets, TryClone};
 pub use parser::Parser;
+pub use pieces::Piece;
