@@ -2,3 +2,4 @@ pub mod ArrayLemmas
 pub mod CodecLemmas
 pub mod Base32Lemmas
 pub mod RefusalLemmas
+pub mod PieceLemmas

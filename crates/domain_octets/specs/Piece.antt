@@ -1,5 +1,5 @@
 -- the pieces of a zone file's text
-use Rattle.std.specs.Prelude.{ℕ, List, [], ◌∷◌, map, string_bytes}
+use Rattle.std.specs.Prelude.{ℕ, Bool, true, false, List, [], ◌∷◌, ◌++◌, map, string_bytes}
 use Rattle.std.specs.List.{join_with_byte}
 use Rattle.domain_octets.specs.declared.pieces.Piece.{Piece}
 use Rattle.domain_octets.specs.declared.pieces.Piece.TheVariants.{Token, Comment, Open, Close}
@@ -27,3 +27,8 @@ tokens_of (closes ∷ pieces) = tokens_of pieces
 -- the tokens with one space between them
 abbrev pub simple_text : List PieceText → List ℕ
 simple_text pieces = join_with_byte 32 (tokens_of pieces)
+
+-- a line with one token more
+abbrev pub line_with : Bool → List ℕ → List ℕ → List ℕ
+line_with true line text = line ++ text
+line_with false line text = (line ++ 32 ∷ []) ++ text

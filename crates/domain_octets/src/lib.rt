@@ -18,6 +18,7 @@ mod pieces;
 mod shared;
 #[cfg(test)]
 mod tests;
+mod zonefile;
 
 pub use array::ArrayBuilder;
 pub use builder::{
@@ -30,3 +31,4 @@ pub use formatter::{Formatter, PieceFormatter};
 pub use octets::{Octets, TryClone};
 pub use parser::Parser;
 pub use pieces::Piece;
+pub use zonefile::{DisplayKind, ZonefileFmt};
