@@ -11,6 +11,7 @@ mod convert;
 mod decoding;
 mod error;
 mod formatter;
+pub mod laws;
 mod impls;
 mod octets;
 mod parser;
