@@ -11,7 +11,9 @@ use Rattle.std.proofs.lemmas.Bool.{cases_eq, cases_lt}
 use Rattle.std.proofs.Math.Nat.{mul-le-mul_left}
 use Rattle.std.proofs.lemmas.List.Elements.{All-head, All-tail}
 use Rattle.domain_octets.specs.Scale.{IsScale, no_bits, one_bit, two_bits, three_bits, four_bits, five_bits, six_bits, seven_bits}
-use Rattle.domain_octets.specs.Base32.{base32_from, digits_left}
+use Rattle.domain_octets.specs.Base32.{base32_from, digits_left, lower_digit, upper_digit, base32_lower, base32_upper}
+use Rattle.std.specs.FinMap.{nat_cmp-IsAntisymmetric, slice_cmp-IsAntisymmetric}
+use Rattle.std.proofs.lemmas.Bool.Decides.{nat_tests}
 use Rattle.domain_octets.proofs.Base32Lemmas.{TakesDigit, held_digit, held_left, pulled_digit, pulled_left, last_left, none_left}
 
 less : (a b : ℕ) → a < b → nat_cmp a b ≡ Less
@@ -125,16 +127,16 @@ ends_first scale rest y ys scale_is narrow below small =
           rw (last_left scale rest scale_is narrow other, pulled_left scale rest y ys scale_is narrow)
           (digits_less ((32 / scale) * rest) ((256 * rest + y) / (256 * scale / 32)) [] (digits_left (256 * scale / 32) ((256 * rest + y) % (256 * scale / 32)) ys) (low_digit scale rest y scale_is narrow) (λ same. nothing_first _ more))
     ]
-    where
-      low_digit : (k r x : ℕ) → IsScale k → k < 32 → (32 / k) * r ≤ (256 * r + x) / (256 * k / 32)
-      low_digit k r x no_bits n = omega arith
-      low_digit k r x one_bit n = omega arith
-      low_digit k r x two_bits n = omega arith
-      low_digit k r x three_bits n = omega arith
-      low_digit k r x four_bits n = omega arith
-      low_digit k r x five_bits n = absurd (omega arith)
-      low_digit k r x six_bits n = absurd (omega arith)
-      low_digit k r x seven_bits n = absurd (omega arith)
+  where
+    low_digit : (k r x : ℕ) → IsScale k → k < 32 → (32 / k) * r ≤ (256 * r + x) / (256 * k / 32)
+    low_digit k r x no_bits n = omega arith
+    low_digit k r x one_bit n = omega arith
+    low_digit k r x two_bits n = omega arith
+    low_digit k r x three_bits n = omega arith
+    low_digit k r x four_bits n = omega arith
+    low_digit k r x five_bits n = absurd (omega arith)
+    low_digit k r x six_bits n = absurd (omega arith)
+    low_digit k r x seven_bits n = absurd (omega arith)
 
 -- a lower octet comes first
 lower_first : (scale rest x y : ℕ) (xs ys : List ℕ) → IsScale scale → scale < 32 → rest < scale → AreOctets (x ∷ xs) → AreOctets (y ∷ ys) → x < y → slice_cmp nat_cmp (digits_left scale rest (x ∷ xs)) (digits_left scale rest (y ∷ ys)) ≡ Less
@@ -146,12 +148,12 @@ lower_first scale rest x y xs ys scale_is narrow below xs_small ys_small lower =
     rw (pulled_left scale rest x xs scale_is narrow, pulled_left scale rest y ys scale_is narrow)
     (digits_less (v / low) (w / low) (digits_left low (v % low) xs) (digits_left low (w % low) ys) (quotients v w low t.some (omega arith))
     (λ same. below_any low (v % low) (w % low) xs ys t.scale_is (All-tail (λ octet. octet < 256) x xs xs_small) (All-tail (λ octet. octet < 256) y ys ys_small) (remainders v w low t.some (omega arith) same) t.below))
-    where
-      quotients : (a b k : ℕ) → 0 < k → a < b → a / k ≤ b / k
-      quotients a b k some lt = elim (cases_lt (b / k) (a / k)) [ inl more ↦ absurd (let e : k * (b / k + 1) ≤ k * (a / k) = mul-le-mul_left k (omega arith) in omega (arith, e)) | inr upto ↦ upto ]
+  where
+    quotients : (a b k : ℕ) → 0 < k → a < b → a / k ≤ b / k
+    quotients a b k some lt = elim (cases_lt (b / k) (a / k)) [ inl more ↦ absurd (let e : k * (b / k + 1) ≤ k * (a / k) = mul-le-mul_left k (omega arith) in omega (arith, e)) | inr upto ↦ upto ]
 
-      remainders : (a b k : ℕ) → 0 < k → a < b → a / k ≡ b / k → a % k < b % k
-      remainders a b k some lt same = let e : k * (a / k) ≡ k * (b / k) = ap (λ n. k * n) same in omega (arith, e)
+    remainders : (a b k : ℕ) → 0 < k → a < b → a / k ≡ b / k → a % k < b % k
+    remainders a b k some lt same = let e : k * (a / k) ≡ k * (b / k) = ap (λ n. k * n) same in omega (arith, e)
 
 -- the order of octets, where the order is known after one octet more
 wide : (xs ys : List ℕ) → ((scale rest : ℕ) → IsScale scale → scale < 32 → rest < scale → slice_cmp nat_cmp (digits_left scale rest xs) (digits_left scale rest ys) ≡ slice_cmp nat_cmp xs ys) → (scale rest : ℕ) → IsScale scale → rest < scale → slice_cmp nat_cmp (digits_left scale rest xs) (digits_left scale rest ys) ≡ slice_cmp nat_cmp xs ys
@@ -191,3 +193,34 @@ map_keeps f keep [] [] = refl
 map_keeps f keep [] (y ∷ ys) = refl
 map_keeps f keep (x ∷ xs) [] = refl
 map_keeps f keep (x ∷ xs) (y ∷ ys) = rw (keep x y) (ap (ordering_then (nat_cmp x y)) (map_keeps f keep xs ys))
+
+digit_keeps : (f : ℕ → ℕ) → ((a b : ℕ) → a < b → f a < f b) → (a b : ℕ) → nat_cmp (f a) (f b) ≡ nat_cmp a b
+digit_keeps f grows a b =
+    by_ranked _ _ _ (nat_cmp a b) (ranked a b (nat_cmp a b) refl)
+    (λ is lower. less (f a) (f b) (grows a b lower) ∙ sym is)
+    (λ is same. rw same (tie (f b)) ∙ sym (tie b) ∙ ap (λ n. nat_cmp n b) (sym same))
+    (λ is higher. sym (nat_cmp_is (f a) (f b) Greater (grows b a higher)) ∙ sym is)
+
+lower_grows : (a b : ℕ) → a < b → lower_digit a < lower_digit b
+lower_grows a b below = grind (arith, nat_tests)
+
+upper_grows : (a b : ℕ) → a < b → upper_digit a < upper_digit b
+upper_grows a b below = grind (arith, nat_tests)
+
+pub lower_keeps : (xs ys : List ℕ) → AreOctets xs → AreOctets ys → slice_cmp nat_cmp (base32_lower xs) (base32_lower ys) ≡ slice_cmp nat_cmp xs ys
+lower_keeps xs ys xs_small ys_small = map_keeps lower_digit (digit_keeps lower_digit lower_grows) (base32_from 1 0 xs) (base32_from 1 0 ys) ∙ digits_keep_order xs ys xs_small ys_small
+
+pub upper_keeps : (xs ys : List ℕ) → AreOctets xs → AreOctets ys → slice_cmp nat_cmp (base32_upper xs) (base32_upper ys) ≡ slice_cmp nat_cmp xs ys
+upper_keeps xs ys xs_small ys_small = map_keeps upper_digit (digit_keeps upper_digit upper_grows) (base32_from 1 0 xs) (base32_from 1 0 ys) ∙ digits_keep_order xs ys xs_small ys_small
+
+-- what keeps the order tells octets apart
+apart_by : (f : List ℕ → List ℕ) (xs ys : List ℕ) → slice_cmp nat_cmp (f xs) (f ys) ≡ slice_cmp nat_cmp xs ys → f xs ≡ f ys → xs ≡ ys
+apart_by f xs ys keep same =
+    let tied : slice_cmp nat_cmp (f xs) (f ys) ≡ Equal = rw same (tied_itself nat_list_cmp_total (f ys)) in
+    slice_cmp-IsAntisymmetric nat_cmp-IsAntisymmetric xs ys (sym keep ∙ tied)
+
+pub lower_apart : (xs ys : List ℕ) → AreOctets xs → AreOctets ys → base32_lower xs ≡ base32_lower ys → xs ≡ ys
+lower_apart xs ys xs_small ys_small = apart_by base32_lower xs ys (lower_keeps xs ys xs_small ys_small)
+
+pub upper_apart : (xs ys : List ℕ) → AreOctets xs → AreOctets ys → base32_upper xs ≡ base32_upper ys → xs ≡ ys
+upper_apart xs ys xs_small ys_small = apart_by base32_upper xs ys (upper_keeps xs ys xs_small ys_small)
