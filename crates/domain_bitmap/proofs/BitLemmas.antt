@@ -76,13 +76,13 @@ unfolding bit_of
 bit_of-set octet b k b_small k_small =
     elim (eqb_tells b k) [
       | inl h ↦
-        let same : 7 - b ≡ 7 - k = ap (λ n. 7 - n) h.1 in
-        let set = bit_at_set_same w8 octet (7 - k) (omega arith) in
-        rw (same, set, h.0) refl
+          let same : 7 - b ≡ 7 - k = ap (λ n. 7 - n) h.1 in
+          let set = bit_at_set_same w8 octet (7 - k) (omega arith) in
+          rw (same, set, h.0) refl
       | inr h ↦
-        let other : b ≢ k = h.1 in
-        let kept = bit_at_set_other w8 octet (7 - k) (omega arith) (7 - b) (omega arith) in
-        rw (kept, h.0) refl
+          let other : b ≢ k = h.1 in
+          let kept = bit_at_set_other w8 octet (7 - k) (omega arith) (7 - b) (omega arith) in
+          rw (kept, h.0) refl
     ]
 
 -- how the code tests a bit
@@ -102,9 +102,9 @@ pub octets_same : (x y : ℕ) → x < 256 → y < 256 → ((b : ℕ) → b < 8 �
 unfolding bit_of
 octets_same x y x_small y_small same =
     same_from_bits_below 8 x y x_small y_small (λ i small.
-      let back : 7 - (7 - i) ≡ i = omega arith in
-      let equal : (bit_at x i == 1) ≡ (bit_at y i == 1) = rw back at (same (7 - i) (omega arith)) in
-      one_bit (bit_at x i) (bit_at y i) (bit_at-lt x i) (bit_at-lt y i) equal)
+    let back : 7 - (7 - i) ≡ i = omega arith in
+    let equal : (bit_at x i == 1) ≡ (bit_at y i == 1) = rw back at (same (7 - i) (omega arith)) in
+    one_bit (bit_at x i) (bit_at y i) (bit_at-lt x i) (bit_at-lt y i) equal)
 
 pub octet_with-bit_of : (x : ℕ) → x < 256 → octet_with (bit_of x) ≡ x
 octet_with-bit_of x small = octets_same (octet_with (bit_of x)) x (octet_with-lt (bit_of x)) small (bit_of-octet_with (bit_of x))
@@ -116,3 +116,5 @@ octet_with-same p q same =
 
 pub octet_with-none : (p : ℕ → Bool) → ((b : ℕ) → b < 8 → p b ≡ false) → octet_with p ≡ 0
 octet_with-none p none = octets_same (octet_with p) 0 (octet_with-lt p) (omega arith) (λ b small. bit_of-octet_with p b small ∙ none b small ∙ sym (bit_of-zero b))
+
+pub ruleset bit_reads = (bit_of-shr, bit_of-zero)

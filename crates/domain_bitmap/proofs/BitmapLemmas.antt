@@ -32,19 +32,19 @@ pub window_octets-is : (types : ℕ → Bool) (w : ℕ) (xs : List ℕ) → leng
 unfolding window_octets
 window_octets-is types w xs long small bits =
     sym (fill_by_all (λ i. octet_with (λ b. types (256 * w + 8 * i + b))) xs 32 0 long
-      (λ k inside. sym (octet_with-bit_of (get_or xs k 0) (small k)) ∙ octet_with-same (bit_of (get_or xs k 0)) (λ b. types (256 * w + 8 * k + b)) (λ b b_small. bits k b inside b_small)))
+    (λ k inside. sym (octet_with-bit_of (get_or xs k 0) (small k)) ∙ octet_with-same (bit_of (get_or xs k 0)) (λ b. types (256 * w + 8 * k + b)) (λ b b_small. bits k b inside b_small)))
 
 -- the types of a window
 in_window : (w k b : ℕ) → k < 32 → b < 8 → (256 * w + 8 * k + b) / 256 ≡ w
 in_window w k b k_small b_small = omega (arith, k_small, b_small)
 
-zero_octets : (types : ℕ → Bool) (w : ℕ) → ((t : ℕ) → t / 256 ≡ w → types t ≡ false) → (k : ℕ) → get_or (window_octets types w) k 0 ≡ 0
+pub zero_octets : (types : ℕ → Bool) (w : ℕ) → ((t : ℕ) → t / 256 ≡ w → types t ≡ false) → (k : ℕ) → get_or (window_octets types w) k 0 ≡ 0
 zero_octets types w none k =
     elim (leb_tells 32 k) [
       | inl h ↦ get_or_past (window_octets types w) k 0 (omega (arith, h.1, length-window_octets types w))
       | inr h ↦
-        get_or-window_octets types w k h.1
-        ∙ octet_with-none (λ b. types (256 * w + 8 * k + b)) (λ b small. none (256 * w + 8 * k + b) (in_window w k b h.1 small))
+          get_or-window_octets types w k h.1
+          ∙ octet_with-none (λ b. types (256 * w + 8 * k + b)) (λ b small. none (256 * w + 8 * k + b) (in_window w k b h.1 small))
     ]
 
 -- a window without types has no block
@@ -55,7 +55,7 @@ window_block-none types w none = rw (trimmed-zeros (window_octets types w) (zero
 window_octets-same : (p q : ℕ → Bool) (w : ℕ) → ((t : ℕ) → t / 256 ≡ w → p t ≡ q t) → window_octets p w ≡ window_octets q w
 window_octets-same p q w same =
     window_octets-is p w (window_octets q w) (length-window_octets q w) (bounded q w)
-      (λ k b k_small b_small. rw (get_or-window_octets q w k k_small, bit_of-octet_with (λ c. q (256 * w + 8 * k + c)) b b_small) (sym (same (256 * w + 8 * k + b) (in_window w k b k_small b_small))))
+    (λ k b k_small b_small. rw (get_or-window_octets q w k k_small, bit_of-octet_with (λ c. q (256 * w + 8 * k + c)) b b_small) (sym (same (256 * w + 8 * k + b) (in_window w k b k_small b_small))))
 
 window_block-same : (p q : ℕ → Bool) (w : ℕ) → ((t : ℕ) → t / 256 ≡ w → p t ≡ q t) → window_block p w ≡ window_block q w
 unfolding window_block
@@ -68,7 +68,7 @@ bitmap_octets-same p q same =
     flat_same (window_block p) (window_block q) 256 (λ w below. window_block-same p q w (λ t of_window. same t (omega arith)))
 
 -- the block of a window, if it has types
-block_list : ℕ → List ℕ → List Block
+unfoldable pub block_list : ℕ → List ℕ → List Block
 block_list w [] = []
 block_list w (x ∷ xs) = record { window = w; octets = x ∷ xs } ∷ []
 
@@ -77,11 +77,11 @@ unfolding block_list
 octets_of-block_list w [] = refl
 octets_of-block_list w (x ∷ xs) = ap (λ l. w ∷ length (x ∷ xs) ∷ x ∷ l) (append-nil xs)
 
-blocks_from : (ℕ → Bool) → ℕ → ℕ → List Block
+unfoldable pub blocks_from : (ℕ → Bool) → ℕ → ℕ → List Block
 blocks_from types a zero = []
 blocks_from types a (suc n) = block_list a (trimmed (window_octets types a)) ++ blocks_from types (a + 1) n
 
-octets_of-blocks_from : (types : ℕ → Bool) (a n : ℕ) → octets_of (blocks_from types a n) ≡ flat_map (window_block types) (range_with_len a n)
+pub octets_of-blocks_from : (types : ℕ → Bool) (a n : ℕ) → octets_of (blocks_from types a n) ≡ flat_map (window_block types) (range_with_len a n)
 unfolding blocks_from window_block
 octets_of-blocks_from types a zero = refl
 octets_of-blocks_from types a (suc n) =

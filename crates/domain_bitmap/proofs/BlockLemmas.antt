@@ -1,9 +1,14 @@
 -- octets read as blocks
 use Rattle.std.proofs.Common.{◌≡◌, ℕ, zero, suc, ◌+◌, ◌-◌, ◌*◌, ◌/◌, ◌%◌, ◌<◌, ◌≤◌, ◌≢◌, Bool, true, false, List, [], ◌∷◌, ◌++◌, length, get_or, take, drop, refl, sym, ap, ◌∙◌, subst, arith, add-one, length-append}
 use Rattle.std.specs.List.{AllByRecursion, flat_map}
-use Rattle.std.proofs.lemmas.List.{take_at, drop_at}
+use Rattle.std.proofs.lemmas.List.{take_at, drop_at, get_or_past}
+use Rattle.std.specs.Prelude.{◌==◌}
+use Rattle.std.proofs.lemmas.Bool.Decides.{nat_tests}
+use Rattle.domain_bitmap.proofs.RangeLemmas.{filter_none}
+use Rattle.domain_bitmap.proofs.BitLemmas.{bit_of-zero}
 use Rattle.std.proofs.lemmas.List.Concat.{flat_map-append}
-use Rattle.domain_bitmap.specs.Blocks.{Block, IsBlock, octets_of, blocks_within, blocks_of, IsBitmap}
+use Rattle.domain_bitmap.specs.Blocks.{Block, IsBlock, octets_of, blocks_within, blocks_of, IsBitmap, block_types_from, types_from, types_of, contains_type, in_first_block}
+use Rattle.domain_bitmap.specs.Bits.{has_bit, bit_of}
 
 blocks_within-octets_of : (blocks : List Block) (n : ℕ) → length (octets_of blocks) ≤ n → blocks_within n (octets_of blocks) ≡ blocks
 unfolding blocks_within
@@ -13,6 +18,9 @@ blocks_within-octets_of (block ∷ blocks) zero fits = absurd (omega (arith, fit
 blocks_within-octets_of (block ∷ blocks) (suc n) fits =
     rw (take_at block.octets (octets_of blocks) (length block.octets) refl, drop_at block.octets (octets_of blocks) (length block.octets) refl)
     (ap (λ rest. block ∷ rest) (blocks_within-octets_of blocks n (omega (arith, fits, length-append block.octets (octets_of blocks)))))
+
+pub add_two : (n : ℕ) → n + 2 ≡ suc (suc n)
+add_two n = omega arith
 
 -- the blocks are read back
 pub blocks_of-octets_of : (blocks : List Block) → blocks_of (octets_of blocks) ≡ blocks
@@ -30,3 +38,107 @@ octets_of-append xs ys = flat_map-append (λ block. block.window ∷ length bloc
 pub all-append : (xs ys : List Block) → AllByRecursion IsBlock xs → AllByRecursion IsBlock ys → AllByRecursion IsBlock (xs ++ ys)
 all-append [] ys xs_all ys_all = ys_all
 all-append (x ∷ xs) ys xs_all ys_all = (xs_all.0, all-append xs ys xs_all.1 ys_all)
+
+-- octets that begin with a block
+pub record HasBlock (octets : List ℕ) : Type 0 where
+  pub headed : 1 < length octets
+  pub inside : get_or octets 1 0 + 2 ≤ length octets
+  pub blocks : blocks_of octets ≡ record { window = get_or octets 0 0; octets = take (get_or octets 1 0) (drop 2 octets) } ∷ blocks_of (drop (get_or octets 1 0 + 2) octets)
+  pub first : IsBlock (record { window = get_or octets 0 0; octets = take (get_or octets 1 0) (drop 2 octets) })
+  pub rest : IsBitmap (drop (get_or octets 1 0 + 2) octets)
+
+block_from : (blocks : List Block) → AllByRecursion IsBlock blocks → 0 < length (octets_of blocks) → HasBlock (octets_of blocks)
+block_from [] valid some = absurd (omega (arith, some))
+block_from (block ∷ blocks) valid some =
+    let more = length-append block.octets (octets_of blocks) in
+    let front = take_at block.octets (octets_of blocks) (length block.octets) refl in
+    let after : drop (length block.octets + 2) (octets_of (block ∷ blocks)) ≡ octets_of blocks = rw (add_two (length block.octets)) (drop_at block.octets (octets_of blocks) (length block.octets) refl) in
+    record {
+      headed = omega (arith, more);
+      inside = omega (arith, more);
+      blocks = rw (after, front, blocks_of-octets_of blocks) (blocks_of-octets_of (block ∷ blocks));
+      first = rw front valid.0;
+      rest = rw after (IsBitmap-octets_of blocks valid.1);
+    }
+
+pub block_at : (octets : List ℕ) → IsBitmap octets → 0 < length octets → HasBlock octets
+block_at octets bitmap some =
+    subst HasBlock (sym bitmap.spelled) (block_from (blocks_of octets) bitmap.valid (subst (λ (o : List ℕ). 0 < length o) bitmap.spelled some))
+
+pub nothing_at : (octets : List ℕ) → length octets ≡ 0 → blocks_of octets ≡ []
+unfolding blocks_of blocks_within
+nothing_at octets none = rw none refl
+
+pub ruleset block_reads = (block_at, nothing_at)
+
+-- the types of a block, place by place
+pub types_step : (block : Block) (place : ℕ) → place < 256 → has_bit block.octets (256 * block.window + place) ≡ true → block_types_from block place ≡ (256 * block.window + place) ∷ block_types_from block (place + 1)
+unfolding block_types_from
+types_step block place inside set =
+    let count : 256 - place ≡ suc (256 - (place + 1)) = omega arith in
+    let next : 256 * block.window + (place + 1) ≡ 256 * block.window + place + 1 = omega arith in
+    rw (count, next, set) refl
+
+pub types_skip : (block : Block) (place : ℕ) → place < 256 → has_bit block.octets (256 * block.window + place) ≡ false → block_types_from block place ≡ block_types_from block (place + 1)
+unfolding block_types_from
+types_skip block place inside clear =
+    let count : 256 - place ≡ suc (256 - (place + 1)) = omega arith in
+    let next : 256 * block.window + (place + 1) ≡ 256 * block.window + place + 1 = omega arith in
+    rw (count, next, clear) refl
+
+pub types_past : (block : Block) (place : ℕ) → 8 * length block.octets ≤ place → block_types_from block place ≡ []
+unfolding block_types_from has_bit
+types_past block place past =
+    filter_none (has_bit block.octets) (256 * block.window + place) (256 - place)
+    (λ t low high. let beyond : length block.octets ≤ t % 256 / 8 = omega arith in rw (get_or_past block.octets (t % 256 / 8) 0 beyond) (bit_of-zero (t % 8)))
+
+-- what the code finds at a place is the type's bit, whatever the window
+abbrev pub IsBitAt : List ℕ → ℕ → Bool → Type 0
+IsBitAt octets place set = (t : ℕ) → t % 256 / 8 ≡ place / 8 → t % 8 ≡ place % 8 → set ≡ has_bit octets t
+
+pub found_at : (octets : List ℕ) (place : ℕ) → place < 256 → IsBitAt octets place true → (w : ℕ) → block_types_from (record { window = w; octets = octets }) place ≡ (256 * w + place) ∷ block_types_from (record { window = w; octets = octets }) (place + 1)
+found_at octets place inside set w =
+    types_step (record { window = w; octets = octets }) place inside (sym (set (256 * w + place) (omega arith) (omega arith)))
+
+pub clear_at : (octets : List ℕ) (place : ℕ) → place < 256 → IsBitAt octets place false → (w : ℕ) → block_types_from (record { window = w; octets = octets }) place ≡ block_types_from (record { window = w; octets = octets }) (place + 1)
+clear_at octets place inside clear w =
+    types_skip (record { window = w; octets = octets }) place inside (sym (clear (256 * w + place) (omega arith) (omega arith)))
+
+types_from-blocks : (blocks : List Block) → types_from blocks 0 ≡ flat_map (λ block. block_types_from block 0) blocks
+types_from-blocks [] = refl
+types_from-blocks (block ∷ blocks) = refl
+
+pub types_from_start : (octets : List ℕ) → types_from (blocks_of octets) 0 ≡ types_of octets
+unfolding types_of
+types_from_start octets = types_from-blocks (blocks_of octets)
+
+-- a look into the first block, and past it
+pub contains_here : (octets : List ℕ) (block : Block) (blocks : List Block) (t : ℕ) → blocks_of octets ≡ block ∷ blocks → block.window ≡ t / 256 → contains_type octets t ≡ has_bit block.octets t
+unfolding contains_type
+contains_here octets block blocks t is here =
+    let test : (block.window == t / 256) ≡ true = grind (arith, nat_tests) in
+    rw (is, test) refl
+
+pub contains_later : (octets rest : List ℕ) (block : Block) (t : ℕ) → blocks_of octets ≡ block ∷ blocks_of rest → block.window ≢ t / 256 → contains_type octets t ≡ contains_type rest t
+unfolding contains_type
+contains_later octets rest block t is other =
+    let test : (block.window == t / 256) ≡ false = grind (arith, nat_tests) in
+    rw (is, test) refl
+
+pub contains_nothing : (octets : List ℕ) (t : ℕ) → blocks_of octets ≡ [] → contains_type octets t ≡ false
+unfolding contains_type
+contains_nothing octets t is = rw is refl
+
+-- a block without types from a place on is passed
+pub types_from_next : (octets rest : List ℕ) (block : Block) (place : ℕ) → blocks_of octets ≡ block ∷ blocks_of rest → block_types_from block place ≡ [] → types_from (blocks_of octets) place ≡ types_from (blocks_of rest) 0
+types_from_next octets rest block place is none = rw (is, none) (sym (types_from-blocks (blocks_of rest)))
+
+pub types_from_here : (octets : List ℕ) (block : Block) (blocks : List Block) (place next t : ℕ) → blocks_of octets ≡ block ∷ blocks → block_types_from block place ≡ t ∷ block_types_from block next → types_from (blocks_of octets) place ≡ t ∷ types_from (blocks_of octets) next
+types_from_here octets block blocks place next t is found = rw (is, found) refl
+
+pub types_from_nothing : (octets : List ℕ) (place : ℕ) → blocks_of octets ≡ [] → types_from (blocks_of octets) place ≡ []
+types_from_nothing octets place is = rw is refl
+
+pub ruleset look_steps = (contains_here, contains_later, contains_nothing)
+
+pub ruleset iter_steps = (types_from_next, types_from_here, types_from_nothing)

@@ -5,3 +5,6 @@ pub mod SlotLemmas
 pub mod BlockLemmas
 pub mod BitmapLemmas
 pub mod PackLemmas
+pub mod MeaningLemmas
+pub mod FaultLemmas
+pub mod SpellingLemmas

@@ -41,7 +41,7 @@ pub holds-absent : (value : List ℕ) (w : ℕ) → has_window value w ≡ false
 unfolding holds
 holds-absent value w absent t of_window =
     any_none (block_holds value t) (length value / 34)
-      (λ j inside. let not_here : is_of_window value (t / 256) j ≡ false = rw of_window (no_block value w absent j inside) in rw not_here refl)
+    (λ j inside. let not_here : is_of_window value (t / 256) j ≡ false = rw of_window (no_block value w absent j inside) in rw not_here refl)
 
 -- how many numbers below n pass a test
 unfoldable pub tally : (ℕ → Bool) → ℕ → ℕ
@@ -142,12 +142,12 @@ merge_more initial now slots j i small inside same p =
     let at = w * 32 + i in
     elim (eqb_tells p at) [
       | inl h ↦
-        let is : p ≡ w * 32 + i = h.1 in
-        let before : get_or now p 0 ≡ get_or initial p 0 = same p ∙ rw (test_before p w i is small) refl in
-        rw (test_here p w i is small, place_in p w i is small, ← is) (get_or-set_same now p (bit_or (get_or now p 0) (get_or slots (34 * j + 2 + i) 0)) 0 (omega arith) ∙ ap (λ o. bit_or o (get_or slots (34 * j + 2 + i) 0)) before)
+          let is : p ≡ w * 32 + i = h.1 in
+          let before : get_or now p 0 ≡ get_or initial p 0 = same p ∙ rw (test_before p w i is small) refl in
+          rw (test_here p w i is small, place_in p w i is small, ← is) (get_or-set_same now p (bit_or (get_or now p 0) (get_or slots (34 * j + 2 + i) 0)) 0 (omega arith) ∙ ap (λ o. bit_or o (get_or slots (34 * j + 2 + i) 0)) before)
       | inr h ↦
-        let other : p ≢ w * 32 + i = h.1 in
-        rw (test_other p w i other small) (get_or-set_other now at p (bit_or (get_or now at 0) (get_or slots (34 * j + 2 + i) 0)) 0 other ∙ same p)
+          let other : p ≢ w * 32 + i = h.1 in
+          rw (test_other p w i other small) (get_or-set_other now at p (bit_or (get_or now at 0) (get_or slots (34 * j + 2 + i) 0)) 0 other ∙ same p)
     ]
 
 -- the octet of a type among those of all windows
@@ -168,13 +168,13 @@ types_more octets after slots j t merged before =
     let step : get_or after (t / 8) 0 ≡ (if t / 256 == get_or slots (34 * j) 0 then bit_or old more else old) = rw (← octet_place t, ← octet_in t) (merged (t / 8)) in
     elim (eqb_tells (t / 256) (get_or slots (34 * j) 0)) [
       | inl h ↦
-        let turned : (get_or slots (34 * j) 0 == t / 256) ≡ true = let is : t / 256 ≡ get_or slots (34 * j) 0 = h.1 in grind (arith, nat_tests) in
-        let block : block_holds slots t j ≡ bit_of more (t % 8) = rw turned refl in
-        rw (step, h.0, any_more (block_holds slots t) j, block, bit_of-or old more (t % 8), before) refl
+          let turned : (get_or slots (34 * j) 0 == t / 256) ≡ true = let is : t / 256 ≡ get_or slots (34 * j) 0 = h.1 in grind (arith, nat_tests) in
+          let block : block_holds slots t j ≡ bit_of more (t % 8) = rw turned refl in
+          rw (step, h.0, any_more (block_holds slots t) j, block, bit_of-or old more (t % 8), before) refl
       | inr h ↦
-        let turned : (get_or slots (34 * j) 0 == t / 256) ≡ false = let is : t / 256 ≢ get_or slots (34 * j) 0 = h.1 in grind (arith, nat_tests) in
-        let block : block_holds slots t j ≡ false = rw turned refl in
-        rw (step, h.0, any_more (block_holds slots t) j, block) (before ∙ sym (or_false (list_any (block_holds slots t) (range_with_len 0 j))))
+          let turned : (get_or slots (34 * j) 0 == t / 256) ≡ false = let is : t / 256 ≢ get_or slots (34 * j) 0 = h.1 in grind (arith, nat_tests) in
+          let block : block_holds slots t j ≡ false = rw turned refl in
+          rw (step, h.0, any_more (block_holds slots t) j, block) (before ∙ sym (or_false (list_any (block_holds slots t) (range_with_len 0 j))))
     ]
 
 pub windows_more : (present : List Bool) (slots : List ℕ) (j w : ℕ) → get_or slots (34 * j) 0 < length present
@@ -184,10 +184,10 @@ windows_more present slots j w inside before =
     let c = get_or slots (34 * j) 0 in
     elim (eqb_tells c w) [
       | inl h ↦
-        rw (any_more (is_of_window slots w) j, h.0, ← h.1) (get_or-set_same present c true false inside ∙ sym (or_true (list_any (is_of_window slots c) (range_with_len 0 j))))
+          rw (any_more (is_of_window slots w) j, h.0, ← h.1) (get_or-set_same present c true false inside ∙ sym (or_true (list_any (is_of_window slots c) (range_with_len 0 j))))
       | inr h ↦
-        let other : w ≢ c = λ e. h.1 (sym e) in
-        rw (any_more (is_of_window slots w) j, h.0) (get_or-set_other present c w true false other ∙ before ∙ sym (or_false (list_any (is_of_window slots w) (range_with_len 0 j))))
+          let other : w ≢ c = λ e. h.1 (sym e) in
+          rw (any_more (is_of_window slots w) j, h.0) (get_or-set_other present c w true false other ∙ before ∙ sym (or_false (list_any (is_of_window slots w) (range_with_len 0 j))))
     ]
 
 pub ruleset table_steps = (types_more, windows_more)
@@ -198,12 +198,12 @@ pub table_window : (octets value xs : List ℕ) (w : ℕ) → w < 256 → length
 table_window octets value xs w inside all is small bits =
     let long : length xs ≡ 32 = omega (arith, ap length is, length-take 32 (drop (32 * w) octets), length-drop (32 * w) octets) in
     window_octets-is (holds value) w xs long small
-      (λ k b k_small b_small.
-        let t : ℕ = 256 * w + 8 * k + b in
-        let place : t / 8 ≡ 32 * w + k = omega arith in
-        let bit : t % 8 ≡ b = omega arith in
-        let octet : get_or xs k 0 ≡ get_or octets (t / 8) 0 = rw (is, place) (get_or-take 32 (drop (32 * w) octets) k 0 k_small ∙ get_or-drop (32 * w) octets k 0) in
-        rw octet (ap (λ c. bit_of (get_or octets (t / 8) 0) c) (sym bit) ∙ bits t (omega arith)))
+    (λ k b k_small b_small.
+    let t : ℕ = 256 * w + 8 * k + b in
+    let place : t / 8 ≡ 32 * w + k = omega arith in
+    let bit : t % 8 ≡ b = omega arith in
+    let octet : get_or xs k 0 ≡ get_or octets (t / 8) 0 = rw (is, place) (get_or-take 32 (drop (32 * w) octets) k 0 k_small ∙ get_or-drop (32 * w) octets k 0) in
+    rw octet (ap (λ c. bit_of (get_or octets (t / 8) 0) c) (sym bit) ∙ bits t (omega arith)))
 
 -- a builder without blocks, and one with one block
 pub holds_nothing : (value : List ℕ) → length value ≡ 0 → bitmap_octets (holds value) ≡ []
@@ -224,15 +224,15 @@ one_block value one small =
     let xs = drop 2 value in
     let long : length xs ≡ 32 = omega (arith, length-drop 2 value) in
     let octets : window_octets (holds value) w ≡ xs =
-        window_octets-is (holds value) w xs long (λ k. rw (get_or-drop 2 value k 0) (small (2 + k)))
-          (λ k b k_small b_small.
-            let t : ℕ = 256 * w + 8 * k + b in
-            let window : w ≡ t / 256 = omega arith in
-            let place : t % 256 / 8 ≡ k = omega arith in
-            let bit : t % 8 ≡ b = omega arith in
-            rw (get_or-drop 2 value k 0) (sym (one_bit value t one window ∙ rw (place, bit) refl))) in
+    window_octets-is (holds value) w xs long (λ k. rw (get_or-drop 2 value k 0) (small (2 + k)))
+    (λ k b k_small b_small.
+    let t : ℕ = 256 * w + 8 * k + b in
+    let window : w ≡ t / 256 = omega arith in
+    let place : t % 256 / 8 ≡ k = omega arith in
+    let bit : t % 8 ≡ b = omega arith in
+    rw (get_or-drop 2 value k 0) (sym (one_bit value t one window ∙ rw (place, bit) refl))) in
     flat_single (window_block (holds value)) w 256 (small 0)
-      (λ v below other. window_block-none (holds value) v (holds-absent value v (window_absent value v (λ j inside. let at : j ≡ 0 = omega arith in rw at (λ is. other (sym is))))))
+    (λ v below other. window_block-none (holds value) v (holds-absent value v (window_absent value v (λ j inside. let at : j ≡ 0 = omega arith in rw at (λ is. other (sym is))))))
     ∙ ap (λ l. block_with w (trimmed l)) octets
 
 -- the only block is cut where it stands

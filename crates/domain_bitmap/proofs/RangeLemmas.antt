@@ -1,7 +1,7 @@
 -- numbers in a row
 use Rattle.std.proofs.Common.{◌≡◌, ℕ, zero, suc, ◌+◌, ◌<◌, ◌≤◌, ◌≢◌, Bool, true, false, List, [], ◌∷◌, ◌++◌, length, get_or, refl, sym, ap, ◌∙◌, inl, inr, arith, add-zero, zero-add, add-one, append_assoc, append-nil, cond, subst}
 use Rattle.std.specs.Prelude.{◌||◌, ◌&&◌, ◌==◌}
-use Rattle.std.specs.List.{range_with_len, list_any, flat_map}
+use Rattle.std.specs.List.{range_with_len, list_any, flat_map, filter}
 use Rattle.std.proofs.lemmas.Bool.Decides.{nat_tests, eqb_tells}
 use Rattle.std.proofs.lemmas.List.Folds.{list_any-append, list_any_at, list_any_none}
 use Rattle.std.proofs.lemmas.List.Concat.{flat_map-append}
@@ -74,14 +74,14 @@ any_with_from p q c a zero k low high same more = absurd (omega arith)
 any_with_from p q c a (suc n) k low high same more =
     elim (eqb_tells a k) [
       | inl h ↦
-        let here : q a ≡ (c || p a) = subst (λ j. q j ≡ (c || p j)) (sym h.1) more in
-        let rest : list_any q (range_with_len (a + 1) n) ≡ list_any p (range_with_len (a + 1) n) = any_same_from q p (a + 1) n (λ j j_low j_high. same j (omega arith) (omega arith) (omega (arith, h.1))) in
-        rw (here, rest) (or_next c (p a) (list_any p (range_with_len (a + 1) n)))
+          let here : q a ≡ (c || p a) = subst (λ j. q j ≡ (c || p j)) (sym h.1) more in
+          let rest : list_any q (range_with_len (a + 1) n) ≡ list_any p (range_with_len (a + 1) n) = any_same_from q p (a + 1) n (λ j j_low j_high. same j (omega arith) (omega arith) (omega (arith, h.1))) in
+          rw (here, rest) (or_next c (p a) (list_any p (range_with_len (a + 1) n)))
       | inr h ↦
-        let other : a ≢ k = h.1 in
-        let here : q a ≡ p a = same a (omega arith) (omega arith) other in
-        let rest : list_any q (range_with_len (a + 1) n) ≡ (c || list_any p (range_with_len (a + 1) n)) = any_with_from p q c (a + 1) n k (omega arith) (omega arith) (λ j j_low j_high. same j (omega arith) (omega arith)) more in
-        rw (here, rest) (or_swap (p a) c (list_any p (range_with_len (a + 1) n)))
+          let other : a ≢ k = h.1 in
+          let here : q a ≡ p a = same a (omega arith) (omega arith) other in
+          let rest : list_any q (range_with_len (a + 1) n) ≡ (c || list_any p (range_with_len (a + 1) n)) = any_with_from p q c (a + 1) n k (omega arith) (omega arith) (λ j j_low j_high. same j (omega arith) (omega arith)) more in
+          rw (here, rest) (or_swap (p a) c (list_any p (range_with_len (a + 1) n)))
     ]
 
 -- a test that says more at one place says so of the row
@@ -115,12 +115,33 @@ flat_single_from f w a zero low high none = absurd (omega arith)
 flat_single_from f w a (suc n) low high none =
     elim (eqb_tells a w) [
       | inl h ↦
-        let rest = flat_none_from f (a + 1) n (λ j j_low j_high. none j (omega arith) (omega arith) (omega (arith, h.1))) in
-        rw (rest, append-nil (f a)) (ap f h.1)
+          let rest = flat_none_from f (a + 1) n (λ j j_low j_high. none j (omega arith) (omega arith) (omega (arith, h.1))) in
+          rw (rest, append-nil (f a)) (ap f h.1)
       | inr h ↦
-        let rest = flat_single_from f w (a + 1) n (omega (arith, h.1)) (omega arith) (λ j j_low j_high. none j (omega arith) (omega arith)) in
-        rw (none a (omega arith) (omega arith) h.1) rest
+          let rest = flat_single_from f w (a + 1) n (omega (arith, h.1)) (omega arith) (λ j j_low j_high. none j (omega arith) (omega arith)) in
+          rw (none a (omega arith) (omega arith) h.1) rest
     ]
 
 pub flat_single : (f : ℕ → List ℕ) (w n : ℕ) → w < n → ((j : ℕ) → j < n → j ≢ w → f j ≡ []) → flat_map f (range_with_len 0 n) ≡ f w
 flat_single f w n inside none = flat_single_from f w 0 n (omega arith) (omega arith) (λ j low high. none j (omega arith))
+
+pub filter_none : (p : ℕ → Bool) (a n : ℕ) → ((j : ℕ) → a ≤ j → j < a + n → p j ≡ false) → filter p (range_with_len a n) ≡ []
+filter_none p a zero none = refl
+filter_none p a (suc n) none =
+    rw (none a (omega arith) (omega arith)) (filter_none p (a + 1) n (λ j low high. none j (omega arith) (omega arith)))
+
+pub filter_same : (p q : ℕ → Bool) (a n : ℕ) → ((j : ℕ) → a ≤ j → j < a + n → p j ≡ q j) → filter p (range_with_len a n) ≡ filter q (range_with_len a n)
+filter_same p q a zero same = refl
+filter_same p q a (suc n) same =
+    rw (same a (omega arith) (omega arith), filter_same p q (a + 1) n (λ j low high. same j (omega arith) (omega arith))) refl
+
+kept_append : (b : Bool) (x : ℕ) (xs ys : List ℕ) → cond b (x ∷ xs) xs ++ ys ≡ cond b (x ∷ (xs ++ ys)) (xs ++ ys)
+kept_append true x xs ys = refl
+kept_append false x xs ys = refl
+
+pub filter_append : (p : ℕ → Bool) (a m n : ℕ) → filter p (range_with_len a m) ++ filter p (range_with_len (a + m) n) ≡ filter p (range_with_len a (m + n))
+filter_append p a zero n = rw (add-zero a, zero-add n) refl
+filter_append p a (suc m) n =
+    let start : a + suc m ≡ a + 1 + m = omega arith in
+    let count : suc m + n ≡ suc (m + n) = omega arith in
+    rw (start, count) (kept_append (p a) a (filter p (range_with_len (a + 1) m)) (filter p (range_with_len (a + 1 + m) n)) ∙ ap (λ rest. cond (p a) (a ∷ rest) rest) (filter_append p (a + 1) m n))

@@ -22,7 +22,7 @@ window_absent value window other = any_none (is_of_window value window) (length 
 -- one octet written over
 pub written_is : (value : List ℕ) (at octet : ℕ) → at < length value → take at value ++ (octet ∷ drop (at + 1) value) ≡ set value at octet
 written_is value at octet inside =
-    sym (ap (λ l. l ++ (octet ∷ drop (at + 1) value)) (take-set value at octet) )
+    sym (ap (λ l. l ++ (octet ∷ drop (at + 1) value)) (take-set value at octet))
     ∙ ap (λ l. take at (set value at octet) ++ l) (sym (drop-set value at octet inside))
     ∙ take-append-drop at (set value at octet)
 
@@ -65,25 +65,25 @@ module _ (value : List ℕ) (p r : ℕ) (inside : p < length value / 34) (window
   bit_after t of_window =
       elim (eqb_tells (t % 256 / 8) (r % 256 / 8)) [
         | inl h ↦
-          let place : 34 * p + 2 + t % 256 / 8 ≡ at = ap (λ o. 34 * p + 2 + o) h.1 in
-          rw (place, get_or-set_same value at more 0 at_inside, same_type t r of_window h.1)
-          (bit_of-set (get_or value at 0) (t % 8) (r % 8) (omega arith) (omega arith))
+            let place : 34 * p + 2 + t % 256 / 8 ≡ at = ap (λ o. 34 * p + 2 + o) h.1 in
+            rw (place, get_or-set_same value at more 0 at_inside, same_type t r of_window h.1)
+            (bit_of-set (get_or value at 0) (t % 8) (r % 8) (omega arith) (omega arith))
         | inr h ↦
-          let octet : t % 256 / 8 ≢ r % 256 / 8 = h.1 in
-          let place : 34 * p + 2 + t % 256 / 8 ≢ at = omega arith in
-          rw (kept (34 * p + 2 + t % 256 / 8) place, other_octet t r octet) refl
+            let octet : t % 256 / 8 ≢ r % 256 / 8 = h.1 in
+            let place : 34 * p + 2 + t % 256 / 8 ≢ at = omega arith in
+            rw (kept (34 * p + 2 + t % 256 / 8) place, other_octet t r octet) refl
       ]
 
   here : (t : ℕ) → block_holds after t p ≡ ((t == r) || block_holds value t p)
   here t =
       elim (eqb_tells (t / 256) (r / 256)) [
         | inl h ↦
-          let test : (get_or value (34 * p) 0 == t / 256) ≡ true = let e : get_or value (34 * p) 0 ≡ t / 256 = window ∙ sym h.1 in grind (arith, nat_tests) in
-          rw (window_kept p, test) (bit_after t h.1)
+            let test : (get_or value (34 * p) 0 == t / 256) ≡ true = let e : get_or value (34 * p) 0 ≡ t / 256 = window ∙ sym h.1 in grind (arith, nat_tests) in
+            rw (window_kept p, test) (bit_after t h.1)
         | inr h ↦
-          let differs : t / 256 ≢ r / 256 = h.1 in
-          let test : (get_or value (34 * p) 0 == t / 256) ≡ false = grind (arith, nat_tests, window) in
-          rw (window_kept p, test, other_window t r differs) refl
+            let differs : t / 256 ≢ r / 256 = h.1 in
+            let test : (get_or value (34 * p) 0 == t / 256) ≡ false = grind (arith, nat_tests, window) in
+            rw (window_kept p, test, other_window t r differs) refl
       ]
 
   pub holds-set_bit : (t : ℕ) → holds after t ≡ ((t == r) || holds value t)
@@ -101,7 +101,7 @@ module _ (value : List ℕ) (p r : ℕ) (inside : p < length value / 34) (window
 -- the octets after the code has set a bit
 added : (value slots : List ℕ) (j o b r : ℕ) → slots ≡ value → j < length value / 34 → get_or value (34 * j) 0 ≡ r / 256 → o ≡ r % 256 / 8 → b ≡ r % 8
     → take (34 * j + 2 + o) value ++ (bit_or (get_or slots (34 * j + 2 + o) 0) (1 * 2 ^ (7 - b) % 2 ^ 8) ∷ drop (34 * j + 2 + o + 1) value)
-      ≡ set value (34 * j + 2 + r % 256 / 8) (bit_or (get_or value (34 * j + 2 + r % 256 / 8) 0) (1 * 2 ^ (7 - r % 8) % 2 ^ 8))
+    ≡ set value (34 * j + 2 + r % 256 / 8) (bit_or (get_or value (34 * j + 2 + r % 256 / 8) 0) (1 * 2 ^ (7 - r % 8) % 2 ^ 8))
 added value slots j o b r same inside window octet bit =
     rw (same, octet, bit) (written_is value (34 * j + 2 + r % 256 / 8) (bit_or (get_or value (34 * j + 2 + r % 256 / 8) 0) (1 * 2 ^ (7 - r % 8) % 2 ^ 8)) (omega (arith, inside)))
 
@@ -161,7 +161,7 @@ module _ (value rest : List ℕ) (window : ℕ) (whole : length value % 34 ≡ 0
   has_window-grown w =
       rw one_more
       (any_more (is_of_window grown w) (length value / 34)
-        ∙ rw (window_last w, any_same (is_of_window grown w) (is_of_window value w) (length value / 34) (window_front w)) (or_turn (has_window value w) (w == window)))
+      ∙ rw (window_last w, any_same (is_of_window grown w) (is_of_window value w) (length value / 34) (window_front w)) (or_turn (has_window value w) (w == window)))
 
   block_last : (t : ℕ) → block_holds grown t (length value / 34) ≡ false
   block_last t = rw (zero_last (t % 256 / 8), bit_of-zero (t % 8)) (and_false (is_of_window grown (t / 256) (length value / 34)))
@@ -171,7 +171,7 @@ module _ (value rest : List ℕ) (window : ℕ) (whole : length value % 34 ≡ 0
   holds-grown t =
       rw one_more
       (any_more (block_holds grown t) (length value / 34)
-        ∙ rw (block_last t, any_same (block_holds grown t) (block_holds value t) (length value / 34) (λ j below. rw (front (34 * j) (omega arith), front (34 * j + 2 + t % 256 / 8) (omega arith)) refl)) (or_false (holds value t)))
+      ∙ rw (block_last t, any_same (block_holds grown t) (block_holds value t) (length value / 34) (λ j below. rw (front (34 * j) (omega arith), front (34 * j + 2 + t % 256 / 8) (omega arith)) refl)) (or_false (holds value t)))
 
 -- a window that has a block already
 pub window_known : (value : List ℕ) (window w : ℕ) → has_window value window ≡ true → ((w == window) || has_window value w) ≡ has_window value w

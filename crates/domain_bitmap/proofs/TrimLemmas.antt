@@ -6,7 +6,7 @@ pub before_trimmed-cons : (x y : ℕ) (ys : List ℕ) → before_trimmed x (y �
 before_trimmed-cons zero y ys = refl
 before_trimmed-cons (suc x) y ys = refl
 
-before_trimmed-last : (x : ℕ) → x ≢ 0 → before_trimmed x [] ≡ x ∷ []
+pub before_trimmed-last : (x : ℕ) → x ≢ 0 → before_trimmed x [] ≡ x ∷ []
 before_trimmed-last zero more = absurd (more refl)
 before_trimmed-last (suc x) more = refl
 

@@ -1,5 +1,5 @@
 -- octets read as a list of blocks, whatever their windows are (RFC 4034, section 4.1.2)
-use Rattle.std.specs.Prelude.{◌≡◌, ℕ, zero, suc, ◌+◌, ◌-◌, ◌*◌, ◌/◌, ◌<◌, ◌≤◌, ◌==◌, Bool, true, false, List, [], ◌∷◌, ◌++◌, length, take, drop, filter, slice_index, if◌then◌else◌}
+use Rattle.std.specs.Prelude.{◌≡◌, ◌≢◌, ℕ, zero, suc, ◌+◌, ◌-◌, ◌*◌, ◌/◌, ◌<◌, ◌≤◌, ◌==◌, Bool, true, false, List, [], ◌∷◌, ◌++◌, length, take, drop, filter, slice_index, if◌then◌else◌}
 use Rattle.std.specs.List.{range_with_len, flat_map, AllByRecursion}
 use Rattle.domain_bitmap.specs.Bits.{has_bit}
 
@@ -53,3 +53,23 @@ in_first_block (block ∷ blocks) t = if block.window == t / 256 then has_bit bl
 
 unfoldable pub contains_type : List ℕ → ℕ → Bool
 contains_type octets t = in_first_block (blocks_of octets) t
+
+-- the windows of blocks ascend strictly, from a number on
+abbrev pub WindowsAscendFrom : ℕ → List Block → Type 0
+WindowsAscendFrom low [] = Unit {0}
+WindowsAscendFrom low (block ∷ blocks) = (low ≤ block.window) × WindowsAscendFrom (block.window + 1) blocks
+
+-- the last of octets, or zero where there is none
+abbrev pub last_octet : List ℕ → ℕ
+last_octet [] = 0
+last_octet (octet ∷ []) = octet
+last_octet (octet ∷ next ∷ octets) = last_octet (next ∷ octets)
+
+-- the octets are blocks in the one form that a builder gives: windows ascend strictly, and no block ends in a zero octet
+pub record IsShortest (octets : List ℕ) : Type 0 where
+  pub ascending : WindowsAscendFrom 0 (blocks_of octets)
+  pub cut : AllByRecursion (λ block. last_octet block.octets ≢ 0) (blocks_of octets)
+
+-- the types below a number that are in a set, in ascending order
+unfoldable pub types_below : ℕ → (ℕ → Bool) → List ℕ
+types_below n types = filter types (range_with_len 0 n)

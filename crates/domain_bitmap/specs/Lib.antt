@@ -2,3 +2,6 @@ pub mod Bits
 pub mod Bitmap
 pub mod Blocks
 pub mod Builder
+pub mod Text
+pub mod Fault
+pub mod Laws

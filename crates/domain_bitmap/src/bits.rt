@@ -9,7 +9,8 @@ pub(crate) fn split_rtype(rtype: Rtype) -> (u8, usize, u8)
     ensures window { result.0 ≡ rtype / 256 }
     ensures octet { result.1 ≡ rtype % 256 / 8 }
     ensures bit { result.2 ≡ rtype % 8 }
-    ensures bounds { result.1 < 32 }
+    ensures octet_bound { result.1 < 32 }
+    ensures bit_bound { result.2 < 8 }
 {
     let number = rtype.to_int();
     (

@@ -9,13 +9,16 @@ use crate::bits::split_rtype;
 use crate::pack::pack;
 use crate::slots::{SLOT, find_slot};
 use domain_base::Rtype;
-use domain_octets::{AppendError, EmptyBuilder, FreezeBuilder, Octets, OctetsBuilder, Truncate};
+use domain_octets::{
+    AppendError, EmptyBuilder, FreezeBuilder, Octets, OctetsBuilder, OutOfMemory, Truncate,
+    TryClone,
+};
 use std::alloc::Global;
 use std::marker::Model;
 
 /// A set of types to which types are added. It is seen as the octets of its buffer: what it holds
 /// is told by `holds` and `has_window`.
-#[derive(Drop)]
+#[derive(Debug, Drop)]
 pub struct RtypeBitmapBuilder<B: OctetsBuilder> {
     buffer: B,
 }
@@ -48,9 +51,33 @@ impl<B: EmptyBuilder> RtypeBitmapBuilder<B> {
             buffer: B::empty(alloc),
         }
     }
+
+    /// The same as `new`.
+    pub fn default(alloc: Global) -> Self
+        ensures empty { result ≡ [] }
+    {
+        Self::new(alloc)
+    }
 }
 
 impl<B: OctetsBuilder> RtypeBitmapBuilder<B> {
+    /// A builder over an empty buffer. Takes no memory.
+    pub fn with_builder(buffer: B) -> Self
+        requires { B.octets buffer ≡ [] }
+        ensures empty { result ≡ [] }
+    {
+        RtypeBitmapBuilder { buffer }
+    }
+
+    /// A copy. Uses the allocator of the buffer.
+    pub fn clone(&self) -> Result<Self, OutOfMemory>
+        ensures { IfOk result (λ copy. copy ≡ self.now) }
+    {
+        Ok(RtypeBitmapBuilder {
+            buffer: self.buffer.try_clone()?,
+        })
+    }
+
     /// The place of the first block of a window; where there is none, one without types is added.
     #[tactic(auto, using(crate::proofs::SlotLemmas::block_steps))]
     fn window_block(&mut self, window: u8) -> Result<usize, AppendError>

@@ -75,5 +75,9 @@ pub(crate) fn pack<B: OctetsBuilder>(buffer: &mut B) -> usize
     if len == 0 {
         return 0;
     }
-    if len == SLOT { pack_one(buffer) } else { pack_all(buffer) }
+    if len == SLOT {
+        pack_one(buffer)
+    } else {
+        pack_all(buffer)
+    }
 }

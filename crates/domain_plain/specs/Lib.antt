@@ -4,4 +4,6 @@ pub mod Layout
 pub mod Target
 pub mod Laws
 pub mod Plain
+pub mod Scan
 pub mod RecordLends
+pub mod RecordText

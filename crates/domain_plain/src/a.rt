@@ -1,16 +1,22 @@
 //! Addresses of hosts.
-ghost use Rattle.std.specs.Prelude.{◌≡◌};
+ghost use Rattle.std.specs.Prelude.{◌≡◌, IfOk, IfErr, Some};
 ghost use Rattle.std.specs.Net.Addr.{ipv4_octets};
+ghost use Rattle.std.specs.Net.Text.{ipv4_text};
 ghost use Rattle.std.specs.Ordering.{on, nat_cmp};
 ghost use Rattle.std.specs.Cmp.Lexicographic.{slice_cmp, on_texts};
+ghost use Rattle.domain_base.specs.Scan.{scan_fault_of};
+ghost use Rattle.domain_plain.specs.Scan.{Scans, Refuses};
 ghost use Rattle.domain_plain.specs.Layout.{octets_of, canonical_of};
 ghost use Rattle.domain_plain.specs.Plain.{a, a_values};
 
 use crate::fields::{self, Exactly, Fields};
+use crate::scan_fields::{Address, ScanFields};
 use crate::{ComposeRecordData, RecordData};
-use domain_base::{CanonicalOrd, Rtype};
+use domain_base::{CanonicalOrd, Rtype, ScanError, Scanner};
 use domain_octets::{AppendError, OctetsBuilder};
+use std::alloc::Global;
 use std::cmp::Ordering;
+use std::fmt;
 use std::net::Ipv4Addr;
 
 /// An IPv4 address of a host (RFC 1035, section 3.4.1).
@@ -25,6 +31,15 @@ impl A {
         ensures { result ≡ record { addr = addr } }
     {
         A { addr }
+    }
+
+    /// The data that the tokens begin with: an address. A refusal leaves an end of the tokens.
+    pub fn scan<S: Scanner>(alloc: Global, scanner: &mut S) -> Result<Self, ScanError>
+        ensures ok { IfOk result (λ d. Scans a (S.tokens scanner.old) (a_values d) (S.tokens scanner.new)) }
+        ensures err { IfErr result (λ e. Refuses S.Octets.Builder.limit a (S.tokens scanner.old) (S.tokens scanner.new) (scan_fault_of e)) }
+    {
+        let Address(addr) = <Address as ScanFields<S>>::scan(alloc, scanner)?;
+        Ok(A { addr })
     }
 
     /// The address.
@@ -85,5 +100,15 @@ impl CanonicalOrd for A {
 
     fn canonical_cmp(&self, other: &Self) -> Ordering {
         self.fields().order(&other.fields())
+    }
+}
+
+/// The address, as four decimal numbers with dots between them.
+impl fmt::Display for A {
+    ghost output = { λ d. Some (ipv4_text (ipv4_octets d.addr)) };
+
+    fn fmt<W: fmt::Write>(&self, f: &mut fmt::Formatter<W>) -> fmt::Result {
+        let addr = self.addr;
+        write!(f, "{addr}")
     }
 }

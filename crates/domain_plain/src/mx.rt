@@ -1,15 +1,22 @@
 //! Mail exchanges.
-ghost use Rattle.std.specs.Prelude.{◌≡◌};
+ghost use Rattle.std.specs.Prelude.{◌≡◌, ◌++◌, IfOk, IfErr, Some, codes};
 ghost use Rattle.std.specs.Ordering.{on, nat_cmp};
 ghost use Rattle.std.specs.Cmp.Lexicographic.{slice_cmp, on_texts};
+ghost use Rattle.std.specs.Fmt.{decimal};
+ghost use Rattle.domain_base.specs.Scan.{scan_fault_of};
+ghost use Rattle.domain_base.specs.Text.{name_text};
+ghost use Rattle.domain_plain.specs.Scan.{Scans, Refuses};
 ghost use Rattle.domain_plain.specs.Layout.{octets_of, canonical_of};
 ghost use Rattle.domain_plain.specs.Plain.{mx, mx_values};
 
 use crate::fields::{self, Fields, Lowers};
+use crate::scan_fields::{ScanFields, Scanned};
 use crate::{ComposeRecordData, RecordData};
-use domain_base::{CanonicalOrd, Rtype, ToName};
+use domain_base::{CanonicalOrd, Rtype, ScanError, Scanner, ToName};
 use domain_octets::{AppendError, OctetsBuilder};
+use std::alloc::Global;
 use std::cmp::Ordering;
+use std::fmt;
 
 /// A host that takes mail for the owner, and how much it is preferred (RFC 1035, section 3.3.9).
 #[derive(Debug, Drop)]
@@ -41,6 +48,24 @@ impl<N> Mx<N> {
         ensures { result.now ≡ self.now.exchange }
     {
         &self.exchange
+    }
+}
+
+impl<N: ToName> Mx<N> {
+    /// The data that the tokens begin with: a decimal number and a name. A refusal leaves an end of the tokens.
+    pub fn scan<S: Scanner<Name = N>>(alloc: Global, scanner: &mut S) -> Result<Self, ScanError>
+    where
+        N: Drop,
+        ensures ok { IfOk result (λ d. Scans mx (S.tokens scanner.old) (mx_values N.labels d) (S.tokens scanner.new)) }
+        ensures err { IfErr result (λ e. Refuses S.Octets.Builder.limit mx (S.tokens scanner.old) (S.tokens scanner.new) (scan_fault_of e)) }
+    {
+        let (preference, Scanned(exchange)) = <(u16, Scanned<N>) as ScanFields<S>>::scan(
+            alloc, scanner,
+        )?;
+        Ok(Mx {
+            preference,
+            exchange,
+        })
     }
 }
 
@@ -94,5 +119,16 @@ impl<N: ToName> CanonicalOrd for Mx<N> {
 
     fn canonical_cmp(&self, other: &Self) -> Ordering {
         self.fields().order(&other.fields())
+    }
+}
+
+/// The preference, and the name with its last dot.
+impl<N: ToName> fmt::Display for Mx<N> {
+    ghost output = { λ d. Some (decimal d.preference ++ codes " " ++ name_text (N.labels d.exchange) ++ codes ".") };
+
+    fn fmt<W: fmt::Write>(&self, f: &mut fmt::Formatter<W>) -> fmt::Result {
+        let preference = self.preference;
+        let exchange = self.exchange.fmt_with_dot();
+        write!(f, "{preference} {exchange}")
     }
 }

@@ -1,15 +1,22 @@
 //! Name servers.
-ghost use Rattle.std.specs.Prelude.{◌≡◌};
+ghost use Rattle.std.specs.Prelude.{◌≡◌, ◌++◌, IfOk, IfErr, Some, codes};
 ghost use Rattle.std.specs.Ordering.{on, nat_cmp};
 ghost use Rattle.std.specs.Cmp.Lexicographic.{slice_cmp, on_texts};
+ghost use Rattle.std.specs.Fmt.{decimal};
+ghost use Rattle.domain_base.specs.Scan.{scan_fault_of};
+ghost use Rattle.domain_base.specs.Text.{name_text};
+ghost use Rattle.domain_plain.specs.Scan.{Scans, Refuses};
 ghost use Rattle.domain_plain.specs.Layout.{octets_of, canonical_of};
 ghost use Rattle.domain_plain.specs.Plain.{ns, ns_values};
 
 use crate::fields::{self, Fields, Lowers};
+use crate::scan_fields::{ScanFields, Scanned};
 use crate::{ComposeRecordData, RecordData};
-use domain_base::{CanonicalOrd, Rtype, ToName};
+use domain_base::{CanonicalOrd, Rtype, ScanError, Scanner, ToName};
 use domain_octets::{AppendError, OctetsBuilder};
+use std::alloc::Global;
 use std::cmp::Ordering;
+use std::fmt;
 
 /// A name server that is authoritative for the owner's zone (RFC 1035, section 3.3.11).
 #[derive(Debug, Drop)]
@@ -30,6 +37,19 @@ impl<N> Ns<N> {
         ensures { result.now ≡ self.now.nsdname }
     {
         &self.nsdname
+    }
+}
+
+impl<N: ToName> Ns<N> {
+    /// The data that the tokens begin with: a name. A refusal leaves an end of the tokens.
+    pub fn scan<S: Scanner<Name = N>>(alloc: Global, scanner: &mut S) -> Result<Self, ScanError>
+    where
+        N: Drop,
+        ensures ok { IfOk result (λ d. Scans ns (S.tokens scanner.old) (ns_values N.labels d) (S.tokens scanner.new)) }
+        ensures err { IfErr result (λ e. Refuses S.Octets.Builder.limit ns (S.tokens scanner.old) (S.tokens scanner.new) (scan_fault_of e)) }
+    {
+        let Scanned(nsdname) = <Scanned<N> as ScanFields<S>>::scan(alloc, scanner)?;
+        Ok(Ns { nsdname })
     }
 }
 
@@ -83,5 +103,15 @@ impl<N: ToName> CanonicalOrd for Ns<N> {
 
     fn canonical_cmp(&self, other: &Self) -> Ordering {
         self.fields().order(&other.fields())
+    }
+}
+
+/// The name with its last dot.
+impl<N: ToName> fmt::Display for Ns<N> {
+    ghost output = { λ d. Some (name_text (N.labels d.nsdname) ++ codes ".") };
+
+    fn fmt<W: fmt::Write>(&self, f: &mut fmt::Formatter<W>) -> fmt::Result {
+        let nsdname = self.nsdname.fmt_with_dot();
+        write!(f, "{nsdname}")
     }
 }

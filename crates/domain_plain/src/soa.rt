@@ -1,14 +1,18 @@
 //! Starts of zones.
-ghost use Rattle.std.specs.Prelude.{◌≡◌};
+ghost use Rattle.std.specs.Prelude.{◌≡◌, IfOk, IfErr};
 ghost use Rattle.std.specs.Ordering.{on, nat_cmp};
 ghost use Rattle.std.specs.Cmp.Lexicographic.{slice_cmp, on_texts};
+ghost use Rattle.domain_base.specs.Scan.{scan_fault_of};
+ghost use Rattle.domain_plain.specs.Scan.{Scans, Refuses};
 ghost use Rattle.domain_plain.specs.Layout.{octets_of, canonical_of};
 ghost use Rattle.domain_plain.specs.Plain.{soa, soa_values};
 
 use crate::fields::{self, Fields, Lowers};
+use crate::scan_fields::{ScanFields, Scanned};
 use crate::{ComposeRecordData, RecordData};
-use domain_base::{CanonicalOrd, Rtype, ToName, Ttl};
+use domain_base::{CanonicalOrd, Rtype, ScanError, Scanner, ToName, Ttl};
 use domain_octets::{AppendError, OctetsBuilder};
+use std::alloc::Global;
 use std::cmp::Ordering;
 
 /// The start of a zone of authority (RFC 1035, section 3.3.13).
@@ -27,6 +31,8 @@ type SoaFields<'a, N> = (
     (Lowers<'a, N>, Lowers<'a, N>),
     ((u32, (u32, u32)), (u32, u32)),
 );
+
+type ScannedSoa<N> = ((Scanned<N>, Scanned<N>), ((u32, (u32, u32)), (u32, u32)));
 
 impl<N> Soa<N> {
     /// The data of these fields.
@@ -99,6 +105,30 @@ impl<N> Soa<N> {
         ensures { result ≡ self.now.minimum }
     {
         self.minimum
+    }
+}
+
+impl<N: ToName> Soa<N> {
+    /// The data that the tokens begin with: two names and five decimal numbers. A refusal leaves an end of the tokens.
+    pub fn scan<S: Scanner<Name = N>>(alloc: Global, scanner: &mut S) -> Result<Self, ScanError>
+    where
+        N: Drop,
+        ensures ok { IfOk result (λ d. Scans soa (S.tokens scanner.old) (soa_values N.labels d) (S.tokens scanner.new)) }
+        ensures err { IfErr result (λ e. Refuses S.Octets.Builder.limit soa (S.tokens scanner.old) (S.tokens scanner.new) (scan_fault_of e)) }
+    {
+        let (names, ((serial, (refresh, retry)), (expire, minimum))) = <ScannedSoa<N> as ScanFields<
+            S,
+        >>::scan(alloc, scanner)?;
+        let (Scanned(mname), Scanned(rname)) = names;
+        Ok(Soa {
+            mname,
+            rname,
+            serial,
+            refresh: Ttl::from_secs(refresh),
+            retry: Ttl::from_secs(retry),
+            expire: Ttl::from_secs(expire),
+            minimum: Ttl::from_secs(minimum),
+        })
     }
 }
 

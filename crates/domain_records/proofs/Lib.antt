@@ -1,6 +1,11 @@
 pub mod Firsts
+pub mod FoundGroups
+pub mod Lookups
+pub mod Matches
 pub mod OrderLemmas
+pub mod Removals
 pub mod RrsetLemmas
 pub mod Runs
 pub mod SortedLists
 pub mod Sorting
+pub mod Texts

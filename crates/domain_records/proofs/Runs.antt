@@ -14,7 +14,7 @@ module _ {X : Type 0} (same : X → X → Bool) where
     | false ↦ ([], (y ∷ ys) ∷ gs, refl)
   ]
 
-  begins : (x : X) (xs : List X) → (g : List X) × (hs : List (List X)) × (runs same (x ∷ xs) ≡ (x ∷ g) ∷ hs)
+  pub begins : (x : X) (xs : List X) → (g : List X) × (hs : List (List X)) × (runs same (x ∷ xs) ≡ (x ∷ g) ∷ hs)
   unfolding runs
   begins x xs = heads_step x (runs same xs)
 

@@ -1,9 +1,8 @@
 -- What the calls of sorted records add, remove and change.
-use Rattle.std.specs.Prelude.{◌≡◌, ℕ, ◌<◌, Bool, true, false, ◌==◌, ◌&&◌, List, [], ◌∷◌, length, Option, Some, None, slice_index_or, remove, ◌⊎◌, if◌then◌else◌}
+use Rattle.std.specs.Prelude.{◌≡◌, ℕ, ◌<◌, Bool, true, false, List, [], ◌∷◌, length, Option, Some, None, slice_index_or, remove, ◌⊎◌, if◌then◌else◌}
 use Rattle.std.specs.Fn.{Shared, FnReturnsAt}
 use Rattle.std.specs.Iterator.{Drains}
 use Rattle.std.specs.declared.cmp.Ordering.{Ordering}
-use Rattle.domain_base.specs.Name.{same_name}
 use Rattle.domain_plain.specs.declared.record.Record.{Record}
 use Rattle.domain_records.specs.declared.error.InsertError.{InsertError}
 use Rattle.domain_records.specs.declared.error.InsertError.TheVariants.{Present, OutOfMemory}
@@ -18,15 +17,6 @@ Gives {U} {I} into next more xs = (it : I) × into more it × Drains next it xs
 abbrev pub refused : {N D : Type 0} → InsertError N D → Record N D
 refused (Present r) = r
 refused (OutOfMemory r) = r
-
--- nothing is asked, or this number
-abbrev pub is_asked : Option ℕ → ℕ → Bool
-is_asked None n = true
-is_asked (Some m) n = n == m
-
--- a record of this owner, and of the class and the type that are asked
-abbrev pub matches : {N D : Type 0} → (N → List (List ℕ)) → (D → ℕ) → List (List ℕ) → Option ℕ → Option ℕ → Record N D → Bool
-matches labels rtype owner class type r = same_name (labels r.owner) owner && is_asked class r.class && is_asked type (rtype r.«data»)
 
 -- without the first element that passes the test
 abbrev pub without_first : {X : Type 0} → (X → Bool) → List X → List X

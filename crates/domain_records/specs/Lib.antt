@@ -1,8 +1,10 @@
 pub mod Edits
 pub mod Groups
+pub mod Lookup
 pub mod Order
 pub mod Rrsets
 pub mod Runs
 pub mod Slices
 pub mod Sort
 pub mod SortedSet
+pub mod Text

@@ -1,6 +1,5 @@
 -- Records of one owner and one type (RFC 2181, section 5).
-use Rattle.std.specs.Prelude.{◌≡◌, ◌≢◌, ℕ, ◌<◌, Bool, false, List, [], ◌∷◌, ◌++◌, length, Option, Result, Some, None, Ok, MatchOption, MatchResult, ◌==◌, ◌&&◌}
-use Rattle.domain_base.specs.Name.{same_name}
+use Rattle.std.specs.Prelude.{◌≡◌, ◌≢◌, ℕ, ◌<◌, Bool, false, List, [], ◌∷◌, ◌++◌, length, Option, Result, Some, None, Ok, MatchOption, MatchResult, drop}
 use Rattle.domain_plain.specs.declared.record.Record.{Record}
 use Rattle.domain_records.specs.declared.error.SigningError.{SigningError}
 use Rattle.domain_records.specs.declared.error.SigningError.TheVariants.{EmptyRecordSlice, MultipleTtlValues, SoaRecordCouldNotBeDetermined, Nsec3HashingError, OutOfMemory}
@@ -33,15 +32,20 @@ IsRrsetOf rtype group item = MatchResult item (λ set. (set ≡ group) × HasOne
 abbrev pub TakesRrset : {N D : Type 0} → (Record N D → Record N D → Bool) → (D → ℕ) → List (Record N D) → Option (Result (List (Record N D)) SigningError) → List (Record N D) → Type 0
 TakesRrset {N} {D} same rtype s r t = MatchOption r ((s ≡ []) × (t ≡ [])) (λ item. (group : List (Record N D)) × (s ≡ group ++ t) × (runs same s ≡ group ∷ runs same t) × IsRrsetOf rtype group item)
 
--- a group of this type
-abbrev pub is_of_type : {N D : Type 0} → (D → ℕ) → ℕ → List (Record N D) → Bool
-is_of_type rtype t [] = false
-is_of_type rtype t (r ∷ rs) = rtype r.«data» == t
+-- a group whose first record passes the test
+abbrev pub begins_with : {X : Type 0} → (X → Bool) → List X → Bool
+begins_with p [] = false
+begins_with p (x ∷ xs) = p x
 
--- a group of this owner and type
-abbrev pub is_of : {N D : Type 0} → (N → List (List ℕ)) → (D → ℕ) → List (List ℕ) → ℕ → List (Record N D) → Bool
-is_of labels rtype owner t [] = false
-is_of labels rtype owner t (r ∷ rs) = same_name (labels r.owner) owner && (rtype r.«data» == t)
+-- the first of the groups, if there is one
+abbrev pub first_group : {X : Type 0} → List (List X) → Option (List X)
+first_group [] = None
+first_group (g ∷ gs) = Some g
+
+-- the group that begins at that place
+abbrev pub group_at : {X : Type 0} → (X → X → Bool) → List X → Option ℕ → Option (List X)
+group_at same xs None = None
+group_at same xs (Some i) = first_group (runs same (drop i xs))
 
 -- the group that was found, if there is one, as an RRset, or its refusal
 abbrev pub IsFound : {N D : Type 0} → (D → ℕ) → Option (List (Record N D)) → Result (Option (List (Record N D))) SigningError → Type 0

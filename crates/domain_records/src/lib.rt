@@ -4,11 +4,15 @@
 mod error;
 mod group;
 mod list;
+mod lookup;
 mod owner;
 mod rrset;
 mod slice;
 mod sorted;
 mod sorter;
+#[cfg(test)]
+mod tests;
+mod write;
 
 pub use error::{InsertError, Nsec3HashError, SigningError};
 pub use owner::{OwnerRrs, RecordsIter};

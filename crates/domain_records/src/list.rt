@@ -1,9 +1,10 @@
 //! Lists as sorted sets.
-ghost use Rattle.std.specs.Prelude.{◌≡◌, ◌≤◌, ◌++◌, ◌∷◌, List, IsTrue, IfOk, IfErr, OnOk, OnErr, vec_len};
+ghost use Rattle.std.specs.Prelude.{◌≡◌, ◌++◌, List, IfOk, IfErr, OnOk, OnErr};
 ghost use Rattle.std.specs.List.{dedup};
 ghost use Rattle.std.specs.List.Sorted.{IsStrictlySortedBy};
 ghost use Rattle.std.specs.Ordering.{eq_by_cmp};
-ghost use Rattle.std.specs.Iterator.{IsFinite, Drains};
+ghost use Rattle.std.specs.Iterator.{IsFiniteIterable};
+ghost use Rattle.domain_records.specs.Edits.{Gives, IsFirstMatch};
 ghost use Rattle.domain_records.specs.SortedSet.{IsAt, IsGapFor, IsUnion};
 
 use crate::sorter::Sorter;
@@ -27,4 +28,45 @@ pub(crate) fn sort_and_dedup<T: CanonicalOrd + Drop, S: Sorter>(
     S::sort_by(items, T::canonical_cmp)?;
     dedup_equal(items);
     Ok(())
+}
+
+/// Where an equal element stands, or where `item` would go, by a binary search.
+pub(crate) fn search<T: CanonicalOrd>(items: &[T], item: &T) -> Result<usize, usize>
+    requires { IsStrictlySortedBy T.canonical_cmp items.now }
+    ensures found { IfOk result (IsAt T.canonical_cmp items.now item.now) }
+    ensures absent { IfErr result (IsGapFor T.canonical_cmp items.now item.now) }
+{
+    items.binary_search_by(|stored| stored.canonical_cmp(item))
+}
+
+/// Puts items at the end. A refusal leaves the list as it was.
+pub(crate) fn append<T: Drop, U: IntoIterator<Item = T>>(
+    items: &mut Vec<T>,
+    more: U,
+) -> Result<(), OutOfMemory>
+    requires { IsFiniteIterable U.into_iter_gives U.IntoIter.can_next U.IntoIter.remaining more }
+    ensures ok { OnOk result ((xs : List T)
+        × Gives U.into_iter_gives U.IntoIter.next_gives more xs × (items.new.items ≡ items.old.items ++ xs)) }
+    ensures err { OnErr result (items.new.items ≡ items.old.items) }
+{
+    let stored = items.len();
+    let result = items.extend(more);
+    if result.is_err() {
+        items.truncate(stored);
+        return Err(OutOfMemory);
+    }
+    Ok(())
+}
+
+/// The place of the first element of which the test answers true.
+pub(crate) fn first_match<T, F: Fn(&T) -> bool>(items: &[T], test: &F) -> Option<usize>
+    requires { F.IsAlwaysCallable test.now }
+    ensures { IsFirstMatch F.Fn test.now items.now result }
+{
+    for (i, item) in items.iter().enumerate() {
+        if test(item) {
+            return Some(i);
+        }
+    }
+    None
 }

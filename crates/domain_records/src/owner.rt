@@ -172,6 +172,13 @@ impl<'a, N: ToName, D> RecordsIter<'a, N, D> {
         self.left.at(0)
     }
 
+    /// The records that are left, one after another.
+    pub fn records(&self) -> SliceRefsOrOwnedIterator<'a, Record<N, D>>
+        ensures { result ≡ self.now }
+    {
+        self.left.iter()
+    }
+
     /// Drops records from the front while their owners are not at or below the apex, all where none is.
     pub fn skip_before(&mut self, apex: &N)
         ensures { SkipsTo (λ r. IsAtOrBelow (N.labels r.owner) (N.labels apex.now)) self.old self.new }

@@ -1,17 +1,33 @@
 //! Sorted records.
-ghost use Rattle.std.specs.Prelude.{◌≡◌, [], List, IfOk};
+ghost use Rattle.std.specs.Prelude.{◌≡◌, ◌↔◌, ◌==◌, ◌++◌, ℕ, [], List, length, not, filter, find, Option, IsTrue, IfOk, IfErr, OnOk, OnErr, IsErrOf};
+ghost use Rattle.std.specs.List.{list_any};
+ghost use Rattle.std.specs.Fmt.{WritesText};
+ghost use Rattle.domain_records.specs.Text.{texts, soa_first, WritesWithComments};
+ghost use Rattle.std.specs.Slice.Iter.{iter_rest};
+ghost use Rattle.std.specs.Iterator.{IsFiniteIterable};
 ghost use Rattle.std.specs.List.Sorted.{IsStrictlySortedBy};
 ghost use Rattle.domain_plain.specs.Record.{record_cmp};
+ghost use Rattle.domain_records.specs.Edits.{Gives, refused, without_first, IsFirstMatch, Updates};
+ghost use Rattle.domain_records.specs.Lookup.{matches};
+ghost use Rattle.domain_records.specs.Groups.{same_rrset};
+ghost use Rattle.domain_records.specs.Rrsets.{IsFound, begins_with};
+ghost use Rattle.domain_records.specs.Runs.{runs};
 ghost use Rattle.domain_records.specs.Order.{IsOneClass, IsInOrder};
-ghost use Rattle.domain_records.specs.SortedSet.{IsUnion};
+ghost use Rattle.domain_records.specs.SortedSet.{IsUnion, Adds, Holds};
 
-use crate::list::sort_and_dedup;
+use crate::error::{InsertError, SigningError};
+use crate::list::{append, first_match, search, sort_and_dedup};
+use crate::lookup::{Wanted, first_of_type, first_place, is_wanted, rrset_at};
 use crate::owner::RecordsIter;
+use crate::rrset::{Rrset, RrsetIter};
 use crate::sorter::{DefaultSorter, Sorter};
-use domain_base::{CanonicalOrd, ToName};
+use crate::write::{SoaRecords, write_part, write_part_with_comments};
+use domain_base::{CanonicalOrd, Class, Rtype, ToName};
 use domain_octets::OutOfMemory;
 use domain_plain::{Record, RecordData};
+use std::alloc::Global;
 use std::marker::{Model, PhantomData};
+use std::{fmt, slice};
 
 /// Records in canonical order, no two of them equal under it. Contracts see the list of the records.
 #[derive(Drop)]
@@ -33,7 +49,26 @@ impl<N: ToName, D: RecordData + CanonicalOrd, Sort: Sorter> Model for SortedReco
     ghost invariant = { λ s. IsStrictlySortedBy (record_cmp N.labels D.rtype D.canonical_cmp) s.records.items };
 }
 
+impl<N: ToName, D: RecordData + CanonicalOrd> SortedRecords<N, D> {
+    /// No records, under the sorter of the standard library. Takes no memory.
+    pub fn default(alloc: Global) -> Self
+        ensures { result ≡ [] }
+    {
+        SortedRecords::new(alloc)
+    }
+}
+
 impl<N: ToName, D: RecordData + CanonicalOrd, Sort: Sorter> SortedRecords<N, D, Sort> {
+    /// No records. Takes no memory.
+    pub fn new(alloc: Global) -> Self
+        ensures { result ≡ [] }
+    {
+        SortedRecords {
+            records: Vec::new(alloc),
+            sorter: PhantomData,
+        }
+    }
+
     /// Sorts the records, and keeps one of those that are equal under the canonical order: the earliest, where the
     /// sorter is stable. Takes one sort and one pass.
     ///
@@ -53,6 +88,228 @@ impl<N: ToName, D: RecordData + CanonicalOrd, Sort: Sorter> SortedRecords<N, D, 
         })
     }
 
+    /// Takes the records that an iterator gives, as `from_vec` does.
+    ///
+    /// # Errors
+    ///
+    /// `OutOfMemory` where there was no memory, or where the sorter answers it.
+    pub fn from_iter<U: IntoIterator<Item = Record<N, D>>>(
+        alloc: Global,
+        records: U,
+    ) -> Result<Self, OutOfMemory>
+    where
+        N: Drop,
+        D: Drop,
+        requires { IsFiniteIterable U.into_iter_gives U.IntoIter.can_next U.IntoIter.remaining records }
+        ensures { IfOk result (λ all. (xs : List (Record N D))
+            × Gives U.into_iter_gives U.IntoIter.next_gives records xs
+            × IsUnion Sort.is_stable (record_cmp N.labels D.rtype D.canonical_cmp) xs all) }
+    {
+        let mut all = SortedRecords::new(alloc);
+        all.extend(records)?;
+        Ok(all)
+    }
+
+    /// Puts records in, and keeps one of those that are equal under the canonical order: the earliest, where the sorter
+    /// is stable, and those that were stored count as earlier. Takes one sort and one pass.
+    ///
+    /// # Errors
+    ///
+    /// `OutOfMemory` where there was no memory, or where the sorter answers it. What was stored is then as it was.
+    pub fn extend<U: IntoIterator<Item = Record<N, D>>>(
+        &mut self,
+        more: U,
+    ) -> Result<(), OutOfMemory>
+    where
+        N: Drop,
+        D: Drop,
+        requires { IsFiniteIterable U.into_iter_gives U.IntoIter.can_next U.IntoIter.remaining more }
+        ensures ok { OnOk result ((xs : List (Record N D))
+            × Gives U.into_iter_gives U.IntoIter.next_gives more xs
+            × IsUnion Sort.is_stable (record_cmp N.labels D.rtype D.canonical_cmp) (self.old ++ xs) self.new) }
+        ensures err { OnErr result (self.new ≡ self.old) }
+    {
+        let stored = self.records.len();
+        append(&mut self.records, more)?;
+        let result = sort_and_dedup::<Record<N, D>, Sort>(&mut self.records);
+        if result.is_err() {
+            self.records.truncate(stored);
+        }
+        result
+    }
+
+    /// Puts one record in, by a binary search. For many records `extend` is meant.
+    ///
+    /// # Errors
+    ///
+    /// `Present` exactly where a record stands that is equal under the canonical order, whatever its TTL, and
+    /// `OutOfMemory`. Both hand the record back, and what was stored is then as it was.
+    pub fn insert(&mut self, added: Record<N, D>) -> Result<(), InsertError<N, D>>
+        ensures ok { OnOk result (Adds (record_cmp N.labels D.rtype D.canonical_cmp) self.old added self.new) }
+        ensures present { IsErrOf result (InsertError.Present added)
+            ↔ Holds (record_cmp N.labels D.rtype D.canonical_cmp) self.old added }
+        ensures err { OnErr result (self.new ≡ self.old) }
+        ensures handed_back { IfErr result (λ e. refused e ≡ added) }
+    {
+        match search(&self.records, &added) {
+            Ok(_) => Err(InsertError::Present(added)),
+            Err(at) => {
+                if let Err(failed) = self.records.insert(at, added) {
+                    return Err(InsertError::OutOfMemory(failed.value));
+                }
+                Ok(())
+            }
+        }
+    }
+
+    /// Takes out all records of this owner, of the class and the type that are asked: `None` asks for any. Answers
+    /// whether there was one. Takes no memory.
+    pub fn remove_all_by_name_class_rtype(
+        &mut self,
+        name: &N,
+        class: Option<Class>,
+        rtype: Option<Rtype>,
+    ) -> bool
+    where
+        N: Drop,
+        D: Drop,
+        ensures kept { self.new
+            ≡ filter (λ r. not (matches N.labels D.rtype (N.labels name.now) class rtype r)) self.old }
+        ensures found { result ≡ list_any (matches N.labels D.rtype (N.labels name.now) class rtype) self.old }
+    {
+        let wanted = Wanted {
+            owner: name,
+            class,
+            rtype,
+        };
+        if first_place(&self.records, &wanted).is_none() {
+            return false;
+        }
+        self.records.retain(|stored| !is_wanted(stored, &wanted));
+        true
+    }
+
+    /// Takes out the first record of this owner, of the class and the type that are asked: `None` asks for any. Answers
+    /// whether there was one. Takes no memory.
+    pub fn remove_first_by_name_class_rtype(
+        &mut self,
+        name: &N,
+        class: Option<Class>,
+        rtype: Option<Rtype>,
+    ) -> bool
+    where
+        N: Drop,
+        D: Drop,
+        ensures kept { self.new ≡ without_first (matches N.labels D.rtype (N.labels name.now) class rtype) self.old }
+        ensures found { result ≡ list_any (matches N.labels D.rtype (N.labels name.now) class rtype) self.old }
+    {
+        let wanted = Wanted {
+            owner: name,
+            class,
+            rtype,
+        };
+        match first_place(&self.records, &wanted) {
+            Some(at) => {
+                let _ = self.records.remove(at);
+                true
+            }
+            None => false,
+        }
+    }
+
+    /// Gives the first record that the matcher passes other data, and moves it to its place. It is dropped where a
+    /// record stands there that is equal under the canonical order. Where the matcher passes none, nothing changes.
+    /// Takes no memory.
+    pub fn update_data<F: Fn(&Record<N, D>) -> bool>(&mut self, matcher: F, data: D)
+    where
+        N: Drop,
+        D: Drop,
+        F: Drop,
+        requires { F.IsAlwaysCallable matcher }
+        ensures { (at : Option ℕ) × IsFirstMatch F.Fn matcher self.old at
+            × Updates (record_cmp N.labels D.rtype D.canonical_cmp) at «data» self.old self.new }
+    {
+        if let Some(at) = first_match(&self.records, &matcher) {
+            let mut changed = self.records.remove(at);
+            *changed.data_mut() = data;
+            if let Err(place) = search(&self.records, &changed) {
+                let _ = self.records.insert(place, changed);
+            }
+        }
+    }
+
+    /// The records of one owner after another.
+    pub fn owner_rrs(&self) -> RecordsIter<'_, N, D>
+        ensures records { result ≡ self.now }
+        ensures in_order { IsOneClass self.now → IsInOrder N.labels D.rtype self.now }
+    {
+        RecordsIter::new_from_owned(self.as_slice())
+    }
+
+    /// The records of one owner and one type after another.
+    pub fn rrsets(&self) -> RrsetIter<'_, N, D>
+        ensures { result ≡ self.now }
+    {
+        RrsetIter::new_from_owned(self.as_slice())
+    }
+
+    /// The first group of SOA records of one owner, whatever the owner.
+    ///
+    /// # Errors
+    ///
+    /// `MultipleTtlValues` where the TTLs of that group differ.
+    pub fn find_soa(&self) -> Result<Option<Rrset<'_, N, D>>, SigningError>
+        ensures { IsFound D.rtype
+            (find (begins_with (λ r. D.rtype r.«data» == 6)) (runs (same_rrset N.labels D.rtype) self.now)) result }
+    {
+        let records = self.as_slice();
+        rrset_at(records, first_of_type(records, Rtype::SOA))
+    }
+
+    /// The first group of records of this owner and this type. Takes binary searches, one or two a class.
+    ///
+    /// # Errors
+    ///
+    /// `MultipleTtlValues` where the TTLs of that group differ, and their type is not RRSIG.
+    pub fn find_apex_rtype(
+        &self,
+        apex: &N,
+        rtype: Rtype,
+    ) -> Result<Option<Rrset<'_, N, D>>, SigningError>
+        ensures { IsFound D.rtype
+            (find (begins_with (matches N.labels D.rtype (N.labels apex.now) None (Some rtype)))
+            (runs (same_rrset N.labels D.rtype) self.now)) result }
+    {
+        let wanted = Wanted {
+            owner: apex,
+            class: None,
+            rtype: Some(rtype),
+        };
+        let records = self.as_slice();
+        rrset_at(records, first_place(records, &wanted))
+    }
+
+    /// The number of records.
+    pub fn len(&self) -> usize
+        ensures { result ≡ length self.now }
+    {
+        self.records.len()
+    }
+
+    /// Whether there is no record.
+    pub fn is_empty(&self) -> bool
+        ensures { IsTrue result ↔ (self.now ≡ []) }
+    {
+        self.records.is_empty()
+    }
+
+    /// The records in order, one after another.
+    pub fn iter(&self) -> slice::Iter<'_, Record<N, D>>
+        ensures { iter_rest result ≡ self.now }
+    {
+        self.records.iter()
+    }
+
     /// The records in order.
     pub fn as_slice(&self) -> &[Record<N, D>]
         ensures records { result.now ≡ self.now }
@@ -62,11 +319,53 @@ impl<N: ToName, D: RecordData + CanonicalOrd, Sort: Sorter> SortedRecords<N, D, 
         self.records.as_slice()
     }
 
-    /// The records of one owner after another.
-    pub fn owner_rrs(&self) -> RecordsIter<'_, N, D>
-        ensures records { result ≡ self.now }
-        ensures in_order { IsOneClass self.now → IsInOrder N.labels D.rtype self.now }
+    /// The records in order, as a list. Takes no memory.
+    pub fn into_inner(self) -> Vec<Record<N, D>>
+        ensures records { result.items ≡ self }
+        ensures sorted { IsStrictlySortedBy (record_cmp N.labels D.rtype D.canonical_cmp) self }
     {
-        RecordsIter::new_from_owned(self.as_slice())
+        let SortedRecords { records, sorter: _ } = self;
+        records
+    }
+
+    /// Writes the SOA records and then the others, each in order, with nothing between them.
+    ///
+    /// # Errors
+    ///
+    /// The first error of the writer.
+    pub fn write<W: fmt::Write>(&self, target: &mut W) -> fmt::Result
+    where
+        D: fmt::Display,
+        ensures { OnOk result (WritesText W.write_str_gives target.old
+            (texts ⟦<Record<N, D> as fmt::Display>⟧.output (soa_first D.rtype self.now)) target.new) }
+    {
+        let records = self.as_slice();
+        write_part::<Record<N, D>, SoaRecords, W>(records, true, target)?;
+        write_part::<Record<N, D>, SoaRecords, W>(records, false, target)
+    }
+
+    /// Writes the SOA records and then the others, each in order, and after each what `comment` writes at it and one
+    /// line feed.
+    ///
+    /// # Errors
+    ///
+    /// The first error of the writer or of `comment`.
+    pub fn write_with_comments<W: fmt::Write, F: Fn(&Record<N, D>, &mut W) -> fmt::Result>(
+        &self,
+        target: &mut W,
+        comment: F,
+    ) -> fmt::Result
+    where
+        D: fmt::Display,
+        F: Drop,
+        requires { F.IsAlwaysCallable comment }
+        ensures { OnOk result (WritesWithComments W.write_str_gives ⟦<Record<N, D> as fmt::Display>⟧.output F.Fn
+            comment target.old (soa_first D.rtype self.now) target.new) }
+    {
+        let records = self.as_slice();
+        write_part_with_comments::<Record<N, D>, SoaRecords, W, F>(
+            records, true, target, &comment,
+        )?;
+        write_part_with_comments::<Record<N, D>, SoaRecords, W, F>(records, false, target, &comment)
     }
 }

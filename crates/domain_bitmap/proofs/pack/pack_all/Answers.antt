@@ -31,21 +31,21 @@ loop-window-preserved g c =
     let bits : (t : ℕ) → t < 65536 → bit_of (get_or c.of-table.result.octets (t / 8) 0) (t % 8) ≡ holds value t = rw c.as_slice-slots.ensures at c.of-table.ensures.types in
     elim c.if-has_window.branch [
       | then-has_window w ↦
-        let present : has_window value at ≡ true = told ∙ w.if-has_window.true in
-        let all : length c.of-table.result.octets ≡ 8192 = search rules in
-        let octets = table_window c.of-table.result.octets value w.window_octets.result.now at c.loop-window-test.true all w.window_octets.ensures w.write_block-end.ensures.bounded bits in
-        record {
-          written = rw (w.buffer-is, w.end-is) (written_more (holds value) at _ _ w.window_octets.result.now c.loop-window.invariant.written octets w.write_block-end.ensures.written);
-          size = rw w.buffer-is (w.write_block-end.ensures.size ∙ c.loop-window.invariant.size);
-          room = rw w.end-is (omega (arith, w.write_block-end.ensures.grows, c.loop-window.invariant.room, tally-more (has_window value) at present));
-        }
+          let present : has_window value at ≡ true = told ∙ w.if-has_window.true in
+          let all : length c.of-table.result.octets ≡ 8192 = search rules in
+          let octets = table_window c.of-table.result.octets value w.window_octets.result.now at c.loop-window-test.true all w.window_octets.ensures w.write_block-end.ensures.bounded bits in
+          record {
+            written = rw (w.buffer-is, w.end-is) (written_more (holds value) at _ _ w.window_octets.result.now c.loop-window.invariant.written octets w.write_block-end.ensures.written);
+            size = rw w.buffer-is (w.write_block-end.ensures.size ∙ c.loop-window.invariant.size);
+            room = rw w.end-is (omega (arith, w.write_block-end.ensures.grows, c.loop-window.invariant.room, tally-more (has_window value) at present));
+          }
       | else-has_window w ↦
-        let absent : has_window value at ≡ false = told ∙ w.if-has_window.false in
-        record {
-          written = rw (w.buffer-is, w.end-is) (skipped_more (holds value) at _ c.loop-window.invariant.written (holds-absent value at absent));
-          size = rw w.buffer-is c.loop-window.invariant.size;
-          room = rw w.end-is (omega (arith, c.loop-window.invariant.room, tally-less (has_window value) at absent));
-        }
+          let absent : has_window value at ≡ false = told ∙ w.if-has_window.false in
+          record {
+            written = rw (w.buffer-is, w.end-is) (skipped_more (holds value) at _ c.loop-window.invariant.written (holds-absent value at absent));
+            size = rw w.buffer-is c.loop-window.invariant.size;
+            room = rw w.end-is (omega (arith, c.loop-window.invariant.room, tally-less (has_window value) at absent));
+          }
     ]
 
 pub returns : goal.returns

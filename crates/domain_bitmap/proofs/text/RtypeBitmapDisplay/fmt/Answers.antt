@@ -1,0 +1,43 @@
+use Rattle.std.proofs.Common.{◌≡◌, ◌++◌, ◌∷◌, [], refl, sym, ap, ◌∙◌}
+use Rattle.std.proofs.Output.{has_written_append, has_written_of_eq, writes_in_calls_nil}
+use Rattle.std.proofs.lemmas.List.{append_assoc, append-nil}
+use Rattle.domain_base.specs.Numbers.{type_text}
+use Rattle.domain_bitmap.specs.Blocks.{types_of}
+use Rattle.domain_bitmap.specs.Text.{types_text, spaced_types}
+use Rattle.domain_bitmap.proofs.text.RtypeBitmapDisplay.fmt.Goals as goal
+use Rattle.domain_bitmap.proofs.text.RtypeBitmapDisplay.fmt.Goals.{in-Some+in_ok-write, in_default}
+
+pub loop-rtype-init : goal.loop-rtype-init
+unfolding types_text spaced_types
+loop-rtype-init g c = λ plain.
+    elim c.match-next.branch [
+      | in-Some+in_ok-write w ↦ (
+        type_text w.in-Some.first,
+        ap types_text (sym c.iter-types.ensures ∙ w.in-Some.ensures.steps),
+        rw w.f-is (w.in_ok-write.ensures.writes plain refl),
+      )
+      | in_default w ↦
+          let none = w.in_default.ensures.steps in (
+            [],
+            ap types_text (sym c.iter-types.ensures ∙ none.0) ∙ sym (ap spaced_types none.1),
+            rw w.f-is (record { wrote = writes_in_calls_nil _ _; plain = plain }),
+          )
+    ]
+
+pub loop-rtype-preserved : goal.loop-rtype-preserved
+unfolding spaced_types
+loop-rtype-preserved g c = λ plain.
+    let so_far = c.loop-rtype.invariant plain in
+    let more = c.in_ok-write-2.ensures.writes so_far.2.plain refl in
+    let word = 32 ∷ type_text c.in-Some-next.rtype in (
+      so_far.0 ++ word,
+      so_far.1 ∙ ap (λ l. so_far.0 ++ spaced_types l) c.in-Some-next.ensures.steps ∙ sym (append_assoc so_far.0 word (spaced_types c.next-in-loop-rtype.new.self)),
+      has_written_append _ _ _ _ _ _ so_far.2 more,
+    )
+
+pub returns-clause-writes : goal.returns-clause-writes
+unfolding spaced_types
+returns-clause-writes g c = λ plain ok.
+    let so_far = c.loop-rtype.invariant plain in
+    let whole = so_far.1 ∙ ap (λ l. so_far.0 ++ spaced_types l) c.in_default-next.ensures.steps.0 ∙ append-nil so_far.0 in
+    has_written_of_eq _ _ _ _ _ (sym whole) so_far.2

@@ -1,0 +1,9 @@
+-- what the impls of comparisons cite
+use Rattle.std.specs.Prelude.{ℕ, List, bytes_eq}
+use Rattle.std.specs.Hash as fed
+use Rattle.std.specs.Hash.{Alike, same_Alike}
+use Rattle.std.specs.Cmp.Lexicographic.{bytes_decides}
+
+-- equal octets are fed alike
+pub octets_fed : Alike bytes_eq (fed.slice fed.u8)
+octets_fed = same_Alike (fed.slice fed.u8) bytes_decides

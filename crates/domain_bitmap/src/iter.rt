@@ -1,0 +1,58 @@
+//! The types of a bitmap, one after another.
+ghost use Rattle.std.specs.Prelude.{◌≡◌, ◌<◌, ◌≤◌, length};
+ghost use Rattle.std.specs.Iterator.{YieldsFirst, item_count};
+ghost use Rattle.domain_bitmap.specs.Blocks.{IsBitmap, types_of, types_from, blocks_of};
+
+use crate::blocks::{first_set, split_block};
+use domain_base::Rtype;
+use std::marker::Model;
+
+/// The types that are left, block by block as their bits stand. It is seen as their list.
+#[derive(Drop)]
+pub struct RtypeBitmapIter<'a> {
+    blocks: &'a [u8],
+    place: usize,
+}
+
+impl<'a> Model for RtypeBitmapIter<'a> {
+    ghost use Rattle.std.specs.Prelude.{ℕ, List, ◌≤◌};
+    ghost use Rattle.domain_bitmap.specs.Blocks.{IsBitmap, types_from, blocks_of};
+
+    ghost Value = { List ℕ };
+
+    ghost view = { λ s. types_from (blocks_of s.blocks.now) s.place };
+
+    ghost invariant = { λ s. IsBitmap s.blocks.now × (s.place ≤ 256) };
+}
+
+impl<'a> RtypeBitmapIter<'a> {
+    /// The types of a list of blocks.
+    #[tactic(auto, using(crate::proofs::BlockLemmas::types_from_start))]
+    pub(crate) fn new(blocks: &'a [u8]) -> Self
+        requires { IsBitmap blocks.now }
+        ensures { result ≡ types_of blocks.now }
+    {
+        RtypeBitmapIter { blocks, place: 0 }
+    }
+}
+
+impl<'a> Iterator for RtypeBitmapIter<'a> {
+    type Item = Rtype;
+
+    ghost next_gives = { YieldsFirst (λ types. types) };
+
+    ghost remaining = { item_count (λ types. types) };
+
+    #[tactic(auto, using(crate::proofs::BlockLemmas::iter_steps))]
+    fn next(&mut self) -> Option<Rtype> {
+        while let Some((block, rest)) = split_block(self.blocks) {
+            if let Some(place) = first_set(block.octets, self.place) {
+                self.place = place + 1;
+                return Some(Rtype::from_int(block.number as u16 * 256 + place as u16));
+            }
+            self.blocks = rest;
+            self.place = 0;
+        }
+        None
+    }
+}

@@ -1,0 +1,196 @@
+use crate::{RtypeBitmap, RtypeBitmapBuilder, RtypeBitmapError};
+use domain_base::Rtype;
+use domain_octets::{AppendError, ArrayBuilder, EmptyBuilder, Octets, OctetsBuilder, TryClone};
+use std::alloc::Global;
+use std::cmp::Ordering;
+use std::collections::{BTreeMap, HashMap};
+use std::test::Fail;
+
+fn build(alloc: Global, types: &[u16]) -> Result<RtypeBitmap<Vec<u8>>, AppendError> {
+    let mut builder = RtypeBitmapBuilder::new_vec(alloc);
+    add_all(&mut builder, types)?;
+    Ok(builder.finalize())
+}
+
+fn add_all<B: OctetsBuilder>(
+    builder: &mut RtypeBitmapBuilder<B>,
+    types: &[u16],
+) -> Result<(), AppendError> {
+    for number in types {
+        builder.add(Rtype::from_int(*number))?;
+    }
+    Ok(())
+}
+
+#[test]
+fn builds_blocks_in_order(rt: HostRuntime) -> Result<(), Fail> {
+    let mut builder = RtypeBitmapBuilder::new_vec(rt.alloc());
+    add_all(&mut builder, &[1234, 1, 15, 46, 47])?;
+    let bitmap = builder.finalize();
+    let mut expected = [0; 37];
+    expected[..8].copy_from_slice(b"\x00\x06\x40\x01\x00\x00\x00\x03");
+    expected[8..10].copy_from_slice(b"\x04\x1b");
+    expected[36] = 0x20;
+    assert_eq!(rt; bitmap.as_slice(), expected.as_slice());
+    for number in [1, 15, 46, 47, 1234] {
+        assert!(rt; bitmap.contains(Rtype::from_int(number)));
+    }
+    assert!(rt; !bitmap.contains(Rtype::from_int(1235)));
+    assert!(rt; !bitmap.contains(Rtype::NS));
+    Ok(())
+}
+
+#[test]
+fn builds_first_and_last_window(rt: HostRuntime) -> Result<(), Fail> {
+    let mut builder = RtypeBitmapBuilder::new_vec(rt.alloc());
+    add_all(&mut builder, &[65535, 0, 65535, 0])?;
+    let bitmap = builder.finalize();
+    let mut expected = [0; 37];
+    expected[..5].copy_from_slice(b"\x00\x01\x80\xff\x20");
+    expected[36] = 1;
+    assert_eq!(rt; bitmap.as_slice(), expected.as_slice());
+    let empty = RtypeBitmapBuilder::new_vec(rt.alloc()).finalize();
+    assert!(rt; empty.as_slice().is_empty());
+    assert!(rt; empty.is_empty());
+    Ok(())
+}
+
+#[test]
+fn builds_all_windows(rt: HostRuntime) -> Result<(), Fail> {
+    let mut builder = RtypeBitmapBuilder::new_vec(rt.alloc());
+    for window in (0..256u16).rev() {
+        builder.add(Rtype::from_int(256 * window))?;
+    }
+    let bitmap = builder.finalize();
+    let mut expected = Vec::new(rt.alloc());
+    for window in 0..=255u8 {
+        expected.extend_from_slice(&[window, 1, 0x80])?;
+    }
+    assert_eq!(rt; bitmap.as_slice(), expected.as_slice());
+    Ok(())
+}
+
+#[test]
+fn refuses_window_without_room(rt: HostRuntime) -> Result<(), Fail> {
+    let mut builder = RtypeBitmapBuilder::<ArrayBuilder<34>>::new(rt.alloc());
+    builder.add(Rtype::A)?;
+    assert_eq!(rt; builder.add(Rtype::CAA), Err(AppendError::ShortBuf));
+    builder.add(Rtype::NS)?;
+    let bitmap = builder.finalize();
+    assert_eq!(rt; bitmap.as_slice(), b"\x00\x01\x60".as_slice());
+    assert_eq!(rt; bitmap.as_octets().as_slice(), b"\x00\x01\x60".as_slice());
+    Ok(())
+}
+
+#[test]
+fn gives_types_in_order(rt: HostRuntime) -> Result<(), Fail> {
+    let mut builder = RtypeBitmapBuilder::new_vec(rt.alloc());
+    add_all(&mut builder, &[2, 6, 15, 16, 46, 48, 51, 99, 257])?;
+    let bitmap = builder.finalize();
+    let mut types = Vec::new(rt.alloc());
+    for rtype in &bitmap {
+        types.push(rtype.to_int())?;
+    }
+    assert_eq!(rt;
+        types.as_slice(),
+        [2, 6, 15, 16, 46, 48, 51, 99, 257].as_slice()
+    );
+    Ok(())
+}
+
+fn refusal(octets: &[u8]) -> Option<RtypeBitmapError> {
+    RtypeBitmap::from_octets(octets).err()
+}
+
+#[test]
+fn reads_blocks_as_they_stand(rt: HostRuntime) -> Result<(), Fail> {
+    let bitmap = RtypeBitmap::from_octets(b"\x00\x01\x40\x00\x01\x20".as_slice())?;
+    let mut types = bitmap.iter();
+    assert_eq!(rt; types.next(), Some(Rtype::A));
+    assert_eq!(rt; types.next(), Some(Rtype::NS));
+    assert_eq!(rt; types.next(), None);
+    assert_eq!(rt; types.next(), None);
+    assert!(rt; bitmap.contains(Rtype::A));
+    assert!(rt; !bitmap.contains(Rtype::NS));
+    assert!(rt; !bitmap.is_empty());
+    let twice = RtypeBitmap::from_octets(b"\x00\x01\x40\x00\x01\x40".as_slice())?;
+    assert_eq!(rt; format!(in rt.alloc(); "{twice}")?.as_str(), "A A");
+    let zero = RtypeBitmap::from_octets(b"\x00\x01\x00".as_slice())?;
+    assert!(rt; zero.is_empty());
+    assert!(rt; RtypeBitmap::from_octets(b"".as_slice())?.is_empty());
+    Ok(())
+}
+
+#[test]
+fn refuses_what_is_no_list_of_blocks(rt: HostRuntime) -> Result<(), Fail> {
+    assert_eq!(rt;
+        refusal(b"\x00\x00"),
+        Some(RtypeBitmapError::BadRtypeBitmap)
+    );
+    assert_eq!(rt;
+        refusal(b"\x00\x21"),
+        Some(RtypeBitmapError::BadRtypeBitmap)
+    );
+    assert_eq!(rt; refusal(b"\x00"), Some(RtypeBitmapError::ShortInput));
+    assert_eq!(rt;
+        refusal(b"\x00\x02\x40"),
+        Some(RtypeBitmapError::ShortInput)
+    );
+    let text = format!(in rt.alloc(); "{}", RtypeBitmapError::ShortInput)?;
+    assert_eq!(rt; text.as_str(), "unexpected end of input");
+    let text = format!(in rt.alloc(); "{}", RtypeBitmapError::BadRtypeBitmap)?;
+    assert_eq!(rt; text.as_str(), "invalid record type bitmap");
+    Ok(())
+}
+
+#[test]
+fn prints_types(rt: HostRuntime) -> Result<(), Fail> {
+    let bitmap = build(rt.alloc(), &[33, 1])?;
+    assert_eq!(rt; format!(in rt.alloc(); "{bitmap}")?.as_str(), "A SRV");
+    assert_eq!(rt;
+        format!(in rt.alloc(); "{bitmap:?}")?.as_str(),
+        "RtypeBitmap(A SRV)"
+    );
+    let empty = build(rt.alloc(), &[])?;
+    assert_eq!(rt; format!(in rt.alloc(); "{empty}")?.as_str(), "");
+    Ok(())
+}
+
+#[test]
+fn compares_octets(rt: HostRuntime) -> Result<(), Fail> {
+    let a = build(rt.alloc(), &[1, 33])?;
+    let b = build(rt.alloc(), &[33, 1, 1])?;
+    let c = RtypeBitmap::from_octets(b"\x00\x01\x40".as_slice())?;
+    assert!(rt; a == b);
+    assert!(rt; !a.eq_to(&c));
+    assert_eq!(rt; a.cmp_to(&c), Ordering::Greater);
+    assert_eq!(rt; c.canonical_cmp_to(&a), Ordering::Less);
+    let mut tree = BTreeMap::new(rt.alloc());
+    let mut hashed = HashMap::new(rt.alloc());
+    tree.insert(a.try_clone()?, 1u8)?;
+    hashed.insert(a, 2u8)?;
+    assert_eq!(rt; tree.get(&b).copied(), Some(1));
+    assert_eq!(rt; hashed.get(&b).copied(), Some(2));
+    Ok(())
+}
+
+#[test]
+fn composes_octets(rt: HostRuntime) -> Result<(), Fail> {
+    let mut builder = RtypeBitmap::<Vec<u8>>::builder(rt.alloc());
+    builder.add(Rtype::A)?;
+    let more = builder.clone()?;
+    let bitmap = more.finalize();
+    assert_eq!(rt; bitmap.compose_len(), 3);
+    let mut target = ArrayBuilder::<3>::empty(rt.alloc());
+    bitmap.compose(&mut target)?;
+    assert_eq!(rt; target.as_slice(), b"\x00\x01\x40".as_slice());
+    assert_eq!(rt; bitmap.compose(&mut target), Err(AppendError::ShortBuf));
+    let mut builder = RtypeBitmapBuilder::with_builder(ArrayBuilder::<68>::new());
+    builder.add(Rtype::CAA)?;
+    builder.add(Rtype::NS)?;
+    assert_eq!(rt;
+        Octets::as_slice(&builder.finalize()),
+        b"\x00\x01\x20\x01\x01\x40".as_slice()
+    );
+    Ok(())
+}

@@ -1,0 +1,27 @@
+-- How records are seen as records of a zone, and NSEC records as links of a chain.
+use Rattle.std.specs.Prelude.{ℕ, Option, Some, None}
+use Rattle.domain_plain.specs.declared.record.Record.{Record}
+use Rattle.domain_rdata.specs.Zone.{rtype_of}
+use Rattle.domain_rdata.specs.declared.nsec.Nsec.{Nsec}
+use Rattle.domain_rdata.specs.declared.zone_record_data.ZoneRecordData.{ZoneRecordData}
+use Rattle.domain_rdata.specs.declared.zone_record_data.ZoneRecordData.TheVariants.{A, Ns, Soa, Mx, Nsec as NsecData, Unknown}
+use Rattle.domain_dnssec.specs.Names.{Name}
+use Rattle.domain_dnssec.specs.Zone.{ZoneRecord}
+use Rattle.domain_dnssec.specs.Chain.{Link}
+
+-- the MINIMUM field of an SOA
+abbrev pub minimum_of : {O N : Type 0} → ZoneRecordData O N → Option ℕ
+minimum_of (A d) = None
+minimum_of (Ns d) = None
+minimum_of (Soa d) = Some d.minimum
+minimum_of (Mx d) = None
+minimum_of (NsecData d) = None
+minimum_of (Unknown d) = None
+
+abbrev pub as_zone_record : {O N : Type 0} → (N → Name) → Record N (ZoneRecordData O N) → ZoneRecord
+as_zone_record labels r =
+    record { owner = labels r.owner; class = r.class; ttl = r.ttl; rtype = rtype_of r.«data»; minimum = minimum_of r.«data» }
+
+abbrev pub as_link : {O N : Type 0} → (N → Name) → Record N (Nsec O N) → Link
+as_link labels r =
+    record { owner = labels r.owner; next = labels r.«data».next_name; class = r.class; ttl = r.ttl; bits = r.«data».types }

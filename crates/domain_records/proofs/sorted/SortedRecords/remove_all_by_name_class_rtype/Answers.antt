@@ -1,0 +1,32 @@
+use Rattle.std.proofs.Common.{sym, not, rules}
+use Rattle.std.proofs.lemmas.Fn.{filter_same}
+use Rattle.std.proofs.lemmas.List.Kept.{IsStrictlySortedBy-filter}
+use Rattle.domain_plain.specs.declared.record.Record.{Record}
+use Rattle.domain_records.specs.Lookup.{matches}
+use Rattle.domain_records.proofs.Removals.{all_kept, none_any, no_place, some_any}
+use Rattle.domain_records.proofs.sorted.SortedRecords.remove_all_by_name_class_rtype.Goals as goal
+
+pub returns-then-is_none-clause-kept : goal.returns-then-is_none-clause-kept
+returns-then-is_none-clause-kept g c =
+    let p = matches g.N.ToName.labels g.D.RecordData.rtype (g.N.ToName.labels c.args.name.now) c.args.class c.args.rtype in
+    rw (← c.self.view_is) (sym (all_kept p _ (no_place p _ _ (rw c.deref.ensures.value at c.first_place.ensures) c.if-is_none.ensures)))
+
+pub returns-then-is_none-clause-found : goal.returns-then-is_none-clause-found
+returns-then-is_none-clause-found g c =
+    let p = matches g.N.ToName.labels g.D.RecordData.rtype (g.N.ToName.labels c.args.name.now) c.args.class c.args.rtype in
+    rw (← c.self.view_is) (sym (none_any p _ (no_place p _ _ (rw c.deref.ensures.value at c.first_place.ensures) c.if-is_none.ensures)))
+
+pub invariant_of-self : goal.invariant_of-self
+invariant_of-self g c =
+    let p = λ (r : Record g.row.N.Denot g.row.D.Denot). not (matches g.N.ToName.labels g.D.RecordData.rtype (g.N.ToName.labels c.args.name.now) c.args.class c.args.rtype r) in
+    rw (filter_same _ p _ (λ x b f' k. search rules) _ _ c.retain.ensures.filtered) (IsStrictlySortedBy-filter _ p _ c.self.invariant)
+
+pub returns-clause-kept : goal.returns-clause-kept
+returns-clause-kept g c =
+    let p = λ (r : Record g.row.N.Denot g.row.D.Denot). not (matches g.N.ToName.labels g.D.RecordData.rtype (g.N.ToName.labels c.args.name.now) c.args.class c.args.rtype r) in
+    rw (← c.self.view_is) (filter_same _ p _ (λ x b f' k. search rules) _ _ c.retain.ensures.filtered)
+
+pub returns-clause-found : goal.returns-clause-found
+returns-clause-found g c =
+    let p = matches g.N.ToName.labels g.D.RecordData.rtype (g.N.ToName.labels c.args.name.now) c.args.class c.args.rtype in
+    rw (← c.self.view_is) (sym (some_any p _ _ (rw c.deref.ensures.value at c.first_place.ensures) c.if-is_none.ensures))

@@ -1,0 +1,23 @@
+use Rattle.std.proofs.Common.{sym}
+use Rattle.domain_plain.specs.Record.{record_cmp_total}
+use Rattle.domain_records.proofs.SortedLists.{sorted_remove}
+use Rattle.domain_records.proofs.Removals.{first_without, first_any, none_without, none_any}
+use Rattle.domain_records.proofs.sorted.SortedRecords.remove_first_by_name_class_rtype.Goals as goal
+
+pub invariant_of-self : goal.invariant_of-self
+invariant_of-self g c =
+    let o = record_cmp_total g.N.ToName.labels g.D.RecordData.rtype g.D.CanonicalOrd.canonical_cmp g.met.D.CanonicalOrd.total in
+    let within = rw c.deref.ensures.value at c.in-Some.ensures.0 in
+    rw c.remove.ensures.items (sorted_remove o _ _ within c.self.invariant)
+
+pub returns-in-Some-clause-kept : goal.returns-in-Some-clause-kept
+returns-in-Some-clause-kept g c = rw (c.remove.ensures.items, ← c.self.view_is) (sym (first_without _ _ _ (rw c.deref.ensures.value at c.in-Some.ensures)))
+
+pub returns-in-Some-clause-found : goal.returns-in-Some-clause-found
+returns-in-Some-clause-found g c = rw (← c.self.view_is) (sym (first_any _ _ _ (rw c.deref.ensures.value at c.in-Some.ensures)))
+
+pub returns-in-None-clause-kept : goal.returns-in-None-clause-kept
+returns-in-None-clause-kept g c = rw (← c.self.view_is) (sym (none_without _ _ (rw c.deref.ensures.value at c.in-None.ensures)))
+
+pub returns-in-None-clause-found : goal.returns-in-None-clause-found
+returns-in-None-clause-found g c = rw (← c.self.view_is) (sym (none_any _ _ (rw c.deref.ensures.value at c.in-None.ensures)))
