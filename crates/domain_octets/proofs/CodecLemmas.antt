@@ -1,7 +1,6 @@
 -- texts that are decoded
-use Rattle.std.proofs.Common.{◌≡◌, ℕ, ◌+◌, ◌-◌, ◌*◌, ◌/◌, ◌%◌, ◌<◌, ◌≤◌, Bool, true, false, List, [], ◌∷◌, ◌++◌, Some, None, Ok, Err, length, get_or, take, drop, map, refl, sym, ap, subst, ◌∙◌, arith, ◌⊎◌, inl, inr}
-use Rattle.std.specs.Prelude.{Option, All, nat_le, unwrap_or}
-use Rattle.std.specs.List.{AllPass}
+use Rattle.std.proofs.Common.{◌≡◌, ℕ, ◌+◌, ◌*◌, ◌/◌, ◌%◌, ◌<◌, ◌≤◌, true, false, List, [], ◌∷◌, ◌++◌, Err, length, get_or, take, drop, refl, sym, ap, subst, ◌∙◌, arith, ◌⊎◌, inl, inr}
+use Rattle.std.specs.Prelude.{nat_le, unwrap_or}
 use Rattle.std.proofs.lemmas.List.{take_more, drop_more, append_assoc, append-nil, drop_all}
 use Rattle.std.proofs.lemmas.Bool.{cases_eq}
 use Rattle.std.proofs.lemmas.Bool.Decides.{nat_tests}
@@ -10,9 +9,9 @@ use Rattle.hex.specs.Hex.{decode_of, encode_with}
 use Rattle.hex.specs.declared.error.FromHexError.{FromHexError}
 use Rattle.hex.specs.declared.error.FromHexError.TheVariants as hex_error
 use Rattle.hex.proofs.HexLemmas.{decode_of-err, decode_of-odd}
-use Rattle.domain_octets.specs.declared.codec.Codec.TheVariants.{Base16, Base32Hex, Base64}
+use Rattle.domain_octets.specs.declared.codec.Codec.TheVariants.{Base16}
 use Rattle.domain_octets.specs.Scale.{IsScale, no_bits, one_bit, two_bits, three_bits, four_bits, five_bits, six_bits, seven_bits}
-use Rattle.domain_octets.specs.Codec.{base32_value, base32_octets, base32_digits, is_digit, IsFirstOther}
+use Rattle.domain_octets.specs.Codec.{base32_value, base32_octets, base32_digits, IsFirstOther}
 
 pub base16_char : (text : List ℕ) (c i : ℕ) → decode_of text ≡ Err (hex_error.InvalidHexCharacter c i) → (length text % 2 ≡ 0) × IsFirstOther Base16 text c
 base16_char text c i refused =

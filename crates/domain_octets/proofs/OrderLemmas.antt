@@ -1,7 +1,6 @@
 -- Base 32 hex keeps the order of octets
-use Rattle.std.proofs.Common.{◌≡◌, ◌≢◌, ℕ, ◌+◌, ◌*◌, ◌/◌, ◌%◌, ◌<◌, ◌≤◌, List, [], ◌∷◌, map, refl, sym, ap, ◌∙◌, subst, arith, lit<, inl, inr}
+use Rattle.std.proofs.Common.{◌≡◌, ◌≢◌, ℕ, ◌+◌, ◌*◌, ◌/◌, ◌%◌, ◌<◌, ◌≤◌, List, [], ◌∷◌, map, refl, sym, ap, ◌∙◌, arith, lit<, inl, inr}
 use Rattle.std.specs.Prelude.{All}
-use Rattle.std.specs.declared.cmp.Ordering.{Ordering}
 use Rattle.std.specs.declared.cmp.Ordering.TheVariants.{Less, Equal, Greater}
 use Rattle.std.specs.Ordering.{nat_cmp, ordering_then, ordering_reverse}
 use Rattle.std.specs.Cmp.{nat_cmp_is, tied_itself}
@@ -14,7 +13,7 @@ use Rattle.domain_octets.specs.Scale.{IsScale, no_bits, one_bit, two_bits, three
 use Rattle.domain_octets.specs.Base32.{base32_from, digits_left, lower_digit, upper_digit, base32_lower, base32_upper}
 use Rattle.std.specs.FinMap.{nat_cmp-IsAntisymmetric, slice_cmp-IsAntisymmetric}
 use Rattle.std.proofs.lemmas.Bool.Decides.{nat_tests}
-use Rattle.domain_octets.proofs.Base32Lemmas.{TakesDigit, held_digit, held_left, pulled_digit, pulled_left, last_left, none_left}
+use Rattle.domain_octets.proofs.Base32Lemmas.{held_left, pulled_digit, pulled_left, last_left, none_left}
 
 less : (a b : ℕ) → a < b → nat_cmp a b ≡ Less
 less a b below = sym (nat_cmp_is a b Less below)

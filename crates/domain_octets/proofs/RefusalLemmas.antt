@@ -1,10 +1,10 @@
 -- a text that is refused stands for no octets
-use Rattle.std.proofs.Common.{◌≡◌, ℕ, ◌%◌, List, Ok, true, false, length, get_or, sym, ap, ◌∙◌, arith}
+use Rattle.std.proofs.Common.{◌≡◌, ℕ, List, true, false, sym, ap, ◌∙◌, arith}
 use Rattle.std.specs.List.{AllPass}
 use Rattle.hex.proofs.HexLemmas.{decode_of-ok}
 use Rattle.domain_octets.specs.declared.codec.Codec.{Codec}
 use Rattle.domain_octets.specs.declared.codec.Codec.TheVariants.{Base16, Base32Hex, Base64}
-use Rattle.domain_octets.specs.Codec.{is_digit, is_base32_length, Decodes, IsFirstOther, RefusesChar, RefusesLength}
+use Rattle.domain_octets.specs.Codec.{is_digit, Decodes, IsFirstOther, RefusesChar, RefusesLength}
 
 other_passes : (codec : Codec) (text : List ℕ) (c : ℕ) → IsFirstOther codec text c → AllPass (is_digit codec) text → ⊥
 other_passes codec text c first all =

@@ -1,5 +1,5 @@
 -- octets written in Base 32 with the extended hex alphabet, without padding (RFC 4648, sections 6 and 7)
-use Rattle.std.specs.Prelude.{ℕ, ◌+◌, ◌*◌, ◌/◌, ◌%◌, ◌<◌, ◌==◌, Bool, nat_le, nat_lt, List, [], ◌∷◌, map, if◌then◌else◌}
+use Rattle.std.specs.Prelude.{ℕ, ◌+◌, ◌*◌, ◌/◌, ◌%◌, ◌==◌, nat_le, nat_lt, List, [], ◌∷◌, map, if◌then◌else◌}
 
 -- The digits of octets, five bits each, first bits first, after bits that are left over: a number below `scale`. Zero bits fill
 -- the last digit.

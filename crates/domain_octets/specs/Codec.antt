@@ -1,5 +1,5 @@
 -- octets as text: Base 16, Base 32 with the extended hex alphabet, and Base 64 (RFC 4648)
-use Rattle.std.specs.Prelude.{◌≡◌, ℕ, ◌+◌, ◌-◌, ◌*◌, ◌/◌, ◌%◌, ◌<◌, ◌==◌, ◌||◌, ◌&&◌, nat_le, nat_lt, Bool, true, false, not, List, [], ◌∷◌, map, length, slice_index, take, Ok, if◌then◌else◌, Option, Some, None, is_some, unwrap_or, Result}
+use Rattle.std.specs.Prelude.{◌≡◌, ℕ, ◌+◌, ◌-◌, ◌*◌, ◌/◌, ◌%◌, ◌<◌, ◌==◌, ◌||◌, ◌&&◌, nat_le, Bool, true, false, not, List, [], ◌∷◌, map, length, slice_index, take, Ok, if◌then◌else◌, Option, Some, None, is_some, unwrap_or}
 use Rattle.std.specs.List.{AllPass}
 use Rattle.hex.specs.Hex as hex
 use Rattle.base64.specs.GeneralPurpose as base64

@@ -1,5 +1,5 @@
 -- the pieces of a zone file's text
-use Rattle.std.specs.Prelude.{ℕ, Bool, true, false, List, [], ◌∷◌, ◌++◌, map, string_bytes}
+use Rattle.std.specs.Prelude.{ℕ, Bool, true, false, List, [], ◌∷◌, ◌++◌, string_bytes}
 use Rattle.std.specs.List.{join_with_byte}
 use Rattle.domain_octets.specs.declared.pieces.Piece.{Piece}
 use Rattle.domain_octets.specs.declared.pieces.Piece.TheVariants.{Token, Comment, Open, Close}

@@ -1,8 +1,8 @@
-use Rattle.std.proofs.Common.{◌≡◌, ◌++◌, ◌∷◌, [], refl, sym, rules}
+use Rattle.std.proofs.Common.{refl, sym, rules}
 use Rattle.std.proofs.Output.{has_written_append, has_written_of_eq}
 use Rattle.std.proofs.lemmas.Str.Ascii.{encode_ascii}
 use Rattle.hex.specs.Hex.{lower_digits, encode_with}
-use Rattle.domain_octets.proofs.CodecLemmas.{encode_more, encode_none}
+use Rattle.domain_octets.proofs.CodecLemmas.{encode_more}
 use Rattle.domain_octets.proofs.base16.display_lower.Goals as goal
 
 pub loop-octet-init : goal.loop-octet-init

@@ -1,6 +1,4 @@
-use Rattle.std.proofs.Common.{◌≡◌, ◌≤◌, ◌<◌, ◌*◌, ◌+◌, ◌/◌, length, get_or, sym, ap, ◌∙◌, arith, rules}
-use Rattle.std.specs.Prelude.{unwrap_or}
-use Rattle.std.proofs.lemmas.Grind.{common_steps}
+use Rattle.std.proofs.Common.{◌≡◌, ◌<◌, ◌*◌, ◌+◌, arith}
 use Rattle.domain_octets.proofs.CodecLemmas.{digits_begin, digits_narrow, digits_wide, digits_end, digit_at, widens}
 use Rattle.domain_octets.proofs.decoding.base32_octets.Goals as goal
 use Rattle.domain_octets.proofs.decoding.base32_octets.Goals.{then-wider-lt256, else-wider-lt256+in_ok-push}

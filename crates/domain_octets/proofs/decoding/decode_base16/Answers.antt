@@ -1,5 +1,3 @@
-use Rattle.std.proofs.Common.{◌≡◌, Err}
-use Rattle.hex.specs.Hex.{decode_of}
 use Rattle.hex.specs.declared.error.FromHexError.TheVariants as hex_error
 use Rattle.domain_octets.proofs.CodecLemmas.{base16_char, base16_odd, base16_sized, refused_for}
 use Rattle.domain_octets.proofs.decoding.decode_base16.Goals as goal

@@ -1,4 +1,4 @@
-use Rattle.std.proofs.Common.{◌≡◌, ◌+◌, ◌++◌, ◌∷◌, [], List, map, take, get_or, sym, ap, ◌∙◌, string_bytes}
+use Rattle.std.proofs.Common.{◌≡◌, ◌+◌, ◌++◌, ◌∷◌, [], map, take, sym, ap, ◌∙◌, string_bytes}
 use Rattle.std.proofs.lemmas.List.{take_more, append-nil}
 use Rattle.domain_octets.specs.declared.pieces.Piece.{Piece}
 use Rattle.domain_octets.specs.Piece.{piece_text, tokens_of}

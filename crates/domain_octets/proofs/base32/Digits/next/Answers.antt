@@ -1,8 +1,8 @@
-use Rattle.std.proofs.Common.{◌≡◌, ◌≢◌, ◌<◌, ◌+◌, ◌*◌, ◌/◌, ◌%◌, ℕ, List, [], ◌∷◌, refl, sym, ap, ◌∙◌, arith, lit<, length}
+use Rattle.std.proofs.Common.{◌≡◌, [], ◌∷◌, sym, ap, ◌∙◌, arith, lit<}
 use Rattle.std.proofs.lemmas.List.{nil_from_length}
-use Rattle.domain_octets.specs.Scale.{IsScale, no_bits}
-use Rattle.domain_octets.specs.Base32.{base32_from, digits_left}
-use Rattle.domain_octets.proofs.Base32Lemmas.{TakesDigit, held_digit, held_left, pulled_digit, pulled_left, last_left, last_digit, none_left, ends_left}
+use Rattle.domain_octets.specs.Scale.{no_bits}
+use Rattle.domain_octets.specs.Base32.{digits_left}
+use Rattle.domain_octets.proofs.Base32Lemmas.{held_digit, pulled_digit, pulled_left, last_digit, none_left, ends_left}
 use Rattle.domain_octets.proofs.base32.Digits.next.Goals as goal
 
 pub invariant_of-self : goal.invariant_of-self
