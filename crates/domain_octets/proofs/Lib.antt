@@ -1,1 +1,6 @@
 pub mod ArrayLemmas
+pub mod CodecLemmas
+pub mod Base32Lemmas
+pub mod RefusalLemmas
+pub mod PieceLemmas
+pub mod OrderLemmas
