@@ -8,3 +8,4 @@ pub mod PackLemmas
 pub mod MeaningLemmas
 pub mod FaultLemmas
 pub mod SpellingLemmas
+pub mod ScanLemmas

@@ -145,3 +145,26 @@ filter_append p a (suc m) n =
     let start : a + suc m ≡ a + 1 + m = omega arith in
     let count : suc m + n ≡ suc (m + n) = omega arith in
     rw (start, count) (kept_append (p a) a (filter p (range_with_len (a + 1) m)) (filter p (range_with_len (a + 1 + m) n)) ∙ ap (λ rest. cond (p a) (a ∷ rest) rest) (filter_append p (a + 1) m n))
+
+kept_length : (b : Bool) (x : ℕ) (xs : List ℕ) → length (cond b (x ∷ xs) xs) ≡ length xs + cond b 1 0
+kept_length true x xs = omega arith
+kept_length false x xs = omega arith
+
+filter_more_from : (p q : ℕ → Bool) (c a n : ℕ) → a ≤ c → c < a + n → ((j : ℕ) → j ≢ c → q j ≡ p j) → p c ≡ false → q c ≡ true → length (filter q (range_with_len a n)) ≡ length (filter p (range_with_len a n)) + 1
+filter_more_from p q c a zero low high same was is = absurd (omega arith)
+filter_more_from p q c a (suc n) low high same was is =
+    elim (eqb_tells a c) [
+      | inl h ↦
+        let rest : filter q (range_with_len (a + 1) n) ≡ filter p (range_with_len (a + 1) n) = filter_same q p (a + 1) n (λ j j_low j_high. same j (omega (arith, h.1))) in
+        let now : q a ≡ true = ap q h.1 ∙ is in
+        let before : p a ≡ false = ap p h.1 ∙ was in
+        rw (now, before, rest) (sym (add-one (length (filter p (range_with_len (a + 1) n)))))
+      | inr h ↦
+        let here : q a ≡ p a = same a h.1 in
+        let rest = filter_more_from p q c (a + 1) n (omega (arith, h.1)) (omega arith) same was is in
+        rw here (omega (arith, rest, kept_length (p a) a (filter q (range_with_len (a + 1) n)), kept_length (p a) a (filter p (range_with_len (a + 1) n))))
+    ]
+
+-- one more number passes
+pub filter_more : (p q : ℕ → Bool) (c n : ℕ) → c < n → ((j : ℕ) → j ≢ c → q j ≡ p j) → p c ≡ false → q c ≡ true → length (filter q (range_with_len 0 n)) ≡ length (filter p (range_with_len 0 n)) + 1
+filter_more p q c n inside same was is = filter_more_from p q c 0 n (omega arith) (omega arith) same was is

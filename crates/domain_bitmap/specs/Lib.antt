@@ -5,3 +5,4 @@ pub mod Builder
 pub mod Text
 pub mod Fault
 pub mod Laws
+pub mod Scan

@@ -11,6 +11,7 @@ mod error;
 mod iter;
 pub mod laws;
 mod pack;
+mod scan;
 mod slots;
 mod table;
 #[cfg(test)]
