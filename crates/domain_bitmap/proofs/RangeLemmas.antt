@@ -155,14 +155,14 @@ filter_more_from p q c a zero low high same was is = absurd (omega arith)
 filter_more_from p q c a (suc n) low high same was is =
     elim (eqb_tells a c) [
       | inl h ↦
-        let rest : filter q (range_with_len (a + 1) n) ≡ filter p (range_with_len (a + 1) n) = filter_same q p (a + 1) n (λ j j_low j_high. same j (omega (arith, h.1))) in
-        let now : q a ≡ true = ap q h.1 ∙ is in
-        let before : p a ≡ false = ap p h.1 ∙ was in
-        rw (now, before, rest) (sym (add-one (length (filter p (range_with_len (a + 1) n)))))
+          let rest : filter q (range_with_len (a + 1) n) ≡ filter p (range_with_len (a + 1) n) = filter_same q p (a + 1) n (λ j j_low j_high. same j (omega (arith, h.1))) in
+          let now : q a ≡ true = ap q h.1 ∙ is in
+          let before : p a ≡ false = ap p h.1 ∙ was in
+          rw (now, before, rest) (sym (add-one (length (filter p (range_with_len (a + 1) n)))))
       | inr h ↦
-        let here : q a ≡ p a = same a h.1 in
-        let rest = filter_more_from p q c (a + 1) n (omega (arith, h.1)) (omega arith) same was is in
-        rw here (omega (arith, rest, kept_length (p a) a (filter q (range_with_len (a + 1) n)), kept_length (p a) a (filter p (range_with_len (a + 1) n))))
+          let here : q a ≡ p a = same a h.1 in
+          let rest = filter_more_from p q c (a + 1) n (omega (arith, h.1)) (omega arith) same was is in
+          rw here (omega (arith, rest, kept_length (p a) a (filter q (range_with_len (a + 1) n)), kept_length (p a) a (filter p (range_with_len (a + 1) n))))
     ]
 
 -- one more number passes

@@ -37,17 +37,17 @@ room-same : (types : List ℕ) (t : ℕ) → has_type_in types (t / 256) ≡ tru
 unfolding room_for
 room-same types t known =
     ap (λ l. 34 * length l) (filter_same (has_type_in (types ++ t ∷ [])) (has_type_in types) 0 256
-      (λ w low high. type_in-more types t w ∙ elim (eqb_tells w (t / 256)) [
-        | inl h ↦ let is : has_type_in types w ≡ true = ap (has_type_in types) h.1 ∙ known in rw (h.0, is) refl
-        | inr h ↦ rw h.0 refl
-      ]))
+    (λ w low high. type_in-more types t w ∙ elim (eqb_tells w (t / 256)) [
+      | inl h ↦ let is : has_type_in types w ≡ true = ap (has_type_in types) h.1 ∙ known in rw (h.0, is) refl
+      | inr h ↦ rw h.0 refl
+    ]))
 
 room-more : (types : List ℕ) (t : ℕ) → t < 65536 → has_type_in types (t / 256) ≡ false → room_for (types ++ t ∷ []) ≡ room_for types + 34
 unfolding room_for
 room-more types t small new =
     let more = filter_more (has_type_in types) (has_type_in (types ++ t ∷ [])) (t / 256) 256 (omega arith)
-          (λ w other. type_in-more types t w ∙ (let test : (w == t / 256) ≡ false = grind (arith, nat_tests) in rw test refl)) new
-          (type_in-more types t (t / 256) ∙ rw (same_number (t / 256)) refl) in
+    (λ w other. type_in-more types t w ∙ (let test : (w == t / 256) ≡ false = grind (arith, nat_tests) in rw test refl)) new
+    (type_in-more types t (t / 256) ∙ rw (same_number (t / 256)) refl) in
     omega (arith, more)
 
 room-none : 0 ≡ room_for []
