@@ -1,19 +1,19 @@
 -- types read from tokens
-use Rattle.std.proofs.Common.{◌≡◌, ◌≢◌, ℕ, zero, suc, ◌+◌, ◌*◌, ◌/◌, ◌<◌, ◌≤◌, Bool, true, false, List, [], ◌∷◌, ◌++◌, length, refl, sym, ap, ◌∙◌, subst, inl, inr, arith, append_assoc}
-use Rattle.std.specs.Prelude.{◌||◌, ◌==◌, filter, Option, if◌then◌else◌}
-use Rattle.std.specs.List.{range_with_len, list_any}
+use Rattle.std.proofs.Common.{◌≡◌, ◌≢◌, ℕ, ◌+◌, ◌*◌, ◌/◌, ◌<◌, Bool, true, false, List, [], ◌∷◌, ◌++◌, length, refl, sym, ap, ◌∙◌, subst, inl, inr, arith, append_assoc}
+use Rattle.std.specs.Prelude.{◌||◌, ◌==◌, Option, if◌then◌else◌}
+use Rattle.std.specs.List.{list_any}
 use Rattle.std.proofs.lemmas.List.Folds.{list_any-append}
 use Rattle.std.proofs.lemmas.List.{append-nil}
 use Rattle.std.proofs.lemmas.Bool.Decides.{nat_tests, eqb_tells}
 use Rattle.domain_base.specs.Numbers.{TypeText, IsNoType}
-use Rattle.domain_base.specs.Scan.{ScanFault, TakesToken, RefusesToken, ended, refused, scan_fault_of, scan_error_of}
+use Rattle.domain_base.specs.Scan.{ScanFault, RefusesToken, ended, refused, scan_fault_of, scan_error_of}
 use Rattle.std.specs.Prelude.{IsNone, Result, Ok, Err, IsErrAnd, IfErr}
 use Rattle.domain_base.specs.declared.error.ScanError.{ScanError}
 use Rattle.domain_octets.specs.Limit.{IsOver}
 use Rattle.domain_octets.specs.declared.error.AppendError.{AppendError}
 use Rattle.domain_octets.specs.declared.error.AppendError.TheVariants.{ShortBuf, OutOfMemory}
 use Rattle.domain_bitmap.specs.Builder.{holds, has_window}
-use Rattle.domain_bitmap.specs.Scan.{TypeTexts, no_types, one_more, is_among, has_type_in, room_for, TypeFault, not_a_type, without_room, without_memory, RefusesTypes}
+use Rattle.domain_bitmap.specs.Scan.{TypeTexts, no_types, one_more, is_among, has_type_in, room_for, not_a_type, without_room, without_memory, RefusesTypes}
 use Rattle.domain_bitmap.proofs.RangeLemmas.{or_false, or_turn, filter_same, filter_more}
 
 texts-more : {taken : List (List ℕ)} {types : List ℕ} (token : List ℕ) (t : ℕ) → TypeTexts taken types → TypeText token t → TypeTexts (taken ++ token ∷ []) (types ++ t ∷ [])

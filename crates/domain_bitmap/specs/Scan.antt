@@ -1,5 +1,5 @@
 -- sets of types read from tokens, one type a token (RFC 4034, section 4.2)
-use Rattle.std.specs.Prelude.{◌≡◌, ℕ, ◌+◌, ◌*◌, ◌/◌, ◌==◌, Bool, List, [], ◌∷◌, ◌++◌, length, filter, Option, IsNone}
+use Rattle.std.specs.Prelude.{◌≡◌, ℕ, ◌*◌, ◌/◌, ◌==◌, Bool, List, [], ◌∷◌, ◌++◌, length, filter, Option, IsNone}
 use Rattle.std.specs.List.{range_with_len, list_any}
 use Rattle.domain_octets.specs.Limit.{IsOver}
 use Rattle.domain_base.specs.Scan.{ScanFault, no_room, no_memory}

@@ -183,6 +183,7 @@ fn composes_octets(rt: HostRuntime) -> Result<(), Fail> {
     builder.add(Rtype::A)?;
     let more = builder.clone()?;
     let bitmap = more.finalize();
+    assert_eq!(rt; bitmap.as_slice().len(), 3);
     assert_eq!(rt; bitmap.compose_len(), 3);
     let mut target = ArrayBuilder::<3>::empty(rt.alloc());
     bitmap.compose(&mut target)?;

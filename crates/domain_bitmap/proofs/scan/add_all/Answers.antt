@@ -1,4 +1,4 @@
-use Rattle.std.proofs.Common.{Err, ◌≡◌, ◌≢◌, ◌<◌, [], sym, ap, ◌∙◌, arith, true, false}
+use Rattle.std.proofs.Common.{Err, ap}
 use Rattle.domain_bitmap.proofs.ScanLemmas.{scan_starts, scan_goes, scan_ends, scan_refused, scan_full, none_left, refused_with}
 use Rattle.domain_bitmap.proofs.scan.add_all.Goals as goal
 
