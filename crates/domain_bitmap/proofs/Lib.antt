@@ -9,3 +9,4 @@ pub mod MeaningLemmas
 pub mod FaultLemmas
 pub mod SpellingLemmas
 pub mod ScanLemmas
+pub mod CountedLemmas

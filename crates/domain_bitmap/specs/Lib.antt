@@ -6,3 +6,4 @@ pub mod Text
 pub mod Fault
 pub mod Laws
 pub mod Scan
+pub mod Counted
