@@ -25,10 +25,10 @@ use std::alloc::Global;
 type ZoneRr<O, N> = Record<N, ZoneRecordData<O, N>>;
 
 /// Whether the record is an SOA of the apex.
-fn is_soa_at<O: Octets, N: ToName>(apex: &N, record: &ZoneRr<O, N>) -> bool
-    ensures { result ≡ is_soa (N.labels apex.now) (as_zone_record N.labels record.now) }
+fn is_soa_at<O: Octets, N: ToName>(apex: &N, candidate: &ZoneRr<O, N>) -> bool
+    ensures { result ≡ is_soa (N.labels apex.now) (as_zone_record N.labels candidate.now) }
 {
-    record.rtype() == Rtype::SOA && is_same(record.owner(), apex)
+    candidate.rtype() == Rtype::SOA && is_same(candidate.owner(), apex)
 }
 
 /// The class of the zone's records, and the TTL of its chain: the lesser of the SOA's MINIMUM and TTL.
@@ -55,11 +55,11 @@ fn find_soa<O: Octets, N: ToName>(
 }
 
 /// Whether two records of one type other than RRSIG differ in their TTLs.
-fn clash<O: Octets, N: ToName>(record: &ZoneRr<O, N>, other: &ZoneRr<O, N>) -> bool
-    ensures { result ≡ clashes (as_zone_record N.labels record.now) (as_zone_record N.labels other.now) }
+fn clash<O: Octets, N: ToName>(first: &ZoneRr<O, N>, second: &ZoneRr<O, N>) -> bool
+    ensures { result ≡ clashes (as_zone_record N.labels first.now) (as_zone_record N.labels second.now) }
 {
-    let rtype = record.rtype();
-    rtype == other.rtype() && rtype != Rtype::RRSIG && record.ttl() != other.ttl()
+    let rtype = first.rtype();
+    rtype == second.rtype() && rtype != Rtype::RRSIG && first.ttl() != second.ttl()
 }
 
 /// Whether two neighbours of one type other than RRSIG differ in their TTLs.

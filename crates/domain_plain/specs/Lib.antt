@@ -6,3 +6,4 @@ pub mod Laws
 pub mod Plain
 pub mod Scan
 pub mod RecordLends
+pub mod RecordText

@@ -6,6 +6,7 @@ ghost use Rattle.domain_plain.specs.RecordLends.{LendsData};
 use crate::RecordData;
 use domain_base::{CanonicalOrd, Class, Rtype, ToName, Ttl};
 use std::cmp::Ordering;
+use std::fmt;
 
 /// A record: data of one class at an owner, and how long it may be cached (RFC 1035, section 3.2).
 #[derive(Debug, Drop)]
@@ -89,5 +90,24 @@ impl<N: ToName, D: RecordData + CanonicalOrd> CanonicalOrd for Record<N, D> {
             .then_with(|| self.owner.name_cmp(&other.owner))
             .then_with(|| self.data.rtype().cmp(&other.data.rtype()))
             .then_with(|| self.data.canonical_cmp(&other.data))
+    }
+}
+
+/// The owner with its last dot, the TTL, the class, the type and the data, with single spaces between them.
+impl<N: ToName, D: RecordData + fmt::Display> fmt::Display for Record<N, D> {
+    ghost use Rattle.domain_plain.specs.RecordText.{record_text};
+
+    ghost output = { record_text N.labels D.rtype D.output };
+
+    fn fmt<W: fmt::Write>(&self, f: &mut fmt::Formatter<W>) -> fmt::Result {
+        write!(
+            f,
+            "{} {} {} {} {}",
+            self.owner.fmt_with_dot(),
+            self.ttl,
+            self.class,
+            self.data.rtype(),
+            self.data
+        )
     }
 }

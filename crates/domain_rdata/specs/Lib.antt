@@ -1,2 +1,3 @@
 pub mod Rdata
 pub mod Zone
+pub mod Text

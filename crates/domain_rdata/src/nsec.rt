@@ -1,11 +1,14 @@
 //! The next name and the types at a name.
-ghost use Rattle.std.specs.Prelude.{◌≡◌, Some, refl, bytes_eq};
+ghost use Rattle.std.specs.Prelude.{◌≡◌, ◌++◌, Some, codes, refl, bytes_eq};
 ghost use Rattle.std.specs.Ordering.{on, nat_cmp, then_cmp, eq_of_both};
 ghost use Rattle.std.specs.Cmp.{on_equiv, on_total, then_total, and_equiv, partial_equiv_from_equiv, po};
 ghost use Rattle.std.specs.Cmp.Lexicographic.{slice_cmp, on_texts, nat_list_cmp_total, nat_list_eq_equiv};
 ghost use Rattle.domain_base.specs.Name.{same_name};
 ghost use Rattle.domain_base.specs.Order.{canonical_cmp as name_cmp, canonical_cmp_total};
 ghost use Rattle.domain_base.specs.Laws.{same_name_equiv};
+ghost use Rattle.domain_base.specs.Text.{name_text};
+ghost use Rattle.domain_bitmap.specs.Blocks.{types_of};
+ghost use Rattle.domain_bitmap.specs.Text.{types_text};
 ghost use Rattle.domain_plain.specs.Laws.{ties_of_both};
 ghost use Rattle.domain_plain.specs.Layout.{octets_of, canonical_of};
 ghost use Rattle.domain_rdata.specs.Rdata.{nsec, nsec_values};
@@ -16,6 +19,7 @@ use domain_octets::{AppendError, Octets, OctetsBuilder};
 use domain_plain::fields::{self, Fields, Keeps, Rest};
 use domain_plain::{ComposeRecordData, RecordData};
 use std::cmp::Ordering;
+use std::fmt;
 
 /// The next owner of a zone's chain, and the types at this one (RFC 4034, section 4).
 #[derive(Drop)]
@@ -146,5 +150,16 @@ impl<O: Octets, N: ToName> Ord for Nsec<O, N> {
         self.next_name
             .name_cmp(&other.next_name)
             .then_with(|| self.types.as_slice().cmp(other.types.as_slice()))
+    }
+}
+
+/// The next name with its last dot, a space, and the types with single spaces; the space stays where there are no types.
+impl<O: Octets, N: ToName> fmt::Display for Nsec<O, N> {
+    ghost output = { λ d. Some (name_text (N.labels d.next_name) ++ codes ". " ++ types_text (types_of d.types)) };
+
+    fn fmt<W: fmt::Write>(&self, f: &mut fmt::Formatter<W>) -> fmt::Result {
+        let next_name = self.next_name.fmt_with_dot();
+        let types = &self.types;
+        write!(f, "{next_name} {types}")
     }
 }

@@ -1,12 +1,13 @@
 //! Data of all types as one type.
-ghost use Rattle.std.specs.Prelude.{◌≡◌};
+ghost use Rattle.std.specs.Prelude.{◌≡◌, IfOk};
 ghost use Rattle.std.specs.Ordering.{nat_cmp};
 ghost use Rattle.std.specs.Cmp.Lexicographic.{slice_cmp};
 
 use crate::Nsec;
-use domain_base::{CanonicalOrd, Rtype, ToName};
+use domain_base::{CanonicalOrd, Rtype, ScanError, Scanner, ToName};
 use domain_octets::{AppendError, Octets, OctetsBuilder};
 use domain_plain::{A, ComposeRecordData, Mx, Ns, RecordData, Soa, UnknownRecordData};
+use std::alloc::Global;
 use std::cmp::Ordering;
 
 /// The data of a record in a zone.
@@ -143,5 +144,40 @@ impl<O: Octets, N: ToName> CanonicalOrd for ZoneRecordData<O, N> {
             Ordering::Equal => self.same_type_cmp(other),
             order => order,
         }
+    }
+}
+
+impl<O: Octets, N: ToName> ZoneRecordData<O, N> {
+    ghost use Rattle.domain_rdata.specs.Text.{RdataText};
+
+    /// The data of a type that the tokens begin with, in the text form of that type.
+    ///
+    /// # Errors
+    ///
+    /// `EndOfEntry` and `Custom` as the first field that is refused says; `Custom("unknown record data")` for a type whose data has no text form here;
+    /// `ShortBuf` and `OutOfMemory` where the octets of a name have no room or no memory. A refusal leaves an end of the tokens.
+    pub fn scan_rdata<S: Scanner<Name = N>>(
+        alloc: Global,
+        rtype: Rtype,
+        scanner: &mut S,
+    ) -> Result<Self, ScanError>
+    where
+        O: Drop,
+        N: Drop,
+        ensures { IfOk result (λ d. RdataText N.labels rtype (S.tokens scanner.old) d (S.tokens scanner.new)) }
+    {
+        if rtype == Rtype::A {
+            return Ok(ZoneRecordData::A(A::scan(alloc, scanner)?));
+        }
+        if rtype == Rtype::NS {
+            return Ok(ZoneRecordData::Ns(Ns::scan(alloc, scanner)?));
+        }
+        if rtype == Rtype::SOA {
+            return Ok(ZoneRecordData::Soa(Soa::scan(alloc, scanner)?));
+        }
+        if rtype == Rtype::MX {
+            return Ok(ZoneRecordData::Mx(Mx::scan(alloc, scanner)?));
+        }
+        Err(ScanError::Custom("unknown record data"))
     }
 }

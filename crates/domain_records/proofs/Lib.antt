@@ -8,3 +8,4 @@ pub mod RrsetLemmas
 pub mod Runs
 pub mod SortedLists
 pub mod Sorting
+pub mod Texts

@@ -7,3 +7,4 @@ pub mod Runs
 pub mod Slices
 pub mod Sort
 pub mod SortedSet
+pub mod Text

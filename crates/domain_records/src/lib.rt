@@ -10,6 +10,9 @@ mod rrset;
 mod slice;
 mod sorted;
 mod sorter;
+#[cfg(test)]
+mod tests;
+mod write;
 
 pub use error::{InsertError, Nsec3HashError, SigningError};
 pub use owner::{OwnerRrs, RecordsIter};

@@ -1,6 +1,8 @@
 //! Sorted records.
 ghost use Rattle.std.specs.Prelude.{◌≡◌, ◌↔◌, ◌==◌, ◌++◌, ℕ, [], List, length, not, filter, find, Option, IsTrue, IfOk, IfErr, OnOk, OnErr, IsErrOf};
 ghost use Rattle.std.specs.List.{list_any};
+ghost use Rattle.std.specs.Fmt.{WritesText};
+ghost use Rattle.domain_records.specs.Text.{texts, soa_first, WritesWithComments};
 ghost use Rattle.std.specs.Slice.Iter.{iter_rest};
 ghost use Rattle.std.specs.Iterator.{IsFiniteIterable};
 ghost use Rattle.std.specs.List.Sorted.{IsStrictlySortedBy};
@@ -19,12 +21,13 @@ use crate::lookup::{Wanted, first_of_type, first_place, is_wanted, rrset_at};
 use crate::owner::RecordsIter;
 use crate::rrset::{Rrset, RrsetIter};
 use crate::sorter::{DefaultSorter, Sorter};
+use crate::write::{SoaRecords, write_part, write_part_with_comments};
 use domain_base::{CanonicalOrd, Class, Rtype, ToName};
 use domain_octets::OutOfMemory;
 use domain_plain::{Record, RecordData};
 use std::alloc::Global;
 use std::marker::{Model, PhantomData};
-use std::slice;
+use std::{fmt, slice};
 
 /// Records in canonical order, no two of them equal under it. Contracts see the list of the records.
 #[derive(Drop)]
@@ -323,5 +326,46 @@ impl<N: ToName, D: RecordData + CanonicalOrd, Sort: Sorter> SortedRecords<N, D, 
     {
         let SortedRecords { records, sorter: _ } = self;
         records
+    }
+
+    /// Writes the SOA records and then the others, each in order, with nothing between them.
+    ///
+    /// # Errors
+    ///
+    /// The first error of the writer.
+    pub fn write<W: fmt::Write>(&self, target: &mut W) -> fmt::Result
+    where
+        D: fmt::Display,
+        ensures { OnOk result (WritesText W.write_str_gives target.old
+            (texts ⟦<Record<N, D> as fmt::Display>⟧.output (soa_first D.rtype self.now)) target.new) }
+    {
+        let records = self.as_slice();
+        write_part::<Record<N, D>, SoaRecords, W>(records, true, target)?;
+        write_part::<Record<N, D>, SoaRecords, W>(records, false, target)
+    }
+
+    /// Writes the SOA records and then the others, each in order, and after each what `comment` writes at it and one
+    /// line feed.
+    ///
+    /// # Errors
+    ///
+    /// The first error of the writer or of `comment`.
+    pub fn write_with_comments<W: fmt::Write, F: Fn(&Record<N, D>, &mut W) -> fmt::Result>(
+        &self,
+        target: &mut W,
+        comment: F,
+    ) -> fmt::Result
+    where
+        D: fmt::Display,
+        F: Drop,
+        requires { F.IsAlwaysCallable comment }
+        ensures { OnOk result (WritesWithComments W.write_str_gives ⟦<Record<N, D> as fmt::Display>⟧.output F.Fn
+            comment target.old (soa_first D.rtype self.now) target.new) }
+    {
+        let records = self.as_slice();
+        write_part_with_comments::<Record<N, D>, SoaRecords, W, F>(
+            records, true, target, &comment,
+        )?;
+        write_part_with_comments::<Record<N, D>, SoaRecords, W, F>(records, false, target, &comment)
     }
 }

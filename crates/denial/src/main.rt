@@ -1,0 +1,66 @@
+//! Reads the records of a zone from standard input, one a line, and prints the chain that denies what the zone does not hold.
+#![tactic(auto)]
+
+mod fault;
+mod line;
+mod program;
+#[cfg(test)]
+mod tests;
+
+ghost use Rattle.std.specs.Prelude.{Err};
+
+use domain_base::Nsec3HashAlgorithm;
+use domain_dnssec::{HasherError, Nsec3Hasher};
+use fault::DenialFault;
+use program::run_denial;
+use std::alloc::Global;
+use std::io::{BufReader, BufWriter};
+use std::process::ExitCode;
+use std::{env, io};
+
+/// The octets that are read or written at a time.
+const BUFFER: usize = 65536;
+
+/// A hasher that knows no algorithm.
+struct NoHasher;
+
+impl Nsec3Hasher for NoHasher {
+    ghost answer = { λ h name algorithm iterations salt. Err 1 };
+
+    fn hash(
+        &self,
+        _alloc: Global,
+        _name: &[u8],
+        _algorithm: Nsec3HashAlgorithm,
+        _iterations: u16,
+        _salt: &[u8],
+    ) -> Result<Vec<u8>, HasherError> {
+        Err(HasherError::Refused(1))
+    }
+}
+
+/// The run over the words after the program's name, and the process's own input and output.
+fn start(rt: &HostRuntime) -> Result<(), DenialFault> {
+    let alloc = rt.alloc();
+    let mut words = Vec::new(alloc);
+    for word in env::args(rt).map_err(|_| DenialFault::Usage)?.skip(1) {
+        words.push(word)?;
+    }
+    let mut input = BufReader::with_capacity(alloc, BUFFER, rt.reader()).map_err(
+        |_| DenialFault::OutOfMemory,
+    )?;
+    let mut output = BufWriter::with_capacity(alloc, BUFFER, io::writer(rt)).map_err(
+        |_| DenialFault::OutOfMemory,
+    )?;
+    run_denial(alloc, words.as_slice(), &NoHasher, &mut input, &mut output)
+}
+
+fn main(rt: HostRuntime) -> ExitCode {
+    match start(&rt) {
+        Ok(()) => ExitCode::SUCCESS,
+        Err(fault) => {
+            let _ = eprintln!(rt; "{fault}");
+            ExitCode::from(fault.status())
+        }
+    }
+}

@@ -1,0 +1,34 @@
+//! Hashes of owner names.
+ghost use Rattle.std.specs.Prelude.{◌≡◌, ℕ, List, Result, Ok, Err, IfOk, IsErrOf};
+
+use domain_base::Nsec3HashAlgorithm;
+use std::alloc::Global;
+
+/// Why a hasher gave no hash.
+#[derive(Clone, Copy, Debug, PartialEq, Eq)]
+pub enum HasherError {
+    /// The hasher refuses these arguments, with a number of its own for the reason.
+    Refused(u8),
+    /// There was no memory.
+    OutOfMemory,
+}
+
+/// The digest of owner names (RFC 5155, section 5), which the caller of this crate hands in.
+pub trait Nsec3Hasher {
+    /// What it answers for the octets of a name, the number of an algorithm, a number of iterations and a salt: the octets of a
+    /// hash, or the number of its refusal.
+    ghost answer: { Self → List ℕ → ℕ → ℕ → List ℕ → Result (List ℕ) ℕ };
+
+    /// The hash of a name, which is given by the octets of its wire form in lower case. But for want of memory the answer depends
+    /// on the hasher and these arguments alone.
+    fn hash(
+        &self,
+        alloc: Global,
+        name: &[u8],
+        algorithm: Nsec3HashAlgorithm,
+        iterations: u16,
+        salt: &[u8],
+    ) -> Result<Vec<u8>, HasherError>
+        ensures ok { IfOk result (λ hash. answer self.now name.now algorithm iterations salt.now ≡ Ok hash.items) }
+        ensures refused { (n : ℕ) → IsErrOf result (HasherError.Refused n) → answer self.now name.now algorithm iterations salt.now ≡ Err n };
+}

@@ -1,0 +1,16 @@
+use Rattle.std.proofs.Common.{refl, [], ◌∷◌}
+use Rattle.std.proofs.lemmas.Result.{on_ok_weaker}
+use lib.Utf8.{encode}
+use Rattle.domain_records.proofs.Texts.{one_call}
+use Rattle.domain_records.proofs.write.write_line.Goals as goal
+
+pub returns : goal.returns
+unfolding encode
+returns g c =
+    on_ok_weaker c.write_char.result (λ u. (
+      c.write.new.self,
+      c.comment.new.arg3,
+      c.in_ok-write.ensures.writes,
+      record { shown = c.args.item; shows = refl; target = _; before = refl; left = _; called = c.in_ok-comment.ensures; after = refl },
+      one_call g.W.Write.write_str_gives _ _ (10 ∷ []) u,
+    )) c.write_char.ensures.writes
