@@ -1,1 +1,3 @@
 pub mod ArrayLemmas
+pub mod CodecLemmas
+pub mod Base32Lemmas

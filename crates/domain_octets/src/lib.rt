@@ -2,8 +2,13 @@
 #![tactic(auto)]
 
 mod array;
+pub mod base16;
+pub mod base32;
+pub mod base64_standard;
 mod builder;
+mod codec;
 mod convert;
+mod decoding;
 mod error;
 mod impls;
 mod octets;
@@ -16,6 +21,7 @@ pub use array::ArrayBuilder;
 pub use builder::{
     Composer, EmptyBuilder, FreezeBuilder, FromBuilder, GrowingBuilder, OctetsBuilder, Truncate,
 };
+pub use codec::{Codec, DecodeError};
 pub use convert::{EmptyOctets, FlattenInto, OctetsFrom};
 pub use error::{AppendError, OutOfMemory, ParseError};
 pub use octets::{Octets, TryClone};
