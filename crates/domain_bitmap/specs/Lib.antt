@@ -7,3 +7,5 @@ pub mod Fault
 pub mod Laws
 pub mod Scan
 pub mod Counted
+pub mod HashText
+pub mod HashFault
