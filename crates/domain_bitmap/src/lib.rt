@@ -27,6 +27,8 @@ mod builder;
 mod compare;
 mod convert;
 mod error;
+#[cfg(test)]
+mod hash_tests;
 mod iter;
 pub mod laws;
 mod owner_hash;

@@ -11,9 +11,7 @@ ghost use Rattle.domain_bitmap.specs.Counted.{by_length, by_length_total, IsCutS
 
 use bytes::Bytes;
 use domain_base::{CanonicalOrd, ParseError};
-use domain_octets::{
-    AppendError, ArrayBuilder, Octets, OctetsFrom, OutOfMemory, Parser, TryClone,
-};
+use domain_octets::{AppendError, ArrayBuilder, Octets, OctetsFrom, OutOfMemory, Parser, TryClone};
 use std::alloc::Global;
 use std::cmp::Ordering;
 use std::error::Error;
