@@ -1,8 +1,10 @@
 -- tokens that are taken
-use Rattle.std.proofs.Common.{◌≡◌, ℕ, List, [], ◌∷◌, drop, sym, ap, subst, ◌∙◌, Result, Ok, Err}
+use Rattle.std.specs.List.{concat}
+use Rattle.std.proofs.lemmas.List.{append_assoc}
+use Rattle.std.proofs.Common.{◌≡◌, ℕ, List, [], ◌∷◌, ◌++◌, drop, sym, ap, subst, ◌∙◌, Result, Ok, Err}
 use Rattle.std.specs.Prelude.{IfErr}
 use Rattle.domain_base.specs.declared.error.ScanError.{ScanError}
-use Rattle.domain_base.specs.Scan.{ScanFault, entry_ends, scan_fault_of, RefusesToken, ended, refused}
+use Rattle.domain_base.specs.Scan.{ScanFault, entry_ends, scan_fault_of, RefusesToken, ended, refused, IsEnd}
 
 pub no_token : (Why : ScanFault → List ℕ → Type 0) (old new : List (List ℕ)) → old ≡ [] → new ≡ [] → RefusesToken Why old new entry_ends
 no_token Why old new old_is new_is = subst (λ o. RefusesToken Why o new entry_ends) (sym old_is) (subst (λ n. RefusesToken Why [] n entry_ends) (sym new_is) ended)
@@ -11,3 +13,11 @@ pub refused_token : {V : Type 0} (Why : ScanFault → List ℕ → Type 0) (old 
 refused_token Why old new left token (Ok v) old_is new_is why = tt
 refused_token Why old new left token (Err e) old_is new_is why =
     subst (λ o. RefusesToken Why o new (scan_fault_of e)) (sym old_is) (subst (λ n. RefusesToken Why (token ∷ left) n (scan_fault_of e)) (sym (new_is ∙ ap (drop 1) old_is)) (refused token left (scan_fault_of e) why))
+
+-- tokens that are taken one after another
+pub end_next : (left old new : List (List ℕ)) (token : List ℕ) → IsEnd left old → left ≡ token ∷ new → IsEnd new old
+end_next left old new token end is = record { front = end.front ++ token ∷ []; joined = end.joined ∙ ap (λ l. end.front ++ l) is ∙ sym (append_assoc end.front (token ∷ []) new) }
+
+pub joined_next : (left new : List (List ℕ)) (token text more whole : List ℕ) → left ≡ token ∷ new → more ≡ text ++ token → text ++ concat left ≡ whole → more ++ concat new ≡ whole
+joined_next left new token text more whole is grown so_far =
+    ap (λ t. t ++ concat new) grown ∙ append_assoc text token (concat new) ∙ ap (λ l. text ++ concat l) (sym is) ∙ so_far

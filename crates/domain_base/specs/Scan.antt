@@ -1,7 +1,9 @@
 -- the tokens of an entry, and what is read from them
-use Rattle.std.specs.Prelude.{◌≡◌, ℕ, ◌<◌, ◌^◌, List, [], ◌∷◌, codes, Option, IsNone, length}
+use Rattle.std.specs.Prelude.{◌≡◌, ℕ, ◌<◌, ◌^◌, List, [], ◌∷◌, ◌++◌, codes, Option, IsNone, length}
 use Rattle.std.specs.Str.Parse.{IsNumeral, digits_value}
 use Rattle.domain_octets.specs.Limit.{IsOver}
+use Rattle.domain_octets.specs.Codec.{Decodes}
+use Rattle.domain_octets.specs.declared.codec.Codec.{Codec}
 use Rattle.domain_octets.specs.declared.error.AppendError.{AppendError}
 use Rattle.domain_octets.specs.declared.error.AppendError.TheVariants as append_error
 use Rattle.domain_base.specs.declared.error.ScanError.{ScanError}
@@ -55,3 +57,15 @@ NameFault limit entry_ends text = ⊥
 NameFault limit (illegal said) text = (said ≡ codes "illegal name") × IsNoName text
 NameFault limit no_room text = (labels : List (List ℕ)) × NameText text labels × IsOver limit (length (wire_of labels))
 NameFault limit no_memory text = ((labels : List (List ℕ)) × NameText text labels) × IsNone limit
+
+-- an end of the tokens
+pub record IsEnd (new old : List (List ℕ)) : Type 0 where
+  pub front : List (List ℕ)
+  pub joined : old ≡ front ++ new
+
+-- why a text is not decoded into octets that have this limit
+abbrev pub CodecFault : Codec → Option ℕ → ScanFault → List ℕ → Type 0
+CodecFault codec limit entry_ends text = ⊥
+CodecFault codec limit (illegal said) text = (said ≡ codes "illegal data") × ((octets : List ℕ) → Decodes codec text octets → ⊥)
+CodecFault codec limit no_room text = (octets : List ℕ) × Decodes codec text octets × IsOver limit (length octets)
+CodecFault codec limit no_memory text = Unit {0}

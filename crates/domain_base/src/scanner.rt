@@ -1,11 +1,13 @@
 //! The tokens of an entry of a zone file.
-ghost use Rattle.std.specs.Prelude.{◌≡◌, ◌≢◌, ◌↔◌, ◌∷◌, [], ℕ, List, drop, map, IsTrue, IfOk, IfErr, IsOkAnd, MatchOption};
+ghost use Rattle.std.specs.Prelude.{◌≡◌, ◌≢◌, ◌↔◌, ◌∷◌, [], ℕ, List, drop, map, IsTrue, IfOk, IfErr, IsOkAnd, OnOk, MatchOption, string_bytes};
 ghost use Rattle.std.specs.Fn.{FnOnceReturnsAt};
-ghost use Rattle.domain_base.specs.Scan.{ScanFault, scan_fault_of, TakesToken, RefusesToken, NameFault};
+ghost use Rattle.domain_base.specs.Scan.{ScanFault, scan_fault_of, TakesToken, RefusesToken, NameFault, CodecFault, IsEnd};
+ghost use Rattle.domain_octets.specs.Codec.{Decodes};
+ghost use Rattle.std.specs.List.{concat};
 ghost use Rattle.domain_base.specs.Text.{NameText};
 
 use crate::{Name, ScanError, ToName};
-use domain_octets::{EmptyBuilder, FromBuilder};
+use domain_octets::{Codec, DecodeError, EmptyBuilder, FromBuilder, OutOfMemory};
 use std::alloc::Global;
 use std::marker::{Model, PhantomData};
 
@@ -54,6 +56,29 @@ pub trait Scanner {
     fn scan_name(&mut self, alloc: Global) -> Result<Self::Name, ScanError>
         ensures ok { IfOk result (λ name. TakesToken (λ token. NameText token (Self.Name.labels name)) (tokens self.old) (tokens self.new)) }
         ensures err { IfErr result (λ e. RefusesToken (NameFault Self.Octets.Builder.limit) (tokens self.old) (tokens self.new) (scan_fault_of e)) };
+
+    /// An empty builder of octets.
+    fn octets_builder(&self, alloc: Global) -> <Self::Octets as FromBuilder>::Builder
+        ensures { Self.Octets.Builder.octets result ≡ [] };
+
+    /// The octets that the next token stands for. A token that is refused is gone past too.
+    ///
+    /// Refuses a token that stands for none as `Custom("illegal data")`, and octets for which the builder
+    /// has no room or no memory.
+    fn convert_token(&mut self, alloc: Global, codec: Codec) -> Result<Self::Octets, ScanError>
+        ensures ok { IfOk result (λ octets. TakesToken (λ token. Decodes codec token (Self.Octets.octets octets)) (tokens self.old) (tokens self.new)) }
+        ensures err { IfErr result (λ e. RefusesToken (CodecFault codec Self.Octets.Builder.limit) (tokens self.old) (tokens self.new) (scan_fault_of e)) };
+
+    /// The octets that all tokens that are left stand for when they are joined. No tokens are the empty
+    /// text.
+    ///
+    /// Refuses a text that stands for no octets as `Custom("illegal data")`, and octets for which the
+    /// builder has no room or no memory. The tokens that are left then are an end of those before.
+    fn convert_entry(&mut self, alloc: Global, codec: Codec) -> Result<Self::Octets, ScanError>
+        ensures ok { IfOk result (λ octets. Decodes codec (concat (tokens self.old)) (Self.Octets.octets octets)) }
+        ensures all { OnOk result (tokens self.new ≡ []) }
+        ensures err { IfErr result (λ e. CodecFault codec Self.Octets.Builder.limit (scan_fault_of e) (concat (tokens self.old))) }
+        ensures end { IsEnd (tokens self.new) (tokens self.old) };
 
     /// Whether tokens are left.
     final fn continues(&self) -> bool
@@ -122,6 +147,68 @@ where
         let name = Name::from_str(alloc, token);
         self.skip_token();
         name
+    }
+
+    fn octets_builder(&self, alloc: Global) -> O::Builder {
+        O::Builder::empty(alloc)
+    }
+
+    fn convert_token(&mut self, alloc: Global, codec: Codec) -> Result<O, ScanError> {
+        let Some(token) = self.first_token() else {
+            return Err(ScanError::EndOfEntry);
+        };
+        let octets = convert(alloc, codec, token);
+        self.skip_token();
+        octets
+    }
+
+    fn convert_entry(&mut self, alloc: Global, codec: Codec) -> Result<O, ScanError> {
+        let text = self.join_tokens(alloc)?;
+        convert(alloc, codec, text.as_str())
+    }
+}
+
+impl<'a, O> IterScanner<'a, O> {
+    /// Takes the next token.
+    fn take_token(&mut self) -> Option<&'a str>
+        ensures { MatchOption result ((self.old ≡ []) × (self.new ≡ [])) (λ token. self.old ≡ token.now ∷ self.new) }
+    {
+        match self.left {
+            [] => None,
+            [first, rest @ ..] => {
+                self.left = rest;
+                Some(first)
+            }
+        }
+    }
+
+    /// All tokens that are left, joined.
+    fn join_tokens(&mut self, alloc: Global) -> Result<String, OutOfMemory>
+        ensures ok { IfOk result (λ text. string_bytes text ≡ concat self.old) }
+        ensures all { OnOk result (self.new ≡ []) }
+        ensures end { IsEnd self.new self.old }
+    {
+        let mut text = String::new(alloc);
+        while let Some(token) = self.take_token() {
+            text.push_str(token)?;
+        }
+        Ok(text)
+    }
+}
+
+/// The octets that a text stands for.
+fn convert<O: FromBuilder>(alloc: Global, codec: Codec, text: &str) -> Result<O, ScanError>
+where
+    O::Builder: EmptyBuilder + Drop,
+    ensures ok { IfOk result (λ octets. Decodes codec text.now (O.octets octets)) }
+    ensures err { IfErr result (λ e. CodecFault codec O.Builder.limit (scan_fault_of e) text.now) }
+{
+    match codec.decode(alloc, text) {
+        Ok(octets) => Ok(octets),
+        Err(DecodeError::IllegalChar(_)) => Err(ScanError::Custom("illegal data")),
+        Err(DecodeError::ShortInput) => Err(ScanError::Custom("illegal data")),
+        Err(DecodeError::ShortBuf) => Err(ScanError::ShortBuf),
+        Err(DecodeError::OutOfMemory) => Err(ScanError::OutOfMemory),
     }
 }
 

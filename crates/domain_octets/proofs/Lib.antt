@@ -1,3 +1,5 @@
 pub mod ArrayLemmas
 pub mod CodecLemmas
 pub mod Base32Lemmas
+pub mod RefusalLemmas
+pub mod PieceLemmas

@@ -10,12 +10,15 @@ mod codec;
 mod convert;
 mod decoding;
 mod error;
+mod formatter;
 mod impls;
 mod octets;
 mod parser;
+mod pieces;
 mod shared;
 #[cfg(test)]
 mod tests;
+mod zonefile;
 
 pub use array::ArrayBuilder;
 pub use builder::{
@@ -24,5 +27,8 @@ pub use builder::{
 pub use codec::{Codec, DecodeError};
 pub use convert::{EmptyOctets, FlattenInto, OctetsFrom};
 pub use error::{AppendError, OutOfMemory, ParseError};
+pub use formatter::{Formatter, PieceFormatter};
 pub use octets::{Octets, TryClone};
 pub use parser::Parser;
+pub use pieces::Piece;
+pub use zonefile::{DisplayKind, ZonefileFmt};

@@ -1,0 +1,100 @@
+//! What takes the pieces of a zone file's text.
+ghost use Rattle.std.specs.Prelude.{◌≡◌, ◌++◌, ◌∷◌, [], List, ℕ, Some, map, IfOk, OnOk, OnErr, string_bytes};
+ghost use Rattle.domain_octets.specs.Piece.{PieceText, token, comment, opens, closes, simple_text};
+
+use crate::{OutOfMemory, Piece};
+use std::alloc::Global;
+use std::fmt::Display;
+use std::marker::Model;
+
+/// What takes the pieces of a zone file's text, one after another.
+pub trait Formatter {
+    /// The pieces that it has taken.
+    ghost pieces: { Self → List PieceText };
+
+    /// Takes a token.
+    fn write_token<T: Display>(&mut self, value: &T) -> Result<(), OutOfMemory>
+        ensures ok { (text : List ℕ) → T.output value.now ≡ Some text → OnOk result (pieces self.new ≡ pieces self.old ++ token text ∷ []) }
+        ensures err { OnErr result (pieces self.new ≡ pieces self.old) };
+
+    /// Takes a comment.
+    fn write_comment<T: Display>(&mut self, value: &T) -> Result<(), OutOfMemory>
+        ensures ok { (text : List ℕ) → T.output value.now ≡ Some text → OnOk result (pieces self.new ≡ pieces self.old ++ comment text ∷ []) }
+        ensures err { OnErr result (pieces self.new ≡ pieces self.old) };
+
+    /// Takes the beginning of a block.
+    fn begin_block(&mut self) -> Result<(), OutOfMemory>
+        ensures ok { OnOk result (pieces self.new ≡ pieces self.old ++ opens ∷ []) }
+        ensures err { OnErr result (pieces self.new ≡ pieces self.old) };
+
+    /// Takes the end of a block.
+    fn end_block(&mut self) -> Result<(), OutOfMemory>
+        ensures ok { OnOk result (pieces self.new ≡ pieces self.old ++ closes ∷ []) }
+        ensures err { OnErr result (pieces self.new ≡ pieces self.old) };
+}
+
+/// Collects the pieces.
+#[derive(Drop)]
+pub struct PieceFormatter {
+    alloc: Global,
+    pieces: Vec<Piece>,
+}
+
+impl Model for PieceFormatter {
+    ghost use Rattle.std.specs.Prelude.{List, map};
+    ghost use Rattle.domain_octets.specs.Piece.{PieceText, piece_text};
+
+    ghost Value = { List PieceText };
+
+    ghost view = { λ f. map piece_text f.pieces.items };
+}
+
+impl PieceFormatter {
+    /// One that has no pieces yet.
+    pub fn new(alloc: Global) -> Self
+        ensures { result ≡ [] }
+    {
+        PieceFormatter {
+            alloc,
+            pieces: Vec::new(alloc),
+        }
+    }
+}
+
+impl PieceFormatter {
+    ghost use Rattle.std.specs.Prelude.{◌≡◌, map};
+    ghost use Rattle.domain_octets.specs.Piece.{piece_text};
+
+    /// The pieces in their order.
+    pub fn pieces(&self) -> &[Piece]
+        ensures { map piece_text result.now ≡ self.now }
+    {
+        self.pieces.as_slice()
+    }
+}
+
+impl Formatter for PieceFormatter {
+    ghost pieces = { λ f. f };
+
+    fn write_token<T: Display>(&mut self, value: &T) -> Result<(), OutOfMemory> {
+        let text = format!(in self.alloc; "{value}")?;
+        self.pieces.push(Piece::Token(text))?;
+        Ok(())
+    }
+
+    fn write_comment<T: Display>(&mut self, value: &T) -> Result<(), OutOfMemory> {
+        let text = format!(in self.alloc; "{value}")?;
+        self.pieces.push(Piece::Comment(text))?;
+        Ok(())
+    }
+
+    fn begin_block(&mut self) -> Result<(), OutOfMemory> {
+        self.pieces.push(Piece::Open)?;
+        Ok(())
+    }
+
+    fn end_block(&mut self) -> Result<(), OutOfMemory> {
+        self.pieces.push(Piece::Close)?;
+        Ok(())
+    }
+}
