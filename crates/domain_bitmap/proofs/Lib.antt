@@ -10,3 +10,4 @@ pub mod FaultLemmas
 pub mod SpellingLemmas
 pub mod ScanLemmas
 pub mod CountedLemmas
+pub mod SaltLemmas

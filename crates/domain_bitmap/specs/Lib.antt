@@ -9,3 +9,4 @@ pub mod Scan
 pub mod Counted
 pub mod HashText
 pub mod HashFault
+pub mod HashScan

@@ -27,6 +27,7 @@ mod builder;
 mod compare;
 mod convert;
 mod error;
+mod hash_scan;
 #[cfg(test)]
 mod hash_tests;
 mod iter;

@@ -12,7 +12,7 @@ ghost use Rattle.domain_bitmap.specs.Counted.{by_length, by_length_total, IsCutS
 use bytes::Bytes;
 use domain_base::{CanonicalOrd, ParseError};
 use domain_octets::{
-    AppendError, ArrayBuilder, EmptyOctets, Octets, OctetsFrom, OutOfMemory, Parser, TryClone,
+    AppendError, ArrayBuilder, EmptyOctets, FromBuilder, Octets, OctetsFrom, OutOfMemory, Parser, TryClone,
 };
 use std::alloc::Global;
 use std::cmp::Ordering;
@@ -121,6 +121,18 @@ impl<O: EmptyOctets> Nsec3Salt<O> {
     {
         Nsec3Salt {
             octets: O::empty(alloc),
+        }
+    }
+}
+
+impl<O: FromBuilder> Nsec3Salt<O> {
+    /// The salt of no octets, from an empty builder.
+    pub(crate) fn of_none(builder: O::Builder) -> Self
+        requires { O.Builder.octets builder ≡ [] }
+        ensures { result ≡ [] }
+    {
+        Nsec3Salt {
+            octets: O::from_builder(builder),
         }
     }
 }

@@ -2,7 +2,7 @@
 ghost use Rattle.std.specs.Prelude.{◌≡◌, IfOk, IfErr, Some};
 
 use crate::{Nsec3Salt, Nsec3SaltError};
-use domain_octets::{DecodeError, EmptyBuilder, EmptyOctets, FromBuilder, Octets, base16};
+use domain_octets::{DecodeError, EmptyBuilder, FromBuilder, Octets, base16};
 use std::alloc::Global;
 use std::error::Error;
 use std::fmt;
@@ -49,7 +49,7 @@ impl<O: Octets> fmt::Debug for Nsec3Salt<O> {
     }
 }
 
-impl<O: FromBuilder + EmptyOctets + Drop> Nsec3Salt<O>
+impl<O: FromBuilder + Drop> Nsec3Salt<O>
 where
     O::Builder: EmptyBuilder + Drop,
 {
@@ -67,7 +67,7 @@ where
         ensures err { IfErr result (SaltFault O.Builder.limit text.now) }
     {
         if text == "-" {
-            return Ok(Nsec3Salt::empty(alloc));
+            return Ok(Nsec3Salt::of_none(O::Builder::empty(alloc)));
         }
         let octets = match base16::decode::<O>(alloc, text) {
             Ok(octets) => octets,

@@ -6,7 +6,7 @@ use Rattle.domain_bitmap.proofs.salt.Nsec3Salt.from_str.Goals as goal
 pub returns-then-eq-clause-ok : goal.returns-then-eq-clause-ok
 returns-then-eq-clause-ok g c =
     let is : c.args.text.now ≡ codes "-" = search rules in
-    subst (SaltText c.args.text.now) (sym c.empty.ensures) (dash c.args.text.now is)
+    subst (SaltText c.args.text.now) (sym c.of_none.ensures) (dash c.args.text.now is)
 
 pub returns-in-Ok-from_octets-clause-ok : goal.returns-in-Ok-from_octets-clause-ok
 returns-in-Ok-from_octets-clause-ok g c =
