@@ -23,7 +23,7 @@ over_limit n answer = elim (leb_tells n 255) [ inl h ↦ let two_answers = answe
 pub refused_too_long : (codec : Codec) (long : List ℕ) (limit : Option ℕ) (old new : List (List ℕ)) (octets : List ℕ) → TakesToken (λ token. Decodes codec token octets) old new → 255 < length octets → RefusesToken (CountedFault codec long limit) old new (illegal long)
 refused_too_long codec long limit old new octets took over =
     subst (λ (o : List (List ℕ)). RefusesToken (CountedFault codec long limit) o new (illegal long)) (sym took.first)
-      (refused took.token new (illegal long) (inr ((octets, took.holds, over), refl)))
+    (refused took.token new (illegal long) (inr ((octets, took.holds, over), refl)))
 
 pub counted_fault : (codec : Codec) (long : List ℕ) (limit : Option ℕ) (fault : ScanFault) (token : List ℕ) → CodecFault codec limit fault token → CountedFault codec long limit fault token
 counted_fault codec long limit entry_ends token bad = bad

@@ -26,7 +26,7 @@ took_dash old new token salt first past alone none = record {
 pub refused_dash : (limit : Option ℕ) (old new : List (List ℕ)) (token : List ℕ) → (rest : List (List ℕ)) × (old ≡ token ∷ rest) → new ≡ drop 1 old → BeginsWithDash token → token ≢ codes "-" → RefusesToken (SaltTokenFault limit) old new (illegal (codes "illegal NSEC3 salt"))
 refused_dash limit old new token first past begins more =
     subst (λ (l : List (List ℕ)). RefusesToken (SaltTokenFault limit) l new (illegal (codes "illegal NSEC3 salt"))) (sym (gone_past old new first.0 token first.1 past))
-      (refused token new (illegal (codes "illegal NSEC3 salt")) (after_dash token begins more))
+    (refused token new (illegal (codes "illegal NSEC3 salt")) (after_dash token begins more))
 
 -- digits
 not_dash : (token : List ℕ) → (BeginsWithDash token → ⊥) → token ≢ codes "-"
@@ -55,6 +55,6 @@ refused_long limit old new token octets first other took over =
     let both : took.token ∷ new ≡ token ∷ first.0 = sym took.first ∙ first.1 in
     let same : token ≡ took.token = cc in
     let why : SaltTokenFault limit (illegal (codes "illegal NSEC3 salt")) took.token =
-        in_digits (illegal (codes "illegal NSEC3 salt")) took.token (subst (λ (t : List ℕ). BeginsWithDash t → ⊥) same other) (inr ((octets, took.holds, over), refl)) in
+    in_digits (illegal (codes "illegal NSEC3 salt")) took.token (subst (λ (t : List ℕ). BeginsWithDash t → ⊥) same other) (inr ((octets, took.holds, over), refl)) in
     subst (λ (l : List (List ℕ)). RefusesToken (SaltTokenFault limit) l new (illegal (codes "illegal NSEC3 salt"))) (sym took.first)
-      (refused took.token new (illegal (codes "illegal NSEC3 salt")) why)
+    (refused took.token new (illegal (codes "illegal NSEC3 salt")) why)

@@ -1,6 +1,6 @@
 use crate::{Nsec3Salt, Nsec3SaltError, Nsec3SaltFromStrError, OwnerHash, OwnerHashError};
 use bytes::Bytes;
-use domain_base::{CanonicalOrd, ParseError};
+use domain_base::{CanonicalOrd, IterScanner, ParseError, ScanError, Scanner};
 use domain_octets::{AppendError, ArrayBuilder, DecodeError, Octets, OctetsFrom, Parser, TryClone};
 use std::cmp::Ordering;
 use std::collections::{BTreeMap, HashMap};
@@ -146,5 +146,49 @@ fn refuses_long_texts(rt: HostRuntime) -> Result<(), Fail> {
         refused,
         Some(Nsec3SaltFromStrError::Nsec3SaltError(Nsec3SaltError))
     );
+    Ok(())
+}
+
+#[test]
+fn reads_tokens(rt: HostRuntime) -> Result<(), Fail> {
+    let mut scanner = IterScanner::<Vec<u8>>::new(&["626172", "cpnmu", "-", "-a", "0", "x"]);
+    assert_eq!(rt;
+        Nsec3Salt::scan(rt.alloc(), &mut scanner)?.as_slice(),
+        b"bar".as_slice()
+    );
+    assert_eq!(rt;
+        OwnerHash::scan(rt.alloc(), &mut scanner)?.as_slice(),
+        b"foo".as_slice()
+    );
+    assert!(rt;
+        Nsec3Salt::scan(rt.alloc(), &mut scanner)?
+            .as_slice()
+            .is_empty()
+    );
+    let refused = Nsec3Salt::scan(rt.alloc(), &mut scanner).err();
+    assert_eq!(rt; refused, Some(ScanError::Custom("illegal NSEC3 salt")));
+    let refused = Nsec3Salt::scan(rt.alloc(), &mut scanner).err();
+    assert_eq!(rt; refused, Some(ScanError::Custom("illegal data")));
+    let refused = OwnerHash::scan(rt.alloc(), &mut scanner).err();
+    assert_eq!(rt; refused, Some(ScanError::Custom("illegal data")));
+    assert_eq!(rt;
+        Nsec3Salt::scan(rt.alloc(), &mut scanner).err(),
+        Some(ScanError::EndOfEntry)
+    );
+    Ok(())
+}
+
+#[test]
+fn refuses_long_tokens(rt: HostRuntime) -> Result<(), Fail> {
+    let mut text = String::new(rt.alloc());
+    for _ in 0..512 {
+        text.push('1')?;
+    }
+    let tokens = [text.as_str(), text.as_str()];
+    let mut scanner = IterScanner::<Vec<u8>>::new(&tokens);
+    let refused = Nsec3Salt::scan(rt.alloc(), &mut scanner).err();
+    assert_eq!(rt; refused, Some(ScanError::Custom("illegal NSEC3 salt")));
+    let refused = OwnerHash::scan(rt.alloc(), &mut scanner).err();
+    assert_eq!(rt; refused, Some(ScanError::Custom("illegal owner name hash")));
     Ok(())
 }

@@ -12,7 +12,8 @@ ghost use Rattle.domain_bitmap.specs.Counted.{by_length, by_length_total, IsCutS
 use bytes::Bytes;
 use domain_base::{CanonicalOrd, ParseError};
 use domain_octets::{
-    AppendError, ArrayBuilder, EmptyOctets, FromBuilder, Octets, OctetsFrom, OutOfMemory, Parser, TryClone,
+    AppendError, ArrayBuilder, EmptyOctets, FromBuilder, Octets, OctetsFrom, OutOfMemory, Parser,
+    TryClone,
 };
 use std::alloc::Global;
 use std::cmp::Ordering;

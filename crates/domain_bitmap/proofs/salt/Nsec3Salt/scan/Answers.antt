@@ -12,12 +12,12 @@ returns-then-alone-clause-ok g c =
 pub returns-then-begins-clause-err : goal.returns-then-begins-clause-err
 returns-then-begins-clause-err g c =
     refused_dash _ _ _ _ c.in-Some.ensures c.skip_token.ensures (c.dash-begins.ensures.begins.0 c.if-begins.true)
-      (λ is. let alone = c.dash-begins.ensures.alone.1 is in cc (alone, c.if-alone.false))
+    (λ is. let alone = c.dash-begins.ensures.alone.1 is in cc (alone, c.if-alone.false))
 
 pub returns-in-Err-clause-err : goal.returns-in-Err-clause-err
 returns-in-Err-clause-err g c =
     refused_digits g.O.Builder.OctetsBuilder.limit _ _ _ _ c.in-Some.ensures
-      (λ dash. let begins = c.dash-begins.ensures.begins.1 dash in cc (begins, c.if-begins.false)) c.in-Err.ensures.err
+    (λ dash. let begins = c.dash-begins.ensures.begins.1 dash in cc (begins, c.if-begins.false)) c.in-Err.ensures.err
 
 pub returns-in-Ok-from_octets-clause-ok : goal.returns-in-Ok-from_octets-clause-ok
 returns-in-Ok-from_octets-clause-ok g c =
@@ -27,4 +27,4 @@ returns-in-Ok-from_octets-clause-ok g c =
 pub returns-in-Err-from_octets-clause-err : goal.returns-in-Err-from_octets-clause-err
 returns-in-Err-from_octets-clause-err g c =
     refused_long g.O.Builder.OctetsBuilder.limit _ _ _ _ c.in-Some.ensures
-      (λ dash. let begins = c.dash-begins.ensures.begins.1 dash in cc (begins, c.if-begins.false)) c.in-Ok.ensures.ok (over_limit _ c.in-Err-from_octets.ensures.ok.1)
+    (λ dash. let begins = c.dash-begins.ensures.begins.1 dash in cc (begins, c.if-begins.false)) c.in-Ok.ensures.ok (over_limit _ c.in-Err-from_octets.ensures.ok.1)
