@@ -1,1 +1,4 @@
 pub mod Fault
+pub mod Words
+pub mod Listing
+pub mod Said

@@ -1,4 +1,9 @@
 //! What a line of the input says.
+ghost use Rattle.std.specs.Prelude.{◌≡◌, ◌↔◌, IsTrue, IfOk, IfSome, map};
+ghost use Rattle.domain_base.specs.Scan.{TakesToken};
+ghost use Rattle.denial.specs.Words.{words, IsSkipped, LineText};
+ghost use Rattle.denial.specs.Said.{Says};
+
 use domain_base::{Class, FromToken, IterScanner, Name, Rtype, ScanError, Scanner, Ttl};
 use domain_octets::OutOfMemory;
 use domain_plain::Record;
@@ -25,31 +30,40 @@ pub enum Line {
     Bad,
 }
 
-fn is_blank(octet: u8) -> bool {
-    octet == b' ' || octet == b'\t'
-}
-
-/// Whether the line has no words, or begins with a semicolon after blanks.
-fn is_skipped(line: &[u8]) -> bool {
-    match line.iter().find(|octet| !is_blank(**octet)) {
-        None => true,
-        Some(first) => *first == b';',
-    }
-}
-
-/// The line as text, where none of its octets is past `~`.
-fn text_of(line: &[u8]) -> Option<&str> {
-    if line.iter().any(|octet| *octet > b'~') {
-        return None;
-    }
-    str::from_utf8(line).ok()
-}
-
-/// The words of a line, which spaces and tabs separate.
-fn words_of(alloc: Global, line: &str) -> Result<Vec<&str>, AllocError> {
-    line.split([' ', '\t'])
+/// The words of a line.
+fn words_of(alloc: Global, line: &[u8]) -> Result<Vec<&[u8]>, AllocError>
+    ensures { IfOk result (λ v. map (λ w. w.now) v.items ≡ words line.now) }
+{
+    line.split(|octet| *octet == b' ' || *octet == b'\t')
         .filter(|word| !word.is_empty())
         .collect(alloc)
+}
+
+/// Whether a line with these words is blank, or a comment.
+fn is_skipped(words: &[&[u8]]) -> bool
+    ensures { IsTrue result ↔ IsSkipped (map (λ w. w.now) words.now) }
+{
+    match words {
+        [] => true,
+        [first, ..] => matches!(first, [b';', ..]),
+    }
+}
+
+/// The words as text, where none of their octets is past `~`.
+fn tokens_of<'a>(alloc: Global, words: &[&'a [u8]]) -> Result<Option<Vec<&'a str>>, AllocError>
+    ensures { IfOk result (λ o. IfSome o (λ v. map (λ t. t.now) v.items ≡ map (λ w. w.now) words.now)) }
+{
+    let mut tokens = Vec::new(alloc);
+    for word in words {
+        if word.iter().any(|octet| *octet > b'~') {
+            return Ok(None);
+        }
+        let Ok(token) = str::from_utf8(word) else {
+            return Ok(None);
+        };
+        tokens.push(token)?;
+    }
+    Ok(Some(tokens))
 }
 
 /// Why words are no record.
@@ -71,7 +85,9 @@ impl From<ScanError> for LineError {
 }
 
 /// The value that the next token spells.
-fn field<F: FromToken, S: Scanner>(scanner: &mut S) -> Result<F, LineError> {
+fn field<F: FromToken, S: Scanner>(scanner: &mut S) -> Result<F, LineError>
+    ensures { IfOk result (λ v. TakesToken (λ token. F.spells token v) (S.tokens scanner.old) (S.tokens scanner.new)) }
+{
     match F::scan(scanner) {
         Ok(value) => Ok(value),
         Err(error) => Err(LineError::from(error)),
@@ -82,7 +98,9 @@ fn field<F: FromToken, S: Scanner>(scanner: &mut S) -> Result<F, LineError> {
 fn scan_record<S: Scanner<Name = ZoneName>>(
     alloc: Global,
     scanner: &mut S,
-) -> Result<ZoneRr, LineError> {
+) -> Result<ZoneRr, LineError>
+    ensures { IfOk result (LineText (λ n. n) (S.tokens scanner.old)) }
+{
     let owner = scanner.scan_name(alloc)?;
     let ttl = field::<Ttl, S>(scanner)?;
     let class = field::<Class, S>(scanner)?;
@@ -95,21 +113,25 @@ fn scan_record<S: Scanner<Name = ZoneName>>(
 }
 
 /// The record that words spell.
-fn record_of<'a>(alloc: Global, words: &'a [&'a str]) -> Result<ZoneRr, LineError> {
+fn record_of<'a>(alloc: Global, words: &'a [&'a str]) -> Result<ZoneRr, LineError>
+    ensures { IfOk result (LineText (λ n. n) (map (λ w. w.now) words.now)) }
+{
     let mut scanner = IterScanner::<Vec<u8>>::new(words);
     scan_record(alloc, &mut scanner)
 }
 
 /// What a line says. The line stands without its end.
-pub fn read_line(alloc: Global, line: &[u8]) -> Result<Line, OutOfMemory> {
-    if is_skipped(line) {
+pub fn read_line(alloc: Global, line: &[u8]) -> Result<Line, OutOfMemory>
+    ensures { IfOk result (Says line.now) }
+{
+    let words = words_of(alloc, line)?;
+    if is_skipped(words.as_slice()) {
         return Ok(Line::Nothing);
     }
-    let Some(text) = text_of(line) else {
+    let Some(tokens) = tokens_of(alloc, words.as_slice())? else {
         return Ok(Line::Bad);
     };
-    let words = words_of(alloc, text)?;
-    match record_of(alloc, words.as_slice()) {
+    match record_of(alloc, tokens.as_slice()) {
         Ok(record) => Ok(Line::Record(record)),
         Err(LineError::OutOfMemory) => Err(OutOfMemory),
         Err(LineError::Bad) => Ok(Line::Bad),

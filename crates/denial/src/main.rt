@@ -1,4 +1,7 @@
-//! Reads the records of a zone from standard input, one a line, and prints the chain that denies what the zone does not hold.
+//! The program `denial`: reads the records of a zone from standard input, one a line, and prints the chain that denies what the
+//! zone does not hold.
+//!
+//! The work is done by `run_denial`, which is generic over its reader, its writer and its hasher. `main` hands in those of the process.
 #![tactic(auto)]
 
 mod fault;

@@ -1,5 +1,7 @@
 //! The run of the program, over any reader and any writer.
-ghost use Rattle.std.specs.Prelude.{◌≡◌, ◌⊎◌, IfErr};
+ghost use Rattle.std.specs.Prelude.{◌≡◌, ◌≢◌, ◌⊎◌, ℕ, ◌-◌, List, [], ◌∷◌, ◌++◌, IfErr, IfOk, IfSome, length, slice_index};
+ghost use Rattle.std.specs.Str.Lines.{lines, strip_carriage_return};
+ghost use Rattle.denial.specs.Listing.{Give};
 ghost use Rattle.denial.specs.Fault.{IsBeforeOutput, IsReadingFault, IsChainFault};
 ghost use Rattle.denial.specs.declared.fault.DenialFault.TheVariants.{OutOfMemory};
 
@@ -56,7 +58,10 @@ fn fault_of(error: &io::Error, fault: DenialFault) -> DenialFault
 }
 
 /// A line without its end: a line feed, and a carriage return before it.
-fn without_end(line: &[u8]) -> &[u8] {
+fn without_end(line: &[u8]) -> &[u8]
+    ensures ended { (front : List ℕ) → line.now ≡ front ++ 10 ∷ [] → result.now ≡ strip_carriage_return front }
+    ensures last { slice_index line.now (length line.now - 1) ≢ 10 → result.now ≡ line.now }
+{
     match line {
         [front @ .., b'\r', b'\n'] => front,
         [front @ .., b'\n'] => front,
@@ -83,7 +88,8 @@ fn skip_all<R: BufRead>(input: &mut R) -> Result<(), DenialFault>
 /// The records of the lines that are left. A bad line is told only after the rest has been read, since a fault of the reader is
 /// told before it.
 fn read_records<R: BufRead>(alloc: Global, input: &mut R) -> Result<Vec<ZoneRr>, DenialFault>
-    ensures { IfErr result IsReadingFault }
+    ensures ok { IfOk result (λ v. IfSome (R.remaining input.old) (λ all. Give (λ n. n) (lines all) v.items)) }
+    ensures err { IfErr result IsReadingFault }
 {
     let mut records = Vec::new(alloc);
     let mut line = Vec::new(alloc);

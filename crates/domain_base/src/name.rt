@@ -18,7 +18,9 @@ use std::fmt;
 use std::hash::{Hash, Hasher};
 use std::marker::Model;
 
-/// A name whose wire form lies in octets.
+/// An absolute name whose wire form lies in octets, in the case that it was given in.
+///
+/// Comparisons and `Hash` pass over the case of letters (RFC 4343).
 #[derive(Drop)]
 pub struct Name<O: Octets> {
     octets: O,
@@ -33,7 +35,11 @@ impl<O: Octets> Model for Name<O> {
 }
 
 impl<O: Octets> Name<O> {
-    /// Octets that are a name and nothing more.
+    /// The name of which these octets are the wire form (RFC 1035, section 3.1). Takes no memory.
+    ///
+    /// Refuses, at the first label that is at fault: a missing octet with `ShortInput`, a length over 63
+    /// with `Form("compressed or bad label")`, a name over 255 octets with `Form("long domain name")`; and
+    /// octets after the name with `Form("trailing data")`.
     #[tactic(auto, using(crate::proofs::FaultLemmas::no_fault))]
     pub fn from_octets(octets: O) -> Result<Self, ParseError>
     where

@@ -24,6 +24,7 @@ impl<const K: usize> Model for ArrayBuilder<K> {
 }
 
 impl<const K: usize> ArrayBuilder<K> {
+    /// One without octets. Takes no memory.
     pub fn new() -> Self
         ensures { result ≡ [] }
     {

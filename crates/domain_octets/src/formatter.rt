@@ -1,5 +1,5 @@
 //! What takes the pieces of a zone file's text.
-ghost use Rattle.std.specs.Prelude.{◌≡◌, ◌++◌, ◌∷◌, [], List, ℕ, Some, map, IfOk, OnOk, OnErr, string_bytes};
+ghost use Rattle.std.specs.Prelude.{◌≡◌, ◌++◌, ◌∷◌, [], List, ℕ, IfSome, map, IfOk, OnOk, OnErr, string_bytes};
 ghost use Rattle.domain_octets.specs.Piece.{PieceText, token, comment, opens, closes, simple_text};
 
 use crate::{OutOfMemory, Piece};
@@ -14,12 +14,12 @@ pub trait Formatter {
 
     /// Takes a token.
     fn write_token<T: Display>(&mut self, value: &T) -> Result<(), OutOfMemory>
-        ensures ok { (text : List ℕ) → T.output value.now ≡ Some text → OnOk result (pieces self.new ≡ pieces self.old ++ token text ∷ []) }
+        ensures ok { IfSome (T.output value.now) (λ text. OnOk result (pieces self.new ≡ pieces self.old ++ token text ∷ [])) }
         ensures err { OnErr result (pieces self.new ≡ pieces self.old) };
 
     /// Takes a comment.
     fn write_comment<T: Display>(&mut self, value: &T) -> Result<(), OutOfMemory>
-        ensures ok { (text : List ℕ) → T.output value.now ≡ Some text → OnOk result (pieces self.new ≡ pieces self.old ++ comment text ∷ []) }
+        ensures ok { IfSome (T.output value.now) (λ text. OnOk result (pieces self.new ≡ pieces self.old ++ comment text ∷ [])) }
         ensures err { OnErr result (pieces self.new ≡ pieces self.old) };
 
     /// Takes the beginning of a block.

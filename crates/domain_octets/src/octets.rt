@@ -5,8 +5,10 @@ use crate::OutOfMemory;
 
 /// A value that can be copied, which may take memory.
 pub trait TryClone {
+    /// The second value is a copy of the first.
     ghost is_clone: { Self → Self → Type 0 };
 
+    /// A copy. Answers `OutOfMemory` where there is no memory for it.
     fn try_clone(&self) -> Result<Self, OutOfMemory>
     where
         Self: Sized,
@@ -18,6 +20,7 @@ pub trait Octets: TryClone {
     /// The octets.
     ghost octets: { Self → List ℕ };
 
+    /// The octets in one slice.
     fn as_slice(&self) -> &[u8]
         ensures { result.now ≡ octets self.now };
 

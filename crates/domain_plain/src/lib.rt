@@ -1,4 +1,11 @@
-//! Records and plain data: what a record is, and the data of the types that a zone cannot do without.
+//! Records and plain data.
+//!
+//! What a record is (RFC 1035, section 3.2) and its canonical order (RFC 4034, section 6), and the data of the types A, NS, SOA and MX (RFC 1035, section 3) and of types
+//! that are not known (RFC 3597).
+//!
+//! The data of a type is described once, as a list of fields (`specs/Field.antt`, `specs/Layout.antt`). Its octets, its canonical octets (RFC 4034, section 6.2), its canonical order, what is
+//! hashed of it and the tokens that spell it follow from that description, for each kind of field by one impl of `Fields` and one of `ScanFields`.
+//! The crates above may rely on this: data is octets, and `canonical_cmp` is the lexicographic order of canonical octets.
 #![tactic(auto)]
 
 mod a;

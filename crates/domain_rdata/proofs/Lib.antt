@@ -1,1 +1,2 @@
 pub mod ZoneLemmas
+pub mod ScanLemmas

@@ -1,4 +1,9 @@
-//! Data of DNSSEC records that speak of other names, and data of all types as one type.
+//! Data of DNSSEC records, and data of all types as one type.
+//!
+//! `Nsec` is the data of RFC 4034, section 4. `ZoneRecordData` holds the data of any type; types that have no variant of their own are held as octets (RFC 3597).
+//!
+//! The crates above may rely on this: data of all types is ordered by type and then by canonical octets, also between data that is known and the same
+//! octets held as unknown, and the order takes no memory.
 #![tactic(auto)]
 
 mod nsec;

@@ -148,6 +148,9 @@ impl<O: Octets, N: ToName> CanonicalOrd for ZoneRecordData<O, N> {
 }
 
 impl<O: Octets, N: ToName> ZoneRecordData<O, N> {
+    ghost use Rattle.std.specs.Prelude.{◌≢◌, ℕ, List, None, IfErr};
+    ghost use Rattle.domain_base.specs.Scan.{scan_fault_of, no_memory};
+    ghost use Rattle.domain_rdata.specs.declared.zone_record_data.ZoneRecordData.{ZoneRecordData};
     ghost use Rattle.domain_rdata.specs.Text.{RdataText};
 
     /// The data of a type that the tokens begin with, in the text form of that type.
@@ -156,6 +159,7 @@ impl<O: Octets, N: ToName> ZoneRecordData<O, N> {
     ///
     /// `EndOfEntry` and `Custom` as the first field that is refused says; `Custom("unknown record data")` for a type whose data has no text form here;
     /// `ShortBuf` and `OutOfMemory` where the octets of a name have no room or no memory. A refusal leaves an end of the tokens.
+    #[tactic(auto, using(domain_plain::proofs::ScanLemmas::refused_spells_none))]
     pub fn scan_rdata<S: Scanner<Name = N>>(
         alloc: Global,
         rtype: Rtype,
@@ -164,19 +168,35 @@ impl<O: Octets, N: ToName> ZoneRecordData<O, N> {
     where
         O: Drop,
         N: Drop,
-        ensures { IfOk result (λ d. RdataText N.labels rtype (S.tokens scanner.old) d (S.tokens scanner.new)) }
+        ensures ok { IfOk result (λ d. RdataText N.labels rtype (S.tokens scanner.old) d (S.tokens scanner.new)) }
+
+        // Over octets that grow, what is refused but for want of memory spells no data of the type.
+        ensures err { IfErr result (λ e. S.Octets.Builder.limit ≡ None → scan_fault_of e ≢ no_memory
+            → (d : ZoneRecordData O N) (after : List (List ℕ)) → RdataText N.labels rtype (S.tokens scanner.old) d after → ⊥) }
     {
         if rtype == Rtype::A {
-            return Ok(ZoneRecordData::A(A::scan(alloc, scanner)?));
+            return match A::scan(alloc, scanner) {
+                Ok(data) => Ok(ZoneRecordData::A(data)),
+                Err(error) => Err(error),
+            };
         }
         if rtype == Rtype::NS {
-            return Ok(ZoneRecordData::Ns(Ns::scan(alloc, scanner)?));
+            return match Ns::scan(alloc, scanner) {
+                Ok(data) => Ok(ZoneRecordData::Ns(data)),
+                Err(error) => Err(error),
+            };
         }
         if rtype == Rtype::SOA {
-            return Ok(ZoneRecordData::Soa(Soa::scan(alloc, scanner)?));
+            return match Soa::scan(alloc, scanner) {
+                Ok(data) => Ok(ZoneRecordData::Soa(data)),
+                Err(error) => Err(error),
+            };
         }
         if rtype == Rtype::MX {
-            return Ok(ZoneRecordData::Mx(Mx::scan(alloc, scanner)?));
+            return match Mx::scan(alloc, scanner) {
+                Ok(data) => Ok(ZoneRecordData::Mx(data)),
+                Err(error) => Err(error),
+            };
         }
         Err(ScanError::Custom("unknown record data"))
     }

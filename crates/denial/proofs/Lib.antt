@@ -1,0 +1,3 @@
+pub mod LineLemmas
+pub mod LineSteps
+pub mod Reading
