@@ -11,3 +11,4 @@ pub mod SpellingLemmas
 pub mod ScanLemmas
 pub mod CountedLemmas
 pub mod SaltLemmas
+pub mod PieceLemmas

@@ -10,3 +10,4 @@ pub mod Counted
 pub mod HashText
 pub mod HashFault
 pub mod HashScan
+pub mod Pieces

@@ -1,7 +1,12 @@
-use crate::{Nsec3Salt, Nsec3SaltError, Nsec3SaltFromStrError, OwnerHash, OwnerHashError};
+use crate::{
+    Nsec3Salt, Nsec3SaltError, Nsec3SaltFromStrError, OwnerHash, OwnerHashError, RtypeBitmap,
+};
 use bytes::Bytes;
 use domain_base::{CanonicalOrd, IterScanner, ParseError, ScanError, Scanner};
-use domain_octets::{AppendError, ArrayBuilder, DecodeError, Octets, OctetsFrom, Parser, TryClone};
+use domain_octets::{
+    AppendError, ArrayBuilder, DecodeError, DisplayKind, Octets, OctetsFrom, Parser, Piece,
+    PieceFormatter, TryClone, ZonefileFmt,
+};
 use std::cmp::Ordering;
 use std::collections::{BTreeMap, HashMap};
 use std::test::Fail;
@@ -175,6 +180,26 @@ fn reads_tokens(rt: HostRuntime) -> Result<(), Fail> {
         Nsec3Salt::scan(rt.alloc(), &mut scanner).err(),
         Some(ScanError::EndOfEntry)
     );
+    Ok(())
+}
+
+#[test]
+fn shows_pieces(rt: HostRuntime) -> Result<(), Fail> {
+    let salt = Nsec3Salt::from_slice(b"bar".as_slice())?;
+    let text = salt.display_zonefile(rt.alloc(), DisplayKind::Simple)?;
+    assert_eq!(rt; text.as_str(), "626172");
+    let mut formatter = PieceFormatter::new(rt.alloc());
+    ZonefileFmt::fmt(&salt, &mut formatter)?;
+    let expected = vec![in rt.alloc();
+        Piece::Open,
+        Piece::Token(String::from_str(rt.alloc(), "626172")?),
+        Piece::Comment(String::from_str(rt.alloc(), "salt (length: 3)")?),
+        Piece::Close,
+    ]?;
+    assert!(rt; formatter.pieces() == expected.as_slice());
+    let types = RtypeBitmap::from_octets(b"\x00\x05\x40\x00\x00\x00\x40".as_slice())?;
+    let text = types.display_zonefile(rt.alloc(), DisplayKind::Simple)?;
+    assert_eq!(rt; text.as_str(), "A SRV");
     Ok(())
 }
 

@@ -43,6 +43,7 @@ mod table;
 #[cfg(test)]
 mod tests;
 mod text;
+mod zonefile;
 
 pub use bitmap::RtypeBitmap;
 pub use builder::RtypeBitmapBuilder;
