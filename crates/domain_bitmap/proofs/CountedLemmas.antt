@@ -1,12 +1,11 @@
 -- octets after an octet that counts them
 use Rattle.std.proofs.lemmas.Bool.Decides.{leb_tells}
-use Rattle.std.proofs.Common.{true, false, inl, inr, ◌≤◌, ◌≡◌, ℕ, ◌+◌, ◌<◌, List, [], ◌∷◌, ◌++◌, length, ap, sym, refl, subst, arith, length-append}
+use Rattle.std.proofs.Common.{true, false, inl, inr, ◌≤◌, ◌≡◌, ℕ, ◌<◌, List, length, ap, sym, refl, subst, arith}
 use Rattle.std.specs.Prelude.{Option}
 use Rattle.domain_octets.specs.Codec.{Decodes}
 use Rattle.domain_octets.specs.declared.codec.Codec.{Codec}
 use Rattle.domain_base.specs.Scan.{ScanFault, entry_ends, illegal, no_room, no_memory, CodecFault, TakesToken, RefusesToken, ended, refused}
-use Rattle.domain_bitmap.specs.HashScan.{CountedFault, IsTooLong}
-use Rattle.domain_octets.specs.Place.{Place, Takes}
+use Rattle.domain_bitmap.specs.HashScan.{CountedFault}
 use Rattle.domain_bitmap.specs.Counted.{IsCutShort}
 
 -- there is no length

@@ -1,11 +1,11 @@
 -- salts read from tokens
-use Rattle.std.proofs.Common.{◌≡◌, ◌≢◌, ℕ, ◌<◌, inl, inr, List, [], ◌∷◌, length, drop, refl, sym, ap, ◌∙◌, subst, codes}
+use Rattle.std.proofs.Common.{◌≡◌, ◌≢◌, ℕ, ◌<◌, inr, List, [], ◌∷◌, length, drop, refl, sym, ap, ◌∙◌, subst, codes}
 use Rattle.std.specs.Prelude.{Option}
 use Rattle.domain_octets.specs.Codec.{Decodes}
 use Rattle.domain_octets.specs.declared.codec.Codec.TheVariants.{Base16}
 use Rattle.domain_base.specs.Scan.{ScanFault, entry_ends, illegal, CodecFault, TakesToken, RefusesToken, ended, refused}
 use Rattle.domain_bitmap.specs.HashText.{SaltText, dash, digits}
-use Rattle.domain_bitmap.specs.HashScan.{CountedFault, SaltTokenFault, BeginsWithDash, after_dash, in_digits}
+use Rattle.domain_bitmap.specs.HashScan.{SaltTokenFault, BeginsWithDash, after_dash, in_digits}
 use Rattle.domain_bitmap.proofs.CountedLemmas.{counted_fault}
 
 pub no_token : (limit : Option ℕ) (tokens : List (List ℕ)) → tokens ≡ [] → RefusesToken (SaltTokenFault limit) tokens tokens entry_ends

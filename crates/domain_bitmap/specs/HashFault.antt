@@ -4,7 +4,7 @@ use Rattle.domain_octets.specs.Limit.{IsOver}
 use Rattle.domain_octets.specs.Codec.{Decodes, DecodeFault}
 use Rattle.domain_octets.specs.declared.codec.Codec.TheVariants.{Base32Hex}
 use Rattle.domain_octets.specs.declared.codec.DecodeError.{DecodeError}
-use Rattle.domain_octets.specs.declared.codec.DecodeError.TheVariants.{IllegalChar, ShortInput, ShortBuf, OutOfMemory}
+use Rattle.domain_octets.specs.declared.codec.DecodeError.TheVariants.{ShortBuf}
 
 -- what the codec refuses, and what stands for over 255 octets
 abbrev pub HashFault : Option ℕ → List ℕ → DecodeError → Type 0

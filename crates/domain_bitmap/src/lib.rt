@@ -1,5 +1,5 @@
 //! Sets of record types, as NSEC and NSEC3 records hold them (RFC 4034, section 4.1.2; RFC 5155,
-//! section 3.2.1).
+//! section 3.2.1), and the salts and hashes of NSEC3 (RFC 5155, sections 3.1.5 and 3.1.7).
 //!
 //! On the wire a set of types is a list of blocks: the number of a window of 256 types, how many
 //! octets follow (1 to 32), and these octets, in which the most significant bit of the first is that
@@ -18,6 +18,8 @@
 //!   added (`laws`).
 //! - Equality, both orders and `Hash` are those of the octets; of two bitmaps that builders made,
 //!   equality is that of the sets.
+//! - An `Nsec3Salt` and an `OwnerHash` have at most 255 octets, and are these octets in clauses. `Ord`
+//!   is lexicographic; the canonical order, that of the wire form, looks at the length first.
 #![tactic(auto)]
 
 mod bitmap;

@@ -1,4 +1,4 @@
-use Rattle.std.proofs.Common.{◌≡◌, ◌≢◌, ◌<◌, ◌≤◌, codes, length, rules, sym, subst, arith}
+use Rattle.std.proofs.Common.{◌≡◌, ◌≢◌, codes, rules, sym, subst}
 use Rattle.domain_bitmap.specs.HashText.{SaltText, dash, digits}
 use Rattle.domain_bitmap.proofs.CountedLemmas.{over_limit}
 use Rattle.domain_bitmap.proofs.salt.Nsec3Salt.from_str.Goals as goal
