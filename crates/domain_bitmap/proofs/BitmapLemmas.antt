@@ -1,13 +1,13 @@
 -- the octets of a set of types
-use Rattle.std.proofs.Common.{◌≡◌, ℕ, zero, suc, ◌+◌, ◌-◌, ◌*◌, ◌/◌, ◌%◌, ◌<◌, ◌≤◌, ◌≢◌, Bool, true, false, List, [], ◌∷◌, ◌++◌, length, get_or, take, drop, map, refl, sym, ap, ◌∙◌, subst, inl, inr, arith, add-one, zero-add, length-append}
+use Rattle.std.proofs.Common.{◌≡◌, ℕ, zero, suc, ◌+◌, ◌*◌, ◌/◌, ◌<◌, ◌≤◌, Bool, false, List, [], ◌∷◌, ◌++◌, length, get_or, refl, sym, ap, ◌∙◌, subst, inl, inr, arith, zero-add}
 use Rattle.std.proofs.lemmas.List.{append-nil, get_or_past}
 use Rattle.std.specs.List.{AllByRecursion, flat_map, range_with_len}
 use Rattle.std.proofs.lemmas.List.FromFn.{length-map-range_with_len, get_or-map-range_with_len, fill_by_all}
-use Rattle.std.proofs.lemmas.Bool.Decides.{nat_tests, eqb_tells, leb_tells}
+use Rattle.std.proofs.lemmas.Bool.Decides.{leb_tells}
 use Rattle.domain_bitmap.specs.Bits.{bit_of, octet_with}
 use Rattle.domain_bitmap.specs.Bitmap.{window_octets, trimmed, block_with, window_block, bitmap_octets}
-use Rattle.domain_bitmap.specs.Blocks.{Block, IsBlock, octets_of, blocks_of, IsBitmap}
-use Rattle.domain_bitmap.proofs.RangeLemmas.{flat_same, flat_more}
+use Rattle.domain_bitmap.specs.Blocks.{Block, IsBlock, octets_of, IsBitmap}
+use Rattle.domain_bitmap.proofs.RangeLemmas.{flat_same, flat_more, flat_length}
 use Rattle.domain_bitmap.proofs.BitLemmas.{octet_with-lt, octet_with-same, octet_with-none, octet_with-bit_of, bit_of-octet_with}
 use Rattle.domain_bitmap.proofs.TrimLemmas.{get_or-trimmed, length-trimmed, trimmed-zeros}
 use Rattle.domain_bitmap.proofs.BlockLemmas.{IsBitmap-octets_of, octets_of-append, all-append}
@@ -120,3 +120,17 @@ skipped_more types w front before none =
 pub all_written : (types : ℕ → Bool) (n : ℕ) (out : List ℕ) → n ≡ 256 → out ≡ flat_map (window_block types) (range_with_len 0 n) → out ≡ bitmap_octets types
 unfolding bitmap_octets
 all_written types n out all is = is ∙ ap (λ m. flat_map (window_block types) (range_with_len 0 m)) all
+
+length-block_with : (w : ℕ) (xs : List ℕ) → length (block_with w xs) ≤ length xs + 2
+length-block_with w [] = omega arith
+length-block_with w (x ∷ xs) = omega arith
+
+length-window_block : (types : ℕ → Bool) (w : ℕ) → length (window_block types w) ≤ 34
+unfolding window_block
+length-window_block types w =
+    omega (arith, length-block_with w (trimmed (window_octets types w)), length-trimmed (window_octets types w), length-window_octets types w)
+
+-- all windows with all their octets
+pub length-bitmap_octets : (types : ℕ → Bool) → length (bitmap_octets types) ≤ 8704
+unfolding bitmap_octets
+length-bitmap_octets types = flat_length (window_block types) 34 0 256 (length-window_block types)

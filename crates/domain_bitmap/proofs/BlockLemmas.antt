@@ -1,5 +1,5 @@
 -- octets read as blocks
-use Rattle.std.proofs.Common.{◌≡◌, ℕ, zero, suc, ◌+◌, ◌-◌, ◌*◌, ◌/◌, ◌%◌, ◌<◌, ◌≤◌, ◌≢◌, Bool, true, false, List, [], ◌∷◌, ◌++◌, length, get_or, take, drop, refl, sym, ap, ◌∙◌, subst, arith, add-one, length-append}
+use Rattle.std.proofs.Common.{◌≡◌, ℕ, zero, suc, ◌+◌, ◌-◌, ◌*◌, ◌/◌, ◌%◌, ◌<◌, ◌≤◌, ◌≢◌, Bool, true, false, List, [], ◌∷◌, ◌++◌, length, get_or, take, drop, refl, sym, ap, subst, arith, length-append}
 use Rattle.std.specs.List.{AllByRecursion, flat_map}
 use Rattle.std.proofs.lemmas.List.{take_at, drop_at, get_or_past}
 use Rattle.std.specs.Prelude.{◌==◌}
@@ -7,8 +7,8 @@ use Rattle.std.proofs.lemmas.Bool.Decides.{nat_tests}
 use Rattle.domain_bitmap.proofs.RangeLemmas.{filter_none}
 use Rattle.domain_bitmap.proofs.BitLemmas.{bit_of-zero}
 use Rattle.std.proofs.lemmas.List.Concat.{flat_map-append}
-use Rattle.domain_bitmap.specs.Blocks.{Block, IsBlock, octets_of, blocks_within, blocks_of, IsBitmap, block_types_from, types_from, types_of, contains_type, in_first_block}
-use Rattle.domain_bitmap.specs.Bits.{has_bit, bit_of}
+use Rattle.domain_bitmap.specs.Blocks.{Block, IsBlock, octets_of, blocks_within, blocks_of, IsBitmap, block_types_from, types_from, types_of, contains_type}
+use Rattle.domain_bitmap.specs.Bits.{has_bit}
 
 blocks_within-octets_of : (blocks : List Block) (n : ℕ) → length (octets_of blocks) ≤ n → blocks_within n (octets_of blocks) ≡ blocks
 unfolding blocks_within

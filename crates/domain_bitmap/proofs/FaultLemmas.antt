@@ -1,13 +1,13 @@
 -- why octets are no list of blocks
-use Rattle.std.proofs.Common.{◌≡◌, ◌≢◌, ℕ, zero, suc, ◌+◌, ◌-◌, ◌<◌, ◌≤◌, ◌⊎◌, inl, inr, List, [], ◌∷◌, ◌++◌, length, get_or, take, drop, refl, sym, ap, ◌∙◌, subst, arith, add-one}
-use Rattle.std.proofs.lemmas.List.{take-append-drop, length-take, get_or-take, get_or-drop, get_or_past, take_at, drop_at}
+use Rattle.std.proofs.Common.{◌≡◌, ℕ, suc, ◌+◌, ◌-◌, ◌<◌, ◌≤◌, ◌⊎◌, inl, inr, List, [], ◌∷◌, ◌++◌, length, get_or, take, drop, refl, sym, ap, ◌∙◌, subst, arith}
+use Rattle.std.proofs.lemmas.List.{take-append-drop, length-take, get_or-take, get_or-drop, get_or_past, drop_at}
 use Rattle.std.proofs.lemmas.Bool.Decides.{leb_tells}
 use Rattle.domain_bitmap.specs.declared.error.RtypeBitmapError.{RtypeBitmapError}
 use Rattle.domain_bitmap.specs.declared.error.RtypeBitmapError.TheVariants.{ShortInput, BadRtypeBitmap}
 use Rattle.domain_base.specs.Fault.{Fault}
 use Rattle.domain_bitmap.specs.Fault.{BitmapFault, bitmap_fault_of, FirstFault, no_length, bad_length, cut_block, after}
-use Rattle.domain_bitmap.specs.Blocks.{Block, IsBlock, IsBitmap, octets_of, blocks_of}
-use Rattle.domain_bitmap.proofs.BlockLemmas.{IsBitmap-octets_of, HasBlock, block_at, add_two}
+use Rattle.domain_bitmap.specs.Blocks.{Block, IsBitmap, octets_of, blocks_of}
+use Rattle.domain_bitmap.proofs.BlockLemmas.{IsBitmap-octets_of, block_at, add_two}
 
 -- what is left of octets of which blocks were read
 pub record Reading (octets rest : List ℕ) : Type 0 where

@@ -8,3 +8,7 @@ pub mod PackLemmas
 pub mod MeaningLemmas
 pub mod FaultLemmas
 pub mod SpellingLemmas
+pub mod ScanLemmas
+pub mod CountedLemmas
+pub mod SaltLemmas
+pub mod PieceLemmas

@@ -1,5 +1,5 @@
 -- what the octets of a set of types say
-use Rattle.std.proofs.Common.{◌≡◌, ◌≢◌, ℕ, zero, suc, ◌+◌, ◌-◌, ◌*◌, ◌/◌, ◌%◌, ◌<◌, ◌≤◌, Bool, true, false, List, [], ◌∷◌, ◌++◌, length, get_or, refl, sym, ap, ◌∙◌, inl, inr, arith, zero-add, add-one, add_comm}
+use Rattle.std.proofs.Common.{◌≡◌, ◌≢◌, ℕ, zero, suc, ◌+◌, ◌-◌, ◌*◌, ◌/◌, ◌%◌, ◌<◌, ◌≤◌, Bool, true, false, List, [], ◌∷◌, ◌++◌, refl, sym, ap, ◌∙◌, inl, inr, arith, add-one, add_comm}
 use Rattle.std.proofs.Math.Nat.{mul-suc}
 use Rattle.std.specs.Prelude.{◌==◌, filter}
 use Rattle.std.specs.List.{range_with_len, flat_map}
@@ -7,9 +7,9 @@ use Rattle.std.proofs.lemmas.List.{append-nil}
 use Rattle.std.proofs.lemmas.List.Concat.{flat_map-append}
 use Rattle.domain_bitmap.proofs.RangeLemmas.{filter_same, filter_none, filter_append}
 use Rattle.std.proofs.lemmas.Bool.Decides.{nat_tests, eqb_tells}
-use Rattle.domain_bitmap.specs.Bits.{bit_of, has_bit, octet_with}
+use Rattle.domain_bitmap.specs.Bits.{has_bit}
 use Rattle.domain_bitmap.specs.Bitmap.{window_octets, trimmed, bitmap_octets}
-use Rattle.domain_bitmap.specs.Blocks.{Block, blocks_of, octets_of, in_first_block, contains_type, block_types_from, types_of, types_below}
+use Rattle.domain_bitmap.specs.Blocks.{Block, blocks_of, in_first_block, contains_type, block_types_from, types_of, types_below}
 use Rattle.domain_bitmap.proofs.BitLemmas.{bit_of-octet_with, bit_of-zero}
 use Rattle.domain_bitmap.proofs.TrimLemmas.{get_or-trimmed}
 use Rattle.domain_bitmap.proofs.BlockLemmas.{blocks_of-octets_of}

@@ -1,15 +1,15 @@
 -- blocks put in order
-use Rattle.std.proofs.Common.{◌≡◌, ℕ, zero, suc, ◌+◌, ◌-◌, ◌*◌, ◌/◌, ◌%◌, ◌<◌, ◌≤◌, ◌≢◌, min, max, Bool, true, false, List, [], ◌∷◌, ◌++◌, length, get_or, take, drop, refl, sym, ap, ◌∙◌, inl, inr, arith, add-one, add-zero, append_assoc, set, get_or-set_same, get_or-set_other, length-append}
+use Rattle.std.proofs.Common.{◌≡◌, ℕ, zero, suc, ◌+◌, ◌-◌, ◌*◌, ◌/◌, ◌%◌, ◌<◌, ◌≤◌, ◌≢◌, max, Bool, true, false, List, [], ◌∷◌, ◌++◌, length, get_or, take, drop, refl, sym, ap, ◌∙◌, inl, inr, arith, add-one, add-zero, append_assoc, set, get_or-set_same, get_or-set_other, length-append}
 use Rattle.std.specs.Prelude.{◌||◌, ◌==◌, ◌&&◌, bit_or, nat_lt, if◌then◌else◌}
 use Rattle.std.specs.Int.{bit_at}
 use Rattle.std.specs.List.{range_with_len, list_any}
 use Rattle.std.proofs.lemmas.Nat.Bits.{bit_at_or, bit_at-lt}
 use Rattle.std.proofs.lemmas.List.{get_or-take, get_or-drop, length-take, length-drop, take_at}
-use Rattle.std.proofs.lemmas.Bool.Decides.{nat_tests, eqb_tells, leb_tells}
+use Rattle.std.proofs.lemmas.Bool.Decides.{nat_tests, eqb_tells}
 use Rattle.domain_bitmap.specs.Bits.{bit_of}
 use Rattle.domain_bitmap.specs.Bitmap.{window_octets, window_block, block_with, trimmed, bitmap_octets}
 use Rattle.domain_bitmap.specs.Builder.{is_of_window, block_holds, has_window, holds}
-use Rattle.domain_bitmap.proofs.RangeLemmas.{any_more, any_suc, any_none, any_at, or_false, or_true, or_turn}
+use Rattle.domain_bitmap.proofs.RangeLemmas.{any_more, any_suc, any_none, any_at, or_false, or_true}
 use Rattle.domain_bitmap.proofs.BitmapLemmas.{window_octets-is, window_block-none}
 use Rattle.domain_bitmap.proofs.RangeLemmas.{flat_none, flat_single}
 use Rattle.domain_bitmap.proofs.SlotLemmas.{window_absent}

@@ -1,8 +1,9 @@
 -- numbers in a row
-use Rattle.std.proofs.Common.{◌≡◌, ℕ, zero, suc, ◌+◌, ◌<◌, ◌≤◌, ◌≢◌, Bool, true, false, List, [], ◌∷◌, ◌++◌, length, get_or, refl, sym, ap, ◌∙◌, inl, inr, arith, add-zero, zero-add, add-one, append_assoc, append-nil, cond, subst}
-use Rattle.std.specs.Prelude.{◌||◌, ◌&&◌, ◌==◌}
+use Rattle.std.proofs.Common.{◌≡◌, ℕ, zero, suc, ◌+◌, ◌*◌, ◌<◌, ◌≤◌, ◌≢◌, Bool, true, false, List, [], ◌∷◌, ◌++◌, length, get_or, refl, sym, ap, ◌∙◌, inl, inr, arith, add-zero, zero-add, add-one, append-nil, length-append, cond, subst}
+use Rattle.std.proofs.Math.Nat.{mul-suc}
+use Rattle.std.specs.Prelude.{◌||◌, ◌&&◌}
 use Rattle.std.specs.List.{range_with_len, list_any, flat_map, filter}
-use Rattle.std.proofs.lemmas.Bool.Decides.{nat_tests, eqb_tells}
+use Rattle.std.proofs.lemmas.Bool.Decides.{eqb_tells}
 use Rattle.std.proofs.lemmas.List.Folds.{list_any-append, list_any_at, list_any_none}
 use Rattle.std.proofs.lemmas.List.Concat.{flat_map-append}
 use Rattle.std.proofs.lemmas.List.FromFn.{length-range_with_len, get_or-range_with_len}
@@ -145,3 +146,31 @@ filter_append p a (suc m) n =
     let start : a + suc m ≡ a + 1 + m = omega arith in
     let count : suc m + n ≡ suc (m + n) = omega arith in
     rw (start, count) (kept_append (p a) a (filter p (range_with_len (a + 1) m)) (filter p (range_with_len (a + 1 + m) n)) ∙ ap (λ rest. cond (p a) (a ∷ rest) rest) (filter_append p (a + 1) m n))
+
+kept_length : (b : Bool) (x : ℕ) (xs : List ℕ) → length (cond b (x ∷ xs) xs) ≡ length xs + cond b 1 0
+kept_length true x xs = omega arith
+kept_length false x xs = omega arith
+
+filter_more_from : (p q : ℕ → Bool) (c a n : ℕ) → a ≤ c → c < a + n → ((j : ℕ) → j ≢ c → q j ≡ p j) → p c ≡ false → q c ≡ true → length (filter q (range_with_len a n)) ≡ length (filter p (range_with_len a n)) + 1
+filter_more_from p q c a zero low high same was is = absurd (omega arith)
+filter_more_from p q c a (suc n) low high same was is =
+    elim (eqb_tells a c) [
+      | inl h ↦
+          let rest : filter q (range_with_len (a + 1) n) ≡ filter p (range_with_len (a + 1) n) = filter_same q p (a + 1) n (λ j j_low j_high. same j (omega (arith, h.1))) in
+          let now : q a ≡ true = ap q h.1 ∙ is in
+          let before : p a ≡ false = ap p h.1 ∙ was in
+          rw (now, before, rest) (sym (add-one (length (filter p (range_with_len (a + 1) n)))))
+      | inr h ↦
+          let here : q a ≡ p a = same a h.1 in
+          let rest = filter_more_from p q c (a + 1) n (omega (arith, h.1)) (omega arith) same was is in
+          rw here (omega (arith, rest, kept_length (p a) a (filter q (range_with_len (a + 1) n)), kept_length (p a) a (filter p (range_with_len (a + 1) n))))
+    ]
+
+-- one more number passes
+pub filter_more : (p q : ℕ → Bool) (c n : ℕ) → c < n → ((j : ℕ) → j ≢ c → q j ≡ p j) → p c ≡ false → q c ≡ true → length (filter q (range_with_len 0 n)) ≡ length (filter p (range_with_len 0 n)) + 1
+filter_more p q c n inside same was is = filter_more_from p q c 0 n (omega arith) (omega arith) same was is
+
+pub flat_length : (f : ℕ → List ℕ) (most a n : ℕ) → ((j : ℕ) → length (f j) ≤ most) → length (flat_map f (range_with_len a n)) ≤ most * n
+flat_length f most a zero each = omega arith
+flat_length f most a (suc n) each =
+    omega (arith, each a, flat_length f most (a + 1) n each, length-append (f a) (flat_map f (range_with_len (a + 1) n)), mul-suc most n)

@@ -1,5 +1,5 @@
 -- octets without the zero octets at their end
-use Rattle.std.proofs.Common.{◌≡◌, ℕ, zero, suc, ◌+◌, ◌-◌, ◌<◌, ◌≤◌, ◌≢◌, List, [], ◌∷◌, length, get_or, take, refl, sym, ap, ◌∙◌, add-one, arith}
+use Rattle.std.proofs.Common.{◌≡◌, ℕ, zero, suc, ◌-◌, ◌<◌, ◌≤◌, ◌≢◌, List, [], ◌∷◌, length, get_or, take, refl, ap, ◌∙◌, arith}
 use Rattle.domain_bitmap.specs.Bitmap.{trimmed, before_trimmed}
 
 pub before_trimmed-cons : (x y : ℕ) (ys : List ℕ) → before_trimmed x (y ∷ ys) ≡ x ∷ y ∷ ys

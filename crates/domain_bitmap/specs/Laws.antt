@@ -1,5 +1,5 @@
 -- what the impls of comparisons cite
-use Rattle.std.specs.Prelude.{ℕ, List, bytes_eq}
+use Rattle.std.specs.Prelude.{bytes_eq}
 use Rattle.std.specs.Hash as fed
 use Rattle.std.specs.Hash.{Alike, same_Alike}
 use Rattle.std.specs.Cmp.Lexicographic.{bytes_decides}

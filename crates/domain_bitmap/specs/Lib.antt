@@ -5,3 +5,9 @@ pub mod Builder
 pub mod Text
 pub mod Fault
 pub mod Laws
+pub mod Scan
+pub mod Counted
+pub mod HashText
+pub mod HashFault
+pub mod HashScan
+pub mod Pieces

@@ -1,5 +1,5 @@
 //! Builds sets of types.
-ghost use Rattle.std.specs.Prelude.{◌≡◌, ◌≢◌, ℕ, ◌+◌, ◌/◌, ◌%◌, ◌<◌, ◌||◌, ◌==◌, ◌↔◌, [], List, false, length, OnOk, OnErr, IfOk, slice_index, ◌*◌, IsErrOf, IsNone};
+ghost use Rattle.std.specs.Prelude.{◌≡◌, ◌≢◌, ℕ, ◌+◌, ◌/◌, ◌%◌, ◌<◌, ◌||◌, ◌==◌, ◌↔◌, [], List, false, length, OnOk, OnErr, IfOk, slice_index, ◌*◌, if◌then◌else◌, IsErrOf, IsNone};
 ghost use Rattle.domain_octets.specs.Limit.{IsOver};
 ghost use Rattle.domain_bitmap.specs.Builder.{holds, has_window};
 ghost use Rattle.domain_bitmap.specs.Bitmap.{bitmap_octets};
@@ -84,6 +84,7 @@ impl<B: OctetsBuilder> RtypeBitmapBuilder<B> {
         ensures place { IfOk result (λ j. (j < length self.new / 34) × (slice_index self.new (34 * j) ≡ window)) }
         ensures types { OnOk result ((t : ℕ) → holds self.new t ≡ holds self.old t) }
         ensures windows { OnOk result ((w : ℕ) → has_window self.new w ≡ (w == window || has_window self.old w)) }
+        ensures size { OnOk result (length self.new ≡ (if has_window self.old window then length self.old else length self.old + 34)) }
         ensures short { IsErrOf result AppendError.ShortBuf
             ↔ ((has_window self.old window ≡ false) × IsOver B.limit (length self.old + 34)) }
         ensures memory { IsErrOf result AppendError.OutOfMemory
@@ -111,6 +112,7 @@ impl<B: OctetsBuilder> RtypeBitmapBuilder<B> {
     pub fn add(&mut self, rtype: Rtype) -> Result<(), AppendError>
         ensures ok { OnOk result ((t : ℕ) → t < 65536 → holds self.new t ≡ (t == rtype || holds self.old t)) }
         ensures windows { OnOk result ((w : ℕ) → has_window self.new w ≡ (w == rtype / 256 || has_window self.old w)) }
+        ensures size { OnOk result (length self.new ≡ (if has_window self.old (rtype / 256) then length self.old else length self.old + 34)) }
         ensures short { IsErrOf result AppendError.ShortBuf
             ↔ ((has_window self.old (rtype / 256) ≡ false) × IsOver B.limit (length self.old + 34)) }
         ensures memory { IsErrOf result AppendError.OutOfMemory

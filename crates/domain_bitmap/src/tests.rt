@@ -1,6 +1,9 @@
 use crate::{RtypeBitmap, RtypeBitmapBuilder, RtypeBitmapError};
-use domain_base::Rtype;
-use domain_octets::{AppendError, ArrayBuilder, EmptyBuilder, Octets, OctetsBuilder, TryClone};
+use bytes::Bytes;
+use domain_base::{IterScanner, ParseError, Rtype, ScanError, Scanner};
+use domain_octets::{
+    AppendError, ArrayBuilder, EmptyBuilder, Octets, OctetsBuilder, OctetsFrom, Parser, TryClone,
+};
 use std::alloc::Global;
 use std::cmp::Ordering;
 use std::collections::{BTreeMap, HashMap};
@@ -180,6 +183,7 @@ fn composes_octets(rt: HostRuntime) -> Result<(), Fail> {
     builder.add(Rtype::A)?;
     let more = builder.clone()?;
     let bitmap = more.finalize();
+    assert_eq!(rt; bitmap.as_slice().len(), 3);
     assert_eq!(rt; bitmap.compose_len(), 3);
     let mut target = ArrayBuilder::<3>::empty(rt.alloc());
     bitmap.compose(&mut target)?;
@@ -191,6 +195,51 @@ fn composes_octets(rt: HostRuntime) -> Result<(), Fail> {
     assert_eq!(rt;
         Octets::as_slice(&builder.finalize()),
         b"\x00\x01\x20\x01\x01\x40".as_slice()
+    );
+    Ok(())
+}
+
+#[test]
+fn reads_types_from_tokens(rt: HostRuntime) -> Result<(), Fail> {
+    let mut scanner = IterScanner::<Vec<u8>>::new(&["srv", "A", "TYPE1"]);
+    let bitmap = RtypeBitmap::<Vec<u8>>::scan(rt.alloc(), &mut scanner)?;
+    assert_eq!(rt;
+        bitmap.as_slice(),
+        b"\x00\x05\x40\x00\x00\x00\x40".as_slice()
+    );
+    let mut scanner = IterScanner::<Vec<u8>>::new(&[]);
+    assert!(rt; RtypeBitmap::<Vec<u8>>::scan(rt.alloc(), &mut scanner)?.is_empty());
+    let mut scanner = IterScanner::<Vec<u8>>::new(&["A", "B", "NS"]);
+    let refused = RtypeBitmap::<Vec<u8>>::scan(rt.alloc(), &mut scanner).err();
+    assert_eq!(rt; refused, Some(ScanError::Custom("unknown record type")));
+    assert_eq!(rt; scanner.first_token(), Some("NS"));
+    let mut scanner = IterScanner::<Vec<u8>>::new(&["A", "CAA", "NS"]);
+    let refused = RtypeBitmap::<ArrayBuilder<34>>::scan(rt.alloc(), &mut scanner).err();
+    assert_eq!(rt; refused, Some(ScanError::ShortBuf));
+    assert_eq!(rt; scanner.first_token(), Some("NS"));
+    Ok(())
+}
+
+#[test]
+fn parses_what_is_left(rt: HostRuntime) -> Result<(), Fail> {
+    let mut parser = Parser::new(b"\x07\x00\x01\x40".as_slice());
+    let _front = parser.parse_u8()?;
+    let bitmap = RtypeBitmap::parse(&mut parser)?;
+    assert_eq!(rt; parser.remaining(), 0);
+    let made = RtypeBitmap::<Vec<u8>>::try_octets_from(rt.alloc(), bitmap)?;
+    assert_eq!(rt; made.as_slice(), b"\x00\x01\x40".as_slice());
+    let shared = RtypeBitmap::<Bytes>::try_octets_from(rt.alloc(), made)?;
+    assert_eq!(rt; shared.as_slice(), b"\x00\x01\x40".as_slice());
+    let short = RtypeBitmap::<ArrayBuilder<2>>::try_octets_from(rt.alloc(), shared).err();
+    assert_eq!(rt; short, Some(AppendError::ShortBuf));
+    let mut parser = Parser::new(b"\x00\x21".as_slice());
+    let refused = RtypeBitmap::parse(&mut parser).err();
+    assert_eq!(rt; refused, Some(ParseError::Form("invalid NSEC bitmap")));
+    assert_eq!(rt; parser.pos(), 0);
+    let mut parser = Parser::new(b"\x00\x02\x40".as_slice());
+    assert_eq!(rt;
+        RtypeBitmap::parse(&mut parser).err(),
+        Some(ParseError::ShortInput)
     );
     Ok(())
 }

@@ -1,7 +1,6 @@
-use Rattle.std.proofs.Common.{◌≡◌, ◌≢◌, ◌+◌, ◌-◌, ◌<◌, ◌≤◌, length, get_or, take, drop, inl, inr, arith}
+use Rattle.std.proofs.Common.{◌≡◌, ◌≢◌, ◌+◌, ◌-◌, ◌<◌, length, get_or, take, drop, inl, inr, arith}
 use Rattle.std.proofs.lemmas.Bool.Decides.{nat_tests}
 use Rattle.std.proofs.lemmas.Grind.{common_steps}
-use Rattle.domain_bitmap.specs.Blocks.{IsBitmap}
 use Rattle.domain_bitmap.proofs.FaultLemmas.{reading_starts, reading_goes, fault_no_length, fault_bad_length, fault_cut_block, nothing_left}
 use Rattle.domain_bitmap.proofs.blocks.check.Goals as goal
 

@@ -1,7 +1,6 @@
-use Rattle.std.proofs.Common.{◌≡◌, ◌<◌, ◌≤◌, ◌+◌, ◌-◌, take, drop, get_or, ap, ◌∙◌, sym, length, arith}
+use Rattle.std.proofs.Common.{◌≡◌, ◌<◌, ◌+◌, ◌-◌, take, drop, get_or, length, arith}
 use Rattle.std.proofs.lemmas.Grind.{common_steps}
 use Rattle.std.proofs.lemmas.Bool.Decides.{nat_tests}
-use Rattle.domain_bitmap.specs.Blocks.{IsBitmap}
 use Rattle.domain_bitmap.proofs.BlockLemmas.{block_at}
 use Rattle.domain_bitmap.proofs.blocks.split_block.Goals as goal
 

@@ -1,8 +1,7 @@
-use Rattle.std.proofs.Common.{◌≡◌, ℕ, ◌+◌, ◌*◌, ◌/◌, ◌<◌, ◌≤◌, true, false, length, take, drop, get_or, sym, ap, ◌∙◌, rules, ◌%◌, arith}
+use Rattle.std.proofs.Common.{◌≡◌, ℕ, ◌*◌, ◌/◌, ◌<◌, true, false, length, drop, get_or, sym, ap, ◌∙◌, rules, ◌%◌, arith}
 use Rattle.std.proofs.lemmas.List.{length-take}
 use Rattle.domain_bitmap.specs.Builder.{holds, has_window}
-use Rattle.domain_bitmap.specs.Bitmap.{window_octets, bitmap_octets, window_block}
-use Rattle.domain_bitmap.proofs.PackLemmas.{tally, room_for, table_window, holds-absent, tally-more, tally-less}
+use Rattle.domain_bitmap.proofs.PackLemmas.{room_for, table_window, holds-absent, tally-more, tally-less}
 use Rattle.domain_bitmap.specs.Bits.{bit_of}
 use Rattle.domain_bitmap.proofs.BitmapLemmas.{written_more, skipped_more, all_written}
 use Rattle.domain_bitmap.proofs.pack.pack_all.Goals as goal

@@ -1,4 +1,4 @@
-use Rattle.std.proofs.Common.{◌≡◌, ◌+◌, ◌*◌, ◌≤◌, length, take, flat_map}
+use Rattle.std.proofs.Common.{◌≡◌, ◌*◌, ◌≤◌, length, take, flat_map}
 use Rattle.std.specs.List.{range_with_len}
 use Rattle.domain_bitmap.specs.Bitmap.{window_block}
 use Rattle.domain_bitmap.specs.Builder.{holds, has_window}

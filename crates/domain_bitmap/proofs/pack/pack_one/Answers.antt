@@ -1,4 +1,4 @@
-use Rattle.std.proofs.Common.{◌≡◌, ◌≢◌, [], ◌<◌, length, take, drop, get_or, ap, ◌∙◌, sym, refl, arith}
+use Rattle.std.proofs.Common.{◌≡◌, ◌≢◌, take, drop, get_or, ◌∙◌, sym, refl, arith}
 use Rattle.domain_bitmap.specs.Bitmap.{block_with, bitmap_octets}
 use Rattle.domain_bitmap.specs.Builder.{holds}
 use Rattle.domain_bitmap.proofs.PackLemmas.{cut_in_place}

@@ -1,4 +1,4 @@
-use Rattle.std.proofs.Common.{◌≡◌, ◌≢◌, ◌+◌, ◌<◌, ◌≤◌, ◌∷◌, [], ◌++◌, length, take, sym, ap, ◌∙◌, refl, arith, append_assoc, length-append, length-drop}
+use Rattle.std.proofs.Common.{◌≡◌, ◌≢◌, ◌+◌, ◌≤◌, ◌∷◌, [], ◌++◌, length, take, sym, ap, ◌∙◌, refl, arith, append_assoc, length-append, length-drop}
 use Rattle.std.proofs.lemmas.List.{length-take}
 use Rattle.domain_bitmap.specs.Bitmap.{block_with, trimmed}
 use Rattle.domain_bitmap.proofs.PackLemmas.{front-written, block_with-some}

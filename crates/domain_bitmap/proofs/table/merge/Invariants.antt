@@ -1,4 +1,4 @@
-use Rattle.std.proofs.Common.{◌≡◌, ℕ, ◌*◌, length, get_or}
+use Rattle.std.proofs.Common.{◌≡◌, ℕ, ◌*◌, get_or}
 use Rattle.domain_bitmap.proofs.PackLemmas.{merged_at}
 use Rattle.domain_bitmap.proofs.table.merge.Given as goal
 

@@ -1,4 +1,4 @@
-use Rattle.std.proofs.Common.{◌≡◌, ℕ, ◌+◌, ◌*◌, ◌/◌, ◌%◌, ◌<◌, false, length, get_or, sym, ap, ◌∙◌, rules, arith}
+use Rattle.std.proofs.Common.{◌≡◌, ◌*◌, ◌/◌, ◌%◌, ◌<◌, length, get_or, ap, ◌∙◌, rules, arith}
 use Rattle.std.specs.List.{list_any, range_with_len}
 use Rattle.domain_bitmap.specs.Builder.{holds, has_window, block_holds, is_of_window}
 use Rattle.domain_bitmap.proofs.BitLemmas.{bit_of-zero}

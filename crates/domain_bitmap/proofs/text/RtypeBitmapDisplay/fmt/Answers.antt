@@ -1,8 +1,7 @@
-use Rattle.std.proofs.Common.{◌≡◌, ◌++◌, ◌∷◌, [], refl, sym, ap, ◌∙◌}
+use Rattle.std.proofs.Common.{◌++◌, ◌∷◌, [], refl, sym, ap, ◌∙◌}
 use Rattle.std.proofs.Output.{has_written_append, has_written_of_eq, writes_in_calls_nil}
 use Rattle.std.proofs.lemmas.List.{append_assoc, append-nil}
 use Rattle.domain_base.specs.Numbers.{type_text}
-use Rattle.domain_bitmap.specs.Blocks.{types_of}
 use Rattle.domain_bitmap.specs.Text.{types_text, spaced_types}
 use Rattle.domain_bitmap.proofs.text.RtypeBitmapDisplay.fmt.Goals as goal
 use Rattle.domain_bitmap.proofs.text.RtypeBitmapDisplay.fmt.Goals.{in-Some+in_ok-write, in_default}

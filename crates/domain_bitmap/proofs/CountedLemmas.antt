@@ -1,0 +1,38 @@
+-- octets after an octet that counts them
+use Rattle.std.proofs.lemmas.Bool.Decides.{leb_tells}
+use Rattle.std.proofs.Common.{true, false, inl, inr, ◌≤◌, ◌≡◌, ℕ, ◌<◌, List, length, ap, sym, refl, subst, arith}
+use Rattle.std.specs.Prelude.{Option}
+use Rattle.domain_octets.specs.Codec.{Decodes}
+use Rattle.domain_octets.specs.declared.codec.Codec.{Codec}
+use Rattle.domain_base.specs.Scan.{ScanFault, entry_ends, illegal, no_room, no_memory, CodecFault, TakesToken, RefusesToken, ended, refused}
+use Rattle.domain_bitmap.specs.HashScan.{CountedFault}
+use Rattle.domain_bitmap.specs.Counted.{IsCutShort}
+
+-- there is no length
+pub cut_at_length : (left : List ℕ) → length left < 1 → IsCutShort left
+cut_at_length left none octets after is = omega (arith, none, ap length is)
+
+pub ruleset counted_steps = (cut_at_length)
+
+-- what is refused is over the limit
+pub over_limit : (n : ℕ) → (n ≤ 255 → false ≡ true) → 255 < n
+over_limit n answer = elim (leb_tells n 255) [ inl h ↦ let two_answers = answer h.1 in absurd (cc) | inr h ↦ h.1 ]
+
+-- a token that stands for too many octets
+pub refused_too_long : (codec : Codec) (long : List ℕ) (limit : Option ℕ) (old new : List (List ℕ)) (octets : List ℕ) → TakesToken (λ token. Decodes codec token octets) old new → 255 < length octets → RefusesToken (CountedFault codec long limit) old new (illegal long)
+refused_too_long codec long limit old new octets took over =
+    subst (λ (o : List (List ℕ)). RefusesToken (CountedFault codec long limit) o new (illegal long)) (sym took.first)
+    (refused took.token new (illegal long) (inr ((octets, took.holds, over), refl)))
+
+pub counted_fault : (codec : Codec) (long : List ℕ) (limit : Option ℕ) (fault : ScanFault) (token : List ℕ) → CodecFault codec limit fault token → CountedFault codec long limit fault token
+counted_fault codec long limit entry_ends token bad = bad
+counted_fault codec long limit (illegal said) token bad = inl bad
+counted_fault codec long limit no_room token bad = bad
+counted_fault codec long limit no_memory token bad = bad
+
+-- a token that the codec refused
+pub refused_by_codec : (codec : Codec) (long : List ℕ) (limit : Option ℕ) (old new : List (List ℕ)) (fault : ScanFault) → RefusesToken (CodecFault codec limit) old new fault → RefusesToken (CountedFault codec long limit) old new fault
+refused_by_codec codec long limit old new fault ended = ended
+refused_by_codec codec long limit old new fault (refused token left why_fault why) = refused token left why_fault (counted_fault codec long limit why_fault token why)
+
+pub ruleset hash_steps = (refused_by_codec, refused_too_long)

@@ -1,0 +1,60 @@
+-- salts read from tokens
+use Rattle.std.proofs.Common.{◌≡◌, ◌≢◌, ℕ, ◌<◌, inr, List, [], ◌∷◌, length, drop, refl, sym, ap, ◌∙◌, subst, codes}
+use Rattle.std.specs.Prelude.{Option}
+use Rattle.domain_octets.specs.Codec.{Decodes}
+use Rattle.domain_octets.specs.declared.codec.Codec.TheVariants.{Base16}
+use Rattle.domain_base.specs.Scan.{ScanFault, entry_ends, illegal, CodecFault, TakesToken, RefusesToken, ended, refused}
+use Rattle.domain_bitmap.specs.HashText.{SaltText, dash, digits}
+use Rattle.domain_bitmap.specs.HashScan.{SaltTokenFault, BeginsWithDash, after_dash, in_digits}
+use Rattle.domain_bitmap.proofs.CountedLemmas.{counted_fault}
+
+pub no_token : (limit : Option ℕ) (tokens : List (List ℕ)) → tokens ≡ [] → RefusesToken (SaltTokenFault limit) tokens tokens entry_ends
+no_token limit tokens none = subst (λ (l : List (List ℕ)). RefusesToken (SaltTokenFault limit) l l entry_ends) (sym none) ended
+
+gone_past : (old new rest : List (List ℕ)) (token : List ℕ) → old ≡ token ∷ rest → new ≡ drop 1 old → old ≡ token ∷ new
+gone_past old new rest token is past = is ∙ ap (λ l. token ∷ l) (sym (past ∙ ap (drop 1) is))
+
+-- a dash alone
+pub took_dash : (old new : List (List ℕ)) (token salt : List ℕ) → (rest : List (List ℕ)) × (old ≡ token ∷ rest) → new ≡ drop 1 old → token ≡ codes "-" → salt ≡ [] → TakesToken (λ t. SaltText t salt) old new
+took_dash old new token salt first past alone none = record {
+  token = token;
+  first = gone_past old new first.0 token first.1 past;
+  holds = subst (SaltText token) (sym none) (dash token alone);
+}
+
+-- a dash and more
+pub refused_dash : (limit : Option ℕ) (old new : List (List ℕ)) (token : List ℕ) → (rest : List (List ℕ)) × (old ≡ token ∷ rest) → new ≡ drop 1 old → BeginsWithDash token → token ≢ codes "-" → RefusesToken (SaltTokenFault limit) old new (illegal (codes "illegal NSEC3 salt"))
+refused_dash limit old new token first past begins more =
+    subst (λ (l : List (List ℕ)). RefusesToken (SaltTokenFault limit) l new (illegal (codes "illegal NSEC3 salt"))) (sym (gone_past old new first.0 token first.1 past))
+    (refused token new (illegal (codes "illegal NSEC3 salt")) (after_dash token begins more))
+
+-- digits
+not_dash : (token : List ℕ) → (BeginsWithDash token → ⊥) → token ≢ codes "-"
+not_dash [] other is = cc
+not_dash (c ∷ rest) other is = other (cc)
+
+pub took_digits : (old new : List (List ℕ)) (token salt : List ℕ) → (rest : List (List ℕ)) × (old ≡ token ∷ rest) → (BeginsWithDash token → ⊥) → TakesToken (λ t. Decodes Base16 t salt) old new → TakesToken (λ t. SaltText t salt) old new
+took_digits old new token salt first other took =
+    let both : took.token ∷ new ≡ token ∷ first.0 = sym took.first ∙ first.1 in
+    let same : token ≡ took.token = cc in
+    record {
+      token = took.token;
+      first = took.first;
+      holds = digits took.token salt (not_dash took.token (subst (λ (t : List ℕ). BeginsWithDash t → ⊥) same other)) took.holds;
+    }
+
+pub refused_digits : (limit : Option ℕ) (old new : List (List ℕ)) (token : List ℕ) (fault : ScanFault) → (rest : List (List ℕ)) × (old ≡ token ∷ rest) → (BeginsWithDash token → ⊥) → RefusesToken (CodecFault Base16 limit) old new fault → RefusesToken (SaltTokenFault limit) old new fault
+refused_digits limit old new token fault first other ended = absurd (let none = first.1 in cc)
+refused_digits limit old new token fault first other (refused read left why_fault why) =
+    let both = first.1 in
+    let same : token ≡ read = cc in
+    refused read left why_fault (in_digits why_fault read (subst (λ (t : List ℕ). BeginsWithDash t → ⊥) same other) (counted_fault Base16 (codes "illegal NSEC3 salt") limit why_fault read why))
+
+pub refused_long : (limit : Option ℕ) (old new : List (List ℕ)) (token octets : List ℕ) → (rest : List (List ℕ)) × (old ≡ token ∷ rest) → (BeginsWithDash token → ⊥) → TakesToken (λ t. Decodes Base16 t octets) old new → 255 < length octets → RefusesToken (SaltTokenFault limit) old new (illegal (codes "illegal NSEC3 salt"))
+refused_long limit old new token octets first other took over =
+    let both : took.token ∷ new ≡ token ∷ first.0 = sym took.first ∙ first.1 in
+    let same : token ≡ took.token = cc in
+    let why : SaltTokenFault limit (illegal (codes "illegal NSEC3 salt")) took.token =
+    in_digits (illegal (codes "illegal NSEC3 salt")) took.token (subst (λ (t : List ℕ). BeginsWithDash t → ⊥) same other) (inr ((octets, took.holds, over), refl)) in
+    subst (λ (l : List (List ℕ)). RefusesToken (SaltTokenFault limit) l new (illegal (codes "illegal NSEC3 salt"))) (sym took.first)
+    (refused took.token new (illegal (codes "illegal NSEC3 salt")) why)

@@ -1,0 +1,151 @@
+-- types read from tokens
+use Rattle.std.proofs.Common.{◌≡◌, ◌≢◌, ℕ, ◌+◌, ◌*◌, ◌/◌, ◌<◌, Bool, true, false, List, [], ◌∷◌, ◌++◌, length, refl, sym, ap, ◌∙◌, subst, inl, inr, arith, append_assoc}
+use Rattle.std.specs.Prelude.{◌||◌, ◌==◌, Option, if◌then◌else◌}
+use Rattle.std.specs.List.{list_any}
+use Rattle.std.proofs.lemmas.List.Folds.{list_any-append}
+use Rattle.std.proofs.lemmas.List.{append-nil}
+use Rattle.std.proofs.lemmas.Bool.Decides.{nat_tests, eqb_tells}
+use Rattle.domain_base.specs.Numbers.{TypeText, IsNoType}
+use Rattle.domain_base.specs.Scan.{ScanFault, RefusesToken, ended, refused, scan_fault_of, scan_error_of}
+use Rattle.std.specs.Prelude.{IsNone, Result, Ok, Err, IsErrAnd, IfErr}
+use Rattle.domain_base.specs.declared.error.ScanError.{ScanError}
+use Rattle.domain_octets.specs.Limit.{IsOver}
+use Rattle.domain_octets.specs.declared.error.AppendError.{AppendError}
+use Rattle.domain_octets.specs.declared.error.AppendError.TheVariants.{ShortBuf, OutOfMemory}
+use Rattle.domain_bitmap.specs.Builder.{holds, has_window}
+use Rattle.domain_bitmap.specs.Scan.{TypeTexts, no_types, one_more, is_among, has_type_in, room_for, not_a_type, without_room, without_memory, RefusesTypes}
+use Rattle.domain_bitmap.proofs.RangeLemmas.{or_false, or_turn, filter_same, filter_more}
+
+texts-more : {taken : List (List ℕ)} {types : List ℕ} (token : List ℕ) (t : ℕ) → TypeTexts taken types → TypeText token t → TypeTexts (taken ++ token ∷ []) (types ++ t ∷ [])
+texts-more token t no_types spells = one_more token [] t [] spells no_types
+texts-more token t (one_more first tokens u types first_spells rest) spells = one_more first (tokens ++ token ∷ []) u (types ++ t ∷ []) first_spells (texts-more token t rest spells)
+
+among-more : (types : List ℕ) (t u : ℕ) → is_among (types ++ t ∷ []) u ≡ ((u == t) || is_among types u)
+unfolding is_among
+among-more types t u =
+    list_any-append (λ v. u == v) types (t ∷ []) ∙ rw (or_false (u == t)) (or_turn (list_any (λ v. u == v) types) (u == t))
+
+type_in-more : (types : List ℕ) (t w : ℕ) → has_type_in (types ++ t ∷ []) w ≡ ((w == t / 256) || has_type_in types w)
+unfolding has_type_in
+type_in-more types t w =
+    list_any-append (λ v. w == v / 256) types (t ∷ []) ∙ rw (or_false (w == t / 256)) (or_turn (list_any (λ v. w == v / 256) types) (w == t / 256))
+
+same_number : (n : ℕ) → (n == n) ≡ true
+same_number n = grind (arith, nat_tests)
+
+room-same : (types : List ℕ) (t : ℕ) → has_type_in types (t / 256) ≡ true → room_for (types ++ t ∷ []) ≡ room_for types
+unfolding room_for
+room-same types t known =
+    ap (λ l. 34 * length l) (filter_same (has_type_in (types ++ t ∷ [])) (has_type_in types) 0 256
+    (λ w low high. type_in-more types t w ∙ elim (eqb_tells w (t / 256)) [
+      | inl h ↦ let is : has_type_in types w ≡ true = ap (has_type_in types) h.1 ∙ known in rw (h.0, is) refl
+      | inr h ↦ rw h.0 refl
+    ]))
+
+room-more : (types : List ℕ) (t : ℕ) → t < 65536 → has_type_in types (t / 256) ≡ false → room_for (types ++ t ∷ []) ≡ room_for types + 34
+unfolding room_for
+room-more types t small new =
+    let more = filter_more (has_type_in types) (has_type_in (types ++ t ∷ [])) (t / 256) 256 (omega arith)
+    (λ w other. type_in-more types t w ∙ (let test : (w == t / 256) ≡ false = grind (arith, nat_tests) in rw test refl)) new
+    (type_in-more types t (t / 256) ∙ rw (same_number (t / 256)) refl) in
+    omega (arith, more)
+
+room-none : 0 ≡ room_for []
+unfolding room_for has_type_in
+room-none = refl
+
+room-step_at : (types : List ℕ) (t : ℕ) (value after : List ℕ) (known : Bool) → has_type_in types (t / 256) ≡ known → length value ≡ room_for types → t < 65536 → length after ≡ (if known then length value else length value + 34) → length after ≡ room_for (types ++ t ∷ [])
+room-step_at types t value after true known room small size = size ∙ room ∙ sym (room-same types t known)
+room-step_at types t value after false known room small size = size ∙ ap (λ n. n + 34) room ∙ sym (room-more types t small known)
+
+room-step : (types : List ℕ) (t : ℕ) (value after : List ℕ) → length value ≡ room_for types → t < 65536 → has_window value (t / 256) ≡ has_type_in types (t / 256) → length after ≡ (if has_window value (t / 256) then length value else length value + 34) → length after ≡ room_for (types ++ t ∷ [])
+room-step types t value after room small windows size = room-step_at types t value after (has_type_in types (t / 256)) refl room small (rw (← windows) size)
+
+-- what was read so far
+pub record Scanned (old now : List (List ℕ)) (value : List ℕ) : Type 0 where
+  pub taken : List (List ℕ)
+  pub types : List ℕ
+  pub parts : old ≡ taken ++ now
+  pub spelled : TypeTexts taken types
+  pub held : (t : ℕ) → t < 65536 → holds value t ≡ is_among types t
+  pub windows : (w : ℕ) → has_window value w ≡ has_type_in types w
+  pub room : length value ≡ room_for types
+
+holds-none : (t : ℕ) → holds [] t ≡ is_among [] t
+unfolding holds is_among
+holds-none t = refl
+
+has_window-none : (w : ℕ) → has_window [] w ≡ has_type_in [] w
+unfolding has_window has_type_in
+has_window-none w = refl
+
+pub scan_starts : (tokens : List (List ℕ)) (value : List ℕ) → value ≡ [] → Scanned tokens tokens value
+scan_starts tokens value none = record {
+  taken = [];
+  types = [];
+  parts = refl;
+  spelled = no_types;
+  held = λ t small. rw none (holds-none t);
+  windows = λ w. rw none (has_window-none w);
+  room = rw none room-none;
+}
+
+pub scan_goes : (old now rest : List (List ℕ)) (value after : List ℕ) (token : List ℕ) (t : ℕ) → Scanned old now value → now ≡ token ∷ rest → TypeText token t → t < 65536
+    → ((u : ℕ) → u < 65536 → holds after u ≡ ((u == t) || holds value u)) → ((w : ℕ) → has_window after w ≡ ((w == t / 256) || has_window value w))
+    → length after ≡ (if has_window value (t / 256) then length value else length value + 34) → Scanned old rest after
+scan_goes old now rest value after token t scanned first spells small held windows size = record {
+  taken = scanned.taken ++ token ∷ [];
+  types = scanned.types ++ t ∷ [];
+  parts = scanned.parts ∙ ap (λ l. scanned.taken ++ l) first ∙ sym (append_assoc scanned.taken (token ∷ []) rest);
+  spelled = texts-more token t scanned.spelled spells;
+  held = λ u u_small. held u u_small ∙ ap (λ b. (u == t) || b) (scanned.held u u_small) ∙ sym (among-more scanned.types t u);
+  windows = λ w. windows w ∙ ap (λ b. (w == t / 256) || b) (scanned.windows w) ∙ sym (type_in-more scanned.types t w);
+  room = room-step scanned.types t value after scanned.room small (scanned.windows (t / 256)) size;
+}
+
+pub scan_ends : (old now : List (List ℕ)) (value : List ℕ) → Scanned old now value → now ≡ [] → (types : List ℕ) × TypeTexts old types × ((t : ℕ) → t < 65536 → holds value t ≡ is_among types t)
+scan_ends old now value scanned none =
+    let all : old ≡ scanned.taken = scanned.parts ∙ ap (λ l. scanned.taken ++ l) none ∙ append-nil scanned.taken in
+    (scanned.types, subst (λ (o : List (List ℕ)). TypeTexts o scanned.types) (sym all) scanned.spelled, scanned.held)
+
+pub scan_refused : (limit : Option ℕ) (old now rest : List (List ℕ)) (value : List ℕ) (fault : ScanFault) → Scanned old now value → now ≢ [] → RefusesToken IsNoType now rest fault → RefusesTypes limit old rest fault
+scan_refused limit old now rest value fault scanned some ended = absurd (some refl)
+scan_refused limit old now rest value fault scanned some (refused token left why_fault why) = record {
+  taken = scanned.taken;
+  types = scanned.types;
+  token = token;
+  parts = scanned.parts;
+  spelled = scanned.spelled;
+  why = not_a_type fault token why;
+}
+
+-- a type for which the builder has no room, or no memory
+pub scan_full : (limit : Option ℕ) (old now rest : List (List ℕ)) (value : List ℕ) (token : List ℕ) (t : ℕ) (error : AppendError) → Scanned old now value → now ≡ token ∷ rest → TypeText token t → t < 65536
+    → (error ≡ ShortBuf → (has_window value (t / 256) ≡ false) × IsOver limit (length value + 34)) → (error ≡ OutOfMemory → IsNone limit) → RefusesTypes limit old rest (scan_fault_of (scan_error_of error))
+scan_full limit old now rest value token t ShortBuf scanned first spells small short memory =
+    let full = short refl in
+    let room : length value + 34 ≡ room_for (scanned.types ++ t ∷ []) = rw (scanned.room, room-more scanned.types t small (sym (scanned.windows (t / 256)) ∙ full.0)) refl in
+    record {
+      taken = scanned.taken;
+      types = scanned.types;
+      token = token;
+      parts = scanned.parts ∙ ap (λ l. scanned.taken ++ l) first;
+      spelled = scanned.spelled;
+      why = without_room token t spells (subst (IsOver limit) room full.1);
+    }
+scan_full limit old now rest value token t OutOfMemory scanned first spells small short memory = record {
+  taken = scanned.taken;
+  types = scanned.types;
+  token = token;
+  parts = scanned.parts ∙ ap (λ l. scanned.taken ++ l) first;
+  spelled = scanned.spelled;
+  why = without_memory token t spells (memory refl);
+}
+
+pub none_left : (tokens : List (List ℕ)) → (tokens ≢ [] → ⊥) → tokens ≡ []
+none_left [] not_some = refl
+none_left (token ∷ tokens) not_some = absurd (not_some (λ e. cc))
+
+pub refused_with : (r : Result (Unit {0}) ScanError) (error : ScanError) (P : ScanError → Type 0) → IsErrAnd r (λ e. e ≡ error) → P error → IfErr r P
+refused_with (Ok x) error P gives holds = tt
+refused_with (Err e) error P gives holds = subst P (sym gives) holds

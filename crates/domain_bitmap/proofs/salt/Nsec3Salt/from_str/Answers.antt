@@ -1,0 +1,19 @@
+use Rattle.std.proofs.Common.{◌≡◌, ◌≢◌, codes, rules, sym, subst}
+use Rattle.domain_bitmap.specs.HashText.{SaltText, dash, digits}
+use Rattle.domain_bitmap.proofs.CountedLemmas.{over_limit}
+use Rattle.domain_bitmap.proofs.salt.Nsec3Salt.from_str.Goals as goal
+
+pub returns-then-eq-clause-ok : goal.returns-then-eq-clause-ok
+returns-then-eq-clause-ok g c =
+    let is : c.args.text.now ≡ codes "-" = search rules in
+    subst (SaltText c.args.text.now) (sym c.of_none.ensures) (dash c.args.text.now is)
+
+pub returns-in-Ok-from_octets-clause-ok : goal.returns-in-Ok-from_octets-clause-ok
+returns-in-Ok-from_octets-clause-ok g c =
+    let other : c.args.text.now ≢ codes "-" = search rules in
+    subst (SaltText c.args.text.now) (sym c.in-Ok-from_octets.ensures.octets) (digits c.args.text.now _ other c.in-Ok.ensures.ok)
+
+pub returns-in-Err-from_octets-clause-err : goal.returns-in-Err-from_octets-clause-err
+returns-in-Err-from_octets-clause-err g c =
+    let other : c.args.text.now ≢ codes "-" = search rules in
+    (_, digits c.args.text.now _ other c.in-Ok.ensures.ok, over_limit _ c.in-Err-from_octets.ensures.ok.1)

@@ -1,0 +1,22 @@
+-- salts and hashes of owner names as text (RFC 5155, section 3.3)
+use Rattle.std.specs.Prelude.{◌≡◌, ◌≢◌, ℕ, ◌<◌, List, [], ◌∷◌, length, codes, Option}
+use Rattle.hex.specs.Hex.{encode_upper}
+use Rattle.domain_octets.specs.Codec.{Decodes, DecodeFault}
+use Rattle.domain_octets.specs.declared.codec.Codec.TheVariants.{Base16}
+use Rattle.domain_bitmap.specs.declared.salt_text.Nsec3SaltFromStrError.{Nsec3SaltFromStrError}
+use Rattle.domain_bitmap.specs.declared.salt_text.Nsec3SaltFromStrError.TheVariants as refusal
+
+-- a salt is its octets in Base 16, and one of no octets is a dash
+abbrev pub salt_text : List ℕ → List ℕ
+salt_text [] = codes "-"
+salt_text (octet ∷ octets) = encode_upper (octet ∷ octets)
+
+-- the text is read as this salt
+pub data SaltText : List ℕ → List ℕ → Type 0 where
+  dash : (text : List ℕ) → text ≡ codes "-" → SaltText text []
+  digits : (text octets : List ℕ) → text ≢ codes "-" → Decodes Base16 text octets → SaltText text octets
+
+-- why a text is no salt over octets with this limit
+abbrev pub SaltFault : Option ℕ → List ℕ → Nsec3SaltFromStrError → Type 0
+SaltFault limit text (refusal.DecodeError error) = (text ≢ codes "-") × DecodeFault Base16 limit text error
+SaltFault limit text (refusal.Nsec3SaltError error) = (octets : List ℕ) × SaltText text octets × (255 < length octets)

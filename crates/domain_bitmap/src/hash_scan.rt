@@ -1,0 +1,81 @@
+//! Salts and hashes of owner names from tokens (RFC 5155, section 3.3).
+ghost use Rattle.std.specs.Prelude.{◌≡◌, ◌↔◌, ℕ, List, IfOk, IfErr, IsTrue, codes};
+ghost use Rattle.domain_octets.specs.Codec.{Decodes};
+ghost use Rattle.domain_octets.specs.declared.codec.Codec.TheVariants as codec;
+ghost use Rattle.domain_base.specs.Scan.{scan_fault_of, TakesToken, RefusesToken};
+ghost use Rattle.domain_bitmap.specs.HashText.{SaltText};
+ghost use Rattle.domain_bitmap.specs.HashScan.{CountedFault, SaltTokenFault, BeginsWithDash};
+
+use crate::{Nsec3Salt, OwnerHash};
+use domain_base::{ScanError, Scanner};
+use domain_octets::{Codec, FromBuilder};
+use std::alloc::Global;
+
+impl<O: FromBuilder + Drop> OwnerHash<O> {
+    /// The hash that the next token stands for in Base 32 hex. A token that is refused is gone past too.
+    ///
+    /// # Errors
+    ///
+    /// `Custom("illegal data")` where the token is not in Base 32 hex, else want of room or of memory,
+    /// else `Custom("illegal owner name hash")` where it stands for over 255 octets.
+    pub fn scan<S: Scanner<Octets = O>>(alloc: Global, scanner: &mut S) -> Result<Self, ScanError>
+        ensures ok { IfOk result (λ hash. TakesToken (λ token. Decodes codec.Base32Hex token hash) (S.tokens scanner.old) (S.tokens scanner.new)) }
+        ensures err { IfErr result (λ e. RefusesToken (CountedFault codec.Base32Hex (codes "illegal owner name hash") O.Builder.limit) (S.tokens scanner.old) (S.tokens scanner.new) (scan_fault_of e)) }
+    {
+        let octets = match scanner.convert_token(alloc, Codec::Base32Hex) {
+            Ok(octets) => octets,
+            Err(error) => return Err(error),
+        };
+        match OwnerHash::from_octets(octets) {
+            Ok(hash) => Ok(hash),
+            Err(_) => Err(ScanError::Custom("illegal owner name hash")),
+        }
+    }
+}
+
+/// Whether a token begins with a dash, and whether that is all of it.
+fn dash(token: &str) -> (bool, bool)
+    ensures begins { IsTrue result.0 ↔ BeginsWithDash token.now }
+    ensures alone { IsTrue result.1 ↔ (token.now ≡ codes "-") }
+{
+    let octets = token.as_bytes();
+    match octets {
+        [first, rest @ ..] => (*first == b'-', *first == b'-' && rest.is_empty()),
+        [] => (false, false),
+    }
+}
+
+impl<O: FromBuilder + Drop> Nsec3Salt<O> {
+    /// The salt that the next token stands for in Base 16; a dash alone is the salt of no octets. A
+    /// token that is refused is gone past too.
+    ///
+    /// # Errors
+    ///
+    /// `Custom("illegal NSEC3 salt")` for a dash with something after it, `Custom("illegal data")` for
+    /// another token that is not in Base 16, else want of room or of memory, else
+    /// `Custom("illegal NSEC3 salt")` where it stands for over 255 octets.
+    pub fn scan<S: Scanner<Octets = O>>(alloc: Global, scanner: &mut S) -> Result<Self, ScanError>
+        ensures ok { IfOk result (λ salt. TakesToken (λ token. SaltText token salt) (S.tokens scanner.old) (S.tokens scanner.new)) }
+        ensures err { IfErr result (λ e. RefusesToken (SaltTokenFault O.Builder.limit) (S.tokens scanner.old) (S.tokens scanner.new) (scan_fault_of e)) }
+    {
+        let Some(token) = scanner.first_token() else {
+            return Err(ScanError::EndOfEntry);
+        };
+        let (begins, alone) = dash(token);
+        if begins {
+            scanner.skip_token();
+            if alone {
+                return Ok(Nsec3Salt::of_none(scanner.octets_builder(alloc)));
+            }
+            return Err(ScanError::Custom("illegal NSEC3 salt"));
+        }
+        let octets = match scanner.convert_token(alloc, Codec::Base16) {
+            Ok(octets) => octets,
+            Err(error) => return Err(error),
+        };
+        match Nsec3Salt::from_octets(octets) {
+            Ok(salt) => Ok(salt),
+            Err(_) => Err(ScanError::Custom("illegal NSEC3 salt")),
+        }
+    }
+}

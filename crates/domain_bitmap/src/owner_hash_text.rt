@@ -1,0 +1,47 @@
+//! Hashed owner names as text (RFC 5155, section 3.3).
+ghost use Rattle.std.specs.Prelude.{◌≡◌, ◌<◌, ℕ, List, length, IfOk, IfErr, Some};
+ghost use Rattle.domain_octets.specs.Base32.{base32_upper};
+ghost use Rattle.domain_octets.specs.Codec.{Decodes, DecodeFault};
+ghost use Rattle.domain_octets.specs.declared.codec.Codec.TheVariants as codec;
+ghost use Rattle.domain_bitmap.specs.HashFault.{HashFault};
+
+use crate::OwnerHash;
+use domain_octets::{DecodeError, EmptyBuilder, FromBuilder, Octets, base32};
+use std::alloc::Global;
+use std::fmt;
+
+/// The octets in Base 32 hex without padding, in upper case.
+impl<O: Octets> fmt::Display for OwnerHash<O> {
+    ghost output = { λ h. Some (base32_upper h) };
+
+    fn fmt<W: fmt::Write>(&self, f: &mut fmt::Formatter<W>) -> fmt::Result {
+        base32::display(self.as_slice(), f)
+    }
+}
+
+impl<O: Octets> fmt::Debug for OwnerHash<O> {
+    fn fmt<W: fmt::Write>(&self, f: &mut fmt::Formatter<W>) -> fmt::Result {
+        write!(f, "OwnerHash({self})")
+    }
+}
+
+impl<O: FromBuilder + Drop> OwnerHash<O>
+where
+    O::Builder: EmptyBuilder + Drop,
+{
+    /// The hash that a text in Base 32 hex stands for, in either case and without padding.
+    ///
+    /// # Errors
+    ///
+    /// Those of the codec, and `ShortBuf` for over 255 octets too.
+    pub fn from_str(alloc: Global, text: &str) -> Result<Self, DecodeError>
+        ensures ok { IfOk result (λ hash. Decodes codec.Base32Hex text.now hash) }
+        ensures err { IfErr result (HashFault O.Builder.limit text.now) }
+    {
+        let octets = base32::decode_hex::<O>(alloc, text)?;
+        match OwnerHash::from_octets(octets) {
+            Ok(hash) => Ok(hash),
+            Err(_) => Err(DecodeError::ShortBuf),
+        }
+    }
+}

@@ -1,0 +1,81 @@
+//! Salts as text (RFC 5155, section 3.3).
+ghost use Rattle.std.specs.Prelude.{◌≡◌, IfOk, IfErr, Some};
+
+use crate::{Nsec3Salt, Nsec3SaltError};
+use domain_octets::{DecodeError, EmptyBuilder, FromBuilder, Octets, base16};
+use std::alloc::Global;
+use std::error::Error;
+use std::fmt;
+
+/// Why a text is no salt.
+#[derive(Clone, Copy, Debug, PartialEq, Eq)]
+pub enum Nsec3SaltFromStrError {
+    /// It is not in Base 16, or its octets have no room or no memory.
+    DecodeError(DecodeError),
+    /// It stands for over 255 octets.
+    Nsec3SaltError(Nsec3SaltError),
+}
+
+impl fmt::Display for Nsec3SaltFromStrError {
+    fn fmt<W: fmt::Write>(&self, f: &mut fmt::Formatter<W>) -> fmt::Result {
+        match self {
+            Nsec3SaltFromStrError::DecodeError(error) => write!(f, "{error}"),
+            Nsec3SaltFromStrError::Nsec3SaltError(error) => write!(f, "{error}"),
+        }
+    }
+}
+
+impl Error for Nsec3SaltFromStrError {}
+
+/// The octets in Base 16, in upper case, and a dash for none.
+impl<O: Octets> fmt::Display for Nsec3Salt<O> {
+    ghost use Rattle.std.specs.Prelude.{Some};
+    ghost use Rattle.domain_bitmap.specs.HashText.{salt_text};
+
+    ghost output = { λ s. Some (salt_text s) };
+
+    fn fmt<W: fmt::Write>(&self, f: &mut fmt::Formatter<W>) -> fmt::Result {
+        let octets = self.as_slice();
+        if octets.is_empty() {
+            return f.write_str("-");
+        }
+        base16::display(octets, f)
+    }
+}
+
+impl<O: Octets> fmt::Debug for Nsec3Salt<O> {
+    fn fmt<W: fmt::Write>(&self, f: &mut fmt::Formatter<W>) -> fmt::Result {
+        write!(f, "Nsec3Salt({self})")
+    }
+}
+
+impl<O: FromBuilder + Drop> Nsec3Salt<O>
+where
+    O::Builder: EmptyBuilder + Drop,
+{
+    ghost use Rattle.std.specs.Prelude.{IfOk, IfErr};
+    ghost use Rattle.domain_bitmap.specs.HashText.{SaltText, SaltFault};
+
+    /// The salt that a text in Base 16 stands for, in either case; a dash alone is the salt of no
+    /// octets.
+    ///
+    /// # Errors
+    ///
+    /// First those of Base 16, then want of room or of memory, then a salt of over 255 octets.
+    pub fn from_str(alloc: Global, text: &str) -> Result<Self, Nsec3SaltFromStrError>
+        ensures ok { IfOk result (SaltText text.now) }
+        ensures err { IfErr result (SaltFault O.Builder.limit text.now) }
+    {
+        if text == "-" {
+            return Ok(Nsec3Salt::of_none(O::Builder::empty(alloc)));
+        }
+        let octets = match base16::decode::<O>(alloc, text) {
+            Ok(octets) => octets,
+            Err(error) => return Err(Nsec3SaltFromStrError::DecodeError(error)),
+        };
+        match Nsec3Salt::from_octets(octets) {
+            Ok(salt) => Ok(salt),
+            Err(error) => Err(Nsec3SaltFromStrError::Nsec3SaltError(error)),
+        }
+    }
+}

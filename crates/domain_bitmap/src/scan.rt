@@ -1,0 +1,66 @@
+//! Sets of types from tokens.
+ghost use Rattle.std.specs.Prelude.{◌≡◌, ℕ, ◌<◌, List, [], IfOk, IfErr};
+ghost use Rattle.domain_base.specs.Scan.{scan_fault_of, TakesToken, RefusesToken};
+ghost use Rattle.domain_base.specs.Numbers.{TypeText, IsNoType};
+ghost use Rattle.domain_bitmap.specs.Bitmap.{bitmap_octets};
+ghost use Rattle.domain_bitmap.specs.Builder.{holds};
+ghost use Rattle.domain_bitmap.specs.Scan.{TypeTexts, RefusesTypes, is_among};
+
+use crate::{RtypeBitmap, RtypeBitmapBuilder};
+use domain_base::{FromToken, Rtype, ScanError, Scanner};
+use domain_octets::{EmptyBuilder, FreezeBuilder, FromBuilder, OctetsBuilder, Truncate};
+use std::alloc::Global;
+
+/// The type that the next token spells.
+fn scan_type<S: Scanner>(scanner: &mut S) -> Result<Rtype, ScanError>
+    ensures ok { IfOk result (λ rtype. TakesToken (λ token. TypeText token rtype) (S.tokens scanner.old) (S.tokens scanner.new)) }
+    ensures number { IfOk result (λ rtype. rtype < 65536) }
+    ensures err { IfErr result (λ e. RefusesToken IsNoType (S.tokens scanner.old) (S.tokens scanner.new) (scan_fault_of e)) }
+{
+    match <Rtype as FromToken>::scan(scanner) {
+        Ok(rtype) => Ok(Rtype::from_int(rtype.to_int())),
+        Err(error) => Err(error),
+    }
+}
+
+/// Adds the types that all tokens that are left spell.
+fn add_all<B: OctetsBuilder, S: Scanner>(
+    builder: &mut RtypeBitmapBuilder<B>,
+    scanner: &mut S,
+) -> Result<(), ScanError>
+    requires { builder.old ≡ [] }
+    ensures ok { IfOk result (λ _. (types : List ℕ) × TypeTexts (S.tokens scanner.old) types × ((t : ℕ) → t < 65536 → holds builder.new t ≡ is_among types t)) }
+    ensures all { IfOk result (λ _. S.tokens scanner.new ≡ []) }
+    ensures err { IfErr result (λ e. RefusesTypes B.limit (S.tokens scanner.old) (S.tokens scanner.new) (scan_fault_of e)) }
+{
+    while scanner.continues() {
+        let rtype = match scan_type(scanner) {
+            Ok(rtype) => rtype,
+            Err(error) => return Err(error),
+        };
+        builder.add(rtype)?;
+    }
+    Ok(())
+}
+
+impl<O: FromBuilder> RtypeBitmap<O>
+where
+    O::Builder: EmptyBuilder + Truncate + FreezeBuilder<Frozen = O> + Drop,
+{
+    /// The types that all tokens that are left spell, one each (RFC 4034, section 4.2).
+    ///
+    /// # Errors
+    ///
+    /// At the first token that is refused: `Custom("unknown record type")` where it spells no type,
+    /// else `ShortBuf` where the builder has no room for the type's window, or `OutOfMemory`. The
+    /// tokens after it are left.
+    pub fn scan<S: Scanner>(alloc: Global, scanner: &mut S) -> Result<Self, ScanError>
+        ensures ok { IfOk result (λ bitmap. (types : List ℕ) × TypeTexts (S.tokens scanner.old) types × (bitmap ≡ bitmap_octets (is_among types))) }
+        ensures all { IfOk result (λ _. S.tokens scanner.new ≡ []) }
+        ensures err { IfErr result (λ e. RefusesTypes O.Builder.limit (S.tokens scanner.old) (S.tokens scanner.new) (scan_fault_of e)) }
+    {
+        let mut builder = RtypeBitmapBuilder::<O::Builder>::new(alloc);
+        add_all(&mut builder, scanner)?;
+        Ok(builder.finalize())
+    }
+}
