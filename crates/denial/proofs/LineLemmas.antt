@@ -1,5 +1,5 @@
 -- The record that tokens spell, part after part.
-use Rattle.std.proofs.Common.{◌≡◌, ◌≢◌, ◌↔◌, ℕ, Bool, true, false, IsTrue, List, [], ◌∷◌, refl, ap, sym, ◌∙◌, subst}
+use Rattle.std.proofs.Common.{◌≡◌, ◌≢◌, ◌↔◌, ℕ, Bool, false, IsTrue, List, [], ◌∷◌, refl, ap, sym, ◌∙◌, subst}
 use Rattle.domain_base.specs.Text.{NameText}
 use Rattle.domain_base.specs.Scan.{TakesToken, IsNumber}
 use Rattle.domain_base.specs.Numbers.{ClassText, TypeText}

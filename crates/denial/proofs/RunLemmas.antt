@@ -1,7 +1,6 @@
 -- What a run writes, piece after piece.
-use Rattle.std.proofs.Common.{◌≡◌, ℕ, ◌+◌, suc, ◌<◌, Bool, true, IsTrue, List, [], ◌∷◌, ◌++◌, map, take, length, get_or, codes, refl, ap, sym, ◌∙◌, subst, arith, Some, None, Option, append-nil, append_assoc}
+use Rattle.std.proofs.Common.{◌≡◌, ℕ, ◌+◌, suc, ◌<◌, Bool, true, List, [], ◌∷◌, ◌++◌, map, take, length, get_or, codes, ap, sym, ◌∙◌, subst, arith, Some, None, Option, append-nil, append_assoc}
 use Rattle.std.specs.Io.KnownBytes.{Appends}
-use Rattle.std.specs.List.{flat_map}
 use Rattle.std.proofs.Math.Seq.{take-suc}
 use Rattle.std.proofs.lemmas.Grind.{flat_map-append}
 use Rattle.std.proofs.lemmas.List.{map-append}

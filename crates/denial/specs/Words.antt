@@ -1,5 +1,5 @@
 -- The words of a line, and what they say.
-use Rattle.std.specs.Prelude.{◌≡◌, ℕ, ◌<◌, ◌||◌, ◌==◌, Bool, List, [], ◌∷◌, filter, length, nat_lt, slice_index}
+use Rattle.std.specs.Prelude.{◌≡◌, ℕ, ◌||◌, ◌==◌, Bool, List, [], ◌∷◌, filter, length, nat_lt, slice_index}
 use Rattle.std.specs.List.{slice_split}
 use Rattle.domain_base.specs.Text.{NameText}
 use Rattle.domain_base.specs.Scan.{IsNumber}

@@ -12,6 +12,9 @@ pub mod laws;
 mod names;
 mod nsec;
 
+#[cfg(test)]
+mod tests;
+
 pub use config::GenerateNsecConfig;
 pub use hasher::{HasherError, Nsec3Hasher};
 pub use nsec::generate_nsecs;

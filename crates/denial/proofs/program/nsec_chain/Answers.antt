@@ -1,4 +1,4 @@
-use Rattle.std.proofs.Common.{◌≡◌, ap}
+use Rattle.std.proofs.Common.{ap}
 use Rattle.denial.proofs.RunLemmas.{chain_of}
 use Rattle.denial.proofs.program.nsec_chain.Goals as goal
 

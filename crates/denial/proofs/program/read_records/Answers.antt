@@ -1,6 +1,6 @@
 use Rattle.std.proofs.Common.{◌≡◌, ◌<◌, [], ◌∷◌, arith, length, subst, ◌++◌}
 use Rattle.denial.specs.Said.{Says}
-use Rattle.denial.proofs.Reading.{follows_start, follows_end, follows_next, follows_skip, follows_record, Follows}
+use Rattle.denial.proofs.Reading.{follows_end, follows_next, follows_skip, follows_record, Follows}
 use Rattle.denial.proofs.program.read_records.Goals as goal
 use Rattle.denial.proofs.program.read_records.Goals.{in-Nothing, in-Record+in_ok-push-in-Record}
 

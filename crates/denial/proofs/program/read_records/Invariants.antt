@@ -1,4 +1,3 @@
-use Rattle.std.proofs.Common.{List, ℕ}
 use Rattle.denial.proofs.Reading.{Follows}
 use Rattle.denial.proofs.program.read_records.Given as goal
 
