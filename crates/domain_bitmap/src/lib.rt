@@ -14,7 +14,7 @@
 //! - An `RtypeBitmap` is a list of blocks (`IsBitmap` of `specs/Blocks.antt`); its value in clauses is
 //!   its octets. `from_octets` refuses exactly all other octets, and names the first fault.
 //! - `iter` gives the types whose bits are set, block by block as they stand; `contains` looks into
-//!   the first block of the type's window. Over what a builder made both speak of the set that was
+//!   the first block of the type's window. Over what a builder made both answer for the set that was
 //!   added (`laws`).
 //! - Equality, both orders and `Hash` are those of the octets; of two bitmaps that builders made,
 //!   equality is that of the sets.

@@ -249,7 +249,7 @@ module _ (L : List ZoneRecord) (a : Name) (order : IsInOrder L) (apex : owns L a
               | inr g ↦ false≢true (sym low ∙ ap (before x) n ∙ g)
             ]
 
-    -- THE HEADLINE
+    -- the chain mirrors the zone
     pub mirrors_zone : MirrorsZone L a assume links
     mirrors_zone x low high =
         let p : Link → Bool = λ k. matches_or_covers before k.owner k.next x in
