@@ -291,6 +291,30 @@ fn failing_writes(rt: HostRuntime) -> Result<(), Fail> {
     Ok(())
 }
 
+// A name of 127 labels is an owner as any other; with 128 it is none.
+#[test]
+fn long_names(rt: HostRuntime) -> Result<(), Fail> {
+    let alloc = rt.alloc();
+    let words = words(alloc, "nsec a.")?;
+    for (count, answer, lines) in [(126, Ok(()), 2), (127, Err(DenialFault::Line(2)), 0)] {
+        let labels = "a.".repeat(alloc, count)?;
+        let text = format!(in alloc;
+            "a. 3600 IN SOA b. c. 1 2 3 4 1800\n{labels}a. 60 IN A 192.0.2.1\n"
+        )?;
+        let mut input = text.as_bytes();
+        let mut output = Vec::new(alloc);
+        let answered = run_denial(alloc, words.as_slice(), &NoHasher, &mut input, &mut output);
+        assert_eq!(rt; answered, answer);
+        let written = output
+            .as_slice()
+            .iter()
+            .filter(|octet| **octet == b'\n')
+            .count();
+        assert_eq!(rt; written, lines);
+    }
+    Ok(())
+}
+
 // For `rt try --test --fail-alloc N`: want of memory, or the answer.
 #[test]
 fn short_of_memory(rt: HostRuntime) {

@@ -11,7 +11,6 @@ mod hasher;
 pub mod laws;
 mod names;
 mod nsec;
-
 #[cfg(test)]
 mod tests;
 

@@ -10,7 +10,9 @@ use std::cmp::Ordering;
 use std::fmt::Write;
 
 type ZoneName = Name<Vec<u8>>;
+
 type Data = ZoneRecordData<Vec<u8>, ZoneName>;
+
 type Rr = Record<ZoneName, Data>;
 
 /// The record that a line spells: its owner, TTL, type and data. Data that are left out are the octets of the line.
@@ -75,7 +77,9 @@ fn chain(alloc: Global, apex: &str, lines: &str) -> Option<Result<String, Signin
     let Ok(apex) = ZoneName::from_str(alloc, apex) else {
         return None;
     };
-    let records: SortedRecords<ZoneName, Data> = match SortedRecords::from_vec(zone(alloc, lines)?) {
+    let records: SortedRecords<ZoneName, Data> = match SortedRecords::from_vec(zone(
+        alloc, lines,
+    )?) {
         Ok(records) => records,
         Err(_) => return None,
     };
@@ -119,7 +123,10 @@ fn makes_chains(rt: HostRuntime) {
             "a. 1800 IN NSEC n.a. SOA RRSIG NSEC\nn.a. 1800 IN NSEC a. RRSIG NSEC\n",
         ),
     ] {
-        assert!(rt; matches!(chain(rt.alloc(), "a.", lines), Some(Ok(text)) if text.as_str() == expected), "{lines}");
+        assert!(rt;
+            matches!(chain(rt.alloc(), "a.", lines), Some(Ok(text)) if text.as_str() == expected),
+            "{lines}"
+        );
     }
 }
 
@@ -145,7 +152,10 @@ fn tells_faults(rt: HostRuntime) {
             SigningError::MultipleTtlValues,
         ),
     ] {
-        assert!(rt; matches!(chain(rt.alloc(), "a.", lines), Some(Err(error)) if error == expected), "{lines}");
+        assert!(rt;
+            matches!(chain(rt.alloc(), "a.", lines), Some(Err(error)) if error == expected),
+            "{lines}"
+        );
     }
 }
 
@@ -184,7 +194,9 @@ x.w.example. 1800 IN NSEC x.y.w.example. MX RRSIG NSEC
 x.y.w.example. 1800 IN NSEC xx.example. MX RRSIG NSEC
 xx.example. 1800 IN NSEC example. A HINFO AAAA RRSIG NSEC
 ";
-    assert!(rt; matches!(chain(rt.alloc(), "example.", lines), Some(Ok(text)) if text.as_str() == expected));
+    assert!(rt;
+        matches!(chain(rt.alloc(), "example.", lines), Some(Ok(text)) if text.as_str() == expected)
+    );
 }
 
 /// NSEC data with this next name and the type A.
