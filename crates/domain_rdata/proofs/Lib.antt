@@ -1,2 +1,3 @@
 pub mod ZoneLemmas
 pub mod ScanLemmas
+pub mod NsecLemmas

@@ -1,3 +1,6 @@
 pub mod Rdata
 pub mod Zone
 pub mod Text
+pub mod Laws
+pub mod NsecText
+pub mod NsecConvert

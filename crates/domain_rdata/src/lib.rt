@@ -7,6 +7,9 @@
 #![tactic(auto)]
 
 mod nsec;
+mod nsec_compare;
+mod nsec_convert;
+mod nsec_text;
 mod zone_record_data;
 
 pub use nsec::Nsec;
