@@ -1,5 +1,6 @@
 pub mod Record
 pub mod Field
+pub mod WireFault
 pub mod Layout
 pub mod Target
 pub mod Laws

@@ -9,9 +9,12 @@
 #![tactic(auto)]
 
 mod a;
+mod counted;
 pub mod fields;
+pub mod laws;
 mod mx;
 mod ns;
+pub mod read_fields;
 mod record;
 mod record_clone;
 mod record_data;
@@ -19,8 +22,10 @@ pub mod scan_fields;
 mod soa;
 mod target;
 mod unknown;
+mod wire_fault;
 
 pub use a::A;
+pub use counted::Counted;
 pub use mx::Mx;
 pub use ns::Ns;
 pub use record::Record;
@@ -28,3 +33,4 @@ pub use record_clone::{CloneName, CloneRecordData};
 pub use record_data::{ComposeRecordData, LongRecordData, RecordData};
 pub use soa::Soa;
 pub use unknown::UnknownRecordData;
+pub use wire_fault::WireFault;
