@@ -30,7 +30,7 @@ pub use mx::Mx;
 pub use ns::Ns;
 pub use record::Record;
 pub use record_clone::{CloneName, CloneRecordData};
-pub use record_data::{ComposeRecordData, LongRecordData, RecordData};
+pub use record_data::{ComposeRecordData, LongRecordData, ParseRecordData, RecordData};
 pub use soa::Soa;
 pub use unknown::UnknownRecordData;
 pub use wire_fault::WireFault;

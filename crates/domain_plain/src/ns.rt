@@ -1,19 +1,21 @@
 //! Name servers.
-ghost use Rattle.std.specs.Prelude.{◌≡◌, ◌++◌, IfOk, IfErr, Some, codes};
+ghost use Rattle.std.specs.Prelude.{◌≡◌, ◌++◌, IfOk, IfErr, OnErr, Some, codes};
 ghost use Rattle.std.specs.Ordering.{on, nat_cmp};
 ghost use Rattle.std.specs.Cmp.Lexicographic.{slice_cmp, on_texts};
 ghost use Rattle.std.specs.Fmt.{decimal};
 ghost use Rattle.domain_base.specs.Scan.{scan_fault_of};
 ghost use Rattle.domain_base.specs.Text.{name_text};
 ghost use Rattle.domain_plain.specs.Scan.{Scans, Refuses};
-ghost use Rattle.domain_plain.specs.Layout.{octets_of, canonical_of};
+ghost use Rattle.domain_base.specs.Fault.{fault_of};
+ghost use Rattle.domain_plain.specs.Layout.{Begins, FirstFault, GoesOn, octets_of, canonical_of};
 ghost use Rattle.domain_plain.specs.Plain.{ns, ns_values};
 
 use crate::fields::{self, Fields, Lowers};
+use crate::read_fields::ReadFields;
 use crate::scan_fields::{ScanFields, Scanned};
-use crate::{ComposeRecordData, RecordData};
-use domain_base::{CanonicalOrd, Rtype, ScanError, Scanner, ToName};
-use domain_octets::{AppendError, OctetsBuilder};
+use crate::{ComposeRecordData, ParseRecordData, RecordData};
+use domain_base::{CanonicalOrd, ParsedName, Rtype, ScanError, Scanner, ToName};
+use domain_octets::{AppendError, OctetsBuilder, ParseError, Parser};
 use std::alloc::Global;
 use std::cmp::Ordering;
 use std::fmt;
@@ -59,6 +61,44 @@ impl<N: ToName> Ns<N> {
         ensures { result.0.now ≡ self.now.nsdname }
     {
         Lowers(&self.nsdname)
+    }
+}
+
+impl<'a> Ns<ParsedName<'a>> {
+    /// The data that the octets begin with: a name; what follows is left.
+    ///
+    /// # Errors
+    ///
+    /// The first fault in field order: of a name, at the first label that is at fault, a missing octet is `ShortInput`, a length over 63 or a
+    /// pointer `Form("compressed or bad label")`, a name over 255 octets `Form("long domain name")`. The parser then stands where it stood.
+    pub fn parse(parser: &mut Parser<'a>) -> Result<Self, ParseError>
+        ensures ok { IfOk result (λ d. Begins ns parser.old.left (ns_values (λ name. name) d) parser.new.left) }
+        ensures err { IfErr result (λ e. FirstFault ns parser.old.left (fault_of e)) }
+        ensures unmoved { OnErr result (parser.new ≡ parser.old) }
+        ensures goes_on { GoesOn parser.old parser.new }
+    {
+        match <ParsedName<'a> as ReadFields<'a>>::read(parser) {
+            Ok(nsdname) => Ok(Ns { nsdname }),
+            Err(fault) => Err(ParseError::from(fault)),
+        }
+    }
+}
+
+impl<'a> ParseRecordData<'a> for Ns<ParsedName<'a>> {
+    ghost is_read = { λ rtype. rtype ≡ 2 };
+
+    ghost begins = { λ octets d after. Begins ns octets (ns_values (λ name. name) d) after };
+
+    ghost faults = { λ octets fault. FirstFault ns octets fault };
+
+    fn parse_rdata(rtype: Rtype, parser: &mut Parser<'a>) -> Result<Option<Self>, ParseError> {
+        if rtype != Rtype::NS {
+            return Ok(None);
+        }
+        match Self::parse(parser) {
+            Ok(data) => Ok(Some(data)),
+            Err(error) => Err(error),
+        }
     }
 }
 

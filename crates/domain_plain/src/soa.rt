@@ -1,17 +1,19 @@
 //! Starts of zones.
-ghost use Rattle.std.specs.Prelude.{◌≡◌, IfOk, IfErr};
+ghost use Rattle.std.specs.Prelude.{◌≡◌, IfOk, IfErr, OnErr};
 ghost use Rattle.std.specs.Ordering.{on, nat_cmp};
 ghost use Rattle.std.specs.Cmp.Lexicographic.{slice_cmp, on_texts};
 ghost use Rattle.domain_base.specs.Scan.{scan_fault_of};
 ghost use Rattle.domain_plain.specs.Scan.{Scans, Refuses};
-ghost use Rattle.domain_plain.specs.Layout.{octets_of, canonical_of};
+ghost use Rattle.domain_base.specs.Fault.{fault_of};
+ghost use Rattle.domain_plain.specs.Layout.{Begins, FirstFault, GoesOn, octets_of, canonical_of};
 ghost use Rattle.domain_plain.specs.Plain.{soa, soa_values};
 
 use crate::fields::{self, Fields, Lowers};
+use crate::read_fields::ReadFields;
 use crate::scan_fields::{ScanFields, Scanned};
-use crate::{ComposeRecordData, RecordData};
-use domain_base::{CanonicalOrd, Rtype, ScanError, Scanner, ToName, Ttl};
-use domain_octets::{AppendError, OctetsBuilder};
+use crate::{ComposeRecordData, ParseRecordData, RecordData};
+use domain_base::{CanonicalOrd, ParsedName, Rtype, ScanError, Scanner, ToName, Ttl};
+use domain_octets::{AppendError, OctetsBuilder, ParseError, Parser};
 use std::alloc::Global;
 use std::cmp::Ordering;
 
@@ -29,6 +31,11 @@ pub struct Soa<N> {
 
 type SoaFields<'a, N> = (
     (Lowers<'a, N>, Lowers<'a, N>),
+    ((u32, (u32, u32)), (u32, u32)),
+);
+
+type ParsedSoa<'a> = (
+    (ParsedName<'a>, ParsedName<'a>),
     ((u32, (u32, u32)), (u32, u32)),
 );
 
@@ -145,6 +152,53 @@ impl<N: ToName> Soa<N> {
                 (self.expire.as_secs(), self.minimum.as_secs()),
             ),
         )
+    }
+}
+
+impl<'a> Soa<ParsedName<'a>> {
+    /// The data that the octets begin with: two names and five numbers of four octets; what follows is left.
+    ///
+    /// # Errors
+    ///
+    /// The first fault in field order: of a name, at the first label that is at fault, a missing octet is `ShortInput`, a length over 63 or a
+    /// pointer `Form("compressed or bad label")`, a name over 255 octets `Form("long domain name")`;
+    /// a missing octet of a number is `ShortInput`. The parser then stands where it stood.
+    pub fn parse(parser: &mut Parser<'a>) -> Result<Self, ParseError>
+        ensures ok { IfOk result (λ d. Begins soa parser.old.left (soa_values (λ name. name) d) parser.new.left) }
+        ensures err { IfErr result (λ e. FirstFault soa parser.old.left (fault_of e)) }
+        ensures unmoved { OnErr result (parser.new ≡ parser.old) }
+        ensures goes_on { GoesOn parser.old parser.new }
+    {
+        match ParsedSoa::read(parser) {
+            Ok(((mname, rname), ((serial, (refresh, retry)), (expire, minimum)))) => Ok(Soa {
+                mname,
+                rname,
+                serial,
+                refresh: Ttl::from_secs(refresh),
+                retry: Ttl::from_secs(retry),
+                expire: Ttl::from_secs(expire),
+                minimum: Ttl::from_secs(minimum),
+            }),
+            Err(fault) => Err(ParseError::from(fault)),
+        }
+    }
+}
+
+impl<'a> ParseRecordData<'a> for Soa<ParsedName<'a>> {
+    ghost is_read = { λ rtype. rtype ≡ 6 };
+
+    ghost begins = { λ octets d after. Begins soa octets (soa_values (λ name. name) d) after };
+
+    ghost faults = { λ octets fault. FirstFault soa octets fault };
+
+    fn parse_rdata(rtype: Rtype, parser: &mut Parser<'a>) -> Result<Option<Self>, ParseError> {
+        if rtype != Rtype::SOA {
+            return Ok(None);
+        }
+        match Self::parse(parser) {
+            Ok(data) => Ok(Some(data)),
+            Err(error) => Err(error),
+        }
     }
 }
 

@@ -1,14 +1,16 @@
 //! Data of types that are not known.
-ghost use Rattle.std.specs.Prelude.{◌≡◌, ◌≤◌, ◌↔◌, length, IsOk, IfOk};
+ghost use Rattle.std.specs.Prelude.{◌≡◌, ◌≤◌, ◌↔◌, length, IsOk, IfOk, IfErr, OnErr};
 ghost use Rattle.std.specs.Ordering.{on, nat_cmp};
 ghost use Rattle.std.specs.Cmp.Lexicographic.{slice_cmp, on_texts};
-ghost use Rattle.domain_plain.specs.Layout.{octets_of, canonical_of};
+ghost use Rattle.domain_base.specs.Fault.{fault_of};
+ghost use Rattle.domain_plain.specs.Layout.{Begins, FirstFault, GoesOn, octets_of, canonical_of};
 ghost use Rattle.domain_plain.specs.Plain.{unknown, unknown_values};
 
-use crate::fields::{self, Fields, Rest};
-use crate::{ComposeRecordData, LongRecordData, RecordData};
+use crate::fields::{self, AtMost, Fields, Rest};
+use crate::read_fields::ReadFields;
+use crate::{ComposeRecordData, LongRecordData, ParseRecordData, RecordData};
 use domain_base::{CanonicalOrd, Rtype};
-use domain_octets::{AppendError, Octets, OctetsBuilder};
+use domain_octets::{AppendError, Octets, OctetsBuilder, ParseError, Parser};
 use std::cmp::Ordering;
 
 /// Data of any type, as octets (RFC 3597).
@@ -44,10 +46,45 @@ impl<O: Octets> UnknownRecordData<O> {
     }
 
     /// The fields, in the order of the wire.
-    fn fields(&self) -> Rest<'_>
-        ensures { result.0.now ≡ O.octets self.now.«data» }
+    fn fields(&self) -> (AtMost<65535>, Rest<'_>)
+        ensures { result.1.0.now ≡ O.octets self.now.«data» }
     {
-        Rest(self.data.as_slice())
+        (AtMost, Rest(self.data.as_slice()))
+    }
+}
+
+impl<'a> UnknownRecordData<&'a [u8]> {
+    /// Data of a type: all octets that are left.
+    ///
+    /// # Errors
+    ///
+    /// `Form("record data too long")` for over 65,535 octets. The parser then stands where it stood.
+    pub fn parse(rtype: Rtype, parser: &mut Parser<'a>) -> Result<Self, ParseError>
+        ensures ok { IfOk result (λ d. Begins unknown parser.old.left (unknown_values (λ octets. octets.now) d) parser.new.left) }
+        ensures rtype { IfOk result (λ d. d.rtype ≡ rtype) }
+        ensures err { IfErr result (λ e. FirstFault unknown parser.old.left (fault_of e)) }
+        ensures unmoved { OnErr result (parser.new ≡ parser.old) }
+        ensures goes_on { GoesOn parser.old parser.new }
+    {
+        match <(AtMost<65535>, Rest<'a>)>::read(parser) {
+            Ok((AtMost, Rest(data))) => Ok(UnknownRecordData { rtype, data }),
+            Err(fault) => Err(ParseError::from(fault)),
+        }
+    }
+}
+
+impl<'a> ParseRecordData<'a> for UnknownRecordData<&'a [u8]> {
+    ghost is_read = { λ _. Unit {0} };
+
+    ghost begins = { λ octets d after. Begins unknown octets (unknown_values (λ octets. octets.now) d) after };
+
+    ghost faults = { λ octets fault. FirstFault unknown octets fault };
+
+    fn parse_rdata(rtype: Rtype, parser: &mut Parser<'a>) -> Result<Option<Self>, ParseError> {
+        match Self::parse(rtype, parser) {
+            Ok(data) => Ok(Some(data)),
+            Err(error) => Err(error),
+        }
     }
 }
 
