@@ -4,13 +4,18 @@ ghost use Rattle.std.specs.Ordering.{on, nat_cmp};
 ghost use Rattle.std.specs.Cmp.Lexicographic.{slice_cmp, on_texts};
 ghost use Rattle.domain_base.specs.Fault.{fault_of};
 ghost use Rattle.domain_plain.specs.Layout.{Begins, FirstFault, GoesOn, octets_of, canonical_of};
+ghost use Rattle.domain_plain.specs.DataClone.{same_values_tie};
 ghost use Rattle.domain_plain.specs.Plain.{unknown, unknown_values};
 
 use crate::fields::{self, AtMost, Fields, Rest};
 use crate::read_fields::ReadFields;
-use crate::{ComposeRecordData, LongRecordData, ParseRecordData, RecordData};
+use crate::{CloneRecordData, ComposeRecordData, LongRecordData, ParseRecordData, RecordData};
 use domain_base::{CanonicalOrd, Rtype};
-use domain_octets::{AppendError, Octets, OctetsBuilder, ParseError, Parser};
+use domain_octets::{
+    AppendError, FlattenInto, Octets, OctetsBuilder, OctetsFrom, OutOfMemory, ParseError, Parser,
+    TryClone,
+};
+use std::alloc::Global;
 use std::cmp::Ordering;
 
 /// Data of any type, as octets (RFC 3597).
@@ -43,6 +48,16 @@ impl<O: Octets> UnknownRecordData<O> {
         ensures { result.now ≡ self.now.«data» }
     {
         &self.data
+    }
+
+    /// A copy. Answers `OutOfMemory` where there is no memory for it.
+    pub fn clone(&self) -> Result<Self, OutOfMemory>
+        ensures { IfOk result (λ copy. (copy.rtype ≡ self.now.rtype) × (O.octets copy.«data» ≡ O.octets self.now.«data»)) }
+    {
+        Ok(UnknownRecordData {
+            rtype: self.rtype,
+            data: self.data.try_clone()?,
+        })
     }
 
     /// The fields, in the order of the wire.
@@ -85,6 +100,48 @@ impl<'a> ParseRecordData<'a> for UnknownRecordData<&'a [u8]> {
             Ok(data) => Ok(Some(data)),
             Err(error) => Err(error),
         }
+    }
+}
+
+impl<O: Octets> TryClone for UnknownRecordData<O> {
+    ghost is_clone = { λ d copy. (copy.rtype ≡ d.rtype) × (O.octets copy.«data» ≡ O.octets d.«data») };
+
+    fn try_clone(&self) -> Result<Self, OutOfMemory> {
+        self.clone()
+    }
+}
+
+impl<O: Octets> CloneRecordData for UnknownRecordData<O> {
+    ghost clone_rtype = { λ d copy same. same.0 };
+
+    ghost clone_canonical = { λ d copy same. same_values_tie unknown (unknown_values O.octets) d copy (λ i. (tt, same.1 i)) };
+}
+
+impl<P, O: OctetsFrom<P>> OctetsFrom<UnknownRecordData<P>> for UnknownRecordData<O> {
+    ghost is_same = { λ source made. (made.rtype ≡ source.rtype) × O.is_same source.«data» made.«data» };
+
+    ghost has_no_room = { λ source. O.has_no_room source.«data» };
+
+    fn try_octets_from(alloc: Global, source: UnknownRecordData<P>) -> Result<Self, AppendError> {
+        let UnknownRecordData { rtype, data } = source;
+        Ok(UnknownRecordData {
+            rtype,
+            data: O::try_octets_from(alloc, data)?,
+        })
+    }
+}
+
+impl<P, O: FlattenInto<P>> FlattenInto<UnknownRecordData<P>> for UnknownRecordData<O> {
+    ghost is_same = { λ source made. (made.rtype ≡ source.rtype) × O.is_same source.«data» made.«data» };
+
+    ghost has_no_room = { λ source. O.has_no_room source.«data» };
+
+    fn try_flatten_into(self, alloc: Global) -> Result<UnknownRecordData<P>, AppendError> {
+        let UnknownRecordData { rtype, data } = self;
+        Ok(UnknownRecordData {
+            rtype,
+            data: data.try_flatten_into(alloc)?,
+        })
     }
 }
 
