@@ -11,3 +11,4 @@ pub mod RecordText
 pub mod RecordClone
 pub mod DataClone
 pub mod Soa
+pub mod Generic

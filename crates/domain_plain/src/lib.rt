@@ -11,6 +11,7 @@
 mod a;
 mod counted;
 pub mod fields;
+mod generic;
 pub mod laws;
 mod mx;
 mod ns;
