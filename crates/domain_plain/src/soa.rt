@@ -8,7 +8,7 @@ ghost use Rattle.domain_base.specs.Fault.{fault_of};
 ghost use Rattle.domain_plain.specs.Layout.{Begins, FirstFault, GoesOn, octets_of, canonical_of};
 ghost use Rattle.domain_plain.specs.DataClone.{same_values_tie};
 ghost use Rattle.domain_plain.specs.Plain.{soa, soa_values};
-ghost use Rattle.domain_plain.specs.Soa.{IsSoaWith};
+ghost use Rattle.domain_plain.specs.Soa.{IsSoaWith, soa_text};
 
 use crate::fields::{self, Fields, Lowers};
 use crate::read_fields::ReadFields;
@@ -20,6 +20,7 @@ use domain_octets::{
 };
 use std::alloc::Global;
 use std::cmp::Ordering;
+use std::fmt;
 
 /// The start of a zone of authority (RFC 1035, section 3.3.13).
 #[derive(Debug, Drop)]
@@ -347,5 +348,24 @@ impl<N: ToName> CanonicalOrd for Soa<N> {
 
     fn canonical_cmp(&self, other: &Self) -> Ordering {
         self.fields().order(&other.fields())
+    }
+}
+
+/// The two names with their last dots, and the numbers, with single spaces between them.
+impl<N: ToName> fmt::Display for Soa<N> {
+    ghost output = { soa_text N.labels };
+
+    fn fmt<W: fmt::Write>(&self, f: &mut fmt::Formatter<W>) -> fmt::Result {
+        write!(
+            f,
+            "{} {} {} {} {} {} {}",
+            self.mname.fmt_with_dot(),
+            self.rname.fmt_with_dot(),
+            self.serial,
+            self.refresh,
+            self.retry,
+            self.expire,
+            self.minimum
+        )
     }
 }
