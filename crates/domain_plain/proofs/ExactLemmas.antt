@@ -1,13 +1,10 @@
 -- what is read is determined by the octets
-use Rattle.std.proofs.Common.{◌≡◌, ℕ, ◌+◌, ◌≤◌, true, List, [], ◌∷◌, ◌++◌, length, drop, refl, sym, ap, ◌∙◌, arith, length-append, append_assoc, append-nil}
+use Rattle.std.proofs.Common.{◌≡◌, ℕ, true, List, [], ◌∷◌, ◌++◌, length, refl, sym, ap, ◌∙◌, arith, length-append, append_assoc, append-nil}
 use Rattle.std.specs.Prelude.{◌&&◌}
 use Rattle.std.specs.Cmp.{first_so, second_so}
-use Rattle.std.specs.List.{AllByRecursion}
-use Rattle.std.proofs.lemmas.List.{drop_at}
-use Rattle.domain_base.specs.Name.{wire_of, IsLabel, IsName}
 use Rattle.domain_base.specs.Fault.{Fault}
-use Rattle.domain_base.proofs.WireLemmas.{length-wire_of}
-use Rattle.domain_plain.specs.Field.{Field, octet, short, long, name, spelled_name, counted, exactly, at_most, rest, Value, field_octets, FieldFits, FieldEnds, FieldFault, NameFault, no_octet, bad_label, long_name, cut_label, past_label, cut_octet, cut_short, cut_long, no_name, no_spelled_name, no_count, cut_counted, cut_exactly, too_long}
+use Rattle.domain_base.proofs.FaultLemmas.{no_name_fault}
+use Rattle.domain_plain.specs.Field.{Field, octet, short, long, name, spelled_name, counted, exactly, at_most, rest, Value, field_octets, FieldFits, FieldEnds, FieldFault, cut_octet, cut_short, cut_long, no_name, no_spelled_name, no_count, cut_counted, cut_exactly, too_long}
 use Rattle.domain_plain.specs.Layout.{Layout, one, ◌▸◌, Values, octets_of, Fits, Ends, Begins, is_delimited, splits, FirstFault, in_field, in_first, in_later}
 use Rattle.domain_plain.proofs.OrderLemmas.{Same, same_field, same_data}
 
@@ -38,42 +35,24 @@ one_reading l octets v w r s d x y =
     let same = same_whole l v w r s d x.fits y.fits x.ends y.ends (sym x.parts ∙ y.parts) in
     (same.values, same.after)
 
-no_name_fault : (used : ℕ) (octets : List ℕ) (fault : Fault) → NameFault used octets fault → (labels : List (List ℕ)) (after : List ℕ) → octets ≡ wire_of labels ++ after → AllByRecursion IsLabel labels → used + length (wire_of labels) ≤ 255 → ⊥
-no_name_fault used octets fault no_octet [] after is all fits = cc
-no_name_fault used octets fault no_octet (l ∷ ls) after is all fits = cc
-no_name_fault used octets fault (bad_label len tail big) [] after is all fits = let e : len ≡ 0 = cc in omega arith
-no_name_fault used octets fault (bad_label len tail big) (l ∷ ls) after is all fits =
-    let e : len ≡ length l = cc in let label_is : IsLabel l = all.0 in omega (arith, label_is.fits)
-no_name_fault used octets fault (long_name len tail some small big) [] after is all fits = let e : len ≡ 0 = cc in omega arith
-no_name_fault used octets fault (long_name len tail some small big) (l ∷ ls) after is all fits =
-    let e : len ≡ length l = cc in omega (arith, length-append l (wire_of ls), length-wire_of ls, fits)
-no_name_fault used octets fault (cut_label len tail some small brief cut) [] after is all fits = let e : len ≡ 0 = cc in omega arith
-no_name_fault used octets fault (cut_label len tail some small brief cut) (l ∷ ls) after is all fits =
-    let e : len ≡ length l = cc in omega (arith, ap length is, length-append (l ++ wire_of ls) after, length-append l (wire_of ls))
-no_name_fault used octets fault (past_label label tail f some small brief next) [] after is all fits = let e : length label ≡ 0 = cc in omega arith
-no_name_fault used octets fault (past_label label tail f some small brief next) (l ∷ ls) after is all fits =
-    let as_long : length label ≡ length l = cc in
-    let tails : label ++ tail ≡ (l ++ wire_of ls) ++ after = cc in
-    let rest_is : tail ≡ wire_of ls ++ after = sym (drop_at label tail (length label) refl) ∙ ap (drop (length label)) (tails ∙ append_assoc l (wire_of ls) after) ∙ drop_at l (wire_of ls ++ after) (length label) (sym as_long) in
-    no_name_fault (used + length label + 1) tail f next ls after rest_is all.1 (omega (arith, fits, length-append l (wire_of ls)))
-
 field_excludes : (f : Field) (octets : List ℕ) (fault : Fault) → FieldFault f octets fault → (v : Value f) (r : List ℕ) → FieldFits f v → FieldEnds f r → octets ≡ field_octets f v ++ r → ⊥
 field_excludes f octets fault (cut_octet o d cut) v r fits ends e = omega (arith, cut.short, ap length e)
 field_excludes f octets fault (cut_short o d cut) v r fits ends e = omega (arith, cut.short, ap length e)
 field_excludes f octets fault (cut_long o d cut) v r fits ends e = omega (arith, cut.short, ap length e)
-field_excludes f octets fault (no_name o d h) v r fits ends e = let valid : IsName v = fits in no_name_fault 0 o d h v r e valid.of_labels (omega (arith, valid.fits))
-field_excludes f octets fault (no_spelled_name o d h) v r fits ends e = let valid : IsName v = fits in no_name_fault 0 o d h v r e valid.of_labels (omega (arith, valid.fits))
+field_excludes f octets fault (no_name o d h) v r fits ends e = no_name_fault o d h v r fits e
+field_excludes f octets fault (no_spelled_name o d h) v r fits ends e = no_name_fault o d h v r fits e
 field_excludes f octets fault no_count v r fits ends e = cc
 field_excludes f octets fault (cut_counted count tail cut) v r fits ends e =
     let n : count ≡ length v = cc in omega (arith, cut, ap length e, length-append v r)
 field_excludes f octets fault (cut_exactly count o d cut) v r fits ends e = omega (arith, cut.short, ap length e, length-append v r, fits)
 field_excludes f octets fault (too_long limit o d h) v r fits ends e = omega (arith, h.long, ends, ap length e)
 
-delimited_field_splits : (l : Layout) → is_delimited l ≡ true → splits l ≡ true
-delimited_field_splits (one f) d = refl
-delimited_field_splits (a ▸ b) d =
+-- data of which one can tell where they end
+pub delimited_splits : (l : Layout) → is_delimited l ≡ true → splits l ≡ true
+delimited_splits (one f) d = refl
+delimited_splits (a ▸ b) d =
     let first = first_so (is_delimited a) (is_delimited b) d in
-    let second = delimited_field_splits b (second_so (is_delimited a) (is_delimited b) d) in
+    let second = delimited_splits b (second_so (is_delimited a) (is_delimited b) d) in
     λ i. first i && second i
 
 -- octets with a fault begin with no value
@@ -81,7 +60,7 @@ pub fault_excludes : (l : Layout) (octets : List ℕ) (fault : Fault) → FirstF
 unfolding octets_of
 fault_excludes l octets fault (in_field f o d h) sp v r begins = field_excludes f o d h v r begins.fits begins.ends begins.parts
 fault_excludes l octets fault (in_first a b o d h) sp v r begins =
-    fault_excludes a o d h (delimited_field_splits a (first_so (is_delimited a) (splits b) sp)) v.0 (octets_of b v.1 ++ r) (record {
+    fault_excludes a o d h (delimited_splits a (first_so (is_delimited a) (splits b) sp)) v.0 (octets_of b v.1 ++ r) (record {
       parts = begins.parts ∙ append_assoc (octets_of a v.0) (octets_of b v.1) r;
       fits = begins.fits.0;
       ends = begins.ends.0;
@@ -90,3 +69,7 @@ fault_excludes l octets fault (in_later a b o w m d front h) sp v r begins =
     let same = same_data a v.0 w (octets_of b v.1 ++ r) m (first_so (is_delimited a) (splits b) sp) begins.fits.0 front.fits
     (sym (append_assoc (octets_of a v.0) (octets_of b v.1) r) ∙ sym begins.parts ∙ front.parts) in
     fault_excludes b m d h (second_so (is_delimited a) (splits b) sp) v.1 r (record { parts = sym same.after; fits = begins.fits.1; ends = begins.ends.1 })
+
+-- composed data parse back
+pub begins_alone : (l : Layout) (v : Values l) → Fits l v → Ends l v [] → Begins l (octets_of l v) v []
+begins_alone l v fits ends = record { parts = sym (append-nil (octets_of l v)); fits = fits; ends = ends }

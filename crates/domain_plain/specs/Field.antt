@@ -2,7 +2,7 @@
 use Rattle.std.specs.Prelude.{◌≡◌, ℕ, ◌+◌, ◌<◌, ◌≤◌, ◌^◌, List, [], ◌∷◌, ◌++◌, length, codes}
 use Rattle.std.specs.Int.{w16, w32, to_be_bytes}
 use Rattle.domain_base.specs.Name.{wire_of, lowered, IsName}
-use Rattle.domain_base.specs.Fault.{Fault, ends_early, malformed}
+use Rattle.domain_base.specs.Fault.{Fault, ends_early, malformed, NameFault}
 
 -- octet, short, long: numbers of 8, 16 and 32 bits
 -- name, spelled_name: a name, which the canonical form lowers, or keeps as it is spelled (RFC 4034, section 6.2; RFC 6840, section 5.1)
@@ -78,14 +78,6 @@ lower_field counted octets = octets
 lower_field (exactly count) octets = octets
 lower_field (at_most limit) v = v
 lower_field rest octets = octets
-
--- the first fault in octets that are to begin with a name, where so many octets of the name stand before them
-pub data NameFault : ℕ → List ℕ → Fault → Type 0 where
-  no_octet : {used : ℕ} → NameFault used [] ends_early
-  bad_label : {used : ℕ} (len : ℕ) (after : List ℕ) → 63 < len → NameFault used (len ∷ after) (malformed (codes "compressed or bad label"))
-  long_name : {used : ℕ} (len : ℕ) (after : List ℕ) → 0 < len → len ≤ 63 → 255 < used + len + 2 → NameFault used (len ∷ after) (malformed (codes "long domain name"))
-  cut_label : {used : ℕ} (len : ℕ) (after : List ℕ) → 0 < len → len ≤ 63 → used + len + 2 ≤ 255 → length after < len → NameFault used (len ∷ after) ends_early
-  past_label : {used : ℕ} (label after : List ℕ) (fault : Fault) → 0 < length label → length label ≤ 63 → used + length label + 2 ≤ 255 → NameFault (used + length label + 1) after fault → NameFault used (length label ∷ (label ++ after)) fault
 
 -- octets do not begin with so many
 pub record IsCut (octets : List ℕ) (count : ℕ) (fault : Fault) : Type 0 where

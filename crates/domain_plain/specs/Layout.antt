@@ -3,6 +3,7 @@ use Rattle.std.specs.Prelude.{◌≡◌, ℕ, ◌+◌, List, ◌++◌, length, B
 use Rattle.std.specs.declared.cmp.Ordering.{Ordering}
 use Rattle.std.specs.Ordering.{nat_cmp}
 use Rattle.std.specs.Cmp.Lexicographic.{slice_cmp}
+use Rattle.domain_octets.specs.Place.{Place}
 use Rattle.domain_base.specs.Fault.{Fault}
 use Rattle.domain_plain.specs.Field.{Field, octet, short, long, name, spelled_name, counted, exactly, at_most, rest, Value, field_octets, FieldFits, FieldEnds, lower_field, FieldFault}
 
@@ -74,11 +75,6 @@ is_delimited (a ▸ b) = is_delimited a && is_delimited b
 abbrev pub splits : Layout → Bool
 splits (one f) = true
 splits (a ▸ b) = is_delimited a && splits b
-
--- where a parser stands, and what is left
-pub record Place : Type 0 where
-  pub pos : ℕ
-  pub left : List ℕ
 
 -- it has gone on over what is no longer left
 pub record GoesOn (old new : Place) : Type 0 where

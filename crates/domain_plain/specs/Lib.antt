@@ -1,5 +1,6 @@
 pub mod Record
 pub mod Field
+pub mod WireFault
 pub mod Layout
 pub mod Target
 pub mod Laws
@@ -8,3 +9,6 @@ pub mod Scan
 pub mod RecordLends
 pub mod RecordText
 pub mod RecordClone
+pub mod DataClone
+pub mod Soa
+pub mod Generic

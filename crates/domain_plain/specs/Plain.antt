@@ -1,7 +1,7 @@
 -- the fields of plain data, in the order of the wire
 use Rattle.std.specs.Prelude.{ℕ, List}
 use Rattle.std.specs.Net.Addr.{ipv4_octets}
-use Rattle.domain_plain.specs.Field.{short, long, name, exactly, rest}
+use Rattle.domain_plain.specs.Field.{short, long, name, exactly, at_most, rest}
 use Rattle.domain_plain.specs.Layout.{Layout, one, ◌▸◌, Values}
 use Rattle.domain_plain.specs.declared.a.A.{A}
 use Rattle.domain_plain.specs.declared.ns.Ns.{Ns}
@@ -37,9 +37,9 @@ mx = one short ▸ one name
 abbrev pub mx_values : {N : Type 0} → (N → List (List ℕ)) → Mx N → Values mx
 mx_values labels d = (d.preference, labels d.exchange)
 
--- the octets as they are (RFC 3597, section 5)
+-- the octets as they are, as many as a record can hold (RFC 3597, section 5; RFC 1035, section 3.2.1)
 abbrev pub unknown : Layout
-unknown = one rest
+unknown = one (at_most 65535) ▸ one rest
 
 abbrev pub unknown_values : {O : Type 0} → (O → List ℕ) → UnknownRecordData O → Values unknown
-unknown_values octets d = octets d.«data»
+unknown_values octets d = (tt, octets d.«data»)

@@ -1,19 +1,24 @@
 //! Addresses of hosts.
-ghost use Rattle.std.specs.Prelude.{◌≡◌, IfOk, IfErr, Some};
+ghost use Rattle.std.specs.Prelude.{◌≡◌, refl, IfOk, IfErr, OnErr, Some};
 ghost use Rattle.std.specs.Net.Addr.{ipv4_octets};
 ghost use Rattle.std.specs.Net.Text.{ipv4_text};
 ghost use Rattle.std.specs.Ordering.{on, nat_cmp};
 ghost use Rattle.std.specs.Cmp.Lexicographic.{slice_cmp, on_texts};
 ghost use Rattle.domain_base.specs.Scan.{scan_fault_of};
 ghost use Rattle.domain_plain.specs.Scan.{Scans, Refuses};
-ghost use Rattle.domain_plain.specs.Layout.{octets_of, canonical_of};
+ghost use Rattle.domain_base.specs.Fault.{fault_of};
+ghost use Rattle.domain_plain.specs.Layout.{Begins, FirstFault, GoesOn, octets_of, canonical_of};
+ghost use Rattle.domain_plain.specs.DataClone.{same_values_tie};
 ghost use Rattle.domain_plain.specs.Plain.{a, a_values};
 
 use crate::fields::{self, Exactly, Fields};
+use crate::read_fields::ReadFields;
 use crate::scan_fields::{Address, ScanFields};
-use crate::{ComposeRecordData, RecordData};
+use crate::{CloneRecordData, ComposeRecordData, ParseRecordData, RecordData};
 use domain_base::{CanonicalOrd, Rtype, ScanError, Scanner};
-use domain_octets::{AppendError, OctetsBuilder};
+use domain_octets::{
+    AppendError, FlattenInto, OctetsBuilder, OctetsFrom, OutOfMemory, ParseError, Parser, TryClone,
+};
 use std::alloc::Global;
 use std::cmp::Ordering;
 use std::fmt;
@@ -31,6 +36,27 @@ impl A {
         ensures { result ≡ record { addr = addr } }
     {
         A { addr }
+    }
+
+    /// The data that the octets begin with: an address; what follows is left.
+    ///
+    /// # Errors
+    ///
+    /// `ShortInput` for fewer than four octets. The parser then stands where it stood.
+    pub fn parse<'a>(parser: &mut Parser<'a>) -> Result<Self, ParseError>
+        ensures ok { IfOk result (λ d. Begins a parser.old.left (a_values d) parser.new.left) }
+        ensures err { IfErr result (λ e. FirstFault a parser.old.left (fault_of e)) }
+        ensures unmoved { OnErr result (parser.new ≡ parser.old) }
+        ensures goes_on { GoesOn parser.old parser.new }
+    {
+        match Exactly::<4>::read(parser) {
+            Ok(address) => {
+                let octets = address.0;
+                let addr = Ipv4Addr::from(octets);
+                Ok(A { addr })
+            }
+            Err(fault) => Err(ParseError::from(fault)),
+        }
     }
 
     /// The data that the tokens begin with: an address. A refusal leaves an end of the tokens.
@@ -59,11 +85,63 @@ impl A {
     }
 }
 
+impl TryClone for A {
+    ghost is_clone = { λ d copy. copy.addr ≡ d.addr };
+
+    fn try_clone(&self) -> Result<Self, OutOfMemory> {
+        Ok(*self)
+    }
+}
+
+impl CloneRecordData for A {
+    ghost clone_rtype = { λ d copy same. refl };
+
+    ghost clone_canonical = { λ d copy same. same_values_tie a a_values d copy (λ i. ipv4_octets (same i)) };
+}
+
+impl OctetsFrom<A> for A {
+    ghost is_same = { λ source made. made ≡ source };
+
+    ghost has_no_room = { λ _. ⊥ };
+
+    fn try_octets_from(_alloc: Global, source: A) -> Result<Self, AppendError> {
+        Ok(source)
+    }
+}
+
+impl FlattenInto<A> for A {
+    ghost is_same = { λ source made. made ≡ source };
+
+    ghost has_no_room = { λ _. ⊥ };
+
+    fn try_flatten_into(self, _alloc: Global) -> Result<A, AppendError> {
+        Ok(self)
+    }
+}
+
 impl RecordData for A {
     ghost rtype = { λ _. 1 };
 
     fn rtype(&self) -> Rtype {
         Rtype::A
+    }
+}
+
+impl<'a> ParseRecordData<'a> for A {
+    ghost is_read = { λ rtype. rtype ≡ 1 };
+
+    ghost begins = { λ octets d after. Begins a octets (a_values d) after };
+
+    ghost faults = { λ octets fault. FirstFault a octets fault };
+
+    fn parse_rdata(rtype: Rtype, parser: &mut Parser<'a>) -> Result<Option<Self>, ParseError> {
+        if rtype != Rtype::A {
+            return Ok(None);
+        }
+        match A::parse(parser) {
+            Ok(data) => Ok(Some(data)),
+            Err(error) => Err(error),
+        }
     }
 }
 

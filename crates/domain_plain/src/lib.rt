@@ -9,9 +9,14 @@
 #![tactic(auto)]
 
 mod a;
+mod counted;
 pub mod fields;
+mod generic;
+pub mod laws;
 mod mx;
 mod ns;
+mod pairs;
+pub mod read_fields;
 mod record;
 mod record_clone;
 mod record_data;
@@ -19,12 +24,16 @@ pub mod scan_fields;
 mod soa;
 mod target;
 mod unknown;
+mod wire_fault;
 
 pub use a::A;
+pub use counted::Counted;
 pub use mx::Mx;
 pub use ns::Ns;
+pub use pairs::both;
 pub use record::Record;
 pub use record_clone::{CloneName, CloneRecordData};
-pub use record_data::{ComposeRecordData, LongRecordData, RecordData};
+pub use record_data::{ComposeRecordData, LongRecordData, ParseRecordData, RecordData};
 pub use soa::Soa;
 pub use unknown::UnknownRecordData;
+pub use wire_fault::WireFault;

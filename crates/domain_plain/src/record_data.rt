@@ -1,11 +1,13 @@
 //! Data of records.
-ghost use Rattle.std.specs.Prelude.{◌≡◌, ◌≤◌, ◌↔◌, ℕ, List, Some, length, IsTrue};
+ghost use Rattle.std.specs.Prelude.{◌≡◌, ◌≤◌, ◌↔◌, ℕ, List, Some, length, IsTrue, IfOk, IfErr, OnErr, IfNone, MatchOption};
 ghost use Rattle.std.specs.Ordering.{nat_cmp};
 ghost use Rattle.std.specs.Cmp.Lexicographic.{slice_cmp};
+ghost use Rattle.domain_base.specs.Fault.{Fault, fault_of};
+ghost use Rattle.domain_plain.specs.Layout.{GoesOn};
 ghost use Rattle.domain_plain.specs.Target.{Appends};
 
 use domain_base::Rtype;
-use domain_octets::{AppendError, OctetsBuilder};
+use domain_octets::{AppendError, OctetsBuilder, ParseError, Parser};
 use std::cmp::Ordering;
 use std::error::Error;
 use std::fmt;
@@ -30,6 +32,34 @@ pub trait RecordData {
     /// The type of the data.
     fn rtype(&self) -> Rtype
         ensures { result ≡ rtype self.now };
+}
+
+/// Data that can be read from the octets of a record (RFC 1035, section 3.2.1).
+pub trait ParseRecordData<'a>: RecordData {
+    /// The data is that of records of this type.
+    ghost is_read: { ℕ → Type 0 };
+
+    /// The octets begin with the data, and these are left.
+    ghost begins: { List ℕ → Self → List ℕ → Type 0 };
+
+    /// The first fault of octets that do not.
+    ghost faults: { List ℕ → Fault → Type 0 };
+
+    /// The data that the octets of a record of this type begin with; None, and nothing is read, for every other type.
+    /// Takes no memory.
+    ///
+    /// # Errors
+    ///
+    /// The first fault in field order, as `parse` of the data's type says. The parser then stands where it stood.
+    fn parse_rdata(rtype: Rtype, parser: &mut Parser<'a>) -> Result<Option<Self>, ParseError>
+    where
+        Self: Sized,
+        ensures ok { IfOk result (λ found. MatchOption found (is_read rtype → ⊥)
+            (λ «data». is_read rtype × (Self.rtype «data» ≡ rtype) × begins parser.old.left «data» parser.new.left)) }
+        ensures none { IfOk result (λ found. IfNone found (parser.new ≡ parser.old)) }
+        ensures err { IfErr result (λ e. is_read rtype × faults parser.old.left (fault_of e)) }
+        ensures unmoved { OnErr result (parser.new ≡ parser.old) }
+        ensures goes_on { GoesOn parser.old parser.new };
 }
 
 /// Data that can be written in wire form (RFC 1035, section 3.2.1) and in canonical form (RFC 4034, section 6.2).

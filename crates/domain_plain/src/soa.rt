@@ -1,19 +1,26 @@
 //! Starts of zones.
-ghost use Rattle.std.specs.Prelude.{◌≡◌, IfOk, IfErr};
+ghost use Rattle.std.specs.Prelude.{◌≡◌, ◌⊎◌, refl, IfOk, IfErr, OnErr};
 ghost use Rattle.std.specs.Ordering.{on, nat_cmp};
 ghost use Rattle.std.specs.Cmp.Lexicographic.{slice_cmp, on_texts};
 ghost use Rattle.domain_base.specs.Scan.{scan_fault_of};
 ghost use Rattle.domain_plain.specs.Scan.{Scans, Refuses};
-ghost use Rattle.domain_plain.specs.Layout.{octets_of, canonical_of};
+ghost use Rattle.domain_base.specs.Fault.{fault_of};
+ghost use Rattle.domain_plain.specs.Layout.{Begins, FirstFault, GoesOn, octets_of, canonical_of};
+ghost use Rattle.domain_plain.specs.DataClone.{same_values_tie};
 ghost use Rattle.domain_plain.specs.Plain.{soa, soa_values};
+ghost use Rattle.domain_plain.specs.Soa.{IsSoaWith, soa_text};
 
 use crate::fields::{self, Fields, Lowers};
+use crate::read_fields::ReadFields;
 use crate::scan_fields::{ScanFields, Scanned};
-use crate::{ComposeRecordData, RecordData};
-use domain_base::{CanonicalOrd, Rtype, ScanError, Scanner, ToName, Ttl};
-use domain_octets::{AppendError, OctetsBuilder};
+use crate::{CloneName, CloneRecordData, ComposeRecordData, ParseRecordData, RecordData, both};
+use domain_base::{CanonicalOrd, ParsedName, Rtype, ScanError, Scanner, ToName, Ttl};
+use domain_octets::{
+    AppendError, FlattenInto, OctetsBuilder, OctetsFrom, OutOfMemory, ParseError, Parser, TryClone,
+};
 use std::alloc::Global;
 use std::cmp::Ordering;
+use std::fmt;
 
 /// The start of a zone of authority (RFC 1035, section 3.3.13).
 #[derive(Debug, Drop)]
@@ -29,6 +36,11 @@ pub struct Soa<N> {
 
 type SoaFields<'a, N> = (
     (Lowers<'a, N>, Lowers<'a, N>),
+    ((u32, (u32, u32)), (u32, u32)),
+);
+
+type ParsedSoa<'a> = (
+    (ParsedName<'a>, ParsedName<'a>),
     ((u32, (u32, u32)), (u32, u32)),
 );
 
@@ -106,6 +118,106 @@ impl<N> Soa<N> {
     {
         self.minimum
     }
+
+    /// The same numbers beside other names.
+    fn with_names<M>(&self, mname: M, rname: M) -> Soa<M>
+        ensures { result ≡ record { mname = mname; rname = rname; serial = self.now.serial; refresh = self.now.refresh; retry = self.now.retry; expire = self.now.expire; minimum = self.now.minimum } }
+    {
+        Soa {
+            mname,
+            rname,
+            serial: self.serial,
+            refresh: self.refresh,
+            retry: self.retry,
+            expire: self.expire,
+            minimum: self.minimum,
+        }
+    }
+
+    /// A copy. Answers `OutOfMemory` where there is no memory for it.
+    pub fn clone(&self) -> Result<Self, OutOfMemory>
+    where
+        N: TryClone + Drop,
+        ensures { IfOk result (IsSoaWith N.is_clone self.now) }
+    {
+        let mname = self.mname.try_clone()?;
+        let rname = self.rname.try_clone()?;
+        Ok(self.with_names(mname, rname))
+    }
+}
+
+impl<N: TryClone + Drop> TryClone for Soa<N> {
+    ghost is_clone = { IsSoaWith N.is_clone };
+
+    fn try_clone(&self) -> Result<Self, OutOfMemory> {
+        self.clone()
+    }
+}
+
+impl<N: CloneName + Drop> CloneRecordData for Soa<N> {
+    ghost clone_rtype = { λ d copy same. refl };
+
+    ghost clone_canonical = { λ d copy same. same_values_tie soa (soa_values N.labels) d copy
+        (λ i. ((N.clone_labels d.mname copy.mname same.mname i, N.clone_labels d.rname copy.rname same.rname i), ((same.serial i, (same.refresh i, same.retry i)), (same.expire i, same.minimum i)))) };
+}
+
+impl<M, N: OctetsFrom<M> + Drop> OctetsFrom<Soa<M>> for Soa<N> {
+    ghost is_same = { IsSoaWith N.is_same };
+
+    ghost has_no_room = { λ source. N.has_no_room source.mname ⊎ N.has_no_room source.rname };
+
+    fn try_octets_from(alloc: Global, source: Soa<M>) -> Result<Self, AppendError> {
+        let Soa {
+            mname,
+            rname,
+            serial,
+            refresh,
+            retry,
+            expire,
+            minimum,
+        } = source;
+        let (mname, rname) = both(
+            N::try_octets_from(alloc, mname),
+            N::try_octets_from(alloc, rname),
+        )?;
+        Ok(Soa {
+            mname,
+            rname,
+            serial,
+            refresh,
+            retry,
+            expire,
+            minimum,
+        })
+    }
+}
+
+impl<M: Drop, N: FlattenInto<M>> FlattenInto<Soa<M>> for Soa<N> {
+    ghost is_same = { IsSoaWith N.is_same };
+
+    ghost has_no_room = { λ source. N.has_no_room source.mname ⊎ N.has_no_room source.rname };
+
+    fn try_flatten_into(self, alloc: Global) -> Result<Soa<M>, AppendError> {
+        let Soa {
+            mname,
+            rname,
+            serial,
+            refresh,
+            retry,
+            expire,
+            minimum,
+        } = self;
+        let (mname, rname) = both(mname.try_flatten_into(alloc), rname.try_flatten_into(alloc))?;
+        Ok(Soa {
+            mname,
+            rname,
+            serial,
+            refresh,
+            retry,
+            expire,
+            minimum,
+        })
+    }
 }
 
 impl<N: ToName> Soa<N> {
@@ -145,6 +257,53 @@ impl<N: ToName> Soa<N> {
                 (self.expire.as_secs(), self.minimum.as_secs()),
             ),
         )
+    }
+}
+
+impl<'a> Soa<ParsedName<'a>> {
+    /// The data that the octets begin with: two names and five numbers of four octets; what follows is left.
+    ///
+    /// # Errors
+    ///
+    /// The first fault in field order: of a name, at the first label that is at fault, a missing octet is `ShortInput`, a length over 63 or a
+    /// pointer `Form("compressed or bad label")`, a name over 255 octets `Form("long domain name")`;
+    /// a missing octet of a number is `ShortInput`. The parser then stands where it stood.
+    pub fn parse(parser: &mut Parser<'a>) -> Result<Self, ParseError>
+        ensures ok { IfOk result (λ d. Begins soa parser.old.left (soa_values (λ name. name) d) parser.new.left) }
+        ensures err { IfErr result (λ e. FirstFault soa parser.old.left (fault_of e)) }
+        ensures unmoved { OnErr result (parser.new ≡ parser.old) }
+        ensures goes_on { GoesOn parser.old parser.new }
+    {
+        match ParsedSoa::read(parser) {
+            Ok(((mname, rname), ((serial, (refresh, retry)), (expire, minimum)))) => Ok(Soa {
+                mname,
+                rname,
+                serial,
+                refresh: Ttl::from_secs(refresh),
+                retry: Ttl::from_secs(retry),
+                expire: Ttl::from_secs(expire),
+                minimum: Ttl::from_secs(minimum),
+            }),
+            Err(fault) => Err(ParseError::from(fault)),
+        }
+    }
+}
+
+impl<'a> ParseRecordData<'a> for Soa<ParsedName<'a>> {
+    ghost is_read = { λ rtype. rtype ≡ 6 };
+
+    ghost begins = { λ octets d after. Begins soa octets (soa_values (λ name. name) d) after };
+
+    ghost faults = { λ octets fault. FirstFault soa octets fault };
+
+    fn parse_rdata(rtype: Rtype, parser: &mut Parser<'a>) -> Result<Option<Self>, ParseError> {
+        if rtype != Rtype::SOA {
+            return Ok(None);
+        }
+        match Self::parse(parser) {
+            Ok(data) => Ok(Some(data)),
+            Err(error) => Err(error),
+        }
     }
 }
 
@@ -189,5 +348,24 @@ impl<N: ToName> CanonicalOrd for Soa<N> {
 
     fn canonical_cmp(&self, other: &Self) -> Ordering {
         self.fields().order(&other.fields())
+    }
+}
+
+/// The two names with their last dots, and the numbers, with single spaces between them.
+impl<N: ToName> fmt::Display for Soa<N> {
+    ghost output = { soa_text N.labels };
+
+    fn fmt<W: fmt::Write>(&self, f: &mut fmt::Formatter<W>) -> fmt::Result {
+        write!(
+            f,
+            "{} {} {} {} {} {} {}",
+            self.mname.fmt_with_dot(),
+            self.rname.fmt_with_dot(),
+            self.serial,
+            self.refresh,
+            self.retry,
+            self.expire,
+            self.minimum
+        )
     }
 }
