@@ -18,6 +18,7 @@ mod record_data;
 pub mod scan_fields;
 mod soa;
 mod target;
+pub mod text_laws;
 mod unknown;
 
 pub use a::A;
