@@ -90,3 +90,12 @@ module _ (table : List Named) (prefix text : List ℕ) where
         let e : other ≡ digits = sym (prefix_rest prefix text other has') ∙ prefix_rest prefix text digits has in
         let valid : IsNumber 16 digits n = subst (λ d. IsNumber 16 d n) e is in
         given (valid.digits, valid.fits)
+
+  -- a text stands for one number at most
+  pub one_named : (m n : ℕ) → NumberText table prefix text m → NumberText table prefix text n → m ≡ n
+  one_named m n (by_name t p is) (by_name u q other) = cc
+  one_named m n (by_name t p is) (by_number u digits q none has valid) = cc
+  one_named m n (by_number t digits p none has valid) (by_name u q is) = cc
+  one_named m n (by_number t digits p none has valid) (by_number u other q none' has' valid') =
+      let same : other ≡ digits = sym (prefix_rest prefix text other has') ∙ prefix_rest prefix text digits has in
+      valid.value ∙ ap (digits_value 10) (sym same) ∙ sym valid'.value

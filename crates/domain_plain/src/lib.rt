@@ -23,6 +23,7 @@ mod record_data;
 pub mod scan_fields;
 mod soa;
 mod target;
+pub mod text_laws;
 mod unknown;
 mod wire_fault;
 

@@ -6,6 +6,7 @@
 //! octets held as unknown, and the order takes no memory.
 #![tactic(auto)]
 
+pub mod laws;
 mod nsec;
 mod nsec_compare;
 mod nsec_convert;
