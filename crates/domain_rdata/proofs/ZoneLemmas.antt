@@ -6,7 +6,7 @@ use Rattle.domain_plain.specs.Layout.{octets_of, canonical_of}
 use Rattle.domain_plain.specs.Plain.{unknown}
 
 -- the canonical octets of unknown data are the octets
-pub unknown_octets : (v : List ℕ) → canonical_of unknown v ≡ v
+pub unknown_octets : (v : List ℕ) → canonical_of unknown (tt, v) ≡ v
 unfolding octets_of
 unknown_octets v = refl
 

@@ -4,3 +4,4 @@ pub mod Text
 pub mod Laws
 pub mod NsecText
 pub mod NsecConvert
+pub mod NsecWire

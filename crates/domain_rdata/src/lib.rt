@@ -11,6 +11,7 @@ mod nsec;
 mod nsec_compare;
 mod nsec_convert;
 mod nsec_text;
+mod nsec_wire;
 mod zone_record_data;
 
 pub use nsec::Nsec;

@@ -1,5 +1,5 @@
 //! NSEC data copied, and made over other octets.
-ghost use Rattle.std.specs.Prelude.{◌≡◌, ◌↔◌, ◌⊎◌, Ok, Some, IfOk, IsErrOf, length};
+ghost use Rattle.std.specs.Prelude.{◌⊎◌, Some, IfOk, length};
 ghost use Rattle.domain_octets.specs.Limit.{IsOver};
 ghost use Rattle.domain_rdata.specs.NsecConvert.{IsNsecClone, IsSameNsec};
 
@@ -9,6 +9,7 @@ use domain_bitmap::RtypeBitmap;
 use domain_octets::{
     AppendError, ArrayBuilder, FlattenInto, Octets, OctetsFrom, OutOfMemory, TryClone,
 };
+use domain_plain::both;
 use std::alloc::Global;
 
 impl<O: Octets, N: TryClone + Drop> Nsec<O, N> {
@@ -30,22 +31,6 @@ impl<O: Octets, N: TryClone + Drop> TryClone for Nsec<O, N> {
     }
 }
 
-/// A name and a bitmap that were made, or why not: no room before no memory.
-fn both<M: Drop, P: Octets + Drop>(
-    name: Result<M, AppendError>,
-    types: Result<RtypeBitmap<P>, AppendError>,
-) -> Result<Nsec<P, M>, AppendError>
-    ensures ok { IfOk result (λ d. (name ≡ Ok d.next_name) × (types ≡ Ok d.types)) }
-    ensures short { IsErrOf result AppendError.ShortBuf ↔ (IsErrOf name AppendError.ShortBuf ⊎ IsErrOf types AppendError.ShortBuf) }
-{
-    match (name, types) {
-        (Ok(next_name), Ok(types)) => Ok(Nsec::new(next_name, types)),
-        (Err(AppendError::ShortBuf), _) => Err(AppendError::ShortBuf),
-        (_, Err(AppendError::ShortBuf)) => Err(AppendError::ShortBuf),
-        _ => Err(AppendError::OutOfMemory),
-    }
-}
-
 impl<S: Octets + Drop, N: Drop, M: OctetsFrom<N> + Drop> OctetsFrom<Nsec<S, N>>
     for Nsec<Vec<u8>, M> {
     ghost is_same = { IsSameNsec M.OctetsFrom.is_same };
@@ -55,7 +40,9 @@ impl<S: Octets + Drop, N: Drop, M: OctetsFrom<N> + Drop> OctetsFrom<Nsec<S, N>>
     fn try_octets_from(alloc: Global, source: Nsec<S, N>) -> Result<Self, AppendError> {
         let (next_name, types) = source.into_parts();
         let next_name = M::try_octets_from(alloc, next_name);
-        both(next_name, RtypeBitmap::try_octets_from(alloc, types))
+        let types = RtypeBitmap::try_octets_from(alloc, types);
+        let (next_name, types) = both(next_name, types)?;
+        Ok(Nsec::new(next_name, types))
     }
 }
 
@@ -67,7 +54,9 @@ impl<S: Octets + Drop, N: Drop, M: OctetsFrom<N> + Drop> OctetsFrom<Nsec<S, N>> 
     fn try_octets_from(alloc: Global, source: Nsec<S, N>) -> Result<Self, AppendError> {
         let (next_name, types) = source.into_parts();
         let next_name = M::try_octets_from(alloc, next_name);
-        both(next_name, RtypeBitmap::try_octets_from(alloc, types))
+        let types = RtypeBitmap::try_octets_from(alloc, types);
+        let (next_name, types) = both(next_name, types)?;
+        Ok(Nsec::new(next_name, types))
     }
 }
 
@@ -80,7 +69,9 @@ impl<S: Octets + Drop, N: Drop, M: OctetsFrom<N> + Drop, const K: usize> OctetsF
     fn try_octets_from(alloc: Global, source: Nsec<S, N>) -> Result<Self, AppendError> {
         let (next_name, types) = source.into_parts();
         let next_name = M::try_octets_from(alloc, next_name);
-        both(next_name, RtypeBitmap::try_octets_from(alloc, types))
+        let types = RtypeBitmap::try_octets_from(alloc, types);
+        let (next_name, types) = both(next_name, types)?;
+        Ok(Nsec::new(next_name, types))
     }
 }
 

@@ -1,0 +1,18 @@
+-- NSEC data on the wire (RFC 4034, section 4.1)
+use Rattle.std.specs.Prelude.{ℕ, List}
+use Rattle.domain_base.specs.Fault.{Fault}
+use Rattle.domain_bitmap.specs.Blocks.{IsBitmap}
+use Rattle.domain_bitmap.specs.Fault.{BitmapFault}
+use Rattle.domain_plain.specs.Field.{spelled_name}
+use Rattle.domain_plain.specs.Layout.{Values, one, Begins, FirstFault}
+use Rattle.domain_rdata.specs.Rdata.{nsec}
+
+-- the octets are a name, and then a type bitmap to the end
+pub record BeginsNsec (octets : List ℕ) (values : Values nsec) (after : List ℕ) : Type 0 where
+  pub begins : Begins nsec octets values after
+  pub bitmap : IsBitmap values.1
+
+-- the first fault: the name's, or the bitmap's
+pub data NsecFault (octets : List ℕ) (fault : Fault) : Type 0 where
+  in_name : FirstFault (one spelled_name) octets fault → NsecFault octets fault
+  in_types : (labels : List (List ℕ)) (types : List ℕ) → Begins (one spelled_name) octets labels types → BitmapFault types fault → NsecFault octets fault
