@@ -1,0 +1,6 @@
+pub mod Data
+pub mod KeyTag
+pub mod Flags
+pub mod Text
+pub mod Time
+pub mod Pieces
