@@ -35,3 +35,12 @@ same_dnskey a b r fits_a fits_b limit_a limit_b is = (
       ((bytes_decides (dnskey_octets a) (dnskey_octets b)).0 (sym is ∙ yes))),
   λ same. is ∙ (bytes_decides (dnskey_octets a) (dnskey_octets b)).1 (ap dnskey_octets same),
 )
+
+pub same_ds : (a b : DsData) (r : Bool) → Fits ds (ds_values a) → Fits ds (ds_values b) → length a.digest ≤ 65531 → length b.digest ≤ 65531
+    → r ≡ bytes_eq (ds_octets a) (ds_octets b) → IsTrue r ↔ (a ≡ b)
+same_ds a b r fits_a fits_b limit_a limit_b is = (
+  λ yes. ap (λ v. record { key_tag = v.0; algorithm = v.1.0; digest_type = v.1.1.0; digest = v.1.1.1.1 })
+      (same_values ds (ds_values a) (ds_values b) refl fits_a fits_b (ends_of_octets (ds_values a) limit_a) (ends_of_octets (ds_values b) limit_b)
+      ((bytes_decides (ds_octets a) (ds_octets b)).0 (sym is ∙ yes))),
+  λ same. is ∙ (bytes_decides (ds_octets a) (ds_octets b)).1 (ap ds_octets same),
+)

@@ -14,6 +14,9 @@ pub record DnskeyData : Type 0 where
   pub algorithm : ℕ
   pub public_key : List ℕ
 
+abbrev pub dnskey_data : ℕ → ℕ → ℕ → List ℕ → DnskeyData
+dnskey_data flags protocol algorithm public_key = record { flags = flags; protocol = protocol; algorithm = algorithm; public_key = public_key }
+
 -- flags, protocol, algorithm, and the key (RFC 4034, section 2.1)
 abbrev pub dnskey : Layout
 dnskey = numbers_and_octets
@@ -31,6 +34,9 @@ pub record DsData : Type 0 where
   pub algorithm : ℕ
   pub digest_type : ℕ
   pub digest : List ℕ
+
+abbrev pub ds_data : ℕ → ℕ → ℕ → List ℕ → DsData
+ds_data key_tag algorithm digest_type digest = record { key_tag = key_tag; algorithm = algorithm; digest_type = digest_type; digest = digest }
 
 -- key tag, algorithm, type of the digest, and the digest (RFC 4034, section 5.1)
 abbrev pub ds : Layout

@@ -1,5 +1,6 @@
 pub mod Data
 pub mod KeyTag
+pub mod Laws
 pub mod Flags
 pub mod Text
 pub mod Time

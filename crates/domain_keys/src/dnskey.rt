@@ -9,11 +9,12 @@ ghost use Rattle.domain_octets.specs.Limit.{IsOver};
 ghost use Rattle.domain_base.specs.Fault.{fault_of};
 ghost use Rattle.domain_plain.specs.Layout.{Begins, Fits, FirstFault, GoesOn};
 ghost use Rattle.domain_plain.specs.Laws.{fed_alike, tied_octets};
-ghost use Rattle.domain_keys.specs.Data.{DnskeyData, dnskey, dnskey_values, dnskey_octets};
+ghost use Rattle.domain_keys.specs.Data.{dnskey_data, dnskey, dnskey_values, dnskey_octets};
 ghost use Rattle.domain_keys.specs.Flags.{is_revoked, is_secure_entry_point, is_zone_key};
 ghost use Rattle.domain_keys.specs.KeyTag.{key_tag_of};
+ghost use Rattle.domain_keys.specs.Laws.{copies_tied};
 
-use crate::fields::KeyFields;
+use crate::fields::{KeyFields, MOST};
 use crate::{flags, key_tag};
 use bytes::Bytes;
 use domain_base::{CanonicalOrd, Rtype, SecurityAlgorithm};
@@ -23,7 +24,9 @@ use domain_octets::{
 };
 use domain_plain::fields::{self, AtMost, Fields, Rest};
 use domain_plain::read_fields::ReadFields;
-use domain_plain::{ComposeRecordData, LongRecordData, ParseRecordData, RecordData};
+use domain_plain::{
+    CloneRecordData, ComposeRecordData, LongRecordData, ParseRecordData, RecordData,
+};
 use std::alloc::Global;
 use std::cmp::Ordering;
 use std::hash::{Hash, Hasher};
@@ -64,11 +67,10 @@ impl<O: Octets> Dnskey<O> {
     ) -> Result<Self, LongRecordData>
     where
         O: Drop,
-        ensures ok { let d : DnskeyData = record { flags = flags; protocol = protocol; algorithm = algorithm; public_key = O.octets public_key } in
-            IsOk result ↔ (length (dnskey_octets d) ≤ 65535) }
-        ensures fields { IfOk result (λ d. d ≡ record { flags = flags; protocol = protocol; algorithm = algorithm; public_key = O.octets public_key }) }
+        ensures ok { IsOk result ↔ (length (dnskey_octets (dnskey_data flags protocol algorithm (O.octets public_key))) ≤ 65535) }
+        ensures fields { IfOk result (λ d. d ≡ dnskey_data flags protocol algorithm (O.octets public_key)) }
     {
-        if public_key.as_slice().len() > 65531 {
+        if public_key.as_slice().len() > MOST {
             return Err(LongRecordData);
         }
         Ok(Dnskey {
@@ -87,9 +89,8 @@ impl<O: Octets> Dnskey<O> {
         algorithm: SecurityAlgorithm,
         public_key: O,
     ) -> Self
-        requires { let d : DnskeyData = record { flags = flags; protocol = protocol; algorithm = algorithm; public_key = O.octets public_key } in
-            length (dnskey_octets d) ≤ 65535 }
-        ensures { result ≡ record { flags = flags; protocol = protocol; algorithm = algorithm; public_key = O.octets public_key } }
+        requires { length (dnskey_octets (dnskey_data flags protocol algorithm (O.octets public_key))) ≤ 65535 }
+        ensures { result ≡ dnskey_data flags protocol algorithm (O.octets public_key) }
     {
         Dnskey {
             flags,
@@ -158,6 +159,26 @@ impl<O: Octets> Dnskey<O> {
             public_key,
         } = self;
         public_key
+    }
+
+    /// The same key, held otherwise. What `From` makes of the key must be at most 65,531 octets.
+    pub fn convert<P: Octets + From<O>>(self) -> Dnskey<P>
+        requires { (key : O) (made : P) → O.octets key ≡ self.public_key → P.from_gives key made → length (P.octets made) ≤ 65531 }
+        ensures key { (key : O) × (made : P) × (O.octets key ≡ self.public_key) × P.from_gives key made × (result.public_key ≡ P.octets made) }
+        ensures numbers { (result.flags ≡ self.flags) × (result.protocol ≡ self.protocol) × (result.algorithm ≡ self.algorithm) }
+    {
+        let Dnskey {
+            flags,
+            protocol,
+            algorithm,
+            public_key,
+        } = self;
+        Dnskey {
+            flags,
+            protocol,
+            algorithm,
+            public_key: P::from(public_key),
+        }
     }
 
     /// Whether signatures of records may be checked with the key: flag 0x0100 (RFC 4034, section 2.1.1).
@@ -374,6 +395,12 @@ impl<O: Octets> TryClone for Dnskey<O> {
     fn try_clone(&self) -> Result<Self, OutOfMemory> {
         self.clone()
     }
+}
+
+impl<O: Octets> CloneRecordData for Dnskey<O> {
+    ghost clone_rtype = { λ d copy same. refl };
+
+    ghost clone_canonical = { copies_tied dnskey_octets };
 }
 
 impl<S: Octets + Drop> OctetsFrom<Dnskey<S>> for Dnskey<Vec<u8>> {

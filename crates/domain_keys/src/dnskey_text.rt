@@ -8,6 +8,7 @@ ghost use Rattle.domain_keys.specs.Pieces.{dnskey_text, dnskey_pieces};
 
 use crate::Dnskey;
 use crate::entry::scan_entry;
+use crate::fields::MOST;
 use crate::flags::FlagsComment;
 use crate::text::InBase64;
 use domain_base::{ScanError, Scanner, SecurityAlgorithm};
@@ -27,7 +28,7 @@ impl<O: FromBuilder + Drop> Dnskey<O> {
         ensures all { OnOk result (S.tokens scanner.new ≡ []) }
         ensures err { IfErr result (λ e. RefusesData O.Builder.limit 65531 three_numbers codec.Base64 (S.tokens scanner.old) (S.tokens scanner.new) (scan_fault_of e)) }
     {
-        let scanned = scan_entry::<S, (u16, (u8, u8))>(alloc, scanner, Codec::Base64, 65531);
+        let scanned = scan_entry::<S, (u16, (u8, u8))>(alloc, scanner, Codec::Base64, MOST);
         let ((flags, (protocol, algorithm)), public_key) = match scanned {
             Ok(fields) => fields,
             Err(error) => return Err(error),

@@ -10,6 +10,8 @@
 
 mod dnskey;
 mod dnskey_text;
+mod ds;
+mod ds_text;
 mod entry;
 mod fields;
 mod flags;
@@ -18,4 +20,5 @@ mod text;
 mod timestamp;
 
 pub use dnskey::Dnskey;
+pub use ds::Ds;
 pub use timestamp::{IllegalSignatureTime, Timestamp};
