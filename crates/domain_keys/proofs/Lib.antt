@@ -1,0 +1,4 @@
+pub mod KeyTagLemmas
+pub mod DataLemmas
+pub mod PieceLemmas
+pub mod TimeLemmas

@@ -1,0 +1,27 @@
+-- the flags of a key
+use Rattle.std.specs.Prelude.{ℕ, ◌==◌, Bool, not, List, [], ◌++◌, codes, bit_and, if◌then◌else◌}
+
+-- the flags have this bit
+abbrev pub has_flag : ℕ → ℕ → Bool
+has_flag flag flags = not (bit_and flags flag == 0)
+
+-- a key with which signatures of records may be checked (RFC 4034, section 2.1.1)
+abbrev pub is_zone_key : ℕ → Bool
+is_zone_key = has_flag 256
+
+-- a key that its owner no longer trusts (RFC 5011, section 3)
+abbrev pub is_revoked : ℕ → Bool
+is_revoked = has_flag 128
+
+-- a key that other zones may point to (RFC 4034, section 2.1.1)
+abbrev pub is_secure_entry_point : ℕ → Bool
+is_secure_entry_point = has_flag 1
+
+abbrev pub word_if : Bool → List ℕ → List ℕ
+word_if set word = if set then word else []
+
+-- the names of the flags that are set
+abbrev pub flags_comment : ℕ → List ℕ
+flags_comment flags =
+    codes "flags:" ++ word_if (is_revoked flags) (codes " revoked") ++ word_if (is_secure_entry_point flags) (codes " sep")
+    ++ word_if (is_zone_key flags) (codes " zone_key") ++ word_if (flags == 0) (codes " <none>")

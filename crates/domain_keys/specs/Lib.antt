@@ -1,0 +1,7 @@
+pub mod Data
+pub mod KeyTag
+pub mod Laws
+pub mod Flags
+pub mod Text
+pub mod Time
+pub mod Pieces

@@ -1,0 +1,24 @@
+//! Keys of zones and digests of keys.
+//!
+//! - [`Dnskey`] is a key of a zone (RFC 4034, section 2), with its flags and its key tag (RFC 4034, appendix B).
+//! - [`Ds`] is the digest by which a parent zone names such a key (RFC 4034, section 5).
+//!
+//! The crates above may rely on this: data has at most 65,535 octets, by invariant, and is three numbers and octets in clauses, whatever holds the octets. Its octets, what
+//! reads them, its tokens and its pieces are grammars (`specs/Data.antt`, `specs/Text.antt`, `specs/Pieces.antt`); both orders are the lexicographic one of the octets, equality and `Hash` agree
+//! with them, and none takes memory.
+#![tactic(auto)]
+
+mod dnskey;
+mod dnskey_text;
+mod ds;
+mod ds_text;
+mod entry;
+mod fields;
+mod flags;
+mod key_tag;
+mod text;
+mod timestamp;
+
+pub use dnskey::Dnskey;
+pub use ds::Ds;
+pub use timestamp::{IllegalSignatureTime, Timestamp};
