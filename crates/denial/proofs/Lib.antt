@@ -1,4 +1,5 @@
 pub mod LineLemmas
+pub mod WordLemmas
 pub mod LineSteps
 pub mod Reading
 pub mod RunLemmas

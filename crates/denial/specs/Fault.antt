@@ -1,4 +1,6 @@
 -- When each fault comes.
+use Rattle.std.specs.Prelude.{◌≡◌, ℕ, List, [], Option, Some, IfSome}
+use Rattle.denial.specs.Run.{AsksForNothing, AsksForChain}
 use Rattle.denial.specs.declared.fault.DenialFault.{DenialFault}
 use Rattle.denial.specs.declared.fault.DenialFault.TheVariants.{Usage, Read, Line, MixedClasses, Signing, Write, OutOfMemory}
 
@@ -11,6 +13,40 @@ IsReadingFault MixedClasses = ⊥
 IsReadingFault (Signing e) = ⊥
 IsReadingFault Write = ⊥
 IsReadingFault OutOfMemory = Unit {0}
+
+-- a fault that comes only once all of the input has been read; want of memory may come at any time
+abbrev pub IsAfterInput : DenialFault → Type 0
+IsAfterInput Usage = ⊥
+IsAfterInput Read = ⊥
+IsAfterInput (Line n) = Unit {0}
+IsAfterInput MixedClasses = Unit {0}
+IsAfterInput (Signing e) = Unit {0}
+IsAfterInput Write = Unit {0}
+IsAfterInput OutOfMemory = ⊥
+
+-- where the octets of the input are known, none is left
+abbrev pub IsReadToEnd : Option (List ℕ) → Option (List ℕ) → Type 0
+IsReadToEnd old new = IfSome old (λ octets. new ≡ Some [])
+
+-- a fault of usage says that the words ask for nothing; any other but want of memory, that they ask for a chain
+abbrev pub TellsUsage : List (List ℕ) → DenialFault → Type 0
+TellsUsage words Usage = AsksForNothing words
+TellsUsage words Read = AsksForChain words
+TellsUsage words (Line n) = AsksForChain words
+TellsUsage words MixedClasses = AsksForChain words
+TellsUsage words (Signing e) = AsksForChain words
+TellsUsage words Write = AsksForChain words
+TellsUsage words OutOfMemory = Unit {0}
+
+-- the exit status of the program
+abbrev pub exit_status : DenialFault → ℕ
+exit_status Usage = 2
+exit_status Read = 1
+exit_status (Line n) = 1
+exit_status MixedClasses = 1
+exit_status (Signing e) = 1
+exit_status Write = 1
+exit_status OutOfMemory = 1
 
 -- a fault that comes before anything is written; want of memory may also come while writing
 abbrev pub IsBeforeOutput : DenialFault → Type 0

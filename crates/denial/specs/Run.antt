@@ -1,6 +1,5 @@
 -- The chain of the records that were read, in whatever order they came.
-use Rattle.std.specs.Prelude.{◌≡◌, ℕ, List, [], ◌∷◌, codes, map, true, Vec}
-use Rattle.std.specs.Global.{Global}
+use Rattle.std.specs.Prelude.{◌≡◌, ℕ, List, [], ◌∷◌, codes, map, true}
 use Rattle.domain_base.specs.Text.{NameText}
 use Rattle.domain_plain.specs.Record.{record_cmp}
 use Rattle.domain_plain.specs.declared.record.Record.{Record}
@@ -12,7 +11,7 @@ use Rattle.domain_records.specs.declared.error.SigningError.{SigningError}
 use Rattle.domain_dnssec.specs.Names.{Name}
 use Rattle.domain_dnssec.specs.Chain.{Link, IsChain, IsFirstFault}
 use Rattle.domain_dnssec.specs.View.{as_zone_record}
-use Rattle.denial.specs.Listing.{Give}
+use Rattle.denial.specs.Listing.{Give, ProgramRecord}
 use Rattle.denial.specs.declared.fault.DenialFault.{DenialFault}
 use Rattle.denial.specs.declared.fault.DenialFault.TheVariants.{Usage, Read, Line, MixedClasses, Signing, Write, OutOfMemory}
 
@@ -21,6 +20,14 @@ pub record AsksForNsec (words : List (List ℕ)) (apex : Name) : Type 0 where
   pub word : List ℕ
   pub are : words ≡ codes "nsec" ∷ word ∷ []
   pub names : NameText word apex
+
+-- the words ask for no chain
+abbrev pub AsksForNothing : List (List ℕ) → Type 0
+AsksForNothing words = (apex : Name) → AsksForNsec words apex → ⊥
+
+-- the words ask for a chain
+abbrev pub AsksForChain : List (List ℕ) → Type 0
+AsksForChain words = (apex : Name) × AsksForNsec words apex
 
 module _ {O N : Type 0} (octets : O → List ℕ) (labels : N → Name) where
   -- sorted is the sorted set of the records that were read
@@ -56,10 +63,6 @@ module _ {O N : Type 0} (octets : O → List ℕ) (labels : N → Name) where
   HasNoChain given apex (Signing e) = IsFaultOf given apex e
   HasNoChain given apex Write = ⊥
   HasNoChain given apex OutOfMemory = Unit {0}
-
--- the program's records: their octets are held in vectors, and their names are seen as labels
-abbrev pub ProgramRecord : Type 0
-ProgramRecord = Record Name (ZoneRecordData (Vec ℕ Global) Name)
 
 -- the words ask for the NSEC chain of the zone with this apex, and the lines give these records, and these links are their chain
 pub record Answers (words lines : List (List ℕ)) (links : List Link) : Type 0 where

@@ -1,11 +1,27 @@
 -- What was read of a line.
 use Rattle.std.specs.Prelude.{ℕ, List}
-use Rattle.denial.specs.Words.{words, IsSkipped}
-use Rattle.denial.specs.Listing.{IsRecord}
+use Rattle.domain_base.specs.declared.error.ScanError.{ScanError}
+use Rattle.domain_base.specs.declared.error.ScanError.TheVariants as scan_error
+use Rattle.denial.specs.Words.{words, IsSkipped, LineText}
+use Rattle.denial.specs.Listing.{IsRecord, IsBad, ProgramRecord}
 use Rattle.denial.specs.declared.line.Line.{Line}
 use Rattle.denial.specs.declared.line.Line.TheVariants.{Nothing, Record, Bad}
+use Rattle.denial.specs.declared.line.LineError.{LineError}
+use Rattle.denial.specs.declared.line.LineError.TheVariants as line_error
 
 abbrev pub Says : List ℕ → Line → Type 0
 Says line Nothing = IsSkipped (words line)
 Says line (Record r) = IsRecord (λ n. n) line r
-Says line Bad = IsSkipped (words line) → ⊥
+Says line Bad = IsBad line
+
+-- why words are no record, where a token was refused
+abbrev pub line_error_of : ScanError → LineError
+line_error_of scan_error.EndOfEntry = line_error.Bad
+line_error_of (scan_error.Custom text) = line_error.Bad
+line_error_of scan_error.ShortBuf = line_error.Bad
+line_error_of scan_error.OutOfMemory = line_error.OutOfMemory
+
+-- the words spell no record, unless there was no memory to tell
+abbrev pub SpellsNone : List (List ℕ) → LineError → Type 0
+SpellsNone ws line_error.Bad = (r : ProgramRecord) → LineText (λ n. n) ws r → ⊥
+SpellsNone ws line_error.OutOfMemory = Unit {0}

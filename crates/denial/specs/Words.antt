@@ -1,5 +1,5 @@
 -- The words of a line, and what they say.
-use Rattle.std.specs.Prelude.{◌≡◌, ℕ, ◌||◌, ◌==◌, Bool, List, [], ◌∷◌, filter, length, nat_lt, slice_index}
+use Rattle.std.specs.Prelude.{◌≡◌, ℕ, ◌≤◌, ◌||◌, ◌==◌, Bool, List, [], ◌∷◌, All, filter, length, nat_lt, slice_index}
 use Rattle.std.specs.List.{slice_split}
 use Rattle.domain_base.specs.Text.{NameText}
 use Rattle.domain_base.specs.Scan.{IsNumber}
@@ -19,6 +19,13 @@ words line = filter (λ w. nat_lt 0 (length w)) (slice_split is_blank line)
 abbrev pub IsSkipped : List (List ℕ) → Type 0
 IsSkipped [] = Unit {0}
 IsSkipped (w ∷ ws) = slice_index w 0 ≡ 59
+
+-- no octet of the word is past `~`
+abbrev pub IsPlain : List ℕ → Type 0
+IsPlain word = All (λ octet. octet ≤ 126) word
+
+abbrev pub ArePlain : List (List ℕ) → Type 0
+ArePlain ws = All IsPlain ws
 
 -- the words spell a record: its owner, TTL, class, type and data (RFC 1035, section 5.1)
 pub record LineText {O N : Type 0} (labels : N → List (List ℕ)) (ws : List (List ℕ)) (r : Record N (ZoneRecordData O N)) : Type 0 where

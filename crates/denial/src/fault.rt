@@ -1,5 +1,6 @@
 //! Why a run stops.
 ghost use Rattle.std.specs.Prelude.{◌≡◌};
+ghost use Rattle.denial.specs.Fault.{exit_status};
 ghost use Rattle.denial.specs.declared.fault.DenialFault.TheVariants as denial_fault;
 
 use domain_octets::OutOfMemory;
@@ -28,7 +29,9 @@ pub enum DenialFault {
 
 impl DenialFault {
     /// The exit status of the program: 2 for `Usage`, else 1.
-    pub fn status(&self) -> u8 {
+    pub fn status(&self) -> u8
+        ensures { result ≡ exit_status self.now }
+    {
         match self {
             DenialFault::Usage => 2,
             _ => 1,

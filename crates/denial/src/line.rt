@@ -1,8 +1,8 @@
 //! What a line of the input says.
-ghost use Rattle.std.specs.Prelude.{◌≡◌, ◌↔◌, IsTrue, IfOk, IfSome, map};
-ghost use Rattle.domain_base.specs.Scan.{TakesToken};
-ghost use Rattle.denial.specs.Words.{words, IsSkipped, LineText};
-ghost use Rattle.denial.specs.Said.{Says};
+ghost use Rattle.std.specs.Prelude.{◌≡◌, ◌↔◌, IsTrue, IfErr, IfOk, IfSome, IfNone, None, map};
+ghost use Rattle.domain_base.specs.Scan.{ScanFault, TakesToken, RefusesToken};
+ghost use Rattle.denial.specs.Words.{words, IsSkipped, IsPlain, ArePlain, LineText};
+ghost use Rattle.denial.specs.Said.{Says, SpellsNone, line_error_of};
 
 use domain_base::{Class, FromToken, IterScanner, Name, Rtype, ScanError, Scanner, Ttl};
 use domain_octets::OutOfMemory;
@@ -49,16 +49,26 @@ fn is_skipped(words: &[&[u8]]) -> bool
     }
 }
 
+/// A word as text, where none of its octets is past `~`.
+fn token_of(word: &[u8]) -> Option<&str>
+    ensures some { IfSome result (λ token. (token.now ≡ word.now) × IsPlain word.now) }
+    ensures none { IfNone result (IsPlain word.now → ⊥) }
+{
+    if !word.iter().all(|octet| *octet <= b'~') {
+        return None;
+    }
+    str::from_utf8(word).ok()
+}
+
 /// The words as text, where none of their octets is past `~`.
 fn tokens_of<'a>(alloc: Global, words: &[&'a [u8]]) -> Result<Option<Vec<&'a str>>, AllocError>
-    ensures { IfOk result (λ o. IfSome o (λ v. map (λ t. t.now) v.items ≡ map (λ w. w.now) words.now)) }
+    ensures same { IfOk result (λ o. IfSome o (λ v. map (λ t. t.now) v.items ≡ map (λ w. w.now) words.now)) }
+    ensures plain { IfOk result (λ o. IfSome o (λ _. ArePlain (map (λ w. w.now) words.now))) }
+    ensures none { IfOk result (λ o. IfNone o (ArePlain (map (λ w. w.now) words.now) → ⊥)) }
 {
     let mut tokens = Vec::new(alloc);
     for word in words {
-        if word.iter().any(|octet| *octet > b'~') {
-            return Ok(None);
-        }
-        let Ok(token) = str::from_utf8(word) else {
+        let Some(token) = token_of(word) else {
             return Ok(None);
         };
         tokens.push(token)?;
@@ -76,6 +86,8 @@ enum LineError {
 }
 
 impl From<ScanError> for LineError {
+    ghost from_gives = { λ error made. made ≡ line_error_of error };
+
     fn from(error: ScanError) -> LineError {
         match error {
             ScanError::OutOfMemory => LineError::OutOfMemory,
@@ -86,7 +98,8 @@ impl From<ScanError> for LineError {
 
 /// The value that the next token spells.
 fn field<F: FromToken, S: Scanner>(scanner: &mut S) -> Result<F, LineError>
-    ensures { IfOk result (λ v. TakesToken (λ token. F.spells token v) (S.tokens scanner.old) (S.tokens scanner.new)) }
+    ensures ok { IfOk result (λ v. TakesToken (λ token. F.spells token v) (S.tokens scanner.old) (S.tokens scanner.new)) }
+    ensures err { IfErr result (λ _. (fault : ScanFault) × RefusesToken F.refuses (S.tokens scanner.old) (S.tokens scanner.new) fault) }
 {
     match F::scan(scanner) {
         Ok(value) => Ok(value),
@@ -99,7 +112,8 @@ fn scan_record<S: Scanner<Name = ZoneName>>(
     alloc: Global,
     scanner: &mut S,
 ) -> Result<ZoneRr, LineError>
-    ensures { IfOk result (LineText (λ n. n) (S.tokens scanner.old)) }
+    ensures ok { IfOk result (LineText (λ n. n) (S.tokens scanner.old)) }
+    ensures err { IfErr result (λ e. S.Octets.Builder.limit ≡ None → SpellsNone (S.tokens scanner.old) e) }
 {
     let owner = scanner.scan_name(alloc)?;
     let ttl = field::<Ttl, S>(scanner)?;
@@ -114,7 +128,8 @@ fn scan_record<S: Scanner<Name = ZoneName>>(
 
 /// The record that words spell.
 fn record_of<'a>(alloc: Global, words: &'a [&'a str]) -> Result<ZoneRr, LineError>
-    ensures { IfOk result (LineText (λ n. n) (map (λ w. w.now) words.now)) }
+    ensures ok { IfOk result (LineText (λ n. n) (map (λ w. w.now) words.now)) }
+    ensures err { IfErr result (SpellsNone (map (λ w. w.now) words.now)) }
 {
     let mut scanner = IterScanner::<Vec<u8>>::new(words);
     scan_record(alloc, &mut scanner)

@@ -1,16 +1,16 @@
 //! The run of the program, over any reader and any writer.
-ghost use Rattle.std.specs.Prelude.{◌≡◌, ◌≢◌, ◌⊎◌, ℕ, ◌-◌, List, [], ◌∷◌, ◌++◌, IfErr, IfOk, OnOk, IsErrOf, IfSome, map, length, slice_index, string_bytes};
+ghost use Rattle.std.specs.Prelude.{◌≡◌, ◌≢◌, ◌⊎◌, ℕ, ◌-◌, List, [], ◌∷◌, ◌++◌, IfErr, IfOk, MatchResult, OnOk, IsErrOf, IfSome, map, length, slice_index, string_bytes};
 ghost use Rattle.std.specs.Str.Lines.{lines, strip_carriage_return};
 ghost use Rattle.std.specs.Io.KnownBytes.{Appends};
-ghost use Rattle.domain_base.specs.Text.{NameText};
+ghost use Rattle.domain_base.specs.Text.{NameText, IsNoName};
 ghost use Rattle.domain_dnssec.specs.Chain.{Link};
 ghost use Rattle.domain_dnssec.specs.View.{as_link};
 ghost use Rattle.domain_records.specs.declared.error.SigningError.{SigningError};
-ghost use Rattle.denial.specs.Listing.{Give};
+ghost use Rattle.denial.specs.Listing.{Give, IsFirstBad};
 ghost use Rattle.denial.specs.Text.{listing};
-ghost use Rattle.denial.specs.Run.{IsChainOf, HasNoChain, Answers, Refuses};
+ghost use Rattle.denial.specs.Run.{AsksForNothing, IsChainOf, HasNoChain, Answers, Refuses};
 ghost use Rattle.denial.specs.Command.{Asks};
-ghost use Rattle.denial.specs.Fault.{IsBeforeOutput, IsReadingFault};
+ghost use Rattle.denial.specs.Fault.{IsAfterInput, IsBeforeOutput, IsReadingFault, IsReadToEnd, TellsUsage};
 ghost use Rattle.denial.specs.declared.fault.DenialFault.TheVariants.{OutOfMemory};
 
 use crate::fault::DenialFault;
@@ -34,7 +34,7 @@ pub enum Command {
 /// A name that a word spells.
 fn name_of(alloc: Global, word: &str) -> Result<ZoneName, DenialFault>
     ensures ok { IfOk result (NameText word.now) }
-    ensures err { IfErr result (λ e. (e ≡ DenialFault.Usage) ⊎ (e ≡ OutOfMemory)) }
+    ensures err { IfErr result (λ e. ((e ≡ DenialFault.Usage) × IsNoName word.now) ⊎ (e ≡ OutOfMemory)) }
 {
     match ZoneName::from_str(alloc, word) {
         Ok(name) => Ok(name),
@@ -46,7 +46,7 @@ fn name_of(alloc: Global, word: &str) -> Result<ZoneName, DenialFault>
 /// What the words after the program's name ask for.
 fn command_of(alloc: Global, words: &[String]) -> Result<Command, DenialFault>
     ensures ok { IfOk result (Asks (map string_bytes words.now)) }
-    ensures err { IfErr result (λ e. (e ≡ DenialFault.Usage) ⊎ (e ≡ OutOfMemory)) }
+    ensures err { IfErr result (λ e. ((e ≡ DenialFault.Usage) × AsksForNothing (map string_bytes words.now)) ⊎ (e ≡ OutOfMemory)) }
 {
     match words {
         [command, apex] if command.as_str() == "nsec" => {
@@ -81,7 +81,8 @@ fn without_end(line: &[u8]) -> &[u8]
 
 /// Reads to the end, and keeps nothing.
 fn skip_all<R: BufRead>(input: &mut R) -> Result<(), DenialFault>
-    ensures { IfErr result (λ e. (e ≡ DenialFault.Read) ⊎ (e ≡ OutOfMemory)) }
+    ensures ok { OnOk result (IsReadToEnd (R.remaining input.old) (R.remaining input.new)) }
+    ensures err { IfErr result (λ e. (e ≡ DenialFault.Read) ⊎ (e ≡ OutOfMemory)) }
 {
     for _ in 0..u64::MAX {
         let count = match input.skip_until(b'\n') {
@@ -100,6 +101,8 @@ fn skip_all<R: BufRead>(input: &mut R) -> Result<(), DenialFault>
 fn read_records<R: BufRead>(alloc: Global, input: &mut R) -> Result<Vec<ZoneRr>, DenialFault>
     ensures ok { IfOk result (λ v. IfSome (R.remaining input.old) (λ all. Give (λ n. n) (lines all) v.items)) }
     ensures err { IfErr result IsReadingFault }
+    ensures line { (n : ℕ) → IsErrOf result (DenialFault.Line n) → IfSome (R.remaining input.old) (λ all. IsFirstBad (lines all) n) }
+    ensures end { MatchResult result (λ _. IsReadToEnd (R.remaining input.old) (R.remaining input.new)) (λ e. IsAfterInput e → IsReadToEnd (R.remaining input.old) (R.remaining input.new)) }
 {
     let mut records = Vec::new(alloc);
     let mut line = Vec::new(alloc);
@@ -175,6 +178,15 @@ pub fn run_denial<R: BufRead, W: Write, H: Nsec3Hasher>(
     // The text of the chain of the records that the lines give, and nothing else.
     ensures ok { OnOk result (IfSome (R.remaining input.old) (λ bytes. (links : List Link) × Answers (map string_bytes words.now) (lines bytes) links
         × Appends (W.contents output.old) (W.contents output.new) (listing links))) }
+
+    // Usage is answered exactly where the words ask for no chain, want of memory aside.
+    ensures usage { IfErr result (TellsUsage (map string_bytes words.now)) }
+
+    // The lowest line that is neither skipped nor a record.
+    ensures line { (n : ℕ) → IsErrOf result (DenialFault.Line n) → IfSome (R.remaining input.old) (λ bytes. IsFirstBad (lines bytes) n) }
+
+    // All of the input has been read before any of these is told.
+    ensures end { MatchResult result (λ _. IsReadToEnd (R.remaining input.old) (R.remaining input.new)) (λ e. IsAfterInput e → IsReadToEnd (R.remaining input.old) (R.remaining input.new)) }
 
     // There is no such chain.
     ensures mixed { IsErrOf result DenialFault.MixedClasses → IfSome (R.remaining input.old) (λ bytes. Refuses (map string_bytes words.now) (lines bytes) DenialFault.MixedClasses) }
