@@ -1,3 +1,5 @@
 pub mod ZoneLemmas
 pub mod ScanLemmas
 pub mod NsecLemmas
+pub mod OctetsLemmas
+pub mod TextLemmas

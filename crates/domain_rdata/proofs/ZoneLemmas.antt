@@ -1,5 +1,5 @@
 -- unknown data compared with data of other kinds
-use Rattle.std.proofs.Common.{◌≡◌, ℕ, List, sym, ap, refl}
+use Rattle.std.proofs.Common.{◌≡◌, ℕ, List, sym, refl}
 use Rattle.std.specs.Ordering.{ordering_reverse, nat_cmp}
 use Rattle.std.specs.Cmp.Lexicographic.{slice_cmp, nat_list_cmp_total}
 use Rattle.domain_plain.specs.Layout.{octets_of, canonical_of}

@@ -5,3 +5,4 @@ pub mod Laws
 pub mod NsecText
 pub mod NsecConvert
 pub mod NsecWire
+pub mod DataText

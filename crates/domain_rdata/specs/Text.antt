@@ -1,15 +1,49 @@
 -- record data as tokens (RFC 1035, section 5.1)
-use Rattle.std.specs.Prelude.{◌≡◌, ℕ, List}
+use Rattle.std.specs.Prelude.{◌≡◌, ℕ, ◌==◌, ◌||◌, Bool, false, List, [], ◌∷◌}
+use Rattle.domain_plain.specs.Generic.{GenericText, generic_mark}
+use Rattle.domain_plain.specs.Layout.{Begins}
 use Rattle.domain_plain.specs.Plain.{a, a_values, ns, ns_values, soa, soa_values, mx, mx_values}
 use Rattle.domain_plain.specs.Scan.{Scans}
+use Rattle.domain_keys.specs.Data.{dnskey, dnskey_values, ds, ds_values}
+use Rattle.domain_keys.specs.Text.{DnskeyText, DsText}
+use Rattle.domain_rdata.specs.NsecText.{NsecText}
+use Rattle.domain_rdata.specs.NsecWire.{BeginsNsec}
+use Rattle.domain_rdata.specs.Rdata.{nsec_values}
 use Rattle.domain_rdata.specs.declared.zone_record_data.ZoneRecordData.{ZoneRecordData}
-use Rattle.domain_rdata.specs.declared.zone_record_data.ZoneRecordData.TheVariants.{A, Ns, Soa, Mx, Nsec, Unknown}
+use Rattle.domain_rdata.specs.declared.zone_record_data.ZoneRecordData.TheVariants.{A, Ns, Soa, Mx, Dnskey, Ds, Nsec, Unknown}
 
--- the tokens begin with the data of a type, and these are left
-abbrev pub RdataText : {O N : Type 0} → (N → List (List ℕ)) → ℕ → List (List ℕ) → ZoneRecordData O N → List (List ℕ) → Type 0
-RdataText labels rtype old (A d) new = (rtype ≡ 1) × Scans a old (a_values d) new
-RdataText labels rtype old (Ns d) new = (rtype ≡ 2) × Scans ns old (ns_values labels d) new
-RdataText labels rtype old (Soa d) new = (rtype ≡ 6) × Scans soa old (soa_values labels d) new
-RdataText labels rtype old (Mx d) new = (rtype ≡ 15) × Scans mx old (mx_values labels d) new
-RdataText labels rtype old (Nsec d) new = ⊥
-RdataText labels rtype old (Unknown d) new = ⊥
+-- the types whose data are not held as mere octets; those of RRSIG (46), NSEC3 (50) and NSEC3PARAM (51) cannot be held yet
+abbrev pub has_own_data : ℕ → Bool
+has_own_data rtype =
+    rtype == 1 || rtype == 2 || rtype == 6 || rtype == 15 || rtype == 43 || rtype == 46 || rtype == 47 || rtype == 48 || rtype == 50 || rtype == 51
+
+-- the tokens begin with the data in the text form of their type, and these are left
+abbrev pub OwnText : {O N : Type 0} → (N → List (List ℕ)) → ℕ → List (List ℕ) → ZoneRecordData O N → List (List ℕ) → Type 0
+OwnText labels rtype old (A d) new = (rtype ≡ 1) × Scans a old (a_values d) new
+OwnText labels rtype old (Ns d) new = (rtype ≡ 2) × Scans ns old (ns_values labels d) new
+OwnText labels rtype old (Soa d) new = (rtype ≡ 6) × Scans soa old (soa_values labels d) new
+OwnText labels rtype old (Mx d) new = (rtype ≡ 15) × Scans mx old (mx_values labels d) new
+OwnText labels rtype old (Dnskey d) new = (rtype ≡ 48) × DnskeyText old d × (new ≡ [])
+OwnText labels rtype old (Ds d) new = (rtype ≡ 43) × DsText old d × (new ≡ [])
+OwnText labels rtype old (Nsec d) new = (rtype ≡ 47) × NsecText old (labels d.next_name) d.types new
+OwnText labels rtype old (Unknown d) new = ⊥
+
+-- the octets are the data of a type
+abbrev pub AreData : {O N : Type 0} → (O → List ℕ) → (N → List (List ℕ)) → ℕ → List ℕ → ZoneRecordData O N → Type 0
+AreData octets labels rtype wire (A d) = (rtype ≡ 1) × Begins a wire (a_values d) []
+AreData octets labels rtype wire (Ns d) = (rtype ≡ 2) × Begins ns wire (ns_values labels d) []
+AreData octets labels rtype wire (Soa d) = (rtype ≡ 6) × Begins soa wire (soa_values labels d) []
+AreData octets labels rtype wire (Mx d) = (rtype ≡ 15) × Begins mx wire (mx_values labels d) []
+AreData octets labels rtype wire (Dnskey d) = (rtype ≡ 48) × Begins dnskey wire (dnskey_values d) []
+AreData octets labels rtype wire (Ds d) = (rtype ≡ 43) × Begins ds wire (ds_values d) []
+AreData octets labels rtype wire (Nsec d) = (rtype ≡ 47) × BeginsNsec wire (nsec_values labels d) []
+AreData octets labels rtype wire (Unknown d) = (has_own_data rtype ≡ false) × (d.rtype ≡ rtype) × (octets d.«data» ≡ wire)
+
+-- the tokens begin with the mark of the generic form (RFC 3597, section 5)
+abbrev pub IsGeneric : List (List ℕ) → Type 0
+IsGeneric tokens = (more : List (List ℕ)) × (tokens ≡ generic_mark ∷ more)
+
+-- the tokens begin with the data of a type, in the text form of that type or in the generic form, and these are left
+pub data RdataText {O N : Type 0} (octets : O → List ℕ) (labels : N → List (List ℕ)) (rtype : ℕ) (old : List (List ℕ)) (d : ZoneRecordData O N) (new : List (List ℕ)) : Type 0 where
+  own : (IsGeneric old → ⊥) → OwnText labels rtype old d new → RdataText octets labels rtype old d new
+  generic : (wire : List ℕ) → GenericText old wire → AreData octets labels rtype wire d → new ≡ [] → RdataText octets labels rtype old d new

@@ -6,9 +6,10 @@ use Rattle.std.specs.Cmp.{IsTotalOrder, on_total, then_total, nat_cmp_total}
 use Rattle.std.specs.Cmp.Lexicographic.{slice_cmp, on_texts}
 use Rattle.domain_plain.specs.Layout.{octets_of, canonical_of}
 use Rattle.domain_plain.specs.Plain.{a, a_values, ns, ns_values, soa, soa_values, mx, mx_values, unknown, unknown_values}
+use Rattle.domain_keys.specs.Data.{dnskey_octets, ds_octets}
 use Rattle.domain_rdata.specs.Rdata.{nsec, nsec_values}
 use Rattle.domain_rdata.specs.declared.zone_record_data.ZoneRecordData.{ZoneRecordData}
-use Rattle.domain_rdata.specs.declared.zone_record_data.ZoneRecordData.TheVariants.{A, Ns, Soa, Mx, Nsec, Unknown}
+use Rattle.domain_rdata.specs.declared.zone_record_data.ZoneRecordData.TheVariants.{A, Ns, Soa, Mx, Dnskey, Ds, Nsec, Unknown}
 
 -- the number of the data's type
 abbrev pub rtype_of : {O N : Type 0} → ZoneRecordData O N → ℕ
@@ -16,6 +17,8 @@ rtype_of (A d) = 1
 rtype_of (Ns d) = 2
 rtype_of (Soa d) = 6
 rtype_of (Mx d) = 15
+rtype_of (Dnskey d) = 48
+rtype_of (Ds d) = 43
 rtype_of (Nsec d) = 47
 rtype_of (Unknown d) = d.rtype
 
@@ -25,6 +28,8 @@ wire_octets octets labels (A d) = octets_of a (a_values d)
 wire_octets octets labels (Ns d) = octets_of ns (ns_values labels d)
 wire_octets octets labels (Soa d) = octets_of soa (soa_values labels d)
 wire_octets octets labels (Mx d) = octets_of mx (mx_values labels d)
+wire_octets octets labels (Dnskey d) = dnskey_octets d
+wire_octets octets labels (Ds d) = ds_octets d
 wire_octets octets labels (Nsec d) = octets_of nsec (nsec_values labels d)
 wire_octets octets labels (Unknown d) = octets_of unknown (unknown_values octets d)
 
@@ -34,6 +39,8 @@ canonical_octets octets labels (A d) = canonical_of a (a_values d)
 canonical_octets octets labels (Ns d) = canonical_of ns (ns_values labels d)
 canonical_octets octets labels (Soa d) = canonical_of soa (soa_values labels d)
 canonical_octets octets labels (Mx d) = canonical_of mx (mx_values labels d)
+canonical_octets octets labels (Dnskey d) = dnskey_octets d
+canonical_octets octets labels (Ds d) = ds_octets d
 canonical_octets octets labels (Nsec d) = canonical_of nsec (nsec_values labels d)
 canonical_octets octets labels (Unknown d) = canonical_of unknown (unknown_values octets d)
 

@@ -10,6 +10,6 @@ use domain_octets::Octets;
 /// Tokens begin with data of a type in one way at most: the octets of the data and the tokens that are left are determined
 /// (RFC 1035, section 5.1).
 pub fn data_is_spelled_once<O: Octets, N: ToName>()
-    ensures octets { (rtype : ℕ) (old m n : List (List ℕ)) (d e : ZoneRecordData O N) → RdataText N.labels rtype old d m → RdataText N.labels rtype old e n → wire_octets O.octets N.labels d ≡ wire_octets O.octets N.labels e }
-    ensures left { (rtype : ℕ) (old m n : List (List ℕ)) (d e : ZoneRecordData O N) → RdataText N.labels rtype old d m → RdataText N.labels rtype old e n → m ≡ n }
+    ensures octets { (rtype : ℕ) (old m n : List (List ℕ)) (d e : ZoneRecordData O N) → RdataText O.octets N.labels rtype old d m → RdataText O.octets N.labels rtype old e n → wire_octets O.octets N.labels d ≡ wire_octets O.octets N.labels e }
+    ensures left { (rtype : ℕ) (old m n : List (List ℕ)) (d e : ZoneRecordData O N) → RdataText O.octets N.labels rtype old d m → RdataText O.octets N.labels rtype old e n → m ≡ n }
 {}

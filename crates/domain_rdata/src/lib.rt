@@ -12,7 +12,9 @@ mod nsec_compare;
 mod nsec_convert;
 mod nsec_text;
 mod nsec_wire;
+mod zone_octets;
 mod zone_record_data;
+mod zone_text;
 
 pub use nsec::Nsec;
 pub use zone_record_data::ZoneRecordData;

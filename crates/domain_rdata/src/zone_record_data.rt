@@ -1,13 +1,13 @@
 //! Data of all types as one type.
-ghost use Rattle.std.specs.Prelude.{◌≡◌, IfOk};
+ghost use Rattle.std.specs.Prelude.{◌≡◌};
 ghost use Rattle.std.specs.Ordering.{nat_cmp};
 ghost use Rattle.std.specs.Cmp.Lexicographic.{slice_cmp};
 
 use crate::Nsec;
-use domain_base::{CanonicalOrd, Rtype, ScanError, Scanner, ToName};
+use domain_base::{CanonicalOrd, Rtype, ToName};
+use domain_keys::{Dnskey, Ds};
 use domain_octets::{AppendError, Octets, OctetsBuilder};
 use domain_plain::{A, ComposeRecordData, Mx, Ns, RecordData, Soa, UnknownRecordData};
-use std::alloc::Global;
 use std::cmp::Ordering;
 
 /// The data of a record in a zone.
@@ -21,6 +21,10 @@ pub enum ZoneRecordData<O: Octets, N> {
     Soa(Soa<N>),
     /// A mail exchange.
     Mx(Mx<N>),
+    /// A key of a zone.
+    Dnskey(Dnskey<O>),
+    /// The digest of a key of a child zone.
+    Ds(Ds<O>),
     /// The next name and the types at a name.
     Nsec(Nsec<O, N>),
     /// Data of any type, as octets.
@@ -38,6 +42,8 @@ impl<O: Octets, N: ToName> RecordData for ZoneRecordData<O, N> {
             ZoneRecordData::Ns(data) => data.rtype(),
             ZoneRecordData::Soa(data) => data.rtype(),
             ZoneRecordData::Mx(data) => data.rtype(),
+            ZoneRecordData::Dnskey(data) => data.rtype(),
+            ZoneRecordData::Ds(data) => data.rtype(),
             ZoneRecordData::Nsec(data) => data.rtype(),
             ZoneRecordData::Unknown(data) => data.rtype(),
         }
@@ -58,6 +64,8 @@ impl<O: Octets, N: ToName> ZoneRecordData<O, N> {
             (ZoneRecordData::Ns(a), ZoneRecordData::Ns(b)) => a.canonical_cmp(b),
             (ZoneRecordData::Soa(a), ZoneRecordData::Soa(b)) => a.canonical_cmp(b),
             (ZoneRecordData::Mx(a), ZoneRecordData::Mx(b)) => a.canonical_cmp(b),
+            (ZoneRecordData::Dnskey(a), ZoneRecordData::Dnskey(b)) => a.canonical_cmp(b),
+            (ZoneRecordData::Ds(a), ZoneRecordData::Ds(b)) => a.canonical_cmp(b),
             (ZoneRecordData::Nsec(a), ZoneRecordData::Nsec(b)) => a.canonical_cmp(b),
             (a, ZoneRecordData::Unknown(b)) => a.canonical_cmp_octets(b.data().as_slice()),
             (ZoneRecordData::Unknown(a), b) => {
@@ -81,6 +89,8 @@ impl<O: Octets, N: ToName> ComposeRecordData for ZoneRecordData<O, N> {
             ZoneRecordData::Ns(data) => data.fits_rdlen(),
             ZoneRecordData::Soa(data) => data.fits_rdlen(),
             ZoneRecordData::Mx(data) => data.fits_rdlen(),
+            ZoneRecordData::Dnskey(data) => data.fits_rdlen(),
+            ZoneRecordData::Ds(data) => data.fits_rdlen(),
             ZoneRecordData::Nsec(data) => data.fits_rdlen(),
             ZoneRecordData::Unknown(data) => data.fits_rdlen(),
         }
@@ -92,6 +102,8 @@ impl<O: Octets, N: ToName> ComposeRecordData for ZoneRecordData<O, N> {
             ZoneRecordData::Ns(data) => data.rdlen(compress),
             ZoneRecordData::Soa(data) => data.rdlen(compress),
             ZoneRecordData::Mx(data) => data.rdlen(compress),
+            ZoneRecordData::Dnskey(data) => data.rdlen(compress),
+            ZoneRecordData::Ds(data) => data.rdlen(compress),
             ZoneRecordData::Nsec(data) => data.rdlen(compress),
             ZoneRecordData::Unknown(data) => data.rdlen(compress),
         }
@@ -103,6 +115,8 @@ impl<O: Octets, N: ToName> ComposeRecordData for ZoneRecordData<O, N> {
             ZoneRecordData::Ns(data) => data.compose_rdata(target),
             ZoneRecordData::Soa(data) => data.compose_rdata(target),
             ZoneRecordData::Mx(data) => data.compose_rdata(target),
+            ZoneRecordData::Dnskey(data) => data.compose_rdata(target),
+            ZoneRecordData::Ds(data) => data.compose_rdata(target),
             ZoneRecordData::Nsec(data) => data.compose_rdata(target),
             ZoneRecordData::Unknown(data) => data.compose_rdata(target),
         }
@@ -114,6 +128,8 @@ impl<O: Octets, N: ToName> ComposeRecordData for ZoneRecordData<O, N> {
             ZoneRecordData::Ns(data) => data.compose_canonical_rdata(target),
             ZoneRecordData::Soa(data) => data.compose_canonical_rdata(target),
             ZoneRecordData::Mx(data) => data.compose_canonical_rdata(target),
+            ZoneRecordData::Dnskey(data) => data.compose_canonical_rdata(target),
+            ZoneRecordData::Ds(data) => data.compose_canonical_rdata(target),
             ZoneRecordData::Nsec(data) => data.compose_canonical_rdata(target),
             ZoneRecordData::Unknown(data) => data.compose_canonical_rdata(target),
         }
@@ -125,6 +141,8 @@ impl<O: Octets, N: ToName> ComposeRecordData for ZoneRecordData<O, N> {
             ZoneRecordData::Ns(data) => data.canonical_cmp_octets(other),
             ZoneRecordData::Soa(data) => data.canonical_cmp_octets(other),
             ZoneRecordData::Mx(data) => data.canonical_cmp_octets(other),
+            ZoneRecordData::Dnskey(data) => data.canonical_cmp_octets(other),
+            ZoneRecordData::Ds(data) => data.canonical_cmp_octets(other),
             ZoneRecordData::Nsec(data) => data.canonical_cmp_octets(other),
             ZoneRecordData::Unknown(data) => data.canonical_cmp_octets(other),
         }
@@ -144,60 +162,5 @@ impl<O: Octets, N: ToName> CanonicalOrd for ZoneRecordData<O, N> {
             Ordering::Equal => self.same_type_cmp(other),
             order => order,
         }
-    }
-}
-
-impl<O: Octets, N: ToName> ZoneRecordData<O, N> {
-    ghost use Rattle.std.specs.Prelude.{◌≢◌, ℕ, List, None, IfErr};
-    ghost use Rattle.domain_base.specs.Scan.{scan_fault_of, no_memory};
-    ghost use Rattle.domain_rdata.specs.declared.zone_record_data.ZoneRecordData.{ZoneRecordData};
-    ghost use Rattle.domain_rdata.specs.Text.{RdataText};
-
-    /// The data of a type that the tokens begin with, in the text form of that type.
-    ///
-    /// # Errors
-    ///
-    /// `EndOfEntry` and `Custom` as the first field that is refused says; `Custom("unknown record data")` for a type whose data has no text form here;
-    /// `ShortBuf` and `OutOfMemory` where the octets of a name have no room or no memory. A refusal leaves an end of the tokens.
-    #[tactic(auto, using(domain_plain::proofs::ScanLemmas::refused_spells_none))]
-    pub fn scan_rdata<S: Scanner<Name = N>>(
-        alloc: Global,
-        rtype: Rtype,
-        scanner: &mut S,
-    ) -> Result<Self, ScanError>
-    where
-        O: Drop,
-        N: Drop,
-        ensures ok { IfOk result (λ d. RdataText N.labels rtype (S.tokens scanner.old) d (S.tokens scanner.new)) }
-
-        // Over octets that grow, what is refused but for want of memory spells no data of the type.
-        ensures err { IfErr result (λ e. S.Octets.Builder.limit ≡ None → scan_fault_of e ≢ no_memory
-            → (d : ZoneRecordData O N) (after : List (List ℕ)) → RdataText N.labels rtype (S.tokens scanner.old) d after → ⊥) }
-    {
-        if rtype == Rtype::A {
-            return match A::scan(alloc, scanner) {
-                Ok(data) => Ok(ZoneRecordData::A(data)),
-                Err(error) => Err(error),
-            };
-        }
-        if rtype == Rtype::NS {
-            return match Ns::scan(alloc, scanner) {
-                Ok(data) => Ok(ZoneRecordData::Ns(data)),
-                Err(error) => Err(error),
-            };
-        }
-        if rtype == Rtype::SOA {
-            return match Soa::scan(alloc, scanner) {
-                Ok(data) => Ok(ZoneRecordData::Soa(data)),
-                Err(error) => Err(error),
-            };
-        }
-        if rtype == Rtype::MX {
-            return match Mx::scan(alloc, scanner) {
-                Ok(data) => Ok(ZoneRecordData::Mx(data)),
-                Err(error) => Err(error),
-            };
-        }
-        Err(ScanError::Custom("unknown record data"))
     }
 }

@@ -1,0 +1,238 @@
+//! Data of all types from the octets of their generic form.
+ghost use Rattle.std.specs.Prelude.{◌≡◌, ◌≢◌, ℕ, List, [], None, IfOk, IfErr};
+ghost use Rattle.domain_base.specs.Scan.{scan_fault_of, no_memory};
+ghost use Rattle.domain_plain.specs.Layout.{Values, Begins};
+ghost use Rattle.domain_plain.specs.Plain.{a, a_values, ns, ns_values, soa, soa_values, mx, mx_values};
+ghost use Rattle.domain_keys.specs.Data.{dnskey, dnskey_values, ds, ds_values};
+ghost use Rattle.domain_rdata.specs.NsecWire.{BeginsNsec};
+ghost use Rattle.domain_rdata.specs.Rdata.{nsec, nsec_values};
+ghost use Rattle.domain_rdata.specs.Text.{AreData, has_own_data};
+ghost use Rattle.domain_rdata.specs.declared.zone_record_data.ZoneRecordData.{ZoneRecordData};
+
+use crate::{Nsec, ZoneRecordData};
+use domain_base::{MakeName, Rtype, ScanError, ToName};
+use domain_bitmap::RtypeBitmap;
+use domain_keys::{Dnskey, Ds};
+use domain_octets::{EmptyBuilder, FromBuilder, Octets, OctetsBuilder, OutOfMemory, Parser};
+use domain_plain::{A, Mx, Ns, RecordData, Soa, UnknownRecordData};
+use std::alloc::Global;
+
+/// A name with the labels of another, in octets of its own.
+fn name_like<N: MakeName, M: ToName>(alloc: Global, name: &M) -> Result<N, OutOfMemory>
+    ensures { IfOk result (λ made. N.labels made ≡ M.labels name.now) }
+{
+    N::make(alloc, name.as_wire())
+}
+
+/// A copy of octets.
+fn octets_like<O: FromBuilder>(alloc: Global, octets: &[u8]) -> Result<O, ScanError>
+where
+    O::Builder: EmptyBuilder + Drop,
+    ensures ok { IfOk result (λ made. O.octets made ≡ octets.now) }
+    ensures err { IfErr result (λ e. O.Builder.limit ≡ None → scan_fault_of e ≡ no_memory) }
+{
+    let mut builder = O::Builder::empty(alloc);
+    builder.append_slice(octets)?;
+    Ok(O::from_builder(builder))
+}
+
+/// The address that octets are.
+#[tactic(auto, using(crate::proofs::OctetsLemmas::exact))]
+fn a_of(octets: &[u8]) -> Result<A, ScanError>
+    ensures ok { IfOk result (λ d. Begins a octets.now (a_values d) []) }
+    ensures err { IfErr result (λ _. (v : Values a) → Begins a octets.now v [] → ⊥) }
+{
+    let mut parser = Parser::new(octets);
+    let Ok(data) = A::parse(&mut parser) else {
+        return Err(ScanError::Custom("illegal data"));
+    };
+    if parser.remaining() > 0 {
+        return Err(ScanError::Custom("illegal data"));
+    }
+    Ok(data)
+}
+
+/// The name of a server that octets are.
+#[tactic(auto, using(crate::proofs::OctetsLemmas::exact))]
+fn ns_of<N: MakeName>(alloc: Global, octets: &[u8]) -> Result<Ns<N>, ScanError>
+    ensures ok { IfOk result (λ d. Begins ns octets.now (ns_values N.labels d) []) }
+    ensures err { IfErr result (λ e. scan_fault_of e ≢ no_memory → (v : Values ns) → Begins ns octets.now v [] → ⊥) }
+{
+    let mut parser = Parser::new(octets);
+    let Ok(data) = Ns::parse(&mut parser) else {
+        return Err(ScanError::Custom("illegal data"));
+    };
+    if parser.remaining() > 0 {
+        return Err(ScanError::Custom("illegal data"));
+    }
+    Ok(Ns::new(name_like(alloc, data.nsdname())?))
+}
+
+/// The start of a zone that octets are.
+#[tactic(auto, using(crate::proofs::OctetsLemmas::exact))]
+fn soa_of<N: MakeName + Drop>(alloc: Global, octets: &[u8]) -> Result<Soa<N>, ScanError>
+    ensures ok { IfOk result (λ d. Begins soa octets.now (soa_values N.labels d) []) }
+    ensures err { IfErr result (λ e. scan_fault_of e ≢ no_memory → (v : Values soa) → Begins soa octets.now v [] → ⊥) }
+{
+    let mut parser = Parser::new(octets);
+    let Ok(data) = Soa::parse(&mut parser) else {
+        return Err(ScanError::Custom("illegal data"));
+    };
+    if parser.remaining() > 0 {
+        return Err(ScanError::Custom("illegal data"));
+    }
+    let mname = name_like(alloc, data.mname())?;
+    let rname = name_like(alloc, data.rname())?;
+    Ok(Soa::new(
+        mname,
+        rname,
+        data.serial(),
+        data.refresh(),
+        data.retry(),
+        data.expire(),
+        data.minimum(),
+    ))
+}
+
+/// The mail exchange that octets are.
+#[tactic(auto, using(crate::proofs::OctetsLemmas::exact))]
+fn mx_of<N: MakeName>(alloc: Global, octets: &[u8]) -> Result<Mx<N>, ScanError>
+    ensures ok { IfOk result (λ d. Begins mx octets.now (mx_values N.labels d) []) }
+    ensures err { IfErr result (λ e. scan_fault_of e ≢ no_memory → (v : Values mx) → Begins mx octets.now v [] → ⊥) }
+{
+    let mut parser = Parser::new(octets);
+    let Ok(data) = Mx::parse(&mut parser) else {
+        return Err(ScanError::Custom("illegal data"));
+    };
+    if parser.remaining() > 0 {
+        return Err(ScanError::Custom("illegal data"));
+    }
+    Ok(Mx::new(data.preference(), name_like(alloc, data.exchange())?))
+}
+
+/// The key that octets are.
+#[tactic(auto, using(crate::proofs::OctetsLemmas::exact))]
+fn dnskey_of<O: FromBuilder + Drop>(alloc: Global, octets: &[u8]) -> Result<Dnskey<O>, ScanError>
+where
+    O::Builder: EmptyBuilder + Drop,
+    ensures ok { IfOk result (λ d. Begins dnskey octets.now (dnskey_values d) []) }
+    ensures err { IfErr result (λ e. O.Builder.limit ≡ None → scan_fault_of e ≢ no_memory → (v : Values dnskey) → Begins dnskey octets.now v [] → ⊥) }
+{
+    let mut parser = Parser::new(octets);
+    let Ok(data) = Dnskey::parse(&mut parser) else {
+        return Err(ScanError::Custom("illegal data"));
+    };
+    if parser.remaining() > 0 {
+        return Err(ScanError::Custom("illegal data"));
+    }
+    let key = octets_like(alloc, data.public_key())?;
+    let (flags, protocol, algorithm) = (data.flags(), data.protocol(), data.algorithm());
+    Ok(Dnskey::new_unchecked(flags, protocol, algorithm, key))
+}
+
+/// The digest of a key that octets are.
+#[tactic(auto, using(crate::proofs::OctetsLemmas::exact))]
+fn ds_of<O: FromBuilder + Drop>(alloc: Global, octets: &[u8]) -> Result<Ds<O>, ScanError>
+where
+    O::Builder: EmptyBuilder + Drop,
+    ensures ok { IfOk result (λ d. Begins ds octets.now (ds_values d) []) }
+    ensures err { IfErr result (λ e. O.Builder.limit ≡ None → scan_fault_of e ≢ no_memory → (v : Values ds) → Begins ds octets.now v [] → ⊥) }
+{
+    let mut parser = Parser::new(octets);
+    let Ok(data) = Ds::parse(&mut parser) else {
+        return Err(ScanError::Custom("illegal data"));
+    };
+    if parser.remaining() > 0 {
+        return Err(ScanError::Custom("illegal data"));
+    }
+    let digest = octets_like(alloc, data.digest())?;
+    let (tag, algorithm, kind) = (data.key_tag(), data.algorithm(), data.digest_type());
+    Ok(Ds::new_unchecked(tag, algorithm, kind, digest))
+}
+
+/// The next name and the types that octets are.
+fn nsec_of<O: FromBuilder + Drop, N: MakeName + Drop>(
+    alloc: Global,
+    octets: &[u8],
+) -> Result<Nsec<O, N>, ScanError>
+where
+    O::Builder: EmptyBuilder + Drop,
+    ensures ok { IfOk result (λ d. BeginsNsec octets.now (nsec_values N.labels d) []) }
+    ensures err { IfErr result (λ e. O.Builder.limit ≡ None → scan_fault_of e ≢ no_memory → (v : Values nsec) → BeginsNsec octets.now v [] → ⊥) }
+{
+    let mut parser = Parser::new(octets);
+    match Nsec::parse(&mut parser) {
+        Ok(data) => {
+            let next_name = name_like(alloc, data.next_name())?;
+            let types = octets_like(alloc, data.types().as_slice())?;
+            match RtypeBitmap::from_octets(types) {
+                Ok(types) => Ok(Nsec::new(next_name, types)),
+                Err(_) => Err(ScanError::Custom("illegal data")),
+            }
+        }
+        Err(_) => Err(ScanError::Custom("illegal data")),
+    }
+}
+
+impl<O: FromBuilder, N: ToName> ZoneRecordData<O, N>
+where
+    O::Builder: EmptyBuilder + Drop,
+{
+    /// The data that the octets of a generic form are.
+    pub(crate) fn from_generic(alloc: Global, data: UnknownRecordData<O>) -> Result<Self, ScanError>
+    where
+        O: Drop,
+        N: MakeName + Drop,
+        ensures ok { IfOk result (λ d. AreData O.octets N.labels «data».rtype (O.octets «data».«data») d) }
+        ensures err { IfErr result (λ e. O.Builder.limit ≡ None → scan_fault_of e ≢ no_memory
+            → (d : ZoneRecordData O N) → AreData O.octets N.labels «data».rtype (O.octets «data».«data») d → ⊥) }
+    {
+        let (rtype, octets) = (data.rtype(), data.data().as_slice());
+        if rtype == Rtype::A {
+            return match a_of(octets) {
+                Ok(data) => Ok(ZoneRecordData::A(data)),
+                Err(error) => Err(error),
+            };
+        }
+        if rtype == Rtype::NS {
+            return match ns_of(alloc, octets) {
+                Ok(data) => Ok(ZoneRecordData::Ns(data)),
+                Err(error) => Err(error),
+            };
+        }
+        if rtype == Rtype::SOA {
+            return match soa_of(alloc, octets) {
+                Ok(data) => Ok(ZoneRecordData::Soa(data)),
+                Err(error) => Err(error),
+            };
+        }
+        if rtype == Rtype::MX {
+            return match mx_of(alloc, octets) {
+                Ok(data) => Ok(ZoneRecordData::Mx(data)),
+                Err(error) => Err(error),
+            };
+        }
+        if rtype == Rtype::DNSKEY {
+            return match dnskey_of(alloc, octets) {
+                Ok(data) => Ok(ZoneRecordData::Dnskey(data)),
+                Err(error) => Err(error),
+            };
+        }
+        if rtype == Rtype::DS {
+            return match ds_of(alloc, octets) {
+                Ok(data) => Ok(ZoneRecordData::Ds(data)),
+                Err(error) => Err(error),
+            };
+        }
+        if rtype == Rtype::NSEC {
+            return match nsec_of(alloc, octets) {
+                Ok(data) => Ok(ZoneRecordData::Nsec(data)),
+                Err(error) => Err(error),
+            };
+        }
+        if rtype == Rtype::RRSIG || rtype == Rtype::NSEC3 || rtype == Rtype::NSEC3PARAM {
+            return Err(ScanError::Custom("unknown record data"));
+        }
+        Ok(ZoneRecordData::Unknown(data))
+    }
+}

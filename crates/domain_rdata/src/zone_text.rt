@@ -1,0 +1,136 @@
+//! Data of all types from tokens.
+ghost use Rattle.std.specs.Prelude.{◌≡◌, ◌≢◌, ◌↔◌, ℕ, List, None, IsTrue, IfOk, IfErr};
+ghost use Rattle.domain_base.specs.Scan.{scan_fault_of, no_memory};
+ghost use Rattle.domain_rdata.specs.DataText.{data_text};
+ghost use Rattle.domain_rdata.specs.Text.{RdataText, OwnText, IsGeneric};
+ghost use Rattle.domain_rdata.specs.declared.zone_record_data.ZoneRecordData.{ZoneRecordData};
+
+use crate::{Nsec, ZoneRecordData};
+use domain_base::{MakeName, Rtype, ScanError, Scanner, ToName};
+use domain_keys::{Dnskey, Ds};
+use domain_octets::{EmptyBuilder, FreezeBuilder, FromBuilder, Octets, Truncate};
+use domain_plain::{A, Mx, Ns, Soa, UnknownRecordData};
+use std::alloc::Global;
+use std::fmt;
+
+/// Whether the tokens begin with the mark of the generic form.
+fn is_generic<S: Scanner>(scanner: &S) -> bool
+    ensures { IsTrue result ↔ IsGeneric (S.tokens scanner.now) }
+{
+    match scanner.first_token() {
+        Some(token) => token == "\\#",
+        None => false,
+    }
+}
+
+impl<O: FromBuilder, N: ToName> ZoneRecordData<O, N>
+where
+    O::Builder: EmptyBuilder + Truncate + FreezeBuilder<Frozen = O> + Drop,
+{
+    /// The data of a type that the tokens begin with, in the text form of that type.
+    fn scan_own<S: Scanner<Name = N, Octets = O>>(
+        alloc: Global,
+        rtype: Rtype,
+        scanner: &mut S,
+    ) -> Result<Self, ScanError>
+    where
+        O: Drop,
+        N: Drop,
+        ensures ok { IfOk result (λ d. OwnText N.labels rtype (S.tokens scanner.old) d (S.tokens scanner.new)) }
+        ensures err { IfErr result (λ e. O.Builder.limit ≡ None → scan_fault_of e ≢ no_memory
+            → (d : ZoneRecordData O N) (after : List (List ℕ)) → OwnText N.labels rtype (S.tokens scanner.old) d after → ⊥) }
+    {
+        if rtype == Rtype::A {
+            return match A::scan(alloc, scanner) {
+                Ok(data) => Ok(ZoneRecordData::A(data)),
+                Err(error) => Err(error),
+            };
+        }
+        if rtype == Rtype::NS {
+            return match Ns::scan(alloc, scanner) {
+                Ok(data) => Ok(ZoneRecordData::Ns(data)),
+                Err(error) => Err(error),
+            };
+        }
+        if rtype == Rtype::SOA {
+            return match Soa::scan(alloc, scanner) {
+                Ok(data) => Ok(ZoneRecordData::Soa(data)),
+                Err(error) => Err(error),
+            };
+        }
+        if rtype == Rtype::MX {
+            return match Mx::scan(alloc, scanner) {
+                Ok(data) => Ok(ZoneRecordData::Mx(data)),
+                Err(error) => Err(error),
+            };
+        }
+        if rtype == Rtype::DNSKEY {
+            return match Dnskey::scan(alloc, scanner) {
+                Ok(data) => Ok(ZoneRecordData::Dnskey(data)),
+                Err(error) => Err(error),
+            };
+        }
+        if rtype == Rtype::DS {
+            return match Ds::scan(alloc, scanner) {
+                Ok(data) => Ok(ZoneRecordData::Ds(data)),
+                Err(error) => Err(error),
+            };
+        }
+        if rtype == Rtype::NSEC {
+            return match Nsec::scan(alloc, scanner) {
+                Ok(data) => Ok(ZoneRecordData::Nsec(data)),
+                Err(error) => Err(error),
+            };
+        }
+        Err(ScanError::Custom("unknown record data"))
+    }
+
+    /// The data of a type that the tokens begin with: in the text form of that type, or, where the first token is `\#`, in the generic form of any type
+    /// (RFC 3597, section 5), whose octets must be exactly data of the type. Data of types that have no variant of their own are held as octets.
+    ///
+    /// # Errors
+    ///
+    /// `EndOfEntry` and `Custom` as the first field that is refused says; `Custom("unknown record data")` for a type whose data has no text form of its own, and
+    /// `Custom("illegal data")` for octets in generic form that are no data of the type; `ShortBuf` and `OutOfMemory` where the octets of a name or of data have no room
+    /// or no memory. A refusal leaves an end of the tokens.
+    pub fn scan_rdata<S: Scanner<Name = N, Octets = O>>(
+        alloc: Global,
+        rtype: Rtype,
+        scanner: &mut S,
+    ) -> Result<Self, ScanError>
+    where
+        O: Drop,
+        N: MakeName + Drop,
+        ensures ok { IfOk result (λ d. RdataText O.octets N.labels rtype (S.tokens scanner.old) d (S.tokens scanner.new)) }
+
+        // Over octets that grow, what is refused but for want of memory spells no data of the type.
+        ensures err { IfErr result (λ e. O.Builder.limit ≡ None → scan_fault_of e ≢ no_memory
+            → (d : ZoneRecordData O N) (after : List (List ℕ)) → RdataText O.octets N.labels rtype (S.tokens scanner.old) d after → ⊥) }
+    {
+        if !is_generic(scanner) {
+            return Self::scan_own(alloc, rtype, scanner);
+        }
+        match UnknownRecordData::scan(alloc, rtype, scanner) {
+            Ok(data) => Self::from_generic(alloc, data),
+            Err(error) => Err(error),
+        }
+    }
+}
+
+/// The text form of the data's type; the generic form for data that are held as octets.
+impl<O: Octets, N: ToName> fmt::Display for ZoneRecordData<O, N> {
+    ghost output = { data_text O.octets N.labels };
+
+    fn fmt<W: fmt::Write>(&self, f: &mut fmt::Formatter<W>) -> fmt::Result {
+        match self {
+            ZoneRecordData::A(data) => fmt::Display::fmt(data, f),
+            ZoneRecordData::Ns(data) => fmt::Display::fmt(data, f),
+            ZoneRecordData::Soa(data) => fmt::Display::fmt(data, f),
+            ZoneRecordData::Mx(data) => fmt::Display::fmt(data, f),
+            ZoneRecordData::Dnskey(data) => fmt::Display::fmt(data, f),
+            ZoneRecordData::Ds(data) => fmt::Display::fmt(data, f),
+            ZoneRecordData::Nsec(data) => fmt::Display::fmt(data, f),
+            ZoneRecordData::Unknown(data) => fmt::Display::fmt(data, f),
+        }
+    }
+}
