@@ -11,6 +11,7 @@ mod hasher;
 pub mod laws;
 mod names;
 mod nsec;
+pub mod reference;
 #[cfg(test)]
 mod tests;
 
