@@ -169,10 +169,8 @@ where
     let at_cut = is_zone_cut(records, apex, name);
     let mut types = common_types::<O::Builder>(alloc, assumed)?;
     for candidate in records {
-        if is_same(candidate.owner(), name) {
-            if is_of_parent(at_cut, candidate.rtype()) {
-                add_type(&mut types, candidate.rtype())?;
-            }
+        if is_same(candidate.owner(), name) && is_of_parent(at_cut, candidate.rtype()) {
+            add_type(&mut types, candidate.rtype())?;
         }
     }
     Ok(types.finalize())

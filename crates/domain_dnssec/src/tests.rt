@@ -130,6 +130,19 @@ fn makes_chains(rt: HostRuntime) {
     }
 }
 
+// For `rt try --test --fail-alloc N`: want of memory, or the chain.
+#[test]
+fn short_of_memory(rt: HostRuntime) {
+    let lines = "a. 3600 SOA b. c. 1 2 3 4 1800\nsome_a.a. 300 A 192.0.2.1";
+    let expected =
+        "a. 1800 IN NSEC some_a.a. SOA RRSIG NSEC\nsome_a.a. 1800 IN NSEC a. A RRSIG NSEC\n";
+    match chain(rt.alloc(), "a.", lines) {
+        None => {}
+        Some(Ok(text)) => assert!(rt; text.as_str() == expected),
+        Some(Err(error)) => assert!(rt; error == SigningError::OutOfMemory),
+    }
+}
+
 // Zones that have none. Unequal TTLs below a delegation, or of RRSIG records, are no fault.
 #[test]
 fn tells_faults(rt: HostRuntime) {

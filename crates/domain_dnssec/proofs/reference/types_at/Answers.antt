@@ -6,7 +6,7 @@ use Rattle.domain_dnssec.specs.Names.{same}
 use Rattle.domain_dnssec.specs.Zone.{is_of_parent, is_listed, records_of}
 use Rattle.domain_dnssec.proofs.ReferenceLemmas.{rest_kept, rest_dropped}
 use Rattle.domain_dnssec.proofs.TypeLemmas.{Lists, list_start, list_not, list_more, list_end}
-use Rattle.domain_dnssec.proofs.reference.types_at.Goals.{then-is_same+then-is_of_parent+in_ok-add_type, then-is_same+else-is_of_parent, else-is_same}
+use Rattle.domain_dnssec.proofs.reference.types_at.Goals.{then-is_same+then-is_of_parent+in_ok-add_type, else-is_same, else-is_same-via-then-is_same+else-is_of_parent, else-is_same-via-else-is_same}
 use Rattle.domain_dnssec.specs.View.{as_zone_record}
 use Rattle.domain_dnssec.proofs.reference.types_at.Goals as goal
 
@@ -35,18 +35,19 @@ loop-candidate-preserved g c =
           (list_more assumed cut (records_of (map see xs) n) (see x) (records_of (map see (drop (i + 1) xs)) n) c.loop-candidate.types here w.add_type.new.types
           (subst (λ t. is_of_parent cut t ≡ true) w.rtype.ensures (sym w.is_of_parent.ensures ∙ w.if-is_of_parent.true))
           (subst (λ k. (t : ℕ) → t < 65536 → holds w.add_type.new.types t ≡ (nat_eq t k || holds c.loop-candidate.types t)) w.rtype-then-is_of_parent.ensures w.in_ok-add_type.ensures))
-      | then-is_same+else-is_of_parent w ↦
-          let here = subst (λ rs. Lists assumed cut (records_of (map see xs) n) rs c.loop-candidate.types)
-          (rest_kept see (λ r. same r.owner n) xs i x c.loop-candidate-test.true (sym c.candidate-item.is) (sym test ∙ w.if-is_same.true)) c.loop-candidate.invariant in
+      | else-is_same w ↦
           let same_types : c.loop-candidate.types ≡ c.if-is_same.types = cc in
           subst (Lists assumed cut (records_of (map see xs) n) (records_of (map see (drop (i + 1) xs)) n)) same_types
-          (list_not assumed cut (records_of (map see xs) n) (see x) (records_of (map see (drop (i + 1) xs)) n) c.loop-candidate.types here
-          (subst (λ t. is_of_parent cut t ≡ false) w.rtype.ensures (sym w.is_of_parent.ensures ∙ w.if-is_of_parent.false)))
-      | else-is_same w ↦
-          let here = subst (λ rs. Lists assumed cut (records_of (map see xs) n) rs c.loop-candidate.types)
-          (rest_dropped see (λ r. same r.owner n) xs i x c.loop-candidate-test.true (sym c.candidate-item.is) (sym test ∙ w.if-is_same.false)) c.loop-candidate.invariant in
-          let same_types : c.loop-candidate.types ≡ c.if-is_same.types = cc in
-          subst (Lists assumed cut (records_of (map see xs) n) (records_of (map see (drop (i + 1) xs)) n)) same_types here
+          (elim w.else-is_same.branch [
+            | else-is_same-via-then-is_same+else-is_of_parent v ↦
+                let here = subst (λ rs. Lists assumed cut (records_of (map see xs) n) rs c.loop-candidate.types)
+                (rest_kept see (λ r. same r.owner n) xs i x c.loop-candidate-test.true (sym c.candidate-item.is) (sym test ∙ v.if-is_same.true)) c.loop-candidate.invariant in
+                list_not assumed cut (records_of (map see xs) n) (see x) (records_of (map see (drop (i + 1) xs)) n) c.loop-candidate.types here
+                (subst (λ t. is_of_parent cut t ≡ false) v.rtype.ensures (sym v.is_of_parent.ensures ∙ v.if-is_of_parent.false))
+            | else-is_same-via-else-is_same v ↦
+                subst (λ rs. Lists assumed cut (records_of (map see xs) n) rs c.loop-candidate.types)
+                (rest_dropped see (λ r. same r.owner n) xs i x c.loop-candidate-test.true (sym c.candidate-item.is) (sym test ∙ v.if-is_same.false)) c.loop-candidate.invariant
+          ])
     ]
 
 pub returns : goal.returns
