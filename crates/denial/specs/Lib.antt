@@ -1,4 +1,5 @@
 pub mod Fault
+pub mod FaultText
 pub mod Words
 pub mod Listing
 pub mod Said

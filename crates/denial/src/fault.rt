@@ -1,5 +1,5 @@
 //! Why a run stops.
-ghost use Rattle.std.specs.Prelude.{◌≡◌};
+ghost use Rattle.std.specs.Prelude.{◌≡◌, Some};
 ghost use Rattle.denial.specs.Fault.{exit_status};
 ghost use Rattle.denial.specs.declared.fault.DenialFault.TheVariants as denial_fault;
 
@@ -39,43 +39,61 @@ impl DenialFault {
     }
 }
 
-/// What the program says of a hash that is of no use.
-fn hash_text(error: &Nsec3HashError) -> &'static str {
-    match error {
-        Nsec3HashError::OwnerHashError => "hash of unusable length",
-        Nsec3HashError::Nsec3NameTooLong => "hashed owner name too long",
-        Nsec3HashError::CollisionDetected => "hash collision",
-        Nsec3HashError::OutOfMemory => "out of memory",
-        Nsec3HashError::AppendError => "signing fault",
-        Nsec3HashError::Hasher(_) => "hasher refused",
+/// What the program says of hashes that could not be used.
+#[derive(Clone, Copy)]
+struct HashText(Nsec3HashError);
+
+impl fmt::Display for HashText {
+    ghost use Rattle.denial.specs.FaultText.{hash_text};
+
+    ghost output = { λ t. Some (hash_text t.0) };
+
+    fn fmt<W: fmt::Write>(&self, f: &mut fmt::Formatter<W>) -> fmt::Result {
+        match self.0 {
+            Nsec3HashError::Hasher(n) => write!(f, "hasher refused: {n}"),
+            Nsec3HashError::AppendError => f.write_str("signing fault"),
+            Nsec3HashError::OwnerHashError => f.write_str("hash of unusable length"),
+            Nsec3HashError::Nsec3NameTooLong => f.write_str("hashed owner name too long"),
+            Nsec3HashError::CollisionDetected => f.write_str("hash collision"),
+            Nsec3HashError::OutOfMemory => f.write_str("out of memory"),
+        }
     }
 }
 
 /// What the program says of a chain that could not be made.
-fn signing_text(error: &SigningError) -> &'static str {
-    match error {
-        SigningError::SoaRecordCouldNotBeDetermined => "no single SOA at the apex",
-        SigningError::MultipleTtlValues => "RRset with more than one TTL",
-        SigningError::Nsec3HashingError(error) => hash_text(error),
-        SigningError::OutOfMemory => "out of memory",
-        SigningError::EmptyRecordSlice => "signing fault",
+#[derive(Clone, Copy)]
+struct SigningText(SigningError);
+
+impl fmt::Display for SigningText {
+    ghost use Rattle.denial.specs.FaultText.{signing_text};
+
+    ghost output = { λ t. Some (signing_text t.0) };
+
+    fn fmt<W: fmt::Write>(&self, f: &mut fmt::Formatter<W>) -> fmt::Result {
+        match self.0 {
+            SigningError::EmptyRecordSlice => f.write_str("signing fault"),
+            SigningError::MultipleTtlValues => f.write_str("RRset with more than one TTL"),
+            SigningError::SoaRecordCouldNotBeDetermined => {
+                f.write_str("no single SOA at the apex")
+            }
+            SigningError::Nsec3HashingError(error) => write!(f, "{}", HashText(error)),
+            SigningError::OutOfMemory => f.write_str("out of memory"),
+        }
     }
 }
 
 impl fmt::Display for DenialFault {
+    ghost use Rattle.denial.specs.FaultText.{fault_text};
+
+    ghost output = { λ e. Some (fault_text e) };
+
     fn fmt<W: fmt::Write>(&self, f: &mut fmt::Formatter<W>) -> fmt::Result {
-        match self {
+        match *self {
             DenialFault::Usage => f.write_str(USAGE),
             DenialFault::Read => f.write_str("denial: cannot read input"),
             DenialFault::Line(number) => write!(f, "denial: line {number}: bad record"),
             DenialFault::MixedClasses => f.write_str("denial: more than one class"),
-            DenialFault::Signing(SigningError::Nsec3HashingError(Nsec3HashError::Hasher(n))) => {
-                write!(f, "denial: hasher refused: {n}")
-            }
-            DenialFault::Signing(error) => {
-                let text = signing_text(error);
-                write!(f, "denial: {text}")
-            }
+            DenialFault::Signing(error) => write!(f, "denial: {}", SigningText(error)),
             DenialFault::Write => f.write_str("denial: cannot write output"),
             DenialFault::OutOfMemory => f.write_str("denial: out of memory"),
         }

@@ -1,25 +1,24 @@
 -- Groups of records, as the walk sees them.
-use Rattle.std.proofs.Common.{◌≡◌, ◌≤◌, ◌<◌, ℕ, Bool, true, false, not, ◌&&◌, ◌↔◌, IsTrue, List, [], ◌∷◌, ◌++◌, map, length, get_or, refl, sym, ap, ◌∙◌, subst, inl, inr, nat_eq, arith}
-use Rattle.std.specs.Prelude.{Any, if◌then◌else◌}
+use Rattle.std.proofs.Common.{◌≡◌, ◌≤◌, ℕ, Bool, true, false, not, ◌&&◌, ◌↔◌, IsTrue, List, [], ◌∷◌, ◌++◌, map, refl, sym, ap, ◌∙◌, subst, inl, inr, nat_eq}
+use Rattle.std.specs.Prelude.{if◌then◌else◌}
 use Rattle.std.specs.declared.cmp.Ordering.{Ordering}
 use Rattle.std.specs.declared.cmp.Ordering.TheVariants.{Less, Equal, Greater}
 use Rattle.std.specs.Ordering.{is_lt, is_gt, ordering_reverse}
-use Rattle.std.specs.Cmp.{IsTotalOrder}
 use Rattle.std.specs.List.{list_any, AllByRecursion}
-use Rattle.std.proofs.lemmas.Bool.{cases_Bool, false≢true, true≢false, and_parts, not-true, eqb-true, eqb-false}
+use Rattle.std.proofs.lemmas.Bool.{cases_Bool, false≢true, and_parts, not-true, eqb-true}
 use Rattle.std.proofs.lemmas.List.{map-append}
 use Rattle.std.proofs.lemmas.List.Folds.{Any-from_list_any, list_any-from_Any}
-use Rattle.domain_base.specs.Name.{IsSame, same_name, lowered}
+use Rattle.domain_base.specs.Name.{IsSame}
 use Rattle.domain_base.specs.Laws.{same_name_same}
-use Rattle.domain_base.specs.Order.{canonical_cmp, canonical_cmp_total, IsUpTo}
+use Rattle.domain_base.specs.Order.{canonical_cmp, canonical_cmp_total}
 use Rattle.domain_plain.specs.declared.record.Record.{Record}
 use Rattle.domain_rdata.specs.Zone.{rtype_of}
 use Rattle.domain_rdata.specs.declared.zone_record_data.ZoneRecordData.{ZoneRecordData}
 use Rattle.domain_records.specs.Runs.{runs, add_to}
 use Rattle.domain_records.specs.Groups.{same_owner, HasFirst, IsZoneCut}
-use Rattle.domain_records.specs.Order.{MayFollow, HoldsPairwise, IsInOrder as IsListInOrder}
+use Rattle.domain_records.specs.Order.{MayFollow, IsInOrder as IsListInOrder}
 use Rattle.domain_dnssec.specs.Names.{Name, key, key_same, same, before}
-use Rattle.domain_dnssec.specs.Zone.{ZoneRecord, IsInOrder, BeginsElsewhere, IsGroup, has_type, NeverDescend}
+use Rattle.domain_dnssec.specs.Zone.{ZoneRecord, IsInOrder, BeginsElsewhere, has_type, NeverDescend}
 use Rattle.domain_dnssec.specs.View.{as_zone_record}
 use Rattle.domain_dnssec.proofs.NameLemmas.{one_key, same_itself, same_is_name, before_is}
 use Rattle.domain_dnssec.proofs.ZoneLemmas.{any_map}

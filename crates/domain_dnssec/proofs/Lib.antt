@@ -10,3 +10,4 @@ pub mod TtlLemmas
 pub mod StateLemmas
 pub mod GroupLemmas
 pub mod TypeLemmas
+pub mod ReferenceLemmas

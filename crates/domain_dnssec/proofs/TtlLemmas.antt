@@ -1,7 +1,7 @@
 -- Where types never descend, two records of one type differ in TTL exactly where two neighbours do.
-use Rattle.std.proofs.Common.{◌≡◌, ◌≤◌, ℕ, Bool, true, false, not, ◌&&◌, ◌||◌, List, [], ◌∷◌, refl, sym, ap, ◌∙◌, subst, inl, inr, arith, nat_eq}
+use Rattle.std.proofs.Common.{◌≡◌, ◌≤◌, ℕ, Bool, true, false, not, ◌&&◌, ◌||◌, List, [], ◌∷◌, refl, sym, ap, ◌∙◌, inl, inr, arith, nat_eq}
 use Rattle.std.specs.List.{list_any, AllByRecursion}
-use Rattle.std.proofs.lemmas.Bool.{cases_Bool, false≢true, true≢false, and_parts, or_parts, or_cases, eqb-true, eqb-false}
+use Rattle.std.proofs.lemmas.Bool.{cases_Bool, false≢true, and_parts, or_parts, or_cases, eqb-true, eqb-false}
 use Rattle.domain_dnssec.specs.Zone.{ZoneRecord, clashes, has_clash, has_neighbour_clash, NeverDescend}
 use Rattle.domain_dnssec.proofs.ZoneLemmas.{any_none, weaker}
 

@@ -2,6 +2,7 @@
 //!
 //! `generate_nsecs` walks once over the records of a zone, in canonical order, and gives exactly the defined chain, or the first fault that stands. The definitions stand in
 //! `specs/`: they filter the whole list of records and never follow the walk.
+//! `reference` makes the same chain by those filters, for comparison.
 //! The crates above may rely on this: exactly one record of the chain matches or covers each name of the zone that is not below a delegation; it matches
 //! exactly where the name owns records, and lists their types.
 #![tactic(auto)]
@@ -11,6 +12,7 @@ mod hasher;
 pub mod laws;
 mod names;
 mod nsec;
+pub mod reference;
 #[cfg(test)]
 mod tests;
 

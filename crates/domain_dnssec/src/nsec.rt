@@ -22,10 +22,10 @@ use domain_records::{RecordsIter, SigningError, SliceRefsOrOwnedIterator};
 use std::alloc::Global;
 
 /// A record of a zone.
-type ZoneRr<O, N> = Record<N, ZoneRecordData<O, N>>;
+pub(crate) type ZoneRr<O, N> = Record<N, ZoneRecordData<O, N>>;
 
 /// Whether the record is an SOA of the apex.
-fn is_soa_at<O: Octets, N: ToName>(apex: &N, candidate: &ZoneRr<O, N>) -> bool
+pub(crate) fn is_soa_at<O: Octets, N: ToName>(apex: &N, candidate: &ZoneRr<O, N>) -> bool
     ensures { result ≡ is_soa (N.labels apex.now) (as_zone_record N.labels candidate.now) }
 {
     candidate.rtype() == Rtype::SOA && is_same(candidate.owner(), apex)
@@ -55,7 +55,7 @@ fn find_soa<O: Octets, N: ToName>(
 }
 
 /// Whether two records of one type other than RRSIG differ in their TTLs.
-fn clash<O: Octets, N: ToName>(first: &ZoneRr<O, N>, second: &ZoneRr<O, N>) -> bool
+pub(crate) fn clash<O: Octets, N: ToName>(first: &ZoneRr<O, N>, second: &ZoneRr<O, N>) -> bool
     ensures { result ≡ clashes (as_zone_record N.labels first.now) (as_zone_record N.labels second.now) }
 {
     let rtype = first.rtype();
@@ -82,14 +82,14 @@ fn has_uneven_ttls<O: Octets, N: ToName>(
 }
 
 /// Whether the record of a type belongs to the zone: at a zone cut only those of NS and DS do.
-fn is_of_parent(at_cut: bool, rtype: Rtype) -> bool
+pub(crate) fn is_of_parent(at_cut: bool, rtype: Rtype) -> bool
     ensures { result ≡ is_of_parent at_cut rtype }
 {
     !at_cut || rtype == Rtype::NS || rtype == Rtype::DS
 }
 
 /// Adds a type to a set that grows.
-fn add_type<B: GrowingBuilder>(
+pub(crate) fn add_type<B: GrowingBuilder>(
     types: &mut RtypeBitmapBuilder<B>,
     rtype: Rtype,
 ) -> Result<(), OutOfMemory>
@@ -99,7 +99,7 @@ fn add_type<B: GrowingBuilder>(
 }
 
 /// The types that each NSEC record lists, and DNSKEY where it is assumed.
-fn common_types<B: GrowingBuilder + EmptyBuilder>(
+pub(crate) fn common_types<B: GrowingBuilder + EmptyBuilder>(
     alloc: Global,
     assumed: bool,
 ) -> Result<RtypeBitmapBuilder<B>, OutOfMemory>
@@ -138,7 +138,7 @@ where
 }
 
 /// Adds the NSEC record of a name to the chain. A refusal leaves the chain as it was.
-fn push_nsec<O: Octets, N: MakeName>(
+pub(crate) fn push_nsec<O: Octets, N: MakeName>(
     alloc: Global,
     nsecs: &mut Vec<Record<N, Nsec<O, N>>>,
     owner: &N,

@@ -1,5 +1,5 @@
 //! Chains of small zones, worked out by hand.
-use crate::{GenerateNsecConfig, generate_nsecs};
+use crate::{GenerateNsecConfig, generate_nsecs, reference};
 use domain_base::{CanonicalOrd, Class, FromToken, IterScanner, Name, Rtype, Scanner, Ttl};
 use domain_bitmap::RtypeBitmapBuilder;
 use domain_plain::{Record, UnknownRecordData};
@@ -130,6 +130,19 @@ fn makes_chains(rt: HostRuntime) {
     }
 }
 
+// For `rt try --test --fail-alloc N`: want of memory, or the chain.
+#[test]
+fn short_of_memory(rt: HostRuntime) {
+    let lines = "a. 3600 SOA b. c. 1 2 3 4 1800\nsome_a.a. 300 A 192.0.2.1";
+    let expected =
+        "a. 1800 IN NSEC some_a.a. SOA RRSIG NSEC\nsome_a.a. 1800 IN NSEC a. A RRSIG NSEC\n";
+    match chain(rt.alloc(), "a.", lines) {
+        None => {}
+        Some(Ok(text)) => assert!(rt; text.as_str() == expected),
+        Some(Err(error)) => assert!(rt; error == SigningError::OutOfMemory),
+    }
+}
+
 // Zones that have none. Unequal TTLs below a delegation, or of RRSIG records, are no fault.
 #[test]
 fn tells_faults(rt: HostRuntime) {
@@ -197,6 +210,66 @@ xx.example. 1800 IN NSEC example. A HINFO AAAA RRSIG NSEC
     assert!(rt;
         matches!(chain(rt.alloc(), "example.", lines), Some(Ok(text)) if text.as_str() == expected)
     );
+}
+
+/// Records of an apex, of a delegation with a name below it that is one too, and of names beside and outside the zone; some clash.
+const RECORDS: [&str; 10] = [
+    "a. 3600 SOA b. c. 1 2 3 4 1800",
+    "a. 60 SOA b. c. 2 2 3 4 900",
+    "a. 60 NS x.",
+    "b.a. 60 NS x.",
+    "B.a. 61 A 192.0.2.1",
+    "c.b.a. 60 A 192.0.2.1",
+    "c.b.a. 61 A 192.0.2.2",
+    "c.b.a. 60 NS y.",
+    "z.a. 60 RRSIG",
+    "z. 60 MX 1 b.a.",
+];
+
+/// Whether the walk and the definitions make one chain of the records that the number chooses, or tell one fault of them.
+fn agree(alloc: Global, chosen: u32) -> Option<bool> {
+    let mut lines = String::new(alloc);
+    let mut left = chosen;
+    for line in RECORDS {
+        if left % 2 == 1 {
+            let Ok(()) = writeln!(lines, "{line}") else {
+                return None;
+            };
+        }
+        left /= 2;
+    }
+    let Ok(apex) = ZoneName::from_str(alloc, "a.") else {
+        return None;
+    };
+    let records: SortedRecords<ZoneName, Data> = match SortedRecords::from_vec(zone(
+        alloc,
+        lines.as_str(),
+    )?) {
+        Ok(records) => records,
+        Err(_) => return None,
+    };
+    let groups = records.owner_rrs();
+    if !groups.is_one_class() {
+        return None;
+    }
+    let config = GenerateNsecConfig::new();
+    let walked = generate_nsecs(alloc, &apex, groups, &config);
+    match (
+        walked,
+        reference::nsec_chain(alloc, &apex, records.as_slice(), &config),
+    ) {
+        (Ok(walked), Ok(defined)) => Some(text_of(alloc, &walked)? == text_of(alloc, &defined)?),
+        (Err(walked), Err(defined)) => Some(walked == defined),
+        _ => Some(false),
+    }
+}
+
+// The zones of all choices.
+#[test]
+fn agrees_with_the_definitions(rt: HostRuntime) {
+    for chosen in 0..1024 {
+        assert!(rt; agree(rt.alloc(), chosen) == Some(true), "{chosen}");
+    }
 }
 
 /// NSEC data with this next name and the type A.

@@ -1,6 +1,3 @@
-use Rattle.std.proofs.Common.{ℕ, ◌<◌, ◌≡◌, Bool, [], subst, sym}
-use Rattle.domain_bitmap.specs.Builder.{holds}
-use Rattle.domain_dnssec.specs.Zone.{is_listed}
 use Rattle.domain_dnssec.proofs.TypeLemmas.{common_two, common_three}
 use Rattle.domain_dnssec.proofs.nsec.common_types.Goals as goal
 use Rattle.domain_dnssec.proofs.nsec.common_types.Goals.{then-assumed+in_ok-add_type-3, else-assumed}

@@ -1,4 +1,4 @@
-use Rattle.std.proofs.Common.{map, sym, ◌∙◌, subst, List}
+use Rattle.std.proofs.Common.{map, sym, ◌∙◌, subst}
 use Rattle.std.specs.Option.{option_map}
 use Rattle.domain_dnssec.specs.View.{as_zone_record}
 use Rattle.domain_dnssec.proofs.SoaLemmas.{IsScanned, scan_other, scan_soa, scan_second, some_of_map}

@@ -1,4 +1,4 @@
-use Rattle.std.proofs.Common.{◌≡◌, ◌∙◌, ◌++◌, sym, ap, map, subst, cond, not, ◌&&◌, true, false, Bool, [], ◌∷◌, Some, None, List, refl}
+use Rattle.std.proofs.Common.{◌≡◌, ◌∙◌, sym, ap, map, subst, cond, not, ◌&&◌, false, Bool, Some, None}
 use Rattle.std.specs.Option.{option_map}
 use Rattle.domain_bitmap.specs.Bitmap.{bitmap_octets}
 use Rattle.domain_rdata.specs.Zone.{rtype_of}

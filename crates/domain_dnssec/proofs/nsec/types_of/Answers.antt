@@ -1,5 +1,4 @@
 use Rattle.std.proofs.Common.{ℕ, ◌<◌, ◌≡◌, ◌||◌, true, false, nat_eq, map, sym, ◌∙◌, subst}
-use Rattle.domain_bitmap.specs.Bitmap.{bitmap_octets}
 use Rattle.domain_bitmap.specs.Builder.{holds}
 use Rattle.domain_dnssec.specs.Zone.{is_of_parent}
 use Rattle.domain_dnssec.specs.View.{as_zone_record}
