@@ -1,11 +1,12 @@
 -- what is read is determined by the octets
-use Rattle.std.proofs.Common.{◌≡◌, ℕ, true, List, [], ◌∷◌, ◌++◌, length, refl, sym, ap, ◌∙◌, arith, length-append, append_assoc, append-nil}
+use Rattle.std.proofs.Common.{◌≡◌, ◌≤◌, ℕ, true, List, [], ◌∷◌, ◌++◌, length, refl, sym, ap, ◌∙◌, arith, length-append, append_assoc, append-nil}
 use Rattle.std.specs.Prelude.{◌&&◌}
 use Rattle.std.specs.Cmp.{first_so, second_so}
 use Rattle.domain_base.specs.Fault.{Fault}
 use Rattle.domain_base.proofs.FaultLemmas.{no_name_fault}
 use Rattle.domain_plain.specs.Field.{Field, octet, short, long, name, spelled_name, counted, exactly, at_most, rest, Value, field_octets, FieldFits, FieldEnds, FieldFault, cut_octet, cut_short, cut_long, no_name, no_spelled_name, no_count, cut_counted, cut_exactly, too_long}
-use Rattle.domain_plain.specs.Layout.{Layout, one, ◌▸◌, Values, octets_of, Fits, Ends, Begins, is_delimited, splits, FirstFault, in_field, in_first, in_later}
+use Rattle.domain_plain.specs.Layout.{Layout, one, ◌▸◌, Values, octets_of, Fits, Ends, Begins, ParsesBack, is_delimited, splits, FirstFault, in_field, in_first, in_later}
+use Rattle.domain_plain.specs.Plain.{unknown}
 use Rattle.domain_plain.proofs.OrderLemmas.{Same, same_field, same_data}
 
 last_field : (f : Field) (v w : Value f) (r s : List ℕ) → FieldFits f v → FieldFits f w → FieldEnds f r → FieldEnds f s → field_octets f v ++ r ≡ field_octets f w ++ s → Same v w r s
@@ -70,6 +71,17 @@ fault_excludes l octets fault (in_later a b o w m d front h) sp v r begins =
     (sym (append_assoc (octets_of a v.0) (octets_of b v.1) r) ∙ sym begins.parts ∙ front.parts) in
     fault_excludes b m d h (second_so (is_delimited a) (splits b) sp) v.1 r (record { parts = sym same.after; fits = begins.fits.1; ends = begins.ends.1 })
 
--- composed data parse back
-pub begins_alone : (l : Layout) (v : Values l) → Fits l v → Ends l v [] → Begins l (octets_of l v) v []
+begins_alone : (l : Layout) (v : Values l) → Fits l v → Ends l v [] → Begins l (octets_of l v) v []
 begins_alone l v fits ends = record { parts = sym (append-nil (octets_of l v)); fits = fits; ends = ends }
+
+-- composed data parse back
+pub parses_back : (l : Layout) (v : Values l) → splits l ≡ true → Fits l v → Ends l v [] → ParsesBack l v
+parses_back l v split fits ends = record {
+  begins = begins_alone l v fits ends;
+  alone = λ w r read. one_reading l (octets_of l v) w v r [] split read (begins_alone l v fits ends);
+  no_fault = λ fault found. fault_excludes l (octets_of l v) fault found split v [] (begins_alone l v fits ends);
+}
+
+pub unknown_parses_back : (octets : List ℕ) → length octets ≤ 65535 → ParsesBack unknown (tt, octets)
+unfolding octets_of
+unknown_parses_back octets fits = parses_back unknown (tt, octets) refl (tt, tt) (omega (arith, length-append octets []), refl)

@@ -1,5 +1,5 @@
 -- data on the wire: fields in their order
-use Rattle.std.specs.Prelude.{◌≡◌, ℕ, ◌+◌, List, ◌++◌, length, Bool, true, false, ◌&&◌}
+use Rattle.std.specs.Prelude.{◌≡◌, ℕ, ◌+◌, List, [], ◌++◌, length, Bool, true, false, ◌&&◌}
 use Rattle.std.specs.declared.cmp.Ordering.{Ordering}
 use Rattle.std.specs.Ordering.{nat_cmp}
 use Rattle.std.specs.Cmp.Lexicographic.{slice_cmp}
@@ -41,6 +41,12 @@ pub data FirstFault : Layout → List ℕ → Fault → Type 0 where
   in_field : (f : Field) (octets : List ℕ) (fault : Fault) → FieldFault f octets fault → FirstFault (one f) octets fault
   in_first : (a b : Layout) (octets : List ℕ) (fault : Fault) → FirstFault a octets fault → FirstFault (a ▸ b) octets fault
   in_later : (a b : Layout) (octets : List ℕ) (values : Values a) (after : List ℕ) (fault : Fault) → Begins a octets values after → FirstFault b after fault → FirstFault (a ▸ b) octets fault
+
+-- the octets of these values are read as them, in no other way, and nothing is left
+pub record ParsesBack (l : Layout) (values : Values l) : Type 0 where
+  pub begins : Begins l (octets_of l values) values []
+  pub alone : (others : Values l) (after : List ℕ) → Begins l (octets_of l values) others after → (others ≡ values) × (after ≡ [])
+  pub no_fault : (fault : Fault) → FirstFault l (octets_of l values) fault → ⊥
 
 -- the values of the canonical form
 abbrev pub lower : (l : Layout) → Values l → Values l

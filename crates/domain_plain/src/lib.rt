@@ -3,9 +3,11 @@
 //! What a record is (RFC 1035, section 3.2) and its canonical order (RFC 4034, section 6), and the data of the types A, NS, SOA and MX (RFC 1035, section 3) and of types
 //! that are not known (RFC 3597).
 //!
-//! The data of a type is described once, as a list of fields (`specs/Field.antt`, `specs/Layout.antt`). Its octets, its canonical octets (RFC 4034, section 6.2), its canonical order, what is
-//! hashed of it and the tokens that spell it follow from that description, for each kind of field by one impl of `Fields` and one of `ScanFields`.
-//! The crates above may rely on this: data is octets, and `canonical_cmp` is the lexicographic order of canonical octets.
+//! The data of a type is described once, as a list of fields (`specs/Field.antt`, `specs/Layout.antt`). Its octets, how they are read and their first fault, its canonical octets
+//! (RFC 4034, section 6.2), its canonical order, what is hashed of it and the tokens that spell it follow from that description, for each kind of field by one impl of
+//! [`Fields`](fields::Fields), one of [`ReadFields`](read_fields::ReadFields) and one of [`ScanFields`](scan_fields::ScanFields).
+//! The crates above may rely on this: data is octets, which are read in one way at most and parse back to what was composed (the module `laws`), and `canonical_cmp` is the lexicographic
+//! order of canonical octets.
 #![tactic(auto)]
 
 mod a;

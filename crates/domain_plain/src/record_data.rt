@@ -1,5 +1,5 @@
 //! Data of records.
-ghost use Rattle.std.specs.Prelude.{◌≡◌, ◌≤◌, ◌↔◌, ℕ, List, Some, length, IsTrue, IfOk, IfErr, OnErr, IfNone, MatchOption};
+ghost use Rattle.std.specs.Prelude.{◌≡◌, ◌≤◌, ◌↔◌, ℕ, List, Some, length, IsTrue, IfOk, IfErr, OnErr, IfNone, MatchOption, codes};
 ghost use Rattle.std.specs.Ordering.{nat_cmp};
 ghost use Rattle.std.specs.Cmp.Lexicographic.{slice_cmp};
 ghost use Rattle.domain_base.specs.Fault.{Fault, fault_of};
@@ -17,6 +17,8 @@ use std::fmt;
 pub struct LongRecordData;
 
 impl fmt::Display for LongRecordData {
+    ghost output = { λ _. Some (codes "record data too long") };
+
     fn fmt<W: fmt::Write>(&self, f: &mut fmt::Formatter<W>) -> fmt::Result {
         f.write_str("record data too long")
     }

@@ -4,7 +4,7 @@ use crate::fields::{
 use crate::read_fields::{ReadFields, Spelled};
 use crate::{
     A, CloneRecordData, ComposeRecordData, Counted, LongRecordData, Mx, Ns, ParseRecordData,
-    Record, Soa, UnknownRecordData, WireFault, both,
+    Record, Soa, UnknownRecordData, WireFault, both, laws,
 };
 use bytes::Bytes;
 use domain_base::{
@@ -304,6 +304,8 @@ fn copies_data(rt: HostRuntime) -> Result<(), Fail> {
     let octets = Vec::from_slice(rt.alloc(), b"xyz")?;
     let unknown = UnknownRecordData::from_octets(Rtype::TXT, octets)?;
     assert_eq!(rt; copy_ties(&unknown), Some(true));
+    laws::ns_parses_back(&ns);
+    laws::mx_parses_back(&mx);
     let owned = Ns::<OwnedName>::try_octets_from(rt.alloc(), ns)?;
     assert_eq!(rt; owned.nsdname().as_wire(), b"\x01B\x00".as_slice());
     let owned = Mx::<OwnedName>::try_octets_from(rt.alloc(), mx)?;
