@@ -1,4 +1,6 @@
 pub mod KeyTagLemmas
 pub mod DataLemmas
 pub mod PieceLemmas
+pub mod RrsigLemmas
+pub mod ScanLemmas
 pub mod TimeLemmas
