@@ -110,6 +110,11 @@ rrsig_numbers = (one short ▸ one octet ▸ one octet) ▸ (one long ▸ one lo
 abbrev pub rrsig_numbers_values : ProtoRrsigData → Values rrsig_numbers
 rrsig_numbers_values d = ((d.type_covered, (d.algorithm, d.labels)), ((d.original_ttl, (d.expiration, d.inception)), d.key_tag))
 
+-- the fields with these numbers and this name
+abbrev pub of_numbers : Values rrsig_numbers → List (List ℕ) → ProtoRrsigData
+of_numbers numbers signer_name =
+    proto_rrsig_data numbers.0.0 numbers.0.1.0 numbers.0.1.1 numbers.1.0.0 numbers.1.0.1.0 numbers.1.0.1.1 numbers.1.1 signer_name
+
 -- the same but for the case of letters in the name of the signer
 pub record IsSameRrsig (a b : RrsigData) : Type 0 where
   pub numbers : rrsig_numbers_values a.fields ≡ rrsig_numbers_values b.fields

@@ -25,10 +25,18 @@ abbrev pub rrsig_text : RrsigData → List ℕ
 rrsig_text d =
     signed_numbers_text d.fields ++ codes " " ++ signed_times_text d.fields ++ codes " " ++ dotted d.fields.signer_name ++ codes " " ++ encode_of standard d.signature
 
+-- the pieces of the numbers up to the TTL
+abbrev pub number_pieces : ProtoRrsigData → List PieceText
+number_pieces d =
+    token (type_text d.type_covered) ∷ token (decimal d.algorithm) ∷ token (decimal d.labels) ∷ comment (codes "labels") ∷ token (decimal d.original_ttl)
+    ∷ comment (codes "original ttl") ∷ []
+
+-- the pieces of the times, the key tag and the name
+abbrev pub signer_pieces : ProtoRrsigData → List PieceText
+signer_pieces d =
+    token (decimal d.expiration) ∷ comment (codes "expiration") ∷ token (decimal d.inception) ∷ comment (codes "inception") ∷ token (decimal d.key_tag) ∷ comment (codes "key tag")
+    ∷ token (dotted d.signer_name) ∷ comment (codes "signer name") ∷ []
+
 -- comments name what is not evident
 abbrev pub rrsig_pieces : RrsigData → List PieceText
-rrsig_pieces d =
-    opens ∷ token (type_text d.fields.type_covered) ∷ token (decimal d.fields.algorithm) ∷ token (decimal d.fields.labels) ∷ comment (codes "labels")
-    ∷ token (decimal d.fields.original_ttl) ∷ comment (codes "original ttl") ∷ token (decimal d.fields.expiration) ∷ comment (codes "expiration")
-    ∷ token (decimal d.fields.inception) ∷ comment (codes "inception") ∷ token (decimal d.fields.key_tag) ∷ comment (codes "key tag")
-    ∷ token (dotted d.fields.signer_name) ∷ comment (codes "signer name") ∷ token (encode_of standard d.signature) ∷ closes ∷ []
+rrsig_pieces d = opens ∷ (number_pieces d.fields ++ (signer_pieces d.fields ++ (token (encode_of standard d.signature) ∷ closes ∷ [])))

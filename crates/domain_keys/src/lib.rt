@@ -18,6 +18,9 @@ mod flags;
 mod key_tag;
 mod proto_rrsig;
 mod rrsig;
+mod rrsig_convert;
+#[cfg(test)]
+mod rrsig_tests;
 mod rrsig_text;
 #[cfg(test)]
 mod tests;

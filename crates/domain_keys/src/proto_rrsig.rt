@@ -2,7 +2,7 @@
 ghost use Rattle.std.specs.Prelude.{◌≡◌, ◌≤◌, ◌↔◌, ◌+◌, Some, IsOk, IfOk, length};
 ghost use Rattle.domain_plain.specs.Layout.{Fits, octets_of, canonical_of};
 ghost use Rattle.domain_plain.specs.Target.{Appends};
-ghost use Rattle.domain_keys.specs.Data.{proto_rrsig, proto_rrsig_values, proto_rrsig_data, rrsig_octets, rrsig_data, rrsig_numbers_values};
+ghost use Rattle.domain_keys.specs.Data.{proto_rrsig, proto_rrsig_values, proto_rrsig_data, rrsig_octets, rrsig_data, rrsig_numbers_values, of_numbers};
 
 use crate::{Rrsig, Timestamp};
 use domain_base::{ParsedName, Rtype, SecurityAlgorithm, ToName, Ttl};
@@ -96,21 +96,41 @@ impl<N: ToName> ProtoRrsig<N> {
         self.fields().put_canonical(target)
     }
 
-    /// The same fields with the same name, held otherwise.
-    pub(crate) fn remade<M: ToName>(&self, signer_name: M) -> ProtoRrsig<M>
-        requires { M.labels signer_name ≡ self.now.signer_name }
-        ensures { result ≡ self.now }
+    /// Fields of these numbers and this name.
+    pub(crate) fn of_parts(numbers: Numbers, signer_name: N) -> Self
+        ensures { result ≡ of_numbers numbers (N.labels signer_name) }
     {
+        let ((type_covered, (algorithm, labels)), (times, key_tag)) = numbers;
+        let (original_ttl, (expiration, inception)) = times;
         ProtoRrsig {
-            type_covered: self.type_covered,
-            algorithm: self.algorithm,
-            labels: self.labels,
-            original_ttl: self.original_ttl,
-            expiration: self.expiration,
-            inception: self.inception,
-            key_tag: self.key_tag,
+            type_covered: Rtype::from_int(type_covered),
+            algorithm: SecurityAlgorithm::from_int(algorithm),
+            labels,
+            original_ttl: Ttl::from_secs(original_ttl),
+            expiration: Timestamp::from(expiration),
+            inception: Timestamp::from(inception),
+            key_tag,
             signer_name,
         }
+    }
+
+    /// The numbers, and the name.
+    pub(crate) fn into_parts(self) -> (Numbers, N)
+        ensures numbers { result.0 ≡ rrsig_numbers_values self }
+        ensures signer { N.labels result.1 ≡ self.signer_name }
+    {
+        let numbers = self.numbers();
+        let ProtoRrsig {
+            type_covered: _,
+            algorithm: _,
+            labels: _,
+            original_ttl: _,
+            expiration: _,
+            inception: _,
+            key_tag: _,
+            signer_name,
+        } = self;
+        (numbers, signer_name)
     }
 
     /// The type of the records that are signed.
@@ -200,18 +220,7 @@ impl<'a> ProtoRrsig<ParsedName<'a>> {
         ensures { proto_rrsig_values result ≡ fields.entry }
     {
         let (head, (times, (key_tag, signer_name))) = fields;
-        let (type_covered, (algorithm, labels)) = head;
-        let (original_ttl, (expiration, inception)) = times;
-        ProtoRrsig {
-            type_covered: Rtype::from_int(type_covered),
-            algorithm: SecurityAlgorithm::from_int(algorithm),
-            labels,
-            original_ttl: Ttl::from_secs(original_ttl),
-            expiration: Timestamp::from(expiration),
-            inception: Timestamp::from(inception),
-            key_tag,
-            signer_name,
-        }
+        ProtoRrsig::of_parts((head, (times, key_tag)), signer_name)
     }
 }
 
@@ -220,7 +229,8 @@ impl<N: CloneName> ProtoRrsig<N> {
     pub fn clone(&self) -> Result<Self, OutOfMemory>
         ensures { IfOk result (λ copy. copy ≡ self.now) }
     {
-        Ok(self.remade(self.signer_name.try_clone()?))
+        let signer_name = self.signer_name.try_clone()?;
+        Ok(ProtoRrsig::of_parts(self.numbers(), signer_name))
     }
 }
 

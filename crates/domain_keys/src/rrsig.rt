@@ -115,7 +115,7 @@ impl<O: Octets, N: ToName> Rrsig<O, N> {
             key_tag,
             signer_name,
         );
-        Rrsig { fields, signature }
+        Rrsig::of_parts(fields, signature)
     }
 
     /// Fields with a signature.
@@ -204,6 +204,23 @@ impl<O: Octets, N: ToName> Rrsig<O, N> {
         ensures { self.new ≡ rrsig_data self.old.fields (O.octets signature) }
     {
         self.signature = signature;
+    }
+
+    /// The fields but the signature, and the signature.
+    pub(crate) fn into_parts(self) -> (ProtoRrsig<N>, O)
+        ensures parts { (result.0 ≡ self.fields) × (O.octets result.1 ≡ self.signature) }
+        ensures limit { length (rrsig_octets self) ≤ 65535 }
+    {
+        let Rrsig { fields, signature } = self;
+        (fields, signature)
+    }
+
+    /// Fields with a signature, which have at most 65,535 octets.
+    pub(crate) fn of_parts(fields: ProtoRrsig<N>, signature: O) -> Self
+        requires { length (rrsig_octets (rrsig_data fields (O.octets signature))) ≤ 65535 }
+        ensures { result ≡ rrsig_data fields (O.octets signature) }
+    {
+        Rrsig { fields, signature }
     }
 
     /// The fields but the signature.
@@ -410,28 +427,14 @@ impl<O: Octets, N: ToName> Hash for Rrsig<O, N> {
     }
 }
 
-impl<O: Octets, N: ToName> Rrsig<O, N> {
-    /// The same signature with the same octets and name, held otherwise.
-    fn remade<P: Octets, M: ToName>(&self, signer_name: M, signature: P) -> Rrsig<P, M>
-        requires signer { M.labels signer_name ≡ self.now.fields.signer_name }
-        requires signature { P.octets signature ≡ self.now.signature }
-        ensures { result ≡ self.now }
-    {
-        Rrsig {
-            fields: self.fields.remade(signer_name),
-            signature,
-        }
-    }
-}
-
 impl<O: Octets + Drop, N: CloneName + Drop> Rrsig<O, N> {
     /// A copy. Uses the allocators of the name and of the signature.
     pub fn clone(&self) -> Result<Self, OutOfMemory>
         ensures { IfOk result (λ copy. copy ≡ self.now) }
     {
-        let signer_name = self.fields.signer_name().try_clone()?;
+        let fields = self.fields.clone()?;
         let signature = self.signature.try_clone()?;
-        Ok(self.remade(signer_name, signature))
+        Ok(Rrsig { fields, signature })
     }
 }
 

@@ -2,7 +2,7 @@
 ghost use Rattle.std.specs.Prelude.{◌≡◌, ◌++◌, [], Some, IfOk, IfErr, OnOk};
 ghost use Rattle.domain_base.specs.Scan.{scan_fault_of};
 ghost use Rattle.domain_keys.specs.Text.{numbers_text, RefusesNumbers, times_text, RefusesTimes, rrsig_fields_text, RefusesRrsigFields, RrsigText, RefusesRrsig};
-ghost use Rattle.domain_keys.specs.RrsigPieces.{signed_numbers_text, signed_times_text, rrsig_text, rrsig_pieces};
+ghost use Rattle.domain_keys.specs.RrsigPieces.{signed_numbers_text, signed_times_text, rrsig_text, number_pieces, signer_pieces, rrsig_pieces};
 
 use crate::text::InBase64;
 use crate::{ProtoRrsig, Rrsig, Timestamp};
@@ -165,4 +165,55 @@ impl<O: Octets, N: ToName + fmt::Debug> fmt::Debug for Rrsig<O, N> {
             .field("signature", &self.signature().as_slice())
             .finish()
     }
+}
+
+/// The fields, with comments that name all but the type covered, the algorithm and the signature.
+impl<O: Octets, N: ToName> ZonefileFmt for Rrsig<O, N> {
+    ghost pieces = { rrsig_pieces };
+
+    fn fmt<F: Formatter>(&self, formatter: &mut F) -> Result<(), OutOfMemory> {
+        let fields = self.proto();
+        formatter.begin_block()?;
+        write_numbers(fields, formatter)?;
+        write_signer(fields, formatter)?;
+        formatter.write_token(&InBase64(self.signature().as_slice()))?;
+        formatter.end_block()
+    }
+}
+
+/// The pieces of the type covered, the algorithm, the labels and the TTL.
+fn write_numbers<N: ToName, F: Formatter>(
+    fields: &ProtoRrsig<N>,
+    formatter: &mut F,
+) -> Result<(), OutOfMemory>
+    ensures { OnOk result (F.pieces formatter.new ≡ F.pieces formatter.old ++ number_pieces fields.now) }
+{
+    let (type_covered, algorithm) = (fields.type_covered(), fields.algorithm());
+    let (labels, original_ttl) = (fields.labels(), fields.original_ttl().as_secs());
+    formatter.write_token(&type_covered)?;
+    formatter.write_token(&algorithm)?;
+    formatter.write_token(&labels)?;
+    formatter.write_comment(&"labels")?;
+    formatter.write_token(&original_ttl)?;
+    formatter.write_comment(&"original ttl")
+}
+
+/// The pieces of the times, the key tag and the name of the signer.
+fn write_signer<N: ToName, F: Formatter>(
+    fields: &ProtoRrsig<N>,
+    formatter: &mut F,
+) -> Result<(), OutOfMemory>
+    ensures { OnOk result (F.pieces formatter.new ≡ F.pieces formatter.old ++ signer_pieces fields.now) }
+{
+    let (expiration, inception) = (fields.expiration(), fields.inception());
+    let key_tag = fields.key_tag();
+    let signer_name = fields.signer_name().fmt_with_dot();
+    formatter.write_token(&expiration)?;
+    formatter.write_comment(&"expiration")?;
+    formatter.write_token(&inception)?;
+    formatter.write_comment(&"inception")?;
+    formatter.write_token(&key_tag)?;
+    formatter.write_comment(&"key tag")?;
+    formatter.write_token(&signer_name)?;
+    formatter.write_comment(&"signer name")
 }
