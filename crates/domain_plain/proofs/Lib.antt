@@ -5,3 +5,4 @@ pub mod OrderLemmas
 pub mod ExactLemmas
 pub mod FaultLemmas
 pub mod ScanLemmas
+pub mod GenericLemmas

@@ -9,3 +9,6 @@ pub mod Scan
 pub mod RecordLends
 pub mod RecordText
 pub mod RecordClone
+pub mod DataClone
+pub mod Soa
+pub mod Generic

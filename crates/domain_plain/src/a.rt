@@ -1,5 +1,5 @@
 //! Addresses of hosts.
-ghost use Rattle.std.specs.Prelude.{◌≡◌, IfOk, IfErr, OnErr, Some};
+ghost use Rattle.std.specs.Prelude.{◌≡◌, refl, IfOk, IfErr, OnErr, Some};
 ghost use Rattle.std.specs.Net.Addr.{ipv4_octets};
 ghost use Rattle.std.specs.Net.Text.{ipv4_text};
 ghost use Rattle.std.specs.Ordering.{on, nat_cmp};
@@ -8,14 +8,17 @@ ghost use Rattle.domain_base.specs.Scan.{scan_fault_of};
 ghost use Rattle.domain_plain.specs.Scan.{Scans, Refuses};
 ghost use Rattle.domain_base.specs.Fault.{fault_of};
 ghost use Rattle.domain_plain.specs.Layout.{Begins, FirstFault, GoesOn, octets_of, canonical_of};
+ghost use Rattle.domain_plain.specs.DataClone.{same_values_tie};
 ghost use Rattle.domain_plain.specs.Plain.{a, a_values};
 
 use crate::fields::{self, Exactly, Fields};
 use crate::read_fields::ReadFields;
 use crate::scan_fields::{Address, ScanFields};
-use crate::{ComposeRecordData, ParseRecordData, RecordData};
+use crate::{CloneRecordData, ComposeRecordData, ParseRecordData, RecordData};
 use domain_base::{CanonicalOrd, Rtype, ScanError, Scanner};
-use domain_octets::{AppendError, OctetsBuilder, ParseError, Parser};
+use domain_octets::{
+    AppendError, FlattenInto, OctetsBuilder, OctetsFrom, OutOfMemory, ParseError, Parser, TryClone,
+};
 use std::alloc::Global;
 use std::cmp::Ordering;
 use std::fmt;
@@ -79,6 +82,40 @@ impl A {
         ensures { result.0 ≡ ipv4_octets self.now.addr }
     {
         Exactly(self.addr.octets())
+    }
+}
+
+impl TryClone for A {
+    ghost is_clone = { λ d copy. copy.addr ≡ d.addr };
+
+    fn try_clone(&self) -> Result<Self, OutOfMemory> {
+        Ok(*self)
+    }
+}
+
+impl CloneRecordData for A {
+    ghost clone_rtype = { λ d copy same. refl };
+
+    ghost clone_canonical = { λ d copy same. same_values_tie a a_values d copy (λ i. ipv4_octets (same i)) };
+}
+
+impl OctetsFrom<A> for A {
+    ghost is_same = { λ source made. made ≡ source };
+
+    ghost has_no_room = { λ _. ⊥ };
+
+    fn try_octets_from(_alloc: Global, source: A) -> Result<Self, AppendError> {
+        Ok(source)
+    }
+}
+
+impl FlattenInto<A> for A {
+    ghost is_same = { λ source made. made ≡ source };
+
+    ghost has_no_room = { λ _. ⊥ };
+
+    fn try_flatten_into(self, _alloc: Global) -> Result<A, AppendError> {
+        Ok(self)
     }
 }
 

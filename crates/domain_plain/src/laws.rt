@@ -1,7 +1,10 @@
 //! What holds of all data, whatever its fields are.
-ghost use Rattle.std.specs.Prelude.{◌≡◌, ℕ, List, [], true};
+ghost use Rattle.std.specs.Prelude.{◌≡◌, ◌≢◌, ℕ, List, [], None, true};
 ghost use Rattle.std.specs.Ordering.{ordering_then};
 ghost use Rattle.domain_base.specs.Fault.{Fault};
+ghost use Rattle.domain_base.specs.Scan.{ScanFault, no_memory};
+ghost use Rattle.domain_plain.specs.Generic.{GenericText, GenericFault};
+ghost use Rattle.domain_plain.specs.Scan.{Scans, Refuses};
 ghost use Rattle.domain_plain.specs.Layout.{Layout, ◌▸◌, Values, Begins, FirstFault, Fits, Ends, octets_of, splits, is_delimited, canonical_order};
 
 /// Octets begin with data of given fields in one way at most, and in none where they have a fault.
@@ -26,4 +29,10 @@ pub fn composed_data_parses_back()
 pub fn fields_decide_in_order()
     ensures { (a b : Layout) (v w : Values a) (x y : Values b) → is_delimited a ≡ true → Fits a v → Fits a w
         → canonical_order (a ▸ b) (v, x) (w, y) ≡ ordering_then (canonical_order a v w) (canonical_order b x y) }
+{}
+
+/// Over octets that grow, tokens that are refused but for want of memory spell no data.
+pub fn refused_tokens_spell_no_data()
+    ensures fields { (l : Layout) (old new after : List (List ℕ)) (v : Values l) (fault : ScanFault) → Refuses None l old new fault → Scans l old v after → fault ≢ no_memory → ⊥ }
+    ensures generic { (old new : List (List ℕ)) (fault : ScanFault) (octets : List ℕ) → GenericFault None old new fault → GenericText old octets → fault ≢ no_memory → ⊥ }
 {}

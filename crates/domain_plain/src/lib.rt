@@ -11,9 +11,11 @@
 mod a;
 mod counted;
 pub mod fields;
+mod generic;
 pub mod laws;
 mod mx;
 mod ns;
+mod pairs;
 pub mod read_fields;
 mod record;
 mod record_clone;
@@ -21,6 +23,8 @@ mod record_data;
 pub mod scan_fields;
 mod soa;
 mod target;
+#[cfg(test)]
+mod tests;
 mod unknown;
 mod wire_fault;
 
@@ -28,6 +32,7 @@ pub use a::A;
 pub use counted::Counted;
 pub use mx::Mx;
 pub use ns::Ns;
+pub use pairs::both;
 pub use record::Record;
 pub use record_clone::{CloneName, CloneRecordData};
 pub use record_data::{ComposeRecordData, LongRecordData, ParseRecordData, RecordData};

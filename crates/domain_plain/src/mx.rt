@@ -1,5 +1,5 @@
 //! Mail exchanges.
-ghost use Rattle.std.specs.Prelude.{◌≡◌, ◌++◌, IfOk, IfErr, OnErr, Some, codes};
+ghost use Rattle.std.specs.Prelude.{◌≡◌, ◌++◌, refl, IfOk, IfErr, OnErr, Some, codes};
 ghost use Rattle.std.specs.Ordering.{on, nat_cmp};
 ghost use Rattle.std.specs.Cmp.Lexicographic.{slice_cmp, on_texts};
 ghost use Rattle.std.specs.Fmt.{decimal};
@@ -8,14 +8,17 @@ ghost use Rattle.domain_base.specs.Text.{name_text};
 ghost use Rattle.domain_plain.specs.Scan.{Scans, Refuses};
 ghost use Rattle.domain_base.specs.Fault.{fault_of};
 ghost use Rattle.domain_plain.specs.Layout.{Begins, FirstFault, GoesOn, octets_of, canonical_of};
+ghost use Rattle.domain_plain.specs.DataClone.{same_values_tie};
 ghost use Rattle.domain_plain.specs.Plain.{mx, mx_values};
 
 use crate::fields::{self, Fields, Lowers};
 use crate::read_fields::ReadFields;
 use crate::scan_fields::{ScanFields, Scanned};
-use crate::{ComposeRecordData, ParseRecordData, RecordData};
+use crate::{CloneName, CloneRecordData, ComposeRecordData, ParseRecordData, RecordData};
 use domain_base::{CanonicalOrd, ParsedName, Rtype, ScanError, Scanner, ToName};
-use domain_octets::{AppendError, OctetsBuilder, ParseError, Parser};
+use domain_octets::{
+    AppendError, FlattenInto, OctetsBuilder, OctetsFrom, OutOfMemory, ParseError, Parser, TryClone,
+};
 use std::alloc::Global;
 use std::cmp::Ordering;
 use std::fmt;
@@ -50,6 +53,66 @@ impl<N> Mx<N> {
         ensures { result.now ≡ self.now.exchange }
     {
         &self.exchange
+    }
+
+    /// A copy. Answers `OutOfMemory` where there is no memory for it.
+    pub fn clone(&self) -> Result<Self, OutOfMemory>
+    where
+        N: TryClone,
+        ensures { IfOk result (λ copy. (copy.preference ≡ self.now.preference) × N.is_clone self.now.exchange copy.exchange) }
+    {
+        Ok(Mx {
+            preference: self.preference,
+            exchange: self.exchange.try_clone()?,
+        })
+    }
+}
+
+impl<N: TryClone> TryClone for Mx<N> {
+    ghost is_clone = { λ d copy. (copy.preference ≡ d.preference) × N.is_clone d.exchange copy.exchange };
+
+    fn try_clone(&self) -> Result<Self, OutOfMemory> {
+        self.clone()
+    }
+}
+
+impl<N: CloneName> CloneRecordData for Mx<N> {
+    ghost clone_rtype = { λ d copy same. refl };
+
+    ghost clone_canonical = { λ d copy same. same_values_tie mx (mx_values N.labels) d copy (λ i. (same.0 i, N.clone_labels d.exchange copy.exchange same.1 i)) };
+}
+
+impl<M, N: OctetsFrom<M>> OctetsFrom<Mx<M>> for Mx<N> {
+    ghost is_same = { λ source made. (made.preference ≡ source.preference) × N.is_same source.exchange made.exchange };
+
+    ghost has_no_room = { λ source. N.has_no_room source.exchange };
+
+    fn try_octets_from(alloc: Global, source: Mx<M>) -> Result<Self, AppendError> {
+        let Mx {
+            preference,
+            exchange,
+        } = source;
+        Ok(Mx {
+            preference,
+            exchange: N::try_octets_from(alloc, exchange)?,
+        })
+    }
+}
+
+impl<M, N: FlattenInto<M>> FlattenInto<Mx<M>> for Mx<N> {
+    ghost is_same = { λ source made. (made.preference ≡ source.preference) × N.is_same source.exchange made.exchange };
+
+    ghost has_no_room = { λ source. N.has_no_room source.exchange };
+
+    fn try_flatten_into(self, alloc: Global) -> Result<Mx<M>, AppendError> {
+        let Mx {
+            preference,
+            exchange,
+        } = self;
+        Ok(Mx {
+            preference,
+            exchange: exchange.try_flatten_into(alloc)?,
+        })
     }
 }
 

@@ -1,5 +1,5 @@
 //! Name servers.
-ghost use Rattle.std.specs.Prelude.{◌≡◌, ◌++◌, IfOk, IfErr, OnErr, Some, codes};
+ghost use Rattle.std.specs.Prelude.{◌≡◌, ◌++◌, refl, IfOk, IfErr, OnErr, Some, codes};
 ghost use Rattle.std.specs.Ordering.{on, nat_cmp};
 ghost use Rattle.std.specs.Cmp.Lexicographic.{slice_cmp, on_texts};
 ghost use Rattle.std.specs.Fmt.{decimal};
@@ -8,14 +8,17 @@ ghost use Rattle.domain_base.specs.Text.{name_text};
 ghost use Rattle.domain_plain.specs.Scan.{Scans, Refuses};
 ghost use Rattle.domain_base.specs.Fault.{fault_of};
 ghost use Rattle.domain_plain.specs.Layout.{Begins, FirstFault, GoesOn, octets_of, canonical_of};
+ghost use Rattle.domain_plain.specs.DataClone.{same_values_tie};
 ghost use Rattle.domain_plain.specs.Plain.{ns, ns_values};
 
 use crate::fields::{self, Fields, Lowers};
 use crate::read_fields::ReadFields;
 use crate::scan_fields::{ScanFields, Scanned};
-use crate::{ComposeRecordData, ParseRecordData, RecordData};
+use crate::{CloneName, CloneRecordData, ComposeRecordData, ParseRecordData, RecordData};
 use domain_base::{CanonicalOrd, ParsedName, Rtype, ScanError, Scanner, ToName};
-use domain_octets::{AppendError, OctetsBuilder, ParseError, Parser};
+use domain_octets::{
+    AppendError, FlattenInto, OctetsBuilder, OctetsFrom, OutOfMemory, ParseError, Parser, TryClone,
+};
 use std::alloc::Global;
 use std::cmp::Ordering;
 use std::fmt;
@@ -39,6 +42,57 @@ impl<N> Ns<N> {
         ensures { result.now ≡ self.now.nsdname }
     {
         &self.nsdname
+    }
+
+    /// A copy. Answers `OutOfMemory` where there is no memory for it.
+    pub fn clone(&self) -> Result<Self, OutOfMemory>
+    where
+        N: TryClone,
+        ensures { IfOk result (λ copy. N.is_clone self.now.nsdname copy.nsdname) }
+    {
+        Ok(Ns {
+            nsdname: self.nsdname.try_clone()?,
+        })
+    }
+}
+
+impl<N: TryClone> TryClone for Ns<N> {
+    ghost is_clone = { λ d copy. N.is_clone d.nsdname copy.nsdname };
+
+    fn try_clone(&self) -> Result<Self, OutOfMemory> {
+        self.clone()
+    }
+}
+
+impl<N: CloneName> CloneRecordData for Ns<N> {
+    ghost clone_rtype = { λ d copy same. refl };
+
+    ghost clone_canonical = { λ d copy same. same_values_tie ns (ns_values N.labels) d copy (N.clone_labels d.nsdname copy.nsdname same) };
+}
+
+impl<M, N: OctetsFrom<M>> OctetsFrom<Ns<M>> for Ns<N> {
+    ghost is_same = { λ source made. N.is_same source.nsdname made.nsdname };
+
+    ghost has_no_room = { λ source. N.has_no_room source.nsdname };
+
+    fn try_octets_from(alloc: Global, source: Ns<M>) -> Result<Self, AppendError> {
+        let Ns { nsdname } = source;
+        Ok(Ns {
+            nsdname: N::try_octets_from(alloc, nsdname)?,
+        })
+    }
+}
+
+impl<M, N: FlattenInto<M>> FlattenInto<Ns<M>> for Ns<N> {
+    ghost is_same = { λ source made. N.is_same source.nsdname made.nsdname };
+
+    ghost has_no_room = { λ source. N.has_no_room source.nsdname };
+
+    fn try_flatten_into(self, alloc: Global) -> Result<Ns<M>, AppendError> {
+        let Ns { nsdname } = self;
+        Ok(Ns {
+            nsdname: nsdname.try_flatten_into(alloc)?,
+        })
     }
 }
 

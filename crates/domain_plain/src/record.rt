@@ -1,10 +1,13 @@
 //! Records.
-ghost use Rattle.std.specs.Prelude.{◌≡◌};
+ghost use Rattle.std.specs.Prelude.{◌≡◌, ◌⊎◌};
+ghost use Rattle.domain_plain.specs.RecordClone.{IsRecordClone};
 ghost use Rattle.std.specs.Borrow.{sem};
 ghost use Rattle.domain_plain.specs.RecordLends.{LendsData};
 
-use crate::RecordData;
+use crate::{RecordData, both};
 use domain_base::{CanonicalOrd, Class, Rtype, ToName, Ttl};
+use domain_octets::{AppendError, FlattenInto, OctetsFrom};
+use std::alloc::Global;
 use std::cmp::Ordering;
 use std::fmt;
 
@@ -73,6 +76,76 @@ impl<N, D: RecordData> Record<N, D> {
         ensures { result ≡ D.rtype self.now.«data» }
     {
         self.data.rtype()
+    }
+}
+
+// By owner, class and data. The TTL is not compared.
+impl<N: ToName, D: PartialEq> PartialEq for Record<N, D> {
+    ghost use Rattle.domain_plain.specs.Record.{record_eq, record_eq_partial};
+
+    ghost eq = { record_eq N.labels D.eq };
+
+    ghost laws = { record_eq_partial N.labels D.eq D.laws };
+
+    fn eq(&self, other: &Self) -> bool {
+        self.owner.name_eq(&other.owner) && self.class == other.class && self.data == other.data
+    }
+}
+
+impl<N: ToName, D: Eq> Eq for Record<N, D> {
+    ghost use Rattle.domain_plain.specs.Record.{record_eq_equiv};
+
+    ghost laws = { record_eq_equiv N.labels D.eq D.Eq.laws };
+}
+
+// The owner and the data are made of the others, and the class and the TTL are the same.
+impl<M, E, N: OctetsFrom<M> + Drop, D: OctetsFrom<E> + Drop> OctetsFrom<Record<M, E>>
+    for Record<N, D> {
+    ghost is_same = { IsRecordClone N.is_same D.is_same };
+
+    ghost has_no_room = { λ source. N.has_no_room source.owner ⊎ D.has_no_room source.«data» };
+
+    fn try_octets_from(alloc: Global, source: Record<M, E>) -> Result<Self, AppendError> {
+        let Record {
+            owner,
+            class,
+            ttl,
+            data,
+        } = source;
+        let (owner, data) = both(
+            N::try_octets_from(alloc, owner),
+            D::try_octets_from(alloc, data),
+        )?;
+        Ok(Record {
+            owner,
+            class,
+            ttl,
+            data,
+        })
+    }
+}
+
+// The owner and the data turn into the others, and the class and the TTL are the same.
+impl<M: Drop, E: Drop, N: FlattenInto<M>, D: FlattenInto<E>> FlattenInto<Record<M, E>>
+    for Record<N, D> {
+    ghost is_same = { IsRecordClone N.is_same D.is_same };
+
+    ghost has_no_room = { λ source. N.has_no_room source.owner ⊎ D.has_no_room source.«data» };
+
+    fn try_flatten_into(self, alloc: Global) -> Result<Record<M, E>, AppendError> {
+        let Record {
+            owner,
+            class,
+            ttl,
+            data,
+        } = self;
+        let (owner, data) = both(owner.try_flatten_into(alloc), data.try_flatten_into(alloc))?;
+        Ok(Record {
+            owner,
+            class,
+            ttl,
+            data,
+        })
     }
 }
 

@@ -1,10 +1,10 @@
 //! Copies of records.
-ghost use Rattle.std.specs.Prelude.{◌≡◌, ℕ, List};
+ghost use Rattle.std.specs.Prelude.{◌≡◌, ℕ, List, IfOk};
 ghost use Rattle.std.specs.declared.cmp.Ordering.TheVariants.{Equal};
 ghost use Rattle.domain_plain.specs.RecordClone.{IsRecordClone};
 
 use crate::{Record, RecordData};
-use domain_base::{CanonicalOrd, Name, ToName};
+use domain_base::{CanonicalOrd, Name, ParsedName, ToName};
 use domain_octets::{Octets, OutOfMemory, TryClone};
 
 /// A name whose copies are spelled alike.
@@ -26,13 +26,26 @@ pub trait CloneRecordData: RecordData + CanonicalOrd + TryClone {
     ghost clone_canonical: { (value copy : Self) → Self.is_clone value copy → Self.canonical_cmp value copy ≡ Equal };
 }
 
+impl<'a> CloneName for ParsedName<'a> {
+    ghost clone_labels = { λ name copy same. same };
+}
+
+impl<N: TryClone + Drop, D: TryClone> Record<N, D> {
+    /// A copy. Answers `OutOfMemory` where there is no memory for it.
+    pub fn clone(&self) -> Result<Self, OutOfMemory>
+        ensures { IfOk result (IsRecordClone N.is_clone D.is_clone self.now) }
+    {
+        let owner = self.owner().try_clone()?;
+        let data = self.data().try_clone()?;
+        Ok(Record::new(owner, self.class(), self.ttl(), data))
+    }
+}
+
 // The owner and the data are copies, and the class and the TTL are the same.
 impl<N: TryClone + Drop, D: TryClone> TryClone for Record<N, D> {
     ghost is_clone = { IsRecordClone N.is_clone D.is_clone };
 
     fn try_clone(&self) -> Result<Self, OutOfMemory> {
-        let owner = self.owner().try_clone()?;
-        let data = self.data().try_clone()?;
-        Ok(Record::new(owner, self.class(), self.ttl(), data))
+        self.clone()
     }
 }

@@ -1,21 +1,26 @@
 //! Starts of zones.
-ghost use Rattle.std.specs.Prelude.{◌≡◌, IfOk, IfErr, OnErr};
+ghost use Rattle.std.specs.Prelude.{◌≡◌, ◌⊎◌, refl, IfOk, IfErr, OnErr};
 ghost use Rattle.std.specs.Ordering.{on, nat_cmp};
 ghost use Rattle.std.specs.Cmp.Lexicographic.{slice_cmp, on_texts};
 ghost use Rattle.domain_base.specs.Scan.{scan_fault_of};
 ghost use Rattle.domain_plain.specs.Scan.{Scans, Refuses};
 ghost use Rattle.domain_base.specs.Fault.{fault_of};
 ghost use Rattle.domain_plain.specs.Layout.{Begins, FirstFault, GoesOn, octets_of, canonical_of};
+ghost use Rattle.domain_plain.specs.DataClone.{same_values_tie};
 ghost use Rattle.domain_plain.specs.Plain.{soa, soa_values};
+ghost use Rattle.domain_plain.specs.Soa.{IsSoaWith, soa_text};
 
 use crate::fields::{self, Fields, Lowers};
 use crate::read_fields::ReadFields;
 use crate::scan_fields::{ScanFields, Scanned};
-use crate::{ComposeRecordData, ParseRecordData, RecordData};
+use crate::{CloneName, CloneRecordData, ComposeRecordData, ParseRecordData, RecordData, both};
 use domain_base::{CanonicalOrd, ParsedName, Rtype, ScanError, Scanner, ToName, Ttl};
-use domain_octets::{AppendError, OctetsBuilder, ParseError, Parser};
+use domain_octets::{
+    AppendError, FlattenInto, OctetsBuilder, OctetsFrom, OutOfMemory, ParseError, Parser, TryClone,
+};
 use std::alloc::Global;
 use std::cmp::Ordering;
+use std::fmt;
 
 /// The start of a zone of authority (RFC 1035, section 3.3.13).
 #[derive(Debug, Drop)]
@@ -112,6 +117,106 @@ impl<N> Soa<N> {
         ensures { result ≡ self.now.minimum }
     {
         self.minimum
+    }
+
+    /// The same numbers beside other names.
+    fn with_names<M>(&self, mname: M, rname: M) -> Soa<M>
+        ensures { result ≡ record { mname = mname; rname = rname; serial = self.now.serial; refresh = self.now.refresh; retry = self.now.retry; expire = self.now.expire; minimum = self.now.minimum } }
+    {
+        Soa {
+            mname,
+            rname,
+            serial: self.serial,
+            refresh: self.refresh,
+            retry: self.retry,
+            expire: self.expire,
+            minimum: self.minimum,
+        }
+    }
+
+    /// A copy. Answers `OutOfMemory` where there is no memory for it.
+    pub fn clone(&self) -> Result<Self, OutOfMemory>
+    where
+        N: TryClone + Drop,
+        ensures { IfOk result (IsSoaWith N.is_clone self.now) }
+    {
+        let mname = self.mname.try_clone()?;
+        let rname = self.rname.try_clone()?;
+        Ok(self.with_names(mname, rname))
+    }
+}
+
+impl<N: TryClone + Drop> TryClone for Soa<N> {
+    ghost is_clone = { IsSoaWith N.is_clone };
+
+    fn try_clone(&self) -> Result<Self, OutOfMemory> {
+        self.clone()
+    }
+}
+
+impl<N: CloneName + Drop> CloneRecordData for Soa<N> {
+    ghost clone_rtype = { λ d copy same. refl };
+
+    ghost clone_canonical = { λ d copy same. same_values_tie soa (soa_values N.labels) d copy
+        (λ i. ((N.clone_labels d.mname copy.mname same.mname i, N.clone_labels d.rname copy.rname same.rname i), ((same.serial i, (same.refresh i, same.retry i)), (same.expire i, same.minimum i)))) };
+}
+
+impl<M, N: OctetsFrom<M> + Drop> OctetsFrom<Soa<M>> for Soa<N> {
+    ghost is_same = { IsSoaWith N.is_same };
+
+    ghost has_no_room = { λ source. N.has_no_room source.mname ⊎ N.has_no_room source.rname };
+
+    fn try_octets_from(alloc: Global, source: Soa<M>) -> Result<Self, AppendError> {
+        let Soa {
+            mname,
+            rname,
+            serial,
+            refresh,
+            retry,
+            expire,
+            minimum,
+        } = source;
+        let (mname, rname) = both(
+            N::try_octets_from(alloc, mname),
+            N::try_octets_from(alloc, rname),
+        )?;
+        Ok(Soa {
+            mname,
+            rname,
+            serial,
+            refresh,
+            retry,
+            expire,
+            minimum,
+        })
+    }
+}
+
+impl<M: Drop, N: FlattenInto<M>> FlattenInto<Soa<M>> for Soa<N> {
+    ghost is_same = { IsSoaWith N.is_same };
+
+    ghost has_no_room = { λ source. N.has_no_room source.mname ⊎ N.has_no_room source.rname };
+
+    fn try_flatten_into(self, alloc: Global) -> Result<Soa<M>, AppendError> {
+        let Soa {
+            mname,
+            rname,
+            serial,
+            refresh,
+            retry,
+            expire,
+            minimum,
+        } = self;
+        let (mname, rname) = both(mname.try_flatten_into(alloc), rname.try_flatten_into(alloc))?;
+        Ok(Soa {
+            mname,
+            rname,
+            serial,
+            refresh,
+            retry,
+            expire,
+            minimum,
+        })
     }
 }
 
@@ -243,5 +348,24 @@ impl<N: ToName> CanonicalOrd for Soa<N> {
 
     fn canonical_cmp(&self, other: &Self) -> Ordering {
         self.fields().order(&other.fields())
+    }
+}
+
+/// The two names with their last dots, and the numbers, with single spaces between them.
+impl<N: ToName> fmt::Display for Soa<N> {
+    ghost output = { soa_text N.labels };
+
+    fn fmt<W: fmt::Write>(&self, f: &mut fmt::Formatter<W>) -> fmt::Result {
+        write!(
+            f,
+            "{} {} {} {} {} {} {}",
+            self.mname.fmt_with_dot(),
+            self.rname.fmt_with_dot(),
+            self.serial,
+            self.refresh,
+            self.retry,
+            self.expire,
+            self.minimum
+        )
     }
 }

@@ -1,16 +1,24 @@
 //! Data of types that are not known.
-ghost use Rattle.std.specs.Prelude.{◌≡◌, ◌≤◌, ◌↔◌, length, IsOk, IfOk, IfErr, OnErr};
+ghost use Rattle.std.specs.Prelude.{◌≡◌, ◌≤◌, ◌↔◌, length, IsOk, IfOk, IfErr, OnOk, OnErr, []};
 ghost use Rattle.std.specs.Ordering.{on, nat_cmp};
 ghost use Rattle.std.specs.Cmp.Lexicographic.{slice_cmp, on_texts};
 ghost use Rattle.domain_base.specs.Fault.{fault_of};
+ghost use Rattle.domain_base.specs.Scan.{scan_fault_of};
+ghost use Rattle.domain_plain.specs.Generic.{GenericText, GenericFault};
 ghost use Rattle.domain_plain.specs.Layout.{Begins, FirstFault, GoesOn, octets_of, canonical_of};
+ghost use Rattle.domain_plain.specs.DataClone.{same_values_tie};
 ghost use Rattle.domain_plain.specs.Plain.{unknown, unknown_values};
 
 use crate::fields::{self, AtMost, Fields, Rest};
+use crate::generic::GenericMark;
 use crate::read_fields::ReadFields;
-use crate::{ComposeRecordData, LongRecordData, ParseRecordData, RecordData};
-use domain_base::{CanonicalOrd, Rtype};
-use domain_octets::{AppendError, Octets, OctetsBuilder, ParseError, Parser};
+use crate::{CloneRecordData, ComposeRecordData, LongRecordData, ParseRecordData, RecordData};
+use domain_base::{CanonicalOrd, FromToken, Rtype, ScanError, Scanner};
+use domain_octets::{
+    AppendError, Codec, FlattenInto, FromBuilder, Octets, OctetsBuilder, OctetsFrom, OutOfMemory,
+    ParseError, Parser, TryClone,
+};
+use std::alloc::Global;
 use std::cmp::Ordering;
 
 /// Data of any type, as octets (RFC 3597).
@@ -38,6 +46,13 @@ impl<O: Octets> UnknownRecordData<O> {
         Ok(UnknownRecordData { rtype, data })
     }
 
+    /// The type of the data.
+    pub fn rtype(&self) -> Rtype
+        ensures { result ≡ self.now.rtype }
+    {
+        self.rtype
+    }
+
     /// The octets of the data.
     pub fn data(&self) -> &O
         ensures { result.now ≡ self.now.«data» }
@@ -45,11 +60,52 @@ impl<O: Octets> UnknownRecordData<O> {
         &self.data
     }
 
+    /// A copy. Answers `OutOfMemory` where there is no memory for it.
+    pub fn clone(&self) -> Result<Self, OutOfMemory>
+        ensures { IfOk result (λ copy. (copy.rtype ≡ self.now.rtype) × (O.octets copy.«data» ≡ O.octets self.now.«data»)) }
+    {
+        Ok(UnknownRecordData {
+            rtype: self.rtype,
+            data: self.data.try_clone()?,
+        })
+    }
+
     /// The fields, in the order of the wire.
     fn fields(&self) -> (AtMost<65535>, Rest<'_>)
         ensures { result.1.0.now ≡ O.octets self.now.«data» }
     {
         (AtMost, Rest(self.data.as_slice()))
+    }
+}
+
+impl<O: FromBuilder> UnknownRecordData<O> {
+    /// The data of a type that the tokens spell in generic form: `\#`, the number of octets, and the octets in Base 16, in any number of tokens.
+    ///
+    /// # Errors
+    ///
+    /// `EndOfEntry` where the mark or the number is missing; `Custom("illegal data")` for another token in place of the mark, for what is
+    /// no Base 16, and for another number of octets; `Custom("decimal number expected")` for what is no number of at most 65,535;
+    /// `ShortBuf` and `OutOfMemory` where the octets have no room or no memory. A refusal leaves an end of the tokens.
+    #[tactic(auto, using(crate::proofs::GenericLemmas::generic))]
+    pub fn scan<S: Scanner<Octets = O>>(
+        alloc: Global,
+        rtype: Rtype,
+        scanner: &mut S,
+    ) -> Result<Self, ScanError>
+    where
+        O: Drop,
+        ensures ok { IfOk result (λ d. GenericText (S.tokens scanner.old) (O.octets d.«data»)) }
+        ensures rtype { IfOk result (λ d. d.rtype ≡ rtype) }
+        ensures all { OnOk result (S.tokens scanner.new ≡ []) }
+        ensures err { IfErr result (λ e. GenericFault O.Builder.limit (S.tokens scanner.old) (S.tokens scanner.new) (scan_fault_of e)) }
+    {
+        <GenericMark as FromToken>::scan(scanner)?;
+        let count = <u16 as FromToken>::scan(scanner)?;
+        let data = scanner.convert_entry(alloc, Codec::Base16)?;
+        if data.as_slice().len() != usize::from(count) {
+            return Err(ScanError::Custom("illegal data"));
+        }
+        Ok(UnknownRecordData { rtype, data })
     }
 }
 
@@ -85,6 +141,48 @@ impl<'a> ParseRecordData<'a> for UnknownRecordData<&'a [u8]> {
             Ok(data) => Ok(Some(data)),
             Err(error) => Err(error),
         }
+    }
+}
+
+impl<O: Octets> TryClone for UnknownRecordData<O> {
+    ghost is_clone = { λ d copy. (copy.rtype ≡ d.rtype) × (O.octets copy.«data» ≡ O.octets d.«data») };
+
+    fn try_clone(&self) -> Result<Self, OutOfMemory> {
+        self.clone()
+    }
+}
+
+impl<O: Octets> CloneRecordData for UnknownRecordData<O> {
+    ghost clone_rtype = { λ d copy same. same.0 };
+
+    ghost clone_canonical = { λ d copy same. same_values_tie unknown (unknown_values O.octets) d copy (λ i. (tt, same.1 i)) };
+}
+
+impl<P, O: OctetsFrom<P>> OctetsFrom<UnknownRecordData<P>> for UnknownRecordData<O> {
+    ghost is_same = { λ source made. (made.rtype ≡ source.rtype) × O.is_same source.«data» made.«data» };
+
+    ghost has_no_room = { λ source. O.has_no_room source.«data» };
+
+    fn try_octets_from(alloc: Global, source: UnknownRecordData<P>) -> Result<Self, AppendError> {
+        let UnknownRecordData { rtype, data } = source;
+        Ok(UnknownRecordData {
+            rtype,
+            data: O::try_octets_from(alloc, data)?,
+        })
+    }
+}
+
+impl<O, P: OctetsFrom<O>> FlattenInto<UnknownRecordData<P>> for UnknownRecordData<O> {
+    ghost is_same = { λ source made. (made.rtype ≡ source.rtype) × P.is_same source.«data» made.«data» };
+
+    ghost has_no_room = { λ source. P.has_no_room source.«data» };
+
+    fn try_flatten_into(self, alloc: Global) -> Result<UnknownRecordData<P>, AppendError> {
+        let UnknownRecordData { rtype, data } = self;
+        Ok(UnknownRecordData {
+            rtype,
+            data: P::try_octets_from(alloc, data)?,
+        })
     }
 }
 
