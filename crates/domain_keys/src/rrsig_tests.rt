@@ -5,10 +5,12 @@ use domain_base::{
 use domain_octets::{
     AppendError, ArrayBuilder, DisplayKind, OctetsFrom, ParseError, Parser, ZonefileFmt,
 };
-use domain_plain::{ComposeRecordData, LongRecordData, ParseRecordData};
+use domain_plain::{ComposeRecordData, LongRecordData};
 use std::alloc::Global;
 use std::cmp::Ordering;
 use std::test::Fail;
+
+type Owned = Rrsig<Vec<u8>, Name<Vec<u8>>>;
 
 const TOKENS: &[&str] = &[
     "A",
@@ -40,35 +42,44 @@ fn fields(alloc: Global, signer: &str) -> Result<ProtoRrsig<Name<Vec<u8>>>, Scan
 }
 
 #[test]
-fn signatures_both_ways(rt: HostRuntime) -> Result<(), Fail> {
-    let alloc = rt.alloc();
-    let rrsig = fields(alloc, "example.com.")?.into_rrsig(b"key".as_slice())?;
-    let mut octets = Vec::new(alloc);
+fn signatures_in_octets(rt: HostRuntime) -> Result<(), Fail> {
+    let rrsig = fields(rt.alloc(), "example.com.")?.into_rrsig(b"key".as_slice())?;
+    let mut octets = Vec::new(rt.alloc());
     rrsig.compose_rdata(&mut octets)?;
     assert_eq!(rt; octets.as_slice(), OCTETS);
     assert_eq!(rt; rrsig.rdlen(false), Some(34));
-    let scanned = Rrsig::scan(alloc, &mut IterScanner::<Vec<u8>>::new(TOKENS))?;
-    assert!(rt; scanned.eq_to(&rrsig));
-    let text = "A 5 3 12 13 14 15 example.com. a2V5";
-    assert_eq!(rt; format!(in alloc; "{scanned}")?.as_str(), text);
-    assert_eq!(rt;
-        scanned
-            .display_zonefile(alloc, DisplayKind::Simple)?
-            .as_str(),
-        text
-    );
     let parsed = Rrsig::parse(&mut Parser::new(OCTETS))?;
-    assert!(rt; parsed.eq_to(&scanned) && parsed.type_covered() == Rtype::A);
+    assert!(rt; parsed.eq_to(&rrsig));
+    assert!(rt; parsed.type_covered() == Rtype::A && parsed.labels() == 3);
+    Ok(())
+}
+
+#[test]
+fn signatures_in_text(rt: HostRuntime) -> Result<(), Fail> {
+    let alloc = rt.alloc();
+    let rrsig = Rrsig::scan(alloc, &mut IterScanner::<Vec<u8>>::new(TOKENS))?;
+    let parsed = Rrsig::parse(&mut Parser::new(OCTETS))?;
+    assert!(rt; rrsig.eq_to(&parsed));
+    let text = "A 5 3 12 13 14 15 example.com. a2V5";
+    assert_eq!(rt; format!(in alloc; "{rrsig}")?.as_str(), text);
+    let simple = rrsig.display_zonefile(alloc, DisplayKind::Simple)?;
+    assert_eq!(rt; simple.as_str(), text);
+    Ok(())
+}
+
+#[test]
+fn signers_in_either_case(rt: HostRuntime) -> Result<(), Fail> {
+    let alloc = rt.alloc();
     let upper = fields(alloc, "EXAMPLE.com.")?;
-    let mut spelled = Vec::new(alloc);
+    let (mut spelled, mut canonical) = (Vec::new(alloc), Vec::new(alloc));
     upper.compose(&mut spelled)?;
     assert!(rt; spelled.as_slice() != &OCTETS[..31]);
-    let mut canonical = Vec::new(alloc);
     upper.compose_canonical(&mut canonical)?;
     assert_eq!(rt; canonical.as_slice(), &OCTETS[..31]);
     let upper = upper.into_rrsig(b"key".as_slice())?;
-    assert!(rt; upper == rrsig);
-    assert_eq!(rt; upper.cmp(&rrsig), Ordering::Equal);
+    let lower = fields(alloc, "example.com.")?.into_rrsig(b"key".as_slice())?;
+    assert!(rt; upper == lower);
+    assert_eq!(rt; upper.cmp(&lower), Ordering::Equal);
     Ok(())
 }
 
@@ -94,31 +105,36 @@ fn limits_of_signatures(rt: HostRuntime) -> Result<(), Fail> {
 fn signatures_held_otherwise(rt: HostRuntime) -> Result<(), Fail> {
     let alloc = rt.alloc();
     let parsed = Rrsig::parse(&mut Parser::new(OCTETS))?;
-    let owned = Rrsig::<Vec<u8>, Name<Vec<u8>>>::try_octets_from(alloc, parsed.clone()?)?;
-    assert!(rt; owned.clone()?.eq_to(&parsed));
-    let none = Rrsig::<ArrayBuilder<12>, Name<ArrayBuilder<12>>>::try_octets_from(
-        alloc, parsed,
-    ).err();
-    assert_eq!(rt; none, Some(AppendError::ShortBuf));
+    let owned = Owned::try_octets_from(alloc, parsed.clone()?)?;
+    assert!(rt; owned.eq_to(&parsed));
+    let none = Rrsig::<ArrayBuilder<12>, Name<ArrayBuilder<12>>>::try_octets_from(alloc, parsed);
+    assert_eq!(rt; none.err(), Some(AppendError::ShortBuf));
     let mut changed = owned.clone()?;
     changed.set_signature(Vec::new(alloc));
     assert_eq!(rt; changed.canonical_cmp_to(&owned), Ordering::Less);
-    let names: [(usize, &str); 4] = [
-        (0, "unknown record type"),
-        (4, "illegal signature time"),
-        (7, "illegal name"),
-        (8, "illegal data"),
+    Ok(())
+}
+
+#[test]
+fn tokens_that_are_refused(rt: HostRuntime) {
+    let rows: [(&[&str], &str); 5] = [
+        (&["=", "="], "unknown record type"),
+        (&["A", "5", "3", "x"], "decimal number expected"),
+        (
+            &["A", "5", "3", "12", "13", "20240101000000"],
+            "illegal signature time",
+        ),
+        (
+            &["A", "5", "3", "12", "13", "14", "15", ".."],
+            "illegal name",
+        ),
+        (
+            &["A", "5", "3", "12", "13", "14", "15", ".", "="],
+            "illegal data",
+        ),
     ];
-    for (at, text) in names {
-        let mut tokens = vec![in alloc; "1"; 9]?;
-        tokens.as_mut_slice()[0] = "A";
-        tokens.as_mut_slice()[8] = "";
-        if at < tokens.len() {
-            tokens.as_mut_slice()[at] = "=..";
-        }
-        let mut scanner = IterScanner::<Vec<u8>>::new(tokens.as_slice());
-        let refused = Rrsig::<Vec<u8>, Name<Vec<u8>>>::scan(alloc, &mut scanner).err();
+    for (tokens, text) in rows {
+        let refused = Owned::scan(rt.alloc(), &mut IterScanner::new(tokens)).err();
         assert_eq!(rt; refused, Some(ScanError::Custom(text)));
     }
-    Ok(())
 }

@@ -4,10 +4,10 @@ use domain_base::{
     CanonicalOrd, DigestAlgorithm, IterScanner, Rtype, ScanError, SecurityAlgorithm,
 };
 use domain_octets::{
-    AppendError, ArrayBuilder, DisplayKind, Octets, OctetsFrom, ParseError, Parser, Piece,
-    PieceFormatter, TryClone, ZonefileFmt, base64_standard,
+    AppendError, ArrayBuilder, DisplayKind, Octets, OctetsFrom, ParseError, Parser, PieceFormatter,
+    TryClone, ZonefileFmt, base64_standard,
 };
-use domain_plain::{ComposeRecordData, LongRecordData, ParseRecordData, RecordData};
+use domain_plain::{ComposeRecordData, LongRecordData, ParseRecordData};
 use std::cmp::Ordering;
 use std::collections::{BTreeMap, HashMap};
 use std::test::Fail;
@@ -53,51 +53,41 @@ fn flags_of_keys(rt: HostRuntime) -> Result<(), Fail> {
     assert!(rt; key.is_zone_key() && key.is_secure_entry_point() && !key.is_revoked());
     let mut formatter = PieceFormatter::new(rt.alloc());
     ZonefileFmt::fmt(&key, &mut formatter)?;
-    let text = |text| String::from_str(rt.alloc(), text);
-    let expected = vec![in rt.alloc();
-        Piece::Open,
-        Piece::Token(text("257")?),
-        Piece::Comment(text("flags: sep zone_key")?),
-        Piece::Token(text("3")?),
-        Piece::Comment(text("protocol")?),
-        Piece::Token(text("8")?),
-        Piece::Token(text("")?),
-        Piece::Comment(text("key tag: 1033")?),
-        Piece::Close,
-    ]?;
-    assert!(rt; formatter.pieces() == expected.as_slice());
+    let pieces = formatter.pieces();
+    let text = format!(in rt.alloc(); "{pieces:?}")?;
+    assert_eq!(rt;
+        text.as_str(),
+        "[Open, Token(\"257\"), Comment(\"flags: sep zone_key\"), Token(\"3\"), Comment(\"protocol\"), Token(\"8\"), Token(\"\"), Comment(\"key tag: 1033\"), Close]"
+    );
     Ok(())
 }
 
 #[test]
-fn keys_both_ways(rt: HostRuntime) -> Result<(), Fail> {
-    let alloc = rt.alloc();
+fn keys_in_octets(rt: HostRuntime) -> Result<(), Fail> {
     let key = Dnskey::new(10, 11, SecurityAlgorithm::RSASHA1, b"key0".as_slice())?;
-    let mut scanner = IterScanner::<Vec<u8>>::new(&["10", "11", "5", "a2V5", "MA=="]);
-    let scanned = Dnskey::scan(alloc, &mut scanner)?;
-    assert!(rt; scanned.eq_to(&key));
-    let mut octets = Vec::new(alloc);
+    let mut octets = Vec::new(rt.alloc());
     key.compose_rdata(&mut octets)?;
     assert_eq!(rt; octets.as_slice(), b"\x00\x0a\x0b\x05key0".as_slice());
     assert_eq!(rt; key.rdlen(false), Some(8));
-    let mut canonical = Vec::new(alloc);
-    key.compose_canonical_rdata(&mut canonical)?;
-    assert!(rt; canonical.as_slice() == octets.as_slice());
-    let mut parser = Parser::new(octets.as_slice());
-    let parsed = Dnskey::parse(&mut parser)?;
-    assert!(rt; parsed == key && parser.remaining() == 0);
     assert_eq!(rt; key.key_tag(), 61348);
-    assert_eq!(rt;
-        format!(in alloc; "{scanned}")?.as_str(),
-        "10 11 5 a2V5MA=="
-    );
+    let mut parser = Parser::new(octets.as_slice());
+    assert!(rt; Dnskey::parse(&mut parser)? == key);
+    assert_eq!(rt; parser.remaining(), 0);
+    Ok(())
+}
+
+#[test]
+fn keys_in_text(rt: HostRuntime) -> Result<(), Fail> {
+    let alloc = rt.alloc();
+    let mut scanner = IterScanner::<Vec<u8>>::new(&["10", "11", "5", "a2V5", "MA=="]);
+    let key = Dnskey::scan(alloc, &mut scanner)?;
+    assert_eq!(rt; key.public_key().as_slice(), b"key0".as_slice());
+    assert_eq!(rt; format!(in alloc; "{key}")?.as_str(), "10 11 5 a2V5MA==");
+    let text = key.display_zonefile(alloc, DisplayKind::Simple)?;
+    assert_eq!(rt; text.as_str(), "10 11 5 a2V5MA==");
     assert_eq!(rt;
         format!(in alloc; "{key:?}")?.as_str(),
         "Dnskey { flags: 10, protocol: 11, algorithm: SecurityAlgorithm(5), public_key: [107, 101, 121, 48] }"
-    );
-    assert_eq!(rt;
-        key.display_zonefile(alloc, DisplayKind::Simple)?.as_str(),
-        "10 11 5 a2V5MA=="
     );
     Ok(())
 }
@@ -105,21 +95,30 @@ fn keys_both_ways(rt: HostRuntime) -> Result<(), Fail> {
 #[test]
 fn digests_both_ways(rt: HostRuntime) -> Result<(), Fail> {
     let alloc = rt.alloc();
-    let (algorithm, sha256) = (SecurityAlgorithm::RSASHA1, DigestAlgorithm::SHA256);
-    let ds = Ds::new(10, algorithm, sha256, b"key".as_slice())?;
     let mut scanner = IterScanner::<Vec<u8>>::new(&["10", "5", "2", "6b6579"]);
-    assert!(rt; Ds::scan(alloc, &mut scanner)?.eq_to(&ds));
+    let ds = Ds::scan(alloc, &mut scanner)?;
     let mut octets = Vec::new(alloc);
     ds.compose_rdata(&mut octets)?;
     assert_eq!(rt; octets.as_slice(), b"\x00\x0a\x05\x02key".as_slice());
     assert_eq!(rt; ds.rdlen(false), Some(7));
-    assert!(rt; Ds::parse(&mut Parser::new(octets.as_slice()))? == ds);
-    let ds = Ds::new(10, algorithm, sha256, b"\xab\xcd".as_slice())?;
+    let parsed = Ds::parse(&mut Parser::new(octets.as_slice()))?;
+    assert!(rt; parsed.eq_to(&ds));
+    Ok(())
+}
+
+#[test]
+fn digests_in_text(rt: HostRuntime) -> Result<(), Fail> {
+    let alloc = rt.alloc();
+    let octets = b"\xab\xcd".as_slice();
+    let ds = Ds::new(
+        10,
+        SecurityAlgorithm::RSASHA1,
+        DigestAlgorithm::SHA256,
+        octets,
+    )?;
     assert_eq!(rt; format!(in alloc; "{ds}")?.as_str(), "10 5 2 abcd");
-    assert_eq!(rt;
-        ds.display_zonefile(alloc, DisplayKind::Simple)?.as_str(),
-        "10 5 2 ABCD"
-    );
+    let text = ds.display_zonefile(alloc, DisplayKind::Simple)?;
+    assert_eq!(rt; text.as_str(), "10 5 2 ABCD");
     assert_eq!(rt;
         format!(in alloc; "{ds:?}")?.as_str(),
         "Ds { key_tag: 10, algorithm: SecurityAlgorithm(5), digest_type: DigestAlgorithm(2), digest: [171, 205] }"
@@ -128,14 +127,19 @@ fn digests_both_ways(rt: HostRuntime) -> Result<(), Fail> {
 }
 
 #[test]
-fn data_that_is_refused(rt: HostRuntime) -> Result<(), Fail> {
-    let alloc = rt.alloc();
+fn fields_that_are_too_long(rt: HostRuntime) -> Result<(), Fail> {
     let (algorithm, sha256) = (SecurityAlgorithm::RSASHA1, DigestAlgorithm::SHA256);
-    let long = vec![in alloc; 0; 65536]?;
-    assert!(rt; Dnskey::new(0, 3, algorithm, &long[5..]).is_ok());
-    assert!(rt; Dnskey::new(0, 3, algorithm, &long[4..]).err() == Some(LongRecordData));
-    assert!(rt; Ds::new(0, algorithm, sha256, &long[5..]).is_ok());
-    assert!(rt; Ds::new(0, algorithm, sha256, &long[4..]).err() == Some(LongRecordData));
+    let long = vec![in rt.alloc(); 0; 65532]?;
+    assert!(rt; Dnskey::new(0, 3, algorithm, &long[1..]).is_ok());
+    assert!(rt; Dnskey::new(0, 3, algorithm, &long[..]).err() == Some(LongRecordData));
+    assert!(rt; Ds::new(0, algorithm, sha256, &long[1..]).is_ok());
+    assert!(rt; Ds::new(0, algorithm, sha256, &long[..]).err() == Some(LongRecordData));
+    Ok(())
+}
+
+#[test]
+fn octets_that_are_refused(rt: HostRuntime) -> Result<(), Fail> {
+    let long = vec![in rt.alloc(); 0; 65536]?;
     let refusals = [
         (&long[..], ParseError::Form("record data too long")),
         (&long[..3], ParseError::ShortInput),
@@ -145,59 +149,72 @@ fn data_that_is_refused(rt: HostRuntime) -> Result<(), Fail> {
         assert_eq!(rt; Dnskey::parse(&mut parser).err(), Some(error));
         assert_eq!(rt; Ds::parse(&mut parser).err(), Some(error));
         assert_eq!(rt; parser.pos(), 0);
-        let error = Dnskey::parse_rdata(Rtype::DNSKEY, &mut parser).err();
-        assert!(rt; error.is_some());
-        assert!(rt; Ds::parse_rdata(Rtype::DNSKEY, &mut parser)?.is_none());
     }
-    let rows: [(&[&str], &str); 4] = [
-        (&["10", "11", "256"], "decimal number expected"),
-        (&["65536", "x", "y"], "decimal number expected"),
-        (&["10", "11", "5", "a2V5", "M"], "illegal data"),
-        (&["10", "11", "5", "="], "illegal data"),
-    ];
-    for (tokens, text) in rows {
-        let refused = Dnskey::scan(alloc, &mut IterScanner::<Vec<u8>>::new(tokens)).err();
-        assert_eq!(rt; refused, Some(ScanError::Custom(text)));
-    }
-    let ended = Ds::scan(alloc, &mut IterScanner::<Vec<u8>>::new(&["10", "5"])).err();
-    assert_eq!(rt; ended, Some(ScanError::EndOfEntry));
-    let full = Dnskey::scan(
-        alloc,
-        &mut IterScanner::<ArrayBuilder<3>>::new(&["1", "3", "5", "a2V5MA=="]),
-    )
-    .err();
-    assert_eq!(rt; full, Some(ScanError::ShortBuf));
+    let mut parser = Parser::new(&long[..4]);
+    assert!(rt; Ds::parse_rdata(Rtype::DNSKEY, &mut parser)?.is_none());
+    assert!(rt; Dnskey::parse_rdata(Rtype::DNSKEY, &mut parser)?.is_some());
     Ok(())
 }
 
 #[test]
-fn keys_compared_and_converted(rt: HostRuntime) -> Result<(), Fail> {
-    let alloc = rt.alloc();
+fn tokens_that_are_refused(rt: HostRuntime) {
+    let rows: [(&[&str], ScanError); 5] = [
+        (
+            &["10", "11", "256"],
+            ScanError::Custom("decimal number expected"),
+        ),
+        (
+            &["65536", "x", "y"],
+            ScanError::Custom("decimal number expected"),
+        ),
+        (
+            &["10", "11", "5", "a2V5", "M"],
+            ScanError::Custom("illegal data"),
+        ),
+        (&["10", "11", "5", "a2V5MA=="], ScanError::ShortBuf),
+        (&["10", "11"], ScanError::EndOfEntry),
+    ];
+    for (tokens, error) in rows {
+        let mut scanner = IterScanner::<ArrayBuilder<3>>::new(tokens);
+        assert_eq!(rt; Dnskey::scan(rt.alloc(), &mut scanner).err(), Some(error));
+    }
+}
+
+#[test]
+fn keys_compared(rt: HostRuntime) -> Result<(), Fail> {
     let low = Dnskey::new(256, 3, SecurityAlgorithm::RSASHA1, b"b".as_slice())?;
     let high = Dnskey::new(256, 3, SecurityAlgorithm::RSASHA256, b"a".as_slice())?;
     assert_eq!(rt; low.cmp(&high), Ordering::Less);
     assert_eq!(rt; high.canonical_cmp_to(&low), Ordering::Greater);
     assert_eq!(rt; low.canonical_cmp(&low.try_clone()?), Ordering::Equal);
-    let owned = Dnskey::<Vec<u8>>::try_octets_from(alloc, low.clone()?)?;
-    let shared = Dnskey::<Bytes>::try_octets_from(alloc, low.clone()?)?;
-    assert!(rt; owned.eq_to(&low) && shared.eq_to(&owned) && !shared.eq_to(&high));
-    let none = Dnskey::<ArrayBuilder<0>>::try_octets_from(alloc, low).err();
+    let mut tree = BTreeMap::new(rt.alloc());
+    let mut hashed = HashMap::new(rt.alloc());
+    tree.insert(low.clone()?, 1u8)?;
+    hashed.insert(low.clone()?, 2u8)?;
+    assert_eq!(rt; tree.get(&low).copied(), Some(1));
+    assert_eq!(rt; hashed.get(&low).copied(), Some(2));
+    Ok(())
+}
+
+#[test]
+fn keys_converted(rt: HostRuntime) -> Result<(), Fail> {
+    let alloc = rt.alloc();
+    let key = Dnskey::new(256, 3, SecurityAlgorithm::RSASHA1, b"b".as_slice())?;
+    let owned = Dnskey::<Vec<u8>>::try_octets_from(alloc, key.clone()?)?;
+    let shared = Dnskey::<Bytes>::try_octets_from(alloc, key.clone()?)?;
+    assert!(rt; owned.eq_to(&key) && shared.eq_to(&owned));
+    let none = Dnskey::<ArrayBuilder<0>>::try_octets_from(alloc, key).err();
     assert_eq!(rt; none, Some(AppendError::ShortBuf));
-    let mut tree = BTreeMap::new(alloc);
-    let mut hashed = HashMap::new(alloc);
-    tree.insert(owned.clone()?, 1u8)?;
-    hashed.insert(owned.clone()?, 2u8)?;
-    assert_eq!(rt; tree.get(&owned).copied(), Some(1));
-    assert_eq!(rt; hashed.get(&owned).copied(), Some(2));
-    assert_eq!(rt; owned.rtype(), Rtype::DNSKEY);
-    let same: Dnskey<Vec<u8>> = owned.clone()?.convert();
+    let same: Dnskey<Vec<u8>> = owned.convert();
     assert_eq!(rt; same.into_public_key().as_slice(), b"b".as_slice());
-    let ds = Ds::new(
-        1,
-        SecurityAlgorithm::ED25519,
-        DigestAlgorithm::SHA1,
-        b"b".as_slice(),
-    )?;
+    Ok(())
+}
+
+#[test]
+fn digests_converted(rt: HostRuntime) -> Result<(), Fail> {
+    let alloc = rt.alloc();
+    let (ed25519, sha1) = (SecurityAlgorithm::ED25519, DigestAlgorithm::SHA1);
+    let ds = Ds::new(1, ed25519, sha1, b"b".as_slice())?;
     let owned = Ds::<Vec<u8>>::try_octets_from(alloc, ds.clone()?)?;
     let shared = Ds::<Bytes>::try_octets_from(alloc, ds.clone()?)?;
     assert!(rt; owned.eq_to(&ds) && shared.cmp_to(&owned).is_eq());
