@@ -16,6 +16,7 @@ mod entry;
 mod fields;
 mod flags;
 mod key_tag;
+pub mod laws;
 mod proto_rrsig;
 mod rrsig;
 mod rrsig_convert;

@@ -50,17 +50,24 @@ fn texts_of_times(rt: HostRuntime) -> Result<(), Fail> {
             let stamp = Timestamp::from_str(token).ok();
             assert_eq!(rt; stamp.map(Timestamp::into_int), read);
         }
-        let mut scanner = IterScanner::<Vec<u8>>::new(tokens);
-        match Timestamp::scan(&mut scanner) {
-            Ok(stamp) => assert_eq!(rt; Some(stamp.into_int()), scanned),
-            Err(error) => {
-                assert_eq!(rt; error, ScanError::Custom("illegal signature time"));
-                assert_eq!(rt; None, scanned);
-            }
-        }
+        let found = match Timestamp::scan(&mut IterScanner::<Vec<u8>>::new(tokens)) {
+            Ok(stamp) => Some(stamp.into_int()),
+            Err(_) => None,
+        };
+        assert_eq!(rt; found, scanned);
     }
-    let ended = Timestamp::scan(&mut IterScanner::<Vec<u8>>::new(&[])).err();
-    assert!(rt; ended == Some(ScanError::EndOfEntry));
+    let mut scanner = IterScanner::<Vec<u8>>::new(&["1x"]);
+    let refused = Timestamp::scan(&mut scanner);
+    assert!(rt;
+        matches!(refused, Err(ScanError::Custom(text)) if text == "illegal signature time")
+    );
+    let ended = Timestamp::scan(&mut scanner);
+    assert!(rt; matches!(ended, Err(ScanError::EndOfEntry)));
+    Ok(())
+}
+
+#[test]
+fn printed_times(rt: HostRuntime) -> Result<(), Fail> {
     let stamp = Timestamp::from(13);
     let (error, alloc) = (IllegalSignatureTime, rt.alloc());
     let text = format!(in alloc; "{stamp} {stamp:?} {error}")?;
@@ -94,11 +101,9 @@ fn orders_and_octets_of_times(rt: HostRuntime) -> Result<(), Fail> {
     assert_eq!(rt; octets.as_slice(), b"\x01\x02\x03\x04".as_slice());
     assert_eq!(rt; u64::from(Timestamp::COMPOSE_LEN), 4);
     let mut parser = Parser::new(octets.as_slice());
-    let stamp = Timestamp::parse(&mut parser).ok();
-    assert_eq!(rt; stamp.map(Timestamp::into_int), Some(0x0102_0304));
-    assert_eq!(rt;
-        Timestamp::parse(&mut parser).err(),
-        Some(ParseError::ShortInput)
-    );
+    let parsed = Timestamp::parse(&mut parser);
+    assert!(rt; matches!(parsed, Ok(stamp) if stamp.into_int() == 0x0102_0304));
+    let refused = Timestamp::parse(&mut parser);
+    assert!(rt; matches!(refused, Err(ParseError::ShortInput)));
     Ok(())
 }
