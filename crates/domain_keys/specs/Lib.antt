@@ -5,3 +5,4 @@ pub mod Flags
 pub mod Text
 pub mod Time
 pub mod Pieces
+pub mod RrsigPieces

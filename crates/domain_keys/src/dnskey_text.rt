@@ -1,9 +1,8 @@
 //! Keys as text (RFC 4034, section 2.2).
 ghost use Rattle.std.specs.Prelude.{◌≡◌, ◌++◌, [], Some, codes, IfOk, IfErr, OnOk};
 ghost use Rattle.std.specs.Fmt.{decimal};
-ghost use Rattle.domain_octets.specs.declared.codec.Codec.TheVariants as codec;
 ghost use Rattle.domain_base.specs.Scan.{scan_fault_of};
-ghost use Rattle.domain_keys.specs.Text.{DnskeyText, RefusesData, three_numbers};
+ghost use Rattle.domain_keys.specs.Text.{DnskeyText, RefusesDnskey};
 ghost use Rattle.domain_keys.specs.Pieces.{dnskey_text, dnskey_pieces};
 
 use crate::Dnskey;
@@ -26,7 +25,7 @@ impl<O: FromBuilder + Drop> Dnskey<O> {
     pub fn scan<S: Scanner<Octets = O>>(alloc: Global, scanner: &mut S) -> Result<Self, ScanError>
         ensures ok { IfOk result (DnskeyText (S.tokens scanner.old)) }
         ensures all { OnOk result (S.tokens scanner.new ≡ []) }
-        ensures err { IfErr result (λ e. RefusesData O.Builder.limit 65531 three_numbers codec.Base64 (S.tokens scanner.old) (S.tokens scanner.new) (scan_fault_of e)) }
+        ensures err { IfErr result (λ e. RefusesDnskey O.Builder.limit (S.tokens scanner.old) (S.tokens scanner.new) (scan_fault_of e)) }
     {
         let scanned = scan_entry::<S, (u16, (u8, u8))>(alloc, scanner, Codec::Base64, MOST);
         let ((flags, (protocol, algorithm)), public_key) = match scanned {

@@ -1,8 +1,7 @@
 //! Digests of keys as text (RFC 4034, section 5.3).
 ghost use Rattle.std.specs.Prelude.{◌≡◌, [], Some, IfOk, IfErr, OnOk};
-ghost use Rattle.domain_octets.specs.declared.codec.Codec.TheVariants as codec;
 ghost use Rattle.domain_base.specs.Scan.{scan_fault_of};
-ghost use Rattle.domain_keys.specs.Text.{DsText, RefusesData, three_numbers};
+ghost use Rattle.domain_keys.specs.Text.{DsText, RefusesDs};
 ghost use Rattle.domain_keys.specs.Pieces.{ds_text, ds_pieces};
 
 use crate::Ds;
@@ -24,7 +23,7 @@ impl<O: FromBuilder + Drop> Ds<O> {
     pub fn scan<S: Scanner<Octets = O>>(alloc: Global, scanner: &mut S) -> Result<Self, ScanError>
         ensures ok { IfOk result (DsText (S.tokens scanner.old)) }
         ensures all { OnOk result (S.tokens scanner.new ≡ []) }
-        ensures err { IfErr result (λ e. RefusesData O.Builder.limit 65531 three_numbers codec.Base16 (S.tokens scanner.old) (S.tokens scanner.new) (scan_fault_of e)) }
+        ensures err { IfErr result (λ e. RefusesDs O.Builder.limit (S.tokens scanner.old) (S.tokens scanner.new) (scan_fault_of e)) }
     {
         let scanned = scan_entry::<S, (u16, (u8, u8))>(alloc, scanner, Codec::Base16, MOST);
         let ((key_tag, (algorithm, digest_type)), digest) = match scanned {

@@ -1,6 +1,7 @@
 //! Data that end in octets which all tokens that are left spell together.
-ghost use Rattle.std.specs.Prelude.{◌≡◌, ◌≤◌, [], length, IfOk, IfErr, OnOk};
+ghost use Rattle.std.specs.Prelude.{◌≡◌, ◌<◌, ◌≤◌, [], length, IfOk, IfErr, OnOk};
 ghost use Rattle.domain_base.specs.Scan.{scan_fault_of};
+ghost use Rattle.domain_plain.specs.Scan.{Scans, Refuses};
 ghost use Rattle.domain_keys.specs.Text.{Spells, RefusesData};
 
 use domain_base::{ScanError, Scanner};
@@ -22,10 +23,10 @@ pub fn scan_entry<S: Scanner, F: ScanFields<S> + Drop>(
 ) -> Result<(F, S::Octets), ScanError>
 where
     S::Octets: Drop,
-    ensures ok { IfOk result (λ p. Spells F.layout codec (S.tokens scanner.old) (F.values p.0) (S.Octets.octets p.1)) }
+    ensures ok { IfOk result (λ p. Spells (Scans F.layout) codec (S.tokens scanner.old) (F.values p.0) (S.Octets.octets p.1)) }
     ensures fits { IfOk result (λ p. length (S.Octets.octets p.1) ≤ most) }
     ensures all { OnOk result (S.tokens scanner.new ≡ []) }
-    ensures err { IfErr result (λ e. RefusesData S.Octets.Builder.limit most F.layout codec (S.tokens scanner.old) (S.tokens scanner.new) (scan_fault_of e)) }
+    ensures err { IfErr result (λ e. RefusesData (Scans F.layout) (Refuses S.Octets.Builder.limit F.layout) S.Octets.Builder.limit (λ fields octets. most < length octets) codec (S.tokens scanner.old) (S.tokens scanner.new) (scan_fault_of e)) }
 {
     let fields = F::scan(alloc, scanner)?;
     let octets = scanner.convert_entry(alloc, codec)?;

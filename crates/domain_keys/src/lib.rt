@@ -16,9 +16,22 @@ mod entry;
 mod fields;
 mod flags;
 mod key_tag;
+pub mod laws;
+mod proto_rrsig;
+mod rrsig;
+mod rrsig_convert;
+#[cfg(test)]
+mod rrsig_tests;
+mod rrsig_text;
+#[cfg(test)]
+mod tests;
 mod text;
+#[cfg(test)]
+mod time_tests;
 mod timestamp;
 
 pub use dnskey::Dnskey;
 pub use ds::Ds;
+pub use proto_rrsig::ProtoRrsig;
+pub use rrsig::Rrsig;
 pub use timestamp::{IllegalSignatureTime, Timestamp};
