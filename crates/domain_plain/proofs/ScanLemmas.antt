@@ -1,5 +1,5 @@
 -- Tokens that are refused spell no values.
-use Rattle.std.proofs.Common.{◌≡◌, ◌≢◌, ℕ, List, [], ◌∷◌, refl, sym, ap, subst, ◌∙◌, inl, inr, None}
+use Rattle.std.proofs.Common.{◌≡◌, ◌≢◌, ℕ, List, refl, subst, inl, inr, None}
 use Rattle.domain_base.specs.Scan.{ScanFault, entry_ends, illegal, no_room, no_memory, TakesToken, RefusesToken, ended, refused, NameFault}
 use Rattle.domain_base.specs.Text.{NameText}
 use Rattle.domain_plain.specs.Field.{Field, octet, short, long, name, spelled_name, counted, exactly, at_most, rest, Value}
