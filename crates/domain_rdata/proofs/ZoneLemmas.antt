@@ -1,12 +1,12 @@
 -- unknown data compared with data of other kinds
-use Rattle.std.proofs.Common.{◌≡◌, ℕ, List, sym, ap, refl}
+use Rattle.std.proofs.Common.{◌≡◌, ℕ, List, sym, refl}
 use Rattle.std.specs.Ordering.{ordering_reverse, nat_cmp}
 use Rattle.std.specs.Cmp.Lexicographic.{slice_cmp, nat_list_cmp_total}
 use Rattle.domain_plain.specs.Layout.{octets_of, canonical_of}
 use Rattle.domain_plain.specs.Plain.{unknown}
 
 -- the canonical octets of unknown data are the octets
-pub unknown_octets : (v : List ℕ) → canonical_of unknown v ≡ v
+pub unknown_octets : (v : List ℕ) → canonical_of unknown (tt, v) ≡ v
 unfolding octets_of
 unknown_octets v = refl
 
