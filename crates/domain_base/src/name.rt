@@ -174,3 +174,10 @@ impl<O: Octets> fmt::Display for Name<O> {
         text::write_name(self.as_wire(), f)
     }
 }
+
+impl<O: Octets> fmt::Debug for Name<O> {
+    fn fmt<W: fmt::Write>(&self, f: &mut fmt::Formatter<W>) -> fmt::Result {
+        let name = self.fmt_with_dot();
+        write!(f, "Name({name})")
+    }
+}

@@ -1,11 +1,13 @@
 //! Names that lie in a message.
-ghost use Rattle.std.specs.Prelude.{◌≡◌, IfOk, IfErr, OnErr};
+ghost use Rattle.std.specs.Prelude.{◌≡◌, Some, IfOk, IfErr, OnErr};
+ghost use Rattle.domain_base.specs.Text.{name_text};
 ghost use Rattle.domain_base.specs.Name.{wire_of, IsName};
 ghost use Rattle.domain_base.specs.Fault.{NameFault, FirstFault, fault_of, name_fault_of};
 ghost use Rattle.domain_octets.specs.Place.{Takes};
 
-use crate::{NameError, ParseError, ToName, wire};
+use crate::{NameError, ParseError, ToName, text, wire};
 use domain_octets::{OutOfMemory, Parser, TryClone};
+use std::fmt;
 use std::marker::Model;
 
 /// A name in the octets of a message, which it borrows.
@@ -76,5 +78,20 @@ impl<'a> ToName for ParsedName<'a> {
 
     fn as_wire(&self) -> &[u8] {
         self.wire
+    }
+}
+
+impl<'a> fmt::Display for ParsedName<'a> {
+    ghost output = { λ n. Some (name_text n) };
+
+    fn fmt<W: fmt::Write>(&self, f: &mut fmt::Formatter<W>) -> fmt::Result {
+        text::write_name(self.as_wire(), f)
+    }
+}
+
+impl<'a> fmt::Debug for ParsedName<'a> {
+    fn fmt<W: fmt::Write>(&self, f: &mut fmt::Formatter<W>) -> fmt::Result {
+        let name = self.fmt_with_dot();
+        write!(f, "ParsedName({name})")
     }
 }
