@@ -8,7 +8,7 @@ use Rattle.domain_base.specs.Scan.{ScanFault, illegal, TakesToken, RefusesToken,
 use Rattle.domain_base.specs.Name.{wire_of}
 use Rattle.domain_base.specs.Numbers.{TypeText, IsNoType}
 use Rattle.domain_plain.specs.Field.{octet, short, long, name}
-use Rattle.domain_plain.specs.Layout.{Layout, one, ◌▸◌, Values}
+use Rattle.domain_plain.specs.Layout.{Layout, one, ◌▸◌}
 use Rattle.domain_plain.specs.Scan.{Scans, Refuses}
 use Rattle.domain_keys.specs.Time.{TimeToken, IsNoTime}
 use Rattle.domain_keys.specs.Data.{DnskeyData, DsData, RrsigData, rrsig_octets}

@@ -1,4 +1,4 @@
-use Rattle.std.proofs.Common.{◌≡◌, ◌<◌, ◌+◌, ◌-◌, ◌%◌, ◌∙◌, arith, sym, subst}
+use Rattle.std.proofs.Common.{◌∙◌, arith, sym, subst}
 use Rattle.domain_keys.specs.Time.{IsNear, TimeAt, nearest, before_1970}
 use Rattle.domain_keys.proofs.TimeLemmas.{near_after, near_before, none_near, time_after, none_after}
 use Rattle.domain_keys.proofs.timestamp.Timestamp.to_system_time.Goals as goal
