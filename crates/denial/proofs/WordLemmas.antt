@@ -44,3 +44,11 @@ is_bad line seen tokens skipped e are same test off bad none = record {
   seen = λ s. absurd (let on = test.1 (subst IsSkipped (sym are) s) in cc);
   none = λ r h. (subst (SpellsNone tokens) bad none) r (subst (λ ws. LineText (λ o. o.items) (λ n. n) ws r) (sym same) h.spelled);
 }
+
+-- a line that is not skipped, and holds an octet past `~`
+pub is_not_plain : (line : List ℕ) (seen others : List (List ℕ)) (skipped : Bool) → seen ≡ words line → others ≡ words line
+    → IsTrue skipped ↔ IsSkipped seen → skipped ≡ false → (ArePlain others → ⊥) → IsBad line
+is_not_plain line seen others skipped are same test off rough = record {
+  seen = λ s. absurd (let on = test.1 (subst IsSkipped (sym are) s) in cc);
+  none = λ r h. rough (subst ArePlain (sym same) h.plain);
+}

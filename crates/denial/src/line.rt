@@ -1,5 +1,5 @@
 //! What a line of the input says.
-ghost use Rattle.std.specs.Prelude.{◌≡◌, ◌↔◌, IsTrue, IfErr, IfOk, IfSome, IfNone, None, map};
+ghost use Rattle.std.specs.Prelude.{◌≡◌, ◌↔◌, IsTrue, IfErr, IfOk, IfSome, IfNone, map};
 ghost use Rattle.domain_base.specs.Scan.{ScanFault, TakesToken, RefusesToken};
 ghost use Rattle.denial.specs.Words.{words, IsSkipped, IsPlain, ArePlain, LineText};
 ghost use Rattle.denial.specs.Said.{Says, SpellsNone, line_error_of};
@@ -113,7 +113,7 @@ fn scan_record<S: Scanner<Name = ZoneName, Octets = Vec<u8>>>(
     scanner: &mut S,
 ) -> Result<ZoneRr, LineError>
     ensures ok { IfOk result (LineText (λ o. o.items) (λ n. n) (S.tokens scanner.old)) }
-    ensures err { IfErr result (λ e. S.Octets.Builder.limit ≡ None → SpellsNone (S.tokens scanner.old) e) }
+    ensures err { IfErr result (SpellsNone (S.tokens scanner.old)) }
 {
     let owner = scanner.scan_name(alloc)?;
     let ttl = field::<Ttl, S>(scanner)?;

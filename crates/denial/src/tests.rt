@@ -111,6 +111,25 @@ fn answers(rt: HostRuntime) -> Result<(), Fail> {
         ),
         (
             "nsec a.",
+            "a. 3600 IN SOA b. c. 1 2 3 4 1800\na. 60 IN DNSKEY 256 3 8 AQID\nn.a. 60 IN MX \\# 5 0001016200\nn.a. 60 IN TYPE16 \\# 0\n\
+             x.a. 60 IN NS y.\nx.a. 60 IN DS 1 8 2 ab cd\nx.a. 60 IN NSEC a. NS A\n",
+            Ok(()),
+            "a. 1800 IN NSEC n.a. SOA RRSIG NSEC DNSKEY\nn.a. 1800 IN NSEC x.a. MX TXT RRSIG NSEC\nx.a. 1800 IN NSEC a. NS DS RRSIG NSEC\n",
+        ),
+        (
+            "nsec a.",
+            "a. 3600 IN SOA b. c. 1 2 3 4 1800\nn.a. 60 IN MX \\# 4 0001016200\n",
+            Err(DenialFault::Line(2)),
+            "",
+        ),
+        (
+            "nsec a.",
+            "a. 3600 IN SOA b. c. 1 2 3 4 1800\n\nn.a. 60 IN NSEC3 \\# 0\n",
+            Err(DenialFault::Line(3)),
+            "",
+        ),
+        (
+            "nsec a.",
             "a. 3600 IN SOA b. c. 1 2 3 4\n",
             Err(DenialFault::Line(1)),
             "",

@@ -4,7 +4,7 @@ use Rattle.domain_plain.specs.declared.record.Record.{Record}
 use Rattle.domain_rdata.specs.Zone.{rtype_of}
 use Rattle.domain_rdata.specs.declared.nsec.Nsec.{Nsec}
 use Rattle.domain_rdata.specs.declared.zone_record_data.ZoneRecordData.{ZoneRecordData}
-use Rattle.domain_rdata.specs.declared.zone_record_data.ZoneRecordData.TheVariants.{A, Ns, Soa, Mx, Nsec as NsecData, Unknown}
+use Rattle.domain_rdata.specs.declared.zone_record_data.ZoneRecordData.TheVariants.{A, Ns, Soa, Mx, Dnskey, Ds, Nsec as NsecData, Unknown}
 use Rattle.domain_dnssec.specs.Names.{Name}
 use Rattle.domain_dnssec.specs.Zone.{ZoneRecord}
 use Rattle.domain_dnssec.specs.Chain.{Link}
@@ -15,6 +15,8 @@ minimum_of (A d) = None
 minimum_of (Ns d) = None
 minimum_of (Soa d) = Some d.minimum
 minimum_of (Mx d) = None
+minimum_of (Dnskey d) = None
+minimum_of (Ds d) = None
 minimum_of (NsecData d) = None
 minimum_of (Unknown d) = None
 
