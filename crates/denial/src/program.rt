@@ -2,13 +2,14 @@
 ghost use Rattle.std.specs.Prelude.{◌≡◌, ◌≢◌, ◌⊎◌, ℕ, ◌-◌, List, [], ◌∷◌, ◌++◌, IfErr, IfOk, MatchResult, OnOk, IsErrOf, IfSome, map, length, slice_index, string_bytes};
 ghost use Rattle.std.specs.Str.Lines.{lines, strip_carriage_return};
 ghost use Rattle.std.specs.Io.KnownBytes.{Appends};
+ghost use Rattle.std.specs.IoError.{error_kind};
 ghost use Rattle.domain_base.specs.Text.{NameText, IsNoName};
 ghost use Rattle.domain_dnssec.specs.Chain.{Link};
 ghost use Rattle.domain_dnssec.specs.View.{as_link};
 ghost use Rattle.domain_records.specs.declared.error.SigningError.{SigningError};
 ghost use Rattle.denial.specs.Listing.{Give, IsFirstBad};
 ghost use Rattle.denial.specs.Text.{listing};
-ghost use Rattle.denial.specs.Run.{AsksForNothing, IsChainOf, HasNoChain, Answers, Refuses};
+ghost use Rattle.denial.specs.Run.{AsksForChain, AsksForNothing, IsChainOf, HasNoChain, Answers, Refuses};
 ghost use Rattle.denial.specs.Command.{Asks};
 ghost use Rattle.denial.specs.Fault.{IsAfterInput, IsBeforeOutput, IsReadingFault, IsReadToEnd, TellsUsage};
 ghost use Rattle.denial.specs.declared.fault.DenialFault.TheVariants.{OutOfMemory};
@@ -58,7 +59,8 @@ fn command_of(alloc: Global, words: &[String]) -> Result<Command, DenialFault>
 
 /// An error of a device is that device's fault, unless it is want of memory.
 fn fault_of(error: &io::Error, fault: DenialFault) -> DenialFault
-    ensures { (result ≡ fault) ⊎ (result ≡ OutOfMemory) }
+    ensures either { (result ≡ fault) ⊎ (result ≡ OutOfMemory) }
+    ensures memory { error_kind error.now ≡ ErrorKind.OutOfMemory → result ≡ OutOfMemory }
 {
     if error.kind() == ErrorKind::OutOfMemory {
         DenialFault::OutOfMemory
@@ -180,12 +182,12 @@ pub fn run_denial<R: BufRead, W: Write, H: Nsec3Hasher>(
         × Appends (W.contents output.old) (W.contents output.new) (listing links))) }
 
     // Usage is answered exactly where the words ask for no chain, want of memory aside.
-    ensures usage { IfErr result (TellsUsage (map string_bytes words.now)) }
+    ensures usage { MatchResult result (λ _. AsksForChain (map string_bytes words.now)) (TellsUsage (map string_bytes words.now)) }
 
     // The lowest line that is neither skipped nor a record.
     ensures line { (n : ℕ) → IsErrOf result (DenialFault.Line n) → IfSome (R.remaining input.old) (λ bytes. IsFirstBad (lines bytes) n) }
 
-    // All of the input has been read before any of these is told.
+    // All of the input has been read before Ok, a bad line or a later fault is answered: a fault of the reader comes before them.
     ensures end { MatchResult result (λ _. IsReadToEnd (R.remaining input.old) (R.remaining input.new)) (λ e. IsAfterInput e → IsReadToEnd (R.remaining input.old) (R.remaining input.new)) }
 
     // There is no such chain.

@@ -28,7 +28,10 @@ impl GenerateNsecConfig {
     }
 }
 
+/// DNSKEY records are assumed.
 impl Default for GenerateNsecConfig {
+    ghost is_default = { λ config. config ≡ record { assume_dnskeys_will_be_added = true } };
+
     fn default() -> Self {
         GenerateNsecConfig::new()
     }
