@@ -11,7 +11,7 @@ use Rattle.domain_plain.specs.declared.record.Record.{Record}
 use Rattle.domain_plain.proofs.ScanLemmas.{token_excludes}
 use Rattle.domain_rdata.specs.Text.{RdataText}
 use Rattle.domain_rdata.specs.declared.zone_record_data.ZoneRecordData.{ZoneRecordData}
-use Rattle.domain_rdata.proofs.ScanLemmas.{same_tokens_left}
+use Rattle.domain_rdata.proofs.ScanLemmas.{text_once}
 use Rattle.denial.specs.Listing.{ProgramRecord}
 use Rattle.denial.specs.Said.{line_error_of, SpellsNone}
 use Rattle.denial.specs.Words.{LineText}
@@ -22,15 +22,15 @@ pub none_left : (ts : List (List ℕ)) (b : Bool) → (IsTrue b ↔ (ts ≢ []))
 none_left [] b h e = refl
 none_left (t ∷ ts) b h e = absurd (let w = h.1 (λ p. cc) in cc)
 
-pub line_text : {O N : Type 0} (labels : N → List (List ℕ)) (ws1 ws2 ws3 ws4 ws5 ws6 : List (List ℕ)) (owner : N) (class ttl rtype : ℕ) (d : ZoneRecordData O N) (r : Record N (ZoneRecordData O N))
+pub line_text : {O N : Type 0} (octets : O → List ℕ) (labels : N → List (List ℕ)) (ws1 ws2 ws3 ws4 ws5 ws6 : List (List ℕ)) (owner : N) (class ttl rtype : ℕ) (d : ZoneRecordData O N) (r : Record N (ZoneRecordData O N))
     → TakesToken (λ t. NameText t (labels owner)) ws1 ws2
     → TakesToken (λ t. IsNumber 32 t ttl) ws2 ws3
     → TakesToken (λ t. ClassText t class) ws3 ws4
     → TakesToken (λ t. TypeText t rtype) ws4 ws5
-    → RdataText labels rtype ws5 d ws6 → ws6 ≡ []
+    → RdataText octets labels rtype ws5 d ws6 → ws6 ≡ []
     → r ≡ record { owner = owner; class = class; ttl = ttl; «data» = d }
-    → LineText labels ws1 r
-line_text labels ws1 ws2 ws3 ws4 ws5 ws6 owner class ttl rtype d r o t c k h e same = subst (LineText labels ws1) (sym same) (record {
+    → LineText octets labels ws1 r
+line_text octets labels ws1 ws2 ws3 ws4 ws5 ws6 owner class ttl rtype d r o t c k h e same = subst (LineText octets labels ws1) (sym same) (record {
   owner_word = o.token;
   ttl_word = t.token;
   class_word = c.token;
@@ -42,7 +42,7 @@ line_text labels ws1 ws2 ws3 ws4 ws5 ws6 owner class ttl rtype d r o t c k h e s
   ttl = t.holds;
   class = c.holds;
   type = k.holds;
-  rdata = subst (λ ws. RdataText labels rtype ws5 d ws) e h;
+  rdata = subst (λ ws. RdataText octets labels rtype ws5 d ws) e h;
 })
 
 -- a token that is refused spells no value
@@ -54,7 +54,7 @@ refused_spells Why P old new after fault apart (refused token left why_fault why
     apart takes.token (subst (Why fault) same why) takes.holds
 
 -- a line that spells a record, whose tokens were read so far
-module _ {O N : Type 0} (labels : N → List (List ℕ)) (ws1 ws2 ws3 ws4 ws5 : List (List ℕ)) (r : Record N (ZoneRecordData O N)) (line : LineText labels ws1 r) where
+module _ {O N : Type 0} (octets : O → List ℕ) (labels : N → List (List ℕ)) (ws1 ws2 ws3 ws4 ws5 : List (List ℕ)) (r : Record N (ZoneRecordData O N)) (line : LineText octets labels ws1 r) where
   module _ (limit : Option ℕ) (new : List (List ℕ)) (fault : ScanFault) where
     pub no_owner : limit ≡ None → fault ≢ no_memory → RefusesToken (NameFault limit) ws1 new fault → ⊥
     no_owner grows known why =
@@ -90,20 +90,20 @@ module _ {O N : Type 0} (labels : N → List (List ℕ)) (ws1 ws2 ws3 ws4 ws5 : 
 
         -- the data that the line spells stand in the tokens that are left, under the type that was read
         module _ (rtype : ℕ) (fourth : TakesToken (λ t. TypeText t rtype) ws4 ws5) where
-          data_left : RdataText labels rtype ws5 r.«data» []
+          data_left : RdataText octets labels rtype ws5 r.«data» []
           data_left =
               let word : fourth.token ≡ line.type_word = (let e = fourth.first in let f = after_class in cc) in
               let left : line.data_words ≡ ws5 = (let e = fourth.first in let f = after_class in cc) in
               let same : line.rtype ≡ rtype = one_named type_names _ line.type_word line.rtype rtype line.type (subst (λ t. TypeText t rtype) word fourth.holds) in
-              subst (λ t. RdataText labels t ws5 r.«data» []) same (subst (λ ws. RdataText labels line.rtype ws r.«data» []) left line.rdata)
+              subst (λ t. RdataText octets labels t ws5 r.«data» []) same (subst (λ ws. RdataText octets labels line.rtype ws r.«data» []) left line.rdata)
 
-          pub no_data : ((d : ZoneRecordData O N) (after : List (List ℕ)) → RdataText labels rtype ws5 d after → ⊥) → ⊥
+          pub no_data : ((d : ZoneRecordData O N) (after : List (List ℕ)) → RdataText octets labels rtype ws5 d after → ⊥) → ⊥
           no_data none = none r.«data» [] data_left
 
-          pub no_more : (d : ZoneRecordData O N) (ws6 : List (List ℕ)) → RdataText labels rtype ws5 d ws6 → ws6 ≢ [] → ⊥
-          no_more d ws6 is more = more (same_tokens_left labels rtype ws5 ws6 [] d r.«data» is data_left)
+          pub no_more : (d : ZoneRecordData O N) (ws6 : List (List ℕ)) → RdataText octets labels rtype ws5 d ws6 → ws6 ≢ [] → ⊥
+          no_more d ws6 is more = more ((text_once octets labels rtype ws5 ws6 [] d r.«data» is data_left).0)
 
-pub spells_none : (ws : List (List ℕ)) (e : LineError) → (e ≡ Bad → (r : ProgramRecord) → LineText (λ n. n) ws r → ⊥) → SpellsNone ws e
+pub spells_none : (ws : List (List ℕ)) (e : LineError) → (e ≡ Bad → (r : ProgramRecord) → LineText (λ o. o.items) (λ n. n) ws r → ⊥) → SpellsNone ws e
 spells_none ws Bad h = h refl
 spells_none ws OutOfMemory h = tt
 

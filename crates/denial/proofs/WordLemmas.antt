@@ -42,5 +42,5 @@ pub is_bad : (line : List ℕ) (seen tokens : List (List ℕ)) (skipped : Bool) 
     → IsTrue skipped ↔ IsSkipped seen → skipped ≡ false → e ≡ Bad → SpellsNone tokens e → IsBad line
 is_bad line seen tokens skipped e are same test off bad none = record {
   seen = λ s. absurd (let on = test.1 (subst IsSkipped (sym are) s) in cc);
-  none = λ r h. (subst (SpellsNone tokens) bad none) r (subst (λ ws. LineText (λ n. n) ws r) (sym same) h.spelled);
+  none = λ r h. (subst (SpellsNone tokens) bad none) r (subst (λ ws. LineText (λ o. o.items) (λ n. n) ws r) (sym same) h.spelled);
 }

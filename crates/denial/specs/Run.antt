@@ -69,7 +69,7 @@ pub record Answers (words lines : List (List ℕ)) (links : List Link) : Type 0 
   pub apex : Name
   pub given : List ProgramRecord
   pub asks : AsksForNsec words apex
-  pub gives : Give (λ n. n) lines given
+  pub gives : Give (λ o. o.items) (λ n. n) lines given
   pub chain : IsChainOf (λ o. o.items) (λ n. n) given apex links
 
 -- the words ask for it, and the lines give records that have no chain for this reason
@@ -77,5 +77,5 @@ pub record Refuses (words lines : List (List ℕ)) (fault : DenialFault) : Type 
   pub apex : Name
   pub given : List ProgramRecord
   pub asks : AsksForNsec words apex
-  pub gives : Give (λ n. n) lines given
+  pub gives : Give (λ o. o.items) (λ n. n) lines given
   pub fails : HasNoChain (λ o. o.items) (λ n. n) given apex fault

@@ -28,7 +28,7 @@ abbrev pub ArePlain : List (List ℕ) → Type 0
 ArePlain ws = All IsPlain ws
 
 -- the words spell a record: its owner, TTL, class, type and data (RFC 1035, section 5.1)
-pub record LineText {O N : Type 0} (labels : N → List (List ℕ)) (ws : List (List ℕ)) (r : Record N (ZoneRecordData O N)) : Type 0 where
+pub record LineText {O N : Type 0} (octets : O → List ℕ) (labels : N → List (List ℕ)) (ws : List (List ℕ)) (r : Record N (ZoneRecordData O N)) : Type 0 where
   pub owner_word : List ℕ
   pub ttl_word : List ℕ
   pub class_word : List ℕ
@@ -40,4 +40,4 @@ pub record LineText {O N : Type 0} (labels : N → List (List ℕ)) (ws : List (
   pub ttl : IsNumber 32 ttl_word r.ttl
   pub class : ClassText class_word r.class
   pub type : TypeText type_word rtype
-  pub rdata : RdataText labels rtype data_words r.«data» []
+  pub rdata : RdataText octets labels rtype data_words r.«data» []

@@ -108,11 +108,11 @@ fn field<F: FromToken, S: Scanner>(scanner: &mut S) -> Result<F, LineError>
 }
 
 /// The record that tokens spell: owner, TTL, class, type and data.
-fn scan_record<S: Scanner<Name = ZoneName>>(
+fn scan_record<S: Scanner<Name = ZoneName, Octets = Vec<u8>>>(
     alloc: Global,
     scanner: &mut S,
 ) -> Result<ZoneRr, LineError>
-    ensures ok { IfOk result (LineText (λ n. n) (S.tokens scanner.old)) }
+    ensures ok { IfOk result (LineText (λ o. o.items) (λ n. n) (S.tokens scanner.old)) }
     ensures err { IfErr result (λ e. S.Octets.Builder.limit ≡ None → SpellsNone (S.tokens scanner.old) e) }
 {
     let owner = scanner.scan_name(alloc)?;
@@ -128,7 +128,7 @@ fn scan_record<S: Scanner<Name = ZoneName>>(
 
 /// The record that words spell.
 fn record_of<'a>(alloc: Global, words: &'a [&'a str]) -> Result<ZoneRr, LineError>
-    ensures ok { IfOk result (LineText (λ n. n) (map (λ w. w.now) words.now)) }
+    ensures ok { IfOk result (LineText (λ o. o.items) (λ n. n) (map (λ w. w.now) words.now)) }
     ensures err { IfErr result (SpellsNone (map (λ w. w.now) words.now)) }
 {
     let mut scanner = IterScanner::<Vec<u8>>::new(words);

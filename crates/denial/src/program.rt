@@ -99,7 +99,7 @@ fn skip_all<R: BufRead>(input: &mut R) -> Result<(), DenialFault>
 /// The records of the lines that are left. A bad line is told only after the rest has been read, since a fault of the reader is
 /// told before it.
 fn read_records<R: BufRead>(alloc: Global, input: &mut R) -> Result<Vec<ZoneRr>, DenialFault>
-    ensures ok { IfOk result (λ v. IfSome (R.remaining input.old) (λ all. Give (λ n. n) (lines all) v.items)) }
+    ensures ok { IfOk result (λ v. IfSome (R.remaining input.old) (λ all. Give (λ o. o.items) (λ n. n) (lines all) v.items)) }
     ensures err { IfErr result IsReadingFault }
     ensures line { (n : ℕ) → IsErrOf result (DenialFault.Line n) → IfSome (R.remaining input.old) (λ all. IsFirstBad (lines all) n) }
     ensures end { MatchResult result (λ _. IsReadToEnd (R.remaining input.old) (R.remaining input.new)) (λ e. IsAfterInput e → IsReadToEnd (R.remaining input.old) (R.remaining input.new)) }

@@ -50,6 +50,14 @@ type RrsigFields<'a, N> = (AtMost<65535>, (ProtoFields<'a, N>, Rest<'a>));
 /// The same, as they are read.
 type ParsedFields<'a> = (AtMost<65535>, (ParsedProto<'a>, Rest<'a>));
 
+/// Whether fields and a signature have at most 65,535 octets.
+fn fits<O: Octets, N: ToName>(fields: &ProtoRrsig<N>, signature: &O) -> bool
+    ensures { IsTrue result ↔ (length (rrsig_octets (rrsig_data fields.now (O.octets signature.now))) ≤ 65535) }
+{
+    let data: RrsigFields<'_, N> = (AtMost, (fields.fields(), Rest(signature.as_slice())));
+    data.room_after(65535).is_some()
+}
+
 impl<O: Octets, N: ToName> Rrsig<O, N> {
     /// The data of these fields, in the order of the wire (RFC 4034, section 3.1). Takes no memory.
     ///
@@ -126,8 +134,7 @@ impl<O: Octets, N: ToName> Rrsig<O, N> {
         ensures ok { IsOk result ↔ (length (rrsig_octets (rrsig_data fields (O.octets signature))) ≤ 65535) }
         ensures fields { IfOk result (λ d. d ≡ rrsig_data fields (O.octets signature)) }
     {
-        let data: RrsigFields<'_, N> = (AtMost, (fields.fields(), Rest(signature.as_slice())));
-        if data.room_after(65535).is_none() {
+        if !fits(&fields, &signature) {
             return Err(LongRecordData);
         }
         Ok(Rrsig { fields, signature })
@@ -194,6 +201,13 @@ impl<O: Octets, N: ToName> Rrsig<O, N> {
         ensures { O.octets result.now ≡ self.now.signature }
     {
         &self.signature
+    }
+
+    /// Whether the data with this signature in place of its own have at most 65,535 octets.
+    pub fn fits_signature(&self, signature: &O) -> bool
+        ensures { IsTrue result ↔ (length (rrsig_octets (rrsig_data self.now.fields (O.octets signature.now))) ≤ 65535) }
+    {
+        fits(&self.fields, signature)
     }
 
     /// Replaces the signature by one with which the data have at most 65,535 octets.

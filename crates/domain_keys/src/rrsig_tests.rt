@@ -107,10 +107,12 @@ fn signatures_held_otherwise(rt: HostRuntime) -> Result<(), Fail> {
     let parsed = Rrsig::parse(&mut Parser::new(OCTETS))?;
     let owned = Owned::try_octets_from(alloc, parsed.clone()?)?;
     assert!(rt; owned.eq_to(&parsed));
-    let none = Rrsig::<ArrayBuilder<12>, Name<ArrayBuilder<12>>>::try_octets_from(alloc, parsed);
-    assert_eq!(rt; none.err(), Some(AppendError::ShortBuf));
+    let short = Rrsig::<ArrayBuilder<12>, Name<ArrayBuilder<12>>>::try_octets_from(alloc, parsed);
+    assert_eq!(rt; short.err(), Some(AppendError::ShortBuf));
     let mut changed = owned.clone()?;
-    changed.set_signature(Vec::new(alloc));
+    let none = Vec::new(alloc);
+    assert!(rt; changed.fits_signature(&none));
+    changed.set_signature(none);
     assert_eq!(rt; changed.canonical_cmp_to(&owned), Ordering::Less);
     Ok(())
 }

@@ -1,5 +1,5 @@
 -- what is read is determined by the octets
-use Rattle.std.proofs.Common.{◌≡◌, ◌≤◌, ℕ, true, List, [], ◌∷◌, ◌++◌, length, refl, sym, ap, ◌∙◌, arith, length-append, append_assoc, append-nil}
+use Rattle.std.proofs.Common.{◌≡◌, ◌≤◌, ℕ, true, List, [], ◌++◌, length, refl, sym, ap, ◌∙◌, arith, length-append, append_assoc, append-nil}
 use Rattle.std.specs.Prelude.{◌&&◌}
 use Rattle.std.specs.Cmp.{first_so, second_so}
 use Rattle.domain_base.specs.Fault.{Fault}
@@ -71,7 +71,7 @@ fault_excludes l octets fault (in_later a b o w m d front h) sp v r begins =
     (sym (append_assoc (octets_of a v.0) (octets_of b v.1) r) ∙ sym begins.parts ∙ front.parts) in
     fault_excludes b m d h (second_so (is_delimited a) (splits b) sp) v.1 r (record { parts = sym same.after; fits = begins.fits.1; ends = begins.ends.1 })
 
-begins_alone : (l : Layout) (v : Values l) → Fits l v → Ends l v [] → Begins l (octets_of l v) v []
+pub begins_alone : (l : Layout) (v : Values l) → Fits l v → Ends l v [] → Begins l (octets_of l v) v []
 begins_alone l v fits ends = record { parts = sym (append-nil (octets_of l v)); fits = fits; ends = ends }
 
 -- composed data parse back

@@ -1,5 +1,5 @@
 -- Copies of data are equal under the canonical order.
-use Rattle.std.specs.Prelude.{◌≡◌, List}
+use Rattle.std.specs.Prelude.{◌≡◌}
 use Rattle.std.specs.declared.cmp.Ordering.TheVariants.{Equal}
 use Rattle.std.specs.Ordering.{on, nat_cmp}
 use Rattle.std.specs.Cmp.{tied_itself}

@@ -1,5 +1,5 @@
 -- the kinds of fields of data on the wire
-use Rattle.std.specs.Prelude.{◌≡◌, ℕ, ◌+◌, ◌<◌, ◌≤◌, ◌^◌, List, [], ◌∷◌, ◌++◌, length, codes}
+use Rattle.std.specs.Prelude.{◌≡◌, ℕ, ◌<◌, ◌≤◌, ◌^◌, List, [], ◌∷◌, length, codes}
 use Rattle.std.specs.Int.{w16, w32, to_be_bytes}
 use Rattle.domain_base.specs.Name.{wire_of, lowered, IsName}
 use Rattle.domain_base.specs.Fault.{Fault, ends_early, malformed, NameFault}

@@ -14,14 +14,15 @@ use Rattle.domain_plain.specs.Scan.{Scans, Refuses}
 use Rattle.domain_plain.proofs.GenericLemmas.{refused_is_no_text}
 use Rattle.domain_plain.proofs.ScanLemmas.{refused_spells_none, scans_left, scans_once}
 use Rattle.domain_keys.specs.Data.{DnskeyData, DsData, dnskey_octets, ds_octets}
-use Rattle.domain_keys.specs.Text.{DnskeyText, DsText, RefusesData, three_numbers}
+use Rattle.domain_keys.specs.Text.{DnskeyText, RefusesDnskey, DsText, RefusesDs}
+use Rattle.domain_keys.proofs.RefusalLemmas.{refused_dnskey, refused_ds}
 use Rattle.domain_rdata.specs.NsecText.{NsecText, NsecRefused}
 use Rattle.domain_rdata.specs.Rdata.{nsec}
 use Rattle.domain_rdata.specs.Text.{RdataText, own, generic, OwnText, AreData, IsGeneric}
 use Rattle.domain_rdata.specs.Zone.{wire_octets}
 use Rattle.domain_rdata.specs.declared.zone_record_data.ZoneRecordData.{ZoneRecordData}
 use Rattle.domain_rdata.specs.declared.zone_record_data.ZoneRecordData.TheVariants.{A, Ns, Soa, Mx, Dnskey, Ds, Nsec, Unknown}
-use Rattle.domain_rdata.proofs.TextLemmas.{dnskey_refused, ds_refused, nsec_refused, dnskey_once, ds_once, nsec_name_once, nsec_types_once}
+use Rattle.domain_rdata.proofs.TextLemmas.{nsec_refused, dnskey_once, ds_once, nsec_name_once, nsec_types_once}
 
 -- the fields of the types whose texts are fields of one token each
 abbrev pub layout_read : ℕ → Option Layout
@@ -100,16 +101,16 @@ module _ (limit : Option ℕ) (grows : limit ≡ None) (rtype : ℕ) (old new af
   fields_refused t l is read why (by_digest d t' s e w) = let f = sym (ap layout_read t') ∙ ap layout_read is ∙ read in cc
   fields_refused t l is read why (by_types ls ts t' s w) = let f = sym (ap layout_read t') ∙ ap layout_read is ∙ read in cc
 
-  pub key_refused : rtype ≡ 48 → RefusesData limit 65531 three_numbers Base64 old new fault → Way rtype old after wire → ⊥
+  pub key_refused : rtype ≡ 48 → RefusesDnskey limit old new fault → Way rtype old after wire → ⊥
   key_refused is why (by_fields k v kk s w) = no_fields rtype 48 k kk is refl
-  key_refused is why (by_key d t s e w) = dnskey_refused old new fault d (subst (λ q. RefusesData q 65531 three_numbers Base64 old new fault) grows why) s known
+  key_refused is why (by_key d t s e w) = refused_dnskey old new fault d (subst (λ q. RefusesDnskey q old new fault) grows why) known s
   key_refused is why (by_digest d t s e w) = apart rtype 48 43 is t refl refl
   key_refused is why (by_types ls ts t s w) = apart rtype 48 47 is t refl refl
 
-  pub digest_refused : rtype ≡ 43 → RefusesData limit 65531 three_numbers Base16 old new fault → Way rtype old after wire → ⊥
+  pub digest_refused : rtype ≡ 43 → RefusesDs limit old new fault → Way rtype old after wire → ⊥
   digest_refused is why (by_fields k v kk s w) = no_fields rtype 43 k kk is refl
   digest_refused is why (by_key d t s e w) = apart rtype 43 48 is t refl refl
-  digest_refused is why (by_digest d t s e w) = ds_refused old new fault d (subst (λ q. RefusesData q 65531 three_numbers Base16 old new fault) grows why) s known
+  digest_refused is why (by_digest d t s e w) = refused_ds old new fault d (subst (λ q. RefusesDs q old new fault) grows why) known s
   digest_refused is why (by_types ls ts t s w) = apart rtype 43 47 is t refl refl
 
   pub types_refused : rtype ≡ 47 → NsecRefused limit limit old new fault → Way rtype old after wire → ⊥

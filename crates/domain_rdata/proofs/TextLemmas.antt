@@ -12,11 +12,11 @@ use Rattle.domain_base.proofs.NamedLemmas.{one_named}
 use Rattle.domain_bitmap.specs.Bitmap.{bitmap_octets}
 use Rattle.domain_bitmap.specs.Scan.{TypeTexts, no_types, one_more, is_among, TypeFault, not_a_type, without_room, without_memory}
 use Rattle.domain_plain.specs.Field.{name}
-use Rattle.domain_plain.specs.Layout.{Values}
+use Rattle.domain_plain.specs.Layout.{Layout, Values}
 use Rattle.domain_plain.specs.Scan.{Scans}
 use Rattle.domain_plain.proofs.ScanLemmas.{token_excludes, refused_spells_none, scans_left, scans_once}
 use Rattle.domain_keys.specs.Data.{DnskeyData, DsData}
-use Rattle.domain_keys.specs.Text.{Spells, RefusesData, in_field, in_entry, too_long, three_numbers, DnskeyText, DsText}
+use Rattle.domain_keys.specs.Text.{Spells, three_numbers, DnskeyText, DsText}
 use Rattle.domain_rdata.specs.NsecText.{NsecText, NsecRefused, in_name, in_types}
 
 abbrev DecodesOnce : Codec → Type 0
@@ -28,43 +28,35 @@ base16_once text a b x y = cc
 base64_once : DecodesOnce Base64
 base64_once text a b x y = cc
 
-codec_excludes : (codec : Codec) (fault : ScanFault) (text octets : List ℕ) → CodecFault codec None fault text → Decodes codec text octets → fault ≢ no_memory → ⊥
-codec_excludes codec entry_ends text octets why is known = why
-codec_excludes codec (illegal said) text octets why is known = why.1 octets is
-codec_excludes codec no_room text octets why is known = why.2
-codec_excludes codec no_memory text octets why is known = known refl
+-- a grammar that reads tokens in one way at most
+pub record ReadsOnce {V : Type 0} (G : List (List ℕ) → V → List (List ℕ) → Type 0) : Type 0 where
+  pub value : (old m n : List (List ℕ)) (v w : V) → G old v m → G old w n → v ≡ w
+  pub left : (old m n : List (List ℕ)) (v w : V) → G old v m → G old w n → m ≡ n
 
-module _ (codec : Codec) (once : DecodesOnce codec) (old : List (List ℕ)) (v : Values three_numbers) (octets : List ℕ) (spelled : Spells three_numbers codec old v octets) where
-  decoded_at : (w : Values three_numbers) (entry : List (List ℕ)) → Scans three_numbers old w entry → Decodes codec (concat entry) octets
-  decoded_at w entry scans = subst (λ t. Decodes codec (concat t) octets) (scans_left three_numbers old spelled.entry entry v w spelled.fields scans) spelled.decoded
+fields_once : (l : Layout) → ReadsOnce (Scans l)
+fields_once l = record { value = scans_once l; left = scans_left l }
 
-  same_octets : (w : Values three_numbers) (others : List ℕ) → Spells three_numbers codec old w others → octets ≡ others
-  same_octets w others other = once (concat other.entry) octets others (decoded_at w other.entry other.fields) other.decoded
+-- fields and then octets are spelled in one way at most
+module _ {V : Type 0} (G : List (List ℕ) → V → List (List ℕ) → Type 0) (reads : ReadsOnce G) (codec : Codec) (decodes : DecodesOnce codec) (old : List (List ℕ)) (v w : V) (x y : List ℕ)
+    (first : Spells G codec old v x) (second : Spells G codec old w y) where
+  same_fields : v ≡ w
+  same_fields = reads.value old first.entry second.entry v w first.fields second.fields
 
-  same_numbers : (w : Values three_numbers) (others : List ℕ) → Spells three_numbers codec old w others → v ≡ w
-  same_numbers w others other = scans_once three_numbers old spelled.entry other.entry v w spelled.fields other.fields
-
-  data_refused : length octets ≤ 65531 → (new : List (List ℕ)) (fault : ScanFault) → RefusesData None 65531 three_numbers codec old new fault → fault ≢ no_memory → ⊥
-  data_refused fits new fault (in_field why) known = refused_spells_none three_numbers old new spelled.entry v fault why spelled.fields known
-  data_refused fits new fault (in_entry why) known = codec_excludes codec fault (concat why.entry) octets why.why (decoded_at why.values why.entry why.fields) known
-  data_refused fits new fault (too_long why) known = omega (arith, fits, why.long, ap length (same_octets why.values why.octets why.spelled))
-
-pub dnskey_refused : (old new : List (List ℕ)) (fault : ScanFault) (d : DnskeyData) → RefusesData None 65531 three_numbers Base64 old new fault → DnskeyText old d → fault ≢ no_memory → ⊥
-dnskey_refused old new fault d why is known = data_refused Base64 base64_once old _ d.public_key is.spelled is.fits new fault why known
-
-pub ds_refused : (old new : List (List ℕ)) (fault : ScanFault) (d : DsData) → RefusesData None 65531 three_numbers Base16 old new fault → DsText old d → fault ≢ no_memory → ⊥
-ds_refused old new fault d why is known = data_refused Base16 base16_once old _ d.digest is.spelled is.fits new fault why known
+  same_octets : x ≡ y
+  same_octets =
+      let entry = reads.left old first.entry second.entry v w first.fields second.fields in
+      decodes (concat second.entry) x y (subst (λ t. Decodes codec (concat t) x) entry first.decoded) second.decoded
 
 pub dnskey_once : (old : List (List ℕ)) (d e : DnskeyData) → DnskeyText old d → DnskeyText old e → d ≡ e
 dnskey_once old d e x y =
-    let numbers = same_numbers Base64 base64_once old _ d.public_key x.spelled _ e.public_key y.spelled in
-    let octets = same_octets Base64 base64_once old _ d.public_key x.spelled _ e.public_key y.spelled in
+    let numbers = same_fields (Scans three_numbers) (fields_once three_numbers) Base64 base64_once old _ _ d.public_key e.public_key x.spelled y.spelled in
+    let octets = same_octets (Scans three_numbers) (fields_once three_numbers) Base64 base64_once old _ _ d.public_key e.public_key x.spelled y.spelled in
     λ i. record { flags = (numbers i).0; protocol = (numbers i).1.0; algorithm = (numbers i).1.1; public_key = octets i }
 
 pub ds_once : (old : List (List ℕ)) (d e : DsData) → DsText old d → DsText old e → d ≡ e
 ds_once old d e x y =
-    let numbers = same_numbers Base16 base16_once old _ d.digest x.spelled _ e.digest y.spelled in
-    let octets = same_octets Base16 base16_once old _ d.digest x.spelled _ e.digest y.spelled in
+    let numbers = same_fields (Scans three_numbers) (fields_once three_numbers) Base16 base16_once old _ _ d.digest e.digest x.spelled y.spelled in
+    let octets = same_octets (Scans three_numbers) (fields_once three_numbers) Base16 base16_once old _ _ d.digest e.digest x.spelled y.spelled in
     λ i. record { key_tag = (numbers i).0; algorithm = (numbers i).1.0; digest_type = (numbers i).1.1; digest = octets i }
 
 -- among the tokens of types every token spells a type

@@ -21,6 +21,8 @@ mod nsec_compare;
 mod nsec_convert;
 mod nsec_text;
 mod nsec_wire;
+#[cfg(test)]
+mod tests;
 mod zone_octets;
 mod zone_record_data;
 mod zone_text;
