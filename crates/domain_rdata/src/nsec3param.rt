@@ -286,7 +286,8 @@ impl<O: Octets> Nsec3param<O> {
     pub fn cmp_to<P: Octets>(&self, other: &Nsec3param<P>) -> Ordering
         ensures { result ≡ slice_cmp nat_cmp (uncounted_octets self.now) (uncounted_octets other.now) }
     {
-        self.uncounted().order(&other.uncounted())
+        let (mine, theirs) = (self.uncounted(), other.uncounted());
+        mine.order(&theirs)
     }
 
     /// The canonical order, in which shorter salts come first, also of parameters over other octets. Takes no memory.
