@@ -12,7 +12,8 @@ use Rattle.domain_bitmap.specs.Blocks.{IsBitmap, types_of}
 use Rattle.domain_bitmap.specs.Fault.{BitmapFault}
 use Rattle.domain_bitmap.specs.Pieces.{type_pieces, salt_pieces}
 use Rattle.domain_bitmap.specs.Text.{types_text, spaced_types}
-use Rattle.domain_plain.specs.Layout.{Layout, Values, octets_of, Fits, Ends, Begins, splits}
+use Rattle.domain_plain.specs.Layout.{Layout, Values, octets_of, Fits, Ends, Begins, ParsesBack, splits}
+use Rattle.domain_plain.proofs.ExactLemmas.{parses_back}
 use Rattle.domain_keys.proofs.DataLemmas.{same_values}
 use Rattle.domain_rdata.specs.OptOut.{opt_out_comment}
 use Rattle.domain_rdata.specs.Rdata.{hash_numbers, nsec3param, uncounted, hash_fields, nsec3}
@@ -34,6 +35,13 @@ same_params v w r fits_v fits_w is = same_by_octets uncounted v w r refl fits_v 
 pub same_nsec3 : (v w : Values nsec3) (r : Bool) → Fits nsec3 v → Fits nsec3 w → r ≡ bytes_eq (octets_of nsec3 v) (octets_of nsec3 w) → IsTrue r ↔ (v ≡ w)
 same_nsec3 v w r fits_v fits_w is =
     same_by_octets nsec3 v w r refl fits_v fits_w ((((tt, (tt, tt)), tt), tt), refl) ((((tt, (tt, tt)), tt), tt), refl) is
+
+-- octets of fields that fit are read as them alone
+pub params_back : (v : Values nsec3param) → Fits nsec3param v → ParsesBack nsec3param v
+params_back v fits = parses_back nsec3param v refl fits ((tt, (tt, tt)), tt)
+
+pub nsec3_back : (v : Values nsec3) → Fits nsec3 v → ParsesBack nsec3 v
+nsec3_back v fits = parses_back nsec3 v refl fits ((((tt, (tt, tt)), tt), tt), refl)
 
 -- fields were read, and then all that was left as a bitmap
 pub fields_then_types : (old start between new : Place) (v : Values hash_fields) (types : List ℕ) → start ≡ old → Begins hash_fields start.left v between.left

@@ -5,7 +5,7 @@ use Rattle.std.specs.Prelude.{if◌then◌else◌, Result, Ok, Err, IfOk}
 use Rattle.domain_base.specs.declared.error.ScanError.{ScanError}
 use Rattle.std.specs.List.{concat}
 use Rattle.domain_octets.specs.Codec.{Decodes}
-use Rattle.domain_octets.specs.declared.codec.Codec.TheVariants.{Base16}
+use Rattle.domain_octets.specs.declared.codec.Codec.TheVariants.{Base16, Base64}
 use Rattle.domain_base.specs.Scan.{ScanFault, no_memory}
 use Rattle.domain_plain.specs.Generic.{GenericText, GenericFault}
 use Rattle.domain_plain.specs.Layout.{Layout, Values, octets_of}

@@ -1,10 +1,10 @@
 -- The texts of keys, of digests and of NSEC data: tokens spell one at most, and none where they are refused.
-use Rattle.std.proofs.Common.{◌≡◌, ◌≢◌, ℕ, List, [], ◌∷◌, ◌++◌, refl, sym, ap, ◌∙◌, subst, None}
+use Rattle.std.proofs.Common.{◌≡◌, ◌≢◌, ℕ, ◌≤◌, List, [], ◌∷◌, ◌++◌, length, refl, sym, ap, ◌∙◌, subst, None, arith}
 use Rattle.std.specs.List.{concat}
 use Rattle.domain_octets.specs.Codec.{Decodes}
 use Rattle.domain_octets.specs.declared.codec.Codec.{Codec}
 use Rattle.domain_octets.specs.declared.codec.Codec.TheVariants.{Base16, Base64}
-use Rattle.domain_base.specs.Scan.{ScanFault, no_memory}
+use Rattle.domain_base.specs.Scan.{ScanFault, entry_ends, illegal, no_room, no_memory, CodecFault}
 use Rattle.domain_base.specs.Text.{NameText}
 use Rattle.domain_base.specs.Numbers.{TypeText}
 use Rattle.domain_base.proofs.SpellingLemmas.{one_name}
@@ -12,9 +12,9 @@ use Rattle.domain_base.proofs.NamedLemmas.{one_named}
 use Rattle.domain_bitmap.specs.Bitmap.{bitmap_octets}
 use Rattle.domain_bitmap.specs.Scan.{TypeTexts, no_types, one_more, is_among, TypeFault, not_a_type, without_room, without_memory}
 use Rattle.domain_plain.specs.Field.{name}
-use Rattle.domain_plain.specs.Layout.{Layout}
+use Rattle.domain_plain.specs.Layout.{Layout, Values}
 use Rattle.domain_plain.specs.Scan.{Scans}
-use Rattle.domain_plain.proofs.ScanLemmas.{token_excludes, scans_left, scans_once}
+use Rattle.domain_plain.proofs.ScanLemmas.{token_excludes, refused_spells_none, scans_left, scans_once}
 use Rattle.domain_keys.specs.Data.{DnskeyData, DsData}
 use Rattle.domain_keys.specs.Text.{Spells, three_numbers, DnskeyText, DsText}
 use Rattle.domain_rdata.specs.NsecText.{NsecText, NsecRefused, in_name, in_types}

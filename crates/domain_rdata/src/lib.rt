@@ -11,6 +11,7 @@ mod nsec;
 mod nsec3;
 mod nsec3_compare;
 mod nsec3_convert;
+pub mod nsec3_laws;
 #[cfg(test)]
 mod nsec3_tests;
 mod nsec3_text;

@@ -4,10 +4,10 @@ ghost use Rattle.std.specs.Ordering.{on, nat_cmp};
 ghost use Rattle.std.specs.Cmp.Lexicographic.{slice_cmp, on_texts};
 ghost use Rattle.domain_plain.specs.Layout.{Fits};
 ghost use Rattle.domain_rdata.specs.OptOut.{is_opt_out};
-ghost use Rattle.domain_rdata.specs.Rdata.{nsec3, nsec3_values, nsec3_octets, nsec3param_values};
+ghost use Rattle.domain_rdata.specs.Rdata.{hash_numbers, nsec3, nsec3_values, nsec3_octets, nsec3param_values};
 
 use crate::Nsec3param;
-use crate::nsec3param::{ParamFields, has_opt_out};
+use crate::nsec3param::{HashNumbers, ParamFields, has_opt_out};
 use domain_base::{CanonicalOrd, Nsec3HashAlgorithm, Rtype};
 use domain_bitmap::{Nsec3Salt, OwnerHash, RtypeBitmap};
 use domain_octets::{AppendError, Octets, OctetsBuilder};
@@ -146,6 +146,17 @@ impl<O: Octets> Nsec3<O> {
         self.types = types;
     }
 
+    /// The first three fields.
+    pub(crate) fn numbers(&self) -> HashNumbers
+        ensures value { result ≡ (self.now.hash_algorithm, (self.now.flags, self.now.iterations)) }
+        ensures fits { Fits hash_numbers (self.now.hash_algorithm, (self.now.flags, self.now.iterations)) }
+    {
+        (
+            self.hash_algorithm().to_int(),
+            (self.flags(), self.iterations()),
+        )
+    }
+
     /// The fields, in the order of the wire.
     pub(crate) fn fields(&self) -> Nsec3Fields<'_>
         ensures numbers { result.0.0.0 ≡ (self.now.hash_algorithm, (self.now.flags, self.now.iterations)) }
@@ -153,13 +164,12 @@ impl<O: Octets> Nsec3<O> {
         ensures types { result.1.0.now ≡ self.now.types }
         ensures fits { Fits nsec3 (nsec3_values self.now) }
     {
-        let numbers = (
-            self.hash_algorithm().to_int(),
-            (self.flags(), self.iterations()),
-        );
         let salt = Counted::new(self.salt.as_slice());
         let next_owner = Counted::new(self.next_owner.as_slice());
-        (((numbers, salt), next_owner), Rest(self.types.as_slice()))
+        (
+            ((self.numbers(), salt), next_owner),
+            Rest(self.types.as_slice()),
+        )
     }
 }
 

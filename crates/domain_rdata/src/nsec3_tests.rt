@@ -1,4 +1,4 @@
-use crate::{Nsec3, Nsec3param};
+use crate::{Nsec3, Nsec3param, nsec3_laws};
 use bytes::Bytes;
 use domain_base::{CanonicalOrd, IterScanner, Nsec3HashAlgorithm, Rtype, ScanError, Scanner};
 use domain_bitmap::{Nsec3Salt, OwnerHash, RtypeBitmap};
@@ -42,6 +42,8 @@ fn data_in_octets(rt: HostRuntime) -> Result<(), Fail> {
     let mut parser = Parser::new(OCTETS);
     assert!(rt; Nsec3param::parse(&mut parser)?.eq_to(&params));
     assert_eq!(rt; parser.pos(), 8);
+    nsec3_laws::nsec3_parses_back(&made);
+    nsec3_laws::nsec3param_parses_back(&params);
     Ok(())
 }
 

@@ -8,7 +8,7 @@ ghost use Rattle.domain_rdata.specs.OptOut.{opt_out_comment};
 ghost use Rattle.domain_rdata.specs.Rdata.{nsec3_values, nsec3param_values};
 ghost use Rattle.domain_rdata.specs.Nsec3Text.{HashText, RefusesHash, Nsec3Text, RefusesNsec3, nsec3_text, nsec3_pieces};
 
-use crate::nsec3param_text::{HashNumbers, write_numbers};
+use crate::nsec3param_text::{Spaced, write_numbers};
 use crate::{Nsec3, Nsec3param};
 use domain_base::{ScanError, Scanner};
 use domain_bitmap::{OwnerHash, RtypeBitmap};
@@ -63,17 +63,6 @@ where
 }
 
 impl<O: Octets> Nsec3<O> {
-    /// The first three fields.
-    fn numbers(&self) -> HashNumbers
-        ensures { (result.hash_algorithm ≡ self.now.hash_algorithm) × (result.flags ≡ self.now.flags) × (result.iterations ≡ self.now.iterations) }
-    {
-        HashNumbers {
-            hash_algorithm: self.hash_algorithm(),
-            flags: self.flags(),
-            iterations: self.iterations(),
-        }
-    }
-
     /// The comment on the flags.
     fn flags_comment(&self) -> &'static str
         ensures { result.now ≡ opt_out_comment self.now.flags }
@@ -86,11 +75,11 @@ impl<O: Octets> Nsec3<O> {
     }
 }
 
-/// A space before each type.
+/// The types, a space before each.
 #[derive(Drop)]
-struct Spaced<'a, O: Octets>(&'a RtypeBitmap<O>);
+struct AfterSpaces<'a, O: Octets>(&'a RtypeBitmap<O>);
 
-impl<'a, O: Octets> fmt::Display for Spaced<'a, O> {
+impl<'a, O: Octets> fmt::Display for AfterSpaces<'a, O> {
     ghost output = { λ t. Some (spaced_types (types_of t.0.now)) };
 
     #[tactic(auto, using(crate::proofs::Nsec3Lemmas::after_a_space), unfolding(domain_bitmap::specs::Text::spaced_types))]
@@ -108,9 +97,9 @@ impl<O: Octets> fmt::Display for Nsec3<O> {
     ghost output = { λ d. Some (nsec3_text (nsec3_values d)) };
 
     fn fmt<W: fmt::Write>(&self, f: &mut fmt::Formatter<W>) -> fmt::Result {
-        let numbers = self.numbers();
+        let numbers = Spaced(self.numbers());
         let (salt, next_owner) = (self.salt(), self.next_owner());
-        let types = Spaced(self.types());
+        let types = AfterSpaces(self.types());
         write!(f, "{numbers} {salt} {next_owner}{types}")
     }
 }

@@ -11,7 +11,7 @@ ghost use Rattle.domain_plain.specs.Layout.{Begins, Fits, FirstFault, GoesOn};
 ghost use Rattle.domain_plain.specs.Laws.{fed_alike, tied_octets};
 ghost use Rattle.domain_keys.specs.Laws.{copies_tied};
 ghost use Rattle.domain_rdata.specs.OptOut.{is_opt_out, with_opt_out};
-ghost use Rattle.domain_rdata.specs.Rdata.{nsec3param, nsec3param_values, nsec3param_octets, uncounted, uncounted_octets};
+ghost use Rattle.domain_rdata.specs.Rdata.{hash_numbers, nsec3param, nsec3param_values, nsec3param_octets, uncounted, uncounted_octets};
 
 use bytes::Bytes;
 use domain_base::{CanonicalOrd, Nsec3HashAlgorithm, Rtype};
@@ -39,8 +39,11 @@ pub struct Nsec3param<O: Octets> {
     salt: Nsec3Salt<O>,
 }
 
-/// Hash algorithm, flags, iterations and salt.
-pub type ParamFields<'a> = ((u8, (u8, u16)), Counted<'a>);
+/// Hash algorithm, flags and iterations.
+pub type HashNumbers = (u8, (u8, u16));
+
+/// Those, and the salt.
+pub type ParamFields<'a> = (HashNumbers, Counted<'a>);
 
 /// Whether the flags have the bit of opt-out.
 pub fn has_opt_out(flags: u8) -> bool
@@ -152,30 +155,33 @@ impl<O: Octets> Nsec3param<O> {
         (hash_algorithm, flags, iterations, salt)
     }
 
+    /// The fields but the salt.
+    pub(crate) fn numbers(&self) -> HashNumbers
+        ensures value { result ≡ (self.now.hash_algorithm, (self.now.flags, self.now.iterations)) }
+        ensures fits { Fits hash_numbers (self.now.hash_algorithm, (self.now.flags, self.now.iterations)) }
+    {
+        (
+            self.hash_algorithm().to_int(),
+            (self.flags(), self.iterations()),
+        )
+    }
+
     /// The fields, in the order of the wire.
     pub(crate) fn fields(&self) -> ParamFields<'_>
         ensures numbers { result.0 ≡ (self.now.hash_algorithm, (self.now.flags, self.now.iterations)) }
         ensures salt { result.1.octets.now ≡ self.now.salt }
         ensures fits { Fits nsec3param (nsec3param_values self.now) }
     {
-        let numbers = (
-            self.hash_algorithm().to_int(),
-            (self.flags(), self.iterations()),
-        );
-        (numbers, Counted::new(self.salt.as_slice()))
+        (self.numbers(), Counted::new(self.salt.as_slice()))
     }
 
     /// The numbers, and the octets of the salt.
-    fn uncounted(&self) -> ((u8, (u8, u16)), Rest<'_>)
+    fn uncounted(&self) -> (HashNumbers, Rest<'_>)
         ensures numbers { result.0 ≡ (self.now.hash_algorithm, (self.now.flags, self.now.iterations)) }
         ensures salt { result.1.0.now ≡ self.now.salt }
         ensures fits { Fits uncounted (nsec3param_values self.now) }
     {
-        let numbers = (
-            self.hash_algorithm().to_int(),
-            (self.flags(), self.iterations()),
-        );
-        (numbers, Rest(self.salt.as_slice()))
+        (self.numbers(), Rest(self.salt.as_slice()))
     }
 }
 

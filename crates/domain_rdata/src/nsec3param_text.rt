@@ -6,6 +6,7 @@ ghost use Rattle.domain_rdata.specs.Rdata.{hash_numbers, nsec3param_values};
 ghost use Rattle.domain_rdata.specs.Nsec3paramText.{Nsec3paramText, RefusesNsec3param, hash_numbers_text, nsec3param_text, number_pieces, nsec3param_pieces};
 
 use crate::Nsec3param;
+use crate::nsec3param::HashNumbers;
 use domain_base::{Nsec3HashAlgorithm, ScanError, Scanner};
 use domain_bitmap::Nsec3Salt;
 use domain_octets::{Formatter, FromBuilder, Octets, OutOfMemory, ZonefileFmt};
@@ -14,11 +15,11 @@ use std::alloc::Global;
 use std::fmt;
 
 /// Hash algorithm, flags and iterations, one token each.
-fn scan_numbers<S: Scanner>(alloc: Global, scanner: &mut S) -> Result<(u8, (u8, u16)), ScanError>
+fn scan_numbers<S: Scanner>(alloc: Global, scanner: &mut S) -> Result<HashNumbers, ScanError>
     ensures ok { IfOk result (λ v. Scans hash_numbers (S.tokens scanner.old) v (S.tokens scanner.new)) }
     ensures err { IfErr result (λ e. Refuses S.Octets.Builder.limit hash_numbers (S.tokens scanner.old) (S.tokens scanner.new) (scan_fault_of e)) }
 {
-    <(u8, (u8, u16)) as ScanFields<S>>::scan(alloc, scanner)
+    <HashNumbers as ScanFields<S>>::scan(alloc, scanner)
 }
 
 impl<O: FromBuilder + Drop> Nsec3param<O> {
@@ -43,39 +44,17 @@ impl<O: FromBuilder + Drop> Nsec3param<O> {
     }
 }
 
-/// Hash algorithm, flags and iterations, as they are written.
-#[derive(Clone, Copy)]
-pub struct HashNumbers {
-    pub hash_algorithm: Nsec3HashAlgorithm,
-    pub flags: u8,
-    pub iterations: u16,
-}
+/// Hash algorithm, flags and iterations, as they are written: with single spaces.
+#[derive(Drop)]
+pub struct Spaced(pub HashNumbers);
 
-/// With single spaces.
-impl fmt::Display for HashNumbers {
-    ghost output = { λ n. Some (hash_numbers_text (n.hash_algorithm, (n.flags, n.iterations))) };
+impl fmt::Display for Spaced {
+    ghost output = { λ n. Some (hash_numbers_text n.0) };
 
     #[tactic(auto, unfolding(crate::specs::Nsec3paramText::hash_numbers_text))]
     fn fmt<W: fmt::Write>(&self, f: &mut fmt::Formatter<W>) -> fmt::Result {
-        let (hash_algorithm, flags, iterations) = (
-            self.hash_algorithm,
-            self.flags,
-            self.iterations,
-        );
+        let (hash_algorithm, (flags, iterations)) = self.0;
         write!(f, "{hash_algorithm} {flags} {iterations}")
-    }
-}
-
-impl<O: Octets> Nsec3param<O> {
-    /// The fields but the salt.
-    fn numbers(&self) -> HashNumbers
-        ensures { (result.hash_algorithm ≡ self.now.hash_algorithm) × (result.flags ≡ self.now.flags) × (result.iterations ≡ self.now.iterations) }
-    {
-        HashNumbers {
-            hash_algorithm: self.hash_algorithm(),
-            flags: self.flags(),
-            iterations: self.iterations(),
-        }
     }
 }
 
@@ -84,7 +63,7 @@ impl<O: Octets> fmt::Display for Nsec3param<O> {
     ghost output = { λ d. Some (nsec3param_text (nsec3param_values d)) };
 
     fn fmt<W: fmt::Write>(&self, f: &mut fmt::Formatter<W>) -> fmt::Result {
-        let (numbers, salt) = (self.numbers(), self.salt());
+        let (numbers, salt) = (Spaced(self.numbers()), self.salt());
         write!(f, "{numbers} {salt}")
     }
 }
@@ -106,12 +85,13 @@ pub fn write_numbers<F: Formatter>(
     flags_comment: &str,
     formatter: &mut F,
 ) -> Result<(), OutOfMemory>
-    ensures { OnOk result (F.pieces formatter.new ≡ F.pieces formatter.old ++ number_pieces flags_comment.now (numbers.hash_algorithm, (numbers.flags, numbers.iterations))) }
+    ensures { OnOk result (F.pieces formatter.new ≡ F.pieces formatter.old ++ number_pieces flags_comment.now numbers) }
 {
-    formatter.write_token(&numbers.hash_algorithm)?;
-    formatter.write_token(&numbers.flags)?;
+    let (hash_algorithm, (flags, iterations)) = numbers;
+    formatter.write_token(&hash_algorithm)?;
+    formatter.write_token(&flags)?;
     formatter.write_comment(&flags_comment)?;
-    formatter.write_token(&numbers.iterations)?;
+    formatter.write_token(&iterations)?;
     formatter.write_comment(&"iterations")
 }
 
