@@ -4,3 +4,4 @@ pub mod NsecLemmas
 pub mod OctetsLemmas
 pub mod TextLemmas
 pub mod Nsec3Lemmas
+pub mod Nsec3TextLemmas

@@ -1,6 +1,9 @@
-//! Composed data of hashed names parses back (RFC 5155, sections 3.2 and 4.2).
-ghost use Rattle.domain_plain.specs.Layout.{ParsesBack};
-ghost use Rattle.domain_rdata.specs.Rdata.{nsec3, nsec3_values, nsec3param, nsec3param_values};
+//! What holds of the octets and the tokens of hashed names (RFC 5155, sections 3 and 4).
+ghost use Rattle.std.specs.Prelude.{◌≡◌, ℕ, List};
+ghost use Rattle.domain_plain.specs.Layout.{ParsesBack, Values};
+ghost use Rattle.domain_rdata.specs.Nsec3paramText.{Nsec3paramText};
+ghost use Rattle.domain_rdata.specs.Nsec3Text.{HashText};
+ghost use Rattle.domain_rdata.specs.Rdata.{hash_fields, nsec3, nsec3_values, nsec3param, nsec3param_values};
 
 use crate::{Nsec3, Nsec3param};
 use domain_octets::Octets;
@@ -20,3 +23,11 @@ pub fn nsec3_parses_back<O: Octets>(value: &Nsec3<O>)
 {
     let _fields = value.fields();
 }
+
+/// Tokens begin with parameters, or with parameters and a hash, in one way at most: the values and the tokens that are left are determined.
+pub fn hashes_are_spelled_once()
+    ensures params { (old m n : List (List ℕ)) (v w : Values nsec3param) → Nsec3paramText old v m → Nsec3paramText old w n → v ≡ w }
+    ensures after_params { (old m n : List (List ℕ)) (v w : Values nsec3param) → Nsec3paramText old v m → Nsec3paramText old w n → m ≡ n }
+    ensures hash { (old m n : List (List ℕ)) (v w : Values hash_fields) → HashText old v m → HashText old w n → v ≡ w }
+    ensures after_hash { (old m n : List (List ℕ)) (v w : Values hash_fields) → HashText old v m → HashText old w n → m ≡ n }
+{}
