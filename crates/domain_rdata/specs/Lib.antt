@@ -6,3 +6,7 @@ pub mod NsecText
 pub mod NsecConvert
 pub mod NsecWire
 pub mod DataText
+pub mod OptOut
+pub mod Nsec3paramText
+pub mod Nsec3Wire
+pub mod Nsec3Text

@@ -1,6 +1,6 @@
 //! Data of DNSSEC records, and data of all types as one type.
 //!
-//! `Nsec` is the data of RFC 4034, section 4. `ZoneRecordData` holds the data of any type; types that have no variant of their own are held as octets (RFC 3597).
+//! `Nsec` is the data of RFC 4034, section 4, `Nsec3` and `Nsec3param` that of RFC 5155, sections 3 and 4. `ZoneRecordData` holds the data of any type; types that have no variant of their own are held as octets (RFC 3597).
 //!
 //! The crates above may rely on this: data of all types is ordered by type and then by canonical octets, also between data that is known and the same
 //! octets held as unknown, and the order takes no memory.
@@ -8,6 +8,16 @@
 
 pub mod laws;
 mod nsec;
+mod nsec3;
+mod nsec3_compare;
+mod nsec3_convert;
+pub mod nsec3_laws;
+#[cfg(test)]
+mod nsec3_tests;
+mod nsec3_text;
+mod nsec3_wire;
+mod nsec3param;
+mod nsec3param_text;
 mod nsec_compare;
 mod nsec_convert;
 mod nsec_text;
@@ -19,4 +29,6 @@ mod zone_record_data;
 mod zone_text;
 
 pub use nsec::Nsec;
+pub use nsec3::Nsec3;
+pub use nsec3param::Nsec3param;
 pub use zone_record_data::ZoneRecordData;

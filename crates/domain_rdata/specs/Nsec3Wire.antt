@@ -1,0 +1,17 @@
+-- NSEC3 data on the wire (RFC 5155, section 3.2)
+use Rattle.std.specs.Prelude.{ℕ, List}
+use Rattle.domain_base.specs.Fault.{Fault}
+use Rattle.domain_bitmap.specs.Blocks.{IsBitmap}
+use Rattle.domain_bitmap.specs.Fault.{BitmapFault}
+use Rattle.domain_plain.specs.Layout.{Values, Begins, FirstFault}
+use Rattle.domain_rdata.specs.Rdata.{hash_fields, nsec3}
+
+-- the octets are the parameters, a hash, and then a type bitmap to the end
+pub record BeginsNsec3 (octets : List ℕ) (values : Values nsec3) (after : List ℕ) : Type 0 where
+  pub begins : Begins nsec3 octets values after
+  pub bitmap : IsBitmap values.1
+
+-- the first fault: that of a field before the bitmap, or the bitmap's
+pub data Nsec3Fault (octets : List ℕ) (fault : Fault) : Type 0 where
+  in_fields : FirstFault hash_fields octets fault → Nsec3Fault octets fault
+  in_types : (fields : Values hash_fields) (types : List ℕ) → Begins hash_fields octets fields types → BitmapFault types fault → Nsec3Fault octets fault

@@ -1,0 +1,90 @@
+//! NSEC3 data copied, and made over other octets.
+ghost use Rattle.std.specs.Prelude.{◌≡◌, ◌⊎◌, Some, IfOk, length, refl};
+ghost use Rattle.domain_octets.specs.Limit.{IsOver};
+ghost use Rattle.domain_keys.specs.Laws.{copies_tied};
+ghost use Rattle.domain_rdata.specs.Rdata.{nsec3_values, nsec3_octets};
+
+use crate::{Nsec3, Nsec3param};
+use bytes::Bytes;
+use domain_bitmap::{OwnerHash, RtypeBitmap};
+use domain_octets::{AppendError, ArrayBuilder, Octets, OctetsFrom, OutOfMemory, TryClone};
+use domain_plain::{CloneRecordData, both};
+use std::alloc::Global;
+
+impl<O: Octets + Drop> Nsec3<O> {
+    /// A copy. Uses the allocators of the octets.
+    pub fn clone(&self) -> Result<Self, OutOfMemory>
+        ensures { IfOk result (λ copy. copy ≡ self.now) }
+    {
+        let salt = self.salt().clone()?;
+        let next_owner = self.next_owner().clone()?;
+        let types = self.types().clone()?;
+        Ok(Nsec3::new(
+            self.hash_algorithm(),
+            self.flags(),
+            self.iterations(),
+            salt,
+            next_owner,
+            types,
+        ))
+    }
+}
+
+impl<O: Octets + Drop> TryClone for Nsec3<O> {
+    ghost is_clone = { λ d copy. copy ≡ d };
+
+    fn try_clone(&self) -> Result<Self, OutOfMemory> {
+        self.clone()
+    }
+}
+
+impl<O: Octets + Drop> CloneRecordData for Nsec3<O> {
+    ghost clone_rtype = { λ d copy same. refl };
+
+    ghost clone_canonical = { copies_tied nsec3_octets };
+}
+
+impl<S: Octets + Drop> OctetsFrom<Nsec3<S>> for Nsec3<Vec<u8>> {
+    ghost is_same = { λ source made. nsec3_values made ≡ nsec3_values source };
+
+    ghost has_no_room = { λ _. ⊥ };
+
+    fn try_octets_from(alloc: Global, source: Nsec3<S>) -> Result<Self, AppendError> {
+        let (params, next_owner, types) = source.into_parts();
+        let params = Nsec3param::try_octets_from(alloc, params);
+        let next_owner = OwnerHash::try_octets_from(alloc, next_owner);
+        let types = RtypeBitmap::try_octets_from(alloc, types);
+        let ((params, next_owner), types) = both(both(params, next_owner), types)?;
+        Ok(Nsec3::of_params(params, next_owner, types))
+    }
+}
+
+impl<S: Octets + Drop> OctetsFrom<Nsec3<S>> for Nsec3<Bytes> {
+    ghost is_same = { λ source made. nsec3_values made ≡ nsec3_values source };
+
+    ghost has_no_room = { λ _. ⊥ };
+
+    fn try_octets_from(alloc: Global, source: Nsec3<S>) -> Result<Self, AppendError> {
+        let (params, next_owner, types) = source.into_parts();
+        let params = Nsec3param::try_octets_from(alloc, params);
+        let next_owner = OwnerHash::try_octets_from(alloc, next_owner);
+        let types = RtypeBitmap::try_octets_from(alloc, types);
+        let ((params, next_owner), types) = both(both(params, next_owner), types)?;
+        Ok(Nsec3::of_params(params, next_owner, types))
+    }
+}
+
+impl<S: Octets + Drop, const K: usize> OctetsFrom<Nsec3<S>> for Nsec3<ArrayBuilder<K>> {
+    ghost is_same = { λ source made. nsec3_values made ≡ nsec3_values source };
+
+    ghost has_no_room = { λ source. (IsOver (Some K) (length source.salt) ⊎ IsOver (Some K) (length source.next_owner)) ⊎ IsOver (Some K) (length source.types) };
+
+    fn try_octets_from(alloc: Global, source: Nsec3<S>) -> Result<Self, AppendError> {
+        let (params, next_owner, types) = source.into_parts();
+        let params = Nsec3param::try_octets_from(alloc, params);
+        let next_owner = OwnerHash::try_octets_from(alloc, next_owner);
+        let types = RtypeBitmap::try_octets_from(alloc, types);
+        let ((params, next_owner), types) = both(both(params, next_owner), types)?;
+        Ok(Nsec3::of_params(params, next_owner, types))
+    }
+}

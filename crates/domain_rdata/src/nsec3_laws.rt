@@ -1,0 +1,33 @@
+//! What holds of the octets and the tokens of hashed names (RFC 5155, sections 3 and 4).
+ghost use Rattle.std.specs.Prelude.{◌≡◌, ℕ, List};
+ghost use Rattle.domain_plain.specs.Layout.{ParsesBack, Values};
+ghost use Rattle.domain_rdata.specs.Nsec3paramText.{Nsec3paramText};
+ghost use Rattle.domain_rdata.specs.Nsec3Text.{HashText};
+ghost use Rattle.domain_rdata.specs.Rdata.{hash_fields, nsec3, nsec3_values, nsec3param, nsec3param_values};
+
+use crate::{Nsec3, Nsec3param};
+use domain_octets::Octets;
+
+/// The octets of parameters are read as these parameters, in no other way, and nothing is left.
+#[tactic(auto, using(crate::proofs::Nsec3Lemmas::params_back))]
+pub fn nsec3param_parses_back<O: Octets>(value: &Nsec3param<O>)
+    ensures { ParsesBack nsec3param (nsec3param_values value.now) }
+{
+    let _fields = value.fields();
+}
+
+/// The octets of NSEC3 data are read as these fields, in no other way, and nothing is left. That the last of them is a type bitmap is an invariant of its type.
+#[tactic(auto, using(crate::proofs::Nsec3Lemmas::nsec3_back))]
+pub fn nsec3_parses_back<O: Octets>(value: &Nsec3<O>)
+    ensures { ParsesBack nsec3 (nsec3_values value.now) }
+{
+    let _fields = value.fields();
+}
+
+/// Tokens begin with parameters, or with parameters and a hash, in one way at most: the values and the tokens that are left are determined.
+pub fn hashes_are_spelled_once()
+    ensures params { (old m n : List (List ℕ)) (v w : Values nsec3param) → Nsec3paramText old v m → Nsec3paramText old w n → v ≡ w }
+    ensures after_params { (old m n : List (List ℕ)) (v w : Values nsec3param) → Nsec3paramText old v m → Nsec3paramText old w n → m ≡ n }
+    ensures hash { (old m n : List (List ℕ)) (v w : Values hash_fields) → HashText old v m → HashText old w n → v ≡ w }
+    ensures after_hash { (old m n : List (List ℕ)) (v w : Values hash_fields) → HashText old v m → HashText old w n → m ≡ n }
+{}
