@@ -201,21 +201,24 @@ fn reads_data_of_other_types_as_octets(rt: HostRuntime) -> Result<(), Fail> {
     let data = scan_data(rt.alloc(), Rtype::TXT, &["\\#", "0"])?;
     let text = format!(in rt.alloc(); "{data}")?;
     assert_eq!(rt; text.as_str(), "\\# 0");
-    let illegal = Some(ScanError::Custom("illegal data"));
-    let unknown = Some(ScanError::Custom("unknown record data"));
     for (rtype, tokens, error) in [
-        (Rtype::MX, ["\\#", "4", "0001016200"].as_slice(), &illegal),
-        (Rtype::MX, &["\\#", "6", "000101620000"], &illegal),
-        (Rtype::MX, &["\\#", "3", "000101"], &illegal),
-        (Rtype::A, &["\\#", "0"], &illegal),
-        (Rtype::NS, &["\\#", "2", "c000"], &illegal),
-        (Rtype::NSEC, &["\\#", "5", "0161000000"], &illegal),
-        (Rtype::DS, &["\\#", "3", "000a05"], &illegal),
-        (Rtype::TXT, &["text"], &unknown),
-        (Rtype::RRSIG, &["\\#", "0"], &unknown),
-        (Rtype::NSEC3, &["\\#", "0"], &unknown),
+        (
+            Rtype::MX,
+            ["\\#", "4", "0001016200"].as_slice(),
+            "illegal data",
+        ),
+        (Rtype::MX, &["\\#", "6", "000101620000"], "illegal data"),
+        (Rtype::MX, &["\\#", "3", "000101"], "illegal data"),
+        (Rtype::A, &["\\#", "0"], "illegal data"),
+        (Rtype::NS, &["\\#", "2", "c000"], "illegal data"),
+        (Rtype::NSEC, &["\\#", "5", "0161000000"], "illegal data"),
+        (Rtype::DS, &["\\#", "3", "000a05"], "illegal data"),
+        (Rtype::TXT, &["text"], "unknown record data"),
+        (Rtype::RRSIG, &["\\#", "0"], "unknown record data"),
+        (Rtype::NSEC3, &["\\#", "0"], "unknown record data"),
     ] {
-        assert_eq!(rt; &scan_data(rt.alloc(), rtype, tokens).err(), error);
+        let refused = scan_data(rt.alloc(), rtype, tokens).err();
+        assert_eq!(rt; refused, Some(ScanError::Custom(error)));
     }
     Ok(())
 }
