@@ -118,6 +118,20 @@ fn answers(rt: HostRuntime) -> Result<(), Fail> {
         ),
         (
             "nsec a.",
+            "a. 3600 IN SOA b. c. 1 2 3 4 1800\nn.a. 60 IN RRSIG A 5 2 12 13 14 15 a. a2V5\nn.a. 61 IN RRSIG \\# 24 000105020000000c0000000d0000000e000f016100 6b6578\n",
+            Ok(()),
+            "a. 1800 IN NSEC n.a. SOA RRSIG NSEC DNSKEY\nn.a. 1800 IN NSEC a. RRSIG NSEC\n",
+        ),
+        (
+            "nsec a.",
+            "a. 3600 IN SOA b. c. 1 2 3 4 1800\na. 0 IN NSEC3PARAM 1 0 12 aabbccdd\nh.a. 60 IN NSEC3 1 0 12 - CPNMU A RRSIG\n\
+             i.a. 60 IN NSEC3 \\# 9 010100000003666f6f\nj.a. 0 IN TYPE51 \\# 5 0100000000\n",
+            Ok(()),
+            "a. 1800 IN NSEC h.a. SOA RRSIG NSEC DNSKEY NSEC3PARAM\nh.a. 1800 IN NSEC i.a. RRSIG NSEC NSEC3\n\
+             i.a. 1800 IN NSEC j.a. RRSIG NSEC NSEC3\nj.a. 1800 IN NSEC a. RRSIG NSEC NSEC3PARAM\n",
+        ),
+        (
+            "nsec a.",
             "a. 3600 IN SOA b. c. 1 2 3 4 1800\nn.a. 60 IN MX \\# 4 0001016200\n",
             Err(DenialFault::Line(2)),
             "",

@@ -4,7 +4,7 @@ use Rattle.domain_plain.specs.declared.record.Record.{Record}
 use Rattle.domain_rdata.specs.Zone.{rtype_of}
 use Rattle.domain_rdata.specs.declared.nsec.Nsec.{Nsec}
 use Rattle.domain_rdata.specs.declared.zone_record_data.ZoneRecordData.{ZoneRecordData}
-use Rattle.domain_rdata.specs.declared.zone_record_data.ZoneRecordData.TheVariants.{A, Ns, Soa, Mx, Dnskey, Ds, Nsec as NsecData, Unknown}
+use Rattle.domain_rdata.specs.declared.zone_record_data.ZoneRecordData.TheVariants.{A, Ns, Soa, Mx, Dnskey, Ds, Rrsig, Nsec as NsecData, Nsec3, Nsec3param, Unknown}
 use Rattle.domain_dnssec.specs.Names.{Name}
 use Rattle.domain_dnssec.specs.Zone.{ZoneRecord}
 use Rattle.domain_dnssec.specs.Chain.{Link}
@@ -17,7 +17,10 @@ minimum_of (Soa d) = Some d.minimum
 minimum_of (Mx d) = None
 minimum_of (Dnskey d) = None
 minimum_of (Ds d) = None
+minimum_of (Rrsig d) = None
 minimum_of (NsecData d) = None
+minimum_of (Nsec3 d) = None
+minimum_of (Nsec3param d) = None
 minimum_of (Unknown d) = None
 
 abbrev pub as_zone_record : {O N : Type 0} → (N → Name) → Record N (ZoneRecordData O N) → ZoneRecord

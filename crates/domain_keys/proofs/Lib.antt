@@ -1,3 +1,4 @@
+pub mod GrammarLemmas
 pub mod KeyTagLemmas
 pub mod DataLemmas
 pub mod PieceLemmas

@@ -1,51 +1,98 @@
--- tokens that are refused spell no data
-use Rattle.std.proofs.Common.{◌≡◌, ◌≢◌, ℕ, ◌<◌, ◌≤◌, List, length, refl, sym, ap, subst, ◌∙◌, arith, None}
-use Rattle.std.specs.List.{concat}
-use Rattle.domain_octets.specs.Codec.{Decodes}
-use Rattle.domain_octets.specs.declared.codec.Codec.{Codec}
-use Rattle.domain_octets.specs.declared.codec.Codec.TheVariants.{Base16, Base32Hex, Base64}
-use Rattle.domain_base.specs.Scan.{ScanFault, entry_ends, illegal, no_room, no_memory, CodecFault}
-use Rattle.domain_plain.specs.Layout.{Layout, one, ◌▸◌, Values}
+-- The texts of keys, of digests and of signatures: tokens spell one at most, and none where they are refused.
+use Rattle.std.proofs.Common.{◌≡◌, ◌≢◌, ℕ, ◌+◌, ◌<◌, List, length, sym, ◌∙◌, arith, None}
+use Rattle.domain_octets.specs.declared.codec.Codec.TheVariants.{Base16, Base64}
+use Rattle.domain_base.specs.Name.{wire_of}
+use Rattle.domain_base.specs.Numbers.{TypeText, IsNoType}
+use Rattle.domain_base.specs.Scan.{ScanFault, no_memory, RefusesToken}
+use Rattle.domain_base.proofs.NamedLemmas.{one_named}
+use Rattle.domain_plain.specs.Field.{octet, short, long, name}
+use Rattle.domain_plain.specs.Layout.{Layout, one, ◌▸◌}
 use Rattle.domain_plain.specs.Scan.{Scans, Refuses}
-use Rattle.domain_plain.proofs.ScanLemmas.{refused_spells_none}
-use Rattle.domain_keys.specs.Data.{DnskeyData, DsData}
-use Rattle.domain_keys.specs.Text.{Spells, RefusesData, in_field, in_entry, too_long, three_numbers, DnskeyText, RefusesDnskey, DsText, RefusesDs}
+use Rattle.domain_keys.specs.Data.{proto_rrsig_data, DnskeyData, DsData, RrsigData}
+use Rattle.domain_keys.specs.Time.{TimeToken, IsNoTime}
+use Rattle.domain_keys.specs.Text.{OneToken, three_numbers, DnskeyText, RefusesDnskey, DsText, RefusesDs, numbers_text, RefusesNumbers, times_text, RefusesTimes, rrsig_fields_text, RefusesRrsigFields, RrsigText, RefusesRrsig}
+use Rattle.domain_keys.proofs.GrammarLemmas.{ReadsOnce, Excludes, Any, fields_once, fields_refused, one_token, token_refused, both_once, both_refused, same_fields, same_octets, entry_refused}
+use Rattle.domain_keys.proofs.ScanLemmas.{length_of_rrsig}
 
--- a text stands for the same octets however it is read
-decodes_once : (codec : Codec) (text a b : List ℕ) → Decodes codec text a → Decodes codec text b → a ≡ b
-decodes_once Base16 text a b x y = cc
-decodes_once Base32Hex text a b x y = x.value ∙ sym y.value
-decodes_once Base64 text a b x y = cc
-
--- what is refused by a codec, but for want of memory, stands for nothing
-codec_excludes : (codec : Codec) (fault : ScanFault) (text octets : List ℕ) → CodecFault codec None fault text → Decodes codec text octets → fault ≢ no_memory → ⊥
-codec_excludes codec entry_ends text octets why is known = why
-codec_excludes codec (illegal said) text octets why is known = why.1 octets is
-codec_excludes codec no_room text octets why is known = why.2
-codec_excludes codec no_memory text octets why is known = known refl
-
--- the tokens left after fields are determined
-fields_left : (l : Layout) (old m n : List (List ℕ)) (v w : Values l) → Scans l old v m → Scans l old w n → m ≡ n
-fields_left (one f) old m n v w x y = let e = x.first in let d = y.first in cc
-fields_left (a ▸ b) old m n v w x y =
-    let between = fields_left a old x.0 y.0 v.0 w.0 x.1 y.1 in
-    fields_left b y.0 m n v.1 w.1 (subst (λ t. Scans b t v.1 m) between x.2) y.2
-
--- over octets that grow, tokens that are refused but for want of memory spell no data of at most so many octets
-data_excludes : (l : Layout) (codec : Codec) (most : ℕ) (old new : List (List ℕ)) (fault : ScanFault) → RefusesData (Scans l) (Refuses None l) None (λ fields octets. most < length octets) codec old new fault
-    → fault ≢ no_memory → (v : Values l) (octets : List ℕ) → Spells (Scans l) codec old v octets → length octets ≤ most → ⊥
-data_excludes l codec most old new fault (in_field why) known v octets is fits = refused_spells_none l old new is.entry v fault why is.fields known
-data_excludes l codec most old new fault (in_entry why) known v octets is fits =
-    let same = fields_left l old is.entry why.entry v why.value is.fields why.fields in
-    codec_excludes codec fault (concat why.entry) octets why.why (subst (λ t. Decodes codec (concat t) octets) same is.decoded) known
-data_excludes l codec most old new fault (too_long why) known v octets is fits =
-    let same = fields_left l old is.entry why.spelled.entry v why.value is.fields why.spelled.fields in
-    let octets_same : octets ≡ why.octets =
-    decodes_once codec (concat why.spelled.entry) octets why.octets (subst (λ t. Decodes codec (concat t) octets) same is.decoded) why.spelled.decoded in
-    omega (arith, why.long, fits, ap length octets_same)
+-- keys
+pub dnskey_once : (old : List (List ℕ)) (d e : DnskeyData) → DnskeyText old d → DnskeyText old e → d ≡ e
+dnskey_once old d e x y =
+    let numbers = same_fields (Scans three_numbers) (fields_once three_numbers) Base64 old _ _ d.public_key e.public_key x.spelled y.spelled in
+    let octets = same_octets (Scans three_numbers) (fields_once three_numbers) Base64 old _ _ d.public_key e.public_key x.spelled y.spelled in
+    λ i. record { flags = (numbers i).0; protocol = (numbers i).1.0; algorithm = (numbers i).1.1; public_key = octets i }
 
 pub refused_dnskey : (old new : List (List ℕ)) (fault : ScanFault) (d : DnskeyData) → RefusesDnskey None old new fault → fault ≢ no_memory → DnskeyText old d → ⊥
-refused_dnskey old new fault d why known text = data_excludes three_numbers Base64 65531 old new fault why known _ d.public_key text.spelled text.fits
+refused_dnskey old new fault d why known text =
+    entry_refused (Scans three_numbers) (Refuses None three_numbers) (fields_once three_numbers) (fields_refused three_numbers) (λ fields octets. 65531 < length octets) Base64 old new fault known
+    (d.flags, (d.protocol, d.algorithm)) d.public_key text.spelled (λ many. omega (arith, many, text.fits)) why
+
+-- digests
+pub ds_once : (old : List (List ℕ)) (d e : DsData) → DsText old d → DsText old e → d ≡ e
+ds_once old d e x y =
+    let numbers = same_fields (Scans three_numbers) (fields_once three_numbers) Base16 old _ _ d.digest e.digest x.spelled y.spelled in
+    let octets = same_octets (Scans three_numbers) (fields_once three_numbers) Base16 old _ _ d.digest e.digest x.spelled y.spelled in
+    λ i. record { key_tag = (numbers i).0; algorithm = (numbers i).1.0; digest_type = (numbers i).1.1; digest = octets i }
 
 pub refused_ds : (old new : List (List ℕ)) (fault : ScanFault) (d : DsData) → RefusesDs None old new fault → fault ≢ no_memory → DsText old d → ⊥
-refused_ds old new fault d why known text = data_excludes three_numbers Base16 65531 old new fault why known _ d.digest text.spelled text.fits
+refused_ds old new fault d why known text =
+    entry_refused (Scans three_numbers) (Refuses None three_numbers) (fields_once three_numbers) (fields_refused three_numbers) (λ fields octets. 65531 < length octets) Base16 old new fault known
+    (d.key_tag, (d.algorithm, d.digest_type)) d.digest text.spelled (λ many. omega (arith, many, text.fits)) why
+
+-- signatures: the numbers
+abbrev lengths : Layout
+lengths = one octet ▸ one octet ▸ one long
+
+type_once : (text : List ℕ) (m n : ℕ) → TypeText text m → TypeText text n → m ≡ n
+type_once text m n x y = one_named _ _ text m n x y
+
+type_refused : (fault : ScanFault) (text : List ℕ) (n : ℕ) → Any n → IsNoType fault text → TypeText text n → fault ≢ no_memory → ⊥
+type_refused fault text n any why is known = why.none n is
+
+numbers_once : ReadsOnce numbers_text
+numbers_once = both_once (OneToken TypeText) (Scans lengths) (one_token TypeText type_once) (fields_once lengths)
+
+numbers_refused : Excludes (λ v. Any v.0 × Any v.1) numbers_text (RefusesNumbers None)
+numbers_refused =
+    both_refused Any Any (OneToken TypeText) (Scans lengths) (RefusesToken IsNoType) (Refuses None lengths) (one_token TypeText type_once) (token_refused Any TypeText IsNoType type_refused) (fields_refused lengths)
+
+-- the times
+time_once : (text : List ℕ) (m n : ℕ) → TimeToken text m → TimeToken text n → m ≡ n
+time_once text m n x y = x.number.value ∙ sym y.number.value
+
+time_refused : (fault : ScanFault) (text : List ℕ) (n : ℕ) → Any n → IsNoTime fault text → TimeToken text n → fault ≢ no_memory → ⊥
+time_refused fault text n any why is known = why.none n is
+
+times_once : ReadsOnce times_text
+times_once = both_once (OneToken TimeToken) (OneToken TimeToken) (one_token TimeToken time_once) (one_token TimeToken time_once)
+
+times_refused : Excludes (λ v. Any v.0 × Any v.1) times_text RefusesTimes
+times_refused =
+    let each = token_refused Any TimeToken IsNoTime time_refused in
+    both_refused Any Any (OneToken TimeToken) (OneToken TimeToken) (RefusesToken IsNoTime) (RefusesToken IsNoTime) (one_token TimeToken time_once) each each
+
+-- all fields but the signature
+abbrev signer : Layout
+signer = one short ▸ one name
+
+rrsig_fields_once : ReadsOnce rrsig_fields_text
+rrsig_fields_once = both_once numbers_text _ numbers_once (both_once times_text (Scans signer) times_once (fields_once signer))
+
+rrsig_fields_refused : Excludes Any rrsig_fields_text (RefusesRrsigFields None)
+rrsig_fields_refused = λ old new after v fault any.
+    both_refused _ _ numbers_text _ (RefusesNumbers None) _ numbers_once numbers_refused
+    (both_refused _ Any times_text (Scans signer) RefusesTimes (Refuses None signer) times_once times_refused (fields_refused signer))
+    old new after v fault ((tt, tt), ((tt, tt), tt))
+
+pub rrsig_once : (old : List (List ℕ)) (d e : RrsigData) → RrsigText old d → RrsigText old e → d ≡ e
+rrsig_once old d e x y =
+    let fields = same_fields rrsig_fields_text rrsig_fields_once Base64 old _ _ d.signature e.signature x.spelled y.spelled in
+    let octets = same_octets rrsig_fields_text rrsig_fields_once Base64 old _ _ d.signature e.signature x.spelled y.spelled in
+    λ i. record {
+      fields = proto_rrsig_data (fields i).0.0 (fields i).0.1.0 (fields i).0.1.1.0 (fields i).0.1.1.1 (fields i).1.0.0 (fields i).1.0.1 (fields i).1.1.0 (fields i).1.1.1;
+      signature = octets i;
+    }
+
+pub refused_rrsig : (old new : List (List ℕ)) (fault : ScanFault) (d : RrsigData) → RefusesRrsig None old new fault → fault ≢ no_memory → RrsigText old d → ⊥
+refused_rrsig old new fault d why known text =
+    entry_refused rrsig_fields_text (RefusesRrsigFields None) rrsig_fields_once rrsig_fields_refused (λ fields octets. 65535 < 18 + length (wire_of fields.1.1.1) + length octets) Base64 old new fault known
+    _ d.signature text.spelled (λ many. omega (arith, many, text.fits, length_of_rrsig d)) why

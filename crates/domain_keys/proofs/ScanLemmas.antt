@@ -22,7 +22,7 @@ module _ (old first second new : List (List ℕ)) (numbers : ℕ × (ℕ × (ℕ
   pub refused_signer : (limit : Option ℕ) (fault : ScanFault) → Refuses limit (one short ▸ one name) second new fault → RefusesRrsigFields limit old new fault
   refused_signer limit fault why = inr (numbers, first, start, inr (times, second, middle, why))
 
-length_of_rrsig : (d : RrsigData) → length (rrsig_octets d) ≡ 18 + length (wire_of d.fields.signer_name) + length d.signature
+pub length_of_rrsig : (d : RrsigData) → length (rrsig_octets d) ≡ 18 + length (wire_of d.fields.signer_name) + length d.signature
 unfolding octets_of
 length_of_rrsig d = omega (arith, length-append (wire_of d.fields.signer_name) d.signature)
 

@@ -10,7 +10,8 @@ use Rattle.domain_plain.proofs.ExactLemmas.{one_reading, fault_excludes}
 use Rattle.domain_keys.proofs.DataLemmas.{length_of_octets, limit_of_octets}
 use Rattle.domain_keys.specs.Data.{numbers_and_octets}
 use Rattle.domain_rdata.specs.NsecWire.{BeginsNsec, NsecFault, in_name, in_types}
-use Rattle.domain_rdata.specs.Rdata.{nsec}
+use Rattle.domain_rdata.specs.Nsec3Wire.{BeginsNsec3, Nsec3Fault, in_fields, in_types as in_bitmap}
+use Rattle.domain_rdata.specs.Rdata.{nsec, hash_fields, nsec3}
 
 clash : false ≡ true → ⊥
 clash e = cc
@@ -37,6 +38,22 @@ nsec_faulty octets fault (in_name why) v whole = fault_excludes nsec octets faul
 nsec_faulty octets fault (in_types labels types begins why) v whole =
     let name = name_begins octets v whole.begins in
     let same = (one_reading (one spelled_name) octets labels v.0 types v.1 refl begins name).1 in
+    no_fault (subst (λ t. bitmap.FirstFault t why.first) same why.found) whole.bitmap
+
+hash_begins : (octets : List ℕ) (v : Values nsec3) → Begins nsec3 octets v [] → Begins hash_fields octets v.0 v.1
+unfolding octets_of
+hash_begins octets v begins = record {
+  parts = begins.parts ∙ append-nil _;
+  fits = begins.fits.0;
+  ends = (((tt, (tt, tt)), tt), tt);
+}
+
+-- octets of which a field or the bitmap has a fault are no data of an NSEC3 record
+pub nsec3_faulty : (octets : List ℕ) (fault : Fault) → Nsec3Fault octets fault → (v : Values nsec3) → BeginsNsec3 octets v [] → ⊥
+nsec3_faulty octets fault (in_fields why) v whole = fault_excludes nsec3 octets fault (in_first hash_fields (one rest) octets fault why) refl v [] whole.begins
+nsec3_faulty octets fault (in_bitmap fields types begins why) v whole =
+    let fields_read = hash_begins octets v whole.begins in
+    let same = (one_reading hash_fields octets fields v.0 types v.1 refl begins fields_read).1 in
     no_fault (subst (λ t. bitmap.FirstFault t why.first) same why.found) whole.bitmap
 
 pub ruleset exact = (faulty, longer)

@@ -9,8 +9,12 @@ use Rattle.domain_bitmap.specs.Text.{types_text}
 use Rattle.domain_plain.specs.Generic.{generic_text}
 use Rattle.domain_plain.specs.Soa.{soa_text}
 use Rattle.domain_keys.specs.Pieces.{dnskey_text, ds_text}
+use Rattle.domain_keys.specs.RrsigPieces.{rrsig_text}
+use Rattle.domain_rdata.specs.Nsec3Text.{nsec3_text}
+use Rattle.domain_rdata.specs.Nsec3paramText.{nsec3param_text}
+use Rattle.domain_rdata.specs.Rdata.{nsec3_values, nsec3param_values}
 use Rattle.domain_rdata.specs.declared.zone_record_data.ZoneRecordData.{ZoneRecordData}
-use Rattle.domain_rdata.specs.declared.zone_record_data.ZoneRecordData.TheVariants.{A, Ns, Soa, Mx, Dnskey, Ds, Nsec, Unknown}
+use Rattle.domain_rdata.specs.declared.zone_record_data.ZoneRecordData.TheVariants.{A, Ns, Soa, Mx, Dnskey, Ds, Rrsig, Nsec, Nsec3, Nsec3param, Unknown}
 
 -- in the text form of their type; data that are held as octets in the generic form
 abbrev pub data_text : {O N : Type 0} → (O → List ℕ) → (N → List (List ℕ)) → ZoneRecordData O N → Option (List ℕ)
@@ -20,5 +24,8 @@ data_text octets labels (Soa d) = soa_text labels d
 data_text octets labels (Mx d) = Some (decimal d.preference ++ codes " " ++ name_text (labels d.exchange) ++ codes ".")
 data_text octets labels (Dnskey d) = Some (dnskey_text d)
 data_text octets labels (Ds d) = Some (ds_text d)
+data_text octets labels (Rrsig d) = Some (rrsig_text d)
 data_text octets labels (Nsec d) = Some (name_text (labels d.next_name) ++ codes ". " ++ types_text (types_of d.types))
+data_text octets labels (Nsec3 d) = Some (nsec3_text (nsec3_values d))
+data_text octets labels (Nsec3param d) = Some (nsec3param_text (nsec3param_values d))
 data_text octets labels (Unknown d) = Some (generic_text (octets d.«data»))

@@ -6,10 +6,10 @@ use Rattle.std.specs.Cmp.{IsTotalOrder, on_total, then_total, nat_cmp_total}
 use Rattle.std.specs.Cmp.Lexicographic.{slice_cmp, on_texts}
 use Rattle.domain_plain.specs.Layout.{octets_of, canonical_of}
 use Rattle.domain_plain.specs.Plain.{a, a_values, ns, ns_values, soa, soa_values, mx, mx_values, unknown, unknown_values}
-use Rattle.domain_keys.specs.Data.{dnskey_octets, ds_octets}
-use Rattle.domain_rdata.specs.Rdata.{nsec, nsec_values}
+use Rattle.domain_keys.specs.Data.{dnskey_octets, ds_octets, rrsig_octets, rrsig_canonical}
+use Rattle.domain_rdata.specs.Rdata.{nsec, nsec_values, nsec3_octets, nsec3param_octets}
 use Rattle.domain_rdata.specs.declared.zone_record_data.ZoneRecordData.{ZoneRecordData}
-use Rattle.domain_rdata.specs.declared.zone_record_data.ZoneRecordData.TheVariants.{A, Ns, Soa, Mx, Dnskey, Ds, Nsec, Unknown}
+use Rattle.domain_rdata.specs.declared.zone_record_data.ZoneRecordData.TheVariants.{A, Ns, Soa, Mx, Dnskey, Ds, Rrsig, Nsec, Nsec3, Nsec3param, Unknown}
 
 -- the number of the data's type
 abbrev pub rtype_of : {O N : Type 0} → ZoneRecordData O N → ℕ
@@ -19,7 +19,10 @@ rtype_of (Soa d) = 6
 rtype_of (Mx d) = 15
 rtype_of (Dnskey d) = 48
 rtype_of (Ds d) = 43
+rtype_of (Rrsig d) = 46
 rtype_of (Nsec d) = 47
+rtype_of (Nsec3 d) = 50
+rtype_of (Nsec3param d) = 51
 rtype_of (Unknown d) = d.rtype
 
 -- the octets of the data on the wire
@@ -30,7 +33,10 @@ wire_octets octets labels (Soa d) = octets_of soa (soa_values labels d)
 wire_octets octets labels (Mx d) = octets_of mx (mx_values labels d)
 wire_octets octets labels (Dnskey d) = dnskey_octets d
 wire_octets octets labels (Ds d) = ds_octets d
+wire_octets octets labels (Rrsig d) = rrsig_octets d
 wire_octets octets labels (Nsec d) = octets_of nsec (nsec_values labels d)
+wire_octets octets labels (Nsec3 d) = nsec3_octets d
+wire_octets octets labels (Nsec3param d) = nsec3param_octets d
 wire_octets octets labels (Unknown d) = octets_of unknown (unknown_values octets d)
 
 -- the octets of their canonical form (RFC 4034, section 6.2)
@@ -41,7 +47,10 @@ canonical_octets octets labels (Soa d) = canonical_of soa (soa_values labels d)
 canonical_octets octets labels (Mx d) = canonical_of mx (mx_values labels d)
 canonical_octets octets labels (Dnskey d) = dnskey_octets d
 canonical_octets octets labels (Ds d) = ds_octets d
+canonical_octets octets labels (Rrsig d) = rrsig_canonical d
 canonical_octets octets labels (Nsec d) = canonical_of nsec (nsec_values labels d)
+canonical_octets octets labels (Nsec3 d) = nsec3_octets d
+canonical_octets octets labels (Nsec3param d) = nsec3param_octets d
 canonical_octets octets labels (Unknown d) = canonical_of unknown (unknown_values octets d)
 
 -- by the number of the type, and then by canonical octets

@@ -5,7 +5,8 @@ ghost use Rattle.domain_octets.specs.Base32.{base32_upper};
 ghost use Rattle.domain_bitmap.specs.Blocks.{types_of};
 ghost use Rattle.domain_bitmap.specs.Text.{spaced_types};
 ghost use Rattle.domain_rdata.specs.OptOut.{opt_out_comment};
-ghost use Rattle.domain_rdata.specs.Rdata.{nsec3_values, nsec3param_values};
+ghost use Rattle.domain_plain.specs.Layout.{Fits};
+ghost use Rattle.domain_rdata.specs.Rdata.{nsec3, nsec3_values, nsec3param_values};
 ghost use Rattle.domain_rdata.specs.Nsec3Text.{HashText, RefusesHash, Nsec3Text, RefusesNsec3, nsec3_text, nsec3_pieces};
 
 use crate::nsec3param_text::{Spaced, write_numbers};
@@ -49,6 +50,7 @@ where
     /// `Custom("unknown record type")`, `ShortBuf` and `OutOfMemory` where the bitmap has no room or no memory. The tokens left are then an end of those before.
     pub fn scan<S: Scanner<Octets = O>>(alloc: Global, scanner: &mut S) -> Result<Self, ScanError>
         ensures ok { IfOk result (λ d. Nsec3Text (S.tokens scanner.old) (nsec3_values d) (S.tokens scanner.new)) }
+        ensures fits { IfOk result (λ d. Fits nsec3 (nsec3_values d)) }
         ensures err { IfErr result (λ e. RefusesNsec3 O.Builder.limit (S.tokens scanner.old) (S.tokens scanner.new) (scan_fault_of e)) }
     {
         let (params, next_owner) = match scan_hash(alloc, scanner) {
@@ -56,7 +58,11 @@ where
             Err(error) => return Err(error),
         };
         match RtypeBitmap::scan(alloc, scanner) {
-            Ok(types) => Ok(Nsec3::of_params(params, next_owner, types)),
+            Ok(types) => {
+                let data = Nsec3::of_params(params, next_owner, types);
+                let _fields = data.fields();
+                Ok(data)
+            }
             Err(error) => Err(error),
         }
     }

@@ -1,8 +1,9 @@
 //! The parameters of the hashes of names as text (RFC 5155, section 4.3).
 ghost use Rattle.std.specs.Prelude.{◌≡◌, ◌++◌, Some, codes, IfOk, IfErr, OnOk};
 ghost use Rattle.domain_base.specs.Scan.{scan_fault_of};
+ghost use Rattle.domain_plain.specs.Layout.{Fits};
 ghost use Rattle.domain_plain.specs.Scan.{Scans, Refuses};
-ghost use Rattle.domain_rdata.specs.Rdata.{hash_numbers, nsec3param_values};
+ghost use Rattle.domain_rdata.specs.Rdata.{hash_numbers, nsec3param, nsec3param_values};
 ghost use Rattle.domain_rdata.specs.Nsec3paramText.{Nsec3paramText, RefusesNsec3param, hash_numbers_text, nsec3param_text, number_pieces, nsec3param_pieces};
 
 use crate::Nsec3param;
@@ -30,6 +31,7 @@ impl<O: FromBuilder + Drop> Nsec3param<O> {
     /// That of the first field that is refused. The tokens left are then an end of those before.
     pub fn scan<S: Scanner<Octets = O>>(alloc: Global, scanner: &mut S) -> Result<Self, ScanError>
         ensures ok { IfOk result (λ d. Nsec3paramText (S.tokens scanner.old) (nsec3param_values d) (S.tokens scanner.new)) }
+        ensures fits { IfOk result (λ d. Fits nsec3param (nsec3param_values d)) }
         ensures err { IfErr result (λ e. RefusesNsec3param O.Builder.limit (S.tokens scanner.old) (S.tokens scanner.new) (scan_fault_of e)) }
     {
         let (hash_algorithm, (flags, iterations)) = match scan_numbers(alloc, scanner) {
@@ -38,7 +40,11 @@ impl<O: FromBuilder + Drop> Nsec3param<O> {
         };
         let hash_algorithm = Nsec3HashAlgorithm::from_int(hash_algorithm);
         match Nsec3Salt::scan(alloc, scanner) {
-            Ok(salt) => Ok(Nsec3param::new(hash_algorithm, flags, iterations, salt)),
+            Ok(salt) => {
+                let data = Nsec3param::new(hash_algorithm, flags, iterations, salt);
+                let _fields = data.fields();
+                Ok(data)
+            }
             Err(error) => Err(error),
         }
     }

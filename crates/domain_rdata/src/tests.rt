@@ -181,6 +181,43 @@ fn reads_data_in_both_forms(rt: HostRuntime) -> Result<(), Fail> {
             &["example.com.", "A", "SRV"],
             &["\\#", "20", "076578616d706c6503636f6d00", "00054000000040"],
         ),
+        (
+            Rtype::RRSIG,
+            &[
+                "A",
+                "5",
+                "3",
+                "12",
+                "13",
+                "14",
+                "15",
+                "example.com.",
+                "a2V5",
+            ],
+            &[
+                "\\#",
+                "34",
+                "000105030000000c",
+                "0000000d0000000e000f",
+                "076578616d706c6503636f6d00",
+                "6b6579",
+            ],
+        ),
+        (
+            Rtype::NSEC3,
+            &["1", "10", "11", "626172", "CPNMU", "A", "SRV"],
+            &["\\#", "19", "010a000b03626172", "03666f6f00054000000040"],
+        ),
+        (
+            Rtype::NSEC3,
+            &["1", "1", "0", "-", "CPNMU"],
+            &["\\#", "9", "010100000003666f6f"],
+        ),
+        (
+            Rtype::NSEC3PARAM,
+            &["1", "0", "12", "AABBCCDD"],
+            &["\\#", "9", "0100000c04aabbccdd"],
+        ),
     ] {
         let data = scan_data(rt.alloc(), rtype, own)?;
         let same = scan_data(rt.alloc(), rtype, generic)?;
@@ -214,8 +251,27 @@ fn reads_data_of_other_types_as_octets(rt: HostRuntime) -> Result<(), Fail> {
         (Rtype::NSEC, &["\\#", "5", "0161000000"], "illegal data"),
         (Rtype::DS, &["\\#", "3", "000a05"], "illegal data"),
         (Rtype::TXT, &["text"], "unknown record data"),
-        (Rtype::RRSIG, &["\\#", "0"], "unknown record data"),
-        (Rtype::NSEC3, &["\\#", "0"], "unknown record data"),
+        (Rtype::RRSIG, &["\\#", "0"], "illegal data"),
+        (
+            Rtype::NSEC3,
+            &["\\#", "7", "01000000000261"],
+            "illegal data",
+        ),
+        (
+            Rtype::NSEC3PARAM,
+            &["\\#", "6", "010000000000"],
+            "illegal data",
+        ),
+        (
+            Rtype::NSEC3,
+            &["1", "0", "0", "-a", "CPNMU"],
+            "illegal NSEC3 salt",
+        ),
+        (
+            Rtype::RRSIG,
+            &["A", "5", "3", "12", "20380119031407", "14", "15", "a.", ""],
+            "illegal signature time",
+        ),
     ] {
         let refused = scan_data(rt.alloc(), rtype, tokens).err();
         assert_eq!(rt; refused, Some(ScanError::Custom(error)));

@@ -3,16 +3,17 @@ ghost use Rattle.std.specs.Prelude.{◌≡◌, ◌≢◌, ℕ, List, [], None, I
 ghost use Rattle.domain_base.specs.Scan.{scan_fault_of, no_memory};
 ghost use Rattle.domain_plain.specs.Layout.{Values, Begins};
 ghost use Rattle.domain_plain.specs.Plain.{a, a_values, ns, ns_values, soa, soa_values, mx, mx_values};
-ghost use Rattle.domain_keys.specs.Data.{dnskey, dnskey_values, ds, ds_values};
+ghost use Rattle.domain_keys.specs.Data.{dnskey, dnskey_values, ds, ds_values, rrsig, rrsig_values};
 ghost use Rattle.domain_rdata.specs.NsecWire.{BeginsNsec};
-ghost use Rattle.domain_rdata.specs.Rdata.{nsec, nsec_values};
+ghost use Rattle.domain_rdata.specs.Nsec3Wire.{BeginsNsec3};
+ghost use Rattle.domain_rdata.specs.Rdata.{nsec, nsec_values, nsec3, nsec3_values, nsec3param, nsec3param_values};
 ghost use Rattle.domain_rdata.specs.Text.{AreData, has_own_data};
 ghost use Rattle.domain_rdata.specs.declared.zone_record_data.ZoneRecordData.{ZoneRecordData};
 
-use crate::{Nsec, ZoneRecordData};
+use crate::{Nsec, Nsec3, Nsec3param, ZoneRecordData};
 use domain_base::{MakeName, Rtype, ScanError, ToName};
-use domain_bitmap::RtypeBitmap;
-use domain_keys::{Dnskey, Ds};
+use domain_bitmap::{Nsec3Salt, OwnerHash, RtypeBitmap};
+use domain_keys::{Dnskey, Ds, Rrsig};
 use domain_octets::{EmptyBuilder, FromBuilder, Octets, OctetsBuilder, OutOfMemory, Parser};
 use domain_plain::{A, Mx, Ns, RecordData, Soa, UnknownRecordData};
 use std::alloc::Global;
@@ -174,6 +175,120 @@ where
     }
 }
 
+/// The signature that octets are.
+#[tactic(auto, using(crate::proofs::OctetsLemmas::exact))]
+fn rrsig_of<O: FromBuilder + Drop, N: MakeName + Drop>(
+    alloc: Global,
+    octets: &[u8],
+) -> Result<Rrsig<O, N>, ScanError>
+where
+    O::Builder: EmptyBuilder + Drop,
+    ensures ok { IfOk result (λ d. Begins rrsig octets.now (rrsig_values d) []) }
+    ensures err { IfErr result (λ e. O.Builder.limit ≡ None → scan_fault_of e ≢ no_memory → (v : Values rrsig) → Begins rrsig octets.now v [] → ⊥) }
+{
+    let mut parser = Parser::new(octets);
+    let Ok(data) = Rrsig::parse(&mut parser) else {
+        return Err(ScanError::Custom("illegal data"));
+    };
+    let signer_name = name_like(alloc, data.signer_name())?;
+    let signature = octets_like(alloc, data.signature())?;
+    Ok(Rrsig::new_unchecked(
+        data.type_covered(),
+        data.algorithm(),
+        data.labels(),
+        data.original_ttl(),
+        data.expiration(),
+        data.inception(),
+        data.key_tag(),
+        signer_name,
+        signature,
+    ))
+}
+
+/// A copy of a salt.
+fn salt_like<O: FromBuilder + Drop>(
+    alloc: Global,
+    salt: &Nsec3Salt<&[u8]>,
+) -> Result<Nsec3Salt<O>, ScanError>
+where
+    O::Builder: EmptyBuilder + Drop,
+    ensures ok { IfOk result (λ made. made ≡ salt.now) }
+    ensures err { IfErr result (λ e. O.Builder.limit ≡ None → scan_fault_of e ≡ no_memory) }
+{
+    match Nsec3Salt::from_octets(octets_like(alloc, salt.as_slice())?) {
+        Ok(salt) => Ok(salt),
+        Err(_) => unreachable!(),
+    }
+}
+
+/// The parameters with a salt in octets of its own.
+fn params_like<O: FromBuilder + Drop>(
+    alloc: Global,
+    params: &Nsec3param<&[u8]>,
+) -> Result<Nsec3param<O>, ScanError>
+where
+    O::Builder: EmptyBuilder + Drop,
+    ensures ok { IfOk result (λ made. nsec3param_values made ≡ nsec3param_values params.now) }
+    ensures err { IfErr result (λ e. O.Builder.limit ≡ None → scan_fault_of e ≡ no_memory) }
+{
+    let salt = salt_like(alloc, params.salt())?;
+    let (hash_algorithm, flags) = (params.hash_algorithm(), params.flags());
+    Ok(Nsec3param::new(hash_algorithm, flags, params.iterations(), salt))
+}
+
+/// The parameters that octets are.
+#[tactic(auto, using(crate::proofs::OctetsLemmas::exact))]
+fn nsec3param_of<O: FromBuilder + Drop>(
+    alloc: Global,
+    octets: &[u8],
+) -> Result<Nsec3param<O>, ScanError>
+where
+    O::Builder: EmptyBuilder + Drop,
+    ensures ok { IfOk result (λ d. Begins nsec3param octets.now (nsec3param_values d) []) }
+    ensures err { IfErr result (λ e. O.Builder.limit ≡ None → scan_fault_of e ≢ no_memory → (v : Values nsec3param) → Begins nsec3param octets.now v [] → ⊥) }
+{
+    let mut parser = Parser::new(octets);
+    let Ok(data) = Nsec3param::parse(&mut parser) else {
+        return Err(ScanError::Custom("illegal data"));
+    };
+    if parser.remaining() > 0 {
+        return Err(ScanError::Custom("illegal data"));
+    }
+    params_like(alloc, &data)
+}
+
+/// The next hash and the types that octets are.
+fn nsec3_of<O: FromBuilder + Drop>(alloc: Global, octets: &[u8]) -> Result<Nsec3<O>, ScanError>
+where
+    O::Builder: EmptyBuilder + Drop,
+    ensures ok { IfOk result (λ d. BeginsNsec3 octets.now (nsec3_values d) []) }
+    ensures err { IfErr result (λ e. O.Builder.limit ≡ None → scan_fault_of e ≢ no_memory → (v : Values nsec3) → BeginsNsec3 octets.now v [] → ⊥) }
+{
+    let mut parser = Parser::new(octets);
+    match Nsec3::parse(&mut parser) {
+        Ok(data) => {
+            let salt = salt_like(alloc, data.salt())?;
+            let next_owner = octets_like(alloc, data.next_owner().as_slice())?;
+            let types = octets_like(alloc, data.types().as_slice())?;
+            match (
+                OwnerHash::from_octets(next_owner),
+                RtypeBitmap::from_octets(types),
+            ) {
+                (Ok(next_owner), Ok(types)) => Ok(Nsec3::new(
+                    data.hash_algorithm(),
+                    data.flags(),
+                    data.iterations(),
+                    salt,
+                    next_owner,
+                    types,
+                )),
+                _ => unreachable!(),
+            }
+        }
+        Err(_) => Err(ScanError::Custom("illegal data")),
+    }
+}
+
 impl<O: FromBuilder, N: ToName> ZoneRecordData<O, N>
 where
     O::Builder: EmptyBuilder + Drop,
@@ -189,49 +304,34 @@ where
     {
         let (rtype, octets) = (data.rtype(), data.data().as_slice());
         if rtype == Rtype::A {
-            return match a_of(octets) {
-                Ok(data) => Ok(ZoneRecordData::A(data)),
-                Err(error) => Err(error),
-            };
+            return Ok(ZoneRecordData::A(a_of(octets)?));
         }
         if rtype == Rtype::NS {
-            return match ns_of(alloc, octets) {
-                Ok(data) => Ok(ZoneRecordData::Ns(data)),
-                Err(error) => Err(error),
-            };
+            return Ok(ZoneRecordData::Ns(ns_of(alloc, octets)?));
         }
         if rtype == Rtype::SOA {
-            return match soa_of(alloc, octets) {
-                Ok(data) => Ok(ZoneRecordData::Soa(data)),
-                Err(error) => Err(error),
-            };
+            return Ok(ZoneRecordData::Soa(soa_of(alloc, octets)?));
         }
         if rtype == Rtype::MX {
-            return match mx_of(alloc, octets) {
-                Ok(data) => Ok(ZoneRecordData::Mx(data)),
-                Err(error) => Err(error),
-            };
+            return Ok(ZoneRecordData::Mx(mx_of(alloc, octets)?));
         }
         if rtype == Rtype::DNSKEY {
-            return match dnskey_of(alloc, octets) {
-                Ok(data) => Ok(ZoneRecordData::Dnskey(data)),
-                Err(error) => Err(error),
-            };
+            return Ok(ZoneRecordData::Dnskey(dnskey_of(alloc, octets)?));
         }
         if rtype == Rtype::DS {
-            return match ds_of(alloc, octets) {
-                Ok(data) => Ok(ZoneRecordData::Ds(data)),
-                Err(error) => Err(error),
-            };
+            return Ok(ZoneRecordData::Ds(ds_of(alloc, octets)?));
         }
         if rtype == Rtype::NSEC {
-            return match nsec_of(alloc, octets) {
-                Ok(data) => Ok(ZoneRecordData::Nsec(data)),
-                Err(error) => Err(error),
-            };
+            return Ok(ZoneRecordData::Nsec(nsec_of(alloc, octets)?));
         }
-        if rtype == Rtype::RRSIG || rtype == Rtype::NSEC3 || rtype == Rtype::NSEC3PARAM {
-            return Err(ScanError::Custom("unknown record data"));
+        if rtype == Rtype::RRSIG {
+            return Ok(ZoneRecordData::Rrsig(rrsig_of(alloc, octets)?));
+        }
+        if rtype == Rtype::NSEC3 {
+            return Ok(ZoneRecordData::Nsec3(nsec3_of(alloc, octets)?));
+        }
+        if rtype == Rtype::NSEC3PARAM {
+            return Ok(ZoneRecordData::Nsec3param(nsec3param_of(alloc, octets)?));
         }
         Ok(ZoneRecordData::Unknown(data))
     }

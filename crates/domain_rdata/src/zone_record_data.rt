@@ -3,16 +3,16 @@ ghost use Rattle.std.specs.Prelude.{◌≡◌};
 ghost use Rattle.std.specs.Ordering.{nat_cmp};
 ghost use Rattle.std.specs.Cmp.Lexicographic.{slice_cmp};
 
-use crate::Nsec;
+use crate::{Nsec, Nsec3, Nsec3param};
 use domain_base::{CanonicalOrd, Rtype, ToName};
-use domain_keys::{Dnskey, Ds};
+use domain_keys::{Dnskey, Ds, Rrsig};
 use domain_octets::{AppendError, Octets, OctetsBuilder};
 use domain_plain::{A, ComposeRecordData, Mx, Ns, RecordData, Soa, UnknownRecordData};
 use std::cmp::Ordering;
 
 /// The data of a record in a zone.
 #[derive(Drop)]
-pub enum ZoneRecordData<O: Octets, N> {
+pub enum ZoneRecordData<O: Octets, N: ToName> {
     /// An IPv4 address.
     A(A),
     /// A name server.
@@ -25,8 +25,14 @@ pub enum ZoneRecordData<O: Octets, N> {
     Dnskey(Dnskey<O>),
     /// The digest of a key of a child zone.
     Ds(Ds<O>),
+    /// A signature.
+    Rrsig(Rrsig<O, N>),
     /// The next name and the types at a name.
     Nsec(Nsec<O, N>),
+    /// The next hash and the types at a hashed name.
+    Nsec3(Nsec3<O>),
+    /// How the names of a zone are hashed.
+    Nsec3param(Nsec3param<O>),
     /// Data of any type, as octets.
     Unknown(UnknownRecordData<O>),
 }
@@ -44,7 +50,10 @@ impl<O: Octets, N: ToName> RecordData for ZoneRecordData<O, N> {
             ZoneRecordData::Mx(data) => data.rtype(),
             ZoneRecordData::Dnskey(data) => data.rtype(),
             ZoneRecordData::Ds(data) => data.rtype(),
+            ZoneRecordData::Rrsig(data) => data.rtype(),
             ZoneRecordData::Nsec(data) => data.rtype(),
+            ZoneRecordData::Nsec3(data) => data.rtype(),
+            ZoneRecordData::Nsec3param(data) => data.rtype(),
             ZoneRecordData::Unknown(data) => data.rtype(),
         }
     }
@@ -66,7 +75,10 @@ impl<O: Octets, N: ToName> ZoneRecordData<O, N> {
             (ZoneRecordData::Mx(a), ZoneRecordData::Mx(b)) => a.canonical_cmp(b),
             (ZoneRecordData::Dnskey(a), ZoneRecordData::Dnskey(b)) => a.canonical_cmp(b),
             (ZoneRecordData::Ds(a), ZoneRecordData::Ds(b)) => a.canonical_cmp(b),
+            (ZoneRecordData::Rrsig(a), ZoneRecordData::Rrsig(b)) => a.canonical_cmp(b),
             (ZoneRecordData::Nsec(a), ZoneRecordData::Nsec(b)) => a.canonical_cmp(b),
+            (ZoneRecordData::Nsec3(a), ZoneRecordData::Nsec3(b)) => a.canonical_cmp(b),
+            (ZoneRecordData::Nsec3param(a), ZoneRecordData::Nsec3param(b)) => a.canonical_cmp(b),
             (a, ZoneRecordData::Unknown(b)) => a.canonical_cmp_octets(b.data().as_slice()),
             (ZoneRecordData::Unknown(a), b) => {
                 b.canonical_cmp_octets(a.data().as_slice()).reverse()
@@ -91,7 +103,10 @@ impl<O: Octets, N: ToName> ComposeRecordData for ZoneRecordData<O, N> {
             ZoneRecordData::Mx(data) => data.fits_rdlen(),
             ZoneRecordData::Dnskey(data) => data.fits_rdlen(),
             ZoneRecordData::Ds(data) => data.fits_rdlen(),
+            ZoneRecordData::Rrsig(data) => data.fits_rdlen(),
             ZoneRecordData::Nsec(data) => data.fits_rdlen(),
+            ZoneRecordData::Nsec3(data) => data.fits_rdlen(),
+            ZoneRecordData::Nsec3param(data) => data.fits_rdlen(),
             ZoneRecordData::Unknown(data) => data.fits_rdlen(),
         }
     }
@@ -104,7 +119,10 @@ impl<O: Octets, N: ToName> ComposeRecordData for ZoneRecordData<O, N> {
             ZoneRecordData::Mx(data) => data.rdlen(compress),
             ZoneRecordData::Dnskey(data) => data.rdlen(compress),
             ZoneRecordData::Ds(data) => data.rdlen(compress),
+            ZoneRecordData::Rrsig(data) => data.rdlen(compress),
             ZoneRecordData::Nsec(data) => data.rdlen(compress),
+            ZoneRecordData::Nsec3(data) => data.rdlen(compress),
+            ZoneRecordData::Nsec3param(data) => data.rdlen(compress),
             ZoneRecordData::Unknown(data) => data.rdlen(compress),
         }
     }
@@ -117,7 +135,10 @@ impl<O: Octets, N: ToName> ComposeRecordData for ZoneRecordData<O, N> {
             ZoneRecordData::Mx(data) => data.compose_rdata(target),
             ZoneRecordData::Dnskey(data) => data.compose_rdata(target),
             ZoneRecordData::Ds(data) => data.compose_rdata(target),
+            ZoneRecordData::Rrsig(data) => data.compose_rdata(target),
             ZoneRecordData::Nsec(data) => data.compose_rdata(target),
+            ZoneRecordData::Nsec3(data) => data.compose_rdata(target),
+            ZoneRecordData::Nsec3param(data) => data.compose_rdata(target),
             ZoneRecordData::Unknown(data) => data.compose_rdata(target),
         }
     }
@@ -130,7 +151,10 @@ impl<O: Octets, N: ToName> ComposeRecordData for ZoneRecordData<O, N> {
             ZoneRecordData::Mx(data) => data.compose_canonical_rdata(target),
             ZoneRecordData::Dnskey(data) => data.compose_canonical_rdata(target),
             ZoneRecordData::Ds(data) => data.compose_canonical_rdata(target),
+            ZoneRecordData::Rrsig(data) => data.compose_canonical_rdata(target),
             ZoneRecordData::Nsec(data) => data.compose_canonical_rdata(target),
+            ZoneRecordData::Nsec3(data) => data.compose_canonical_rdata(target),
+            ZoneRecordData::Nsec3param(data) => data.compose_canonical_rdata(target),
             ZoneRecordData::Unknown(data) => data.compose_canonical_rdata(target),
         }
     }
@@ -143,7 +167,10 @@ impl<O: Octets, N: ToName> ComposeRecordData for ZoneRecordData<O, N> {
             ZoneRecordData::Mx(data) => data.canonical_cmp_octets(other),
             ZoneRecordData::Dnskey(data) => data.canonical_cmp_octets(other),
             ZoneRecordData::Ds(data) => data.canonical_cmp_octets(other),
+            ZoneRecordData::Rrsig(data) => data.canonical_cmp_octets(other),
             ZoneRecordData::Nsec(data) => data.canonical_cmp_octets(other),
+            ZoneRecordData::Nsec3(data) => data.canonical_cmp_octets(other),
+            ZoneRecordData::Nsec3param(data) => data.canonical_cmp_octets(other),
             ZoneRecordData::Unknown(data) => data.canonical_cmp_octets(other),
         }
     }

@@ -5,9 +5,9 @@ ghost use Rattle.domain_rdata.specs.DataText.{data_text};
 ghost use Rattle.domain_rdata.specs.Text.{RdataText, OwnText, IsGeneric};
 ghost use Rattle.domain_rdata.specs.declared.zone_record_data.ZoneRecordData.{ZoneRecordData};
 
-use crate::{Nsec, ZoneRecordData};
+use crate::{Nsec, Nsec3, Nsec3param, ZoneRecordData};
 use domain_base::{MakeName, Rtype, ScanError, Scanner, ToName};
-use domain_keys::{Dnskey, Ds};
+use domain_keys::{Dnskey, Ds, Rrsig};
 use domain_octets::{EmptyBuilder, FreezeBuilder, FromBuilder, Octets, Truncate};
 use domain_plain::{A, Mx, Ns, Soa, UnknownRecordData};
 use std::alloc::Global;
@@ -41,46 +41,34 @@ where
             → (d : ZoneRecordData O N) (after : List (List ℕ)) → OwnText N.labels rtype (S.tokens scanner.old) d after → ⊥) }
     {
         if rtype == Rtype::A {
-            return match A::scan(alloc, scanner) {
-                Ok(data) => Ok(ZoneRecordData::A(data)),
-                Err(error) => Err(error),
-            };
+            return Ok(ZoneRecordData::A(A::scan(alloc, scanner)?));
         }
         if rtype == Rtype::NS {
-            return match Ns::scan(alloc, scanner) {
-                Ok(data) => Ok(ZoneRecordData::Ns(data)),
-                Err(error) => Err(error),
-            };
+            return Ok(ZoneRecordData::Ns(Ns::scan(alloc, scanner)?));
         }
         if rtype == Rtype::SOA {
-            return match Soa::scan(alloc, scanner) {
-                Ok(data) => Ok(ZoneRecordData::Soa(data)),
-                Err(error) => Err(error),
-            };
+            return Ok(ZoneRecordData::Soa(Soa::scan(alloc, scanner)?));
         }
         if rtype == Rtype::MX {
-            return match Mx::scan(alloc, scanner) {
-                Ok(data) => Ok(ZoneRecordData::Mx(data)),
-                Err(error) => Err(error),
-            };
+            return Ok(ZoneRecordData::Mx(Mx::scan(alloc, scanner)?));
         }
         if rtype == Rtype::DNSKEY {
-            return match Dnskey::scan(alloc, scanner) {
-                Ok(data) => Ok(ZoneRecordData::Dnskey(data)),
-                Err(error) => Err(error),
-            };
+            return Ok(ZoneRecordData::Dnskey(Dnskey::scan(alloc, scanner)?));
         }
         if rtype == Rtype::DS {
-            return match Ds::scan(alloc, scanner) {
-                Ok(data) => Ok(ZoneRecordData::Ds(data)),
-                Err(error) => Err(error),
-            };
+            return Ok(ZoneRecordData::Ds(Ds::scan(alloc, scanner)?));
         }
         if rtype == Rtype::NSEC {
-            return match Nsec::scan(alloc, scanner) {
-                Ok(data) => Ok(ZoneRecordData::Nsec(data)),
-                Err(error) => Err(error),
-            };
+            return Ok(ZoneRecordData::Nsec(Nsec::scan(alloc, scanner)?));
+        }
+        if rtype == Rtype::RRSIG {
+            return Ok(ZoneRecordData::Rrsig(Rrsig::scan(alloc, scanner)?));
+        }
+        if rtype == Rtype::NSEC3 {
+            return Ok(ZoneRecordData::Nsec3(Nsec3::scan(alloc, scanner)?));
+        }
+        if rtype == Rtype::NSEC3PARAM {
+            return Ok(ZoneRecordData::Nsec3param(Nsec3param::scan(alloc, scanner)?));
         }
         Err(ScanError::Custom("unknown record data"))
     }
@@ -129,7 +117,10 @@ impl<O: Octets, N: ToName> fmt::Display for ZoneRecordData<O, N> {
             ZoneRecordData::Mx(data) => fmt::Display::fmt(data, f),
             ZoneRecordData::Dnskey(data) => fmt::Display::fmt(data, f),
             ZoneRecordData::Ds(data) => fmt::Display::fmt(data, f),
+            ZoneRecordData::Rrsig(data) => fmt::Display::fmt(data, f),
             ZoneRecordData::Nsec(data) => fmt::Display::fmt(data, f),
+            ZoneRecordData::Nsec3(data) => fmt::Display::fmt(data, f),
+            ZoneRecordData::Nsec3param(data) => fmt::Display::fmt(data, f),
             ZoneRecordData::Unknown(data) => fmt::Display::fmt(data, f),
         }
     }
