@@ -1,3 +1,5 @@
+use crate::bits::split_rtype;
+use crate::blocks::{check, split_block};
 use crate::{RtypeBitmap, RtypeBitmapBuilder, RtypeBitmapError};
 use bytes::Bytes;
 use domain_base::{IterScanner, ParseError, Rtype, ScanError, Scanner};
@@ -241,5 +243,35 @@ fn parses_what_is_left(rt: HostRuntime) -> Result<(), Fail> {
         RtypeBitmap::parse(&mut parser).err(),
         Some(ParseError::ShortInput)
     );
+    Ok(())
+}
+
+#[test]
+fn splits_types(rt: HostRuntime) -> Result<(), Fail> {
+    assert_eq!(rt; split_rtype(Rtype::from_int(0)), (0, 0, 0));
+    assert_eq!(rt; split_rtype(Rtype::from_int(1)), (0, 0, 1));
+    assert_eq!(rt; split_rtype(Rtype::from_int(255)), (0, 31, 7));
+    assert_eq!(rt; split_rtype(Rtype::from_int(256)), (1, 0, 0));
+    assert_eq!(rt; split_rtype(Rtype::from_int(257)), (1, 0, 1));
+    assert_eq!(rt; split_rtype(Rtype::from_int(1234)), (4, 26, 2));
+    assert_eq!(rt; split_rtype(Rtype::from_int(65535)), (255, 31, 7));
+    Ok(())
+}
+
+/// The number and the octets of the first block, and what is left.
+fn first_block(octets: &[u8]) -> Option<(u8, &[u8], &[u8])> {
+    check(octets).ok()?;
+    let (window, rest) = split_block(octets)?;
+    Some((window.number, window.octets, rest))
+}
+
+#[test]
+fn splits_blocks(rt: HostRuntime) -> Result<(), Fail> {
+    let both = b"\x00\x06\x40\x01\x00\x00\x00\x03\x04\x01\x20".as_slice();
+    let (first, second) = (b"\x40\x01\x00\x00\x00\x03".as_slice(), b"\x20".as_slice());
+    let left = b"\x04\x01\x20".as_slice();
+    assert_eq!(rt; first_block(both), Some((0, first, left)));
+    assert_eq!(rt; first_block(left), Some((4, second, b"".as_slice())));
+    assert_eq!(rt; first_block(b"".as_slice()), None);
     Ok(())
 }
