@@ -78,9 +78,10 @@ impl<O: Octets> RtypeBitmap<O> {
         &self.octets
     }
 
-    /// The octets as a slice.
+    /// The octets as a slice. They are a list of blocks, wherever the bitmap came from.
     pub fn as_slice(&self) -> &[u8]
-        ensures { result.now ≡ self.now }
+        ensures octets { result.now ≡ self.now }
+        ensures blocks { IsBitmap self.now }
     {
         self.octets.as_slice()
     }
