@@ -2,8 +2,8 @@
 use Rattle.std.proofs.Common.{◌≡◌, ℕ, ◌+◌, ◌≤◌, ◌↔◌, Bool, true, List, [], length, refl, sym, ap, subst, ◌∙◌, arith, length-append}
 use Rattle.std.specs.Prelude.{bytes_eq, IsTrue}
 use Rattle.std.specs.Cmp.Lexicographic.{bytes_decides}
-use Rattle.domain_plain.specs.Layout.{Layout, Values, octets_of, Fits, Ends, Begins, splits}
-use Rattle.domain_plain.proofs.ExactLemmas.{one_reading, begins_alone}
+use Rattle.domain_plain.specs.Layout.{Layout, Values, octets_of, Fits, Ends, Begins, ParsesBack, splits}
+use Rattle.domain_plain.proofs.ExactLemmas.{one_reading, begins_alone, parses_back}
 use Rattle.domain_keys.specs.Data.{numbers_and_octets, DnskeyData, dnskey, dnskey_values, dnskey_octets, DsData, ds, ds_values, ds_octets}
 
 -- four octets stand before the others
@@ -19,6 +19,13 @@ ends_of_octets v brief = (tt, (tt, (tt, (omega (arith, length-append v.1.1.1.1 [
 pub limit_of_octets : (octets : List ℕ) (v : Values numbers_and_octets) (after : List ℕ) → Begins numbers_and_octets octets v after → length v.1.1.1.1 ≤ 65531
 unfolding octets_of
 limit_of_octets octets v after begins = omega (arith, begins.ends.1.1.1.0, length-append v.1.1.1.1 after)
+
+-- octets of fields that fit, and are not too many, are read as them alone
+pub dnskey_back : (d : DnskeyData) → Fits dnskey (dnskey_values d) → length d.public_key ≤ 65531 → ParsesBack dnskey (dnskey_values d)
+dnskey_back d fits brief = parses_back dnskey (dnskey_values d) refl fits (ends_of_octets (dnskey_values d) brief)
+
+pub ds_back : (d : DsData) → Fits ds (ds_values d) → length d.digest ≤ 65531 → ParsesBack ds (ds_values d)
+ds_back d fits brief = parses_back ds (ds_values d) refl fits (ends_of_octets (ds_values d) brief)
 
 -- data of the same octets are the same
 pub same_values : (l : Layout) (v w : Values l) → splits l ≡ true → Fits l v → Fits l w → Ends l v [] → Ends l w [] → octets_of l v ≡ octets_of l w → v ≡ w

@@ -1,16 +1,17 @@
 -- the order of signatures
 use Rattle.std.specs.declared.cmp.Ordering.{Ordering}
 use Rattle.std.specs.declared.cmp.Ordering.TheVariants.{Less, Equal, Greater}
-use Rattle.std.proofs.Common.{◌≡◌, ◌≤◌, ◌↔◌, ℕ, Bool, List, length, refl, sym, ap, ◌∙◌, arith, length-append}
+use Rattle.std.proofs.Common.{◌≡◌, ◌≤◌, ◌↔◌, ℕ, Bool, List, [], ◌++◌, length, refl, sym, ap, ◌∙◌, arith, length-append}
 use Rattle.std.specs.Prelude.{bytes_eq, IsTrue}
 use Rattle.std.specs.Ordering.{ordering_then, nat_cmp}
 use Rattle.std.specs.Cmp.Lexicographic.{slice_cmp, bytes_decides}
 use Rattle.domain_base.specs.Name.{wire_of, lowered}
 use Rattle.domain_base.proofs.CaseLemmas.{IsName-lowered}
 use Rattle.domain_plain.specs.Field.{name, rest}
-use Rattle.domain_plain.specs.Layout.{Layout, one, ◌▸◌, Values, octets_of, canonical_of, canonical_order, Fits, Begins}
+use Rattle.domain_plain.specs.Layout.{Layout, one, ◌▸◌, Values, octets_of, canonical_of, canonical_order, Fits, Begins, ParsesBack}
+use Rattle.domain_plain.proofs.ExactLemmas.{parses_back}
 use Rattle.domain_plain.proofs.OrderLemmas.{order_both}
-use Rattle.domain_keys.specs.Data.{ProtoRrsigData, proto_rrsig, proto_rrsig_values, RrsigData, rrsig, rrsig_canonical, rrsig_numbers, rrsig_numbers_values, IsSameRrsig}
+use Rattle.domain_keys.specs.Data.{ProtoRrsigData, proto_rrsig, proto_rrsig_values, RrsigData, rrsig, rrsig_values, rrsig_octets, rrsig_canonical, rrsig_numbers, rrsig_numbers_values, IsSameRrsig}
 use Rattle.domain_keys.proofs.DataLemmas.{same_values}
 
 -- the numbers, then the name and the signature
@@ -74,3 +75,10 @@ same_rrsig a b r fits_a fits_b is = (
 pub limit_of_rrsig : (octets : List ℕ) (v : Values rrsig) (after : List ℕ) → Begins rrsig octets v after → length (octets_of rrsig v) ≤ 65535
 unfolding octets_of
 limit_of_rrsig octets v after begins = omega (arith, begins.ends.0, length-append (octets_of (proto_rrsig ▸ one rest) v.1) after)
+
+-- octets of fields that fit, and are no more than a record can hold, are read as them alone
+pub rrsig_back : (d : RrsigData) → Fits rrsig (rrsig_values d) → length (rrsig_octets d) ≤ 65535 → ParsesBack rrsig (rrsig_values d)
+unfolding octets_of
+rrsig_back d fits brief =
+    let limit : length (octets_of (proto_rrsig ▸ one rest) (rrsig_values d).1 ++ []) ≤ 65535 = omega (arith, brief, length-append (octets_of (proto_rrsig ▸ one rest) (rrsig_values d).1) []) in
+    parses_back rrsig (rrsig_values d) refl fits (limit, (((tt, (tt, tt)), ((tt, (tt, tt)), (tt, tt))), refl))

@@ -217,7 +217,7 @@ impl<O: Octets> Dnskey<O> {
     }
 
     /// The fields, in the order of the wire.
-    fn fields(&self) -> KeyFields<'_>
+    pub(crate) fn fields(&self) -> KeyFields<'_>
         ensures values { (result.0 ≡ self.now.flags) × (result.1.0 ≡ self.now.protocol) × (result.1.1.0 ≡ self.now.algorithm)
             × (result.1.1.1.1.0.now ≡ self.now.public_key) }
         ensures fits { Fits dnskey (dnskey_values self.now) }

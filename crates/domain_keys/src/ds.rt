@@ -159,7 +159,7 @@ impl<O: Octets> Ds<O> {
     }
 
     /// The fields, in the order of the wire.
-    fn fields(&self) -> KeyFields<'_>
+    pub(crate) fn fields(&self) -> KeyFields<'_>
         ensures values { (result.0 ≡ self.now.key_tag) × (result.1.0 ≡ self.now.algorithm) × (result.1.1.0 ≡ self.now.digest_type)
             × (result.1.1.1.1.0.now ≡ self.now.digest) }
         ensures fits { Fits ds (ds_values self.now) }

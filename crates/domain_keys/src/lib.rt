@@ -10,6 +10,7 @@
 //! octets, equality and `Hash` agree with them, and none takes memory.
 #![tactic(auto)]
 
+pub mod data_laws;
 mod dnskey;
 mod dnskey_text;
 mod ds;

@@ -208,6 +208,7 @@ impl<N: ToName> ProtoRrsig<N> {
         ensures head { result.0 ≡ (self.now.type_covered, (self.now.algorithm, self.now.labels)) }
         ensures times { result.1.0 ≡ (self.now.original_ttl, (self.now.expiration, self.now.inception)) }
         ensures signer { (result.1.1.0 ≡ self.now.key_tag) × (N.labels result.1.1.1.0.now ≡ self.now.signer_name) }
+        ensures fits { Fits proto_rrsig (proto_rrsig_values self.now) }
     {
         let (head, (times, key_tag)) = self.numbers();
         (head, (times, (key_tag, Lowers(&self.signer_name))))

@@ -245,11 +245,13 @@ impl<O: Octets, N: ToName> Rrsig<O, N> {
     }
 
     /// The fields, in the order of the wire.
-    fn fields(&self) -> RrsigFields<'_, N>
+    pub(crate) fn fields(&self) -> RrsigFields<'_, N>
         ensures head { result.1.0.0 ≡ (self.now.fields.type_covered, (self.now.fields.algorithm, self.now.fields.labels)) }
         ensures times { result.1.0.1.0 ≡ (self.now.fields.original_ttl, (self.now.fields.expiration, self.now.fields.inception)) }
         ensures signer { (result.1.0.1.1.0 ≡ self.now.fields.key_tag) × (N.labels result.1.0.1.1.1.0.now ≡ self.now.fields.signer_name) }
         ensures signature { result.1.1.0.now ≡ self.now.signature }
+        ensures fits { Fits rrsig (rrsig_values self.now) }
+        ensures limit { length (rrsig_octets self.now) ≤ 65535 }
     {
         (
             AtMost,

@@ -1,4 +1,4 @@
-use crate::{ProtoRrsig, Rrsig, Timestamp};
+use crate::{ProtoRrsig, Rrsig, Timestamp, data_laws};
 use domain_base::{
     IterScanner, Name, ParsedName, Rtype, ScanError, SecurityAlgorithm, ToName, Ttl,
 };
@@ -51,6 +51,7 @@ fn signatures_in_octets(rt: HostRuntime) -> Result<(), Fail> {
     let parsed = Rrsig::parse(&mut Parser::new(OCTETS))?;
     assert!(rt; parsed.eq_to(&rrsig));
     assert!(rt; parsed.type_covered() == Rtype::A && parsed.labels() == 3);
+    data_laws::rrsig_parses_back(&rrsig);
     Ok(())
 }
 

@@ -1,4 +1,4 @@
-use crate::{Dnskey, Ds};
+use crate::{Dnskey, Ds, data_laws};
 use bytes::Bytes;
 use domain_base::{
     CanonicalOrd, DigestAlgorithm, IterScanner, Rtype, ScanError, SecurityAlgorithm,
@@ -73,6 +73,7 @@ fn keys_in_octets(rt: HostRuntime) -> Result<(), Fail> {
     let mut parser = Parser::new(octets.as_slice());
     assert!(rt; Dnskey::parse(&mut parser)? == key);
     assert_eq!(rt; parser.remaining(), 0);
+    data_laws::dnskey_parses_back(&key);
     Ok(())
 }
 
@@ -103,6 +104,7 @@ fn digests_both_ways(rt: HostRuntime) -> Result<(), Fail> {
     assert_eq!(rt; ds.rdlen(false), Some(7));
     let parsed = Ds::parse(&mut Parser::new(octets.as_slice()))?;
     assert!(rt; parsed.eq_to(&ds));
+    data_laws::ds_parses_back(&ds);
     Ok(())
 }
 
