@@ -19,7 +19,8 @@ use Rattle.domain_rdata.specs.OptOut.{opt_out_comment}
 use Rattle.domain_rdata.specs.Rdata.{hash_numbers, nsec3param, uncounted, hash_fields, nsec3}
 use Rattle.domain_rdata.specs.Nsec3paramText.{number_pieces, nsec3param_pieces}
 use Rattle.domain_rdata.specs.Nsec3Text.{nsec3_pieces}
-use Rattle.domain_rdata.specs.Nsec3Wire.{BeginsNsec3, Nsec3Fault, in_types}
+use Rattle.domain_rdata.specs.Nsec3Wire.{BeginsNsec3, Nsec3Fault, in_fields, in_types, Nsec3ParsesBack}
+use Rattle.domain_rdata.proofs.NsecLemmas.{fields_excluded, types_excluded}
 
 -- equal octets are those of the same values
 same_by_octets : (l : Layout) (v w : Values l) (r : Bool) → splits l ≡ true → Fits l v → Fits l w → Ends l v [] → Ends l w []
@@ -40,8 +41,19 @@ same_nsec3 v w r fits_v fits_w is =
 pub params_back : (v : Values nsec3param) → Fits nsec3param v → ParsesBack nsec3param v
 params_back v fits = parses_back nsec3param v refl fits ((tt, (tt, tt)), tt)
 
-pub nsec3_back : (v : Values nsec3) → Fits nsec3 v → ParsesBack nsec3 v
-nsec3_back v fits = parses_back nsec3 v refl fits ((((tt, (tt, tt)), tt), tt), refl)
+nsec3_faultless : (v : Values nsec3) → ParsesBack nsec3 v → IsBitmap v.1 → (fault : Fault) → Nsec3Fault (octets_of nsec3 v) fault → ⊥
+nsec3_faultless v back bitmap fault (in_fields found) = fields_excluded hash_fields v fault back found
+nsec3_faultless v back bitmap fault (in_types fields types front why) = types_excluded hash_fields v fields types fault back bitmap front why
+
+-- octets of fields that fit and a bitmap are read as them alone
+pub nsec3_back : (v : Values nsec3) → Fits nsec3 v → IsBitmap v.1 → Nsec3ParsesBack v
+nsec3_back v fits bitmap =
+    let back = parses_back nsec3 v refl fits ((((tt, (tt, tt)), tt), tt), refl) in
+    record {
+      begins = record { begins = back.begins; bitmap = bitmap };
+      alone = λ others after read. back.alone others after read.begins;
+      no_fault = nsec3_faultless v back bitmap;
+    }
 
 -- fields were read, and then all that was left as a bitmap
 pub fields_then_types : (old start between new : Place) (v : Values hash_fields) (types : List ℕ) → start ≡ old → Begins hash_fields start.left v between.left

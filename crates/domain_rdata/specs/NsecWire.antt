@@ -1,10 +1,10 @@
 -- NSEC data on the wire (RFC 4034, section 4.1)
-use Rattle.std.specs.Prelude.{ℕ, List}
+use Rattle.std.specs.Prelude.{◌≡◌, ℕ, List, []}
 use Rattle.domain_base.specs.Fault.{Fault}
 use Rattle.domain_bitmap.specs.Blocks.{IsBitmap}
 use Rattle.domain_bitmap.specs.Fault.{BitmapFault}
 use Rattle.domain_plain.specs.Field.{spelled_name}
-use Rattle.domain_plain.specs.Layout.{Values, one, Begins, FirstFault}
+use Rattle.domain_plain.specs.Layout.{Values, one, octets_of, Begins, FirstFault}
 use Rattle.domain_rdata.specs.Rdata.{nsec}
 
 -- the octets are a name, and then a type bitmap to the end
@@ -16,3 +16,9 @@ pub record BeginsNsec (octets : List ℕ) (values : Values nsec) (after : List �
 pub data NsecFault (octets : List ℕ) (fault : Fault) : Type 0 where
   in_name : FirstFault (one spelled_name) octets fault → NsecFault octets fault
   in_types : (labels : List (List ℕ)) (types : List ℕ) → Begins (one spelled_name) octets labels types → BitmapFault types fault → NsecFault octets fault
+
+-- the octets of these values are read as them, in no other way, and nothing is left
+pub record NsecParsesBack (values : Values nsec) : Type 0 where
+  pub begins : BeginsNsec (octets_of nsec values) values []
+  pub alone : (others : Values nsec) (after : List ℕ) → BeginsNsec (octets_of nsec values) others after → (others ≡ values) × (after ≡ [])
+  pub no_fault : (fault : Fault) → NsecFault (octets_of nsec values) fault → ⊥

@@ -20,6 +20,7 @@ mod nsec3param;
 mod nsec3param_text;
 mod nsec_compare;
 mod nsec_convert;
+pub mod nsec_laws;
 mod nsec_text;
 mod nsec_wire;
 #[cfg(test)]

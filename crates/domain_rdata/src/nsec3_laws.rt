@@ -3,7 +3,8 @@ ghost use Rattle.std.specs.Prelude.{◌≡◌, ℕ, List};
 ghost use Rattle.domain_plain.specs.Layout.{ParsesBack, Values};
 ghost use Rattle.domain_rdata.specs.Nsec3paramText.{Nsec3paramText};
 ghost use Rattle.domain_rdata.specs.Nsec3Text.{HashText};
-ghost use Rattle.domain_rdata.specs.Rdata.{hash_fields, nsec3, nsec3_values, nsec3param, nsec3param_values};
+ghost use Rattle.domain_rdata.specs.Nsec3Wire.{Nsec3ParsesBack};
+ghost use Rattle.domain_rdata.specs.Rdata.{hash_fields, nsec3_values, nsec3param, nsec3param_values};
 
 use crate::{Nsec3, Nsec3param};
 use domain_octets::Octets;
@@ -16,12 +17,12 @@ pub fn nsec3param_parses_back<O: Octets>(value: &Nsec3param<O>)
     let _fields = value.fields();
 }
 
-/// The octets of NSEC3 data are read as these fields, in no other way, and nothing is left. That the last of them is a type bitmap is an invariant of its type.
-#[tactic(auto, using(crate::proofs::Nsec3Lemmas::nsec3_back))]
+/// The octets of NSEC3 data are read as these fields, the last a type bitmap, in no other way, and nothing is left.
 pub fn nsec3_parses_back<O: Octets>(value: &Nsec3<O>)
-    ensures { ParsesBack nsec3 (nsec3_values value.now) }
+    ensures { Nsec3ParsesBack (nsec3_values value.now) }
 {
     let _fields = value.fields();
+    let _types = value.types().as_slice();
 }
 
 /// Tokens begin with parameters, or with parameters and a hash, in one way at most: the values and the tokens that are left are determined.

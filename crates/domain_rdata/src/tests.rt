@@ -1,4 +1,4 @@
-use crate::{Nsec, ZoneRecordData};
+use crate::{Nsec, ZoneRecordData, nsec_laws};
 use bytes::Bytes;
 use domain_base::{CanonicalOrd, IterScanner, Name, ParsedName, Rtype, ScanError, Scanner, ToName};
 use domain_octets::{
@@ -39,6 +39,7 @@ fn nsec_goes_both_ways(rt: HostRuntime) -> Result<(), Fail> {
     assert!(rt; parsed.eq_to(&data));
     assert_eq!(rt; parsed.cmp_to(&data), Ordering::Equal);
     assert_eq!(rt; parsed.canonical_cmp_to(&data), Ordering::Equal);
+    nsec_laws::nsec_parses_back(&data);
     let text = format!(in rt.alloc(); "{parsed}|{data:?}")?;
     assert_eq!(rt;
         text.as_str(),
