@@ -1,4 +1,4 @@
-use Rattle.std.proofs.Common.{List, ℕ, subst, ◌∙◌, ap}
+use Rattle.std.proofs.Common.{subst, ◌∙◌, ap}
 use Rattle.domain_base.specs.Name.{IsName}
 use Rattle.domain_bitmap.specs.Blocks.{IsBitmap}
 use Rattle.domain_plain.proofs.NameLemmas.{name_fits}
