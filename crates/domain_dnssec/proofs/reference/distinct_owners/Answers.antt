@@ -1,5 +1,6 @@
 use Rattle.std.proofs.Common.{◌≡◌, ◌++◌, ◌∷◌, map, take, sym, ap, ◌∙◌, []}
-use Rattle.domain_dnssec.specs.Zone.{owns}
+use Rattle.std.proofs.lemmas.List.{take_all}
+use Rattle.domain_dnssec.specs.Zone.{owns, distinct}
 use Rattle.domain_dnssec.proofs.ReferenceLemmas.{distinct_added, distinct_kept, push_seen}
 use Rattle.domain_dnssec.proofs.reference.distinct_owners.Goals.{then-not-owns+in_ok-push, else-not-owns}
 use Rattle.domain_dnssec.specs.View.{as_zone_record}
@@ -24,3 +25,11 @@ loop-place-preserved g c =
           ap (map (λ n. labels n.now)) kept ∙ c.loop-place.invariant
           ∙ sym (distinct_kept see xs i x c.loop-place-test.true (sym c.index-records-place.is) (sym test ∙ w.if-not-owns.false))
     ]
+
+pub returns : goal.returns
+returns g c =
+    let labels = g.N.ToName.labels in
+    let see = as_zone_record labels in
+    let xs = c.args.records.now in
+    let whole : take c.loop-place.place xs ≡ xs = take_all c.loop-place.place xs c.loop-place-test.false in
+    c.loop-place.invariant ∙ ap (λ rs. distinct (map (λ r. r.owner) (map see rs))) whole

@@ -10,5 +10,5 @@ pub returns : goal.returns
 returns g c =
     let labels = g.N.ToName.labels in
     let see = as_zone_record labels in
-    any_from_yields_List (λ n. has_clash (records_of (map see c.args.records.now) (labels n.now))) _ _ c.any.result c.any.ensures.ran (YieldsList-from_slice c.args.names.now cc) (λ x b q k. search (rules, tests))
+    any_from_yields_List (λ n. has_clash (records_of (map see c.args.records.now) (labels n.now))) _ _ c.any.result c.any.ensures.ran (YieldsList-from_slice c.args.names.now cc) (λ x b q k. grind (rules, tests))
     ∙ sym (any_map (λ n. has_clash (records_of (map see c.args.records.now) n)) (λ n. labels n.now) c.args.names.now)

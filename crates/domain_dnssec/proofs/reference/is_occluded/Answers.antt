@@ -11,5 +11,5 @@ pub returns : goal.returns
 returns g c =
     let labels = g.N.ToName.labels in
     let see = as_zone_record labels in
-    any_from_yields_List (λ r. is_zone_cut (map see c.args.records.now) (labels c.args.apex.now) (labels r.owner) && is_strictly_below (labels c.args.name.now) (labels r.owner)) _ _ c.any.result c.any.ensures.ran (YieldsList-from_slice c.args.records.now cc) (λ x b q k. search (rules, tests))
+    any_from_yields_List (λ r. is_zone_cut (map see c.args.records.now) (labels c.args.apex.now) (labels r.owner) && is_strictly_below (labels c.args.name.now) (labels r.owner)) _ _ c.any.result c.any.ensures.ran (YieldsList-from_slice c.args.records.now cc) (λ x b q k. grind (rules, tests))
     ∙ sym (any_map (λ r. is_zone_cut (map see c.args.records.now) (labels c.args.apex.now) r.owner && is_strictly_below (labels c.args.name.now) r.owner) see c.args.records.now)
