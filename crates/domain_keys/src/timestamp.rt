@@ -1,5 +1,5 @@
 //! Times of signatures (RFC 4034, section 3.1.5).
-ghost use Rattle.std.specs.Prelude.{◌≡◌, ◌≤◌, ◌<◌, ◌+◌, ◌^◌, ◌++◌, ◌∷◌, [], ◌↔◌, ℕ, length, Some, IfSome, IsNone, IsErr, IfOk, IfErr, OnOk, OnErr, IsErrOf};
+ghost use Rattle.std.specs.Prelude.{◌≡◌, ◌≤◌, ◌<◌, ◌+◌, ◌^◌, ◌++◌, ◌∷◌, [], ◌↔◌, ℕ, length, codes, Some, IfSome, IsNone, IsErr, IfOk, IfErr, OnOk, OnErr, IsErrOf};
 ghost use Rattle.std.specs.Fmt.{decimal};
 ghost use Rattle.std.specs.Int.{w32, to_be_bytes};
 ghost use Rattle.std.specs.Ordering.{nat_cmp};
@@ -40,6 +40,8 @@ impl Model for Timestamp {
 pub struct IllegalSignatureTime;
 
 impl fmt::Display for IllegalSignatureTime {
+    ghost output = { λ _. Some (codes "illegal signature time") };
+
     fn fmt<W: fmt::Write>(&self, f: &mut fmt::Formatter<W>) -> fmt::Result {
         f.write_str("illegal signature time")
     }
