@@ -19,7 +19,7 @@ use domain_dnssec::{HasherError, Nsec3Hasher};
 use fault::DenialFault;
 use program::run_denial;
 use std::alloc::Global;
-use std::io::{BufReader, BufWriter};
+use std::io::{BufReader, BufWriter, ErrorKind};
 use std::process::ExitCode;
 use std::{env, io};
 
@@ -44,11 +44,22 @@ impl Nsec3Hasher for NoHasher {
     }
 }
 
+/// Why the process's words were not read: other than for want of memory, one of them is no text, and so they ask for nothing.
+fn fault_of_words(error: &io::Error) -> DenialFault {
+    match error.kind() {
+        ErrorKind::OutOfMemory => DenialFault::OutOfMemory,
+        _ => DenialFault::Usage,
+    }
+}
+
 /// The run over the words after the program's name, and the process's own input and output.
 fn start(rt: &HostRuntime) -> Result<(), DenialFault> {
     let alloc = rt.alloc();
     let mut words = Vec::new(alloc);
-    for word in env::args(rt).map_err(|_| DenialFault::Usage)?.skip(1) {
+    for word in env::args(rt)
+        .map_err(|error| fault_of_words(&error))?
+        .skip(1)
+    {
         words.push(word)?;
     }
     let mut input = BufReader::with_capacity(alloc, BUFFER, rt.reader()).map_err(
