@@ -21,3 +21,8 @@ pub record BitmapFault (octets : List ℕ) (fault : Fault) : Type 0 where
   pub first : RtypeBitmapError
   pub found : FirstFault octets first
   pub named : fault ≡ bitmap_fault_of first
+
+-- what the error says
+abbrev pub bitmap_error_text : RtypeBitmapError → List ℕ
+bitmap_error_text ShortInput = codes "unexpected end of input"
+bitmap_error_text BadRtypeBitmap = codes "invalid record type bitmap"

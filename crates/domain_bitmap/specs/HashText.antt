@@ -2,6 +2,7 @@
 use Rattle.std.specs.Prelude.{◌≡◌, ◌≢◌, ℕ, ◌<◌, List, [], ◌∷◌, length, codes, Option}
 use Rattle.hex.specs.Hex.{encode_upper}
 use Rattle.domain_octets.specs.Codec.{Decodes, DecodeFault}
+use Rattle.domain_octets.specs.Texts.{decode_error_text}
 use Rattle.domain_octets.specs.declared.codec.Codec.TheVariants.{Base16}
 use Rattle.domain_bitmap.specs.declared.salt_text.Nsec3SaltFromStrError.{Nsec3SaltFromStrError}
 use Rattle.domain_bitmap.specs.declared.salt_text.Nsec3SaltFromStrError.TheVariants as refusal
@@ -20,3 +21,8 @@ pub data SaltText : List ℕ → List ℕ → Type 0 where
 abbrev pub SaltFault : Option ℕ → List ℕ → Nsec3SaltFromStrError → Type 0
 SaltFault limit text (refusal.DecodeError error) = (text ≢ codes "-") × DecodeFault Base16 limit text error
 SaltFault limit text (refusal.Nsec3SaltError error) = (octets : List ℕ) × SaltText text octets × (255 < length octets)
+
+-- what the error says
+abbrev pub salt_error_text : Nsec3SaltFromStrError → List ℕ
+salt_error_text (refusal.DecodeError error) = decode_error_text error
+salt_error_text (refusal.Nsec3SaltError error) = codes "illegal NSEC3 salt"

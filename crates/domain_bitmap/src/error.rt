@@ -1,7 +1,7 @@
 //! Why octets are no list of blocks.
-ghost use Rattle.std.specs.Prelude.{◌≡◌};
+ghost use Rattle.std.specs.Prelude.{◌≡◌, Some};
 ghost use Rattle.domain_base.specs.Fault.{fault_of};
-ghost use Rattle.domain_bitmap.specs.Fault.{bitmap_fault_of};
+ghost use Rattle.domain_bitmap.specs.Fault.{bitmap_fault_of, bitmap_error_text};
 
 use domain_base::ParseError;
 use std::error::Error;
@@ -17,6 +17,8 @@ pub enum RtypeBitmapError {
 }
 
 impl fmt::Display for RtypeBitmapError {
+    ghost output = { λ e. Some (bitmap_error_text e) };
+
     fn fmt<W: fmt::Write>(&self, f: &mut fmt::Formatter<W>) -> fmt::Result {
         f.write_str(match self {
             RtypeBitmapError::ShortInput => "unexpected end of input",

@@ -17,6 +17,10 @@ pub enum Nsec3SaltFromStrError {
 }
 
 impl fmt::Display for Nsec3SaltFromStrError {
+    ghost use Rattle.domain_bitmap.specs.HashText.{salt_error_text};
+
+    ghost output = { λ e. Some (salt_error_text e) };
+
     fn fmt<W: fmt::Write>(&self, f: &mut fmt::Formatter<W>) -> fmt::Result {
         match self {
             Nsec3SaltFromStrError::DecodeError(error) => write!(f, "{error}"),

@@ -1,5 +1,6 @@
 //! Octets as text: Base 16, Base 32 hex and Base 64 (RFC 4648).
-ghost use Rattle.std.specs.Prelude.{◌≡◌};
+ghost use Rattle.std.specs.Prelude.{◌≡◌, Some};
+ghost use Rattle.domain_octets.specs.Texts.{decode_error_text};
 ghost use Rattle.domain_octets.specs.declared.codec.DecodeError.TheVariants as decode_error;
 
 use crate::AppendError;
@@ -32,6 +33,8 @@ pub enum DecodeError {
 }
 
 impl fmt::Display for DecodeError {
+    ghost output = { λ e. Some (decode_error_text e) };
+
     fn fmt<W: fmt::Write>(&self, f: &mut fmt::Formatter<W>) -> fmt::Result {
         match self {
             DecodeError::IllegalChar(c) => write!(f, "illegal character '{c}'"),

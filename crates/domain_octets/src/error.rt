@@ -1,5 +1,6 @@
 //! Why octets were not appended or not read, and want of memory.
-ghost use Rattle.std.specs.Prelude.{◌≡◌};
+ghost use Rattle.std.specs.Prelude.{◌≡◌, Some, codes};
+ghost use Rattle.domain_octets.specs.Texts.{parse_error_text};
 ghost use Rattle.domain_octets.specs.declared.error.AppendError.TheVariants as append_error;
 
 use std::alloc::{AllocError, AllocFailed};
@@ -11,6 +12,8 @@ use std::fmt;
 pub struct OutOfMemory;
 
 impl fmt::Display for OutOfMemory {
+    ghost output = { λ _. Some (codes "out of memory") };
+
     fn fmt<W: fmt::Write>(&self, f: &mut fmt::Formatter<W>) -> fmt::Result {
         f.write_str("out of memory")
     }
@@ -73,6 +76,8 @@ pub enum ParseError {
 }
 
 impl fmt::Display for ParseError {
+    ghost output = { λ e. Some (parse_error_text e) };
+
     fn fmt<W: fmt::Write>(&self, f: &mut fmt::Formatter<W>) -> fmt::Result {
         match self {
             ParseError::ShortInput => f.write_str("unexpected end of input"),
