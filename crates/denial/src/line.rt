@@ -66,7 +66,7 @@ fn tokens_of<'a>(alloc: Global, words: &[&'a [u8]]) -> Result<Option<Vec<&'a str
     ensures plain { IfOk result (λ o. IfSome o (λ _. ArePlain (map (λ w. w.now) words.now))) }
     ensures none { IfOk result (λ o. IfNone o (ArePlain (map (λ w. w.now) words.now) → ⊥)) }
 {
-    let mut tokens = Vec::new(alloc);
+    let mut tokens = Vec::with_capacity(alloc, words.len())?;
     for word in words {
         let Some(token) = token_of(word) else {
             return Ok(None);

@@ -7,7 +7,7 @@ ghost use Rattle.domain_bitmap.specs.Bitmap.{bitmap_octets};
 use crate::RtypeBitmap;
 use crate::bits::split_rtype;
 use crate::pack::pack;
-use crate::slots::{SLOT, find_slot};
+use crate::slots::{SLOT, find_slot, write_at};
 use domain_base::Rtype;
 use domain_octets::{
     AppendError, EmptyBuilder, FreezeBuilder, Octets, OctetsBuilder, OutOfMemory, Truncate,
@@ -124,7 +124,7 @@ impl<B: OctetsBuilder> RtypeBitmapBuilder<B> {
         let slots = self.buffer.as_slice();
         let at = SLOT * j + 2 + octet;
         let octet = slots[at] | 1 << (7 - bit);
-        self.buffer.write_at(at, &[octet]);
+        write_at(&mut self.buffer, at, &[octet]);
         Ok(())
     }
 

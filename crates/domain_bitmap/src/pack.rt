@@ -3,7 +3,7 @@ ghost use Rattle.std.specs.Prelude.{◌≡◌, ℕ, ◌+◌, ◌*◌, ◌%◌, �
 ghost use Rattle.domain_bitmap.specs.Builder.{holds};
 ghost use Rattle.domain_bitmap.specs.Bitmap.{trimmed, block_with, bitmap_octets};
 
-use crate::slots::{SLOT, used_len};
+use crate::slots::{SLOT, used_len, write_at};
 use crate::table::Table;
 use domain_octets::OctetsBuilder;
 
@@ -21,8 +21,8 @@ fn write_block<B: OctetsBuilder>(buffer: &mut B, end: usize, window: u8, octets:
     if len == 0 {
         return end;
     }
-    buffer.write_at(end, &[window, len as u8]);
-    buffer.write_at(end + 2, &octets[..len]);
+    write_at(buffer, end, &[window, len as u8]);
+    write_at(buffer, end + 2, &octets[..len]);
     end + 2 + len
 }
 
@@ -61,7 +61,7 @@ fn pack_one<B: OctetsBuilder>(buffer: &mut B) -> usize
     if len == 0 {
         return 0;
     }
-    buffer.write_at(1, &[len as u8]);
+    write_at(buffer, 1, &[len as u8]);
     len + 2
 }
 

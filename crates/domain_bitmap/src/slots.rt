@@ -1,7 +1,9 @@
 //! The blocks that a builder holds: 34 octets each, at multiples of 34.
-ghost use Rattle.std.specs.Prelude.{◌≡◌, ℕ, ◌+◌, ◌*◌, ◌/◌, ◌<◌, ◌≤◌, ◌↔◌, false, length, take, IfSome, IsSome, IsTrue, IfNone, slice_index};
+ghost use Rattle.std.specs.Prelude.{◌≡◌, ℕ, ◌+◌, ◌*◌, ◌/◌, ◌<◌, ◌≤◌, ◌++◌, ◌↔◌, false, length, take, drop, IfSome, IsSome, IsTrue, IfNone, slice_index};
 ghost use Rattle.domain_bitmap.specs.Builder.{has_window, is_of_window};
 ghost use Rattle.domain_bitmap.specs.Bitmap.{trimmed};
+
+use domain_octets::OctetsBuilder;
 
 /// The octets of a block in a builder: its window, its length, and the 32 octets of the window.
 pub(crate) const SLOT: usize = 34;
@@ -32,4 +34,15 @@ pub(crate) fn used_len(octets: &[u8]) -> usize
         len -= 1;
     }
     len
+}
+
+/// Writes octets in place of as many that stand from a place on. Takes no memory.
+pub(crate) fn write_at<B: OctetsBuilder>(buffer: &mut B, at: usize, octets: &[u8])
+    requires { at + length octets.now ≤ length (B.octets buffer.old) }
+    ensures { B.octets buffer.new
+        ≡ take at (B.octets buffer.old) ++ (octets.now ++ drop (at + length octets.now) (B.octets buffer.old)) }
+{
+    let held = buffer.as_mut_slice();
+    let end = at + octets.len();
+    held[at..end].copy_from_slice(octets);
 }

@@ -1,4 +1,3 @@
-pub mod ArrayLemmas
 pub mod CodecLemmas
 pub mod Base32Lemmas
 pub mod RefusalLemmas

@@ -1,26 +1,27 @@
 //! Octets in an array of a fixed size.
-ghost use Rattle.std.specs.Prelude.{◌≡◌, ℕ, ◌≤◌, [], List, Some, length, take};
+ghost use Rattle.std.specs.Prelude.{◌≡◌, ℕ, [], List, Some, length};
+ghost use Rattle.std.specs.List.{refill};
+ghost use Rattle.std.proofs.Common.{sym};
+ghost use Rattle.domain_octets.specs.Written.{refilled};
 
 use crate::{
     AppendError, EmptyBuilder, FreezeBuilder, FromBuilder, Octets, OctetsBuilder, OutOfMemory,
     Truncate, TryClone,
 };
+use arrayvec::ArrayVec;
 use std::alloc::Global;
 use std::marker::Model;
 
 /// At most `K` octets, which lie in the value itself.
 #[derive(Drop)]
 pub struct ArrayBuilder<const K: usize> {
-    octets: [u8; K],
-    len: usize,
+    octets: ArrayVec<u8, K>,
 }
 
 impl<const K: usize> Model for ArrayBuilder<K> {
     ghost Value = { List ℕ };
 
-    ghost view = { λ b. take b.len b.octets };
-
-    ghost invariant = { λ b. b.len ≤ K };
+    ghost view = { λ b. b.octets.items };
 }
 
 impl<const K: usize> ArrayBuilder<K> {
@@ -29,8 +30,7 @@ impl<const K: usize> ArrayBuilder<K> {
         ensures { result ≡ [] }
     {
         ArrayBuilder {
-            octets: [0; K],
-            len: 0,
+            octets: ArrayVec::new(),
         }
     }
 }
@@ -39,10 +39,14 @@ impl<const K: usize> TryClone for ArrayBuilder<K> {
     ghost is_clone = { λ b copy. copy ≡ b };
 
     fn try_clone(&self) -> Result<Self, OutOfMemory> {
-        Ok(ArrayBuilder {
-            octets: self.octets,
-            len: self.len,
-        })
+        let mut octets = ArrayVec::new();
+        if octets
+            .try_extend_from_slice(self.octets.as_slice())
+            .is_err()
+        {
+            unreachable!();
+        }
+        Ok(ArrayBuilder { octets })
     }
 }
 
@@ -52,30 +56,27 @@ impl<const K: usize> Octets for ArrayBuilder<K> {
     ghost clone_octets = { λ b copy same. same };
 
     fn as_slice(&self) -> &[u8] {
-        &self.octets[..self.len]
+        self.octets.as_slice()
     }
 }
 
 impl<const K: usize> OctetsBuilder for ArrayBuilder<K> {
     ghost limit = { Some K };
 
+    ghost with_octets = { λ b xs. refill (length b) b xs };
+
     fn append_slice(&mut self, slice: &[u8]) -> Result<(), AppendError> {
-        if slice.len() > K - self.len {
-            return Err(AppendError::ShortBuf);
+        match self.octets.try_extend_from_slice(slice) {
+            Ok(()) => Ok(()),
+            Err(_) => Err(AppendError::ShortBuf),
         }
-        let start = self.len;
-        let end = start + slice.len();
-        let octets = &mut self.octets[..];
-        octets[start..end].copy_from_slice(slice);
-        self.len = end;
-        Ok(())
     }
 
-    fn write_at(&mut self, at: usize, slice: &[u8]) {
-        let octets = &mut self.octets[..];
-        let end = at + slice.len();
-        octets[at..end].copy_from_slice(slice);
+    fn as_mut_slice(&mut self) -> &mut [u8] {
+        self.octets.as_mut_slice()
     }
+
+    ghost has_octets = { λ b xs same. refilled (length b) b xs (sym same) };
 }
 
 impl<const K: usize> EmptyBuilder for ArrayBuilder<K> {
@@ -86,9 +87,7 @@ impl<const K: usize> EmptyBuilder for ArrayBuilder<K> {
 
 impl<const K: usize> Truncate for ArrayBuilder<K> {
     fn truncate(&mut self, len: usize) {
-        if len < self.len {
-            self.len = len;
-        }
+        self.octets.truncate(len);
     }
 }
 
