@@ -1,55 +1,34 @@
 -- Tokens that are refused as the data of a type spell no data of that type, and tokens spell data of a type in one way at most.
-use Rattle.std.proofs.Common.{◌≡◌, ◌≢◌, ℕ, ◌==◌, List, [], ◌∷◌, refl, sym, ap, ◌∙◌, subst, Option, Some, None}
+use Rattle.std.proofs.Common.{◌≡◌, ◌≢◌, ℕ, List, [], ◌∷◌, refl, sym, ap, ◌∙◌, subst, Option, Some, None, length, false, arith}
+use Rattle.std.proofs.lemmas.Grind.{common_steps}
 use Rattle.std.proofs.lemmas.List.{append-nil}
-use Rattle.std.specs.Prelude.{if◌then◌else◌, Result, Ok, Err, IfOk}
+use Rattle.std.specs.Prelude.{Result, Ok, Err, IfOk, IfErr}
+use Rattle.domain_octets.specs.Limit.{IsOver}
 use Rattle.domain_base.specs.declared.error.ScanError.{ScanError}
 use Rattle.std.specs.List.{concat}
 use Rattle.domain_octets.specs.Codec.{Decodes}
 use Rattle.domain_octets.specs.declared.codec.Codec.TheVariants.{Base16}
-use Rattle.domain_base.specs.Scan.{ScanFault, no_memory}
+use Rattle.domain_base.specs.Scan.{ScanFault, entry_ends, illegal, no_room, no_memory, scan_fault_of}
 use Rattle.domain_plain.specs.Generic.{GenericText, GenericFault}
-use Rattle.domain_plain.specs.Layout.{Layout, Values, Fits, octets_of}
+use Rattle.domain_plain.specs.Layout.{Values, Fits, octets_of}
 use Rattle.domain_plain.specs.Plain.{a, a_values, ns, ns_values, soa, soa_values, mx, mx_values}
-use Rattle.domain_plain.specs.Scan.{Scans, Refuses}
+use Rattle.domain_plain.specs.Scan.{Scans}
 use Rattle.domain_plain.proofs.GenericLemmas.{refused_is_no_text}
 use Rattle.domain_plain.proofs.ScanLemmas.{refused_spells_none, scans_left, scans_once}
-use Rattle.domain_keys.specs.Data.{DnskeyData, DsData, RrsigData, dnskey_octets, ds_octets, rrsig_octets}
-use Rattle.domain_keys.specs.Text.{DnskeyText, RefusesDnskey, DsText, RefusesDs, RrsigText, RefusesRrsig}
+use Rattle.domain_keys.specs.Data.{DnskeyData, DsData, RrsigData, dnskey_values, ds_values, rrsig_values, dnskey_octets, ds_octets, rrsig_octets}
+use Rattle.domain_keys.specs.Text.{DnskeyText, DsText, RrsigText}
 use Rattle.domain_keys.proofs.RefusalLemmas.{dnskey_once, ds_once, rrsig_once, refused_dnskey, refused_ds, refused_rrsig}
-use Rattle.domain_rdata.specs.NsecText.{NsecText, NsecRefused}
-use Rattle.domain_rdata.specs.Nsec3Text.{Nsec3Text, RefusesNsec3}
-use Rattle.domain_rdata.specs.Nsec3paramText.{Nsec3paramText, RefusesNsec3param}
-use Rattle.domain_rdata.specs.Rdata.{nsec, nsec3, nsec3_values, nsec3param, nsec3param_values}
-use Rattle.domain_rdata.specs.Text.{RdataText, own, generic, OwnText, AreData, IsGeneric}
+use Rattle.domain_rdata.specs.NsecText.{NsecText}
+use Rattle.domain_rdata.specs.Nsec3Text.{Nsec3Text}
+use Rattle.domain_rdata.specs.Nsec3paramText.{Nsec3paramText}
+use Rattle.domain_rdata.specs.Rdata.{nsec, nsec_values, nsec3, nsec3_values, nsec3param, nsec3param_values}
+use Rattle.domain_rdata.specs.Refusal.{Kind, plain, key, digest, signature, next_by_name, next_by_hash, params, kind_of, RefusesKind, OwnRefused, at_field, no_form, AreOf, AreOfType, OctetsFault, RdataRefused, in_own, in_generic, in_octets}
+use Rattle.domain_rdata.specs.Text.{RdataText, own, generic, OwnText, AreData, IsGeneric, has_own_data}
 use Rattle.domain_rdata.specs.Zone.{wire_octets}
 use Rattle.domain_rdata.specs.declared.zone_record_data.ZoneRecordData.{ZoneRecordData}
 use Rattle.domain_rdata.specs.declared.zone_record_data.ZoneRecordData.TheVariants.{A, Ns, Soa, Mx, Dnskey, Ds, Rrsig, Nsec, Nsec3, Nsec3param, Unknown}
 use Rattle.domain_rdata.proofs.TextLemmas.{nsec_refused, nsec_name_once, nsec_types_once}
 use Rattle.domain_rdata.proofs.Nsec3TextLemmas.{params_once, params_refused, nsec3_once, nsec3_refused}
-
--- how the text of a type is made up: of fields of one token each, or in a way of its own
-pub data Kind : Type 0 where
-  plain : Layout → Kind
-  key : Kind
-  digest : Kind
-  signature : Kind
-  next_by_name : Kind
-  next_by_hash : Kind
-  params : Kind
-
-abbrev pub kind_of : ℕ → Option Kind
-kind_of rtype =
-    if rtype == 1 then Some (plain a)
-    else (if rtype == 2 then Some (plain ns)
-    else (if rtype == 6 then Some (plain soa)
-    else (if rtype == 15 then Some (plain mx)
-    else (if rtype == 48 then Some key
-    else (if rtype == 43 then Some digest
-    else (if rtype == 46 then Some signature
-    else (if rtype == 47 then Some next_by_name
-    else (if rtype == 50 then Some next_by_hash
-    else (if rtype == 51 then Some params
-    else None)))))))))
 
 -- the tokens begin with data of a kind, which are these octets, and these are left
 abbrev pub Reads : Kind → List (List ℕ) → List ℕ → List (List ℕ) → Type 0
@@ -60,16 +39,6 @@ Reads signature old wire new = (d : RrsigData) × RrsigText old d × (new ≡ []
 Reads next_by_name old wire new = (labels : List (List ℕ)) × (types : List ℕ) × NsecText old labels types new × (wire ≡ octets_of nsec (labels, types))
 Reads next_by_hash old wire new = (v : Values nsec3) × Nsec3Text old v new × Fits nsec3 v × (wire ≡ octets_of nsec3 v)
 Reads params old wire new = (v : Values nsec3param) × Nsec3paramText old v new × Fits nsec3param v × (wire ≡ octets_of nsec3param v)
-
--- why tokens are refused as data of a kind, where octets have this limit
-abbrev pub RefusesKind : Option ℕ → Kind → List (List ℕ) → List (List ℕ) → ScanFault → Type 0
-RefusesKind limit (plain l) = Refuses limit l
-RefusesKind limit key = RefusesDnskey limit
-RefusesKind limit digest = RefusesDs limit
-RefusesKind limit signature = RefusesRrsig limit
-RefusesKind limit next_by_name = NsecRefused limit limit
-RefusesKind limit next_by_hash = RefusesNsec3 limit
-RefusesKind limit params = RefusesNsec3param limit
 
 -- data of a kind are read in one way at most
 kind_once : (k : Kind) (old m n : List (List ℕ)) (x y : List ℕ) → Reads k old x m → Reads k old y n → (m ≡ n) × (x ≡ y)
@@ -124,16 +93,23 @@ one_way rtype old m n x y p q =
     let same = one_kind (kind_of rtype) p.kind q.kind p.is q.is in
     kind_once q.kind old m n x y (subst (λ k. Reads k old x m) same p.reads) q.reads
 
--- what a refusal excludes
-pub excluded : (limit : Option ℕ) → limit ≡ None → (rtype t : ℕ) (k : Kind) → rtype ≡ t → kind_of t ≡ Some k → (old new after : List (List ℕ)) (wire : List ℕ) (fault : ScanFault)
-    → RefusesKind limit k old new fault → fault ≢ no_memory → Way rtype old after wire → ⊥
-excluded limit grows rtype t k is known old new after wire fault why other way =
-    let same = one_kind (kind_of rtype) way.kind k way.is (ap kind_of is ∙ known) in
-    kind_refused k old new after wire fault (subst (λ q. RefusesKind q k old new fault) grows why) (subst (λ j. Reads j old wire after) same way.reads) other
+-- over octets that grow, what is refused as the text form of a type, but for want of memory, is not read
+own_refused : (limit : Option ℕ) (rtype : ℕ) (old new after : List (List ℕ)) (wire : List ℕ) (fault : ScanFault) → OwnRefused limit rtype old new fault → limit ≡ None → fault ≢ no_memory → Way rtype old after wire → ⊥
+own_refused limit rtype old new after wire fault (at_field kind is why) grows known way =
+    let same = one_kind (kind_of rtype) way.kind kind way.is is in
+    kind_refused kind old new after wire fault (subst (λ q. RefusesKind q kind old new fault) grows why) (subst (λ j. Reads j old wire after) same way.reads) known
+own_refused limit rtype old new after wire fault (no_form none said all) grows known way = let e = sym way.is ∙ none in cc
 
--- a type without a text form of its own
-pub no_way : (rtype : ℕ) (old after : List (List ℕ)) (wire : List ℕ) → kind_of rtype ≡ None → Way rtype old after wire → ⊥
-no_way rtype old after wire none way = let e = sym way.is ∙ none in cc
+-- over octets that grow, octets that are refused but for want of memory are no data
+octets_refused : (limit : Option ℕ) (Are : Type 0) (wire : List ℕ) (fault : ScanFault) → OctetsFault limit Are wire fault → limit ≡ None → fault ≢ no_memory → Are → ⊥
+octets_refused limit Are wire entry_ends why grows known are = why
+octets_refused limit Are wire (illegal said) why grows known are = why.1 are
+octets_refused limit Are wire no_room why grows known are = subst (λ q. IsOver q (length wire)) grows why.1
+octets_refused limit Are wire no_memory why grows known are = known refl
+
+-- a type whose data are held as mere octets has no text form of its own
+no_kind : (rtype : ℕ) → has_own_data rtype ≡ false → kind_of rtype ≡ None
+no_kind rtype none = grind (arith, common_steps)
 
 -- generic text
 generic_begins : (tokens : List (List ℕ)) (wire : List ℕ) → GenericText tokens wire → IsGeneric tokens
@@ -147,20 +123,59 @@ generic_once tokens x y p q =
     cc
 
 module _ {O N : Type 0} (octets : O → List ℕ) (labels : N → List (List ℕ)) (rtype : ℕ) (old : List (List ℕ)) where
-  pub own_excludes : (IsGeneric old → ⊥) → ((d : ZoneRecordData O N) (after : List (List ℕ)) → OwnText labels rtype old d after → ⊥)
+  own_excludes : (IsGeneric old → ⊥) → ((d : ZoneRecordData O N) (after : List (List ℕ)) → OwnText labels rtype old d after → ⊥)
       → (d : ZoneRecordData O N) (after : List (List ℕ)) → RdataText octets labels rtype old d after → ⊥
   own_excludes unmarked none d after (own other text) = none d after text
   own_excludes unmarked none d after (generic wire text are all) = unmarked (generic_begins old wire text)
 
-  pub mark_excludes : (limit : Option ℕ) (new : List (List ℕ)) (fault : ScanFault) → limit ≡ None → IsGeneric old → GenericFault limit old new fault → fault ≢ no_memory
+  mark_excludes : (limit : Option ℕ) (new : List (List ℕ)) (fault : ScanFault) → limit ≡ None → IsGeneric old → GenericFault limit old new fault → fault ≢ no_memory
       → (d : ZoneRecordData O N) (after : List (List ℕ)) → RdataText octets labels rtype old d after → ⊥
   mark_excludes limit new fault grows marked why known d after (own other text) = other marked
   mark_excludes limit new fault grows marked why known d after (generic wire text are all) = refused_is_no_text old new fault wire (subst (λ q. GenericFault q old new fault) grows why) text known
 
-  pub octets_exclude : (wire : List ℕ) → GenericText old wire → ((d : ZoneRecordData O N) → AreData octets labels rtype wire d → ⊥)
+  octets_exclude : (wire : List ℕ) → GenericText old wire → ((d : ZoneRecordData O N) → AreData octets labels rtype wire d → ⊥)
       → (d : ZoneRecordData O N) (after : List (List ℕ)) → RdataText octets labels rtype old d after → ⊥
   octets_exclude wire is none d after (own other text) = other (generic_begins old wire is)
   octets_exclude wire is none d after (generic wire' text are all) = none d (subst (λ w. AreData octets labels rtype w d) (generic_once old wire' wire text is) are)
+
+  are_of_type : (wire : List ℕ) (d : ZoneRecordData O N) → AreData octets labels rtype wire d → AreOfType rtype wire
+  are_of_type wire (A d) h = subst (λ k. AreOf k wire) (sym (ap kind_of h.0)) (a_values d, h.1)
+  are_of_type wire (Ns d) h = subst (λ k. AreOf k wire) (sym (ap kind_of h.0)) (ns_values labels d, h.1)
+  are_of_type wire (Soa d) h = subst (λ k. AreOf k wire) (sym (ap kind_of h.0)) (soa_values labels d, h.1)
+  are_of_type wire (Mx d) h = subst (λ k. AreOf k wire) (sym (ap kind_of h.0)) (mx_values labels d, h.1)
+  are_of_type wire (Dnskey d) h = subst (λ k. AreOf k wire) (sym (ap kind_of h.0)) (dnskey_values d, h.1)
+  are_of_type wire (Ds d) h = subst (λ k. AreOf k wire) (sym (ap kind_of h.0)) (ds_values d, h.1)
+  are_of_type wire (Rrsig d) h = subst (λ k. AreOf k wire) (sym (ap kind_of h.0)) (rrsig_values d, h.1)
+  are_of_type wire (Nsec d) h = subst (λ k. AreOf k wire) (sym (ap kind_of h.0)) (nsec_values labels d, h.1)
+  are_of_type wire (Nsec3 d) h = subst (λ k. AreOf k wire) (sym (ap kind_of h.0)) (nsec3_values d, h.1)
+  are_of_type wire (Nsec3param d) h = subst (λ k. AreOf k wire) (sym (ap kind_of h.0)) (nsec3param_values d, h.1)
+  are_of_type wire (Unknown d) h = subst (λ k. AreOf k wire) (sym (no_kind rtype h.0)) tt
+
+  -- over octets that grow, what is refused but for want of memory spells no data of the type
+  pub none_spelled : (limit : Option ℕ) (new : List (List ℕ)) (fault : ScanFault) → RdataRefused limit rtype old new fault → limit ≡ None → fault ≢ no_memory
+      → (d : ZoneRecordData O N) (after : List (List ℕ)) → RdataText octets labels rtype old d after → ⊥
+  none_spelled limit new fault (in_own unmarked why) grows known d after spelled =
+      own_excludes unmarked (λ d after text. own_refused limit rtype old new after _ fault why grows known (way octets labels rtype old after d text)) d after spelled
+  none_spelled limit new fault (in_generic marked why) grows known d after spelled = mark_excludes limit new fault grows marked why known d after spelled
+  none_spelled limit new fault (in_octets wire text all why) grows known d after spelled =
+      octets_exclude wire text (λ d are. octets_refused limit (AreOfType rtype wire) wire fault why grows known (are_of_type wire d are)) d after spelled
+
+  pub refused_none : (limit : Option ℕ) (new : List (List ℕ)) (result : Result (ZoneRecordData O N) ScanError) → IfErr result (λ e. RdataRefused limit rtype old new (scan_fault_of e))
+      → IfErr result (λ e. limit ≡ None → scan_fault_of e ≢ no_memory → (d : ZoneRecordData O N) (after : List (List ℕ)) → RdataText octets labels rtype old d after → ⊥)
+  refused_none limit new (Ok d) why = tt
+  refused_none limit new (Err e) why = none_spelled limit new (scan_fault_of e) why
+
+  -- refusals of text without the mark
+  pub own_err : (limit : Option ℕ) (new : List (List ℕ)) (result : Result (ZoneRecordData O N) ScanError) → IfErr result (λ e. OwnRefused limit rtype old new (scan_fault_of e)) → (IsGeneric old → ⊥)
+      → IfErr result (λ e. RdataRefused limit rtype old new (scan_fault_of e))
+  own_err limit new (Ok d) why unmarked = tt
+  own_err limit new (Err e) why unmarked = in_own unmarked why
+
+  -- refusals of the octets of generic text
+  pub octets_err : (limit : Option ℕ) (new : List (List ℕ)) (t : ℕ) (wire : List ℕ) (result : Result (ZoneRecordData O N) ScanError) → IfErr result (λ e. OctetsFault limit (AreOfType t wire) wire (scan_fault_of e))
+      → t ≡ rtype → GenericText old wire → new ≡ [] → IfErr result (λ e. RdataRefused limit rtype old new (scan_fault_of e))
+  octets_err limit new t wire (Ok d) why same text all = tt
+  octets_err limit new t wire (Err e) why same text all = in_octets wire text all (subst (λ n. OctetsFault limit (AreOfType n wire) wire (scan_fault_of e)) same why)
 
   -- generic text whose octets are data
   pub generic_ok : (new : List (List ℕ)) (t : ℕ) (wire : List ℕ) (result : Result (ZoneRecordData O N) ScanError) → IfOk result (λ d. AreData octets labels t wire d) → t ≡ rtype → GenericText old wire → new ≡ []

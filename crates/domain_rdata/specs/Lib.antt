@@ -10,3 +10,4 @@ pub mod OptOut
 pub mod Nsec3paramText
 pub mod Nsec3Wire
 pub mod Nsec3Text
+pub mod Refusal

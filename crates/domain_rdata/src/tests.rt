@@ -236,3 +236,24 @@ fn refuses_what_is_no_data(rt: HostRuntime) -> Result<(), Fail> {
     }
     Ok(())
 }
+
+/// Whether the words are refused as data of the type, with this error.
+fn is_refused(alloc: Global, rtype: Rtype, text: &str, error: ScanError) -> bool {
+    match scan_data(alloc, rtype, text) {
+        Ok(_) => false,
+        Err(refused) => refused == error,
+    }
+}
+
+#[test]
+fn refuses_at_the_first_field(rt: HostRuntime) -> Result<(), Fail> {
+    let number = ScanError::Custom("decimal number expected");
+    assert!(rt; is_refused(rt.alloc(), Rtype::DNSKEY, "256 3 x a2V5", number));
+    let rtype = ScanError::Custom("unknown record type");
+    assert!(rt; is_refused(rt.alloc(), Rtype::NSEC, "a. A a.a.", rtype));
+    assert!(rt; is_refused(rt.alloc(), Rtype::RRSIG, "A 5 3 12", ScanError::EndOfEntry));
+    let data = ScanError::Custom("illegal data");
+    assert!(rt; is_refused(rt.alloc(), Rtype::TXT, "\\# 1 0a0", data));
+    assert!(rt; is_refused(rt.alloc(), Rtype::A, "\\# 3 c00002", data));
+    Ok(())
+}

@@ -1,12 +1,13 @@
 //! Data of all types from the octets of their generic form.
-ghost use Rattle.std.specs.Prelude.{◌≡◌, ◌≢◌, ℕ, List, [], None, IfOk, IfErr};
-ghost use Rattle.domain_base.specs.Scan.{scan_fault_of, no_memory};
+ghost use Rattle.std.specs.Prelude.{◌≡◌, [], None, IfOk, IfErr, codes};
+ghost use Rattle.domain_base.specs.Scan.{scan_fault_of, illegal};
 ghost use Rattle.domain_plain.specs.Layout.{Values, Begins};
 ghost use Rattle.domain_plain.specs.Plain.{a, a_values, ns, ns_values, soa, soa_values, mx, mx_values};
 ghost use Rattle.domain_keys.specs.Data.{dnskey, dnskey_values, ds, ds_values, rrsig, rrsig_values};
 ghost use Rattle.domain_rdata.specs.NsecWire.{BeginsNsec};
 ghost use Rattle.domain_rdata.specs.Nsec3Wire.{BeginsNsec3};
 ghost use Rattle.domain_rdata.specs.Rdata.{nsec, nsec_values, nsec3, nsec3_values, nsec3param, nsec3param_values};
+ghost use Rattle.domain_rdata.specs.Refusal.{AreOfType, CopyFault, OctetsFault};
 ghost use Rattle.domain_rdata.specs.Text.{AreData, has_own_data};
 ghost use Rattle.domain_rdata.specs.declared.zone_record_data.ZoneRecordData.{ZoneRecordData};
 
@@ -25,12 +26,12 @@ fn name_like<N: MakeName, M: ToName>(alloc: Global, name: &M) -> Result<N, OutOf
     N::make(alloc, name.as_wire())
 }
 
-/// A copy of octets.
+/// A copy of octets. Refuses with `ShortBuf` or `OutOfMemory` alone.
 fn octets_like<O: FromBuilder>(alloc: Global, octets: &[u8]) -> Result<O, ScanError>
 where
     O::Builder: EmptyBuilder + Drop,
     ensures ok { IfOk result (λ made. O.octets made ≡ octets.now) }
-    ensures err { IfErr result (λ e. O.Builder.limit ≡ None → scan_fault_of e ≡ no_memory) }
+    ensures err { IfErr result (λ e. CopyFault O.Builder.limit octets.now (scan_fault_of e)) }
 {
     let mut builder = O::Builder::empty(alloc);
     builder.append_slice(octets)?;
@@ -41,7 +42,8 @@ where
 #[tactic(auto, using(crate::proofs::OctetsLemmas::exact))]
 fn a_of(octets: &[u8]) -> Result<A, ScanError>
     ensures ok { IfOk result (λ d. Begins a octets.now (a_values d) []) }
-    ensures err { IfErr result (λ _. (v : Values a) → Begins a octets.now v [] → ⊥) }
+    ensures err { IfErr result (λ e. scan_fault_of e ≡ illegal (codes "illegal data")) }
+    ensures none { IfErr result (λ _. ((v : Values a) × Begins a octets.now v []) → ⊥) }
 {
     let mut parser = Parser::new(octets);
     let Ok(data) = A::parse(&mut parser) else {
@@ -57,7 +59,7 @@ fn a_of(octets: &[u8]) -> Result<A, ScanError>
 #[tactic(auto, using(crate::proofs::OctetsLemmas::exact))]
 fn ns_of<N: MakeName>(alloc: Global, octets: &[u8]) -> Result<Ns<N>, ScanError>
     ensures ok { IfOk result (λ d. Begins ns octets.now (ns_values N.labels d) []) }
-    ensures err { IfErr result (λ e. scan_fault_of e ≢ no_memory → (v : Values ns) → Begins ns octets.now v [] → ⊥) }
+    ensures err { IfErr result (λ e. OctetsFault None ((v : Values ns) × Begins ns octets.now v []) octets.now (scan_fault_of e)) }
 {
     let mut parser = Parser::new(octets);
     let Ok(data) = Ns::parse(&mut parser) else {
@@ -73,7 +75,7 @@ fn ns_of<N: MakeName>(alloc: Global, octets: &[u8]) -> Result<Ns<N>, ScanError>
 #[tactic(auto, using(crate::proofs::OctetsLemmas::exact))]
 fn soa_of<N: MakeName + Drop>(alloc: Global, octets: &[u8]) -> Result<Soa<N>, ScanError>
     ensures ok { IfOk result (λ d. Begins soa octets.now (soa_values N.labels d) []) }
-    ensures err { IfErr result (λ e. scan_fault_of e ≢ no_memory → (v : Values soa) → Begins soa octets.now v [] → ⊥) }
+    ensures err { IfErr result (λ e. OctetsFault None ((v : Values soa) × Begins soa octets.now v []) octets.now (scan_fault_of e)) }
 {
     let mut parser = Parser::new(octets);
     let Ok(data) = Soa::parse(&mut parser) else {
@@ -99,7 +101,7 @@ fn soa_of<N: MakeName + Drop>(alloc: Global, octets: &[u8]) -> Result<Soa<N>, Sc
 #[tactic(auto, using(crate::proofs::OctetsLemmas::exact))]
 fn mx_of<N: MakeName>(alloc: Global, octets: &[u8]) -> Result<Mx<N>, ScanError>
     ensures ok { IfOk result (λ d. Begins mx octets.now (mx_values N.labels d) []) }
-    ensures err { IfErr result (λ e. scan_fault_of e ≢ no_memory → (v : Values mx) → Begins mx octets.now v [] → ⊥) }
+    ensures err { IfErr result (λ e. OctetsFault None ((v : Values mx) × Begins mx octets.now v []) octets.now (scan_fault_of e)) }
 {
     let mut parser = Parser::new(octets);
     let Ok(data) = Mx::parse(&mut parser) else {
@@ -117,7 +119,7 @@ fn dnskey_of<O: FromBuilder + Drop>(alloc: Global, octets: &[u8]) -> Result<Dnsk
 where
     O::Builder: EmptyBuilder + Drop,
     ensures ok { IfOk result (λ d. Begins dnskey octets.now (dnskey_values d) []) }
-    ensures err { IfErr result (λ e. O.Builder.limit ≡ None → scan_fault_of e ≢ no_memory → (v : Values dnskey) → Begins dnskey octets.now v [] → ⊥) }
+    ensures err { IfErr result (λ e. OctetsFault O.Builder.limit ((v : Values dnskey) × Begins dnskey octets.now v []) octets.now (scan_fault_of e)) }
 {
     let mut parser = Parser::new(octets);
     let Ok(data) = Dnskey::parse(&mut parser) else {
@@ -137,7 +139,7 @@ fn ds_of<O: FromBuilder + Drop>(alloc: Global, octets: &[u8]) -> Result<Ds<O>, S
 where
     O::Builder: EmptyBuilder + Drop,
     ensures ok { IfOk result (λ d. Begins ds octets.now (ds_values d) []) }
-    ensures err { IfErr result (λ e. O.Builder.limit ≡ None → scan_fault_of e ≢ no_memory → (v : Values ds) → Begins ds octets.now v [] → ⊥) }
+    ensures err { IfErr result (λ e. OctetsFault O.Builder.limit ((v : Values ds) × Begins ds octets.now v []) octets.now (scan_fault_of e)) }
 {
     let mut parser = Parser::new(octets);
     let Ok(data) = Ds::parse(&mut parser) else {
@@ -159,7 +161,7 @@ fn nsec_of<O: FromBuilder + Drop, N: MakeName + Drop>(
 where
     O::Builder: EmptyBuilder + Drop,
     ensures ok { IfOk result (λ d. BeginsNsec octets.now (nsec_values N.labels d) []) }
-    ensures err { IfErr result (λ e. O.Builder.limit ≡ None → scan_fault_of e ≢ no_memory → (v : Values nsec) → BeginsNsec octets.now v [] → ⊥) }
+    ensures err { IfErr result (λ e. OctetsFault O.Builder.limit ((v : Values nsec) × BeginsNsec octets.now v []) octets.now (scan_fault_of e)) }
 {
     let mut parser = Parser::new(octets);
     match Nsec::parse(&mut parser) {
@@ -184,7 +186,7 @@ fn rrsig_of<O: FromBuilder + Drop, N: MakeName + Drop>(
 where
     O::Builder: EmptyBuilder + Drop,
     ensures ok { IfOk result (λ d. Begins rrsig octets.now (rrsig_values d) []) }
-    ensures err { IfErr result (λ e. O.Builder.limit ≡ None → scan_fault_of e ≢ no_memory → (v : Values rrsig) → Begins rrsig octets.now v [] → ⊥) }
+    ensures err { IfErr result (λ e. OctetsFault O.Builder.limit ((v : Values rrsig) × Begins rrsig octets.now v []) octets.now (scan_fault_of e)) }
 {
     let mut parser = Parser::new(octets);
     let Ok(data) = Rrsig::parse(&mut parser) else {
@@ -213,7 +215,7 @@ fn salt_like<O: FromBuilder + Drop>(
 where
     O::Builder: EmptyBuilder + Drop,
     ensures ok { IfOk result (λ made. made ≡ salt.now) }
-    ensures err { IfErr result (λ e. O.Builder.limit ≡ None → scan_fault_of e ≡ no_memory) }
+    ensures err { IfErr result (λ e. CopyFault O.Builder.limit salt.now (scan_fault_of e)) }
 {
     match Nsec3Salt::from_octets(octets_like(alloc, salt.as_slice())?) {
         Ok(salt) => Ok(salt),
@@ -229,7 +231,7 @@ fn params_like<O: FromBuilder + Drop>(
 where
     O::Builder: EmptyBuilder + Drop,
     ensures ok { IfOk result (λ made. nsec3param_values made ≡ nsec3param_values params.now) }
-    ensures err { IfErr result (λ e. O.Builder.limit ≡ None → scan_fault_of e ≡ no_memory) }
+    ensures err { IfErr result (λ e. CopyFault O.Builder.limit params.now.salt (scan_fault_of e)) }
 {
     let salt = salt_like(alloc, params.salt())?;
     let (hash_algorithm, flags) = (params.hash_algorithm(), params.flags());
@@ -245,7 +247,7 @@ fn nsec3param_of<O: FromBuilder + Drop>(
 where
     O::Builder: EmptyBuilder + Drop,
     ensures ok { IfOk result (λ d. Begins nsec3param octets.now (nsec3param_values d) []) }
-    ensures err { IfErr result (λ e. O.Builder.limit ≡ None → scan_fault_of e ≢ no_memory → (v : Values nsec3param) → Begins nsec3param octets.now v [] → ⊥) }
+    ensures err { IfErr result (λ e. OctetsFault O.Builder.limit ((v : Values nsec3param) × Begins nsec3param octets.now v []) octets.now (scan_fault_of e)) }
 {
     let mut parser = Parser::new(octets);
     let Ok(data) = Nsec3param::parse(&mut parser) else {
@@ -262,7 +264,7 @@ fn nsec3_of<O: FromBuilder + Drop>(alloc: Global, octets: &[u8]) -> Result<Nsec3
 where
     O::Builder: EmptyBuilder + Drop,
     ensures ok { IfOk result (λ d. BeginsNsec3 octets.now (nsec3_values d) []) }
-    ensures err { IfErr result (λ e. O.Builder.limit ≡ None → scan_fault_of e ≢ no_memory → (v : Values nsec3) → BeginsNsec3 octets.now v [] → ⊥) }
+    ensures err { IfErr result (λ e. OctetsFault O.Builder.limit ((v : Values nsec3) × BeginsNsec3 octets.now v []) octets.now (scan_fault_of e)) }
 {
     let mut parser = Parser::new(octets);
     match Nsec3::parse(&mut parser) {
@@ -294,13 +296,16 @@ where
     O::Builder: EmptyBuilder + Drop,
 {
     /// The data that the octets of a generic form are.
+    ///
+    /// # Errors
+    ///
+    /// `Custom("illegal data")` exactly where they are no data of the type; `ShortBuf` and `OutOfMemory` where they are, and a part has no room or no memory.
     pub(crate) fn from_generic(alloc: Global, data: UnknownRecordData<O>) -> Result<Self, ScanError>
     where
         O: Drop,
         N: MakeName + Drop,
         ensures ok { IfOk result (λ d. AreData O.octets N.labels «data».rtype (O.octets «data».«data») d) }
-        ensures err { IfErr result (λ e. O.Builder.limit ≡ None → scan_fault_of e ≢ no_memory
-            → (d : ZoneRecordData O N) → AreData O.octets N.labels «data».rtype (O.octets «data».«data») d → ⊥) }
+        ensures err { IfErr result (λ e. OctetsFault O.Builder.limit (AreOfType «data».rtype (O.octets «data».«data»)) (O.octets «data».«data») (scan_fault_of e)) }
     {
         let (rtype, octets) = (data.rtype(), data.data().as_slice());
         if rtype == Rtype::A {

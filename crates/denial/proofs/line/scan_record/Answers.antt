@@ -44,7 +44,7 @@ returns-in_err-data-clause-err g c =
     no_data (λ o. o.items) (λ n. n) (g.S.Scanner.tokens c.args.scanner.now) (g.S.Scanner.tokens c.scan_name.new.self) (g.S.Scanner.tokens c.field.new.scanner)
     (g.S.Scanner.tokens c.field-2.new.scanner) (g.S.Scanner.tokens c.field-3.new.scanner) r line
     c.in_ok-owner.ensures.ok c.in_ok-ttl.ensures.ok c.in_ok-class.ensures.ok c.in_ok-rtype.rtype c.in_ok-rtype.ensures.ok
-    (c.in_err-data.ensures.err refl (known_if_bad c.in_err-data.field-0.0 p.0 p.2 bad))))
+    (c.in_err-data.ensures.spells_none refl (known_if_bad c.in_err-data.field-0.0 p.0 p.2 bad))))
 
 pub returns-then-continues-clause-err : goal.returns-then-continues-clause-err
 returns-then-continues-clause-err g c = λ r line.

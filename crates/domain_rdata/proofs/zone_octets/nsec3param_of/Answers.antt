@@ -1,8 +1,8 @@
-use Rattle.std.proofs.Common.{◌<◌, length, refl, subst, arith}
+use Rattle.std.proofs.Common.{◌<◌, [], length, refl, subst, arith}
 use Rattle.std.proofs.lemmas.Grind.{common_steps}
 use Rattle.domain_plain.specs.Layout.{Begins}
 use Rattle.domain_rdata.specs.Rdata.{nsec3param, nsec3param_values}
-use Rattle.domain_rdata.proofs.OctetsLemmas.{longer}
+use Rattle.domain_rdata.proofs.OctetsLemmas.{longer, none_copied, salt_within}
 use Rattle.domain_rdata.proofs.zone_octets.nsec3param_of.Goals as goal
 
 pub returns-then-remaining-gt0-clause-err : goal.returns-then-remaining-gt0-clause-err
@@ -10,4 +10,10 @@ returns-then-remaining-gt0-clause-err g c =
     let more : 0 < length c.parse.new.parser.left = grind (arith, common_steps) in
     let values = nsec3param_values c.in-Ok.data in
     let begins = subst (λ p. Begins nsec3param p.left values c.parse.new.parser.left) c.new-parser.ensures c.in-Ok.ensures.ok in
-    λ grows known v. longer nsec3param c.args.octets.now values c.parse.new.parser.left begins more refl v
+    (refl, longer nsec3param c.args.octets.now values c.parse.new.parser.left begins more refl)
+
+pub returns-clause-err : goal.returns-clause-err
+returns-clause-err g c =
+    let begins : Begins nsec3param c.args.octets.now (nsec3param_values c.in-Ok.data) [] = grind (arith, common_steps) in
+    let within = salt_within c.args.octets.now (nsec3param_values c.in-Ok.data) begins.parts in
+    none_copied _ _ c.args.octets.now _ c.params_like.result c.params_like.ensures.err (grind (arith, common_steps)) (nsec3param_values c.in-Ok.data, begins)

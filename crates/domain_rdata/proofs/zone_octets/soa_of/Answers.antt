@@ -10,4 +10,4 @@ returns-then-remaining-gt0-clause-err g c =
     let more : 0 < length c.parse.new.parser.left = grind (arith, common_steps) in
     let values = soa_values {N = List (List ℕ)} (λ name. name) c.in-Ok.data in
     let begins = subst (λ p. Begins soa p.left values c.parse.new.parser.left) c.new-parser.ensures c.in-Ok.ensures.ok in
-    λ known v. longer soa c.args.octets.now values c.parse.new.parser.left begins more refl v
+    (refl, longer soa c.args.octets.now values c.parse.new.parser.left begins more refl)

@@ -1,56 +1,56 @@
-use Rattle.std.proofs.Common.{refl, sym, ◌∙◌}
+use Rattle.std.proofs.Common.{sym, ap, ◌∙◌}
 use Rattle.std.proofs.lemmas.Bool.{eqb-true}
 use Rattle.std.proofs.lemmas.Result.{err_from_is_err_and}
 use Rattle.domain_plain.specs.Plain.{a, ns, soa, mx}
-use Rattle.domain_rdata.proofs.ScanLemmas.{plain, key, digest, signature, next_by_name, next_by_hash, params, way, excluded}
+use Rattle.domain_rdata.specs.Refusal.{plain, key, digest, signature, next_by_name, next_by_hash, params, kind_of, at_field}
 use Rattle.domain_rdata.proofs.zone_record_data.ZoneRecordData.scan_own.Goals as goal
 
 pub returns-in_err-scan-clause-err : goal.returns-in_err-scan-clause-err
 returns-in_err-scan-clause-err g c =
     let p = err_from_is_err_and c.from_residual.result c.from_residual.ensures.1 in
-    rw (p.1, p.2) (λ grows known d after h. excluded _ grows c.args.rtype 1 (plain a) (eqb-true c.args.rtype 1 (sym c.eq.ensures ∙ c.if-eq.true)) refl _ _ after _ _ c.in_err-scan.ensures.err known (way g.O.Octets.octets g.N.ToName.labels c.args.rtype _ after d h))
+    rw (p.1, p.2) (at_field (plain a) (ap kind_of (eqb-true c.args.rtype 1 (sym c.eq.ensures ∙ c.if-eq.true))) c.in_err-scan.ensures.err)
 
 pub returns-in_err-scan-2-clause-err : goal.returns-in_err-scan-2-clause-err
 returns-in_err-scan-2-clause-err g c =
     let p = err_from_is_err_and c.from_residual-in_err-scan-2.result c.from_residual-in_err-scan-2.ensures.1 in
-    rw (p.1, p.2) (λ grows known d after h. excluded _ grows c.args.rtype 2 (plain ns) (eqb-true c.args.rtype 2 (sym c.eq-2.ensures ∙ c.if-eq-2.true)) refl _ _ after _ _ c.in_err-scan-2.ensures.err known (way g.O.Octets.octets g.N.ToName.labels c.args.rtype _ after d h))
+    rw (p.1, p.2) (at_field (plain ns) (ap kind_of (eqb-true c.args.rtype 2 (sym c.eq-2.ensures ∙ c.if-eq-2.true))) c.in_err-scan-2.ensures.err)
 
 pub returns-in_err-scan-3-clause-err : goal.returns-in_err-scan-3-clause-err
 returns-in_err-scan-3-clause-err g c =
     let p = err_from_is_err_and c.from_residual-in_err-scan-3.result c.from_residual-in_err-scan-3.ensures.1 in
-    rw (p.1, p.2) (λ grows known d after h. excluded _ grows c.args.rtype 6 (plain soa) (eqb-true c.args.rtype 6 (sym c.eq-3.ensures ∙ c.if-eq-3.true)) refl _ _ after _ _ c.in_err-scan-3.ensures.err known (way g.O.Octets.octets g.N.ToName.labels c.args.rtype _ after d h))
+    rw (p.1, p.2) (at_field (plain soa) (ap kind_of (eqb-true c.args.rtype 6 (sym c.eq-3.ensures ∙ c.if-eq-3.true))) c.in_err-scan-3.ensures.err)
 
 pub returns-in_err-scan-4-clause-err : goal.returns-in_err-scan-4-clause-err
 returns-in_err-scan-4-clause-err g c =
     let p = err_from_is_err_and c.from_residual-in_err-scan-4.result c.from_residual-in_err-scan-4.ensures.1 in
-    rw (p.1, p.2) (λ grows known d after h. excluded _ grows c.args.rtype 15 (plain mx) (eqb-true c.args.rtype 15 (sym c.eq-4.ensures ∙ c.if-eq-4.true)) refl _ _ after _ _ c.in_err-scan-4.ensures.err known (way g.O.Octets.octets g.N.ToName.labels c.args.rtype _ after d h))
+    rw (p.1, p.2) (at_field (plain mx) (ap kind_of (eqb-true c.args.rtype 15 (sym c.eq-4.ensures ∙ c.if-eq-4.true))) c.in_err-scan-4.ensures.err)
 
 pub returns-in_err-scan-5-clause-err : goal.returns-in_err-scan-5-clause-err
 returns-in_err-scan-5-clause-err g c =
     let p = err_from_is_err_and c.from_residual-in_err-scan-5.result c.from_residual-in_err-scan-5.ensures.1 in
-    rw (p.1, p.2) (λ grows known d after h. excluded _ grows c.args.rtype 48 key (eqb-true c.args.rtype 48 (sym c.eq-5.ensures ∙ c.if-eq-5.true)) refl _ _ after _ _ c.in_err-scan-5.ensures.err known (way g.O.Octets.octets g.N.ToName.labels c.args.rtype _ after d h))
+    rw (p.1, p.2) (at_field key (ap kind_of (eqb-true c.args.rtype 48 (sym c.eq-5.ensures ∙ c.if-eq-5.true))) c.in_err-scan-5.ensures.err)
 
 pub returns-in_err-scan-6-clause-err : goal.returns-in_err-scan-6-clause-err
 returns-in_err-scan-6-clause-err g c =
     let p = err_from_is_err_and c.from_residual-in_err-scan-6.result c.from_residual-in_err-scan-6.ensures.1 in
-    rw (p.1, p.2) (λ grows known d after h. excluded _ grows c.args.rtype 43 digest (eqb-true c.args.rtype 43 (sym c.eq-6.ensures ∙ c.if-eq-6.true)) refl _ _ after _ _ c.in_err-scan-6.ensures.err known (way g.O.Octets.octets g.N.ToName.labels c.args.rtype _ after d h))
+    rw (p.1, p.2) (at_field digest (ap kind_of (eqb-true c.args.rtype 43 (sym c.eq-6.ensures ∙ c.if-eq-6.true))) c.in_err-scan-6.ensures.err)
 
 pub returns-in_err-scan-7-clause-err : goal.returns-in_err-scan-7-clause-err
 returns-in_err-scan-7-clause-err g c =
     let p = err_from_is_err_and c.from_residual-in_err-scan-7.result c.from_residual-in_err-scan-7.ensures.1 in
-    rw (p.1, p.2) (λ grows known d after h. excluded _ grows c.args.rtype 47 next_by_name (eqb-true c.args.rtype 47 (sym c.eq-7.ensures ∙ c.if-eq-7.true)) refl _ _ after _ _ c.in_err-scan-7.ensures.err known (way g.O.Octets.octets g.N.ToName.labels c.args.rtype _ after d h))
+    rw (p.1, p.2) (at_field next_by_name (ap kind_of (eqb-true c.args.rtype 47 (sym c.eq-7.ensures ∙ c.if-eq-7.true))) c.in_err-scan-7.ensures.err)
 
 pub returns-in_err-scan-8-clause-err : goal.returns-in_err-scan-8-clause-err
 returns-in_err-scan-8-clause-err g c =
     let p = err_from_is_err_and c.from_residual-in_err-scan-8.result c.from_residual-in_err-scan-8.ensures.1 in
-    rw (p.1, p.2) (λ grows known d after h. excluded _ grows c.args.rtype 46 signature (eqb-true c.args.rtype 46 (sym c.eq-8.ensures ∙ c.if-eq-8.true)) refl _ _ after _ _ c.in_err-scan-8.ensures.err known (way g.O.Octets.octets g.N.ToName.labels c.args.rtype _ after d h))
+    rw (p.1, p.2) (at_field signature (ap kind_of (eqb-true c.args.rtype 46 (sym c.eq-8.ensures ∙ c.if-eq-8.true))) c.in_err-scan-8.ensures.err)
 
 pub returns-in_err-scan-9-clause-err : goal.returns-in_err-scan-9-clause-err
 returns-in_err-scan-9-clause-err g c =
     let p = err_from_is_err_and c.from_residual-in_err-scan-9.result c.from_residual-in_err-scan-9.ensures.1 in
-    rw (p.1, p.2) (λ grows known d after h. excluded _ grows c.args.rtype 50 next_by_hash (eqb-true c.args.rtype 50 (sym c.eq-9.ensures ∙ c.if-eq-9.true)) refl _ _ after _ _ c.in_err-scan-9.ensures.err known (way g.O.Octets.octets g.N.ToName.labels c.args.rtype _ after d h))
+    rw (p.1, p.2) (at_field next_by_hash (ap kind_of (eqb-true c.args.rtype 50 (sym c.eq-9.ensures ∙ c.if-eq-9.true))) c.in_err-scan-9.ensures.err)
 
 pub returns-in_err-scan-10-clause-err : goal.returns-in_err-scan-10-clause-err
 returns-in_err-scan-10-clause-err g c =
     let p = err_from_is_err_and c.from_residual-in_err-scan-10.result c.from_residual-in_err-scan-10.ensures.1 in
-    rw (p.1, p.2) (λ grows known d after h. excluded _ grows c.args.rtype 51 params (eqb-true c.args.rtype 51 (sym c.eq-10.ensures ∙ c.if-eq-10.true)) refl _ _ after _ _ c.in_err-scan-10.ensures.err known (way g.O.Octets.octets g.N.ToName.labels c.args.rtype _ after d h))
+    rw (p.1, p.2) (at_field params (ap kind_of (eqb-true c.args.rtype 51 (sym c.eq-10.ensures ∙ c.if-eq-10.true))) c.in_err-scan-10.ensures.err)

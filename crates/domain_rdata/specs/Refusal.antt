@@ -1,0 +1,97 @@
+-- why record data are refused, in the text form of their type or in the generic form (RFC 1035, section 5.1, and RFC 3597, section 5)
+use Rattle.std.specs.Prelude.{◌≡◌, ℕ, ◌==◌, List, [], length, codes, Option, Some, None, IsNone, if◌then◌else◌}
+use Rattle.domain_octets.specs.Limit.{IsOver}
+use Rattle.domain_base.specs.Scan.{ScanFault, entry_ends, illegal, no_room, no_memory}
+use Rattle.domain_plain.specs.Generic.{GenericText, GenericFault}
+use Rattle.domain_plain.specs.Layout.{Layout, Values, Begins}
+use Rattle.domain_plain.specs.Plain.{a, ns, soa, mx}
+use Rattle.domain_plain.specs.Scan.{Refuses}
+use Rattle.domain_keys.specs.Data.{dnskey, ds, rrsig}
+use Rattle.domain_keys.specs.Text.{RefusesDnskey, RefusesDs, RefusesRrsig}
+use Rattle.domain_rdata.specs.NsecText.{NsecRefused}
+use Rattle.domain_rdata.specs.NsecWire.{BeginsNsec}
+use Rattle.domain_rdata.specs.Nsec3Text.{RefusesNsec3}
+use Rattle.domain_rdata.specs.Nsec3Wire.{BeginsNsec3}
+use Rattle.domain_rdata.specs.Nsec3paramText.{RefusesNsec3param}
+use Rattle.domain_rdata.specs.Rdata.{nsec, nsec3, nsec3param}
+use Rattle.domain_rdata.specs.Text.{IsGeneric}
+
+-- how the data of a type are made up: of fields of one token each, or in a way of their own
+pub data Kind : Type 0 where
+  plain : Layout → Kind
+  key : Kind
+  digest : Kind
+  signature : Kind
+  next_by_name : Kind
+  next_by_hash : Kind
+  params : Kind
+
+-- the types that have a text form of their own
+abbrev pub kind_of : ℕ → Option Kind
+kind_of rtype =
+    if rtype == 1 then Some (plain a)
+    else (if rtype == 2 then Some (plain ns)
+    else (if rtype == 6 then Some (plain soa)
+    else (if rtype == 15 then Some (plain mx)
+    else (if rtype == 48 then Some key
+    else (if rtype == 43 then Some digest
+    else (if rtype == 46 then Some signature
+    else (if rtype == 47 then Some next_by_name
+    else (if rtype == 50 then Some next_by_hash
+    else (if rtype == 51 then Some params
+    else None)))))))))
+
+-- the first field of that form that is refused, where octets have this limit, and the tokens that are left then
+abbrev pub RefusesKind : Option ℕ → Kind → List (List ℕ) → List (List ℕ) → ScanFault → Type 0
+RefusesKind limit (plain l) = Refuses limit l
+RefusesKind limit key = RefusesDnskey limit
+RefusesKind limit digest = RefusesDs limit
+RefusesKind limit signature = RefusesRrsig limit
+RefusesKind limit next_by_name = NsecRefused limit limit
+RefusesKind limit next_by_hash = RefusesNsec3 limit
+RefusesKind limit params = RefusesNsec3param limit
+
+-- tokens are refused as the text form of a type: at a field of that form, or, before any token is taken, since the type has none
+pub data OwnRefused (limit : Option ℕ) (rtype : ℕ) (old new : List (List ℕ)) (fault : ScanFault) : Type 0 where
+  at_field : (kind : Kind) → kind_of rtype ≡ Some kind → RefusesKind limit kind old new fault → OwnRefused limit rtype old new fault
+  no_form : kind_of rtype ≡ None → fault ≡ illegal (codes "unknown record data") → new ≡ old → OwnRefused limit rtype old new fault
+
+-- all the octets are data of a kind on the wire
+abbrev pub AreOfKind : Kind → List ℕ → Type 0
+AreOfKind (plain l) wire = (v : Values l) × Begins l wire v []
+AreOfKind key wire = (v : Values dnskey) × Begins dnskey wire v []
+AreOfKind digest wire = (v : Values ds) × Begins ds wire v []
+AreOfKind signature wire = (v : Values rrsig) × Begins rrsig wire v []
+AreOfKind next_by_name wire = (v : Values nsec) × BeginsNsec wire v []
+AreOfKind next_by_hash wire = (v : Values nsec3) × BeginsNsec3 wire v []
+AreOfKind params wire = (v : Values nsec3param) × Begins nsec3param wire v []
+
+-- the same of a type of this kind, or of none, of which any octets are data
+abbrev pub AreOf : Option Kind → List ℕ → Type 0
+AreOf None wire = Unit {0}
+AreOf (Some kind) wire = AreOfKind kind wire
+
+-- all the octets are data of a type
+abbrev pub AreOfType : ℕ → List ℕ → Type 0
+AreOfType rtype wire = AreOf (kind_of rtype) wire
+
+-- why octets are not copied into octets that have this limit
+abbrev pub CopyFault : Option ℕ → List ℕ → ScanFault → Type 0
+CopyFault limit octets entry_ends = ⊥
+CopyFault limit octets (illegal said) = ⊥
+CopyFault limit octets no_room = IsOver limit (length octets)
+CopyFault limit octets no_memory = IsNone limit
+
+-- why the octets of a generic form are not turned into data over octets that have this limit: they are no such data, or they are, and a part has no room or no memory
+abbrev pub OctetsFault : Option ℕ → Type 0 → List ℕ → ScanFault → Type 0
+OctetsFault limit Are wire entry_ends = ⊥
+OctetsFault limit Are wire (illegal said) = (said ≡ codes "illegal data") × (Are → ⊥)
+OctetsFault limit Are wire no_room = Are × IsOver limit (length wire)
+OctetsFault limit Are wire no_memory = Are
+
+-- why tokens are refused as data of a type, where octets have this limit, and the tokens that are left then: the mark of the generic form at their head decides what they are held to;
+-- text in that form may still hold octets that are no data of the type
+pub data RdataRefused (limit : Option ℕ) (rtype : ℕ) (old new : List (List ℕ)) (fault : ScanFault) : Type 0 where
+  in_own : (IsGeneric old → ⊥) → OwnRefused limit rtype old new fault → RdataRefused limit rtype old new fault
+  in_generic : IsGeneric old → GenericFault limit old new fault → RdataRefused limit rtype old new fault
+  in_octets : (wire : List ℕ) → GenericText old wire → new ≡ [] → OctetsFault limit (AreOfType rtype wire) wire fault → RdataRefused limit rtype old new fault
