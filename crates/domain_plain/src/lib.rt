@@ -25,8 +25,6 @@ mod record_data;
 pub mod scan_fields;
 mod soa;
 mod target;
-#[cfg(test)]
-mod tests;
 pub mod text_laws;
 mod unknown;
 mod wire_fault;

@@ -1,10 +1,10 @@
-use crate::{Nsec, ZoneRecordData, nsec_laws};
 use bytes::Bytes;
 use domain_base::{CanonicalOrd, IterScanner, Name, ParsedName, Rtype, ScanError, Scanner, ToName};
 use domain_octets::{
     AppendError, ArrayBuilder, DisplayKind, FlattenInto, ParseError, Parser, TryClone, ZonefileFmt,
 };
 use domain_plain::{ComposeRecordData, ParseRecordData, RecordData};
+use domain_rdata::{Nsec, ZoneRecordData, nsec_laws};
 use std::alloc::Global;
 use std::cmp::Ordering;
 use std::hash::{FoldHasher, Hash, Hasher};

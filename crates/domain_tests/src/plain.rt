@@ -1,11 +1,3 @@
-use crate::fields::{
-    AtMost, Delimited, Exactly, Fields, Keeps, Lowers, Rest, canonical_cmp_octets,
-};
-use crate::read_fields::{ReadFields, Spelled};
-use crate::{
-    A, CloneRecordData, ComposeRecordData, Counted, LongRecordData, Mx, Ns, ParseRecordData,
-    Record, Soa, UnknownRecordData, WireFault, both, laws,
-};
 use bytes::Bytes;
 use domain_base::{
     CanonicalOrd, Class, IterScanner, Name, ParsedName, Rtype, ScanError, Scanner, ToName, Ttl,
@@ -13,6 +5,14 @@ use domain_base::{
 use domain_octets::{
     AppendError, ArrayBuilder, EmptyBuilder, FlattenInto, OctetsBuilder, OctetsFrom, ParseError,
     Parser, TryClone,
+};
+use domain_plain::fields::{
+    AtMost, Delimited, Exactly, Fields, Keeps, Lowers, Rest, canonical_cmp_octets,
+};
+use domain_plain::read_fields::{ReadFields, Spelled};
+use domain_plain::{
+    A, CloneRecordData, ComposeRecordData, Counted, LongRecordData, Mx, Ns, ParseRecordData,
+    Record, Soa, UnknownRecordData, WireFault, both, laws,
 };
 use std::alloc::Global;
 use std::cmp::Ordering;
