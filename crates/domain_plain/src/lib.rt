@@ -25,6 +25,8 @@ mod record_data;
 pub mod scan_fields;
 mod soa;
 mod target;
+#[cfg(test)]
+mod tests;
 pub mod text_laws;
 mod unknown;
 mod wire_fault;

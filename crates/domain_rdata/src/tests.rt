@@ -1,10 +1,10 @@
+use crate::{Nsec, ZoneRecordData, nsec_laws};
 use bytes::Bytes;
 use domain_base::{CanonicalOrd, IterScanner, Name, ParsedName, Rtype, ScanError, Scanner, ToName};
 use domain_octets::{
     AppendError, ArrayBuilder, DisplayKind, FlattenInto, ParseError, Parser, TryClone, ZonefileFmt,
 };
 use domain_plain::{ComposeRecordData, ParseRecordData, RecordData};
-use domain_rdata::{Nsec, ZoneRecordData, nsec_laws};
 use std::alloc::Global;
 use std::cmp::Ordering;
 use std::hash::{FoldHasher, Hash, Hasher};
@@ -234,26 +234,5 @@ fn refuses_what_is_no_data(rt: HostRuntime) -> Result<(), Fail> {
         let refused = scan_data(rt.alloc(), rtype, text).err();
         assert_eq!(rt; refused, Some(ScanError::Custom(error)));
     }
-    Ok(())
-}
-
-/// Whether the words are refused as data of the type, with this error.
-fn is_refused(alloc: Global, rtype: Rtype, text: &str, error: ScanError) -> bool {
-    match scan_data(alloc, rtype, text) {
-        Ok(_) => false,
-        Err(refused) => refused == error,
-    }
-}
-
-#[test]
-fn refuses_at_the_first_field(rt: HostRuntime) -> Result<(), Fail> {
-    let number = ScanError::Custom("decimal number expected");
-    assert!(rt; is_refused(rt.alloc(), Rtype::DNSKEY, "256 3 x a2V5", number));
-    let rtype = ScanError::Custom("unknown record type");
-    assert!(rt; is_refused(rt.alloc(), Rtype::NSEC, "a. A a.a.", rtype));
-    assert!(rt; is_refused(rt.alloc(), Rtype::RRSIG, "A 5 3 12", ScanError::EndOfEntry));
-    let data = ScanError::Custom("illegal data");
-    assert!(rt; is_refused(rt.alloc(), Rtype::TXT, "\\# 1 0a0", data));
-    assert!(rt; is_refused(rt.alloc(), Rtype::A, "\\# 3 c00002", data));
     Ok(())
 }

@@ -1,8 +1,8 @@
+use crate::{Dnskey, Ds, data_laws};
 use bytes::Bytes;
 use domain_base::{
     CanonicalOrd, DigestAlgorithm, IterScanner, Rtype, ScanError, SecurityAlgorithm,
 };
-use domain_keys::{Dnskey, Ds, data_laws};
 use domain_octets::{
     AppendError, ArrayBuilder, DisplayKind, Octets, OctetsFrom, ParseError, Parser, PieceFormatter,
     TryClone, ZonefileFmt, base64_standard,

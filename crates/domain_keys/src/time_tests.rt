@@ -1,5 +1,5 @@
+use crate::{IllegalSignatureTime, Timestamp};
 use domain_base::{CanonicalOrd, FromToken, IterScanner, ParseError, ScanError};
-use domain_keys::{IllegalSignatureTime, Timestamp};
 use domain_octets::{DisplayKind, Parser, ZonefileFmt};
 use std::cmp::Ordering;
 use std::str::FromStr;

@@ -1,7 +1,7 @@
 //! Chains of small zones, worked out by hand.
+use crate::{GenerateNsecConfig, generate_nsecs, reference};
 use domain_base::{CanonicalOrd, Class, FromToken, IterScanner, Name, Rtype, Scanner, Ttl};
 use domain_bitmap::RtypeBitmapBuilder;
-use domain_dnssec::{GenerateNsecConfig, generate_nsecs, reference};
 use domain_plain::{Record, UnknownRecordData};
 use domain_rdata::{Nsec, ZoneRecordData};
 use domain_records::{SigningError, SortedRecords};

@@ -1,7 +1,7 @@
+use crate::{ProtoRrsig, Rrsig, Timestamp, data_laws};
 use domain_base::{
     IterScanner, Name, ParsedName, Rtype, ScanError, SecurityAlgorithm, ToName, Ttl,
 };
-use domain_keys::{ProtoRrsig, Rrsig, Timestamp, data_laws};
 use domain_octets::{
     AppendError, ArrayBuilder, DisplayKind, OctetsFrom, ParseError, Parser, ZonefileFmt,
 };

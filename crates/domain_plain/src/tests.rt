@@ -1,3 +1,11 @@
+use crate::fields::{
+    AtMost, Delimited, Exactly, Fields, Keeps, Lowers, Rest, canonical_cmp_octets,
+};
+use crate::read_fields::{ReadFields, Spelled};
+use crate::{
+    A, CloneRecordData, ComposeRecordData, Counted, LongRecordData, Mx, Ns, ParseRecordData,
+    Record, Soa, UnknownRecordData, WireFault, both, laws,
+};
 use bytes::Bytes;
 use domain_base::{
     CanonicalOrd, Class, IterScanner, Name, ParsedName, Rtype, ScanError, Scanner, ToName, Ttl,
@@ -5,14 +13,6 @@ use domain_base::{
 use domain_octets::{
     AppendError, ArrayBuilder, EmptyBuilder, FlattenInto, OctetsBuilder, OctetsFrom, ParseError,
     Parser, TryClone,
-};
-use domain_plain::fields::{
-    AtMost, Delimited, Exactly, Fields, Keeps, Lowers, Rest, canonical_cmp_octets,
-};
-use domain_plain::read_fields::{ReadFields, Spelled};
-use domain_plain::{
-    A, CloneRecordData, ComposeRecordData, Counted, LongRecordData, Mx, Ns, ParseRecordData,
-    Record, Soa, UnknownRecordData, WireFault, both, laws,
 };
 use std::alloc::Global;
 use std::cmp::Ordering;

@@ -1,3 +1,4 @@
+use crate::{Nsec3, Nsec3param, nsec3_laws};
 use bytes::Bytes;
 use domain_base::{CanonicalOrd, IterScanner, Nsec3HashAlgorithm, Rtype, ScanError, Scanner};
 use domain_bitmap::{Nsec3Salt, OwnerHash, RtypeBitmap};
@@ -6,7 +7,6 @@ use domain_octets::{
     TryClone, ZonefileFmt,
 };
 use domain_plain::{ComposeRecordData, ParseRecordData};
-use domain_rdata::{Nsec3, Nsec3param, nsec3_laws};
 use std::cmp::Ordering;
 use std::collections::HashMap;
 use std::test::Fail;
