@@ -22,7 +22,7 @@ use Rattle.domain_rdata.specs.NsecText.{NsecText}
 use Rattle.domain_rdata.specs.Nsec3Text.{Nsec3Text}
 use Rattle.domain_rdata.specs.Nsec3paramText.{Nsec3paramText}
 use Rattle.domain_rdata.specs.Rdata.{nsec, nsec_values, nsec3, nsec3_values, nsec3param, nsec3param_values}
-use Rattle.domain_rdata.specs.Refusal.{Kind, plain, key, digest, signature, next_by_name, next_by_hash, params, kind_of, RefusesKind, OwnRefused, at_field, no_form, AreOf, AreOfType, OctetsFault, RdataRefused, in_own, in_generic, in_octets}
+use Rattle.domain_rdata.specs.Refusal.{Kind, plain, key, digest, signature, next_by_name, next_by_hash, params, kind_of, RefusesKind, OwnRefused, at_field, no_form, AreOfKind, OctetsFault, RdataRefused, in_own, in_generic, in_octets}
 use Rattle.domain_rdata.specs.Text.{RdataText, own, generic, OwnText, AreData, IsGeneric, has_own_data}
 use Rattle.domain_rdata.specs.Zone.{wire_octets}
 use Rattle.domain_rdata.specs.declared.zone_record_data.ZoneRecordData.{ZoneRecordData}
@@ -100,12 +100,22 @@ own_refused limit rtype old new after wire fault (at_field kind is why) grows kn
     kind_refused kind old new after wire fault (subst (λ q. RefusesKind q kind old new fault) grows why) (subst (λ j. Reads j old wire after) same way.reads) known
 own_refused limit rtype old new after wire fault (no_form none said all) grows known way = let e = sym way.is ∙ none in cc
 
+-- octets are data of a type of this kind, or of none, of which any octets are data
+abbrev AreOf : Option Kind → List ℕ → Type 0
+AreOf None wire = Unit {0}
+AreOf (Some kind) wire = AreOfKind kind wire
+
+-- what grows has room
+never_over : (limit : Option ℕ) (count : ℕ) → limit ≡ None → IsOver limit count → ⊥
+never_over limit count grows over = subst (λ q. IsOver q count) grows over
+
 -- over octets that grow, octets that are refused but for want of memory are no data
-octets_refused : (limit : Option ℕ) (Are : Type 0) (wire : List ℕ) (fault : ScanFault) → OctetsFault limit Are wire fault → limit ≡ None → fault ≢ no_memory → Are → ⊥
-octets_refused limit Are wire entry_ends why grows known are = why
-octets_refused limit Are wire (illegal said) why grows known are = why.1 are
-octets_refused limit Are wire no_room why grows known are = subst (λ q. IsOver q (length wire)) grows why.1
-octets_refused limit Are wire no_memory why grows known are = known refl
+octets_refused : (limit : Option ℕ) (known : Option Kind) (wire : List ℕ) (fault : ScanFault) → OctetsFault limit known wire fault → limit ≡ None → fault ≢ no_memory → AreOf known wire → ⊥
+octets_refused limit None wire fault why grows other are = why
+octets_refused limit (Some kind) wire entry_ends why grows other are = why
+octets_refused limit (Some kind) wire (illegal said) why grows other are = why.1 are
+octets_refused limit (Some kind) wire no_room why grows other are = never_over limit (length why.0) grows why.2
+octets_refused limit (Some kind) wire no_memory why grows other are = other refl
 
 -- a type whose data are held as mere octets has no text form of its own
 no_kind : (rtype : ℕ) → has_own_data rtype ≡ false → kind_of rtype ≡ None
@@ -138,7 +148,7 @@ module _ {O N : Type 0} (octets : O → List ℕ) (labels : N → List (List ℕ
   octets_exclude wire is none d after (own other text) = other (generic_begins old wire is)
   octets_exclude wire is none d after (generic wire' text are all) = none d (subst (λ w. AreData octets labels rtype w d) (generic_once old wire' wire text is) are)
 
-  are_of_type : (wire : List ℕ) (d : ZoneRecordData O N) → AreData octets labels rtype wire d → AreOfType rtype wire
+  are_of_type : (wire : List ℕ) (d : ZoneRecordData O N) → AreData octets labels rtype wire d → AreOf (kind_of rtype) wire
   are_of_type wire (A d) h = subst (λ k. AreOf k wire) (sym (ap kind_of h.0)) (a_values d, h.1)
   are_of_type wire (Ns d) h = subst (λ k. AreOf k wire) (sym (ap kind_of h.0)) (ns_values labels d, h.1)
   are_of_type wire (Soa d) h = subst (λ k. AreOf k wire) (sym (ap kind_of h.0)) (soa_values labels d, h.1)
@@ -158,7 +168,7 @@ module _ {O N : Type 0} (octets : O → List ℕ) (labels : N → List (List ℕ
       own_excludes unmarked (λ d after text. own_refused limit rtype old new after _ fault why grows known (way octets labels rtype old after d text)) d after spelled
   none_spelled limit new fault (in_generic marked why) grows known d after spelled = mark_excludes limit new fault grows marked why known d after spelled
   none_spelled limit new fault (in_octets wire text all why) grows known d after spelled =
-      octets_exclude wire text (λ d are. octets_refused limit (AreOfType rtype wire) wire fault why grows known (are_of_type wire d are)) d after spelled
+      octets_exclude wire text (λ d are. octets_refused limit (kind_of rtype) wire fault why grows known (are_of_type wire d are)) d after spelled
 
   pub refused_none : (limit : Option ℕ) (new : List (List ℕ)) (result : Result (ZoneRecordData O N) ScanError) → IfErr result (λ e. RdataRefused limit rtype old new (scan_fault_of e))
       → IfErr result (λ e. limit ≡ None → scan_fault_of e ≢ no_memory → (d : ZoneRecordData O N) (after : List (List ℕ)) → RdataText octets labels rtype old d after → ⊥)
@@ -172,10 +182,10 @@ module _ {O N : Type 0} (octets : O → List ℕ) (labels : N → List (List ℕ
   own_err limit new (Err e) why unmarked = in_own unmarked why
 
   -- refusals of the octets of generic text
-  pub octets_err : (limit : Option ℕ) (new : List (List ℕ)) (t : ℕ) (wire : List ℕ) (result : Result (ZoneRecordData O N) ScanError) → IfErr result (λ e. OctetsFault limit (AreOfType t wire) wire (scan_fault_of e))
+  pub octets_err : (limit : Option ℕ) (new : List (List ℕ)) (t : ℕ) (wire : List ℕ) (result : Result (ZoneRecordData O N) ScanError) → IfErr result (λ e. OctetsFault limit (kind_of t) wire (scan_fault_of e))
       → t ≡ rtype → GenericText old wire → new ≡ [] → IfErr result (λ e. RdataRefused limit rtype old new (scan_fault_of e))
   octets_err limit new t wire (Ok d) why same text all = tt
-  octets_err limit new t wire (Err e) why same text all = in_octets wire text all (subst (λ n. OctetsFault limit (AreOfType n wire) wire (scan_fault_of e)) same why)
+  octets_err limit new t wire (Err e) why same text all = in_octets wire text all (subst (λ n. OctetsFault limit (kind_of n) wire (scan_fault_of e)) same why)
 
   -- generic text whose octets are data
   pub generic_ok : (new : List (List ℕ)) (t : ℕ) (wire : List ℕ) (result : Result (ZoneRecordData O N) ScanError) → IfOk result (λ d. AreData octets labels t wire d) → t ≡ rtype → GenericText old wire → new ≡ []

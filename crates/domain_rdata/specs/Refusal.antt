@@ -66,14 +66,16 @@ AreOfKind next_by_name wire = (v : Values nsec) × BeginsNsec wire v []
 AreOfKind next_by_hash wire = (v : Values nsec3) × BeginsNsec3 wire v []
 AreOfKind params wire = (v : Values nsec3param) × Begins nsec3param wire v []
 
--- the same of a type of this kind, or of none, of which any octets are data
-abbrev pub AreOf : Option Kind → List ℕ → Type 0
-AreOf None wire = Unit {0}
-AreOf (Some kind) wire = AreOfKind kind wire
-
--- all the octets are data of a type
-abbrev pub AreOfType : ℕ → List ℕ → Type 0
-AreOfType rtype wire = AreOf (kind_of rtype) wire
+-- the parts of those data that are held as octets of their own
+pub data IsPart (wire : List ℕ) : Kind → List ℕ → Type 0 where
+  of_key : (v : Values dnskey) → Begins dnskey wire v [] → IsPart wire key v.1.1.1.1
+  of_digest : (v : Values ds) → Begins ds wire v [] → IsPart wire digest v.1.1.1.1
+  of_signature : (v : Values rrsig) → Begins rrsig wire v [] → IsPart wire signature v.1.1
+  types_by_name : (v : Values nsec) → BeginsNsec wire v [] → IsPart wire next_by_name v.1
+  salt_by_hash : (v : Values nsec3) → BeginsNsec3 wire v [] → IsPart wire next_by_hash v.0.0.1
+  next_hash : (v : Values nsec3) → BeginsNsec3 wire v [] → IsPart wire next_by_hash v.0.1
+  types_by_hash : (v : Values nsec3) → BeginsNsec3 wire v [] → IsPart wire next_by_hash v.1
+  salt : (v : Values nsec3param) → Begins nsec3param wire v [] → IsPart wire params v.1
 
 -- why octets are not copied into octets that have this limit
 abbrev pub CopyFault : Option ℕ → List ℕ → ScanFault → Type 0
@@ -82,16 +84,18 @@ CopyFault limit octets (illegal said) = ⊥
 CopyFault limit octets no_room = IsOver limit (length octets)
 CopyFault limit octets no_memory = IsNone limit
 
--- why the octets of a generic form are not turned into data over octets that have this limit: they are no such data, or they are, and a part has no room or no memory
-abbrev pub OctetsFault : Option ℕ → Type 0 → List ℕ → ScanFault → Type 0
-OctetsFault limit Are wire entry_ends = ⊥
-OctetsFault limit Are wire (illegal said) = (said ≡ codes "illegal data") × (Are → ⊥)
-OctetsFault limit Are wire no_room = Are × IsOver limit (length wire)
-OctetsFault limit Are wire no_memory = Are
+-- why the octets of a generic form are not turned into data over octets that have this limit: they are no such data, or they are, and a part has no room or no memory;
+-- those of a type that has no text form of its own are not refused, since any octets are its data
+abbrev pub OctetsFault : Option ℕ → Option Kind → List ℕ → ScanFault → Type 0
+OctetsFault limit None wire fault = ⊥
+OctetsFault limit (Some kind) wire entry_ends = ⊥
+OctetsFault limit (Some kind) wire (illegal said) = (said ≡ codes "illegal data") × (AreOfKind kind wire → ⊥)
+OctetsFault limit (Some kind) wire no_room = (part : List ℕ) × IsPart wire kind part × IsOver limit (length part)
+OctetsFault limit (Some kind) wire no_memory = AreOfKind kind wire
 
 -- why tokens are refused as data of a type, where octets have this limit, and the tokens that are left then: the mark of the generic form at their head decides what they are held to;
 -- text in that form may still hold octets that are no data of the type
 pub data RdataRefused (limit : Option ℕ) (rtype : ℕ) (old new : List (List ℕ)) (fault : ScanFault) : Type 0 where
   in_own : (IsGeneric old → ⊥) → OwnRefused limit rtype old new fault → RdataRefused limit rtype old new fault
   in_generic : IsGeneric old → GenericFault limit old new fault → RdataRefused limit rtype old new fault
-  in_octets : (wire : List ℕ) → GenericText old wire → new ≡ [] → OctetsFault limit (AreOfType rtype wire) wire fault → RdataRefused limit rtype old new fault
+  in_octets : (wire : List ℕ) → GenericText old wire → new ≡ [] → OctetsFault limit (kind_of rtype) wire fault → RdataRefused limit rtype old new fault

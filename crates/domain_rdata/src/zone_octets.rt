@@ -1,15 +1,14 @@
 //! Data of all types from the octets of their generic form.
-ghost use Rattle.std.specs.Prelude.{◌≡◌, [], None, IfOk, IfErr, codes};
-ghost use Rattle.domain_base.specs.Scan.{scan_fault_of, illegal};
-ghost use Rattle.domain_plain.specs.Layout.{Values, Begins};
+ghost use Rattle.std.specs.Prelude.{◌≡◌, [], Some, None, IfOk, IfErr};
+ghost use Rattle.domain_base.specs.Scan.{scan_fault_of};
+ghost use Rattle.domain_plain.specs.Layout.{Begins};
 ghost use Rattle.domain_plain.specs.Plain.{a, a_values, ns, ns_values, soa, soa_values, mx, mx_values};
 ghost use Rattle.domain_keys.specs.Data.{dnskey, dnskey_values, ds, ds_values, rrsig, rrsig_values};
 ghost use Rattle.domain_rdata.specs.NsecWire.{BeginsNsec};
 ghost use Rattle.domain_rdata.specs.Nsec3Wire.{BeginsNsec3};
 ghost use Rattle.domain_rdata.specs.Rdata.{nsec, nsec_values, nsec3, nsec3_values, nsec3param, nsec3param_values};
-ghost use Rattle.domain_rdata.specs.Refusal.{AreOfType, CopyFault, OctetsFault};
-ghost use Rattle.domain_rdata.specs.Text.{AreData, has_own_data};
-ghost use Rattle.domain_rdata.specs.declared.zone_record_data.ZoneRecordData.{ZoneRecordData};
+ghost use Rattle.domain_rdata.specs.Refusal.{kind_of, plain, key, digest, signature, next_by_name, next_by_hash, params, CopyFault, OctetsFault};
+ghost use Rattle.domain_rdata.specs.Text.{AreData};
 
 use crate::{Nsec, Nsec3, Nsec3param, ZoneRecordData};
 use domain_base::{MakeName, Rtype, ScanError, ToName};
@@ -42,8 +41,7 @@ where
 #[tactic(auto, using(crate::proofs::OctetsLemmas::exact))]
 fn a_of(octets: &[u8]) -> Result<A, ScanError>
     ensures ok { IfOk result (λ d. Begins a octets.now (a_values d) []) }
-    ensures err { IfErr result (λ e. scan_fault_of e ≡ illegal (codes "illegal data")) }
-    ensures none { IfErr result (λ _. ((v : Values a) × Begins a octets.now v []) → ⊥) }
+    ensures err { IfErr result (λ e. OctetsFault None (Some (plain a)) octets.now (scan_fault_of e)) }
 {
     let mut parser = Parser::new(octets);
     let Ok(data) = A::parse(&mut parser) else {
@@ -59,7 +57,7 @@ fn a_of(octets: &[u8]) -> Result<A, ScanError>
 #[tactic(auto, using(crate::proofs::OctetsLemmas::exact))]
 fn ns_of<N: MakeName>(alloc: Global, octets: &[u8]) -> Result<Ns<N>, ScanError>
     ensures ok { IfOk result (λ d. Begins ns octets.now (ns_values N.labels d) []) }
-    ensures err { IfErr result (λ e. OctetsFault None ((v : Values ns) × Begins ns octets.now v []) octets.now (scan_fault_of e)) }
+    ensures err { IfErr result (λ e. OctetsFault None (Some (plain ns)) octets.now (scan_fault_of e)) }
 {
     let mut parser = Parser::new(octets);
     let Ok(data) = Ns::parse(&mut parser) else {
@@ -75,7 +73,7 @@ fn ns_of<N: MakeName>(alloc: Global, octets: &[u8]) -> Result<Ns<N>, ScanError>
 #[tactic(auto, using(crate::proofs::OctetsLemmas::exact))]
 fn soa_of<N: MakeName + Drop>(alloc: Global, octets: &[u8]) -> Result<Soa<N>, ScanError>
     ensures ok { IfOk result (λ d. Begins soa octets.now (soa_values N.labels d) []) }
-    ensures err { IfErr result (λ e. OctetsFault None ((v : Values soa) × Begins soa octets.now v []) octets.now (scan_fault_of e)) }
+    ensures err { IfErr result (λ e. OctetsFault None (Some (plain soa)) octets.now (scan_fault_of e)) }
 {
     let mut parser = Parser::new(octets);
     let Ok(data) = Soa::parse(&mut parser) else {
@@ -101,7 +99,7 @@ fn soa_of<N: MakeName + Drop>(alloc: Global, octets: &[u8]) -> Result<Soa<N>, Sc
 #[tactic(auto, using(crate::proofs::OctetsLemmas::exact))]
 fn mx_of<N: MakeName>(alloc: Global, octets: &[u8]) -> Result<Mx<N>, ScanError>
     ensures ok { IfOk result (λ d. Begins mx octets.now (mx_values N.labels d) []) }
-    ensures err { IfErr result (λ e. OctetsFault None ((v : Values mx) × Begins mx octets.now v []) octets.now (scan_fault_of e)) }
+    ensures err { IfErr result (λ e. OctetsFault None (Some (plain mx)) octets.now (scan_fault_of e)) }
 {
     let mut parser = Parser::new(octets);
     let Ok(data) = Mx::parse(&mut parser) else {
@@ -119,7 +117,7 @@ fn dnskey_of<O: FromBuilder + Drop>(alloc: Global, octets: &[u8]) -> Result<Dnsk
 where
     O::Builder: EmptyBuilder + Drop,
     ensures ok { IfOk result (λ d. Begins dnskey octets.now (dnskey_values d) []) }
-    ensures err { IfErr result (λ e. OctetsFault O.Builder.limit ((v : Values dnskey) × Begins dnskey octets.now v []) octets.now (scan_fault_of e)) }
+    ensures err { IfErr result (λ e. OctetsFault O.Builder.limit (Some key) octets.now (scan_fault_of e)) }
 {
     let mut parser = Parser::new(octets);
     let Ok(data) = Dnskey::parse(&mut parser) else {
@@ -139,7 +137,7 @@ fn ds_of<O: FromBuilder + Drop>(alloc: Global, octets: &[u8]) -> Result<Ds<O>, S
 where
     O::Builder: EmptyBuilder + Drop,
     ensures ok { IfOk result (λ d. Begins ds octets.now (ds_values d) []) }
-    ensures err { IfErr result (λ e. OctetsFault O.Builder.limit ((v : Values ds) × Begins ds octets.now v []) octets.now (scan_fault_of e)) }
+    ensures err { IfErr result (λ e. OctetsFault O.Builder.limit (Some digest) octets.now (scan_fault_of e)) }
 {
     let mut parser = Parser::new(octets);
     let Ok(data) = Ds::parse(&mut parser) else {
@@ -161,7 +159,7 @@ fn nsec_of<O: FromBuilder + Drop, N: MakeName + Drop>(
 where
     O::Builder: EmptyBuilder + Drop,
     ensures ok { IfOk result (λ d. BeginsNsec octets.now (nsec_values N.labels d) []) }
-    ensures err { IfErr result (λ e. OctetsFault O.Builder.limit ((v : Values nsec) × BeginsNsec octets.now v []) octets.now (scan_fault_of e)) }
+    ensures err { IfErr result (λ e. OctetsFault O.Builder.limit (Some next_by_name) octets.now (scan_fault_of e)) }
 {
     let mut parser = Parser::new(octets);
     match Nsec::parse(&mut parser) {
@@ -186,7 +184,7 @@ fn rrsig_of<O: FromBuilder + Drop, N: MakeName + Drop>(
 where
     O::Builder: EmptyBuilder + Drop,
     ensures ok { IfOk result (λ d. Begins rrsig octets.now (rrsig_values d) []) }
-    ensures err { IfErr result (λ e. OctetsFault O.Builder.limit ((v : Values rrsig) × Begins rrsig octets.now v []) octets.now (scan_fault_of e)) }
+    ensures err { IfErr result (λ e. OctetsFault O.Builder.limit (Some signature) octets.now (scan_fault_of e)) }
 {
     let mut parser = Parser::new(octets);
     let Ok(data) = Rrsig::parse(&mut parser) else {
@@ -247,7 +245,7 @@ fn nsec3param_of<O: FromBuilder + Drop>(
 where
     O::Builder: EmptyBuilder + Drop,
     ensures ok { IfOk result (λ d. Begins nsec3param octets.now (nsec3param_values d) []) }
-    ensures err { IfErr result (λ e. OctetsFault O.Builder.limit ((v : Values nsec3param) × Begins nsec3param octets.now v []) octets.now (scan_fault_of e)) }
+    ensures err { IfErr result (λ e. OctetsFault O.Builder.limit (Some params) octets.now (scan_fault_of e)) }
 {
     let mut parser = Parser::new(octets);
     let Ok(data) = Nsec3param::parse(&mut parser) else {
@@ -264,7 +262,7 @@ fn nsec3_of<O: FromBuilder + Drop>(alloc: Global, octets: &[u8]) -> Result<Nsec3
 where
     O::Builder: EmptyBuilder + Drop,
     ensures ok { IfOk result (λ d. BeginsNsec3 octets.now (nsec3_values d) []) }
-    ensures err { IfErr result (λ e. OctetsFault O.Builder.limit ((v : Values nsec3) × BeginsNsec3 octets.now v []) octets.now (scan_fault_of e)) }
+    ensures err { IfErr result (λ e. OctetsFault O.Builder.limit (Some next_by_hash) octets.now (scan_fault_of e)) }
 {
     let mut parser = Parser::new(octets);
     match Nsec3::parse(&mut parser) {
@@ -305,7 +303,7 @@ where
         O: Drop,
         N: MakeName + Drop,
         ensures ok { IfOk result (λ d. AreData O.octets N.labels «data».rtype (O.octets «data».«data») d) }
-        ensures err { IfErr result (λ e. OctetsFault O.Builder.limit (AreOfType «data».rtype (O.octets «data».«data»)) (O.octets «data».«data») (scan_fault_of e)) }
+        ensures err { IfErr result (λ e. OctetsFault O.Builder.limit (kind_of «data».rtype) (O.octets «data».«data») (scan_fault_of e)) }
     {
         let (rtype, octets) = (data.rtype(), data.data().as_slice());
         if rtype == Rtype::A {

@@ -3,7 +3,8 @@ use Rattle.std.proofs.lemmas.Grind.{common_steps}
 use Rattle.std.proofs.lemmas.Result.{err_from_is_err_and}
 use Rattle.domain_plain.specs.Layout.{Begins}
 use Rattle.domain_keys.specs.Data.{dnskey, dnskey_values}
-use Rattle.domain_rdata.proofs.OctetsLemmas.{fits_again, not_copied, length_within}
+use Rattle.domain_rdata.specs.Refusal.{of_key}
+use Rattle.domain_rdata.proofs.OctetsLemmas.{fits_again, not_copied}
 use Rattle.domain_rdata.proofs.zone_octets.dnskey_of.Goals as goal
 
 pub new_unchecked-requires : goal.new_unchecked-requires
@@ -15,5 +16,4 @@ pub returns-in_err-key-clause-err : goal.returns-in_err-key-clause-err
 returns-in_err-key-clause-err g c =
     let p = err_from_is_err_and c.from_residual.result c.from_residual.ensures.1 in
     let begins : Begins dnskey c.args.octets.now (dnskey_values c.in-Ok.data) [] = grind (arith, common_steps) in
-    let within = length_within c.args.octets.now (dnskey_values c.in-Ok.data) begins in
-    rw (p.1, p.2) (not_copied _ _ c.args.octets.now _ _ c.in_err-key.ensures.err (grind (arith, common_steps)) (dnskey_values c.in-Ok.data, begins))
+    rw (p.1, p.2) (not_copied _ _ c.args.octets.now _ _ _ c.in_err-key.ensures.err (grind (arith, common_steps)) (of_key (dnskey_values c.in-Ok.data) begins))

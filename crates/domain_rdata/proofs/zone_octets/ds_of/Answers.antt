@@ -3,7 +3,8 @@ use Rattle.std.proofs.lemmas.Grind.{common_steps}
 use Rattle.std.proofs.lemmas.Result.{err_from_is_err_and}
 use Rattle.domain_plain.specs.Layout.{Begins}
 use Rattle.domain_keys.specs.Data.{ds, ds_values}
-use Rattle.domain_rdata.proofs.OctetsLemmas.{fits_again, not_copied, length_within}
+use Rattle.domain_rdata.specs.Refusal.{of_digest}
+use Rattle.domain_rdata.proofs.OctetsLemmas.{fits_again, not_copied}
 use Rattle.domain_rdata.proofs.zone_octets.ds_of.Goals as goal
 
 pub new_unchecked-requires : goal.new_unchecked-requires
@@ -15,5 +16,4 @@ pub returns-in_err-digest-clause-err : goal.returns-in_err-digest-clause-err
 returns-in_err-digest-clause-err g c =
     let p = err_from_is_err_and c.from_residual.result c.from_residual.ensures.1 in
     let begins : Begins ds c.args.octets.now (ds_values c.in-Ok.data) [] = grind (arith, common_steps) in
-    let within = length_within c.args.octets.now (ds_values c.in-Ok.data) begins in
-    rw (p.1, p.2) (not_copied _ _ c.args.octets.now _ _ c.in_err-digest.ensures.err (grind (arith, common_steps)) (ds_values c.in-Ok.data, begins))
+    rw (p.1, p.2) (not_copied _ _ c.args.octets.now _ _ _ c.in_err-digest.ensures.err (grind (arith, common_steps)) (of_digest (ds_values c.in-Ok.data) begins))

@@ -2,7 +2,8 @@ use Rattle.std.proofs.Common.{◌<◌, [], length, refl, subst, arith}
 use Rattle.std.proofs.lemmas.Grind.{common_steps}
 use Rattle.domain_plain.specs.Layout.{Begins}
 use Rattle.domain_rdata.specs.Rdata.{nsec3param, nsec3param_values}
-use Rattle.domain_rdata.proofs.OctetsLemmas.{longer, none_copied, salt_within}
+use Rattle.domain_rdata.specs.Refusal.{salt}
+use Rattle.domain_rdata.proofs.OctetsLemmas.{longer, none_copied}
 use Rattle.domain_rdata.proofs.zone_octets.nsec3param_of.Goals as goal
 
 pub returns-then-remaining-gt0-clause-err : goal.returns-then-remaining-gt0-clause-err
@@ -15,5 +16,4 @@ returns-then-remaining-gt0-clause-err g c =
 pub returns-clause-err : goal.returns-clause-err
 returns-clause-err g c =
     let begins : Begins nsec3param c.args.octets.now (nsec3param_values c.in-Ok.data) [] = grind (arith, common_steps) in
-    let within = salt_within c.args.octets.now (nsec3param_values c.in-Ok.data) begins.parts in
-    none_copied _ _ c.args.octets.now _ c.params_like.result c.params_like.ensures.err (grind (arith, common_steps)) (nsec3param_values c.in-Ok.data, begins)
+    none_copied _ _ c.args.octets.now _ c.params_like.result c.params_like.ensures.err (salt (nsec3param_values c.in-Ok.data) begins)

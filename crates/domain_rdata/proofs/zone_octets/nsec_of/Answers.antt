@@ -4,7 +4,8 @@ use Rattle.std.proofs.lemmas.Result.{err_from_is_err_and}
 use Rattle.domain_base.specs.Fault.{fault_of}
 use Rattle.domain_rdata.specs.NsecWire.{BeginsNsec, NsecFault}
 use Rattle.domain_rdata.specs.Rdata.{nsec_values}
-use Rattle.domain_rdata.proofs.OctetsLemmas.{nsec_faulty, not_copied, types_within}
+use Rattle.domain_rdata.specs.Refusal.{types_by_name}
+use Rattle.domain_rdata.proofs.OctetsLemmas.{nsec_faulty, not_copied}
 use Rattle.domain_rdata.proofs.zone_octets.nsec_of.Goals as goal
 
 pub returns-in-Err-clause-err : goal.returns-in-Err-clause-err
@@ -15,5 +16,4 @@ returns-in_err-types-in-Ok-clause-err g c =
     let p = err_from_is_err_and c.from_residual-in_err-types-in-Ok.result c.from_residual-in_err-types-in-Ok.ensures.1 in
     let values = nsec_values {N = List (List ℕ)} (λ name. name) c.in-Ok.data in
     let begins : BeginsNsec c.args.octets.now values [] = grind (arith, common_steps) in
-    let within = types_within c.args.octets.now values begins.begins in
-    rw (p.1, p.2) (not_copied _ _ c.args.octets.now _ _ c.in_err-types-in-Ok.ensures.err (grind (arith, common_steps)) (values, begins))
+    rw (p.1, p.2) (not_copied _ _ c.args.octets.now _ _ _ c.in_err-types-in-Ok.ensures.err (grind (arith, common_steps)) (types_by_name values begins))
