@@ -6,9 +6,9 @@ use Rattle.domain_base.specs.Numbers.{ClassText, IsNoClass, TypeText, IsNoType, 
 use Rattle.domain_base.specs.declared.error.ScanError.{ScanError}
 use Rattle.domain_base.specs.declared.error.ScanError.TheVariants as scan_error
 use Rattle.domain_base.proofs.NamedLemmas.{one_named}
-use Rattle.domain_plain.specs.Field.{name}
+use Rattle.domain_fields.specs.Field.{name}
 use Rattle.domain_plain.specs.declared.record.Record.{Record}
-use Rattle.domain_plain.proofs.ScanLemmas.{token_excludes}
+use Rattle.domain_fields.proofs.ScanLemmas.{token_excludes}
 use Rattle.domain_rdata.specs.Text.{RdataText}
 use Rattle.domain_rdata.specs.declared.zone_record_data.ZoneRecordData.{ZoneRecordData}
 use Rattle.domain_rdata.proofs.ScanLemmas.{text_once}

@@ -1,5 +1,5 @@
 //! Where the bit of a type stands (RFC 4034, section 4.1.2).
-ghost use Rattle.std.specs.Prelude.{◌≡◌, ℕ, ◌/◌, ◌%◌, ◌-◌, ◌<◌};
+ghost use Rattle.std.specs.Prelude.{◌≡◌, ◌/◌, ◌%◌, ◌-◌, ◌<◌};
 
 use domain_base::Rtype;
 

@@ -1,5 +1,5 @@
 //! Builds sets of types.
-ghost use Rattle.std.specs.Prelude.{◌≡◌, ◌≢◌, ℕ, ◌+◌, ◌/◌, ◌%◌, ◌<◌, ◌||◌, ◌==◌, ◌↔◌, [], List, false, length, OnOk, OnErr, IfOk, slice_index, ◌*◌, if◌then◌else◌, IsErrOf, IsNone};
+ghost use Rattle.std.specs.Prelude.{◌≡◌, ℕ, ◌+◌, ◌/◌, ◌%◌, ◌<◌, ◌||◌, ◌==◌, ◌↔◌, [], List, false, length, OnOk, OnErr, IfOk, slice_index, ◌*◌, if◌then◌else◌, IsErrOf, IsNone};
 ghost use Rattle.domain_octets.specs.Limit.{IsOver};
 ghost use Rattle.domain_bitmap.specs.Builder.{holds, has_window};
 ghost use Rattle.domain_bitmap.specs.Bitmap.{bitmap_octets};

@@ -1,5 +1,5 @@
 //! Salts and hashes of owner names from tokens (RFC 5155, section 3.3).
-ghost use Rattle.std.specs.Prelude.{◌≡◌, ◌↔◌, ℕ, List, IfOk, IfErr, IsTrue, codes};
+ghost use Rattle.std.specs.Prelude.{◌≡◌, ◌↔◌, IfOk, IfErr, IsTrue, codes};
 ghost use Rattle.domain_octets.specs.Codec.{Decodes};
 ghost use Rattle.domain_octets.specs.declared.codec.Codec.TheVariants as codec;
 ghost use Rattle.domain_base.specs.Scan.{scan_fault_of, TakesToken, RefusesToken};

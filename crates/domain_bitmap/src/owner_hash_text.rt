@@ -1,7 +1,7 @@
 //! Hashed owner names as text (RFC 5155, section 3.3).
-ghost use Rattle.std.specs.Prelude.{◌≡◌, ◌<◌, ℕ, List, length, IfOk, IfErr, Some};
+ghost use Rattle.std.specs.Prelude.{◌<◌, IfOk, IfErr, Some};
 ghost use Rattle.domain_octets.specs.Base32.{base32_upper};
-ghost use Rattle.domain_octets.specs.Codec.{Decodes, DecodeFault};
+ghost use Rattle.domain_octets.specs.Codec.{Decodes};
 ghost use Rattle.domain_octets.specs.declared.codec.Codec.TheVariants as codec;
 ghost use Rattle.domain_bitmap.specs.HashFault.{HashFault};
 

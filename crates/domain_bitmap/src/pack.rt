@@ -1,5 +1,5 @@
 //! Writes a builder's blocks in order, each cut after its last octet with a type.
-ghost use Rattle.std.specs.Prelude.{◌≡◌, ℕ, ◌+◌, ◌*◌, ◌%◌, ◌^◌, ◌<◌, ◌≤◌, ◌++◌, length, slice_index, take, drop};
+ghost use Rattle.std.specs.Prelude.{◌≡◌, ℕ, ◌+◌, ◌%◌, ◌^◌, ◌<◌, ◌≤◌, ◌++◌, length, slice_index, take, drop};
 ghost use Rattle.domain_bitmap.specs.Builder.{holds};
 ghost use Rattle.domain_bitmap.specs.Bitmap.{trimmed, block_with, bitmap_octets};
 

@@ -1,5 +1,5 @@
 //! Salts as text (RFC 5155, section 3.3).
-ghost use Rattle.std.specs.Prelude.{◌≡◌, IfOk, IfErr, Some};
+ghost use Rattle.std.specs.Prelude.{IfOk, IfErr, Some};
 
 use crate::{Nsec3Salt, Nsec3SaltError};
 use domain_octets::{DecodeError, EmptyBuilder, FromBuilder, Octets, base16};

@@ -1,5 +1,5 @@
 //! The blocks that a builder holds: 34 octets each, at multiples of 34.
-ghost use Rattle.std.specs.Prelude.{◌≡◌, ℕ, ◌+◌, ◌*◌, ◌/◌, ◌<◌, ◌≤◌, ◌++◌, ◌↔◌, false, length, take, drop, IfSome, IsSome, IsTrue, IfNone, slice_index};
+ghost use Rattle.std.specs.Prelude.{◌≡◌, ◌+◌, ◌*◌, ◌/◌, ◌<◌, ◌≤◌, ◌++◌, ◌↔◌, false, length, take, drop, IfSome, IsSome, IsTrue, IfNone};
 ghost use Rattle.domain_bitmap.specs.Builder.{has_window, is_of_window};
 ghost use Rattle.domain_bitmap.specs.Bitmap.{trimmed};
 

@@ -1,5 +1,5 @@
 //! The octets of all windows, in which a builder's blocks are put in order.
-ghost use Rattle.std.specs.Prelude.{◌≡◌, ℕ, ◌+◌, ◌-◌, ◌*◌, ◌/◌, ◌%◌, ◌<◌, ◌≤◌, ◌==◌, false, length, take, drop, slice_index, slice_index_or, bit_or, if◌then◌else◌};
+ghost use Rattle.std.specs.Prelude.{◌≡◌, ℕ, ◌+◌, ◌-◌, ◌*◌, ◌/◌, ◌%◌, ◌<◌, ◌==◌, false, length, take, drop, slice_index, slice_index_or, bit_or, if◌then◌else◌};
 ghost use Rattle.domain_bitmap.specs.Bits.{bit_of};
 ghost use Rattle.domain_bitmap.specs.Builder.{holds, has_window};
 

@@ -1,5 +1,5 @@
 //! Sets of types as text.
-ghost use Rattle.std.specs.Prelude.{◌≡◌, Some};
+ghost use Rattle.std.specs.Prelude.{Some};
 ghost use Rattle.domain_bitmap.specs.Blocks.{types_of};
 ghost use Rattle.domain_bitmap.specs.Text.{types_text};
 

@@ -1,5 +1,5 @@
 //! What the words on names mean, in those of `domain_base`.
-ghost use Rattle.std.specs.Prelude.{◌≡◌, ◌↔◌, true, ℕ, List};
+ghost use Rattle.std.specs.Prelude.{◌≡◌, ◌↔◌, true};
 ghost use Rattle.std.specs.Ordering.{is_lt};
 ghost use Rattle.domain_base.specs.Name.{same_name, IsAtOrBelow};
 ghost use Rattle.domain_base.specs.Order.{canonical_cmp};

@@ -2,8 +2,8 @@
 use Rattle.std.proofs.Common.{◌≡◌, ℕ, ◌+◌, ◌≤◌, ◌↔◌, Bool, true, List, [], length, refl, sym, ap, subst, ◌∙◌, arith, length-append}
 use Rattle.std.specs.Prelude.{bytes_eq, IsTrue}
 use Rattle.std.specs.Cmp.Lexicographic.{bytes_decides}
-use Rattle.domain_plain.specs.Layout.{Layout, Values, octets_of, Fits, Ends, Begins, ParsesBack, splits}
-use Rattle.domain_plain.proofs.ExactLemmas.{one_reading, begins_alone, parses_back}
+use Rattle.domain_fields.specs.Layout.{Layout, Values, octets_of, Fits, Ends, Begins, ParsesBack, splits}
+use Rattle.domain_fields.proofs.ExactLemmas.{one_reading, begins_alone, parses_back}
 use Rattle.domain_keys.specs.Data.{numbers_and_octets, DnskeyData, dnskey, dnskey_values, dnskey_octets, DsData, ds, ds_values, ds_octets}
 
 -- four octets stand before the others

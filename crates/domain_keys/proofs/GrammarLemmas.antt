@@ -5,9 +5,9 @@ use Rattle.domain_octets.specs.Codec.{Decodes}
 use Rattle.domain_octets.specs.declared.codec.Codec.{Codec}
 use Rattle.domain_octets.specs.declared.codec.Codec.TheVariants.{Base16, Base32Hex, Base64}
 use Rattle.domain_base.specs.Scan.{ScanFault, entry_ends, illegal, no_room, no_memory, CodecFault, RefusesToken, ended, refused}
-use Rattle.domain_plain.specs.Layout.{Layout}
-use Rattle.domain_plain.specs.Scan.{Scans, Refuses}
-use Rattle.domain_plain.proofs.ScanLemmas.{refused_spells_none, scans_left, scans_once}
+use Rattle.domain_fields.specs.Layout.{Layout}
+use Rattle.domain_fields.specs.Scan.{Scans, Refuses}
+use Rattle.domain_fields.proofs.ScanLemmas.{refused_spells_none, scans_left, scans_once}
 use Rattle.domain_keys.specs.Text.{OneToken, Both, RefusesBoth, Spells, RefusesData, in_field, in_entry, too_long}
 
 -- a grammar that reads tokens in one way at most

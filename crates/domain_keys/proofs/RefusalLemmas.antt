@@ -5,9 +5,9 @@ use Rattle.domain_base.specs.Name.{wire_of}
 use Rattle.domain_base.specs.Numbers.{TypeText, IsNoType}
 use Rattle.domain_base.specs.Scan.{ScanFault, no_memory, RefusesToken}
 use Rattle.domain_base.proofs.NamedLemmas.{one_named}
-use Rattle.domain_plain.specs.Field.{octet, short, long, name}
-use Rattle.domain_plain.specs.Layout.{Layout, one, ◌▸◌}
-use Rattle.domain_plain.specs.Scan.{Scans, Refuses}
+use Rattle.domain_fields.specs.Field.{octet, short, long, name}
+use Rattle.domain_fields.specs.Layout.{Layout, one, ◌▸◌}
+use Rattle.domain_fields.specs.Scan.{Scans, Refuses}
 use Rattle.domain_keys.specs.Data.{proto_rrsig_data, DnskeyData, DsData, RrsigData}
 use Rattle.domain_keys.specs.Time.{TimeToken, IsNoTime}
 use Rattle.domain_keys.specs.Text.{OneToken, three_numbers, DnskeyText, RefusesDnskey, DsText, RefusesDs, numbers_text, RefusesNumbers, times_text, RefusesTimes, rrsig_fields_text, RefusesRrsigFields, RrsigText, RefusesRrsig}

@@ -7,10 +7,10 @@ use Rattle.std.specs.Ordering.{ordering_then, nat_cmp}
 use Rattle.std.specs.Cmp.Lexicographic.{slice_cmp, bytes_decides}
 use Rattle.domain_base.specs.Name.{wire_of, lowered}
 use Rattle.domain_base.proofs.CaseLemmas.{IsName-lowered}
-use Rattle.domain_plain.specs.Field.{name, rest}
-use Rattle.domain_plain.specs.Layout.{Layout, one, ◌▸◌, Values, octets_of, canonical_of, canonical_order, Fits, Begins, ParsesBack}
-use Rattle.domain_plain.proofs.ExactLemmas.{parses_back}
-use Rattle.domain_plain.proofs.OrderLemmas.{order_both}
+use Rattle.domain_fields.specs.Field.{name, rest}
+use Rattle.domain_fields.specs.Layout.{Layout, one, ◌▸◌, Values, octets_of, canonical_of, canonical_order, Fits, Begins, ParsesBack}
+use Rattle.domain_fields.proofs.ExactLemmas.{parses_back}
+use Rattle.domain_fields.proofs.OrderLemmas.{order_both}
 use Rattle.domain_keys.specs.Data.{ProtoRrsigData, proto_rrsig, proto_rrsig_values, RrsigData, rrsig, rrsig_values, rrsig_octets, rrsig_canonical, rrsig_numbers, rrsig_numbers_values, IsSameRrsig}
 use Rattle.domain_keys.proofs.DataLemmas.{same_values}
 

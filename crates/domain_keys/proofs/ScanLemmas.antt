@@ -5,9 +5,9 @@ use Rattle.domain_octets.specs.Codec.{Decodes}
 use Rattle.domain_octets.specs.declared.codec.Codec.TheVariants.{Base64}
 use Rattle.domain_base.specs.Name.{wire_of}
 use Rattle.domain_base.specs.Scan.{ScanFault, illegal, CodecFault, IsEnd}
-use Rattle.domain_plain.specs.Field.{short, name}
-use Rattle.domain_plain.specs.Layout.{one, ◌▸◌, octets_of}
-use Rattle.domain_plain.specs.Scan.{Scans, Refuses}
+use Rattle.domain_fields.specs.Field.{short, name}
+use Rattle.domain_fields.specs.Layout.{one, ◌▸◌, octets_of}
+use Rattle.domain_fields.specs.Scan.{Scans, Refuses}
 use Rattle.domain_keys.specs.Data.{ProtoRrsigData, proto_rrsig_data, RrsigData, rrsig_data, rrsig_octets}
 use Rattle.domain_keys.specs.Text.{numbers_text, times_text, rrsig_fields_text, RefusesRrsigFields, RefusesRrsig, in_field, in_entry, too_long}
 

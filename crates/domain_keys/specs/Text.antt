@@ -7,9 +7,9 @@ use Rattle.domain_octets.specs.declared.codec.Codec.TheVariants.{Base16, Base64}
 use Rattle.domain_base.specs.Scan.{ScanFault, illegal, TakesToken, RefusesToken, CodecFault, IsEnd}
 use Rattle.domain_base.specs.Name.{wire_of}
 use Rattle.domain_base.specs.Numbers.{TypeText, IsNoType}
-use Rattle.domain_plain.specs.Field.{octet, short, long, name}
-use Rattle.domain_plain.specs.Layout.{Layout, one, ◌▸◌}
-use Rattle.domain_plain.specs.Scan.{Scans, Refuses}
+use Rattle.domain_fields.specs.Field.{octet, short, long, name}
+use Rattle.domain_fields.specs.Layout.{Layout, one, ◌▸◌}
+use Rattle.domain_fields.specs.Scan.{Scans, Refuses}
 use Rattle.domain_keys.specs.Time.{TimeToken, IsNoTime}
 use Rattle.domain_keys.specs.Data.{DnskeyData, DsData, RrsigData, rrsig_octets}
 

@@ -1,5 +1,5 @@
 //! What holds of the octets of keys, digests and signatures (RFC 4034, sections 2, 3 and 5).
-ghost use Rattle.domain_plain.specs.Layout.{ParsesBack};
+ghost use Rattle.domain_fields.specs.Layout.{ParsesBack};
 ghost use Rattle.domain_keys.specs.Data.{dnskey, dnskey_values, ds, ds_values, rrsig, rrsig_values};
 
 use crate::{Dnskey, Ds, Rrsig};

@@ -7,8 +7,8 @@ ghost use Rattle.std.specs.Cmp.Lexicographic.{slice_cmp, on_texts, on_texts_equa
 ghost use Rattle.std.specs.Hash as fed;
 ghost use Rattle.domain_octets.specs.Limit.{IsOver};
 ghost use Rattle.domain_base.specs.Fault.{fault_of};
-ghost use Rattle.domain_plain.specs.Layout.{Begins, Fits, FirstFault, GoesOn};
-ghost use Rattle.domain_plain.specs.Laws.{fed_alike, tied_octets};
+ghost use Rattle.domain_fields.specs.Layout.{Begins, Fits, FirstFault, GoesOn};
+ghost use Rattle.domain_fields.specs.Laws.{fed_alike, tied_octets};
 ghost use Rattle.domain_keys.specs.Data.{dnskey_data, dnskey, dnskey_values, dnskey_octets};
 ghost use Rattle.domain_keys.specs.Flags.{is_revoked, is_secure_entry_point, is_zone_key};
 ghost use Rattle.domain_keys.specs.KeyTag.{key_tag_of};
@@ -18,12 +18,11 @@ use crate::fields::{KeyFields, MOST};
 use crate::{flags, key_tag};
 use bytes::Bytes;
 use domain_base::{CanonicalOrd, Rtype, SecurityAlgorithm};
+use domain_fields::{AtMost, Fields, ReadFields, Rest};
 use domain_octets::{
     AppendError, ArrayBuilder, Octets, OctetsBuilder, OctetsFrom, OutOfMemory, ParseError, Parser,
     TryClone,
 };
-use domain_plain::fields::{self, AtMost, Fields, Rest};
-use domain_plain::read_fields::ReadFields;
 use domain_plain::{
     CloneRecordData, ComposeRecordData, LongRecordData, ParseRecordData, RecordData,
 };
@@ -58,7 +57,7 @@ impl<O: Octets> Dnskey<O> {
     /// # Errors
     ///
     /// `LongRecordData` exactly where the data would have over 65,535 octets.
-    #[tactic(auto, unfolding(domain_plain::specs::Layout::octets_of))]
+    #[tactic(auto, unfolding(domain_fields::specs::Layout::octets_of))]
     pub fn new(
         flags: u16,
         protocol: u8,
@@ -82,7 +81,7 @@ impl<O: Octets> Dnskey<O> {
     }
 
     /// The data of these fields, which have at most 65,535 octets. Takes no memory.
-    #[tactic(auto, unfolding(domain_plain::specs::Layout::octets_of))]
+    #[tactic(auto, unfolding(domain_fields::specs::Layout::octets_of))]
     pub fn new_unchecked(
         flags: u16,
         protocol: u8,
@@ -203,7 +202,7 @@ impl<O: Octets> Dnskey<O> {
     }
 
     /// The tag by which DS and RRSIG records name the key (RFC 4034, appendix B), for every algorithm. For RSA over MD5 and a key of fewer than three octets it is 0.
-    #[tactic(auto, unfolding(domain_plain::specs::Layout::octets_of))]
+    #[tactic(auto, unfolding(domain_fields::specs::Layout::octets_of))]
     pub fn key_tag(&self) -> u16
         ensures { result ≡ key_tag_of self.now }
     {
@@ -303,7 +302,7 @@ impl<O: Octets> ComposeRecordData for Dnskey<O> {
     }
 
     fn canonical_cmp_octets(&self, other: &[u8]) -> Ordering {
-        fields::canonical_cmp_octets(&self.fields(), other)
+        domain_fields::canonical_cmp_octets(&self.fields(), other)
     }
 }
 

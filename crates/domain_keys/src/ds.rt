@@ -7,20 +7,19 @@ ghost use Rattle.std.specs.Cmp.Lexicographic.{slice_cmp, on_texts, on_texts_equa
 ghost use Rattle.std.specs.Hash as fed;
 ghost use Rattle.domain_octets.specs.Limit.{IsOver};
 ghost use Rattle.domain_base.specs.Fault.{fault_of};
-ghost use Rattle.domain_plain.specs.Layout.{Begins, Fits, FirstFault, GoesOn};
-ghost use Rattle.domain_plain.specs.Laws.{fed_alike, tied_octets};
+ghost use Rattle.domain_fields.specs.Layout.{Begins, Fits, FirstFault, GoesOn};
+ghost use Rattle.domain_fields.specs.Laws.{fed_alike, tied_octets};
 ghost use Rattle.domain_keys.specs.Data.{ds_data, ds, ds_values, ds_octets};
 ghost use Rattle.domain_keys.specs.Laws.{copies_tied};
 
 use crate::fields::{KeyFields, MOST};
 use bytes::Bytes;
 use domain_base::{CanonicalOrd, DigestAlgorithm, Rtype, SecurityAlgorithm};
+use domain_fields::{AtMost, Fields, ReadFields, Rest};
 use domain_octets::{
     AppendError, ArrayBuilder, Octets, OctetsBuilder, OctetsFrom, OutOfMemory, ParseError, Parser,
     TryClone,
 };
-use domain_plain::fields::{self, AtMost, Fields, Rest};
-use domain_plain::read_fields::ReadFields;
 use domain_plain::{
     CloneRecordData, ComposeRecordData, LongRecordData, ParseRecordData, RecordData,
 };
@@ -55,7 +54,7 @@ impl<O: Octets> Ds<O> {
     /// # Errors
     ///
     /// `LongRecordData` exactly where the data would have over 65,535 octets.
-    #[tactic(auto, unfolding(domain_plain::specs::Layout::octets_of))]
+    #[tactic(auto, unfolding(domain_fields::specs::Layout::octets_of))]
     pub fn new(
         key_tag: u16,
         algorithm: SecurityAlgorithm,
@@ -79,7 +78,7 @@ impl<O: Octets> Ds<O> {
     }
 
     /// The data of these fields, which have at most 65,535 octets. Takes no memory.
-    #[tactic(auto, unfolding(domain_plain::specs::Layout::octets_of))]
+    #[tactic(auto, unfolding(domain_fields::specs::Layout::octets_of))]
     pub fn new_unchecked(
         key_tag: u16,
         algorithm: SecurityAlgorithm,
@@ -245,7 +244,7 @@ impl<O: Octets> ComposeRecordData for Ds<O> {
     }
 
     fn canonical_cmp_octets(&self, other: &[u8]) -> Ordering {
-        fields::canonical_cmp_octets(&self.fields(), other)
+        domain_fields::canonical_cmp_octets(&self.fields(), other)
     }
 }
 

@@ -1,12 +1,12 @@
 //! Data that end in octets which all tokens that are left spell together.
 ghost use Rattle.std.specs.Prelude.{◌≡◌, ◌<◌, ◌≤◌, [], length, IfOk, IfErr, OnOk};
 ghost use Rattle.domain_base.specs.Scan.{scan_fault_of};
-ghost use Rattle.domain_plain.specs.Scan.{Scans, Refuses};
+ghost use Rattle.domain_fields.specs.Scan.{Scans, Refuses};
 ghost use Rattle.domain_keys.specs.Text.{Spells, RefusesData};
 
 use domain_base::{ScanError, Scanner};
+use domain_fields::ScanFields;
 use domain_octets::{Codec, Octets};
-use domain_plain::scan_fields::ScanFields;
 use std::alloc::Global;
 
 /// The fields that the tokens begin with, and the octets, at most so many, that all tokens that are left spell in a codec.

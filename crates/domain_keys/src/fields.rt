@@ -1,5 +1,5 @@
 //! What the data of keys and of digests have in common.
-use domain_plain::fields::{AtMost, Rest};
+use domain_fields::{AtMost, Rest};
 
 /// How many octets may follow the first four, in data of at most 65,535.
 pub const MOST: usize = 65531;

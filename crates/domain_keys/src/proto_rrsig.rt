@@ -1,13 +1,13 @@
 //! What is signed of a signature's data (RFC 4034, section 3.1.8.1).
-ghost use Rattle.std.specs.Prelude.{◌≡◌, ◌≤◌, ◌↔◌, ◌+◌, Some, IsOk, IfOk, length};
-ghost use Rattle.domain_plain.specs.Layout.{Fits, octets_of, canonical_of};
-ghost use Rattle.domain_plain.specs.Target.{Appends};
+ghost use Rattle.std.specs.Prelude.{◌≡◌, ◌≤◌, ◌↔◌, ◌+◌, IsOk, IfOk, length};
+ghost use Rattle.domain_fields.specs.Layout.{Fits, octets_of, canonical_of};
+ghost use Rattle.domain_fields.specs.Target.{Appends};
 ghost use Rattle.domain_keys.specs.Data.{proto_rrsig, proto_rrsig_values, proto_rrsig_data, rrsig_octets, rrsig_data, rrsig_numbers_values, of_numbers};
 
 use crate::{Rrsig, Timestamp};
 use domain_base::{ParsedName, Rtype, SecurityAlgorithm, ToName, Ttl};
+use domain_fields::{Fields, Lowers};
 use domain_octets::{AppendError, Octets, OctetsBuilder, OutOfMemory, TryClone};
-use domain_plain::fields::{Fields, Lowers};
 use domain_plain::{CloneName, LongRecordData};
 use std::marker::Model;
 

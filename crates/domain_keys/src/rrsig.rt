@@ -6,19 +6,18 @@ ghost use Rattle.std.specs.Cmp.{partial_equiv_from_equiv, po};
 ghost use Rattle.std.specs.Cmp.Lexicographic.{slice_cmp, on_texts, on_texts_equal};
 ghost use Rattle.std.specs.Hash as fed;
 ghost use Rattle.domain_base.specs.Fault.{fault_of};
-ghost use Rattle.domain_plain.specs.Layout.{Begins, Fits, FirstFault, GoesOn, octets_of};
-ghost use Rattle.domain_plain.specs.Laws.{fed_alike, tied_octets};
+ghost use Rattle.domain_fields.specs.Layout.{Begins, Fits, FirstFault, GoesOn, octets_of};
+ghost use Rattle.domain_fields.specs.Laws.{fed_alike, tied_octets};
 ghost use Rattle.domain_keys.specs.Data.{rrsig, rrsig_values, rrsig_octets, rrsig_canonical, rrsig_data, proto_rrsig, proto_rrsig_values, proto_rrsig_data, IsSameRrsig};
 ghost use Rattle.domain_keys.specs.Laws.{copies_tied};
 
 use crate::proto_rrsig::{ParsedProto, ProtoFields};
 use crate::{ProtoRrsig, Timestamp};
 use domain_base::{CanonicalOrd, ParsedName, Rtype, SecurityAlgorithm, ToName, Ttl};
+use domain_fields::{AtMost, Fields, ReadFields, Rest};
 use domain_octets::{
     AppendError, Octets, OctetsBuilder, OutOfMemory, ParseError, Parser, TryClone,
 };
-use domain_plain::fields::{self, AtMost, Fields, Rest};
-use domain_plain::read_fields::ReadFields;
 use domain_plain::{
     CloneName, CloneRecordData, ComposeRecordData, LongRecordData, ParseRecordData, RecordData,
 };
@@ -341,7 +340,7 @@ impl<O: Octets, N: ToName> ComposeRecordData for Rrsig<O, N> {
     }
 
     fn canonical_cmp_octets(&self, other: &[u8]) -> Ordering {
-        fields::canonical_cmp_octets(&self.fields(), other)
+        domain_fields::canonical_cmp_octets(&self.fields(), other)
     }
 }
 

@@ -7,8 +7,8 @@ ghost use Rattle.domain_keys.specs.RrsigPieces.{signed_numbers_text, signed_time
 use crate::text::InBase64;
 use crate::{ProtoRrsig, Rrsig, Timestamp};
 use domain_base::{FromToken, Rtype, ScanError, Scanner, SecurityAlgorithm, ToName, Ttl};
+use domain_fields::{ScanFields, Scanned};
 use domain_octets::{Codec, Formatter, FromBuilder, Octets, OutOfMemory, ZonefileFmt};
-use domain_plain::scan_fields::{ScanFields, Scanned};
 use std::alloc::Global;
 use std::fmt;
 

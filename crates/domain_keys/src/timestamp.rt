@@ -8,7 +8,7 @@ ghost use Rattle.domain_octets.specs.Limit.{IsOver};
 ghost use Rattle.domain_octets.specs.Piece.{token};
 ghost use Rattle.domain_octets.specs.Place.{Takes};
 ghost use Rattle.domain_base.specs.Serial.{serial_cmp};
-ghost use Rattle.domain_keys.specs.Time.{IsNear, TimeAt, TimeText, TimeToken, IsNoTime, ReadsTime};
+ghost use Rattle.domain_keys.specs.Time.{IsNear, TimeAt, TimeToken, IsNoTime, ReadsTime};
 
 use domain_base::{CanonicalOrd, FromToken, ParseError, ScanError, Serial};
 use domain_octets::{AppendError, Composer, Formatter, OutOfMemory, Parser, ZonefileFmt};

@@ -1,8 +1,8 @@
 //! Octets read from text.
-ghost use Rattle.std.specs.Prelude.{◌≡◌, ◌<◌, ◌↔◌, IfOk, IfErr, IfSome, IfNone, Some, unwrap_or};
+ghost use Rattle.std.specs.Prelude.{◌≡◌, ◌<◌, IfOk, IfErr, IfSome, IfNone, Some, unwrap_or};
 ghost use Rattle.std.specs.List.{AllPass};
-ghost use Rattle.domain_octets.specs.Codec.{base32_value, base32_octets, base32_digits, is_base32_length, is_digit, Decodes, IsFirstOther, DecodeFault};
-ghost use Rattle.std.specs.Prelude.{None, map, length};
+ghost use Rattle.domain_octets.specs.Codec.{base32_value, base32_octets, base32_digits, is_digit, Decodes, IsFirstOther, DecodeFault};
+ghost use Rattle.std.specs.Prelude.{None};
 
 use crate::{Codec, DecodeError, EmptyBuilder, FromBuilder, OctetsBuilder};
 use base64::DecodeAllocError;

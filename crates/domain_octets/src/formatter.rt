@@ -1,6 +1,6 @@
 //! What takes the pieces of a zone file's text.
-ghost use Rattle.std.specs.Prelude.{◌≡◌, ◌++◌, ◌∷◌, [], List, ℕ, IfSome, map, IfOk, OnOk, OnErr, string_bytes};
-ghost use Rattle.domain_octets.specs.Piece.{PieceText, token, comment, opens, closes, simple_text};
+ghost use Rattle.std.specs.Prelude.{◌≡◌, ◌++◌, ◌∷◌, [], List, IfSome, map, OnOk, OnErr};
+ghost use Rattle.domain_octets.specs.Piece.{PieceText, token, comment, opens, closes};
 
 use crate::{OutOfMemory, Piece};
 use std::alloc::Global;

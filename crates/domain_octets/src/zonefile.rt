@@ -1,5 +1,5 @@
 //! Values that a zone file shows in pieces.
-ghost use Rattle.std.specs.Prelude.{◌≡◌, ◌++◌, List, ℕ, map, IfOk, OnOk, string_bytes};
+ghost use Rattle.std.specs.Prelude.{◌≡◌, ◌++◌, List, map, IfOk, OnOk, string_bytes};
 ghost use Rattle.domain_octets.specs.Piece.{PieceText, piece_text, simple_text, line_with};
 
 use crate::{Formatter, OutOfMemory, Piece, PieceFormatter};

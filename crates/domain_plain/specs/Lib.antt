@@ -1,14 +1,7 @@
 pub mod Record
-pub mod Field
-pub mod WireFault
-pub mod Layout
-pub mod Target
-pub mod Laws
 pub mod Plain
-pub mod Scan
 pub mod RecordLends
 pub mod RecordText
 pub mod RecordClone
-pub mod DataClone
 pub mod Soa
 pub mod Generic

@@ -1,8 +1,8 @@
 -- the fields of plain data, in the order of the wire
 use Rattle.std.specs.Prelude.{ℕ, List}
 use Rattle.std.specs.Net.Addr.{ipv4_octets}
-use Rattle.domain_plain.specs.Field.{short, long, name, exactly, at_most, rest}
-use Rattle.domain_plain.specs.Layout.{Layout, one, ◌▸◌, Values}
+use Rattle.domain_fields.specs.Field.{short, long, name, exactly, at_most, rest}
+use Rattle.domain_fields.specs.Layout.{Layout, one, ◌▸◌, Values}
 use Rattle.domain_plain.specs.declared.a.A.{A}
 use Rattle.domain_plain.specs.declared.ns.Ns.{Ns}
 use Rattle.domain_plain.specs.declared.soa.Soa.{Soa}

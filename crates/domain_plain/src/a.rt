@@ -5,17 +5,15 @@ ghost use Rattle.std.specs.Net.Text.{ipv4_text};
 ghost use Rattle.std.specs.Ordering.{on, nat_cmp};
 ghost use Rattle.std.specs.Cmp.Lexicographic.{slice_cmp, on_texts};
 ghost use Rattle.domain_base.specs.Scan.{scan_fault_of};
-ghost use Rattle.domain_plain.specs.Scan.{Scans, Refuses};
+ghost use Rattle.domain_fields.specs.Scan.{Scans, Refuses};
 ghost use Rattle.domain_base.specs.Fault.{fault_of};
-ghost use Rattle.domain_plain.specs.Layout.{Begins, FirstFault, GoesOn, octets_of, canonical_of};
-ghost use Rattle.domain_plain.specs.DataClone.{same_values_tie};
+ghost use Rattle.domain_fields.specs.Layout.{Begins, FirstFault, GoesOn, octets_of, canonical_of};
+ghost use Rattle.domain_fields.specs.DataClone.{same_values_tie};
 ghost use Rattle.domain_plain.specs.Plain.{a, a_values};
 
-use crate::fields::{self, Exactly, Fields};
-use crate::read_fields::ReadFields;
-use crate::scan_fields::{Address, ScanFields};
 use crate::{CloneRecordData, ComposeRecordData, ParseRecordData, RecordData};
 use domain_base::{CanonicalOrd, Rtype, ScanError, Scanner};
+use domain_fields::{Address, Exactly, Fields, ReadFields, ScanFields};
 use domain_octets::{
     AppendError, FlattenInto, OctetsBuilder, OctetsFrom, OutOfMemory, ParseError, Parser, TryClone,
 };
@@ -167,7 +165,7 @@ impl ComposeRecordData for A {
     }
 
     fn canonical_cmp_octets(&self, other: &[u8]) -> Ordering {
-        fields::canonical_cmp_octets(&self.fields(), other)
+        domain_fields::canonical_cmp_octets(&self.fields(), other)
     }
 }
 

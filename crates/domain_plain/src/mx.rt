@@ -5,17 +5,15 @@ ghost use Rattle.std.specs.Cmp.Lexicographic.{slice_cmp, on_texts};
 ghost use Rattle.std.specs.Fmt.{decimal};
 ghost use Rattle.domain_base.specs.Scan.{scan_fault_of};
 ghost use Rattle.domain_base.specs.Text.{name_text};
-ghost use Rattle.domain_plain.specs.Scan.{Scans, Refuses};
+ghost use Rattle.domain_fields.specs.Scan.{Scans, Refuses};
 ghost use Rattle.domain_base.specs.Fault.{fault_of};
-ghost use Rattle.domain_plain.specs.Layout.{Begins, FirstFault, GoesOn, octets_of, canonical_of};
-ghost use Rattle.domain_plain.specs.DataClone.{same_values_tie};
+ghost use Rattle.domain_fields.specs.Layout.{Begins, FirstFault, GoesOn, octets_of, canonical_of};
+ghost use Rattle.domain_fields.specs.DataClone.{same_values_tie};
 ghost use Rattle.domain_plain.specs.Plain.{mx, mx_values};
 
-use crate::fields::{self, Fields, Lowers};
-use crate::read_fields::ReadFields;
-use crate::scan_fields::{ScanFields, Scanned};
 use crate::{CloneName, CloneRecordData, ComposeRecordData, ParseRecordData, RecordData};
 use domain_base::{CanonicalOrd, ParsedName, Rtype, ScanError, Scanner, ToName};
+use domain_fields::{Fields, Lowers, ReadFields, ScanFields, Scanned};
 use domain_octets::{
     AppendError, FlattenInto, OctetsBuilder, OctetsFrom, OutOfMemory, ParseError, Parser, TryClone,
 };
@@ -215,7 +213,7 @@ impl<N: ToName> ComposeRecordData for Mx<N> {
     }
 
     fn canonical_cmp_octets(&self, other: &[u8]) -> Ordering {
-        fields::canonical_cmp_octets(&self.fields(), other)
+        domain_fields::canonical_cmp_octets(&self.fields(), other)
     }
 }
 

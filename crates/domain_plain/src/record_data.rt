@@ -3,8 +3,8 @@ ghost use Rattle.std.specs.Prelude.{◌≡◌, ◌≤◌, ◌↔◌, ℕ, List, 
 ghost use Rattle.std.specs.Ordering.{nat_cmp};
 ghost use Rattle.std.specs.Cmp.Lexicographic.{slice_cmp};
 ghost use Rattle.domain_base.specs.Fault.{Fault, fault_of};
-ghost use Rattle.domain_plain.specs.Layout.{GoesOn};
-ghost use Rattle.domain_plain.specs.Target.{Appends};
+ghost use Rattle.domain_fields.specs.Layout.{GoesOn};
+ghost use Rattle.domain_fields.specs.Target.{Appends};
 
 use domain_base::Rtype;
 use domain_octets::{AppendError, OctetsBuilder, ParseError, Parser};

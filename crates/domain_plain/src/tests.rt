@@ -1,10 +1,6 @@
-use crate::fields::{
-    AtMost, Delimited, Exactly, Fields, Keeps, Lowers, Rest, canonical_cmp_octets,
-};
-use crate::read_fields::{ReadFields, Spelled};
 use crate::{
-    A, CloneRecordData, ComposeRecordData, Counted, LongRecordData, Mx, Ns, ParseRecordData,
-    Record, Soa, UnknownRecordData, WireFault, both, laws,
+    A, CloneRecordData, ComposeRecordData, LongRecordData, Mx, Ns, ParseRecordData, Record, Soa,
+    UnknownRecordData, both, laws,
 };
 use bytes::Bytes;
 use domain_base::{
@@ -16,7 +12,6 @@ use domain_octets::{
 };
 use std::alloc::Global;
 use std::cmp::Ordering;
-use std::hash::{FoldHasher, Hasher};
 use std::net::Ipv4Addr;
 use std::test::Fail;
 
@@ -205,75 +200,6 @@ fn keeps_records(rt: HostRuntime) -> Result<(), Fail> {
     assert!(rt; first == address(b"\x01N\x01a\x00", 61, 1)?);
     assert!(rt; first != address(b"\x01n\x01a\x00", 60, 2)?);
     assert!(rt; first.try_clone()? == first);
-    Ok(())
-}
-
-/// The octets that fields are written as, those of the canonical form, and what is hashed.
-fn written<F: Fields>(alloc: Global, fields: &F) -> Result<(Vec<u8>, Vec<u8>, u64), AppendError> {
-    let mut octets = Vec::new(alloc);
-    fields.put(&mut octets)?;
-    let mut canonical = Vec::new(alloc);
-    fields.put_canonical(&mut canonical)?;
-    let mut hasher = FoldHasher::default();
-    fields.feed(&mut hasher);
-    Ok((octets, canonical, hasher.finish()))
-}
-
-/// The order of fields, of which one can tell where they end.
-fn order_of<F: Delimited>(a: &F, b: &F) -> Ordering {
-    a.front_order(b)
-}
-
-type Head<'a> = (u8, Counted<'a>);
-
-type Tail<'a> = (Spelled<ParsedName<'a>>, (Exactly<2>, (AtMost<3>, Rest<'a>)));
-
-#[test]
-fn reads_and_writes_counted_octets(rt: HostRuntime) -> Result<(), Fail> {
-    let octets = b"\x07\x03bar";
-    let mut parser = Parser::new(octets.as_slice());
-    let fields = Head::read(&mut parser).map_err(ParseError::from)?;
-    assert_eq!(rt; fields.1.as_slice(), b"bar".as_slice());
-    let (put, canonical, _) = written(rt.alloc(), &fields)?;
-    assert_eq!(rt; put.as_slice(), octets.as_slice());
-    assert_eq!(rt; canonical.as_slice(), octets.as_slice());
-    assert_eq!(rt; fields.room_after(4), None);
-    assert_eq!(rt;
-        order_of(&fields, &(7, Counted::new(b"foo"))),
-        Ordering::Less
-    );
-    assert_eq!(rt; canonical_cmp_octets(&fields, octets), Ordering::Equal);
-    let mut short = Parser::new(b"\x07\x04bar".as_slice());
-    assert_eq!(rt; Head::read(&mut short).err(), Some(WireFault::ShortInput));
-    assert_eq!(rt; short.pos(), 0);
-    Ok(())
-}
-
-#[test]
-fn reads_and_writes_spelled_names(rt: HostRuntime) -> Result<(), Fail> {
-    let octets = b"\x01A\x00\x01\x02xyz";
-    let mut parser = Parser::new(octets.as_slice());
-    let (Spelled(name), (exact, (_, Rest(end)))) = Tail::read(&mut parser).map_err(
-        ParseError::from,
-    )?;
-    let fields = (Keeps(&name), (exact, (AtMost::<3>, Rest(end))));
-    let (put, canonical, _) = written(rt.alloc(), &fields)?;
-    assert_eq!(rt; put.as_slice(), octets.as_slice());
-    assert_eq!(rt; canonical.as_slice(), octets.as_slice());
-    let lower = ParsedName::from_slice(b"\x01a\x00")?;
-    assert_eq!(rt;
-        order_of(&(1u16, Keeps(&name)), &(1u16, Keeps(&lower))),
-        Ordering::Less
-    );
-    assert_eq!(rt;
-        order_of(&(1u32, Lowers(&name)), &(1u32, Lowers(&lower))),
-        Ordering::Equal
-    );
-    let (_, canonical, hash) = written(rt.alloc(), &Lowers(&name))?;
-    assert_eq!(rt; canonical.as_slice(), b"\x01a\x00".as_slice());
-    assert_eq!(rt; hash, written(rt.alloc(), &Lowers(&lower))?.2);
-    let mut long = Parser::new(b"\x01A\x00\x01\x02wxyz".as_slice());
-    assert_eq!(rt; Tail::read(&mut long).err(), Some(WireFault::LongData));
     Ok(())
 }
 

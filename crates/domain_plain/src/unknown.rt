@@ -5,15 +5,14 @@ ghost use Rattle.std.specs.Cmp.Lexicographic.{slice_cmp, on_texts};
 ghost use Rattle.domain_base.specs.Fault.{fault_of};
 ghost use Rattle.domain_base.specs.Scan.{scan_fault_of};
 ghost use Rattle.domain_plain.specs.Generic.{GenericText, GenericFault};
-ghost use Rattle.domain_plain.specs.Layout.{Begins, FirstFault, GoesOn, octets_of, canonical_of};
-ghost use Rattle.domain_plain.specs.DataClone.{same_values_tie};
+ghost use Rattle.domain_fields.specs.Layout.{Begins, FirstFault, GoesOn, octets_of, canonical_of};
+ghost use Rattle.domain_fields.specs.DataClone.{same_values_tie};
 ghost use Rattle.domain_plain.specs.Plain.{unknown, unknown_values};
 
-use crate::fields::{self, AtMost, Fields, Rest};
 use crate::generic::GenericMark;
-use crate::read_fields::ReadFields;
 use crate::{CloneRecordData, ComposeRecordData, LongRecordData, ParseRecordData, RecordData};
 use domain_base::{CanonicalOrd, FromToken, Rtype, ScanError, Scanner};
+use domain_fields::{AtMost, Fields, ReadFields, Rest};
 use domain_octets::{
     AppendError, Codec, FlattenInto, FromBuilder, Octets, OctetsBuilder, OctetsFrom, OutOfMemory,
     ParseError, Parser, TryClone,
@@ -216,7 +215,7 @@ impl<O: Octets> ComposeRecordData for UnknownRecordData<O> {
     }
 
     fn canonical_cmp_octets(&self, other: &[u8]) -> Ordering {
-        fields::canonical_cmp_octets(&self.fields(), other)
+        domain_fields::canonical_cmp_octets(&self.fields(), other)
     }
 }
 

@@ -12,8 +12,8 @@ use Rattle.domain_bitmap.specs.Blocks.{IsBitmap, types_of}
 use Rattle.domain_bitmap.specs.Fault.{BitmapFault}
 use Rattle.domain_bitmap.specs.Pieces.{type_pieces, salt_pieces}
 use Rattle.domain_bitmap.specs.Text.{types_text, spaced_types}
-use Rattle.domain_plain.specs.Layout.{Layout, Values, octets_of, Fits, Ends, Begins, ParsesBack, splits}
-use Rattle.domain_plain.proofs.ExactLemmas.{parses_back}
+use Rattle.domain_fields.specs.Layout.{Layout, Values, octets_of, Fits, Ends, Begins, ParsesBack, splits}
+use Rattle.domain_fields.proofs.ExactLemmas.{parses_back}
 use Rattle.domain_keys.proofs.DataLemmas.{same_values}
 use Rattle.domain_rdata.specs.OptOut.{opt_out_comment}
 use Rattle.domain_rdata.specs.Rdata.{hash_numbers, nsec3param, uncounted, hash_fields, nsec3}

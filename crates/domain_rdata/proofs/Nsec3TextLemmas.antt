@@ -11,9 +11,9 @@ use Rattle.domain_bitmap.specs.Bitmap.{bitmap_octets}
 use Rattle.domain_bitmap.specs.HashScan.{CountedFault, BeginsWithDash, SaltTokenFault, after_dash, in_digits}
 use Rattle.domain_bitmap.specs.HashText.{SaltText, dash, digits}
 use Rattle.domain_bitmap.specs.Scan.{is_among, RefusesTypes}
-use Rattle.domain_plain.specs.Layout.{one, Fits}
-use Rattle.domain_plain.specs.Field.{counted}
-use Rattle.domain_plain.specs.Scan.{Scans, Refuses}
+use Rattle.domain_fields.specs.Layout.{one, Fits}
+use Rattle.domain_fields.specs.Field.{counted}
+use Rattle.domain_fields.specs.Scan.{Scans, Refuses}
 use Rattle.domain_keys.specs.Text.{OneToken}
 use Rattle.domain_keys.proofs.GrammarLemmas.{ReadsOnce, Excludes, Any, fields_once, fields_refused, one_token, token_refused, both_once, both_refused, decodes_once, codec_excludes}
 use Rattle.domain_rdata.specs.Rdata.{hash_numbers, nsec3param, hash_fields, nsec3}

@@ -10,10 +10,10 @@ use Rattle.domain_bitmap.specs.Blocks.{IsBitmap}
 use Rattle.domain_bitmap.specs.Fault.{BitmapFault}
 use Rattle.domain_bitmap.proofs.FaultLemmas.{no_bitmap_fault}
 use Rattle.std.proofs.lemmas.List.{append-nil, append_assoc}
-use Rattle.domain_plain.specs.Field.{spelled_name, rest}
-use Rattle.domain_plain.specs.Layout.{Layout, Values, one, ◌▸◌, Fits, Ends, Begins, FirstFault, in_first, ParsesBack, octets_of, canonical_of, canonical_order}
-use Rattle.domain_plain.proofs.ExactLemmas.{parses_back}
-use Rattle.domain_plain.proofs.OrderLemmas.{order_both}
+use Rattle.domain_fields.specs.Field.{spelled_name, rest}
+use Rattle.domain_fields.specs.Layout.{Layout, Values, one, ◌▸◌, Fits, Ends, Begins, FirstFault, in_first, ParsesBack, octets_of, canonical_of, canonical_order}
+use Rattle.domain_fields.proofs.ExactLemmas.{parses_back}
+use Rattle.domain_fields.proofs.OrderLemmas.{order_both}
 use Rattle.domain_rdata.specs.Rdata.{nsec}
 use Rattle.domain_rdata.specs.NsecWire.{BeginsNsec, NsecFault, in_name, in_types, NsecParsesBack}
 

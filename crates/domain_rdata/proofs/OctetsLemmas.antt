@@ -8,9 +8,9 @@ use Rattle.domain_base.specs.Scan.{ScanFault, entry_ends, illegal, no_room, no_m
 use Rattle.domain_base.specs.declared.error.ScanError.{ScanError}
 use Rattle.domain_bitmap.specs.Fault as bitmap
 use Rattle.domain_bitmap.proofs.FaultLemmas.{no_fault}
-use Rattle.domain_plain.specs.Field.{spelled_name, rest}
-use Rattle.domain_plain.specs.Layout.{Layout, one, Values, Begins, FirstFault, in_first, splits, octets_of}
-use Rattle.domain_plain.proofs.ExactLemmas.{one_reading, fault_excludes}
+use Rattle.domain_fields.specs.Field.{spelled_name, rest}
+use Rattle.domain_fields.specs.Layout.{Layout, one, Values, Begins, FirstFault, in_first, splits, octets_of}
+use Rattle.domain_fields.proofs.ExactLemmas.{one_reading, fault_excludes}
 use Rattle.domain_keys.proofs.DataLemmas.{length_of_octets, limit_of_octets}
 use Rattle.domain_keys.specs.Data.{numbers_and_octets}
 use Rattle.domain_rdata.specs.NsecWire.{BeginsNsec, NsecFault, in_name, in_types}

@@ -10,11 +10,11 @@ use Rattle.domain_octets.specs.Codec.{Decodes}
 use Rattle.domain_octets.specs.declared.codec.Codec.TheVariants.{Base16}
 use Rattle.domain_base.specs.Scan.{ScanFault, entry_ends, illegal, no_room, no_memory, scan_fault_of}
 use Rattle.domain_plain.specs.Generic.{GenericText, GenericFault}
-use Rattle.domain_plain.specs.Layout.{Values, Fits, octets_of}
+use Rattle.domain_fields.specs.Layout.{Values, Fits, octets_of}
 use Rattle.domain_plain.specs.Plain.{a, a_values, ns, ns_values, soa, soa_values, mx, mx_values}
-use Rattle.domain_plain.specs.Scan.{Scans}
+use Rattle.domain_fields.specs.Scan.{Scans}
 use Rattle.domain_plain.proofs.GenericLemmas.{refused_is_no_text}
-use Rattle.domain_plain.proofs.ScanLemmas.{refused_spells_none, scans_left, scans_once}
+use Rattle.domain_fields.proofs.ScanLemmas.{refused_spells_none, scans_left, scans_once}
 use Rattle.domain_keys.specs.Data.{DnskeyData, DsData, RrsigData, dnskey_values, ds_values, rrsig_values, dnskey_octets, ds_octets, rrsig_octets}
 use Rattle.domain_keys.specs.Text.{DnskeyText, DsText, RrsigText}
 use Rattle.domain_keys.proofs.RefusalLemmas.{dnskey_once, ds_once, rrsig_once, refused_dnskey, refused_ds, refused_rrsig}

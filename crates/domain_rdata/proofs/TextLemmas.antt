@@ -7,8 +7,8 @@ use Rattle.domain_base.proofs.NamedLemmas.{one_named}
 use Rattle.domain_base.proofs.SpellingLemmas.{one_name}
 use Rattle.domain_bitmap.specs.Bitmap.{bitmap_octets}
 use Rattle.domain_bitmap.specs.Scan.{TypeTexts, no_types, one_more, is_among, TypeFault, not_a_type, without_room, without_memory, RefusesTypes}
-use Rattle.domain_plain.specs.Field.{name}
-use Rattle.domain_plain.proofs.ScanLemmas.{token_excludes}
+use Rattle.domain_fields.specs.Field.{name}
+use Rattle.domain_fields.proofs.ScanLemmas.{token_excludes}
 use Rattle.domain_rdata.specs.NsecText.{NsecText, NsecRefused, in_name, in_types}
 
 -- among the tokens of types every token spells a type

@@ -2,7 +2,7 @@
 use Rattle.std.proofs.Common.{◌≡◌, ℕ, List, sym, refl}
 use Rattle.std.specs.Ordering.{ordering_reverse, nat_cmp}
 use Rattle.std.specs.Cmp.Lexicographic.{slice_cmp, nat_list_cmp_total}
-use Rattle.domain_plain.specs.Layout.{octets_of, canonical_of}
+use Rattle.domain_fields.specs.Layout.{octets_of, canonical_of}
 use Rattle.domain_plain.specs.Plain.{unknown}
 
 -- the canonical octets of unknown data are the octets

@@ -7,7 +7,7 @@ use Rattle.std.specs.Hash.{Alike}
 use Rattle.std.specs.Cmp.Lexicographic.{bytes_decides}
 use Rattle.domain_base.specs.Name.{same_name}
 use Rattle.domain_base.specs.Laws.{same_name_same}
-use Rattle.domain_plain.specs.Layout.{canonical_of}
+use Rattle.domain_fields.specs.Layout.{canonical_of}
 use Rattle.domain_rdata.specs.Rdata.{nsec_hashed}
 
 left_true : (a b : Bool) → (a && b) ≡ true → a ≡ true

@@ -12,7 +12,7 @@ use Rattle.domain_bitmap.specs.HashText.{salt_text}
 use Rattle.domain_bitmap.specs.Pieces.{type_pieces, salt_pieces}
 use Rattle.domain_bitmap.specs.Scan.{TypeTexts, RefusesTypes, is_among}
 use Rattle.domain_bitmap.specs.Text.{spaced_types}
-use Rattle.domain_plain.specs.Layout.{Values}
+use Rattle.domain_fields.specs.Layout.{Values}
 use Rattle.domain_keys.specs.Text.{OneToken, Both, RefusesBoth}
 use Rattle.domain_rdata.specs.OptOut.{opt_out_comment}
 use Rattle.domain_rdata.specs.Nsec3paramText.{Nsec3paramText, RefusesNsec3param, hash_numbers_text, number_pieces}

@@ -3,7 +3,7 @@ use Rattle.std.specs.Prelude.{◌≡◌, ℕ, List, []}
 use Rattle.domain_base.specs.Fault.{Fault}
 use Rattle.domain_bitmap.specs.Blocks.{IsBitmap}
 use Rattle.domain_bitmap.specs.Fault.{BitmapFault}
-use Rattle.domain_plain.specs.Layout.{Values, octets_of, Begins, FirstFault}
+use Rattle.domain_fields.specs.Layout.{Values, octets_of, Begins, FirstFault}
 use Rattle.domain_rdata.specs.Rdata.{hash_fields, nsec3}
 
 -- the octets are the parameters, a hash, and then a type bitmap to the end

@@ -6,8 +6,8 @@ use Rattle.domain_base.specs.Scan.{ScanFault, RefusesToken}
 use Rattle.domain_bitmap.specs.HashText.{SaltText, salt_text}
 use Rattle.domain_bitmap.specs.HashScan.{SaltTokenFault}
 use Rattle.domain_bitmap.specs.Pieces.{salt_pieces}
-use Rattle.domain_plain.specs.Layout.{Values}
-use Rattle.domain_plain.specs.Scan.{Scans, Refuses}
+use Rattle.domain_fields.specs.Layout.{Values}
+use Rattle.domain_fields.specs.Scan.{Scans, Refuses}
 use Rattle.domain_keys.specs.Text.{OneToken, Both, RefusesBoth}
 use Rattle.domain_rdata.specs.Rdata.{hash_numbers, nsec3param}
 

@@ -3,8 +3,8 @@ use Rattle.std.specs.Prelude.{◌≡◌, ℕ, List, []}
 use Rattle.domain_base.specs.Fault.{Fault}
 use Rattle.domain_bitmap.specs.Blocks.{IsBitmap}
 use Rattle.domain_bitmap.specs.Fault.{BitmapFault}
-use Rattle.domain_plain.specs.Field.{spelled_name}
-use Rattle.domain_plain.specs.Layout.{Values, one, octets_of, Begins, FirstFault}
+use Rattle.domain_fields.specs.Field.{spelled_name}
+use Rattle.domain_fields.specs.Layout.{Values, one, octets_of, Begins, FirstFault}
 use Rattle.domain_rdata.specs.Rdata.{nsec}
 
 -- the octets are a name, and then a type bitmap to the end

@@ -1,7 +1,7 @@
 -- the fields of record data, in the order of the wire
 use Rattle.std.specs.Prelude.{ℕ, List}
-use Rattle.domain_plain.specs.Field.{octet, short, name, spelled_name, counted, rest}
-use Rattle.domain_plain.specs.Layout.{Layout, one, ◌▸◌, Values, octets_of}
+use Rattle.domain_fields.specs.Field.{octet, short, name, spelled_name, counted, rest}
+use Rattle.domain_fields.specs.Layout.{Layout, one, ◌▸◌, Values, octets_of}
 use Rattle.domain_rdata.specs.declared.nsec.Nsec.{Nsec}
 use Rattle.domain_rdata.specs.declared.nsec3.Nsec3.{Nsec3}
 use Rattle.domain_rdata.specs.declared.nsec3param.Nsec3param.{Nsec3param}

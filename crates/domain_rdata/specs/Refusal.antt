@@ -3,9 +3,9 @@ use Rattle.std.specs.Prelude.{◌≡◌, ℕ, ◌==◌, List, [], length, codes,
 use Rattle.domain_octets.specs.Limit.{IsOver}
 use Rattle.domain_base.specs.Scan.{ScanFault, entry_ends, illegal, no_room, no_memory}
 use Rattle.domain_plain.specs.Generic.{GenericText, GenericFault}
-use Rattle.domain_plain.specs.Layout.{Layout, Values, Begins}
+use Rattle.domain_fields.specs.Layout.{Layout, Values, Begins}
 use Rattle.domain_plain.specs.Plain.{a, ns, soa, mx}
-use Rattle.domain_plain.specs.Scan.{Refuses}
+use Rattle.domain_fields.specs.Scan.{Refuses}
 use Rattle.domain_keys.specs.Data.{dnskey, ds, rrsig}
 use Rattle.domain_keys.specs.Text.{RefusesDnskey, RefusesDs, RefusesRrsig}
 use Rattle.domain_rdata.specs.NsecText.{NsecRefused}

@@ -1,9 +1,9 @@
 -- record data as tokens (RFC 1035, section 5.1)
 use Rattle.std.specs.Prelude.{◌≡◌, ℕ, ◌==◌, ◌||◌, Bool, false, List, [], ◌∷◌}
 use Rattle.domain_plain.specs.Generic.{GenericText, generic_mark}
-use Rattle.domain_plain.specs.Layout.{Begins, Fits}
+use Rattle.domain_fields.specs.Layout.{Begins, Fits}
 use Rattle.domain_plain.specs.Plain.{a, a_values, ns, ns_values, soa, soa_values, mx, mx_values}
-use Rattle.domain_plain.specs.Scan.{Scans}
+use Rattle.domain_fields.specs.Scan.{Scans}
 use Rattle.domain_keys.specs.Data.{dnskey, dnskey_values, ds, ds_values, rrsig, rrsig_values}
 use Rattle.domain_keys.specs.Text.{DnskeyText, DsText, RrsigText}
 use Rattle.domain_rdata.specs.NsecText.{NsecText}

@@ -4,7 +4,7 @@ use Rattle.std.specs.declared.cmp.Ordering.{Ordering}
 use Rattle.std.specs.Ordering.{nat_cmp, on, then_cmp}
 use Rattle.std.specs.Cmp.{IsTotalOrder, on_total, then_total, nat_cmp_total}
 use Rattle.std.specs.Cmp.Lexicographic.{slice_cmp, on_texts}
-use Rattle.domain_plain.specs.Layout.{octets_of, canonical_of}
+use Rattle.domain_fields.specs.Layout.{octets_of, canonical_of}
 use Rattle.domain_plain.specs.Plain.{a, a_values, ns, ns_values, soa, soa_values, mx, mx_values, unknown, unknown_values}
 use Rattle.domain_keys.specs.Data.{dnskey_octets, ds_octets, rrsig_octets, rrsig_canonical}
 use Rattle.domain_rdata.specs.Rdata.{nsec, nsec_values, nsec3_octets, nsec3param_octets}

@@ -1,14 +1,14 @@
 //! The next name and the types at a name.
-ghost use Rattle.std.specs.Prelude.{◌≡◌, IfOk};
+ghost use Rattle.std.specs.Prelude.{◌≡◌};
 ghost use Rattle.std.specs.Ordering.{on, nat_cmp};
 ghost use Rattle.std.specs.Cmp.Lexicographic.{slice_cmp, on_texts};
-ghost use Rattle.domain_plain.specs.Layout.{octets_of, canonical_of};
+ghost use Rattle.domain_fields.specs.Layout.{octets_of, canonical_of};
 ghost use Rattle.domain_rdata.specs.Rdata.{nsec, nsec_values};
 
 use domain_base::{CanonicalOrd, Rtype, ToName};
 use domain_bitmap::RtypeBitmap;
+use domain_fields::{Fields, Keeps, Rest};
 use domain_octets::{AppendError, Octets, OctetsBuilder};
-use domain_plain::fields::{self, Fields, Keeps, Rest};
 use domain_plain::{ComposeRecordData, RecordData};
 use std::cmp::Ordering;
 
@@ -98,7 +98,7 @@ impl<O: Octets, N: ToName> ComposeRecordData for Nsec<O, N> {
     }
 
     fn canonical_cmp_octets(&self, other: &[u8]) -> Ordering {
-        fields::canonical_cmp_octets(&self.fields(), other)
+        domain_fields::canonical_cmp_octets(&self.fields(), other)
     }
 }
 

@@ -2,7 +2,7 @@
 ghost use Rattle.std.specs.Prelude.{◌≡◌};
 ghost use Rattle.std.specs.Ordering.{on, nat_cmp};
 ghost use Rattle.std.specs.Cmp.Lexicographic.{slice_cmp, on_texts};
-ghost use Rattle.domain_plain.specs.Layout.{Fits};
+ghost use Rattle.domain_fields.specs.Layout.{Fits};
 ghost use Rattle.domain_rdata.specs.OptOut.{is_opt_out};
 ghost use Rattle.domain_rdata.specs.Rdata.{hash_numbers, nsec3, nsec3_values, nsec3_octets, nsec3param_values};
 
@@ -10,9 +10,9 @@ use crate::Nsec3param;
 use crate::nsec3param::{HashNumbers, ParamFields, has_opt_out};
 use domain_base::{CanonicalOrd, Nsec3HashAlgorithm, Rtype};
 use domain_bitmap::{Nsec3Salt, OwnerHash, RtypeBitmap};
+use domain_fields::{Counted, Fields, Rest};
 use domain_octets::{AppendError, Octets, OctetsBuilder};
-use domain_plain::fields::{self, Fields, Rest};
-use domain_plain::{ComposeRecordData, Counted, RecordData};
+use domain_plain::{ComposeRecordData, RecordData};
 use std::cmp::Ordering;
 
 /// The next hash of a zone's chain, how names are hashed, and the types at the name that this one is the hash of (RFC 5155, section 3).
@@ -203,7 +203,7 @@ impl<O: Octets> ComposeRecordData for Nsec3<O> {
     }
 
     fn canonical_cmp_octets(&self, other: &[u8]) -> Ordering {
-        fields::canonical_cmp_octets(&self.fields(), other)
+        domain_fields::canonical_cmp_octets(&self.fields(), other)
     }
 }
 

@@ -5,12 +5,12 @@ ghost use Rattle.std.specs.Ordering.{on, nat_cmp};
 ghost use Rattle.std.specs.Cmp.{partial_equiv_from_equiv, po};
 ghost use Rattle.std.specs.Cmp.Lexicographic.{slice_cmp, on_texts, on_texts_equal};
 ghost use Rattle.std.specs.Hash as fed;
-ghost use Rattle.domain_plain.specs.Laws.{fed_alike, tied_octets};
+ghost use Rattle.domain_fields.specs.Laws.{fed_alike, tied_octets};
 ghost use Rattle.domain_rdata.specs.Rdata.{nsec3_values, nsec3_octets};
 
 use crate::Nsec3;
+use domain_fields::Fields;
 use domain_octets::Octets;
-use domain_plain::fields::Fields;
 use std::cmp::Ordering;
 use std::hash::{Hash, Hasher};
 

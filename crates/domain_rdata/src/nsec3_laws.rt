@@ -1,6 +1,6 @@
 //! What holds of the octets and the tokens of hashed names (RFC 5155, sections 3 and 4).
 ghost use Rattle.std.specs.Prelude.{◌≡◌, ℕ, List};
-ghost use Rattle.domain_plain.specs.Layout.{ParsesBack, Values};
+ghost use Rattle.domain_fields.specs.Layout.{ParsesBack, Values};
 ghost use Rattle.domain_rdata.specs.Nsec3paramText.{Nsec3paramText};
 ghost use Rattle.domain_rdata.specs.Nsec3Text.{HashText};
 ghost use Rattle.domain_rdata.specs.Nsec3Wire.{Nsec3ParsesBack};

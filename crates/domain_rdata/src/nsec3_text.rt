@@ -1,11 +1,10 @@
 //! NSEC3 data as text (RFC 5155, section 3.3).
-ghost use Rattle.std.specs.Prelude.{◌≡◌, ◌++◌, Some, codes, IfOk, IfErr, OnOk};
+ghost use Rattle.std.specs.Prelude.{◌≡◌, Some, IfOk, IfErr};
 ghost use Rattle.domain_base.specs.Scan.{scan_fault_of};
-ghost use Rattle.domain_octets.specs.Base32.{base32_upper};
 ghost use Rattle.domain_bitmap.specs.Blocks.{types_of};
 ghost use Rattle.domain_bitmap.specs.Text.{spaced_types};
 ghost use Rattle.domain_rdata.specs.OptOut.{opt_out_comment};
-ghost use Rattle.domain_plain.specs.Layout.{Fits};
+ghost use Rattle.domain_fields.specs.Layout.{Fits};
 ghost use Rattle.domain_rdata.specs.Rdata.{nsec3, nsec3_values, nsec3param_values};
 ghost use Rattle.domain_rdata.specs.Nsec3Text.{HashText, RefusesHash, Nsec3Text, RefusesNsec3, nsec3_text, nsec3_pieces};
 

@@ -1,7 +1,7 @@
 //! NSEC3 data on the wire (RFC 5155, section 3.2).
 ghost use Rattle.std.specs.Prelude.{◌≡◌, IfOk, IfErr, OnErr};
 ghost use Rattle.domain_base.specs.Fault.{fault_of};
-ghost use Rattle.domain_plain.specs.Layout.{Begins, FirstFault, GoesOn};
+ghost use Rattle.domain_fields.specs.Layout.{Begins, FirstFault, GoesOn};
 ghost use Rattle.domain_rdata.specs.Nsec3Wire.{BeginsNsec3, Nsec3Fault};
 ghost use Rattle.domain_rdata.specs.Rdata.{hash_fields, nsec3_values, nsec3param_values};
 
@@ -9,9 +9,9 @@ use crate::nsec3param::{ParamFields, params_of};
 use crate::{Nsec3, Nsec3param};
 use domain_base::Rtype;
 use domain_bitmap::{OwnerHash, RtypeBitmap};
+use domain_fields::{Counted, ReadFields};
 use domain_octets::{ParseError, Parser};
-use domain_plain::read_fields::ReadFields;
-use domain_plain::{Counted, ParseRecordData};
+use domain_plain::ParseRecordData;
 
 /// The hash that was read.
 fn hash_of<'a>(hash: Counted<'a>) -> OwnerHash<&'a [u8]>

@@ -7,8 +7,8 @@ ghost use Rattle.std.specs.Cmp.Lexicographic.{slice_cmp, on_texts, on_texts_equa
 ghost use Rattle.std.specs.Hash as fed;
 ghost use Rattle.domain_octets.specs.Limit.{IsOver};
 ghost use Rattle.domain_base.specs.Fault.{fault_of};
-ghost use Rattle.domain_plain.specs.Layout.{Begins, Fits, FirstFault, GoesOn};
-ghost use Rattle.domain_plain.specs.Laws.{fed_alike, tied_octets};
+ghost use Rattle.domain_fields.specs.Layout.{Begins, Fits, FirstFault, GoesOn};
+ghost use Rattle.domain_fields.specs.Laws.{fed_alike, tied_octets};
 ghost use Rattle.domain_keys.specs.Laws.{copies_tied};
 ghost use Rattle.domain_rdata.specs.OptOut.{is_opt_out, with_opt_out};
 ghost use Rattle.domain_rdata.specs.Rdata.{hash_numbers, nsec3param, nsec3param_values, nsec3param_octets, uncounted, uncounted_octets};
@@ -16,13 +16,12 @@ ghost use Rattle.domain_rdata.specs.Rdata.{hash_numbers, nsec3param, nsec3param_
 use bytes::Bytes;
 use domain_base::{CanonicalOrd, Nsec3HashAlgorithm, Rtype};
 use domain_bitmap::Nsec3Salt;
+use domain_fields::{Counted, Fields, ReadFields, Rest};
 use domain_octets::{
     AppendError, ArrayBuilder, EmptyOctets, Octets, OctetsBuilder, OctetsFrom, OutOfMemory,
     ParseError, Parser, TryClone,
 };
-use domain_plain::fields::{self, Fields, Rest};
-use domain_plain::read_fields::ReadFields;
-use domain_plain::{CloneRecordData, ComposeRecordData, Counted, ParseRecordData, RecordData};
+use domain_plain::{CloneRecordData, ComposeRecordData, ParseRecordData, RecordData};
 use std::alloc::Global;
 use std::cmp::Ordering;
 use std::hash::{Hash, Hasher};
@@ -275,7 +274,7 @@ impl<O: Octets> ComposeRecordData for Nsec3param<O> {
     }
 
     fn canonical_cmp_octets(&self, other: &[u8]) -> Ordering {
-        fields::canonical_cmp_octets(&self.fields(), other)
+        domain_fields::canonical_cmp_octets(&self.fields(), other)
     }
 }
 

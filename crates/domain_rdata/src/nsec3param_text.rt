@@ -1,8 +1,8 @@
 //! The parameters of the hashes of names as text (RFC 5155, section 4.3).
-ghost use Rattle.std.specs.Prelude.{◌≡◌, ◌++◌, Some, codes, IfOk, IfErr, OnOk};
+ghost use Rattle.std.specs.Prelude.{◌≡◌, ◌++◌, Some, IfOk, IfErr, OnOk};
 ghost use Rattle.domain_base.specs.Scan.{scan_fault_of};
-ghost use Rattle.domain_plain.specs.Layout.{Fits};
-ghost use Rattle.domain_plain.specs.Scan.{Scans, Refuses};
+ghost use Rattle.domain_fields.specs.Layout.{Fits};
+ghost use Rattle.domain_fields.specs.Scan.{Scans, Refuses};
 ghost use Rattle.domain_rdata.specs.Rdata.{hash_numbers, nsec3param, nsec3param_values};
 ghost use Rattle.domain_rdata.specs.Nsec3paramText.{Nsec3paramText, RefusesNsec3param, hash_numbers_text, nsec3param_text, number_pieces, nsec3param_pieces};
 
@@ -10,8 +10,8 @@ use crate::Nsec3param;
 use crate::nsec3param::HashNumbers;
 use domain_base::{Nsec3HashAlgorithm, ScanError, Scanner};
 use domain_bitmap::Nsec3Salt;
+use domain_fields::ScanFields;
 use domain_octets::{Formatter, FromBuilder, Octets, OutOfMemory, ZonefileFmt};
-use domain_plain::scan_fields::ScanFields;
 use std::alloc::Global;
 use std::fmt;
 

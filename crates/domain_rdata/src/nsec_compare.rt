@@ -8,15 +8,15 @@ ghost use Rattle.std.specs.Hash as fed;
 ghost use Rattle.domain_base.specs.Name.{same_name};
 ghost use Rattle.domain_base.specs.Order.{canonical_cmp as name_cmp, canonical_cmp_total};
 ghost use Rattle.domain_base.specs.Laws.{same_name_equiv};
-ghost use Rattle.domain_plain.specs.Laws.{ties_of_both};
-ghost use Rattle.domain_plain.specs.Layout.{canonical_of};
+ghost use Rattle.domain_fields.specs.Laws.{ties_of_both};
+ghost use Rattle.domain_fields.specs.Layout.{canonical_of};
 ghost use Rattle.domain_rdata.specs.Rdata.{nsec, nsec_values, nsec_hashed};
 ghost use Rattle.domain_rdata.specs.Laws.{nsec_fed};
 
 use crate::Nsec;
 use domain_base::ToName;
+use domain_fields::{Fields, Lowers, Rest};
 use domain_octets::Octets;
-use domain_plain::fields::{Fields, Lowers, Rest};
 use std::cmp::Ordering;
 use std::hash::{Hash, Hasher};
 

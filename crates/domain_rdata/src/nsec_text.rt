@@ -1,5 +1,5 @@
 //! NSEC data as text.
-ghost use Rattle.std.specs.Prelude.{◌≡◌, ◌++◌, Some, codes, IfOk, IfErr};
+ghost use Rattle.std.specs.Prelude.{◌++◌, Some, codes, IfOk, IfErr};
 ghost use Rattle.domain_base.specs.Scan.{scan_fault_of};
 ghost use Rattle.domain_base.specs.Text.{name_text};
 ghost use Rattle.domain_bitmap.specs.Blocks.{types_of};

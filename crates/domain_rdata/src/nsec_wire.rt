@@ -1,17 +1,17 @@
 //! NSEC data on the wire.
 ghost use Rattle.std.specs.Prelude.{◌≡◌, IfOk, IfErr, OnErr};
 ghost use Rattle.domain_base.specs.Fault.{fault_of};
-ghost use Rattle.domain_plain.specs.Field.{spelled_name};
-ghost use Rattle.domain_plain.specs.Layout.{one, Begins, FirstFault, GoesOn};
+ghost use Rattle.domain_fields.specs.Field.{spelled_name};
+ghost use Rattle.domain_fields.specs.Layout.{one, Begins, FirstFault, GoesOn};
 ghost use Rattle.domain_rdata.specs.NsecWire.{BeginsNsec, NsecFault};
 ghost use Rattle.domain_rdata.specs.Rdata.{nsec_values};
 
 use crate::Nsec;
 use domain_base::{ParsedName, Rtype};
 use domain_bitmap::RtypeBitmap;
+use domain_fields::{ReadFields, Spelled};
 use domain_octets::{ParseError, Parser};
 use domain_plain::ParseRecordData;
-use domain_plain::read_fields::{ReadFields, Spelled};
 
 /// The name that the octets begin with.
 fn parse_name<'a>(parser: &mut Parser<'a>) -> Result<ParsedName<'a>, ParseError>

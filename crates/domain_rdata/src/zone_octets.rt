@@ -1,7 +1,7 @@
 //! Data of all types from the octets of their generic form.
 ghost use Rattle.std.specs.Prelude.{◌≡◌, [], Some, None, IfOk, IfErr};
 ghost use Rattle.domain_base.specs.Scan.{scan_fault_of};
-ghost use Rattle.domain_plain.specs.Layout.{Begins};
+ghost use Rattle.domain_fields.specs.Layout.{Begins};
 ghost use Rattle.domain_plain.specs.Plain.{a, a_values, ns, ns_values, soa, soa_values, mx, mx_values};
 ghost use Rattle.domain_keys.specs.Data.{dnskey, dnskey_values, ds, ds_values, rrsig, rrsig_values};
 ghost use Rattle.domain_rdata.specs.NsecWire.{BeginsNsec};

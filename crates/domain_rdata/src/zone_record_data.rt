@@ -63,7 +63,7 @@ impl<O: Octets, N: ToName> ZoneRecordData<O, N> {
     ghost use Rattle.domain_rdata.specs.Zone.{rtype_of, canonical_octets};
 
     /// The order of the canonical octets of data of one type.
-    #[tactic(auto, using(crate::proofs::ZoneLemmas::turned), unfolding(domain_plain::specs::Layout::octets_of))]
+    #[tactic(auto, using(crate::proofs::ZoneLemmas::turned), unfolding(domain_fields::specs::Layout::octets_of))]
     fn same_type_cmp(&self, other: &Self) -> Ordering
         requires { rtype_of self.now ≡ rtype_of other.now }
         ensures { result ≡ slice_cmp nat_cmp (canonical_octets O.octets N.labels self.now) (canonical_octets O.octets N.labels other.now) }

@@ -1,7 +1,7 @@
 use Rattle.std.proofs.Common.{subst, ◌∙◌, ap}
 use Rattle.domain_base.specs.Name.{IsName}
 use Rattle.domain_bitmap.specs.Blocks.{IsBitmap}
-use Rattle.domain_plain.proofs.NameLemmas.{name_fits}
+use Rattle.domain_fields.proofs.NameLemmas.{name_fits}
 use Rattle.domain_rdata.proofs.NsecLemmas.{nsec_back}
 use Rattle.domain_rdata.specs.Rdata.{nsec_values}
 use Rattle.domain_rdata.proofs.nsec_laws.nsec_parses_back.Goals as goal

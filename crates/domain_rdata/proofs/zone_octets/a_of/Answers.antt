@@ -1,6 +1,6 @@
 use Rattle.std.proofs.Common.{◌<◌, length, refl, subst, arith}
 use Rattle.std.proofs.lemmas.Grind.{common_steps}
-use Rattle.domain_plain.specs.Layout.{Begins}
+use Rattle.domain_fields.specs.Layout.{Begins}
 use Rattle.domain_plain.specs.Plain.{a, a_values}
 use Rattle.domain_rdata.proofs.OctetsLemmas.{longer}
 use Rattle.domain_rdata.proofs.zone_octets.a_of.Goals as goal

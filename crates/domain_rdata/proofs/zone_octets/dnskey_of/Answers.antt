@@ -1,7 +1,7 @@
 use Rattle.std.proofs.Common.{[], arith}
 use Rattle.std.proofs.lemmas.Grind.{common_steps}
 use Rattle.std.proofs.lemmas.Result.{err_from_is_err_and}
-use Rattle.domain_plain.specs.Layout.{Begins}
+use Rattle.domain_fields.specs.Layout.{Begins}
 use Rattle.domain_keys.specs.Data.{dnskey, dnskey_values}
 use Rattle.domain_rdata.specs.Refusal.{of_key}
 use Rattle.domain_rdata.proofs.OctetsLemmas.{fits_again, not_copied}

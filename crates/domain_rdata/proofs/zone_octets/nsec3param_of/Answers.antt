@@ -1,6 +1,6 @@
 use Rattle.std.proofs.Common.{◌<◌, [], length, refl, subst, arith}
 use Rattle.std.proofs.lemmas.Grind.{common_steps}
-use Rattle.domain_plain.specs.Layout.{Begins}
+use Rattle.domain_fields.specs.Layout.{Begins}
 use Rattle.domain_rdata.specs.Rdata.{nsec3param, nsec3param_values}
 use Rattle.domain_rdata.specs.Refusal.{salt}
 use Rattle.domain_rdata.proofs.OctetsLemmas.{longer, none_copied}

@@ -2,7 +2,7 @@ use Rattle.std.proofs.Common.{◌≡◌, ap, ◌∙◌, rules}
 use Rattle.std.specs.Ordering.{is_eq, nat_cmp}
 use Rattle.std.specs.Cmp.Lexicographic.{slice_cmp}
 use Rattle.std.specs.Prelude.{bytes_eq}
-use Rattle.domain_plain.proofs.OrderLemmas.{tied}
+use Rattle.domain_fields.proofs.OrderLemmas.{tied}
 use Rattle.domain_keys.specs.Data.{ds_octets}
 use Rattle.domain_keys.proofs.DataLemmas.{same_ds}
 use Rattle.domain_keys.proofs.ds.Ds.eq_to.Goals as goal

@@ -1,7 +1,7 @@
 use Rattle.std.proofs.Common.{◌≡◌, ap, ◌∙◌}
 use Rattle.std.specs.Ordering.{is_eq}
 use Rattle.std.specs.Prelude.{bytes_eq}
-use Rattle.domain_plain.proofs.OrderLemmas.{tied}
+use Rattle.domain_fields.proofs.OrderLemmas.{tied}
 use Rattle.domain_keys.specs.Data.{rrsig_canonical}
 use Rattle.domain_keys.proofs.RrsigLemmas.{same_rrsig}
 use Rattle.domain_keys.proofs.rrsig.Rrsig.eq_to.Goals as goal

@@ -3,7 +3,7 @@ use Rattle.std.proofs.lemmas.Grind.{common_steps}
 use Rattle.std.specs.Ordering.{ordering_then, nat_cmp}
 use Rattle.std.specs.Cmp.Lexicographic.{slice_cmp}
 use Rattle.domain_base.specs.Name.{wire_of, lowered}
-use Rattle.domain_plain.specs.Layout.{canonical_order, Fits}
+use Rattle.domain_fields.specs.Layout.{canonical_order, Fits}
 use Rattle.domain_keys.specs.Data.{proto_rrsig, proto_rrsig_values, rrsig_numbers, rrsig_numbers_values}
 use Rattle.domain_keys.proofs.RrsigLemmas.{rrsig_order}
 use Rattle.domain_keys.proofs.rrsig.Rrsig.order_to.Goals as goal

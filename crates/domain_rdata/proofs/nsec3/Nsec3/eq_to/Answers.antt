@@ -2,7 +2,7 @@ use Rattle.std.proofs.Common.{◌≡◌, ap, ◌∙◌, rules}
 use Rattle.std.specs.Ordering.{is_eq, nat_cmp}
 use Rattle.std.specs.Cmp.Lexicographic.{slice_cmp}
 use Rattle.std.specs.Prelude.{bytes_eq}
-use Rattle.domain_plain.proofs.OrderLemmas.{tied}
+use Rattle.domain_fields.proofs.OrderLemmas.{tied}
 use Rattle.domain_rdata.specs.Rdata.{nsec3_values, nsec3_octets}
 use Rattle.domain_rdata.proofs.Nsec3Lemmas.{same_nsec3}
 use Rattle.domain_rdata.proofs.nsec3.Nsec3.eq_to.Goals as goal

@@ -1,6 +1,6 @@
 use Rattle.std.proofs.Common.{refl, sym, subst}
 use Rattle.domain_rdata.specs.Nsec3Wire.{BeginsNsec3}
-use Rattle.domain_plain.specs.Layout.{Values}
+use Rattle.domain_fields.specs.Layout.{Values}
 use Rattle.domain_rdata.specs.Rdata.{hash_fields, nsec3param_values}
 use Rattle.domain_rdata.proofs.Nsec3Lemmas.{fields_then_types, fields_then_fault}
 use Rattle.domain_rdata.proofs.nsec3_wire.Nsec3+ref+slice+u8.parse.Goals as goal

@@ -2,7 +2,7 @@ use Rattle.std.proofs.Common.{◌≡◌, ap, ◌∙◌, rules}
 use Rattle.std.specs.Ordering.{is_eq, nat_cmp}
 use Rattle.std.specs.Cmp.Lexicographic.{slice_cmp}
 use Rattle.std.specs.Prelude.{bytes_eq}
-use Rattle.domain_plain.proofs.OrderLemmas.{tied}
+use Rattle.domain_fields.proofs.OrderLemmas.{tied}
 use Rattle.domain_rdata.specs.Rdata.{nsec3param_values, uncounted_octets}
 use Rattle.domain_rdata.proofs.Nsec3Lemmas.{same_params}
 use Rattle.domain_rdata.proofs.nsec3param.Nsec3param.eq_to.Goals as goal

@@ -1,0 +1,82 @@
+-- what is read is determined by the octets
+use Rattle.std.proofs.Common.{◌≡◌, ℕ, true, List, [], ◌++◌, length, refl, sym, ap, ◌∙◌, arith, length-append, append_assoc, append-nil}
+use Rattle.std.specs.Prelude.{◌&&◌}
+use Rattle.std.specs.Cmp.{first_so, second_so}
+use Rattle.domain_base.specs.Fault.{Fault}
+use Rattle.domain_base.proofs.FaultLemmas.{no_name_fault}
+use Rattle.domain_fields.specs.Field.{Field, octet, short, long, name, spelled_name, counted, exactly, at_most, rest, Value, field_octets, FieldFits, FieldEnds, FieldFault, cut_octet, cut_short, cut_long, no_name, no_spelled_name, no_count, cut_counted, cut_exactly, too_long}
+use Rattle.domain_fields.specs.Layout.{Layout, one, ◌▸◌, Values, octets_of, Fits, Ends, Begins, ParsesBack, is_delimited, splits, FirstFault, in_field, in_first, in_later}
+use Rattle.domain_fields.proofs.OrderLemmas.{Same, same_field, same_data}
+
+last_field : (f : Field) (v w : Value f) (r s : List ℕ) → FieldFits f v → FieldFits f w → FieldEnds f r → FieldEnds f s → field_octets f v ++ r ≡ field_octets f w ++ s → Same v w r s
+last_field octet v w r s fv fw er es e = same_field octet v w r s refl fv fw e
+last_field short v w r s fv fw er es e = same_field short v w r s refl fv fw e
+last_field long v w r s fv fw er es e = same_field long v w r s refl fv fw e
+last_field name v w r s fv fw er es e = same_field name v w r s refl fv fw e
+last_field spelled_name v w r s fv fw er es e = same_field spelled_name v w r s refl fv fw e
+last_field counted v w r s fv fw er es e = same_field counted v w r s refl fv fw e
+last_field (exactly count) v w r s fv fw er es e = same_field (exactly count) v w r s refl fv fw e
+last_field (at_most limit) v w r s fv fw er es e = same_field (at_most limit) v w r s refl fv fw e
+last_field rest v w r s fv fw er es e =
+    record { values = sym (append-nil v) ∙ ap (λ t. v ++ t) (sym er) ∙ e ∙ ap (λ t. w ++ t) es ∙ append-nil w; after = er ∙ sym es }
+
+same_whole : (l : Layout) (v w : Values l) (r s : List ℕ) → splits l ≡ true → Fits l v → Fits l w → Ends l v r → Ends l w s → octets_of l v ++ r ≡ octets_of l w ++ s → Same v w r s
+unfolding octets_of
+same_whole (one f) v w r s d fv fw er es e = last_field f v w r s fv fw er es e
+same_whole (a ▸ b) v w r s d fv fw er es e =
+    let first = same_data a v.0 w.0 (octets_of b v.1 ++ r) (octets_of b w.1 ++ s) (first_so (is_delimited a) (splits b) d) fv.0 fw.0
+    (sym (append_assoc (octets_of a v.0) (octets_of b v.1) r) ∙ e ∙ append_assoc (octets_of a w.0) (octets_of b w.1) s) in
+    let second = same_whole b v.1 w.1 r s (second_so (is_delimited a) (splits b) d) fv.1 fw.1 er.1 es.1 first.after in
+    record { values = λ i. (first.values i, second.values i); after = second.after }
+
+-- octets begin with one value of a layout at most
+pub one_reading : (l : Layout) (octets : List ℕ) (v w : Values l) (r s : List ℕ) → splits l ≡ true → Begins l octets v r → Begins l octets w s → (v ≡ w) × (r ≡ s)
+one_reading l octets v w r s d x y =
+    let same = same_whole l v w r s d x.fits y.fits x.ends y.ends (sym x.parts ∙ y.parts) in
+    (same.values, same.after)
+
+field_excludes : (f : Field) (octets : List ℕ) (fault : Fault) → FieldFault f octets fault → (v : Value f) (r : List ℕ) → FieldFits f v → FieldEnds f r → octets ≡ field_octets f v ++ r → ⊥
+field_excludes f octets fault (cut_octet o d cut) v r fits ends e = omega (arith, cut.short, ap length e)
+field_excludes f octets fault (cut_short o d cut) v r fits ends e = omega (arith, cut.short, ap length e)
+field_excludes f octets fault (cut_long o d cut) v r fits ends e = omega (arith, cut.short, ap length e)
+field_excludes f octets fault (no_name o d h) v r fits ends e = no_name_fault o d h v r fits e
+field_excludes f octets fault (no_spelled_name o d h) v r fits ends e = no_name_fault o d h v r fits e
+field_excludes f octets fault no_count v r fits ends e = cc
+field_excludes f octets fault (cut_counted count tail cut) v r fits ends e =
+    let n : count ≡ length v = cc in omega (arith, cut, ap length e, length-append v r)
+field_excludes f octets fault (cut_exactly count o d cut) v r fits ends e = omega (arith, cut.short, ap length e, length-append v r, fits)
+field_excludes f octets fault (too_long limit o d h) v r fits ends e = omega (arith, h.long, ends, ap length e)
+
+-- data of which one can tell where they end
+pub delimited_splits : (l : Layout) → is_delimited l ≡ true → splits l ≡ true
+delimited_splits (one f) d = refl
+delimited_splits (a ▸ b) d =
+    let first = first_so (is_delimited a) (is_delimited b) d in
+    let second = delimited_splits b (second_so (is_delimited a) (is_delimited b) d) in
+    λ i. first i && second i
+
+-- octets with a fault begin with no value
+pub fault_excludes : (l : Layout) (octets : List ℕ) (fault : Fault) → FirstFault l octets fault → splits l ≡ true → (v : Values l) (r : List ℕ) → Begins l octets v r → ⊥
+unfolding octets_of
+fault_excludes l octets fault (in_field f o d h) sp v r begins = field_excludes f o d h v r begins.fits begins.ends begins.parts
+fault_excludes l octets fault (in_first a b o d h) sp v r begins =
+    fault_excludes a o d h (delimited_splits a (first_so (is_delimited a) (splits b) sp)) v.0 (octets_of b v.1 ++ r) (record {
+      parts = begins.parts ∙ append_assoc (octets_of a v.0) (octets_of b v.1) r;
+      fits = begins.fits.0;
+      ends = begins.ends.0;
+    })
+fault_excludes l octets fault (in_later a b o w m d front h) sp v r begins =
+    let same = same_data a v.0 w (octets_of b v.1 ++ r) m (first_so (is_delimited a) (splits b) sp) begins.fits.0 front.fits
+    (sym (append_assoc (octets_of a v.0) (octets_of b v.1) r) ∙ sym begins.parts ∙ front.parts) in
+    fault_excludes b m d h (second_so (is_delimited a) (splits b) sp) v.1 r (record { parts = sym same.after; fits = begins.fits.1; ends = begins.ends.1 })
+
+pub begins_alone : (l : Layout) (v : Values l) → Fits l v → Ends l v [] → Begins l (octets_of l v) v []
+begins_alone l v fits ends = record { parts = sym (append-nil (octets_of l v)); fits = fits; ends = ends }
+
+-- composed data parse back
+pub parses_back : (l : Layout) (v : Values l) → splits l ≡ true → Fits l v → Ends l v [] → ParsesBack l v
+parses_back l v split fits ends = record {
+  begins = begins_alone l v fits ends;
+  alone = λ w r read. one_reading l (octets_of l v) w v r [] split read (begins_alone l v fits ends);
+  no_fault = λ fault found. fault_excludes l (octets_of l v) fault found split v [] (begins_alone l v fits ends);
+}

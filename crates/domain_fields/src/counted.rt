@@ -1,0 +1,91 @@
+//! Octets that are counted.
+ghost use Rattle.std.specs.Prelude.{◌≡◌, ◌≤◌, refl, length};
+ghost use Rattle.domain_fields.specs.Field.{counted};
+ghost use Rattle.domain_fields.specs.Layout.{one};
+
+use crate::fields::{Delimited, Fields, Rest};
+use domain_octets::{AppendError, OctetsBuilder};
+use std::cmp::Ordering;
+use std::hash::Hasher;
+
+/// At most 255 octets, after an octet that counts them.
+#[derive(Drop)]
+pub struct Counted<'a> {
+    octets: &'a [u8],
+    ghost fits: { length octets.now ≤ 255 },
+}
+
+impl<'a> Counted<'a> {
+    /// These octets, and their count before them.
+    pub fn new(octets: &'a [u8]) -> Self
+        requires { length octets.now ≤ 255 }
+        ensures { result.octets.now ≡ octets.now }
+    {
+        Counted { octets }
+    }
+
+    /// The octets, without the count.
+    pub fn as_slice(&self) -> &'a [u8]
+        ensures octets { result.now ≡ self.now.octets.now }
+        ensures fits { length result.now ≤ 255 }
+    {
+        self.octets
+    }
+
+    /// The count and the octets, which are written, compared and hashed as these two fields.
+    fn parts(&self) -> (u8, Rest<'a>)
+        ensures { (result.0 ≡ length self.now.octets.now) × (result.1.0.now ≡ self.now.octets.now) }
+    {
+        (self.octets.len() as u8, Rest(self.octets))
+    }
+}
+
+impl<'a> Fields for Counted<'a> {
+    ghost layout = { one counted };
+
+    ghost values = { λ n. n.octets.now };
+
+    #[tactic(auto, unfolding(crate::specs::Layout::octets_of))]
+    fn count(&self) -> u16 {
+        self.parts().count()
+    }
+
+    #[tactic(auto, unfolding(crate::specs::Layout::octets_of))]
+    fn room_after(&self, limit: usize) -> Option<usize> {
+        self.parts().room_after(limit)
+    }
+
+    #[tactic(auto, unfolding(crate::specs::Layout::octets_of))]
+    fn put<B: OctetsBuilder>(&self, target: &mut B) -> Result<(), AppendError> {
+        self.parts().put(target)
+    }
+
+    #[tactic(auto, unfolding(crate::specs::Layout::octets_of))]
+    fn put_canonical<B: OctetsBuilder>(&self, target: &mut B) -> Result<(), AppendError> {
+        self.parts().put_canonical(target)
+    }
+
+    #[tactic(auto, unfolding(crate::specs::Layout::octets_of))]
+    fn order(&self, other: &Self) -> Ordering {
+        self.parts().order(&other.parts())
+    }
+
+    #[tactic(auto, unfolding(crate::specs::Layout::octets_of))]
+    fn order_from<'o>(&self, octets: &'o [u8]) -> (Ordering, &'o [u8]) {
+        self.parts().order_from(octets)
+    }
+
+    #[tactic(auto, unfolding(crate::specs::Layout::octets_of))]
+    fn feed<H: Hasher>(&self, state: &mut H) {
+        self.parts().feed(state);
+    }
+}
+
+impl<'a> Delimited for Counted<'a> {
+    ghost delimited = { refl };
+
+    fn front_order(&self, other: &Self) -> Ordering {
+        let (_a, _b) = (self.as_slice(), other.as_slice());
+        self.order(other)
+    }
+}

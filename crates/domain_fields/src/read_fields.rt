@@ -1,0 +1,179 @@
+//! The fields of record data, read from octets.
+ghost use Rattle.std.specs.Prelude.{◌≡◌, IfOk, IfErr, OnErr};
+ghost use Rattle.domain_fields.specs.WireFault.{wire_fault_of};
+ghost use Rattle.domain_fields.specs.Field.{octet, short, long, name, spelled_name, counted, exactly, at_most, rest};
+ghost use Rattle.domain_fields.specs.Layout.{Layout, one, ◌▸◌, Values, Begins, FirstFault, GoesOn};
+
+use crate::WireFault;
+use crate::counted::Counted;
+use crate::fields::{AtMost, Exactly, Rest};
+use domain_base::ParsedName;
+use domain_octets::Parser;
+
+/// Fields that are read from octets, in the order of the wire.
+pub trait ReadFields<'a>: Drop {
+    /// The kinds of the fields.
+    ghost layout: { Layout };
+
+    /// Their values.
+    ghost values: { Self → Values layout };
+
+    /// Reads the fields that the octets begin with; what follows them is left. Refuses with the first fault in field
+    /// order, and the parser then stands where it stood. Takes no memory.
+    fn read(parser: &mut Parser<'a>) -> Result<Self, WireFault>
+    where
+        Self: Sized,
+        ensures ok { IfOk result (λ fields. Begins layout parser.old.left (values fields) parser.new.left) }
+        ensures err { IfErr result (λ e. FirstFault layout parser.old.left (wire_fault_of e)) }
+        ensures unmoved { OnErr result (parser.new ≡ parser.old) }
+        ensures goes_on { GoesOn parser.old parser.new };
+}
+
+/// A name that the canonical form keeps. One that it lowers is a `ParsedName` alone.
+#[derive(Drop)]
+pub struct Spelled<N>(pub N);
+
+impl<'a> ReadFields<'a> for u8 {
+    ghost layout = { one octet };
+
+    ghost values = { λ n. n };
+
+    #[tactic(auto, using(crate::proofs::ReadLemmas::reading), unfolding(crate::specs::Layout::octets_of))]
+    fn read(parser: &mut Parser<'a>) -> Result<u8, WireFault> {
+        match parser.parse_u8() {
+            Ok(n) => Ok(n),
+            Err(_) => Err(WireFault::ShortInput),
+        }
+    }
+}
+
+impl<'a> ReadFields<'a> for u16 {
+    ghost layout = { one short };
+
+    ghost values = { λ n. n };
+
+    #[tactic(auto, using(crate::proofs::ReadLemmas::reading), unfolding(crate::specs::Layout::octets_of))]
+    fn read(parser: &mut Parser<'a>) -> Result<u16, WireFault> {
+        match parser.parse_u16() {
+            Ok(n) => Ok(n),
+            Err(_) => Err(WireFault::ShortInput),
+        }
+    }
+}
+
+impl<'a> ReadFields<'a> for u32 {
+    ghost layout = { one long };
+
+    ghost values = { λ n. n };
+
+    #[tactic(auto, using(crate::proofs::ReadLemmas::reading), unfolding(crate::specs::Layout::octets_of))]
+    fn read(parser: &mut Parser<'a>) -> Result<u32, WireFault> {
+        match parser.parse_u32() {
+            Ok(n) => Ok(n),
+            Err(_) => Err(WireFault::ShortInput),
+        }
+    }
+}
+
+impl<'a> ReadFields<'a> for ParsedName<'a> {
+    ghost layout = { one name };
+
+    ghost values = { λ n. n };
+
+    #[tactic(auto, using(crate::proofs::ReadLemmas::reading), unfolding(crate::specs::Layout::octets_of))]
+    fn read(parser: &mut Parser<'a>) -> Result<ParsedName<'a>, WireFault> {
+        Ok(ParsedName::read(parser)?)
+    }
+}
+
+impl<'a> ReadFields<'a> for Spelled<ParsedName<'a>> {
+    ghost layout = { one spelled_name };
+
+    ghost values = { λ n. n.0 };
+
+    #[tactic(auto, using(crate::proofs::ReadLemmas::reading), unfolding(crate::specs::Layout::octets_of))]
+    fn read(parser: &mut Parser<'a>) -> Result<Spelled<ParsedName<'a>>, WireFault> {
+        Ok(Spelled(ParsedName::read(parser)?))
+    }
+}
+
+impl<'a, const COUNT: usize> ReadFields<'a> for Exactly<COUNT> {
+    ghost layout = { one (exactly COUNT) };
+
+    ghost values = { λ n. n.0 };
+
+    #[tactic(auto, using(crate::proofs::ReadLemmas::reading), unfolding(crate::specs::Layout::octets_of))]
+    fn read(parser: &mut Parser<'a>) -> Result<Exactly<COUNT>, WireFault> {
+        match parser.parse_octets(COUNT) {
+            Ok(octets) => {
+                let mut array = [0; COUNT];
+                array.copy_from_slice(octets);
+                Ok(Exactly(array))
+            }
+            Err(_) => Err(WireFault::ShortInput),
+        }
+    }
+}
+
+impl<'a> ReadFields<'a> for Counted<'a> {
+    ghost layout = { one counted };
+
+    ghost values = { λ n. n.octets.now };
+
+    #[tactic(auto, using(crate::proofs::ReadLemmas::reading), unfolding(crate::specs::Layout::octets_of))]
+    fn read(parser: &mut Parser<'a>) -> Result<Counted<'a>, WireFault> {
+        let mut ahead = parser.fork();
+        let Ok(count) = ahead.parse_u8() else {
+            return Err(WireFault::ShortInput);
+        };
+        match ahead.parse_octets(usize::from(count)) {
+            Ok(octets) => {
+                *parser = ahead;
+                Ok(Counted::new(octets))
+            }
+            Err(_) => Err(WireFault::ShortInput),
+        }
+    }
+}
+
+impl<'a, const LIMIT: usize> ReadFields<'a> for AtMost<LIMIT> {
+    ghost layout = { one (at_most LIMIT) };
+
+    ghost values = { λ n. tt };
+
+    #[tactic(auto, using(crate::proofs::ReadLemmas::reading), unfolding(crate::specs::Layout::octets_of))]
+    fn read(parser: &mut Parser<'a>) -> Result<AtMost<LIMIT>, WireFault> {
+        if parser.remaining() > LIMIT {
+            return Err(WireFault::LongData);
+        }
+        Ok(AtMost)
+    }
+}
+
+impl<'a> ReadFields<'a> for Rest<'a> {
+    ghost layout = { one rest };
+
+    ghost values = { λ n. n.0.now };
+
+    #[tactic(auto, using(crate::proofs::ReadLemmas::reading), unfolding(crate::specs::Layout::octets_of))]
+    fn read(parser: &mut Parser<'a>) -> Result<Rest<'a>, WireFault> {
+        let octets = parser.peek_all();
+        parser.advance(octets.len());
+        Ok(Rest(octets))
+    }
+}
+
+impl<'a, A: ReadFields<'a>, B: ReadFields<'a>> ReadFields<'a> for (A, B) {
+    ghost layout = { A.layout ▸ B.layout };
+
+    ghost values = { λ p. (A.values p.0, B.values p.1) };
+
+    #[tactic(auto, using(crate::proofs::ReadLemmas::pairs))]
+    fn read(parser: &mut Parser<'a>) -> Result<(A, B), WireFault> {
+        let mut ahead = parser.fork();
+        let first = A::read(&mut ahead)?;
+        let second = B::read(&mut ahead)?;
+        *parser = ahead;
+        Ok((first, second))
+    }
+}

@@ -1,0 +1,47 @@
+//! Why octets are no data.
+ghost use Rattle.std.specs.Prelude.{◌≡◌};
+ghost use Rattle.domain_base.specs.Fault.{fault_of, name_fault_of};
+
+use domain_base::{NameError, ParseError};
+
+/// The first fault of octets that are to begin with fields: a `ParseError` without its text.
+#[derive(Clone, Copy, Debug, PartialEq, Eq)]
+pub enum WireFault {
+    /// The octets end within a field.
+    ShortInput,
+    /// A label has over 63 octets, or is a pointer to another place in a message.
+    BadLabel,
+    /// A name has over 255 octets.
+    LongName,
+    /// There are more octets than the data may have.
+    LongData,
+}
+
+impl From<NameError> for WireFault {
+    ghost use Rattle.domain_fields.specs.WireFault.{wire_fault_of};
+
+    ghost from_gives = { λ n w. wire_fault_of w ≡ name_fault_of n };
+
+    fn from(error: NameError) -> WireFault {
+        match error {
+            NameError::ShortInput => WireFault::ShortInput,
+            NameError::BadLabel => WireFault::BadLabel,
+            NameError::LongName => WireFault::LongName,
+        }
+    }
+}
+
+impl From<WireFault> for ParseError {
+    ghost use Rattle.domain_fields.specs.WireFault.{wire_fault_of};
+
+    ghost from_gives = { λ w e. fault_of e ≡ wire_fault_of w };
+
+    fn from(fault: WireFault) -> ParseError {
+        match fault {
+            WireFault::ShortInput => ParseError::ShortInput,
+            WireFault::BadLabel => ParseError::Form("compressed or bad label"),
+            WireFault::LongName => ParseError::Form("long domain name"),
+            WireFault::LongData => ParseError::Form("record data too long"),
+        }
+    }
+}

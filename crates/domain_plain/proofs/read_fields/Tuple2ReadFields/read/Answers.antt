@@ -1,5 +1,0 @@
-use Rattle.domain_plain.proofs.ReadLemmas.{begins_both}
-use Rattle.domain_plain.proofs.read_fields.Tuple2ReadFields.read.Goals as goal
-
-pub returns-clause-ok : goal.returns-clause-ok
-returns-clause-ok g c = rw (← c.fork-ahead.ensures) (begins_both _ _ _ _ _ _ _ c.in_ok-first.ensures.ok c.in_ok-second.ensures.ok)
