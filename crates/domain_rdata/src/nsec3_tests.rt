@@ -68,32 +68,40 @@ fn cut_octets(rt: HostRuntime) -> Result<(), Fail> {
 }
 
 #[test]
-fn data_in_text(rt: HostRuntime) -> Result<(), Fail> {
-    let alloc = rt.alloc();
-    let scanned = Nsec3::scan(alloc, &mut IterScanner::<Vec<u8>>::new(TOKENS))?;
+fn nsec3_in_text(rt: HostRuntime) -> Result<(), Fail> {
+    let scanned = Nsec3::scan(rt.alloc(), &mut IterScanner::<Vec<u8>>::new(TOKENS))?;
     assert!(rt; scanned.eq_to(&nsec3(b"bar")?));
-    let text = "1 10 11 626172 CPNMU A SRV";
-    assert_eq!(rt; format!(in alloc; "{scanned}")?.as_str(), text);
-    let simple = scanned.display_zonefile(alloc, DisplayKind::Simple)?;
-    assert_eq!(rt; simple.as_str(), text);
+    let shown = format!(in rt.alloc(); "{scanned}")?;
+    assert_eq!(rt; shown.as_str(), "1 10 11 626172 CPNMU A SRV");
+    let simple = scanned.display_zonefile(rt.alloc(), DisplayKind::Simple)?;
+    assert_eq!(rt; simple.as_str(), "1 10 11 626172 CPNMU A SRV");
+    Ok(())
+}
+
+#[test]
+fn nsec3_without_salt_and_types_in_text(rt: HostRuntime) -> Result<(), Fail> {
     let tokens = ["1", "10", "11", "-", "cpnmu"];
-    let empty = Nsec3::scan(alloc, &mut IterScanner::<Vec<u8>>::new(&tokens))?;
-    assert_eq!(rt; format!(in alloc; "{empty}")?.as_str(), "1 10 11 - CPNMU");
+    let empty = Nsec3::scan(rt.alloc(), &mut IterScanner::<Vec<u8>>::new(&tokens))?;
+    let shown = format!(in rt.alloc(); "{empty}|{empty:?}")?;
+    assert_eq!(rt;
+        shown.as_str(),
+        "1 10 11 - CPNMU|Nsec3 { hash_algorithm: Nsec3HashAlgorithm(1), flags: 10, iterations: 11, salt: Nsec3Salt(-), next_owner: OwnerHash(CPNMU), types: RtypeBitmap() }"
+    );
+    Ok(())
+}
+
+#[test]
+fn params_in_text(rt: HostRuntime) -> Result<(), Fail> {
     let mut scanner = IterScanner::<Vec<u8>>::new(TOKENS);
-    let scanned = Nsec3param::scan(alloc, &mut scanner)?;
+    let scanned = Nsec3param::scan(rt.alloc(), &mut scanner)?;
     assert!(rt; scanned.eq_to(&params(b"bar")?));
     assert_eq!(rt; scanner.first_token(), Some("CPNMU"));
-    let simple = scanned.display_zonefile(alloc, DisplayKind::Simple)?;
+    let simple = scanned.display_zonefile(rt.alloc(), DisplayKind::Simple)?;
     assert_eq!(rt; simple.as_str(), "1 10 11 626172");
-    let shown = format!(in alloc; "{scanned} {scanned:?}")?;
+    let shown = format!(in rt.alloc(); "{scanned:?}")?;
     assert_eq!(rt;
         shown.as_str(),
-        "1 10 11 626172 Nsec3param { hash_algorithm: Nsec3HashAlgorithm(1), flags: 10, iterations: 11, salt: Nsec3Salt(626172) }"
-    );
-    let shown = format!(in alloc; "{empty:?}")?;
-    assert_eq!(rt;
-        shown.as_str(),
-        "Nsec3 { hash_algorithm: Nsec3HashAlgorithm(1), flags: 10, iterations: 11, salt: Nsec3Salt(-), next_owner: OwnerHash(CPNMU), types: RtypeBitmap() }"
+        "Nsec3param { hash_algorithm: Nsec3HashAlgorithm(1), flags: 10, iterations: 11, salt: Nsec3Salt(626172) }"
     );
     Ok(())
 }
@@ -162,27 +170,52 @@ fn flags_and_defaults(rt: HostRuntime) -> Result<(), Fail> {
 }
 
 #[test]
-fn data_held_otherwise(rt: HostRuntime) -> Result<(), Fail> {
-    let alloc = rt.alloc();
-    let (made, params) = (nsec3(b"bar")?, params(b"bar")?);
-    let owned = Nsec3::<Vec<u8>>::try_octets_from(alloc, made.clone()?)?;
-    let shared = Nsec3::<Bytes>::try_octets_from(alloc, owned.clone()?)?;
+fn nsec3_over_other_octets(rt: HostRuntime) -> Result<(), Fail> {
+    let made = nsec3(b"bar")?;
+    let owned = Nsec3::<Vec<u8>>::try_octets_from(rt.alloc(), made.clone()?)?;
+    let shared = Nsec3::<Bytes>::try_octets_from(rt.alloc(), owned)?;
     assert!(rt; shared.eq_to(&made) && !shared.opt_out());
-    let none = Nsec3::<ArrayBuilder<6>>::try_octets_from(alloc, made).err();
+    let none = Nsec3::<ArrayBuilder<6>>::try_octets_from(rt.alloc(), made).err();
     assert_eq!(rt; none, Some(AppendError::ShortBuf));
-    let mut counts = HashMap::new(alloc);
+    Ok(())
+}
+
+#[test]
+fn nsec3_in_a_map(rt: HostRuntime) -> Result<(), Fail> {
+    let owned = Nsec3::<Vec<u8>>::try_octets_from(rt.alloc(), nsec3(b"bar")?)?;
+    let mut counts = HashMap::new(rt.alloc());
     counts.insert(owned.clone()?, 1u8)?;
     assert_eq!(rt; counts.get(&owned).copied(), Some(1));
-    let mut changed = shared.clone()?;
-    changed.set_next_owner(OwnerHash::from_bytes(Bytes::copy_from_slice(alloc, b"fop")?)?);
-    changed.set_types(RtypeBitmap::from_octets(Bytes::copy_from_slice(alloc, b"")?)?);
-    assert_eq!(rt; changed.canonical_cmp_to(&shared), Ordering::Greater);
-    let owned = Nsec3param::<Vec<u8>>::try_octets_from(alloc, params.try_clone()?)?;
-    let shared = Nsec3param::<Bytes>::try_octets_from(alloc, owned.clone()?)?;
+    Ok(())
+}
+
+#[test]
+fn nsec3_with_other_fields(rt: HostRuntime) -> Result<(), Fail> {
+    let made = nsec3(b"bar")?;
+    let mut changed = made.clone()?;
+    changed.set_next_owner(OwnerHash::from_slice(b"fop".as_slice())?);
+    assert_eq!(rt; changed.canonical_cmp_to(&made), Ordering::Greater);
+    let mut changed = made.clone()?;
+    changed.set_types(RtypeBitmap::from_octets(b"".as_slice())?);
+    assert_eq!(rt; changed.canonical_cmp_to(&made), Ordering::Less);
+    Ok(())
+}
+
+#[test]
+fn params_over_other_octets(rt: HostRuntime) -> Result<(), Fail> {
+    let params = params(b"bar")?;
+    let owned = Nsec3param::<Vec<u8>>::try_octets_from(rt.alloc(), params.try_clone()?)?;
+    let shared = Nsec3param::<Bytes>::try_octets_from(rt.alloc(), owned)?;
     assert!(rt; shared.eq_to(&params));
-    let none = Nsec3param::<ArrayBuilder<2>>::try_octets_from(alloc, params).err();
+    let none = Nsec3param::<ArrayBuilder<2>>::try_octets_from(rt.alloc(), params).err();
     assert_eq!(rt; none, Some(AppendError::ShortBuf));
-    let mut counts = HashMap::new(alloc);
+    Ok(())
+}
+
+#[test]
+fn params_in_a_map(rt: HostRuntime) -> Result<(), Fail> {
+    let owned = Nsec3param::<Vec<u8>>::try_octets_from(rt.alloc(), params(b"bar")?)?;
+    let mut counts = HashMap::new(rt.alloc());
     counts.insert(owned.clone()?, 1u8)?;
     assert_eq!(rt; counts.get(&owned).copied(), Some(1));
     Ok(())
