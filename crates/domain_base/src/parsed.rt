@@ -1,7 +1,7 @@
-//! Names that lie in a message.
-ghost use Rattle.std.specs.Prelude.{◌≡◌, Some, IfOk, IfErr, OnErr};
+//! Names in octets that they borrow: those of a message, or of another name.
+ghost use Rattle.std.specs.Prelude.{◌≡◌, ◌∷◌, [], Some, IfNone, IfSome, IfOk, IfErr, OnErr};
 ghost use Rattle.domain_base.specs.Text.{name_text};
-ghost use Rattle.domain_base.specs.Name.{wire_of, IsName};
+ghost use Rattle.domain_base.specs.Name.{wire_of, IsName, parent_of};
 ghost use Rattle.domain_base.specs.Fault.{NameFault, FirstFault, fault_of, name_fault_of};
 ghost use Rattle.domain_octets.specs.Place.{Takes};
 
@@ -10,7 +10,7 @@ use domain_octets::{OutOfMemory, Parser, TryClone};
 use std::fmt;
 use std::marker::Model;
 
-/// A name in the octets of a message, which it borrows.
+/// A name in octets that it borrows: those of a message, or an end of another name's, which is a name above it.
 #[derive(Drop)]
 pub struct ParsedName<'a> {
     wire: &'a [u8],
@@ -62,6 +62,32 @@ impl<'a> ParsedName<'a> {
     {
         wire::check(octets)?;
         Ok(ParsedName { wire: octets })
+    }
+
+    /// The same name, in the octets of another. Takes no memory.
+    pub fn borrowed<N: ToName>(name: &'a N) -> Self
+        ensures { result ≡ N.labels name.now }
+    {
+        ParsedName {
+            wire: name.as_wire(),
+        }
+    }
+
+    /// The first label, and the name above it in the same octets; None for the root. Takes no memory.
+    pub fn split_first(&self) -> Option<(&'a [u8], ParsedName<'a>)>
+        ensures root { IfNone result (self.now ≡ []) }
+        ensures parts { IfSome result (λ p. self.now ≡ p.0.now ∷ p.1) }
+    {
+        let (label, above) = wire::split_first(self.wire)?;
+        Some((label, ParsedName { wire: above }))
+    }
+
+    /// The name without its first label, in the same octets; None for the root. Takes no memory.
+    pub fn parent(&self) -> Option<ParsedName<'a>>
+        ensures { result ≡ parent_of self.now }
+    {
+        let (_, above) = self.split_first()?;
+        Some(above)
     }
 }
 

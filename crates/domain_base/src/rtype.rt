@@ -12,11 +12,13 @@ use std::marker::Model;
 pub struct Rtype(u16);
 
 impl Model for Rtype {
-    ghost use Rattle.std.specs.Prelude.{ℕ};
+    ghost use Rattle.std.specs.Prelude.{ℕ, ◌<◌};
 
     ghost Value = { ℕ };
 
     ghost view = { λ r. r.0 };
+
+    ghost invariant = { λ r. r.0 < 65536 };
 
     ghost inverse = { λ n. record { 0 = n } };
 }
