@@ -1,5 +1,5 @@
 -- the labels at which two names part, and what they decide
-use Rattle.std.proofs.Common.{◌≡◌, ◌≢◌, ℕ, ◌≤◌, List, [], ◌∷◌, ◌++◌, length, map, reverse, refl, sym, ap, ◌∙◌, arith, Option, None, Some}
+use Rattle.std.proofs.Common.{◌≡◌, ◌≢◌, ℕ, ◌≤◌, List, [], ◌∷◌, ◌++◌, length, map, reverse, refl, sym, ap, ◌∙◌, arith, Option, None, Some, ◌⊎◌, inl, inr}
 use Rattle.std.specs.declared.cmp.Ordering.{Ordering}
 use Rattle.std.specs.declared.cmp.Ordering.TheVariants.{Less, Equal, Greater}
 use Rattle.std.specs.Ordering.{ordering_then, nat_cmp}
@@ -10,6 +10,7 @@ use Rattle.std.proofs.lemmas.List.{append-nil, append_assoc, map-append, reverse
 use Rattle.domain_base.specs.Name.{wire_of, lowered}
 use Rattle.domain_base.specs.Wire.{labels_of, IsWire}
 use Rattle.domain_base.specs.Order.{canonical_cmp, from_root}
+use Rattle.domain_base.specs.Laws.{same_tied}
 use Rattle.domain_base.specs.Parting.{Ends, Part}
 use Rattle.domain_base.proofs.OrderLemmas.{decided, from_root-cons}
 use Rattle.domain_base.proofs.WireLemmas.{wire_is, length-wire_of}
@@ -23,6 +24,12 @@ next_end name (Some x) label here above ends is =
 short_root : (labels : List (List ℕ)) (b : List ℕ) → wire_of labels ≡ b → length b ≤ 1 → wire_of [] ≡ b
 short_root [] b is short = is
 short_root (label ∷ labels) b is short = absurd (omega (arith, ap length is, length-wire_of (label ∷ labels)))
+
+-- the root's wire form is one octet
+pub root_length : (a : List ℕ) → IsWire a → labels_of a ≡ [] → length a ≤ 1
+root_length a a_wire root =
+    let a_is : wire_of [] ≡ a = ap wire_of (sym root) ∙ wire_is a a_wire in
+    omega (arith, ap length a_is)
 
 -- only the root is as short as the root
 pub both_roots : (a b : List ℕ) → IsWire a → IsWire b → labels_of a ≡ [] → length b ≤ length a → a ≡ b
@@ -85,3 +92,11 @@ parted xs ys x y p differ =
     ∙ ap (λ l. slice_cmp (slice_cmp nat_cmp) l (from_root p.shared ++ map to_ascii_lowercase y ∷ from_root p.right.0)) xs_is
     ∙ slice_cmp-shared (slice_cmp nat_cmp) octets_tie (from_root p.shared) (map to_ascii_lowercase x ∷ from_root p.left.0) (map to_ascii_lowercase y ∷ from_root p.right.0))
     differ
+
+-- two names with as many labels, of which one is the root
+pub roots_tie : (x y : List (List ℕ)) → length x ≡ length y → (x ≡ []) ⊎ (y ≡ []) → Equal ≡ canonical_cmp x y
+roots_tie [] [] counts root = sym (same_tied [] [] refl)
+roots_tie [] (m ∷ y) counts root = absurd (omega arith)
+roots_tie (l ∷ x) [] counts root = absurd (omega arith)
+roots_tie (l ∷ x) (m ∷ y) counts (inl e) = absurd (cc)
+roots_tie (l ∷ x) (m ∷ y) counts (inr e) = absurd (cc)

@@ -1,14 +1,13 @@
-use Rattle.std.proofs.Common.{sym, ap, ◌∙◌}
-use Rattle.domain_base.specs.Name.{lowered}
-use Rattle.domain_base.specs.Wire.{labels_of}
-use Rattle.domain_base.specs.Laws.{same_tied}
-use Rattle.domain_base.proofs.OrderLemmas.{same_octets, step, decided, undecided}
+use Rattle.std.proofs.Common.{sym, ◌∙◌, inl, inr}
+use Rattle.domain_base.proofs.OrderLemmas.{step, decided, undecided}
+use Rattle.domain_base.proofs.PartingLemmas.{roots_tie}
 use Rattle.domain_base.proofs.wire.+aligned_cmp.Goals as goal
 
-pub returns-then-eq : goal.returns-then-eq
-returns-then-eq _ c =
-    let same = same_octets c.args.a.now c.args.b.now (sym c.eq.ensures ∙ c.if-eq.true) in
-    sym (same_tied (labels_of c.args.a.now) (labels_of c.args.b.now) (ap (λ octets. lowered (labels_of octets)) same))
+pub returns-in_default : goal.returns-in_default
+returns-in_default _ c = roots_tie _ _ c.requires.same_count (inr c.in_default.ensures'.root)
+
+pub returns-in_default-2 : goal.returns-in_default-2
+returns-in_default-2 _ c = roots_tie _ _ c.requires.same_count (inl c.in_default.ensures.root)
 
 pub returns-in-Equal : goal.returns-in-Equal
 returns-in-Equal _ c =
