@@ -60,6 +60,15 @@ impl<O: Octets> Name<O> {
         Name { octets }
     }
 
+    /// A copy, spelled alike. Uses the allocator of the octets.
+    pub fn clone(&self) -> Result<Self, OutOfMemory>
+        ensures { IfOk result (λ copy. copy ≡ self.now) }
+    {
+        Ok(Name {
+            octets: self.octets.try_clone()?,
+        })
+    }
+
     /// The octets of its wire form.
     pub fn into_octets(self) -> O
         ensures { O.octets result ≡ wire_of self }
@@ -105,14 +114,14 @@ impl<O: Octets> TryClone for Name<O> {
     ghost is_clone = { λ n copy. copy ≡ n };
 
     fn try_clone(&self) -> Result<Self, OutOfMemory> {
-        Ok(Name {
-            octets: self.octets.try_clone()?,
-        })
+        self.clone()
     }
 }
 
 impl<O: Octets> ToName for Name<O> {
     ghost labels = { λ n. n };
+
+    ghost clone_labels = { λ n copy same. same };
 
     fn as_wire(&self) -> &[u8] {
         self.octets.as_slice()

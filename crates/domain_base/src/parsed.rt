@@ -102,6 +102,8 @@ impl<'a> TryClone for ParsedName<'a> {
 impl<'a> ToName for ParsedName<'a> {
     ghost labels = { λ n. n };
 
+    ghost clone_labels = { λ n copy same. same };
+
     fn as_wire(&self) -> &[u8] {
         self.wire
     }
