@@ -8,7 +8,7 @@ use crate::{Rrsig, Timestamp};
 use domain_base::{ParsedName, Rtype, SecurityAlgorithm, ToName, Ttl};
 use domain_fields::{Fields, Lowers};
 use domain_octets::{AppendError, Octets, OctetsBuilder, OutOfMemory, TryClone};
-use domain_plain::{CloneName, LongRecordData};
+use domain_plain::LongRecordData;
 use std::marker::Model;
 
 /// The fields of a signature's data before there is a signature (RFC 4034, section 3.1). A signer signs their octets, followed by the records.
@@ -225,7 +225,7 @@ impl<'a> ProtoRrsig<ParsedName<'a>> {
     }
 }
 
-impl<N: CloneName> ProtoRrsig<N> {
+impl<N: ToName> ProtoRrsig<N> {
     /// A copy. Uses the allocator of the name.
     pub fn clone(&self) -> Result<Self, OutOfMemory>
         ensures { IfOk result (λ copy. copy ≡ self.now) }
@@ -235,7 +235,7 @@ impl<N: CloneName> ProtoRrsig<N> {
     }
 }
 
-impl<N: CloneName> TryClone for ProtoRrsig<N> {
+impl<N: ToName> TryClone for ProtoRrsig<N> {
     ghost is_clone = { λ d copy. copy ≡ d };
 
     fn try_clone(&self) -> Result<Self, OutOfMemory> {

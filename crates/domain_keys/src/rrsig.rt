@@ -19,7 +19,7 @@ use domain_octets::{
     AppendError, Octets, OctetsBuilder, OutOfMemory, ParseError, Parser, TryClone,
 };
 use domain_plain::{
-    CloneName, CloneRecordData, ComposeRecordData, LongRecordData, ParseRecordData, RecordData,
+    CloneRecordData, ComposeRecordData, LongRecordData, ParseRecordData, RecordData,
 };
 use std::cmp::Ordering;
 use std::hash::{Hash, Hasher};
@@ -442,7 +442,7 @@ impl<O: Octets, N: ToName> Hash for Rrsig<O, N> {
     }
 }
 
-impl<O: Octets + Drop, N: CloneName + Drop> Rrsig<O, N> {
+impl<O: Octets + Drop, N: ToName + Drop> Rrsig<O, N> {
     /// A copy. Uses the allocators of the name and of the signature.
     pub fn clone(&self) -> Result<Self, OutOfMemory>
         ensures { IfOk result (λ copy. copy ≡ self.now) }
@@ -453,7 +453,7 @@ impl<O: Octets + Drop, N: CloneName + Drop> Rrsig<O, N> {
     }
 }
 
-impl<O: Octets + Drop, N: CloneName + Drop> TryClone for Rrsig<O, N> {
+impl<O: Octets + Drop, N: ToName + Drop> TryClone for Rrsig<O, N> {
     ghost is_clone = { λ d copy. copy ≡ d };
 
     fn try_clone(&self) -> Result<Self, OutOfMemory> {
@@ -461,7 +461,7 @@ impl<O: Octets + Drop, N: CloneName + Drop> TryClone for Rrsig<O, N> {
     }
 }
 
-impl<O: Octets + Drop, N: CloneName + Drop> CloneRecordData for Rrsig<O, N> {
+impl<O: Octets + Drop, N: ToName + Drop> CloneRecordData for Rrsig<O, N> {
     ghost clone_rtype = { λ d copy same. refl };
 
     ghost clone_canonical = { copies_tied rrsig_canonical };

@@ -27,7 +27,7 @@ pub use mx::Mx;
 pub use ns::Ns;
 pub use pairs::both;
 pub use record::Record;
-pub use record_clone::{CloneName, CloneRecordData};
+pub use record_clone::CloneRecordData;
 pub use record_data::{ComposeRecordData, LongRecordData, ParseRecordData, RecordData};
 pub use soa::Soa;
 pub use unknown::UnknownRecordData;

@@ -11,7 +11,7 @@ ghost use Rattle.domain_fields.specs.Layout.{Begins, FirstFault, GoesOn, octets_
 ghost use Rattle.domain_fields.specs.DataClone.{same_values_tie};
 ghost use Rattle.domain_plain.specs.Plain.{mx, mx_values};
 
-use crate::{CloneName, CloneRecordData, ComposeRecordData, ParseRecordData, RecordData};
+use crate::{CloneRecordData, ComposeRecordData, ParseRecordData, RecordData};
 use domain_base::{CanonicalOrd, ParsedName, Rtype, ScanError, Scanner, ToName};
 use domain_fields::{Fields, Lowers, ReadFields, ScanFields, Scanned};
 use domain_octets::{
@@ -74,7 +74,7 @@ impl<N: TryClone> TryClone for Mx<N> {
     }
 }
 
-impl<N: CloneName> CloneRecordData for Mx<N> {
+impl<N: ToName> CloneRecordData for Mx<N> {
     ghost clone_rtype = { λ d copy same. refl };
 
     ghost clone_canonical = { λ d copy same. same_values_tie mx (mx_values N.labels) d copy (λ i. (same.0 i, N.clone_labels d.exchange copy.exchange same.1 i)) };

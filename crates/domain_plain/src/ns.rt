@@ -10,7 +10,7 @@ ghost use Rattle.domain_fields.specs.Layout.{Begins, FirstFault, GoesOn, octets_
 ghost use Rattle.domain_fields.specs.DataClone.{same_values_tie};
 ghost use Rattle.domain_plain.specs.Plain.{ns, ns_values};
 
-use crate::{CloneName, CloneRecordData, ComposeRecordData, ParseRecordData, RecordData};
+use crate::{CloneRecordData, ComposeRecordData, ParseRecordData, RecordData};
 use domain_base::{CanonicalOrd, ParsedName, Rtype, ScanError, Scanner, ToName};
 use domain_fields::{Fields, Lowers, ReadFields, ScanFields, Scanned};
 use domain_octets::{
@@ -61,7 +61,7 @@ impl<N: TryClone> TryClone for Ns<N> {
     }
 }
 
-impl<N: CloneName> CloneRecordData for Ns<N> {
+impl<N: ToName> CloneRecordData for Ns<N> {
     ghost clone_rtype = { λ d copy same. refl };
 
     ghost clone_canonical = { λ d copy same. same_values_tie ns (ns_values N.labels) d copy (N.clone_labels d.nsdname copy.nsdname same) };

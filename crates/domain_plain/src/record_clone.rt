@@ -4,18 +4,8 @@ ghost use Rattle.std.specs.declared.cmp.Ordering.TheVariants.{Equal};
 ghost use Rattle.domain_plain.specs.RecordClone.{IsRecordClone};
 
 use crate::{Record, RecordData};
-use domain_base::{CanonicalOrd, Name, ParsedName, ToName};
-use domain_octets::{Octets, OutOfMemory, TryClone};
-
-/// A name whose copies are spelled alike.
-pub trait CloneName: ToName + TryClone {
-    /// A copy has the same labels.
-    ghost clone_labels: { (name copy : Self) → Self.is_clone name copy → Self.labels copy ≡ Self.labels name };
-}
-
-impl<O: Octets> CloneName for Name<O> {
-    ghost clone_labels = { λ name copy same. same };
-}
+use domain_base::CanonicalOrd;
+use domain_octets::{OutOfMemory, TryClone};
 
 /// Data whose copies are of the same type and equal under the canonical order.
 pub trait CloneRecordData: RecordData + CanonicalOrd + TryClone {
@@ -24,10 +14,6 @@ pub trait CloneRecordData: RecordData + CanonicalOrd + TryClone {
 
     /// A copy is equal under the canonical order.
     ghost clone_canonical: { (value copy : Self) → Self.is_clone value copy → Self.canonical_cmp value copy ≡ Equal };
-}
-
-impl<'a> CloneName for ParsedName<'a> {
-    ghost clone_labels = { λ name copy same. same };
 }
 
 impl<N: TryClone + Drop, D: TryClone> Record<N, D> {

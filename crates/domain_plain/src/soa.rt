@@ -10,7 +10,7 @@ ghost use Rattle.domain_fields.specs.DataClone.{same_values_tie};
 ghost use Rattle.domain_plain.specs.Plain.{soa, soa_values};
 ghost use Rattle.domain_plain.specs.Soa.{IsSoaWith, soa_text};
 
-use crate::{CloneName, CloneRecordData, ComposeRecordData, ParseRecordData, RecordData, both};
+use crate::{CloneRecordData, ComposeRecordData, ParseRecordData, RecordData, both};
 use domain_base::{CanonicalOrd, ParsedName, Rtype, ScanError, Scanner, ToName, Ttl};
 use domain_fields::{Fields, Lowers, ReadFields, ScanFields, Scanned};
 use domain_octets::{
@@ -152,7 +152,7 @@ impl<N: TryClone + Drop> TryClone for Soa<N> {
     }
 }
 
-impl<N: CloneName + Drop> CloneRecordData for Soa<N> {
+impl<N: ToName + Drop> CloneRecordData for Soa<N> {
     ghost clone_rtype = { λ d copy same. refl };
 
     ghost clone_canonical = { λ d copy same. same_values_tie soa (soa_values N.labels) d copy

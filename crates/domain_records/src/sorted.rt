@@ -25,7 +25,7 @@ use crate::sorter::{DefaultSorter, Sorter};
 use crate::write::{SoaRecords, write_part, write_part_with_comments};
 use domain_base::{CanonicalOrd, Class, Rtype, ToName};
 use domain_octets::OutOfMemory;
-use domain_plain::{CloneName, CloneRecordData, Record, RecordData};
+use domain_plain::{CloneRecordData, Record, RecordData};
 use std::alloc::Global;
 use std::marker::{Model, PhantomData};
 use std::{fmt, slice};
@@ -336,7 +336,7 @@ impl<N: ToName, D: RecordData + CanonicalOrd, Sort: Sorter> SortedRecords<N, D, 
     /// `OutOfMemory` where there was no memory.
     pub fn clone(&self) -> Result<Self, OutOfMemory>
     where
-        N: CloneName + Drop,
+        N: ToName + Drop,
         D: CloneRecordData + Drop,
         ensures { IfOk result (AllZip (IsRecordClone N.is_clone D.is_clone) self.now) }
     {
