@@ -1,12 +1,11 @@
 -- salts read from tokens
 use Rattle.std.proofs.Common.{◌≡◌, ◌≢◌, ℕ, ◌<◌, inr, List, [], ◌∷◌, length, drop, refl, sym, ap, ◌∙◌, subst, codes}
-use Rattle.std.specs.Prelude.{Option}
+use Rattle.std.specs.Prelude.{Option, Result, Ok, Err, IfOk, IfErr}
 use Rattle.domain_octets.specs.Codec.{Decodes}
 use Rattle.domain_octets.specs.declared.codec.Codec.TheVariants.{Base16}
-use Rattle.domain_base.specs.Scan.{ScanFault, entry_ends, illegal, CodecFault, TakesToken, RefusesToken, ended, refused}
+use Rattle.domain_base.specs.Scan.{ScanFault, entry_ends, illegal, TakesToken, RefusesToken, ended, refused}
 use Rattle.domain_bitmap.specs.HashText.{SaltText, dash, digits}
-use Rattle.domain_bitmap.specs.HashScan.{SaltTokenFault, BeginsWithDash, after_dash, in_digits}
-use Rattle.domain_bitmap.proofs.CountedLemmas.{counted_fault}
+use Rattle.domain_bitmap.specs.HashScan.{CountedFault, SaltTokenFault, BeginsWithDash, after_dash, in_digits}
 
 pub no_token : (limit : Option ℕ) (tokens : List (List ℕ)) → tokens ≡ [] → RefusesToken (SaltTokenFault limit) tokens tokens entry_ends
 no_token limit tokens none = subst (λ (l : List (List ℕ)). RefusesToken (SaltTokenFault limit) l l entry_ends) (sym none) ended
@@ -33,7 +32,7 @@ not_dash : (token : List ℕ) → (BeginsWithDash token → ⊥) → token ≢ c
 not_dash [] other is = cc
 not_dash (c ∷ rest) other is = other (cc)
 
-pub took_digits : (old new : List (List ℕ)) (token salt : List ℕ) → (rest : List (List ℕ)) × (old ≡ token ∷ rest) → (BeginsWithDash token → ⊥) → TakesToken (λ t. Decodes Base16 t salt) old new → TakesToken (λ t. SaltText t salt) old new
+took_digits : (old new : List (List ℕ)) (token salt : List ℕ) → (rest : List (List ℕ)) × (old ≡ token ∷ rest) → (BeginsWithDash token → ⊥) → TakesToken (λ t. Decodes Base16 t salt) old new → TakesToken (λ t. SaltText t salt) old new
 took_digits old new token salt first other took =
     let both : took.token ∷ new ≡ token ∷ first.0 = sym took.first ∙ first.1 in
     let same : token ≡ took.token = cc in
@@ -43,18 +42,18 @@ took_digits old new token salt first other took =
       holds = digits took.token salt (not_dash took.token (subst (λ (t : List ℕ). BeginsWithDash t → ⊥) same other)) took.holds;
     }
 
-pub refused_digits : (limit : Option ℕ) (old new : List (List ℕ)) (token : List ℕ) (fault : ScanFault) → (rest : List (List ℕ)) × (old ≡ token ∷ rest) → (BeginsWithDash token → ⊥) → RefusesToken (CodecFault Base16 limit) old new fault → RefusesToken (SaltTokenFault limit) old new fault
+refused_digits : (limit : Option ℕ) (old new : List (List ℕ)) (token : List ℕ) (fault : ScanFault) → (rest : List (List ℕ)) × (old ≡ token ∷ rest) → (BeginsWithDash token → ⊥) → RefusesToken (CountedFault Base16 (codes "illegal NSEC3 salt") limit) old new fault → RefusesToken (SaltTokenFault limit) old new fault
 refused_digits limit old new token fault first other ended = absurd (let none = first.1 in cc)
 refused_digits limit old new token fault first other (refused read left why_fault why) =
     let both = first.1 in
     let same : token ≡ read = cc in
-    refused read left why_fault (in_digits why_fault read (subst (λ (t : List ℕ). BeginsWithDash t → ⊥) same other) (counted_fault Base16 (codes "illegal NSEC3 salt") limit why_fault read why))
+    refused read left why_fault (in_digits why_fault read (subst (λ (t : List ℕ). BeginsWithDash t → ⊥) same other) why)
 
-pub refused_long : (limit : Option ℕ) (old new : List (List ℕ)) (token octets : List ℕ) → (rest : List (List ℕ)) × (old ≡ token ∷ rest) → (BeginsWithDash token → ⊥) → TakesToken (λ t. Decodes Base16 t octets) old new → 255 < length octets → RefusesToken (SaltTokenFault limit) old new (illegal (codes "illegal NSEC3 salt"))
-refused_long limit old new token octets first other took over =
-    let both : took.token ∷ new ≡ token ∷ first.0 = sym took.first ∙ first.1 in
-    let same : token ≡ took.token = cc in
-    let why : SaltTokenFault limit (illegal (codes "illegal NSEC3 salt")) took.token =
-    in_digits (illegal (codes "illegal NSEC3 salt")) took.token (subst (λ (t : List ℕ). BeginsWithDash t → ⊥) same other) (inr ((octets, took.holds, over), refl)) in
-    subst (λ (l : List (List ℕ)). RefusesToken (SaltTokenFault limit) l new (illegal (codes "illegal NSEC3 salt"))) (sym took.first)
-    (refused took.token new (illegal (codes "illegal NSEC3 salt")) why)
+-- the same of an answer
+pub digits_ok : {E : Type 0} (r : Result (List ℕ) E) (old new : List (List ℕ)) (token : List ℕ) → (rest : List (List ℕ)) × (old ≡ token ∷ rest) → (BeginsWithDash token → ⊥) → IfOk r (λ salt. TakesToken (λ t. Decodes Base16 t salt) old new) → IfOk r (λ salt. TakesToken (λ t. SaltText t salt) old new)
+digits_ok (Ok salt) old new token first other took = took_digits old new token salt first other took
+digits_ok (Err e) old new token first other took = took
+
+pub digits_err : {A E : Type 0} (fault_of : E → ScanFault) (r : Result A E) (limit : Option ℕ) (old new : List (List ℕ)) (token : List ℕ) → (rest : List (List ℕ)) × (old ≡ token ∷ rest) → (BeginsWithDash token → ⊥) → IfErr r (λ e. RefusesToken (CountedFault Base16 (codes "illegal NSEC3 salt") limit) old new (fault_of e)) → IfErr r (λ e. RefusesToken (SaltTokenFault limit) old new (fault_of e))
+digits_err fault_of (Ok a) limit old new token first other why = why
+digits_err fault_of (Err e) limit old new token first other why = refused_digits limit old new token (fault_of e) first other why

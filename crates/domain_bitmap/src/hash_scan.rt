@@ -6,10 +6,34 @@ ghost use Rattle.domain_base.specs.Scan.{scan_fault_of, TakesToken, RefusesToken
 ghost use Rattle.domain_bitmap.specs.HashText.{SaltText};
 ghost use Rattle.domain_bitmap.specs.HashScan.{CountedFault, SaltTokenFault, BeginsWithDash};
 
-use crate::{Nsec3Salt, OwnerHash};
+use crate::{CountedOctets, Nsec3Salt, OwnerHash};
 use domain_base::{ScanError, Scanner};
 use domain_octets::{Codec, FromBuilder};
 use std::alloc::Global;
+
+impl<O: FromBuilder + Drop, E: Default + Drop> CountedOctets<O, E> {
+    /// The octets that the next token stands for. Refuses those over 255 with `Custom(long)`.
+    fn scan_token<S: Scanner<Octets = O>>(
+        alloc: Global,
+        scanner: &mut S,
+        kind: Codec,
+        long: &'static str,
+    ) -> Result<Self, ScanError>
+        ensures ok { IfOk result (λ counted.
+            TakesToken (λ token. Decodes kind token counted) (S.tokens scanner.old) (S.tokens scanner.new)) }
+        ensures err { IfErr result (λ e.
+            RefusesToken (CountedFault kind long.now O.Builder.limit) (S.tokens scanner.old) (S.tokens scanner.new) (scan_fault_of e)) }
+    {
+        let octets = match scanner.convert_token(alloc, kind) {
+            Ok(octets) => octets,
+            Err(error) => return Err(error),
+        };
+        match CountedOctets::from_octets(octets) {
+            Ok(counted) => Ok(counted),
+            Err(_) => Err(ScanError::Custom(long)),
+        }
+    }
+}
 
 impl<O: FromBuilder + Drop> OwnerHash<O> {
     /// The hash that the next token stands for in Base 32 hex. A token that is refused is gone past too.
@@ -22,14 +46,7 @@ impl<O: FromBuilder + Drop> OwnerHash<O> {
         ensures ok { IfOk result (λ hash. TakesToken (λ token. Decodes codec.Base32Hex token hash) (S.tokens scanner.old) (S.tokens scanner.new)) }
         ensures err { IfErr result (λ e. RefusesToken (CountedFault codec.Base32Hex (codes "illegal owner name hash") O.Builder.limit) (S.tokens scanner.old) (S.tokens scanner.new) (scan_fault_of e)) }
     {
-        let octets = match scanner.convert_token(alloc, Codec::Base32Hex) {
-            Ok(octets) => octets,
-            Err(error) => return Err(error),
-        };
-        match OwnerHash::from_octets(octets) {
-            Ok(hash) => Ok(hash),
-            Err(_) => Err(ScanError::Custom("illegal owner name hash")),
-        }
+        OwnerHash::scan_token(alloc, scanner, Codec::Base32Hex, "illegal owner name hash")
     }
 }
 
@@ -69,13 +86,6 @@ impl<O: FromBuilder + Drop> Nsec3Salt<O> {
             }
             return Err(ScanError::Custom("illegal NSEC3 salt"));
         }
-        let octets = match scanner.convert_token(alloc, Codec::Base16) {
-            Ok(octets) => octets,
-            Err(error) => return Err(error),
-        };
-        match Nsec3Salt::from_octets(octets) {
-            Ok(salt) => Ok(salt),
-            Err(_) => Err(ScanError::Custom("illegal NSEC3 salt")),
-        }
+        Nsec3Salt::scan_token(alloc, scanner, Codec::Base16, "illegal NSEC3 salt")
     }
 }

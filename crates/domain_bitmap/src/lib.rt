@@ -28,6 +28,7 @@ mod blocks;
 mod builder;
 mod compare;
 mod convert;
+mod counted;
 mod error;
 mod hash_scan;
 #[cfg(test)]
@@ -49,6 +50,7 @@ mod zonefile;
 
 pub use bitmap::RtypeBitmap;
 pub use builder::RtypeBitmapBuilder;
+pub use counted::CountedOctets;
 pub use error::RtypeBitmapError;
 pub use iter::RtypeBitmapIter;
 pub use owner_hash::{OwnerHash, OwnerHashError};

@@ -1,5 +1,6 @@
 -- one part of the octets appended after another
-use Rattle.std.proofs.Common.{◌≡◌, ℕ, ◌+◌, ◌≤◌, List, ◌++◌, length, sym, ap, ◌∙◌, arith, length-append, append_assoc, Option, None, Some, Result, Ok, Err}
+use Rattle.std.proofs.Common.{◌≡◌, ℕ, ◌+◌, ◌≤◌, List, [], ◌++◌, length, refl, sym, ap, ◌∙◌, arith, length-append, append_assoc, append-nil, Option, None, Some, Result, Ok, Err}
+use Rattle.std.specs.Prelude.{◌↔◌, OnOk, OnErr, IsErrOf, IsNone}
 use Rattle.domain_octets.specs.Limit.{IsOver}
 use Rattle.domain_octets.specs.declared.error.AppendError.{AppendError}
 use Rattle.domain_octets.specs.declared.error.AppendError.TheVariants.{ShortBuf, OutOfMemory}
@@ -50,3 +51,15 @@ unfolding octets_of
 stops_both limit e old new a b v w first = appends_stop limit e old new (octets_of a v) (octets_of b w) first
 
 pub ruleset writing = (appends_both, stops_both)
+
+-- octets appended whole or not at all, where their number is given in another way
+pub appends_whole : {X : Type 0} (limit : Option ℕ) (r : Result X AppendError) (old new octets : List ℕ) (count : ℕ) → length octets ≡ count → OnOk r (new ≡ old ++ octets) → OnErr r (new ≡ old)
+    → IsErrOf r ShortBuf ↔ IsOver limit (length old + count) → (IsErrOf r OutOfMemory → IsNone limit) → Appends limit r old new octets
+appends_whole limit (Ok x) old new octets count counts ok err short memory = record {
+  all = ok;
+  room = λ over. let wrong = short.1 (rw (← counts) over) in cc;
+}
+appends_whole limit (Err ShortBuf) old new octets count counts ok err short memory =
+    (record { front = []; back = octets; parts = refl; new_is = err ∙ sym (append-nil old) }, rw counts (short.0 refl))
+appends_whole limit (Err OutOfMemory) old new octets count counts ok err short memory =
+    (record { front = []; back = octets; parts = refl; new_is = err ∙ sym (append-nil old) }, memory refl)

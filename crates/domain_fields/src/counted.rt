@@ -79,13 +79,12 @@ impl<'a> Fields for Counted<'a> {
     fn feed<H: Hasher>(&self, state: &mut H) {
         self.parts().feed(state);
     }
+
+    fn fits(&self) {
+        self.parts().0.fits();
+    }
 }
 
 impl<'a> Delimited for Counted<'a> {
     ghost delimited = { refl };
-
-    fn front_order(&self, other: &Self) -> Ordering {
-        let (_a, _b) = (self.as_slice(), other.as_slice());
-        self.order(other)
-    }
 }

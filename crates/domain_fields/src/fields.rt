@@ -6,14 +6,11 @@ ghost use Rattle.std.specs.Prelude.{map};
 ghost use Rattle.std.specs.Char.{to_ascii_lowercase};
 ghost use Rattle.std.specs.Ordering.{nat_cmp};
 ghost use Rattle.std.specs.Cmp.Lexicographic.{slice_cmp};
-ghost use Rattle.domain_base.specs.Name.{wire_of, lowered};
-ghost use Rattle.domain_base.specs.Wire.{labels_of, IsWire};
-ghost use Rattle.domain_fields.specs.Field.{octet, short, long, name, spelled_name, exactly, at_most, rest};
+ghost use Rattle.domain_fields.specs.Field.{Field, Value, field_octets, lower_field, FieldFits, octet, short, long, name, spelled_name, exactly, at_most, rest};
 ghost use Rattle.domain_fields.specs.Layout.{Layout, one, ◌▸◌, Values, Fits, octets_of, canonical_of, canonical_order, is_delimited};
 ghost use Rattle.domain_fields.specs.Laws.{both_true};
 ghost use Rattle.domain_fields.specs.Target.{Appends};
 
-use crate::target;
 use domain_base::ToName;
 use domain_octets::{AppendError, OctetsBuilder};
 use std::cmp::Ordering;
@@ -54,17 +51,29 @@ pub trait Fields {
     /// Feeds the canonical octets.
     fn feed<H: Hasher>(&self, state: &mut H)
         ensures { state.new ≡ fold H.write state.old (flat_map fed.u8 (canonical_of layout (values self.now))) };
+
+    /// Does nothing; its clause says that the values have octets.
+    fn fits(&self)
+        ensures { Fits layout (values self.now) };
 }
 
 /// Fields of which one can tell where they end: all but those that take the rest of the octets.
 pub trait Delimited: Fields {
-    /// As `order`, of fields that fit.
-    fn front_order(&self, other: &Self) -> Ordering
-        ensures value { result ≡ canonical_order Self.layout (Self.values self.now) (Self.values other.now) }
-        ensures mine { Fits Self.layout (Self.values self.now) }
-        ensures theirs { Fits Self.layout (Self.values other.now) };
-
     ghost delimited: { is_delimited Self.layout ≡ true };
+}
+
+/// A field whose octets are at hand, and are those of its canonical form too.
+trait Octeted {
+    ghost field: { Field };
+
+    ghost value: { Self → Value field };
+
+    /// The octets; those of a number are put into the buffer.
+    fn octets<'o>(&'o self, buffer: &'o mut [u8; 4]) -> &'o [u8]
+        ensures octets { result.now ≡ field_octets field (value self.now) }
+        ensures fits { FieldFits field (value self.now) };
+
+    ghost keeps: { (v : Value field) → lower_field field v ≡ v };
 }
 
 /// All octets that are left.
@@ -113,15 +122,6 @@ fn split_up_to(octets: &[u8], count: usize) -> (&[u8], &[u8])
     octets.split_at(count.min(octets.len()))
 }
 
-/// The order of octets, and of as many others.
-fn octets_order_from<'o>(octets: &[u8], others: &'o [u8]) -> (Ordering, &'o [u8])
-    ensures order { result.0 ≡ slice_cmp nat_cmp octets.now (take (length octets.now) others.now) }
-    ensures rest { result.1.now ≡ drop (length octets.now) others.now }
-{
-    let (front, back) = split_up_to(others, octets.len());
-    (octets.cmp(front), back)
-}
-
 /// The order of octets, lowered, and of others.
 fn lowered_with_octets_cmp(a: &[u8], b: &[u8]) -> Ordering
     ensures { result ≡ slice_cmp nat_cmp (map to_ascii_lowercase a.now) b.now }
@@ -131,185 +131,147 @@ fn lowered_with_octets_cmp(a: &[u8], b: &[u8]) -> Ordering
         .cmp(b.iter().copied())
 }
 
-/// The order of octets, lowered.
-fn lowered_octets_cmp(a: &[u8], b: &[u8]) -> Ordering
-    ensures { result ≡ slice_cmp nat_cmp (map to_ascii_lowercase a.now) (map to_ascii_lowercase b.now) }
+/// The octets of a number, put into a buffer.
+fn put_number<'o>(buffer: &'o mut [u8; 4], octets: &[u8]) -> &'o [u8]
+    requires { length octets.now ≤ 4 }
+    ensures { result.now ≡ octets.now }
 {
-    a.iter()
-        .map(|c| c.to_ascii_lowercase())
-        .cmp(b.iter().map(|c| c.to_ascii_lowercase()))
+    let number = &mut buffer[..octets.len()];
+    number.copy_from_slice(octets);
+    number
 }
 
-/// The order of the lowered octets of two names.
-#[tactic(auto, using(crate::proofs::NameLemmas::lowered_wire))]
-fn lowered_cmp(a: &[u8], b: &[u8]) -> Ordering
-    requires a { IsWire a.now }
-    requires b { IsWire b.now }
-    ensures { result ≡ slice_cmp nat_cmp (wire_of (lowered (labels_of a.now))) (wire_of (lowered (labels_of b.now))) }
-{
-    lowered_octets_cmp(a, b)
+impl Octeted for u8 {
+    ghost field = { octet };
+
+    ghost value = { λ n. n };
+
+    ghost keeps = { λ v. refl };
+
+    fn octets<'o>(&'o self, buffer: &'o mut [u8; 4]) -> &'o [u8] {
+        put_number(buffer, &[*self])
+    }
 }
 
-/// The order of the octets of two names.
-#[tactic(auto, using(crate::proofs::NameLemmas::wire_is))]
-fn spelled_cmp(a: &[u8], b: &[u8]) -> Ordering
-    requires a { IsWire a.now }
-    requires b { IsWire b.now }
-    ensures { result ≡ slice_cmp nat_cmp (wire_of (labels_of a.now)) (wire_of (labels_of b.now)) }
-{
-    a.cmp(b)
+impl Octeted for u16 {
+    ghost field = { short };
+
+    ghost value = { λ n. n };
+
+    ghost keeps = { λ v. refl };
+
+    fn octets<'o>(&'o self, buffer: &'o mut [u8; 4]) -> &'o [u8] {
+        put_number(buffer, &self.to_be_bytes())
+    }
 }
 
-impl Fields for u8 {
-    ghost layout = { one octet };
+impl Octeted for u32 {
+    ghost field = { long };
 
-    ghost values = { λ n. n };
+    ghost value = { λ n. n };
+
+    ghost keeps = { λ v. refl };
+
+    fn octets<'o>(&'o self, buffer: &'o mut [u8; 4]) -> &'o [u8] {
+        put_number(buffer, &self.to_be_bytes())
+    }
+}
+
+impl<'a, N: ToName> Octeted for Keeps<'a, N> {
+    ghost field = { spelled_name };
+
+    ghost value = { λ n. N.labels n.0.now };
+
+    ghost keeps = { λ v. refl };
+
+    #[tactic(auto, using(crate::proofs::NameLemmas::wire_is, crate::proofs::NameLemmas::name_fits))]
+    fn octets<'o>(&'o self, _buffer: &'o mut [u8; 4]) -> &'o [u8] {
+        self.0.as_wire()
+    }
+}
+
+impl<const COUNT: usize> Octeted for Exactly<COUNT> {
+    ghost field = { exactly COUNT };
+
+    ghost value = { λ n. n.0 };
+
+    ghost keeps = { λ v. refl };
+
+    fn octets<'o>(&'o self, _buffer: &'o mut [u8; 4]) -> &'o [u8] {
+        &self.0
+    }
+}
+
+impl<const LIMIT: usize> Octeted for AtMost<LIMIT> {
+    ghost field = { at_most LIMIT };
+
+    ghost value = { λ n. tt };
+
+    ghost keeps = { λ v. refl };
+
+    fn octets<'o>(&'o self, _buffer: &'o mut [u8; 4]) -> &'o [u8] {
+        &[]
+    }
+}
+
+impl<'a> Octeted for Rest<'a> {
+    ghost field = { rest };
+
+    ghost value = { λ n. n.0.now };
+
+    ghost keeps = { λ v. refl };
+
+    fn octets<'o>(&'o self, _buffer: &'o mut [u8; 4]) -> &'o [u8] {
+        self.0
+    }
+}
+
+impl<F: Octeted> Fields for F {
+    ghost layout = { one F.field };
+
+    ghost values = { F.value };
 
     #[tactic(auto, unfolding(crate::specs::Layout::octets_of))]
     fn count(&self) -> u16 {
-        1
+        self.octets(&mut [0; 4]).len() as u16
     }
 
     #[tactic(auto, unfolding(crate::specs::Layout::octets_of))]
     fn room_after(&self, limit: usize) -> Option<usize> {
-        limit.checked_sub(1)
+        limit.checked_sub(self.octets(&mut [0; 4]).len())
     }
 
     #[tactic(auto, unfolding(crate::specs::Layout::octets_of))]
     fn put<B: OctetsBuilder>(&self, target: &mut B) -> Result<(), AppendError> {
-        target::put_u8(target, *self)
+        target.append_slice(self.octets(&mut [0; 4]))
     }
 
     #[tactic(auto, unfolding(crate::specs::Layout::octets_of))]
     fn put_canonical<B: OctetsBuilder>(&self, target: &mut B) -> Result<(), AppendError> {
-        target::put_u8(target, *self)
+        target.append_slice(self.octets(&mut [0; 4]))
     }
 
     #[tactic(auto, unfolding(crate::specs::Layout::octets_of))]
     fn order(&self, other: &Self) -> Ordering {
-        let (a, b) = ([*self], [*other]);
-        a[..].cmp(&b[..])
+        self.octets(&mut [0; 4]).cmp(other.octets(&mut [0; 4]))
     }
 
     #[tactic(auto, unfolding(crate::specs::Layout::octets_of))]
     fn order_from<'o>(&self, octets: &'o [u8]) -> (Ordering, &'o [u8]) {
-        octets_order_from(&[*self], octets)
+        let mut buffer = [0; 4];
+        let mine = self.octets(&mut buffer);
+        let (front, back) = split_up_to(octets, mine.len());
+        (mine.cmp(front), back)
     }
 
     #[tactic(auto, unfolding(crate::specs::Layout::octets_of))]
     fn feed<H: Hasher>(&self, state: &mut H) {
-        feed_octets(&[*self], state);
-    }
-}
-
-impl Delimited for u8 {
-    ghost delimited = { refl };
-
-    fn front_order(&self, other: &Self) -> Ordering {
-        let _values = (*self, *other);
-        self.order(other)
-    }
-}
-
-impl Fields for u16 {
-    ghost layout = { one short };
-
-    ghost values = { λ n. n };
-
-    #[tactic(auto, unfolding(crate::specs::Layout::octets_of))]
-    fn count(&self) -> u16 {
-        2
+        feed_octets(self.octets(&mut [0; 4]), state);
     }
 
-    #[tactic(auto, unfolding(crate::specs::Layout::octets_of))]
-    fn room_after(&self, limit: usize) -> Option<usize> {
-        limit.checked_sub(2)
-    }
-
-    #[tactic(auto, unfolding(crate::specs::Layout::octets_of))]
-    fn put<B: OctetsBuilder>(&self, target: &mut B) -> Result<(), AppendError> {
-        target::put_u16(target, *self)
-    }
-
-    #[tactic(auto, unfolding(crate::specs::Layout::octets_of))]
-    fn put_canonical<B: OctetsBuilder>(&self, target: &mut B) -> Result<(), AppendError> {
-        target::put_u16(target, *self)
-    }
-
-    #[tactic(auto, unfolding(crate::specs::Layout::octets_of))]
-    fn order(&self, other: &Self) -> Ordering {
-        let (a, b) = (self.to_be_bytes(), other.to_be_bytes());
-        a[..].cmp(&b[..])
-    }
-
-    #[tactic(auto, unfolding(crate::specs::Layout::octets_of))]
-    fn order_from<'o>(&self, octets: &'o [u8]) -> (Ordering, &'o [u8]) {
-        octets_order_from(&self.to_be_bytes(), octets)
-    }
-
-    #[tactic(auto, unfolding(crate::specs::Layout::octets_of))]
-    fn feed<H: Hasher>(&self, state: &mut H) {
-        feed_octets(&self.to_be_bytes(), state);
-    }
-}
-
-impl Delimited for u16 {
-    ghost delimited = { refl };
-
-    fn front_order(&self, other: &Self) -> Ordering {
-        let _values = (*self, *other);
-        self.order(other)
-    }
-}
-
-impl Fields for u32 {
-    ghost layout = { one long };
-
-    ghost values = { λ n. n };
-
-    #[tactic(auto, unfolding(crate::specs::Layout::octets_of))]
-    fn count(&self) -> u16 {
-        4
-    }
-
-    #[tactic(auto, unfolding(crate::specs::Layout::octets_of))]
-    fn room_after(&self, limit: usize) -> Option<usize> {
-        limit.checked_sub(4)
-    }
-
-    #[tactic(auto, unfolding(crate::specs::Layout::octets_of))]
-    fn put<B: OctetsBuilder>(&self, target: &mut B) -> Result<(), AppendError> {
-        target::put_u32(target, *self)
-    }
-
-    #[tactic(auto, unfolding(crate::specs::Layout::octets_of))]
-    fn put_canonical<B: OctetsBuilder>(&self, target: &mut B) -> Result<(), AppendError> {
-        target::put_u32(target, *self)
-    }
-
-    #[tactic(auto, unfolding(crate::specs::Layout::octets_of))]
-    fn order(&self, other: &Self) -> Ordering {
-        let (a, b) = (self.to_be_bytes(), other.to_be_bytes());
-        a[..].cmp(&b[..])
-    }
-
-    #[tactic(auto, unfolding(crate::specs::Layout::octets_of))]
-    fn order_from<'o>(&self, octets: &'o [u8]) -> (Ordering, &'o [u8]) {
-        octets_order_from(&self.to_be_bytes(), octets)
-    }
-
-    #[tactic(auto, unfolding(crate::specs::Layout::octets_of))]
-    fn feed<H: Hasher>(&self, state: &mut H) {
-        feed_octets(&self.to_be_bytes(), state);
-    }
-}
-
-impl Delimited for u32 {
-    ghost delimited = { refl };
-
-    fn front_order(&self, other: &Self) -> Ordering {
-        let _values = (*self, *other);
-        self.order(other)
+    fn fits(&self) {
+        let mut buffer = [0; 4];
+        let _octets = self.octets(&mut buffer);
     }
 }
 
@@ -330,17 +292,18 @@ impl<'a, N: ToName> Fields for Lowers<'a, N> {
 
     #[tactic(auto, unfolding(crate::specs::Layout::octets_of))]
     fn put<B: OctetsBuilder>(&self, target: &mut B) -> Result<(), AppendError> {
-        target::put_name(target, self.0)
+        self.0.compose(target)
     }
 
     #[tactic(auto, unfolding(crate::specs::Layout::octets_of))]
     fn put_canonical<B: OctetsBuilder>(&self, target: &mut B) -> Result<(), AppendError> {
-        target::put_name_lowered(target, self.0)
+        let _wire = self.0.as_wire();
+        self.0.compose_canonical(target)
     }
 
     #[tactic(auto, unfolding(crate::specs::Layout::octets_of))]
     fn order(&self, other: &Self) -> Ordering {
-        lowered_cmp(self.0.as_wire(), other.0.as_wire())
+        self.0.lowercase_composed_cmp(other.0)
     }
 
     #[tactic(auto, using(crate::proofs::NameLemmas::lowered_from), unfolding(crate::specs::Layout::octets_of))]
@@ -357,203 +320,10 @@ impl<'a, N: ToName> Fields for Lowers<'a, N> {
             state.write_u8(octet.to_ascii_lowercase());
         }
     }
-}
-
-impl<'a, N: ToName> Delimited for Lowers<'a, N> {
-    ghost delimited = { refl };
 
     #[tactic(auto, using(crate::proofs::NameLemmas::name_fits))]
-    fn front_order(&self, other: &Self) -> Ordering {
-        let (_a, _b) = (self.0.as_wire(), other.0.as_wire());
-        self.order(other)
-    }
-}
-
-impl<'a, N: ToName> Fields for Keeps<'a, N> {
-    ghost layout = { one spelled_name };
-
-    ghost values = { λ n. N.labels n.0.now };
-
-    #[tactic(auto, unfolding(crate::specs::Layout::octets_of))]
-    fn count(&self) -> u16 {
-        self.0.compose_len()
-    }
-
-    #[tactic(auto, unfolding(crate::specs::Layout::octets_of))]
-    fn room_after(&self, limit: usize) -> Option<usize> {
-        limit.checked_sub(usize::from(self.0.compose_len()))
-    }
-
-    #[tactic(auto, unfolding(crate::specs::Layout::octets_of))]
-    fn put<B: OctetsBuilder>(&self, target: &mut B) -> Result<(), AppendError> {
-        target::put_name(target, self.0)
-    }
-
-    #[tactic(auto, unfolding(crate::specs::Layout::octets_of))]
-    fn put_canonical<B: OctetsBuilder>(&self, target: &mut B) -> Result<(), AppendError> {
-        target::put_name(target, self.0)
-    }
-
-    #[tactic(auto, unfolding(crate::specs::Layout::octets_of))]
-    fn order(&self, other: &Self) -> Ordering {
-        spelled_cmp(self.0.as_wire(), other.0.as_wire())
-    }
-
-    #[tactic(auto, using(crate::proofs::NameLemmas::wire_is), unfolding(crate::specs::Layout::octets_of))]
-    fn order_from<'o>(&self, octets: &'o [u8]) -> (Ordering, &'o [u8]) {
-        octets_order_from(self.0.as_wire(), octets)
-    }
-
-    #[tactic(auto, using(crate::proofs::NameLemmas::wire_is), unfolding(crate::specs::Layout::octets_of))]
-    fn feed<H: Hasher>(&self, state: &mut H) {
-        feed_octets(self.0.as_wire(), state);
-    }
-}
-
-impl<'a, N: ToName> Delimited for Keeps<'a, N> {
-    ghost delimited = { refl };
-
-    #[tactic(auto, using(crate::proofs::NameLemmas::name_fits))]
-    fn front_order(&self, other: &Self) -> Ordering {
-        let (_a, _b) = (self.0.as_wire(), other.0.as_wire());
-        self.order(other)
-    }
-}
-
-impl<const COUNT: usize> Fields for Exactly<COUNT> {
-    ghost layout = { one (exactly COUNT) };
-
-    ghost values = { λ n. n.0 };
-
-    #[tactic(auto, unfolding(crate::specs::Layout::octets_of))]
-    fn count(&self) -> u16 {
-        self.0.len() as u16
-    }
-
-    #[tactic(auto, unfolding(crate::specs::Layout::octets_of))]
-    fn room_after(&self, limit: usize) -> Option<usize> {
-        limit.checked_sub(self.0.len())
-    }
-
-    #[tactic(auto, unfolding(crate::specs::Layout::octets_of))]
-    fn put<B: OctetsBuilder>(&self, target: &mut B) -> Result<(), AppendError> {
-        target::put_octets(target, &self.0)
-    }
-
-    #[tactic(auto, unfolding(crate::specs::Layout::octets_of))]
-    fn put_canonical<B: OctetsBuilder>(&self, target: &mut B) -> Result<(), AppendError> {
-        target::put_octets(target, &self.0)
-    }
-
-    #[tactic(auto, unfolding(crate::specs::Layout::octets_of))]
-    fn order(&self, other: &Self) -> Ordering {
-        self.0[..].cmp(&other.0[..])
-    }
-
-    #[tactic(auto, unfolding(crate::specs::Layout::octets_of))]
-    fn order_from<'o>(&self, octets: &'o [u8]) -> (Ordering, &'o [u8]) {
-        octets_order_from(&self.0, octets)
-    }
-
-    #[tactic(auto, unfolding(crate::specs::Layout::octets_of))]
-    fn feed<H: Hasher>(&self, state: &mut H) {
-        feed_octets(&self.0, state);
-    }
-}
-
-impl<const COUNT: usize> Delimited for Exactly<COUNT> {
-    ghost delimited = { refl };
-
-    fn front_order(&self, other: &Self) -> Ordering {
-        self.order(other)
-    }
-}
-
-impl<const LIMIT: usize> Fields for AtMost<LIMIT> {
-    ghost layout = { one (at_most LIMIT) };
-
-    ghost values = { λ n. tt };
-
-    #[tactic(auto, unfolding(crate::specs::Layout::octets_of))]
-    fn count(&self) -> u16 {
-        0
-    }
-
-    #[tactic(auto, unfolding(crate::specs::Layout::octets_of))]
-    fn room_after(&self, limit: usize) -> Option<usize> {
-        Some(limit)
-    }
-
-    #[tactic(auto, unfolding(crate::specs::Layout::octets_of))]
-    fn put<B: OctetsBuilder>(&self, target: &mut B) -> Result<(), AppendError> {
-        target::put_octets(target, &[])
-    }
-
-    #[tactic(auto, unfolding(crate::specs::Layout::octets_of))]
-    fn put_canonical<B: OctetsBuilder>(&self, target: &mut B) -> Result<(), AppendError> {
-        target::put_octets(target, &[])
-    }
-
-    #[tactic(auto, unfolding(crate::specs::Layout::octets_of))]
-    fn order(&self, _other: &Self) -> Ordering {
-        Ordering::Equal
-    }
-
-    #[tactic(auto, unfolding(crate::specs::Layout::octets_of))]
-    fn order_from<'o>(&self, octets: &'o [u8]) -> (Ordering, &'o [u8]) {
-        (Ordering::Equal, octets)
-    }
-
-    #[tactic(auto, unfolding(crate::specs::Layout::octets_of))]
-    fn feed<H: Hasher>(&self, _state: &mut H) {}
-}
-
-impl<const LIMIT: usize> Delimited for AtMost<LIMIT> {
-    ghost delimited = { refl };
-
-    fn front_order(&self, other: &Self) -> Ordering {
-        self.order(other)
-    }
-}
-
-impl<'a> Fields for Rest<'a> {
-    ghost layout = { one rest };
-
-    ghost values = { λ n. n.0.now };
-
-    #[tactic(auto, unfolding(crate::specs::Layout::octets_of))]
-    fn count(&self) -> u16 {
-        self.0.len() as u16
-    }
-
-    #[tactic(auto, unfolding(crate::specs::Layout::octets_of))]
-    fn room_after(&self, limit: usize) -> Option<usize> {
-        limit.checked_sub(self.0.len())
-    }
-
-    #[tactic(auto, unfolding(crate::specs::Layout::octets_of))]
-    fn put<B: OctetsBuilder>(&self, target: &mut B) -> Result<(), AppendError> {
-        target::put_octets(target, self.0)
-    }
-
-    #[tactic(auto, unfolding(crate::specs::Layout::octets_of))]
-    fn put_canonical<B: OctetsBuilder>(&self, target: &mut B) -> Result<(), AppendError> {
-        target::put_octets(target, self.0)
-    }
-
-    #[tactic(auto, unfolding(crate::specs::Layout::octets_of))]
-    fn order(&self, other: &Self) -> Ordering {
-        self.0.cmp(other.0)
-    }
-
-    #[tactic(auto, unfolding(crate::specs::Layout::octets_of))]
-    fn order_from<'o>(&self, octets: &'o [u8]) -> (Ordering, &'o [u8]) {
-        octets_order_from(self.0, octets)
-    }
-
-    #[tactic(auto, unfolding(crate::specs::Layout::octets_of))]
-    fn feed<H: Hasher>(&self, state: &mut H) {
-        feed_octets(self.0, state);
+    fn fits(&self) {
+        let _wire = self.0.as_wire();
     }
 }
 
@@ -586,7 +356,9 @@ impl<A: Delimited, B: Fields> Fields for (A, B) {
     }
 
     fn order(&self, other: &Self) -> Ordering {
-        let front = self.0.front_order(&other.0);
+        self.0.fits();
+        other.0.fits();
+        let front = self.0.order(&other.0);
         front.then_with(|| self.1.order(&other.1))
     }
 
@@ -602,14 +374,41 @@ impl<A: Delimited, B: Fields> Fields for (A, B) {
         self.0.feed(state);
         self.1.feed(state);
     }
+
+    fn fits(&self) {
+        self.0.fits();
+        self.1.fits();
+    }
+}
+
+impl Delimited for u8 {
+    ghost delimited = { refl };
+}
+
+impl Delimited for u16 {
+    ghost delimited = { refl };
+}
+
+impl Delimited for u32 {
+    ghost delimited = { refl };
+}
+
+impl<'a, N: ToName> Delimited for Lowers<'a, N> {
+    ghost delimited = { refl };
+}
+
+impl<'a, N: ToName> Delimited for Keeps<'a, N> {
+    ghost delimited = { refl };
+}
+
+impl<const COUNT: usize> Delimited for Exactly<COUNT> {
+    ghost delimited = { refl };
+}
+
+impl<const LIMIT: usize> Delimited for AtMost<LIMIT> {
+    ghost delimited = { refl };
 }
 
 impl<A: Delimited, B: Delimited> Delimited for (A, B) {
     ghost delimited = { both_true A.delimited B.delimited };
-
-    fn front_order(&self, other: &Self) -> Ordering {
-        let _front = self.0.front_order(&other.0);
-        let _back = self.1.front_order(&other.1);
-        self.order(other)
-    }
 }

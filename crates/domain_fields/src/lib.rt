@@ -12,7 +12,6 @@ mod fields;
 pub mod laws;
 mod read_fields;
 mod scan_fields;
-mod target;
 #[cfg(test)]
 mod tests;
 mod wire_fault;

@@ -1,7 +1,7 @@
 use Rattle.std.proofs.Common.{◌≡◌, ◌≢◌, codes, rules, sym, subst}
 use Rattle.domain_bitmap.specs.HashText.{SaltText, dash, digits}
 use Rattle.domain_bitmap.proofs.CountedLemmas.{over_limit}
-use Rattle.domain_bitmap.proofs.salt.Nsec3Salt.from_str.Goals as goal
+use Rattle.domain_bitmap.proofs.salt_text.Nsec3Salt+O.from_str.Goals as goal
 
 pub returns-then-eq-clause-ok : goal.returns-then-eq-clause-ok
 returns-then-eq-clause-ok g c =

@@ -1,0 +1,10 @@
+use Rattle.domain_bitmap.proofs.CountedLemmas.{over_limit, refused_by_codec, refused_too_long}
+use Rattle.domain_bitmap.proofs.counted.CountedOctets.scan_token.Goals as goal
+
+pub returns-in-Err-clause-err : goal.returns-in-Err-clause-err
+returns-in-Err-clause-err g c =
+    refused_by_codec _ _ g.O.Builder.OctetsBuilder.limit _ _ _ c.in-Err.ensures.err
+
+pub returns-clause-err : goal.returns-clause-err
+returns-clause-err g c =
+    refused_too_long _ _ g.O.Builder.OctetsBuilder.limit _ _ _ c.in-Ok.ensures.ok (over_limit _ c.in-Err-from_octets.ensures.ok.1)

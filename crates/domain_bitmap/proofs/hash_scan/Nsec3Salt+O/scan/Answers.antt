@@ -1,0 +1,25 @@
+use Rattle.domain_base.specs.Scan.{scan_fault_of}
+use Rattle.domain_bitmap.proofs.SaltLemmas.{no_token, took_dash, refused_dash, digits_ok, digits_err}
+use Rattle.domain_bitmap.proofs.hash_scan.Nsec3Salt+O.scan.Goals as goal
+
+pub returns-in_default-clause-err : goal.returns-in_default-clause-err
+returns-in_default-clause-err g c = no_token _ _ c.in_default.ensures
+
+pub returns-then-alone-clause-ok : goal.returns-then-alone-clause-ok
+returns-then-alone-clause-ok g c =
+    took_dash _ _ _ _ c.in-Some.ensures c.skip_token.ensures (c.dash-begins.ensures.alone.0 c.if-alone.true) c.of_none.ensures
+
+pub returns-then-begins-clause-err : goal.returns-then-begins-clause-err
+returns-then-begins-clause-err g c =
+    refused_dash _ _ _ _ c.in-Some.ensures c.skip_token.ensures (c.dash-begins.ensures.begins.0 c.if-begins.true)
+    (λ is. let alone = c.dash-begins.ensures.alone.1 is in cc (alone, c.if-alone.false))
+
+pub returns-clause-ok : goal.returns-clause-ok
+returns-clause-ok g c =
+    digits_ok c.scan_token.result _ _ _ c.in-Some.ensures (λ dash. let begins = c.dash-begins.ensures.begins.1 dash in cc (begins, c.if-begins.false))
+    c.scan_token.ensures.ok
+
+pub returns-clause-err : goal.returns-clause-err
+returns-clause-err g c =
+    digits_err scan_fault_of c.scan_token.result g.O.Builder.OctetsBuilder.limit _ _ _ c.in-Some.ensures
+    (λ dash. let begins = c.dash-begins.ensures.begins.1 dash in cc (begins, c.if-begins.false)) c.scan_token.ensures.err
