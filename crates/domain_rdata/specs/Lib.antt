@@ -11,3 +11,4 @@ pub mod Nsec3paramText
 pub mod Nsec3Wire
 pub mod Nsec3Text
 pub mod Refusal
+pub mod ZoneClone

@@ -25,6 +25,7 @@ mod nsec_text;
 mod nsec_wire;
 #[cfg(test)]
 mod tests;
+mod zone_clone;
 mod zone_octets;
 mod zone_record_data;
 mod zone_text;

@@ -1,15 +1,18 @@
 //! NSEC data copied, and made over other octets.
-ghost use Rattle.std.specs.Prelude.{◌⊎◌, Some, IfOk, length};
+ghost use Rattle.std.specs.Prelude.{◌⊎◌, Some, IfOk, length, refl};
+ghost use Rattle.domain_fields.specs.DataClone.{same_values_tie};
+ghost use Rattle.domain_rdata.specs.Rdata.{nsec, nsec_values};
 ghost use Rattle.domain_octets.specs.Limit.{IsOver};
 ghost use Rattle.domain_rdata.specs.NsecConvert.{IsNsecClone, IsSameNsec};
 
 use crate::Nsec;
 use bytes::Bytes;
+use domain_base::ToName;
 use domain_bitmap::RtypeBitmap;
 use domain_octets::{
     AppendError, ArrayBuilder, FlattenInto, Octets, OctetsFrom, OutOfMemory, TryClone,
 };
-use domain_plain::both;
+use domain_plain::{CloneRecordData, both};
 use std::alloc::Global;
 
 impl<O: Octets, N: TryClone + Drop> Nsec<O, N> {
@@ -29,6 +32,13 @@ impl<O: Octets, N: TryClone + Drop> TryClone for Nsec<O, N> {
     fn try_clone(&self) -> Result<Self, OutOfMemory> {
         self.clone()
     }
+}
+
+impl<O: Octets, N: ToName + Drop> CloneRecordData for Nsec<O, N> {
+    ghost clone_rtype = { λ d copy same. refl };
+
+    ghost clone_canonical = { λ d copy same. same_values_tie nsec (nsec_values N.labels) d copy
+        (λ i. (N.clone_labels d.next_name copy.next_name same.next_name i, same.types i)) };
 }
 
 impl<S: Octets + Drop, N: Drop, M: OctetsFrom<N> + Drop> OctetsFrom<Nsec<S, N>>

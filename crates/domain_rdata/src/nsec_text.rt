@@ -50,11 +50,12 @@ impl<O: Octets, N: ToName> fmt::Display for Nsec<O, N> {
     }
 }
 
-impl<O: Octets, N: ToName> fmt::Debug for Nsec<O, N> {
+impl<O: Octets, N: fmt::Debug> fmt::Debug for Nsec<O, N> {
     fn fmt<W: fmt::Write>(&self, f: &mut fmt::Formatter<W>) -> fmt::Result {
-        let next_name = self.next_name().fmt_with_dot();
-        let types = self.types();
-        write!(f, "Nsec {{ next_name: {next_name}, types: {types:?} }}")
+        f.debug_struct("Nsec")
+            .field("next_name", self.next_name())
+            .field("types", self.types())
+            .finish()
     }
 }
 
