@@ -3,6 +3,7 @@ ghost use Rattle.std.specs.Prelude.{◌≡◌, Some, IfOk, IfErr, OnErr};
 ghost use Rattle.domain_base.specs.Text.{name_text};
 ghost use Rattle.domain_base.specs.Name.{wire_of, IsName};
 ghost use Rattle.domain_base.specs.Fault.{NameFault, FirstFault, fault_of, name_fault_of};
+ghost use Rattle.domain_base.specs.Wire.{labels_of, IsWire};
 ghost use Rattle.domain_octets.specs.Place.{Takes};
 
 use crate::{NameError, ParseError, ToName, text, wire};
@@ -53,6 +54,14 @@ impl<'a> ParsedName<'a> {
         let (wire, _) = wire::split_name(parser.peek_all())?;
         parser.advance(wire.len());
         Ok(ParsedName { wire })
+    }
+
+    /// A name over its wire form.
+    pub(crate) fn over(wire: &'a [u8]) -> Self
+        requires { IsWire wire.now }
+        ensures { result ≡ labels_of wire.now }
+    {
+        ParsedName { wire }
     }
 
     /// A name that is all of these octets. Refuses as `Name::from_octets` does.
