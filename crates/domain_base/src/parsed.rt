@@ -3,6 +3,7 @@ ghost use Rattle.std.specs.Prelude.{◌≡◌, ◌∷◌, [], Some, IfNone, IfSo
 ghost use Rattle.domain_base.specs.Text.{name_text};
 ghost use Rattle.domain_base.specs.Name.{wire_of, IsName, parent_of};
 ghost use Rattle.domain_base.specs.Fault.{NameFault, FirstFault, fault_of, name_fault_of};
+ghost use Rattle.domain_base.specs.Wire.{labels_of, IsWire};
 ghost use Rattle.domain_octets.specs.Place.{Takes};
 
 use crate::{NameError, ParseError, ToName, text, wire};
@@ -55,6 +56,14 @@ impl<'a> ParsedName<'a> {
         Ok(ParsedName { wire })
     }
 
+    /// A name over its wire form.
+    pub(crate) fn over(wire: &'a [u8]) -> Self
+        requires { IsWire wire.now }
+        ensures { result ≡ labels_of wire.now }
+    {
+        ParsedName { wire }
+    }
+
     /// A name that is all of these octets. Refuses as `Name::from_octets` does.
     pub fn from_slice(octets: &'a [u8]) -> Result<Self, ParseError>
         ensures ok { IfOk result (λ name. octets.now ≡ wire_of name) }
@@ -62,15 +71,6 @@ impl<'a> ParsedName<'a> {
     {
         wire::check(octets)?;
         Ok(ParsedName { wire: octets })
-    }
-
-    /// The same name, in the octets of another. Takes no memory.
-    pub fn borrowed<N: ToName>(name: &'a N) -> Self
-        ensures { result ≡ N.labels name.now }
-    {
-        ParsedName {
-            wire: name.as_wire(),
-        }
     }
 
     /// The first label, and the name above it in the same octets; None for the root. Takes no memory.

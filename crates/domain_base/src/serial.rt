@@ -11,7 +11,7 @@ ghost use Rattle.domain_base.specs.Serial.{serial_cmp};
 ghost use Rattle.std.specs.Cmp.{nat_cmp_total};
 
 use crate::{CanonicalOrd, ParseError, ScanError};
-use domain_octets::{AppendError, Composer, Parser};
+use domain_octets::{AppendError, OctetsBuilder, Parser};
 use std::cmp::Ordering;
 use std::fmt;
 use std::marker::Model;
@@ -60,7 +60,7 @@ impl Serial {
     }
 
     /// Appends its four octets.
-    pub fn compose<B: Composer>(&self, target: &mut B) -> Result<(), AppendError>
+    pub fn compose<B: OctetsBuilder>(&self, target: &mut B) -> Result<(), AppendError>
         ensures ok { OnOk result (B.octets target.new ≡ B.octets target.old ++ to_be_bytes w32 self.now) }
         ensures err { OnErr result (B.octets target.new ≡ B.octets target.old) }
         ensures short { IsErrOf result AppendError.ShortBuf ↔ IsOver B.limit (length (B.octets target.old) + 4) }

@@ -53,8 +53,8 @@ impl<O: Octets> RtypeBitmap<O> {
         RtypeBitmap { octets }
     }
 
-    /// The same bitmap over other octets, which are the same.
-    pub(crate) fn remade<P: Octets>(&self, octets: P) -> RtypeBitmap<P>
+    /// The same bitmap over other octets, which are the same. Takes no memory.
+    pub fn remade<P: Octets>(&self, octets: P) -> RtypeBitmap<P>
         requires { P.octets octets ≡ self.now }
         ensures { result ≡ self.now }
     {

@@ -1,5 +1,5 @@
 //! Bitmaps as octets, copied and written.
-ghost use Rattle.std.specs.Prelude.{◌≡◌, ◌↔◌, ◌+◌, ◌<◌, ◌^◌, ◌++◌, length, [], Some, IsOk, IfOk, IfErr, OnOk, OnErr, IsErrOf, IsNone};
+ghost use Rattle.std.specs.Prelude.{◌≡◌, ◌↔◌, ◌+◌, ◌<◌, ◌^◌, ◌++◌, length, [], IsOk, IfOk, IfErr, OnOk, OnErr, IsErrOf, IsNone};
 ghost use Rattle.domain_octets.specs.Limit.{IsOver};
 ghost use Rattle.domain_octets.specs.Place.{Takes};
 ghost use Rattle.domain_base.specs.Fault.{fault_of};
@@ -8,10 +8,9 @@ ghost use Rattle.domain_bitmap.specs.Fault.{BitmapFault};
 
 use crate::RtypeBitmap;
 use crate::blocks::check;
-use bytes::Bytes;
 use domain_base::ParseError;
 use domain_octets::{
-    AppendError, ArrayBuilder, Octets, OctetsBuilder, OctetsFrom, OutOfMemory, Parser, TryClone,
+    AppendError, CopyOctets, Octets, OctetsBuilder, OctetsFrom, OutOfMemory, Parser, TryClone,
 };
 use std::alloc::Global;
 
@@ -74,35 +73,13 @@ impl<'a> RtypeBitmap<&'a [u8]> {
     }
 }
 
-impl<S: Octets + Drop> OctetsFrom<RtypeBitmap<S>> for RtypeBitmap<Vec<u8>> {
+impl<S: Octets + Drop, O: CopyOctets> OctetsFrom<RtypeBitmap<S>> for RtypeBitmap<O> {
     ghost is_same = { λ source made. made ≡ source };
 
-    ghost has_no_room = { λ _. ⊥ };
+    ghost has_no_room = { λ source. IsOver O.capacity (length source) };
 
     fn try_octets_from(alloc: Global, source: RtypeBitmap<S>) -> Result<Self, AppendError> {
-        let octets = Vec::try_octets_from(alloc, source.as_slice())?;
-        Ok(source.remade(octets))
-    }
-}
-
-impl<S: Octets + Drop> OctetsFrom<RtypeBitmap<S>> for RtypeBitmap<Bytes> {
-    ghost is_same = { λ source made. made ≡ source };
-
-    ghost has_no_room = { λ _. ⊥ };
-
-    fn try_octets_from(alloc: Global, source: RtypeBitmap<S>) -> Result<Self, AppendError> {
-        let octets = Bytes::try_octets_from(alloc, source.as_slice())?;
-        Ok(source.remade(octets))
-    }
-}
-
-impl<S: Octets + Drop, const K: usize> OctetsFrom<RtypeBitmap<S>> for RtypeBitmap<ArrayBuilder<K>> {
-    ghost is_same = { λ source made. made ≡ source };
-
-    ghost has_no_room = { λ source. IsOver (Some K) (length source) };
-
-    fn try_octets_from(alloc: Global, source: RtypeBitmap<S>) -> Result<Self, AppendError> {
-        let octets = ArrayBuilder::try_octets_from(alloc, source.as_slice())?;
+        let octets = O::copy_octets(alloc, source.as_slice())?;
         Ok(source.remade(octets))
     }
 }

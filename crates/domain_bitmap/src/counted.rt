@@ -12,7 +12,7 @@ ghost use Rattle.domain_bitmap.specs.Counted.{by_length, by_length_total, IsCutS
 use bytes::Bytes;
 use domain_base::{CanonicalOrd, ParseError};
 use domain_octets::{
-    AppendError, ArrayBuilder, EmptyOctets, FromBuilder, Octets, OctetsFrom, OutOfMemory, Parser,
+    AppendError, CopyOctets, EmptyOctets, FromBuilder, Octets, OctetsFrom, OutOfMemory, Parser,
     TryClone,
 };
 use std::alloc::Global;
@@ -54,11 +54,11 @@ impl<O: Octets, E> CountedOctets<O, E> {
         if octets.as_slice().len() > MAX_LEN {
             return Err(E::default());
         }
-        Ok(CountedOctets::over(octets))
+        Ok(CountedOctets::from_octets_unchecked(octets))
     }
 
-    /// These octets.
-    fn over(octets: O) -> Self
+    /// These octets, which are at most 255. Takes no memory.
+    pub fn from_octets_unchecked(octets: O) -> Self
         requires { length (O.octets octets) ≤ 255 }
         ensures { result ≡ O.octets octets }
     {
@@ -66,6 +66,15 @@ impl<O: Octets, E> CountedOctets<O, E> {
             octets,
             kind: PhantomData,
         }
+    }
+
+    /// The same over other octets, which are the same. Takes no memory.
+    pub fn remade<P: Octets>(&self, octets: P) -> CountedOctets<P, E>
+        requires { P.octets octets ≡ self.now }
+        ensures { result ≡ self.now }
+    {
+        let _ = self.as_slice();
+        CountedOctets::from_octets_unchecked(octets)
     }
 
     /// The octets.
@@ -88,7 +97,7 @@ impl<O: Octets, E> CountedOctets<O, E> {
     pub fn clone(&self) -> Result<Self, OutOfMemory>
         ensures { IfOk result (λ copy. copy ≡ self.now) }
     {
-        Ok(CountedOctets::over(self.octets.try_clone()?))
+        Ok(self.remade(self.octets.try_clone()?))
     }
 
     /// Whether other octets are the same.
@@ -121,7 +130,7 @@ impl<O: EmptyOctets, E> CountedOctets<O, E> {
     pub fn empty(alloc: Global) -> Self
         ensures { result ≡ [] }
     {
-        CountedOctets::over(O::empty(alloc))
+        CountedOctets::from_octets_unchecked(O::empty(alloc))
     }
 }
 
@@ -131,7 +140,7 @@ impl<O: FromBuilder, E> CountedOctets<O, E> {
         requires { O.Builder.octets builder ≡ [] }
         ensures { result ≡ [] }
     {
-        CountedOctets::over(O::from_builder(builder))
+        CountedOctets::from_octets_unchecked(O::from_builder(builder))
     }
 }
 
@@ -168,7 +177,7 @@ impl<'a, E> CountedOctets<&'a [u8], E> {
         let len = ahead.parse_u8()?;
         let octets = ahead.parse_octets(len as usize)?;
         *parser = ahead;
-        Ok(CountedOctets::over(octets))
+        Ok(CountedOctets::from_octets_unchecked(octets))
     }
 }
 
@@ -251,36 +260,13 @@ impl<O: Octets, E> Hash for CountedOctets<O, E> {
     }
 }
 
-impl<S: Octets + Drop, E> OctetsFrom<CountedOctets<S, E>> for CountedOctets<Vec<u8>, E> {
+impl<S: Octets + Drop, O: CopyOctets, E> OctetsFrom<CountedOctets<S, E>> for CountedOctets<O, E> {
     ghost is_same = { λ source made. made ≡ source };
 
-    ghost has_no_room = { λ _. ⊥ };
+    ghost has_no_room = { λ source. IsOver O.capacity (length source) };
 
     fn try_octets_from(alloc: Global, source: CountedOctets<S, E>) -> Result<Self, AppendError> {
-        let octets = Vec::try_octets_from(alloc, source.as_slice())?;
-        Ok(CountedOctets::over(octets))
-    }
-}
-
-impl<S: Octets + Drop, E> OctetsFrom<CountedOctets<S, E>> for CountedOctets<Bytes, E> {
-    ghost is_same = { λ source made. made ≡ source };
-
-    ghost has_no_room = { λ _. ⊥ };
-
-    fn try_octets_from(alloc: Global, source: CountedOctets<S, E>) -> Result<Self, AppendError> {
-        let octets = Bytes::try_octets_from(alloc, source.as_slice())?;
-        Ok(CountedOctets::over(octets))
-    }
-}
-
-impl<S: Octets + Drop, E, const K: usize> OctetsFrom<CountedOctets<S, E>>
-    for CountedOctets<ArrayBuilder<K>, E> {
-    ghost is_same = { λ source made. made ≡ source };
-
-    ghost has_no_room = { λ source. IsOver (Some K) (length source) };
-
-    fn try_octets_from(alloc: Global, source: CountedOctets<S, E>) -> Result<Self, AppendError> {
-        let octets = ArrayBuilder::try_octets_from(alloc, source.as_slice())?;
-        Ok(CountedOctets::over(octets))
+        let octets = O::copy_octets(alloc, source.as_slice())?;
+        Ok(source.remade(octets))
     }
 }

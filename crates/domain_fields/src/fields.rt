@@ -11,10 +11,13 @@ ghost use Rattle.domain_fields.specs.Layout.{Layout, one, ◌▸◌, Values, Fit
 ghost use Rattle.domain_fields.specs.Laws.{both_true};
 ghost use Rattle.domain_fields.specs.Target.{Appends};
 
-use domain_base::ToName;
+use domain_base::{ParsedName, ToName};
 use domain_octets::{AppendError, OctetsBuilder};
 use std::cmp::Ordering;
 use std::hash::Hasher;
+
+/// The greatest length of the data of a record, in octets (RFC 1035, section 3.2.1).
+pub const MAX_RDLEN: usize = 65535;
 
 /// Fields, in the order of the wire.
 pub trait Fields {
@@ -88,13 +91,9 @@ pub struct Exactly<const COUNT: usize>(pub [u8; COUNT]);
 #[derive(Drop)]
 pub struct AtMost<const LIMIT: usize>;
 
-/// A name that the canonical form lowers.
+/// A name that the canonical form keeps. One that it lowers is a `ParsedName` alone.
 #[derive(Drop)]
-pub struct Lowers<'a, N>(pub &'a N);
-
-/// A name that the canonical form keeps.
-#[derive(Drop)]
-pub struct Keeps<'a, N>(pub &'a N);
+pub struct Spelled<N>(pub N);
 
 fn feed_octets<H: Hasher>(octets: &[u8], state: &mut H)
     ensures { state.new ≡ fold H.write state.old (flat_map fed.u8 octets.now) }
@@ -177,10 +176,10 @@ impl Octeted for u32 {
     }
 }
 
-impl<'a, N: ToName> Octeted for Keeps<'a, N> {
+impl<'a> Octeted for Spelled<ParsedName<'a>> {
     ghost field = { spelled_name };
 
-    ghost value = { λ n. N.labels n.0.now };
+    ghost value = { λ n. n.0 };
 
     ghost keeps = { λ v. refl };
 
@@ -275,47 +274,47 @@ impl<F: Octeted> Fields for F {
     }
 }
 
-impl<'a, N: ToName> Fields for Lowers<'a, N> {
+impl<'a> Fields for ParsedName<'a> {
     ghost layout = { one name };
 
-    ghost values = { λ n. N.labels n.0.now };
+    ghost values = { λ n. n };
 
     #[tactic(auto, unfolding(crate::specs::Layout::octets_of))]
     fn count(&self) -> u16 {
-        self.0.compose_len()
+        self.compose_len()
     }
 
     #[tactic(auto, unfolding(crate::specs::Layout::octets_of))]
     fn room_after(&self, limit: usize) -> Option<usize> {
-        limit.checked_sub(usize::from(self.0.compose_len()))
+        limit.checked_sub(usize::from(self.compose_len()))
     }
 
     #[tactic(auto, unfolding(crate::specs::Layout::octets_of))]
     fn put<B: OctetsBuilder>(&self, target: &mut B) -> Result<(), AppendError> {
-        self.0.compose(target)
+        self.compose(target)
     }
 
     #[tactic(auto, unfolding(crate::specs::Layout::octets_of))]
     fn put_canonical<B: OctetsBuilder>(&self, target: &mut B) -> Result<(), AppendError> {
-        let _wire = self.0.as_wire();
-        self.0.compose_canonical(target)
+        let _wire = self.as_wire();
+        self.compose_canonical(target)
     }
 
     #[tactic(auto, unfolding(crate::specs::Layout::octets_of))]
     fn order(&self, other: &Self) -> Ordering {
-        self.0.lowercase_composed_cmp(other.0)
+        self.lowercase_composed_cmp(other)
     }
 
     #[tactic(auto, using(crate::proofs::NameLemmas::lowered_from), unfolding(crate::specs::Layout::octets_of))]
     fn order_from<'o>(&self, octets: &'o [u8]) -> (Ordering, &'o [u8]) {
-        let wire = self.0.as_wire();
+        let wire = self.as_wire();
         let (front, back) = split_up_to(octets, wire.len());
         (lowered_with_octets_cmp(wire, front), back)
     }
 
     #[tactic(auto, using(crate::proofs::NameLemmas::lowered_wire), unfolding(crate::specs::Layout::octets_of))]
     fn feed<H: Hasher>(&self, state: &mut H) {
-        let wire = self.0.as_wire();
+        let wire = self.as_wire();
         for octet in wire {
             state.write_u8(octet.to_ascii_lowercase());
         }
@@ -323,7 +322,7 @@ impl<'a, N: ToName> Fields for Lowers<'a, N> {
 
     #[tactic(auto, using(crate::proofs::NameLemmas::name_fits))]
     fn fits(&self) {
-        let _wire = self.0.as_wire();
+        let _wire = self.as_wire();
     }
 }
 
@@ -393,11 +392,11 @@ impl Delimited for u32 {
     ghost delimited = { refl };
 }
 
-impl<'a, N: ToName> Delimited for Lowers<'a, N> {
+impl<'a> Delimited for ParsedName<'a> {
     ghost delimited = { refl };
 }
 
-impl<'a, N: ToName> Delimited for Keeps<'a, N> {
+impl<'a> Delimited for Spelled<ParsedName<'a>> {
     ghost delimited = { refl };
 }
 

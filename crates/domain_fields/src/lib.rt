@@ -17,7 +17,9 @@ mod tests;
 mod wire_fault;
 
 pub use counted::Counted;
-pub use fields::{AtMost, Delimited, Exactly, Fields, Keeps, Lowers, Rest, canonical_cmp_octets};
-pub use read_fields::{ReadFields, Spelled};
+pub use fields::{
+    AtMost, Delimited, Exactly, Fields, MAX_RDLEN, Rest, Spelled, canonical_cmp_octets,
+};
+pub use read_fields::ReadFields;
 pub use scan_fields::{Address, ScanFields, Scanned};
 pub use wire_fault::WireFault;

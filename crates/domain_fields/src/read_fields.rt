@@ -6,7 +6,7 @@ ghost use Rattle.domain_fields.specs.Layout.{Layout, one, ◌▸◌, Values, Beg
 
 use crate::WireFault;
 use crate::counted::Counted;
-use crate::fields::{AtMost, Exactly, Rest};
+use crate::fields::{AtMost, Exactly, Rest, Spelled};
 use domain_base::ParsedName;
 use domain_octets::Parser;
 
@@ -28,10 +28,6 @@ pub trait ReadFields<'a>: Drop {
         ensures unmoved { OnErr result (parser.new ≡ parser.old) }
         ensures goes_on { GoesOn parser.old parser.new };
 }
-
-/// A name that the canonical form keeps. One that it lowers is a `ParsedName` alone.
-#[derive(Drop)]
-pub struct Spelled<N>(pub N);
 
 impl<'a> ReadFields<'a> for u8 {
     ghost layout = { one octet };

@@ -1,16 +1,12 @@
--- the order of signatures
-use Rattle.std.specs.declared.cmp.Ordering.{Ordering}
-use Rattle.std.specs.declared.cmp.Ordering.TheVariants.{Less, Equal, Greater}
+-- signatures that are the same, and how they are read
 use Rattle.std.proofs.Common.{◌≡◌, ◌≤◌, ◌↔◌, ℕ, Bool, List, [], ◌++◌, length, refl, sym, ap, ◌∙◌, arith, length-append}
 use Rattle.std.specs.Prelude.{bytes_eq, IsTrue}
-use Rattle.std.specs.Ordering.{ordering_then, nat_cmp}
-use Rattle.std.specs.Cmp.Lexicographic.{slice_cmp, bytes_decides}
-use Rattle.domain_base.specs.Name.{wire_of, lowered}
+use Rattle.std.specs.Cmp.Lexicographic.{bytes_decides}
+use Rattle.domain_base.specs.Name.{lowered}
 use Rattle.domain_base.proofs.CaseLemmas.{IsName-lowered}
 use Rattle.domain_fields.specs.Field.{name, rest}
-use Rattle.domain_fields.specs.Layout.{Layout, one, ◌▸◌, Values, octets_of, canonical_of, canonical_order, Fits, Begins, ParsesBack}
+use Rattle.domain_fields.specs.Layout.{Layout, one, ◌▸◌, Values, octets_of, canonical_of, Fits, Begins, ParsesBack}
 use Rattle.domain_fields.proofs.ExactLemmas.{parses_back}
-use Rattle.domain_fields.proofs.OrderLemmas.{order_both}
 use Rattle.domain_keys.specs.Data.{ProtoRrsigData, proto_rrsig, proto_rrsig_values, RrsigData, rrsig, rrsig_values, rrsig_octets, rrsig_canonical, rrsig_numbers, rrsig_numbers_values, IsSameRrsig}
 use Rattle.domain_keys.proofs.DataLemmas.{same_values}
 
@@ -25,27 +21,8 @@ regrouped : (d : RrsigData) → rrsig_canonical d ≡ canonical_of grouped (grou
 unfolding octets_of
 regrouped d = refl
 
-then_assoc : (o p q : Ordering) → ordering_then o (ordering_then p q) ≡ ordering_then (ordering_then o p) q
-then_assoc Less p q = refl
-then_assoc Equal p q = refl
-then_assoc Greater p q = refl
-
 numbers_fit : (d : ProtoRrsigData) → Fits proto_rrsig (proto_rrsig_values d) → Fits rrsig_numbers (rrsig_numbers_values d)
 numbers_fit d fits = (fits.0, (fits.1.0, fits.1.1.0))
-
--- the numbers decide first, then the lowered name, then the signature
-pub rrsig_order : (a b : RrsigData) → Fits proto_rrsig (proto_rrsig_values a.fields) → Fits proto_rrsig (proto_rrsig_values b.fields)
-    → slice_cmp nat_cmp (rrsig_canonical a) (rrsig_canonical b)
-    ≡ ordering_then (ordering_then (canonical_order rrsig_numbers (rrsig_numbers_values a.fields) (rrsig_numbers_values b.fields))
-    (slice_cmp nat_cmp (wire_of (lowered a.fields.signer_name)) (wire_of (lowered b.fields.signer_name)))) (slice_cmp nat_cmp a.signature b.signature)
-unfolding octets_of
-rrsig_order a b fits_a fits_b =
-    order_both rrsig_numbers (one name ▸ one rest) (rrsig_numbers_values a.fields) (rrsig_numbers_values b.fields) (a.fields.signer_name, a.signature) (b.fields.signer_name, b.signature) refl
-    (numbers_fit a.fields fits_a) (numbers_fit b.fields fits_b)
-    ∙ ap (ordering_then (canonical_order rrsig_numbers (rrsig_numbers_values a.fields) (rrsig_numbers_values b.fields)))
-    (order_both (one name) (one rest) a.fields.signer_name b.fields.signer_name a.signature b.signature refl fits_a.1.1.1 fits_b.1.1.1)
-    ∙ then_assoc (canonical_order rrsig_numbers (rrsig_numbers_values a.fields) (rrsig_numbers_values b.fields))
-    (slice_cmp nat_cmp (wire_of (lowered a.fields.signer_name)) (wire_of (lowered b.fields.signer_name))) (slice_cmp nat_cmp a.signature b.signature)
 
 abbrev lowered_values : RrsigData → Values grouped
 lowered_values d = (rrsig_numbers_values d.fields, (lowered d.fields.signer_name, d.signature))

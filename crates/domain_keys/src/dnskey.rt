@@ -16,11 +16,10 @@ ghost use Rattle.domain_keys.specs.Laws.{copies_tied};
 
 use crate::fields::{KeyFields, MOST};
 use crate::{flags, key_tag};
-use bytes::Bytes;
 use domain_base::{CanonicalOrd, Rtype, SecurityAlgorithm};
-use domain_fields::{AtMost, Fields, ReadFields, Rest};
+use domain_fields::{AtMost, Fields, MAX_RDLEN, ReadFields, Rest};
 use domain_octets::{
-    AppendError, ArrayBuilder, Octets, OctetsBuilder, OctetsFrom, OutOfMemory, ParseError, Parser,
+    AppendError, CopyOctets, Octets, OctetsBuilder, OctetsFrom, OutOfMemory, ParseError, Parser,
     TryClone,
 };
 use domain_plain::{
@@ -99,8 +98,8 @@ impl<O: Octets> Dnskey<O> {
         }
     }
 
-    /// The same key over other octets, which are the same.
-    fn remade<P: Octets>(&self, public_key: P) -> Dnskey<P>
+    /// The same key over other octets, which are the same. Takes no memory.
+    pub fn remade<P: Octets>(&self, public_key: P) -> Dnskey<P>
         requires { P.octets public_key ≡ self.now.public_key }
         ensures { result ≡ self.now }
     {
@@ -286,7 +285,7 @@ impl<O: Octets> ComposeRecordData for Dnskey<O> {
     ghost canonical = { dnskey_octets };
 
     fn fits_rdlen(&self) -> bool {
-        self.fields().room_after(65535).is_some()
+        self.fields().room_after(MAX_RDLEN).is_some()
     }
 
     fn rdlen(&self, _compress: bool) -> Option<u16> {
@@ -402,35 +401,13 @@ impl<O: Octets> CloneRecordData for Dnskey<O> {
     ghost clone_canonical = { copies_tied dnskey_octets };
 }
 
-impl<S: Octets + Drop> OctetsFrom<Dnskey<S>> for Dnskey<Vec<u8>> {
+impl<S: Octets + Drop, O: CopyOctets> OctetsFrom<Dnskey<S>> for Dnskey<O> {
     ghost is_same = { λ source made. made ≡ source };
 
-    ghost has_no_room = { λ _. ⊥ };
+    ghost has_no_room = { λ source. IsOver O.capacity (length source.public_key) };
 
     fn try_octets_from(alloc: Global, source: Dnskey<S>) -> Result<Self, AppendError> {
-        let key = Vec::try_octets_from(alloc, source.public_key.as_slice())?;
-        Ok(source.remade(key))
-    }
-}
-
-impl<S: Octets + Drop> OctetsFrom<Dnskey<S>> for Dnskey<Bytes> {
-    ghost is_same = { λ source made. made ≡ source };
-
-    ghost has_no_room = { λ _. ⊥ };
-
-    fn try_octets_from(alloc: Global, source: Dnskey<S>) -> Result<Self, AppendError> {
-        let key = Bytes::try_octets_from(alloc, source.public_key.as_slice())?;
-        Ok(source.remade(key))
-    }
-}
-
-impl<S: Octets + Drop, const K: usize> OctetsFrom<Dnskey<S>> for Dnskey<ArrayBuilder<K>> {
-    ghost is_same = { λ source made. made ≡ source };
-
-    ghost has_no_room = { λ source. IsOver (Some K) (length source.public_key) };
-
-    fn try_octets_from(alloc: Global, source: Dnskey<S>) -> Result<Self, AppendError> {
-        let key = ArrayBuilder::try_octets_from(alloc, source.public_key.as_slice())?;
+        let key = O::copy_octets(alloc, source.public_key.as_slice())?;
         Ok(source.remade(key))
     }
 }

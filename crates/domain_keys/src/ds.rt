@@ -13,11 +13,10 @@ ghost use Rattle.domain_keys.specs.Data.{ds_data, ds, ds_values, ds_octets};
 ghost use Rattle.domain_keys.specs.Laws.{copies_tied};
 
 use crate::fields::{KeyFields, MOST};
-use bytes::Bytes;
 use domain_base::{CanonicalOrd, DigestAlgorithm, Rtype, SecurityAlgorithm};
-use domain_fields::{AtMost, Fields, ReadFields, Rest};
+use domain_fields::{AtMost, Fields, MAX_RDLEN, ReadFields, Rest};
 use domain_octets::{
-    AppendError, ArrayBuilder, Octets, OctetsBuilder, OctetsFrom, OutOfMemory, ParseError, Parser,
+    AppendError, CopyOctets, Octets, OctetsBuilder, OctetsFrom, OutOfMemory, ParseError, Parser,
     TryClone,
 };
 use domain_plain::{
@@ -96,8 +95,8 @@ impl<O: Octets> Ds<O> {
         }
     }
 
-    /// The same digest over other octets, which are the same.
-    fn remade<P: Octets>(&self, digest: P) -> Ds<P>
+    /// The same digest over other octets, which are the same. Takes no memory.
+    pub fn remade<P: Octets>(&self, digest: P) -> Ds<P>
         requires { P.octets digest ≡ self.now.digest }
         ensures { result ≡ self.now }
     {
@@ -228,7 +227,7 @@ impl<O: Octets> ComposeRecordData for Ds<O> {
     ghost canonical = { ds_octets };
 
     fn fits_rdlen(&self) -> bool {
-        self.fields().room_after(65535).is_some()
+        self.fields().room_after(MAX_RDLEN).is_some()
     }
 
     fn rdlen(&self, _compress: bool) -> Option<u16> {
@@ -344,35 +343,13 @@ impl<O: Octets> CloneRecordData for Ds<O> {
     ghost clone_canonical = { copies_tied ds_octets };
 }
 
-impl<S: Octets + Drop> OctetsFrom<Ds<S>> for Ds<Vec<u8>> {
+impl<S: Octets + Drop, O: CopyOctets> OctetsFrom<Ds<S>> for Ds<O> {
     ghost is_same = { λ source made. made ≡ source };
 
-    ghost has_no_room = { λ _. ⊥ };
+    ghost has_no_room = { λ source. IsOver O.capacity (length source.digest) };
 
     fn try_octets_from(alloc: Global, source: Ds<S>) -> Result<Self, AppendError> {
-        let digest = Vec::try_octets_from(alloc, source.digest.as_slice())?;
-        Ok(source.remade(digest))
-    }
-}
-
-impl<S: Octets + Drop> OctetsFrom<Ds<S>> for Ds<Bytes> {
-    ghost is_same = { λ source made. made ≡ source };
-
-    ghost has_no_room = { λ _. ⊥ };
-
-    fn try_octets_from(alloc: Global, source: Ds<S>) -> Result<Self, AppendError> {
-        let digest = Bytes::try_octets_from(alloc, source.digest.as_slice())?;
-        Ok(source.remade(digest))
-    }
-}
-
-impl<S: Octets + Drop, const K: usize> OctetsFrom<Ds<S>> for Ds<ArrayBuilder<K>> {
-    ghost is_same = { λ source made. made ≡ source };
-
-    ghost has_no_room = { λ source. IsOver (Some K) (length source.digest) };
-
-    fn try_octets_from(alloc: Global, source: Ds<S>) -> Result<Self, AppendError> {
-        let digest = ArrayBuilder::try_octets_from(alloc, source.digest.as_slice())?;
+        let digest = O::copy_octets(alloc, source.digest.as_slice())?;
         Ok(source.remade(digest))
     }
 }

@@ -6,7 +6,7 @@ ghost use Rattle.domain_keys.specs.Data.{proto_rrsig, proto_rrsig_values, proto_
 
 use crate::{Rrsig, Timestamp};
 use domain_base::{ParsedName, Rtype, SecurityAlgorithm, ToName, Ttl};
-use domain_fields::{Fields, Lowers};
+use domain_fields::Fields;
 use domain_octets::{AppendError, Octets, OctetsBuilder, OutOfMemory, TryClone};
 use domain_plain::LongRecordData;
 use std::marker::Model;
@@ -33,10 +33,7 @@ impl<N: ToName> Model for ProtoRrsig<N> {
 }
 
 /// A number of 16 bits and two of 8 bits, three of 32 bits, one of 16 bits, and a name.
-pub type ProtoFields<'a, N> = ((u16, (u8, u8)), ((u32, (u32, u32)), (u16, Lowers<'a, N>)));
-
-/// The same, as they are read.
-pub type ParsedProto<'a> = ((u16, (u8, u8)), ((u32, (u32, u32)), (u16, ParsedName<'a>)));
+pub type ProtoFields<'a> = ((u16, (u8, u8)), ((u32, (u32, u32)), (u16, ParsedName<'a>)));
 
 /// The numbers among the fields.
 pub type Numbers = ((u16, (u8, u8)), ((u32, (u32, u32)), u16));
@@ -204,20 +201,20 @@ impl<N: ToName> ProtoRrsig<N> {
     }
 
     /// The fields, in the order of the wire.
-    pub(crate) fn fields(&self) -> ProtoFields<'_, N>
+    pub(crate) fn fields(&self) -> ProtoFields<'_>
         ensures head { result.0 ≡ (self.now.type_covered, (self.now.algorithm, self.now.labels)) }
         ensures times { result.1.0 ≡ (self.now.original_ttl, (self.now.expiration, self.now.inception)) }
-        ensures signer { (result.1.1.0 ≡ self.now.key_tag) × (N.labels result.1.1.1.0.now ≡ self.now.signer_name) }
+        ensures signer { (result.1.1.0 ≡ self.now.key_tag) × (result.1.1.1 ≡ self.now.signer_name) }
         ensures fits { Fits proto_rrsig (proto_rrsig_values self.now) }
     {
         let (head, (times, key_tag)) = self.numbers();
-        (head, (times, (key_tag, Lowers(&self.signer_name))))
+        (head, (times, (key_tag, self.signer_name.as_parsed())))
     }
 }
 
 impl<'a> ProtoRrsig<ParsedName<'a>> {
     /// Fields that were read.
-    pub(crate) fn of_parsed(fields: ParsedProto<'a>) -> Self
+    pub(crate) fn of_parsed(fields: ProtoFields<'a>) -> Self
         ensures { proto_rrsig_values result ≡ fields.entry }
     {
         let (head, (times, (key_tag, signer_name))) = fields;

@@ -11,10 +11,10 @@ ghost use Rattle.domain_fields.specs.Laws.{fed_alike, tied_octets};
 ghost use Rattle.domain_keys.specs.Data.{rrsig, rrsig_values, rrsig_octets, rrsig_canonical, rrsig_data, proto_rrsig, proto_rrsig_values, proto_rrsig_data, IsSameRrsig};
 ghost use Rattle.domain_keys.specs.Laws.{copies_tied};
 
-use crate::proto_rrsig::{ParsedProto, ProtoFields};
+use crate::proto_rrsig::ProtoFields;
 use crate::{ProtoRrsig, Timestamp};
 use domain_base::{CanonicalOrd, ParsedName, Rtype, SecurityAlgorithm, ToName, Ttl};
-use domain_fields::{AtMost, Fields, ReadFields, Rest};
+use domain_fields::{AtMost, Fields, MAX_RDLEN, ReadFields, Rest};
 use domain_octets::{
     AppendError, Octets, OctetsBuilder, OutOfMemory, ParseError, Parser, TryClone,
 };
@@ -44,17 +44,14 @@ impl<O: Octets, N: ToName> Model for Rrsig<O, N> {
 }
 
 /// At most 65,535 octets: the fields but the signature, and all octets that are left.
-type RrsigFields<'a, N> = (AtMost<65535>, (ProtoFields<'a, N>, Rest<'a>));
-
-/// The same, as they are read.
-type ParsedFields<'a> = (AtMost<65535>, (ParsedProto<'a>, Rest<'a>));
+type RrsigFields<'a> = (AtMost<MAX_RDLEN>, (ProtoFields<'a>, Rest<'a>));
 
 /// Whether fields and a signature have at most 65,535 octets.
 fn fits<O: Octets, N: ToName>(fields: &ProtoRrsig<N>, signature: &O) -> bool
     ensures { IsTrue result ↔ (length (rrsig_octets (rrsig_data fields.now (O.octets signature.now))) ≤ 65535) }
 {
-    let data: RrsigFields<'_, N> = (AtMost, (fields.fields(), Rest(signature.as_slice())));
-    data.room_after(65535).is_some()
+    let data: RrsigFields<'_> = (AtMost, (fields.fields(), Rest(signature.as_slice())));
+    data.room_after(MAX_RDLEN).is_some()
 }
 
 impl<O: Octets, N: ToName> Rrsig<O, N> {
@@ -244,10 +241,10 @@ impl<O: Octets, N: ToName> Rrsig<O, N> {
     }
 
     /// The fields, in the order of the wire.
-    pub(crate) fn fields(&self) -> RrsigFields<'_, N>
+    pub(crate) fn fields(&self) -> RrsigFields<'_>
         ensures head { result.1.0.0 ≡ (self.now.fields.type_covered, (self.now.fields.algorithm, self.now.fields.labels)) }
         ensures times { result.1.0.1.0 ≡ (self.now.fields.original_ttl, (self.now.fields.expiration, self.now.fields.inception)) }
-        ensures signer { (result.1.0.1.1.0 ≡ self.now.fields.key_tag) × (N.labels result.1.0.1.1.1.0.now ≡ self.now.fields.signer_name) }
+        ensures signer { (result.1.0.1.1.0 ≡ self.now.fields.key_tag) × (result.1.0.1.1.1 ≡ self.now.fields.signer_name) }
         ensures signature { result.1.1.0.now ≡ self.now.signature }
         ensures fits { Fits rrsig (rrsig_values self.now) }
         ensures limit { length (rrsig_octets self.now) ≤ 65535 }
@@ -261,7 +258,7 @@ impl<O: Octets, N: ToName> Rrsig<O, N> {
 
 impl<'a> Rrsig<&'a [u8], ParsedName<'a>> {
     /// Fields that were read.
-    fn of_parsed(fields: ParsedFields<'a>) -> Self
+    fn of_parsed(fields: RrsigFields<'a>) -> Self
         requires { length (octets_of rrsig (tt, (fields.1.0, fields.1.1.0.now))) ≤ 65535 }
         ensures { rrsig_values result ≡ (tt, (fields.entry.1.0, fields.entry.1.1.0.now)) }
     {
@@ -285,7 +282,7 @@ impl<'a> Rrsig<&'a [u8], ParsedName<'a>> {
         ensures unmoved { OnErr result (parser.new ≡ parser.old) }
         ensures goes_on { GoesOn parser.old parser.new }
     {
-        match ParsedFields::<'a>::read(parser) {
+        match RrsigFields::<'a>::read(parser) {
             Ok(fields) => Ok(Self::of_parsed(fields)),
             Err(fault) => Err(ParseError::from(fault)),
         }
@@ -324,7 +321,7 @@ impl<O: Octets, N: ToName> ComposeRecordData for Rrsig<O, N> {
     ghost canonical = { rrsig_canonical };
 
     fn fits_rdlen(&self) -> bool {
-        self.fields().room_after(65535).is_some()
+        self.fields().room_after(MAX_RDLEN).is_some()
     }
 
     fn rdlen(&self, _compress: bool) -> Option<u16> {
@@ -350,22 +347,7 @@ impl<O: Octets, N: ToName> Rrsig<O, N> {
         ensures value { result ≡ bytes_eq (rrsig_canonical self.now) (rrsig_canonical other.now) }
         ensures same { IsTrue result ↔ IsSameRrsig self.now other.now }
     {
-        self.order_to(other).is_eq()
-    }
-
-    /// The order of the canonical octets, and that the fields have octets.
-    fn order_to<P: Octets, M: ToName>(&self, other: &Rrsig<P, M>) -> Ordering
-        ensures value { result ≡ slice_cmp nat_cmp (rrsig_canonical self.now) (rrsig_canonical other.now) }
-        ensures mine { Fits proto_rrsig (proto_rrsig_values self.now.fields) }
-        ensures theirs { Fits proto_rrsig (proto_rrsig_values other.now.fields) }
-    {
-        let (mine, theirs) = (&self.fields, &other.fields);
-        let numbers = mine.numbers().order(&theirs.numbers());
-        let (name, other_name) = (mine.signer_name(), theirs.signer_name());
-        let (octets, other_octets) = (self.signature.as_slice(), other.signature.as_slice());
-        numbers
-            .then_with(|| name.lowercase_composed_cmp(other_name))
-            .then_with(|| octets.cmp(other_octets))
+        self.fields().order(&other.fields()).is_eq()
     }
 
     /// The order to a signature over other octets and names: by the fields in the order of the wire, times as plain numbers, the signer's name by its lowered octets. This is
@@ -373,7 +355,7 @@ impl<O: Octets, N: ToName> Rrsig<O, N> {
     pub fn cmp_to<P: Octets, M: ToName>(&self, other: &Rrsig<P, M>) -> Ordering
         ensures { result ≡ slice_cmp nat_cmp (rrsig_canonical self.now) (rrsig_canonical other.now) }
     {
-        self.order_to(other)
+        self.fields().order(&other.fields())
     }
 
     /// The canonical order to a signature over other octets and names, which is `cmp_to`.

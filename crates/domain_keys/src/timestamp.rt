@@ -11,7 +11,7 @@ ghost use Rattle.domain_base.specs.Serial.{serial_cmp};
 ghost use Rattle.domain_keys.specs.Time.{IsNear, TimeAt, TimeToken, IsNoTime, ReadsTime};
 
 use domain_base::{CanonicalOrd, FromToken, ParseError, ScanError, Serial};
-use domain_octets::{AppendError, Composer, Formatter, OutOfMemory, Parser, ZonefileFmt};
+use domain_octets::{AppendError, Formatter, OctetsBuilder, OutOfMemory, Parser, ZonefileFmt};
 use std::cmp::Ordering;
 use std::error::Error;
 use std::fmt;
@@ -82,7 +82,7 @@ impl Timestamp {
     }
 
     /// Appends its four octets.
-    pub fn compose<B: Composer>(&self, target: &mut B) -> Result<(), AppendError>
+    pub fn compose<B: OctetsBuilder>(&self, target: &mut B) -> Result<(), AppendError>
         ensures ok { OnOk result (B.octets target.new ≡ B.octets target.old ++ to_be_bytes w32 self.now) }
         ensures err { OnErr result (B.octets target.new ≡ B.octets target.old) }
         ensures short { IsErrOf result AppendError.ShortBuf ↔ IsOver B.limit (length (B.octets target.old) + 4) }

@@ -1,5 +1,5 @@
 //! Empty octets, and octets that are made of others.
-ghost use Rattle.std.specs.Prelude.{◌≡◌, ◌↔◌, [], Some, length, IfOk, IsErrOf};
+ghost use Rattle.std.specs.Prelude.{◌≡◌, ℕ, ◌↔◌, [], Option, None, Some, length, IfOk, IsErrOf};
 ghost use Rattle.domain_octets.specs.Limit.{IsOver};
 
 use crate::{AppendError, ArrayBuilder, Octets, OctetsBuilder};
@@ -13,6 +13,20 @@ pub trait EmptyOctets: Octets {
     where
         Self: Sized,
         ensures { Self.octets result ≡ [] };
+}
+
+/// Octets that can be copied from others.
+pub trait CopyOctets: Octets {
+    /// How many octets there can be at most. Where there is no limit, memory is taken for them.
+    ghost capacity: { Option ℕ };
+
+    /// A copy of these octets. Answers `ShortBuf` where there is no room for them, and `OutOfMemory`
+    /// where there is no memory.
+    fn copy_octets(alloc: Global, octets: &[u8]) -> Result<Self, AppendError>
+    where
+        Self: Sized,
+        ensures ok { IfOk result (λ copy. Self.octets copy ≡ octets.now) }
+        ensures short { IsErrOf result AppendError.ShortBuf ↔ IsOver capacity (length octets.now) };
 }
 
 /// A value that can be made of another one, over other octets.
@@ -67,34 +81,38 @@ impl EmptyOctets for Bytes {
     }
 }
 
-impl<S: Octets + Drop> OctetsFrom<S> for Vec<u8> {
-    ghost is_same = { λ source made. made.items ≡ S.octets source };
+impl CopyOctets for Vec<u8> {
+    ghost capacity = { None };
 
-    ghost has_no_room = { λ _. ⊥ };
-
-    fn try_octets_from(alloc: Global, source: S) -> Result<Vec<u8>, AppendError> {
-        Ok(Vec::from_slice(alloc, source.as_slice())?)
+    fn copy_octets(alloc: Global, octets: &[u8]) -> Result<Vec<u8>, AppendError> {
+        Ok(Vec::from_slice(alloc, octets)?)
     }
 }
 
-impl<S: Octets + Drop> OctetsFrom<S> for Bytes {
-    ghost is_same = { λ source made. made ≡ S.octets source };
+impl CopyOctets for Bytes {
+    ghost capacity = { None };
 
-    ghost has_no_room = { λ _. ⊥ };
-
-    fn try_octets_from(alloc: Global, source: S) -> Result<Bytes, AppendError> {
-        Ok(Bytes::copy_from_slice(alloc, source.as_slice())?)
+    fn copy_octets(alloc: Global, octets: &[u8]) -> Result<Bytes, AppendError> {
+        Ok(Bytes::copy_from_slice(alloc, octets)?)
     }
 }
 
-impl<S: Octets + Drop, const K: usize> OctetsFrom<S> for ArrayBuilder<K> {
-    ghost is_same = { λ source made. made ≡ S.octets source };
+impl<const K: usize> CopyOctets for ArrayBuilder<K> {
+    ghost capacity = { Some K };
 
-    ghost has_no_room = { λ source. IsOver (Some K) (length (S.octets source)) };
-
-    fn try_octets_from(_alloc: Global, source: S) -> Result<ArrayBuilder<K>, AppendError> {
+    fn copy_octets(_alloc: Global, octets: &[u8]) -> Result<ArrayBuilder<K>, AppendError> {
         let mut made = ArrayBuilder::new();
-        made.append_slice(source.as_slice())?;
+        made.append_slice(octets)?;
         Ok(made)
+    }
+}
+
+impl<S: Octets + Drop, O: CopyOctets> OctetsFrom<S> for O {
+    ghost is_same = { λ source made. O.octets made ≡ S.octets source };
+
+    ghost has_no_room = { λ source. IsOver O.capacity (length (S.octets source)) };
+
+    fn try_octets_from(alloc: Global, source: S) -> Result<O, AppendError> {
+        O::copy_octets(alloc, source.as_slice())
     }
 }

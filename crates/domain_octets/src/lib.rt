@@ -38,7 +38,7 @@ pub use builder::{
     Composer, EmptyBuilder, FreezeBuilder, FromBuilder, GrowingBuilder, OctetsBuilder, Truncate,
 };
 pub use codec::{Codec, DecodeError};
-pub use convert::{EmptyOctets, FlattenInto, OctetsFrom};
+pub use convert::{CopyOctets, EmptyOctets, FlattenInto, OctetsFrom};
 pub use error::{AppendError, OutOfMemory, ParseError};
 pub use formatter::{Formatter, PieceFormatter};
 pub use octets::{Octets, TryClone};

@@ -13,7 +13,7 @@ ghost use Rattle.domain_plain.specs.Plain.{a, a_values};
 
 use crate::{CloneRecordData, ComposeRecordData, ParseRecordData, RecordData};
 use domain_base::{CanonicalOrd, Rtype, ScanError, Scanner};
-use domain_fields::{Address, Exactly, Fields, ReadFields, ScanFields};
+use domain_fields::{Address, Exactly, Fields, MAX_RDLEN, ReadFields, ScanFields};
 use domain_octets::{
     AppendError, FlattenInto, OctetsBuilder, OctetsFrom, OutOfMemory, ParseError, Parser, TryClone,
 };
@@ -149,7 +149,7 @@ impl ComposeRecordData for A {
     ghost canonical = { λ d. canonical_of a (a_values d) };
 
     fn fits_rdlen(&self) -> bool {
-        self.fields().room_after(65535).is_some()
+        self.fields().room_after(MAX_RDLEN).is_some()
     }
 
     fn rdlen(&self, _compress: bool) -> Option<u16> {

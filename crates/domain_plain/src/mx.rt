@@ -13,7 +13,7 @@ ghost use Rattle.domain_plain.specs.Plain.{mx, mx_values};
 
 use crate::{CloneRecordData, ComposeRecordData, ParseRecordData, RecordData};
 use domain_base::{CanonicalOrd, ParsedName, Rtype, ScanError, Scanner, ToName};
-use domain_fields::{Fields, Lowers, ReadFields, ScanFields, Scanned};
+use domain_fields::{Fields, MAX_RDLEN, ReadFields, ScanFields, Scanned};
 use domain_octets::{
     AppendError, FlattenInto, OctetsBuilder, OctetsFrom, OutOfMemory, ParseError, Parser, TryClone,
 };
@@ -134,10 +134,10 @@ impl<N: ToName> Mx<N> {
 
 impl<N: ToName> Mx<N> {
     /// The fields, in the order of the wire.
-    fn fields(&self) -> (u16, Lowers<'_, N>)
-        ensures { (result.0 ≡ self.now.preference) × (result.1.0.now ≡ self.now.exchange) }
+    fn fields(&self) -> (u16, ParsedName<'_>)
+        ensures { (result.0 ≡ self.now.preference) × (result.1 ≡ N.labels self.now.exchange) }
     {
-        (self.preference, Lowers(&self.exchange))
+        (self.preference, self.exchange.as_parsed())
     }
 }
 
@@ -197,7 +197,7 @@ impl<N: ToName> ComposeRecordData for Mx<N> {
     ghost canonical = { λ d. canonical_of mx (mx_values N.labels d) };
 
     fn fits_rdlen(&self) -> bool {
-        self.fields().room_after(65535).is_some()
+        self.fields().room_after(MAX_RDLEN).is_some()
     }
 
     fn rdlen(&self, _compress: bool) -> Option<u16> {

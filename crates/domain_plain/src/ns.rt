@@ -12,7 +12,7 @@ ghost use Rattle.domain_plain.specs.Plain.{ns, ns_values};
 
 use crate::{CloneRecordData, ComposeRecordData, ParseRecordData, RecordData};
 use domain_base::{CanonicalOrd, ParsedName, Rtype, ScanError, Scanner, ToName};
-use domain_fields::{Fields, Lowers, ReadFields, ScanFields, Scanned};
+use domain_fields::{Fields, MAX_RDLEN, ReadFields, ScanFields, Scanned};
 use domain_octets::{
     AppendError, FlattenInto, OctetsBuilder, OctetsFrom, OutOfMemory, ParseError, Parser, TryClone,
 };
@@ -108,10 +108,10 @@ impl<N: ToName> Ns<N> {
 
 impl<N: ToName> Ns<N> {
     /// The fields, in the order of the wire.
-    fn fields(&self) -> Lowers<'_, N>
-        ensures { result.0.now ≡ self.now.nsdname }
+    fn fields(&self) -> ParsedName<'_>
+        ensures { result ≡ N.labels self.now.nsdname }
     {
-        Lowers(&self.nsdname)
+        self.nsdname.as_parsed()
     }
 }
 
@@ -167,7 +167,7 @@ impl<N: ToName> ComposeRecordData for Ns<N> {
     ghost canonical = { λ d. canonical_of ns (ns_values N.labels d) };
 
     fn fits_rdlen(&self) -> bool {
-        self.fields().room_after(65535).is_some()
+        self.fields().room_after(MAX_RDLEN).is_some()
     }
 
     fn rdlen(&self, _compress: bool) -> Option<u16> {

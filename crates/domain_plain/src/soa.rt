@@ -12,7 +12,7 @@ ghost use Rattle.domain_plain.specs.Soa.{IsSoaWith, soa_text};
 
 use crate::{CloneRecordData, ComposeRecordData, ParseRecordData, RecordData, both};
 use domain_base::{CanonicalOrd, ParsedName, Rtype, ScanError, Scanner, ToName, Ttl};
-use domain_fields::{Fields, Lowers, ReadFields, ScanFields, Scanned};
+use domain_fields::{Fields, MAX_RDLEN, ReadFields, ScanFields, Scanned};
 use domain_octets::{
     AppendError, FlattenInto, OctetsBuilder, OctetsFrom, OutOfMemory, ParseError, Parser, TryClone,
 };
@@ -32,12 +32,7 @@ pub struct Soa<N> {
     minimum: Ttl,
 }
 
-type SoaFields<'a, N> = (
-    (Lowers<'a, N>, Lowers<'a, N>),
-    ((u32, (u32, u32)), (u32, u32)),
-);
-
-type ParsedSoa<'a> = (
+type SoaFields<'a> = (
     (ParsedName<'a>, ParsedName<'a>),
     ((u32, (u32, u32)), (u32, u32)),
 );
@@ -244,12 +239,12 @@ impl<N: ToName> Soa<N> {
 
 impl<N: ToName> Soa<N> {
     /// The fields, in the order of the wire.
-    fn fields(&self) -> SoaFields<'_, N>
-        ensures { (result.0.0.0.now ≡ self.now.mname) × (result.0.1.0.now ≡ self.now.rname)
+    fn fields(&self) -> SoaFields<'_>
+        ensures { (result.0.0 ≡ N.labels self.now.mname) × (result.0.1 ≡ N.labels self.now.rname)
             × (result.1.0 ≡ (self.now.serial, (self.now.refresh, self.now.retry))) × (result.1.1 ≡ (self.now.expire, self.now.minimum)) }
     {
         (
-            (Lowers(&self.mname), Lowers(&self.rname)),
+            (self.mname.as_parsed(), self.rname.as_parsed()),
             (
                 (self.serial, (self.refresh.as_secs(), self.retry.as_secs())),
                 (self.expire.as_secs(), self.minimum.as_secs()),
@@ -272,7 +267,7 @@ impl<'a> Soa<ParsedName<'a>> {
         ensures unmoved { OnErr result (parser.new ≡ parser.old) }
         ensures goes_on { GoesOn parser.old parser.new }
     {
-        match ParsedSoa::read(parser) {
+        match SoaFields::read(parser) {
             Ok(((mname, rname), ((serial, (refresh, retry)), (expire, minimum)))) => Ok(Soa {
                 mname,
                 rname,
@@ -319,7 +314,7 @@ impl<N: ToName> ComposeRecordData for Soa<N> {
     ghost canonical = { λ d. canonical_of soa (soa_values N.labels d) };
 
     fn fits_rdlen(&self) -> bool {
-        self.fields().room_after(65535).is_some()
+        self.fields().room_after(MAX_RDLEN).is_some()
     }
 
     fn rdlen(&self, _compress: bool) -> Option<u16> {

@@ -12,7 +12,7 @@ ghost use Rattle.domain_plain.specs.Plain.{unknown, unknown_values};
 use crate::generic::GenericMark;
 use crate::{CloneRecordData, ComposeRecordData, LongRecordData, ParseRecordData, RecordData};
 use domain_base::{CanonicalOrd, FromToken, Rtype, ScanError, Scanner};
-use domain_fields::{AtMost, Fields, ReadFields, Rest};
+use domain_fields::{AtMost, Fields, MAX_RDLEN, ReadFields, Rest};
 use domain_octets::{
     AppendError, Codec, FlattenInto, FromBuilder, Octets, OctetsBuilder, OctetsFrom, OutOfMemory,
     ParseError, Parser, TryClone,
@@ -39,7 +39,7 @@ impl<O: Octets> UnknownRecordData<O> {
         ensures ok { IsOk result ↔ (length (O.octets «data») ≤ 65535) }
         ensures fields { IfOk result (λ d. d ≡ record { rtype = rtype; «data» = «data» }) }
     {
-        if data.as_slice().len() > 65535 {
+        if data.as_slice().len() > MAX_RDLEN {
             return Err(LongRecordData);
         }
         Ok(UnknownRecordData { rtype, data })
@@ -70,7 +70,7 @@ impl<O: Octets> UnknownRecordData<O> {
     }
 
     /// The fields, in the order of the wire.
-    fn fields(&self) -> (AtMost<65535>, Rest<'_>)
+    fn fields(&self) -> (AtMost<MAX_RDLEN>, Rest<'_>)
         ensures { result.1.0.now ≡ O.octets self.now.«data» }
     {
         (AtMost, Rest(self.data.as_slice()))
@@ -121,7 +121,7 @@ impl<'a> UnknownRecordData<&'a [u8]> {
         ensures unmoved { OnErr result (parser.new ≡ parser.old) }
         ensures goes_on { GoesOn parser.old parser.new }
     {
-        match <(AtMost<65535>, Rest<'a>)>::read(parser) {
+        match <(AtMost<MAX_RDLEN>, Rest<'a>)>::read(parser) {
             Ok((AtMost, Rest(data))) => Ok(UnknownRecordData { rtype, data }),
             Err(fault) => Err(ParseError::from(fault)),
         }
@@ -199,7 +199,7 @@ impl<O: Octets> ComposeRecordData for UnknownRecordData<O> {
     ghost canonical = { λ d. canonical_of unknown (unknown_values O.octets d) };
 
     fn fits_rdlen(&self) -> bool {
-        self.fields().room_after(65535).is_some()
+        self.fields().room_after(MAX_RDLEN).is_some()
     }
 
     fn rdlen(&self, _compress: bool) -> Option<u16> {

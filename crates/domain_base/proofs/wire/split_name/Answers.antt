@@ -4,8 +4,8 @@ use Rattle.domain_base.proofs.OctetLemmas.{octets_from_type}
 use Rattle.domain_base.proofs.FaultLemmas.{reading_goes, label_fault, length_fault, cut_fault}
 use Rattle.domain_base.proofs.wire.split_name.Goals as goal
 
-pub returns-then-len-gt63-clause-err : goal.returns-then-len-gt63-clause-err
-returns-then-len-gt63-clause-err c =
+pub returns-then-from-gt-MAX_LABEL_LEN-clause-err : goal.returns-then-from-gt-MAX_LABEL_LEN-clause-err
+returns-then-from-gt-MAX_LABEL_LEN-clause-err c =
     let octets = c.args.octets.now in
     let below : c.loop-len.at < length octets = grind (arith, common_steps) in
     let is : get_or octets c.loop-len.at 0 ≡ c.in-Some.field-0.now = grind (arith, common_steps) in

@@ -3,7 +3,7 @@ use Rattle.domain_base.specs.Name.{wire_of, lowered}
 use Rattle.domain_fields.specs.Layout.{octets_of}
 use Rattle.domain_fields.proofs.NameLemmas.{lowered_length}
 use Rattle.domain_fields.proofs.TargetLemmas.{appends_whole}
-use Rattle.domain_fields.proofs.fields.LowersFields.put_canonical.Goals as goal
+use Rattle.domain_fields.proofs.fields.ParsedNameFields.put_canonical.Goals as goal
 
 pub returns : goal.returns
 unfolding octets_of
