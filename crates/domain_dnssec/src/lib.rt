@@ -7,6 +7,7 @@
 
 mod any_order;
 mod chain;
+pub mod laws;
 
 pub use any_order::{generate_nsecs_of_records, generate_nsecs_of_sorted};
 pub use chain::ChainError;

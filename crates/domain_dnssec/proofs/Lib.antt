@@ -1,0 +1,2 @@
+pub mod AnyOrderLemmas
+pub mod KeptLemmas
