@@ -1,5 +1,5 @@
 -- The chain of the records that were read, in whatever order they came.
-use Rattle.std.specs.Prelude.{◌≡◌, ℕ, List, [], ◌∷◌, codes, map, true}
+use Rattle.std.specs.Prelude.{◌≡◌, ℕ, List, [], ◌∷◌, codes, true}
 use Rattle.domain_base.specs.Text.{NameText}
 use Rattle.domain_plain.specs.Record.{record_cmp}
 use Rattle.domain_plain.specs.declared.record.Record.{Record}
@@ -9,8 +9,8 @@ use Rattle.domain_records.specs.Order.{IsOneClass}
 use Rattle.domain_records.specs.SortedSet.{IsUnion}
 use Rattle.domain_records.specs.declared.error.SigningError.{SigningError}
 use Rattle.domain_dnssec.specs.Names.{Name}
-use Rattle.domain_dnssec.specs.Chain.{Link, IsChain, IsFirstFault}
-use Rattle.domain_dnssec.specs.View.{as_zone_record}
+use Rattle.domain_dnssec.specs.Chain.{Link, IsChain, IsFirstFault, usual_config}
+use Rattle.domain_dnssec.specs.ChainView.{zone_of}
 use Rattle.denial.specs.Listing.{Give, ProgramRecord}
 use Rattle.denial.specs.declared.fault.DenialFault.{DenialFault}
 use Rattle.denial.specs.declared.fault.DenialFault.TheVariants.{Usage, Read, Line, MixedClasses, Signing, Write, OutOfMemory}
@@ -39,14 +39,14 @@ module _ {O N : Type 0} (octets : O → List ℕ) (labels : N → Name) where
     pub sorted : List (Record N (ZoneRecordData O N))
     pub sorts : Sorts given sorted
     pub one_class : IsOneClass sorted
-    pub chain : IsChain (map (as_zone_record labels) sorted) apex true links
+    pub chain : IsChain (zone_of labels sorted) apex usual_config links
 
   -- the records are of one class, and this is the first fault of their zone
   pub record IsFaultOf (given : List (Record N (ZoneRecordData O N))) (apex : Name) (error : SigningError) : Type 0 where
     pub sorted : List (Record N (ZoneRecordData O N))
     pub sorts : Sorts given sorted
     pub one_class : IsOneClass sorted
-    pub fault : IsFirstFault (map (as_zone_record labels) sorted) apex error
+    pub fault : IsFirstFault (zone_of labels sorted) apex usual_config error
 
   -- the records are not of one class
   pub record AreMixed (given : List (Record N (ZoneRecordData O N))) : Type 0 where

@@ -5,7 +5,7 @@ ghost use Rattle.std.specs.Io.KnownBytes.{Appends};
 ghost use Rattle.std.specs.IoError.{error_kind};
 ghost use Rattle.domain_base.specs.Text.{NameText, IsNoName};
 ghost use Rattle.domain_dnssec.specs.Chain.{Link};
-ghost use Rattle.domain_dnssec.specs.View.{as_link};
+ghost use Rattle.domain_dnssec.specs.ChainView.{as_link};
 ghost use Rattle.domain_records.specs.declared.error.SigningError.{SigningError};
 ghost use Rattle.denial.specs.Listing.{Give, IsFirstBad};
 ghost use Rattle.denial.specs.Text.{listing};

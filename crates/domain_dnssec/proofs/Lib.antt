@@ -1,13 +1,2 @@
-pub mod PairLemmas
-pub mod NameLemmas
-pub mod ZoneLemmas
-pub mod WalkLemmas
-pub mod OwnerLemmas
-pub mod ChainLemmas
-pub mod EncloserLemmas
-pub mod SoaLemmas
-pub mod TtlLemmas
-pub mod StateLemmas
-pub mod GroupLemmas
-pub mod TypeLemmas
-pub mod ReferenceLemmas
+pub mod AnyOrderLemmas
+pub mod KeptLemmas

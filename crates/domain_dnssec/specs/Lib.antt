@@ -1,6 +1,11 @@
-pub mod Names
-pub mod Covering
-pub mod Zone
-pub mod Chain
-pub mod Enclosers
-pub mod View
+pub mod AnyOrder
+pub use Rattle.domain_zone.specs.Names
+pub use Rattle.domain_zone.specs.Covering
+pub use Rattle.domain_zone.specs.Types
+pub use Rattle.domain_zone.specs.Zone
+pub use Rattle.domain_zone.specs.Soa
+pub use Rattle.domain_zone.specs.Enclosers
+pub use Rattle.domain_zone.specs.View
+pub use Rattle.domain_nsec.specs.Chain
+pub use Rattle.domain_nsec.specs.Meaning
+pub use Rattle.domain_nsec.specs.ChainView

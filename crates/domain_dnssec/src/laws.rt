@@ -1,13 +1,24 @@
-//! What the words on names mean, in those of `domain_base`.
-ghost use Rattle.std.specs.Prelude.{◌≡◌, ◌↔◌, true};
-ghost use Rattle.std.specs.Ordering.{is_lt};
-ghost use Rattle.domain_base.specs.Name.{same_name, IsAtOrBelow};
-ghost use Rattle.domain_base.specs.Order.{canonical_cmp};
-ghost use Rattle.domain_dnssec.specs.Names.{Name, same, before, is_at_or_below};
+//! What callers may take from sorting. A caller calls the law in its body.
+ghost use Rattle.std.specs.Prelude.{◌≡◌, ℕ, Bool, List};
+ghost use Rattle.domain_plain.specs.declared.record.Record.{Record};
+ghost use Rattle.domain_rdata.specs.declared.zone_record_data.ZoneRecordData.{ZoneRecordData};
+ghost use Rattle.domain_zone.specs.Names.{Name};
+ghost use Rattle.domain_zone.specs.Zone.{has_type, is_unoccluded, owns, records_of};
+ghost use Rattle.domain_nsec.specs.ChainView.{zone_of};
+ghost use Rattle.domain_dnssec.specs.AnyOrder.{Sorts};
 
-/// The tests on names are sameness, canonical order and being at or below, as `domain_base` has them.
-pub fn names_agree()
-    ensures same { (x y : Name) → same x y ≡ same_name x y }
-    ensures before { (x y : Name) → before x y ≡ is_lt (canonical_cmp x y) }
-    ensures below { (x a : Name) → (is_at_or_below x a ≡ true) ↔ IsAtOrBelow x a }
+use domain_base::ToName;
+use domain_octets::Octets;
+
+/// The sorted set of records has the owners of the list that was put in, each with the same types, and the same of them are
+/// not occluded: of equal records one stays.
+pub fn sorting_keeps_owners_and_types<O: Octets, N: ToName>()
+    ensures owners { (given sorted : List (Record N (ZoneRecordData O N))) → Sorts O.octets N.labels given sorted
+        → (n : Name) → owns (zone_of N.labels sorted) n ≡ owns (zone_of N.labels given) n }
+    ensures types { (given sorted : List (Record N (ZoneRecordData O N))) → Sorts O.octets N.labels given sorted
+        → (n : Name) (t : ℕ) → has_type (records_of (zone_of N.labels sorted) n) t
+        ≡ has_type (records_of (zone_of N.labels given) n) t }
+    ensures unoccluded { (given sorted : List (Record N (ZoneRecordData O N))) → Sorts O.octets N.labels given sorted
+        → (below_dname : Bool) (a n : Name) → is_unoccluded below_dname (zone_of N.labels sorted) a n
+        ≡ is_unoccluded below_dname (zone_of N.labels given) a n }
 {}

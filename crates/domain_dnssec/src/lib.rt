@@ -1,21 +1,23 @@
-//! DNSSEC denial of existence: the NSEC chain of a zone (RFC 4034, section 4; RFC 4035, section 2.3; RFC 9077).
+//! DNSSEC denial of existence: the chains of a zone (RFC 4034, section 4; RFC 4035, section 2.3; RFC 9077), under one name.
 //!
-//! `generate_nsecs` walks once over the records of a zone, in canonical order, and gives exactly the defined chain, or the first fault that stands. The definitions stand in
-//! `specs/`: they filter the whole list of records and never follow the walk.
-//! `reference` makes the same chain by those filters, for comparison.
-//! The crates above may rely on this: exactly one record of the chain matches or covers each name of the zone that is not below a delegation; it matches
-//! exactly where the name owns records, and lists their types.
+//! `generate_nsecs` makes the NSEC chain of a zone whose records are handed over in canonical order, as `SortedRecords` keeps
+//! them. What its contract cites stands in `specs/` of `domain_zone` and `domain_nsec`. What signatures here speak of is handed
+//! on: names, types, classes, TTLs, records and their data, sorted records, and the errors.
 #![tactic(auto)]
 
-mod config;
-mod hasher;
+mod any_order;
+mod chain;
 pub mod laws;
-mod names;
-mod nsec;
-pub mod reference;
-#[cfg(test)]
-mod tests;
 
-pub use config::GenerateNsecConfig;
-pub use hasher::{HasherError, Nsec3Hasher};
-pub use nsec::generate_nsecs;
+pub use any_order::{generate_nsecs_of_records, generate_nsecs_of_sorted};
+pub use chain::ChainError;
+pub use domain_base::{Class, MakeName, Name, Rtype, ToName, Ttl};
+pub use domain_bitmap::RtypeBitmap;
+pub use domain_nsec::{GenerateNsecConfig, generate_nsecs};
+pub use domain_octets::{Octets, OutOfMemory, TryClone};
+pub use domain_plain::Record;
+pub use domain_rdata::{Nsec, ZoneRecordData};
+pub use domain_records::{
+    DefaultSorter, Nsec3HashError, OwnerRrs, RecordsIter, SigningError, SortedRecords, Sorter,
+};
+pub use domain_zone::{HasherError, Nsec3Hasher};

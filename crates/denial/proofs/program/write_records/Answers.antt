@@ -1,6 +1,6 @@
 use Rattle.std.proofs.Common.{arith, subst}
 use Rattle.std.specs.Io.KnownBytes.{Appends}
-use Rattle.domain_dnssec.specs.View.{as_link}
+use Rattle.domain_dnssec.specs.ChainView.{as_link}
 use Rattle.denial.proofs.RunLemmas.{one_more, parts_of_line}
 use Rattle.denial.proofs.program.write_records.Goals as goal
 

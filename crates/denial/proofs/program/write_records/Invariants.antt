@@ -1,6 +1,6 @@
 use Rattle.std.proofs.Common.{map, take}
 use Rattle.std.specs.Io.KnownBytes.{Appends}
-use Rattle.domain_dnssec.specs.View.{as_link}
+use Rattle.domain_dnssec.specs.ChainView.{as_link}
 use Rattle.denial.specs.Text.{listing}
 use Rattle.denial.proofs.program.write_records.Given as goal
 

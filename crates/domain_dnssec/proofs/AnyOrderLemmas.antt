@@ -1,0 +1,23 @@
+-- What sorted records tell of the records that were given.
+use Rattle.std.proofs.Common.{List, ℕ, Result, Ok, Err, IfOk, IfErr}
+use Rattle.domain_plain.specs.declared.record.Record.{Record}
+use Rattle.domain_rdata.specs.declared.zone_record_data.ZoneRecordData.{ZoneRecordData}
+use Rattle.domain_zone.specs.Names.{Name}
+use Rattle.domain_nsec.specs.declared.config.GenerateNsecConfig.{GenerateNsecConfig}
+use Rattle.domain_dnssec.specs.AnyOrder.{Sorts, IsSortedChain, IsChainOf, HasNoSortedChain, HasNoChain}
+use Rattle.domain_dnssec.specs.declared.chain.ChainError.{ChainError}
+use Rattle.domain_dnssec.specs.declared.chain.ChainError.TheVariants.{MixedClasses, Signing, OutOfMemory}
+
+pub if_ok : {X E : Type 0} (P Q : X → Type 0) → ((x : X) → P x → Q x) → (r : Result X E) → IfOk r P → IfOk r Q
+if_ok P Q f (Ok x) h = f x h
+if_ok P Q f (Err e) h = tt
+
+pub if_err : {X E : Type 0} (P Q : E → Type 0) → ((e : E) → P e → Q e) → (r : Result X E) → IfErr r P → IfErr r Q
+if_err P Q f (Ok x) h = tt
+if_err P Q f (Err e) h = f e h
+
+module _ {O N : Type 0} (octets : O → List ℕ) (labels : N → Name) (given sorted : List (Record N (ZoneRecordData O N))) (apex : Name) (config : GenerateNsecConfig) (sorts : Sorts octets labels given sorted) where
+  pub no_chain_of : (e : ChainError) → HasNoSortedChain labels sorted apex config e → HasNoChain octets labels given apex config e
+  no_chain_of MixedClasses h = record { sorted = sorted; sorts = sorts; mixed = h }
+  no_chain_of (Signing e) h = record { sorted = sorted; sorts = sorts; fault = h }
+  no_chain_of OutOfMemory h = tt

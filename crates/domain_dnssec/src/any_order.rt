@@ -1,0 +1,71 @@
+//! Chains of records that are sorted first.
+ghost use Rattle.std.specs.Prelude.{◌≡◌, IfErr, IfOk};
+ghost use Rattle.domain_nsec.specs.ChainView.{links_of};
+ghost use Rattle.domain_dnssec.specs.AnyOrder.{HasNoChain, HasNoSortedChain, IsChainOf, IsSortedChain};
+
+use crate::chain::ChainError;
+use domain_base::MakeName;
+use domain_nsec::{GenerateNsecConfig, generate_nsecs};
+use domain_octets::{EmptyBuilder, FreezeBuilder, FromBuilder, GrowingBuilder, Truncate};
+use domain_plain::Record;
+use domain_rdata::{Nsec, ZoneRecordData};
+use domain_records::{SigningError, SortedRecords, Sorter};
+use std::alloc::Global;
+
+/// The NSEC chain of the zone that sorted records are, as `generate_nsecs` makes it.
+///
+/// # Errors
+///
+/// The first that stands: `MixedClasses` where the records are not of one class; `Signing` with the first fault of the zone;
+/// and `OutOfMemory`.
+pub fn generate_nsecs_of_sorted<S: Sorter, O, N: MakeName>(
+    alloc: Global,
+    apex: &N,
+    records: &SortedRecords<N, ZoneRecordData<O, N>, S>,
+    config: &GenerateNsecConfig,
+) -> Result<Vec<Record<N, Nsec<O, N>>>, ChainError>
+where
+    N: Drop,
+    O: FromBuilder + Drop,
+    O::Builder: GrowingBuilder + EmptyBuilder + Truncate + FreezeBuilder<Frozen = O> + Drop,
+    ensures ok { IfOk result (λ nsecs. IsSortedChain N.labels records.now (N.labels apex.now) config.now
+        (links_of N.labels nsecs.items)) }
+    ensures err { IfErr result (HasNoSortedChain N.labels records.now (N.labels apex.now) config.now) }
+{
+    let groups = records.owner_rrs();
+    if !groups.is_one_class() {
+        return Err(ChainError::MixedClasses);
+    }
+    match generate_nsecs(alloc, apex, groups, config) {
+        Ok(nsecs) => Ok(nsecs),
+        Err(SigningError::OutOfMemory) => Err(ChainError::OutOfMemory),
+        Err(error) => Err(ChainError::Signing(error)),
+    }
+}
+
+/// The NSEC chain of the zone that records in any order are: they are sorted, and of equal records the earliest is kept.
+///
+/// # Errors
+///
+/// The first that stands: `MixedClasses` where the records are not of one class; `Signing` with the first fault of the zone;
+/// and `OutOfMemory`.
+pub fn generate_nsecs_of_records<O, N: MakeName>(
+    alloc: Global,
+    apex: &N,
+    records: Vec<Record<N, ZoneRecordData<O, N>>>,
+    config: &GenerateNsecConfig,
+) -> Result<Vec<Record<N, Nsec<O, N>>>, ChainError>
+where
+    N: Drop,
+    O: FromBuilder + Drop,
+    O::Builder: GrowingBuilder + EmptyBuilder + Truncate + FreezeBuilder<Frozen = O> + Drop,
+    ensures ok { IfOk result (λ nsecs. IsChainOf O.octets N.labels records.items (N.labels apex.now) config.now
+        (links_of N.labels nsecs.items)) }
+    ensures err { IfErr result (HasNoChain O.octets N.labels records.items (N.labels apex.now) config.now) }
+{
+    let sorted: SortedRecords<N, ZoneRecordData<O, N>> = match SortedRecords::from_vec(records) {
+        Ok(sorted) => sorted,
+        Err(_) => return Err(ChainError::OutOfMemory),
+    };
+    generate_nsecs_of_sorted(alloc, apex, &sorted, config)
+}

@@ -1,0 +1,286 @@
+-- How the records of a chain are gathered, and what the finished chain means.
+use Rattle.std.proofs.Common.{◌≡◌, ℕ, ◌+◌, Bool, true, false, cond, not, ◌&&◌, ◌||◌, List, [], ◌∷◌, ◌++◌, map, refl, sym, ap, ◌∙◌, subst, inl, inr, ◌⊎◌, Option, Some, None}
+use Rattle.std.specs.Prelude.{count_by, slice_get, All, IfSome}
+use Rattle.std.specs.List.{AllByRecursion, list_any}
+use Rattle.std.proofs.lemmas.Bool.{cases_Bool, false≢true, true≢false, and_parts, or_cases, not-true}
+use Rattle.std.proofs.lemmas.List.Elements.{All-push, All-nil, recursion_from_All}
+use Rattle.domain_bitmap.specs.Bitmap.{bitmap_octets}
+use Rattle.domain_zone.specs.Covering.{matches, covers, matches_or_covers, pairs}
+use Rattle.domain_zone.specs.Names.{Name, key, key_same, key_before, same, before, is_at_or_below}
+use Rattle.domain_zone.specs.Soa.{chain_ttl, soa_of}
+use Rattle.domain_zone.specs.Zone.{ZoneRecord, IsInOrder, owns, is_occluded, is_unoccluded, unoccluded_owners}
+use Rattle.domain_zone.specs.declared.soa.ApexSoa.{ApexSoa}
+use Rattle.domain_zone.proofs.NameLemmas.{before_order, one_key, same_itself, same_is, below_from}
+use Rattle.domain_zone.proofs.OwnerLemmas.{any_owner, any_in, owners_are, owners_ascend, apex_unoccluded}
+use Rattle.domain_zone.proofs.PairLemmas.{In, all_in, IsAscending, IsApart, one_matches_or_covers, gap, owner_in, next_is, lt_trans}
+use Rattle.domain_zone.proofs.PlaceLemmas.{count_cons, one_place, in_at}
+use Rattle.domain_zone.proofs.SoaLemmas.{soa_owned}
+use Rattle.domain_zone.proofs.ZoneLemmas.{weaker, apart_right}
+use Rattle.domain_nsec.specs.Chain.{Link, link_of, has_bit, IsChain}
+use Rattle.domain_nsec.specs.Meaning.{MirrorsZone, IsMatchedOrCoveredOnce, IsCycle, OwnersAscend, last_next}
+use Rattle.domain_nsec.specs.declared.config.GenerateNsecConfig.{GenerateNsecConfig}
+
+abbrev pub pair_of : Link → Name × Name
+pair_of k = (k.owner, k.next)
+
+abbrev pub Waiting : Type 0
+Waiting = Option (Name × List ℕ)
+
+abbrev pub pair_to : Waiting → Name → List (Name × Name)
+pair_to None y = []
+pair_to (Some w) y = (w.0, y) ∷ []
+
+-- links join the names ks up to next, with their numbers and bits
+pub record IsClosed (L : List ZoneRecord) (a : Name) (assume : Bool) (numbers : ApexSoa) (links : List Link) (ks : List Name) (next : Name) : Type 0 where
+  pub names : map pair_of links ≡ pairs ks next
+  pub numbered : All (λ k. (k.class ≡ numbers.class) × (k.ttl ≡ chain_ttl numbers)) links
+  pub bits : All (λ k. k.bits ≡ bitmap_octets (has_bit L a assume k.owner)) links
+
+-- and the last name waits for the next one
+pub record IsLinked (L : List ZoneRecord) (a : Name) (assume : Bool) (numbers : ApexSoa) (links : List Link) (waiting : Waiting) (ks : List Name) : Type 0 where
+  pub names : (y : Name) → map pair_of links ++ pair_to waiting y ≡ pairs ks y
+  pub numbered : All (λ k. (k.class ≡ numbers.class) × (k.ttl ≡ chain_ttl numbers)) links
+  pub bits : All (λ k. k.bits ≡ bitmap_octets (has_bit L a assume k.owner)) links
+  pub ready : IfSome waiting (λ w. w.1 ≡ bitmap_octets (has_bit L a assume w.0))
+
+append_nil : {X : Type 0} (xs : List X) → xs ++ [] ≡ xs
+append_nil [] = refl
+append_nil (x ∷ xs) = ap (λ ys. x ∷ ys) (append_nil xs)
+
+map-append : (xs ys : List Link) → map pair_of (xs ++ ys) ≡ map pair_of xs ++ map pair_of ys
+map-append [] ys = refl
+map-append (x ∷ xs) ys = ap (λ t. pair_of x ∷ t) (map-append xs ys)
+
+pairs_push : (ks : List Name) (n y : Name) → pairs (ks ++ n ∷ []) y ≡ pairs ks n ++ (n, y) ∷ []
+pairs_push [] n y = refl
+pairs_push (k ∷ []) n y = refl
+pairs_push (k ∷ l ∷ ks) n y = ap (λ t. (k, l) ∷ t) (pairs_push (l ∷ ks) n y)
+
+module _ (L : List ZoneRecord) (a : Name) (assume : Bool) (numbers : ApexSoa) where
+  pub link_start : IsLinked L a assume numbers [] None []
+  link_start = record {
+    names = λ y. refl;
+    numbered = All-nil (λ k. (k.class ≡ numbers.class) × (k.ttl ≡ chain_ttl numbers));
+    bits = All-nil (λ k. k.bits ≡ bitmap_octets (has_bit L a assume k.owner));
+    ready = tt;
+  }
+
+  pub close_none : (links : List Link) (ks : List Name) (n : Name) → IsLinked L a assume numbers links None ks → IsClosed L a assume numbers links ks n
+  close_none links ks n h = record {
+    names = sym (append_nil (map pair_of links)) ∙ h.names n;
+    numbered = h.numbered;
+    bits = h.bits;
+  }
+
+  pub close_some : (links : List Link) (ks : List Name) (m n : Name) (bits : List ℕ) → IsLinked L a assume numbers links (Some (m, bits)) ks → IsClosed L a assume numbers (links ++ link_of m n numbers bits ∷ []) ks n
+  close_some links ks m n bits h = record {
+    names = map-append links (link_of m n numbers bits ∷ []) ∙ h.names n;
+    numbered = All-push (λ k. (k.class ≡ numbers.class) × (k.ttl ≡ chain_ttl numbers)) links (link_of m n numbers bits) h.numbered (refl, refl);
+    bits = All-push (λ k. k.bits ≡ bitmap_octets (has_bit L a assume k.owner)) links (link_of m n numbers bits) h.bits h.ready;
+  }
+
+  pub wait_with : (links : List Link) (ks : List Name) (n : Name) (bits : List ℕ) → bits ≡ bitmap_octets (has_bit L a assume n) → IsClosed L a assume numbers links ks n → IsLinked L a assume numbers links (Some (n, bits)) (ks ++ n ∷ [])
+  wait_with links ks n bits b h = record {
+    names = λ y. ap (λ t. t ++ (n, y) ∷ []) h.names ∙ sym (pairs_push ks n y);
+    numbered = h.numbered;
+    bits = h.bits;
+    ready = b;
+  }
+
+pub chain_from : (L : List ZoneRecord) (a : Name) (config : GenerateNsecConfig) (numbers : ApexSoa) (links : List Link) → soa_of L a ≡ Some numbers
+    → IsClosed L a config.assume_dnskeys_will_be_added numbers links (unoccluded_owners config.occlude_below_dname L a) a → IsChain L a config links
+chain_from L a config numbers links s h = record {
+  numbers = numbers;
+  soa = s;
+  names = h.names;
+  numbered = h.numbered;
+  bits = h.bits;
+}
+
+-- ---- pairs
+
+count_pairs : (x : Name) (links : List Link) → count_by (λ k. matches_or_covers before k.owner k.next x) links ≡ count_by (λ (p : Name × Name). matches_or_covers before p.0 p.1 x) (map pair_of links)
+count_pairs x [] = refl
+count_pairs x (k ∷ links) =
+    count_cons (λ k. matches_or_covers before k.owner k.next x) k links
+    ∙ ap (λ n. cond (matches_or_covers before k.owner k.next x) 1 0 + n) (count_pairs x links)
+    ∙ sym (count_cons (λ (p : Name × Name). matches_or_covers before p.0 p.1 x) (pair_of k) (map pair_of links))
+
+in_map : (links : List Link) (k : Link) → In k links → In (pair_of k) (map pair_of links)
+in_map [] k i = i
+in_map (l ∷ links) k (inl e) = inl (ap pair_of e)
+in_map (l ∷ links) k (inr i) = inr (in_map links k i)
+
+-- ---- what the chain means
+
+module _ (d : Bool) (L : List ZoneRecord) (a : Name) (order : IsInOrder L) (apex : owns L a ≡ true) where
+  -- the unoccluded owners, of which the first is the apex
+  pub record Owners (ks : List Name) : Type 0 where
+    pub first : Name
+    pub later : List Name
+    pub are : ks ≡ first ∷ later
+    pub up : IsAscending before (first ∷ later)
+    pub low : AllByRecursion (λ n. before n a ≡ false) (first ∷ later)
+    pub begins : before a first ≡ false
+
+  begins_at : (k : Name) (ks : List Name) → IsAscending before (k ∷ ks) → list_any (λ m. same m a) (k ∷ ks) ≡ true → before a k ≡ false
+  begins_at k ks up h =
+      elim (cases_Bool (before a k)) [
+        | inl e ↦
+            let m = any_in (λ m. same m a) (k ∷ ks) h in
+            absurd (false≢true (sym (elim m.1 [
+              | inl f ↦ subst (λ n. same n a ≡ false) f (apart_right a k e)
+              | inr i ↦ apart_right a m.0 (lt_trans before_order a k m.0 e (all_in (λ y. before k y ≡ true) ks m.0 up.0 i))
+            ]) ∙ m.2))
+        | inr e ↦ e
+      ]
+
+  pub owners_known : Owners (unoccluded_owners d L a)
+  owners_known =
+      by (unoccluded_owners d L a) (owners_ascend d L a order)
+      (weaker (λ n. (owns L n ≡ true) × (is_unoccluded d L a n ≡ true)) (λ n. before n a ≡ false)
+      (λ n h. below_from n a (and_parts (is_at_or_below n a) (not (is_occluded d L a n)) h.1).0) (unoccluded_owners d L a) (owners_are d L a))
+      (any_owner d L a a (λ m. key_same m (key a)) apex (apex_unoccluded d L a) (same_itself a a refl))
+    where
+      by : (ks : List Name) → IsAscending before ks → AllByRecursion (λ n. before n a ≡ false) ks → list_any (λ m. same m a) ks ≡ true → Owners ks
+      by [] up low h = absurd (false≢true h)
+      by (k ∷ ks) up low h = record { first = k; later = ks; are = refl; up = up; low = low; begins = begins_at k ks up h }
+
+module _ (L : List ZoneRecord) (a : Name) (order : IsInOrder L) (config : GenerateNsecConfig) (links : List Link) (chain : IsChain L a config links) where
+  pub apex_owns : owns L a ≡ true
+  apex_owns = soa_owned L a chain.numbers chain.soa
+
+  pub owners : Owners config.occlude_below_dname L a order apex_owns (unoccluded_owners config.occlude_below_dname L a)
+  owners = owners_known config.occlude_below_dname L a order apex_owns
+
+  -- exactly one record matches or covers any name
+  pub answered_once : (x : Name) → count_by (λ k. matches_or_covers before k.owner k.next x) links ≡ 1
+  answered_once x =
+      let k = owners in
+      count_pairs x links
+      ∙ ap (count_by (λ (p : Name × Name). matches_or_covers before p.0 p.1 x)) (chain.names ∙ ap (λ ks. pairs ks a) k.are)
+      ∙ one_matches_or_covers before_order k.first k.later a x k.up k.low k.begins
+
+  -- of a record's pair and an unoccluded owner
+  pub owner_gap : (l : Link) (m : Name) → In l links → In m (unoccluded_owners config.occlude_below_dname L a) → IsApart {lt = before} before_order m (l.owner, l.next)
+  owner_gap l m i j =
+      let k = owners in
+      gap before_order k.first k.later a (l.owner, l.next) m k.up (subst (In (l.owner, l.next)) (chain.names ∙ ap (λ ks. pairs ks a) k.are) (in_map links l i)) (subst (In m) k.are j)
+
+  pub link_owner : (l : Link) → In l links → In l.owner (unoccluded_owners config.occlude_below_dname L a)
+  link_owner l i =
+      let k = owners in
+      subst (In l.owner) (sym k.are)
+      (owner_in before_order k.first k.later a (l.owner, l.next) (subst (In (l.owner, l.next)) (chain.names ∙ ap (λ ks. pairs ks a) k.are) (in_map links l i)))
+
+  pub link_next : (l : Link) → In l links → ((before l.owner l.next ≡ true) × In l.next (unoccluded_owners config.occlude_below_dname L a)) ⊎ (a ≡ l.next)
+  link_next l i =
+      let k = owners in
+      elim (next_is before_order k.first k.later a (l.owner, l.next) k.up (subst (In (l.owner, l.next)) (chain.names ∙ ap (λ ks. pairs ks a) k.are) (in_map links l i))) [
+        | inl h ↦ inl (h.0, subst (In l.next) (sym k.are) h.1)
+        | inr h ↦ inr h
+      ]
+
+  bit_at : (l : Link) (xs : List Link) → All (λ k. k.bits ≡ bitmap_octets (has_bit L a config.assume_dnskeys_will_be_added k.owner)) xs → In l xs → l.bits ≡ bitmap_octets (has_bit L a config.assume_dnskeys_will_be_added l.owner)
+  bit_at l xs h i = all_in (λ k. k.bits ≡ bitmap_octets (has_bit L a config.assume_dnskeys_will_be_added k.owner)) xs l (recursion_from_All (λ k. k.bits ≡ bitmap_octets (has_bit L a config.assume_dnskeys_will_be_added k.owner)) xs h) i
+
+  -- where x is not occluded and isn't the owner of the record that matches or covers it, it owns nothing
+  uncovered : (x : Name) (l : Link) → In l links → is_unoccluded config.occlude_below_dname L a x ≡ true → covers before l.owner l.next x ≡ true → owns L x ≡ false
+  uncovered x l i zone c =
+      elim (cases_Bool (owns L x)) [
+        | inl o ↦
+            let m = any_in (λ m. same m x) (unoccluded_owners config.occlude_below_dname L a) (any_owner config.occlude_below_dname L a x (λ m. key_same m (key x)) o zone (same_itself x x refl)) in
+            let k = one_key m.0 x m.2 in
+            let low = below_from x a (and_parts (is_at_or_below x a) (not (is_occluded config.occlude_below_dname L a x)) zone).0 in
+            let parts = and_parts (not (matches before l.owner x)) (cond (before l.owner l.next) (before l.owner x && before x l.next) (before l.owner x || before x l.next)) c in
+            absurd (clash (before l.owner l.next) refl parts.1 low m.0 k (owner_gap l m.0 i m.1) (link_next l i))
+        | inr o ↦ o
+      ]
+    where
+      clash : (b : Bool) → before l.owner l.next ≡ b → cond b (before l.owner x && before x l.next) (before l.owner x || before x l.next) ≡ true → before x a ≡ false → (m : Name) → key m ≡ key x
+          → IsApart {lt = before} before_order m (l.owner, l.next) → ((before l.owner l.next ≡ true) × In l.next (unoccluded_owners config.occlude_below_dname L a)) ⊎ (a ≡ l.next) → ⊥
+      clash true e h low m k (inl f) n =
+          false≢true (sym f ∙ ap (key_before (key l.owner)) k ∙ (and_parts (before l.owner x) (before x l.next) h).0)
+      clash true e h low m k (inr f) n =
+          false≢true (sym f.1 ∙ ap (λ q. key_before q (key l.next)) k ∙ (and_parts (before l.owner x) (before x l.next) h).1)
+      clash false e h low m k (inr f) n = true≢false (sym f.0 ∙ e)
+      clash false e h low m k (inl f) (inl n) = true≢false (sym n.0 ∙ e)
+      clash false e h low m k (inl f) (inr n) =
+          elim (or_cases (before l.owner x) (before x l.next) h) [
+            | inl g ↦ false≢true (sym f ∙ ap (key_before (key l.owner)) k ∙ g)
+            | inr g ↦ false≢true (sym low ∙ ap (before x) n ∙ g)
+          ]
+
+  mirrored : (x : Name) → is_at_or_below x a ≡ true → is_occluded config.occlude_below_dname L a x ≡ false
+      → IsMatchedOrCoveredOnce L a config.assume_dnskeys_will_be_added links x
+  mirrored x low high =
+      let p : Link → Bool = λ k. matches_or_covers before k.owner k.next x in
+      let one = one_place p links (answered_once x) in
+      let i = in_at links one.place one.item one.there in
+      let chosen : is_unoccluded config.occlude_below_dname L a x ≡ true = (λ j. low j && not (high j)) in
+      record {
+        place = one.place;
+        link = one.item;
+        there = one.there;
+        says = one.passes;
+        only = one.only;
+        matched = elim (or_cases (matches before one.item.owner x) (covers before one.item.owner one.item.next x) one.passes) [
+          | inl m ↦
+              let own = (all_in (λ n. (owns L n ≡ true) × (is_unoccluded config.occlude_below_dname L a n ≡ true)) (unoccluded_owners config.occlude_below_dname L a) one.item.owner (owners_are config.occlude_below_dname L a) (link_owner one.item i)).0 in
+              let same_key = one_key one.item.owner x (same_is one.item.owner x ∙ m) in
+              m ∙ sym (ap (λ k. list_any (λ r. key_same (key r.owner) k) L) (sym same_key) ∙ own)
+          | inr c ↦
+              not-true (matches before one.item.owner x) (and_parts (not (matches before one.item.owner x)) (cond (before one.item.owner one.item.next) (before one.item.owner x && before x one.item.next) (before one.item.owner x || before x one.item.next)) c).0
+              ∙ sym (uncovered x one.item i chosen c)
+        ];
+        bits = bit_at one.item links chain.bits i;
+      }
+
+  -- the chain mirrors the zone
+  pub mirrors_zone : MirrorsZone L a config links
+  mirrors_zone = record { each = mirrored }
+
+-- ---- from the apex round to the apex
+
+-- links over these names, the last one's next one a
+record IsRound (a k : Name) (links : List Link) : Type 0 where
+  first : Link
+  later : List Link
+  are : links ≡ first ∷ later
+  begins : first.owner ≡ k
+  ascends : OwnersAscend links
+  ends : last_next first.next later ≡ a
+
+round : (a k : Name) (ks : List Name) (links : List Link) → map pair_of links ≡ pairs (k ∷ ks) a → IsAscending before (k ∷ ks) → IsRound a k links
+round a k [] [] e up = absurd (cc)
+round a k [] (l ∷ []) e up =
+    let one : pair_of l ≡ (k, a) = cc in
+    record { first = l; later = []; are = refl; begins = ap (λ p. p.0) one; ascends = tt; ends = ap (λ p. p.1) one }
+round a k [] (l ∷ m ∷ links) e up = absurd (cc)
+round a k (n ∷ ks) [] e up = absurd (cc)
+round a k (n ∷ ks) (l ∷ links) e up =
+    let one : pair_of l ≡ (k, n) = cc in
+    let others : map pair_of links ≡ pairs (n ∷ ks) a = cc in
+    let r = round a n ks links others up.1 in
+    record {
+      first = l;
+      later = links;
+      are = refl;
+      begins = ap (λ p. p.0) one;
+      ascends = subst (λ ls. OwnersAscend (l ∷ ls)) (sym r.are)
+          ((λ i. before ((ap (λ p. p.0) one) i) (r.begins i)) ∙ up.0.0, subst OwnersAscend r.are r.ascends);
+      ends = ap (last_next l.next) r.are ∙ r.ends;
+    }
+
+pub chain_cycle : (L : List ZoneRecord) (a : Name) (order : IsInOrder L) (config : GenerateNsecConfig) (links : List Link) (chain : IsChain L a config links) → IsCycle a links
+chain_cycle L a order config links chain =
+    let k = owners L a order config links chain in
+    let r = round a k.first k.later links (chain.names ∙ ap (λ ks. pairs ks a) k.are) k.up in
+    record {
+      first = r.first;
+      later = r.later;
+      are = r.are;
+      begins = ap (λ n. same n a) r.begins ∙ same_is k.first a ∙ (λ i. not (k.low.0 i || k.begins i));
+      ascends = r.ascends;
+      ends = r.ends;
+    }

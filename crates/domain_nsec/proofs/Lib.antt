@@ -1,0 +1,5 @@
+pub mod ChainLemmas
+pub mod EncloserLemmas
+pub mod StateLemmas
+pub mod TypeLemmas
+pub mod LawLemmas

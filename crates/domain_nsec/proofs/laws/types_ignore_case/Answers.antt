@@ -1,0 +1,5 @@
+use Rattle.domain_nsec.proofs.LawLemmas.{bits_alike}
+use Rattle.domain_nsec.proofs.laws.types_ignore_case.Goals as goal
+
+pub returns : goal.returns
+returns c = bits_alike

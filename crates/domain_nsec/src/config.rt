@@ -1,0 +1,53 @@
+//! How chains are made.
+ghost use Rattle.std.specs.Prelude.{◌≡◌, true, false};
+
+/// How an NSEC chain is made.
+#[derive(Clone, Copy, Debug, PartialEq, Eq)]
+pub struct GenerateNsecConfig {
+    /// Whether DNSKEY records will be added at the apex once the chain is made, so that its bitmap lists their type already.
+    pub assume_dnskeys_will_be_added: bool,
+    /// Whether names strictly below a name of the zone that owns a DNAME record are left out, as those below a zone cut are: no
+    /// data may stand there (RFC 6672, section 2.4). An own option.
+    pub occlude_below_dname: bool,
+}
+
+impl GenerateNsecConfig {
+    /// DNSKEY records are assumed, and names below a DNAME stay in the chain.
+    pub fn new() -> Self
+        ensures { result ≡ record { assume_dnskeys_will_be_added = true; occlude_below_dname = false } }
+    {
+        GenerateNsecConfig {
+            assume_dnskeys_will_be_added: true,
+            occlude_below_dname: false,
+        }
+    }
+
+    /// The same, but that no DNSKEY records are assumed. The other field stays as it is.
+    pub fn without_assuming_dnskeys_will_be_added(self) -> Self
+        ensures { result ≡ record self { assume_dnskeys_will_be_added = false } }
+    {
+        GenerateNsecConfig {
+            assume_dnskeys_will_be_added: false,
+            ..self
+        }
+    }
+
+    /// The same, but that names below a DNAME are left out. The other field stays as it is.
+    pub fn with_occlude_below_dname(self) -> Self
+        ensures { result ≡ record self { occlude_below_dname = true } }
+    {
+        GenerateNsecConfig {
+            occlude_below_dname: true,
+            ..self
+        }
+    }
+}
+
+/// DNSKEY records are assumed, and names below a DNAME stay in the chain.
+impl Default for GenerateNsecConfig {
+    ghost is_default = { λ config. config ≡ record { assume_dnskeys_will_be_added = true; occlude_below_dname = false } };
+
+    fn default() -> Self {
+        GenerateNsecConfig::new()
+    }
+}

@@ -1,0 +1,90 @@
+-- What is known of the owners that an iterator has given and has left.
+use Rattle.std.proofs.Common.{◌≡◌, ◌≤◌, ℕ, Bool, true, false, cond, ◌||◌, List, [], ◌∷◌, ◌++◌, map, refl, sym, ap, ◌∙◌, subst, inl, inr}
+use Rattle.std.specs.Prelude.{filter}
+use Rattle.std.specs.List.{list_any, AllByRecursion}
+use Rattle.std.proofs.lemmas.Bool.{or_right}
+use Rattle.std.proofs.lemmas.List.Folds.{list_any-append}
+use Rattle.domain_base.specs.Laws.{same_name_same}
+use Rattle.domain_base.specs.Name.{IsSame}
+use Rattle.domain_plain.specs.declared.record.Record.{Record}
+use Rattle.domain_rdata.specs.Zone.{rtype_of}
+use Rattle.domain_rdata.specs.declared.zone_record_data.ZoneRecordData.{ZoneRecordData}
+use Rattle.domain_records.specs.Order.{MayFollow, HoldsPairwise, IsInOrder as IsListInOrder}
+use Rattle.domain_zone.specs.Names.{Name, key, same}
+use Rattle.domain_zone.specs.Owners.{OwnerRecords, owner_at, owners_with_records}
+use Rattle.domain_zone.specs.View.{as_zone_record}
+use Rattle.domain_zone.specs.Zone.{ZoneRecord, records_of, unoccluded_owners, has_clash, has_uneven_ttls}
+use Rattle.domain_zone.proofs.NameLemmas.{one_key, same_itself, same_is_name}
+use Rattle.domain_zone.proofs.OwnerLemmas.{filter_passes}
+use Rattle.domain_zone.proofs.TtlLemmas.{NeverDescend}
+use Rattle.domain_zone.proofs.ZoneLemmas.{all_front, any_map}
+
+abbrev pub name_of : OwnerRecords → Name
+name_of o = o.name
+
+abbrev pub clashes_in : OwnerRecords → Bool
+clashes_in o = has_clash o.records
+
+all_known : (L : List ZoneRecord) (a : Name) (ks : List Name) → AllByRecursion (λ o. o ≡ owner_at L a o.name) (map (owner_at L a) ks)
+all_known L a [] = tt
+all_known L a (k ∷ ks) = (refl, all_known L a ks)
+
+names_again : (L : List ZoneRecord) (a : Name) (ks : List Name) → map name_of (map (owner_at L a) ks) ≡ ks
+names_again L a [] = refl
+names_again L a (k ∷ ks) = ap (λ t. k ∷ t) (names_again L a ks)
+
+append_nil : {X : Type 0} (xs : List X) → xs ++ [] ≡ xs
+append_nil [] = refl
+append_nil (x ∷ xs) = ap (λ ys. x ∷ ys) (append_nil xs)
+
+module _ (d : Bool) (L : List ZoneRecord) (a : Name) (given : List OwnerRecords) where
+  -- the next one is an owner with its records
+  pub next_is_owner : (o : OwnerRecords) (left : List OwnerRecords) → given ++ o ∷ left ≡ owners_with_records d L a → o ≡ owner_at L a o.name
+  next_is_owner o left e =
+      (all_front (λ o. o ≡ owner_at L a o.name) given (o ∷ left) (subst (AllByRecursion (λ o. o ≡ owner_at L a o.name)) (sym e) (all_known L a (unoccluded_owners d L a)))).1.0
+
+  -- at the end all owners have been given
+  pub all_given : given ++ [] ≡ owners_with_records d L a → map name_of given ≡ unoccluded_owners d L a
+  all_given e = ap (map name_of) (sym (append_nil given) ∙ e) ∙ names_again L a (unoccluded_owners d L a)
+
+  pub even_given : given ++ [] ≡ owners_with_records d L a → list_any clashes_in given ≡ false → has_uneven_ttls L (unoccluded_owners d L a) ≡ false
+  even_given e h =
+      sym (any_map clashes_in (owner_at L a) (unoccluded_owners d L a)) ∙ ap (list_any clashes_in) (sym e ∙ append_nil given) ∙ h
+
+  -- an owner with unequal TTLs
+  pub uneven_next : (o : OwnerRecords) (left : List OwnerRecords) → given ++ o ∷ left ≡ owners_with_records d L a → has_clash o.records ≡ true → has_uneven_ttls L (unoccluded_owners d L a) ≡ true
+  uneven_next o left e h =
+      sym (any_map clashes_in (owner_at L a) (unoccluded_owners d L a)) ∙ ap (list_any clashes_in) (sym e)
+      ∙ list_any-append clashes_in given (o ∷ left)
+      ∙ or_right (list_any clashes_in given) (list_any clashes_in (o ∷ left)) (λ i. h i || list_any clashes_in left)
+
+-- ---- the types of an owner's records never descend
+
+module _ {O N : Type 0} (labels : N → Name) where
+  follows : (r : Record N (ZoneRecordData O N)) (rs : List (Record N (ZoneRecordData O N))) → AllByRecursion (MayFollow labels rtype_of r) rs
+      → AllByRecursion (λ s. same (labels r.owner) s.owner ≡ true → rtype_of r.«data» ≤ s.rtype) (map (as_zone_record labels) rs)
+  follows r [] h = tt
+  follows r (s ∷ rs) h =
+      let first : MayFollow labels rtype_of r s = h.0 in
+      ((λ e. first.type ((same_name_same (labels r.owner) (labels s.owner)).0 (sym (same_is_name (labels r.owner) (labels s.owner)) ∙ e))), follows r rs h.1)
+
+  pub types_at : (rs : List (Record N (ZoneRecordData O N))) (n : Name) → IsListInOrder labels rtype_of rs → NeverDescend (records_of (map (as_zone_record labels) rs) n)
+  types_at [] n h = tt
+  types_at (r ∷ rs) n h =
+      let more = records_of (map (as_zone_record labels) rs) n in
+      elim (same (labels r.owner) n) as (λ b. same (labels r.owner) n ≡ b → NeverDescend (cond b (as_zone_record labels r ∷ records_of (map (as_zone_record labels) rs) n) (records_of (map (as_zone_record labels) rs) n))) [
+        | true ↦ λ e. (
+            filter_passes (λ s. same (labels r.owner) s.owner ≡ true → rtype_of r.«data» ≤ s.rtype) (λ s. rtype_of r.«data» ≤ s.rtype) (λ s. same s.owner n)
+                (λ s f q. f (same_itself (labels r.owner) s.owner (one_key (labels r.owner) n e ∙ sym (one_key s.owner n q)))) (map (as_zone_record labels) rs) (follows r rs h.0),
+            types_at rs n h.1,
+          )
+        | false ↦ λ e. types_at rs n h.1
+      ] refl
+
+  pub raw_types : (rs : List (Record N (ZoneRecordData O N))) → NeverDescend (map (as_zone_record labels) rs) → HoldsPairwise (λ r s. rtype_of r.«data» ≤ rtype_of s.«data») rs
+  raw_types [] h = tt
+  raw_types (r ∷ rs) h = (raw rs h.0, raw_types rs h.1)
+    where
+      raw : (ss : List (Record N (ZoneRecordData O N))) → AllByRecursion (λ s. rtype_of r.«data» ≤ s.rtype) (map (as_zone_record labels) ss) → AllByRecursion (λ s. rtype_of r.«data» ≤ rtype_of s.«data») ss
+      raw [] h = tt
+      raw (s ∷ ss) h = (h.0, raw ss h.1)

@@ -1,0 +1,237 @@
+-- Groups of records, as the walk sees them.
+use Rattle.std.proofs.Common.{◌≡◌, ◌≤◌, ℕ, Bool, true, false, not, ◌&&◌, ◌↔◌, IsTrue, List, [], ◌∷◌, ◌++◌, map, refl, sym, ap, ◌∙◌, subst, inl, inr, nat_eq}
+use Rattle.std.specs.Prelude.{if◌then◌else◌}
+use Rattle.std.specs.declared.cmp.Ordering.{Ordering}
+use Rattle.std.specs.declared.cmp.Ordering.TheVariants.{Less, Equal, Greater}
+use Rattle.std.specs.Ordering.{is_lt, is_gt, ordering_reverse}
+use Rattle.std.specs.List.{list_any, AllByRecursion}
+use Rattle.std.proofs.lemmas.Bool.{cases_Bool, false≢true, and_parts, not-true, eqb-true}
+use Rattle.std.proofs.lemmas.List.{map-append}
+use Rattle.std.proofs.lemmas.List.Folds.{Any-from_list_any, list_any-from_Any}
+use Rattle.domain_base.specs.Name.{IsSame}
+use Rattle.domain_base.specs.Laws.{same_name_same}
+use Rattle.domain_base.specs.Order.{canonical_cmp, canonical_cmp_total}
+use Rattle.domain_plain.specs.declared.record.Record.{Record}
+use Rattle.domain_rdata.specs.Zone.{rtype_of}
+use Rattle.domain_rdata.specs.declared.zone_record_data.ZoneRecordData.{ZoneRecordData}
+use Rattle.domain_records.specs.Runs.{runs, add_to}
+use Rattle.domain_records.specs.Groups.{same_owner, HasFirst, IsZoneCut}
+use Rattle.domain_records.specs.Order.{MayFollow, IsInOrder as IsListInOrder}
+use Rattle.domain_zone.specs.Names.{Name, key, key_same, same, before}
+use Rattle.domain_zone.specs.Zone.{ZoneRecord, IsInOrder, has_type}
+use Rattle.domain_zone.specs.View.{as_zone_record}
+use Rattle.domain_zone.proofs.NameLemmas.{one_key, same_itself, same_is_name, before_is}
+use Rattle.domain_zone.proofs.ZoneLemmas.{any_map, BeginsElsewhere, IsFront}
+use Rattle.domain_zone.proofs.TtlLemmas.{NeverDescend}
+
+-- ---- runs
+
+module _ {X : Type 0} (alike : X → X → Bool) where
+  -- the first run of a list that isn't empty has its first element
+  record Heads (y : X) (ys : List X) : Type 0 where
+    head : List X
+    tails : List (List X)
+    are : runs alike (y ∷ ys) ≡ (y ∷ head) ∷ tails
+
+  heads : (y : X) (ys : List X) → Heads y ys
+  unfolding runs
+  heads y ys = by (runs alike ys) refl
+    where
+      by : (gs : List (List X)) → runs alike ys ≡ gs → Heads y ys
+      by [] e = record { head = []; tails = []; are = ap (add_to alike y) e }
+      by ([] ∷ gs) e = record { head = []; tails = gs; are = ap (add_to alike y) e }
+      by ((z ∷ zs) ∷ gs) e =
+          elim (cases_Bool (alike y z)) [
+            | inl t ↦ record { head = z ∷ zs; tails = gs; are = ap (add_to alike y) e ∙ (λ i. if (t i) then (y ∷ z ∷ zs) ∷ gs else (y ∷ []) ∷ (z ∷ zs) ∷ gs) }
+            | inr t ↦ record { head = []; tails = (z ∷ zs) ∷ gs; are = ap (add_to alike y) e ∙ (λ i. if (t i) then (y ∷ z ∷ zs) ∷ gs else (y ∷ []) ∷ (z ∷ zs) ∷ gs) }
+          ]
+
+  abbrev pub StartsApart : X → List X → Type 0
+  StartsApart x [] = Unit {0}
+  StartsApart x (y ∷ ys) = alike x y ≡ false
+
+  -- the elements of a first run are like its first one, and what follows begins with another
+  pub record FirstRun (x : X) (g t : List X) : Type 0 where
+    pub more : List X
+    pub are : g ≡ x ∷ more
+    pub all : AllByRecursion (λ y. alike x y ≡ true) more
+    pub ends : StartsApart x t
+
+module _ {X : Type 0} (alike : X → X → Bool) (onward : (x y z : X) → alike x y ≡ true → alike x z ≡ alike y z) where
+  pub first_run : (x : X) (xs g t : List X) → x ∷ xs ≡ g ++ t → runs alike (x ∷ xs) ≡ g ∷ runs alike t → FirstRun alike x g t
+  unfolding runs
+  first_run x [] g t e f =
+      let g_is : g ≡ x ∷ [] = cc in
+      let t_is : [] ≡ t = tail_of (subst (λ h. x ∷ [] ≡ h ++ t) g_is e) in
+      record { more = []; are = g_is; all = tt; ends = subst (StartsApart alike x) t_is tt }
+    where
+      tail_of : x ∷ [] ≡ (x ∷ []) ++ t → [] ≡ t
+      tail_of h = cc
+  first_run x (y ∷ ys) g t e f =
+      let h = heads alike y ys in
+      elim (cases_Bool (alike x y)) [
+        | inl a ↦
+            let joined : runs alike (x ∷ y ∷ ys) ≡ (x ∷ y ∷ h.head) ∷ h.tails = ap (add_to alike x) h.are ∙ (λ i. if (a i) then (x ∷ y ∷ h.head) ∷ h.tails else (x ∷ []) ∷ (y ∷ h.head) ∷ h.tails) in
+            let g_is : g ≡ x ∷ y ∷ h.head = cc in
+            let rest_is : runs alike t ≡ h.tails = cc in
+            let below : y ∷ ys ≡ (y ∷ h.head) ++ t = tails_of (subst (λ k. x ∷ y ∷ ys ≡ k ++ t) g_is e) in
+            let inner = first_run y ys (y ∷ h.head) t below (h.are ∙ ap (λ k. (y ∷ h.head) ∷ k) (sym rest_is)) in
+            let more_is : h.head ≡ inner.more = heads_of inner.are in
+            record {
+              more = y ∷ h.head;
+              are = g_is;
+              all = (a, subst (AllByRecursion (λ z. alike x z ≡ true)) (sym more_is) (carried inner.more inner.all a));
+              ends = apart t inner.ends a;
+            }
+        | inr a ↦
+            let joined : runs alike (x ∷ y ∷ ys) ≡ (x ∷ []) ∷ (y ∷ h.head) ∷ h.tails = ap (add_to alike x) h.are ∙ (λ i. if (a i) then (x ∷ y ∷ h.head) ∷ h.tails else (x ∷ []) ∷ (y ∷ h.head) ∷ h.tails) in
+            let g_is : g ≡ x ∷ [] = cc in
+            let t_is : y ∷ ys ≡ t = tails_of (subst (λ k. x ∷ y ∷ ys ≡ k ++ t) g_is e) in
+            record { more = []; are = g_is; all = tt; ends = subst (StartsApart alike x) t_is a }
+      ]
+    where
+      tails_of : {z : X} {us vs : List X} → z ∷ us ≡ z ∷ vs → us ≡ vs
+      tails_of h = cc
+
+      heads_of : {z : X} {us vs : List X} → z ∷ us ≡ z ∷ vs → us ≡ vs
+      heads_of h = cc
+
+      carried : (us : List X) → AllByRecursion (λ z. alike y z ≡ true) us → alike x y ≡ true → AllByRecursion (λ z. alike x z ≡ true) us
+      carried [] all a = tt
+      carried (u ∷ us) all a = (onward x y u a ∙ all.0, carried us all.1 a)
+
+      apart : (us : List X) → StartsApart alike y us → alike x y ≡ true → StartsApart alike x us
+      apart [] h a = tt
+      apart (u ∷ us) h a = onward x y u a ∙ h
+
+-- ---- groups of one owner
+
+two : (n : ℕ) → n ≡ 2 → nat_eq n 2 ≡ true
+two n e = ap (λ m. nat_eq m 2) e
+
+module _ {O N : Type 0} (labels : N → Name) where
+  owner_key : (r s : Record N (ZoneRecordData O N)) → same_owner labels r s ≡ true → key (labels r.owner) ≡ key (labels s.owner)
+  owner_key r s e = one_key (labels r.owner) (labels s.owner) (same_is_name (labels r.owner) (labels s.owner) ∙ e)
+
+  owner_onward : (r s t : Record N (ZoneRecordData O N)) → same_owner labels r s ≡ true → same_owner labels r t ≡ same_owner labels s t
+  owner_onward r s t e =
+      sym (same_is_name (labels r.owner) (labels t.owner)) ∙ ap (λ k. key_same k (key (labels t.owner))) (owner_key r s e) ∙ same_is_name (labels s.owner) (labels t.owner)
+
+  all_at : (r : Record N (ZoneRecordData O N)) (more : List (Record N (ZoneRecordData O N))) → AllByRecursion (λ s. same_owner labels r s ≡ true) more → AllByRecursion (λ s. same s.owner (labels r.owner) ≡ true) (map (as_zone_record labels) more)
+  all_at r [] h = tt
+  all_at r (s ∷ more) h = (same_itself (labels s.owner) (labels r.owner) (sym (owner_key r s h.0)), all_at r more h.1)
+
+  elsewhere : (r : Record N (ZoneRecordData O N)) (t : List (Record N (ZoneRecordData O N))) → StartsApart (same_owner labels) r t → BeginsElsewhere (labels r.owner) (map (as_zone_record labels) t)
+  elsewhere r [] h = tt
+  elsewhere r (s ∷ t) h =
+      elim (cases_Bool (same (labels s.owner) (labels r.owner))) [
+        | inl e ↦ absurd (false≢true (sym h ∙ sym (same_is_name (labels r.owner) (labels s.owner)) ∙ same_itself (labels r.owner) (labels s.owner) (sym (one_key (labels s.owner) (labels r.owner) e))))
+        | inr e ↦ e
+      ]
+
+  -- what the iterator over groups hands out
+  pub front_group : (rest group after : List (Record N (ZoneRecordData O N))) → rest ≡ group ++ after → runs (same_owner labels) rest ≡ group ∷ runs (same_owner labels) after → (owner : N) → HasFirst (λ r. r.owner ≡ owner) group
+      → (g : ZoneRecord) × IsFront (map (as_zone_record labels) rest) g (map (as_zone_record labels) group) (map (as_zone_record labels) after) × (g.owner ≡ labels owner)
+  front_group [] [] after e f owner h = absurd h
+  front_group [] (g ∷ group) after e f owner h = cc
+  front_group (r ∷ rest) group after e f owner h =
+      let run = first_run (same_owner labels) owner_onward r rest group after e f in (
+        as_zone_record labels r,
+        record {
+          gs = map (as_zone_record labels) run.more;
+          are = ap (map (as_zone_record labels)) run.are;
+          split = ap (map (as_zone_record labels)) (e ∙ ap (λ t. t ++ after) run.are) ∙ map-append (as_zone_record labels) (r ∷ run.more) after;
+          group = (all_at r run.more run.all, elsewhere r after run.ends);
+        },
+        ap labels (named run.more (subst (HasFirst (λ s. s.owner ≡ owner)) run.are h)),
+      )
+    where
+      named : (more : List (Record N (ZoneRecordData O N))) → HasFirst (λ s. s.owner ≡ owner) (r ∷ more) → r.owner ≡ owner
+      named more k = k
+
+  -- ---- order
+
+  not_before : (r s : Record N (ZoneRecordData O N)) → MayFollow labels rtype_of r s → before (labels s.owner) (labels r.owner) ≡ false
+  not_before r s m =
+      before_is (labels s.owner) (labels r.owner) ∙ ap is_lt (canonical_cmp_total.antisymm (labels s.owner) (labels r.owner)) ∙ turned (canonical_cmp (labels r.owner) (labels s.owner)) ∙ m.owner
+    where
+      turned : (o : Ordering) → is_lt (ordering_reverse o) ≡ is_gt o
+      turned Less = refl
+      turned Equal = refl
+      turned Greater = refl
+
+  all_follow : (r : Record N (ZoneRecordData O N)) (rs : List (Record N (ZoneRecordData O N))) → AllByRecursion (MayFollow labels rtype_of r) rs → AllByRecursion (λ s. before s.owner (labels r.owner) ≡ false) (map (as_zone_record labels) rs)
+  all_follow r [] h = tt
+  all_follow r (s ∷ rs) h = (not_before r s h.0, all_follow r rs h.1)
+
+  pub owners_in_order : (rs : List (Record N (ZoneRecordData O N))) → IsListInOrder labels rtype_of rs → IsInOrder (map (as_zone_record labels) rs)
+  owners_in_order [] h = tt
+  owners_in_order (r ∷ rs) h = (all_follow r rs h.0, owners_in_order rs h.1)
+
+  -- the records of a list in order that come after a group are in order
+  pub order_after : (group after : List (Record N (ZoneRecordData O N))) → IsListInOrder labels rtype_of (group ++ after) → IsListInOrder labels rtype_of after
+  order_after [] after h = h
+  order_after (g ∷ group) after h = order_after group after h.1
+
+  alike_types : (r : Record N (ZoneRecordData O N)) (more after : List (Record N (ZoneRecordData O N))) → AllByRecursion (λ s. same_owner labels r s ≡ true) more → AllByRecursion (MayFollow labels rtype_of r) (more ++ after) → AllByRecursion (λ s. rtype_of r.«data» ≤ s.rtype) (map (as_zone_record labels) more)
+  alike_types r [] after all h = tt
+  alike_types r (s ∷ more) after all h =
+      let follow : MayFollow labels rtype_of r s = h.0 in
+      (follow.type ((same_name_same (labels r.owner) (labels s.owner)).0 all.0), alike_types r more after all.1 h.1)
+
+  -- the types of a group never descend
+  types_of_group : (r : Record N (ZoneRecordData O N)) (more after : List (Record N (ZoneRecordData O N))) → AllByRecursion (λ s. same_owner labels r s ≡ true) more → IsListInOrder labels rtype_of ((r ∷ more) ++ after) → NeverDescend (map (as_zone_record labels) (r ∷ more))
+  types_of_group r [] after all h = (tt, tt)
+  types_of_group r (s ∷ more) after all h =
+      (alike_types r (s ∷ more) after all h.0, types_of_group s more after (moved more all.0 all.1) h.1)
+    where
+      moved : (us : List (Record N (ZoneRecordData O N))) → same_owner labels r s ≡ true → AllByRecursion (λ t. same_owner labels r t ≡ true) us → AllByRecursion (λ t. same_owner labels s t ≡ true) us
+      moved [] e k = tt
+      moved (u ∷ us) e k = (sym (owner_onward r s u e) ∙ k.0, moved us e k.1)
+
+  pub group_types : (rest group after : List (Record N (ZoneRecordData O N))) → rest ≡ group ++ after → runs (same_owner labels) rest ≡ group ∷ runs (same_owner labels) after → IsListInOrder labels rtype_of rest → NeverDescend (map (as_zone_record labels) group)
+  group_types [] [] after e f h = tt
+  group_types [] (g ∷ group) after e f h = cc
+  group_types (r ∷ rest) group after e f h =
+      let run = first_run (same_owner labels) owner_onward r rest group after e f in
+      subst (λ t. NeverDescend (map (as_zone_record labels) t)) (sym run.are)
+      (types_of_group r run.more after run.all (subst (λ t. IsListInOrder labels rtype_of t) (e ∙ ap (λ t. t ++ after) run.are) h))
+
+  -- ---- zone cuts
+
+  pub cut_test : (b : Bool) (a : Name) (owner : N) (group : List (Record N (ZoneRecordData O N))) → HasFirst (λ r. r.owner ≡ owner) group → (IsTrue b ↔ IsZoneCut labels rtype_of a group) → b ≡ (not (same (labels owner) a) && has_type (map (as_zone_record labels) group) 2)
+  cut_test b a owner [] h f = absurd h
+  cut_test b a owner (g ∷ more) h f = by b f
+    where
+      group : List (Record N (ZoneRecordData O N))
+      group = g ∷ more
+
+      types : has_type (map (as_zone_record labels) (g ∷ more)) 2 ≡ list_any (λ r. nat_eq (rtype_of r.«data») 2) (g ∷ more)
+      types = any_map (λ r. nat_eq r.rtype 2) (as_zone_record labels) (g ∷ more)
+
+      apart : ¬ (IsSame (labels g.owner) a) → same (labels owner) a ≡ false
+      apart n = elim (cases_Bool (same (labels owner) a)) [
+        | inl e ↦ absurd (n ((same_name_same (labels g.owner) a).0 (sym (same_is_name (labels g.owner) a) ∙ ap (λ o. same (labels o) a) h ∙ e)))
+        | inr e ↦ e
+      ]
+
+      -- what the test says
+      says : (not (same (labels owner) a) && has_type (map (as_zone_record labels) (g ∷ more)) 2) ≡ true → IsZoneCut labels rtype_of a (g ∷ more)
+      says e =
+          let p = and_parts (not (same (labels owner) a)) (has_type (map (as_zone_record labels) (g ∷ more)) 2) e in
+          let found = Any-from_list_any (λ r. nat_eq (rtype_of r.«data») 2) (g ∷ more) (sym types ∙ p.1) in
+          record {
+            below = λ s. false≢true (sym (not-true (same (labels owner) a) p.0) ∙ ap (λ o. same (labels o) a) (sym h) ∙ same_is_name (labels g.owner) a ∙ (same_name_same (labels g.owner) a).1 s);
+            delegates = (found.0, found.1, found.2, found.3, eqb-true (rtype_of found.1.«data») 2 found.4);
+          }
+
+      by : (v : Bool) → (IsTrue v ↔ IsZoneCut labels rtype_of a (g ∷ more)) → v ≡ (not (same (labels owner) a) && has_type (map (as_zone_record labels) (g ∷ more)) 2)
+      by true k =
+          let cut = k.0 refl in
+          let ns = cut.delegates in
+          let typed = types ∙ list_any-from_Any (λ r. nat_eq (rtype_of r.«data») 2) (g ∷ more) (ns.0, ns.1, ns.2, ns.3, two (rtype_of ns.1.«data») ns.4) in
+          sym (λ i. not (apart cut.below i) && typed i)
+      by false k = elim (cases_Bool (not (same (labels owner) a) && has_type (map (as_zone_record labels) (g ∷ more)) 2)) [
+        | inl e ↦ absurd (false≢true (k.1 (says e)))
+        | inr e ↦ sym e
+      ]

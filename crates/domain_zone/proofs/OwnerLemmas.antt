@@ -1,0 +1,168 @@
+-- The unoccluded owners of a list in order: they ascend, begin with the apex, and are the names that own records and are not occluded.
+use Rattle.std.proofs.Common.{◌≡◌, ℕ, Bool, true, false, cond, not, ◌&&◌, ◌||◌, List, [], ◌∷◌, map, refl, sym, ap, ◌∙◌, inl, inr}
+use Rattle.std.specs.Prelude.{filter}
+use Rattle.std.specs.List.{AllByRecursion, list_any}
+use Rattle.std.proofs.lemmas.Bool.{cases_Bool, false≢true, true≢false, and_parts, or_cases, or_right, and_from, not-true}
+use Rattle.domain_zone.specs.Names.{Name, Key, key, key_same, key_below, same, before, is_at_or_below, is_strictly_below}
+use Rattle.domain_zone.specs.Types.{ns, dname}
+use Rattle.domain_zone.specs.Zone.{ZoneRecord, IsInOrder, records_of, owns, has_type, is_zone_cut, occludes, is_occluded, is_unoccluded, distinct, unoccluded_owners}
+use Rattle.domain_zone.proofs.PairLemmas.{IsAscending, In}
+use Rattle.domain_zone.proofs.NameLemmas.{one_key, same_itself, below_itself, below_from}
+use Rattle.domain_zone.proofs.ZoneLemmas.{all_filter, all_distinct, any_none, any_map, same_back, after_or, not_strictly}
+
+module _ {X : Type 0} where
+  pub any_weaker : (p q : X → Bool) → ((x : X) → p x ≡ true → q x ≡ true) → (xs : List X) → list_any p xs ≡ true → list_any q xs ≡ true
+  any_weaker p q f [] h = absurd (false≢true h)
+  any_weaker p q f (x ∷ xs) h =
+      elim (or_cases (p x) (list_any p xs) h) [
+        | inl e ↦ (λ i. f x e i || list_any q xs)
+        | inr e ↦ or_right (q x) (list_any q xs) (any_weaker p q f xs e)
+      ]
+
+  pub any_filter : (p q : X → Bool) (xs : List X) → list_any p (filter q xs) ≡ list_any (λ x. q x && p x) xs
+  any_filter p q [] = refl
+  any_filter p q (x ∷ xs) =
+      elim (q x) as (λ b. list_any p (cond b (x ∷ filter q xs) (filter q xs)) ≡ ((b && p x) || list_any (λ x. q x && p x) xs)) [
+        | true ↦ ap (λ t. p x || t) (any_filter p q xs)
+        | false ↦ any_filter p q xs
+      ]
+
+  pub any_in : (p : X → Bool) (xs : List X) → list_any p xs ≡ true → (x : X) × In x xs × (p x ≡ true)
+  any_in p [] h = absurd (false≢true h)
+  any_in p (x ∷ xs) h =
+      elim (or_cases (p x) (list_any p xs) h) [
+        | inl e ↦ (x, inl refl, e)
+        | inr e ↦ let r = any_in p xs e in (r.0, inr r.1, r.2)
+      ]
+
+  pub in_any : (p : X → Bool) (xs : List X) (x : X) → In x xs → p x ≡ true → list_any p xs ≡ true
+  in_any p [] x i e = absurd i
+  in_any p (y ∷ xs) x (inl f) e = λ j. (ap p f ∙ e) j || list_any p xs
+  in_any p (y ∷ xs) x (inr i) e = or_right (p y) (list_any p xs) (in_any p xs x i e)
+
+  -- what passes a filter
+  pub filter_passes : (P Q : X → Type 0) (q : X → Bool) → ((x : X) → P x → q x ≡ true → Q x) → (xs : List X) → AllByRecursion P xs → AllByRecursion Q (filter q xs)
+  filter_passes P Q q f [] h = tt
+  filter_passes P Q q f (x ∷ xs) h =
+      elim (q x) as (λ b. q x ≡ b → AllByRecursion Q (cond b (x ∷ filter q xs) (filter q xs))) [
+        | true ↦ λ e. (f x h.0 e, filter_passes P Q q f xs h.1)
+        | false ↦ λ e. filter_passes P Q q f xs h.1
+      ] refl
+
+  pub ascending_filter : (lt : X → X → Bool) (q : X → Bool) (xs : List X) → IsAscending lt xs → IsAscending lt (filter q xs)
+  ascending_filter lt q [] h = tt
+  ascending_filter lt q (x ∷ xs) h =
+      elim (q x) as (λ b. IsAscending lt (cond b (x ∷ filter q xs) (filter q xs))) [
+        | true ↦ (all_filter (λ y. lt x y ≡ true) q xs h.0, ascending_filter lt q xs h.1)
+        | false ↦ ascending_filter lt q xs h.1
+      ]
+
+owners_in_order : (r : ZoneRecord) (rs : List ZoneRecord) → AllByRecursion (λ s. before s.owner r.owner ≡ false) rs → AllByRecursion (λ n. before n r.owner ≡ false) (map (λ s. s.owner) rs)
+owners_in_order r [] h = tt
+owners_in_order r (s ∷ rs) h = (h.0, owners_in_order r rs h.1)
+
+distinct_ascends : (L : List ZoneRecord) → IsInOrder L → IsAscending before (distinct (map (λ r. r.owner) L))
+distinct_ascends [] h = tt
+distinct_ascends (r ∷ rs) h =
+    let rest = distinct (map (λ s. s.owner) rs) in
+    let other : Name → Bool = λ y. not (same r.owner y) in (
+      filter_passes (λ n. before n r.owner ≡ false) (λ n. before r.owner n ≡ true) other
+          (λ n e f. after_or r.owner n e (not_same n r.owner (not-true (same r.owner n) f))) rest
+          (all_distinct (λ n. before n r.owner ≡ false) (map (λ s. s.owner) rs) (owners_in_order r rs h.0)),
+      ascending_filter before other rest (distinct_ascends rs h.1),
+    )
+  where
+    not_same : (x y : Name) → same y x ≡ false → same x y ≡ false
+    not_same x y e = elim (cases_Bool (same x y)) [ inl f ↦ absurd (true≢false (sym (same_back x y f) ∙ e)) | inr f ↦ f ]
+
+pub owners_ascend : (d : Bool) (L : List ZoneRecord) (a : Name) → IsInOrder L → IsAscending before (unoccluded_owners d L a)
+owners_ascend d L a h = ascending_filter before (is_unoccluded d L a) (distinct (map (λ r. r.owner) L)) (distinct_ascends L h)
+
+any_distinct : (s : Key → Bool) (xs : List Name) → list_any (λ x. s (key x)) xs ≡ true → list_any (λ x. s (key x)) (distinct xs) ≡ true
+any_distinct s [] h = h
+any_distinct s (x ∷ xs) h =
+    elim (cases_Bool (s (key x))) [
+      | inl e ↦ (λ i. e i || list_any (λ y. s (key y)) (filter (λ y. not (same x y)) (distinct xs)))
+      | inr e ↦ or_right (s (key x)) (list_any (λ y. s (key y)) (filter (λ y. not (same x y)) (distinct xs)))
+          (any_filter (λ y. s (key y)) (λ y. not (same x y)) (distinct xs)
+          ∙ any_weaker (λ y. s (key y)) (λ y. not (same x y) && s (key y)) (λ y f. other y e f) (distinct xs)
+          (any_distinct s xs (sym (ap (λ b. b || list_any (λ y. s (key y)) xs) e) ∙ h)))
+    ]
+  where
+    other : (y : Name) → s (key x) ≡ false → s (key y) ≡ true → (not (same x y) && s (key y)) ≡ true
+    other y e f =
+        elim (cases_Bool (same x y)) [
+          | inl m ↦ absurd (true≢false (sym f ∙ ap s (sym (one_key x y m)) ∙ e))
+          | inr m ↦ (λ i. not (m i) && f i)
+        ]
+
+-- a name that owns records and is not occluded is among them, by any test of keys
+pub any_owner : (d : Bool) (L : List ZoneRecord) (a x : Name) (s : Key → Bool) → owns L x ≡ true → is_unoccluded d L a x ≡ true → s (key x) ≡ true → list_any (λ m. s (key m)) (unoccluded_owners d L a) ≡ true
+any_owner d L a x s o k e =
+    let unoccluded_at : Key → Bool = λ m. (key_below m (key a) && not (list_any (λ r. occludes d L a r.owner && (key_below m (key r.owner) && not (key_same m (key r.owner)))) L)) && s m in
+    any_filter (λ m. s (key m)) (is_unoccluded d L a) (distinct (map (λ r. r.owner) L))
+    ∙ any_distinct unoccluded_at (map (λ r. r.owner) L)
+    (any_map (λ m. unoccluded_at (key m)) (λ r. r.owner) L
+    ∙ any_weaker (λ r. same r.owner x) (λ r. unoccluded_at (key r.owner))
+    (λ r h. ap unoccluded_at (one_key r.owner x h) ∙ and_from (is_unoccluded d L a x) (s (key x)) k e) L o)
+
+owns_itself : (L : List ZoneRecord) (K : List ZoneRecord) → ((r : ZoneRecord) → In r K → In r L) → AllByRecursion (λ n. owns L n ≡ true) (map (λ r. r.owner) K)
+owns_itself L [] f = tt
+owns_itself L (r ∷ K) f = (in_any (λ s. same s.owner r.owner) L r (f r (inl refl)) (same_itself r.owner r.owner refl), owns_itself L K (λ s i. f s (inr i)))
+
+-- each owner of the chain owns records, and is at or below the apex
+pub owners_are : (d : Bool) (L : List ZoneRecord) (a : Name) → AllByRecursion (λ n. (owns L n ≡ true) × (is_unoccluded d L a n ≡ true)) (unoccluded_owners d L a)
+owners_are d L a =
+    filter_passes (λ n. owns L n ≡ true) (λ n. (owns L n ≡ true) × (is_unoccluded d L a n ≡ true)) (is_unoccluded d L a) (λ n o k. (o, k))
+    (distinct (map (λ r. r.owner) L)) (all_distinct (λ n. owns L n ≡ true) (map (λ r. r.owner) L) (owns_itself L L (λ r i. i)))
+
+-- what occludes is at or below the apex
+pub occluder_below : (d : Bool) (L : List ZoneRecord) (a n : Name) → occludes d L a n ≡ true → is_at_or_below n a ≡ true
+occluder_below d L a n h =
+    elim (or_cases (is_zone_cut L a n) (d && is_at_or_below n a && has_type (records_of L n) dname) h) [
+      | inl e ↦ (and_parts (is_at_or_below n a) (not (same n a)) (and_parts (is_strictly_below n a) (has_type (records_of L n) ns) e).0).0
+      | inr e ↦ (and_parts d (is_at_or_below n a) (and_parts (d && is_at_or_below n a) (has_type (records_of L n) dname) e).0).1
+    ]
+
+-- the apex is among them where it owns records
+pub apex_unoccluded : (d : Bool) (L : List ZoneRecord) (a : Name) → is_unoccluded d L a a ≡ true
+apex_unoccluded d L a = λ i. below_itself a i && not (any_none (λ r. occludes d L a r.owner && is_strictly_below a r.owner) L (none L) i)
+  where
+    apart : (r : ZoneRecord) → (occludes d L a r.owner && is_strictly_below a r.owner) ≡ false
+    apart r =
+        elim (cases_Bool (occludes d L a r.owner && is_strictly_below a r.owner)) [
+          | inl e ↦
+              let p = and_parts (occludes d L a r.owner) (is_strictly_below a r.owner) e in
+              absurd (true≢false (sym p.1 ∙ not_strictly a r.owner (below_from r.owner a (occluder_below d L a r.owner p.0))))
+          | inr e ↦ e
+        ]
+
+    none : (K : List ZoneRecord) → AllByRecursion (λ r. (occludes d L a r.owner && is_strictly_below a r.owner) ≡ false) K
+    none [] = tt
+    none (r ∷ K) = (apart r, none K)
+
+-- a name that owns a record of a type owns records
+pub typed_owns : (M : List ZoneRecord) (c : Name) (t : ℕ) → has_type (records_of M c) t ≡ true → owns M c ≡ true
+typed_owns [] c t h = h
+typed_owns (r ∷ M) c t h =
+    elim (cases_Bool (same r.owner c)) [
+      | inl e ↦ (λ i. e i || owns M c)
+      | inr e ↦ (λ i. e i || owns M c) ∙ typed_owns M c t (sym (ap (λ b. has_type (cond b (r ∷ records_of M c) (records_of M c)) t) e) ∙ h)
+    ]
+
+-- what occludes owns records
+pub occluder_owns : (d : Bool) (L : List ZoneRecord) (a c : Name) → occludes d L a c ≡ true → owns L c ≡ true
+occluder_owns d L a c h =
+    elim (or_cases (is_zone_cut L a c) (d && is_at_or_below c a && has_type (records_of L c) dname) h) [
+      | inl e ↦ typed_owns L c ns (and_parts (is_strictly_below c a) (has_type (records_of L c) ns) e).1
+      | inr e ↦ typed_owns L c dname (and_parts (d && is_at_or_below c a) (has_type (records_of L c) dname) e).1
+    ]
+
+-- a name strictly below what occludes is occluded
+pub below_occluder : (d : Bool) (L : List ZoneRecord) (a c x : Name) → occludes d L a c ≡ true → is_strictly_below x c ≡ true → is_occluded d L a x ≡ true
+below_occluder d L a c x h s =
+    let types : Key → ℕ → Bool = λ k. has_type (filter (λ s. key_same (key s.owner) k) L) in
+    let over : Key → Bool = λ k. (key_below k (key a) && not (key_same k (key a)) && types k ns) || (d && key_below k (key a) && types k dname) in
+    let at : Key → Bool = λ k. over k && (key_below (key x) k && not (key_same (key x) k)) in
+    let q = any_in (λ r. same r.owner c) L (occluder_owns d L a c h) in
+    in_any (λ r. occludes d L a r.owner && is_strictly_below x r.owner) L q.0 q.1 (ap at (one_key q.0.owner c q.2) ∙ and_from (occludes d L a c) (is_strictly_below x c) h s)

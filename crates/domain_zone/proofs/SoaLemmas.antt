@@ -1,0 +1,78 @@
+-- The SOA records that a scan of the records finds.
+use Rattle.std.proofs.Common.{◌≡◌, List, [], ◌∷◌, ◌++◌, Option, Some, None, Bool, true, false, cond, nat_eq, refl, ap, ◌∙◌, sym, inl, inr, append_assoc}
+use Rattle.std.specs.Prelude.{filter}
+use Rattle.std.specs.Option.{is_some, option_map}
+use Rattle.std.proofs.lemmas.Bool.{true≢false, cases_Bool, or_parts, and_right}
+use Rattle.std.proofs.lemmas.List.Elements.{filter-append}
+use Rattle.domain_zone.specs.Names.{Name, same}
+use Rattle.domain_zone.specs.Types.{soa}
+use Rattle.domain_zone.specs.Soa.{numbers_of, of_only, is_soa, soa_of}
+use Rattle.domain_zone.specs.Zone.{ZoneRecord, owns}
+use Rattle.domain_zone.specs.declared.soa.ApexSoa.{ApexSoa}
+
+-- what is found is all that there is
+abbrev pub IsFoundIn : Name → List ZoneRecord → Option ZoneRecord → Type 0
+IsFoundIn a rs None = filter (is_soa a) rs ≡ []
+IsFoundIn a rs (Some r) = filter (is_soa a) rs ≡ r ∷ []
+
+-- the records before the rest have been scanned
+pub record IsScanned (a : Name) (L rest : List ZoneRecord) (found : Option ZoneRecord) : Type 0 where
+  pub passed : List ZoneRecord
+  pub whole : passed ++ rest ≡ L
+  pub is_found : IsFoundIn a passed found
+
+append_nil : {X : Type 0} (xs : List X) → xs ++ [] ≡ xs
+append_nil [] = refl
+append_nil (x ∷ xs) = ap (λ ys. x ∷ ys) (append_nil xs)
+
+passed_over : (a : Name) (rs : List ZoneRecord) (r : ZoneRecord) → is_soa a r ≡ false → filter (is_soa a) (rs ++ r ∷ []) ≡ filter (is_soa a) rs
+passed_over a rs r e = filter-append (is_soa a) rs (r ∷ []) ∙ (λ i. filter (is_soa a) rs ++ cond (e i) (r ∷ []) []) ∙ append_nil (filter (is_soa a) rs)
+
+still_found : (a : Name) (rs : List ZoneRecord) (r : ZoneRecord) (f : Option ZoneRecord) → is_soa a r ≡ false → IsFoundIn a rs f → IsFoundIn a (rs ++ r ∷ []) f
+still_found a rs r None e h = passed_over a rs r e ∙ h
+still_found a rs r (Some s) e h = passed_over a rs r e ∙ h
+
+found_now : (a : Name) (rs : List ZoneRecord) (r : ZoneRecord) (f : Option ZoneRecord) → is_soa a r ≡ true → is_some f ≡ false → IsFoundIn a rs f → IsFoundIn a (rs ++ r ∷ []) (Some r)
+found_now a rs r None e s h = filter-append (is_soa a) rs (r ∷ []) ∙ (λ i. h i ++ cond (e i) (r ∷ []) [])
+found_now a rs r (Some t) e s h = absurd (true≢false s)
+
+pub some_of_map : {X Y : Type 0} (f : X → Y) (o : Option X) → is_some (option_map f o) ≡ is_some o
+some_of_map f None = refl
+some_of_map f (Some x) = refl
+
+module _ (a : Name) (L : List ZoneRecord) where
+  pub scan_start : IsScanned a L L None
+  scan_start = record { passed = []; whole = refl; is_found = refl }
+
+  module _ (r : ZoneRecord) (rest : List ZoneRecord) (f : Option ZoneRecord) (s : IsScanned a L (r ∷ rest) f) where
+    onward : (s.passed ++ r ∷ []) ++ rest ≡ L
+    onward = append_assoc s.passed (r ∷ []) rest ∙ s.whole
+
+    pub scan_other : is_soa a r ≡ false → IsScanned a L rest f
+    scan_other e = record { passed = s.passed ++ r ∷ []; whole = onward; is_found = still_found a s.passed r f e s.is_found }
+
+    pub scan_soa : is_soa a r ≡ true → is_some f ≡ false → IsScanned a L rest (Some r)
+    scan_soa e n = record { passed = s.passed ++ r ∷ []; whole = onward; is_found = found_now a s.passed r f e n s.is_found }
+
+    pub scan_second : is_soa a r ≡ true → is_some f ≡ true → soa_of L a ≡ None
+    scan_second e n = ap (λ K. soa_of K a) (sym s.whole) ∙ second f n s.is_found
+      where
+        second : (g : Option ZoneRecord) → is_some g ≡ true → IsFoundIn a s.passed g → soa_of (s.passed ++ r ∷ rest) a ≡ None
+        second None n h = absurd (true≢false (sym n))
+        second (Some t) n h = ap of_only (filter-append (is_soa a) s.passed (r ∷ rest) ∙ (λ i. h i ++ cond (e i) (r ∷ filter (is_soa a) rest) (filter (is_soa a) rest)))
+
+  pub scan_none : IsScanned a L [] None → soa_of L a ≡ None
+  scan_none s = ap (λ K. soa_of K a) (sym s.whole) ∙ ap of_only (ap (filter (is_soa a)) (append_nil s.passed) ∙ s.is_found)
+
+  pub scan_one : (r : ZoneRecord) → IsScanned a L [] (Some r) → soa_of L a ≡ numbers_of r r.minimum
+  scan_one r s = ap (λ K. soa_of K a) (sym s.whole) ∙ ap of_only (ap (filter (is_soa a)) (append_nil s.passed) ∙ s.is_found)
+
+-- an apex with an SOA owns records
+pub soa_owned : (L : List ZoneRecord) (a : Name) (numbers : ApexSoa) → soa_of L a ≡ Some numbers → owns L a ≡ true
+soa_owned L a numbers e = elim (cases_Bool (owns L a)) [ inl t ↦ t | inr t ↦ let none : soa_of L a ≡ None = ap of_only (filtered L t) in absurd (cc) ]
+  where
+    filtered : (K : List ZoneRecord) → owns K a ≡ false → filter (is_soa a) K ≡ []
+    filtered [] h = refl
+    filtered (r ∷ K) h =
+        let p = or_parts (same r.owner a) (owns K a) h in
+        (λ i. cond (and_right (nat_eq r.rtype soa) (same r.owner a) p.0 i) (r ∷ filter (is_soa a) K) (filter (is_soa a) K)) ∙ filtered K p.1

@@ -1,0 +1,143 @@
+-- Where types never descend, two records of one type differ in TTL exactly where two neighbours do.
+use Rattle.std.proofs.Common.{◌≡◌, ◌≤◌, ℕ, Bool, true, false, not, ◌&&◌, ◌||◌, List, [], ◌∷◌, map, refl, sym, ap, ◌∙◌, inl, inr, arith, nat_eq}
+use Rattle.std.specs.List.{list_any, AllByRecursion}
+use Rattle.std.proofs.lemmas.Bool.{cases_Bool, false≢true, and_parts, or_parts, or_cases, eqb-true, eqb-false}
+use Rattle.domain_plain.specs.declared.record.Record.{Record}
+use Rattle.domain_rdata.specs.Zone.{rtype_of}
+use Rattle.domain_rdata.specs.declared.zone_record_data.ZoneRecordData.{ZoneRecordData}
+use Rattle.domain_records.specs.Order.{HoldsPairwise}
+use Rattle.domain_zone.specs.Names.{Name}
+use Rattle.domain_zone.specs.View.{as_zone_record}
+use Rattle.domain_zone.specs.Zone.{ZoneRecord, clashes, has_clash}
+use Rattle.domain_zone.proofs.ZoneLemmas.{any_none, weaker}
+
+-- two neighbours clash
+abbrev pub has_neighbour_clash : List ZoneRecord → Bool
+has_neighbour_clash [] = false
+has_neighbour_clash (r ∷ []) = false
+has_neighbour_clash (r ∷ s ∷ rs) = clashes r s || has_neighbour_clash (s ∷ rs)
+
+-- the types of records never descend
+abbrev pub NeverDescend : List ZoneRecord → Type 0
+NeverDescend [] = Unit {0}
+NeverDescend (r ∷ rs) = AllByRecursion (λ s. r.rtype ≤ s.rtype) rs × NeverDescend rs
+
+-- what a clash says
+record Clash (r s : ZoneRecord) : Type 0 where
+  one_type : r.rtype ≡ s.rtype
+  signed : nat_eq r.rtype 46 ≡ false
+  apart : nat_eq r.ttl s.ttl ≡ false
+
+opposite : (b c : Bool) → not b ≡ c → b ≡ not c
+opposite true c e = ap not e
+opposite false c e = ap not e
+
+clash_is : (r s : ZoneRecord) → clashes r s ≡ true → Clash r s
+clash_is r s e =
+    let p = and_parts (nat_eq r.rtype s.rtype && not (nat_eq r.rtype 46)) (not (nat_eq r.ttl s.ttl)) e in
+    let q = and_parts (nat_eq r.rtype s.rtype) (not (nat_eq r.rtype 46)) p.0 in
+    record { one_type = eqb-true r.rtype s.rtype q.0; signed = opposite (nat_eq r.rtype 46) true q.1; apart = opposite (nat_eq r.ttl s.ttl) true p.1 }
+
+-- records of one type other than RRSIG that don't clash have one TTL
+one_ttl : (r s : ZoneRecord) → clashes r s ≡ false → r.rtype ≡ s.rtype → nat_eq r.rtype 46 ≡ false → r.ttl ≡ s.ttl
+one_ttl r s e t n =
+    elim (cases_Bool (nat_eq r.ttl s.ttl)) [
+      | inl h ↦ eqb-true r.ttl s.ttl h
+      | inr h ↦ absurd (false≢true (sym e ∙ all_three (nat_eq r.rtype s.rtype) (nat_eq r.rtype 46) (nat_eq r.ttl s.ttl) (same r.rtype s.rtype t) n h))
+    ]
+  where
+    all_three : (a b c : Bool) → a ≡ true → b ≡ false → c ≡ false → (a && not b && not c) ≡ true
+    all_three a b c p q r = λ i. p i && not (q i) && not (r i)
+
+    same : (m n : ℕ) → m ≡ n → nat_eq m n ≡ true
+    same m n h = elim (cases_Bool (nat_eq m n)) [ inl k ↦ k | inr k ↦ absurd (eqb-false m n k h) ]
+
+no_clash : (r s : ZoneRecord) → (Clash r s → ⊥) → clashes r s ≡ false
+no_clash r s f = elim (cases_Bool (clashes r s)) [ inl e ↦ absurd (f (clash_is r s e)) | inr e ↦ e ]
+
+differ : (r s : ZoneRecord) → Clash r s → r.ttl ≡ s.ttl → ⊥
+differ r s c e = eqb-false r.ttl s.ttl c.apart e
+
+no_clash_back : (r s : ZoneRecord) → clashes r s ≡ false → clashes s r ≡ false
+no_clash_back r s e = no_clash s r (λ c. differ s r c (sym (one_ttl r s e (sym c.one_type) (ap (λ t. nat_eq t 46) (sym c.one_type) ∙ c.signed))))
+
+no_clash_itself : (r : ZoneRecord) → clashes r r ≡ false
+no_clash_itself r = no_clash r r (λ c. differ r r c refl)
+
+-- where no neighbours clash, the first record clashes with none
+first_even : (r : ZoneRecord) (rs : List ZoneRecord) → NeverDescend (r ∷ rs) → has_neighbour_clash (r ∷ rs) ≡ false → AllByRecursion (λ s. clashes r s ≡ false) rs
+first_even r [] order e = tt
+first_even r (s ∷ rs) order e =
+    let p = or_parts (clashes r s) (has_neighbour_clash (s ∷ rs)) e in
+    (p.0, further rs (first_even s rs order.1 p.1) order.0.1 order.1.0 p.0)
+  where
+    further : (ts : List ZoneRecord) → AllByRecursion (λ t. clashes s t ≡ false) ts → AllByRecursion (λ t. r.rtype ≤ t.rtype) ts → AllByRecursion (λ t. s.rtype ≤ t.rtype) ts → clashes r s ≡ false → AllByRecursion (λ t. clashes r t ≡ false) ts
+    further [] even low high here = tt
+    further (t ∷ ts) even low high here = (
+      no_clash r t (λ c.
+          let first_low : r.rtype ≤ s.rtype = order.0.0 in
+          let type_is : r.rtype ≡ s.rtype = omega (arith, c.one_type, first_low, high.0) in
+          let next_is : s.rtype ≡ t.rtype = sym type_is ∙ c.one_type in
+          differ r t c (one_ttl r s here type_is c.signed ∙ one_ttl s t even.0 next_is (ap (λ n. nat_eq n 46) (sym type_is) ∙ c.signed))),
+      further ts even.1 low.1 high.1 here,
+    )
+
+-- a test of a list with one more element in front
+any_front : (p q : ZoneRecord → Bool) (rs : List ZoneRecord) → AllByRecursion (λ s. p s ≡ q s) rs → list_any p rs ≡ list_any q rs
+any_front p q [] h = refl
+any_front p q (r ∷ rs) h = λ i. h.0 i || any_front p q rs h.1 i
+
+all_pairs : (rs : List ZoneRecord) → NeverDescend rs → has_neighbour_clash rs ≡ false → has_clash rs ≡ false
+all_pairs [] order e = refl
+all_pairs (r ∷ []) order e = λ i. (no_clash_itself r i || false) || false
+all_pairs (r ∷ s ∷ rs) order e =
+    let p = or_parts (clashes r s) (has_neighbour_clash (s ∷ rs)) e in
+    let first = first_even r (s ∷ rs) order e in
+    (λ i. (no_clash_itself r i || any_none (clashes r) (s ∷ rs) first i) || list_any (λ t. list_any (clashes t) (r ∷ s ∷ rs)) (s ∷ rs))
+    ∙ any_front (λ t. list_any (clashes t) (r ∷ s ∷ rs)) (λ t. list_any (clashes t) (s ∷ rs)) (s ∷ rs)
+    (weaker (λ t. clashes r t ≡ false) (λ t. list_any (clashes t) (r ∷ s ∷ rs) ≡ list_any (clashes t) (s ∷ rs)) (λ t h. λ i. no_clash_back r t h i || list_any (clashes t) (s ∷ rs)) (s ∷ rs) first)
+    ∙ all_pairs (s ∷ rs) order.1 p.1
+
+-- neighbours that clash are a pair that clashes
+some_pair : (rs : List ZoneRecord) → has_neighbour_clash rs ≡ true → has_clash rs ≡ true
+some_pair [] e = absurd (false≢true e)
+some_pair (r ∷ []) e = absurd (false≢true e)
+some_pair (r ∷ s ∷ rs) e =
+    elim (or_cases (clashes r s) (has_neighbour_clash (s ∷ rs)) e) [
+      | inl h ↦ in_front (list_any (λ t. list_any (clashes t) (r ∷ s ∷ rs)) (s ∷ rs)) (clashes r r) (list_any (clashes r) rs) (clashes r s) h
+      | inr h ↦ later (list_any (clashes r) (r ∷ s ∷ rs)) (list_any (λ t. list_any (clashes t) (r ∷ s ∷ rs)) (s ∷ rs)) (more (s ∷ rs) (s ∷ rs) (some_pair (s ∷ rs) h))
+    ]
+  where
+    in_front : (z a c b : Bool) → b ≡ true → ((a || (b || c)) || z) ≡ true
+    in_front z true c b h = refl
+    in_front z false c b h = λ i. (h i || c) || z
+
+    later : (a b : Bool) → b ≡ true → (a || b) ≡ true
+    later true b h = refl
+    later false b h = h
+
+    more : (ts us : List ZoneRecord) → list_any (λ t. list_any (clashes t) us) ts ≡ true → list_any (λ t. list_any (clashes t) (r ∷ us)) ts ≡ true
+    more [] us h = absurd (false≢true h)
+    more (t ∷ ts) us h =
+        elim (or_cases (list_any (clashes t) us) (list_any (λ u. list_any (clashes u) us) ts) h) [
+          | inl k ↦ λ i. later (clashes t r) (list_any (clashes t) us) k i || list_any (λ u. list_any (clashes u) (r ∷ us)) ts
+          | inr k ↦ later (list_any (clashes t) (r ∷ us)) (list_any (λ u. list_any (clashes u) (r ∷ us)) ts) (more ts us k)
+        ]
+
+pub neighbours_tell : (rs : List ZoneRecord) → NeverDescend rs → has_neighbour_clash rs ≡ has_clash rs
+neighbours_tell rs order =
+    elim (cases_Bool (has_neighbour_clash rs)) [
+      | inl e ↦ e ∙ sym (some_pair rs e)
+      | inr e ↦ e ∙ sym (all_pairs rs order e)
+    ]
+
+-- records whose types never descend, as a zone sees them
+module _ {O N : Type 0} (labels : N → Name) where
+  seen_after : (r : Record N (ZoneRecordData O N)) (ss : List (Record N (ZoneRecordData O N))) → AllByRecursion (λ s. rtype_of r.«data» ≤ rtype_of s.«data») ss
+      → AllByRecursion (λ s. rtype_of r.«data» ≤ s.rtype) (map (as_zone_record labels) ss)
+  seen_after r [] h = tt
+  seen_after r (s ∷ ss) h = (h.0, seen_after r ss h.1)
+
+  pub seen_never_descend : (rs : List (Record N (ZoneRecordData O N))) → HoldsPairwise (λ r s. rtype_of r.«data» ≤ rtype_of s.«data») rs → NeverDescend (map (as_zone_record labels) rs)
+  seen_never_descend [] h = tt
+  seen_never_descend (r ∷ rs) h = (seen_after r rs h.0, seen_never_descend rs h.1)

@@ -1,0 +1,91 @@
+-- The types that a walk over the records of an owner has gathered.
+use Rattle.std.proofs.Common.{◌≡◌, ℕ, ◌<◌, Bool, true, false, ◌&&◌, ◌||◌, List, [], ◌∷◌, ◌++◌, refl, sym, ap, ◌∙◌, inl, inr, nat_eq, append_assoc, eq-eqb}
+use Rattle.std.proofs.lemmas.Bool.{cases_Bool, eqb-true, and_left, and_right}
+use Rattle.std.proofs.lemmas.List.Folds.{list_any-append}
+use Rattle.domain_bitmap.specs.Builder.{holds}
+use Rattle.domain_zone.specs.Zone.{ZoneRecord, has_type, lists_type, may_list}
+
+-- a builder that held what `old` holds has the listed types of the records passed so far as well
+pub record Lists (old : List ℕ) (cut : Bool) (G rest : List ZoneRecord) (value : List ℕ) : Type 0 where
+  pub passed : List ZoneRecord
+  pub whole : passed ++ rest ≡ G
+  pub types : (t : ℕ) → t < 65536 → holds value t ≡ (holds old t || lists_type cut passed t)
+
+-- one more record's type
+listed_more : (b cut : Bool) (rs : List ZoneRecord) (r : ZoneRecord) (t : ℕ) → (b || lists_type cut (rs ++ r ∷ []) t) ≡ ((b || lists_type cut rs t) || (nat_eq r.rtype t && may_list cut t))
+listed_more b cut rs r t =
+    ap (λ h. b || (h && may_list cut t)) (list_any-append (λ s. nat_eq s.rtype t) rs (r ∷ []))
+    ∙ spread b (has_type rs t) (nat_eq r.rtype t) (may_list cut t)
+  where
+    spread : (b h q s : Bool) → (b || ((h || (q || false)) && s)) ≡ ((b || (h && s)) || (q && s))
+    spread true h q s = refl
+    spread false true true true = refl
+    spread false true true false = refl
+    spread false true false true = refl
+    spread false true false false = refl
+    spread false false true true = refl
+    spread false false true false = refl
+    spread false false false s = refl
+
+not_listed : (cut : Bool) (k t : ℕ) → may_list cut k ≡ false → (nat_eq k t && may_list cut t) ≡ false
+not_listed cut k t e =
+    elim (cases_Bool (nat_eq k t)) [
+      | inl h ↦ and_right (nat_eq k t) (may_list cut t) (ap (may_list cut) (sym (eqb-true k t h)) ∙ e)
+      | inr h ↦ and_left (nat_eq k t) (may_list cut t) h
+    ]
+
+is_listed : (cut : Bool) (k t : ℕ) → may_list cut k ≡ true → (nat_eq k t && may_list cut t) ≡ nat_eq k t
+is_listed cut k t e =
+    elim (cases_Bool (nat_eq k t)) [
+      | inl h ↦ (λ i. h i && (ap (may_list cut) (sym (eqb-true k t h)) ∙ e) i) ∙ sym h
+      | inr h ↦ and_left (nat_eq k t) (may_list cut t) h ∙ sym h
+    ]
+
+or_false : (b : Bool) → (b || false) ≡ b
+or_false true = refl
+or_false false = refl
+
+or_turned : (b c : Bool) → (b || c) ≡ (c || b)
+or_turned true true = refl
+or_turned true false = refl
+or_turned false true = refl
+or_turned false false = refl
+
+eq_turned : (m n : ℕ) → nat_eq m n ≡ nat_eq n m
+eq_turned m n =
+    elim (cases_Bool (nat_eq m n)) [
+      | inl h ↦ h ∙ sym (ap (λ k. nat_eq k m) (sym (eqb-true m n h)) ∙ itself m)
+      | inr h ↦ elim (cases_Bool (nat_eq n m)) [
+        | inl k ↦ sym (ap (λ j. nat_eq j n) (eqb-true n m k)) ∙ itself n ∙ sym k
+        | inr k ↦ h ∙ sym k
+      ]
+    ]
+  where
+    itself : (k : ℕ) → nat_eq k k ≡ true
+    itself k = eq-eqb k k refl
+
+module _ (old : List ℕ) (cut : Bool) (G : List ZoneRecord) where
+  pub list_start : Lists old cut G G old
+  list_start = record { passed = []; whole = refl; types = λ t b. sym (or_false (holds old t)) }
+
+  module _ (r : ZoneRecord) (rest : List ZoneRecord) (value : List ℕ) (s : Lists old cut G (r ∷ rest) value) where
+    pub list_not : may_list cut r.rtype ≡ false → Lists old cut G rest value
+    list_not e = record {
+      passed = s.passed ++ r ∷ [];
+      whole = append_assoc s.passed (r ∷ []) rest ∙ s.whole;
+      types = λ t b. s.types t b ∙ sym (listed_more (holds old t) cut s.passed r t ∙ (λ i. (holds old t || lists_type cut s.passed t) || not_listed cut r.rtype t e i) ∙ or_false (holds old t || lists_type cut s.passed t));
+    }
+
+    pub list_more : (new : List ℕ) → may_list cut r.rtype ≡ true → ((t : ℕ) → t < 65536 → holds new t ≡ (nat_eq t r.rtype || holds value t)) → Lists old cut G rest new
+    list_more new e h = record {
+      passed = s.passed ++ r ∷ [];
+      whole = append_assoc s.passed (r ∷ []) rest ∙ s.whole;
+      types = λ t b. h t b ∙ or_turned (nat_eq t r.rtype) (holds value t) ∙ (λ i. s.types t b i || (eq_turned t r.rtype ∙ sym (is_listed cut r.rtype t e)) i) ∙ sym (listed_more (holds old t) cut s.passed r t);
+    }
+
+  append_nil : (xs : List ZoneRecord) → xs ++ [] ≡ xs
+  append_nil [] = refl
+  append_nil (x ∷ xs) = ap (λ ys. x ∷ ys) (append_nil xs)
+
+  pub list_end : (value : List ℕ) → Lists old cut G [] value → (t : ℕ) → t < 65536 → holds value t ≡ (holds old t || lists_type cut G t)
+  list_end value s t b = s.types t b ∙ ap (λ K. holds old t || lists_type cut K t) (sym (append_nil s.passed) ∙ s.whole)

@@ -1,0 +1,52 @@
+use Rattle.std.proofs.Common.{◌≡◌, Bool, ◌&&◌, ◌||◌, ◌∷◌, List, Option, Some, None, cond, map, length, sym, ap, ◌∙◌, arith}
+use Rattle.std.specs.Option.{option_map}
+use Rattle.domain_records.specs.Groups.{same_owner}
+use Rattle.domain_records.specs.Runs.{runs}
+use Rattle.domain_zone.specs.Names.{Name}
+use Rattle.domain_zone.specs.Owners.{OwnerRecords}
+use Rattle.domain_zone.specs.View.{as_zone_record}
+use Rattle.domain_zone.specs.Walk.{left_owners, is_cut_group, occluder_from}
+use Rattle.domain_zone.specs.Zone.{has_type}
+use Rattle.domain_zone.proofs.GroupLemmas.{cut_test}
+use Rattle.domain_zone.proofs.LeftLemmas.{left_given, left_none, occluder_after}
+use Rattle.domain_zone.proofs.owners.UnoccludedOwnersIterator.next.Goals as goal
+use Rattle.domain_zone.proofs.owners.UnoccludedOwnersIterator.next.Goals.{then-is_zone_cut-self, else-is_zone_cut-self}
+
+pub returns-in-Some-clause-steps : goal.returns-in-Some-clause-steps
+returns-in-Some-clause-steps g c =
+    let labels = g.N.ToName.labels in
+    let see = as_zone_record labels in
+    let a = labels c.groups.self-inside.apex.now in
+    let d : Bool = c.groups.self-inside.below_dname in
+    let o : Option Name = option_map (λ o. labels o.now) c.groups.self-inside.occluder in
+    let owner = c.owner-name.result.now in
+    let G = map see c.in-Some.records in
+    let gs = map (map see) (runs (same_owner labels) c.next.new.self) in
+    let cut : Bool = c.is_zone_cut-is_zone_cut.result in
+    let owns : Bool = c.has_type-owns_dname.result in
+    let tested = cut_test labels cut a owner c.in-Some.records c.owner-name.ensures c.is_zone_cut-is_zone_cut.ensures in
+    let after : option_map (λ o. labels o.now) c.if-is_zone_cut-self.self ≡ cond (cut || (d && owns)) (Some (labels owner)) None =
+    elim c.if-is_zone_cut-self.branch [
+      | then-is_zone_cut-self w ↦ ap (option_map (λ o. labels o.now)) w.self-is ∙ sym (ap (λ b. cond b (Some (labels owner)) None) w.if-is_zone_cut-self.true)
+      | else-is_zone_cut-self w ↦ ap (option_map (λ o. labels o.now)) w.self-is ∙ sym (ap (λ b. cond b (Some (labels owner)) None) w.if-is_zone_cut-self.false)
+    ] in
+    let next = occluder_after d a (labels owner) G cut owns (option_map (λ o. labels o.now) c.if-is_zone_cut-self.self) tested
+    (c.has_type-owns_dname.ensures ∙ ap (λ rs. has_type (map see rs) 39) c.records.ensures) after in
+    c.groups.invariant
+    ∙ ap (λ rs. left_owners d a o (map (map see) rs)) c.in-Some.ensures.steps.1
+    ∙ left_given labels d a o c.in-Some.records owner gs c.owner-name.ensures (sym c.is_passed_over.ensures ∙ c.if-is_passed_over.false)
+    ∙ (λ i. record { name = labels owner; records = G; is_zone_cut = sym tested i } ∷ left_owners d a (sym next i) gs)
+
+pub returns-in-Some-clause-goes : goal.returns-in-Some-clause-goes
+returns-in-Some-clause-goes g c =
+    let fewer = ap length (returns-in-Some-clause-steps g c) in
+    record { on = λ h. (tt, tt, omega arith); keeps = tt; rests = λ h. tt }
+
+pub returns-clause-steps : goal.returns-clause-steps
+returns-clause-steps g c =
+    let labels = g.N.ToName.labels in
+    let a = labels c.groups.self-inside.apex.now in
+    let o : Option Name = option_map (λ o. labels o.now) c.groups.self-inside.occluder in (
+      c.groups.invariant ∙ left_none labels c.groups.self-inside.below_dname a o c.groups.self-inside.groups c.in_default.ensures.steps.0,
+      left_none labels c.groups.self-inside.below_dname a o c.next.new.self c.in_default.ensures.steps.1,
+    )

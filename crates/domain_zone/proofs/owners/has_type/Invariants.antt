@@ -1,0 +1,12 @@
+use Rattle.std.proofs.Common.{◌≡◌, map, length}
+use Rattle.domain_zone.specs.View.{as_zone_record}
+use Rattle.domain_zone.specs.Zone.{has_type}
+use Rattle.domain_zone.proofs.owners.has_type.Given as goal
+
+abbrev pub invariant-records : goal.invariant-records
+invariant-records g l =
+    let see = as_zone_record g.N.ToName.labels in
+    has_type (map see l.fn.records) l.wanted ≡ has_type (map see l.records) l.wanted
+
+abbrev pub decreases-records : goal.decreases-records
+decreases-records g l = length l.records

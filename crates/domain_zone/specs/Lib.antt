@@ -1,0 +1,10 @@
+pub mod Names
+pub mod Covering
+pub mod Types
+pub mod Zone
+pub mod Soa
+pub mod Enclosers
+pub mod View
+pub mod Owners
+pub mod OwnerView
+pub mod Walk

@@ -1,0 +1,20 @@
+//! What the records of a zone say: its zone cuts, the owners that its chains name, their types, the SOA and unequal TTLs.
+//!
+//! The definitions stand in `specs/`, each a filter over the whole list of records. The functions here are what the
+//! generators of chains share: tests on names, the SOA of the apex, the test on TTLs, and the types of an owner.
+#![tactic(auto)]
+
+mod hasher;
+pub mod laws;
+mod names;
+mod owners;
+mod soa;
+mod ttl;
+mod types;
+
+pub use hasher::{HasherError, Nsec3Hasher};
+pub use names::{is_at_or_below, is_same};
+pub use owners::{UnoccludedOwner, UnoccludedOwners};
+pub use soa::{ApexSoa, ZoneRr, find_soa};
+pub use ttl::has_unequal_ttls;
+pub use types::{add_type, add_types};

@@ -1,0 +1,135 @@
+//! The owners of a zone that are not occluded.
+ghost use Rattle.std.specs.Prelude.{◌≡◌, map};
+ghost use Rattle.std.specs.Option.{option_map};
+ghost use Rattle.domain_zone.specs.View.{as_zone_record};
+ghost use Rattle.domain_zone.specs.Walk.{is_passed_over};
+ghost use Rattle.domain_zone.specs.Zone.{has_type};
+
+use crate::names::is_at_or_below;
+use crate::soa::ZoneRr;
+use domain_base::{Rtype, ToName};
+use domain_octets::Octets;
+use domain_rdata::ZoneRecordData;
+use domain_records::{OwnerRrs, RecordsIter, SliceRefsOrOwnedIterator};
+use std::marker::Model;
+
+/// Whether some record is of this type.
+fn has_type<O: Octets, N: ToName>(
+    mut records: SliceRefsOrOwnedIterator<'_, ZoneRr<O, N>>,
+    wanted: Rtype,
+) -> bool
+    ensures { result ≡ has_type (map (as_zone_record N.labels) records.entry) wanted }
+{
+    'records: while let Some(record) = records.next() {
+        if record.rtype() == wanted {
+            return true;
+        }
+    }
+    false
+}
+
+/// Whether a name that comes next is out of the zone, or at or below the last name that occludes.
+fn is_passed_over<N: ToName>(apex: &N, occluder: Option<&N>, name: &N) -> bool
+    ensures { result ≡ is_passed_over (N.labels apex.now) (option_map (λ o. N.labels o.now) occluder.entry) (N.labels name.now) }
+{
+    if !is_at_or_below(name, apex) {
+        return true;
+    }
+    match occluder {
+        Some(occluder) => is_at_or_below(name, occluder),
+        None => false,
+    }
+}
+
+/// An owner of a zone that is not occluded.
+#[derive(Drop)]
+pub struct UnoccludedOwner<'a, O: Octets, N: ToName> {
+    /// The name, as its first record spells it.
+    pub name: &'a N,
+    /// Its records, in order.
+    pub records: OwnerRrs<'a, N, ZoneRecordData<O, N>>,
+    /// Whether it is strictly below the apex and owns an NS record.
+    pub is_zone_cut: bool,
+}
+
+/// An iterator over the owners at or below an apex that are not occluded, in canonical order. The records of all others are
+/// passed over. Takes no memory; contracts see the list of the owners that are left.
+#[derive(Drop)]
+pub struct UnoccludedOwners<'a, O: Octets, N: ToName> {
+    apex: &'a N,
+    below_dname: bool,
+    groups: RecordsIter<'a, N, ZoneRecordData<O, N>>,
+    occluder: Option<&'a N>,
+}
+
+impl<'a, O: Octets, N: ToName> Model for UnoccludedOwners<'a, O, N> {
+    ghost use Rattle.std.specs.Prelude.{List, map};
+    ghost use Rattle.std.specs.Option.{option_map};
+    ghost use Rattle.domain_records.specs.Groups.{same_owner};
+    ghost use Rattle.domain_records.specs.Runs.{runs};
+    ghost use Rattle.domain_zone.specs.Owners.{OwnerRecords};
+    ghost use Rattle.domain_zone.specs.View.{as_zone_record};
+    ghost use Rattle.domain_zone.specs.Walk.{left_owners};
+
+    ghost Value = { List OwnerRecords };
+
+    ghost view = { λ s. left_owners s.below_dname (N.labels s.apex.now) (option_map (λ o. N.labels o.now) s.occluder)
+        (map (map (as_zone_record N.labels)) (runs (same_owner N.labels) s.groups)) };
+}
+
+impl<'a, O: Octets, N: ToName> UnoccludedOwners<'a, O, N> {
+    ghost use Rattle.domain_rdata.specs.Zone.{rtype_of};
+    ghost use Rattle.domain_records.specs.Order.{IsInOrder};
+    ghost use Rattle.domain_zone.specs.Owners.{owners_with_records};
+
+    /// Over the owners of records in order, at or below the apex and not strictly below a zone cut, nor, where `below_dname` says
+    /// so, strictly below a name at or below the apex that owns a DNAME record.
+    pub fn new(
+        apex: &'a N,
+        records: RecordsIter<'a, N, ZoneRecordData<O, N>>,
+        below_dname: bool,
+    ) -> Self
+        requires { IsInOrder N.labels rtype_of records }
+        ensures { result ≡ owners_with_records below_dname (map (as_zone_record N.labels) records.entry) (N.labels apex.now) }
+    {
+        UnoccludedOwners {
+            apex,
+            below_dname,
+            groups: records,
+            occluder: None,
+        }
+    }
+}
+
+impl<'a, O: Octets, N: ToName> Iterator for UnoccludedOwners<'a, O, N> {
+    ghost use Rattle.std.specs.Iterator.{YieldsFirstBy, item_count};
+    ghost use Rattle.domain_zone.specs.OwnerView.{as_owner_records};
+
+    type Item = UnoccludedOwner<'a, O, N>;
+
+    ghost next_gives = { YieldsFirstBy (as_owner_records N.labels) (λ s. s) };
+
+    ghost remaining = { item_count (λ s. s) };
+
+    fn next(&mut self) -> Option<UnoccludedOwner<'a, O, N>> {
+        'groups: while let Some(records) = self.groups.next() {
+            let name = records.owner();
+            if is_passed_over(self.apex, self.occluder, name) {
+                continue;
+            }
+            let is_zone_cut = records.is_zone_cut(self.apex);
+            let owns_dname = has_type(records.records(), Rtype::DNAME);
+            self.occluder = if is_zone_cut | (self.below_dname & owns_dname) {
+                Some(name)
+            } else {
+                None
+            };
+            return Some(UnoccludedOwner {
+                name,
+                records,
+                is_zone_cut,
+            });
+        }
+        None
+    }
+}

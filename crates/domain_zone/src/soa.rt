@@ -1,0 +1,69 @@
+//! The SOA record of a zone.
+ghost use Rattle.std.specs.Prelude.{◌≡◌, map};
+ghost use Rattle.domain_zone.specs.Soa.{chain_ttl, is_soa, soa_of};
+ghost use Rattle.domain_zone.specs.View.{as_zone_record};
+
+use crate::names::is_same;
+use domain_base::{Class, Rtype, ToName, Ttl};
+use domain_octets::Octets;
+use domain_plain::Record;
+use domain_rdata::ZoneRecordData;
+use domain_records::SliceRefsOrOwnedIterator;
+
+/// A record of a zone.
+pub type ZoneRr<O, N> = Record<N, ZoneRecordData<O, N>>;
+
+/// What the SOA record of an apex gives to a chain.
+#[derive(Clone, Copy, Debug, PartialEq, Eq)]
+pub struct ApexSoa {
+    /// The class of the record.
+    pub class: Class,
+    /// Its TTL, in seconds.
+    pub ttl: Ttl,
+    /// The MINIMUM field of its data, in seconds (RFC 2308, section 4).
+    pub minimum: Ttl,
+}
+
+impl ApexSoa {
+    /// The TTL of a chain: the lesser of the MINIMUM and the TTL (RFC 9077, section 3.2).
+    pub fn chain_ttl(&self) -> Ttl
+        ensures { result ≡ chain_ttl self.now }
+    {
+        self.minimum.min(self.ttl)
+    }
+}
+
+/// Whether the record is an SOA of the apex.
+fn is_soa_at<O: Octets, N: ToName>(apex: &N, candidate: &ZoneRr<O, N>) -> bool
+    ensures { result ≡ is_soa (N.labels apex.now) (as_zone_record N.labels candidate.now) }
+{
+    candidate.rtype() == Rtype::SOA && is_same(candidate.owner(), apex)
+}
+
+/// What the SOA record of the apex gives to a chain; None where the apex does not own exactly one record of type SOA, or
+/// the data of that one is not the `Soa` variant. Takes no memory.
+pub fn find_soa<O: Octets, N: ToName>(
+    apex: &N,
+    mut records: SliceRefsOrOwnedIterator<'_, ZoneRr<O, N>>,
+) -> Option<ApexSoa>
+    ensures { result ≡ soa_of (map (as_zone_record N.labels) records.entry) (N.labels apex.now) }
+{
+    let mut found: Option<&ZoneRr<O, N>> = None;
+    'records: while let Some(record) = records.next() {
+        if is_soa_at(apex, record) {
+            if found.is_some() {
+                return None;
+            }
+            found = Some(record);
+        }
+    }
+    let record = found?;
+    let ZoneRecordData::Soa(soa) = record.data() else {
+        return None;
+    };
+    Some(ApexSoa {
+        class: record.class(),
+        ttl: record.ttl(),
+        minimum: soa.minimum(),
+    })
+}

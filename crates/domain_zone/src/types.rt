@@ -1,0 +1,54 @@
+//! The types of an owner, gathered into a set.
+ghost use Rattle.std.specs.Prelude.{◌≡◌, ◌||◌, ◌==◌, ℕ, ◌<◌, map, OnOk};
+ghost use Rattle.domain_bitmap.specs.Builder.{holds};
+ghost use Rattle.domain_zone.specs.View.{as_zone_record};
+ghost use Rattle.domain_zone.specs.Zone.{may_list, lists_type};
+
+use crate::soa::ZoneRr;
+use domain_base::{Rtype, ToName};
+use domain_bitmap::RtypeBitmapBuilder;
+use domain_octets::{GrowingBuilder, Octets, OutOfMemory};
+use domain_records::SliceRefsOrOwnedIterator;
+
+/// Whether a chain may list a type of an owner: at a zone cut those of NS and DS alone.
+fn may_list(at_cut: bool, rtype: Rtype) -> bool
+    ensures { result ≡ may_list at_cut rtype }
+{
+    !at_cut || rtype == Rtype::NS || rtype == Rtype::DS
+}
+
+/// Adds a type to a set that grows.
+///
+/// # Errors
+///
+/// `OutOfMemory`; the set is then as it was.
+pub fn add_type<B: GrowingBuilder>(
+    types: &mut RtypeBitmapBuilder<B>,
+    rtype: Rtype,
+) -> Result<(), OutOfMemory>
+    ensures { OnOk result ((t : ℕ) → t < 65536 → holds types.new t ≡ (t == rtype || holds types.old t)) }
+{
+    types.add(rtype).map_err(|_| OutOfMemory)
+}
+
+/// Adds the types of an owner's records that a chain lists: all, and at a zone cut those of NS and DS alone (RFC 4035, section
+/// 2.3).
+///
+/// # Errors
+///
+/// `OutOfMemory`; some types may then have been added.
+pub fn add_types<B: GrowingBuilder, O: Octets, N: ToName>(
+    types: &mut RtypeBitmapBuilder<B>,
+    mut records: SliceRefsOrOwnedIterator<'_, ZoneRr<O, N>>,
+    at_cut: bool,
+) -> Result<(), OutOfMemory>
+    ensures { OnOk result ((t : ℕ) → t < 65536
+        → holds types.new t ≡ (holds types.old t || lists_type at_cut (map (as_zone_record N.labels) records.entry) t)) }
+{
+    'records: while let Some(record) = records.next() {
+        if may_list(at_cut, record.rtype()) {
+            add_type(types, record.rtype())?;
+        }
+    }
+    Ok(())
+}
