@@ -127,6 +127,22 @@ impl<N> Soa<N> {
         }
     }
 
+    /// The names alone.
+    fn into_names(self) -> (N, N)
+        ensures { result ≡ (self.mname, self.rname) }
+    {
+        let Soa {
+            mname,
+            rname,
+            serial: _,
+            refresh: _,
+            retry: _,
+            expire: _,
+            minimum: _,
+        } = self;
+        (mname, rname)
+    }
+
     /// A copy. Answers `OutOfMemory` where there is no memory for it.
     pub fn clone(&self) -> Result<Self, OutOfMemory>
     where
@@ -160,28 +176,13 @@ impl<M, N: OctetsFrom<M> + Drop> OctetsFrom<Soa<M>> for Soa<N> {
     ghost has_no_room = { λ source. N.has_no_room source.mname ⊎ N.has_no_room source.rname };
 
     fn try_octets_from(alloc: Global, source: Soa<M>) -> Result<Self, AppendError> {
-        let Soa {
-            mname,
-            rname,
-            serial,
-            refresh,
-            retry,
-            expire,
-            minimum,
-        } = source;
+        let numbers = source.with_names((), ());
+        let (mname, rname) = source.into_names();
         let (mname, rname) = both(
             N::try_octets_from(alloc, mname),
             N::try_octets_from(alloc, rname),
         )?;
-        Ok(Soa {
-            mname,
-            rname,
-            serial,
-            refresh,
-            retry,
-            expire,
-            minimum,
-        })
+        Ok(numbers.with_names(mname, rname))
     }
 }
 
@@ -191,25 +192,10 @@ impl<M: Drop, N: FlattenInto<M>> FlattenInto<Soa<M>> for Soa<N> {
     ghost has_no_room = { λ source. N.has_no_room source.mname ⊎ N.has_no_room source.rname };
 
     fn try_flatten_into(self, alloc: Global) -> Result<Soa<M>, AppendError> {
-        let Soa {
-            mname,
-            rname,
-            serial,
-            refresh,
-            retry,
-            expire,
-            minimum,
-        } = self;
+        let numbers = self.with_names((), ());
+        let (mname, rname) = self.into_names();
         let (mname, rname) = both(mname.try_flatten_into(alloc), rname.try_flatten_into(alloc))?;
-        Ok(Soa {
-            mname,
-            rname,
-            serial,
-            refresh,
-            retry,
-            expire,
-            minimum,
-        })
+        Ok(numbers.with_names(mname, rname))
     }
 }
 

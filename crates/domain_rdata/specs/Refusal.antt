@@ -1,6 +1,7 @@
 -- why record data are refused, in the text form of their type or in the generic form (RFC 1035, section 5.1, and RFC 3597, section 5)
-use Rattle.std.specs.Prelude.{◌≡◌, ℕ, ◌==◌, List, [], length, codes, Option, Some, None, IsNone, if◌then◌else◌}
+use Rattle.std.specs.Prelude.{◌≡◌, ℕ, ◌<◌, ◌==◌, List, [], length, codes, Option, Some, None, IsNone, if◌then◌else◌}
 use Rattle.domain_octets.specs.Limit.{IsOver}
+use Rattle.domain_base.specs.Fault.{Fault}
 use Rattle.domain_base.specs.Scan.{ScanFault, entry_ends, illegal, no_room, no_memory}
 use Rattle.domain_plain.specs.Generic.{GenericText, GenericFault}
 use Rattle.domain_fields.specs.Layout.{Layout, Values, Begins}
@@ -83,6 +84,11 @@ CopyFault limit octets entry_ends = ⊥
 CopyFault limit octets (illegal said) = ⊥
 CopyFault limit octets no_room = IsOver limit (length octets)
 CopyFault limit octets no_memory = IsNone limit
+
+-- why not all octets are data, which they begin with, or have a first fault: they have one, or go on after the data
+pub data IsNotWhole {D : Type 0} (begins : List ℕ → D → List ℕ → Type 0) (faults : List ℕ → Fault → Type 0) (octets : List ℕ) : Type 0 where
+  at_fault : (fault : Fault) → faults octets fault → IsNotWhole begins faults octets
+  goes_on : (d : D) (after : List ℕ) → begins octets d after → 0 < length after → IsNotWhole begins faults octets
 
 -- why the octets of a generic form are not turned into data over octets that have this limit: they are no such data, or they are, and a part has no room or no memory;
 -- those of a type that has no text form of its own are not refused, since any octets are its data

@@ -2,6 +2,9 @@
 //!
 //! `Nsec` is the data of RFC 4034, section 4, `Nsec3` and `Nsec3param` that of RFC 5155, sections 3 and 4. `ZoneRecordData` holds the data of any type; types that have no variant of their own are held as octets (RFC 3597).
 //!
+//! The data of other types, records and the traits of data come from the crates below, and are named here too, so that a
+//! user of record data names this crate alone.
+//!
 //! The crates above may rely on this: data of all types is ordered by type and then by canonical octets, also between data that is known and the same
 //! octets held as unknown, and the order takes no memory.
 #![tactic(auto)]
@@ -30,6 +33,15 @@ mod zone_octets;
 mod zone_record_data;
 mod zone_text;
 
+pub use domain_bitmap::{
+    CountedOctets, Nsec3Salt, Nsec3SaltError, Nsec3SaltFromStrError, OwnerHash, OwnerHashError,
+    RtypeBitmap, RtypeBitmapBuilder, RtypeBitmapError, RtypeBitmapIter,
+};
+pub use domain_keys::{Dnskey, Ds, IllegalSignatureTime, ProtoRrsig, Rrsig, Timestamp};
+pub use domain_plain::{
+    A, CloneName, CloneRecordData, ComposeRecordData, LongRecordData, Mx, Ns, ParseRecordData,
+    Record, RecordData, Soa, UnknownRecordData,
+};
 pub use nsec::Nsec;
 pub use nsec3::Nsec3;
 pub use nsec3param::Nsec3param;

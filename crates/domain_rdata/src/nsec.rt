@@ -5,9 +5,9 @@ ghost use Rattle.std.specs.Cmp.Lexicographic.{slice_cmp, on_texts};
 ghost use Rattle.domain_fields.specs.Layout.{octets_of, canonical_of};
 ghost use Rattle.domain_rdata.specs.Rdata.{nsec, nsec_values};
 
-use domain_base::{CanonicalOrd, Rtype, ToName};
+use domain_base::{CanonicalOrd, ParsedName, Rtype, ToName};
 use domain_bitmap::RtypeBitmap;
-use domain_fields::{Fields, Keeps, Rest};
+use domain_fields::{Fields, MAX_RDLEN, Rest, Spelled};
 use domain_octets::{AppendError, Octets, OctetsBuilder};
 use domain_plain::{ComposeRecordData, RecordData};
 use std::cmp::Ordering;
@@ -61,10 +61,11 @@ impl<O: Octets, N> Nsec<O, N> {
 
 impl<O: Octets, N: ToName> Nsec<O, N> {
     /// The fields, in the order of the wire.
-    fn fields(&self) -> (Keeps<'_, N>, Rest<'_>)
-        ensures { (result.0.0.now ≡ self.now.next_name) × (result.1.0.now ≡ self.now.types) }
+    pub(crate) fn fields(&self) -> (Spelled<ParsedName<'_>>, Rest<'_>)
+        ensures { (result.0.0 ≡ N.labels self.now.next_name) × (result.1.0.now ≡ self.now.types) }
     {
-        (Keeps(&self.next_name), Rest(self.types.as_slice()))
+        let next_name = Spelled(self.next_name.as_parsed());
+        (next_name, Rest(self.types.as_slice()))
     }
 }
 
@@ -82,7 +83,7 @@ impl<O: Octets, N: ToName> ComposeRecordData for Nsec<O, N> {
     ghost canonical = { λ d. canonical_of nsec (nsec_values N.labels d) };
 
     fn fits_rdlen(&self) -> bool {
-        self.fields().room_after(65535).is_some()
+        self.fields().room_after(MAX_RDLEN).is_some()
     }
 
     fn rdlen(&self, _compress: bool) -> Option<u16> {

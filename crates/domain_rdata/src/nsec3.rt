@@ -10,7 +10,7 @@ use crate::Nsec3param;
 use crate::nsec3param::{HashNumbers, ParamFields, has_opt_out};
 use domain_base::{CanonicalOrd, Nsec3HashAlgorithm, Rtype};
 use domain_bitmap::{Nsec3Salt, OwnerHash, RtypeBitmap};
-use domain_fields::{Counted, Fields, Rest};
+use domain_fields::{Counted, Fields, MAX_RDLEN, Rest};
 use domain_octets::{AppendError, Octets, OctetsBuilder};
 use domain_plain::{ComposeRecordData, RecordData};
 use std::cmp::Ordering;
@@ -187,7 +187,7 @@ impl<O: Octets> ComposeRecordData for Nsec3<O> {
     ghost canonical = { nsec3_octets };
 
     fn fits_rdlen(&self) -> bool {
-        self.fields().room_after(65535).is_some()
+        self.fields().room_after(MAX_RDLEN).is_some()
     }
 
     fn rdlen(&self, _compress: bool) -> Option<u16> {

@@ -1,13 +1,12 @@
 //! NSEC3 data copied, and made over other octets.
-ghost use Rattle.std.specs.Prelude.{◌≡◌, ◌⊎◌, Some, IfOk, length, refl};
+ghost use Rattle.std.specs.Prelude.{◌≡◌, ◌⊎◌, IfOk, length, refl};
 ghost use Rattle.domain_octets.specs.Limit.{IsOver};
 ghost use Rattle.domain_keys.specs.Laws.{copies_tied};
 ghost use Rattle.domain_rdata.specs.Rdata.{nsec3_values, nsec3_octets};
 
 use crate::{Nsec3, Nsec3param};
-use bytes::Bytes;
 use domain_bitmap::{OwnerHash, RtypeBitmap};
-use domain_octets::{AppendError, ArrayBuilder, Octets, OctetsFrom, OutOfMemory, TryClone};
+use domain_octets::{AppendError, CopyOctets, Octets, OctetsFrom, OutOfMemory, TryClone};
 use domain_plain::{CloneRecordData, both};
 use std::alloc::Global;
 
@@ -44,40 +43,10 @@ impl<O: Octets + Drop> CloneRecordData for Nsec3<O> {
     ghost clone_canonical = { copies_tied nsec3_octets };
 }
 
-impl<S: Octets + Drop> OctetsFrom<Nsec3<S>> for Nsec3<Vec<u8>> {
+impl<S: Octets + Drop, O: CopyOctets + Drop> OctetsFrom<Nsec3<S>> for Nsec3<O> {
     ghost is_same = { λ source made. nsec3_values made ≡ nsec3_values source };
 
-    ghost has_no_room = { λ _. ⊥ };
-
-    fn try_octets_from(alloc: Global, source: Nsec3<S>) -> Result<Self, AppendError> {
-        let (params, next_owner, types) = source.into_parts();
-        let params = Nsec3param::try_octets_from(alloc, params);
-        let next_owner = OwnerHash::try_octets_from(alloc, next_owner);
-        let types = RtypeBitmap::try_octets_from(alloc, types);
-        let ((params, next_owner), types) = both(both(params, next_owner), types)?;
-        Ok(Nsec3::of_params(params, next_owner, types))
-    }
-}
-
-impl<S: Octets + Drop> OctetsFrom<Nsec3<S>> for Nsec3<Bytes> {
-    ghost is_same = { λ source made. nsec3_values made ≡ nsec3_values source };
-
-    ghost has_no_room = { λ _. ⊥ };
-
-    fn try_octets_from(alloc: Global, source: Nsec3<S>) -> Result<Self, AppendError> {
-        let (params, next_owner, types) = source.into_parts();
-        let params = Nsec3param::try_octets_from(alloc, params);
-        let next_owner = OwnerHash::try_octets_from(alloc, next_owner);
-        let types = RtypeBitmap::try_octets_from(alloc, types);
-        let ((params, next_owner), types) = both(both(params, next_owner), types)?;
-        Ok(Nsec3::of_params(params, next_owner, types))
-    }
-}
-
-impl<S: Octets + Drop, const K: usize> OctetsFrom<Nsec3<S>> for Nsec3<ArrayBuilder<K>> {
-    ghost is_same = { λ source made. nsec3_values made ≡ nsec3_values source };
-
-    ghost has_no_room = { λ source. (IsOver (Some K) (length source.salt) ⊎ IsOver (Some K) (length source.next_owner)) ⊎ IsOver (Some K) (length source.types) };
+    ghost has_no_room = { λ source. (IsOver O.capacity (length source.salt) ⊎ IsOver O.capacity (length source.next_owner)) ⊎ IsOver O.capacity (length source.types) };
 
     fn try_octets_from(alloc: Global, source: Nsec3<S>) -> Result<Self, AppendError> {
         let (params, next_owner, types) = source.into_parts();

@@ -13,16 +13,6 @@ use domain_fields::{Counted, ReadFields};
 use domain_octets::{ParseError, Parser};
 use domain_plain::ParseRecordData;
 
-/// The hash that was read.
-fn hash_of<'a>(hash: Counted<'a>) -> OwnerHash<&'a [u8]>
-    ensures { result ≡ hash.entry.octets.now }
-{
-    match OwnerHash::from_slice(hash.as_slice()) {
-        Ok(hash) => hash,
-        Err(_) => unreachable!(),
-    }
-}
-
 /// The parameters and the hash that the octets begin with.
 fn parse_hash<'a>(
     parser: &mut Parser<'a>,
@@ -33,7 +23,10 @@ fn parse_hash<'a>(
     ensures goes_on { GoesOn parser.old parser.new }
 {
     match <(ParamFields<'a>, Counted<'a>)>::read(parser) {
-        Ok((params, hash)) => Ok((params_of(params), hash_of(hash))),
+        Ok((params, hash)) => {
+            let next_owner = OwnerHash::from_octets_unchecked(hash.as_slice());
+            Ok((params_of(params), next_owner))
+        }
         Err(fault) => Err(ParseError::from(fault)),
     }
 }

@@ -13,12 +13,11 @@ ghost use Rattle.domain_keys.specs.Laws.{copies_tied};
 ghost use Rattle.domain_rdata.specs.OptOut.{is_opt_out, with_opt_out};
 ghost use Rattle.domain_rdata.specs.Rdata.{hash_numbers, nsec3param, nsec3param_values, nsec3param_octets, uncounted, uncounted_octets};
 
-use bytes::Bytes;
 use domain_base::{CanonicalOrd, Nsec3HashAlgorithm, Rtype};
 use domain_bitmap::Nsec3Salt;
-use domain_fields::{Counted, Fields, ReadFields, Rest};
+use domain_fields::{Counted, Fields, MAX_RDLEN, ReadFields, Rest};
 use domain_octets::{
-    AppendError, ArrayBuilder, EmptyOctets, Octets, OctetsBuilder, OctetsFrom, OutOfMemory,
+    AppendError, CopyOctets, EmptyOctets, Octets, OctetsBuilder, OctetsFrom, OutOfMemory,
     ParseError, Parser, TryClone,
 };
 use domain_plain::{CloneRecordData, ComposeRecordData, ParseRecordData, RecordData};
@@ -184,16 +183,6 @@ impl<O: Octets> Nsec3param<O> {
     }
 }
 
-/// The salt that was read.
-fn salt_of<'a>(salt: Counted<'a>) -> Nsec3Salt<&'a [u8]>
-    ensures { result ≡ salt.entry.octets.now }
-{
-    match Nsec3Salt::from_slice(salt.as_slice()) {
-        Ok(salt) => salt,
-        Err(_) => unreachable!(),
-    }
-}
-
 /// The parameters that were read.
 pub fn params_of<'a>(fields: ParamFields<'a>) -> Nsec3param<&'a [u8]>
     ensures { nsec3param_values result ≡ (fields.entry.0, fields.entry.1.octets.now) }
@@ -203,7 +192,7 @@ pub fn params_of<'a>(fields: ParamFields<'a>) -> Nsec3param<&'a [u8]>
         hash_algorithm: Nsec3HashAlgorithm::from_int(hash_algorithm),
         flags,
         iterations,
-        salt: salt_of(salt),
+        salt: Nsec3Salt::from_octets_unchecked(salt.as_slice()),
     }
 }
 
@@ -258,7 +247,7 @@ impl<O: Octets> ComposeRecordData for Nsec3param<O> {
     ghost canonical = { nsec3param_octets };
 
     fn fits_rdlen(&self) -> bool {
-        self.fields().room_after(65535).is_some()
+        self.fields().room_after(MAX_RDLEN).is_some()
     }
 
     fn rdlen(&self, _compress: bool) -> Option<u16> {
@@ -376,34 +365,10 @@ impl<O: Octets> CloneRecordData for Nsec3param<O> {
     ghost clone_canonical = { copies_tied nsec3param_octets };
 }
 
-impl<S: Octets + Drop> OctetsFrom<Nsec3param<S>> for Nsec3param<Vec<u8>> {
+impl<S: Octets + Drop, O: CopyOctets> OctetsFrom<Nsec3param<S>> for Nsec3param<O> {
     ghost is_same = { λ source made. nsec3param_values made ≡ nsec3param_values source };
 
-    ghost has_no_room = { λ _. ⊥ };
-
-    fn try_octets_from(alloc: Global, source: Nsec3param<S>) -> Result<Self, AppendError> {
-        let (hash_algorithm, flags, iterations, salt) = source.into_parts();
-        let salt = Nsec3Salt::try_octets_from(alloc, salt)?;
-        Ok(Nsec3param::new(hash_algorithm, flags, iterations, salt))
-    }
-}
-
-impl<S: Octets + Drop> OctetsFrom<Nsec3param<S>> for Nsec3param<Bytes> {
-    ghost is_same = { λ source made. nsec3param_values made ≡ nsec3param_values source };
-
-    ghost has_no_room = { λ _. ⊥ };
-
-    fn try_octets_from(alloc: Global, source: Nsec3param<S>) -> Result<Self, AppendError> {
-        let (hash_algorithm, flags, iterations, salt) = source.into_parts();
-        let salt = Nsec3Salt::try_octets_from(alloc, salt)?;
-        Ok(Nsec3param::new(hash_algorithm, flags, iterations, salt))
-    }
-}
-
-impl<S: Octets + Drop, const K: usize> OctetsFrom<Nsec3param<S>> for Nsec3param<ArrayBuilder<K>> {
-    ghost is_same = { λ source made. nsec3param_values made ≡ nsec3param_values source };
-
-    ghost has_no_room = { λ source. IsOver (Some K) (length source.salt) };
+    ghost has_no_room = { λ source. IsOver O.capacity (length source.salt) };
 
     fn try_octets_from(alloc: Global, source: Nsec3param<S>) -> Result<Self, AppendError> {
         let (hash_algorithm, flags, iterations, salt) = source.into_parts();

@@ -15,7 +15,7 @@ ghost use Rattle.domain_rdata.specs.Laws.{nsec_fed};
 
 use crate::Nsec;
 use domain_base::ToName;
-use domain_fields::{Fields, Lowers, Rest};
+use domain_fields::{Fields, Rest};
 use domain_octets::Octets;
 use std::cmp::Ordering;
 use std::hash::{Hash, Hasher};
@@ -41,9 +41,7 @@ impl<O: Octets, N: ToName> Nsec<O, N> {
     pub fn canonical_cmp_to<P: Octets, M: ToName>(&self, other: &Nsec<P, M>) -> Ordering
         ensures { result ≡ slice_cmp nat_cmp (canonical_of nsec (nsec_values N.labels self.now)) (canonical_of nsec (nsec_values M.labels other.now)) }
     {
-        let (mine, theirs) = (self.next_name().as_wire(), other.next_name().as_wire());
-        let names = mine.cmp(theirs);
-        names.then_with(|| self.types().canonical_cmp_to(other.types()))
+        self.fields().order(&other.fields())
     }
 }
 
@@ -92,6 +90,7 @@ impl<O: Octets, N: ToName> Hash for Nsec<O, N> {
     ghost respects_eq = { (nsec_fed (λ d. N.labels d.next_name) (λ d. d.types)).fed };
 
     fn hash<H: Hasher>(&self, state: &mut H) {
-        (Lowers(self.next_name()), Rest(self.types().as_slice())).feed(state);
+        let next_name = self.next_name().as_parsed();
+        (next_name, Rest(self.types().as_slice())).feed(state);
     }
 }

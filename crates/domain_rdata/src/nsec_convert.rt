@@ -1,16 +1,15 @@
 //! NSEC data copied, and made over other octets.
-ghost use Rattle.std.specs.Prelude.{◌⊎◌, Some, IfOk, length, refl};
+ghost use Rattle.std.specs.Prelude.{◌⊎◌, IfOk, length, refl};
 ghost use Rattle.domain_fields.specs.DataClone.{same_values_tie};
 ghost use Rattle.domain_rdata.specs.Rdata.{nsec, nsec_values};
 ghost use Rattle.domain_octets.specs.Limit.{IsOver};
 ghost use Rattle.domain_rdata.specs.NsecConvert.{IsNsecClone, IsSameNsec};
 
 use crate::Nsec;
-use bytes::Bytes;
 use domain_base::ToName;
 use domain_bitmap::RtypeBitmap;
 use domain_octets::{
-    AppendError, ArrayBuilder, FlattenInto, Octets, OctetsFrom, OutOfMemory, TryClone,
+    AppendError, CopyOctets, FlattenInto, Octets, OctetsFrom, OutOfMemory, TryClone,
 };
 use domain_plain::{CloneRecordData, both};
 use std::alloc::Global;
@@ -41,40 +40,12 @@ impl<O: Octets, N: ToName + Drop> CloneRecordData for Nsec<O, N> {
         (λ i. (N.clone_labels d.next_name copy.next_name same.next_name i, same.types i)) };
 }
 
-impl<S: Octets + Drop, N: Drop, M: OctetsFrom<N> + Drop> OctetsFrom<Nsec<S, N>>
-    for Nsec<Vec<u8>, M> {
+impl<S: Octets + Drop, N: Drop, O: CopyOctets + Drop, M: OctetsFrom<N> + Drop> OctetsFrom<
+    Nsec<S, N>,
+> for Nsec<O, M> {
     ghost is_same = { IsSameNsec M.OctetsFrom.is_same };
 
-    ghost has_no_room = { λ source. M.OctetsFrom.has_no_room source.next_name };
-
-    fn try_octets_from(alloc: Global, source: Nsec<S, N>) -> Result<Self, AppendError> {
-        let (next_name, types) = source.into_parts();
-        let next_name = M::try_octets_from(alloc, next_name);
-        let types = RtypeBitmap::try_octets_from(alloc, types);
-        let (next_name, types) = both(next_name, types)?;
-        Ok(Nsec::new(next_name, types))
-    }
-}
-
-impl<S: Octets + Drop, N: Drop, M: OctetsFrom<N> + Drop> OctetsFrom<Nsec<S, N>> for Nsec<Bytes, M> {
-    ghost is_same = { IsSameNsec M.OctetsFrom.is_same };
-
-    ghost has_no_room = { λ source. M.OctetsFrom.has_no_room source.next_name };
-
-    fn try_octets_from(alloc: Global, source: Nsec<S, N>) -> Result<Self, AppendError> {
-        let (next_name, types) = source.into_parts();
-        let next_name = M::try_octets_from(alloc, next_name);
-        let types = RtypeBitmap::try_octets_from(alloc, types);
-        let (next_name, types) = both(next_name, types)?;
-        Ok(Nsec::new(next_name, types))
-    }
-}
-
-impl<S: Octets + Drop, N: Drop, M: OctetsFrom<N> + Drop, const K: usize> OctetsFrom<Nsec<S, N>>
-    for Nsec<ArrayBuilder<K>, M> {
-    ghost is_same = { IsSameNsec M.OctetsFrom.is_same };
-
-    ghost has_no_room = { λ source. M.OctetsFrom.has_no_room source.next_name ⊎ IsOver (Some K) (length source.types) };
+    ghost has_no_room = { λ source. M.OctetsFrom.has_no_room source.next_name ⊎ IsOver O.capacity (length source.types) };
 
     fn try_octets_from(alloc: Global, source: Nsec<S, N>) -> Result<Self, AppendError> {
         let (next_name, types) = source.into_parts();

@@ -1,21 +1,20 @@
 //! Data of all types from the octets of their generic form.
-ghost use Rattle.std.specs.Prelude.{◌≡◌, [], Some, None, IfOk, IfErr};
-ghost use Rattle.domain_base.specs.Scan.{scan_fault_of};
+ghost use Rattle.std.specs.Prelude.{◌≡◌, [], Some, None, codes, IfOk, IfErr};
+ghost use Rattle.domain_base.specs.Scan.{illegal, scan_fault_of};
 ghost use Rattle.domain_fields.specs.Layout.{Begins};
 ghost use Rattle.domain_plain.specs.Plain.{a, a_values, ns, ns_values, soa, soa_values, mx, mx_values};
 ghost use Rattle.domain_keys.specs.Data.{dnskey, dnskey_values, ds, ds_values, rrsig, rrsig_values};
 ghost use Rattle.domain_rdata.specs.NsecWire.{BeginsNsec};
 ghost use Rattle.domain_rdata.specs.Nsec3Wire.{BeginsNsec3};
 ghost use Rattle.domain_rdata.specs.Rdata.{nsec, nsec_values, nsec3, nsec3_values, nsec3param, nsec3param_values};
-ghost use Rattle.domain_rdata.specs.Refusal.{kind_of, plain, key, digest, signature, next_by_name, next_by_hash, params, CopyFault, OctetsFault};
+ghost use Rattle.domain_rdata.specs.Refusal.{kind_of, plain, key, digest, signature, next_by_name, next_by_hash, params, CopyFault, IsNotWhole, OctetsFault};
 ghost use Rattle.domain_rdata.specs.Text.{AreData};
 
 use crate::{Nsec, Nsec3, Nsec3param, ZoneRecordData};
-use domain_base::{MakeName, Rtype, ScanError, ToName};
-use domain_bitmap::{Nsec3Salt, OwnerHash, RtypeBitmap};
+use domain_base::{MakeName, ParsedName, Rtype, ScanError, ToName};
 use domain_keys::{Dnskey, Ds, Rrsig};
 use domain_octets::{EmptyBuilder, FromBuilder, Octets, OctetsBuilder, OutOfMemory, Parser};
-use domain_plain::{A, Mx, Ns, RecordData, Soa, UnknownRecordData};
+use domain_plain::{A, Mx, Ns, ParseRecordData, Soa, UnknownRecordData};
 use std::alloc::Global;
 
 /// A name with the labels of another, in octets of its own.
@@ -37,51 +36,64 @@ where
     Ok(O::from_builder(builder))
 }
 
+/// Octets are no data of the type that is asked, or go on after them.
+#[derive(Drop)]
+struct IllegalData;
+
+impl From<IllegalData> for ScanError {
+    ghost from_gives = { λ _ e. scan_fault_of e ≡ illegal (codes "illegal data") };
+
+    fn from(_error: IllegalData) -> ScanError {
+        ScanError::Custom("illegal data")
+    }
+}
+
+/// The data of a type that all of the octets are. Refuses exactly octets that are no such data.
+fn whole<'a, D: ParseRecordData<'a> + Drop>(
+    rtype: Rtype,
+    octets: &'a [u8],
+) -> Result<D, IllegalData>
+    requires { D.is_read rtype }
+    ensures ok { IfOk result (λ d. D.begins octets.now d []) }
+    ensures err { IfErr result (λ _. IsNotWhole D.begins D.faults octets.now) }
+{
+    let mut parser = Parser::new(octets);
+    match D::parse_rdata(rtype, &mut parser) {
+        Ok(Some(data)) => {
+            if parser.remaining() > 0 {
+                return Err(IllegalData);
+            }
+            Ok(data)
+        }
+        Ok(None) => unreachable!(),
+        Err(_) => Err(IllegalData),
+    }
+}
+
 /// The address that octets are.
-#[tactic(auto, using(crate::proofs::OctetsLemmas::exact))]
 fn a_of(octets: &[u8]) -> Result<A, ScanError>
     ensures ok { IfOk result (λ d. Begins a octets.now (a_values d) []) }
     ensures err { IfErr result (λ e. OctetsFault None (Some (plain a)) octets.now (scan_fault_of e)) }
 {
-    let mut parser = Parser::new(octets);
-    let Ok(data) = A::parse(&mut parser) else {
-        return Err(ScanError::Custom("illegal data"));
-    };
-    if parser.remaining() > 0 {
-        return Err(ScanError::Custom("illegal data"));
-    }
+    let data: A = whole(Rtype::A, octets)?;
     Ok(data)
 }
 
 /// The name of a server that octets are.
-#[tactic(auto, using(crate::proofs::OctetsLemmas::exact))]
 fn ns_of<N: MakeName>(alloc: Global, octets: &[u8]) -> Result<Ns<N>, ScanError>
     ensures ok { IfOk result (λ d. Begins ns octets.now (ns_values N.labels d) []) }
     ensures err { IfErr result (λ e. OctetsFault None (Some (plain ns)) octets.now (scan_fault_of e)) }
 {
-    let mut parser = Parser::new(octets);
-    let Ok(data) = Ns::parse(&mut parser) else {
-        return Err(ScanError::Custom("illegal data"));
-    };
-    if parser.remaining() > 0 {
-        return Err(ScanError::Custom("illegal data"));
-    }
+    let data: Ns<ParsedName<'_>> = whole(Rtype::NS, octets)?;
     Ok(Ns::new(name_like(alloc, data.nsdname())?))
 }
 
 /// The start of a zone that octets are.
-#[tactic(auto, using(crate::proofs::OctetsLemmas::exact))]
 fn soa_of<N: MakeName + Drop>(alloc: Global, octets: &[u8]) -> Result<Soa<N>, ScanError>
     ensures ok { IfOk result (λ d. Begins soa octets.now (soa_values N.labels d) []) }
     ensures err { IfErr result (λ e. OctetsFault None (Some (plain soa)) octets.now (scan_fault_of e)) }
 {
-    let mut parser = Parser::new(octets);
-    let Ok(data) = Soa::parse(&mut parser) else {
-        return Err(ScanError::Custom("illegal data"));
-    };
-    if parser.remaining() > 0 {
-        return Err(ScanError::Custom("illegal data"));
-    }
+    let data: Soa<ParsedName<'_>> = whole(Rtype::SOA, octets)?;
     let mname = name_like(alloc, data.mname())?;
     let rname = name_like(alloc, data.rname())?;
     Ok(Soa::new(
@@ -96,59 +108,36 @@ fn soa_of<N: MakeName + Drop>(alloc: Global, octets: &[u8]) -> Result<Soa<N>, Sc
 }
 
 /// The mail exchange that octets are.
-#[tactic(auto, using(crate::proofs::OctetsLemmas::exact))]
 fn mx_of<N: MakeName>(alloc: Global, octets: &[u8]) -> Result<Mx<N>, ScanError>
     ensures ok { IfOk result (λ d. Begins mx octets.now (mx_values N.labels d) []) }
     ensures err { IfErr result (λ e. OctetsFault None (Some (plain mx)) octets.now (scan_fault_of e)) }
 {
-    let mut parser = Parser::new(octets);
-    let Ok(data) = Mx::parse(&mut parser) else {
-        return Err(ScanError::Custom("illegal data"));
-    };
-    if parser.remaining() > 0 {
-        return Err(ScanError::Custom("illegal data"));
-    }
+    let data: Mx<ParsedName<'_>> = whole(Rtype::MX, octets)?;
     Ok(Mx::new(data.preference(), name_like(alloc, data.exchange())?))
 }
 
 /// The key that octets are.
-#[tactic(auto, using(crate::proofs::OctetsLemmas::exact))]
 fn dnskey_of<O: FromBuilder + Drop>(alloc: Global, octets: &[u8]) -> Result<Dnskey<O>, ScanError>
 where
     O::Builder: EmptyBuilder + Drop,
     ensures ok { IfOk result (λ d. Begins dnskey octets.now (dnskey_values d) []) }
     ensures err { IfErr result (λ e. OctetsFault O.Builder.limit (Some key) octets.now (scan_fault_of e)) }
 {
-    let mut parser = Parser::new(octets);
-    let Ok(data) = Dnskey::parse(&mut parser) else {
-        return Err(ScanError::Custom("illegal data"));
-    };
-    if parser.remaining() > 0 {
-        return Err(ScanError::Custom("illegal data"));
-    }
+    let data: Dnskey<&[u8]> = whole(Rtype::DNSKEY, octets)?;
     let key = octets_like(alloc, data.public_key())?;
-    let (flags, protocol, algorithm) = (data.flags(), data.protocol(), data.algorithm());
-    Ok(Dnskey::new_unchecked(flags, protocol, algorithm, key))
+    Ok(data.remade(key))
 }
 
 /// The digest of a key that octets are.
-#[tactic(auto, using(crate::proofs::OctetsLemmas::exact))]
 fn ds_of<O: FromBuilder + Drop>(alloc: Global, octets: &[u8]) -> Result<Ds<O>, ScanError>
 where
     O::Builder: EmptyBuilder + Drop,
     ensures ok { IfOk result (λ d. Begins ds octets.now (ds_values d) []) }
     ensures err { IfErr result (λ e. OctetsFault O.Builder.limit (Some digest) octets.now (scan_fault_of e)) }
 {
-    let mut parser = Parser::new(octets);
-    let Ok(data) = Ds::parse(&mut parser) else {
-        return Err(ScanError::Custom("illegal data"));
-    };
-    if parser.remaining() > 0 {
-        return Err(ScanError::Custom("illegal data"));
-    }
+    let data: Ds<&[u8]> = whole(Rtype::DS, octets)?;
     let digest = octets_like(alloc, data.digest())?;
-    let (tag, algorithm, kind) = (data.key_tag(), data.algorithm(), data.digest_type());
-    Ok(Ds::new_unchecked(tag, algorithm, kind, digest))
+    Ok(data.remade(digest))
 }
 
 /// The next name and the types that octets are.
@@ -161,22 +150,13 @@ where
     ensures ok { IfOk result (λ d. BeginsNsec octets.now (nsec_values N.labels d) []) }
     ensures err { IfErr result (λ e. OctetsFault O.Builder.limit (Some next_by_name) octets.now (scan_fault_of e)) }
 {
-    let mut parser = Parser::new(octets);
-    match Nsec::parse(&mut parser) {
-        Ok(data) => {
-            let next_name = name_like(alloc, data.next_name())?;
-            let types = octets_like(alloc, data.types().as_slice())?;
-            match RtypeBitmap::from_octets(types) {
-                Ok(types) => Ok(Nsec::new(next_name, types)),
-                Err(_) => Err(ScanError::Custom("illegal data")),
-            }
-        }
-        Err(_) => Err(ScanError::Custom("illegal data")),
-    }
+    let data: Nsec<&[u8], ParsedName<'_>> = whole(Rtype::NSEC, octets)?;
+    let next_name = name_like(alloc, data.next_name())?;
+    let types = octets_like(alloc, data.types().as_slice())?;
+    Ok(Nsec::new(next_name, data.types().remade(types)))
 }
 
 /// The signature that octets are.
-#[tactic(auto, using(crate::proofs::OctetsLemmas::exact))]
 fn rrsig_of<O: FromBuilder + Drop, N: MakeName + Drop>(
     alloc: Global,
     octets: &[u8],
@@ -186,10 +166,7 @@ where
     ensures ok { IfOk result (λ d. Begins rrsig octets.now (rrsig_values d) []) }
     ensures err { IfErr result (λ e. OctetsFault O.Builder.limit (Some signature) octets.now (scan_fault_of e)) }
 {
-    let mut parser = Parser::new(octets);
-    let Ok(data) = Rrsig::parse(&mut parser) else {
-        return Err(ScanError::Custom("illegal data"));
-    };
+    let data: Rrsig<&[u8], ParsedName<'_>> = whole(Rtype::RRSIG, octets)?;
     let signer_name = name_like(alloc, data.signer_name())?;
     let signature = octets_like(alloc, data.signature())?;
     Ok(Rrsig::new_unchecked(
@@ -205,39 +182,7 @@ where
     ))
 }
 
-/// A copy of a salt.
-fn salt_like<O: FromBuilder + Drop>(
-    alloc: Global,
-    salt: &Nsec3Salt<&[u8]>,
-) -> Result<Nsec3Salt<O>, ScanError>
-where
-    O::Builder: EmptyBuilder + Drop,
-    ensures ok { IfOk result (λ made. made ≡ salt.now) }
-    ensures err { IfErr result (λ e. CopyFault O.Builder.limit salt.now (scan_fault_of e)) }
-{
-    match Nsec3Salt::from_octets(octets_like(alloc, salt.as_slice())?) {
-        Ok(salt) => Ok(salt),
-        Err(_) => unreachable!(),
-    }
-}
-
-/// The parameters with a salt in octets of its own.
-fn params_like<O: FromBuilder + Drop>(
-    alloc: Global,
-    params: &Nsec3param<&[u8]>,
-) -> Result<Nsec3param<O>, ScanError>
-where
-    O::Builder: EmptyBuilder + Drop,
-    ensures ok { IfOk result (λ made. nsec3param_values made ≡ nsec3param_values params.now) }
-    ensures err { IfErr result (λ e. CopyFault O.Builder.limit params.now.salt (scan_fault_of e)) }
-{
-    let salt = salt_like(alloc, params.salt())?;
-    let (hash_algorithm, flags) = (params.hash_algorithm(), params.flags());
-    Ok(Nsec3param::new(hash_algorithm, flags, params.iterations(), salt))
-}
-
 /// The parameters that octets are.
-#[tactic(auto, using(crate::proofs::OctetsLemmas::exact))]
 fn nsec3param_of<O: FromBuilder + Drop>(
     alloc: Global,
     octets: &[u8],
@@ -247,14 +192,14 @@ where
     ensures ok { IfOk result (λ d. Begins nsec3param octets.now (nsec3param_values d) []) }
     ensures err { IfErr result (λ e. OctetsFault O.Builder.limit (Some params) octets.now (scan_fault_of e)) }
 {
-    let mut parser = Parser::new(octets);
-    let Ok(data) = Nsec3param::parse(&mut parser) else {
-        return Err(ScanError::Custom("illegal data"));
-    };
-    if parser.remaining() > 0 {
-        return Err(ScanError::Custom("illegal data"));
-    }
-    params_like(alloc, &data)
+    let data: Nsec3param<&[u8]> = whole(Rtype::NSEC3PARAM, octets)?;
+    let salt = octets_like(alloc, data.salt().as_slice())?;
+    Ok(Nsec3param::new(
+        data.hash_algorithm(),
+        data.flags(),
+        data.iterations(),
+        data.salt().remade(salt),
+    ))
 }
 
 /// The next hash and the types that octets are.
@@ -264,29 +209,18 @@ where
     ensures ok { IfOk result (λ d. BeginsNsec3 octets.now (nsec3_values d) []) }
     ensures err { IfErr result (λ e. OctetsFault O.Builder.limit (Some next_by_hash) octets.now (scan_fault_of e)) }
 {
-    let mut parser = Parser::new(octets);
-    match Nsec3::parse(&mut parser) {
-        Ok(data) => {
-            let salt = salt_like(alloc, data.salt())?;
-            let next_owner = octets_like(alloc, data.next_owner().as_slice())?;
-            let types = octets_like(alloc, data.types().as_slice())?;
-            match (
-                OwnerHash::from_octets(next_owner),
-                RtypeBitmap::from_octets(types),
-            ) {
-                (Ok(next_owner), Ok(types)) => Ok(Nsec3::new(
-                    data.hash_algorithm(),
-                    data.flags(),
-                    data.iterations(),
-                    salt,
-                    next_owner,
-                    types,
-                )),
-                _ => unreachable!(),
-            }
-        }
-        Err(_) => Err(ScanError::Custom("illegal data")),
-    }
+    let data: Nsec3<&[u8]> = whole(Rtype::NSEC3, octets)?;
+    let salt = octets_like(alloc, data.salt().as_slice())?;
+    let next_owner = octets_like(alloc, data.next_owner().as_slice())?;
+    let types = octets_like(alloc, data.types().as_slice())?;
+    Ok(Nsec3::new(
+        data.hash_algorithm(),
+        data.flags(),
+        data.iterations(),
+        data.salt().remade(salt),
+        data.next_owner().remade(next_owner),
+        data.types().remade(types),
+    ))
 }
 
 impl<O: FromBuilder, N: ToName> ZoneRecordData<O, N>

@@ -37,25 +37,34 @@ pub enum ZoneRecordData<O: Octets, N: ToName> {
     Unknown(UnknownRecordData<O>),
 }
 
+/// What is done with the data, whatever their type.
+macro_rules! with_data {
+    ($all:expr, $data:ident => $done:expr) => {
+        match $all {
+            ZoneRecordData::A($data) => $done,
+            ZoneRecordData::Ns($data) => $done,
+            ZoneRecordData::Soa($data) => $done,
+            ZoneRecordData::Mx($data) => $done,
+            ZoneRecordData::Dnskey($data) => $done,
+            ZoneRecordData::Ds($data) => $done,
+            ZoneRecordData::Rrsig($data) => $done,
+            ZoneRecordData::Nsec($data) => $done,
+            ZoneRecordData::Nsec3($data) => $done,
+            ZoneRecordData::Nsec3param($data) => $done,
+            ZoneRecordData::Unknown($data) => $done,
+        }
+    };
+}
+
+pub(crate) use with_data;
+
 impl<O: Octets, N: ToName> RecordData for ZoneRecordData<O, N> {
     ghost use Rattle.domain_rdata.specs.Zone.{rtype_of};
 
     ghost rtype = { rtype_of };
 
     fn rtype(&self) -> Rtype {
-        match self {
-            ZoneRecordData::A(data) => data.rtype(),
-            ZoneRecordData::Ns(data) => data.rtype(),
-            ZoneRecordData::Soa(data) => data.rtype(),
-            ZoneRecordData::Mx(data) => data.rtype(),
-            ZoneRecordData::Dnskey(data) => data.rtype(),
-            ZoneRecordData::Ds(data) => data.rtype(),
-            ZoneRecordData::Rrsig(data) => data.rtype(),
-            ZoneRecordData::Nsec(data) => data.rtype(),
-            ZoneRecordData::Nsec3(data) => data.rtype(),
-            ZoneRecordData::Nsec3param(data) => data.rtype(),
-            ZoneRecordData::Unknown(data) => data.rtype(),
-        }
+        with_data!(self, data => data.rtype())
     }
 }
 
@@ -96,83 +105,23 @@ impl<O: Octets, N: ToName> ComposeRecordData for ZoneRecordData<O, N> {
     ghost canonical = { canonical_octets O.octets N.labels };
 
     fn fits_rdlen(&self) -> bool {
-        match self {
-            ZoneRecordData::A(data) => data.fits_rdlen(),
-            ZoneRecordData::Ns(data) => data.fits_rdlen(),
-            ZoneRecordData::Soa(data) => data.fits_rdlen(),
-            ZoneRecordData::Mx(data) => data.fits_rdlen(),
-            ZoneRecordData::Dnskey(data) => data.fits_rdlen(),
-            ZoneRecordData::Ds(data) => data.fits_rdlen(),
-            ZoneRecordData::Rrsig(data) => data.fits_rdlen(),
-            ZoneRecordData::Nsec(data) => data.fits_rdlen(),
-            ZoneRecordData::Nsec3(data) => data.fits_rdlen(),
-            ZoneRecordData::Nsec3param(data) => data.fits_rdlen(),
-            ZoneRecordData::Unknown(data) => data.fits_rdlen(),
-        }
+        with_data!(self, data => data.fits_rdlen())
     }
 
     fn rdlen(&self, compress: bool) -> Option<u16> {
-        match self {
-            ZoneRecordData::A(data) => data.rdlen(compress),
-            ZoneRecordData::Ns(data) => data.rdlen(compress),
-            ZoneRecordData::Soa(data) => data.rdlen(compress),
-            ZoneRecordData::Mx(data) => data.rdlen(compress),
-            ZoneRecordData::Dnskey(data) => data.rdlen(compress),
-            ZoneRecordData::Ds(data) => data.rdlen(compress),
-            ZoneRecordData::Rrsig(data) => data.rdlen(compress),
-            ZoneRecordData::Nsec(data) => data.rdlen(compress),
-            ZoneRecordData::Nsec3(data) => data.rdlen(compress),
-            ZoneRecordData::Nsec3param(data) => data.rdlen(compress),
-            ZoneRecordData::Unknown(data) => data.rdlen(compress),
-        }
+        with_data!(self, data => data.rdlen(compress))
     }
 
     fn compose_rdata<B: OctetsBuilder>(&self, target: &mut B) -> Result<(), AppendError> {
-        match self {
-            ZoneRecordData::A(data) => data.compose_rdata(target),
-            ZoneRecordData::Ns(data) => data.compose_rdata(target),
-            ZoneRecordData::Soa(data) => data.compose_rdata(target),
-            ZoneRecordData::Mx(data) => data.compose_rdata(target),
-            ZoneRecordData::Dnskey(data) => data.compose_rdata(target),
-            ZoneRecordData::Ds(data) => data.compose_rdata(target),
-            ZoneRecordData::Rrsig(data) => data.compose_rdata(target),
-            ZoneRecordData::Nsec(data) => data.compose_rdata(target),
-            ZoneRecordData::Nsec3(data) => data.compose_rdata(target),
-            ZoneRecordData::Nsec3param(data) => data.compose_rdata(target),
-            ZoneRecordData::Unknown(data) => data.compose_rdata(target),
-        }
+        with_data!(self, data => data.compose_rdata(target))
     }
 
     fn compose_canonical_rdata<B: OctetsBuilder>(&self, target: &mut B) -> Result<(), AppendError> {
-        match self {
-            ZoneRecordData::A(data) => data.compose_canonical_rdata(target),
-            ZoneRecordData::Ns(data) => data.compose_canonical_rdata(target),
-            ZoneRecordData::Soa(data) => data.compose_canonical_rdata(target),
-            ZoneRecordData::Mx(data) => data.compose_canonical_rdata(target),
-            ZoneRecordData::Dnskey(data) => data.compose_canonical_rdata(target),
-            ZoneRecordData::Ds(data) => data.compose_canonical_rdata(target),
-            ZoneRecordData::Rrsig(data) => data.compose_canonical_rdata(target),
-            ZoneRecordData::Nsec(data) => data.compose_canonical_rdata(target),
-            ZoneRecordData::Nsec3(data) => data.compose_canonical_rdata(target),
-            ZoneRecordData::Nsec3param(data) => data.compose_canonical_rdata(target),
-            ZoneRecordData::Unknown(data) => data.compose_canonical_rdata(target),
-        }
+        with_data!(self, data => data.compose_canonical_rdata(target))
     }
 
     fn canonical_cmp_octets(&self, other: &[u8]) -> Ordering {
-        match self {
-            ZoneRecordData::A(data) => data.canonical_cmp_octets(other),
-            ZoneRecordData::Ns(data) => data.canonical_cmp_octets(other),
-            ZoneRecordData::Soa(data) => data.canonical_cmp_octets(other),
-            ZoneRecordData::Mx(data) => data.canonical_cmp_octets(other),
-            ZoneRecordData::Dnskey(data) => data.canonical_cmp_octets(other),
-            ZoneRecordData::Ds(data) => data.canonical_cmp_octets(other),
-            ZoneRecordData::Rrsig(data) => data.canonical_cmp_octets(other),
-            ZoneRecordData::Nsec(data) => data.canonical_cmp_octets(other),
-            ZoneRecordData::Nsec3(data) => data.canonical_cmp_octets(other),
-            ZoneRecordData::Nsec3param(data) => data.canonical_cmp_octets(other),
-            ZoneRecordData::Unknown(data) => data.canonical_cmp_octets(other),
-        }
+        with_data!(self, data => data.canonical_cmp_octets(other))
     }
 }
 

@@ -6,6 +6,7 @@ ghost use Rattle.domain_rdata.specs.Refusal.{OwnRefused, RdataRefused};
 ghost use Rattle.domain_rdata.specs.Text.{RdataText, OwnText, IsGeneric};
 ghost use Rattle.domain_rdata.specs.declared.zone_record_data.ZoneRecordData.{ZoneRecordData};
 
+use crate::zone_record_data::with_data;
 use crate::{Nsec, Nsec3, Nsec3param, ZoneRecordData};
 use domain_base::{MakeName, Rtype, ScanError, Scanner, ToName};
 use domain_keys::{Dnskey, Ds, Rrsig};
@@ -116,18 +117,6 @@ impl<O: Octets, N: ToName> fmt::Display for ZoneRecordData<O, N> {
     ghost output = { data_text O.octets N.labels };
 
     fn fmt<W: fmt::Write>(&self, f: &mut fmt::Formatter<W>) -> fmt::Result {
-        match self {
-            ZoneRecordData::A(data) => fmt::Display::fmt(data, f),
-            ZoneRecordData::Ns(data) => fmt::Display::fmt(data, f),
-            ZoneRecordData::Soa(data) => fmt::Display::fmt(data, f),
-            ZoneRecordData::Mx(data) => fmt::Display::fmt(data, f),
-            ZoneRecordData::Dnskey(data) => fmt::Display::fmt(data, f),
-            ZoneRecordData::Ds(data) => fmt::Display::fmt(data, f),
-            ZoneRecordData::Rrsig(data) => fmt::Display::fmt(data, f),
-            ZoneRecordData::Nsec(data) => fmt::Display::fmt(data, f),
-            ZoneRecordData::Nsec3(data) => fmt::Display::fmt(data, f),
-            ZoneRecordData::Nsec3param(data) => fmt::Display::fmt(data, f),
-            ZoneRecordData::Unknown(data) => fmt::Display::fmt(data, f),
-        }
+        with_data!(self, data => fmt::Display::fmt(data, f))
     }
 }

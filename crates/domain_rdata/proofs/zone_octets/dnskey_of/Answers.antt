@@ -1,19 +1,18 @@
-use Rattle.std.proofs.Common.{[], arith}
+use Rattle.std.proofs.Common.{refl, arith}
 use Rattle.std.proofs.lemmas.Grind.{common_steps}
 use Rattle.std.proofs.lemmas.Result.{err_from_is_err_and}
-use Rattle.domain_fields.specs.Layout.{Begins}
 use Rattle.domain_keys.specs.Data.{dnskey, dnskey_values}
-use Rattle.domain_rdata.specs.Refusal.{of_key}
-use Rattle.domain_rdata.proofs.OctetsLemmas.{fits_again, not_copied}
+use Rattle.domain_rdata.specs.Refusal.{key, of_key}
+use Rattle.domain_rdata.proofs.OctetsLemmas.{not_fields, not_copied}
 use Rattle.domain_rdata.proofs.zone_octets.dnskey_of.Goals as goal
 
-pub new_unchecked-requires : goal.new_unchecked-requires
-new_unchecked-requires g c =
-    let fits = fits_again c.new-parser.result.left (dnskey_values c.in-Ok.data) c.parse.new.parser.left (g.O.Octets.octets c.in_ok-key.key) c.in-Ok.ensures.ok (grind (arith, common_steps)) in
-    grind (arith, common_steps)
+pub returns-in_err-data-clause-err : goal.returns-in_err-data-clause-err
+returns-in_err-data-clause-err g c =
+    let p = err_from_is_err_and c.from_residual.result c.from_residual.ensures.1 in
+    rw p.1 (not_fields dnskey dnskey_values c.args.octets.now key g.O.Builder.OctetsBuilder.limit _ refl (λ w. w) p.2 c.in_err-data.ensures.err)
 
 pub returns-in_err-key-clause-err : goal.returns-in_err-key-clause-err
 returns-in_err-key-clause-err g c =
-    let p = err_from_is_err_and c.from_residual.result c.from_residual.ensures.1 in
-    let begins : Begins dnskey c.args.octets.now (dnskey_values c.in-Ok.data) [] = grind (arith, common_steps) in
-    rw (p.1, p.2) (not_copied _ _ c.args.octets.now _ _ _ c.in_err-key.ensures.err (grind (arith, common_steps)) (of_key (dnskey_values c.in-Ok.data) begins))
+    let p = err_from_is_err_and c.from_residual-in_err-key.result c.from_residual-in_err-key.ensures.1 in
+    rw (p.1, p.2)
+    (not_copied _ _ c.args.octets.now _ _ _ c.in_err-key.ensures.err (grind (arith, common_steps)) (of_key (dnskey_values c.in_ok-data.data) c.in_ok-data.ensures.ok))

@@ -1,13 +1,11 @@
-use Rattle.std.proofs.Common.{◌<◌, ℕ, List, length, refl, subst, arith}
-use Rattle.std.proofs.lemmas.Grind.{common_steps}
-use Rattle.domain_fields.specs.Layout.{Begins}
+use Rattle.std.proofs.Common.{ℕ, List, None, refl}
+use Rattle.std.proofs.lemmas.Result.{err_from_is_err_and}
 use Rattle.domain_plain.specs.Plain.{ns, ns_values}
-use Rattle.domain_rdata.proofs.OctetsLemmas.{longer}
+use Rattle.domain_rdata.specs.Refusal.{plain}
+use Rattle.domain_rdata.proofs.OctetsLemmas.{not_fields}
 use Rattle.domain_rdata.proofs.zone_octets.ns_of.Goals as goal
 
-pub returns-then-remaining-gt0-clause-err : goal.returns-then-remaining-gt0-clause-err
-returns-then-remaining-gt0-clause-err g c =
-    let more : 0 < length c.parse.new.parser.left = grind (arith, common_steps) in
-    let values = ns_values {N = List (List ℕ)} (λ name. name) c.in-Ok.data in
-    let begins = subst (λ p. Begins ns p.left values c.parse.new.parser.left) c.new-parser.ensures c.in-Ok.ensures.ok in
-    (refl, longer ns c.args.octets.now values c.parse.new.parser.left begins more refl)
+pub returns-in_err-data-clause-err : goal.returns-in_err-data-clause-err
+returns-in_err-data-clause-err g c =
+    let p = err_from_is_err_and c.from_residual.result c.from_residual.ensures.1 in
+    rw p.1 (not_fields ns (ns_values {N = List (List ℕ)} (λ name. name)) c.args.octets.now (plain ns) None _ refl (λ w. w) p.2 c.in_err-data.ensures.err)

@@ -1,19 +1,18 @@
-use Rattle.std.proofs.Common.{◌<◌, [], length, refl, subst, arith}
+use Rattle.std.proofs.Common.{refl, arith}
 use Rattle.std.proofs.lemmas.Grind.{common_steps}
-use Rattle.domain_fields.specs.Layout.{Begins}
+use Rattle.std.proofs.lemmas.Result.{err_from_is_err_and}
 use Rattle.domain_rdata.specs.Rdata.{nsec3param, nsec3param_values}
-use Rattle.domain_rdata.specs.Refusal.{salt}
-use Rattle.domain_rdata.proofs.OctetsLemmas.{longer, none_copied}
+use Rattle.domain_rdata.specs.Refusal.{params, salt}
+use Rattle.domain_rdata.proofs.OctetsLemmas.{not_fields, not_copied}
 use Rattle.domain_rdata.proofs.zone_octets.nsec3param_of.Goals as goal
 
-pub returns-then-remaining-gt0-clause-err : goal.returns-then-remaining-gt0-clause-err
-returns-then-remaining-gt0-clause-err g c =
-    let more : 0 < length c.parse.new.parser.left = grind (arith, common_steps) in
-    let values = nsec3param_values c.in-Ok.data in
-    let begins = subst (λ p. Begins nsec3param p.left values c.parse.new.parser.left) c.new-parser.ensures c.in-Ok.ensures.ok in
-    (refl, longer nsec3param c.args.octets.now values c.parse.new.parser.left begins more refl)
+pub returns-in_err-data-clause-err : goal.returns-in_err-data-clause-err
+returns-in_err-data-clause-err g c =
+    let p = err_from_is_err_and c.from_residual.result c.from_residual.ensures.1 in
+    rw p.1 (not_fields nsec3param nsec3param_values c.args.octets.now params g.O.Builder.OctetsBuilder.limit _ refl (λ w. w) p.2 c.in_err-data.ensures.err)
 
-pub returns-clause-err : goal.returns-clause-err
-returns-clause-err g c =
-    let begins : Begins nsec3param c.args.octets.now (nsec3param_values c.in-Ok.data) [] = grind (arith, common_steps) in
-    none_copied _ _ c.args.octets.now _ c.params_like.result c.params_like.ensures.err (salt (nsec3param_values c.in-Ok.data) begins)
+pub returns-in_err-salt-clause-err : goal.returns-in_err-salt-clause-err
+returns-in_err-salt-clause-err g c =
+    let p = err_from_is_err_and c.from_residual-in_err-salt.result c.from_residual-in_err-salt.ensures.1 in
+    rw (p.1, p.2)
+    (not_copied _ _ c.args.octets.now _ _ _ c.in_err-salt.ensures.err (grind (arith, common_steps)) (salt (nsec3param_values c.in_ok-data.data) c.in_ok-data.ensures.ok))
