@@ -1,4 +1,5 @@
-//! Octets that an octet counts: salts and hashes of owner names (RFC 5155, sections 3.1.5 and 3.1.7).
+//! Octets that an octet counts: salts and hashes of owner names (RFC 5155, sections 3.1.5 and
+//! 3.1.7).
 ghost use Rattle.std.specs.Prelude.{◌≡◌, ◌≤◌, ◌↔◌, ◌∷◌, ℕ, List, [], Some, length, IsTrue, IsOk, IfOk, IfErr, OnErr, refl, bytes_eq};
 ghost use Rattle.std.specs.Ordering.{nat_cmp};
 ghost use Rattle.std.specs.Cmp.{partial_equiv_from_equiv, po};

@@ -20,9 +20,11 @@ impl<O: FromBuilder + Drop, E: Default + Drop> CountedOctets<O, E> {
         long: &'static str,
     ) -> Result<Self, ScanError>
         ensures ok { IfOk result (λ counted.
-            TakesToken (λ token. Decodes kind token counted) (S.tokens scanner.old) (S.tokens scanner.new)) }
+            TakesToken (λ token. Decodes kind token counted)
+            (S.tokens scanner.old) (S.tokens scanner.new)) }
         ensures err { IfErr result (λ e.
-            RefusesToken (CountedFault kind long.now O.Builder.limit) (S.tokens scanner.old) (S.tokens scanner.new) (scan_fault_of e)) }
+            RefusesToken (CountedFault kind long.now O.Builder.limit)
+            (S.tokens scanner.old) (S.tokens scanner.new) (scan_fault_of e)) }
     {
         let octets = match scanner.convert_token(alloc, kind) {
             Ok(octets) => octets,

@@ -8,7 +8,7 @@ ghost use Rattle.std.specs.Hash as fed;
 ghost use Rattle.domain_base.specs.Fault.{fault_of};
 ghost use Rattle.domain_fields.specs.Layout.{Begins, Fits, FirstFault, GoesOn, octets_of};
 ghost use Rattle.domain_fields.specs.Laws.{fed_alike, tied_octets};
-ghost use Rattle.domain_keys.specs.Data.{rrsig, rrsig_values, rrsig_octets, rrsig_canonical, rrsig_data, proto_rrsig, proto_rrsig_values, proto_rrsig_data, IsSameRrsig};
+ghost use Rattle.domain_keys.specs.Data.{rrsig, rrsig_values, rrsig_octets, rrsig_canonical, rrsig_data, proto_rrsig_data, IsSameRrsig};
 ghost use Rattle.domain_keys.specs.Laws.{copies_tied};
 
 use crate::proto_rrsig::ProtoFields;

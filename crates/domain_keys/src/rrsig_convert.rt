@@ -35,7 +35,8 @@ impl<S: Octets + Drop, N: ToName + Drop, O: CopyOctets + Drop> OctetsFrom<Rrsig<
     for Rrsig<O, Name<O>> {
     ghost is_same = { λ source made. made ≡ source };
 
-    ghost has_no_room = { λ source. IsOver O.capacity (length (wire_of source.fields.signer_name)) ⊎ IsOver O.capacity (length source.signature) };
+    ghost has_no_room = { λ source. IsOver O.capacity (length (wire_of source.fields.signer_name))
+        ⊎ IsOver O.capacity (length source.signature) };
 
     fn try_octets_from(alloc: Global, source: Rrsig<S, N>) -> Result<Self, AppendError> {
         let (fields, signature) = source.into_parts();

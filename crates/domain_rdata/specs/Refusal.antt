@@ -85,10 +85,12 @@ CopyFault limit octets (illegal said) = ⊥
 CopyFault limit octets no_room = IsOver limit (length octets)
 CopyFault limit octets no_memory = IsNone limit
 
--- why not all octets are data, which they begin with, or have a first fault: they have one, or go on after the data
-pub data IsNotWhole {D : Type 0} (begins : List ℕ → D → List ℕ → Type 0) (faults : List ℕ → Fault → Type 0) (octets : List ℕ) : Type 0 where
+-- why octets are not data and nothing else: they have a fault, or go on after the data
+pub data IsNotWhole {D : Type 0} (begins : List ℕ → D → List ℕ → Type 0)
+    (faults : List ℕ → Fault → Type 0) (octets : List ℕ) : Type 0 where
   at_fault : (fault : Fault) → faults octets fault → IsNotWhole begins faults octets
-  goes_on : (d : D) (after : List ℕ) → begins octets d after → 0 < length after → IsNotWhole begins faults octets
+  goes_on : (d : D) (after : List ℕ) → begins octets d after → 0 < length after
+      → IsNotWhole begins faults octets
 
 -- why the octets of a generic form are not turned into data over octets that have this limit: they are no such data, or they are, and a part has no room or no memory;
 -- those of a type that has no text form of its own are not refused, since any octets are its data

@@ -46,7 +46,8 @@ impl<O: Octets + Drop> CloneRecordData for Nsec3<O> {
 impl<S: Octets + Drop, O: CopyOctets + Drop> OctetsFrom<Nsec3<S>> for Nsec3<O> {
     ghost is_same = { λ source made. nsec3_values made ≡ nsec3_values source };
 
-    ghost has_no_room = { λ source. (IsOver O.capacity (length source.salt) ⊎ IsOver O.capacity (length source.next_owner)) ⊎ IsOver O.capacity (length source.types) };
+    ghost has_no_room = { λ source. (IsOver O.capacity (length source.salt)
+        ⊎ IsOver O.capacity (length source.next_owner)) ⊎ IsOver O.capacity (length source.types) };
 
     fn try_octets_from(alloc: Global, source: Nsec3<S>) -> Result<Self, AppendError> {
         let (params, next_owner, types) = source.into_parts();

@@ -45,7 +45,8 @@ impl<S: Octets + Drop, N: Drop, O: CopyOctets + Drop, M: OctetsFrom<N> + Drop> O
 > for Nsec<O, M> {
     ghost is_same = { IsSameNsec M.OctetsFrom.is_same };
 
-    ghost has_no_room = { λ source. M.OctetsFrom.has_no_room source.next_name ⊎ IsOver O.capacity (length source.types) };
+    ghost has_no_room = { λ source. M.OctetsFrom.has_no_room source.next_name
+        ⊎ IsOver O.capacity (length source.types) };
 
     fn try_octets_from(alloc: Global, source: Nsec<S, N>) -> Result<Self, AppendError> {
         let (next_name, types) = source.into_parts();

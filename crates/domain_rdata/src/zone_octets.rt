@@ -6,7 +6,7 @@ ghost use Rattle.domain_plain.specs.Plain.{a, a_values, ns, ns_values, soa, soa_
 ghost use Rattle.domain_keys.specs.Data.{dnskey, dnskey_values, ds, ds_values, rrsig, rrsig_values};
 ghost use Rattle.domain_rdata.specs.NsecWire.{BeginsNsec};
 ghost use Rattle.domain_rdata.specs.Nsec3Wire.{BeginsNsec3};
-ghost use Rattle.domain_rdata.specs.Rdata.{nsec, nsec_values, nsec3, nsec3_values, nsec3param, nsec3param_values};
+ghost use Rattle.domain_rdata.specs.Rdata.{nsec_values, nsec3_values, nsec3param, nsec3param_values};
 ghost use Rattle.domain_rdata.specs.Refusal.{kind_of, plain, key, digest, signature, next_by_name, next_by_hash, params, CopyFault, IsNotWhole, OctetsFault};
 ghost use Rattle.domain_rdata.specs.Text.{AreData};
 
