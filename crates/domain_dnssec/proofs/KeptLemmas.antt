@@ -1,6 +1,6 @@
 -- What a sorted set keeps of the records that were given: which names own records, and of which types.
-use Rattle.std.proofs.Common.{◌≡◌, ℕ, Bool, true, not, ◌&&◌, ◌||◌, List, map, nat_eq, length, refl, sym, ap, ◌∙◌, subst}
-use Rattle.std.specs.Prelude.{filter, Contains, Any, slice_index_or}
+use Rattle.std.proofs.Common.{◌≡◌, ℕ, Bool, true, not, ◌&&◌, ◌||◌, List, nat_eq, refl, sym, ap, ◌∙◌, subst}
+use Rattle.std.specs.Prelude.{filter, Contains}
 use Rattle.std.specs.List.{list_any}
 use Rattle.std.specs.FinMap.{nat_cmp-IsAntisymmetric}
 use Rattle.std.specs.Ordering.{is_eq, ordering_then, nat_cmp}
@@ -16,7 +16,7 @@ use Rattle.domain_rdata.specs.declared.zone_record_data.ZoneRecordData.{ZoneReco
 use Rattle.domain_zone.specs.Names.{Name, Key, key, key_same, key_below, is_at_or_below}
 use Rattle.domain_zone.specs.Types.{ns, dname}
 use Rattle.domain_zone.specs.View.{as_zone_record}
-use Rattle.domain_zone.specs.Zone.{ZoneRecord, has_type, records_of, is_occluded, is_unoccluded, owns}
+use Rattle.domain_zone.specs.Zone.{has_type, records_of, is_occluded, is_unoccluded, owns}
 use Rattle.domain_zone.proofs.NameLemmas.{one_key, same_is_name}
 use Rattle.domain_zone.proofs.OwnerLemmas.{any_filter}
 use Rattle.domain_zone.proofs.SharedLemmas.{either_way}
