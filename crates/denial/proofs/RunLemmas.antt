@@ -4,16 +4,8 @@ use Rattle.std.specs.Io.KnownBytes.{Appends}
 use Rattle.std.proofs.Math.Seq.{take-suc}
 use Rattle.std.proofs.lemmas.Grind.{flat_map-append}
 use Rattle.std.proofs.lemmas.List.{map-append}
-use Rattle.domain_plain.specs.declared.record.Record.{Record}
-use Rattle.domain_rdata.specs.declared.zone_record_data.ZoneRecordData.{ZoneRecordData}
-use Rattle.domain_records.specs.Order.{IsOneClass}
-use Rattle.domain_dnssec.specs.Names.{Name}
-use Rattle.domain_dnssec.specs.Chain.{Link, IsChain, IsFirstFault, usual_config}
-use Rattle.domain_dnssec.specs.ChainView.{zone_of}
-use Rattle.domain_nsec.specs.declared.config.GenerateNsecConfig.{GenerateNsecConfig}
-use Rattle.domain_records.specs.declared.error.SigningError.{SigningError}
+use Rattle.domain_dnssec.specs.Chain.{Link}
 use Rattle.denial.specs.Text.{link_text, listing}
-use Rattle.denial.specs.Run.{Sorts, IsChainOf, IsFaultOf}
 
 appends_more : (a b c : Option (List ℕ)) (t u : List ℕ) → Appends a b t → Appends b c u → Appends a c (t ++ u)
 appends_more None b c t u h k = tt
@@ -40,23 +32,3 @@ one_more see a b c rs i r before now inside is =
     let seen : map see (take (i + 1) rs) ≡ map see (take i rs) ++ see r ∷ [] = ap (map see) more ∙ map-append see (take i rs) (r ∷ []) in
     subst (Appends a c) (sym (ap listing seen ∙ listing_more (map see (take i rs)) (see r)))
     (appends_more a b c (listing (map see (take i rs))) (link_text (see r) ++ codes "\n") before now)
-
-pub chain_of : {O N : Type 0} (octets : O → List ℕ) (labels : N → Name) (given sorted groups : List (Record N (ZoneRecordData O N))) (apex : Name) (config : GenerateNsecConfig) (links : List Link)
-    → Sorts octets labels given sorted → groups ≡ sorted → IsOneClass groups → config ≡ usual_config
-    → IsChain (zone_of labels groups) apex config links → IsChainOf octets labels given apex links
-chain_of octets labels given sorted groups apex config links sorts same one on chain = record {
-  sorted = groups;
-  sorts = subst (Sorts octets labels given) (sym same) sorts;
-  one_class = one;
-  chain = subst (λ b. IsChain (zone_of labels groups) apex b links) on chain;
-}
-
-pub fault_of : {O N : Type 0} (octets : O → List ℕ) (labels : N → Name) (given sorted groups : List (Record N (ZoneRecordData O N))) (apex : Name) (config : GenerateNsecConfig) (error : SigningError)
-    → Sorts octets labels given sorted → groups ≡ sorted → IsOneClass groups → config ≡ usual_config
-    → IsFirstFault (zone_of labels groups) apex config error → IsFaultOf octets labels given apex error
-fault_of octets labels given sorted groups apex config error sorts same one on fault = record {
-  sorted = groups;
-  sorts = subst (Sorts octets labels given) (sym same) sorts;
-  one_class = one;
-  fault = subst (λ b. IsFirstFault (zone_of labels groups) apex b error) on fault;
-}

@@ -4,12 +4,13 @@ ghost use Rattle.std.specs.Str.Lines.{lines, strip_carriage_return};
 ghost use Rattle.std.specs.Io.KnownBytes.{Appends};
 ghost use Rattle.std.specs.IoError.{error_kind};
 ghost use Rattle.domain_base.specs.Text.{NameText, IsNoName};
-ghost use Rattle.domain_dnssec.specs.Chain.{Link};
+ghost use Rattle.domain_dnssec.specs.AnyOrder.{IsChainOf};
+ghost use Rattle.domain_dnssec.specs.Chain.{Link, usual_config};
 ghost use Rattle.domain_dnssec.specs.ChainView.{as_link};
 ghost use Rattle.domain_records.specs.declared.error.SigningError.{SigningError};
 ghost use Rattle.denial.specs.Listing.{Give, IsFirstBad};
 ghost use Rattle.denial.specs.Text.{listing};
-ghost use Rattle.denial.specs.Run.{AsksForChain, AsksForNothing, IsChainOf, HasNoChain, Answers, Refuses};
+ghost use Rattle.denial.specs.Run.{AsksForChain, AsksForNothing, HasNoChain, Answers, Refuses};
 ghost use Rattle.denial.specs.Command.{Asks};
 ghost use Rattle.denial.specs.Fault.{IsAfterInput, IsBeforeOutput, IsReadingFault, IsReadToEnd, TellsUsage};
 ghost use Rattle.denial.specs.declared.fault.DenialFault.TheVariants.{OutOfMemory};
@@ -17,10 +18,9 @@ ghost use Rattle.denial.specs.declared.fault.DenialFault.TheVariants.{OutOfMemor
 use crate::fault::DenialFault;
 use crate::line::{Line, ZoneName, ZoneRr, read_line};
 use domain_base::ScanError;
-use domain_dnssec::{GenerateNsecConfig, Nsec3Hasher, generate_nsecs};
+use domain_dnssec::{ChainError, GenerateNsecConfig, Nsec3Hasher, generate_nsecs_of_records};
 use domain_plain::Record;
 use domain_rdata::Nsec;
-use domain_records::{SigningError, SortedRecords};
 use std::alloc::Global;
 use std::io;
 use std::io::{BufRead, ErrorKind, Write};
@@ -135,18 +135,15 @@ fn nsec_chain(
     apex: &ZoneName,
     records: Vec<ZoneRr>,
 ) -> Result<Vec<Record<ZoneName, Nsec<Vec<u8>, ZoneName>>>, DenialFault>
-    ensures ok { IfOk result (λ nsecs. IsChainOf (λ o. o.items) (λ n. n) records.items apex.now (map (as_link (λ n. n)) nsecs.items)) }
-    ensures err { IfErr result (HasNoChain (λ o. o.items) (λ n. n) records.items apex.now) }
+    ensures ok { IfOk result (λ nsecs. IsChainOf (λ o. o.items) (λ n. n) records.items apex.now
+        usual_config (map (as_link (λ n. n)) nsecs.items)) }
+    ensures err { IfErr result (HasNoChain records.items apex.now) }
 {
-    let records: SortedRecords<ZoneName, _> = SortedRecords::from_vec(records)?;
-    let groups = records.owner_rrs();
-    if !groups.is_one_class() {
-        return Err(DenialFault::MixedClasses);
-    }
-    match generate_nsecs(alloc, apex, groups, &GenerateNsecConfig::new()) {
+    match generate_nsecs_of_records(alloc, apex, records, &GenerateNsecConfig::new()) {
         Ok(nsecs) => Ok(nsecs),
-        Err(SigningError::OutOfMemory) => Err(DenialFault::OutOfMemory),
-        Err(error) => Err(DenialFault::Signing(error)),
+        Err(ChainError::MixedClasses) => Err(DenialFault::MixedClasses),
+        Err(ChainError::Signing(error)) => Err(DenialFault::Signing(error)),
+        Err(ChainError::OutOfMemory) => Err(DenialFault::OutOfMemory),
     }
 }
 

@@ -4,7 +4,7 @@ use Rattle.domain_plain.specs.declared.record.Record.{Record}
 use Rattle.domain_rdata.specs.declared.zone_record_data.ZoneRecordData.{ZoneRecordData}
 use Rattle.domain_zone.specs.Names.{Name}
 use Rattle.domain_nsec.specs.declared.config.GenerateNsecConfig.{GenerateNsecConfig}
-use Rattle.domain_dnssec.specs.AnyOrder.{Sorts, IsSortedChain, IsChainOf, HasNoSortedChain, HasNoChain}
+use Rattle.domain_dnssec.specs.AnyOrder.{Sorts, HasNoSortedChain, HasNoChain}
 use Rattle.domain_dnssec.specs.declared.chain.ChainError.{ChainError}
 use Rattle.domain_dnssec.specs.declared.chain.ChainError.TheVariants.{MixedClasses, Signing, OutOfMemory}
 

@@ -1,6 +1,6 @@
 -- What a sorted set keeps of the records that were given: which names own records, and of which types.
-use Rattle.std.proofs.Common.{◌≡◌, ℕ, Bool, true, not, ◌&&◌, ◌||◌, List, map, nat_eq, length, refl, sym, ap, ◌∙◌, subst}
-use Rattle.std.specs.Prelude.{filter, Contains, Any, slice_index_or}
+use Rattle.std.proofs.Common.{◌≡◌, ◌↔◌, ℕ, Bool, true, not, ◌&&◌, ◌||◌, List, [], ◌∷◌, Some, inl, nat_eq, refl, sym, ap, ◌∙◌, subst}
+use Rattle.std.specs.Prelude.{filter, Contains}
 use Rattle.std.specs.List.{list_any}
 use Rattle.std.specs.FinMap.{nat_cmp-IsAntisymmetric}
 use Rattle.std.specs.Ordering.{is_eq, ordering_then, nat_cmp}
@@ -13,21 +13,29 @@ use Rattle.domain_plain.specs.Record.{record_cmp}
 use Rattle.domain_plain.specs.declared.record.Record.{Record}
 use Rattle.domain_rdata.specs.Zone.{rtype_of, data_cmp}
 use Rattle.domain_rdata.specs.declared.zone_record_data.ZoneRecordData.{ZoneRecordData}
-use Rattle.domain_zone.specs.Names.{Name, Key, key, key_same, key_below, is_at_or_below}
+use Rattle.domain_records.specs.Order.{IsOneClass}
+use Rattle.domain_zone.specs.Names.{Name, Key, key, key_same, key_below, same, is_at_or_below}
+use Rattle.domain_zone.specs.Soa.{is_soa, numbers_of, of_only, soa_of}
 use Rattle.domain_zone.specs.Types.{ns, dname}
 use Rattle.domain_zone.specs.View.{as_zone_record}
-use Rattle.domain_zone.specs.Zone.{ZoneRecord, has_type, records_of, is_occluded, is_unoccluded, owns}
+use Rattle.domain_zone.specs.declared.soa.ApexSoa.{ApexSoa}
+use Rattle.domain_zone.specs.Zone.{ZoneRecord, clashes, has_clash, has_type, records_of, is_occluded, is_unoccluded, owns}
 use Rattle.domain_zone.proofs.NameLemmas.{one_key, same_is_name}
 use Rattle.domain_zone.proofs.OwnerLemmas.{any_filter}
+use Rattle.domain_zone.proofs.PairLemmas.{In}
 use Rattle.domain_zone.proofs.SharedLemmas.{either_way}
 use Rattle.domain_zone.proofs.ZoneLemmas.{any_map}
 use Rattle.domain_nsec.specs.ChainView.{zone_of}
 use Rattle.domain_dnssec.specs.AnyOrder.{Sorts}
+use Rattle.domain_dnssec.proofs.AmongLemmas.{contains_in, in_contains, in_filter, in_filtered, any_two, pair_of_two, all_pairs, in_map, map_in}
 
 then_equal : (x y : Ordering) → ordering_then x y ≡ Equal → (x ≡ Equal) × (y ≡ Equal)
 then_equal Less y e = absurd (cc)
 then_equal Equal y e = (refl, e)
 then_equal Greater y e = absurd (cc)
+
+abbrev alike : {N D : Type 0} → Record N D → Record N D → Type 0
+alike r t = r.class ≡ t.class
 
 module _ {O N : Type 0} (octets : O → List ℕ) (labels : N → Name) where
   -- records that are equal under the canonical order have one owner and one type
@@ -86,3 +94,49 @@ module _ {O N : Type 0} (octets : O → List ℕ) (labels : N → Name) where
 
     pub unoccluded_kept : (d : Bool) (a n : Name) → is_unoccluded d (zone_of labels sorted) a n ≡ is_unoccluded d (zone_of labels given) a n
     unoccluded_kept d a n = λ i. is_at_or_below n a && not (occluded_kept d a n i)
+
+    -- ---- records of the set are records of the list
+
+    record_among : (r : Record N (ZoneRecordData O N)) → In r sorted → In r given
+    record_among r i =
+        let c = in_contains sorted r i in
+        contains_in given r (subst (Contains given) c.2 (s.set.among c.0 r c.1))
+
+    zone_record_among : (z : ZoneRecord) → In z (zone_of labels sorted) → In z (zone_of labels given)
+    zone_record_among z i =
+        let m = map_in (as_zone_record labels) sorted z i in
+        subst (λ y. In y (zone_of labels given)) m.2 (in_map (as_zone_record labels) given m.0 (record_among m.0 m.1))
+
+    pub clash_among : (n : Name) → has_clash (records_of (zone_of labels sorted) n) ≡ true → has_clash (records_of (zone_of labels given) n) ≡ true
+    clash_among n h =
+        any_two clashes (records_of (zone_of labels sorted) n) (records_of (zone_of labels given) n)
+        (λ z i. let f = in_filter (λ r. same r.owner n) (zone_of labels sorted) z i in in_filtered (λ r. same r.owner n) (zone_of labels given) z (zone_record_among z f.0) f.1) h
+
+    pub soa_among : (a : Name) (numbers : ApexSoa) → soa_of (zone_of labels sorted) a ≡ Some numbers
+        → (r : ZoneRecord) × Contains (zone_of labels given) r × (is_soa a r ≡ true) × (numbers_of r r.minimum ≡ Some numbers)
+    soa_among a numbers e = by (filter (is_soa a) (zone_of labels sorted)) refl e
+      where
+        by : (rs : List ZoneRecord) → filter (is_soa a) (zone_of labels sorted) ≡ rs → of_only rs ≡ Some numbers
+            → (r : ZoneRecord) × Contains (zone_of labels given) r × (is_soa a r ≡ true) × (numbers_of r r.minimum ≡ Some numbers)
+        by [] f h = absurd (cc)
+        by (r ∷ []) f h =
+            let i = in_filter (is_soa a) (zone_of labels sorted) r (subst (In r) (sym f) (inl refl)) in
+            (r, in_contains (zone_of labels given) r (zone_record_among r i.0), i.1, h)
+        by (r ∷ t ∷ rs) f h = absurd (cc)
+
+    -- ---- classes
+
+    kept_class : (r : Record N (ZoneRecordData O N)) → In r given → (t : Record N (ZoneRecordData O N)) × In t sorted × (t.class ≡ r.class)
+    kept_class r i =
+        let c = s.set.each r (in_contains given r i) in
+        let first = then_equal (nat_cmp c.1.class r.class) (ordering_then (canonical_cmp (labels c.1.owner) (labels r.owner)) (ordering_then (nat_cmp (rtype_of c.1.«data») (rtype_of r.«data»)) (data_cmp octets labels c.1.«data» r.«data»))) c.4 in
+        (c.1, contains_in sorted c.1 (c.0, c.2, c.3), nat_cmp-IsAntisymmetric c.1.class r.class first.0)
+
+    pub classes_kept : IsOneClass sorted ↔ IsOneClass given
+    classes_kept = (
+      λ h. all_pairs alike (λ r. refl) (λ r t e. sym e) given (λ x y i j.
+          let u = kept_class x i in
+          let v = kept_class y j in
+          sym u.2 ∙ pair_of_two alike (λ r. refl) (λ r t e. sym e) sorted u.0 v.0 h u.1 v.1 ∙ v.2),
+      λ h. all_pairs alike (λ r. refl) (λ r t e. sym e) sorted (λ x y i j. pair_of_two alike (λ r. refl) (λ r t e. sym e) given x y h (record_among x i) (record_among y j)),
+    )

@@ -1,2 +1,3 @@
+pub mod AmongLemmas
 pub mod AnyOrderLemmas
 pub mod KeptLemmas

@@ -16,8 +16,8 @@ use std::alloc::Global;
 ///
 /// # Errors
 ///
-/// The first that stands: `MixedClasses` where the records are not of one class; `Signing` with the first fault of the zone;
-/// and `OutOfMemory`.
+/// The first that stands: `MixedClasses` where the records are not of one class; `Signing` with the
+/// first fault of the zone; and `OutOfMemory`.
 pub fn generate_nsecs_of_sorted<S: Sorter, O, N: MakeName>(
     alloc: Global,
     apex: &N,
@@ -28,9 +28,10 @@ where
     N: Drop,
     O: FromBuilder + Drop,
     O::Builder: GrowingBuilder + EmptyBuilder + Truncate + FreezeBuilder<Frozen = O> + Drop,
-    ensures ok { IfOk result (λ nsecs. IsSortedChain N.labels records.now (N.labels apex.now) config.now
-        (links_of N.labels nsecs.items)) }
-    ensures err { IfErr result (HasNoSortedChain N.labels records.now (N.labels apex.now) config.now) }
+    ensures ok { IfOk result (λ nsecs. IsSortedChain N.labels records.now (N.labels apex.now)
+        config.now (links_of N.labels nsecs.items)) }
+    ensures err { IfErr result
+        (HasNoSortedChain N.labels records.now (N.labels apex.now) config.now) }
 {
     let groups = records.owner_rrs();
     if !groups.is_one_class() {
@@ -43,12 +44,13 @@ where
     }
 }
 
-/// The NSEC chain of the zone that records in any order are: they are sorted, and of equal records the earliest is kept.
+/// The NSEC chain of the zone that records in any order are: they are sorted, and of equal records
+/// the earliest is kept.
 ///
 /// # Errors
 ///
-/// The first that stands: `MixedClasses` where the records are not of one class; `Signing` with the first fault of the zone;
-/// and `OutOfMemory`.
+/// The first that stands: `MixedClasses` where the records are not of one class; `Signing` with the
+/// first fault of the zone; and `OutOfMemory`.
 pub fn generate_nsecs_of_records<O, N: MakeName>(
     alloc: Global,
     apex: &N,
@@ -59,9 +61,10 @@ where
     N: Drop,
     O: FromBuilder + Drop,
     O::Builder: GrowingBuilder + EmptyBuilder + Truncate + FreezeBuilder<Frozen = O> + Drop,
-    ensures ok { IfOk result (λ nsecs. IsChainOf O.octets N.labels records.items (N.labels apex.now) config.now
-        (links_of N.labels nsecs.items)) }
-    ensures err { IfErr result (HasNoChain O.octets N.labels records.items (N.labels apex.now) config.now) }
+    ensures ok { IfOk result (λ nsecs. IsChainOf O.octets N.labels records.items
+        (N.labels apex.now) config.now (links_of N.labels nsecs.items)) }
+    ensures err { IfErr result
+        (HasNoChain O.octets N.labels records.items (N.labels apex.now) config.now) }
 {
     let sorted: SortedRecords<N, ZoneRecordData<O, N>> = match SortedRecords::from_vec(records) {
         Ok(sorted) => sorted,

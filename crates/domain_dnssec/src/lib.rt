@@ -1,8 +1,12 @@
-//! DNSSEC denial of existence: the chains of a zone (RFC 4034, section 4; RFC 4035, section 2.3; RFC 9077), under one name.
+//! DNSSEC denial of existence: the chains of a zone (RFC 4034, section 4; RFC 4035, section 2.3;
+//! RFC 9077), under one name.
 //!
-//! `generate_nsecs` makes the NSEC chain of a zone whose records are handed over in canonical order, as `SortedRecords` keeps
-//! them. What its contract cites stands in `specs/` of `domain_zone` and `domain_nsec`. What signatures here speak of is handed
-//! on: names, types, classes, TTLs, records and their data, sorted records, and the errors.
+//! `generate_nsecs` makes the NSEC chain of a zone whose records are handed over in canonical
+//! order, as `SortedRecords` keeps them; `generate_nsecs_of_sorted` takes these as they are, and
+//! `generate_nsecs_of_records` records in any order. What the contracts cite stands in `specs/` of
+//! `domain_zone`, `domain_nsec` and this crate. What signatures here speak of is handed on: names,
+//! types, classes, TTLs, records and their data, builders of octets, sorted records, and the
+//! errors.
 #![tactic(auto)]
 
 mod any_order;
@@ -12,12 +16,17 @@ pub mod laws;
 pub use any_order::{generate_nsecs_of_records, generate_nsecs_of_sorted};
 pub use chain::ChainError;
 pub use domain_base::{Class, MakeName, Name, Rtype, ToName, Ttl};
-pub use domain_bitmap::RtypeBitmap;
+pub use domain_bitmap::{RtypeBitmap, RtypeBitmapBuilder};
 pub use domain_nsec::{GenerateNsecConfig, generate_nsecs};
-pub use domain_octets::{Octets, OutOfMemory, TryClone};
+pub use domain_octets::{
+    EmptyBuilder, FreezeBuilder, FromBuilder, GrowingBuilder, Octets, OutOfMemory, Truncate,
+    TryClone,
+};
 pub use domain_plain::Record;
 pub use domain_rdata::{Nsec, ZoneRecordData};
 pub use domain_records::{
     DefaultSorter, Nsec3HashError, OwnerRrs, RecordsIter, SigningError, SortedRecords, Sorter,
 };
-pub use domain_zone::{HasherError, Nsec3Hasher};
+pub use domain_zone::{
+    ApexSoa, HasherError, Nsec3Hasher, UnoccludedOwner, UnoccludedOwners, ZoneRr, find_soa,
+};

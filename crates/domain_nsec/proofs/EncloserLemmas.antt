@@ -1,5 +1,5 @@
 -- What the record that covers a name tells of it.
-use Rattle.std.proofs.Common.{ℕ, slice_get, Some, ◌≡◌, ◌≤◌, Bool, true, false, cond, not, ◌&&◌, ◌||◌, List, [], ◌∷◌, length, ltb, refl, sym, ap, ◌∙◌, subst, inl, inr, ◌⊎◌, arith}
+use Rattle.std.proofs.Common.{ℕ, slice_get, Some, ◌≡◌, ◌≤◌, Bool, true, false, cond, not, ◌&&◌, ◌||◌, List, length, ltb, refl, sym, ap, ◌∙◌, subst, inl, inr, ◌⊎◌, arith}
 use Rattle.std.specs.List.{list_any}
 use Rattle.std.proofs.lemmas.Bool.{cases_Bool, false≢true, true≢false, and_parts, and_from, or_cases, not-true, ltb-true, ltb-false}
 use Rattle.domain_zone.specs.Covering.{matches, covers, matches_or_covers}

@@ -1,5 +1,5 @@
 -- Names that are the same are one name to a chain.
-use Rattle.std.proofs.Common.{◌≡◌, ℕ, Bool, true, not, ◌&&◌, ◌||◌, List, ap}
+use Rattle.std.proofs.Common.{◌≡◌, ℕ, Bool, true, not, ◌&&◌, List, ap}
 use Rattle.std.specs.Prelude.{filter}
 use Rattle.domain_zone.specs.Names.{Name, Key, key, key_same, key_below, same}
 use Rattle.domain_zone.specs.Types.{ns}

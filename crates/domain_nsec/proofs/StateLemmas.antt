@@ -1,5 +1,5 @@
 -- The state of the generator, and what each way through its body leaves.
-use Rattle.std.proofs.Common.{◌≡◌, ℕ, ◌<◌, List, [], ◌∷◌, ◌++◌, map, Option, Some, None, Bool, true, false, ◌&&◌, ◌||◌, refl, sym, ap, ◌∙◌, subst, append_assoc}
+use Rattle.std.proofs.Common.{◌≡◌, ℕ, List, [], ◌∷◌, ◌++◌, map, Some, None, true, false, ◌&&◌, ◌||◌, refl, sym, ap, ◌∙◌, subst, append_assoc}
 use Rattle.std.specs.List.{list_any}
 use Rattle.std.proofs.lemmas.List.{map-append}
 use Rattle.std.proofs.lemmas.List.Folds.{list_any-append}
@@ -7,7 +7,7 @@ use Rattle.domain_bitmap.specs.Bitmap.{bitmap_octets}
 use Rattle.domain_zone.specs.Names.{Name, same}
 use Rattle.domain_zone.specs.Owners.{OwnerRecords, owner_at, owners_with_records}
 use Rattle.domain_zone.specs.Soa.{soa_of}
-use Rattle.domain_zone.specs.Zone.{ZoneRecord, has_clash, has_uneven_ttls, unoccluded_owners}
+use Rattle.domain_zone.specs.Zone.{ZoneRecord, has_clash, has_unequal_ttls, unoccluded_owners}
 use Rattle.domain_zone.specs.declared.soa.ApexSoa.{ApexSoa}
 use Rattle.domain_zone.proofs.GivenLemmas.{name_of, clashes_in, next_is_owner, all_given, even_given, uneven_next}
 use Rattle.domain_nsec.specs.Chain.{Link, link_of, is_listed, IsChain}
@@ -53,7 +53,7 @@ module _ (L : List ZoneRecord) (a : Name) (config : GenerateNsecConfig) (numbers
           (closed links links' waiting (map name_of s.given) o.name s.linked e));
     }
 
-    pub at_fault : has_clash o.records ≡ true → has_uneven_ttls L (unoccluded_owners config.occlude_below_dname L a) ≡ true
+    pub at_fault : has_clash o.records ≡ true → has_unequal_ttls L (unoccluded_owners config.occlude_below_dname L a) ≡ true
     at_fault h = uneven_next config.occlude_below_dname L a s.given o left s.all h
 
   -- with nothing left
@@ -63,5 +63,5 @@ module _ (L : List ZoneRecord) (a : Name) (config : GenerateNsecConfig) (numbers
       (subst (λ ks. IsClosed L a config.assume_dnskeys_will_be_added numbers links' ks a) (all_given config.occlude_below_dname L a s.given s.all)
       (closed links links' waiting (map name_of s.given) a s.linked e))
 
-  pub even_end : (links : List Link) (waiting : Waiting) → IsAt L a config numbers [] links waiting → has_uneven_ttls L (unoccluded_owners config.occlude_below_dname L a) ≡ false
+  pub even_end : (links : List Link) (waiting : Waiting) → IsAt L a config numbers [] links waiting → has_unequal_ttls L (unoccluded_owners config.occlude_below_dname L a) ≡ false
   even_end links waiting s = even_given config.occlude_below_dname L a s.given s.all s.even

@@ -1,5 +1,5 @@
 -- The types that NSEC records list.
-use Rattle.std.proofs.Common.{◌≡◌, ℕ, ◌<◌, Bool, true, false, ◌&&◌, ◌||◌, List, [], ◌∷◌, refl, sym, ap, ◌∙◌, nat_eq}
+use Rattle.std.proofs.Common.{◌≡◌, ℕ, ◌<◌, Bool, true, false, ◌&&◌, ◌||◌, List, [], refl, ap, ◌∙◌, nat_eq}
 use Rattle.domain_bitmap.specs.Bitmap.{bitmap_octets}
 use Rattle.domain_bitmap.specs.Builder.{holds}
 use Rattle.domain_bitmap.proofs.BitmapLemmas.{bitmap_octets-same}

@@ -7,7 +7,7 @@ use Rattle.domain_zone.specs.Covering.{pairs}
 use Rattle.domain_zone.specs.Names.{Name, same}
 use Rattle.domain_zone.specs.Soa.{chain_ttl, soa_of}
 use Rattle.domain_zone.specs.Types.{rrsig, nsec, dnskey}
-use Rattle.domain_zone.specs.Zone.{ZoneRecord, unoccluded_owners, is_zone_cut, records_of, lists_type, has_uneven_ttls}
+use Rattle.domain_zone.specs.Zone.{ZoneRecord, unoccluded_owners, is_zone_cut, records_of, lists_type, has_unequal_ttls}
 use Rattle.domain_zone.specs.declared.soa.ApexSoa.{ApexSoa}
 use Rattle.domain_nsec.specs.declared.config.GenerateNsecConfig.{GenerateNsecConfig}
 
@@ -21,10 +21,17 @@ pub record Link : Type 0 where
 
 abbrev pub link_of : Name → Name → ApexSoa → List ℕ → Link
 link_of owner next numbers bits =
-    record { owner = owner; next = next; class = numbers.class; ttl = chain_ttl numbers; bits = bits }
+    record {
+      owner = owner;
+      next = next;
+      class = numbers.class;
+      ttl = chain_ttl numbers;
+      bits = bits;
+    }
 
--- the types that the NSEC record of an owner with these records lists: RRSIG and NSEC, since both will
--- stand there; DNSKEY where it is assumed; and the types of the records, at a zone cut NS and DS alone
+-- the types that the NSEC record of an owner with these records lists: RRSIG and NSEC, since both
+-- will stand there; DNSKEY where it is assumed; and the types of the records, at a zone cut NS and
+-- DS alone
 abbrev pub is_listed : Bool → Bool → List ZoneRecord → ℕ → Bool
 is_listed assumed cut rs t =
     ((t == rrsig) || (t == nsec) || (assumed && (t == dnskey))) || lists_type cut rs t
@@ -32,21 +39,25 @@ is_listed assumed cut rs t =
 abbrev pub has_bit : List ZoneRecord → Name → Bool → Name → ℕ → Bool
 has_bit L a assume n t = is_listed (assume && same n a) (is_zone_cut L a n) (records_of L n) t
 
--- one record for each owner that is not occluded, in canonical order, that points to the next one, the
--- last one to the apex; each with the class of the SOA, the lesser of its MINIMUM and TTL, and the types
--- of its owner
-pub record IsChain (L : List ZoneRecord) (a : Name) (config : GenerateNsecConfig) (links : List Link) : Type 0 where
+-- one record for each owner that is not occluded, in canonical order, that points to the next one,
+-- the last one to the apex; each with the class of the SOA, the lesser of its MINIMUM and TTL, and
+-- the types of its owner
+pub record IsChain (L : List ZoneRecord) (a : Name) (config : GenerateNsecConfig)
+    (links : List Link) : Type 0 where
   pub numbers : ApexSoa
   pub soa : soa_of L a ≡ Some numbers
-  pub names : map (λ k. (k.owner, k.next)) links ≡ pairs (unoccluded_owners config.occlude_below_dname L a) a
+  pub names : map (λ k. (k.owner, k.next)) links
+      ≡ pairs (unoccluded_owners config.occlude_below_dname L a) a
   pub numbered : All (λ k. (k.class ≡ numbers.class) × (k.ttl ≡ chain_ttl numbers)) links
-  pub bits : All (λ k. k.bits ≡ bitmap_octets (has_bit L a config.assume_dnskeys_will_be_added k.owner)) links
+  pub bits : All (λ k. k.bits
+      ≡ bitmap_octets (has_bit L a config.assume_dnskeys_will_be_added k.owner)) links
 
 -- the error is the first fault that stands, or want of memory
 abbrev pub IsFirstFault : List ZoneRecord → Name → GenerateNsecConfig → SigningError → Type 0
 IsFirstFault L a config SoaRecordCouldNotBeDetermined = soa_of L a ≡ None
 IsFirstFault L a config MultipleTtlValues =
-    (soa_of L a ≢ None) × (has_uneven_ttls L (unoccluded_owners config.occlude_below_dname L a) ≡ true)
+    (soa_of L a ≢ None)
+    × (has_unequal_ttls L (unoccluded_owners config.occlude_below_dname L a) ≡ true)
 IsFirstFault L a config EmptyRecordSlice = ⊥
 IsFirstFault L a config (Nsec3HashingError e) = ⊥
 IsFirstFault L a config OutOfMemory = Unit {0}
@@ -54,7 +65,8 @@ IsFirstFault L a config OutOfMemory = Unit {0}
 -- no fault stands
 abbrev pub IsFaultless : List ZoneRecord → Name → GenerateNsecConfig → Type 0
 IsFaultless L a config =
-    (soa_of L a ≢ None) × (has_uneven_ttls L (unoccluded_owners config.occlude_below_dname L a) ≡ false)
+    (soa_of L a ≢ None)
+    × (has_unequal_ttls L (unoccluded_owners config.occlude_below_dname L a) ≡ false)
 
 -- how `GenerateNsecConfig::new` has it: DNSKEY records are assumed, and names below a DNAME stay
 abbrev pub usual_config : GenerateNsecConfig

@@ -8,12 +8,19 @@ use Rattle.domain_zone.specs.View.{as_zone_record}
 use Rattle.domain_zone.specs.Zone.{ZoneRecord}
 use Rattle.domain_nsec.specs.Chain.{Link}
 
-abbrev pub zone_of : {O N : Type 0} → (N → Name) → List (Record N (ZoneRecordData O N)) → List ZoneRecord
+abbrev pub zone_of : {O N : Type 0} → (N → Name) → List (Record N (ZoneRecordData O N))
+    → List ZoneRecord
 zone_of labels = map (as_zone_record labels)
 
 abbrev pub as_link : {O N : Type 0} → (N → Name) → Record N (Nsec O N) → Link
 as_link labels r =
-    record { owner = labels r.owner; next = labels r.«data».next_name; class = r.class; ttl = r.ttl; bits = r.«data».types }
+    record {
+      owner = labels r.owner;
+      next = labels r.«data».next_name;
+      class = r.class;
+      ttl = r.ttl;
+      bits = r.«data».types;
+    }
 
 abbrev pub links_of : {O N : Type 0} → (N → Name) → List (Record N (Nsec O N)) → List Link
 links_of labels = map (as_link labels)

@@ -4,17 +4,21 @@ ghost use Rattle.std.specs.Prelude.{◌≡◌, true, false};
 /// How an NSEC chain is made.
 #[derive(Clone, Copy, Debug, PartialEq, Eq)]
 pub struct GenerateNsecConfig {
-    /// Whether DNSKEY records will be added at the apex once the chain is made, so that its bitmap lists their type already.
+    /// Whether DNSKEY records will be added at the apex once the chain is made, so that its bitmap
+    /// lists their type already.
     pub assume_dnskeys_will_be_added: bool,
-    /// Whether names strictly below a name of the zone that owns a DNAME record are left out, as those below a zone cut are: no
-    /// data may stand there (RFC 6672, section 2.4). An own option.
+    /// Whether names strictly below a name of the zone that owns a DNAME record are left out, as
+    /// those below a zone cut are: no data may stand there (RFC 6672, section 2.4). An own option.
     pub occlude_below_dname: bool,
 }
 
 impl GenerateNsecConfig {
     /// DNSKEY records are assumed, and names below a DNAME stay in the chain.
     pub fn new() -> Self
-        ensures { result ≡ record { assume_dnskeys_will_be_added = true; occlude_below_dname = false } }
+        ensures { result ≡ record {
+          assume_dnskeys_will_be_added = true;
+          occlude_below_dname = false;
+        } }
     {
         GenerateNsecConfig {
             assume_dnskeys_will_be_added: true,
@@ -45,7 +49,10 @@ impl GenerateNsecConfig {
 
 /// DNSKEY records are assumed, and names below a DNAME stay in the chain.
 impl Default for GenerateNsecConfig {
-    ghost is_default = { λ config. config ≡ record { assume_dnskeys_will_be_added = true; occlude_below_dname = false } };
+    ghost is_default = { λ config. config ≡ record {
+      assume_dnskeys_will_be_added = true;
+      occlude_below_dname = false;
+    } };
 
     fn default() -> Self {
         GenerateNsecConfig::new()

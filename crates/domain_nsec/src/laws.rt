@@ -12,16 +12,22 @@ pub fn types_ignore_case()
         → (t : ℕ) → has_bit L a assume x t ≡ has_bit L a assume y t }
 {}
 
-/// What the chain of records in order says of every name follows from the chain alone, however it was made.
+/// What the chain of records in order says of every name follows from the chain alone, however it
+/// was made.
 pub fn chains_mean_the_zone()
-    ensures cycle { (L : List ZoneRecord) (a : Name) (config : GenerateNsecConfig) (links : List Link) → IsInOrder L
-        → IsChain L a config links → IsCycle a links }
-    ensures denial { (L : List ZoneRecord) (a : Name) (config : GenerateNsecConfig) (links : List Link) → IsInOrder L
-        → IsChain L a config links → MirrorsZone L a config links }
-    ensures nonterminals { (L : List ZoneRecord) (a : Name) (config : GenerateNsecConfig) (links : List Link) → IsInOrder L
-        → IsChain L a config links → TellsEmpty L a config links }
-    ensures enclosers { (L : List ZoneRecord) (a : Name) (config : GenerateNsecConfig) (links : List Link) → IsInOrder L
-        → IsChain L a config links → TellsEncloser L a config links }
-    ensures occluded { (L : List ZoneRecord) (a : Name) (config : GenerateNsecConfig) (links : List Link) → IsInOrder L
-        → IsChain L a config links → CoversBelowOccluders L a config links }
+    ensures cycle { (L : List ZoneRecord) (a : Name) (config : GenerateNsecConfig)
+        (links : List Link) → IsInOrder L → IsChain L a config links
+        → IsCycle a links }
+    ensures denial { (L : List ZoneRecord) (a : Name) (config : GenerateNsecConfig)
+        (links : List Link) → IsInOrder L → IsChain L a config links
+        → MirrorsZone L a config links }
+    ensures nonterminals { (L : List ZoneRecord) (a : Name) (config : GenerateNsecConfig)
+        (links : List Link) → IsInOrder L → IsChain L a config links
+        → TellsEmpty L a config links }
+    ensures enclosers { (L : List ZoneRecord) (a : Name) (config : GenerateNsecConfig)
+        (links : List Link) → IsInOrder L → IsChain L a config links
+        → TellsEncloser L a config links }
+    ensures occluded { (L : List ZoneRecord) (a : Name) (config : GenerateNsecConfig)
+        (links : List Link) → IsInOrder L → IsChain L a config links
+        → CoversBelowOccluders L a config links }
 {}

@@ -29,7 +29,8 @@ fn common_types<B: GrowingBuilder + EmptyBuilder>(
 ) -> Result<RtypeBitmapBuilder<B>, OutOfMemory>
 where
     B: Drop,
-    ensures { IfOk result (λ types. (at_cut : Bool) (t : ℕ) → t < 65536 → holds types t ≡ is_listed assumed at_cut [] t) }
+    ensures { IfOk result (λ types. (at_cut : Bool) (t : ℕ) → t < 65536
+        → holds types t ≡ is_listed assumed at_cut [] t) }
 {
     let mut types = RtypeBitmapBuilder::<B>::new(alloc);
     add_type(&mut types, Rtype::RRSIG)?;
@@ -50,7 +51,8 @@ fn types_of<O, N: ToName>(
 where
     O: FromBuilder,
     O::Builder: GrowingBuilder + EmptyBuilder + Truncate + FreezeBuilder<Frozen = O> + Drop,
-    ensures { IfOk result (λ types. types ≡ bitmap_octets (is_listed assumed at_cut (zone_of N.labels records.entry))) }
+    ensures { IfOk result (λ types. types
+        ≡ bitmap_octets (is_listed assumed at_cut (zone_of N.labels records.entry))) }
 {
     let mut types = common_types::<O::Builder>(alloc, assumed)?;
     add_types(&mut types, records, at_cut)?;
@@ -70,35 +72,34 @@ where
     O: Drop,
     N: Drop,
     ensures { OnOk result (map (as_link N.labels) nsecs.new.items
-        ≡ map (as_link N.labels) nsecs.old.items ++ link_of (N.labels owner.now) (N.labels next.now) soa.now types ∷ []) }
+        ≡ map (as_link N.labels) nsecs.old.items
+        ++ link_of (N.labels owner.now) (N.labels next.now) soa.now types ∷ []) }
 {
     let owner = N::make(alloc, owner.as_wire())?;
     let next = N::make(alloc, next.as_wire())?;
-    nsecs.push(Record::new(
-        owner,
-        soa.class,
-        soa.chain_ttl(),
-        Nsec::new(next, types),
-    ))?;
+    nsecs.push(Record::new(owner, soa.class, soa.chain_ttl(), Nsec::new(next, types)))?;
     Ok(())
 }
 
-/// The NSEC chain of a zone (RFC 4034, section 4; RFC 4035, section 2.3): one record for each owner that is at or below the
-/// apex and not strictly below a zone cut, in canonical order. Where the configuration says so, owners strictly below an owner
-/// of a DNAME record, the apex among them, are left out as well (RFC 6672, section 2.4).
+/// The NSEC chain of a zone (RFC 4034, section 4; RFC 4035, section 2.3): one record for each owner
+/// that is at or below the apex and not strictly below a zone cut, in canonical order. Where the
+/// configuration says so, owners strictly below an owner of a DNAME record, the apex among them,
+/// are left out as well (RFC 6672, section 2.4).
 ///
-/// Each record points to the next owner, the last one to the apex. It has the class of the SOA, and the lesser of the SOA's
-/// MINIMUM and TTL as its TTL in seconds (RFC 9077, section 3.2). It lists the types of its owner with RRSIG and NSEC, at a
-/// zone cut only NS and DS of them, and at the apex DNSKEY where the configuration assumes it. Names keep the spelling of
-/// their first record, the last next name that of the argument.
+/// Each record points to the next owner, the last one to the apex. It has the class of the SOA, and
+/// the lesser of the SOA's MINIMUM and TTL as its TTL in seconds (RFC 9077, section 3.2). It lists
+/// the types of its owner with RRSIG and NSEC, at a zone cut only NS and DS of them, and at the
+/// apex DNSKEY where the configuration assumes it. Names keep the spelling of their first record,
+/// the last next name that of the argument.
 ///
-/// The records are those of one class in canonical order; records of owners outside the zone are passed over.
+/// The records are those of one class in canonical order; records of owners outside the zone are
+/// passed over.
 ///
 /// # Errors
 ///
-/// The first that stands: `SoaRecordCouldNotBeDetermined` where the apex does not own exactly one record of type SOA, or its
-/// data is not the `Soa` variant; `MultipleTtlValues` where two records of one owner of the chain and one type other than RRSIG
-/// differ in TTL; and `OutOfMemory`.
+/// The first that stands: `SoaRecordCouldNotBeDetermined` where the apex does not own exactly one
+/// record of type SOA, or its data is not the `Soa` variant; `MultipleTtlValues` where two records
+/// of one owner of the chain and one type other than RRSIG differ in TTL; and `OutOfMemory`.
 pub fn generate_nsecs<O, N: MakeName>(
     alloc: Global,
     apex: &N,
@@ -113,23 +114,26 @@ where
     requires in_order { IsInOrder N.labels rtype_of records }
 
     // Ok is exactly the chain, and comes only where no fault stands.
-    ensures chain { IfOk result (λ nsecs. IsChain (zone_of N.labels records.entry) (N.labels apex.now) config.now
-        (links_of N.labels nsecs.items)) }
-    ensures faultless { OnOk result (IsFaultless (zone_of N.labels records.entry) (N.labels apex.now) config.now) }
-    ensures fault { IfErr result (IsFirstFault (zone_of N.labels records.entry) (N.labels apex.now) config.now) }
+    ensures chain { IfOk result (λ nsecs. IsChain (zone_of N.labels records.entry)
+        (N.labels apex.now) config.now (links_of N.labels nsecs.items)) }
+    ensures faultless { OnOk result
+        (IsFaultless (zone_of N.labels records.entry) (N.labels apex.now) config.now) }
+    ensures fault { IfErr result
+        (IsFirstFault (zone_of N.labels records.entry) (N.labels apex.now) config.now) }
 
     // The chain begins and ends at the apex, and its owners ascend.
-    ensures cycle { IfOk result (λ nsecs. IsCycle (N.labels apex.now) (links_of N.labels nsecs.items)) }
+    ensures cycle { IfOk result (λ nsecs.
+        IsCycle (N.labels apex.now) (links_of N.labels nsecs.items)) }
 
     // What the chain says of every name of the zone.
-    ensures denial { IfOk result (λ nsecs. MirrorsZone (zone_of N.labels records.entry) (N.labels apex.now) config.now
-        (links_of N.labels nsecs.items)) }
-    ensures nonterminals { IfOk result (λ nsecs. TellsEmpty (zone_of N.labels records.entry) (N.labels apex.now) config.now
-        (links_of N.labels nsecs.items)) }
-    ensures enclosers { IfOk result (λ nsecs. TellsEncloser (zone_of N.labels records.entry) (N.labels apex.now) config.now
-        (links_of N.labels nsecs.items)) }
-    ensures occluded { IfOk result (λ nsecs. CoversBelowOccluders (zone_of N.labels records.entry) (N.labels apex.now) config.now
-        (links_of N.labels nsecs.items)) }
+    ensures denial { IfOk result (λ nsecs. MirrorsZone (zone_of N.labels records.entry)
+        (N.labels apex.now) config.now (links_of N.labels nsecs.items)) }
+    ensures nonterminals { IfOk result (λ nsecs. TellsEmpty (zone_of N.labels records.entry)
+        (N.labels apex.now) config.now (links_of N.labels nsecs.items)) }
+    ensures enclosers { IfOk result (λ nsecs. TellsEncloser (zone_of N.labels records.entry)
+        (N.labels apex.now) config.now (links_of N.labels nsecs.items)) }
+    ensures occluded { IfOk result (λ nsecs. CoversBelowOccluders (zone_of N.labels records.entry)
+        (N.labels apex.now) config.now (links_of N.labels nsecs.items)) }
 {
     let Some(soa) = find_soa(apex, records.records()) else {
         return Err(SigningError::SoaRecordCouldNotBeDetermined);

@@ -1,19 +1,17 @@
 -- What is known of the owners that an iterator has given and has left.
-use Rattle.std.proofs.Common.{◌≡◌, ◌≤◌, ℕ, Bool, true, false, cond, ◌||◌, List, [], ◌∷◌, ◌++◌, map, refl, sym, ap, ◌∙◌, subst, inl, inr}
-use Rattle.std.specs.Prelude.{filter}
+use Rattle.std.proofs.Common.{◌≡◌, ◌≤◌, Bool, true, false, cond, ◌||◌, List, [], ◌∷◌, ◌++◌, map, refl, sym, ap, ◌∙◌, subst}
 use Rattle.std.specs.List.{list_any, AllByRecursion}
 use Rattle.std.proofs.lemmas.Bool.{or_right}
 use Rattle.std.proofs.lemmas.List.Folds.{list_any-append}
 use Rattle.domain_base.specs.Laws.{same_name_same}
-use Rattle.domain_base.specs.Name.{IsSame}
 use Rattle.domain_plain.specs.declared.record.Record.{Record}
 use Rattle.domain_rdata.specs.Zone.{rtype_of}
 use Rattle.domain_rdata.specs.declared.zone_record_data.ZoneRecordData.{ZoneRecordData}
 use Rattle.domain_records.specs.Order.{MayFollow, HoldsPairwise, IsInOrder as IsListInOrder}
-use Rattle.domain_zone.specs.Names.{Name, key, same}
+use Rattle.domain_zone.specs.Names.{Name, same}
 use Rattle.domain_zone.specs.Owners.{OwnerRecords, owner_at, owners_with_records}
 use Rattle.domain_zone.specs.View.{as_zone_record}
-use Rattle.domain_zone.specs.Zone.{ZoneRecord, records_of, unoccluded_owners, has_clash, has_uneven_ttls}
+use Rattle.domain_zone.specs.Zone.{ZoneRecord, records_of, unoccluded_owners, has_clash, has_unequal_ttls}
 use Rattle.domain_zone.proofs.NameLemmas.{one_key, same_itself, same_is_name}
 use Rattle.domain_zone.proofs.OwnerLemmas.{filter_passes}
 use Rattle.domain_zone.proofs.TtlLemmas.{NeverDescend}
@@ -47,12 +45,12 @@ module _ (d : Bool) (L : List ZoneRecord) (a : Name) (given : List OwnerRecords)
   pub all_given : given ++ [] ≡ owners_with_records d L a → map name_of given ≡ unoccluded_owners d L a
   all_given e = ap (map name_of) (sym (append_nil given) ∙ e) ∙ names_again L a (unoccluded_owners d L a)
 
-  pub even_given : given ++ [] ≡ owners_with_records d L a → list_any clashes_in given ≡ false → has_uneven_ttls L (unoccluded_owners d L a) ≡ false
+  pub even_given : given ++ [] ≡ owners_with_records d L a → list_any clashes_in given ≡ false → has_unequal_ttls L (unoccluded_owners d L a) ≡ false
   even_given e h =
       sym (any_map clashes_in (owner_at L a) (unoccluded_owners d L a)) ∙ ap (list_any clashes_in) (sym e ∙ append_nil given) ∙ h
 
   -- an owner with unequal TTLs
-  pub uneven_next : (o : OwnerRecords) (left : List OwnerRecords) → given ++ o ∷ left ≡ owners_with_records d L a → has_clash o.records ≡ true → has_uneven_ttls L (unoccluded_owners d L a) ≡ true
+  pub uneven_next : (o : OwnerRecords) (left : List OwnerRecords) → given ++ o ∷ left ≡ owners_with_records d L a → has_clash o.records ≡ true → has_unequal_ttls L (unoccluded_owners d L a) ≡ true
   uneven_next o left e h =
       sym (any_map clashes_in (owner_at L a) (unoccluded_owners d L a)) ∙ ap (list_any clashes_in) (sym e)
       ∙ list_any-append clashes_in given (o ∷ left)
@@ -74,10 +72,10 @@ module _ {O N : Type 0} (labels : N → Name) where
       let more = records_of (map (as_zone_record labels) rs) n in
       elim (same (labels r.owner) n) as (λ b. same (labels r.owner) n ≡ b → NeverDescend (cond b (as_zone_record labels r ∷ records_of (map (as_zone_record labels) rs) n) (records_of (map (as_zone_record labels) rs) n))) [
         | true ↦ λ e. (
-            filter_passes (λ s. same (labels r.owner) s.owner ≡ true → rtype_of r.«data» ≤ s.rtype) (λ s. rtype_of r.«data» ≤ s.rtype) (λ s. same s.owner n)
-                (λ s f q. f (same_itself (labels r.owner) s.owner (one_key (labels r.owner) n e ∙ sym (one_key s.owner n q)))) (map (as_zone_record labels) rs) (follows r rs h.0),
-            types_at rs n h.1,
-          )
+          filter_passes (λ s. same (labels r.owner) s.owner ≡ true → rtype_of r.«data» ≤ s.rtype) (λ s. rtype_of r.«data» ≤ s.rtype) (λ s. same s.owner n)
+              (λ s f q. f (same_itself (labels r.owner) s.owner (one_key (labels r.owner) n e ∙ sym (one_key s.owner n q)))) (map (as_zone_record labels) rs) (follows r rs h.0),
+          types_at rs n h.1,
+        )
         | false ↦ λ e. types_at rs n h.1
       ] refl
 

@@ -1,7 +1,7 @@
 -- What an iterator over the owners that are not occluded has left to give.
 use Rattle.std.proofs.Common.{◌≡◌, Bool, true, false, cond, not, ◌&&◌, ◌||◌, List, [], ◌∷◌, ◌++◌, map, refl, sym, ap, ◌∙◌, subst, inl, inr, Option, Some, None, append_assoc}
 use Rattle.std.specs.Prelude.{if◌then◌else◌}
-use Rattle.std.proofs.lemmas.Bool.{cases_Bool, or_parts, or_cases, not-true}
+use Rattle.std.proofs.lemmas.Bool.{cases_Bool}
 use Rattle.domain_plain.specs.declared.record.Record.{Record}
 use Rattle.domain_rdata.specs.Zone.{rtype_of}
 use Rattle.domain_rdata.specs.declared.zone_record_data.ZoneRecordData.{ZoneRecordData}
@@ -13,7 +13,7 @@ use Rattle.domain_zone.specs.Owners.{OwnerRecords, owner_at, owners_with_records
 use Rattle.domain_zone.specs.Types.{ns, dname}
 use Rattle.domain_zone.specs.View.{as_zone_record}
 use Rattle.domain_zone.specs.Walk.{is_under, is_passed_over, is_cut_group, occluder_from, left_owners}
-use Rattle.domain_zone.specs.Zone.{ZoneRecord, IsInOrder, has_type, records_of, is_zone_cut, occludes}
+use Rattle.domain_zone.specs.Zone.{ZoneRecord, has_type, records_of, is_zone_cut, occludes}
 use Rattle.domain_zone.proofs.GroupLemmas.{front_group, owners_in_order}
 use Rattle.domain_zone.proofs.WalkLemmas.{IsWalked, walk_start, walk_outside, walk_under, walk_onto, walk_end, next_records}
 use Rattle.domain_zone.proofs.ZoneLemmas.{IsFront}

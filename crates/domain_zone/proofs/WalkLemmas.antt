@@ -8,7 +8,7 @@ use Rattle.std.proofs.lemmas.List.Folds.{list_any-append}
 use Rattle.domain_zone.specs.Names.{Name, Key, key, key_same, key_below, key_before, same, before, is_at_or_below, is_strictly_below}
 use Rattle.domain_zone.specs.Types.{ns, dname}
 use Rattle.domain_zone.specs.Walk.{is_under}
-use Rattle.domain_zone.specs.Zone.{ZoneRecord, IsInOrder, records_of, has_type, is_zone_cut, occludes, is_occluded, is_unoccluded, distinct, unoccluded_owners}
+use Rattle.domain_zone.specs.Zone.{ZoneRecord, IsInOrder, records_of, has_type, occludes, is_occluded, is_unoccluded, distinct, unoccluded_owners}
 use Rattle.domain_zone.proofs.PairLemmas.{lt_le}
 use Rattle.domain_zone.proofs.NameLemmas.{before_order, one_key, below_itself, below_trans, below_from, below_between}
 use Rattle.domain_zone.proofs.ZoneLemmas.{weaker, all_both, all_front, any_none, BeginsElsewhere, IsGroup, AreAt, AllBefore, AllAfter, records_at, distinct_more, after_or, not_strictly, strictly_after}

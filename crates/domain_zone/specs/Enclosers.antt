@@ -1,5 +1,6 @@
--- What exists over a list of names, and what names share (RFC 4035, section 5.4; RFC 5155, section 1.3).
-use Rattle.std.specs.Prelude.{ℕ, Bool, true, not, ◌&&◌, List, [], ◌∷◌, ◌≡◌, ◌≤◌, length, nat_lt, if◌then◌else◌}
+-- What exists over a list of names, and what names share (RFC 4035, section 5.4; RFC 5155, section
+-- 1.3).
+use Rattle.std.specs.Prelude.{Bool, true, not, ◌&&◌, List, [], ◌∷◌, ◌≡◌, ◌≤◌, length, nat_lt, if◌then◌else◌}
 use Rattle.std.specs.List.{list_any}
 use Rattle.domain_zone.specs.Names.{Name, same, is_at_or_below, is_strictly_below}
 
@@ -9,19 +10,22 @@ exists_over names a e = is_at_or_below e a && list_any (λ n. is_at_or_below n e
 
 abbrev pub is_empty_nonterminal : List Name → Name → Name → Bool
 is_empty_nonterminal names a x =
-    is_at_or_below x a && not (list_any (λ n. same n x) names) && list_any (λ n. is_strictly_below n x) names
+    is_at_or_below x a && not (list_any (λ n. same n x) names)
+    && list_any (λ n. is_strictly_below n x) names
 
 -- e is the longest name that exists and that x is at or below
 pub record IsClosestEncloser (names : List Name) (a x e : Name) : Type 0 where
   pub found : exists_over names a e ≡ true
   pub above : is_at_or_below x e ≡ true
-  pub longest : (d : Name) → exists_over names a d ≡ true → is_at_or_below x d ≡ true → length d ≤ length e
+  pub longest : (d : Name) → exists_over names a d ≡ true → is_at_or_below x d ≡ true
+      → length d ≤ length e
 
 -- e is the longest name that both are at or below
 pub record IsShared (x y e : Name) : Type 0 where
   pub first : is_at_or_below x e ≡ true
   pub second : is_at_or_below y e ≡ true
-  pub longest : (d : Name) → is_at_or_below x d ≡ true → is_at_or_below y d ≡ true → length d ≤ length e
+  pub longest : (d : Name) → is_at_or_below x d ≡ true → is_at_or_below y d ≡ true
+      → length d ≤ length e
 
 -- the first of x and its ancestors that y is at or below
 abbrev pub shared : Name → Name → Name

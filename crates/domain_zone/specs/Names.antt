@@ -1,5 +1,5 @@
--- Names, their order, and what is below what, as tests.
--- A name is a list of labels, leaf first, without the root. `laws::names_agree` ties the tests to the words of `domain_base`.
+-- Names, their order, and what is below what, as tests. A name is a list of labels, leaf first,
+-- without the root. `laws::names_agree` ties the tests to the words of `domain_base`.
 use Rattle.std.specs.Prelude.{ℕ, Bool, true, false, not, ◌&&◌, List, [], ◌∷◌}
 use Rattle.std.specs.declared.cmp.Ordering.{Ordering}
 use Rattle.std.specs.Ordering.{nat_cmp, is_lt, is_eq}

@@ -7,4 +7,8 @@ use Rattle.domain_zone.specs.declared.owners.UnoccludedOwner.{UnoccludedOwner}
 
 abbrev pub as_owner_records : {O N : Type 0} → (N → Name) → UnoccludedOwner O N → OwnerRecords
 as_owner_records labels o =
-    record { name = labels o.name.now; records = map (as_zone_record labels) o.records; is_zone_cut = o.is_zone_cut }
+    record {
+      name = labels o.name.now;
+      records = map (as_zone_record labels) o.records;
+      is_zone_cut = o.is_zone_cut;
+    }

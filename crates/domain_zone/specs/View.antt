@@ -23,4 +23,10 @@ minimum_of (Unknown d) = None
 
 abbrev pub as_zone_record : {O N : Type 0} → (N → Name) → Record N (ZoneRecordData O N) → ZoneRecord
 as_zone_record labels r =
-    record { owner = labels r.owner; class = r.class; ttl = r.ttl; rtype = rtype_of r.«data»; minimum = minimum_of r.«data» }
+    record {
+      owner = labels r.owner;
+      class = r.class;
+      ttl = r.ttl;
+      rtype = rtype_of r.«data»;
+      minimum = minimum_of r.«data»;
+    }

@@ -1,5 +1,5 @@
--- How the state of an iterator over the owners that are not occluded is seen: as the owners that it has
--- left to give. `UnoccludedOwners::new` says which these are, by the definitions of `Owners`.
+-- How the state of an iterator over the owners that are not occluded is seen: as the owners that it
+-- has left to give. `UnoccludedOwners::new` says which these are, by the definitions of `Owners`.
 use Rattle.std.specs.Prelude.{Bool, false, not, ◌&&◌, ◌||◌, List, [], ◌∷◌, Option, Some, None, if◌then◌else◌}
 use Rattle.domain_zone.specs.Names.{Name, same, is_at_or_below}
 use Rattle.domain_zone.specs.Owners.{OwnerRecords}
@@ -30,4 +30,4 @@ left_owners below_dname a occluder ([] ∷ gs) = left_owners below_dname a occlu
 left_owners below_dname a occluder ((g ∷ rs) ∷ gs) =
     if is_passed_over a occluder g.owner then left_owners below_dname a occluder gs
     else record { name = g.owner; records = g ∷ rs; is_zone_cut = is_cut_group a g.owner (g ∷ rs) }
-        ∷ left_owners below_dname a (occluder_from below_dname a g.owner (g ∷ rs)) gs
+    ∷ left_owners below_dname a (occluder_from below_dname a g.owner (g ∷ rs)) gs

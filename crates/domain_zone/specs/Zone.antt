@@ -32,9 +32,9 @@ has_type rs t = list_any (λ r. r.rtype == t) rs
 abbrev pub is_zone_cut : List ZoneRecord → Name → Name → Bool
 is_zone_cut L a n = is_strictly_below n a && has_type (records_of L n) ns
 
--- occludes the names strictly below it: a zone cut, since those belong to the zone of the child (RFC
--- 4035, section 2.3), and where `below_dname` says so a name of the zone that owns a DNAME record, since
--- no data may stand below it (RFC 6672, section 2.4)
+-- occludes the names strictly below it: a zone cut, since those belong to the zone of the child
+-- (RFC 4035, section 2.3), and where `below_dname` says so a name of the zone that owns a DNAME
+-- record, since no data may stand below it (RFC 6672, section 2.4)
 abbrev pub occludes : Bool → List ZoneRecord → Name → Name → Bool
 occludes below_dname L a n =
     is_zone_cut L a n || (below_dname && is_at_or_below n a && has_type (records_of L n) dname)
@@ -75,5 +75,5 @@ abbrev pub has_clash : List ZoneRecord → Bool
 has_clash rs = list_any (λ r. list_any (clashes r) rs) rs
 
 -- one of these names has records of one type other than RRSIG that differ in TTL
-abbrev pub has_uneven_ttls : List ZoneRecord → List Name → Bool
-has_uneven_ttls L names = list_any (λ n. has_clash (records_of L n)) names
+abbrev pub has_unequal_ttls : List ZoneRecord → List Name → Bool
+has_unequal_ttls L names = list_any (λ n. has_clash (records_of L n)) names

@@ -15,12 +15,12 @@ pub enum HasherError {
 
 /// The digest of owner names (RFC 5155, section 5), which the caller of this crate hands in.
 pub trait Nsec3Hasher {
-    /// What it answers for the octets of a name, the number of an algorithm, a number of iterations and a salt: the octets of a
-    /// hash, or the number of its refusal.
+    /// What it answers for the octets of a name, the number of an algorithm, a number of iterations
+    /// and a salt: the octets of a hash, or the number of its refusal.
     ghost answer: { Self → List ℕ → ℕ → ℕ → List ℕ → Result (List ℕ) ℕ };
 
-    /// The hash of a name, which is given by the octets of its wire form in lower case. But for want of memory the answer depends
-    /// on the hasher and these arguments alone.
+    /// The hash of a name, which is given by the octets of its wire form in lower case. But for
+    /// want of memory the answer depends on the hasher and these arguments alone.
     fn hash(
         &self,
         alloc: Global,
@@ -29,6 +29,8 @@ pub trait Nsec3Hasher {
         iterations: u16,
         salt: &[u8],
     ) -> Result<Vec<u8>, HasherError>
-        ensures ok { IfOk result (λ hash. answer self.now name.now algorithm iterations salt.now ≡ Ok hash.items) }
-        ensures refused { (n : ℕ) → IsErrOf result (HasherError.Refused n) → answer self.now name.now algorithm iterations salt.now ≡ Err n };
+        ensures ok { IfOk result (λ hash.
+            answer self.now name.now algorithm iterations salt.now ≡ Ok hash.items) }
+        ensures refused { (n : ℕ) → IsErrOf result (HasherError.Refused n)
+            → answer self.now name.now algorithm iterations salt.now ≡ Err n };
 }

@@ -1,7 +1,11 @@
-//! What the records of a zone say: its zone cuts, the owners that its chains name, their types, the SOA and unequal TTLs.
+//! What the records of a zone say: its zone cuts, the owners that its chains name, their types, the
+//! SOA and unequal TTLs.
 //!
-//! The definitions stand in `specs/`, each a filter over the whole list of records. The functions here are what the
-//! generators of chains share: tests on names, the SOA of the apex, the test on TTLs, and the types of an owner.
+//! The definitions stand in `specs/`, each a filter over the whole list of records. The code is
+//! what the generators of chains share: tests on names, the SOA of the apex, the test on TTLs, the
+//! types of an owner, the hasher, and `UnoccludedOwners`, the one walk over the records of a zone.
+//! The crates above may rely on this: `UnoccludedOwners` gives exactly the owners that the
+//! definitions say are not occluded, each with its records and whether it is a zone cut.
 #![tactic(auto)]
 
 mod hasher;

@@ -30,7 +30,8 @@ fn has_type<O: Octets, N: ToName>(
 
 /// Whether a name that comes next is out of the zone, or at or below the last name that occludes.
 fn is_passed_over<N: ToName>(apex: &N, occluder: Option<&N>, name: &N) -> bool
-    ensures { result ≡ is_passed_over (N.labels apex.now) (option_map (λ o. N.labels o.now) occluder.entry) (N.labels name.now) }
+    ensures { result ≡ is_passed_over (N.labels apex.now)
+        (option_map (λ o. N.labels o.now) occluder.entry) (N.labels name.now) }
 {
     if !is_at_or_below(name, apex) {
         return true;
@@ -52,8 +53,9 @@ pub struct UnoccludedOwner<'a, O: Octets, N: ToName> {
     pub is_zone_cut: bool,
 }
 
-/// An iterator over the owners at or below an apex that are not occluded, in canonical order. The records of all others are
-/// passed over. Takes no memory; contracts see the list of the owners that are left.
+/// An iterator over the owners at or below an apex that are not occluded, in canonical order. The
+/// records of all others are passed over. Takes no memory; contracts see the list of the owners
+/// that are left.
 #[derive(Drop)]
 pub struct UnoccludedOwners<'a, O: Octets, N: ToName> {
     apex: &'a N,
@@ -73,7 +75,8 @@ impl<'a, O: Octets, N: ToName> Model for UnoccludedOwners<'a, O, N> {
 
     ghost Value = { List OwnerRecords };
 
-    ghost view = { λ s. left_owners s.below_dname (N.labels s.apex.now) (option_map (λ o. N.labels o.now) s.occluder)
+    ghost view = { λ s. left_owners s.below_dname (N.labels s.apex.now)
+        (option_map (λ o. N.labels o.now) s.occluder)
         (map (map (as_zone_record N.labels)) (runs (same_owner N.labels) s.groups)) };
 }
 
@@ -82,15 +85,17 @@ impl<'a, O: Octets, N: ToName> UnoccludedOwners<'a, O, N> {
     ghost use Rattle.domain_records.specs.Order.{IsInOrder};
     ghost use Rattle.domain_zone.specs.Owners.{owners_with_records};
 
-    /// Over the owners of records in order, at or below the apex and not strictly below a zone cut, nor, where `below_dname` says
-    /// so, strictly below a name at or below the apex that owns a DNAME record.
+    /// Over the owners of records in order, at or below the apex and not strictly below a zone cut,
+    /// nor, where `below_dname` says so, strictly below a name at or below the apex that owns a
+    /// DNAME record.
     pub fn new(
         apex: &'a N,
         records: RecordsIter<'a, N, ZoneRecordData<O, N>>,
         below_dname: bool,
     ) -> Self
         requires { IsInOrder N.labels rtype_of records }
-        ensures { result ≡ owners_with_records below_dname (map (as_zone_record N.labels) records.entry) (N.labels apex.now) }
+        ensures { result ≡ owners_with_records below_dname
+            (map (as_zone_record N.labels) records.entry) (N.labels apex.now) }
     {
         UnoccludedOwners {
             apex,

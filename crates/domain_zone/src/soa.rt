@@ -40,8 +40,8 @@ fn is_soa_at<O: Octets, N: ToName>(apex: &N, candidate: &ZoneRr<O, N>) -> bool
     candidate.rtype() == Rtype::SOA && is_same(candidate.owner(), apex)
 }
 
-/// What the SOA record of the apex gives to a chain; None where the apex does not own exactly one record of type SOA, or
-/// the data of that one is not the `Soa` variant. Takes no memory.
+/// What the SOA record of the apex gives to a chain; None where the apex does not own exactly one
+/// record of type SOA, or the data of that one is not the `Soa` variant. Takes no memory.
 pub fn find_soa<O: Octets, N: ToName>(
     apex: &N,
     mut records: SliceRefsOrOwnedIterator<'_, ZoneRr<O, N>>,

@@ -12,14 +12,15 @@ use domain_records::SliceRefsOrOwnedIterator;
 
 /// Whether two records of one type other than RRSIG differ in their TTLs.
 fn clash<O: Octets, N: ToName>(first: &ZoneRr<O, N>, second: &ZoneRr<O, N>) -> bool
-    ensures { result ≡ clashes (as_zone_record N.labels first.now) (as_zone_record N.labels second.now) }
+    ensures { result
+        ≡ clashes (as_zone_record N.labels first.now) (as_zone_record N.labels second.now) }
 {
     let rtype = first.rtype();
     rtype == second.rtype() && rtype != Rtype::RRSIG && first.ttl() != second.ttl()
 }
 
-/// Whether two of these records, whose types never descend, are of one type other than RRSIG and differ in their TTLs (RFC
-/// 2181, section 5.2). Looks at neighbours alone.
+/// Whether two of these records, whose types never descend, are of one type other than RRSIG and
+/// differ in their TTLs (RFC 2181, section 5.2). Looks at neighbours alone.
 pub fn has_unequal_ttls<O: Octets, N: ToName>(
     mut records: SliceRefsOrOwnedIterator<'_, ZoneRr<O, N>>,
 ) -> bool

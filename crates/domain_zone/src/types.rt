@@ -26,13 +26,14 @@ pub fn add_type<B: GrowingBuilder>(
     types: &mut RtypeBitmapBuilder<B>,
     rtype: Rtype,
 ) -> Result<(), OutOfMemory>
-    ensures { OnOk result ((t : ℕ) → t < 65536 → holds types.new t ≡ (t == rtype || holds types.old t)) }
+    ensures { OnOk result ((t : ℕ) → t < 65536
+        → holds types.new t ≡ (t == rtype || holds types.old t)) }
 {
     types.add(rtype).map_err(|_| OutOfMemory)
 }
 
-/// Adds the types of an owner's records that a chain lists: all, and at a zone cut those of NS and DS alone (RFC 4035, section
-/// 2.3).
+/// Adds the types of an owner's records that a chain lists: all, and at a zone cut those of NS and
+/// DS alone (RFC 4035, section 2.3).
 ///
 /// # Errors
 ///
@@ -43,7 +44,8 @@ pub fn add_types<B: GrowingBuilder, O: Octets, N: ToName>(
     at_cut: bool,
 ) -> Result<(), OutOfMemory>
     ensures { OnOk result ((t : ℕ) → t < 65536
-        → holds types.new t ≡ (holds types.old t || lists_type at_cut (map (as_zone_record N.labels) records.entry) t)) }
+        → holds types.new t ≡ (holds types.old t
+        || lists_type at_cut (map (as_zone_record N.labels) records.entry) t)) }
 {
     'records: while let Some(record) = records.next() {
         if may_list(at_cut, record.rtype()) {

@@ -1,7 +1,6 @@
-use Rattle.std.proofs.Common.{◌≡◌, ◌∙◌, ◌∷◌, ◌&&◌, Bool, List, sym, ap, map, subst, false, true, Some, None}
+use Rattle.std.proofs.Common.{◌≡◌, ◌∙◌, ◌&&◌, Bool, sym, ap, map, subst, Some, None}
 use Rattle.std.specs.Option.{option_map}
 use Rattle.domain_bitmap.specs.Bitmap.{bitmap_octets}
-use Rattle.domain_zone.specs.Names.{same}
 use Rattle.domain_zone.specs.Owners.{OwnerRecords, owners_with_records}
 use Rattle.domain_zone.specs.OwnerView.{as_owner_records}
 use Rattle.domain_zone.specs.Soa.{soa_of}

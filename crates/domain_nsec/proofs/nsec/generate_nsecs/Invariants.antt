@@ -1,4 +1,4 @@
-use Rattle.std.proofs.Common.{map, length}
+use Rattle.std.proofs.Common.{length}
 use Rattle.std.specs.Option.{option_map}
 use Rattle.domain_nsec.specs.ChainView.{links_of, zone_of}
 use Rattle.domain_nsec.proofs.StateLemmas.{IsAt}

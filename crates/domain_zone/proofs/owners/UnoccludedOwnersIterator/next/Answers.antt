@@ -1,11 +1,10 @@
-use Rattle.std.proofs.Common.{◌≡◌, Bool, ◌&&◌, ◌||◌, ◌∷◌, List, Option, Some, None, cond, map, length, sym, ap, ◌∙◌, arith}
+use Rattle.std.proofs.Common.{◌≡◌, Bool, ◌&&◌, ◌||◌, ◌∷◌, Option, Some, None, cond, map, length, sym, ap, ◌∙◌, arith}
 use Rattle.std.specs.Option.{option_map}
 use Rattle.domain_records.specs.Groups.{same_owner}
 use Rattle.domain_records.specs.Runs.{runs}
 use Rattle.domain_zone.specs.Names.{Name}
-use Rattle.domain_zone.specs.Owners.{OwnerRecords}
 use Rattle.domain_zone.specs.View.{as_zone_record}
-use Rattle.domain_zone.specs.Walk.{left_owners, is_cut_group, occluder_from}
+use Rattle.domain_zone.specs.Walk.{left_owners}
 use Rattle.domain_zone.specs.Zone.{has_type}
 use Rattle.domain_zone.proofs.GroupLemmas.{cut_test}
 use Rattle.domain_zone.proofs.LeftLemmas.{left_given, left_none, occluder_after}
