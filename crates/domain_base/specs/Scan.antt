@@ -10,6 +10,7 @@ use Rattle.domain_base.specs.declared.error.ScanError.{ScanError}
 use Rattle.domain_base.specs.declared.error.ScanError.TheVariants.{EndOfEntry, Custom, ShortBuf, OutOfMemory}
 use Rattle.domain_base.specs.Name.{wire_of}
 use Rattle.domain_base.specs.Text.{NameText, IsNoName}
+use Rattle.domain_base.specs.Words.{Tokens, Name}
 
 -- why a builder did not take the octets of a token
 abbrev pub scan_error_of : AppendError → ScanError
@@ -30,15 +31,15 @@ scan_fault_of ShortBuf = no_room
 scan_fault_of OutOfMemory = no_memory
 
 -- the first token was taken, and P holds of it
-pub record TakesToken (P : List ℕ → Type 0) (old new : List (List ℕ)) : Type 0 where
+pub record TakesToken (P : List ℕ → Type 0) (old new : Tokens) : Type 0 where
   pub token : List ℕ
   pub first : old ≡ token ∷ new
   pub holds : P token
 
 -- there was no token, or the first was taken and refused for this reason
-pub data RefusesToken (Why : ScanFault → List ℕ → Type 0) : List (List ℕ) → List (List ℕ) → ScanFault → Type 0 where
+pub data RefusesToken (Why : ScanFault → List ℕ → Type 0) : Tokens → Tokens → ScanFault → Type 0 where
   ended : RefusesToken Why [] [] entry_ends
-  refused : (token : List ℕ) (left : List (List ℕ)) (fault : ScanFault) → Why fault token → RefusesToken Why (token ∷ left) left fault
+  refused : (token : List ℕ) (left : Tokens) (fault : ScanFault) → Why fault token → RefusesToken Why (token ∷ left) left fault
 
 -- one or more decimal digits for this number, of so many bits
 pub record IsNumber (bits : ℕ) (text : List ℕ) (n : ℕ) : Type 0 where
@@ -55,12 +56,12 @@ pub record IsNoNumber (bits : ℕ) (fault : ScanFault) (text : List ℕ) : Type 
 abbrev pub NameFault : Option ℕ → ScanFault → List ℕ → Type 0
 NameFault limit entry_ends text = ⊥
 NameFault limit (illegal said) text = (said ≡ codes "illegal name") × IsNoName text
-NameFault limit no_room text = (labels : List (List ℕ)) × NameText text labels × IsOver limit (length (wire_of labels))
-NameFault limit no_memory text = ((labels : List (List ℕ)) × NameText text labels) × IsNone limit
+NameFault limit no_room text = (labels : Name) × NameText text labels × IsOver limit (length (wire_of labels))
+NameFault limit no_memory text = ((labels : Name) × NameText text labels) × IsNone limit
 
 -- an end of the tokens
-pub record IsEnd (new old : List (List ℕ)) : Type 0 where
-  pub front : List (List ℕ)
+pub record IsEnd (new old : Tokens) : Type 0 where
+  pub front : Tokens
   pub joined : old ≡ front ++ new
 
 -- why a text is not decoded into octets that have this limit
@@ -69,3 +70,11 @@ CodecFault codec limit entry_ends text = ⊥
 CodecFault codec limit (illegal said) text = (said ≡ codes "illegal data") × ((octets : List ℕ) → Decodes codec text octets → ⊥)
 CodecFault codec limit no_room text = (octets : List ℕ) × Decodes codec text octets × IsOver limit (length octets)
 CodecFault codec limit no_memory text = Unit {0}
+
+-- tokens begin with a text of a value, and others are left
+abbrev pub Grammar : Type 0 → Type 1
+Grammar V = Tokens → V → Tokens → Type 0
+
+-- tokens are refused for a reason, and others are left
+abbrev pub Refusal : Type 1
+Refusal = Tokens → Tokens → ScanFault → Type 0

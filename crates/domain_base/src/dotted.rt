@@ -14,10 +14,10 @@ pub struct DottedName<'a> {
 }
 
 impl<'a> Model for DottedName<'a> {
-    ghost use Rattle.std.specs.Prelude.{ℕ, List};
+    ghost use Rattle.domain_base.specs.Words.{Name};
     ghost use Rattle.domain_base.specs.Wire.{labels_of, IsWire};
 
-    ghost Value = { List (List ℕ) };
+    ghost Value = { Name };
 
     ghost view = { λ n. labels_of n.wire.now };
 

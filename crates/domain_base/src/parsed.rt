@@ -18,10 +18,10 @@ pub struct ParsedName<'a> {
 }
 
 impl<'a> Model for ParsedName<'a> {
-    ghost use Rattle.std.specs.Prelude.{ℕ, List};
+    ghost use Rattle.domain_base.specs.Words.{Name};
     ghost use Rattle.domain_base.specs.Wire.{labels_of, IsWire};
 
-    ghost Value = { List (List ℕ) };
+    ghost Value = { Name };
 
     ghost view = { λ n. labels_of n.wire.now };
 

@@ -5,6 +5,7 @@ ghost use Rattle.domain_base.specs.Scan.{ScanFault, scan_fault_of, TakesToken, R
 ghost use Rattle.domain_octets.specs.Codec.{Decodes};
 ghost use Rattle.std.specs.List.{concat};
 ghost use Rattle.domain_base.specs.Text.{NameText};
+ghost use Rattle.domain_base.specs.Words.{Tokens};
 
 use crate::{Name, ScanError, ToName};
 use domain_octets::{Codec, DecodeError, EmptyBuilder, FromBuilder, OutOfMemory};
@@ -20,11 +21,11 @@ pub trait Scanner {
     type Name: ToName;
 
     /// The tokens that are left, each as its characters' octets.
-    ghost tokens: { Self → List (List ℕ) };
+    ghost tokens: { Self → Tokens };
 
     /// The next token, which stays where it is.
     fn first_token(&self) -> Option<&str>
-        ensures { MatchOption result (tokens self.now ≡ []) (λ t. (rest : List (List ℕ)) × (tokens self.now ≡ t.now ∷ rest)) };
+        ensures { MatchOption result (tokens self.now ≡ []) (λ t. (rest : Tokens) × (tokens self.now ≡ t.now ∷ rest)) };
 
     /// Goes past the next token, if there is one.
     fn skip_token(&mut self)
@@ -38,7 +39,7 @@ pub trait Scanner {
         F: Drop,
         requires { F.IsAlwaysCallable f }
         ensures none { tokens self.old ≡ [] → (result ≡ Err ScanError.EndOfEntry) × (tokens self.new ≡ []) }
-        ensures some { (token : List ℕ) (rest : List (List ℕ)) → tokens self.old ≡ token ∷ rest → IsOkAnd result (FnOnceReturnsAt F.FnOnce f token) × (tokens self.new ≡ rest) }
+        ensures some { (token : List ℕ) (rest : Tokens) → tokens self.old ≡ token ∷ rest → IsOkAnd result (FnOnceReturnsAt F.FnOnce f token) × (tokens self.new ≡ rest) }
     {
         let Some(token) = self.first_token() else {
             return Err(ScanError::EndOfEntry);
@@ -98,9 +99,10 @@ pub struct IterScanner<'a, O> {
 }
 
 impl<'a, O> Model for IterScanner<'a, O> {
-    ghost use Rattle.std.specs.Prelude.{ℕ, List, map};
+    ghost use Rattle.std.specs.Prelude.{map};
+    ghost use Rattle.domain_base.specs.Words.{Tokens};
 
-    ghost Value = { List (List ℕ) };
+    ghost Value = { Tokens };
 
     ghost view = { λ s. map (λ token. token.now) s.left.now };
 }

@@ -4,11 +4,12 @@ use Rattle.std.specs.List.{range_with_len, list_any}
 use Rattle.domain_octets.specs.Limit.{IsOver}
 use Rattle.domain_base.specs.Scan.{ScanFault, no_room, no_memory}
 use Rattle.domain_base.specs.Numbers.{TypeText, IsNoType}
+use Rattle.domain_base.specs.Words.{Tokens}
 
 -- the tokens spell these types, one each
-pub data TypeTexts : List (List ℕ) → List ℕ → Type 0 where
+pub data TypeTexts : Tokens → List ℕ → Type 0 where
   no_types : TypeTexts [] []
-  one_more : (token : List ℕ) (tokens : List (List ℕ)) (t : ℕ) (types : List ℕ) → TypeText token t → TypeTexts tokens types → TypeTexts (token ∷ tokens) (t ∷ types)
+  one_more : (token : List ℕ) (tokens : Tokens) (t : ℕ) (types : List ℕ) → TypeText token t → TypeTexts tokens types → TypeTexts (token ∷ tokens) (t ∷ types)
 
 -- whether a type is one of those
 unfoldable pub is_among : List ℕ → ℕ → Bool
@@ -29,8 +30,8 @@ pub data TypeFault (limit : Option ℕ) (types : List ℕ) : ScanFault → List 
   without_memory : (token : List ℕ) (t : ℕ) → TypeText token t → IsNone limit → TypeFault limit types no_memory token
 
 -- of the tokens some were taken, and the next was refused
-pub record RefusesTypes (limit : Option ℕ) (old new : List (List ℕ)) (fault : ScanFault) : Type 0 where
-  pub taken : List (List ℕ)
+pub record RefusesTypes (limit : Option ℕ) (old new : Tokens) (fault : ScanFault) : Type 0 where
+  pub taken : Tokens
   pub types : List ℕ
   pub token : List ℕ
   pub parts : old ≡ taken ++ token ∷ new

@@ -3,6 +3,7 @@ use Rattle.std.specs.Prelude.{◌≡◌, ℕ, ◌<◌, ◌≤◌, ◌^◌, List,
 use Rattle.std.specs.Int.{w16, w32, to_be_bytes}
 use Rattle.domain_base.specs.Name.{wire_of, lowered, IsName}
 use Rattle.domain_base.specs.Fault.{Fault, ends_early, malformed, NameFault}
+use Rattle.domain_base.specs.Words.{Name}
 
 -- octet, short, long: numbers of 8, 16 and 32 bits
 -- name, spelled_name: a name, which the canonical form lowers, or keeps as it is spelled (RFC 4034, section 6.2; RFC 6840, section 5.1)
@@ -25,8 +26,8 @@ abbrev pub Value : Field → Type 0
 Value octet = ℕ
 Value short = ℕ
 Value long = ℕ
-Value name = List (List ℕ)
-Value spelled_name = List (List ℕ)
+Value name = Name
+Value spelled_name = Name
 Value counted = List ℕ
 Value (exactly count) = List ℕ
 Value (at_most limit) = Unit {0}

@@ -5,6 +5,7 @@ use Rattle.domain_base.specs.Text.{NameText}
 use Rattle.domain_base.specs.Scan.{ScanFault, illegal, TakesToken, RefusesToken, IsNumber, IsNoNumber, NameFault}
 use Rattle.domain_fields.specs.Field.{Field, octet, short, long, name, spelled_name, counted, exactly, at_most, rest, Value}
 use Rattle.domain_fields.specs.Layout.{Layout, one, ◌▸◌, Values}
+use Rattle.domain_base.specs.Words.{Tokens}
 
 -- the text of a value; kinds of fields that are not read as one token have none
 abbrev pub FieldText : (f : Field) → List ℕ → Value f → Type 0
@@ -36,13 +37,13 @@ FieldRefused limit (at_most n) = λ fault text. ⊥
 FieldRefused limit rest = λ fault text. ⊥
 
 -- the tokens begin with the values of a layout, and these are left
-abbrev pub Scans : (l : Layout) → List (List ℕ) → Values l → List (List ℕ) → Type 0
+abbrev pub Scans : (l : Layout) → Tokens → Values l → Tokens → Type 0
 Scans (one f) old v new = TakesToken (λ text. FieldText f text v) old new
-Scans (a ▸ b) old v new = (between : List (List ℕ)) × Scans a old v.0 between × Scans b between v.1 new
+Scans (a ▸ b) old v new = (between : Tokens) × Scans a old v.0 between × Scans b between v.1 new
 
 -- the first field that is refused, and the tokens that are left then
-abbrev pub Refuses : Option ℕ → Layout → List (List ℕ) → List (List ℕ) → ScanFault → Type 0
+abbrev pub Refuses : Option ℕ → Layout → Tokens → Tokens → ScanFault → Type 0
 Refuses limit (one f) old new fault = RefusesToken (FieldRefused limit f) old new fault
 Refuses limit (a ▸ b) old new fault =
     Refuses limit a old new fault
-    ⊎ ((v : Values a) × (between : List (List ℕ)) × Scans a old v between × Refuses limit b between new fault)
+    ⊎ ((v : Values a) × (between : Tokens) × Scans a old v between × Refuses limit b between new fault)

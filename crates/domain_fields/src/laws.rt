@@ -5,6 +5,7 @@ ghost use Rattle.domain_base.specs.Fault.{Fault};
 ghost use Rattle.domain_base.specs.Scan.{ScanFault, no_memory};
 ghost use Rattle.domain_fields.specs.Scan.{Scans, Refuses};
 ghost use Rattle.domain_fields.specs.Layout.{Layout, ◌▸◌, Values, Begins, FirstFault, Fits, Ends, ParsesBack, splits, is_delimited, canonical_order};
+ghost use Rattle.domain_base.specs.Words.{Tokens};
 
 /// Octets begin with data of given fields in one way at most, and in none where they have a fault.
 pub fn reading_is_exact()
@@ -31,11 +32,11 @@ pub fn fields_decide_in_order()
 /// Tokens begin with the values of a list of fields in one way at most: the values and the tokens that are left are determined
 /// (RFC 1035, section 5.1).
 pub fn tokens_spell_values_once()
-    ensures values { (l : Layout) (old m n : List (List ℕ)) (v w : Values l) → Scans l old v m → Scans l old w n → v ≡ w }
-    ensures left { (l : Layout) (old m n : List (List ℕ)) (v w : Values l) → Scans l old v m → Scans l old w n → m ≡ n }
+    ensures values { (l : Layout) (old m n : Tokens) (v w : Values l) → Scans l old v m → Scans l old w n → v ≡ w }
+    ensures left { (l : Layout) (old m n : Tokens) (v w : Values l) → Scans l old v m → Scans l old w n → m ≡ n }
 {}
 
 /// Tokens that are refused as a list of fields, but for want of memory or room, begin with no values of it.
 pub fn refused_tokens_spell_nothing()
-    ensures { (l : Layout) (old new after : List (List ℕ)) (v : Values l) (fault : ScanFault) → Refuses None l old new fault → Scans l old v after → fault ≢ no_memory → ⊥ }
+    ensures { (l : Layout) (old new after : Tokens) (v : Values l) (fault : ScanFault) → Refuses None l old new fault → Scans l old v after → fault ≢ no_memory → ⊥ }
 {}

@@ -3,6 +3,7 @@ use Rattle.std.specs.Prelude.{◌≡◌, ℕ, List}
 use Rattle.domain_base.specs.Name.{IsSame}
 use Rattle.domain_fields.specs.Field.{octet, short, long, name, at_most, rest}
 use Rattle.domain_fields.specs.Layout.{Layout, one, ◌▸◌, Values, octets_of, canonical_of}
+use Rattle.domain_base.specs.Words.{Name}
 
 -- a number of 16 bits, two of 8 bits, and octets, where the data have at most 65,535
 abbrev pub numbers_and_octets : Layout
@@ -59,9 +60,9 @@ pub record ProtoRrsigData : Type 0 where
   pub expiration : ℕ
   pub inception : ℕ
   pub key_tag : ℕ
-  pub signer_name : List (List ℕ)
+  pub signer_name : Name
 
-abbrev pub proto_rrsig_data : ℕ → ℕ → ℕ → ℕ → ℕ → ℕ → ℕ → List (List ℕ) → ProtoRrsigData
+abbrev pub proto_rrsig_data : ℕ → ℕ → ℕ → ℕ → ℕ → ℕ → ℕ → Name → ProtoRrsigData
 proto_rrsig_data type_covered algorithm labels original_ttl expiration inception key_tag signer_name = record {
   type_covered = type_covered;
   algorithm = algorithm;
@@ -111,7 +112,7 @@ abbrev pub rrsig_numbers_values : ProtoRrsigData → Values rrsig_numbers
 rrsig_numbers_values d = ((d.type_covered, (d.algorithm, d.labels)), ((d.original_ttl, (d.expiration, d.inception)), d.key_tag))
 
 -- the fields with these numbers and this name
-abbrev pub of_numbers : Values rrsig_numbers → List (List ℕ) → ProtoRrsigData
+abbrev pub of_numbers : Values rrsig_numbers → Name → ProtoRrsigData
 of_numbers numbers signer_name =
     proto_rrsig_data numbers.0.0 numbers.0.1.0 numbers.0.1.1 numbers.1.0.0 numbers.1.0.1.0 numbers.1.0.1.1 numbers.1.1 signer_name
 

@@ -7,6 +7,7 @@ use Rattle.domain_octets.specs.Piece.{PieceText, token, comment, opens, closes}
 use Rattle.domain_base.specs.Numbers.{type_text}
 use Rattle.domain_base.specs.Text.{name_text}
 use Rattle.domain_keys.specs.Data.{ProtoRrsigData, RrsigData}
+use Rattle.domain_base.specs.Words.{Name}
 
 -- the numbers up to the TTL, with single spaces
 unfoldable pub signed_numbers_text : ProtoRrsigData → List ℕ
@@ -17,7 +18,7 @@ unfoldable pub signed_times_text : ProtoRrsigData → List ℕ
 signed_times_text d = decimal d.expiration ++ codes " " ++ decimal d.inception ++ codes " " ++ decimal d.key_tag
 
 -- a name with its last dot
-abbrev pub dotted : List (List ℕ) → List ℕ
+abbrev pub dotted : Name → List ℕ
 dotted labels = name_text labels ++ codes "."
 
 -- all fields with single spaces

@@ -4,7 +4,7 @@ use Rattle.std.specs.List.{concat}
 use Rattle.domain_octets.specs.Codec.{Decodes}
 use Rattle.domain_octets.specs.declared.codec.Codec.{Codec}
 use Rattle.domain_octets.specs.declared.codec.Codec.TheVariants.{Base16, Base64}
-use Rattle.domain_base.specs.Scan.{ScanFault, illegal, TakesToken, RefusesToken, CodecFault, IsEnd}
+use Rattle.domain_base.specs.Scan.{Refusal, Grammar, ScanFault, illegal, TakesToken, RefusesToken, CodecFault, IsEnd}
 use Rattle.domain_base.specs.Name.{wire_of}
 use Rattle.domain_base.specs.Numbers.{TypeText, IsNoType}
 use Rattle.domain_fields.specs.Field.{octet, short, long, name}
@@ -12,36 +12,37 @@ use Rattle.domain_fields.specs.Layout.{Layout, one, ◌▸◌}
 use Rattle.domain_fields.specs.Scan.{Scans, Refuses}
 use Rattle.domain_keys.specs.Time.{TimeToken, IsNoTime}
 use Rattle.domain_keys.specs.Data.{DnskeyData, DsData, RrsigData, rrsig_octets}
+use Rattle.domain_base.specs.Words.{Tokens, Name}
 
 -- the tokens begin with one that spells the value, and the others are left
-abbrev pub OneToken : {V : Type 0} → (List ℕ → V → Type 0) → List (List ℕ) → V → List (List ℕ) → Type 0
+abbrev pub OneToken : {V : Type 0} → (List ℕ → V → Type 0) → Tokens → V → Tokens → Type 0
 OneToken spells old v new = TakesToken (λ text. spells text v) old new
 
 -- one grammar after another
-abbrev pub Both : {V W : Type 0} → (List (List ℕ) → V → List (List ℕ) → Type 0) → (List (List ℕ) → W → List (List ℕ) → Type 0) → List (List ℕ) → V × W → List (List ℕ) → Type 0
-Both A B old v new = (between : List (List ℕ)) × A old v.0 between × B between v.1 new
+abbrev pub Both : {V W : Type 0} → Grammar V → Grammar W → Tokens → V × W → Tokens → Type 0
+Both A B old v new = (between : Tokens) × A old v.0 between × B between v.1 new
 
 -- the first is refused, or it is read and the second refused
-abbrev pub RefusesBoth : {V : Type 0} → (List (List ℕ) → V → List (List ℕ) → Type 0) → (List (List ℕ) → List (List ℕ) → ScanFault → Type 0) → (List (List ℕ) → List (List ℕ) → ScanFault → Type 0)
-    → List (List ℕ) → List (List ℕ) → ScanFault → Type 0
-RefusesBoth {V} A RA RB old new fault = RA old new fault ⊎ ((v : V) × (between : List (List ℕ)) × A old v between × RB between new fault)
+abbrev pub RefusesBoth : {V : Type 0} → Grammar V → Refusal → Refusal
+    → Tokens → Tokens → ScanFault → Type 0
+RefusesBoth {V} A RA RB old new fault = RA old new fault ⊎ ((v : V) × (between : Tokens) × A old v between × RB between new fault)
 
 -- the tokens spell these fields, in a grammar, and then these octets
-pub record Spells {V : Type 0} (G : List (List ℕ) → V → List (List ℕ) → Type 0) (codec : Codec) (tokens : List (List ℕ)) (v : V) (octets : List ℕ) : Type 0 where
-  pub entry : List (List ℕ)
+pub record Spells {V : Type 0} (G : Grammar V) (codec : Codec) (tokens : Tokens) (v : V) (octets : List ℕ) : Type 0 where
+  pub entry : Tokens
   pub fields : G tokens v entry
   pub decoded : Decodes codec (concat entry) octets
 
 -- the fields were read, but not the octets, for which the builder has this limit
-pub record RefusesEntry {V : Type 0} (G : List (List ℕ) → V → List (List ℕ) → Type 0) (limit : Option ℕ) (codec : Codec) (old new : List (List ℕ)) (fault : ScanFault) : Type 0 where
+pub record RefusesEntry {V : Type 0} (G : Grammar V) (limit : Option ℕ) (codec : Codec) (old new : Tokens) (fault : ScanFault) : Type 0 where
   pub value : V
-  pub entry : List (List ℕ)
+  pub entry : Tokens
   pub fields : G old value entry
   pub end_of : IsEnd new entry
   pub why : CodecFault codec limit fault (concat entry)
 
 -- fields and octets were read, but there are too many octets after these fields
-pub record IsTooLong {V : Type 0} (G : List (List ℕ) → V → List (List ℕ) → Type 0) (TooMany : V → List ℕ → Type 0) (codec : Codec) (old new : List (List ℕ)) (fault : ScanFault) : Type 0 where
+pub record IsTooLong {V : Type 0} (G : Grammar V) (TooMany : V → List ℕ → Type 0) (codec : Codec) (old new : Tokens) (fault : ScanFault) : Type 0 where
   pub value : V
   pub octets : List ℕ
   pub spelled : Spells G codec old value octets
@@ -50,8 +51,8 @@ pub record IsTooLong {V : Type 0} (G : List (List ℕ) → V → List (List ℕ)
   pub said : fault ≡ illegal (codes "record data too long")
 
 -- the first field that is refused, and the tokens that are left then
-pub data RefusesData {V : Type 0} (G : List (List ℕ) → V → List (List ℕ) → Type 0) (R : List (List ℕ) → List (List ℕ) → ScanFault → Type 0) (limit : Option ℕ) (TooMany : V → List ℕ → Type 0) (codec : Codec)
-    (old new : List (List ℕ)) (fault : ScanFault) : Type 0 where
+pub data RefusesData {V : Type 0} (G : Grammar V) (R : Refusal) (limit : Option ℕ) (TooMany : V → List ℕ → Type 0) (codec : Codec)
+    (old new : Tokens) (fault : ScanFault) : Type 0 where
   in_field : R old new fault → RefusesData G R limit TooMany codec old new fault
   in_entry : RefusesEntry G limit codec old new fault → RefusesData G R limit TooMany codec old new fault
   too_long : IsTooLong G TooMany codec old new fault → RefusesData G R limit TooMany codec old new fault
@@ -61,48 +62,48 @@ abbrev pub three_numbers : Layout
 three_numbers = one short ▸ one octet ▸ one octet
 
 -- flags, protocol, algorithm, and the key in Base 64
-pub record DnskeyText (tokens : List (List ℕ)) (d : DnskeyData) : Type 0 where
+pub record DnskeyText (tokens : Tokens) (d : DnskeyData) : Type 0 where
   pub spelled : Spells (Scans three_numbers) Base64 tokens (d.flags, (d.protocol, d.algorithm)) d.public_key
   pub fits : length d.public_key ≤ 65531
 
-abbrev pub RefusesDnskey : Option ℕ → List (List ℕ) → List (List ℕ) → ScanFault → Type 0
+abbrev pub RefusesDnskey : Option ℕ → Tokens → Tokens → ScanFault → Type 0
 RefusesDnskey limit = RefusesData (Scans three_numbers) (Refuses limit three_numbers) limit (λ fields octets. 65531 < length octets) Base64
 
 -- key tag, algorithm, type of the digest, and the digest in Base 16
-pub record DsText (tokens : List (List ℕ)) (d : DsData) : Type 0 where
+pub record DsText (tokens : Tokens) (d : DsData) : Type 0 where
   pub spelled : Spells (Scans three_numbers) Base16 tokens (d.key_tag, (d.algorithm, d.digest_type)) d.digest
   pub fits : length d.digest ≤ 65531
 
-abbrev pub RefusesDs : Option ℕ → List (List ℕ) → List (List ℕ) → ScanFault → Type 0
+abbrev pub RefusesDs : Option ℕ → Tokens → Tokens → ScanFault → Type 0
 RefusesDs limit = RefusesData (Scans three_numbers) (Refuses limit three_numbers) limit (λ fields octets. 65531 < length octets) Base16
 
 -- the type covered, algorithm, labels and the TTL
-abbrev pub numbers_text : List (List ℕ) → ℕ × (ℕ × (ℕ × ℕ)) → List (List ℕ) → Type 0
+abbrev pub numbers_text : Tokens → ℕ × (ℕ × (ℕ × ℕ)) → Tokens → Type 0
 numbers_text = Both (OneToken TypeText) (Scans (one octet ▸ one octet ▸ one long))
 
-abbrev pub RefusesNumbers : Option ℕ → List (List ℕ) → List (List ℕ) → ScanFault → Type 0
+abbrev pub RefusesNumbers : Option ℕ → Tokens → Tokens → ScanFault → Type 0
 RefusesNumbers limit = RefusesBoth (OneToken TypeText) (RefusesToken IsNoType) (Refuses limit (one octet ▸ one octet ▸ one long))
 
 -- expiration and inception
-abbrev pub times_text : List (List ℕ) → ℕ × ℕ → List (List ℕ) → Type 0
+abbrev pub times_text : Tokens → ℕ × ℕ → Tokens → Type 0
 times_text = Both (OneToken TimeToken) (OneToken TimeToken)
 
-abbrev pub RefusesTimes : List (List ℕ) → List (List ℕ) → ScanFault → Type 0
+abbrev pub RefusesTimes : Tokens → Tokens → ScanFault → Type 0
 RefusesTimes = RefusesBoth (OneToken TimeToken) (RefusesToken IsNoTime) (RefusesToken IsNoTime)
 
 -- all fields but the signature
-abbrev pub rrsig_fields_text : List (List ℕ) → (ℕ × (ℕ × (ℕ × ℕ))) × ((ℕ × ℕ) × (ℕ × List (List ℕ))) → List (List ℕ) → Type 0
+abbrev pub rrsig_fields_text : Tokens → (ℕ × (ℕ × (ℕ × ℕ))) × ((ℕ × ℕ) × (ℕ × Name)) → Tokens → Type 0
 rrsig_fields_text = Both numbers_text (Both times_text (Scans (one short ▸ one name)))
 
-abbrev pub RefusesRrsigFields : Option ℕ → List (List ℕ) → List (List ℕ) → ScanFault → Type 0
+abbrev pub RefusesRrsigFields : Option ℕ → Tokens → Tokens → ScanFault → Type 0
 RefusesRrsigFields limit = RefusesBoth numbers_text (RefusesNumbers limit) (RefusesBoth times_text RefusesTimes (Refuses limit (one short ▸ one name)))
 
 -- those fields, and the signature in Base 64
-pub record RrsigText (tokens : List (List ℕ)) (d : RrsigData) : Type 0 where
+pub record RrsigText (tokens : Tokens) (d : RrsigData) : Type 0 where
   pub spelled : Spells rrsig_fields_text Base64 tokens
       ((d.fields.type_covered, (d.fields.algorithm, (d.fields.labels, d.fields.original_ttl))), ((d.fields.expiration, d.fields.inception), (d.fields.key_tag, d.fields.signer_name)))
       d.signature
   pub fits : length (rrsig_octets d) ≤ 65535
 
-abbrev pub RefusesRrsig : Option ℕ → List (List ℕ) → List (List ℕ) → ScanFault → Type 0
+abbrev pub RefusesRrsig : Option ℕ → Tokens → Tokens → ScanFault → Type 0
 RefusesRrsig limit = RefusesData rrsig_fields_text (RefusesRrsigFields limit) limit (λ fields octets. 65535 < 18 + length (wire_of fields.1.1.1) + length octets) Base64

@@ -6,15 +6,16 @@ use Rattle.hex.specs.Hex.{encode_upper}
 use Rattle.domain_octets.specs.Codec.{Decodes}
 use Rattle.domain_octets.specs.declared.codec.Codec.TheVariants.{Base16}
 use Rattle.domain_base.specs.Scan.{ScanFault, illegal, IsNumber, IsNoNumber, RefusesToken, CodecFault, IsEnd}
+use Rattle.domain_base.specs.Words.{Tokens}
 
 -- what generic text begins with
 abbrev pub generic_mark : List ℕ
 generic_mark = codes "\\#"
 
 -- the mark, the number of octets, and the octets in Base 16, in any number of tokens
-pub record GenericText (tokens : List (List ℕ)) (octets : List ℕ) : Type 0 where
+pub record GenericText (tokens : Tokens) (octets : List ℕ) : Type 0 where
   pub count : List ℕ
-  pub digits : List (List ℕ)
+  pub digits : Tokens
   pub parts : tokens ≡ generic_mark ∷ count ∷ digits
   pub counted : IsNumber 16 count (length octets)
   pub decoded : Decodes Base16 (concat digits) octets
@@ -25,11 +26,11 @@ pub record IsNoMark (fault : ScanFault) (text : List ℕ) : Type 0 where
   pub other : text ≢ generic_mark
 
 -- the first field that is refused, over octets that have this limit, and the tokens that are left then
-pub data GenericFault (limit : Option ℕ) : List (List ℕ) → List (List ℕ) → ScanFault → Type 0 where
-  no_mark : (old new : List (List ℕ)) (fault : ScanFault) → RefusesToken IsNoMark old new fault → GenericFault limit old new fault
-  no_count : (old new : List (List ℕ)) (fault : ScanFault) → RefusesToken (IsNoNumber 16) old new fault → GenericFault limit (generic_mark ∷ old) new fault
-  no_data : (count : List ℕ) (n : ℕ) (digits new : List (List ℕ)) (fault : ScanFault) → IsNumber 16 count n → CodecFault Base16 limit fault (concat digits) → IsEnd new digits → GenericFault limit (generic_mark ∷ count ∷ digits) new fault
-  other_count : (count : List ℕ) (n : ℕ) (digits : List (List ℕ)) (octets : List ℕ) → IsNumber 16 count n → Decodes Base16 (concat digits) octets → n ≢ length octets → GenericFault limit (generic_mark ∷ count ∷ digits) [] (illegal (codes "illegal data"))
+pub data GenericFault (limit : Option ℕ) : Tokens → Tokens → ScanFault → Type 0 where
+  no_mark : (old new : Tokens) (fault : ScanFault) → RefusesToken IsNoMark old new fault → GenericFault limit old new fault
+  no_count : (old new : Tokens) (fault : ScanFault) → RefusesToken (IsNoNumber 16) old new fault → GenericFault limit (generic_mark ∷ old) new fault
+  no_data : (count : List ℕ) (n : ℕ) (digits new : Tokens) (fault : ScanFault) → IsNumber 16 count n → CodecFault Base16 limit fault (concat digits) → IsEnd new digits → GenericFault limit (generic_mark ∷ count ∷ digits) new fault
+  other_count : (count : List ℕ) (n : ℕ) (digits : Tokens) (octets : List ℕ) → IsNumber 16 count n → Decodes Base16 (concat digits) octets → n ≢ length octets → GenericFault limit (generic_mark ∷ count ∷ digits) [] (illegal (codes "illegal data"))
 
 -- the mark, the number of octets, and the octets in upper case; for no octets the text ends after the number
 abbrev pub generic_text : List ℕ → List ℕ

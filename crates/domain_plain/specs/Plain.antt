@@ -8,6 +8,7 @@ use Rattle.domain_plain.specs.declared.ns.Ns.{Ns}
 use Rattle.domain_plain.specs.declared.soa.Soa.{Soa}
 use Rattle.domain_plain.specs.declared.mx.Mx.{Mx}
 use Rattle.domain_plain.specs.declared.unknown.UnknownRecordData.{UnknownRecordData}
+use Rattle.domain_base.specs.Words.{Name}
 
 -- the address (RFC 1035, section 3.4.1)
 abbrev pub a : Layout
@@ -20,21 +21,21 @@ a_values d = ipv4_octets d.addr
 abbrev pub ns : Layout
 ns = one name
 
-abbrev pub ns_values : {N : Type 0} → (N → List (List ℕ)) → Ns N → Values ns
+abbrev pub ns_values : {N : Type 0} → (N → Name) → Ns N → Values ns
 ns_values labels d = labels d.nsdname
 
 -- the two names, and serial, refresh, retry, expire and minimum (RFC 1035, section 3.3.13)
 abbrev pub soa : Layout
 soa = (one name ▸ one name) ▸ (one long ▸ one long ▸ one long) ▸ one long ▸ one long
 
-abbrev pub soa_values : {N : Type 0} → (N → List (List ℕ)) → Soa N → Values soa
+abbrev pub soa_values : {N : Type 0} → (N → Name) → Soa N → Values soa
 soa_values labels d = ((labels d.mname, labels d.rname), ((d.serial, (d.refresh, d.retry)), (d.expire, d.minimum)))
 
 -- the preference and the name of the exchange (RFC 1035, section 3.3.9)
 abbrev pub mx : Layout
 mx = one short ▸ one name
 
-abbrev pub mx_values : {N : Type 0} → (N → List (List ℕ)) → Mx N → Values mx
+abbrev pub mx_values : {N : Type 0} → (N → Name) → Mx N → Values mx
 mx_values labels d = (d.preference, labels d.exchange)
 
 -- the octets as they are, as many as a record can hold (RFC 3597, section 5; RFC 1035, section 3.2.1)

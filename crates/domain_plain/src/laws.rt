@@ -4,6 +4,7 @@ ghost use Rattle.domain_base.specs.Scan.{ScanFault, no_memory};
 ghost use Rattle.domain_fields.specs.Layout.{ParsesBack};
 ghost use Rattle.domain_plain.specs.Generic.{GenericText, GenericFault};
 ghost use Rattle.domain_plain.specs.Plain.{a, a_values, ns, ns_values, soa, soa_values, mx, mx_values, unknown, unknown_values};
+ghost use Rattle.domain_base.specs.Words.{Tokens};
 
 use crate::{A, Mx, Ns, Soa, UnknownRecordData};
 use domain_base::ToName;
@@ -59,5 +60,5 @@ pub fn unknown_data_parses_back<O: Octets>(value: &UnknownRecordData<O>)
 
 /// Over octets that grow, tokens that are refused as the generic form but for want of memory spell no data in that form.
 pub fn refused_tokens_spell_no_generic_data()
-    ensures { (old new : List (List ℕ)) (fault : ScanFault) (octets : List ℕ) → GenericFault None old new fault → GenericText old octets → fault ≢ no_memory → ⊥ }
+    ensures { (old new : Tokens) (fault : ScanFault) (octets : List ℕ) → GenericFault None old new fault → GenericText old octets → fault ≢ no_memory → ⊥ }
 {}

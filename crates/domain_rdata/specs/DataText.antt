@@ -15,9 +15,10 @@ use Rattle.domain_rdata.specs.Nsec3paramText.{nsec3param_text}
 use Rattle.domain_rdata.specs.Rdata.{nsec3_values, nsec3param_values}
 use Rattle.domain_rdata.specs.declared.zone_record_data.ZoneRecordData.{ZoneRecordData}
 use Rattle.domain_rdata.specs.declared.zone_record_data.ZoneRecordData.TheVariants.{A, Ns, Soa, Mx, Dnskey, Ds, Rrsig, Nsec, Nsec3, Nsec3param, Unknown}
+use Rattle.domain_base.specs.Words.{Name}
 
 -- in the text form of their type; data that are held as octets in the generic form
-abbrev pub data_text : {O N : Type 0} → (O → List ℕ) → (N → List (List ℕ)) → ZoneRecordData O N → Option (List ℕ)
+abbrev pub data_text : {O N : Type 0} → (O → List ℕ) → (N → Name) → ZoneRecordData O N → Option (List ℕ)
 data_text octets labels (A d) = Some (ipv4_text (ipv4_octets d.addr))
 data_text octets labels (Ns d) = Some (name_text (labels d.nsdname) ++ codes ".")
 data_text octets labels (Soa d) = soa_text labels d

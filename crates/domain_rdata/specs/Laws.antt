@@ -9,6 +9,7 @@ use Rattle.domain_base.specs.Name.{same_name}
 use Rattle.domain_base.specs.Laws.{same_name_same}
 use Rattle.domain_fields.specs.Layout.{canonical_of}
 use Rattle.domain_rdata.specs.Rdata.{nsec_hashed}
+use Rattle.domain_base.specs.Words.{Name}
 
 left_true : (a b : Bool) → (a && b) ≡ true → a ≡ true
 left_true true b e = refl
@@ -19,7 +20,7 @@ right_true true b e = e
 right_true false b e = absurd (cc)
 
 -- names that are the same and equal octets are fed alike
-pub nsec_fed : {D : Type 0} (labels : D → List (List ℕ)) (octets : D → List ℕ)
+pub nsec_fed : {D : Type 0} (labels : D → Name) (octets : D → List ℕ)
     → Alike (eq_of_both (on labels same_name) (on octets bytes_eq)) (λ d. flat_map fed.u8 (canonical_of nsec_hashed (labels d, octets d)))
 nsec_fed labels octets = record {
   fed = λ x y e.

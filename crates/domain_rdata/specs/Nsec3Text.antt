@@ -17,28 +17,29 @@ use Rattle.domain_keys.specs.Text.{OneToken, Both, RefusesBoth}
 use Rattle.domain_rdata.specs.OptOut.{opt_out_comment}
 use Rattle.domain_rdata.specs.Nsec3paramText.{Nsec3paramText, RefusesNsec3param, hash_numbers_text, number_pieces}
 use Rattle.domain_rdata.specs.Rdata.{hash_fields, nsec3}
+use Rattle.domain_base.specs.Words.{Tokens}
 
 -- all tokens spell the types of a bitmap, one each
-pub record BitmapText (old : List (List ℕ)) (octets : List ℕ) (new : List (List ℕ)) : Type 0 where
+pub record BitmapText (old : Tokens) (octets : List ℕ) (new : Tokens) : Type 0 where
   pub types : List ℕ
   pub spelled : TypeTexts old types
   pub built : octets ≡ bitmap_octets (is_among types)
   pub all : new ≡ []
 
 -- parameters, and a hash in Base 32 hex
-abbrev pub HashText : List (List ℕ) → Values hash_fields → List (List ℕ) → Type 0
+abbrev pub HashText : Tokens → Values hash_fields → Tokens → Type 0
 HashText = Both Nsec3paramText (OneToken (Decodes Base32Hex))
 
-abbrev pub RefusesHash : Option ℕ → List (List ℕ) → List (List ℕ) → ScanFault → Type 0
+abbrev pub RefusesHash : Option ℕ → Tokens → Tokens → ScanFault → Type 0
 RefusesHash limit =
     RefusesBoth Nsec3paramText (RefusesNsec3param limit) (RefusesToken (CountedFault Base32Hex (codes "illegal owner name hash") limit))
 
 -- those, and then types to the end
-abbrev pub Nsec3Text : List (List ℕ) → Values nsec3 → List (List ℕ) → Type 0
+abbrev pub Nsec3Text : Tokens → Values nsec3 → Tokens → Type 0
 Nsec3Text = Both HashText BitmapText
 
 -- the first token that is refused, where salts, hashes and bitmaps have this limit
-abbrev pub RefusesNsec3 : Option ℕ → List (List ℕ) → List (List ℕ) → ScanFault → Type 0
+abbrev pub RefusesNsec3 : Option ℕ → Tokens → Tokens → ScanFault → Type 0
 RefusesNsec3 limit = RefusesBoth HashText (RefusesHash limit) (RefusesTypes limit)
 
 -- the fields with single spaces; there is none after the hash where there are no types

@@ -10,13 +10,14 @@ use Rattle.domain_fields.specs.Layout.{Values}
 use Rattle.domain_fields.specs.Scan.{Scans, Refuses}
 use Rattle.domain_keys.specs.Text.{OneToken, Both, RefusesBoth}
 use Rattle.domain_rdata.specs.Rdata.{hash_numbers, nsec3param}
+use Rattle.domain_base.specs.Words.{Tokens}
 
 -- the tokens begin with three numbers and a salt, and these are left
-abbrev pub Nsec3paramText : List (List ℕ) → Values nsec3param → List (List ℕ) → Type 0
+abbrev pub Nsec3paramText : Tokens → Values nsec3param → Tokens → Type 0
 Nsec3paramText = Both (Scans hash_numbers) (OneToken SaltText)
 
 -- the first of those that is refused, where salts have this limit
-abbrev pub RefusesNsec3param : Option ℕ → List (List ℕ) → List (List ℕ) → ScanFault → Type 0
+abbrev pub RefusesNsec3param : Option ℕ → Tokens → Tokens → ScanFault → Type 0
 RefusesNsec3param limit = RefusesBoth (Scans hash_numbers) (Refuses limit hash_numbers) (RefusesToken (SaltTokenFault limit))
 
 -- the numbers with single spaces

@@ -7,10 +7,11 @@ use Rattle.domain_bitmap.specs.Bitmap.{bitmap_octets}
 use Rattle.domain_bitmap.specs.Blocks.{types_of}
 use Rattle.domain_bitmap.specs.Pieces.{type_pieces}
 use Rattle.domain_bitmap.specs.Scan.{TypeTexts, RefusesTypes, is_among}
+use Rattle.domain_base.specs.Words.{Tokens, Name}
 
 -- the tokens are a name, and then types to the end, one a token (RFC 4034, section 4.2)
-pub record NsecText (old : List (List ℕ)) (labels : List (List ℕ)) (octets : List ℕ) (new : List (List ℕ)) : Type 0 where
-  pub between : List (List ℕ)
+pub record NsecText (old : Tokens) (labels : Name) (octets : List ℕ) (new : Tokens) : Type 0 where
+  pub between : Tokens
   pub next_name : TakesToken (λ text. NameText text labels) old between
   pub types : List ℕ
   pub spelled : TypeTexts between types
@@ -18,10 +19,10 @@ pub record NsecText (old : List (List ℕ)) (labels : List (List ℕ)) (octets :
   pub all : new ≡ []
 
 -- the first token that is refused: the name's, where names have the first limit, or a type's, where bitmaps have the second
-pub data NsecRefused (names bitmaps : Option ℕ) (old new : List (List ℕ)) (fault : ScanFault) : Type 0 where
+pub data NsecRefused (names bitmaps : Option ℕ) (old new : Tokens) (fault : ScanFault) : Type 0 where
   in_name : RefusesToken (NameFault names) old new fault → NsecRefused names bitmaps old new fault
-  in_types : (labels : List (List ℕ)) (between : List (List ℕ)) → TakesToken (λ text. NameText text labels) old between → RefusesTypes bitmaps between new fault → NsecRefused names bitmaps old new fault
+  in_types : (labels : Name) (between : Tokens) → TakesToken (λ text. NameText text labels) old between → RefusesTypes bitmaps between new fault → NsecRefused names bitmaps old new fault
 
 -- a block of the next name with its last dot and a token for each type
-abbrev pub nsec_pieces : List (List ℕ) → List ℕ → List PieceText
+abbrev pub nsec_pieces : Name → List ℕ → List PieceText
 nsec_pieces labels octets = opens ∷ token (name_text labels ++ codes ".") ∷ (type_pieces (types_of octets) ++ closes ∷ [])

@@ -6,6 +6,7 @@ use Rattle.domain_bitmap.specs.Fault.{BitmapFault}
 use Rattle.domain_fields.specs.Field.{spelled_name}
 use Rattle.domain_fields.specs.Layout.{Values, one, octets_of, Begins, FirstFault}
 use Rattle.domain_rdata.specs.Rdata.{nsec}
+use Rattle.domain_base.specs.Words.{Name}
 
 -- the octets are a name, and then a type bitmap to the end
 pub record BeginsNsec (octets : List ℕ) (values : Values nsec) (after : List ℕ) : Type 0 where
@@ -15,7 +16,7 @@ pub record BeginsNsec (octets : List ℕ) (values : Values nsec) (after : List �
 -- the first fault: the name's, or the bitmap's
 pub data NsecFault (octets : List ℕ) (fault : Fault) : Type 0 where
   in_name : FirstFault (one spelled_name) octets fault → NsecFault octets fault
-  in_types : (labels : List (List ℕ)) (types : List ℕ) → Begins (one spelled_name) octets labels types → BitmapFault types fault → NsecFault octets fault
+  in_types : (labels : Name) (types : List ℕ) → Begins (one spelled_name) octets labels types → BitmapFault types fault → NsecFault octets fault
 
 -- the octets of these values are read as them, in no other way, and nothing is left
 pub record NsecParsesBack (values : Values nsec) : Type 0 where

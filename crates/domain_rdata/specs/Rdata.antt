@@ -5,12 +5,13 @@ use Rattle.domain_fields.specs.Layout.{Layout, one, ◌▸◌, Values, octets_of
 use Rattle.domain_rdata.specs.declared.nsec.Nsec.{Nsec}
 use Rattle.domain_rdata.specs.declared.nsec3.Nsec3.{Nsec3}
 use Rattle.domain_rdata.specs.declared.nsec3param.Nsec3param.{Nsec3param}
+use Rattle.domain_base.specs.Words.{Name}
 
 -- the next name, whose case the canonical form keeps (RFC 6840, section 5.1), and the type bitmap (RFC 4034, section 4.1)
 abbrev pub nsec : Layout
 nsec = one spelled_name ▸ one rest
 
-abbrev pub nsec_values : {O N : Type 0} → (N → List (List ℕ)) → Nsec O N → Values nsec
+abbrev pub nsec_values : {O N : Type 0} → (N → Name) → Nsec O N → Values nsec
 nsec_values labels d = (labels d.next_name, d.types)
 
 -- what is hashed of it: the next name lowered, since data that differ in its case alone are equal

@@ -16,6 +16,7 @@ use Rattle.domain_rdata.specs.Nsec3Wire.{BeginsNsec3}
 use Rattle.domain_rdata.specs.Nsec3paramText.{RefusesNsec3param}
 use Rattle.domain_rdata.specs.Rdata.{nsec, nsec3, nsec3param}
 use Rattle.domain_rdata.specs.Text.{IsGeneric}
+use Rattle.domain_base.specs.Words.{Tokens}
 
 -- how the data of a type are made up: of fields of one token each, or in a way of their own
 pub data Kind : Type 0 where
@@ -43,7 +44,7 @@ kind_of rtype =
     else None)))))))))
 
 -- the first field of that form that is refused, where octets have this limit, and the tokens that are left then
-abbrev pub RefusesKind : Option ℕ → Kind → List (List ℕ) → List (List ℕ) → ScanFault → Type 0
+abbrev pub RefusesKind : Option ℕ → Kind → Tokens → Tokens → ScanFault → Type 0
 RefusesKind limit (plain l) = Refuses limit l
 RefusesKind limit key = RefusesDnskey limit
 RefusesKind limit digest = RefusesDs limit
@@ -53,7 +54,7 @@ RefusesKind limit next_by_hash = RefusesNsec3 limit
 RefusesKind limit params = RefusesNsec3param limit
 
 -- tokens are refused as the text form of a type: at a field of that form, or, before any token is taken, since the type has none
-pub data OwnRefused (limit : Option ℕ) (rtype : ℕ) (old new : List (List ℕ)) (fault : ScanFault) : Type 0 where
+pub data OwnRefused (limit : Option ℕ) (rtype : ℕ) (old new : Tokens) (fault : ScanFault) : Type 0 where
   at_field : (kind : Kind) → kind_of rtype ≡ Some kind → RefusesKind limit kind old new fault → OwnRefused limit rtype old new fault
   no_form : kind_of rtype ≡ None → fault ≡ illegal (codes "unknown record data") → new ≡ old → OwnRefused limit rtype old new fault
 
@@ -103,7 +104,7 @@ OctetsFault limit (Some kind) wire no_memory = AreOfKind kind wire
 
 -- why tokens are refused as data of a type, where octets have this limit, and the tokens that are left then: the mark of the generic form at their head decides what they are held to;
 -- text in that form may still hold octets that are no data of the type
-pub data RdataRefused (limit : Option ℕ) (rtype : ℕ) (old new : List (List ℕ)) (fault : ScanFault) : Type 0 where
+pub data RdataRefused (limit : Option ℕ) (rtype : ℕ) (old new : Tokens) (fault : ScanFault) : Type 0 where
   in_own : (IsGeneric old → ⊥) → OwnRefused limit rtype old new fault → RdataRefused limit rtype old new fault
   in_generic : IsGeneric old → GenericFault limit old new fault → RdataRefused limit rtype old new fault
   in_octets : (wire : List ℕ) → GenericText old wire → new ≡ [] → OctetsFault limit (kind_of rtype) wire fault → RdataRefused limit rtype old new fault

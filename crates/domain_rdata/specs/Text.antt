@@ -14,6 +14,7 @@ use Rattle.domain_rdata.specs.Nsec3paramText.{Nsec3paramText}
 use Rattle.domain_rdata.specs.Rdata.{nsec_values, nsec3, nsec3_values, nsec3param, nsec3param_values}
 use Rattle.domain_rdata.specs.declared.zone_record_data.ZoneRecordData.{ZoneRecordData}
 use Rattle.domain_rdata.specs.declared.zone_record_data.ZoneRecordData.TheVariants.{A, Ns, Soa, Mx, Dnskey, Ds, Rrsig, Nsec, Nsec3, Nsec3param, Unknown}
+use Rattle.domain_base.specs.Words.{Tokens, Name}
 
 -- the types whose data are not held as mere octets
 abbrev pub has_own_data : ℕ → Bool
@@ -21,7 +22,7 @@ has_own_data rtype =
     rtype == 1 || rtype == 2 || rtype == 6 || rtype == 15 || rtype == 43 || rtype == 46 || rtype == 47 || rtype == 48 || rtype == 50 || rtype == 51
 
 -- the tokens begin with the data in the text form of their type, and these are left; salts and hashes have at most 255 octets
-abbrev pub OwnText : {O N : Type 0} → (N → List (List ℕ)) → ℕ → List (List ℕ) → ZoneRecordData O N → List (List ℕ) → Type 0
+abbrev pub OwnText : {O N : Type 0} → (N → Name) → ℕ → Tokens → ZoneRecordData O N → Name → Type 0
 OwnText labels rtype old (A d) new = (rtype ≡ 1) × Scans a old (a_values d) new
 OwnText labels rtype old (Ns d) new = (rtype ≡ 2) × Scans ns old (ns_values labels d) new
 OwnText labels rtype old (Soa d) new = (rtype ≡ 6) × Scans soa old (soa_values labels d) new
@@ -35,7 +36,7 @@ OwnText labels rtype old (Nsec3param d) new = (rtype ≡ 51) × Nsec3paramText o
 OwnText labels rtype old (Unknown d) new = ⊥
 
 -- the octets are the data of a type
-abbrev pub AreData : {O N : Type 0} → (O → List ℕ) → (N → List (List ℕ)) → ℕ → List ℕ → ZoneRecordData O N → Type 0
+abbrev pub AreData : {O N : Type 0} → (O → List ℕ) → (N → Name) → ℕ → List ℕ → ZoneRecordData O N → Type 0
 AreData octets labels rtype wire (A d) = (rtype ≡ 1) × Begins a wire (a_values d) []
 AreData octets labels rtype wire (Ns d) = (rtype ≡ 2) × Begins ns wire (ns_values labels d) []
 AreData octets labels rtype wire (Soa d) = (rtype ≡ 6) × Begins soa wire (soa_values labels d) []
@@ -49,10 +50,10 @@ AreData octets labels rtype wire (Nsec3param d) = (rtype ≡ 51) × Begins nsec3
 AreData octets labels rtype wire (Unknown d) = (has_own_data rtype ≡ false) × (d.rtype ≡ rtype) × (octets d.«data» ≡ wire)
 
 -- the tokens begin with the mark of the generic form (RFC 3597, section 5)
-abbrev pub IsGeneric : List (List ℕ) → Type 0
-IsGeneric tokens = (more : List (List ℕ)) × (tokens ≡ generic_mark ∷ more)
+abbrev pub IsGeneric : Tokens → Type 0
+IsGeneric tokens = (more : Tokens) × (tokens ≡ generic_mark ∷ more)
 
 -- the tokens begin with the data of a type, in the text form of that type or in the generic form, and these are left
-pub data RdataText {O N : Type 0} (octets : O → List ℕ) (labels : N → List (List ℕ)) (rtype : ℕ) (old : List (List ℕ)) (d : ZoneRecordData O N) (new : List (List ℕ)) : Type 0 where
+pub data RdataText {O N : Type 0} (octets : O → List ℕ) (labels : N → Name) (rtype : ℕ) (old : Tokens) (d : ZoneRecordData O N) (new : Tokens) : Type 0 where
   own : (IsGeneric old → ⊥) → OwnText labels rtype old d new → RdataText octets labels rtype old d new
   generic : (wire : List ℕ) → GenericText old wire → AreData octets labels rtype wire d → new ≡ [] → RdataText octets labels rtype old d new

@@ -10,6 +10,7 @@ use Rattle.domain_keys.specs.Data.{dnskey_octets, ds_octets, rrsig_octets, rrsig
 use Rattle.domain_rdata.specs.Rdata.{nsec, nsec_values, nsec3_octets, nsec3param_octets}
 use Rattle.domain_rdata.specs.declared.zone_record_data.ZoneRecordData.{ZoneRecordData}
 use Rattle.domain_rdata.specs.declared.zone_record_data.ZoneRecordData.TheVariants.{A, Ns, Soa, Mx, Dnskey, Ds, Rrsig, Nsec, Nsec3, Nsec3param, Unknown}
+use Rattle.domain_base.specs.Words.{Name}
 
 -- the number of the data's type
 abbrev pub rtype_of : {O N : Type 0} → ZoneRecordData O N → ℕ
@@ -26,7 +27,7 @@ rtype_of (Nsec3param d) = 51
 rtype_of (Unknown d) = d.rtype
 
 -- the octets of the data on the wire
-abbrev pub wire_octets : {O N : Type 0} → (O → List ℕ) → (N → List (List ℕ)) → ZoneRecordData O N → List ℕ
+abbrev pub wire_octets : {O N : Type 0} → (O → List ℕ) → (N → Name) → ZoneRecordData O N → List ℕ
 wire_octets octets labels (A d) = octets_of a (a_values d)
 wire_octets octets labels (Ns d) = octets_of ns (ns_values labels d)
 wire_octets octets labels (Soa d) = octets_of soa (soa_values labels d)
@@ -40,7 +41,7 @@ wire_octets octets labels (Nsec3param d) = nsec3param_octets d
 wire_octets octets labels (Unknown d) = octets_of unknown (unknown_values octets d)
 
 -- the octets of their canonical form (RFC 4034, section 6.2)
-abbrev pub canonical_octets : {O N : Type 0} → (O → List ℕ) → (N → List (List ℕ)) → ZoneRecordData O N → List ℕ
+abbrev pub canonical_octets : {O N : Type 0} → (O → List ℕ) → (N → Name) → ZoneRecordData O N → List ℕ
 canonical_octets octets labels (A d) = canonical_of a (a_values d)
 canonical_octets octets labels (Ns d) = canonical_of ns (ns_values labels d)
 canonical_octets octets labels (Soa d) = canonical_of soa (soa_values labels d)
@@ -54,8 +55,8 @@ canonical_octets octets labels (Nsec3param d) = nsec3param_octets d
 canonical_octets octets labels (Unknown d) = canonical_of unknown (unknown_values octets d)
 
 -- by the number of the type, and then by canonical octets
-abbrev pub data_cmp : {O N : Type 0} → (O → List ℕ) → (N → List (List ℕ)) → ZoneRecordData O N → ZoneRecordData O N → Ordering
+abbrev pub data_cmp : {O N : Type 0} → (O → List ℕ) → (N → Name) → ZoneRecordData O N → ZoneRecordData O N → Ordering
 data_cmp octets labels = then_cmp (on rtype_of nat_cmp) (on (canonical_octets octets labels) (slice_cmp nat_cmp))
 
-pub data_cmp_total : {O N : Type 0} (octets : O → List ℕ) (labels : N → List (List ℕ)) → IsTotalOrder (data_cmp octets labels)
+pub data_cmp_total : {O N : Type 0} (octets : O → List ℕ) (labels : N → Name) → IsTotalOrder (data_cmp octets labels)
 data_cmp_total octets labels = then_total (on_total rtype_of nat_cmp_total) (on_texts (canonical_octets octets labels))

@@ -16,9 +16,10 @@ use Rattle.domain_rdata.specs.Rdata.{nsec, nsec_values}
 use Rattle.domain_rdata.specs.Zone.{rtype_of, canonical_octets, data_cmp, data_cmp_total}
 use Rattle.domain_rdata.specs.declared.zone_record_data.ZoneRecordData.{ZoneRecordData}
 use Rattle.domain_rdata.specs.declared.zone_record_data.ZoneRecordData.TheVariants.{A, Ns, Soa, Mx, Dnskey, Ds, Rrsig, Nsec, Nsec3, Nsec3param, Unknown}
+use Rattle.domain_base.specs.Words.{Name}
 
 -- the same variant, with the same numbers, labels and octets
-abbrev pub IsZoneClone : {O N : Type 0} → (O → List ℕ) → (N → List (List ℕ)) → ZoneRecordData O N → ZoneRecordData O N → Type 0
+abbrev pub IsZoneClone : {O N : Type 0} → (O → List ℕ) → (N → Name) → ZoneRecordData O N → ZoneRecordData O N → Type 0
 IsZoneClone octets labels (A d) copy = copy ≡ A d
 IsZoneClone {O} {N} octets labels (Ns d) copy = (c : names.Ns N) × (copy ≡ Ns c) × (ns_values labels c ≡ ns_values labels d)
 IsZoneClone {O} {N} octets labels (Soa d) copy = (c : starts.Soa N) × (copy ≡ Soa c) × (soa_values labels c ≡ soa_values labels d)
@@ -32,7 +33,7 @@ IsZoneClone octets labels (Nsec3param d) copy = copy ≡ Nsec3param d
 IsZoneClone {O} {N} octets labels (Unknown d) copy =
     (c : unknowns.UnknownRecordData O) × (copy ≡ Unknown c) × (c.rtype ≡ d.rtype) × (unknown_values octets c ≡ unknown_values octets d)
 
-module _ {O N : Type 0} (octets : O → List ℕ) (labels : N → List (List ℕ)) where
+module _ {O N : Type 0} (octets : O → List ℕ) (labels : N → Name) where
   -- a copy is of the same type
   pub same_rtype : (d copy : ZoneRecordData O N) → IsZoneClone octets labels d copy → rtype_of copy ≡ rtype_of d
   same_rtype (A d) copy same = ap rtype_of same

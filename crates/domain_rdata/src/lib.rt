@@ -39,8 +39,8 @@ pub use domain_bitmap::{
 };
 pub use domain_keys::{Dnskey, Ds, IllegalSignatureTime, ProtoRrsig, Rrsig, Timestamp};
 pub use domain_plain::{
-    A, CloneName, CloneRecordData, ComposeRecordData, LongRecordData, Mx, Ns, ParseRecordData,
-    Record, RecordData, Soa, UnknownRecordData,
+    A, CloneRecordData, ComposeRecordData, LongRecordData, Mx, Ns, ParseRecordData, Record,
+    RecordData, Soa, UnknownRecordData,
 };
 pub use nsec::Nsec;
 pub use nsec3::Nsec3;

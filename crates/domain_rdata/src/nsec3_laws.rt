@@ -5,6 +5,7 @@ ghost use Rattle.domain_rdata.specs.Nsec3paramText.{Nsec3paramText};
 ghost use Rattle.domain_rdata.specs.Nsec3Text.{HashText};
 ghost use Rattle.domain_rdata.specs.Nsec3Wire.{Nsec3ParsesBack};
 ghost use Rattle.domain_rdata.specs.Rdata.{hash_fields, nsec3_values, nsec3param, nsec3param_values};
+ghost use Rattle.domain_base.specs.Words.{Tokens};
 
 use crate::{Nsec3, Nsec3param};
 use domain_octets::Octets;
@@ -27,8 +28,8 @@ pub fn nsec3_parses_back<O: Octets>(value: &Nsec3<O>)
 
 /// Tokens begin with parameters, or with parameters and a hash, in one way at most: the values and the tokens that are left are determined.
 pub fn hashes_are_spelled_once()
-    ensures params { (old m n : List (List ℕ)) (v w : Values nsec3param) → Nsec3paramText old v m → Nsec3paramText old w n → v ≡ w }
-    ensures after_params { (old m n : List (List ℕ)) (v w : Values nsec3param) → Nsec3paramText old v m → Nsec3paramText old w n → m ≡ n }
-    ensures hash { (old m n : List (List ℕ)) (v w : Values hash_fields) → HashText old v m → HashText old w n → v ≡ w }
-    ensures after_hash { (old m n : List (List ℕ)) (v w : Values hash_fields) → HashText old v m → HashText old w n → m ≡ n }
+    ensures params { (old m n : Tokens) (v w : Values nsec3param) → Nsec3paramText old v m → Nsec3paramText old w n → v ≡ w }
+    ensures after_params { (old m n : Tokens) (v w : Values nsec3param) → Nsec3paramText old v m → Nsec3paramText old w n → m ≡ n }
+    ensures hash { (old m n : Tokens) (v w : Values hash_fields) → HashText old v m → HashText old w n → v ≡ w }
+    ensures after_hash { (old m n : Tokens) (v w : Values hash_fields) → HashText old v m → HashText old w n → m ≡ n }
 {}

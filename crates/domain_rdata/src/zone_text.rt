@@ -5,6 +5,7 @@ ghost use Rattle.domain_rdata.specs.DataText.{data_text};
 ghost use Rattle.domain_rdata.specs.Refusal.{OwnRefused, RdataRefused};
 ghost use Rattle.domain_rdata.specs.Text.{RdataText, OwnText, IsGeneric};
 ghost use Rattle.domain_rdata.specs.declared.zone_record_data.ZoneRecordData.{ZoneRecordData};
+ghost use Rattle.domain_base.specs.Words.{Tokens};
 
 use crate::zone_record_data::with_data;
 use crate::{Nsec, Nsec3, Nsec3param, ZoneRecordData};
@@ -100,7 +101,7 @@ where
 
         // Over octets that grow, what is refused but for want of memory spells no data of the type.
         ensures spells_none { IfErr result (λ e. O.Builder.limit ≡ None → scan_fault_of e ≢ no_memory
-            → (d : ZoneRecordData O N) (after : List (List ℕ)) → RdataText O.octets N.labels rtype (S.tokens scanner.old) d after → ⊥) }
+            → (d : ZoneRecordData O N) (after : Tokens) → RdataText O.octets N.labels rtype (S.tokens scanner.old) d after → ⊥) }
     {
         if !is_generic(scanner) {
             return Self::scan_own(alloc, rtype, scanner);

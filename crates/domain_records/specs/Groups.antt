@@ -5,16 +5,17 @@ use Rattle.std.specs.Ordering.{is_le, nat_cmp, on, then_cmp}
 use Rattle.domain_base.specs.Order.{canonical_cmp}
 use Rattle.domain_base.specs.Name.{same_name, IsSame}
 use Rattle.domain_plain.specs.declared.record.Record.{Record}
+use Rattle.domain_base.specs.Words.{Name}
 
 -- the owners agree but for the case of letters
-abbrev pub same_owner : {N D : Type 0} → (N → List (List ℕ)) → Record N D → Record N D → Bool
+abbrev pub same_owner : {N D : Type 0} → (N → Name) → Record N D → Record N D → Bool
 same_owner labels r s = same_name (labels r.owner) (labels s.owner)
 
 abbrev pub same_type : {N D : Type 0} → (D → ℕ) → Record N D → Record N D → Bool
 same_type rtype r s = rtype r.«data» == rtype s.«data»
 
 -- one owner and one type
-abbrev pub same_rrset : {N D : Type 0} → (N → List (List ℕ)) → (D → ℕ) → Record N D → Record N D → Bool
+abbrev pub same_rrset : {N D : Type 0} → (N → Name) → (D → ℕ) → Record N D → Record N D → Bool
 same_rrset labels rtype r s = same_owner labels r s && same_type rtype r s
 
 abbrev pub same_class : {N D : Type 0} → Record N D → Record N D → Bool
@@ -24,7 +25,7 @@ abbrev pub same_ttl : {N D : Type 0} → Record N D → Record N D → Bool
 same_ttl r s = r.ttl == s.ttl
 
 -- by owner in the canonical order of names, and then by type, s isn't before r
-abbrev pub may_follow : {N D : Type 0} → (N → List (List ℕ)) → (D → ℕ) → Record N D → Record N D → Bool
+abbrev pub may_follow : {N D : Type 0} → (N → Name) → (D → ℕ) → Record N D → Record N D → Bool
 may_follow labels rtype r s = is_le (then_cmp (on (λ t. labels t.owner) canonical_cmp) (on (λ t. rtype t.«data») nat_cmp) r s)
 
 -- the list isn't empty, and P holds of its first element
@@ -45,6 +46,6 @@ pub record SkipsTo {X : Type 0} (P : X → Type 0) (old new : List X) : Type 0 w
   pub begins : IfFirst P new
 
 -- the records of an owner other than the apex, some of them NS: a delegation (RFC 4034, section 4.1.2), where the owner is in the zone
-pub record IsZoneCut {N D : Type 0} (labels : N → List (List ℕ)) (rtype : D → ℕ) (apex : List (List ℕ)) (records : List (Record N D)) : Type 0 where
+pub record IsZoneCut {N D : Type 0} (labels : N → Name) (rtype : D → ℕ) (apex : Name) (records : List (Record N D)) : Type 0 where
   pub below : HasFirst (λ r. ¬ (IsSame (labels r.owner) apex)) records
   pub delegates : Any (λ r. rtype r.«data» ≡ 2) records

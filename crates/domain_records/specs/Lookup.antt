@@ -6,6 +6,7 @@ use Rattle.std.specs.declared.cmp.Ordering.{Ordering}
 use Rattle.domain_base.specs.Name.{same_name}
 use Rattle.domain_base.specs.Order.{canonical_cmp}
 use Rattle.domain_plain.specs.declared.record.Record.{Record}
+use Rattle.domain_base.specs.Words.{Name}
 
 -- nothing is asked, or this number
 abbrev pub is_asked : Option ℕ → ℕ → Bool
@@ -13,7 +14,7 @@ is_asked None n = true
 is_asked (Some m) n = n == m
 
 -- a record of this owner, and of the class and the type that are asked
-abbrev pub matches : {N D : Type 0} → (N → List (List ℕ)) → (D → ℕ) → List (List ℕ) → Option ℕ → Option ℕ → Record N D → Bool
+abbrev pub matches : {N D : Type 0} → (N → Name) → (D → ℕ) → Name → Option ℕ → Option ℕ → Record N D → Bool
 matches labels rtype owner class type r = same_name (labels r.owner) owner && (is_asked class r.class && is_asked type (rtype r.«data»))
 
 -- an element stands at that place, and passes the test
@@ -28,7 +29,7 @@ IsFirstPlace {X} p xs (Some i) = (i < length xs) × ((d : X) → p (slice_index_
 -- what a look-up compares: class, owner, and the type where one is asked
 pub record Key : Type 0 where
   pub class : ℕ
-  pub owner : List (List ℕ)
+  pub owner : Name
   pub type : ℕ
 
 -- the number where one is asked
@@ -40,11 +41,11 @@ abbrev pub number_asked : Option ℕ → ℕ
 number_asked None = 0
 number_asked (Some m) = m
 
-abbrev pub key_of : {N D : Type 0} → (N → List (List ℕ)) → (D → ℕ) → Option ℕ → Record N D → Key
+abbrev pub key_of : {N D : Type 0} → (N → Name) → (D → ℕ) → Option ℕ → Record N D → Key
 key_of labels rtype type r = record { class = r.class; owner = labels r.owner; type = where_asked type (rtype r.«data») }
 
 -- the key of the records of this class that match
-abbrev pub wanted_key : ℕ → List (List ℕ) → Option ℕ → Key
+abbrev pub wanted_key : ℕ → Name → Option ℕ → Key
 wanted_key class owner type = record { class = class; owner = owner; type = number_asked type }
 
 -- by class, then owner, then type
@@ -52,7 +53,7 @@ abbrev pub key_cmp : Key → Key → Ordering
 key_cmp = then_cmp (on (λ k. k.class) nat_cmp) (then_cmp (on (λ k. k.owner) canonical_cmp) (on (λ k. k.type) nat_cmp))
 
 -- the record stands before those of this class that match
-abbrev pub is_before : {N D : Type 0} → (N → List (List ℕ)) → (D → ℕ) → ℕ → List (List ℕ) → Option ℕ → Record N D → Bool
+abbrev pub is_before : {N D : Type 0} → (N → Name) → (D → ℕ) → ℕ → Name → Option ℕ → Record N D → Bool
 is_before labels rtype class owner type r = is_lt (key_cmp (key_of labels rtype type r) (wanted_key class owner type))
 
 -- the elements before n pass the test, and those from n on don't

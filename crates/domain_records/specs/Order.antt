@@ -4,6 +4,7 @@ use Rattle.std.specs.List.{AllByRecursion}
 use Rattle.domain_base.specs.Name.{IsSame}
 use Rattle.domain_base.specs.Order.{IsUpTo}
 use Rattle.domain_plain.specs.declared.record.Record.{Record}
+use Rattle.domain_base.specs.Words.{Name}
 
 -- P holds of each element and each one after it
 abbrev pub HoldsPairwise : {X : Type 0} → (X → X → Type 0) → List X → Type 0
@@ -15,10 +16,10 @@ abbrev pub IsOneClass : {N D : Type 0} → List (Record N D) → Type 0
 IsOneClass = HoldsPairwise (λ r s. r.class ≡ s.class)
 
 -- the owner of s doesn't come before that of r in the canonical order of names (RFC 4034, section 6.1), and where they have one owner, the type of s isn't less
-pub record MayFollow {N D : Type 0} (labels : N → List (List ℕ)) (rtype : D → ℕ) (r s : Record N D) : Type 0 where
+pub record MayFollow {N D : Type 0} (labels : N → Name) (rtype : D → ℕ) (r s : Record N D) : Type 0 where
   pub owner : IsUpTo (labels r.owner) (labels s.owner)
   pub type : IsSame (labels r.owner) (labels s.owner) → rtype r.«data» ≤ rtype s.«data»
 
 -- owners never descend, and within an owner types never descend
-abbrev pub IsInOrder : {N D : Type 0} → (N → List (List ℕ)) → (D → ℕ) → List (Record N D) → Type 0
+abbrev pub IsInOrder : {N D : Type 0} → (N → Name) → (D → ℕ) → List (Record N D) → Type 0
 IsInOrder labels rtype = HoldsPairwise (MayFollow labels rtype)
