@@ -30,8 +30,6 @@ mod compare;
 mod convert;
 mod error;
 mod hash_scan;
-#[cfg(test)]
-mod hash_tests;
 mod iter;
 pub mod laws;
 mod owner_hash;
@@ -42,8 +40,6 @@ mod salt_text;
 mod scan;
 mod slots;
 mod table;
-#[cfg(test)]
-mod tests;
 mod text;
 mod zonefile;
 

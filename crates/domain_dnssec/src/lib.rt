@@ -13,8 +13,6 @@ pub mod laws;
 mod names;
 mod nsec;
 pub mod reference;
-#[cfg(test)]
-mod tests;
 
 pub use config::GenerateNsecConfig;
 pub use hasher::{HasherError, Nsec3Hasher};

@@ -13,8 +13,6 @@ pub mod laws;
 mod read_fields;
 mod scan_fields;
 mod target;
-#[cfg(test)]
-mod tests;
 mod wire_fault;
 
 pub use counted::Counted;
