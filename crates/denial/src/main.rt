@@ -8,8 +8,6 @@ mod fault;
 mod line;
 mod program;
 #[cfg(test)]
-mod signed_tests;
-#[cfg(test)]
 mod tests;
 
 ghost use Rattle.std.specs.Prelude.{Err};

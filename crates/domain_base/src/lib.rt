@@ -29,8 +29,6 @@ mod parsed;
 mod rtype;
 mod scanner;
 mod serial;
-#[cfg(test)]
-mod tests;
 mod text;
 mod to_name;
 mod ttl;

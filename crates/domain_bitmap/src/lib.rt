@@ -31,8 +31,6 @@ mod convert;
 mod counted;
 mod error;
 mod hash_scan;
-#[cfg(test)]
-mod hash_tests;
 mod iter;
 pub mod laws;
 mod owner_hash;
@@ -43,8 +41,6 @@ mod salt_text;
 mod scan;
 mod slots;
 mod table;
-#[cfg(test)]
-mod tests;
 mod text;
 mod zonefile;
 

@@ -12,8 +12,6 @@ mod fields;
 pub mod laws;
 mod read_fields;
 mod scan_fields;
-#[cfg(test)]
-mod tests;
 mod wire_fault;
 
 pub use counted::Counted;

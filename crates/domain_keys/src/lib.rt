@@ -23,14 +23,8 @@ pub mod laws;
 mod proto_rrsig;
 mod rrsig;
 mod rrsig_convert;
-#[cfg(test)]
-mod rrsig_tests;
 mod rrsig_text;
-#[cfg(test)]
-mod tests;
 mod text;
-#[cfg(test)]
-mod time_tests;
 mod timestamp;
 
 pub use dnskey::Dnskey;

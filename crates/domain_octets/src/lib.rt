@@ -29,8 +29,6 @@ mod octets;
 mod parser;
 mod pieces;
 mod shared;
-#[cfg(test)]
-mod tests;
 mod zonefile;
 
 pub use array::ArrayBuilder;

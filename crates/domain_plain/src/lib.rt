@@ -18,8 +18,6 @@ mod record;
 mod record_clone;
 mod record_data;
 mod soa;
-#[cfg(test)]
-mod tests;
 mod unknown;
 
 pub use a::A;

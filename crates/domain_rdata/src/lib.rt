@@ -15,8 +15,6 @@ mod nsec3;
 mod nsec3_compare;
 mod nsec3_convert;
 pub mod nsec3_laws;
-#[cfg(test)]
-mod nsec3_tests;
 mod nsec3_text;
 mod nsec3_wire;
 mod nsec3param;
@@ -26,8 +24,6 @@ mod nsec_convert;
 pub mod nsec_laws;
 mod nsec_text;
 mod nsec_wire;
-#[cfg(test)]
-mod tests;
 mod zone_clone;
 mod zone_octets;
 mod zone_record_data;

@@ -31,8 +31,6 @@ mod rrset;
 mod slice;
 mod sorted;
 mod sorter;
-#[cfg(test)]
-mod tests;
 mod write;
 
 pub use error::{InsertError, Nsec3HashError, SigningError};

@@ -1,0 +1,49 @@
+//! The words of a vector, and what they stand for.
+use domain_base::{FromToken, IterScanner};
+use domain_octets::Codec;
+use std::alloc::{AllocError, Global};
+
+/// Tokens of an entry.
+pub type Tokens<'a> = IterScanner<'a, Vec<u8>>;
+
+/// A word with what it abbreviates: `''` is the empty word, and `a.{127}` is `a.` 127 times over.
+pub fn expanded(alloc: Global, word: &str) -> Result<String, AllocError> {
+    if word == "''" {
+        return Ok(String::new(alloc));
+    }
+    let Some((repeated, count)) = word.split_once('{') else {
+        return String::from_str(alloc, word);
+    };
+    match count.trim_end_matches('}').parse::<usize>() {
+        Ok(count) if count <= 70_000 => repeated.repeat(alloc, count),
+        _ => String::from_str(alloc, word),
+    }
+}
+
+/// The octets that words spell together in Base 16; `-` spells none.
+pub fn octets(alloc: Global, words: &[&str]) -> Option<Vec<u8>> {
+    let mut digits = String::new(alloc);
+    for word in words {
+        if *word != "-" {
+            digits.push_str(word).ok()?;
+        }
+    }
+    Codec::Base16.decode::<Vec<u8>>(alloc, digits.as_str()).ok()
+}
+
+/// The words before the first `/`, and those after it.
+pub fn halves<'a, 'b>(words: &'a [&'b str]) -> (&'a [&'b str], &'a [&'b str]) {
+    let mut parts = words.split(|word| *word == "/");
+    let front = parts.next().unwrap_or_default();
+    (front, parts.next().unwrap_or_default())
+}
+
+/// The value that a word spells as a token.
+pub fn value<F: FromToken + Drop>(word: &str) -> Option<F> {
+    F::from_token(word).ok()
+}
+
+/// The value that the next token spells.
+pub fn next<F: FromToken + Drop>(scanner: &mut Tokens<'_>) -> Option<F> {
+    F::scan(scanner).ok()
+}
