@@ -76,8 +76,6 @@ fn windows(alloc: Global, answers: &mut Answers) {
     }
     let bitmap = builder.finalize();
     answers.octets("octets", &bitmap);
-    let count = bitmap.iter().count();
-    answers.show("types", &count);
     match format!(in alloc; "{bitmap}") {
         Ok(text) => answers.show("characters", &text.len()),
         Err(error) => answers.refused(&error),
