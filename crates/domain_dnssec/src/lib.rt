@@ -4,7 +4,7 @@
 //! `generate_nsecs` makes the NSEC chain of a zone whose records are handed over in canonical
 //! order, as `SortedRecords` keeps them; `generate_nsecs_of_sorted` takes these as they are, and
 //! `generate_nsecs_of_records` records in any order. What the contracts cite stands in `specs/` of
-//! `domain_zone`, `domain_nsec` and this crate. What signatures here speak of is handed on: names,
+//! `domain_zone`, `domain_nsec` and this crate. What signatures here name is handed on: names,
 //! types, classes, TTLs, records and their data, builders of octets, sorted records, and the
 //! errors.
 #![tactic(auto)]

@@ -1,4 +1,4 @@
--- The types of records that chains speak of, by their numbers (RFC 1035, RFC 4034 and RFC 6672).
+-- The types of records that chains name, by their numbers (RFC 1035, RFC 4034 and RFC 6672).
 use Rattle.std.specs.Prelude.{ℕ}
 
 abbrev pub ns : ℕ
