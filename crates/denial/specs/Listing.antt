@@ -3,7 +3,7 @@ use Rattle.std.specs.Prelude.{◌≡◌, ◌⊎◌, ℕ, ◌+◌, List, [], ◌�
 use Rattle.std.specs.Global.{Global}
 use Rattle.domain_plain.specs.declared.record.Record.{Record}
 use Rattle.domain_rdata.specs.declared.zone_record_data.ZoneRecordData.{ZoneRecordData}
-use Rattle.domain_dnssec.specs.Names.{Name}
+use Rattle.domain_base.specs.Words.{Name}
 use Rattle.denial.specs.Words.{words, IsSkipped, ArePlain, LineText}
 
 -- the line is not skipped, holds no octet past `~`, and spells the record

@@ -3,7 +3,7 @@ use Rattle.std.specs.Prelude.{◌≡◌, ℕ, List, [], ◌∷◌, codes}
 use Rattle.domain_base.specs.Text.{NameText}
 use Rattle.domain_dnssec.specs.AnyOrder.{IsChainOf, IsFaultOf, AreMixed}
 use Rattle.domain_dnssec.specs.Chain.{Link, usual_config}
-use Rattle.domain_dnssec.specs.Names.{Name}
+use Rattle.domain_base.specs.Words.{Name}
 use Rattle.denial.specs.Listing.{Give, ProgramRecord}
 use Rattle.denial.specs.declared.fault.DenialFault.{DenialFault}
 use Rattle.denial.specs.declared.fault.DenialFault.TheVariants.{Usage, Read, Line, MixedClasses, Signing, Write, OutOfMemory}

@@ -2,7 +2,7 @@
 use Rattle.std.proofs.Common.{List, ℕ, Result, Ok, Err, IfOk, IfErr}
 use Rattle.domain_plain.specs.declared.record.Record.{Record}
 use Rattle.domain_rdata.specs.declared.zone_record_data.ZoneRecordData.{ZoneRecordData}
-use Rattle.domain_zone.specs.Names.{Name}
+use Rattle.domain_base.specs.Words.{Name}
 use Rattle.domain_nsec.specs.declared.config.GenerateNsecConfig.{GenerateNsecConfig}
 use Rattle.domain_dnssec.specs.AnyOrder.{Sorts, HasNoSortedChain, HasNoChain}
 use Rattle.domain_dnssec.specs.declared.chain.ChainError.{ChainError}

@@ -14,13 +14,14 @@ use Rattle.domain_plain.specs.declared.record.Record.{Record}
 use Rattle.domain_rdata.specs.Zone.{rtype_of, data_cmp}
 use Rattle.domain_rdata.specs.declared.zone_record_data.ZoneRecordData.{ZoneRecordData}
 use Rattle.domain_records.specs.Order.{IsOneClass}
-use Rattle.domain_zone.specs.Names.{Name, Key, key, key_same, key_below, same, is_at_or_below}
+use Rattle.domain_base.specs.Name.{is_at_or_below, lowered, same_name}
+use Rattle.domain_base.specs.Words.{Name}
 use Rattle.domain_zone.specs.Soa.{is_soa, numbers_of, of_only, soa_of}
 use Rattle.domain_zone.specs.Types.{ns, dname}
 use Rattle.domain_zone.specs.View.{as_zone_record}
 use Rattle.domain_zone.specs.declared.soa.ApexSoa.{ApexSoa}
 use Rattle.domain_zone.specs.Zone.{ZoneRecord, clashes, has_clash, has_type, records_of, is_occluded, is_unoccluded, owns}
-use Rattle.domain_zone.proofs.NameLemmas.{one_key, same_is_name}
+use Rattle.domain_zone.proofs.NameLemmas.{one_lowered, lowered_below, same_lowered}
 use Rattle.domain_zone.proofs.OwnerLemmas.{any_filter}
 use Rattle.domain_zone.proofs.PairLemmas.{In}
 use Rattle.domain_zone.proofs.SharedLemmas.{either_way}
@@ -40,25 +41,25 @@ alike r t = r.class ≡ t.class
 module _ {O N : Type 0} (octets : O → List ℕ) (labels : N → Name) where
   -- records that are equal under the canonical order have one owner and one type
   tied : (r s : Record N (ZoneRecordData O N)) → record_cmp labels rtype_of (data_cmp octets labels) r s ≡ Equal
-      → (key (labels r.owner) ≡ key (labels s.owner)) × (rtype_of r.«data» ≡ rtype_of s.«data»)
+      → (lowered (labels r.owner) ≡ lowered (labels s.owner)) × (rtype_of r.«data» ≡ rtype_of s.«data»)
   tied r s e =
       let class = then_equal (nat_cmp r.class s.class) (ordering_then (canonical_cmp (labels r.owner) (labels s.owner)) (ordering_then (nat_cmp (rtype_of r.«data») (rtype_of s.«data»)) (data_cmp octets labels r.«data» s.«data»))) e in
       let owner = then_equal (canonical_cmp (labels r.owner) (labels s.owner)) (ordering_then (nat_cmp (rtype_of r.«data») (rtype_of s.«data»)) (data_cmp octets labels r.«data» s.«data»)) class.1 in
       let type = then_equal (nat_cmp (rtype_of r.«data») (rtype_of s.«data»)) (data_cmp octets labels r.«data» s.«data») owner.1 in (
-        one_key (labels r.owner) (labels s.owner) (same_is_name (labels r.owner) (labels s.owner) ∙ same_name_ties (labels r.owner) (labels s.owner) ∙ ap is_eq owner.0),
+        one_lowered (labels r.owner) (labels s.owner) (same_name_ties (labels r.owner) (labels s.owner) ∙ ap is_eq owner.0),
         nat_cmp-IsAntisymmetric (rtype_of r.«data») (rtype_of s.«data») type.0,
       )
 
   module _ (given sorted : List (Record N (ZoneRecordData O N))) (s : Sorts octets labels given sorted) where
     -- a test of the owner and the type
-    any_kept : (p : Key → ℕ → Bool) → list_any (λ r. p (key r.owner) r.rtype) (zone_of labels sorted) ≡ list_any (λ r. p (key r.owner) r.rtype) (zone_of labels given)
+    any_kept : (p : Name → ℕ → Bool) → list_any (λ r. p (lowered r.owner) r.rtype) (zone_of labels sorted) ≡ list_any (λ r. p (lowered r.owner) r.rtype) (zone_of labels given)
     any_kept p =
-        any_map (λ r. p (key r.owner) r.rtype) (as_zone_record labels) sorted
+        any_map (λ r. p (lowered r.owner) r.rtype) (as_zone_record labels) sorted
         ∙ either_way (list_any q sorted) (list_any q given) there back
-        ∙ sym (any_map (λ r. p (key r.owner) r.rtype) (as_zone_record labels) given)
+        ∙ sym (any_map (λ r. p (lowered r.owner) r.rtype) (as_zone_record labels) given)
       where
         q : Record N (ZoneRecordData O N) → Bool
-        q r = p (key (labels r.owner)) (rtype_of r.«data»)
+        q r = p (lowered (labels r.owner)) (rtype_of r.«data»)
 
         there : list_any q sorted ≡ true → list_any q given ≡ true
         there h =
@@ -73,24 +74,24 @@ module _ {O N : Type 0} (octets : O → List ℕ) (labels : N → Name) where
             let t = tied c.1 f.1 c.4 in
             list_any-from_Any q sorted (c.0, c.1, c.2, c.3, (λ i. p (t.0 i) (t.1 i)) ∙ f.4)
 
-    types_kept : (k : Key) (t : ℕ) → has_type (filter (λ r. key_same (key r.owner) k) (zone_of labels sorted)) t ≡ has_type (filter (λ r. key_same (key r.owner) k) (zone_of labels given)) t
+    types_kept : (k : Name) (t : ℕ) → has_type (filter (λ r. same_lowered (lowered r.owner) k) (zone_of labels sorted)) t ≡ has_type (filter (λ r. same_lowered (lowered r.owner) k) (zone_of labels given)) t
     types_kept k t =
-        any_filter (λ r. nat_eq r.rtype t) (λ r. key_same (key r.owner) k) (zone_of labels sorted)
-        ∙ any_kept (λ m u. key_same m k && nat_eq u t)
-        ∙ sym (any_filter (λ r. nat_eq r.rtype t) (λ r. key_same (key r.owner) k) (zone_of labels given))
+        any_filter (λ r. nat_eq r.rtype t) (λ r. same_lowered (lowered r.owner) k) (zone_of labels sorted)
+        ∙ any_kept (λ m u. same_lowered m k && nat_eq u t)
+        ∙ sym (any_filter (λ r. nat_eq r.rtype t) (λ r. same_lowered (lowered r.owner) k) (zone_of labels given))
 
     pub type_kept : (n : Name) (t : ℕ) → has_type (records_of (zone_of labels sorted) n) t ≡ has_type (records_of (zone_of labels given) n) t
-    type_kept n t = types_kept (key n) t
+    type_kept n t = types_kept (lowered n) t
 
     pub owner_kept : (n : Name) → owns (zone_of labels sorted) n ≡ owns (zone_of labels given) n
-    owner_kept n = any_kept (λ m u. key_same m (key n))
+    owner_kept n = any_kept (λ m u. same_lowered m (lowered n))
 
     occluded_kept : (d : Bool) (a n : Name) → is_occluded d (zone_of labels sorted) a n ≡ is_occluded d (zone_of labels given) a n
     occluded_kept d a n =
-        any_kept (λ k u. ((key_below k (key a) && not (key_same k (key a)) && has_type (filter (λ r. key_same (key r.owner) k) (zone_of labels sorted)) ns)
-        || (d && key_below k (key a) && has_type (filter (λ r. key_same (key r.owner) k) (zone_of labels sorted)) dname)) && (key_below (key n) k && not (key_same (key n) k)))
-        ∙ (λ i. list_any (λ r. ((key_below (key r.owner) (key a) && not (key_same (key r.owner) (key a)) && types_kept (key r.owner) ns i)
-        || (d && key_below (key r.owner) (key a) && types_kept (key r.owner) dname i)) && (key_below (key n) (key r.owner) && not (key_same (key n) (key r.owner)))) (zone_of labels given))
+        any_kept (λ k u. ((lowered_below k (lowered a) && not (same_lowered k (lowered a)) && has_type (filter (λ r. same_lowered (lowered r.owner) k) (zone_of labels sorted)) ns)
+        || (d && lowered_below k (lowered a) && has_type (filter (λ r. same_lowered (lowered r.owner) k) (zone_of labels sorted)) dname)) && (lowered_below (lowered n) k && not (same_lowered (lowered n) k)))
+        ∙ (λ i. list_any (λ r. ((lowered_below (lowered r.owner) (lowered a) && not (same_lowered (lowered r.owner) (lowered a)) && types_kept (lowered r.owner) ns i)
+        || (d && lowered_below (lowered r.owner) (lowered a) && types_kept (lowered r.owner) dname i)) && (lowered_below (lowered n) (lowered r.owner) && not (same_lowered (lowered n) (lowered r.owner)))) (zone_of labels given))
 
     pub unoccluded_kept : (d : Bool) (a n : Name) → is_unoccluded d (zone_of labels sorted) a n ≡ is_unoccluded d (zone_of labels given) a n
     unoccluded_kept d a n = λ i. is_at_or_below n a && not (occluded_kept d a n i)
@@ -110,7 +111,7 @@ module _ {O N : Type 0} (octets : O → List ℕ) (labels : N → Name) where
     pub clash_among : (n : Name) → has_clash (records_of (zone_of labels sorted) n) ≡ true → has_clash (records_of (zone_of labels given) n) ≡ true
     clash_among n h =
         any_two clashes (records_of (zone_of labels sorted) n) (records_of (zone_of labels given) n)
-        (λ z i. let f = in_filter (λ r. same r.owner n) (zone_of labels sorted) z i in in_filtered (λ r. same r.owner n) (zone_of labels given) z (zone_record_among z f.0) f.1) h
+        (λ z i. let f = in_filter (λ r. same_name r.owner n) (zone_of labels sorted) z i in in_filtered (λ r. same_name r.owner n) (zone_of labels given) z (zone_record_among z f.0) f.1) h
 
     pub soa_among : (a : Name) (numbers : ApexSoa) → soa_of (zone_of labels sorted) a ≡ Some numbers
         → (r : ZoneRecord) × Contains (zone_of labels given) r × (is_soa a r ≡ true) × (numbers_of r r.minimum ≡ Some numbers)

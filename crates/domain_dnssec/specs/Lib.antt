@@ -1,5 +1,4 @@
 pub mod AnyOrder
-pub use Rattle.domain_zone.specs.Names
 pub use Rattle.domain_zone.specs.Covering
 pub use Rattle.domain_zone.specs.Types
 pub use Rattle.domain_zone.specs.Zone

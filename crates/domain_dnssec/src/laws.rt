@@ -2,7 +2,7 @@
 ghost use Rattle.std.specs.Prelude.{◌≡◌, ◌↔◌, ℕ, Bool, true, Contains, List, Some};
 ghost use Rattle.domain_plain.specs.declared.record.Record.{Record};
 ghost use Rattle.domain_rdata.specs.declared.zone_record_data.ZoneRecordData.{ZoneRecordData};
-ghost use Rattle.domain_zone.specs.Names.{Name};
+ghost use Rattle.domain_base.specs.Words.{Name};
 ghost use Rattle.domain_records.specs.Order.{IsOneClass};
 ghost use Rattle.domain_zone.specs.Soa.{is_soa, numbers_of, soa_of};
 ghost use Rattle.domain_zone.specs.Zone.{ZoneRecord, has_clash, has_type, is_unoccluded, owns, records_of};
@@ -13,7 +13,7 @@ ghost use Rattle.domain_dnssec.specs.AnyOrder.{Sorts};
 use domain_base::ToName;
 pub use domain_nsec::laws::{chains_mean_the_zone, types_ignore_case};
 use domain_octets::Octets;
-pub use domain_zone::laws::{covering_ignores_case, names_agree};
+pub use domain_zone::laws::covering_ignores_case;
 
 /// The sorted set of records has the owners of the list that was put in, each with the same types,
 /// and the same of them are not occluded: of equal records one stays.

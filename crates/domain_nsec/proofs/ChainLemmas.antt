@@ -6,17 +6,19 @@ use Rattle.std.proofs.lemmas.Bool.{cases_Bool, false≢true, true≢false, and_p
 use Rattle.std.proofs.lemmas.List.Elements.{All-push, All-nil, recursion_from_All}
 use Rattle.domain_bitmap.specs.Bitmap.{bitmap_octets}
 use Rattle.domain_zone.specs.Covering.{matches, covers, matches_or_covers, pairs}
-use Rattle.domain_zone.specs.Names.{Name, key, key_same, key_before, same, before, is_at_or_below}
+use Rattle.domain_base.specs.Name.{is_at_or_below, lowered, same_name}
+use Rattle.domain_base.specs.Order.{before}
+use Rattle.domain_base.specs.Words.{Name}
 use Rattle.domain_zone.specs.Soa.{chain_ttl, soa_of}
-use Rattle.domain_zone.specs.Zone.{ZoneRecord, IsInOrder, owns, is_occluded, is_unoccluded, unoccluded_owners}
+use Rattle.domain_zone.specs.Zone.{ZoneRecord, OwnersNeverDescend, owns, is_occluded, is_unoccluded, unoccluded_owners}
 use Rattle.domain_zone.specs.declared.soa.ApexSoa.{ApexSoa}
-use Rattle.domain_zone.proofs.NameLemmas.{before_order, one_key, same_itself, same_is, below_from}
+use Rattle.domain_zone.proofs.NameLemmas.{before_order, one_lowered, same_itself, same_is, before_left, before_right, below_from, same_lowered}
 use Rattle.domain_zone.proofs.OwnerLemmas.{any_owner, any_in, owners_are, owners_ascend, apex_unoccluded}
 use Rattle.domain_zone.proofs.PairLemmas.{In, all_in, IsAscending, IsApart, one_matches_or_covers, gap, owner_in, next_is, lt_trans}
 use Rattle.domain_zone.proofs.PlaceLemmas.{count_cons, one_place, in_at}
 use Rattle.domain_zone.proofs.SoaLemmas.{soa_owned}
 use Rattle.domain_zone.proofs.ZoneLemmas.{weaker, apart_right}
-use Rattle.domain_nsec.specs.Chain.{Link, link_of, has_bit, IsChain}
+use Rattle.domain_nsec.specs.Chain.{Link, link_of, nsec_lists, IsChain}
 use Rattle.domain_nsec.specs.Meaning.{MirrorsZone, IsMatchedOrCoveredOnce, IsCycle, OwnersAscend, last_next}
 use Rattle.domain_nsec.specs.declared.config.GenerateNsecConfig.{GenerateNsecConfig}
 
@@ -34,14 +36,14 @@ pair_to (Some w) y = (w.0, y) ∷ []
 pub record IsClosed (L : List ZoneRecord) (a : Name) (assume : Bool) (numbers : ApexSoa) (links : List Link) (ks : List Name) (next : Name) : Type 0 where
   pub names : map pair_of links ≡ pairs ks next
   pub numbered : All (λ k. (k.class ≡ numbers.class) × (k.ttl ≡ chain_ttl numbers)) links
-  pub bits : All (λ k. k.bits ≡ bitmap_octets (has_bit L a assume k.owner)) links
+  pub bits : All (λ k. k.bits ≡ bitmap_octets (nsec_lists L a assume k.owner)) links
 
 -- and the last name waits for the next one
 pub record IsLinked (L : List ZoneRecord) (a : Name) (assume : Bool) (numbers : ApexSoa) (links : List Link) (waiting : Waiting) (ks : List Name) : Type 0 where
   pub names : (y : Name) → map pair_of links ++ pair_to waiting y ≡ pairs ks y
   pub numbered : All (λ k. (k.class ≡ numbers.class) × (k.ttl ≡ chain_ttl numbers)) links
-  pub bits : All (λ k. k.bits ≡ bitmap_octets (has_bit L a assume k.owner)) links
-  pub ready : IfSome waiting (λ w. w.1 ≡ bitmap_octets (has_bit L a assume w.0))
+  pub bits : All (λ k. k.bits ≡ bitmap_octets (nsec_lists L a assume k.owner)) links
+  pub ready : IfSome waiting (λ w. w.1 ≡ bitmap_octets (nsec_lists L a assume w.0))
 
 append_nil : {X : Type 0} (xs : List X) → xs ++ [] ≡ xs
 append_nil [] = refl
@@ -61,7 +63,7 @@ module _ (L : List ZoneRecord) (a : Name) (assume : Bool) (numbers : ApexSoa) wh
   link_start = record {
     names = λ y. refl;
     numbered = All-nil (λ k. (k.class ≡ numbers.class) × (k.ttl ≡ chain_ttl numbers));
-    bits = All-nil (λ k. k.bits ≡ bitmap_octets (has_bit L a assume k.owner));
+    bits = All-nil (λ k. k.bits ≡ bitmap_octets (nsec_lists L a assume k.owner));
     ready = tt;
   }
 
@@ -76,10 +78,10 @@ module _ (L : List ZoneRecord) (a : Name) (assume : Bool) (numbers : ApexSoa) wh
   close_some links ks m n bits h = record {
     names = map-append links (link_of m n numbers bits ∷ []) ∙ h.names n;
     numbered = All-push (λ k. (k.class ≡ numbers.class) × (k.ttl ≡ chain_ttl numbers)) links (link_of m n numbers bits) h.numbered (refl, refl);
-    bits = All-push (λ k. k.bits ≡ bitmap_octets (has_bit L a assume k.owner)) links (link_of m n numbers bits) h.bits h.ready;
+    bits = All-push (λ k. k.bits ≡ bitmap_octets (nsec_lists L a assume k.owner)) links (link_of m n numbers bits) h.bits h.ready;
   }
 
-  pub wait_with : (links : List Link) (ks : List Name) (n : Name) (bits : List ℕ) → bits ≡ bitmap_octets (has_bit L a assume n) → IsClosed L a assume numbers links ks n → IsLinked L a assume numbers links (Some (n, bits)) (ks ++ n ∷ [])
+  pub wait_with : (links : List Link) (ks : List Name) (n : Name) (bits : List ℕ) → bits ≡ bitmap_octets (nsec_lists L a assume n) → IsClosed L a assume numbers links ks n → IsLinked L a assume numbers links (Some (n, bits)) (ks ++ n ∷ [])
   wait_with links ks n bits b h = record {
     names = λ y. ap (λ t. t ++ (n, y) ∷ []) h.names ∙ sym (pairs_push ks n y);
     numbered = h.numbered;
@@ -113,7 +115,7 @@ in_map (l ∷ links) k (inr i) = inr (in_map links k i)
 
 -- ---- what the chain means
 
-module _ (d : Bool) (L : List ZoneRecord) (a : Name) (order : IsInOrder L) (apex : owns L a ≡ true) where
+module _ (d : Bool) (L : List ZoneRecord) (a : Name) (order : OwnersNeverDescend L) (apex : owns L a ≡ true) where
   -- the unoccluded owners, of which the first is the apex
   pub record Owners (ks : List Name) : Type 0 where
     pub first : Name
@@ -123,13 +125,13 @@ module _ (d : Bool) (L : List ZoneRecord) (a : Name) (order : IsInOrder L) (apex
     pub low : AllByRecursion (λ n. before n a ≡ false) (first ∷ later)
     pub begins : before a first ≡ false
 
-  begins_at : (k : Name) (ks : List Name) → IsAscending before (k ∷ ks) → list_any (λ m. same m a) (k ∷ ks) ≡ true → before a k ≡ false
+  begins_at : (k : Name) (ks : List Name) → IsAscending before (k ∷ ks) → list_any (λ m. same_name m a) (k ∷ ks) ≡ true → before a k ≡ false
   begins_at k ks up h =
       elim (cases_Bool (before a k)) [
         | inl e ↦
-            let m = any_in (λ m. same m a) (k ∷ ks) h in
+            let m = any_in (λ m. same_name m a) (k ∷ ks) h in
             absurd (false≢true (sym (elim m.1 [
-              | inl f ↦ subst (λ n. same n a ≡ false) f (apart_right a k e)
+              | inl f ↦ subst (λ n. same_name n a ≡ false) f (apart_right a k e)
               | inr i ↦ apart_right a m.0 (lt_trans before_order a k m.0 e (all_in (λ y. before k y ≡ true) ks m.0 up.0 i))
             ]) ∙ m.2))
         | inr e ↦ e
@@ -140,13 +142,13 @@ module _ (d : Bool) (L : List ZoneRecord) (a : Name) (order : IsInOrder L) (apex
       by (unoccluded_owners d L a) (owners_ascend d L a order)
       (weaker (λ n. (owns L n ≡ true) × (is_unoccluded d L a n ≡ true)) (λ n. before n a ≡ false)
       (λ n h. below_from n a (and_parts (is_at_or_below n a) (not (is_occluded d L a n)) h.1).0) (unoccluded_owners d L a) (owners_are d L a))
-      (any_owner d L a a (λ m. key_same m (key a)) apex (apex_unoccluded d L a) (same_itself a a refl))
+      (any_owner d L a a (λ m. same_lowered m (lowered a)) apex (apex_unoccluded d L a) (same_itself a a refl))
     where
-      by : (ks : List Name) → IsAscending before ks → AllByRecursion (λ n. before n a ≡ false) ks → list_any (λ m. same m a) ks ≡ true → Owners ks
+      by : (ks : List Name) → IsAscending before ks → AllByRecursion (λ n. before n a ≡ false) ks → list_any (λ m. same_name m a) ks ≡ true → Owners ks
       by [] up low h = absurd (false≢true h)
       by (k ∷ ks) up low h = record { first = k; later = ks; are = refl; up = up; low = low; begins = begins_at k ks up h }
 
-module _ (L : List ZoneRecord) (a : Name) (order : IsInOrder L) (config : GenerateNsecConfig) (links : List Link) (chain : IsChain L a config links) where
+module _ (L : List ZoneRecord) (a : Name) (order : OwnersNeverDescend L) (config : GenerateNsecConfig) (links : List Link) (chain : IsChain L a config links) where
   pub apex_owns : owns L a ≡ true
   apex_owns = soa_owned L a chain.numbers chain.soa
 
@@ -181,33 +183,33 @@ module _ (L : List ZoneRecord) (a : Name) (order : IsInOrder L) (config : Genera
         | inr h ↦ inr h
       ]
 
-  bit_at : (l : Link) (xs : List Link) → All (λ k. k.bits ≡ bitmap_octets (has_bit L a config.assume_dnskeys_will_be_added k.owner)) xs → In l xs → l.bits ≡ bitmap_octets (has_bit L a config.assume_dnskeys_will_be_added l.owner)
-  bit_at l xs h i = all_in (λ k. k.bits ≡ bitmap_octets (has_bit L a config.assume_dnskeys_will_be_added k.owner)) xs l (recursion_from_All (λ k. k.bits ≡ bitmap_octets (has_bit L a config.assume_dnskeys_will_be_added k.owner)) xs h) i
+  bit_at : (l : Link) (xs : List Link) → All (λ k. k.bits ≡ bitmap_octets (nsec_lists L a config.assume_dnskeys_will_be_added k.owner)) xs → In l xs → l.bits ≡ bitmap_octets (nsec_lists L a config.assume_dnskeys_will_be_added l.owner)
+  bit_at l xs h i = all_in (λ k. k.bits ≡ bitmap_octets (nsec_lists L a config.assume_dnskeys_will_be_added k.owner)) xs l (recursion_from_All (λ k. k.bits ≡ bitmap_octets (nsec_lists L a config.assume_dnskeys_will_be_added k.owner)) xs h) i
 
   -- where x is not occluded and isn't the owner of the record that matches or covers it, it owns nothing
   uncovered : (x : Name) (l : Link) → In l links → is_unoccluded config.occlude_below_dname L a x ≡ true → covers before l.owner l.next x ≡ true → owns L x ≡ false
   uncovered x l i zone c =
       elim (cases_Bool (owns L x)) [
         | inl o ↦
-            let m = any_in (λ m. same m x) (unoccluded_owners config.occlude_below_dname L a) (any_owner config.occlude_below_dname L a x (λ m. key_same m (key x)) o zone (same_itself x x refl)) in
-            let k = one_key m.0 x m.2 in
+            let m = any_in (λ m. same_name m x) (unoccluded_owners config.occlude_below_dname L a) (any_owner config.occlude_below_dname L a x (λ m. same_lowered m (lowered x)) o zone (same_itself x x refl)) in
+            let k = one_lowered m.0 x m.2 in
             let low = below_from x a (and_parts (is_at_or_below x a) (not (is_occluded config.occlude_below_dname L a x)) zone).0 in
             let parts = and_parts (not (matches before l.owner x)) (cond (before l.owner l.next) (before l.owner x && before x l.next) (before l.owner x || before x l.next)) c in
             absurd (clash (before l.owner l.next) refl parts.1 low m.0 k (owner_gap l m.0 i m.1) (link_next l i))
         | inr o ↦ o
       ]
     where
-      clash : (b : Bool) → before l.owner l.next ≡ b → cond b (before l.owner x && before x l.next) (before l.owner x || before x l.next) ≡ true → before x a ≡ false → (m : Name) → key m ≡ key x
+      clash : (b : Bool) → before l.owner l.next ≡ b → cond b (before l.owner x && before x l.next) (before l.owner x || before x l.next) ≡ true → before x a ≡ false → (m : Name) → lowered m ≡ lowered x
           → IsApart {lt = before} before_order m (l.owner, l.next) → ((before l.owner l.next ≡ true) × In l.next (unoccluded_owners config.occlude_below_dname L a)) ⊎ (a ≡ l.next) → ⊥
       clash true e h low m k (inl f) n =
-          false≢true (sym f ∙ ap (key_before (key l.owner)) k ∙ (and_parts (before l.owner x) (before x l.next) h).0)
+          false≢true (sym f ∙ before_right l.owner m x k ∙ (and_parts (before l.owner x) (before x l.next) h).0)
       clash true e h low m k (inr f) n =
-          false≢true (sym f.1 ∙ ap (λ q. key_before q (key l.next)) k ∙ (and_parts (before l.owner x) (before x l.next) h).1)
+          false≢true (sym f.1 ∙ before_left m x l.next k ∙ (and_parts (before l.owner x) (before x l.next) h).1)
       clash false e h low m k (inr f) n = true≢false (sym f.0 ∙ e)
       clash false e h low m k (inl f) (inl n) = true≢false (sym n.0 ∙ e)
       clash false e h low m k (inl f) (inr n) =
           elim (or_cases (before l.owner x) (before x l.next) h) [
-            | inl g ↦ false≢true (sym f ∙ ap (key_before (key l.owner)) k ∙ g)
+            | inl g ↦ false≢true (sym f ∙ before_right l.owner m x k ∙ g)
             | inr g ↦ false≢true (sym low ∙ ap (before x) n ∙ g)
           ]
 
@@ -227,8 +229,8 @@ module _ (L : List ZoneRecord) (a : Name) (order : IsInOrder L) (config : Genera
         matched = elim (or_cases (matches before one.item.owner x) (covers before one.item.owner one.item.next x) one.passes) [
           | inl m ↦
               let own = (all_in (λ n. (owns L n ≡ true) × (is_unoccluded config.occlude_below_dname L a n ≡ true)) (unoccluded_owners config.occlude_below_dname L a) one.item.owner (owners_are config.occlude_below_dname L a) (link_owner one.item i)).0 in
-              let same_key = one_key one.item.owner x (same_is one.item.owner x ∙ m) in
-              m ∙ sym (ap (λ k. list_any (λ r. key_same (key r.owner) k) L) (sym same_key) ∙ own)
+              let same_key = one_lowered one.item.owner x (same_is one.item.owner x ∙ m) in
+              m ∙ sym (ap (λ k. list_any (λ r. same_lowered (lowered r.owner) k) L) (sym same_key) ∙ own)
           | inr c ↦
               not-true (matches before one.item.owner x) (and_parts (not (matches before one.item.owner x)) (cond (before one.item.owner one.item.next) (before one.item.owner x && before x one.item.next) (before one.item.owner x || before x one.item.next)) c).0
               ∙ sym (uncovered x one.item i chosen c)
@@ -272,7 +274,7 @@ round a k (n ∷ ks) (l ∷ links) e up =
       ends = ap (last_next l.next) r.are ∙ r.ends;
     }
 
-pub chain_cycle : (L : List ZoneRecord) (a : Name) (order : IsInOrder L) (config : GenerateNsecConfig) (links : List Link) (chain : IsChain L a config links) → IsCycle a links
+pub chain_cycle : (L : List ZoneRecord) (a : Name) (order : OwnersNeverDescend L) (config : GenerateNsecConfig) (links : List Link) (chain : IsChain L a config links) → IsCycle a links
 chain_cycle L a order config links chain =
     let k = owners L a order config links chain in
     let r = round a k.first k.later links (chain.names ∙ ap (λ ks. pairs ks a) k.are) k.up in
@@ -280,7 +282,7 @@ chain_cycle L a order config links chain =
       first = r.first;
       later = r.later;
       are = r.are;
-      begins = ap (λ n. same n a) r.begins ∙ same_is k.first a ∙ (λ i. not (k.low.0 i || k.begins i));
+      begins = ap (λ n. same_name n a) r.begins ∙ same_is k.first a ∙ (λ i. not (k.low.0 i || k.begins i));
       ascends = r.ascends;
       ends = r.ends;
     }

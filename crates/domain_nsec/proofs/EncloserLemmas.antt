@@ -4,9 +4,11 @@ use Rattle.std.specs.List.{list_any}
 use Rattle.std.proofs.lemmas.Bool.{cases_Bool, false≢true, true≢false, and_parts, and_from, or_cases, not-true, ltb-true, ltb-false}
 use Rattle.domain_zone.specs.Covering.{matches, covers, matches_or_covers}
 use Rattle.domain_zone.specs.Enclosers.{IsClosestEncloser, longer, exists_over, is_empty_nonterminal, IsShared, shared}
-use Rattle.domain_zone.specs.Names.{Name, key, key_same, key_below, key_before, same, before, is_at_or_below, is_strictly_below}
-use Rattle.domain_zone.specs.Zone.{ZoneRecord, IsInOrder, owns, occludes, is_occluded, is_unoccluded, unoccluded_owners}
-use Rattle.domain_zone.proofs.NameLemmas.{before_order, one_key, same_itself, same_is, below_itself, below_trans, below_from, below_between, below_longer}
+use Rattle.domain_base.specs.Name.{is_at_or_below, is_strictly_below, lowered, same_name}
+use Rattle.domain_base.specs.Order.{before}
+use Rattle.domain_base.specs.Words.{Name}
+use Rattle.domain_zone.specs.Zone.{ZoneRecord, OwnersNeverDescend, owns, occludes, is_occluded, is_unoccluded, unoccluded_owners}
+use Rattle.domain_zone.proofs.NameLemmas.{before_order, one_lowered, same_itself, same_is, before_left, before_right, below_itself, below_trans, below_from, below_between, below_longer, lowered_below, same_lowered}
 use Rattle.domain_zone.proofs.OwnerLemmas.{any_owner, any_in, in_any, owners_are, below_occluder, occluder_owns}
 use Rattle.domain_zone.proofs.PairLemmas.{In, all_in, le_lt}
 use Rattle.domain_zone.proofs.PlaceLemmas.{one_place, in_at}
@@ -17,7 +19,7 @@ use Rattle.domain_nsec.specs.Meaning.{TellsEmpty, TellsEncloser, IsCoveredBy, Co
 use Rattle.domain_nsec.specs.declared.config.GenerateNsecConfig.{GenerateNsecConfig}
 use Rattle.domain_nsec.proofs.ChainLemmas.{answered_once, owner_gap, link_owner, link_next}
 
-module _ (L : List ZoneRecord) (a : Name) (order : IsInOrder L) (config : GenerateNsecConfig) (links : List Link) (chain : IsChain L a config links) where
+module _ (L : List ZoneRecord) (a : Name) (order : OwnersNeverDescend L) (config : GenerateNsecConfig) (links : List Link) (chain : IsChain L a config links) where
   owner_low : (m : Name) → In m (unoccluded_owners config.occlude_below_dname L a) → is_at_or_below m a ≡ true
   owner_low m i = (and_parts (is_at_or_below m a) (not (is_occluded config.occlude_below_dname L a m)) (all_in (λ n. (owns L n ≡ true) × (is_unoccluded config.occlude_below_dname L a n ≡ true)) (unoccluded_owners config.occlude_below_dname L a) m (owners_are config.occlude_below_dname L a) i).1).0
 
@@ -55,12 +57,12 @@ module _ (L : List ZoneRecord) (a : Name) (order : IsInOrder L) (config : Genera
       }
 
   -- no owner of the chain is x
-  apart : (x : Name) (l : Link) → Covered x l → (m : Name) → In m (unoccluded_owners config.occlude_below_dname L a) → same m x ≡ true → ⊥
+  apart : (x : Name) (l : Link) → Covered x l → (m : Name) → In m (unoccluded_owners config.occlude_below_dname L a) → same_name m x ≡ true → ⊥
   apart x l c m j s =
-      let k = one_key m x s in
+      let k = one_lowered m x s in
       elim (c.sides m j) [
-        | inl f ↦ false≢true (sym f ∙ ap (key_before (key l.owner)) k ∙ c.after)
-        | inr f ↦ false≢true (sym f.1 ∙ ap (λ q. key_before q (key l.next)) k ∙ f.0)
+        | inl f ↦ false≢true (sym f ∙ before_right l.owner m x k ∙ c.after)
+        | inr f ↦ false≢true (sym f.1 ∙ before_left m x l.next k ∙ f.0)
       ]
 
   told_empty : (x : Name) → is_at_or_below x a ≡ true → (place : ℕ) (l : Link) → slice_get links place ≡ Some l → covers before l.owner l.next x ≡ true
@@ -71,30 +73,30 @@ module _ (L : List ZoneRecord) (a : Name) (order : IsInOrder L) (config : Genera
     where
       there : Covered x l → is_empty_nonterminal (unoccluded_owners config.occlude_below_dname L a) a x ≡ true → is_strictly_below l.next x ≡ true
       there v h =
-          let p = and_parts (is_at_or_below x a && not (list_any (λ n. same n x) (unoccluded_owners config.occlude_below_dname L a))) (list_any (λ n. is_strictly_below n x) (unoccluded_owners config.occlude_below_dname L a)) h in
+          let p = and_parts (is_at_or_below x a && not (list_any (λ n. same_name n x) (unoccluded_owners config.occlude_below_dname L a))) (list_any (λ n. is_strictly_below n x) (unoccluded_owners config.occlude_below_dname L a)) h in
           let m = any_in (λ n. is_strictly_below n x) (unoccluded_owners config.occlude_below_dname L a) p.1 in
-          let q = and_parts (is_at_or_below m.0 x) (not (same m.0 x)) m.2 in
+          let q = and_parts (is_at_or_below m.0 x) (not (same_name m.0 x)) m.2 in
           elim (v.sides m.0 m.1) [
             | inl f ↦ absurd (false≢true (sym (below_from m.0 x q.0) ∙ le_lt before_order m.0 l.owner x f v.after))
-            | inr f ↦ and_from (is_at_or_below l.next x) (not (same l.next x))
+            | inr f ↦ and_from (is_at_or_below l.next x) (not (same_name l.next x))
                 (below_between m.0 x l.next q.0 (before_order.one_way x l.next f.0) f.1)
                 (ap not (apart_right x l.next f.0))
           ]
 
       back : Covered x l → is_strictly_below l.next x ≡ true → is_empty_nonterminal (unoccluded_owners config.occlude_below_dname L a) a x ≡ true
       back v h =
-          let q = and_parts (is_at_or_below l.next x) (not (same l.next x)) h in
-          and_from (is_at_or_below x a && not (list_any (λ n. same n x) (unoccluded_owners config.occlude_below_dname L a))) (list_any (λ n. is_strictly_below n x) (unoccluded_owners config.occlude_below_dname L a))
-          (and_from (is_at_or_below x a) (not (list_any (λ n. same n x) (unoccluded_owners config.occlude_below_dname L a))) low
-          (elim (cases_Bool (list_any (λ n. same n x) (unoccluded_owners config.occlude_below_dname L a))) [
-            | inl e ↦ let m = any_in (λ n. same n x) (unoccluded_owners config.occlude_below_dname L a) e in absurd (apart x l v m.0 m.1 m.2)
+          let q = and_parts (is_at_or_below l.next x) (not (same_name l.next x)) h in
+          and_from (is_at_or_below x a && not (list_any (λ n. same_name n x) (unoccluded_owners config.occlude_below_dname L a))) (list_any (λ n. is_strictly_below n x) (unoccluded_owners config.occlude_below_dname L a))
+          (and_from (is_at_or_below x a) (not (list_any (λ n. same_name n x) (unoccluded_owners config.occlude_below_dname L a))) low
+          (elim (cases_Bool (list_any (λ n. same_name n x) (unoccluded_owners config.occlude_below_dname L a))) [
+            | inl e ↦ let m = any_in (λ n. same_name n x) (unoccluded_owners config.occlude_below_dname L a) e in absurd (apart x l v m.0 m.1 m.2)
             | inr e ↦ ap not e
           ]))
           (elim v.next_unoccluded [
             | inl k ↦ in_any (λ n. is_strictly_below n x) (unoccluded_owners config.occlude_below_dname L a) l.next k.1 h
             | inr k ↦
                 let below = subst (λ n. is_at_or_below n x ≡ true) (sym k) q.0 in
-                absurd (true≢false (sym (same_is a x ∙ (λ i. not (below_from a x below i || below_from x a low i)) ∙ refl) ∙ (ap (λ n. same n x) k ∙ not-true (same l.next x) q.1)))
+                absurd (true≢false (sym (same_is a x ∙ (λ i. not (below_from a x below i || below_from x a low i)) ∙ refl) ∙ (ap (λ n. same_name n x) k ∙ not-true (same_name l.next x) q.1)))
           ])
 
   pub tells_empty : TellsEmpty L a config links
@@ -146,11 +148,11 @@ module _ (L : List ZoneRecord) (a : Name) (order : IsInOrder L) (config : Genera
       let i = in_at links one.place l one.there in
       let own = (all_in (λ n. (owns L n ≡ true) × (is_unoccluded config.occlude_below_dname L a n ≡ true)) (unoccluded_owners config.occlude_below_dname L a) l.owner (owners_are config.occlude_below_dname L a) (link_owner L a order config links chain l i)).1 in
       let not_under = not-true (is_occluded config.occlude_below_dname L a l.owner) (and_parts (is_at_or_below l.owner a) (not (is_occluded config.occlude_below_dname L a l.owner)) own).1 in
-      let down = (and_parts (is_at_or_below x c) (not (same x c)) s).0 in
+      let down = (and_parts (is_at_or_below x c) (not (same_name x c)) s).0 in
       let low = below_trans x c a down (and_parts (is_at_or_below c a) (not (is_occluded config.occlude_below_dname L a c)) unoccluded).0 in
       let cover : covers before l.owner l.next x ≡ true =
       elim (or_cases (matches before l.owner x) (covers before l.owner l.next x) one.passes) [
-        | inl m ↦ absurd (false≢true (sym not_under ∙ below_occluder config.occlude_below_dname L a c l.owner cut (ap (λ k. key_below k (key c) && not (key_same k (key c))) (one_key l.owner x (same_is l.owner x ∙ m)) ∙ s)))
+        | inl m ↦ absurd (false≢true (sym not_under ∙ below_occluder config.occlude_below_dname L a c l.owner cut (ap (λ k. lowered_below k (lowered c) && not (same_lowered k (lowered c))) (one_lowered l.owner x (same_is l.owner x ∙ m)) ∙ s)))
         | inr m ↦ m
       ] in
       record {
@@ -165,19 +167,19 @@ module _ (L : List ZoneRecord) (a : Name) (order : IsInOrder L) (config : Genera
       cut_owns : owns L c ≡ true
       cut_owns = occluder_owns config.occlude_below_dname L a c cut
 
-      at : (l : Link) → Covered x l → is_occluded config.occlude_below_dname L a l.owner ≡ false → is_at_or_below x c ≡ true → same l.owner c ≡ true
+      at : (l : Link) → Covered x l → is_occluded config.occlude_below_dname L a l.owner ≡ false → is_at_or_below x c ≡ true → same_name l.owner c ≡ true
       at l v u down =
-          let m = any_in (λ n. same n c) (unoccluded_owners config.occlude_below_dname L a) (any_owner config.occlude_below_dname L a c (λ n. key_same n (key c)) cut_owns unoccluded (same_itself c c refl)) in
-          let k = one_key m.0 c m.2 in
+          let m = any_in (λ n. same_name n c) (unoccluded_owners config.occlude_below_dname L a) (any_owner config.occlude_below_dname L a c (λ n. same_lowered n (lowered c)) cut_owns unoccluded (same_itself c c refl)) in
+          let k = one_lowered m.0 c m.2 in
           let c_first : before l.owner c ≡ false =
           elim (v.sides m.0 m.1) [
-            | inl f ↦ ap (key_before (key l.owner)) (sym k) ∙ f
-            | inr f ↦ absurd (false≢true (sym (before_order.chain x c l.next (below_from x c down) (ap (λ q. key_before q (key l.next)) (sym k) ∙ f.1)) ∙ f.0))
+            | inl f ↦ sym (before_right l.owner m.0 c k) ∙ f
+            | inr f ↦ absurd (false≢true (sym (before_order.chain x c l.next (below_from x c down) (sym (before_left m.0 c l.next k) ∙ f.1)) ∙ f.0))
           ] in
           let under = below_between x c l.owner down c_first (before_order.one_way l.owner x v.after) in
-          elim (cases_Bool (same l.owner c)) [
+          elim (cases_Bool (same_name l.owner c)) [
             | inl e ↦ e
-            | inr e ↦ absurd (false≢true (sym u ∙ below_occluder config.occlude_below_dname L a c l.owner cut (and_from (is_at_or_below l.owner c) (not (same l.owner c)) under (ap not e))))
+            | inr e ↦ absurd (false≢true (sym u ∙ below_occluder config.occlude_below_dname L a c l.owner cut (and_from (is_at_or_below l.owner c) (not (same_name l.owner c)) under (ap not e))))
           ]
 
   pub covers_below_occluders : CoversBelowOccluders L a config links

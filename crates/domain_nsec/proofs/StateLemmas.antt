@@ -4,7 +4,8 @@ use Rattle.std.specs.List.{list_any}
 use Rattle.std.proofs.lemmas.List.{map-append}
 use Rattle.std.proofs.lemmas.List.Folds.{list_any-append}
 use Rattle.domain_bitmap.specs.Bitmap.{bitmap_octets}
-use Rattle.domain_zone.specs.Names.{Name, same}
+use Rattle.domain_base.specs.Name.{same_name}
+use Rattle.domain_base.specs.Words.{Name}
 use Rattle.domain_zone.specs.Owners.{OwnerRecords, owner_at, owners_with_records}
 use Rattle.domain_zone.specs.Soa.{soa_of}
 use Rattle.domain_zone.specs.Zone.{ZoneRecord, has_clash, has_unequal_ttls, unoccluded_owners}
@@ -40,7 +41,7 @@ module _ (L : List ZoneRecord) (a : Name) (config : GenerateNsecConfig) (numbers
 
     -- the record of the next owner waits
     pub at_owner : (bits : List ℕ) (links' : List Link) → has_clash o.records ≡ false
-        → bits ≡ bitmap_octets (is_listed (config.assume_dnskeys_will_be_added && same o.name a) o.is_zone_cut o.records) → IsAdded links waiting o.name numbers links'
+        → bits ≡ bitmap_octets (is_listed (config.assume_dnskeys_will_be_added && same_name o.name a) o.is_zone_cut o.records) → IsAdded links waiting o.name numbers links'
         → IsAt L a config numbers left links' (Some (o.name, bits))
     at_owner bits links' even b e = record {
       given = s.given ++ o ∷ [];
@@ -49,7 +50,7 @@ module _ (L : List ZoneRecord) (a : Name) (config : GenerateNsecConfig) (numbers
       linked =
           subst (IsLinked L a config.assume_dnskeys_will_be_added numbers links' (Some (o.name, bits))) (sym (map-append name_of s.given (o ∷ [])))
           (wait_with L a config.assume_dnskeys_will_be_added numbers links' (map name_of s.given) o.name bits
-          (b ∙ ap (λ p. bitmap_octets (is_listed (config.assume_dnskeys_will_be_added && same o.name a) p.is_zone_cut p.records)) at_known)
+          (b ∙ ap (λ p. bitmap_octets (is_listed (config.assume_dnskeys_will_be_added && same_name o.name a) p.is_zone_cut p.records)) at_known)
           (closed links links' waiting (map name_of s.given) o.name s.linked e));
     }
 

@@ -4,7 +4,8 @@ use Rattle.domain_bitmap.specs.Bitmap.{bitmap_octets}
 use Rattle.domain_records.specs.declared.error.SigningError.{SigningError}
 use Rattle.domain_records.specs.declared.error.SigningError.TheVariants.{EmptyRecordSlice, SoaRecordCouldNotBeDetermined, MultipleTtlValues, Nsec3HashingError, OutOfMemory}
 use Rattle.domain_zone.specs.Covering.{pairs}
-use Rattle.domain_zone.specs.Names.{Name, same}
+use Rattle.domain_base.specs.Name.{same_name}
+use Rattle.domain_base.specs.Words.{Name}
 use Rattle.domain_zone.specs.Soa.{chain_ttl, soa_of}
 use Rattle.domain_zone.specs.Types.{rrsig, nsec, dnskey}
 use Rattle.domain_zone.specs.Zone.{ZoneRecord, unoccluded_owners, is_zone_cut, records_of, lists_type, has_unequal_ttls}
@@ -36,8 +37,8 @@ abbrev pub is_listed : Bool → Bool → List ZoneRecord → ℕ → Bool
 is_listed assumed cut rs t =
     ((t == rrsig) || (t == nsec) || (assumed && (t == dnskey))) || lists_type cut rs t
 
-abbrev pub has_bit : List ZoneRecord → Name → Bool → Name → ℕ → Bool
-has_bit L a assume n t = is_listed (assume && same n a) (is_zone_cut L a n) (records_of L n) t
+abbrev pub nsec_lists : List ZoneRecord → Name → Bool → Name → ℕ → Bool
+nsec_lists L a assume n t = is_listed (assume && same_name n a) (is_zone_cut L a n) (records_of L n) t
 
 -- one record for each owner that is not occluded, in canonical order, that points to the next one,
 -- the last one to the apex; each with the class of the SOA, the lesser of its MINIMUM and TTL, and
@@ -50,7 +51,7 @@ pub record IsChain (L : List ZoneRecord) (a : Name) (config : GenerateNsecConfig
       ≡ pairs (unoccluded_owners config.occlude_below_dname L a) a
   pub numbered : All (λ k. (k.class ≡ numbers.class) × (k.ttl ≡ chain_ttl numbers)) links
   pub bits : All (λ k. k.bits
-      ≡ bitmap_octets (has_bit L a config.assume_dnskeys_will_be_added k.owner)) links
+      ≡ bitmap_octets (nsec_lists L a config.assume_dnskeys_will_be_added k.owner)) links
 
 -- the error is the first fault that stands, or want of memory
 abbrev pub IsFirstFault : List ZoneRecord → Name → GenerateNsecConfig → SigningError → Type 0

@@ -1,7 +1,6 @@
 pub mod Chain
 pub mod Meaning
 pub mod ChainView
-pub use Rattle.domain_zone.specs.Names
 pub use Rattle.domain_zone.specs.Covering
 pub use Rattle.domain_zone.specs.Types
 pub use Rattle.domain_zone.specs.Zone

@@ -4,9 +4,11 @@ use Rattle.std.specs.Prelude.{ℕ, Bool, true, false, List, [], ◌∷◌, Some,
 use Rattle.domain_bitmap.specs.Bitmap.{bitmap_octets}
 use Rattle.domain_zone.specs.Covering.{matches, covers, matches_or_covers}
 use Rattle.domain_zone.specs.Enclosers.{IsClosestEncloser, is_empty_nonterminal, longer, shared}
-use Rattle.domain_zone.specs.Names.{Name, same, before, is_at_or_below, is_strictly_below}
+use Rattle.domain_base.specs.Name.{is_at_or_below, is_strictly_below, same_name}
+use Rattle.domain_base.specs.Order.{before}
+use Rattle.domain_base.specs.Words.{Name}
 use Rattle.domain_zone.specs.Zone.{ZoneRecord, occludes, owns, is_occluded, is_unoccluded, unoccluded_owners}
-use Rattle.domain_nsec.specs.Chain.{Link, has_bit}
+use Rattle.domain_nsec.specs.Chain.{Link, nsec_lists}
 use Rattle.domain_nsec.specs.declared.config.GenerateNsecConfig.{GenerateNsecConfig}
 
 -- exactly one record matches or covers x; it matches exactly where x owns records, and lists the
@@ -20,7 +22,7 @@ pub record IsMatchedOrCoveredOnce (L : List ZoneRecord) (a : Name) (assume : Boo
   pub only : (j : ℕ) (k : Link) → slice_get links j ≡ Some k
       → matches_or_covers before k.owner k.next x ≡ true → j ≡ place
   pub matched : matches before link.owner x ≡ owns L x
-  pub bits : link.bits ≡ bitmap_octets (has_bit L a assume link.owner)
+  pub bits : link.bits ≡ bitmap_octets (nsec_lists L a assume link.owner)
 
 -- that holds of each name, also one that no record holds, at or below the apex and not occluded:
 -- the chain denies exactly what the zone does not hold
@@ -54,7 +56,7 @@ pub record IsCoveredBy (links : List Link) (c x : Name) : Type 0 where
   pub place : ℕ
   pub link : Link
   pub there : slice_get links place ≡ Some link
-  pub owner : same link.owner c ≡ true
+  pub owner : same_name link.owner c ≡ true
   pub covered : covers before link.owner link.next x ≡ true
   pub only : (j : ℕ) (k : Link) → slice_get links j ≡ Some k
       → matches_or_covers before k.owner k.next x ≡ true → j ≡ place
@@ -82,6 +84,6 @@ pub record IsCycle (a : Name) (links : List Link) : Type 0 where
   pub first : Link
   pub later : List Link
   pub are : links ≡ first ∷ later
-  pub begins : same first.owner a ≡ true
+  pub begins : same_name first.owner a ≡ true
   pub ascends : OwnersAscend links
   pub ends : last_next first.next later ≡ a

@@ -1,33 +1,34 @@
 //! What callers may take from the definition of a chain. A caller calls the law in its body.
 ghost use Rattle.std.specs.Prelude.{◌≡◌, ℕ, Bool, List, true};
-ghost use Rattle.domain_zone.specs.Names.{Name, same};
-ghost use Rattle.domain_zone.specs.Zone.{IsInOrder, ZoneRecord};
-ghost use Rattle.domain_nsec.specs.Chain.{has_bit, IsChain, Link};
+ghost use Rattle.domain_base.specs.Name.{same_name};
+ghost use Rattle.domain_base.specs.Words.{Name};
+ghost use Rattle.domain_zone.specs.Zone.{OwnersNeverDescend, ZoneRecord};
+ghost use Rattle.domain_nsec.specs.Chain.{nsec_lists, IsChain, Link};
 ghost use Rattle.domain_nsec.specs.Meaning.{CoversBelowOccluders, IsCycle, MirrorsZone, TellsEmpty, TellsEncloser};
 ghost use Rattle.domain_nsec.specs.declared.config.GenerateNsecConfig.{GenerateNsecConfig};
 
 /// The NSEC record of an owner lists the same types for each spelling of the name.
 pub fn types_ignore_case()
-    ensures { (L : List ZoneRecord) (a : Name) (assume : Bool) (x y : Name) → same x y ≡ true
-        → (t : ℕ) → has_bit L a assume x t ≡ has_bit L a assume y t }
+    ensures { (L : List ZoneRecord) (a : Name) (assume : Bool) (x y : Name) → same_name x y ≡ true
+        → (t : ℕ) → nsec_lists L a assume x t ≡ nsec_lists L a assume y t }
 {}
 
 /// What the chain of records in order says of every name follows from the chain alone, however it
 /// was made.
 pub fn chains_mean_the_zone()
     ensures cycle { (L : List ZoneRecord) (a : Name) (config : GenerateNsecConfig)
-        (links : List Link) → IsInOrder L → IsChain L a config links
+        (links : List Link) → OwnersNeverDescend L → IsChain L a config links
         → IsCycle a links }
     ensures denial { (L : List ZoneRecord) (a : Name) (config : GenerateNsecConfig)
-        (links : List Link) → IsInOrder L → IsChain L a config links
+        (links : List Link) → OwnersNeverDescend L → IsChain L a config links
         → MirrorsZone L a config links }
     ensures nonterminals { (L : List ZoneRecord) (a : Name) (config : GenerateNsecConfig)
-        (links : List Link) → IsInOrder L → IsChain L a config links
+        (links : List Link) → OwnersNeverDescend L → IsChain L a config links
         → TellsEmpty L a config links }
     ensures enclosers { (L : List ZoneRecord) (a : Name) (config : GenerateNsecConfig)
-        (links : List Link) → IsInOrder L → IsChain L a config links
+        (links : List Link) → OwnersNeverDescend L → IsChain L a config links
         → TellsEncloser L a config links }
     ensures occluded { (L : List ZoneRecord) (a : Name) (config : GenerateNsecConfig)
-        (links : List Link) → IsInOrder L → IsChain L a config links
+        (links : List Link) → OwnersNeverDescend L → IsChain L a config links
         → CoversBelowOccluders L a config links }
 {}

@@ -18,7 +18,7 @@ use domain_plain::Record;
 use domain_rdata::{Nsec, ZoneRecordData};
 use domain_records::{RecordsIter, SigningError, SliceRefsOrOwnedIterator};
 use domain_zone::{
-    ApexSoa, UnoccludedOwners, ZoneRr, add_type, add_types, find_soa, has_unequal_ttls, is_same,
+    ApexSoa, UnoccludedOwners, ZoneRr, add_type, add_types, find_soa, has_unequal_ttls,
 };
 use std::alloc::Global;
 
@@ -148,7 +148,7 @@ where
         if let Some((name, types)) = waiting.take() {
             push_nsec(alloc, &mut nsecs, name, owner.name, &soa, types)?;
         }
-        let assumed = config.assume_dnskeys_will_be_added & is_same(owner.name, apex);
+        let assumed = config.assume_dnskeys_will_be_added & owner.name.name_eq(apex);
         let types = types_of(alloc, owner.records.records(), assumed, owner.is_zone_cut)?;
         waiting = Some((owner.name, types));
     }

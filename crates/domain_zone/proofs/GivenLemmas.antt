@@ -7,12 +7,13 @@ use Rattle.domain_base.specs.Laws.{same_name_same}
 use Rattle.domain_plain.specs.declared.record.Record.{Record}
 use Rattle.domain_rdata.specs.Zone.{rtype_of}
 use Rattle.domain_rdata.specs.declared.zone_record_data.ZoneRecordData.{ZoneRecordData}
-use Rattle.domain_records.specs.Order.{MayFollow, HoldsPairwise, IsInOrder as IsListInOrder}
-use Rattle.domain_zone.specs.Names.{Name, same}
+use Rattle.domain_records.specs.Order.{MayFollow, HoldsPairwise, IsInOrder}
+use Rattle.domain_base.specs.Name.{same_name}
+use Rattle.domain_base.specs.Words.{Name}
 use Rattle.domain_zone.specs.Owners.{OwnerRecords, owner_at, owners_with_records}
 use Rattle.domain_zone.specs.View.{as_zone_record}
 use Rattle.domain_zone.specs.Zone.{ZoneRecord, records_of, unoccluded_owners, has_clash, has_unequal_ttls}
-use Rattle.domain_zone.proofs.NameLemmas.{one_key, same_itself, same_is_name}
+use Rattle.domain_zone.proofs.NameLemmas.{one_lowered, same_itself}
 use Rattle.domain_zone.proofs.OwnerLemmas.{filter_passes}
 use Rattle.domain_zone.proofs.TtlLemmas.{NeverDescend}
 use Rattle.domain_zone.proofs.ZoneLemmas.{all_front, any_map}
@@ -60,20 +61,20 @@ module _ (d : Bool) (L : List ZoneRecord) (a : Name) (given : List OwnerRecords)
 
 module _ {O N : Type 0} (labels : N → Name) where
   follows : (r : Record N (ZoneRecordData O N)) (rs : List (Record N (ZoneRecordData O N))) → AllByRecursion (MayFollow labels rtype_of r) rs
-      → AllByRecursion (λ s. same (labels r.owner) s.owner ≡ true → rtype_of r.«data» ≤ s.rtype) (map (as_zone_record labels) rs)
+      → AllByRecursion (λ s. same_name (labels r.owner) s.owner ≡ true → rtype_of r.«data» ≤ s.rtype) (map (as_zone_record labels) rs)
   follows r [] h = tt
   follows r (s ∷ rs) h =
       let first : MayFollow labels rtype_of r s = h.0 in
-      ((λ e. first.type ((same_name_same (labels r.owner) (labels s.owner)).0 (sym (same_is_name (labels r.owner) (labels s.owner)) ∙ e))), follows r rs h.1)
+      ((λ e. first.type ((same_name_same (labels r.owner) (labels s.owner)).0 e)), follows r rs h.1)
 
-  pub types_at : (rs : List (Record N (ZoneRecordData O N))) (n : Name) → IsListInOrder labels rtype_of rs → NeverDescend (records_of (map (as_zone_record labels) rs) n)
+  pub types_at : (rs : List (Record N (ZoneRecordData O N))) (n : Name) → IsInOrder labels rtype_of rs → NeverDescend (records_of (map (as_zone_record labels) rs) n)
   types_at [] n h = tt
   types_at (r ∷ rs) n h =
       let more = records_of (map (as_zone_record labels) rs) n in
-      elim (same (labels r.owner) n) as (λ b. same (labels r.owner) n ≡ b → NeverDescend (cond b (as_zone_record labels r ∷ records_of (map (as_zone_record labels) rs) n) (records_of (map (as_zone_record labels) rs) n))) [
+      elim (same_name (labels r.owner) n) as (λ b. same_name (labels r.owner) n ≡ b → NeverDescend (cond b (as_zone_record labels r ∷ records_of (map (as_zone_record labels) rs) n) (records_of (map (as_zone_record labels) rs) n))) [
         | true ↦ λ e. (
-          filter_passes (λ s. same (labels r.owner) s.owner ≡ true → rtype_of r.«data» ≤ s.rtype) (λ s. rtype_of r.«data» ≤ s.rtype) (λ s. same s.owner n)
-              (λ s f q. f (same_itself (labels r.owner) s.owner (one_key (labels r.owner) n e ∙ sym (one_key s.owner n q)))) (map (as_zone_record labels) rs) (follows r rs h.0),
+          filter_passes (λ s. same_name (labels r.owner) s.owner ≡ true → rtype_of r.«data» ≤ s.rtype) (λ s. rtype_of r.«data» ≤ s.rtype) (λ s. same_name s.owner n)
+              (λ s f q. f (same_itself (labels r.owner) s.owner (one_lowered (labels r.owner) n e ∙ sym (one_lowered s.owner n q)))) (map (as_zone_record labels) rs) (follows r rs h.0),
           types_at rs n h.1,
         )
         | false ↦ λ e. types_at rs n h.1

@@ -8,19 +8,19 @@ use Rattle.std.specs.List.{list_any, AllByRecursion}
 use Rattle.std.proofs.lemmas.Bool.{cases_Bool, false≢true, and_parts, not-true, eqb-true}
 use Rattle.std.proofs.lemmas.List.{map-append}
 use Rattle.std.proofs.lemmas.List.Folds.{Any-from_list_any, list_any-from_Any}
-use Rattle.domain_base.specs.Name.{IsSame}
+use Rattle.domain_base.specs.Name.{IsSame, lowered, same_name}
 use Rattle.domain_base.specs.Laws.{same_name_same}
-use Rattle.domain_base.specs.Order.{canonical_cmp, canonical_cmp_total}
+use Rattle.domain_base.specs.Order.{canonical_cmp, canonical_cmp_total, before}
 use Rattle.domain_plain.specs.declared.record.Record.{Record}
 use Rattle.domain_rdata.specs.Zone.{rtype_of}
 use Rattle.domain_rdata.specs.declared.zone_record_data.ZoneRecordData.{ZoneRecordData}
 use Rattle.domain_records.specs.Runs.{runs, add_to}
 use Rattle.domain_records.specs.Groups.{same_owner, HasFirst, IsZoneCut}
-use Rattle.domain_records.specs.Order.{MayFollow, IsInOrder as IsListInOrder}
-use Rattle.domain_zone.specs.Names.{Name, key, key_same, same, before}
-use Rattle.domain_zone.specs.Zone.{ZoneRecord, IsInOrder, has_type}
+use Rattle.domain_records.specs.Order.{MayFollow, IsInOrder}
+use Rattle.domain_base.specs.Words.{Name}
+use Rattle.domain_zone.specs.Zone.{ZoneRecord, OwnersNeverDescend, has_type}
 use Rattle.domain_zone.specs.View.{as_zone_record}
-use Rattle.domain_zone.proofs.NameLemmas.{one_key, same_itself, same_is_name, before_is}
+use Rattle.domain_zone.proofs.NameLemmas.{one_lowered, same_itself, same_lowered}
 use Rattle.domain_zone.proofs.ZoneLemmas.{any_map, BeginsElsewhere, IsFront}
 use Rattle.domain_zone.proofs.TtlLemmas.{NeverDescend}
 
@@ -110,22 +110,22 @@ two : (n : ℕ) → n ≡ 2 → nat_eq n 2 ≡ true
 two n e = ap (λ m. nat_eq m 2) e
 
 module _ {O N : Type 0} (labels : N → Name) where
-  owner_key : (r s : Record N (ZoneRecordData O N)) → same_owner labels r s ≡ true → key (labels r.owner) ≡ key (labels s.owner)
-  owner_key r s e = one_key (labels r.owner) (labels s.owner) (same_is_name (labels r.owner) (labels s.owner) ∙ e)
+  owner_key : (r s : Record N (ZoneRecordData O N)) → same_owner labels r s ≡ true → lowered (labels r.owner) ≡ lowered (labels s.owner)
+  owner_key r s e = one_lowered (labels r.owner) (labels s.owner) e
 
   owner_onward : (r s t : Record N (ZoneRecordData O N)) → same_owner labels r s ≡ true → same_owner labels r t ≡ same_owner labels s t
   owner_onward r s t e =
-      sym (same_is_name (labels r.owner) (labels t.owner)) ∙ ap (λ k. key_same k (key (labels t.owner))) (owner_key r s e) ∙ same_is_name (labels s.owner) (labels t.owner)
+      ap (λ k. same_lowered k (lowered (labels t.owner))) (owner_key r s e)
 
-  all_at : (r : Record N (ZoneRecordData O N)) (more : List (Record N (ZoneRecordData O N))) → AllByRecursion (λ s. same_owner labels r s ≡ true) more → AllByRecursion (λ s. same s.owner (labels r.owner) ≡ true) (map (as_zone_record labels) more)
+  all_at : (r : Record N (ZoneRecordData O N)) (more : List (Record N (ZoneRecordData O N))) → AllByRecursion (λ s. same_owner labels r s ≡ true) more → AllByRecursion (λ s. same_name s.owner (labels r.owner) ≡ true) (map (as_zone_record labels) more)
   all_at r [] h = tt
   all_at r (s ∷ more) h = (same_itself (labels s.owner) (labels r.owner) (sym (owner_key r s h.0)), all_at r more h.1)
 
   elsewhere : (r : Record N (ZoneRecordData O N)) (t : List (Record N (ZoneRecordData O N))) → StartsApart (same_owner labels) r t → BeginsElsewhere (labels r.owner) (map (as_zone_record labels) t)
   elsewhere r [] h = tt
   elsewhere r (s ∷ t) h =
-      elim (cases_Bool (same (labels s.owner) (labels r.owner))) [
-        | inl e ↦ absurd (false≢true (sym h ∙ sym (same_is_name (labels r.owner) (labels s.owner)) ∙ same_itself (labels r.owner) (labels s.owner) (sym (one_key (labels s.owner) (labels r.owner) e))))
+      elim (cases_Bool (same_name (labels s.owner) (labels r.owner))) [
+        | inl e ↦ absurd (false≢true (sym h ∙ same_itself (labels r.owner) (labels s.owner) (sym (one_lowered (labels s.owner) (labels r.owner) e))))
         | inr e ↦ e
       ]
 
@@ -153,7 +153,7 @@ module _ {O N : Type 0} (labels : N → Name) where
 
   not_before : (r s : Record N (ZoneRecordData O N)) → MayFollow labels rtype_of r s → before (labels s.owner) (labels r.owner) ≡ false
   not_before r s m =
-      before_is (labels s.owner) (labels r.owner) ∙ ap is_lt (canonical_cmp_total.antisymm (labels s.owner) (labels r.owner)) ∙ turned (canonical_cmp (labels r.owner) (labels s.owner)) ∙ m.owner
+      ap is_lt (canonical_cmp_total.antisymm (labels s.owner) (labels r.owner)) ∙ turned (canonical_cmp (labels r.owner) (labels s.owner)) ∙ m.owner
     where
       turned : (o : Ordering) → is_lt (ordering_reverse o) ≡ is_gt o
       turned Less = refl
@@ -164,12 +164,12 @@ module _ {O N : Type 0} (labels : N → Name) where
   all_follow r [] h = tt
   all_follow r (s ∷ rs) h = (not_before r s h.0, all_follow r rs h.1)
 
-  pub owners_in_order : (rs : List (Record N (ZoneRecordData O N))) → IsListInOrder labels rtype_of rs → IsInOrder (map (as_zone_record labels) rs)
+  pub owners_in_order : (rs : List (Record N (ZoneRecordData O N))) → IsInOrder labels rtype_of rs → OwnersNeverDescend (map (as_zone_record labels) rs)
   owners_in_order [] h = tt
   owners_in_order (r ∷ rs) h = (all_follow r rs h.0, owners_in_order rs h.1)
 
   -- the records of a list in order that come after a group are in order
-  pub order_after : (group after : List (Record N (ZoneRecordData O N))) → IsListInOrder labels rtype_of (group ++ after) → IsListInOrder labels rtype_of after
+  pub order_after : (group after : List (Record N (ZoneRecordData O N))) → IsInOrder labels rtype_of (group ++ after) → IsInOrder labels rtype_of after
   order_after [] after h = h
   order_after (g ∷ group) after h = order_after group after h.1
 
@@ -180,7 +180,7 @@ module _ {O N : Type 0} (labels : N → Name) where
       (follow.type ((same_name_same (labels r.owner) (labels s.owner)).0 all.0), alike_types r more after all.1 h.1)
 
   -- the types of a group never descend
-  types_of_group : (r : Record N (ZoneRecordData O N)) (more after : List (Record N (ZoneRecordData O N))) → AllByRecursion (λ s. same_owner labels r s ≡ true) more → IsListInOrder labels rtype_of ((r ∷ more) ++ after) → NeverDescend (map (as_zone_record labels) (r ∷ more))
+  types_of_group : (r : Record N (ZoneRecordData O N)) (more after : List (Record N (ZoneRecordData O N))) → AllByRecursion (λ s. same_owner labels r s ≡ true) more → IsInOrder labels rtype_of ((r ∷ more) ++ after) → NeverDescend (map (as_zone_record labels) (r ∷ more))
   types_of_group r [] after all h = (tt, tt)
   types_of_group r (s ∷ more) after all h =
       (alike_types r (s ∷ more) after all h.0, types_of_group s more after (moved more all.0 all.1) h.1)
@@ -189,17 +189,17 @@ module _ {O N : Type 0} (labels : N → Name) where
       moved [] e k = tt
       moved (u ∷ us) e k = (sym (owner_onward r s u e) ∙ k.0, moved us e k.1)
 
-  pub group_types : (rest group after : List (Record N (ZoneRecordData O N))) → rest ≡ group ++ after → runs (same_owner labels) rest ≡ group ∷ runs (same_owner labels) after → IsListInOrder labels rtype_of rest → NeverDescend (map (as_zone_record labels) group)
+  pub group_types : (rest group after : List (Record N (ZoneRecordData O N))) → rest ≡ group ++ after → runs (same_owner labels) rest ≡ group ∷ runs (same_owner labels) after → IsInOrder labels rtype_of rest → NeverDescend (map (as_zone_record labels) group)
   group_types [] [] after e f h = tt
   group_types [] (g ∷ group) after e f h = cc
   group_types (r ∷ rest) group after e f h =
       let run = first_run (same_owner labels) owner_onward r rest group after e f in
       subst (λ t. NeverDescend (map (as_zone_record labels) t)) (sym run.are)
-      (types_of_group r run.more after run.all (subst (λ t. IsListInOrder labels rtype_of t) (e ∙ ap (λ t. t ++ after) run.are) h))
+      (types_of_group r run.more after run.all (subst (λ t. IsInOrder labels rtype_of t) (e ∙ ap (λ t. t ++ after) run.are) h))
 
   -- ---- zone cuts
 
-  pub cut_test : (b : Bool) (a : Name) (owner : N) (group : List (Record N (ZoneRecordData O N))) → HasFirst (λ r. r.owner ≡ owner) group → (IsTrue b ↔ IsZoneCut labels rtype_of a group) → b ≡ (not (same (labels owner) a) && has_type (map (as_zone_record labels) group) 2)
+  pub cut_test : (b : Bool) (a : Name) (owner : N) (group : List (Record N (ZoneRecordData O N))) → HasFirst (λ r. r.owner ≡ owner) group → (IsTrue b ↔ IsZoneCut labels rtype_of a group) → b ≡ (not (same_name (labels owner) a) && has_type (map (as_zone_record labels) group) 2)
   cut_test b a owner [] h f = absurd h
   cut_test b a owner (g ∷ more) h f = by b f
     where
@@ -209,29 +209,29 @@ module _ {O N : Type 0} (labels : N → Name) where
       types : has_type (map (as_zone_record labels) (g ∷ more)) 2 ≡ list_any (λ r. nat_eq (rtype_of r.«data») 2) (g ∷ more)
       types = any_map (λ r. nat_eq r.rtype 2) (as_zone_record labels) (g ∷ more)
 
-      apart : ¬ (IsSame (labels g.owner) a) → same (labels owner) a ≡ false
-      apart n = elim (cases_Bool (same (labels owner) a)) [
-        | inl e ↦ absurd (n ((same_name_same (labels g.owner) a).0 (sym (same_is_name (labels g.owner) a) ∙ ap (λ o. same (labels o) a) h ∙ e)))
+      apart : ¬ (IsSame (labels g.owner) a) → same_name (labels owner) a ≡ false
+      apart n = elim (cases_Bool (same_name (labels owner) a)) [
+        | inl e ↦ absurd (n ((same_name_same (labels g.owner) a).0 (ap (λ o. same_name (labels o) a) h ∙ e)))
         | inr e ↦ e
       ]
 
       -- what the test says
-      says : (not (same (labels owner) a) && has_type (map (as_zone_record labels) (g ∷ more)) 2) ≡ true → IsZoneCut labels rtype_of a (g ∷ more)
+      says : (not (same_name (labels owner) a) && has_type (map (as_zone_record labels) (g ∷ more)) 2) ≡ true → IsZoneCut labels rtype_of a (g ∷ more)
       says e =
-          let p = and_parts (not (same (labels owner) a)) (has_type (map (as_zone_record labels) (g ∷ more)) 2) e in
+          let p = and_parts (not (same_name (labels owner) a)) (has_type (map (as_zone_record labels) (g ∷ more)) 2) e in
           let found = Any-from_list_any (λ r. nat_eq (rtype_of r.«data») 2) (g ∷ more) (sym types ∙ p.1) in
           record {
-            below = λ s. false≢true (sym (not-true (same (labels owner) a) p.0) ∙ ap (λ o. same (labels o) a) (sym h) ∙ same_is_name (labels g.owner) a ∙ (same_name_same (labels g.owner) a).1 s);
+            below = λ s. false≢true (sym (not-true (same_name (labels owner) a) p.0) ∙ ap (λ o. same_name (labels o) a) (sym h) ∙ (same_name_same (labels g.owner) a).1 s);
             delegates = (found.0, found.1, found.2, found.3, eqb-true (rtype_of found.1.«data») 2 found.4);
           }
 
-      by : (v : Bool) → (IsTrue v ↔ IsZoneCut labels rtype_of a (g ∷ more)) → v ≡ (not (same (labels owner) a) && has_type (map (as_zone_record labels) (g ∷ more)) 2)
+      by : (v : Bool) → (IsTrue v ↔ IsZoneCut labels rtype_of a (g ∷ more)) → v ≡ (not (same_name (labels owner) a) && has_type (map (as_zone_record labels) (g ∷ more)) 2)
       by true k =
           let cut = k.0 refl in
           let ns = cut.delegates in
           let typed = types ∙ list_any-from_Any (λ r. nat_eq (rtype_of r.«data») 2) (g ∷ more) (ns.0, ns.1, ns.2, ns.3, two (rtype_of ns.1.«data») ns.4) in
           sym (λ i. not (apart cut.below i) && typed i)
-      by false k = elim (cases_Bool (not (same (labels owner) a) && has_type (map (as_zone_record labels) (g ∷ more)) 2)) [
+      by false k = elim (cases_Bool (not (same_name (labels owner) a) && has_type (map (as_zone_record labels) (g ∷ more)) 2)) [
         | inl e ↦ absurd (false≢true (k.1 (says e)))
         | inr e ↦ sym e
       ]

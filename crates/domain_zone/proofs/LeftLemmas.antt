@@ -6,9 +6,10 @@ use Rattle.domain_plain.specs.declared.record.Record.{Record}
 use Rattle.domain_rdata.specs.Zone.{rtype_of}
 use Rattle.domain_rdata.specs.declared.zone_record_data.ZoneRecordData.{ZoneRecordData}
 use Rattle.domain_records.specs.Groups.{same_owner, HasFirst}
-use Rattle.domain_records.specs.Order.{IsInOrder as IsListInOrder}
+use Rattle.domain_records.specs.Order.{IsInOrder}
 use Rattle.domain_records.specs.Runs.{runs, add_to}
-use Rattle.domain_zone.specs.Names.{Name, same, is_at_or_below}
+use Rattle.domain_base.specs.Name.{is_at_or_below, same_name}
+use Rattle.domain_base.specs.Words.{Name}
 use Rattle.domain_zone.specs.Owners.{OwnerRecords, owner_at, owners_with_records}
 use Rattle.domain_zone.specs.Types.{ns, dname}
 use Rattle.domain_zone.specs.View.{as_zone_record}
@@ -165,7 +166,7 @@ module _ {O N : Type 0} (labels : N → Name) (d : Bool) (L : List ZoneRecord) (
                       let records_are : records_of L (labels r.owner) ≡ map (as_zone_record labels) group =
                       ap (records_of L) (sym at) ∙ next_records d L a (map (as_zone_record labels) (r ∷ rest)) o ks w g f.gs (map (as_zone_record labels) t) f.split f.group ∙ sym f.are in
                       let cut_is : is_zone_cut L a (labels r.owner) ≡ is_cut_group a (labels r.owner) (map (as_zone_record labels) group) =
-                      λ i. (zone i && not (same (labels r.owner) a)) && has_type (records_are i) ns in
+                      λ i. (zone i && not (same_name (labels r.owner) a)) && has_type (records_are i) ns in
                       let occludes_is : occludes d L a (labels r.owner) ≡ (is_cut_group a (labels r.owner) (map (as_zone_record labels) group) || (d && has_type (map (as_zone_record labels) group) dname)) =
                       (λ i. cut_is i || (d && zone i && has_type (records_are i) dname)) ∙ ap (λ b. is_cut_group a (labels r.owner) (map (as_zone_record labels) group) || b) (and_true d (has_type (map (as_zone_record labels) group) dname)) in
                       let next : cond (occludes d L a g.owner) (Some g.owner) None ≡ occluder_from d a (labels r.owner) (map (as_zone_record labels) group) =
@@ -193,7 +194,7 @@ module _ {O N : Type 0} (labels : N → Name) (d : Bool) (L : List ZoneRecord) (
           and_true false c = refl
 
 -- at first all are left
-pub left_first : {O N : Type 0} (labels : N → Name) (d : Bool) (a : Name) (rs : List (Record N (ZoneRecordData O N))) → IsListInOrder labels rtype_of rs
+pub left_first : {O N : Type 0} (labels : N → Name) (d : Bool) (a : Name) (rs : List (Record N (ZoneRecordData O N))) → IsInOrder labels rtype_of rs
     → left_owners d a None (map (map (as_zone_record labels)) (runs (same_owner labels) rs)) ≡ owners_with_records d (map (as_zone_record labels) rs) a
 left_first labels d a rs h =
     left_all labels d (map (as_zone_record labels) rs) a (runs (same_owner labels) rs) rs None [] refl (walk_start d (map (as_zone_record labels) rs) a (owners_in_order labels rs h))

@@ -3,11 +3,13 @@ use Rattle.std.proofs.Common.{◌≡◌, ℕ, Bool, true, false, cond, not, ◌&
 use Rattle.std.specs.Prelude.{filter}
 use Rattle.std.specs.List.{AllByRecursion, list_any}
 use Rattle.std.proofs.lemmas.Bool.{cases_Bool, false≢true, true≢false, and_parts, or_cases, or_right, and_from, not-true}
-use Rattle.domain_zone.specs.Names.{Name, Key, key, key_same, key_below, same, before, is_at_or_below, is_strictly_below}
+use Rattle.domain_base.specs.Name.{is_at_or_below, is_strictly_below, lowered, same_name}
+use Rattle.domain_base.specs.Order.{before}
+use Rattle.domain_base.specs.Words.{Name}
 use Rattle.domain_zone.specs.Types.{ns, dname}
-use Rattle.domain_zone.specs.Zone.{ZoneRecord, IsInOrder, records_of, owns, has_type, is_zone_cut, occludes, is_occluded, is_unoccluded, distinct, unoccluded_owners}
+use Rattle.domain_zone.specs.Zone.{ZoneRecord, OwnersNeverDescend, records_of, owns, has_type, is_zone_cut, occludes, is_occluded, is_unoccluded, distinct, unoccluded_owners}
 use Rattle.domain_zone.proofs.PairLemmas.{IsAscending, In}
-use Rattle.domain_zone.proofs.NameLemmas.{one_key, same_itself, below_itself, below_from}
+use Rattle.domain_zone.proofs.NameLemmas.{one_lowered, same_itself, below_itself, below_from, lowered_below, same_lowered}
 use Rattle.domain_zone.proofs.ZoneLemmas.{all_filter, all_distinct, any_none, any_map, same_back, after_or, not_strictly}
 
 module _ {X : Type 0} where
@@ -61,54 +63,54 @@ owners_in_order : (r : ZoneRecord) (rs : List ZoneRecord) → AllByRecursion (λ
 owners_in_order r [] h = tt
 owners_in_order r (s ∷ rs) h = (h.0, owners_in_order r rs h.1)
 
-distinct_ascends : (L : List ZoneRecord) → IsInOrder L → IsAscending before (distinct (map (λ r. r.owner) L))
+distinct_ascends : (L : List ZoneRecord) → OwnersNeverDescend L → IsAscending before (distinct (map (λ r. r.owner) L))
 distinct_ascends [] h = tt
 distinct_ascends (r ∷ rs) h =
     let rest = distinct (map (λ s. s.owner) rs) in
-    let other : Name → Bool = λ y. not (same r.owner y) in (
+    let other : Name → Bool = λ y. not (same_name r.owner y) in (
       filter_passes (λ n. before n r.owner ≡ false) (λ n. before r.owner n ≡ true) other
-          (λ n e f. after_or r.owner n e (not_same n r.owner (not-true (same r.owner n) f))) rest
+          (λ n e f. after_or r.owner n e (not_same n r.owner (not-true (same_name r.owner n) f))) rest
           (all_distinct (λ n. before n r.owner ≡ false) (map (λ s. s.owner) rs) (owners_in_order r rs h.0)),
       ascending_filter before other rest (distinct_ascends rs h.1),
     )
   where
-    not_same : (x y : Name) → same y x ≡ false → same x y ≡ false
-    not_same x y e = elim (cases_Bool (same x y)) [ inl f ↦ absurd (true≢false (sym (same_back x y f) ∙ e)) | inr f ↦ f ]
+    not_same : (x y : Name) → same_name y x ≡ false → same_name x y ≡ false
+    not_same x y e = elim (cases_Bool (same_name x y)) [ inl f ↦ absurd (true≢false (sym (same_back x y f) ∙ e)) | inr f ↦ f ]
 
-pub owners_ascend : (d : Bool) (L : List ZoneRecord) (a : Name) → IsInOrder L → IsAscending before (unoccluded_owners d L a)
+pub owners_ascend : (d : Bool) (L : List ZoneRecord) (a : Name) → OwnersNeverDescend L → IsAscending before (unoccluded_owners d L a)
 owners_ascend d L a h = ascending_filter before (is_unoccluded d L a) (distinct (map (λ r. r.owner) L)) (distinct_ascends L h)
 
-any_distinct : (s : Key → Bool) (xs : List Name) → list_any (λ x. s (key x)) xs ≡ true → list_any (λ x. s (key x)) (distinct xs) ≡ true
+any_distinct : (s : Name → Bool) (xs : List Name) → list_any (λ x. s (lowered x)) xs ≡ true → list_any (λ x. s (lowered x)) (distinct xs) ≡ true
 any_distinct s [] h = h
 any_distinct s (x ∷ xs) h =
-    elim (cases_Bool (s (key x))) [
-      | inl e ↦ (λ i. e i || list_any (λ y. s (key y)) (filter (λ y. not (same x y)) (distinct xs)))
-      | inr e ↦ or_right (s (key x)) (list_any (λ y. s (key y)) (filter (λ y. not (same x y)) (distinct xs)))
-          (any_filter (λ y. s (key y)) (λ y. not (same x y)) (distinct xs)
-          ∙ any_weaker (λ y. s (key y)) (λ y. not (same x y) && s (key y)) (λ y f. other y e f) (distinct xs)
-          (any_distinct s xs (sym (ap (λ b. b || list_any (λ y. s (key y)) xs) e) ∙ h)))
+    elim (cases_Bool (s (lowered x))) [
+      | inl e ↦ (λ i. e i || list_any (λ y. s (lowered y)) (filter (λ y. not (same_name x y)) (distinct xs)))
+      | inr e ↦ or_right (s (lowered x)) (list_any (λ y. s (lowered y)) (filter (λ y. not (same_name x y)) (distinct xs)))
+          (any_filter (λ y. s (lowered y)) (λ y. not (same_name x y)) (distinct xs)
+          ∙ any_weaker (λ y. s (lowered y)) (λ y. not (same_name x y) && s (lowered y)) (λ y f. other y e f) (distinct xs)
+          (any_distinct s xs (sym (ap (λ b. b || list_any (λ y. s (lowered y)) xs) e) ∙ h)))
     ]
   where
-    other : (y : Name) → s (key x) ≡ false → s (key y) ≡ true → (not (same x y) && s (key y)) ≡ true
+    other : (y : Name) → s (lowered x) ≡ false → s (lowered y) ≡ true → (not (same_name x y) && s (lowered y)) ≡ true
     other y e f =
-        elim (cases_Bool (same x y)) [
-          | inl m ↦ absurd (true≢false (sym f ∙ ap s (sym (one_key x y m)) ∙ e))
+        elim (cases_Bool (same_name x y)) [
+          | inl m ↦ absurd (true≢false (sym f ∙ ap s (sym (one_lowered x y m)) ∙ e))
           | inr m ↦ (λ i. not (m i) && f i)
         ]
 
 -- a name that owns records and is not occluded is among them, by any test of keys
-pub any_owner : (d : Bool) (L : List ZoneRecord) (a x : Name) (s : Key → Bool) → owns L x ≡ true → is_unoccluded d L a x ≡ true → s (key x) ≡ true → list_any (λ m. s (key m)) (unoccluded_owners d L a) ≡ true
+pub any_owner : (d : Bool) (L : List ZoneRecord) (a x : Name) (s : Name → Bool) → owns L x ≡ true → is_unoccluded d L a x ≡ true → s (lowered x) ≡ true → list_any (λ m. s (lowered m)) (unoccluded_owners d L a) ≡ true
 any_owner d L a x s o k e =
-    let unoccluded_at : Key → Bool = λ m. (key_below m (key a) && not (list_any (λ r. occludes d L a r.owner && (key_below m (key r.owner) && not (key_same m (key r.owner)))) L)) && s m in
-    any_filter (λ m. s (key m)) (is_unoccluded d L a) (distinct (map (λ r. r.owner) L))
+    let unoccluded_at : Name → Bool = λ m. (lowered_below m (lowered a) && not (list_any (λ r. occludes d L a r.owner && (lowered_below m (lowered r.owner) && not (same_lowered m (lowered r.owner)))) L)) && s m in
+    any_filter (λ m. s (lowered m)) (is_unoccluded d L a) (distinct (map (λ r. r.owner) L))
     ∙ any_distinct unoccluded_at (map (λ r. r.owner) L)
-    (any_map (λ m. unoccluded_at (key m)) (λ r. r.owner) L
-    ∙ any_weaker (λ r. same r.owner x) (λ r. unoccluded_at (key r.owner))
-    (λ r h. ap unoccluded_at (one_key r.owner x h) ∙ and_from (is_unoccluded d L a x) (s (key x)) k e) L o)
+    (any_map (λ m. unoccluded_at (lowered m)) (λ r. r.owner) L
+    ∙ any_weaker (λ r. same_name r.owner x) (λ r. unoccluded_at (lowered r.owner))
+    (λ r h. ap unoccluded_at (one_lowered r.owner x h) ∙ and_from (is_unoccluded d L a x) (s (lowered x)) k e) L o)
 
 owns_itself : (L : List ZoneRecord) (K : List ZoneRecord) → ((r : ZoneRecord) → In r K → In r L) → AllByRecursion (λ n. owns L n ≡ true) (map (λ r. r.owner) K)
 owns_itself L [] f = tt
-owns_itself L (r ∷ K) f = (in_any (λ s. same s.owner r.owner) L r (f r (inl refl)) (same_itself r.owner r.owner refl), owns_itself L K (λ s i. f s (inr i)))
+owns_itself L (r ∷ K) f = (in_any (λ s. same_name s.owner r.owner) L r (f r (inl refl)) (same_itself r.owner r.owner refl), owns_itself L K (λ s i. f s (inr i)))
 
 -- each owner of the chain owns records, and is at or below the apex
 pub owners_are : (d : Bool) (L : List ZoneRecord) (a : Name) → AllByRecursion (λ n. (owns L n ≡ true) × (is_unoccluded d L a n ≡ true)) (unoccluded_owners d L a)
@@ -120,7 +122,7 @@ owners_are d L a =
 pub occluder_below : (d : Bool) (L : List ZoneRecord) (a n : Name) → occludes d L a n ≡ true → is_at_or_below n a ≡ true
 occluder_below d L a n h =
     elim (or_cases (is_zone_cut L a n) (d && is_at_or_below n a && has_type (records_of L n) dname) h) [
-      | inl e ↦ (and_parts (is_at_or_below n a) (not (same n a)) (and_parts (is_strictly_below n a) (has_type (records_of L n) ns) e).0).0
+      | inl e ↦ (and_parts (is_at_or_below n a) (not (same_name n a)) (and_parts (is_strictly_below n a) (has_type (records_of L n) ns) e).0).0
       | inr e ↦ (and_parts d (is_at_or_below n a) (and_parts (d && is_at_or_below n a) (has_type (records_of L n) dname) e).0).1
     ]
 
@@ -145,7 +147,7 @@ apex_unoccluded d L a = λ i. below_itself a i && not (any_none (λ r. occludes 
 pub typed_owns : (M : List ZoneRecord) (c : Name) (t : ℕ) → has_type (records_of M c) t ≡ true → owns M c ≡ true
 typed_owns [] c t h = h
 typed_owns (r ∷ M) c t h =
-    elim (cases_Bool (same r.owner c)) [
+    elim (cases_Bool (same_name r.owner c)) [
       | inl e ↦ (λ i. e i || owns M c)
       | inr e ↦ (λ i. e i || owns M c) ∙ typed_owns M c t (sym (ap (λ b. has_type (cond b (r ∷ records_of M c) (records_of M c)) t) e) ∙ h)
     ]
@@ -161,8 +163,8 @@ occluder_owns d L a c h =
 -- a name strictly below what occludes is occluded
 pub below_occluder : (d : Bool) (L : List ZoneRecord) (a c x : Name) → occludes d L a c ≡ true → is_strictly_below x c ≡ true → is_occluded d L a x ≡ true
 below_occluder d L a c x h s =
-    let types : Key → ℕ → Bool = λ k. has_type (filter (λ s. key_same (key s.owner) k) L) in
-    let over : Key → Bool = λ k. (key_below k (key a) && not (key_same k (key a)) && types k ns) || (d && key_below k (key a) && types k dname) in
-    let at : Key → Bool = λ k. over k && (key_below (key x) k && not (key_same (key x) k)) in
-    let q = any_in (λ r. same r.owner c) L (occluder_owns d L a c h) in
-    in_any (λ r. occludes d L a r.owner && is_strictly_below x r.owner) L q.0 q.1 (ap at (one_key q.0.owner c q.2) ∙ and_from (occludes d L a c) (is_strictly_below x c) h s)
+    let types : Name → ℕ → Bool = λ k. has_type (filter (λ s. same_lowered (lowered s.owner) k) L) in
+    let over : Name → Bool = λ k. (lowered_below k (lowered a) && not (same_lowered k (lowered a)) && types k ns) || (d && lowered_below k (lowered a) && types k dname) in
+    let at : Name → Bool = λ k. over k && (lowered_below (lowered x) k && not (same_lowered (lowered x) k)) in
+    let q = any_in (λ r. same_name r.owner c) L (occluder_owns d L a c h) in
+    in_any (λ r. occludes d L a r.owner && is_strictly_below x r.owner) L q.0 q.1 (ap at (one_lowered q.0.owner c q.2) ∙ and_from (occludes d L a c) (is_strictly_below x c) h s)

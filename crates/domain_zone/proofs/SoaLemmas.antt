@@ -4,7 +4,8 @@ use Rattle.std.specs.Prelude.{filter}
 use Rattle.std.specs.Option.{is_some, option_map}
 use Rattle.std.proofs.lemmas.Bool.{true≢false, cases_Bool, or_parts, and_right}
 use Rattle.std.proofs.lemmas.List.Elements.{filter-append}
-use Rattle.domain_zone.specs.Names.{Name, same}
+use Rattle.domain_base.specs.Name.{same_name}
+use Rattle.domain_base.specs.Words.{Name}
 use Rattle.domain_zone.specs.Types.{soa}
 use Rattle.domain_zone.specs.Soa.{numbers_of, of_only, is_soa, soa_of}
 use Rattle.domain_zone.specs.Zone.{ZoneRecord, owns}
@@ -74,5 +75,5 @@ soa_owned L a numbers e = elim (cases_Bool (owns L a)) [ inl t ↦ t | inr t ↦
     filtered : (K : List ZoneRecord) → owns K a ≡ false → filter (is_soa a) K ≡ []
     filtered [] h = refl
     filtered (r ∷ K) h =
-        let p = or_parts (same r.owner a) (owns K a) h in
-        (λ i. cond (and_right (nat_eq r.rtype soa) (same r.owner a) p.0 i) (r ∷ filter (is_soa a) K) (filter (is_soa a) K)) ∙ filtered K p.1
+        let p = or_parts (same_name r.owner a) (owns K a) h in
+        (λ i. cond (and_right (nat_eq r.rtype soa) (same_name r.owner a) p.0 i) (r ∷ filter (is_soa a) K) (filter (is_soa a) K)) ∙ filtered K p.1

@@ -6,7 +6,7 @@ use Rattle.domain_plain.specs.declared.record.Record.{Record}
 use Rattle.domain_rdata.specs.Zone.{rtype_of}
 use Rattle.domain_rdata.specs.declared.zone_record_data.ZoneRecordData.{ZoneRecordData}
 use Rattle.domain_records.specs.Order.{HoldsPairwise}
-use Rattle.domain_zone.specs.Names.{Name}
+use Rattle.domain_base.specs.Words.{Name}
 use Rattle.domain_zone.specs.View.{as_zone_record}
 use Rattle.domain_zone.specs.Zone.{ZoneRecord, clashes, has_clash}
 use Rattle.domain_zone.proofs.ZoneLemmas.{any_none, weaker}

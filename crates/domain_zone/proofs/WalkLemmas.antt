@@ -5,12 +5,14 @@ use Rattle.std.specs.List.{AllByRecursion, list_any}
 use Rattle.std.proofs.lemmas.Bool.{cases_Bool, false≢true, true≢false}
 use Rattle.std.proofs.lemmas.List.Elements.{filter-append}
 use Rattle.std.proofs.lemmas.List.Folds.{list_any-append}
-use Rattle.domain_zone.specs.Names.{Name, Key, key, key_same, key_below, key_before, same, before, is_at_or_below, is_strictly_below}
+use Rattle.domain_base.specs.Name.{is_at_or_below, is_strictly_below, lowered, same_name}
+use Rattle.domain_base.specs.Order.{before}
+use Rattle.domain_base.specs.Words.{Name}
 use Rattle.domain_zone.specs.Types.{ns, dname}
 use Rattle.domain_zone.specs.Walk.{is_under}
-use Rattle.domain_zone.specs.Zone.{ZoneRecord, IsInOrder, records_of, has_type, occludes, is_occluded, is_unoccluded, distinct, unoccluded_owners}
+use Rattle.domain_zone.specs.Zone.{ZoneRecord, OwnersNeverDescend, records_of, has_type, occludes, is_occluded, is_unoccluded, distinct, unoccluded_owners}
 use Rattle.domain_zone.proofs.PairLemmas.{lt_le}
-use Rattle.domain_zone.proofs.NameLemmas.{before_order, one_key, below_itself, below_trans, below_from, below_between}
+use Rattle.domain_zone.proofs.NameLemmas.{before_order, one_lowered, below_itself, below_trans, below_from, below_between, lowered_below, same_lowered}
 use Rattle.domain_zone.proofs.ZoneLemmas.{weaker, all_both, all_front, any_none, BeginsElsewhere, IsGroup, AreAt, AllBefore, AllAfter, records_at, distinct_more, after_or, not_strictly, strictly_after}
 
 abbrev pub IsSince : Option Name → Name → Type 0
@@ -25,7 +27,7 @@ pub record IsWalked (d : Bool) (L : List ZoneRecord) (a : Name) (rest : List Zon
   pub passed : List ZoneRecord
   pub whole : passed ++ rest ≡ L
   pub apart : AllByRecursion (λ r. AllBefore passed r.owner) rest
-  pub in_order : IsInOrder rest
+  pub in_order : OwnersNeverDescend rest
   pub unoccluded : filter (is_unoccluded d L a) (distinct (owners passed)) ≡ ks
   pub since : AllByRecursion (λ r. IsSince cut r.owner) rest
   pub below : (y : Name) → AllBefore passed y → list_any (λ r. occludes d L a r.owner && is_strictly_below y r.owner) passed ≡ is_under cut y
@@ -34,7 +36,7 @@ always : {X : Type 0} (xs : List X) → AllByRecursion (λ (x : X). Unit {0}) xs
 always [] = tt
 always (x ∷ xs) = (tt, always xs)
 
-pub walk_start : (d : Bool) (L : List ZoneRecord) (a : Name) → IsInOrder L → IsWalked d L a L None []
+pub walk_start : (d : Bool) (L : List ZoneRecord) (a : Name) → OwnersNeverDescend L → IsWalked d L a L None []
 walk_start d L a h = record {
   passed = [];
   whole = refl;
@@ -45,11 +47,11 @@ walk_start d L a h = record {
   below = λ y h. refl;
 }
 
-in_order_after : (xs ys : List ZoneRecord) → IsInOrder (xs ++ ys) → IsInOrder ys
+in_order_after : (xs ys : List ZoneRecord) → OwnersNeverDescend (xs ++ ys) → OwnersNeverDescend ys
 in_order_after [] ys h = h
 in_order_after (x ∷ xs) ys h = in_order_after xs ys h.1
 
-all_after : (n : Name) (R : List ZoneRecord) → AllByRecursion (λ s. before s.owner n ≡ false) R → IsInOrder R → BeginsElsewhere n R → AllAfter R n
+all_after : (n : Name) (R : List ZoneRecord) → AllByRecursion (λ s. before s.owner n ≡ false) R → OwnersNeverDescend R → BeginsElsewhere n R → AllAfter R n
 all_after n [] h o b = tt
 all_after n (r ∷ R) h o b =
     let first = after_or n r.owner h.0 b in
@@ -67,8 +69,8 @@ pub record IsNext (d : Bool) (L : List ZoneRecord) (a : Name) (cut : Option Name
 pub next_known : (d : Bool) (L : List ZoneRecord) (a : Name) (rest : List ZoneRecord) (cut : Option Name) (ks : List Name) (w : IsWalked d L a rest cut ks) (g : ZoneRecord) (gs R : List ZoneRecord) → rest ≡ (g ∷ gs) ++ R → IsGroup (g ∷ gs) R → IsNext d L a cut w.passed g.owner (g ∷ gs) R
 next_known d L a rest cut ks w g gs R e i =
     let n = g.owner in
-    let at : AreAt n (g ∷ gs) = (refl, weaker (λ r. same r.owner n ≡ true) (λ r. key r.owner ≡ key n) (λ r h. one_key r.owner n h) gs i.0) in
-    let in_order = subst IsInOrder e w.in_order in
+    let at : AreAt n (g ∷ gs) = (refl, weaker (λ r. same_name r.owner n ≡ true) (λ r. lowered r.owner ≡ lowered n) (λ r h. one_lowered r.owner n h) gs i.0) in
+    let in_order = subst OwnersNeverDescend e w.in_order in
     let after = all_after n R (all_front (λ s. before s.owner n ≡ false) gs R in_order.0).1 (in_order_after gs R in_order.1) i.1 in
     let apart = subst (AllByRecursion (λ r. AllBefore w.passed r.owner)) e w.apart in
     let since = subst (AllByRecursion (λ r. IsSince cut r.owner)) e w.since in
@@ -85,7 +87,7 @@ next_known d L a rest cut ks w g gs R e i =
           ∙ list_any-append test w.passed rest
           ∙ ap (λ b. list_any test w.passed || b) (ap (list_any test) e ∙ any_none test ((g ∷ gs) ++ R)
           (all_both (λ r. test r ≡ false) (g ∷ gs) R
-          (weaker (λ r. key r.owner ≡ key n) (λ r. test r ≡ false) (λ r k. rest_false r (ap (λ m. key_before m (key n)) k ∙ lt_irreflexive n)) (g ∷ gs) at)
+          (weaker (λ r. lowered r.owner ≡ lowered n) (λ r. test r ≡ false) (λ r k. rest_false r (before_left r.owner n n k ∙ lt_irreflexive n)) (g ∷ gs) at)
           (weaker (λ r. before n r.owner ≡ true) (λ r. test r ≡ false) (λ r h. rest_false r (before_order.one_way n r.owner h)) R after)))
           ∙ or_false (list_any test w.passed)
           ∙ w.below n apart.0;
@@ -114,16 +116,16 @@ walk_on d L a rest cut ks w g gs R e x cut' since' below' =
     let apart = (all_front (λ r. AllBefore w.passed r.owner) group R (subst (AllByRecursion (λ r. AllBefore w.passed r.owner)) e w.apart)).1 in
     let since = (all_front (λ r. IsSince cut r.owner) group R (subst (AllByRecursion (λ r. IsSince cut r.owner)) e w.since)).1 in
     let group_before : (y : Name) → before n y ≡ true → AllBefore group y =
-    λ y h. weaker (λ r. key r.owner ≡ key n) (λ r. before r.owner y ≡ true) (λ r k. ap (λ m. key_before m (key y)) k ∙ h) group x.at in
+    λ y h. weaker (λ r. lowered r.owner ≡ lowered n) (λ r. before r.owner y ≡ true) (λ r k. before_left r.owner n y k ∙ h) group x.at in
     record {
       passed = w.passed ++ group;
       whole = append_assoc w.passed group R ∙ ap (λ t. w.passed ++ t) (sym e) ∙ w.whole;
       apart = both (λ r. AllBefore w.passed r.owner) (λ r. before n r.owner ≡ true) (λ r. AllBefore (w.passed ++ group) r.owner)
           (λ r p q. all_both (λ s. before s.owner r.owner ≡ true) w.passed group p (group_before r.owner q)) R apart x.after;
-      in_order = in_order_after group R (subst IsInOrder e w.in_order);
+      in_order = in_order_after group R (subst OwnersNeverDescend e w.in_order);
       unoccluded =
           ap (filter (is_unoccluded d L a)) (ap distinct (owners_append w.passed group)
-          ∙ distinct_more (owners w.passed) n (owners gs) (owners_all (λ m. before m n ≡ true) w.passed x.earlier) (owners_all (λ m. key m ≡ key n) gs x.at.1))
+          ∙ distinct_more (owners w.passed) n (owners gs) (owners_all (λ m. before m n ≡ true) w.passed x.earlier) (owners_all (λ m. lowered m ≡ lowered n) gs x.at.1))
           ∙ filter-append (is_unoccluded d L a) (distinct (owners w.passed)) (n ∷ [])
           ∙ ap (λ t. t ++ cond (is_unoccluded d L a n) (n ∷ []) []) w.unoccluded;
       since = both (λ r. IsSince cut r.owner) (λ r. before n r.owner ≡ true) (λ r. IsSince cut' r.owner) (λ r p q. since' r.owner q p) R since x.after;
@@ -147,7 +149,7 @@ walk_on d L a rest cut ks w g gs R e x cut' since' below' =
     owners_all P [] h = tt
     owners_all P (r ∷ rs) h = (h.0, owners_all P rs h.1)
 
-    any_at : (y : Name) (rs : List ZoneRecord) → AllByRecursion (λ r. key r.owner ≡ key g.owner) rs
+    any_at : (y : Name) (rs : List ZoneRecord) → AllByRecursion (λ r. lowered r.owner ≡ lowered g.owner) rs
         → list_any (λ r. occludes d L a r.owner && is_strictly_below y r.owner) (g ∷ rs) ≡ (occludes d L a g.owner && is_strictly_below y g.owner)
     any_at y [] h = or_none (occludes d L a g.owner && is_strictly_below y g.owner)
       where
@@ -155,11 +157,11 @@ walk_on d L a rest cut ks w g gs R e x cut' since' below' =
         or_none true = refl
         or_none false = refl
     any_at y (r ∷ rs) h =
-        let types : Key → ℕ → Bool = λ k. has_type (filter (λ s. key_same (key s.owner) k) L) in
-        let over : Key → Bool = λ k. (key_below k (key a) && not (key_same k (key a)) && types k ns) || (d && key_below k (key a) && types k dname) in
-        let at : Key → Bool = λ k. over k && (key_below (key y) k && not (key_same (key y) k)) in
-        ap (λ b. at (key g.owner) || (b || list_any (λ s. at (key s.owner)) rs)) (ap at h.0)
-        ∙ or_twice (at (key g.owner)) (list_any (λ s. at (key s.owner)) rs)
+        let types : Name → ℕ → Bool = λ k. has_type (filter (λ s. same_lowered (lowered s.owner) k) L) in
+        let over : Name → Bool = λ k. (lowered_below k (lowered a) && not (same_lowered k (lowered a)) && types k ns) || (d && lowered_below k (lowered a) && types k dname) in
+        let at : Name → Bool = λ k. over k && (lowered_below (lowered y) k && not (same_lowered (lowered y) k)) in
+        ap (λ b. at (lowered g.owner) || (b || list_any (λ s. at (lowered s.owner)) rs)) (ap at h.0)
+        ∙ or_twice (at (lowered g.owner)) (list_any (λ s. at (lowered s.owner)) rs)
         ∙ any_at y rs h.1
       where
         or_twice : (b c : Bool) → (b || (b || c)) ≡ (b || c)
@@ -177,7 +179,7 @@ walk_outside d L a rest cut ks w g gs R e i out =
     subst (IsWalked d L a R cut) ((λ i. ks ++ cond (out i && not (is_occluded d L a n)) (n ∷ []) []) ∙ append_nil ks)
     (walk_on d L a rest cut ks w g gs R e (next_known d L a rest cut ks w g gs R e i) cut (λ y h s. s)
     (λ y h.
-    (λ i. is_under cut y || ((out i && not (same n a) && has_type (records_of L n) ns || (d && out i && has_type (records_of L n) dname)) && is_strictly_below y n))
+    (λ i. is_under cut y || ((out i && not (same_name n a) && has_type (records_of L n) ns || (d && out i && has_type (records_of L n) dname)) && is_strictly_below y n))
     ∙ (λ i. is_under cut y || (not_there d (has_type (records_of L n) dname) i && is_strictly_below y n))
     ∙ or_false (is_under cut y)))
   where
@@ -195,7 +197,7 @@ walk_under d L a rest cut ks w g gs R e i zone under =
     let n = g.owner in
     let x = next_known d L a rest cut ks w g gs R e i in
     subst (IsWalked d L a R cut) ((λ i. ks ++ cond (zone i && not ((x.under ∙ under) i)) (n ∷ []) []) ∙ append_nil ks)
-    (walk_on d L a rest cut ks w g gs R e x cut (λ y h s. s) (λ y h. absorbed (is_under cut y) (occludes d L a n) (is_at_or_below y n) (not (same y n)) (λ b. lower cut n y under b)))
+    (walk_on d L a rest cut ks w g gs R e x cut (λ y h s. s) (λ y h. absorbed (is_under cut y) (occludes d L a n) (is_at_or_below y n) (not (same_name y n)) (λ b. lower cut n y under b)))
   where
     lower : (c : Option Name) (n y : Name) → is_under c n ≡ true → is_at_or_below y n ≡ true → is_under c y ≡ true
     lower None n y u b = absurd (false≢true u)

@@ -4,9 +4,11 @@ use Rattle.std.specs.Prelude.{filter}
 use Rattle.std.specs.List.{AllByRecursion, list_any}
 use Rattle.std.proofs.lemmas.Bool.{cases_Bool, true≢false}
 use Rattle.std.proofs.lemmas.List.Elements.{filter-append}
-use Rattle.domain_zone.specs.Names.{Name, key, same, before, is_at_or_below, is_strictly_below}
+use Rattle.domain_base.specs.Name.{is_at_or_below, is_strictly_below, lowered, same_name}
+use Rattle.domain_base.specs.Order.{before}
+use Rattle.domain_base.specs.Words.{Name}
 use Rattle.domain_zone.specs.Zone.{ZoneRecord, records_of, distinct}
-use Rattle.domain_zone.proofs.NameLemmas.{before_order, one_key, same_itself, same_is, below_from}
+use Rattle.domain_zone.proofs.NameLemmas.{before_order, one_lowered, same_itself, same_is, below_from}
 
 module _ {X : Type 0} where
   pub filter_none : (p : X → Bool) (xs : List X) → AllByRecursion (λ x. p x ≡ false) xs → filter p xs ≡ []
@@ -47,17 +49,17 @@ any_map p f (x ∷ xs) = ap (λ b. p (f x) || b) (any_map p f xs)
 
 -- ---- names apart
 
-pub apart_left : (x y : Name) → before x y ≡ true → same x y ≡ false
+pub apart_left : (x y : Name) → before x y ≡ true → same_name x y ≡ false
 apart_left x y e = same_is x y ∙ (λ i. not (e i || before y x))
 
-pub apart_right : (x y : Name) → before x y ≡ true → same y x ≡ false
+pub apart_right : (x y : Name) → before x y ≡ true → same_name y x ≡ false
 apart_right x y e = same_is y x ∙ (λ i. not (before_order.one_way x y e i || e i))
 
-pub same_back : (x y : Name) → same x y ≡ true → same y x ≡ true
-same_back x y e = same_itself y x (sym (one_key x y e))
+pub same_back : (x y : Name) → same_name x y ≡ true → same_name y x ≡ true
+same_back x y e = same_itself y x (sym (one_lowered x y e))
 
 -- one of two that aren't the same is before the other
-pub after_or : (x y : Name) → before y x ≡ false → same y x ≡ false → before x y ≡ true
+pub after_or : (x y : Name) → before y x ≡ false → same_name y x ≡ false → before x y ≡ true
 after_or x y e f =
     elim (cases_Bool (before x y)) [
       | inl h ↦ h
@@ -69,7 +71,7 @@ pub not_strictly : (y r : Name) → before r y ≡ false → is_strictly_below y
 not_strictly y r e =
     elim (cases_Bool (is_at_or_below y r)) [
       | inl h ↦ (λ i. h i && not ((same_is y r ∙ (λ j. not (below_from y r h j || e j))) i))
-      | inr h ↦ (λ i. h i && not (same y r))
+      | inr h ↦ (λ i. h i && not (same_name y r))
     ]
 
 -- after a name, at or below it is strictly below it
@@ -85,12 +87,12 @@ strictly_after y c e = (λ i. is_at_or_below y c && not (apart_right c y e i)) �
 -- the first of these isn't at this name
 abbrev pub BeginsElsewhere : Name → List ZoneRecord → Type 0
 BeginsElsewhere n [] = Unit {0}
-BeginsElsewhere n (r ∷ rs) = same r.owner n ≡ false
+BeginsElsewhere n (r ∷ rs) = same_name r.owner n ≡ false
 
 -- the first ones are the records of one name
 abbrev pub IsGroup : List ZoneRecord → List ZoneRecord → Type 0
 IsGroup [] after = ⊥
-IsGroup (g ∷ gs) after = AllByRecursion (λ r. same r.owner g.owner ≡ true) gs × BeginsElsewhere g.owner after
+IsGroup (g ∷ gs) after = AllByRecursion (λ r. same_name r.owner g.owner ≡ true) gs × BeginsElsewhere g.owner after
 
 -- G, of which g is the first, are the records of one name at the front of rest, and R is what follows
 pub record IsFront (rest : List ZoneRecord) (g : ZoneRecord) (G R : List ZoneRecord) : Type 0 where
@@ -99,9 +101,9 @@ pub record IsFront (rest : List ZoneRecord) (g : ZoneRecord) (G R : List ZoneRec
   pub split : rest ≡ (g ∷ gs) ++ R
   pub group : IsGroup (g ∷ gs) R
 
--- r's owner is n, by its key
+-- r's owner is n, but for the case of letters
 abbrev pub AreAt : Name → List ZoneRecord → Type 0
-AreAt n rs = AllByRecursion (λ r. key r.owner ≡ key n) rs
+AreAt n rs = AllByRecursion (λ r. lowered r.owner ≡ lowered n) rs
 
 abbrev pub AllBefore : List ZoneRecord → Name → Type 0
 AllBefore rs y = AllByRecursion (λ r. before r.owner y ≡ true) rs
@@ -113,12 +115,12 @@ pub records_at : (n : Name) (passed group rest : List ZoneRecord) → AllBefore 
 records_at n passed group rest p g r =
     filter-append at' passed (group ++ rest)
     ∙ (λ i. filter_none at' passed (weaker (λ r. before r.owner n ≡ true) (λ r. at' r ≡ false) (λ r h. apart_left r.owner n h) passed p) i ++ filter-append at' group rest i)
-    ∙ (λ i. filter_whole at' group (weaker (λ r. key r.owner ≡ key n) (λ r. at' r ≡ true) (λ r h. same_itself r.owner n h) group g) i
+    ∙ (λ i. filter_whole at' group (weaker (λ r. lowered r.owner ≡ lowered n) (λ r. at' r ≡ true) (λ r h. same_itself r.owner n h) group g) i
     ++ filter_none at' rest (weaker (λ r. before n r.owner ≡ true) (λ r. at' r ≡ false) (λ r h. apart_right n r.owner h) rest r) i)
     ∙ append_nil group
   where
     at' : ZoneRecord → Bool
-    at' r = same r.owner n
+    at' r = same_name r.owner n
 
     append_nil : (xs : List ZoneRecord) → xs ++ [] ≡ xs
     append_nil [] = refl
@@ -128,19 +130,19 @@ records_at n passed group rest p g r =
 
 pub all_distinct : (P : Name → Type 0) (xs : List Name) → AllByRecursion P xs → AllByRecursion P (distinct xs)
 all_distinct P [] h = tt
-all_distinct P (x ∷ xs) h = (h.0, all_filter P (λ y. not (same x y)) (distinct xs) (all_distinct P xs h.1))
+all_distinct P (x ∷ xs) h = (h.0, all_filter P (λ y. not (same_name x y)) (distinct xs) (all_distinct P xs h.1))
 
-distinct_one : (n : Name) (ys : List Name) → AllByRecursion (λ y. key y ≡ key n) ys → distinct (n ∷ ys) ≡ n ∷ []
+distinct_one : (n : Name) (ys : List Name) → AllByRecursion (λ y. lowered y ≡ lowered n) ys → distinct (n ∷ ys) ≡ n ∷ []
 distinct_one n ys h =
-    ap (λ zs. n ∷ zs) (filter_none (λ y. not (same n y)) (distinct ys)
-    (all_distinct (λ y. not (same n y) ≡ false) ys (weaker (λ y. key y ≡ key n) (λ y. not (same n y) ≡ false) (λ y e. ap not (same_itself n y (sym e))) ys h)))
+    ap (λ zs. n ∷ zs) (filter_none (λ y. not (same_name n y)) (distinct ys)
+    (all_distinct (λ y. not (same_name n y) ≡ false) ys (weaker (λ y. lowered y ≡ lowered n) (λ y. not (same_name n y) ≡ false) (λ y e. ap not (same_itself n y (sym e))) ys h)))
 
 -- names that are one, after others
-pub distinct_more : (xs : List Name) (n : Name) (ys : List Name) → AllByRecursion (λ x. before x n ≡ true) xs → AllByRecursion (λ y. key y ≡ key n) ys → distinct (xs ++ n ∷ ys) ≡ distinct xs ++ n ∷ []
+pub distinct_more : (xs : List Name) (n : Name) (ys : List Name) → AllByRecursion (λ x. before x n ≡ true) xs → AllByRecursion (λ y. lowered y ≡ lowered n) ys → distinct (xs ++ n ∷ ys) ≡ distinct xs ++ n ∷ []
 distinct_more [] n ys h k = distinct_one n ys k
 distinct_more (x ∷ xs) n ys h k =
     ap (λ zs. x ∷ filter other zs) (distinct_more xs n ys h.1 k)
     ∙ ap (λ zs. x ∷ zs) (filter-append other (distinct xs) (n ∷ []) ∙ (λ i. filter other (distinct xs) ++ cond (not (apart_left x n h.0 i)) (n ∷ []) []))
   where
     other : Name → Bool
-    other y = not (same x y)
+    other y = not (same_name x y)

@@ -2,7 +2,8 @@
 -- 1.3).
 use Rattle.std.specs.Prelude.{Bool, true, not, ◌&&◌, List, [], ◌∷◌, ◌≡◌, ◌≤◌, length, nat_lt, if◌then◌else◌}
 use Rattle.std.specs.List.{list_any}
-use Rattle.domain_zone.specs.Names.{Name, same, is_at_or_below, is_strictly_below}
+use Rattle.domain_base.specs.Name.{is_at_or_below, is_strictly_below, same_name}
+use Rattle.domain_base.specs.Words.{Name}
 
 -- e is one of these names or, at or below the apex, an ancestor of one
 abbrev pub exists_over : List Name → Name → Name → Bool
@@ -10,7 +11,7 @@ exists_over names a e = is_at_or_below e a && list_any (λ n. is_at_or_below n e
 
 abbrev pub is_empty_nonterminal : List Name → Name → Name → Bool
 is_empty_nonterminal names a x =
-    is_at_or_below x a && not (list_any (λ n. same n x) names)
+    is_at_or_below x a && not (list_any (λ n. same_name n x) names)
     && list_any (λ n. is_strictly_below n x) names
 
 -- e is the longest name that exists and that x is at or below

@@ -1,4 +1,3 @@
-pub mod Names
 pub mod Covering
 pub mod Types
 pub mod Zone

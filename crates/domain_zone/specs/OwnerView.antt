@@ -1,6 +1,6 @@
 -- How the items of an iterator over owners are seen.
 use Rattle.std.specs.Prelude.{map}
-use Rattle.domain_zone.specs.Names.{Name}
+use Rattle.domain_base.specs.Words.{Name}
 use Rattle.domain_zone.specs.Owners.{OwnerRecords}
 use Rattle.domain_zone.specs.View.{as_zone_record}
 use Rattle.domain_zone.specs.declared.owners.UnoccludedOwner.{UnoccludedOwner}

@@ -1,6 +1,7 @@
 -- The SOA record of a zone, and what it gives to a chain.
 use Rattle.std.specs.Prelude.{ℕ, Bool, ◌&&◌, ◌==◌, List, [], ◌∷◌, filter, Option, Some, None, min}
-use Rattle.domain_zone.specs.Names.{Name, same}
+use Rattle.domain_base.specs.Name.{same_name}
+use Rattle.domain_base.specs.Words.{Name}
 use Rattle.domain_zone.specs.Types.{soa}
 use Rattle.domain_zone.specs.Zone.{ZoneRecord}
 use Rattle.domain_zone.specs.declared.soa.ApexSoa.{ApexSoa}
@@ -16,7 +17,7 @@ of_only (r ∷ []) = numbers_of r r.minimum
 of_only (r ∷ s ∷ rs) = None
 
 abbrev pub is_soa : Name → ZoneRecord → Bool
-is_soa a r = (r.rtype == soa) && same r.owner a
+is_soa a r = (r.rtype == soa) && same_name r.owner a
 
 -- the one SOA record that the apex owns; None where it does not own exactly one, or that one's data
 -- tell no MINIMUM

@@ -1,7 +1,8 @@
 -- How the state of an iterator over the owners that are not occluded is seen: as the owners that it
 -- has left to give. `UnoccludedOwners::new` says which these are, by the definitions of `Owners`.
 use Rattle.std.specs.Prelude.{Bool, false, not, ◌&&◌, ◌||◌, List, [], ◌∷◌, Option, Some, None, if◌then◌else◌}
-use Rattle.domain_zone.specs.Names.{Name, same, is_at_or_below}
+use Rattle.domain_base.specs.Name.{is_at_or_below, same_name}
+use Rattle.domain_base.specs.Words.{Name}
 use Rattle.domain_zone.specs.Owners.{OwnerRecords}
 use Rattle.domain_zone.specs.Types.{ns, dname}
 use Rattle.domain_zone.specs.Zone.{ZoneRecord, has_type}
@@ -16,7 +17,7 @@ is_passed_over a occluder n = not (is_at_or_below n a) || is_under occluder n
 
 -- the records of one name at or below the apex make it a zone cut
 abbrev pub is_cut_group : Name → Name → List ZoneRecord → Bool
-is_cut_group a n rs = not (same n a) && has_type rs ns
+is_cut_group a n rs = not (same_name n a) && has_type rs ns
 
 -- such a name, where it occludes
 abbrev pub occluder_from : Bool → Name → Name → List ZoneRecord → Option Name

@@ -3,7 +3,9 @@
 use Rattle.std.specs.Prelude.{ℕ, Bool, false, not, ◌&&◌, ◌||◌, ◌==◌, List, [], ◌∷◌, map, filter, Option, ◌≡◌}
 use Rattle.std.specs.List.{list_any, AllByRecursion}
 use Rattle.domain_zone.specs.Types.{ns, ds, dname, rrsig}
-use Rattle.domain_zone.specs.Names.{Name, same, before, is_at_or_below, is_strictly_below}
+use Rattle.domain_base.specs.Name.{is_at_or_below, is_strictly_below, same_name}
+use Rattle.domain_base.specs.Order.{before}
+use Rattle.domain_base.specs.Words.{Name}
 
 -- a record as a chain sees it: without its data, but for the MINIMUM field of an SOA
 pub record ZoneRecord : Type 0 where
@@ -14,16 +16,16 @@ pub record ZoneRecord : Type 0 where
   pub minimum : Option ℕ
 
 -- owners never descend
-abbrev pub IsInOrder : List ZoneRecord → Type 0
-IsInOrder [] = Unit {0}
-IsInOrder (r ∷ rs) = AllByRecursion (λ s. before s.owner r.owner ≡ false) rs × IsInOrder rs
+abbrev pub OwnersNeverDescend : List ZoneRecord → Type 0
+OwnersNeverDescend [] = Unit {0}
+OwnersNeverDescend (r ∷ rs) = AllByRecursion (λ s. before s.owner r.owner ≡ false) rs × OwnersNeverDescend rs
 
 -- the records of a name
 abbrev pub records_of : List ZoneRecord → Name → List ZoneRecord
-records_of L n = filter (λ r. same r.owner n) L
+records_of L n = filter (λ r. same_name r.owner n) L
 
 abbrev pub owns : List ZoneRecord → Name → Bool
-owns L n = list_any (λ r. same r.owner n) L
+owns L n = list_any (λ r. same_name r.owner n) L
 
 abbrev pub has_type : List ZoneRecord → ℕ → Bool
 has_type rs t = list_any (λ r. r.rtype == t) rs
@@ -51,7 +53,7 @@ is_unoccluded below_dname L a n = is_at_or_below n a && not (is_occluded below_d
 -- each name once, as it is spelled first
 abbrev pub distinct : List Name → List Name
 distinct [] = []
-distinct (x ∷ xs) = x ∷ filter (λ y. not (same x y)) (distinct xs)
+distinct (x ∷ xs) = x ∷ filter (λ y. not (same_name x y)) (distinct xs)
 
 -- the owners at or below the apex that are not occluded, each once, in the order of the list
 abbrev pub unoccluded_owners : Bool → List ZoneRecord → Name → List Name

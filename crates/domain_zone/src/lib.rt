@@ -2,7 +2,7 @@
 //! SOA and unequal TTLs.
 //!
 //! The definitions stand in `specs/`, each a filter over the whole list of records. The code is
-//! what the generators of chains share: tests on names, the SOA of the apex, the test on TTLs, the
+//! what the generators of chains share: the SOA of the apex, the test on TTLs, the
 //! types of an owner, the hasher, and `UnoccludedOwners`, the one walk over the records of a zone.
 //! The crates above may rely on this: `UnoccludedOwners` gives exactly the owners that the
 //! definitions say are not occluded, each with its records and whether it is a zone cut.
@@ -10,14 +10,12 @@
 
 mod hasher;
 pub mod laws;
-mod names;
 mod owners;
 mod soa;
 mod ttl;
 mod types;
 
 pub use hasher::{HasherError, Nsec3Hasher};
-pub use names::{is_at_or_below, is_same};
 pub use owners::{UnoccludedOwner, UnoccludedOwners};
 pub use soa::{ApexSoa, ZoneRr, find_soa};
 pub use ttl::has_unequal_ttls;

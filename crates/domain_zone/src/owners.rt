@@ -5,7 +5,6 @@ ghost use Rattle.domain_zone.specs.View.{as_zone_record};
 ghost use Rattle.domain_zone.specs.Walk.{is_passed_over};
 ghost use Rattle.domain_zone.specs.Zone.{has_type};
 
-use crate::names::is_at_or_below;
 use crate::soa::ZoneRr;
 use domain_base::{Rtype, ToName};
 use domain_octets::Octets;
@@ -33,11 +32,11 @@ fn is_passed_over<N: ToName>(apex: &N, occluder: Option<&N>, name: &N) -> bool
     ensures { result ≡ is_passed_over (N.labels apex.now)
         (option_map (λ o. N.labels o.now) occluder.entry) (N.labels name.now) }
 {
-    if !is_at_or_below(name, apex) {
+    if !name.ends_with(apex) {
         return true;
     }
     match occluder {
-        Some(occluder) => is_at_or_below(name, occluder),
+        Some(occluder) => name.ends_with(occluder),
         None => false,
     }
 }

@@ -3,7 +3,6 @@ ghost use Rattle.std.specs.Prelude.{◌≡◌, map};
 ghost use Rattle.domain_zone.specs.Soa.{chain_ttl, is_soa, soa_of};
 ghost use Rattle.domain_zone.specs.View.{as_zone_record};
 
-use crate::names::is_same;
 use domain_base::{Class, Rtype, ToName, Ttl};
 use domain_octets::Octets;
 use domain_plain::Record;
@@ -37,7 +36,7 @@ impl ApexSoa {
 fn is_soa_at<O: Octets, N: ToName>(apex: &N, candidate: &ZoneRr<O, N>) -> bool
     ensures { result ≡ is_soa (N.labels apex.now) (as_zone_record N.labels candidate.now) }
 {
-    candidate.rtype() == Rtype::SOA && is_same(candidate.owner(), apex)
+    candidate.rtype() == Rtype::SOA && candidate.owner().name_eq(apex)
 }
 
 /// What the SOA record of the apex gives to a chain; None where the apex does not own exactly one
