@@ -1,16 +1,17 @@
 -- the tokens of an entry, and what is read from them
-use Rattle.std.specs.Prelude.{◌≡◌, ℕ, ◌<◌, ◌^◌, List, [], ◌∷◌, ◌++◌, codes, Option, IsNone, length}
+use Rattle.std.specs.Prelude.{◌≡◌, ℕ, ◌<◌, ◌^◌, [], ◌∷◌, ◌++◌, codes, Option, IsNone, length}
 use Rattle.std.specs.Str.Parse.{IsNumeral, digits_value}
 use Rattle.domain_octets.specs.Limit.{IsOver}
 use Rattle.domain_octets.specs.Codec.{Decodes}
 use Rattle.domain_octets.specs.declared.codec.Codec.{Codec}
 use Rattle.domain_octets.specs.declared.error.AppendError.{AppendError}
 use Rattle.domain_octets.specs.declared.error.AppendError.TheVariants as append_error
+use Rattle.domain_octets.specs.Words.{Octets}
 use Rattle.domain_base.specs.declared.error.ScanError.{ScanError}
 use Rattle.domain_base.specs.declared.error.ScanError.TheVariants.{EndOfEntry, Custom, ShortBuf, OutOfMemory}
 use Rattle.domain_base.specs.Name.{wire_of}
 use Rattle.domain_base.specs.Text.{NameText, IsNoName}
-use Rattle.domain_base.specs.Words.{Tokens, Name}
+use Rattle.domain_base.specs.Words.{Tokens, Name, Token}
 
 -- why a builder did not take the octets of a token
 abbrev pub scan_error_of : AppendError → ScanError
@@ -20,7 +21,7 @@ scan_error_of append_error.OutOfMemory = OutOfMemory
 -- what an error says
 pub data ScanFault : Type 0 where
   entry_ends : ScanFault
-  illegal : List ℕ → ScanFault
+  illegal : Octets → ScanFault
   no_room : ScanFault
   no_memory : ScanFault
 
@@ -31,33 +32,36 @@ scan_fault_of ShortBuf = no_room
 scan_fault_of OutOfMemory = no_memory
 
 -- the first token was taken, and P holds of it
-pub record TakesToken (P : List ℕ → Type 0) (old new : Tokens) : Type 0 where
-  pub token : List ℕ
+pub record TakesToken (P : Token → Type 0) (old new : Tokens) : Type 0 where
+  pub token : Token
   pub first : old ≡ token ∷ new
   pub holds : P token
 
 -- there was no token, or the first was taken and refused for this reason
-pub data RefusesToken (Why : ScanFault → List ℕ → Type 0) : Tokens → Tokens → ScanFault → Type 0 where
+pub data RefusesToken (Why : ScanFault → Token → Type 0) : Tokens → Tokens → ScanFault
+    → Type 0 where
   ended : RefusesToken Why [] [] entry_ends
-  refused : (token : List ℕ) (left : Tokens) (fault : ScanFault) → Why fault token → RefusesToken Why (token ∷ left) left fault
+  refused : (token : Token) (left : Tokens) (fault : ScanFault) → Why fault token
+      → RefusesToken Why (token ∷ left) left fault
 
 -- one or more decimal digits for this number, of so many bits
-pub record IsNumber (bits : ℕ) (text : List ℕ) (n : ℕ) : Type 0 where
+pub record IsNumber (bits : ℕ) (text : Octets) (n : ℕ) : Type 0 where
   pub digits : IsNumeral 10 text
   pub fits : digits_value 10 text < 2 ^ bits
   pub value : n ≡ digits_value 10 text
 
 -- the text is none of those, with this to say
-pub record IsNoNumber (bits : ℕ) (fault : ScanFault) (text : List ℕ) : Type 0 where
+pub record IsNoNumber (bits : ℕ) (fault : ScanFault) (text : Octets) : Type 0 where
   pub said : fault ≡ illegal (codes "decimal number expected")
   pub none : (n : ℕ) → IsNumber bits text n → ⊥
 
 -- why a text is not read as a name over octets that have this limit
-abbrev pub NameFault : Option ℕ → ScanFault → List ℕ → Type 0
-NameFault limit entry_ends text = ⊥
-NameFault limit (illegal said) text = (said ≡ codes "illegal name") × IsNoName text
-NameFault limit no_room text = (labels : Name) × NameText text labels × IsOver limit (length (wire_of labels))
-NameFault limit no_memory text = ((labels : Name) × NameText text labels) × IsNone limit
+abbrev pub NameTextFault : Option ℕ → ScanFault → Octets → Type 0
+NameTextFault limit entry_ends text = ⊥
+NameTextFault limit (illegal said) text = (said ≡ codes "illegal name") × IsNoName text
+NameTextFault limit no_room text =
+    (labels : Name) × NameText text labels × IsOver limit (length (wire_of labels))
+NameTextFault limit no_memory text = ((labels : Name) × NameText text labels) × IsNone limit
 
 -- an end of the tokens
 pub record IsEnd (new old : Tokens) : Type 0 where
@@ -65,10 +69,12 @@ pub record IsEnd (new old : Tokens) : Type 0 where
   pub joined : old ≡ front ++ new
 
 -- why a text is not decoded into octets that have this limit
-abbrev pub CodecFault : Codec → Option ℕ → ScanFault → List ℕ → Type 0
+abbrev pub CodecFault : Codec → Option ℕ → ScanFault → Octets → Type 0
 CodecFault codec limit entry_ends text = ⊥
-CodecFault codec limit (illegal said) text = (said ≡ codes "illegal data") × ((octets : List ℕ) → Decodes codec text octets → ⊥)
-CodecFault codec limit no_room text = (octets : List ℕ) × Decodes codec text octets × IsOver limit (length octets)
+CodecFault codec limit (illegal said) text =
+    (said ≡ codes "illegal data") × ((octets : Octets) → Decodes codec text octets → ⊥)
+CodecFault codec limit no_room text =
+    (octets : Octets) × Decodes codec text octets × IsOver limit (length octets)
 CodecFault codec limit no_memory text = Unit {0}
 
 -- tokens begin with a text of a value, and others are left

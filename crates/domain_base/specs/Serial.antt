@@ -12,4 +12,5 @@ abbrev pub serial_cmp : ℕ → ℕ → Option Ordering
 serial_cmp a b =
     let ahead = serial_distance a b in
     if ahead == 0 then Some Equal
-    else (if nat_lt ahead (2 ^ 31) then Some Less else (if ahead == 2 ^ 31 then None else Some Greater))
+    else (if nat_lt ahead (2 ^ 31) then Some Less
+    else (if ahead == 2 ^ 31 then None else Some Greater))

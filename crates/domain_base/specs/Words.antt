@@ -17,3 +17,7 @@ Token = Octets
 -- the tokens of an entry of a zone file, or those that are left of it
 abbrev pub Tokens : Type 0
 Tokens = List Token
+
+-- types of records by their numbers
+abbrev pub Rtypes : Type 0
+Rtypes = List ℕ

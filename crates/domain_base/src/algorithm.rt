@@ -61,7 +61,8 @@ impl SecurityAlgorithm {
     }
 }
 
-/// A decimal number of at most 255. Refuses every other token as `Custom("decimal number expected")`.
+/// A decimal number of at most 255. Refuses every other token as
+/// `Custom("decimal number expected")`.
 impl FromToken for SecurityAlgorithm {
     ghost spells = { IsNumber 8 };
 
@@ -120,7 +121,8 @@ impl DigestAlgorithm {
     }
 }
 
-/// A decimal number of at most 255. Refuses every other token as `Custom("decimal number expected")`.
+/// A decimal number of at most 255. Refuses every other token as
+/// `Custom("decimal number expected")`.
 impl FromToken for DigestAlgorithm {
     ghost spells = { IsNumber 8 };
 
@@ -173,7 +175,8 @@ impl Nsec3HashAlgorithm {
     }
 }
 
-/// A decimal number of at most 255. Refuses every other token as `Custom("decimal number expected")`.
+/// A decimal number of at most 255. Refuses every other token as
+/// `Custom("decimal number expected")`.
 impl FromToken for Nsec3HashAlgorithm {
     ghost spells = { IsNumber 8 };
 

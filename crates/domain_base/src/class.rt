@@ -53,8 +53,8 @@ fn names() -> &'static [(u16, &'static str)]
     &[(1, "IN"), (3, "CH"), (4, "HS")]
 }
 
-/// The name of a class or `CLASS` and its number, in either case (RFC 3597, section 5). Refuses every
-/// other token as `Custom("unknown class")`.
+/// The name of a class or `CLASS` and its number, in either case (RFC 3597, section 5). Refuses
+/// every other token as `Custom("unknown class")`.
 impl FromToken for Class {
     ghost spells = { ClassText };
 

@@ -1,5 +1,6 @@
 //! Names as text with their last dot.
 ghost use Rattle.std.specs.Prelude.{◌≡◌, ◌∷◌, ◌++◌, [], Some};
+ghost use Rattle.domain_octets.specs.Characters.{dot};
 ghost use Rattle.domain_base.specs.Text.{name_text};
 ghost use Rattle.domain_base.specs.Wire.{labels_of, IsWire};
 
@@ -34,7 +35,7 @@ impl<'a> DottedName<'a> {
 }
 
 impl<'a> fmt::Display for DottedName<'a> {
-    ghost output = { λ n. Some (name_text n ++ 46 ∷ []) };
+    ghost output = { λ n. Some (name_text n ++ dot ∷ []) };
 
     fn fmt<W: fmt::Write>(&self, f: &mut fmt::Formatter<W>) -> fmt::Result {
         text::write_name(self.wire, f)?;

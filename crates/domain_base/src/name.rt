@@ -1,14 +1,15 @@
 //! Names over octets.
-ghost use Rattle.std.specs.Prelude.{◌≡◌, ℕ, ◌↔◌, List, Some, refl, IsOk, IfOk, IfErr};
+ghost use Rattle.std.specs.Prelude.{◌≡◌, ◌↔◌, Some, refl, IsOk, IfOk, IfErr};
 ghost use Rattle.std.specs.Cmp.{partial_equiv_from_equiv};
 ghost use Rattle.std.specs.Hash as fed;
 ghost use Rattle.domain_base.specs.Name.{wire_of, lowered, same_name};
 ghost use Rattle.domain_base.specs.Text.{name_text, NameText};
-ghost use Rattle.domain_base.specs.Scan.{NameFault, scan_fault_of};
+ghost use Rattle.domain_base.specs.Scan.{NameTextFault, scan_fault_of};
 ghost use Rattle.domain_base.specs.Order.{canonical_cmp, canonical_cmp_total};
 ghost use Rattle.domain_base.specs.Laws.{same_name_equiv, same_name_ties, same_name_fed, canonical_po};
-ghost use Rattle.domain_base.specs.Fault.{FirstFault, fault_of};
+ghost use Rattle.domain_base.specs.Fault.{WholeNameFault, fault_of};
 ghost use Rattle.domain_base.specs.Wire.{labels_of, IsWire};
+ghost use Rattle.domain_base.specs.Words.{Name};
 
 use crate::{MakeName, ParseError, ScanError, ToName, text, wire};
 use domain_octets::{EmptyBuilder, FromBuilder, Octets, OctetsBuilder, OutOfMemory, TryClone};
@@ -27,7 +28,7 @@ pub struct Name<O: Octets> {
 }
 
 impl<O: Octets> Model for Name<O> {
-    ghost Value = { List (List ℕ) };
+    ghost Value = { Name };
 
     ghost view = { λ n. labels_of (O.octets n.octets) };
 
@@ -37,16 +38,16 @@ impl<O: Octets> Model for Name<O> {
 impl<O: Octets> Name<O> {
     /// The name of which these octets are the wire form (RFC 1035, section 3.1). Takes no memory.
     ///
-    /// Refuses, at the first label that is at fault: a missing octet with `ShortInput`, a length over 63
-    /// with `Form("compressed or bad label")`, a name over 255 octets with `Form("long domain name")`; and
-    /// octets after the name with `Form("trailing data")`.
+    /// Refuses, at the first label that is at fault: a missing octet with `ShortInput`, a length
+    /// over 63 with `Form("compressed or bad label")`, a name over 255 octets with
+    /// `Form("long domain name")`; and octets after the name with `Form("trailing data")`.
     #[tactic(auto, using(crate::proofs::FaultLemmas::no_fault))]
     pub fn from_octets(octets: O) -> Result<Self, ParseError>
     where
         O: Drop,
         ensures ok { IsOk result ↔ IsWire (O.octets octets) }
         ensures labels { IfOk result (λ name. O.octets octets ≡ wire_of name) }
-        ensures err { IfErr result (λ e. FirstFault (O.octets octets) (fault_of e)) }
+        ensures err { IfErr result (λ e. WholeNameFault (O.octets octets) (fault_of e)) }
     {
         wire::check(octets.as_slice())?;
         Ok(Name { octets })
@@ -82,14 +83,14 @@ impl<O: FromBuilder> Name<O>
 where
     O::Builder: EmptyBuilder + Drop,
 {
-    /// The name that a text spells (RFC 1035, section 5.1), with or without a last dot: in either case
-    /// it is absolute. Reads no further than the first character that no name has there.
+    /// The name that a text spells (RFC 1035, section 5.1), with or without a last dot: in either
+    /// case it is absolute. Reads no further than the first character that no name has there.
     ///
-    /// Refuses a text that is no name as `Custom("illegal name")`, and a name for which the builder has
-    /// no room or no memory.
+    /// Refuses a text that is no name as `Custom("illegal name")`, and a name for which the builder
+    /// has no room or no memory.
     pub fn from_str(alloc: Global, text: &str) -> Result<Self, ScanError>
         ensures ok { IfOk result (NameText text.now) }
-        ensures err { IfErr result (λ e. NameFault O.Builder.limit (scan_fault_of e) text.now) }
+        ensures err { IfErr result (λ e. NameTextFault O.Builder.limit (scan_fault_of e) text.now) }
     {
         let Some(wire) = text::read_name(text.as_bytes()) else {
             return Err(ScanError::Custom("illegal name"));

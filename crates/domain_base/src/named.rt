@@ -36,7 +36,8 @@ pub fn name_of<'a>(table: &[(u16, &'a str)], number: u16) -> Option<&'a str>
 fn after_prefix<'a>(text: &'a str, prefix: &str) -> Option<&'a str>
     requires ascii { IsAscii prefix.now }
     requires some { 0 < length prefix.now }
-    ensures { MatchOption result (IsWithoutPrefix prefix.now text.now) (λ rest. HasPrefix prefix.now text.now rest.now) }
+    ensures { MatchOption result (IsWithoutPrefix prefix.now text.now) (λ rest.
+        HasPrefix prefix.now text.now rest.now) }
 {
     let Some((front, rest)) = text.split_at_checked(prefix.len()) else {
         return None;
@@ -52,7 +53,8 @@ pub fn read_number(table: &[(u16, &str)], prefix: &str, text: &str) -> Option<u1
     requires ascii { IsAscii prefix.now }
     requires some { 0 < length prefix.now }
     ensures some { IfSome result (NumberText (entries table.now) prefix.now text.now) }
-    ensures none { IfNone result ((n : ℕ) → NumberText (entries table.now) prefix.now text.now n → ⊥) }
+    ensures none { IfNone result ((n : ℕ) → NumberText (entries table.now) prefix.now text.now n
+        → ⊥) }
 {
     if let Some(number) = number_named(table, text) {
         return Some(number);
@@ -70,7 +72,8 @@ pub fn write_number<W: fmt::Write>(
     number: u16,
     f: &mut fmt::Formatter<W>,
 ) -> fmt::Result
-    ensures { WritesOnOk W.write_str_gives f.old result (number_text (entries table.now) prefix.now number) f.new }
+    ensures { WritesOnOk W.write_str_gives f.old result
+        (number_text (entries table.now) prefix.now number) f.new }
 {
     match name_of(table, number) {
         Some(name) => f.write_str(name),

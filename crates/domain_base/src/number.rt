@@ -7,7 +7,8 @@ ghost use Rattle.domain_base.specs.Scan.{IsNumber, IsNoNumber};
 use crate::{FromToken, ScanError};
 
 fn read_u8(text: &str) -> Option<u8>
-    ensures { SomeIff result (IsNumeral 10 text.now × (digits_value 10 text.now < 2 ^ 8)) (digits_value 10 text.now) }
+    ensures { SomeIff result (IsNumeral 10 text.now × (digits_value 10 text.now < 2 ^ 8))
+        (digits_value 10 text.now) }
 {
     if text.as_bytes().first() == Some(&b'+') {
         return None;
@@ -16,7 +17,8 @@ fn read_u8(text: &str) -> Option<u8>
 }
 
 pub fn read_u16(text: &str) -> Option<u16>
-    ensures { SomeIff result (IsNumeral 10 text.now × (digits_value 10 text.now < 2 ^ 16)) (digits_value 10 text.now) }
+    ensures { SomeIff result (IsNumeral 10 text.now × (digits_value 10 text.now < 2 ^ 16))
+        (digits_value 10 text.now) }
 {
     if text.as_bytes().first() == Some(&b'+') {
         return None;
@@ -25,7 +27,8 @@ pub fn read_u16(text: &str) -> Option<u16>
 }
 
 pub fn read_u32(text: &str) -> Option<u32>
-    ensures { SomeIff result (IsNumeral 10 text.now × (digits_value 10 text.now < 2 ^ 32)) (digits_value 10 text.now) }
+    ensures { SomeIff result (IsNumeral 10 text.now × (digits_value 10 text.now < 2 ^ 32))
+        (digits_value 10 text.now) }
 {
     if text.as_bytes().first() == Some(&b'+') {
         return None;

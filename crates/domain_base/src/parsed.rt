@@ -2,7 +2,7 @@
 ghost use Rattle.std.specs.Prelude.{◌≡◌, ◌∷◌, [], Some, IfNone, IfSome, IfOk, IfErr, OnErr};
 ghost use Rattle.domain_base.specs.Text.{name_text};
 ghost use Rattle.domain_base.specs.Name.{wire_of, IsName, parent_of};
-ghost use Rattle.domain_base.specs.Fault.{NameFault, FirstFault, fault_of, name_fault_of};
+ghost use Rattle.domain_base.specs.Fault.{NameFault, WholeNameFault, fault_of, name_fault_of};
 ghost use Rattle.domain_base.specs.Wire.{labels_of, IsWire};
 ghost use Rattle.domain_octets.specs.Place.{Takes};
 
@@ -11,7 +11,8 @@ use domain_octets::{OutOfMemory, Parser, TryClone};
 use std::fmt;
 use std::marker::Model;
 
-/// A name in octets that it borrows: those of a message, or an end of another name's, which is a name above it.
+/// A name in octets that it borrows: those of a message, or an end of another name's, which is a
+/// name above it.
 #[derive(Drop)]
 pub struct ParsedName<'a> {
     wire: &'a [u8],
@@ -31,11 +32,12 @@ impl<'a> Model for ParsedName<'a> {
 impl<'a> ParsedName<'a> {
     /// The name that comes next (RFC 1035, section 3.1). A pointer to another place is refused.
     ///
-    /// Refuses, at the first label that is at fault: a missing octet with `ShortInput`, a length over 63
-    /// with `Form("compressed or bad label")`, a name over 255 octets with `Form("long domain name")`.
-    /// The parser then stands where it stood.
+    /// Refuses, at the first label that is at fault: a missing octet with `ShortInput`, a length
+    /// over 63 with `Form("compressed or bad label")`, a name over 255 octets with
+    /// `Form("long domain name")`. The parser then stands where it stood.
     pub fn parse(parser: &mut Parser<'a>) -> Result<Self, ParseError>
-        ensures ok { IfOk result (λ name. Takes (wire_of name) parser.old parser.new × IsName name) }
+        ensures ok { IfOk result (λ name. Takes (wire_of name) parser.old parser.new
+            × IsName name) }
         ensures err { IfErr result (λ e. NameFault 0 parser.old.left (fault_of e)) }
         ensures unmoved { OnErr result (parser.new ≡ parser.old) }
     {
@@ -47,7 +49,8 @@ impl<'a> ParsedName<'a> {
 
     /// The name that comes next, as by `parse`, with a refusal that holds no text.
     pub fn read(parser: &mut Parser<'a>) -> Result<Self, NameError>
-        ensures ok { IfOk result (λ name. Takes (wire_of name) parser.old parser.new × IsName name) }
+        ensures ok { IfOk result (λ name. Takes (wire_of name) parser.old parser.new
+            × IsName name) }
         ensures err { IfErr result (λ e. NameFault 0 parser.old.left (name_fault_of e)) }
         ensures unmoved { OnErr result (parser.new ≡ parser.old) }
     {
@@ -67,13 +70,14 @@ impl<'a> ParsedName<'a> {
     /// A name that is all of these octets. Refuses as `Name::from_octets` does.
     pub fn from_slice(octets: &'a [u8]) -> Result<Self, ParseError>
         ensures ok { IfOk result (λ name. octets.now ≡ wire_of name) }
-        ensures err { IfErr result (λ e. FirstFault octets.now (fault_of e)) }
+        ensures err { IfErr result (λ e. WholeNameFault octets.now (fault_of e)) }
     {
         wire::check(octets)?;
         Ok(ParsedName { wire: octets })
     }
 
-    /// The first label, and the name above it in the same octets; None for the root. Takes no memory.
+    /// The first label, and the name above it in the same octets; None for the root. Takes no
+    /// memory.
     pub fn split_first(&self) -> Option<(&'a [u8], ParsedName<'a>)>
         ensures root { IfNone result (self.now ≡ []) }
         ensures parts { IfSome result (λ p. self.now ≡ p.0.now ∷ p.1) }

@@ -1,11 +1,11 @@
 //! The tokens of an entry of a zone file.
-ghost use Rattle.std.specs.Prelude.{◌≡◌, ◌≢◌, ◌↔◌, ◌∷◌, [], ℕ, List, drop, map, IsTrue, IfOk, IfErr, IsOkAnd, OnOk, MatchOption, string_bytes};
+ghost use Rattle.std.specs.Prelude.{◌≡◌, ◌≢◌, ◌↔◌, ◌∷◌, [], drop, map, IsTrue, IfOk, IfErr, IsOkAnd, OnOk, MatchOption, string_bytes};
 ghost use Rattle.std.specs.Fn.{FnOnceReturnsAt};
-ghost use Rattle.domain_base.specs.Scan.{ScanFault, scan_fault_of, TakesToken, RefusesToken, NameFault, CodecFault, IsEnd};
+ghost use Rattle.domain_base.specs.Scan.{ScanFault, scan_fault_of, TakesToken, RefusesToken, NameTextFault, CodecFault, IsEnd};
 ghost use Rattle.domain_octets.specs.Codec.{Decodes};
 ghost use Rattle.std.specs.List.{concat};
 ghost use Rattle.domain_base.specs.Text.{NameText};
-ghost use Rattle.domain_base.specs.Words.{Tokens};
+ghost use Rattle.domain_base.specs.Words.{Tokens, Token};
 
 use crate::{Name, ScanError, ToName};
 use domain_octets::{Codec, DecodeError, EmptyBuilder, FromBuilder, OutOfMemory};
@@ -25,21 +25,24 @@ pub trait Scanner {
 
     /// The next token, which stays where it is.
     fn first_token(&self) -> Option<&str>
-        ensures { MatchOption result (tokens self.now ≡ []) (λ t. (rest : Tokens) × (tokens self.now ≡ t.now ∷ rest)) };
+        ensures { MatchOption result (tokens self.now ≡ []) (λ t. (rest : Tokens)
+            × (tokens self.now ≡ t.now ∷ rest)) };
 
     /// Goes past the next token, if there is one.
     fn skip_token(&mut self)
         ensures { tokens self.new ≡ drop 1 (tokens self.old) };
 
-    /// Hands the next token to a function, as it stands, goes past it, and answers what the function
-    /// answers. Where no token is left, answers `EndOfEntry`.
+    /// Hands the next token to a function, as it stands, goes past it, and answers what the
+    /// function answers. Where no token is left, answers `EndOfEntry`.
     final fn scan_ascii_str<T, F: FnOnce(&str) -> T>(&mut self, f: F) -> Result<T, ScanError>
     where
         Self: Sized,
         F: Drop,
         requires { F.IsAlwaysCallable f }
-        ensures none { tokens self.old ≡ [] → (result ≡ Err ScanError.EndOfEntry) × (tokens self.new ≡ []) }
-        ensures some { (token : List ℕ) (rest : Tokens) → tokens self.old ≡ token ∷ rest → IsOkAnd result (FnOnceReturnsAt F.FnOnce f token) × (tokens self.new ≡ rest) }
+        ensures none { tokens self.old ≡ [] → (result ≡ Err ScanError.EndOfEntry)
+            × (tokens self.new ≡ []) }
+        ensures some { (token : Token) (rest : Tokens) → tokens self.old ≡ token ∷ rest
+            → IsOkAnd result (FnOnceReturnsAt F.FnOnce f token) × (tokens self.new ≡ rest) }
     {
         let Some(token) = self.first_token() else {
             return Err(ScanError::EndOfEntry);
@@ -52,11 +55,15 @@ pub trait Scanner {
     /// The name that the next token spells (RFC 1035, section 5.1), with or without a last dot: in
     /// either case it is absolute. A token that is refused is gone past too.
     ///
-    /// Refuses a token that is no name as `Custom("illegal name")`, and a name for which the builder
-    /// has no room or no memory.
+    /// Refuses a token that is no name as `Custom("illegal name")`, and a name for which the
+    /// builder has no room or no memory.
     fn scan_name(&mut self, alloc: Global) -> Result<Self::Name, ScanError>
-        ensures ok { IfOk result (λ name. TakesToken (λ token. NameText token (Self.Name.labels name)) (tokens self.old) (tokens self.new)) }
-        ensures err { IfErr result (λ e. RefusesToken (NameFault Self.Octets.Builder.limit) (tokens self.old) (tokens self.new) (scan_fault_of e)) };
+        ensures ok { IfOk result (λ name.
+            TakesToken (λ token. NameText token (Self.Name.labels name)) (tokens self.old)
+            (tokens self.new)) }
+        ensures err { IfErr result (λ e.
+            RefusesToken (NameTextFault Self.Octets.Builder.limit) (tokens self.old)
+            (tokens self.new) (scan_fault_of e)) };
 
     /// An empty builder of octets.
     fn octets_builder(&self, alloc: Global) -> <Self::Octets as FromBuilder>::Builder
@@ -64,21 +71,29 @@ pub trait Scanner {
 
     /// The octets that the next token stands for. A token that is refused is gone past too.
     ///
-    /// Refuses a token that stands for none as `Custom("illegal data")`, and octets for which the builder
-    /// has no room or no memory.
+    /// Refuses a token that stands for none as `Custom("illegal data")`, and octets for which the
+    /// builder has no room or no memory.
     fn convert_token(&mut self, alloc: Global, codec: Codec) -> Result<Self::Octets, ScanError>
-        ensures ok { IfOk result (λ octets. TakesToken (λ token. Decodes codec token (Self.Octets.octets octets)) (tokens self.old) (tokens self.new)) }
-        ensures err { IfErr result (λ e. RefusesToken (CodecFault codec Self.Octets.Builder.limit) (tokens self.old) (tokens self.new) (scan_fault_of e)) };
+        ensures ok { IfOk result (λ octets.
+            TakesToken (λ token. Decodes codec token (Self.Octets.octets octets)) (tokens self.old)
+            (tokens self.new)) }
+        ensures err { IfErr result (λ e.
+            RefusesToken (CodecFault codec Self.Octets.Builder.limit) (tokens self.old)
+            (tokens self.new) (scan_fault_of e)) };
 
-    /// The octets that all tokens that are left stand for when they are joined. No tokens are the empty
-    /// text.
+    /// The octets that all tokens that are left stand for when they are joined. No tokens are the
+    /// empty text.
     ///
-    /// Refuses a text that stands for no octets as `Custom("illegal data")`, and octets for which the
-    /// builder has no room or no memory. The tokens that are left then are an end of those before.
+    /// Refuses a text that stands for no octets as `Custom("illegal data")`, and octets for which
+    /// the builder has no room or no memory. The tokens that are left then are an end of those
+    /// before.
     fn convert_entry(&mut self, alloc: Global, codec: Codec) -> Result<Self::Octets, ScanError>
-        ensures ok { IfOk result (λ octets. Decodes codec (concat (tokens self.old)) (Self.Octets.octets octets)) }
+        ensures ok { IfOk result (λ octets.
+            Decodes codec (concat (tokens self.old)) (Self.Octets.octets octets)) }
         ensures all { OnOk result (tokens self.new ≡ []) }
-        ensures err { IfErr result (λ e. CodecFault codec Self.Octets.Builder.limit (scan_fault_of e) (concat (tokens self.old))) }
+        ensures err { IfErr result (λ e.
+            CodecFault codec Self.Octets.Builder.limit (scan_fault_of e)
+            (concat (tokens self.old))) }
         ensures end { IsEnd (tokens self.new) (tokens self.old) };
 
     /// Whether tokens are left.
@@ -173,7 +188,8 @@ where
 impl<'a, O> IterScanner<'a, O> {
     /// Takes the next token.
     fn take_token(&mut self) -> Option<&'a str>
-        ensures { MatchOption result ((self.old ≡ []) × (self.new ≡ [])) (λ token. self.old ≡ token.now ∷ self.new) }
+        ensures { MatchOption result ((self.old ≡ []) × (self.new ≡ [])) (λ token.
+            self.old ≡ token.now ∷ self.new) }
     {
         match self.left {
             [] => None,
@@ -217,10 +233,10 @@ where
 /// A value that one token spells.
 pub trait FromToken {
     /// The token spells the value.
-    ghost spells: { List ℕ → Self → Type 0 };
+    ghost spells: { Token → Self → Type 0 };
 
     /// Why a token is refused.
-    ghost refuses: { ScanFault → List ℕ → Type 0 };
+    ghost refuses: { ScanFault → Token → Type 0 };
 
     /// The value that a token spells.
     fn from_token(token: &str) -> Result<Self, ScanError>
@@ -233,8 +249,11 @@ pub trait FromToken {
     final fn scan<S: Scanner>(scanner: &mut S) -> Result<Self, ScanError>
     where
         Self: Sized,
-        ensures ok { IfOk result (λ value. TakesToken (λ token. spells token value) (S.tokens scanner.old) (S.tokens scanner.new)) }
-        ensures err { IfErr result (λ e. RefusesToken refuses (S.tokens scanner.old) (S.tokens scanner.new) (scan_fault_of e)) }
+        ensures ok { IfOk result (λ value.
+            TakesToken (λ token. spells token value) (S.tokens scanner.old)
+            (S.tokens scanner.new)) }
+        ensures err { IfErr result (λ e.
+            RefusesToken refuses (S.tokens scanner.old) (S.tokens scanner.new) (scan_fault_of e)) }
     {
         let Some(token) = scanner.first_token() else {
             return Err(ScanError::EndOfEntry);

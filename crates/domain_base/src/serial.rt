@@ -49,7 +49,8 @@ impl Serial {
         self.0
     }
 
-    /// The serial number that comes next, four octets. Refuses, with `ShortInput`, where fewer are left.
+    /// The serial number that comes next, four octets. Refuses, with `ShortInput`, where fewer are
+    /// left.
     pub fn parse(parser: &mut Parser<'_>) -> Result<Serial, ParseError>
         ensures ok { IfOk result (λ serial. Takes (to_be_bytes w32 serial) parser.old parser.new) }
         ensures short { IsErr result ↔ (length parser.old.left < 4) }
@@ -61,9 +62,11 @@ impl Serial {
 
     /// Appends its four octets.
     pub fn compose<B: OctetsBuilder>(&self, target: &mut B) -> Result<(), AppendError>
-        ensures ok { OnOk result (B.octets target.new ≡ B.octets target.old ++ to_be_bytes w32 self.now) }
+        ensures ok { OnOk result (B.octets target.new ≡ B.octets target.old
+            ++ to_be_bytes w32 self.now) }
         ensures err { OnErr result (B.octets target.new ≡ B.octets target.old) }
-        ensures short { IsErrOf result AppendError.ShortBuf ↔ IsOver B.limit (length (B.octets target.old) + 4) }
+        ensures short { IsErrOf result AppendError.ShortBuf
+            ↔ IsOver B.limit (length (B.octets target.old) + 4) }
         ensures memory { IsErrOf result AppendError.OutOfMemory → IsNone B.limit }
     {
         target.append_slice(&self.0.to_be_bytes())
@@ -73,7 +76,8 @@ impl Serial {
     /// every other text, and a number over 32 bits, as `Custom("decimal number expected")`.
     pub fn from_str(text: &str) -> Result<Serial, ScanError>
         ensures ok { IfOk result (IsNumber 32 (without_leading_plus text.now)) }
-        ensures err { IfErr result (λ e. IsNoNumber 32 (scan_fault_of e) (without_leading_plus text.now)) }
+        ensures err { IfErr result (λ e.
+            IsNoNumber 32 (scan_fault_of e) (without_leading_plus text.now)) }
     {
         match text.parse::<u32>() {
             Ok(number) => Ok(Serial(number)),
@@ -81,8 +85,8 @@ impl Serial {
         }
     }
 
-    /// The order of serial numbers: each is before the 2,147,483,647 that follow it in the circle. Two
-    /// that are just half of the circle apart have none (RFC 1982, section 3.2).
+    /// The order of serial numbers: each is before the 2,147,483,647 that follow it in the circle.
+    /// Two that are just half of the circle apart have none (RFC 1982, section 3.2).
     pub fn partial_cmp(&self, other: &Serial) -> Option<Ordering>
         ensures { result ≡ serial_cmp self.now other.now }
     {

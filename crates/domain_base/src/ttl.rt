@@ -7,7 +7,8 @@ use crate::{FromToken, ScanError};
 use std::fmt;
 use std::marker::Model;
 
-/// How long a record may be cached, in seconds: a number of 32 bits (RFC 1035, section 3.2.1; RFC 2181, section 8).
+/// How long a record may be cached, in seconds: a number of 32 bits (RFC 1035, section 3.2.1;
+/// RFC 2181, section 8).
 #[derive(Clone, Copy, Debug, PartialEq, Eq, PartialOrd, Ord, Hash)]
 pub struct Ttl(u32);
 

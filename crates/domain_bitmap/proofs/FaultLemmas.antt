@@ -5,14 +5,14 @@ use Rattle.std.proofs.lemmas.Bool.Decides.{leb_tells}
 use Rattle.domain_bitmap.specs.declared.error.RtypeBitmapError.{RtypeBitmapError}
 use Rattle.domain_bitmap.specs.declared.error.RtypeBitmapError.TheVariants.{ShortInput, BadRtypeBitmap}
 use Rattle.domain_base.specs.Fault.{Fault}
-use Rattle.domain_bitmap.specs.Fault.{BitmapFault, bitmap_fault_of, FirstFault, no_length, bad_length, cut_block, after}
+use Rattle.domain_bitmap.specs.Fault.{BitmapFault, bitmap_fault_of, FirstBlockFault, no_length, bad_length, cut_block, after}
 use Rattle.domain_bitmap.specs.Blocks.{Block, IsBitmap, octets_of, blocks_of}
 use Rattle.domain_bitmap.proofs.BlockLemmas.{IsBitmap-octets_of, block_at, add_two}
 
 -- what is left of octets of which blocks were read
 pub record Reading (octets rest : List ℕ) : Type 0 where
   pub bitmap : IsBitmap rest → IsBitmap octets
-  pub fault : (e : RtypeBitmapError) → FirstFault rest e → FirstFault octets e
+  pub fault : (e : RtypeBitmapError) → FirstBlockFault rest e → FirstBlockFault octets e
   pub bounded : (i : ℕ) → get_or rest i 0 < 256
 
 pub reading_starts : (octets : List ℕ) → ((i : ℕ) → get_or octets i 0 < 256) → Reading octets octets
@@ -60,21 +60,21 @@ reading_goes octets rest reading two some small fits =
     let s = split rest two fits reading.bounded in
     record {
       bitmap = λ b. reading.bitmap (subst IsBitmap (sym s.is) (IsBitmap-split s.window s.block s.others s.window_small (omega (arith, s.count)) (omega (arith, s.count)) s.small (subst IsBitmap (sym s.left) b)));
-      fault = λ e f. reading.fault e (subst (λ (o : List ℕ). FirstFault o e) (sym s.is) (after s.window s.block s.others e (omega (arith, s.count)) (omega (arith, s.count)) (subst (λ (o : List ℕ). FirstFault o e) (sym s.left) f)));
+      fault = λ e f. reading.fault e (subst (λ (o : List ℕ). FirstBlockFault o e) (sym s.is) (after s.window s.block s.others e (omega (arith, s.count)) (omega (arith, s.count)) (subst (λ (o : List ℕ). FirstBlockFault o e) (sym s.left) f)));
       bounded = λ i. rw (get_or-drop (get_or rest 1 0 + 2) rest i 0) (reading.bounded (get_or rest 1 0 + 2 + i));
     }
 
-pub fault_no_length : (rest : List ℕ) → 0 < length rest → length rest < 2 → FirstFault rest ShortInput
+pub fault_no_length : (rest : List ℕ) → 0 < length rest → length rest < 2 → FirstBlockFault rest ShortInput
 fault_no_length [] some short = absurd (omega (arith, some))
 fault_no_length (w ∷ []) some short = no_length w
 fault_no_length (w ∷ len ∷ tail) some short = absurd (omega (arith, short))
 
-pub fault_bad_length : (rest : List ℕ) → 2 ≤ length rest → (get_or rest 1 0 ≡ 0) ⊎ (32 < get_or rest 1 0) → FirstFault rest BadRtypeBitmap
+pub fault_bad_length : (rest : List ℕ) → 2 ≤ length rest → (get_or rest 1 0 ≡ 0) ⊎ (32 < get_or rest 1 0) → FirstBlockFault rest BadRtypeBitmap
 fault_bad_length [] two bad = absurd (omega (arith, two))
 fault_bad_length (w ∷ []) two bad = absurd (omega (arith, two))
 fault_bad_length (w ∷ len ∷ tail) two bad = bad_length w len tail bad
 
-pub fault_cut_block : (rest : List ℕ) → 2 ≤ length rest → 0 < get_or rest 1 0 → get_or rest 1 0 ≤ 32 → length rest - 2 < get_or rest 1 0 → FirstFault rest ShortInput
+pub fault_cut_block : (rest : List ℕ) → 2 ≤ length rest → 0 < get_or rest 1 0 → get_or rest 1 0 ≤ 32 → length rest - 2 < get_or rest 1 0 → FirstBlockFault rest ShortInput
 fault_cut_block [] two some small cut = absurd (omega (arith, two))
 fault_cut_block (w ∷ []) two some small cut = absurd (omega (arith, two))
 fault_cut_block (w ∷ len ∷ tail) two some small cut = cut_block w len tail some small (omega (arith, cut))
@@ -84,7 +84,7 @@ nothing_left [] none = IsBitmap-octets_of [] tt
 nothing_left (x ∷ rest) none = absurd (omega (arith, none))
 
 -- a list of blocks has no fault
-pub no_fault : {octets : List ℕ} {e : RtypeBitmapError} → FirstFault octets e → IsBitmap octets → ⊥
+pub no_fault : {octets : List ℕ} {e : RtypeBitmapError} → FirstBlockFault octets e → IsBitmap octets → ⊥
 no_fault (no_length window) bitmap = let has = block_at (window ∷ []) bitmap (omega arith) in omega (arith, has.headed)
 no_fault (bad_length window len rest (inl zero_len)) bitmap =
     let has = block_at (window ∷ len ∷ rest) bitmap (omega arith) in
@@ -101,7 +101,7 @@ no_fault (after window block rest fault some small later) bitmap =
     no_fault later (subst IsBitmap left has.rest)
 
 -- a fault by its name
-pub bitmap_fault : (octets : List ℕ) (first : RtypeBitmapError) (fault : Fault) → FirstFault octets first → fault ≡ bitmap_fault_of first → BitmapFault octets fault
+pub bitmap_fault : (octets : List ℕ) (first : RtypeBitmapError) (fault : Fault) → FirstBlockFault octets first → fault ≡ bitmap_fault_of first → BitmapFault octets fault
 bitmap_fault octets first fault found named = record { first = first; found = found; named = named }
 
 pub no_bitmap_fault : (octets : List ℕ) (fault : Fault) → BitmapFault octets fault → IsBitmap octets → ⊥

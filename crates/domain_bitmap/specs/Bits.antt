@@ -1,6 +1,8 @@
--- the bits of octets, the most significant bit of an octet being its first (RFC 4034, section 4.1.2)
-use Rattle.std.specs.Prelude.{ℕ, ◌+◌, ◌-◌, ◌/◌, ◌%◌, ◌==◌, Bool, List, if◌then◌else◌, slice_index}
+-- the bits of octets, the most significant bit of an octet being its first (RFC 4034,
+-- section 4.1.2)
+use Rattle.std.specs.Prelude.{ℕ, ◌+◌, ◌-◌, ◌/◌, ◌%◌, ◌==◌, Bool, if◌then◌else◌, slice_index}
 use Rattle.std.specs.Int.{bit_at}
+use Rattle.domain_octets.specs.Words.{Octets}
 
 -- whether a bit of an octet is set
 unfoldable pub bit_of : ℕ → ℕ → Bool
@@ -17,5 +19,5 @@ octet_with bit =
     + weight 8 (bit 4) + weight 4 (bit 5) + weight 2 (bit 6) + weight 1 (bit 7)
 
 -- whether the octets of a window have the bit of a type; an octet that is absent has none
-unfoldable pub has_bit : List ℕ → ℕ → Bool
+unfoldable pub has_bit : Octets → ℕ → Bool
 has_bit octets t = bit_of (slice_index octets (t % 256 / 8)) (t % 8)

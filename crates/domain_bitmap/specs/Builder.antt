@@ -1,20 +1,24 @@
--- what a builder holds: blocks of 34 octets, each the number of a window, an octet for the length, and the window's 32 octets
-use Rattle.std.specs.Prelude.{ℕ, ◌+◌, ◌*◌, ◌/◌, ◌%◌, ◌==◌, ◌&&◌, Bool, List, length, slice_index}
+-- what a builder holds: blocks of 34 octets, each the number of a window, an octet for the length,
+-- and the window's 32 octets
+use Rattle.std.specs.Prelude.{ℕ, ◌+◌, ◌*◌, ◌/◌, ◌%◌, ◌==◌, ◌&&◌, Bool, length, slice_index}
 use Rattle.std.specs.List.{range_with_len, list_any}
+use Rattle.domain_octets.specs.Words.{Octets}
 use Rattle.domain_bitmap.specs.Bits.{bit_of}
 
 -- whether the block at a place is of a window
-abbrev pub is_of_window : List ℕ → ℕ → ℕ → Bool
+abbrev pub is_of_window : Octets → ℕ → ℕ → Bool
 is_of_window value window j = slice_index value (34 * j) == window
 
 -- whether the block at a place is of the type's window, and has its bit
-abbrev pub block_holds : List ℕ → ℕ → ℕ → Bool
-block_holds value t j = is_of_window value (t / 256) j && bit_of (slice_index value (34 * j + 2 + t % 256 / 8)) (t % 8)
+abbrev pub block_holds : Octets → ℕ → ℕ → Bool
+block_holds value t j =
+    is_of_window value (t / 256) j && bit_of (slice_index value (34 * j + 2 + t % 256 / 8)) (t % 8)
 
 -- whether there is a block of a window
-unfoldable pub has_window : List ℕ → ℕ → Bool
-has_window value window = list_any (is_of_window value window) (range_with_len 0 (length value / 34))
+unfoldable pub has_window : Octets → ℕ → Bool
+has_window value window =
+    list_any (is_of_window value window) (range_with_len 0 (length value / 34))
 
 -- whether some block has the type's bit
-unfoldable pub holds : List ℕ → ℕ → Bool
+unfoldable pub holds : Octets → ℕ → Bool
 holds value t = list_any (block_holds value t) (range_with_len 0 (length value / 34))

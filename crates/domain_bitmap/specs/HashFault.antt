@@ -1,12 +1,15 @@
 -- why a text is no hash of an owner name
-use Rattle.std.specs.Prelude.{ℕ, ◌<◌, ◌⊎◌, List, length, Option}
+use Rattle.std.specs.Prelude.{ℕ, ◌<◌, ◌⊎◌, length, Option}
 use Rattle.domain_octets.specs.Limit.{IsOver}
 use Rattle.domain_octets.specs.Codec.{Decodes, DecodeFault}
 use Rattle.domain_octets.specs.declared.codec.Codec.TheVariants.{Base32Hex}
 use Rattle.domain_octets.specs.declared.codec.DecodeError.{DecodeError}
 use Rattle.domain_octets.specs.declared.codec.DecodeError.TheVariants.{ShortBuf}
+use Rattle.domain_octets.specs.Words.{Octets}
 
 -- what the codec refuses, and what stands for over 255 octets
-abbrev pub HashFault : Option ℕ → List ℕ → DecodeError → Type 0
-HashFault limit text ShortBuf = (octets : List ℕ) × Decodes Base32Hex text octets × (IsOver limit (length octets) ⊎ (255 < length octets))
+abbrev pub HashFault : Option ℕ → Octets → DecodeError → Type 0
+HashFault limit text ShortBuf =
+    (octets : Octets) × Decodes Base32Hex text octets
+    × (IsOver limit (length octets) ⊎ (255 < length octets))
 HashFault limit text error = DecodeFault Base32Hex limit text error

@@ -1,27 +1,34 @@
 -- salts and hashes of owner names from tokens (RFC 5155, section 3.3)
-use Rattle.std.specs.Prelude.{◌≡◌, ◌≢◌, ℕ, ◌<◌, ◌⊎◌, List, [], ◌∷◌, length, codes, Option}
+use Rattle.std.specs.Prelude.{◌≡◌, ◌≢◌, ℕ, ◌<◌, ◌⊎◌, [], ◌∷◌, length, codes, Option}
 use Rattle.domain_octets.specs.Codec.{Decodes}
 use Rattle.domain_octets.specs.declared.codec.Codec.{Codec}
 use Rattle.domain_octets.specs.declared.codec.Codec.TheVariants.{Base16}
+use Rattle.domain_octets.specs.Words.{Octets}
+use Rattle.domain_octets.specs.Characters.{dash}
 use Rattle.domain_base.specs.Scan.{ScanFault, entry_ends, illegal, no_room, no_memory, CodecFault}
+use Rattle.domain_base.specs.Words.{Token}
 
 -- the text stands for over 255 octets
-abbrev pub IsTooLong : Codec → List ℕ → Type 0
-IsTooLong codec text = (octets : List ℕ) × Decodes codec text octets × (255 < length octets)
+abbrev pub StandsForTooMany : Codec → Octets → Type 0
+StandsForTooMany codec text = (octets : Octets) × Decodes codec text octets × (255 < length octets)
 
 -- why a token stands for no octets that have this limit, or, with a text of its own, for over 255
-abbrev pub CountedFault : Codec → List ℕ → Option ℕ → ScanFault → List ℕ → Type 0
+abbrev pub CountedFault : Codec → Octets → Option ℕ → ScanFault → Token → Type 0
 CountedFault codec long limit entry_ends token = ⊥
-CountedFault codec long limit (illegal said) token = CodecFault codec limit (illegal said) token ⊎ (IsTooLong codec token × (said ≡ long))
+CountedFault codec long limit (illegal said) token =
+    CodecFault codec limit (illegal said) token ⊎ (StandsForTooMany codec token × (said ≡ long))
 CountedFault codec long limit no_room token = CodecFault codec limit no_room token
 CountedFault codec long limit no_memory token = CodecFault codec limit no_memory token
 
 -- the token begins with a dash
-abbrev pub BeginsWithDash : List ℕ → Type 0
+abbrev pub BeginsWithDash : Token → Type 0
 BeginsWithDash [] = ⊥
-BeginsWithDash (c ∷ rest) = c ≡ 45
+BeginsWithDash (c ∷ rest) = c ≡ dash
 
 -- why a token is no salt: a dash may not have anything after it, and all else is Base 16
-pub data SaltTokenFault (limit : Option ℕ) : ScanFault → List ℕ → Type 0 where
-  after_dash : (token : List ℕ) → BeginsWithDash token → token ≢ codes "-" → SaltTokenFault limit (illegal (codes "illegal NSEC3 salt")) token
-  in_digits : (fault : ScanFault) (token : List ℕ) → (BeginsWithDash token → ⊥) → CountedFault Base16 (codes "illegal NSEC3 salt") limit fault token → SaltTokenFault limit fault token
+pub data SaltTokenFault (limit : Option ℕ) : ScanFault → Token → Type 0 where
+  after_dash : (token : Token) → BeginsWithDash token → token ≢ codes "-"
+      → SaltTokenFault limit (illegal (codes "illegal NSEC3 salt")) token
+  in_digits : (fault : ScanFault) (token : Token) → (BeginsWithDash token → ⊥)
+      → CountedFault Base16 (codes "illegal NSEC3 salt") limit fault token
+      → SaltTokenFault limit fault token

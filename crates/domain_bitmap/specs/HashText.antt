@@ -1,28 +1,32 @@
 -- salts and hashes of owner names as text (RFC 5155, section 3.3)
-use Rattle.std.specs.Prelude.{◌≡◌, ◌≢◌, ℕ, ◌<◌, List, [], ◌∷◌, length, codes, Option}
+use Rattle.std.specs.Prelude.{◌≡◌, ◌≢◌, ℕ, ◌<◌, [], ◌∷◌, length, codes, Option}
 use Rattle.hex.specs.Hex.{encode_upper}
 use Rattle.domain_octets.specs.Codec.{Decodes, DecodeFault}
 use Rattle.domain_octets.specs.Texts.{decode_error_text}
 use Rattle.domain_octets.specs.declared.codec.Codec.TheVariants.{Base16}
+use Rattle.domain_octets.specs.Words.{Octets}
 use Rattle.domain_bitmap.specs.declared.salt_text.Nsec3SaltFromStrError.{Nsec3SaltFromStrError}
 use Rattle.domain_bitmap.specs.declared.salt_text.Nsec3SaltFromStrError.TheVariants as refusal
 
 -- a salt is its octets in Base 16, and one of no octets is a dash
-abbrev pub salt_text : List ℕ → List ℕ
+abbrev pub salt_text : Octets → Octets
 salt_text [] = codes "-"
 salt_text (octet ∷ octets) = encode_upper (octet ∷ octets)
 
 -- the text is read as this salt
-pub data SaltText : List ℕ → List ℕ → Type 0 where
-  dash : (text : List ℕ) → text ≡ codes "-" → SaltText text []
-  digits : (text octets : List ℕ) → text ≢ codes "-" → Decodes Base16 text octets → SaltText text octets
+pub data SaltText : Octets → Octets → Type 0 where
+  dash : (text : Octets) → text ≡ codes "-" → SaltText text []
+  digits : (text octets : Octets) → text ≢ codes "-" → Decodes Base16 text octets
+      → SaltText text octets
 
 -- why a text is no salt over octets with this limit
-abbrev pub SaltFault : Option ℕ → List ℕ → Nsec3SaltFromStrError → Type 0
-SaltFault limit text (refusal.DecodeError error) = (text ≢ codes "-") × DecodeFault Base16 limit text error
-SaltFault limit text (refusal.Nsec3SaltError error) = (octets : List ℕ) × SaltText text octets × (255 < length octets)
+abbrev pub SaltFault : Option ℕ → Octets → Nsec3SaltFromStrError → Type 0
+SaltFault limit text (refusal.DecodeError error) =
+    (text ≢ codes "-") × DecodeFault Base16 limit text error
+SaltFault limit text (refusal.Nsec3SaltError error) =
+    (octets : Octets) × SaltText text octets × (255 < length octets)
 
 -- what the error says
-abbrev pub salt_error_text : Nsec3SaltFromStrError → List ℕ
+abbrev pub salt_error_text : Nsec3SaltFromStrError → Octets
 salt_error_text (refusal.DecodeError error) = decode_error_text error
 salt_error_text (refusal.Nsec3SaltError error) = codes "illegal NSEC3 salt"

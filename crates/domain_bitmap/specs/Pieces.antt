@@ -1,18 +1,22 @@
--- sets of types and salts in the pieces of a zone file (RFC 4034, section 4.2; RFC 5155, section 3.3)
+-- sets of types and salts in the pieces of a zone file (RFC 4034, section 4.2; RFC 5155,
+-- section 3.3)
 use Rattle.std.specs.Prelude.{ℕ, List, [], ◌∷◌, ◌++◌, map, length, codes}
 use Rattle.std.specs.Fmt.{decimal}
 use Rattle.domain_octets.specs.Piece.{PieceText, token, comment, opens, closes}
+use Rattle.domain_octets.specs.Words.{Octets}
 use Rattle.domain_base.specs.Numbers.{type_text}
+use Rattle.domain_base.specs.Words.{Rtypes}
 use Rattle.domain_bitmap.specs.HashText.{salt_text}
 
 -- a token for each type
-unfoldable pub type_pieces : List ℕ → List PieceText
+unfoldable pub type_pieces : Rtypes → List PieceText
 type_pieces types = map (λ t. token (type_text t)) types
 
 -- how long a salt is
-abbrev pub salt_comment : ℕ → List ℕ
+abbrev pub salt_comment : ℕ → Octets
 salt_comment n = codes "salt (length: " ++ (decimal n ++ codes ")")
 
 -- a block of the salt's text and its length
-abbrev pub salt_pieces : List ℕ → List PieceText
-salt_pieces octets = opens ∷ token (salt_text octets) ∷ comment (salt_comment (length octets)) ∷ closes ∷ []
+abbrev pub salt_pieces : Octets → List PieceText
+salt_pieces octets =
+    opens ∷ token (salt_text octets) ∷ comment (salt_comment (length octets)) ∷ closes ∷ []

@@ -1,7 +1,8 @@
 //! Sets of types as octets.
-ghost use Rattle.std.specs.Prelude.{◌≡◌, ℕ, ◌↔◌, List, [], IsTrue, IsOk, IfOk, IfErr};
+ghost use Rattle.std.specs.Prelude.{◌≡◌, ◌↔◌, [], IsTrue, IsOk, IfOk, IfErr};
+ghost use Rattle.domain_octets.specs.Words.{Octets};
 ghost use Rattle.domain_bitmap.specs.Blocks.{IsBitmap, contains_type, types_of};
-ghost use Rattle.domain_bitmap.specs.Fault.{FirstFault};
+ghost use Rattle.domain_bitmap.specs.Fault.{FirstBlockFault};
 
 use crate::bits::split_rtype;
 use crate::blocks::{check, is_set, split_block};
@@ -18,7 +19,7 @@ pub struct RtypeBitmap<O: Octets> {
 }
 
 impl<O: Octets> Model for RtypeBitmap<O> {
-    ghost Value = { List ℕ };
+    ghost Value = { Octets };
 
     ghost view = { λ b. O.octets b.octets };
 
@@ -39,7 +40,7 @@ impl<O: Octets> RtypeBitmap<O> {
         O: Drop,
         ensures ok { IsOk result ↔ IsBitmap (O.octets octets) }
         ensures octets { IfOk result (λ bitmap. bitmap ≡ O.octets octets) }
-        ensures err { IfErr result (FirstFault (O.octets octets)) }
+        ensures err { IfErr result (FirstBlockFault (O.octets octets)) }
     {
         check(octets.as_slice())?;
         Ok(RtypeBitmap { octets })

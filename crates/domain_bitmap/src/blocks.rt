@@ -2,7 +2,7 @@
 ghost use Rattle.std.specs.Prelude.{◌≡◌, ℕ, ◌+◌, ◌*◌, ◌/◌, ◌%◌, ◌<◌, ◌≤◌, ◌∷◌, [], length, IfSome, IfNone, MatchResult};
 ghost use Rattle.domain_bitmap.specs.Bits.{has_bit};
 ghost use Rattle.domain_bitmap.specs.Blocks.{IsBitmap, blocks_of, block_types_from};
-ghost use Rattle.domain_bitmap.specs.Fault.{FirstFault};
+ghost use Rattle.domain_bitmap.specs.Fault.{FirstBlockFault};
 
 use crate::RtypeBitmapError;
 
@@ -20,7 +20,7 @@ pub(crate) struct Window<'a> {
 
 /// Checks that octets are a list of blocks.
 pub(crate) fn check(octets: &[u8]) -> Result<(), RtypeBitmapError>
-    ensures { MatchResult result (λ _. IsBitmap octets.now) (λ e. FirstFault octets.now e) }
+    ensures { MatchResult result (λ _. IsBitmap octets.now) (λ e. FirstBlockFault octets.now e) }
 {
     let mut rest = octets;
     while !rest.is_empty() {
@@ -44,7 +44,8 @@ pub(crate) fn check(octets: &[u8]) -> Result<(), RtypeBitmapError>
 pub(crate) fn split_block(blocks: &[u8]) -> Option<(Window<'_>, &[u8])>
     requires { IsBitmap blocks.now }
     ensures none { IfNone result (blocks_of blocks.now ≡ []) }
-    ensures some { IfSome result (λ p. blocks_of blocks.now ≡ record { window = p.0.number; octets = p.0.octets.now } ∷ blocks_of p.1.now) }
+    ensures some { IfSome result (λ p. blocks_of blocks.now
+        ≡ record { window = p.0.number; octets = p.0.octets.now } ∷ blocks_of p.1.now) }
     ensures fits { IfSome result (λ p. length p.0.octets.now ≤ 32) }
     ensures rest { IfSome result (λ p. IsBitmap p.1.now) }
     ensures shorter { IfSome result (λ p. length p.1.now < length blocks.now) }
@@ -77,9 +78,12 @@ pub(crate) fn is_set(octets: &[u8], octet: usize, bit: u8) -> bool
 /// The first place in a window, from one on, whose bit is set.
 pub(crate) fn first_set(octets: &[u8], from: usize) -> Option<usize>
     requires { length octets.now ≤ 32 }
-    ensures none { IfNone result ((w : ℕ) → block_types_from (record { window = w; octets = octets.now }) from ≡ []) }
-    ensures some { IfSome result (λ place. (w : ℕ) → block_types_from (record { window = w; octets = octets.now }) from
-        ≡ (256 * w + place) ∷ block_types_from (record { window = w; octets = octets.now }) (place + 1)) }
+    ensures none { IfNone result ((w : ℕ)
+        → block_types_from (record { window = w; octets = octets.now }) from ≡ []) }
+    ensures some { IfSome result (λ place. (w : ℕ)
+        → block_types_from (record { window = w; octets = octets.now }) from
+        ≡ (256 * w + place) ∷ block_types_from (record { window = w; octets = octets.now })
+        (place + 1)) }
     ensures bounds { IfSome result (λ place. place < 256) }
 {
     for place in from..8 * octets.len() {

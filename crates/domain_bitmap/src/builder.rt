@@ -1,6 +1,7 @@
 //! Builds sets of types.
-ghost use Rattle.std.specs.Prelude.{◌≡◌, ℕ, ◌+◌, ◌/◌, ◌%◌, ◌<◌, ◌||◌, ◌==◌, ◌↔◌, [], List, false, length, OnOk, OnErr, IfOk, slice_index, ◌*◌, if◌then◌else◌, IsErrOf, IsNone};
+ghost use Rattle.std.specs.Prelude.{◌≡◌, ℕ, ◌+◌, ◌/◌, ◌%◌, ◌<◌, ◌||◌, ◌==◌, ◌↔◌, [], false, length, OnOk, OnErr, IfOk, slice_index, ◌*◌, if◌then◌else◌, IsErrOf, IsNone};
 ghost use Rattle.domain_octets.specs.Limit.{IsOver};
+ghost use Rattle.domain_octets.specs.Words.{Octets};
 ghost use Rattle.domain_bitmap.specs.Builder.{holds, has_window};
 ghost use Rattle.domain_bitmap.specs.Bitmap.{bitmap_octets};
 
@@ -24,7 +25,7 @@ pub struct RtypeBitmapBuilder<B: OctetsBuilder> {
 }
 
 impl<B: OctetsBuilder> Model for RtypeBitmapBuilder<B> {
-    ghost Value = { List ℕ };
+    ghost Value = { Octets };
 
     ghost view = { λ b. B.octets b.buffer };
 
@@ -81,10 +82,13 @@ impl<B: OctetsBuilder> RtypeBitmapBuilder<B> {
     /// The place of the first block of a window; where there is none, one without types is added.
     #[tactic(auto, using(crate::proofs::SlotLemmas::block_steps))]
     fn window_block(&mut self, window: u8) -> Result<usize, AppendError>
-        ensures place { IfOk result (λ j. (j < length self.new / 34) × (slice_index self.new (34 * j) ≡ window)) }
+        ensures place { IfOk result (λ j. (j < length self.new / 34)
+            × (slice_index self.new (34 * j) ≡ window)) }
         ensures types { OnOk result ((t : ℕ) → holds self.new t ≡ holds self.old t) }
-        ensures windows { OnOk result ((w : ℕ) → has_window self.new w ≡ (w == window || has_window self.old w)) }
-        ensures size { OnOk result (length self.new ≡ (if has_window self.old window then length self.old else length self.old + 34)) }
+        ensures windows { OnOk result ((w : ℕ)
+            → has_window self.new w ≡ (w == window || has_window self.old w)) }
+        ensures size { OnOk result (length self.new
+            ≡ (if has_window self.old window then length self.old else length self.old + 34)) }
         ensures short { IsErrOf result AppendError.ShortBuf
             ↔ ((has_window self.old window ≡ false) × IsOver B.limit (length self.old + 34)) }
         ensures memory { IsErrOf result AppendError.OutOfMemory
@@ -110,11 +114,16 @@ impl<B: OctetsBuilder> RtypeBitmapBuilder<B> {
     /// `ShortBuf` where there is no block of the type's window, and the buffer has no place for
     /// another 34 octets. `OutOfMemory` where there was no memory for them.
     pub fn add(&mut self, rtype: Rtype) -> Result<(), AppendError>
-        ensures ok { OnOk result ((t : ℕ) → t < 65536 → holds self.new t ≡ (t == rtype || holds self.old t)) }
-        ensures windows { OnOk result ((w : ℕ) → has_window self.new w ≡ (w == rtype / 256 || has_window self.old w)) }
-        ensures size { OnOk result (length self.new ≡ (if has_window self.old (rtype / 256) then length self.old else length self.old + 34)) }
+        ensures ok { OnOk result ((t : ℕ) → t < 65536
+            → holds self.new t ≡ (t == rtype || holds self.old t)) }
+        ensures windows { OnOk result ((w : ℕ)
+            → has_window self.new w ≡ (w == rtype / 256 || has_window self.old w)) }
+        ensures size { OnOk result (length self.new
+            ≡ (if has_window self.old (rtype / 256) then length self.old
+            else length self.old + 34)) }
         ensures short { IsErrOf result AppendError.ShortBuf
-            ↔ ((has_window self.old (rtype / 256) ≡ false) × IsOver B.limit (length self.old + 34)) }
+            ↔ ((has_window self.old (rtype / 256) ≡ false)
+            × IsOver B.limit (length self.old + 34)) }
         ensures memory { IsErrOf result AppendError.OutOfMemory
             → (has_window self.old (rtype / 256) ≡ false) × IsNone B.limit }
         ensures err { OnErr result (self.new ≡ self.old) }

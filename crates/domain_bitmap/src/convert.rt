@@ -62,7 +62,8 @@ impl<'a> RtypeBitmap<&'a [u8]> {
     #[tactic(auto, using(crate::proofs::FaultLemmas::parse_steps))]
     pub fn parse(parser: &mut Parser<'a>) -> Result<Self, ParseError>
         ensures ok { IsOk result ↔ IsBitmap parser.old.left }
-        ensures octets { IfOk result (λ bitmap. Takes bitmap parser.old parser.new × (parser.new.left ≡ [])) }
+        ensures octets { IfOk result (λ bitmap. Takes bitmap parser.old parser.new
+            × (parser.new.left ≡ [])) }
         ensures err { IfErr result (λ e. BitmapFault parser.old.left (fault_of e)) }
         ensures unmoved { OnErr result (parser.new ≡ parser.old) }
     {

@@ -1,12 +1,13 @@
 //! Octets that an octet counts: salts and hashes of owner names (RFC 5155, sections 3.1.5 and
 //! 3.1.7).
-ghost use Rattle.std.specs.Prelude.{◌≡◌, ◌≤◌, ◌↔◌, ◌∷◌, ℕ, List, [], Some, length, IsTrue, IsOk, IfOk, IfErr, OnErr, refl, bytes_eq};
+ghost use Rattle.std.specs.Prelude.{◌≡◌, ◌≤◌, ◌↔◌, ◌∷◌, [], Some, length, IsTrue, IsOk, IfOk, IfErr, OnErr, refl, bytes_eq};
 ghost use Rattle.std.specs.Ordering.{nat_cmp};
 ghost use Rattle.std.specs.Cmp.{partial_equiv_from_equiv, po};
 ghost use Rattle.std.specs.Cmp.Lexicographic.{slice_cmp, nat_list_cmp_total, nat_list_eq_equiv, texts_ties};
 ghost use Rattle.std.specs.Hash as fed;
 ghost use Rattle.domain_octets.specs.Place.{Takes};
 ghost use Rattle.domain_octets.specs.Limit.{IsOver};
+ghost use Rattle.domain_octets.specs.Words.{Octets};
 ghost use Rattle.domain_bitmap.specs.Laws.{octets_fed};
 ghost use Rattle.domain_bitmap.specs.Counted.{by_length, by_length_total, IsCutShort};
 
@@ -33,7 +34,7 @@ pub struct CountedOctets<O: Octets, E> {
 }
 
 impl<O: Octets, E> Model for CountedOctets<O, E> {
-    ghost Value = { List ℕ };
+    ghost Value = { Octets };
 
     ghost view = { λ c. O.octets c.octets };
 
@@ -170,7 +171,8 @@ impl<'a, E> CountedOctets<&'a [u8], E> {
     /// parser then stands where it stood. Takes no memory.
     #[tactic(auto, using(crate::proofs::CountedLemmas::counted_steps))]
     pub fn parse(parser: &mut Parser<'a>) -> Result<Self, ParseError>
-        ensures ok { IfOk result (λ counted. Takes (length counted ∷ counted) parser.old parser.new) }
+        ensures ok { IfOk result (λ counted.
+            Takes (length counted ∷ counted) parser.old parser.new) }
         ensures err { IfErr result (λ e. (e ≡ ParseError.ShortInput) × IsCutShort parser.old.left) }
         ensures unmoved { OnErr result (parser.new ≡ parser.old) }
     {

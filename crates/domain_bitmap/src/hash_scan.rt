@@ -38,15 +38,20 @@ impl<O: FromBuilder + Drop, E: Default + Drop> CountedOctets<O, E> {
 }
 
 impl<O: FromBuilder + Drop> OwnerHash<O> {
-    /// The hash that the next token stands for in Base 32 hex. A token that is refused is gone past too.
+    /// The hash that the next token stands for in Base 32 hex. A token that is refused is gone past
+    /// too.
     ///
     /// # Errors
     ///
-    /// `Custom("illegal data")` where the token is not in Base 32 hex, else want of room or of memory,
-    /// else `Custom("illegal owner name hash")` where it stands for over 255 octets.
+    /// `Custom("illegal data")` where the token is not in Base 32 hex, else want of room or of
+    /// memory, else `Custom("illegal owner name hash")` where it stands for over 255 octets.
     pub fn scan<S: Scanner<Octets = O>>(alloc: Global, scanner: &mut S) -> Result<Self, ScanError>
-        ensures ok { IfOk result (λ hash. TakesToken (λ token. Decodes codec.Base32Hex token hash) (S.tokens scanner.old) (S.tokens scanner.new)) }
-        ensures err { IfErr result (λ e. RefusesToken (CountedFault codec.Base32Hex (codes "illegal owner name hash") O.Builder.limit) (S.tokens scanner.old) (S.tokens scanner.new) (scan_fault_of e)) }
+        ensures ok { IfOk result (λ hash.
+            TakesToken (λ token. Decodes codec.Base32Hex token hash) (S.tokens scanner.old)
+            (S.tokens scanner.new)) }
+        ensures err { IfErr result (λ e.
+            RefusesToken (CountedFault codec.Base32Hex (codes "illegal owner name hash")
+            O.Builder.limit) (S.tokens scanner.old) (S.tokens scanner.new) (scan_fault_of e)) }
     {
         OwnerHash::scan_token(alloc, scanner, Codec::Base32Hex, "illegal owner name hash")
     }
@@ -70,12 +75,16 @@ impl<O: FromBuilder + Drop> Nsec3Salt<O> {
     ///
     /// # Errors
     ///
-    /// `Custom("illegal NSEC3 salt")` for a dash with something after it, `Custom("illegal data")` for
-    /// another token that is not in Base 16, else want of room or of memory, else
+    /// `Custom("illegal NSEC3 salt")` for a dash with something after it, `Custom("illegal data")`
+    /// for another token that is not in Base 16, else want of room or of memory, else
     /// `Custom("illegal NSEC3 salt")` where it stands for over 255 octets.
     pub fn scan<S: Scanner<Octets = O>>(alloc: Global, scanner: &mut S) -> Result<Self, ScanError>
-        ensures ok { IfOk result (λ salt. TakesToken (λ token. SaltText token salt) (S.tokens scanner.old) (S.tokens scanner.new)) }
-        ensures err { IfErr result (λ e. RefusesToken (SaltTokenFault O.Builder.limit) (S.tokens scanner.old) (S.tokens scanner.new) (scan_fault_of e)) }
+        ensures ok { IfOk result (λ salt.
+            TakesToken (λ token. SaltText token salt) (S.tokens scanner.old)
+            (S.tokens scanner.new)) }
+        ensures err { IfErr result (λ e.
+            RefusesToken (SaltTokenFault O.Builder.limit) (S.tokens scanner.old)
+            (S.tokens scanner.new) (scan_fault_of e)) }
     {
         let Some(token) = scanner.first_token() else {
             return Err(ScanError::EndOfEntry);

@@ -15,10 +15,11 @@ pub struct RtypeBitmapIter<'a> {
 }
 
 impl<'a> Model for RtypeBitmapIter<'a> {
-    ghost use Rattle.std.specs.Prelude.{ℕ, List, ◌≤◌};
+    ghost use Rattle.std.specs.Prelude.{ℕ, ◌≤◌};
+    ghost use Rattle.domain_base.specs.Words.{Rtypes};
     ghost use Rattle.domain_bitmap.specs.Blocks.{IsBitmap, types_from, blocks_of};
 
-    ghost Value = { List ℕ };
+    ghost Value = { Rtypes };
 
     ghost view = { λ s. types_from (blocks_of s.blocks.now) s.place };
 

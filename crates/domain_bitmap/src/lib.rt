@@ -2,24 +2,25 @@
 //! section 3.2.1), and the salts and hashes of NSEC3 (RFC 5155, sections 3.1.5 and 3.1.7).
 //!
 //! On the wire a set of types is a list of blocks: the number of a window of 256 types, how many
-//! octets follow (1 to 32), and these octets, in which the most significant bit of the first is that
-//! of the window's first type. The RFC allows one spelling of a set: windows ascend, and no block
-//! ends in a zero octet. Octets from outside may be spelled otherwise, and are read as they stand.
+//! octets follow (1 to 32), and these octets, in which the most significant bit of the first is
+//! that of the window's first type. The RFC allows one spelling of a set: windows ascend, and no
+//! block ends in a zero octet. Octets from outside may be spelled otherwise, and are read as they
+//! stand.
 //!
 //! What the crates above may rely on:
 //!
 //! - What an `RtypeBitmapBuilder` gives is the one spelling of the types that were added, whatever
 //!   their order and however often (`bitmap_octets` of `specs/Bitmap.antt`). A type whose window is
 //!   there already is added without memory and without a refusal, and `finalize` takes no memory.
-//! - An `RtypeBitmap` is a list of blocks (`IsBitmap` of `specs/Blocks.antt`); its value in clauses is
-//!   its octets. `from_octets` refuses exactly all other octets, and names the first fault.
+//! - An `RtypeBitmap` is a list of blocks (`IsBitmap` of `specs/Blocks.antt`); its value in clauses
+//!   is its octets. `from_octets` refuses exactly all other octets, and names the first fault.
 //! - `iter` gives the types whose bits are set, block by block as they stand; `contains` looks into
-//!   the first block of the type's window. Over what a builder made both answer for the set that was
-//!   added (`laws`).
+//!   the first block of the type's window. Over what a builder made both answer for the set that
+//!   was added (`laws`).
 //! - Equality, both orders and `Hash` are those of the octets; of two bitmaps that builders made,
 //!   equality is that of the sets.
-//! - An `Nsec3Salt` and an `OwnerHash` have at most 255 octets, and are these octets in clauses. `Ord`
-//!   is lexicographic; the canonical order, that of the wire form, looks at the length first.
+//! - An `Nsec3Salt` and an `OwnerHash` have at most 255 octets, and are these octets in clauses.
+//!   `Ord` is lexicographic; the canonical order, that of the wire form, looks at the length first.
 #![tactic(auto)]
 
 mod bitmap;

@@ -12,7 +12,8 @@ fn write_block<B: OctetsBuilder>(buffer: &mut B, end: usize, window: u8, octets:
     requires room { end + 34 ≤ length (B.octets buffer.old) }
     requires small { end + 34 < 2 ^ 64 }
     requires fits { length octets.now ≤ 32 }
-    ensures written { take result (B.octets buffer.new) ≡ take end (B.octets buffer.old) ++ block_with window (trimmed octets.now) }
+    ensures written { take result (B.octets buffer.new) ≡ take end (B.octets buffer.old)
+        ++ block_with window (trimmed octets.now) }
     ensures size { length (B.octets buffer.new) ≡ length (B.octets buffer.old) }
     ensures grows { result ≤ end + 34 }
     ensures bounded { (i : ℕ) → slice_index octets.now i < 256 }
@@ -46,7 +47,8 @@ fn pack_all<B: OctetsBuilder>(buffer: &mut B) -> usize
 /// How many octets of the only block's window are left without the zero octets at the end.
 fn only_len(slots: &[u8]) -> usize
     requires { length slots.now ≡ 34 }
-    ensures types { bitmap_octets (holds slots.now) ≡ block_with (slice_index slots.now 0) (take result (drop 2 slots.now)) }
+    ensures types { bitmap_octets (holds slots.now)
+        ≡ block_with (slice_index slots.now 0) (take result (drop 2 slots.now)) }
     ensures within { result ≤ 32 }
 {
     used_len(&slots[2..])

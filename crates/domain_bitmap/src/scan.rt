@@ -1,7 +1,8 @@
 //! Sets of types from tokens.
-ghost use Rattle.std.specs.Prelude.{◌≡◌, ℕ, ◌<◌, List, [], IfOk, IfErr};
+ghost use Rattle.std.specs.Prelude.{◌≡◌, ℕ, ◌<◌, [], IfOk, IfErr};
 ghost use Rattle.domain_base.specs.Scan.{scan_fault_of, TakesToken, RefusesToken};
 ghost use Rattle.domain_base.specs.Numbers.{TypeText, IsNoType};
+ghost use Rattle.domain_base.specs.Words.{Rtypes};
 ghost use Rattle.domain_bitmap.specs.Bitmap.{bitmap_octets};
 ghost use Rattle.domain_bitmap.specs.Builder.{holds};
 ghost use Rattle.domain_bitmap.specs.Scan.{TypeTexts, RefusesTypes, is_among};
@@ -13,9 +14,11 @@ use std::alloc::Global;
 
 /// The type that the next token spells.
 fn scan_type<S: Scanner>(scanner: &mut S) -> Result<Rtype, ScanError>
-    ensures ok { IfOk result (λ rtype. TakesToken (λ token. TypeText token rtype) (S.tokens scanner.old) (S.tokens scanner.new)) }
+    ensures ok { IfOk result (λ rtype.
+        TakesToken (λ token. TypeText token rtype) (S.tokens scanner.old) (S.tokens scanner.new)) }
     ensures number { IfOk result (λ rtype. rtype < 65536) }
-    ensures err { IfErr result (λ e. RefusesToken IsNoType (S.tokens scanner.old) (S.tokens scanner.new) (scan_fault_of e)) }
+    ensures err { IfErr result (λ e.
+        RefusesToken IsNoType (S.tokens scanner.old) (S.tokens scanner.new) (scan_fault_of e)) }
 {
     match <Rtype as FromToken>::scan(scanner) {
         Ok(rtype) => Ok(Rtype::from_int(rtype.to_int())),
@@ -29,9 +32,11 @@ fn add_all<B: OctetsBuilder, S: Scanner>(
     scanner: &mut S,
 ) -> Result<(), ScanError>
     requires { builder.old ≡ [] }
-    ensures ok { IfOk result (λ _. (types : List ℕ) × TypeTexts (S.tokens scanner.old) types × ((t : ℕ) → t < 65536 → holds builder.new t ≡ is_among types t)) }
+    ensures ok { IfOk result (λ _. (types : Rtypes) × TypeTexts (S.tokens scanner.old) types
+        × ((t : ℕ) → t < 65536 → holds builder.new t ≡ is_among types t)) }
     ensures all { IfOk result (λ _. S.tokens scanner.new ≡ []) }
-    ensures err { IfErr result (λ e. RefusesTypes B.limit (S.tokens scanner.old) (S.tokens scanner.new) (scan_fault_of e)) }
+    ensures err { IfErr result (λ e.
+        RefusesTypes B.limit (S.tokens scanner.old) (S.tokens scanner.new) (scan_fault_of e)) }
 {
     while scanner.continues() {
         let rtype = match scan_type(scanner) {
@@ -55,9 +60,12 @@ where
     /// else `ShortBuf` where the builder has no room for the type's window, or `OutOfMemory`. The
     /// tokens after it are left.
     pub fn scan<S: Scanner>(alloc: Global, scanner: &mut S) -> Result<Self, ScanError>
-        ensures ok { IfOk result (λ bitmap. (types : List ℕ) × TypeTexts (S.tokens scanner.old) types × (bitmap ≡ bitmap_octets (is_among types))) }
+        ensures ok { IfOk result (λ bitmap. (types : Rtypes)
+            × TypeTexts (S.tokens scanner.old) types × (bitmap ≡ bitmap_octets (is_among types))) }
         ensures all { IfOk result (λ _. S.tokens scanner.new ≡ []) }
-        ensures err { IfErr result (λ e. RefusesTypes O.Builder.limit (S.tokens scanner.old) (S.tokens scanner.new) (scan_fault_of e)) }
+        ensures err { IfErr result (λ e.
+            RefusesTypes O.Builder.limit (S.tokens scanner.old) (S.tokens scanner.new)
+            (scan_fault_of e)) }
     {
         let mut builder = RtypeBitmapBuilder::<O::Builder>::new(alloc);
         add_all(&mut builder, scanner)?;

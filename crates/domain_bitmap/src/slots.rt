@@ -11,7 +11,8 @@ pub(crate) const SLOT: usize = 34;
 #[tactic(auto, using(crate::proofs::SlotLemmas::window_found, crate::proofs::SlotLemmas::window_absent))]
 /// The first block of a window, if there is one.
 pub(crate) fn find_slot(slots: &[u8], window: u8) -> Option<usize>
-    ensures found { IfSome result (λ j. (j < length slots.now / 34) × IsTrue (is_of_window slots.now window j)) }
+    ensures found { IfSome result (λ j. (j < length slots.now / 34)
+        × IsTrue (is_of_window slots.now window j)) }
     ensures none { IfNone result (has_window slots.now window ≡ false) }
     ensures variant { IsSome result ↔ IsTrue (has_window slots.now window) }
 {
@@ -40,7 +41,8 @@ pub(crate) fn used_len(octets: &[u8]) -> usize
 pub(crate) fn write_at<B: OctetsBuilder>(buffer: &mut B, at: usize, octets: &[u8])
     requires { at + length octets.now ≤ length (B.octets buffer.old) }
     ensures { B.octets buffer.new
-        ≡ take at (B.octets buffer.old) ++ (octets.now ++ drop (at + length octets.now) (B.octets buffer.old)) }
+        ≡ take at (B.octets buffer.old)
+        ++ (octets.now ++ drop (at + length octets.now) (B.octets buffer.old)) }
 {
     let held = buffer.as_mut_slice();
     let end = at + octets.len();

@@ -16,8 +16,10 @@ pub(crate) struct Table {
 fn merge(octets: &mut [u8], slots: &[u8], j: usize)
     requires all { length octets.old ≡ 8192 }
     requires inside { j < length slots.now / 34 }
-    ensures merged { (p : ℕ) → slice_index octets.new p ≡ (if p / 32 == slice_index slots.now (34 * j)
-        then bit_or (slice_index octets.old p) (slice_index slots.now (34 * j + 2 + p % 32)) else slice_index octets.old p) }
+    ensures merged { (p : ℕ) → slice_index octets.new p
+        ≡ (if p / 32 == slice_index slots.now (34 * j)
+        then bit_or (slice_index octets.old p) (slice_index slots.now (34 * j + 2 + p % 32))
+        else slice_index octets.old p) }
 {
     let start = slots[SLOT * j] as usize * 32;
     for i in 0..32 {
@@ -39,7 +41,8 @@ impl Table {
 
     /// The table of a builder's blocks.
     pub(crate) fn of(slots: &[u8]) -> Self
-        ensures types { (t : ℕ) → t < 65536 → bit_of (slice_index result.octets (t / 8)) (t % 8) ≡ holds slots.now t }
+        ensures types { (t : ℕ) → t < 65536 → bit_of (slice_index result.octets (t / 8)) (t % 8)
+            ≡ holds slots.now t }
         ensures windows { (w : ℕ) → slice_index_or result.present w false ≡ has_window slots.now w }
     {
         let mut table = Table::new();

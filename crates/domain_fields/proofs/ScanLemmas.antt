@@ -4,19 +4,19 @@ use Rattle.std.specs.Net.Grammar.{IsDotted}
 use Rattle.std.specs.Net.Reader.{read_ipv4}
 use Rattle.std.proofs.NetLemmas.Ipv4.{read_ipv4_complete}
 use Rattle.domain_base.proofs.SpellingLemmas.{one_name}
-use Rattle.domain_base.specs.Scan.{ScanFault, entry_ends, illegal, no_room, no_memory, TakesToken, RefusesToken, ended, refused, NameFault}
+use Rattle.domain_base.specs.Scan.{ScanFault, entry_ends, illegal, no_room, no_memory, TakesToken, RefusesToken, ended, refused, NameTextFault}
 use Rattle.domain_base.specs.Text.{NameText}
 use Rattle.domain_fields.specs.Field.{Field, octet, short, long, name, spelled_name, counted, exactly, at_most, rest, Value}
 use Rattle.domain_fields.specs.Layout.{Layout, one, ◌▸◌, Values}
-use Rattle.domain_fields.specs.Scan.{FieldText, FieldRefused, Scans, Refuses}
+use Rattle.domain_fields.specs.Scan.{FieldText, FieldTextFault, Scans, Refuses}
 
-name_excludes : (text : List ℕ) (labels : List (List ℕ)) (fault : ScanFault) → NameFault None fault text → NameText text labels → fault ≢ no_memory → ⊥
+name_excludes : (text : List ℕ) (labels : List (List ℕ)) (fault : ScanFault) → NameTextFault None fault text → NameText text labels → fault ≢ no_memory → ⊥
 name_excludes text labels entry_ends why is known = why
 name_excludes text labels (illegal said) why is known = why.1 labels is
 name_excludes text labels no_room why is known = why.2
 name_excludes text labels no_memory why is known = known refl
 
-field_excludes : (f : Field) (text : List ℕ) (v : Value f) (fault : ScanFault) → FieldRefused None f fault text → FieldText f text v → fault ≢ no_memory → ⊥
+field_excludes : (f : Field) (text : List ℕ) (v : Value f) (fault : ScanFault) → FieldTextFault None f fault text → FieldText f text v → fault ≢ no_memory → ⊥
 field_excludes octet text v fault why is known = why.none v is
 field_excludes short text v fault why is known = why.none v is
 field_excludes long text v fault why is known = why.none v is
@@ -28,11 +28,11 @@ field_excludes (at_most limit) text v fault why is known = is
 field_excludes rest text v fault why is known = is
 
 -- a token that is refused as a field, but for want of memory, is the text of none of its values
-pub token_excludes : (f : Field) (old new after : List (List ℕ)) (v : Value f) (fault : ScanFault) → RefusesToken (FieldRefused None f) old new fault → TakesToken (λ text. FieldText f text v) old after → fault ≢ no_memory → ⊥
+pub token_excludes : (f : Field) (old new after : List (List ℕ)) (v : Value f) (fault : ScanFault) → RefusesToken (FieldTextFault None f) old new fault → TakesToken (λ text. FieldText f text v) old after → fault ≢ no_memory → ⊥
 token_excludes f old new after v fault ended takes known = let e = takes.first in cc
 token_excludes f old new after v fault (refused token left why_fault why) takes known =
     let same : token ≡ takes.token = (let e = takes.first in cc) in
-    field_excludes f takes.token v fault (subst (FieldRefused None f fault) same why) takes.holds known
+    field_excludes f takes.token v fault (subst (FieldTextFault None f fault) same why) takes.holds known
 
 -- what is left after the values of a layout
 pub scans_left : (l : Layout) (old m n : List (List ℕ)) (v w : Values l) → Scans l old v m → Scans l old w n → m ≡ n

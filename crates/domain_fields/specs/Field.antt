@@ -1,12 +1,14 @@
 -- the kinds of fields of data on the wire
-use Rattle.std.specs.Prelude.{◌≡◌, ℕ, ◌<◌, ◌≤◌, ◌^◌, List, [], ◌∷◌, length, codes}
+use Rattle.std.specs.Prelude.{◌≡◌, ℕ, ◌<◌, ◌≤◌, ◌^◌, [], ◌∷◌, length, codes}
 use Rattle.std.specs.Int.{w16, w32, to_be_bytes}
+use Rattle.domain_octets.specs.Words.{Octets}
 use Rattle.domain_base.specs.Name.{wire_of, lowered, IsName}
 use Rattle.domain_base.specs.Fault.{Fault, ends_early, malformed, NameFault}
 use Rattle.domain_base.specs.Words.{Name}
 
 -- octet, short, long: numbers of 8, 16 and 32 bits
--- name, spelled_name: a name, which the canonical form lowers, or keeps as it is spelled (RFC 4034, section 6.2; RFC 6840, section 5.1)
+-- name, spelled_name: a name, which the canonical form lowers, or keeps as it is spelled (RFC 4034,
+-- section 6.2; RFC 6840, section 5.1)
 -- counted: a length octet and so many octets
 -- exactly: so many octets
 -- at_most: no octets, and at most so many after it
@@ -28,12 +30,12 @@ Value short = ℕ
 Value long = ℕ
 Value name = Name
 Value spelled_name = Name
-Value counted = List ℕ
-Value (exactly count) = List ℕ
+Value counted = Octets
+Value (exactly count) = Octets
 Value (at_most limit) = Unit {0}
-Value rest = List ℕ
+Value rest = Octets
 
-abbrev pub field_octets : (f : Field) → Value f → List ℕ
+abbrev pub field_octets : (f : Field) → Value f → Octets
 field_octets octet n = n ∷ []
 field_octets short n = to_be_bytes w16 n
 field_octets long n = to_be_bytes w32 n
@@ -57,7 +59,7 @@ FieldFits (at_most limit) v = Unit {0}
 FieldFits rest octets = Unit {0}
 
 -- what may stand after the field
-abbrev pub FieldEnds : Field → List ℕ → Type 0
+abbrev pub FieldEnds : Field → Octets → Type 0
 FieldEnds octet after = Unit {0}
 FieldEnds short after = Unit {0}
 FieldEnds long after = Unit {0}
@@ -81,23 +83,30 @@ lower_field (at_most limit) v = v
 lower_field rest octets = octets
 
 -- octets do not begin with so many
-pub record IsCut (octets : List ℕ) (count : ℕ) (fault : Fault) : Type 0 where
+pub record IsCut (octets : Octets) (count : ℕ) (fault : Fault) : Type 0 where
   pub short : length octets < count
   pub early : fault ≡ ends_early
 
 -- more octets than so many
-pub record IsLong (octets : List ℕ) (limit : ℕ) (fault : Fault) : Type 0 where
+pub record IsLong (octets : Octets) (limit : ℕ) (fault : Fault) : Type 0 where
   pub long : limit < length octets
   pub said : fault ≡ malformed (codes "record data too long")
 
 -- why octets begin with no value of the field
-pub data FieldFault : Field → List ℕ → Fault → Type 0 where
-  cut_octet : (octets : List ℕ) (fault : Fault) → IsCut octets 1 fault → FieldFault octet octets fault
-  cut_short : (octets : List ℕ) (fault : Fault) → IsCut octets 2 fault → FieldFault short octets fault
-  cut_long : (octets : List ℕ) (fault : Fault) → IsCut octets 4 fault → FieldFault long octets fault
-  no_name : (octets : List ℕ) (fault : Fault) → NameFault 0 octets fault → FieldFault name octets fault
-  no_spelled_name : (octets : List ℕ) (fault : Fault) → NameFault 0 octets fault → FieldFault spelled_name octets fault
+pub data FieldFault : Field → Octets → Fault → Type 0 where
+  cut_octet : (octets : Octets) (fault : Fault) → IsCut octets 1 fault
+      → FieldFault octet octets fault
+  cut_short : (octets : Octets) (fault : Fault) → IsCut octets 2 fault
+      → FieldFault short octets fault
+  cut_long : (octets : Octets) (fault : Fault) → IsCut octets 4 fault → FieldFault long octets fault
+  no_name : (octets : Octets) (fault : Fault) → NameFault 0 octets fault
+      → FieldFault name octets fault
+  no_spelled_name : (octets : Octets) (fault : Fault) → NameFault 0 octets fault
+      → FieldFault spelled_name octets fault
   no_count : FieldFault counted [] ends_early
-  cut_counted : (count : ℕ) (after : List ℕ) → length after < count → FieldFault counted (count ∷ after) ends_early
-  cut_exactly : (count : ℕ) (octets : List ℕ) (fault : Fault) → IsCut octets count fault → FieldFault (exactly count) octets fault
-  too_long : (limit : ℕ) (octets : List ℕ) (fault : Fault) → IsLong octets limit fault → FieldFault (at_most limit) octets fault
+  cut_counted : (count : ℕ) (after : Octets) → length after < count
+      → FieldFault counted (count ∷ after) ends_early
+  cut_exactly : (count : ℕ) (octets : Octets) (fault : Fault) → IsCut octets count fault
+      → FieldFault (exactly count) octets fault
+  too_long : (limit : ℕ) (octets : Octets) (fault : Fault) → IsLong octets limit fault
+      → FieldFault (at_most limit) octets fault

@@ -1,9 +1,10 @@
 -- data on the wire: fields in their order
-use Rattle.std.specs.Prelude.{◌≡◌, ℕ, ◌+◌, List, [], ◌++◌, length, Bool, true, false, ◌&&◌}
+use Rattle.std.specs.Prelude.{◌≡◌, ◌+◌, [], ◌++◌, length, Bool, true, false, ◌&&◌}
 use Rattle.std.specs.declared.cmp.Ordering.{Ordering}
 use Rattle.std.specs.Ordering.{nat_cmp}
 use Rattle.std.specs.Cmp.Lexicographic.{slice_cmp}
 use Rattle.domain_octets.specs.Place.{Place}
+use Rattle.domain_octets.specs.Words.{Octets}
 use Rattle.domain_base.specs.Fault.{Fault}
 use Rattle.domain_fields.specs.Field.{Field, octet, short, long, name, spelled_name, counted, exactly, at_most, rest, Value, field_octets, FieldFits, FieldEnds, lower_field, FieldFault}
 
@@ -17,7 +18,7 @@ Values (one f) = Value f
 Values (a ▸ b) = Values a × Values b
 
 -- the octets of data
-unfoldable pub octets_of : (l : Layout) → Values l → List ℕ
+unfoldable pub octets_of : (l : Layout) → Values l → Octets
 octets_of (one f) v = field_octets f v
 octets_of (a ▸ b) v = octets_of a v.0 ++ octets_of b v.1
 
@@ -26,26 +27,30 @@ Fits (one f) v = FieldFits f v
 Fits (a ▸ b) v = Fits a v.0 × Fits b v.1
 
 -- what may stand after the data
-abbrev pub Ends : (l : Layout) → Values l → List ℕ → Type 0
+abbrev pub Ends : (l : Layout) → Values l → Octets → Type 0
 Ends (one f) v after = FieldEnds f after
 Ends (a ▸ b) v after = Ends a v.0 (octets_of b v.1 ++ after) × Ends b v.1 after
 
 -- the octets begin with these data, and these are left
-pub record Begins (l : Layout) (octets : List ℕ) (values : Values l) (after : List ℕ) : Type 0 where
+pub record Begins (l : Layout) (octets : Octets) (values : Values l) (after : Octets) : Type 0 where
   pub parts : octets ≡ octets_of l values ++ after
   pub fits : Fits l values
   pub ends : Ends l values after
 
 -- the first fault in field order
-pub data FirstFault : Layout → List ℕ → Fault → Type 0 where
-  in_field : (f : Field) (octets : List ℕ) (fault : Fault) → FieldFault f octets fault → FirstFault (one f) octets fault
-  in_first : (a b : Layout) (octets : List ℕ) (fault : Fault) → FirstFault a octets fault → FirstFault (a ▸ b) octets fault
-  in_later : (a b : Layout) (octets : List ℕ) (values : Values a) (after : List ℕ) (fault : Fault) → Begins a octets values after → FirstFault b after fault → FirstFault (a ▸ b) octets fault
+pub data FirstFault : Layout → Octets → Fault → Type 0 where
+  in_field : (f : Field) (octets : Octets) (fault : Fault) → FieldFault f octets fault
+      → FirstFault (one f) octets fault
+  in_first : (a b : Layout) (octets : Octets) (fault : Fault) → FirstFault a octets fault
+      → FirstFault (a ▸ b) octets fault
+  in_later : (a b : Layout) (octets : Octets) (values : Values a) (after : Octets) (fault : Fault)
+      → Begins a octets values after → FirstFault b after fault → FirstFault (a ▸ b) octets fault
 
 -- the octets of these values are read as them, in no other way, and nothing is left
 pub record ParsesBack (l : Layout) (values : Values l) : Type 0 where
   pub begins : Begins l (octets_of l values) values []
-  pub alone : (others : Values l) (after : List ℕ) → Begins l (octets_of l values) others after → (others ≡ values) × (after ≡ [])
+  pub alone : (others : Values l) (after : Octets) → Begins l (octets_of l values) others after
+      → (others ≡ values) × (after ≡ [])
   pub no_fault : (fault : Fault) → FirstFault l (octets_of l values) fault → ⊥
 
 -- the values of the canonical form
@@ -54,7 +59,7 @@ lower (one f) v = lower_field f v
 lower (a ▸ b) v = (lower a v.0, lower b v.1)
 
 -- the octets of the canonical form
-abbrev pub canonical_of : (l : Layout) → Values l → List ℕ
+abbrev pub canonical_of : (l : Layout) → Values l → Octets
 canonical_of l v = octets_of l (lower l v)
 
 -- the canonical order: lexicographic on canonical octets

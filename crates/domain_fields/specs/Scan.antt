@@ -1,14 +1,15 @@
 -- record data as tokens: fields in their order, each as one token
-use Rattle.std.specs.Prelude.{◌≡◌, ◌⊎◌, ℕ, List, codes, Option}
+use Rattle.std.specs.Prelude.{◌≡◌, ◌⊎◌, ℕ, codes, Option}
 use Rattle.std.specs.Net.Grammar.{IsDotted}
+use Rattle.domain_octets.specs.Words.{Octets}
 use Rattle.domain_base.specs.Text.{NameText}
-use Rattle.domain_base.specs.Scan.{ScanFault, illegal, TakesToken, RefusesToken, IsNumber, IsNoNumber, NameFault}
+use Rattle.domain_base.specs.Scan.{ScanFault, illegal, TakesToken, RefusesToken, IsNumber, IsNoNumber, NameTextFault, Grammar, Refusal}
 use Rattle.domain_fields.specs.Field.{Field, octet, short, long, name, spelled_name, counted, exactly, at_most, rest, Value}
 use Rattle.domain_fields.specs.Layout.{Layout, one, ◌▸◌, Values}
-use Rattle.domain_base.specs.Words.{Tokens}
+use Rattle.domain_base.specs.Words.{Tokens, Token}
 
 -- the text of a value; kinds of fields that are not read as one token have none
-abbrev pub FieldText : (f : Field) → List ℕ → Value f → Type 0
+abbrev pub FieldText : (f : Field) → Token → Value f → Type 0
 FieldText octet text n = IsNumber 8 text n
 FieldText short text n = IsNumber 16 text n
 FieldText long text n = IsNumber 32 text n
@@ -20,30 +21,31 @@ FieldText (at_most limit) text v = ⊥
 FieldText rest text v = ⊥
 
 -- the text is no IPv4 address
-pub record IsNoAddress (fault : ScanFault) (text : List ℕ) : Type 0 where
+pub record IsNoAddress (fault : ScanFault) (text : Token) : Type 0 where
   pub said : fault ≡ illegal (codes "illegal IPv4 address")
-  pub none : (octets : List ℕ) → IsDotted text octets → ⊥
+  pub none : (octets : Octets) → IsDotted text octets → ⊥
 
 -- why a text is refused, where names are put into octets that have this limit
-abbrev pub FieldRefused : Option ℕ → Field → ScanFault → List ℕ → Type 0
-FieldRefused limit octet = IsNoNumber 8
-FieldRefused limit short = IsNoNumber 16
-FieldRefused limit long = IsNoNumber 32
-FieldRefused limit name = NameFault limit
-FieldRefused limit spelled_name = NameFault limit
-FieldRefused limit counted = λ fault text. ⊥
-FieldRefused limit (exactly count) = IsNoAddress
-FieldRefused limit (at_most n) = λ fault text. ⊥
-FieldRefused limit rest = λ fault text. ⊥
+abbrev pub FieldTextFault : Option ℕ → Field → ScanFault → Token → Type 0
+FieldTextFault limit octet = IsNoNumber 8
+FieldTextFault limit short = IsNoNumber 16
+FieldTextFault limit long = IsNoNumber 32
+FieldTextFault limit name = NameTextFault limit
+FieldTextFault limit spelled_name = NameTextFault limit
+FieldTextFault limit counted = λ fault text. ⊥
+FieldTextFault limit (exactly count) = IsNoAddress
+FieldTextFault limit (at_most n) = λ fault text. ⊥
+FieldTextFault limit rest = λ fault text. ⊥
 
 -- the tokens begin with the values of a layout, and these are left
-abbrev pub Scans : (l : Layout) → Tokens → Values l → Tokens → Type 0
+abbrev pub Scans : (l : Layout) → Grammar (Values l)
 Scans (one f) old v new = TakesToken (λ text. FieldText f text v) old new
 Scans (a ▸ b) old v new = (between : Tokens) × Scans a old v.0 between × Scans b between v.1 new
 
 -- the first field that is refused, and the tokens that are left then
-abbrev pub Refuses : Option ℕ → Layout → Tokens → Tokens → ScanFault → Type 0
-Refuses limit (one f) old new fault = RefusesToken (FieldRefused limit f) old new fault
+abbrev pub Refuses : Option ℕ → Layout → Refusal
+Refuses limit (one f) old new fault = RefusesToken (FieldTextFault limit f) old new fault
 Refuses limit (a ▸ b) old new fault =
     Refuses limit a old new fault
-    ⊎ ((v : Values a) × (between : Tokens) × Scans a old v between × Refuses limit b between new fault)
+    ⊎ ((v : Values a) × (between : Tokens) × Scans a old v between
+    × Refuses limit b between new fault)

@@ -32,15 +32,18 @@ pub trait Fields {
 
     /// How many octets are left of so many after the fields; None where they don't fit.
     fn room_after(&self, limit: usize) -> Option<usize>
-        ensures { SomeIff result (length (octets_of layout (values self.now)) ≤ limit) (limit - length (octets_of layout (values self.now))) };
+        ensures { SomeIff result (length (octets_of layout (values self.now)) ≤ limit)
+            (limit - length (octets_of layout (values self.now))) };
 
     /// Appends the octets.
     fn put<B: OctetsBuilder>(&self, target: &mut B) -> Result<(), AppendError>
-        ensures { Appends B.limit result (B.octets target.old) (B.octets target.new) (octets_of layout (values self.now)) };
+        ensures { Appends B.limit result (B.octets target.old) (B.octets target.new)
+            (octets_of layout (values self.now)) };
 
     /// Appends the canonical octets.
     fn put_canonical<B: OctetsBuilder>(&self, target: &mut B) -> Result<(), AppendError>
-        ensures { Appends B.limit result (B.octets target.old) (B.octets target.new) (canonical_of layout (values self.now)) };
+        ensures { Appends B.limit result (B.octets target.old) (B.octets target.new)
+            (canonical_of layout (values self.now)) };
 
     /// The lexicographic order of the canonical octets.
     fn order(&self, other: &Self) -> Ordering
@@ -48,12 +51,15 @@ pub trait Fields {
 
     /// The order of the canonical octets and of as many other octets, and what follows those.
     fn order_from<'o>(&self, octets: &'o [u8]) -> (Ordering, &'o [u8])
-        ensures order { result.0 ≡ slice_cmp nat_cmp (canonical_of layout (values self.now)) (take (length (canonical_of layout (values self.now))) octets.now) }
-        ensures rest { result.1.now ≡ drop (length (canonical_of layout (values self.now))) octets.now };
+        ensures order { result.0 ≡ slice_cmp nat_cmp (canonical_of layout (values self.now))
+            (take (length (canonical_of layout (values self.now))) octets.now) }
+        ensures rest { result.1.now ≡ drop (length (canonical_of layout (values self.now)))
+            octets.now };
 
     /// Feeds the canonical octets.
     fn feed<H: Hasher>(&self, state: &mut H)
-        ensures { state.new ≡ fold H.write state.old (flat_map fed.u8 (canonical_of layout (values self.now))) };
+        ensures { state.new ≡ fold H.write state.old
+            (flat_map fed.u8 (canonical_of layout (values self.now))) };
 
     /// Does nothing; its clause says that the values have octets.
     fn fits(&self)

@@ -1,6 +1,7 @@
 //! What holds of all fields, on the wire, in canonical order and as tokens.
-ghost use Rattle.std.specs.Prelude.{◌≡◌, ◌≢◌, ℕ, List, [], None, true};
+ghost use Rattle.std.specs.Prelude.{◌≡◌, ◌≢◌, [], None, true};
 ghost use Rattle.std.specs.Ordering.{ordering_then};
+ghost use Rattle.domain_octets.specs.Words.{Octets};
 ghost use Rattle.domain_base.specs.Fault.{Fault};
 ghost use Rattle.domain_base.specs.Scan.{ScanFault, no_memory};
 ghost use Rattle.domain_fields.specs.Scan.{Scans, Refuses};
@@ -9,34 +10,44 @@ ghost use Rattle.domain_base.specs.Words.{Tokens};
 
 /// Octets begin with data of given fields in one way at most, and in none where they have a fault.
 pub fn reading_is_exact()
-    ensures one { (l : Layout) (octets : List ℕ) (v w : Values l) (r s : List ℕ) → splits l ≡ true → Begins l octets v r → Begins l octets w s → (v ≡ w) × (r ≡ s) }
-    ensures none { (l : Layout) (octets : List ℕ) (fault : Fault) → FirstFault l octets fault → splits l ≡ true → (v : Values l) (r : List ℕ) → Begins l octets v r → ⊥ }
+    ensures one { (l : Layout) (octets : Octets) (v w : Values l) (r s : Octets) → splits l ≡ true
+        → Begins l octets v r → Begins l octets w s → (v ≡ w) × (r ≡ s) }
+    ensures none { (l : Layout) (octets : Octets) (fault : Fault) → FirstFault l octets fault
+        → splits l ≡ true → (v : Values l) (r : Octets) → Begins l octets v r → ⊥ }
 {}
 
 /// Octets have one first fault at most.
 pub fn octets_have_one_first_fault()
-    ensures { (l : Layout) (octets : List ℕ) (x y : Fault) → FirstFault l octets x → FirstFault l octets y → splits l ≡ true → x ≡ y }
+    ensures { (l : Layout) (octets : Octets) (x y : Fault) → FirstFault l octets x
+        → FirstFault l octets y → splits l ≡ true → x ≡ y }
 {}
 
 /// Octets that were composed of values that fit parse back to these values, and nothing is left.
 pub fn composed_data_parses_back()
-    ensures { (l : Layout) (v : Values l) → splits l ≡ true → Fits l v → Ends l v [] → ParsesBack l v }
+    ensures { (l : Layout) (v : Values l) → splits l ≡ true → Fits l v → Ends l v []
+        → ParsesBack l v }
 {}
 
 /// In the order of canonical octets earlier fields decide before later ones.
 pub fn fields_decide_in_order()
-    ensures { (a b : Layout) (v w : Values a) (x y : Values b) → is_delimited a ≡ true → Fits a v → Fits a w
-        → canonical_order (a ▸ b) (v, x) (w, y) ≡ ordering_then (canonical_order a v w) (canonical_order b x y) }
+    ensures { (a b : Layout) (v w : Values a) (x y : Values b) → is_delimited a ≡ true
+        → Fits a v → Fits a w
+        → canonical_order (a ▸ b) (v, x) (w, y)
+        ≡ ordering_then (canonical_order a v w) (canonical_order b x y) }
 {}
 
-/// Tokens begin with the values of a list of fields in one way at most: the values and the tokens that are left are determined
-/// (RFC 1035, section 5.1).
+/// Tokens begin with the values of a list of fields in one way at most: the values and the tokens
+/// that are left are determined (RFC 1035, section 5.1).
 pub fn tokens_spell_values_once()
-    ensures values { (l : Layout) (old m n : Tokens) (v w : Values l) → Scans l old v m → Scans l old w n → v ≡ w }
-    ensures left { (l : Layout) (old m n : Tokens) (v w : Values l) → Scans l old v m → Scans l old w n → m ≡ n }
+    ensures values { (l : Layout) (old m n : Tokens) (v w : Values l) → Scans l old v m
+        → Scans l old w n → v ≡ w }
+    ensures left { (l : Layout) (old m n : Tokens) (v w : Values l) → Scans l old v m
+        → Scans l old w n → m ≡ n }
 {}
 
-/// Tokens that are refused as a list of fields, but for want of memory or room, begin with no values of it.
+/// Tokens that are refused as a list of fields, but for want of memory or room, begin with no
+/// values of it.
 pub fn refused_tokens_spell_nothing()
-    ensures { (l : Layout) (old new after : Tokens) (v : Values l) (fault : ScanFault) → Refuses None l old new fault → Scans l old v after → fault ≢ no_memory → ⊥ }
+    ensures { (l : Layout) (old new after : Tokens) (v : Values l) (fault : ScanFault)
+        → Refuses None l old new fault → Scans l old v after → fault ≢ no_memory → ⊥ }
 {}

@@ -1,10 +1,13 @@
 //! The fields of record data.
 //!
-//! The data of a type is described once, as a list of fields (`specs/Field.antt`, `specs/Layout.antt`): numbers, names, counted octets and octets to the end (RFC 1035, section 3.3;
-//! RFC 4034). Its octets, how they are read and their first fault, its canonical octets (RFC 4034, section 6.2), its canonical order, what is hashed of it and the tokens that
-//! spell it follow from that description, for each kind of field by one impl of [`Fields`], one of [`ReadFields`] and one of [`ScanFields`].
-//! The crates above may rely on this: values are octets, which are read in one way at most and parse back to what was composed (the module `laws`), and the order of values is the
-//! lexicographic order of their canonical octets.
+//! The data of a type is described once, as a list of fields (`specs/Field.antt`,
+//! `specs/Layout.antt`): numbers, names, counted octets and octets to the end (RFC 1035,
+//! section 3.3; RFC 4034). Its octets, how they are read and their first fault, its canonical
+//! octets (RFC 4034, section 6.2), its canonical order, what is hashed of it and the tokens that
+//! spell it follow from that description, for each kind of field by one impl of [`Fields`], one of
+//! [`ReadFields`] and one of [`ScanFields`]. The crates above may rely on this: values are octets,
+//! which are read in one way at most and parse back to what was composed (the module `laws`), and
+//! the order of values is the lexicographic order of their canonical octets.
 #![tactic(auto)]
 
 mod counted;

@@ -18,12 +18,13 @@ pub trait ReadFields<'a>: Drop {
     /// Their values.
     ghost values: { Self → Values layout };
 
-    /// Reads the fields that the octets begin with; what follows them is left. Refuses with the first fault in field
-    /// order, and the parser then stands where it stood. Takes no memory.
+    /// Reads the fields that the octets begin with; what follows them is left. Refuses with the
+    /// first fault in field order, and the parser then stands where it stood. Takes no memory.
     fn read(parser: &mut Parser<'a>) -> Result<Self, WireFault>
     where
         Self: Sized,
-        ensures ok { IfOk result (λ fields. Begins layout parser.old.left (values fields) parser.new.left) }
+        ensures ok { IfOk result (λ fields.
+            Begins layout parser.old.left (values fields) parser.new.left) }
         ensures err { IfErr result (λ e. FirstFault layout parser.old.left (wire_fault_of e)) }
         ensures unmoved { OnErr result (parser.new ≡ parser.old) }
         ensures goes_on { GoesOn parser.old parser.new };

@@ -19,12 +19,16 @@ pub trait ScanFields<S: Scanner> {
     /// Their values.
     ghost values: { Self → Values layout };
 
-    /// Reads the fields. A refusal names the first field that was refused; the tokens left are then an end of those before.
+    /// Reads the fields. A refusal names the first field that was refused; the tokens left are then
+    /// an end of those before.
     fn scan(alloc: Global, scanner: &mut S) -> Result<Self, ScanError>
     where
         Self: Sized,
-        ensures ok { IfOk result (λ fields. Scans layout (S.tokens scanner.old) (values fields) (S.tokens scanner.new)) }
-        ensures err { IfErr result (λ e. Refuses S.Octets.Builder.limit layout (S.tokens scanner.old) (S.tokens scanner.new) (scan_fault_of e)) };
+        ensures ok { IfOk result (λ fields.
+            Scans layout (S.tokens scanner.old) (values fields) (S.tokens scanner.new)) }
+        ensures err { IfErr result (λ e.
+            Refuses S.Octets.Builder.limit layout (S.tokens scanner.old) (S.tokens scanner.new)
+            (scan_fault_of e)) };
 }
 
 /// A name that was read from a token.
@@ -35,8 +39,8 @@ pub struct Scanned<N>(pub N);
 #[derive(Clone, Copy)]
 pub struct Address(pub Ipv4Addr);
 
-/// Four decimal numbers of at most 255 without leading zeros, and dots between them. Refuses every other token as
-/// `Custom("illegal IPv4 address")`.
+/// Four decimal numbers of at most 255 without leading zeros, and dots between them. Refuses every
+/// other token as `Custom("illegal IPv4 address")`.
 impl FromToken for Address {
     ghost spells = { λ text a. IsDotted text (ipv4_octets a.0) };
 

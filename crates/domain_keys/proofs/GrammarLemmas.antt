@@ -8,7 +8,7 @@ use Rattle.domain_base.specs.Scan.{ScanFault, entry_ends, illegal, no_room, no_m
 use Rattle.domain_fields.specs.Layout.{Layout}
 use Rattle.domain_fields.specs.Scan.{Scans, Refuses}
 use Rattle.domain_fields.proofs.ScanLemmas.{refused_spells_none, scans_left, scans_once}
-use Rattle.domain_keys.specs.Text.{OneToken, Both, RefusesBoth, Spells, RefusesData, in_field, in_entry, too_long}
+use Rattle.domain_keys.specs.Scan.{OneToken, Both, RefusesBoth, Spells, RefusesData, in_field, in_entry, too_long}
 
 -- a grammar that reads tokens in one way at most
 pub record ReadsOnce {V : Type 0} (G : List (List ℕ) → V → List (List ℕ) → Type 0) : Type 0 where

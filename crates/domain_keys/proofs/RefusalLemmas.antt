@@ -10,7 +10,7 @@ use Rattle.domain_fields.specs.Layout.{Layout, one, ◌▸◌}
 use Rattle.domain_fields.specs.Scan.{Scans, Refuses}
 use Rattle.domain_keys.specs.Data.{proto_rrsig_data, DnskeyData, DsData, RrsigData}
 use Rattle.domain_keys.specs.Time.{TimeToken, IsNoTime}
-use Rattle.domain_keys.specs.Text.{OneToken, three_numbers, DnskeyText, RefusesDnskey, DsText, RefusesDs, numbers_text, RefusesNumbers, times_text, RefusesTimes, rrsig_fields_text, RefusesRrsigFields, RrsigText, RefusesRrsig}
+use Rattle.domain_keys.specs.Scan.{OneToken, three_numbers, DnskeyText, RefusesDnskey, DsText, RefusesDs, numbers_text, RefusesNumbers, times_text, RefusesTimes, rrsig_fields_text, RefusesRrsigFields, RrsigText, RefusesRrsig}
 use Rattle.domain_keys.proofs.GrammarLemmas.{ReadsOnce, Excludes, Any, fields_once, fields_refused, one_token, token_refused, both_once, both_refused, same_fields, same_octets, entry_refused}
 use Rattle.domain_keys.proofs.ScanLemmas.{length_of_rrsig}
 

@@ -9,7 +9,7 @@ use Rattle.domain_fields.specs.Field.{short, name}
 use Rattle.domain_fields.specs.Layout.{one, ◌▸◌, octets_of}
 use Rattle.domain_fields.specs.Scan.{Scans, Refuses}
 use Rattle.domain_keys.specs.Data.{ProtoRrsigData, proto_rrsig_data, RrsigData, rrsig_data, rrsig_octets}
-use Rattle.domain_keys.specs.Text.{numbers_text, times_text, rrsig_fields_text, RefusesRrsigFields, RefusesRrsig, in_field, in_entry, too_long}
+use Rattle.domain_keys.specs.Scan.{numbers_text, times_text, rrsig_fields_text, RefusesRrsigFields, RefusesRrsig, in_field, in_entry, too_long}
 
 module _ (old first second new : List (List ℕ)) (numbers : ℕ × (ℕ × (ℕ × ℕ))) (times : ℕ × ℕ) (start : numbers_text old numbers first) (middle : times_text first times second) where
   pub read_fields : (signer : ℕ × List (List ℕ)) (d : ProtoRrsigData) → Scans (one short ▸ one name) second signer new

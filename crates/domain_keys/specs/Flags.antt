@@ -1,5 +1,6 @@
 -- the flags of a key
-use Rattle.std.specs.Prelude.{ℕ, ◌==◌, Bool, not, List, [], ◌++◌, codes, bit_and, if◌then◌else◌}
+use Rattle.std.specs.Prelude.{ℕ, ◌==◌, Bool, not, [], ◌++◌, codes, bit_and, if◌then◌else◌}
+use Rattle.domain_octets.specs.Words.{Octets}
 
 -- the flags have this bit
 abbrev pub has_flag : ℕ → ℕ → Bool
@@ -17,11 +18,12 @@ is_revoked = has_flag 128
 abbrev pub is_secure_entry_point : ℕ → Bool
 is_secure_entry_point = has_flag 1
 
-abbrev pub word_if : Bool → List ℕ → List ℕ
+abbrev pub word_if : Bool → Octets → Octets
 word_if set word = if set then word else []
 
 -- the names of the flags that are set
-abbrev pub flags_comment : ℕ → List ℕ
+abbrev pub flags_comment : ℕ → Octets
 flags_comment flags =
-    codes "flags:" ++ word_if (is_revoked flags) (codes " revoked") ++ word_if (is_secure_entry_point flags) (codes " sep")
+    codes "flags:" ++ word_if (is_revoked flags) (codes " revoked")
+    ++ word_if (is_secure_entry_point flags) (codes " sep")
     ++ word_if (is_zone_key flags) (codes " zone_key") ++ word_if (flags == 0) (codes " <none>")

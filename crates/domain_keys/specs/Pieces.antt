@@ -1,29 +1,37 @@
 -- data as text (RFC 4034, sections 2.2 and 5.3), and in the pieces of a zone file
-use Rattle.std.specs.Prelude.{ℕ, List, [], ◌∷◌, ◌++◌, codes}
+use Rattle.std.specs.Prelude.{List, [], ◌∷◌, ◌++◌, codes}
 use Rattle.std.specs.Fmt.{decimal}
 use Rattle.hex.specs.Hex.{encode_lower, encode_upper}
 use Rattle.base64.specs.GeneralPurpose.{encode_of}
 use Rattle.base64.specs.Engines.{standard}
 use Rattle.domain_octets.specs.Piece.{PieceText, token, comment, opens, closes}
+use Rattle.domain_octets.specs.Words.{Octets}
 use Rattle.domain_keys.specs.Data.{DnskeyData, DsData}
 use Rattle.domain_keys.specs.KeyTag.{key_tag_of}
 use Rattle.domain_keys.specs.Flags.{flags_comment}
 
 -- flags, protocol, algorithm, and the key in Base 64
-abbrev pub dnskey_text : DnskeyData → List ℕ
-dnskey_text d = decimal d.flags ++ codes " " ++ decimal d.protocol ++ codes " " ++ decimal d.algorithm ++ codes " " ++ encode_of standard d.public_key
+abbrev pub dnskey_text : DnskeyData → Octets
+dnskey_text d =
+    decimal d.flags ++ codes " " ++ decimal d.protocol ++ codes " " ++ decimal d.algorithm
+    ++ codes " " ++ encode_of standard d.public_key
 
 abbrev pub dnskey_pieces : DnskeyData → List PieceText
 dnskey_pieces d =
-    opens ∷ token (decimal d.flags) ∷ comment (flags_comment d.flags) ∷ token (decimal d.protocol) ∷ comment (codes "protocol") ∷ token (decimal d.algorithm)
-    ∷ token (encode_of standard d.public_key) ∷ comment (codes "key tag: " ++ decimal (key_tag_of d)) ∷ closes ∷ []
+    opens ∷ token (decimal d.flags) ∷ comment (flags_comment d.flags) ∷ token (decimal d.protocol)
+    ∷ comment (codes "protocol") ∷ token (decimal d.algorithm)
+    ∷ token (encode_of standard d.public_key)
+    ∷ comment (codes "key tag: " ++ decimal (key_tag_of d)) ∷ closes ∷ []
 
 -- key tag, algorithm, type of the digest, and the digest in Base 16, in lower case
-abbrev pub ds_text : DsData → List ℕ
-ds_text d = decimal d.key_tag ++ codes " " ++ decimal d.algorithm ++ codes " " ++ decimal d.digest_type ++ codes " " ++ encode_lower d.digest
+abbrev pub ds_text : DsData → Octets
+ds_text d =
+    decimal d.key_tag ++ codes " " ++ decimal d.algorithm ++ codes " " ++ decimal d.digest_type
+    ++ codes " " ++ encode_lower d.digest
 
 -- the digest in upper case
 abbrev pub ds_pieces : DsData → List PieceText
 ds_pieces d =
-    opens ∷ token (decimal d.key_tag) ∷ comment (codes "key tag") ∷ token (decimal d.algorithm) ∷ token (decimal d.digest_type) ∷ token (encode_upper d.digest)
+    opens ∷ token (decimal d.key_tag) ∷ comment (codes "key tag") ∷ token (decimal d.algorithm)
+    ∷ token (decimal d.digest_type) ∷ token (encode_upper d.digest)
     ∷ closes ∷ []

@@ -7,6 +7,7 @@ ghost use Rattle.std.specs.Cmp.Lexicographic.{slice_cmp, on_texts, on_texts_equa
 ghost use Rattle.std.specs.Hash as fed;
 ghost use Rattle.domain_octets.specs.Limit.{IsOver};
 ghost use Rattle.domain_base.specs.Fault.{fault_of};
+ghost use Rattle.domain_base.specs.Types as rtypes;
 ghost use Rattle.domain_fields.specs.Layout.{Begins, Fits, FirstFault, GoesOn};
 ghost use Rattle.domain_fields.specs.Laws.{fed_alike, tied_octets};
 ghost use Rattle.domain_keys.specs.Data.{dnskey_data, dnskey, dnskey_values, dnskey_octets};
@@ -30,7 +31,8 @@ use std::cmp::Ordering;
 use std::hash::{Hash, Hasher};
 use std::marker::Model;
 
-/// A key with which signatures of a zone's records are checked (RFC 4034, section 2), as data of at most 65,535 octets.
+/// A key with which signatures of a zone's records are checked (RFC 4034, section 2), as data of at
+/// most 65,535 octets.
 #[derive(Drop)]
 pub struct Dnskey<O: Octets> {
     flags: u16,
@@ -45,7 +47,12 @@ impl<O: Octets> Model for Dnskey<O> {
 
     ghost Value = { DnskeyData };
 
-    ghost view = { λ d. record { flags = d.flags; protocol = d.protocol; algorithm = d.algorithm; public_key = O.octets d.public_key } };
+    ghost view = { λ d. record {
+      flags = d.flags;
+      protocol = d.protocol;
+      algorithm = d.algorithm;
+      public_key = O.octets d.public_key;
+    } };
 
     ghost invariant = { λ d. length (O.octets d.public_key) ≤ 65531 };
 }
@@ -65,8 +72,10 @@ impl<O: Octets> Dnskey<O> {
     ) -> Result<Self, LongRecordData>
     where
         O: Drop,
-        ensures ok { IsOk result ↔ (length (dnskey_octets (dnskey_data flags protocol algorithm (O.octets public_key))) ≤ 65535) }
-        ensures fields { IfOk result (λ d. d ≡ dnskey_data flags protocol algorithm (O.octets public_key)) }
+        ensures ok { IsOk result ↔ (length
+            (dnskey_octets (dnskey_data flags protocol algorithm (O.octets public_key))) ≤ 65535) }
+        ensures fields { IfOk result (λ d.
+            d ≡ dnskey_data flags protocol algorithm (O.octets public_key)) }
     {
         if public_key.as_slice().len() > MOST {
             return Err(LongRecordData);
@@ -87,7 +96,8 @@ impl<O: Octets> Dnskey<O> {
         algorithm: SecurityAlgorithm,
         public_key: O,
     ) -> Self
-        requires { length (dnskey_octets (dnskey_data flags protocol algorithm (O.octets public_key))) ≤ 65535 }
+        requires { length (dnskey_octets
+            (dnskey_data flags protocol algorithm (O.octets public_key))) ≤ 65535 }
         ensures { result ≡ dnskey_data flags protocol algorithm (O.octets public_key) }
     {
         Dnskey {
@@ -161,9 +171,12 @@ impl<O: Octets> Dnskey<O> {
 
     /// The same key, held otherwise. What `From` makes of the key must be at most 65,531 octets.
     pub fn convert<P: Octets + From<O>>(self) -> Dnskey<P>
-        requires { (key : O) (made : P) → O.octets key ≡ self.public_key → P.from_gives key made → length (P.octets made) ≤ 65531 }
-        ensures key { (key : O) × (made : P) × (O.octets key ≡ self.public_key) × P.from_gives key made × (result.public_key ≡ P.octets made) }
-        ensures numbers { (result.flags ≡ self.flags) × (result.protocol ≡ self.protocol) × (result.algorithm ≡ self.algorithm) }
+        requires { (key : O) (made : P) → O.octets key ≡ self.public_key → P.from_gives key made
+            → length (P.octets made) ≤ 65531 }
+        ensures key { (key : O) × (made : P) × (O.octets key ≡ self.public_key)
+            × P.from_gives key made × (result.public_key ≡ P.octets made) }
+        ensures numbers { (result.flags ≡ self.flags) × (result.protocol ≡ self.protocol)
+            × (result.algorithm ≡ self.algorithm) }
     {
         let Dnskey {
             flags,
@@ -179,7 +192,8 @@ impl<O: Octets> Dnskey<O> {
         }
     }
 
-    /// Whether signatures of records may be checked with the key: flag 0x0100 (RFC 4034, section 2.1.1).
+    /// Whether signatures of records may be checked with the key: flag 0x0100 (RFC 4034,
+    /// section 2.1.1).
     pub fn is_zone_key(&self) -> bool
         ensures { result ≡ is_zone_key self.now.flags }
     {
@@ -193,14 +207,16 @@ impl<O: Octets> Dnskey<O> {
         flags::has_flag(self.flags, flags::REVOKED)
     }
 
-    /// Whether other zones may point to the key: flag 0x0001. A hint, on which no validation may rest (RFC 4034, section 2.1.1).
+    /// Whether other zones may point to the key: flag 0x0001. A hint, on which no validation may
+    /// rest (RFC 4034, section 2.1.1).
     pub fn is_secure_entry_point(&self) -> bool
         ensures { result ≡ is_secure_entry_point self.now.flags }
     {
         flags::has_flag(self.flags, flags::SECURE_ENTRY_POINT)
     }
 
-    /// The tag by which DS and RRSIG records name the key (RFC 4034, appendix B), for every algorithm. For RSA over MD5 and a key of fewer than three octets it is 0.
+    /// The tag by which DS and RRSIG records name the key (RFC 4034, appendix B), for every
+    /// algorithm. For RSA over MD5 and a key of fewer than three octets it is 0.
     #[tactic(auto, unfolding(domain_fields::specs::Layout::octets_of))]
     pub fn key_tag(&self) -> u16
         ensures { result ≡ key_tag_of self.now }
@@ -216,7 +232,8 @@ impl<O: Octets> Dnskey<O> {
 
     /// The fields, in the order of the wire.
     pub(crate) fn fields(&self) -> KeyFields<'_>
-        ensures values { (result.0 ≡ self.now.flags) × (result.1.0 ≡ self.now.protocol) × (result.1.1.0 ≡ self.now.algorithm)
+        ensures values { (result.0 ≡ self.now.flags) × (result.1.0 ≡ self.now.protocol)
+            × (result.1.1.0 ≡ self.now.algorithm)
             × (result.1.1.1.1.0.now ≡ self.now.public_key) }
         ensures fits { Fits dnskey (dnskey_values self.now) }
         ensures limit { length self.now.public_key ≤ 65531 }
@@ -234,9 +251,11 @@ impl<'a> Dnskey<&'a [u8]> {
     ///
     /// # Errors
     ///
-    /// `ShortInput` for fewer than four octets, then `Form("record data too long")` for over 65,535. The parser then stands where it stood.
+    /// `ShortInput` for fewer than four octets, then `Form("record data too long")` for over
+    /// 65,535. The parser then stands where it stood.
     pub fn parse(parser: &mut Parser<'a>) -> Result<Self, ParseError>
-        ensures ok { IfOk result (λ d. Begins dnskey parser.old.left (dnskey_values d) parser.new.left) }
+        ensures ok { IfOk result (λ d.
+            Begins dnskey parser.old.left (dnskey_values d) parser.new.left) }
         ensures err { IfErr result (λ e. FirstFault dnskey parser.old.left (fault_of e)) }
         ensures unmoved { OnErr result (parser.new ≡ parser.old) }
         ensures goes_on { GoesOn parser.old parser.new }
@@ -254,7 +273,7 @@ impl<'a> Dnskey<&'a [u8]> {
 }
 
 impl<'a> ParseRecordData<'a> for Dnskey<&'a [u8]> {
-    ghost is_read = { λ rtype. rtype ≡ 48 };
+    ghost is_read = { λ rtype. rtype ≡ rtypes.dnskey };
 
     ghost begins = { λ octets d after. Begins dnskey octets (dnskey_values d) after };
 
@@ -272,7 +291,7 @@ impl<'a> ParseRecordData<'a> for Dnskey<&'a [u8]> {
 }
 
 impl<O: Octets> RecordData for Dnskey<O> {
-    ghost rtype = { λ _. 48 };
+    ghost rtype = { λ _. rtypes.dnskey };
 
     fn rtype(&self) -> Rtype {
         Rtype::DNSKEY
@@ -314,7 +333,8 @@ impl<O: Octets> Dnskey<O> {
         self.fields().order(&other.fields()).is_eq()
     }
 
-    /// The order to a key over other octets: by flags, protocol, algorithm and key, which is the order of the octets.
+    /// The order to a key over other octets: by flags, protocol, algorithm and key, which is the
+    /// order of the octets.
     pub fn cmp_to<P: Octets>(&self, other: &Dnskey<P>) -> Ordering
         ensures { result ≡ slice_cmp nat_cmp (dnskey_octets self.now) (dnskey_octets other.now) }
     {

@@ -2,7 +2,7 @@
 ghost use Rattle.std.specs.Prelude.{◌≡◌, ◌++◌, [], Some, codes, IfOk, IfErr, OnOk};
 ghost use Rattle.std.specs.Fmt.{decimal};
 ghost use Rattle.domain_base.specs.Scan.{scan_fault_of};
-ghost use Rattle.domain_keys.specs.Text.{DnskeyText, RefusesDnskey};
+ghost use Rattle.domain_keys.specs.Scan.{DnskeyText, RefusesDnskey};
 ghost use Rattle.domain_keys.specs.Pieces.{dnskey_text, dnskey_pieces};
 
 use crate::Dnskey;
@@ -16,16 +16,20 @@ use std::alloc::Global;
 use std::fmt;
 
 impl<O: FromBuilder + Drop> Dnskey<O> {
-    /// The data that all tokens left spell: flags, protocol and algorithm in decimal, and the key in Base 64, in as many tokens as one likes, or in none.
+    /// The data that all tokens left spell: flags, protocol and algorithm in decimal, and the key
+    /// in Base 64, in as many tokens as one likes, or in none.
     ///
     /// # Errors
     ///
-    /// That of the first of the numbers that is refused, then that of the codec, then `Custom("record data too long")` for data of over 65,535 octets. The tokens left are
-    /// then an end of those before.
+    /// That of the first of the numbers that is refused, then that of the codec, then
+    /// `Custom("record data too long")` for data of over 65,535 octets. The tokens left are then an
+    /// end of those before.
     pub fn scan<S: Scanner<Octets = O>>(alloc: Global, scanner: &mut S) -> Result<Self, ScanError>
         ensures ok { IfOk result (DnskeyText (S.tokens scanner.old)) }
         ensures all { OnOk result (S.tokens scanner.new ≡ []) }
-        ensures err { IfErr result (λ e. RefusesDnskey O.Builder.limit (S.tokens scanner.old) (S.tokens scanner.new) (scan_fault_of e)) }
+        ensures err { IfErr result (λ e.
+            RefusesDnskey O.Builder.limit (S.tokens scanner.old) (S.tokens scanner.new)
+            (scan_fault_of e)) }
     {
         let scanned = scan_entry::<S, (u16, (u8, u8))>(alloc, scanner, Codec::Base64, MOST);
         let ((flags, (protocol, algorithm)), public_key) = match scanned {
@@ -37,7 +41,8 @@ impl<O: FromBuilder + Drop> Dnskey<O> {
     }
 }
 
-/// Flags, protocol, algorithm and the key in Base 64, with single spaces; the last one stays where the key is empty.
+/// Flags, protocol, algorithm and the key in Base 64, with single spaces; the last one stays where
+/// the key is empty.
 impl<O: Octets> fmt::Display for Dnskey<O> {
     ghost output = { λ d. Some (dnskey_text d) };
 

@@ -7,6 +7,7 @@ ghost use Rattle.std.specs.Cmp.Lexicographic.{slice_cmp, on_texts, on_texts_equa
 ghost use Rattle.std.specs.Hash as fed;
 ghost use Rattle.domain_octets.specs.Limit.{IsOver};
 ghost use Rattle.domain_base.specs.Fault.{fault_of};
+ghost use Rattle.domain_base.specs.Types as rtypes;
 ghost use Rattle.domain_fields.specs.Layout.{Begins, Fits, FirstFault, GoesOn};
 ghost use Rattle.domain_fields.specs.Laws.{fed_alike, tied_octets};
 ghost use Rattle.domain_keys.specs.Data.{ds_data, ds, ds_values, ds_octets};
@@ -27,7 +28,8 @@ use std::cmp::Ordering;
 use std::hash::{Hash, Hasher};
 use std::marker::Model;
 
-/// The digest of a key of a child zone, by which its parent zone vouches for that key (RFC 4034, section 5), as data of at most 65,535 octets.
+/// The digest of a key of a child zone, by which its parent zone vouches for that key (RFC 4034,
+/// section 5), as data of at most 65,535 octets.
 #[derive(Drop)]
 pub struct Ds<O: Octets> {
     key_tag: u16,
@@ -42,7 +44,12 @@ impl<O: Octets> Model for Ds<O> {
 
     ghost Value = { DsData };
 
-    ghost view = { λ d. record { key_tag = d.key_tag; algorithm = d.algorithm; digest_type = d.digest_type; digest = O.octets d.digest } };
+    ghost view = { λ d. record {
+      key_tag = d.key_tag;
+      algorithm = d.algorithm;
+      digest_type = d.digest_type;
+      digest = O.octets d.digest;
+    } };
 
     ghost invariant = { λ d. length (O.octets d.digest) ≤ 65531 };
 }
@@ -62,8 +69,10 @@ impl<O: Octets> Ds<O> {
     ) -> Result<Self, LongRecordData>
     where
         O: Drop,
-        ensures ok { IsOk result ↔ (length (ds_octets (ds_data key_tag algorithm digest_type (O.octets digest))) ≤ 65535) }
-        ensures fields { IfOk result (λ d. d ≡ ds_data key_tag algorithm digest_type (O.octets digest)) }
+        ensures ok { IsOk result ↔ (length
+            (ds_octets (ds_data key_tag algorithm digest_type (O.octets digest))) ≤ 65535) }
+        ensures fields { IfOk result (λ d.
+            d ≡ ds_data key_tag algorithm digest_type (O.octets digest)) }
     {
         if digest.as_slice().len() > MOST {
             return Err(LongRecordData);
@@ -84,7 +93,8 @@ impl<O: Octets> Ds<O> {
         digest_type: DigestAlgorithm,
         digest: O,
     ) -> Self
-        requires { length (ds_octets (ds_data key_tag algorithm digest_type (O.octets digest))) ≤ 65535 }
+        requires { length (ds_octets (ds_data key_tag algorithm digest_type (O.octets digest)))
+            ≤ 65535 }
         ensures { result ≡ ds_data key_tag algorithm digest_type (O.octets digest) }
     {
         Ds {
@@ -158,7 +168,8 @@ impl<O: Octets> Ds<O> {
 
     /// The fields, in the order of the wire.
     pub(crate) fn fields(&self) -> KeyFields<'_>
-        ensures values { (result.0 ≡ self.now.key_tag) × (result.1.0 ≡ self.now.algorithm) × (result.1.1.0 ≡ self.now.digest_type)
+        ensures values { (result.0 ≡ self.now.key_tag) × (result.1.0 ≡ self.now.algorithm)
+            × (result.1.1.0 ≡ self.now.digest_type)
             × (result.1.1.1.1.0.now ≡ self.now.digest) }
         ensures fits { Fits ds (ds_values self.now) }
         ensures limit { length self.now.digest ≤ 65531 }
@@ -176,7 +187,8 @@ impl<'a> Ds<&'a [u8]> {
     ///
     /// # Errors
     ///
-    /// `ShortInput` for fewer than four octets, then `Form("record data too long")` for over 65,535. The parser then stands where it stood.
+    /// `ShortInput` for fewer than four octets, then `Form("record data too long")` for over
+    /// 65,535. The parser then stands where it stood.
     pub fn parse(parser: &mut Parser<'a>) -> Result<Self, ParseError>
         ensures ok { IfOk result (λ d. Begins ds parser.old.left (ds_values d) parser.new.left) }
         ensures err { IfErr result (λ e. FirstFault ds parser.old.left (fault_of e)) }
@@ -196,7 +208,7 @@ impl<'a> Ds<&'a [u8]> {
 }
 
 impl<'a> ParseRecordData<'a> for Ds<&'a [u8]> {
-    ghost is_read = { λ rtype. rtype ≡ 43 };
+    ghost is_read = { λ rtype. rtype ≡ rtypes.ds };
 
     ghost begins = { λ octets d after. Begins ds octets (ds_values d) after };
 
@@ -214,7 +226,7 @@ impl<'a> ParseRecordData<'a> for Ds<&'a [u8]> {
 }
 
 impl<O: Octets> RecordData for Ds<O> {
-    ghost rtype = { λ _. 43 };
+    ghost rtype = { λ _. rtypes.ds };
 
     fn rtype(&self) -> Rtype {
         Rtype::DS
@@ -256,7 +268,8 @@ impl<O: Octets> Ds<O> {
         self.fields().order(&other.fields()).is_eq()
     }
 
-    /// The order to a digest over other octets: by key tag, algorithm, type of the digest and digest, which is the order of the octets.
+    /// The order to a digest over other octets: by key tag, algorithm, type of the digest and
+    /// digest, which is the order of the octets.
     pub fn cmp_to<P: Octets>(&self, other: &Ds<P>) -> Ordering
         ensures { result ≡ slice_cmp nat_cmp (ds_octets self.now) (ds_octets other.now) }
     {

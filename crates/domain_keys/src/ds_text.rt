@@ -1,7 +1,7 @@
 //! Digests of keys as text (RFC 4034, section 5.3).
 ghost use Rattle.std.specs.Prelude.{◌≡◌, [], Some, IfOk, IfErr, OnOk};
 ghost use Rattle.domain_base.specs.Scan.{scan_fault_of};
-ghost use Rattle.domain_keys.specs.Text.{DsText, RefusesDs};
+ghost use Rattle.domain_keys.specs.Scan.{DsText, RefusesDs};
 ghost use Rattle.domain_keys.specs.Pieces.{ds_text, ds_pieces};
 
 use crate::Ds;
@@ -14,16 +14,20 @@ use std::alloc::Global;
 use std::fmt;
 
 impl<O: FromBuilder + Drop> Ds<O> {
-    /// The data that all tokens left spell: key tag, algorithm and type of the digest in decimal, and the digest in Base 16, in as many tokens as one likes, or in none.
+    /// The data that all tokens left spell: key tag, algorithm and type of the digest in decimal,
+    /// and the digest in Base 16, in as many tokens as one likes, or in none.
     ///
     /// # Errors
     ///
-    /// That of the first of the numbers that is refused, then that of the codec, then `Custom("record data too long")` for data of over 65,535 octets. The tokens left are
-    /// then an end of those before.
+    /// That of the first of the numbers that is refused, then that of the codec, then
+    /// `Custom("record data too long")` for data of over 65,535 octets. The tokens left are then an
+    /// end of those before.
     pub fn scan<S: Scanner<Octets = O>>(alloc: Global, scanner: &mut S) -> Result<Self, ScanError>
         ensures ok { IfOk result (DsText (S.tokens scanner.old)) }
         ensures all { OnOk result (S.tokens scanner.new ≡ []) }
-        ensures err { IfErr result (λ e. RefusesDs O.Builder.limit (S.tokens scanner.old) (S.tokens scanner.new) (scan_fault_of e)) }
+        ensures err { IfErr result (λ e.
+            RefusesDs O.Builder.limit (S.tokens scanner.old) (S.tokens scanner.new)
+            (scan_fault_of e)) }
     {
         let scanned = scan_entry::<S, (u16, (u8, u8))>(alloc, scanner, Codec::Base16, MOST);
         let ((key_tag, (algorithm, digest_type)), digest) = match scanned {
@@ -36,7 +40,8 @@ impl<O: FromBuilder + Drop> Ds<O> {
     }
 }
 
-/// Key tag, algorithm, type of the digest and the digest in Base 16, in lower case, with single spaces; the last one stays where the digest is empty.
+/// Key tag, algorithm, type of the digest and the digest in Base 16, in lower case, with single
+/// spaces; the last one stays where the digest is empty.
 impl<O: Octets> fmt::Display for Ds<O> {
     ghost output = { λ d. Some (ds_text d) };
 

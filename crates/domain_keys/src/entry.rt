@@ -2,18 +2,20 @@
 ghost use Rattle.std.specs.Prelude.{◌≡◌, ◌<◌, ◌≤◌, [], length, IfOk, IfErr, OnOk};
 ghost use Rattle.domain_base.specs.Scan.{scan_fault_of};
 ghost use Rattle.domain_fields.specs.Scan.{Scans, Refuses};
-ghost use Rattle.domain_keys.specs.Text.{Spells, RefusesData};
+ghost use Rattle.domain_keys.specs.Scan.{Spells, RefusesData};
 
 use domain_base::{ScanError, Scanner};
 use domain_fields::ScanFields;
 use domain_octets::{Codec, Octets};
 use std::alloc::Global;
 
-/// The fields that the tokens begin with, and the octets, at most so many, that all tokens that are left spell in a codec.
+/// The fields that the tokens begin with, and the octets, at most so many, that all tokens that are
+/// left spell in a codec.
 ///
 /// # Errors
 ///
-/// That of the first field that is refused, then that of the codec, then `Custom("record data too long")` where there are more octets. The tokens left are then an end of
+/// That of the first field that is refused, then that of the codec, then
+/// `Custom("record data too long")` where there are more octets. The tokens left are then an end of
 /// those before.
 pub fn scan_entry<S: Scanner, F: ScanFields<S> + Drop>(
     alloc: Global,
@@ -23,10 +25,14 @@ pub fn scan_entry<S: Scanner, F: ScanFields<S> + Drop>(
 ) -> Result<(F, S::Octets), ScanError>
 where
     S::Octets: Drop,
-    ensures ok { IfOk result (λ p. Spells (Scans F.layout) codec (S.tokens scanner.old) (F.values p.0) (S.Octets.octets p.1)) }
+    ensures ok { IfOk result (λ p.
+        Spells (Scans F.layout) codec (S.tokens scanner.old) (F.values p.0) (S.Octets.octets p.1)) }
     ensures fits { IfOk result (λ p. length (S.Octets.octets p.1) ≤ most) }
     ensures all { OnOk result (S.tokens scanner.new ≡ []) }
-    ensures err { IfErr result (λ e. RefusesData (Scans F.layout) (Refuses S.Octets.Builder.limit F.layout) S.Octets.Builder.limit (λ fields octets. most < length octets) codec (S.tokens scanner.old) (S.tokens scanner.new) (scan_fault_of e)) }
+    ensures err { IfErr result (λ e.
+        RefusesData (Scans F.layout) (Refuses S.Octets.Builder.limit F.layout)
+        S.Octets.Builder.limit (λ fields octets. most < length octets) codec
+        (S.tokens scanner.old) (S.tokens scanner.new) (scan_fault_of e)) }
 {
     let fields = F::scan(alloc, scanner)?;
     let octets = scanner.convert_entry(alloc, codec)?;

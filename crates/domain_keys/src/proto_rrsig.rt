@@ -11,7 +11,8 @@ use domain_octets::{AppendError, Octets, OctetsBuilder, OutOfMemory, TryClone};
 use domain_plain::LongRecordData;
 use std::marker::Model;
 
-/// The fields of a signature's data before there is a signature (RFC 4034, section 3.1). A signer signs their octets, followed by the records.
+/// The fields of a signature's data before there is a signature (RFC 4034, section 3.1). A signer
+/// signs their octets, followed by the records.
 #[derive(Drop)]
 pub struct ProtoRrsig<N: ToName> {
     type_covered: Rtype,
@@ -29,7 +30,8 @@ impl<N: ToName> Model for ProtoRrsig<N> {
 
     ghost Value = { ProtoRrsigData };
 
-    ghost view = { λ d. proto_rrsig_data d.type_covered d.algorithm d.labels d.original_ttl d.expiration d.inception d.key_tag (N.labels d.signer_name) };
+    ghost view = { λ d. proto_rrsig_data d.type_covered d.algorithm d.labels d.original_ttl
+        d.expiration d.inception d.key_tag (N.labels d.signer_name) };
 }
 
 /// A number of 16 bits and two of 8 bits, three of 32 bits, one of 16 bits, and a name.
@@ -39,8 +41,9 @@ pub type ProtoFields<'a> = ((u16, (u8, u8)), ((u32, (u32, u32)), (u16, ParsedNam
 pub type Numbers = ((u16, (u8, u8)), ((u32, (u32, u32)), u16));
 
 impl<N: ToName> ProtoRrsig<N> {
-    /// The fields: the type of the records that are signed, the algorithm of the key, how many labels the owner has without a leading asterisk and the root, the TTL of the
-    /// records, when the signature ends to hold and when it begins, the tag of the key and its owner.
+    /// The fields: the type of the records that are signed, the algorithm of the key, how many
+    /// labels the owner has without a leading asterisk and the root, the TTL of the records, when
+    /// the signature ends to hold and when it begins, the tag of the key and its owner.
     pub fn new(
         type_covered: Rtype,
         algorithm: SecurityAlgorithm,
@@ -51,7 +54,8 @@ impl<N: ToName> ProtoRrsig<N> {
         key_tag: u16,
         signer_name: N,
     ) -> Self
-        ensures { result ≡ proto_rrsig_data type_covered algorithm labels original_ttl expiration inception key_tag (N.labels signer_name) }
+        ensures { result ≡ proto_rrsig_data type_covered algorithm labels original_ttl expiration
+            inception key_tag (N.labels signer_name) }
     {
         ProtoRrsig {
             type_covered,
@@ -73,22 +77,27 @@ impl<N: ToName> ProtoRrsig<N> {
     pub fn into_rrsig<O: Octets + Drop>(self, signature: O) -> Result<Rrsig<O, N>, LongRecordData>
     where
         N: Drop,
-        ensures ok { IsOk result ↔ (length (rrsig_octets (rrsig_data self (O.octets signature))) ≤ 65535) }
+        ensures ok { IsOk result ↔ (length (rrsig_octets (rrsig_data self (O.octets signature)))
+            ≤ 65535) }
         ensures fields { IfOk result (λ d. d ≡ rrsig_data self (O.octets signature)) }
     {
         Rrsig::of_fields(self, signature)
     }
 
-    /// Appends the octets, with the name as it is spelled. A refusal leaves what stood, and a beginning of the octets.
+    /// Appends the octets, with the name as it is spelled. A refusal leaves what stood, and a
+    /// beginning of the octets.
     pub fn compose<B: OctetsBuilder>(&self, target: &mut B) -> Result<(), AppendError>
-        ensures { Appends B.limit result (B.octets target.old) (B.octets target.new) (octets_of proto_rrsig (proto_rrsig_values self.now)) }
+        ensures { Appends B.limit result (B.octets target.old) (B.octets target.new)
+            (octets_of proto_rrsig (proto_rrsig_values self.now)) }
     {
         self.fields().put(target)
     }
 
-    /// Appends the octets of the canonical form, in which the name is lowered (RFC 4034, section 6.2). A refusal leaves what stood, and a beginning of the octets.
+    /// Appends the octets of the canonical form, in which the name is lowered (RFC 4034,
+    /// section 6.2). A refusal leaves what stood, and a beginning of the octets.
     pub fn compose_canonical<B: OctetsBuilder>(&self, target: &mut B) -> Result<(), AppendError>
-        ensures { Appends B.limit result (B.octets target.old) (B.octets target.new) (canonical_of proto_rrsig (proto_rrsig_values self.now)) }
+        ensures { Appends B.limit result (B.octets target.old) (B.octets target.new)
+            (canonical_of proto_rrsig (proto_rrsig_values self.now)) }
     {
         self.fields().put_canonical(target)
     }
@@ -203,7 +212,10 @@ impl<N: ToName> ProtoRrsig<N> {
     /// The fields, in the order of the wire.
     pub(crate) fn fields(&self) -> ProtoFields<'_>
         ensures head { result.0 ≡ (self.now.type_covered, (self.now.algorithm, self.now.labels)) }
-        ensures times { result.1.0 ≡ (self.now.original_ttl, (self.now.expiration, self.now.inception)) }
+        ensures times { result.1.0 ≡ (
+          self.now.original_ttl,
+          (self.now.expiration, self.now.inception),
+        ) }
         ensures signer { (result.1.1.0 ≡ self.now.key_tag) × (result.1.1.1 ≡ self.now.signer_name) }
         ensures fits { Fits proto_rrsig (proto_rrsig_values self.now) }
     {

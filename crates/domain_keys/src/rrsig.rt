@@ -6,6 +6,7 @@ ghost use Rattle.std.specs.Cmp.{partial_equiv_from_equiv, po};
 ghost use Rattle.std.specs.Cmp.Lexicographic.{slice_cmp, on_texts, on_texts_equal};
 ghost use Rattle.std.specs.Hash as fed;
 ghost use Rattle.domain_base.specs.Fault.{fault_of};
+ghost use Rattle.domain_base.specs.Types as rtypes;
 ghost use Rattle.domain_fields.specs.Layout.{Begins, Fits, FirstFault, GoesOn, octets_of};
 ghost use Rattle.domain_fields.specs.Laws.{fed_alike, tied_octets};
 ghost use Rattle.domain_keys.specs.Data.{rrsig, rrsig_values, rrsig_octets, rrsig_canonical, rrsig_data, proto_rrsig_data, IsSameRrsig};
@@ -25,7 +26,8 @@ use std::cmp::Ordering;
 use std::hash::{Hash, Hasher};
 use std::marker::Model;
 
-/// A signature of the records of one owner, class and type (RFC 4034, section 3), as data of at most 65,535 octets.
+/// A signature of the records of one owner, class and type (RFC 4034, section 3), as data of at
+/// most 65,535 octets.
 #[derive(Drop)]
 pub struct Rrsig<O: Octets, N: ToName> {
     fields: ProtoRrsig<N>,
@@ -40,7 +42,8 @@ impl<O: Octets, N: ToName> Model for Rrsig<O, N> {
 
     ghost view = { λ d. rrsig_data d.fields (O.octets d.signature) };
 
-    ghost invariant = { λ d. length (rrsig_octets (rrsig_data d.fields (O.octets d.signature))) ≤ 65535 };
+    ghost invariant = { λ d. length (rrsig_octets (rrsig_data d.fields (O.octets d.signature)))
+        ≤ 65535 };
 }
 
 /// At most 65,535 octets: the fields but the signature, and all octets that are left.
@@ -48,7 +51,8 @@ type RrsigFields<'a> = (AtMost<MAX_RDLEN>, (ProtoFields<'a>, Rest<'a>));
 
 /// Whether fields and a signature have at most 65,535 octets.
 fn fits<O: Octets, N: ToName>(fields: &ProtoRrsig<N>, signature: &O) -> bool
-    ensures { IsTrue result ↔ (length (rrsig_octets (rrsig_data fields.now (O.octets signature.now))) ≤ 65535) }
+    ensures { IsTrue result ↔ (length
+        (rrsig_octets (rrsig_data fields.now (O.octets signature.now))) ≤ 65535) }
 {
     let data: RrsigFields<'_> = (AtMost, (fields.fields(), Rest(signature.as_slice())));
     data.room_after(MAX_RDLEN).is_some()
@@ -74,9 +78,11 @@ impl<O: Octets, N: ToName> Rrsig<O, N> {
     where
         O: Drop,
         N: Drop,
-        ensures ok { let d = proto_rrsig_data type_covered algorithm labels original_ttl expiration inception key_tag (N.labels signer_name) in
+        ensures ok { let d = proto_rrsig_data type_covered algorithm labels original_ttl expiration
+            inception key_tag (N.labels signer_name) in
             IsOk result ↔ (length (rrsig_octets (rrsig_data d (O.octets signature))) ≤ 65535) }
-        ensures fields { let d = proto_rrsig_data type_covered algorithm labels original_ttl expiration inception key_tag (N.labels signer_name) in
+        ensures fields { let d = proto_rrsig_data type_covered algorithm labels original_ttl
+            expiration inception key_tag (N.labels signer_name) in
             IfOk result (λ made. made ≡ rrsig_data d (O.octets signature)) }
     {
         let fields = ProtoRrsig::new(
@@ -104,9 +110,11 @@ impl<O: Octets, N: ToName> Rrsig<O, N> {
         signer_name: N,
         signature: O,
     ) -> Self
-        requires { let d = proto_rrsig_data type_covered algorithm labels original_ttl expiration inception key_tag (N.labels signer_name) in
+        requires { let d = proto_rrsig_data type_covered algorithm labels original_ttl expiration
+            inception key_tag (N.labels signer_name) in
             length (rrsig_octets (rrsig_data d (O.octets signature))) ≤ 65535 }
-        ensures { let d = proto_rrsig_data type_covered algorithm labels original_ttl expiration inception key_tag (N.labels signer_name) in
+        ensures { let d = proto_rrsig_data type_covered algorithm labels original_ttl expiration
+            inception key_tag (N.labels signer_name) in
             result ≡ rrsig_data d (O.octets signature) }
     {
         let fields = ProtoRrsig::new(
@@ -127,7 +135,8 @@ impl<O: Octets, N: ToName> Rrsig<O, N> {
     where
         O: Drop,
         N: Drop,
-        ensures ok { IsOk result ↔ (length (rrsig_octets (rrsig_data fields (O.octets signature))) ≤ 65535) }
+        ensures ok { IsOk result ↔ (length (rrsig_octets (rrsig_data fields (O.octets signature)))
+            ≤ 65535) }
         ensures fields { IfOk result (λ d. d ≡ rrsig_data fields (O.octets signature)) }
     {
         if !fits(&fields, &signature) {
@@ -150,7 +159,8 @@ impl<O: Octets, N: ToName> Rrsig<O, N> {
         self.fields.algorithm()
     }
 
-    /// How many labels the owner of the records has, without a leading asterisk and the root (RFC 4034, section 3.1.3).
+    /// How many labels the owner of the records has, without a leading asterisk and the root
+    /// (RFC 4034, section 3.1.3).
     pub fn labels(&self) -> u8
         ensures { result ≡ self.now.fields.labels }
     {
@@ -201,7 +211,8 @@ impl<O: Octets, N: ToName> Rrsig<O, N> {
 
     /// Whether the data with this signature in place of its own have at most 65,535 octets.
     pub fn fits_signature(&self, signature: &O) -> bool
-        ensures { IsTrue result ↔ (length (rrsig_octets (rrsig_data self.now.fields (O.octets signature.now))) ≤ 65535) }
+        ensures { IsTrue result ↔ (length
+            (rrsig_octets (rrsig_data self.now.fields (O.octets signature.now))) ≤ 65535) }
     {
         fits(&self.fields, signature)
     }
@@ -242,9 +253,17 @@ impl<O: Octets, N: ToName> Rrsig<O, N> {
 
     /// The fields, in the order of the wire.
     pub(crate) fn fields(&self) -> RrsigFields<'_>
-        ensures head { result.1.0.0 ≡ (self.now.fields.type_covered, (self.now.fields.algorithm, self.now.fields.labels)) }
-        ensures times { result.1.0.1.0 ≡ (self.now.fields.original_ttl, (self.now.fields.expiration, self.now.fields.inception)) }
-        ensures signer { (result.1.0.1.1.0 ≡ self.now.fields.key_tag) × (result.1.0.1.1.1 ≡ self.now.fields.signer_name) }
+        ensures head { result.1.0.0 ≡ (
+          self.now.fields.type_covered,
+          (self.now.fields.algorithm, self.now.fields.labels),
+        ) }
+        ensures times { result.1.0.1.0
+            ≡ (
+              self.now.fields.original_ttl,
+              (self.now.fields.expiration, self.now.fields.inception),
+            ) }
+        ensures signer { (result.1.0.1.1.0 ≡ self.now.fields.key_tag)
+            × (result.1.0.1.1.1 ≡ self.now.fields.signer_name) }
         ensures signature { result.1.1.0.now ≡ self.now.signature }
         ensures fits { Fits rrsig (rrsig_values self.now) }
         ensures limit { length (rrsig_octets self.now) ≤ 65535 }
@@ -273,11 +292,14 @@ impl<'a> Rrsig<&'a [u8], ParsedName<'a>> {
     ///
     /// # Errors
     ///
-    /// `Form("record data too long")` for over 65,535 octets, then the first fault in field order: a missing octet of a number is `ShortInput`; of the name, at the first label
-    /// that is at fault, a missing octet is `ShortInput`, a length over 63 or a pointer `Form("compressed or bad label")`, a name over 255 octets
-    /// `Form("long domain name")`. The parser then stands where it stood.
+    /// `Form("record data too long")` for over 65,535 octets, then the first fault in field order:
+    /// a missing octet of a number is `ShortInput`; of the name, at the first label that is at
+    /// fault, a missing octet is `ShortInput`, a length over 63 or a pointer
+    /// `Form("compressed or bad label")`, a name over 255 octets `Form("long domain name")`. The
+    /// parser then stands where it stood.
     pub fn parse(parser: &mut Parser<'a>) -> Result<Self, ParseError>
-        ensures ok { IfOk result (λ d. Begins rrsig parser.old.left (rrsig_values d) parser.new.left) }
+        ensures ok { IfOk result (λ d.
+            Begins rrsig parser.old.left (rrsig_values d) parser.new.left) }
         ensures err { IfErr result (λ e. FirstFault rrsig parser.old.left (fault_of e)) }
         ensures unmoved { OnErr result (parser.new ≡ parser.old) }
         ensures goes_on { GoesOn parser.old parser.new }
@@ -290,7 +312,7 @@ impl<'a> Rrsig<&'a [u8], ParsedName<'a>> {
 }
 
 impl<'a> ParseRecordData<'a> for Rrsig<&'a [u8], ParsedName<'a>> {
-    ghost is_read = { λ rtype. rtype ≡ 46 };
+    ghost is_read = { λ rtype. rtype ≡ rtypes.rrsig };
 
     ghost begins = { λ octets d after. Begins rrsig octets (rrsig_values d) after };
 
@@ -308,7 +330,7 @@ impl<'a> ParseRecordData<'a> for Rrsig<&'a [u8], ParsedName<'a>> {
 }
 
 impl<O: Octets, N: ToName> RecordData for Rrsig<O, N> {
-    ghost rtype = { λ _. 46 };
+    ghost rtype = { λ _. rtypes.rrsig };
 
     fn rtype(&self) -> Rtype {
         Rtype::RRSIG
@@ -342,7 +364,8 @@ impl<O: Octets, N: ToName> ComposeRecordData for Rrsig<O, N> {
 }
 
 impl<O: Octets, N: ToName> Rrsig<O, N> {
-    /// Whether a signature over other octets and names is the same. The case of the signer's name is passed over.
+    /// Whether a signature over other octets and names is the same. The case of the signer's name
+    /// is passed over.
     pub fn eq_to<P: Octets, M: ToName>(&self, other: &Rrsig<P, M>) -> bool
         ensures value { result ≡ bytes_eq (rrsig_canonical self.now) (rrsig_canonical other.now) }
         ensures same { IsTrue result ↔ IsSameRrsig self.now other.now }
@@ -350,17 +373,20 @@ impl<O: Octets, N: ToName> Rrsig<O, N> {
         self.fields().order(&other.fields()).is_eq()
     }
 
-    /// The order to a signature over other octets and names: by the fields in the order of the wire, times as plain numbers, the signer's name by its lowered octets. This is
-    /// the order of the canonical octets.
+    /// The order to a signature over other octets and names: by the fields in the order of the
+    /// wire, times as plain numbers, the signer's name by its lowered octets. This is the order of
+    /// the canonical octets.
     pub fn cmp_to<P: Octets, M: ToName>(&self, other: &Rrsig<P, M>) -> Ordering
-        ensures { result ≡ slice_cmp nat_cmp (rrsig_canonical self.now) (rrsig_canonical other.now) }
+        ensures { result ≡ slice_cmp nat_cmp (rrsig_canonical self.now)
+            (rrsig_canonical other.now) }
     {
         self.fields().order(&other.fields())
     }
 
     /// The canonical order to a signature over other octets and names, which is `cmp_to`.
     pub fn canonical_cmp_to<P: Octets, M: ToName>(&self, other: &Rrsig<P, M>) -> Ordering
-        ensures { result ≡ slice_cmp nat_cmp (rrsig_canonical self.now) (rrsig_canonical other.now) }
+        ensures { result ≡ slice_cmp nat_cmp (rrsig_canonical self.now)
+            (rrsig_canonical other.now) }
     {
         self.cmp_to(other)
     }

@@ -1,7 +1,7 @@
 //! Signatures as text (RFC 4034, section 3.2).
 ghost use Rattle.std.specs.Prelude.{◌≡◌, ◌++◌, [], Some, IfOk, IfErr, OnOk};
 ghost use Rattle.domain_base.specs.Scan.{scan_fault_of};
-ghost use Rattle.domain_keys.specs.Text.{numbers_text, RefusesNumbers, times_text, RefusesTimes, rrsig_fields_text, RefusesRrsigFields, RrsigText, RefusesRrsig};
+ghost use Rattle.domain_keys.specs.Scan.{numbers_text, RefusesNumbers, times_text, RefusesTimes, rrsig_fields_text, RefusesRrsigFields, RrsigText, RefusesRrsig};
 ghost use Rattle.domain_keys.specs.RrsigPieces.{signed_numbers_text, signed_times_text, rrsig_text, number_pieces, signer_pieces, rrsig_pieces};
 
 use crate::text::InBase64;
@@ -18,7 +18,9 @@ fn scan_numbers<S: Scanner>(
     scanner: &mut S,
 ) -> Result<(Rtype, (u8, (u8, u32))), ScanError>
     ensures ok { IfOk result (λ v. numbers_text (S.tokens scanner.old) v (S.tokens scanner.new)) }
-    ensures err { IfErr result (λ e. RefusesNumbers S.Octets.Builder.limit (S.tokens scanner.old) (S.tokens scanner.new) (scan_fault_of e)) }
+    ensures err { IfErr result (λ e.
+        RefusesNumbers S.Octets.Builder.limit (S.tokens scanner.old) (S.tokens scanner.new)
+        (scan_fault_of e)) }
 {
     let type_covered = match Rtype::scan(scanner) {
         Ok(type_covered) => type_covered,
@@ -33,7 +35,8 @@ fn scan_numbers<S: Scanner>(
 /// Expiration and inception, one token each.
 fn scan_times<S: Scanner>(scanner: &mut S) -> Result<(Timestamp, Timestamp), ScanError>
     ensures ok { IfOk result (λ v. times_text (S.tokens scanner.old) v (S.tokens scanner.new)) }
-    ensures err { IfErr result (λ e. RefusesTimes (S.tokens scanner.old) (S.tokens scanner.new) (scan_fault_of e)) }
+    ensures err { IfErr result (λ e.
+        RefusesTimes (S.tokens scanner.old) (S.tokens scanner.new) (scan_fault_of e)) }
 {
     let expiration = match Timestamp::scan(scanner) {
         Ok(expiration) => expiration,
@@ -50,9 +53,13 @@ type SignerFields<S> = (u16, Scanned<<S as Scanner>::Name>);
 
 /// All fields but the signature, one token each.
 fn scan_fields<S: Scanner>(alloc: Global, scanner: &mut S) -> Result<ProtoRrsig<S::Name>, ScanError>
-    ensures ok { IfOk result (λ d. rrsig_fields_text (S.tokens scanner.old)
-        ((d.type_covered, (d.algorithm, (d.labels, d.original_ttl))), ((d.expiration, d.inception), (d.key_tag, d.signer_name))) (S.tokens scanner.new)) }
-    ensures err { IfErr result (λ e. RefusesRrsigFields S.Octets.Builder.limit (S.tokens scanner.old) (S.tokens scanner.new) (scan_fault_of e)) }
+    ensures ok { IfOk result (λ d. rrsig_fields_text (S.tokens scanner.old) (
+      (d.type_covered, (d.algorithm, (d.labels, d.original_ttl))),
+      ((d.expiration, d.inception), (d.key_tag, d.signer_name)),
+    ) (S.tokens scanner.new)) }
+    ensures err { IfErr result (λ e.
+        RefusesRrsigFields S.Octets.Builder.limit (S.tokens scanner.old) (S.tokens scanner.new)
+        (scan_fault_of e)) }
 {
     let (type_covered, (algorithm, (labels, original_ttl))) = match scan_numbers(alloc, scanner) {
         Ok(numbers) => numbers,
@@ -79,12 +86,14 @@ fn scan_fields<S: Scanner>(alloc: Global, scanner: &mut S) -> Result<ProtoRrsig<
 }
 
 impl<O: FromBuilder + Drop, N: ToName + Drop> Rrsig<O, N> {
-    /// The data that all tokens left spell: the type covered by its name, algorithm, labels and TTL in decimal, expiration and inception, the key tag in decimal, the signer's
-    /// name, and the signature in Base 64, in as many tokens as one likes, or in none.
+    /// The data that all tokens left spell: the type covered by its name, algorithm, labels and TTL
+    /// in decimal, expiration and inception, the key tag in decimal, the signer's name, and the
+    /// signature in Base 64, in as many tokens as one likes, or in none.
     ///
     /// # Errors
     ///
-    /// That of the first field that is refused, then that of the codec, then `Custom("record data too long")` for data of over 65,535 octets. The tokens left are then an
+    /// That of the first field that is refused, then that of the codec, then
+    /// `Custom("record data too long")` for data of over 65,535 octets. The tokens left are then an
     /// end of those before.
     pub fn scan<S: Scanner<Octets = O, Name = N>>(
         alloc: Global,
@@ -92,7 +101,9 @@ impl<O: FromBuilder + Drop, N: ToName + Drop> Rrsig<O, N> {
     ) -> Result<Self, ScanError>
         ensures ok { IfOk result (RrsigText (S.tokens scanner.old)) }
         ensures all { OnOk result (S.tokens scanner.new ≡ []) }
-        ensures err { IfErr result (λ e. RefusesRrsig O.Builder.limit (S.tokens scanner.old) (S.tokens scanner.new) (scan_fault_of e)) }
+        ensures err { IfErr result (λ e.
+            RefusesRrsig O.Builder.limit (S.tokens scanner.old) (S.tokens scanner.new)
+            (scan_fault_of e)) }
     {
         let fields = match scan_fields(alloc, scanner) {
             Ok(fields) => fields,
@@ -139,7 +150,8 @@ impl<'a, N: ToName> fmt::Display for SignedTimes<'a, N> {
     }
 }
 
-/// The fields with single spaces, the TTL in seconds, the signer's name with its last dot, and the signature in Base 64; the last space stays where the signature is empty.
+/// The fields with single spaces, the TTL in seconds, the signer's name with its last dot, and the
+/// signature in Base 64; the last space stays where the signature is empty.
 impl<O: Octets, N: ToName> fmt::Display for Rrsig<O, N> {
     ghost output = { λ d. Some (rrsig_text d) };
 
@@ -186,7 +198,8 @@ fn write_numbers<N: ToName, F: Formatter>(
     fields: &ProtoRrsig<N>,
     formatter: &mut F,
 ) -> Result<(), OutOfMemory>
-    ensures { OnOk result (F.pieces formatter.new ≡ F.pieces formatter.old ++ number_pieces fields.now) }
+    ensures { OnOk result (F.pieces formatter.new ≡ F.pieces formatter.old
+        ++ number_pieces fields.now) }
 {
     let (type_covered, algorithm) = (fields.type_covered(), fields.algorithm());
     let (labels, original_ttl) = (fields.labels(), fields.original_ttl().as_secs());
@@ -203,7 +216,8 @@ fn write_signer<N: ToName, F: Formatter>(
     fields: &ProtoRrsig<N>,
     formatter: &mut F,
 ) -> Result<(), OutOfMemory>
-    ensures { OnOk result (F.pieces formatter.new ≡ F.pieces formatter.old ++ signer_pieces fields.now) }
+    ensures { OnOk result (F.pieces formatter.new ≡ F.pieces formatter.old
+        ++ signer_pieces fields.now) }
 {
     let (expiration, inception) = (fields.expiration(), fields.inception());
     let key_tag = fields.key_tag();

@@ -18,10 +18,12 @@ use std::fmt;
 use std::marker::Model;
 use std::str::FromStr;
 
-/// When a signature begins or ends to hold: seconds since the start of 1970, without leap seconds, modulo 2^32 (RFC 4034, section 3.1.5).
+/// When a signature begins or ends to hold: seconds since the start of 1970, without leap seconds,
+/// modulo 2^32 (RFC 4034, section 3.1.5).
 ///
-/// Which of the times that a stamp stands for is meant depends on when one asks (`to_system_time`). Stamps are ordered in a circle, as serial numbers are (RFC 1982), so they
-/// have no operators of order.
+/// Which of the times that a stamp stands for is meant depends on when one asks (`to_system_time`).
+/// Stamps are ordered in a circle, as serial numbers are (RFC 1982), so they have no operators of
+/// order.
 #[derive(Clone, Copy, Debug, PartialEq)]
 pub struct Timestamp(Serial);
 
@@ -68,7 +70,8 @@ impl Timestamp {
         self.0.into_int()
     }
 
-    /// The time stamp that comes next, four octets. Refuses, with `ShortInput`, where fewer are left.
+    /// The time stamp that comes next, four octets. Refuses, with `ShortInput`, where fewer are
+    /// left.
     pub fn parse(parser: &mut Parser<'_>) -> Result<Timestamp, ParseError>
         ensures ok { IfOk result (λ stamp. Takes (to_be_bytes w32 stamp) parser.old parser.new) }
         ensures short { IsErr result ↔ (length parser.old.left < 4) }
@@ -83,16 +86,19 @@ impl Timestamp {
 
     /// Appends its four octets.
     pub fn compose<B: OctetsBuilder>(&self, target: &mut B) -> Result<(), AppendError>
-        ensures ok { OnOk result (B.octets target.new ≡ B.octets target.old ++ to_be_bytes w32 self.now) }
+        ensures ok { OnOk result (B.octets target.new ≡ B.octets target.old
+            ++ to_be_bytes w32 self.now) }
         ensures err { OnErr result (B.octets target.new ≡ B.octets target.old) }
-        ensures short { IsErrOf result AppendError.ShortBuf ↔ IsOver B.limit (length (B.octets target.old) + 4) }
+        ensures short { IsErrOf result AppendError.ShortBuf
+            ↔ IsOver B.limit (length (B.octets target.old) + 4) }
         ensures memory { IsErrOf result AppendError.OutOfMemory → IsNone B.limit }
     {
         self.0.compose(target)
     }
 
-    /// The time that is meant, in seconds since the start of 1970, where one asks at the reference: the one in the 2^31 seconds before it or the 2^31 - 1 after it. Where that
-    /// would be before 1970 it is the number of the stamp itself. None where the time is not below 2^64.
+    /// The time that is meant, in seconds since the start of 1970, where one asks at the reference:
+    /// the one in the 2^31 seconds before it or the 2^31 - 1 after it. Where that would be before
+    /// 1970 it is the number of the stamp itself. None where the time is not below 2^64.
     pub fn to_system_time(self, reference: u64) -> Option<u64>
         ensures time { IfSome result (TimeAt self reference) }
         ensures none { IsNone result ↔ ((time : ℕ) × IsNear self reference time × (2 ^ 64 ≤ time)) }
@@ -109,8 +115,8 @@ impl Timestamp {
         }
     }
 
-    /// The order of serial numbers: each stamp is before the 2,147,483,647 that follow it in the circle. Two that are just half of the circle apart have none (RFC 1982,
-    /// section 3.2).
+    /// The order of serial numbers: each stamp is before the 2,147,483,647 that follow it in the
+    /// circle. Two that are just half of the circle apart have none (RFC 1982, section 3.2).
     pub fn partial_cmp(&self, other: &Timestamp) -> Option<Ordering>
         ensures { result ≡ serial_cmp self.now other.now }
     {
@@ -129,7 +135,8 @@ impl CanonicalOrd for Timestamp {
     }
 }
 
-/// Decimal digits, with one plus sign before them or none. Refuses every other text, a number over 32 bits, and a text of 14 characters, which would be a date.
+/// Decimal digits, with one plus sign before them or none. Refuses every other text, a number over
+/// 32 bits, and a text of 14 characters, which would be a date.
 impl FromStr for Timestamp {
     type Err = IllegalSignatureTime;
 
@@ -146,8 +153,8 @@ impl FromStr for Timestamp {
     }
 }
 
-/// Decimal digits, with one plus sign before them or none, at most 10 characters. Refuses every other token, and a number over 32 bits, as
-/// `Custom("illegal signature time")`.
+/// Decimal digits, with one plus sign before them or none, at most 10 characters. Refuses every
+/// other token, and a number over 32 bits, as `Custom("illegal signature time")`.
 impl FromToken for Timestamp {
     ghost spells = { TimeToken };
 

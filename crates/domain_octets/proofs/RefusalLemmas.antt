@@ -4,7 +4,7 @@ use Rattle.std.specs.List.{AllPass}
 use Rattle.hex.proofs.HexLemmas.{decode_of-ok}
 use Rattle.domain_octets.specs.declared.codec.Codec.{Codec}
 use Rattle.domain_octets.specs.declared.codec.Codec.TheVariants.{Base16, Base32Hex, Base64}
-use Rattle.domain_octets.specs.Codec.{is_digit, Decodes, IsFirstOther, RefusesChar, RefusesLength}
+use Rattle.domain_octets.specs.Codec.{is_digit, Decodes, IsFirstOther, HasBadChar, HasBadLength}
 
 other_passes : (codec : Codec) (text : List ℕ) (c : ℕ) → IsFirstOther codec text c → AllPass (is_digit codec) text → ⊥
 other_passes codec text c first all =
@@ -12,12 +12,12 @@ other_passes codec text c first all =
     let both : true ≡ false = sym yes ∙ first.other in
     cc
 
-pub refused_char : (codec : Codec) (text : List ℕ) (c : ℕ) → RefusesChar codec text c → (octets : List ℕ) → Decodes codec text octets → ⊥
+pub refused_char : (codec : Codec) (text : List ℕ) (c : ℕ) → HasBadChar codec text c → (octets : List ℕ) → Decodes codec text octets → ⊥
 refused_char Base16 text c refused octets decoded = other_passes Base16 text c refused.1 (decode_of-ok text octets decoded).1
 refused_char Base32Hex text c refused octets decoded = other_passes Base32Hex text c refused decoded.digits
 refused_char Base64 text c refused octets decoded = refused.0 octets decoded
 
-pub refused_length : (codec : Codec) (text : List ℕ) → RefusesLength codec text → (octets : List ℕ) → Decodes codec text octets → ⊥
+pub refused_length : (codec : Codec) (text : List ℕ) → HasBadLength codec text → (octets : List ℕ) → Decodes codec text octets → ⊥
 refused_length Base16 text refused octets decoded = omega (arith, refused, (decode_of-ok text octets decoded).0)
 refused_length Base32Hex text refused octets decoded = let both : true ≡ false = sym decoded.whole ∙ refused.1 in cc
 refused_length Base64 text refused octets decoded = refused.0 octets decoded

@@ -1,32 +1,37 @@
--- octets written in Base 32 with the extended hex alphabet, without padding (RFC 4648, sections 6 and 7)
-use Rattle.std.specs.Prelude.{ℕ, ◌+◌, ◌*◌, ◌/◌, ◌%◌, ◌==◌, nat_le, nat_lt, List, [], ◌∷◌, map, if◌then◌else◌}
+-- octets written in Base 32 with the extended hex alphabet, without padding (RFC 4648, sections 6
+-- and 7)
+use Rattle.std.specs.Prelude.{ℕ, ◌+◌, ◌*◌, ◌/◌, ◌%◌, ◌==◌, nat_le, nat_lt, [], ◌∷◌, map, if◌then◌else◌}
+use Rattle.domain_octets.specs.Words.{Octets}
 
--- The digits of octets, five bits each, first bits first, after bits that are left over: a number below `scale`. Zero bits fill
--- the last digit.
-unfoldable pub base32_from : ℕ → ℕ → List ℕ → List ℕ
+-- The digits of octets, five bits each, first bits first, after bits that are left over: a number
+-- below `scale`. Zero bits fill the last digit.
+unfoldable pub base32_from : ℕ → ℕ → Octets → Octets
 base32_from scale rest [] = if scale == 1 then [] else ((32 / scale) * rest ∷ [])
 base32_from scale rest (octet ∷ octets) =
     let value = 256 * rest + octet in
     let wide = 8 * scale in
     let narrow = wide / 32 in
-    if nat_le 32 wide then (value / wide) ∷ (value % wide / narrow) ∷ base32_from narrow (value % wide % narrow) octets
+    if nat_le 32 wide
+    then ((value / wide) ∷ (value % wide / narrow)
+    ∷ base32_from narrow (value % wide % narrow) octets)
     else ((value / wide) ∷ base32_from wide (value % wide) octets)
 
--- a digit: 0 to 9, and letters for 10 to 31
+-- a digit: 0 to 9, and letters for 10 to 31; as octets the characters 0, A and a are 48, 65 and 97
 abbrev pub upper_digit : ℕ → ℕ
 upper_digit n = if nat_lt n 10 then 48 + n else 55 + n
 
 abbrev pub lower_digit : ℕ → ℕ
 lower_digit n = if nat_lt n 10 then 48 + n else 87 + n
 
-abbrev pub base32_upper : List ℕ → List ℕ
+abbrev pub base32_upper : Octets → Octets
 base32_upper octets = map upper_digit (base32_from 1 0 octets)
 
-abbrev pub base32_lower : List ℕ → List ℕ
+abbrev pub base32_lower : Octets → Octets
 base32_lower octets = map lower_digit (base32_from 1 0 octets)
 
 -- the digits that are left, where one of the last octet may be among them
-abbrev pub digits_left : ℕ → ℕ → List ℕ → List ℕ
+abbrev pub digits_left : ℕ → ℕ → Octets → Octets
 digits_left scale rest octets =
-    if nat_le 32 scale then (rest / (scale / 32)) ∷ base32_from (scale / 32) (rest % (scale / 32)) octets
+    if nat_le 32 scale
+    then ((rest / (scale / 32)) ∷ base32_from (scale / 32) (rest % (scale / 32)) octets)
     else base32_from scale rest octets

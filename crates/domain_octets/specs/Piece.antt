@@ -1,13 +1,15 @@
 -- the pieces of a zone file's text
-use Rattle.std.specs.Prelude.{ℕ, Bool, true, false, List, [], ◌∷◌, ◌++◌, string_bytes}
+use Rattle.std.specs.Prelude.{Bool, true, false, List, [], ◌∷◌, ◌++◌, string_bytes}
 use Rattle.std.specs.List.{join_with_byte}
 use Rattle.domain_octets.specs.declared.pieces.Piece.{Piece}
 use Rattle.domain_octets.specs.declared.pieces.Piece.TheVariants.{Token, Comment, Open, Close}
+use Rattle.domain_octets.specs.Words.{Octets}
+use Rattle.domain_octets.specs.Characters.{space}
 
 -- a token, a comment, or the beginning or end of a block in which lines may break
 pub data PieceText : Type 0 where
-  token : List ℕ → PieceText
-  comment : List ℕ → PieceText
+  token : Octets → PieceText
+  comment : Octets → PieceText
   opens : PieceText
   closes : PieceText
 
@@ -17,7 +19,7 @@ piece_text (Comment text) = comment (string_bytes text)
 piece_text Open = opens
 piece_text Close = closes
 
-abbrev pub tokens_of : List PieceText → List (List ℕ)
+abbrev pub tokens_of : List PieceText → List Octets
 tokens_of [] = []
 tokens_of (token text ∷ pieces) = text ∷ tokens_of pieces
 tokens_of (comment text ∷ pieces) = tokens_of pieces
@@ -25,10 +27,10 @@ tokens_of (opens ∷ pieces) = tokens_of pieces
 tokens_of (closes ∷ pieces) = tokens_of pieces
 
 -- the tokens with one space between them
-abbrev pub simple_text : List PieceText → List ℕ
-simple_text pieces = join_with_byte 32 (tokens_of pieces)
+abbrev pub simple_text : List PieceText → Octets
+simple_text pieces = join_with_byte space (tokens_of pieces)
 
 -- a line with one token more
-abbrev pub line_with : Bool → List ℕ → List ℕ → List ℕ
+abbrev pub line_with : Bool → Octets → Octets → Octets
 line_with true line text = line ++ text
-line_with false line text = (line ++ 32 ∷ []) ++ text
+line_with false line text = (line ++ space ∷ []) ++ text

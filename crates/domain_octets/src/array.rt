@@ -1,8 +1,9 @@
 //! Octets in an array of a fixed size.
-ghost use Rattle.std.specs.Prelude.{◌≡◌, ℕ, [], List, Some, length};
+ghost use Rattle.std.specs.Prelude.{◌≡◌, [], Some, length};
 ghost use Rattle.std.specs.List.{refill};
 ghost use Rattle.std.proofs.Common.{sym};
 ghost use Rattle.domain_octets.specs.Written.{refilled};
+ghost use Rattle.domain_octets.specs.Words.{Octets};
 
 use crate::{
     AppendError, EmptyBuilder, FreezeBuilder, FromBuilder, Octets, OctetsBuilder, OutOfMemory,
@@ -19,7 +20,7 @@ pub struct ArrayBuilder<const K: usize> {
 }
 
 impl<const K: usize> Model for ArrayBuilder<K> {
-    ghost Value = { List ℕ };
+    ghost Value = { Octets };
 
     ghost view = { λ b. b.octets.items };
 }

@@ -12,8 +12,8 @@ use std::marker::Model;
 
 /// The octets of a text of digits in either case.
 ///
-/// Refuses what is no digit as `IllegalChar`, padding too, and then a number of digits that no octets
-/// have as `ShortInput`. Bits after the last whole octet are passed over.
+/// Refuses what is no digit as `IllegalChar`, padding too, and then a number of digits that no
+/// octets have as `ShortInput`. Bits after the last whole octet are passed over.
 pub fn decode_hex<O: FromBuilder>(alloc: Global, text: &str) -> Result<O, DecodeError>
 where
     O::Builder: EmptyBuilder + Drop,
@@ -32,11 +32,12 @@ struct Digits<'a> {
 }
 
 impl<'a> Model for Digits<'a> {
-    ghost use Rattle.std.specs.Prelude.{ℕ, List, ◌<◌};
+    ghost use Rattle.std.specs.Prelude.{ℕ, ◌<◌};
     ghost use Rattle.domain_octets.specs.Base32.{digits_left};
     ghost use Rattle.domain_octets.specs.Scale.{IsScale};
+    ghost use Rattle.domain_octets.specs.Words.{Octets};
 
-    ghost Value = { List ℕ };
+    ghost Value = { Octets };
 
     ghost view = { λ d. digits_left d.scale d.rest d.octets.now };
 
@@ -56,7 +57,8 @@ impl<'a> Digits<'a> {
 
     /// The next digit.
     fn next(&mut self) -> Option<u8>
-        ensures { MatchOption result ((self.old ≡ []) × (self.new ≡ [])) (λ digit. (self.old ≡ digit ∷ self.new) × (digit < 32)) }
+        ensures { MatchOption result ((self.old ≡ []) × (self.new ≡ [])) (λ digit.
+            (self.old ≡ digit ∷ self.new) × (digit < 32)) }
     {
         let scale = self.scale;
         let rest = self.rest;
@@ -106,8 +108,8 @@ fn upper_digit(value: u8) -> u8
     }
 }
 
-/// The text of octets in lower case, as octets: what the first label of an NSEC3 owner holds (RFC 5155,
-/// section 3).
+/// The text of octets in lower case, as octets: what the first label of an NSEC3 owner holds
+/// (RFC 5155, section 3).
 pub fn encode_hex_lower(alloc: Global, octets: &[u8]) -> Result<Vec<u8>, OutOfMemory>
     ensures { IfOk result (λ text. text.items ≡ base32_lower octets.now) }
 {

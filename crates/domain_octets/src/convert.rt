@@ -20,8 +20,8 @@ pub trait CopyOctets: Octets {
     /// How many octets there can be at most. Where there is no limit, memory is taken for them.
     ghost capacity: { Option ℕ };
 
-    /// A copy of these octets. Answers `ShortBuf` where there is no room for them, and `OutOfMemory`
-    /// where there is no memory.
+    /// A copy of these octets. Answers `ShortBuf` where there is no room for them, and
+    /// `OutOfMemory` where there is no memory.
     fn copy_octets(alloc: Global, octets: &[u8]) -> Result<Self, AppendError>
     where
         Self: Sized,

@@ -14,12 +14,14 @@ pub trait Formatter {
 
     /// Takes a token.
     fn write_token<T: Display>(&mut self, value: &T) -> Result<(), OutOfMemory>
-        ensures ok { IfSome (T.output value.now) (λ text. OnOk result (pieces self.new ≡ pieces self.old ++ token text ∷ [])) }
+        ensures ok { IfSome (T.output value.now) (λ text.
+            OnOk result (pieces self.new ≡ pieces self.old ++ token text ∷ [])) }
         ensures err { OnErr result (pieces self.new ≡ pieces self.old) };
 
     /// Takes a comment.
     fn write_comment<T: Display>(&mut self, value: &T) -> Result<(), OutOfMemory>
-        ensures ok { IfSome (T.output value.now) (λ text. OnOk result (pieces self.new ≡ pieces self.old ++ comment text ∷ [])) }
+        ensures ok { IfSome (T.output value.now) (λ text.
+            OnOk result (pieces self.new ≡ pieces self.old ++ comment text ∷ [])) }
         ensures err { OnErr result (pieces self.new ≡ pieces self.old) };
 
     /// Takes the beginning of a block.

@@ -1,16 +1,18 @@
 //! Octets: what holds them, builds them, reads them and writes them as text.
 //!
-//! - [`Octets`] are read as one slice; [`OctetsBuilder`] takes octets at its end, whole or not at all, and
-//!   answers `ShortBuf` exactly where its limit would be passed.
-//! - [`Parser`] reads from the front, numbers with the octet that weighs most first (RFC 1035, section
-//!   2.3.2), and stands where it stood after a refusal.
-//! - [`Codec`] and the modules `base16`, `base32` and `base64_standard` read and write octets as text
-//!   (RFC 4648). What is wrong with a text is answered before want of room.
-//! - [`Formatter`] takes the pieces of a zone file's text, and [`ZonefileFmt`] is a value that has some.
+//! - [`Octets`] are read as one slice; [`OctetsBuilder`] takes octets at its end, whole or not at
+//!   all, and answers `ShortBuf` exactly where its limit would be passed.
+//! - [`Parser`] reads from the front, numbers with the octet that weighs most first (RFC 1035,
+//!   section 2.3.2), and stands where it stood after a refusal.
+//! - [`Codec`] and the modules `base16`, `base32` and `base64_standard` read and write octets as
+//!   text (RFC 4648). What is wrong with a text is answered before want of room.
+//! - [`Formatter`] takes the pieces of a zone file's text, and [`ZonefileFmt`] is a value that has
+//!   some.
 //!
-//! The crate above may rely on this: a contract sees each value as its list of octets; a refused call
-//! leaves that list, or a parser's place, as it was; what a codec reads and writes is a function of the
-//! list; and texts in Base 32 hex are in the order of their octets (the module `laws`).
+//! The crate above may rely on this: a contract sees each value as its list of octets; a refused
+//! call leaves that list, or a parser's place, as it was; what a codec reads and writes is a
+//! function of the list; and texts in Base 32 hex are in the order of their octets (the module
+//! `laws`).
 #![tactic(auto)]
 
 mod array;

@@ -1,5 +1,6 @@
 //! Octets that lie together.
-ghost use Rattle.std.specs.Prelude.{◌≡◌, ℕ, List, IfOk};
+ghost use Rattle.std.specs.Prelude.{◌≡◌, IfOk};
+ghost use Rattle.domain_octets.specs.Words.{Octets};
 
 use crate::OutOfMemory;
 
@@ -18,14 +19,15 @@ pub trait TryClone {
 /// A value that can be read as octets.
 pub trait Octets: TryClone {
     /// The octets.
-    ghost octets: { Self → List ℕ };
+    ghost octets: { Self → Octets };
 
     /// The octets in one slice.
     fn as_slice(&self) -> &[u8]
         ensures { result.now ≡ octets self.now };
 
     /// A copy has the same octets.
-    ghost clone_octets: { (value copy : Self) → Self.is_clone value copy → octets copy ≡ octets value };
+    ghost clone_octets: { (value copy : Self) → Self.is_clone value copy
+        → octets copy ≡ octets value };
 }
 
 impl TryClone for Vec<u8> {

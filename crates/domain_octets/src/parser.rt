@@ -72,7 +72,10 @@ impl<'a> Parser<'a> {
     /// Goes past so many octets.
     pub fn advance(&mut self, count: usize)
         requires { count ≤ length self.old.left }
-        ensures { self.new ≡ record { pos = self.old.pos + count; left = drop count self.old.left } }
+        ensures { self.new ≡ record {
+          pos = self.old.pos + count;
+          left = drop count self.old.left;
+        } }
     {
         self.left = &self.left[count..];
         self.pos += count;
@@ -80,7 +83,8 @@ impl<'a> Parser<'a> {
 
     /// The next octets, so many. Refuses, with `ShortInput`, where fewer are left.
     pub fn parse_octets(&mut self, count: usize) -> Result<&'a [u8], ParseError>
-        ensures ok { IfOk result (λ octets. Takes octets.now self.old self.new × (length octets.now ≡ count)) }
+        ensures ok { IfOk result (λ octets. Takes octets.now self.old self.new
+            × (length octets.now ≡ count)) }
         ensures short { IsErr result ↔ (length self.old.left < count) }
         ensures err { IfErr result (λ e. e ≡ ParseError.ShortInput) }
         ensures unmoved { OnErr result (self.new ≡ self.old) }
@@ -105,8 +109,8 @@ impl<'a> Parser<'a> {
         Ok(octets[0])
     }
 
-    /// A number of two octets, the first of which weighs most (RFC 1035, section 2.3.2). Refuses, with
-    /// `ShortInput`, where fewer are left.
+    /// A number of two octets, the first of which weighs most (RFC 1035, section 2.3.2). Refuses,
+    /// with `ShortInput`, where fewer are left.
     pub fn parse_u16(&mut self) -> Result<u16, ParseError>
         ensures ok { IfOk result (λ n. Takes (to_be_bytes w16 n) self.old self.new) }
         ensures short { IsErr result ↔ (length self.old.left < 2) }
@@ -117,8 +121,8 @@ impl<'a> Parser<'a> {
         Ok(u16::from_be_bytes([octets[0], octets[1]]))
     }
 
-    /// A number of four octets, the first of which weighs most (RFC 1035, section 2.3.2). Refuses, with
-    /// `ShortInput`, where fewer are left.
+    /// A number of four octets, the first of which weighs most (RFC 1035, section 2.3.2). Refuses,
+    /// with `ShortInput`, where fewer are left.
     pub fn parse_u32(&mut self) -> Result<u32, ParseError>
         ensures ok { IfOk result (λ n. Takes (to_be_bytes w32 n) self.old self.new) }
         ensures short { IsErr result ↔ (length self.old.left < 4) }

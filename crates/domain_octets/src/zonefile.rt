@@ -19,7 +19,8 @@ pub trait ZonefileFmt {
 
     /// Writes its pieces.
     fn fmt<F: Formatter>(&self, formatter: &mut F) -> Result<(), OutOfMemory>
-        ensures { OnOk result (F.pieces formatter.new ≡ F.pieces formatter.old ++ pieces self.now) };
+        ensures { OnOk result (F.pieces formatter.new ≡ F.pieces formatter.old
+            ++ pieces self.now) };
 
     /// Its text in one line.
     final fn display_zonefile(
@@ -41,7 +42,8 @@ pub trait ZonefileFmt {
 
 /// Appends a token, after a space where it is not the first.
 fn push_token(line: &mut String, first: bool, text: &str) -> Result<(), OutOfMemory>
-    ensures { OnOk result (string_bytes line.new ≡ line_with first (string_bytes line.old) text.now) }
+    ensures { OnOk result (string_bytes line.new
+        ≡ line_with first (string_bytes line.old) text.now) }
 {
     if !first {
         line.push(' ')?;

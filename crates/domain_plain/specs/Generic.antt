@@ -1,37 +1,49 @@
 -- data of any type as text (RFC 3597, section 5)
-use Rattle.std.specs.Prelude.{◌≡◌, ◌≢◌, ℕ, ◌==◌, List, [], ◌∷◌, ◌++◌, length, codes, Option, if◌then◌else◌}
+use Rattle.std.specs.Prelude.{◌≡◌, ◌≢◌, ℕ, ◌==◌, [], ◌∷◌, ◌++◌, length, codes, Option, if◌then◌else◌}
 use Rattle.std.specs.Fmt.{decimal}
 use Rattle.std.specs.List.{concat}
 use Rattle.hex.specs.Hex.{encode_upper}
 use Rattle.domain_octets.specs.Codec.{Decodes}
 use Rattle.domain_octets.specs.declared.codec.Codec.TheVariants.{Base16}
+use Rattle.domain_octets.specs.Words.{Octets}
+use Rattle.domain_octets.specs.Characters.{space}
 use Rattle.domain_base.specs.Scan.{ScanFault, illegal, IsNumber, IsNoNumber, RefusesToken, CodecFault, IsEnd}
-use Rattle.domain_base.specs.Words.{Tokens}
+use Rattle.domain_base.specs.Words.{Tokens, Token}
 
 -- what generic text begins with
-abbrev pub generic_mark : List ℕ
+abbrev pub generic_mark : Token
 generic_mark = codes "\\#"
 
 -- the mark, the number of octets, and the octets in Base 16, in any number of tokens
-pub record GenericText (tokens : Tokens) (octets : List ℕ) : Type 0 where
-  pub count : List ℕ
+pub record GenericText (tokens : Tokens) (octets : Octets) : Type 0 where
+  pub count : Token
   pub digits : Tokens
   pub parts : tokens ≡ generic_mark ∷ count ∷ digits
   pub counted : IsNumber 16 count (length octets)
   pub decoded : Decodes Base16 (concat digits) octets
 
 -- a token is not the mark
-pub record IsNoMark (fault : ScanFault) (text : List ℕ) : Type 0 where
+pub record IsNoMark (fault : ScanFault) (text : Token) : Type 0 where
   pub said : fault ≡ illegal (codes "illegal data")
   pub other : text ≢ generic_mark
 
--- the first field that is refused, over octets that have this limit, and the tokens that are left then
+-- the first field that is refused, over octets that have this limit, and the tokens that are left
+-- then
 pub data GenericFault (limit : Option ℕ) : Tokens → Tokens → ScanFault → Type 0 where
-  no_mark : (old new : Tokens) (fault : ScanFault) → RefusesToken IsNoMark old new fault → GenericFault limit old new fault
-  no_count : (old new : Tokens) (fault : ScanFault) → RefusesToken (IsNoNumber 16) old new fault → GenericFault limit (generic_mark ∷ old) new fault
-  no_data : (count : List ℕ) (n : ℕ) (digits new : Tokens) (fault : ScanFault) → IsNumber 16 count n → CodecFault Base16 limit fault (concat digits) → IsEnd new digits → GenericFault limit (generic_mark ∷ count ∷ digits) new fault
-  other_count : (count : List ℕ) (n : ℕ) (digits : Tokens) (octets : List ℕ) → IsNumber 16 count n → Decodes Base16 (concat digits) octets → n ≢ length octets → GenericFault limit (generic_mark ∷ count ∷ digits) [] (illegal (codes "illegal data"))
+  no_mark : (old new : Tokens) (fault : ScanFault) → RefusesToken IsNoMark old new fault
+      → GenericFault limit old new fault
+  no_count : (old new : Tokens) (fault : ScanFault) → RefusesToken (IsNoNumber 16) old new fault
+      → GenericFault limit (generic_mark ∷ old) new fault
+  no_data : (count : Token) (n : ℕ) (digits new : Tokens) (fault : ScanFault) → IsNumber 16 count n
+      → CodecFault Base16 limit fault (concat digits) → IsEnd new digits
+      → GenericFault limit (generic_mark ∷ count ∷ digits) new fault
+  other_count : (count : Token) (n : ℕ) (digits : Tokens) (octets : Octets) → IsNumber 16 count n
+      → Decodes Base16 (concat digits) octets → n ≢ length octets
+      → GenericFault limit (generic_mark ∷ count ∷ digits) [] (illegal (codes "illegal data"))
 
--- the mark, the number of octets, and the octets in upper case; for no octets the text ends after the number
-abbrev pub generic_text : List ℕ → List ℕ
-generic_text octets = generic_mark ++ 32 ∷ decimal (length octets) ++ (if length octets == 0 then [] else 32 ∷ encode_upper octets)
+-- the mark, the number of octets, and the octets in upper case; for no octets the text ends after
+-- the number
+abbrev pub generic_text : Octets → Octets
+generic_text octets =
+    generic_mark ++ space ∷ decimal (length octets)
+    ++ (if length octets == 0 then [] else space ∷ encode_upper octets)

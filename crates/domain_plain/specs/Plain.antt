@@ -1,6 +1,6 @@
 -- the fields of plain data, in the order of the wire
-use Rattle.std.specs.Prelude.{ℕ, List}
 use Rattle.std.specs.Net.Addr.{ipv4_octets}
+use Rattle.domain_octets.specs.Words.{Octets}
 use Rattle.domain_fields.specs.Field.{short, long, name, exactly, at_most, rest}
 use Rattle.domain_fields.specs.Layout.{Layout, one, ◌▸◌, Values}
 use Rattle.domain_plain.specs.declared.a.A.{A}
@@ -29,7 +29,8 @@ abbrev pub soa : Layout
 soa = (one name ▸ one name) ▸ (one long ▸ one long ▸ one long) ▸ one long ▸ one long
 
 abbrev pub soa_values : {N : Type 0} → (N → Name) → Soa N → Values soa
-soa_values labels d = ((labels d.mname, labels d.rname), ((d.serial, (d.refresh, d.retry)), (d.expire, d.minimum)))
+soa_values labels d =
+    ((labels d.mname, labels d.rname), ((d.serial, (d.refresh, d.retry)), (d.expire, d.minimum)))
 
 -- the preference and the name of the exchange (RFC 1035, section 3.3.9)
 abbrev pub mx : Layout
@@ -38,9 +39,10 @@ mx = one short ▸ one name
 abbrev pub mx_values : {N : Type 0} → (N → Name) → Mx N → Values mx
 mx_values labels d = (d.preference, labels d.exchange)
 
--- the octets as they are, as many as a record can hold (RFC 3597, section 5; RFC 1035, section 3.2.1)
+-- the octets as they are, as many as a record can hold (RFC 3597, section 5; RFC 1035,
+-- section 3.2.1)
 abbrev pub unknown : Layout
 unknown = one (at_most 65535) ▸ one rest
 
-abbrev pub unknown_values : {O : Type 0} → (O → List ℕ) → UnknownRecordData O → Values unknown
+abbrev pub unknown_values : {O : Type 0} → (O → Octets) → UnknownRecordData O → Values unknown
 unknown_values octets d = (tt, octets d.«data»)

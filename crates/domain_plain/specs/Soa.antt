@@ -1,12 +1,15 @@
 -- SOA data over other names, and as text
-use Rattle.std.specs.Prelude.{◌≡◌, ℕ, List, [], ◌∷◌, ◌++◌, Option, Some}
+use Rattle.std.specs.Prelude.{◌≡◌, [], ◌∷◌, ◌++◌, Option, Some}
 use Rattle.std.specs.Fmt.{decimal, ◌++?◌}
+use Rattle.domain_octets.specs.Words.{Octets}
+use Rattle.domain_octets.specs.Characters.{space, dot}
 use Rattle.domain_base.specs.Text.{name_text}
 use Rattle.domain_plain.specs.declared.soa.Soa.{Soa}
 use Rattle.domain_base.specs.Words.{Name}
 
 -- each name stands for the other one, and the numbers are the same
-pub record IsSoaWith {M N : Type 0} (is_same : M → N → Type 0) (source : Soa M) (made : Soa N) : Type 0 where
+pub record IsSoaWith {M N : Type 0} (is_same : M → N → Type 0) (source : Soa M)
+    (made : Soa N) : Type 0 where
   pub mname : is_same source.mname made.mname
   pub rname : is_same source.rname made.rname
   pub serial : made.serial ≡ source.serial
@@ -16,7 +19,11 @@ pub record IsSoaWith {M N : Type 0} (is_same : M → N → Type 0) (source : Soa
   pub minimum : made.minimum ≡ source.minimum
 
 -- the two names with their last dots, and the numbers, with single spaces between them
-abbrev pub soa_text : {N : Type 0} → (N → Name) → Soa N → Option (List ℕ)
+abbrev pub soa_text : {N : Type 0} → (N → Name) → Soa N → Option Octets
 soa_text labels d =
-    Some (name_text (labels d.mname) ++ 46 ∷ []) ++? Some (32 ∷ []) ++? Some (name_text (labels d.rname) ++ 46 ∷ []) ++? Some (32 ∷ []) ++? Some (decimal d.serial) ++? Some (32 ∷ []) ++? Some (decimal d.refresh) ++? Some (32 ∷ [])
-    ++? Some (decimal d.retry) ++? Some (32 ∷ []) ++? Some (decimal d.expire) ++? Some (32 ∷ []) ++? Some (decimal d.minimum)
+    Some (name_text (labels d.mname) ++ dot ∷ []) ++? Some (space ∷ [])
+    ++? Some (name_text (labels d.rname) ++ dot ∷ []) ++? Some (space ∷ [])
+    ++? Some (decimal d.serial) ++? Some (space ∷ []) ++? Some (decimal d.refresh)
+    ++? Some (space ∷ [])
+    ++? Some (decimal d.retry) ++? Some (space ∷ []) ++? Some (decimal d.expire)
+    ++? Some (space ∷ []) ++? Some (decimal d.minimum)

@@ -7,6 +7,7 @@ ghost use Rattle.std.specs.Cmp.Lexicographic.{slice_cmp, on_texts};
 ghost use Rattle.domain_base.specs.Scan.{scan_fault_of};
 ghost use Rattle.domain_fields.specs.Scan.{Scans, Refuses};
 ghost use Rattle.domain_base.specs.Fault.{fault_of};
+ghost use Rattle.domain_base.specs.Types as rtypes;
 ghost use Rattle.domain_fields.specs.Layout.{Begins, FirstFault, GoesOn, octets_of, canonical_of};
 ghost use Rattle.domain_fields.specs.DataClone.{same_values_tie};
 ghost use Rattle.domain_plain.specs.Plain.{a, a_values};
@@ -59,8 +60,11 @@ impl A {
 
     /// The data that the tokens begin with: an address. A refusal leaves an end of the tokens.
     pub fn scan<S: Scanner>(alloc: Global, scanner: &mut S) -> Result<Self, ScanError>
-        ensures ok { IfOk result (λ d. Scans a (S.tokens scanner.old) (a_values d) (S.tokens scanner.new)) }
-        ensures err { IfErr result (λ e. Refuses S.Octets.Builder.limit a (S.tokens scanner.old) (S.tokens scanner.new) (scan_fault_of e)) }
+        ensures ok { IfOk result (λ d.
+            Scans a (S.tokens scanner.old) (a_values d) (S.tokens scanner.new)) }
+        ensures err { IfErr result (λ e.
+            Refuses S.Octets.Builder.limit a (S.tokens scanner.old) (S.tokens scanner.new)
+            (scan_fault_of e)) }
     {
         let Address(addr) = <Address as ScanFields<S>>::scan(alloc, scanner)?;
         Ok(A { addr })
@@ -94,7 +98,8 @@ impl TryClone for A {
 impl CloneRecordData for A {
     ghost clone_rtype = { λ d copy same. refl };
 
-    ghost clone_canonical = { λ d copy same. same_values_tie a a_values d copy (λ i. ipv4_octets (same i)) };
+    ghost clone_canonical = { λ d copy same.
+        same_values_tie a a_values d copy (λ i. ipv4_octets (same i)) };
 }
 
 impl OctetsFrom<A> for A {
@@ -118,7 +123,7 @@ impl FlattenInto<A> for A {
 }
 
 impl RecordData for A {
-    ghost rtype = { λ _. 1 };
+    ghost rtype = { λ _. rtypes.a };
 
     fn rtype(&self) -> Rtype {
         Rtype::A
@@ -126,7 +131,7 @@ impl RecordData for A {
 }
 
 impl<'a> ParseRecordData<'a> for A {
-    ghost is_read = { λ rtype. rtype ≡ 1 };
+    ghost is_read = { λ rtype. rtype ≡ rtypes.a };
 
     ghost begins = { λ octets d after. Begins a octets (a_values d) after };
 

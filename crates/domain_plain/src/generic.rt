@@ -25,7 +25,8 @@ impl FromToken for GenericMark {
     }
 }
 
-/// The generic form: `\#`, the number of octets, and the octets in Base 16 in upper case, if there are any.
+/// The generic form: `\#`, the number of octets, and the octets in Base 16 in upper case, if there
+/// are any.
 impl<O: Octets> fmt::Display for UnknownRecordData<O> {
     ghost output = { λ d. Some (generic_text (O.octets d.«data»)) };
 

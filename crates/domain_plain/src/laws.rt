@@ -1,5 +1,6 @@
 //! What holds of data of the types of this crate.
-ghost use Rattle.std.specs.Prelude.{◌≢◌, ◌≤◌, ℕ, List, None, length};
+ghost use Rattle.std.specs.Prelude.{◌≢◌, ◌≤◌, None, length};
+ghost use Rattle.domain_octets.specs.Words.{Octets};
 ghost use Rattle.domain_base.specs.Scan.{ScanFault, no_memory};
 ghost use Rattle.domain_fields.specs.Layout.{ParsesBack};
 ghost use Rattle.domain_plain.specs.Generic.{GenericText, GenericFault};
@@ -58,7 +59,9 @@ pub fn unknown_data_parses_back<O: Octets>(value: &UnknownRecordData<O>)
     let _octets = value.data().as_slice();
 }
 
-/// Over octets that grow, tokens that are refused as the generic form but for want of memory spell no data in that form.
+/// Over octets that grow, tokens that are refused as the generic form but for want of memory spell
+/// no data in that form.
 pub fn refused_tokens_spell_no_generic_data()
-    ensures { (old new : Tokens) (fault : ScanFault) (octets : List ℕ) → GenericFault None old new fault → GenericText old octets → fault ≢ no_memory → ⊥ }
+    ensures { (old new : Tokens) (fault : ScanFault) (octets : Octets)
+        → GenericFault None old new fault → GenericText old octets → fault ≢ no_memory → ⊥ }
 {}

@@ -7,6 +7,7 @@ ghost use Rattle.domain_base.specs.Scan.{scan_fault_of};
 ghost use Rattle.domain_base.specs.Text.{name_text};
 ghost use Rattle.domain_fields.specs.Scan.{Scans, Refuses};
 ghost use Rattle.domain_base.specs.Fault.{fault_of};
+ghost use Rattle.domain_base.specs.Types as rtypes;
 ghost use Rattle.domain_fields.specs.Layout.{Begins, FirstFault, GoesOn, octets_of, canonical_of};
 ghost use Rattle.domain_fields.specs.DataClone.{same_values_tie};
 ghost use Rattle.domain_plain.specs.Plain.{mx, mx_values};
@@ -57,7 +58,8 @@ impl<N> Mx<N> {
     pub fn clone(&self) -> Result<Self, OutOfMemory>
     where
         N: TryClone,
-        ensures { IfOk result (λ copy. (copy.preference ≡ self.now.preference) × N.is_clone self.now.exchange copy.exchange) }
+        ensures { IfOk result (λ copy. (copy.preference ≡ self.now.preference)
+            × N.is_clone self.now.exchange copy.exchange) }
     {
         Ok(Mx {
             preference: self.preference,
@@ -67,7 +69,8 @@ impl<N> Mx<N> {
 }
 
 impl<N: TryClone> TryClone for Mx<N> {
-    ghost is_clone = { λ d copy. (copy.preference ≡ d.preference) × N.is_clone d.exchange copy.exchange };
+    ghost is_clone = { λ d copy. (copy.preference ≡ d.preference)
+        × N.is_clone d.exchange copy.exchange };
 
     fn try_clone(&self) -> Result<Self, OutOfMemory> {
         self.clone()
@@ -77,11 +80,14 @@ impl<N: TryClone> TryClone for Mx<N> {
 impl<N: ToName> CloneRecordData for Mx<N> {
     ghost clone_rtype = { λ d copy same. refl };
 
-    ghost clone_canonical = { λ d copy same. same_values_tie mx (mx_values N.labels) d copy (λ i. (same.0 i, N.clone_labels d.exchange copy.exchange same.1 i)) };
+    ghost clone_canonical = { λ d copy same.
+        same_values_tie mx (mx_values N.labels) d copy
+        (λ i. (same.0 i, N.clone_labels d.exchange copy.exchange same.1 i)) };
 }
 
 impl<M, N: OctetsFrom<M>> OctetsFrom<Mx<M>> for Mx<N> {
-    ghost is_same = { λ source made. (made.preference ≡ source.preference) × N.is_same source.exchange made.exchange };
+    ghost is_same = { λ source made. (made.preference ≡ source.preference)
+        × N.is_same source.exchange made.exchange };
 
     ghost has_no_room = { λ source. N.has_no_room source.exchange };
 
@@ -98,7 +104,8 @@ impl<M, N: OctetsFrom<M>> OctetsFrom<Mx<M>> for Mx<N> {
 }
 
 impl<M, N: FlattenInto<M>> FlattenInto<Mx<M>> for Mx<N> {
-    ghost is_same = { λ source made. (made.preference ≡ source.preference) × N.is_same source.exchange made.exchange };
+    ghost is_same = { λ source made. (made.preference ≡ source.preference)
+        × N.is_same source.exchange made.exchange };
 
     ghost has_no_room = { λ source. N.has_no_room source.exchange };
 
@@ -115,12 +122,16 @@ impl<M, N: FlattenInto<M>> FlattenInto<Mx<M>> for Mx<N> {
 }
 
 impl<N: ToName> Mx<N> {
-    /// The data that the tokens begin with: a decimal number and a name. A refusal leaves an end of the tokens.
+    /// The data that the tokens begin with: a decimal number and a name. A refusal leaves an end of
+    /// the tokens.
     pub fn scan<S: Scanner<Name = N>>(alloc: Global, scanner: &mut S) -> Result<Self, ScanError>
     where
         N: Drop,
-        ensures ok { IfOk result (λ d. Scans mx (S.tokens scanner.old) (mx_values N.labels d) (S.tokens scanner.new)) }
-        ensures err { IfErr result (λ e. Refuses S.Octets.Builder.limit mx (S.tokens scanner.old) (S.tokens scanner.new) (scan_fault_of e)) }
+        ensures ok { IfOk result (λ d.
+            Scans mx (S.tokens scanner.old) (mx_values N.labels d) (S.tokens scanner.new)) }
+        ensures err { IfErr result (λ e.
+            Refuses S.Octets.Builder.limit mx (S.tokens scanner.old) (S.tokens scanner.new)
+            (scan_fault_of e)) }
     {
         let (preference, Scanned(exchange)) = <(u16, Scanned<N>) as ScanFields<S>>::scan(
             alloc, scanner,
@@ -142,15 +153,18 @@ impl<N: ToName> Mx<N> {
 }
 
 impl<'a> Mx<ParsedName<'a>> {
-    /// The data that the octets begin with: a number of two octets and a name; what follows is left.
+    /// The data that the octets begin with: a number of two octets and a name; what follows is
+    /// left.
     ///
     /// # Errors
     ///
     /// The first fault in field order: a missing octet of the number is `ShortInput`;
-    /// of a name, at the first label that is at fault, a missing octet is `ShortInput`, a length over 63 or a
-    /// pointer `Form("compressed or bad label")`, a name over 255 octets `Form("long domain name")`. The parser then stands where it stood.
+    /// of a name, at the first label that is at fault, a missing octet is `ShortInput`, a length
+    /// over 63 or a pointer `Form("compressed or bad label")`, a name over 255 octets
+    /// `Form("long domain name")`. The parser then stands where it stood.
     pub fn parse(parser: &mut Parser<'a>) -> Result<Self, ParseError>
-        ensures ok { IfOk result (λ d. Begins mx parser.old.left (mx_values (λ name. name) d) parser.new.left) }
+        ensures ok { IfOk result (λ d.
+            Begins mx parser.old.left (mx_values (λ name. name) d) parser.new.left) }
         ensures err { IfErr result (λ e. FirstFault mx parser.old.left (fault_of e)) }
         ensures unmoved { OnErr result (parser.new ≡ parser.old) }
         ensures goes_on { GoesOn parser.old parser.new }
@@ -166,7 +180,7 @@ impl<'a> Mx<ParsedName<'a>> {
 }
 
 impl<'a> ParseRecordData<'a> for Mx<ParsedName<'a>> {
-    ghost is_read = { λ rtype. rtype ≡ 15 };
+    ghost is_read = { λ rtype. rtype ≡ rtypes.mx };
 
     ghost begins = { λ octets d after. Begins mx octets (mx_values (λ name. name) d) after };
 
@@ -184,7 +198,7 @@ impl<'a> ParseRecordData<'a> for Mx<ParsedName<'a>> {
 }
 
 impl<N: ToName> RecordData for Mx<N> {
-    ghost rtype = { λ _. 15 };
+    ghost rtype = { λ _. rtypes.mx };
 
     fn rtype(&self) -> Rtype {
         Rtype::MX
@@ -229,7 +243,8 @@ impl<N: ToName> CanonicalOrd for Mx<N> {
 
 /// The preference, and the name with its last dot.
 impl<N: ToName> fmt::Display for Mx<N> {
-    ghost output = { λ d. Some (decimal d.preference ++ codes " " ++ name_text (N.labels d.exchange) ++ codes ".") };
+    ghost output = { λ d. Some (decimal d.preference ++ codes " " ++ name_text (N.labels d.exchange)
+        ++ codes ".") };
 
     fn fmt<W: fmt::Write>(&self, f: &mut fmt::Formatter<W>) -> fmt::Result {
         let preference = self.preference;

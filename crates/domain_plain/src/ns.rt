@@ -6,6 +6,7 @@ ghost use Rattle.domain_base.specs.Scan.{scan_fault_of};
 ghost use Rattle.domain_base.specs.Text.{name_text};
 ghost use Rattle.domain_fields.specs.Scan.{Scans, Refuses};
 ghost use Rattle.domain_base.specs.Fault.{fault_of};
+ghost use Rattle.domain_base.specs.Types as rtypes;
 ghost use Rattle.domain_fields.specs.Layout.{Begins, FirstFault, GoesOn, octets_of, canonical_of};
 ghost use Rattle.domain_fields.specs.DataClone.{same_values_tie};
 ghost use Rattle.domain_plain.specs.Plain.{ns, ns_values};
@@ -64,7 +65,9 @@ impl<N: TryClone> TryClone for Ns<N> {
 impl<N: ToName> CloneRecordData for Ns<N> {
     ghost clone_rtype = { λ d copy same. refl };
 
-    ghost clone_canonical = { λ d copy same. same_values_tie ns (ns_values N.labels) d copy (N.clone_labels d.nsdname copy.nsdname same) };
+    ghost clone_canonical = { λ d copy same.
+        same_values_tie ns (ns_values N.labels) d copy
+        (N.clone_labels d.nsdname copy.nsdname same) };
 }
 
 impl<M, N: OctetsFrom<M>> OctetsFrom<Ns<M>> for Ns<N> {
@@ -98,8 +101,11 @@ impl<N: ToName> Ns<N> {
     pub fn scan<S: Scanner<Name = N>>(alloc: Global, scanner: &mut S) -> Result<Self, ScanError>
     where
         N: Drop,
-        ensures ok { IfOk result (λ d. Scans ns (S.tokens scanner.old) (ns_values N.labels d) (S.tokens scanner.new)) }
-        ensures err { IfErr result (λ e. Refuses S.Octets.Builder.limit ns (S.tokens scanner.old) (S.tokens scanner.new) (scan_fault_of e)) }
+        ensures ok { IfOk result (λ d.
+            Scans ns (S.tokens scanner.old) (ns_values N.labels d) (S.tokens scanner.new)) }
+        ensures err { IfErr result (λ e.
+            Refuses S.Octets.Builder.limit ns (S.tokens scanner.old) (S.tokens scanner.new)
+            (scan_fault_of e)) }
     {
         let Scanned(nsdname) = <Scanned<N> as ScanFields<S>>::scan(alloc, scanner)?;
         Ok(Ns { nsdname })
@@ -120,10 +126,12 @@ impl<'a> Ns<ParsedName<'a>> {
     ///
     /// # Errors
     ///
-    /// The first fault in field order: of a name, at the first label that is at fault, a missing octet is `ShortInput`, a length over 63 or a
-    /// pointer `Form("compressed or bad label")`, a name over 255 octets `Form("long domain name")`. The parser then stands where it stood.
+    /// The first fault in field order: of a name, at the first label that is at fault, a missing
+    /// octet is `ShortInput`, a length over 63 or a pointer `Form("compressed or bad label")`, a
+    /// name over 255 octets `Form("long domain name")`. The parser then stands where it stood.
     pub fn parse(parser: &mut Parser<'a>) -> Result<Self, ParseError>
-        ensures ok { IfOk result (λ d. Begins ns parser.old.left (ns_values (λ name. name) d) parser.new.left) }
+        ensures ok { IfOk result (λ d.
+            Begins ns parser.old.left (ns_values (λ name. name) d) parser.new.left) }
         ensures err { IfErr result (λ e. FirstFault ns parser.old.left (fault_of e)) }
         ensures unmoved { OnErr result (parser.new ≡ parser.old) }
         ensures goes_on { GoesOn parser.old parser.new }
@@ -136,7 +144,7 @@ impl<'a> Ns<ParsedName<'a>> {
 }
 
 impl<'a> ParseRecordData<'a> for Ns<ParsedName<'a>> {
-    ghost is_read = { λ rtype. rtype ≡ 2 };
+    ghost is_read = { λ rtype. rtype ≡ rtypes.ns };
 
     ghost begins = { λ octets d after. Begins ns octets (ns_values (λ name. name) d) after };
 
@@ -154,7 +162,7 @@ impl<'a> ParseRecordData<'a> for Ns<ParsedName<'a>> {
 }
 
 impl<N: ToName> RecordData for Ns<N> {
-    ghost rtype = { λ _. 2 };
+    ghost rtype = { λ _. rtypes.ns };
 
     fn rtype(&self) -> Rtype {
         Rtype::NS

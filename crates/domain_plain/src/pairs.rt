@@ -3,13 +3,15 @@ ghost use Rattle.std.specs.Prelude.{◌≡◌, ◌↔◌, ◌⊎◌, Ok, IfOk, I
 
 use domain_octets::AppendError;
 
-/// Both values. Answers `ShortBuf` where there was no room for one of them, and else `OutOfMemory` where one was not made.
+/// Both values. Answers `ShortBuf` where there was no room for one of them, and else `OutOfMemory`
+/// where one was not made.
 pub fn both<A: Drop, B: Drop>(
     first: Result<A, AppendError>,
     second: Result<B, AppendError>,
 ) -> Result<(A, B), AppendError>
     ensures ok { IfOk result (λ pair. (first ≡ Ok pair.0) × (second ≡ Ok pair.1)) }
-    ensures short { IsErrOf result AppendError.ShortBuf ↔ (IsErrOf first AppendError.ShortBuf ⊎ IsErrOf second AppendError.ShortBuf) }
+    ensures short { IsErrOf result AppendError.ShortBuf
+        ↔ (IsErrOf first AppendError.ShortBuf ⊎ IsErrOf second AppendError.ShortBuf) }
 {
     match (first, second) {
         (Ok(first), Ok(second)) => Ok((first, second)),

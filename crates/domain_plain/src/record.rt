@@ -166,7 +166,8 @@ impl<N: ToName, D: RecordData + CanonicalOrd> CanonicalOrd for Record<N, D> {
     }
 }
 
-/// The owner with its last dot, the TTL, the class, the type and the data, with single spaces between them.
+/// The owner with its last dot, the TTL, the class, the type and the data, with single spaces
+/// between them.
 impl<N: ToName, D: RecordData + fmt::Display> fmt::Display for Record<N, D> {
     ghost use Rattle.domain_plain.specs.RecordText.{record_text};
 

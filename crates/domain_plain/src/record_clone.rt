@@ -10,10 +10,12 @@ use domain_octets::{OutOfMemory, TryClone};
 /// Data whose copies are of the same type and equal under the canonical order.
 pub trait CloneRecordData: RecordData + CanonicalOrd + TryClone {
     /// A copy is of the same type.
-    ghost clone_rtype: { (value copy : Self) → Self.is_clone value copy → Self.rtype copy ≡ Self.rtype value };
+    ghost clone_rtype: { (value copy : Self) → Self.is_clone value copy
+        → Self.rtype copy ≡ Self.rtype value };
 
     /// A copy is equal under the canonical order.
-    ghost clone_canonical: { (value copy : Self) → Self.is_clone value copy → Self.canonical_cmp value copy ≡ Equal };
+    ghost clone_canonical: { (value copy : Self) → Self.is_clone value copy
+        → Self.canonical_cmp value copy ≡ Equal };
 }
 
 impl<N: TryClone + Drop, D: TryClone> Record<N, D> {

@@ -1,7 +1,8 @@
 //! Data of records.
-ghost use Rattle.std.specs.Prelude.{◌≡◌, ◌≤◌, ◌↔◌, ℕ, List, Some, length, IsTrue, IfOk, IfErr, OnErr, IfNone, MatchOption, codes};
+ghost use Rattle.std.specs.Prelude.{◌≡◌, ◌≤◌, ◌↔◌, ℕ, Some, length, IsTrue, IfOk, IfErr, OnErr, IfNone, MatchOption, codes};
 ghost use Rattle.std.specs.Ordering.{nat_cmp};
 ghost use Rattle.std.specs.Cmp.Lexicographic.{slice_cmp};
+ghost use Rattle.domain_octets.specs.Words.{Octets};
 ghost use Rattle.domain_base.specs.Fault.{Fault, fault_of};
 ghost use Rattle.domain_fields.specs.Layout.{GoesOn};
 ghost use Rattle.domain_fields.specs.Target.{Appends};
@@ -12,7 +13,8 @@ use std::cmp::Ordering;
 use std::error::Error;
 use std::fmt;
 
-/// The data of a record would have over 65,535 octets, more than a record can hold (RFC 1035, section 3.2.1).
+/// The data of a record would have over 65,535 octets, more than a record can hold (RFC 1035,
+/// section 3.2.1).
 #[derive(Clone, Copy, Debug, PartialEq, Eq)]
 pub struct LongRecordData;
 
@@ -42,35 +44,38 @@ pub trait ParseRecordData<'a>: RecordData {
     ghost is_read: { ℕ → Type 0 };
 
     /// The octets begin with the data, and these are left.
-    ghost begins: { List ℕ → Self → List ℕ → Type 0 };
+    ghost begins: { Octets → Self → Octets → Type 0 };
 
     /// The first fault of octets that do not.
-    ghost faults: { List ℕ → Fault → Type 0 };
+    ghost faults: { Octets → Fault → Type 0 };
 
-    /// The data that the octets of a record of this type begin with; None, and nothing is read, for every other type.
-    /// Takes no memory.
+    /// The data that the octets of a record of this type begin with; None, and nothing is read, for
+    /// every other type. Takes no memory.
     ///
     /// # Errors
     ///
-    /// The first fault in field order, as `parse` of the data's type says. The parser then stands where it stood.
+    /// The first fault in field order, as `parse` of the data's type says. The parser then stands
+    /// where it stood.
     fn parse_rdata(rtype: Rtype, parser: &mut Parser<'a>) -> Result<Option<Self>, ParseError>
     where
         Self: Sized,
         ensures ok { IfOk result (λ found. MatchOption found (is_read rtype → ⊥)
-            (λ «data». is_read rtype × (Self.rtype «data» ≡ rtype) × begins parser.old.left «data» parser.new.left)) }
+            (λ «data». is_read rtype × (Self.rtype «data» ≡ rtype)
+            × begins parser.old.left «data» parser.new.left)) }
         ensures none { IfOk result (λ found. IfNone found (parser.new ≡ parser.old)) }
         ensures err { IfErr result (λ e. is_read rtype × faults parser.old.left (fault_of e)) }
         ensures unmoved { OnErr result (parser.new ≡ parser.old) }
         ensures goes_on { GoesOn parser.old parser.new };
 }
 
-/// Data that can be written in wire form (RFC 1035, section 3.2.1) and in canonical form (RFC 4034, section 6.2).
+/// Data that can be written in wire form (RFC 1035, section 3.2.1) and in canonical form (RFC 4034,
+/// section 6.2).
 pub trait ComposeRecordData: RecordData {
     /// The octets of the data.
-    ghost octets: { Self → List ℕ };
+    ghost octets: { Self → Octets };
 
     /// The octets of their canonical form.
-    ghost canonical: { Self → List ℕ };
+    ghost canonical: { Self → Octets };
 
     /// Whether the data have at most 65,535 octets, as many as a record can hold.
     fn fits_rdlen(&self) -> bool
@@ -83,11 +88,14 @@ pub trait ComposeRecordData: RecordData {
 
     /// Appends the octets. A refusal leaves what stood, and a beginning of the octets.
     fn compose_rdata<B: OctetsBuilder>(&self, target: &mut B) -> Result<(), AppendError>
-        ensures { Appends B.limit result (B.octets target.old) (B.octets target.new) (octets self.now) };
+        ensures { Appends B.limit result (B.octets target.old) (B.octets target.new)
+            (octets self.now) };
 
-    /// Appends the octets of the canonical form. A refusal leaves what stood, and a beginning of the octets.
+    /// Appends the octets of the canonical form. A refusal leaves what stood, and a beginning of
+    /// the octets.
     fn compose_canonical_rdata<B: OctetsBuilder>(&self, target: &mut B) -> Result<(), AppendError>
-        ensures { Appends B.limit result (B.octets target.old) (B.octets target.new) (canonical self.now) };
+        ensures { Appends B.limit result (B.octets target.old) (B.octets target.new)
+            (canonical self.now) };
 
     /// The lexicographic order of the canonical octets and of other octets. Takes no memory.
     fn canonical_cmp_octets(&self, other: &[u8]) -> Ordering

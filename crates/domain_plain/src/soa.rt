@@ -5,6 +5,7 @@ ghost use Rattle.std.specs.Cmp.Lexicographic.{slice_cmp, on_texts};
 ghost use Rattle.domain_base.specs.Scan.{scan_fault_of};
 ghost use Rattle.domain_fields.specs.Scan.{Scans, Refuses};
 ghost use Rattle.domain_base.specs.Fault.{fault_of};
+ghost use Rattle.domain_base.specs.Types as rtypes;
 ghost use Rattle.domain_fields.specs.Layout.{Begins, FirstFault, GoesOn, octets_of, canonical_of};
 ghost use Rattle.domain_fields.specs.DataClone.{same_values_tie};
 ghost use Rattle.domain_plain.specs.Plain.{soa, soa_values};
@@ -50,7 +51,15 @@ impl<N> Soa<N> {
         expire: Ttl,
         minimum: Ttl,
     ) -> Self
-        ensures { result ≡ record { mname = mname; rname = rname; serial = serial; refresh = refresh; retry = retry; expire = expire; minimum = minimum } }
+        ensures { result ≡ record {
+          mname = mname;
+          rname = rname;
+          serial = serial;
+          refresh = refresh;
+          retry = retry;
+          expire = expire;
+          minimum = minimum;
+        } }
     {
         Soa {
             mname,
@@ -114,7 +123,15 @@ impl<N> Soa<N> {
 
     /// The same numbers beside other names.
     fn with_names<M>(&self, mname: M, rname: M) -> Soa<M>
-        ensures { result ≡ record { mname = mname; rname = rname; serial = self.now.serial; refresh = self.now.refresh; retry = self.now.retry; expire = self.now.expire; minimum = self.now.minimum } }
+        ensures { result ≡ record {
+          mname = mname;
+          rname = rname;
+          serial = self.now.serial;
+          refresh = self.now.refresh;
+          retry = self.now.retry;
+          expire = self.now.expire;
+          minimum = self.now.minimum;
+        } }
     {
         Soa {
             mname,
@@ -167,7 +184,13 @@ impl<N: ToName + Drop> CloneRecordData for Soa<N> {
     ghost clone_rtype = { λ d copy same. refl };
 
     ghost clone_canonical = { λ d copy same. same_values_tie soa (soa_values N.labels) d copy
-        (λ i. ((N.clone_labels d.mname copy.mname same.mname i, N.clone_labels d.rname copy.rname same.rname i), ((same.serial i, (same.refresh i, same.retry i)), (same.expire i, same.minimum i)))) };
+        (λ i. (
+          (
+            N.clone_labels d.mname copy.mname same.mname i,
+            N.clone_labels d.rname copy.rname same.rname i,
+          ),
+          ((same.serial i, (same.refresh i, same.retry i)), (same.expire i, same.minimum i)),
+        )) };
 }
 
 impl<M, N: OctetsFrom<M> + Drop> OctetsFrom<Soa<M>> for Soa<N> {
@@ -200,12 +223,16 @@ impl<M: Drop, N: FlattenInto<M>> FlattenInto<Soa<M>> for Soa<N> {
 }
 
 impl<N: ToName> Soa<N> {
-    /// The data that the tokens begin with: two names and five decimal numbers. A refusal leaves an end of the tokens.
+    /// The data that the tokens begin with: two names and five decimal numbers. A refusal leaves an
+    /// end of the tokens.
     pub fn scan<S: Scanner<Name = N>>(alloc: Global, scanner: &mut S) -> Result<Self, ScanError>
     where
         N: Drop,
-        ensures ok { IfOk result (λ d. Scans soa (S.tokens scanner.old) (soa_values N.labels d) (S.tokens scanner.new)) }
-        ensures err { IfErr result (λ e. Refuses S.Octets.Builder.limit soa (S.tokens scanner.old) (S.tokens scanner.new) (scan_fault_of e)) }
+        ensures ok { IfOk result (λ d.
+            Scans soa (S.tokens scanner.old) (soa_values N.labels d) (S.tokens scanner.new)) }
+        ensures err { IfErr result (λ e.
+            Refuses S.Octets.Builder.limit soa (S.tokens scanner.old) (S.tokens scanner.new)
+            (scan_fault_of e)) }
     {
         let (names, ((serial, (refresh, retry)), (expire, minimum))) = <ScannedSoa<N> as ScanFields<
             S,
@@ -227,7 +254,8 @@ impl<N: ToName> Soa<N> {
     /// The fields, in the order of the wire.
     fn fields(&self) -> SoaFields<'_>
         ensures { (result.0.0 ≡ N.labels self.now.mname) × (result.0.1 ≡ N.labels self.now.rname)
-            × (result.1.0 ≡ (self.now.serial, (self.now.refresh, self.now.retry))) × (result.1.1 ≡ (self.now.expire, self.now.minimum)) }
+            × (result.1.0 ≡ (self.now.serial, (self.now.refresh, self.now.retry)))
+            × (result.1.1 ≡ (self.now.expire, self.now.minimum)) }
     {
         (
             (self.mname.as_parsed(), self.rname.as_parsed()),
@@ -240,15 +268,18 @@ impl<N: ToName> Soa<N> {
 }
 
 impl<'a> Soa<ParsedName<'a>> {
-    /// The data that the octets begin with: two names and five numbers of four octets; what follows is left.
+    /// The data that the octets begin with: two names and five numbers of four octets; what follows
+    /// is left.
     ///
     /// # Errors
     ///
-    /// The first fault in field order: of a name, at the first label that is at fault, a missing octet is `ShortInput`, a length over 63 or a
-    /// pointer `Form("compressed or bad label")`, a name over 255 octets `Form("long domain name")`;
-    /// a missing octet of a number is `ShortInput`. The parser then stands where it stood.
+    /// The first fault in field order: of a name, at the first label that is at fault, a missing
+    /// octet is `ShortInput`, a length over 63 or a pointer `Form("compressed or bad label")`, a
+    /// name over 255 octets `Form("long domain name")`; a missing octet of a number is
+    /// `ShortInput`. The parser then stands where it stood.
     pub fn parse(parser: &mut Parser<'a>) -> Result<Self, ParseError>
-        ensures ok { IfOk result (λ d. Begins soa parser.old.left (soa_values (λ name. name) d) parser.new.left) }
+        ensures ok { IfOk result (λ d.
+            Begins soa parser.old.left (soa_values (λ name. name) d) parser.new.left) }
         ensures err { IfErr result (λ e. FirstFault soa parser.old.left (fault_of e)) }
         ensures unmoved { OnErr result (parser.new ≡ parser.old) }
         ensures goes_on { GoesOn parser.old parser.new }
@@ -269,7 +300,7 @@ impl<'a> Soa<ParsedName<'a>> {
 }
 
 impl<'a> ParseRecordData<'a> for Soa<ParsedName<'a>> {
-    ghost is_read = { λ rtype. rtype ≡ 6 };
+    ghost is_read = { λ rtype. rtype ≡ rtypes.soa };
 
     ghost begins = { λ octets d after. Begins soa octets (soa_values (λ name. name) d) after };
 
@@ -287,7 +318,7 @@ impl<'a> ParseRecordData<'a> for Soa<ParsedName<'a>> {
 }
 
 impl<N: ToName> RecordData for Soa<N> {
-    ghost rtype = { λ _. 6 };
+    ghost rtype = { λ _. rtypes.soa };
 
     fn rtype(&self) -> Rtype {
         Rtype::SOA
@@ -321,7 +352,8 @@ impl<N: ToName> ComposeRecordData for Soa<N> {
 }
 
 impl<N: ToName> CanonicalOrd for Soa<N> {
-    ghost canonical_cmp = { on (λ d. canonical_of soa (soa_values N.labels d)) (slice_cmp nat_cmp) };
+    ghost canonical_cmp = { on (λ d. canonical_of soa (soa_values N.labels d))
+        (slice_cmp nat_cmp) };
 
     ghost total = { on_texts (λ d. canonical_of soa (soa_values N.labels d)) };
 

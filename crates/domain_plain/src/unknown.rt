@@ -61,7 +61,8 @@ impl<O: Octets> UnknownRecordData<O> {
 
     /// A copy. Answers `OutOfMemory` where there is no memory for it.
     pub fn clone(&self) -> Result<Self, OutOfMemory>
-        ensures { IfOk result (λ copy. (copy.rtype ≡ self.now.rtype) × (O.octets copy.«data» ≡ O.octets self.now.«data»)) }
+        ensures { IfOk result (λ copy. (copy.rtype ≡ self.now.rtype)
+            × (O.octets copy.«data» ≡ O.octets self.now.«data»)) }
     {
         Ok(UnknownRecordData {
             rtype: self.rtype,
@@ -78,13 +79,16 @@ impl<O: Octets> UnknownRecordData<O> {
 }
 
 impl<O: FromBuilder> UnknownRecordData<O> {
-    /// The data of a type that the tokens spell in generic form: `\#`, the number of octets, and the octets in Base 16, in any number of tokens.
+    /// The data of a type that the tokens spell in generic form: `\#`, the number of octets, and
+    /// the octets in Base 16, in any number of tokens.
     ///
     /// # Errors
     ///
-    /// `EndOfEntry` where the mark or the number is missing; `Custom("illegal data")` for another token in place of the mark, for what is
-    /// no Base 16, and for another number of octets; `Custom("decimal number expected")` for what is no number of at most 65,535;
-    /// `ShortBuf` and `OutOfMemory` where the octets have no room or no memory. A refusal leaves an end of the tokens.
+    /// `EndOfEntry` where the mark or the number is missing; `Custom("illegal data")` for another
+    /// token in place of the mark, for what is no Base 16, and for another number of octets;
+    /// `Custom("decimal number expected")` for what is no number of at most 65,535; `ShortBuf` and
+    /// `OutOfMemory` where the octets have no room or no memory. A refusal leaves an end of the
+    /// tokens.
     #[tactic(auto, using(crate::proofs::GenericLemmas::generic))]
     pub fn scan<S: Scanner<Octets = O>>(
         alloc: Global,
@@ -96,7 +100,9 @@ impl<O: FromBuilder> UnknownRecordData<O> {
         ensures ok { IfOk result (λ d. GenericText (S.tokens scanner.old) (O.octets d.«data»)) }
         ensures rtype { IfOk result (λ d. d.rtype ≡ rtype) }
         ensures all { OnOk result (S.tokens scanner.new ≡ []) }
-        ensures err { IfErr result (λ e. GenericFault O.Builder.limit (S.tokens scanner.old) (S.tokens scanner.new) (scan_fault_of e)) }
+        ensures err { IfErr result (λ e.
+            GenericFault O.Builder.limit (S.tokens scanner.old) (S.tokens scanner.new)
+            (scan_fault_of e)) }
     {
         <GenericMark as FromToken>::scan(scanner)?;
         let count = <u16 as FromToken>::scan(scanner)?;
@@ -113,9 +119,12 @@ impl<'a> UnknownRecordData<&'a [u8]> {
     ///
     /// # Errors
     ///
-    /// `Form("record data too long")` for over 65,535 octets. The parser then stands where it stood.
+    /// `Form("record data too long")` for over 65,535 octets. The parser then stands where it
+    /// stood.
     pub fn parse(rtype: Rtype, parser: &mut Parser<'a>) -> Result<Self, ParseError>
-        ensures ok { IfOk result (λ d. Begins unknown parser.old.left (unknown_values (λ octets. octets.now) d) parser.new.left) }
+        ensures ok { IfOk result (λ d.
+            Begins unknown parser.old.left (unknown_values (λ octets. octets.now) d)
+            parser.new.left) }
         ensures rtype { IfOk result (λ d. d.rtype ≡ rtype) }
         ensures err { IfErr result (λ e. FirstFault unknown parser.old.left (fault_of e)) }
         ensures unmoved { OnErr result (parser.new ≡ parser.old) }
@@ -131,7 +140,8 @@ impl<'a> UnknownRecordData<&'a [u8]> {
 impl<'a> ParseRecordData<'a> for UnknownRecordData<&'a [u8]> {
     ghost is_read = { λ _. Unit {0} };
 
-    ghost begins = { λ octets d after. Begins unknown octets (unknown_values (λ octets. octets.now) d) after };
+    ghost begins = { λ octets d after.
+        Begins unknown octets (unknown_values (λ octets. octets.now) d) after };
 
     ghost faults = { λ octets fault. FirstFault unknown octets fault };
 
@@ -144,7 +154,8 @@ impl<'a> ParseRecordData<'a> for UnknownRecordData<&'a [u8]> {
 }
 
 impl<O: Octets> TryClone for UnknownRecordData<O> {
-    ghost is_clone = { λ d copy. (copy.rtype ≡ d.rtype) × (O.octets copy.«data» ≡ O.octets d.«data») };
+    ghost is_clone = { λ d copy. (copy.rtype ≡ d.rtype)
+        × (O.octets copy.«data» ≡ O.octets d.«data») };
 
     fn try_clone(&self) -> Result<Self, OutOfMemory> {
         self.clone()
@@ -154,11 +165,13 @@ impl<O: Octets> TryClone for UnknownRecordData<O> {
 impl<O: Octets> CloneRecordData for UnknownRecordData<O> {
     ghost clone_rtype = { λ d copy same. same.0 };
 
-    ghost clone_canonical = { λ d copy same. same_values_tie unknown (unknown_values O.octets) d copy (λ i. (tt, same.1 i)) };
+    ghost clone_canonical = { λ d copy same.
+        same_values_tie unknown (unknown_values O.octets) d copy (λ i. (tt, same.1 i)) };
 }
 
 impl<P, O: OctetsFrom<P>> OctetsFrom<UnknownRecordData<P>> for UnknownRecordData<O> {
-    ghost is_same = { λ source made. (made.rtype ≡ source.rtype) × O.is_same source.«data» made.«data» };
+    ghost is_same = { λ source made. (made.rtype ≡ source.rtype)
+        × O.is_same source.«data» made.«data» };
 
     ghost has_no_room = { λ source. O.has_no_room source.«data» };
 
@@ -172,7 +185,8 @@ impl<P, O: OctetsFrom<P>> OctetsFrom<UnknownRecordData<P>> for UnknownRecordData
 }
 
 impl<O, P: OctetsFrom<O>> FlattenInto<UnknownRecordData<P>> for UnknownRecordData<O> {
-    ghost is_same = { λ source made. (made.rtype ≡ source.rtype) × P.is_same source.«data» made.«data» };
+    ghost is_same = { λ source made. (made.rtype ≡ source.rtype)
+        × P.is_same source.«data» made.«data» };
 
     ghost has_no_room = { λ source. P.has_no_room source.«data» };
 
@@ -220,7 +234,8 @@ impl<O: Octets> ComposeRecordData for UnknownRecordData<O> {
 }
 
 impl<O: Octets> CanonicalOrd for UnknownRecordData<O> {
-    ghost canonical_cmp = { on (λ d. canonical_of unknown (unknown_values O.octets d)) (slice_cmp nat_cmp) };
+    ghost canonical_cmp = { on (λ d. canonical_of unknown (unknown_values O.octets d))
+        (slice_cmp nat_cmp) };
 
     ghost total = { on_texts (λ d. canonical_of unknown (unknown_values O.octets d)) };
 

@@ -14,7 +14,7 @@ use Rattle.domain_bitmap.specs.Scan.{is_among, RefusesTypes}
 use Rattle.domain_fields.specs.Layout.{one, Fits}
 use Rattle.domain_fields.specs.Field.{counted}
 use Rattle.domain_fields.specs.Scan.{Scans, Refuses}
-use Rattle.domain_keys.specs.Text.{OneToken}
+use Rattle.domain_keys.specs.Scan.{OneToken}
 use Rattle.domain_keys.proofs.GrammarLemmas.{ReadsOnce, Excludes, Any, fields_once, fields_refused, one_token, token_refused, both_once, both_refused, decodes_once, codec_excludes}
 use Rattle.domain_rdata.specs.Rdata.{hash_numbers, nsec3param, hash_fields, nsec3}
 use Rattle.domain_rdata.specs.Nsec3paramText.{Nsec3paramText, RefusesNsec3param}

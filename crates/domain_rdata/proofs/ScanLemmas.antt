@@ -16,14 +16,14 @@ use Rattle.domain_fields.specs.Scan.{Scans}
 use Rattle.domain_plain.proofs.GenericLemmas.{refused_is_no_text}
 use Rattle.domain_fields.proofs.ScanLemmas.{refused_spells_none, scans_left, scans_once}
 use Rattle.domain_keys.specs.Data.{DnskeyData, DsData, RrsigData, dnskey_values, ds_values, rrsig_values, dnskey_octets, ds_octets, rrsig_octets}
-use Rattle.domain_keys.specs.Text.{DnskeyText, DsText, RrsigText}
+use Rattle.domain_keys.specs.Scan.{DnskeyText, DsText, RrsigText}
 use Rattle.domain_keys.proofs.RefusalLemmas.{dnskey_once, ds_once, rrsig_once, refused_dnskey, refused_ds, refused_rrsig}
 use Rattle.domain_rdata.specs.NsecText.{NsecText}
 use Rattle.domain_rdata.specs.Nsec3Text.{Nsec3Text}
 use Rattle.domain_rdata.specs.Nsec3paramText.{Nsec3paramText}
 use Rattle.domain_rdata.specs.Rdata.{nsec, nsec_values, nsec3, nsec3_values, nsec3param, nsec3param_values}
-use Rattle.domain_rdata.specs.Refusal.{Kind, plain, key, digest, signature, next_by_name, next_by_hash, params, kind_of, RefusesKind, OwnRefused, at_field, no_form, AreOfKind, OctetsFault, RdataRefused, in_own, in_generic, in_octets}
-use Rattle.domain_rdata.specs.Text.{RdataText, own, generic, OwnText, AreData, IsGeneric, has_own_data}
+use Rattle.domain_rdata.specs.Refusal.{Kind, plain, key, digest, signature, next_by_name, next_by_hash, params, kind_of, RefusesKind, RefusesOwn, at_field, no_form, AreOfKind, OctetsFault, RefusesRdata, in_own, in_generic, in_octets}
+use Rattle.domain_rdata.specs.Scan.{RdataText, own, generic, OwnText, AreData, IsGeneric, has_own_data}
 use Rattle.domain_rdata.specs.Zone.{wire_octets}
 use Rattle.domain_rdata.specs.declared.zone_record_data.ZoneRecordData.{ZoneRecordData}
 use Rattle.domain_rdata.specs.declared.zone_record_data.ZoneRecordData.TheVariants.{A, Ns, Soa, Mx, Dnskey, Ds, Rrsig, Nsec, Nsec3, Nsec3param, Unknown}
@@ -94,7 +94,7 @@ one_way rtype old m n x y p q =
     kind_once q.kind old m n x y (subst (λ k. Reads k old x m) same p.reads) q.reads
 
 -- over octets that grow, what is refused as the text form of a type, but for want of memory, is not read
-own_refused : (limit : Option ℕ) (rtype : ℕ) (old new after : List (List ℕ)) (wire : List ℕ) (fault : ScanFault) → OwnRefused limit rtype old new fault → limit ≡ None → fault ≢ no_memory → Way rtype old after wire → ⊥
+own_refused : (limit : Option ℕ) (rtype : ℕ) (old new after : List (List ℕ)) (wire : List ℕ) (fault : ScanFault) → RefusesOwn limit rtype old new fault → limit ≡ None → fault ≢ no_memory → Way rtype old after wire → ⊥
 own_refused limit rtype old new after wire fault (at_field kind is why) grows known way =
     let same = one_kind (kind_of rtype) way.kind kind way.is is in
     kind_refused kind old new after wire fault (subst (λ q. RefusesKind q kind old new fault) grows why) (subst (λ j. Reads j old wire after) same way.reads) known
@@ -162,7 +162,7 @@ module _ {O N : Type 0} (octets : O → List ℕ) (labels : N → List (List ℕ
   are_of_type wire (Unknown d) h = subst (λ k. AreOf k wire) (sym (no_kind rtype h.0)) tt
 
   -- over octets that grow, what is refused but for want of memory spells no data of the type
-  pub none_spelled : (limit : Option ℕ) (new : List (List ℕ)) (fault : ScanFault) → RdataRefused limit rtype old new fault → limit ≡ None → fault ≢ no_memory
+  pub none_spelled : (limit : Option ℕ) (new : List (List ℕ)) (fault : ScanFault) → RefusesRdata limit rtype old new fault → limit ≡ None → fault ≢ no_memory
       → (d : ZoneRecordData O N) (after : List (List ℕ)) → RdataText octets labels rtype old d after → ⊥
   none_spelled limit new fault (in_own unmarked why) grows known d after spelled =
       own_excludes unmarked (λ d after text. own_refused limit rtype old new after _ fault why grows known (way octets labels rtype old after d text)) d after spelled
@@ -170,20 +170,20 @@ module _ {O N : Type 0} (octets : O → List ℕ) (labels : N → List (List ℕ
   none_spelled limit new fault (in_octets wire text all why) grows known d after spelled =
       octets_exclude wire text (λ d are. octets_refused limit (kind_of rtype) wire fault why grows known (are_of_type wire d are)) d after spelled
 
-  pub refused_none : (limit : Option ℕ) (new : List (List ℕ)) (result : Result (ZoneRecordData O N) ScanError) → IfErr result (λ e. RdataRefused limit rtype old new (scan_fault_of e))
+  pub refused_none : (limit : Option ℕ) (new : List (List ℕ)) (result : Result (ZoneRecordData O N) ScanError) → IfErr result (λ e. RefusesRdata limit rtype old new (scan_fault_of e))
       → IfErr result (λ e. limit ≡ None → scan_fault_of e ≢ no_memory → (d : ZoneRecordData O N) (after : List (List ℕ)) → RdataText octets labels rtype old d after → ⊥)
   refused_none limit new (Ok d) why = tt
   refused_none limit new (Err e) why = none_spelled limit new (scan_fault_of e) why
 
   -- refusals of text without the mark
-  pub own_err : (limit : Option ℕ) (new : List (List ℕ)) (result : Result (ZoneRecordData O N) ScanError) → IfErr result (λ e. OwnRefused limit rtype old new (scan_fault_of e)) → (IsGeneric old → ⊥)
-      → IfErr result (λ e. RdataRefused limit rtype old new (scan_fault_of e))
+  pub own_err : (limit : Option ℕ) (new : List (List ℕ)) (result : Result (ZoneRecordData O N) ScanError) → IfErr result (λ e. RefusesOwn limit rtype old new (scan_fault_of e)) → (IsGeneric old → ⊥)
+      → IfErr result (λ e. RefusesRdata limit rtype old new (scan_fault_of e))
   own_err limit new (Ok d) why unmarked = tt
   own_err limit new (Err e) why unmarked = in_own unmarked why
 
   -- refusals of the octets of generic text
   pub octets_err : (limit : Option ℕ) (new : List (List ℕ)) (t : ℕ) (wire : List ℕ) (result : Result (ZoneRecordData O N) ScanError) → IfErr result (λ e. OctetsFault limit (kind_of t) wire (scan_fault_of e))
-      → t ≡ rtype → GenericText old wire → new ≡ [] → IfErr result (λ e. RdataRefused limit rtype old new (scan_fault_of e))
+      → t ≡ rtype → GenericText old wire → new ≡ [] → IfErr result (λ e. RefusesRdata limit rtype old new (scan_fault_of e))
   octets_err limit new t wire (Ok d) why same text all = tt
   octets_err limit new t wire (Err e) why same text all = in_octets wire text all (subst (λ n. OctetsFault limit (kind_of n) wire (scan_fault_of e)) same why)
 

@@ -9,7 +9,7 @@ use Rattle.domain_bitmap.specs.Bitmap.{bitmap_octets}
 use Rattle.domain_bitmap.specs.Scan.{TypeTexts, no_types, one_more, is_among, TypeFault, not_a_type, without_room, without_memory, RefusesTypes}
 use Rattle.domain_fields.specs.Field.{name}
 use Rattle.domain_fields.proofs.ScanLemmas.{token_excludes}
-use Rattle.domain_rdata.specs.NsecText.{NsecText, NsecRefused, in_name, in_types}
+use Rattle.domain_rdata.specs.NsecText.{NsecText, RefusesNsec, in_name, in_types}
 
 -- among the tokens of types every token spells a type
 type_at : (taken : List (List ℕ)) (token : List ℕ) (new : List (List ℕ)) (types : List ℕ) → TypeTexts (taken ++ token ∷ new) types → (t : ℕ) × TypeText token t
@@ -39,7 +39,7 @@ types_refused old new types fault why is known =
     type_excludes why.types fault why.token found.0 why.why found.1 known
 
 -- NSEC data
-pub nsec_refused : (old new after : List (List ℕ)) (fault : ScanFault) (labels : List (List ℕ)) (octets : List ℕ) → NsecRefused None None old new fault → NsecText old labels octets after → fault ≢ no_memory → ⊥
+pub nsec_refused : (old new after : List (List ℕ)) (fault : ScanFault) (labels : List (List ℕ)) (octets : List ℕ) → RefusesNsec None None old new fault → NsecText old labels octets after → fault ≢ no_memory → ⊥
 nsec_refused old new after fault labels octets (in_name why) is known = token_excludes name old new is.between labels fault why is.next_name known
 nsec_refused old new after fault labels octets (in_types others between takes why) is known =
     let same : is.between ≡ between = (let e = takes.first in let f = is.next_name.first in cc) in

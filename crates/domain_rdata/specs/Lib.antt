@@ -1,6 +1,6 @@
 pub mod Rdata
 pub mod Zone
-pub mod Text
+pub mod Scan
 pub mod Laws
 pub mod NsecText
 pub mod NsecConvert

@@ -1,28 +1,35 @@
 -- NSEC data as tokens and as pieces of a zone file
 use Rattle.std.specs.Prelude.{◌≡◌, ℕ, List, [], ◌∷◌, ◌++◌, codes, Option}
 use Rattle.domain_octets.specs.Piece.{PieceText, token, opens, closes}
-use Rattle.domain_base.specs.Scan.{ScanFault, TakesToken, RefusesToken, NameFault}
+use Rattle.domain_octets.specs.Words.{Octets}
+use Rattle.domain_base.specs.Scan.{ScanFault, TakesToken, RefusesToken, NameTextFault}
 use Rattle.domain_base.specs.Text.{NameText, name_text}
 use Rattle.domain_bitmap.specs.Bitmap.{bitmap_octets}
 use Rattle.domain_bitmap.specs.Blocks.{types_of}
 use Rattle.domain_bitmap.specs.Pieces.{type_pieces}
 use Rattle.domain_bitmap.specs.Scan.{TypeTexts, RefusesTypes, is_among}
-use Rattle.domain_base.specs.Words.{Tokens, Name}
+use Rattle.domain_base.specs.Words.{Tokens, Name, Rtypes}
 
 -- the tokens are a name, and then types to the end, one a token (RFC 4034, section 4.2)
-pub record NsecText (old : Tokens) (labels : Name) (octets : List ℕ) (new : Tokens) : Type 0 where
+pub record NsecText (old : Tokens) (labels : Name) (octets : Octets) (new : Tokens) : Type 0 where
   pub between : Tokens
   pub next_name : TakesToken (λ text. NameText text labels) old between
-  pub types : List ℕ
+  pub types : Rtypes
   pub spelled : TypeTexts between types
   pub built : octets ≡ bitmap_octets (is_among types)
   pub all : new ≡ []
 
--- the first token that is refused: the name's, where names have the first limit, or a type's, where bitmaps have the second
-pub data NsecRefused (names bitmaps : Option ℕ) (old new : Tokens) (fault : ScanFault) : Type 0 where
-  in_name : RefusesToken (NameFault names) old new fault → NsecRefused names bitmaps old new fault
-  in_types : (labels : Name) (between : Tokens) → TakesToken (λ text. NameText text labels) old between → RefusesTypes bitmaps between new fault → NsecRefused names bitmaps old new fault
+-- the first token that is refused: the name's, where names have the first limit, or a type's, where
+-- bitmaps have the second
+pub data RefusesNsec (names bitmaps : Option ℕ) (old new : Tokens)
+    (fault : ScanFault) : Type 0 where
+  in_name : RefusesToken (NameTextFault names) old new fault
+      → RefusesNsec names bitmaps old new fault
+  in_types : (labels : Name) (between : Tokens)
+      → TakesToken (λ text. NameText text labels) old between
+      → RefusesTypes bitmaps between new fault → RefusesNsec names bitmaps old new fault
 
 -- a block of the next name with its last dot and a token for each type
-abbrev pub nsec_pieces : Name → List ℕ → List PieceText
-nsec_pieces labels octets = opens ∷ token (name_text labels ++ codes ".") ∷ (type_pieces (types_of octets) ++ closes ∷ [])
+abbrev pub nsec_pieces : Name → Octets → List PieceText
+nsec_pieces labels octets =
+    opens ∷ token (name_text labels ++ codes ".") ∷ (type_pieces (types_of octets) ++ closes ∷ [])

@@ -1,21 +1,24 @@
--- why record data are refused, in the text form of their type or in the generic form (RFC 1035, section 5.1, and RFC 3597, section 5)
-use Rattle.std.specs.Prelude.{◌≡◌, ℕ, ◌<◌, ◌==◌, List, [], length, codes, Option, Some, None, IsNone, if◌then◌else◌}
+-- why record data are refused, in the text form of their type or in the generic form (RFC 1035,
+-- section 5.1, and RFC 3597, section 5)
+use Rattle.std.specs.Prelude.{◌≡◌, ℕ, ◌<◌, ◌==◌, [], length, codes, Option, Some, None, IsNone, if◌then◌else◌}
 use Rattle.domain_octets.specs.Limit.{IsOver}
+use Rattle.domain_octets.specs.Words.{Octets}
+use Rattle.domain_base.specs.Types as rtypes
 use Rattle.domain_base.specs.Fault.{Fault}
-use Rattle.domain_base.specs.Scan.{ScanFault, entry_ends, illegal, no_room, no_memory}
+use Rattle.domain_base.specs.Scan.{ScanFault, entry_ends, illegal, no_room, no_memory, Refusal}
 use Rattle.domain_plain.specs.Generic.{GenericText, GenericFault}
 use Rattle.domain_fields.specs.Layout.{Layout, Values, Begins}
 use Rattle.domain_plain.specs.Plain.{a, ns, soa, mx}
 use Rattle.domain_fields.specs.Scan.{Refuses}
 use Rattle.domain_keys.specs.Data.{dnskey, ds, rrsig}
-use Rattle.domain_keys.specs.Text.{RefusesDnskey, RefusesDs, RefusesRrsig}
-use Rattle.domain_rdata.specs.NsecText.{NsecRefused}
+use Rattle.domain_keys.specs.Scan.{RefusesDnskey, RefusesDs, RefusesRrsig}
+use Rattle.domain_rdata.specs.NsecText.{RefusesNsec}
 use Rattle.domain_rdata.specs.NsecWire.{BeginsNsec}
 use Rattle.domain_rdata.specs.Nsec3Text.{RefusesNsec3}
 use Rattle.domain_rdata.specs.Nsec3Wire.{BeginsNsec3}
 use Rattle.domain_rdata.specs.Nsec3paramText.{RefusesNsec3param}
 use Rattle.domain_rdata.specs.Rdata.{nsec, nsec3, nsec3param}
-use Rattle.domain_rdata.specs.Text.{IsGeneric}
+use Rattle.domain_rdata.specs.Scan.{IsGeneric}
 use Rattle.domain_base.specs.Words.{Tokens}
 
 -- how the data of a type are made up: of fields of one token each, or in a way of their own
@@ -31,35 +34,40 @@ pub data Kind : Type 0 where
 -- the types that have a text form of their own
 abbrev pub kind_of : ℕ → Option Kind
 kind_of rtype =
-    if rtype == 1 then Some (plain a)
-    else (if rtype == 2 then Some (plain ns)
-    else (if rtype == 6 then Some (plain soa)
-    else (if rtype == 15 then Some (plain mx)
-    else (if rtype == 48 then Some key
-    else (if rtype == 43 then Some digest
-    else (if rtype == 46 then Some signature
-    else (if rtype == 47 then Some next_by_name
-    else (if rtype == 50 then Some next_by_hash
-    else (if rtype == 51 then Some params
+    if rtype == rtypes.a then Some (plain a)
+    else (if rtype == rtypes.ns then Some (plain ns)
+    else (if rtype == rtypes.soa then Some (plain soa)
+    else (if rtype == rtypes.mx then Some (plain mx)
+    else (if rtype == rtypes.dnskey then Some key
+    else (if rtype == rtypes.ds then Some digest
+    else (if rtype == rtypes.rrsig then Some signature
+    else (if rtype == rtypes.nsec then Some next_by_name
+    else (if rtype == rtypes.nsec3 then Some next_by_hash
+    else (if rtype == rtypes.nsec3param then Some params
     else None)))))))))
 
--- the first field of that form that is refused, where octets have this limit, and the tokens that are left then
-abbrev pub RefusesKind : Option ℕ → Kind → Tokens → Tokens → ScanFault → Type 0
+-- the first field of that form that is refused, where octets have this limit, and the tokens that
+-- are left then
+abbrev pub RefusesKind : Option ℕ → Kind → Refusal
 RefusesKind limit (plain l) = Refuses limit l
 RefusesKind limit key = RefusesDnskey limit
 RefusesKind limit digest = RefusesDs limit
 RefusesKind limit signature = RefusesRrsig limit
-RefusesKind limit next_by_name = NsecRefused limit limit
+RefusesKind limit next_by_name = RefusesNsec limit limit
 RefusesKind limit next_by_hash = RefusesNsec3 limit
 RefusesKind limit params = RefusesNsec3param limit
 
--- tokens are refused as the text form of a type: at a field of that form, or, before any token is taken, since the type has none
-pub data OwnRefused (limit : Option ℕ) (rtype : ℕ) (old new : Tokens) (fault : ScanFault) : Type 0 where
-  at_field : (kind : Kind) → kind_of rtype ≡ Some kind → RefusesKind limit kind old new fault → OwnRefused limit rtype old new fault
-  no_form : kind_of rtype ≡ None → fault ≡ illegal (codes "unknown record data") → new ≡ old → OwnRefused limit rtype old new fault
+-- tokens are refused as the text form of a type: at a field of that form, or, before any token is
+-- taken, since the type has none
+pub data RefusesOwn (limit : Option ℕ) (rtype : ℕ) (old new : Tokens)
+    (fault : ScanFault) : Type 0 where
+  at_field : (kind : Kind) → kind_of rtype ≡ Some kind → RefusesKind limit kind old new fault
+      → RefusesOwn limit rtype old new fault
+  no_form : kind_of rtype ≡ None → fault ≡ illegal (codes "unknown record data") → new ≡ old
+      → RefusesOwn limit rtype old new fault
 
 -- all the octets are data of a kind on the wire
-abbrev pub AreOfKind : Kind → List ℕ → Type 0
+abbrev pub AreOfKind : Kind → Octets → Type 0
 AreOfKind (plain l) wire = (v : Values l) × Begins l wire v []
 AreOfKind key wire = (v : Values dnskey) × Begins dnskey wire v []
 AreOfKind digest wire = (v : Values ds) × Begins ds wire v []
@@ -69,7 +77,7 @@ AreOfKind next_by_hash wire = (v : Values nsec3) × BeginsNsec3 wire v []
 AreOfKind params wire = (v : Values nsec3param) × Begins nsec3param wire v []
 
 -- the parts of those data that are held as octets of their own
-pub data IsPart (wire : List ℕ) : Kind → List ℕ → Type 0 where
+pub data IsPart (wire : Octets) : Kind → Octets → Type 0 where
   of_key : (v : Values dnskey) → Begins dnskey wire v [] → IsPart wire key v.1.1.1.1
   of_digest : (v : Values ds) → Begins ds wire v [] → IsPart wire digest v.1.1.1.1
   of_signature : (v : Values rrsig) → Begins rrsig wire v [] → IsPart wire signature v.1.1
@@ -80,31 +88,39 @@ pub data IsPart (wire : List ℕ) : Kind → List ℕ → Type 0 where
   salt : (v : Values nsec3param) → Begins nsec3param wire v [] → IsPart wire params v.1
 
 -- why octets are not copied into octets that have this limit
-abbrev pub CopyFault : Option ℕ → List ℕ → ScanFault → Type 0
+abbrev pub CopyFault : Option ℕ → Octets → ScanFault → Type 0
 CopyFault limit octets entry_ends = ⊥
 CopyFault limit octets (illegal said) = ⊥
 CopyFault limit octets no_room = IsOver limit (length octets)
 CopyFault limit octets no_memory = IsNone limit
 
 -- why octets are not data and nothing else: they have a fault, or go on after the data
-pub data IsNotWhole {D : Type 0} (begins : List ℕ → D → List ℕ → Type 0)
-    (faults : List ℕ → Fault → Type 0) (octets : List ℕ) : Type 0 where
+pub data IsNotWhole {D : Type 0} (begins : Octets → D → Octets → Type 0)
+    (faults : Octets → Fault → Type 0) (octets : Octets) : Type 0 where
   at_fault : (fault : Fault) → faults octets fault → IsNotWhole begins faults octets
-  goes_on : (d : D) (after : List ℕ) → begins octets d after → 0 < length after
+  goes_on : (d : D) (after : Octets) → begins octets d after → 0 < length after
       → IsNotWhole begins faults octets
 
--- why the octets of a generic form are not turned into data over octets that have this limit: they are no such data, or they are, and a part has no room or no memory;
--- those of a type that has no text form of its own are not refused, since any octets are its data
-abbrev pub OctetsFault : Option ℕ → Option Kind → List ℕ → ScanFault → Type 0
+-- why the octets of a generic form are not turned into data over octets that have this limit: they
+-- are no such data, or they are, and a part has no room or no memory; those of a type that has no
+-- text form of its own are not refused, since any octets are its data
+abbrev pub OctetsFault : Option ℕ → Option Kind → Octets → ScanFault → Type 0
 OctetsFault limit None wire fault = ⊥
 OctetsFault limit (Some kind) wire entry_ends = ⊥
-OctetsFault limit (Some kind) wire (illegal said) = (said ≡ codes "illegal data") × (AreOfKind kind wire → ⊥)
-OctetsFault limit (Some kind) wire no_room = (part : List ℕ) × IsPart wire kind part × IsOver limit (length part)
+OctetsFault limit (Some kind) wire (illegal said) =
+    (said ≡ codes "illegal data") × (AreOfKind kind wire → ⊥)
+OctetsFault limit (Some kind) wire no_room =
+    (part : Octets) × IsPart wire kind part × IsOver limit (length part)
 OctetsFault limit (Some kind) wire no_memory = AreOfKind kind wire
 
--- why tokens are refused as data of a type, where octets have this limit, and the tokens that are left then: the mark of the generic form at their head decides what they are held to;
--- text in that form may still hold octets that are no data of the type
-pub data RdataRefused (limit : Option ℕ) (rtype : ℕ) (old new : Tokens) (fault : ScanFault) : Type 0 where
-  in_own : (IsGeneric old → ⊥) → OwnRefused limit rtype old new fault → RdataRefused limit rtype old new fault
-  in_generic : IsGeneric old → GenericFault limit old new fault → RdataRefused limit rtype old new fault
-  in_octets : (wire : List ℕ) → GenericText old wire → new ≡ [] → OctetsFault limit (kind_of rtype) wire fault → RdataRefused limit rtype old new fault
+-- why tokens are refused as data of a type, where octets have this limit, and the tokens that are
+-- left then: the mark of the generic form at their head decides what they are held to; text in that
+-- form may still hold octets that are no data of the type
+pub data RefusesRdata (limit : Option ℕ) (rtype : ℕ) (old new : Tokens)
+    (fault : ScanFault) : Type 0 where
+  in_own : (IsGeneric old → ⊥) → RefusesOwn limit rtype old new fault
+      → RefusesRdata limit rtype old new fault
+  in_generic : IsGeneric old → GenericFault limit old new fault
+      → RefusesRdata limit rtype old new fault
+  in_octets : (wire : Octets) → GenericText old wire → new ≡ []
+      → OctetsFault limit (kind_of rtype) wire fault → RefusesRdata limit rtype old new fault

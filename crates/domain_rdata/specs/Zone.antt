@@ -1,9 +1,11 @@
 -- data of all types as one type
-use Rattle.std.specs.Prelude.{ℕ, List}
+use Rattle.std.specs.Prelude.{ℕ}
 use Rattle.std.specs.declared.cmp.Ordering.{Ordering}
 use Rattle.std.specs.Ordering.{nat_cmp, on, then_cmp}
 use Rattle.std.specs.Cmp.{IsTotalOrder, on_total, then_total, nat_cmp_total}
 use Rattle.std.specs.Cmp.Lexicographic.{slice_cmp, on_texts}
+use Rattle.domain_octets.specs.Words.{Octets}
+use Rattle.domain_base.specs.Types as rtypes
 use Rattle.domain_fields.specs.Layout.{octets_of, canonical_of}
 use Rattle.domain_plain.specs.Plain.{a, a_values, ns, ns_values, soa, soa_values, mx, mx_values, unknown, unknown_values}
 use Rattle.domain_keys.specs.Data.{dnskey_octets, ds_octets, rrsig_octets, rrsig_canonical}
@@ -14,20 +16,20 @@ use Rattle.domain_base.specs.Words.{Name}
 
 -- the number of the data's type
 abbrev pub rtype_of : {O N : Type 0} → ZoneRecordData O N → ℕ
-rtype_of (A d) = 1
-rtype_of (Ns d) = 2
-rtype_of (Soa d) = 6
-rtype_of (Mx d) = 15
-rtype_of (Dnskey d) = 48
-rtype_of (Ds d) = 43
-rtype_of (Rrsig d) = 46
-rtype_of (Nsec d) = 47
-rtype_of (Nsec3 d) = 50
-rtype_of (Nsec3param d) = 51
+rtype_of (A d) = rtypes.a
+rtype_of (Ns d) = rtypes.ns
+rtype_of (Soa d) = rtypes.soa
+rtype_of (Mx d) = rtypes.mx
+rtype_of (Dnskey d) = rtypes.dnskey
+rtype_of (Ds d) = rtypes.ds
+rtype_of (Rrsig d) = rtypes.rrsig
+rtype_of (Nsec d) = rtypes.nsec
+rtype_of (Nsec3 d) = rtypes.nsec3
+rtype_of (Nsec3param d) = rtypes.nsec3param
 rtype_of (Unknown d) = d.rtype
 
 -- the octets of the data on the wire
-abbrev pub wire_octets : {O N : Type 0} → (O → List ℕ) → (N → Name) → ZoneRecordData O N → List ℕ
+abbrev pub wire_octets : {O N : Type 0} → (O → Octets) → (N → Name) → ZoneRecordData O N → Octets
 wire_octets octets labels (A d) = octets_of a (a_values d)
 wire_octets octets labels (Ns d) = octets_of ns (ns_values labels d)
 wire_octets octets labels (Soa d) = octets_of soa (soa_values labels d)
@@ -41,7 +43,8 @@ wire_octets octets labels (Nsec3param d) = nsec3param_octets d
 wire_octets octets labels (Unknown d) = octets_of unknown (unknown_values octets d)
 
 -- the octets of their canonical form (RFC 4034, section 6.2)
-abbrev pub canonical_octets : {O N : Type 0} → (O → List ℕ) → (N → Name) → ZoneRecordData O N → List ℕ
+abbrev pub canonical_octets : {O N : Type 0} → (O → Octets) → (N → Name)
+    → ZoneRecordData O N → Octets
 canonical_octets octets labels (A d) = canonical_of a (a_values d)
 canonical_octets octets labels (Ns d) = canonical_of ns (ns_values labels d)
 canonical_octets octets labels (Soa d) = canonical_of soa (soa_values labels d)
@@ -55,8 +58,12 @@ canonical_octets octets labels (Nsec3param d) = nsec3param_octets d
 canonical_octets octets labels (Unknown d) = canonical_of unknown (unknown_values octets d)
 
 -- by the number of the type, and then by canonical octets
-abbrev pub data_cmp : {O N : Type 0} → (O → List ℕ) → (N → Name) → ZoneRecordData O N → ZoneRecordData O N → Ordering
-data_cmp octets labels = then_cmp (on rtype_of nat_cmp) (on (canonical_octets octets labels) (slice_cmp nat_cmp))
+abbrev pub data_cmp : {O N : Type 0} → (O → Octets) → (N → Name) → ZoneRecordData O N
+    → ZoneRecordData O N → Ordering
+data_cmp octets labels =
+    then_cmp (on rtype_of nat_cmp) (on (canonical_octets octets labels) (slice_cmp nat_cmp))
 
-pub data_cmp_total : {O N : Type 0} (octets : O → List ℕ) (labels : N → Name) → IsTotalOrder (data_cmp octets labels)
-data_cmp_total octets labels = then_total (on_total rtype_of nat_cmp_total) (on_texts (canonical_octets octets labels))
+pub data_cmp_total : {O N : Type 0} (octets : O → Octets) (labels : N → Name)
+    → IsTotalOrder (data_cmp octets labels)
+data_cmp_total octets labels =
+    then_total (on_total rtype_of nat_cmp_total) (on_texts (canonical_octets octets labels))

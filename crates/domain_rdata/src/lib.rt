@@ -1,12 +1,15 @@
 //! Data of DNSSEC records, and data of all types as one type.
 //!
-//! `Nsec` is the data of RFC 4034, section 4, `Nsec3` and `Nsec3param` that of RFC 5155, sections 3 and 4. `ZoneRecordData` holds the data of any type; types that have no variant of their own are held as octets (RFC 3597).
+//! `Nsec` is the data of RFC 4034, section 4, `Nsec3` and `Nsec3param` that of RFC 5155, sections 3
+//! and 4. `ZoneRecordData` holds the data of any type; types that have no variant of their own are
+//! held as octets (RFC 3597).
 //!
-//! The data of other types, records and the traits of data come from the crates below, and are named
-//! here too, so that a user of record data names this crate alone.
+//! The data of other types, records and the traits of data come from the crates below, and are
+//! named here too, so that a user of record data names this crate alone.
 //!
-//! The crates above may rely on this: data of all types is ordered by type and then by canonical octets, also between data that is known and the same
-//! octets held as unknown, and the order takes no memory.
+//! The crates above may rely on this: data of all types is ordered by type and then by canonical
+//! octets, also between data that is known and the same octets held as unknown, and the order takes
+//! no memory.
 #![tactic(auto)]
 
 pub mod laws;

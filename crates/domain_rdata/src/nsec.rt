@@ -2,6 +2,7 @@
 ghost use Rattle.std.specs.Prelude.{◌≡◌};
 ghost use Rattle.std.specs.Ordering.{on, nat_cmp};
 ghost use Rattle.std.specs.Cmp.Lexicographic.{slice_cmp, on_texts};
+ghost use Rattle.domain_base.specs.Types as rtypes;
 ghost use Rattle.domain_fields.specs.Layout.{octets_of, canonical_of};
 ghost use Rattle.domain_rdata.specs.Rdata.{nsec, nsec_values};
 
@@ -70,7 +71,7 @@ impl<O: Octets, N: ToName> Nsec<O, N> {
 }
 
 impl<O: Octets, N: ToName> RecordData for Nsec<O, N> {
-    ghost rtype = { λ _. 47 };
+    ghost rtype = { λ _. rtypes.nsec };
 
     fn rtype(&self) -> Rtype {
         Rtype::NSEC
@@ -104,7 +105,8 @@ impl<O: Octets, N: ToName> ComposeRecordData for Nsec<O, N> {
 }
 
 impl<O: Octets, N: ToName> CanonicalOrd for Nsec<O, N> {
-    ghost canonical_cmp = { on (λ d. canonical_of nsec (nsec_values N.labels d)) (slice_cmp nat_cmp) };
+    ghost canonical_cmp = { on (λ d. canonical_of nsec (nsec_values N.labels d))
+        (slice_cmp nat_cmp) };
 
     ghost total = { on_texts (λ d. canonical_of nsec (nsec_values N.labels d)) };
 

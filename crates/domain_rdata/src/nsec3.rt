@@ -2,6 +2,7 @@
 ghost use Rattle.std.specs.Prelude.{◌≡◌};
 ghost use Rattle.std.specs.Ordering.{on, nat_cmp};
 ghost use Rattle.std.specs.Cmp.Lexicographic.{slice_cmp, on_texts};
+ghost use Rattle.domain_base.specs.Types as rtypes;
 ghost use Rattle.domain_fields.specs.Layout.{Fits};
 ghost use Rattle.domain_rdata.specs.OptOut.{is_opt_out};
 ghost use Rattle.domain_rdata.specs.Rdata.{hash_numbers, nsec3, nsec3_values, nsec3_octets, nsec3param_values};
@@ -15,7 +16,8 @@ use domain_octets::{AppendError, Octets, OctetsBuilder};
 use domain_plain::{ComposeRecordData, RecordData};
 use std::cmp::Ordering;
 
-/// The next hash of a zone's chain, how names are hashed, and the types at the name that this one is the hash of (RFC 5155, section 3).
+/// The next hash of a zone's chain, how names are hashed, and the types at the name that this one
+/// is the hash of (RFC 5155, section 3).
 #[derive(Drop)]
 pub struct Nsec3<O: Octets> {
     hash_algorithm: Nsec3HashAlgorithm,
@@ -39,7 +41,14 @@ impl<O: Octets> Nsec3<O> {
         next_owner: OwnerHash<O>,
         types: RtypeBitmap<O>,
     ) -> Self
-        ensures { result ≡ record { hash_algorithm = hash_algorithm; flags = flags; iterations = iterations; salt = salt; next_owner = next_owner; types = types } }
+        ensures { result ≡ record {
+          hash_algorithm = hash_algorithm;
+          flags = flags;
+          iterations = iterations;
+          salt = salt;
+          next_owner = next_owner;
+          types = types;
+        } }
     {
         Nsec3 {
             hash_algorithm,
@@ -93,7 +102,8 @@ impl<O: Octets> Nsec3<O> {
         self.flags
     }
 
-    /// Whether the bit of opt-out, 0x01, is set: unsigned delegations may be left out between this hash and the next (RFC 5155, section 3.1.2.1).
+    /// Whether the bit of opt-out, 0x01, is set: unsigned delegations may be left out between this
+    /// hash and the next (RFC 5155, section 3.1.2.1).
     pub fn opt_out(&self) -> bool
         ensures { result ≡ is_opt_out self.now.flags }
     {
@@ -149,7 +159,8 @@ impl<O: Octets> Nsec3<O> {
     /// The first three fields.
     pub(crate) fn numbers(&self) -> HashNumbers
         ensures value { result ≡ (self.now.hash_algorithm, (self.now.flags, self.now.iterations)) }
-        ensures fits { Fits hash_numbers (self.now.hash_algorithm, (self.now.flags, self.now.iterations)) }
+        ensures fits { Fits hash_numbers
+            (self.now.hash_algorithm, (self.now.flags, self.now.iterations)) }
     {
         (
             self.hash_algorithm().to_int(),
@@ -159,8 +170,12 @@ impl<O: Octets> Nsec3<O> {
 
     /// The fields, in the order of the wire.
     pub(crate) fn fields(&self) -> Nsec3Fields<'_>
-        ensures numbers { result.0.0.0 ≡ (self.now.hash_algorithm, (self.now.flags, self.now.iterations)) }
-        ensures hashed { (result.0.0.1.octets.now ≡ self.now.salt) × (result.0.1.octets.now ≡ self.now.next_owner) }
+        ensures numbers { result.0.0.0 ≡ (
+          self.now.hash_algorithm,
+          (self.now.flags, self.now.iterations),
+        ) }
+        ensures hashed { (result.0.0.1.octets.now ≡ self.now.salt)
+            × (result.0.1.octets.now ≡ self.now.next_owner) }
         ensures types { result.1.0.now ≡ self.now.types }
         ensures fits { Fits nsec3 (nsec3_values self.now) }
     {
@@ -174,7 +189,7 @@ impl<O: Octets> Nsec3<O> {
 }
 
 impl<O: Octets> RecordData for Nsec3<O> {
-    ghost rtype = { λ _. 50 };
+    ghost rtype = { λ _. rtypes.nsec3 };
 
     fn rtype(&self) -> Rtype {
         Rtype::NSEC3

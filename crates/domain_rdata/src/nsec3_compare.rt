@@ -23,7 +23,8 @@ impl<O: Octets> Nsec3<O> {
         self.fields().order(&other.fields()).is_eq()
     }
 
-    /// The order by the fields in the order of the wire, shorter salts and hashes first, also of data over other octets. This is the order of the octets. Takes no memory.
+    /// The order by the fields in the order of the wire, shorter salts and hashes first, also of
+    /// data over other octets. This is the order of the octets. Takes no memory.
     pub fn cmp_to<P: Octets>(&self, other: &Nsec3<P>) -> Ordering
         ensures { result ≡ slice_cmp nat_cmp (nsec3_octets self.now) (nsec3_octets other.now) }
     {

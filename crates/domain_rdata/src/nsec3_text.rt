@@ -23,8 +23,11 @@ fn scan_hash<O: FromBuilder + Drop, S: Scanner<Octets = O>>(
     alloc: Global,
     scanner: &mut S,
 ) -> Result<(Nsec3param<O>, OwnerHash<O>), ScanError>
-    ensures ok { IfOk result (λ v. HashText (S.tokens scanner.old) (nsec3param_values v.0, v.1) (S.tokens scanner.new)) }
-    ensures err { IfErr result (λ e. RefusesHash O.Builder.limit (S.tokens scanner.old) (S.tokens scanner.new) (scan_fault_of e)) }
+    ensures ok { IfOk result (λ v.
+        HashText (S.tokens scanner.old) (nsec3param_values v.0, v.1) (S.tokens scanner.new)) }
+    ensures err { IfErr result (λ e.
+        RefusesHash O.Builder.limit (S.tokens scanner.old) (S.tokens scanner.new)
+        (scan_fault_of e)) }
 {
     let params = match Nsec3param::scan(alloc, scanner) {
         Ok(params) => params,
@@ -40,17 +43,23 @@ impl<O: FromBuilder + Drop> Nsec3<O>
 where
     O::Builder: EmptyBuilder + Truncate + FreezeBuilder<Frozen = O> + Drop,
 {
-    /// The data that all tokens that are left spell: hash algorithm, flags and iterations in decimal, the salt in Base 16 or as a dash, the next hash in Base 32 hex, and then types,
-    /// one each.
+    /// The data that all tokens that are left spell: hash algorithm, flags and iterations in
+    /// decimal, the salt in Base 16 or as a dash, the next hash in Base 32 hex, and then types, one
+    /// each.
     ///
     /// # Errors
     ///
-    /// That of the first token that is refused: `EndOfEntry` where there is none, `Custom("decimal number expected")`, what `scan` of the salt and of the hash says,
-    /// `Custom("unknown record type")`, `ShortBuf` and `OutOfMemory` where the bitmap has no room or no memory. The tokens left are then an end of those before.
+    /// That of the first token that is refused: `EndOfEntry` where there is none,
+    /// `Custom("decimal number expected")`, what `scan` of the salt and of the hash says,
+    /// `Custom("unknown record type")`, `ShortBuf` and `OutOfMemory` where the bitmap has no room
+    /// or no memory. The tokens left are then an end of those before.
     pub fn scan<S: Scanner<Octets = O>>(alloc: Global, scanner: &mut S) -> Result<Self, ScanError>
-        ensures ok { IfOk result (λ d. Nsec3Text (S.tokens scanner.old) (nsec3_values d) (S.tokens scanner.new)) }
+        ensures ok { IfOk result (λ d.
+            Nsec3Text (S.tokens scanner.old) (nsec3_values d) (S.tokens scanner.new)) }
         ensures fits { IfOk result (λ d. Fits nsec3 (nsec3_values d)) }
-        ensures err { IfErr result (λ e. RefusesNsec3 O.Builder.limit (S.tokens scanner.old) (S.tokens scanner.new) (scan_fault_of e)) }
+        ensures err { IfErr result (λ e.
+            RefusesNsec3 O.Builder.limit (S.tokens scanner.old) (S.tokens scanner.new)
+            (scan_fault_of e)) }
     {
         let (params, next_owner) = match scan_hash(alloc, scanner) {
             Ok(hashed) => hashed,
@@ -122,7 +131,8 @@ impl<O: Octets> fmt::Debug for Nsec3<O> {
     }
 }
 
-/// The fields, with comments on the flags, of which it names opt-out alone, the iterations and the salt.
+/// The fields, with comments on the flags, of which it names opt-out alone, the iterations and the
+/// salt.
 impl<O: Octets> ZonefileFmt for Nsec3<O> {
     ghost pieces = { λ d. nsec3_pieces (nsec3_values d) };
 

@@ -1,6 +1,7 @@
 //! NSEC3 data on the wire (RFC 5155, section 3.2).
 ghost use Rattle.std.specs.Prelude.{◌≡◌, IfOk, IfErr, OnErr};
 ghost use Rattle.domain_base.specs.Fault.{fault_of};
+ghost use Rattle.domain_base.specs.Types as rtypes;
 ghost use Rattle.domain_fields.specs.Layout.{Begins, FirstFault, GoesOn};
 ghost use Rattle.domain_rdata.specs.Nsec3Wire.{BeginsNsec3, Nsec3Fault};
 ghost use Rattle.domain_rdata.specs.Rdata.{hash_fields, nsec3_values, nsec3param_values};
@@ -17,7 +18,8 @@ use domain_plain::ParseRecordData;
 fn parse_hash<'a>(
     parser: &mut Parser<'a>,
 ) -> Result<(Nsec3param<&'a [u8]>, OwnerHash<&'a [u8]>), ParseError>
-    ensures ok { IfOk result (λ v. Begins hash_fields parser.old.left (nsec3param_values v.0, v.1) parser.new.left) }
+    ensures ok { IfOk result (λ v.
+        Begins hash_fields parser.old.left (nsec3param_values v.0, v.1) parser.new.left) }
     ensures err { IfErr result (λ e. FirstFault hash_fields parser.old.left (fault_of e)) }
     ensures unmoved { OnErr result (parser.new ≡ parser.old) }
     ensures goes_on { GoesOn parser.old parser.new }
@@ -32,15 +34,17 @@ fn parse_hash<'a>(
 }
 
 impl<'a> Nsec3<&'a [u8]> {
-    /// The data that all octets that are left are: hash algorithm, flags, iterations, a counted salt, a counted hash, and then a type bitmap (RFC 5155, section 3.2). Takes no
-    /// memory.
+    /// The data that all octets that are left are: hash algorithm, flags, iterations, a counted
+    /// salt, a counted hash, and then a type bitmap (RFC 5155, section 3.2). Takes no memory.
     ///
     /// # Errors
     ///
-    /// The first fault in field order: a missing octet is `ShortInput`; of the bitmap, a block of no or over 32 octets is `Form("invalid NSEC bitmap")`. The parser then stands
-    /// where it stood.
+    /// The first fault in field order: a missing octet is `ShortInput`; of the bitmap, a block of
+    /// no or over 32 octets is `Form("invalid NSEC bitmap")`. The parser then stands where it
+    /// stood.
     pub fn parse(parser: &mut Parser<'a>) -> Result<Self, ParseError>
-        ensures ok { IfOk result (λ d. BeginsNsec3 parser.old.left (nsec3_values d) parser.new.left) }
+        ensures ok { IfOk result (λ d.
+            BeginsNsec3 parser.old.left (nsec3_values d) parser.new.left) }
         ensures err { IfErr result (λ e. Nsec3Fault parser.old.left (fault_of e)) }
         ensures unmoved { OnErr result (parser.new ≡ parser.old) }
         ensures goes_on { GoesOn parser.old parser.new }
@@ -61,7 +65,7 @@ impl<'a> Nsec3<&'a [u8]> {
 }
 
 impl<'a> ParseRecordData<'a> for Nsec3<&'a [u8]> {
-    ghost is_read = { λ rtype. rtype ≡ 50 };
+    ghost is_read = { λ rtype. rtype ≡ rtypes.nsec3 };
 
     ghost begins = { λ octets d after. BeginsNsec3 octets (nsec3_values d) after };
 

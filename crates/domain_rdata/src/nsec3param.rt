@@ -7,6 +7,7 @@ ghost use Rattle.std.specs.Cmp.Lexicographic.{slice_cmp, on_texts, on_texts_equa
 ghost use Rattle.std.specs.Hash as fed;
 ghost use Rattle.domain_octets.specs.Limit.{IsOver};
 ghost use Rattle.domain_base.specs.Fault.{fault_of};
+ghost use Rattle.domain_base.specs.Types as rtypes;
 ghost use Rattle.domain_fields.specs.Layout.{Begins, Fits, FirstFault, GoesOn};
 ghost use Rattle.domain_fields.specs.Laws.{fed_alike, tied_octets};
 ghost use Rattle.domain_keys.specs.Laws.{copies_tied};
@@ -25,7 +26,8 @@ use std::alloc::Global;
 use std::cmp::Ordering;
 use std::hash::{Hash, Hasher};
 
-/// The bit of the flags that says that unsigned delegations may be left out of the chain (RFC 5155, section 3.1.2.1).
+/// The bit of the flags that says that unsigned delegations may be left out of the chain (RFC 5155,
+/// section 3.1.2.1).
 const OPT_OUT: u8 = 0x01;
 
 /// How the names of a zone are hashed (RFC 5155, section 4).
@@ -58,7 +60,12 @@ impl<O: Octets> Nsec3param<O> {
         iterations: u16,
         salt: Nsec3Salt<O>,
     ) -> Self
-        ensures { result ≡ record { hash_algorithm = hash_algorithm; flags = flags; iterations = iterations; salt = salt } }
+        ensures { result ≡ record {
+          hash_algorithm = hash_algorithm;
+          flags = flags;
+          iterations = iterations;
+          salt = salt;
+        } }
     {
         Nsec3param {
             hash_algorithm,
@@ -68,7 +75,8 @@ impl<O: Octets> Nsec3param<O> {
         }
     }
 
-    /// SHA-1, no flags, no extra iterations and no salt, as RFC 9276, section 3.1, asks of zones. Takes no memory.
+    /// SHA-1, no flags, no extra iterations and no salt, as RFC 9276, section 3.1, asks of zones.
+    /// Takes no memory.
     pub fn default(alloc: Global) -> Self
     where
         O: EmptyOctets,
@@ -156,7 +164,8 @@ impl<O: Octets> Nsec3param<O> {
     /// The fields but the salt.
     pub(crate) fn numbers(&self) -> HashNumbers
         ensures value { result ≡ (self.now.hash_algorithm, (self.now.flags, self.now.iterations)) }
-        ensures fits { Fits hash_numbers (self.now.hash_algorithm, (self.now.flags, self.now.iterations)) }
+        ensures fits { Fits hash_numbers
+            (self.now.hash_algorithm, (self.now.flags, self.now.iterations)) }
     {
         (
             self.hash_algorithm().to_int(),
@@ -166,7 +175,10 @@ impl<O: Octets> Nsec3param<O> {
 
     /// The fields, in the order of the wire.
     pub(crate) fn fields(&self) -> ParamFields<'_>
-        ensures numbers { result.0 ≡ (self.now.hash_algorithm, (self.now.flags, self.now.iterations)) }
+        ensures numbers { result.0 ≡ (
+          self.now.hash_algorithm,
+          (self.now.flags, self.now.iterations),
+        ) }
         ensures salt { result.1.octets.now ≡ self.now.salt }
         ensures fits { Fits nsec3param (nsec3param_values self.now) }
     {
@@ -175,7 +187,10 @@ impl<O: Octets> Nsec3param<O> {
 
     /// The numbers, and the octets of the salt.
     fn uncounted(&self) -> (HashNumbers, Rest<'_>)
-        ensures numbers { result.0 ≡ (self.now.hash_algorithm, (self.now.flags, self.now.iterations)) }
+        ensures numbers { result.0 ≡ (
+          self.now.hash_algorithm,
+          (self.now.flags, self.now.iterations),
+        ) }
         ensures salt { result.1.0.now ≡ self.now.salt }
         ensures fits { Fits uncounted (nsec3param_values self.now) }
     {
@@ -197,13 +212,15 @@ pub fn params_of<'a>(fields: ParamFields<'a>) -> Nsec3param<&'a [u8]>
 }
 
 impl<'a> Nsec3param<&'a [u8]> {
-    /// The data that the octets begin with (RFC 5155, section 4.2); what follows is left. Takes no memory.
+    /// The data that the octets begin with (RFC 5155, section 4.2); what follows is left. Takes no
+    /// memory.
     ///
     /// # Errors
     ///
     /// `ShortInput` where an octet is missing. The parser then stands where it stood.
     pub fn parse(parser: &mut Parser<'a>) -> Result<Self, ParseError>
-        ensures ok { IfOk result (λ d. Begins nsec3param parser.old.left (nsec3param_values d) parser.new.left) }
+        ensures ok { IfOk result (λ d.
+            Begins nsec3param parser.old.left (nsec3param_values d) parser.new.left) }
         ensures err { IfErr result (λ e. FirstFault nsec3param parser.old.left (fault_of e)) }
         ensures unmoved { OnErr result (parser.new ≡ parser.old) }
         ensures goes_on { GoesOn parser.old parser.new }
@@ -216,7 +233,7 @@ impl<'a> Nsec3param<&'a [u8]> {
 }
 
 impl<'a> ParseRecordData<'a> for Nsec3param<&'a [u8]> {
-    ghost is_read = { λ rtype. rtype ≡ 51 };
+    ghost is_read = { λ rtype. rtype ≡ rtypes.nsec3param };
 
     ghost begins = { λ octets d after. Begins nsec3param octets (nsec3param_values d) after };
 
@@ -234,7 +251,7 @@ impl<'a> ParseRecordData<'a> for Nsec3param<&'a [u8]> {
 }
 
 impl<O: Octets> RecordData for Nsec3param<O> {
-    ghost rtype = { λ _. 51 };
+    ghost rtype = { λ _. rtypes.nsec3param };
 
     fn rtype(&self) -> Rtype {
         Rtype::NSEC3PARAM
@@ -276,17 +293,21 @@ impl<O: Octets> Nsec3param<O> {
         self.uncounted().order(&other.uncounted()).is_eq()
     }
 
-    /// The order by hash algorithm, flags, iterations and salt, salts in lexicographic order, also of parameters over other octets. Takes no memory.
+    /// The order by hash algorithm, flags, iterations and salt, salts in lexicographic order, also
+    /// of parameters over other octets. Takes no memory.
     pub fn cmp_to<P: Octets>(&self, other: &Nsec3param<P>) -> Ordering
-        ensures { result ≡ slice_cmp nat_cmp (uncounted_octets self.now) (uncounted_octets other.now) }
+        ensures { result ≡ slice_cmp nat_cmp (uncounted_octets self.now)
+            (uncounted_octets other.now) }
     {
         let (mine, theirs) = (self.uncounted(), other.uncounted());
         mine.order(&theirs)
     }
 
-    /// The canonical order, in which shorter salts come first, also of parameters over other octets. Takes no memory.
+    /// The canonical order, in which shorter salts come first, also of parameters over other
+    /// octets. Takes no memory.
     pub fn canonical_cmp_to<P: Octets>(&self, other: &Nsec3param<P>) -> Ordering
-        ensures { result ≡ slice_cmp nat_cmp (nsec3param_octets self.now) (nsec3param_octets other.now) }
+        ensures { result ≡ slice_cmp nat_cmp (nsec3param_octets self.now)
+            (nsec3param_octets other.now) }
     {
         self.fields().order(&other.fields())
     }

@@ -17,22 +17,29 @@ use std::fmt;
 
 /// Hash algorithm, flags and iterations, one token each.
 fn scan_numbers<S: Scanner>(alloc: Global, scanner: &mut S) -> Result<HashNumbers, ScanError>
-    ensures ok { IfOk result (λ v. Scans hash_numbers (S.tokens scanner.old) v (S.tokens scanner.new)) }
-    ensures err { IfErr result (λ e. Refuses S.Octets.Builder.limit hash_numbers (S.tokens scanner.old) (S.tokens scanner.new) (scan_fault_of e)) }
+    ensures ok { IfOk result (λ v.
+        Scans hash_numbers (S.tokens scanner.old) v (S.tokens scanner.new)) }
+    ensures err { IfErr result (λ e.
+        Refuses S.Octets.Builder.limit hash_numbers (S.tokens scanner.old) (S.tokens scanner.new)
+        (scan_fault_of e)) }
 {
     <HashNumbers as ScanFields<S>>::scan(alloc, scanner)
 }
 
 impl<O: FromBuilder + Drop> Nsec3param<O> {
-    /// The data that the tokens begin with: hash algorithm, flags and iterations in decimal, and the salt in Base 16 or as a dash.
+    /// The data that the tokens begin with: hash algorithm, flags and iterations in decimal, and
+    /// the salt in Base 16 or as a dash.
     ///
     /// # Errors
     ///
     /// That of the first field that is refused. The tokens left are then an end of those before.
     pub fn scan<S: Scanner<Octets = O>>(alloc: Global, scanner: &mut S) -> Result<Self, ScanError>
-        ensures ok { IfOk result (λ d. Nsec3paramText (S.tokens scanner.old) (nsec3param_values d) (S.tokens scanner.new)) }
+        ensures ok { IfOk result (λ d.
+            Nsec3paramText (S.tokens scanner.old) (nsec3param_values d) (S.tokens scanner.new)) }
         ensures fits { IfOk result (λ d. Fits nsec3param (nsec3param_values d)) }
-        ensures err { IfErr result (λ e. RefusesNsec3param O.Builder.limit (S.tokens scanner.old) (S.tokens scanner.new) (scan_fault_of e)) }
+        ensures err { IfErr result (λ e.
+            RefusesNsec3param O.Builder.limit (S.tokens scanner.old) (S.tokens scanner.new)
+            (scan_fault_of e)) }
     {
         let (hash_algorithm, (flags, iterations)) = match scan_numbers(alloc, scanner) {
             Ok(numbers) => numbers,
@@ -91,7 +98,8 @@ pub fn write_numbers<F: Formatter>(
     flags_comment: &str,
     formatter: &mut F,
 ) -> Result<(), OutOfMemory>
-    ensures { OnOk result (F.pieces formatter.new ≡ F.pieces formatter.old ++ number_pieces flags_comment.now numbers) }
+    ensures { OnOk result (F.pieces formatter.new ≡ F.pieces formatter.old
+        ++ number_pieces flags_comment.now numbers) }
 {
     let (hash_algorithm, (flags, iterations)) = numbers;
     formatter.write_token(&hash_algorithm)?;

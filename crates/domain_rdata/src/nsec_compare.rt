@@ -21,16 +21,21 @@ use std::cmp::Ordering;
 use std::hash::{Hash, Hasher};
 
 impl<O: Octets, N: ToName> Nsec<O, N> {
-    /// Whether data over other octets and names are the same: the next names but for the case of letters, and the bitmaps' octets. Takes no memory.
+    /// Whether data over other octets and names are the same: the next names but for the case of
+    /// letters, and the bitmaps' octets. Takes no memory.
     pub fn eq_to<P: Octets, M: ToName>(&self, other: &Nsec<P, M>) -> bool
-        ensures { result ≡ (same_name (N.labels self.now.next_name) (M.labels other.now.next_name) && bytes_eq self.now.types other.now.types) }
+        ensures { result ≡ (same_name (N.labels self.now.next_name) (M.labels other.now.next_name)
+            && bytes_eq self.now.types other.now.types) }
     {
         self.next_name().name_eq(other.next_name()) && self.types().eq_to(other.types())
     }
 
-    /// The order of the next names, and then of the bitmaps' octets, also of data over other octets and names. Takes no memory.
+    /// The order of the next names, and then of the bitmaps' octets, also of data over other octets
+    /// and names. Takes no memory.
     pub fn cmp_to<P: Octets, M: ToName>(&self, other: &Nsec<P, M>) -> Ordering
-        ensures { result ≡ ordering_then (name_cmp (N.labels self.now.next_name) (M.labels other.now.next_name)) (slice_cmp nat_cmp self.now.types other.now.types) }
+        ensures { result ≡ ordering_then
+            (name_cmp (N.labels self.now.next_name) (M.labels other.now.next_name))
+            (slice_cmp nat_cmp self.now.types other.now.types) }
     {
         self.next_name()
             .name_cmp(other.next_name())
@@ -39,16 +44,20 @@ impl<O: Octets, N: ToName> Nsec<O, N> {
 
     /// The canonical order, also of data over other octets and names. Takes no memory.
     pub fn canonical_cmp_to<P: Octets, M: ToName>(&self, other: &Nsec<P, M>) -> Ordering
-        ensures { result ≡ slice_cmp nat_cmp (canonical_of nsec (nsec_values N.labels self.now)) (canonical_of nsec (nsec_values M.labels other.now)) }
+        ensures { result ≡ slice_cmp nat_cmp (canonical_of nsec (nsec_values N.labels self.now))
+            (canonical_of nsec (nsec_values M.labels other.now)) }
     {
         self.fields().order(&other.fields())
     }
 }
 
 impl<O: Octets, N: ToName> PartialEq for Nsec<O, N> {
-    ghost eq = { eq_of_both (on (λ d. N.labels d.next_name) same_name) (on (λ d. d.types) bytes_eq) };
+    ghost eq = { eq_of_both (on (λ d. N.labels d.next_name) same_name)
+        (on (λ d. d.types) bytes_eq) };
 
-    ghost laws = { partial_equiv_from_equiv (and_equiv (on_equiv (λ d. N.labels d.next_name) same_name_equiv) (on_equiv (λ d. d.types) nat_list_eq_equiv)) };
+    ghost laws = { partial_equiv_from_equiv
+        (and_equiv (on_equiv (λ d. N.labels d.next_name) same_name_equiv)
+        (on_equiv (λ d. d.types) nat_list_eq_equiv)) };
 
     fn eq(&self, other: &Self) -> bool {
         self.eq_to(other)
@@ -56,13 +65,17 @@ impl<O: Octets, N: ToName> PartialEq for Nsec<O, N> {
 }
 
 impl<O: Octets, N: ToName> Eq for Nsec<O, N> {
-    ghost laws = { and_equiv (on_equiv (λ d. N.labels d.next_name) same_name_equiv) (on_equiv (λ d. d.types) nat_list_eq_equiv) };
+    ghost laws = { and_equiv (on_equiv (λ d. N.labels d.next_name) same_name_equiv)
+        (on_equiv (λ d. d.types) nat_list_eq_equiv) };
 }
 
 impl<O: Octets, N: ToName> PartialOrd for Nsec<O, N> {
-    ghost partial_cmp = { λ a b. Some (then_cmp (on (λ d. N.labels d.next_name) name_cmp) (on (λ d. d.types) (slice_cmp nat_cmp)) a b) };
+    ghost partial_cmp = { λ a b. Some (then_cmp (on (λ d. N.labels d.next_name) name_cmp)
+        (on (λ d. d.types) (slice_cmp nat_cmp)) a b) };
 
-    ghost laws = { po (then_total (on_total (λ d. N.labels d.next_name) canonical_cmp_total) (on_total (λ d. d.types) nat_list_cmp_total)) (ties_of_both (λ d. N.labels d.next_name) (λ d. d.types)) };
+    ghost laws = { po (then_total (on_total (λ d. N.labels d.next_name) canonical_cmp_total)
+        (on_total (λ d. d.types) nat_list_cmp_total))
+        (ties_of_both (λ d. N.labels d.next_name) (λ d. d.types)) };
 
     fn partial_cmp(&self, other: &Self) -> Option<Ordering> {
         Some(self.cmp(other))
@@ -70,9 +83,11 @@ impl<O: Octets, N: ToName> PartialOrd for Nsec<O, N> {
 }
 
 impl<O: Octets, N: ToName> Ord for Nsec<O, N> {
-    ghost cmp = { then_cmp (on (λ d. N.labels d.next_name) name_cmp) (on (λ d. d.types) (slice_cmp nat_cmp)) };
+    ghost cmp = { then_cmp (on (λ d. N.labels d.next_name) name_cmp)
+        (on (λ d. d.types) (slice_cmp nat_cmp)) };
 
-    ghost total = { then_total (on_total (λ d. N.labels d.next_name) canonical_cmp_total) (on_total (λ d. d.types) nat_list_cmp_total) };
+    ghost total = { then_total (on_total (λ d. N.labels d.next_name) canonical_cmp_total)
+        (on_total (λ d. d.types) nat_list_cmp_total) };
 
     ghost matches_partial_cmp = { λ a b. refl };
 

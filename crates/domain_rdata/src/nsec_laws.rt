@@ -6,7 +6,8 @@ use crate::Nsec;
 use domain_base::ToName;
 use domain_octets::Octets;
 
-/// The octets of NSEC data are read as this name and this type bitmap, in no other way, and nothing is left.
+/// The octets of NSEC data are read as this name and this type bitmap, in no other way, and nothing
+/// is left.
 pub fn nsec_parses_back<O: Octets, N: ToName>(value: &Nsec<O, N>)
     ensures { NsecParsesBack (nsec_values N.labels value.now) }
 {

@@ -8,7 +8,7 @@ ghost use Rattle.domain_rdata.specs.NsecWire.{BeginsNsec};
 ghost use Rattle.domain_rdata.specs.Nsec3Wire.{BeginsNsec3};
 ghost use Rattle.domain_rdata.specs.Rdata.{nsec_values, nsec3_values, nsec3param, nsec3param_values};
 ghost use Rattle.domain_rdata.specs.Refusal.{kind_of, plain, key, digest, signature, next_by_name, next_by_hash, params, CopyFault, IsNotWhole, OctetsFault};
-ghost use Rattle.domain_rdata.specs.Text.{AreData};
+ghost use Rattle.domain_rdata.specs.Scan.{AreData};
 
 use crate::{Nsec, Nsec3, Nsec3param, ZoneRecordData};
 use domain_base::{MakeName, ParsedName, Rtype, ScanError, ToName};
@@ -73,7 +73,8 @@ fn whole<'a, D: ParseRecordData<'a> + Drop>(
 /// The address that octets are.
 fn a_of(octets: &[u8]) -> Result<A, ScanError>
     ensures ok { IfOk result (λ d. Begins a octets.now (a_values d) []) }
-    ensures err { IfErr result (λ e. OctetsFault None (Some (plain a)) octets.now (scan_fault_of e)) }
+    ensures err { IfErr result (λ e.
+        OctetsFault None (Some (plain a)) octets.now (scan_fault_of e)) }
 {
     let data: A = whole(Rtype::A, octets)?;
     Ok(data)
@@ -82,7 +83,8 @@ fn a_of(octets: &[u8]) -> Result<A, ScanError>
 /// The name of a server that octets are.
 fn ns_of<N: MakeName>(alloc: Global, octets: &[u8]) -> Result<Ns<N>, ScanError>
     ensures ok { IfOk result (λ d. Begins ns octets.now (ns_values N.labels d) []) }
-    ensures err { IfErr result (λ e. OctetsFault None (Some (plain ns)) octets.now (scan_fault_of e)) }
+    ensures err { IfErr result (λ e.
+        OctetsFault None (Some (plain ns)) octets.now (scan_fault_of e)) }
 {
     let data: Ns<ParsedName<'_>> = whole(Rtype::NS, octets)?;
     Ok(Ns::new(name_like(alloc, data.nsdname())?))
@@ -91,7 +93,8 @@ fn ns_of<N: MakeName>(alloc: Global, octets: &[u8]) -> Result<Ns<N>, ScanError>
 /// The start of a zone that octets are.
 fn soa_of<N: MakeName + Drop>(alloc: Global, octets: &[u8]) -> Result<Soa<N>, ScanError>
     ensures ok { IfOk result (λ d. Begins soa octets.now (soa_values N.labels d) []) }
-    ensures err { IfErr result (λ e. OctetsFault None (Some (plain soa)) octets.now (scan_fault_of e)) }
+    ensures err { IfErr result (λ e.
+        OctetsFault None (Some (plain soa)) octets.now (scan_fault_of e)) }
 {
     let data: Soa<ParsedName<'_>> = whole(Rtype::SOA, octets)?;
     let mname = name_like(alloc, data.mname())?;
@@ -110,7 +113,8 @@ fn soa_of<N: MakeName + Drop>(alloc: Global, octets: &[u8]) -> Result<Soa<N>, Sc
 /// The mail exchange that octets are.
 fn mx_of<N: MakeName>(alloc: Global, octets: &[u8]) -> Result<Mx<N>, ScanError>
     ensures ok { IfOk result (λ d. Begins mx octets.now (mx_values N.labels d) []) }
-    ensures err { IfErr result (λ e. OctetsFault None (Some (plain mx)) octets.now (scan_fault_of e)) }
+    ensures err { IfErr result (λ e.
+        OctetsFault None (Some (plain mx)) octets.now (scan_fault_of e)) }
 {
     let data: Mx<ParsedName<'_>> = whole(Rtype::MX, octets)?;
     Ok(Mx::new(data.preference(), name_like(alloc, data.exchange())?))
@@ -121,7 +125,8 @@ fn dnskey_of<O: FromBuilder + Drop>(alloc: Global, octets: &[u8]) -> Result<Dnsk
 where
     O::Builder: EmptyBuilder + Drop,
     ensures ok { IfOk result (λ d. Begins dnskey octets.now (dnskey_values d) []) }
-    ensures err { IfErr result (λ e. OctetsFault O.Builder.limit (Some key) octets.now (scan_fault_of e)) }
+    ensures err { IfErr result (λ e.
+        OctetsFault O.Builder.limit (Some key) octets.now (scan_fault_of e)) }
 {
     let data: Dnskey<&[u8]> = whole(Rtype::DNSKEY, octets)?;
     let key = octets_like(alloc, data.public_key())?;
@@ -133,7 +138,8 @@ fn ds_of<O: FromBuilder + Drop>(alloc: Global, octets: &[u8]) -> Result<Ds<O>, S
 where
     O::Builder: EmptyBuilder + Drop,
     ensures ok { IfOk result (λ d. Begins ds octets.now (ds_values d) []) }
-    ensures err { IfErr result (λ e. OctetsFault O.Builder.limit (Some digest) octets.now (scan_fault_of e)) }
+    ensures err { IfErr result (λ e.
+        OctetsFault O.Builder.limit (Some digest) octets.now (scan_fault_of e)) }
 {
     let data: Ds<&[u8]> = whole(Rtype::DS, octets)?;
     let digest = octets_like(alloc, data.digest())?;
@@ -148,7 +154,8 @@ fn nsec_of<O: FromBuilder + Drop, N: MakeName + Drop>(
 where
     O::Builder: EmptyBuilder + Drop,
     ensures ok { IfOk result (λ d. BeginsNsec octets.now (nsec_values N.labels d) []) }
-    ensures err { IfErr result (λ e. OctetsFault O.Builder.limit (Some next_by_name) octets.now (scan_fault_of e)) }
+    ensures err { IfErr result (λ e.
+        OctetsFault O.Builder.limit (Some next_by_name) octets.now (scan_fault_of e)) }
 {
     let data: Nsec<&[u8], ParsedName<'_>> = whole(Rtype::NSEC, octets)?;
     let next_name = name_like(alloc, data.next_name())?;
@@ -164,7 +171,8 @@ fn rrsig_of<O: FromBuilder + Drop, N: MakeName + Drop>(
 where
     O::Builder: EmptyBuilder + Drop,
     ensures ok { IfOk result (λ d. Begins rrsig octets.now (rrsig_values d) []) }
-    ensures err { IfErr result (λ e. OctetsFault O.Builder.limit (Some signature) octets.now (scan_fault_of e)) }
+    ensures err { IfErr result (λ e.
+        OctetsFault O.Builder.limit (Some signature) octets.now (scan_fault_of e)) }
 {
     let data: Rrsig<&[u8], ParsedName<'_>> = whole(Rtype::RRSIG, octets)?;
     let signer_name = name_like(alloc, data.signer_name())?;
@@ -190,7 +198,8 @@ fn nsec3param_of<O: FromBuilder + Drop>(
 where
     O::Builder: EmptyBuilder + Drop,
     ensures ok { IfOk result (λ d. Begins nsec3param octets.now (nsec3param_values d) []) }
-    ensures err { IfErr result (λ e. OctetsFault O.Builder.limit (Some params) octets.now (scan_fault_of e)) }
+    ensures err { IfErr result (λ e.
+        OctetsFault O.Builder.limit (Some params) octets.now (scan_fault_of e)) }
 {
     let data: Nsec3param<&[u8]> = whole(Rtype::NSEC3PARAM, octets)?;
     let salt = octets_like(alloc, data.salt().as_slice())?;
@@ -207,7 +216,8 @@ fn nsec3_of<O: FromBuilder + Drop>(alloc: Global, octets: &[u8]) -> Result<Nsec3
 where
     O::Builder: EmptyBuilder + Drop,
     ensures ok { IfOk result (λ d. BeginsNsec3 octets.now (nsec3_values d) []) }
-    ensures err { IfErr result (λ e. OctetsFault O.Builder.limit (Some next_by_hash) octets.now (scan_fault_of e)) }
+    ensures err { IfErr result (λ e.
+        OctetsFault O.Builder.limit (Some next_by_hash) octets.now (scan_fault_of e)) }
 {
     let data: Nsec3<&[u8]> = whole(Rtype::NSEC3, octets)?;
     let salt = octets_like(alloc, data.salt().as_slice())?;
@@ -231,13 +241,17 @@ where
     ///
     /// # Errors
     ///
-    /// `Custom("illegal data")` exactly where they are no data of the type; `ShortBuf` and `OutOfMemory` where they are, and a part has no room or no memory.
+    /// `Custom("illegal data")` exactly where they are no data of the type; `ShortBuf` and
+    /// `OutOfMemory` where they are, and a part has no room or no memory.
     pub(crate) fn from_generic(alloc: Global, data: UnknownRecordData<O>) -> Result<Self, ScanError>
     where
         O: Drop,
         N: MakeName + Drop,
-        ensures ok { IfOk result (λ d. AreData O.octets N.labels «data».rtype (O.octets «data».«data») d) }
-        ensures err { IfErr result (λ e. OctetsFault O.Builder.limit (kind_of «data».rtype) (O.octets «data».«data») (scan_fault_of e)) }
+        ensures ok { IfOk result (λ d.
+            AreData O.octets N.labels «data».rtype (O.octets «data».«data») d) }
+        ensures err { IfErr result (λ e.
+            OctetsFault O.Builder.limit (kind_of «data».rtype) (O.octets «data».«data»)
+            (scan_fault_of e)) }
     {
         let (rtype, octets) = (data.rtype(), data.data().as_slice());
         if rtype == Rtype::A {

@@ -75,7 +75,8 @@ impl<O: Octets, N: ToName> ZoneRecordData<O, N> {
     #[tactic(auto, using(crate::proofs::ZoneLemmas::turned), unfolding(domain_fields::specs::Layout::octets_of))]
     fn same_type_cmp(&self, other: &Self) -> Ordering
         requires { rtype_of self.now ≡ rtype_of other.now }
-        ensures { result ≡ slice_cmp nat_cmp (canonical_octets O.octets N.labels self.now) (canonical_octets O.octets N.labels other.now) }
+        ensures { result ≡ slice_cmp nat_cmp (canonical_octets O.octets N.labels self.now)
+            (canonical_octets O.octets N.labels other.now) }
     {
         match (self, other) {
             (ZoneRecordData::A(a), ZoneRecordData::A(b)) => a.canonical_cmp(b),

@@ -1,9 +1,9 @@
 //! Data of all types from tokens.
-ghost use Rattle.std.specs.Prelude.{◌≡◌, ◌≢◌, ◌↔◌, ℕ, List, None, IsTrue, IfOk, IfErr};
+ghost use Rattle.std.specs.Prelude.{◌≡◌, ◌≢◌, ◌↔◌, None, IsTrue, IfOk, IfErr};
 ghost use Rattle.domain_base.specs.Scan.{scan_fault_of, no_memory};
 ghost use Rattle.domain_rdata.specs.DataText.{data_text};
-ghost use Rattle.domain_rdata.specs.Refusal.{OwnRefused, RdataRefused};
-ghost use Rattle.domain_rdata.specs.Text.{RdataText, OwnText, IsGeneric};
+ghost use Rattle.domain_rdata.specs.Refusal.{RefusesOwn, RefusesRdata};
+ghost use Rattle.domain_rdata.specs.Scan.{RdataText, OwnText, IsGeneric};
 ghost use Rattle.domain_rdata.specs.declared.zone_record_data.ZoneRecordData.{ZoneRecordData};
 ghost use Rattle.domain_base.specs.Words.{Tokens};
 
@@ -34,7 +34,8 @@ where
     ///
     /// # Errors
     ///
-    /// What the first field that is refused says, or `Custom("unknown record data")`, before any token is taken, for a type that has no text form of its own.
+    /// What the first field that is refused says, or `Custom("unknown record data")`, before any
+    /// token is taken, for a type that has no text form of its own.
     fn scan_own<S: Scanner<Name = N, Octets = O>>(
         alloc: Global,
         rtype: Rtype,
@@ -43,8 +44,11 @@ where
     where
         O: Drop,
         N: Drop,
-        ensures ok { IfOk result (λ d. OwnText N.labels rtype (S.tokens scanner.old) d (S.tokens scanner.new)) }
-        ensures err { IfErr result (λ e. OwnRefused O.Builder.limit rtype (S.tokens scanner.old) (S.tokens scanner.new) (scan_fault_of e)) }
+        ensures ok { IfOk result (λ d.
+            OwnText N.labels rtype (S.tokens scanner.old) d (S.tokens scanner.new)) }
+        ensures err { IfErr result (λ e.
+            RefusesOwn O.Builder.limit rtype (S.tokens scanner.old) (S.tokens scanner.new)
+            (scan_fault_of e)) }
     {
         if rtype == Rtype::A {
             return Ok(ZoneRecordData::A(A::scan(alloc, scanner)?));
@@ -79,15 +83,21 @@ where
         Err(ScanError::Custom("unknown record data"))
     }
 
-    /// The data of a type that the tokens begin with: in the text form of that type, or, where the first token is `\#`, in the generic form of any type
-    /// (RFC 3597, section 5), whose octets must be exactly data of the type. Data of types that have no variant of their own are held as octets.
+    /// The data of a type that the tokens begin with: in the text form of that type, or, where the
+    /// first token is `\#`, in the generic form of any type (RFC 3597, section 5), whose octets
+    /// must be exactly data of the type. Data of types that have no variant of their own are held
+    /// as octets.
     ///
     /// # Errors
     ///
-    /// What the first field that is refused says, of the type's own text form or, after `\#`, of the generic form: `EndOfEntry` where it is missing, `Custom` where it is
-    /// not of its form, `ShortBuf` and `OutOfMemory` where the octets of a name or of data have no room or no memory. Without the mark, `Custom("unknown record data")`
-    /// for a type that has no text form of its own, and no token is taken. With it, once all tokens are read, `Custom("illegal data")` exactly where the octets are no
-    /// data of the type, and, where they are, `ShortBuf` or `OutOfMemory` for a part that has no room or no memory. A refusal leaves an end of the tokens.
+    /// What the first field that is refused says, of the type's own text form or, after `\#`, of
+    /// the generic form: `EndOfEntry` where it is missing, `Custom` where it is not of its form,
+    /// `ShortBuf` and `OutOfMemory` where the octets of a name or of data have no room or no
+    /// memory. Without the mark, `Custom("unknown record data")` for a type that has no text form
+    /// of its own, and no token is taken. With it, once all tokens are read,
+    /// `Custom("illegal data")` exactly where the octets are no data of the type, and, where they
+    /// are, `ShortBuf` or `OutOfMemory` for a part that has no room or no memory. A refusal leaves
+    /// an end of the tokens.
     pub fn scan_rdata<S: Scanner<Name = N, Octets = O>>(
         alloc: Global,
         rtype: Rtype,
@@ -96,12 +106,17 @@ where
     where
         O: Drop,
         N: MakeName + Drop,
-        ensures ok { IfOk result (λ d. RdataText O.octets N.labels rtype (S.tokens scanner.old) d (S.tokens scanner.new)) }
-        ensures err { IfErr result (λ e. RdataRefused O.Builder.limit rtype (S.tokens scanner.old) (S.tokens scanner.new) (scan_fault_of e)) }
+        ensures ok { IfOk result (λ d.
+            RdataText O.octets N.labels rtype (S.tokens scanner.old) d (S.tokens scanner.new)) }
+        ensures err { IfErr result (λ e.
+            RefusesRdata O.Builder.limit rtype (S.tokens scanner.old) (S.tokens scanner.new)
+            (scan_fault_of e)) }
 
         // Over octets that grow, what is refused but for want of memory spells no data of the type.
-        ensures spells_none { IfErr result (λ e. O.Builder.limit ≡ None → scan_fault_of e ≢ no_memory
-            → (d : ZoneRecordData O N) (after : Tokens) → RdataText O.octets N.labels rtype (S.tokens scanner.old) d after → ⊥) }
+        ensures spells_none { IfErr result (λ e. O.Builder.limit ≡ None
+            → scan_fault_of e ≢ no_memory
+            → (d : ZoneRecordData O N) (after : Tokens)
+            → RdataText O.octets N.labels rtype (S.tokens scanner.old) d after → ⊥) }
     {
         if !is_generic(scanner) {
             return Self::scan_own(alloc, rtype, scanner);
