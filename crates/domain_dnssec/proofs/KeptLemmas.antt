@@ -17,7 +17,7 @@ use Rattle.domain_records.specs.Order.{IsOneClass}
 use Rattle.domain_base.specs.Name.{is_at_or_below, lowered, same_name}
 use Rattle.domain_base.specs.Words.{Name}
 use Rattle.domain_zone.specs.Soa.{is_soa, numbers_of, of_only, soa_of}
-use Rattle.domain_zone.specs.Types.{ns, dname}
+use Rattle.domain_base.specs.Types.{ns, dname}
 use Rattle.domain_zone.specs.View.{as_zone_record}
 use Rattle.domain_zone.specs.declared.soa.ApexSoa.{ApexSoa}
 use Rattle.domain_zone.specs.Zone.{ZoneRecord, clashes, has_clash, has_type, records_of, is_occluded, is_unoccluded, owns}

@@ -1,6 +1,5 @@
 pub mod AnyOrder
 pub use Rattle.domain_zone.specs.Covering
-pub use Rattle.domain_zone.specs.Types
 pub use Rattle.domain_zone.specs.Zone
 pub use Rattle.domain_zone.specs.Soa
 pub use Rattle.domain_zone.specs.Enclosers

@@ -3,7 +3,7 @@ use Rattle.std.proofs.Common.{◌≡◌, ℕ, Bool, true, not, ◌&&◌, List, a
 use Rattle.std.specs.Prelude.{filter}
 use Rattle.domain_base.specs.Name.{lowered, same_name}
 use Rattle.domain_base.specs.Words.{Name}
-use Rattle.domain_zone.specs.Types.{ns}
+use Rattle.domain_base.specs.Types.{ns}
 use Rattle.domain_zone.specs.Zone.{ZoneRecord, has_type}
 use Rattle.domain_zone.proofs.NameLemmas.{one_lowered, lowered_below, same_lowered}
 use Rattle.domain_nsec.specs.Chain.{nsec_lists, is_listed}

@@ -7,7 +7,7 @@ use Rattle.domain_zone.specs.Covering.{pairs}
 use Rattle.domain_base.specs.Name.{same_name}
 use Rattle.domain_base.specs.Words.{Name}
 use Rattle.domain_zone.specs.Soa.{chain_ttl, soa_of}
-use Rattle.domain_zone.specs.Types.{rrsig, nsec, dnskey}
+use Rattle.domain_base.specs.Types.{rrsig, nsec, dnskey}
 use Rattle.domain_zone.specs.Zone.{ZoneRecord, unoccluded_owners, is_zone_cut, records_of, lists_type, has_unequal_ttls}
 use Rattle.domain_zone.specs.declared.soa.ApexSoa.{ApexSoa}
 use Rattle.domain_nsec.specs.declared.config.GenerateNsecConfig.{GenerateNsecConfig}
@@ -38,7 +38,8 @@ is_listed assumed cut rs t =
     ((t == rrsig) || (t == nsec) || (assumed && (t == dnskey))) || lists_type cut rs t
 
 abbrev pub nsec_lists : List ZoneRecord → Name → Bool → Name → ℕ → Bool
-nsec_lists L a assume n t = is_listed (assume && same_name n a) (is_zone_cut L a n) (records_of L n) t
+nsec_lists L a assume n t =
+    is_listed (assume && same_name n a) (is_zone_cut L a n) (records_of L n) t
 
 -- one record for each owner that is not occluded, in canonical order, that points to the next one,
 -- the last one to the apex; each with the class of the SOA, the lesser of its MINIMUM and TTL, and

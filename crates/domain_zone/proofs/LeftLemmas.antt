@@ -11,7 +11,7 @@ use Rattle.domain_records.specs.Runs.{runs, add_to}
 use Rattle.domain_base.specs.Name.{is_at_or_below, same_name}
 use Rattle.domain_base.specs.Words.{Name}
 use Rattle.domain_zone.specs.Owners.{OwnerRecords, owner_at, owners_with_records}
-use Rattle.domain_zone.specs.Types.{ns, dname}
+use Rattle.domain_base.specs.Types.{ns, dname}
 use Rattle.domain_zone.specs.View.{as_zone_record}
 use Rattle.domain_zone.specs.Walk.{is_under, is_passed_over, is_cut_group, occluder_from, left_owners}
 use Rattle.domain_zone.specs.Zone.{ZoneRecord, has_type, records_of, is_zone_cut, occludes}

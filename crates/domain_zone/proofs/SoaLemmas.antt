@@ -6,7 +6,7 @@ use Rattle.std.proofs.lemmas.Bool.{true≢false, cases_Bool, or_parts, and_right
 use Rattle.std.proofs.lemmas.List.Elements.{filter-append}
 use Rattle.domain_base.specs.Name.{same_name}
 use Rattle.domain_base.specs.Words.{Name}
-use Rattle.domain_zone.specs.Types.{soa}
+use Rattle.domain_base.specs.Types.{soa}
 use Rattle.domain_zone.specs.Soa.{numbers_of, of_only, is_soa, soa_of}
 use Rattle.domain_zone.specs.Zone.{ZoneRecord, owns}
 use Rattle.domain_zone.specs.declared.soa.ApexSoa.{ApexSoa}

@@ -4,7 +4,7 @@ use Rattle.std.specs.Prelude.{Bool, false, not, ◌&&◌, ◌||◌, List, [], �
 use Rattle.domain_base.specs.Name.{is_at_or_below, same_name}
 use Rattle.domain_base.specs.Words.{Name}
 use Rattle.domain_zone.specs.Owners.{OwnerRecords}
-use Rattle.domain_zone.specs.Types.{ns, dname}
+use Rattle.domain_base.specs.Types.{ns, dname}
 use Rattle.domain_zone.specs.Zone.{ZoneRecord, has_type}
 
 -- the last name that occludes is at or above n

@@ -2,7 +2,7 @@
 -- Each definition filters the whole list L of records; a is the apex.
 use Rattle.std.specs.Prelude.{ℕ, Bool, false, not, ◌&&◌, ◌||◌, ◌==◌, List, [], ◌∷◌, map, filter, Option, ◌≡◌}
 use Rattle.std.specs.List.{list_any, AllByRecursion}
-use Rattle.domain_zone.specs.Types.{ns, ds, dname, rrsig}
+use Rattle.domain_base.specs.Types.{ns, ds, dname, rrsig}
 use Rattle.domain_base.specs.Name.{is_at_or_below, is_strictly_below, same_name}
 use Rattle.domain_base.specs.Order.{before}
 use Rattle.domain_base.specs.Words.{Name}
@@ -18,7 +18,8 @@ pub record ZoneRecord : Type 0 where
 -- owners never descend
 abbrev pub OwnersNeverDescend : List ZoneRecord → Type 0
 OwnersNeverDescend [] = Unit {0}
-OwnersNeverDescend (r ∷ rs) = AllByRecursion (λ s. before s.owner r.owner ≡ false) rs × OwnersNeverDescend rs
+OwnersNeverDescend (r ∷ rs) =
+    AllByRecursion (λ s. before s.owner r.owner ≡ false) rs × OwnersNeverDescend rs
 
 -- the records of a name
 abbrev pub records_of : List ZoneRecord → Name → List ZoneRecord
