@@ -39,7 +39,7 @@ nsec_faulty octets fault (in_name why) whole = fault_excludes nsec octets fault 
 nsec_faulty octets fault (in_types labels types begins why) whole =
     let name = name_begins octets whole.0 whole.1.begins in
     let same = (one_reading (one spelled_name) octets labels whole.0.0 types whole.0.1 refl begins name).1 in
-    no_fault (subst (λ t. bitmap.FirstFault t why.first) same why.found) whole.1.bitmap
+    no_fault (subst (λ t. bitmap.FirstBlockFault t why.first) same why.found) whole.1.bitmap
 
 hash_begins : (octets : List ℕ) (v : Values nsec3) → Begins nsec3 octets v [] → Begins hash_fields octets v.0 v.1
 unfolding octets_of
@@ -55,7 +55,7 @@ nsec3_faulty octets fault (in_fields why) whole = fault_excludes nsec3 octets fa
 nsec3_faulty octets fault (in_bitmap fields types begins why) whole =
     let fields_read = hash_begins octets whole.0 whole.1.begins in
     let same = (one_reading hash_fields octets fields whole.0.0 types whole.0.1 refl begins fields_read).1 in
-    no_fault (subst (λ t. bitmap.FirstFault t why.first) same why.found) whole.1.bitmap
+    no_fault (subst (λ t. bitmap.FirstBlockFault t why.first) same why.found) whole.1.bitmap
 
 -- octets with a fault, or that go on after the data, are no data of a kind
 not_whole : {D : Type 0} (begins : List ℕ → D → List ℕ → Type 0) (faults : List ℕ → Fault → Type 0) (octets : List ℕ) (kind : Kind) (limit : Option ℕ) (fault : ScanFault) → fault ≡ illegal (codes "illegal data")

@@ -6,6 +6,7 @@ use Rattle.domain_base.specs.Order.{canonical_cmp}
 use Rattle.domain_base.specs.Name.{same_name, IsSame}
 use Rattle.domain_plain.specs.declared.record.Record.{Record}
 use Rattle.domain_base.specs.Words.{Name}
+use Rattle.domain_base.specs.Types.{ns}
 
 -- the owners agree but for the case of letters
 abbrev pub same_owner : {N D : Type 0} → (N → Name) → Record N D → Record N D → Bool
@@ -26,7 +27,8 @@ same_ttl r s = r.ttl == s.ttl
 
 -- by owner in the canonical order of names, and then by type, s isn't before r
 abbrev pub may_follow : {N D : Type 0} → (N → Name) → (D → ℕ) → Record N D → Record N D → Bool
-may_follow labels rtype r s = is_le (then_cmp (on (λ t. labels t.owner) canonical_cmp) (on (λ t. rtype t.«data») nat_cmp) r s)
+may_follow labels rtype r s =
+    is_le (then_cmp (on (λ t. labels t.owner) canonical_cmp) (on (λ t. rtype t.«data») nat_cmp) r s)
 
 -- the list isn't empty, and P holds of its first element
 abbrev pub HasFirst : {X : Type 0} → (X → Type 0) → List X → Type 0
@@ -45,7 +47,9 @@ pub record SkipsTo {X : Type 0} (P : X → Type 0) (old new : List X) : Type 0 w
   pub before : AllByRecursion (λ x. ¬ (P x)) skipped
   pub begins : IfFirst P new
 
--- the records of an owner other than the apex, some of them NS: a delegation (RFC 4034, section 4.1.2), where the owner is in the zone
-pub record IsZoneCut {N D : Type 0} (labels : N → Name) (rtype : D → ℕ) (apex : Name) (records : List (Record N D)) : Type 0 where
+-- the records of an owner other than the apex, some of them NS: a delegation (RFC 4034,
+-- section 4.1.2), where the owner is in the zone
+pub record IsZoneCut {N D : Type 0} (labels : N → Name) (rtype : D → ℕ) (apex : Name)
+    (records : List (Record N D)) : Type 0 where
   pub below : HasFirst (λ r. ¬ (IsSame (labels r.owner) apex)) records
-  pub delegates : Any (λ r. rtype r.«data» ≡ 2) records
+  pub delegates : Any (λ r. rtype r.«data» ≡ ns) records

@@ -14,8 +14,10 @@ is_asked None n = true
 is_asked (Some m) n = n == m
 
 -- a record of this owner, and of the class and the type that are asked
-abbrev pub matches : {N D : Type 0} → (N → Name) → (D → ℕ) → Name → Option ℕ → Option ℕ → Record N D → Bool
-matches labels rtype owner class type r = same_name (labels r.owner) owner && (is_asked class r.class && is_asked type (rtype r.«data»))
+abbrev pub matches : {N D : Type 0} → (N → Name) → (D → ℕ) → Name → Option ℕ → Option ℕ
+    → Record N D → Bool
+matches labels rtype owner class type r =
+    same_name (labels r.owner) owner && (is_asked class r.class && is_asked type (rtype r.«data»))
 
 -- an element stands at that place, and passes the test
 abbrev pub HasAt : {X : Type 0} → (X → Bool) → List X → ℕ → Type 0
@@ -24,7 +26,9 @@ HasAt {X} p xs i = (i < length xs) × ((d : X) → p (slice_index_or xs i d) ≡
 -- the place of the first element that passes the test, if there is one
 abbrev pub IsFirstPlace : {X : Type 0} → (X → Bool) → List X → Option ℕ → Type 0
 IsFirstPlace {X} p xs None = (k : ℕ) (d : X) → k < length xs → p (slice_index_or xs k d) ≡ false
-IsFirstPlace {X} p xs (Some i) = (i < length xs) × ((d : X) → p (slice_index_or xs i d) ≡ true) × ((k : ℕ) (d : X) → k < i → p (slice_index_or xs k d) ≡ false)
+IsFirstPlace {X} p xs (Some i) =
+    (i < length xs) × ((d : X) → p (slice_index_or xs i d) ≡ true)
+    × ((k : ℕ) (d : X) → k < i → p (slice_index_or xs k d) ≡ false)
 
 -- what a look-up compares: class, owner, and the type where one is asked
 pub record Key : Type 0 where
@@ -42,7 +46,8 @@ number_asked None = 0
 number_asked (Some m) = m
 
 abbrev pub key_of : {N D : Type 0} → (N → Name) → (D → ℕ) → Option ℕ → Record N D → Key
-key_of labels rtype type r = record { class = r.class; owner = labels r.owner; type = where_asked type (rtype r.«data») }
+key_of labels rtype type r =
+    record { class = r.class; owner = labels r.owner; type = where_asked type (rtype r.«data») }
 
 -- the key of the records of this class that match
 abbrev pub wanted_key : ℕ → Name → Option ℕ → Key
@@ -50,11 +55,15 @@ wanted_key class owner type = record { class = class; owner = owner; type = numb
 
 -- by class, then owner, then type
 abbrev pub key_cmp : Key → Key → Ordering
-key_cmp = then_cmp (on (λ k. k.class) nat_cmp) (then_cmp (on (λ k. k.owner) canonical_cmp) (on (λ k. k.type) nat_cmp))
+key_cmp =
+    then_cmp (on (λ k. k.class) nat_cmp)
+    (then_cmp (on (λ k. k.owner) canonical_cmp) (on (λ k. k.type) nat_cmp))
 
 -- the record stands before those of this class that match
-abbrev pub is_before : {N D : Type 0} → (N → Name) → (D → ℕ) → ℕ → Name → Option ℕ → Record N D → Bool
-is_before labels rtype class owner type r = is_lt (key_cmp (key_of labels rtype type r) (wanted_key class owner type))
+abbrev pub is_before : {N D : Type 0} → (N → Name) → (D → ℕ) → ℕ → Name → Option ℕ
+    → Record N D → Bool
+is_before labels rtype class owner type r =
+    is_lt (key_cmp (key_of labels rtype type r) (wanted_key class owner type))
 
 -- the elements before n pass the test, and those from n on don't
 abbrev pub IsParted : {X : Type 0} → (X → Bool) → List X → ℕ → Type 0

@@ -15,8 +15,10 @@ HoldsPairwise P (x ∷ xs) = AllByRecursion (P x) xs × HoldsPairwise P xs
 abbrev pub IsOneClass : {N D : Type 0} → List (Record N D) → Type 0
 IsOneClass = HoldsPairwise (λ r s. r.class ≡ s.class)
 
--- the owner of s doesn't come before that of r in the canonical order of names (RFC 4034, section 6.1), and where they have one owner, the type of s isn't less
-pub record MayFollow {N D : Type 0} (labels : N → Name) (rtype : D → ℕ) (r s : Record N D) : Type 0 where
+-- the owner of s doesn't come before that of r in the canonical order of names (RFC 4034,
+-- section 6.1), and where they have one owner, the type of s isn't less
+pub record MayFollow {N D : Type 0} (labels : N → Name) (rtype : D → ℕ)
+    (r s : Record N D) : Type 0 where
   pub owner : IsUpTo (labels r.owner) (labels s.owner)
   pub type : IsSame (labels r.owner) (labels s.owner) → rtype r.«data» ≤ rtype s.«data»
 

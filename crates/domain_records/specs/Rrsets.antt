@@ -1,5 +1,6 @@
 -- Records of one owner and one type (RFC 2181, section 5).
 use Rattle.std.specs.Prelude.{◌≡◌, ◌≢◌, ℕ, ◌<◌, Bool, false, List, [], ◌∷◌, ◌++◌, length, Option, Result, Some, None, Ok, MatchOption, MatchResult, drop}
+use Rattle.domain_base.specs.Types.{rrsig}
 use Rattle.domain_plain.specs.declared.record.Record.{Record}
 use Rattle.domain_records.specs.declared.error.SigningError.{SigningError}
 use Rattle.domain_records.specs.declared.error.SigningError.TheVariants.{EmptyRecordSlice, MultipleTtlValues, SoaRecordCouldNotBeDetermined, Nsec3HashingError, OutOfMemory}
@@ -7,9 +8,11 @@ use Rattle.domain_records.specs.Groups.{IfFirst}
 use Rattle.domain_records.specs.Order.{HoldsPairwise}
 use Rattle.domain_records.specs.Runs.{runs}
 
--- no two differ in TTL, unless the type of the first is RRSIG: records of that type are grouped, but no RRset (RFC 4034, section 3)
+-- no two differ in TTL, unless the type of the first is RRSIG: records of that type are grouped,
+-- but no RRset (RFC 4034, section 3)
 abbrev pub HasOneTtl : {N D : Type 0} → (D → ℕ) → List (Record N D) → Type 0
-HasOneTtl rtype records = IfFirst (λ r. rtype r.«data» ≢ 46) records → HoldsPairwise (λ r s. r.ttl ≡ s.ttl) records
+HasOneTtl rtype records =
+    IfFirst (λ r. rtype r.«data» ≢ rrsig) records → HoldsPairwise (λ r s. r.ttl ≡ s.ttl) records
 
 -- at least one record, and one TTL
 pub record IsRrset {N D : Type 0} (rtype : D → ℕ) (records : List (Record N D)) : Type 0 where
@@ -17,20 +20,27 @@ pub record IsRrset {N D : Type 0} (rtype : D → ℕ) (records : List (Record N 
   pub one_ttl : HasOneTtl rtype records
 
 -- why records are no RRset
-abbrev pub Refuses : {N D : Type 0} → (D → ℕ) → List (Record N D) → SigningError → Type 0
-Refuses rtype records EmptyRecordSlice = records ≡ []
-Refuses rtype records MultipleTtlValues = (0 < length records) × ¬ (HasOneTtl rtype records)
-Refuses rtype records SoaRecordCouldNotBeDetermined = ⊥
-Refuses rtype records (Nsec3HashingError e) = ⊥
-Refuses rtype records OutOfMemory = ⊥
+abbrev pub IsNoRrset : {N D : Type 0} → (D → ℕ) → List (Record N D) → SigningError → Type 0
+IsNoRrset rtype records EmptyRecordSlice = records ≡ []
+IsNoRrset rtype records MultipleTtlValues = (0 < length records) × ¬ (HasOneTtl rtype records)
+IsNoRrset rtype records SoaRecordCouldNotBeDetermined = ⊥
+IsNoRrset rtype records (Nsec3HashingError e) = ⊥
+IsNoRrset rtype records OutOfMemory = ⊥
 
 -- the group as an RRset, or its refusal, exactly by its own TTLs
-abbrev pub IsRrsetOf : {N D : Type 0} → (D → ℕ) → List (Record N D) → Result (List (Record N D)) SigningError → Type 0
-IsRrsetOf rtype group item = MatchResult item (λ set. (set ≡ group) × HasOneTtl rtype group) (λ e. (e ≡ MultipleTtlValues) × ¬ (HasOneTtl rtype group))
+abbrev pub IsRrsetOf : {N D : Type 0} → (D → ℕ) → List (Record N D)
+    → Result (List (Record N D)) SigningError → Type 0
+IsRrsetOf rtype group item =
+    MatchResult item (λ set. (set ≡ group) × HasOneTtl rtype group)
+    (λ e. (e ≡ MultipleTtlValues) × ¬ (HasOneTtl rtype group))
 
 -- a call that hands out the first group of s, or refuses it, and leaves t
-abbrev pub TakesRrset : {N D : Type 0} → (Record N D → Record N D → Bool) → (D → ℕ) → List (Record N D) → Option (Result (List (Record N D)) SigningError) → List (Record N D) → Type 0
-TakesRrset {N} {D} same rtype s r t = MatchOption r ((s ≡ []) × (t ≡ [])) (λ item. (group : List (Record N D)) × (s ≡ group ++ t) × (runs same s ≡ group ∷ runs same t) × IsRrsetOf rtype group item)
+abbrev pub TakesRrset : {N D : Type 0} → (Record N D → Record N D → Bool) → (D → ℕ)
+    → List (Record N D) → Option (Result (List (Record N D)) SigningError)
+    → List (Record N D) → Type 0
+TakesRrset {N} {D} same rtype s r t =
+    MatchOption r ((s ≡ []) × (t ≡ [])) (λ item. (group : List (Record N D)) × (s ≡ group ++ t)
+    × (runs same s ≡ group ∷ runs same t) × IsRrsetOf rtype group item)
 
 -- a group whose first record passes the test
 abbrev pub begins_with : {X : Type 0} → (X → Bool) → List X → Bool
@@ -48,6 +58,9 @@ group_at same xs None = None
 group_at same xs (Some i) = first_group (runs same (drop i xs))
 
 -- the group that was found, if there is one, as an RRset, or its refusal
-abbrev pub IsFound : {N D : Type 0} → (D → ℕ) → Option (List (Record N D)) → Result (Option (List (Record N D))) SigningError → Type 0
+abbrev pub IsFound : {N D : Type 0} → (D → ℕ) → Option (List (Record N D))
+    → Result (Option (List (Record N D))) SigningError → Type 0
 IsFound rtype None found = found ≡ Ok None
-IsFound rtype (Some group) found = MatchResult found (λ set. (set ≡ Some group) × HasOneTtl rtype group) (λ e. (e ≡ MultipleTtlValues) × ¬ (HasOneTtl rtype group))
+IsFound rtype (Some group) found =
+    MatchResult found (λ set. (set ≡ Some group) × HasOneTtl rtype group)
+    (λ e. (e ≡ MultipleTtlValues) × ¬ (HasOneTtl rtype group))

@@ -15,7 +15,9 @@ runs same (x ∷ xs) = add_to same x (runs same xs)
 
 -- neighbours are the same
 abbrev pub HoldsOfNeighbours : {X : Type 0} → (X → X → Bool) → List X → Type 0
-HoldsOfNeighbours {X} same xs = (k : ℕ) (d : X) → k + 1 < length xs → same (slice_index_or xs k d) (slice_index_or xs (k + 1) d) ≡ true
+HoldsOfNeighbours {X} same xs =
+    (k : ℕ) (d : X) → k + 1 < length xs
+    → same (slice_index_or xs k d) (slice_index_or xs (k + 1) d) ≡ true
 
 -- one run: at least one element, and neighbours are the same
 pub record IsRun {X : Type 0} (same : X → X → Bool) (xs : List X) : Type 0 where
@@ -26,12 +28,15 @@ pub record IsRun {X : Type 0} (same : X → X → Bool) (xs : List X) : Type 0 w
 pub record IsFirstRun {X : Type 0} (same : X → X → Bool) (xs : List X) (n : ℕ) : Type 0 where
   pub some : 0 < n
   pub within : n ≤ length xs
-  pub alike : (k : ℕ) (d : X) → k + 1 < n → same (slice_index_or xs k d) (slice_index_or xs (k + 1) d) ≡ true
-  pub ends : (k : ℕ) (d : X) → k + 1 ≡ n → n < length xs → same (slice_index_or xs k d) (slice_index_or xs n d) ≡ false
+  pub alike : (k : ℕ) (d : X) → k + 1 < n
+      → same (slice_index_or xs k d) (slice_index_or xs (k + 1) d) ≡ true
+  pub ends : (k : ℕ) (d : X) → k + 1 ≡ n → n < length xs
+      → same (slice_index_or xs k d) (slice_index_or xs n d) ≡ false
 
 -- a call that hands out the first of the runs of s, and leaves t
 abbrev pub TakesRun : {X : Type 0} → (X → X → Bool) → List X → Option (List X) → List X → Type 0
-TakesRun same s r t = MatchOption r ((s ≡ []) × (t ≡ [])) (λ g. (s ≡ g ++ t) × (runs same s ≡ g ∷ runs same t))
+TakesRun same s r t =
+    MatchOption r ((s ≡ []) × (t ≡ [])) (λ g. (s ≡ g ++ t) × (runs same s ≡ g ∷ runs same t))
 
 -- one run, by recursion
 abbrev pub IsOneRun : {X : Type 0} → (X → X → Bool) → List X → Type 0
@@ -56,7 +61,8 @@ joined [] = []
 joined (g ∷ gs) = g ++ joined gs
 
 -- gs are the groups of xs
-pub record AreGroups {X : Type 0} (same : X → X → Bool) (xs : List X) (gs : List (List X)) : Type 0 where
+pub record AreGroups {X : Type 0} (same : X → X → Bool) (xs : List X)
+    (gs : List (List X)) : Type 0 where
   pub all : joined gs ≡ xs
   pub each : AllByRecursion (IsOneRun same) gs
   pub apart : Apart same gs

@@ -15,7 +15,8 @@ pub enum Nsec3HashError {
     Hasher(u8),
     /// Octets were not appended. No call of these crates answers it.
     AppendError,
-    /// A hash has no octets, or too many for the first label of an owner: over 39, which are 63 digits of Base 32.
+    /// A hash has no octets, or too many for the first label of an owner: over 39, which are 63
+    /// digits of Base 32.
     OwnerHashError,
     /// The owner of a hash would be longer than a name may be: over 255 octets.
     Nsec3NameTooLong,

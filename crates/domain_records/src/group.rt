@@ -73,7 +73,8 @@ impl<N, D> Grouping<Record<N, D>> for ByTtl {
     }
 }
 
-/// Records whose owners never descend in the canonical order of names, and whose types never descend within an owner.
+/// Records whose owners never descend in the canonical order of names, and whose types never
+/// descend within an owner.
 pub struct InOrder;
 
 impl<N: ToName, D: RecordData> Grouping<Record<N, D>> for InOrder {
@@ -88,7 +89,8 @@ impl<N: ToName, D: RecordData> Grouping<Record<N, D>> for InOrder {
 fn is_same<T, G: Grouping<T>>(records: &SliceRefsOrOwned<'_, T>, i: usize, j: usize) -> bool
     requires { (i < length (items_of records.now)) × (j < length (items_of records.now)) }
     ensures { (d : T) → result
-        ≡ G.same (slice_index_or (items_of records.now) i d) (slice_index_or (items_of records.now) j d) }
+        ≡ G.same (slice_index_or (items_of records.now) i d)
+        (slice_index_or (items_of records.now) j d) }
 {
     G::same(records.at(i), records.at(j))
 }

@@ -7,8 +7,8 @@ ghost use Rattle.domain_records.specs.Runs.{AreGroups, runs};
 use domain_base::ToName;
 use domain_plain::RecordData;
 
-/// The groups of records of one owner joined are the list; in each the neighbours share their owner; and where one ends
-/// and the next begins the owners differ.
+/// The groups of records of one owner joined are the list; in each the neighbours share their
+/// owner; and where one ends and the next begins the owners differ.
 pub fn owner_groups_are_maximal_runs<N: ToName, D>()
     ensures { (records : List (Record N D))
         → AreGroups (same_owner N.labels) records (runs (same_owner N.labels) records) }
@@ -23,5 +23,6 @@ pub fn type_groups_are_maximal_runs<N, D: RecordData>()
 /// The same of the groups of records of one owner and one type.
 pub fn rrset_groups_are_maximal_runs<N: ToName, D: RecordData>()
     ensures { (records : List (Record N D))
-        → AreGroups (same_rrset N.labels D.rtype) records (runs (same_rrset N.labels D.rtype) records) }
+        → AreGroups (same_rrset N.labels D.rtype) records
+        (runs (same_rrset N.labels D.rtype) records) }
 {}

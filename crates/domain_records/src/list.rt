@@ -47,7 +47,8 @@ pub(crate) fn append<T: Drop, U: IntoIterator<Item = T>>(
 ) -> Result<(), OutOfMemory>
     requires { IsFiniteIterable U.into_iter_gives U.IntoIter.can_next U.IntoIter.remaining more }
     ensures ok { OnOk result ((xs : List T)
-        × Gives U.into_iter_gives U.IntoIter.next_gives more xs × (items.new.items ≡ items.old.items ++ xs)) }
+        × Gives U.into_iter_gives U.IntoIter.next_gives more xs
+        × (items.new.items ≡ items.old.items ++ xs)) }
     ensures err { OnErr result (items.new.items ≡ items.old.items) }
 {
     let stored = items.len();

@@ -67,7 +67,8 @@ fn lower_bound<N: ToName, D: RecordData + CanonicalOrd>(
     requires { IsStrictlySortedBy (record_cmp N.labels D.rtype D.canonical_cmp) records.now }
     ensures bound { result ≤ length records.now }
     ensures parted { IsParted
-        (is_before N.labels D.rtype class (N.labels wanted.now.owner.now) wanted.now.rtype) records.now result }
+        (is_before N.labels D.rtype class (N.labels wanted.now.owner.now) wanted.now.rtype)
+        records.now result }
 {
     records.partition_point(|stored| key_order(stored, class, wanted).is_lt())
 }
@@ -91,12 +92,14 @@ fn is_wanted_at<N: ToName, D: RecordData>(
     wanted: &Wanted<'_, N>,
 ) -> bool
     ensures { IsTrue result ↔ HasAt
-        (matches N.labels D.rtype (N.labels wanted.now.owner.now) wanted.now.class wanted.now.rtype) records.now at }
+        (matches N.labels D.rtype (N.labels wanted.now.owner.now) wanted.now.class wanted.now.rtype)
+        records.now at }
 {
     at < records.len() && is_wanted(&records[at], wanted)
 }
 
-/// The place of the first record that is wanted. Takes two binary searches for each class that stands before it.
+/// The place of the first record that is wanted. Takes two binary searches for each class that
+/// stands before it.
 pub(crate) fn first_place<N: ToName, D: RecordData + CanonicalOrd>(
     records: &[Record<N, D>],
     wanted: &Wanted<'_, N>,

@@ -14,8 +14,8 @@ use domain_base::{Class, Rtype, ToName};
 use domain_plain::{Record, RecordData};
 use std::marker::Model;
 
-/// The records of one owner, borrowed from a longer list: a maximal run of records whose owners differ in the case of
-/// letters at most. Contracts see the list of the records.
+/// The records of one owner, borrowed from a longer list: a maximal run of records whose owners
+/// differ in the case of letters at most. Contracts see the list of the records.
 #[derive(Drop)]
 pub struct OwnerRrs<'a, N: ToName, D> {
     records: SliceRefsOrOwned<'a, Record<N, D>>,
@@ -36,7 +36,8 @@ impl<'a, N: ToName, D> Model for OwnerRrs<'a, N, D> {
 }
 
 impl<'a, N: ToName, D> OwnerRrs<'a, N, D> {
-    /// The owner, as the first record spells it. The owners of the others differ from it in the case of letters at most.
+    /// The owner, as the first record spells it. The owners of the others differ from it in the
+    /// case of letters at most.
     pub fn owner(&self) -> &'a N
         ensures { HasFirst (λ r. r.owner ≡ result.now) self.now }
     {
@@ -50,7 +51,8 @@ impl<'a, N: ToName, D> OwnerRrs<'a, N, D> {
         self.records.at(0).class()
     }
 
-    /// Whether some record is NS, and the owner is not the apex. For an owner in the zone it then is a delegation.
+    /// Whether some record is NS, and the owner is not the apex. For an owner in the zone it then
+    /// is a delegation.
     pub fn is_zone_cut(&self, apex: &N) -> bool
     where
         D: RecordData,
@@ -61,7 +63,8 @@ impl<'a, N: ToName, D> OwnerRrs<'a, N, D> {
 
     /// Whether the owner is at or below the apex.
     pub fn is_in_zone(&self, apex: &N) -> bool
-        ensures { IsTrue result ↔ HasFirst (λ r. IsAtOrBelow (N.labels r.owner) (N.labels apex.now)) self.now }
+        ensures { IsTrue result ↔ HasFirst (λ r. IsAtOrBelow (N.labels r.owner) (N.labels apex.now))
+            self.now }
     {
         self.owner().ends_with(apex)
     }
@@ -106,7 +109,8 @@ fn has_type<N, D: RecordData>(records: &SliceRefsOrOwned<'_, Record<N, D>>, want
 
 /// How many records stand before the first whose owner is at or below the apex.
 fn count_outside<N: ToName, D>(records: &SliceRefsOrOwned<'_, Record<N, D>>, apex: &N) -> usize
-    ensures { SkipsTo (λ r. IsAtOrBelow (N.labels r.owner) (N.labels apex.now)) (items_of records.now)
+    ensures { SkipsTo (λ r. IsAtOrBelow (N.labels r.owner) (N.labels apex.now))
+        (items_of records.now)
         (drop result (items_of records.now)) × (result ≤ length (items_of records.now)) }
 {
     let total = records.len();
@@ -117,8 +121,9 @@ fn count_outside<N: ToName, D>(records: &SliceRefsOrOwned<'_, Record<N, D>>, ape
     n
 }
 
-/// An iterator over the groups of records of one owner, in the order in which they stand. The groups borrow from the
-/// records, and outlive the iterator. Contracts see the list of the records that are left.
+/// An iterator over the groups of records of one owner, in the order in which they stand. The
+/// groups borrow from the records, and outlive the iterator. Contracts see the list of the records
+/// that are left.
 #[derive(Drop)]
 pub struct RecordsIter<'a, N: ToName, D> {
     left: SliceRefsOrOwned<'a, Record<N, D>>,
@@ -178,9 +183,11 @@ impl<'a, N: ToName, D> RecordsIter<'a, N, D> {
         self.left.iter()
     }
 
-    /// Drops records from the front while their owners are not at or below the apex, all where none is.
+    /// Drops records from the front while their owners are not at or below the apex, all where none
+    /// is.
     pub fn skip_before(&mut self, apex: &N)
-        ensures { SkipsTo (λ r. IsAtOrBelow (N.labels r.owner) (N.labels apex.now)) self.old self.new }
+        ensures { SkipsTo (λ r. IsAtOrBelow (N.labels r.owner) (N.labels apex.now))
+            self.old self.new }
     {
         let n = count_outside(&self.left, apex);
         self.left = self.left.back(n);
@@ -195,8 +202,9 @@ impl<'a, N: ToName, D> RecordsIter<'a, N, D> {
 }
 
 impl<'a, N: ToName, D: RecordData> RecordsIter<'a, N, D> {
-    /// Whether the owners of the records left never descend in the canonical order of names (RFC 4034, section 6.1),
-    /// and their types never descend within an owner. It holds where no record is left.
+    /// Whether the owners of the records left never descend in the canonical order of names
+    /// (RFC 4034, section 6.1), and their types never descend within an owner. It holds where no
+    /// record is left.
     pub fn is_in_order(&self) -> bool
         ensures { IsTrue result ↔ IsInOrder N.labels D.rtype self.now }
     {

@@ -3,7 +3,7 @@ ghost use Rattle.std.specs.Prelude.{◌≡◌, ◌<◌, IsTrue, IfOk, IfErr, ◌
 ghost use Rattle.std.specs.Iterator.{item_count};
 ghost use Rattle.domain_records.specs.Slices.{items_of};
 ghost use Rattle.domain_records.specs.Groups.{HasFirst, same_rrset, same_type};
-ghost use Rattle.domain_records.specs.Rrsets.{HasOneTtl, IsRrset, Refuses, TakesRrset};
+ghost use Rattle.domain_records.specs.Rrsets.{HasOneTtl, IsRrset, IsNoRrset, TakesRrset};
 
 use crate::error::SigningError;
 use crate::group::{ByRrset, ByTtl, ByType, Grouping, first_run, is_one_run};
@@ -12,8 +12,8 @@ use domain_base::{Class, Rtype, ToName, Ttl};
 use domain_plain::{Record, RecordData};
 use std::marker::Model;
 
-/// Records that are taken for an RRset: at least one, and all with one TTL unless the first is an RRSIG (RFC 2181,
-/// section 5.2). It borrows them. Contracts see the list of the records.
+/// Records that are taken for an RRset: at least one, and all with one TTL unless the first is an
+/// RRSIG (RFC 2181, section 5.2). It borrows them. Contracts see the list of the records.
 ///
 /// That they share owner, class and type is not tested here: the iterators see to owner and type.
 #[derive(Debug, Drop)]
@@ -47,12 +47,12 @@ impl<'a, N, D: RecordData> Rrset<'a, N, D> {
     ///
     /// # Errors
     ///
-    /// `EmptyRecordSlice` where there is no record, and `MultipleTtlValues` where the TTLs differ and the first record
-    /// is not an RRSIG.
+    /// `EmptyRecordSlice` where there is no record, and `MultipleTtlValues` where the TTLs differ
+    /// and the first record is not an RRSIG.
     pub fn new(records: SliceRefsOrOwned<'a, Record<N, D>>) -> Result<Self, SigningError>
         ensures ok { IfOk result
             (λ set. (set ≡ items_of records.entry) × IsRrset D.rtype (items_of records.entry)) }
-        ensures err { IfErr result (Refuses D.rtype (items_of records.entry)) }
+        ensures err { IfErr result (IsNoRrset D.rtype (items_of records.entry)) }
     {
         if records.len() == 0 {
             return Err(SigningError::EmptyRecordSlice);
@@ -66,8 +66,9 @@ impl<'a, N, D: RecordData> Rrset<'a, N, D> {
     /// The records that the references point to, as an RRset. Its errors are those of `new`.
     pub fn new_from_refs(records: &'a [&'a Record<N, D>]) -> Result<Self, SigningError>
         ensures ok { IfOk result
-            (λ set. (set ≡ map (λ p. p.now) records.now) × IsRrset D.rtype (map (λ p. p.now) records.now)) }
-        ensures err { IfErr result (Refuses D.rtype (map (λ p. p.now) records.now)) }
+            (λ set. (set ≡ map (λ p. p.now) records.now)
+            × IsRrset D.rtype (map (λ p. p.now) records.now)) }
+        ensures err { IfErr result (IsNoRrset D.rtype (map (λ p. p.now) records.now)) }
     {
         Rrset::new(SliceRefsOrOwned::new_from_refs(records))
     }
@@ -75,7 +76,7 @@ impl<'a, N, D: RecordData> Rrset<'a, N, D> {
     /// Records that lie together, as an RRset. Its errors are those of `new`.
     pub fn new_from_owned(records: &'a [Record<N, D>]) -> Result<Self, SigningError>
         ensures ok { IfOk result (λ set. (set ≡ records.now) × IsRrset D.rtype records.now) }
-        ensures err { IfErr result (Refuses D.rtype records.now) }
+        ensures err { IfErr result (IsNoRrset D.rtype records.now) }
     {
         Rrset::new(SliceRefsOrOwned::new_from_owned(records))
     }
@@ -163,9 +164,9 @@ fn take_rrset<'a, N, D: RecordData, G: Grouping<Record<N, D>>>(
     Some(Rrset::new(group))
 }
 
-/// An iterator over the groups of records of one owner and one type, in the order in which they stand. The class is not
-/// looked at. A group whose TTLs differ is answered by `MultipleTtlValues`, and the iterator goes on after it. Contracts
-/// see the list of the records that are left.
+/// An iterator over the groups of records of one owner and one type, in the order in which they
+/// stand. The class is not looked at. A group whose TTLs differ is answered by `MultipleTtlValues`,
+/// and the iterator goes on after it. Contracts see the list of the records that are left.
 #[derive(Drop)]
 pub struct RrsetIter<'a, N: ToName, D: RecordData> {
     left: SliceRefsOrOwned<'a, Record<N, D>>,
@@ -216,9 +217,10 @@ impl<'a, N: ToName, D: RecordData> Iterator for RrsetIter<'a, N, D> {
     }
 }
 
-/// An iterator over the groups of records of one type within the records of one owner, in the order in which they
-/// stand. The class is not looked at. A group whose TTLs differ is answered by `MultipleTtlValues`, and the iterator
-/// goes on after it. Contracts see the list of the records that are left.
+/// An iterator over the groups of records of one type within the records of one owner, in the order
+/// in which they stand. The class is not looked at. A group whose TTLs differ is answered by
+/// `MultipleTtlValues`, and the iterator goes on after it. Contracts see the list of the records
+/// that are left.
 #[derive(Drop)]
 pub struct OwnerRrsIter<'a, N, D: RecordData> {
     left: SliceRefsOrOwned<'a, Record<N, D>>,

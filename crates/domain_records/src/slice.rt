@@ -125,7 +125,8 @@ impl<'a, T> SliceRefsOrOwned<'a, T> {
     }
 }
 
-/// An iterator over a slice of values, or of references. Contracts see the list of the values that are left.
+/// An iterator over a slice of values, or of references. Contracts see the list of the values that
+/// are left.
 #[derive(Debug, Drop)]
 pub struct SliceRefsOrOwnedIterator<'a, T> {
     left: SliceRefsOrOwned<'a, T>,

@@ -6,6 +6,7 @@ ghost use Rattle.domain_records.specs.Text.{texts, soa_first, WritesWithComments
 ghost use Rattle.std.specs.Slice.Iter.{iter_rest};
 ghost use Rattle.std.specs.Iterator.{IsFiniteIterable};
 ghost use Rattle.std.specs.List.Sorted.{IsStrictlySortedBy};
+ghost use Rattle.domain_base.specs.Types.{soa};
 ghost use Rattle.domain_plain.specs.Record.{record_cmp};
 ghost use Rattle.domain_plain.specs.RecordClone.{IsRecordClone};
 ghost use Rattle.domain_records.specs.Edits.{Gives, refused, without_first, IsFirstMatch, Updates};
@@ -30,7 +31,8 @@ use std::alloc::Global;
 use std::marker::{Model, PhantomData};
 use std::{fmt, slice};
 
-/// Records in canonical order, no two of them equal under it. Contracts see the list of the records.
+/// Records in canonical order, no two of them equal under it. Contracts see the list of the
+/// records.
 #[derive(Drop)]
 pub struct SortedRecords<N: ToName, D: RecordData + CanonicalOrd, Sort: Sorter = DefaultSorter> {
     records: Vec<Record<N, D>>,
@@ -47,7 +49,8 @@ impl<N: ToName, D: RecordData + CanonicalOrd, Sort: Sorter> Model for SortedReco
 
     ghost view = { λ s. s.records.items };
 
-    ghost invariant = { λ s. IsStrictlySortedBy (record_cmp N.labels D.rtype D.canonical_cmp) s.records.items };
+    ghost invariant = { λ s. IsStrictlySortedBy (record_cmp N.labels D.rtype D.canonical_cmp)
+        s.records.items };
 }
 
 impl<N: ToName, D: RecordData + CanonicalOrd> SortedRecords<N, D> {
@@ -70,8 +73,8 @@ impl<N: ToName, D: RecordData + CanonicalOrd, Sort: Sorter> SortedRecords<N, D, 
         }
     }
 
-    /// Sorts the records, and keeps one of those that are equal under the canonical order: the earliest, where the
-    /// sorter is stable. Takes one sort and one pass.
+    /// Sorts the records, and keeps one of those that are equal under the canonical order: the
+    /// earliest, where the sorter is stable. Takes one sort and one pass.
     ///
     /// # Errors
     ///
@@ -80,7 +83,8 @@ impl<N: ToName, D: RecordData + CanonicalOrd, Sort: Sorter> SortedRecords<N, D, 
     where
         N: Drop,
         D: Drop,
-        ensures { IfOk result (IsUnion Sort.is_stable (record_cmp N.labels D.rtype D.canonical_cmp) records.items) }
+        ensures { IfOk result (IsUnion Sort.is_stable (record_cmp N.labels D.rtype D.canonical_cmp)
+            records.items) }
     {
         sort_and_dedup::<Record<N, D>, Sort>(&mut records)?;
         Ok(SortedRecords {
@@ -101,7 +105,8 @@ impl<N: ToName, D: RecordData + CanonicalOrd, Sort: Sorter> SortedRecords<N, D, 
     where
         N: Drop,
         D: Drop,
-        requires { IsFiniteIterable U.into_iter_gives U.IntoIter.can_next U.IntoIter.remaining records }
+        requires { IsFiniteIterable U.into_iter_gives U.IntoIter.can_next
+            U.IntoIter.remaining records }
         ensures { IfOk result (λ all. (xs : List (Record N D))
             × Gives U.into_iter_gives U.IntoIter.next_gives records xs
             × IsUnion Sort.is_stable (record_cmp N.labels D.rtype D.canonical_cmp) xs all) }
@@ -111,12 +116,14 @@ impl<N: ToName, D: RecordData + CanonicalOrd, Sort: Sorter> SortedRecords<N, D, 
         Ok(all)
     }
 
-    /// Puts records in, and keeps one of those that are equal under the canonical order: the earliest, where the sorter
-    /// is stable, and those that were stored count as earlier. Takes one sort and one pass.
+    /// Puts records in, and keeps one of those that are equal under the canonical order: the
+    /// earliest, where the sorter is stable, and those that were stored count as earlier. Takes one
+    /// sort and one pass.
     ///
     /// # Errors
     ///
-    /// `OutOfMemory` where there was no memory, or where the sorter answers it. What was stored is then as it was.
+    /// `OutOfMemory` where there was no memory, or where the sorter answers it. What was stored is
+    /// then as it was.
     pub fn extend<U: IntoIterator<Item = Record<N, D>>>(
         &mut self,
         more: U,
@@ -124,10 +131,12 @@ impl<N: ToName, D: RecordData + CanonicalOrd, Sort: Sorter> SortedRecords<N, D, 
     where
         N: Drop,
         D: Drop,
-        requires { IsFiniteIterable U.into_iter_gives U.IntoIter.can_next U.IntoIter.remaining more }
+        requires { IsFiniteIterable U.into_iter_gives U.IntoIter.can_next
+            U.IntoIter.remaining more }
         ensures ok { OnOk result ((xs : List (Record N D))
             × Gives U.into_iter_gives U.IntoIter.next_gives more xs
-            × IsUnion Sort.is_stable (record_cmp N.labels D.rtype D.canonical_cmp) (self.old ++ xs) self.new) }
+            × IsUnion Sort.is_stable (record_cmp N.labels D.rtype D.canonical_cmp)
+            (self.old ++ xs) self.new) }
         ensures err { OnErr result (self.new ≡ self.old) }
     {
         let stored = self.records.len();
@@ -143,10 +152,12 @@ impl<N: ToName, D: RecordData + CanonicalOrd, Sort: Sorter> SortedRecords<N, D, 
     ///
     /// # Errors
     ///
-    /// `Present` exactly where a record stands that is equal under the canonical order, whatever its TTL, and
-    /// `OutOfMemory`. Both hand the record back, and what was stored is then as it was.
+    /// `Present` exactly where a record stands that is equal under the canonical order, whatever
+    /// its TTL, and `OutOfMemory`. Both hand the record back, and what was stored is then as it
+    /// was.
     pub fn insert(&mut self, added: Record<N, D>) -> Result<(), InsertError<N, D>>
-        ensures ok { OnOk result (Adds (record_cmp N.labels D.rtype D.canonical_cmp) self.old added self.new) }
+        ensures ok { OnOk result (Adds (record_cmp N.labels D.rtype D.canonical_cmp) self.old
+            added self.new) }
         ensures present { IsErrOf result (InsertError.Present added)
             ↔ Holds (record_cmp N.labels D.rtype D.canonical_cmp) self.old added }
         ensures err { OnErr result (self.new ≡ self.old) }
@@ -163,8 +174,8 @@ impl<N: ToName, D: RecordData + CanonicalOrd, Sort: Sorter> SortedRecords<N, D, 
         }
     }
 
-    /// Takes out all records of this owner, of the class and the type that are asked: `None` asks for any. Answers
-    /// whether there was one. Takes no memory.
+    /// Takes out all records of this owner, of the class and the type that are asked: `None` asks
+    /// for any. Answers whether there was one. Takes no memory.
     pub fn remove_all_by_name_class_rtype(
         &mut self,
         name: &N,
@@ -175,8 +186,10 @@ impl<N: ToName, D: RecordData + CanonicalOrd, Sort: Sorter> SortedRecords<N, D, 
         N: Drop,
         D: Drop,
         ensures kept { self.new
-            ≡ filter (λ r. not (matches N.labels D.rtype (N.labels name.now) class rtype r)) self.old }
-        ensures found { result ≡ list_any (matches N.labels D.rtype (N.labels name.now) class rtype) self.old }
+            ≡ filter (λ r. not (matches N.labels D.rtype (N.labels name.now) class rtype r))
+            self.old }
+        ensures found { result ≡ list_any (matches N.labels D.rtype (N.labels name.now) class rtype)
+            self.old }
     {
         let wanted = Wanted {
             owner: name,
@@ -190,8 +203,8 @@ impl<N: ToName, D: RecordData + CanonicalOrd, Sort: Sorter> SortedRecords<N, D, 
         true
     }
 
-    /// Takes out the first record of this owner, of the class and the type that are asked: `None` asks for any. Answers
-    /// whether there was one. Takes no memory.
+    /// Takes out the first record of this owner, of the class and the type that are asked: `None`
+    /// asks for any. Answers whether there was one. Takes no memory.
     pub fn remove_first_by_name_class_rtype(
         &mut self,
         name: &N,
@@ -201,8 +214,10 @@ impl<N: ToName, D: RecordData + CanonicalOrd, Sort: Sorter> SortedRecords<N, D, 
     where
         N: Drop,
         D: Drop,
-        ensures kept { self.new ≡ without_first (matches N.labels D.rtype (N.labels name.now) class rtype) self.old }
-        ensures found { result ≡ list_any (matches N.labels D.rtype (N.labels name.now) class rtype) self.old }
+        ensures kept { self.new ≡ without_first
+            (matches N.labels D.rtype (N.labels name.now) class rtype) self.old }
+        ensures found { result ≡ list_any (matches N.labels D.rtype (N.labels name.now) class rtype)
+            self.old }
     {
         let wanted = Wanted {
             owner: name,
@@ -218,9 +233,9 @@ impl<N: ToName, D: RecordData + CanonicalOrd, Sort: Sorter> SortedRecords<N, D, 
         }
     }
 
-    /// Gives the first record that the matcher passes other data, and moves it to its place. It is dropped where a
-    /// record stands there that is equal under the canonical order. Where the matcher passes none, nothing changes.
-    /// Takes no memory.
+    /// Gives the first record that the matcher passes other data, and moves it to its place. It is
+    /// dropped where a record stands there that is equal under the canonical order. Where the
+    /// matcher passes none, nothing changes. Takes no memory.
     pub fn update_data<F: Fn(&Record<N, D>) -> bool>(&mut self, matcher: F, data: D)
     where
         N: Drop,
@@ -261,13 +276,15 @@ impl<N: ToName, D: RecordData + CanonicalOrd, Sort: Sorter> SortedRecords<N, D, 
     /// `MultipleTtlValues` where the TTLs of that group differ.
     pub fn find_soa(&self) -> Result<Option<Rrset<'_, N, D>>, SigningError>
         ensures { IsFound D.rtype
-            (find (begins_with (λ r. D.rtype r.«data» == 6)) (runs (same_rrset N.labels D.rtype) self.now)) result }
+            (find (begins_with (λ r. D.rtype r.«data» == soa))
+            (runs (same_rrset N.labels D.rtype) self.now)) result }
     {
         let records = self.as_slice();
         rrset_at(records, first_of_type(records, Rtype::SOA))
     }
 
-    /// The first group of records of this owner and this type. Takes binary searches, one or two a class.
+    /// The first group of records of this owner and this type. Takes binary searches, one or two a
+    /// class.
     ///
     /// # Errors
     ///
@@ -356,15 +373,16 @@ impl<N: ToName, D: RecordData + CanonicalOrd, Sort: Sorter> SortedRecords<N, D, 
     where
         D: fmt::Display,
         ensures { OnOk result (WritesText W.write_str_gives target.old
-            (texts ⟦<Record<N, D> as fmt::Display>⟧.output (soa_first D.rtype self.now)) target.new) }
+            (texts ⟦<Record<N, D> as fmt::Display>⟧.output (soa_first D.rtype self.now))
+            target.new) }
     {
         let records = self.as_slice();
         write_part::<Record<N, D>, SoaRecords, W>(records, true, target)?;
         write_part::<Record<N, D>, SoaRecords, W>(records, false, target)
     }
 
-    /// Writes the SOA records and then the others, each in order, and after each what `comment` writes at it and one
-    /// line feed.
+    /// Writes the SOA records and then the others, each in order, and after each what `comment`
+    /// writes at it and one line feed.
     ///
     /// # Errors
     ///
@@ -378,7 +396,8 @@ impl<N: ToName, D: RecordData + CanonicalOrd, Sort: Sorter> SortedRecords<N, D, 
         D: fmt::Display,
         F: Drop,
         requires { F.IsAlwaysCallable comment }
-        ensures { OnOk result (WritesWithComments W.write_str_gives ⟦<Record<N, D> as fmt::Display>⟧.output F.Fn
+        ensures { OnOk result (WritesWithComments W.write_str_gives
+            ⟦<Record<N, D> as fmt::Display>⟧.output F.Fn
             comment target.old (soa_first D.rtype self.now) target.new) }
     {
         let records = self.as_slice();

@@ -8,7 +8,8 @@ ghost use Rattle.domain_records.specs.Sort.{AnswersBy};
 use domain_octets::OutOfMemory;
 use std::cmp::Ordering;
 
-/// A way to sort a list. A caller that wants other resources used than `DefaultSorter` uses brings one of its own.
+/// A way to sort a list. A caller that wants other resources used than `DefaultSorter` uses brings
+/// one of its own.
 pub trait Sorter {
     /// Whether elements that the order calls equal stay as they stood.
     ghost is_stable: { Bool };
@@ -28,7 +29,8 @@ pub trait Sorter {
         ensures sorted { OnOk result ((R : T → T → Ordering)
             → IsTotalOrder R → AnswersBy F.Fn R compare → IsSorted R records.new.items) }
         ensures stable { IsTrue is_stable → (R : T → T → Ordering)
-            → IsTotalOrder R → AnswersBy F.Fn R compare → IsStable R records.old.items records.new.items }
+            → IsTotalOrder R → AnswersBy F.Fn R compare
+            → IsStable R records.old.items records.new.items }
         ensures err { OnErr result (records.new.items ≡ records.old.items) };
 }
 

@@ -91,7 +91,8 @@ fn write_picked_line<T: fmt::Display, K: Kind<T>, W: fmt::Write, F: Fn(&T, &mut 
     write_line(item, target, comment)
 }
 
-/// Writes the elements of a kind, or the others, in their order, each with its comment and a line feed.
+/// Writes the elements of a kind, or the others, in their order, each with its comment and a line
+/// feed.
 pub(crate) fn write_part_with_comments<
     T: fmt::Display,
     K: Kind<T>,
