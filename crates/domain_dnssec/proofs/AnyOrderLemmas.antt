@@ -4,7 +4,9 @@ use Rattle.domain_plain.specs.declared.record.Record.{Record}
 use Rattle.domain_rdata.specs.declared.zone_record_data.ZoneRecordData.{ZoneRecordData}
 use Rattle.domain_base.specs.Words.{Name}
 use Rattle.domain_nsec.specs.declared.config.GenerateNsecConfig.{GenerateNsecConfig}
+use Rattle.domain_nsec3.specs.Config.{ChainConfig}
 use Rattle.domain_dnssec.specs.AnyOrder.{Sorts, HasNoSortedChain, HasNoChain}
+use Rattle.domain_dnssec.specs.AnyOrderNsec3.{HasNoSortedHashedChain, HasNoHashedChain}
 use Rattle.domain_dnssec.specs.declared.chain.ChainError.{ChainError}
 use Rattle.domain_dnssec.specs.declared.chain.ChainError.TheVariants.{MixedClasses, Signing, OutOfMemory}
 
@@ -21,3 +23,9 @@ module _ {O N : Type 0} (octets : O → List ℕ) (labels : N → Name) (given s
   no_chain_of MixedClasses h = record { sorted = sorted; sorts = sorts; mixed = h }
   no_chain_of (Signing e) h = record { sorted = sorted; sorts = sorts; fault = h }
   no_chain_of OutOfMemory h = tt
+
+module _ {O N : Type 0} (octets : O → List ℕ) (labels : N → Name) (given sorted : List (Record N (ZoneRecordData O N))) (apex : Name) (config : ChainConfig) (sorts : Sorts octets labels given sorted) where
+  pub no_hashed_chain_of : (e : ChainError) → HasNoSortedHashedChain labels sorted apex config e → HasNoHashedChain octets labels given apex config e
+  no_hashed_chain_of MixedClasses h = record { sorted = sorted; sorts = sorts; mixed = h }
+  no_hashed_chain_of (Signing e) h = record { sorted = sorted; sorts = sorts; fault = h }
+  no_hashed_chain_of OutOfMemory h = tt

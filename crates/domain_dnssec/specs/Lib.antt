@@ -1,4 +1,5 @@
 pub mod AnyOrder
+pub mod AnyOrderNsec3
 pub use Rattle.domain_zone.specs.Covering
 pub use Rattle.domain_zone.specs.Zone
 pub use Rattle.domain_zone.specs.Soa

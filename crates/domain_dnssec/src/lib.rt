@@ -1,29 +1,38 @@
 //! DNSSEC denial of existence: the chains of a zone (RFC 4034, section 4; RFC 4035, section 2.3;
-//! RFC 9077), under one name.
+//! RFC 5155, section 7.1; RFC 9077), under one name.
 //!
 //! `generate_nsecs` makes the NSEC chain of a zone whose records are handed over in canonical
-//! order, as `SortedRecords` keeps them; `generate_nsecs_of_sorted` takes these as they are, and
-//! `generate_nsecs_of_records` records in any order. What the contracts cite stands in `specs/` of
-//! `domain_zone`, `domain_nsec` and this crate. What signatures here name is handed on: names,
+//! order, as `SortedRecords` keeps them, and `generate_nsec3s` its NSEC3 chain;
+//! `generate_nsecs_of_sorted` and `generate_nsec3s_of_sorted` take sorted records as they are,
+//! `generate_nsecs_of_records` and `generate_nsec3s_of_records` records in any order. What the
+//! contracts cite stands in `specs/` of `domain_zone`, `domain_nsec`, `domain_nsec3` and this crate. What signatures here name is handed on: names,
 //! types, classes, TTLs, records and their data, builders of octets, sorted records, and the
 //! errors.
 #![tactic(auto)]
 
 mod any_order;
+mod any_order_nsec3;
 mod chain;
+mod config;
 pub mod laws;
 
 pub use any_order::{generate_nsecs_of_records, generate_nsecs_of_sorted};
+pub use any_order_nsec3::{generate_nsec3s_of_records, generate_nsec3s_of_sorted};
 pub use chain::ChainError;
-pub use domain_base::{Class, MakeName, Name, Rtype, ToName, Ttl};
+pub use config::DenialConfig;
+pub use domain_base::{Class, MakeName, Name, Nsec3HashAlgorithm, Rtype, ToName, Ttl};
 pub use domain_bitmap::{RtypeBitmap, RtypeBitmapBuilder};
 pub use domain_nsec::{GenerateNsecConfig, generate_nsecs};
+pub use domain_nsec3::{
+    GenerateNsec3Config, Nsec3ParamTtlMode, Nsec3Records, generate_nsec3s,
+    mk_hashed_nsec3_owner_name,
+};
 pub use domain_octets::{
     EmptyBuilder, FreezeBuilder, FromBuilder, GrowingBuilder, Octets, OutOfMemory, Truncate,
     TryClone,
 };
 pub use domain_plain::Record;
-pub use domain_rdata::{Nsec, ZoneRecordData};
+pub use domain_rdata::{Nsec, Nsec3, Nsec3param, ZoneRecordData};
 pub use domain_records::{
     DefaultSorter, Nsec3HashError, OwnerRrs, RecordsIter, SigningError, SortedRecords, Sorter,
 };

@@ -1,0 +1,44 @@
+//! How the denial of existence of a zone is made.
+ghost use Rattle.std.specs.Prelude.{◌≡◌, true, false, IfOk};
+
+use domain_nsec::GenerateNsecConfig;
+use domain_nsec3::GenerateNsec3Config;
+use domain_octets::{Octets, OutOfMemory};
+
+/// How the denial of existence of a zone is made. `Sort` is what sorts the hashes of NSEC3.
+#[derive(Drop)]
+pub enum DenialConfig<O: Octets, Sort> {
+    /// The zone holds a chain already.
+    AlreadyPresent,
+    /// By an NSEC chain.
+    Nsec(GenerateNsecConfig),
+    /// By an NSEC3 chain.
+    Nsec3(GenerateNsec3Config<O, Sort>),
+}
+
+impl<O: Octets, Sort> DenialConfig<O, Sort> {
+    /// An NSEC chain, as `GenerateNsecConfig::new` has it.
+    pub fn default() -> Self
+        ensures { result ≡ DenialConfig.Nsec (record {
+          assume_dnskeys_will_be_added = true;
+          occlude_below_dname = false;
+        }) }
+    {
+        DenialConfig::Nsec(GenerateNsecConfig::new())
+    }
+
+    /// A copy. Uses the allocator of the salt's octets.
+    ///
+    /// # Errors
+    ///
+    /// `OutOfMemory`.
+    pub fn clone(&self) -> Result<Self, OutOfMemory>
+        ensures { IfOk result (λ copy. copy ≡ self.now) }
+    {
+        Ok(match self {
+            DenialConfig::AlreadyPresent => DenialConfig::AlreadyPresent,
+            DenialConfig::Nsec(config) => DenialConfig::Nsec(*config),
+            DenialConfig::Nsec3(config) => DenialConfig::Nsec3(config.clone()?),
+        })
+    }
+}

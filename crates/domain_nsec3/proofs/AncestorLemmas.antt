@@ -1,0 +1,154 @@
+-- The names above a name, and those above the owners of a list, collected one owner after another.
+use Rattle.std.proofs.Common.{◌≡◌, ℕ, ◌+◌, ◌≤◌, ◌<◌, Bool, true, false, cond, not, ◌&&◌, ◌||◌, List, [], ◌∷◌, ◌++◌, length, refl, sym, ap, ◌∙◌, arith, inl, inr}
+use Rattle.std.specs.Prelude.{nat_le, nat_lt}
+use Rattle.std.specs.List.{AllByRecursion, list_any}
+use Rattle.std.proofs.lemmas.Bool.{cases_Bool, false≢true, leb-true, and_parts, and_from, not-true, or_cases, or_left, or_right}
+use Rattle.std.proofs.lemmas.Bool.Decides.{nat_tests}
+use Rattle.std.proofs.lemmas.List.{append-nil}
+use Rattle.std.proofs.lemmas.List.Folds.{list_any-append}
+use Rattle.domain_base.specs.Name.{is_at_or_below, is_strictly_below, lowered, same_name}
+use Rattle.domain_base.specs.Words.{Name}
+use Rattle.domain_zone.proofs.NameLemmas.{lowered_below, same_lowered}
+use Rattle.domain_zone.proofs.NameLemmas.{one_lowered, same_itself, below_itself, below_trans, below_longer, below_length, below_parent}
+use Rattle.domain_zone.proofs.PairLemmas.{all_in}
+use Rattle.domain_zone.proofs.OwnerLemmas.{any_in}
+use Rattle.domain_zone.proofs.ZoneLemmas.{weaker, all_both}
+use Rattle.domain_nsec3.specs.Ancestors.{above_with_more, HoldsAncestors}
+use Rattle.domain_nsec3.proofs.SharedLemmas.{Shares, at_length, cons_below}
+
+less : (m n : ℕ) → m < n → nat_lt m n ≡ true
+less m n h = grind (arith, nat_tests)
+
+not_less : (m n : ℕ) → n ≤ m → nat_lt m n ≡ false
+not_less m n h = grind (arith, nat_tests)
+
+is_less : (m n : ℕ) → nat_lt m n ≡ true → m < n
+is_less m n h = grind (arith, nat_tests)
+
+-- ---- one name
+
+-- strictly below is below with more labels
+pub strictly_longer : (x e : Name) → is_strictly_below x e ≡ true → length e < length x
+strictly_longer x e h =
+    let p = and_parts (is_at_or_below x e) (not (same_name x e)) h in
+    elim (cases_Bool (nat_le (length x) (length e))) [
+      | inl l ↦ absurd (false≢true (sym (not-true (same_name x e) p.1) ∙ same_itself x e (at_length x e p.0 (leb-true (length x) (length e) l))))
+      | inr l ↦ grind (arith, nat_tests)
+    ]
+
+pub strictly_from : (x e : Name) → is_at_or_below x e ≡ true → length e < length x → is_strictly_below x e ≡ true
+strictly_from x e h l =
+    and_from (is_at_or_below x e) (not (same_name x e)) h
+    (elim (cases_Bool (same_name x e)) [
+      | inl s ↦ let long = below_length e x (ap (λ k. lowered_below k (lowered x)) (sym (one_lowered x e s)) ∙ below_itself x) in absurd (omega arith)
+      | inr s ↦ ap not s
+    ])
+
+pub more_none : (n : ℕ) (x : Name) → length x ≤ n + 1 → above_with_more n x ≡ []
+more_none n [] h = refl
+more_none n (label ∷ x) h = rw (not_less n (length x) (omega arith))
+
+abbrev IsAbove : ℕ → Name → Name → Type 0
+IsAbove n o m = (is_at_or_below o m ≡ true) × (length m < length o) × (n < length m)
+
+are_above : (n : ℕ) (o : Name) → AllByRecursion (IsAbove n o) (above_with_more n o)
+are_above n [] = tt
+are_above n (label ∷ x) =
+    elim (nat_lt n (length x)) as (λ b. nat_lt n (length x) ≡ b → AllByRecursion (IsAbove n (label ∷ x)) (cond b (above_with_more n x ++ x ∷ []) [])) [
+      | true ↦ λ e. all_both (IsAbove n (label ∷ x)) (above_with_more n x) (x ∷ [])
+          (weaker (IsAbove n x) (IsAbove n (label ∷ x)) (λ m h. (below_trans (label ∷ x) x m (below_parent label x) h.0, omega (arith, h.1), h.2)) (above_with_more n x) (are_above n x))
+          ((below_parent label x, omega arith, is_less n (length x) e), tt)
+      | false ↦ λ e. tt
+    ] refl
+
+has_each : (n : ℕ) (o x : Name) → is_at_or_below o x ≡ true → n < length x → length x < length o → list_any (λ m. same_name m x) (above_with_more n o) ≡ true
+has_each n [] x h more fewer = absurd (omega arith)
+has_each n (label ∷ o) x h more fewer =
+    let up : length x ≤ length o = omega arith in
+    let above : is_at_or_below o x ≡ true = sym (cons_below label o x up) ∙ h in
+    let there : list_any (λ m. same_name m x) (above_with_more n o ++ o ∷ []) ≡ true = list_any-append (λ m. same_name m x) (above_with_more n o) (o ∷ []) ∙ elim (cases_Bool (nat_le (length o) (length x))) [
+      | inl l ↦ or_right (list_any (λ m. same_name m x) (above_with_more n o)) (same_name o x || false) (or_left (same_name o x) false (same_itself o x (at_length o x above (leb-true (length o) (length x) l))))
+      | inr l ↦ or_left (list_any (λ m. same_name m x) (above_with_more n o)) (same_name o x || false) (has_each n o x above more (grind (arith, nat_tests)))
+    ] in
+    rw (less n (length o) (omega arith)) there
+
+-- ---- a list of owners
+
+-- the name before an owner is the apex, or one of the owners so far
+pub record IsKnown (a : Name) (owners : List Name) (p : Name) : Type 0 where
+  pub in_zone : is_at_or_below p a ≡ true
+  pub there : (e : Name) → is_strictly_below e a ≡ true → is_at_or_below p e ≡ true → list_any (λ n. is_at_or_below n e) owners ≡ true
+
+pub holds_none : (a : Name) → HoldsAncestors a [] []
+holds_none a = record {
+  below = λ x h. absurd (false≢true h);
+  above = λ x h. absurd (false≢true h);
+  each = λ x h e. absurd (false≢true e);
+}
+
+pub known_apex : (a : Name) → IsKnown a [] a
+known_apex a = record {
+  in_zone = below_itself a;
+  there = λ e h up. let longer = strictly_longer e a h in let shorter = below_length a e up in absurd (omega arith);
+}
+
+pub known_owner : (a : Name) (owners : List Name) (o : Name) → is_at_or_below o a ≡ true → IsKnown a (owners ++ o ∷ []) o
+known_owner a owners o h = record {
+  in_zone = h;
+  there = λ e s up. list_any-append (λ n. is_at_or_below n e) owners (o ∷ []) ∙ or_right (list_any (λ n. is_at_or_below n e) owners) (is_at_or_below o e || false) (or_left (is_at_or_below o e) false up);
+}
+
+module _ (a : Name) (owners names : List Name) (p o : Name) (s : ℕ) (known : IsKnown a owners p) (zone : is_at_or_below o a ≡ true) (shares : Shares o p s) (h : HoldsAncestors a owners names) where
+  apex_short : length a ≤ s
+  apex_short = leb-true (length a) s (sym (shares a zone) ∙ known.in_zone)
+
+  fresh_below : (x : Name) → list_any (λ m. same_name m x) (above_with_more s o) ≡ true → (is_strictly_below x a ≡ true) × (is_strictly_below o x ≡ true)
+  fresh_below x e =
+      let m = any_in (λ m. same_name m x) (above_with_more s o) e in
+      let f = all_in (IsAbove s o) (above_with_more s o) m.0 (are_above s o) m.1 in
+      let k = one_lowered m.0 x m.2 in
+      let long : length a < length m.0 = omega (arith, apex_short, f.2) in
+      let low = strictly_from m.0 a (below_longer o m.0 a f.0 zone (omega arith)) long in
+      let high = strictly_from o m.0 f.0 f.1 in
+      (ap (λ q. lowered_below q (lowered a) && not (same_lowered q (lowered a))) (sym k) ∙ low, ap (λ q. lowered_below (lowered o) q && not (same_lowered (lowered o) q)) (sym k) ∙ high)
+
+  pub holds_more : HoldsAncestors a (owners ++ o ∷ []) (names ++ above_with_more s o)
+  holds_more = record {
+    below = λ x e. elim (or_cases (list_any (λ n. same_name n x) names) (list_any (λ n. same_name n x) (above_with_more s o)) (sym (list_any-append (λ n. same_name n x) names (above_with_more s o)) ∙ e)) [
+      | inl t ↦ h.below x t
+      | inr t ↦ (fresh_below x t).0
+    ];
+    above = λ x e. list_any-append (λ n. is_strictly_below n x) owners (o ∷ []) ∙ elim (or_cases (list_any (λ n. same_name n x) names) (list_any (λ n. same_name n x) (above_with_more s o)) (sym (list_any-append (λ n. same_name n x) names (above_with_more s o)) ∙ e)) [
+      | inl t ↦ or_left (list_any (λ n. is_strictly_below n x) owners) (is_strictly_below o x || false) (h.above x t)
+      | inr t ↦ or_right (list_any (λ n. is_strictly_below n x) owners) (is_strictly_below o x || false) (or_left (is_strictly_below o x) false (fresh_below x t).1)
+    ];
+    each = λ x low e.
+        let S : List Name → Bool = list_any (λ n. same_name n x) in
+        let old : list_any (λ n. is_at_or_below n x) owners ≡ true → (S (owners ++ o ∷ []) || S (names ++ above_with_more s o)) ≡ true = λ t.
+        elim (or_cases (S owners) (S names) (h.each x low t)) [
+          | inl u ↦ or_left (S (owners ++ o ∷ [])) (S (names ++ above_with_more s o)) (list_any-append (λ n. same_name n x) owners (o ∷ []) ∙ or_left (S owners) (S (o ∷ [])) u)
+          | inr u ↦ or_right (S (owners ++ o ∷ [])) (S (names ++ above_with_more s o)) (list_any-append (λ n. same_name n x) names (above_with_more s o) ∙ or_left (S names) (S (above_with_more s o)) u)
+        ] in
+        elim (or_cases (list_any (λ n. is_at_or_below n x) owners) (is_at_or_below o x || false) (sym (list_any-append (λ n. is_at_or_below n x) owners (o ∷ [])) ∙ e)) [
+          | inl t ↦ old t
+          | inr t ↦ elim (or_cases (is_at_or_below o x) false t) [
+            | inr u ↦ absurd (false≢true u)
+            | inl u ↦ elim (cases_Bool (nat_le (length x) s)) [
+              | inl l ↦ old (known.there x low (shares x u ∙ l))
+              | inr l ↦
+                  let more : s < length x = grind (arith, nat_tests) in
+                  elim (cases_Bool (nat_le (length o) (length x))) [
+                    | inl w ↦
+                        let one = same_itself o x (at_length o x u (leb-true (length o) (length x) w)) in
+                        or_left (S (owners ++ o ∷ [])) (S (names ++ above_with_more s o)) (list_any-append (λ n. same_name n x) owners (o ∷ []) ∙ or_right (S owners) (S (o ∷ [])) (or_left (same_name o x) false one))
+                    | inr w ↦
+                        or_right (S (owners ++ o ∷ [])) (S (names ++ above_with_more s o)) (list_any-append (λ n. same_name n x) names (above_with_more s o) ∙ or_right (S names) (S (above_with_more s o)) (has_each s o x u more (grind (arith, nat_tests))))
+                  ]
+            ]
+          ]
+        ];
+  }
+
+-- with nothing to add
+pub more_end : (n : ℕ) (x : Name) (names : List Name) → length x ≤ n + 1 → names ≡ names ++ above_with_more n x
+more_end n x names h = sym (ap (λ rest. names ++ rest) (more_none n x h) ∙ append-nil names)

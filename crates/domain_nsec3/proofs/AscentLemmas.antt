@@ -1,0 +1,60 @@
+-- The owners of NSEC3 records ascend in canonical order, as their hashes do.
+use Rattle.std.proofs.Common.{◌≡◌, ℕ, ◌<◌, List, [], ◌∷◌, map, refl, sym, ap, ◌∙◌, subst}
+use Rattle.std.specs.Prelude.{All}
+use Rattle.std.specs.List.{AllByRecursion}
+use Rattle.std.specs.List.Sorted.{IsStrictlySortedBy}
+use Rattle.std.specs.Cmp.Lexicographic.{slice_cmp}
+use Rattle.std.specs.Ordering.{nat_cmp, ordering_then}
+use Rattle.std.specs.declared.cmp.Ordering.TheVariants.{Less}
+use Rattle.std.proofs.lemmas.Cmp.{tied_itself}
+use Rattle.std.proofs.lemmas.List.Elements.{recursion_from_All}
+use Rattle.domain_octets.specs.Base32.{base32_lower}
+use Rattle.domain_octets.proofs.OrderLemmas.{lower_keeps}
+use Rattle.domain_base.specs.Order.{canonical_cmp, canonical_cmp_total}
+use Rattle.domain_base.proofs.OrderLemmas.{canonical_cmp-more}
+use Rattle.domain_zone.specs.Covering.{pairs}
+use Rattle.domain_base.specs.Words.{Name}
+use Rattle.domain_zone.specs.Zone.{ZoneRecord}
+use Rattle.domain_nsec3.specs.Chain.{HashedLink, HashedName, IsHashedChain, IsOfChain, cycle, ends, ends_of, hashed_owner}
+use Rattle.domain_nsec3.specs.Config.{ChainConfig}
+use Rattle.domain_nsec3.specs.Meaning.{OwnersAscend}
+use Rattle.domain_nsec3.proofs.TextLemmas.{lower_text}
+
+before_owner : (a : Name) (u v : List ℕ) → All (λ o. o < 256) u → All (λ o. o < 256) v → slice_cmp nat_cmp u v ≡ Less → canonical_cmp (hashed_owner a u) (hashed_owner a v) ≡ Less
+before_owner a u v p q e =
+    canonical_cmp-more a a (base32_lower u) (base32_lower v) refl
+    ∙ (λ i. ordering_then (tied_itself canonical_cmp_total a i) (slice_cmp nat_cmp (lower_text u p i) (lower_text v q i)))
+    ∙ lower_keeps u v p q ∙ e
+
+ascending : (a : Name) (us : List (List ℕ)) → AllByRecursion (λ u. All (λ o. o < 256) u) us → IsStrictlySortedBy (slice_cmp nat_cmp) us → IsStrictlySortedBy canonical_cmp (map (hashed_owner a) us)
+unfolding IsStrictlySortedBy
+ascending a [] h up = tt
+ascending a (u ∷ us) h up = (each us h.1 up.0, ascending a us h.1 up.1)
+  where
+    each : (vs : List (List ℕ)) → AllByRecursion (λ u. All (λ o. o < 256) u) vs → AllByRecursion (λ v. slice_cmp nat_cmp u v ≡ Less) vs → AllByRecursion (λ y. canonical_cmp (hashed_owner a u) y ≡ Less) (map (hashed_owner a) vs)
+    each [] k m = tt
+    each (v ∷ vs) k m = (before_owner a u v h.0 k.0 m.0, each vs k.1 m.1)
+
+owners_of_cycle : (a : Name) (links : List HashedLink) (us : List (List ℕ)) → map ends links ≡ map (ends_of a) (cycle us) → map (λ k. k.owner) links ≡ map (hashed_owner a) us
+owners_of_cycle a links us e = first links ∙ ap (map (λ (p : Name × List ℕ). p.0)) e ∙ cycled us
+  where
+    first : (ls : List HashedLink) → map (λ k. k.owner) ls ≡ map (λ (p : Name × List ℕ). p.0) (map ends ls)
+    first [] = refl
+    first (l ∷ ls) = ap (λ t. l.owner ∷ t) (first ls)
+
+    paired : (w : List ℕ) (ws : List (List ℕ)) (f : List ℕ) → map (λ (p : Name × List ℕ). p.0) (map (ends_of a) (pairs (w ∷ ws) f)) ≡ map (hashed_owner a) (w ∷ ws)
+    paired w [] f = refl
+    paired w (x ∷ ws) f = ap (λ t. hashed_owner a w ∷ t) (paired x ws f)
+
+    cycled : (vs : List (List ℕ)) → map (λ (p : Name × List ℕ). p.0) (map (ends_of a) (cycle vs)) ≡ map (hashed_owner a) vs
+    cycled [] = refl
+    cycled (v ∷ vs) = paired v vs v
+
+pub owners_ascend : (L : List ZoneRecord) (a : Name) (config : ChainConfig) (links : List HashedLink) → IsHashedChain L a config links → OwnersAscend links
+owners_ascend L a config links chain =
+    subst (IsStrictlySortedBy canonical_cmp) (sym (owners_of_cycle a links (map (λ n. n.hash) chain.names) chain.linked))
+    (ascending a (map (λ n. n.hash) chain.names) (octets chain.names (recursion_from_All (IsOfChain L a config) chain.names chain.sound)) chain.ascend)
+  where
+    octets : (ns : List HashedName) → AllByRecursion (IsOfChain L a config) ns → AllByRecursion (λ u. All (λ o. o < 256) u) (map (λ n. n.hash) ns)
+    octets [] h = tt
+    octets (n ∷ ns) h = (h.0.sound.2, octets ns h.1)

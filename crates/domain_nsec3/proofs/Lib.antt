@@ -1,0 +1,14 @@
+pub mod SharedLemmas
+pub mod AncestorLemmas
+pub mod ListLemmas
+pub mod OwnerLemmas
+pub mod TextLemmas
+pub mod TypeLemmas
+pub mod StateLemmas
+pub mod HashLemmas
+pub mod ChainLemmas
+pub mod EntryLemmas
+pub mod FaultLemmas
+pub mod OutcomeLemmas
+pub mod MeaningLemmas
+pub mod AscentLemmas

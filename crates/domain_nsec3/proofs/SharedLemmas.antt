@@ -1,0 +1,100 @@
+-- How many labels two names share: the names above one that are above the other too are those with at most as many.
+use Rattle.std.proofs.Common.{◌≡◌, ℕ, ◌+◌, ◌≤◌, Bool, true, false, cond, ◌&&◌, not, ◌||◌, List, [], ◌∷◌, ◌++◌, length, reverse, refl, sym, ap, ◌∙◌, arith, inl, inr, nat_eq}
+use Rattle.std.specs.Prelude.{nat_le}
+use Rattle.std.specs.Cmp.Lexicographic.{pointwise, bytes_decides}
+use Rattle.std.specs.List.{common_prefix_len}
+use Rattle.std.proofs.lemmas.Bool.{cases_Bool, false≢true, true≢false, and_parts}
+use Rattle.std.proofs.lemmas.Bool.Decides.{nat_tests}
+use Rattle.std.proofs.lemmas.List.{length-reverse, length-map}
+use Rattle.domain_base.specs.Laws.{from_root-below, below-from_root}
+use Rattle.domain_base.specs.Name.{is_at_or_below, lowered, IsAtOrBelow}
+use Rattle.domain_base.specs.Order.{common_labels, from_root}
+use Rattle.domain_base.specs.Words.{Label, Name}
+use Rattle.domain_zone.proofs.NameLemmas.{one_lowered, same_is, below_back, below_there, below_itself, below_trans, below_from, below_longer, below_parent}
+use Rattle.domain_zone.proofs.SharedLemmas.{either_way}
+
+-- a name at or below one with no fewer labels is that one
+pub at_length : (x e : Name) → is_at_or_below x e ≡ true → length x ≤ length e → lowered x ≡ lowered e
+at_length x e h l =
+    let back = below_longer x e x h (below_itself x) l in
+    one_lowered x e (same_is x e ∙ (λ i. not (below_from x e h i || below_from e x back i)))
+
+-- above the first label
+pub cons_below : (x : Label) (xs e : Name) → length e ≤ length xs → is_at_or_below (x ∷ xs) e ≡ is_at_or_below xs e
+cons_below x xs e l =
+    either_way (is_at_or_below (x ∷ xs) e) (is_at_or_below xs e)
+    (λ h. below_longer (x ∷ xs) xs e (below_parent x xs) h l)
+    (λ h. below_trans (x ∷ xs) xs e (below_parent x xs) h)
+
+abbrev pub Shares : Name → Name → ℕ → Type 0
+Shares x y n = (e : Name) → is_at_or_below x e ≡ true → is_at_or_below y e ≡ nat_le (length e) n
+
+-- the labels of l are the first ones of k
+begins : Name → Name → Bool
+begins k [] = true
+begins [] (m ∷ l) = false
+begins (n ∷ k) (m ∷ l) = pointwise nat_eq n m && begins k l
+
+alike : (n : Label) → pointwise nat_eq n n ≡ true
+alike n = (bytes_decides n n).1 refl
+
+begins_front : (k l : Name) → begins (k ++ l) k ≡ true
+begins_front [] l = refl
+begins_front (n ∷ k) l = λ i. alike n i && begins_front k l i
+
+begins_rest : (k l : Name) → begins k l ≡ true → (rest : Name) × (k ≡ l ++ rest)
+begins_rest k [] e = (k, refl)
+begins_rest [] (m ∷ l) e = absurd (false≢true e)
+begins_rest (n ∷ k) (m ∷ l) e =
+    let g = and_parts (pointwise nat_eq n m) (begins k l) e in
+    let more = begins_rest k l g.1 in
+    (more.0, λ i. (bytes_decides n m).0 g.0 i ∷ more.1 i)
+
+-- at or below, by the labels from the root
+from_top : (x e : Name) → is_at_or_below x e ≡ begins (from_root x) (from_root e)
+from_top x e =
+    either_way (is_at_or_below x e) (begins (from_root x) (from_root e))
+    (λ h. let below = below_there x e h in ap (λ k. begins k (from_root e)) (from_root-below x e below) ∙ begins_front (from_root e) (reverse below.front))
+    (λ h. let r = begins_rest (from_root x) (from_root e) h in below_back x e (below-from_root x e r.0 r.1))
+
+le_more : (m n : ℕ) → nat_le (1 + m) (1 + n) ≡ nat_le m n
+le_more m n = elim (cases_Bool (nat_le m n)) [ inl e ↦ grind (arith, nat_tests) | inr e ↦ grind (arith, nat_tests) ]
+
+le_none : (m : ℕ) → nat_le (1 + m) 0 ≡ false
+le_none m = grind (arith, nat_tests)
+
+more_labels : (p : Label) (m : Name) → length (p ∷ m) ≡ 1 + length m
+more_labels p m = omega arith
+
+top_shares : (k l m : Name) → begins k m ≡ true → begins l m ≡ nat_le (length m) (common_prefix_len (pointwise nat_eq) k l)
+top_shares k l [] h = sym (le_leb_none (common_prefix_len (pointwise nat_eq) k l))
+  where
+    le_leb_none : (n : ℕ) → nat_le 0 n ≡ true
+    le_leb_none n = grind (arith, nat_tests)
+top_shares [] l (p ∷ m) h = absurd (false≢true h)
+top_shares (n ∷ k) [] (p ∷ m) h = sym (ap (λ j. nat_le j 0) (more_labels p m) ∙ le_none (length m))
+top_shares (n ∷ k) (q ∷ l) (p ∷ m) h =
+    let g = and_parts (pointwise nat_eq n p) (begins k m) h in
+    let is : n ≡ p = (bytes_decides n p).0 g.0 in
+    elim (cases_Bool (pointwise nat_eq n q)) [
+      | inl e ↦
+          let other : q ≡ p = sym ((bytes_decides n q).0 e) ∙ is in
+          (λ i. pointwise nat_eq (other i) p && begins l m) ∙ (λ i. alike p i && begins l m) ∙ top_shares k l m g.1
+          ∙ sym (le_more (length m) (common_prefix_len (pointwise nat_eq) k l))
+          ∙ sym (λ i. nat_le (more_labels p m i) (cond (e i) (1 + common_prefix_len (pointwise nat_eq) k l) 0))
+      | inr e ↦
+          let apart : pointwise nat_eq q p ≡ false = elim (cases_Bool (pointwise nat_eq q p)) [
+            | inl f ↦ absurd (true≢false (sym ((bytes_decides n q).1 (is ∙ sym ((bytes_decides q p).0 f))) ∙ e))
+            | inr f ↦ f
+          ] in
+          (λ i. apart i && begins l m)
+          ∙ sym (le_none (length m))
+          ∙ sym (λ i. nat_le (more_labels p m i) (cond (e i) (1 + common_prefix_len (pointwise nat_eq) k l) 0))
+    ]
+
+top_length : (x : Name) → length (from_root x) ≡ length x
+top_length x = simp (length-reverse, length-map)
+
+pub common_shares : (x y : Name) (n : ℕ) → n ≡ common_labels x y → Shares x y n
+common_shares x y n is e h =
+    from_top y e ∙ top_shares (from_root x) (from_root y) (from_root e) (sym (from_top x e) ∙ h) ∙ (λ i. nat_le (top_length e i) (sym is i))

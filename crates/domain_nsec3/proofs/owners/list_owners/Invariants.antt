@@ -1,0 +1,12 @@
+use Rattle.std.proofs.Common.{length, map}
+use Rattle.domain_nsec3.specs.StepView.{as_entry}
+use Rattle.domain_nsec3.specs.View.{Answer, config_of, zone_of}
+use Rattle.domain_nsec3.proofs.StateLemmas.{IsAt}
+use Rattle.domain_nsec3.proofs.owners.list_owners.Given as goal
+
+abbrev pub invariant-owners : goal.invariant-owners
+invariant-owners g l =
+    (answer : Answer) → IsAt (zone_of g.N.ToName.labels l.fn.records) (g.N.ToName.labels l.apex) (config_of answer l.config) l.owners (map (as_entry {O = g.row.O.Denot}) l.listed.items)
+
+abbrev pub decreases-owners : goal.decreases-owners
+decreases-owners g l = length l.owners

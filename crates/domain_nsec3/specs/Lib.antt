@@ -1,0 +1,13 @@
+pub mod Config
+pub mod Owners
+pub mod Chain
+pub mod Faults
+pub mod Meaning
+pub mod View
+pub mod Ancestors
+pub mod Steps
+pub mod StepView
+pub use Rattle.domain_zone.specs.Covering
+pub use Rattle.domain_zone.specs.Zone
+pub use Rattle.domain_zone.specs.Soa
+pub use Rattle.domain_zone.specs.Enclosers

@@ -1,0 +1,134 @@
+-- What the NSEC3 chain of a zone says of names, also of those that no record holds (RFC 5155,
+-- sections 7.2 and 8).
+use Rattle.std.specs.Prelude.{ℕ, Bool, true, false, List, map, Some, Ok, ◌≡◌, slice_get, ◌+◌, ◌<◌, length, All}
+use Rattle.std.specs.List.Sorted.{IsStrictlySortedBy}
+use Rattle.std.specs.Ordering.{nat_cmp, is_lt}
+use Rattle.std.specs.Cmp.Lexicographic.{slice_cmp}
+use Rattle.domain_octets.specs.Words.{Octets}
+use Rattle.domain_base.specs.Order.{canonical_cmp}
+use Rattle.domain_bitmap.specs.Bitmap.{bitmap_octets}
+use Rattle.domain_rdata.specs.OptOut.{is_opt_out}
+use Rattle.domain_zone.specs.Covering.{matches, covers, matches_or_covers}
+use Rattle.domain_zone.specs.Enclosers.{IsClosestEncloser}
+use Rattle.domain_base.specs.Name.{is_at_or_below, is_strictly_below, same_name}
+use Rattle.domain_base.specs.Words.{Name}
+use Rattle.domain_zone.specs.Zone.{ZoneRecord, is_zone_cut, is_unoccluded}
+use Rattle.domain_nsec3.specs.Chain.{HashedLink, hashed_owner}
+use Rattle.domain_nsec3.specs.Config.{ChainConfig, hash_of}
+use Rattle.domain_nsec3.specs.Owners.{original_owners, is_original_owner, is_chain_name, nsec3_lists}
+
+-- the order of hashes: octet by octet, and what is absent comes first
+abbrev pub octets_before : Octets → Octets → Bool
+octets_before u v = is_lt (slice_cmp nat_cmp u v)
+
+-- the hash of x is v, and no other name of the chain has it
+pub record IsAlone (L : List ZoneRecord) (a : Name) (config : ChainConfig) (x : Name) (v : Octets)
+    : Type 0 where
+  pub known : hash_of config x ≡ Ok v
+  pub alone : (y : Name) → is_chain_name L a config y ≡ true → hash_of config y ≡ Ok v
+      → same_name y x ≡ true
+
+-- that holds of x and of each of its ancestors at or below the apex
+abbrev pub AreAlone : List ZoneRecord → Name → ChainConfig → Name → Type 0
+AreAlone L a config x =
+    (d : Name) → is_at_or_below x d ≡ true → is_at_or_below d a ≡ true
+    → (v : Octets) × IsAlone L a config d v
+
+-- a record of the chain at a place, and the octets that the first label of its owner spells
+pub record IsRecordOf (a : Name) (links : List HashedLink) (place : ℕ) (k : HashedLink)
+    (h : Octets) : Type 0 where
+  pub there : slice_get links place ≡ Some k
+  pub spelled : k.owner ≡ hashed_owner a h
+  pub octets : All (λ octet. octet < 256) h
+
+-- exactly one record matches or covers the hash v of x; it matches exactly where x is a name of the
+-- chain, and then lists its types
+pub record IsMatchedOrCoveredOnce (L : List ZoneRecord) (a : Name) (config : ChainConfig)
+    (links : List HashedLink) (x : Name) (v : Octets) : Type 0 where
+  pub place : ℕ
+  pub link : HashedLink
+  pub hash : Octets
+  pub is : IsRecordOf a links place link hash
+  pub says : matches_or_covers octets_before hash link.next v ≡ true
+  pub only : (j : ℕ) (k : HashedLink) (h : Octets) → IsRecordOf a links j k h
+      → matches_or_covers octets_before h k.next v ≡ true → j ≡ place
+  pub matched : matches octets_before hash v ≡ is_chain_name L a config x
+  pub bits : is_chain_name L a config x ≡ true → link.bits ≡ bitmap_octets (nsec3_lists L a config x)
+
+-- that holds of each name at or below the apex, also one that no record holds, but those that share
+-- a hash with a name of the chain: the chain denies exactly what the zone does not hold
+pub record MirrorsZone (L : List ZoneRecord) (a : Name) (config : ChainConfig)
+    (links : List HashedLink) : Type 0 where
+  pub each : (x : Name) (v : Octets) → is_at_or_below x a ≡ true → IsAlone L a config x v
+      → IsMatchedOrCoveredOnce L a config links x v
+
+-- some record matches the hash of x
+pub record IsMatched (a : Name) (config : ChainConfig) (links : List HashedLink) (x : Name)
+    : Type 0 where
+  pub place : ℕ
+  pub link : HashedLink
+  pub hash : Octets
+  pub value : Octets
+  pub is : IsRecordOf a links place link hash
+  pub known : hash_of config x ≡ Ok value
+  pub says : matches octets_before hash value ≡ true
+
+-- some record with these flags covers it
+pub record IsCovered (a : Name) (config : ChainConfig) (links : List HashedLink) (x : Name)
+    : Type 0 where
+  pub place : ℕ
+  pub link : HashedLink
+  pub hash : Octets
+  pub value : Octets
+  pub is : IsRecordOf a links place link hash
+  pub known : hash_of config x ≡ Ok value
+  pub says : covers octets_before hash link.next value ≡ true
+  pub flags : link.flags ≡ config.flags
+
+-- the name one label longer than e, towards x (RFC 5155, section 1.3)
+pub record IsNextCloser (x e d : Name) : Type 0 where
+  pub above : is_at_or_below x d ≡ true
+  pub below : is_strictly_below d e ≡ true
+  pub longer : length d ≡ length e + 1
+
+-- of the names from x up to the apex those are matched that the closest encloser e is at or below,
+-- and no others; where x is longer than e, the next closer name is covered
+pub record TellsEncloserOf (L : List ZoneRecord) (a : Name) (config : ChainConfig)
+    (links : List HashedLink) (x e : Name) : Type 0 where
+  pub runs : (d : Name) → is_at_or_below x d ≡ true → is_at_or_below d a ≡ true
+      → is_at_or_below e d ≡ true → IsMatched a config links d
+  pub stops : (d : Name) → is_at_or_below x d ≡ true → is_at_or_below d a ≡ true
+      → is_at_or_below e d ≡ false → ¬ (IsMatched a config links d)
+  pub next : (d : Name) → IsNextCloser x e d → IsCovered a config links d
+
+-- each name at or below the apex has a closest encloser, and that holds of it where the name shares
+-- no hash, nor does an ancestor
+pub record TellsEncloser (L : List ZoneRecord) (a : Name) (config : ChainConfig)
+    (links : List HashedLink) : Type 0 where
+  pub encloser : (x : Name) → is_at_or_below x a ≡ true
+      → (e : Name) × IsClosestEncloser (original_owners L a config) a x e
+  pub each : (x e : Name) → is_at_or_below x a ≡ true → AreAlone L a config x
+      → IsClosestEncloser (original_owners L a config) a x e
+      → TellsEncloserOf L a config links x e
+
+-- a zone cut of the chain is the closest encloser of what is strictly below it
+pub record CutsEnclose (L : List ZoneRecord) (a : Name) (config : ChainConfig) : Type 0 where
+  pub each : (c x : Name) → is_zone_cut L a c ≡ true → is_original_owner L a config c ≡ true
+      → is_strictly_below x c ≡ true → IsClosestEncloser (original_owners L a config) a x c
+
+-- the next closer name of a zone cut that is left out is covered by a record with the flag of
+-- opt-out
+pub record CoversExcluded (L : List ZoneRecord) (a : Name) (config : ChainConfig)
+    (links : List HashedLink) : Type 0 where
+  pub flag : (c : Name) → is_zone_cut L a c ≡ true
+      → is_unoccluded config.occlude_below_dname L a c ≡ true
+      → is_original_owner L a config c ≡ false → is_opt_out config.flags ≡ true
+  pub each : (c e d : Name) → is_zone_cut L a c ≡ true
+      → is_unoccluded config.occlude_below_dname L a c ≡ true
+      → is_original_owner L a config c ≡ false → AreAlone L a config c
+      → IsClosestEncloser (original_owners L a config) a c e → IsNextCloser c e d
+      → IsCovered a config links d
+
+-- the owners of the records ascend in canonical order, as their hashes do
+abbrev pub OwnersAscend : List HashedLink → Type 0
+OwnersAscend links = IsStrictlySortedBy canonical_cmp (map (λ k. k.owner) links)

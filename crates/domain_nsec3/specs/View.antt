@@ -1,0 +1,70 @@
+-- How configurations, and records of NSEC3 and NSEC3PARAM data, are seen.
+use Rattle.std.specs.Prelude.{ℕ, List, map}
+use Rattle.domain_octets.specs.Words.{Octets}
+use Rattle.domain_plain.specs.declared.record.Record.{Record}
+use Rattle.domain_rdata.specs.declared.nsec3.Nsec3.{Nsec3}
+use Rattle.domain_rdata.specs.declared.nsec3param.Nsec3param.{Nsec3param}
+use Rattle.domain_rdata.specs.declared.zone_record_data.ZoneRecordData.{ZoneRecordData}
+use Rattle.domain_base.specs.Words.{Name}
+use Rattle.domain_zone.specs.View.{as_zone_record}
+use Rattle.domain_zone.specs.Zone.{ZoneRecord}
+use Rattle.domain_nsec3.specs.Chain.{HashedLink, ParamRecord}
+use Rattle.domain_nsec3.specs.Config.{ChainConfig, Hash, HashAnswer, Parameters}
+use Rattle.domain_nsec3.specs.declared.config.GenerateNsec3Config.{GenerateNsec3Config}
+
+-- what a hasher answers for octets, an algorithm, iterations and a salt
+abbrev pub Answer : Type 0
+Answer = Octets → ℕ → ℕ → Octets → HashAnswer
+
+abbrev pub zone_of : {O N : Type 0} → (N → Name) → List (Record N (ZoneRecordData O N))
+    → List ZoneRecord
+zone_of labels = map (as_zone_record labels)
+
+abbrev pub parameters_of : {O : Type 0} → Nsec3param O → Parameters
+parameters_of p =
+    record { algorithm = p.hash_algorithm; iterations = p.iterations; salt = p.salt }
+
+abbrev pub parameters_in : {O : Type 0} → Nsec3 O → Parameters
+parameters_in d =
+    record { algorithm = d.hash_algorithm; iterations = d.iterations; salt = d.salt }
+
+-- a hasher with these parameters
+abbrev pub hash_by : Answer → Parameters → Hash
+hash_by answer p octets = answer octets p.algorithm p.iterations p.salt
+
+abbrev pub config_of : {O S : Type 0} → Answer → GenerateNsec3Config O S → ChainConfig
+config_of answer config =
+    record {
+      hash = hash_by answer (parameters_of config.params);
+      parameters = parameters_of config.params;
+      flags = config.params.flags;
+      exclude_unsigned = config.opt_out_exclude_owner_names_of_unsigned_delegations;
+      assume_dnskeys_will_be_added = config.assume_dnskeys_will_be_added;
+      occlude_below_dname = config.occlude_below_dname;
+    }
+
+abbrev pub as_hashed_link : {O N : Type 0} → (N → Name) → Record N (Nsec3 O) → HashedLink
+as_hashed_link labels r =
+    record {
+      owner = labels r.owner;
+      next = r.«data».next_owner;
+      class = r.class;
+      ttl = r.ttl;
+      parameters = parameters_in r.«data»;
+      flags = r.«data».flags;
+      bits = r.«data».types;
+    }
+
+abbrev pub hashed_links_of : {O N : Type 0} → (N → Name) → List (Record N (Nsec3 O))
+    → List HashedLink
+hashed_links_of labels = map (as_hashed_link labels)
+
+abbrev pub as_param_record : {O N : Type 0} → (N → Name) → Record N (Nsec3param O) → ParamRecord
+as_param_record labels r =
+    record {
+      owner = labels r.owner;
+      class = r.class;
+      ttl = r.ttl;
+      parameters = parameters_of r.«data»;
+      flags = r.«data».flags;
+    }

@@ -1,0 +1,185 @@
+//! How chains are made.
+ghost use Rattle.std.specs.Prelude.{◌≡◌, true, false, [], IfOk};
+ghost use Rattle.domain_rdata.specs.OptOut.{with_opt_out};
+ghost use Rattle.domain_zone.specs.declared.soa.ApexSoa.{ApexSoa};
+ghost use Rattle.domain_nsec3.specs.Chain.{param_ttl};
+ghost use Rattle.domain_nsec3.specs.declared.config.Nsec3ParamTtlMode.TheVariants as ttl_mode;
+
+use domain_base::Ttl;
+use domain_octets::{EmptyOctets, Octets, OutOfMemory};
+use domain_rdata::Nsec3param;
+use domain_zone::ApexSoa;
+use std::alloc::Global;
+use std::marker::PhantomData;
+
+/// Where the TTL of an NSEC3PARAM record comes from.
+#[derive(Clone, Copy, Debug, PartialEq, Eq)]
+pub enum Nsec3ParamTtlMode {
+    /// This TTL.
+    Fixed(Ttl),
+    /// The TTL of the SOA record.
+    Soa,
+    /// The MINIMUM field of the SOA record (RFC 2308, section 4).
+    SoaMinimum,
+}
+
+impl Nsec3ParamTtlMode {
+    /// This TTL.
+    pub fn fixed(ttl: Ttl) -> Self
+        ensures { result ≡ Nsec3ParamTtlMode.Fixed ttl }
+    {
+        Nsec3ParamTtlMode::Fixed(ttl)
+    }
+
+    /// The TTL of the SOA record.
+    pub fn soa() -> Self
+        ensures { result ≡ Nsec3ParamTtlMode.Soa }
+    {
+        Nsec3ParamTtlMode::Soa
+    }
+
+    /// The MINIMUM field of the SOA record (RFC 2308, section 4).
+    pub fn soa_minimum() -> Self
+        ensures { result ≡ Nsec3ParamTtlMode.SoaMinimum }
+    {
+        Nsec3ParamTtlMode::SoaMinimum
+    }
+
+    /// The TTL that the mode says, in seconds.
+    pub(crate) fn ttl(&self, soa: &ApexSoa) -> Ttl
+        ensures { result ≡ param_ttl self.now soa.now }
+    {
+        match self {
+            Nsec3ParamTtlMode::Fixed(ttl) => *ttl,
+            Nsec3ParamTtlMode::Soa => soa.ttl,
+            Nsec3ParamTtlMode::SoaMinimum => soa.minimum,
+        }
+    }
+}
+
+/// The TTL of the SOA record.
+impl Default for Nsec3ParamTtlMode {
+    ghost is_default = { λ mode. mode ≡ ttl_mode.Soa };
+
+    fn default() -> Self {
+        Nsec3ParamTtlMode::Soa
+    }
+}
+
+/// How an NSEC3 chain is made. `Sort` is what sorts the hashes.
+#[derive(Drop)]
+#[derive_where(Debug, PartialEq, Eq)]
+pub struct GenerateNsec3Config<O: Octets, Sort> {
+    /// Whether DNSKEY records will be added at the apex once the chain is made, so that its bitmap
+    /// lists their type already.
+    pub assume_dnskeys_will_be_added: bool,
+    /// How names are hashed, and the flags of all records (RFC 5155, section 3).
+    pub params: Nsec3param<O>,
+    /// Whether zone cuts without DS records are left out where the flags have the bit of opt-out
+    /// (RFC 5155, section 6).
+    pub opt_out_exclude_owner_names_of_unsigned_delegations: bool,
+    /// Where the TTL of the NSEC3PARAM record comes from.
+    pub nsec3param_ttl_mode: Nsec3ParamTtlMode,
+    /// Whether names strictly below a name of the zone that owns a DNAME record are left out, as
+    /// those below a zone cut are: no data may stand there (RFC 6672, section 2.4). An own option.
+    pub occlude_below_dname: bool,
+    #[derive_where(skip)]
+    sorter: PhantomData<Sort>,
+}
+
+impl<O: Octets, Sort> GenerateNsec3Config<O, Sort> {
+    /// DNSKEY records are assumed, unsigned delegations are left out where the parameters have the
+    /// flag of opt-out, the NSEC3PARAM record has the TTL of the SOA record, and names below a
+    /// DNAME stay in the chain. The parameters are taken as they are.
+    pub fn new(params: Nsec3param<O>) -> Self
+        ensures params { result.params ≡ params }
+        ensures dnskeys { result.assume_dnskeys_will_be_added ≡ true }
+        ensures excludes { result.opt_out_exclude_owner_names_of_unsigned_delegations ≡ true }
+        ensures mode { result.nsec3param_ttl_mode ≡ Nsec3ParamTtlMode.Soa }
+        ensures dnames { result.occlude_below_dname ≡ false }
+    {
+        GenerateNsec3Config {
+            assume_dnskeys_will_be_added: true,
+            params,
+            opt_out_exclude_owner_names_of_unsigned_delegations: true,
+            nsec3param_ttl_mode: Nsec3ParamTtlMode::Soa,
+            occlude_below_dname: false,
+            sorter: PhantomData,
+        }
+    }
+
+    /// The same with the parameters of `Nsec3param::default`: SHA-1, no flags, no extra iterations
+    /// and no salt.
+    pub fn default(alloc: Global) -> Self
+    where
+        O: EmptyOctets,
+        ensures params { result.params
+            ≡ record { hash_algorithm = 1; flags = 0; iterations = 0; salt = [] } }
+        ensures dnskeys { result.assume_dnskeys_will_be_added ≡ true }
+        ensures excludes { result.opt_out_exclude_owner_names_of_unsigned_delegations ≡ true }
+        ensures mode { result.nsec3param_ttl_mode ≡ Nsec3ParamTtlMode.Soa }
+        ensures dnames { result.occlude_below_dname ≡ false }
+    {
+        Self::new(Nsec3param::default(alloc))
+    }
+
+    /// A copy. Uses the allocator of the salt's octets.
+    pub fn clone(&self) -> Result<Self, OutOfMemory>
+        ensures { IfOk result (λ copy. copy ≡ self.now) }
+    {
+        Ok(GenerateNsec3Config {
+            assume_dnskeys_will_be_added: self.assume_dnskeys_will_be_added,
+            params: self.params.clone()?,
+            opt_out_exclude_owner_names_of_unsigned_delegations: self.opt_out_exclude_owner_names_of_unsigned_delegations,
+            nsec3param_ttl_mode: self.nsec3param_ttl_mode,
+            occlude_below_dname: self.occlude_below_dname,
+            sorter: PhantomData,
+        })
+    }
+
+    /// The same, but with another TTL of the NSEC3PARAM record. The other fields stay as they are.
+    pub fn with_ttl_mode(mut self, mode: Nsec3ParamTtlMode) -> Self
+        ensures { result ≡ record self { nsec3param_ttl_mode = mode } }
+    {
+        self.nsec3param_ttl_mode = mode;
+        self
+    }
+
+    /// The same, but that the parameters have the bit of opt-out (RFC 5155, section 3.1.2.1). The
+    /// other bits and fields stay as they are.
+    pub fn with_opt_out(mut self) -> Self
+        ensures { result ≡ record self {
+          params = record self.params { flags = with_opt_out self.params.flags };
+        } }
+    {
+        self.params.set_opt_out_flag();
+        self
+    }
+
+    /// The same, but that no unsigned delegation is left out, whatever the flags say. The other
+    /// fields stay as they are.
+    pub fn without_opt_out_excluding_owner_names_of_unsigned_delegations(mut self) -> Self
+        ensures { result ≡ record self {
+          opt_out_exclude_owner_names_of_unsigned_delegations = false;
+        } }
+    {
+        self.opt_out_exclude_owner_names_of_unsigned_delegations = false;
+        self
+    }
+
+    /// The same, but that no DNSKEY records are assumed. The other fields stay as they are.
+    pub fn without_assuming_dnskeys_will_be_added(mut self) -> Self
+        ensures { result ≡ record self { assume_dnskeys_will_be_added = false } }
+    {
+        self.assume_dnskeys_will_be_added = false;
+        self
+    }
+
+    /// The same, but that names below a DNAME are left out. The other fields stay as they are.
+    pub fn with_occlude_below_dname(mut self) -> Self
+        ensures { result ≡ record self { occlude_below_dname = true } }
+    {
+        self.occlude_below_dname = true;
+        self
+    }
+}

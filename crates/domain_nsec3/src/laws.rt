@@ -1,0 +1,55 @@
+//! What holds of the names of a chain. A caller calls the law in its body.
+ghost use Rattle.std.specs.Prelude.{◌≡◌, ℕ, true, false, List};
+ghost use Rattle.domain_zone.specs.Enclosers.{exists_over, is_empty_nonterminal, IsClosestEncloser};
+ghost use Rattle.domain_base.specs.Name.{is_at_or_below, same_name};
+ghost use Rattle.domain_base.specs.Words.{Name};
+ghost use Rattle.domain_zone.specs.Zone.{ZoneRecord, is_zone_cut};
+ghost use Rattle.domain_nsec3.specs.Chain.{HashedLink, IsHashedChain};
+ghost use Rattle.domain_nsec3.specs.Config.{ChainConfig};
+ghost use Rattle.domain_nsec3.specs.Meaning.{CoversExcluded, CutsEnclose, MirrorsZone, OwnersAscend, TellsEncloser};
+ghost use Rattle.domain_nsec3.specs.Owners.{original_owners, is_original_owner, is_chain_name, is_empty, nsec3_lists};
+
+/// The names of the chain are those that exist over its original owner names that own records: so
+/// each name above one, at or below the apex, is one too.
+pub fn names_exist()
+    ensures existing { (L : List ZoneRecord) (a : Name) (config : ChainConfig) (x : Name)
+        → is_at_or_below x a ≡ true
+        → exists_over (original_owners L a config) a x ≡ is_chain_name L a config x }
+    ensures empty { (L : List ZoneRecord) (a : Name) (config : ChainConfig) (x : Name)
+        → is_empty_nonterminal (original_owners L a config) a x ≡ is_empty L a config x }
+{}
+
+/// Of the names from a name up to the apex those are names of the chain that its closest encloser
+/// is at or below. A zone cut of the chain is the closest encloser of what is strictly below it;
+/// one that is left out is no name of the chain.
+pub fn names_end_at_the_encloser()
+    ensures runs { (L : List ZoneRecord) (a : Name) (config : ChainConfig) (x e d : Name)
+        → IsClosestEncloser (original_owners L a config) a x e → is_at_or_below x d ≡ true
+        → is_at_or_below d a ≡ true → is_chain_name L a config d ≡ is_at_or_below e d }
+    ensures cuts { (L : List ZoneRecord) (a : Name) (config : ChainConfig)
+        → CutsEnclose L a config }
+    ensures excluded { (L : List ZoneRecord) (a : Name) (config : ChainConfig) (c : Name)
+        → is_zone_cut L a c ≡ true → is_original_owner L a config c ≡ false
+        → is_chain_name L a config c ≡ false }
+{}
+
+/// The NSEC3 record of a name lists the same types for each spelling of the name.
+pub fn types_ignore_case()
+    ensures { (L : List ZoneRecord) (a : Name) (config : ChainConfig) (x y : Name) → same_name x y ≡ true
+        → (t : ℕ) → nsec3_lists L a config x t ≡ nsec3_lists L a config y t }
+{}
+
+/// What the chain says of every name follows from the chain alone, however it was made.
+pub fn chains_mean_the_zone()
+    ensures ascent { (L : List ZoneRecord) (a : Name) (config : ChainConfig)
+        (links : List HashedLink) → IsHashedChain L a config links → OwnersAscend links }
+    ensures denial { (L : List ZoneRecord) (a : Name) (config : ChainConfig)
+        (links : List HashedLink) → IsHashedChain L a config links
+        → MirrorsZone L a config links }
+    ensures enclosers { (L : List ZoneRecord) (a : Name) (config : ChainConfig)
+        (links : List HashedLink) → IsHashedChain L a config links
+        → TellsEncloser L a config links }
+    ensures excluded { (L : List ZoneRecord) (a : Name) (config : ChainConfig)
+        (links : List HashedLink) → IsHashedChain L a config links
+        → CoversExcluded L a config links }
+{}

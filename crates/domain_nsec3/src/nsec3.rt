@@ -1,0 +1,244 @@
+//! The NSEC3 chain of a zone.
+ghost use Rattle.std.specs.Prelude.{◌≡◌, ◌++◌, ◌⊎◌, Some, List, true, map, All, IfOk, IfErr, OnOk};
+ghost use Rattle.std.specs.List.{list_any};
+ghost use Rattle.std.specs.List.Sorted.{IsStrictlySortedBy};
+ghost use Rattle.domain_base.specs.Classes.{in_class};
+ghost use Rattle.domain_base.specs.Order.{canonical_cmp};
+ghost use Rattle.domain_rdata.specs.Zone.{rtype_of};
+ghost use Rattle.domain_records.specs.Order.{IsOneClass, IsInOrder};
+ghost use Rattle.domain_records.specs.declared.error.Nsec3HashError.TheVariants as hash_error;
+ghost use Rattle.domain_base.specs.Name.{is_at_or_below, same_name};
+ghost use Rattle.domain_zone.specs.Soa.{soa_of};
+ghost use Rattle.domain_zone.specs.Zone.{ZoneRecord};
+ghost use Rattle.domain_nsec3.specs.Chain.{IsChainParam, IsHashedChain, param_ttl};
+ghost use Rattle.domain_nsec3.specs.Faults.{AreAllHashed, IsFaultless, IsFirstFault, IsFirstHashingFault};
+ghost use Rattle.domain_nsec3.specs.Meaning.{CoversExcluded, CutsEnclose, MirrorsZone, OwnersAscend, TellsEncloser};
+ghost use Rattle.domain_nsec3.specs.Steps.{AreOriginalOwners, without_types};
+ghost use Rattle.domain_nsec3.specs.StepView.{as_entry};
+ghost use Rattle.domain_nsec3.specs.View.{as_param_record, config_of, hashed_links_of, parameters_of, zone_of};
+
+use crate::GenerateNsec3Config;
+use crate::empty::empty_nonterminals;
+use crate::hash::Listed;
+use crate::link::hash_chain;
+use crate::owners::list_owners;
+use domain_base::{Class, MakeName, ParsedName, ToName};
+use domain_bitmap::RtypeBitmapBuilder;
+use domain_octets::{
+    EmptyBuilder, FreezeBuilder, FromBuilder, GrowingBuilder, Octets, OutOfMemory, Truncate,
+    TryClone,
+};
+use domain_plain::Record;
+use domain_rdata::{Nsec3, Nsec3param, ZoneRecordData};
+use domain_records::{Nsec3HashError, RecordsIter, SigningError, Sorter};
+use domain_zone::{ApexSoa, Nsec3Hasher, find_soa};
+use std::alloc::Global;
+
+/// The NSEC3 chain of a zone, and the record that tells its parameters (RFC 5155, section 7.1).
+#[derive(Drop)]
+pub struct Nsec3Records<N, O: Octets> {
+    /// The records of the chain, in the order of their hashes.
+    pub nsec3s: Vec<Record<N, Nsec3<O>>>,
+    /// The NSEC3PARAM record of the apex.
+    pub nsec3param: Record<N, Nsec3param<O>>,
+}
+
+impl<N, O: Octets> Nsec3Records<N, O> {
+    /// These records.
+    pub fn new(nsec3s: Vec<Record<N, Nsec3<O>>>, nsec3param: Record<N, Nsec3param<O>>) -> Self
+        ensures { result ≡ record { nsec3s = nsec3s; nsec3param = nsec3param } }
+    {
+        Nsec3Records { nsec3s, nsec3param }
+    }
+}
+
+/// The names, borrowed.
+fn borrow_names<'a, O: Octets>(
+    alloc: Global,
+    owners: &[Listed<'a, O>],
+) -> Result<Vec<ParsedName<'a>>, OutOfMemory>
+    ensures { IfOk result (λ names. names.items ≡ map (λ l. l.name) owners.now) }
+{
+    let mut names = Vec::with_capacity(alloc, owners.len())?;
+    for owner in owners {
+        let name = owner.name.try_clone()?;
+        names.push(name)?;
+    }
+    Ok(names)
+}
+
+/// Adds names without types.
+fn add_empty<'a, O>(
+    alloc: Global,
+    names: &mut Vec<Listed<'a, O>>,
+    empty: Vec<ParsedName<'a>>,
+) -> Result<(), OutOfMemory>
+where
+    O: FromBuilder + Drop,
+    O::Builder: EmptyBuilder + Truncate + FreezeBuilder<Frozen = O> + Drop,
+    ensures { OnOk result (map as_entry names.new.items
+        ≡ map as_entry names.old.items ++ map without_types empty.entry.items) }
+{
+    let mut left = empty.into_iter();
+    'left: while let Some(name) = left.next() {
+        let types = RtypeBitmapBuilder::<O::Builder>::new(alloc).finalize();
+        names.push(Listed { name, types })?;
+    }
+    Ok(())
+}
+
+/// The records of the chain over these owners, which stand in canonical order from the apex on,
+/// with their types: their empty non-terminals are added, all are hashed and put in order.
+fn chain_of_owners<'a, S: Sorter, H: Nsec3Hasher, O, N: MakeName>(
+    alloc: Global,
+    config: &GenerateNsec3Config<O, S>,
+    hasher: &H,
+    apex: &ParsedName<'a>,
+    owners: Vec<Listed<'a, O>>,
+    soa: &ApexSoa,
+) -> Result<Vec<Record<N, Nsec3<O>>>, Nsec3HashError>
+where
+    O: FromBuilder + Drop,
+    N: Drop,
+    O::Builder: GrowingBuilder + EmptyBuilder + Truncate + FreezeBuilder<Frozen = O> + Drop,
+    requires ascend { IsStrictlySortedBy canonical_cmp (map (λ l. l.name) owners.items) }
+    requires in_zone { All (λ n. is_at_or_below n apex.now ≡ true)
+        (map (λ l. l.name) owners.items) }
+    requires begins { list_any (λ n. same_name n apex.now) (map (λ l. l.name) owners.items) ≡ true }
+    ensures chain { IfOk result (λ nsec3s. (L : List ZoneRecord) → soa_of L apex.now ≡ Some soa.now
+        → AreOriginalOwners L apex.now (config_of (H.answer hasher.now) config.now)
+        (map as_entry owners.entry.items)
+        → IsHashedChain L apex.now (config_of (H.answer hasher.now) config.now)
+        (hashed_links_of N.labels nsec3s.items)) }
+    ensures hashed { OnOk result ((L : List ZoneRecord)
+        → AreOriginalOwners L apex.now (config_of (H.answer hasher.now) config.now)
+        (map as_entry owners.entry.items)
+        → AreAllHashed L apex.now (config_of (H.answer hasher.now) config.now)) }
+    ensures fault { IfErr result (λ e. (L : List ZoneRecord)
+        → AreOriginalOwners L apex.now (config_of (H.answer hasher.now) config.now)
+        (map as_entry owners.entry.items)
+        → ((e ≡ hash_error.OutOfMemory)
+        ⊎ IsFirstHashingFault L apex.now (config_of (H.answer hasher.now) config.now) e)) }
+{
+    let mut names = owners;
+    let borrowed = borrow_names(alloc, names.as_slice())?;
+    let empty = empty_nonterminals(alloc, apex, borrowed.as_slice())?;
+    add_empty(alloc, &mut names, empty)?;
+    let ttl = soa.chain_ttl();
+    match hash_chain::<S, H, O, N>(alloc, hasher, &config.params, apex, names, ttl) {
+        Ok(nsec3s) => Ok(nsec3s),
+        Err(error) => Err(error),
+    }
+}
+
+/// The NSEC3PARAM record of a chain.
+fn param_record<S, O: Octets, N: MakeName>(
+    alloc: Global,
+    apex: &N,
+    config: &GenerateNsec3Config<O, S>,
+    soa: &ApexSoa,
+) -> Result<Record<N, Nsec3param<O>>, OutOfMemory>
+where
+    O: Drop,
+    N: Drop,
+    ensures { IfOk result (λ made. as_param_record N.labels made ≡ record {
+      owner = N.labels apex.now;
+      class = in_class;
+      ttl = param_ttl config.now.nsec3param_ttl_mode soa.now;
+      parameters = parameters_of config.now.params;
+      flags = config.now.params.flags;
+    }) }
+{
+    let owner = N::make(alloc, apex.as_wire())?;
+    let params = config.params.clone()?;
+    Ok(Record::new(
+        owner,
+        Class::IN,
+        config.nsec3param_ttl_mode.ttl(soa),
+        params,
+    ))
+}
+
+/// The NSEC3 chain of a zone, and its NSEC3PARAM record (RFC 5155, section 7.1): one record for
+/// each original owner name. These are the owners that are at or below the apex and not strictly
+/// below a zone cut, and the empty non-terminals above them. Zone cuts without DS records are left
+/// out where the configuration says so and the flags have the bit of opt-out, and so are names
+/// strictly below an owner of a DNAME record where the configuration says so.
+///
+/// The records stand in the order of their hashes, each points to the next hash, the last one to
+/// the first. Each is of class IN, has the lesser of the SOA's MINIMUM and TTL as its TTL in seconds
+/// (RFC 9077, section 3.2), and the parameters and flags of the configuration. It lists the types
+/// of its original owner, at a zone cut only NS and DS of them; RRSIG, but at a zone cut without
+/// DS; and at the apex NSEC3PARAM, and DNSKEY where the configuration assumes it. An empty
+/// non-terminal has no types. Owners are the lower-case text of the hash as a label before the apex,
+/// which keeps the argument's spelling.
+///
+/// The records are those of one class in canonical order; records of owners outside the zone are
+/// passed over.
+///
+/// # Errors
+///
+/// The first that stands: `SoaRecordCouldNotBeDetermined` where the apex does not own exactly one
+/// record of type SOA, or its data is not the `Soa` variant; `MultipleTtlValues` where two records
+/// of one owner of the chain and one type other than RRSIG differ in TTL; for the first name of the
+/// chain, owners before empty non-terminals and each in canonical order, whose hash is of no use,
+/// `Nsec3HashingError` with `Hasher`, `OwnerHashError` or `Nsec3NameTooLong`; the same with
+/// `CollisionDetected` where two names of the chain have one hash; and `OutOfMemory`.
+pub fn generate_nsec3s<S: Sorter, H: Nsec3Hasher, O, N: MakeName>(
+    alloc: Global,
+    apex: &N,
+    records: RecordsIter<'_, N, ZoneRecordData<O, N>>,
+    config: &GenerateNsec3Config<O, S>,
+    hasher: &H,
+) -> Result<Nsec3Records<N, O>, SigningError>
+where
+    N: Drop,
+    O: FromBuilder + Drop,
+    O::Builder: GrowingBuilder + EmptyBuilder + Truncate + FreezeBuilder<Frozen = O> + Drop,
+    requires one_class { IsOneClass records }
+    requires in_order { IsInOrder N.labels rtype_of records }
+
+    // Ok is exactly the chain, and comes only where no fault stands.
+    ensures chain { IfOk result (λ made. IsHashedChain (zone_of N.labels records.entry)
+        (N.labels apex.now) (config_of (H.answer hasher.now) config.now)
+        (hashed_links_of N.labels made.nsec3s.items)) }
+    ensures param { IfOk result (λ made. IsChainParam (zone_of N.labels records.entry)
+        (N.labels apex.now) (config_of (H.answer hasher.now) config.now)
+        config.now.nsec3param_ttl_mode (as_param_record N.labels made.nsec3param)) }
+    ensures faultless { OnOk result (IsFaultless (zone_of N.labels records.entry)
+        (N.labels apex.now) (config_of (H.answer hasher.now) config.now)) }
+    ensures fault { IfErr result (IsFirstFault (zone_of N.labels records.entry)
+        (N.labels apex.now) (config_of (H.answer hasher.now) config.now)) }
+
+    // The owners of the chain ascend as their hashes do.
+    ensures ascent { IfOk result (λ made. OwnersAscend
+        (hashed_links_of N.labels made.nsec3s.items)) }
+
+    // What the chain says of every name of the zone.
+    ensures denial { IfOk result (λ made. MirrorsZone (zone_of N.labels records.entry)
+        (N.labels apex.now) (config_of (H.answer hasher.now) config.now)
+        (hashed_links_of N.labels made.nsec3s.items)) }
+    ensures enclosers { IfOk result (λ made. TellsEncloser (zone_of N.labels records.entry)
+        (N.labels apex.now) (config_of (H.answer hasher.now) config.now)
+        (hashed_links_of N.labels made.nsec3s.items)) }
+    ensures cuts { OnOk result (CutsEnclose (zone_of N.labels records.entry)
+        (N.labels apex.now) (config_of (H.answer hasher.now) config.now)) }
+    ensures excluded { IfOk result (λ made. CoversExcluded (zone_of N.labels records.entry)
+        (N.labels apex.now) (config_of (H.answer hasher.now) config.now)
+        (hashed_links_of N.labels made.nsec3s.items)) }
+{
+    let Some(soa) = find_soa(apex, records.records()) else {
+        return Err(SigningError::SoaRecordCouldNotBeDetermined);
+    };
+    let owners = match list_owners(alloc, apex, records, config) {
+        Ok(owners) => owners,
+        Err(error) => return Err(error),
+    };
+    let above = apex.as_parsed();
+    let nsec3s = match chain_of_owners::<S, H, O, N>(alloc, config, hasher, &above, owners, &soa) {
+        Ok(nsec3s) => nsec3s,
+        Err(error) => return Err(SigningError::from(error)),
+    };
+    let nsec3param = param_record(alloc, apex, config, &soa)?;
+    Ok(Nsec3Records::new(nsec3s, nsec3param))
+}

@@ -1,0 +1,84 @@
+//! The owners of a zone that its NSEC3 chain holds.
+ghost use Rattle.std.specs.Prelude.{◌≡◌, ◌&&◌, ◌⊎◌, true, false, not, map, IfOk, IfErr, OnOk};
+ghost use Rattle.domain_rdata.specs.Zone.{rtype_of};
+ghost use Rattle.domain_records.specs.Order.{IsInOrder};
+ghost use Rattle.domain_records.specs.declared.error.SigningError.TheVariants as signing_error;
+ghost use Rattle.domain_base.specs.Types.{ds};
+ghost use Rattle.domain_zone.specs.Zone.{has_type, has_unequal_ttls};
+ghost use Rattle.domain_nsec3.specs.Owners.{original_owners};
+ghost use Rattle.domain_nsec3.specs.Steps.{AreOriginalOwners};
+ghost use Rattle.domain_nsec3.specs.StepView.{as_entry};
+ghost use Rattle.domain_nsec3.specs.View.{Answer, config_of, zone_of};
+
+use crate::GenerateNsec3Config;
+use crate::hash::Listed;
+use crate::types::{OwnerKind, owns_ds, types_of};
+use domain_base::ToName;
+use domain_octets::{EmptyBuilder, FreezeBuilder, FromBuilder, GrowingBuilder, Octets, Truncate};
+use domain_rdata::ZoneRecordData;
+use domain_records::{RecordsIter, SigningError};
+use domain_zone::{UnoccludedOwner, UnoccludedOwners, has_unequal_ttls};
+use std::alloc::Global;
+
+/// Whether the owner is a zone cut without DS records.
+fn is_unsigned_cut<O: Octets, N: ToName>(owner: &UnoccludedOwner<'_, O, N>) -> bool
+    ensures { result ≡ (owner.now.is_zone_cut
+        && not (has_type (zone_of N.labels owner.now.records) ds)) }
+{
+    owner.is_zone_cut && !owns_ds(owner.records.records())
+}
+
+/// The original owner names of a chain that own records, with their types: the owners that are not
+/// occluded, but for unsigned delegations where these are left out (RFC 5155, section 7.1). They
+/// stand in canonical order.
+///
+/// # Errors
+///
+/// `MultipleTtlValues` where two records of one of them and one type other than RRSIG differ in
+/// TTL; `OutOfMemory`.
+pub(crate) fn list_owners<'a, S, O, N: ToName>(
+    alloc: Global,
+    apex: &'a N,
+    records: RecordsIter<'a, N, ZoneRecordData<O, N>>,
+    config: &GenerateNsec3Config<O, S>,
+) -> Result<Vec<Listed<'a, O>>, SigningError>
+where
+    O: FromBuilder + Drop,
+    O::Builder: GrowingBuilder + EmptyBuilder + Truncate + FreezeBuilder<Frozen = O> + Drop,
+    requires { IsInOrder N.labels rtype_of records }
+    ensures owners { IfOk result (λ owners. (answer : Answer) → AreOriginalOwners
+        (zone_of N.labels records.entry) (N.labels apex.now) (config_of answer config.now)
+        (map as_entry owners.items)) }
+    ensures even { OnOk result ((answer : Answer) → has_unequal_ttls
+        (zone_of N.labels records.entry) (original_owners (zone_of N.labels records.entry)
+        (N.labels apex.now) (config_of answer config.now)) ≡ false) }
+    ensures fault { IfErr result (λ e. (e ≡ signing_error.OutOfMemory)
+        ⊎ ((e ≡ signing_error.MultipleTtlValues) × ((answer : Answer) → has_unequal_ttls
+        (zone_of N.labels records.entry) (original_owners (zone_of N.labels records.entry)
+        (N.labels apex.now) (config_of answer config.now)) ≡ true))) }
+{
+    let excludes = config.params.opt_out_flag()
+        & config.opt_out_exclude_owner_names_of_unsigned_delegations;
+    let mut owners = UnoccludedOwners::new(apex, records, config.occlude_below_dname);
+    let mut listed = Vec::new(alloc);
+    'owners: while let Some(owner) = owners.next() {
+        let is_unsigned_cut = is_unsigned_cut(&owner);
+        if excludes & is_unsigned_cut {
+            continue;
+        }
+        if has_unequal_ttls(owner.records.records()) {
+            return Err(SigningError::MultipleTtlValues);
+        }
+        let is_apex = owner.name.name_eq(apex);
+        let kind = OwnerKind {
+            is_zone_cut: owner.is_zone_cut,
+            is_unsigned_cut,
+            is_apex,
+        };
+        let assumed = config.assume_dnskeys_will_be_added & is_apex;
+        let types = types_of(alloc, owner.records.records(), kind, assumed)?;
+        let name = owner.name.as_parsed();
+        listed.push(Listed { name, types })?;
+    }
+    Ok(listed)
+}

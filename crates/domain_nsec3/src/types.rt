@@ -1,0 +1,95 @@
+//! The types that NSEC3 records list.
+ghost use Rattle.std.specs.Prelude.{◌≡◌, ◌||◌, ◌&&◌, ◌==◌, ℕ, Bool, [], ◌<◌, map, IfOk, OnOk};
+ghost use Rattle.domain_bitmap.specs.Bitmap.{bitmap_octets};
+ghost use Rattle.domain_bitmap.specs.Builder.{holds};
+ghost use Rattle.domain_base.specs.Types.{ds};
+ghost use Rattle.domain_zone.specs.View.{as_zone_record};
+ghost use Rattle.domain_zone.specs.Zone.{has_type};
+ghost use Rattle.domain_nsec3.specs.Owners.{is_listed};
+ghost use Rattle.domain_nsec3.specs.View.{zone_of};
+
+use domain_base::{Rtype, ToName};
+use domain_bitmap::{RtypeBitmap, RtypeBitmapBuilder};
+use domain_octets::{
+    EmptyBuilder, FreezeBuilder, FromBuilder, GrowingBuilder, Octets, OutOfMemory, Truncate,
+};
+use domain_records::SliceRefsOrOwnedIterator;
+use domain_zone::{ZoneRr, add_type, add_types};
+use std::alloc::Global;
+
+/// What an owner is to a chain, but for its records.
+#[derive(Clone, Copy, Debug)]
+pub(crate) struct OwnerKind {
+    /// Whether it is a zone cut.
+    pub(crate) is_zone_cut: bool,
+    /// Whether it is a zone cut that owns no DS record.
+    pub(crate) is_unsigned_cut: bool,
+    /// Whether it is the apex.
+    pub(crate) is_apex: bool,
+}
+
+/// Whether one of the records is a DS record.
+pub(crate) fn owns_ds<O: Octets, N: ToName>(
+    mut records: SliceRefsOrOwnedIterator<'_, ZoneRr<O, N>>,
+) -> bool
+    ensures { result ≡ has_type (map (as_zone_record N.labels) records.entry) ds }
+{
+    'records: while let Some(record) = records.next() {
+        if record.rtype() == Rtype::DS {
+            return true;
+        }
+    }
+    false
+}
+
+/// Adds a type where it is wanted.
+fn add_wanted<B: GrowingBuilder>(
+    types: &mut RtypeBitmapBuilder<B>,
+    rtype: Rtype,
+    wanted: bool,
+) -> Result<(), OutOfMemory>
+    ensures { OnOk result ((t : ℕ) → t < 65536
+        → holds types.new t ≡ (((t == rtype) && wanted) || holds types.old t)) }
+{
+    if wanted {
+        add_type(types, rtype)?;
+    }
+    Ok(())
+}
+
+/// The types that an NSEC3 record lists whatever its owner owns.
+fn common_types<B: GrowingBuilder + EmptyBuilder>(
+    alloc: Global,
+    kind: OwnerKind,
+    assumed: bool,
+) -> Result<RtypeBitmapBuilder<B>, OutOfMemory>
+where
+    B: Drop,
+    ensures { IfOk result (λ types. (t : ℕ) → t < 65536 → holds types t
+        ≡ is_listed kind.is_unsigned_cut kind.is_apex assumed kind.is_zone_cut [] t) }
+{
+    let mut types = RtypeBitmapBuilder::<B>::new(alloc);
+    add_wanted(&mut types, Rtype::RRSIG, !kind.is_unsigned_cut)?;
+    add_wanted(&mut types, Rtype::NSEC3PARAM, kind.is_apex)?;
+    add_wanted(&mut types, Rtype::DNSKEY, assumed)?;
+    Ok(types)
+}
+
+/// The types of an owner's NSEC3 record (RFC 5155, section 7.1).
+pub(crate) fn types_of<O, N: ToName>(
+    alloc: Global,
+    records: SliceRefsOrOwnedIterator<'_, ZoneRr<O, N>>,
+    kind: OwnerKind,
+    assumed: bool,
+) -> Result<RtypeBitmap<O>, OutOfMemory>
+where
+    O: FromBuilder,
+    O::Builder: GrowingBuilder + EmptyBuilder + Truncate + FreezeBuilder<Frozen = O> + Drop,
+    ensures { IfOk result (λ types. types
+        ≡ bitmap_octets (is_listed kind.is_unsigned_cut kind.is_apex assumed kind.is_zone_cut
+        (zone_of N.labels records.entry))) }
+{
+    let mut types = common_types::<O::Builder>(alloc, kind, assumed)?;
+    add_types(&mut types, records, kind.is_zone_cut)?;
+    Ok(types.finalize())
+}
