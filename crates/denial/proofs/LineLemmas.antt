@@ -1,7 +1,7 @@
 -- The record that tokens spell, part after part, and tokens that spell none.
 use Rattle.std.proofs.Common.{◌≡◌, ◌≢◌, ◌↔◌, ℕ, Bool, false, IsTrue, List, [], ◌∷◌, refl, ap, sym, ◌∙◌, subst, Option, None}
 use Rattle.domain_base.specs.Text.{NameText}
-use Rattle.domain_base.specs.Scan.{ScanFault, no_memory, scan_fault_of, TakesToken, RefusesToken, ended, refused, IsNumber, IsNoNumber, NameFault}
+use Rattle.domain_base.specs.Scan.{ScanFault, no_memory, scan_fault_of, TakesToken, RefusesToken, ended, refused, IsNumber, IsNoNumber, NameTextFault}
 use Rattle.domain_base.specs.Numbers.{ClassText, IsNoClass, TypeText, IsNoType, type_names}
 use Rattle.domain_base.specs.declared.error.ScanError.{ScanError}
 use Rattle.domain_base.specs.declared.error.ScanError.TheVariants as scan_error
@@ -9,7 +9,7 @@ use Rattle.domain_base.proofs.NamedLemmas.{one_named}
 use Rattle.domain_fields.specs.Field.{name}
 use Rattle.domain_plain.specs.declared.record.Record.{Record}
 use Rattle.domain_fields.proofs.ScanLemmas.{token_excludes}
-use Rattle.domain_rdata.specs.Text.{RdataText}
+use Rattle.domain_rdata.specs.Scan.{RdataText}
 use Rattle.domain_rdata.specs.declared.zone_record_data.ZoneRecordData.{ZoneRecordData}
 use Rattle.domain_rdata.proofs.ScanLemmas.{text_once}
 use Rattle.denial.specs.Listing.{ProgramRecord}
@@ -56,10 +56,10 @@ refused_spells Why P old new after fault apart (refused token left why_fault why
 -- a line that spells a record, whose tokens were read so far
 module _ {O N : Type 0} (octets : O → List ℕ) (labels : N → List (List ℕ)) (ws1 ws2 ws3 ws4 ws5 : List (List ℕ)) (r : Record N (ZoneRecordData O N)) (line : LineText octets labels ws1 r) where
   module _ (limit : Option ℕ) (new : List (List ℕ)) (fault : ScanFault) where
-    pub no_owner : limit ≡ None → fault ≢ no_memory → RefusesToken (NameFault limit) ws1 new fault → ⊥
+    pub no_owner : limit ≡ None → fault ≢ no_memory → RefusesToken (NameTextFault limit) ws1 new fault → ⊥
     no_owner grows known why =
         token_excludes name ws1 new (line.ttl_word ∷ line.class_word ∷ line.type_word ∷ line.data_words) (labels r.owner) fault
-        (subst (λ l. RefusesToken (NameFault l) ws1 new fault) grows why) (record { token = line.owner_word; first = line.are; holds = line.owner }) known
+        (subst (λ l. RefusesToken (NameTextFault l) ws1 new fault) grows why) (record { token = line.owner_word; first = line.are; holds = line.owner }) known
 
   module _ {P1 : List ℕ → Type 0} (first : TakesToken P1 ws1 ws2) where
     after_owner : ws2 ≡ line.ttl_word ∷ line.class_word ∷ line.type_word ∷ line.data_words

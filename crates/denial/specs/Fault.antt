@@ -1,5 +1,7 @@
 -- When each fault comes.
-use Rattle.std.specs.Prelude.{◌≡◌, ℕ, List, [], Option, Some, IfSome}
+use Rattle.std.specs.Prelude.{◌≡◌, ℕ, [], Option, Some, IfSome}
+use Rattle.domain_octets.specs.Words.{Octets}
+use Rattle.domain_base.specs.Words.{Tokens}
 use Rattle.denial.specs.Run.{AsksForNothing, AsksForChain}
 use Rattle.denial.specs.declared.fault.DenialFault.{DenialFault}
 use Rattle.denial.specs.declared.fault.DenialFault.TheVariants.{Usage, Read, Line, MixedClasses, Signing, Write, OutOfMemory}
@@ -25,11 +27,12 @@ IsAfterInput Write = Unit {0}
 IsAfterInput OutOfMemory = ⊥
 
 -- where the octets of the input are known, none is left
-abbrev pub IsReadToEnd : Option (List ℕ) → Option (List ℕ) → Type 0
+abbrev pub IsReadToEnd : Option Octets → Option Octets → Type 0
 IsReadToEnd old new = IfSome old (λ octets. new ≡ Some [])
 
--- a fault of usage says that the words ask for nothing; any other but want of memory, that they ask for a chain
-abbrev pub TellsUsage : List (List ℕ) → DenialFault → Type 0
+-- a fault of usage says that the words ask for nothing; any other but want of memory, that they ask
+-- for a chain
+abbrev pub TellsUsage : Tokens → DenialFault → Type 0
 TellsUsage words Usage = AsksForNothing words
 TellsUsage words Read = AsksForChain words
 TellsUsage words (Line n) = AsksForChain words

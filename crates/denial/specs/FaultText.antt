@@ -1,6 +1,7 @@
 -- What the program prints on standard error.
-use Rattle.std.specs.Prelude.{ℕ, List, ◌++◌, codes}
+use Rattle.std.specs.Prelude.{◌++◌, codes}
 use Rattle.std.specs.Fmt.{decimal}
+use Rattle.domain_octets.specs.Words.{Octets}
 use Rattle.domain_records.specs.declared.error.Nsec3HashError.{Nsec3HashError}
 use Rattle.domain_records.specs.declared.error.Nsec3HashError.TheVariants as hash_error
 use Rattle.domain_records.specs.declared.error.SigningError.{SigningError}
@@ -9,7 +10,7 @@ use Rattle.denial.specs.declared.fault.DenialFault.{DenialFault}
 use Rattle.denial.specs.declared.fault.DenialFault.TheVariants.{Usage, Read, Line, MixedClasses, Signing, Write, OutOfMemory}
 
 -- of hashes that could not be used
-abbrev pub hash_text : Nsec3HashError → List ℕ
+abbrev pub hash_text : Nsec3HashError → Octets
 hash_text (hash_error.Hasher n) = codes "hasher refused: " ++ decimal n
 hash_text hash_error.AppendError = codes "signing fault"
 hash_text hash_error.OwnerHashError = codes "hash of unusable length"
@@ -18,7 +19,7 @@ hash_text hash_error.CollisionDetected = codes "hash collision"
 hash_text hash_error.OutOfMemory = codes "out of memory"
 
 -- of a chain that could not be made
-abbrev pub signing_text : SigningError → List ℕ
+abbrev pub signing_text : SigningError → Octets
 signing_text signing_error.EmptyRecordSlice = codes "signing fault"
 signing_text signing_error.MultipleTtlValues = codes "RRset with more than one TTL"
 signing_text signing_error.SoaRecordCouldNotBeDetermined = codes "no single SOA at the apex"
@@ -26,7 +27,7 @@ signing_text (signing_error.Nsec3HashingError e) = hash_text e
 signing_text signing_error.OutOfMemory = codes "out of memory"
 
 -- of any fault
-abbrev pub fault_text : DenialFault → List ℕ
+abbrev pub fault_text : DenialFault → Octets
 fault_text Usage = codes "usage: denial nsec APEX | denial nsec3 APEX ITERATIONS SALT [optout]"
 fault_text Read = codes "denial: cannot read input"
 fault_text (Line n) = codes "denial: line " ++ decimal n ++ codes ": bad record"

@@ -1,7 +1,8 @@
 -- What was read of a line.
-use Rattle.std.specs.Prelude.{ℕ, List}
+use Rattle.domain_octets.specs.Words.{Octets}
 use Rattle.domain_base.specs.declared.error.ScanError.{ScanError}
 use Rattle.domain_base.specs.declared.error.ScanError.TheVariants as scan_error
+use Rattle.domain_base.specs.Words.{Tokens}
 use Rattle.denial.specs.Words.{words, IsSkipped, LineText}
 use Rattle.denial.specs.Listing.{IsRecord, IsBad, ProgramRecord}
 use Rattle.denial.specs.declared.line.Line.{Line}
@@ -9,7 +10,7 @@ use Rattle.denial.specs.declared.line.Line.TheVariants.{Nothing, Record, Bad}
 use Rattle.denial.specs.declared.line.LineError.{LineError}
 use Rattle.denial.specs.declared.line.LineError.TheVariants as line_error
 
-abbrev pub Says : List ℕ → Line → Type 0
+abbrev pub Says : Octets → Line → Type 0
 Says line Nothing = IsSkipped (words line)
 Says line (Record r) = IsRecord (λ o. o.items) (λ n. n) line r
 Says line Bad = IsBad line
@@ -22,6 +23,6 @@ line_error_of scan_error.ShortBuf = line_error.Bad
 line_error_of scan_error.OutOfMemory = line_error.OutOfMemory
 
 -- the words spell no record, unless there was no memory to tell
-abbrev pub SpellsNone : List (List ℕ) → LineError → Type 0
+abbrev pub SpellsNone : Tokens → LineError → Type 0
 SpellsNone ws line_error.Bad = (r : ProgramRecord) → LineText (λ o. o.items) (λ n. n) ws r → ⊥
 SpellsNone ws line_error.OutOfMemory = Unit {0}

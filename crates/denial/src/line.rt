@@ -62,7 +62,8 @@ fn token_of(word: &[u8]) -> Option<&str>
 
 /// The words as text, where none of their octets is past `~`.
 fn tokens_of<'a>(alloc: Global, words: &[&'a [u8]]) -> Result<Option<Vec<&'a str>>, AllocError>
-    ensures same { IfOk result (λ o. IfSome o (λ v. map (λ t. t.now) v.items ≡ map (λ w. w.now) words.now)) }
+    ensures same { IfOk result (λ o.
+        IfSome o (λ v. map (λ t. t.now) v.items ≡ map (λ w. w.now) words.now)) }
     ensures plain { IfOk result (λ o. IfSome o (λ _. ArePlain (map (λ w. w.now) words.now))) }
     ensures none { IfOk result (λ o. IfNone o (ArePlain (map (λ w. w.now) words.now) → ⊥)) }
 {
@@ -98,8 +99,10 @@ impl From<ScanError> for LineError {
 
 /// The value that the next token spells.
 fn field<F: FromToken, S: Scanner>(scanner: &mut S) -> Result<F, LineError>
-    ensures ok { IfOk result (λ v. TakesToken (λ token. F.spells token v) (S.tokens scanner.old) (S.tokens scanner.new)) }
-    ensures err { IfErr result (λ _. (fault : ScanFault) × RefusesToken F.refuses (S.tokens scanner.old) (S.tokens scanner.new) fault) }
+    ensures ok { IfOk result (λ v.
+        TakesToken (λ token. F.spells token v) (S.tokens scanner.old) (S.tokens scanner.new)) }
+    ensures err { IfErr result (λ _. (fault : ScanFault)
+        × RefusesToken F.refuses (S.tokens scanner.old) (S.tokens scanner.new) fault) }
 {
     match F::scan(scanner) {
         Ok(value) => Ok(value),

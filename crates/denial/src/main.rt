@@ -1,7 +1,8 @@
-//! The program `denial`: reads the records of a zone from standard input, one a line, and prints the chain that denies what the
-//! zone does not hold.
+//! The program `denial`: reads the records of a zone from standard input, one a line, and prints
+//! the chain that denies what the zone does not hold.
 //!
-//! The work is done by `run_denial`, which is generic over its reader, its writer and its hasher. `main` hands in those of the process.
+//! The work is done by `run_denial`, which is generic over its reader, its writer and its hasher.
+//! `main` hands in those of the process.
 #![tactic(auto)]
 
 mod fault;
@@ -42,7 +43,8 @@ impl Nsec3Hasher for NoHasher {
     }
 }
 
-/// Why the process's words were not read: other than for want of memory, one of them is no text, and so they ask for nothing.
+/// Why the process's words were not read: other than for want of memory, one of them is no text,
+/// and so they ask for nothing.
 fn fault_of_words(error: &io::Error) -> DenialFault {
     match error.kind() {
         ErrorKind::OutOfMemory => DenialFault::OutOfMemory,

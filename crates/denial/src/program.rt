@@ -3,6 +3,8 @@ ghost use Rattle.std.specs.Prelude.{◌≡◌, ◌≢◌, ◌⊎◌, ℕ, ◌-�
 ghost use Rattle.std.specs.Str.Lines.{lines, strip_carriage_return};
 ghost use Rattle.std.specs.Io.KnownBytes.{Appends};
 ghost use Rattle.std.specs.IoError.{error_kind};
+ghost use Rattle.domain_octets.specs.Words.{Octets};
+ghost use Rattle.domain_octets.specs.Characters.{line_feed};
 ghost use Rattle.domain_base.specs.Text.{NameText, IsNoName};
 ghost use Rattle.domain_dnssec.specs.AnyOrder.{IsChainOf};
 ghost use Rattle.domain_dnssec.specs.Chain.{Link, usual_config};
@@ -10,7 +12,7 @@ ghost use Rattle.domain_dnssec.specs.ChainView.{as_link};
 ghost use Rattle.domain_records.specs.declared.error.SigningError.{SigningError};
 ghost use Rattle.denial.specs.Listing.{Give, IsFirstBad};
 ghost use Rattle.denial.specs.Text.{listing};
-ghost use Rattle.denial.specs.Run.{AsksForChain, AsksForNothing, HasNoChain, Answers, Refuses};
+ghost use Rattle.denial.specs.Run.{AsksForChain, AsksForNothing, HasNoChain, Answers, GivesNoChain};
 ghost use Rattle.denial.specs.Command.{Asks};
 ghost use Rattle.denial.specs.Fault.{IsAfterInput, IsBeforeOutput, IsReadingFault, IsReadToEnd, TellsUsage};
 ghost use Rattle.denial.specs.declared.fault.DenialFault.TheVariants.{OutOfMemory};
@@ -35,7 +37,8 @@ pub enum Command {
 /// A name that a word spells.
 fn name_of(alloc: Global, word: &str) -> Result<ZoneName, DenialFault>
     ensures ok { IfOk result (NameText word.now) }
-    ensures err { IfErr result (λ e. ((e ≡ DenialFault.Usage) × IsNoName word.now) ⊎ (e ≡ OutOfMemory)) }
+    ensures err { IfErr result (λ e. ((e ≡ DenialFault.Usage) × IsNoName word.now)
+        ⊎ (e ≡ OutOfMemory)) }
 {
     match ZoneName::from_str(alloc, word) {
         Ok(name) => Ok(name),
@@ -47,7 +50,9 @@ fn name_of(alloc: Global, word: &str) -> Result<ZoneName, DenialFault>
 /// What the words after the program's name ask for.
 fn command_of(alloc: Global, words: &[String]) -> Result<Command, DenialFault>
     ensures ok { IfOk result (Asks (map string_bytes words.now)) }
-    ensures err { IfErr result (λ e. ((e ≡ DenialFault.Usage) × AsksForNothing (map string_bytes words.now)) ⊎ (e ≡ OutOfMemory)) }
+    ensures err { IfErr result (λ e.
+        ((e ≡ DenialFault.Usage) × AsksForNothing (map string_bytes words.now))
+        ⊎ (e ≡ OutOfMemory)) }
 {
     match words {
         [command, apex] if command.as_str() == "nsec" => {
@@ -71,8 +76,9 @@ fn fault_of(error: &io::Error, fault: DenialFault) -> DenialFault
 
 /// A line without its end: a line feed, and a carriage return before it.
 fn without_end(line: &[u8]) -> &[u8]
-    ensures ended { (front : List ℕ) → line.now ≡ front ++ 10 ∷ [] → result.now ≡ strip_carriage_return front }
-    ensures last { slice_index line.now (length line.now - 1) ≢ 10 → result.now ≡ line.now }
+    ensures ended { (front : Octets) → line.now ≡ front ++ line_feed ∷ []
+        → result.now ≡ strip_carriage_return front }
+    ensures last { slice_index line.now (length line.now - 1) ≢ line_feed → result.now ≡ line.now }
 {
     match line {
         [front @ .., b'\r', b'\n'] => front,
@@ -98,13 +104,18 @@ fn skip_all<R: BufRead>(input: &mut R) -> Result<(), DenialFault>
     Err(DenialFault::Read)
 }
 
-/// The records of the lines that are left. A bad line is told only after the rest has been read, since a fault of the reader is
-/// told before it.
+/// The records of the lines that are left. A bad line is told only after the rest has been read,
+/// since a fault of the reader is told before it.
 fn read_records<R: BufRead>(alloc: Global, input: &mut R) -> Result<Vec<ZoneRr>, DenialFault>
-    ensures ok { IfOk result (λ v. IfSome (R.remaining input.old) (λ all. Give (λ o. o.items) (λ n. n) (lines all) v.items)) }
+    ensures ok { IfOk result (λ v.
+        IfSome (R.remaining input.old) (λ all. Give (λ o. o.items) (λ n. n) (lines all) v.items)) }
     ensures err { IfErr result IsReadingFault }
-    ensures line { (n : ℕ) → IsErrOf result (DenialFault.Line n) → IfSome (R.remaining input.old) (λ all. IsFirstBad (lines all) n) }
-    ensures end { MatchResult result (λ _. IsReadToEnd (R.remaining input.old) (R.remaining input.new)) (λ e. IsAfterInput e → IsReadToEnd (R.remaining input.old) (R.remaining input.new)) }
+    ensures line { (n : ℕ) → IsErrOf result (DenialFault.Line n)
+        → IfSome (R.remaining input.old) (λ all. IsFirstBad (lines all) n) }
+    ensures end { MatchResult result
+        (λ _. IsReadToEnd (R.remaining input.old) (R.remaining input.new))
+        (λ e. IsAfterInput e
+        → IsReadToEnd (R.remaining input.old) (R.remaining input.new)) }
 {
     let mut records = Vec::new(alloc);
     let mut line = Vec::new(alloc);
@@ -152,7 +163,8 @@ fn write_records<W: Write>(
     records: &[Record<ZoneName, Nsec<Vec<u8>, ZoneName>>],
     output: &mut W,
 ) -> io::Result<()>
-    ensures { OnOk result (Appends (W.contents output.old) (W.contents output.new) (listing (map (as_link (λ n. n)) records.now))) }
+    ensures { OnOk result (Appends (W.contents output.old) (W.contents output.new)
+        (listing (map (as_link (λ n. n)) records.now))) }
 {
     for record in records {
         writeln!(output, "{record}")?;
@@ -160,13 +172,15 @@ fn write_records<W: Write>(
     output.flush()
 }
 
-/// Does what the words ask for: reads the records of a zone, one a line, and writes its chain, one record a line.
+/// Does what the words ask for: reads the records of a zone, one a line, and writes its chain, one
+/// record a line.
 ///
 /// # Errors
 ///
-/// The first that stands: `Usage` where the words are no command; `Read` where the input could not be read; `Line` of the lowest
-/// line that is no record; `MixedClasses`; `Signing` where there is no chain; `Write` where the output could not be written; and
-/// `OutOfMemory` wherever it comes. Nothing is written before `Write`.
+/// The first that stands: `Usage` where the words are no command; `Read` where the input could not
+/// be read; `Line` of the lowest line that is no record; `MixedClasses`; `Signing` where there is
+/// no chain; `Write` where the output could not be written; and `OutOfMemory` wherever it comes.
+/// Nothing is written before `Write`.
 pub fn run_denial<R: BufRead, W: Write, H: Nsec3Hasher>(
     alloc: Global,
     words: &[String],
@@ -175,24 +189,37 @@ pub fn run_denial<R: BufRead, W: Write, H: Nsec3Hasher>(
     output: &mut W,
 ) -> Result<(), DenialFault>
     // The text of the chain of the records that the lines give, and nothing else.
-    ensures ok { OnOk result (IfSome (R.remaining input.old) (λ bytes. (links : List Link) × Answers (map string_bytes words.now) (lines bytes) links
+    ensures ok { OnOk result (IfSome (R.remaining input.old) (λ bytes. (links : List Link)
+        × Answers (map string_bytes words.now) (lines bytes) links
         × Appends (W.contents output.old) (W.contents output.new) (listing links))) }
 
     // Usage is answered exactly where the words ask for no chain, want of memory aside.
-    ensures usage { MatchResult result (λ _. AsksForChain (map string_bytes words.now)) (TellsUsage (map string_bytes words.now)) }
+    ensures usage { MatchResult result (λ _. AsksForChain (map string_bytes words.now))
+        (TellsUsage (map string_bytes words.now)) }
 
     // The lowest line that is neither skipped nor a record.
-    ensures line { (n : ℕ) → IsErrOf result (DenialFault.Line n) → IfSome (R.remaining input.old) (λ bytes. IsFirstBad (lines bytes) n) }
+    ensures line { (n : ℕ) → IsErrOf result (DenialFault.Line n)
+        → IfSome (R.remaining input.old) (λ bytes. IsFirstBad (lines bytes) n) }
 
-    // All of the input has been read before Ok, a bad line or a later fault is answered: a fault of the reader comes before them.
-    ensures end { MatchResult result (λ _. IsReadToEnd (R.remaining input.old) (R.remaining input.new)) (λ e. IsAfterInput e → IsReadToEnd (R.remaining input.old) (R.remaining input.new)) }
+    // All of the input has been read before Ok, a bad line or a later fault is answered: a fault of
+    // the reader comes before them.
+    ensures end { MatchResult result
+        (λ _. IsReadToEnd (R.remaining input.old) (R.remaining input.new))
+        (λ e. IsAfterInput e
+        → IsReadToEnd (R.remaining input.old) (R.remaining input.new)) }
 
     // There is no such chain.
-    ensures mixed { IsErrOf result DenialFault.MixedClasses → IfSome (R.remaining input.old) (λ bytes. Refuses (map string_bytes words.now) (lines bytes) DenialFault.MixedClasses) }
-    ensures signing { (e : SigningError) → IsErrOf result (DenialFault.Signing e) → IfSome (R.remaining input.old) (λ bytes. Refuses (map string_bytes words.now) (lines bytes) (DenialFault.Signing e)) }
+    ensures mixed { IsErrOf result DenialFault.MixedClasses
+        → IfSome (R.remaining input.old) (λ bytes.
+        GivesNoChain (map string_bytes words.now) (lines bytes) DenialFault.MixedClasses) }
+    ensures signing { (e : SigningError) → IsErrOf result (DenialFault.Signing e)
+        → IfSome (R.remaining input.old) (λ bytes.
+        GivesNoChain (map string_bytes words.now) (lines bytes) (DenialFault.Signing e)) }
 
     // Only where there is such a chain is anything written.
-    ensures write { IsErrOf result DenialFault.Write → IfSome (R.remaining input.old) (λ bytes. (links : List Link) × Answers (map string_bytes words.now) (lines bytes) links) }
+    ensures write { IsErrOf result DenialFault.Write
+        → IfSome (R.remaining input.old) (λ bytes. (links : List Link)
+        × Answers (map string_bytes words.now) (lines bytes) links) }
     ensures untouched { IfErr result (λ e. IsBeforeOutput e → output.new ≡ output.old) }
 {
     let Command::Nsec(apex) = command_of(alloc, words)?;

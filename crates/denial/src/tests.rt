@@ -1,5 +1,5 @@
-//! What no clause says: that runs succeed, and what is answered when a device or memory fails in mid-stream. The texts of
-//! faults and their statuses are clauses.
+//! What no clause says: that runs succeed, and what is answered when a device or memory fails in
+//! mid-stream. The texts of faults and their statuses are clauses.
 use crate::NoHasher;
 use crate::fault::DenialFault;
 use crate::program::run_denial;
