@@ -1,16 +1,15 @@
 //! Bitmaps of types (RFC 4034, section 4.1.2).
-use crate::answers::Answers;
-use crate::input::Tokens;
-use crate::{input, typed};
 use bytes::Bytes;
 use domain_base::{Rtype, ScanError, Scanner};
 use domain_bitmap::{RtypeBitmap, RtypeBitmapBuilder, RtypeBitmapError};
 use domain_octets::{
-    AppendError, ArrayBuilder, DisplayKind, EmptyBuilder, FreezeBuilder, Octets, OctetsFrom,
-    Parser, Truncate, TryClone, ZonefileFmt,
+    ArrayBuilder, DisplayKind, EmptyBuilder, Octets, OctetsBuilder, Parser, Truncate, ZonefileFmt,
 };
 use std::alloc::Global;
 use std::fmt::Display;
+use vector_lines::holders::converted_octets;
+use vector_lines::input::{Parts, Tokens};
+use vector_lines::{Answers, compare_values, input};
 
 /// The types that words name.
 fn types(alloc: Global, words: &[&str]) -> Result<Vec<Rtype>, ScanError> {
@@ -42,16 +41,12 @@ fn show<O: Octets>(alloc: Global, bitmap: &RtypeBitmap<O>, answers: &mut Answers
     }
 }
 
-/// The bitmap of the types that are added to a builder, and whether others are in it.
-fn build<B: EmptyBuilder + Truncate + FreezeBuilder + Drop>(
+/// A builder that types are added to, which says which have no room.
+fn built<B: EmptyBuilder + Truncate + Drop>(
     alloc: Global,
     added: &[Rtype],
-    asked: &[Rtype],
     answers: &mut Answers,
-)
-where
-    B::Frozen: Octets + Drop,
-{
+) -> RtypeBitmapBuilder<B> {
     let mut builder = RtypeBitmapBuilder::<B>::new(alloc);
     for rtype in added {
         if let Err(error) = builder.add(*rtype) {
@@ -59,22 +54,31 @@ where
             answers.refused(&error);
         }
     }
-    let bitmap = builder.finalize();
-    show(alloc, &bitmap, answers);
+    builder
+}
+
+/// A bitmap, and whether types are in it.
+fn ask<O: Octets>(alloc: Global, bitmap: &RtypeBitmap<O>, asked: &[Rtype], answers: &mut Answers) {
+    show(alloc, bitmap, answers);
     for rtype in asked {
         answers.debug("asked", &(*rtype, bitmap.contains(*rtype)));
     }
 }
 
 /// The bitmap of the first type of each window, added from the last window to the first.
-fn windows(alloc: Global, answers: &mut Answers) {
+fn of_windows(alloc: Global, answers: &mut Answers) -> RtypeBitmap<Vec<u8>> {
     let mut builder = RtypeBitmapBuilder::new_vec(alloc);
     for window in 0..256u16 {
         if let Err(error) = builder.add(Rtype::from_int(256 * (255 - window))) {
             answers.refused(&error);
         }
     }
-    let bitmap = builder.finalize();
+    builder.finalize()
+}
+
+/// The octets of that bitmap, and how long its text is.
+fn windows(alloc: Global, answers: &mut Answers) {
+    let bitmap = of_windows(alloc, answers);
     answers.octets("octets", &bitmap);
     match format!(in alloc; "{bitmap}") {
         Ok(text) => answers.show("characters", &text.len()),
@@ -82,7 +86,7 @@ fn windows(alloc: Global, answers: &mut Answers) {
     }
 }
 
-/// The bitmap that octets are.
+/// The bitmap that octets are, and the one that is read of them.
 fn from_octets(alloc: Global, octets: &[u8], answers: &mut Answers) {
     match RtypeBitmap::from_octets(octets) {
         Ok(bitmap) => show(alloc, &bitmap, answers),
@@ -96,38 +100,11 @@ fn from_octets(alloc: Global, octets: &[u8], answers: &mut Answers) {
     answers.show("at", &parser.pos());
 }
 
-/// A bitmap that was made, or why it was not.
-fn made<O: Octets + Drop>(
-    label: &str,
-    bitmap: Result<RtypeBitmap<O>, AppendError>,
-    answers: &mut Answers,
-) {
-    match bitmap {
-        Ok(bitmap) => answers.octets(label, &bitmap),
-        Err(error) => answers.debug(label, &error),
-    }
-}
-
 /// A bitmap in other holders, and written where there is room for it once.
 fn held(alloc: Global, bitmap: &RtypeBitmap<&[u8]>, answers: &mut Answers) {
-    let (Ok(a), Ok(b), Ok(c)) = (bitmap.try_clone(), bitmap.try_clone(), bitmap.try_clone()) else {
-        return answers.echo("  no copy");
-    };
-    made(
-        "Vec",
-        RtypeBitmap::<Vec<u8>>::try_octets_from(alloc, a),
-        answers,
-    );
-    made(
-        "Bytes",
-        RtypeBitmap::<Bytes>::try_octets_from(alloc, b),
-        answers,
-    );
-    made(
-        "ArrayBuilder<2>",
-        RtypeBitmap::<ArrayBuilder<2>>::try_octets_from(alloc, c),
-        answers,
-    );
+    converted_octets::<_, RtypeBitmap<Vec<u8>>>(alloc, "Vec", bitmap, answers);
+    converted_octets::<_, RtypeBitmap<Bytes>>(alloc, "Bytes", bitmap, answers);
+    converted_octets::<_, RtypeBitmap<ArrayBuilder<2>>>(alloc, "ArrayBuilder<2>", bitmap, answers);
     let mut target = ArrayBuilder::<6>::empty(alloc);
     answers.debug("composed", &bitmap.compose(&mut target));
     answers.debug("again", &bitmap.compose(&mut target));
@@ -138,7 +115,7 @@ fn held(alloc: Global, bitmap: &RtypeBitmap<&[u8]>, answers: &mut Answers) {
 fn compare(a: &[u8], b: &[u8], answers: &mut Answers) -> Result<(), RtypeBitmapError> {
     let a = RtypeBitmap::from_octets(a)?;
     let b = RtypeBitmap::from_octets(b)?;
-    typed::compare_values(&a, &b, answers);
+    compare_values(&a, &b, answers);
     answers.debug("eq_to", &a.eq_to(&b));
     answers.debug("cmp_to", &a.cmp_to(&b));
     answers.debug("canonical_cmp_to", &a.canonical_cmp_to(&b));
@@ -148,10 +125,8 @@ fn compare(a: &[u8], b: &[u8], answers: &mut Answers) -> Result<(), RtypeBitmapE
 /// The bitmap of the types that tokens name, and where reading stopped.
 fn scan(alloc: Global, tokens: &[&str], answers: &mut Answers) {
     let mut scanner = Tokens::new(tokens);
-    match RtypeBitmap::<Vec<u8>>::scan(alloc, &mut scanner) {
-        Ok(bitmap) => answers.octets("octets", &bitmap),
-        Err(error) => answers.refused(&error),
-    }
+    let bitmap = RtypeBitmap::<Vec<u8>>::scan(alloc, &mut scanner);
+    answers.octets_or_refused("octets", bitmap);
     answers.debug("next", &scanner.first_token());
     scan_tight(alloc, tokens, answers);
 }
@@ -159,32 +134,42 @@ fn scan(alloc: Global, tokens: &[&str], answers: &mut Answers) {
 /// The same where there is room for one window.
 fn scan_tight(alloc: Global, tokens: &[&str], answers: &mut Answers) {
     let mut scanner = Tokens::new(tokens);
-    match RtypeBitmap::<ArrayBuilder<34>>::scan(alloc, &mut scanner) {
-        Ok(bitmap) => answers.octets("ArrayBuilder<34>", &bitmap),
-        Err(error) => answers.debug("ArrayBuilder<34>", &error),
-    }
+    let bitmap = RtypeBitmap::<ArrayBuilder<34>>::scan(alloc, &mut scanner);
+    answers.octets_or_error("ArrayBuilder<34>", bitmap);
     answers.debug("next", &scanner.first_token());
+}
+
+/// What a builder says when types are added to it.
+fn add<B: Truncate + OctetsBuilder>(
+    builder: &mut RtypeBitmapBuilder<B>,
+    added: &[Rtype],
+    answers: &mut Answers,
+) {
+    for rtype in added {
+        answers.debug("added", &builder.add(*rtype));
+    }
+}
+
+/// The bitmap of a copy of a builder.
+fn copied(builder: &RtypeBitmapBuilder<Vec<u8>>, answers: &mut Answers) {
+    match builder.clone() {
+        Ok(copy) => answers.octets("copy", &copy.finalize()),
+        Err(error) => answers.refused(&error),
+    }
 }
 
 /// A builder that is copied.
 fn copy(alloc: Global, added: &[Rtype], answers: &mut Answers) {
     let mut builder = RtypeBitmap::<Vec<u8>>::builder(alloc);
-    for rtype in added {
-        answers.debug("added", &builder.add(*rtype));
-    }
-    match builder.clone() {
-        Ok(copy) => answers.octets("copy", &copy.finalize()),
-        Err(error) => answers.refused(&error),
-    }
+    add(&mut builder, added, answers);
+    copied(&builder, answers);
     answers.octets("Vec", &builder.finalize());
 }
 
 /// A builder over an array that is handed in.
 fn array(added: &[Rtype], answers: &mut Answers) {
     let mut builder = RtypeBitmapBuilder::with_builder(ArrayBuilder::<68>::new());
-    for rtype in added {
-        answers.debug("added", &builder.add(*rtype));
-    }
+    add(&mut builder, added, answers);
     answers.octets("ArrayBuilder<68>", &builder.finalize());
 }
 
@@ -194,49 +179,64 @@ fn errors(answers: &mut Answers) {
     answers.show("text", &RtypeBitmapError::BadRtypeBitmap);
 }
 
-/// Answers a vector on bitmaps that names types.
-fn of_types(alloc: Global, words: &[&str], answers: &mut Answers) -> Result<(), ScanError> {
-    let (front, back) = input::halves(words.get(1..).unwrap_or_default());
-    let added = types(alloc, front)?;
-    let asked = types(alloc, back)?;
-    match words.first() {
-        Some(&"types") => build::<Vec<u8>>(alloc, added.as_slice(), asked.as_slice(), answers),
-        Some(&"tight") => {
-            build::<ArrayBuilder<34>>(alloc, added.as_slice(), asked.as_slice(), answers);
+/// Types that are added to builders, and types that are then asked for.
+fn added(alloc: Global, form: &str, added: &[Rtype], asked: &[Rtype], answers: &mut Answers) {
+    match form {
+        "types" => {
+            let bitmap = built::<Vec<u8>>(alloc, added, answers).finalize();
+            ask(alloc, &bitmap, asked, answers);
         }
-        Some(&"copy") => copy(alloc, added.as_slice(), answers),
-        Some(&"array") => array(added.as_slice(), answers),
-        _ => answers.echo("  no such vector"),
+        "tight" => {
+            let bitmap = built::<ArrayBuilder<34>>(alloc, added, answers).finalize();
+            ask(alloc, &bitmap, asked, answers);
+        }
+        "copy" => copy(alloc, added, answers),
+        _ => array(added, answers),
     }
+}
+
+/// Answers a vector on bitmaps that names types.
+fn of_types(
+    alloc: Global,
+    form: &str,
+    words: &[&str],
+    answers: &mut Answers,
+) -> Result<(), ScanError> {
+    let (front, back) = input::halves(words);
+    let front = types(alloc, front)?;
+    let back = types(alloc, back)?;
+    added(alloc, form, front.as_slice(), back.as_slice(), answers);
     Ok(())
 }
 
 /// Answers a vector on bitmaps that has octets.
-fn of_octets(alloc: Global, words: &[&str], answers: &mut Answers) {
-    let (front, back) = input::halves(words.get(1..).unwrap_or_default());
-    let (Some(octets), Some(others)) = (input::octets(alloc, front), input::octets(alloc, back))
-    else {
-        return answers.echo("  no octets");
-    };
-    if words.first() == Some(&"octets") {
-        return from_octets(alloc, octets.as_slice(), answers);
+fn of_octets(alloc: Global, form: &str, parts: &Parts, answers: &mut Answers) {
+    if form == "octets" {
+        return from_octets(alloc, parts.first(), answers);
     }
-    if let Err(error) = compare(octets.as_slice(), others.as_slice(), answers) {
-        answers.refused(&error);
+    let compared = compare(parts.first(), parts.second(), answers);
+    answers.error_of(compared);
+}
+
+/// Answers a vector on bitmaps that has two parts.
+fn of_parts(alloc: Global, form: &str, words: &[&str], answers: &mut Answers) {
+    match input::two_parts(alloc, words) {
+        Some(parts) => of_octets(alloc, form, &parts, answers),
+        None => answers.echo("  no octets"),
     }
 }
 
 /// Answers a vector on bitmaps.
 pub fn answer(alloc: Global, words: &[&str], answers: &mut Answers) {
-    match words {
-        ["octets" | "compare", ..] => of_octets(alloc, words, answers),
-        ["scan", tokens @ ..] => scan(alloc, tokens, answers),
-        ["windows"] => windows(alloc, answers),
-        ["errors"] => errors(answers),
+    let (form, rest) = (input::word(words, 0), words.get(1..).unwrap_or_default());
+    match form {
+        "octets" | "compare" => of_parts(alloc, form, rest, answers),
+        "scan" => scan(alloc, rest, answers),
+        "windows" => windows(alloc, answers),
+        "errors" => errors(answers),
         _ => {
-            if let Err(error) = of_types(alloc, words, answers) {
-                answers.refused(&error);
-            }
+            let outcome = of_types(alloc, form, rest, answers);
+            answers.error_of(outcome);
         }
     }
 }

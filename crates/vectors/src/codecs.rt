@@ -1,10 +1,10 @@
 //! Octets as text (RFC 4648).
-use crate::answers::Answers;
 use domain_octets::{
     ArrayBuilder, Codec, DecodeError, OutOfMemory, base16, base32, base64_standard,
 };
 use std::alloc::Global;
 use std::fmt::{Display, Formatter, Result as Printed, Write};
+use vector_lines::{Answers, input};
 
 /// Octets that print in an alphabet of RFC 4648.
 #[derive(Drop)]
@@ -33,33 +33,32 @@ impl Display for Lower<'_> {
     }
 }
 
-/// A text that was made, or that there was no memory for it.
-fn made(label: &str, text: Result<String, OutOfMemory>, answers: &mut Answers) {
-    match text {
-        Ok(text) => answers.show(label, &text),
-        Err(error) => answers.refused(&error),
-    }
+/// Octets in an alphabet, made at once and printed.
+fn encode_in(
+    label: &str,
+    codec: Codec,
+    octets: &[u8],
+    text: Result<String, OutOfMemory>,
+    answers: &mut Answers,
+) {
+    answers.show_or_refused(label, text);
+    answers.show("printed", &Encoded { codec, octets });
 }
 
-/// Octets in each alphabet, made at once and printed.
+/// Octets in each alphabet.
 fn encode(alloc: Global, octets: &[u8], answers: &mut Answers) {
-    made("base16", base16::encode_string(alloc, octets), answers);
-    answers.show(
-        "printed",
-        &Encoded {
-            codec: Codec::Base16,
-            octets,
-        },
-    );
+    let text = base16::encode_string(alloc, octets);
+    encode_in("base16", Codec::Base16, octets, text, answers);
     answers.show("lower", &Lower(octets));
-    made("base32", base32::encode_string(alloc, octets), answers);
-    answers.show(
-        "printed",
-        &Encoded {
-            codec: Codec::Base32Hex,
-            octets,
-        },
-    );
+    let text = base32::encode_string(alloc, octets);
+    encode_in("base32", Codec::Base32Hex, octets, text, answers);
+    encode_lower(alloc, octets, answers);
+    let text = base64_standard::encode_string(alloc, octets);
+    encode_in("base64", Codec::Base64, octets, text, answers);
+}
+
+/// Octets in Base 32 hex with lower-case letters.
+fn encode_lower(alloc: Global, octets: &[u8], answers: &mut Answers) {
     match base32::encode_hex_lower(alloc, octets) {
         Ok(text) => answers.show(
             "lower",
@@ -67,27 +66,11 @@ fn encode(alloc: Global, octets: &[u8], answers: &mut Answers) {
         ),
         Err(error) => answers.refused(&error),
     }
-    made(
-        "base64",
-        base64_standard::encode_string(alloc, octets),
-        answers,
-    );
-    answers.show(
-        "printed",
-        &Encoded {
-            codec: Codec::Base64,
-            octets,
-        },
-    );
 }
 
 /// What a text stands for, by itself and where there is room for two octets.
 fn decode(alloc: Global, codec: Codec, text: &str, answers: &mut Answers) {
-    let decoded: Result<Vec<u8>, DecodeError> = codec.decode(alloc, text);
-    match decoded {
-        Ok(octets) => answers.octets("octets", &octets),
-        Err(error) => answers.refused(&error),
-    }
+    answers.octets_or_refused("octets", codec.decode::<Vec<u8>>(alloc, text));
     let short: Result<ArrayBuilder<2>, DecodeError> = codec.decode(alloc, text);
     answers.debug("ArrayBuilder<2>", &short.err());
 }
@@ -108,18 +91,24 @@ fn errors(answers: &mut Answers) {
     answers.show("text", &OutOfMemory);
 }
 
+/// The octets that words spell in Base 16, in each alphabet.
+fn of_octets(alloc: Global, words: &[&str], answers: &mut Answers) {
+    match input::octets(alloc, words) {
+        Some(octets) => encode(alloc, octets.as_slice(), answers),
+        None => answers.echo("  no octets"),
+    }
+}
+
 /// Answers a vector on octets as text.
 pub fn answer(alloc: Global, words: &[&str], answers: &mut Answers) {
-    match words {
-        ["encode", words @ ..] => match crate::input::octets(alloc, words) {
-            Some(octets) => encode(alloc, octets.as_slice(), answers),
-            None => answers.echo("  no octets"),
-        },
-        ["base16", text] => decode(alloc, Codec::Base16, text, answers),
-        ["base32", text] => decode(alloc, Codec::Base32Hex, text, answers),
-        ["base64", text] => decode(alloc, Codec::Base64, text, answers),
-        ["named", text] => named(alloc, text, answers),
-        ["errors"] => errors(answers),
+    let text = input::word(words, 1);
+    match input::word(words, 0) {
+        "encode" => of_octets(alloc, words.get(1..).unwrap_or_default(), answers),
+        "base16" => decode(alloc, Codec::Base16, text, answers),
+        "base32" => decode(alloc, Codec::Base32Hex, text, answers),
+        "base64" => decode(alloc, Codec::Base64, text, answers),
+        "named" => named(alloc, text, answers),
+        "errors" => errors(answers),
         _ => answers.echo("  no such vector"),
     }
 }

@@ -1,18 +1,17 @@
 //! Salts, and hashes of owner names (RFC 5155, sections 3.1.5 and 3.1.7).
-use crate::answers::Answers;
-use crate::input::Tokens;
-use crate::{input, typed};
 use bytes::Bytes;
 use domain_base::Scanner;
 use domain_bitmap::{Nsec3Salt, Nsec3SaltError, Nsec3SaltFromStrError, OwnerHash, OwnerHashError};
 use domain_octets::{
-    AppendError, ArrayBuilder, DecodeError, DisplayKind, Octets, OctetsFrom, Parser,
-    PieceFormatter, TryClone, ZonefileFmt,
+    ArrayBuilder, DecodeError, DisplayKind, Octets, Parser, PieceFormatter, ZonefileFmt,
 };
 use std::alloc::Global;
+use vector_lines::holders::converted_octets;
+use vector_lines::input::Tokens;
+use vector_lines::{Answers, compare_values, input};
 
-/// The salt that a text spells, by itself and as a token.
-fn salt(alloc: Global, text: &str, answers: &mut Answers) {
+/// The salt that a text spells.
+fn salt_text(alloc: Global, text: &str, answers: &mut Answers) {
     match Nsec3Salt::<Vec<u8>>::from_str(alloc, text) {
         Ok(salt) => {
             answers.show("text", &salt);
@@ -24,17 +23,20 @@ fn salt(alloc: Global, text: &str, answers: &mut Answers) {
             answers.show("text", &error);
         }
     }
+}
+
+/// The salt that a text spells, by itself and as a token.
+fn salt(alloc: Global, text: &str, answers: &mut Answers) {
+    salt_text(alloc, text, answers);
     let tokens = [text];
     let mut scanner = Tokens::new(&tokens);
-    match Nsec3Salt::scan(alloc, &mut scanner) {
-        Ok(salt) => answers.octets("scanned", &salt),
-        Err(error) => answers.refused(&error),
-    }
+    let scanned = Nsec3Salt::scan(alloc, &mut scanner);
+    answers.octets_or_refused("scanned", scanned);
     answers.debug("next", &scanner.first_token());
 }
 
 /// A salt as octets and as a zone file shows it.
-fn show_salt<O: Octets>(alloc: Global, salt: &Nsec3Salt<O>, answers: &mut Answers) {
+fn show_salt(alloc: Global, salt: &Nsec3Salt<Vec<u8>>, answers: &mut Answers) {
     answers.octets("octets", salt);
     answers.show("length", &salt.as_slice().len());
     let mut formatter = PieceFormatter::new(alloc);
@@ -42,14 +44,12 @@ fn show_salt<O: Octets>(alloc: Global, salt: &Nsec3Salt<O>, answers: &mut Answer
         Ok(()) => answers.debug("pieces", &formatter.pieces()),
         Err(error) => answers.refused(&error),
     }
-    answers.debug(
-        "zone file",
-        &salt.display_zonefile(alloc, DisplayKind::Simple),
-    );
+    let text = salt.display_zonefile(alloc, DisplayKind::Simple);
+    answers.debug("zone file", &text);
 }
 
-/// The hash that a text spells, by itself and as a token.
-fn hash(alloc: Global, text: &str, answers: &mut Answers) {
+/// The hash that a text spells.
+fn hash_text(alloc: Global, text: &str, answers: &mut Answers) {
     match OwnerHash::<Vec<u8>>::from_str(alloc, text) {
         Ok(hash) => {
             answers.show("text", &hash);
@@ -59,13 +59,24 @@ fn hash(alloc: Global, text: &str, answers: &mut Answers) {
         }
         Err(error) => answers.refused(&error),
     }
+}
+
+/// The hash that a text spells, by itself and as a token.
+fn hash(alloc: Global, text: &str, answers: &mut Answers) {
+    hash_text(alloc, text, answers);
     let tokens = [text];
     let mut scanner = Tokens::new(&tokens);
-    match OwnerHash::scan(alloc, &mut scanner) {
-        Ok(hash) => answers.octets("scanned", &hash),
-        Err(error) => answers.refused(&error),
-    }
+    let scanned = OwnerHash::scan(alloc, &mut scanner);
+    answers.octets_or_refused("scanned", scanned);
     answers.debug("next", &scanner.first_token());
+}
+
+/// Why a text is no salt and no hash as a token.
+fn scanned_sizes(alloc: Global, tokens: &[&str], answers: &mut Answers) {
+    let salt = Nsec3Salt::scan(alloc, &mut Tokens::new(tokens)).err();
+    answers.debug("salt as a token", &salt);
+    let hash = OwnerHash::scan(alloc, &mut Tokens::new(tokens)).err();
+    answers.debug("hash as a token", &hash);
 }
 
 /// How many octets a salt and a hash have that a text spells, or why it spells none.
@@ -78,11 +89,7 @@ fn sizes(alloc: Global, text: &str, answers: &mut Answers) {
         Ok(hash) => answers.show("hash", &hash.as_slice().len()),
         Err(error) => answers.refused(&error),
     }
-    let tokens = [text];
-    let salt = Nsec3Salt::scan(alloc, &mut Tokens::new(&tokens)).err();
-    answers.debug("salt as a token", &salt);
-    let hash = OwnerHash::scan(alloc, &mut Tokens::new(&tokens)).err();
-    answers.debug("hash as a token", &hash);
+    scanned_sizes(alloc, &[text], answers);
 }
 
 /// Whether octets are too many for a salt and for a hash.
@@ -94,104 +101,89 @@ fn limit(octets: &[u8], answers: &mut Answers) {
 /// A salt and a hash, each after its number of octets.
 fn parse(octets: &[u8], answers: &mut Answers) {
     let mut parser = Parser::new(octets);
-    match Nsec3Salt::parse(&mut parser) {
-        Ok(salt) => answers.show("salt", &salt),
-        Err(error) => answers.refused(&error),
-    }
+    answers.show_or_refused("salt", Nsec3Salt::parse(&mut parser));
     answers.show("at", &parser.pos());
-    match OwnerHash::parse(&mut parser) {
-        Ok(hash) => answers.show("hash", &hash),
-        Err(error) => answers.refused(&error),
-    }
+    answers.show_or_refused("hash", OwnerHash::parse(&mut parser));
     answers.show("at", &parser.pos());
 }
 
-/// Octets that were made into others, or why they were not.
-fn made<O: Octets + Drop>(label: &str, octets: Result<O, AppendError>, answers: &mut Answers) {
-    match octets {
-        Ok(octets) => answers.octets(label, &octets),
-        Err(error) => answers.debug(label, &error),
-    }
-}
-
-/// A salt in other holders.
-fn held_salt(alloc: Global, salt: &Nsec3Salt<&[u8]>, answers: &mut Answers) {
-    let (Ok(a), Ok(b), Ok(c)) = (salt.try_clone(), salt.try_clone(), salt.clone()) else {
-        return answers.echo("  no copy");
-    };
-    made(
-        "Vec",
-        Nsec3Salt::<Vec<u8>>::try_octets_from(alloc, a),
-        answers,
-    );
-    made(
-        "Bytes",
-        Nsec3Salt::<Bytes>::try_octets_from(alloc, b),
-        answers,
-    );
-    made(
-        "ArrayBuilder<2>",
-        Nsec3Salt::<ArrayBuilder<2>>::try_octets_from(alloc, c),
-        answers,
-    );
-}
-
-/// A hash in other holders.
-fn held_hash(alloc: Global, hash: &OwnerHash<&[u8]>, answers: &mut Answers) {
-    let (Ok(a), Ok(b), Ok(c)) = (hash.try_clone(), hash.try_clone(), hash.clone()) else {
-        return answers.echo("  no copy");
-    };
-    made(
-        "Vec",
-        OwnerHash::<Vec<u8>>::try_octets_from(alloc, a),
-        answers,
-    );
-    made(
-        "Bytes",
-        OwnerHash::<Bytes>::try_octets_from(alloc, b),
-        answers,
-    );
-    made(
-        "ArrayBuilder<2>",
-        OwnerHash::<ArrayBuilder<2>>::try_octets_from(alloc, c),
-        answers,
-    );
-}
-
-/// Octets as a salt and as a hash, each of which may be too long.
-fn from_octets(alloc: Global, octets: &[u8], answers: &mut Answers) {
+/// Octets as a salt in other holders.
+fn held_salt(alloc: Global, octets: &[u8], answers: &mut Answers) {
     match Nsec3Salt::from_slice(octets) {
-        Ok(salt) => held_salt(alloc, &salt, answers),
+        Ok(salt) => {
+            converted_octets::<_, Nsec3Salt<Vec<u8>>>(alloc, "Vec", &salt, answers);
+            converted_octets::<_, Nsec3Salt<Bytes>>(alloc, "Bytes", &salt, answers);
+            converted_octets::<_, Nsec3Salt<ArrayBuilder<2>>>(
+                alloc,
+                "ArrayBuilder<2>",
+                &salt,
+                answers,
+            );
+        }
         Err(error) => answers.refused(&error),
     }
+}
+
+/// Octets as a hash in other holders.
+fn held_hash(alloc: Global, octets: &[u8], answers: &mut Answers) {
     match OwnerHash::from_slice(octets) {
-        Ok(hash) => held_hash(alloc, &hash, answers),
+        Ok(hash) => {
+            converted_octets::<_, OwnerHash<Vec<u8>>>(alloc, "Vec", &hash, answers);
+            converted_octets::<_, OwnerHash<Bytes>>(alloc, "Bytes", &hash, answers);
+            converted_octets::<_, OwnerHash<ArrayBuilder<2>>>(
+                alloc,
+                "ArrayBuilder<2>",
+                &hash,
+                answers,
+            );
+        }
         Err(error) => answers.refused(&error),
     }
-    let (Ok(salt), Ok(hash)) = (
-        Bytes::copy_from_slice(alloc, octets),
-        Bytes::copy_from_slice(alloc, octets),
-    ) else {
-        return answers.echo("  no memory");
-    };
-    match Nsec3Salt::from_bytes(salt) {
+}
+
+/// Shared octets as a salt.
+fn shared_salt(octets: Bytes, answers: &mut Answers) {
+    match Nsec3Salt::from_bytes(octets) {
         Ok(salt) => answers.octets("salt", &salt.into_octets()),
         Err(error) => answers.refused(&error),
     }
-    match OwnerHash::from_bytes(hash) {
+}
+
+/// Shared octets as a hash.
+fn shared_hash(octets: Bytes, answers: &mut Answers) {
+    match OwnerHash::from_bytes(octets) {
         Ok(hash) => answers.octets("hash", &hash.into_octets()),
         Err(error) => answers.refused(&error),
     }
 }
 
+/// A copy of octets, shared, as a salt and as a hash.
+fn shared(alloc: Global, octets: &[u8], answers: &mut Answers) {
+    match Bytes::copy_from_slice(alloc, octets) {
+        Ok(copy) => shared_salt(copy, answers),
+        Err(error) => answers.refused(&error),
+    }
+    match Bytes::copy_from_slice(alloc, octets) {
+        Ok(copy) => shared_hash(copy, answers),
+        Err(error) => answers.refused(&error),
+    }
+}
+
+/// Octets as a salt and as a hash, each of which may be too long.
+fn from_octets(alloc: Global, octets: &[u8], answers: &mut Answers) {
+    held_salt(alloc, octets, answers);
+    held_hash(alloc, octets, answers);
+    shared(alloc, octets, answers);
+}
+
 /// How two salts and two hashes compare.
 fn compare(a: &[u8], b: &[u8], answers: &mut Answers) {
     if let (Ok(a), Ok(b)) = (Nsec3Salt::from_slice(a), Nsec3Salt::from_slice(b)) {
-        typed::compare_values(&a, &b, answers);
+        compare_values(&a, &b, answers);
         answers.debug("canonical_cmp_to", &a.canonical_cmp_to(&b));
     }
     if let (Ok(a), Ok(b)) = (OwnerHash::from_slice(a), OwnerHash::from_slice(b)) {
-        typed::compare_values(&a, &b, answers);
+        compare_values(&a, &b, answers);
         answers.debug("canonical_cmp_to", &a.canonical_cmp_to(&b));
     }
 }
@@ -207,25 +199,33 @@ fn errors(alloc: Global, answers: &mut Answers) {
     answers.show("empty", &Nsec3Salt::<Vec<u8>>::empty(alloc));
 }
 
+/// Answers a vector on salts and hashes that has octets.
+fn of_octets(alloc: Global, form: &str, octets: &[u8], others: &[u8], answers: &mut Answers) {
+    match form {
+        "parse" => parse(octets, answers),
+        "limit" => limit(octets, answers),
+        "octets" => from_octets(alloc, octets, answers),
+        "compare" => compare(octets, others, answers),
+        _ => answers.echo("  no such vector"),
+    }
+}
+
+/// Answers a vector on salts and hashes that has two parts.
+fn of_parts(alloc: Global, form: &str, words: &[&str], answers: &mut Answers) {
+    match input::two_parts(alloc, words) {
+        Some(parts) => of_octets(alloc, form, parts.first(), parts.second(), answers),
+        None => answers.echo("  no octets"),
+    }
+}
+
 /// Answers a vector on salts and hashes.
 pub fn answer(alloc: Global, words: &[&str], answers: &mut Answers) {
-    match words {
-        ["salt", text] => return salt(alloc, text, answers),
-        ["hash", text] => return hash(alloc, text, answers),
-        ["sizes", text] => return sizes(alloc, text, answers),
-        ["errors"] => return errors(alloc, answers),
-        _ => {}
-    }
-    let (front, back) = input::halves(words.get(1..).unwrap_or_default());
-    let (Some(octets), Some(others)) = (input::octets(alloc, front), input::octets(alloc, back))
-    else {
-        return answers.echo("  no octets");
-    };
-    match words.first() {
-        Some(&"parse") => parse(octets.as_slice(), answers),
-        Some(&"limit") => limit(octets.as_slice(), answers),
-        Some(&"octets") => from_octets(alloc, octets.as_slice(), answers),
-        Some(&"compare") => compare(octets.as_slice(), others.as_slice(), answers),
-        _ => answers.echo("  no such vector"),
+    let (form, text) = (input::word(words, 0), input::word(words, 1));
+    match form {
+        "salt" => salt(alloc, text, answers),
+        "hash" => hash(alloc, text, answers),
+        "sizes" => sizes(alloc, text, answers),
+        "errors" => errors(alloc, answers),
+        _ => of_parts(alloc, form, words.get(1..).unwrap_or_default(), answers),
     }
 }

@@ -1,17 +1,14 @@
 //! Names: as text, on the wire, compared, and in other holders (RFC 1035; RFC 4034, section 6.1).
-use crate::answers::Answers;
-use crate::input;
 use bytes::Bytes;
 use domain_base::{Name, ParsedName, ScanError, ToName};
 use domain_octets::{
-    AppendError, ArrayBuilder, EmptyBuilder, FlattenInto, Octets, OctetsFrom, Parser, TryClone,
+    AppendError, ArrayBuilder, EmptyBuilder, FlattenInto, Octets, OctetsBuilder, OctetsFrom,
+    Parser, TryClone,
 };
 use std::alloc::Global;
 use std::collections::{BTreeMap, HashMap};
 use std::fmt::{Debug, Display};
-
-/// A name in octets of its own.
-pub type OwnName = Name<Vec<u8>>;
+use vector_lines::{Answers, OwnName, input};
 
 /// A name in each of its forms.
 fn show<N: ToName + Display + Debug>(name: &N, answers: &mut Answers) {
@@ -77,24 +74,53 @@ fn compare<A: ToName, B: ToName>(a: &A, b: &B, answers: &mut Answers) {
     answers.debug("lowercase_composed_cmp", &a.lowercase_composed_cmp(b));
 }
 
-/// How two names compare.
-fn compare_texts(alloc: Global, a: &str, b: &str, answers: &mut Answers) -> Result<(), ScanError> {
-    let a = OwnName::from_str(alloc, a)?;
-    let b = OwnName::from_str(alloc, b)?;
+/// How a name compares with the name that a text spells.
+fn compare_with(
+    alloc: Global,
+    a: &OwnName,
+    text: &str,
+    answers: &mut Answers,
+) -> Result<(), ScanError> {
+    let b = OwnName::from_str(alloc, text)?;
     match ParsedName::from_slice(b.as_wire()) {
-        Ok(b) => compare(&a, &b, answers),
+        Ok(b) => compare(a, &b, answers),
         Err(error) => answers.refused(&error),
     }
     Ok(())
 }
 
-/// How each name compares with the one before it, and that one with it.
+/// How two names compare.
+fn compare_texts(alloc: Global, a: &str, b: &str, answers: &mut Answers) -> Result<(), ScanError> {
+    let a = OwnName::from_str(alloc, a)?;
+    compare_with(alloc, &a, b, answers)
+}
+
+/// The names that texts spell.
+fn names(alloc: Global, words: &[&str]) -> Result<Vec<OwnName>, ScanError> {
+    let mut names = Vec::new(alloc);
+    for word in words {
+        names.push(OwnName::from_str(alloc, word)?)?;
+    }
+    Ok(names)
+}
+
+/// How the name that a text spells compares with the one before it, and that one with it.
+fn step(
+    alloc: Global,
+    before: &OwnName,
+    text: &str,
+    answers: &mut Answers,
+) -> Result<OwnName, ScanError> {
+    let name = OwnName::from_str(alloc, text)?;
+    answers.debug(text, &(before.name_cmp(&name), name.name_cmp(before)));
+    Ok(name)
+}
+
+/// How each name compares with the one before it, the first with the root.
 fn ascend(alloc: Global, words: &[&str], answers: &mut Answers) -> Result<(), ScanError> {
     let mut before = OwnName::from_str(alloc, ".")?;
     for word in words {
-        let name = OwnName::from_str(alloc, word)?;
-        answers.debug(word, &(before.name_cmp(&name), name.name_cmp(&before)));
-        before = name;
+        before = step(alloc, &before, word, answers)?;
     }
     Ok(())
 }
@@ -111,66 +137,87 @@ fn made<N: ToName + Debug + Drop>(
     }
 }
 
+/// A name that is made of a copy of another.
+fn held_in<N: ToName + OctetsFrom<OwnName> + Debug + Drop>(
+    alloc: Global,
+    label: &str,
+    name: &OwnName,
+    answers: &mut Answers,
+) {
+    match name.try_clone() {
+        Ok(copy) => made(label, N::try_octets_from(alloc, copy), answers),
+        Err(error) => answers.refused(&error),
+    }
+}
+
+/// A borrowed name that is flattened into one that is owned.
+fn flattened(alloc: Global, name: &OwnName, answers: &mut Answers) {
+    if let Ok(parsed) = ParsedName::from_slice(name.as_wire()) {
+        let copy: Result<OwnName, AppendError> = parsed.try_flatten_into(alloc);
+        made("Vec", copy, answers);
+    }
+}
+
 /// A name in each kind of holder, of which one has room for three octets and one for two.
 fn held(alloc: Global, text: &str, answers: &mut Answers) -> Result<(), ScanError> {
     let name = OwnName::from_str(alloc, text)?;
-    made("copy", name.try_clone().map_err(AppendError::from), answers);
-    let Ok(parsed) = ParsedName::from_slice(name.as_wire()) else {
-        return Ok(());
-    };
-    let copy: Result<OwnName, AppendError> = parsed.try_flatten_into(alloc);
-    made("Vec", copy, answers);
-    made(
-        "Bytes",
-        Name::<Bytes>::try_octets_from(alloc, name.try_clone()?),
-        answers,
-    );
-    let array = Name::<ArrayBuilder<3>>::try_octets_from(alloc, name.try_clone()?);
-    made("ArrayBuilder<3>", array, answers);
-    made(
-        "ArrayBuilder<2>",
-        Name::<ArrayBuilder<2>>::try_octets_from(alloc, name),
-        answers,
-    );
+    held_in::<OwnName>(alloc, "copy", &name, answers);
+    flattened(alloc, &name, answers);
+    held_in::<Name<Bytes>>(alloc, "Bytes", &name, answers);
+    held_in::<Name<ArrayBuilder<3>>>(alloc, "ArrayBuilder<3>", &name, answers);
+    held_in::<Name<ArrayBuilder<2>>>(alloc, "ArrayBuilder<2>", &name, answers);
     Ok(())
 }
 
-/// What is written of a name in canonical form where there is room for eleven octets, some of them taken.
+/// What is written of a name in canonical form where there is room for eleven octets, some of them
+/// taken.
 fn room(alloc: Global, text: &str, taken: &[u8], answers: &mut Answers) -> Result<(), ScanError> {
     let name = OwnName::from_str(alloc, text)?;
     let mut target = ArrayBuilder::<11>::empty(alloc);
-    answers.debug(
-        "taken",
-        &domain_octets::OctetsBuilder::append_slice(&mut target, taken),
-    );
+    answers.debug("taken", &target.append_slice(taken));
     answers.debug("canonical", &name.compose_canonical(&mut target));
     answers.octets("target", &target);
-    answers.debug(
-        "ArrayBuilder<4>",
-        &Name::<ArrayBuilder<4>>::from_str(alloc, text).err(),
-    );
+    let short = Name::<ArrayBuilder<4>>::from_str(alloc, text).err();
+    answers.debug("ArrayBuilder<4>", &short);
+    Ok(())
+}
+
+/// What a map with a name as a key, in order, finds by another.
+fn find_in_order(
+    alloc: Global,
+    key: OwnName,
+    asked: &OwnName,
+    answers: &mut Answers,
+) -> Result<(), ScanError> {
+    let mut tree = BTreeMap::new(alloc);
+    tree.insert(key, 1u8)?;
+    answers.debug("BTreeMap", &tree.get(asked).copied());
+    Ok(())
+}
+
+/// What a map with a name as a key, by its hash, finds by another.
+fn find_by_hash(
+    alloc: Global,
+    key: OwnName,
+    asked: &OwnName,
+    answers: &mut Answers,
+) -> Result<(), ScanError> {
+    let mut hashed = HashMap::new(alloc);
+    hashed.insert(key, 2u8)?;
+    answers.debug("HashMap", &hashed.get(asked).copied());
     Ok(())
 }
 
 /// What maps with the first name as a key find by the second.
 fn find(alloc: Global, key: &str, asked: &str, answers: &mut Answers) -> Result<(), ScanError> {
-    let mut tree = BTreeMap::new(alloc);
-    let mut hashed = HashMap::new(alloc);
-    let key = OwnName::from_str(alloc, key)?;
     let asked = OwnName::from_str(alloc, asked)?;
-    tree.insert(key.try_clone()?, 1u8)?;
-    hashed.insert(key, 2u8)?;
-    answers.debug("BTreeMap", &tree.get(&asked).copied());
-    answers.debug("HashMap", &hashed.get(&asked).copied());
-    Ok(())
+    find_in_order(alloc, OwnName::from_str(alloc, key)?, &asked, answers)?;
+    find_by_hash(alloc, OwnName::from_str(alloc, key)?, &asked, answers)
 }
 
 /// The names in the order of std's sort.
 fn sort(alloc: Global, words: &[&str], answers: &mut Answers) -> Result<(), ScanError> {
-    let mut names = Vec::new(alloc);
-    for word in words {
-        names.push(OwnName::from_str(alloc, word)?)?;
-    }
+    let mut names = names(alloc, words)?;
     names.sort()?;
     for name in &names {
         answers.show("name", name);
@@ -178,47 +225,58 @@ fn sort(alloc: Global, words: &[&str], answers: &mut Answers) -> Result<(), Scan
     Ok(())
 }
 
-/// Answers a vector on names.
-pub fn answer(alloc: Global, words: &[&str], answers: &mut Answers) {
-    let answered = match words {
-        ["text", word] => {
-            text(alloc, word, answers);
-            Ok(())
-        }
-        ["size", word] => size(alloc, word, answers),
-        ["compare", a, b] => compare_texts(alloc, a, b, answers),
-        ["ascend", names @ ..] => ascend(alloc, names, answers),
-        ["held", name] => held(alloc, name, answers),
-        ["find", key, asked] => find(alloc, key, asked, answers),
-        ["sort", names @ ..] => sort(alloc, names, answers),
-        [form, rest @ ..] => octets(alloc, form, rest, answers),
-        _ => Err(ScanError::EndOfEntry),
-    };
-    if let Err(error) = answered {
-        answers.refused(&error);
-    }
-}
-
-/// Answers a vector on names that has octets.
-fn octets(
+/// Answers a vector on names as text.
+fn of_texts(
     alloc: Global,
     form: &str,
     words: &[&str],
     answers: &mut Answers,
 ) -> Result<(), ScanError> {
-    let (name, digits) = match form {
-        "room" => input::halves(words),
-        _ => (Default::default(), words),
-    };
-    let Some(octets) = input::octets(alloc, digits) else {
-        answers.echo("  no octets");
-        return Ok(());
-    };
-    match (form, name.first()) {
-        ("wire", _) => wire(octets.as_slice(), answers),
-        ("parse", _) => parse(octets.as_slice(), answers),
-        ("room", Some(name)) => room(alloc, name, octets.as_slice(), answers)?,
-        _ => answers.echo("  no such vector"),
+    let (first, second) = (input::word(words, 0), input::word(words, 1));
+    match form {
+        "size" => size(alloc, first, answers),
+        "compare" => compare_texts(alloc, first, second, answers),
+        "ascend" => ascend(alloc, words, answers),
+        "held" => held(alloc, first, answers),
+        "find" => find(alloc, first, second, answers),
+        "sort" => sort(alloc, words, answers),
+        _ => Err(ScanError::EndOfEntry),
     }
-    Ok(())
+}
+
+/// Answers a vector on names as octets.
+fn of_octets(alloc: Global, form: &str, words: &[&str], answers: &mut Answers) {
+    match input::octets(alloc, words) {
+        Some(octets) => match form {
+            "wire" => wire(octets.as_slice(), answers),
+            _ => parse(octets.as_slice(), answers),
+        },
+        None => answers.echo("  no octets"),
+    }
+}
+
+/// Answers a vector on the room that a name has beside octets.
+fn of_room(alloc: Global, words: &[&str], answers: &mut Answers) {
+    let (name, digits) = input::halves(words);
+    match input::octets(alloc, digits) {
+        Some(taken) => {
+            let written = room(alloc, input::word(name, 0), taken.as_slice(), answers);
+            answers.error_of(written);
+        }
+        None => answers.echo("  no octets"),
+    }
+}
+
+/// Answers a vector on names.
+pub fn answer(alloc: Global, words: &[&str], answers: &mut Answers) {
+    let (form, rest) = (input::word(words, 0), words.get(1..).unwrap_or_default());
+    match form {
+        "text" => text(alloc, input::word(rest, 0), answers),
+        "wire" | "parse" => of_octets(alloc, form, rest, answers),
+        "room" => of_room(alloc, rest, answers),
+        _ => {
+            let outcome = of_texts(alloc, form, rest, answers);
+            answers.error_of(outcome);
+        }
+    }
 }

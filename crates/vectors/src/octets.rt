@@ -1,24 +1,24 @@
 //! Octets, what builds them, and what reads them from the front.
-use crate::answers::Answers;
-use crate::input;
 use bytes::Bytes;
 use domain_octets::{
-    AppendError, ArrayBuilder, EmptyBuilder, EmptyOctets, FreezeBuilder, OctetsFrom, ParseError,
-    Parser, TryClone,
+    AppendError, ArrayBuilder, EmptyBuilder, EmptyOctets, FreezeBuilder, Octets, OctetsFrom,
+    ParseError, Parser, TryClone,
 };
 use std::alloc::Global;
+use vector_lines::input::Parts;
+use vector_lines::{Answers, input};
 
 /// What one builder makes of two parts.
 fn join<B: EmptyBuilder + FreezeBuilder>(
     alloc: Global,
-    parts: (&[u8], &[u8]),
+    parts: &Parts,
 ) -> Result<B::Frozen, AppendError>
 where
     B: Drop,
 {
     let mut builder = B::empty(alloc);
-    builder.append_slice(parts.0)?;
-    builder.append_slice(parts.1)?;
+    builder.append_slice(parts.first())?;
+    builder.append_slice(parts.second())?;
     Ok(builder.freeze())
 }
 
@@ -39,38 +39,26 @@ where
     Ok(builder.freeze())
 }
 
-/// Octets as they stand, or why there are none.
-fn made<O: domain_octets::Octets + Drop>(
+/// A holder of octets, and a copy of it where it was made.
+fn held_twice<O: Octets + TryClone + Drop>(
     label: &str,
     holder: Result<O, AppendError>,
     answers: &mut Answers,
 ) {
-    match holder {
-        Ok(octets) => answers.octets(label, &octets),
-        Err(error) => answers.debug(label, &error),
+    if let Ok(octets) = &holder {
+        answers.octets_or_error("copy", octets.try_clone());
     }
+    answers.octets_or_error(label, holder);
 }
 
-/// Octets in each kind of holder, each made of the one before.
+/// Octets in each kind of holder.
 fn held(alloc: Global, octets: &[u8], answers: &mut Answers) {
-    made("Vec", Vec::try_octets_from(alloc, octets), answers);
-    let shared = Bytes::try_octets_from(alloc, octets);
-    if let Ok(shared) = &shared {
-        let copy = shared.try_clone().map_err(AppendError::from);
-        made("copy", copy, answers);
-    }
-    made("Bytes", shared, answers);
+    answers.octets_or_error("Vec", Vec::try_octets_from(alloc, octets));
+    held_twice("Bytes", Bytes::try_octets_from(alloc, octets), answers);
     let array = ArrayBuilder::<3>::try_octets_from(alloc, octets);
-    if let Ok(array) = &array {
-        let copy = array.try_clone().map_err(AppendError::from);
-        made("copy", copy, answers);
-    }
-    made("ArrayBuilder<3>", array, answers);
-    made(
-        "ArrayBuilder<2>",
-        ArrayBuilder::<2>::try_octets_from(alloc, octets),
-        answers,
-    );
+    held_twice("ArrayBuilder<3>", array, answers);
+    let array = ArrayBuilder::<2>::try_octets_from(alloc, octets);
+    answers.octets_or_error("ArrayBuilder<2>", array);
 }
 
 /// Octets of no length.
@@ -94,40 +82,36 @@ fn parse(octets: &[u8], answers: &mut Answers) {
     answers.show("text", &ParseError::Form("why"));
 }
 
+/// What builders make of two parts, by the room that they have.
+fn joined(alloc: Global, parts: &Parts, answers: &mut Answers) {
+    answers.octets_or_error("Vec", join::<Vec<u8>>(alloc, parts));
+    answers.octets_or_error("ArrayBuilder<3>", join::<ArrayBuilder<3>>(alloc, parts));
+    answers.octets_or_error("ArrayBuilder<2>", join::<ArrayBuilder<2>>(alloc, parts));
+}
+
+/// What builders make of octets, of which the second is written over.
+fn overwritten(alloc: Global, parts: &Parts, answers: &mut Answers) {
+    let other = parts.second().first().copied().unwrap_or(0);
+    answers.octets_or_error("Vec", overwrite::<Vec<u8>>(alloc, parts.first(), other));
+    let array = overwrite::<ArrayBuilder<9>>(alloc, parts.first(), other);
+    answers.octets_or_error("ArrayBuilder<9>", array);
+}
+
+/// Answers a vector on octets of two parts.
+fn of_parts(alloc: Global, form: &str, parts: &Parts, answers: &mut Answers) {
+    match form {
+        "join" => joined(alloc, parts, answers),
+        "overwrite" => overwritten(alloc, parts, answers),
+        "held" => held(alloc, parts.first(), answers),
+        "parse" => parse(parts.first(), answers),
+        _ => none(alloc, answers),
+    }
+}
+
 /// Answers a vector on octets.
 pub fn answer(alloc: Global, words: &[&str], answers: &mut Answers) {
-    let (front, back) = input::halves(words.get(1..).unwrap_or_default());
-    let (Some(octets), Some(others)) = (input::octets(alloc, front), input::octets(alloc, back))
-    else {
-        return answers.echo("  no octets");
-    };
-    let (octets, others) = (octets.as_slice(), others.as_slice());
-    match words.first() {
-        Some(&"join") => {
-            made("Vec", join::<Vec<u8>>(alloc, (octets, others)), answers);
-            made(
-                "ArrayBuilder<3>",
-                join::<ArrayBuilder<3>>(alloc, (octets, others)),
-                answers,
-            );
-            made(
-                "ArrayBuilder<2>",
-                join::<ArrayBuilder<2>>(alloc, (octets, others)),
-                answers,
-            );
-        }
-        Some(&"overwrite") => {
-            let other = others.first().copied().unwrap_or(0);
-            made("Vec", overwrite::<Vec<u8>>(alloc, octets, other), answers);
-            made(
-                "ArrayBuilder<9>",
-                overwrite::<ArrayBuilder<9>>(alloc, octets, other),
-                answers,
-            );
-        }
-        Some(&"held") => held(alloc, octets, answers),
-        Some(&"none") => none(alloc, answers),
-        Some(&"parse") => parse(octets, answers),
-        _ => answers.echo("  no such vector"),
+    match input::two_parts(alloc, words.get(1..).unwrap_or_default()) {
+        Some(parts) => of_parts(alloc, input::word(words, 0), &parts, answers),
+        None => answers.echo("  no octets"),
     }
 }

@@ -71,4 +71,59 @@ impl Answers {
     pub fn refused<E: Debug>(&mut self, error: &E) {
         self.debug("refused", error);
     }
+
+    /// Adds a line with a label and a value as it prints, or with the error in its place.
+    pub fn show_or_refused<T: Display + Drop, E: Debug + Drop>(
+        &mut self,
+        label: &str,
+        value: Result<T, E>,
+    ) {
+        match value {
+            Ok(value) => self.show(label, &value),
+            Err(error) => self.refused(&error),
+        }
+    }
+
+    /// Adds a line with a label and octets, or with the error in their place.
+    pub fn octets_or_refused<O: Octets + Drop, E: Debug + Drop>(
+        &mut self,
+        label: &str,
+        octets: Result<O, E>,
+    ) {
+        match octets {
+            Ok(octets) => self.octets(label, &octets),
+            Err(error) => self.refused(&error),
+        }
+    }
+
+    /// Adds a line with a label, and a value as it prints or an error.
+    pub fn show_or_error<T: Display + Drop, E: Debug + Drop>(
+        &mut self,
+        label: &str,
+        value: Result<T, E>,
+    ) {
+        match value {
+            Ok(value) => self.show(label, &value),
+            Err(error) => self.debug(label, &error),
+        }
+    }
+
+    /// Adds a line with a label, and octets or an error.
+    pub fn octets_or_error<O: Octets + Drop, E: Debug + Drop>(
+        &mut self,
+        label: &str,
+        octets: Result<O, E>,
+    ) {
+        match octets {
+            Ok(octets) => self.octets(label, &octets),
+            Err(error) => self.debug(label, &error),
+        }
+    }
+
+    /// Adds a line with the error, where there is one.
+    pub fn error_of<E: Debug + Drop>(&mut self, outcome: Result<(), E>) {
+        if let Err(error) = outcome {
+            self.refused(&error);
+        }
+    }
 }

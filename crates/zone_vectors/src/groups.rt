@@ -1,13 +1,14 @@
 //! Groups of records: by owner, and by owner and type (RFC 2181, section 5).
-use crate::answers::Answers;
-use crate::data::Data;
-use crate::input;
-use crate::names::OwnName;
-use crate::records::{Zone, ZoneRecord};
+use crate::records::Zone;
+use crate::scanned::{Data, ZoneRecord};
 use domain_base::Rtype;
 use domain_octets::OutOfMemory;
 use domain_records::{OwnerRrs, RecordsIter, Rrset, RrsetIter, SigningError, SliceRefsOrOwned};
 use std::alloc::Global;
+use vector_lines::{Answers, OwnName, input};
+
+/// The groups of one owner each.
+type Owners<'a> = Vec<OwnerRrs<'a, OwnName, Data>>;
 
 /// The records of an owner and a type, or why they are none.
 fn show(label: &str, set: Result<Rrset<'_, OwnName, Data>, SigningError>, answers: &mut Answers) {
@@ -43,27 +44,31 @@ pub fn find(zone: &Zone, owner: &OwnName, asked: &[&str], answers: &mut Answers)
     }
 }
 
-/// A group of one owner, and the groups by type in it.
-fn owner(group: OwnerRrs<'_, OwnName, Data>, apex: &OwnName, answers: &mut Answers) {
-    answers.show("owner", group.owner());
-    answers.show("class", &group.class());
-    answers.show("in the zone", &group.is_in_zone(apex));
-    answers.show("zone cut", &group.is_zone_cut(apex));
-    let count = group.clone().records().count();
-    answers.show("records", &count);
+/// The groups by type in a group of one owner.
+fn sets(group: OwnerRrs<'_, OwnName, Data>, answers: &mut Answers) {
     let mut sets = group.rrsets();
     'sets: while let Some(set) = sets.next() {
         show("set", set, answers);
     }
 }
 
+/// A group of one owner.
+fn owner(group: &OwnerRrs<'_, OwnName, Data>, apex: &OwnName, answers: &mut Answers) {
+    answers.show("owner", group.owner());
+    answers.show("class", &group.class());
+    answers.show("in the zone", &group.is_in_zone(apex));
+    answers.show("zone cut", &group.is_zone_cut(apex));
+    let count = group.clone().records().count();
+    answers.show("records", &count);
+}
+
 /// The groups by owner from the apex on; they outlive the iterator that gives them.
-pub fn owners(
+fn grouped<'a>(
     alloc: Global,
-    zone: &Zone,
+    zone: &'a Zone,
     apex: &OwnName,
     answers: &mut Answers,
-) -> Result<(), OutOfMemory> {
+) -> Result<Owners<'a>, OutOfMemory> {
     let mut groups = zone.owner_rrs();
     answers.show("one class", &groups.is_one_class());
     answers.show("in order", &groups.is_in_order());
@@ -73,40 +78,56 @@ pub fn owners(
     'groups: while let Some(group) = groups.next() {
         owners.push(group)?;
     }
-    for group in owners {
-        owner(group, apex, answers);
+    Ok(owners)
+}
+
+/// The groups by owner from the apex on, and those of the whole zone.
+pub fn owners(
+    alloc: Global,
+    zone: &Zone,
+    apex: &OwnName,
+    answers: &mut Answers,
+) -> Result<(), OutOfMemory> {
+    for group in grouped(alloc, zone, apex, answers)? {
+        owner(&group, apex, answers);
+        sets(group, answers);
     }
     references(alloc, zone, answers)
 }
 
-/// The groups over references, and what is said of references in the opposite order.
-fn references(alloc: Global, zone: &Zone, answers: &mut Answers) -> Result<(), OutOfMemory> {
-    let mut references = Vec::new(alloc);
-    for record in zone.iter() {
-        references.push(record)?;
-    }
-    let groups = RecordsIter::new_from_refs(&references);
-    answers.show("owners", &groups.count());
-    answers.show("sets", &RrsetIter::new_from_refs(&references).count());
+/// The groups by type of a zone.
+fn sets_of_zone(zone: &Zone, answers: &mut Answers) {
     let mut sets = zone.rrsets();
     'sets: while let Some(set) = sets.next() {
         show("set of the zone", set, answers);
     }
+}
+
+/// References to the records of a zone.
+fn referred<'a>(alloc: Global, zone: &'a Zone) -> Result<Vec<&'a ZoneRecord>, OutOfMemory> {
+    let mut references = Vec::new(alloc);
+    for record in zone.iter() {
+        references.push(record)?;
+    }
+    Ok(references)
+}
+
+/// The groups over references, and what is said of references in the opposite order.
+fn references(alloc: Global, zone: &Zone, answers: &mut Answers) -> Result<(), OutOfMemory> {
+    let mut references = referred(alloc, zone)?;
+    let groups = RecordsIter::new_from_refs(&references);
+    answers.show("owners", &groups.count());
+    answers.show("sets", &RrsetIter::new_from_refs(&references).count());
+    sets_of_zone(zone, answers);
     references.reverse();
-    answers.show(
-        "reversed",
-        &RecordsIter::new_from_refs(&references).is_in_order(),
-    );
+    let in_order = RecordsIter::new_from_refs(&references).is_in_order();
+    answers.show("reversed", &in_order);
     show("all as a set", Rrset::new_from_refs(&references), answers);
     Ok(())
 }
 
-/// Records as one set.
-pub fn set(records: &[ZoneRecord], answers: &mut Answers) {
-    show("owned", Rrset::new_from_owned(records), answers);
-    let Ok(set) = Rrset::new(SliceRefsOrOwned::new_from_owned(records)) else {
-        return;
-    };
+/// What a set of records gives as a copy, one by one, and as the records that it was made of.
+fn show_records(set: Rrset<'_, OwnName, Data>, answers: &mut Answers) {
     let copy = set.clone();
     answers.show("owner", copy.owner());
     let count = set.iter().count();
@@ -114,4 +135,12 @@ pub fn set(records: &[ZoneRecord], answers: &mut Answers) {
     let inner = set.into_inner();
     let count = inner.iter().count();
     answers.show("into_inner", &count);
+}
+
+/// Records as one set.
+pub fn set(records: &[ZoneRecord], answers: &mut Answers) {
+    show("owned", Rrset::new_from_owned(records), answers);
+    if let Ok(set) = Rrset::new(SliceRefsOrOwned::new_from_owned(records)) {
+        show_records(set, answers);
+    }
 }

@@ -38,6 +38,33 @@ pub fn halves<'a, 'b>(words: &'a [&'b str]) -> (&'a [&'b str], &'a [&'b str]) {
     (front, parts.next().unwrap_or_default())
 }
 
+/// The octets of two parts.
+#[derive(Drop)]
+pub struct Parts {
+    first: Vec<u8>,
+    second: Vec<u8>,
+}
+
+impl Parts {
+    /// The octets before the `/`.
+    pub fn first(&self) -> &[u8] {
+        self.first.as_slice()
+    }
+
+    /// The octets after the `/`.
+    pub fn second(&self) -> &[u8] {
+        self.second.as_slice()
+    }
+}
+
+/// The octets that the words before the first `/`, and those after it, spell.
+pub fn two_parts(alloc: Global, words: &[&str]) -> Option<Parts> {
+    let (front, back) = halves(words);
+    let first = octets(alloc, front)?;
+    let second = octets(alloc, back)?;
+    Some(Parts { first, second })
+}
+
 /// The value that a word spells as a token.
 pub fn value<F: FromToken + Drop>(word: &str) -> Option<F> {
     F::from_token(word).ok()
@@ -46,4 +73,9 @@ pub fn value<F: FromToken + Drop>(word: &str) -> Option<F> {
 /// The value that the next token spells.
 pub fn next<F: FromToken + Drop>(scanner: &mut Tokens<'_>) -> Option<F> {
     F::scan(scanner).ok()
+}
+
+/// The word that stands at a place, or the empty word.
+pub fn word<'a>(words: &[&'a str], at: usize) -> &'a str {
+    words.get(at).copied().unwrap_or_default()
 }
