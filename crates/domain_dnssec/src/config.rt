@@ -7,6 +7,7 @@ use domain_octets::{Octets, OutOfMemory};
 
 /// How the denial of existence of a zone is made. `Sort` is what sorts the hashes of NSEC3.
 #[derive(Drop)]
+#[derive_where(Debug, PartialEq, Eq)]
 pub enum DenialConfig<O: Octets, Sort> {
     /// The zone holds a chain already.
     AlreadyPresent,
