@@ -84,7 +84,6 @@ pub struct GenerateNsec3Config<O: Octets, Sort> {
     /// those below a zone cut are: no data may stand there (RFC 6672, section 2.4). An own option.
     pub occlude_below_dname: bool,
     #[derive_where(skip)]
-    #[derive_where(skip)]
     sorter: PhantomData<Sort>,
 }
 
