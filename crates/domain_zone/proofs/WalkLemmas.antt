@@ -12,7 +12,7 @@ use Rattle.domain_base.specs.Types.{ns, dname}
 use Rattle.domain_zone.specs.Walk.{is_under}
 use Rattle.domain_zone.specs.Zone.{ZoneRecord, OwnersNeverDescend, records_of, has_type, occludes, is_occluded, is_unoccluded, distinct, unoccluded_owners}
 use Rattle.domain_zone.proofs.PairLemmas.{lt_le}
-use Rattle.domain_zone.proofs.NameLemmas.{before_order, one_lowered, below_itself, below_trans, below_from, below_between, lowered_below, same_lowered}
+use Rattle.domain_zone.proofs.NameLemmas.{before_left, before_order, one_lowered, below_itself, below_trans, below_from, below_between, lowered_below, same_lowered}
 use Rattle.domain_zone.proofs.ZoneLemmas.{weaker, all_both, all_front, any_none, BeginsElsewhere, IsGroup, AreAt, AllBefore, AllAfter, records_at, distinct_more, after_or, not_strictly, strictly_after}
 
 abbrev pub IsSince : Option Name → Name → Type 0

@@ -70,8 +70,8 @@ owners-preserved g c =
     ] in
     at_owner L a c.args.config.now c.in-Some.soa o c.next.new.self links waiting at c.in_ok-types.types links'
     (ap (λ rs. has_clash (zone_of labels rs)) (sym c.records-in-Some-next.ensures) ∙ sym c.has_unequal_ttls.ensures ∙ c.if-has_unequal_ttls.false)
-    (c.in_ok-types.ensures ∙ ap (λ rs. bitmap_octets (is_listed (assume && c.is_same.result) c.in-Some-next.owner.is_zone_cut (zone_of labels rs))) c.records-in-Some-next-2.ensures
-    ∙ ap (λ b. bitmap_octets (is_listed (assume && b) c.in-Some-next.owner.is_zone_cut o.records)) c.is_same.ensures)
+    (c.in_ok-types.ensures ∙ ap (λ rs. bitmap_octets (is_listed (assume && c.name_eq.result) c.in-Some-next.owner.is_zone_cut (zone_of labels rs))) c.records-in-Some-next-2.ensures
+    ∙ ap (λ b. bitmap_octets (is_listed (assume && b) c.in-Some-next.owner.is_zone_cut o.records)) c.name_eq.ensures.value)
     added
 
 pub returns-clause-chain : goal.returns-clause-chain
