@@ -1,14 +1,12 @@
 //! NSEC3 chains of small zones (RFC 5155, section 7.1).
 use crate::hashers::table;
 use crate::records::{list, zone};
-use crate::scanned::{Data, records};
 use domain_base::{Nsec3HashAlgorithm, ScanError, Ttl};
-use domain_bitmap::Nsec3Salt;
 use domain_dnssec::{
     DefaultSorter, GenerateNsec3Config, Nsec3Hasher, Nsec3ParamTtlMode, Nsec3Records,
     generate_nsec3s_of_records, generate_nsec3s_of_sorted,
 };
-use domain_rdata::Nsec3param;
+use domain_rdata::{Nsec3Salt, Nsec3param};
 use domain_sha1::Sha1Hasher;
 use std::alloc::Global;
 use vector_lines::{Answers, OwnName, input};

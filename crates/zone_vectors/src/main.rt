@@ -5,6 +5,8 @@
 mod chains;
 mod copies;
 mod groups;
+mod hashed_chains;
+mod hashers;
 mod records;
 mod scanned;
 mod sorters;
@@ -22,6 +24,7 @@ impl Program for ZoneVectors {
         match subject {
             "records" => records::answer(alloc, words, answers),
             "nsec" => chains::answer(alloc, words, answers),
+            "nsec3" => hashed_chains::answer(alloc, words, answers),
             _ => answers.echo("  no such vector"),
         }
     }
