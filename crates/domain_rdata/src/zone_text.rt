@@ -1,5 +1,6 @@
 //! Data of all types from tokens.
-ghost use Rattle.std.specs.Prelude.{◌≡◌, ◌≢◌, ◌↔◌, None, IsTrue, IfOk, IfErr};
+ghost use Rattle.std.specs.Prelude.{◌≡◌, ◌≢◌, ◌==◌, ◌↔◌, false, None, IsTrue, IfOk, IfErr};
+ghost use Rattle.domain_base.specs.Types as rtypes;
 ghost use Rattle.domain_base.specs.Scan.{scan_fault_of, no_memory};
 ghost use Rattle.domain_rdata.specs.DataText.{data_text};
 ghost use Rattle.domain_rdata.specs.Refusal.{RefusesOwn, RefusesRdata};
@@ -62,17 +63,62 @@ where
         if rtype == Rtype::MX {
             return Ok(ZoneRecordData::Mx(Mx::scan(alloc, scanner)?));
         }
+        Self::scan_signing(alloc, rtype, scanner)
+    }
+
+    /// The same for a type that is neither A, NS, SOA nor MX.
+    fn scan_signing<S: Scanner<Name = N, Octets = O>>(
+        alloc: Global,
+        rtype: Rtype,
+        scanner: &mut S,
+    ) -> Result<Self, ScanError>
+    where
+        O: Drop,
+        N: Drop,
+        requires not_a { (rtype == rtypes.a) ≡ false }
+        requires not_ns { (rtype == rtypes.ns) ≡ false }
+        requires not_soa { (rtype == rtypes.soa) ≡ false }
+        requires not_mx { (rtype == rtypes.mx) ≡ false }
+        ensures ok { IfOk result (λ d. OwnText N.labels rtype
+            (S.tokens scanner.old) d (S.tokens scanner.new)) }
+        ensures err { IfErr result (λ e. RefusesOwn O.Builder.limit rtype
+            (S.tokens scanner.old) (S.tokens scanner.new) (scan_fault_of e)) }
+    {
         if rtype == Rtype::DNSKEY {
             return Ok(ZoneRecordData::Dnskey(Dnskey::scan(alloc, scanner)?));
         }
         if rtype == Rtype::DS {
             return Ok(ZoneRecordData::Ds(Ds::scan(alloc, scanner)?));
         }
-        if rtype == Rtype::NSEC {
-            return Ok(ZoneRecordData::Nsec(Nsec::scan(alloc, scanner)?));
-        }
         if rtype == Rtype::RRSIG {
             return Ok(ZoneRecordData::Rrsig(Rrsig::scan(alloc, scanner)?));
+        }
+        Self::scan_denying(alloc, rtype, scanner)
+    }
+
+    /// The same for a type that is none of these, nor DNSKEY, DS or RRSIG.
+    fn scan_denying<S: Scanner<Name = N, Octets = O>>(
+        alloc: Global,
+        rtype: Rtype,
+        scanner: &mut S,
+    ) -> Result<Self, ScanError>
+    where
+        O: Drop,
+        N: Drop,
+        requires not_a { (rtype == rtypes.a) ≡ false }
+        requires not_ns { (rtype == rtypes.ns) ≡ false }
+        requires not_soa { (rtype == rtypes.soa) ≡ false }
+        requires not_mx { (rtype == rtypes.mx) ≡ false }
+        requires not_dnskey { (rtype == rtypes.dnskey) ≡ false }
+        requires not_ds { (rtype == rtypes.ds) ≡ false }
+        requires not_rrsig { (rtype == rtypes.rrsig) ≡ false }
+        ensures ok { IfOk result (λ d. OwnText N.labels rtype
+            (S.tokens scanner.old) d (S.tokens scanner.new)) }
+        ensures err { IfErr result (λ e. RefusesOwn O.Builder.limit rtype
+            (S.tokens scanner.old) (S.tokens scanner.new) (scan_fault_of e)) }
+    {
+        if rtype == Rtype::NSEC {
+            return Ok(ZoneRecordData::Nsec(Nsec::scan(alloc, scanner)?));
         }
         if rtype == Rtype::NSEC3 {
             return Ok(ZoneRecordData::Nsec3(Nsec3::scan(alloc, scanner)?));

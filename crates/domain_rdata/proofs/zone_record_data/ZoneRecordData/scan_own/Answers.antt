@@ -2,7 +2,7 @@ use Rattle.std.proofs.Common.{sym, ap, ◌∙◌}
 use Rattle.std.proofs.lemmas.Bool.{eqb-true}
 use Rattle.std.proofs.lemmas.Result.{err_from_is_err_and}
 use Rattle.domain_plain.specs.Plain.{a, ns, soa, mx}
-use Rattle.domain_rdata.specs.Refusal.{plain, key, digest, signature, next_by_name, next_by_hash, params, kind_of, at_field}
+use Rattle.domain_rdata.specs.Refusal.{plain, kind_of, at_field}
 use Rattle.domain_rdata.proofs.zone_record_data.ZoneRecordData.scan_own.Goals as goal
 
 pub returns-in_err-scan-clause-err : goal.returns-in_err-scan-clause-err
@@ -24,33 +24,3 @@ pub returns-in_err-scan-4-clause-err : goal.returns-in_err-scan-4-clause-err
 returns-in_err-scan-4-clause-err g c =
     let p = err_from_is_err_and c.from_residual-in_err-scan-4.result c.from_residual-in_err-scan-4.ensures.1 in
     rw (p.1, p.2) (at_field (plain mx) (ap kind_of (eqb-true c.args.rtype 15 (sym c.eq-4.ensures ∙ c.if-eq-4.true))) c.in_err-scan-4.ensures.err)
-
-pub returns-in_err-scan-5-clause-err : goal.returns-in_err-scan-5-clause-err
-returns-in_err-scan-5-clause-err g c =
-    let p = err_from_is_err_and c.from_residual-in_err-scan-5.result c.from_residual-in_err-scan-5.ensures.1 in
-    rw (p.1, p.2) (at_field key (ap kind_of (eqb-true c.args.rtype 48 (sym c.eq-5.ensures ∙ c.if-eq-5.true))) c.in_err-scan-5.ensures.err)
-
-pub returns-in_err-scan-6-clause-err : goal.returns-in_err-scan-6-clause-err
-returns-in_err-scan-6-clause-err g c =
-    let p = err_from_is_err_and c.from_residual-in_err-scan-6.result c.from_residual-in_err-scan-6.ensures.1 in
-    rw (p.1, p.2) (at_field digest (ap kind_of (eqb-true c.args.rtype 43 (sym c.eq-6.ensures ∙ c.if-eq-6.true))) c.in_err-scan-6.ensures.err)
-
-pub returns-in_err-scan-7-clause-err : goal.returns-in_err-scan-7-clause-err
-returns-in_err-scan-7-clause-err g c =
-    let p = err_from_is_err_and c.from_residual-in_err-scan-7.result c.from_residual-in_err-scan-7.ensures.1 in
-    rw (p.1, p.2) (at_field next_by_name (ap kind_of (eqb-true c.args.rtype 47 (sym c.eq-7.ensures ∙ c.if-eq-7.true))) c.in_err-scan-7.ensures.err)
-
-pub returns-in_err-scan-8-clause-err : goal.returns-in_err-scan-8-clause-err
-returns-in_err-scan-8-clause-err g c =
-    let p = err_from_is_err_and c.from_residual-in_err-scan-8.result c.from_residual-in_err-scan-8.ensures.1 in
-    rw (p.1, p.2) (at_field signature (ap kind_of (eqb-true c.args.rtype 46 (sym c.eq-8.ensures ∙ c.if-eq-8.true))) c.in_err-scan-8.ensures.err)
-
-pub returns-in_err-scan-9-clause-err : goal.returns-in_err-scan-9-clause-err
-returns-in_err-scan-9-clause-err g c =
-    let p = err_from_is_err_and c.from_residual-in_err-scan-9.result c.from_residual-in_err-scan-9.ensures.1 in
-    rw (p.1, p.2) (at_field next_by_hash (ap kind_of (eqb-true c.args.rtype 50 (sym c.eq-9.ensures ∙ c.if-eq-9.true))) c.in_err-scan-9.ensures.err)
-
-pub returns-in_err-scan-10-clause-err : goal.returns-in_err-scan-10-clause-err
-returns-in_err-scan-10-clause-err g c =
-    let p = err_from_is_err_and c.from_residual-in_err-scan-10.result c.from_residual-in_err-scan-10.ensures.1 in
-    rw (p.1, p.2) (at_field params (ap kind_of (eqb-true c.args.rtype 51 (sym c.eq-10.ensures ∙ c.if-eq-10.true))) c.in_err-scan-10.ensures.err)
