@@ -32,7 +32,7 @@ struct Digits<'a> {
 }
 
 impl<'a> Model for Digits<'a> {
-    ghost use Rattle.std.specs.Prelude.{ℕ, ◌<◌};
+    ghost use Rattle.std.specs.Prelude.{◌<◌};
     ghost use Rattle.domain_octets.specs.Base32.{digits_left};
     ghost use Rattle.domain_octets.specs.Scale.{IsScale};
     ghost use Rattle.domain_octets.specs.Words.{Octets};
