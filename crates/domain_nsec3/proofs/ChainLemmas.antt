@@ -45,7 +45,7 @@ sound_short a h e =
 
 module _ {X : Type 0} (see : X → HashedEntry) (a : Name) (hash : Hash) (entries : List Entry) (items ordered : List X) (moved : IsPermutation items ordered) (same : map without_hash (map see items) ≡ entries) (ok : All (IsHashed a hash) (map see items)) where
   pub moved_entries : IsPermutation entries (map without_hash (map see ordered))
-  moved_entries = subst (λ (es : List Entry). IsPermutation es (map without_hash (map see ordered))) same_name (IsPermutation-map without_hash (map see items) (map see ordered) (IsPermutation-map see items ordered moved))
+  moved_entries = subst (λ (es : List Entry). IsPermutation es (map without_hash (map see ordered))) same (IsPermutation-map without_hash (map see items) (map see ordered) (IsPermutation-map see items ordered moved))
 
   pub hashed_entries : All (IsHashed a hash) (map see ordered)
   hashed_entries = All-permutation (IsHashed a hash) (map see items) (map see ordered) (IsPermutation-map see items ordered moved) ok

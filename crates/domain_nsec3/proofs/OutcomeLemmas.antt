@@ -17,7 +17,7 @@ use Rattle.domain_base.specs.Name.{is_at_or_below, is_strictly_below, lowered, s
 use Rattle.domain_base.specs.Words.{Name}
 use Rattle.domain_zone.specs.Soa.{chain_ttl, soa_of}
 use Rattle.domain_base.specs.Types.{ns, ds}
-use Rattle.domain_zone.specs.Zone.{ZoneRecord, IsInOrder, records_of, owns, has_type, is_occluded, is_unoccluded, unoccluded_owners}
+use Rattle.domain_zone.specs.Zone.{ZoneRecord, OwnersNeverDescend, records_of, owns, has_type, is_occluded, is_unoccluded, unoccluded_owners}
 use Rattle.domain_zone.specs.declared.soa.ApexSoa.{ApexSoa}
 use Rattle.domain_zone.proofs.NameLemmas.{same_itself, below_itself, lowered_below, same_lowered}
 use Rattle.domain_zone.proofs.OwnerLemmas.{any_filter, any_owner, apex_unoccluded, ascending_filter, in_any, owners_are, owners_ascend}
@@ -46,7 +46,7 @@ sorted [] h = tt
 sorted (k ∷ ks) h = (weaker (λ y. before k y ≡ true) (λ y. canonical_cmp k y ≡ Less) (λ y e. less (canonical_cmp k y) e) ks h.0, sorted ks h.1)
 
 module _ (L : List ZoneRecord) (a : Name) (config : ChainConfig) where
-  pub original_ascend : IsInOrder L → IsStrictlySortedBy canonical_cmp (original_owners L a config)
+  pub original_ascend : OwnersNeverDescend L → IsStrictlySortedBy canonical_cmp (original_owners L a config)
   original_ascend order =
       sorted (original_owners L a config)
       (ascending_filter before (λ n. not (is_excluded L a config n)) (unoccluded_owners config.occlude_below_dname L a) (owners_ascend config.occlude_below_dname L a order))

@@ -39,10 +39,12 @@ alike : (n : Label) → pointwise nat_eq n n ≡ true
 alike n = (bytes_decides n n).1 refl
 
 begins_front : (k l : Name) → begins (k ++ l) k ≡ true
+unfolding begins
 begins_front [] l = refl
 begins_front (n ∷ k) l = λ i. alike n i && begins_front k l i
 
 begins_rest : (k l : Name) → begins k l ≡ true → (rest : Name) × (k ≡ l ++ rest)
+unfolding begins
 begins_rest k [] e = (k, refl)
 begins_rest [] (m ∷ l) e = absurd (false≢true e)
 begins_rest (n ∷ k) (m ∷ l) e =
@@ -67,6 +69,7 @@ more_labels : (p : Label) (m : Name) → length (p ∷ m) ≡ 1 + length m
 more_labels p m = omega arith
 
 top_shares : (k l m : Name) → begins k m ≡ true → begins l m ≡ nat_le (length m) (common_prefix_len (pointwise nat_eq) k l)
+unfolding begins
 top_shares k l [] h = sym (le_leb_none (common_prefix_len (pointwise nat_eq) k l))
   where
     le_leb_none : (n : ℕ) → nat_le 0 n ≡ true
