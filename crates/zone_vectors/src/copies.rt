@@ -1,6 +1,4 @@
 //! Copies of records, and records in other holders.
-use crate::records::list;
-use crate::scanned::{ZoneRecord, record};
 use bytes::Bytes;
 use domain_base::{Name, ScanError};
 use domain_octets::{ArrayBuilder, OutOfMemory, TryClone};
@@ -10,6 +8,7 @@ use domain_records::SortedRecords;
 use std::alloc::Global;
 use vector_lines::holders::{converted, flattened};
 use vector_lines::{Answers, OwnName};
+use zone_lines::{ZoneRecord, list, record};
 
 /// A record of an address.
 type Address = Record<OwnName, A>;

@@ -1,11 +1,10 @@
 //! Groups of records: by owner, and by owner and type (RFC 2181, section 5).
-use crate::records::Zone;
-use crate::scanned::{Data, ZoneRecord};
 use domain_base::Rtype;
 use domain_octets::OutOfMemory;
 use domain_records::{OwnerRrs, RecordsIter, Rrset, RrsetIter, SigningError, SliceRefsOrOwned};
 use std::alloc::Global;
 use vector_lines::{Answers, OwnName, input};
+use zone_lines::{Data, Zone, ZoneRecord};
 
 /// The groups of one owner each.
 type Owners<'a> = Vec<OwnerRrs<'a, OwnName, Data>>;

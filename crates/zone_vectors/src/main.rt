@@ -1,14 +1,10 @@
-//! Worked values of records, sorted sets of them, groups and chains: each line of the input is a
-//! vector, and each is answered by what the library makes of it.
+//! Worked values of records, sorted sets of them and groups: each line of the input is a vector, and
+//! each is answered by what the library makes of it.
 #![tactic(auto)]
 
-mod chains;
 mod copies;
 mod groups;
-mod hashed_chains;
-mod hashers;
 mod records;
-mod scanned;
 mod sorters;
 mod written;
 
@@ -23,8 +19,6 @@ impl Program for ZoneVectors {
     fn answer(alloc: Global, subject: &str, words: &[&str], answers: &mut Answers) {
         match subject {
             "records" => records::answer(alloc, words, answers),
-            "nsec" => chains::answer(alloc, words, answers),
-            "nsec3" => hashed_chains::answer(alloc, words, answers),
             _ => answers.echo("  no such vector"),
         }
     }

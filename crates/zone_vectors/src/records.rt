@@ -1,26 +1,10 @@
 //! Records and sorted sets of them (RFC 4034, section 6; RFC 2181, section 5).
-use crate::scanned::{Data, ZoneRecord, data, first_part, record, records};
 use crate::{copies, groups, sorters, written};
 use domain_base::{Class, Rtype, ScanError, Ttl};
 use domain_records::{InsertError, SortedRecords, Sorter};
 use std::alloc::Global;
-use std::fmt::Display;
 use vector_lines::{Answers, OwnName, input};
-
-/// A sorted set of records.
-pub type Zone = SortedRecords<OwnName, Data>;
-
-/// The sorted set of the records that words spell.
-pub fn zone(alloc: Global, words: &[&str]) -> Result<Zone, ScanError> {
-    Ok(Zone::from_vec(records(alloc, words)?)?)
-}
-
-/// Records, each on a line.
-pub fn list<R: Display>(records: &[R], answers: &mut Answers) {
-    for record in records {
-        answers.show("record", record);
-    }
-}
+use zone_lines::{Data, Zone, ZoneRecord, data, first_part, list, record, records, zone};
 
 /// What a sorted set answers when a record is put in.
 fn insert_one(zone: &mut Zone, record: ZoneRecord, answers: &mut Answers) {

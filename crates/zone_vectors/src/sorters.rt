@@ -2,13 +2,13 @@
 ghost use Rattle.std.specs.Prelude.{false};
 
 use crate::records::{put_in, started};
-use crate::scanned::{Data, first_part, record};
 use domain_base::ScanError;
 use domain_octets::OutOfMemory;
 use domain_records::{SortedRecords, Sorter};
 use std::alloc::Global;
 use std::cmp::Ordering;
 use vector_lines::{Answers, OwnName};
+use zone_lines::{Data, first_part, record};
 
 /// Never has the memory to sort.
 struct RefusingSorter;

@@ -1,10 +1,9 @@
 //! Sorted sets as text.
-use crate::records::Zone;
-use crate::scanned::ZoneRecord;
 use std::alloc::Global;
 use std::fmt;
 use std::fmt::Write;
 use vector_lines::Answers;
+use zone_lines::{Zone, ZoneRecord};
 
 /// Takes so many characters, and refuses what would be more.
 #[derive(Drop)]

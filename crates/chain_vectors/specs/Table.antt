@@ -2,7 +2,7 @@
 use Rattle.std.specs.Prelude.{ℕ, List, [], ◌∷◌, nat_eq, Result, Ok, Err, Option, Some, None, if◌then◌else◌}
 use Rattle.std.specs.Cmp.Lexicographic.{pointwise}
 use Rattle.domain_octets.specs.Words.{Octets}
-use Rattle.zone_vectors.specs.declared.hashers.Row.{Row}
+use Rattle.chain_vectors.specs.declared.hashers.Row.{Row}
 
 -- the hash of a row, or the number of its refusal
 abbrev pub row_answer : Row → Result Octets ℕ

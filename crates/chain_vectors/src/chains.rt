@@ -1,10 +1,9 @@
 //! NSEC chains of small zones (RFC 4034, section 4; RFC 4035, section 2.3; RFC 9077).
-use crate::records::{Zone, list, zone};
-use crate::scanned::{ZoneRecord, records};
 use domain_base::ScanError;
 use domain_dnssec::{GenerateNsecConfig, generate_nsecs, generate_nsecs_of_records};
 use std::alloc::Global;
 use vector_lines::{Answers, OwnName, input};
+use zone_lines::{Zone, ZoneRecord, list, records, zone};
 
 /// The chain of a zone, or why it has none.
 fn chain(

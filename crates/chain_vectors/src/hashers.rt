@@ -1,6 +1,6 @@
 //! A hasher that looks names up in a table.
 ghost use Rattle.std.specs.Prelude.{◌≡◌, ℕ, Ok, Err, IfOk, IsErrOf};
-ghost use Rattle.zone_vectors.specs.Table.{table_answer};
+ghost use Rattle.chain_vectors.specs.Table.{table_answer};
 
 use domain_base::{Nsec3HashAlgorithm, ScanError, ToName};
 use domain_dnssec::{HasherError, Nsec3Hasher};
@@ -65,7 +65,7 @@ impl Nsec3Hasher for TableHasher {
 }
 
 /// The row that a word spells: a name, and after `=` the octets of its hash in Base 16.
-fn row(alloc: Global, word: &str) -> Result<Row, ScanError> {
+fn make_row(alloc: Global, word: &str) -> Result<Row, ScanError> {
     let (name, digits) = word.split_once('=').unwrap_or((word, "-"));
     let name = OwnName::from_str(alloc, name)?;
     let mut lowered = Vec::new(alloc);
@@ -81,7 +81,7 @@ fn row(alloc: Global, word: &str) -> Result<Row, ScanError> {
 pub fn table(alloc: Global, words: &[&str]) -> Result<TableHasher, ScanError> {
     let mut rows = Vec::new(alloc);
     for word in words {
-        rows.push(row(alloc, word)?)?;
+        rows.push(make_row(alloc, word)?)?;
     }
     Ok(TableHasher { rows })
 }

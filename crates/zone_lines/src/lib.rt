@@ -1,0 +1,9 @@
+//! What the programs of worked values on zones share: records that words spell, and sorted sets of
+//! them.
+#![tactic(auto)]
+
+mod scanned;
+mod zone;
+
+pub use scanned::{Data, ZoneRecord, data, first_part, record, records};
+pub use zone::{Zone, list, zone};
