@@ -166,12 +166,12 @@ where
 /// strictly below an owner of a DNAME record where the configuration says so.
 ///
 /// The records stand in the order of their hashes, each points to the next hash, the last one to
-/// the first. Each is of class IN, has the lesser of the SOA's MINIMUM and TTL as its TTL in seconds
-/// (RFC 9077, section 3.2), and the parameters and flags of the configuration. It lists the types
-/// of its original owner, at a zone cut only NS and DS of them; RRSIG, but at a zone cut without
-/// DS; and at the apex NSEC3PARAM, and DNSKEY where the configuration assumes it. An empty
-/// non-terminal has no types. Owners are the lower-case text of the hash as a label before the apex,
-/// which keeps the argument's spelling.
+/// the first. Each is of class IN, has the lesser of the SOA's MINIMUM and TTL as its TTL in
+/// seconds (RFC 9077, section 3.2), and the parameters and flags of the configuration. It lists the
+/// types of its original owner, at a zone cut only NS and DS of them; RRSIG, but at a zone cut
+/// without DS; and at the apex NSEC3PARAM, and DNSKEY where the configuration assumes it. An empty
+/// non-terminal has no types. Owners are the lower-case text of the hash as a label before the
+/// apex, which keeps the argument's spelling.
 ///
 /// The records are those of one class in canonical order; records of owners outside the zone are
 /// passed over.
