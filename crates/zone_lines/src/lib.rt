@@ -3,7 +3,7 @@
 #![tactic(auto)]
 
 mod scanned;
-mod zone;
+mod sets;
 
 pub use scanned::{Data, ZoneRecord, data, first_part, record, records};
-pub use zone::{Zone, list, zone};
+pub use sets::{Zone, list, zone};
