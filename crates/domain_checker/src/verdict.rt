@@ -1,0 +1,25 @@
+//! What is known of a name and a type.
+
+/// What a zone says of a name and a type (RFC 4035, section 5.4; RFC 5155, section 8).
+#[derive(Clone, Copy, Debug, PartialEq, Eq)]
+pub enum Verdict {
+    /// The name is not at or below the apex.
+    OutsideZone,
+    /// The name is strictly below a zone cut, or it is one and the type is not DS.
+    BelowDelegation,
+    /// The name owns records of the type.
+    Has,
+    /// The name owns records, and none of the type.
+    NoType,
+    /// The name owns no records, and a name below it does: it is an empty non-terminal.
+    EmptyName,
+    /// The name, or one above it, may be an unsigned delegation that the chain leaves out. The
+    /// number is how many labels the closest encloser has, the root not counted: it is the last so
+    /// many labels of the name.
+    OptOut(usize),
+    /// There is no such name. The number is how many labels the closest encloser has, the root not
+    /// counted: it is the last so many labels of the name.
+    NoName(usize),
+    /// The records do not prove what the zone says.
+    NotProven,
+}
