@@ -1,10 +1,11 @@
 //! Data of records: as text, as octets, and in canonical form (RFC 1035; RFC 4034; RFC 5155).
 use crate::{compared, octets, typed};
 use domain_base::{IterScanner, Rtype, ScanError, Scanner};
-use domain_keys::{Dnskey, Ds, Rrsig};
+use domain_keys::{Dnskey, Ds};
 use domain_octets::{ArrayBuilder, Octets, OctetsBuilder};
 use domain_plain::{ComposeRecordData, UnknownRecordData};
 use domain_rdata::{Nsec3, Nsec3param, ZoneRecordData};
+use domain_rrsig::Rrsig;
 use std::alloc::Global;
 use std::fmt::Display;
 use vector_lines::input::Tokens;

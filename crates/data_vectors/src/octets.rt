@@ -1,12 +1,13 @@
 //! Data of octets, and the octets that are too many.
 use crate::data::forms;
 use domain_base::{DigestAlgorithm, ParsedName, Rtype, SecurityAlgorithm, Ttl};
-use domain_keys::{Dnskey, Ds, Rrsig, Timestamp};
+use domain_keys::{Dnskey, Ds};
 use domain_octets::Parser;
 use domain_plain::{
     A, ComposeRecordData, LongRecordData, Mx, Ns, ParseRecordData, Soa, UnknownRecordData,
 };
 use domain_rdata::{Nsec, Nsec3, Nsec3param};
+use domain_rrsig::{Rrsig, Timestamp};
 use std::alloc::Global;
 use std::fmt::Display;
 use vector_lines::{Answers, OwnName, input};

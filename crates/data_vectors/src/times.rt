@@ -1,7 +1,7 @@
 //! Serial numbers, and times of signatures (RFC 1982; RFC 4034, section 3).
 use domain_base::{CanonicalOrd, FromToken, Serial};
-use domain_keys::{IllegalSignatureTime, Timestamp};
 use domain_octets::{DisplayKind, Parser, ZonefileFmt};
+use domain_rrsig::{IllegalSignatureTime, Timestamp};
 use std::alloc::Global;
 use std::fmt;
 use std::fmt::{Display, Write};

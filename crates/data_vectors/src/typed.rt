@@ -2,10 +2,11 @@
 use crate::data::Data;
 use bytes::Bytes;
 use domain_base::Name;
-use domain_keys::{Dnskey, Ds, ProtoRrsig, Rrsig};
+use domain_keys::{Dnskey, Ds};
 use domain_octets::{ArrayBuilder, DisplayKind, PieceFormatter, TryClone, ZonefileFmt};
 use domain_plain::{A, Mx, Ns, Soa, UnknownRecordData};
 use domain_rdata::{Nsec, Nsec3, Nsec3param, ZoneRecordData};
+use domain_rrsig::{ProtoRrsig, Rrsig};
 use std::alloc::Global;
 use std::fmt::Debug;
 use vector_lines::holders::{converted, flattened};

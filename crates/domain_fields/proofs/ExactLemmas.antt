@@ -1,5 +1,5 @@
 -- what is read is determined by the octets
-use Rattle.std.proofs.Common.{◌≡◌, ℕ, true, List, [], ◌++◌, length, refl, sym, ap, ◌∙◌, arith, length-append, append_assoc, append-nil}
+use Rattle.std.proofs.Common.{◌≡◌, ℕ, true, List, [], ◌++◌, length, refl, sym, ap, subst, ◌∙◌, arith, length-append, append_assoc, append-nil}
 use Rattle.std.specs.Prelude.{◌&&◌}
 use Rattle.std.specs.Cmp.{first_so, second_so}
 use Rattle.domain_base.specs.Fault.{Fault}
@@ -80,3 +80,10 @@ parses_back l v split fits ends = record {
   alone = λ w r read. one_reading l (octets_of l v) w v r [] split read (begins_alone l v fits ends);
   no_fault = λ fault found. fault_excludes l (octets_of l v) fault found split v [] (begins_alone l v fits ends);
 }
+
+-- data of the same octets are the same
+pub same_values : (l : Layout) (v w : Values l) → splits l ≡ true → Fits l v → Fits l w → Ends l v [] → Ends l w [] → octets_of l v ≡ octets_of l w → v ≡ w
+same_values l v w split fits_v fits_w ends_v ends_w same =
+    let read = one_reading l (octets_of l w) v w [] [] split
+    (subst (λ (o : List ℕ). Begins l o v []) same (begins_alone l v fits_v ends_v)) (begins_alone l w fits_w ends_w) in
+    read.0

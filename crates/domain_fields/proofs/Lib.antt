@@ -5,3 +5,5 @@ pub mod OrderLemmas
 pub mod ExactLemmas
 pub mod FaultLemmas
 pub mod ScanLemmas
+pub mod GrammarLemmas
+pub mod PieceLemmas

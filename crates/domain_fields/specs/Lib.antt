@@ -5,3 +5,6 @@ pub mod Target
 pub mod Laws
 pub mod Scan
 pub mod DataClone
+pub mod Sequence
+pub mod Entry
+pub mod Flag

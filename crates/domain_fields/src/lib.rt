@@ -5,12 +5,15 @@
 //! section 3.3; RFC 4034). Its octets, how they are read and their first fault, its canonical
 //! octets (RFC 4034, section 6.2), its canonical order, what is hashed of it and the tokens that
 //! spell it follow from that description, for each kind of field by one impl of [`Fields`], one of
-//! [`ReadFields`] and one of [`ScanFields`]. The crates above may rely on this: values are octets,
-//! which are read in one way at most and parse back to what was composed (the module `laws`), and
-//! the order of values is the lexicographic order of their canonical octets.
+//! [`ReadFields`] and one of [`ScanFields`]. `specs/Sequence.antt` and `Entry.antt` put grammars of
+//! tokens together; [`InBase64`] and its kin show octets in a codec. The crates above may rely on
+//! this: values are octets, which are read in one way at most and parse back to what was composed
+//! (the module `laws`), and the order of values is the lexicographic order of their canonical
+//! octets.
 #![tactic(auto)]
 
 mod counted;
+mod encoded;
 mod fields;
 pub mod laws;
 mod read_fields;
@@ -18,6 +21,7 @@ mod scan_fields;
 mod wire_fault;
 
 pub use counted::Counted;
+pub use encoded::{InBase16, InBase64, InLowerBase16};
 pub use fields::{
     AtMost, Delimited, Exactly, Fields, MAX_RDLEN, Rest, Spelled, canonical_cmp_octets,
 };

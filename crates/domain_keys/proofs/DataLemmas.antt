@@ -1,9 +1,9 @@
 -- the octets of data
-use Rattle.std.proofs.Common.{◌≡◌, ℕ, ◌+◌, ◌≤◌, ◌↔◌, Bool, true, List, [], length, refl, sym, ap, subst, ◌∙◌, arith, length-append}
+use Rattle.std.proofs.Common.{◌≡◌, ℕ, ◌+◌, ◌≤◌, ◌↔◌, Bool, List, [], length, refl, sym, ap, ◌∙◌, arith, length-append}
 use Rattle.std.specs.Prelude.{bytes_eq, IsTrue}
 use Rattle.std.specs.Cmp.Lexicographic.{bytes_decides}
-use Rattle.domain_fields.specs.Layout.{Layout, Values, octets_of, Fits, Ends, Begins, ParsesBack, splits}
-use Rattle.domain_fields.proofs.ExactLemmas.{one_reading, begins_alone, parses_back}
+use Rattle.domain_fields.specs.Layout.{Values, octets_of, Fits, Ends, Begins, ParsesBack}
+use Rattle.domain_fields.proofs.ExactLemmas.{parses_back, same_values}
 use Rattle.domain_keys.specs.Data.{numbers_and_octets, DnskeyData, dnskey, dnskey_values, dnskey_octets, DsData, ds, ds_values, ds_octets}
 
 -- four octets stand before the others
@@ -26,13 +26,6 @@ dnskey_back d fits brief = parses_back dnskey (dnskey_values d) refl fits (ends_
 
 pub ds_back : (d : DsData) → Fits ds (ds_values d) → length d.digest ≤ 65531 → ParsesBack ds (ds_values d)
 ds_back d fits brief = parses_back ds (ds_values d) refl fits (ends_of_octets (ds_values d) brief)
-
--- data of the same octets are the same
-pub same_values : (l : Layout) (v w : Values l) → splits l ≡ true → Fits l v → Fits l w → Ends l v [] → Ends l w [] → octets_of l v ≡ octets_of l w → v ≡ w
-same_values l v w split fits_v fits_w ends_v ends_w same =
-    let read = one_reading l (octets_of l w) v w [] [] split
-    (subst (λ (o : List ℕ). Begins l o v []) same (begins_alone l v fits_v ends_v)) (begins_alone l w fits_w ends_w) in
-    read.0
 
 pub same_dnskey : (a b : DnskeyData) (r : Bool) → Fits dnskey (dnskey_values a) → Fits dnskey (dnskey_values b) → length a.public_key ≤ 65531 → length b.public_key ≤ 65531
     → r ≡ bytes_eq (dnskey_octets a) (dnskey_octets b) → IsTrue r ↔ (a ≡ b)

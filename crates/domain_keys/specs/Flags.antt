@@ -1,10 +1,7 @@
 -- the flags of a key
-use Rattle.std.specs.Prelude.{ℕ, ◌==◌, Bool, not, [], ◌++◌, codes, bit_and, if◌then◌else◌}
+use Rattle.std.specs.Prelude.{ℕ, ◌==◌, Bool, [], ◌++◌, codes, if◌then◌else◌}
 use Rattle.domain_octets.specs.Words.{Octets}
-
--- the flags have this bit
-abbrev pub has_flag : ℕ → ℕ → Bool
-has_flag flag flags = not (bit_and flags flag == 0)
+use Rattle.domain_fields.specs.Flag.{has_flag}
 
 -- a key with which signatures of records may be checked (RFC 4034, section 2.1.1)
 abbrev pub is_zone_key : ℕ → Bool

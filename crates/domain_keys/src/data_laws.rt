@@ -1,9 +1,8 @@
-//! What holds of the octets of keys, digests and signatures (RFC 4034, sections 2, 3 and 5).
+//! What holds of the octets of keys and digests (RFC 4034, sections 2 and 5).
 ghost use Rattle.domain_fields.specs.Layout.{ParsesBack};
-ghost use Rattle.domain_keys.specs.Data.{dnskey, dnskey_values, ds, ds_values, rrsig, rrsig_values};
+ghost use Rattle.domain_keys.specs.Data.{dnskey, dnskey_values, ds, ds_values};
 
-use crate::{Dnskey, Ds, Rrsig};
-use domain_base::ToName;
+use crate::{Dnskey, Ds};
 use domain_octets::Octets;
 
 /// The octets of a key's data are read as these fields, in no other way, and nothing is left.
@@ -16,14 +15,6 @@ pub fn dnskey_parses_back<O: Octets>(value: &Dnskey<O>)
 /// So are those of a digest's data.
 pub fn ds_parses_back<O: Octets>(value: &Ds<O>)
     ensures { ParsesBack ds (ds_values value.now) }
-{
-    let _fields = value.fields();
-}
-
-/// So are those of a signature's data. The signer's name comes back as it is spelled.
-#[tactic(auto, using(crate::proofs::RrsigLemmas::rrsig_back))]
-pub fn rrsig_parses_back<O: Octets, N: ToName>(value: &Rrsig<O, N>)
-    ensures { ParsesBack rrsig (rrsig_values value.now) }
 {
     let _fields = value.fields();
 }

@@ -13,7 +13,7 @@ ghost use Rattle.domain_fields.specs.Laws.{fed_alike, tied_octets};
 ghost use Rattle.domain_keys.specs.Data.{dnskey_data, dnskey, dnskey_values, dnskey_octets};
 ghost use Rattle.domain_keys.specs.Flags.{is_revoked, is_secure_entry_point, is_zone_key};
 ghost use Rattle.domain_keys.specs.KeyTag.{key_tag_of};
-ghost use Rattle.domain_keys.specs.Laws.{copies_tied};
+ghost use Rattle.domain_fields.specs.DataClone.{copies_tied};
 
 use crate::fields::{KeyFields, MOST};
 use crate::{flags, key_tag};

@@ -11,7 +11,7 @@ ghost use Rattle.domain_base.specs.Types as rtypes;
 ghost use Rattle.domain_fields.specs.Layout.{Begins, Fits, FirstFault, GoesOn};
 ghost use Rattle.domain_fields.specs.Laws.{fed_alike, tied_octets};
 ghost use Rattle.domain_keys.specs.Data.{ds_data, ds, ds_values, ds_octets};
-ghost use Rattle.domain_keys.specs.Laws.{copies_tied};
+ghost use Rattle.domain_fields.specs.DataClone.{copies_tied};
 
 use crate::fields::{KeyFields, MOST};
 use domain_base::{CanonicalOrd, DigestAlgorithm, Rtype, SecurityAlgorithm};

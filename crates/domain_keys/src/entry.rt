@@ -2,7 +2,7 @@
 ghost use Rattle.std.specs.Prelude.{◌≡◌, ◌<◌, ◌≤◌, [], length, IfOk, IfErr, OnOk};
 ghost use Rattle.domain_base.specs.Scan.{scan_fault_of};
 ghost use Rattle.domain_fields.specs.Scan.{Scans, Refuses};
-ghost use Rattle.domain_keys.specs.Scan.{Spells, RefusesData};
+ghost use Rattle.domain_fields.specs.Entry.{Spells, RefusesData};
 
 use domain_base::{ScanError, Scanner};
 use domain_fields::ScanFields;

@@ -1,7 +1,7 @@
 -- How the records of a zone and its NSEC records are seen.
 use Rattle.std.specs.Prelude.{List, map}
 use Rattle.domain_plain.specs.declared.record.Record.{Record}
-use Rattle.domain_rdata.specs.declared.nsec.Nsec.{Nsec}
+use Rattle.domain_chain_rdata.specs.declared.nsec.Nsec.{Nsec}
 use Rattle.domain_rdata.specs.declared.zone_record_data.ZoneRecordData.{ZoneRecordData}
 use Rattle.domain_base.specs.Words.{Name}
 use Rattle.domain_zone.specs.View.{as_zone_record}

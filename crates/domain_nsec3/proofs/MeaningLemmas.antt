@@ -16,7 +16,7 @@ use Rattle.domain_octets.specs.Base32.{base32_lower}
 use Rattle.domain_octets.proofs.OrderLemmas.{lower_apart}
 use Rattle.domain_bitmap.specs.Bitmap.{bitmap_octets}
 use Rattle.domain_bitmap.proofs.BitmapLemmas.{bitmap_octets-same}
-use Rattle.domain_rdata.specs.OptOut.{is_opt_out}
+use Rattle.domain_chain_rdata.specs.OptOut.{is_opt_out}
 use Rattle.domain_zone.specs.Covering.{matches, covers, matches_or_covers, pairs}
 use Rattle.domain_zone.specs.Enclosers.{IsClosestEncloser, exists_over}
 use Rattle.domain_base.specs.Name.{is_at_or_below, is_strictly_below, lowered, same_name}

@@ -2,7 +2,7 @@
 use Rattle.std.specs.Prelude.{ℕ, Bool, ◌&&◌, List, Result}
 use Rattle.domain_octets.specs.Words.{Octets}
 use Rattle.domain_base.specs.Name.{wire_of, lowered}
-use Rattle.domain_rdata.specs.OptOut.{is_opt_out}
+use Rattle.domain_chain_rdata.specs.OptOut.{is_opt_out}
 use Rattle.domain_base.specs.Words.{Name}
 
 -- what is answered for a name: the octets of its hash, or the number of a refusal

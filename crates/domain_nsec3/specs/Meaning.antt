@@ -7,7 +7,7 @@ use Rattle.std.specs.Cmp.Lexicographic.{slice_cmp}
 use Rattle.domain_octets.specs.Words.{Octets}
 use Rattle.domain_base.specs.Order.{canonical_cmp}
 use Rattle.domain_bitmap.specs.Bitmap.{bitmap_octets}
-use Rattle.domain_rdata.specs.OptOut.{is_opt_out}
+use Rattle.domain_chain_rdata.specs.OptOut.{is_opt_out}
 use Rattle.domain_zone.specs.Covering.{matches, covers, matches_or_covers}
 use Rattle.domain_zone.specs.Enclosers.{IsClosestEncloser}
 use Rattle.domain_base.specs.Name.{is_at_or_below, is_strictly_below, same_name}

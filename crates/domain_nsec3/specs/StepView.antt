@@ -1,5 +1,5 @@
 -- How names with their types and hashes are seen.
-use Rattle.domain_rdata.specs.declared.nsec3param.Nsec3param.{Nsec3param}
+use Rattle.domain_chain_rdata.specs.declared.nsec3param.Nsec3param.{Nsec3param}
 use Rattle.std.specs.Prelude.{ℕ}
 use Rattle.domain_base.specs.Words.{Name}
 use Rattle.domain_nsec3.specs.Steps.{Common, Entry, HashedEntry}

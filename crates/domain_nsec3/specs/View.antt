@@ -2,8 +2,8 @@
 use Rattle.std.specs.Prelude.{ℕ, List, map}
 use Rattle.domain_octets.specs.Words.{Octets}
 use Rattle.domain_plain.specs.declared.record.Record.{Record}
-use Rattle.domain_rdata.specs.declared.nsec3.Nsec3.{Nsec3}
-use Rattle.domain_rdata.specs.declared.nsec3param.Nsec3param.{Nsec3param}
+use Rattle.domain_chain_rdata.specs.declared.nsec3.Nsec3.{Nsec3}
+use Rattle.domain_chain_rdata.specs.declared.nsec3param.Nsec3param.{Nsec3param}
 use Rattle.domain_rdata.specs.declared.zone_record_data.ZoneRecordData.{ZoneRecordData}
 use Rattle.domain_base.specs.Words.{Name}
 use Rattle.domain_zone.specs.View.{as_zone_record}

@@ -15,20 +15,23 @@ use Rattle.domain_plain.specs.Plain.{a, a_values, ns, ns_values, soa, soa_values
 use Rattle.domain_fields.specs.Scan.{Scans}
 use Rattle.domain_plain.proofs.GenericLemmas.{refused_is_no_text}
 use Rattle.domain_fields.proofs.ScanLemmas.{refused_spells_none, scans_left, scans_once}
-use Rattle.domain_keys.specs.Data.{DnskeyData, DsData, RrsigData, dnskey_values, ds_values, rrsig_values, dnskey_octets, ds_octets, rrsig_octets}
-use Rattle.domain_keys.specs.Scan.{DnskeyText, DsText, RrsigText}
-use Rattle.domain_keys.proofs.RefusalLemmas.{dnskey_once, ds_once, rrsig_once, refused_dnskey, refused_ds, refused_rrsig}
-use Rattle.domain_rdata.specs.NsecText.{NsecText}
-use Rattle.domain_rdata.specs.Nsec3Text.{Nsec3Text}
-use Rattle.domain_rdata.specs.Nsec3paramText.{Nsec3paramText}
-use Rattle.domain_rdata.specs.Rdata.{nsec, nsec_values, nsec3, nsec3_values, nsec3param, nsec3param_values}
+use Rattle.domain_keys.specs.Data.{DnskeyData, DsData, dnskey_values, ds_values, dnskey_octets, ds_octets}
+use Rattle.domain_rrsig.specs.Data.{RrsigData, rrsig_values, rrsig_octets}
+use Rattle.domain_keys.specs.Scan.{DnskeyText, DsText}
+use Rattle.domain_rrsig.specs.Scan.{RrsigText}
+use Rattle.domain_keys.proofs.RefusalLemmas.{dnskey_once, ds_once, refused_dnskey, refused_ds}
+use Rattle.domain_rrsig.proofs.RefusalLemmas.{rrsig_once, refused_rrsig}
+use Rattle.domain_chain_rdata.specs.NsecText.{NsecText}
+use Rattle.domain_chain_rdata.specs.Nsec3Text.{Nsec3Text}
+use Rattle.domain_chain_rdata.specs.Nsec3paramText.{Nsec3paramText}
+use Rattle.domain_chain_rdata.specs.Rdata.{nsec, nsec_values, nsec3, nsec3_values, nsec3param, nsec3param_values}
 use Rattle.domain_rdata.specs.Refusal.{Kind, plain, key, digest, signature, next_by_name, next_by_hash, params, kind_of, RefusesKind, RefusesOwn, at_field, no_form, AreOfKind, OctetsFault, RefusesRdata, in_own, in_generic, in_octets}
 use Rattle.domain_rdata.specs.Scan.{RdataText, own, generic, OwnText, AreData, IsGeneric, has_own_data}
 use Rattle.domain_rdata.specs.Zone.{wire_octets}
 use Rattle.domain_rdata.specs.declared.zone_record_data.ZoneRecordData.{ZoneRecordData}
 use Rattle.domain_rdata.specs.declared.zone_record_data.ZoneRecordData.TheVariants.{A, Ns, Soa, Mx, Dnskey, Ds, Rrsig, Nsec, Nsec3, Nsec3param, Unknown}
-use Rattle.domain_rdata.proofs.TextLemmas.{nsec_refused, nsec_name_once, nsec_types_once}
-use Rattle.domain_rdata.proofs.Nsec3TextLemmas.{params_once, params_refused, nsec3_once, nsec3_refused}
+use Rattle.domain_chain_rdata.proofs.TextLemmas.{nsec_refused, nsec_name_once, nsec_types_once}
+use Rattle.domain_chain_rdata.proofs.Nsec3TextLemmas.{params_once, params_refused, nsec3_once, nsec3_refused}
 
 -- the tokens begin with data of a kind, which are these octets, and these are left
 abbrev pub Reads : Kind → List (List ℕ) → List ℕ → List (List ℕ) → Type 0

@@ -10,10 +10,10 @@ use Rattle.domain_bitmap.specs.Text.{types_text}
 use Rattle.domain_plain.specs.Generic.{generic_text}
 use Rattle.domain_plain.specs.Soa.{soa_text}
 use Rattle.domain_keys.specs.Pieces.{dnskey_text, ds_text}
-use Rattle.domain_keys.specs.RrsigPieces.{rrsig_text}
-use Rattle.domain_rdata.specs.Nsec3Text.{nsec3_text}
-use Rattle.domain_rdata.specs.Nsec3paramText.{nsec3param_text}
-use Rattle.domain_rdata.specs.Rdata.{nsec3_values, nsec3param_values}
+use Rattle.domain_rrsig.specs.Pieces.{rrsig_text}
+use Rattle.domain_chain_rdata.specs.Nsec3Text.{nsec3_text}
+use Rattle.domain_chain_rdata.specs.Nsec3paramText.{nsec3param_text}
+use Rattle.domain_chain_rdata.specs.Rdata.{nsec3_values, nsec3param_values}
 use Rattle.domain_rdata.specs.declared.zone_record_data.ZoneRecordData.{ZoneRecordData}
 use Rattle.domain_rdata.specs.declared.zone_record_data.ZoneRecordData.TheVariants.{A, Ns, Soa, Mx, Dnskey, Ds, Rrsig, Nsec, Nsec3, Nsec3param, Unknown}
 use Rattle.domain_base.specs.Words.{Name}

@@ -1,14 +1,5 @@
-pub mod Rdata
 pub mod Zone
 pub mod Scan
-pub mod Laws
-pub mod NsecText
-pub mod NsecConvert
-pub mod NsecWire
 pub mod DataText
-pub mod OptOut
-pub mod Nsec3paramText
-pub mod Nsec3Wire
-pub mod Nsec3Text
 pub mod Refusal
 pub mod ZoneClone

@@ -10,14 +10,16 @@ use Rattle.domain_plain.specs.Generic.{GenericText, GenericFault}
 use Rattle.domain_fields.specs.Layout.{Layout, Values, Begins}
 use Rattle.domain_plain.specs.Plain.{a, ns, soa, mx}
 use Rattle.domain_fields.specs.Scan.{Refuses}
-use Rattle.domain_keys.specs.Data.{dnskey, ds, rrsig}
-use Rattle.domain_keys.specs.Scan.{RefusesDnskey, RefusesDs, RefusesRrsig}
-use Rattle.domain_rdata.specs.NsecText.{RefusesNsec}
-use Rattle.domain_rdata.specs.NsecWire.{BeginsNsec}
-use Rattle.domain_rdata.specs.Nsec3Text.{RefusesNsec3}
-use Rattle.domain_rdata.specs.Nsec3Wire.{BeginsNsec3}
-use Rattle.domain_rdata.specs.Nsec3paramText.{RefusesNsec3param}
-use Rattle.domain_rdata.specs.Rdata.{nsec, nsec3, nsec3param}
+use Rattle.domain_keys.specs.Data.{dnskey, ds}
+use Rattle.domain_rrsig.specs.Data.{rrsig}
+use Rattle.domain_keys.specs.Scan.{RefusesDnskey, RefusesDs}
+use Rattle.domain_rrsig.specs.Scan.{RefusesRrsig}
+use Rattle.domain_chain_rdata.specs.NsecText.{RefusesNsec}
+use Rattle.domain_chain_rdata.specs.NsecWire.{BeginsNsec}
+use Rattle.domain_chain_rdata.specs.Nsec3Text.{RefusesNsec3}
+use Rattle.domain_chain_rdata.specs.Nsec3Wire.{BeginsNsec3}
+use Rattle.domain_chain_rdata.specs.Nsec3paramText.{RefusesNsec3param}
+use Rattle.domain_chain_rdata.specs.Rdata.{nsec, nsec3, nsec3param}
 use Rattle.domain_rdata.specs.Scan.{IsGeneric}
 use Rattle.domain_base.specs.Words.{Tokens}
 

@@ -6,14 +6,16 @@ use Rattle.domain_plain.specs.Generic.{GenericText, generic_mark}
 use Rattle.domain_fields.specs.Layout.{Begins, Fits}
 use Rattle.domain_plain.specs.Plain.{a, a_values, ns, ns_values, soa, soa_values, mx, mx_values}
 use Rattle.domain_fields.specs.Scan.{Scans}
-use Rattle.domain_keys.specs.Data.{dnskey, dnskey_values, ds, ds_values, rrsig, rrsig_values}
-use Rattle.domain_keys.specs.Scan.{DnskeyText, DsText, RrsigText}
-use Rattle.domain_rdata.specs.NsecText.{NsecText}
-use Rattle.domain_rdata.specs.NsecWire.{BeginsNsec}
-use Rattle.domain_rdata.specs.Nsec3Text.{Nsec3Text}
-use Rattle.domain_rdata.specs.Nsec3Wire.{BeginsNsec3}
-use Rattle.domain_rdata.specs.Nsec3paramText.{Nsec3paramText}
-use Rattle.domain_rdata.specs.Rdata.{nsec_values, nsec3, nsec3_values, nsec3param, nsec3param_values}
+use Rattle.domain_keys.specs.Data.{dnskey, dnskey_values, ds, ds_values}
+use Rattle.domain_rrsig.specs.Data.{rrsig, rrsig_values}
+use Rattle.domain_keys.specs.Scan.{DnskeyText, DsText}
+use Rattle.domain_rrsig.specs.Scan.{RrsigText}
+use Rattle.domain_chain_rdata.specs.NsecText.{NsecText}
+use Rattle.domain_chain_rdata.specs.NsecWire.{BeginsNsec}
+use Rattle.domain_chain_rdata.specs.Nsec3Text.{Nsec3Text}
+use Rattle.domain_chain_rdata.specs.Nsec3Wire.{BeginsNsec3}
+use Rattle.domain_chain_rdata.specs.Nsec3paramText.{Nsec3paramText}
+use Rattle.domain_chain_rdata.specs.Rdata.{nsec_values, nsec3, nsec3_values, nsec3param, nsec3param_values}
 use Rattle.domain_rdata.specs.declared.zone_record_data.ZoneRecordData.{ZoneRecordData}
 use Rattle.domain_rdata.specs.declared.zone_record_data.ZoneRecordData.TheVariants.{A, Ns, Soa, Mx, Dnskey, Ds, Rrsig, Nsec, Nsec3, Nsec3param, Unknown}
 use Rattle.domain_base.specs.Words.{Tokens, Name}

@@ -8,8 +8,9 @@ use Rattle.domain_octets.specs.Words.{Octets}
 use Rattle.domain_base.specs.Types as rtypes
 use Rattle.domain_fields.specs.Layout.{octets_of, canonical_of}
 use Rattle.domain_plain.specs.Plain.{a, a_values, ns, ns_values, soa, soa_values, mx, mx_values, unknown, unknown_values}
-use Rattle.domain_keys.specs.Data.{dnskey_octets, ds_octets, rrsig_octets, rrsig_canonical}
-use Rattle.domain_rdata.specs.Rdata.{nsec, nsec_values, nsec3_octets, nsec3param_octets}
+use Rattle.domain_keys.specs.Data.{dnskey_octets, ds_octets}
+use Rattle.domain_rrsig.specs.Data.{rrsig_octets, rrsig_canonical}
+use Rattle.domain_chain_rdata.specs.Rdata.{nsec, nsec_values, nsec3_octets, nsec3param_octets}
 use Rattle.domain_rdata.specs.declared.zone_record_data.ZoneRecordData.{ZoneRecordData}
 use Rattle.domain_rdata.specs.declared.zone_record_data.ZoneRecordData.TheVariants.{A, Ns, Soa, Mx, Dnskey, Ds, Rrsig, Nsec, Nsec3, Nsec3param, Unknown}
 use Rattle.domain_base.specs.Words.{Name}

@@ -12,8 +12,8 @@ use Rattle.domain_plain.specs.declared.ns.Ns as names
 use Rattle.domain_plain.specs.declared.soa.Soa as starts
 use Rattle.domain_plain.specs.declared.mx.Mx as exchanges
 use Rattle.domain_plain.specs.declared.unknown.UnknownRecordData as unknowns
-use Rattle.domain_rdata.specs.declared.nsec.Nsec as chains
-use Rattle.domain_rdata.specs.Rdata.{nsec, nsec_values}
+use Rattle.domain_chain_rdata.specs.declared.nsec.Nsec as chains
+use Rattle.domain_chain_rdata.specs.Rdata.{nsec, nsec_values}
 use Rattle.domain_rdata.specs.Zone.{rtype_of, canonical_octets, data_cmp, data_cmp_total}
 use Rattle.domain_rdata.specs.declared.zone_record_data.ZoneRecordData.{ZoneRecordData}
 use Rattle.domain_rdata.specs.declared.zone_record_data.ZoneRecordData.TheVariants.{A, Ns, Soa, Mx, Dnskey, Ds, Rrsig, Nsec, Nsec3, Nsec3param, Unknown}

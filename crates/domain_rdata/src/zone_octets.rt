@@ -4,18 +4,21 @@ ghost use Rattle.domain_base.specs.Types as rtypes;
 ghost use Rattle.domain_base.specs.Scan.{illegal, scan_fault_of};
 ghost use Rattle.domain_fields.specs.Layout.{Begins};
 ghost use Rattle.domain_plain.specs.Plain.{a, a_values, ns, ns_values, soa, soa_values, mx, mx_values};
-ghost use Rattle.domain_keys.specs.Data.{dnskey, dnskey_values, ds, ds_values, rrsig, rrsig_values};
-ghost use Rattle.domain_rdata.specs.NsecWire.{BeginsNsec};
-ghost use Rattle.domain_rdata.specs.Nsec3Wire.{BeginsNsec3};
-ghost use Rattle.domain_rdata.specs.Rdata.{nsec_values, nsec3_values, nsec3param, nsec3param_values};
+ghost use Rattle.domain_keys.specs.Data.{dnskey, dnskey_values, ds, ds_values};
+ghost use Rattle.domain_rrsig.specs.Data.{rrsig, rrsig_values};
+ghost use Rattle.domain_chain_rdata.specs.NsecWire.{BeginsNsec};
+ghost use Rattle.domain_chain_rdata.specs.Nsec3Wire.{BeginsNsec3};
+ghost use Rattle.domain_chain_rdata.specs.Rdata.{nsec_values, nsec3_values, nsec3param, nsec3param_values};
 ghost use Rattle.domain_rdata.specs.Refusal.{kind_of, plain, key, digest, signature, next_by_name, next_by_hash, params, CopyFault, IsNotWhole, OctetsFault};
 ghost use Rattle.domain_rdata.specs.Scan.{AreData};
 
-use crate::{Nsec, Nsec3, Nsec3param, ZoneRecordData};
+use crate::ZoneRecordData;
 use domain_base::{MakeName, ParsedName, Rtype, ScanError, ToName};
-use domain_keys::{Dnskey, Ds, Rrsig};
+use domain_chain_rdata::{Nsec, Nsec3, Nsec3param};
+use domain_keys::{Dnskey, Ds};
 use domain_octets::{EmptyBuilder, FromBuilder, Octets, OctetsBuilder, OutOfMemory, Parser};
 use domain_plain::{A, Mx, Ns, ParseRecordData, Soa, UnknownRecordData};
+use domain_rrsig::Rrsig;
 use std::alloc::Global;
 
 /// A name with the labels of another, in octets of its own.

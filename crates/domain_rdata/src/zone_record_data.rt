@@ -3,11 +3,12 @@ ghost use Rattle.std.specs.Prelude.{◌≡◌};
 ghost use Rattle.std.specs.Ordering.{nat_cmp};
 ghost use Rattle.std.specs.Cmp.Lexicographic.{slice_cmp};
 
-use crate::{Nsec, Nsec3, Nsec3param};
 use domain_base::{CanonicalOrd, Rtype, ToName};
-use domain_keys::{Dnskey, Ds, Rrsig};
+use domain_chain_rdata::{Nsec, Nsec3, Nsec3param};
+use domain_keys::{Dnskey, Ds};
 use domain_octets::{AppendError, Octets, OctetsBuilder};
 use domain_plain::{A, ComposeRecordData, Mx, Ns, RecordData, Soa, UnknownRecordData};
+use domain_rrsig::Rrsig;
 use std::cmp::Ordering;
 
 /// The data of a record in a zone.

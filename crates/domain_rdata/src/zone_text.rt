@@ -8,12 +8,14 @@ ghost use Rattle.domain_rdata.specs.Scan.{RdataText, OwnText, IsGeneric};
 ghost use Rattle.domain_rdata.specs.declared.zone_record_data.ZoneRecordData.{ZoneRecordData};
 ghost use Rattle.domain_base.specs.Words.{Tokens};
 
+use crate::ZoneRecordData;
 use crate::zone_record_data::with_data;
-use crate::{Nsec, Nsec3, Nsec3param, ZoneRecordData};
 use domain_base::{MakeName, Rtype, ScanError, Scanner, ToName};
-use domain_keys::{Dnskey, Ds, Rrsig};
+use domain_chain_rdata::{Nsec, Nsec3, Nsec3param};
+use domain_keys::{Dnskey, Ds};
 use domain_octets::{EmptyBuilder, FreezeBuilder, FromBuilder, Octets, Truncate};
 use domain_plain::{A, Mx, Ns, Soa, UnknownRecordData};
+use domain_rrsig::Rrsig;
 use std::alloc::Global;
 use std::fmt;
 

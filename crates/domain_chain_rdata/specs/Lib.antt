@@ -1,0 +1,9 @@
+pub mod Rdata
+pub mod Laws
+pub mod NsecText
+pub mod NsecConvert
+pub mod NsecWire
+pub mod OptOut
+pub mod Nsec3paramText
+pub mod Nsec3Wire
+pub mod Nsec3Text

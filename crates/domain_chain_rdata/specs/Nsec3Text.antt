@@ -1,0 +1,58 @@
+-- NSEC3 data as text (RFC 5155, section 3.3), and in the pieces of a zone file
+use Rattle.std.specs.Prelude.{◌≡◌, ℕ, List, [], ◌∷◌, ◌++◌, codes, Option}
+use Rattle.domain_octets.specs.Base32.{base32_upper}
+use Rattle.domain_octets.specs.Codec.{Decodes}
+use Rattle.domain_octets.specs.declared.codec.Codec.TheVariants.{Base32Hex}
+use Rattle.domain_octets.specs.Piece.{PieceText, token, opens, closes}
+use Rattle.domain_octets.specs.Words.{Octets}
+use Rattle.domain_base.specs.Scan.{RefusesToken, Refusal, Grammar}
+use Rattle.domain_bitmap.specs.Bitmap.{bitmap_octets}
+use Rattle.domain_bitmap.specs.Blocks.{types_of}
+use Rattle.domain_bitmap.specs.HashScan.{CountedFault}
+use Rattle.domain_bitmap.specs.HashText.{salt_text}
+use Rattle.domain_bitmap.specs.Pieces.{type_pieces, salt_pieces}
+use Rattle.domain_bitmap.specs.Scan.{TypeTexts, RefusesTypes, is_among}
+use Rattle.domain_bitmap.specs.Text.{spaced_types}
+use Rattle.domain_fields.specs.Layout.{Values}
+use Rattle.domain_fields.specs.Sequence.{OneToken, Both, RefusesBoth}
+use Rattle.domain_chain_rdata.specs.OptOut.{opt_out_comment}
+use Rattle.domain_chain_rdata.specs.Nsec3paramText.{Nsec3paramText, RefusesNsec3param, hash_numbers_text, number_pieces}
+use Rattle.domain_chain_rdata.specs.Rdata.{hash_fields, nsec3}
+use Rattle.domain_base.specs.Words.{Tokens, Rtypes}
+
+-- all tokens spell the types of a bitmap, one each
+pub record BitmapText (old : Tokens) (octets : Octets) (new : Tokens) : Type 0 where
+  pub types : Rtypes
+  pub spelled : TypeTexts old types
+  pub built : octets ≡ bitmap_octets (is_among types)
+  pub all : new ≡ []
+
+-- parameters, and a hash in Base 32 hex
+abbrev pub HashText : Grammar (Values hash_fields)
+HashText = Both Nsec3paramText (OneToken (Decodes Base32Hex))
+
+abbrev pub RefusesHash : Option ℕ → Refusal
+RefusesHash limit =
+    RefusesBoth Nsec3paramText (RefusesNsec3param limit)
+    (RefusesToken (CountedFault Base32Hex (codes "illegal owner name hash") limit))
+
+-- those, and then types to the end
+abbrev pub Nsec3Text : Grammar (Values nsec3)
+Nsec3Text = Both HashText BitmapText
+
+-- the first token that is refused, where salts, hashes and bitmaps have this limit
+abbrev pub RefusesNsec3 : Option ℕ → Refusal
+RefusesNsec3 limit = RefusesBoth HashText (RefusesHash limit) (RefusesTypes limit)
+
+-- the fields with single spaces; there is none after the hash where there are no types
+abbrev pub nsec3_text : Values nsec3 → Octets
+nsec3_text v =
+    hash_numbers_text v.0.0.0 ++ codes " " ++ salt_text v.0.0.1 ++ codes " " ++ base32_upper v.0.1
+    ++ spaced_types (types_of v.1)
+
+abbrev pub nsec3_pieces : Values nsec3 → List PieceText
+nsec3_pieces v =
+    let numbers = v.0.0.0 in
+    opens ∷ (number_pieces (opt_out_comment numbers.1.0) numbers
+    ++ (salt_pieces v.0.0.1
+    ++ (token (base32_upper v.0.1) ∷ (type_pieces (types_of v.1) ++ closes ∷ []))))

@@ -1,0 +1,31 @@
+//! Data of the records that deny existence.
+//!
+//! [`Nsec`] is the data of RFC 4034, section 4, [`Nsec3`] and [`Nsec3param`] that of RFC 5155,
+//! sections 3 and 4.
+//!
+//! The crates above may rely on this: data is its fields, of which the last may be a type bitmap.
+//! Its octets, what reads them, its tokens and its pieces are grammars (`specs/Rdata.antt`,
+//! `NsecWire.antt`, `Nsec3Wire.antt`, `NsecText.antt`, `Nsec3Text.antt`, `Nsec3paramText.antt`);
+//! what was composed parses back (`nsec_laws`, `nsec3_laws`). The canonical order is the
+//! lexicographic one of the canonical octets, equality and `Hash` agree with `cmp`, and no order
+//! takes memory.
+#![tactic(auto)]
+
+mod nsec;
+mod nsec3;
+mod nsec3_compare;
+mod nsec3_convert;
+pub mod nsec3_laws;
+mod nsec3_text;
+mod nsec3_wire;
+mod nsec3param;
+mod nsec3param_text;
+mod nsec_compare;
+mod nsec_convert;
+pub mod nsec_laws;
+mod nsec_text;
+mod nsec_wire;
+
+pub use nsec::Nsec;
+pub use nsec3::Nsec3;
+pub use nsec3param::Nsec3param;

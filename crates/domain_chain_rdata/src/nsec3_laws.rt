@@ -1,0 +1,41 @@
+//! What holds of the octets and the tokens of hashed names (RFC 5155, sections 3 and 4).
+ghost use Rattle.std.specs.Prelude.{◌≡◌};
+ghost use Rattle.domain_fields.specs.Layout.{ParsesBack, Values};
+ghost use Rattle.domain_chain_rdata.specs.Nsec3paramText.{Nsec3paramText};
+ghost use Rattle.domain_chain_rdata.specs.Nsec3Text.{HashText};
+ghost use Rattle.domain_chain_rdata.specs.Nsec3Wire.{Nsec3ParsesBack};
+ghost use Rattle.domain_chain_rdata.specs.Rdata.{hash_fields, nsec3_values, nsec3param, nsec3param_values};
+ghost use Rattle.domain_base.specs.Words.{Tokens};
+
+use crate::{Nsec3, Nsec3param};
+use domain_octets::Octets;
+
+/// The octets of parameters are read as these parameters, in no other way, and nothing is left.
+#[tactic(auto, using(crate::proofs::Nsec3Lemmas::params_back))]
+pub fn nsec3param_parses_back<O: Octets>(value: &Nsec3param<O>)
+    ensures { ParsesBack nsec3param (nsec3param_values value.now) }
+{
+    let _fields = value.fields();
+}
+
+/// The octets of NSEC3 data are read as these fields, the last a type bitmap, in no other way, and
+/// nothing is left.
+pub fn nsec3_parses_back<O: Octets>(value: &Nsec3<O>)
+    ensures { Nsec3ParsesBack (nsec3_values value.now) }
+{
+    let _fields = value.fields();
+    let _types = value.types().as_slice();
+}
+
+/// Tokens begin with parameters, or with parameters and a hash, in one way at most: the values and
+/// the tokens that are left are determined.
+pub fn hashes_are_spelled_once()
+    ensures params { (old m n : Tokens) (v w : Values nsec3param) → Nsec3paramText old v m
+        → Nsec3paramText old w n → v ≡ w }
+    ensures after_params { (old m n : Tokens) (v w : Values nsec3param) → Nsec3paramText old v m
+        → Nsec3paramText old w n → m ≡ n }
+    ensures hash { (old m n : Tokens) (v w : Values hash_fields) → HashText old v m
+        → HashText old w n → v ≡ w }
+    ensures after_hash { (old m n : Tokens) (v w : Values hash_fields) → HashText old v m
+        → HashText old w n → m ≡ n }
+{}

@@ -1,0 +1,147 @@
+//! NSEC3 data as text (RFC 5155, section 3.3).
+ghost use Rattle.std.specs.Prelude.{◌≡◌, Some, IfOk, IfErr};
+ghost use Rattle.domain_base.specs.Scan.{scan_fault_of};
+ghost use Rattle.domain_bitmap.specs.Blocks.{types_of};
+ghost use Rattle.domain_bitmap.specs.Text.{spaced_types};
+ghost use Rattle.domain_chain_rdata.specs.OptOut.{opt_out_comment};
+ghost use Rattle.domain_fields.specs.Layout.{Fits};
+ghost use Rattle.domain_chain_rdata.specs.Rdata.{nsec3, nsec3_values, nsec3param_values};
+ghost use Rattle.domain_chain_rdata.specs.Nsec3Text.{HashText, RefusesHash, Nsec3Text, RefusesNsec3, nsec3_text, nsec3_pieces};
+
+use crate::nsec3param_text::{Spaced, write_numbers};
+use crate::{Nsec3, Nsec3param};
+use domain_base::{ScanError, Scanner};
+use domain_bitmap::{OwnerHash, RtypeBitmap};
+use domain_octets::{
+    EmptyBuilder, Formatter, FreezeBuilder, FromBuilder, Octets, OutOfMemory, Truncate, ZonefileFmt,
+};
+use std::alloc::Global;
+use std::fmt;
+
+/// The parameters and the hash that the tokens begin with.
+fn scan_hash<O: FromBuilder + Drop, S: Scanner<Octets = O>>(
+    alloc: Global,
+    scanner: &mut S,
+) -> Result<(Nsec3param<O>, OwnerHash<O>), ScanError>
+    ensures ok { IfOk result (λ v.
+        HashText (S.tokens scanner.old) (nsec3param_values v.0, v.1) (S.tokens scanner.new)) }
+    ensures err { IfErr result (λ e.
+        RefusesHash O.Builder.limit (S.tokens scanner.old) (S.tokens scanner.new)
+        (scan_fault_of e)) }
+{
+    let params = match Nsec3param::scan(alloc, scanner) {
+        Ok(params) => params,
+        Err(error) => return Err(error),
+    };
+    match OwnerHash::scan(alloc, scanner) {
+        Ok(next_owner) => Ok((params, next_owner)),
+        Err(error) => Err(error),
+    }
+}
+
+impl<O: FromBuilder + Drop> Nsec3<O>
+where
+    O::Builder: EmptyBuilder + Truncate + FreezeBuilder<Frozen = O> + Drop,
+{
+    /// The data that all tokens that are left spell: hash algorithm, flags and iterations in
+    /// decimal, the salt in Base 16 or as a dash, the next hash in Base 32 hex, and then types, one
+    /// each.
+    ///
+    /// # Errors
+    ///
+    /// That of the first token that is refused: `EndOfEntry` where there is none,
+    /// `Custom("decimal number expected")`, what `scan` of the salt and of the hash says,
+    /// `Custom("unknown record type")`, `ShortBuf` and `OutOfMemory` where the bitmap has no room
+    /// or no memory. The tokens left are then an end of those before.
+    pub fn scan<S: Scanner<Octets = O>>(alloc: Global, scanner: &mut S) -> Result<Self, ScanError>
+        ensures ok { IfOk result (λ d.
+            Nsec3Text (S.tokens scanner.old) (nsec3_values d) (S.tokens scanner.new)) }
+        ensures fits { IfOk result (λ d. Fits nsec3 (nsec3_values d)) }
+        ensures err { IfErr result (λ e.
+            RefusesNsec3 O.Builder.limit (S.tokens scanner.old) (S.tokens scanner.new)
+            (scan_fault_of e)) }
+    {
+        let (params, next_owner) = match scan_hash(alloc, scanner) {
+            Ok(hashed) => hashed,
+            Err(error) => return Err(error),
+        };
+        match RtypeBitmap::scan(alloc, scanner) {
+            Ok(types) => {
+                let data = Nsec3::of_params(params, next_owner, types);
+                let _fields = data.fields();
+                Ok(data)
+            }
+            Err(error) => Err(error),
+        }
+    }
+}
+
+impl<O: Octets> Nsec3<O> {
+    /// The comment on the flags.
+    fn flags_comment(&self) -> &'static str
+        ensures { result.now ≡ opt_out_comment self.now.flags }
+    {
+        if self.opt_out() {
+            "flags: opt-out"
+        } else {
+            "flags: <none>"
+        }
+    }
+}
+
+/// The types, a space before each.
+#[derive(Drop)]
+struct AfterSpaces<'a, O: Octets>(&'a RtypeBitmap<O>);
+
+impl<'a, O: Octets> fmt::Display for AfterSpaces<'a, O> {
+    ghost output = { λ t. Some (spaced_types (types_of t.0.now)) };
+
+    #[tactic(auto, using(crate::proofs::Nsec3Lemmas::after_a_space), unfolding(domain_bitmap::specs::Text::spaced_types))]
+    fn fmt<W: fmt::Write>(&self, f: &mut fmt::Formatter<W>) -> fmt::Result {
+        let types = self.0;
+        if types.is_empty() {
+            return Ok(());
+        }
+        write!(f, " {types}")
+    }
+}
+
+/// The fields with single spaces. There is none after the hash where there are no types.
+impl<O: Octets> fmt::Display for Nsec3<O> {
+    ghost output = { λ d. Some (nsec3_text (nsec3_values d)) };
+
+    fn fmt<W: fmt::Write>(&self, f: &mut fmt::Formatter<W>) -> fmt::Result {
+        let numbers = Spaced(self.numbers());
+        let (salt, next_owner) = (self.salt(), self.next_owner());
+        let types = AfterSpaces(self.types());
+        write!(f, "{numbers} {salt} {next_owner}{types}")
+    }
+}
+
+impl<O: Octets> fmt::Debug for Nsec3<O> {
+    fn fmt<W: fmt::Write>(&self, f: &mut fmt::Formatter<W>) -> fmt::Result {
+        f.debug_struct("Nsec3")
+            .field("hash_algorithm", &self.hash_algorithm())
+            .field("flags", &self.flags())
+            .field("iterations", &self.iterations())
+            .field("salt", self.salt())
+            .field("next_owner", self.next_owner())
+            .field("types", self.types())
+            .finish()
+    }
+}
+
+/// The fields, with comments on the flags, of which it names opt-out alone, the iterations and the
+/// salt.
+impl<O: Octets> ZonefileFmt for Nsec3<O> {
+    ghost pieces = { λ d. nsec3_pieces (nsec3_values d) };
+
+    fn fmt<F: Formatter>(&self, formatter: &mut F) -> Result<(), OutOfMemory> {
+        formatter.begin_block()?;
+        write_numbers(self.numbers(), self.flags_comment(), formatter)?;
+        self.salt().fmt(formatter)?;
+        formatter.write_token(self.next_owner())?;
+        self.types().fmt(formatter)?;
+        formatter.end_block()
+    }
+}

@@ -1,0 +1,399 @@
+//! The parameters of the hashes of a zone's names (RFC 5155, section 4).
+ghost use Rattle.std.specs.Prelude.{◌≡◌, ◌↔◌, [], Some, IsTrue, IfOk, IfErr, OnErr, length, refl, bytes_eq};
+ghost use Rattle.std.specs.List.{flat_map};
+ghost use Rattle.std.specs.Ordering.{on, nat_cmp};
+ghost use Rattle.std.specs.Cmp.{partial_equiv_from_equiv, po};
+ghost use Rattle.std.specs.Cmp.Lexicographic.{slice_cmp, on_texts, on_texts_equal};
+ghost use Rattle.std.specs.Hash as fed;
+ghost use Rattle.domain_octets.specs.Limit.{IsOver};
+ghost use Rattle.domain_base.specs.Fault.{fault_of};
+ghost use Rattle.domain_base.specs.Types as rtypes;
+ghost use Rattle.domain_fields.specs.Layout.{Begins, Fits, FirstFault, GoesOn};
+ghost use Rattle.domain_fields.specs.Laws.{fed_alike, tied_octets};
+ghost use Rattle.domain_fields.specs.DataClone.{copies_tied};
+ghost use Rattle.domain_chain_rdata.specs.OptOut.{is_opt_out, with_opt_out};
+ghost use Rattle.domain_chain_rdata.specs.Rdata.{hash_numbers, nsec3param, nsec3param_values, nsec3param_octets, uncounted, uncounted_octets};
+
+use domain_base::{CanonicalOrd, Nsec3HashAlgorithm, Rtype};
+use domain_bitmap::Nsec3Salt;
+use domain_fields::{Counted, Fields, MAX_RDLEN, ReadFields, Rest};
+use domain_octets::{
+    AppendError, CopyOctets, EmptyOctets, Octets, OctetsBuilder, OctetsFrom, OutOfMemory,
+    ParseError, Parser, TryClone,
+};
+use domain_plain::{CloneRecordData, ComposeRecordData, ParseRecordData, RecordData};
+use std::alloc::Global;
+use std::cmp::Ordering;
+use std::hash::{Hash, Hasher};
+
+/// The bit of the flags that says that unsigned delegations may be left out of the chain (RFC 5155,
+/// section 3.1.2.1).
+const OPT_OUT: u8 = 0x01;
+
+/// How the names of a zone are hashed (RFC 5155, section 4).
+#[derive(Drop)]
+pub struct Nsec3param<O: Octets> {
+    hash_algorithm: Nsec3HashAlgorithm,
+    flags: u8,
+    iterations: u16,
+    salt: Nsec3Salt<O>,
+}
+
+/// Hash algorithm, flags and iterations.
+pub type HashNumbers = (u8, (u8, u16));
+
+/// Those, and the salt.
+pub type ParamFields<'a> = (HashNumbers, Counted<'a>);
+
+/// Whether the flags have the bit of opt-out.
+pub fn has_opt_out(flags: u8) -> bool
+    ensures { result ≡ is_opt_out flags }
+{
+    flags & OPT_OUT != 0
+}
+
+impl<O: Octets> Nsec3param<O> {
+    /// The data of these fields. Takes no memory.
+    pub fn new(
+        hash_algorithm: Nsec3HashAlgorithm,
+        flags: u8,
+        iterations: u16,
+        salt: Nsec3Salt<O>,
+    ) -> Self
+        ensures { result ≡ record {
+          hash_algorithm = hash_algorithm;
+          flags = flags;
+          iterations = iterations;
+          salt = salt;
+        } }
+    {
+        Nsec3param {
+            hash_algorithm,
+            flags,
+            iterations,
+            salt,
+        }
+    }
+
+    /// SHA-1, no flags, no extra iterations and no salt, as RFC 9276, section 3.1, asks of zones.
+    /// Takes no memory.
+    pub fn default(alloc: Global) -> Self
+    where
+        O: EmptyOctets,
+        ensures { result ≡ record { hash_algorithm = 1; flags = 0; iterations = 0; salt = [] } }
+    {
+        Nsec3param::new(Nsec3HashAlgorithm::SHA1, 0, 0, Nsec3Salt::empty(alloc))
+    }
+
+    /// A copy. Uses the allocator of the salt's octets.
+    pub fn clone(&self) -> Result<Self, OutOfMemory>
+        ensures { IfOk result (λ copy. copy ≡ self.now) }
+    {
+        let salt = self.salt.clone()?;
+        Ok(Nsec3param::new(self.hash_algorithm, self.flags, self.iterations, salt))
+    }
+
+    /// The algorithm of the hash (RFC 5155, section 4.1.1).
+    pub fn hash_algorithm(&self) -> Nsec3HashAlgorithm
+        ensures { result ≡ self.now.hash_algorithm }
+    {
+        self.hash_algorithm
+    }
+
+    /// The flags (RFC 5155, section 4.1.2).
+    pub fn flags(&self) -> u8
+        ensures { result ≡ self.now.flags }
+    {
+        self.flags
+    }
+
+    /// Sets the bit of opt-out, 0x01.
+    pub fn set_opt_out_flag(&mut self)
+        ensures { self.new ≡ record self.old { flags = with_opt_out self.old.flags } }
+    {
+        self.flags = self.flags | OPT_OUT;
+    }
+
+    /// Whether the bit of opt-out is set.
+    pub fn opt_out_flag(&self) -> bool
+        ensures { result ≡ is_opt_out self.now.flags }
+    {
+        has_opt_out(self.flags)
+    }
+
+    /// How often the hash is taken again (RFC 5155, section 4.1.3).
+    pub fn iterations(&self) -> u16
+        ensures { result ≡ self.now.iterations }
+    {
+        self.iterations
+    }
+
+    /// What is hashed after a name (RFC 5155, section 4.1.5).
+    pub fn salt(&self) -> &Nsec3Salt<O>
+        ensures { result.now ≡ self.now.salt }
+    {
+        &self.salt
+    }
+
+    /// The salt alone.
+    pub fn into_salt(self) -> Nsec3Salt<O>
+        ensures { result ≡ self.salt }
+    {
+        let Nsec3param {
+            hash_algorithm: _,
+            flags: _,
+            iterations: _,
+            salt,
+        } = self;
+        salt
+    }
+
+    /// Hash algorithm, flags, iterations and salt.
+    pub(crate) fn into_parts(self) -> (Nsec3HashAlgorithm, u8, u16, Nsec3Salt<O>)
+        ensures { result ≡ (self.hash_algorithm, self.flags, self.iterations, self.salt) }
+    {
+        let Nsec3param {
+            hash_algorithm,
+            flags,
+            iterations,
+            salt,
+        } = self;
+        (hash_algorithm, flags, iterations, salt)
+    }
+
+    /// The fields but the salt.
+    pub(crate) fn numbers(&self) -> HashNumbers
+        ensures value { result ≡ (self.now.hash_algorithm, (self.now.flags, self.now.iterations)) }
+        ensures fits { Fits hash_numbers
+            (self.now.hash_algorithm, (self.now.flags, self.now.iterations)) }
+    {
+        (
+            self.hash_algorithm().to_int(),
+            (self.flags(), self.iterations()),
+        )
+    }
+
+    /// The fields, in the order of the wire.
+    pub(crate) fn fields(&self) -> ParamFields<'_>
+        ensures numbers { result.0 ≡ (
+          self.now.hash_algorithm,
+          (self.now.flags, self.now.iterations),
+        ) }
+        ensures salt { result.1.octets.now ≡ self.now.salt }
+        ensures fits { Fits nsec3param (nsec3param_values self.now) }
+    {
+        (self.numbers(), Counted::new(self.salt.as_slice()))
+    }
+
+    /// The numbers, and the octets of the salt.
+    fn uncounted(&self) -> (HashNumbers, Rest<'_>)
+        ensures numbers { result.0 ≡ (
+          self.now.hash_algorithm,
+          (self.now.flags, self.now.iterations),
+        ) }
+        ensures salt { result.1.0.now ≡ self.now.salt }
+        ensures fits { Fits uncounted (nsec3param_values self.now) }
+    {
+        (self.numbers(), Rest(self.salt.as_slice()))
+    }
+}
+
+/// The parameters that were read.
+pub fn params_of<'a>(fields: ParamFields<'a>) -> Nsec3param<&'a [u8]>
+    ensures { nsec3param_values result ≡ (fields.entry.0, fields.entry.1.octets.now) }
+{
+    let ((hash_algorithm, (flags, iterations)), salt) = fields;
+    Nsec3param {
+        hash_algorithm: Nsec3HashAlgorithm::from_int(hash_algorithm),
+        flags,
+        iterations,
+        salt: Nsec3Salt::from_octets_unchecked(salt.as_slice()),
+    }
+}
+
+impl<'a> Nsec3param<&'a [u8]> {
+    /// The data that the octets begin with (RFC 5155, section 4.2); what follows is left. Takes no
+    /// memory.
+    ///
+    /// # Errors
+    ///
+    /// `ShortInput` where an octet is missing. The parser then stands where it stood.
+    pub fn parse(parser: &mut Parser<'a>) -> Result<Self, ParseError>
+        ensures ok { IfOk result (λ d.
+            Begins nsec3param parser.old.left (nsec3param_values d) parser.new.left) }
+        ensures err { IfErr result (λ e. FirstFault nsec3param parser.old.left (fault_of e)) }
+        ensures unmoved { OnErr result (parser.new ≡ parser.old) }
+        ensures goes_on { GoesOn parser.old parser.new }
+    {
+        match ParamFields::<'a>::read(parser) {
+            Ok(fields) => Ok(params_of(fields)),
+            Err(fault) => Err(ParseError::from(fault)),
+        }
+    }
+}
+
+impl<'a> ParseRecordData<'a> for Nsec3param<&'a [u8]> {
+    ghost is_read = { λ rtype. rtype ≡ rtypes.nsec3param };
+
+    ghost begins = { λ octets d after. Begins nsec3param octets (nsec3param_values d) after };
+
+    ghost faults = { FirstFault nsec3param };
+
+    fn parse_rdata(rtype: Rtype, parser: &mut Parser<'a>) -> Result<Option<Self>, ParseError> {
+        if rtype != Rtype::NSEC3PARAM {
+            return Ok(None);
+        }
+        match Self::parse(parser) {
+            Ok(data) => Ok(Some(data)),
+            Err(error) => Err(error),
+        }
+    }
+}
+
+impl<O: Octets> RecordData for Nsec3param<O> {
+    ghost rtype = { λ _. rtypes.nsec3param };
+
+    fn rtype(&self) -> Rtype {
+        Rtype::NSEC3PARAM
+    }
+}
+
+impl<O: Octets> ComposeRecordData for Nsec3param<O> {
+    ghost octets = { nsec3param_octets };
+
+    ghost canonical = { nsec3param_octets };
+
+    fn fits_rdlen(&self) -> bool {
+        self.fields().room_after(MAX_RDLEN).is_some()
+    }
+
+    fn rdlen(&self, _compress: bool) -> Option<u16> {
+        Some(self.fields().count())
+    }
+
+    fn compose_rdata<B: OctetsBuilder>(&self, target: &mut B) -> Result<(), AppendError> {
+        self.fields().put(target)
+    }
+
+    fn compose_canonical_rdata<B: OctetsBuilder>(&self, target: &mut B) -> Result<(), AppendError> {
+        self.fields().put_canonical(target)
+    }
+
+    fn canonical_cmp_octets(&self, other: &[u8]) -> Ordering {
+        domain_fields::canonical_cmp_octets(&self.fields(), other)
+    }
+}
+
+impl<O: Octets> Nsec3param<O> {
+    /// Whether parameters over other octets are the same. Takes no memory.
+    pub fn eq_to<P: Octets>(&self, other: &Nsec3param<P>) -> bool
+        ensures value { result ≡ bytes_eq (uncounted_octets self.now) (uncounted_octets other.now) }
+        ensures same { IsTrue result ↔ (nsec3param_values self.now ≡ nsec3param_values other.now) }
+    {
+        self.uncounted().order(&other.uncounted()).is_eq()
+    }
+
+    /// The order by hash algorithm, flags, iterations and salt, salts in lexicographic order, also
+    /// of parameters over other octets. Takes no memory.
+    pub fn cmp_to<P: Octets>(&self, other: &Nsec3param<P>) -> Ordering
+        ensures { result ≡ slice_cmp nat_cmp (uncounted_octets self.now)
+            (uncounted_octets other.now) }
+    {
+        let (mine, theirs) = (self.uncounted(), other.uncounted());
+        mine.order(&theirs)
+    }
+
+    /// The canonical order, in which shorter salts come first, also of parameters over other
+    /// octets. Takes no memory.
+    pub fn canonical_cmp_to<P: Octets>(&self, other: &Nsec3param<P>) -> Ordering
+        ensures { result ≡ slice_cmp nat_cmp (nsec3param_octets self.now)
+            (nsec3param_octets other.now) }
+    {
+        self.fields().order(&other.fields())
+    }
+}
+
+impl<O: Octets> CanonicalOrd for Nsec3param<O> {
+    ghost canonical_cmp = { on nsec3param_octets (slice_cmp nat_cmp) };
+
+    ghost total = { on_texts nsec3param_octets };
+
+    fn canonical_cmp(&self, other: &Self) -> Ordering {
+        self.canonical_cmp_to(other)
+    }
+}
+
+impl<O: Octets> PartialEq for Nsec3param<O> {
+    ghost eq = { on uncounted_octets bytes_eq };
+
+    ghost laws = { partial_equiv_from_equiv (on_texts_equal uncounted_octets) };
+
+    fn eq(&self, other: &Self) -> bool {
+        self.eq_to(other)
+    }
+}
+
+impl<O: Octets> Eq for Nsec3param<O> {
+    ghost laws = { on_texts_equal uncounted_octets };
+}
+
+impl<O: Octets> PartialOrd for Nsec3param<O> {
+    ghost partial_cmp = { λ a b. Some (on uncounted_octets (slice_cmp nat_cmp) a b) };
+
+    ghost laws = { po (on_texts uncounted_octets) (tied_octets uncounted_octets) };
+
+    fn partial_cmp(&self, other: &Self) -> Option<Ordering> {
+        Some(self.cmp_to(other))
+    }
+}
+
+impl<O: Octets> Ord for Nsec3param<O> {
+    ghost cmp = { on uncounted_octets (slice_cmp nat_cmp) };
+
+    ghost total = { on_texts uncounted_octets };
+
+    ghost matches_partial_cmp = { λ a b. refl };
+
+    ghost matches_eq = { tied_octets uncounted_octets };
+
+    fn cmp(&self, other: &Self) -> Ordering {
+        self.cmp_to(other)
+    }
+}
+
+/// The numbers and the octets of the salt.
+impl<O: Octets> Hash for Nsec3param<O> {
+    ghost hash_input = { λ d. flat_map fed.u8 (uncounted_octets d) };
+
+    ghost respects_eq = { (fed_alike uncounted_octets).fed };
+
+    fn hash<H: Hasher>(&self, state: &mut H) {
+        self.uncounted().feed(state);
+    }
+}
+
+impl<O: Octets> TryClone for Nsec3param<O> {
+    ghost is_clone = { λ d copy. copy ≡ d };
+
+    fn try_clone(&self) -> Result<Self, OutOfMemory> {
+        self.clone()
+    }
+}
+
+impl<O: Octets> CloneRecordData for Nsec3param<O> {
+    ghost clone_rtype = { λ d copy same. refl };
+
+    ghost clone_canonical = { copies_tied nsec3param_octets };
+}
+
+impl<S: Octets + Drop, O: CopyOctets> OctetsFrom<Nsec3param<S>> for Nsec3param<O> {
+    ghost is_same = { λ source made. nsec3param_values made ≡ nsec3param_values source };
+
+    ghost has_no_room = { λ source. IsOver O.capacity (length source.salt) };
+
+    fn try_octets_from(alloc: Global, source: Nsec3param<S>) -> Result<Self, AppendError> {
+        let (hash_algorithm, flags, iterations, salt) = source.into_parts();
+        let salt = Nsec3Salt::try_octets_from(alloc, salt)?;
+        Ok(Nsec3param::new(hash_algorithm, flags, iterations, salt))
+    }
+}

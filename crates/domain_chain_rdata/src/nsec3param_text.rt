@@ -1,0 +1,122 @@
+//! The parameters of the hashes of names as text (RFC 5155, section 4.3).
+ghost use Rattle.std.specs.Prelude.{◌≡◌, ◌++◌, Some, IfOk, IfErr, OnOk};
+ghost use Rattle.domain_base.specs.Scan.{scan_fault_of};
+ghost use Rattle.domain_fields.specs.Layout.{Fits};
+ghost use Rattle.domain_fields.specs.Scan.{Scans, Refuses};
+ghost use Rattle.domain_chain_rdata.specs.Rdata.{hash_numbers, nsec3param, nsec3param_values};
+ghost use Rattle.domain_chain_rdata.specs.Nsec3paramText.{Nsec3paramText, RefusesNsec3param, hash_numbers_text, nsec3param_text, number_pieces, nsec3param_pieces};
+
+use crate::Nsec3param;
+use crate::nsec3param::HashNumbers;
+use domain_base::{Nsec3HashAlgorithm, ScanError, Scanner};
+use domain_bitmap::Nsec3Salt;
+use domain_fields::ScanFields;
+use domain_octets::{Formatter, FromBuilder, Octets, OutOfMemory, ZonefileFmt};
+use std::alloc::Global;
+use std::fmt;
+
+/// Hash algorithm, flags and iterations, one token each.
+fn scan_numbers<S: Scanner>(alloc: Global, scanner: &mut S) -> Result<HashNumbers, ScanError>
+    ensures ok { IfOk result (λ v.
+        Scans hash_numbers (S.tokens scanner.old) v (S.tokens scanner.new)) }
+    ensures err { IfErr result (λ e.
+        Refuses S.Octets.Builder.limit hash_numbers (S.tokens scanner.old) (S.tokens scanner.new)
+        (scan_fault_of e)) }
+{
+    <HashNumbers as ScanFields<S>>::scan(alloc, scanner)
+}
+
+impl<O: FromBuilder + Drop> Nsec3param<O> {
+    /// The data that the tokens begin with: hash algorithm, flags and iterations in decimal, and
+    /// the salt in Base 16 or as a dash.
+    ///
+    /// # Errors
+    ///
+    /// That of the first field that is refused. The tokens left are then an end of those before.
+    pub fn scan<S: Scanner<Octets = O>>(alloc: Global, scanner: &mut S) -> Result<Self, ScanError>
+        ensures ok { IfOk result (λ d.
+            Nsec3paramText (S.tokens scanner.old) (nsec3param_values d) (S.tokens scanner.new)) }
+        ensures fits { IfOk result (λ d. Fits nsec3param (nsec3param_values d)) }
+        ensures err { IfErr result (λ e.
+            RefusesNsec3param O.Builder.limit (S.tokens scanner.old) (S.tokens scanner.new)
+            (scan_fault_of e)) }
+    {
+        let (hash_algorithm, (flags, iterations)) = match scan_numbers(alloc, scanner) {
+            Ok(numbers) => numbers,
+            Err(error) => return Err(error),
+        };
+        let hash_algorithm = Nsec3HashAlgorithm::from_int(hash_algorithm);
+        match Nsec3Salt::scan(alloc, scanner) {
+            Ok(salt) => {
+                let data = Nsec3param::new(hash_algorithm, flags, iterations, salt);
+                let _fields = data.fields();
+                Ok(data)
+            }
+            Err(error) => Err(error),
+        }
+    }
+}
+
+/// Hash algorithm, flags and iterations, as they are written: with single spaces.
+#[derive(Drop)]
+pub struct Spaced(pub HashNumbers);
+
+impl fmt::Display for Spaced {
+    ghost output = { λ n. Some (hash_numbers_text n.0) };
+
+    #[tactic(auto, unfolding(crate::specs::Nsec3paramText::hash_numbers_text))]
+    fn fmt<W: fmt::Write>(&self, f: &mut fmt::Formatter<W>) -> fmt::Result {
+        let (hash_algorithm, (flags, iterations)) = self.0;
+        write!(f, "{hash_algorithm} {flags} {iterations}")
+    }
+}
+
+/// Hash algorithm, flags, iterations and salt, with single spaces.
+impl<O: Octets> fmt::Display for Nsec3param<O> {
+    ghost output = { λ d. Some (nsec3param_text (nsec3param_values d)) };
+
+    fn fmt<W: fmt::Write>(&self, f: &mut fmt::Formatter<W>) -> fmt::Result {
+        let (numbers, salt) = (Spaced(self.numbers()), self.salt());
+        write!(f, "{numbers} {salt}")
+    }
+}
+
+impl<O: Octets> fmt::Debug for Nsec3param<O> {
+    fn fmt<W: fmt::Write>(&self, f: &mut fmt::Formatter<W>) -> fmt::Result {
+        f.debug_struct("Nsec3param")
+            .field("hash_algorithm", &self.hash_algorithm())
+            .field("flags", &self.flags())
+            .field("iterations", &self.iterations())
+            .field("salt", self.salt())
+            .finish()
+    }
+}
+
+/// The pieces of the numbers, where this is the comment on the flags.
+pub fn write_numbers<F: Formatter>(
+    numbers: HashNumbers,
+    flags_comment: &str,
+    formatter: &mut F,
+) -> Result<(), OutOfMemory>
+    ensures { OnOk result (F.pieces formatter.new ≡ F.pieces formatter.old
+        ++ number_pieces flags_comment.now numbers) }
+{
+    let (hash_algorithm, (flags, iterations)) = numbers;
+    formatter.write_token(&hash_algorithm)?;
+    formatter.write_token(&flags)?;
+    formatter.write_comment(&flags_comment)?;
+    formatter.write_token(&iterations)?;
+    formatter.write_comment(&"iterations")
+}
+
+/// The fields, with comments on the flags, the iterations and the salt.
+impl<O: Octets> ZonefileFmt for Nsec3param<O> {
+    ghost pieces = { λ d. nsec3param_pieces (nsec3param_values d) };
+
+    fn fmt<F: Formatter>(&self, formatter: &mut F) -> Result<(), OutOfMemory> {
+        formatter.begin_block()?;
+        write_numbers(self.numbers(), "flags", formatter)?;
+        self.salt().fmt(formatter)?;
+        formatter.end_block()
+    }
+}

@@ -1,0 +1,5 @@
+pub mod PieceLemmas
+pub mod RefusalLemmas
+pub mod RrsigLemmas
+pub mod ScanLemmas
+pub mod TimeLemmas

@@ -1,0 +1,4 @@
+pub mod Data
+pub mod Time
+pub mod Scan
+pub mod Pieces

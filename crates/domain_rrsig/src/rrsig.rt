@@ -1,0 +1,476 @@
+//! Signatures (RFC 4034, section 3).
+ghost use Rattle.std.specs.Prelude.{◌≡◌, ◌≤◌, ◌↔◌, Some, IsTrue, IsOk, IfOk, IfErr, OnErr, length, refl, bytes_eq};
+ghost use Rattle.std.specs.List.{flat_map};
+ghost use Rattle.std.specs.Ordering.{on, nat_cmp};
+ghost use Rattle.std.specs.Cmp.{partial_equiv_from_equiv, po};
+ghost use Rattle.std.specs.Cmp.Lexicographic.{slice_cmp, on_texts, on_texts_equal};
+ghost use Rattle.std.specs.Hash as fed;
+ghost use Rattle.domain_base.specs.Fault.{fault_of};
+ghost use Rattle.domain_base.specs.Types as rtypes;
+ghost use Rattle.domain_fields.specs.Layout.{Begins, Fits, FirstFault, GoesOn, octets_of};
+ghost use Rattle.domain_fields.specs.Laws.{fed_alike, tied_octets};
+ghost use Rattle.domain_rrsig.specs.Data.{rrsig, rrsig_values, rrsig_octets, rrsig_canonical, rrsig_data, proto_rrsig_data, IsSameRrsig};
+ghost use Rattle.domain_fields.specs.DataClone.{copies_tied};
+
+use crate::proto_rrsig::ProtoFields;
+use crate::{ProtoRrsig, Timestamp};
+use domain_base::{CanonicalOrd, ParsedName, Rtype, SecurityAlgorithm, ToName, Ttl};
+use domain_fields::{AtMost, Fields, MAX_RDLEN, ReadFields, Rest};
+use domain_octets::{
+    AppendError, Octets, OctetsBuilder, OutOfMemory, ParseError, Parser, TryClone,
+};
+use domain_plain::{
+    CloneRecordData, ComposeRecordData, LongRecordData, ParseRecordData, RecordData,
+};
+use std::cmp::Ordering;
+use std::hash::{Hash, Hasher};
+use std::marker::Model;
+
+/// A signature of the records of one owner, class and type (RFC 4034, section 3), as data of at
+/// most 65,535 octets.
+#[derive(Drop)]
+pub struct Rrsig<O: Octets, N: ToName> {
+    fields: ProtoRrsig<N>,
+    signature: O,
+}
+
+impl<O: Octets, N: ToName> Model for Rrsig<O, N> {
+    ghost use Rattle.std.specs.Prelude.{◌≤◌, length};
+    ghost use Rattle.domain_rrsig.specs.Data.{RrsigData, rrsig_data, rrsig_octets};
+
+    ghost Value = { RrsigData };
+
+    ghost view = { λ d. rrsig_data d.fields (O.octets d.signature) };
+
+    ghost invariant = { λ d. length (rrsig_octets (rrsig_data d.fields (O.octets d.signature)))
+        ≤ 65535 };
+}
+
+/// At most 65,535 octets: the fields but the signature, and all octets that are left.
+type RrsigFields<'a> = (AtMost<MAX_RDLEN>, (ProtoFields<'a>, Rest<'a>));
+
+/// Whether fields and a signature have at most 65,535 octets.
+fn fits<O: Octets, N: ToName>(fields: &ProtoRrsig<N>, signature: &O) -> bool
+    ensures { IsTrue result ↔ (length
+        (rrsig_octets (rrsig_data fields.now (O.octets signature.now))) ≤ 65535) }
+{
+    let data: RrsigFields<'_> = (AtMost, (fields.fields(), Rest(signature.as_slice())));
+    data.room_after(MAX_RDLEN).is_some()
+}
+
+impl<O: Octets, N: ToName> Rrsig<O, N> {
+    /// The data of these fields, in the order of the wire (RFC 4034, section 3.1). Takes no memory.
+    ///
+    /// # Errors
+    ///
+    /// `LongRecordData` exactly where the data would have over 65,535 octets.
+    pub fn new(
+        type_covered: Rtype,
+        algorithm: SecurityAlgorithm,
+        labels: u8,
+        original_ttl: Ttl,
+        expiration: Timestamp,
+        inception: Timestamp,
+        key_tag: u16,
+        signer_name: N,
+        signature: O,
+    ) -> Result<Self, LongRecordData>
+    where
+        O: Drop,
+        N: Drop,
+        ensures ok { let d = proto_rrsig_data type_covered algorithm labels original_ttl expiration
+            inception key_tag (N.labels signer_name) in
+            IsOk result ↔ (length (rrsig_octets (rrsig_data d (O.octets signature))) ≤ 65535) }
+        ensures fields { let d = proto_rrsig_data type_covered algorithm labels original_ttl
+            expiration inception key_tag (N.labels signer_name) in
+            IfOk result (λ made. made ≡ rrsig_data d (O.octets signature)) }
+    {
+        let fields = ProtoRrsig::new(
+            type_covered,
+            algorithm,
+            labels,
+            original_ttl,
+            expiration,
+            inception,
+            key_tag,
+            signer_name,
+        );
+        fields.into_rrsig(signature)
+    }
+
+    /// The data of these fields, which have at most 65,535 octets. Takes no memory.
+    pub fn new_unchecked(
+        type_covered: Rtype,
+        algorithm: SecurityAlgorithm,
+        labels: u8,
+        original_ttl: Ttl,
+        expiration: Timestamp,
+        inception: Timestamp,
+        key_tag: u16,
+        signer_name: N,
+        signature: O,
+    ) -> Self
+        requires { let d = proto_rrsig_data type_covered algorithm labels original_ttl expiration
+            inception key_tag (N.labels signer_name) in
+            length (rrsig_octets (rrsig_data d (O.octets signature))) ≤ 65535 }
+        ensures { let d = proto_rrsig_data type_covered algorithm labels original_ttl expiration
+            inception key_tag (N.labels signer_name) in
+            result ≡ rrsig_data d (O.octets signature) }
+    {
+        let fields = ProtoRrsig::new(
+            type_covered,
+            algorithm,
+            labels,
+            original_ttl,
+            expiration,
+            inception,
+            key_tag,
+            signer_name,
+        );
+        Rrsig::of_parts(fields, signature)
+    }
+
+    /// Fields with a signature.
+    pub(crate) fn of_fields(fields: ProtoRrsig<N>, signature: O) -> Result<Self, LongRecordData>
+    where
+        O: Drop,
+        N: Drop,
+        ensures ok { IsOk result ↔ (length (rrsig_octets (rrsig_data fields (O.octets signature)))
+            ≤ 65535) }
+        ensures fields { IfOk result (λ d. d ≡ rrsig_data fields (O.octets signature)) }
+    {
+        if !fits(&fields, &signature) {
+            return Err(LongRecordData);
+        }
+        Ok(Rrsig { fields, signature })
+    }
+
+    /// The type of the records that are signed (RFC 4034, section 3.1.1).
+    pub fn type_covered(&self) -> Rtype
+        ensures { result ≡ self.now.fields.type_covered }
+    {
+        self.fields.type_covered()
+    }
+
+    /// The algorithm of the key (RFC 4034, section 3.1.2).
+    pub fn algorithm(&self) -> SecurityAlgorithm
+        ensures { result ≡ self.now.fields.algorithm }
+    {
+        self.fields.algorithm()
+    }
+
+    /// How many labels the owner of the records has, without a leading asterisk and the root
+    /// (RFC 4034, section 3.1.3).
+    pub fn labels(&self) -> u8
+        ensures { result ≡ self.now.fields.labels }
+    {
+        self.fields.labels()
+    }
+
+    /// The TTL of the records in their zone (RFC 4034, section 3.1.4).
+    pub fn original_ttl(&self) -> Ttl
+        ensures { result ≡ self.now.fields.original_ttl }
+    {
+        self.fields.original_ttl()
+    }
+
+    /// When the signature ends to hold (RFC 4034, section 3.1.5).
+    pub fn expiration(&self) -> Timestamp
+        ensures { result ≡ self.now.fields.expiration }
+    {
+        self.fields.expiration()
+    }
+
+    /// When the signature begins to hold (RFC 4034, section 3.1.5).
+    pub fn inception(&self) -> Timestamp
+        ensures { result ≡ self.now.fields.inception }
+    {
+        self.fields.inception()
+    }
+
+    /// The tag of the key (RFC 4034, section 3.1.6).
+    pub fn key_tag(&self) -> u16
+        ensures { result ≡ self.now.fields.key_tag }
+    {
+        self.fields.key_tag()
+    }
+
+    /// The owner of the key, as it is spelled (RFC 4034, section 3.1.7).
+    pub fn signer_name(&self) -> &N
+        ensures { N.labels result.now ≡ self.now.fields.signer_name }
+    {
+        self.fields.signer_name()
+    }
+
+    /// The signature (RFC 4034, section 3.1.8).
+    pub fn signature(&self) -> &O
+        ensures { O.octets result.now ≡ self.now.signature }
+    {
+        &self.signature
+    }
+
+    /// Whether the data with this signature in place of its own have at most 65,535 octets.
+    pub fn fits_signature(&self, signature: &O) -> bool
+        ensures { IsTrue result ↔ (length
+            (rrsig_octets (rrsig_data self.now.fields (O.octets signature.now))) ≤ 65535) }
+    {
+        fits(&self.fields, signature)
+    }
+
+    /// Replaces the signature by one with which the data have at most 65,535 octets.
+    pub fn set_signature(&mut self, signature: O)
+    where
+        O: Drop,
+        requires { length (rrsig_octets (rrsig_data self.old.fields (O.octets signature))) ≤ 65535 }
+        ensures { self.new ≡ rrsig_data self.old.fields (O.octets signature) }
+    {
+        self.signature = signature;
+    }
+
+    /// The fields but the signature, and the signature.
+    pub(crate) fn into_parts(self) -> (ProtoRrsig<N>, O)
+        ensures parts { (result.0 ≡ self.fields) × (O.octets result.1 ≡ self.signature) }
+        ensures limit { length (rrsig_octets self) ≤ 65535 }
+    {
+        let Rrsig { fields, signature } = self;
+        (fields, signature)
+    }
+
+    /// Fields with a signature, which have at most 65,535 octets.
+    pub(crate) fn of_parts(fields: ProtoRrsig<N>, signature: O) -> Self
+        requires { length (rrsig_octets (rrsig_data fields (O.octets signature))) ≤ 65535 }
+        ensures { result ≡ rrsig_data fields (O.octets signature) }
+    {
+        Rrsig { fields, signature }
+    }
+
+    /// The fields but the signature.
+    pub(crate) fn proto(&self) -> &ProtoRrsig<N>
+        ensures { result.now ≡ self.now.fields }
+    {
+        &self.fields
+    }
+
+    /// The fields, in the order of the wire.
+    pub(crate) fn fields(&self) -> RrsigFields<'_>
+        ensures head { result.1.0.0 ≡ (
+          self.now.fields.type_covered,
+          (self.now.fields.algorithm, self.now.fields.labels),
+        ) }
+        ensures times { result.1.0.1.0
+            ≡ (
+              self.now.fields.original_ttl,
+              (self.now.fields.expiration, self.now.fields.inception),
+            ) }
+        ensures signer { (result.1.0.1.1.0 ≡ self.now.fields.key_tag)
+            × (result.1.0.1.1.1 ≡ self.now.fields.signer_name) }
+        ensures signature { result.1.1.0.now ≡ self.now.signature }
+        ensures fits { Fits rrsig (rrsig_values self.now) }
+        ensures limit { length (rrsig_octets self.now) ≤ 65535 }
+    {
+        (
+            AtMost,
+            (self.fields.fields(), Rest(self.signature.as_slice())),
+        )
+    }
+}
+
+impl<'a> Rrsig<&'a [u8], ParsedName<'a>> {
+    /// Fields that were read.
+    fn of_parsed(fields: RrsigFields<'a>) -> Self
+        requires { length (octets_of rrsig (tt, (fields.1.0, fields.1.1.0.now))) ≤ 65535 }
+        ensures { rrsig_values result ≡ (tt, (fields.entry.1.0, fields.entry.1.1.0.now)) }
+    {
+        let (AtMost, (fields, Rest(signature))) = fields;
+        Rrsig {
+            fields: ProtoRrsig::of_parsed(fields),
+            signature,
+        }
+    }
+
+    /// All octets that are left, as data. Takes no memory.
+    ///
+    /// # Errors
+    ///
+    /// `Form("record data too long")` for over 65,535 octets, then the first fault in field order:
+    /// a missing octet of a number is `ShortInput`; of the name, at the first label that is at
+    /// fault, a missing octet is `ShortInput`, a length over 63 or a pointer
+    /// `Form("compressed or bad label")`, a name over 255 octets `Form("long domain name")`. The
+    /// parser then stands where it stood.
+    pub fn parse(parser: &mut Parser<'a>) -> Result<Self, ParseError>
+        ensures ok { IfOk result (λ d.
+            Begins rrsig parser.old.left (rrsig_values d) parser.new.left) }
+        ensures err { IfErr result (λ e. FirstFault rrsig parser.old.left (fault_of e)) }
+        ensures unmoved { OnErr result (parser.new ≡ parser.old) }
+        ensures goes_on { GoesOn parser.old parser.new }
+    {
+        match RrsigFields::<'a>::read(parser) {
+            Ok(fields) => Ok(Self::of_parsed(fields)),
+            Err(fault) => Err(ParseError::from(fault)),
+        }
+    }
+}
+
+impl<'a> ParseRecordData<'a> for Rrsig<&'a [u8], ParsedName<'a>> {
+    ghost is_read = { λ rtype. rtype ≡ rtypes.rrsig };
+
+    ghost begins = { λ octets d after. Begins rrsig octets (rrsig_values d) after };
+
+    ghost faults = { FirstFault rrsig };
+
+    fn parse_rdata(rtype: Rtype, parser: &mut Parser<'a>) -> Result<Option<Self>, ParseError> {
+        if rtype != Rtype::RRSIG {
+            return Ok(None);
+        }
+        match Self::parse(parser) {
+            Ok(data) => Ok(Some(data)),
+            Err(error) => Err(error),
+        }
+    }
+}
+
+impl<O: Octets, N: ToName> RecordData for Rrsig<O, N> {
+    ghost rtype = { λ _. rtypes.rrsig };
+
+    fn rtype(&self) -> Rtype {
+        Rtype::RRSIG
+    }
+}
+
+impl<O: Octets, N: ToName> ComposeRecordData for Rrsig<O, N> {
+    ghost octets = { rrsig_octets };
+
+    ghost canonical = { rrsig_canonical };
+
+    fn fits_rdlen(&self) -> bool {
+        self.fields().room_after(MAX_RDLEN).is_some()
+    }
+
+    fn rdlen(&self, _compress: bool) -> Option<u16> {
+        Some(self.fields().count())
+    }
+
+    fn compose_rdata<B: OctetsBuilder>(&self, target: &mut B) -> Result<(), AppendError> {
+        self.fields().put(target)
+    }
+
+    fn compose_canonical_rdata<B: OctetsBuilder>(&self, target: &mut B) -> Result<(), AppendError> {
+        self.fields().put_canonical(target)
+    }
+
+    fn canonical_cmp_octets(&self, other: &[u8]) -> Ordering {
+        domain_fields::canonical_cmp_octets(&self.fields(), other)
+    }
+}
+
+impl<O: Octets, N: ToName> Rrsig<O, N> {
+    /// Whether a signature over other octets and names is the same. The case of the signer's name
+    /// is passed over.
+    pub fn eq_to<P: Octets, M: ToName>(&self, other: &Rrsig<P, M>) -> bool
+        ensures value { result ≡ bytes_eq (rrsig_canonical self.now) (rrsig_canonical other.now) }
+        ensures same { IsTrue result ↔ IsSameRrsig self.now other.now }
+    {
+        self.fields().order(&other.fields()).is_eq()
+    }
+
+    /// The order to a signature over other octets and names: by the fields in the order of the
+    /// wire, times as plain numbers, the signer's name by its lowered octets. This is the order of
+    /// the canonical octets.
+    pub fn cmp_to<P: Octets, M: ToName>(&self, other: &Rrsig<P, M>) -> Ordering
+        ensures { result ≡ slice_cmp nat_cmp (rrsig_canonical self.now)
+            (rrsig_canonical other.now) }
+    {
+        self.fields().order(&other.fields())
+    }
+
+    /// The canonical order to a signature over other octets and names, which is `cmp_to`.
+    pub fn canonical_cmp_to<P: Octets, M: ToName>(&self, other: &Rrsig<P, M>) -> Ordering
+        ensures { result ≡ slice_cmp nat_cmp (rrsig_canonical self.now)
+            (rrsig_canonical other.now) }
+    {
+        self.cmp_to(other)
+    }
+}
+
+impl<O: Octets, N: ToName> CanonicalOrd for Rrsig<O, N> {
+    ghost canonical_cmp = { on rrsig_canonical (slice_cmp nat_cmp) };
+
+    ghost total = { on_texts rrsig_canonical };
+
+    fn canonical_cmp(&self, other: &Self) -> Ordering {
+        self.cmp_to(other)
+    }
+}
+
+impl<O: Octets, N: ToName> PartialEq for Rrsig<O, N> {
+    ghost eq = { on rrsig_canonical bytes_eq };
+
+    ghost laws = { partial_equiv_from_equiv (on_texts_equal rrsig_canonical) };
+
+    fn eq(&self, other: &Self) -> bool {
+        self.eq_to(other)
+    }
+}
+
+impl<O: Octets, N: ToName> Eq for Rrsig<O, N> {
+    ghost laws = { on_texts_equal rrsig_canonical };
+}
+
+impl<O: Octets, N: ToName> PartialOrd for Rrsig<O, N> {
+    ghost partial_cmp = { λ a b. Some (on rrsig_canonical (slice_cmp nat_cmp) a b) };
+
+    ghost laws = { po (on_texts rrsig_canonical) (tied_octets rrsig_canonical) };
+
+    fn partial_cmp(&self, other: &Self) -> Option<Ordering> {
+        Some(self.cmp_to(other))
+    }
+}
+
+impl<O: Octets, N: ToName> Ord for Rrsig<O, N> {
+    ghost cmp = { on rrsig_canonical (slice_cmp nat_cmp) };
+
+    ghost total = { on_texts rrsig_canonical };
+
+    ghost matches_partial_cmp = { λ a b. refl };
+
+    ghost matches_eq = { tied_octets rrsig_canonical };
+
+    fn cmp(&self, other: &Self) -> Ordering {
+        self.cmp_to(other)
+    }
+}
+
+impl<O: Octets, N: ToName> Hash for Rrsig<O, N> {
+    ghost hash_input = { λ d. flat_map fed.u8 (rrsig_canonical d) };
+
+    ghost respects_eq = { (fed_alike rrsig_canonical).fed };
+
+    fn hash<H: Hasher>(&self, state: &mut H) {
+        self.fields().feed(state);
+    }
+}
+
+impl<O: Octets + Drop, N: ToName + Drop> Rrsig<O, N> {
+    /// A copy. Uses the allocators of the name and of the signature.
+    pub fn clone(&self) -> Result<Self, OutOfMemory>
+        ensures { IfOk result (λ copy. copy ≡ self.now) }
+    {
+        let fields = self.fields.clone()?;
+        let signature = self.signature.try_clone()?;
+        Ok(Rrsig { fields, signature })
+    }
+}
+
+impl<O: Octets + Drop, N: ToName + Drop> TryClone for Rrsig<O, N> {
+    ghost is_clone = { λ d copy. copy ≡ d };
+
+    fn try_clone(&self) -> Result<Self, OutOfMemory> {
+        self.clone()
+    }
+}
+
+impl<O: Octets + Drop, N: ToName + Drop> CloneRecordData for Rrsig<O, N> {
+    ghost clone_rtype = { λ d copy same. refl };
+
+    ghost clone_canonical = { copies_tied rrsig_canonical };
+}

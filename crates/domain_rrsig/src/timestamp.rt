@@ -1,0 +1,190 @@
+//! Times of signatures (RFC 4034, section 3.1.5).
+ghost use Rattle.std.specs.Prelude.{◌≡◌, ◌≤◌, ◌<◌, ◌+◌, ◌^◌, ◌++◌, ◌∷◌, [], ◌↔◌, ℕ, length, codes, Some, IfSome, IsNone, IsErr, IfOk, IfErr, OnOk, OnErr, IsErrOf};
+ghost use Rattle.std.specs.Fmt.{decimal};
+ghost use Rattle.std.specs.Int.{w32, to_be_bytes};
+ghost use Rattle.std.specs.Ordering.{nat_cmp};
+ghost use Rattle.std.specs.Cmp.{nat_cmp_total};
+ghost use Rattle.domain_octets.specs.Limit.{IsOver};
+ghost use Rattle.domain_octets.specs.Piece.{token};
+ghost use Rattle.domain_octets.specs.Place.{Takes};
+ghost use Rattle.domain_base.specs.Serial.{serial_cmp};
+ghost use Rattle.domain_rrsig.specs.Time.{IsNear, TimeAt, TimeToken, IsNoTime, ReadsTime};
+
+use domain_base::{CanonicalOrd, FromToken, ParseError, ScanError, Serial};
+use domain_octets::{AppendError, Formatter, OctetsBuilder, OutOfMemory, Parser, ZonefileFmt};
+use std::cmp::Ordering;
+use std::error::Error;
+use std::fmt;
+use std::marker::Model;
+use std::str::FromStr;
+
+/// When a signature begins or ends to hold: seconds since the start of 1970, without leap seconds,
+/// modulo 2^32 (RFC 4034, section 3.1.5).
+///
+/// Which of the times that a stamp stands for is meant depends on when one asks (`to_system_time`).
+/// Stamps are ordered in a circle, as serial numbers are (RFC 1982), so they have no operators of
+/// order.
+#[derive(Clone, Copy, Debug, PartialEq)]
+pub struct Timestamp(Serial);
+
+impl Model for Timestamp {
+    ghost use Rattle.std.specs.Prelude.{ℕ};
+
+    ghost Value = { ℕ };
+
+    ghost view = { λ t. t.0 };
+
+    ghost inverse = { λ n. record { 0 = n } };
+}
+
+/// A text is no time of a signature.
+#[derive(Clone, Copy, Debug)]
+pub struct IllegalSignatureTime;
+
+impl fmt::Display for IllegalSignatureTime {
+    ghost output = { λ _. Some (codes "illegal signature time") };
+
+    fn fmt<W: fmt::Write>(&self, f: &mut fmt::Formatter<W>) -> fmt::Result {
+        f.write_str("illegal signature time")
+    }
+}
+
+impl Error for IllegalSignatureTime {}
+
+impl From<u32> for Timestamp {
+    ghost from_gives = { λ number stamp. stamp ≡ number };
+
+    fn from(number: u32) -> Timestamp {
+        Timestamp(Serial::from(number))
+    }
+}
+
+impl Timestamp {
+    /// How many octets it has on the wire.
+    pub const COMPOSE_LEN: u16 = 4;
+
+    /// The number.
+    pub const fn into_int(self) -> u32
+        ensures { result ≡ self }
+    {
+        self.0.into_int()
+    }
+
+    /// The time stamp that comes next, four octets. Refuses, with `ShortInput`, where fewer are
+    /// left.
+    pub fn parse(parser: &mut Parser<'_>) -> Result<Timestamp, ParseError>
+        ensures ok { IfOk result (λ stamp. Takes (to_be_bytes w32 stamp) parser.old parser.new) }
+        ensures short { IsErr result ↔ (length parser.old.left < 4) }
+        ensures err { IfErr result (λ e. e ≡ ParseError.ShortInput) }
+        ensures unmoved { OnErr result (parser.new ≡ parser.old) }
+    {
+        match Serial::parse(parser) {
+            Ok(serial) => Ok(Timestamp(serial)),
+            Err(error) => Err(error),
+        }
+    }
+
+    /// Appends its four octets.
+    pub fn compose<B: OctetsBuilder>(&self, target: &mut B) -> Result<(), AppendError>
+        ensures ok { OnOk result (B.octets target.new ≡ B.octets target.old
+            ++ to_be_bytes w32 self.now) }
+        ensures err { OnErr result (B.octets target.new ≡ B.octets target.old) }
+        ensures short { IsErrOf result AppendError.ShortBuf
+            ↔ IsOver B.limit (length (B.octets target.old) + 4) }
+        ensures memory { IsErrOf result AppendError.OutOfMemory → IsNone B.limit }
+    {
+        self.0.compose(target)
+    }
+
+    /// The time that is meant, in seconds since the start of 1970, where one asks at the reference:
+    /// the one in the 2^31 seconds before it or the 2^31 - 1 after it. Where that would be before
+    /// 1970 it is the number of the stamp itself. None where the time is not below 2^64.
+    pub fn to_system_time(self, reference: u64) -> Option<u64>
+        ensures time { IfSome result (TimeAt self reference) }
+        ensures none { IsNone result ↔ ((time : ℕ) × IsNear self reference time × (2 ^ 64 ≤ time)) }
+    {
+        let low = (reference % 0x1_0000_0000) as u32;
+        let ahead = u64::from(self.into_int().wrapping_sub(low));
+        if ahead < 0x8000_0000 {
+            return reference.checked_add(ahead);
+        }
+        let behind = 0x1_0000_0000 - ahead;
+        match reference.checked_sub(behind) {
+            Some(time) => Some(time),
+            None => Some(u64::from(self.into_int())),
+        }
+    }
+
+    /// The order of serial numbers: each stamp is before the 2,147,483,647 that follow it in the
+    /// circle. Two that are just half of the circle apart have none (RFC 1982, section 3.2).
+    pub fn partial_cmp(&self, other: &Timestamp) -> Option<Ordering>
+        ensures { result ≡ serial_cmp self.now other.now }
+    {
+        self.0.partial_cmp(&other.0)
+    }
+}
+
+/// The order of the plain numbers.
+impl CanonicalOrd for Timestamp {
+    ghost canonical_cmp = { nat_cmp };
+
+    ghost total = { nat_cmp_total };
+
+    fn canonical_cmp(&self, other: &Timestamp) -> Ordering {
+        self.0.canonical_cmp(&other.0)
+    }
+}
+
+/// Decimal digits, with one plus sign before them or none. Refuses every other text, a number over
+/// 32 bits, and a text of 14 characters, which would be a date.
+impl FromStr for Timestamp {
+    type Err = IllegalSignatureTime;
+
+    ghost from_str_gives = { ReadsTime };
+
+    fn from_str(text: &str) -> Result<Timestamp, IllegalSignatureTime> {
+        if text.len() == 14 {
+            return Err(IllegalSignatureTime);
+        }
+        match Serial::from_str(text) {
+            Ok(serial) => Ok(Timestamp(serial)),
+            Err(_) => Err(IllegalSignatureTime),
+        }
+    }
+}
+
+/// Decimal digits, with one plus sign before them or none, at most 10 characters. Refuses every
+/// other token, and a number over 32 bits, as `Custom("illegal signature time")`.
+impl FromToken for Timestamp {
+    ghost spells = { TimeToken };
+
+    ghost refuses = { IsNoTime };
+
+    fn from_token(token: &str) -> Result<Timestamp, ScanError> {
+        if token.len() > 10 {
+            return Err(ScanError::Custom("illegal signature time"));
+        }
+        match Serial::from_str(token) {
+            Ok(serial) => Ok(Timestamp(serial)),
+            Err(_) => Err(ScanError::Custom("illegal signature time")),
+        }
+    }
+}
+
+/// The number in decimal digits.
+impl fmt::Display for Timestamp {
+    ghost output = { λ t. Some (decimal t) };
+
+    fn fmt<W: fmt::Write>(&self, f: &mut fmt::Formatter<W>) -> fmt::Result {
+        write!(f, "{}", self.0)
+    }
+}
+
+/// The number, as a token.
+impl ZonefileFmt for Timestamp {
+    ghost pieces = { λ t. token (decimal t) ∷ [] };
+
+    fn fmt<F: Formatter>(&self, formatter: &mut F) -> Result<(), OutOfMemory> {
+        formatter.write_token(self)
+    }
+}
