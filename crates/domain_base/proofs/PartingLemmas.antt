@@ -11,12 +11,12 @@ use Rattle.domain_base.specs.Name.{wire_of, lowered}
 use Rattle.domain_base.specs.Wire.{labels_of, IsWire}
 use Rattle.domain_base.specs.Order.{canonical_cmp, from_root}
 use Rattle.domain_base.specs.Laws.{same_tied}
-use Rattle.domain_base.specs.Parting.{Ends, Part}
+use Rattle.domain_base.specs.Parting.{EndsIn, Part}
 use Rattle.domain_base.proofs.OrderLemmas.{decided, from_root-cons}
 use Rattle.domain_base.proofs.WireLemmas.{wire_is, length-wire_of}
 
 -- the next label is the one right below the rest
-pub next_end : (name : List (List ℕ)) (below : Option (List ℕ)) (label : List ℕ) (here above : List (List ℕ)) → Ends name below here → here ≡ label ∷ above → Ends name (Some label) above
+pub next_end : (name : List (List ℕ)) (below : Option (List ℕ)) (label : List ℕ) (here above : List (List ℕ)) → EndsIn name below here → here ≡ label ∷ above → EndsIn name (Some label) above
 next_end name None label here above ends is = ([], ends ∙ is)
 next_end name (Some x) label here above ends is =
     (ends.0 ++ x ∷ [], ends.1 ∙ ap (λ l. ends.0 ++ x ∷ l) is ∙ sym (append_assoc ends.0 (x ∷ []) (label ∷ above)))

@@ -3,12 +3,12 @@ use Rattle.std.specs.Prelude.{◌≡◌, ◌∷◌, ◌++◌, Option, None, Some
 use Rattle.domain_base.specs.Words.{Name, Label}
 
 -- the name ends in the shared labels, and right below them has this label or none
-abbrev pub Ends : Name → Option Label → Name → Type 0
-Ends name None shared = name ≡ shared
-Ends name (Some label) shared = (front : Name) × (name ≡ front ++ label ∷ shared)
+abbrev pub EndsIn : Name → Option Label → Name → Type 0
+EndsIn name None shared = name ≡ shared
+EndsIn name (Some label) shared = (front : Name) × (name ≡ front ++ label ∷ shared)
 
 -- two names end in labels that they share octet for octet, and right below these have those labels
 pub record Part (xs ys : Name) (x y : Option Label) : Type 0 where
   pub shared : Name
-  pub left : Ends xs x shared
-  pub right : Ends ys y shared
+  pub left : EndsIn xs x shared
+  pub right : EndsIn ys y shared

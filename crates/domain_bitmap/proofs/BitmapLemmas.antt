@@ -6,11 +6,11 @@ use Rattle.std.proofs.lemmas.List.FromFn.{length-map-range_with_len, get_or-map-
 use Rattle.std.proofs.lemmas.Bool.Decides.{leb_tells}
 use Rattle.domain_bitmap.specs.Bits.{bit_of, octet_with}
 use Rattle.domain_bitmap.specs.Bitmap.{window_octets, trimmed, block_with, window_block, bitmap_octets}
-use Rattle.domain_bitmap.specs.Blocks.{Block, IsBlock, octets_of, IsBitmap}
+use Rattle.domain_bitmap.specs.Blocks.{Block, IsBlock, octets_of_blocks, IsBitmap}
 use Rattle.domain_bitmap.proofs.RangeLemmas.{flat_same, flat_more, flat_length}
 use Rattle.domain_bitmap.proofs.BitLemmas.{octet_with-lt, octet_with-same, octet_with-none, octet_with-bit_of, bit_of-octet_with}
 use Rattle.domain_bitmap.proofs.TrimLemmas.{get_or-trimmed, length-trimmed, trimmed-zeros}
-use Rattle.domain_bitmap.proofs.BlockLemmas.{IsBitmap-octets_of, octets_of-append, all-append}
+use Rattle.domain_bitmap.proofs.BlockLemmas.{IsBitmap-octets_of_blocks, octets_of_blocks-append, all-append}
 
 pub length-window_octets : (types : ℕ → Bool) (w : ℕ) → length (window_octets types w) ≡ 32
 unfolding window_octets
@@ -72,21 +72,21 @@ unfoldable pub block_list : ℕ → List ℕ → List Block
 block_list w [] = []
 block_list w (x ∷ xs) = record { window = w; octets = x ∷ xs } ∷ []
 
-octets_of-block_list : (w : ℕ) (xs : List ℕ) → octets_of (block_list w xs) ≡ block_with w xs
+octets_of_blocks-block_list : (w : ℕ) (xs : List ℕ) → octets_of_blocks (block_list w xs) ≡ block_with w xs
 unfolding block_list
-octets_of-block_list w [] = refl
-octets_of-block_list w (x ∷ xs) = ap (λ l. w ∷ length (x ∷ xs) ∷ x ∷ l) (append-nil xs)
+octets_of_blocks-block_list w [] = refl
+octets_of_blocks-block_list w (x ∷ xs) = ap (λ l. w ∷ length (x ∷ xs) ∷ x ∷ l) (append-nil xs)
 
 unfoldable pub blocks_from : (ℕ → Bool) → ℕ → ℕ → List Block
 blocks_from types a zero = []
 blocks_from types a (suc n) = block_list a (trimmed (window_octets types a)) ++ blocks_from types (a + 1) n
 
-pub octets_of-blocks_from : (types : ℕ → Bool) (a n : ℕ) → octets_of (blocks_from types a n) ≡ flat_map (window_block types) (range_with_len a n)
+pub octets_of_blocks-blocks_from : (types : ℕ → Bool) (a n : ℕ) → octets_of_blocks (blocks_from types a n) ≡ flat_map (window_block types) (range_with_len a n)
 unfolding blocks_from window_block
-octets_of-blocks_from types a zero = refl
-octets_of-blocks_from types a (suc n) =
+octets_of_blocks-blocks_from types a zero = refl
+octets_of_blocks-blocks_from types a (suc n) =
     let xs = trimmed (window_octets types a) in
-    octets_of-append (block_list a xs) (blocks_from types (a + 1) n) ∙ rw (octets_of-block_list a xs, octets_of-blocks_from types (a + 1) n) refl
+    octets_of_blocks-append (block_list a xs) (blocks_from types (a + 1) n) ∙ rw (octets_of_blocks-block_list a xs, octets_of_blocks-blocks_from types (a + 1) n) refl
 
 valid_list : (w : ℕ) (xs : List ℕ) → w < 256 → length xs ≤ 32 → ((i : ℕ) → get_or xs i 0 < 256) → AllByRecursion IsBlock (block_list w xs)
 unfolding block_list
@@ -105,7 +105,7 @@ valid_from types a (suc n) fits =
 pub IsBitmap-bitmap_octets : (types : ℕ → Bool) → IsBitmap (bitmap_octets types)
 unfolding bitmap_octets
 IsBitmap-bitmap_octets types =
-    subst IsBitmap (octets_of-blocks_from types 0 256) (IsBitmap-octets_of (blocks_from types 0 256) (valid_from types 0 256 (omega arith)))
+    subst IsBitmap (octets_of_blocks-blocks_from types 0 256) (IsBitmap-octets_of_blocks (blocks_from types 0 256) (valid_from types 0 256 (omega arith)))
 
 -- the blocks of the windows below one, with those of that one
 pub written_more : (types : ℕ → Bool) (w : ℕ) (front out xs : List ℕ) → front ≡ flat_map (window_block types) (range_with_len 0 w) → window_octets types w ≡ xs → out ≡ front ++ block_with w (trimmed xs) → out ≡ flat_map (window_block types) (range_with_len 0 (w + 1))

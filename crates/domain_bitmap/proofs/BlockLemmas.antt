@@ -7,33 +7,33 @@ use Rattle.std.proofs.lemmas.Bool.Decides.{nat_tests}
 use Rattle.domain_bitmap.proofs.RangeLemmas.{filter_none}
 use Rattle.domain_bitmap.proofs.BitLemmas.{bit_of-zero}
 use Rattle.std.proofs.lemmas.List.Concat.{flat_map-append}
-use Rattle.domain_bitmap.specs.Blocks.{Block, IsBlock, octets_of, blocks_within, blocks_of, IsBitmap, block_types_from, types_from, types_of, contains_type}
+use Rattle.domain_bitmap.specs.Blocks.{Block, IsBlock, octets_of_blocks, blocks_within, blocks_of, IsBitmap, block_types_from, types_from, types_of, contains_type}
 use Rattle.domain_bitmap.specs.Bits.{has_bit}
 
-blocks_within-octets_of : (blocks : List Block) (n : ℕ) → length (octets_of blocks) ≤ n → blocks_within n (octets_of blocks) ≡ blocks
+blocks_within-octets_of_blocks : (blocks : List Block) (n : ℕ) → length (octets_of_blocks blocks) ≤ n → blocks_within n (octets_of_blocks blocks) ≡ blocks
 unfolding blocks_within
-blocks_within-octets_of [] zero fits = refl
-blocks_within-octets_of [] (suc n) fits = refl
-blocks_within-octets_of (block ∷ blocks) zero fits = absurd (omega (arith, fits))
-blocks_within-octets_of (block ∷ blocks) (suc n) fits =
-    rw (take_at block.octets (octets_of blocks) (length block.octets) refl, drop_at block.octets (octets_of blocks) (length block.octets) refl)
-    (ap (λ rest. block ∷ rest) (blocks_within-octets_of blocks n (omega (arith, fits, length-append block.octets (octets_of blocks)))))
+blocks_within-octets_of_blocks [] zero fits = refl
+blocks_within-octets_of_blocks [] (suc n) fits = refl
+blocks_within-octets_of_blocks (block ∷ blocks) zero fits = absurd (omega (arith, fits))
+blocks_within-octets_of_blocks (block ∷ blocks) (suc n) fits =
+    rw (take_at block.octets (octets_of_blocks blocks) (length block.octets) refl, drop_at block.octets (octets_of_blocks blocks) (length block.octets) refl)
+    (ap (λ rest. block ∷ rest) (blocks_within-octets_of_blocks blocks n (omega (arith, fits, length-append block.octets (octets_of_blocks blocks)))))
 
 pub add_two : (n : ℕ) → n + 2 ≡ suc (suc n)
 add_two n = omega arith
 
 -- the blocks are read back
-pub blocks_of-octets_of : (blocks : List Block) → blocks_of (octets_of blocks) ≡ blocks
+pub blocks_of-octets_of_blocks : (blocks : List Block) → blocks_of (octets_of_blocks blocks) ≡ blocks
 unfolding blocks_of
-blocks_of-octets_of blocks = blocks_within-octets_of blocks (length (octets_of blocks)) (omega arith)
+blocks_of-octets_of_blocks blocks = blocks_within-octets_of_blocks blocks (length (octets_of_blocks blocks)) (omega arith)
 
-pub IsBitmap-octets_of : (blocks : List Block) → AllByRecursion IsBlock blocks → IsBitmap (octets_of blocks)
-IsBitmap-octets_of blocks valid =
-    let same = blocks_of-octets_of blocks in
-    record { spelled = ap octets_of (sym same); valid = subst (AllByRecursion IsBlock) (sym same) valid }
+pub IsBitmap-octets_of_blocks : (blocks : List Block) → AllByRecursion IsBlock blocks → IsBitmap (octets_of_blocks blocks)
+IsBitmap-octets_of_blocks blocks valid =
+    let same = blocks_of-octets_of_blocks blocks in
+    record { spelled = ap octets_of_blocks (sym same); valid = subst (AllByRecursion IsBlock) (sym same) valid }
 
-pub octets_of-append : (xs ys : List Block) → octets_of (xs ++ ys) ≡ octets_of xs ++ octets_of ys
-octets_of-append xs ys = flat_map-append (λ block. block.window ∷ length block.octets ∷ block.octets) xs ys
+pub octets_of_blocks-append : (xs ys : List Block) → octets_of_blocks (xs ++ ys) ≡ octets_of_blocks xs ++ octets_of_blocks ys
+octets_of_blocks-append xs ys = flat_map-append (λ block. block.window ∷ length block.octets ∷ block.octets) xs ys
 
 pub all-append : (xs ys : List Block) → AllByRecursion IsBlock xs → AllByRecursion IsBlock ys → AllByRecursion IsBlock (xs ++ ys)
 all-append [] ys xs_all ys_all = ys_all
@@ -47,18 +47,18 @@ pub record HasBlock (octets : List ℕ) : Type 0 where
   pub first : IsBlock (record { window = get_or octets 0 0; octets = take (get_or octets 1 0) (drop 2 octets) })
   pub rest : IsBitmap (drop (get_or octets 1 0 + 2) octets)
 
-block_from : (blocks : List Block) → AllByRecursion IsBlock blocks → 0 < length (octets_of blocks) → HasBlock (octets_of blocks)
+block_from : (blocks : List Block) → AllByRecursion IsBlock blocks → 0 < length (octets_of_blocks blocks) → HasBlock (octets_of_blocks blocks)
 block_from [] valid some = absurd (omega (arith, some))
 block_from (block ∷ blocks) valid some =
-    let more = length-append block.octets (octets_of blocks) in
-    let front = take_at block.octets (octets_of blocks) (length block.octets) refl in
-    let after : drop (length block.octets + 2) (octets_of (block ∷ blocks)) ≡ octets_of blocks = rw (add_two (length block.octets)) (drop_at block.octets (octets_of blocks) (length block.octets) refl) in
+    let more = length-append block.octets (octets_of_blocks blocks) in
+    let front = take_at block.octets (octets_of_blocks blocks) (length block.octets) refl in
+    let after : drop (length block.octets + 2) (octets_of_blocks (block ∷ blocks)) ≡ octets_of_blocks blocks = rw (add_two (length block.octets)) (drop_at block.octets (octets_of_blocks blocks) (length block.octets) refl) in
     record {
       headed = omega (arith, more);
       inside = omega (arith, more);
-      blocks = rw (after, front, blocks_of-octets_of blocks) (blocks_of-octets_of (block ∷ blocks));
+      blocks = rw (after, front, blocks_of-octets_of_blocks blocks) (blocks_of-octets_of_blocks (block ∷ blocks));
       first = rw front valid.0;
-      rest = rw after (IsBitmap-octets_of blocks valid.1);
+      rest = rw after (IsBitmap-octets_of_blocks blocks valid.1);
     }
 
 pub block_at : (octets : List ℕ) → IsBitmap octets → 0 < length octets → HasBlock octets

@@ -6,8 +6,8 @@ use Rattle.domain_bitmap.specs.declared.error.RtypeBitmapError.{RtypeBitmapError
 use Rattle.domain_bitmap.specs.declared.error.RtypeBitmapError.TheVariants.{ShortInput, BadRtypeBitmap}
 use Rattle.domain_base.specs.Fault.{Fault}
 use Rattle.domain_bitmap.specs.Fault.{BitmapFault, bitmap_fault_of, FirstBlockFault, no_length, bad_length, cut_block, after}
-use Rattle.domain_bitmap.specs.Blocks.{Block, IsBitmap, octets_of, blocks_of}
-use Rattle.domain_bitmap.proofs.BlockLemmas.{IsBitmap-octets_of, block_at, add_two}
+use Rattle.domain_bitmap.specs.Blocks.{Block, IsBitmap, octets_of_blocks, blocks_of}
+use Rattle.domain_bitmap.proofs.BlockLemmas.{IsBitmap-octets_of_blocks, block_at, add_two}
 
 -- what is left of octets of which blocks were read
 pub record Reading (octets rest : List ℕ) : Type 0 where
@@ -52,8 +52,8 @@ IsBitmap-split : (window : ℕ) (block others : List ℕ) → window < 256 → 0
 IsBitmap-split window block others window_small some fits small bitmap =
     let first : Block = record { window = window; octets = block } in
     let blocks : List Block = first ∷ blocks_of others in
-    let whole : octets_of blocks ≡ window ∷ length block ∷ (block ++ others) = ap (λ l. window ∷ length block ∷ (block ++ l)) (sym bitmap.spelled) in
-    subst IsBitmap whole (IsBitmap-octets_of blocks (record { window = window_small; not_empty = some; fits = fits; bounded = small }, bitmap.valid))
+    let whole : octets_of_blocks blocks ≡ window ∷ length block ∷ (block ++ others) = ap (λ l. window ∷ length block ∷ (block ++ l)) (sym bitmap.spelled) in
+    subst IsBitmap whole (IsBitmap-octets_of_blocks blocks (record { window = window_small; not_empty = some; fits = fits; bounded = small }, bitmap.valid))
 
 pub reading_goes : (octets rest : List ℕ) → Reading octets rest → 2 ≤ length rest → 0 < get_or rest 1 0 → get_or rest 1 0 ≤ 32 → get_or rest 1 0 ≤ length rest - 2 → Reading octets (drop (get_or rest 1 0 + 2) rest)
 reading_goes octets rest reading two some small fits =
@@ -80,7 +80,7 @@ fault_cut_block (w ∷ []) two some small cut = absurd (omega (arith, two))
 fault_cut_block (w ∷ len ∷ tail) two some small cut = cut_block w len tail some small (omega (arith, cut))
 
 pub nothing_left : (rest : List ℕ) → length rest ≡ 0 → IsBitmap rest
-nothing_left [] none = IsBitmap-octets_of [] tt
+nothing_left [] none = IsBitmap-octets_of_blocks [] tt
 nothing_left (x ∷ rest) none = absurd (omega (arith, none))
 
 -- a list of blocks has no fault

@@ -12,8 +12,8 @@ use Rattle.domain_bitmap.specs.Bitmap.{window_octets, trimmed, bitmap_octets}
 use Rattle.domain_bitmap.specs.Blocks.{Block, blocks_of, in_first_block, contains_type, block_types_from, types_of, types_below}
 use Rattle.domain_bitmap.proofs.BitLemmas.{bit_of-octet_with, bit_of-zero}
 use Rattle.domain_bitmap.proofs.TrimLemmas.{get_or-trimmed}
-use Rattle.domain_bitmap.proofs.BlockLemmas.{blocks_of-octets_of}
-use Rattle.domain_bitmap.proofs.BitmapLemmas.{block_list, blocks_from, octets_of-blocks_from, get_or-window_octets}
+use Rattle.domain_bitmap.proofs.BlockLemmas.{blocks_of-octets_of_blocks}
+use Rattle.domain_bitmap.proofs.BitmapLemmas.{block_list, blocks_from, octets_of_blocks-blocks_from, get_or-window_octets}
 
 -- the trimmed octets of a window have the bits of its types
 has_bit-window : (types : ℕ → Bool) (t : ℕ) → has_bit (trimmed (window_octets types (t / 256))) t ≡ types t
@@ -64,8 +64,8 @@ in_blocks types t a (suc n) low high =
 pub contains_type-bitmap_octets : (types : ℕ → Bool) (t : ℕ) → t < 65536 → contains_type (bitmap_octets types) t ≡ types t
 unfolding contains_type bitmap_octets
 contains_type-bitmap_octets types t small =
-    ap (λ o. in_first_block (blocks_of o) t) (sym (octets_of-blocks_from types 0 256))
-    ∙ ap (λ bs. in_first_block bs t) (blocks_of-octets_of (blocks_from types 0 256))
+    ap (λ o. in_first_block (blocks_of o) t) (sym (octets_of_blocks-blocks_from types 0 256))
+    ∙ ap (λ bs. in_first_block bs t) (blocks_of-octets_of_blocks (blocks_from types 0 256))
     ∙ in_blocks types t 0 256 (omega arith) (omega arith)
 
 pub bitmap_octets-exact : (p q : ℕ → Bool) → bitmap_octets p ≡ bitmap_octets q → (t : ℕ) → t < 65536 → p t ≡ q t
@@ -105,7 +105,7 @@ types_of_blocks types m a (suc n) all =
 
 blocks_of-built : (types : ℕ → Bool) → blocks_of (bitmap_octets types) ≡ blocks_from types 0 256
 unfolding bitmap_octets
-blocks_of-built types = ap blocks_of (sym (octets_of-blocks_from types 0 256)) ∙ blocks_of-octets_of (blocks_from types 0 256)
+blocks_of-built types = ap blocks_of (sym (octets_of_blocks-blocks_from types 0 256)) ∙ blocks_of-octets_of_blocks (blocks_from types 0 256)
 
 -- the bits of a built bitmap are its types in ascending order
 pub types_of-bitmap_octets : (types : ℕ → Bool) (m n : ℕ) → m ≡ 256 → n ≡ m * m → types_of (bitmap_octets types) ≡ types_below n types

@@ -6,11 +6,11 @@ use Rattle.std.proofs.lemmas.Bool.Decides.{nat_tests, eqb_tells, leb_tells}
 use Rattle.std.proofs.lemmas.List.{get_or_past}
 use Rattle.domain_bitmap.specs.Bits.{bit_of, has_bit}
 use Rattle.domain_bitmap.specs.Bitmap.{window_octets, trimmed, before_trimmed, bitmap_octets}
-use Rattle.domain_bitmap.specs.Blocks.{Block, IsBlock, IsBitmap, IsShortest, WindowsAscendFrom, last_octet, blocks_of, octets_of, in_first_block, contains_type}
+use Rattle.domain_bitmap.specs.Blocks.{Block, IsBlock, IsBitmap, IsShortest, WindowsAscendFrom, last_octet, blocks_of, octets_of_blocks, in_first_block, contains_type}
 use Rattle.domain_bitmap.proofs.BitLemmas.{octet_with-same, octet_with-bit_of}
 use Rattle.domain_bitmap.proofs.TrimLemmas.{before_trimmed-cons, before_trimmed-last, trimmed-zeros}
-use Rattle.domain_bitmap.proofs.BlockLemmas.{blocks_of-octets_of}
-use Rattle.domain_bitmap.proofs.BitmapLemmas.{block_list, blocks_from, octets_of-blocks_from, length-window_octets, get_or-window_octets, zero_octets}
+use Rattle.domain_bitmap.proofs.BlockLemmas.{blocks_of-octets_of_blocks}
+use Rattle.domain_bitmap.proofs.BitmapLemmas.{block_list, blocks_from, octets_of_blocks-blocks_from, length-window_octets, get_or-window_octets, zero_octets}
 
 -- octets that read alike are cut to the same
 trimmed-same : (xs ys : List ℕ) → ((i : ℕ) → get_or xs i 0 ≡ get_or ys i 0) → trimmed xs ≡ trimmed ys
@@ -74,7 +74,7 @@ cut-blocks_from types a (suc n) = cut-list a (trimmed (window_octets types a)) (
 
 blocks_of-bitmap_octets : (types : ℕ → Bool) → blocks_of (bitmap_octets types) ≡ blocks_from types 0 256
 unfolding bitmap_octets
-blocks_of-bitmap_octets types = ap blocks_of (sym (octets_of-blocks_from types 0 256)) ∙ blocks_of-octets_of (blocks_from types 0 256)
+blocks_of-bitmap_octets types = ap blocks_of (sym (octets_of_blocks-blocks_from types 0 256)) ∙ blocks_of-octets_of_blocks (blocks_from types 0 256)
 
 pub IsShortest-bitmap_octets : (types : ℕ → Bool) → IsShortest (bitmap_octets types)
 IsShortest-bitmap_octets types =
@@ -163,5 +163,5 @@ pub built_from_shortest : (octets : List ℕ) → IsBitmap octets → IsShortest
 unfolding contains_type bitmap_octets
 built_from_shortest octets bitmap shortest =
     bitmap.spelled
-    ∙ ap octets_of (rebuilt (contains_type octets) (blocks_of octets) 0 256 refl bitmap.valid shortest.ascending shortest.cut (λ t above. refl))
-    ∙ octets_of-blocks_from (contains_type octets) 0 256
+    ∙ ap octets_of_blocks (rebuilt (contains_type octets) (blocks_of octets) 0 256 refl bitmap.valid shortest.ascending shortest.cut (λ t above. refl))
+    ∙ octets_of_blocks-blocks_from (contains_type octets) 0 256

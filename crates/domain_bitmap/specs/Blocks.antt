@@ -17,8 +17,8 @@ pub record IsBlock (block : Block) : Type 0 where
   pub bounded : (i : ℕ) → slice_index block.octets i < 256
 
 -- the octets of blocks: of each its window's number, how many octets follow, and these
-abbrev pub octets_of : List Block → Octets
-octets_of = flat_map (λ block. block.window ∷ length block.octets ∷ block.octets)
+abbrev pub octets_of_blocks : List Block → Octets
+octets_of_blocks = flat_map (λ block. block.window ∷ length block.octets ∷ block.octets)
 
 unfoldable pub blocks_within : ℕ → Octets → List Block
 blocks_within zero octets = []
@@ -33,7 +33,7 @@ blocks_of octets = blocks_within (length octets) octets
 
 -- the octets are a list of blocks
 pub record IsBitmap (octets : Octets) : Type 0 where
-  pub spelled : octets ≡ octets_of (blocks_of octets)
+  pub spelled : octets ≡ octets_of_blocks (blocks_of octets)
   pub valid : AllByRecursion IsBlock (blocks_of octets)
 
 -- the types of a block from a place in its window on: those whose bits are set

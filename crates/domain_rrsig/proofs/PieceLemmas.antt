@@ -9,13 +9,13 @@ use Rattle.domain_base.specs.Numbers.{type_text}
 use Rattle.domain_base.specs.Text.{name_text}
 use Rattle.domain_fields.proofs.PieceLemmas.{piece_before}
 use Rattle.domain_rrsig.specs.Data.{ProtoRrsigData, RrsigData}
-use Rattle.domain_rrsig.specs.Pieces.{number_pieces, signer_pieces, rrsig_pieces}
+use Rattle.domain_rrsig.specs.Pieces.{signed_number_pieces, signer_pieces, rrsig_pieces}
 
 pub numbers_written : (a b c d e f g : List PieceText) (fields : ProtoRrsigData) (type_covered algorithm labels ttl : ℕ)
     → type_covered ≡ fields.type_covered → algorithm ≡ fields.algorithm → labels ≡ fields.labels → ttl ≡ fields.original_ttl
     → b ≡ a ++ token (type_text type_covered) ∷ [] → c ≡ b ++ token (decimal algorithm) ∷ [] → d ≡ c ++ token (decimal labels) ∷ [] → e ≡ d ++ comment (codes "labels") ∷ []
     → f ≡ e ++ token (decimal ttl) ∷ [] → g ≡ f ++ comment (codes "original ttl") ∷ []
-    → g ≡ a ++ number_pieces fields
+    → g ≡ a ++ signed_number_pieces fields
 numbers_written a b c d e f g fields type_covered algorithm labels ttl same_type same_algorithm same_labels same_ttl ab bc cd de ef fg =
     piece_before a b g (token (type_text type_covered)) _ ab (piece_before b c g (token (decimal algorithm)) _ bc (piece_before c d g (token (decimal labels)) _ cd
     (piece_before d e g _ _ de (piece_before e f g (token (decimal ttl)) _ ef fg))))
@@ -37,10 +37,10 @@ pieces_before : (old mid new front back : List PieceText) → mid ≡ old ++ fro
 pieces_before old mid new front back first later = later ∙ ap (λ l. l ++ back) first ∙ append_assoc old front back
 
 pub rrsig_written : (a b c d e f : List PieceText) (rrsig : RrsigData) (fields : ProtoRrsigData) (octets : List ℕ) → fields ≡ rrsig.fields → octets ≡ rrsig.signature
-    → b ≡ a ++ opens ∷ [] → c ≡ b ++ number_pieces fields → d ≡ c ++ signer_pieces fields → e ≡ d ++ token (encode_of standard octets) ∷ [] → f ≡ e ++ closes ∷ []
+    → b ≡ a ++ opens ∷ [] → c ≡ b ++ signed_number_pieces fields → d ≡ c ++ signer_pieces fields → e ≡ d ++ token (encode_of standard octets) ∷ [] → f ≡ e ++ closes ∷ []
     → f ≡ a ++ rrsig_pieces rrsig
 rrsig_written a b c d e f rrsig fields octets same_fields same_octets ab bc cd de ef =
-    piece_before a b f opens (number_pieces fields ++ (signer_pieces fields ++ (token (encode_of standard octets) ∷ closes ∷ []))) ab
-    (pieces_before b c f (number_pieces fields) (signer_pieces fields ++ (token (encode_of standard octets) ∷ closes ∷ [])) bc
+    piece_before a b f opens (signed_number_pieces fields ++ (signer_pieces fields ++ (token (encode_of standard octets) ∷ closes ∷ []))) ab
+    (pieces_before b c f (signed_number_pieces fields) (signer_pieces fields ++ (token (encode_of standard octets) ∷ closes ∷ [])) bc
     (pieces_before c d f (signer_pieces fields) (token (encode_of standard octets) ∷ closes ∷ []) cd (piece_before d e f (token (encode_of standard octets)) (closes ∷ []) de ef)))
-    ∙ (λ i. a ++ (opens ∷ (number_pieces (same_fields i) ++ (signer_pieces (same_fields i) ++ (token (encode_of standard (same_octets i)) ∷ closes ∷ [])))))
+    ∙ (λ i. a ++ (opens ∷ (signed_number_pieces (same_fields i) ++ (signer_pieces (same_fields i) ++ (token (encode_of standard (same_octets i)) ∷ closes ∷ [])))))

@@ -32,8 +32,8 @@ rrsig_text d =
     ++ dotted d.fields.signer_name ++ codes " " ++ encode_of standard d.signature
 
 -- the pieces of the numbers up to the TTL
-abbrev pub number_pieces : ProtoRrsigData → List PieceText
-number_pieces d =
+abbrev pub signed_number_pieces : ProtoRrsigData → List PieceText
+signed_number_pieces d =
     token (type_text d.type_covered) ∷ token (decimal d.algorithm) ∷ token (decimal d.labels)
     ∷ comment (codes "labels") ∷ token (decimal d.original_ttl)
     ∷ comment (codes "original ttl") ∷ []
@@ -48,5 +48,5 @@ signer_pieces d =
 -- comments name what is not evident
 abbrev pub rrsig_pieces : RrsigData → List PieceText
 rrsig_pieces d =
-    opens ∷ (number_pieces d.fields
+    opens ∷ (signed_number_pieces d.fields
     ++ (signer_pieces d.fields ++ (token (encode_of standard d.signature) ∷ closes ∷ [])))

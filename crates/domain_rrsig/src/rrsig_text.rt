@@ -2,7 +2,7 @@
 ghost use Rattle.std.specs.Prelude.{◌≡◌, ◌++◌, [], Some, IfOk, IfErr, OnOk};
 ghost use Rattle.domain_base.specs.Scan.{scan_fault_of};
 ghost use Rattle.domain_rrsig.specs.Scan.{numbers_text, RefusesNumbers, times_text, RefusesTimes, rrsig_fields_text, RefusesRrsigFields, RrsigText, RefusesRrsig};
-ghost use Rattle.domain_rrsig.specs.Pieces.{signed_numbers_text, signed_times_text, rrsig_text, number_pieces, signer_pieces, rrsig_pieces};
+ghost use Rattle.domain_rrsig.specs.Pieces.{signed_numbers_text, signed_times_text, rrsig_text, signed_number_pieces, signer_pieces, rrsig_pieces};
 
 use crate::{ProtoRrsig, Rrsig, Timestamp};
 use domain_base::{FromToken, Rtype, ScanError, Scanner, SecurityAlgorithm, ToName, Ttl};
@@ -198,7 +198,7 @@ fn write_numbers<N: ToName, F: Formatter>(
     formatter: &mut F,
 ) -> Result<(), OutOfMemory>
     ensures { OnOk result (F.pieces formatter.new ≡ F.pieces formatter.old
-        ++ number_pieces fields.now) }
+        ++ signed_number_pieces fields.now) }
 {
     let (type_covered, algorithm) = (fields.type_covered(), fields.algorithm());
     let (labels, original_ttl) = (fields.labels(), fields.original_ttl().as_secs());
