@@ -18,7 +18,7 @@ use Rattle.domain_base.specs.Name.{is_at_or_below, lowered, same_name}
 use Rattle.domain_base.specs.Words.{Name}
 use Rattle.domain_zone.specs.Soa.{is_soa, numbers_of, of_only, soa_of}
 use Rattle.domain_base.specs.Types.{ns, dname}
-use Rattle.domain_zone.specs.View.{as_zone_record}
+use Rattle.domain_zone.specs.View.{as_zone_record, zone_of}
 use Rattle.domain_zone.specs.declared.soa.ApexSoa.{ApexSoa}
 use Rattle.domain_zone.specs.Zone.{ZoneRecord, clashes, has_clash, has_type, records_of, is_occluded, is_unoccluded, owns}
 use Rattle.domain_zone.proofs.NameLemmas.{one_lowered, lowered_below, same_lowered}
@@ -26,7 +26,6 @@ use Rattle.domain_zone.proofs.OwnerLemmas.{any_filter}
 use Rattle.domain_zone.proofs.PairLemmas.{In}
 use Rattle.domain_zone.proofs.SharedLemmas.{either_way}
 use Rattle.domain_zone.proofs.ZoneLemmas.{any_map}
-use Rattle.domain_nsec.specs.ChainView.{zone_of}
 use Rattle.domain_dnssec.specs.AnyOrder.{Sorts}
 use Rattle.domain_dnssec.proofs.AmongLemmas.{contains_in, in_contains, in_filter, in_filtered, any_two, pair_of_two, all_pairs, in_map, map_in}
 

@@ -10,7 +10,7 @@ use Rattle.domain_base.specs.Words.{Name}
 use Rattle.domain_nsec3.specs.Chain.{HashedLink, IsChainParam, IsHashedChain, ParamRecord}
 use Rattle.domain_nsec3.specs.Config.{ChainConfig}
 use Rattle.domain_nsec3.specs.Faults.{IsFirstFault}
-use Rattle.domain_nsec3.specs.View.{zone_of}
+use Rattle.domain_zone.specs.View.{zone_of}
 use Rattle.domain_nsec3.specs.declared.config.Nsec3ParamTtlMode.{Nsec3ParamTtlMode}
 use Rattle.domain_dnssec.specs.AnyOrder.{AreMixed, Sorts}
 use Rattle.domain_dnssec.specs.declared.chain.ChainError.{ChainError}

@@ -7,7 +7,7 @@ ghost use Rattle.domain_records.specs.Order.{IsOneClass};
 ghost use Rattle.domain_zone.specs.Soa.{is_soa, numbers_of, soa_of};
 ghost use Rattle.domain_zone.specs.Zone.{ZoneRecord, has_clash, has_type, is_unoccluded, owns, records_of};
 ghost use Rattle.domain_zone.specs.declared.soa.ApexSoa.{ApexSoa};
-ghost use Rattle.domain_nsec.specs.ChainView.{zone_of};
+ghost use Rattle.domain_zone.specs.View.{zone_of};
 ghost use Rattle.domain_dnssec.specs.AnyOrder.{Sorts};
 
 use domain_base::ToName;

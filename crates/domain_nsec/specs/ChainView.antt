@@ -1,16 +1,9 @@
--- How the records of a zone and its NSEC records are seen.
+-- How NSEC records are seen.
 use Rattle.std.specs.Prelude.{List, map}
 use Rattle.domain_plain.specs.declared.record.Record.{Record}
 use Rattle.domain_chain_rdata.specs.declared.nsec.Nsec.{Nsec}
-use Rattle.domain_rdata.specs.declared.zone_record_data.ZoneRecordData.{ZoneRecordData}
 use Rattle.domain_base.specs.Words.{Name}
-use Rattle.domain_zone.specs.View.{as_zone_record}
-use Rattle.domain_zone.specs.Zone.{ZoneRecord}
 use Rattle.domain_nsec.specs.Chain.{Link}
-
-abbrev pub zone_of : {O N : Type 0} → (N → Name) → List (Record N (ZoneRecordData O N))
-    → List ZoneRecord
-zone_of labels = map (as_zone_record labels)
 
 abbrev pub as_link : {O N : Type 0} → (N → Name) → Record N (Nsec O N) → Link
 as_link labels r =

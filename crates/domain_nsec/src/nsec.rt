@@ -6,7 +6,8 @@ ghost use Rattle.domain_rdata.specs.Zone.{rtype_of};
 ghost use Rattle.domain_records.specs.Order.{IsOneClass, IsInOrder};
 ghost use Rattle.domain_nsec.specs.Chain.{link_of, is_listed, IsChain, IsFaultless, IsFirstFault};
 ghost use Rattle.domain_nsec.specs.Meaning.{CoversBelowOccluders, IsCycle, MirrorsZone, TellsEmpty, TellsEncloser};
-ghost use Rattle.domain_nsec.specs.ChainView.{as_link, links_of, zone_of};
+ghost use Rattle.domain_zone.specs.View.{zone_of};
+ghost use Rattle.domain_nsec.specs.ChainView.{as_link, links_of};
 
 use crate::GenerateNsecConfig;
 use domain_base::{MakeName, Rtype, ToName};

@@ -4,10 +4,7 @@ use Rattle.domain_octets.specs.Words.{Octets}
 use Rattle.domain_plain.specs.declared.record.Record.{Record}
 use Rattle.domain_chain_rdata.specs.declared.nsec3.Nsec3.{Nsec3}
 use Rattle.domain_chain_rdata.specs.declared.nsec3param.Nsec3param.{Nsec3param}
-use Rattle.domain_rdata.specs.declared.zone_record_data.ZoneRecordData.{ZoneRecordData}
 use Rattle.domain_base.specs.Words.{Name}
-use Rattle.domain_zone.specs.View.{as_zone_record}
-use Rattle.domain_zone.specs.Zone.{ZoneRecord}
 use Rattle.domain_nsec3.specs.Chain.{HashedLink, ParamRecord}
 use Rattle.domain_nsec3.specs.Config.{ChainConfig, Hash, HashAnswer, Parameters}
 use Rattle.domain_nsec3.specs.declared.config.GenerateNsec3Config.{GenerateNsec3Config}
@@ -15,10 +12,6 @@ use Rattle.domain_nsec3.specs.declared.config.GenerateNsec3Config.{GenerateNsec3
 -- what a hasher answers for octets, an algorithm, iterations and a salt
 abbrev pub Answer : Type 0
 Answer = Octets → ℕ → ℕ → Octets → HashAnswer
-
-abbrev pub zone_of : {O N : Type 0} → (N → Name) → List (Record N (ZoneRecordData O N))
-    → List ZoneRecord
-zone_of labels = map (as_zone_record labels)
 
 abbrev pub parameters_of : {O : Type 0} → Nsec3param O → Parameters
 parameters_of p =

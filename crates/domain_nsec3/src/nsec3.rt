@@ -15,7 +15,8 @@ ghost use Rattle.domain_nsec3.specs.Faults.{AreAllHashed, IsFaultless, IsFirstFa
 ghost use Rattle.domain_nsec3.specs.Meaning.{CoversExcluded, CutsEnclose, MirrorsZone, OwnersAscend, TellsEncloser};
 ghost use Rattle.domain_nsec3.specs.Steps.{AreOriginalOwners, without_types};
 ghost use Rattle.domain_nsec3.specs.StepView.{as_entry};
-ghost use Rattle.domain_nsec3.specs.View.{as_param_record, config_of, hashed_links_of, parameters_of, zone_of};
+ghost use Rattle.domain_zone.specs.View.{zone_of};
+ghost use Rattle.domain_nsec3.specs.View.{as_param_record, config_of, hashed_links_of, parameters_of};
 
 use crate::GenerateNsec3Config;
 use crate::empty::empty_nonterminals;

@@ -8,7 +8,8 @@ ghost use Rattle.domain_zone.specs.Zone.{has_type, has_unequal_ttls};
 ghost use Rattle.domain_nsec3.specs.Owners.{original_owners};
 ghost use Rattle.domain_nsec3.specs.Steps.{AreOriginalOwners};
 ghost use Rattle.domain_nsec3.specs.StepView.{as_entry};
-ghost use Rattle.domain_nsec3.specs.View.{Answer, config_of, zone_of};
+ghost use Rattle.domain_zone.specs.View.{zone_of};
+ghost use Rattle.domain_nsec3.specs.View.{Answer, config_of};
 
 use crate::GenerateNsec3Config;
 use crate::hash::Listed;

@@ -3,10 +3,9 @@ ghost use Rattle.std.specs.Prelude.{◌≡◌, ◌||◌, ◌&&◌, ◌==◌, ℕ
 ghost use Rattle.domain_bitmap.specs.Bitmap.{bitmap_octets};
 ghost use Rattle.domain_bitmap.specs.Builder.{holds};
 ghost use Rattle.domain_base.specs.Types.{ds};
-ghost use Rattle.domain_zone.specs.View.{as_zone_record};
 ghost use Rattle.domain_zone.specs.Zone.{has_type};
 ghost use Rattle.domain_nsec3.specs.Owners.{is_listed};
-ghost use Rattle.domain_nsec3.specs.View.{zone_of};
+ghost use Rattle.domain_zone.specs.View.{zone_of};
 
 use domain_base::{Rtype, ToName};
 use domain_bitmap::{RtypeBitmap, RtypeBitmapBuilder};
@@ -32,7 +31,7 @@ pub(crate) struct OwnerKind {
 pub(crate) fn owns_ds<O: Octets, N: ToName>(
     mut records: SliceRefsOrOwnedIterator<'_, ZoneRr<O, N>>,
 ) -> bool
-    ensures { result ≡ has_type (map (as_zone_record N.labels) records.entry) ds }
+    ensures { result ≡ has_type (zone_of N.labels records.entry) ds }
 {
     'records: while let Some(record) = records.next() {
         if record.rtype() == Rtype::DS {

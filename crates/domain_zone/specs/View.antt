@@ -1,5 +1,5 @@
--- How records are seen as records of a zone.
-use Rattle.std.specs.Prelude.{ℕ, Option, Some, None}
+-- How records are seen as a zone.
+use Rattle.std.specs.Prelude.{ℕ, List, map, Option, Some, None}
 use Rattle.domain_plain.specs.declared.record.Record.{Record}
 use Rattle.domain_rdata.specs.Zone.{rtype_of}
 use Rattle.domain_rdata.specs.declared.zone_record_data.ZoneRecordData.{ZoneRecordData}
@@ -30,3 +30,8 @@ as_zone_record labels r =
       rtype = rtype_of r.«data»;
       minimum = minimum_of r.«data»;
     }
+
+-- the zone that records are
+abbrev pub zone_of : {O N : Type 0} → (N → Name) → List (Record N (ZoneRecordData O N))
+    → List ZoneRecord
+zone_of labels = map (as_zone_record labels)

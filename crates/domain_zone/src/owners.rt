@@ -1,7 +1,7 @@
 //! The owners of a zone that are not occluded.
 ghost use Rattle.std.specs.Prelude.{◌≡◌, map};
 ghost use Rattle.std.specs.Option.{option_map};
-ghost use Rattle.domain_zone.specs.View.{as_zone_record};
+ghost use Rattle.domain_zone.specs.View.{zone_of};
 ghost use Rattle.domain_zone.specs.Walk.{is_passed_over};
 ghost use Rattle.domain_zone.specs.Zone.{has_type};
 
@@ -17,7 +17,7 @@ fn has_type<O: Octets, N: ToName>(
     mut records: SliceRefsOrOwnedIterator<'_, ZoneRr<O, N>>,
     wanted: Rtype,
 ) -> bool
-    ensures { result ≡ has_type (map (as_zone_record N.labels) records.entry) wanted }
+    ensures { result ≡ has_type (zone_of N.labels records.entry) wanted }
 {
     'records: while let Some(record) = records.next() {
         if record.rtype() == wanted {
@@ -69,14 +69,14 @@ impl<'a, O: Octets, N: ToName> Model for UnoccludedOwners<'a, O, N> {
     ghost use Rattle.domain_records.specs.Groups.{same_owner};
     ghost use Rattle.domain_records.specs.Runs.{runs};
     ghost use Rattle.domain_zone.specs.Owners.{OwnerRecords};
-    ghost use Rattle.domain_zone.specs.View.{as_zone_record};
+    ghost use Rattle.domain_zone.specs.View.{zone_of};
     ghost use Rattle.domain_zone.specs.Walk.{left_owners};
 
     ghost Value = { List OwnerRecords };
 
     ghost view = { λ s. left_owners s.below_dname (N.labels s.apex.now)
         (option_map (λ o. N.labels o.now) s.occluder)
-        (map (map (as_zone_record N.labels)) (runs (same_owner N.labels) s.groups)) };
+        (map (zone_of N.labels) (runs (same_owner N.labels) s.groups)) };
 }
 
 impl<'a, O: Octets, N: ToName> UnoccludedOwners<'a, O, N> {
@@ -94,7 +94,7 @@ impl<'a, O: Octets, N: ToName> UnoccludedOwners<'a, O, N> {
     ) -> Self
         requires { IsInOrder N.labels rtype_of records }
         ensures { result ≡ owners_with_records below_dname
-            (map (as_zone_record N.labels) records.entry) (N.labels apex.now) }
+            (zone_of N.labels records.entry) (N.labels apex.now) }
     {
         UnoccludedOwners {
             apex,

@@ -1,7 +1,7 @@
 //! The SOA record of a zone.
 ghost use Rattle.std.specs.Prelude.{◌≡◌, map};
 ghost use Rattle.domain_zone.specs.Soa.{chain_ttl, is_soa, soa_of};
-ghost use Rattle.domain_zone.specs.View.{as_zone_record};
+ghost use Rattle.domain_zone.specs.View.{as_zone_record, zone_of};
 
 use domain_base::{Class, Rtype, ToName, Ttl};
 use domain_octets::Octets;
@@ -45,7 +45,7 @@ pub fn find_soa<O: Octets, N: ToName>(
     apex: &N,
     mut records: SliceRefsOrOwnedIterator<'_, ZoneRr<O, N>>,
 ) -> Option<ApexSoa>
-    ensures { result ≡ soa_of (map (as_zone_record N.labels) records.entry) (N.labels apex.now) }
+    ensures { result ≡ soa_of (zone_of N.labels records.entry) (N.labels apex.now) }
 {
     let mut found: Option<&ZoneRr<O, N>> = None;
     'records: while let Some(record) = records.next() {

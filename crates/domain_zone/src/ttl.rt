@@ -2,7 +2,7 @@
 ghost use Rattle.std.specs.Prelude.{◌≡◌, ◌≤◌, map};
 ghost use Rattle.domain_rdata.specs.Zone.{rtype_of};
 ghost use Rattle.domain_records.specs.Order.{HoldsPairwise};
-ghost use Rattle.domain_zone.specs.View.{as_zone_record};
+ghost use Rattle.domain_zone.specs.View.{as_zone_record, zone_of};
 ghost use Rattle.domain_zone.specs.Zone.{clashes, has_clash};
 
 use crate::soa::ZoneRr;
@@ -25,7 +25,7 @@ pub fn has_unequal_ttls<O: Octets, N: ToName>(
     mut records: SliceRefsOrOwnedIterator<'_, ZoneRr<O, N>>,
 ) -> bool
     requires { HoldsPairwise (λ r s. rtype_of r.«data» ≤ rtype_of s.«data») records }
-    ensures { result ≡ has_clash (map (as_zone_record N.labels) records.entry) }
+    ensures { result ≡ has_clash (zone_of N.labels records.entry) }
 {
     let Some(first) = records.next() else {
         return false;

@@ -1,7 +1,7 @@
 //! The types of an owner, gathered into a set.
 ghost use Rattle.std.specs.Prelude.{◌≡◌, ◌||◌, ◌==◌, ℕ, ◌<◌, map, OnOk};
 ghost use Rattle.domain_bitmap.specs.Builder.{holds};
-ghost use Rattle.domain_zone.specs.View.{as_zone_record};
+ghost use Rattle.domain_zone.specs.View.{zone_of};
 ghost use Rattle.domain_zone.specs.Zone.{may_list, lists_type};
 
 use crate::soa::ZoneRr;
@@ -45,7 +45,7 @@ pub fn add_types<B: GrowingBuilder, O: Octets, N: ToName>(
 ) -> Result<(), OutOfMemory>
     ensures { OnOk result ((t : ℕ) → t < 65536
         → holds types.new t ≡ (holds types.old t
-        || lists_type at_cut (map (as_zone_record N.labels) records.entry) t)) }
+        || lists_type at_cut (zone_of N.labels records.entry) t)) }
 {
     'records: while let Some(record) = records.next() {
         if may_list(at_cut, record.rtype()) {

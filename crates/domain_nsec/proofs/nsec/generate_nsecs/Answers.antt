@@ -4,13 +4,13 @@ use Rattle.domain_bitmap.specs.Bitmap.{bitmap_octets}
 use Rattle.domain_zone.specs.Owners.{OwnerRecords, owners_with_records}
 use Rattle.domain_zone.specs.OwnerView.{as_owner_records}
 use Rattle.domain_zone.specs.Soa.{soa_of}
-use Rattle.domain_zone.specs.View.{as_zone_record}
+use Rattle.domain_zone.specs.View.{as_zone_record, zone_of}
 use Rattle.domain_zone.specs.Zone.{has_clash}
 use Rattle.domain_zone.proofs.GivenLemmas.{raw_types, types_at}
 use Rattle.domain_zone.proofs.GroupLemmas.{owners_in_order}
 use Rattle.domain_zone.proofs.TtlLemmas.{NeverDescend}
 use Rattle.domain_nsec.specs.Chain.{is_listed}
-use Rattle.domain_nsec.specs.ChainView.{as_link, links_of, zone_of}
+use Rattle.domain_nsec.specs.ChainView.{as_link, links_of}
 use Rattle.domain_nsec.proofs.ChainLemmas.{chain_cycle, mirrors_zone}
 use Rattle.domain_nsec.proofs.EncloserLemmas.{tells_empty, tells_encloser, covers_below_occluders}
 use Rattle.domain_nsec.proofs.StateLemmas.{IsAt, IsAdded, at_start, at_known, at_owner, at_fault, at_end, even_end}

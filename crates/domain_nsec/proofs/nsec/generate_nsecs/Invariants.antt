@@ -1,6 +1,7 @@
 use Rattle.std.proofs.Common.{length}
 use Rattle.std.specs.Option.{option_map}
-use Rattle.domain_nsec.specs.ChainView.{links_of, zone_of}
+use Rattle.domain_zone.specs.View.{zone_of}
+use Rattle.domain_nsec.specs.ChainView.{links_of}
 use Rattle.domain_nsec.proofs.StateLemmas.{IsAt}
 use Rattle.domain_nsec.proofs.nsec.generate_nsecs.Given as goal
 

@@ -1,6 +1,6 @@
 use Rattle.std.proofs.Common.{◌∙◌}
 use Rattle.domain_nsec.proofs.TypeLemmas.{listed_octets}
-use Rattle.domain_nsec.specs.ChainView.{zone_of}
+use Rattle.domain_zone.specs.View.{zone_of}
 use Rattle.domain_nsec.proofs.nsec.types_of.Goals as goal
 
 pub returns : goal.returns

@@ -15,7 +15,8 @@ use Rattle.domain_nsec3.specs.Faults.{AreAllHashed, IsFirstFault, IsFirstHashing
 use Rattle.domain_nsec3.specs.Owners.{original_owners}
 use Rattle.domain_nsec3.specs.Steps.{AreOriginalOwners}
 use Rattle.domain_nsec3.specs.StepView.{as_entry}
-use Rattle.domain_nsec3.specs.View.{config_of, hashed_links_of, zone_of}
+use Rattle.domain_zone.specs.View.{zone_of}
+use Rattle.domain_nsec3.specs.View.{config_of, hashed_links_of}
 use Rattle.domain_nsec3.proofs.EntryLemmas.{map_both}
 use Rattle.domain_nsec3.proofs.FaultLemmas.{apart_hashes}
 use Rattle.domain_nsec3.proofs.AscentLemmas.{owners_ascend}

@@ -3,13 +3,13 @@ use Rattle.std.proofs.lemmas.List.{map-append}
 use Rattle.domain_bitmap.specs.Bitmap.{bitmap_octets}
 use Rattle.domain_zone.specs.Owners.{OwnerRecords, owners_with_records}
 use Rattle.domain_zone.specs.OwnerView.{as_owner_records}
-use Rattle.domain_zone.specs.View.{as_zone_record}
+use Rattle.domain_zone.specs.View.{as_zone_record, zone_of}
 use Rattle.domain_zone.specs.Zone.{has_clash}
 use Rattle.domain_zone.proofs.GivenLemmas.{raw_types, types_at}
 use Rattle.domain_zone.proofs.TtlLemmas.{NeverDescend}
 use Rattle.domain_nsec3.specs.Owners.{is_listed}
 use Rattle.domain_nsec3.specs.StepView.{as_entry}
-use Rattle.domain_nsec3.specs.View.{Answer, config_of, zone_of}
+use Rattle.domain_nsec3.specs.View.{Answer, config_of}
 use Rattle.domain_nsec3.proofs.StateLemmas.{IsAt, stays, at_start, at_known, at_excluded, at_owner, at_fault, at_end, even_end}
 use Rattle.domain_nsec3.proofs.owners.list_owners.Goals as goal
 

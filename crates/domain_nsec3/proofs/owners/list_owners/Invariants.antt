@@ -1,6 +1,7 @@
 use Rattle.std.proofs.Common.{length, map}
 use Rattle.domain_nsec3.specs.StepView.{as_entry}
-use Rattle.domain_nsec3.specs.View.{Answer, config_of, zone_of}
+use Rattle.domain_zone.specs.View.{zone_of}
+use Rattle.domain_nsec3.specs.View.{Answer, config_of}
 use Rattle.domain_nsec3.proofs.StateLemmas.{IsAt}
 use Rattle.domain_nsec3.proofs.owners.list_owners.Given as goal
 

@@ -1,6 +1,6 @@
 use Rattle.std.proofs.Common.{◌∙◌}
 use Rattle.domain_nsec3.proofs.TypeLemmas.{listed_octets}
-use Rattle.domain_nsec3.specs.View.{zone_of}
+use Rattle.domain_zone.specs.View.{zone_of}
 use Rattle.domain_nsec3.proofs.types.types_of.Goals as goal
 
 pub returns : goal.returns
