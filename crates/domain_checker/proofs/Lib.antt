@@ -1,0 +1,10 @@
+pub mod FindLemmas
+pub mod FirstLemmas
+pub mod EncloserLemmas
+pub mod SharedLemmas
+pub mod VerdictLemmas
+pub mod ListLemmas
+pub mod SpelledLemmas
+pub mod HashedListLemmas
+pub mod HashedWalkLemmas
+pub mod HashedVerdictLemmas

@@ -1,0 +1,6 @@
+pub mod Verdict
+pub mod Reading
+pub mod HashedList
+pub mod HashedVerdict
+pub mod HashedReading
+pub mod HashedView

@@ -1,7 +1,25 @@
 //! What a few records of a denial chain prove of a name and a type, and nothing else (RFC 4035,
 //! section 5.4; RFC 5155, section 8).
+//!
+//! `check_nsec` is handed records of an NSEC chain, any of them, in any order, and no zone. Its
+//! answer is what the zone itself says of the name and the type, or that these records do not prove
+//! it. The definitions in `specs/Verdict` speak of the zone and its chain alone; those in
+//! `specs/Reading` of the records alone.
+//!
+//! `check_nsec3` is handed records of an NSEC3 chain and the NSEC3PARAM record in the same way, and
+//! asks a hasher for the hashes of names. Here the zone and its chain stand in
+//! `specs/HashedVerdict`, the records alone in `specs/HashedList` and `specs/HashedReading`.
 #![tactic(auto)]
 
+mod hashed;
+pub mod laws;
+mod nsec;
+mod nsec3;
+mod nsec3_laws;
+mod spelled;
 mod verdict;
+mod walk;
 
+pub use nsec::check_nsec;
+pub use nsec3::check_nsec3;
 pub use verdict::Verdict;

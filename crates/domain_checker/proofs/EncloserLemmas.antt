@@ -1,0 +1,160 @@
+-- The first of a name and its ancestors that exists is its closest encloser, and an occluded name is below a name that occludes and is not occluded itself.
+use Rattle.std.proofs.Common.{◌≡◌, ℕ, ◌≤◌, ◌<◌, Bool, zero, suc, true, false, cond, not, ◌&&◌, ◌||◌, List, [], ◌∷◌, map, length, refl, sym, ap, ◌∙◌, inl, inr, arith}
+use Rattle.std.specs.Prelude.{filter}
+use Rattle.std.specs.List.{list_any}
+use Rattle.std.proofs.lemmas.Bool.{cases_Bool, false≢true, and_parts, and_from, or_cases, not-true, cases_lt}
+use Rattle.domain_base.specs.Name.{is_at_or_below, is_strictly_below, lowered, same_name}
+use Rattle.domain_base.specs.Types.{ns, dname}
+use Rattle.domain_base.specs.Words.{Name}
+use Rattle.domain_zone.specs.Enclosers.{IsClosestEncloser, exists_over}
+use Rattle.domain_zone.specs.Zone.{ZoneRecord, records_of, has_type, is_zone_cut, occludes, is_occluded, is_unoccluded, distinct, unoccluded_owners, owns}
+use Rattle.domain_zone.proofs.NameLemmas.{one_lowered, same_itself, same_is, below_itself, below_trans, below_from, below_longer, below_length, below_parent, below_root, lowered_below, same_lowered}
+use Rattle.domain_checker.specs.Verdict.{closest_encloser}
+use Rattle.domain_checker.proofs.FindLemmas.{In, any_in, in_any, in_filter, from_map}
+
+-- ---- names at or below each other
+
+pub same_both : (x c : Name) → is_at_or_below x c ≡ true → is_at_or_below c x ≡ true → same_name x c ≡ true
+same_both x c p q = same_is x c ∙ (λ i. not (below_from x c p i || below_from c x q i))
+
+-- an ancestor with as many labels is the name itself
+pub same_length : (x d : Name) → is_at_or_below x d ≡ true → length x ≤ length d → same_name x d ≡ true
+same_length x d p l = same_both x d p (below_longer x d x p (below_itself x) l)
+
+-- what is strictly below a name has more labels
+pub strictly_longer : (x c : Name) → is_strictly_below x c ≡ true → length c < length x
+strictly_longer x c s =
+    let p = and_parts (is_at_or_below x c) (not (same_name x c)) s in
+    elim (cases_lt (length c) (length x)) [
+      | inl h ↦ h
+      | inr h ↦ absurd (false≢true (sym (not-true (same_name x c) p.1) ∙ same_length x c p.0 h))
+    ]
+
+-- x is strictly below what its ancestor c is strictly below
+pub strictly_down : (x c d : Name) → is_strictly_below x c ≡ true → is_strictly_below c d ≡ true → is_strictly_below x d ≡ true
+strictly_down x c d s t =
+    let p = and_parts (is_at_or_below x c) (not (same_name x c)) s in
+    let q = and_parts (is_at_or_below c d) (not (same_name c d)) t in
+    and_from (is_at_or_below x d) (not (same_name x d)) (below_trans x c d p.0 q.0)
+    (elim (cases_Bool (same_name x d)) [
+      | inl e ↦
+          let m = strictly_longer x c s in
+          let n = strictly_longer c d t in
+          let k = below_length d x (ap (λ k. lowered_below k (lowered x)) (sym (one_lowered x d e)) ∙ below_itself x) in
+          absurd (omega arith)
+      | inr e ↦ ap not e
+    ])
+
+-- ---- closest enclosers
+
+module _ (names : List Name) (a : Name) where
+  pub exists_same : (x y : Name) → same_name x y ≡ true → exists_over names a x ≡ exists_over names a y
+  exists_same x y s = ap (λ k. lowered_below k (lowered a) && list_any (λ n. lowered_below (lowered n) k) names) (one_lowered x y s)
+
+  pub closest_is : (x : Name) → exists_over names a a ≡ true → is_at_or_below x a ≡ true → IsClosestEncloser names a x (closest_encloser names a x)
+  closest_is [] e p = record {
+    found = exists_same [] a (same_both [] a p (below_root a)) ∙ e;
+    above = below_itself [];
+    longest = λ d f q. below_length [] d q;
+  }
+  closest_is (l ∷ x) e p =
+      elim (exists_over names a (l ∷ x)) as (λ b. exists_over names a (l ∷ x) ≡ b → IsClosestEncloser names a (l ∷ x) (cond b (l ∷ x) (closest_encloser names a x))) [
+        | true ↦ λ f. record { found = f; above = below_itself (l ∷ x); longest = λ d g q. below_length (l ∷ x) d q }
+        | false ↦ λ f.
+            let up = closest_is x e (higher a e f p) in
+            record {
+              found = up.found;
+              above = below_trans (l ∷ x) x (closest_encloser names a x) (below_parent l x) up.above;
+              longest = λ d g q. up.longest d g (higher d g f q);
+            }
+      ] refl
+    where
+      -- an ancestor that exists is one of the parent
+      higher : (d : Name) → exists_over names a d ≡ true → exists_over names a (l ∷ x) ≡ false → is_at_or_below (l ∷ x) d ≡ true → is_at_or_below x d ≡ true
+      higher d g f q =
+          elim (cases_lt (length x) (length d)) [
+            | inl h ↦ absurd (false≢true (sym f ∙ exists_same (l ∷ x) d (same_length (l ∷ x) d q (omega arith)) ∙ g))
+            | inr h ↦ below_longer (l ∷ x) x d (below_parent l x) q h
+          ]
+
+  -- closest enclosers have as many labels
+  pub closest_alike : (x e d : Name) → IsClosestEncloser names a x e → IsClosestEncloser names a x d → length e ≡ length d
+  closest_alike x e d h k =
+      let p = h.longest d k.found k.above in
+      let q = k.longest e h.found h.above in
+      omega arith
+
+-- ---- names that occlude
+
+module _ (below_dname : Bool) (L : List ZoneRecord) (a : Name) where
+  pub occluder_low : (c : Name) → occludes below_dname L a c ≡ true → is_at_or_below c a ≡ true
+  occluder_low c h =
+      elim (or_cases (is_zone_cut L a c) (below_dname && is_at_or_below c a && has_type (records_of L c) dname) h) [
+        | inl e ↦ (and_parts (is_at_or_below c a) (not (same_name c a)) (and_parts (is_strictly_below c a) (has_type (records_of L c) ns) e).0).0
+        | inr e ↦ (and_parts below_dname (is_at_or_below c a) (and_parts (below_dname && is_at_or_below c a) (has_type (records_of L c) dname) e).0).1
+      ]
+
+  -- a name that occludes, and that x is strictly below
+  pub record OccluderAbove (x : Name) : Type 0 where
+    pub name : Name
+    pub over : occludes below_dname L a name ≡ true
+    pub under : is_strictly_below x name ≡ true
+
+  some_occluder : (x : Name) → is_occluded below_dname L a x ≡ true → OccluderAbove x
+  some_occluder x o =
+      let r = any_in (λ r. occludes below_dname L a r.owner && is_strictly_below x r.owner) L o in
+      let p = and_parts (occludes below_dname L a r.0.owner) (is_strictly_below x r.0.owner) r.2 in
+      record { name = r.0.owner; over = p.0; under = p.1 }
+
+  top_within : (n : ℕ) (x : Name) → length x ≤ n → is_occluded below_dname L a x ≡ true → (c : OccluderAbove x) × (is_occluded below_dname L a c.name ≡ false)
+  top_within zero x l o = let c = some_occluder x o in let m = strictly_longer x c.name c.under in absurd (omega arith)
+  top_within (suc n) x l o =
+      let c = some_occluder x o in
+      elim (cases_Bool (is_occluded below_dname L a c.name)) [
+        | inl e ↦
+            let m = strictly_longer x c.name c.under in
+            let t = top_within n c.name (omega arith) e in
+            (record { name = t.0.name; over = t.0.over; under = strictly_down x c.name t.0.name c.under t.0.under }, t.1)
+        | inr e ↦ (c, e)
+      ]
+
+  -- of the names that occlude x the topmost is not occluded
+  pub top_occluder : (x : Name) → is_occluded below_dname L a x ≡ true → (c : OccluderAbove x) × (is_unoccluded below_dname L a c.name ≡ true)
+  top_occluder x o =
+      let t = top_within (length x) x (omega arith) o in
+      (t.0, and_from (is_at_or_below t.0.name a) (not (is_occluded below_dname L a t.0.name)) (occluder_low t.0.name t.0.over) (ap not t.1))
+
+  -- a name that is the same is occluded alike
+  pub occluded_same : (m n : Name) → same_name m n ≡ true → is_occluded below_dname L a m ≡ is_occluded below_dname L a n
+  occluded_same m n s = ap (λ k. list_any (λ r. occludes below_dname L a r.owner && (lowered_below k (lowered r.owner) && not (same_lowered k (lowered r.owner)))) L) (one_lowered m n s)
+
+  -- ---- owners that are not occluded
+
+  in_distinct : (xs : List Name) (n : Name) → In n (distinct xs) → In n xs
+  in_distinct [] n i = i
+  in_distinct (x ∷ xs) n (inl e) = inl e
+  in_distinct (x ∷ xs) n (inr i) = inr (in_distinct xs n (in_filter (λ y. not (same_name x y)) (distinct xs) n i).0)
+
+  pub owner_unoccluded : (n : Name) → In n (unoccluded_owners below_dname L a) → is_unoccluded below_dname L a n ≡ true
+  owner_unoccluded n i = (in_filter (is_unoccluded below_dname L a) (distinct (map (λ r. r.owner) L)) n i).1
+
+  record_of : (n : Name) → In n (unoccluded_owners below_dname L a) → (r : ZoneRecord) × In r L × (r.owner ≡ n)
+  record_of n i = from_map (λ r. r.owner) L n (in_distinct (map (λ r. r.owner) L) n (in_filter (is_unoccluded below_dname L a) (distinct (map (λ r. r.owner) L)) n i).0)
+
+  -- whatever is the same as such an owner owns records
+  pub owner_owns : (n x : Name) → In n (unoccluded_owners below_dname L a) → same_name n x ≡ true → owns L x ≡ true
+  owner_owns n x i s =
+      let r = record_of n i in
+      in_any (λ r. same_name r.owner x) L r.0 r.1 (same_itself r.0.owner x (ap lowered r.2 ∙ one_lowered n x s))
+
+  -- what is strictly below such an owner that occludes is occluded
+  pub below_owner : (n x : Name) → In n (unoccluded_owners below_dname L a) → occludes below_dname L a n ≡ true → is_strictly_below x n ≡ true → is_occluded below_dname L a x ≡ true
+  below_owner n x i h s =
+      let r = record_of n i in
+      in_any (λ r. occludes below_dname L a r.owner && is_strictly_below x r.owner) L r.0 r.1
+      (ap (λ m. occludes below_dname L a m && is_strictly_below x m) r.2 ∙ and_from (occludes below_dname L a n) (is_strictly_below x n) h s)
+
+-- ---- zone cuts
+
+pub cut_same : (L : List ZoneRecord) (a m n : Name) → same_name m n ≡ true → is_zone_cut L a m ≡ is_zone_cut L a n
+cut_same L a m n s = ap (λ k. (lowered_below k (lowered a) && not (same_lowered k (lowered a))) && has_type (filter (λ r. same_lowered (lowered r.owner) k) L) ns) (one_lowered m n s)

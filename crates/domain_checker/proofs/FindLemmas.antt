@@ -1,0 +1,126 @@
+-- Elements of lists: which pass a test, the first that does, and where they stand.
+use Rattle.std.proofs.Common.{◌≡◌, ℕ, Bool, true, false, cond, ◌||◌, List, [], ◌∷◌, map, Option, Some, None, refl, sym, ap, ◌∙◌, subst, inl, inr, ◌⊎◌, zero, suc, slice_get}
+use Rattle.std.specs.Prelude.{All, filter}
+use Rattle.std.specs.Option.{option_map}
+use Rattle.std.specs.List.{find, list_any, Contains, AllByRecursion}
+use Rattle.std.proofs.lemmas.Bool.{cases_Bool, false≢true, or_cases, or_right}
+use Rattle.std.proofs.lemmas.List.Elements.{recursion_from_All}
+use Rattle.std.proofs.lemmas.Option.{slice_get-get_or}
+use Rattle.domain_zone.specs.Covering.{pairs}
+
+-- ---- elements
+
+module _ {X : Type 0} where
+  abbrev pub In : X → List X → Type 0
+  In y [] = ⊥
+  In y (x ∷ xs) = (x ≡ y) ⊎ In y xs
+
+  pub all_in : (P : X → Type 0) (xs : List X) (y : X) → AllByRecursion P xs → In y xs → P y
+  all_in P [] y h i = absurd i
+  all_in P (x ∷ xs) y h (inl e) = subst P e h.0
+  all_in P (x ∷ xs) y h (inr i) = all_in P xs y h.1 i
+
+  pub any_in : (p : X → Bool) (xs : List X) → list_any p xs ≡ true → (x : X) × In x xs × (p x ≡ true)
+  any_in p [] h = absurd (false≢true h)
+  any_in p (x ∷ xs) h =
+      elim (or_cases (p x) (list_any p xs) h) [
+        | inl e ↦ (x, inl refl, e)
+        | inr e ↦ let r = any_in p xs e in (r.0, inr r.1, r.2)
+      ]
+
+  pub in_any : (p : X → Bool) (xs : List X) (x : X) → In x xs → p x ≡ true → list_any p xs ≡ true
+  in_any p [] x i e = absurd i
+  in_any p (y ∷ xs) x (inl f) e = λ j. (ap p f ∙ e) j || list_any p xs
+  in_any p (y ∷ xs) x (inr i) e = or_right (p y) (list_any p xs) (in_any p xs x i e)
+
+  pub any_none : (p : X → Bool) (xs : List X) → ((x : X) → In x xs → p x ≡ false) → list_any p xs ≡ false
+  any_none p [] f = refl
+  any_none p (x ∷ xs) f = (λ i. f x (inl refl) i || list_any p xs) ∙ any_none p xs (λ y i. f y (inr i))
+
+  pub in_filter : (p : X → Bool) (xs : List X) (y : X) → In y (filter p xs) → In y xs × (p y ≡ true)
+  in_filter p [] y i = absurd i
+  in_filter p (x ∷ xs) y i =
+      let later : In y (filter p xs) → In y (x ∷ xs) × (p y ≡ true) = λ j. let r = in_filter p xs y j in (inr r.0, r.1) in
+      elim (p x) as (λ b. p x ≡ b → In y (cond b (x ∷ filter p xs) (filter p xs)) → In y (x ∷ xs) × (p y ≡ true)) [
+        | true ↦ λ e j. elim j [ inl f ↦ (inl f, sym (ap p f) ∙ e) | inr k ↦ later k ]
+        | false ↦ λ e j. later j
+      ] refl i
+
+  pub in_at : (xs : List X) (i : ℕ) (x : X) → slice_get xs i ≡ Some x → In x xs
+  in_at [] i x e = absurd (cc)
+  in_at (y ∷ xs) zero x e = inl (cc)
+  in_at (y ∷ xs) (suc i) x e = inr (in_at xs i x e)
+
+-- both of a pair are in the list, or the second is what follows the last
+pub in_pairs : {X : Type 0} (xs : List X) (first : X) (p : X × X) → In p (pairs xs first) → In p.0 xs × (In p.1 xs ⊎ (first ≡ p.1))
+in_pairs [] first p i = absurd i
+in_pairs (x ∷ []) first p (inl e) = (inl (ap (λ q. q.0) e), inr (ap (λ q. q.1) e))
+in_pairs (x ∷ []) first p (inr i) = absurd i
+in_pairs (x ∷ y ∷ xs) first p (inl e) = (inl (ap (λ q. q.0) e), inl (inr (inl (ap (λ q. q.1) e))))
+in_pairs (x ∷ y ∷ xs) first p (inr i) =
+    let r = in_pairs (y ∷ xs) first p i in
+    (inr r.0, elim r.1 [ inl j ↦ inl (inr j) | inr e ↦ inr e ])
+
+module _ {X Y : Type 0} (f : X → Y) where
+  pub in_map : (xs : List X) (x : X) → In x xs → In (f x) (map f xs)
+  in_map [] x i = i
+  in_map (y ∷ xs) x (inl e) = inl (ap f e)
+  in_map (y ∷ xs) x (inr i) = inr (in_map xs x i)
+
+  pub from_map : (xs : List X) (y : Y) → In y (map f xs) → (x : X) × In x xs × (f x ≡ y)
+  from_map [] y i = absurd i
+  from_map (x ∷ xs) y (inl e) = (x, inl refl, e)
+  from_map (x ∷ xs) y (inr i) = let r = from_map xs y i in (r.0, inr r.1, r.2)
+
+-- ---- the first that passes
+
+module _ {X : Type 0} (p : X → Bool) where
+  pub find_some : (xs : List X) (x : X) → find p xs ≡ Some x → In x xs × (p x ≡ true)
+  find_some [] x e = absurd (cc)
+  find_some (y ∷ xs) x e =
+      elim (cases_Bool (p y)) [
+        | inl h ↦
+            let same : y ≡ x = let f : Some y ≡ Some x = sym (λ i. cond (h i) (Some y) (find p xs)) ∙ e in cc in
+            (inl same, ap p (sym same) ∙ h)
+        | inr h ↦ let r = find_some xs x (sym (λ i. cond (h i) (Some y) (find p xs)) ∙ e) in (inr r.0, r.1)
+      ]
+
+  pub find_none : (xs : List X) → find p xs ≡ None → (x : X) → In x xs → p x ≡ false
+  find_none [] e x i = absurd i
+  find_none (y ∷ xs) e x i =
+      elim (cases_Bool (p y)) [
+        | inl h ↦ let f : Some y ≡ None = sym (λ i. cond (h i) (Some y) (find p xs)) ∙ e in absurd (cc)
+        | inr h ↦ elim i [
+          | inl same ↦ ap p (sym same) ∙ h
+          | inr j ↦ find_none xs (sym (λ i. cond (h i) (Some y) (find p xs)) ∙ e) x j
+        ]
+      ]
+
+-- finding among what is seen
+pub find_seen : {X Y : Type 0} (p : Y → Bool) (f : X → Y) (xs : List X) → option_map f (find (λ x. p (f x)) xs) ≡ find p (map f xs)
+find_seen p f [] = refl
+find_seen p f (x ∷ xs) =
+    elim (p (f x)) as (λ b. option_map f (cond b (Some x) (find (λ y. p (f y)) xs)) ≡ cond b (Some (f x)) (find p (map f xs))) [
+      | true ↦ refl
+      | false ↦ find_seen p f xs
+    ]
+
+pub found_seen : {A X Y : Type 0} (p : Y → Bool) (f : X → Y) (v : A → X) (xs : List X) (r : Option A) → option_map v r ≡ find (λ x. p (f x)) xs → option_map (λ x. f (v x)) r ≡ find p (map f xs)
+found_seen p f v xs r e = twice r ∙ ap (option_map f) e ∙ find_seen p f xs
+  where
+    twice : (o : Option _) → option_map (λ x. f (v x)) o ≡ option_map f (option_map v o)
+    twice None = refl
+    twice (Some x) = refl
+
+-- ---- places
+
+-- x stands somewhere in the list
+pub record Stands {X : Type 0} (xs : List X) (x : X) : Type 0 where
+  pub place : ℕ
+  pub there : slice_get xs place ≡ Some x
+
+pub stands_from : {X : Type 0} (xs : List X) (x : X) → Contains xs x → Stands xs x
+stands_from xs x c = record { place = c.0; there = slice_get-get_or xs c.0 x c.1 ∙ ap Some c.2 }
+
+pub stands_all : {X : Type 0} (xs ys : List X) → All (Contains xs) ys → (y : X) → In y ys → Stands xs y
+stands_all xs ys h y i = stands_from xs y (all_in (Contains xs) ys y (recursion_from_All (Contains xs) ys h) i)

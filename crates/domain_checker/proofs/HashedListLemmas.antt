@@ -1,0 +1,145 @@
+-- What a record of an NSEC3 chain says of the hash of a name that no other name of the chain has.
+use Rattle.std.proofs.Common.{◌≡◌, ◌<◌, ℕ, Bool, zero, suc, true, false, cond, not, ◌&&◌, ◌||◌, List, [], ◌∷◌, map, refl, sym, ap, ◌∙◌, inl, inr, eq-eqb, Some, None, slice_get}
+use Rattle.std.specs.List.{AllByRecursion}
+use Rattle.std.specs.Cmp.Lexicographic.{nat_list_cmp_total, slice_cmp, bytes_decides}
+use Rattle.std.specs.Ordering.{nat_cmp, is_lt, is_eq, ordering_reverse}
+use Rattle.std.specs.declared.cmp.Ordering.{Ordering}
+use Rattle.std.specs.declared.cmp.Ordering.TheVariants.{Less, Equal, Greater}
+use Rattle.std.proofs.lemmas.Bool.{false≢true, and_parts, not-true, or_left, or_right}
+use Rattle.std.proofs.lemmas.List.Elements.{recursion_from_All}
+use Rattle.std.proofs.lemmas.List.Sums.{list_all-from_AllPass}
+use Rattle.domain_octets.specs.Base32.{base32_lower}
+use Rattle.domain_octets.specs.Codec.{is_digit, IsBase32}
+use Rattle.domain_octets.specs.Words.{Octets, AreOctets}
+use Rattle.domain_octets.specs.declared.codec.Codec.TheVariants.{Base32Hex}
+use Rattle.domain_base.specs.Name.{is_at_or_below, same_name, wire_of}
+use Rattle.domain_base.specs.Words.{Name}
+use Rattle.domain_bitmap.specs.Bitmap.{bitmap_octets}
+use Rattle.domain_bitmap.specs.Blocks.{contains_type, types_below, types_of}
+use Rattle.domain_zone.specs.Covering.{matches, covers, matches_or_covers}
+use Rattle.domain_zone.specs.Zone.{ZoneRecord, is_zone_cut}
+use Rattle.domain_zone.specs.Enclosers.{exists_over}
+use Rattle.domain_zone.proofs.NameLemmas.{one_lowered, same_itself}
+use Rattle.domain_nsec3.specs.Chain.{HashedLink, HashedName, IsHashedChain, IsOfChain, cycle, ends, ends_of, hashed_owner}
+use Rattle.domain_nsec3.specs.Config.{ChainConfig, Hash, Parameters, hash_name}
+use Rattle.domain_nsec3.specs.Meaning.{CutsEnclose, IsAlone, IsMatchedOrCoveredOnce, IsRecordOf, MirrorsZone, TellsEncloser, octets_before}
+use Rattle.domain_nsec3.specs.Owners.{is_chain_name, is_original_owner, nsec3_lists, original_owners}
+use Rattle.domain_checker.specs.HashedList.{same_parameters, is_spelling, read_label, hash_in, owner_hash, is_some_with, is_hash_match, is_hash_cover}
+use Rattle.domain_checker.proofs.FindLemmas.{In, all_in, in_pairs, Stands}
+
+-- octets that the order cannot tell apart
+pub tied_is : (u v : Octets) → matches octets_before u v ≡ is_eq (slice_cmp nat_cmp u v)
+tied_is u v = reads (slice_cmp nat_cmp u v) (slice_cmp nat_cmp v u) (nat_list_cmp_total.antisymm v u)
+  where
+    reads : (r s : Ordering) → s ≡ ordering_reverse r → not (is_lt r || is_lt s) ≡ is_eq r
+    reads Less s e = refl
+    reads Equal s e = ap (λ t. not (is_lt t)) e
+    reads Greater s e = ap (λ t. not (is_lt t)) e
+
+-- names that are the same have one hash
+pub hash_same : (hash : Hash) (m n : Name) → same_name m n ≡ true → hash_name hash m ≡ hash_name hash n
+hash_same hash m n s = ap (λ l. hash (wire_of l)) (one_lowered m n s)
+
+-- what the laws say of one chain
+pub record ChainFacts (L : List ZoneRecord) (a : Name) (config : ChainConfig) (links : List HashedLink) : Type 0 where
+  pub chain : IsHashedChain L a config links
+  pub mirrors : MirrorsZone L a config links
+  pub tells : TellsEncloser L a config links
+  pub cuts : CutsEnclose L a config
+  pub exist : (x : Name) → is_at_or_below x a ≡ true → exists_over (original_owners L a config) a x ≡ is_chain_name L a config x
+  pub left_out : (c : Name) → is_zone_cut L a c ≡ true → is_original_owner L a config c ≡ false → is_chain_name L a config c ≡ false
+  pub alike : (x y : Name) → same_name x y ≡ true → (t : ℕ) → nsec3_lists L a config x t ≡ nsec3_lists L a config y t
+  pub reads_back : (octets : Octets) → AreOctets octets → IsBase32 (base32_lower octets) octets
+  pub contains : (types : ℕ → Bool) (t : ℕ) → t < 65536 → contains_type (bitmap_octets types) t ≡ types t
+  pub gives : (types : ℕ → Bool) → types_of (bitmap_octets types) ≡ types_below 65536 types
+  pub tells_apart : (u v : Octets) → AreOctets u → AreOctets v → base32_lower u ≡ base32_lower v → u ≡ v
+
+-- the ends of a link at a place are those of a pair
+end_at : (a : Name) (links : List HashedLink) (ps : List (Octets × Octets)) → map ends links ≡ map (ends_of a) ps → (j : ℕ) (k : HashedLink) → slice_get links j ≡ Some k → (p : Octets × Octets) × In p ps × (k.owner ≡ hashed_owner a p.0)
+end_at a [] ps e j k g = absurd (cc)
+end_at a (l ∷ links) [] e j k g = absurd (cc)
+end_at a (l ∷ links) (p ∷ ps) e zero k g =
+    let same : l ≡ k = cc in
+    let pair : ends l ≡ ends_of a p = cc in
+    (p, inl refl, ap (λ m. m.owner) (sym same) ∙ ap (λ q. q.0) pair)
+end_at a (l ∷ links) (p ∷ ps) e (suc j) k g =
+    let rest : map ends links ≡ map (ends_of a) ps = cc in
+    let r = end_at a links ps rest j k g in
+    (r.0, inr r.1, r.2)
+
+in_cycle : (hashes : List Octets) (p : Octets × Octets) → In p (cycle hashes) → In p.0 hashes
+in_cycle [] p i = i
+in_cycle (u ∷ us) p i = (in_pairs (u ∷ us) u p i).0
+
+hashes_octets : (L : List ZoneRecord) (a : Name) (config : ChainConfig) (names : List HashedName) → AllByRecursion (IsOfChain L a config) names → AllByRecursion AreOctets (map (λ n. n.hash) names)
+hashes_octets L a config [] h = tt
+hashes_octets L a config (n ∷ names) h = (h.0.sound.2, hashes_octets L a config names h.1)
+
+module _ (L : List ZoneRecord) (a : Name) (config : ChainConfig) (links : List HashedLink) (facts : ChainFacts L a config links) where
+  pub record_at : (k : HashedLink) (s : Stands links k) → (h : Octets) × IsRecordOf a links s.place k h
+  record_at k s =
+      let chain = facts.chain in
+      let hashes = map (λ n. n.hash) chain.names in
+      let e = end_at a links (cycle hashes) chain.linked s.place k s.there in (
+        e.0.0,
+        record {
+          there = s.there;
+          spelled = e.2;
+          octets = all_in AreOctets hashes e.0.0 (hashes_octets L a config chain.names (recursion_from_All (IsOfChain L a config) chain.names chain.sound)) (in_cycle hashes e.0 e.1);
+        },
+      )
+
+  pub told_at : (k : HashedLink) → In k links → (k.parameters ≡ config.parameters) × (k.flags ≡ config.flags)
+  told_at k i =
+      all_in (λ k. (k.parameters ≡ config.parameters) × (k.flags ≡ config.flags)) links k
+      (recursion_from_All (λ k. (k.parameters ≡ config.parameters) × (k.flags ≡ config.flags)) links facts.chain.told) i
+
+  spelled_back : (h : Octets) → AreOctets h → is_spelling (base32_lower h) ≡ true
+  spelled_back h o =
+      let b = facts.reads_back h o in
+      λ j. list_all-from_AllPass (is_digit Base32Hex) (base32_lower h) b.digits j && b.whole j
+
+  -- no record of the chain is passed over
+  pub hash_at : (k : HashedLink) → In k links → (h : Octets) → AreOctets h → k.owner ≡ hashed_owner a h → owner_hash a config.parameters k ≡ Some h
+  hash_at k i h o e =
+      (λ j. cond ((ap (λ p. same_parameters p config.parameters) (told_at k i).0 ∙ tied config.parameters) j) (hash_in a (e j)) None)
+      ∙ (λ j. cond (same_itself a a refl j && spelled_back h o j) (Some (read_label (base32_lower h))) None)
+      ∙ ap Some (sym (facts.reads_back h o).value)
+    where
+      tied : (p : Parameters) → same_parameters p p ≡ true
+      tied p = λ j. (eq-eqb p.algorithm p.algorithm refl j && eq-eqb p.iterations p.iterations refl j) && (bytes_decides p.salt p.salt).1 refl j
+
+  -- the place of the record that says something of d, where no other name of the chain has its hash
+  module _ (d : Name) (low : is_at_or_below d a ≡ true) (v : Octets) (alone : IsAlone L a config d v) where
+    one : IsMatchedOrCoveredOnce L a config links d v
+    one = facts.mirrors.each d v low alone
+
+    -- a record that matches or covers the hash is that one
+    record_is : (k : HashedLink) (s : Stands links k) → matches_or_covers octets_before (record_at k s).0 k.next v ≡ true → (k ≡ one.link) × ((record_at k s).0 ≡ one.hash)
+    record_is k s h =
+        let r = (record_at k s).1 in
+        let place : s.place ≡ one.place = one.only s.place k (record_at k s).0 r h in
+        let found : Some k ≡ Some one.link = sym s.there ∙ ap (slice_get links) place ∙ one.is.there in
+        let same : k ≡ one.link = cc in
+        let owner : hashed_owner a (record_at k s).0 ≡ hashed_owner a one.hash = sym r.spelled ∙ ap (λ m. m.owner) same ∙ one.is.spelled in
+        let text : base32_lower (record_at k s).0 ≡ base32_lower one.hash = cc in
+        (same, facts.tells_apart (record_at k s).0 one.hash r.octets one.is.octets text)
+
+    says : (test : Octets → Bool) (k : HashedLink) (i : In k links) (s : Stands links k) → is_some_with test (owner_hash a config.parameters k) ≡ test (record_at k s).0
+    says test k i s = let r = (record_at k s).1 in ap (is_some_with test) (hash_at k i (record_at k s).0 r.octets r.spelled)
+
+    -- a record that matches the hash is that of d, which is a name of the chain
+    pub matched_once : (k : HashedLink) (i : In k links) (s : Stands links k) → is_hash_match a config.parameters v k ≡ true → (is_chain_name L a config d ≡ true) × (k.bits ≡ bitmap_octets (nsec3_lists L a config d))
+    matched_once k i s h =
+        let m : matches octets_before (record_at k s).0 v ≡ true = sym (says (λ u. matches octets_before u v) k i s) ∙ h in
+        let is = record_is k s (or_left (matches octets_before (record_at k s).0 v) (covers octets_before (record_at k s).0 k.next v) m) in
+        let known : is_chain_name L a config d ≡ true = sym one.matched ∙ ap (λ u. matches octets_before u v) (sym is.1) ∙ m in
+        (known, ap (λ l. l.bits) is.0 ∙ one.bits known)
+
+    -- no record covers the hash of a name of the chain
+    pub covered_never : is_chain_name L a config d ≡ true → (k : HashedLink) (i : In k links) (s : Stands links k) → is_hash_cover a config.parameters v k ≡ true → ⊥
+    covered_never known k i s h =
+        let c : covers octets_before (record_at k s).0 k.next v ≡ true = sym (says (λ u. covers octets_before u k.next v) k i s) ∙ h in
+        let is = record_is k s (or_right (matches octets_before (record_at k s).0 v) (covers octets_before (record_at k s).0 k.next v) c) in
+        let m : matches octets_before (record_at k s).0 v ≡ true = ap (λ u. matches octets_before u v) is.1 ∙ one.matched ∙ known in
+        false≢true (sym (not-true (matches octets_before (record_at k s).0 v) (and_parts (not (matches octets_before (record_at k s).0 v)) (cond (octets_before (record_at k s).0 k.next) (octets_before (record_at k s).0 v && octets_before v k.next) (octets_before (record_at k s).0 v || octets_before v k.next)) c).0) ∙ m)

@@ -1,0 +1,470 @@
+-- What a list of records of an NSEC3 chain says is what it proves.
+use Rattle.std.proofs.Common.{◌≡◌, ◌≢◌, ℕ, ◌+◌, ◌-◌, ◌≤◌, ◌<◌, Bool, true, false, cond, not, ◌&&◌, ◌||◌, List, [], ◌∷◌, All, length, drop, refl, sym, ap, ◌∙◌, subst, inl, inr, ◌⊎◌, nat_eq, Option, Some, None, arith}
+use Rattle.std.specs.Prelude.{Ok, filter}
+use Rattle.std.specs.List.{find, list_any, Contains, range_with_len}
+use Rattle.std.proofs.lemmas.Bool.{cases_Bool, cases_lt, false≢true, and_parts, and_from, or_left, or_right}
+use Rattle.std.proofs.lemmas.List.FromFn.{get_or-range_with_len, length-range_with_len}
+use Rattle.std.proofs.lemmas.Option.{slice_get-get_or}
+use Rattle.domain_octets.specs.Words.{Octets}
+use Rattle.domain_base.specs.Name.{is_at_or_below, is_strictly_below, lowered, same_name}
+use Rattle.domain_base.specs.Types.{ds, ns, rrsig}
+use Rattle.domain_base.specs.Words.{Name}
+use Rattle.domain_bitmap.specs.Bitmap.{bitmap_octets}
+use Rattle.domain_bitmap.specs.Blocks.{contains_type, types_of, types_below}
+use Rattle.domain_chain_rdata.specs.OptOut.{is_opt_out}
+use Rattle.domain_zone.specs.Enclosers.{exists_over, IsClosestEncloser}
+use Rattle.domain_zone.specs.Zone.{ZoneRecord, has_type, is_zone_cut, lists_type, owns, records_of, unoccluded_owners}
+use Rattle.domain_zone.proofs.NameLemmas.{one_lowered, same_itself, same_lowered, lowered_below, below_itself, below_trans, below_longer, below_length}
+use Rattle.domain_nsec3.specs.Chain.{HashedLink, IsHashedChain}
+use Rattle.domain_nsec3.specs.Config.{ChainConfig, Hash, Parameters, hash_name}
+use Rattle.domain_nsec3.specs.Meaning.{AreAlone, IsAlone}
+use Rattle.domain_nsec3.specs.Owners.{is_chain_name, is_empty, is_excluded, is_listed, is_original_owner, is_unsigned_cut, nsec3_lists, original_owners}
+use Rattle.domain_checker.specs.HashedList.{is_hash_match, is_hash_cover}
+use Rattle.domain_checker.specs.HashedReading.{is_none, tells_cut, hash_match_verdict, hash_cover_verdict, told_verdict, IsNextHash, IsUnmatched, IsWalked}
+use Rattle.domain_checker.specs.HashedVerdict.{is_below_chain_cut, original_verdict, missing_verdict, hashed_zone_verdict, next_closer, is_ok_with, is_matched, is_covered, proves, hashed_proved_verdict, IsHashedProved, IsFirstMatched, lists_ns, is_told_cut, HasHashedProof}
+use Rattle.domain_checker.specs.Verdict.{closest_encloser, IsWithin}
+use Rattle.domain_checker.specs.declared.verdict.Verdict.{Verdict}
+use Rattle.domain_checker.specs.declared.verdict.Verdict.TheVariants.{OutsideZone, BelowDelegation, Has, NoType, EmptyName, NotProven}
+use Rattle.domain_checker.proofs.EncloserLemmas.{closest_is, cut_same, exists_same, owner_owns, same_length, strictly_longer}
+use Rattle.domain_checker.proofs.FindLemmas.{In, any_in, any_none, in_any, in_at, in_filter, find_some, find_none, Stands, stands_all}
+use Rattle.domain_checker.proofs.HashedListLemmas.{ChainFacts, covered_never, hash_same, matched_once, told_at}
+use Rattle.domain_checker.proofs.HashedWalkLemmas.{below_strictly, closer_is, same_back, same_count}
+
+-- ---- a bitmap without types
+
+nil_none : (types : ℕ → Bool) → types_of (bitmap_octets types) ≡ types_below 65536 types → ((t : ℕ) → types t ≡ false) → is_none (types_of (bitmap_octets types)) ≡ true
+unfolding types_below
+nil_none types gives f = ap is_none gives ∙ each (range_with_len 0 65536)
+  where
+    each : (ts : List ℕ) → is_none (filter types ts) ≡ true
+    each [] = refl
+    each (t ∷ ts) = (λ i. is_none (cond (f t i) (t ∷ filter types ts) (filter types ts))) ∙ each ts
+
+filter_some : (p : ℕ → Bool) (ts : List ℕ) → list_any p ts ≡ true → is_none (filter p ts) ≡ false
+filter_some p [] h = absurd (false≢true h)
+filter_some p (t ∷ ts) h =
+    elim (p t) as (λ b. (b || list_any p ts) ≡ true → is_none (cond b (t ∷ filter p ts) (filter p ts)) ≡ false) [
+      | true ↦ λ k. refl
+      | false ↦ λ k. filter_some p ts k
+    ] h
+
+in_range : (n t : ℕ) → t < n → In t (range_with_len 0 n)
+in_range n t l =
+    let within : t < length (range_with_len 0 n) = subst (λ m. t < m) (sym (length-range_with_len 0 n)) l in
+    in_at (range_with_len 0 n) t t (slice_get-get_or (range_with_len 0 n) t 0 within ∙ ap Some (get_or-range_with_len 0 n t 0 l ∙ omega arith))
+
+nil_some : (types : ℕ → Bool) → types_of (bitmap_octets types) ≡ types_below 65536 types → (t : ℕ) → t < 65536 → types t ≡ true → is_none (types_of (bitmap_octets types)) ≡ false
+unfolding types_below
+nil_some types gives t b e =
+    ap is_none gives
+    ∙ filter_some types (range_with_len 0 65536) (in_any types (range_with_len 0 65536) t (in_range 65536 t b) e)
+
+-- ---- the types of a name
+
+-- a name that owns a record of a type owns records
+typed_owns : (L : List ZoneRecord) (n : Name) (t : ℕ) → has_type (records_of L n) t ≡ true → owns L n ≡ true
+typed_owns L n t h =
+    let r = any_in (λ r. nat_eq r.rtype t) (records_of L n) h in
+    let m = in_filter (λ r. same_name r.owner n) L r.0 r.1 in
+    in_any (λ r. same_name r.owner n) L r.0 m.0 m.1
+
+module _ (L : List ZoneRecord) (a : Name) (config : ChainConfig) where
+  -- NS is listed where the name owns NS records
+  ns_listed : (n : Name) → nsec3_lists L a config n ns ≡ has_type (records_of L n) ns
+  ns_listed n = by (owns L n) (is_zone_cut L a n) (has_type (records_of L n) ns) (typed_owns L n ns)
+    where
+      by : (o c h : Bool) → (h ≡ true → o ≡ true) → (o && ((((false && not (is_unsigned_cut L a n)) || (false && same_name n a)) || (false && (config.assume_dnskeys_will_be_added && same_name n a))) || (h && ((not c || true) || false)))) ≡ h
+      by true true true f = refl
+      by true true false f = refl
+      by true false true f = refl
+      by true false false f = refl
+      by false c true f = f refl
+      by false c false f = refl
+
+  -- an original owner name has RRSIG or NS
+  some_listed : (n : Name) → owns L n ≡ true → (nsec3_lists L a config n rrsig ≡ true) ⊎ (nsec3_lists L a config n ns ≡ true)
+  some_listed n o =
+      elim (cases_Bool (is_unsigned_cut L a n)) [
+        | inl e ↦
+            let cut = (and_parts (is_zone_cut L a n) (not (has_type (records_of L n) ds)) e).0 in
+            inr (ns_listed n ∙ (and_parts (is_strictly_below n a) (has_type (records_of L n) ns) cut).1)
+        | inr e ↦ inl (λ i. o i && ((((true && not (e i)) || (false && same_name n a)) || (false && (config.assume_dnskeys_will_be_added && same_name n a))) || lists_type (is_zone_cut L a n) (records_of L n) rrsig))
+      ]
+
+  original_owns : (x : Name) → is_original_owner L a config x ≡ true → owns L x ≡ true
+  original_owns x h =
+      let m = any_in (λ n. same_name n x) (original_owners L a config) h in
+      owner_owns config.occlude_below_dname L a m.0 x (in_filter (λ n. not (is_excluded L a config n)) (unoccluded_owners config.occlude_below_dname L a) m.0 m.1).0 m.2
+
+  -- a name of the chain that is no original owner lists nothing
+  empty_lists : (x : Name) → is_chain_name L a config x ≡ true → is_original_owner L a config x ≡ false → (t : ℕ) → nsec3_lists L a config x t ≡ false
+  empty_lists x h out t =
+      let e : is_empty L a config x ≡ true = sym (λ i. out i || is_empty L a config x) ∙ h in
+      let q = and_parts (is_at_or_below x a && not (owns L x)) (list_any (λ n. is_strictly_below n x) (original_owners L a config)) e in
+      let other = (and_parts (is_at_or_below x a) (not (owns L x)) q.0).1 in
+      let none : owns L x ≡ false = elim (cases_Bool (owns L x)) [
+        | inl o ↦ absurd (false≢true (ap not (sym o) ∙ other))
+        | inr o ↦ o
+      ] in
+      λ i. none i && is_listed (is_unsigned_cut L a x) (same_name x a) (config.assume_dnskeys_will_be_added && same_name x a) (is_zone_cut L a x) (records_of L x) t
+
+none_found : {X : Type 0} (p : X → Bool) (xs : List X) → ((x : X) → In x xs → p x ≡ true → ⊥) → find p xs ≡ None
+none_found p [] f = refl
+none_found p (x ∷ xs) f =
+    elim (cases_Bool (p x)) [
+      | inl e ↦ absurd (f x (inl refl) e)
+      | inr e ↦ (λ i. cond (e i) (Some x) (find p xs)) ∙ none_found p xs (λ y i. f y (inr i))
+    ]
+
+module _ (L : List ZoneRecord) (a : Name) (config : ChainConfig) (links : List HashedLink) (facts : ChainFacts L a config links)
+    (listed : List HashedLink) (among : (k : HashedLink) → In k listed → Stands links k)
+    (x : Name) (low : is_at_or_below x a ≡ true) (free : AreAlone L a config x) where
+  abbrev owners : List Name
+  owners = original_owners L a config
+
+  abbrev en : Name
+  en = closest_encloser (original_owners L a config) a x
+
+  abbrev matched : Name → Bool
+  matched = is_matched a config.parameters config.hash listed
+
+  abbrev covered : Name → Bool
+  covered = is_covered a config.parameters config.hash listed
+
+  apex_exists : exists_over (original_owners L a config) a a ≡ true
+  apex_exists =
+      let e = facts.tells.encloser x low in
+      let p = and_parts (is_at_or_below e.0 a) (list_any (λ n. is_at_or_below n e.0) owners) e.1.found in
+      let m = any_in (λ n. is_at_or_below n e.0) owners p.1 in
+      and_from (is_at_or_below a a) (list_any (λ n. is_at_or_below n a) owners) (below_itself a)
+      (in_any (λ n. is_at_or_below n a) owners m.0 m.1 (below_trans m.0 e.0 a m.2 p.0))
+
+  closest : IsClosestEncloser (original_owners L a config) a x (closest_encloser (original_owners L a config) a x)
+  closest = closest_is (original_owners L a config) a x apex_exists low
+
+  within_links : (k : HashedLink) → In k listed → In k links
+  within_links k i = let s = among k i in in_at links s.place k s.there
+
+  -- without the record of the closest encloser nothing is proved
+  untold : (t : ℕ) → is_matched a config.parameters config.hash listed (closest_encloser (original_owners L a config) a x) ≡ false → NotProven ≡ hashed_proved_verdict L a config listed x t
+  untold t f =
+      sym (λ j. cond (not (low j) || (f j && ((same_name en x || is_zone_cut L a en) || covered (next_closer x en)))) (hashed_zone_verdict L a config x t) NotProven)
+
+  pub none_proved : (t : ℕ) → IsUnmatched listed a config.parameters config.hash x → NotProven ≡ hashed_proved_verdict L a config listed x t
+  none_proved t f =
+      untold t (f en closest.above (and_parts (is_at_or_below en a) (list_any (λ n. is_at_or_below n en) owners) closest.found).0)
+
+  -- what exists is not strictly below a zone cut of the chain
+  cut_apart : (c y : Name) → is_zone_cut L a c ≡ true → is_original_owner L a config c ≡ true → exists_over (original_owners L a config) a y ≡ true → is_strictly_below y c ≡ true → ⊥
+  cut_apart c y cut original there s =
+      let l = (facts.cuts.each c y cut original s).longest y there (below_itself y) in
+      let m = strictly_longer y c s in
+      omega arith
+
+  record CutAbove (y : Name) : Type 0 where
+    cut : Name
+    is_cut : is_zone_cut L a cut ≡ true
+    original : is_original_owner L a config cut ≡ true
+    under : is_strictly_below y cut ≡ true
+
+  cut_above : (y : Name) → is_below_chain_cut L a config y ≡ true → CutAbove y
+  cut_above y h =
+      let m = any_in (λ n. is_zone_cut L a n && is_strictly_below y n) owners h in
+      let p = and_parts (is_zone_cut L a m.0) (is_strictly_below y m.0) m.2 in
+      record { cut = m.0; is_cut = p.0; original = in_any (λ n. same_name n m.0) owners m.0 m.1 (same_itself m.0 m.0 refl); under = p.1 }
+
+  below_cut : (c y : Name) → is_zone_cut L a c ≡ true → is_original_owner L a config c ≡ true → is_strictly_below y c ≡ true → is_below_chain_cut L a config y ≡ true
+  below_cut c y cut original s =
+      let m = any_in (λ n. same_name n c) owners original in
+      let at : Name → Bool = λ k. lowered_below (lowered y) k && not (same_lowered (lowered y) k) in
+      in_any (λ n. is_zone_cut L a n && is_strictly_below y n) owners m.0 m.1
+      (and_from (is_zone_cut L a m.0) (is_strictly_below y m.0) (cut_same L a m.0 c m.2 ∙ cut) (ap at (one_lowered m.0 c m.2) ∙ s))
+
+  not_below : (y : Name) → exists_over (original_owners L a config) a y ≡ true → is_below_chain_cut L a config y ≡ false
+  not_below y there =
+      elim (cases_Bool (is_below_chain_cut L a config y)) [
+        | inl f ↦ let c = cut_above y f in absurd (cut_apart c.cut y c.is_cut c.original there c.under)
+        | inr f ↦ f
+      ]
+
+  -- d is the first that is matched, v its hash, and k the first record that matches it
+  module _ (d : Name) (first : IsFirstMatched a config.parameters config.hash listed x d) (v : Octets) (known : hash_name config.hash d ≡ Ok v) (k : HashedLink) (found : find (is_hash_match a config.parameters v) listed ≡ Some k) where
+    alone_at : (y : Name) → is_at_or_below x y ≡ true → is_at_or_below y a ≡ true → (w : Octets) → hash_name config.hash y ≡ Ok w → IsAlone L a config y w
+    alone_at y up in_zone w is =
+        let f = free y up in_zone in
+        let same : f.0 ≡ w = let e : Ok f.0 ≡ Ok w = sym f.1.known ∙ is in cc in
+        subst (IsAlone L a config y) same f.1
+
+    passes : In k listed × (is_hash_match a config.parameters v k ≡ true)
+    passes = find_some (is_hash_match a config.parameters v) listed k found
+
+    told : (is_chain_name L a config d ≡ true) × (k.bits ≡ bitmap_octets (nsec3_lists L a config d))
+    told = matched_once L a config links facts d first.within v (alone_at d first.above first.within v known) k (within_links k passes.0) (among k passes.0) passes.1
+
+    exists : exists_over (original_owners L a config) a d ≡ true
+    exists = facts.exist d first.within ∙ told.0
+
+    shorter : length d ≤ length (closest_encloser (original_owners L a config) a x)
+    shorter = closest.longest d exists first.above
+
+    down : is_at_or_below (closest_encloser (original_owners L a config) a x) d ≡ true
+    down = below_longer x en d closest.above first.above shorter
+
+    type_at : (t : ℕ) → t < 65536 → contains_type k.bits t ≡ nsec3_lists L a config d t
+    type_at t b = ap (λ o. contains_type o t) told.1 ∙ facts.contains (nsec3_lists L a config d) t b
+
+    -- the record says whether d is a zone cut
+    told_cut : tells_cut a d k ≡ is_zone_cut L a d
+    told_cut =
+        (λ j. not (same_name d a) && (type_at ns (omega arith) ∙ ns_listed L a config d) j)
+        ∙ (λ j. (sym first.within j && not (same_name d a)) && has_type (records_of L d) ns)
+
+    -- a zone cut that is matched is an original owner name
+    cut_original : is_zone_cut L a d ≡ true → is_original_owner L a config d ≡ true
+    cut_original c =
+        elim (cases_Bool (is_original_owner L a config d)) [
+          | inl h ↦ h
+          | inr h ↦ absurd (false≢true (sym (facts.left_out d c h) ∙ told.0))
+        ]
+
+    -- ---- where d is the closest encloser
+
+    module _ (level : length (closest_encloser (original_owners L a config) a x) ≤ length d) (t : ℕ) (bound : t < 65536) where
+      is_d : same_name (closest_encloser (original_owners L a config) a x) d ≡ true
+      is_d = same_length en d down level
+
+      proves_is : proves L a config listed x ≡ ((same_name d x || is_zone_cut L a d) || is_covered a config.parameters config.hash listed (next_closer x d))
+      proves_is =
+          let long : length en ≡ length d = omega (arith, shorter, level) in
+          λ j. (ap (is_ok_with (λ v. list_any (is_hash_match a config.parameters v) listed)) (hash_same config.hash en d is_d) ∙ first.found) j
+          && ((same_lowered (one_lowered en d is_d j) (lowered x) || cut_same L a en d is_d j) || covered (drop (length x - (long j + 1)) x))
+
+      proved : (w : Verdict) → ((same_name d x || is_zone_cut L a d) || is_covered a config.parameters config.hash listed (next_closer x d)) ≡ true → w ≡ hashed_zone_verdict L a config x t → w ≡ hashed_proved_verdict L a config listed x t
+      proved w h f = f ∙ sym (λ j. cond (not (low j) || (proves_is ∙ h) j) (hashed_zone_verdict L a config x t) NotProven)
+
+      inside : (w : Verdict) → is_below_chain_cut L a config x ≡ false → w ≡ cond (is_original_owner L a config x) (original_verdict L a config x t) (cond (exists_over (original_owners L a config) a x) EmptyName (missing_verdict (is_opt_out config.flags) (length (closest_encloser (original_owners L a config) a x)))) → w ≡ hashed_zone_verdict L a config x t
+      inside w n f =
+          f ∙ sym (λ j. cond (not (low j)) OutsideZone (cond (n j) BelowDelegation (cond (is_original_owner L a config x) (original_verdict L a config x t) (cond (exists_over owners a x) EmptyName (missing_verdict (is_opt_out config.flags) (length en))))))
+
+      -- the name itself
+      at_name : same_name d x ≡ true → hash_match_verdict a d k t ≡ hashed_proved_verdict L a config listed x t
+      at_name s =
+          let there : exists_over owners a x ≡ true = sym (exists_same owners a d x s) ∙ exists in
+          proved (hash_match_verdict a d k t) (λ j. (s j || is_zone_cut L a d) || covered (next_closer x d))
+          (inside (hash_match_verdict a d k t) (not_below x there)
+          (elim (cases_Bool (is_original_owner L a config x)) [
+            | inl h ↦
+                (λ j. cond ((type_at t bound ∙ facts.alike d x s t) j) Has (cond ((told_cut ∙ cut_same L a d x s) j && not (nat_eq t ds)) BelowDelegation (cond (typed (some_listed L a config x (original_owns L a config x h)) j) EmptyName NoType)))
+                ∙ sym (λ j. cond (h j) (original_verdict L a config x t) (cond (exists_over owners a x) EmptyName (missing_verdict (is_opt_out config.flags) (length en))))
+            | inr h ↦
+                let no_bit : (u : ℕ) → nsec3_lists L a config d u ≡ false = λ u. facts.alike d x s u ∙ empty_lists L a config x (sym (facts.exist x low) ∙ there) h u in
+                let no_cut : tells_cut a d k ≡ false = (λ j. not (same_name d a) && (type_at ns (omega arith) ∙ no_bit ns) j) ∙ none (not (same_name d a)) in
+                (λ j. cond ((type_at t bound ∙ no_bit t) j) Has (cond (no_cut j && not (nat_eq t ds)) BelowDelegation (cond (empty no_bit j) EmptyName NoType)))
+                ∙ sym (λ j. cond (h j) (original_verdict L a config x t) (cond (there j) EmptyName (missing_verdict (is_opt_out config.flags) (length en))))
+          ]))
+        where
+          none : (b : Bool) → (b && false) ≡ false
+          none true = refl
+          none false = refl
+
+          typed : (nsec3_lists L a config x rrsig ≡ true) ⊎ (nsec3_lists L a config x ns ≡ true) → is_none (types_of k.bits) ≡ false
+          typed (inl e) = ap (λ o. is_none (types_of o)) told.1 ∙ nil_some (nsec3_lists L a config d) (facts.gives (nsec3_lists L a config d)) rrsig (omega arith) (facts.alike d x s rrsig ∙ e)
+          typed (inr e) = ap (λ o. is_none (types_of o)) told.1 ∙ nil_some (nsec3_lists L a config d) (facts.gives (nsec3_lists L a config d)) ns (omega arith) (facts.alike d x s ns ∙ e)
+
+          empty : ((u : ℕ) → nsec3_lists L a config d u ≡ false) → is_none (types_of k.bits) ≡ true
+          empty f = ap (λ o. is_none (types_of o)) told.1 ∙ nil_none (nsec3_lists L a config d) (facts.gives (nsec3_lists L a config d)) f
+
+      longer : same_name d x ≡ false → length d < length x
+      longer s = elim (cases_lt (length d) (length x)) [
+        | inl h ↦ h
+        | inr h ↦ absurd (false≢true (sym s ∙ same_back x d (same_length x d first.above h)))
+      ]
+
+      -- a zone cut above
+      at_cut : same_name d x ≡ false → is_zone_cut L a d ≡ true → BelowDelegation ≡ hashed_proved_verdict L a config listed x t
+      at_cut s c =
+          let under = below_strictly x d first.above (longer s) in
+          proved BelowDelegation (or_left (same_name d x || is_zone_cut L a d) (covered (next_closer x d)) (or_right (same_name d x) (is_zone_cut L a d) c))
+          (sym (λ j. cond (not (low j)) OutsideZone (cond (below_cut d x c (cut_original c) under j) BelowDelegation (cond (is_original_owner L a config x) (original_verdict L a config x t) (cond (exists_over owners a x) EmptyName (missing_verdict (is_opt_out config.flags) (length en)))))))
+
+      -- no zone cut, and a cover or none
+      at_gap : same_name d x ≡ false → is_zone_cut L a d ≡ false → (w : Octets) → hash_name config.hash (next_closer x d) ≡ Ok w → hash_cover_verdict (length d) (find (is_hash_cover a config.parameters w) listed) ≡ hashed_proved_verdict L a config listed x t
+      at_gap s c w asked = by (find (is_hash_cover a config.parameters w) listed) refl
+        where
+          covered_is : is_covered a config.parameters config.hash listed (next_closer x d) ≡ list_any (is_hash_cover a config.parameters w) listed
+          covered_is = ap (is_ok_with (λ v. list_any (is_hash_cover a config.parameters v) listed)) asked
+
+          not_there : exists_over (original_owners L a config) a x ≡ false
+          not_there =
+              elim (cases_Bool (exists_over owners a x)) [
+                | inl h ↦ let l = closest.longest x h (below_itself x) in absurd (omega (arith, l, level, longer s))
+                | inr h ↦ h
+              ]
+
+          not_original : is_original_owner L a config x ≡ false
+          not_original =
+              elim (cases_Bool (is_original_owner L a config x)) [
+                | inl h ↦ absurd (false≢true (sym not_there ∙ facts.exist x low ∙ or_left (is_original_owner L a config x) (is_empty L a config x) h))
+                | inr h ↦ h
+              ]
+
+          no_cut_above : is_below_chain_cut L a config x ≡ false
+          no_cut_above =
+              elim (cases_Bool (is_below_chain_cut L a config x)) [
+                | inl f ↦
+                    let r = cut_above x f in
+                    let above = (and_parts (is_at_or_below x r.cut) (not (same_name x r.cut)) r.under).0 in
+                    let e = facts.cuts.each r.cut x r.is_cut r.original r.under in
+                    let l = closest.longest r.cut e.found above in
+                    let under = below_longer x d r.cut first.above above (omega (arith, l, level)) in
+                    elim (cases_Bool (same_name d r.cut)) [
+                      | inl g ↦ absurd (false≢true (sym c ∙ cut_same L a d r.cut g ∙ r.is_cut))
+                      | inr g ↦ absurd (cut_apart r.cut d r.is_cut r.original exists (and_from (is_at_or_below d r.cut) (not (same_name d r.cut)) under (ap not g)))
+                    ]
+                | inr f ↦ f
+              ]
+
+          by : (o : Option HashedLink) → find (is_hash_cover a config.parameters w) listed ≡ o → hash_cover_verdict (length d) (find (is_hash_cover a config.parameters w) listed) ≡ hashed_proved_verdict L a config listed x t
+          by None f =
+              let none = any_none (is_hash_cover a config.parameters w) listed (find_none (is_hash_cover a config.parameters w) listed f) in
+              ap (hash_cover_verdict (length d)) f
+              ∙ sym (λ j. cond (not (low j) || (proves_is ∙ (λ i. (s i || c i) || (covered_is ∙ none) i)) j) (hashed_zone_verdict L a config x t) NotProven)
+          by (Some r) f =
+              let g = find_some (is_hash_cover a config.parameters w) listed r f in
+              let some = in_any (is_hash_cover a config.parameters w) listed r g.0 g.1 in
+              let long : length d ≡ length en = omega (arith, shorter, level) in
+              ap (hash_cover_verdict (length d)) f
+              ∙ (λ j. missing_verdict (ap is_opt_out (told_at L a config links facts r (within_links r g.0)).1 j) (long j))
+              ∙ proved (missing_verdict (is_opt_out config.flags) (length en))
+              (or_right (same_name d x || is_zone_cut L a d) (covered (next_closer x d)) (covered_is ∙ some))
+              (inside (missing_verdict (is_opt_out config.flags) (length en)) no_cut_above
+              (sym (λ j. cond (not_original j) (original_verdict L a config x t) (cond (not_there j) EmptyName (missing_verdict (is_opt_out config.flags) (length en))))))
+
+      at_level : (next : Option Octets) → IsNextHash config.hash x d next → told_verdict a config.parameters listed d k t next ≡ hashed_proved_verdict L a config listed x t
+      at_level None s = at_name s
+      at_level (Some w) n =
+          (λ j. cond (told_cut j) BelowDelegation (hash_cover_verdict (length d) (find (is_hash_cover a config.parameters w) listed)))
+          ∙ elim (cases_Bool (is_zone_cut L a d)) [
+            | inl c ↦ (λ j. cond (c j) BelowDelegation (hash_cover_verdict (length d) (find (is_hash_cover a config.parameters w) listed))) ∙ at_cut n.0 c
+            | inr c ↦ (λ j. cond (c j) BelowDelegation (hash_cover_verdict (length d) (find (is_hash_cover a config.parameters w) listed))) ∙ at_gap n.0 c w n.1
+          ]
+
+    -- ---- where the record of the closest encloser is not in the list
+
+    module _ (deeper : length d < length (closest_encloser (original_owners L a config) a x)) (t : ℕ) where
+      strictly : is_strictly_below (closest_encloser (original_owners L a config) a x) d ≡ true
+      strictly = below_strictly en d down deeper
+
+      no_cut : tells_cut a d k ≡ false
+      no_cut =
+          told_cut ∙ elim (cases_Bool (is_zone_cut L a d)) [
+            | inl f ↦ absurd (cut_apart d en f (cut_original f) closest.found strictly)
+            | inr f ↦ f
+          ]
+
+      no_cover : (w : Octets) → hash_name config.hash (next_closer x d) ≡ Ok w → find (is_hash_cover a config.parameters w) listed ≡ None
+      no_cover w asked =
+          let m = below_length x en closest.above in
+          let q = next_closer x d in
+          let closer = closer_is x d first.above (omega (arith, m, deeper)) in
+          let down_d = (and_parts (is_at_or_below q d) (not (same_name q d)) closer.below).0 in
+          let in_zone = below_trans q d a down_d first.within in
+          let under = below_longer x en q closest.above closer.above (omega (arith, closer.long, deeper)) in
+          let e = and_parts (is_at_or_below en a) (list_any (λ n. is_at_or_below n en) owners) closest.found in
+          let o = any_in (λ n. is_at_or_below n en) owners e.1 in
+          let there : exists_over owners a q ≡ true = and_from (is_at_or_below q a) (list_any (λ n. is_at_or_below n q) owners) in_zone (in_any (λ n. is_at_or_below n q) owners o.0 o.1 (below_trans o.0 en q o.2 under)) in
+          none_found (is_hash_cover a config.parameters w) listed
+          (λ r i h. covered_never L a config links facts q in_zone w (alone_at q closer.above in_zone w asked) (sym (facts.exist q in_zone) ∙ there) r (within_links r i) (among r i) h)
+
+      at_higher : (next : Option Octets) → IsNextHash config.hash x d next → told_verdict a config.parameters listed d k t next ≡ hashed_proved_verdict L a config listed x t
+      at_higher None s =
+          let n = same_count d x s in
+          let m = below_length x en closest.above in
+          absurd (omega (arith, n, m, deeper))
+      at_higher (Some w) n =
+          (λ j. cond (no_cut j) BelowDelegation (hash_cover_verdict (length d) (no_cover w n.1 j)))
+          ∙ untold t (first.first en closest.above strictly).2
+
+    pub told_proved : (t : ℕ) → t < 65536 → (next : Option Octets) → IsNextHash config.hash x d next → told_verdict a config.parameters listed d k t next ≡ hashed_proved_verdict L a config listed x t
+    told_proved t b next n =
+        elim (cases_lt (length d) (length (closest_encloser (original_owners L a config) a x))) [
+          | inl h ↦ at_higher h t next n
+          | inr h ↦ at_level h t b next n
+        ]
+
+-- ---- lists from anywhere
+
+module _ (listed : List HashedLink) (a : Name) (p : Parameters) (hash : Hash) (x : Name) (t : ℕ) where
+  told_has_proof : (d : Name) (k : HashedLink) (v : Octets) (next : Option Octets) → IsFirstMatched a p hash listed x d → hash_name hash d ≡ Ok v → find (is_hash_match a p v) listed ≡ Some k → IsNextHash hash x d next → told_verdict a p listed d k t next ≢ NotProven → HasHashedProof listed a p hash x
+  told_has_proof d k v None first known found s n = record {
+    longest = d;
+    first = first;
+    closes = or_left (same_name d x || is_told_cut a p hash listed d) (is_covered a p hash listed (next_closer x d)) (or_left (same_name d x) (is_told_cut a p hash listed d) s);
+  }
+  told_has_proof d k v (Some w) first known found s n = record {
+    longest = d;
+    first = first;
+    closes = elim (cases_Bool (tells_cut a d k)) [
+      | inl c ↦ or_left (same_name d x || is_told_cut a p hash listed d) (is_covered a p hash listed (next_closer x d)) (or_right (same_name d x) (is_told_cut a p hash listed d) (cut_told ∙ c))
+      | inr c ↦ or_right (same_name d x || is_told_cut a p hash listed d) (is_covered a p hash listed (next_closer x d)) (by (find (is_hash_cover a p w) listed) refl c)
+    ];
+  }
+    where
+      cut_told : is_told_cut a p hash listed d ≡ tells_cut a d k
+      cut_told =
+          (λ i. not (same_name d a) && is_ok_with (λ v. lists_ns (find (is_hash_match a p v) listed)) (known i))
+          ∙ (λ i. not (same_name d a) && lists_ns (found i))
+
+      by : (o : Option HashedLink) → find (is_hash_cover a p w) listed ≡ o → tells_cut a d k ≡ false → is_covered a p hash listed (next_closer x d) ≡ true
+      by None e c = absurd (n (λ i. cond (c i) BelowDelegation (hash_cover_verdict (length d) (e i))))
+      by (Some r) e c =
+          let g = find_some (is_hash_cover a p w) listed r e in
+          ap (is_ok_with (λ v. list_any (is_hash_cover a p v) listed)) s.1 ∙ in_any (is_hash_cover a p w) listed r g.0 g.1
+
+  pub walked_has_proof : (verdict : Verdict) → IsWalked listed a p hash x t verdict → verdict ≢ NotProven → HasHashedProof listed a p hash x
+  walked_has_proof verdict (inl w) n = told_has_proof w.name w.link w.value w.next w.first w.known w.found w.closes (λ e. n (w.says ∙ e))
+  walked_has_proof verdict (inr w) n = absurd (n w.0)
+
+  -- the number is that of the labels of an ancestor
+
+  within_match : (n : ℕ) (b c e : Bool) → IsWithin n (cond b Has (cond c BelowDelegation (cond e EmptyName NoType)))
+  within_match n true c e = tt
+  within_match n false true e = tt
+  within_match n false false true = tt
+  within_match n false false false = tt
+
+  within_missing : (n count : ℕ) (o : Bool) → count ≤ n → IsWithin n (missing_verdict o count)
+  within_missing n count true l = l
+  within_missing n count false l = l
+
+  within_cover : (n count : ℕ) (o : Option HashedLink) → count ≤ n → IsWithin n (hash_cover_verdict count o)
+  within_cover n count None l = tt
+  within_cover n count (Some k) l = within_missing n count (is_opt_out k.flags) l
+
+  within_told : (n : ℕ) (d : Name) (k : HashedLink) (next : Option Octets) → length d ≤ n → IsWithin n (told_verdict a p listed d k t next)
+  within_told n d k None l = within_match n (contains_type k.bits t) (tells_cut a d k && not (nat_eq t ds)) (is_none (types_of k.bits))
+  within_told n d k (Some w) l =
+      elim (tells_cut a d k) as (λ b. IsWithin n (cond b BelowDelegation (hash_cover_verdict (length d) (find (is_hash_cover a p w) listed)))) [
+        | true ↦ tt
+        | false ↦ within_cover n (length d) (find (is_hash_cover a p w) listed) l
+      ]
+
+  pub walked_within : (verdict : Verdict) → IsWalked listed a p hash x t verdict → IsWithin (length x) verdict
+  walked_within verdict (inl w) = subst (IsWithin (length x)) (sym w.says) (within_told (length x) w.name w.link w.next (below_length x w.name w.first.above))
+  walked_within verdict (inr w) = subst (IsWithin (length x)) (sym w.0) tt
+
+-- what the laws say of every chain
+abbrev pub KnowsChains : Type 0
+KnowsChains = (L : List ZoneRecord) (a : Name) (config : ChainConfig) (links : List HashedLink) → IsHashedChain L a config links → ChainFacts L a config links
+
+-- for records of the chain of any zone
+pub walked_proved : KnowsChains → (listed : List HashedLink) (a : Name) (p : Parameters) (hash : Hash) (x : Name) (t : ℕ) (verdict : Verdict) → t < 65536 → is_at_or_below x a ≡ true → IsWalked listed a p hash x t verdict → IsHashedProved listed a p hash x t verdict
+walked_proved knows listed a p hash x t verdict b low w = λ L config links same_hash same_parameters off chain free among.
+    by L config links (knows L a config links chain) free among
+    (subst (λ h. IsWalked listed a config.parameters h x t verdict) (sym same_hash) (subst (λ q. IsWalked listed a q hash x t verdict) (sym same_parameters) w))
+  where
+    by : (L : List ZoneRecord) (config : ChainConfig) (links : List HashedLink) → ChainFacts L a config links → AreAlone L a config x → All (Contains links) listed → IsWalked listed a config.parameters config.hash x t verdict → verdict ≡ hashed_proved_verdict L a config listed x t
+    by L config links facts free among (inl told) =
+        told.says ∙ told_proved L a config links facts listed (stands_all links listed among) x low free told.name told.first told.value told.known told.link told.found t b told.next told.closes
+    by L config links facts free among (inr none) =
+        none.0 ∙ none_proved L a config links facts listed (stands_all links listed among) x low free t none.1

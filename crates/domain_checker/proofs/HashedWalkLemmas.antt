@@ -1,0 +1,147 @@
+-- The names from x up to the apex: which of them are passed, and the hash of the next closer name.
+use Rattle.std.proofs.Common.{◌≡◌, ℕ, ◌+◌, ◌-◌, ◌≤◌, ◌<◌, zero, suc, true, false, not, List, [], ◌∷◌, ◌++◌, map, length, drop, refl, sym, ap, ◌∙◌, inl, inr, Some, None, arith}
+use Rattle.std.specs.Prelude.{Ok}
+use Rattle.std.specs.Char.{to_ascii_lowercase}
+use Rattle.std.specs.List.{find, list_any}
+use Rattle.std.proofs.lemmas.Bool.{cases_Bool, cases_lt, false≢true, and_from}
+use Rattle.std.proofs.lemmas.List.{length-drop, length-map}
+use Rattle.domain_octets.specs.Words.{Octets}
+use Rattle.domain_base.specs.Name.{is_at_or_below, is_strictly_below, lowered, same_name, wire_of}
+use Rattle.domain_base.specs.Words.{Label, Name}
+use Rattle.domain_zone.proofs.NameLemmas.{one_lowered, same_itself, lowered_below, below_itself, below_trans, below_longer, below_length, below_parent}
+use Rattle.domain_nsec3.specs.Chain.{HashedLink}
+use Rattle.domain_nsec3.specs.Config.{Hash, Parameters, hash_name}
+use Rattle.domain_checker.specs.HashedList.{is_hash_match}
+use Rattle.domain_checker.specs.HashedReading.{IsNextHash, IsUnmatched}
+use Rattle.domain_checker.specs.HashedVerdict.{IsFirst, is_matched, is_ok_with, next_closer}
+use Rattle.domain_checker.proofs.EncloserLemmas.{same_length, strictly_longer}
+use Rattle.domain_checker.proofs.FindLemmas.{any_none, find_none, find_some, in_any}
+use Rattle.domain_checker.proofs.HashedListLemmas.{hash_same}
+
+pub same_back : (x y : Name) → same_name x y ≡ true → same_name y x ≡ true
+same_back x y e = same_itself y x (sym (one_lowered x y e))
+
+-- names that are the same have as many labels
+pub same_count : (x y : Name) → same_name x y ≡ true → length x ≡ length y
+same_count x y e = sym (length-map x (map to_ascii_lowercase)) ∙ ap length (one_lowered x y e) ∙ length-map y (map to_ascii_lowercase)
+
+-- a name at or below another with as many labels is the same; with more it is strictly below
+pub below_strictly : (x d : Name) → is_at_or_below x d ≡ true → length d < length x → is_strictly_below x d ≡ true
+below_strictly x d p l =
+    and_from (is_at_or_below x d) (not (same_name x d)) p
+    (elim (cases_Bool (same_name x d)) [
+      | inl e ↦ let n = same_count x d e in absurd (omega arith)
+      | inr e ↦ ap not e
+    ])
+
+pub below_drop : (n : ℕ) (x : Name) → is_at_or_below x (drop n x) ≡ true
+below_drop zero x = below_itself x
+below_drop (suc n) [] = below_itself []
+below_drop (suc n) (l ∷ x) = below_trans (l ∷ x) x (drop n x) (below_parent l x) (below_drop n x)
+
+-- the next closer name of x, where x is longer than d
+pub record IsCloser (x d : Name) : Type 0 where
+  pub above : is_at_or_below x (next_closer x d) ≡ true
+  pub long : length (next_closer x d) ≡ length d + 1
+  pub below : is_strictly_below (next_closer x d) d ≡ true
+
+pub closer_is : (x d : Name) → is_at_or_below x d ≡ true → length d < length x → IsCloser x d
+closer_is x d p l =
+    let up = below_drop (length x - (length d + 1)) x in
+    let n : length (drop (length x - (length d + 1)) x) ≡ length d + 1 = omega (arith, length-drop (length x - (length d + 1)) x) in
+    record {
+      above = up;
+      long = n;
+      below = below_strictly (next_closer x d) d (below_longer x (next_closer x d) d up p (omega (arith, n))) (omega (arith, n));
+    }
+
+-- ---- wire forms
+
+pub wire_shorter : (l : Label) (x : Name) → length l + 1 ≤ length (wire_of (lowered (l ∷ x)))
+wire_shorter l x = omega (arith, length-map l to_ascii_lowercase, length-append-wire (map to_ascii_lowercase l) (wire_of (lowered x)))
+  where
+    length-append-wire : (u v : Octets) → length u ≤ length (u ++ v)
+    length-append-wire [] v = omega arith
+    length-append-wire (o ∷ u) v = omega (arith, length-append-wire u v)
+
+drop_front : (n : ℕ) (u v : Octets) → length u ≡ n → drop n (u ++ v) ≡ v
+drop_front zero [] v e = refl
+drop_front zero (o ∷ u) v e = absurd (omega arith)
+drop_front (suc n) [] v e = absurd (omega arith)
+drop_front (suc n) (o ∷ u) v e = drop_front n u v (omega arith)
+
+pub wire_above : (l : Label) (x : Name) → drop (length l + 1) (wire_of (lowered (l ∷ x))) ≡ wire_of (lowered x)
+wire_above l x =
+    let n : length (length (map to_ascii_lowercase l) ∷ map to_ascii_lowercase l) ≡ length l + 1 = omega (arith, length-map l to_ascii_lowercase) in
+    drop_front (length l + 1) (length (map to_ascii_lowercase l) ∷ map to_ascii_lowercase l) (wire_of (lowered x)) n
+
+-- ---- names that are passed
+
+module _ (listed : List HashedLink) (a : Name) (p : Parameters) (hash : Hash) where
+  pub none_matched : (d : Name) (v : Octets) → hash_name hash d ≡ Ok v → find (is_hash_match a p v) listed ≡ None → is_matched a p hash listed d ≡ false
+  none_matched d v known none =
+      ap (is_ok_with (λ v. list_any (is_hash_match a p v) listed)) known ∙ any_none (is_hash_match a p v) listed (find_none (is_hash_match a p v) listed none)
+
+  pub some_matched : (d : Name) (v : Octets) (k : HashedLink) → hash_name hash d ≡ Ok v → find (is_hash_match a p v) listed ≡ Some k → is_matched a p hash listed d ≡ true
+  some_matched d v k known found =
+      let f = find_some (is_hash_match a p v) listed k found in
+      ap (is_ok_with (λ v. list_any (is_hash_match a p v) listed)) known ∙ in_any (is_hash_match a p v) listed k f.0 f.1
+
+  pub matched_same : (m n : Name) → same_name m n ≡ true → is_matched a p hash listed m ≡ is_matched a p hash listed n
+  matched_same m n s = ap (is_ok_with (λ v. list_any (is_hash_match a p v) listed)) (hash_same hash m n s)
+
+  module _ (x : Name) where
+    -- at the name itself none is passed
+    pub none_first : IsFirst a p hash listed x x
+    none_first y above below = let l = strictly_longer y x below in let m = below_length x y above in absurd (omega arith)
+
+    -- what is known at a name, where the hash of the one right below it is v
+    pub record IsPassed (left : Name) (v : Octets) : Type 0 where
+      pub above : is_at_or_below x left ≡ true
+      pub within : is_at_or_below left a ≡ true
+      pub first : IsFirst a p hash listed x left
+      pub closes : IsNextHash hash x left (Some v)
+
+    module _ (left : Name) (above : is_at_or_below x left ≡ true) (within : is_at_or_below left a ≡ true) (v : Octets) (known : hash_name hash left ≡ Ok v) (none : find (is_hash_match a p v) listed ≡ None) (first : IsFirst a p hash listed x left) where
+      -- with the last one none is left
+      pub none_left : same_name left a ≡ true → IsUnmatched listed a p hash x
+      none_left s y up low =
+          elim (cases_Bool (same_name y left)) [
+            | inl e ↦ matched_same y left e ∙ none_matched left v known none
+            | inr e ↦
+                let down : is_at_or_below y left ≡ true = ap (λ k. lowered_below (lowered y) k) (one_lowered left a s) ∙ low in
+                (first y up (and_from (is_at_or_below y left) (not (same_name y left)) down (ap not e))).2
+          ]
+
+      pub passed_on : (l : Label) (next : Name) → left ≡ l ∷ next → same_name left a ≡ false → IsPassed next v
+      passed_on l next e other =
+          let parent : is_at_or_below left next ≡ true = ap (λ n. is_at_or_below n next) e ∙ below_parent l next in
+          let count : length left ≡ length next + 1 = ap length e ∙ omega arith in
+          let up : is_at_or_below x next ≡ true = below_trans x left next above parent in
+          let long : length left ≤ length x = below_length x left above in
+          let short : length a ≤ length next = elim (cases_lt (length next) (length a)) [
+            | inl h ↦ absurd (false≢true (sym other ∙ same_length left a within (omega arith)))
+            | inr h ↦ h
+          ] in
+          let closer = closer_is x next up (omega arith) in
+          record {
+            above = up;
+            within = below_longer left next a parent within short;
+            first = λ y g h. on y g h count parent;
+            closes = (
+              elim (cases_Bool (same_name next x)) [
+                | inl s ↦ let n = same_count next x s in absurd (omega arith)
+                | inr s ↦ s
+              ],
+              hash_same hash (next_closer x next) left (same_length (next_closer x next) left (below_longer x (next_closer x next) left closer.above above (omega (arith, closer.long))) (omega (arith, closer.long))) ∙ known,
+            );
+          }
+        where
+          on : (y : Name) → is_at_or_below x y ≡ true → is_strictly_below y next ≡ true → length left ≡ length next + 1 → is_at_or_below left next ≡ true → (w : Octets) × (hash_name hash y ≡ Ok w) × (is_matched a p hash listed y ≡ false)
+          on y g h count parent =
+              let longer = strictly_longer y next h in
+              let down = below_longer x y left g above (omega arith) in
+              elim (cases_Bool (same_name y left)) [
+                | inl s ↦ (v, hash_same hash y left s ∙ known, matched_same y left s ∙ none_matched left v known none)
+                | inr s ↦ first y g (and_from (is_at_or_below y left) (not (same_name y left)) down (ap not s))
+              ]

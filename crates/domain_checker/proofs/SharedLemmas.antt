@@ -1,0 +1,69 @@
+-- The name that two names share has as many labels as they share from the root on.
+use Rattle.std.proofs.Common.{◌≡◌, ◌+◌, max, Bool, true, false, cond, [], ◌∷◌, ◌++◌, map, reverse, length, refl, sym, ap, ◌∙◌, inl, inr, arith, ltb, nat_eq}
+use Rattle.std.specs.List.{common_prefix_len}
+use Rattle.std.specs.Cmp.Lexicographic.{pointwise, bytes_decides}
+use Rattle.std.specs.Char.{to_ascii_lowercase}
+use Rattle.std.proofs.lemmas.Bool.{cases_Bool, false≢true, ltb-true, ltb-false}
+use Rattle.std.proofs.lemmas.List.{length-reverse, length-map, reverse-append}
+use Rattle.domain_base.specs.Laws.{from_root-below, below-from_root}
+use Rattle.domain_base.specs.Name.{lowered, is_at_or_below}
+use Rattle.domain_base.specs.Order.{from_root, common_labels}
+use Rattle.domain_base.specs.Words.{Label, Name}
+use Rattle.domain_zone.specs.Enclosers.{shared, longer}
+use Rattle.domain_zone.proofs.NameLemmas.{below_there, below_back}
+
+abbrev same_label : Label → Label → Bool
+same_label = pointwise nat_eq
+
+-- what goes on from a list shares all of it
+common_whole : (us rest : Name) → common_prefix_len same_label us (us ++ rest) ≡ length us
+common_whole [] rest = refl
+common_whole (u ∷ us) rest =
+    (λ i. cond ((bytes_decides u u).1 refl i) (1 + common_whole us rest i) 0) ∙ omega arith
+
+-- a last label that the other list does not have there is not shared
+common_front : (us : Name) (n : Label) (ws : Name) → ((rest : Name) → ws ≡ (us ++ n ∷ []) ++ rest → ⊥)
+    → common_prefix_len same_label (us ++ n ∷ []) ws ≡ common_prefix_len same_label us ws
+common_front [] n [] h = refl
+common_front [] n (w ∷ ws) h =
+    elim (cases_Bool (same_label n w)) [
+      | inl t ↦ absurd (h ws (ap (λ m. m ∷ ws) (sym ((bytes_decides n w).0 t))))
+      | inr f ↦ λ i. cond (f i) (1 + common_prefix_len same_label [] ws) 0
+    ]
+common_front (u ∷ us) n [] h = refl
+common_front (u ∷ us) n (w ∷ ws) h =
+    elim (cases_Bool (same_label u w)) [
+      | inl t ↦
+          let same : u ≡ w = (bytes_decides u w).0 t in
+          let up = common_front us n ws (λ rest p. h rest (λ j. sym same j ∷ p j)) in
+          λ i. cond (same_label u w) (1 + up i) 0
+      | inr f ↦ (λ i. cond (f i) (1 + common_prefix_len same_label (us ++ n ∷ []) ws) 0) ∙ sym (λ i. cond (f i) (1 + common_prefix_len same_label us ws) 0)
+    ]
+
+-- the name that two share has as many labels
+pub shared_length : (x y : Name) → length (shared x y) ≡ common_labels x y
+shared_length [] y = refl
+shared_length (l ∷ x) y =
+    elim (is_at_or_below y (l ∷ x)) as (λ b. is_at_or_below y (l ∷ x) ≡ b → length (cond b (l ∷ x) (shared x y)) ≡ common_labels (l ∷ x) y) [
+      | true ↦ λ e.
+          let below = below_there y (l ∷ x) e in
+          sym (ap (common_prefix_len same_label (from_root (l ∷ x))) (from_root-below y (l ∷ x) below)
+          ∙ common_whole (from_root (l ∷ x)) (reverse below.front)
+          ∙ length-reverse (lowered (l ∷ x)) ∙ length-map (l ∷ x) (map to_ascii_lowercase))
+      | false ↦ λ e.
+          shared_length x y
+          ∙ sym (ap (λ k. common_prefix_len same_label k (from_root y)) front
+          ∙ common_front (from_root x) (map to_ascii_lowercase l) (from_root y)
+          (λ rest p. false≢true (sym e ∙ below_back y (l ∷ x) (below-from_root y (l ∷ x) rest (p ∙ ap (λ k. k ++ rest) (sym front))))))
+    ] refl
+  where
+    front : from_root (l ∷ x) ≡ from_root x ++ map to_ascii_lowercase l ∷ []
+    front = reverse-append (map to_ascii_lowercase l ∷ []) (lowered x)
+
+-- the longer of two
+pub longer_length : (e f : Name) → max (length e) (length f) ≡ length (longer e f)
+longer_length e f =
+    elim (ltb (length e) (length f)) as (λ b. ltb (length e) (length f) ≡ b → max (length e) (length f) ≡ length (cond b f e)) [
+      | true ↦ λ h. let l = ltb-true (length e) (length f) h in omega arith
+      | false ↦ λ h. let l = ltb-false (length e) (length f) h in omega arith
+    ] refl

@@ -1,0 +1,93 @@
+-- Octets that a label spells, compared with others digit by digit.
+use Rattle.std.proofs.Common.{◌≡◌, ◌≢◌, ℕ, ◌+◌, ◌*◌, ◌/◌, ◌%◌, ◌<◌, ◌≤◌, true, false, [], ◌∷◌, length, drop, refl, sym, ap, ◌∙◌, arith, nat_eq, not}
+use Rattle.std.specs.Prelude.{nat_le}
+use Rattle.std.specs.Ordering.{nat_cmp, ordering_index, ordering_then}
+use Rattle.std.specs.Cmp.Lexicographic.{slice_cmp}
+use Rattle.std.specs.declared.cmp.Ordering.{Ordering}
+use Rattle.std.specs.declared.cmp.Ordering.TheVariants.{Less, Equal, Greater}
+use Rattle.std.proofs.lemmas.Bool.{false≢true, true≢false}
+use Rattle.std.proofs.lemmas.Bool.Decides.{nat_tests}
+use Rattle.std.proofs.lemmas.List.{drop_more, drop_all}
+use Rattle.domain_octets.specs.Codec.{base32_octets, base32_digits}
+use Rattle.domain_octets.specs.Scale.{IsScale, no_bits}
+use Rattle.domain_octets.specs.Words.{Octets}
+use Rattle.domain_octets.proofs.CodecLemmas.{digit_at, widens}
+use Rattle.domain_checker.specs.HashedList.{read_label}
+
+pub nothing_left : (xs : Octets) → length xs ≡ 0 → xs ≡ []
+nothing_left [] e = refl
+nothing_left (x ∷ xs) e = absurd (omega arith)
+
+-- with no octets left the order is decided by whether others are
+pub ends_alike : (xs : Octets) → nat_eq (length xs) 0 ≡ true → Equal ≡ slice_cmp nat_cmp [] xs
+ends_alike [] h = refl
+ends_alike (x ∷ xs) h = let none : length (x ∷ xs) ≡ 0 = grind (arith, nat_tests) in absurd (omega arith)
+
+pub ends_before : (xs : Octets) → nat_eq (length xs) 0 ≡ false → Less ≡ slice_cmp nat_cmp [] xs
+ends_before [] h = absurd (true≢false h)
+ends_before (x ∷ xs) h = refl
+
+-- two orderings are compared by their numbers
+pub equal_by : (o : Ordering) → not (nat_eq (ordering_index o) 1) ≡ false → o ≡ Equal
+equal_by Less h = absurd (true≢false h)
+equal_by Equal h = refl
+equal_by Greater h = absurd (true≢false h)
+
+pub apart_by : (o : Ordering) → not (nat_eq (ordering_index o) 1) ≡ true → o ≢ Equal
+apart_by o h e = false≢true (sym (ap (λ r. not (nat_eq (ordering_index r) 1)) e) ∙ h)
+
+-- a label is read up to a place, and what it spells from there on stands to what is left of the
+-- hash as all of it to the whole hash
+pub record IsCompared (label hash left : Octets) (scale rest at : ℕ) : Type 0 where
+  pub scale_is : IsScale scale
+  pub below : rest < scale
+  pub order : slice_cmp nat_cmp (base32_octets scale rest (base32_digits (drop at label))) left ≡ slice_cmp nat_cmp (read_label label) hash
+
+pub compared_first : (label hash : Octets) → IsCompared label hash hash 1 0 0
+compared_first label hash = record { scale_is = no_bits; below = omega arith; order = refl }
+
+module _ (label hash left : Octets) (scale rest at : ℕ) (inside : at < length label) (small : digit_at label at < 32) (so_far : IsCompared label hash left scale rest at) where
+  pub compared_narrow : 32 * scale < 256 → IsCompared label hash left (32 * scale) (32 * rest + digit_at label at) (at + 1)
+  unfolding base32_octets
+  compared_narrow low =
+      let w = widens scale so_far.scale_is in
+      let test : nat_le 256 (32 * scale) ≡ false = grind (arith, nat_tests) in
+      record {
+        scale_is = w.narrow low;
+        below = omega (arith, so_far.below);
+        order = rw (drop_more label at 0 inside, test) at so_far.order;
+      }
+
+  -- the next octet, and those after it
+  pub compared_octet : 256 ≤ 32 * scale → slice_cmp nat_cmp ((32 * rest + digit_at label at) / (32 * scale / 256) ∷ base32_octets (32 * scale / 256) ((32 * rest + digit_at label at) % (32 * scale / 256)) (base32_digits (drop (at + 1) label))) left ≡ slice_cmp nat_cmp (read_label label) hash
+  unfolding base32_octets
+  compared_octet high =
+      let test : nat_le 256 (32 * scale) ≡ true = grind (arith, nat_tests) in
+      rw (drop_more label at 0 inside, test) at so_far.order
+
+  pub compared_none : 256 ≤ 32 * scale → left ≡ [] → Greater ≡ slice_cmp nat_cmp (read_label label) hash
+  compared_none high none = rw none at (compared_octet high)
+
+  module _ (octet : ℕ) (after : Octets) (first : left ≡ octet ∷ after) where
+    pub compared_apart : 256 ≤ 32 * scale → nat_cmp ((32 * rest + digit_at label at) / (32 * scale / 256)) octet ≢ Equal → nat_cmp ((32 * rest + digit_at label at) / (32 * scale / 256)) octet ≡ slice_cmp nat_cmp (read_label label) hash
+    compared_apart high other = by (nat_cmp ((32 * rest + digit_at label at) / (32 * scale / 256)) octet) _ other ∙ rw first at (compared_octet high)
+      where
+        by : (o r : Ordering) → o ≢ Equal → o ≡ ordering_then o r
+        by Less r n = refl
+        by Equal r n = absurd (n refl)
+        by Greater r n = refl
+
+    pub compared_wide : 256 ≤ 32 * scale → nat_cmp ((32 * rest + digit_at label at) / (32 * scale / 256)) octet ≡ Equal → IsCompared label hash after (32 * scale / 256) ((32 * rest + digit_at label at) % (32 * scale / 256)) (at + 1)
+    compared_wide high tie =
+        let w = widens scale so_far.scale_is in
+        let some : 0 < 32 * scale / 256 = w.left high in
+        record {
+          scale_is = w.wide high;
+          below = omega (arith, some);
+          order = rw (first, tie) at (compared_octet high);
+        }
+
+-- a label that is read to its end
+pub compared_end : (label hash left : Octets) (scale rest at : ℕ) → length label ≤ at → IsCompared label hash left scale rest at → slice_cmp nat_cmp [] left ≡ slice_cmp nat_cmp (read_label label) hash
+unfolding base32_octets
+compared_end label hash left scale rest at done so_far = rw (drop_all at label done) at so_far.order

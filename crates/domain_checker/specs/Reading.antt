@@ -1,0 +1,61 @@
+-- What NSEC records say by themselves (RFC 4035, section 5.4; RFC 6840, section 4.1).
+use Rattle.std.specs.Prelude.{ℕ, Bool, not, ◌&&◌, ◌==◌, List, Option, Some, None, length, if◌then◌else◌}
+use Rattle.std.specs.List.{find}
+use Rattle.domain_bitmap.specs.Blocks.{contains_type}
+use Rattle.domain_base.specs.Name.{is_at_or_below, is_strictly_below, same_name}
+use Rattle.domain_base.specs.Order.{before}
+use Rattle.domain_base.specs.Types.{ds, ns}
+use Rattle.domain_base.specs.Words.{Name}
+use Rattle.domain_zone.specs.Covering.{matches, covers}
+use Rattle.domain_zone.specs.Enclosers.{longer, shared}
+use Rattle.domain_nsec.specs.Chain.{Link}
+use Rattle.domain_checker.specs.Verdict.{is_inside}
+use Rattle.domain_checker.specs.declared.verdict.Verdict.{Verdict}
+use Rattle.domain_checker.specs.declared.verdict.Verdict.TheVariants.{OutsideZone, BelowDelegation, Has, NoType, EmptyName, NoName, NotProven}
+
+-- the owner is a zone cut: the record lists NS, and the owner is not the apex
+abbrev pub is_at_cut : Name → Link → Bool
+is_at_cut a k = not (same_name k.owner a) && contains_type k.bits ns
+
+-- what a record says of its owner
+abbrev pub match_verdict : Name → Link → ℕ → Verdict
+match_verdict a k t =
+    if contains_type k.bits t then Has else
+    (if is_at_cut a k && not (t == ds) then BelowDelegation else NoType)
+
+-- what a record says of a name that it covers: below its owner, a zone cut, all belongs to the
+-- child; a next name below x makes x an empty non-terminal; else there is no x, and its closest
+-- encloser is the longer of the names that it shares with the two
+abbrev pub cover_verdict : Name → Link → Name → Verdict
+cover_verdict a k x =
+    if is_at_or_below x k.owner && is_at_cut a k then BelowDelegation else
+    (if is_strictly_below k.next x then EmptyName else
+    NoName (length (longer (shared x k.owner) (shared x k.next))))
+
+-- not passed over, and its owner is x
+abbrev pub is_match : Name → Name → Link → Bool
+is_match a x k = matches before k.owner x && is_inside a k
+
+-- not passed over, and covers x
+abbrev pub is_cover : Name → Name → Link → Bool
+is_cover a x k = covers before k.owner k.next x && is_inside a k
+
+abbrev pub verdict_of_cover : Name → Name → Option Link → Verdict
+verdict_of_cover a x None = NotProven
+verdict_of_cover a x (Some k) = cover_verdict a k x
+
+-- a match counts before a cover
+abbrev pub verdict_of_both : Name → Name → ℕ → Option Link → Option Link → Verdict
+verdict_of_both a x t None covering = verdict_of_cover a x covering
+verdict_of_both a x t (Some k) covering = match_verdict a k t
+
+-- what a list of records says of a name at or below the apex: of matches and of covers the first
+-- counts
+abbrev pub list_verdict : Name → List Link → Name → ℕ → Verdict
+list_verdict a listed x t =
+    verdict_of_both a x t (find (is_match a x) listed) (find (is_cover a x) listed)
+
+-- what it says of any name
+abbrev pub reading : Name → List Link → Name → ℕ → Verdict
+reading a listed x t =
+    if is_at_or_below x a then list_verdict a listed x t else OutsideZone

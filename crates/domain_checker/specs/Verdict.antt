@@ -1,0 +1,85 @@
+-- What a zone with an NSEC chain says of a name and a type, and what a list of records of the chain
+-- proves of that (RFC 4035, section 5.4). The chain is one that keeps what stands below a DNAME.
+use Rattle.std.specs.Prelude.{ℕ, Bool, true, false, not, ◌&&◌, ◌||◌, ◌==◌, List, [], ◌∷◌, ◌≡◌, ◌≤◌, All, length, if◌then◌else◌}
+use Rattle.std.specs.List.{list_any, Contains}
+use Rattle.domain_base.specs.Name.{is_at_or_below, same_name}
+use Rattle.domain_base.specs.Order.{before}
+use Rattle.domain_base.specs.Types.{ds}
+use Rattle.domain_base.specs.Words.{Name}
+use Rattle.domain_zone.specs.Covering.{matches_or_covers}
+use Rattle.domain_zone.specs.Enclosers.{exists_over, is_empty_nonterminal}
+use Rattle.domain_zone.specs.Zone.{ZoneRecord, OwnersNeverDescend, is_occluded, is_zone_cut, unoccluded_owners}
+use Rattle.domain_nsec.specs.Chain.{IsChain, Link, nsec_lists}
+use Rattle.domain_nsec.specs.declared.config.GenerateNsecConfig.{GenerateNsecConfig}
+use Rattle.domain_checker.specs.declared.verdict.Verdict.{Verdict}
+use Rattle.domain_checker.specs.declared.verdict.Verdict.TheVariants.{OutsideZone, BelowDelegation, Has, NoType, EmptyName, OptOut, NoName, NotProven}
+
+-- the first of x and its ancestors that exists; `laws::closest_enclosers` says that it is the
+-- closest encloser
+abbrev pub closest_encloser : List Name → Name → Name → Name
+closest_encloser names a [] = []
+closest_encloser names a (l ∷ x) =
+    if exists_over names a (l ∷ x) then l ∷ x else closest_encloser names a x
+
+-- of an owner of the chain: it has the types that its record lists, and at a zone cut the zone
+-- tells of DS alone
+abbrev pub owner_verdict : List ZoneRecord → Name → Bool → Name → ℕ → Verdict
+owner_verdict L a assume x t =
+    if nsec_lists L a assume x t then Has else
+    (if is_zone_cut L a x && not (t == ds) then BelowDelegation else NoType)
+
+-- of a name that is no owner of the chain
+abbrev pub other_verdict : List Name → Name → Name → Verdict
+other_verdict owners a x =
+    if is_empty_nonterminal owners a x then EmptyName else
+    NoName (length (closest_encloser owners a x))
+
+-- the first that holds: x isn't at or below the apex, is strictly below a zone cut, is an owner of
+-- the chain, or none of these
+abbrev pub zone_verdict : List ZoneRecord → Name → Bool → Name → ℕ → Verdict
+zone_verdict L a assume x t =
+    if not (is_at_or_below x a) then OutsideZone else
+    (if is_occluded false L a x then BelowDelegation else
+    (if list_any (λ n. same_name n x) (unoccluded_owners false L a)
+    then owner_verdict L a assume x t
+    else other_verdict (unoccluded_owners false L a) a x))
+
+-- a record of the list matches or covers x
+abbrev pub has_match_or_cover : List Link → Name → Bool
+has_match_or_cover listed x = list_any (λ k. matches_or_covers before k.owner k.next x) listed
+
+-- what a list of records of the chain proves: the verdict of the zone where x isn't at or below the
+-- apex, or one of them matches or covers it
+abbrev pub proved_verdict : List ZoneRecord → Name → Bool → List Link → Name → ℕ → Verdict
+proved_verdict L a assume listed x t =
+    if not (is_at_or_below x a) || has_match_or_cover listed x
+    then zone_verdict L a assume x t else NotProven
+
+-- the verdict is what is proved of any zone of whose chain these are records, in any order, with
+-- repeats
+abbrev pub IsProved : List Link → Name → Name → ℕ → Verdict → Type 0
+IsProved listed a x t verdict =
+    (L : List ZoneRecord) (config : GenerateNsecConfig) (links : List Link)
+    → config.occlude_below_dname ≡ false → OwnersNeverDescend L → IsChain L a config links
+    → All (Contains links) listed
+    → verdict ≡ proved_verdict L a config.assume_dnskeys_will_be_added listed x t
+
+-- the owner and the next name are at or below the apex; other records are passed over
+abbrev pub is_inside : Name → Link → Bool
+is_inside a k = is_at_or_below k.owner a && is_at_or_below k.next a
+
+-- a record that is not passed over matches or covers x
+abbrev pub HasProof : List Link → Name → Name → Type 0
+HasProof listed a x =
+    list_any (λ k. is_inside a k && matches_or_covers before k.owner k.next x) listed ≡ true
+
+-- a closest encloser has n labels at most
+abbrev pub IsWithin : ℕ → Verdict → Type 0
+IsWithin n OutsideZone = Unit {0}
+IsWithin n BelowDelegation = Unit {0}
+IsWithin n Has = Unit {0}
+IsWithin n NoType = Unit {0}
+IsWithin n EmptyName = Unit {0}
+IsWithin n (OptOut count) = count ≤ n
+IsWithin n (NoName count) = count ≤ n
+IsWithin n NotProven = Unit {0}

@@ -1,0 +1,45 @@
+//! What holds of verdicts, and of what records say. A caller calls the law in its body.
+ghost use Rattle.std.specs.Prelude.{◌≡◌, ◌≢◌, ◌<◌, ℕ, Bool, List, true, false};
+ghost use Rattle.domain_base.specs.Name.{is_at_or_below};
+ghost use Rattle.domain_base.specs.Words.{Name};
+ghost use Rattle.domain_zone.specs.Enclosers.{exists_over, IsClosestEncloser};
+ghost use Rattle.domain_zone.specs.Zone.{OwnersNeverDescend, ZoneRecord};
+ghost use Rattle.domain_nsec.specs.Chain.{IsChain, Link};
+ghost use Rattle.domain_nsec.specs.declared.config.GenerateNsecConfig.{GenerateNsecConfig};
+ghost use Rattle.domain_checker.specs.Verdict.{closest_encloser, proved_verdict, zone_verdict, IsProved};
+ghost use Rattle.domain_checker.specs.Reading.{reading};
+ghost use Rattle.domain_checker.specs.declared.verdict.Verdict.TheVariants.{NotProven};
+
+use domain_bitmap::laws::built_bitmaps_give_their_types;
+use domain_nsec::laws::{chains_mean_the_zone, types_ignore_case};
+
+/// Where the apex exists, a name at or below it has a closest encloser, which is the first of the
+/// name and its ancestors that exists.
+pub fn closest_enclosers()
+    ensures { (names : List Name) (a x : Name) → exists_over names a a ≡ true
+        → is_at_or_below x a ≡ true → IsClosestEncloser names a x (closest_encloser names a x) }
+{}
+
+/// What any records of a chain say by themselves is what they prove of the zone.
+pub fn readings_are_proved()
+    ensures { (listed : List Link) (a x : Name) (t : ℕ) → t < 65536
+        → IsProved listed a x t (reading a listed x t) }
+{
+    chains_mean_the_zone();
+    types_ignore_case();
+    built_bitmaps_give_their_types();
+}
+
+/// The whole chain of a zone proves what the zone says of every name and type, and the zone says
+/// something of each.
+pub fn whole_chains_prove_all()
+    ensures zone { (L : List ZoneRecord) (a : Name) (config : GenerateNsecConfig)
+        (links : List Link) (x : Name) (t : ℕ) → config.occlude_below_dname ≡ false
+        → OwnersNeverDescend L → IsChain L a config links
+        → proved_verdict L a config.assume_dnskeys_will_be_added links x t
+        ≡ zone_verdict L a config.assume_dnskeys_will_be_added x t }
+    ensures definite { (L : List ZoneRecord) (a : Name) (assume : Bool) (x : Name) (t : ℕ)
+        → zone_verdict L a assume x t ≢ NotProven }
+{
+    chains_mean_the_zone();
+}

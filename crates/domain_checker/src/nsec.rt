@@ -1,0 +1,195 @@
+//! What records of an NSEC chain prove.
+ghost use Rattle.std.specs.Prelude.{◌≡◌, ◌≢◌, true, length};
+ghost use Rattle.domain_base.specs.Name.{is_at_or_below, is_strictly_below};
+ghost use Rattle.domain_base.specs.Order.{before, canonical_cmp};
+ghost use Rattle.domain_zone.specs.Covering.{covers};
+ghost use Rattle.domain_zone.specs.Enclosers.{longer, shared};
+ghost use Rattle.domain_nsec.specs.ChainView.{as_link, links_of};
+ghost use Rattle.domain_checker.specs.Verdict.{is_inside, HasProof, IsProved, IsWithin};
+ghost use Rattle.domain_checker.specs.Reading.{cover_verdict, is_at_cut, is_cover, list_verdict, match_verdict, reading};
+
+use crate::{Verdict, laws};
+use domain_base::{Rtype, ToName};
+use domain_octets::Octets;
+use domain_plain::Record;
+use domain_rdata::Nsec;
+use std::cmp::Ordering;
+
+/// An NSEC record.
+type NsecRr<O, N> = Record<N, Nsec<O, N>>;
+
+/// Whether the owner and the next name are at or below the apex.
+fn is_inside<A: ToName, O: Octets, N: ToName>(apex: &A, listed: &NsecRr<O, N>) -> bool
+    ensures { result ≡ is_inside (A.labels apex.now) (as_link N.labels listed.now) }
+{
+    listed.owner().ends_with(apex) && listed.data().next_name().ends_with(apex)
+}
+
+/// Whether the name comes before another in canonical order.
+fn is_before<N: ToName, M: ToName>(name: &N, other: &M) -> bool
+    ensures { result ≡ before (N.labels name.now) (M.labels other.now) }
+{
+    name.name_cmp(other).is_lt()
+}
+
+/// Whether the owner and the next name cover the name: it lies between the two, or on either side of
+/// them where the next name is not after the owner. `order` is the canonical order of the owner and
+/// the name.
+#[tactic(auto, using(crate::proofs::FirstLemmas::match_is_tie))]
+fn covers<N: ToName, M: ToName>(order: Ordering, owner: &N, next: &N, name: &M) -> bool
+    requires { order ≡ canonical_cmp (N.labels owner.now) (M.labels name.now) }
+    ensures { result ≡ covers before (N.labels owner.now) (N.labels next.now) (M.labels name.now) }
+{
+    if order.is_eq() {
+        return false;
+    }
+    if is_before(owner, next) {
+        return order.is_lt() && is_before(name, next);
+    }
+    order.is_lt() || is_before(name, next)
+}
+
+/// Whether the record is not passed over and covers the name. `order` is the canonical order of its
+/// owner and the name.
+fn is_cover<A: ToName, O: Octets, N: ToName, M: ToName>(
+    apex: &A,
+    order: Ordering,
+    listed: &NsecRr<O, N>,
+    name: &M,
+) -> bool
+    requires { order ≡ canonical_cmp (N.labels listed.now.owner) (M.labels name.now) }
+    ensures { result ≡ is_cover (A.labels apex.now) (M.labels name.now)
+        (as_link N.labels listed.now) }
+{
+    covers(order, listed.owner(), listed.data().next_name(), name) && is_inside(apex, listed)
+}
+
+/// Whether the owner is a zone cut.
+fn is_at_cut<A: ToName, O: Octets, N: ToName>(apex: &A, listed: &NsecRr<O, N>) -> bool
+    ensures { result ≡ is_at_cut (A.labels apex.now) (as_link N.labels listed.now) }
+{
+    listed.data().types().contains(Rtype::NS) && !listed.owner().name_eq(apex)
+}
+
+/// What a record says of its owner.
+fn match_verdict<A: ToName, O: Octets, N: ToName>(
+    apex: &A,
+    listed: &NsecRr<O, N>,
+    rtype: Rtype,
+) -> Verdict
+    ensures { result ≡ match_verdict (A.labels apex.now) (as_link N.labels listed.now) rtype }
+{
+    if listed.data().types().contains(rtype) {
+        return Verdict::Has;
+    }
+    if is_at_cut(apex, listed) && rtype != Rtype::DS {
+        return Verdict::BelowDelegation;
+    }
+    Verdict::NoType
+}
+
+/// Whether the name is below another, and not the same.
+fn is_strictly_below<N: ToName, M: ToName>(name: &N, above: &M) -> bool
+    ensures { result ≡ is_strictly_below (N.labels name.now) (M.labels above.now) }
+{
+    name.ends_with(above) && !name.name_eq(above)
+}
+
+/// How many labels the longer of the names has that the name shares with the two others.
+fn longer_shared<N: ToName, M: ToName>(name: &M, owner: &N, next: &N) -> usize
+    ensures { result ≡ length (longer (shared (M.labels name.now) (N.labels owner.now))
+        (shared (M.labels name.now) (N.labels next.now))) }
+{
+    name.common_labels(owner).max(name.common_labels(next))
+}
+
+/// What a record says of a name that it covers.
+fn cover_verdict<A: ToName, O: Octets, N: ToName, M: ToName>(
+    apex: &A,
+    listed: &NsecRr<O, N>,
+    name: &M,
+) -> Verdict
+    ensures { result ≡ cover_verdict (A.labels apex.now) (as_link N.labels listed.now)
+        (M.labels name.now) }
+{
+    let next = listed.data().next_name();
+    if name.ends_with(listed.owner()) && is_at_cut(apex, listed) {
+        return Verdict::BelowDelegation;
+    }
+    if is_strictly_below(next, name) {
+        return Verdict::EmptyName;
+    }
+    Verdict::NoName(longer_shared(name, listed.owner(), next))
+}
+
+/// What the records say of a name at or below the apex. Goes over them once.
+fn list_verdict<A: ToName, O: Octets, N: ToName, M: ToName>(
+    apex: &A,
+    chain: &[NsecRr<O, N>],
+    name: &M,
+    rtype: Rtype,
+) -> Verdict
+    ensures { result ≡ list_verdict (A.labels apex.now) (links_of N.labels chain.now)
+        (M.labels name.now) rtype }
+{
+    // The first match decides at once. The first cover waits for the end, and decides where no
+    // record matches.
+    let mut cover = None;
+    for listed in chain {
+        let order = listed.owner().name_cmp(name);
+        if order.is_eq() && is_inside(apex, listed) {
+            return match_verdict(apex, listed, rtype);
+        }
+        if cover.is_none() && is_cover(apex, order, listed, name) {
+            cover = Some(listed);
+        }
+    }
+    match cover {
+        Some(listed) => cover_verdict(apex, listed, name),
+        None => Verdict::NotProven,
+    }
+}
+
+/// What records of an NSEC chain prove of a name and a type (RFC 4035, section 5.4). Takes no
+/// memory.
+///
+/// The records may be any of the zone's chain, in any order, with repeats. Those whose owner or
+/// next name is not at or below the apex are passed over. Where several match the name, the first
+/// counts, and where none does, the first that covers it. With neither, the answer for a name at or
+/// below the apex is `NotProven`. Where a name has no records of its own, a wildcard may answer for
+/// it: that is a question about another name.
+///
+/// The chain is one of `domain_nsec` that keeps the names below a DNAME. The records' signatures
+/// are not looked at.
+pub fn check_nsec<A: ToName, O: Octets, N: ToName, M: ToName>(
+    apex: &A,
+    chain: &[Record<N, Nsec<O, N>>],
+    name: &M,
+    rtype: Rtype,
+) -> Verdict
+    // For records of the chain of any zone, the verdict of that zone where a record matches or
+    // covers the name, and else `NotProven`.
+    ensures zone { IsProved (links_of N.labels chain.now) (A.labels apex.now) (M.labels name.now)
+        rtype result }
+
+    // For any list at all, a name of the zone has a verdict only where a record that is not passed
+    // over matches or covers it.
+    ensures proof { is_at_or_below (M.labels name.now) (A.labels apex.now) ≡ true
+        → result ≢ Verdict.NotProven
+        → HasProof (links_of N.labels chain.now) (A.labels apex.now) (M.labels name.now) }
+
+    // For any list at all, the answer is what its first match says, or else its first cover.
+    ensures exact { result ≡ reading (A.labels apex.now) (links_of N.labels chain.now)
+        (M.labels name.now) rtype }
+
+    // For any list at all, the number of a closest encloser's labels is none that the name lacks.
+    ensures within { IsWithin (length (M.labels name.now)) result }
+{
+    if !name.ends_with(apex) {
+        return Verdict::OutsideZone;
+    }
+    // By this law what the records say is what they prove, of a type of 16 bits.
+    laws::readings_are_proved();
+    let _number = rtype.to_int();
+    list_verdict(apex, chain, name, rtype)
+}

@@ -1,0 +1,100 @@
+//! What records of an NSEC3 chain prove.
+ghost use Rattle.std.specs.Prelude.{◌≡◌, ◌≢◌, ◌⊎◌, ℕ, Ok, true, false, length, IfOk, IfErr, IsErrOf};
+ghost use Rattle.domain_base.specs.Name.{is_at_or_below};
+ghost use Rattle.domain_records.specs.declared.error.Nsec3HashError.TheVariants as hash_error;
+ghost use Rattle.domain_checker.specs.HashedReading.{IsWalked};
+ghost use Rattle.domain_checker.specs.HashedVerdict.{HasHashedProof, IsFirstRefusal, IsHashedProved};
+ghost use Rattle.domain_checker.specs.Verdict.{IsWithin};
+ghost use Rattle.domain_checker.specs.HashedView.{hash_with, links, parameters};
+
+use crate::Verdict;
+use crate::nsec3_laws::walks_are_proved;
+use crate::walk::walk;
+use domain_base::{Rtype, ToName};
+use domain_nsec3::Nsec3Records;
+use domain_octets::Octets;
+use domain_records::Nsec3HashError;
+use domain_zone::Nsec3Hasher;
+use std::alloc::Global;
+
+/// The greatest length of a name.
+const MAX_NAME: usize = 255;
+
+/// What records of an NSEC3 chain prove of a name and a type (RFC 5155, section 8).
+///
+/// The records may be any of the zone's chain, in any order, with repeats. Those with another
+/// algorithm, iterations or salt than the NSEC3PARAM record, or whose owner is not one label in
+/// Base 32 hex before the apex, are passed over; classes, TTLs and flags are not compared.
+///
+/// Names are hashed with the parameters of the NSEC3PARAM record, from the name towards the apex,
+/// up to the first that a record matches; no name is hashed twice, and of a name that is not at or
+/// below the apex none is. With no match the answer is `NotProven`. It is that too where the name
+/// that is matched is neither the one asked for nor told to be a zone cut, and no record covers the
+/// next closer name, which is one label longer. The first match and the first cover in the list
+/// count, and the flag of opt-out is the cover's. Takes no memory but for the hasher's answers.
+///
+/// # Errors
+///
+/// `Hasher` with the number of the first refusal among the hashes that are asked for, and
+/// `OutOfMemory` where the hasher has none.
+pub fn check_nsec3<O: Octets, N: ToName, H: Nsec3Hasher>(
+    alloc: Global,
+    apex: &N,
+    records: &Nsec3Records<N, O>,
+    name: &N,
+    rtype: Rtype,
+    hasher: &H,
+) -> Result<Verdict, Nsec3HashError>
+    ensures outside { is_at_or_below (N.labels name.now) (N.labels apex.now) ≡ false
+        → result ≡ Ok Verdict.OutsideZone }
+
+    // For records of the chain of any zone, the verdict of that zone where they prove it, and else
+    // `NotProven`.
+    ensures zone { IfOk result (IsHashedProved (links N.labels records.now) (N.labels apex.now)
+        (parameters records.now) (hash_with (H.answer hasher.now) records.now)
+        (N.labels name.now) rtype) }
+
+    // For any list at all, the verdict is what the records say by themselves, there is none without
+    // a proof, and a closest encloser has no more labels than the name.
+    ensures exact { is_at_or_below (N.labels name.now) (N.labels apex.now) ≡ true
+        → IfOk result (IsWalked (links N.labels records.now) (N.labels apex.now)
+        (parameters records.now) (hash_with (H.answer hasher.now) records.now)
+        (N.labels name.now) rtype) }
+    ensures proof { is_at_or_below (N.labels name.now) (N.labels apex.now) ≡ true
+        → IfOk result (λ verdict. verdict ≢ Verdict.NotProven
+        → HasHashedProof (links N.labels records.now) (N.labels apex.now)
+        (parameters records.now) (hash_with (H.answer hasher.now) records.now)
+        (N.labels name.now)) }
+    ensures within { IfOk result (IsWithin (length (N.labels name.now))) }
+
+    // An error is the first refusal, or want of memory.
+    ensures refusal { (n : ℕ) → IsErrOf result (hash_error.Hasher n)
+        → IsFirstRefusal (links N.labels records.now) (N.labels apex.now)
+        (parameters records.now) (hash_with (H.answer hasher.now) records.now)
+        (N.labels name.now) n }
+    ensures errors { IfErr result (λ e. (e ≡ hash_error.OutOfMemory)
+        ⊎ ((n : ℕ) × (e ≡ hash_error.Hasher n))) }
+{
+    if !name.ends_with(apex) {
+        return Ok(Verdict::OutsideZone);
+    }
+    walks_are_proved();
+    let _number = rtype.to_int();
+    let wire = name.as_wire();
+    let mut buffer = [0; MAX_NAME];
+    let lowered = &mut buffer[..wire.len()];
+    lowered.copy_from_slice(wire);
+    lowered.make_ascii_lowercase();
+    match walk(
+        alloc,
+        apex,
+        records,
+        &name.as_parsed(),
+        lowered,
+        rtype,
+        hasher,
+    ) {
+        Ok(verdict) => Ok(verdict),
+        Err(error) => Err(error),
+    }
+}

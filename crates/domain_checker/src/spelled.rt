@@ -1,0 +1,85 @@
+//! Hashes that labels spell in Base 32 hex.
+ghost use Rattle.std.specs.Prelude.{◌≡◌, ◌<◌, unwrap_or, IfSome};
+ghost use Rattle.std.specs.Ordering.{nat_cmp};
+ghost use Rattle.std.specs.Cmp.Lexicographic.{slice_cmp};
+ghost use Rattle.std.specs.List.{list_all};
+ghost use Rattle.domain_octets.specs.Codec.{base32_value, is_digit};
+ghost use Rattle.domain_checker.specs.HashedList.{is_spelling, read_label};
+
+use domain_octets::Codec;
+use std::cmp::Ordering;
+
+/// The value of a digit of Base 32 hex, in either case (RFC 4648, section 7).
+fn digit_value(c: u8) -> Option<u32>
+    ensures value { result ≡ base32_value c }
+    ensures small { IfSome result (λ digit. digit < 32) }
+{
+    if c >= b'0' && c <= b'9' {
+        Some(u32::from(c - b'0'))
+    } else if c >= b'A' && c <= b'V' {
+        Some(u32::from(c - b'A' + 10))
+    } else if c >= b'a' && c <= b'v' {
+        Some(u32::from(c - b'a' + 10))
+    } else {
+        None
+    }
+}
+
+/// The value of a digit of Base 32 hex, and 0 for what is none.
+fn digit_or_zero(c: u8) -> u32
+    ensures value { result ≡ unwrap_or (base32_value c) 0 }
+    ensures small { result < 32 }
+{
+    match digit_value(c) {
+        Some(digit) => digit,
+        None => 0,
+    }
+}
+
+/// Whether all octets are digits of Base 32 hex.
+fn are_digits(label: &[u8]) -> bool
+    ensures { result ≡ list_all (is_digit Codec.Base32Hex) label.now }
+{
+    label.iter().all(|c| digit_value(*c).is_some())
+}
+
+/// Whether the label is a text in Base 32 hex, in either case.
+pub(crate) fn is_spelling(label: &[u8]) -> bool
+    ensures { result ≡ is_spelling label.now }
+{
+    let over = label.len() % 8;
+    are_digits(label) & !((over == 1) | (over == 3) | (over == 6))
+}
+
+/// The order of the octets that a label spells and those of a hash. Takes no memory.
+pub(crate) fn spelled_cmp(label: &[u8], hash: &[u8]) -> Ordering
+    ensures { result ≡ slice_cmp nat_cmp (read_label label.now) hash.now }
+{
+    let mut scale: u32 = 1;
+    let mut rest: u32 = 0;
+    let mut left = hash;
+    for c in label {
+        let wider = 32 * scale;
+        let value = 32 * rest + digit_or_zero(*c);
+        if wider < 256 {
+            scale = wider;
+            rest = value;
+        } else {
+            scale = wider / 256;
+            rest = value % scale;
+            let Some((octet, after)) = left.split_first() else {
+                return Ordering::Greater;
+            };
+            let order = (value / scale).cmp(&u32::from(*octet));
+            if order != Ordering::Equal {
+                return order;
+            }
+            left = after;
+        }
+    }
+    if left.is_empty() {
+        Ordering::Equal
+    } else {
+        Ordering::Less
+    }
+}
