@@ -22,6 +22,7 @@ pub use chain::ChainError;
 pub use config::DenialConfig;
 pub use domain_base::{Class, MakeName, Name, Nsec3HashAlgorithm, Rtype, ToName, Ttl};
 pub use domain_bitmap::{RtypeBitmap, RtypeBitmapBuilder};
+pub use domain_checker::{Verdict, check_nsec, check_nsec3};
 pub use domain_nsec::{GenerateNsecConfig, generate_nsecs};
 pub use domain_nsec3::{
     GenerateNsec3Config, Nsec3ParamTtlMode, Nsec3Records, generate_nsec3s,
