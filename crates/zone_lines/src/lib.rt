@@ -4,6 +4,8 @@
 
 mod scanned;
 mod sets;
+mod sorters;
 
 pub use scanned::{Data, ZoneRecord, data, first_part, record, records};
 pub use sets::{Zone, list, zone};
+pub use sorters::RefusingSorter;

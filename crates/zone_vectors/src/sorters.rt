@@ -1,28 +1,10 @@
 //! A sorted set whose sorter refuses.
-ghost use Rattle.std.specs.Prelude.{false};
-
 use crate::records::{put_in, started};
 use domain_base::ScanError;
-use domain_octets::OutOfMemory;
-use domain_records::{SortedRecords, Sorter};
+use domain_records::SortedRecords;
 use std::alloc::Global;
-use std::cmp::Ordering;
 use vector_lines::{Answers, OwnName};
-use zone_lines::{Data, first_part, record};
-
-/// Never has the memory to sort.
-struct RefusingSorter;
-
-impl Sorter for RefusingSorter {
-    ghost is_stable = { false };
-
-    fn sort_by<T, F: Fn(&T, &T) -> Ordering>(
-        _records: &mut Vec<T>,
-        _compare: F,
-    ) -> Result<(), OutOfMemory> {
-        Err(OutOfMemory)
-    }
-}
+use zone_lines::{Data, RefusingSorter, first_part, record};
 
 /// A sorted set whose sorter refuses.
 type Refusing = SortedRecords<OwnName, Data, RefusingSorter>;
