@@ -1,7 +1,10 @@
 -- The words of a command.
-use Rattle.std.proofs.Common.{◌≡◌, ℕ, Bool, IsTrue, List, [], ◌∷◌, length, get_or, ap, sym, ◌∙◌, arith}
+use Rattle.std.proofs.Common.{◌≡◌, ◌≢◌, ℕ, Bool, IsTrue, List, [], ◌∷◌, length, get_or, refl, ap, sym, ◌∙◌, arith}
 use Rattle.std.specs.Str.{bytes_eq}
 use Rattle.std.proofs.lemmas.Slice.Eq.{bytes_eq-Decides}
+use Rattle.domain_base.specs.Scan.{no_memory, scan_fault_of}
+use Rattle.domain_base.specs.declared.error.ScanError.{ScanError}
+use Rattle.domain_base.specs.declared.error.ScanError.TheVariants as scan_error
 
 pub two_items : {X : Type 0} (xs : List X) (a b : X) → length xs ≡ 2 → a ≡ get_or xs 0 a → b ≡ get_or xs 1 b → xs ≡ a ∷ b ∷ []
 two_items [] a b n p q = absurd (omega arith)
@@ -9,5 +12,17 @@ two_items (x ∷ []) a b n p q = absurd (omega arith)
 two_items (x ∷ y ∷ []) a b n p q = ap (λ l. l ∷ y ∷ []) (sym p) ∙ ap (λ l. a ∷ l ∷ []) (sym q)
 two_items (x ∷ y ∷ z ∷ xs) a b n p q = absurd (omega arith)
 
+pub one_item : {X : Type 0} (xs : List X) (a : X) → length xs ≡ 1 → a ≡ get_or xs 0 a → xs ≡ a ∷ []
+one_item [] a n p = absurd (omega arith)
+one_item (x ∷ []) a n p = ap (λ l. l ∷ []) (sym p)
+one_item (x ∷ y ∷ xs) a n p = absurd (omega arith)
+
 pub same_text : (r : Bool) (xs ys : List ℕ) → r ≡ bytes_eq xs ys → IsTrue r → xs ≡ ys
 same_text r xs ys e f = (bytes_eq-Decides xs ys).0 (sym e ∙ f)
+
+-- other errors than want of memory are other faults
+pub other_fault : (e : ScanError) → e ≢ scan_error.OutOfMemory → scan_fault_of e ≢ no_memory
+other_fault scan_error.EndOfEntry other = λ p. cc
+other_fault (scan_error.Custom text) other = λ p. cc
+other_fault scan_error.ShortBuf other = λ p. cc
+other_fault scan_error.OutOfMemory other = λ p. other refl

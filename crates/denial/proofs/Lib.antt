@@ -4,3 +4,6 @@ pub mod LineSteps
 pub mod Reading
 pub mod RunLemmas
 pub mod CommandLemmas
+pub mod SaltLemmas
+pub mod AnswerLemmas
+pub mod CheckLemmas

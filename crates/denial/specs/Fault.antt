@@ -2,9 +2,9 @@
 use Rattle.std.specs.Prelude.{◌≡◌, ℕ, [], Option, Some, IfSome}
 use Rattle.domain_octets.specs.Words.{Octets}
 use Rattle.domain_base.specs.Words.{Tokens}
-use Rattle.denial.specs.Run.{AsksForNothing, AsksForChain}
+use Rattle.denial.specs.Command.{IsCommand, IsNoCommand}
 use Rattle.denial.specs.declared.fault.DenialFault.{DenialFault}
-use Rattle.denial.specs.declared.fault.DenialFault.TheVariants.{Usage, Read, Line, MixedClasses, Signing, Write, OutOfMemory}
+use Rattle.denial.specs.declared.fault.DenialFault.TheVariants.{Usage, Read, Line, MixedClasses, Signing, Param, Write, OutOfMemory}
 
 -- a fault of reading
 abbrev pub IsReadingFault : DenialFault → Type 0
@@ -13,6 +13,7 @@ IsReadingFault Read = Unit {0}
 IsReadingFault (Line n) = Unit {0}
 IsReadingFault MixedClasses = ⊥
 IsReadingFault (Signing e) = ⊥
+IsReadingFault Param = ⊥
 IsReadingFault Write = ⊥
 IsReadingFault OutOfMemory = Unit {0}
 
@@ -23,6 +24,7 @@ IsAfterInput Read = ⊥
 IsAfterInput (Line n) = Unit {0}
 IsAfterInput MixedClasses = Unit {0}
 IsAfterInput (Signing e) = Unit {0}
+IsAfterInput Param = Unit {0}
 IsAfterInput Write = Unit {0}
 IsAfterInput OutOfMemory = ⊥
 
@@ -30,15 +32,16 @@ IsAfterInput OutOfMemory = ⊥
 abbrev pub IsReadToEnd : Option Octets → Option Octets → Type 0
 IsReadToEnd old new = IfSome old (λ octets. new ≡ Some [])
 
--- a fault of usage says that the words ask for nothing; any other but want of memory, that they ask
--- for a chain
+-- a fault of usage says that the words are no command; any other but want of memory, that they are
+-- one
 abbrev pub TellsUsage : Tokens → DenialFault → Type 0
-TellsUsage words Usage = AsksForNothing words
-TellsUsage words Read = AsksForChain words
-TellsUsage words (Line n) = AsksForChain words
-TellsUsage words MixedClasses = AsksForChain words
-TellsUsage words (Signing e) = AsksForChain words
-TellsUsage words Write = AsksForChain words
+TellsUsage words Usage = IsNoCommand words
+TellsUsage words Read = IsCommand words
+TellsUsage words (Line n) = IsCommand words
+TellsUsage words MixedClasses = IsCommand words
+TellsUsage words (Signing e) = IsCommand words
+TellsUsage words Param = IsCommand words
+TellsUsage words Write = IsCommand words
 TellsUsage words OutOfMemory = Unit {0}
 
 -- the exit status of the program
@@ -48,6 +51,7 @@ exit_status Read = 1
 exit_status (Line n) = 1
 exit_status MixedClasses = 1
 exit_status (Signing e) = 1
+exit_status Param = 1
 exit_status Write = 1
 exit_status OutOfMemory = 1
 
@@ -58,5 +62,17 @@ IsBeforeOutput Read = Unit {0}
 IsBeforeOutput (Line n) = Unit {0}
 IsBeforeOutput MixedClasses = Unit {0}
 IsBeforeOutput (Signing e) = Unit {0}
+IsBeforeOutput Param = Unit {0}
 IsBeforeOutput Write = ⊥
 IsBeforeOutput OutOfMemory = ⊥
+
+-- a fault of the records that were read
+abbrev pub IsOfRecords : DenialFault → Type 0
+IsOfRecords Usage = ⊥
+IsOfRecords Read = ⊥
+IsOfRecords (Line n) = ⊥
+IsOfRecords MixedClasses = Unit {0}
+IsOfRecords (Signing e) = Unit {0}
+IsOfRecords Param = Unit {0}
+IsOfRecords Write = ⊥
+IsOfRecords OutOfMemory = ⊥

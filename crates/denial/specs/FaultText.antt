@@ -7,7 +7,7 @@ use Rattle.domain_records.specs.declared.error.Nsec3HashError.TheVariants as has
 use Rattle.domain_records.specs.declared.error.SigningError.{SigningError}
 use Rattle.domain_records.specs.declared.error.SigningError.TheVariants as signing_error
 use Rattle.denial.specs.declared.fault.DenialFault.{DenialFault}
-use Rattle.denial.specs.declared.fault.DenialFault.TheVariants.{Usage, Read, Line, MixedClasses, Signing, Write, OutOfMemory}
+use Rattle.denial.specs.declared.fault.DenialFault.TheVariants.{Usage, Read, Line, MixedClasses, Signing, Param, Write, OutOfMemory}
 
 -- of hashes that could not be used
 abbrev pub hash_text : Nsec3HashError → Octets
@@ -28,10 +28,13 @@ signing_text signing_error.OutOfMemory = codes "out of memory"
 
 -- of any fault
 abbrev pub fault_text : DenialFault → Octets
-fault_text Usage = codes "usage: denial nsec APEX | denial nsec3 APEX ITERATIONS SALT [optout]"
+fault_text Usage =
+    codes "usage: denial nsec APEX | denial nsec3 APEX ITERATIONS SALT [optout]"
+    ++ codes " | denial check nsec APEX NAME TYPE | denial check nsec3 APEX NAME TYPE"
 fault_text Read = codes "denial: cannot read input"
 fault_text (Line n) = codes "denial: line " ++ decimal n ++ codes ": bad record"
 fault_text MixedClasses = codes "denial: more than one class"
 fault_text (Signing e) = codes "denial: " ++ signing_text e
+fault_text Param = codes "denial: no single NSEC3PARAM at the apex"
 fault_text Write = codes "denial: cannot write output"
 fault_text OutOfMemory = codes "denial: out of memory"

@@ -4,5 +4,6 @@ pub mod Words
 pub mod Listing
 pub mod Said
 pub mod Text
-pub mod Run
+pub mod Answer
 pub mod Command
+pub mod Check

@@ -1,23 +1,56 @@
--- The text of a chain.
-use Rattle.std.specs.Prelude.{List, ◌++◌, codes}
+-- The text of an answer.
+use Rattle.std.specs.Prelude.{ℕ, List, ◌++◌, codes, Vec}
+use Rattle.std.specs.Global.{Global}
 use Rattle.std.specs.List.{flat_map}
 use Rattle.std.specs.Fmt.{decimal}
 use Rattle.domain_octets.specs.Words.{Octets}
 use Rattle.domain_base.specs.Text.{name_text}
 use Rattle.domain_base.specs.Numbers.{class_text, type_text}
-use Rattle.domain_base.specs.Types.{nsec}
+use Rattle.domain_base.specs.Types.{nsec, nsec3, nsec3param}
+use Rattle.domain_base.specs.Words.{Name}
 use Rattle.domain_bitmap.specs.Blocks.{types_of}
 use Rattle.domain_bitmap.specs.Text.{types_text}
-use Rattle.domain_dnssec.specs.Chain.{Link}
+use Rattle.domain_plain.specs.declared.record.Record.{Record}
+use Rattle.domain_chain_rdata.specs.Nsec3Text.{nsec3_text}
+use Rattle.domain_chain_rdata.specs.Nsec3paramText.{nsec3param_text}
+use Rattle.domain_chain_rdata.specs.Rdata.{nsec3_values, nsec3param_values}
+use Rattle.domain_chain_rdata.specs.declared.nsec.Nsec.{Nsec}
+use Rattle.domain_chain_rdata.specs.declared.nsec3.Nsec3.{Nsec3}
+use Rattle.domain_chain_rdata.specs.declared.nsec3param.Nsec3param.{Nsec3param}
+use Rattle.domain_nsec3.specs.declared.nsec3.Nsec3Records.{Nsec3Records}
+use Rattle.denial.specs.Check.{verdict_text}
+use Rattle.denial.specs.declared.answer.Answer.{Answer}
+use Rattle.denial.specs.declared.answer.Answer.TheVariants.{Nsecs, Nsec3s, Verdict}
 
--- the owner with its last dot, the TTL, the class, `NSEC`, the next name with its last dot and the
--- types
-abbrev pub link_text : Link → Octets
-link_text k =
-    (name_text k.owner ++ codes ".") ++ codes " " ++ decimal k.ttl ++ codes " "
-    ++ class_text k.class ++ codes " " ++ type_text nsec ++ codes " " ++ name_text k.next
-    ++ codes ". " ++ types_text (types_of k.bits)
+-- the owner with its last dot, the TTL, the class, the type and the text of the data
+abbrev pub record_line : {D : Type 0} → ℕ → (D → Octets) → Record Name D → Octets
+record_line rtype data_text r =
+    (name_text r.owner ++ codes ".") ++ codes " " ++ decimal r.ttl ++ codes " "
+    ++ class_text r.class ++ codes " " ++ type_text rtype ++ codes " " ++ data_text r.«data»
 
--- a line for each record
-abbrev pub listing : List Link → Octets
-listing links = flat_map (λ k. link_text k ++ codes "\n") links
+-- the next name with its last dot and the types
+abbrev pub nsec_line : Record Name (Nsec (Vec ℕ Global) Name) → Octets
+nsec_line =
+    record_line nsec (λ d. (name_text d.next_name ++ codes ". ") ++ types_text (types_of d.types))
+
+-- algorithm, flags, iterations, salt, next hash and types
+abbrev pub nsec3_line : Record Name (Nsec3 (Vec ℕ Global)) → Octets
+nsec3_line = record_line nsec3 (λ d. nsec3_text (nsec3_values d))
+
+-- algorithm, flags, iterations and salt
+abbrev pub nsec3param_line : Record Name (Nsec3param (Vec ℕ Global)) → Octets
+nsec3param_line = record_line nsec3param (λ d. nsec3param_text (nsec3param_values d))
+
+abbrev pub lines_of : {T : Type 0} → (T → Octets) → List T → Octets
+lines_of text = flat_map (λ item. text item ++ codes "\n")
+
+-- a line for each record of an NSEC3 chain, and one for its NSEC3PARAM record
+abbrev pub nsec3s_text : Nsec3Records Name (Vec ℕ Global) → Octets
+nsec3s_text made =
+    lines_of nsec3_line made.nsec3s.items ++ (nsec3param_line made.nsec3param ++ codes "\n")
+
+-- a line for each record of a chain, or one line with a verdict
+abbrev pub answer_text : Answer → Octets
+answer_text (Nsecs nsecs) = lines_of nsec_line nsecs.items
+answer_text (Nsec3s made) = nsec3s_text made
+answer_text (Verdict name verdict) = verdict_text name verdict ++ codes "\n"

@@ -1,8 +1,10 @@
 //! Why a run stops.
 ghost use Rattle.std.specs.Prelude.{◌≡◌, Some};
+ghost use Rattle.denial.specs.Answer.{fault_of_chain};
 ghost use Rattle.denial.specs.Fault.{exit_status};
 ghost use Rattle.denial.specs.declared.fault.DenialFault.TheVariants as denial_fault;
 
+use domain_dnssec::ChainError;
 use domain_octets::OutOfMemory;
 use domain_records::{Nsec3HashError, SigningError};
 use std::alloc::{AllocError, AllocFailed};
@@ -19,8 +21,10 @@ pub enum DenialFault {
     Line(u64),
     /// The records have more than one class.
     MixedClasses,
-    /// There is no chain.
+    /// There is no chain, or no hash.
     Signing(SigningError),
+    /// The apex has no NSEC3PARAM record, or more than one.
+    Param,
     /// The output could not be written.
     Write,
     /// There was no memory.
@@ -94,13 +98,27 @@ impl fmt::Display for DenialFault {
             DenialFault::Line(number) => write!(f, "denial: line {number}: bad record"),
             DenialFault::MixedClasses => f.write_str("denial: more than one class"),
             DenialFault::Signing(error) => write!(f, "denial: {}", SigningText(error)),
+            DenialFault::Param => f.write_str("denial: no single NSEC3PARAM at the apex"),
             DenialFault::Write => f.write_str("denial: cannot write output"),
             DenialFault::OutOfMemory => f.write_str("denial: out of memory"),
         }
     }
 }
 
-const USAGE: &str = "usage: denial nsec APEX | denial nsec3 APEX ITERATIONS SALT [optout]";
+const USAGE: &str = "usage: denial nsec APEX | denial nsec3 APEX ITERATIONS SALT [optout] \
+     | denial check nsec APEX NAME TYPE | denial check nsec3 APEX NAME TYPE";
+
+impl From<ChainError> for DenialFault {
+    ghost from_gives = { λ error made. made ≡ fault_of_chain error };
+
+    fn from(error: ChainError) -> DenialFault {
+        match error {
+            ChainError::MixedClasses => DenialFault::MixedClasses,
+            ChainError::Signing(error) => DenialFault::Signing(error),
+            ChainError::OutOfMemory => DenialFault::OutOfMemory,
+        }
+    }
+}
 
 impl From<OutOfMemory> for DenialFault {
     ghost from_gives = { λ _ e. e ≡ denial_fault.OutOfMemory };

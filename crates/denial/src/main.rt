@@ -1,20 +1,22 @@
 //! The program `denial`: reads the records of a zone from standard input, one a line, and prints
-//! the chain that denies what the zone does not hold.
+//! the chain that denies what the zone does not hold; or reads records of such a chain, and prints
+//! what they prove of a name and a type.
 //!
 //! The work is done by `run_denial`, which is generic over its reader, its writer and its hasher.
 //! `main` hands in those of the process.
 #![tactic(auto)]
 
+mod answer;
+mod check;
+mod command;
 mod fault;
 mod line;
 mod program;
 #[cfg(test)]
 mod tests;
+mod verdict_text;
 
-ghost use Rattle.std.specs.Prelude.{Err};
-
-use domain_base::Nsec3HashAlgorithm;
-use domain_dnssec::{HasherError, Nsec3Hasher};
+use domain_sha1::Sha1Hasher;
 use fault::DenialFault;
 use program::run_denial;
 use std::alloc::Global;
@@ -24,24 +26,6 @@ use std::{env, io};
 
 /// The octets that are read or written at a time.
 const BUFFER: usize = 65536;
-
-/// A hasher that knows no algorithm.
-struct NoHasher;
-
-impl Nsec3Hasher for NoHasher {
-    ghost answer = { λ h name algorithm iterations salt. Err 1 };
-
-    fn hash(
-        &self,
-        _alloc: Global,
-        _name: &[u8],
-        _algorithm: Nsec3HashAlgorithm,
-        _iterations: u16,
-        _salt: &[u8],
-    ) -> Result<Vec<u8>, HasherError> {
-        Err(HasherError::Refused(1))
-    }
-}
 
 /// Why the process's words were not read: other than for want of memory, one of them is no text,
 /// and so they ask for nothing.
@@ -68,7 +52,13 @@ fn start(rt: &HostRuntime) -> Result<(), DenialFault> {
     let mut output = BufWriter::with_capacity(alloc, BUFFER, io::writer(rt)).map_err(
         |_| DenialFault::OutOfMemory,
     )?;
-    run_denial(alloc, words.as_slice(), &NoHasher, &mut input, &mut output)
+    run_denial(
+        alloc,
+        words.as_slice(),
+        &Sha1Hasher,
+        &mut input,
+        &mut output,
+    )
 }
 
 fn main(rt: HostRuntime) -> ExitCode {

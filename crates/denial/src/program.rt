@@ -1,66 +1,26 @@
 //! The run of the program, over any reader and any writer.
-ghost use Rattle.std.specs.Prelude.{◌≡◌, ◌≢◌, ◌⊎◌, ℕ, ◌-◌, List, [], ◌∷◌, ◌++◌, IfErr, IfOk, MatchResult, OnOk, IsErrOf, IfSome, map, length, slice_index, string_bytes};
+ghost use Rattle.std.specs.Prelude.{◌≡◌, ◌≢◌, ◌⊎◌, ℕ, ◌-◌, [], ◌∷◌, ◌++◌, IfErr, IfOk, MatchResult, OnOk, IsErrOf, IfSome, map, length, slice_index, string_bytes};
 ghost use Rattle.std.specs.Str.Lines.{lines, strip_carriage_return};
 ghost use Rattle.std.specs.Io.KnownBytes.{Appends};
 ghost use Rattle.std.specs.IoError.{error_kind};
 ghost use Rattle.domain_octets.specs.Words.{Octets};
 ghost use Rattle.domain_octets.specs.Characters.{line_feed};
-ghost use Rattle.domain_base.specs.Text.{NameText, IsNoName};
-ghost use Rattle.domain_dnssec.specs.AnyOrder.{IsChainOf};
-ghost use Rattle.domain_dnssec.specs.Chain.{Link, usual_config};
-ghost use Rattle.domain_dnssec.specs.ChainView.{as_link};
-ghost use Rattle.domain_records.specs.declared.error.SigningError.{SigningError};
+ghost use Rattle.denial.specs.Answer.{Answers, GivesNoAnswer};
+ghost use Rattle.denial.specs.Command.{IsCommand};
+ghost use Rattle.denial.specs.Fault.{IsAfterInput, IsBeforeOutput, IsOfRecords, IsReadingFault, IsReadToEnd, TellsUsage};
 ghost use Rattle.denial.specs.Listing.{Give, IsFirstBad};
-ghost use Rattle.denial.specs.Text.{listing};
-ghost use Rattle.denial.specs.Run.{AsksForChain, AsksForNothing, HasNoChain, Answers, GivesNoChain};
-ghost use Rattle.denial.specs.Command.{Asks};
-ghost use Rattle.denial.specs.Fault.{IsAfterInput, IsBeforeOutput, IsReadingFault, IsReadToEnd, TellsUsage};
+ghost use Rattle.denial.specs.Text.{answer_text};
+ghost use Rattle.denial.specs.declared.answer.Answer.{Answer};
 ghost use Rattle.denial.specs.declared.fault.DenialFault.TheVariants.{OutOfMemory};
 
+use crate::answer::answer_of;
+use crate::command::command_of;
 use crate::fault::DenialFault;
-use crate::line::{Line, ZoneName, ZoneRr, read_line};
-use domain_base::ScanError;
-use domain_dnssec::{ChainError, GenerateNsecConfig, Nsec3Hasher, generate_nsecs_of_records};
-use domain_plain::Record;
-use domain_rdata::Nsec;
+use crate::line::{Line, ZoneRr, read_line};
+use domain_dnssec::Nsec3Hasher;
 use std::alloc::Global;
 use std::io;
 use std::io::{BufRead, ErrorKind, Write};
-
-/// What the words ask for.
-#[derive(Drop)]
-pub enum Command {
-    /// The NSEC chain of the zone with this apex.
-    Nsec(ZoneName),
-}
-
-/// A name that a word spells.
-fn name_of(alloc: Global, word: &str) -> Result<ZoneName, DenialFault>
-    ensures ok { IfOk result (NameText word.now) }
-    ensures err { IfErr result (λ e. ((e ≡ DenialFault.Usage) × IsNoName word.now)
-        ⊎ (e ≡ OutOfMemory)) }
-{
-    match ZoneName::from_str(alloc, word) {
-        Ok(name) => Ok(name),
-        Err(ScanError::OutOfMemory) => Err(DenialFault::OutOfMemory),
-        Err(_) => Err(DenialFault::Usage),
-    }
-}
-
-/// What the words after the program's name ask for.
-fn command_of(alloc: Global, words: &[String]) -> Result<Command, DenialFault>
-    ensures ok { IfOk result (Asks (map string_bytes words.now)) }
-    ensures err { IfErr result (λ e.
-        ((e ≡ DenialFault.Usage) × AsksForNothing (map string_bytes words.now))
-        ⊎ (e ≡ OutOfMemory)) }
-{
-    match words {
-        [command, apex] if command.as_str() == "nsec" => {
-            Ok(Command::Nsec(name_of(alloc, apex.as_str())?))
-        }
-        _ => Err(DenialFault::Usage),
-    }
-}
 
 /// An error of a device is that device's fault, unless it is want of memory.
 fn fault_of(error: &io::Error, fault: DenialFault) -> DenialFault
@@ -140,61 +100,31 @@ fn read_records<R: BufRead>(alloc: Global, input: &mut R) -> Result<Vec<ZoneRr>,
     Err(DenialFault::Read)
 }
 
-/// The NSEC chain of the zone that the records are.
-fn nsec_chain(
-    alloc: Global,
-    apex: &ZoneName,
-    records: Vec<ZoneRr>,
-) -> Result<Vec<Record<ZoneName, Nsec<Vec<u8>, ZoneName>>>, DenialFault>
-    ensures ok { IfOk result (λ nsecs. IsChainOf (λ o. o.items) (λ n. n) records.items apex.now
-        usual_config (map (as_link (λ n. n)) nsecs.items)) }
-    ensures err { IfErr result (HasNoChain records.items apex.now) }
-{
-    match generate_nsecs_of_records(alloc, apex, records, &GenerateNsecConfig::new()) {
-        Ok(nsecs) => Ok(nsecs),
-        Err(ChainError::MixedClasses) => Err(DenialFault::MixedClasses),
-        Err(ChainError::Signing(error)) => Err(DenialFault::Signing(error)),
-        Err(ChainError::OutOfMemory) => Err(DenialFault::OutOfMemory),
-    }
-}
-
-/// Writes the records, one a line.
-fn write_records<W: Write>(
-    records: &[Record<ZoneName, Nsec<Vec<u8>, ZoneName>>],
-    output: &mut W,
-) -> io::Result<()>
-    ensures { OnOk result (Appends (W.contents output.old) (W.contents output.new)
-        (listing (map (as_link (λ n. n)) records.now))) }
-{
-    for record in records {
-        writeln!(output, "{record}")?;
-    }
-    output.flush()
-}
-
-/// Does what the words ask for: reads the records of a zone, one a line, and writes its chain, one
-/// record a line.
+/// Does what the words ask for: reads records, one a line, and writes the chain of the zone that they
+/// are, one record a line, or what they, as records of a chain, prove of a name and a type, on one
+/// line.
 ///
 /// # Errors
 ///
 /// The first that stands: `Usage` where the words are no command; `Read` where the input could not
 /// be read; `Line` of the lowest line that is no record; `MixedClasses`; `Signing` where there is
-/// no chain; `Write` where the output could not be written; and `OutOfMemory` wherever it comes.
+/// no chain; `Param` where there is not one NSEC3PARAM record for NSEC3 records to be checked with;
+/// `Signing` where the hasher refuses; `Write` where the output could not be written; and `OutOfMemory` wherever it comes.
 /// Nothing is written before `Write`.
 pub fn run_denial<R: BufRead, W: Write, H: Nsec3Hasher>(
     alloc: Global,
     words: &[String],
-    _hasher: &H,
+    hasher: &H,
     input: &mut R,
     output: &mut W,
 ) -> Result<(), DenialFault>
-    // The text of the chain of the records that the lines give, and nothing else.
-    ensures ok { OnOk result (IfSome (R.remaining input.old) (λ bytes. (links : List Link)
-        × Answers (map string_bytes words.now) (lines bytes) links
-        × Appends (W.contents output.old) (W.contents output.new) (listing links))) }
+    // The text of the answer to the command, over the records that the lines give, and nothing else.
+    ensures ok { OnOk result (IfSome (R.remaining input.old) (λ bytes. (answer : Answer)
+        × Answers (H.answer hasher.now) (map string_bytes words.now) (lines bytes) answer
+        × Appends (W.contents output.old) (W.contents output.new) (answer_text answer))) }
 
-    // Usage is answered exactly where the words ask for no chain, want of memory aside.
-    ensures usage { MatchResult result (λ _. AsksForChain (map string_bytes words.now))
+    // Usage is answered exactly where the words are no command, want of memory aside.
+    ensures usage { MatchResult result (λ _. IsCommand (map string_bytes words.now))
         (TellsUsage (map string_bytes words.now)) }
 
     // The lowest line that is neither skipped nor a record.
@@ -208,24 +138,20 @@ pub fn run_denial<R: BufRead, W: Write, H: Nsec3Hasher>(
         (λ e. IsAfterInput e
         → IsReadToEnd (R.remaining input.old) (R.remaining input.new)) }
 
-    // There is no such chain.
-    ensures mixed { IsErrOf result DenialFault.MixedClasses
-        → IfSome (R.remaining input.old) (λ bytes.
-        GivesNoChain (map string_bytes words.now) (lines bytes) DenialFault.MixedClasses) }
-    ensures signing { (e : SigningError) → IsErrOf result (DenialFault.Signing e)
-        → IfSome (R.remaining input.old) (λ bytes.
-        GivesNoChain (map string_bytes words.now) (lines bytes) (DenialFault.Signing e)) }
+    // The records that the lines give have no answer, for the reason that is told.
+    ensures records { IfErr result (λ e. IsOfRecords e → IfSome (R.remaining input.old)
+        (λ bytes. GivesNoAnswer (H.answer hasher.now) (map string_bytes words.now) (lines bytes) e)) }
 
-    // Only where there is such a chain is anything written.
+    // Only where there is an answer is anything written.
     ensures write { IsErrOf result DenialFault.Write
-        → IfSome (R.remaining input.old) (λ bytes. (links : List Link)
-        × Answers (map string_bytes words.now) (lines bytes) links) }
+        → IfSome (R.remaining input.old) (λ bytes. (answer : Answer)
+        × Answers (H.answer hasher.now) (map string_bytes words.now) (lines bytes) answer) }
     ensures untouched { IfErr result (λ e. IsBeforeOutput e → output.new ≡ output.old) }
 {
-    let Command::Nsec(apex) = command_of(alloc, words)?;
+    let command = command_of(alloc, words)?;
     let records = read_records(alloc, input)?;
-    let nsecs = nsec_chain(alloc, &apex, records)?;
-    match write_records(&nsecs, output) {
+    let answer = answer_of(alloc, command, records, hasher)?;
+    match answer.write(output) {
         Ok(()) => Ok(()),
         Err(e) => Err(fault_of(&e, DenialFault::Write)),
     }

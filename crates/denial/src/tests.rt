@@ -1,8 +1,8 @@
 //! What no clause says: that runs succeed, and what is answered when a device or memory fails in
 //! mid-stream. The texts of faults and their statuses are clauses.
-use crate::NoHasher;
 use crate::fault::DenialFault;
 use crate::program::run_denial;
+use domain_sha1::Sha1Hasher;
 use std::alloc::{AllocError, Global};
 use std::io;
 use std::io::{BufRead, BufReader, ErrorKind, Read, Write};
@@ -58,6 +58,41 @@ const SMALL: &str = "a. 3600 IN SOA b. c. 1 2 3 4 1800\nsome_a.a. 300 IN A 192.0
 const SMALL_CHAIN: &str =
     "a. 1800 IN NSEC some_a.a. SOA RRSIG NSEC DNSKEY\nsome_a.a. 1800 IN NSEC a. A RRSIG NSEC\n";
 
+const SMALL_NSEC3_CHAIN: &str = "7bso3a8eddj8m8uva1enskp5d7hiubed.a. 1800 IN NSEC3 1 0 0 - \
+     QJ2K5GBSLC63LG0QOUR6J95C8S2B6UEH A RRSIG
+qj2k5gbslc63lg0qour6j95c8s2b6ueh.a. 1800 IN NSEC3 1 0 0 - 7BSO3A8EDDJ8M8UVA1ENSKP5D7HIUBED \
+     SOA RRSIG DNSKEY NSEC3PARAM
+a. 3600 IN NSEC3PARAM 1 0 0 -
+";
+
+const MX_ZONE: &str = "example. 3600 IN SOA ns1.example. bugs.x.w.example. 1 3600 300 3600000 1800
+x.y.w.example. 3600 IN MX 1 xx.example.
+";
+
+const MX_CHAIN: &str = "0p9mhaveqvm6t7vbl5lop2u3t2rp3tom.example. 1800 IN NSEC3 1 0 12 AABBCCDD \
+     2VPTU5TIMAMQTTGL4LUU9KG21E0AOR3S SOA RRSIG DNSKEY NSEC3PARAM
+2vptu5timamqttgl4luu9kg21e0aor3s.example. 1800 IN NSEC3 1 0 12 AABBCCDD \
+     JI6NEOAEPV8B5O6K4EV33ABHA8HT9FGC MX RRSIG
+ji6neoaepv8b5o6k4ev33abha8ht9fgc.example. 1800 IN NSEC3 1 0 12 AABBCCDD \
+     K8UDEMVP1J2F7EG6JEBPS17VP3N8I58H
+k8udemvp1j2f7eg6jebps17vp3n8i58h.example. 1800 IN NSEC3 1 0 12 AABBCCDD \
+     0P9MHAVEQVM6T7VBL5LOP2U3T2RP3TOM
+example. 3600 IN NSEC3PARAM 1 0 12 AABBCCDD
+";
+
+/// Commands with what they read and what they write.
+const SMALL_RUNS: [(&str, &str, &str); 5] = [
+    ("nsec a.", SMALL, SMALL_CHAIN),
+    ("nsec3 a. 0 -", SMALL, SMALL_NSEC3_CHAIN),
+    ("nsec3 example. 12 aabbccdd", MX_ZONE, MX_CHAIN),
+    ("check nsec a. x.a. A", SMALL_CHAIN, "no name a.\n"),
+    (
+        "check nsec3 example. x.w.example. A",
+        MX_CHAIN,
+        "no name w.example.\n",
+    ),
+];
+
 /// The words of a command.
 fn split(alloc: Global, text: &str) -> Result<Vec<String>, AllocError> {
     let mut words = Vec::new(alloc);
@@ -71,7 +106,7 @@ fn split(alloc: Global, text: &str) -> Result<Vec<String>, AllocError> {
 fn outcome<R: BufRead>(alloc: Global, words: &str, input: &mut R) -> Result<String, Fail> {
     let words = split(alloc, words)?;
     let mut output = Vec::new(alloc);
-    match run_denial(alloc, words.as_slice(), &NoHasher, input, &mut output) {
+    match run_denial(alloc, words.as_slice(), &Sha1Hasher, input, &mut output) {
         Ok(()) => Ok(String::from_utf8(output).map_err(|_| "no text")?),
         Err(_) if !output.is_empty() => Err("a fault, and output")?,
         Err(fault) => Ok(format!(in alloc; "{fault}")?),
@@ -160,17 +195,139 @@ x.a. 60 IN NS y.
 x.a. 61 IN NS z.
 |denial: RRset with more than one TTL~nsec|a. 3600 IN SOA b. c. 1 2 3 4 1800
 some_a.a. 300 IN A 192.0.2.1
-|usage: denial nsec APEX | denial nsec3 APEX ITERATIONS SALT [optout]~nsec a..|a. 3600 IN SOA b. c. 1 2 3 4 1800
+|usage: denial nsec APEX | denial nsec3 APEX ITERATIONS SALT [optout] | denial check nsec APEX NAME TYPE | denial check nsec3 APEX NAME TYPE~nsec a..|a. 3600 IN SOA b. c. 1 2 3 4 1800
 some_a.a. 300 IN A 192.0.2.1
-|usage: denial nsec APEX | denial nsec3 APEX ITERATIONS SALT [optout]~nsec a. b.|a. 3600 IN SOA b. c. 1 2 3 4 1800
+|usage: denial nsec APEX | denial nsec3 APEX ITERATIONS SALT [optout] | denial check nsec APEX NAME TYPE | denial check nsec3 APEX NAME TYPE~nsec a. b.|a. 3600 IN SOA b. c. 1 2 3 4 1800
 some_a.a. 300 IN A 192.0.2.1
-|usage: denial nsec APEX | denial nsec3 APEX ITERATIONS SALT [optout]~nsec3 a. 0 -|a. 3600 IN SOA b. c. 1 2 3 4 1800
-some_a.a. 300 IN A 192.0.2.1
-|usage: denial nsec APEX | denial nsec3 APEX ITERATIONS SALT [optout]";
+|usage: denial nsec APEX | denial nsec3 APEX ITERATIONS SALT [optout] | denial check nsec APEX NAME TYPE | denial check nsec3 APEX NAME TYPE~nsec3 a. 65536 -||usage: denial nsec APEX | denial nsec3 APEX ITERATIONS SALT [optout] | denial check nsec APEX NAME TYPE | denial check nsec3 APEX NAME TYPE~nsec3 a. 0 -a||usage: denial nsec APEX | denial nsec3 APEX ITERATIONS SALT [optout] | denial check nsec APEX NAME TYPE | denial check nsec3 APEX NAME TYPE~nsec3 a. 0 - out||usage: denial nsec APEX | denial nsec3 APEX ITERATIONS SALT [optout] | denial check nsec APEX NAME TYPE | denial check nsec3 APEX NAME TYPE~nsec3 a. 0||usage: denial nsec APEX | denial nsec3 APEX ITERATIONS SALT [optout] | denial check nsec APEX NAME TYPE | denial check nsec3 APEX NAME TYPE~nsec3 a.. 0 -||usage: denial nsec APEX | denial nsec3 APEX ITERATIONS SALT [optout] | denial check nsec APEX NAME TYPE | denial check nsec3 APEX NAME TYPE~nsec3 a. 0 - optout x||usage: denial nsec APEX | denial nsec3 APEX ITERATIONS SALT [optout] | denial check nsec APEX NAME TYPE | denial check nsec3 APEX NAME TYPE~nsec3 EXAMPLE 12 AABBccdd optout|example. 3600 IN SOA ns1.example. bugs.x.w.example. 1 3600 300 3600000 1800
+x.y.w.example. 3600 IN MX 1 xx.example.
+|0p9mhaveqvm6t7vbl5lop2u3t2rp3tom.EXAMPLE. 1800 IN NSEC3 1 1 12 AABBCCDD 2VPTU5TIMAMQTTGL4LUU9KG21E0AOR3S SOA RRSIG DNSKEY NSEC3PARAM
+2vptu5timamqttgl4luu9kg21e0aor3s.EXAMPLE. 1800 IN NSEC3 1 1 12 AABBCCDD JI6NEOAEPV8B5O6K4EV33ABHA8HT9FGC MX RRSIG
+ji6neoaepv8b5o6k4ev33abha8ht9fgc.EXAMPLE. 1800 IN NSEC3 1 1 12 AABBCCDD K8UDEMVP1J2F7EG6JEBPS17VP3N8I58H
+k8udemvp1j2f7eg6jebps17vp3n8i58h.EXAMPLE. 1800 IN NSEC3 1 1 12 AABBCCDD 0P9MHAVEQVM6T7VBL5LOP2U3T2RP3TOM
+EXAMPLE. 3600 IN NSEC3PARAM 1 1 12 AABBCCDD
+~nsec3 a. 0 -||denial: no single SOA at the apex~nsec3 a. 0 -|a. 3600 IN SOA b. c. 1 2 3 4 1800
+x.a. 60 CH A 192.0.2.1
+|denial: more than one class";
+
+/// The same, over records of chains.
+const CHECKS: &str = "check nsec a. some_a.a. A|a. 1800 IN NSEC some_a.a. SOA RRSIG NSEC DNSKEY
+some_a.a. 1800 IN NSEC a. A RRSIG NSEC
+|has
+~check nsec a. some_a.a. MX|a. 1800 IN NSEC some_a.a. SOA RRSIG NSEC DNSKEY
+some_a.a. 1800 IN NSEC a. A RRSIG NSEC
+|no type
+~check nsec a. x.a. A|a. 1800 IN NSEC some_a.a. SOA RRSIG NSEC DNSKEY
+some_a.a. 1800 IN NSEC a. A RRSIG NSEC
+|no name a.
+~check nsec a. x.some_a.a. A|a. 1800 IN NSEC some_a.a. SOA RRSIG NSEC DNSKEY
+some_a.a. 1800 IN NSEC a. A RRSIG NSEC
+|no name some_a.a.
+~check nsec a. X.Some_A.a. A|a. 1800 IN NSEC some_a.a. SOA RRSIG NSEC DNSKEY
+some_a.a. 1800 IN NSEC a. A RRSIG NSEC
+|no name Some_A.a.
+~check nsec a. b. A|a. 1800 IN NSEC some_a.a. SOA RRSIG NSEC DNSKEY
+some_a.a. 1800 IN NSEC a. A RRSIG NSEC
+|outside zone
+~check nsec a. b.a. A|a. 1800 IN NSEC y.b.a. SOA RRSIG NSEC DNSKEY
+y.b.a. 1800 IN NSEC c.a. A RRSIG NSEC
+c.a. 1800 IN NSEC a. NS RRSIG NSEC
+|empty name
+~check nsec a. c.a. NS|a. 1800 IN NSEC y.b.a. SOA RRSIG NSEC DNSKEY
+y.b.a. 1800 IN NSEC c.a. A RRSIG NSEC
+c.a. 1800 IN NSEC a. NS RRSIG NSEC
+|has
+~check nsec a. c.a. DS|a. 1800 IN NSEC y.b.a. SOA RRSIG NSEC DNSKEY
+y.b.a. 1800 IN NSEC c.a. A RRSIG NSEC
+c.a. 1800 IN NSEC a. NS RRSIG NSEC
+|no type
+~check nsec a. c.a. A|a. 1800 IN NSEC y.b.a. SOA RRSIG NSEC DNSKEY
+y.b.a. 1800 IN NSEC c.a. A RRSIG NSEC
+c.a. 1800 IN NSEC a. NS RRSIG NSEC
+|below delegation
+~check nsec a. x.c.a. A|a. 1800 IN NSEC y.b.a. SOA RRSIG NSEC DNSKEY
+y.b.a. 1800 IN NSEC c.a. A RRSIG NSEC
+c.a. 1800 IN NSEC a. NS RRSIG NSEC
+|below delegation
+~check nsec a. a. SOA||not proven
+~check nsec a. x.a. A|some_a.a. 1800 IN NSEC a. A RRSIG NSEC
+|no name a.
+~check nsec a. b.a. A|some_a.a. 1800 IN NSEC a. A RRSIG NSEC
+|not proven
+~check nsec a. x.a. A|some_a.a. 300 IN A 192.0.2.1
+some_a.a. 1800 CH NSEC a. A RRSIG NSEC
+some_a.a. 1800 IN NSEC a. A RRSIG NSEC
+|no name a.
+~check nsec3 example. x.y.w.example. MX|0p9mhaveqvm6t7vbl5lop2u3t2rp3tom.example. 1800 IN NSEC3 1 0 12 AABBCCDD 2VPTU5TIMAMQTTGL4LUU9KG21E0AOR3S SOA RRSIG DNSKEY NSEC3PARAM
+2vptu5timamqttgl4luu9kg21e0aor3s.example. 1800 IN NSEC3 1 0 12 AABBCCDD JI6NEOAEPV8B5O6K4EV33ABHA8HT9FGC MX RRSIG
+ji6neoaepv8b5o6k4ev33abha8ht9fgc.example. 1800 IN NSEC3 1 0 12 AABBCCDD K8UDEMVP1J2F7EG6JEBPS17VP3N8I58H
+k8udemvp1j2f7eg6jebps17vp3n8i58h.example. 1800 IN NSEC3 1 0 12 AABBCCDD 0P9MHAVEQVM6T7VBL5LOP2U3T2RP3TOM
+example. 3600 IN NSEC3PARAM 1 0 12 AABBCCDD
+|has
+~check nsec3 example. w.example. A|0p9mhaveqvm6t7vbl5lop2u3t2rp3tom.example. 1800 IN NSEC3 1 0 12 AABBCCDD 2VPTU5TIMAMQTTGL4LUU9KG21E0AOR3S SOA RRSIG DNSKEY NSEC3PARAM
+2vptu5timamqttgl4luu9kg21e0aor3s.example. 1800 IN NSEC3 1 0 12 AABBCCDD JI6NEOAEPV8B5O6K4EV33ABHA8HT9FGC MX RRSIG
+ji6neoaepv8b5o6k4ev33abha8ht9fgc.example. 1800 IN NSEC3 1 0 12 AABBCCDD K8UDEMVP1J2F7EG6JEBPS17VP3N8I58H
+k8udemvp1j2f7eg6jebps17vp3n8i58h.example. 1800 IN NSEC3 1 0 12 AABBCCDD 0P9MHAVEQVM6T7VBL5LOP2U3T2RP3TOM
+example. 3600 IN NSEC3PARAM 1 0 12 AABBCCDD
+|empty name
+~check nsec3 example. x.w.example. A|0p9mhaveqvm6t7vbl5lop2u3t2rp3tom.example. 1800 IN NSEC3 1 0 12 AABBCCDD 2VPTU5TIMAMQTTGL4LUU9KG21E0AOR3S SOA RRSIG DNSKEY NSEC3PARAM
+2vptu5timamqttgl4luu9kg21e0aor3s.example. 1800 IN NSEC3 1 0 12 AABBCCDD JI6NEOAEPV8B5O6K4EV33ABHA8HT9FGC MX RRSIG
+ji6neoaepv8b5o6k4ev33abha8ht9fgc.example. 1800 IN NSEC3 1 0 12 AABBCCDD K8UDEMVP1J2F7EG6JEBPS17VP3N8I58H
+k8udemvp1j2f7eg6jebps17vp3n8i58h.example. 1800 IN NSEC3 1 0 12 AABBCCDD 0P9MHAVEQVM6T7VBL5LOP2U3T2RP3TOM
+example. 3600 IN NSEC3PARAM 1 0 12 AABBCCDD
+|no name w.example.
+~check nsec3 example. xx.example. A|0p9mhaveqvm6t7vbl5lop2u3t2rp3tom.example. 1800 IN NSEC3 1 0 12 AABBCCDD 2VPTU5TIMAMQTTGL4LUU9KG21E0AOR3S SOA RRSIG DNSKEY NSEC3PARAM
+2vptu5timamqttgl4luu9kg21e0aor3s.example. 1800 IN NSEC3 1 0 12 AABBCCDD JI6NEOAEPV8B5O6K4EV33ABHA8HT9FGC MX RRSIG
+ji6neoaepv8b5o6k4ev33abha8ht9fgc.example. 1800 IN NSEC3 1 0 12 AABBCCDD K8UDEMVP1J2F7EG6JEBPS17VP3N8I58H
+k8udemvp1j2f7eg6jebps17vp3n8i58h.example. 1800 IN NSEC3 1 0 12 AABBCCDD 0P9MHAVEQVM6T7VBL5LOP2U3T2RP3TOM
+example. 3600 IN NSEC3PARAM 1 0 12 AABBCCDD
+|no name example.
+~check nsec3 example. example. NS|0p9mhaveqvm6t7vbl5lop2u3t2rp3tom.example. 1800 IN NSEC3 1 0 12 AABBCCDD 2VPTU5TIMAMQTTGL4LUU9KG21E0AOR3S SOA RRSIG DNSKEY NSEC3PARAM
+2vptu5timamqttgl4luu9kg21e0aor3s.example. 1800 IN NSEC3 1 0 12 AABBCCDD JI6NEOAEPV8B5O6K4EV33ABHA8HT9FGC MX RRSIG
+ji6neoaepv8b5o6k4ev33abha8ht9fgc.example. 1800 IN NSEC3 1 0 12 AABBCCDD K8UDEMVP1J2F7EG6JEBPS17VP3N8I58H
+k8udemvp1j2f7eg6jebps17vp3n8i58h.example. 1800 IN NSEC3 1 0 12 AABBCCDD 0P9MHAVEQVM6T7VBL5LOP2U3T2RP3TOM
+example. 3600 IN NSEC3PARAM 1 0 12 AABBCCDD
+|no type
+~check nsec3 example. org. A|0p9mhaveqvm6t7vbl5lop2u3t2rp3tom.example. 1800 IN NSEC3 1 0 12 AABBCCDD 2VPTU5TIMAMQTTGL4LUU9KG21E0AOR3S SOA RRSIG DNSKEY NSEC3PARAM
+2vptu5timamqttgl4luu9kg21e0aor3s.example. 1800 IN NSEC3 1 0 12 AABBCCDD JI6NEOAEPV8B5O6K4EV33ABHA8HT9FGC MX RRSIG
+ji6neoaepv8b5o6k4ev33abha8ht9fgc.example. 1800 IN NSEC3 1 0 12 AABBCCDD K8UDEMVP1J2F7EG6JEBPS17VP3N8I58H
+k8udemvp1j2f7eg6jebps17vp3n8i58h.example. 1800 IN NSEC3 1 0 12 AABBCCDD 0P9MHAVEQVM6T7VBL5LOP2U3T2RP3TOM
+example. 3600 IN NSEC3PARAM 1 0 12 AABBCCDD
+|outside zone
+~check nsec3 example. x.w.example. A|0p9mhaveqvm6t7vbl5lop2u3t2rp3tom.example. 1800 IN NSEC3 1 1 12 AABBCCDD 2VPTU5TIMAMQTTGL4LUU9KG21E0AOR3S SOA RRSIG DNSKEY NSEC3PARAM
+2vptu5timamqttgl4luu9kg21e0aor3s.example. 1800 IN NSEC3 1 1 12 AABBCCDD JI6NEOAEPV8B5O6K4EV33ABHA8HT9FGC MX RRSIG
+ji6neoaepv8b5o6k4ev33abha8ht9fgc.example. 1800 IN NSEC3 1 1 12 AABBCCDD K8UDEMVP1J2F7EG6JEBPS17VP3N8I58H
+k8udemvp1j2f7eg6jebps17vp3n8i58h.example. 1800 IN NSEC3 1 1 12 AABBCCDD 0P9MHAVEQVM6T7VBL5LOP2U3T2RP3TOM
+example. 3600 IN NSEC3PARAM 1 1 12 AABBCCDD
+|opt-out w.example.
+~check nsec3 example. x.w.example. A|k8udemvp1j2f7eg6jebps17vp3n8i58h.example. 1800 IN NSEC3 1 0 12 AABBCCDD 0P9MHAVEQVM6T7VBL5LOP2U3T2RP3TOM
+example. 3600 IN NSEC3PARAM 1 0 12 AABBCCDD
+|not proven
+~check nsec3 example. x.w.example. A|example. 3600 IN NSEC3PARAM 1 0 12 AABBCCDD
+2vptu5timamqttgl4luu9kg21e0aor3s.example. 1800 IN NSEC3 1 0 12 AABBCCDD JI6NEOAEPV8B5O6K4EV33ABHA8HT9FGC MX RRSIG
+k8udemvp1j2f7eg6jebps17vp3n8i58h.example. 1800 IN NSEC3 1 0 12 AABBCCDD 0P9MHAVEQVM6T7VBL5LOP2U3T2RP3TOM
+k8udemvp1j2f7eg6jebps17vp3n8i58h.example. 1800 IN NSEC3 1 0 12 AABBCCDD 0P9MHAVEQVM6T7VBL5LOP2U3T2RP3TOM
+|no name w.example.
+~check nsec3 a. a. SOA||denial: no single NSEC3PARAM at the apex~check nsec3 example. x.w.example. A|0p9mhaveqvm6t7vbl5lop2u3t2rp3tom.example. 1800 IN NSEC3 1 0 12 AABBCCDD 2VPTU5TIMAMQTTGL4LUU9KG21E0AOR3S SOA RRSIG DNSKEY NSEC3PARAM
+2vptu5timamqttgl4luu9kg21e0aor3s.example. 1800 IN NSEC3 1 0 12 AABBCCDD JI6NEOAEPV8B5O6K4EV33ABHA8HT9FGC MX RRSIG
+ji6neoaepv8b5o6k4ev33abha8ht9fgc.example. 1800 IN NSEC3 1 0 12 AABBCCDD K8UDEMVP1J2F7EG6JEBPS17VP3N8I58H
+k8udemvp1j2f7eg6jebps17vp3n8i58h.example. 1800 IN NSEC3 1 0 12 AABBCCDD 0P9MHAVEQVM6T7VBL5LOP2U3T2RP3TOM
+x.example. 3600 IN NSEC3PARAM 1 0 12 AABBCCDD
+|denial: no single NSEC3PARAM at the apex~check nsec3 example. x.w.example. A|0p9mhaveqvm6t7vbl5lop2u3t2rp3tom.example. 1800 IN NSEC3 1 0 12 AABBCCDD 2VPTU5TIMAMQTTGL4LUU9KG21E0AOR3S SOA RRSIG DNSKEY NSEC3PARAM
+2vptu5timamqttgl4luu9kg21e0aor3s.example. 1800 IN NSEC3 1 0 12 AABBCCDD JI6NEOAEPV8B5O6K4EV33ABHA8HT9FGC MX RRSIG
+ji6neoaepv8b5o6k4ev33abha8ht9fgc.example. 1800 IN NSEC3 1 0 12 AABBCCDD K8UDEMVP1J2F7EG6JEBPS17VP3N8I58H
+k8udemvp1j2f7eg6jebps17vp3n8i58h.example. 1800 IN NSEC3 1 0 12 AABBCCDD 0P9MHAVEQVM6T7VBL5LOP2U3T2RP3TOM
+example. 3600 IN NSEC3PARAM 1 0 12 AABBCCDD
+example. 3600 IN NSEC3PARAM 1 0 12 AABBCCDD
+|denial: no single NSEC3PARAM at the apex~check nsec3 a. x.a. A|a. 0 IN NSEC3PARAM 2 0 12 -
+|denial: hasher refused: 1~check nsec3 a. x. A|a. 0 IN NSEC3PARAM 2 0 12 -
+|outside zone
+~check nsec a. a. A|a.
+|denial: line 1: bad record~check nsec a. a.||usage: denial nsec APEX | denial nsec3 APEX ITERATIONS SALT [optout] | denial check nsec APEX NAME TYPE | denial check nsec3 APEX NAME TYPE~check nsec a. a. QQ||usage: denial nsec APEX | denial nsec3 APEX ITERATIONS SALT [optout] | denial check nsec APEX NAME TYPE | denial check nsec3 APEX NAME TYPE~check nsec a. a.. A||usage: denial nsec APEX | denial nsec3 APEX ITERATIONS SALT [optout] | denial check nsec APEX NAME TYPE | denial check nsec3 APEX NAME TYPE~check soa a. a. A||usage: denial nsec APEX | denial nsec3 APEX ITERATIONS SALT [optout] | denial check nsec APEX NAME TYPE | denial check nsec3 APEX NAME TYPE~check nsec a. a. A A||usage: denial nsec APEX | denial nsec3 APEX ITERATIONS SALT [optout] | denial check nsec APEX NAME TYPE | denial check nsec3 APEX NAME TYPE~check||usage: denial nsec APEX | denial nsec3 APEX ITERATIONS SALT [optout] | denial check nsec APEX NAME TYPE | denial check nsec3 APEX NAME TYPE";
 
 #[test]
 fn answers(rt: HostRuntime) -> Result<(), Fail> {
-    for run in RUNS.split('~') {
+    for run in RUNS.split('~').chain(CHECKS.split('~')) {
         let (words, rest) = run.split_once('|').ok_or("no words")?;
         let (input, expected) = rest.split_once('|').ok_or("no input")?;
         let text = outcome(rt.alloc(), words, &mut input.as_bytes())?;
@@ -184,14 +341,16 @@ fn answers(rt: HostRuntime) -> Result<(), Fail> {
 fn failing_reads(rt: HostRuntime) -> Result<(), Fail> {
     let alloc = rt.alloc();
     let text = "a. 3600 IN SOA b. c. 1 2 3 4 1800\nbad\nx.a. 300 IN A 192.0.2.1";
-    for good in 0..16 {
+    for good in 0..32 {
+        let words = if good < 16 { "nsec a." } else { "nsec3 a. 0 -" };
+        let good = good % 16;
         let reader = FailingReader {
             octets: text.as_bytes(),
             good,
             has_failed: false,
         };
         let mut input = BufReader::with_capacity(alloc, 8, reader)?;
-        let said = outcome(alloc, "nsec a.", &mut input)?;
+        let said = outcome(alloc, words, &mut input)?;
         // The text takes nine reads, and the end of the input one or two more.
         let is_read = said.as_str() == "denial: cannot read input";
         let is_line = said.as_str() == "denial: line 2: bad record";
@@ -205,42 +364,47 @@ fn failing_reads(rt: HostRuntime) -> Result<(), Fail> {
 #[test]
 fn failing_writes(rt: HostRuntime) -> Result<(), Fail> {
     let alloc = rt.alloc();
-    let words = split(alloc, "nsec a.")?;
-    let mut refused = 0;
-    for good in 0..60 {
-        let mut output = FailingWriter {
-            good,
-            held: Vec::new(alloc),
-        };
-        let answer = run_denial(
-            alloc,
-            words.as_slice(),
-            &NoHasher,
-            &mut SMALL.as_bytes(),
-            &mut output,
-        );
-        let is_whole = output.held.as_slice() == SMALL_CHAIN.as_bytes();
-        assert!(rt; SMALL_CHAIN.as_bytes().starts_with(output.held.as_slice()));
-        if answer == Err(DenialFault::Write) {
-            refused = good + 1;
-        } else {
-            assert!(rt; answer == Ok(()) && is_whole, "after {good}");
+    for (words, input, chain) in SMALL_RUNS {
+        let words = split(alloc, words)?;
+        let mut refused = 0;
+        for good in 0..300 {
+            let mut output = FailingWriter {
+                good,
+                held: Vec::new(alloc),
+            };
+            let answer = run_denial(
+                alloc,
+                words.as_slice(),
+                &Sha1Hasher,
+                &mut input.as_bytes(),
+                &mut output,
+            );
+            let is_whole = output.held.as_slice() == chain.as_bytes();
+            assert!(rt; chain.as_bytes().starts_with(output.held.as_slice()));
+            if answer == Err(DenialFault::Write) {
+                refused = good + 1;
+            } else {
+                assert!(rt; answer == Ok(()) && is_whole, "after {good}");
+            }
         }
+        // The octets go out in pieces, at most 11 octets each.
+        assert!(rt; refused >= chain.len() / 11 && refused < 300);
     }
-    // 91 octets go out in pieces, at most 11 octets each.
-    assert!(rt; refused >= 9 && refused < 60);
     Ok(())
+}
+
+/// The zone with an SOA at `a.` and an A so many labels `a` below it.
+fn deep_zone(alloc: Global, below: usize) -> Result<String, Fail> {
+    let below = "a.".repeat(alloc, below)?;
+    Ok(format!(in alloc; "a. 3600 IN SOA b. c. 1 2 3 4 1800\n{below}a. 60 IN A 192.0.2.1\n")?)
 }
 
 // A name of 127 labels is an owner as any other; with 128 it is none.
 #[test]
 fn long_names(rt: HostRuntime) -> Result<(), Fail> {
     let alloc = rt.alloc();
-    for (count, lines) in [(126, 2), (127, 0)] {
-        let labels = "a.".repeat(alloc, count)?;
-        let text = format!(in alloc;
-            "a. 3600 IN SOA b. c. 1 2 3 4 1800\n{labels}a. 60 IN A 192.0.2.1\n"
-        )?;
+    for (below, lines) in [(126, 2), (127, 0)] {
+        let text = deep_zone(alloc, below)?;
         let said = outcome(alloc, "nsec a.", &mut text.as_bytes())?;
         let written = said.matches('\n').count();
         assert_eq!(rt; written, lines, "{said}");
@@ -248,18 +412,42 @@ fn long_names(rt: HostRuntime) -> Result<(), Fail> {
     Ok(())
 }
 
+// Below an owner of 127 labels the NSEC3 chain has 125 empty non-terminals: their records list no
+// types, so that these have nine words.
+#[test]
+fn deep_empty_nonterminals(rt: HostRuntime) -> Result<(), Fail> {
+    let alloc = rt.alloc();
+    let text = deep_zone(alloc, 126)?;
+    let said = outcome(alloc, "nsec3 a. 0 -", &mut text.as_bytes())?;
+    let untyped = said
+        .lines()
+        .filter(|line| line.contains(" NSEC3 ") && line.split(' ').count() == 9)
+        .count();
+    assert_eq!(rt; said.matches(" IN NSEC3 ").count(), 127, "{said}");
+    assert_eq!(rt; untyped, 125, "{said}");
+    Ok(())
+}
+
 // For `rt try --test --fail-alloc N`: want of memory, or the answer.
 #[test]
 fn short_of_memory(rt: HostRuntime) {
     let alloc = rt.alloc();
-    let Ok(words) = split(alloc, "nsec a.") else {
-        return;
-    };
-    let mut input = SMALL.as_bytes();
-    let mut output = Vec::new(alloc);
-    let answer = run_denial(alloc, words.as_slice(), &NoHasher, &mut input, &mut output);
-    if answer != Err(DenialFault::OutOfMemory) {
-        assert_eq!(rt; answer, Ok(()));
-        assert!(rt; output.as_slice() == SMALL_CHAIN.as_bytes());
+    for (words, input, chain) in SMALL_RUNS {
+        let Ok(words) = split(alloc, words) else {
+            return;
+        };
+        let mut input = input.as_bytes();
+        let mut output = Vec::new(alloc);
+        let answer = run_denial(
+            alloc,
+            words.as_slice(),
+            &Sha1Hasher,
+            &mut input,
+            &mut output,
+        );
+        if answer != Err(DenialFault::OutOfMemory) {
+            assert_eq!(rt; answer, Ok(()));
+            assert!(rt; output.as_slice() == chain.as_bytes());
+        }
     }
 }

@@ -1,0 +1,121 @@
+//! What a chain that was read proves of a name and a type.
+ghost use Rattle.std.specs.Prelude.{◌≡◌, ◌⊎◌, [], ◌∷◌, IfErr, IfOk};
+ghost use Rattle.denial.specs.Check.{HasNoNsec3Verdict, IsNsec3Verdict, IsNsecVerdict, ParamRecord, nsec3s_among, nsecs_among, params_at};
+ghost use Rattle.denial.specs.declared.fault.DenialFault.TheVariants.{OutOfMemory as Memory};
+
+use crate::answer::{Answer, Nsec3Rr, NsecRr};
+use crate::command::{Nsec3Params, Question};
+use crate::fault::DenialFault;
+use crate::line::{ZoneName, ZoneRr};
+use domain_base::ToName;
+use domain_dnssec::{Nsec3Hasher, Nsec3Records, Verdict, check_nsec, check_nsec3};
+use domain_octets::OutOfMemory;
+use domain_plain::Record;
+use domain_rdata::ZoneRecordData;
+use domain_records::{Nsec3HashError, SigningError};
+use std::alloc::Global;
+
+/// The NSEC records among these, in their order.
+fn nsecs_among(alloc: Global, records: &[ZoneRr]) -> Result<Vec<NsecRr>, OutOfMemory>
+    ensures { IfOk result (λ nsecs. nsecs.items ≡ nsecs_among records.now) }
+{
+    let mut nsecs = Vec::new(alloc);
+    for record in records {
+        if let ZoneRecordData::Nsec(data) = record.data() {
+            let owner = record.owner().clone()?;
+            nsecs.push(Record::new(owner, record.class(), record.ttl(), data.clone()?))?;
+        }
+    }
+    Ok(nsecs)
+}
+
+/// The NSEC3 records among these, in their order.
+fn nsec3s_among(alloc: Global, records: &[ZoneRr]) -> Result<Vec<Nsec3Rr>, OutOfMemory>
+    ensures { IfOk result (λ nsec3s. nsec3s.items ≡ nsec3s_among records.now) }
+{
+    let mut nsec3s = Vec::new(alloc);
+    for record in records {
+        if let ZoneRecordData::Nsec3(data) = record.data() {
+            let owner = record.owner().clone()?;
+            nsec3s.push(Record::new(owner, record.class(), record.ttl(), data.clone()?))?;
+        }
+    }
+    Ok(nsec3s)
+}
+
+/// The NSEC3PARAM records of the apex among these.
+fn params_at(
+    alloc: Global,
+    apex: &ZoneName,
+    records: &[ZoneRr],
+) -> Result<Vec<Record<ZoneName, Nsec3Params>>, OutOfMemory>
+    ensures { IfOk result (λ params. params.items ≡ params_at apex.now records.now) }
+{
+    let mut params = Vec::new(alloc);
+    for record in records {
+        if let ZoneRecordData::Nsec3param(data) = record.data()
+            && record.owner().name_eq(apex)
+        {
+            let owner = record.owner().clone()?;
+            params.push(Record::new(owner, record.class(), record.ttl(), data.clone()?))?;
+        }
+    }
+    Ok(params)
+}
+
+/// What the NSEC records among these prove.
+pub fn nsec_verdict(
+    alloc: Global,
+    question: Question,
+    records: &[ZoneRr],
+) -> Result<Answer, OutOfMemory>
+    ensures { IfOk result (IsNsecVerdict records.now question) }
+{
+    let nsecs = nsecs_among(alloc, records)?;
+    let Question { apex, name, rtype } = question;
+    let verdict = check_nsec(&apex, &nsecs, &name, rtype);
+    Ok(Answer::Verdict(name, verdict))
+}
+
+/// The NSEC3 records among these, with the one NSEC3PARAM record of the apex.
+fn chain_of(
+    alloc: Global,
+    apex: &ZoneName,
+    records: &[ZoneRr],
+) -> Result<Nsec3Records<ZoneName, Vec<u8>>, DenialFault>
+    ensures ok { IfOk result (λ chain. (params_at apex.now records.now ≡ chain.nsec3param ∷ [])
+        × (chain.nsec3s.items ≡ nsec3s_among records.now)) }
+    ensures err { IfErr result (λ e. ((e ≡ DenialFault.Param)
+        × ((param : ParamRecord) → params_at apex.now records.now ≡ param ∷ [] → ⊥))
+        ⊎ (e ≡ Memory)) }
+{
+    let mut params = params_at(alloc, apex, records)?;
+    let Some(param) = params.pop() else {
+        return Err(DenialFault::Param);
+    };
+    if !params.is_empty() {
+        return Err(DenialFault::Param);
+    }
+    Ok(Nsec3Records::new(nsec3s_among(alloc, records)?, param))
+}
+
+/// What the NSEC3 records among these prove.
+pub fn nsec3_verdict<H: Nsec3Hasher>(
+    alloc: Global,
+    question: Question,
+    records: &[ZoneRr],
+    hasher: &H,
+) -> Result<Answer, DenialFault>
+    ensures ok { IfOk result (IsNsec3Verdict (H.answer hasher.now) records.now question) }
+    ensures err { IfErr result (HasNoNsec3Verdict (H.answer hasher.now) records.now question) }
+{
+    let Question { apex, name, rtype } = question;
+    let chain = chain_of(alloc, &apex, records)?;
+    match check_nsec3(alloc, &apex, &chain, &name, rtype, hasher) {
+        Ok(verdict) => Ok(Answer::Verdict(name, verdict)),
+        Err(error) => match error {
+            Nsec3HashError::OutOfMemory => Err(DenialFault::OutOfMemory),
+            _ => Err(DenialFault::Signing(SigningError::Nsec3HashingError(error))),
+        },
+    }
+}
