@@ -1,4 +1,5 @@
 //! NSEC chains of small zones (RFC 4034, section 4; RFC 4035, section 2.3; RFC 9077).
+use crate::verdicts;
 use domain_base::ScanError;
 use domain_dnssec::{GenerateNsecConfig, generate_nsecs, generate_nsecs_of_records};
 use std::alloc::Global;
@@ -50,11 +51,11 @@ fn of_apex(
     words: &[&str],
     answers: &mut Answers,
 ) -> Result<(), ScanError> {
-    if form == "any" {
-        chain_of_any(alloc, apex, records(alloc, words)?, answers);
-        return Ok(());
+    match form {
+        "any" => chain_of_any(alloc, apex, records(alloc, words)?, answers),
+        "verdict" => verdicts::by_name(alloc, apex, words, answers)?,
+        _ => chain(alloc, apex, &zone(alloc, words)?, &config(form), answers),
     }
-    chain(alloc, apex, &zone(alloc, words)?, &config(form), answers);
     Ok(())
 }
 

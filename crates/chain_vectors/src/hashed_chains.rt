@@ -1,15 +1,17 @@
 //! NSEC3 chains of small zones (RFC 5155, section 7.1).
 use crate::hashers::table;
+use crate::verdicts;
 use domain_base::{Nsec3HashAlgorithm, ScanError, Ttl};
 use domain_dnssec::{
     DefaultSorter, GenerateNsec3Config, Nsec3Hasher, Nsec3ParamTtlMode, Nsec3Records,
-    generate_nsec3s_of_records, generate_nsec3s_of_sorted, mk_hashed_nsec3_owner_name,
+    generate_nsec3s, generate_nsec3s_of_records, generate_nsec3s_of_sorted,
+    mk_hashed_nsec3_owner_name,
 };
 use domain_rdata::{Nsec3Salt, Nsec3param};
 use domain_sha1::Sha1Hasher;
 use std::alloc::Global;
 use vector_lines::{Answers, OwnName, input};
-use zone_lines::{list, records, zone};
+use zone_lines::{RefusingSorter, list, records, zone};
 
 /// A salt.
 type Salt = Nsec3Salt<Vec<u8>>;
@@ -113,6 +115,28 @@ fn of_any<H: Nsec3Hasher>(
     Ok(())
 }
 
+/// What there is instead of a chain where the sorter of the hashes has no memory.
+fn without_sorting<H: Nsec3Hasher>(
+    alloc: Global,
+    apex: &OwnName,
+    hasher: &H,
+    words: &[&str],
+    answers: &mut Answers,
+) -> Result<(), ScanError> {
+    let zone = zone(alloc, words)?;
+    let config: GenerateNsec3Config<Vec<u8>, RefusingSorter> = GenerateNsec3Config::default(alloc);
+    let groups = zone.owner_rrs();
+    if !groups.is_one_class() {
+        answers.echo("  more than one class");
+        return Ok(());
+    }
+    match generate_nsec3s(alloc, apex, groups, &config, hasher) {
+        Ok(made) => show(&made, answers),
+        Err(error) => answers.refused(&error),
+    }
+    Ok(())
+}
+
 /// Answers a vector with a hasher.
 fn with_hasher<H: Nsec3Hasher>(
     alloc: Global,
@@ -126,15 +150,9 @@ fn with_hasher<H: Nsec3Hasher>(
     match form {
         "owner" => owner(alloc, apex, config, hasher, input::word(words, 0), answers),
         "any" => of_any(alloc, apex, config, hasher, words, answers),
+        "verdict" => verdicts::by_hash(alloc, apex, &config.params, hasher, words, answers),
+        "unsorted" => without_sorting(alloc, apex, hasher, words, answers),
         _ => of_sorted(alloc, apex, config, hasher, words, answers),
-    }
-}
-
-/// The words before a colon, and those after it.
-fn parts<'a, 'b>(words: &'a [&'b str]) -> (&'a [&'b str], &'a [&'b str]) {
-    match words.iter().position(|word| *word == ":") {
-        Some(at) => (&words[..at], words.get(at + 1..).unwrap_or_default()),
-        None => (words, Default::default()),
     }
 }
 
@@ -147,7 +165,7 @@ fn of_words(
     answers: &mut Answers,
 ) -> Result<(), ScanError> {
     let apex = OwnName::from_str(alloc, input::word(words, 0))?;
-    let (hashing, given) = parts(words.get(1..).unwrap_or_default());
+    let (hashing, given) = verdicts::parts(words.get(1..).unwrap_or_default());
     if input::word(hashing, 0) == "sha1" {
         let iterations = input::word(hashing, 1).parse::<u16>().unwrap_or(0);
         let config = config(form, iterations, salt(alloc, input::word(hashing, 2))?);

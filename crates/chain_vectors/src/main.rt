@@ -5,6 +5,7 @@
 mod chains;
 mod hashed_chains;
 mod hashers;
+mod verdicts;
 
 use std::alloc::Global;
 use std::io;
