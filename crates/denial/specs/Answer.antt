@@ -35,10 +35,12 @@ fault_of_chain chain_error.OutOfMemory = OutOfMemory
 pub record IsNsecs (given : List ProgramRecord) (apex : Name) (answer : Answer) : Type 0 where
   pub nsecs : Vec (Record Name (NsecData (Vec ℕ Global) Name)) Global
   pub is : answer ≡ Nsecs nsecs
-  pub chain : IsChainOf (λ o. o.items) (λ n. n) given apex usual_config (links_of (λ n. n) nsecs.items)
+  pub chain : IsChainOf (λ o. o.items) (λ n. n) given apex usual_config
+      (links_of (λ n. n) nsecs.items)
 
 -- there is none, for this reason
-pub record HasNoNsecs (given : List ProgramRecord) (apex : Name) (fault : DenialFault) : Type 0 where
+pub record HasNoNsecs (given : List ProgramRecord) (apex : Name) (fault : DenialFault)
+    : Type 0 where
   pub error : ChainError
   pub is : fault ≡ fault_of_chain error
   pub none : HasNoChain (λ o. o.items) (λ n. n) given apex usual_config error
@@ -68,7 +70,8 @@ pub record HasNoNsec3s (answers : HasherAnswer) (given : List ProgramRecord) (ap
     (p : Params) (fault : DenialFault) : Type 0 where
   pub error : ChainError
   pub is : fault ≡ fault_of_chain error
-  pub none : HasNoHashedChain (λ o. o.items) (λ n. n) given apex (usual_nsec3_config answers p) error
+  pub none : HasNoHashedChain (λ o. o.items) (λ n. n) given apex (usual_nsec3_config answers p)
+      error
 
 abbrev pub IsAnswer : HasherAnswer → Command → List ProgramRecord → Answer → Type 0
 IsAnswer answers (Nsec apex) given answer = IsNsecs given apex answer

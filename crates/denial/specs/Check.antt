@@ -109,7 +109,8 @@ params_at apex = flat_map (param_of apex)
 
 -- the answer is what the NSEC records prove of the question: what is proved of any zone of whose
 -- chain they are, and, from any records, nothing without a proof
-pub record IsNsecVerdict (given : List ProgramRecord) (q : Question) (answer : Answer) : Type 0 where
+pub record IsNsecVerdict (given : List ProgramRecord) (q : Question) (answer : Answer)
+    : Type 0 where
   pub verdict : Verdict
   pub is : answer ≡ answers.Verdict q.name verdict
   pub zone : IsProved (links_of (λ n. n) (nsecs_among given)) q.apex q.name q.rtype verdict
@@ -123,8 +124,8 @@ hashed_links_among given = hashed_links_of (λ n. n) (nsec3s_among given)
 abbrev pub hash_with : HasherAnswer → ParamRecord → Hash
 hash_with hashes param = hash_by hashes (parameters_of param.«data»)
 
--- the apex has one NSEC3PARAM record, and the answer is what the NSEC3 records prove of the question
--- with its parameters
+-- the apex has one NSEC3PARAM record, and the answer is what the NSEC3 records prove of the
+-- question with its parameters
 pub record IsNsec3Verdict (hashes : HasherAnswer) (given : List ProgramRecord) (q : Question)
     (answer : Answer) : Type 0 where
   pub param : ParamRecord

@@ -72,9 +72,9 @@ fn nsec3s_of<H: Nsec3Hasher>(
 ///
 /// # Errors
 ///
-/// The first that stands: of a chain `MixedClasses`, and `Signing` where there is none; of a verdict
-/// of NSEC3 records `Param` where the apex has not exactly one NSEC3PARAM record, and `Signing` where
-/// the hasher refuses; and `OutOfMemory`.
+/// The first that stands: of a chain `MixedClasses`, and `Signing` where there is none; of a
+/// verdict of NSEC3 records `Param` where the apex has not exactly one NSEC3PARAM record, and
+/// `Signing` where the hasher refuses; and `OutOfMemory`.
 pub fn answer_of<H: Nsec3Hasher>(
     alloc: Global,
     command: Command,

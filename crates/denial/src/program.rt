@@ -100,17 +100,17 @@ fn read_records<R: BufRead>(alloc: Global, input: &mut R) -> Result<Vec<ZoneRr>,
     Err(DenialFault::Read)
 }
 
-/// Does what the words ask for: reads records, one a line, and writes the chain of the zone that they
-/// are, one record a line, or what they, as records of a chain, prove of a name and a type, on one
-/// line.
+/// Does what the words ask for: reads records, one a line, and writes the chain of the zone that
+/// they are, one record a line, or what they, as records of a chain, prove of a name and a type, on
+/// one line.
 ///
 /// # Errors
 ///
 /// The first that stands: `Usage` where the words are no command; `Read` where the input could not
-/// be read; `Line` of the lowest line that is no record; `MixedClasses`; `Signing` where there is
-/// no chain; `Param` where there is not one NSEC3PARAM record for NSEC3 records to be checked with;
-/// `Signing` where the hasher refuses; `Write` where the output could not be written; and `OutOfMemory` wherever it comes.
-/// Nothing is written before `Write`.
+/// be read; `Line` of the lowest line that is no record; `MixedClasses`; `Signing` where there is no
+/// chain; `Param` where there is not one NSEC3PARAM record for NSEC3 records to be checked with;
+/// `Signing` where the hasher refuses; `Write` where the output could not be written; and
+/// `OutOfMemory` wherever it comes. Nothing is written before `Write`.
 pub fn run_denial<R: BufRead, W: Write, H: Nsec3Hasher>(
     alloc: Global,
     words: &[String],
@@ -118,7 +118,7 @@ pub fn run_denial<R: BufRead, W: Write, H: Nsec3Hasher>(
     input: &mut R,
     output: &mut W,
 ) -> Result<(), DenialFault>
-    // The text of the answer to the command, over the records that the lines give, and nothing else.
+    // The text of the answer to the command, over the records that the lines give, and no more.
     ensures ok { OnOk result (IfSome (R.remaining input.old) (λ bytes. (answer : Answer)
         × Answers (H.answer hasher.now) (map string_bytes words.now) (lines bytes) answer
         × Appends (W.contents output.old) (W.contents output.new) (answer_text answer))) }
@@ -140,7 +140,8 @@ pub fn run_denial<R: BufRead, W: Write, H: Nsec3Hasher>(
 
     // The records that the lines give have no answer, for the reason that is told.
     ensures records { IfErr result (λ e. IsOfRecords e → IfSome (R.remaining input.old)
-        (λ bytes. GivesNoAnswer (H.answer hasher.now) (map string_bytes words.now) (lines bytes) e)) }
+        (λ bytes. GivesNoAnswer (H.answer hasher.now) (map string_bytes words.now)
+        (lines bytes) e)) }
 
     // Only where there is an answer is anything written.
     ensures write { IsErrOf result DenialFault.Write

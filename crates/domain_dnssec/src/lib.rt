@@ -1,13 +1,14 @@
 //! DNSSEC denial of existence: the chains of a zone (RFC 4034, section 4; RFC 4035, section 2.3;
-//! RFC 5155, section 7.1; RFC 9077), under one name.
+//! RFC 5155, section 7.1; RFC 9077), and what their records prove, under one name.
 //!
 //! `generate_nsecs` makes the NSEC chain of a zone whose records are handed over in canonical
 //! order, as `SortedRecords` keeps them, and `generate_nsec3s` its NSEC3 chain;
 //! `generate_nsecs_of_sorted` and `generate_nsec3s_of_sorted` take sorted records as they are,
-//! `generate_nsecs_of_records` and `generate_nsec3s_of_records` records in any order. What the
-//! contracts cite stands in `specs/` of `domain_zone`, `domain_nsec`, `domain_nsec3` and this crate. What signatures here name is handed on: names,
-//! types, classes, TTLs, records and their data, builders of octets, sorted records, and the
-//! errors.
+//! `generate_nsecs_of_records` and `generate_nsec3s_of_records` records in any order. `check_nsec`
+//! and `check_nsec3` say what records of a chain prove of a name and a type. What the contracts cite
+//! stands in `specs/` of `domain_zone`, `domain_nsec`, `domain_nsec3`, `domain_checker` and this
+//! crate. What signatures here name is handed on: names, types, classes, TTLs, records and their
+//! data, builders of octets, sorted records, and the errors.
 #![tactic(auto)]
 
 mod any_order;
