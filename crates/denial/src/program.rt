@@ -107,8 +107,8 @@ fn read_records<R: BufRead>(alloc: Global, input: &mut R) -> Result<Vec<ZoneRr>,
 /// # Errors
 ///
 /// The first that stands: `Usage` where the words are no command; `Read` where the input could not
-/// be read; `Line` of the lowest line that is no record; `MixedClasses`; `Signing` where there is no
-/// chain; `Param` where there is not one NSEC3PARAM record for NSEC3 records to be checked with;
+/// be read; `Line` of the lowest line that is no record; `MixedClasses`; `Signing` where there is
+/// no chain; `Param` where there is not one NSEC3PARAM record for NSEC3 records to be checked with;
 /// `Signing` where the hasher refuses; `Write` where the output could not be written; and
 /// `OutOfMemory` wherever it comes. Nothing is written before `Write`.
 pub fn run_denial<R: BufRead, W: Write, H: Nsec3Hasher>(

@@ -3,7 +3,7 @@
 //!
 //! `check_nsec` is handed records of an NSEC chain, any of them, in any order, and no zone. Its
 //! answer is what the zone itself says of the name and the type, or that these records do not prove
-//! it. The definitions in `specs/Verdict` speak of the zone and its chain alone; those in
+//! it. The definitions in `specs/Verdict` are over the zone and its chain alone; those in
 //! `specs/Reading` of the records alone.
 //!
 //! `check_nsec3` is handed records of an NSEC3 chain and the NSEC3PARAM record in the same way, and
