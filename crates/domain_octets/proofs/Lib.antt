@@ -4,3 +4,6 @@ pub mod RefusalLemmas
 pub mod PieceLemmas
 pub mod OrderLemmas
 pub mod ReadBackLemmas
+pub mod CodecBackLemmas
+pub mod WordLemmas
+pub mod BitGroupLemmas

@@ -1,4 +1,4 @@
--- what octets are written as in Base 32 hex, in lower case, is read back
+-- what octets are written as in Base 32 hex, in either case, is read back
 use Rattle.std.proofs.Common.{◌≡◌, ℕ, ◌+◌, ◌*◌, ◌/◌, ◌%◌, ◌<◌, true, All, not, ◌&&◌, ◌||◌, List, [], ◌∷◌, map, length, refl, ap, sym, ◌∙◌, arith, nat_eq, Some}
 use Rattle.std.specs.Prelude.{is_some}
 use Rattle.std.specs.Option.{unwrap_or}
@@ -8,7 +8,7 @@ use Rattle.std.specs.List.{list_all, AllByRecursion}
 use Rattle.std.proofs.lemmas.List.Sums.{AllPass-from_list_all}
 use Rattle.std.proofs.lemmas.List.Elements.{recursion_from_All}
 use Rattle.domain_octets.specs.declared.codec.Codec.TheVariants.{Base32Hex}
-use Rattle.domain_octets.specs.Base32.{base32_from, base32_lower, lower_digit}
+use Rattle.domain_octets.specs.Base32.{base32_from, base32_lower, base32_upper, lower_digit, upper_digit}
 use Rattle.domain_octets.specs.Codec.{base32_value, is_digit, is_base32_length, base32_octets, base32_digits, IsBase32}
 
 -- the digits that go on from the bits left over of the last octet, after those that are read, are that octet and those that follow
@@ -133,23 +133,34 @@ digits (y ∷ ys) h = digits_more y ys h.0 (digits ys h.1)
 value_of_digit : (n : ℕ) → n < 32 → base32_value (lower_digit n) ≡ Some n
 value_of_digit n l = grind (arith, nat_tests)
 
-are_digits : (ds : List ℕ) → AreSmall ds → (list_all (is_digit Base32Hex) (map lower_digit ds) ≡ true) × (base32_digits (map lower_digit ds) ≡ ds)
-are_digits [] h = (refl, refl)
-are_digits (d ∷ ds) h =
-    let up = are_digits ds h.1 in
-    let v = value_of_digit d h.0 in
-    ((λ i. is_some (v i) && up.0 i), (λ i. unwrap_or (v i) 0 ∷ up.1 i))
+value_of_upper_digit : (n : ℕ) → n < 32 → base32_value (upper_digit n) ≡ Some n
+value_of_upper_digit n l = grind (arith, nat_tests)
+
+-- digits that are written by either alphabet
+module _ (written : ℕ → ℕ) (back_to : (n : ℕ) → n < 32 → base32_value (written n) ≡ Some n) where
+  are_digits : (ds : List ℕ) → AreSmall ds → (list_all (is_digit Base32Hex) (map written ds) ≡ true) × (base32_digits (map written ds) ≡ ds)
+  are_digits [] h = (refl, refl)
+  are_digits (d ∷ ds) h =
+      let up = are_digits ds h.1 in
+      let v = back_to d h.0 in
+      ((λ i. is_some (v i) && up.0 i), (λ i. unwrap_or (v i) 0 ∷ up.1 i))
+
+  reads_back : (octets : List ℕ) → All (λ octet. octet < 256) octets → IsBase32 (map written (base32_from 1 0 octets)) octets
+  reads_back octets h =
+      let small = recursion_from_All (λ octet. octet < 256) octets h in
+      let d = (digits octets small).whole 0 0 (omega arith) refl in
+      let r = are_digits (base32_from 1 0 octets) d.0 in
+      record {
+        digits = AllPass-from_list_all (is_digit Base32Hex) (map written (base32_from 1 0 octets)) r.0;
+        whole = ap is_base32_length (length-map (base32_from 1 0 octets) written) ∙ counts d.1;
+        value = sym (ap (base32_octets 1 0) r.1 ∙ (back octets small).whole);
+      }
+    where
+      counts : is_base32_length (0 + length (base32_from 1 0 octets)) ≡ true → is_base32_length (length (base32_from 1 0 octets)) ≡ true
+      counts k = let e : length (base32_from 1 0 octets) ≡ 0 + length (base32_from 1 0 octets) = omega arith in ap is_base32_length e ∙ k
 
 pub lower_reads_back : (octets : List ℕ) → All (λ octet. octet < 256) octets → IsBase32 (base32_lower octets) octets
-lower_reads_back octets h =
-    let small = recursion_from_All (λ octet. octet < 256) octets h in
-    let d = (digits octets small).whole 0 0 (omega arith) refl in
-    let r = are_digits (base32_from 1 0 octets) d.0 in
-    record {
-      digits = AllPass-from_list_all (is_digit Base32Hex) (base32_lower octets) r.0;
-      whole = ap is_base32_length (length-map (base32_from 1 0 octets) lower_digit) ∙ counts d.1;
-      value = sym (ap (base32_octets 1 0) r.1 ∙ (back octets small).whole);
-    }
-  where
-    counts : is_base32_length (0 + length (base32_from 1 0 octets)) ≡ true → is_base32_length (length (base32_from 1 0 octets)) ≡ true
-    counts k = let e : length (base32_from 1 0 octets) ≡ 0 + length (base32_from 1 0 octets) = omega arith in ap is_base32_length e ∙ k
+lower_reads_back = reads_back lower_digit value_of_digit
+
+pub upper_reads_back : (octets : List ℕ) → All (λ octet. octet < 256) octets → IsBase32 (base32_upper octets) octets
+upper_reads_back = reads_back upper_digit value_of_upper_digit
