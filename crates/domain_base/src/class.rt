@@ -46,6 +46,22 @@ impl Class {
     }
 }
 
+impl From<u16> for Class {
+    ghost from_gives = { λ number made. made ≡ number };
+
+    fn from(number: u16) -> Class {
+        Class::from_int(number)
+    }
+}
+
+impl From<Class> for u16 {
+    ghost from_gives = { λ made number. number ≡ made };
+
+    fn from(class: Class) -> u16 {
+        class.to_int()
+    }
+}
+
 /// The classes that are known by a name.
 fn names() -> &'static [(u16, &'static str)]
     ensures { entries result.now ≡ class_names }

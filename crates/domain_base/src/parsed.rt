@@ -86,7 +86,8 @@ impl<'a> ParsedName<'a> {
         Some((label, ParsedName { wire: above }))
     }
 
-    /// The name without its first label, in the same octets; None for the root. Takes no memory.
+    /// The name without its first label, in the same octets; None for the root (RFC 9499,
+    /// section 7). Takes no memory.
     pub fn parent(&self) -> Option<ParsedName<'a>>
         ensures { result ≡ parent_of self.now }
     {

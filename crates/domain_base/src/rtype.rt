@@ -123,6 +123,22 @@ impl Rtype {
     }
 }
 
+impl From<u16> for Rtype {
+    ghost from_gives = { λ number made. made ≡ number };
+
+    fn from(number: u16) -> Rtype {
+        Rtype::from_int(number)
+    }
+}
+
+impl From<Rtype> for u16 {
+    ghost from_gives = { λ made number. number ≡ made };
+
+    fn from(rtype: Rtype) -> u16 {
+        rtype.to_int()
+    }
+}
+
 /// The types that are known by a name.
 fn names() -> &'static [(u16, &'static str)]
     ensures { entries result.now ≡ type_names }

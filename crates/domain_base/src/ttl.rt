@@ -1,5 +1,5 @@
 //! Times to live.
-ghost use Rattle.std.specs.Prelude.{◌≡◌, Some};
+ghost use Rattle.std.specs.Prelude.{◌≡◌, ◌*◌, Some};
 ghost use Rattle.std.specs.Fmt.{decimal};
 ghost use Rattle.domain_base.specs.Scan.{IsNumber, IsNoNumber};
 
@@ -28,6 +28,20 @@ impl Ttl {
         ensures { result ≡ seconds }
     {
         Ttl(seconds)
+    }
+
+    /// So many minutes.
+    pub const fn from_mins(minutes: u16) -> Ttl
+        ensures { result ≡ 60 * minutes }
+    {
+        Ttl(60 * minutes as u32)
+    }
+
+    /// So many hours.
+    pub const fn from_hours(hours: u16) -> Ttl
+        ensures { result ≡ 3600 * hours }
+    {
+        Ttl(3600 * hours as u32)
     }
 
     /// The number of seconds.

@@ -1,0 +1,230 @@
+-- what numbers, types, classes and names are written as is read back
+use Rattle.std.proofs.Common.{◌≡◌, ◌≢◌, ℕ, ◌+◌, ◌-◌, ◌*◌, ◌/◌, ◌%◌, ◌<◌, true, false, List, [], ◌∷◌, ◌++◌, Some, None, get_or, length, drop, codes, refl, ap, sym, subst, ◌∙◌, arith, inl, inr}
+use Rattle.std.specs.Prelude.{◌^◌, ◌==◌, ◌&&◌, not, nat_le, Bool, Option, unwrap_or}
+use Rattle.std.specs.List.{AllByRecursion, list_all}
+use Rattle.std.specs.Fmt.{decimal}
+use Rattle.std.specs.Char.{is_ascii_digit, is_ascii_graphic}
+use Rattle.std.proofs.lemmas.Fmt.{decimal_is_IsNumeral}
+use Rattle.std.proofs.lemmas.List.{append_assoc, append-nil}
+use Rattle.std.proofs.lemmas.List.Elements.{recursion_from_All}
+use Rattle.std.proofs.lemmas.List.Sums.{AllPass-from_list_all}
+use Rattle.std.proofs.lemmas.Bool.{cases_Bool}
+use Rattle.std.proofs.lemmas.Bool.Decides.{nat_tests}
+use Rattle.domain_octets.specs.Line.{HasNoSpace, IsWord}
+use Rattle.domain_octets.proofs.WordLemmas.{no_space-append, decimal_word}
+use Rattle.domain_base.specs.Named.{Named, number_named, name_of, NumberText, by_name, by_number}
+use Rattle.domain_base.specs.Numbers.{type_names, TypeText, type_text, class_names, ClassText, class_text}
+use Rattle.domain_base.specs.Scan.{IsNumber}
+use Rattle.domain_base.specs.Name.{IsLabel, IsName}
+use Rattle.domain_base.specs.Text.{symbol_at, is_printable, is_special, octet_text, label_text, dotted_text, name_text, LabelText, at_end, at_dot, octet, LabelTexts, last, last_with_dot, dotted, NameText, root, of_labels}
+
+-- ---- numbers
+
+pub number_back : (bits n : ℕ) → n < 2 ^ bits → n < 2 ^ 64 → IsNumber bits (decimal n) n
+number_back bits n fits small =
+    let numeral = decimal_is_IsNumeral n small in
+    record { digits = numeral.0; fits = rw numeral.1 fits; value = sym numeral.1 }
+
+-- ---- numbers with names
+
+-- each name of these entries stands for its number in the whole table
+abbrev NamesStand : List Named → List Named → Type 0
+NamesStand table entries = AllByRecursion (λ entry. number_named table entry.name ≡ Some entry.number) entries
+
+named_back : (table entries : List Named) (n : ℕ) (name : List ℕ) → NamesStand table entries → name_of entries n ≡ Some name → number_named table name ≡ Some n
+named_back table [] n name stand is = absurd (let e = is in cc)
+named_back table (entry ∷ entries) n name stand is = elim (cases_Bool (entry.number == n)) [
+  | inl here ↦
+      let same : entry.number ≡ n = grind (arith, nat_tests) in
+      let found : Some entry.name ≡ Some name = rw here at is in
+      let named : entry.name ≡ name = cc found in
+      ap (number_named table) (sym named) ∙ stand.0 ∙ ap Some same
+  | inr other ↦ named_back table entries n name stand.1 (rw other at is)
+]
+
+-- where the table tells nothing else of such a text
+number_back_by : (table : List Named) (prefix : List ℕ) (n : ℕ) → NamesStand table table → ((digits : List ℕ) → number_named table (prefix ++ digits) ≡ None) → n < 65536 → (o : Option (List ℕ)) → name_of table n ≡ o → NumberText table prefix (unwrap_or o (prefix ++ decimal n)) n
+number_back_by table prefix n stand other fits None is =
+    by_number (prefix ++ decimal n) (decimal n) n (other (decimal n)) (record { front = prefix; parts = refl; same = refl }) (number_back 16 n fits (omega (arith, fits)))
+number_back_by table prefix n stand other fits (Some name) is = by_name name n (named_back table table n name stand is)
+
+pub type_back : (n : ℕ) → n < 65536 → TypeText (type_text n) n
+type_back n fits = number_back_by type_names (codes "TYPE") n stand (λ digits. refl) fits (name_of type_names n) refl where
+  stand : NamesStand type_names type_names
+  stand = (refl, (refl, (refl, (refl, (refl, (refl, (refl, (refl, (refl, (refl, (refl, (refl, (refl, (refl, (refl, (refl, (refl, (refl, (refl, (refl, (refl, (refl, (refl, (refl, (refl, (refl, (refl, (refl, tt))))))))))))))))))))))))))))
+
+pub class_back : (n : ℕ) → n < 65536 → ClassText (class_text n) n
+class_back n fits = number_back_by class_names (codes "CLASS") n stand (λ digits. refl) fits (name_of class_names n) refl where
+  stand : NamesStand class_names class_names
+  stand = (refl, (refl, (refl, tt)))
+
+-- ---- names
+
+-- an octet's text is read as that octet, and what follows is left
+record Symbol (c : ℕ) (rest : List ℕ) : Type 0 where
+  used : ℕ
+  read : symbol_at (octet_text c ++ rest) ≡ Some (c, used)
+  left : drop used (octet_text c ++ rest) ≡ rest
+
+special_octet : (c : ℕ) → is_special c ≡ true → (is_ascii_digit c ≡ false) × (is_printable c ≡ true)
+special_octet c special = (grind (arith, nat_tests), grind (arith, nat_tests))
+
+plain_octet : (c : ℕ) → is_special c ≡ false → is_ascii_graphic c ≡ true → ((c == 92) ≡ false) × ((is_printable c && not (c == 46)) ≡ true)
+plain_octet c special graphic = (grind (arith, nat_tests), grind (arith, nat_tests))
+
+digit_is : (d : ℕ) → d < 10 → is_ascii_digit (48 + d) ≡ true
+digit_is d small = grind (arith, nat_tests)
+
+value_is : (c : ℕ) → c < 256 → (48 + c / 100 - 48) * 100 + (48 + c / 10 % 10 - 48) * 10 + (48 + c % 10 - 48) ≡ c
+value_is c small = omega arith
+
+value_fits : (c : ℕ) → c < 256 → nat_le c 255 ≡ true
+value_fits c small = grind (arith, nat_tests)
+
+symbol_back : (c : ℕ) (rest : List ℕ) → c < 256 → Symbol c rest
+unfolding symbol_at octet_text
+symbol_back c rest small = elim (cases_Bool (is_special c)) [
+  | inl special ↦
+      let found = special_octet c special in
+      record { used = 2; read = rw (special, found.0, found.1) refl; left = rw special refl }
+  | inr other ↦ elim (cases_Bool (is_ascii_graphic c)) [
+    | inl graphic ↦
+        let found = plain_octet c other graphic in
+        record { used = 1; read = rw (other, graphic, found.0, found.1) refl; left = rw (other, graphic) refl }
+    | inr unseen ↦
+        record { used = 4; read = rw (other, unseen, digit_is (c / 100) (omega arith), digit_is (c / 10 % 10) (omega arith), digit_is (c % 10) (omega arith), value_is c small, value_fits c small) refl; left = rw (other, unseen) refl }
+  ]
+]
+
+-- a label's text is read as that label, where nothing or a dot follows
+label_back : (label rest : List ℕ) → AllByRecursion (λ c. c < 256) label → LabelText rest [] rest → LabelText (label_text label ++ rest) label rest
+label_back [] rest small ends = ends
+label_back (c ∷ label) rest small ends =
+    let symbol = symbol_back c (label_text label ++ rest) small.0 in
+    subst (λ t. LabelText t (c ∷ label) rest) (sym (append_assoc (octet_text c) (label_text label) rest))
+    (octet (octet_text c ++ (label_text label ++ rest)) label rest c symbol.used symbol.read
+    (subst (λ t. LabelText t label rest) (sym symbol.left) (label_back label rest small.1 ends)))
+
+label_octets : (label : List ℕ) → IsLabel label → AllByRecursion (λ c. c < 256) label
+label_octets label valid = recursion_from_All (λ c. c < 256) label valid.octets
+
+-- labels with a last dot, or without one
+with_dot : (label : List ℕ) (labels : List (List ℕ)) → AllByRecursion IsLabel (label ∷ labels) → LabelTexts (name_text (label ∷ labels) ++ 46 ∷ []) (label ∷ labels)
+with_dot label [] valid =
+    subst (λ t. LabelTexts (t ++ 46 ∷ []) (label ∷ [])) (sym (append-nil (label_text label)))
+    (last_with_dot (label_text label ++ 46 ∷ []) label (label_back label (46 ∷ []) (label_octets label valid.0) (at_dot [])))
+with_dot label (next ∷ labels) valid =
+    let after = name_text (next ∷ labels) ++ 46 ∷ [] in
+    subst (λ t. LabelTexts t (label ∷ next ∷ labels)) (sym (append_assoc (label_text label) (dotted_text (next ∷ labels)) (46 ∷ [])))
+    (dotted (label_text label ++ 46 ∷ after) label after (next ∷ labels) (label_back label (46 ∷ after) (label_octets label valid.0) (at_dot after)) (with_dot next labels valid.1))
+
+without_dot : (label : List ℕ) (labels : List (List ℕ)) → AllByRecursion IsLabel (label ∷ labels) → LabelTexts (name_text (label ∷ labels)) (label ∷ labels)
+without_dot label [] valid = last (label_text label ++ []) label (label_back label [] (label_octets label valid.0) at_end)
+without_dot label (next ∷ labels) valid =
+    let after = name_text (next ∷ labels) in
+    dotted (label_text label ++ 46 ∷ after) label after (next ∷ labels) (label_back label (46 ∷ after) (label_octets label valid.0) (at_dot after)) (without_dot next labels valid.1)
+
+pub dotted_name_back : (name : List (List ℕ)) → IsName name → NameText (name_text name ++ 46 ∷ []) name
+dotted_name_back [] valid = root
+dotted_name_back (label ∷ labels) valid = of_labels (name_text (label ∷ labels) ++ 46 ∷ []) (label ∷ labels) (with_dot label labels valid.of_labels) valid
+
+pub name_back : (name : List (List ℕ)) → name ≢ [] → IsName name → NameText (name_text name) name
+name_back [] some valid = absurd (some refl)
+name_back (label ∷ labels) some valid = of_labels (name_text (label ∷ labels)) (label ∷ labels) (without_dot label labels valid.of_labels) valid
+
+-- ---- words
+
+octet_plain : (c : ℕ) → c < 256 → HasNoSpace (octet_text c)
+unfolding octet_text
+octet_plain c small = elim (cases_Bool (is_special c)) [
+  | inl special ↦ rw special (refl, (special_no_space c special, tt))
+  | inr other ↦ elim (cases_Bool (is_ascii_graphic c)) [
+    | inl graphic ↦ rw (other, graphic) (graphic_no_space c graphic, tt)
+    | inr unseen ↦ rw (other, unseen) (refl, (digit_no_space (c / 100), (digit_no_space (c / 10 % 10), (digit_no_space (c % 10), tt))))
+  ]
+] where
+  special_no_space : (c : ℕ) → is_special c ≡ true → (c == 32) ≡ false
+  special_no_space c special = grind (arith, nat_tests)
+
+  graphic_no_space : (c : ℕ) → is_ascii_graphic c ≡ true → (c == 32) ≡ false
+  graphic_no_space c graphic = grind (arith, nat_tests)
+
+  digit_no_space : (d : ℕ) → ((48 + d) == 32) ≡ false
+  digit_no_space d = grind (arith, nat_tests)
+
+label_plain : (label : List ℕ) → AllByRecursion (λ c. c < 256) label → HasNoSpace (label_text label)
+label_plain [] small = tt
+label_plain (c ∷ label) small = no_space-append (octet_text c) (label_text label) (octet_plain c small.0) (label_plain label small.1)
+
+dotted_plain : (labels : List (List ℕ)) → AllByRecursion IsLabel labels → HasNoSpace (dotted_text labels)
+dotted_plain [] valid = tt
+dotted_plain (label ∷ labels) valid =
+    (refl, no_space-append (label_text label) (dotted_text labels) (label_plain label (label_octets label valid.0)) (dotted_plain labels valid.1))
+
+name_plain : (name : List (List ℕ)) → AllByRecursion IsLabel name → HasNoSpace (name_text name)
+name_plain [] valid = tt
+name_plain (label ∷ labels) valid = no_space-append (label_text label) (dotted_text labels) (label_plain label (label_octets label valid.0)) (dotted_plain labels valid.1)
+
+not_empty : (text : List ℕ) (c : ℕ) → text ++ c ∷ [] ≢ []
+not_empty [] c = λ none. cc
+not_empty (d ∷ text) c = λ none. cc
+
+pub name_word : (name : List (List ℕ)) → IsName name → IsWord (name_text name ++ 46 ∷ [])
+name_word name valid = record {
+  some = not_empty (name_text name) 46;
+  unbroken = no_space-append (name_text name) (46 ∷ []) (name_plain name valid.of_labels) (refl, tt);
+}
+
+-- the names in these entries are words
+abbrev AreWords : List Named → Type 0
+AreWords entries = AllByRecursion (λ entry. IsWord entry.name) entries
+
+named_word : (entries : List Named) (n : ℕ) (name : List ℕ) → AreWords entries → name_of entries n ≡ Some name → IsWord name
+named_word [] n name words is = absurd (let e = is in cc)
+named_word (entry ∷ entries) n name words is = elim (cases_Bool (entry.number == n)) [
+  | inl here ↦
+      let found : Some entry.name ≡ Some name = rw here at is in
+      let named : entry.name ≡ name = cc found in
+      subst IsWord named words.0
+  | inr other ↦ named_word entries n name words.1 (rw other at is)
+]
+
+number_word_by : (table : List Named) (prefix : List ℕ) (n : ℕ) → AreWords table → IsWord prefix → n < 65536 → (o : Option (List ℕ)) → name_of table n ≡ o → IsWord (unwrap_or o (prefix ++ decimal n))
+number_word_by table prefix n words word fits None is = record {
+  some = λ none. some_before prefix (decimal n) word.some none;
+  unbroken = no_space-append prefix (decimal n) word.unbroken (decimal_word n (omega (arith, fits))).unbroken;
+} where
+  some_before : (a b : List ℕ) → a ≢ [] → a ++ b ≢ []
+  some_before [] b some = absurd (some refl)
+  some_before (c ∷ a) b some = λ none. cc
+number_word_by table prefix n words word fits (Some name) is = named_word table n name words is
+
+-- a word that a test finds
+plain_test : (text : List ℕ) → list_all (λ c. not (c == 32)) text ≡ true → HasNoSpace text
+plain_test text all = recursion_from_All (λ c. (c == 32) ≡ false) text
+    (λ k d inside. not_true (get_or text k d == 32) (AllPass-from_list_all (λ c. not (c == 32)) text all k d inside))
+  where
+    not_true : (b : Bool) → not b ≡ true → b ≡ false
+    not_true b h = grind (arith, nat_tests)
+
+words_test : (entries : List Named) → list_all (λ entry. list_all (λ c. not (c == 32)) entry.name && not (length entry.name == 0)) entries ≡ true → AreWords entries
+words_test [] all = tt
+words_test (entry ∷ entries) all =
+    let parts = both (list_all (λ c. not (c == 32)) entry.name && not (length entry.name == 0)) (list_all (λ entry. list_all (λ c. not (c == 32)) entry.name && not (length entry.name == 0)) entries) all in
+    let here = both (list_all (λ c. not (c == 32)) entry.name) (not (length entry.name == 0)) parts.0 in
+    (record { some = λ none. some entry.name here.1 none; unbroken = plain_test entry.name here.0 }, words_test entries parts.1)
+  where
+    both : (a b : Bool) → a && b ≡ true → (a ≡ true) × (b ≡ true)
+    both true true e = (refl, refl)
+    both true false e = absurd (let h = e in cc)
+    both false b e = absurd (let h = e in cc)
+
+    some : (text : List ℕ) → not (length text == 0) ≡ true → text ≢ []
+    some [] test = absurd (let h = test in cc)
+    some (c ∷ text) test = λ none. cc
+
+pub type_word : (n : ℕ) → n < 65536 → IsWord (type_text n)
+type_word n fits = number_word_by type_names (codes "TYPE") n (words_test type_names refl) (record { some = λ none. cc; unbroken = plain_test (codes "TYPE") refl }) fits (name_of type_names n) refl
+
+pub class_word : (n : ℕ) → n < 65536 → IsWord (class_text n)
+class_word n fits = number_word_by class_names (codes "CLASS") n (words_test class_names refl) (record { some = λ none. cc; unbroken = plain_test (codes "CLASS") refl }) fits (name_of class_names n) refl
