@@ -7,3 +7,4 @@ pub mod FaultLemmas
 pub mod ScanLemmas
 pub mod GrammarLemmas
 pub mod PieceLemmas
+pub mod ReadBackLemmas

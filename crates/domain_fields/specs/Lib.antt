@@ -8,3 +8,4 @@ pub mod DataClone
 pub mod Sequence
 pub mod Entry
 pub mod Flag
+pub mod Printed

@@ -1,9 +1,13 @@
 //! What holds of all fields, on the wire, in canonical order and as tokens.
-ghost use Rattle.std.specs.Prelude.{◌≡◌, ◌≢◌, [], None, true};
+//! A caller calls the law in its body.
+ghost use Rattle.std.specs.Prelude.{◌≡◌, ◌≢◌, ◌++◌, [], None, true};
+ghost use Rattle.std.specs.List.{AllByRecursion};
 ghost use Rattle.std.specs.Ordering.{ordering_then};
+ghost use Rattle.domain_octets.specs.Line.{IsWord};
 ghost use Rattle.domain_octets.specs.Words.{Octets};
 ghost use Rattle.domain_base.specs.Fault.{Fault};
 ghost use Rattle.domain_base.specs.Scan.{ScanFault, no_memory};
+ghost use Rattle.domain_fields.specs.Printed.{is_printed, printed};
 ghost use Rattle.domain_fields.specs.Scan.{Scans, Refuses};
 ghost use Rattle.domain_fields.specs.Layout.{Layout, ◌▸◌, Values, Begins, FirstFault, Fits, Ends, ParsesBack, splits, is_delimited, canonical_order};
 ghost use Rattle.domain_base.specs.Words.{Tokens};
@@ -50,4 +54,13 @@ pub fn tokens_spell_values_once()
 pub fn refused_tokens_spell_nothing()
     ensures { (l : Layout) (old new after : Tokens) (v : Values l) (fault : ScanFault)
         → Refuses None l old new fault → Scans l old v after → fault ≢ no_memory → ⊥ }
+{}
+
+/// What numbers and names are written as, a token each, is read as these values, and what follows
+/// is left. Each of these tokens is one word.
+pub fn fields_are_read_back()
+    ensures values { (l : Layout) (v : Values l) (after : Tokens) → is_printed l ≡ true → Fits l v
+        → Scans l (printed l v ++ after) v after }
+    ensures words { (l : Layout) (v : Values l) → is_printed l ≡ true → Fits l v
+        → AllByRecursion IsWord (printed l v) }
 {}

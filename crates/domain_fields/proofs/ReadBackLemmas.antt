@@ -1,0 +1,72 @@
+-- what fields are written as is read back
+use Rattle.std.proofs.Common.{◌≡◌, ℕ, true, false, List, [], ◌∷◌, ◌++◌, refl, sym, subst, ◌∙◌, arith, append_assoc}
+use Rattle.std.specs.Prelude.{Bool, ◌&&◌}
+use Rattle.std.specs.List.{AllByRecursion}
+use Rattle.std.proofs.lemmas.List.{append-nil}
+use Rattle.domain_octets.specs.Codec.{Decodes}
+use Rattle.domain_octets.specs.declared.codec.Codec.{Codec}
+use Rattle.domain_octets.specs.Line.{IsWord, word_if_any}
+use Rattle.domain_octets.proofs.WordLemmas.{decimal_word, concat_any}
+use Rattle.domain_base.proofs.ReadBackLemmas.{number_back, dotted_name_back, name_word}
+use Rattle.domain_base.specs.Scan.{Grammar}
+use Rattle.domain_fields.specs.Entry.{Spells}
+use Rattle.domain_fields.specs.Field.{Field, octet, short, long, name, spelled_name, counted, exactly, at_most, rest, Value, FieldFits}
+use Rattle.domain_fields.specs.Layout.{Layout, one, ◌▸◌, Values, Fits}
+use Rattle.domain_fields.specs.Printed.{is_printed_field, is_printed, printed_field, printed}
+use Rattle.domain_fields.specs.Scan.{FieldText, Scans}
+
+field_back : (f : Field) (v : Value f) → is_printed_field f ≡ true → FieldFits f v → FieldText f (printed_field f v) v
+field_back octet n is fits = number_back 8 n fits (omega (arith, fits))
+field_back short n is fits = number_back 16 n fits (omega (arith, fits))
+field_back long n is fits = number_back 32 n fits (omega (arith, fits))
+field_back name labels is fits = dotted_name_back labels fits
+field_back spelled_name labels is fits = dotted_name_back labels fits
+field_back counted v is fits = absurd (let e = is in cc)
+field_back (exactly count) v is fits = absurd (let e = is in cc)
+field_back (at_most limit) v is fits = absurd (let e = is in cc)
+field_back rest v is fits = absurd (let e = is in cc)
+
+both : (a b : Bool) → a && b ≡ true → (a ≡ true) × (b ≡ true)
+both true true is = (refl, refl)
+both true false is = absurd (let e = is in cc)
+both false b is = absurd (let e = is in cc)
+
+pub fields_back : (l : Layout) (v : Values l) (after : List (List ℕ)) → is_printed l ≡ true → Fits l v → Scans l (printed l v ++ after) v after
+fields_back (one f) v after is fits = record { token = printed_field f v; first = refl; holds = field_back f v is fits }
+fields_back (a ▸ b) v after is fits =
+    let parts = both (is_printed a) (is_printed b) is in
+    (printed b v.1 ++ after, subst (λ tokens. Scans a tokens v.0 (printed b v.1 ++ after)) (sym (append_assoc (printed a v.0) (printed b v.1) after)) (fields_back a v.0 (printed b v.1 ++ after) parts.0 fits.0), fields_back b v.1 after parts.1 fits.1)
+
+-- fields that are all that the tokens are
+pub fields_alone : (l : Layout) (v : Values l) (tokens : List (List ℕ)) → tokens ≡ printed l v → is_printed l ≡ true → Fits l v → Scans l tokens v []
+fields_alone l v tokens are is fits =
+    subst (λ t. Scans l t v []) (append-nil (printed l v) ∙ sym are) (fields_back l v [] is fits)
+
+field_word : (f : Field) (v : Value f) → is_printed_field f ≡ true → FieldFits f v → IsWord (printed_field f v)
+field_word octet n is fits = decimal_word n (omega (arith, fits))
+field_word short n is fits = decimal_word n (omega (arith, fits))
+field_word long n is fits = decimal_word n (omega (arith, fits))
+field_word name labels is fits = name_word labels fits
+field_word spelled_name labels is fits = name_word labels fits
+field_word counted v is fits = absurd (let e = is in cc)
+field_word (exactly count) v is fits = absurd (let e = is in cc)
+field_word (at_most limit) v is fits = absurd (let e = is in cc)
+field_word rest v is fits = absurd (let e = is in cc)
+
+words-append : (a b : List (List ℕ)) → AllByRecursion IsWord a → AllByRecursion IsWord b → AllByRecursion IsWord (a ++ b)
+words-append [] b words more = more
+words-append (word ∷ a) b words more = (words.0, words-append a b words.1 more)
+
+pub fields_words : (l : Layout) (v : Values l) → is_printed l ≡ true → Fits l v → AllByRecursion IsWord (printed l v)
+fields_words (one f) v is fits = (field_word f v is fits, tt)
+fields_words (a ▸ b) v is fits =
+    let parts = both (is_printed a) (is_printed b) is in
+    words-append (printed a v.0) (printed b v.1) (fields_words a v.0 parts.0 fits.0) (fields_words b v.1 parts.1 fits.1)
+
+-- fields, and then octets in one word or none
+pub entry_back : {V : Type 0} (G : Grammar V) (codec : Codec) (tokens : List (List ℕ)) (v : V) (text octets : List ℕ) → G tokens v (word_if_any text) → Decodes codec text octets → Spells G codec tokens v octets
+entry_back G codec tokens v text octets fields decoded = record {
+  entry = word_if_any text;
+  fields = fields;
+  decoded = subst (λ t. Decodes codec t octets) (sym (concat_any text)) decoded;
+}
