@@ -12,3 +12,4 @@ pub mod ScanLemmas
 pub mod CountedLemmas
 pub mod SaltLemmas
 pub mod PieceLemmas
+pub mod ReadBackLemmas

@@ -1,8 +1,14 @@
-//! What holds of the octets of sets of types, and of octets that are read as such.
+//! What holds of the octets of sets of types, of octets that are read as such, and of their texts
+//! and those of salts. A caller calls the law in its body.
 ghost use Rattle.std.specs.Prelude.{◌≡◌, ◌<◌, ◌≤◌, length, ◌↔◌, ℕ, Bool};
-ghost use Rattle.domain_octets.specs.Words.{Octets};
+ghost use Rattle.domain_octets.specs.Line.{words_of, IsWord};
+ghost use Rattle.domain_octets.specs.Words.{Octets, AreOctets};
+ghost use Rattle.domain_base.specs.Words.{Rtypes, Tokens};
 ghost use Rattle.domain_bitmap.specs.Bitmap.{bitmap_octets};
 ghost use Rattle.domain_bitmap.specs.Blocks.{IsBitmap, IsShortest, contains_type, types_of, types_below};
+ghost use Rattle.domain_bitmap.specs.HashText.{SaltText, salt_text};
+ghost use Rattle.domain_bitmap.specs.Scan.{TypeTexts, is_among};
+ghost use Rattle.domain_bitmap.specs.Text.{types_text};
 
 /// Two bitmaps that builders made have the same octets exactly where the same types were added.
 pub fn built_bitmaps_are_sets()
@@ -24,4 +30,26 @@ pub fn built_bitmaps_give_their_types()
 pub fn built_bitmaps_are_shortest()
     ensures { (octets : Octets) → IsBitmap octets
         → ((types : ℕ → Bool) × (octets ≡ bitmap_octets types)) ↔ IsShortest octets }
+{}
+
+/// The words of what a bitmap is written as spell the types that it has, and the bitmap of these is
+/// the same one, if its windows ascend strictly and no block ends in a zero octet.
+pub fn bitmaps_are_read_back()
+    ensures types { (octets : Octets) → IsBitmap octets
+        → TypeTexts (words_of (types_text (types_of octets))) (types_of octets) }
+    ensures same { (octets : Octets) → IsBitmap octets → IsShortest octets
+        → bitmap_octets (is_among (types_of octets)) ≡ octets }
+{}
+
+/// What a salt is written as is read back, and is one word.
+pub fn salts_are_read_back()
+    ensures salt { (octets : Octets) → AreOctets octets → SaltText (salt_text octets) octets }
+    ensures word { (octets : Octets) → IsWord (salt_text octets) }
+{}
+
+/// Tokens spell one list of types at most, and a text one salt at most.
+pub fn types_and_salts_are_spelled_once()
+    ensures types { (tokens : Tokens) (x y : Rtypes) → TypeTexts tokens x → TypeTexts tokens y
+        → x ≡ y }
+    ensures salt { (text x y : Octets) → SaltText text x → SaltText text y → x ≡ y }
 {}
