@@ -1,1 +1,2 @@
 pub mod GenericLemmas
+pub mod ReadBackLemmas

@@ -1,10 +1,17 @@
-//! What holds of data of the types of this crate.
-ghost use Rattle.std.specs.Prelude.{◌≢◌, ◌≤◌, None, length};
-ghost use Rattle.domain_octets.specs.Words.{Octets};
+//! What holds of data of the types of this crate. A caller calls the law in its body.
+ghost use Rattle.std.specs.Prelude.{◌≢◌, ◌<◌, ◌≤◌, ◌++◌, [], None, IfSome, length, codes};
+ghost use Rattle.std.specs.Fmt.{decimal};
+ghost use Rattle.std.specs.Net.Addr.{ipv4_octets};
+ghost use Rattle.std.specs.Net.Text.{ipv4_text};
+ghost use Rattle.domain_octets.specs.Line.{words_of};
+ghost use Rattle.domain_octets.specs.Words.{Octets, AreOctets};
 ghost use Rattle.domain_base.specs.Scan.{ScanFault, no_memory};
+ghost use Rattle.domain_base.specs.Text.{name_text};
 ghost use Rattle.domain_fields.specs.Layout.{ParsesBack};
-ghost use Rattle.domain_plain.specs.Generic.{GenericText, GenericFault};
+ghost use Rattle.domain_fields.specs.Scan.{Scans};
+ghost use Rattle.domain_plain.specs.Generic.{GenericText, GenericFault, generic_text};
 ghost use Rattle.domain_plain.specs.Plain.{a, a_values, ns, ns_values, soa, soa_values, mx, mx_values, unknown, unknown_values};
+ghost use Rattle.domain_plain.specs.Soa.{soa_text};
 ghost use Rattle.domain_base.specs.Words.{Tokens};
 
 use crate::{A, Mx, Ns, Soa, UnknownRecordData};
@@ -64,4 +71,59 @@ pub fn unknown_data_parses_back<O: Octets>(value: &UnknownRecordData<O>)
 pub fn refused_tokens_spell_no_generic_data()
     ensures { (old new : Tokens) (fault : ScanFault) (octets : Octets)
         → GenericFault None old new fault → GenericText old octets → fault ≢ no_memory → ⊥ }
+{}
+
+fn are_octets(first: u8, second: u8, third: u8, fourth: u8)
+    ensures { (first < 256) × (second < 256) × (third < 256) × (fourth < 256) }
+{}
+
+/// The words of what an address is written as spell it.
+#[tactic(auto, using(crate::proofs::ReadBackLemmas::a_back))]
+pub fn a_reads_back(value: &A)
+    ensures { Scans a (words_of (ipv4_text (ipv4_octets value.now.addr))) (a_values value.now) [] }
+{
+    let octets = value.addr().octets();
+    are_octets(octets[0], octets[1], octets[2], octets[3]);
+}
+
+/// So do those of a name server.
+#[tactic(auto, using(crate::proofs::ReadBackLemmas::named_back))]
+pub fn ns_reads_back<N: ToName>(value: &Ns<N>)
+    ensures { Scans ns (words_of (name_text (N.labels value.now.nsdname) ++ codes "."))
+        (ns_values N.labels value.now) [] }
+{
+    let _nsdname = value.nsdname().as_wire();
+}
+
+/// So do those of the start of a zone.
+#[tactic(auto, using(crate::proofs::ReadBackLemmas::named_back))]
+pub fn soa_reads_back<N: ToName>(value: &Soa<N>)
+    ensures { IfSome (soa_text N.labels value.now) (λ text.
+        Scans soa (words_of text) (soa_values N.labels value.now) []) }
+{
+    let _mname = value.mname().as_wire();
+    let _rname = value.rname().as_wire();
+    let _times = (
+        value.serial(),
+        value.refresh().as_secs(),
+        value.retry().as_secs(),
+    );
+    let _ends = (value.expire().as_secs(), value.minimum().as_secs());
+}
+
+/// So do those of a mail exchange.
+#[tactic(auto, using(crate::proofs::ReadBackLemmas::named_back))]
+pub fn mx_reads_back<N: ToName>(value: &Mx<N>)
+    ensures { Scans mx (words_of (decimal value.now.preference ++ codes " "
+        ++ name_text (N.labels value.now.exchange) ++ codes "."))
+        (mx_values N.labels value.now) [] }
+{
+    let _preference = value.preference();
+    let _exchange = value.exchange().as_wire();
+}
+
+/// So do those of data in the generic form, of any type.
+pub fn generic_data_reads_back()
+    ensures { (octets : Octets) → AreOctets octets → length octets ≤ 65535
+        → GenericText (words_of (generic_text octets)) octets }
 {}

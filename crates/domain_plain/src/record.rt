@@ -61,6 +61,36 @@ impl<N, D> Record<N, D> {
         &self.data
     }
 
+    /// The owner, the class, the TTL and the data.
+    pub fn into_parts(self) -> (N, Class, Ttl, D)
+        ensures { self ≡ record {
+          owner = result.0;
+          class = result.1;
+          ttl = result.2;
+          «data» = result.3;
+        } }
+    {
+        let Record {
+            owner,
+            class,
+            ttl,
+            data,
+        } = self;
+        (owner, class, ttl, data)
+    }
+
+    /// Gives the record another TTL.
+    pub fn set_ttl(&mut self, ttl: Ttl)
+        ensures { self.new ≡ record {
+          owner = self.old.owner;
+          class = self.old.class;
+          ttl = ttl;
+          «data» = self.old.«data»;
+        } }
+    {
+        self.ttl = ttl;
+    }
+
     /// The data, for writing.
     pub fn data_mut(&mut self) -> &mut D
         ensures* writes_back { sem 𝓛 (LendsData N.row D.row self.entry result) }
