@@ -1,4 +1,4 @@
-//! What holds of the texts of keys and digests.
+//! What holds of the texts of keys and digests. A caller calls the law in its body.
 ghost use Rattle.std.specs.Prelude.{◌≢◌, None};
 ghost use Rattle.domain_base.specs.Scan.{ScanFault, no_memory};
 ghost use Rattle.domain_keys.specs.Data.{DnskeyData, DsData};

@@ -1,0 +1,44 @@
+-- what keys and digests are written as is read back
+use Rattle.std.proofs.Common.{ℕ, ◌<◌, ◌≤◌, All, List, [], ◌∷◌, ◌++◌, length, refl, sym, ap, subst, ◌∙◌, arith}
+use Rattle.std.specs.Prelude.{◌^◌}
+use Rattle.std.specs.Fmt.{decimal}
+use Rattle.base64.specs.GeneralPurpose.{encode_of}
+use Rattle.base64.specs.Engines.{standard}
+use Rattle.hex.specs.Hex.{encode_lower}
+use Rattle.domain_octets.specs.declared.codec.Codec.{Codec}
+use Rattle.domain_octets.specs.declared.codec.Codec.TheVariants.{Base16, Base64}
+use Rattle.domain_octets.specs.Codec.{Decodes}
+use Rattle.domain_octets.specs.Line.{words_of, word_if_any, HasNoSpace}
+use Rattle.domain_octets.proofs.CodecBackLemmas.{lower_back, base64_back}
+use Rattle.domain_octets.proofs.WordLemmas.{one_word, next_word, next_any, decimal_word, base64_plain, lower_hex_plain}
+use Rattle.domain_fields.specs.Entry.{Spells}
+use Rattle.domain_fields.specs.Layout.{Fits}
+use Rattle.domain_fields.specs.Scan.{Scans}
+use Rattle.domain_fields.proofs.ReadBackLemmas.{fields_back, entry_back}
+use Rattle.domain_keys.specs.Data.{DnskeyData, dnskey, dnskey_values, DsData, ds, ds_values}
+use Rattle.domain_keys.specs.Pieces.{dnskey_text, ds_text}
+use Rattle.domain_keys.specs.Scan.{three_numbers, DnskeyText, DsText}
+
+-- three numbers, and a text that has no spaces
+numbers_and_text : (codec : Codec) (x y z : ℕ) (text octets : List ℕ) → x < 2 ^ 16 → y < 2 ^ 8 → z < 2 ^ 8 → HasNoSpace text → Decodes codec text octets
+    → Spells (Scans three_numbers) codec (words_of (decimal x ++ 32 ∷ [] ++ decimal y ++ 32 ∷ [] ++ decimal z ++ 32 ∷ [] ++ text)) (x, (y, z)) octets
+numbers_and_text codec x y z text octets x_small y_small z_small plain decoded =
+    let first = one_word (decimal x) (decimal_word x (omega (arith, x_small))) in
+    let second = next_word (decimal x) (decimal y) (decimal_word y (omega (arith, y_small))) ∙ ap (λ l. l ++ decimal y ∷ []) first in
+    let third = next_word (decimal x ++ 32 ∷ [] ++ decimal y) (decimal z) (decimal_word z (omega (arith, z_small))) ∙ ap (λ l. l ++ decimal z ∷ []) second in
+    let all = next_any (decimal x ++ 32 ∷ [] ++ decimal y ++ 32 ∷ [] ++ decimal z) text plain ∙ ap (λ l. l ++ word_if_any text) third in
+    subst (λ tokens. Spells (Scans three_numbers) codec tokens (x, (y, z)) octets) (sym all)
+    (entry_back (Scans three_numbers) codec (decimal x ∷ decimal y ∷ decimal z ∷ word_if_any text) (x, (y, z)) text octets
+    (fields_back three_numbers (x, (y, z)) (word_if_any text) refl (x_small, (y_small, z_small))) decoded)
+
+pub dnskey_text_back : (d : DnskeyData) → Fits dnskey (dnskey_values d) → length d.public_key ≤ 65531 → All (λ octet. octet < 256) d.public_key → DnskeyText (words_of (dnskey_text d)) d
+dnskey_text_back d fits few small = record {
+  spelled = numbers_and_text Base64 d.flags d.protocol d.algorithm (encode_of standard d.public_key) d.public_key fits.0 fits.1.0 fits.1.1.0 (base64_plain d.public_key) (base64_back d.public_key small);
+  fits = few;
+}
+
+pub ds_text_back : (d : DsData) → Fits ds (ds_values d) → length d.digest ≤ 65531 → All (λ octet. octet < 256) d.digest → DsText (words_of (ds_text d)) d
+ds_text_back d fits few small = record {
+  spelled = numbers_and_text Base16 d.key_tag d.algorithm d.digest_type (encode_lower d.digest) d.digest fits.0 fits.1.0 fits.1.1.0 (lower_hex_plain d.digest) (lower_back d.digest small);
+  fits = few;
+}
