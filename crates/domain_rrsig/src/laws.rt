@@ -1,10 +1,18 @@
-//! What holds of the octets of signatures (RFC 4034, section 3).
+//! What holds of the octets and the texts of signatures (RFC 4034, section 3).
+//! A caller calls the law in its body.
+ghost use Rattle.std.specs.Prelude.{◌<◌, ◌^◌, ℕ};
+ghost use Rattle.std.specs.Fmt.{decimal};
+ghost use Rattle.domain_octets.specs.Line.{words_of};
 ghost use Rattle.domain_fields.specs.Layout.{ParsesBack};
 ghost use Rattle.domain_rrsig.specs.Data.{rrsig, rrsig_values};
+ghost use Rattle.domain_rrsig.specs.Pieces.{rrsig_text};
+ghost use Rattle.domain_rrsig.specs.Scan.{RrsigText};
+ghost use Rattle.domain_rrsig.specs.Time.{TimeText, TimeToken};
 
 use crate::Rrsig;
 use domain_base::ToName;
 use domain_octets::Octets;
+use domain_octets::laws::slices_hold_octets;
 
 /// The octets of a signature's data are read as these fields, in no other way, and nothing is left.
 /// The signer's name comes back as it is spelled.
@@ -14,3 +22,17 @@ pub fn rrsig_parses_back<O: Octets, N: ToName>(value: &Rrsig<O, N>)
 {
     let _fields = value.fields();
 }
+
+/// The words of what a signature's data are written as spell these data.
+pub fn rrsig_reads_back<O: Octets, N: ToName>(value: &Rrsig<O, N>)
+    ensures { RrsigText (words_of (rrsig_text value.now)) value.now }
+{
+    let _fields = value.fields();
+    slices_hold_octets(value.signature().as_slice());
+}
+
+/// What a time is written as is read back, as a token and by itself.
+pub fn times_are_read_back()
+    ensures token { (stamp : ℕ) → stamp < 2 ^ 32 → TimeToken (decimal stamp) stamp }
+    ensures text { (stamp : ℕ) → stamp < 2 ^ 32 → TimeText (decimal stamp) stamp }
+{}
