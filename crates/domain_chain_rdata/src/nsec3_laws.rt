@@ -1,14 +1,20 @@
 //! What holds of the octets and the tokens of hashed names (RFC 5155, sections 3 and 4).
-ghost use Rattle.std.specs.Prelude.{◌≡◌};
+//! A caller calls the law in its body.
+ghost use Rattle.std.specs.Prelude.{◌≡◌, ◌≢◌, []};
+ghost use Rattle.domain_octets.specs.Line.{words_of};
+ghost use Rattle.domain_bitmap.specs.Bitmap.{bitmap_octets};
+ghost use Rattle.domain_bitmap.specs.Blocks.{IsShortest, types_of};
+ghost use Rattle.domain_bitmap.specs.Scan.{is_among};
 ghost use Rattle.domain_fields.specs.Layout.{ParsesBack, Values};
-ghost use Rattle.domain_chain_rdata.specs.Nsec3paramText.{Nsec3paramText};
-ghost use Rattle.domain_chain_rdata.specs.Nsec3Text.{HashText};
+ghost use Rattle.domain_chain_rdata.specs.Nsec3paramText.{Nsec3paramText, nsec3param_text};
+ghost use Rattle.domain_chain_rdata.specs.Nsec3Text.{HashText, Nsec3Text, nsec3_text};
 ghost use Rattle.domain_chain_rdata.specs.Nsec3Wire.{Nsec3ParsesBack};
 ghost use Rattle.domain_chain_rdata.specs.Rdata.{hash_fields, nsec3_values, nsec3param, nsec3param_values};
 ghost use Rattle.domain_base.specs.Words.{Tokens};
 
 use crate::{Nsec3, Nsec3param};
 use domain_octets::Octets;
+use domain_octets::laws::slices_hold_octets;
 
 /// The octets of parameters are read as these parameters, in no other way, and nothing is left.
 #[tactic(auto, using(crate::proofs::Nsec3Lemmas::params_back))]
@@ -39,3 +45,28 @@ pub fn hashes_are_spelled_once()
     ensures after_hash { (old m n : Tokens) (v w : Values hash_fields) → HashText old v m
         → HashText old w n → m ≡ n }
 {}
+
+/// The words of what parameters are written as spell them.
+pub fn nsec3param_reads_back<O: Octets>(value: &Nsec3param<O>)
+    ensures { Nsec3paramText (words_of (nsec3param_text (nsec3param_values value.now)))
+        (nsec3param_values value.now) [] }
+{
+    let _fields = value.fields();
+    slices_hold_octets(value.salt().as_slice());
+}
+
+/// The words of what NSEC3 data with a hash of one octet or more are written as spell the same
+/// parameters, hash and types. They spell the same bitmap too, if its windows ascend strictly and
+/// no block ends in a zero octet. A hash of no octets is written as nothing, and is not read back.
+pub fn nsec3_reads_back<O: Octets>(value: &Nsec3<O>)
+    ensures types { value.now.next_owner ≢ []
+        → Nsec3Text (words_of (nsec3_text (nsec3_values value.now)))
+        ((nsec3_values value.now).0, bitmap_octets (is_among (types_of value.now.types))) [] }
+    ensures same { value.now.next_owner ≢ [] → IsShortest value.now.types
+        → Nsec3Text (words_of (nsec3_text (nsec3_values value.now))) (nsec3_values value.now) [] }
+{
+    let _fields = value.fields();
+    let _types = value.types().as_slice();
+    slices_hold_octets(value.salt().as_slice());
+    slices_hold_octets(value.next_owner().as_slice());
+}
