@@ -12,7 +12,8 @@ use Rattle.domain_fields.proofs.ExactLemmas.{one_reading, fault_excludes}
 use Rattle.domain_chain_rdata.specs.NsecWire.{BeginsNsec, NsecFault, in_name, in_types}
 use Rattle.domain_chain_rdata.specs.Nsec3Wire.{BeginsNsec3, Nsec3Fault, in_fields, in_types as in_bitmap}
 use Rattle.domain_chain_rdata.specs.Rdata.{nsec, hash_fields, nsec3}
-use Rattle.domain_rdata.specs.Refusal.{Kind, next_by_name, next_by_hash, AreOfKind, IsPart, of_key, of_digest, of_signature, types_by_name, salt_by_hash, next_hash, types_by_hash, salt, CopyFault, IsNotWhole, at_fault, goes_on, OctetsFault}
+use Rattle.domain_rdata.specs.Kind.{Kind, next_by_name, next_by_hash}
+use Rattle.domain_rdata.specs.Refusal.{AreOfKind, IsPart, of_key, of_digest, of_signature, types_by_name, salt_by_hash, next_hash, types_by_hash, salt, CopyFault, IsNotWhole, at_fault, goes_on, OctetsFault}
 
 clash : false ≡ true → ⊥
 clash e = cc

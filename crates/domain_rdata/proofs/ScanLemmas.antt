@@ -25,8 +25,9 @@ use Rattle.domain_chain_rdata.specs.NsecText.{NsecText}
 use Rattle.domain_chain_rdata.specs.Nsec3Text.{Nsec3Text}
 use Rattle.domain_chain_rdata.specs.Nsec3paramText.{Nsec3paramText}
 use Rattle.domain_chain_rdata.specs.Rdata.{nsec, nsec_values, nsec3, nsec3_values, nsec3param, nsec3param_values}
-use Rattle.domain_rdata.specs.Refusal.{Kind, plain, key, digest, signature, next_by_name, next_by_hash, params, kind_of, RefusesKind, RefusesOwn, at_field, no_form, AreOfKind, OctetsFault, RefusesRdata, in_own, in_generic, in_octets}
-use Rattle.domain_rdata.specs.Scan.{RdataText, own, generic, OwnText, AreData, IsGeneric, has_own_data}
+use Rattle.domain_rdata.specs.Kind.{Kind, plain, key, digest, signature, next_by_name, next_by_hash, params, kind_of}
+use Rattle.domain_rdata.specs.Refusal.{RefusesKind, RefusesOwn, at_field, no_form, AreOfKind, OctetsFault, RefusesRdata, in_own, in_generic, in_octets}
+use Rattle.domain_rdata.specs.Scan.{RdataText, own, generic, OwnText, AreData, IsGeneric}
 use Rattle.domain_rdata.specs.Zone.{wire_octets}
 use Rattle.domain_rdata.specs.declared.zone_record_data.ZoneRecordData.{ZoneRecordData}
 use Rattle.domain_rdata.specs.declared.zone_record_data.ZoneRecordData.TheVariants.{A, Ns, Soa, Mx, Dnskey, Ds, Rrsig, Nsec, Nsec3, Nsec3param, Unknown}
@@ -120,10 +121,6 @@ octets_refused limit (Some kind) wire (illegal said) why grows other are = why.1
 octets_refused limit (Some kind) wire no_room why grows other are = never_over limit (length why.0) grows why.2
 octets_refused limit (Some kind) wire no_memory why grows other are = other refl
 
--- a type whose data are held as mere octets has no text form of its own
-no_kind : (rtype : ℕ) → has_own_data rtype ≡ false → kind_of rtype ≡ None
-no_kind rtype none = grind (arith, common_steps)
-
 -- generic text
 generic_begins : (tokens : List (List ℕ)) (wire : List ℕ) → GenericText tokens wire → IsGeneric tokens
 generic_begins tokens wire text = (text.count ∷ text.digits, text.parts)
@@ -162,7 +159,7 @@ module _ {O N : Type 0} (octets : O → List ℕ) (labels : N → List (List ℕ
   are_of_type wire (Nsec d) h = subst (λ k. AreOf k wire) (sym (ap kind_of h.0)) (nsec_values labels d, h.1)
   are_of_type wire (Nsec3 d) h = subst (λ k. AreOf k wire) (sym (ap kind_of h.0)) (nsec3_values d, h.1)
   are_of_type wire (Nsec3param d) h = subst (λ k. AreOf k wire) (sym (ap kind_of h.0)) (nsec3param_values d, h.1)
-  are_of_type wire (Unknown d) h = subst (λ k. AreOf k wire) (sym (no_kind rtype h.0)) tt
+  are_of_type wire (Unknown d) h = subst (λ k. AreOf k wire) (sym h.0) tt
 
   -- over octets that grow, what is refused but for want of memory spells no data of the type
   pub none_spelled : (limit : Option ℕ) (new : List (List ℕ)) (fault : ScanFault) → RefusesRdata limit rtype old new fault → limit ≡ None → fault ≢ no_memory

@@ -1,5 +1,7 @@
 pub mod Zone
 pub mod Scan
 pub mod DataText
+pub mod Kind
 pub mod Refusal
 pub mod ZoneClone
+pub mod Exact

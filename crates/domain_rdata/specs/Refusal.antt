@@ -1,14 +1,12 @@
 -- why record data are refused, in the text form of their type or in the generic form (RFC 1035,
 -- section 5.1, and RFC 3597, section 5)
-use Rattle.std.specs.Prelude.{◌≡◌, ℕ, ◌<◌, ◌==◌, [], length, codes, Option, Some, None, IsNone, if◌then◌else◌}
+use Rattle.std.specs.Prelude.{◌≡◌, ℕ, ◌<◌, [], length, codes, Option, Some, None, IsNone}
 use Rattle.domain_octets.specs.Limit.{IsOver}
 use Rattle.domain_octets.specs.Words.{Octets}
-use Rattle.domain_base.specs.Types as rtypes
 use Rattle.domain_base.specs.Fault.{Fault}
 use Rattle.domain_base.specs.Scan.{ScanFault, entry_ends, illegal, no_room, no_memory, Refusal}
 use Rattle.domain_plain.specs.Generic.{GenericText, GenericFault}
-use Rattle.domain_fields.specs.Layout.{Layout, Values, Begins}
-use Rattle.domain_plain.specs.Plain.{a, ns, soa, mx}
+use Rattle.domain_fields.specs.Layout.{Values, Begins}
 use Rattle.domain_fields.specs.Scan.{Refuses}
 use Rattle.domain_keys.specs.Data.{dnskey, ds}
 use Rattle.domain_rrsig.specs.Data.{rrsig}
@@ -20,33 +18,9 @@ use Rattle.domain_chain_rdata.specs.Nsec3Text.{RefusesNsec3}
 use Rattle.domain_chain_rdata.specs.Nsec3Wire.{BeginsNsec3}
 use Rattle.domain_chain_rdata.specs.Nsec3paramText.{RefusesNsec3param}
 use Rattle.domain_chain_rdata.specs.Rdata.{nsec, nsec3, nsec3param}
+use Rattle.domain_rdata.specs.Kind.{Kind, plain, key, digest, signature, next_by_name, next_by_hash, params, kind_of}
 use Rattle.domain_rdata.specs.Scan.{IsGeneric}
 use Rattle.domain_base.specs.Words.{Tokens}
-
--- how the data of a type are made up: of fields of one token each, or in a way of their own
-pub data Kind : Type 0 where
-  plain : Layout → Kind
-  key : Kind
-  digest : Kind
-  signature : Kind
-  next_by_name : Kind
-  next_by_hash : Kind
-  params : Kind
-
--- the types that have a text form of their own
-abbrev pub kind_of : ℕ → Option Kind
-kind_of rtype =
-    if rtype == rtypes.a then Some (plain a)
-    else (if rtype == rtypes.ns then Some (plain ns)
-    else (if rtype == rtypes.soa then Some (plain soa)
-    else (if rtype == rtypes.mx then Some (plain mx)
-    else (if rtype == rtypes.dnskey then Some key
-    else (if rtype == rtypes.ds then Some digest
-    else (if rtype == rtypes.rrsig then Some signature
-    else (if rtype == rtypes.nsec then Some next_by_name
-    else (if rtype == rtypes.nsec3 then Some next_by_hash
-    else (if rtype == rtypes.nsec3param then Some params
-    else None)))))))))
 
 -- the first field of that form that is refused, where octets have this limit, and the tokens that
 -- are left then

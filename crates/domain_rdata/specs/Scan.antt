@@ -1,5 +1,5 @@
 -- record data as tokens (RFC 1035, section 5.1)
-use Rattle.std.specs.Prelude.{◌≡◌, ℕ, ◌==◌, ◌||◌, Bool, false, [], ◌∷◌}
+use Rattle.std.specs.Prelude.{◌≡◌, ℕ, None, [], ◌∷◌}
 use Rattle.domain_octets.specs.Words.{Octets}
 use Rattle.domain_base.specs.Types as rtypes
 use Rattle.domain_plain.specs.Generic.{GenericText, generic_mark}
@@ -16,16 +16,10 @@ use Rattle.domain_chain_rdata.specs.Nsec3Text.{Nsec3Text}
 use Rattle.domain_chain_rdata.specs.Nsec3Wire.{BeginsNsec3}
 use Rattle.domain_chain_rdata.specs.Nsec3paramText.{Nsec3paramText}
 use Rattle.domain_chain_rdata.specs.Rdata.{nsec_values, nsec3, nsec3_values, nsec3param, nsec3param_values}
+use Rattle.domain_rdata.specs.Kind.{kind_of}
 use Rattle.domain_rdata.specs.declared.zone_record_data.ZoneRecordData.{ZoneRecordData}
 use Rattle.domain_rdata.specs.declared.zone_record_data.ZoneRecordData.TheVariants.{A, Ns, Soa, Mx, Dnskey, Ds, Rrsig, Nsec, Nsec3, Nsec3param, Unknown}
 use Rattle.domain_base.specs.Words.{Tokens, Name}
-
--- the types whose data are not held as mere octets
-abbrev pub has_own_data : ℕ → Bool
-has_own_data rtype =
-    rtype == rtypes.a || rtype == rtypes.ns || rtype == rtypes.soa || rtype == rtypes.mx
-    || rtype == rtypes.ds || rtype == rtypes.rrsig || rtype == rtypes.nsec || rtype == rtypes.dnskey
-    || rtype == rtypes.nsec3 || rtype == rtypes.nsec3param
 
 -- the tokens begin with the data in the text form of their type, and these are left; salts and
 -- hashes have at most 255 octets
@@ -70,7 +64,7 @@ AreData octets labels rtype wire (Nsec3 d) =
 AreData octets labels rtype wire (Nsec3param d) =
     (rtype ≡ rtypes.nsec3param) × Begins nsec3param wire (nsec3param_values d) []
 AreData octets labels rtype wire (Unknown d) =
-    (has_own_data rtype ≡ false) × (d.rtype ≡ rtype) × (octets d.«data» ≡ wire)
+    (kind_of rtype ≡ None) × (d.rtype ≡ rtype) × (octets d.«data» ≡ wire)
 
 -- the tokens begin with the mark of the generic form (RFC 3597, section 5)
 abbrev pub IsGeneric : Tokens → Type 0

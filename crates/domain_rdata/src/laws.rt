@@ -1,12 +1,24 @@
-//! What holds of the tokens that spell data.
-ghost use Rattle.std.specs.Prelude.{◌≡◌, ℕ};
+//! What holds of the tokens that spell data. A caller calls the law in its body.
+ghost use Rattle.std.specs.Prelude.{◌≡◌, [], IfSome, ℕ};
+ghost use Rattle.domain_octets.specs.Line.{words_of};
+ghost use Rattle.domain_rdata.specs.DataText.{data_text};
+ghost use Rattle.domain_rdata.specs.Exact.{HasExactText};
 ghost use Rattle.domain_rdata.specs.declared.zone_record_data.ZoneRecordData.{ZoneRecordData};
 ghost use Rattle.domain_rdata.specs.Scan.{RdataText};
-ghost use Rattle.domain_rdata.specs.Zone.{wire_octets};
+ghost use Rattle.domain_rdata.specs.Zone.{wire_octets, rtype_of};
 ghost use Rattle.domain_base.specs.Words.{Tokens};
 
+use crate::ZoneRecordData;
 use domain_base::ToName;
+use domain_chain_rdata::nsec_laws::nsec_reads_back;
+use domain_chain_rdata::nsec3_laws::{
+    nsec3_parses_back, nsec3_reads_back, nsec3param_parses_back, nsec3param_reads_back,
+};
+use domain_keys::data_laws::{dnskey_reads_back, ds_reads_back};
 use domain_octets::Octets;
+use domain_octets::laws::slices_hold_octets;
+use domain_plain::laws::{a_reads_back, mx_reads_back, ns_reads_back, soa_reads_back};
+use domain_rrsig::laws::rrsig_reads_back;
 
 /// Tokens begin with data of a type in one way at most: the octets of the data and the tokens that
 /// are left are determined (RFC 1035, section 5.1).
@@ -18,3 +30,30 @@ pub fn data_is_spelled_once<O: Octets, N: ToName>()
         → RdataText O.octets N.labels rtype old d m
         → RdataText O.octets N.labels rtype old e n → m ≡ n }
 {}
+
+/// The words of what data are written as spell these data, if the text tells all of them.
+pub fn data_is_read_back<O: Octets, N: ToName>(value: &ZoneRecordData<O, N>)
+    ensures { HasExactText O.octets value.now
+        → IfSome (data_text O.octets N.labels value.now) (λ text.
+        RdataText O.octets N.labels (rtype_of value.now) (words_of text) value.now []) }
+{
+    match value {
+        ZoneRecordData::A(data) => a_reads_back(data),
+        ZoneRecordData::Ns(data) => ns_reads_back(data),
+        ZoneRecordData::Soa(data) => soa_reads_back(data),
+        ZoneRecordData::Mx(data) => mx_reads_back(data),
+        ZoneRecordData::Dnskey(data) => dnskey_reads_back(data),
+        ZoneRecordData::Ds(data) => ds_reads_back(data),
+        ZoneRecordData::Rrsig(data) => rrsig_reads_back(data),
+        ZoneRecordData::Nsec(data) => nsec_reads_back(data),
+        ZoneRecordData::Nsec3(data) => {
+            nsec3_parses_back(data);
+            nsec3_reads_back(data);
+        }
+        ZoneRecordData::Nsec3param(data) => {
+            nsec3param_parses_back(data);
+            nsec3param_reads_back(data);
+        }
+        ZoneRecordData::Unknown(data) => slices_hold_octets(data.data().as_slice()),
+    }
+}

@@ -1,5 +1,5 @@
 //! Data of all types from the octets of their generic form.
-ghost use Rattle.std.specs.Prelude.{◌≡◌, ◌==◌, false, [], Some, None, codes, IfOk, IfErr};
+ghost use Rattle.std.specs.Prelude.{◌≡◌, ◌==◌, ◌<◌, ◌≤◌, ◌⊎◌, false, [], Some, None, codes, length, IfOk, IfErr, OnOk};
 ghost use Rattle.domain_base.specs.Types as rtypes;
 ghost use Rattle.domain_base.specs.Scan.{illegal, scan_fault_of};
 ghost use Rattle.domain_fields.specs.Layout.{Begins};
@@ -9,7 +9,8 @@ ghost use Rattle.domain_rrsig.specs.Data.{rrsig, rrsig_values};
 ghost use Rattle.domain_chain_rdata.specs.NsecWire.{BeginsNsec};
 ghost use Rattle.domain_chain_rdata.specs.Nsec3Wire.{BeginsNsec3};
 ghost use Rattle.domain_chain_rdata.specs.Rdata.{nsec_values, nsec3_values, nsec3param, nsec3param_values};
-ghost use Rattle.domain_rdata.specs.Refusal.{kind_of, plain, key, digest, signature, next_by_name, next_by_hash, params, CopyFault, IsNotWhole, OctetsFault};
+ghost use Rattle.domain_rdata.specs.Kind.{kind_of, plain, key, digest, signature, next_by_name, next_by_hash, params};
+ghost use Rattle.domain_rdata.specs.Refusal.{CopyFault, IsNotWhole, OctetsFault};
 ghost use Rattle.domain_rdata.specs.Scan.{AreData};
 
 use crate::ZoneRecordData;
@@ -241,6 +242,32 @@ impl<O: FromBuilder, N: ToName> ZoneRecordData<O, N>
 where
     O::Builder: EmptyBuilder + Drop,
 {
+    /// The data of a type that these octets are on the wire, as a message has them but without
+    /// compressed names (RFC 1035, section 3.3; RFC 3597, section 4). Data of a type that is not
+    /// known are any octets, at most 65,535.
+    ///
+    /// # Errors
+    ///
+    /// `Custom("record data too long")` exactly where there are over 65,535 octets;
+    /// `Custom("illegal data")` exactly where they are no data of the type; `ShortBuf` and
+    /// `OutOfMemory` where they are, and a part has no room or no memory.
+    pub fn from_octets(alloc: Global, rtype: Rtype, octets: O) -> Result<Self, ScanError>
+    where
+        O: Drop,
+        N: MakeName + Drop,
+        ensures ok { IfOk result (AreData O.octets N.labels rtype (O.octets octets)) }
+        ensures fits { OnOk result (length (O.octets octets) ≤ 65535) }
+        ensures err { IfErr result (λ e. ((65535 < length (O.octets octets))
+            × (scan_fault_of e ≡ illegal (codes "record data too long")))
+            ⊎ ((length (O.octets octets) ≤ 65535) × OctetsFault O.Builder.limit (kind_of rtype)
+            (O.octets octets) (scan_fault_of e))) }
+    {
+        match UnknownRecordData::from_octets(rtype, octets) {
+            Ok(data) => Self::from_generic(alloc, data),
+            Err(_) => Err(ScanError::Custom("record data too long")),
+        }
+    }
+
     /// The data that the octets of a generic form are.
     ///
     /// # Errors

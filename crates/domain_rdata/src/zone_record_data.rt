@@ -34,7 +34,8 @@ pub enum ZoneRecordData<O: Octets, N: ToName> {
     Nsec3(Nsec3<O>),
     /// How the names of a zone are hashed.
     Nsec3param(Nsec3param<O>),
-    /// Data of any type, as octets.
+    /// Data of any type, as octets. Under a type that has a variant of its own they are not data of
+    /// that type to those who look at variants: an SOA that is held so is no SOA to a generator.
     Unknown(UnknownRecordData<O>),
 }
 

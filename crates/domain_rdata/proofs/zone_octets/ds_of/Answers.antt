@@ -2,7 +2,8 @@ use Rattle.std.proofs.Common.{refl, arith}
 use Rattle.std.proofs.lemmas.Grind.{common_steps}
 use Rattle.std.proofs.lemmas.Result.{err_from_is_err_and}
 use Rattle.domain_keys.specs.Data.{ds, ds_values}
-use Rattle.domain_rdata.specs.Refusal.{digest, of_digest}
+use Rattle.domain_rdata.specs.Kind.{digest}
+use Rattle.domain_rdata.specs.Refusal.{of_digest}
 use Rattle.domain_rdata.proofs.OctetsLemmas.{not_fields, not_copied}
 use Rattle.domain_rdata.proofs.zone_octets.ds_of.Goals as goal
 

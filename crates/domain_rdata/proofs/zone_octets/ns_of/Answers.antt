@@ -1,7 +1,7 @@
 use Rattle.std.proofs.Common.{ℕ, List, None, refl}
 use Rattle.std.proofs.lemmas.Result.{err_from_is_err_and}
 use Rattle.domain_plain.specs.Plain.{ns, ns_values}
-use Rattle.domain_rdata.specs.Refusal.{plain}
+use Rattle.domain_rdata.specs.Kind.{plain}
 use Rattle.domain_rdata.proofs.OctetsLemmas.{not_fields}
 use Rattle.domain_rdata.proofs.zone_octets.ns_of.Goals as goal
 

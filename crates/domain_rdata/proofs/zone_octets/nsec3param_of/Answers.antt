@@ -2,7 +2,8 @@ use Rattle.std.proofs.Common.{refl, arith}
 use Rattle.std.proofs.lemmas.Grind.{common_steps}
 use Rattle.std.proofs.lemmas.Result.{err_from_is_err_and}
 use Rattle.domain_chain_rdata.specs.Rdata.{nsec3param, nsec3param_values}
-use Rattle.domain_rdata.specs.Refusal.{params, salt}
+use Rattle.domain_rdata.specs.Kind.{params}
+use Rattle.domain_rdata.specs.Refusal.{salt}
 use Rattle.domain_rdata.proofs.OctetsLemmas.{not_fields, not_copied}
 use Rattle.domain_rdata.proofs.zone_octets.nsec3param_of.Goals as goal
 

@@ -1,7 +1,8 @@
 use Rattle.std.proofs.Common.{sym, ap, ◌∙◌}
 use Rattle.std.proofs.lemmas.Bool.{eqb-true}
 use Rattle.std.proofs.lemmas.Result.{err_from_is_err_and}
-use Rattle.domain_rdata.specs.Refusal.{key, digest, signature, kind_of, at_field}
+use Rattle.domain_rdata.specs.Kind.{key, digest, signature, kind_of}
+use Rattle.domain_rdata.specs.Refusal.{at_field}
 use Rattle.domain_rdata.proofs.zone_record_data.ZoneRecordData.scan_signing.Goals as goal
 
 pub returns-in_err-scan-clause-err : goal.returns-in_err-scan-clause-err

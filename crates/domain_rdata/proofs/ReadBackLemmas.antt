@@ -1,0 +1,114 @@
+-- what data are written as does not begin with the mark of the generic form
+use Rattle.std.proofs.Common.{◌≡◌, ℕ, ◌<◌, All, List, [], ◌∷◌, ◌++◌, length, codes, refl, sym, ap, subst, ◌∙◌, arith, append_assoc, length-append}
+use Rattle.std.specs.Prelude.{IfSome, slice_index}
+use Rattle.std.specs.Char.{to_ascii_lowercase}
+use Rattle.std.specs.Fmt.{decimal}
+use Rattle.std.specs.Net.Grammar.{IsDotted}
+use Rattle.std.proofs.lemmas.List.{length-map}
+use Rattle.domain_octets.specs.Line.{words_of}
+use Rattle.domain_octets.proofs.WordLemmas.{one_word, first_word}
+use Rattle.domain_base.specs.Types as rtypes
+use Rattle.domain_base.specs.Name.{IsName}
+use Rattle.domain_base.specs.Named.{by_name, by_number}
+use Rattle.domain_base.specs.Numbers.{TypeText}
+use Rattle.domain_base.specs.Scan.{IsNumber, TakesToken}
+use Rattle.domain_base.specs.Text.{name_text}
+use Rattle.domain_base.proofs.ReadBackLemmas.{name_word}
+use Rattle.domain_base.proofs.SpellingLemmas.{name_is_valid}
+use Rattle.domain_fields.specs.Scan.{Scans}
+use Rattle.domain_plain.specs.Generic.{generic_mark, generic_text}
+use Rattle.domain_plain.specs.Plain.{ns, soa, soa_values}
+use Rattle.domain_plain.specs.Soa.{soa_text}
+use Rattle.domain_plain.specs.declared.ns.Ns.{Ns as NsData}
+use Rattle.domain_plain.specs.declared.soa.Soa.{Soa as SoaData}
+use Rattle.domain_plain.specs.declared.unknown.UnknownRecordData.{UnknownRecordData as UnknownData}
+use Rattle.domain_plain.proofs.ReadBackLemmas.{generic_back}
+use Rattle.domain_rrsig.specs.Data.{RrsigData}
+use Rattle.domain_rrsig.specs.Scan.{RrsigText}
+use Rattle.domain_rdata.specs.Exact.{HasExactText}
+use Rattle.domain_rdata.specs.Scan.{IsGeneric, RdataText, own, generic}
+use Rattle.domain_rdata.specs.declared.zone_record_data.ZoneRecordData.TheVariants.{Ns, Soa, Unknown}
+
+-- ---- texts that are not the mark
+
+no_number : (bits n : ℕ) → IsNumber bits generic_mark n → ⊥
+no_number bits n number = omega (arith, number.digits.1.0)
+
+no_type : (n : ℕ) → TypeText generic_mark n → ⊥
+no_type n (by_name text m is) = let e = is in cc
+no_type n (by_number text digits m none has number) =
+    omega (arith, ap length has.parts, length-append has.front digits, ap length has.same, length-map has.front to_ascii_lowercase)
+
+no_address : (octets : List ℕ) → IsDotted generic_mark octets → ⊥
+no_address octets is =
+    let w = decimal is.a in
+    let x = decimal is.b in
+    let y = decimal is.c in
+    let z = decimal is.d in
+    omega (
+      arith,
+      ap length is.spelled,
+      length-append (w ++ codes "." ++ x ++ codes "." ++ y ++ codes ".") z,
+      length-append (w ++ codes "." ++ x ++ codes "." ++ y) (codes "."),
+      length-append (w ++ codes "." ++ x ++ codes ".") y,
+      length-append (w ++ codes "." ++ x) (codes "."),
+      length-append (w ++ codes ".") x,
+      length-append w (codes "."),
+    )
+
+no_dotted : (text : List ℕ) → text ++ 46 ∷ [] ≡ generic_mark → ⊥
+no_dotted [] same = omega (arith, ap length same)
+no_dotted (c ∷ []) same = let last : 46 ≡ 35 = ap (λ l. slice_index l 1) same in omega (arith, last)
+no_dotted (c ∷ d ∷ text) same = omega (arith, ap length same, length-append (c ∷ d ∷ text) (46 ∷ []))
+
+abbrev first_of : List (List ℕ) → List ℕ
+first_of [] = []
+first_of (token ∷ tokens) = token
+
+-- ---- tokens that begin with such texts
+
+mark_first : {P : List ℕ → Type 0} (old new : List (List ℕ)) → TakesToken P old new → IsGeneric old → P generic_mark
+mark_first {P} old new takes marked =
+    let both : takes.token ∷ new ≡ generic_mark ∷ marked.0 = sym takes.first ∙ marked.1 in
+    let same : takes.token ≡ generic_mark = ap first_of both in
+    subst P same takes.holds
+
+pub number_first : (bits n : ℕ) (old new : List (List ℕ)) → TakesToken (λ text. IsNumber bits text n) old new → IsGeneric old → ⊥
+number_first bits n old new takes marked = no_number bits n (mark_first old new takes marked)
+
+pub type_first : (n : ℕ) (old new : List (List ℕ)) → TakesToken (λ text. TypeText text n) old new → IsGeneric old → ⊥
+type_first n old new takes marked = no_type n (mark_first old new takes marked)
+
+pub address_first : (octets : List ℕ) (old new : List (List ℕ)) → TakesToken (λ text. IsDotted text octets) old new → IsGeneric old → ⊥
+address_first octets old new takes marked = no_address octets (mark_first old new takes marked)
+
+pub name_alone : (labels : List (List ℕ)) → IsName labels → IsGeneric (words_of (name_text labels ++ 46 ∷ [])) → ⊥
+name_alone labels valid marked =
+    let both : (name_text labels ++ 46 ∷ []) ∷ [] ≡ generic_mark ∷ marked.0 = sym (one_word (name_text labels ++ 46 ∷ []) (name_word labels valid)) ∙ marked.1 in
+    no_dotted (name_text labels) (ap first_of both)
+
+pub name_first : (labels : List (List ℕ)) (rest : List ℕ) → IsName labels → IsGeneric (words_of ((name_text labels ++ 46 ∷ []) ++ 32 ∷ rest)) → ⊥
+name_first labels rest valid marked =
+    let both : (name_text labels ++ 46 ∷ []) ∷ words_of rest ≡ generic_mark ∷ marked.0 = sym (first_word (name_text labels ++ 46 ∷ []) rest (name_word labels valid)) ∙ marked.1 in
+    no_dotted (name_text labels) (ap first_of both)
+
+-- ---- data in their own form, or in the generic one
+
+module _ {O N : Type 0} (octets : O → List ℕ) (labels : N → List (List ℕ)) where
+  pub ns_text : (d : NsData N) → Scans ns (words_of (name_text (labels d.nsdname) ++ 46 ∷ [])) (labels d.nsdname) [] → RdataText octets labels rtypes.ns (words_of (name_text (labels d.nsdname) ++ 46 ∷ [])) (Ns d) []
+  ns_text d read = own (name_alone (labels d.nsdname) (name_is_valid read.token (labels d.nsdname) read.holds)) (refl, read)
+
+  pub soa_back : (d : SoaData N) → IfSome (soa_text labels d) (λ text. Scans soa (words_of text) (soa_values labels d) []) → IfSome (soa_text labels d) (λ text. RdataText octets labels rtypes.soa (words_of text) (Soa d) [])
+  soa_back d read = own (name_first (labels d.mname) _ (name_is_valid read.1.1.token (labels d.mname) read.1.1.holds)) (refl, read)
+
+  pub rrsig_back : (d : RrsigData) (tokens : List (List ℕ)) → RrsigText tokens d → IsGeneric tokens → ⊥
+  rrsig_back d tokens read = type_first d.fields.type_covered tokens read.spelled.fields.1.0 read.spelled.fields.1.1
+
+  pub nsec_first : (name : List (List ℕ)) (types : List ℕ) → IsName name → IsGeneric (words_of (name_text name ++ 46 ∷ 32 ∷ [] ++ types)) → ⊥
+  nsec_first name types valid marked =
+      let parts : name_text name ++ 46 ∷ 32 ∷ [] ++ types ≡ (name_text name ++ 46 ∷ []) ++ 32 ∷ types =
+      ap (λ l. l ++ types) (sym (append_assoc (name_text name) (46 ∷ []) (32 ∷ []))) ∙ append_assoc (name_text name ++ 46 ∷ []) (32 ∷ []) types in
+      name_first name types valid (subst (λ t. IsGeneric (words_of t)) parts marked)
+
+  pub unknown_back : (d : UnknownData O) → All (λ octet. octet < 256) (octets d.«data») → HasExactText {O = O} {N = N} octets (Unknown d) → RdataText octets labels d.rtype (words_of (generic_text (octets d.«data»))) (Unknown d) []
+  unknown_back d small exact = generic (octets d.«data») (generic_back (octets d.«data») small exact.1) (exact.0, refl, refl) refl

@@ -1,0 +1,27 @@
+use Rattle.std.proofs.Common.{◌<◌, refl, rules}
+use Rattle.std.specs.List.{All}
+use Rattle.domain_base.proofs.SpellingLemmas.{name_is_valid}
+use Rattle.domain_rdata.specs.Scan.{own}
+use Rattle.domain_rdata.proofs.ReadBackLemmas.{ns_text, soa_back, rrsig_back, nsec_first, unknown_back}
+use Rattle.domain_rdata.proofs.laws.data_is_read_back.Goals as goal
+
+pub returns-in-Ns : goal.returns-in-Ns
+returns-in-Ns g c = rw c.in-Ns.is (λ exact. ns_text g.O.Octets.octets g.N.ToName.labels c.in-Ns.data c.ns_reads_back.ensures)
+
+pub returns-in-Soa : goal.returns-in-Soa
+returns-in-Soa g c = rw c.in-Soa.is (λ exact. soa_back g.O.Octets.octets g.N.ToName.labels c.in-Soa.data c.soa_reads_back.ensures)
+
+pub returns-in-Rrsig : goal.returns-in-Rrsig
+returns-in-Rrsig g c =
+    rw c.in-Rrsig.is (λ exact. own (rrsig_back g.O.Octets.octets g.N.ToName.labels c.in-Rrsig.data _ c.rrsig_reads_back.ensures) (refl, c.rrsig_reads_back.ensures, refl))
+
+pub returns-in-Nsec : goal.returns-in-Nsec
+returns-in-Nsec g c =
+    let name = g.N.ToName.labels c.in-Nsec.data.next_name in
+    let first = c.nsec_reads_back.ensures.types.next_name in
+    rw c.in-Nsec.is (λ exact. own (nsec_first g.O.Octets.octets g.N.ToName.labels name _ (name_is_valid first.token name first.holds)) (refl, c.nsec_reads_back.ensures.same exact))
+
+pub returns-in-Unknown : goal.returns-in-Unknown
+returns-in-Unknown g c =
+    let small : All (λ octet. octet < 256) (g.O.Octets.octets c.in-Unknown.data.«data») = search rules in
+    rw c.in-Unknown.is (λ exact. unknown_back g.O.Octets.octets g.N.ToName.labels c.in-Unknown.data small exact)
