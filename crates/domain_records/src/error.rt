@@ -2,6 +2,7 @@
 ghost use Rattle.std.specs.Prelude.{◌≡◌};
 ghost use Rattle.domain_records.specs.declared.error.SigningError.TheVariants as signing_error;
 ghost use Rattle.domain_records.specs.declared.error.Nsec3HashError.TheVariants as nsec3_hash_error;
+ghost use Rattle.domain_records.specs.Edits.{refused};
 ghost use Rattle.domain_records.specs.Errors.{signing_error_of};
 
 use domain_octets::OutOfMemory;
@@ -108,4 +109,16 @@ pub enum InsertError<N, D> {
     Present(Record<N, D>),
     /// There was no memory.
     OutOfMemory(Record<N, D>),
+}
+
+impl<N, D> InsertError<N, D> {
+    /// The record that was not put in.
+    pub fn into_record(self) -> Record<N, D>
+        ensures { result ≡ refused self }
+    {
+        match self {
+            InsertError::Present(record) => record,
+            InsertError::OutOfMemory(record) => record,
+        }
+    }
 }

@@ -1,4 +1,4 @@
-//! What holds of groups.
+//! What holds of groups. A caller calls the law in its body.
 ghost use Rattle.std.specs.Prelude.{List};
 ghost use Rattle.domain_plain.specs.declared.record.Record.{Record};
 ghost use Rattle.domain_records.specs.Groups.{same_owner, same_type, same_rrset};

@@ -254,6 +254,18 @@ impl<N: ToName, D: RecordData + CanonicalOrd, Sort: Sorter> SortedRecords<N, D, 
         }
     }
 
+    /// Whether a record stands here that is equal under the canonical order, whatever its TTL. By a
+    /// binary search.
+    pub fn contains(&self, wanted: &Record<N, D>) -> bool
+        ensures { IsTrue result
+            ↔ Holds (record_cmp N.labels D.rtype D.canonical_cmp) self.now wanted.now }
+    {
+        match search(&self.records, wanted) {
+            Ok(_) => true,
+            Err(_) => false,
+        }
+    }
+
     /// The records of one owner after another.
     pub fn owner_rrs(&self) -> RecordsIter<'_, N, D>
         ensures records { result ≡ self.now }
@@ -283,8 +295,8 @@ impl<N: ToName, D: RecordData + CanonicalOrd, Sort: Sorter> SortedRecords<N, D, 
         rrset_at(records, first_of_type(records, Rtype::SOA))
     }
 
-    /// The first group of records of this owner and this type. Takes binary searches, one or two a
-    /// class.
+    /// The first group of records of this owner and this type; the owner may be any name, not the
+    /// apex alone. Takes binary searches, one or two a class.
     ///
     /// # Errors
     ///
