@@ -16,10 +16,10 @@ use Rattle.domain_zone.proofs.ZoneLemmas.{weaker, all_both}
 use Rattle.domain_nsec3.specs.Ancestors.{above_with_more, HoldsAncestors}
 use Rattle.domain_nsec3.proofs.SharedLemmas.{Shares, at_length, cons_below}
 
-less : (m n : ℕ) → m < n → nat_lt m n ≡ true
+pub less : (m n : ℕ) → m < n → nat_lt m n ≡ true
 less m n h = grind (arith, nat_tests)
 
-not_less : (m n : ℕ) → n ≤ m → nat_lt m n ≡ false
+pub not_less : (m n : ℕ) → n ≤ m → nat_lt m n ≡ false
 not_less m n h = grind (arith, nat_tests)
 
 is_less : (m n : ℕ) → nat_lt m n ≡ true → m < n
@@ -48,10 +48,10 @@ pub more_none : (n : ℕ) (x : Name) → length x ≤ n + 1 → above_with_more 
 more_none n [] h = refl
 more_none n (label ∷ x) h = rw (not_less n (length x) (omega arith))
 
-abbrev IsAbove : ℕ → Name → Name → Type 0
+abbrev pub IsAbove : ℕ → Name → Name → Type 0
 IsAbove n o m = (is_at_or_below o m ≡ true) × (length m < length o) × (n < length m)
 
-are_above : (n : ℕ) (o : Name) → AllByRecursion (IsAbove n o) (above_with_more n o)
+pub are_above : (n : ℕ) (o : Name) → AllByRecursion (IsAbove n o) (above_with_more n o)
 are_above n [] = tt
 are_above n (label ∷ x) =
     elim (nat_lt n (length x)) as (λ b. nat_lt n (length x) ≡ b → AllByRecursion (IsAbove n (label ∷ x)) (cond b (above_with_more n x ++ x ∷ []) [])) [

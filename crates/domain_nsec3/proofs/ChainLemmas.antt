@@ -1,19 +1,17 @@
 -- A chain over entries is the chain of the zone where the entries are its names with their types.
-use Rattle.std.proofs.Common.{◌≡◌, ℕ, ◌<◌, ◌≤◌, true, List, [], ◌∷◌, map, length, Some, None, Ok, refl, sym, ap, ◌∙◌, subst, arith, inl, inr}
-use Rattle.std.specs.Prelude.{All, IsPermutation, nat_lt, ◌==◌, ◌||◌, if◌then◌else◌}
+use Rattle.std.proofs.Common.{◌≡◌, ℕ, zero, suc, ◌+◌, ◌<◌, ◌≤◌, true, List, [], ◌∷◌, ◌++◌, map, length, get_or, take, Some, None, Ok, refl, sym, ap, ◌∙◌, subst, arith, inl, inr, add-one}
+use Rattle.std.specs.Prelude.{All, IsPermutation, ◌||◌}
 use Rattle.std.specs.List.{AllByRecursion, list_any}
 use Rattle.std.specs.List.Sorted.{IsStrictlySortedBy}
 use Rattle.std.specs.Ordering.{nat_cmp}
 use Rattle.std.specs.Cmp.Lexicographic.{slice_cmp}
-use Rattle.std.proofs.lemmas.Bool.{cases_Bool, or_right, or_left}
-use Rattle.std.proofs.lemmas.Bool.Decides.{nat_tests}
-use Rattle.std.proofs.lemmas.List.{length-map}
+use Rattle.std.proofs.lemmas.Bool.{cases_lt}
+use Rattle.std.proofs.lemmas.List.{get_or-map, length-map, map-append, take_more}
 use Rattle.std.proofs.lemmas.List.Elements.{recursion_from_All, All-from_recursion}
 use Rattle.std.proofs.lemmas.List.Sorted.{list_any-IsPermutation, IsPermutation-map, All-permutation, length_permutation}
 use Rattle.domain_base.specs.Classes.{in_class}
-use Rattle.domain_base.specs.Name.{wire_of, same_name}
+use Rattle.domain_base.specs.Name.{same_name}
 use Rattle.domain_bitmap.specs.Bitmap.{bitmap_octets}
-use Rattle.domain_records.specs.declared.error.Nsec3HashError.TheVariants.{OwnerHashError, Nsec3NameTooLong}
 use Rattle.domain_zone.specs.Covering.{pairs}
 use Rattle.domain_base.specs.Words.{Name}
 use Rattle.domain_zone.specs.Soa.{chain_ttl, soa_of}
@@ -27,19 +25,10 @@ use Rattle.domain_nsec3.specs.Chain.{HashedLink, HashedName, IsHash, IsHashedCha
 use Rattle.domain_nsec3.specs.Config.{ChainConfig, Hash}
 use Rattle.domain_nsec3.specs.Faults.{hash_fault}
 use Rattle.domain_nsec3.specs.Owners.{is_chain_name, nsec3_lists}
-use Rattle.domain_nsec3.specs.Steps.{Common, Entry, HashedEntry, without_hash, IsHashed, links_from, IsOrderedChain}
-
--- a hash that is of use is short
-pub sound_short : (a : Name) (h : List ℕ) → hash_fault a (Ok h) ≡ None → length h ≤ 39
-sound_short a h e =
-    elim (cases_Bool (nat_lt 39 (length h))) [
-      | inl t ↦
-          let long : hash_fault a (Ok h) ≡ Some OwnerHashError =
-          ap (λ b. if b then Some OwnerHashError else if nat_lt 255 (length (wire_of (hashed_owner a h))) then Some Nsec3NameTooLong else None) (or_right (length h == 0) (nat_lt 39 (length h)) t) in
-          let never : Some OwnerHashError ≡ None = sym long ∙ e in
-          absurd (cc)
-      | inr t ↦ grind (arith, nat_tests)
-    ]
+use Rattle.domain_nsec3.specs.Steps.{Common, Entry, HashedEntry, HashedTypes, without_hash, without_name, IsHashed, link_to, links_from, chain_links, IsOrderedChain}
+use Rattle.domain_nsec3.specs.StepView.{as_hashed_types, links_in}
+use Rattle.domain_nsec3.specs.declared.chain.HashedChain.{HashedChain}
+use Rattle.domain_nsec3.proofs.TextLemmas.{sound_some, sound_short}
 
 -- ---- a list that was hashed, and then put in order
 
@@ -50,12 +39,12 @@ module _ {X : Type 0} (see : X → HashedEntry) (a : Name) (hash : Hash) (entrie
   pub hashed_entries : All (IsHashed a hash) (map see ordered)
   hashed_entries = All-permutation (IsHashed a hash) (map see items) (map see ordered) (IsPermutation-map see items ordered moved) ok
 
-  pub short_hashes : All (λ x. length (see x).hash ≤ 39) ordered
-  short_hashes = All-from_recursion (λ x. length (see x).hash ≤ 39) ordered (each ordered (recursion_from_All (IsHashed a hash) (map see ordered) hashed_entries))
+  pub sound_hashes : All (λ x. hash_fault a (Ok (see x).hash) ≡ None) ordered
+  sound_hashes = All-from_recursion (λ x. hash_fault a (Ok (see x).hash) ≡ None) ordered (each ordered (recursion_from_All (IsHashed a hash) (map see ordered) hashed_entries))
     where
-      each : (xs : List X) → AllByRecursion (IsHashed a hash) (map see xs) → AllByRecursion (λ x. length (see x).hash ≤ 39) xs
+      each : (xs : List X) → AllByRecursion (IsHashed a hash) (map see xs) → AllByRecursion (λ x. hash_fault a (Ok (see x).hash) ≡ None) xs
       each [] h = tt
-      each (x ∷ xs) h = (sound_short a (see x).hash (ap (hash_fault a) (sym h.0.known) ∙ h.0.sound), each xs h.1)
+      each (x ∷ xs) h = (ap (hash_fault a) (sym h.0.known) ∙ h.0.sound, each xs h.1)
 
   pub some_items : 0 < length entries → 0 < length ordered
   some_items some = omega (arith, some, ap length same, length-map (map see items) without_hash, length-map items see, length_permutation items ordered moved)
@@ -65,7 +54,7 @@ hashes_of see [] = refl
 hashes_of see (x ∷ xs) = ap (λ l. (see x).hash ∷ l) (hashes_of see xs)
 
 pub ordered_chain : (a : Name) (hash : Hash) (p : Common) (entries : List Entry) (es : List HashedEntry) (links : List HashedLink) → 0 < length es → IsPermutation entries (map without_hash es) → All (IsHashed a hash) es → IsStrictlySortedBy (slice_cmp nat_cmp) (map (λ e. e.hash) es)
-    → ((first : HashedEntry) (later : List HashedEntry) → es ≡ first ∷ later → links ≡ links_from p (first ∷ later) first.hash) → IsOrderedChain a hash p entries links
+    → links ≡ chain_links a p (map without_name es) → IsOrderedChain a hash p entries links
 ordered_chain a hash p entries [] links some moved hashed ascend are = absurd (omega arith)
 ordered_chain a hash p entries (first ∷ later) links some moved hashed ascend are = record {
   first = first;
@@ -73,28 +62,93 @@ ordered_chain a hash p entries (first ∷ later) links some moved hashed ascend 
   moved = moved;
   hashed = hashed;
   ascend = ascend;
-  are = are first later refl;
+  are = are;
 }
 
-module _ (a : Name) (hash : Hash) (p : Common) where
-  ends_from : (e : HashedEntry) (es : List HashedEntry) (first : List ℕ) → AllByRecursion (IsHashed a hash) (e ∷ es) → map ends (links_from p (e ∷ es) first) ≡ map (ends_of a) (pairs (e.hash ∷ map (λ f. f.hash) es) first)
-  ends_from e [] first h = λ i. (h.0.owner i, first) ∷ []
-  ends_from e (f ∷ es) first h = λ i. (h.0.owner i, f.hash) ∷ ends_from f es first h.1 i
+module _ (a : Name) (p : Common) where
+  ends_from : (e : HashedEntry) (es : List HashedEntry) (first : List ℕ) → map ends (links_from a p (map without_name (e ∷ es)) first) ≡ map (ends_of a) (pairs (e.hash ∷ map (λ f. f.hash) es) first)
+  ends_from e [] first = refl
+  ends_from e (f ∷ es) first = ap (λ l. (hashed_owner a e.hash, f.hash) ∷ l) (ends_from f es first)
 
-  bits_from : (es : List HashedEntry) (first : List ℕ) → map (λ k. k.bits) (links_from p es first) ≡ map (λ e. e.bits) es
+  bits_from : (es : List HashedEntry) (first : List ℕ) → map (λ k. k.bits) (links_from a p (map without_name es) first) ≡ map (λ e. e.bits) es
   bits_from [] first = refl
   bits_from (e ∷ []) first = refl
   bits_from (e ∷ f ∷ es) first = ap (λ l. e.bits ∷ l) (bits_from (f ∷ es) first)
 
-  numbers_from : (es : List HashedEntry) (first : List ℕ) → AllByRecursion (λ k. (k.class ≡ in_class) × (k.ttl ≡ p.ttl)) (links_from p es first)
+  numbers_from : (es : List HashedTypes) (first : List ℕ) → AllByRecursion (λ k. (k.class ≡ in_class) × (k.ttl ≡ p.ttl)) (links_from a p es first)
   numbers_from [] first = tt
   numbers_from (e ∷ []) first = ((refl, refl), tt)
   numbers_from (e ∷ f ∷ es) first = ((refl, refl), numbers_from (f ∷ es) first)
 
-  told_from : (es : List HashedEntry) (first : List ℕ) → AllByRecursion (λ k. (k.parameters ≡ p.parameters) × (k.flags ≡ p.flags)) (links_from p es first)
+  told_from : (es : List HashedTypes) (first : List ℕ) → AllByRecursion (λ k. (k.parameters ≡ p.parameters) × (k.flags ≡ p.flags)) (links_from a p es first)
   told_from [] first = tt
   told_from (e ∷ []) first = ((refl, refl), tt)
   told_from (e ∷ f ∷ es) first = ((refl, refl), told_from (f ∷ es) first)
+
+  -- the link at a place
+  front_at : (es : List HashedTypes) (first : List ℕ) (i : ℕ) (d : HashedLink) (e : HashedTypes) → suc i < length es → get_or (links_from a p es first) i d ≡ link_to a p (get_or es i e) (get_or es (suc i) e).hash
+  front_at [] first i d e l = absurd (omega arith)
+  front_at (x ∷ []) first i d e l = absurd (omega arith)
+  front_at (x ∷ y ∷ es) first zero d e l = refl
+  front_at (x ∷ y ∷ es) first (suc i) d e l = front_at (y ∷ es) first i d e (omega arith)
+
+  end_at : (es : List HashedTypes) (first : List ℕ) (i : ℕ) (d : HashedLink) (e : HashedTypes) → suc i ≡ length es → get_or (links_from a p es first) i d ≡ link_to a p (get_or es i e) first
+  end_at [] first i d e l = absurd (omega arith)
+  end_at (x ∷ []) first zero d e l = refl
+  end_at (x ∷ []) first (suc i) d e l = absurd (omega arith)
+  end_at (x ∷ y ∷ es) first zero d e l = absurd (omega arith)
+  end_at (x ∷ y ∷ es) first (suc i) d e l = end_at (y ∷ es) first i d e (omega arith)
+
+  pub link_before : (es : List HashedTypes) (i : ℕ) (d : HashedLink) (e : HashedTypes) → i + 1 < length es → get_or (chain_links a p es) i d ≡ link_to a p (get_or es i e) (get_or es (i + 1) e).hash
+  link_before [] i d e l = absurd (omega arith)
+  link_before (x ∷ es) i d e l = rw add-one (front_at (x ∷ es) x.hash i d e (omega arith))
+
+  pub link_last : (es : List HashedTypes) (i : ℕ) (d : HashedLink) (e : HashedTypes) → i < length es → length es ≤ i + 1 → get_or (chain_links a p es) i d ≡ link_to a p (get_or es i e) (get_or es 0 e).hash
+  link_last [] i d e l m = absurd (omega arith)
+  link_last (x ∷ es) i d e l m = end_at (x ∷ es) x.hash i d e (omega arith)
+
+  links_length : (es : List HashedTypes) (first : List ℕ) → length (links_from a p es first) ≡ length es
+  links_length [] first = refl
+  links_length (e ∷ []) first = refl
+  links_length (e ∷ f ∷ es) first = ap suc (links_length (f ∷ es) first)
+
+  pub chain_length : (es : List HashedTypes) → length (chain_links a p es) ≡ length es
+  chain_length [] = refl
+  chain_length (e ∷ es) = links_length (e ∷ es) e.hash
+
+  -- what stands at a place, with the hash after it
+  pub link_is : {X : Type 0} (see : X → HashedTypes) (hs : List X) (item : X) (next : List ℕ) (i : ℕ) (d : HashedLink) → i < length hs → item ≡ get_or hs i item
+      → (i + 1 < length hs → (x : X) → next ≡ (see (get_or hs (i + 1) x)).hash) → (length hs ≤ i + 1 → (x : X) → next ≡ (see (get_or hs 0 x)).hash)
+      → link_to a p (see item) next ≡ get_or (chain_links a p (map see hs)) i d
+  link_is see hs item next i d within is later first =
+      let whole = length-map hs see in
+      let here : see item ≡ get_or (map see hs) i (see item) = ap see is ∙ sym (get_or-map see hs i item (see item) within) in
+      elim (cases_lt (i + 1) (length hs)) [
+        | inl l ↦
+            let after : next ≡ (get_or (map see hs) (i + 1) (see item)).hash = later l item ∙ ap (λ t. t.hash) (sym (get_or-map see hs (i + 1) item (see item) l)) in
+            (λ j. link_to a p (here j) (after j)) ∙ sym (link_before (map see hs) i d (see item) (omega arith))
+        | inr l ↦
+            let after : next ≡ (get_or (map see hs) 0 (see item)).hash = first l item ∙ ap (λ t. t.hash) (sym (get_or-map see hs 0 item (see item) (omega arith))) in
+            (λ j. link_to a p (here j) (after j)) ∙ sym (link_last (map see hs) i d (see item) (omega arith) (omega arith))
+      ]
+
+-- the hash after a place is one of those
+pub next_short : {X : Type 0} (f : X → List ℕ) (a : Name) (hs : List X) (item : X) (next : List ℕ) (i : ℕ) → i < length hs → All (λ h. hash_fault a (Ok (f h)) ≡ None) hs
+    → (i + 1 < length hs → (x : X) → next ≡ f (get_or hs (i + 1) x)) → (length hs ≤ i + 1 → (x : X) → next ≡ f (get_or hs 0 x)) → length next ≤ 39
+next_short f a hs item next i within sound later first =
+    elim (cases_lt (i + 1) (length hs)) [
+      | inl l ↦ subst (λ (v : List ℕ). length v ≤ 39) (sym (later l item)) (sound_short a (f (get_or hs (i + 1) item)) (sound (i + 1) item l))
+      | inr l ↦ subst (λ (v : List ℕ). length v ≤ 39) (sym (first l item)) (sound_short a (f (get_or hs 0 item)) (sound 0 item (omega arith)))
+    ]
+
+-- a link for each hash
+pub links_counted : {N O : Type 0} (labels : N → Name) (chain : HashedChain N O) (p : Common) → length (links_in labels chain p) ≡ length chain.hashed.items
+links_counted labels chain p = chain_length (labels chain.apex) p (map (as_hashed_types chain.types.items) chain.hashed.items) ∙ length-map chain.hashed.items (as_hashed_types chain.types.items)
+
+-- one more record is made
+pub one_made : {X : Type 0} (see : X → HashedLink) (old new : List X) (item : X) (i : ℕ) (links : List HashedLink) → i < length links → new ≡ old ++ item ∷ [] → ((d : HashedLink) → see item ≡ get_or links i d) → map see old ≡ take i links → map see new ≡ take (i + 1) links
+one_made see old new item i links within pushed is h =
+    ap (map see) pushed ∙ map-append see old (item ∷ []) ∙ (λ j. h j ++ is (see item) j ∷ []) ∙ sym (take_more links i (see item) within)
 
 names_of : (es : List HashedEntry) → map (λ n. n.name) (map without_hash es) ≡ map (λ e. e.name) es
 names_of [] = refl
@@ -118,18 +172,7 @@ any_named x (e ∷ es) = ap (λ b. same_name e.name x || b) (any_named x es)
 
 -- octets of use are a hash
 sound_hash : (a : Name) (h : List ℕ) → hash_fault a (Ok h) ≡ None → All (λ o. o < 256) h → IsHash h
-sound_hash a h e octets = (
-  elim (cases_Bool (length h == 0)) [
-    | inl t ↦
-        let long : hash_fault a (Ok h) ≡ Some OwnerHashError =
-        ap (λ b. if b then Some OwnerHashError else if nat_lt 255 (length (wire_of (hashed_owner a h))) then Some Nsec3NameTooLong else None) (or_left (length h == 0) (nat_lt 39 (length h)) t) in
-        let never : Some OwnerHashError ≡ None = sym long ∙ e in
-        absurd (cc)
-    | inr t ↦ grind (arith, nat_tests)
-  ],
-  (let short = sound_short a h e in omega arith),
-  octets,
-)
+sound_hash a h e octets = (sound_some a h e, (let short = sound_short a h e in omega arith), octets)
 
 module _ (L : List ZoneRecord) (a : Name) (config : ChainConfig) (p : Common) (entries : List Entry) (links : List HashedLink) where
   -- the entries are the names of the chain, with their types
@@ -167,8 +210,6 @@ module _ (L : List ZoneRecord) (a : Name) (config : ChainConfig) (p : Common) (e
 
   pub chain_of_zone : IsCommon → AreChainNames → IsOrderedChain a config.hash p entries links → IsHashedChain L a config links
   chain_of_zone common entry c =
-      let es = c.first ∷ c.later in
-      let all : AllByRecursion (IsHashed a config.hash) (c.first ∷ c.later) = recursion_from_All (IsHashed a config.hash) (c.first ∷ c.later) c.hashed in
       let listed : AllByRecursion (λ n. n.bits ≡ bitmap_octets (nsec3_lists L a config n.name)) (map without_hash (c.first ∷ c.later)) =
       recursion_from_All (λ n. n.bits ≡ bitmap_octets (nsec3_lists L a config n.name)) (map without_hash (c.first ∷ c.later)) (All-permutation (λ n. n.bits ≡ bitmap_octets (nsec3_lists L a config n.name)) entries (map without_hash (c.first ∷ c.later)) c.moved entry.bits) in
       record {
@@ -178,12 +219,12 @@ module _ (L : List ZoneRecord) (a : Name) (config : ChainConfig) (p : Common) (e
         sound = All-from_recursion (IsOfChain L a config) (map named (c.first ∷ c.later)) (all_sound entry (c.first ∷ c.later) c.moved c.hashed);
         complete = all_complete entry (c.first ∷ c.later) c.moved c.hashed;
         ascend = subst (IsStrictlySortedBy (slice_cmp nat_cmp)) (sym (hashes_named (c.first ∷ c.later))) c.ascend;
-        linked = ap (map ends) c.are ∙ ends_from a config.hash p c.first c.later c.first.hash all ∙ ap (λ hs. map (ends_of a) (pairs (c.first.hash ∷ hs) c.first.hash)) (sym (hashes_named c.later));
-        bits = ap (map (λ k. k.bits)) c.are ∙ bits_from a config.hash p (c.first ∷ c.later) c.first.hash ∙ bits_of (λ n. bitmap_octets (nsec3_lists L a config n)) (c.first ∷ c.later) listed;
+        linked = ap (map ends) c.are ∙ ends_from a p c.first c.later c.first.hash ∙ ap (λ hs. map (ends_of a) (pairs (c.first.hash ∷ hs) c.first.hash)) (sym (hashes_named c.later));
+        bits = ap (map (λ k. k.bits)) c.are ∙ bits_from a p (c.first ∷ c.later) c.first.hash ∙ bits_of (λ n. bitmap_octets (nsec3_lists L a config n)) (c.first ∷ c.later) listed;
         numbered = subst (All (λ k. (k.class ≡ in_class) × (k.ttl ≡ chain_ttl common.numbers))) (sym c.are)
-            (All-from_recursion (λ k. (k.class ≡ in_class) × (k.ttl ≡ chain_ttl common.numbers)) (links_from p (c.first ∷ c.later) c.first.hash)
-            (weaker (λ k. (k.class ≡ in_class) × (k.ttl ≡ p.ttl)) (λ k. (k.class ≡ in_class) × (k.ttl ≡ chain_ttl common.numbers)) (λ k n. (n.0, n.1 ∙ common.ttl)) (links_from p (c.first ∷ c.later) c.first.hash) (numbers_from a config.hash p (c.first ∷ c.later) c.first.hash)));
+            (All-from_recursion (λ k. (k.class ≡ in_class) × (k.ttl ≡ chain_ttl common.numbers)) (chain_links a p (map without_name (c.first ∷ c.later)))
+            (weaker (λ k. (k.class ≡ in_class) × (k.ttl ≡ p.ttl)) (λ k. (k.class ≡ in_class) × (k.ttl ≡ chain_ttl common.numbers)) (λ k n. (n.0, n.1 ∙ common.ttl)) (chain_links a p (map without_name (c.first ∷ c.later))) (numbers_from a p (map without_name (c.first ∷ c.later)) c.first.hash)));
         told = subst (All (λ k. (k.parameters ≡ config.parameters) × (k.flags ≡ config.flags))) (sym c.are)
-            (All-from_recursion (λ k. (k.parameters ≡ config.parameters) × (k.flags ≡ config.flags)) (links_from p (c.first ∷ c.later) c.first.hash)
-            (weaker (λ k. (k.parameters ≡ p.parameters) × (k.flags ≡ p.flags)) (λ k. (k.parameters ≡ config.parameters) × (k.flags ≡ config.flags)) (λ k n. (n.0 ∙ common.parameters, n.1 ∙ common.flags)) (links_from p (c.first ∷ c.later) c.first.hash) (told_from a config.hash p (c.first ∷ c.later) c.first.hash)));
+            (All-from_recursion (λ k. (k.parameters ≡ config.parameters) × (k.flags ≡ config.flags)) (chain_links a p (map without_name (c.first ∷ c.later)))
+            (weaker (λ k. (k.parameters ≡ p.parameters) × (k.flags ≡ p.flags)) (λ k. (k.parameters ≡ config.parameters) × (k.flags ≡ config.flags)) (λ k n. (n.0 ∙ common.parameters, n.1 ∙ common.flags)) (chain_links a p (map without_name (c.first ∷ c.later))) (told_from a p (map without_name (c.first ∷ c.later)) c.first.hash)));
       }

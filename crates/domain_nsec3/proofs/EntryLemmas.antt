@@ -1,9 +1,9 @@
--- Entries that go from one list to another, and names without types.
-use Rattle.std.proofs.Common.{◌≡◌, ℕ, true, false, not, ◌&&◌, List, [], ◌∷◌, ◌++◌, map, refl, sym, ap, ◌∙◌, subst, append_assoc}
+-- Names with their types.
+use Rattle.std.proofs.Common.{◌≡◌, ℕ, zero, suc, ◌≤◌, true, false, not, ◌&&◌, List, [], ◌∷◌, ◌++◌, map, length, get_or, refl, sym, ap, ◌∙◌, subst, arith}
 use Rattle.std.specs.Prelude.{All}
 use Rattle.std.specs.List.{AllByRecursion, list_any}
 use Rattle.std.proofs.lemmas.Bool.{and_parts, not-true}
-use Rattle.std.proofs.lemmas.List.{map-append, append-nil}
+use Rattle.std.proofs.lemmas.List.{length-append, map-append}
 use Rattle.std.proofs.lemmas.List.Elements.{recursion_from_All, All-from_recursion}
 use Rattle.domain_bitmap.specs.Bitmap.{bitmap_octets}
 use Rattle.domain_bitmap.specs.Builder.{holds}
@@ -20,29 +20,55 @@ use Rattle.domain_nsec3.specs.Ancestors.{IsListOf}
 use Rattle.domain_nsec3.specs.Chain.{HashedLink}
 use Rattle.domain_nsec3.specs.Config.{ChainConfig}
 use Rattle.domain_nsec3.specs.Owners.{original_owners, nsec3_lists, is_empty, is_listed, is_unsigned_cut}
-use Rattle.domain_nsec3.specs.Steps.{Common, Entry, without_types, AreOriginalOwners}
+use Rattle.domain_nsec3.specs.Steps.{Common, Entry, entries_of, no_types, without_name, without_types, AreOriginalOwners}
+use Rattle.domain_nsec3.specs.StepView.{as_hashed_entry, as_hashed_types}
+use Rattle.domain_nsec3.specs.declared.hash.Hashed.{Hashed}
 use Rattle.domain_nsec3.proofs.ChainLemmas.{AreChainNames}
 use Rattle.domain_nsec3.proofs.OwnerLemmas.{names_are, empty_are}
+use Rattle.domain_nsec3.proofs.TypeLemmas.{holds_nothing}
 
-module _ {X Y Z : Type 0} (f : X → Z) (g : Y → Z) where
-  pub move_step : (old new : List X) (item : X) (left rest : List Y) (y : Y) (all : List Z) → new ≡ old ++ item ∷ [] → left ≡ y ∷ rest → f item ≡ g y → map f old ++ map g left ≡ all → map f new ++ map g rest ≡ all
-  move_step old new item left rest y all is left_is one h =
-      ap (λ l. map f l ++ map g rest) is ∙ ap (λ l. l ++ map g rest) (map-append f old (item ∷ [])) ∙ append_assoc (map f old) (f item ∷ []) (map g rest)
-      ∙ ap (λ x. map f old ++ x ∷ map g rest) one ∙ ap (λ l. map f old ++ map g l) (sym left_is) ∙ h
+-- ---- names with their types
 
-  pub move_end : (items : List X) (left : List Y) (all : List Z) → left ≡ [] → map f items ++ map g left ≡ all → map f items ≡ all
-  move_end items left all none h = sym (append-nil (map f items)) ∙ ap (λ l. map f items ++ map g l) (sym none) ∙ h
+pub entries_names : (names : List Name) (types : List (List ℕ)) → map (λ n. n.name) (entries_of names types) ≡ names
+entries_names [] types = refl
+entries_names (n ∷ names) [] = ap (λ l. n ∷ l) (entries_names names [])
+entries_names (n ∷ names) (b ∷ types) = ap (λ l. n ∷ l) (entries_names names types)
 
-pub map_both : {X Y Z : Type 0} (f : X → Y) (g : Y → Z) (xs : List X) → map (λ x. g (f x)) xs ≡ map g (map f xs)
-map_both f g [] = refl
-map_both f g (x ∷ xs) = ap (λ l. g (f x) ∷ l) (map_both f g xs)
+pub entries_push : (names : List Name) (types : List (List ℕ)) (n : Name) (b : List ℕ) → length names ≡ length types → entries_of (names ++ n ∷ []) (types ++ b ∷ []) ≡ entries_of names types ++ record { name = n; bits = b } ∷ []
+entries_push [] [] n b h = refl
+entries_push [] (c ∷ types) n b h = absurd (omega arith)
+entries_push (m ∷ names) [] n b h = absurd (omega arith)
+entries_push (m ∷ names) (c ∷ types) n b h = ap (λ l. record { name = m; bits = c } ∷ l) (entries_push names types n b (omega arith))
 
-no_types : (t : ℕ) → holds [] t ≡ false
-unfolding holds
-no_types t = refl
+pub paired_push : {X Y : Type 0} (xs xs' : List X) (ys ys' : List Y) (x : X) (y : Y) → xs' ≡ xs ++ x ∷ [] → ys' ≡ ys ++ y ∷ [] → length xs ≡ length ys → length xs' ≡ length ys'
+paired_push xs xs' ys ys' x y more_xs more_ys h = omega (arith, ap length more_xs, ap length more_ys, length-append xs (x ∷ []), length-append ys (y ∷ []), h)
 
-pub empty_types : (value types : List ℕ) → value ≡ [] → types ≡ bitmap_octets (holds value) → types ≡ bitmap_octets (λ t. false)
-empty_types value types none is = is ∙ bitmap_octets-same (holds value) (λ t. false) (λ t b. ap (λ v. holds v t) none ∙ no_types t)
+entries_none : (empty : List Name) → entries_of empty [] ≡ map without_types empty
+entries_none [] = refl
+entries_none (n ∷ empty) = ap (λ l. without_types n ∷ l) (entries_none empty)
+
+pub entries_more : (names : List Name) (types : List (List ℕ)) (empty : List Name) → length names ≡ length types → entries_of (names ++ empty) types ≡ entries_of names types ++ map without_types empty
+entries_more [] [] empty h = entries_none empty
+entries_more [] (c ∷ types) empty h = absurd (omega arith)
+entries_more (m ∷ names) [] empty h = absurd (omega arith)
+entries_more (m ∷ names) (c ∷ types) empty h = ap (λ l. record { name = m; bits = c } ∷ l) (entries_more names types empty (omega arith))
+
+-- what stands at a place
+types_at : (names : List Name) (types : List (List ℕ)) (i : ℕ) → length types ≤ length names → (get_or (entries_of names types) i (without_types [])).bits ≡ get_or types i no_types
+types_at [] [] i h = refl
+types_at [] (c ∷ types) i h = absurd (omega arith)
+types_at (n ∷ names) [] zero h = refl
+types_at (n ∷ names) [] (suc i) h = types_at names [] i (omega arith)
+types_at (n ∷ names) (c ∷ types) zero h = refl
+types_at (n ∷ names) (c ∷ types) (suc i) h = types_at names types i (omega arith)
+
+pub types_told : (names : List Name) (types : List (List ℕ)) (hashed : List Hashed) → length types ≤ length names → map without_name (map (as_hashed_entry (entries_of names types)) hashed) ≡ map (as_hashed_types types) hashed
+types_told names types [] h = refl
+types_told names types (x ∷ hashed) h = λ i. record { hash = x.hash; bits = types_at names types x.place h i } ∷ types_told names types hashed h i
+
+-- a builder that holds nothing gives no types
+pub none_made : (value types : List ℕ) → value ≡ [] → types ≡ bitmap_octets (holds value) → types ≡ no_types
+none_made value types none is = is ∙ bitmap_octets-same (holds value) (λ t. false) (λ t b. holds_nothing value none t)
 
 -- ---- the owners with their empty non-terminals are the names of the chain
 

@@ -1,6 +1,6 @@
 -- The faults of hashing: the first name that is refused in the list that is hashed is the first in the order of hashing, and two
 -- neighbours with one hash are two names.
-use Rattle.std.proofs.Common.{◌≡◌, ◌≢◌, ℕ, zero, suc, ◌+◌, ◌<◌, Bool, true, false, not, ◌&&◌, ◌||◌, cond, List, [], ◌∷◌, ◌++◌, map, length, get_or, swap, reverse, Some, None, Ok, Err, refl, sym, ap, ◌∙◌, subst, inl, inr, ◌⊎◌, arith, IsPermutation}
+use Rattle.std.proofs.Common.{◌≡◌, ◌≢◌, ℕ, zero, suc, ◌+◌, ◌<◌, Bool, true, false, not, ◌&&◌, ◌||◌, cond, List, [], ◌∷◌, ◌++◌, map, length, get_or, swap, Some, None, Ok, Err, refl, sym, ap, ◌∙◌, subst, inl, inr, ◌⊎◌, arith, IsPermutation}
 use Rattle.std.specs.Prelude.{All}
 use Rattle.std.specs.List.{AllByRecursion, list_any}
 use Rattle.std.specs.List.Sorted.{IsStrictlySortedBy}
@@ -9,12 +9,12 @@ use Rattle.std.specs.declared.cmp.Ordering.TheVariants.{Less}
 use Rattle.std.specs.Cmp.Lexicographic.{slice_cmp, nat_list_cmp_total}
 use Rattle.std.proofs.lemmas.Bool.{cases_Bool, cases_eq, false≢true, true≢false, or_cases, or_right}
 use Rattle.std.proofs.lemmas.Cmp.{tied_itself}
-use Rattle.std.proofs.lemmas.List.{get_or-map, length-map, reverse-reverse}
+use Rattle.std.proofs.lemmas.List.{get_or-map, length-map}
 use Rattle.std.proofs.lemmas.List.Edits.{Swapped, swapped_from_swap, length-swap}
 use Rattle.std.proofs.lemmas.List.Elements.{recursion_from_All}
 use Rattle.std.proofs.lemmas.List.Sorted.{IsPermutation-keeps, IsPermutation-map, list_any-IsPermutation}
 use Rattle.domain_base.specs.Name.{lowered, wire_of, same_name}
-use Rattle.domain_base.specs.Order.{canonical_cmp, from_root, before}
+use Rattle.domain_base.specs.Order.{canonical_cmp, before}
 use Rattle.domain_records.specs.declared.error.Nsec3HashError.{Nsec3HashError}
 use Rattle.domain_records.specs.declared.error.Nsec3HashError.TheVariants.{Hasher, AppendError, OwnerHashError, Nsec3NameTooLong, CollisionDetected, OutOfMemory}
 use Rattle.domain_base.specs.Words.{Name}

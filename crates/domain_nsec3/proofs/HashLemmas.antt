@@ -1,5 +1,5 @@
--- Lists of hashed names: how they are built, ordered and linked.
-use Rattle.std.proofs.Common.{◌≡◌, ℕ, ◌+◌, ◌-◌, ◌<◌, ◌≤◌, true, List, [], ◌∷◌, ◌++◌, map, length, get_or, None, refl, sym, ap, ◌∙◌, subst, arith, inl, inr, ◌⊎◌, append_assoc, add-one}
+-- Lists of hashed names: how they are ordered and built.
+use Rattle.std.proofs.Common.{◌≡◌, ℕ, zero, suc, ◌+◌, ◌-◌, ◌<◌, ◌≤◌, true, List, [], ◌∷◌, ◌++◌, map, length, get_or, take, drop, None, refl, sym, ap, ◌∙◌, subst, arith, inl, inr, ◌⊎◌, add-one}
 use Rattle.std.specs.Prelude.{All}
 use Rattle.std.specs.List.{AllByRecursion, dedup, dedup_from}
 use Rattle.std.specs.List.Sorted.{IsStrictlySortedBy, IsSorted, IsSortedByKey}
@@ -8,33 +8,17 @@ use Rattle.std.specs.Cmp.{Equal-is}
 use Rattle.std.specs.Cmp.Lexicographic.{slice_cmp, nat_list_cmp_total}
 use Rattle.std.specs.FinMap.{slice_cmp-IsAntisymmetric, nat_cmp-IsAntisymmetric}
 use Rattle.std.proofs.lemmas.Bool.{cases_Bool, cases_lt}
-use Rattle.std.proofs.lemmas.List.{get_or-map, length-map, map-append, append-nil}
-use Rattle.std.proofs.lemmas.List.Elements.{recursion_from_All, All-from_recursion}
+use Rattle.std.proofs.lemmas.List.{get_or-map, length-map, map-append, take_all, take_more, take-append-drop, drop_more}
+use Rattle.std.proofs.lemmas.List.Elements.{recursion_from_All, All-nil, All-push}
 use Rattle.std.proofs.lemmas.List.Kept.{IsStrictlySortedBy-dedup}
 use Rattle.domain_records.specs.declared.error.Nsec3HashError.{Nsec3HashError}
 use Rattle.domain_records.specs.declared.error.Nsec3HashError.TheVariants.{OutOfMemory}
 use Rattle.domain_base.specs.Words.{Name}
-use Rattle.domain_zone.proofs.ZoneLemmas.{all_both}
-use Rattle.domain_nsec3.specs.Chain.{HashedLink}
 use Rattle.domain_nsec3.specs.Config.{Hash, hash_name}
 use Rattle.domain_nsec3.specs.Faults.{hash_fault}
-use Rattle.domain_nsec3.specs.Steps.{Common, Entry, HashedEntry, without_hash, IsHashed, IsRefusal, IsFirstRefused, HasAlikeNeighbours, link_to, links_from}
-
--- the first name that is refused, after those that were hashed
-pub first_refused : (a : Name) (hash : Hash) (done : List HashedEntry) (before after entries : List Entry) (x : Entry) (e : Nsec3HashError) → map without_hash done ≡ before → All (IsHashed a hash) done → entries ≡ before ++ x ∷ after → IsRefusal a (hash_name hash x.name) e → (e ≡ OutOfMemory) ⊎ IsFirstRefused a hash (map (λ n. n.name) entries) e
-first_refused a hash done before after entries x e same all joined (inl h) = inl h
-first_refused a hash done before after entries x e same all joined (inr h) = inr (record {
-  before = map (λ n. n.name) before;
-  name = x.name;
-  after = map (λ n. n.name) after;
-  joined = ap (map (λ n. n.name)) joined ∙ map-append (λ n. n.name) before (x ∷ after);
-  sound = subst (λ (b : List Entry). AllByRecursion (λ n. hash_fault a (hash_name hash n) ≡ None) (map (λ n. n.name) b)) same (each done (recursion_from_All (IsHashed a hash) done all));
-  fault = h;
-})
-  where
-    each : (es : List HashedEntry) → AllByRecursion (IsHashed a hash) es → AllByRecursion (λ n. hash_fault a (hash_name hash n) ≡ None) (map (λ n. n.name) (map without_hash es))
-    each [] all = tt
-    each (f ∷ es) all = (all.0.sound, each es all.1)
+use Rattle.domain_nsec3.specs.Steps.{Entry, HashedEntry, without_hash, without_types, IsHashed, IsRefusal, IsFirstRefused, HasAlikeNeighbours}
+use Rattle.domain_nsec3.specs.StepView.{as_hashed_entry}
+use Rattle.domain_nsec3.specs.declared.hash.Hashed.{Hashed}
 
 -- ---- neighbours
 
@@ -92,35 +76,63 @@ module _ {X : Type 0} (f : X → List ℕ) where
   pub apart_end : (xs : List X) (i : ℕ) → length xs ≤ i → IsSortedByKey f (slice_cmp nat_cmp) xs → AreApart (map f xs) i → IsStrictlySortedBy (slice_cmp nat_cmp) (map f xs)
   apart_end xs i l s h = strictly_apart (map f xs) (sorted_keys xs s) (λ k d m. h k d (omega (arith, m, length-map xs f)))
 
--- ---- lists
+-- ---- one more name is hashed
 
-module _ {X Y : Type 0} (see : X → HashedEntry) (e : Y → Entry) (old new : List X) (item : X) (is : new ≡ old ++ item ∷ []) where
-  pub same_step : (left rest : List Y) (y : Y) (all : List Entry) → left ≡ y ∷ rest → without_hash (see item) ≡ e y → map without_hash (map see old) ++ map e left ≡ all → map without_hash (map see new) ++ map e rest ≡ all
-  same_step left rest y all left_is one h =
-      ap (λ l. map without_hash (map see l) ++ map e rest) is ∙ ap (λ l. map without_hash l ++ map e rest) (map-append see old (item ∷ [])) ∙ ap (λ l. l ++ map e rest) (map-append without_hash (map see old) (see item ∷ []))
-      ∙ append_assoc (map without_hash (map see old)) (without_hash (see item) ∷ []) (map e rest) ∙ ap (λ x. map without_hash (map see old) ++ x ∷ map e rest) one ∙ ap (λ l. map without_hash (map see old) ++ map e l) (sym left_is) ∙ h
+module _ (a : Name) (hash : Hash) (names : List Name) where
+  -- the names up to a place are hashed, each with its place
+  abbrev pub AreHashed : ℕ → List Hashed → Type 0
+  AreHashed n hashed = (entries : List Entry) → map (λ e. e.name) entries ≡ names → (map without_hash (map (as_hashed_entry entries) hashed) ≡ take n entries) × All (IsHashed a hash) (map (as_hashed_entry entries) hashed)
 
-  pub all_more : (P : HashedEntry → Type 0) → P (see item) → All P (map see old) → All P (map see new)
-  all_more P one h =
-      All-from_recursion P (map see new)
-      (subst (AllByRecursion P) (sym (ap (map see) is ∙ map-append see old (item ∷ []))) (all_both P (map see old) (see item ∷ []) (recursion_from_All P (map see old) h) (one, tt)))
+  pub none_hashed : AreHashed 0 []
+  none_hashed entries are = (refl, All-nil (IsHashed a hash))
 
-pub same_end : {X Y : Type 0} (see : X → HashedEntry) (e : Y → Entry) (items : List X) (left : List Y) (all : List Entry) → left ≡ [] → map without_hash (map see items) ++ map e left ≡ all → map without_hash (map see items) ≡ all
-same_end see e items left all none h = sym (append-nil (map without_hash (map see items))) ∙ ap (λ l. map without_hash (map see items) ++ map e l) (sym none) ∙ h
+  pub one_hashed : (n : ℕ) (old new : List Hashed) (item : Hashed) (x : Name) → n < length names → x ≡ get_or names n x → item.place ≡ n → IsHashed a hash (record { name = x; hash = item.hash; bits = [] }) → new ≡ old ++ item ∷ [] → AreHashed n old → AreHashed (n + 1) new
+  one_hashed n old new item x within x_is place one is h entries are =
+      let see = as_hashed_entry entries in
+      let within_entries : n < length entries = omega (arith, within, ap length are, length-map entries (λ (e : Entry). e.name)) in
+      let here : without_hash (see item) ≡ get_or entries n (without_types []) = ap (λ i. get_or entries i (without_types [])) place in
+      let name : (see item).name ≡ x =
+      ap (λ e. e.name) here ∙ sym (get_or-map (λ (e : Entry). e.name) entries n (without_types []) x within_entries) ∙ ap (λ l. get_or l n x) are ∙ sym x_is in
+      let good : IsHashed a hash (see item) = record {
+        known = ap (hash_name hash) name ∙ one.known;
+        sound = ap (λ m. hash_fault a (hash_name hash m)) name ∙ one.sound;
+        octets = one.octets;
+      } in (
+        ap (λ l. map without_hash (map see l)) is ∙ ap (map without_hash) (map-append see old (item ∷ [])) ∙ map-append without_hash (map see old) (see item ∷ [])
+            ∙ (λ i. (h entries are).0 i ++ here i ∷ []) ∙ sym (take_more entries n (without_types []) within_entries),
+        subst (All (IsHashed a hash)) (sym (ap (map see) is ∙ map-append see old (item ∷ []))) (All-push (IsHashed a hash) (map see old) (see item) (h entries are).1 good),
+      )
 
-pub all_split : {X : Type 0} (P : X → Type 0) (xs : List X) (x : X) (rest : List X) → xs ≡ x ∷ rest → All P xs → P x × All P rest
-all_split P xs x rest is h =
-    let r : AllByRecursion P (x ∷ rest) = subst (AllByRecursion P) is (recursion_from_All P xs h) in
-    (r.0, All-from_recursion P rest r.1)
+  pub all_placed : (n : ℕ) (hashed : List Hashed) → length names ≤ n → AreHashed n hashed → (entries : List Entry) → map (λ e. e.name) entries ≡ names → map without_hash (map (as_hashed_entry entries) hashed) ≡ entries
+  all_placed n hashed end h entries are = (h entries are).0 ∙ take_all n entries (omega (arith, end, ap length are, length-map entries (λ (e : Entry). e.name)))
 
--- ---- links
+  -- the first name that is refused, after those that were hashed
+  pub first_refused : (n : ℕ) (hashed : List Hashed) (x : Name) (e : Nsec3HashError) → n < length names → x ≡ get_or names n x → AreHashed n hashed → IsRefusal a (hash_name hash x) e → (e ≡ OutOfMemory) ⊎ IsFirstRefused a hash names e
+  first_refused n hashed x e within x_is h (inl m) = inl m
+  first_refused n hashed x e within x_is h (inr f) =
+      let entries = map without_types names in
+      let told = h (map without_types names) (named names) in
+      inr (record {
+        before = map (λ n. n.name) (take n (map without_types names));
+        name = x;
+        after = drop (n + 1) names;
+        joined =
+            sym (take-append-drop n names)
+            ∙ (λ i. sym (taken n names) i ++ drop n names)
+            ∙ ap (λ l. map (λ n. n.name) (take n (map without_types names)) ++ l) (drop_more names n x within ∙ ap (λ m. m ∷ drop (n + 1) names) (sym x_is));
+        sound = subst (λ (b : List Entry). AllByRecursion (λ n. hash_fault a (hash_name hash n) ≡ None) (map (λ n. n.name) b)) told.0 (each (map (as_hashed_entry (map without_types names)) hashed) (recursion_from_All (IsHashed a hash) (map (as_hashed_entry (map without_types names)) hashed) told.1));
+        fault = f;
+      })
+    where
+      named : (ns : List Name) → map (λ e. e.name) (map without_types ns) ≡ ns
+      named [] = refl
+      named (n ∷ ns) = ap (λ l. n ∷ l) (named ns)
 
-pub link_step : (p : Common) (old new : List HashedLink) (w item : HashedEntry) (rest left : List HashedEntry) (first : List ℕ) (all : List HashedLink)
-    → left ≡ item ∷ rest → new ≡ old ++ link_to p w item.hash ∷ [] → old ++ links_from p (w ∷ left) first ≡ all → new ++ links_from p (item ∷ rest) first ≡ all
-link_step p old new w item rest left first all is pushed h =
-    ap (λ o. o ++ links_from p (item ∷ rest) first) pushed ∙ append_assoc old (link_to p w item.hash ∷ []) (links_from p (item ∷ rest) first)
-    ∙ ap (λ l. old ++ links_from p (w ∷ l) first) (sym is) ∙ h
+      taken : (i : ℕ) (ns : List Name) → map (λ e. e.name) (take i (map without_types ns)) ≡ take i ns
+      taken zero ns = refl
+      taken (suc i) [] = refl
+      taken (suc i) (n ∷ ns) = ap (λ l. n ∷ l) (taken i ns)
 
-pub link_end : (p : Common) (old new : List HashedLink) (w : HashedEntry) (left : List HashedEntry) (first : List ℕ) (all : List HashedLink)
-    → left ≡ [] → new ≡ old ++ link_to p w first ∷ [] → old ++ links_from p (w ∷ left) first ≡ all → new ≡ all
-link_end p old new w left first all is pushed h = pushed ∙ ap (λ l. old ++ links_from p (w ∷ l) first) (sym is) ∙ h
+      each : (es : List HashedEntry) → AllByRecursion (IsHashed a hash) es → AllByRecursion (λ n. hash_fault a (hash_name hash n) ≡ None) (map (λ n. n.name) (map without_hash es))
+      each [] all = tt
+      each (f ∷ es) all = (all.0.sound, each es all.1)

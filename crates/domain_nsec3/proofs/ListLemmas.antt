@@ -1,140 +1,118 @@
--- Lists of names that are sorted, freed of repeats, and freed of owners.
-use Rattle.std.proofs.Common.{◌≡◌, ℕ, zero, suc, ◌≤◌, ◌<◌, Bool, true, false, not, ◌&&◌, ◌||◌, cond, List, [], ◌∷◌, ◌++◌, length, get_or, append_assoc, subst, refl, sym, ap, ◌∙◌, inl, inr, arith}
-use Rattle.std.specs.Prelude.{filter}
-use Rattle.std.specs.List.{AllByRecursion, list_any, dedup, dedup_from}
+-- Names above owners that stand in order: they ascend, and none of them is an owner.
+use Rattle.std.proofs.Common.{◌≡◌, ℕ, ◌<◌, ◌≤◌, true, false, cond, not, ◌&&◌, ◌||◌, List, [], ◌∷◌, ◌++◌, length, refl, sym, ap, ◌∙◌, subst, arith, inl, inr, append_assoc}
+use Rattle.std.specs.Prelude.{filter, nat_lt}
+use Rattle.std.specs.List.{AllByRecursion, list_any}
 use Rattle.std.specs.List.Sorted.{IsStrictlySortedBy}
-use Rattle.std.specs.Ordering.{is_eq, is_lt, eq_by_cmp}
-use Rattle.std.specs.declared.cmp.Ordering.TheVariants.{Less}
-use Rattle.std.proofs.lemmas.Bool.{cases_Bool, cases_lt, false≢true, and_parts, and_from, not-true, or_cases}
-use Rattle.std.proofs.lemmas.List.{append-nil}
-use Rattle.std.proofs.lemmas.List.Kept.{IsStrictlySortedBy-filter}
-use Rattle.domain_base.specs.Order.{canonical_cmp, before}
-use Rattle.domain_base.specs.Laws.{same_name_ties}
+use Rattle.std.specs.Ordering.{is_lt}
+use Rattle.std.specs.declared.cmp.Ordering.{Ordering}
+use Rattle.std.specs.declared.cmp.Ordering.TheVariants.{Less, Equal, Greater}
+use Rattle.std.proofs.lemmas.Bool.{cases_Bool, false≢true, leb-true, and_parts, and_from, not-true, or_cases}
+use Rattle.domain_base.specs.Order.{canonical_cmp, before, common_labels}
 use Rattle.domain_base.specs.Name.{is_at_or_below, is_strictly_below, lowered, same_name}
 use Rattle.domain_base.specs.Words.{Name}
 use Rattle.domain_zone.specs.Enclosers.{is_empty_nonterminal}
-use Rattle.domain_zone.proofs.NameLemmas.{before_order, one_lowered, same_lowered}
+use Rattle.domain_zone.proofs.NameLemmas.{before_order, below_between, below_from, one_lowered, same_lowered}
 use Rattle.domain_zone.proofs.OwnerLemmas.{any_filter, any_in, in_any, any_weaker}
-use Rattle.domain_zone.proofs.PairLemmas.{lt_trans}
+use Rattle.domain_zone.proofs.PairLemmas.{IsAscending, lt_trans}
 use Rattle.domain_zone.proofs.SharedLemmas.{either_way}
-use Rattle.domain_zone.proofs.ZoneLemmas.{weaker, apart_left, apart_right, after_or}
-use Rattle.domain_nsec3.specs.Ancestors.{HoldsAncestors, IsListOf}
+use Rattle.domain_zone.proofs.ZoneLemmas.{weaker, all_both, filter_whole, apart_left, apart_right, after_or}
+use Rattle.domain_nsec3.specs.Ancestors.{above_with_more, HoldsAncestors, IsListOf}
+use Rattle.domain_nsec3.proofs.AncestorLemmas.{IsAbove, are_above, strictly_from}
+use Rattle.domain_nsec3.proofs.SharedLemmas.{common_shares}
 
--- names that the order ties are the same
-pub ties : (x y : Name) → same_name x y ≡ is_eq (canonical_cmp x y)
-ties x y = same_name_ties x y
+-- ---- ascending lists of names
 
--- what a test finds, where it tells no ties apart, is still found when one of each run is left
-any_dedup_from : (p : Name → Bool) → ((x y : Name) → same_name x y ≡ true → p x ≡ p y) → (k : Name) (xs : List Name) → list_any p (dedup_from (eq_by_cmp canonical_cmp) k xs) ≡ (p k || list_any p xs)
-any_dedup_from p f k [] = refl
-any_dedup_from p f k (y ∷ xs) =
-    elim (eq_by_cmp canonical_cmp y k) as (λ b. eq_by_cmp canonical_cmp y k ≡ b → list_any p (cond b (dedup_from (eq_by_cmp canonical_cmp) k xs) (k ∷ dedup_from (eq_by_cmp canonical_cmp) y xs)) ≡ (p k || (p y || list_any p xs))) [
-      | true ↦ λ e. any_dedup_from p f k xs ∙ twice (p k) (p y) (list_any p xs) (f y k (ties y k ∙ e))
-      | false ↦ λ e. ap (λ b. p k || b) (any_dedup_from p f y xs)
-    ] refl
-  where
-    twice : (a b c : Bool) → b ≡ a → (a || c) ≡ (a || (b || c))
-    twice true b c e = refl
-    twice false b c e = λ i. sym e i || c
+less : (r : Ordering) → is_lt r ≡ true → r ≡ Less
+less Less e = refl
+less Equal e = absurd (false≢true e)
+less Greater e = absurd (false≢true e)
 
-pub any_dedup : (x : Name) (xs : List Name) → list_any (λ n. same_name n x) (dedup (eq_by_cmp canonical_cmp) xs) ≡ list_any (λ n. same_name n x) xs
-any_dedup x [] = refl
-any_dedup x (y ∷ xs) = any_dedup_from (λ n. same_name n x) (λ m n e. ap (λ k. same_lowered k (lowered x)) (one_lowered m n e)) y xs
-
--- ---- owners are taken out in one walk over both lists
-
--- the owners before a place come before all of these
-abbrev pub ArePassed : List Name → ℕ → List Name → Type 0
-ArePassed owners at names = (j : ℕ) (d : Name) → j < at → AllByRecursion (λ m. before (get_or owners j d) m ≡ true) names
-
-pub sorted_rest : (n : Name) (rest : List Name) → IsStrictlySortedBy canonical_cmp (n ∷ rest) → IsStrictlySortedBy canonical_cmp rest
+pub sorted : (ks : List Name) → IsAscending before ks → IsStrictlySortedBy canonical_cmp ks
 unfolding IsStrictlySortedBy
-sorted_rest n rest s = s.1
+sorted [] h = tt
+sorted (k ∷ ks) h = (weaker (λ y. before k y ≡ true) (λ y. canonical_cmp k y ≡ Less) (λ y e. less (canonical_cmp k y) e) ks h.0, sorted ks h.1)
 
-all_after : (n : Name) (rest : List Name) → IsStrictlySortedBy canonical_cmp (n ∷ rest) → AllByRecursion (λ m. before n m ≡ true) rest
+ascending : (ks : List Name) → IsStrictlySortedBy canonical_cmp ks → IsAscending before ks
 unfolding IsStrictlySortedBy
-all_after n rest s = weaker (λ m. canonical_cmp n m ≡ Less) (λ m. before n m ≡ true) (λ m l. ap is_lt l) rest s.0
+ascending [] h = tt
+ascending (k ∷ ks) h = (weaker (λ y. canonical_cmp k y ≡ Less) (λ y. before k y ≡ true) (λ y e. ap is_lt e) ks h.0, ascending ks h.1)
 
--- the next place, up to which owners come before the next name
-pub pass_on : (owners : List Name) (from at : ℕ) (n : Name) (rest : List Name) → IsStrictlySortedBy canonical_cmp (n ∷ rest) → ArePassed owners from (n ∷ rest)
-    → ((j : ℕ) (d : Name) → from ≤ j → j < at → before (get_or owners j d) n ≡ true) → ((j : ℕ) (d : Name) → j < at → before (get_or owners j d) n ≡ true) × ArePassed owners at rest
-pass_on owners from at n rest s p more = (
-  λ j d l. elim (cases_lt j from) [ inl k ↦ (p j d k).0 | inr k ↦ more j d k l ],
-  λ j d l. elim (cases_lt j from) [
-    | inl k ↦ (p j d k).1
-    | inr k ↦ weaker (λ m. before n m ≡ true) (λ m. before (get_or owners j d) m ≡ true) (λ m e. lt_trans before_order (get_or owners j d) n m (more j d k l) e) rest (all_after n rest s)
-  ],
-)
+ascending_both : (xs ys : List Name) → IsAscending before xs → IsAscending before ys → AllByRecursion (λ x. AllByRecursion (λ y. before x y ≡ true) ys) xs → IsAscending before (xs ++ ys)
+ascending_both [] ys h k across = k
+ascending_both (x ∷ xs) ys h k across = (all_both (λ y. before x y ≡ true) xs ys h.0 across.0, ascending_both xs ys h.1 k across.1)
+
+both : (P Q : Name → Type 0) (xs : List Name) → AllByRecursion P xs → AllByRecursion Q xs → AllByRecursion (λ x. P x × Q x) xs
+both P Q [] p q = tt
+both P Q (x ∷ xs) p q = ((p.0, q.0), both P Q xs p.1 q.1)
+
+-- ---- the names above one owner
+
+-- a name above an owner comes before it
+above_before : (n : ℕ) (o : Name) → AllByRecursion (λ m. before m o ≡ true) (above_with_more n o)
+above_before n o =
+    weaker (IsAbove n o) (λ m. before m o ≡ true)
+    (λ m h. after_or m o (below_from o m h.0) (not-true (same_name o m) (and_parts (is_at_or_below o m) (not (same_name o m)) (strictly_from o m h.0 h.1)).1))
+    (above_with_more n o) (are_above n o)
+
+above_ascend : (n : ℕ) (o : Name) → IsAscending before (above_with_more n o)
+above_ascend n [] = tt
+above_ascend n (label ∷ x) =
+    elim (nat_lt n (length x)) as (λ b. IsAscending before (cond b (above_with_more n x ++ x ∷ []) [])) [
+      | true ↦ ascending_both (above_with_more n x) (x ∷ []) (above_ascend n x) (tt, tt) (weaker (λ m. before m x ≡ true) (λ m. AllByRecursion (λ y. before m y ≡ true) (x ∷ [])) (λ m e. (e, tt)) (above_with_more n x) (above_before n x))
+      | false ↦ tt
+    ]
+
+-- those that an owner doesn't share with a name before it come after that name
+above_after : (p o : Name) → before p o ≡ true → AllByRecursion (λ m. before p m ≡ true) (above_with_more (common_labels o p) o)
+above_after p o b =
+    weaker (IsAbove (common_labels o p) o) (λ m. before p m ≡ true)
+    (λ m h. elim (cases_Bool (before p m)) [
+      | inl e ↦ e
+      | inr e ↦
+          let below : is_at_or_below p m ≡ true = below_between o m p h.0 e (before_order.one_way p o b) in
+          let few : length m ≤ common_labels o p = leb-true (length m) (common_labels o p) (sym (common_shares o p (common_labels o p) refl m h.0) ∙ below) in
+          let many : common_labels o p < length m = h.2 in
+          absurd (omega arith)
+    ])
+    (above_with_more (common_labels o p) o) (are_above (common_labels o p) o)
+
+-- ---- those above each owner that it doesn't share with the one before it
+
+abbrev pub gathered : Name → List Name → List Name
+gathered p [] = []
+gathered p (o ∷ os) = above_with_more (common_labels o p) o ++ gathered o os
+
+pub gathered_step : (names names' : List Name) (p o : Name) (s : ℕ) (left rest all : List Name) → left ≡ o ∷ rest → s ≡ common_labels o p → names' ≡ names ++ above_with_more s o → names ++ gathered p left ≡ all → names' ++ gathered o rest ≡ all
+gathered_step names names' p o s left rest all left_is shared pushed h =
+    ap (λ l. l ++ gathered o rest) pushed ∙ append_assoc names (above_with_more s o) (gathered o rest) ∙ (λ i. names ++ (above_with_more (shared i) o ++ gathered o rest)) ∙ ap (λ l. names ++ gathered p l) (sym left_is) ∙ h
+
+gathered_after : (p : Name) (os : List Name) → IsAscending before (p ∷ os) → AllByRecursion (λ m. before p m ≡ true) (gathered p os)
+gathered_after p [] h = tt
+gathered_after p (o ∷ os) h =
+    all_both (λ m. before p m ≡ true) (above_with_more (common_labels o p) o) (gathered o os) (above_after p o h.0.0)
+    (weaker (λ m. before o m ≡ true) (λ m. before p m ≡ true) (λ m e. lt_trans before_order p o m h.0.0 e) (gathered o os) (gathered_after o os h.1))
+
+gathered_ascend : (p : Name) (os : List Name) → IsAscending before os → IsAscending before (gathered p os)
+gathered_ascend p [] h = tt
+gathered_ascend p (o ∷ os) h =
+    ascending_both (above_with_more (common_labels o p) o) (gathered o os) (above_ascend (common_labels o p) o) (gathered_ascend o os h.1)
+    (weaker (λ m. before m o ≡ true) (λ m. AllByRecursion (λ y. before m y ≡ true) (gathered o os))
+    (λ m e. weaker (λ y. before o y ≡ true) (λ y. before m y ≡ true) (λ y f. lt_trans before_order m o y e f) (gathered o os) (gathered_after o os h)) (above_with_more (common_labels o p) o) (above_before (common_labels o p) o))
 
 none_same : (o n : Name) (os : List Name) → before n o ≡ true → AllByRecursion (λ m. before o m ≡ true) os → list_any (λ m. same_name m n) os ≡ false
 none_same o n [] e h = refl
 none_same o n (m ∷ os) e h = λ i. apart_right n m (lt_trans before_order n o m e h.0) i || none_same o n os e h.1 i
 
--- whether a name is an owner is told at the first place that is not before it
-pub told_at : (owners : List Name) (at : ℕ) (n : Name) (b : Bool) → IsStrictlySortedBy canonical_cmp owners → ((j : ℕ) (d : Name) → j < at → before (get_or owners j d) n ≡ true) → (at < length owners → (d : Name) → before (get_or owners at d) n ≡ false)
-    → (b ≡ true → (at < length owners) × ((d : Name) → same_name (get_or owners at d) n ≡ true)) → (b ≡ false → at < length owners → (d : Name) → same_name (get_or owners at d) n ≡ false) → b ≡ list_any (λ m. same_name m n) owners
-unfolding IsStrictlySortedBy
-told_at [] at n true s p q is isnt = let k = (is refl).0 in absurd (omega arith)
-told_at [] at n false s p q is isnt = refl
-told_at (o ∷ os) zero n true s p q is isnt = sym (λ i. (is refl).1 o i || list_any (λ m. same_name m n) os)
-told_at (o ∷ os) zero n false s p q is isnt =
-    let f = isnt refl (omega arith) o in
-    sym (λ i. f i || none_same o n os (after_or n o (q (omega arith) o) f) (all_after o os s) i)
-told_at (o ∷ os) (suc at) n b s p q is isnt =
-    told_at os at n b s.1 (λ j d l. p (suc j) d (omega arith)) (λ l d. q (omega arith) d) (λ t. let y = is t in (omega (arith, y.0), y.1)) (λ t l d. isnt t (omega arith) d)
-    ∙ sym (λ i. apart_left o n (p 0 o (omega arith)) i || list_any (λ m. same_name m n) os)
-
--- one more name is looked at
-pub kept_step : (p : Name → Bool) (old new : List Name) (n : Name) (rest left all : List Name) → left ≡ n ∷ rest → new ≡ old ++ cond (p n) (n ∷ []) [] → old ++ filter p left ≡ all → new ++ filter p rest ≡ all
-kept_step p old new n rest left all is pushed h =
-    ap (λ l. l ++ filter p rest) pushed ∙ append_assoc old (cond (p n) (n ∷ []) []) (filter p rest)
-    ∙ elim (p n) as (λ b. old ++ (cond b (n ∷ []) [] ++ filter p rest) ≡ old ++ cond b (n ∷ filter p rest) (filter p rest)) [ true ↦ refl | false ↦ refl ]
-    ∙ ap (λ l. old ++ filter p l) (sym is) ∙ h
-
-pub kept_end : (p : Name → Bool) (kept left all : List Name) → left ≡ [] → kept ++ filter p left ≡ all → kept ≡ all
-kept_end p kept left all none h = sym (append-nil kept) ∙ ap (λ l. kept ++ filter p l) (sym none) ∙ h
-
--- the owners before a place come before all names that are left, and those so far that are none are kept
-pub record Merging (owners names done left : List Name) (at : ℕ) : Type 0 where
-  pub kept : done ++ filter (λ n. not (list_any (λ m. same_name m n) owners)) left ≡ filter (λ n. not (list_any (λ m. same_name m n) owners)) names
-  pub sorted : IsStrictlySortedBy canonical_cmp left
-  pub passed : ArePassed owners at left
-  pub within : at ≤ length owners
-
-pub merge_start : (owners names : List Name) → IsStrictlySortedBy canonical_cmp names → Merging owners names [] names 0
-merge_start owners names up = record { kept = refl; sorted = up; passed = λ j d l. absurd (omega arith); within = omega arith }
-
-pub merge_end : (owners names kept left : List Name) (at : ℕ) → left ≡ [] → Merging owners names kept left at → kept ≡ filter (λ n. not (list_any (λ m. same_name m n) owners)) names
-merge_end owners names kept left at none s = kept_end (λ n. not (list_any (λ m. same_name m n) owners)) kept left _ none s.kept
-
-module _ (owners names kept left : List Name) (from at : ℕ) (n : Name) (rest : List Name) (s : Merging owners names kept left from) (are : left ≡ n ∷ rest) (up : IsStrictlySortedBy canonical_cmp owners) (within : at ≤ length owners)
-    (more : (j : ℕ) (d : Name) → from ≤ j → j < at → before (get_or owners j d) n ≡ true) (stands : at < length owners → (d : Name) → before (get_or owners at d) n ≡ false)
-    (b : Bool) (here : b ≡ true → at < length owners) (one : b ≡ true → (d : Name) → same_name (get_or owners at d) n ≡ true) (other : b ≡ false → at < length owners → (d : Name) → same_name (get_or owners at d) n ≡ false) where
-  sorted_left : IsStrictlySortedBy canonical_cmp (n ∷ rest)
-  sorted_left = subst (IsStrictlySortedBy canonical_cmp) are s.sorted
-
-  on : ((j : ℕ) (d : Name) → j < at → before (get_or owners j d) n ≡ true) × ArePassed owners at rest
-  on = pass_on owners from at n rest sorted_left (subst (ArePassed owners from) are s.passed) more
-
-  member : b ≡ list_any (λ m. same_name m n) owners
-  member = told_at owners at n b up on.0 stands (λ t. (here t, one t)) other
-
-  step : (kept' : List Name) → kept' ≡ kept ++ cond (not b) (n ∷ []) [] → Merging owners names kept' rest at
-  step kept' pushed = record {
-    kept = kept_step (λ n. not (list_any (λ m. same_name m n) owners)) kept kept' n rest left _ are (pushed ∙ ap (λ t. kept ++ cond (not t) (n ∷ []) []) member) s.kept;
-    sorted = sorted_rest n rest sorted_left;
-    passed = on.1;
-    within = within;
-  }
-
-  pub merge_out : b ≡ true → Merging owners names kept rest at
-  merge_out t = step kept (sym (append-nil kept) ∙ ap (λ t. kept ++ cond (not t) (n ∷ []) []) (sym t))
-
-  pub merge_in : (kept' : List Name) → b ≡ false → kept' ≡ kept ++ n ∷ [] → Merging owners names kept' rest at
-  merge_in kept' t pushed = step kept' (pushed ∙ ap (λ t. kept ++ cond (not t) (n ∷ []) []) (sym t))
+gathered_apart : (p : Name) (os : List Name) → IsAscending before os → AllByRecursion (λ m. list_any (λ n. same_name n m) os ≡ false) (gathered p os)
+gathered_apart p [] h = tt
+gathered_apart p (o ∷ os) h =
+    all_both (λ m. list_any (λ n. same_name n m) (o ∷ os) ≡ false) (above_with_more (common_labels o p) o) (gathered o os)
+    (weaker (λ m. before m o ≡ true) (λ m. list_any (λ n. same_name n m) (o ∷ os) ≡ false) (λ m e. (λ i. apart_right m o e i || none_same o m os e h.0 i)) (above_with_more (common_labels o p) o) (above_before (common_labels o p) o))
+    (weaker (λ m. (before o m ≡ true) × (list_any (λ n. same_name n m) os ≡ false)) (λ m. list_any (λ n. same_name n m) (o ∷ os) ≡ false) (λ m e. (λ i. apart_left o m e.0 i || e.1 i)) (gathered o os)
+    (both (λ m. before o m ≡ true) (λ m. list_any (λ n. same_name n m) os ≡ false) (gathered o os) (gathered_after o os h) (gathered_apart o os h.1)))
 
 -- the names above the owners, without the owners
-module _ (a : Name) (owners collected names kept : List Name) (h : HoldsAncestors a owners collected) (s : IsStrictlySortedBy canonical_cmp names) (alike : (x : Name) → list_any (λ n. same_name n x) names ≡ list_any (λ n. same_name n x) collected) (apex : list_any (λ n. same_name n a) owners ≡ true) where
+module _ (a : Name) (owners names : List Name) (h : HoldsAncestors a owners names) (apex : list_any (λ n. same_name n a) owners ≡ true) where
   left_are : (x : Name) → list_any (λ n. same_name n x) (filter (λ n. not (list_any (λ m. same_name m n) owners)) names) ≡ is_empty_nonterminal owners a x
   left_are x =
       any_filter (λ n. same_name n x) (λ n. not (list_any (λ m. same_name m n) owners)) names
@@ -143,7 +121,7 @@ module _ (a : Name) (owners collected names kept : List Name) (h : HoldsAncestor
       let m = any_in (λ n. not (list_any (λ m. same_name m n) owners) && same_name n x) names e in
       let p = and_parts (not (list_any (λ n. same_name n m.0) owners)) (same_name m.0 x) m.2 in
       let k = one_lowered m.0 x p.1 in
-      let there : list_any (λ n. same_name n x) collected ≡ true = sym (alike x) ∙ in_any (λ n. same_name n x) names m.0 m.1 p.1 in
+      let there : list_any (λ n. same_name n x) names ≡ true = in_any (λ n. same_name n x) names m.0 m.1 p.1 in
       and_from (is_at_or_below x a && not (list_any (λ n. same_name n x) owners)) (list_any (λ n. is_strictly_below n x) owners)
       (and_from (is_at_or_below x a) (not (list_any (λ n. same_name n x) owners)) (and_parts (is_at_or_below x a) (not (same_name x a)) (h.below x there)).0 (ap (λ q. not (list_any (λ n. same_lowered (lowered n) q) owners)) (sym k) ∙ p.0))
       (h.above x there))
@@ -155,17 +133,23 @@ module _ (a : Name) (owners collected names kept : List Name) (h : HoldsAncestor
         | inl t ↦ absurd (false≢true (sym none ∙ ap (λ k. list_any (λ n. same_lowered (lowered n) k) owners) (one_lowered x a t) ∙ apex))
         | inr t ↦ ap not t
       ]) in
-      elim (or_cases (list_any (λ n. same_name n x) owners) (list_any (λ n. same_name n x) collected)
+      elim (or_cases (list_any (λ n. same_name n x) owners) (list_any (λ n. same_name n x) names)
       (h.each x below (any_weaker (λ n. is_strictly_below n x) (λ n. is_at_or_below n x) (λ n t. (and_parts (is_at_or_below n x) (not (same_name n x)) t).0) owners p.1))) [
         | inl t ↦ absurd (false≢true (sym none ∙ t))
         | inr t ↦
-            let m = any_in (λ n. same_name n x) names (alike x ∙ t) in
+            let m = any_in (λ n. same_name n x) names t in
             in_any (λ n. not (list_any (λ m. same_name m n) owners) && same_name n x) names m.0 m.1
             (and_from (not (list_any (λ n. same_name n m.0) owners)) (same_name m.0 x) (ap (λ k. not (list_any (λ n. same_lowered (lowered n) k) owners)) (one_lowered m.0 x m.2) ∙ q.1) m.2)
       ])
 
-  pub listed : kept ≡ filter (λ n. not (list_any (λ m. same_name m n) owners)) names → IsListOf (is_empty_nonterminal owners a) kept
-  listed e = record {
-    ascend = rw e (IsStrictlySortedBy-filter canonical_cmp _ names s);
-    exactly = λ x. ap (list_any (λ n. same_name n x)) e ∙ left_are x;
-  }
+  pub listed : names ≡ gathered a owners → IsStrictlySortedBy canonical_cmp owners → IsListOf (is_empty_nonterminal owners a) names
+  listed are up =
+      let up_owners = ascending owners up in
+      let whole : filter (λ n. not (list_any (λ m. same_name m n) owners)) names ≡ names =
+      filter_whole (λ n. not (list_any (λ m. same_name m n) owners)) names
+      (subst (AllByRecursion (λ n. not (list_any (λ m. same_name m n) owners) ≡ true)) (sym are)
+      (weaker (λ n. list_any (λ m. same_name m n) owners ≡ false) (λ n. not (list_any (λ m. same_name m n) owners) ≡ true) (λ n e. ap not e) (gathered a owners) (gathered_apart a owners up_owners))) in
+      record {
+        ascend = subst (IsStrictlySortedBy canonical_cmp) (sym are) (sorted (gathered a owners) (gathered_ascend a owners up_owners));
+        exactly = λ x. ap (list_any (λ n. same_name n x)) (sym whole) ∙ left_are x;
+      }

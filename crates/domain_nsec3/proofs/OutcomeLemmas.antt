@@ -3,10 +3,7 @@ use Rattle.std.proofs.Common.{◌≡◌, Bool, true, false, not, ◌&&◌, List,
 use Rattle.std.specs.Prelude.{All, filter}
 use Rattle.std.specs.List.{AllByRecursion, list_any}
 use Rattle.std.specs.List.Sorted.{IsStrictlySortedBy}
-use Rattle.std.specs.Ordering.{is_lt}
-use Rattle.std.specs.declared.cmp.Ordering.{Ordering}
-use Rattle.std.specs.declared.cmp.Ordering.TheVariants.{Less, Equal, Greater}
-use Rattle.std.proofs.lemmas.Bool.{false≢true, and_parts, and_from, not-true}
+use Rattle.std.proofs.lemmas.Bool.{and_parts, and_from, not-true}
 use Rattle.std.proofs.lemmas.List.Elements.{All-from_recursion}
 use Rattle.domain_base.specs.Order.{canonical_cmp, before}
 use Rattle.domain_records.specs.Errors.{signing_error_of}
@@ -21,7 +18,7 @@ use Rattle.domain_zone.specs.Zone.{ZoneRecord, OwnersNeverDescend, records_of, o
 use Rattle.domain_zone.specs.declared.soa.ApexSoa.{ApexSoa}
 use Rattle.domain_zone.proofs.NameLemmas.{same_itself, below_itself, lowered_below, same_lowered}
 use Rattle.domain_zone.proofs.OwnerLemmas.{any_filter, any_owner, apex_unoccluded, ascending_filter, in_any, owners_are, owners_ascend}
-use Rattle.domain_zone.proofs.PairLemmas.{IsAscending, all_from_in}
+use Rattle.domain_zone.proofs.PairLemmas.{all_from_in}
 use Rattle.domain_zone.proofs.ZoneLemmas.{all_filter, weaker}
 use Rattle.domain_nsec3.specs.Ancestors.{IsListOf}
 use Rattle.domain_nsec3.specs.Chain.{HashedLink, IsHashedChain}
@@ -32,18 +29,9 @@ use Rattle.domain_nsec3.specs.Steps.{Common, Entry, without_types, AreOriginalOw
 use Rattle.domain_nsec3.proofs.ChainLemmas.{chain_of_zone}
 use Rattle.domain_nsec3.proofs.EntryLemmas.{are_chain_names, names_joined}
 use Rattle.domain_nsec3.proofs.FaultLemmas.{Pairwise, hashed_in_order, first_fault, hashing_fault, all_hashed, collides}
+use Rattle.domain_nsec3.proofs.ListLemmas.{sorted}
 
 -- ---- the owners of a zone in order
-
-less : (r : Ordering) → is_lt r ≡ true → r ≡ Less
-less Less e = refl
-less Equal e = absurd (false≢true e)
-less Greater e = absurd (false≢true e)
-
-sorted : (ks : List Name) → IsAscending before ks → IsStrictlySortedBy canonical_cmp ks
-unfolding IsStrictlySortedBy
-sorted [] h = tt
-sorted (k ∷ ks) h = (weaker (λ y. before k y ≡ true) (λ y. canonical_cmp k y ≡ Less) (λ y e. less (canonical_cmp k y) e) ks h.0, sorted ks h.1)
 
 module _ (L : List ZoneRecord) (a : Name) (config : ChainConfig) where
   pub original_ascend : OwnersNeverDescend L → IsStrictlySortedBy canonical_cmp (original_owners L a config)

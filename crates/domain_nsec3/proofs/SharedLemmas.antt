@@ -1,5 +1,5 @@
 -- How many labels two names share: the names above one that are above the other too are those with at most as many.
-use Rattle.std.proofs.Common.{◌≡◌, ℕ, ◌+◌, ◌≤◌, Bool, true, false, cond, ◌&&◌, not, ◌||◌, List, [], ◌∷◌, ◌++◌, length, reverse, refl, sym, ap, ◌∙◌, arith, inl, inr, nat_eq}
+use Rattle.std.proofs.Common.{◌≡◌, ℕ, ◌+◌, ◌≤◌, Bool, true, false, cond, ◌&&◌, not, ◌||◌, [], ◌∷◌, ◌++◌, length, reverse, refl, sym, ap, ◌∙◌, arith, inl, inr, nat_eq}
 use Rattle.std.specs.Prelude.{nat_le}
 use Rattle.std.specs.Cmp.Lexicographic.{pointwise, bytes_decides}
 use Rattle.std.specs.List.{common_prefix_len}
@@ -7,7 +7,7 @@ use Rattle.std.proofs.lemmas.Bool.{cases_Bool, false≢true, true≢false, and_p
 use Rattle.std.proofs.lemmas.Bool.Decides.{nat_tests}
 use Rattle.std.proofs.lemmas.List.{length-reverse, length-map}
 use Rattle.domain_base.specs.Laws.{from_root-below, below-from_root}
-use Rattle.domain_base.specs.Name.{is_at_or_below, lowered, IsAtOrBelow}
+use Rattle.domain_base.specs.Name.{is_at_or_below, lowered}
 use Rattle.domain_base.specs.Order.{common_labels, from_root}
 use Rattle.domain_base.specs.Words.{Label, Name}
 use Rattle.domain_zone.proofs.NameLemmas.{one_lowered, same_is, below_back, below_there, below_itself, below_trans, below_from, below_longer, below_parent}

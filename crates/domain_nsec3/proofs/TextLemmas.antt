@@ -1,9 +1,9 @@
 -- The text of a hash as a label.
-use Rattle.std.proofs.Common.{◌≡◌, ℕ, ◌+◌, ◌*◌, ◌%◌, ◌<◌, ◌≤◌, List, [], ◌∷◌, ◌++◌, map, length, refl, inl, inr, sym, ap, ◌∙◌, subst, arith, length-append, get_or, Fits, w8}
-use Rattle.std.specs.Prelude.{All, nat_lt, true, false, if◌then◌else◌}
+use Rattle.std.proofs.Common.{◌≡◌, ℕ, ◌+◌, ◌*◌, ◌/◌, ◌%◌, ◌<◌, ◌≤◌, List, [], ◌∷◌, ◌++◌, map, length, refl, inl, inr, sym, ap, ◌∙◌, subst, arith, length-append, get_or, set, take, Fits, w8}
+use Rattle.std.specs.Prelude.{All, Some, None, Ok, nat_lt, ◌==◌, ◌||◌, true, false, if◌then◌else◌}
 use Rattle.std.specs.Char.{to_ascii_lowercase}
 use Rattle.std.specs.List.{AllByRecursion}
-use Rattle.std.proofs.lemmas.Bool.{cases_Bool}
+use Rattle.std.proofs.lemmas.Bool.{cases_Bool, cases_lt, or_right}
 use Rattle.std.proofs.lemmas.Bool.Decides.{nat_tests}
 use Rattle.std.proofs.lemmas.List.Elements.{recursion_from_All, All-from_recursion}
 use Rattle.std.proofs.lemmas.List.{length-map, get_or_default}
@@ -12,7 +12,10 @@ use Rattle.domain_base.specs.Name.{wire_of, IsName}
 use Rattle.domain_base.specs.Wire.{labels_of, IsWire}
 use Rattle.domain_base.proofs.WireLemmas.{IsWire-wire_of, labels_of-wire_of, wire_is}
 use Rattle.domain_base.specs.Words.{Name}
+use Rattle.domain_records.specs.declared.error.Nsec3HashError.TheVariants.{OwnerHashError, Nsec3NameTooLong}
 use Rattle.domain_nsec3.specs.Chain.{hashed_owner}
+use Rattle.domain_nsec3.specs.Faults.{hash_fault}
+use Rattle.domain_nsec3.proofs.AncestorLemmas.{less, not_less}
 
 -- five bits a digit, after bits that are left over
 mutual
@@ -38,15 +41,32 @@ mutual
   digits_16 rest [] = omega arith
   digits_16 rest (o ∷ h) = let more = digits_4 ((256 * rest + o) % 128 % 4) h in omega arith
 
-some_digits : (h : List ℕ) → 0 < length h → 0 < length (base32_from 1 0 h)
-unfolding base32_from
-some_digits [] some = absurd (omega arith)
-some_digits (o ∷ h) some = omega arith
+mutual
+  unfolding base32_from
 
-pub text_length : (h : List ℕ) → 0 < length h → length h ≤ 39 → (0 < length (base32_lower h)) × (length (base32_lower h) ≤ 63)
-text_length h some short =
-    let same = length-map (base32_from 1 0 h) lower_digit in
-    (omega (arith, same, some_digits h some), omega (arith, same, digits_1 0 h))
+  least_1 : (rest : ℕ) (h : List ℕ) → 8 * length h ≤ 5 * length (base32_from 1 rest h)
+  least_1 rest [] = omega arith
+  least_1 rest (o ∷ h) = let more = least_8 ((256 * rest + o) % 8) h in omega arith
+
+  least_2 : (rest : ℕ) (h : List ℕ) → 8 * length h + 1 ≤ 5 * length (base32_from 2 rest h)
+  least_2 rest [] = omega arith
+  least_2 rest (o ∷ h) = let more = least_16 ((256 * rest + o) % 16) h in omega arith
+
+  least_4 : (rest : ℕ) (h : List ℕ) → 8 * length h + 2 ≤ 5 * length (base32_from 4 rest h)
+  least_4 rest [] = omega arith
+  least_4 rest (o ∷ h) = let more = least_1 ((256 * rest + o) % 32 % 1) h in omega arith
+
+  least_8 : (rest : ℕ) (h : List ℕ) → 8 * length h + 3 ≤ 5 * length (base32_from 8 rest h)
+  least_8 rest [] = omega arith
+  least_8 rest (o ∷ h) = let more = least_2 ((256 * rest + o) % 64 % 2) h in omega arith
+
+  least_16 : (rest : ℕ) (h : List ℕ) → 8 * length h + 4 ≤ 5 * length (base32_from 16 rest h)
+  least_16 rest [] = omega arith
+  least_16 rest (o ∷ h) = let more = least_4 ((256 * rest + o) % 128 % 4) h in omega arith
+
+-- how many digits a hash has
+text_length : (h : List ℕ) → length (base32_lower h) ≡ (8 * length h + 4) / 5
+text_length h = omega (arith, length-map (base32_from 1 0 h) lower_digit, least_1 0 h, digits_1 0 h)
 
 -- each digit has five bits
 mutual
@@ -97,34 +117,92 @@ text_octets h all = All-from_recursion (λ o. o < 256) (base32_lower h) (digits_
 pub lower_text : (h : List ℕ) → All (λ o. o < 256) h → map to_ascii_lowercase (base32_lower h) ≡ base32_lower h
 lower_text h all = digits_lower (base32_from 1 0 h) (small_1 0 h (omega arith) (recursion_from_All (λ o. o < 256) h all))
 
--- a hash as a label before a name
+-- ---- when a hash is of use
+
+pub owner_length : (a : Name) (h above : List ℕ) → IsWire above → labels_of above ≡ a → length (wire_of (hashed_owner a h)) ≡ (8 * length h + 4) / 5 + 1 + length above
+owner_length a h above w l =
+    let same : wire_of a ≡ above = ap wire_of (sym l) ∙ wire_is above w in
+    omega (arith, length-append (base32_lower h) (wire_of a), ap length same, text_length h)
+
+is_none : (n : ℕ) → n ≡ 0 → (n == 0) ≡ true
+is_none n h = grind (arith, nat_tests)
+
+is_some : (n : ℕ) → 0 < n → (n == 0) ≡ false
+is_some n h = grind (arith, nat_tests)
+
+pub more_than_none : (n : ℕ) → (n == 0) ≡ false → 0 < n
+more_than_none n h = grind (arith, nat_tests)
+
+module _ (a : Name) (h : List ℕ) where
+  pub fault_none : length h ≡ 0 → hash_fault a (Ok h) ≡ Some OwnerHashError
+  fault_none e = λ i. if is_none (length h) e i || nat_lt 39 (length h) then Some OwnerHashError else if nat_lt 255 (length (wire_of (hashed_owner a h))) then Some Nsec3NameTooLong else None
+
+  pub fault_long : 39 < length h → hash_fault a (Ok h) ≡ Some OwnerHashError
+  fault_long l = ap (λ b. if b then Some OwnerHashError else if nat_lt 255 (length (wire_of (hashed_owner a h))) then Some Nsec3NameTooLong else None) (or_right (length h == 0) (nat_lt 39 (length h)) (less 39 (length h) l))
+
+  pub fault_name : 0 < length h → length h ≤ 39 → 255 < length (wire_of (hashed_owner a h)) → hash_fault a (Ok h) ≡ Some Nsec3NameTooLong
+  fault_name some short long =
+      λ i. if is_some (length h) some i || not_less 39 (length h) short i then Some OwnerHashError else if less 255 (length (wire_of (hashed_owner a h))) long i then Some Nsec3NameTooLong else None
+
+  pub fault_free : 0 < length h → length h ≤ 39 → length (wire_of (hashed_owner a h)) ≤ 255 → hash_fault a (Ok h) ≡ None
+  fault_free some short fits =
+      λ i. if is_some (length h) some i || not_less 39 (length h) short i then Some OwnerHashError else if not_less 255 (length (wire_of (hashed_owner a h))) fits i then Some Nsec3NameTooLong else None
+
+  pub sound_some : hash_fault a (Ok h) ≡ None → 0 < length h
+  sound_some e = elim (cases_lt 0 (length h)) [
+    | inl l ↦ l
+    | inr l ↦ let told : Some OwnerHashError ≡ None = sym (fault_none (omega arith)) ∙ e in absurd (cc)
+  ]
+
+  pub sound_short : hash_fault a (Ok h) ≡ None → length h ≤ 39
+  sound_short e = elim (cases_lt 39 (length h)) [
+    | inl l ↦ let told : Some OwnerHashError ≡ None = sym (fault_long l) ∙ e in absurd (cc)
+    | inr l ↦ l
+  ]
+
+  pub sound_fits : hash_fault a (Ok h) ≡ None → length (wire_of (hashed_owner a h)) ≤ 255
+  sound_fits e = elim (cases_lt 255 (length (wire_of (hashed_owner a h)))) [
+    | inl l ↦ let told : Some Nsec3NameTooLong ≡ None = sym (fault_name (sound_some e) (sound_short e) l) ∙ e in absurd (cc)
+    | inr l ↦ l
+  ]
+
+-- ---- a hash as a label before a name
+
+pub octets_below : (h : List ℕ) → ((i : ℕ) → Fits w8 (get_or h i 0)) → All (λ o. o < 256) h
+octets_below h f k d l = subst (λ (o : ℕ). o < 256) (get_or_default h k 0 d l) (let fits = f k in omega arith)
+
+-- a label with its length, and a name after it, in a buffer
+pub first_set : (xs : List ℕ) (n : ℕ) → 0 < length xs → take 1 (set xs 0 n) ≡ n ∷ []
+first_set [] n h = absurd (omega arith)
+first_set (x ∷ xs) n h = refl
+
+-- there is room for the owner of a hash of use
+pub owner_room : (a : Name) (hash label above : List ℕ) → IsWire above → labels_of above ≡ a → hash_fault a (Ok hash) ≡ None → label ≡ base32_lower hash → (0 < length label) × (length label ≤ 63) × (length label + 1 + length above ≤ 255)
+owner_room a hash label above w l sound is =
+    let some = sound_some a hash sound in
+    let short = sound_short a hash sound in
+    let fits = sound_fits a hash sound in
+    let all = owner_length a hash above w l in
+    let digits = ap length is ∙ text_length hash in
+    (omega arith, omega arith, omega arith)
+
 pub record IsOwnerWire (a : Name) (hash wire : List ℕ) : Type 0 where
   pub is_wire : IsWire wire
   pub labels : labels_of wire ≡ hashed_owner a hash
-  pub short : length (wire_of (hashed_owner a hash)) ≤ 255
 
-owner_wire : (a : Name) (hash above wire : List ℕ) → IsWire above → labels_of above ≡ a → 0 < length (base32_lower hash) → length (base32_lower hash) ≤ 63 → All (λ o. o < 256) (base32_lower hash) → length (base32_lower hash) + 1 + length above ≤ 255 → wire ≡ length (base32_lower hash) ∷ (base32_lower hash ++ above) → IsOwnerWire a hash wire
-owner_wire a hash above wire w l some short octets fits is =
-    let label = base32_lower hash in
-    let labels = labels_of above in
-    let long : wire_of labels ≡ above = wire_is above w in
-    let all : length (wire_of (base32_lower hash ∷ labels_of above)) ≤ 255 = omega (arith, length-append (base32_lower hash) (wire_of (labels_of above)), ap length long) in
-    let valid : IsName (label ∷ labels) = record {
-      of_labels = (record { not_empty = some; fits = short; octets = octets }, w.valid.of_labels);
-      fits = all;
+pub owner_made : (a : Name) (hash label above wire : List ℕ) → IsWire above → labels_of above ≡ a → hash_fault a (Ok hash) ≡ None → ((i : ℕ) → Fits w8 (get_or hash i 0)) → label ≡ base32_lower hash → wire ≡ length label ∷ (label ++ above) → IsOwnerWire a hash wire
+owner_made a hash label above wire w l sound octets is made =
+    let some = sound_some a hash sound in
+    let short = sound_short a hash sound in
+    let digits = text_length hash in
+    let long : wire_of (labels_of above) ≡ above = wire_is above w in
+    let fits : length (wire_of (base32_lower hash ∷ labels_of above)) ≤ 255 = subst (λ (x : Name). length (wire_of (base32_lower hash ∷ x)) ≤ 255) (sym l) (sound_fits a hash sound) in
+    let valid : IsName (base32_lower hash ∷ labels_of above) = record {
+      of_labels = (record { not_empty = omega arith; fits = omega arith; octets = text_octets hash (octets_below hash octets) }, w.valid.of_labels);
+      fits = fits;
     } in
-    let same : wire ≡ wire_of (label ∷ labels) = is ∙ ap (λ rest. length label ∷ (label ++ rest)) (sym long) in
+    let same : wire ≡ wire_of (base32_lower hash ∷ labels_of above) = made ∙ (λ i. length (is i) ∷ (is i ++ sym long i)) in
     record {
-      is_wire = subst IsWire (sym same) (IsWire-wire_of (label ∷ labels) valid);
-      labels = ap labels_of same ∙ labels_of-wire_of (label ∷ labels) valid ∙ ap (λ x. label ∷ x) l;
-      short = subst (λ (x : Name). length (wire_of (base32_lower hash ∷ x)) ≤ 255) l all;
+      is_wire = subst IsWire (sym same) (IsWire-wire_of (base32_lower hash ∷ labels_of above) valid);
+      labels = ap labels_of same ∙ labels_of-wire_of (base32_lower hash ∷ labels_of above) valid ∙ ap (λ x. base32_lower hash ∷ x) l;
     }
-
-pub octets_below : (h : List ℕ) → ((i : ℕ) → get_or h i 0 < 256) → All (λ o. o < 256) h
-octets_below h f k d l = subst (λ (o : ℕ). o < 256) (get_or_default h k 0 d l) (f k)
-
-pub owner_made : (a : Name) (hash label above wire : List ℕ) → IsWire above → labels_of above ≡ a → 0 < length hash → length hash ≤ 39 → ((i : ℕ) → Fits w8 (get_or hash i 0)) → label ≡ base32_lower hash → length label + 1 + length above ≤ 255 → wire ≡ length label ∷ (label ++ above) → IsOwnerWire a hash wire
-owner_made a hash label above wire w l some short octets is fits wire_is =
-    let long = text_length hash some short in
-    owner_wire a hash above wire w l long.0 long.1 (text_octets hash (octets_below hash (λ i. let f = octets i in omega arith)))
-    (omega (arith, ap length is)) (wire_is ∙ (λ i. length (is i) ∷ (is i ++ above)))

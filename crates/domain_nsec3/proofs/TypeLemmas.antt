@@ -7,7 +7,7 @@ use Rattle.domain_zone.specs.Zone.{ZoneRecord, lists_type}
 use Rattle.domain_nsec3.specs.Owners.{is_listed}
 
 -- a builder without octets holds nothing
-holds_nothing : (value : List ℕ) → value ≡ [] → (t : ℕ) → holds value t ≡ false
+pub holds_nothing : (value : List ℕ) → value ≡ [] → (t : ℕ) → holds value t ≡ false
 unfolding holds
 holds_nothing value e t = ap (λ v. holds v t) e
 

@@ -77,7 +77,8 @@ pub record IsHashedChain (L : List ZoneRecord) (a : Name) (config : ChainConfig)
       → list_any (λ n. same_name n.name x) names ≡ true
   pub ascend : IsStrictlySortedBy (slice_cmp nat_cmp) (map (λ n. n.hash) names)
   pub linked : map ends links ≡ map (ends_of a) (cycle (map (λ n. n.hash) names))
-  pub bits : map (λ k. k.bits) links ≡ map (λ n. bitmap_octets (nsec3_lists L a config n.name)) names
+  pub bits : map (λ k. k.bits) links
+      ≡ map (λ n. bitmap_octets (nsec3_lists L a config n.name)) names
   pub numbered : All (λ k. (k.class ≡ in_class) × (k.ttl ≡ chain_ttl numbers)) links
   pub told : All (λ k. (k.parameters ≡ config.parameters) × (k.flags ≡ config.flags)) links
 

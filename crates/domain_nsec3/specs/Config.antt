@@ -1,5 +1,5 @@
 -- How an NSEC3 chain is made, as its definitions see it.
-use Rattle.std.specs.Prelude.{ℕ, Bool, ◌&&◌, List, Result}
+use Rattle.std.specs.Prelude.{ℕ, Bool, ◌&&◌, Result}
 use Rattle.domain_octets.specs.Words.{Octets}
 use Rattle.domain_base.specs.Name.{wire_of, lowered}
 use Rattle.domain_chain_rdata.specs.OptOut.{is_opt_out}

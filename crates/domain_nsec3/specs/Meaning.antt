@@ -53,7 +53,8 @@ pub record IsMatchedOrCoveredOnce (L : List ZoneRecord) (a : Name) (config : Cha
   pub only : (j : ℕ) (k : HashedLink) (h : Octets) → IsRecordOf a links j k h
       → matches_or_covers octets_before h k.next v ≡ true → j ≡ place
   pub matched : matches octets_before hash v ≡ is_chain_name L a config x
-  pub bits : is_chain_name L a config x ≡ true → link.bits ≡ bitmap_octets (nsec3_lists L a config x)
+  pub bits : is_chain_name L a config x ≡ true
+      → link.bits ≡ bitmap_octets (nsec3_lists L a config x)
 
 -- that holds of each name at or below the apex, also one that no record holds, but those that share
 -- a hash with a name of the chain: the chain denies exactly what the zone does not hold

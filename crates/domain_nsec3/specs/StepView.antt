@@ -1,18 +1,40 @@
 -- How names with their types and hashes are seen.
 use Rattle.domain_chain_rdata.specs.declared.nsec3param.Nsec3param.{Nsec3param}
-use Rattle.std.specs.Prelude.{ℕ}
+use Rattle.std.specs.Prelude.{◌≡◌, ℕ, List, None, Ok, [], map, slice_index_or, All}
+use Rattle.domain_octets.specs.Words.{Octets}
 use Rattle.domain_base.specs.Words.{Name}
-use Rattle.domain_nsec3.specs.Steps.{Common, Entry, HashedEntry}
+use Rattle.domain_nsec3.specs.Chain.{HashedLink}
+use Rattle.domain_nsec3.specs.Faults.{hash_fault}
+use Rattle.domain_nsec3.specs.Steps.{Common, Entry, HashedEntry, HashedTypes, chain_links, entries_of, no_types, without_types}
 use Rattle.domain_nsec3.specs.View.{parameters_of}
-use Rattle.domain_nsec3.specs.declared.hash.Listed.{Listed}
+use Rattle.domain_nsec3.specs.declared.chain.HashedChain.{HashedChain}
 use Rattle.domain_nsec3.specs.declared.hash.Hashed.{Hashed}
+use Rattle.domain_nsec3.specs.declared.owners.Owners.{Owners}
 
-abbrev pub as_entry : {O : Type 0} → Listed O → Entry
-as_entry l = record { name = l.name; bits = l.types }
+abbrev pub as_entries : {O : Type 0} → Owners O → List Entry
+as_entries owners = entries_of owners.names.items owners.types.items
 
-abbrev pub as_hashed_entry : {O N : Type 0} → (N → Name) → Hashed O N → HashedEntry
-as_hashed_entry labels h =
-    record { name = h.name; hash = h.hash.items; owner = labels h.owner; bits = h.types }
+-- a hash and its place among these entries
+abbrev pub as_hashed_entry : List Entry → Hashed → HashedEntry
+as_hashed_entry entries h =
+    let entry = slice_index_or entries h.place (without_types []) in
+    record { name = entry.name; hash = h.hash; bits = entry.bits }
+
+-- the same without its name; these are the types of the first places, and there are no others
+abbrev pub as_hashed_types : List Octets → Hashed → HashedTypes
+as_hashed_types types h =
+    record { hash = h.hash; bits = slice_index_or types h.place no_types }
 
 abbrev pub common_of : {O : Type 0} → Nsec3param O → ℕ → Common
 common_of p ttl = record { ttl = ttl; parameters = parameters_of p; flags = p.flags }
+
+-- the links of a chain
+abbrev pub links_in : {N O : Type 0} → (N → Name) → HashedChain N O → Common → List HashedLink
+links_in labels chain p =
+    chain_links (labels chain.apex) p
+    (map (as_hashed_types chain.types.items) chain.hashed.items)
+
+-- all hashes of a chain are of use
+abbrev pub AreUsable : {N O : Type 0} → (N → Name) → HashedChain N O → Type 0
+AreUsable labels chain =
+    All (λ h. hash_fault (labels chain.apex) (Ok h.hash) ≡ None) chain.hashed.items

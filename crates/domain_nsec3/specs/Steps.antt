@@ -21,26 +21,41 @@ pub record Entry : Type 0 where
   pub name : Name
   pub bits : Octets
 
--- and with its hash, and the owner of its record
+-- and with its hash
 pub record HashedEntry : Type 0 where
   pub name : Name
   pub hash : Octets
-  pub owner : Name
+  pub bits : Octets
+
+-- a hash with the types of its name
+pub record HashedTypes : Type 0 where
+  pub hash : Octets
   pub bits : Octets
 
 abbrev pub without_hash : HashedEntry → Entry
 without_hash e = record { name = e.name; bits = e.bits }
 
+abbrev pub without_name : HashedEntry → HashedTypes
+without_name e = record { hash = e.hash; bits = e.bits }
+
+abbrev pub no_types : Octets
+no_types = bitmap_octets (λ t. false)
+
 -- a name without types
 abbrev pub without_types : Name → Entry
-without_types n = record { name = n; bits = bitmap_octets (λ t. false) }
+without_types n = record { name = n; bits = no_types }
 
--- the hash is that of the name, is of use, and the owner is made of it
+-- names with their types; those past the last types have none
+abbrev pub entries_of : List Name → List Octets → List Entry
+entries_of [] types = []
+entries_of (n ∷ names) [] = without_types n ∷ entries_of names []
+entries_of (n ∷ names) (b ∷ types) = record { name = n; bits = b } ∷ entries_of names types
+
+-- the hash is that of the name, and is of use
 pub record IsHashed (a : Name) (hash : Hash) (e : HashedEntry) : Type 0 where
   pub known : hash_name hash e.name ≡ Ok e.hash
   pub sound : hash_fault a (hash_name hash e.name) ≡ None
   pub octets : All (λ octet. octet < 256) e.hash
-  pub owner : e.owner ≡ hashed_owner a e.hash
 
 -- the error is want of memory, or tells why the hash of the name is of no use
 abbrev pub IsRefusal : Name → HashAnswer → Nsec3HashError → Type 0
@@ -68,10 +83,10 @@ pub record Common : Type 0 where
   pub parameters : Parameters
   pub flags : ℕ
 
--- the link from an entry to the next hash
-abbrev pub link_to : Common → HashedEntry → Octets → HashedLink
-link_to p e next = record {
-  owner = e.owner;
+-- the link from a hash to the next one
+abbrev pub link_to : Name → Common → HashedTypes → Octets → HashedLink
+link_to a p e next = record {
+  owner = hashed_owner a e.hash;
   next = next;
   class = in_class;
   ttl = p.ttl;
@@ -80,11 +95,16 @@ link_to p e next = record {
   bits = e.bits;
 }
 
--- each entry to the hash of the one after it, the last one to this hash
-abbrev pub links_from : Common → List HashedEntry → Octets → List HashedLink
-links_from p [] next = []
-links_from p (e ∷ []) next = link_to p e next ∷ []
-links_from p (e ∷ f ∷ es) next = link_to p e f.hash ∷ links_from p (f ∷ es) next
+-- each to the hash after it, the last one to this hash
+abbrev pub links_from : Name → Common → List HashedTypes → Octets → List HashedLink
+links_from a p [] next = []
+links_from a p (e ∷ []) next = link_to a p e next ∷ []
+links_from a p (e ∷ f ∷ es) next = link_to a p e f.hash ∷ links_from a p (f ∷ es) next
+
+-- the last one to the first
+abbrev pub chain_links : Name → Common → List HashedTypes → List HashedLink
+chain_links a p [] = []
+chain_links a p (e ∷ es) = links_from a p (e ∷ es) e.hash
 
 -- links over these entries, ascending by hash
 pub record IsOrderedChain (a : Name) (hash : Hash) (p : Common) (entries : List Entry)
@@ -94,7 +114,7 @@ pub record IsOrderedChain (a : Name) (hash : Hash) (p : Common) (entries : List 
   pub moved : IsPermutation entries (map without_hash (first ∷ later))
   pub hashed : All (IsHashed a hash) (first ∷ later)
   pub ascend : IsStrictlySortedBy (slice_cmp nat_cmp) (map (λ e. e.hash) (first ∷ later))
-  pub are : links ≡ links_from p (first ∷ later) first.hash
+  pub are : links ≡ chain_links a p (map without_name (first ∷ later))
 
 -- all hashes are of use, and two are alike
 pub record HasAlikeEntries (a : Name) (hash : Hash) (entries : List Entry) : Type 0 where

@@ -1,19 +1,19 @@
 //! The hashes of names, and the owners of their records.
-ghost use Rattle.std.specs.Prelude.{◌≡◌, ◌<◌, ◌≤◌, ◌⊎◌, ℕ, List, Ok, None, length, map, All, IfOk, IfErr};
+ghost use Rattle.std.specs.Prelude.{◌≡◌, ◌+◌, ◌<◌, ◌≤◌, ◌++◌, ◌∷◌, ◌⊎◌, [], List, Ok, Some, None, length, map, take, All, IfOk, IfErr, OnOk};
 ghost use Rattle.domain_octets.specs.Words.{Octets};
-ghost use Rattle.domain_base.specs.Name.{wire_of};
 ghost use Rattle.domain_records.specs.declared.error.Nsec3HashError.TheVariants as hash_error;
 ghost use Rattle.domain_base.specs.Words.{Name};
-ghost use Rattle.domain_nsec3.specs.Chain.{hashed_owner, IsHash};
+ghost use Rattle.domain_nsec3.specs.Chain.{hashed_owner};
 ghost use Rattle.domain_nsec3.specs.Config.{hash_name};
 ghost use Rattle.domain_nsec3.specs.Faults.{hash_fault};
-ghost use Rattle.domain_nsec3.specs.Steps.{without_hash, IsHashed, IsRefusal, IsFirstRefused};
-ghost use Rattle.domain_nsec3.specs.StepView.{as_entry, as_hashed_entry};
+ghost use Rattle.domain_nsec3.specs.Steps.{Entry, without_hash, IsHashed, IsRefusal, IsFirstRefused};
+ghost use Rattle.domain_nsec3.specs.StepView.{as_hashed_entry};
 ghost use Rattle.domain_nsec3.specs.View.{hash_by, parameters_of};
 
+use crate::name_hash::{MAX_HASH, NameHash};
 use domain_base::{MakeName, Nsec3HashAlgorithm, ParsedName, ToName};
-use domain_bitmap::{Nsec3Salt, RtypeBitmap};
-use domain_octets::{Octets, base32};
+use domain_bitmap::Nsec3Salt;
+use domain_octets::{Octets, OutOfMemory, base32};
 use domain_rdata::Nsec3param;
 use domain_records::Nsec3HashError;
 use domain_zone::{HasherError, Nsec3Hasher};
@@ -22,23 +22,11 @@ use std::alloc::Global;
 /// The greatest length of a name.
 const MAX_NAME: usize = 255;
 
-/// The greatest length of a hash whose text is one label.
-const MAX_HASH: usize = 39;
-
-/// A name of a chain with its types.
+/// A name of a chain: its hash, and its place among the names as they were hashed.
 #[derive(Drop)]
-pub(crate) struct Listed<'a, O: Octets> {
-    pub(crate) name: ParsedName<'a>,
-    pub(crate) types: RtypeBitmap<O>,
-}
-
-/// A name of a chain with its hash, the owner of its record, and its types.
-#[derive(Drop)]
-pub(crate) struct Hashed<'a, O: Octets, N> {
-    pub(crate) name: ParsedName<'a>,
-    pub(crate) hash: Vec<u8>,
-    pub(crate) owner: N,
-    pub(crate) types: RtypeBitmap<O>,
+pub(crate) struct Hashed {
+    pub(crate) hash: NameHash,
+    pub(crate) place: usize,
 }
 
 /// The octets of the hash of a name.
@@ -71,37 +59,24 @@ fn hash_octets<H: Nsec3Hasher>(
     }
 }
 
-/// The owner of the record of a hash: its text in lower case as a label before the apex.
-fn make_owner<N: MakeName>(
-    alloc: Global,
-    apex: &ParsedName<'_>,
-    hash: &[u8],
-) -> Result<N, Nsec3HashError>
-    requires some { 0 < length hash.now }
-    requires fits { length hash.now ≤ 39 }
-    ensures labels { IfOk result (λ owner. N.labels owner ≡ hashed_owner apex.now hash.now) }
-    ensures short { IfOk result (λ owner.
-        length (wire_of (hashed_owner apex.now hash.now)) ≤ 255) }
-    ensures octets { IfOk result (λ owner. All (λ octet. octet < 256) hash.now) }
-    ensures err { IfErr result (λ e. (e ≡ hash_error.OutOfMemory)
-        ⊎ ((e ≡ hash_error.Nsec3NameTooLong)
-        × (255 < length (wire_of (hashed_owner apex.now hash.now))))) }
+/// Whether octets are of use as a hash below an apex. Else tells the first reason why not.
+fn check_hash(apex: &ParsedName<'_>, hash: &[u8]) -> Result<(), Nsec3HashError>
+    ensures ok { OnOk result (hash_fault apex.now (Ok hash.now) ≡ None) }
+    ensures octets { OnOk result (All (λ octet. octet < 256) hash.now) }
+    ensures err { IfErr result (λ e. hash_fault apex.now (Ok hash.now) ≡ Some e) }
 {
-    let label = base32::encode_hex_lower(alloc, hash)?;
-    let above = apex.as_wire();
-    let len = label.len() + 1 + above.len();
-    if len > MAX_NAME {
+    if hash.is_empty() || hash.len() > MAX_HASH {
+        return Err(Nsec3HashError::OwnerHashError);
+    }
+    let digits = (8 * hash.len() + 4) / 5;
+    if digits + 1 + apex.as_wire().len() > MAX_NAME {
         return Err(Nsec3HashError::Nsec3NameTooLong);
     }
-    let mut wire = Vec::with_capacity(alloc, len)?;
-    wire.push(label.len() as u8)?;
-    wire.extend_from_slice(label.as_slice())?;
-    wire.extend_from_slice(above)?;
-    Ok(N::make(alloc, wire.as_slice())?)
+    Ok(())
 }
 
-/// The hash of a name, and the owner of its record.
-fn hash_owner<H: Nsec3Hasher, N: MakeName>(
+/// The hash of a name, where it is of use.
+fn hash_checked<H: Nsec3Hasher>(
     alloc: Global,
     hasher: &H,
     algorithm: Nsec3HashAlgorithm,
@@ -109,30 +84,60 @@ fn hash_owner<H: Nsec3Hasher, N: MakeName>(
     salt: &[u8],
     apex: &ParsedName<'_>,
     name: &ParsedName<'_>,
-) -> Result<(Vec<u8>, N), Nsec3HashError>
-where
-    N: Drop,
-    ensures known { IfOk result (λ made.
+) -> Result<Vec<u8>, Nsec3HashError>
+    ensures known { IfOk result (λ hash.
         hash_name (hash_by (H.answer hasher.now)
         (record { algorithm = algorithm; iterations = iterations; salt = salt.now })) name.now
-        ≡ Ok made.0.items) }
-    ensures sound { IfOk result (λ made. hash_fault apex.now
-        (hash_name (hash_by (H.answer hasher.now)
-        (record { algorithm = algorithm; iterations = iterations; salt = salt.now })) name.now)
-        ≡ None) }
-    ensures octets { IfOk result (λ made. All (λ octet. octet < 256) made.0.items) }
-    ensures labels { IfOk result (λ made. N.labels made.1
-        ≡ hashed_owner apex.now made.0.items) }
+        ≡ Ok hash.items) }
+    ensures sound { IfOk result (λ hash. hash_fault apex.now (Ok hash.items) ≡ None) }
+    ensures octets { IfOk result (λ hash. All (λ octet. octet < 256) hash.items) }
     ensures err { IfErr result (IsRefusal apex.now
         (hash_name (hash_by (H.answer hasher.now)
         (record { algorithm = algorithm; iterations = iterations; salt = salt.now })) name.now)) }
 {
     let hash = hash_octets(alloc, hasher, algorithm, iterations, salt, name)?;
-    if hash.is_empty() || hash.len() > MAX_HASH {
-        return Err(Nsec3HashError::OwnerHashError);
-    }
-    let owner = make_owner(alloc, apex, hash.as_slice())?;
-    Ok((hash, owner))
+    check_hash(apex, hash.as_slice())?;
+    Ok(hash)
+}
+
+/// Writes octets from a place in a buffer on, and gives the place after them.
+fn put_octets(buffer: &mut [u8], at: usize, octets: &[u8]) -> usize
+    requires { at + length octets.now ≤ length buffer.old }
+    ensures end { result ≡ at + length octets.now }
+    ensures front { take result buffer.new ≡ take at buffer.old ++ octets.now }
+    ensures room { length buffer.new ≡ length buffer.old }
+{
+    let end = at + octets.len();
+    buffer[at..end].copy_from_slice(octets);
+    end
+}
+
+/// Writes a label with its length, and then the name above it, to the front of a buffer.
+fn join_label<'a>(buffer: &'a mut [u8], label: &[u8], above: &[u8]) -> &'a [u8]
+    requires label { length label.now < 256 }
+    requires fits { length label.now + 1 + length above.now ≤ length buffer.old }
+    ensures { result.now ≡ length label.now ∷ (label.now ++ above.now) }
+{
+    buffer[0] = label.len() as u8;
+    let start = put_octets(buffer, 1, label);
+    let end = put_octets(buffer, start, above);
+    &buffer[..end]
+}
+
+/// The owner of the record of a hash: its text in lower case as a label before the apex.
+pub(crate) fn make_owner<N: MakeName>(
+    alloc: Global,
+    apex: &ParsedName<'_>,
+    hash: &[u8],
+) -> Result<N, OutOfMemory>
+    requires { hash_fault apex.now (Ok hash.now) ≡ None }
+    ensures { IfOk result (λ owner. N.labels owner ≡ hashed_owner apex.now hash.now) }
+{
+    let label = base32::encode_hex_lower(alloc, hash)?;
+    let above = apex.as_wire();
+    let mut wire = [0; MAX_NAME];
+    let wire = join_label(&mut wire, label.as_slice(), above);
+    Ok(N::make(alloc, wire)?)
 }
 
 /// The owner of the NSEC3 record of a name (RFC 5155, section 3): the hash of the name, in lower
@@ -170,7 +175,7 @@ where
 {
     let apex = apex.as_parsed();
     let name = name.as_parsed();
-    match hash_owner(
+    match hash_checked(
         alloc,
         hasher,
         algorithm,
@@ -179,71 +184,61 @@ where
         &apex,
         &name,
     ) {
-        Ok((_, owner)) => Ok(owner),
+        Ok(hash) => Ok(make_owner(alloc, &apex, hash.as_slice())?),
         Err(error) => Err(error),
     }
 }
 
-/// A name with its hash.
-fn hash_listed<'a, H: Nsec3Hasher, O: Octets, N: MakeName>(
+/// The hash of the name at a place.
+fn hash_at<H: Nsec3Hasher, O: Octets>(
     alloc: Global,
     hasher: &H,
     params: &Nsec3param<O>,
     apex: &ParsedName<'_>,
-    listed: Listed<'a, O>,
-) -> Result<Hashed<'a, O, N>, Nsec3HashError>
-where
-    O: Drop,
-    N: Drop,
-    ensures same { IfOk result (λ hashed.
-        without_hash (as_hashed_entry N.labels hashed) ≡ as_entry listed.entry) }
+    name: &ParsedName<'_>,
+    place: usize,
+) -> Result<Hashed, Nsec3HashError>
+    ensures place { IfOk result (λ hashed. hashed.place ≡ place) }
     ensures ok { IfOk result (λ hashed. IsHashed apex.now
         (hash_by (H.answer hasher.now) (parameters_of params.now))
-        (as_hashed_entry N.labels hashed)) }
+        (record { name = name.now; hash = hashed.hash; bits = [] })) }
     ensures err { IfErr result (IsRefusal apex.now
-        (hash_name (hash_by (H.answer hasher.now) (parameters_of params.now))
-        listed.entry.name)) }
+        (hash_name (hash_by (H.answer hasher.now) (parameters_of params.now)) name.now)) }
 {
-    let Listed { name, types } = listed;
     let algorithm = params.hash_algorithm();
     let iterations = params.iterations();
     let salt = params.salt().as_slice();
-    match hash_owner(alloc, hasher, algorithm, iterations, salt, apex, &name) {
-        Ok((hash, owner)) => Ok(Hashed {
-            name,
-            hash,
-            owner,
-            types,
+    match hash_checked(alloc, hasher, algorithm, iterations, salt, apex, name) {
+        Ok(octets) => Ok(Hashed {
+            hash: NameHash::new(octets.as_slice()),
+            place,
         }),
         Err(error) => Err(error),
     }
 }
 
-/// The names with their hashes, in their order; else the first refusal.
-pub(crate) fn hash_names<'a, H: Nsec3Hasher, O: Octets, N: MakeName>(
+/// The hashes of names, each with the place of its name, in their order; else the first refusal.
+pub(crate) fn hash_names<H: Nsec3Hasher, O: Octets>(
     alloc: Global,
     hasher: &H,
     params: &Nsec3param<O>,
     apex: &ParsedName<'_>,
-    names: Vec<Listed<'a, O>>,
-) -> Result<Vec<Hashed<'a, O, N>>, Nsec3HashError>
-where
-    O: Drop,
-    N: Drop,
-    ensures same { IfOk result (λ hashed.
-        map without_hash (map (as_hashed_entry N.labels) hashed.items)
-        ≡ map as_entry names.entry.items) }
-    ensures ok { IfOk result (λ hashed. All
+    names: &[ParsedName<'_>],
+) -> Result<Vec<Hashed>, Nsec3HashError>
+    ensures same { IfOk result (λ hashed. (entries : List Entry)
+        → map (λ n. n.name) entries ≡ names.now
+        → map without_hash (map (as_hashed_entry entries) hashed.items) ≡ entries) }
+    ensures ok { IfOk result (λ hashed. (entries : List Entry)
+        → map (λ n. n.name) entries ≡ names.now → All
         (IsHashed apex.now (hash_by (H.answer hasher.now) (parameters_of params.now)))
-        (map (as_hashed_entry N.labels) hashed.items)) }
+        (map (as_hashed_entry entries) hashed.items)) }
     ensures err { IfErr result (λ e. (e ≡ hash_error.OutOfMemory)
         ⊎ IsFirstRefused apex.now (hash_by (H.answer hasher.now) (parameters_of params.now))
-        (map (λ n. n.name) (map as_entry names.entry.items)) e) }
+        names.now e) }
 {
     let mut hashed = Vec::with_capacity(alloc, names.len())?;
-    let mut left = names.into_iter();
-    'left: while let Some(listed) = left.next() {
-        match hash_listed(alloc, hasher, params, apex, listed) {
+    for (place, name) in names.iter().enumerate() {
+        match hash_at(alloc, hasher, params, apex, name, place) {
             Ok(item) => hashed.push(item)?,
             Err(error) => return Err(error),
         }

@@ -35,7 +35,8 @@ pub fn names_end_at_the_encloser()
 
 /// The NSEC3 record of a name lists the same types for each spelling of the name.
 pub fn types_ignore_case()
-    ensures { (L : List ZoneRecord) (a : Name) (config : ChainConfig) (x y : Name) → same_name x y ≡ true
+    ensures { (L : List ZoneRecord) (a : Name) (config : ChainConfig) (x y : Name)
+        → same_name x y ≡ true
         → (t : ℕ) → nsec3_lists L a config x t ≡ nsec3_lists L a config y t }
 {}
 

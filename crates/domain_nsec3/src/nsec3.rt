@@ -1,5 +1,5 @@
 //! The NSEC3 chain of a zone.
-ghost use Rattle.std.specs.Prelude.{◌≡◌, ◌++◌, ◌⊎◌, Some, List, true, map, All, IfOk, IfErr, OnOk};
+ghost use Rattle.std.specs.Prelude.{◌≡◌, ◌<◌, ◌≤◌, ◌⊎◌, Some, List, true, length, All, IfOk, IfErr, OnOk};
 ghost use Rattle.std.specs.List.{list_any};
 ghost use Rattle.std.specs.List.Sorted.{IsStrictlySortedBy};
 ghost use Rattle.domain_base.specs.Classes.{in_class};
@@ -8,26 +8,27 @@ ghost use Rattle.domain_rdata.specs.Zone.{rtype_of};
 ghost use Rattle.domain_records.specs.Order.{IsOneClass, IsInOrder};
 ghost use Rattle.domain_records.specs.declared.error.Nsec3HashError.TheVariants as hash_error;
 ghost use Rattle.domain_base.specs.Name.{is_at_or_below, same_name};
-ghost use Rattle.domain_zone.specs.Soa.{soa_of};
+ghost use Rattle.domain_zone.specs.Soa.{chain_ttl, soa_of};
 ghost use Rattle.domain_zone.specs.Zone.{ZoneRecord};
+ghost use Rattle.domain_zone.specs.declared.soa.ApexSoa.{ApexSoa};
 ghost use Rattle.domain_nsec3.specs.Chain.{IsChainParam, IsHashedChain, param_ttl};
 ghost use Rattle.domain_nsec3.specs.Faults.{AreAllHashed, IsFaultless, IsFirstFault, IsFirstHashingFault};
 ghost use Rattle.domain_nsec3.specs.Meaning.{CoversExcluded, CutsEnclose, MirrorsZone, OwnersAscend, TellsEncloser};
-ghost use Rattle.domain_nsec3.specs.Steps.{AreOriginalOwners, without_types};
-ghost use Rattle.domain_nsec3.specs.StepView.{as_entry};
+ghost use Rattle.domain_nsec3.specs.Steps.{AreOriginalOwners, Common, IsHashingFault, IsOrderedChain, entries_of};
+ghost use Rattle.domain_nsec3.specs.StepView.{as_entries, common_of, links_in, AreUsable};
 ghost use Rattle.domain_zone.specs.View.{zone_of};
-ghost use Rattle.domain_nsec3.specs.View.{as_param_record, config_of, hashed_links_of, parameters_of};
+ghost use Rattle.domain_nsec3.specs.View.{as_param_record, config_of, hash_by, hashed_links_of, parameters_of};
 
 use crate::GenerateNsec3Config;
+use crate::chain::{HashedChain, has_collision, sort_by_hash};
 use crate::empty::empty_nonterminals;
-use crate::hash::Listed;
-use crate::link::hash_chain;
-use crate::owners::list_owners;
+use crate::hash::hash_names;
+use crate::nsec3_chain::Nsec3Chain;
+use crate::owners::{Owners, list_owners};
 use domain_base::{Class, MakeName, ParsedName, ToName};
-use domain_bitmap::RtypeBitmapBuilder;
+use domain_bitmap::RtypeBitmap;
 use domain_octets::{
     EmptyBuilder, FreezeBuilder, FromBuilder, GrowingBuilder, Octets, OutOfMemory, Truncate,
-    TryClone,
 };
 use domain_plain::Record;
 use domain_rdata::{Nsec3, Nsec3param, ZoneRecordData};
@@ -53,81 +54,97 @@ impl<N, O: Octets> Nsec3Records<N, O> {
     }
 }
 
-/// The names, borrowed.
-fn borrow_names<'a, O: Octets>(
-    alloc: Global,
-    owners: &[Listed<'a, O>],
-) -> Result<Vec<ParsedName<'a>>, OutOfMemory>
-    ensures { IfOk result (λ names. names.items ≡ map (λ l. l.name) owners.now) }
-{
-    let mut names = Vec::with_capacity(alloc, owners.len())?;
-    for owner in owners {
-        let name = owner.name.try_clone()?;
-        names.push(name)?;
-    }
-    Ok(names)
+/// The NSEC3 chain of a zone before its records are made, and the record that tells its parameters
+/// (RFC 5155, section 7.1).
+#[derive(Drop)]
+pub struct HashedNsec3s<N: ToName, O: Octets> {
+    /// The chain, which makes its records one by one.
+    pub chain: Nsec3Chain<N, O>,
+    /// The NSEC3PARAM record of the apex.
+    pub nsec3param: Record<N, Nsec3param<O>>,
 }
 
-/// Adds names without types.
-fn add_empty<'a, O>(
+/// A chain over these names, of which the first own records and have these types: each is hashed,
+/// in the order of the list, and then they are put in the order of their hashes.
+fn hash_chain<S: Sorter, H: Nsec3Hasher, O: Octets, N: MakeName>(
     alloc: Global,
-    names: &mut Vec<Listed<'a, O>>,
-    empty: Vec<ParsedName<'a>>,
-) -> Result<(), OutOfMemory>
+    hasher: &H,
+    params: &Nsec3param<O>,
+    apex: &N,
+    names: Vec<ParsedName<'_>>,
+    types: Vec<RtypeBitmap<O>>,
+) -> Result<HashedChain<N, O>, Nsec3HashError>
 where
-    O: FromBuilder + Drop,
-    O::Builder: EmptyBuilder + Truncate + FreezeBuilder<Frozen = O> + Drop,
-    ensures { OnOk result (map as_entry names.new.items
-        ≡ map as_entry names.old.items ++ map without_types empty.entry.items) }
+    O: Drop,
+    N: Drop,
+    requires some { 0 < length names.items }
+    requires within { length types.items ≤ length names.items }
+    ensures chain { IfOk result (λ chain. (p : Common) → IsOrderedChain (N.labels apex.now)
+        (hash_by (H.answer hasher.now) (parameters_of params.now)) p
+        (entries_of names.entry.items types.items) (links_in N.labels chain p)) }
+    ensures sound { IfOk result (λ chain. AreUsable N.labels chain) }
+    ensures fault { IfErr result (IsHashingFault (N.labels apex.now)
+        (hash_by (H.answer hasher.now) (parameters_of params.now))
+        (entries_of names.entry.items types.items)) }
 {
-    let mut left = empty.into_iter();
-    'left: while let Some(name) = left.next() {
-        let types = RtypeBitmapBuilder::<O::Builder>::new(alloc).finalize();
-        names.push(Listed { name, types })?;
+    let above = apex.as_parsed();
+    let mut hashed = match hash_names(alloc, hasher, params, &above, names.as_slice()) {
+        Ok(hashed) => hashed,
+        Err(error) => return Err(error),
+    };
+    drop(names);
+    sort_by_hash::<S>(&mut hashed)?;
+    if has_collision(hashed.as_slice()) {
+        return Err(Nsec3HashError::CollisionDetected);
     }
-    Ok(())
+    let apex = N::make(alloc, apex.as_wire())?;
+    Ok(HashedChain {
+        apex,
+        hashed,
+        types,
+    })
 }
 
-/// The records of the chain over these owners, which stand in canonical order from the apex on,
-/// with their types: their empty non-terminals are added, all are hashed and put in order.
-fn chain_of_owners<'a, S: Sorter, H: Nsec3Hasher, O, N: MakeName>(
+/// The chain over these owners, which stand in canonical order from the apex on, with their types:
+/// their empty non-terminals are added, all are hashed and put in order.
+fn chain_of_owners<'a, S: Sorter, H: Nsec3Hasher, O: Octets, N: MakeName>(
     alloc: Global,
     config: &GenerateNsec3Config<O, S>,
     hasher: &H,
-    apex: &ParsedName<'a>,
-    owners: Vec<Listed<'a, O>>,
-    soa: &ApexSoa,
-) -> Result<Vec<Record<N, Nsec3<O>>>, Nsec3HashError>
+    apex: &'a N,
+    owners: Owners<'a, O>,
+) -> Result<HashedChain<N, O>, Nsec3HashError>
 where
-    O: FromBuilder + Drop,
+    O: Drop,
     N: Drop,
-    O::Builder: GrowingBuilder + EmptyBuilder + Truncate + FreezeBuilder<Frozen = O> + Drop,
-    requires ascend { IsStrictlySortedBy canonical_cmp (map (λ l. l.name) owners.items) }
-    requires in_zone { All (λ n. is_at_or_below n apex.now ≡ true)
-        (map (λ l. l.name) owners.items) }
-    requires begins { list_any (λ n. same_name n apex.now) (map (λ l. l.name) owners.items) ≡ true }
-    ensures chain { IfOk result (λ nsec3s. (L : List ZoneRecord) → soa_of L apex.now ≡ Some soa.now
-        → AreOriginalOwners L apex.now (config_of (H.answer hasher.now) config.now)
-        (map as_entry owners.entry.items)
-        → IsHashedChain L apex.now (config_of (H.answer hasher.now) config.now)
-        (hashed_links_of N.labels nsec3s.items)) }
+    requires paired { length owners.names.items ≡ length owners.types.items }
+    requires ascend { IsStrictlySortedBy canonical_cmp owners.names.items }
+    requires in_zone { All (λ n. is_at_or_below n (N.labels apex.now) ≡ true) owners.names.items }
+    requires begins { list_any (λ n. same_name n (N.labels apex.now)) owners.names.items ≡ true }
+    ensures chain { IfOk result (λ chain. (L : List ZoneRecord) (soa : ApexSoa)
+        → soa_of L (N.labels apex.now) ≡ Some soa
+        → AreOriginalOwners L (N.labels apex.now) (config_of (H.answer hasher.now) config.now)
+        (as_entries owners.entry)
+        → IsHashedChain L (N.labels apex.now) (config_of (H.answer hasher.now) config.now)
+        (links_in N.labels chain (common_of config.now.params (chain_ttl soa)))) }
+    ensures sound { IfOk result (λ chain. AreUsable N.labels chain) }
     ensures hashed { OnOk result ((L : List ZoneRecord)
-        → AreOriginalOwners L apex.now (config_of (H.answer hasher.now) config.now)
-        (map as_entry owners.entry.items)
-        → AreAllHashed L apex.now (config_of (H.answer hasher.now) config.now)) }
+        → AreOriginalOwners L (N.labels apex.now) (config_of (H.answer hasher.now) config.now)
+        (as_entries owners.entry)
+        → AreAllHashed L (N.labels apex.now) (config_of (H.answer hasher.now) config.now)) }
     ensures fault { IfErr result (λ e. (L : List ZoneRecord)
-        → AreOriginalOwners L apex.now (config_of (H.answer hasher.now) config.now)
-        (map as_entry owners.entry.items)
+        → AreOriginalOwners L (N.labels apex.now) (config_of (H.answer hasher.now) config.now)
+        (as_entries owners.entry)
         → ((e ≡ hash_error.OutOfMemory)
-        ⊎ IsFirstHashingFault L apex.now (config_of (H.answer hasher.now) config.now) e)) }
+        ⊎ IsFirstHashingFault L (N.labels apex.now) (config_of (H.answer hasher.now) config.now) e)) }
 {
-    let mut names = owners;
-    let borrowed = borrow_names(alloc, names.as_slice())?;
-    let empty = empty_nonterminals(alloc, apex, borrowed.as_slice())?;
-    add_empty(alloc, &mut names, empty)?;
-    let ttl = soa.chain_ttl();
-    match hash_chain::<S, H, O, N>(alloc, hasher, &config.params, apex, names, ttl) {
-        Ok(nsec3s) => Ok(nsec3s),
+    let Owners { mut names, types } = owners;
+    let above = apex.as_parsed();
+    let mut empty = empty_nonterminals(alloc, &above, names.as_slice())?;
+    names.append(&mut empty)?;
+    drop(empty);
+    match hash_chain::<S, H, O, N>(alloc, hasher, &config.params, apex, names, types) {
+        Ok(chain) => Ok(chain),
         Err(error) => Err(error),
     }
 }
@@ -158,6 +175,55 @@ where
         config.nsec3param_ttl_mode.ttl(soa),
         params,
     ))
+}
+
+/// The NSEC3 chain of a zone and its NSEC3PARAM record, as `generate_nsec3s` makes them, but that
+/// the chain makes its records one by one: so they need not all be held at a time, nor the records
+/// of the zone beside them.
+///
+/// # Errors
+///
+/// Those of `generate_nsec3s`.
+pub fn hash_nsec3s<S: Sorter, H: Nsec3Hasher, O, N: MakeName>(
+    alloc: Global,
+    apex: &N,
+    records: RecordsIter<'_, N, ZoneRecordData<O, N>>,
+    config: &GenerateNsec3Config<O, S>,
+    hasher: &H,
+) -> Result<HashedNsec3s<N, O>, SigningError>
+where
+    N: Drop,
+    O: FromBuilder + Drop,
+    O::Builder: GrowingBuilder + EmptyBuilder + Truncate + FreezeBuilder<Frozen = O> + Drop,
+    requires one_class { IsOneClass records }
+    requires in_order { IsInOrder N.labels rtype_of records }
+
+    // Ok is exactly the chain, and comes only where no fault stands.
+    ensures chain { IfOk result (λ made. IsHashedChain (zone_of N.labels records.entry)
+        (N.labels apex.now) (config_of (H.answer hasher.now) config.now) made.chain) }
+    ensures param { IfOk result (λ made. IsChainParam (zone_of N.labels records.entry)
+        (N.labels apex.now) (config_of (H.answer hasher.now) config.now)
+        config.now.nsec3param_ttl_mode (as_param_record N.labels made.nsec3param)) }
+    ensures faultless { OnOk result (IsFaultless (zone_of N.labels records.entry)
+        (N.labels apex.now) (config_of (H.answer hasher.now) config.now)) }
+    ensures fault { IfErr result (IsFirstFault (zone_of N.labels records.entry)
+        (N.labels apex.now) (config_of (H.answer hasher.now) config.now)) }
+{
+    let Some(soa) = find_soa(apex, records.records()) else {
+        return Err(SigningError::SoaRecordCouldNotBeDetermined);
+    };
+    let owners = match list_owners(alloc, apex, records, config) {
+        Ok(owners) => owners,
+        Err(error) => return Err(error),
+    };
+    let hashed = match chain_of_owners(alloc, config, hasher, apex, owners) {
+        Ok(hashed) => hashed,
+        Err(error) => return Err(SigningError::from(error)),
+    };
+    let params = config.params.clone()?;
+    let chain = Nsec3Chain::new(hashed, params, soa.chain_ttl());
+    let nsec3param = param_record(alloc, apex, config, &soa)?;
+    Ok(HashedNsec3s { chain, nsec3param })
 }
 
 /// The NSEC3 chain of a zone, and its NSEC3PARAM record (RFC 5155, section 7.1): one record for
@@ -228,18 +294,11 @@ where
         (N.labels apex.now) (config_of (H.answer hasher.now) config.now)
         (hashed_links_of N.labels made.nsec3s.items)) }
 {
-    let Some(soa) = find_soa(apex, records.records()) else {
-        return Err(SigningError::SoaRecordCouldNotBeDetermined);
-    };
-    let owners = match list_owners(alloc, apex, records, config) {
-        Ok(owners) => owners,
+    let hashed = match hash_nsec3s(alloc, apex, records, config, hasher) {
+        Ok(hashed) => hashed,
         Err(error) => return Err(error),
     };
-    let above = apex.as_parsed();
-    let nsec3s = match chain_of_owners::<S, H, O, N>(alloc, config, hasher, &above, owners, &soa) {
-        Ok(nsec3s) => nsec3s,
-        Err(error) => return Err(SigningError::from(error)),
-    };
-    let nsec3param = param_record(alloc, apex, config, &soa)?;
+    let HashedNsec3s { chain, nsec3param } = hashed;
+    let nsec3s = chain.records(alloc)?;
     Ok(Nsec3Records::new(nsec3s, nsec3param))
 }

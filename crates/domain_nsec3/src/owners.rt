@@ -1,5 +1,5 @@
 //! The owners of a zone that its NSEC3 chain holds.
-ghost use Rattle.std.specs.Prelude.{◌≡◌, ◌&&◌, ◌⊎◌, true, false, not, map, IfOk, IfErr, OnOk};
+ghost use Rattle.std.specs.Prelude.{◌≡◌, ◌&&◌, ◌⊎◌, true, false, not, length, IfOk, IfErr, OnOk};
 ghost use Rattle.domain_rdata.specs.Zone.{rtype_of};
 ghost use Rattle.domain_records.specs.Order.{IsInOrder};
 ghost use Rattle.domain_records.specs.declared.error.SigningError.TheVariants as signing_error;
@@ -7,19 +7,26 @@ ghost use Rattle.domain_base.specs.Types.{ds};
 ghost use Rattle.domain_zone.specs.Zone.{has_type, has_unequal_ttls};
 ghost use Rattle.domain_nsec3.specs.Owners.{original_owners};
 ghost use Rattle.domain_nsec3.specs.Steps.{AreOriginalOwners};
-ghost use Rattle.domain_nsec3.specs.StepView.{as_entry};
+ghost use Rattle.domain_nsec3.specs.StepView.{as_entries};
 ghost use Rattle.domain_zone.specs.View.{zone_of};
 ghost use Rattle.domain_nsec3.specs.View.{Answer, config_of};
 
 use crate::GenerateNsec3Config;
-use crate::hash::Listed;
 use crate::types::{OwnerKind, owns_ds, types_of};
-use domain_base::ToName;
+use domain_base::{ParsedName, ToName};
+use domain_bitmap::RtypeBitmap;
 use domain_octets::{EmptyBuilder, FreezeBuilder, FromBuilder, GrowingBuilder, Octets, Truncate};
 use domain_rdata::ZoneRecordData;
 use domain_records::{RecordsIter, SigningError};
 use domain_zone::{UnoccludedOwner, UnoccludedOwners, has_unequal_ttls};
 use std::alloc::Global;
+
+/// Names of a chain that own records, and the types of each.
+#[derive(Drop)]
+pub(crate) struct Owners<'a, O: Octets> {
+    pub(crate) names: Vec<ParsedName<'a>>,
+    pub(crate) types: Vec<RtypeBitmap<O>>,
+}
 
 /// Whether the owner is a zone cut without DS records.
 fn is_unsigned_cut<O: Octets, N: ToName>(owner: &UnoccludedOwner<'_, O, N>) -> bool
@@ -42,14 +49,16 @@ pub(crate) fn list_owners<'a, S, O, N: ToName>(
     apex: &'a N,
     records: RecordsIter<'a, N, ZoneRecordData<O, N>>,
     config: &GenerateNsec3Config<O, S>,
-) -> Result<Vec<Listed<'a, O>>, SigningError>
+) -> Result<Owners<'a, O>, SigningError>
 where
     O: FromBuilder + Drop,
     O::Builder: GrowingBuilder + EmptyBuilder + Truncate + FreezeBuilder<Frozen = O> + Drop,
     requires { IsInOrder N.labels rtype_of records }
     ensures owners { IfOk result (λ owners. (answer : Answer) → AreOriginalOwners
         (zone_of N.labels records.entry) (N.labels apex.now) (config_of answer config.now)
-        (map as_entry owners.items)) }
+        (as_entries owners)) }
+    ensures paired { IfOk result (λ owners.
+        length owners.names.items ≡ length owners.types.items) }
     ensures even { OnOk result ((answer : Answer) → has_unequal_ttls
         (zone_of N.labels records.entry) (original_owners (zone_of N.labels records.entry)
         (N.labels apex.now) (config_of answer config.now)) ≡ false) }
@@ -61,7 +70,8 @@ where
     let excludes = config.params.opt_out_flag()
         & config.opt_out_exclude_owner_names_of_unsigned_delegations;
     let mut owners = UnoccludedOwners::new(apex, records, config.occlude_below_dname);
-    let mut listed = Vec::new(alloc);
+    let mut names = Vec::new(alloc);
+    let mut types = Vec::new(alloc);
     'owners: while let Some(owner) = owners.next() {
         let is_unsigned_cut = is_unsigned_cut(&owner);
         if excludes & is_unsigned_cut {
@@ -77,9 +87,9 @@ where
             is_apex,
         };
         let assumed = config.assume_dnskeys_will_be_added & is_apex;
-        let types = types_of(alloc, owner.records.records(), kind, assumed)?;
-        let name = owner.name.as_parsed();
-        listed.push(Listed { name, types })?;
+        let listed = types_of(alloc, owner.records.records(), kind, assumed)?;
+        types.push(listed)?;
+        names.push(owner.name.as_parsed())?;
     }
-    Ok(listed)
+    Ok(Owners { names, types })
 }

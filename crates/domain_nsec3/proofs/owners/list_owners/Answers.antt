@@ -1,38 +1,44 @@
 use Rattle.std.proofs.Common.{◌≡◌, ◌∙◌, ◌&&◌, ◌++◌, ◌∷◌, [], true, false, not, sym, ap, map, subst, inr, refl, Err}
-use Rattle.std.proofs.lemmas.List.{map-append}
 use Rattle.domain_bitmap.specs.Bitmap.{bitmap_octets}
-use Rattle.domain_zone.specs.Owners.{OwnerRecords, owners_with_records}
+use Rattle.domain_zone.specs.Owners.{OwnerRecords}
 use Rattle.domain_zone.specs.OwnerView.{as_owner_records}
 use Rattle.domain_zone.specs.View.{as_zone_record, zone_of}
 use Rattle.domain_zone.specs.Zone.{has_clash}
 use Rattle.domain_zone.proofs.GivenLemmas.{raw_types, types_at}
 use Rattle.domain_zone.proofs.TtlLemmas.{NeverDescend}
 use Rattle.domain_nsec3.specs.Owners.{is_listed}
-use Rattle.domain_nsec3.specs.StepView.{as_entry}
+use Rattle.domain_nsec3.specs.Steps.{entries_of}
+use Rattle.domain_nsec3.proofs.EntryLemmas.{entries_push, paired_push}
 use Rattle.domain_nsec3.specs.View.{Answer, config_of}
 use Rattle.domain_nsec3.proofs.StateLemmas.{IsAt, stays, at_start, at_known, at_excluded, at_owner, at_fault, at_end, even_end}
 use Rattle.domain_nsec3.proofs.owners.list_owners.Goals as goal
 
 pub owners-init : goal.owners-init
-owners-init g c answer =
+owners-init g c =
     let labels = g.N.ToName.labels in
     let L = zone_of labels c.args.records in
     let a = labels c.args.apex.now in
-    let config = config_of answer c.args.config.now in
-    subst (λ left. IsAt L a config left (map (as_entry {O = g.row.O.Denot}) c.new-listed.result.items)) (sym c.new-owners.ensures)
-    (subst (λ xs. IsAt L a config (owners_with_records config.occlude_below_dname L a) (map (as_entry {O = g.row.O.Denot}) xs)) (sym c.new-listed.ensures.items) (at_start L a config))
+    rw (c.new-names.ensures.items, c.new-types.ensures.items) (record {
+      at = λ answer.
+          let config = config_of answer c.args.config.now in
+          subst (λ left. IsAt L a config left []) (sym c.new-owners.ensures) (at_start L a config);
+      paired = refl;
+    })
 
 pub owners-preserved-then-excludes-is_unsigned_cut : goal.owners-preserved-then-excludes-is_unsigned_cut
-owners-preserved-then-excludes-is_unsigned_cut g c answer =
-    let labels = g.N.ToName.labels in
-    let L = zone_of labels c.args.records in
-    let a = labels c.args.apex.now in
-    let config = config_of answer c.args.config.now in
-    let o : OwnerRecords = as_owner_records labels c.in-Some.owner in
-    let entries = map (as_entry {O = g.row.O.Denot}) c.owners.listed.items in
-    let at = subst (λ left. IsAt L a config left entries) c.in-Some.ensures.steps (c.owners.invariant answer) in
-    let out : stays config o ≡ false = ap not (sym (λ i. (c.opt_out_flag.ensures i && config.exclude_unsigned) && c.is_unsigned_cut-is_unsigned_cut.ensures i) ∙ c.if-excludes-is_unsigned_cut.true) in
-    at_excluded L a config o c.next.new.self entries at out
+owners-preserved-then-excludes-is_unsigned_cut g c = record {
+  at = λ answer.
+      let labels = g.N.ToName.labels in
+      let L = zone_of labels c.args.records in
+      let a = labels c.args.apex.now in
+      let config = config_of answer c.args.config.now in
+      let o : OwnerRecords = as_owner_records labels c.in-Some.owner in
+      let entries = entries_of c.owners.names.items c.owners.types.items in
+      let at = subst (λ left. IsAt L a config left entries) c.in-Some.ensures.steps (c.owners.invariant.at answer) in
+      let out : stays config o ≡ false = ap not (sym (λ i. (c.opt_out_flag.ensures i && config.exclude_unsigned) && c.is_unsigned_cut-is_unsigned_cut.ensures i) ∙ c.if-excludes-is_unsigned_cut.true) in
+      at_excluded L a config o c.next.new.self entries at out;
+  paired = c.owners.invariant.paired;
+}
 
 pub has_unequal_ttls-requires : goal.has_unequal_ttls-requires
 has_unequal_ttls-requires g c =
@@ -42,8 +48,8 @@ has_unequal_ttls-requires g c =
     let answer : Answer = λ octets algorithm iterations salt. Err 0 in
     let config = config_of answer c.args.config.now in
     let o : OwnerRecords = as_owner_records labels c.in-Some.owner in
-    let entries = map (as_entry {O = g.row.O.Denot}) c.owners.listed.items in
-    let at = subst (λ left. IsAt L a config left entries) c.in-Some.ensures.steps (c.owners.invariant answer) in
+    let entries = entries_of c.owners.names.items c.owners.types.items in
+    let at = subst (λ left. IsAt L a config left entries) c.in-Some.ensures.steps (c.owners.invariant.at answer) in
     let known = at_known L a config o c.next.new.self entries at in
     raw_types labels c.records.result
     (subst (λ rs. NeverDescend (map (as_zone_record labels) rs)) (sym c.records.ensures)
@@ -59,29 +65,33 @@ returns-then-has_unequal_ttls-clause-fault g c =
           let a = labels c.args.apex.now in
           let config = config_of answer c.args.config.now in
           let o : OwnerRecords = as_owner_records labels c.in-Some.owner in
-          let entries = map (as_entry {O = g.row.O.Denot}) c.owners.listed.items in
-          let at = subst (λ left. IsAt L a config left entries) c.in-Some.ensures.steps (c.owners.invariant answer) in
+          let entries = entries_of c.owners.names.items c.owners.types.items in
+          let at = subst (λ left. IsAt L a config left entries) c.in-Some.ensures.steps (c.owners.invariant.at answer) in
           let kept : stays config o ≡ true = ap not (sym (λ i. (c.opt_out_flag.ensures i && config.exclude_unsigned) && c.is_unsigned_cut-is_unsigned_cut.ensures i) ∙ c.if-excludes-is_unsigned_cut.false) in
           at_fault L a config o c.next.new.self entries at kept
           (ap (λ rs. has_clash (zone_of labels rs)) (sym c.records.ensures) ∙ sym c.has_unequal_ttls.ensures ∙ c.if-has_unequal_ttls.true),
     )
 
 pub owners-preserved : goal.owners-preserved
-owners-preserved g c answer =
+owners-preserved g c =
     let labels = g.N.ToName.labels in
     let L = zone_of labels c.args.records in
     let a = labels c.args.apex.now in
-    let config = config_of answer c.args.config.now in
-    let o : OwnerRecords = as_owner_records labels c.in-Some.owner in
-    let see = as_entry {O = g.row.O.Denot} in
-    let entries = map see c.owners.listed.items in
-    let at = subst (λ left. IsAt L a config left entries) c.in-Some.ensures.steps (c.owners.invariant answer) in
-    let kept : stays config o ≡ true = ap not (sym (λ i. (c.opt_out_flag.ensures i && config.exclude_unsigned) && c.is_unsigned_cut-is_unsigned_cut.ensures i) ∙ c.if-excludes-is_unsigned_cut.false) in
-    at_owner L a config o c.next.new.self entries at c.in_ok-types.types (map see c.push.new.self.items) kept
-    (ap (λ rs. has_clash (zone_of labels rs)) (sym c.records.ensures) ∙ sym c.has_unequal_ttls.ensures ∙ c.if-has_unequal_ttls.false)
-    (c.in_ok-types.ensures
-    ∙ (λ i. bitmap_octets (is_listed (c.is_unsigned_cut-is_unsigned_cut.ensures i) (c.name_eq-is_apex.ensures.value i) (config.assume_dnskeys_will_be_added && c.name_eq-is_apex.ensures.value i) c.in-Some.owner.is_zone_cut (zone_of labels (c.records-in-Some.ensures i)))))
-    (ap (map see) c.in_ok-push.ensures.items ∙ map-append see c.owners.listed.items _ ∙ (λ i. entries ++ record { name = c.as_parsed-name.ensures i; bits = c.in_ok-types.types } ∷ []))
+    let paired = c.owners.invariant.paired in
+    record {
+      at = λ answer.
+          let config = config_of answer c.args.config.now in
+          let o : OwnerRecords = as_owner_records labels c.in-Some.owner in
+          let entries = entries_of c.owners.names.items c.owners.types.items in
+          let at = subst (λ left. IsAt L a config left entries) c.in-Some.ensures.steps (c.owners.invariant.at answer) in
+          let kept : stays config o ≡ true = ap not (sym (λ i. (c.opt_out_flag.ensures i && config.exclude_unsigned) && c.is_unsigned_cut-is_unsigned_cut.ensures i) ∙ c.if-excludes-is_unsigned_cut.false) in
+          at_owner L a config o c.next.new.self entries at c.in_ok-listed.listed (entries_of c.push-in-Some.new.self.items c.push.new.self.items) kept
+          (ap (λ rs. has_clash (zone_of labels rs)) (sym c.records.ensures) ∙ sym c.has_unequal_ttls.ensures ∙ c.if-has_unequal_ttls.false)
+          (c.in_ok-listed.ensures
+          ∙ (λ i. bitmap_octets (is_listed (c.is_unsigned_cut-is_unsigned_cut.ensures i) (c.name_eq-is_apex.ensures.value i) (config.assume_dnskeys_will_be_added && c.name_eq-is_apex.ensures.value i) c.in-Some.owner.is_zone_cut (zone_of labels (c.records-in-Some.ensures i)))))
+          ((λ i. entries_of (c.in_ok-push-2.ensures.items i) (c.in_ok-push.ensures.items i)) ∙ entries_push c.owners.names.items c.owners.types.items c.as_parsed.result c.in_ok-listed.listed paired ∙ (λ i. entries ++ record { name = c.as_parsed.ensures i; bits = c.in_ok-listed.listed } ∷ []));
+      paired = paired_push c.owners.names.items c.push-in-Some.new.self.items c.owners.types.items c.push.new.self.items c.as_parsed.result c.in_ok-listed.listed c.in_ok-push-2.ensures.items c.in_ok-push.ensures.items paired;
+    }
 
 pub returns-clause-owners : goal.returns-clause-owners
 returns-clause-owners g c = λ answer.
@@ -89,8 +99,8 @@ returns-clause-owners g c = λ answer.
     let L = zone_of labels c.args.records in
     let a = labels c.args.apex.now in
     let config = config_of answer c.args.config.now in
-    let entries = map (as_entry {O = g.row.O.Denot}) c.owners.listed.items in
-    at_end L a config entries (subst (λ left. IsAt L a config left entries) c.in_default.ensures.steps.0 (c.owners.invariant answer))
+    let entries = entries_of c.owners.names.items c.owners.types.items in
+    at_end L a config entries (subst (λ left. IsAt L a config left entries) c.in_default.ensures.steps.0 (c.owners.invariant.at answer))
 
 pub returns-clause-even : goal.returns-clause-even
 returns-clause-even g c = λ answer.
@@ -98,5 +108,5 @@ returns-clause-even g c = λ answer.
     let L = zone_of labels c.args.records in
     let a = labels c.args.apex.now in
     let config = config_of answer c.args.config.now in
-    let entries = map (as_entry {O = g.row.O.Denot}) c.owners.listed.items in
-    even_end L a config entries (subst (λ left. IsAt L a config left entries) c.in_default.ensures.steps.0 (c.owners.invariant answer))
+    let entries = entries_of c.owners.names.items c.owners.types.items in
+    even_end L a config entries (subst (λ left. IsAt L a config left entries) c.in_default.ensures.steps.0 (c.owners.invariant.at answer))

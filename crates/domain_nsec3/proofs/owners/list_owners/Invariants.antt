@@ -1,13 +1,15 @@
-use Rattle.std.proofs.Common.{length, map}
-use Rattle.domain_nsec3.specs.StepView.{as_entry}
+use Rattle.std.proofs.Common.{◌≡◌, length}
+use Rattle.domain_nsec3.specs.Steps.{entries_of}
 use Rattle.domain_zone.specs.View.{zone_of}
 use Rattle.domain_nsec3.specs.View.{Answer, config_of}
 use Rattle.domain_nsec3.proofs.StateLemmas.{IsAt}
 use Rattle.domain_nsec3.proofs.owners.list_owners.Given as goal
 
 abbrev pub invariant-owners : goal.invariant-owners
-invariant-owners g l =
-    (answer : Answer) → IsAt (zone_of g.N.ToName.labels l.fn.records) (g.N.ToName.labels l.apex) (config_of answer l.config) l.owners (map (as_entry {O = g.row.O.Denot}) l.listed.items)
+invariant-owners g l = record {
+  at : (answer : Answer) → IsAt (zone_of g.N.ToName.labels l.fn.records) (g.N.ToName.labels l.apex) (config_of answer l.config) l.owners (entries_of l.names.items l.types.items);
+  paired : length l.names.items ≡ length l.types.items;
+}
 
 abbrev pub decreases-owners : goal.decreases-owners
 decreases-owners g l = length l.owners

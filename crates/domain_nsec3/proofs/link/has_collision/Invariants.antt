@@ -1,5 +1,0 @@
-use Rattle.std.proofs.Common.{◌≡◌, ℕ, ◌+◌, ◌<◌, List, map, get_or}
-use Rattle.domain_nsec3.proofs.link.has_collision.Given as goal
-
-abbrev pub invariant-loop-i : goal.invariant-loop-i
-invariant-loop-i g l = (k : ℕ) (d : List ℕ) → k + 1 < l.i → get_or (map (λ h. h.hash.items) l.hashed) k d ≡ get_or (map (λ h. h.hash.items) l.hashed) (k + 1) d → ⊥

@@ -1,0 +1,87 @@
+//! NSEC3 chains whose records are made one by one.
+ghost use Rattle.std.specs.Prelude.{◌≡◌, ◌<◌, ◌↔◌, [], length, slice_index_or, IsTrue, IfOk};
+ghost use Rattle.domain_nsec3.specs.Chain.{HashedLink};
+ghost use Rattle.domain_nsec3.specs.StepView.{common_of, links_in, AreUsable};
+ghost use Rattle.domain_nsec3.specs.View.{as_hashed_link, hashed_links_of};
+
+use crate::chain::{HashedChain, make_record, make_records};
+use domain_base::{MakeName, ToName, Ttl};
+use domain_octets::{
+    EmptyBuilder, FreezeBuilder, FromBuilder, GrowingBuilder, Octets, OutOfMemory, Truncate,
+};
+use domain_plain::Record;
+use domain_rdata::{Nsec3, Nsec3param};
+use std::alloc::Global;
+use std::marker::Model;
+
+/// The NSEC3 chain of a zone before its records are made. Contracts see the links that its records
+/// have. It holds 48 octets for each name of the chain, and the types of those that own records: a
+/// caller that needs one record at a time needs no list of them.
+#[derive(Drop)]
+pub struct Nsec3Chain<N: ToName, O: Octets> {
+    chain: HashedChain<N, O>,
+    params: Nsec3param<O>,
+    ttl: Ttl,
+}
+
+impl<N: ToName, O: Octets> Model for Nsec3Chain<N, O> {
+    ghost use Rattle.std.specs.Prelude.{List};
+    ghost use Rattle.domain_nsec3.specs.Chain.{HashedLink};
+    ghost use Rattle.domain_nsec3.specs.StepView.{common_of, links_in, AreUsable};
+
+    ghost Value = { List HashedLink };
+
+    ghost view = { λ c. links_in N.labels c.chain (common_of c.params c.ttl) };
+
+    ghost invariant = { λ c. AreUsable N.labels c.chain };
+}
+
+impl<N: ToName, O: Octets> Nsec3Chain<N, O> {
+    /// The chain with these parameters and flags, and the TTL of its records.
+    pub(crate) fn new(chain: HashedChain<N, O>, params: Nsec3param<O>, ttl: Ttl) -> Self
+        requires { AreUsable N.labels chain }
+        ensures { result ≡ links_in N.labels chain (common_of params ttl) }
+    {
+        Nsec3Chain { chain, params, ttl }
+    }
+
+    /// How many records the chain has.
+    pub fn len(&self) -> usize
+        ensures { result ≡ length self.now }
+    {
+        self.chain.hashed.len()
+    }
+
+    /// Whether the chain has no records. That of a zone has one for the apex.
+    pub fn is_empty(&self) -> bool
+        ensures { IsTrue result ↔ (self.now ≡ []) }
+    {
+        self.len() == 0
+    }
+}
+
+impl<N: MakeName, O: FromBuilder> Nsec3Chain<N, O> {
+    /// The record at a place, in the order of hashes. Takes the memory of the record alone.
+    pub fn record(&self, alloc: Global, place: usize) -> Result<Record<N, Nsec3<O>>, OutOfMemory>
+    where
+        O: Drop,
+        N: Drop,
+        O::Builder: GrowingBuilder + EmptyBuilder + Truncate + FreezeBuilder<Frozen = O> + Drop,
+        requires { place < length self.now }
+        ensures { IfOk result (λ made. (d : HashedLink)
+            → as_hashed_link N.labels made ≡ slice_index_or self.now place d) }
+    {
+        make_record(alloc, &self.chain, place, &self.params, self.ttl)
+    }
+
+    /// All records, in the order of hashes.
+    pub fn records(&self, alloc: Global) -> Result<Vec<Record<N, Nsec3<O>>>, OutOfMemory>
+    where
+        O: Drop,
+        N: Drop,
+        O::Builder: GrowingBuilder + EmptyBuilder + Truncate + FreezeBuilder<Frozen = O> + Drop,
+        ensures { IfOk result (λ nsec3s. hashed_links_of N.labels nsec3s.items ≡ self.now) }
+    {
+        make_records(alloc, &self.chain, &self.params, self.ttl)
+    }
+}
