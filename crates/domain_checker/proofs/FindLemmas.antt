@@ -1,7 +1,6 @@
 -- Elements of lists: which pass a test, the first that does, and where they stand.
-use Rattle.std.proofs.Common.{◌≡◌, ℕ, Bool, true, false, cond, ◌||◌, List, [], ◌∷◌, map, Option, Some, None, refl, sym, ap, ◌∙◌, subst, inl, inr, ◌⊎◌, zero, suc, slice_get}
+use Rattle.std.proofs.Common.{◌≡◌, ℕ, Bool, true, false, cond, ◌||◌, List, [], ◌∷◌, map, Some, None, refl, sym, ap, ◌∙◌, subst, inl, inr, ◌⊎◌, zero, suc, slice_get}
 use Rattle.std.specs.Prelude.{All, filter}
-use Rattle.std.specs.Option.{option_map}
 use Rattle.std.specs.List.{find, list_any, Contains, AllByRecursion}
 use Rattle.std.proofs.lemmas.Bool.{cases_Bool, false≢true, or_cases, or_right}
 use Rattle.std.proofs.lemmas.List.Elements.{recursion_from_All}
@@ -95,22 +94,6 @@ module _ {X : Type 0} (p : X → Bool) where
           | inr j ↦ find_none xs (sym (λ i. cond (h i) (Some y) (find p xs)) ∙ e) x j
         ]
       ]
-
--- finding among what is seen
-pub find_seen : {X Y : Type 0} (p : Y → Bool) (f : X → Y) (xs : List X) → option_map f (find (λ x. p (f x)) xs) ≡ find p (map f xs)
-find_seen p f [] = refl
-find_seen p f (x ∷ xs) =
-    elim (p (f x)) as (λ b. option_map f (cond b (Some x) (find (λ y. p (f y)) xs)) ≡ cond b (Some (f x)) (find p (map f xs))) [
-      | true ↦ refl
-      | false ↦ find_seen p f xs
-    ]
-
-pub found_seen : {A X Y : Type 0} (p : Y → Bool) (f : X → Y) (v : A → X) (xs : List X) (r : Option A) → option_map v r ≡ find (λ x. p (f x)) xs → option_map (λ x. f (v x)) r ≡ find p (map f xs)
-found_seen p f v xs r e = twice r ∙ ap (option_map f) e ∙ find_seen p f xs
-  where
-    twice : (o : Option _) → option_map (λ x. f (v x)) o ≡ option_map f (option_map v o)
-    twice None = refl
-    twice (Some x) = refl
 
 -- ---- places
 

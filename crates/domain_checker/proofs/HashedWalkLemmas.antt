@@ -1,6 +1,6 @@
 -- The names from x up to the apex: which of them are passed, and the hash of the next closer name.
-use Rattle.std.proofs.Common.{◌≡◌, ℕ, ◌+◌, ◌-◌, ◌≤◌, ◌<◌, zero, suc, true, false, not, List, [], ◌∷◌, ◌++◌, map, length, drop, refl, sym, ap, ◌∙◌, inl, inr, Some, None, arith}
-use Rattle.std.specs.Prelude.{Ok}
+use Rattle.std.proofs.Common.{◌≡◌, ℕ, ◌+◌, ◌-◌, ◌≤◌, ◌<◌, zero, suc, true, false, not, List, [], ◌∷◌, ◌++◌, map, length, drop, refl, sym, ap, ◌∙◌, inl, inr, Option, Some, None, arith}
+use Rattle.std.specs.Prelude.{Ok, Err}
 use Rattle.std.specs.Char.{to_ascii_lowercase}
 use Rattle.std.specs.List.{find, list_any}
 use Rattle.std.proofs.lemmas.Bool.{cases_Bool, cases_lt, false≢true, and_from}
@@ -11,9 +11,11 @@ use Rattle.domain_base.specs.Words.{Label, Name}
 use Rattle.domain_zone.proofs.NameLemmas.{one_lowered, same_itself, lowered_below, below_itself, below_trans, below_longer, below_length, below_parent}
 use Rattle.domain_nsec3.specs.Chain.{HashedLink}
 use Rattle.domain_nsec3.specs.Config.{Hash, Parameters, hash_name}
-use Rattle.domain_checker.specs.HashedList.{is_hash_match}
-use Rattle.domain_checker.specs.HashedReading.{IsNextHash, IsUnmatched}
-use Rattle.domain_checker.specs.HashedVerdict.{IsFirst, is_matched, is_ok_with, next_closer}
+use Rattle.domain_checker.specs.HashedList.{is_hash_cover, is_hash_match}
+use Rattle.domain_checker.specs.HashedPass.{IsLookedUp, closer_verdict}
+use Rattle.domain_checker.specs.HashedReading.{IsNextHash, IsTold, IsUnmatched, hash_match_verdict}
+use Rattle.domain_checker.specs.HashedVerdict.{IsFirst, IsFirstRefusal, is_matched, is_ok_with, next_closer}
+use Rattle.domain_checker.specs.declared.verdict.Verdict.{Verdict}
 use Rattle.domain_checker.proofs.EncloserLemmas.{same_length, strictly_longer}
 use Rattle.domain_checker.proofs.FindLemmas.{any_none, find_none, find_some, in_any}
 use Rattle.domain_checker.proofs.HashedListLemmas.{hash_same}
@@ -102,46 +104,122 @@ module _ (listed : List HashedLink) (a : Name) (p : Parameters) (hash : Hash) wh
       pub first : IsFirst a p hash listed x left
       pub closes : IsNextHash hash x left (Some v)
 
-    module _ (left : Name) (above : is_at_or_below x left ≡ true) (within : is_at_or_below left a ≡ true) (v : Octets) (known : hash_name hash left ≡ Ok v) (none : find (is_hash_match a p v) listed ≡ None) (first : IsFirst a p hash listed x left) where
+    -- what is known of a name that no record matches, with the first cover of its hash
+    pub record IsMissed (left : Name) (cover : Option HashedLink) : Type 0 where
+      pub above : is_at_or_below x left ≡ true
+      pub within : is_at_or_below left a ≡ true
+      pub first : IsFirst a p hash listed x left
+      pub value : Octets
+      pub known : hash_name hash left ≡ Ok value
+      pub none : find (is_hash_match a p value) listed ≡ None
+      pub covered : cover ≡ find (is_hash_cover a p value) listed
+
+    module _ (left : Name) (cover : Option HashedLink) (missed : IsMissed left cover) where
       -- with the last one none is left
       pub none_left : same_name left a ≡ true → IsUnmatched listed a p hash x
       none_left s y up low =
           elim (cases_Bool (same_name y left)) [
-            | inl e ↦ matched_same y left e ∙ none_matched left v known none
+            | inl e ↦ matched_same y left e ∙ none_matched left missed.value missed.known missed.none
             | inr e ↦
                 let down : is_at_or_below y left ≡ true = ap (λ k. lowered_below (lowered y) k) (one_lowered left a s) ∙ low in
-                (first y up (and_from (is_at_or_below y left) (not (same_name y left)) down (ap not e))).2
+                (missed.first y up (and_from (is_at_or_below y left) (not (same_name y left)) down (ap not e))).2
           ]
 
-      pub passed_on : (l : Label) (next : Name) → left ≡ l ∷ next → same_name left a ≡ false → IsPassed next v
+      pub passed_on : (l : Label) (next : Name) → left ≡ l ∷ next → same_name left a ≡ false → IsPassed next missed.value
       passed_on l next e other =
           let parent : is_at_or_below left next ≡ true = ap (λ n. is_at_or_below n next) e ∙ below_parent l next in
           let count : length left ≡ length next + 1 = ap length e ∙ omega arith in
-          let up : is_at_or_below x next ≡ true = below_trans x left next above parent in
-          let long : length left ≤ length x = below_length x left above in
+          let up : is_at_or_below x next ≡ true = below_trans x left next missed.above parent in
+          let long : length left ≤ length x = below_length x left missed.above in
           let short : length a ≤ length next = elim (cases_lt (length next) (length a)) [
-            | inl h ↦ absurd (false≢true (sym other ∙ same_length left a within (omega arith)))
+            | inl h ↦ absurd (false≢true (sym other ∙ same_length left a missed.within (omega arith)))
             | inr h ↦ h
           ] in
           let closer = closer_is x next up (omega arith) in
           record {
             above = up;
-            within = below_longer left next a parent within short;
+            within = below_longer left next a parent missed.within short;
             first = λ y g h. on y g h count parent;
             closes = (
               elim (cases_Bool (same_name next x)) [
                 | inl s ↦ let n = same_count next x s in absurd (omega arith)
                 | inr s ↦ s
               ],
-              hash_same hash (next_closer x next) left (same_length (next_closer x next) left (below_longer x (next_closer x next) left closer.above above (omega (arith, closer.long))) (omega (arith, closer.long))) ∙ known,
+              hash_same hash (next_closer x next) left (same_length (next_closer x next) left (below_longer x (next_closer x next) left closer.above missed.above (omega (arith, closer.long))) (omega (arith, closer.long))) ∙ missed.known,
             );
           }
         where
           on : (y : Name) → is_at_or_below x y ≡ true → is_strictly_below y next ≡ true → length left ≡ length next + 1 → is_at_or_below left next ≡ true → (w : Octets) × (hash_name hash y ≡ Ok w) × (is_matched a p hash listed y ≡ false)
           on y g h count parent =
               let longer = strictly_longer y next h in
-              let down = below_longer x y left g above (omega arith) in
+              let down = below_longer x y left g missed.above (omega arith) in
               elim (cases_Bool (same_name y left)) [
-                | inl s ↦ (v, hash_same hash y left s ∙ known, matched_same y left s ∙ none_matched left v known none)
-                | inr s ↦ first y g (and_from (is_at_or_below y left) (not (same_name y left)) down (ap not s))
+                | inl s ↦ (missed.value, hash_same hash y left s ∙ missed.known, matched_same y left s ∙ none_matched left missed.value missed.known missed.none)
+                | inr s ↦ missed.first y g (and_from (is_at_or_below y left) (not (same_name y left)) down (ap not s))
               ]
+
+      -- at the name above, a match tells of x what the cover and it say
+      pub told_above : (next : Name) → IsPassed next missed.value → (k : HashedLink) (wire : Octets) (covering : Option HashedLink) → wire ≡ wire_of (lowered next)
+          → IsLookedUp a p hash listed wire (Some k) covering → (t : ℕ) (verdict : Verdict) → verdict ≡ closer_verdict a next k cover → IsTold listed a p hash x t verdict
+      told_above next passed k wire covering e looked t verdict says =
+          let known = ap hash (sym e) ∙ looked.known in
+          record {
+            name = next;
+            link = k;
+            value = looked.value;
+            next = Some missed.value;
+            first = record {
+              above = passed.above;
+              within = passed.within;
+              found = some_matched next looked.value k known (sym looked.found.matching);
+              first = passed.first;
+            };
+            known = known;
+            found = sym looked.found.matching;
+            closes = passed.closes;
+            says = says ∙ ap (closer_verdict a next k) missed.covered;
+          }
+
+    -- a name whose names before it were passed
+    module _ (left : Name) (above : is_at_or_below x left ≡ true) (within : is_at_or_below left a ≡ true) (first : IsFirst a p hash listed x left) (wire : Octets) (e : wire ≡ wire_of (lowered left)) where
+      pub missed_here : (covering : Option HashedLink) → IsLookedUp a p hash listed wire None covering → IsMissed left covering
+      missed_here covering looked = record {
+        above = above;
+        within = within;
+        first = first;
+        value = looked.value;
+        known = ap hash (sym e) ∙ looked.known;
+        none = sym looked.found.matching;
+        covered = looked.found.covering refl;
+      }
+
+      pub refused_here : (n : ℕ) → hash wire ≡ Err n → IsFirstRefusal listed a p hash x n
+      refused_here n refused = record {
+        name = left;
+        above = above;
+        within = within;
+        refused = ap hash (sym e) ∙ refused;
+        first = first;
+      }
+
+    -- a match of x itself tells of it
+    pub told_here : is_at_or_below x a ≡ true → (k : HashedLink) (wire : Octets) (covering : Option HashedLink) → wire ≡ wire_of (lowered x)
+        → IsLookedUp a p hash listed wire (Some k) covering → (t : ℕ) (verdict : Verdict) → verdict ≡ hash_match_verdict a x k t → IsTold listed a p hash x t verdict
+    told_here low k wire covering e looked t verdict says =
+        let known = ap hash (sym e) ∙ looked.known in
+        record {
+          name = x;
+          link = k;
+          value = looked.value;
+          next = None;
+          first = record {
+            above = below_itself x;
+            within = low;
+            found = some_matched x looked.value k known (sym looked.found.matching);
+            first = none_first;
+          };
+          known = known;
+          found = sym looked.found.matching;
+          closes = same_itself x x refl;
+          says = says;
+        }

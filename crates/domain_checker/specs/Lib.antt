@@ -4,3 +4,4 @@ pub mod HashedList
 pub mod HashedVerdict
 pub mod HashedReading
 pub mod HashedView
+pub mod HashedPass

@@ -1,22 +1,28 @@
 //! What NSEC3 records say of hashes.
 ghost use Rattle.std.specs.Prelude.{◌≡◌};
 ghost use Rattle.std.specs.Option.{option_map};
-ghost use Rattle.std.specs.List.{find};
-ghost use Rattle.domain_zone.specs.Covering.{covers};
+ghost use Rattle.domain_zone.specs.Covering.{covers, matches};
 ghost use Rattle.domain_nsec3.specs.Meaning.{octets_before};
-ghost use Rattle.domain_nsec3.specs.View.{as_hashed_link, parameters_in, parameters_of};
-ghost use Rattle.domain_checker.specs.HashedList.{same_parameters, read_label, owner_hash, is_hash_match, is_hash_cover};
-ghost use Rattle.domain_checker.specs.HashedView.{links, parameters};
+ghost use Rattle.domain_nsec3.specs.View.{as_hashed_link, hashed_links_of, parameters_in, parameters_of};
+ghost use Rattle.domain_checker.specs.HashedList.{same_parameters, read_label, owner_hash, is_some_with};
+ghost use Rattle.domain_checker.specs.HashedPass.{found_match, found_cover, IsFound};
 
 use crate::spelled::{is_spelling, spelled_cmp};
 use domain_base::ToName;
-use domain_nsec3::Nsec3Records;
 use domain_octets::Octets;
 use domain_plain::Record;
 use domain_rdata::{Nsec3, Nsec3param};
 
 /// An NSEC3 record.
 pub(crate) type Nsec3Rr<O, N> = Record<N, Nsec3<O>>;
+
+/// What one pass over records finds of a hash.
+pub(crate) enum Found<'a, O: Octets, N: ToName> {
+    /// The first record that matches it.
+    Match(&'a Nsec3Rr<O, N>),
+    /// No record matches it, and this is the first that covers it.
+    NoMatch(Option<&'a Nsec3Rr<O, N>>),
+}
 
 /// Whether a record's names are hashed with these parameters.
 fn has_parameters<O: Octets>(nsec3: &Nsec3<O>, param: &Nsec3param<O>) -> bool
@@ -51,17 +57,12 @@ fn hash_label<'a, O: Octets, N: ToName>(
     Some(label)
 }
 
-/// Whether the record matches the hash.
-fn is_match<O: Octets, N: ToName>(
-    apex: &N,
-    param: &Nsec3param<O>,
-    listed: &Nsec3Rr<O, N>,
-    hash: &[u8],
-) -> bool
-    ensures { result ≡ is_hash_match (N.labels apex.now) (parameters_of param.now) hash.now
-        (as_hashed_link N.labels listed.now) }
+/// Whether a record matches the hash, by the label that spells its own.
+fn is_match(label: Option<&[u8]>, hash: &[u8]) -> bool
+    ensures { result ≡ is_some_with (λ h. matches octets_before h hash.now)
+        (option_map (λ l. read_label l.now) label.entry) }
 {
-    match hash_label(apex, param, listed) {
+    match label {
         Some(label) => spelled_cmp(label, hash).is_eq(),
         None => false,
     }
@@ -82,54 +83,38 @@ fn lies_between(label: &[u8], next: &[u8], hash: &[u8]) -> bool
     !order.is_eq() & between
 }
 
-/// Whether the record covers the hash.
-fn is_cover<O: Octets, N: ToName>(
-    apex: &N,
-    param: &Nsec3param<O>,
-    listed: &Nsec3Rr<O, N>,
-    hash: &[u8],
-) -> bool
-    ensures { result ≡ is_hash_cover (N.labels apex.now) (parameters_of param.now) hash.now
-        (as_hashed_link N.labels listed.now) }
+/// Whether a record covers the hash, by the label that spells its own and the next hash.
+fn is_cover(label: Option<&[u8]>, next: &[u8], hash: &[u8]) -> bool
+    ensures { result ≡ is_some_with (λ h. covers octets_before h next.now hash.now)
+        (option_map (λ l. read_label l.now) label.entry) }
 {
-    match hash_label(apex, param, listed) {
-        Some(label) => lies_between(label, listed.data().next_owner().as_slice(), hash),
+    match label {
+        Some(label) => lies_between(label, next, hash),
         None => false,
     }
 }
 
-/// The first record that matches the hash.
-pub(crate) fn first_match<'a, O: Octets, N: ToName>(
+/// The first record that matches the hash or, where none does, the first that covers it. Goes over
+/// the records once.
+pub(crate) fn find_hash<'a, O: Octets, N: ToName>(
     apex: &N,
-    records: &'a Nsec3Records<N, O>,
+    param: &Nsec3param<O>,
+    nsec3s: &'a [Nsec3Rr<O, N>],
     hash: &[u8],
-) -> Option<&'a Nsec3Rr<O, N>>
-    ensures { option_map (λ k. as_hashed_link N.labels k.now) result
-        ≡ find (is_hash_match (N.labels apex.now) (parameters records.now) hash.now)
-        (links N.labels records.now) }
+) -> Found<'a, O, N>
+    ensures { IsFound (N.labels apex.now) (parameters_of param.now)
+        (hashed_links_of N.labels nsec3s.now) hash.now
+        (found_match N.labels result) (found_cover N.labels result) }
 {
-    let param = records.nsec3param.data();
-    records
-        .nsec3s
-        .as_slice()
-        .iter()
-        .find(|listed| is_match(apex, param, listed, hash))
-}
-
-/// The first record that covers the hash.
-pub(crate) fn first_cover<'a, O: Octets, N: ToName>(
-    apex: &N,
-    records: &'a Nsec3Records<N, O>,
-    hash: &[u8],
-) -> Option<&'a Nsec3Rr<O, N>>
-    ensures { option_map (λ k. as_hashed_link N.labels k.now) result
-        ≡ find (is_hash_cover (N.labels apex.now) (parameters records.now) hash.now)
-        (links N.labels records.now) }
-{
-    let param = records.nsec3param.data();
-    records
-        .nsec3s
-        .as_slice()
-        .iter()
-        .find(|listed| is_cover(apex, param, listed, hash))
+    let mut cover = None;
+    for listed in nsec3s {
+        let label = hash_label(apex, param, listed);
+        if is_match(label, hash) {
+            return Found::Match(listed);
+        }
+        if cover.is_none() && is_cover(label, listed.data().next_owner().as_slice(), hash) {
+            cover = Some(listed);
+        }
+    }
+    Found::NoMatch(cover)
 }

@@ -32,9 +32,9 @@ fn is_before<N: ToName, M: ToName>(name: &N, other: &M) -> bool
     name.name_cmp(other).is_lt()
 }
 
-/// Whether the owner and the next name cover the name: it lies between the two, or on either side of
-/// them where the next name is not after the owner. `order` is the canonical order of the owner and
-/// the name.
+/// Whether the owner and the next name cover the name: it lies between the two, or on either side
+/// of them where the next name is not after the owner. `order` is the canonical order of the owner
+/// and the name.
 #[tactic(auto, using(crate::proofs::FirstLemmas::match_is_tie))]
 fn covers<N: ToName, M: ToName>(order: Ordering, owner: &N, next: &N, name: &M) -> bool
     requires { order ≡ canonical_cmp (N.labels owner.now) (M.labels name.now) }

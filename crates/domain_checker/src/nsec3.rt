@@ -28,10 +28,11 @@ const MAX_NAME: usize = 255;
 ///
 /// Names are hashed with the parameters of the NSEC3PARAM record, from the name towards the apex,
 /// up to the first that a record matches; no name is hashed twice, and of a name that is not at or
-/// below the apex none is. With no match the answer is `NotProven`. It is that too where the name
-/// that is matched is neither the one asked for nor told to be a zone cut, and no record covers the
-/// next closer name, which is one label longer. The first match and the first cover in the list
-/// count, and the flag of opt-out is the cover's. Takes no memory but for the hasher's answers.
+/// below the apex none is. The records are gone over once for each name that is hashed. With no
+/// match the answer is `NotProven`. It is that too where the name that is matched is neither the
+/// one asked for nor told to be a zone cut, and no record covers the next closer name, which is one
+/// label longer. The first match and the first cover in the list count, and the flag of opt-out is
+/// the cover's. Takes no memory but for the hasher's answers, one at a time.
 ///
 /// # Errors
 ///

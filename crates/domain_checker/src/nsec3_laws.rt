@@ -1,4 +1,4 @@
-//! What the way from a name to the apex proves.
+//! What the way from a name to the apex proves. A caller calls the law in its body.
 ghost use Rattle.std.specs.Prelude.{◌≡◌, ◌<◌, ℕ, true, List};
 ghost use Rattle.domain_base.specs.Name.{is_at_or_below};
 ghost use Rattle.domain_base.specs.Words.{Name};

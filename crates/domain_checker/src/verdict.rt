@@ -5,8 +5,8 @@
 pub enum Verdict {
     /// The name is not at or below the apex.
     OutsideZone,
-    /// The name is strictly below a zone cut; or it is one, and the type is neither listed there nor
-    /// DS. The child zone answers.
+    /// The name is strictly below a zone cut; or it is one, and the type is neither listed there
+    /// nor DS. The child zone answers.
     BelowDelegation,
     /// The name owns records of the type.
     Has,

@@ -1,35 +1,22 @@
 //! The way from a name towards the apex, up to the first name that an NSEC3 record matches.
 ghost use Rattle.std.specs.Prelude.{◌≡◌, ◌≤◌, ◌⊎◌, ℕ, Ok, Err, true, length, drop, IfOk, IfErr};
 ghost use Rattle.std.specs.Option.{option_map};
-ghost use Rattle.std.specs.List.{find};
 ghost use Rattle.domain_base.specs.Name.{is_at_or_below, lowered, wire_of};
 ghost use Rattle.domain_nsec3.specs.View.{as_hashed_link};
 ghost use Rattle.domain_records.specs.declared.error.Nsec3HashError.TheVariants as hash_error;
-ghost use Rattle.domain_checker.specs.HashedList.{is_hash_cover};
-ghost use Rattle.domain_checker.specs.HashedReading.{tells_cut, hash_match_verdict, hash_cover_verdict, told_verdict, IsWalked};
+ghost use Rattle.domain_checker.specs.HashedPass.{found_match, found_cover, closer_verdict, IsLookedUp};
+ghost use Rattle.domain_checker.specs.HashedReading.{tells_cut, hash_match_verdict, hash_cover_verdict, IsWalked};
 ghost use Rattle.domain_checker.specs.HashedVerdict.{IsFirstRefusal};
 ghost use Rattle.domain_checker.specs.HashedView.{hash_with, links, parameters};
 
 use crate::Verdict;
-use crate::hashed::{Nsec3Rr, first_cover, first_match};
+use crate::hashed::{Found, Nsec3Rr, find_hash};
 use domain_base::{ParsedName, Rtype, ToName};
 use domain_nsec3::Nsec3Records;
 use domain_octets::Octets;
 use domain_records::Nsec3HashError;
 use domain_zone::{HasherError, Nsec3Hasher};
 use std::alloc::Global;
-
-/// How many labels the name has.
-fn count_labels(name: &ParsedName<'_>) -> usize
-    ensures { result ≡ length name.now }
-{
-    let mut count = 0;
-    let mut left = name.labels();
-    'labels: while let Some(_) = left.next() {
-        count += 1;
-    }
-    count
-}
 
 /// Whether a record that matches a name tells that the name is a zone cut.
 fn tells_cut<O: Octets, N: ToName>(apex: &N, name: &ParsedName<'_>, listed: &Nsec3Rr<O, N>) -> bool
@@ -61,19 +48,13 @@ fn match_verdict<O: Octets, N: ToName>(
     Verdict::NoType
 }
 
-/// What the records say of a name by the hash of its next closer name. The number counts the labels
+/// What the first cover of the next closer name's hash says of a name. The number counts the labels
 /// of its closest encloser.
-fn cover_verdict<O: Octets, N: ToName>(
-    apex: &N,
-    records: &Nsec3Records<N, O>,
-    hash: &[u8],
-    count: usize,
-) -> Verdict
+fn cover_verdict<O: Octets, N: ToName>(cover: Option<&Nsec3Rr<O, N>>, count: usize) -> Verdict
     ensures { result ≡ hash_cover_verdict count
-        (find (is_hash_cover (N.labels apex.now) (parameters records.now) hash.now)
-        (links N.labels records.now)) }
+        (option_map (λ k. as_hashed_link N.labels k.now) cover.entry) }
 {
-    match first_cover(apex, records, hash) {
+    match cover {
         Some(listed) => {
             if listed.data().opt_out() {
                 Verdict::OptOut(count)
@@ -85,29 +66,22 @@ fn cover_verdict<O: Octets, N: ToName>(
     }
 }
 
-/// What the records say where this is the first name that one matches, and that record the first
-/// that does. With it comes the hash of the name one label longer; None where there is none.
-fn told_verdict<O: Octets, N: ToName>(
+/// What the first record that matches the closest encloser says of the name below it, with the
+/// first cover of the next closer name's hash.
+fn closer_verdict<O: Octets, N: ToName>(
     apex: &N,
-    records: &Nsec3Records<N, O>,
-    name: &ParsedName<'_>,
+    encloser: &ParsedName<'_>,
     listed: &Nsec3Rr<O, N>,
-    rtype: Rtype,
-    longer: &Option<Vec<u8>>,
+    cover: Option<&Nsec3Rr<O, N>>,
 ) -> Verdict
-    ensures { result ≡ told_verdict (N.labels apex.now) (parameters records.now)
-        (links N.labels records.now) name.now (as_hashed_link N.labels listed.now) rtype
-        (option_map (λ v. v.items) longer.now) }
+    ensures { result ≡ closer_verdict (N.labels apex.now) encloser.now
+        (as_hashed_link N.labels listed.now)
+        (option_map (λ k. as_hashed_link N.labels k.now) cover.entry) }
 {
-    match longer {
-        None => match_verdict(apex, name, listed, rtype),
-        Some(hash) => {
-            if tells_cut(apex, name, listed) {
-                return Verdict::BelowDelegation;
-            }
-            cover_verdict(apex, records, hash.as_slice(), count_labels(name))
-        }
+    if tells_cut(apex, encloser, listed) {
+        return Verdict::BelowDelegation;
     }
+    cover_verdict(cover, encloser.count_labels())
 }
 
 /// The hash of the name with this wire form in lower case.
@@ -133,6 +107,27 @@ fn hash_octets<O: Octets, N: ToName, H: Nsec3Hasher>(
     }
 }
 
+/// What the records say of the name with this wire form in lower case. Hashes it, and goes over the
+/// records once.
+fn look_up<'a, O: Octets, N: ToName, H: Nsec3Hasher>(
+    alloc: Global,
+    apex: &N,
+    records: &'a Nsec3Records<N, O>,
+    wire: &[u8],
+    hasher: &H,
+) -> Result<Found<'a, O, N>, Nsec3HashError>
+    ensures ok { IfOk result (λ found. IsLookedUp (N.labels apex.now) (parameters records.now)
+        (hash_with (H.answer hasher.now) records.now) (links N.labels records.now) wire.now
+        (found_match N.labels found) (found_cover N.labels found)) }
+    ensures err { IfErr result (λ e. (e ≡ hash_error.OutOfMemory) ⊎ ((n : ℕ)
+        × (e ≡ hash_error.Hasher n)
+        × (hash_with (H.answer hasher.now) records.now wire.now ≡ Err n))) }
+{
+    let hash = hash_octets(alloc, hasher, records, wire)?;
+    let param = records.nsec3param.data();
+    Ok(find_hash(apex, param, records.nsec3s.as_slice(), hash.as_slice()))
+}
+
 /// The octets without the first ones.
 fn skip(octets: &[u8], count: usize) -> &[u8]
     requires { count ≤ length octets.now }
@@ -143,7 +138,8 @@ fn skip(octets: &[u8], count: usize) -> &[u8]
 }
 
 /// What the records say of a name at or below the apex, whose wire form in lower case is handed in:
-/// names are hashed from this one on, and each name above has an end of that form.
+/// names are hashed from this one on, and each name above has an end of that form. Of a name that
+/// no record matches the first cover is kept for the name above it, and not the hash.
 pub(crate) fn walk<O: Octets, N: ToName, H: Nsec3Hasher>(
     alloc: Global,
     apex: &N,
@@ -162,22 +158,22 @@ pub(crate) fn walk<O: Octets, N: ToName, H: Nsec3Hasher>(
         × IsFirstRefusal (links N.labels records.now) (N.labels apex.now)
         (parameters records.now) (hash_with (H.answer hasher.now) records.now) name.now n)) }
 {
+    let mut cover = match look_up(alloc, apex, records, wire, hasher)? {
+        Found::Match(listed) => return Ok(match_verdict(apex, name, listed, rtype)),
+        Found::NoMatch(cover) => cover,
+    };
     let mut left = name.as_parsed();
     let mut octets = wire;
-    let mut longer: Option<Vec<u8>> = None;
-    'names: loop {
-        let hash = hash_octets(alloc, hasher, records, octets)?;
-        if let Some(listed) = first_match(apex, records, hash.as_slice()) {
-            return Ok(told_verdict(apex, records, &left, listed, rtype, &longer));
-        }
-        if left.name_eq(apex) {
-            return Ok(Verdict::NotProven);
-        }
+    'names: while !left.name_eq(apex) {
         let Some((label, above)) = left.split_first() else {
             unreachable!();
         };
         octets = skip(octets, label.len() + 1);
         left = above;
-        longer = Some(hash);
+        cover = match look_up(alloc, apex, records, octets, hasher)? {
+            Found::Match(listed) => return Ok(closer_verdict(apex, &left, listed, cover)),
+            Found::NoMatch(next) => next,
+        };
     }
+    Ok(Verdict::NotProven)
 }

@@ -1,0 +1,43 @@
+-- What one pass over NSEC3 records finds of a hash; a is the apex.
+use Rattle.std.specs.Prelude.{◌≡◌, List, Option, Some, None, Ok, length, if◌then◌else◌}
+use Rattle.std.specs.List.{find}
+use Rattle.std.specs.Option.{option_map}
+use Rattle.domain_octets.specs.Words.{Octets}
+use Rattle.domain_base.specs.Words.{Name}
+use Rattle.domain_nsec3.specs.Chain.{HashedLink}
+use Rattle.domain_nsec3.specs.Config.{Hash, Parameters}
+use Rattle.domain_nsec3.specs.View.{as_hashed_link}
+use Rattle.domain_checker.specs.HashedList.{is_hash_match, is_hash_cover}
+use Rattle.domain_checker.specs.HashedReading.{tells_cut, hash_cover_verdict}
+use Rattle.domain_checker.specs.declared.hashed.Found.{Found}
+use Rattle.domain_checker.specs.declared.hashed.Found.TheVariants.{Match, NoMatch}
+use Rattle.domain_checker.specs.declared.verdict.Verdict.{Verdict}
+use Rattle.domain_checker.specs.declared.verdict.Verdict.TheVariants.{BelowDelegation}
+
+-- the match that was found; the cover, which is looked for where there is no match
+abbrev pub found_match : {O N : Type 0} → (N → Name) → Found O N → Option HashedLink
+found_match labels (Match k) = Some (as_hashed_link labels k.now)
+found_match labels (NoMatch cover) = None
+
+abbrev pub found_cover : {O N : Type 0} → (N → Name) → Found O N → Option HashedLink
+found_cover labels (Match k) = None
+found_cover labels (NoMatch cover) = option_map (λ k. as_hashed_link labels k.now) cover
+
+-- the first match of the hash v and, where there is none, the first cover
+pub record IsFound (a : Name) (p : Parameters) (listed : List HashedLink) (v : Octets)
+    (matched covered : Option HashedLink) : Type 0 where
+  pub matching : matched ≡ find (is_hash_match a p v) listed
+  pub covering : matched ≡ None → covered ≡ find (is_hash_cover a p v) listed
+
+-- the same of the name with this wire form in lower case
+pub record IsLookedUp (a : Name) (p : Parameters) (hash : Hash) (listed : List HashedLink)
+    (wire : Octets) (matched covered : Option HashedLink) : Type 0 where
+  pub value : Octets
+  pub known : hash wire ≡ Ok value
+  pub found : IsFound a p listed value matched covered
+
+-- the first record k that matches a name d, the closest encloser of another, says of that one,
+-- where the cover is the first of the next closer name
+abbrev pub closer_verdict : Name → Name → HashedLink → Option HashedLink → Verdict
+closer_verdict a d k cover =
+    if tells_cut a d k then BelowDelegation else hash_cover_verdict (length d) cover
