@@ -1,5 +1,6 @@
 pub mod AnyOrder
 pub mod AnyOrderNsec3
+pub mod Error
 pub use Rattle.domain_zone.specs.Covering
 pub use Rattle.domain_zone.specs.Zone
 pub use Rattle.domain_zone.specs.Soa

@@ -5,23 +5,27 @@
 //! order, as `SortedRecords` keeps them, and `generate_nsec3s` its NSEC3 chain;
 //! `generate_nsecs_of_sorted` and `generate_nsec3s_of_sorted` take sorted records as they are,
 //! `generate_nsecs_of_records` and `generate_nsec3s_of_records` records in any order. `check_nsec`
-//! and `check_nsec3` say what records of a chain prove of a name and a type. What the contracts cite
-//! stands in `specs/` of `domain_zone`, `domain_nsec`, `domain_nsec3`, `domain_checker` and this
-//! crate. What signatures here name is handed on: names, types, classes, TTLs, records and their
-//! data, builders of octets, sorted records, and the errors.
+//! and `check_nsec3` say what records of a chain prove of a name and a type. What the contracts
+//! cite stands in `specs/` of `domain_zone`, `domain_nsec`, `domain_nsec3`, `domain_checker` and
+//! this crate. What signatures here name is handed on: names, types, classes, TTLs, records and
+//! their data, builders of octets, sorted records, and the errors.
 #![tactic(auto)]
 
 mod any_order;
 mod any_order_nsec3;
 mod chain;
 mod config;
+mod error;
 pub mod laws;
 
 pub use any_order::{generate_nsecs_of_records, generate_nsecs_of_sorted};
 pub use any_order_nsec3::{generate_nsec3s_of_records, generate_nsec3s_of_sorted};
 pub use chain::ChainError;
 pub use config::DenialConfig;
-pub use domain_base::{Class, MakeName, Name, Nsec3HashAlgorithm, Rtype, ToName, Ttl};
+pub use domain_base::{
+    Class, FromToken, IterScanner, MakeName, Name, Nsec3HashAlgorithm, ParseError, ParsedName,
+    Rtype, ScanError, Scanner, ToName, Ttl,
+};
 pub use domain_bitmap::{RtypeBitmap, RtypeBitmapBuilder};
 pub use domain_checker::{Verdict, check_nsec, check_nsec3};
 pub use domain_nsec::{GenerateNsecConfig, generate_nsecs};
@@ -30,14 +34,16 @@ pub use domain_nsec3::{
     mk_hashed_nsec3_owner_name,
 };
 pub use domain_octets::{
-    EmptyBuilder, FreezeBuilder, FromBuilder, GrowingBuilder, Octets, OutOfMemory, Truncate,
-    TryClone,
+    AppendError, EmptyBuilder, FreezeBuilder, FromBuilder, GrowingBuilder, Octets, OutOfMemory,
+    Parser, Truncate, TryClone,
 };
-pub use domain_plain::Record;
+pub use domain_plain::{LongRecordData, Record};
 pub use domain_rdata::{Nsec, Nsec3, Nsec3param, ZoneRecordData};
 pub use domain_records::{
-    DefaultSorter, Nsec3HashError, OwnerRrs, RecordsIter, SigningError, SortedRecords, Sorter,
+    DefaultSorter, InsertError, Nsec3HashError, OwnerRrs, RecordsIter, SigningError, SortedRecords,
+    Sorter,
 };
 pub use domain_zone::{
     ApexSoa, HasherError, Nsec3Hasher, UnoccludedOwner, UnoccludedOwners, ZoneRr, find_soa,
 };
+pub use error::Error;

@@ -1,0 +1,56 @@
+-- What the errors of the library are to a program: their kind, without their texts.
+use Rattle.domain_base.specs.declared.error.ScanError.{ScanError}
+use Rattle.domain_base.specs.declared.error.ScanError.TheVariants as scan_error
+use Rattle.domain_octets.specs.declared.error.AppendError.{AppendError}
+use Rattle.domain_octets.specs.declared.error.AppendError.TheVariants as append_error
+use Rattle.domain_octets.specs.declared.error.ParseError.{ParseError}
+use Rattle.domain_octets.specs.declared.error.ParseError.TheVariants as parse_error
+use Rattle.domain_records.specs.declared.error.Nsec3HashError.{Nsec3HashError}
+use Rattle.domain_records.specs.declared.error.Nsec3HashError.TheVariants as hash_error
+use Rattle.domain_records.specs.declared.error.SigningError.{SigningError}
+use Rattle.domain_records.specs.declared.error.SigningError.TheVariants as signing_error
+use Rattle.domain_dnssec.specs.declared.chain.ChainError.{ChainError}
+use Rattle.domain_dnssec.specs.declared.chain.ChainError.TheVariants as chain_error
+use Rattle.domain_dnssec.specs.declared.error.Error.{Error}
+use Rattle.domain_dnssec.specs.declared.error.Error.TheVariants as variant
+
+abbrev pub of_scanning : ScanError → Error
+of_scanning scan_error.EndOfEntry = variant.EndOfEntry
+of_scanning (scan_error.Custom text) = variant.Text
+of_scanning scan_error.ShortBuf = variant.ShortBuf
+of_scanning scan_error.OutOfMemory = variant.OutOfMemory
+
+abbrev pub of_parsing : ParseError → Error
+of_parsing parse_error.ShortInput = variant.ShortInput
+of_parsing (parse_error.Form text) = variant.Form
+
+abbrev pub of_append : AppendError → Error
+of_append append_error.ShortBuf = variant.ShortBuf
+of_append append_error.OutOfMemory = variant.OutOfMemory
+
+abbrev pub of_signing : SigningError → Error
+of_signing signing_error.EmptyRecordSlice = variant.Signing signing_error.EmptyRecordSlice
+of_signing signing_error.MultipleTtlValues = variant.Signing signing_error.MultipleTtlValues
+of_signing signing_error.SoaRecordCouldNotBeDetermined =
+    variant.Signing signing_error.SoaRecordCouldNotBeDetermined
+of_signing (signing_error.Nsec3HashingError error) =
+    variant.Signing (signing_error.Nsec3HashingError error)
+of_signing signing_error.OutOfMemory = variant.OutOfMemory
+
+abbrev pub of_hashing : Nsec3HashError → Error
+of_hashing (hash_error.Hasher n) =
+    variant.Signing (signing_error.Nsec3HashingError (hash_error.Hasher n))
+of_hashing hash_error.AppendError =
+    variant.Signing (signing_error.Nsec3HashingError hash_error.AppendError)
+of_hashing hash_error.OwnerHashError =
+    variant.Signing (signing_error.Nsec3HashingError hash_error.OwnerHashError)
+of_hashing hash_error.Nsec3NameTooLong =
+    variant.Signing (signing_error.Nsec3HashingError hash_error.Nsec3NameTooLong)
+of_hashing hash_error.CollisionDetected =
+    variant.Signing (signing_error.Nsec3HashingError hash_error.CollisionDetected)
+of_hashing hash_error.OutOfMemory = variant.OutOfMemory
+
+abbrev pub of_chain : ChainError → Error
+of_chain chain_error.MixedClasses = variant.MixedClasses
+of_chain (chain_error.Signing error) = of_signing error
+of_chain chain_error.OutOfMemory = variant.OutOfMemory
