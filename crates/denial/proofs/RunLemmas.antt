@@ -1,5 +1,5 @@
 -- What a run writes, piece after piece.
-use Rattle.std.proofs.Common.{◌≡◌, ◌++◌, codes, refl, ap, ◌∙◌, Some, None, Option, append_assoc}
+use Rattle.std.proofs.Common.{◌≡◌, ◌++◌, codes, ap, ◌∙◌, Some, None, Option, append_assoc}
 use Rattle.std.specs.Fmt.{decimal}
 use Rattle.std.specs.Io.KnownBytes.{Appends}
 use Rattle.domain_octets.specs.Words.{Octets}

@@ -1,7 +1,7 @@
 -- Salts as text: a token that is refused spells none.
-use Rattle.std.proofs.Common.{◌≡◌, ◌≢◌, ℕ, ◌≤◌, ◌<◌, ◌^◌, [], ◌∷◌, codes, length, refl, inr, arith, None}
+use Rattle.std.proofs.Common.{◌≢◌, ℕ, ◌≤◌, ◌<◌, ◌^◌, [], ◌∷◌, codes, length, refl, inr, arith, None}
 use Rattle.domain_octets.specs.Words.{Octets}
-use Rattle.domain_base.specs.Scan.{ScanFault, no_memory, IsNumber, RefusesToken, TakesToken}
+use Rattle.domain_base.specs.Scan.{ScanFault, no_memory, IsNumber, RefusesToken}
 use Rattle.domain_base.specs.Words.{Token, Tokens}
 use Rattle.domain_bitmap.specs.HashScan.{SaltTokenFault}
 use Rattle.domain_bitmap.specs.HashText.{SaltText}

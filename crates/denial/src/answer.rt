@@ -87,8 +87,8 @@ pub fn answer_of<H: Nsec3Hasher>(
     match command {
         Command::Nsec(apex) => nsecs_of(alloc, &apex, records),
         Command::Nsec3(apex, parameters) => nsec3s_of(alloc, &apex, parameters, records, hasher),
-        Command::CheckNsec(question) => Ok(nsec_verdict(alloc, question, &records)?),
-        Command::CheckNsec3(question) => nsec3_verdict(alloc, question, &records, hasher),
+        Command::CheckNsec(question) => Ok(nsec_verdict(alloc, question, records)?),
+        Command::CheckNsec3(question) => nsec3_verdict(alloc, question, records, hasher),
     }
 }
 

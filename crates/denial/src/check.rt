@@ -16,28 +16,30 @@ use domain_records::{Nsec3HashError, SigningError};
 use std::alloc::Global;
 
 /// The NSEC records among these, in their order.
-fn nsecs_among(alloc: Global, records: &[ZoneRr]) -> Result<Vec<NsecRr>, OutOfMemory>
-    ensures { IfOk result (λ nsecs. nsecs.items ≡ nsecs_among records.now) }
+fn nsecs_among(alloc: Global, records: Vec<ZoneRr>) -> Result<Vec<NsecRr>, OutOfMemory>
+    ensures { IfOk result (λ nsecs. nsecs.items ≡ nsecs_among records.items) }
 {
     let mut nsecs = Vec::new(alloc);
-    for record in records {
-        if let ZoneRecordData::Nsec(data) = record.data() {
-            let owner = record.owner().clone()?;
-            nsecs.push(Record::new(owner, record.class(), record.ttl(), data.clone()?))?;
+    let mut left = records.into_iter();
+    'left: while let Some(record) = left.next() {
+        let (owner, class, ttl, data) = record.into_parts();
+        if let ZoneRecordData::Nsec(data) = data {
+            nsecs.push(Record::new(owner, class, ttl, data))?;
         }
     }
     Ok(nsecs)
 }
 
 /// The NSEC3 records among these, in their order.
-fn nsec3s_among(alloc: Global, records: &[ZoneRr]) -> Result<Vec<Nsec3Rr>, OutOfMemory>
-    ensures { IfOk result (λ nsec3s. nsec3s.items ≡ nsec3s_among records.now) }
+fn nsec3s_among(alloc: Global, records: Vec<ZoneRr>) -> Result<Vec<Nsec3Rr>, OutOfMemory>
+    ensures { IfOk result (λ nsec3s. nsec3s.items ≡ nsec3s_among records.items) }
 {
     let mut nsec3s = Vec::new(alloc);
-    for record in records {
-        if let ZoneRecordData::Nsec3(data) = record.data() {
-            let owner = record.owner().clone()?;
-            nsec3s.push(Record::new(owner, record.class(), record.ttl(), data.clone()?))?;
+    let mut left = records.into_iter();
+    'left: while let Some(record) = left.next() {
+        let (owner, class, ttl, data) = record.into_parts();
+        if let ZoneRecordData::Nsec3(data) = data {
+            nsec3s.push(Record::new(owner, class, ttl, data))?;
         }
     }
     Ok(nsec3s)
@@ -67,9 +69,9 @@ fn params_at(
 pub fn nsec_verdict(
     alloc: Global,
     question: Question,
-    records: &[ZoneRr],
+    records: Vec<ZoneRr>,
 ) -> Result<Answer, OutOfMemory>
-    ensures { IfOk result (IsNsecVerdict records.now question) }
+    ensures { IfOk result (IsNsecVerdict records.items question) }
 {
     let nsecs = nsecs_among(alloc, records)?;
     let Question { apex, name, rtype } = question;
@@ -81,15 +83,15 @@ pub fn nsec_verdict(
 fn chain_of(
     alloc: Global,
     apex: &ZoneName,
-    records: &[ZoneRr],
+    records: Vec<ZoneRr>,
 ) -> Result<Nsec3Records<ZoneName, Vec<u8>>, DenialFault>
-    ensures ok { IfOk result (λ chain. (params_at apex.now records.now ≡ chain.nsec3param ∷ [])
-        × (chain.nsec3s.items ≡ nsec3s_among records.now)) }
+    ensures ok { IfOk result (λ chain. (params_at apex.now records.items ≡ chain.nsec3param ∷ [])
+        × (chain.nsec3s.items ≡ nsec3s_among records.items)) }
     ensures err { IfErr result (λ e. ((e ≡ DenialFault.Param)
-        × ((param : ParamRecord) → params_at apex.now records.now ≡ param ∷ [] → ⊥))
+        × ((param : ParamRecord) → params_at apex.now records.items ≡ param ∷ [] → ⊥))
         ⊎ (e ≡ Memory)) }
 {
-    let mut params = params_at(alloc, apex, records)?;
+    let mut params = params_at(alloc, apex, &records)?;
     let Some(param) = params.pop() else {
         return Err(DenialFault::Param);
     };
@@ -103,11 +105,12 @@ fn chain_of(
 pub fn nsec3_verdict<H: Nsec3Hasher>(
     alloc: Global,
     question: Question,
-    records: &[ZoneRr],
+    records: Vec<ZoneRr>,
     hasher: &H,
 ) -> Result<Answer, DenialFault>
-    ensures ok { IfOk result (IsNsec3Verdict (H.answer hasher.now) records.now question) }
-    ensures err { IfErr result (HasNoNsec3Verdict (H.answer hasher.now) records.now question) }
+    ensures ok { IfOk result (IsNsec3Verdict (H.answer hasher.now) records.items question) }
+    ensures err { IfErr result
+        (HasNoNsec3Verdict (H.answer hasher.now) records.items question) }
 {
     let Question { apex, name, rtype } = question;
     let chain = chain_of(alloc, &apex, records)?;

@@ -1,6 +1,6 @@
 use Rattle.std.proofs.Common.{refl, subst}
 use Rattle.domain_dnssec.specs.AnyOrderNsec3.{IsHashedChainOf}
-use Rattle.domain_nsec3.specs.View.{as_param_record, config_of, hashed_links_of}
+use Rattle.domain_nsec3.specs.View.{as_param_record, hashed_links_of}
 use Rattle.denial.specs.Answer.{usual_nsec3_config}
 use Rattle.denial.proofs.AnswerLemmas.{usual_is}
 use Rattle.denial.proofs.answer.nsec3s_of.Goals as goal

@@ -8,7 +8,7 @@ pub returns : goal.returns
 returns c =
     let q = c.args.question in
     let verdict = c.check_nsec-verdict.result in
-    let same : c.deref.result.now ≡ nsecs_among c.args.records.now = c.deref.ensures.value ∙ c.in_ok-nsecs.ensures in
+    let same : c.deref.result.now ≡ nsecs_among c.args.records.items = c.deref.ensures.value ∙ c.in_ok-nsecs.ensures in
     record {
       verdict = verdict;
       is = refl;

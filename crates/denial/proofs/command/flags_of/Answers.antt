@@ -1,4 +1,4 @@
-use Rattle.std.proofs.Common.{◌≡◌, [], ◌∷◌, ap, sym, ◌∙◌, subst, map, codes, refl, arith}
+use Rattle.std.proofs.Common.{◌≡◌, ap, sym, ◌∙◌, subst, map, codes, refl, arith}
 use Rattle.std.specs.Prelude.{string_bytes}
 use Rattle.denial.specs.Command.{FlagsText}
 use Rattle.denial.proofs.CommandLemmas.{one_item, same_text}
