@@ -4,6 +4,7 @@
 
 mod bitmaps;
 mod codecs;
+mod constants;
 mod hashes;
 mod names;
 mod numbers;
@@ -21,6 +22,7 @@ impl Program for Vectors {
         match subject {
             "octets" => octets::answer(alloc, words, answers),
             "codec" => codecs::answer(alloc, words, answers),
+            "constant" => constants::answer(words, answers),
             "name" => names::answer(alloc, words, answers),
             "number" => numbers::answer(alloc, words, answers),
             "bitmap" => bitmaps::answer(alloc, words, answers),

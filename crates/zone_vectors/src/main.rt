@@ -1,5 +1,5 @@
-//! Worked values of records, sorted sets of them and groups: each line of the input is a vector, and
-//! each is answered by what the library makes of it.
+//! Worked values of records, sorted sets of them and groups: each line of the input is a vector,
+//! and each is answered by what the library makes of it.
 #![tactic(auto)]
 
 mod copies;
