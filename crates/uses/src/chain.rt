@@ -1,0 +1,36 @@
+//! A chain from records.
+ghost use Rattle.std.specs.Prelude.{IfOk};
+ghost use Rattle.domain_dnssec.specs.AnyOrder.{IsChainOf};
+ghost use Rattle.domain_dnssec.specs.ChainView.{links_of};
+
+use crate::zone::{ZoneName, ZoneRecord, records};
+use domain_dnssec::{Error, GenerateNsecConfig, Nsec, Record, generate_nsecs_of_records};
+use std::alloc::Global;
+use std::fmt::Write;
+
+/// A record of an NSEC chain.
+type NsecRecord = Record<ZoneName, Nsec<Vec<u8>, ZoneName>>;
+
+/// The NSEC chain of a zone whose records are handed over in any order.
+fn chain(
+    alloc: Global,
+    apex: &ZoneName,
+    records: Vec<ZoneRecord>,
+    config: &GenerateNsecConfig,
+) -> Result<Vec<NsecRecord>, Error>
+    ensures { IfOk result (λ nsecs. IsChainOf (λ octets. octets.items) (λ name. name)
+        records.items apex.now config.now (links_of (λ name. name) nsecs.items)) }
+{
+    let nsecs = generate_nsecs_of_records(alloc, apex, records, config)?;
+    Ok(nsecs)
+}
+
+/// Prints the chain of the small zone.
+pub fn show(alloc: Global, text: &mut String) -> Result<(), Error> {
+    let apex = ZoneName::from_str(alloc, "example.")?;
+    let config = GenerateNsecConfig::new();
+    for nsec in &chain(alloc, &apex, records(alloc)?, &config)? {
+        writeln!(text, "{nsec}").map_err(|_| Error::OutOfMemory)?;
+    }
+    Ok(())
+}

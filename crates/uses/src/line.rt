@@ -1,0 +1,72 @@
+//! A record from the words of a line, and back.
+ghost use Rattle.std.specs.Prelude.{◌≡◌, IfOk};
+
+use crate::zone::{Data, ZoneName, ZoneRecord};
+use domain_dnssec::{Class, Error, FromToken, IterScanner, Record, Rtype, Scanner, Ttl};
+use std::alloc::Global;
+use std::fmt::Write;
+
+/// The words of a record of a type that has no text of its own here.
+const UNKNOWN: [&str; 7] = ["example.", "3600", "IN", "TYPE65400", "\\#", "2", "abcd"];
+
+/// The words of an NSEC record.
+const NSEC: [&str; 7] = [
+    "example.",
+    "300",
+    "IN",
+    "NSEC",
+    "office.example.",
+    "NS",
+    "SOA",
+];
+
+/// The value that the next token spells.
+fn field<F: FromToken, S: Scanner>(scanner: &mut S) -> Result<F, Error> {
+    match F::scan(scanner) {
+        Ok(value) => Ok(value),
+        Err(error) => Err(Error::from(error)),
+    }
+}
+
+/// The record that tokens spell: owner, TTL, class, type and data.
+fn scan<S: Scanner<Name = ZoneName, Octets = Vec<u8>>>(
+    alloc: Global,
+    scanner: &mut S,
+) -> Result<ZoneRecord, Error> {
+    let owner = scanner.scan_name(alloc)?;
+    let ttl = field::<Ttl, S>(scanner)?;
+    let class = field::<Class, S>(scanner)?;
+    let rtype = field::<Rtype, S>(scanner)?;
+    let data = Data::scan_rdata(alloc, rtype, scanner)?;
+    Ok(Record::new(owner, class, ttl, data))
+}
+
+/// The record that the words of a line spell.
+pub fn read<'a>(alloc: Global, words: &'a [&'a str]) -> Result<ZoneRecord, Error> {
+    let mut scanner = IterScanner::<Vec<u8>>::new(words);
+    scan(alloc, &mut scanner)
+}
+
+/// The record with a TTL of at most so much.
+fn limited(given: ZoneRecord, most: Ttl) -> ZoneRecord
+    ensures { result ≡ record {
+      owner = given.owner;
+      class = given.class;
+      ttl = result.ttl;
+      «data» = given.«data»;
+    } }
+{
+    let mut limited = given;
+    let ttl = limited.ttl().min(most);
+    limited.set_ttl(ttl);
+    limited
+}
+
+/// Prints two records as lines.
+pub fn show(alloc: Global, text: &mut String) -> Result<(), Error> {
+    for words in [&UNKNOWN, &NSEC] {
+        let record = limited(read(alloc, words)?, Ttl::from_mins(30));
+        writeln!(text, "{record}").map_err(|_| Error::OutOfMemory)?;
+    }
+    Ok(())
+}

@@ -1,0 +1,38 @@
+//! Seven uses of the library, each a proved function that calls it, with what it prints.
+//!
+//! `docs/GUIDE.md` quotes them. A program names `domain_dnssec` first, which hands on what its own
+//! signatures speak of.
+#![tactic(auto)]
+
+mod bitmap;
+mod chain;
+mod hashed;
+mod key;
+mod line;
+mod sorted;
+mod verdict;
+mod zone;
+
+use domain_dnssec::Error;
+use std::alloc::Global;
+use std::io;
+
+/// What all the uses print.
+fn report(alloc: Global) -> Result<String, Error> {
+    let mut text = String::new(alloc);
+    chain::show(alloc, &mut text)?;
+    hashed::show(alloc, &mut text)?;
+    verdict::show(alloc, &mut text)?;
+    bitmap::show(alloc, &mut text)?;
+    line::show(alloc, &mut text)?;
+    sorted::show(alloc, &mut text)?;
+    key::show(alloc, &mut text)?;
+    Ok(text)
+}
+
+fn main(rt: HostRuntime) -> io::Result<()> {
+    match report(rt.alloc()) {
+        Ok(text) => print!(rt; "{text}"),
+        Err(error) => eprintln!(rt; "{error:?}"),
+    }
+}

@@ -1,0 +1,43 @@
+//! Sorted records that are kept up to date.
+ghost use Rattle.std.specs.Prelude.{◌≡◌, OnErr};
+
+use crate::zone::{Data, ZoneName, ZoneRecord, records};
+use domain_dnssec::{Class, Error, InsertError, Record, Rtype, SortedRecords, Ttl};
+use domain_rdata::A;
+use std::alloc::Global;
+use std::fmt::Write;
+use std::net::Ipv4Addr;
+
+/// A zone that is kept in order.
+type Zone = SortedRecords<ZoneName, Data>;
+
+/// Puts a record in. Answers whether it was new; else the one that stood there stays.
+fn put(zone: &mut Zone, record: ZoneRecord) -> Result<bool, Error>
+    ensures { OnErr result (zone.new ≡ zone.old) }
+{
+    match zone.insert(record) {
+        Ok(()) => Ok(true),
+        Err(InsertError::Present(_)) => Ok(false),
+        Err(InsertError::OutOfMemory(_)) => Err(Error::OutOfMemory),
+    }
+}
+
+/// A record of a host.
+fn host(alloc: Global, last: u8) -> Result<ZoneRecord, Error> {
+    let owner = ZoneName::from_str(alloc, "mail.office.example.")?;
+    let data = Data::A(A::new(Ipv4Addr::new(192, 0, 2, last)));
+    Ok(Record::new(owner, Class::IN, Ttl::from_hours(1), data))
+}
+
+/// Prints what becomes of a zone.
+pub fn show(alloc: Global, text: &mut String) -> Result<(), Error> {
+    let mut zone = Zone::from_vec(records(alloc)?)?;
+    let is_new = put(&mut zone, host(alloc, 7)?)?;
+    let is_newer = put(&mut zone, host(alloc, 7)?)?;
+    let apex = ZoneName::from_str(alloc, "example.")?;
+    let _ = zone.remove_all_by_name_class_rtype(&apex, Some(Class::IN), Some(Rtype::CAA));
+    writeln!(text, "new: {is_new}, new: {is_newer}, held: {}", zone.len()).map_err(
+        |_| Error::OutOfMemory,
+    )?;
+    Ok(())
+}

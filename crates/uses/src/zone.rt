@@ -1,0 +1,55 @@
+//! A small zone, built in code.
+use domain_dnssec::{Class, Error, Name, Record, Rtype, Ttl, ZoneRecordData};
+use domain_rdata::{A, Mx, Ns, Soa};
+use std::alloc::Global;
+use std::net::Ipv4Addr;
+
+/// A name in octets of its own.
+pub type ZoneName = Name<Vec<u8>>;
+
+/// The data of a record.
+pub type Data = ZoneRecordData<Vec<u8>, ZoneName>;
+
+/// A record of a zone.
+pub type ZoneRecord = Record<ZoneName, Data>;
+
+/// The SOA of the zone.
+fn soa(alloc: Global) -> Result<Data, Error> {
+    let (hour, day) = (Ttl::from_hours(1), Ttl::from_hours(24));
+    let primary = ZoneName::from_str(alloc, "ns.example.")?;
+    let mailbox = ZoneName::from_str(alloc, "hostmaster.example.")?;
+    Ok(Data::Soa(Soa::new(
+        primary,
+        mailbox,
+        2026112301,
+        day,
+        hour,
+        day,
+        Ttl::from_mins(5),
+    )))
+}
+
+/// The octets of a CAA record: a type that is known by its name alone.
+fn caa(alloc: Global) -> Result<Data, Error> {
+    let octets = Vec::from_slice(alloc, b"\x00\x05issueca.example")?;
+    Ok(Data::from_octets(alloc, Rtype::CAA, octets)?)
+}
+
+/// The records of `example.`, in no order.
+pub fn records(alloc: Global) -> Result<Vec<ZoneRecord>, Error> {
+    let mail = A::new(Ipv4Addr::new(192, 0, 2, 1));
+    let exchange = ZoneName::from_str(alloc, "mail.office.example.")?;
+    let server = ZoneName::from_str(alloc, "ns.example.")?;
+    let mut records = Vec::new(alloc);
+    for (owner, data) in [
+        ("mail.office.example.", Data::A(mail)),
+        ("example.", Data::Mx(Mx::new(10, exchange))),
+        ("example.", caa(alloc)?),
+        ("example.", Data::Ns(Ns::new(server))),
+        ("example.", soa(alloc)?),
+    ] {
+        let owner = ZoneName::from_str(alloc, owner)?;
+        records.push(Record::new(owner, Class::IN, Ttl::from_hours(1), data))?;
+    }
+    Ok(records)
+}
