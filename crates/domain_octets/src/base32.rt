@@ -1,5 +1,5 @@
 //! Base 32 with the extended hex alphabet, without padding (RFC 4648, section 7).
-ghost use Rattle.std.specs.Prelude.{◌≡◌, ◌<◌, ◌∷◌, [], IfOk, IfErr, MatchOption, string_bytes};
+ghost use Rattle.std.specs.Prelude.{◌≡◌, ◌<◌, ◌∷◌, [], ℕ, IfOk, IfErr, MatchOption, string_bytes};
 ghost use Rattle.std.specs.Fmt.{WritesOnOk};
 ghost use Rattle.domain_octets.specs.Base32.{base32_from, base32_upper, base32_lower, upper_digit, lower_digit};
 ghost use Rattle.domain_octets.specs.declared.codec.Codec.TheVariants as codec;
@@ -23,9 +23,9 @@ where
     Codec::Base32Hex.decode(alloc, text)
 }
 
-/// The digits of octets that are left, each a number below 32.
+/// The digits of octets that are left, each a number below 32. Takes no memory.
 #[derive(Drop)]
-struct Digits<'a> {
+pub struct Digits<'a> {
     octets: &'a [u8],
     scale: u32,
     rest: u32,
@@ -45,7 +45,8 @@ impl<'a> Model for Digits<'a> {
 }
 
 impl<'a> Digits<'a> {
-    fn new(octets: &'a [u8]) -> Self
+    /// All digits of these octets.
+    pub fn new(octets: &'a [u8]) -> Self
         ensures { result ≡ base32_from 1 0 octets.now }
     {
         Digits {
@@ -81,6 +82,15 @@ impl<'a> Digits<'a> {
         self.scale = wide / 32;
         self.rest = value % (wide / 32);
         Some((value / (wide / 32)) as u8)
+    }
+
+    /// The next digit, in lower case.
+    pub fn next_lower(&mut self) -> Option<u8>
+        ensures { MatchOption result ((self.old ≡ []) × (self.new ≡ [])) (λ octet.
+            (digit : ℕ) × (self.old ≡ digit ∷ self.new) × (octet ≡ lower_digit digit)) }
+    {
+        let digit = self.next()?;
+        Some(lower_digit(digit))
     }
 }
 
