@@ -88,7 +88,7 @@ where
 }
 
 /// The hash after the one at a place; after the last one the first.
-fn hash_after(hashed: &[Hashed], at: usize) -> &[u8]
+pub(crate) fn hash_after(hashed: &[Hashed], at: usize) -> &[u8]
     requires { at < length hashed.now }
     ensures later { at + 1 < length hashed.now → (d : Hashed)
         → result.now ≡ (slice_index_or hashed.now (at + 1) d).hash }

@@ -2,6 +2,7 @@
 ghost use Rattle.std.specs.Prelude.{◌≡◌, ◌+◌, ◌<◌, ◌≤◌, ◌++◌, ◌∷◌, ◌⊎◌, [], List, Ok, Some, None, length, map, take, All, IfOk, IfErr, OnOk};
 ghost use Rattle.domain_octets.specs.Words.{Octets};
 ghost use Rattle.domain_records.specs.declared.error.Nsec3HashError.TheVariants as hash_error;
+ghost use Rattle.domain_base.specs.Wire.{labels_of, IsWire};
 ghost use Rattle.domain_base.specs.Words.{Name};
 ghost use Rattle.domain_nsec3.specs.Chain.{hashed_owner};
 ghost use Rattle.domain_nsec3.specs.Config.{hash_name};
@@ -10,17 +11,21 @@ ghost use Rattle.domain_nsec3.specs.Steps.{Entry, without_hash, IsHashed, IsRefu
 ghost use Rattle.domain_nsec3.specs.StepView.{as_hashed_entry};
 ghost use Rattle.domain_nsec3.specs.View.{hash_by, parameters_of};
 
+use crate::hash_text::write_hash;
 use crate::name_hash::{MAX_HASH, NameHash};
 use domain_base::{MakeName, Nsec3HashAlgorithm, ParsedName, ToName};
 use domain_bitmap::Nsec3Salt;
-use domain_octets::{Octets, OutOfMemory, base32};
+use domain_octets::{Octets, OutOfMemory};
 use domain_rdata::Nsec3param;
 use domain_records::Nsec3HashError;
 use domain_zone::{HasherError, Nsec3Hasher};
 use std::alloc::Global;
 
 /// The greatest length of a name.
-const MAX_NAME: usize = 255;
+pub(crate) const MAX_NAME: usize = 255;
+
+/// The greatest length of a label.
+const MAX_LABEL: usize = 63;
 
 /// A name of a chain: its hash, and its place among the names as they were hashed.
 #[derive(Drop)]
@@ -101,7 +106,7 @@ fn hash_checked<H: Nsec3Hasher>(
 }
 
 /// Writes octets from a place in a buffer on, and gives the place after them.
-fn put_octets(buffer: &mut [u8], at: usize, octets: &[u8]) -> usize
+pub(crate) fn put_octets(buffer: &mut [u8], at: usize, octets: &[u8]) -> usize
     requires { at + length octets.now ≤ length buffer.old }
     ensures end { result ≡ at + length octets.now }
     ensures front { take result buffer.new ≡ take at buffer.old ++ octets.now }
@@ -124,7 +129,21 @@ fn join_label<'a>(buffer: &'a mut [u8], label: &[u8], above: &[u8]) -> &'a [u8]
     &buffer[..end]
 }
 
-/// The owner of the record of a hash: its text in lower case as a label before the apex.
+/// Writes the owner of the record of a hash to the front of a buffer: the text of the hash in lower
+/// case as a label before the apex.
+pub(crate) fn write_owner<'a>(buffer: &'a mut [u8], apex: &ParsedName<'_>, hash: &[u8]) -> &'a [u8]
+    requires sound { hash_fault apex.now (Ok hash.now) ≡ None }
+    requires room { 255 ≤ length buffer.old }
+    ensures wire { IsWire result.now }
+    ensures labels { labels_of result.now ≡ hashed_owner apex.now hash.now }
+{
+    let above = apex.as_wire();
+    let mut label = [0; MAX_LABEL];
+    let label = write_hash(&mut label, hash);
+    join_label(buffer, label, above)
+}
+
+/// The owner of the record of a hash.
 pub(crate) fn make_owner<N: MakeName>(
     alloc: Global,
     apex: &ParsedName<'_>,
@@ -133,11 +152,8 @@ pub(crate) fn make_owner<N: MakeName>(
     requires { hash_fault apex.now (Ok hash.now) ≡ None }
     ensures { IfOk result (λ owner. N.labels owner ≡ hashed_owner apex.now hash.now) }
 {
-    let label = base32::encode_hex_lower(alloc, hash)?;
-    let above = apex.as_wire();
     let mut wire = [0; MAX_NAME];
-    let wire = join_label(&mut wire, label.as_slice(), above);
-    Ok(N::make(alloc, wire)?)
+    Ok(N::make(alloc, write_owner(&mut wire, apex, hash))?)
 }
 
 /// The owner of the NSEC3 record of a name (RFC 5155, section 3): the hash of the name, in lower

@@ -11,7 +11,9 @@ mod chain;
 mod config;
 mod empty;
 mod hash;
+mod hash_text;
 pub mod laws;
+mod lent;
 mod name_hash;
 mod nsec3;
 mod nsec3_chain;
@@ -20,5 +22,6 @@ mod types;
 
 pub use config::{GenerateNsec3Config, Nsec3ParamTtlMode};
 pub use hash::mk_hashed_nsec3_owner_name;
+pub use lent::LentNsec3;
 pub use nsec3::{HashedNsec3s, Nsec3Records, generate_nsec3s, hash_nsec3s};
 pub use nsec3_chain::Nsec3Chain;

@@ -136,7 +136,8 @@ where
         → AreOriginalOwners L (N.labels apex.now) (config_of (H.answer hasher.now) config.now)
         (as_entries owners.entry)
         → ((e ≡ hash_error.OutOfMemory)
-        ⊎ IsFirstHashingFault L (N.labels apex.now) (config_of (H.answer hasher.now) config.now) e)) }
+        ⊎ IsFirstHashingFault L (N.labels apex.now)
+        (config_of (H.answer hasher.now) config.now) e)) }
 {
     let Owners { mut names, types } = owners;
     let above = apex.as_parsed();

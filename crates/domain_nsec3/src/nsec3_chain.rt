@@ -1,10 +1,11 @@
 //! NSEC3 chains whose records are made one by one.
-ghost use Rattle.std.specs.Prelude.{◌≡◌, ◌<◌, ◌↔◌, [], length, slice_index_or, IsTrue, IfOk};
+ghost use Rattle.std.specs.Prelude.{◌≡◌, ◌≤◌, ◌↔◌, [], length, slice_index_or, IsTrue, IfOk, IfNone, IfSome};
 ghost use Rattle.domain_nsec3.specs.Chain.{HashedLink};
 ghost use Rattle.domain_nsec3.specs.StepView.{common_of, links_in, AreUsable};
 ghost use Rattle.domain_nsec3.specs.View.{as_hashed_link, hashed_links_of};
 
-use crate::chain::{HashedChain, make_record, make_records};
+use crate::chain::{HashedChain, make_records};
+use crate::lent::{LentNsec3, lend_record};
 use domain_base::{MakeName, ToName, Ttl};
 use domain_octets::{
     EmptyBuilder, FreezeBuilder, FromBuilder, GrowingBuilder, Octets, OutOfMemory, Truncate,
@@ -58,22 +59,22 @@ impl<N: ToName, O: Octets> Nsec3Chain<N, O> {
     {
         self.len() == 0
     }
+
+    /// The record at a place, in the order of hashes, which borrows from the chain; None past the
+    /// last one. Takes no memory.
+    pub fn lend(&self, place: usize) -> Option<LentNsec3<'_>>
+        ensures some { IfSome result (λ made. (d : HashedLink)
+            → as_hashed_link (λ n. n) made ≡ slice_index_or self.now place d) }
+        ensures none { IfNone result (length self.now ≤ place) }
+    {
+        if place >= self.len() {
+            return None;
+        }
+        Some(lend_record(&self.chain, place, &self.params, self.ttl))
+    }
 }
 
 impl<N: MakeName, O: FromBuilder> Nsec3Chain<N, O> {
-    /// The record at a place, in the order of hashes. Takes the memory of the record alone.
-    pub fn record(&self, alloc: Global, place: usize) -> Result<Record<N, Nsec3<O>>, OutOfMemory>
-    where
-        O: Drop,
-        N: Drop,
-        O::Builder: GrowingBuilder + EmptyBuilder + Truncate + FreezeBuilder<Frozen = O> + Drop,
-        requires { place < length self.now }
-        ensures { IfOk result (λ made. (d : HashedLink)
-            → as_hashed_link N.labels made ≡ slice_index_or self.now place d) }
-    {
-        make_record(alloc, &self.chain, place, &self.params, self.ttl)
-    }
-
     /// All records, in the order of hashes.
     pub fn records(&self, alloc: Global) -> Result<Vec<Record<N, Nsec3<O>>>, OutOfMemory>
     where

@@ -1,10 +1,10 @@
 use Rattle.std.proofs.Common.{length, ap, arith}
 use Rattle.domain_nsec3.specs.StepView.{common_of}
 use Rattle.domain_nsec3.proofs.ChainLemmas.{links_counted}
-use Rattle.domain_nsec3.proofs.nsec3_chain.Nsec3Chain.record.Goals as goal
+use Rattle.domain_nsec3.proofs.nsec3_chain.Nsec3Chain.lend.Goals as goal
 
-pub make_record-requires-clause-inside : goal.make_record-requires-clause-inside
-make_record-requires-clause-inside g c =
+pub lend_record-requires-clause-inside : goal.lend_record-requires-clause-inside
+lend_record-requires-clause-inside g c =
     let links = links_counted g.N.ToName.labels c.self.inside.chain (common_of c.self.inside.params c.self.inside.ttl) in
     let same = ap length c.self.view_is in
     omega arith
