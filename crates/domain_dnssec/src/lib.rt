@@ -4,11 +4,13 @@
 //! `generate_nsecs` makes the NSEC chain of a zone whose records are handed over in canonical
 //! order, as `SortedRecords` keeps them, and `generate_nsec3s` its NSEC3 chain;
 //! `generate_nsecs_of_sorted` and `generate_nsec3s_of_sorted` take sorted records as they are,
-//! `generate_nsecs_of_records` and `generate_nsec3s_of_records` records in any order. `check_nsec`
-//! and `check_nsec3` say what records of a chain prove of a name and a type. What the contracts
-//! cite stands in `specs/` of `domain_zone`, `domain_nsec`, `domain_nsec3`, `domain_checker` and
-//! this crate. What signatures here name is handed on: names, types, classes, TTLs, records and
-//! their data, builders of octets, sorted records, and the errors.
+//! `generate_nsecs_of_records` and `generate_nsec3s_of_records` records in any order.
+//! `hash_nsec3s`, `hash_nsec3s_of_sorted` and `hash_nsec3s_of_records` give the same NSEC3 chain
+//! before its records are made, in less memory. `check_nsec` and `check_nsec3` say what records of
+//! a chain prove of a name and a type. What the contracts cite stands in `specs/` of
+//! `domain_zone`, `domain_nsec`, `domain_nsec3`, `domain_checker` and this crate. What signatures
+//! here name is handed on: names, types, classes, TTLs, records and their data, builders of
+//! octets, sorted records, and the errors.
 #![tactic(auto)]
 
 mod any_order;
@@ -16,6 +18,7 @@ mod any_order_nsec3;
 mod chain;
 mod config;
 mod error;
+mod hashed_any_order;
 pub mod laws;
 
 pub use any_order::{generate_nsecs_of_records, generate_nsecs_of_sorted};
@@ -30,12 +33,12 @@ pub use domain_bitmap::{RtypeBitmap, RtypeBitmapBuilder};
 pub use domain_checker::{Verdict, check_nsec, check_nsec3};
 pub use domain_nsec::{GenerateNsecConfig, generate_nsecs};
 pub use domain_nsec3::{
-    GenerateNsec3Config, Nsec3ParamTtlMode, Nsec3Records, generate_nsec3s,
-    mk_hashed_nsec3_owner_name,
+    GenerateNsec3Config, HashedNsec3s, LentNsec3, Nsec3Chain, Nsec3ParamTtlMode, Nsec3Records,
+    generate_nsec3s, hash_nsec3s, mk_hashed_nsec3_owner_name,
 };
 pub use domain_octets::{
-    AppendError, EmptyBuilder, FreezeBuilder, FromBuilder, GrowingBuilder, Octets, OutOfMemory,
-    Parser, Truncate, TryClone,
+    AppendError, ArrayBuilder, EmptyBuilder, FreezeBuilder, FromBuilder, GrowingBuilder, Octets,
+    OutOfMemory, Parser, Truncate, TryClone,
 };
 pub use domain_plain::{LongRecordData, Record};
 pub use domain_rdata::{Nsec, Nsec3, Nsec3param, ZoneRecordData};
@@ -47,3 +50,4 @@ pub use domain_zone::{
     ApexSoa, HasherError, Nsec3Hasher, UnoccludedOwner, UnoccludedOwners, ZoneRr, find_soa,
 };
 pub use error::Error;
+pub use hashed_any_order::{hash_nsec3s_of_records, hash_nsec3s_of_sorted};
