@@ -1,5 +1,7 @@
 -- What a run writes, piece after piece.
-use Rattle.std.proofs.Common.{◌≡◌, ◌++◌, codes, ap, ◌∙◌, Some, None, Option, append_assoc}
+use Rattle.std.proofs.Common.{◌≡◌, ℕ, ◌+◌, ◌<◌, List, [], ◌∷◌, ◌++◌, codes, length, take, get_or, refl, ap, ◌∙◌, Some, None, Option, append_assoc}
+use Rattle.std.proofs.lemmas.Grind.{flat_map-append}
+use Rattle.std.proofs.lemmas.List.{append-nil, take_more}
 use Rattle.std.specs.Fmt.{decimal}
 use Rattle.std.specs.Io.KnownBytes.{Appends}
 use Rattle.domain_octets.specs.Words.{Octets}
@@ -11,9 +13,13 @@ use Rattle.domain_bitmap.specs.Text.{types_text}
 use Rattle.domain_chain_rdata.specs.Nsec3Text.{nsec3_text}
 use Rattle.domain_chain_rdata.specs.Nsec3paramText.{nsec3param_text}
 use Rattle.domain_chain_rdata.specs.Rdata.{nsec3_values, nsec3param_values}
+use Rattle.domain_base.specs.Words.{Name}
+use Rattle.domain_chain_rdata.specs.declared.nsec3.Nsec3.{Nsec3}
 use Rattle.domain_plain.specs.RecordText.{record_text}
-use Rattle.denial.specs.Check.{NsecRecord, Nsec3Record, ParamRecord}
-use Rattle.denial.specs.Text.{nsec_line, nsec3_line, nsec3param_line}
+use Rattle.domain_plain.specs.declared.record.Record.{Record}
+use Rattle.domain_nsec3.specs.View.{as_hashed_link}
+use Rattle.denial.specs.Check.{NsecRecord, ParamRecord}
+use Rattle.denial.specs.Text.{lines_of, nsec_line, nsec3_line, nsec3param_line}
 
 pub appends_more : (a b c : Option Octets) (t u : Octets) → Appends a b t → Appends b c u → Appends a c (t ++ u)
 appends_more None b c t u h k = tt
@@ -32,8 +38,19 @@ pub nsec_printed : (r : NsecRecord) → record_text (λ n. n) (λ d. nsec) (λ d
 nsec_printed r =
     ap Some (parts_of_line (name_text r.owner) (decimal r.ttl) (class_text r.class) (type_text nsec) ((name_text r.«data».next_name ++ codes ". ") ++ types_text (types_of r.«data».types)))
 
-pub nsec3_printed : (r : Nsec3Record) → record_text (λ n. n) (λ d. nsec3) (λ d. Some (nsec3_text (nsec3_values d))) r ≡ Some (nsec3_line r)
-nsec3_printed r = ap Some (parts_of_line (name_text r.owner) (decimal r.ttl) (class_text r.class) (type_text nsec3) (nsec3_text (nsec3_values r.«data»)))
+-- a record that is a link is printed as the link's line, with the end of the line
+pub nsec3_printed : {O : Type 0} (r : Record Name (Nsec3 O))
+    → (name_text r.owner ++ codes ".") ++ (codes " " ++ (decimal r.ttl ++ (codes " " ++ (class_text r.class ++ (codes " " ++ (type_text nsec3 ++ (codes " " ++ nsec3_text (nsec3_values r.«data»)))))))) ++ codes "\n"
+    ≡ nsec3_line (as_hashed_link (λ n. n) r) ++ codes "\n"
+nsec3_printed r =
+    ap (λ t. t ++ codes "\n") (parts_of_line (name_text r.owner) (decimal r.ttl) (class_text r.class) (type_text nsec3) (nsec3_text (nsec3_values r.«data»)))
+
+-- one more line
+pub lines_more : {T : Type 0} (text : T → Octets) (items : List T) (i : ℕ) (d : T) → i < length items → lines_of text (take (i + 1) items) ≡ lines_of text (take i items) ++ (text (get_or items i d) ++ codes "\n")
+lines_more text items i d l =
+    ap (lines_of text) (take_more items i d l)
+    ∙ flat_map-append (λ item. text item ++ codes "\n") (take i items) (get_or items i d ∷ [])
+    ∙ ap (λ t. lines_of text (take i items) ++ t) (append-nil (text (get_or items i d) ++ codes "\n"))
 
 -- and the record of its parameters, with the end of the line
 pub param_printed : (r : ParamRecord)

@@ -8,9 +8,9 @@ use Rattle.domain_chain_rdata.specs.declared.nsec.Nsec.{Nsec as NsecData}
 use Rattle.domain_nsec.specs.ChainView.{links_of}
 use Rattle.domain_nsec.specs.Chain.{usual_config}
 use Rattle.domain_nsec3.specs.Config.{ChainConfig}
-use Rattle.domain_nsec3.specs.View.{Answer as HasherAnswer, as_param_record, hash_by, hashed_links_of, parameters_of}
+use Rattle.domain_nsec3.specs.View.{Answer as HasherAnswer, as_param_record, hash_by, parameters_of}
 use Rattle.domain_nsec3.specs.declared.config.Nsec3ParamTtlMode.TheVariants.{Soa}
-use Rattle.domain_nsec3.specs.declared.nsec3.Nsec3Records.{Nsec3Records}
+use Rattle.domain_nsec3.specs.declared.nsec3.HashedNsec3s.{HashedNsec3s}
 use Rattle.domain_dnssec.specs.AnyOrder.{IsChainOf, HasNoChain}
 use Rattle.domain_dnssec.specs.AnyOrderNsec3.{IsHashedChainOf, HasNoHashedChain}
 use Rattle.domain_dnssec.specs.declared.chain.ChainError.{ChainError}
@@ -60,10 +60,10 @@ usual_nsec3_config answer p =
 -- the answer is the NSEC3 chain of the records by this hasher, and its NSEC3PARAM record
 pub record IsNsec3s (answers : HasherAnswer) (given : List ProgramRecord) (apex : Name) (p : Params)
     (answer : Answer) : Type 0 where
-  pub made : Nsec3Records Name (Vec ℕ Global)
+  pub made : HashedNsec3s Name (Vec ℕ Global)
   pub is : answer ≡ Nsec3s made
   pub chain : IsHashedChainOf (λ o. o.items) (λ n. n) given apex (usual_nsec3_config answers p) Soa
-      (hashed_links_of (λ n. n) made.nsec3s.items) (as_param_record (λ n. n) made.nsec3param)
+      made.chain (as_param_record (λ n. n) made.nsec3param)
 
 -- there is none, for this reason
 pub record HasNoNsec3s (answers : HasherAnswer) (given : List ProgramRecord) (apex : Name)

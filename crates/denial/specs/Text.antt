@@ -13,11 +13,12 @@ use Rattle.domain_bitmap.specs.Text.{types_text}
 use Rattle.domain_plain.specs.declared.record.Record.{Record}
 use Rattle.domain_chain_rdata.specs.Nsec3Text.{nsec3_text}
 use Rattle.domain_chain_rdata.specs.Nsec3paramText.{nsec3param_text}
-use Rattle.domain_chain_rdata.specs.Rdata.{nsec3_values, nsec3param_values}
+use Rattle.domain_chain_rdata.specs.Rdata.{nsec3 as nsec3_fields, nsec3param_values}
 use Rattle.domain_chain_rdata.specs.declared.nsec.Nsec.{Nsec}
-use Rattle.domain_chain_rdata.specs.declared.nsec3.Nsec3.{Nsec3}
 use Rattle.domain_chain_rdata.specs.declared.nsec3param.Nsec3param.{Nsec3param}
-use Rattle.domain_nsec3.specs.declared.nsec3.Nsec3Records.{Nsec3Records}
+use Rattle.domain_fields.specs.Layout.{Values}
+use Rattle.domain_nsec3.specs.Chain.{HashedLink}
+use Rattle.domain_nsec3.specs.declared.nsec3.HashedNsec3s.{HashedNsec3s}
 use Rattle.denial.specs.Check.{verdict_text}
 use Rattle.denial.specs.declared.answer.Answer.{Answer}
 use Rattle.denial.specs.declared.answer.Answer.TheVariants.{Nsecs, Nsec3s, Verdict}
@@ -34,8 +35,16 @@ nsec_line =
     record_line nsec (λ d. (name_text d.next_name ++ codes ". ") ++ types_text (types_of d.types))
 
 -- algorithm, flags, iterations, salt, next hash and types
-abbrev pub nsec3_line : Record Name (Nsec3 (Vec ℕ Global)) → Octets
-nsec3_line = record_line nsec3 (λ d. nsec3_text (nsec3_values d))
+abbrev pub link_values : HashedLink → Values nsec3_fields
+link_values k =
+    let p = k.parameters in
+    ((((p.algorithm, (k.flags, p.iterations)), p.salt), k.next), k.bits)
+
+-- the record of a link, with those data
+abbrev pub nsec3_line : HashedLink → Octets
+nsec3_line k =
+    record_line nsec3 nsec3_text
+    (record { owner = k.owner; class = k.class; ttl = k.ttl; «data» = link_values k })
 
 -- algorithm, flags, iterations and salt
 abbrev pub nsec3param_line : Record Name (Nsec3param (Vec ℕ Global)) → Octets
@@ -45,9 +54,9 @@ abbrev pub lines_of : {T : Type 0} → (T → Octets) → List T → Octets
 lines_of text = flat_map (λ item. text item ++ codes "\n")
 
 -- a line for each record of an NSEC3 chain, and one for its NSEC3PARAM record
-abbrev pub nsec3s_text : Nsec3Records Name (Vec ℕ Global) → Octets
+abbrev pub nsec3s_text : HashedNsec3s Name (Vec ℕ Global) → Octets
 nsec3s_text made =
-    lines_of nsec3_line made.nsec3s.items ++ (nsec3param_line made.nsec3param ++ codes "\n")
+    lines_of nsec3_line made.chain ++ (nsec3param_line made.nsec3param ++ codes "\n")
 
 -- a line for each record of a chain, or one line with a verdict
 abbrev pub answer_text : Answer → Octets

@@ -3,7 +3,7 @@ ghost use Rattle.std.specs.Prelude.{◌≡◌, Some, IfErr, IfOk, OnOk};
 ghost use Rattle.std.specs.Io.KnownBytes.{Appends};
 ghost use Rattle.domain_octets.specs.Words.{Octets};
 ghost use Rattle.denial.specs.Answer.{HasNoAnswer, HasNoNsec3s, HasNoNsecs, IsAnswer, IsNsec3s, IsNsecs};
-ghost use Rattle.denial.specs.Text.{answer_text, lines_of, nsec_line, nsec3s_text};
+ghost use Rattle.denial.specs.Text.{answer_text, lines_of, nsec_line, nsec3_line, nsec3s_text};
 
 use crate::check::{nsec_verdict, nsec3_verdict};
 use crate::command::{Command, Nsec3Params};
@@ -11,8 +11,8 @@ use crate::fault::DenialFault;
 use crate::line::{ZoneName, ZoneRr};
 use crate::verdict_text::VerdictText;
 use domain_dnssec::{
-    DefaultSorter, GenerateNsec3Config, GenerateNsecConfig, Nsec3Hasher, Nsec3Records, Verdict,
-    generate_nsec3s_of_records, generate_nsecs_of_records,
+    DefaultSorter, GenerateNsec3Config, GenerateNsecConfig, HashedNsec3s, Nsec3Chain, Nsec3Hasher,
+    Verdict, generate_nsecs_of_records, hash_nsec3s_of_records,
 };
 use domain_plain::Record;
 use domain_rdata::{Nsec, Nsec3};
@@ -31,8 +31,8 @@ pub type Nsec3Rr = Record<ZoneName, Nsec3<Vec<u8>>>;
 pub enum Answer {
     /// An NSEC chain.
     Nsecs(Vec<NsecRr>),
-    /// An NSEC3 chain, and the record of its parameters.
-    Nsec3s(Nsec3Records<ZoneName, Vec<u8>>),
+    /// An NSEC3 chain before its records are made, and the record of its parameters.
+    Nsec3s(HashedNsec3s<ZoneName, Vec<u8>>),
     /// What records prove of a name.
     Verdict(ZoneName, Verdict),
 }
@@ -62,7 +62,7 @@ fn nsec3s_of<H: Nsec3Hasher>(
         (HasNoNsec3s (H.answer hasher.now) records.items apex.now parameters) }
 {
     let config: GenerateNsec3Config<Vec<u8>, DefaultSorter> = GenerateNsec3Config::new(parameters);
-    match generate_nsec3s_of_records(alloc, apex, records, &config, hasher) {
+    match hash_nsec3s_of_records(alloc, apex, records, &config, hasher) {
         Ok(made) => Ok(Answer::Nsec3s(made)),
         Err(error) => Err(DenialFault::from(error)),
     }
@@ -112,12 +112,27 @@ fn write_nsecs<W: Write>(nsecs: &[NsecRr], output: &mut W) -> io::Result<()>
     write_lines(nsecs, output)
 }
 
+/// Writes the records of an NSEC3 chain, one a line. They borrow from the chain, so that this takes
+/// no memory.
+fn write_chain<W: Write>(chain: &Nsec3Chain<ZoneName, Vec<u8>>, output: &mut W) -> io::Result<()>
+    ensures { OnOk result (Appends (W.contents output.old) (W.contents output.new)
+        (lines_of nsec3_line chain.now)) }
+{
+    for place in 0..chain.len() {
+        let Some(nsec3) = chain.lend(place) else {
+            unreachable!();
+        };
+        writeln!(output, "{nsec3}")?;
+    }
+    Ok(())
+}
+
 /// Writes the records of an NSEC3 chain, and the record of its parameters.
-fn write_nsec3s<W: Write>(made: &Nsec3Records<ZoneName, Vec<u8>>, output: &mut W) -> io::Result<()>
+fn write_nsec3s<W: Write>(made: &HashedNsec3s<ZoneName, Vec<u8>>, output: &mut W) -> io::Result<()>
     ensures { OnOk result (Appends (W.contents output.old) (W.contents output.new)
         (nsec3s_text made.now)) }
 {
-    write_lines(&made.nsec3s, output)?;
+    write_chain(&made.chain, output)?;
     writeln!(output, "{}", made.nsec3param)?;
     Ok(())
 }

@@ -1,6 +1,6 @@
 use Rattle.std.proofs.Common.{refl, subst}
 use Rattle.domain_dnssec.specs.AnyOrderNsec3.{IsHashedChainOf}
-use Rattle.domain_nsec3.specs.View.{as_param_record, hashed_links_of}
+use Rattle.domain_nsec3.specs.View.{as_param_record}
 use Rattle.denial.specs.Answer.{usual_nsec3_config}
 use Rattle.denial.proofs.AnswerLemmas.{usual_is}
 use Rattle.denial.proofs.answer.nsec3s_of.Goals as goal
@@ -8,7 +8,7 @@ use Rattle.denial.proofs.answer.nsec3s_of.Goals as goal
 pub returns-in-Ok-clause-ok : goal.returns-in-Ok-clause-ok
 returns-in-Ok-clause-ok g c =
     let answers = g.H.Nsec3Hasher.answer c.args.hasher.now in
-    let links = hashed_links_of (λ n. n) c.in-Ok.made.nsec3s.items in
+    let links = c.in-Ok.made.chain in
     let param = as_param_record (λ n. n) c.in-Ok.made.nsec3param in
     record {
       made = c.in-Ok.made;
