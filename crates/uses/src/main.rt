@@ -1,7 +1,7 @@
 //! Seven uses of the library, each a proved function that calls it, with what it prints.
 //!
 //! `docs/GUIDE.md` quotes them. A program names `domain_dnssec` first, which hands on what its own
-//! signatures speak of.
+//! signatures name.
 #![tactic(auto)]
 
 mod bitmap;
