@@ -1,8 +1,10 @@
 //! A chain of hashes, with a hasher of one's own.
-ghost use Rattle.std.specs.Prelude.{nat_le, Err, if◌then◌else◌};
+ghost use Rattle.std.specs.Prelude.{nat_le, Err, IfOk, if◌then◌else◌};
 ghost use Rattle.domain_sha1.specs.Iterated.{sha1_answer};
+ghost use Rattle.domain_nsec3.specs.View.{as_param_record, config_of, hashed_links_of};
+ghost use Rattle.domain_dnssec.specs.AnyOrderNsec3.{IsHashedChainOf};
 
-use crate::zone::{ZoneName, records};
+use crate::zone::{ZoneName, ZoneRecord, records};
 use domain_dnssec::{
     DefaultSorter, Error, GenerateNsec3Config, HasherError, Nsec3HashAlgorithm, Nsec3Hasher,
     Nsec3Records, generate_nsec3s_of_records,
@@ -40,32 +42,41 @@ impl Nsec3Hasher for LimitedHasher {
     }
 }
 
-/// The NSEC3 chain of the small zone.
-fn chain(
+/// The NSEC3 chain of a zone whose records are handed over in any order, by any hasher.
+fn chain<H: Nsec3Hasher>(
     alloc: Global,
     apex: &ZoneName,
-    iterations: u16,
-) -> Result<Nsec3Records<ZoneName, Vec<u8>>, Error> {
-    let params = Nsec3param::new(
-        Nsec3HashAlgorithm::SHA1,
-        0,
-        iterations,
-        Nsec3Salt::empty(alloc),
-    );
-    let config: GenerateNsec3Config<Vec<u8>, DefaultSorter> = GenerateNsec3Config::new(params);
-    let hasher = LimitedHasher { iterations: 100 };
-    let made = generate_nsec3s_of_records(alloc, apex, records(alloc)?, &config, &hasher)?;
+    records: Vec<ZoneRecord>,
+    config: &GenerateNsec3Config<Vec<u8>, DefaultSorter>,
+    hasher: &H,
+) -> Result<Nsec3Records<ZoneName, Vec<u8>>, Error>
+    ensures { IfOk result (λ made. IsHashedChainOf (λ octets. octets.items) (λ name. name)
+        records.items apex.now (config_of (H.answer hasher.now) config.now)
+        config.now.nsec3param_ttl_mode (hashed_links_of (λ name. name) made.nsec3s.items)
+        (as_param_record (λ name. name) made.nsec3param)) }
+{
+    let made = generate_nsec3s_of_records(alloc, apex, records, config, hasher)?;
     Ok(made)
+}
+
+/// Adds the chain of the small zone with so many iterations to a text.
+fn add_chain(alloc: Global, iterations: u16, text: &mut String) -> Result<(), Error> {
+    let apex = ZoneName::from_str(alloc, "example.")?;
+    let salt = Nsec3Salt::empty(alloc);
+    let params = Nsec3param::new(Nsec3HashAlgorithm::SHA1, 0, iterations, salt);
+    let config = GenerateNsec3Config::new(params);
+    let hasher = LimitedHasher { iterations: 100 };
+    let made = chain(alloc, &apex, records(alloc)?, &config, &hasher)?;
+    for nsec3 in &made.nsec3s {
+        writeln!(text, "{nsec3}").map_err(|_| Error::OutOfMemory)?;
+    }
+    Ok(())
 }
 
 /// Prints the chain without further iterations, and why there is none with too many.
 pub fn show(alloc: Global, text: &mut String) -> Result<(), Error> {
-    let apex = ZoneName::from_str(alloc, "example.")?;
-    let made = chain(alloc, &apex, 0)?;
-    for nsec3 in &made.nsec3s {
-        writeln!(text, "{nsec3}").map_err(|_| Error::OutOfMemory)?;
-    }
-    if let Err(error) = chain(alloc, &apex, 101) {
+    add_chain(alloc, 0, text)?;
+    if let Err(error) = add_chain(alloc, 101, text) {
         writeln!(text, "101 iterations: {error:?}").map_err(|_| Error::OutOfMemory)?;
     }
     Ok(())
