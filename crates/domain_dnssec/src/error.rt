@@ -10,7 +10,8 @@ use domain_plain::LongRecordData;
 use domain_records::{Nsec3HashError, SigningError};
 use std::alloc::{AllocError, AllocFailed};
 
-/// Why a program has no answer. Every error of the library turns into it, so that `?` is enough.
+/// Why a program has no answer. The errors of names, tokens, octets, chains, hashing and memory
+/// turn into it, so that `?` is enough for these.
 ///
 /// It holds none of the texts of `ScanError` and `ParseError`: an error that holds a text cannot be
 /// passed on by `?` from a generic call, for which there is no proof then.
