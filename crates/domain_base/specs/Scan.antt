@@ -1,8 +1,9 @@
 -- the tokens of an entry, and what is read from them
-use Rattle.std.specs.Prelude.{◌≡◌, ℕ, ◌<◌, ◌^◌, [], ◌∷◌, ◌++◌, codes, Option, IsNone, length}
+use Rattle.std.specs.Prelude.{◌≡◌, ◌⊎◌, ℕ, ◌<◌, ◌^◌, [], ◌∷◌, ◌++◌, codes, Option, IsNone, length}
 use Rattle.std.specs.Str.Parse.{IsNumeral, digits_value}
 use Rattle.domain_octets.specs.Limit.{IsOver}
-use Rattle.domain_octets.specs.Codec.{Decodes}
+use Rattle.std.specs.List.{concat}
+use Rattle.domain_octets.specs.Codec.{Decodes, IsText, HasNoRoom}
 use Rattle.domain_octets.specs.declared.codec.Codec.{Codec}
 use Rattle.domain_octets.specs.declared.error.AppendError.{AppendError}
 use Rattle.domain_octets.specs.declared.error.AppendError.TheVariants as append_error
@@ -68,14 +69,32 @@ pub record IsEnd (new old : Tokens) : Type 0 where
   pub front : Tokens
   pub joined : old ≡ front ++ new
 
--- why a text is not decoded into octets that have this limit
+-- why a text is not decoded into octets that have this limit: what is wrong with the text comes
+-- first, then want of room; memory is wanting only where the text is right and nothing limits the
+-- octets
 abbrev pub CodecFault : Codec → Option ℕ → ScanFault → Octets → Type 0
 CodecFault codec limit entry_ends text = ⊥
 CodecFault codec limit (illegal said) text =
     (said ≡ codes "illegal data") × ((octets : Octets) → Decodes codec text octets → ⊥)
-CodecFault codec limit no_room text =
-    (octets : Octets) × Decodes codec text octets × IsOver limit (length octets)
-CodecFault codec limit no_memory text = Unit {0}
+CodecFault codec limit no_room text = HasNoRoom codec limit text
+CodecFault codec limit no_memory text = IsText codec text × IsNone limit
+
+-- the first token stands for octets for which a builder with this limit has no room
+abbrev pub TokenHasNoRoom : Codec → Option ℕ → Tokens → Type 0
+TokenHasNoRoom codec limit [] = ⊥
+TokenHasNoRoom codec limit (token ∷ tokens) = HasNoRoom codec limit token
+
+-- there are several tokens, so that memory is taken to join them
+abbrev pub AreSeveral : Tokens → Type 0
+AreSeveral tokens = 1 < length tokens
+
+-- why tokens, joined, are not decoded into octets that have this limit
+abbrev pub EntryFault : Codec → Option ℕ → ScanFault → Tokens → Type 0
+EntryFault codec limit entry_ends tokens = ⊥
+EntryFault codec limit (illegal said) tokens = CodecFault codec limit (illegal said) (concat tokens)
+EntryFault codec limit no_room tokens = CodecFault codec limit no_room (concat tokens)
+EntryFault codec limit no_memory tokens =
+    AreSeveral tokens ⊎ CodecFault codec limit no_memory (concat tokens)
 
 -- tokens begin with a text of a value, and others are left
 abbrev pub Grammar : Type 0 → Type 1

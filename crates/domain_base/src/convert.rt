@@ -1,5 +1,5 @@
 //! Names that are made of others.
-ghost use Rattle.std.specs.Prelude.{◌≡◌, length};
+ghost use Rattle.std.specs.Prelude.{◌≡◌, IsNone, length};
 ghost use Rattle.domain_octets.specs.Limit.{IsOver};
 ghost use Rattle.domain_base.specs.Name.{wire_of};
 
@@ -12,6 +12,8 @@ impl<N: ToName + Drop, O: CopyOctets> OctetsFrom<N> for Name<O> {
 
     ghost has_no_room = { λ source. IsOver O.capacity (length (wire_of (N.labels source))) };
 
+    ghost takes_memory = { IsNone O.capacity };
+
     fn try_octets_from(alloc: Global, source: N) -> Result<Self, AppendError> {
         Ok(Name::from_wire(O::copy_octets(alloc, source.as_wire())?))
     }
@@ -22,6 +24,8 @@ impl<O: Octets, T: OctetsFrom<Name<O>>> FlattenInto<T> for Name<O> {
 
     ghost has_no_room = { λ source. T.OctetsFrom.has_no_room source };
 
+    ghost takes_memory = { T.OctetsFrom.takes_memory };
+
     fn try_flatten_into(self, alloc: Global) -> Result<T, AppendError> {
         T::try_octets_from(alloc, self)
     }
@@ -31,6 +35,8 @@ impl<'a, T: OctetsFrom<ParsedName<'a>>> FlattenInto<T> for ParsedName<'a> {
     ghost is_same = { λ source made. T.OctetsFrom.is_same source made };
 
     ghost has_no_room = { λ source. T.OctetsFrom.has_no_room source };
+
+    ghost takes_memory = { T.OctetsFrom.takes_memory };
 
     fn try_flatten_into(self, alloc: Global) -> Result<T, AppendError> {
         T::try_octets_from(alloc, self)

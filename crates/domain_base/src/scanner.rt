@@ -1,8 +1,9 @@
 //! The tokens of an entry of a zone file.
-ghost use Rattle.std.specs.Prelude.{◌≡◌, ◌≢◌, ◌↔◌, ◌∷◌, [], drop, map, IsTrue, IfOk, IfErr, IsOkAnd, OnOk, MatchOption, string_bytes};
+ghost use Rattle.std.specs.Prelude.{◌≡◌, ◌≢◌, ◌↔◌, ◌∷◌, [], drop, length, map, IsTrue, IfOk, IfErr, IsErrOf, IsOkAnd, OnOk, MatchOption, string_bytes};
 ghost use Rattle.std.specs.Fn.{FnOnceReturnsAt};
-ghost use Rattle.domain_base.specs.Scan.{ScanFault, scan_fault_of, TakesToken, RefusesToken, NameTextFault, CodecFault, IsEnd};
-ghost use Rattle.domain_octets.specs.Codec.{Decodes};
+ghost use Rattle.domain_base.specs.Scan.{ScanFault, scan_fault_of, TakesToken, RefusesToken, NameTextFault, CodecFault, TokenHasNoRoom, EntryFault, IsEnd};
+ghost use Rattle.domain_octets.specs.Codec.{Decodes, HasNoRoom};
+ghost use Rattle.domain_octets.specs.Limit.{HasRoom};
 ghost use Rattle.std.specs.List.{concat};
 ghost use Rattle.domain_base.specs.Text.{NameText};
 ghost use Rattle.domain_base.specs.Words.{Tokens, Token};
@@ -71,29 +72,32 @@ pub trait Scanner {
 
     /// The octets that the next token stands for. A token that is refused is gone past too.
     ///
-    /// Refuses a token that stands for none as `Custom("illegal data")`, and octets for which the
-    /// builder has no room or no memory.
+    /// Refuses a token that stands for none as `Custom("illegal data")`, and then octets for which
+    /// the builder has no room or no memory.
     fn convert_token(&mut self, alloc: Global, codec: Codec) -> Result<Self::Octets, ScanError>
         ensures ok { IfOk result (λ octets.
             TakesToken (λ token. Decodes codec token (Self.Octets.octets octets)) (tokens self.old)
             (tokens self.new)) }
         ensures err { IfErr result (λ e.
             RefusesToken (CodecFault codec Self.Octets.Builder.limit) (tokens self.old)
-            (tokens self.new) (scan_fault_of e)) };
+            (tokens self.new) (scan_fault_of e)) }
+        ensures room { IsErrOf result ScanError.ShortBuf
+            ↔ TokenHasNoRoom codec Self.Octets.Builder.limit (tokens self.old) };
 
     /// The octets that all tokens that are left stand for when they are joined. No tokens are the
     /// empty text.
     ///
-    /// Refuses a text that stands for no octets as `Custom("illegal data")`, and octets for which
-    /// the builder has no room or no memory. The tokens that are left then are an end of those
-    /// before.
+    /// Refuses a text that stands for no octets as `Custom("illegal data")`, and then octets for
+    /// which the builder has no room or no memory. The tokens that are left then are an end of
+    /// those before. Several tokens may be joined in memory, for want of which they are refused too.
     fn convert_entry(&mut self, alloc: Global, codec: Codec) -> Result<Self::Octets, ScanError>
         ensures ok { IfOk result (λ octets.
             Decodes codec (concat (tokens self.old)) (Self.Octets.octets octets)) }
         ensures all { OnOk result (tokens self.new ≡ []) }
         ensures err { IfErr result (λ e.
-            CodecFault codec Self.Octets.Builder.limit (scan_fault_of e)
-            (concat (tokens self.old))) }
+            EntryFault codec Self.Octets.Builder.limit (scan_fault_of e) (tokens self.old)) }
+        ensures room { IfOk result (λ octets.
+            HasRoom Self.Octets.Builder.limit (length (Self.Octets.octets octets))) }
         ensures end { IsEnd (tokens self.new) (tokens self.old) };
 
     /// Whether tokens are left.
@@ -180,8 +184,14 @@ where
     }
 
     fn convert_entry(&mut self, alloc: Global, codec: Codec) -> Result<O, ScanError> {
-        let text = self.join_tokens(alloc)?;
-        convert(alloc, codec, text.as_str())
+        if self.left.len() > 1 {
+            let text = self.join_tokens(alloc)?;
+            return convert(alloc, codec, text.as_str());
+        }
+        match self.take_token() {
+            Some(text) => convert(alloc, codec, text),
+            None => convert(alloc, codec, ""),
+        }
     }
 }
 
@@ -220,6 +230,7 @@ where
     O::Builder: EmptyBuilder + Drop,
     ensures ok { IfOk result (λ octets. Decodes codec text.now (O.octets octets)) }
     ensures err { IfErr result (λ e. CodecFault codec O.Builder.limit (scan_fault_of e) text.now) }
+    ensures room { IsErrOf result ScanError.ShortBuf ↔ HasNoRoom codec O.Builder.limit text.now }
 {
     match codec.decode(alloc, text) {
         Ok(octets) => Ok(octets),

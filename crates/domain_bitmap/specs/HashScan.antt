@@ -1,5 +1,6 @@
 -- salts and hashes of owner names from tokens (RFC 5155, section 3.3)
 use Rattle.std.specs.Prelude.{◌≡◌, ◌≢◌, ℕ, ◌<◌, ◌⊎◌, [], ◌∷◌, length, codes, Option}
+use Rattle.domain_octets.specs.Limit.{HasRoom}
 use Rattle.domain_octets.specs.Codec.{Decodes}
 use Rattle.domain_octets.specs.declared.codec.Codec.{Codec}
 use Rattle.domain_octets.specs.declared.codec.Codec.TheVariants.{Base16}
@@ -8,15 +9,20 @@ use Rattle.domain_octets.specs.Characters.{dash}
 use Rattle.domain_base.specs.Scan.{ScanFault, entry_ends, illegal, no_room, no_memory, CodecFault}
 use Rattle.domain_base.specs.Words.{Token}
 
--- the text stands for over 255 octets
-abbrev pub StandsForTooMany : Codec → Octets → Type 0
-StandsForTooMany codec text = (octets : Octets) × Decodes codec text octets × (255 < length octets)
+-- the text stands for over 255 octets, which a builder with this limit has room for
+pub record StandsForTooMany (codec : Codec) (limit : Option ℕ) (text : Octets) : Type 0 where
+  pub octets : Octets
+  pub decoded : Decodes codec text octets
+  pub room : HasRoom limit (length octets)
+  pub long : 255 < length octets
 
 -- why a token stands for no octets that have this limit, or, with a text of its own, for over 255
+-- that have room
 abbrev pub CountedFault : Codec → Octets → Option ℕ → ScanFault → Token → Type 0
 CountedFault codec long limit entry_ends token = ⊥
 CountedFault codec long limit (illegal said) token =
-    CodecFault codec limit (illegal said) token ⊎ (StandsForTooMany codec token × (said ≡ long))
+    CodecFault codec limit (illegal said) token
+    ⊎ (StandsForTooMany codec limit token × (said ≡ long))
 CountedFault codec long limit no_room token = CodecFault codec limit no_room token
 CountedFault codec long limit no_memory token = CodecFault codec limit no_memory token
 

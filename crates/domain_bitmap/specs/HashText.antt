@@ -1,6 +1,7 @@
 -- salts and hashes of owner names as text (RFC 5155, section 3.3)
 use Rattle.std.specs.Prelude.{◌≡◌, ◌≢◌, ℕ, ◌<◌, [], ◌∷◌, length, codes, Option}
 use Rattle.hex.specs.Hex.{encode_upper}
+use Rattle.domain_octets.specs.Limit.{HasRoom}
 use Rattle.domain_octets.specs.Codec.{Decodes, DecodeFault}
 use Rattle.domain_octets.specs.Texts.{decode_error_text}
 use Rattle.domain_octets.specs.declared.codec.Codec.TheVariants.{Base16}
@@ -19,12 +20,18 @@ pub data SaltText : Octets → Octets → Type 0 where
   digits : (text octets : Octets) → text ≢ codes "-" → Decodes Base16 text octets
       → SaltText text octets
 
+-- the text stands for a salt of over 255 octets, which a builder with this limit has room for
+pub record IsLongSalt (limit : Option ℕ) (text : Octets) : Type 0 where
+  pub octets : Octets
+  pub spelled : SaltText text octets
+  pub room : HasRoom limit (length octets)
+  pub long : 255 < length octets
+
 -- why a text is no salt over octets with this limit
 abbrev pub SaltFault : Option ℕ → Octets → Nsec3SaltFromStrError → Type 0
 SaltFault limit text (refusal.DecodeError error) =
     (text ≢ codes "-") × DecodeFault Base16 limit text error
-SaltFault limit text (refusal.Nsec3SaltError error) =
-    (octets : Octets) × SaltText text octets × (255 < length octets)
+SaltFault limit text (refusal.Nsec3SaltError error) = IsLongSalt limit text
 
 -- what the error says
 abbrev pub salt_error_text : Nsec3SaltFromStrError → Octets

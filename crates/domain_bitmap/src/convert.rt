@@ -79,6 +79,8 @@ impl<S: Octets + Drop, O: CopyOctets> OctetsFrom<RtypeBitmap<S>> for RtypeBitmap
 
     ghost has_no_room = { λ source. IsOver O.capacity (length source) };
 
+    ghost takes_memory = { IsNone O.capacity };
+
     fn try_octets_from(alloc: Global, source: RtypeBitmap<S>) -> Result<Self, AppendError> {
         let octets = O::copy_octets(alloc, source.as_slice())?;
         Ok(source.remade(octets))

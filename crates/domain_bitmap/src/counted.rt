@@ -1,6 +1,6 @@
 //! Octets that an octet counts: salts and hashes of owner names (RFC 5155, sections 3.1.5 and
 //! 3.1.7).
-ghost use Rattle.std.specs.Prelude.{◌≡◌, ◌≤◌, ◌↔◌, ◌∷◌, [], Some, length, IsTrue, IsOk, IfOk, IfErr, OnErr, refl, bytes_eq};
+ghost use Rattle.std.specs.Prelude.{◌≡◌, ◌≤◌, ◌↔◌, ◌∷◌, [], Some, length, IsTrue, IsOk, IfOk, IfErr, OnErr, refl, bytes_eq, IsNone};
 ghost use Rattle.std.specs.Ordering.{nat_cmp};
 ghost use Rattle.std.specs.Cmp.{partial_equiv_from_equiv, po};
 ghost use Rattle.std.specs.Cmp.Lexicographic.{slice_cmp, nat_list_cmp_total, nat_list_eq_equiv, texts_ties};
@@ -267,6 +267,8 @@ impl<S: Octets + Drop, O: CopyOctets, E> OctetsFrom<CountedOctets<S, E>> for Cou
     ghost is_same = { λ source made. made ≡ source };
 
     ghost has_no_room = { λ source. IsOver O.capacity (length source) };
+
+    ghost takes_memory = { IsNone O.capacity };
 
     fn try_octets_from(alloc: Global, source: CountedOctets<S, E>) -> Result<Self, AppendError> {
         let octets = O::copy_octets(alloc, source.as_slice())?;

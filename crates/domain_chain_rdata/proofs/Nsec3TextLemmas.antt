@@ -30,7 +30,7 @@ counted_excludes : (codec : Codec) (long : List ℕ) (fault : ScanFault) (text o
 counted_excludes codec long entry_ends text octets brief why is known = why
 counted_excludes codec long (illegal said) text octets brief (inl why) is known = codec_excludes codec (illegal said) text octets why is known
 counted_excludes codec long (illegal said) text octets brief (inr why) is known =
-    omega (arith, why.0.2, brief, ap length (decodes_once codec text why.0.0 octets why.0.1 is))
+    omega (arith, why.0.long, brief, ap length (decodes_once codec text why.0.octets octets why.0.decoded is))
 counted_excludes codec long no_room text octets brief why is known = codec_excludes codec no_room text octets why is known
 counted_excludes codec long no_memory text octets brief why is known = known refl
 

@@ -1,5 +1,5 @@
 //! NSEC3 data copied, and made over other octets.
-ghost use Rattle.std.specs.Prelude.{◌≡◌, ◌⊎◌, IfOk, length, refl};
+ghost use Rattle.std.specs.Prelude.{◌≡◌, ◌⊎◌, IfOk, length, refl, IsNone};
 ghost use Rattle.domain_octets.specs.Limit.{IsOver};
 ghost use Rattle.domain_fields.specs.DataClone.{copies_tied};
 ghost use Rattle.domain_chain_rdata.specs.Rdata.{nsec3_values, nsec3_octets};
@@ -48,6 +48,8 @@ impl<S: Octets + Drop, O: CopyOctets + Drop> OctetsFrom<Nsec3<S>> for Nsec3<O> {
 
     ghost has_no_room = { λ source. (IsOver O.capacity (length source.salt)
         ⊎ IsOver O.capacity (length source.next_owner)) ⊎ IsOver O.capacity (length source.types) };
+
+    ghost takes_memory = { IsNone O.capacity };
 
     fn try_octets_from(alloc: Global, source: Nsec3<S>) -> Result<Self, AppendError> {
         let (params, next_owner, types) = source.into_parts();

@@ -1,5 +1,5 @@
 //! The parameters of the hashes of a zone's names (RFC 5155, section 4).
-ghost use Rattle.std.specs.Prelude.{◌≡◌, ◌↔◌, [], Some, IsTrue, IfOk, IfErr, OnErr, length, refl, bytes_eq};
+ghost use Rattle.std.specs.Prelude.{◌≡◌, ◌↔◌, [], Some, IsTrue, IfOk, IfErr, OnErr, length, refl, bytes_eq, IsNone};
 ghost use Rattle.std.specs.List.{flat_map};
 ghost use Rattle.std.specs.Ordering.{on, nat_cmp};
 ghost use Rattle.std.specs.Cmp.{partial_equiv_from_equiv, po};
@@ -390,6 +390,8 @@ impl<S: Octets + Drop, O: CopyOctets> OctetsFrom<Nsec3param<S>> for Nsec3param<O
     ghost is_same = { λ source made. nsec3param_values made ≡ nsec3param_values source };
 
     ghost has_no_room = { λ source. IsOver O.capacity (length source.salt) };
+
+    ghost takes_memory = { IsNone O.capacity };
 
     fn try_octets_from(alloc: Global, source: Nsec3param<S>) -> Result<Self, AppendError> {
         let (hash_algorithm, flags, iterations, salt) = source.into_parts();

@@ -1,5 +1,5 @@
 //! NSEC data copied, and made over other octets.
-ghost use Rattle.std.specs.Prelude.{◌⊎◌, IfOk, length, refl};
+ghost use Rattle.std.specs.Prelude.{◌⊎◌, IfOk, length, refl, IsNone};
 ghost use Rattle.domain_fields.specs.DataClone.{same_values_tie};
 ghost use Rattle.domain_chain_rdata.specs.Rdata.{nsec, nsec_values};
 ghost use Rattle.domain_octets.specs.Limit.{IsOver};
@@ -48,6 +48,8 @@ impl<S: Octets + Drop, N: Drop, O: CopyOctets + Drop, M: OctetsFrom<N> + Drop> O
     ghost has_no_room = { λ source. M.OctetsFrom.has_no_room source.next_name
         ⊎ IsOver O.capacity (length source.types) };
 
+    ghost takes_memory = { M.OctetsFrom.takes_memory ⊎ IsNone O.capacity };
+
     fn try_octets_from(alloc: Global, source: Nsec<S, N>) -> Result<Self, AppendError> {
         let (next_name, types) = source.into_parts();
         let next_name = M::try_octets_from(alloc, next_name);
@@ -61,6 +63,8 @@ impl<O: Octets, N, T: OctetsFrom<Nsec<O, N>>> FlattenInto<T> for Nsec<O, N> {
     ghost is_same = { λ source made. T.OctetsFrom.is_same source made };
 
     ghost has_no_room = { λ source. T.OctetsFrom.has_no_room source };
+
+    ghost takes_memory = { T.OctetsFrom.takes_memory };
 
     fn try_flatten_into(self, alloc: Global) -> Result<T, AppendError> {
         T::try_octets_from(alloc, self)

@@ -4,7 +4,7 @@ use Rattle.std.specs.List.{concat}
 use Rattle.domain_octets.specs.Codec.{Decodes}
 use Rattle.domain_octets.specs.declared.codec.Codec.{Codec}
 use Rattle.domain_octets.specs.declared.codec.Codec.TheVariants.{Base16, Base32Hex, Base64}
-use Rattle.domain_base.specs.Scan.{ScanFault, entry_ends, illegal, no_room, no_memory, CodecFault, RefusesToken, ended, refused}
+use Rattle.domain_base.specs.Scan.{ScanFault, entry_ends, illegal, no_room, no_memory, CodecFault, EntryFault, RefusesToken, ended, refused}
 use Rattle.domain_fields.specs.Layout.{Layout}
 use Rattle.domain_fields.specs.Scan.{Scans, Refuses}
 use Rattle.domain_fields.proofs.ScanLemmas.{refused_spells_none, scans_left, scans_once}
@@ -82,6 +82,13 @@ codec_excludes codec (illegal said) text octets why is known = why.1 octets is
 codec_excludes codec no_room text octets why is known = why.2
 codec_excludes codec no_memory text octets why is known = known refl
 
+-- why joined tokens are refused excludes that they stand for octets
+pub entry_excludes : (codec : Codec) (fault : ScanFault) (tokens : List (List ℕ)) (octets : List ℕ) → EntryFault codec None fault tokens → Decodes codec (concat tokens) octets → fault ≢ no_memory → ⊥
+entry_excludes codec entry_ends tokens octets why is known = why
+entry_excludes codec (illegal said) tokens octets why is known = why.1 octets is
+entry_excludes codec no_room tokens octets why is known = why.2
+entry_excludes codec no_memory tokens octets why is known = known refl
+
 -- fields and then octets, which all tokens that are left spell together
 module _ {V : Type 0} (G : List (List ℕ) → V → List (List ℕ) → Type 0) (once : ReadsOnce G) (codec : Codec) (old : List (List ℕ)) (v w : V) (x y : List ℕ)
     (first : Spells G codec old v x) (second : Spells G codec old w y) where
@@ -100,7 +107,7 @@ module _ {V : Type 0} (G : List (List ℕ) → V → List (List ℕ) → Type 0)
   entry_refused (in_field why) = excludes old new is.entry v fault tt why is.fields known
   entry_refused (in_entry why) =
       let same = once.left old is.entry why.entry v why.value is.fields why.fields in
-      codec_excludes codec fault (concat why.entry) octets why.why (subst (λ t. Decodes codec (concat t) octets) same is.decoded) known
+      entry_excludes codec fault why.entry octets why.why (subst (λ t. Decodes codec (concat t) octets) same is.decoded) known
   entry_refused (too_long why) =
       let values : why.value ≡ v = same_fields G once codec old why.value v why.octets octets why.spelled is in
       let texts : why.octets ≡ octets = same_octets G once codec old why.value v why.octets octets why.spelled is in

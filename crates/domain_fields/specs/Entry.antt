@@ -1,10 +1,11 @@
 -- data as tokens: fields, and then octets, which all tokens that are left spell together
-use Rattle.std.specs.Prelude.{◌≡◌, ℕ, [], codes, Option}
+use Rattle.std.specs.Prelude.{◌≡◌, ℕ, [], length, codes, Option}
 use Rattle.std.specs.List.{concat}
+use Rattle.domain_octets.specs.Limit.{HasRoom}
 use Rattle.domain_octets.specs.Codec.{Decodes}
 use Rattle.domain_octets.specs.declared.codec.Codec.{Codec}
 use Rattle.domain_octets.specs.Words.{Octets}
-use Rattle.domain_base.specs.Scan.{Refusal, Grammar, ScanFault, illegal, CodecFault, IsEnd}
+use Rattle.domain_base.specs.Scan.{Refusal, Grammar, ScanFault, illegal, EntryFault, IsEnd}
 use Rattle.domain_base.specs.Words.{Tokens}
 
 -- the tokens spell these fields, in a grammar, and then these octets
@@ -21,14 +22,17 @@ pub record RefusesEntry {V : Type 0} (G : Grammar V) (limit : Option ℕ) (codec
   pub entry : Tokens
   pub fields : G old value entry
   pub end_of : IsEnd new entry
-  pub why : CodecFault codec limit fault (concat entry)
+  pub why : EntryFault codec limit fault entry
 
--- fields and octets were read, but there are too many octets after these fields
-pub record IsTooLong {V : Type 0} (G : Grammar V) (TooMany : V → Octets → Type 0) (codec : Codec)
-    (old new : Tokens) (fault : ScanFault) : Type 0 where
+-- fields and octets were read, for which the builder had room, but there are too many octets after
+-- these fields
+pub record IsTooLong {V : Type 0} (G : Grammar V) (limit : Option ℕ)
+    (TooMany : V → Octets → Type 0) (codec : Codec) (old new : Tokens)
+    (fault : ScanFault) : Type 0 where
   pub value : V
   pub octets : Octets
   pub spelled : Spells G codec old value octets
+  pub room : HasRoom limit (length octets)
   pub long : TooMany value octets
   pub all : new ≡ []
   pub said : fault ≡ illegal (codes "record data too long")
@@ -40,5 +44,5 @@ pub data RefusesData {V : Type 0} (G : Grammar V) (R : Refusal) (limit : Option 
   in_field : R old new fault → RefusesData G R limit TooMany codec old new fault
   in_entry : RefusesEntry G limit codec old new fault
       → RefusesData G R limit TooMany codec old new fault
-  too_long : IsTooLong G TooMany codec old new fault
+  too_long : IsTooLong G limit TooMany codec old new fault
       → RefusesData G R limit TooMany codec old new fault

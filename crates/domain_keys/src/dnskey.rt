@@ -1,5 +1,5 @@
 //! Keys of zones (RFC 4034, section 2).
-ghost use Rattle.std.specs.Prelude.{◌≡◌, ◌≤◌, ◌↔◌, Some, IsTrue, IsOk, IfOk, IfErr, OnErr, length, refl, bytes_eq};
+ghost use Rattle.std.specs.Prelude.{◌≡◌, ◌≤◌, ◌↔◌, Some, IsTrue, IsOk, IfOk, IfErr, OnErr, length, refl, bytes_eq, IsNone};
 ghost use Rattle.std.specs.List.{flat_map};
 ghost use Rattle.std.specs.Ordering.{on, nat_cmp};
 ghost use Rattle.std.specs.Cmp.{partial_equiv_from_equiv, po};
@@ -425,6 +425,8 @@ impl<S: Octets + Drop, O: CopyOctets> OctetsFrom<Dnskey<S>> for Dnskey<O> {
     ghost is_same = { λ source made. made ≡ source };
 
     ghost has_no_room = { λ source. IsOver O.capacity (length source.public_key) };
+
+    ghost takes_memory = { IsNone O.capacity };
 
     fn try_octets_from(alloc: Global, source: Dnskey<S>) -> Result<Self, AppendError> {
         let key = O::copy_octets(alloc, source.public_key.as_slice())?;

@@ -1,5 +1,5 @@
 //! Digests of keys (RFC 4034, section 5).
-ghost use Rattle.std.specs.Prelude.{◌≡◌, ◌≤◌, ◌↔◌, Some, IsTrue, IsOk, IfOk, IfErr, OnErr, length, refl, bytes_eq};
+ghost use Rattle.std.specs.Prelude.{◌≡◌, ◌≤◌, ◌↔◌, Some, IsTrue, IsOk, IfOk, IfErr, OnErr, length, refl, bytes_eq, IsNone};
 ghost use Rattle.std.specs.List.{flat_map};
 ghost use Rattle.std.specs.Ordering.{on, nat_cmp};
 ghost use Rattle.std.specs.Cmp.{partial_equiv_from_equiv, po};
@@ -360,6 +360,8 @@ impl<S: Octets + Drop, O: CopyOctets> OctetsFrom<Ds<S>> for Ds<O> {
     ghost is_same = { λ source made. made ≡ source };
 
     ghost has_no_room = { λ source. IsOver O.capacity (length source.digest) };
+
+    ghost takes_memory = { IsNone O.capacity };
 
     fn try_octets_from(alloc: Global, source: Ds<S>) -> Result<Self, AppendError> {
         let digest = O::copy_octets(alloc, source.digest.as_slice())?;

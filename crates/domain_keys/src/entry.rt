@@ -14,9 +14,9 @@ use std::alloc::Global;
 ///
 /// # Errors
 ///
-/// That of the first field that is refused, then that of the codec, then
-/// `Custom("record data too long")` where there are more octets. The tokens left are then an end of
-/// those before.
+/// That of the first field that is refused, then that of the codec, then want of room or of memory,
+/// then `Custom("record data too long")` where there are more octets. The tokens left are then an
+/// end of those before.
 pub fn scan_entry<S: Scanner, F: ScanFields<S> + Drop>(
     alloc: Global,
     scanner: &mut S,

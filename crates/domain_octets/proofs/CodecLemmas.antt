@@ -1,46 +1,12 @@
 -- texts that are decoded
-use Rattle.std.proofs.Common.{◌≡◌, ℕ, ◌+◌, ◌*◌, ◌/◌, ◌%◌, ◌<◌, ◌≤◌, true, false, List, [], ◌∷◌, ◌++◌, Err, length, get_or, take, drop, refl, sym, ap, subst, ◌∙◌, arith, ◌⊎◌, inl, inr}
+use Rattle.std.proofs.Common.{◌≡◌, ℕ, ◌+◌, ◌*◌, ◌/◌, ◌%◌, ◌<◌, ◌≤◌, true, false, List, [], ◌∷◌, ◌++◌, length, get_or, take, drop, refl, sym, ap, ◌∙◌, arith}
 use Rattle.std.specs.Prelude.{nat_le, unwrap_or}
 use Rattle.std.proofs.lemmas.List.{take_more, drop_more, append_assoc, append-nil, drop_all}
-use Rattle.std.proofs.lemmas.Bool.{cases_eq}
 use Rattle.std.proofs.lemmas.Bool.Decides.{nat_tests}
 use Rattle.std.proofs.Common.{lit<, lit≤}
-use Rattle.hex.specs.Hex.{decode_of, encode_with}
-use Rattle.hex.specs.declared.error.FromHexError.{FromHexError}
-use Rattle.hex.specs.declared.error.FromHexError.TheVariants as hex_error
-use Rattle.hex.proofs.HexLemmas.{decode_of-err, decode_of-odd}
-use Rattle.domain_octets.specs.declared.codec.Codec.TheVariants.{Base16}
+use Rattle.hex.specs.Hex.{encode_with}
 use Rattle.domain_octets.specs.Scale.{IsScale, no_bits, one_bit, two_bits, three_bits, four_bits, five_bits, six_bits, seven_bits}
-use Rattle.domain_octets.specs.Codec.{base32_value, base32_octets, base32_digits, IsFirstOther}
-
-pub base16_char : (text : List ℕ) (c i : ℕ) → decode_of text ≡ Err (hex_error.InvalidHexCharacter c i) → (length text % 2 ≡ 0) × IsFirstOther Base16 text c
-base16_char text c i refused =
-    elim (cases_eq (length text % 2) 1) [
-      | inl odd ↦ absurd (let e = sym (decode_of-odd text odd) ∙ refused in cc)
-      | inr even ↦ (
-        omega arith,
-        elim (decode_of-err text (hex_error.InvalidHexCharacter c i) refused) [
-          | inl odd ↦ absurd (let e = odd.1 in cc)
-          | inr found ↦
-              let same : c ≡ get_or text found.0 0 = (let e = found.1 in cc) in
-              record { place = found.0; below = found.2; is = same; other = rw same found.3; before = found.4 }
-        ],
-      )
-    ]
-
-pub base16_odd : (text : List ℕ) → decode_of text ≡ Err hex_error.OddLength → length text % 2 ≡ 1
-base16_odd text refused =
-    elim (decode_of-err text hex_error.OddLength refused) [
-      | inl odd ↦ odd.0
-      | inr found ↦ absurd (let e = found.1 in cc)
-    ]
-
-pub base16_sized : (text : List ℕ) → decode_of text ≡ Err hex_error.InvalidStringLength → ⊥
-base16_sized text refused =
-    elim (decode_of-err text hex_error.InvalidStringLength refused) [
-      | inl odd ↦ let e = odd.1 in cc
-      | inr found ↦ let e = found.1 in cc
-    ]
+use Rattle.domain_octets.specs.Codec.{base32_value, base32_octets, base32_digits, IsBase32}
 
 -- what a digit of five bits makes of it
 pub record Widens (scale : ℕ) : Type 0 where
@@ -97,14 +63,6 @@ module _ (text octets : List ℕ) (scale rest at : ℕ) (inside : at < length te
         read = rw append_assoc (rw (drop_more text at 0 inside, test) at so_far.read);
       }
 
--- an error that is not want of memory is what the text is refused for
-pub refused_for : (text : List ℕ) (found said : FromHexError) → found ≡ said → (found ≡ hex_error.OutOfMemory) ⊎ (decode_of text ≡ Err found) → (said ≡ hex_error.OutOfMemory → ⊥) → decode_of text ≡ Err said
-refused_for text found said same which other =
-    elim which [
-      | inl memory ↦ absurd (other (sym same ∙ memory))
-      | inr refused ↦ subst (λ (e : FromHexError). decode_of text ≡ Err e) same refused
-    ]
-
 -- what is left of a text that is read to its end
 pub digits_end : (text octets : List ℕ) (scale rest at : ℕ) → length text ≤ at → Digits text octets scale rest at → octets ≡ base32_octets 1 0 (base32_digits text)
 unfolding base32_octets
@@ -122,3 +80,11 @@ encode_more table octets i inside = ap (encode_with table) (take_more octets i 0
 pub encode_none : (table : List ℕ) → encode_with table [] ≡ []
 unfolding encode_with
 encode_none table = refl
+
+-- the octets so far and those of the digits that are left are what the text stands for
+pub digits_stand : (text octets : List ℕ) (scale rest at : ℕ) (whole : List ℕ) → IsBase32 text whole → Digits text octets scale rest at → IsBase32 text (octets ++ base32_octets scale rest (base32_digits (drop at text)))
+digits_stand text octets scale rest at whole is so_far = record { digits = is.digits; whole = is.whole; value = so_far.read }
+
+pub digits_all : (text octets whole : List ℕ) (scale rest at : ℕ) → IsBase32 text whole → length text ≤ at → Digits text octets scale rest at → IsBase32 text octets
+digits_all text octets whole scale rest at is done so_far =
+    record { digits = is.digits; whole = is.whole; value = digits_end text octets scale rest at done so_far }

@@ -7,3 +7,6 @@ pub mod ReadBackLemmas
 pub mod CodecBackLemmas
 pub mod WordLemmas
 pub mod BitGroupLemmas
+pub mod RoomLemmas
+pub mod Base64Lemmas
+pub mod Base16Lemmas

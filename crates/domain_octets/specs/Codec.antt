@@ -1,5 +1,5 @@
 -- octets as text: Base 16, Base 32 with the extended hex alphabet, and Base 64 (RFC 4648)
-use Rattle.std.specs.Prelude.{◌≡◌, ℕ, ◌+◌, ◌-◌, ◌*◌, ◌/◌, ◌%◌, ◌<◌, ◌==◌, ◌||◌, ◌&&◌, nat_le, Bool, true, false, not, [], ◌∷◌, map, length, slice_index, take, Ok, if◌then◌else◌, Option, Some, None, is_some, unwrap_or}
+use Rattle.std.specs.Prelude.{◌≡◌, ℕ, ◌+◌, ◌-◌, ◌*◌, ◌/◌, ◌%◌, ◌<◌, ◌==◌, ◌||◌, ◌&&◌, nat_le, Bool, true, false, not, [], ◌∷◌, map, length, slice_index, take, Ok, if◌then◌else◌, Option, Some, None, IsNone, is_some, unwrap_or}
 use Rattle.std.specs.List.{AllPass}
 use Rattle.hex.specs.Hex as hex
 use Rattle.base64.specs.GeneralPurpose as base64
@@ -87,16 +87,37 @@ HasBadLength Base32Hex text =
 HasBadLength Base64 text =
     ((octets : Octets) → Decodes Base64 text octets → ⊥) × AllPass (is_digit Base64) text
 
--- why a builder did not take the octets of a text
+-- the text stands for octets
+abbrev pub IsText : Codec → Octets → Type 0
+IsText codec text = (octets : Octets) × Decodes codec text octets
+
+-- what is wrong with a text by itself
+abbrev pub TextFault : Codec → Octets → DecodeError → Type 0
+TextFault codec text (IllegalChar c) = HasBadChar codec text c
+TextFault codec text ShortInput = HasBadLength codec text
+TextFault codec text ShortBuf = ⊥
+TextFault codec text OutOfMemory = ⊥
+
+-- the text stands for octets, but a builder with this limit has no room for them
+abbrev pub HasNoRoom : Codec → Option ℕ → Octets → Type 0
+HasNoRoom codec limit text =
+    (octets : Octets) × Decodes codec text octets × IsOver limit (length octets)
+
+-- why a builder with this limit does not take the octets of a text that stands for some
+abbrev pub BuildFault : Codec → Option ℕ → Octets → AppendError → Type 0
+BuildFault codec limit text append_error.ShortBuf = HasNoRoom codec limit text
+BuildFault codec limit text append_error.OutOfMemory = IsNone limit
+
+-- the same as an error of decoding
 abbrev pub decode_error_of : AppendError → DecodeError
 decode_error_of append_error.ShortBuf = ShortBuf
 decode_error_of append_error.OutOfMemory = OutOfMemory
 
 -- why a text is not decoded into octets that have this limit: what is wrong with the text comes
--- first
+-- first, then want of room; memory is wanting only where the text is right and nothing limits the
+-- octets
 abbrev pub DecodeFault : Codec → Option ℕ → Octets → DecodeError → Type 0
 DecodeFault codec limit text (IllegalChar c) = HasBadChar codec text c
 DecodeFault codec limit text ShortInput = HasBadLength codec text
-DecodeFault codec limit text ShortBuf =
-    (octets : Octets) × Decodes codec text octets × IsOver limit (length octets)
-DecodeFault codec limit text OutOfMemory = Unit {0}
+DecodeFault codec limit text ShortBuf = HasNoRoom codec limit text
+DecodeFault codec limit text OutOfMemory = IsText codec text × IsNone limit

@@ -1,9 +1,9 @@
 //! Base 16 (RFC 4648, section 8).
-ghost use Rattle.std.specs.Prelude.{◌≡◌, ◌<◌, IfOk, IfErr, slice_index, string_bytes};
+ghost use Rattle.std.specs.Prelude.{◌≡◌, ◌<◌, IfOk, IfErr, IsErrOf, ◌↔◌, slice_index, string_bytes};
 ghost use Rattle.std.specs.Fmt.{WritesOnOk};
 ghost use Rattle.hex.specs.Hex.{encode_lower, encode_upper, lower_digits, upper_digits};
 ghost use Rattle.domain_octets.specs.declared.codec.Codec.TheVariants as codec;
-ghost use Rattle.domain_octets.specs.Codec.{Decodes, DecodeFault};
+ghost use Rattle.domain_octets.specs.Codec.{Decodes, DecodeFault, HasNoRoom};
 
 use crate::{Codec, DecodeError, EmptyBuilder, FromBuilder, OutOfMemory};
 use std::alloc::Global;
@@ -17,6 +17,8 @@ where
     O::Builder: EmptyBuilder + Drop,
     ensures ok { IfOk result (λ octets. Decodes codec.Base16 text.now (O.octets octets)) }
     ensures err { IfErr result (DecodeFault codec.Base16 O.Builder.limit text.now) }
+    ensures room { IsErrOf result DecodeError.ShortBuf
+        ↔ HasNoRoom codec.Base16 O.Builder.limit text.now }
 {
     Codec::Base16.decode(alloc, text)
 }

@@ -1,9 +1,9 @@
 //! Base 32 with the extended hex alphabet, without padding (RFC 4648, section 7).
-ghost use Rattle.std.specs.Prelude.{◌≡◌, ◌<◌, ◌∷◌, [], ℕ, IfOk, IfErr, MatchOption, string_bytes};
+ghost use Rattle.std.specs.Prelude.{◌≡◌, ◌<◌, ◌∷◌, [], ℕ, IfOk, IfErr, IsErrOf, ◌↔◌, MatchOption, string_bytes};
 ghost use Rattle.std.specs.Fmt.{WritesOnOk};
 ghost use Rattle.domain_octets.specs.Base32.{base32_from, base32_upper, base32_lower, upper_digit, lower_digit};
 ghost use Rattle.domain_octets.specs.declared.codec.Codec.TheVariants as codec;
-ghost use Rattle.domain_octets.specs.Codec.{Decodes, DecodeFault};
+ghost use Rattle.domain_octets.specs.Codec.{Decodes, DecodeFault, HasNoRoom};
 
 use crate::{Codec, DecodeError, EmptyBuilder, FromBuilder, OutOfMemory};
 use std::alloc::Global;
@@ -19,6 +19,8 @@ where
     O::Builder: EmptyBuilder + Drop,
     ensures ok { IfOk result (λ octets. Decodes codec.Base32Hex text.now (O.octets octets)) }
     ensures err { IfErr result (DecodeFault codec.Base32Hex O.Builder.limit text.now) }
+    ensures room { IsErrOf result DecodeError.ShortBuf
+        ↔ HasNoRoom codec.Base32Hex O.Builder.limit text.now }
 {
     Codec::Base32Hex.decode(alloc, text)
 }

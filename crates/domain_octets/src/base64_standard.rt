@@ -1,10 +1,10 @@
 //! Base 64 (RFC 4648, section 4).
-ghost use Rattle.std.specs.Prelude.{◌≡◌, IfOk, IfErr, string_bytes};
+ghost use Rattle.std.specs.Prelude.{◌≡◌, IfOk, IfErr, IsErrOf, ◌↔◌, string_bytes};
 ghost use Rattle.std.specs.Fmt.{WritesOnOk};
 ghost use Rattle.base64.specs.GeneralPurpose.{encode_of};
 ghost use Rattle.base64.specs.Engines.{standard};
 ghost use Rattle.domain_octets.specs.declared.codec.Codec.TheVariants as codec;
-ghost use Rattle.domain_octets.specs.Codec.{Decodes, DecodeFault};
+ghost use Rattle.domain_octets.specs.Codec.{Decodes, DecodeFault, HasNoRoom};
 
 use crate::{Codec, DecodeError, EmptyBuilder, FromBuilder, OutOfMemory};
 use base64::display::Base64Display;
@@ -21,6 +21,8 @@ where
     O::Builder: EmptyBuilder + Drop,
     ensures ok { IfOk result (λ octets. Decodes codec.Base64 text.now (O.octets octets)) }
     ensures err { IfErr result (DecodeFault codec.Base64 O.Builder.limit text.now) }
+    ensures room { IsErrOf result DecodeError.ShortBuf
+        ↔ HasNoRoom codec.Base64 O.Builder.limit text.now }
 {
     Codec::Base64.decode(alloc, text)
 }

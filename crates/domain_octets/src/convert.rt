@@ -1,5 +1,5 @@
 //! Empty octets, and octets that are made of others.
-ghost use Rattle.std.specs.Prelude.{◌≡◌, ℕ, ◌↔◌, [], Option, None, Some, length, IfOk, IsErrOf};
+ghost use Rattle.std.specs.Prelude.{◌≡◌, ℕ, ◌↔◌, [], Option, None, Some, length, IfOk, IsNone, IsErrOf};
 ghost use Rattle.domain_octets.specs.Limit.{IsOver};
 
 use crate::{AppendError, ArrayBuilder, Octets, OctetsBuilder};
@@ -26,7 +26,8 @@ pub trait CopyOctets: Octets {
     where
         Self: Sized,
         ensures ok { IfOk result (λ copy. Self.octets copy ≡ octets.now) }
-        ensures short { IsErrOf result AppendError.ShortBuf ↔ IsOver capacity (length octets.now) };
+        ensures short { IsErrOf result AppendError.ShortBuf ↔ IsOver capacity (length octets.now) }
+        ensures memory { IsErrOf result AppendError.OutOfMemory → IsNone capacity };
 }
 
 /// A value that can be made of another one, over other octets.
@@ -37,13 +38,17 @@ pub trait OctetsFrom<S> {
     /// There is no room for the value.
     ghost has_no_room: { S → Type 0 };
 
+    /// Memory is taken for the value.
+    ghost takes_memory: { Type 0 };
+
     /// The same value over these octets. Answers `ShortBuf` where there is no room for it, and
     /// `OutOfMemory` where there is no memory.
     fn try_octets_from(alloc: Global, source: S) -> Result<Self, AppendError>
     where
         Self: Sized,
         ensures ok { IfOk result (is_same source) }
-        ensures short { IsErrOf result AppendError.ShortBuf ↔ has_no_room source };
+        ensures short { IsErrOf result AppendError.ShortBuf ↔ has_no_room source }
+        ensures memory { IsErrOf result AppendError.OutOfMemory → takes_memory };
 }
 
 /// A value that turns into one that stands on octets of its own.
@@ -54,13 +59,17 @@ pub trait FlattenInto<T> {
     /// There is no room for the value.
     ghost has_no_room: { Self → Type 0 };
 
+    /// Memory is taken for the value.
+    ghost takes_memory: { Type 0 };
+
     /// The same value over octets of its own. Answers `ShortBuf` where there is no room for it, and
     /// `OutOfMemory` where there is no memory.
     fn try_flatten_into(self, alloc: Global) -> Result<T, AppendError>
     where
         Self: Sized,
         ensures ok { IfOk result (is_same self) }
-        ensures short { IsErrOf result AppendError.ShortBuf ↔ has_no_room self };
+        ensures short { IsErrOf result AppendError.ShortBuf ↔ has_no_room self }
+        ensures memory { IsErrOf result AppendError.OutOfMemory → takes_memory };
 }
 
 impl EmptyOctets for Vec<u8> {
@@ -111,6 +120,8 @@ impl<S: Octets + Drop, O: CopyOctets> OctetsFrom<S> for O {
     ghost is_same = { λ source made. O.octets made ≡ S.octets source };
 
     ghost has_no_room = { λ source. IsOver O.capacity (length (S.octets source)) };
+
+    ghost takes_memory = { IsNone O.capacity };
 
     fn try_octets_from(alloc: Global, source: S) -> Result<O, AppendError> {
         O::copy_octets(alloc, source.as_slice())

@@ -26,6 +26,7 @@ mod decoding;
 mod error;
 mod formatter;
 mod impls;
+mod judging;
 pub mod laws;
 mod octets;
 mod parser;

@@ -3,11 +3,12 @@ use Rattle.std.specs.Prelude.{◌≡◌, ◌≢◌, ℕ, ◌==◌, [], ◌∷◌
 use Rattle.std.specs.Fmt.{decimal}
 use Rattle.std.specs.List.{concat}
 use Rattle.hex.specs.Hex.{encode_upper}
+use Rattle.domain_octets.specs.Limit.{HasRoom}
 use Rattle.domain_octets.specs.Codec.{Decodes}
 use Rattle.domain_octets.specs.declared.codec.Codec.TheVariants.{Base16}
 use Rattle.domain_octets.specs.Words.{Octets}
 use Rattle.domain_octets.specs.Characters.{space}
-use Rattle.domain_base.specs.Scan.{ScanFault, illegal, IsNumber, IsNoNumber, RefusesToken, CodecFault, IsEnd}
+use Rattle.domain_base.specs.Scan.{ScanFault, illegal, IsNumber, IsNoNumber, RefusesToken, EntryFault, IsEnd}
 use Rattle.domain_base.specs.Words.{Tokens, Token}
 
 -- what generic text begins with
@@ -28,17 +29,17 @@ pub record IsNoMark (fault : ScanFault) (text : Token) : Type 0 where
   pub other : text ≢ generic_mark
 
 -- the first field that is refused, over octets that have this limit, and the tokens that are left
--- then
+-- then: octets are counted where they have room
 pub data GenericFault (limit : Option ℕ) : Tokens → Tokens → ScanFault → Type 0 where
   no_mark : (old new : Tokens) (fault : ScanFault) → RefusesToken IsNoMark old new fault
       → GenericFault limit old new fault
   no_count : (old new : Tokens) (fault : ScanFault) → RefusesToken (IsNoNumber 16) old new fault
       → GenericFault limit (generic_mark ∷ old) new fault
   no_data : (count : Token) (n : ℕ) (digits new : Tokens) (fault : ScanFault) → IsNumber 16 count n
-      → CodecFault Base16 limit fault (concat digits) → IsEnd new digits
+      → EntryFault Base16 limit fault digits → IsEnd new digits
       → GenericFault limit (generic_mark ∷ count ∷ digits) new fault
   other_count : (count : Token) (n : ℕ) (digits : Tokens) (octets : Octets) → IsNumber 16 count n
-      → Decodes Base16 (concat digits) octets → n ≢ length octets
+      → Decodes Base16 (concat digits) octets → HasRoom limit (length octets) → n ≢ length octets
       → GenericFault limit (generic_mark ∷ count ∷ digits) [] (illegal (codes "illegal data"))
 
 -- the mark, the number of octets, and the octets in upper case; for no octets the text ends after

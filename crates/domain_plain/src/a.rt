@@ -107,6 +107,8 @@ impl OctetsFrom<A> for A {
 
     ghost has_no_room = { λ _. ⊥ };
 
+    ghost takes_memory = { ⊥ };
+
     fn try_octets_from(_alloc: Global, source: A) -> Result<Self, AppendError> {
         Ok(source)
     }
@@ -116,6 +118,8 @@ impl FlattenInto<A> for A {
     ghost is_same = { λ source made. made ≡ source };
 
     ghost has_no_room = { λ _. ⊥ };
+
+    ghost takes_memory = { ⊥ };
 
     fn try_flatten_into(self, _alloc: Global) -> Result<A, AppendError> {
         Ok(self)

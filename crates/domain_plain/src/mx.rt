@@ -91,6 +91,8 @@ impl<M, N: OctetsFrom<M>> OctetsFrom<Mx<M>> for Mx<N> {
 
     ghost has_no_room = { λ source. N.has_no_room source.exchange };
 
+    ghost takes_memory = { N.takes_memory };
+
     fn try_octets_from(alloc: Global, source: Mx<M>) -> Result<Self, AppendError> {
         let Mx {
             preference,
@@ -108,6 +110,8 @@ impl<M, N: FlattenInto<M>> FlattenInto<Mx<M>> for Mx<N> {
         × N.is_same source.exchange made.exchange };
 
     ghost has_no_room = { λ source. N.has_no_room source.exchange };
+
+    ghost takes_memory = { N.takes_memory };
 
     fn try_flatten_into(self, alloc: Global) -> Result<Mx<M>, AppendError> {
         let Mx {

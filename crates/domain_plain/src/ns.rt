@@ -75,6 +75,8 @@ impl<M, N: OctetsFrom<M>> OctetsFrom<Ns<M>> for Ns<N> {
 
     ghost has_no_room = { λ source. N.has_no_room source.nsdname };
 
+    ghost takes_memory = { N.takes_memory };
+
     fn try_octets_from(alloc: Global, source: Ns<M>) -> Result<Self, AppendError> {
         let Ns { nsdname } = source;
         Ok(Ns {
@@ -87,6 +89,8 @@ impl<M, N: FlattenInto<M>> FlattenInto<Ns<M>> for Ns<N> {
     ghost is_same = { λ source made. N.is_same source.nsdname made.nsdname };
 
     ghost has_no_room = { λ source. N.has_no_room source.nsdname };
+
+    ghost takes_memory = { N.takes_memory };
 
     fn try_flatten_into(self, alloc: Global) -> Result<Ns<M>, AppendError> {
         let Ns { nsdname } = self;

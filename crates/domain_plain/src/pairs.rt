@@ -12,6 +12,8 @@ pub fn both<A: Drop, B: Drop>(
     ensures ok { IfOk result (λ pair. (first ≡ Ok pair.0) × (second ≡ Ok pair.1)) }
     ensures short { IsErrOf result AppendError.ShortBuf
         ↔ (IsErrOf first AppendError.ShortBuf ⊎ IsErrOf second AppendError.ShortBuf) }
+    ensures memory { IsErrOf result AppendError.OutOfMemory
+        → (IsErrOf first AppendError.OutOfMemory ⊎ IsErrOf second AppendError.OutOfMemory) }
 {
     match (first, second) {
         (Ok(first), Ok(second)) => Ok((first, second)),

@@ -135,6 +135,8 @@ impl<M, E, N: OctetsFrom<M> + Drop, D: OctetsFrom<E> + Drop> OctetsFrom<Record<M
 
     ghost has_no_room = { λ source. N.has_no_room source.owner ⊎ D.has_no_room source.«data» };
 
+    ghost takes_memory = { N.takes_memory ⊎ D.takes_memory };
+
     fn try_octets_from(alloc: Global, source: Record<M, E>) -> Result<Self, AppendError> {
         let Record {
             owner,
@@ -161,6 +163,8 @@ impl<M: Drop, E: Drop, N: FlattenInto<M>, D: FlattenInto<E>> FlattenInto<Record<
     ghost is_same = { IsRecordClone N.is_same D.is_same };
 
     ghost has_no_room = { λ source. N.has_no_room source.owner ⊎ D.has_no_room source.«data» };
+
+    ghost takes_memory = { N.takes_memory ⊎ D.takes_memory };
 
     fn try_flatten_into(self, alloc: Global) -> Result<Record<M, E>, AppendError> {
         let Record {

@@ -198,6 +198,8 @@ impl<M, N: OctetsFrom<M> + Drop> OctetsFrom<Soa<M>> for Soa<N> {
 
     ghost has_no_room = { λ source. N.has_no_room source.mname ⊎ N.has_no_room source.rname };
 
+    ghost takes_memory = { N.takes_memory };
+
     fn try_octets_from(alloc: Global, source: Soa<M>) -> Result<Self, AppendError> {
         let numbers = source.with_names((), ());
         let (mname, rname) = source.into_names();
@@ -213,6 +215,8 @@ impl<M: Drop, N: FlattenInto<M>> FlattenInto<Soa<M>> for Soa<N> {
     ghost is_same = { IsSoaWith N.is_same };
 
     ghost has_no_room = { λ source. N.has_no_room source.mname ⊎ N.has_no_room source.rname };
+
+    ghost takes_memory = { N.takes_memory };
 
     fn try_flatten_into(self, alloc: Global) -> Result<Soa<M>, AppendError> {
         let numbers = self.with_names((), ());

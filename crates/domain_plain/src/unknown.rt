@@ -85,10 +85,10 @@ impl<O: FromBuilder> UnknownRecordData<O> {
     /// # Errors
     ///
     /// `EndOfEntry` where the mark or the number is missing; `Custom("illegal data")` for another
-    /// token in place of the mark, for what is no Base 16, and for another number of octets;
-    /// `Custom("decimal number expected")` for what is no number of at most 65,535; `ShortBuf` and
-    /// `OutOfMemory` where the octets have no room or no memory. A refusal leaves an end of the
-    /// tokens.
+    /// token in place of the mark; `Custom("decimal number expected")` for what is no number of at
+    /// most 65,535; `Custom("illegal data")` for what is no Base 16; `ShortBuf` and `OutOfMemory`
+    /// where the octets have no room or no memory; and `Custom("illegal data")` where they have,
+    /// but are another number of octets. A refusal leaves an end of the tokens.
     #[tactic(auto, using(crate::proofs::GenericLemmas::generic))]
     pub fn scan<S: Scanner<Octets = O>>(
         alloc: Global,
@@ -175,6 +175,8 @@ impl<P, O: OctetsFrom<P>> OctetsFrom<UnknownRecordData<P>> for UnknownRecordData
 
     ghost has_no_room = { λ source. O.has_no_room source.«data» };
 
+    ghost takes_memory = { O.takes_memory };
+
     fn try_octets_from(alloc: Global, source: UnknownRecordData<P>) -> Result<Self, AppendError> {
         let UnknownRecordData { rtype, data } = source;
         Ok(UnknownRecordData {
@@ -189,6 +191,8 @@ impl<O, P: OctetsFrom<O>> FlattenInto<UnknownRecordData<P>> for UnknownRecordDat
         × P.is_same source.«data» made.«data» };
 
     ghost has_no_room = { λ source. P.has_no_room source.«data» };
+
+    ghost takes_memory = { P.takes_memory };
 
     fn try_flatten_into(self, alloc: Global) -> Result<UnknownRecordData<P>, AppendError> {
         let UnknownRecordData { rtype, data } = self;

@@ -13,7 +13,8 @@ use Rattle.domain_chain_rdata.specs.NsecWire.{BeginsNsec, NsecFault, in_name, in
 use Rattle.domain_chain_rdata.specs.Nsec3Wire.{BeginsNsec3, Nsec3Fault, in_fields, in_types as in_bitmap}
 use Rattle.domain_chain_rdata.specs.Rdata.{nsec, hash_fields, nsec3}
 use Rattle.domain_rdata.specs.Kind.{Kind, next_by_name, next_by_hash}
-use Rattle.domain_rdata.specs.Refusal.{AreOfKind, IsPart, of_key, of_digest, of_signature, types_by_name, salt_by_hash, next_hash, types_by_hash, salt, CopyFault, IsNotWhole, at_fault, goes_on, OctetsFault}
+use Rattle.domain_rdata.specs.Refusal.{AreOfKind, IsPart, of_key, of_digest, of_signature, types_by_name, salt_by_hash, next_hash, types_by_hash, salt, CopyFault, IsNotWhole, at_fault, goes_on, OctetsFault, TakesMemory}
+use Rattle.std.specs.Prelude.{IsNone}
 
 clash : false ≡ true → ⊥
 clash e = cc
@@ -99,9 +100,20 @@ whole_of wire _ _ (next_hash v begins) = (v, begins)
 whole_of wire _ _ (types_by_hash v begins) = (v, begins)
 whole_of wire _ _ (salt v begins) = (v, begins)
 
+-- memory is taken for a part that has no limit
+part_takes : (limit : Option ℕ) (wire part : List ℕ) (kind : Kind) → IsPart wire kind part → IsNone limit → TakesMemory limit kind
+part_takes limit wire _ _ (of_key v begins) grows = grows
+part_takes limit wire _ _ (of_digest v begins) grows = grows
+part_takes limit wire _ _ (of_signature v begins) grows = tt
+part_takes limit wire _ _ (types_by_name v begins) grows = tt
+part_takes limit wire _ _ (salt_by_hash v begins) grows = grows
+part_takes limit wire _ _ (next_hash v begins) grows = grows
+part_takes limit wire _ _ (types_by_hash v begins) grows = grows
+part_takes limit wire _ _ (salt v begins) grows = grows
+
 -- data of which a part is not copied
 pub not_copied : (limit : Option ℕ) (kind : Kind) (wire octets part : List ℕ) (fault : ScanFault) → CopyFault limit octets fault → octets ≡ part → IsPart wire kind part → OctetsFault limit (Some kind) wire fault
 not_copied limit kind wire octets part entry_ends why same is = why
 not_copied limit kind wire octets part (illegal said) why same is = absurd why
 not_copied limit kind wire octets part no_room why same is = (part, is, subst (λ p. IsOver limit (length p)) same why)
-not_copied limit kind wire octets part no_memory why same is = whole_of wire part kind is
+not_copied limit kind wire octets part no_memory why same is = (whole_of wire part kind is, part_takes limit wire part kind is why)

@@ -1,12 +1,13 @@
 -- why record data are refused, in the text form of their type or in the generic form (RFC 1035,
 -- section 5.1, and RFC 3597, section 5)
-use Rattle.std.specs.Prelude.{◌≡◌, ℕ, ◌<◌, [], length, codes, Option, Some, None, IsNone}
+use Rattle.std.specs.Prelude.{◌≡◌, ◌⊎◌, ℕ, ◌<◌, [], length, codes, Option, Some, None, IsNone}
 use Rattle.domain_octets.specs.Limit.{IsOver}
 use Rattle.domain_octets.specs.Words.{Octets}
 use Rattle.domain_base.specs.Fault.{Fault}
 use Rattle.domain_base.specs.Scan.{ScanFault, entry_ends, illegal, no_room, no_memory, Refusal}
 use Rattle.domain_plain.specs.Generic.{GenericText, GenericFault}
-use Rattle.domain_fields.specs.Layout.{Values, Begins}
+use Rattle.domain_fields.specs.Field.{octet, short, long, name, spelled_name, counted, exactly, at_most, rest}
+use Rattle.domain_fields.specs.Layout.{Layout, one, ◌▸◌, Values, Begins}
 use Rattle.domain_fields.specs.Scan.{Refuses}
 use Rattle.domain_keys.specs.Data.{dnskey, ds}
 use Rattle.domain_rrsig.specs.Data.{rrsig}
@@ -77,6 +78,29 @@ pub data IsNotWhole {D : Type 0} (begins : Octets → D → Octets → Type 0)
   goes_on : (d : D) (after : Octets) → begins octets d after → 0 < length after
       → IsNotWhole begins faults octets
 
+-- there is a name among the fields
+abbrev pub HasName : Layout → Type 0
+HasName (one octet) = ⊥
+HasName (one short) = ⊥
+HasName (one long) = ⊥
+HasName (one name) = Unit {0}
+HasName (one spelled_name) = Unit {0}
+HasName (one counted) = ⊥
+HasName (one (exactly count)) = ⊥
+HasName (one (at_most n)) = ⊥
+HasName (one rest) = ⊥
+HasName (a ▸ b) = HasName a ⊎ HasName b
+
+-- memory is taken to make data of a kind of octets: for a name, and for parts that have no limit
+abbrev pub TakesMemory : Option ℕ → Kind → Type 0
+TakesMemory limit (plain l) = HasName l
+TakesMemory limit key = IsNone limit
+TakesMemory limit digest = IsNone limit
+TakesMemory limit signature = Unit {0}
+TakesMemory limit next_by_name = Unit {0}
+TakesMemory limit next_by_hash = IsNone limit
+TakesMemory limit params = IsNone limit
+
 -- why the octets of a generic form are not turned into data over octets that have this limit: they
 -- are no such data, or they are, and a part has no room or no memory; those of a type that has no
 -- text form of its own are not refused, since any octets are its data
@@ -87,7 +111,7 @@ OctetsFault limit (Some kind) wire (illegal said) =
     (said ≡ codes "illegal data") × (AreOfKind kind wire → ⊥)
 OctetsFault limit (Some kind) wire no_room =
     (part : Octets) × IsPart wire kind part × IsOver limit (length part)
-OctetsFault limit (Some kind) wire no_memory = AreOfKind kind wire
+OctetsFault limit (Some kind) wire no_memory = AreOfKind kind wire × TakesMemory limit kind
 
 -- why tokens are refused as data of a type, where octets have this limit, and the tokens that are
 -- left then: the mark of the generic form at their head decides what they are held to; text in that

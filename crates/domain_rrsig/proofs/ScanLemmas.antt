@@ -1,10 +1,11 @@
 -- the fields of signatures as tokens
 use Rattle.std.proofs.Common.{◌≡◌, ℕ, ◌+◌, ◌≤◌, List, [], length, inr, arith, length-append, codes, Option, sym, subst}
 use Rattle.std.specs.List.{concat}
+use Rattle.domain_octets.specs.Limit.{HasRoom}
 use Rattle.domain_octets.specs.Codec.{Decodes}
 use Rattle.domain_octets.specs.declared.codec.Codec.TheVariants.{Base64}
 use Rattle.domain_base.specs.Name.{wire_of}
-use Rattle.domain_base.specs.Scan.{ScanFault, illegal, CodecFault, IsEnd}
+use Rattle.domain_base.specs.Scan.{ScanFault, illegal, EntryFault, IsEnd}
 use Rattle.domain_fields.specs.Field.{short, name}
 use Rattle.domain_fields.specs.Layout.{one, ◌▸◌, octets_of}
 use Rattle.domain_fields.specs.Scan.{Scans, Refuses}
@@ -34,16 +35,17 @@ FieldsAre old d entry =
 pub refused_field : (limit : Option ℕ) (old new : List (List ℕ)) (fault : ScanFault) → RefusesRrsigFields limit old new fault → RefusesRrsig limit old new fault
 refused_field limit old new fault why = in_field why
 
-pub refused_entry : (limit : Option ℕ) (old entry new : List (List ℕ)) (fault : ScanFault) (d : ProtoRrsigData) → FieldsAre old d entry → IsEnd new entry → CodecFault Base64 limit fault (concat entry)
+pub refused_entry : (limit : Option ℕ) (old entry new : List (List ℕ)) (fault : ScanFault) (d : ProtoRrsigData) → FieldsAre old d entry → IsEnd new entry → EntryFault Base64 limit fault entry
     → RefusesRrsig limit old new fault
 refused_entry limit old entry new fault d fields end_of why = in_entry (record { value = _; entry = entry; fields = fields; end_of = end_of; why = why })
 
 pub refused_length : (limit : Option ℕ) (old entry new : List (List ℕ)) (fault : ScanFault) (d : ProtoRrsigData) (octets : List ℕ) → FieldsAre old d entry → Decodes Base64 (concat entry) octets
-    → new ≡ [] → (length (rrsig_octets (rrsig_data d octets)) ≤ 65535 → ⊥) → fault ≡ illegal (codes "record data too long") → RefusesRrsig limit old new fault
-refused_length limit old entry new fault d octets fields decoded all long said = too_long (record {
+    → HasRoom limit (length octets) → new ≡ [] → (length (rrsig_octets (rrsig_data d octets)) ≤ 65535 → ⊥) → fault ≡ illegal (codes "record data too long") → RefusesRrsig limit old new fault
+refused_length limit old entry new fault d octets fields decoded room all long said = too_long (record {
   value = _;
   octets = octets;
   spelled = record { entry = entry; fields = fields; decoded = decoded };
+  room = room;
   long = omega (arith, length_of_rrsig (rrsig_data d octets), long);
   all = all;
   said = said;

@@ -1,5 +1,5 @@
 //! Signatures over other octets and names.
-ghost use Rattle.std.specs.Prelude.{◌≡◌, ◌⊎◌, length};
+ghost use Rattle.std.specs.Prelude.{◌≡◌, ◌⊎◌, length, IsNone};
 ghost use Rattle.domain_octets.specs.Limit.{IsOver};
 ghost use Rattle.domain_base.specs.Name.{wire_of};
 
@@ -14,6 +14,8 @@ impl<N: ToName + Drop, O: CopyOctets> OctetsFrom<ProtoRrsig<N>> for ProtoRrsig<N
 
     ghost has_no_room = { λ source. IsOver O.capacity (length (wire_of source.signer_name)) };
 
+    ghost takes_memory = { IsNone O.capacity };
+
     fn try_octets_from(alloc: Global, source: ProtoRrsig<N>) -> Result<Self, AppendError> {
         let (numbers, name) = source.into_parts();
         let name = Name::<O>::try_octets_from(alloc, name)?;
@@ -26,6 +28,8 @@ impl<N: ToName, T: OctetsFrom<ProtoRrsig<N>>> FlattenInto<T> for ProtoRrsig<N> {
 
     ghost has_no_room = { λ source. T.OctetsFrom.has_no_room source };
 
+    ghost takes_memory = { T.OctetsFrom.takes_memory };
+
     fn try_flatten_into(self, alloc: Global) -> Result<T, AppendError> {
         T::try_octets_from(alloc, self)
     }
@@ -37,6 +41,8 @@ impl<S: Octets + Drop, N: ToName + Drop, O: CopyOctets + Drop> OctetsFrom<Rrsig<
 
     ghost has_no_room = { λ source. IsOver O.capacity (length (wire_of source.fields.signer_name))
         ⊎ IsOver O.capacity (length source.signature) };
+
+    ghost takes_memory = { IsNone O.capacity };
 
     fn try_octets_from(alloc: Global, source: Rrsig<S, N>) -> Result<Self, AppendError> {
         let (fields, signature) = source.into_parts();
@@ -51,6 +57,8 @@ impl<O: Octets, N: ToName, T: OctetsFrom<Rrsig<O, N>>> FlattenInto<T> for Rrsig<
     ghost is_same = { λ source made. T.OctetsFrom.is_same source made };
 
     ghost has_no_room = { λ source. T.OctetsFrom.has_no_room source };
+
+    ghost takes_memory = { T.OctetsFrom.takes_memory };
 
     fn try_flatten_into(self, alloc: Global) -> Result<T, AppendError> {
         T::try_octets_from(alloc, self)

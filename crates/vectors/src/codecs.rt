@@ -75,6 +75,21 @@ fn decode(alloc: Global, codec: Codec, text: &str, answers: &mut Answers) {
     answers.debug("ArrayBuilder<2>", &short.err());
 }
 
+/// The octets that a text stands for, where there is room for `K`.
+fn in_array<const K: usize>(alloc: Global, codec: Codec, text: &str, answers: &mut Answers) {
+    let octets: Result<ArrayBuilder<K>, DecodeError> = codec.decode(alloc, text);
+    answers.octets_or_error("array", octets);
+}
+
+/// The octets that a text stands for, where there is room for none to four.
+fn in_arrays(alloc: Global, codec: Codec, text: &str, answers: &mut Answers) {
+    in_array::<0>(alloc, codec, text, answers);
+    in_array::<1>(alloc, codec, text, answers);
+    in_array::<2>(alloc, codec, text, answers);
+    in_array::<3>(alloc, codec, text, answers);
+    in_array::<4>(alloc, codec, text, answers);
+}
+
 /// The octets that a text stands for, by the functions that are named for the alphabets.
 fn named(alloc: Global, text: &str, answers: &mut Answers) {
     answers.debug("base16", &base16::decode::<Vec<u8>>(alloc, text));
@@ -107,6 +122,9 @@ pub fn answer(alloc: Global, words: &[&str], answers: &mut Answers) {
         "base16" => decode(alloc, Codec::Base16, text, answers),
         "base32" => decode(alloc, Codec::Base32Hex, text, answers),
         "base64" => decode(alloc, Codec::Base64, text, answers),
+        "arrays16" => in_arrays(alloc, Codec::Base16, text, answers),
+        "arrays32" => in_arrays(alloc, Codec::Base32Hex, text, answers),
+        "arrays64" => in_arrays(alloc, Codec::Base64, text, answers),
         "named" => named(alloc, text, answers),
         "errors" => errors(answers),
         _ => answers.echo("  no such vector"),

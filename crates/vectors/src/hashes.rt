@@ -1,6 +1,6 @@
 //! Salts, and hashes of owner names (RFC 5155, sections 3.1.5 and 3.1.7).
 use bytes::Bytes;
-use domain_base::Scanner;
+use domain_base::{IterScanner, Scanner};
 use domain_bitmap::{Nsec3Salt, Nsec3SaltError, Nsec3SaltFromStrError, OwnerHash, OwnerHashError};
 use domain_octets::{
     ArrayBuilder, DecodeError, DisplayKind, Octets, Parser, PieceFormatter, ZonefileFmt,
@@ -90,6 +90,26 @@ fn sizes(alloc: Global, text: &str, answers: &mut Answers) {
         Err(error) => answers.refused(&error),
     }
     scanned_sizes(alloc, &[text], answers);
+}
+
+/// Why a text is no salt and no hash where there is room for `K` octets.
+fn room_for<const K: usize>(alloc: Global, text: &str, answers: &mut Answers) {
+    let salt = Nsec3Salt::<ArrayBuilder<K>>::from_str(alloc, text).err();
+    answers.debug("salt", &salt);
+    let tokens = [text];
+    let mut scanner = IterScanner::<ArrayBuilder<K>>::new(&tokens);
+    answers.debug("salt as a token", &Nsec3Salt::scan(alloc, &mut scanner).err());
+    let hash = OwnerHash::<ArrayBuilder<K>>::from_str(alloc, text).err();
+    answers.debug("hash", &hash);
+    let mut scanner = IterScanner::<ArrayBuilder<K>>::new(&tokens);
+    answers.debug("hash as a token", &OwnerHash::scan(alloc, &mut scanner).err());
+}
+
+/// The same for one octet, for 255 and for 256.
+fn room(alloc: Global, text: &str, answers: &mut Answers) {
+    room_for::<1>(alloc, text, answers);
+    room_for::<255>(alloc, text, answers);
+    room_for::<256>(alloc, text, answers);
 }
 
 /// Whether octets are too many for a salt and for a hash.
@@ -225,6 +245,7 @@ pub fn answer(alloc: Global, words: &[&str], answers: &mut Answers) {
         "salt" => salt(alloc, text, answers),
         "hash" => hash(alloc, text, answers),
         "sizes" => sizes(alloc, text, answers),
+        "room" => room(alloc, text, answers),
         "errors" => errors(alloc, answers),
         _ => of_parts(alloc, form, words.get(1..).unwrap_or_default(), answers),
     }

@@ -1,4 +1,4 @@
-use Rattle.std.proofs.Common.{◌≡◌, length, sym, ap, subst}
+use Rattle.std.proofs.Common.{◌≡◌, length, subst}
 use Rattle.domain_base.specs.Name.{wire_of, lowered}
 use Rattle.domain_fields.specs.Layout.{octets_of}
 use Rattle.domain_fields.proofs.NameLemmas.{lowered_length}

@@ -15,5 +15,5 @@ returns-in_err-data-clause-err g c =
 
 pub returns-then-as_slice-from-clause-err : goal.returns-then-as_slice-from-clause-err
 returns-then-as_slice-from-clause-err g c =
-    count_differs _ _ _ _ _ c.in_ok-scan.ensures.ok c.in_ok-count.ensures.ok _ _ c.in_ok-data.ensures.all c.in_ok-data.ensures.ok
+    count_differs _ _ _ _ _ c.in_ok-scan.ensures.ok c.in_ok-count.ensures.ok _ _ c.in_ok-data.ensures.all c.in_ok-data.ensures.ok c.in_ok-data.ensures.room
     (λ same. omega (arith, ap length c.as_slice.ensures))

@@ -1,4 +1,4 @@
-use Rattle.std.proofs.Common.{◌≡◌, refl, sym, subst}
+use Rattle.std.proofs.Common.{refl, sym, subst}
 use Rattle.domain_rdata.specs.ZoneClone.{IsZoneClone}
 use Rattle.domain_rdata.specs.declared.zone_record_data.ZoneRecordData.TheVariants.{Ns, Soa, Mx, Nsec, Unknown}
 use Rattle.domain_rdata.proofs.zone_record_data.ZoneRecordData.clone.Goals as goal

@@ -1,0 +1,261 @@
+-- texts in Base 64, 64 characters at a time
+use Rattle.std.specs.Prelude.{min, replicate, ◌-◌, ◌/◌, ◌%◌}
+use Rattle.std.proofs.Common.{◌≡◌, ℕ, zero, suc, ◌+◌, ◌*◌, ◌<◌, ◌≤◌, List, [], ◌∷◌, ◌++◌, length, take, drop, slice_index, length-drop, length-take, length-append, refl, sym, ap, subst, ◌∙◌, arith, ◌⊎◌, inl, inr, Option, None, Some, Result, Ok, Err, true}
+use Rattle.std.proofs.lemmas.Bool.{cases_lt}
+use Rattle.std.proofs.lemmas.List.{nil_from_length, take_at, drop_at, length-replicate, take-append-drop, take_all, drop_all, append-nil, append_assoc}
+use Rattle.base64.specs.GeneralPurpose.{decode_of, encode_of, IsBytes}
+use Rattle.base64.specs.Engines.{standard}
+use Rattle.base64.specs.Rfc4648.{encode_symbols, padding_len}
+use Rattle.base64.proofs.RoundTrip.{length-encode_symbols}
+use Rattle.base64.specs.Tables.{is_inverse}
+use Rattle.base64.specs.Decode.{IsDecodeTable, decode_outcome, decoded_bytes, decode_group, group_error, groups_error, groups_bytes, groups_before_last, leftover_bytes, lone_error, no_leftover, or_else, scan_bytes, scan_last, symbol_error}
+use Rattle.base64.specs.declared.decode.DecodeError.{DecodeError}
+use Rattle.base64.proofs.Canonical.{IsScanned-scan, decoded_bytes-nil}
+use Rattle.base64.proofs.EngineFacts.{decode_of-encode_of, decode_of_strict, encode_of-append, encode_of-nil}
+use Rattle.base64.proofs.Tables.{IsDecodeTable_from, are_tables_inverse}
+
+-- ---- what is decoded are octets
+
+bytes-append : (a b : List ℕ) → IsBytes a → IsBytes b → IsBytes (a ++ b)
+bytes-append [] b front back i = back i
+bytes-append (x ∷ a) b front back zero = front 0
+bytes-append (x ∷ a) b front back (suc i) = bytes-append a b (λ k. front (suc k)) back i
+
+pub bytes-take : (n : ℕ) (xs : List ℕ) → IsBytes xs → IsBytes (take n xs)
+bytes-take zero xs all i = omega arith
+bytes-take (suc n) [] all i = omega arith
+bytes-take (suc n) (x ∷ xs) all zero = all 0
+bytes-take (suc n) (x ∷ xs) all (suc i) = bytes-take n xs (λ k. all (suc k)) i
+
+pub bytes-drop : (n : ℕ) (xs : List ℕ) → IsBytes xs → IsBytes (drop n xs)
+bytes-drop zero xs all i = all i
+bytes-drop (suc n) [] all i = omega arith
+bytes-drop (suc n) (x ∷ xs) all i = bytes-drop n xs (λ k. all (suc k)) i
+
+three_bytes : (a b c : ℕ) → a < 256 → b < 256 → c < 256 → IsBytes (a ∷ b ∷ c ∷ [])
+three_bytes a b c ha hb hc zero = ha
+three_bytes a b c ha hb hc (suc zero) = hb
+three_bytes a b c ha hb hc (suc (suc zero)) = hc
+three_bytes a b c ha hb hc (suc (suc (suc i))) = omega arith
+
+group_small : (m0 m1 m2 m3 : ℕ) → m0 < 64 → m1 < 64 → m2 < 64 → m3 < 64 → IsBytes (decode_group m0 m1 m2 m3)
+group_small m0 m1 m2 m3 l0 l1 l2 l3 = three_bytes _ _ _ (omega arith) (omega arith) (omega arith)
+
+no_error : (x y : Option DecodeError) → or_else x y ≡ None → (x ≡ None) × (y ≡ None)
+no_error None y none = (refl, none)
+no_error (Some e) y none = cc none
+
+symbol_small : (dec s : List ℕ) (i : ℕ) → IsDecodeTable dec → slice_index s i < 256 → symbol_error dec s i ≡ None → slice_index dec (slice_index s i) < 64
+symbol_small dec s i table byte none = elim (table (slice_index s i) byte) [
+  | inl bad ↦ cc (rw bad at none)
+  | inr good ↦ good
+]
+
+groups_small : (dec s : List ℕ) (q : ℕ) → IsDecodeTable dec → IsBytes s → groups_error dec s q ≡ None → IsBytes (groups_bytes dec s q)
+unfolding groups_error groups_bytes
+groups_small dec s zero table bytes none = λ i. omega arith
+groups_small dec s (suc q) table bytes none =
+    let i : ℕ = 4 * q in
+    let parts = no_error (groups_error dec s q) (group_error dec s i) none in
+    let p0 = no_error (symbol_error dec s i) _ parts.1 in
+    let p1 = no_error (symbol_error dec s (i + 1)) _ p0.1 in
+    let p2 = no_error (symbol_error dec s (i + 2)) (symbol_error dec s (i + 3)) p1.1 in
+    bytes-append (groups_bytes dec s q) _ (groups_small dec s q table bytes parts.0)
+    (group_small _ _ _ _ (symbol_small dec s i table (bytes i) p0.0) (symbol_small dec s (i + 1) table (bytes (i + 1)) p1.0) (symbol_small dec s (i + 2) table (bytes (i + 2)) p2.0) (symbol_small dec s (i + 3) table (bytes (i + 3)) p2.1))
+
+zeros : (k : ℕ) → slice_index (0 ∷ 0 ∷ 0 ∷ 0 ∷ []) k < 64
+zeros zero = omega arith
+zeros (suc zero) = omega arith
+zeros (suc (suc zero)) = omega arith
+zeros (suc (suc (suc zero))) = omega arith
+zeros (suc (suc (suc (suc k)))) = omega arith
+
+result_cases : {A E : Type 0} (r : Result A E) → ((x : A) × (r ≡ Ok x)) ⊎ ((e : E) × (r ≡ Err e))
+result_cases (Ok x) = inl (x, refl)
+result_cases (Err e) = inr (e, refl)
+
+outcome : (error : Option DecodeError) (found b : List ℕ) → decode_outcome error found ≡ Ok b → (error ≡ None) × (found ≡ b)
+outcome None found b is = (refl, cc is)
+outcome (Some e) found b is = cc is
+
+inverse : is_inverse standard.encode_table standard.decode_table ≡ true
+inverse = are_tables_inverse standard.encode_table standard.decode_table 61 standard.tables
+
+pub decoded_small : (s b : List ℕ) → IsBytes s → decode_of standard s ≡ Ok b → IsBytes b
+decoded_small s b bytes decoded =
+    let parts = outcome _ _ b decoded in
+    let q : ℕ = groups_before_last (length s) in
+    let at : ℕ = 4 * q in
+    let table = IsDecodeTable_from standard.encode_table standard.decode_table inverse in
+    let p0 = no_error (lone_error standard.decode_table 61 s) _ parts.0 in
+    let p1 = no_error (groups_error standard.decode_table s q) _ p0.1 in
+    let front = groups_small standard.decode_table s q table bytes p1.0 in
+    elim (cases_lt 0 (length s)) [
+      | inl some ↦
+          elim (result_cases (scan_last standard.decode_table 61 at s)) [
+            | inl ok ↦
+                let st = ok.0 in
+                let short : length (drop at s) ≤ 4 = omega (arith, length-drop at s) in
+                let held = IsScanned-scan standard.encode_table standard.decode_table (drop at s) 61 at (drop at s) no_leftover st 0 inverse (bytes-drop at s bytes) short (omega arith) refl
+                ((refl, refl, λ j lt. absurd (omega arith), λ j low lt. absurd (omega arith)), (omega arith, omega arith, omega arith, zeros)) ok.1 in
+                let small = held.1.3 in
+                let back : IsBytes (leftover_bytes st) = bytes-take _ _ (group_small _ _ _ _ (small 0) (small 1) (small 2) (small 3)) in
+                let last : IsBytes (scan_bytes (scan_last standard.decode_table 61 at s)) = rw ok.1 back in
+                subst IsBytes parts.1 (bytes-append (groups_bytes standard.decode_table s q) _ front last)
+            | inr err ↦ cc (rw err.1 at p1.1)
+          ]
+      | inr none ↦
+          let e : s ≡ [] = nil_from_length s (omega arith) in
+          let nothing : [] ≡ b = sym (decoded_bytes-nil standard.decode_table 61) ∙ ap (decoded_bytes standard.decode_table 61) (sym e) ∙ parts.1 in
+          subst IsBytes nothing (λ i. omega arith)
+    ]
+
+-- ---- a text is the encoding of what it stands for
+
+abbrev pub DecodesTo : List ℕ → List ℕ → Type 0
+DecodesTo text octets = decode_of standard text ≡ Ok octets
+
+encoding : (text octets : List ℕ) → IsBytes text → DecodesTo text octets → text ≡ encode_of standard octets
+encoding text octets bytes decoded = decode_of_strict standard text octets (refl, refl) bytes decoded
+
+-- groups of three octets and what stands for others after them
+pub joined_groups : (front back a b : List ℕ) → IsBytes front → IsBytes back → length a % 3 ≡ 0 → DecodesTo front a → DecodesTo back b → DecodesTo (front ++ back) (a ++ b)
+joined_groups front back a b fine rest whole first second =
+    let parts : front ++ back ≡ encode_of standard (a ++ b) =
+    ap (λ t. t ++ back) (encoding front a fine first) ∙ ap (λ t. encode_of standard a ++ t) (encoding back b rest second) ∙ sym (encode_of-append standard a b whole) in
+    subst (λ t. DecodesTo t (a ++ b)) (sym parts)
+    (decode_of-encode_of standard (a ++ b) refl (bytes-append a b (decoded_small front a fine first) (decoded_small back b rest second)))
+
+-- how many characters stand for octets
+encoded_length : (octets : List ℕ) → length (encode_of standard octets) ≡ (4 * length octets + 2) / 3 + (3 - length octets % 3) % 3
+encoded_length octets =
+    length-append (encode_symbols standard.encode_table octets) (replicate (padding_len (length octets)) 61)
+    ∙ ap2 (length-encode_symbols standard.encode_table octets) (length-replicate (padding_len (length octets)) 61)
+  where
+    ap2 : {a b c d : ℕ} → a ≡ b → c ≡ d → a + c ≡ b + d
+    ap2 e f = λ i. e i + f i
+
+-- what a text of over 64 characters stands for: 48 octets by the first 64, and others
+pub record Pieces (text octets : List ℕ) : Type 0 where
+  pub first : DecodesTo (take 64 text) (take 48 octets)
+  pub others : DecodesTo (drop 64 text) (drop 48 octets)
+  pub full : length (take 48 octets) ≡ 48
+
+pub split_pieces : (text octets : List ℕ) → IsBytes text → 64 < length text → DecodesTo text octets → Pieces text octets
+split_pieces text octets bytes long decoded =
+    let a : List ℕ = take 48 octets in
+    let b : List ℕ = drop 48 octets in
+    let is : text ≡ encode_of standard octets = encoding text octets bytes decoded in
+    let small = decoded_small text octets bytes decoded in
+    let many : 48 < length octets = omega (arith, ap length is, encoded_length octets) in
+    let full : length a ≡ 48 = omega (arith, length-take 48 octets) in
+    let parts : text ≡ encode_of standard a ++ encode_of standard b =
+    is ∙ ap (encode_of standard) (sym (take-append-drop 48 octets)) ∙ encode_of-append standard a b (omega arith) in
+    let size : length (encode_of standard a) ≡ 64 = omega (arith, encoded_length a) in
+    let front : take 64 text ≡ encode_of standard a = ap (take 64) parts ∙ take_at (encode_of standard a) (encode_of standard b) 64 size in
+    let back : drop 64 text ≡ encode_of standard b = ap (drop 64) parts ∙ drop_at (encode_of standard a) (encode_of standard b) 64 size in
+    record {
+      first = subst (λ t. DecodesTo t a) (sym front) (decode_of-encode_of standard a refl (bytes-take 48 octets small));
+      others = subst (λ t. DecodesTo t b) (sym back) (decode_of-encode_of standard b refl (bytes-drop 48 octets small));
+      full = full;
+    }
+
+-- no characters stand for no octets
+pub nothing_decodes : (octets : List ℕ) → DecodesTo [] octets → octets ≡ []
+nothing_decodes octets decoded = let none : DecodesTo [] [] = subst (λ t. DecodesTo t []) (encode_of-nil standard) (decode_of-encode_of standard [] refl (λ i. omega arith)) in cc
+
+-- ---- a text that is gone through piece by piece
+
+-- some pieces of the text have passed, and these characters are left: what they stand for decides
+pub record Passed (text left : List ℕ) : Type 0 where
+  pub back : (octets : List ℕ) → DecodesTo left octets → (whole : List ℕ) × DecodesTo text whole
+  pub forth : (whole : List ℕ) → DecodesTo text whole → (octets : List ℕ) × DecodesTo left octets
+  pub bytes : IsBytes left
+
+pub passed_none : (text : List ℕ) → IsBytes text → Passed text text
+passed_none text bytes = record { back = λ octets decoded. (octets, decoded); forth = λ whole decoded. (whole, decoded); bytes = bytes }
+
+-- one piece more
+pub passed_more : (text left piece : List ℕ) → Passed text left → 64 < length left → DecodesTo (take 64 left) piece → length piece ≡ 48 → Passed text (drop 64 left)
+passed_more text left piece so_far long first full =
+    let bytes = bytes-drop 64 left so_far.bytes in
+    record {
+      back = λ octets decoded.
+          so_far.back (piece ++ octets)
+          (subst (λ t. DecodesTo t (piece ++ octets)) (take-append-drop 64 left) (joined_groups (take 64 left) (drop 64 left) piece octets (bytes-take 64 left so_far.bytes) bytes (omega arith) first decoded));
+      forth = λ whole decoded.
+          let here = so_far.forth whole decoded in
+          (drop 48 here.0, (split_pieces left here.0 so_far.bytes long here.1).others);
+      bytes = bytes;
+    }
+
+-- a piece that stands for fewer octets, or for none, is the last of no text
+module _ (text left : List ℕ) (so_far : Passed text left) (long : 64 < length left) (whole : List ℕ) (decoded : DecodesTo text whole) where
+  pub no_piece : (e : DecodeError) → decode_of standard (take 64 left) ≡ Err e → ⊥
+  no_piece e refused = let here = so_far.forth whole decoded in let first = (split_pieces left here.0 so_far.bytes long here.1).first in cc
+
+  pub short_piece : (piece : List ℕ) → DecodesTo (take 64 left) piece → length piece < 48 → ⊥
+  short_piece piece read short =
+      let here = so_far.forth whole decoded in
+      let pieces = split_pieces left here.0 so_far.bytes long here.1 in
+      let first : DecodesTo (take 64 left) (take 48 here.0) = pieces.first in
+      let same : piece ≡ take 48 here.0 = cc in
+      omega (arith, pieces.full, ap length same)
+
+-- some pieces of the text have been read, and these characters are left
+pub record Read (text left built : List ℕ) : Type 0 where
+  pub rest : List ℕ
+  pub decoded : DecodesTo left rest
+  pub whole : DecodesTo text (built ++ rest)
+  pub bytes : IsBytes left
+
+pub read_none : (text : List ℕ) → IsBytes text → (octets : List ℕ) → DecodesTo text octets → Read text text []
+read_none text bytes octets decoded = record { rest = octets; decoded = decoded; whole = decoded; bytes = bytes }
+
+-- the next piece stands for these octets, and this is left
+pub record Next (left built : List ℕ) (text : List ℕ) (count : ℕ) : Type 0 where
+  pub piece : List ℕ
+  pub first : DecodesTo (take count left) piece
+  pub more : Read text (drop count left) (built ++ piece)
+
+last_piece : (text left built : List ℕ) (count : ℕ) → Read text left built → length left ≤ count → Next left built text count
+last_piece text left built count so_far short =
+    let nothing : drop count left ≡ [] = drop_all count left short in
+    record {
+      piece = so_far.rest;
+      first = subst (λ t. DecodesTo t so_far.rest) (sym (take_all count left short)) so_far.decoded;
+      more = record {
+        rest = [];
+        decoded = subst (λ t. DecodesTo t []) (sym nothing) (subst (λ t. DecodesTo t []) (encode_of-nil standard) (decode_of-encode_of standard [] refl (λ i. omega arith)));
+        whole = subst (λ o. DecodesTo text o) (sym (append-nil (built ++ so_far.rest))) so_far.whole;
+        bytes = bytes-drop count left so_far.bytes;
+      };
+    }
+
+inner_piece : (text left built : List ℕ) → Read text left built → 64 < length left → Next left built text 64
+inner_piece text left built so_far long =
+    let pieces = split_pieces left so_far.rest so_far.bytes long so_far.decoded in
+    let parts : built ++ so_far.rest ≡ (built ++ take 48 so_far.rest) ++ drop 48 so_far.rest =
+    ap (λ o. built ++ o) (sym (take-append-drop 48 so_far.rest)) ∙ sym (append_assoc built (take 48 so_far.rest) (drop 48 so_far.rest)) in
+    record {
+      piece = take 48 so_far.rest;
+      first = pieces.first;
+      more = record {
+        rest = drop 48 so_far.rest;
+        decoded = pieces.others;
+        whole = subst (λ o. DecodesTo text o) parts so_far.whole;
+        bytes = bytes-drop 64 left so_far.bytes;
+      };
+    }
+
+pub next_piece : (text left built : List ℕ) (count : ℕ) → Read text left built → count ≡ min (length left) 64 → Next left built text count
+next_piece text left built count so_far is = elim (cases_lt 64 (length left)) [
+  | inl long ↦ let all : count ≡ 64 = omega arith in subst (λ n. Next left built text n) (sym all) (inner_piece text left built so_far long)
+  | inr short ↦ last_piece text left built count so_far (omega arith)
+]
+
+-- all pieces have been read
+pub read_all : (text left built : List ℕ) → Read text left built → left ≡ [] → DecodesTo text built
+read_all text left built so_far none =
+    let nothing : so_far.rest ≡ [] = nothing_decodes so_far.rest (subst (λ t. DecodesTo t so_far.rest) none so_far.decoded) in
+    subst (λ o. DecodesTo text o) (ap (λ r. built ++ r) nothing ∙ append-nil built) so_far.whole

@@ -1,0 +1,55 @@
+use Rattle.std.proofs.Common.{◌≡◌, ℕ, List, ◌++◌, length, take, sym, ◌∙◌, arith}
+use Rattle.std.proofs.lemmas.Bool.{eqb-true}
+use Rattle.std.proofs.lemmas.List.{nil_from_length}
+use Rattle.domain_octets.specs.Codec.{BuildFault}
+use Rattle.domain_octets.specs.declared.codec.Codec.TheVariants.{Base64}
+use Rattle.domain_octets.proofs.RoomLemmas.{build_stops, room_for_part, handed_on, empty_has_room}
+use Rattle.domain_octets.proofs.Base64Lemmas.{read_none, next_piece, read_all}
+use Rattle.domain_octets.proofs.decoding.build_base64.Goals as goal
+
+pub loop-left-init : goal.loop-left-init
+loop-left-init g c = record {
+  read = rw c.empty-octets.ensures (read_none c.args.text.now (λ i. let small = c.type_inv.text i in omega arith) c.requires.0 c.requires.1);
+  room = empty_has_room g.B.OctetsBuilder.limit (g.B.Octets.octets c.empty-octets.result) c.empty-octets.ensures;
+}
+
+pub unreachable-requires : goal.unreachable-requires
+unreachable-requires g c =
+    let next = next_piece c.args.text.now c.loop-left.left.now (g.B.Octets.octets c.loop-left.octets) c.min.result c.loop-left.invariant.read c.min.ensures in
+    let failed = rw c.split_at.ensures.front at c.in_default.ensures.err in
+    let first = next.first in
+    cc
+
+pub returns-in_err-append_slice-clause-err : goal.returns-in_err-append_slice-clause-err
+returns-in_err-append_slice-clause-err g c =
+    let text = c.args.text.now in
+    let built = g.B.Octets.octets c.loop-left.octets in
+    let next = next_piece text c.loop-left.left.now built c.min.result c.loop-left.invariant.read c.min.ensures in
+    let piece : List ℕ = take c.in-Ok.count c.decode_slice_unchecked.new.output in
+    let read = rw c.split_at.ensures.front at c.in-Ok.ensures.ok.0 in
+    let first = next.first in
+    let same : next.piece ≡ piece = cc in
+    let whole = rw same at next.more.whole in
+    handed_on (BuildFault Base64 g.B.OctetsBuilder.limit text) c.in_err-append_slice.field-0.0 c.from_residual.result c.from_residual.ensures.1
+    (build_stops Base64 g.B.OctetsBuilder.limit text built piece next.more.rest c.append_slice.result c.in_err-append_slice.field-0.0 c.in_err-append_slice.was whole c.append_slice.ensures.short c.append_slice.ensures.memory)
+
+pub loop-left-preserved : goal.loop-left-preserved
+loop-left-preserved g c =
+    let text = c.args.text.now in
+    let built = g.B.Octets.octets c.loop-left.octets in
+    let next = next_piece text c.loop-left.left.now built c.min.result c.loop-left.invariant.read c.min.ensures in
+    let piece : List ℕ = take c.in-Ok.count c.decode_slice_unchecked.new.output in
+    let read = rw c.split_at.ensures.front at c.in-Ok.ensures.ok.0 in
+    let first = next.first in
+    let same : next.piece ≡ piece = cc in
+    let grown : g.B.Octets.octets c.append_slice.new.self ≡ built ++ piece = c.in_ok-append_slice.ensures.ok in
+    record {
+      read = rw (grown, c.split_at.ensures.back) (rw same at next.more);
+      room = room_for_part g.B.OctetsBuilder.limit c.in_ok-append_slice.field-0 c.append_slice.result built piece (g.B.Octets.octets c.append_slice.new.self) c.in_ok-append_slice.was grown c.append_slice.ensures.short;
+    }
+
+pub returns-clause-ok : goal.returns-clause-ok
+returns-clause-ok g c =
+    let left = c.loop-left.left.now in
+    read_all c.args.text.now left (g.B.Octets.octets c.loop-left.octets) c.loop-left.invariant.read
+    (nil_from_length left (eqb-true (length left) 0 (sym c.is_empty.ensures ∙ c.loop-left-test.false)))
