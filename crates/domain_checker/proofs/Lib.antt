@@ -8,3 +8,4 @@ pub mod SpelledLemmas
 pub mod HashedListLemmas
 pub mod HashedWalkLemmas
 pub mod HashedVerdictLemmas
+pub mod HandedInLemmas

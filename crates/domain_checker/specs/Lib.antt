@@ -5,3 +5,4 @@ pub mod HashedVerdict
 pub mod HashedReading
 pub mod HashedView
 pub mod HashedPass
+pub mod HandedIn

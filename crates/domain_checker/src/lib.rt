@@ -4,7 +4,8 @@
 //! `check_nsec` is handed records of an NSEC chain, any of them, in any order, and no zone. Its
 //! answer is what the zone itself says of the name and the type, or that these records do not prove
 //! it. The definitions in `specs/Verdict` are over the zone and its chain alone; those in
-//! `specs/Reading` of the records alone.
+//! `specs/Reading` of the records alone. `NsecCheck` answers the same of records that are handed in
+//! one after another, and keeps none of them.
 //!
 //! `check_nsec3` is handed records of an NSEC3 chain and the NSEC3PARAM record in the same way, and
 //! asks a hasher for the hashes of names. Here the zone and its chain stand in
@@ -16,10 +17,12 @@ pub mod laws;
 mod nsec;
 mod nsec3;
 mod nsec3_laws;
+mod nsec_check;
 mod spelled;
 mod verdict;
 mod walk;
 
 pub use nsec::check_nsec;
+pub use nsec_check::NsecCheck;
 pub use nsec3::check_nsec3;
 pub use verdict::Verdict;

@@ -6,9 +6,10 @@ ghost use Rattle.domain_zone.specs.Covering.{covers};
 ghost use Rattle.domain_zone.specs.Enclosers.{longer, shared};
 ghost use Rattle.domain_nsec.specs.ChainView.{as_link, links_of};
 ghost use Rattle.domain_checker.specs.Verdict.{is_inside, HasProof, IsProved, IsWithin};
-ghost use Rattle.domain_checker.specs.Reading.{cover_verdict, is_at_cut, is_cover, list_verdict, match_verdict, reading};
+ghost use Rattle.domain_checker.specs.Reading.{cover_verdict, is_at_cut, is_cover, match_verdict, reading};
 
-use crate::{Verdict, laws};
+use crate::Verdict;
+use crate::nsec_check::NsecCheck;
 use domain_base::{Rtype, ToName};
 use domain_octets::Octets;
 use domain_plain::Record;
@@ -19,7 +20,7 @@ use std::cmp::Ordering;
 type NsecRr<O, N> = Record<N, Nsec<O, N>>;
 
 /// Whether the owner and the next name are at or below the apex.
-fn is_inside<A: ToName, O: Octets, N: ToName>(apex: &A, listed: &NsecRr<O, N>) -> bool
+pub(crate) fn is_inside<A: ToName, O: Octets, N: ToName>(apex: &A, listed: &NsecRr<O, N>) -> bool
     ensures { result ≡ is_inside (A.labels apex.now) (as_link N.labels listed.now) }
 {
     listed.owner().ends_with(apex) && listed.data().next_name().ends_with(apex)
@@ -51,7 +52,7 @@ fn covers<N: ToName, M: ToName>(order: Ordering, owner: &N, next: &N, name: &M) 
 
 /// Whether the record is not passed over and covers the name. `order` is the canonical order of its
 /// owner and the name.
-fn is_cover<A: ToName, O: Octets, N: ToName, M: ToName>(
+pub(crate) fn is_cover<A: ToName, O: Octets, N: ToName, M: ToName>(
     apex: &A,
     order: Ordering,
     listed: &NsecRr<O, N>,
@@ -72,7 +73,7 @@ fn is_at_cut<A: ToName, O: Octets, N: ToName>(apex: &A, listed: &NsecRr<O, N>) -
 }
 
 /// What a record says of its owner.
-fn match_verdict<A: ToName, O: Octets, N: ToName>(
+pub(crate) fn match_verdict<A: ToName, O: Octets, N: ToName>(
     apex: &A,
     listed: &NsecRr<O, N>,
     rtype: Rtype,
@@ -104,7 +105,7 @@ fn longer_shared<N: ToName, M: ToName>(name: &M, owner: &N, next: &N) -> usize
 }
 
 /// What a record says of a name that it covers.
-fn cover_verdict<A: ToName, O: Octets, N: ToName, M: ToName>(
+pub(crate) fn cover_verdict<A: ToName, O: Octets, N: ToName, M: ToName>(
     apex: &A,
     listed: &NsecRr<O, N>,
     name: &M,
@@ -120,34 +121,6 @@ fn cover_verdict<A: ToName, O: Octets, N: ToName, M: ToName>(
         return Verdict::EmptyName;
     }
     Verdict::NoName(longer_shared(name, listed.owner(), next))
-}
-
-/// What the records say of a name at or below the apex. Goes over them once.
-fn list_verdict<A: ToName, O: Octets, N: ToName, M: ToName>(
-    apex: &A,
-    chain: &[NsecRr<O, N>],
-    name: &M,
-    rtype: Rtype,
-) -> Verdict
-    ensures { result ≡ list_verdict (A.labels apex.now) (links_of N.labels chain.now)
-        (M.labels name.now) rtype }
-{
-    // The first match decides at once. The first cover waits for the end, and decides where no
-    // record matches.
-    let mut cover = None;
-    for listed in chain {
-        let order = listed.owner().name_cmp(name);
-        if order.is_eq() && is_inside(apex, listed) {
-            return match_verdict(apex, listed, rtype);
-        }
-        if cover.is_none() && is_cover(apex, order, listed, name) {
-            cover = Some(listed);
-        }
-    }
-    match cover {
-        Some(listed) => cover_verdict(apex, listed, name),
-        None => Verdict::NotProven,
-    }
 }
 
 /// What records of an NSEC chain prove of a name and a type (RFC 4035, section 5.4). Takes no
@@ -185,11 +158,9 @@ pub fn check_nsec<A: ToName, O: Octets, N: ToName, M: ToName>(
     // For any list at all, the number of a closest encloser's labels is none that the name lacks.
     ensures within { IsWithin (length (M.labels name.now)) result }
 {
-    if !name.ends_with(apex) {
-        return Verdict::OutsideZone;
+    let mut check = NsecCheck::new(apex, name, rtype);
+    for listed in chain {
+        check.add(listed);
     }
-    // By this law what the records say is what they prove, of a type of 16 bits.
-    laws::readings_are_proved();
-    let _number = rtype.to_int();
-    list_verdict(apex, chain, name, rtype)
+    check.verdict()
 }

@@ -30,7 +30,7 @@ pub use domain_base::{
     Rtype, ScanError, Scanner, ToName, Ttl,
 };
 pub use domain_bitmap::{RtypeBitmap, RtypeBitmapBuilder};
-pub use domain_checker::{Verdict, check_nsec, check_nsec3};
+pub use domain_checker::{NsecCheck, Verdict, check_nsec, check_nsec3};
 pub use domain_nsec::{GenerateNsecConfig, generate_nsecs};
 pub use domain_nsec3::{
     GenerateNsec3Config, HashedNsec3s, LentNsec3, Nsec3Chain, Nsec3ParamTtlMode, Nsec3Records,

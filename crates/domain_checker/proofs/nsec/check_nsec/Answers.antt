@@ -1,29 +1,33 @@
-use Rattle.std.proofs.Common.{◌≡◌, ◌≢◌, ◌<◌, true, sym, ◌∙◌, subst, cond, length}
-use Rattle.domain_base.specs.Name.{is_at_or_below}
-use Rattle.domain_nsec.specs.ChainView.{links_of}
-use Rattle.domain_checker.specs.declared.verdict.Verdict.TheVariants.{NotProven, OutsideZone}
-use Rattle.domain_checker.specs.Verdict.{IsProved, IsWithin}
-use Rattle.domain_checker.specs.Reading.{list_verdict}
-use Rattle.domain_checker.proofs.ListLemmas.{has_proof, list_within}
+use Rattle.std.proofs.Common.{◌≡◌, ℕ, ◌+◌, ◌<◌, List, [], ◌∷◌, ◌++◌, length, map, take, get_or, sym, ap, ◌∙◌, subst}
+use Rattle.std.proofs.lemmas.List.{take_more, map-append, take_all}
+use Rattle.domain_nsec.specs.ChainView.{as_link, links_of}
+use Rattle.domain_checker.specs.HandedIn.{HasRead}
 use Rattle.domain_checker.proofs.nsec.check_nsec.Goals as goal
 
-pub returns-clause-zone : goal.returns-clause-zone
-returns-clause-zone g c =
-    let apex = g.A.ToName.labels c.args.apex.now in
-    let listed = links_of g.N.ToName.labels c.args.chain.now in
-    let name = g.M.ToName.labels c.args.name.now in
-    let low : is_at_or_below name apex ≡ true = sym c.ends_with.ensures.value ∙ c.if-not-ends_with.false in
-    subst (IsProved listed apex name c.args.rtype)
-    ((λ i. cond (low i) (list_verdict apex listed name c.args.rtype) OutsideZone) ∙ sym c.list_verdict.ensures)
-    (c.readings_are_proved.ensures listed apex name c.args.rtype (subst (λ n. n < 65536) c.to_int-number.ensures c.to_int-number.type_inv))
+pushed : {X Y : Type 0} (f : X → Y) (xs : List X) (i : ℕ) (x : X) → i < length xs → x ≡ get_or xs i x → map f (take i xs) ++ f x ∷ [] ≡ map f (take (i + 1) xs)
+pushed f xs i x within at = sym (ap (map f) (take_more xs i x within ∙ ap (λ y. take i xs ++ y ∷ []) (sym at)) ∙ map-append f (take i xs) (x ∷ []))
 
-pub returns-clause-proof : goal.returns-clause-proof
-returns-clause-proof g c =
-    λ low some. has_proof (g.A.ToName.labels c.args.apex.now) (links_of g.N.ToName.labels c.args.chain.now) (g.M.ToName.labels c.args.name.now) c.args.rtype
-    (subst (λ v. v ≢ NotProven) c.list_verdict.ensures some)
+pub loop-listed-preserved : goal.loop-listed-preserved
+loop-listed-preserved g c =
+    let labels = g.N.ToName.labels in
+    let a = g.A.ToName.labels c.args.apex.now in
+    let x = g.M.ToName.labels c.args.name.now in
+    let chain = c.args.chain.now in
+    let at = c.loop-listed.listed-index in
+    subst (λ links. HasRead a x c.args.rtype links c.add.new.self) (pushed (as_link labels) chain at c.listed-item.result c.loop-listed-test.true c.listed-item.is)
+    (c.add.ensures a x c.args.rtype (links_of labels (take at chain)) c.loop-listed.invariant)
 
-pub returns-clause-within : goal.returns-clause-within
-returns-clause-within g c =
-    let name = g.M.ToName.labels c.args.name.now in
-    subst (IsWithin (length name)) (sym c.list_verdict.ensures)
-    (list_within (g.A.ToName.labels c.args.apex.now) (links_of g.N.ToName.labels c.args.chain.now) name c.args.rtype)
+pub returns : goal.returns
+returns g c =
+    let labels = g.N.ToName.labels in
+    let a = g.A.ToName.labels c.args.apex.now in
+    let x = g.M.ToName.labels c.args.name.now in
+    let chain = c.args.chain.now in
+    let all : HasRead a x c.args.rtype (links_of labels chain) c.loop-listed.check =
+    subst (λ rs. HasRead a x c.args.rtype (links_of labels rs) c.loop-listed.check) (take_all c.loop-listed.listed-index chain c.loop-listed-test.false) c.loop-listed.invariant in
+    record {
+      zone = c.verdict.ensures.zone a x c.args.rtype (links_of labels chain) all;
+      proof = c.verdict.ensures.proof a x c.args.rtype (links_of labels chain) all;
+      exact = c.verdict.ensures.exact a x c.args.rtype (links_of labels chain) all;
+      within = c.verdict.ensures.within a x c.args.rtype (links_of labels chain) all;
+    }

@@ -1,0 +1,5 @@
+pub mod WireLemmas
+pub mod AmongLemmas
+pub mod NsecLemmas
+pub mod RdataLemmas
+pub mod Nsec3Lemmas

@@ -1,0 +1,35 @@
+use Rattle.std.proofs.Common.{[], Err, sym, subst}
+use Rattle.domain_checker.specs.HandedIn.{HasRead}
+use Rattle.denial_c.specs.Among.{AreNsecs}
+use Rattle.denial_c.specs.Result.{IsNsecResult}
+use Rattle.denial_c.proofs.nsec.nsec_verdict.Goals as goal
+
+pub returns-in-Ok : goal.returns-in-Ok
+returns-in-Ok c =
+    let a = c.in_ok-apex.apex in
+    let x = c.in_ok-name.name in
+    let t = c.args.rtype in
+    let handed = c.in-Ok.ensures.ok in
+    let links = handed.0 in
+    let asked : HasRead a x t [] c.new-check.result = subst (λ n. HasRead a x n [] c.new-check.result) c.from_int.ensures c.new-check.ensures in
+    let read : HasRead a x t links c.hand_in.new.check = handed.2 a x t [] asked in
+    record {
+      a = a;
+      x = x;
+      links = links;
+      apex_is = c.in_ok-apex.ensures.ok;
+      name_is = c.in_ok-name.ensures.ok;
+      are = subst (λ n. AreNsecs n c.args.records.now links) c.from_int-2.ensures handed.1;
+      zone = c.verdict.ensures.zone a x t links read;
+      proof = c.verdict.ensures.proof a x t links read;
+      exact = c.verdict.ensures.exact a x t links read;
+      within = c.verdict.ensures.within a x t links read;
+    }
+
+pub returns-in-Err : goal.returns-in-Err
+returns-in-Err c =
+    subst (λ e. IsNsecResult c.args.apex.now c.args.name.now c.args.rtype c.args.class c.args.records.now (Err e)) (sym c.in-Err.ensures.err.0) (
+      (c.in_ok-apex.apex, c.in_ok-apex.ensures.ok),
+      (c.in_ok-name.name, c.in_ok-name.ensures.ok),
+      λ links are. c.in-Err.ensures.err.1 links (subst (λ n. AreNsecs n c.args.records.now links) (sym c.from_int-2.ensures) are),
+    )

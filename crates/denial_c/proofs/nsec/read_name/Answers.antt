@@ -1,0 +1,17 @@
+use Rattle.std.proofs.Common.{◌≡◌, ℕ, List, [], ◌++◌, refl, sym, ◌∙◌, append-nil}
+use Rattle.domain_base.specs.Fault.{Fault, NameFault, WholeNameFault, in_name, trailing}
+use Rattle.domain_base.specs.Name.{wire_of, IsName}
+use Rattle.domain_base.specs.Words.{Name}
+use Rattle.denial_c.specs.Result.{Spells}
+use Rattle.denial_c.proofs.nsec.read_name.Goals as goal
+
+no_spelling : ((octets after : List ℕ) (name : Name) (fault : Fault) → IsName name → octets ≡ wire_of name ++ after → NameFault 0 octets fault → ⊥)
+    → ((x y : Name) (a b : List ℕ) → IsName x → IsName y → wire_of x ++ a ≡ wire_of y ++ b → (x ≡ y) × (a ≡ b))
+    → (octets : List ℕ) (fault : Fault) → WholeNameFault octets fault → (labels : Name) → Spells octets labels → ⊥
+no_spelling faultless one octets fault (in_name _ _ found) labels s = faultless octets [] labels fault s.valid (s.are ∙ sym (append-nil (wire_of labels))) found
+no_spelling faultless one octets fault (trailing other after valid some) labels s =
+    some (one other labels after [] valid s.valid (s.are ∙ sym (append-nil (wire_of labels)))).1
+
+pub returns-in-Err-clause-err : goal.returns-in-Err-clause-err
+returns-in-Err-clause-err c =
+    (refl, λ s. no_spelling c.octets_begin_with_one_name.ensures.fault c.octets_begin_with_one_name.ensures.one c.args.octets.now _ c.in-Err.ensures.err s.0 s.1)

@@ -1,0 +1,73 @@
+//! What the NSEC records in octets prove.
+ghost use Rattle.std.specs.Prelude.{◌≡◌, ℕ, List, ◌++◌, IfErr, IfOk};
+ghost use Rattle.domain_base.specs.Words.{Name};
+ghost use Rattle.domain_nsec.specs.Chain.{Link};
+ghost use Rattle.domain_checker.specs.HandedIn.{HasRead};
+ghost use Rattle.denial_c.specs.Among.{AreNsecs};
+ghost use Rattle.denial_c.specs.Result.{IsNsecResult, Spells, IsSpelled};
+
+use crate::fault::Fault;
+use crate::wire::LentRecord;
+use domain_base::laws::octets_begin_with_one_name;
+use domain_base::{Class, ParsedName, Rtype, ToName};
+use domain_checker::{NsecCheck, Verdict};
+use domain_octets::Parser;
+
+/// The name that the octets are. Refuses, with the fault, octets that are none.
+pub(crate) fn read_name(octets: &[u8], fault: Fault) -> Result<ParsedName<'_>, Fault>
+    ensures ok { IfOk result (Spells octets.now) }
+    ensures err { IfErr result (λ e. (e ≡ fault) × (IsSpelled octets.now → ⊥)) }
+{
+    octets_begin_with_one_name();
+    match ParsedName::from_slice(octets) {
+        Ok(name) => {
+            let _wire = name.as_wire();
+            Ok(name)
+        }
+        Err(_) => Err(fault),
+    }
+}
+
+/// Hands in the NSEC records of the class among the records that the octets are. Refuses octets
+/// that are no records, and NSEC records whose data are none; some are handed in then.
+fn hand_in(check: &mut NsecCheck<'_>, class: Class, octets: &[u8]) -> Result<(), Fault>
+    ensures ok { IfOk result (λ _. (links : List Link) × AreNsecs class octets.now links
+        × ((a x : Name) (t : ℕ) (before : List Link) → HasRead a x t before check.old
+        → HasRead a x t (before ++ links) check.new)) }
+    ensures err { IfErr result (λ e. (e ≡ Fault.Records)
+        × ((links : List Link) → AreNsecs class octets.now links → ⊥)) }
+{
+    let mut parser = Parser::new(octets);
+    'records: while parser.remaining() > 0 {
+        let Some(record) = LentRecord::read(&mut parser) else {
+            return Err(Fault::Records);
+        };
+        if record.is_of(Rtype::NSEC, class) {
+            let Some(nsec) = record.into_nsec() else {
+                return Err(Fault::Records);
+            };
+            check.add(&nsec);
+        }
+    }
+    Ok(())
+}
+
+/// What the NSEC records of the class among the records that the octets are prove of the name and
+/// the type. Takes no memory.
+pub(crate) fn nsec_verdict(
+    apex: &[u8],
+    name: &[u8],
+    rtype: u16,
+    class: u16,
+    records: &[u8],
+) -> Result<Verdict, Fault>
+    ensures { IsNsecResult apex.now name.now rtype class records.now result }
+{
+    let apex = read_name(apex, Fault::Apex)?;
+    let name = read_name(name, Fault::Name)?;
+    let mut check = NsecCheck::new(&apex, &name, Rtype::from_int(rtype));
+    match hand_in(&mut check, Class::from_int(class), records) {
+        Ok(()) => Ok(check.verdict()),
+        Err(fault) => Err(fault),
+    }
+}

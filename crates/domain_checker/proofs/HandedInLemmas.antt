@@ -1,0 +1,64 @@
+-- The first element that passes a test, looked for in a list to which one element is added.
+use Rattle.std.proofs.Common.{◌≡◌, ℕ, Bool, true, false, cond, List, [], ◌∷◌, ◌++◌, Option, Some, None, refl, sym, ap, ◌∙◌}
+use Rattle.std.specs.List.{find}
+use Rattle.std.specs.Option.{is_some, option_map, option_or, unwrap_or}
+use Rattle.std.proofs.lemmas.Bool.{false≢true}
+use Rattle.std.proofs.lemmas.List.Folds.{find-append}
+use Rattle.domain_base.specs.Words.{Name}
+use Rattle.domain_nsec.specs.Chain.{Link}
+use Rattle.domain_checker.specs.HandedIn.{HasRead}
+use Rattle.domain_checker.specs.Reading.{cover_verdict, is_cover, is_match, list_verdict, match_verdict, verdict_of_both}
+use Rattle.domain_checker.specs.declared.nsec_check.NsecCheck.{NsecCheck}
+use Rattle.domain_checker.specs.declared.verdict.Verdict.{Verdict}
+use Rattle.domain_checker.specs.declared.verdict.Verdict.TheVariants.{NotProven}
+
+or_none : {X : Type 0} (o : Option X) → option_or o None ≡ o
+or_none None = refl
+or_none (Some x) = refl
+
+module _ {X V : Type 0} (p : X → Bool) (f : X → V) (xs : List X) (x : X) where
+  found_with : (b : Bool) → p x ≡ b → find p (xs ++ x ∷ []) ≡ option_or (find p xs) (cond b (Some x) None)
+  found_with b e = find-append p xs (x ∷ []) ∙ ap (λ c. option_or (find p xs) (cond c (Some x) None)) e
+
+  -- it stays the first that was found
+  pub found_stays : (found : Option V) → found ≡ option_map f (find p xs) → is_some found ≡ true → found ≡ option_map f (find p (xs ++ x ∷ []))
+  found_stays found so some =
+      so ∙ by (find p xs) (ap is_some (sym so) ∙ some) (cond (p x) (Some x) None) ∙ sym (ap (option_map f) (found_with (p x) refl))
+    where
+      by : (o : Option X) → is_some (option_map f o) ≡ true → (q : Option X) → option_map f o ≡ option_map f (option_or o q)
+      by None e q = absurd (false≢true e)
+      by (Some y) e q = refl
+
+  -- the last is the first
+  pub found_last : (found : Option V) → found ≡ option_map f (find p xs) → is_some found ≡ false → p x ≡ true → Some (f x) ≡ option_map f (find p (xs ++ x ∷ []))
+  found_last found so none e =
+      by (find p xs) (ap is_some (sym so) ∙ none) ∙ sym (ap (option_map f) (found_with true e))
+    where
+      by : (o : Option X) → is_some (option_map f o) ≡ false → Some (f x) ≡ option_map f (option_or o (Some x))
+      by None n = refl
+      by (Some y) n = absurd (false≢true (sym n))
+
+  -- the last passes no test
+  pub found_before : (found : Option V) → found ≡ option_map f (find p xs) → p x ≡ false → found ≡ option_map f (find p (xs ++ x ∷ []))
+  found_before found so e = so ∙ ap (option_map f) (sym (found_with false e ∙ or_none (find p xs)))
+
+pub some_is_none : {V : Type 0} (o : Option V) (v : V) → o ≡ Some v → o ≡ None → ⊥
+some_is_none o v e n = absurd (cc)
+
+-- what is known after the last record says what the list of all says
+told : (a x : Name) (t : ℕ) (m c : Option Link) (matched covered : Option Verdict) → matched ≡ option_map (λ k. match_verdict a k t) m
+    → (matched ≡ None → covered ≡ option_map (λ k. cover_verdict a k x) c)
+    → option_or matched covered ≡ option_or (option_map (λ k. match_verdict a k t) m) (option_map (λ k. cover_verdict a k x) c)
+told a x t None c matched covered e f = (λ i. option_or (e i) covered) ∙ f e
+told a x t (Some k) c matched covered e f = λ i. option_or (e i) covered
+
+says : (a x : Name) (t : ℕ) (m c : Option Link) → unwrap_or (option_or (option_map (λ k. match_verdict a k t) m) (option_map (λ k. cover_verdict a k x) c)) NotProven ≡ verdict_of_both a x t m c
+says a x t (Some k) c = refl
+says a x t None None = refl
+says a x t None (Some k) = refl
+
+pub handed_in : (a x : Name) (t : ℕ) (listed : List Link) (check : NsecCheck) → HasRead a x t listed check
+    → unwrap_or (option_or check.matched check.covered) NotProven ≡ list_verdict a listed x t
+handed_in a x t listed check h =
+    ap (λ o. unwrap_or o NotProven) (told a x t (find (is_match a x) listed) (find (is_cover a x) listed) check.matched check.covered h.matching h.covering)
+    ∙ says a x t (find (is_match a x) listed) (find (is_cover a x) listed)

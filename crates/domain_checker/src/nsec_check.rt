@@ -1,0 +1,90 @@
+//! Records of an NSEC chain that are handed in one after another.
+ghost use Rattle.std.specs.Prelude.{◌≡◌, ◌≢◌, ℕ, List, [], ◌∷◌, ◌++◌, true, length};
+ghost use Rattle.domain_base.specs.Name.{is_at_or_below};
+ghost use Rattle.domain_base.specs.Words.{Name};
+ghost use Rattle.domain_nsec.specs.Chain.{Link};
+ghost use Rattle.domain_nsec.specs.ChainView.{as_link};
+ghost use Rattle.domain_checker.specs.HandedIn.{HasRead};
+ghost use Rattle.domain_checker.specs.Verdict.{HasProof, IsProved, IsWithin};
+ghost use Rattle.domain_checker.specs.Reading.{reading};
+
+use crate::nsec::{cover_verdict, is_cover, is_inside, match_verdict};
+use crate::{Verdict, laws};
+use domain_base::{ParsedName, Rtype, ToName};
+use domain_octets::Octets;
+use domain_plain::Record;
+use domain_rdata::Nsec;
+
+/// A question about a name and a type, for NSEC records that are handed in one after another, as
+/// they are read from a message (RFC 4035, section 5.4). Keeps none of them, and takes no memory.
+#[derive(Drop)]
+pub struct NsecCheck<'a> {
+    apex: ParsedName<'a>,
+    name: ParsedName<'a>,
+    rtype: Rtype,
+    matched: Option<Verdict>,
+    covered: Option<Verdict>,
+}
+
+impl<'a> NsecCheck<'a> {
+    /// A question for which no records have been handed in yet.
+    pub fn new<A: ToName, M: ToName>(apex: &'a A, name: &'a M, rtype: Rtype) -> Self
+        ensures { HasRead (A.labels apex.now) (M.labels name.now) rtype [] result }
+    {
+        NsecCheck {
+            apex: apex.as_parsed(),
+            name: name.as_parsed(),
+            rtype,
+            matched: None,
+            covered: None,
+        }
+    }
+
+    /// Hands in a record, which comes after those that were handed in before.
+    pub fn add<O: Octets, N: ToName>(&mut self, listed: &Record<N, Nsec<O, N>>)
+        ensures { (a x : Name) (t : ℕ) (before : List Link) → HasRead a x t before self.old
+            → HasRead a x t (before ++ as_link N.labels listed.now ∷ []) self.new }
+    {
+        if self.matched.is_some() {
+            return;
+        }
+        let order = listed.owner().name_cmp(&self.name);
+        if order.is_eq() && is_inside(&self.apex, listed) {
+            self.matched = Some(match_verdict(&self.apex, listed, self.rtype));
+            return;
+        }
+        if self.covered.is_none() && is_cover(&self.apex, order, listed, &self.name) {
+            self.covered = Some(cover_verdict(&self.apex, listed, &self.name));
+        }
+    }
+
+    /// What the records that were handed in prove, as `check_nsec` says of their list.
+    pub fn verdict(&self) -> Verdict
+        // For records of the chain of any zone, the verdict of that zone where a record matches or
+        // covers the name, and else `NotProven`.
+        ensures zone { (a x : Name) (t : ℕ) (listed : List Link) → HasRead a x t listed self.now
+            → IsProved listed a x t result }
+
+        // For any records at all, a name of the zone has a verdict only where a record that is not
+        // passed over matches or covers it.
+        ensures proof { (a x : Name) (t : ℕ) (listed : List Link) → HasRead a x t listed self.now
+            → is_at_or_below x a ≡ true → result ≢ Verdict.NotProven → HasProof listed a x }
+
+        // For any records at all, the answer is what the first match says, or else the first cover.
+        ensures exact { (a x : Name) (t : ℕ) (listed : List Link) → HasRead a x t listed self.now
+            → result ≡ reading a listed x t }
+
+        // For any records at all, the number of a closest encloser's labels is none that the name
+        // lacks.
+        ensures within { (a x : Name) (t : ℕ) (listed : List Link) → HasRead a x t listed self.now
+            → IsWithin (length x) result }
+    {
+        // By this law what the records say is what they prove, of a type of 16 bits.
+        laws::readings_are_proved();
+        let _number = self.rtype.to_int();
+        if !self.name.ends_with(&self.apex) {
+            return Verdict::OutsideZone;
+        }
+        self.matched.or(self.covered).unwrap_or(Verdict::NotProven)
+    }
+}

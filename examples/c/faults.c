@@ -1,0 +1,341 @@
+/*
+ * Calls the library with small messages that are made by hand, and compares each answer with the
+ * number in `denial.h` that must come: each verdict, each fault, and octets cut at each place. Needs
+ * no other library. Linked with `-Wl,--wrap=malloc`, so that memory can be refused.
+ */
+#include <stdio.h>
+#include <stdlib.h>
+#include <string.h>
+
+#include "denial.h"
+
+enum { A = 1, NS = 2, SOA = 6, MX = 15, DS = 43, RRSIG = 46, NSEC = 47, NSEC3 = 50, NSEC3PARAM = 51 };
+enum { IN = 1, CH = 3 };
+
+static int failures;
+/* The compiler may not know that malloc reads it. */
+static volatile int memory_is_refused;
+
+void *__real_malloc(size_t size);
+
+void *__wrap_malloc(size_t size)
+{
+    return memory_is_refused ? NULL : __real_malloc(size);
+}
+
+/* Octets that grow. */
+struct octets {
+    uint8_t at[4096];
+    size_t length;
+};
+
+static void put(struct octets *to, const void *octets, size_t length)
+{
+    memcpy(to->at + to->length, octets, length);
+    to->length += length;
+}
+
+static void put_number(struct octets *to, unsigned long number, int octets)
+{
+    while (octets-- > 0)
+        to->at[to->length++] = (uint8_t)(number >> (8 * octets));
+}
+
+/* A name from its text: labels, each with a dot after it; "." is the root. */
+static void put_name(struct octets *to, const char *text)
+{
+    while (*text != 0 && strcmp(text, ".") != 0) {
+        size_t label = strcspn(text, ".");
+
+        put_number(to, label, 1);
+        put(to, text, label);
+        text += label + 1;
+    }
+    put_number(to, 0, 1);
+}
+
+static void put_record(struct octets *to, const char *owner, int rtype, int rclass, const struct octets *data)
+{
+    put_name(to, owner);
+    put_number(to, (unsigned long)rtype, 2);
+    put_number(to, (unsigned long)rclass, 2);
+    put_number(to, 1800, 4);
+    put_number(to, data->length, 2);
+    put(to, data->at, data->length);
+}
+
+/* A bitmap of types below 64, which a 0 ends. */
+static void put_types(struct octets *to, const int *rtypes)
+{
+    uint8_t bits[8] = {0};
+
+    if (*rtypes == 0)
+        return;
+    for (; *rtypes != 0; rtypes++)
+        bits[*rtypes / 8] |= (uint8_t)(0x80 >> (*rtypes % 8));
+    put_number(to, 0, 1);
+    put_number(to, sizeof bits, 1);
+    put(to, bits, sizeof bits);
+}
+
+static void put_nsec(struct octets *to, const char *owner, int rclass, const char *next, const int *rtypes)
+{
+    struct octets data = {{0}, 0};
+
+    put_name(&data, next);
+    put_types(&data, rtypes);
+    put_record(to, owner, NSEC, rclass, &data);
+}
+
+static void put_param(struct octets *to, const char *owner, int algorithm)
+{
+    struct octets data = {{0}, 0};
+
+    put_number(&data, (unsigned long)algorithm, 1);
+    put_number(&data, 0, 1);
+    put_number(&data, 0, 2);
+    put_number(&data, 0, 1);
+    put_record(to, owner, NSEC3PARAM, IN, &data);
+}
+
+static void put_nsec3(struct octets *to, const char *owner, int flags, const char *next, const int *rtypes)
+{
+    struct octets data = {{0}, 0};
+
+    put_number(&data, 1, 1);
+    put_number(&data, (unsigned long)flags, 1);
+    put_number(&data, 0, 2);
+    put_number(&data, 0, 1);
+    put_number(&data, 20, 1);
+    put(&data, next, 20);
+    put_types(&data, rtypes);
+    put_record(to, owner, NSEC3, IN, &data);
+}
+
+/* Compares an answer and its labels with those that must come. */
+static void expect(const char *what, uint32_t answer, size_t labels, uint32_t wanted, size_t wanted_labels)
+{
+    if (answer == wanted && labels == wanted_labels)
+        return;
+    printf("differs: %s: %u with %zu labels, not %u with %zu\n", what, (unsigned)answer, labels,
+           (unsigned)wanted, wanted_labels);
+    failures++;
+}
+
+typedef uint32_t check(const uint8_t *, size_t, const uint8_t *, size_t, uint16_t, uint16_t,
+                       const uint8_t *, size_t, size_t *);
+
+/* Asks, with octets that lie in blocks of their own length. */
+static uint32_t ask_octets(check *call, const struct octets *apex, const struct octets *name, int rtype,
+                           const struct octets *records, size_t *labels)
+{
+    int was_refused = memory_is_refused;
+    uint8_t *parts[3];
+    uint32_t answer;
+
+    memory_is_refused = 0;
+    parts[0] = malloc(apex->length + 1);
+    parts[1] = malloc(name->length + 1);
+    parts[2] = malloc(records->length + 1);
+    memory_is_refused = was_refused;
+    memcpy(parts[0], apex->at, apex->length);
+    memcpy(parts[1], name->at, name->length);
+    memcpy(parts[2], records->at, records->length);
+    *labels = 999;
+    answer = call(parts[0], apex->length, parts[1], name->length, (uint16_t)rtype, IN, parts[2],
+                  records->length, labels);
+    free(parts[0]);
+    free(parts[1]);
+    free(parts[2]);
+    return answer;
+}
+
+static void ask(check *call, const char *apex_text, const char *name_text, int rtype,
+                const struct octets *records, uint32_t wanted, size_t wanted_labels)
+{
+    struct octets apex = {{0}, 0}, name = {{0}, 0};
+    size_t labels;
+    uint32_t answer;
+
+    put_name(&apex, apex_text);
+    put_name(&name, name_text);
+    answer = ask_octets(call, &apex, &name, rtype, records, &labels);
+    expect(name_text, answer, labels, wanted, wanted_labels);
+}
+
+static void refuse(check *call, const struct octets *apex, const struct octets *name, const struct octets *records,
+                   uint32_t wanted)
+{
+    size_t labels;
+    uint32_t answer = ask_octets(call, apex, name, A, records, &labels);
+
+    expect("octets that are refused", answer, labels, wanted, 0);
+}
+
+static const int at_apex[] = {SOA, RRSIG, NSEC, 0}, at_host[] = {A, RRSIG, NSEC, 0},
+                 at_cut[] = {NS, RRSIG, NSEC, 0}, nothing[] = {0};
+
+/* a. with y.b.a. and the delegation c.a., and a signature between them. */
+static void put_chain(struct octets *to)
+{
+    struct octets signature = {{1, 2, 3}, 3};
+
+    put_nsec(to, "a.", IN, "y.b.a.", at_apex);
+    put_record(to, "a.", RRSIG, IN, &signature);
+    put_nsec(to, "Y.b.a.", IN, "c.A.", at_host);
+    put_nsec(to, "c.a.", IN, "a.", at_cut);
+}
+
+static void try_nsec_verdicts(void)
+{
+    struct octets chain = {{0}, 0}, other = {{0}, 0}, none = {{0}, 0};
+
+    put_chain(&chain);
+    ask(denial_check_nsec, "a.", "b.a.", A, &chain, DENIAL_EMPTY_NAME, 0);
+    ask(denial_check_nsec, "a.", "c.a.", NS, &chain, DENIAL_HAS, 0);
+    ask(denial_check_nsec, "a.", "c.a.", DS, &chain, DENIAL_NO_TYPE, 0);
+    ask(denial_check_nsec, "a.", "c.a.", A, &chain, DENIAL_BELOW_DELEGATION, 0);
+    ask(denial_check_nsec, "a.", "x.c.a.", A, &chain, DENIAL_BELOW_DELEGATION, 0);
+    ask(denial_check_nsec, "A.", "y.B.a.", MX, &chain, DENIAL_NO_TYPE, 0);
+    ask(denial_check_nsec, "a.", "d.a.", A, &chain, DENIAL_NO_NAME, 1);
+    ask(denial_check_nsec, "a.", "x.b.a.", A, &chain, DENIAL_NO_NAME, 2);
+    ask(denial_check_nsec, "a.", "q.x.y.b.a.", A, &chain, DENIAL_NO_NAME, 3);
+    ask(denial_check_nsec, "a.", "b.", A, &chain, DENIAL_OUTSIDE_ZONE, 0);
+    ask(denial_check_nsec, "a.", "a.", SOA, &none, DENIAL_NOT_PROVEN, 0);
+    ask(denial_check_nsec, "a.", "b.", SOA, &none, DENIAL_OUTSIDE_ZONE, 0);
+    ask(denial_check_nsec, ".", ".", SOA, &none, DENIAL_NOT_PROVEN, 0);
+    put_nsec(&other, "a.", CH, "a.", at_apex);
+    ask(denial_check_nsec, "a.", "a.", SOA, &other, DENIAL_NOT_PROVEN, 0);
+    put_nsec(&other, "a.", IN, "a.", at_cut);
+    ask(denial_check_nsec, "a.", "a.", SOA, &other, DENIAL_NO_TYPE, 0);
+}
+
+/* The hash of "a." by SHA-1 without salt or further iterations, as text. */
+static const char apex_owner[] = "qj2k5gbslc63lg0qour6j95c8s2b6ueh.a.";
+
+static void try_nsec3_verdicts(void)
+{
+    static const char low[20] = {0}, high[20] = "\377\377\377\377\377\377\377\377\377\377"
+                                                "\377\377\377\377\377\377\377\377\377";
+    static const char zero_owner[] = "00000000000000000000000000000000.a.";
+    struct octets chain = {{0}, 0}, opted = {{0}, 0}, cut = {{0}, 0};
+
+    put_param(&chain, "a.", 1);
+    put_nsec3(&chain, apex_owner, 0, low, at_apex);
+    ask(denial_check_nsec3, "a.", "a.", SOA, &chain, DENIAL_HAS, 0);
+    ask(denial_check_nsec3, "a.", "a.", A, &chain, DENIAL_NO_TYPE, 0);
+    ask(denial_check_nsec3, "a.", "b.", A, &chain, DENIAL_OUTSIDE_ZONE, 0);
+    put_nsec3(&chain, zero_owner, 0, high, nothing);
+    ask(denial_check_nsec3, "a.", "x.a.", A, &chain, DENIAL_NO_NAME, 1);
+    ask(denial_check_nsec3, "a.", "x.y.a.", A, &chain, DENIAL_NO_NAME, 1);
+    put_param(&opted, "A.", 1);
+    put_nsec3(&opted, apex_owner, 0, low, nothing);
+    put_nsec3(&opted, zero_owner, 1, high, nothing);
+    ask(denial_check_nsec3, "a.", "x.a.", A, &opted, DENIAL_OPT_OUT, 1);
+    ask(denial_check_nsec3, "a.", "a.", A, &opted, DENIAL_EMPTY_NAME, 0);
+    put_param(&cut, ".", 1);
+    put_nsec3(&cut, "qj2k5gbslc63lg0qour6j95c8s2b6ueh.", 0, low, at_cut);
+    ask(denial_check_nsec3, ".", "x.a.", A, &cut, DENIAL_BELOW_DELEGATION, 0);
+    ask(denial_check_nsec3, ".", "b.", A, &cut, DENIAL_NOT_PROVEN, 0);
+}
+
+static void try_faults(void)
+{
+    struct octets apex = {{0}, 0}, name = {{0}, 0}, bad = {{0}, 0}, param = {{0}, 0}, chain = {{0}, 0};
+    struct octets no_bitmap = {{1, 'a', 0, 0, 0}, 5}, broken = {{0}, 0}, foreign = {{0}, 0};
+
+    put_name(&apex, "a.");
+    put_name(&name, "x.a.");
+    put(&bad, "\100", 1);
+    put_param(&param, "a.", 1);
+    put_nsec3(&chain, apex_owner, 0, "01234567890123456789", at_apex);
+    refuse(denial_check_nsec, &bad, &bad, &bad, DENIAL_BAD_APEX);
+    refuse(denial_check_nsec, &apex, &bad, &bad, DENIAL_BAD_NAME);
+    refuse(denial_check_nsec, &apex, &name, &bad, DENIAL_BAD_RECORDS);
+    refuse(denial_check_nsec3, &bad, &bad, &bad, DENIAL_BAD_APEX);
+    refuse(denial_check_nsec3, &apex, &bad, &bad, DENIAL_BAD_NAME);
+    refuse(denial_check_nsec3, &apex, &name, &bad, DENIAL_BAD_RECORDS);
+    put_record(&broken, "a.", NSEC, IN, &no_bitmap);
+    put_record(&broken, "a.", NSEC3, IN, &no_bitmap);
+    ask(denial_check_nsec, "a.", "a.", A, &broken, DENIAL_BAD_RECORDS, 0);
+    ask(denial_check_nsec3, "a.", "a.", A, &broken, DENIAL_BAD_RECORDS, 0);
+    put_record(&foreign, "a.", NSEC, CH, &no_bitmap);
+    ask(denial_check_nsec, "a.", "a.", A, &foreign, DENIAL_NOT_PROVEN, 0);
+    ask(denial_check_nsec3, "a.", "a.", A, &chain, DENIAL_NO_PARAM, 0);
+    put_param(&chain, "b.", 1);
+    ask(denial_check_nsec3, "a.", "a.", A, &chain, DENIAL_NO_PARAM, 0);
+    put_param(&param, "a.", 1);
+    ask(denial_check_nsec3, "a.", "a.", A, &param, DENIAL_NO_PARAM, 0);
+    param.length = 0;
+    put_param(&param, "a.", 2);
+    ask(denial_check_nsec3, "a.", "a.", A, &param, DENIAL_HASHER_REFUSED, 0);
+    put_param(&chain, "a.", 1);
+    memory_is_refused = 1;
+    ask(denial_check_nsec3, "a.", "a.", SOA, &chain, DENIAL_OUT_OF_MEMORY, 0);
+    memory_is_refused = 0;
+    ask(denial_check_nsec3, "a.", "a.", SOA, &chain, DENIAL_HAS, 0);
+}
+
+/* Without memory the NSEC records say the same. */
+static void try_without_memory(void)
+{
+    struct octets chain = {{0}, 0};
+
+    put_chain(&chain);
+    memory_is_refused = 1;
+    ask(denial_check_nsec, "a.", "x.b.a.", A, &chain, DENIAL_NO_NAME, 2);
+    memory_is_refused = 0;
+}
+
+/* Cuts the octets at each place: only between two records are they still records. */
+static void try_cuts(void)
+{
+    struct octets chain = {{0}, 0}, part = {{0}, 0}, apex = {{0}, 0}, name = {{0}, 0}, cut;
+    struct octets signature = {{1, 2, 3}, 3};
+    size_t ends[5], count = 0, at, labels, length;
+    uint32_t answer;
+
+    put_chain(&chain);
+    put_nsec(&part, "a.", IN, "y.b.a.", at_apex);
+    ends[count++] = 0;
+    ends[count++] = part.length;
+    put_record(&part, "a.", RRSIG, IN, &signature);
+    ends[count++] = part.length;
+    put_nsec(&part, "y.b.a.", IN, "c.a.", at_host);
+    ends[count++] = part.length;
+    ends[count++] = chain.length;
+    put_name(&apex, "a.");
+    put_name(&name, "zz.a.");
+    for (length = 0; length <= chain.length; length++) {
+        int is_whole = 0;
+
+        for (at = 0; at < count; at++)
+            is_whole |= ends[at] == length;
+        cut = chain;
+        cut.length = length;
+        answer = ask_octets(denial_check_nsec, &apex, &name, A, &cut, &labels);
+        expect("cut records", answer, labels,
+               !is_whole ? DENIAL_BAD_RECORDS : length == chain.length ? DENIAL_NO_NAME : DENIAL_NOT_PROVEN,
+               length == chain.length ? 1 : 0);
+    }
+    for (length = 0; length < name.length; length++) {
+        cut = name;
+        cut.length = length;
+        answer = ask_octets(denial_check_nsec, &apex, &cut, A, &chain, &labels);
+        expect("a cut name", answer, labels, DENIAL_BAD_NAME, 0);
+        answer = ask_octets(denial_check_nsec3, &cut, &name, A, &chain, &labels);
+        expect("a cut apex", answer, labels, DENIAL_BAD_APEX, 0);
+    }
+}
+
+int main(void)
+{
+    expect("the version", denial_version(), 0, DENIAL_VERSION, 0);
+    try_nsec_verdicts();
+    try_nsec3_verdicts();
+    try_faults();
+    try_without_memory();
+    try_cuts();
+    puts(failures == 0 ? "same: verdicts, faults and cuts" : "differs: see above");
+    return failures != 0;
+}

@@ -1,0 +1,248 @@
+/*
+ * Calls the library with mutated octets for a time.
+ *
+ *     fuzz SECONDS APEX FILE..
+ *
+ * The records of the files are the seeds, and the owners of their records the names that are asked
+ * for. First each seed is cut at each place; then octets are changed, cut, doubled and joined at
+ * random. What is handed in ends right before a page that can't be read, so that a read past its end
+ * ends the program. Ends with status 1 where an answer is none of `denial.h`, where it differs when
+ * the same is asked again, or where a closest encloser has more labels than the name.
+ */
+#include <stdio.h>
+#include <stdlib.h>
+#include <string.h>
+#include <sys/mman.h>
+#include <time.h>
+#include <unistd.h>
+
+#include "denial.h"
+#include "input.h"
+
+enum { SEEDS = 64, MOST = 1 << 16 };
+
+/* Octets of which no more can be read. */
+struct guarded {
+    uint8_t *end;
+    size_t room;
+};
+
+static struct octets {
+    uint8_t at[MOST];
+    size_t length;
+} seeds[SEEDS], message, apex, name;
+
+static size_t seed_count;
+static struct guarded guards[3];
+static unsigned long answers[32];
+static uint32_t state = 2463534242u;
+
+/* The next number of a fixed sequence, below a limit. */
+static size_t below(size_t limit)
+{
+    state ^= state << 13;
+    state ^= state >> 17;
+    state ^= state << 5;
+    return limit == 0 ? 0 : state % limit;
+}
+
+static void make_guard(struct guarded *guard)
+{
+    size_t page = (size_t)sysconf(_SC_PAGESIZE);
+    uint8_t *start;
+
+    guard->room = (MOST / page + 1) * page;
+    start = mmap(NULL, guard->room + page, PROT_READ | PROT_WRITE, MAP_PRIVATE | MAP_ANONYMOUS, -1, 0);
+    if (start == MAP_FAILED || mprotect(start + guard->room, page, PROT_NONE) != 0) {
+        perror("fuzz");
+        exit(1);
+    }
+    guard->end = start + guard->room;
+}
+
+static const uint8_t *place(const struct guarded *guard, const struct octets *octets)
+{
+    uint8_t *at = guard->end - octets->length;
+
+    memcpy(at, octets->at, octets->length);
+    return at;
+}
+
+static size_t count_labels(const struct octets *octets)
+{
+    size_t at = 0, count = 0;
+
+    while (at < octets->length && octets->at[at] != 0) {
+        at += octets->at[at] + 1u;
+        count++;
+    }
+    return count;
+}
+
+static int is_answer(uint32_t answer, int is_hashed)
+{
+    if (answer <= DENIAL_NO_NAME)
+        return is_hashed || answer != DENIAL_OPT_OUT;
+    return answer >= DENIAL_BAD_APEX && answer <= (is_hashed ? DENIAL_OUT_OF_MEMORY : DENIAL_BAD_RECORDS);
+}
+
+/* Asks both functions, each twice. */
+static void ask(uint16_t rtype)
+{
+    const uint8_t *at_apex = place(&guards[0], &apex), *at_name = place(&guards[1], &name);
+    const uint8_t *records = place(&guards[2], &message);
+    int is_hashed;
+
+    for (is_hashed = 0; is_hashed < 2; is_hashed++) {
+        size_t labels = 999, again_labels = 999;
+        uint32_t answer = (is_hashed ? denial_check_nsec3 : denial_check_nsec)(
+            at_apex, apex.length, at_name, name.length, rtype, 1, records, message.length, &labels);
+        uint32_t again = (is_hashed ? denial_check_nsec3 : denial_check_nsec)(
+            at_apex, apex.length, at_name, name.length, rtype, 1, records, message.length, &again_labels);
+
+        if (!is_answer(answer, is_hashed) || again != answer || again_labels != labels
+            || (labels > 0 && labels > count_labels(&name))) {
+            printf("differs: answer %u with %zu labels, and again %u with %zu\n", (unsigned)answer, labels,
+                   (unsigned)again, again_labels);
+            exit(1);
+        }
+        answers[answer]++;
+    }
+}
+
+/* Takes the owner of a record of the seed for the name, with a label before it at times. */
+static void pick_name(const struct octets *seed)
+{
+    size_t at = 0, skip = below(6), length, data;
+
+    for (;;) {
+        size_t end = at;
+
+        while (seed->at[end] != 0)
+            end += seed->at[end] + 1u;
+        length = end + 1 - at;
+        data = (size_t)seed->at[end + 9] << 8 | seed->at[end + 10];
+        if (skip-- == 0 || end + 11 + data >= seed->length)
+            break;
+        at = end + 11 + data;
+    }
+    name.length = 0;
+    if (below(2) == 0) {
+        memcpy(name.at, "\001x", 2);
+        name.length = 2;
+    }
+    memcpy(name.at + name.length, seed->at + at, length);
+    name.length += length;
+}
+
+static void mutate(struct octets *octets)
+{
+    size_t at = below(octets->length), count = below(octets->length - at + 1);
+
+    if (octets->length == 0)
+        return;
+    switch (below(6)) {
+    case 0:
+        octets->at[at] = (uint8_t)below(256);
+        break;
+    case 1:
+        octets->at[at] ^= (uint8_t)(1u << below(8));
+        break;
+    case 2:
+        octets->length = at;
+        break;
+    case 3:
+        memmove(octets->at + at, octets->at + at + count, octets->length - at - count);
+        octets->length -= count;
+        break;
+    case 4:
+        if (octets->length + count < MOST) {
+            memmove(octets->at + at + count, octets->at + at, octets->length - at);
+            octets->length += count;
+        }
+        break;
+    default:
+        octets->at[at] = (uint8_t)(octets->at[at] + (below(2) == 0 ? 1 : 255));
+        break;
+    }
+}
+
+static void cut_everywhere(void)
+{
+    size_t seed, length;
+
+    for (seed = 0; seed < seed_count; seed++) {
+        message = seeds[seed];
+        pick_name(&message);
+        for (length = 0; length <= seeds[seed].length; length++) {
+            message.length = length;
+            ask(1);
+        }
+    }
+}
+
+static void run(void)
+{
+    static struct octets kept;
+    size_t changes = below(4);
+
+    message = seeds[below(seed_count)];
+    pick_name(&message);
+    if (below(4) == 0 && message.length < MOST / 2) {
+        const struct octets *other = &seeds[below(seed_count)];
+
+        if (other->length < MOST / 2) {
+            memcpy(message.at + message.length, other->at, other->length);
+            message.length += other->length;
+        }
+    }
+    while (changes-- > 0)
+        mutate(&message);
+    if (below(8) == 0)
+        mutate(&name);
+    kept = apex;
+    if (below(16) == 0)
+        mutate(&apex);
+    ask((uint16_t)below(70));
+    apex = kept;
+}
+
+int main(int argc, char **argv)
+{
+    time_t end;
+    unsigned long runs = 0;
+    ldns_rdf *apex_name;
+    int i;
+
+    if (argc < 4) {
+        fprintf(stderr, "usage: fuzz SECONDS APEX FILE..\n");
+        return 2;
+    }
+    for (i = 0; i < 3; i++)
+        make_guard(&guards[i]);
+    apex_name = name_of(argv[2]);
+    apex.length = ldns_rdf_size(apex_name);
+    memcpy(apex.at, ldns_rdf_data(apex_name), apex.length);
+    for (i = 3; i < argc && seed_count < SEEDS; i++) {
+        struct input input = {ldns_buffer_new(65536), NULL, 0, 0, 0};
+
+        read_file(&input, apex_name, argv[i]);
+        if (ldns_buffer_position(input.records) > 0 && ldns_buffer_position(input.records) <= MOST) {
+            seeds[seed_count].length = ldns_buffer_position(input.records);
+            memcpy(seeds[seed_count].at, ldns_buffer_begin(input.records), seeds[seed_count].length);
+            seed_count++;
+        }
+        ldns_rdf_deep_free(input.name);
+        ldns_buffer_free(input.records);
+    }
+    ldns_rdf_deep_free(apex_name);
+    cut_everywhere();
+    for (end = time(NULL) + atoi(argv[1]); time(NULL) < end; runs++)
+        run();
+    printf("same: %lu runs with %zu seeds; answers:", runs, seed_count);
+    for (i = 0; i < 32; i++)
+        if (answers[i] > 0)
+            printf(" %d %lu", i, answers[i]);
+    puts("");
+    return 0;
+}

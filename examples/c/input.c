@@ -1,0 +1,90 @@
+#include <stdio.h>
+#include <stdlib.h>
+#include <string.h>
+
+#include "input.h"
+
+static void fail(const char *what, const char *which)
+{
+    fprintf(stderr, "%s: %s\n", what, which);
+    exit(1);
+}
+
+ldns_rdf *name_of(const char *text)
+{
+    ldns_rdf *name = ldns_dname_new_frm_str(text);
+
+    if (name == NULL)
+        fail("no name", text);
+    return name;
+}
+
+/* Takes over the question from a line such as ";name. IN TYPE". */
+static void read_question(struct input *input, const char *line)
+{
+    char name[1024], rtype[64];
+
+    if (input->name != NULL || sscanf(line, ";%1023s IN %63s", name, rtype) != 2 || line[1] == ';')
+        return;
+    input->name = name_of(name);
+    input->rtype = ldns_get_rr_type_by_name(rtype);
+}
+
+/* Writes the NSEC3PARAM record that an NSEC3 record tells: a response has none. */
+static void write_param(struct input *input, const ldns_rdf *apex, const ldns_rr *nsec3)
+{
+    uint8_t salt_length = ldns_nsec3_salt_length(nsec3);
+    uint8_t *salt = ldns_nsec3_salt_data(nsec3);
+
+    ldns_buffer_write(input->records, ldns_rdf_data(apex), ldns_rdf_size(apex));
+    ldns_buffer_write_u16(input->records, LDNS_RR_TYPE_NSEC3PARAM);
+    ldns_buffer_write_u16(input->records, ldns_rr_get_class(nsec3));
+    ldns_buffer_write_u32(input->records, 0);
+    ldns_buffer_write_u16(input->records, (uint16_t)(5 + salt_length));
+    ldns_buffer_write_u8(input->records, ldns_nsec3_algorithm(nsec3));
+    ldns_buffer_write_u8(input->records, 0);
+    ldns_buffer_write_u16(input->records, ldns_nsec3_iterations(nsec3));
+    ldns_buffer_write_u8(input->records, salt_length);
+    if (salt_length > 0)
+        ldns_buffer_write(input->records, salt, salt_length);
+    free(salt);
+}
+
+/* Writes the record of a line, as it stands in a message. */
+static void read_record(struct input *input, const ldns_rdf *apex, const char *line)
+{
+    ldns_rr *record = NULL;
+    ldns_rr_type rtype;
+
+    if (ldns_rr_new_frm_str(&record, line, 0, NULL, NULL) != LDNS_STATUS_OK)
+        fail("no record", line);
+    rtype = ldns_rr_get_type(record);
+    ldns_buffer_reserve(input->records, 65536 + 512);
+    if (rtype == LDNS_RR_TYPE_NSEC3 && !input->has_param) {
+        write_param(input, apex, record);
+        input->has_param = 1;
+    }
+    /* The NSEC3PARAM record of a zone says the same as its NSEC3 records, of which the first one
+     * was taken at its word. */
+    if (rtype != LDNS_RR_TYPE_NSEC3PARAM)
+        ldns_rr2buffer_wire(input->records, record, LDNS_SECTION_ANSWER);
+    input->is_hashed |= rtype == LDNS_RR_TYPE_NSEC3;
+    ldns_rr_free(record);
+}
+
+void read_file(struct input *input, const ldns_rdf *apex, const char *path)
+{
+    static char line[1 << 18];
+    FILE *file = fopen(path, "r");
+
+    if (file == NULL)
+        fail("cannot read", path);
+    while (fgets(line, sizeof line, file) != NULL) {
+        line[strcspn(line, "\r\n")] = 0;
+        if (line[0] == ';')
+            read_question(input, line);
+        else if (line[strspn(line, " \t")] != 0)
+            read_record(input, apex, line);
+    }
+    fclose(file);
+}

@@ -1,0 +1,30 @@
+/*
+ * Files of records, read by libldns.
+ */
+#ifndef INPUT_H
+#define INPUT_H
+
+#include <ldns/ldns.h>
+
+/* What was read of a file. */
+struct input {
+    /* The records, as they stand in a message without compression. */
+    ldns_buffer *records;
+    /* The question of an answer, or NULL. */
+    ldns_rdf *name;
+    ldns_rr_type rtype;
+    /* Whether there are NSEC3 records; and whether the NSEC3PARAM record was written. */
+    int is_hashed;
+    int has_param;
+};
+
+/* The name that a text spells. Ends the program where it spells none. */
+ldns_rdf *name_of(const char *text);
+
+/*
+ * Reads an answer as `dig +dnssec` printed it, a chain or a signed zone, one record a line. Ends the
+ * program where a line is no record. With NSEC3 records there is one NSEC3PARAM record of the apex.
+ */
+void read_file(struct input *input, const ldns_rdf *apex, const char *path);
+
+#endif
