@@ -1,7 +1,7 @@
 //! What a line of the input says.
 ghost use Rattle.std.specs.Prelude.{◌≡◌, ◌↔◌, IsTrue, IfErr, IfOk, IfSome, IfNone, map};
 ghost use Rattle.domain_base.specs.Scan.{ScanFault, TakesToken, RefusesToken};
-ghost use Rattle.denial.specs.Words.{words, IsSkipped, IsPlain, ArePlain, LineText};
+ghost use Rattle.denial.specs.Words.{words, is_blank, IsSkipped, IsPlain, ArePlain, LineText};
 ghost use Rattle.denial.specs.Said.{Says, SpellsNone, line_error_of};
 
 use domain_base::{Class, FromToken, IterScanner, Name, Rtype, ScanError, Scanner, Ttl};
@@ -12,6 +12,9 @@ use std::alloc::{AllocError, Global};
 
 /// The names of the program: each in octets of its own.
 pub type ZoneName = Name<Vec<u8>>;
+
+/// Room for the words of most records.
+const USUAL_WORDS: usize = 8;
 
 /// The data of the program's records.
 pub type ZoneData = ZoneRecordData<Vec<u8>, ZoneName>;
@@ -30,49 +33,54 @@ pub enum Line {
     Bad,
 }
 
-/// The words of a line.
-fn words_of(alloc: Global, line: &[u8]) -> Result<Vec<&[u8]>, AllocError>
-    ensures { IfOk result (λ v. map (λ w. w.now) v.items ≡ words line.now) }
+/// Whether the octet separates words.
+fn separates(octet: u8) -> bool
+    ensures { result ≡ is_blank octet }
 {
-    line.split(|octet| *octet == b' ' || *octet == b'\t')
-        .filter(|word| !word.is_empty())
-        .collect(alloc)
+    octet == b' ' || octet == b'\t'
 }
 
-/// Whether a line with these words is blank, or a comment.
-fn is_skipped(words: &[&[u8]]) -> bool
-    ensures { IsTrue result ↔ IsSkipped (map (λ w. w.now) words.now) }
+/// Whether a line is blank, or a comment.
+fn is_skipped(line: &[u8]) -> bool
+    ensures { IsTrue result ↔ IsSkipped (words line.now) }
 {
-    match words {
-        [] => true,
-        [first, ..] => matches!(first, [b';', ..]),
+    for octet in line {
+        if !separates(*octet) {
+            return *octet == b';';
+        }
     }
+    true
 }
 
-/// A word as text, where none of its octets is past `~`.
-fn token_of(word: &[u8]) -> Option<&str>
-    ensures some { IfSome result (λ token. (token.now ≡ word.now) × IsPlain word.now) }
-    ensures none { IfNone result (IsPlain word.now → ⊥) }
+/// A word as text. That it is text is proved, so that it need not be looked through again.
+fn text_of(word: &[u8]) -> &str
+    requires { IsPlain word.now }
+    ensures { result.now ≡ word.now }
 {
-    if !word.iter().all(|octet| *octet <= b'~') {
-        return None;
-    }
-    str::from_utf8(word).ok()
+    unsafe { str::from_utf8_unchecked(word) }
 }
 
-/// The words as text, where none of their octets is past `~`.
-fn tokens_of<'a>(alloc: Global, words: &[&'a [u8]]) -> Result<Option<Vec<&'a str>>, AllocError>
-    ensures same { IfOk result (λ o.
-        IfSome o (λ v. map (λ t. t.now) v.items ≡ map (λ w. w.now) words.now)) }
-    ensures plain { IfOk result (λ o. IfSome o (λ _. ArePlain (map (λ w. w.now) words.now))) }
-    ensures none { IfOk result (λ o. IfNone o (ArePlain (map (λ w. w.now) words.now) → ⊥)) }
+/// The words of a line as text, where none of their octets is past `~`. Looks at each octet once.
+fn tokens_of(alloc: Global, line: &[u8]) -> Result<Option<Vec<&str>>, AllocError>
+    ensures same { IfOk result (λ o. IfSome o (λ v. map (λ t. t.now) v.items ≡ words line.now)) }
+    ensures plain { IfOk result (λ o. IfSome o (λ _. ArePlain (words line.now))) }
+    ensures none { IfOk result (λ o. IfNone o (ArePlain (words line.now) → ⊥)) }
 {
-    let mut tokens = Vec::with_capacity(alloc, words.len())?;
-    for word in words {
-        let Some(token) = token_of(word) else {
+    let mut tokens = Vec::with_capacity(alloc, USUAL_WORDS)?;
+    let mut start = 0;
+    for (i, octet) in line.iter().enumerate() {
+        if *octet > b'~' {
             return Ok(None);
-        };
-        tokens.push(token)?;
+        }
+        if separates(*octet) {
+            if start < i {
+                tokens.push(text_of(&line[start..i]))?;
+            }
+            start = i + 1;
+        }
+    }
+    if start < line.len() {
+        tokens.push(text_of(&line[start..]))?;
     }
     Ok(Some(tokens))
 }
@@ -142,11 +150,10 @@ fn record_of<'a>(alloc: Global, words: &'a [&'a str]) -> Result<ZoneRr, LineErro
 pub fn read_line(alloc: Global, line: &[u8]) -> Result<Line, OutOfMemory>
     ensures { IfOk result (Says line.now) }
 {
-    let words = words_of(alloc, line)?;
-    if is_skipped(words.as_slice()) {
+    if is_skipped(line) {
         return Ok(Line::Nothing);
     }
-    let Some(tokens) = tokens_of(alloc, words.as_slice())? else {
+    let Some(tokens) = tokens_of(alloc, line)? else {
         return Ok(Line::Bad);
     };
     match record_of(alloc, tokens.as_slice()) {

@@ -1,8 +1,9 @@
 -- names spelled by texts
-use Rattle.std.proofs.Common.{◌≡◌, ◌≢◌, ℕ, ◌+◌, ◌<◌, ◌≤◌, List, [], ◌∷◌, ◌++◌, Option, Some, None, length, drop, refl, sym, ap, subst, ◌∙◌, arith, length-append, inl, inr, ◌⊎◌}
+use Rattle.std.proofs.Common.{◌≡◌, ◌≢◌, ℕ, zero, suc, take, get_or, ◌+◌, ◌<◌, ◌≤◌, List, [], ◌∷◌, ◌++◌, Option, Some, None, length, drop, refl, sym, ap, subst, ◌∙◌, arith, length-append, inl, inr, ◌⊎◌}
 use Rattle.std.specs.Prelude.{unwrap_or, IsSome, IfSome, IfNone, ◌↔◌}
 use Rattle.std.specs.List.{AllByRecursion}
-use Rattle.std.proofs.lemmas.List.{append-nil, append_assoc, length-drop}
+use Rattle.std.proofs.lemmas.Bool.{ne_eqb, le-leb}
+use Rattle.std.proofs.lemmas.List.{append-nil, append_assoc, drop-drop, length-drop, take_more}
 use Rattle.domain_base.specs.Name.{wire_of, IsLabel, IsName}
 use Rattle.domain_base.proofs.WireLemmas.{length-wire_of}
 use Rattle.domain_base.specs.Text.{symbol_at, LabelText, at_end, at_dot, octet, HasNoLabel, LabelTexts, last, last_with_dot, dotted, NameText, root, of_labels, IsNoName}
@@ -51,6 +52,28 @@ spelling_goes text rest done c used so_far is = record {
       let next = after_octet rest here.0 after c used is here.2 in
       (next.rest, rw append_assoc (here.1 ∙ ap (λ l. done ++ l) next.is), next.spelled);
 }
+
+-- characters that stand for themselves
+pub spelling_plain : (text : List ℕ) (n : ℕ) → n ≤ length text → ((k : ℕ) → k < n → symbol_at (drop k text) ≡ Some (get_or text k 0, 1)) → Spelling text (drop n text) (take n text)
+spelling_plain text zero le h = spelling_begins text
+spelling_plain text (suc n) le h =
+    let e : n + 1 ≡ suc n = omega arith in
+    let so_far = spelling_plain text n (omega arith) (λ k lt. h k (omega arith)) in
+    let next = spelling_goes text (drop n text) (take n text) (get_or text n 0) 1 so_far (h n (omega arith)) in
+    subst (λ m. Spelling text (drop m text) (take m text)) e
+    (subst (λ l. Spelling text (drop (n + 1) text) l) (sym (take_more text n 0 (omega arith)))
+    (subst (λ l. Spelling text l (take n text ++ get_or text n 0 ∷ [])) (drop-drop 1 n text) next))
+
+pub no_label_by_front : (text rest done : List ℕ) → Spelling text rest done → 63 < length done → HasNoLabel text
+no_label_by_front text rest done so_far long = λ label after spelled.
+    let here = so_far.back label after spelled in
+    omega (arith, ap length here.1, length-append done here.0)
+
+-- one character more that stands for itself
+pub plain_symbol : (c : ℕ) (text : List ℕ) → c ≢ 92 → c ≢ 46 → 32 ≤ c → c ≤ 126 → symbol_at (c ∷ text) ≡ Some (c, 1)
+unfolding symbol_at
+plain_symbol c text slash dot low high =
+    rw (ne_eqb c 92 slash, le-leb 32 c low, le-leb c 126 high, ne_eqb c 46 dot) refl
 
 pub spelling_ends : (text done : List ℕ) → Spelling text [] done → LabelText text done []
 spelling_ends text done so_far = subst (λ l. LabelText text l []) (append-nil done) (so_far.onward [] [] at_end)

@@ -1,3 +1,4 @@
+pub mod Arranging
 pub mod Clones
 pub mod Firsts
 pub mod FoundGroups
@@ -5,6 +6,8 @@ pub mod Lookups
 pub mod Matches
 pub mod OrderLemmas
 pub mod Removals
+pub mod OwnerRunLemmas
+pub mod Placing
 pub mod RrsetLemmas
 pub mod Runs
 pub mod SortedLists

@@ -17,7 +17,7 @@ use Rattle.domain_records.specs.SortedSet.{IsAt, IsGapFor, Holds, IsSortedSetOf,
 
 module _ {X : Type 0} where
   -- the first that passes is the first of those that pass
-  abbrev first_of : List X → Option X
+  abbrev pub first_of : List X → Option X
   first_of [] = None
   first_of (x ∷ xs) = Some x
 
@@ -105,12 +105,15 @@ module _ {X : Type 0} {R : X → X → Ordering} (o : IsTotalOrder R) where
   pub ties_are_equals : (x y : X) → ties (λ a b. is_lt (R a b)) x y ≡ is_eq (R y x)
   ties_are_equals x y = tie_cases x y (R x y) (R y x) refl refl
 
-  -- a stable sort and a dedup keep the earliest of equals
-  pub earliest : (xs ys : List X) → IsStable R xs ys → KeepsEarliest R xs (dedup (eq_by_cmp R) ys)
-  earliest xs ys stable x =
-      find-dedup (eq_by_cmp_equiv o) x ys
-      ∙ find_alike (λ y. is_eq (R y x)) ys xs
+  -- a stable sort keeps the earliest of equals
+  pub stable_earliest : (xs ys : List X) → IsStable R xs ys → KeepsEarliest R xs ys
+  stable_earliest xs ys stable x =
+      find_alike (λ y. is_eq (R y x)) ys xs
       (sym (filter_agree _ _ (ties_are_equals x) ys) ∙ stable x ∙ filter_agree _ _ (ties_are_equals x) xs)
+
+  -- so does a dedup
+  pub dedup_earliest : (xs ys : List X) → KeepsEarliest R xs ys → KeepsEarliest R xs (dedup (eq_by_cmp R) ys)
+  dedup_earliest xs ys first x = find-dedup (eq_by_cmp_equiv o) x ys ∙ first x
 
   -- a sort and a dedup leave the sorted set
   pub sorted_set : (xs ys : List X) → IsPermutation xs ys → IsSorted R ys → IsSortedSetOf R xs (dedup (eq_by_cmp R) ys)

@@ -3,6 +3,9 @@ pub mod Errors
 pub mod Groups
 pub mod Lookup
 pub mod Order
+pub mod OwnerOrder
+pub mod OwnerRuns
+pub mod Places
 pub mod Rrsets
 pub mod Runs
 pub mod Slices

@@ -20,21 +20,26 @@
 //! - [`RecordsIter::is_one_class`] and [`RecordsIter::is_in_order`] are true exactly where the
 //!   records left have one class and where owners never descend and types never descend within an
 //!   owner. Sorted records of one class are in order.
-//! - Sorting many records takes one sort and one pass, `insert` and the look-ups by owner take
-//!   binary searches, and no comparison takes memory.
+//! - Sorting many records goes by owner first where neighbours often have one owner: the sorter
+//!   sorts runs of one owner, and then the places of each owner. `insert` and the look-ups by owner
+//!   take binary searches, and no comparison takes memory.
 //!
 //! The errors of those who sign and hash records stand here too: [`SigningError`] and
 //! [`Nsec3HashError`].
 #![tactic(auto)]
 
+mod arrange;
 mod error;
 mod group;
 pub mod laws;
 mod list;
 mod lookup;
 mod owner;
+mod owner_order;
+mod owner_runs;
 mod rrset;
 mod slice;
+mod sort;
 mod sorted;
 mod sorter;
 mod write;

@@ -7,6 +7,8 @@ ghost use Rattle.std.specs.Iterator.{IsFiniteIterable};
 ghost use Rattle.domain_records.specs.Edits.{Gives, IsFirstMatch};
 ghost use Rattle.domain_records.specs.SortedSet.{IsAt, IsGapFor, IsUnion};
 
+use crate::owner_order::OwnerOrd;
+use crate::sort::sort_items;
 use crate::sorter::Sorter;
 use domain_base::CanonicalOrd;
 use domain_octets::{OutOfMemory, TryClone};
@@ -20,13 +22,13 @@ pub(crate) fn dedup_equal<T: CanonicalOrd + Drop>(items: &mut Vec<T>)
 }
 
 /// Sorts, and keeps one of equal elements. A refusal leaves the list as it was.
-pub(crate) fn sort_and_dedup<T: CanonicalOrd + Drop, S: Sorter>(
+pub(crate) fn sort_and_dedup<T: OwnerOrd + Drop, S: Sorter>(
     items: &mut Vec<T>,
 ) -> Result<(), OutOfMemory>
     ensures ok { OnOk result (IsUnion S.is_stable T.canonical_cmp items.old.items items.new.items) }
     ensures err { OnErr result (items.new.items ≡ items.old.items) }
 {
-    S::sort_by(items, T::canonical_cmp)?;
+    sort_items::<T, S>(items)?;
     dedup_equal(items);
     Ok(())
 }

@@ -74,11 +74,12 @@ impl<N: ToName, D: RecordData + CanonicalOrd, Sort: Sorter> SortedRecords<N, D, 
     }
 
     /// Sorts the records, and keeps one of those that are equal under the canonical order: the
-    /// earliest, where the sorter is stable. Takes one sort and one pass.
+    /// earliest, where the sorter is stable. Sorts by owner first where neighbours often have one
+    /// owner, and takes one pass.
     ///
     /// # Errors
     ///
-    /// `OutOfMemory` where the sorter answers it.
+    /// `OutOfMemory` where there was no memory, or where the sorter answers it.
     pub fn from_vec(mut records: Vec<Record<N, D>>) -> Result<Self, OutOfMemory>
     where
         N: Drop,
@@ -117,8 +118,8 @@ impl<N: ToName, D: RecordData + CanonicalOrd, Sort: Sorter> SortedRecords<N, D, 
     }
 
     /// Puts records in, and keeps one of those that are equal under the canonical order: the
-    /// earliest, where the sorter is stable, and those that were stored count as earlier. Takes one
-    /// sort and one pass.
+    /// earliest, where the sorter is stable, and those that were stored count as earlier. Sorts as
+    /// `from_vec` does.
     ///
     /// # Errors
     ///

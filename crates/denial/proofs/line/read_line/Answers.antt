@@ -5,15 +5,11 @@ use Rattle.denial.proofs.line.read_line.Goals as goal
 
 pub returns : goal.returns
 returns c =
-    let seen : map (λ w. w.now) c.as_slice.result.now ≡ words c.args.line.now = ap (map (λ w. w.now)) c.as_slice.ensures.value ∙ c.in_ok-words.ensures in
-    let same : map (λ t. t.now) c.in-Some.tokens.items ≡ map (λ w. w.now) c.as_slice-2.result.now = rw c.in-Some.is at c.in_ok-tokens.ensures.same in
-    let tokens : map (λ t. t.now) c.as_slice-3.result.now ≡ words c.args.line.now =
-    ap (map (λ t. t.now)) c.as_slice-3.ensures.value ∙ same ∙ ap (map (λ w. w.now)) c.as_slice-2.ensures.value ∙ c.in_ok-words.ensures in
-    is_bad c.args.line.now _ _ c.is_skipped.result c.in-Err-Bad.field-0 seen tokens c.is_skipped.ensures c.if-is_skipped.false c.in-Err-Bad.field-0-is c.in-Err-Bad.ensures.err
+    let same : map (λ t. t.now) c.in-Some.tokens.items ≡ words c.args.line.now = rw c.in-Some.is at c.in_ok-tokens.ensures.same in
+    let tokens : map (λ t. t.now) c.as_slice.result.now ≡ words c.args.line.now = ap (map (λ t. t.now)) c.as_slice.ensures.value ∙ same in
+    is_bad c.args.line.now _ c.is_skipped.result c.in-Err-Bad.field-0 tokens c.is_skipped.ensures c.if-is_skipped.false c.in-Err-Bad.field-0-is c.in-Err-Bad.ensures.err
 
 pub returns-in_default : goal.returns-in_default
 returns-in_default c =
-    let seen : map (λ w. w.now) c.as_slice.result.now ≡ words c.args.line.now = ap (map (λ w. w.now)) c.as_slice.ensures.value ∙ c.in_ok-words.ensures in
-    let others : map (λ w. w.now) c.as_slice-2.result.now ≡ words c.args.line.now = ap (map (λ w. w.now)) c.as_slice-2.ensures.value ∙ c.in_ok-words.ensures in
     let rough = rw c.in_default.is at c.in_ok-tokens.ensures.none in
-    is_not_plain c.args.line.now _ _ c.is_skipped.result seen others c.is_skipped.ensures c.if-is_skipped.false rough
+    is_not_plain c.args.line.now c.is_skipped.result c.is_skipped.ensures c.if-is_skipped.false rough

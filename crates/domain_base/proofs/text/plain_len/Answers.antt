@@ -1,0 +1,12 @@
+use Rattle.std.proofs.Common.{◌≡◌, ◌+◌, Some, drop, get_or, ap, ◌∙◌, below_more, arith}
+use Rattle.std.proofs.lemmas.List.{drop_more}
+use Rattle.domain_base.specs.Text.{symbol_at}
+use Rattle.domain_base.proofs.SpellingLemmas.{plain_symbol}
+use Rattle.domain_base.proofs.text.plain_len.Goals as goal
+
+pub loop-i-preserved : goal.loop-i-preserved
+loop-i-preserved c =
+    let text = c.args.text.now in
+    let i = c.loop-i.i in
+    below_more (λ k. symbol_at (drop k text) ≡ Some (get_or text k 0, 1)) i c.loop-i.invariant
+    (ap symbol_at (drop_more text i 0 c.loop-i-test.true) ∙ plain_symbol (get_or text i 0) (drop (i + 1) text) c.if-octet-eq92.false c.if-octet-eq46.false (omega (arith, c.if-octet-lt32.false)) (omega (arith, c.if-octet-gt126.false)))

@@ -1,0 +1,53 @@
+-- Runs of one owner in a list, by an order Q of owners; d stands past the end of the list.
+use Rattle.std.specs.Prelude.{◌≡◌, ◌≢◌, ℕ, ◌-◌, ◌<◌, ◌≤◌, List, length, take, drop, slice_index_or}
+use Rattle.std.specs.List.{All, flat_map, range_with_len}
+use Rattle.std.specs.List.Sorted.{IsSorted}
+use Rattle.std.specs.declared.cmp.Ordering.{Ordering}
+use Rattle.std.specs.declared.cmp.Ordering.TheVariants.{Equal}
+use Rattle.domain_records.specs.declared.owner_runs.Run.{Run}
+use Rattle.domain_records.specs.Places.{ArePlaces}
+
+-- from the start up to the end
+abbrev pub places_of : Run → List ℕ
+places_of r = range_with_len r.start (r.end - r.start)
+
+-- the places of one run after another
+abbrev pub places_of_all : List Run → List ℕ
+places_of_all runs = flat_map places_of runs
+
+-- what stands at the place has the owner of the start of the run
+abbrev pub IsOfRun : {X : Type 0} → (X → X → Ordering) → List X → X → Run → ℕ → Type 0
+IsOfRun Q xs d r k = Q (slice_index_or xs r.start d) (slice_index_or xs k d) ≡ Equal
+
+-- all have one owner
+abbrev pub IsOneOwner : {X : Type 0} → (X → X → Ordering) → List X → X → Run → Type 0
+IsOneOwner Q xs d r = All (IsOfRun Q xs d r) (places_of r)
+
+-- runs of one owner each, and one after another they are the list
+pub record AreRuns {X : Type 0} (Q : X → X → Ordering) (xs : List X) (d : X)
+    (runs : List Run) : Type 0 where
+  pub all : places_of_all runs ≡ range_with_len 0 (length xs)
+  pub each : All (IsOneOwner Q xs d) runs
+
+-- by owner
+abbrev pub run_cmp : {X : Type 0} → (X → X → Ordering) → List X → X → Run → Run → Ordering
+run_cmp Q xs d r s = Q (slice_index_or xs r.start d) (slice_index_or xs s.start d)
+
+-- the same runs in the order of their owners
+pub record AreSortedRuns {X : Type 0} (Q : X → X → Ordering) (xs : List X) (d : X)
+    (runs : List Run) : Type 0 where
+  pub all : ArePlaces (length xs) (places_of_all runs)
+  pub each : All (IsOneOwner Q xs d) runs
+  pub sorted : IsSorted (run_cmp Q xs d) runs
+
+-- group has the places of the runs from place i up to n, which have one owner; the run at n, if
+-- there is one, has another
+pub record IsOwner {X : Type 0} (Q : X → X → Ordering) (xs : List X) (d : X) (runs : List Run)
+    (i n : ℕ) (group : List ℕ) : Type 0 where
+  pub some : i < n
+  pub within : n ≤ length runs
+  pub all : group ≡ places_of_all (take (n - i) (drop i runs))
+  pub one : (k : ℕ) (r : Run) → i ≤ k → k < n
+      → run_cmp Q xs d (slice_index_or runs i r) (slice_index_or runs k r) ≡ Equal
+  pub ends : (r : Run) → n < length runs
+      → run_cmp Q xs d (slice_index_or runs i r) (slice_index_or runs n r) ≢ Equal

@@ -1,0 +1,166 @@
+//! Runs: neighbours of one owner.
+ghost use Rattle.std.specs.Prelude.{◌≡◌, ◌<◌, ◌≤◌, ◌++◌, [], length, slice_index_or, IfOk, OnOk, IsPermutation};
+ghost use Rattle.std.specs.List.Sorted.{IsSorted};
+ghost use Rattle.domain_records.specs.Places.{AreSortedPlaces, compared_places, place_cmp};
+ghost use Rattle.domain_records.specs.OwnerRuns.{AreRuns, AreSortedRuns, IsOwner, places_of, run_cmp};
+
+use crate::owner_order::OwnerOrd;
+use crate::sorter::Sorter;
+use domain_octets::OutOfMemory;
+use std::alloc::Global;
+use std::cmp::Ordering;
+
+/// The items from `start` up to `end`, which have one owner.
+#[derive(Clone, Copy)]
+pub(crate) struct Run {
+    pub(crate) start: usize,
+    pub(crate) end: usize,
+}
+
+/// The item at a place. Past the end `other` stands.
+fn item_at<'a, T>(items: &'a [T], place: usize, other: &'a T) -> &'a T
+    ensures { result.now ≡ slice_index_or items.now place other.now }
+{
+    items.get(place).unwrap_or(other)
+}
+
+/// The runs of the items, each as long as its owner goes on.
+pub(crate) fn runs_of<T: OwnerOrd>(
+    alloc: Global,
+    items: &[T],
+    other: &T,
+) -> Result<Vec<Run>, OutOfMemory>
+    ensures { IfOk result (λ runs. AreRuns T.owner_order items.now other.now runs.items) }
+{
+    let mut runs = Vec::new(alloc);
+    let mut start = 0;
+    for end in 1..items.len() {
+        if item_at(items, start, other)
+            .owner_cmp(item_at(items, end, other))
+            .is_ne()
+        {
+            runs.push(Run { start, end })?;
+            start = end;
+        }
+    }
+    if start < items.len() {
+        let end = items.len();
+        runs.push(Run { start, end })?;
+    }
+    Ok(runs)
+}
+
+/// Compares the owners of two runs.
+fn compare_runs<T: OwnerOrd>(items: &[T], other: &T, a: Run, b: Run) -> Ordering
+    ensures { result ≡ run_cmp T.owner_order items.now other.now a b }
+{
+    item_at(items, a.start, other).owner_cmp(item_at(items, b.start, other))
+}
+
+/// Compares two places by all but the owners of their items, and then by themselves.
+fn compare_places<T: OwnerOrd>(items: &[T], other: &T, a: usize, b: usize) -> Ordering
+    ensures { result ≡ compared_places T.rest_order items.now other.now a b }
+{
+    item_at(items, a, other)
+        .rest_cmp(item_at(items, b, other))
+        .then(a.cmp(&b))
+}
+
+/// Puts the runs into the order of their owners.
+fn sort_runs<T: OwnerOrd, S: Sorter>(
+    items: &[T],
+    other: &T,
+    runs: &mut Vec<Run>,
+) -> Result<(), OutOfMemory>
+    requires { AreRuns T.owner_order items.now other.now runs.old.items }
+    ensures { OnOk result (AreSortedRuns T.owner_order items.now other.now runs.new.items) }
+{
+    S::sort_by(runs, |a, b| compare_runs(items, other, *a, *b))
+}
+
+/// Puts places of one owner into the order of their items.
+fn sort_group<T: OwnerOrd, S: Sorter>(
+    items: &[T],
+    other: &T,
+    group: &mut Vec<usize>,
+) -> Result<(), OutOfMemory>
+    ensures moved { IsPermutation group.old.items group.new.items }
+    ensures sorted { OnOk result (IsSorted (place_cmp T.rest_order items.now other.now)
+        group.new.items) }
+{
+    if group.len() < 2 {
+        return Ok(());
+    }
+    S::sort_by(group, |a, b| compare_places(items, other, *a, *b))
+}
+
+/// Puts the places of a run at the end.
+fn push_places(places: &mut Vec<usize>, run: Run) -> Result<(), OutOfMemory>
+    ensures { OnOk result (places.new.items ≡ places.old.items ++ places_of run) }
+{
+    for place in run.start..run.end {
+        places.push(place)?;
+    }
+    Ok(())
+}
+
+/// Puts the places of the runs from `first` on that have one owner into the empty `group`, and
+/// answers which run comes after them.
+fn take_owner<T: OwnerOrd>(
+    items: &[T],
+    other: &T,
+    runs: &[Run],
+    first: usize,
+    group: &mut Vec<usize>,
+) -> Result<usize, OutOfMemory>
+    requires some { first < length runs.now }
+    requires empty { group.old.items ≡ [] }
+    ensures { IfOk result (λ next. IsOwner T.owner_order items.now other.now runs.now first next
+        group.new.items) }
+{
+    for next in first..runs.len() {
+        if compare_runs(items, other, runs[first], runs[next]).is_ne() {
+            return Ok(next);
+        }
+        push_places(group, runs[next])?;
+    }
+    Ok(runs.len())
+}
+
+/// The places of all items in canonical order.
+fn places_by_owner<T: OwnerOrd, S: Sorter>(
+    alloc: Global,
+    items: &[T],
+    other: &T,
+    runs: &[Run],
+) -> Result<Vec<usize>, OutOfMemory>
+    requires { AreSortedRuns T.owner_order items.now other.now runs.now }
+    ensures { IfOk result (λ places. AreSortedPlaces T.canonical_cmp items.now other.now
+        places.items) }
+{
+    let mut places = Vec::with_capacity(alloc, items.len())?;
+    let mut group = Vec::new(alloc);
+    let mut next = 0;
+    while next < runs.len() {
+        next = take_owner(items, other, runs, next, &mut group)?;
+        sort_group::<T, S>(items, other, &mut group)?;
+        places.append(&mut group)?;
+    }
+    Ok(places)
+}
+
+/// The places of the items in canonical order, from their runs: the runs are sorted by owner, and
+/// then the items of each owner.
+pub(crate) fn sorted_places<T: OwnerOrd, S: Sorter>(
+    alloc: Global,
+    items: &[T],
+    other: &T,
+    mut runs: Vec<Run>,
+) -> Result<Vec<usize>, OutOfMemory>
+    requires { AreRuns T.owner_order items.now other.now runs.items }
+    ensures { IfOk result (λ places. AreSortedPlaces T.canonical_cmp items.now other.now
+        places.items) }
+{
+    sort_runs::<T, S>(items, other, &mut runs)?;
+    places_by_owner::<T, S>(alloc, items, other, &runs)
+}
