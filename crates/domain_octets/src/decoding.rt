@@ -1,6 +1,6 @@
 //! Octets read from text.
-ghost use Rattle.std.specs.Prelude.{◌≡◌, ◌<◌, ◌↔◌, length, IfOk, IfErr, IsErrOf, unwrap_or};
-ghost use Rattle.hex.specs.Hex.{hex_digit_value};
+ghost use Rattle.std.specs.Prelude.{◌≡◌, ◌↔◌, ℕ, [], ◌∷◌, length, Ok, IfOk, IfErr, IsErrOf};
+ghost use Rattle.hex.specs.Hex.{decode_pairs};
 ghost use Rattle.domain_octets.specs.Codec.{Decodes, IsText, HasNoRoom, BuildFault, DecodeFault};
 ghost use Rattle.domain_octets.specs.Limit.{HasRoom};
 
@@ -9,16 +9,14 @@ use crate::{AppendError, Codec, DecodeError, EmptyBuilder, FromBuilder};
 use base64::engine::general_purpose::STANDARD;
 use std::alloc::Global;
 
-/// The value of a digit of Base 16, and 0 for what is none.
-fn base16_digit(c: u8) -> u8
-    ensures value { result ≡ unwrap_or (hex_digit_value c) 0 }
-    ensures small { result < 16 }
+/// The octet that two digits of Base 16 stand for, and 0 where there is none.
+fn base16_octet(high: u8, low: u8) -> u8
+    ensures { (octet : ℕ) → decode_pairs 0 (high ∷ low ∷ []) ≡ Ok (octet ∷ []) → result ≡ octet }
 {
-    match c {
-        b'A'..=b'F' => c - b'A' + 10,
-        b'a'..=b'f' => c - b'a' + 10,
-        b'0'..=b'9' => c - b'0',
-        _ => 0,
+    let mut octet = [0u8; 1];
+    match hex::decode_to_slice([high, low].as_slice(), &mut octet) {
+        Ok(()) => octet[0],
+        Err(_) => 0,
     }
 }
 
@@ -30,7 +28,7 @@ fn build_base16<B: EmptyBuilder + Drop>(alloc: Global, text: &[u8]) -> Result<B,
 {
     let mut octets = B::empty(alloc);
     for i in 0..text.len() / 2 {
-        let octet = 16 * base16_digit(text[2 * i]) + base16_digit(text[2 * i + 1]);
+        let octet = base16_octet(text[2 * i], text[2 * i + 1]);
         octets.append_slice(&[octet])?;
     }
     Ok(octets)

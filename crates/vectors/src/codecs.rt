@@ -1,6 +1,7 @@
 //! Octets as text (RFC 4648).
 use domain_octets::{
-    ArrayBuilder, Codec, DecodeError, OutOfMemory, base16, base32, base64_standard,
+    ArrayBuilder, Codec, DecodeError, EmptyBuilder, FromBuilder, OutOfMemory, base16, base32,
+    base64_standard,
 };
 use std::alloc::Global;
 use std::fmt::{Display, Formatter, Result as Printed, Write};
@@ -75,19 +76,22 @@ fn decode(alloc: Global, codec: Codec, text: &str, answers: &mut Answers) {
     answers.debug("ArrayBuilder<2>", &short.err());
 }
 
-/// The octets that a text stands for, where there is room for `K`.
-fn in_array<const K: usize>(alloc: Global, codec: Codec, text: &str, answers: &mut Answers) {
-    let octets: Result<ArrayBuilder<K>, DecodeError> = codec.decode(alloc, text);
+/// The octets that a text stands for, of one kind.
+fn in_kind<O: FromBuilder + Drop>(alloc: Global, codec: Codec, text: &str, answers: &mut Answers)
+where
+    O::Builder: EmptyBuilder + Drop,
+{
+    let octets = codec.decode::<O>(alloc, text);
     answers.octets_or_error("array", octets);
 }
 
 /// The octets that a text stands for, where there is room for none to four.
 fn in_arrays(alloc: Global, codec: Codec, text: &str, answers: &mut Answers) {
-    in_array::<0>(alloc, codec, text, answers);
-    in_array::<1>(alloc, codec, text, answers);
-    in_array::<2>(alloc, codec, text, answers);
-    in_array::<3>(alloc, codec, text, answers);
-    in_array::<4>(alloc, codec, text, answers);
+    in_kind::<ArrayBuilder<0>>(alloc, codec, text, answers);
+    in_kind::<ArrayBuilder<1>>(alloc, codec, text, answers);
+    in_kind::<ArrayBuilder<2>>(alloc, codec, text, answers);
+    in_kind::<ArrayBuilder<3>>(alloc, codec, text, answers);
+    in_kind::<ArrayBuilder<4>>(alloc, codec, text, answers);
 }
 
 /// The octets that a text stands for, by the functions that are named for the alphabets.

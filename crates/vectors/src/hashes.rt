@@ -3,7 +3,8 @@ use bytes::Bytes;
 use domain_base::{IterScanner, Scanner};
 use domain_bitmap::{Nsec3Salt, Nsec3SaltError, Nsec3SaltFromStrError, OwnerHash, OwnerHashError};
 use domain_octets::{
-    ArrayBuilder, DecodeError, DisplayKind, Octets, Parser, PieceFormatter, ZonefileFmt,
+    ArrayBuilder, DecodeError, DisplayKind, EmptyBuilder, FromBuilder, Octets, Parser,
+    PieceFormatter, ZonefileFmt,
 };
 use std::alloc::Global;
 use vector_lines::holders::converted_octets;
@@ -92,24 +93,82 @@ fn sizes(alloc: Global, text: &str, answers: &mut Answers) {
     scanned_sizes(alloc, &[text], answers);
 }
 
-/// Why a text is no salt and no hash where there is room for `K` octets.
-fn room_for<const K: usize>(alloc: Global, text: &str, answers: &mut Answers) {
-    let salt = Nsec3Salt::<ArrayBuilder<K>>::from_str(alloc, text).err();
+/// Why a text is no salt over octets of one kind.
+fn salt_refusal<O: FromBuilder + Drop>(alloc: Global, text: &str, answers: &mut Answers)
+where
+    O::Builder: EmptyBuilder + Drop,
+{
+    let salt = Nsec3Salt::<O>::from_str(alloc, text).err();
     answers.debug("salt", &salt);
-    let tokens = [text];
-    let mut scanner = IterScanner::<ArrayBuilder<K>>::new(&tokens);
-    answers.debug("salt as a token", &Nsec3Salt::scan(alloc, &mut scanner).err());
-    let hash = OwnerHash::<ArrayBuilder<K>>::from_str(alloc, text).err();
+}
+
+/// Why a token is no salt.
+fn salt_token_refusal<O: FromBuilder + Drop, S: Scanner<Octets = O>>(
+    alloc: Global,
+    scanner: &mut S,
+    answers: &mut Answers,
+) {
+    let salt = Nsec3Salt::scan(alloc, scanner).err();
+    answers.debug("salt as a token", &salt);
+}
+
+/// Why a text is no hash over octets of one kind.
+fn hash_refusal<O: FromBuilder + Drop>(alloc: Global, text: &str, answers: &mut Answers)
+where
+    O::Builder: EmptyBuilder + Drop,
+{
+    let hash = OwnerHash::<O>::from_str(alloc, text).err();
     answers.debug("hash", &hash);
-    let mut scanner = IterScanner::<ArrayBuilder<K>>::new(&tokens);
-    answers.debug("hash as a token", &OwnerHash::scan(alloc, &mut scanner).err());
+}
+
+/// Why a token is no hash.
+fn hash_token_refusal<O: FromBuilder + Drop, S: Scanner<Octets = O>>(
+    alloc: Global,
+    scanner: &mut S,
+    answers: &mut Answers,
+) {
+    let hash = OwnerHash::scan(alloc, scanner).err();
+    answers.debug("hash as a token", &hash);
+}
+
+/// All four, where there is room for one octet.
+fn room_for_one(alloc: Global, text: &str, answers: &mut Answers) {
+    let tokens = [text];
+    salt_refusal::<ArrayBuilder<1>>(alloc, text, answers);
+    let mut scanner = IterScanner::<ArrayBuilder<1>>::new(&tokens);
+    salt_token_refusal(alloc, &mut scanner, answers);
+    hash_refusal::<ArrayBuilder<1>>(alloc, text, answers);
+    let mut scanner = IterScanner::<ArrayBuilder<1>>::new(&tokens);
+    hash_token_refusal(alloc, &mut scanner, answers);
+}
+
+/// The same for 255 octets.
+fn room_for_most(alloc: Global, text: &str, answers: &mut Answers) {
+    let tokens = [text];
+    salt_refusal::<ArrayBuilder<255>>(alloc, text, answers);
+    let mut scanner = IterScanner::<ArrayBuilder<255>>::new(&tokens);
+    salt_token_refusal(alloc, &mut scanner, answers);
+    hash_refusal::<ArrayBuilder<255>>(alloc, text, answers);
+    let mut scanner = IterScanner::<ArrayBuilder<255>>::new(&tokens);
+    hash_token_refusal(alloc, &mut scanner, answers);
+}
+
+/// The same for 256 octets.
+fn room_for_more(alloc: Global, text: &str, answers: &mut Answers) {
+    let tokens = [text];
+    salt_refusal::<ArrayBuilder<256>>(alloc, text, answers);
+    let mut scanner = IterScanner::<ArrayBuilder<256>>::new(&tokens);
+    salt_token_refusal(alloc, &mut scanner, answers);
+    hash_refusal::<ArrayBuilder<256>>(alloc, text, answers);
+    let mut scanner = IterScanner::<ArrayBuilder<256>>::new(&tokens);
+    hash_token_refusal(alloc, &mut scanner, answers);
 }
 
 /// The same for one octet, for 255 and for 256.
 fn room(alloc: Global, text: &str, answers: &mut Answers) {
-    room_for::<1>(alloc, text, answers);
-    room_for::<255>(alloc, text, answers);
-    room_for::<256>(alloc, text, answers);
+    room_for_one(alloc, text, answers);
+    room_for_most(alloc, text, answers);
+    room_for_more(alloc, text, answers);
 }
 
 /// Whether octets are too many for a salt and for a hash.
