@@ -1,5 +1,5 @@
 //! Data of records: as text, as octets, and in canonical form (RFC 1035; RFC 4034; RFC 5155).
-use crate::{compared, octets, typed};
+use crate::{compared, made, octets, typed};
 use domain_base::{IterScanner, Rtype, ScanError, Scanner};
 use domain_keys::{Dnskey, Ds};
 use domain_octets::{ArrayBuilder, Octets, OctetsBuilder};
@@ -149,6 +149,7 @@ fn of_data(alloc: Global, form: &str, data: &Data, answers: &mut Answers) {
         "size" => size(alloc, data, answers),
         "tag" => tag(data, answers),
         "typed" => typed::show(alloc, data, answers),
+        "made" => made::show(alloc, data, answers),
         _ => answers.echo("  no such vector"),
     }
 }

@@ -4,7 +4,9 @@
 
 mod compared;
 mod data;
+mod made;
 mod octets;
+mod scanned;
 mod times;
 mod typed;
 
@@ -20,6 +22,7 @@ impl Program for DataVectors {
         match subject {
             "number" => times::answer(alloc, words, answers),
             "data" => data::answer(alloc, words, answers),
+            "scan" => scanned::answer(words, answers),
             _ => answers.echo("  no such vector"),
         }
     }

@@ -5,6 +5,7 @@ use domain_rrsig::{IllegalSignatureTime, Timestamp};
 use std::alloc::Global;
 use std::fmt;
 use std::fmt::{Display, Write};
+use std::str::FromStr;
 use vector_lines::input::Tokens;
 use vector_lines::{Answers, input};
 

@@ -1,9 +1,9 @@
 //! The numbers of algorithms.
-ghost use Rattle.std.specs.Prelude.{◌≡◌, Some};
+ghost use Rattle.std.specs.Prelude.{◌≡◌, Some, IfOk, IfErr};
 ghost use Rattle.std.specs.Fmt.{decimal};
-ghost use Rattle.domain_base.specs.Scan.{IsNumber, IsNoNumber};
+ghost use Rattle.domain_base.specs.Scan.{IsNumber, IsNoNumber, RefusesToken, TakesToken, scan_fault_of};
 
-use crate::{FromToken, ScanError};
+use crate::{FromToken, ScanError, Scanner};
 use std::fmt;
 use std::marker::Model;
 
@@ -58,6 +58,18 @@ impl SecurityAlgorithm {
         ensures { result ≡ self }
     {
         self.0
+    }
+
+    /// The algorithm that the next token spells: a decimal number of at most 255. Refuses every
+    /// other token as `Custom("decimal number expected")`, and a missing one as `EndOfEntry`. A
+    /// token that is refused is gone past too.
+    pub fn scan<S: Scanner>(scanner: &mut S) -> Result<SecurityAlgorithm, ScanError>
+        ensures ok { IfOk result (λ value. TakesToken (λ token. IsNumber 8 token value)
+            (S.tokens scanner.old) (S.tokens scanner.new)) }
+        ensures err { IfErr result (λ e. RefusesToken (IsNoNumber 8) (S.tokens scanner.old)
+            (S.tokens scanner.new) (scan_fault_of e)) }
+    {
+        <SecurityAlgorithm as FromToken>::scan(scanner)
     }
 }
 
@@ -119,6 +131,18 @@ impl DigestAlgorithm {
     {
         self.0
     }
+
+    /// The algorithm that the next token spells: a decimal number of at most 255. Refuses every
+    /// other token as `Custom("decimal number expected")`, and a missing one as `EndOfEntry`. A
+    /// token that is refused is gone past too.
+    pub fn scan<S: Scanner>(scanner: &mut S) -> Result<DigestAlgorithm, ScanError>
+        ensures ok { IfOk result (λ value. TakesToken (λ token. IsNumber 8 token value)
+            (S.tokens scanner.old) (S.tokens scanner.new)) }
+        ensures err { IfErr result (λ e. RefusesToken (IsNoNumber 8) (S.tokens scanner.old)
+            (S.tokens scanner.new) (scan_fault_of e)) }
+    {
+        <DigestAlgorithm as FromToken>::scan(scanner)
+    }
 }
 
 /// A decimal number of at most 255. Refuses every other token as
@@ -172,6 +196,18 @@ impl Nsec3HashAlgorithm {
         ensures { result ≡ self }
     {
         self.0
+    }
+
+    /// The algorithm that the next token spells: a decimal number of at most 255. Refuses every
+    /// other token as `Custom("decimal number expected")`, and a missing one as `EndOfEntry`. A
+    /// token that is refused is gone past too.
+    pub fn scan<S: Scanner>(scanner: &mut S) -> Result<Nsec3HashAlgorithm, ScanError>
+        ensures ok { IfOk result (λ value. TakesToken (λ token. IsNumber 8 token value)
+            (S.tokens scanner.old) (S.tokens scanner.new)) }
+        ensures err { IfErr result (λ e. RefusesToken (IsNoNumber 8) (S.tokens scanner.old)
+            (S.tokens scanner.new) (scan_fault_of e)) }
+    {
+        <Nsec3HashAlgorithm as FromToken>::scan(scanner)
     }
 }
 

@@ -1,9 +1,10 @@
 //! Classes of records.
-ghost use Rattle.std.specs.Prelude.{◌≡◌, Some};
+ghost use Rattle.std.specs.Prelude.{◌≡◌, Some, IfOk, IfErr};
 ghost use Rattle.domain_base.specs.Named.{entries};
 ghost use Rattle.domain_base.specs.Numbers.{class_names, ClassText, IsNoClass, class_text};
+ghost use Rattle.domain_base.specs.Scan.{RefusesToken, TakesToken, scan_fault_of};
 
-use crate::{FromToken, ScanError, named};
+use crate::{FromToken, ScanError, Scanner, named};
 use std::fmt;
 use std::marker::Model;
 
@@ -43,6 +44,18 @@ impl Class {
         ensures { result ≡ self }
     {
         self.0
+    }
+
+    /// The class that the next token spells: its name or `CLASS` and its number, in either case
+    /// (RFC 3597, section 5). Refuses every other token as `Custom("unknown class")`, and a missing
+    /// one as `EndOfEntry`. A token that is refused is gone past too.
+    pub fn scan<S: Scanner>(scanner: &mut S) -> Result<Class, ScanError>
+        ensures ok { IfOk result (λ value. TakesToken (λ token. ClassText token value)
+            (S.tokens scanner.old) (S.tokens scanner.new)) }
+        ensures err { IfErr result (λ e. RefusesToken IsNoClass (S.tokens scanner.old)
+            (S.tokens scanner.new) (scan_fault_of e)) }
+    {
+        <Class as FromToken>::scan(scanner)
     }
 }
 

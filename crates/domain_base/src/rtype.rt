@@ -1,9 +1,10 @@
 //! Types of records.
-ghost use Rattle.std.specs.Prelude.{◌≡◌, Some};
+ghost use Rattle.std.specs.Prelude.{◌≡◌, Some, IfOk, IfErr};
 ghost use Rattle.domain_base.specs.Named.{entries};
 ghost use Rattle.domain_base.specs.Numbers.{type_names, TypeText, IsNoType, type_text};
+ghost use Rattle.domain_base.specs.Scan.{RefusesToken, TakesToken, scan_fault_of};
 
-use crate::{FromToken, ScanError, named};
+use crate::{FromToken, ScanError, Scanner, named};
 use std::fmt;
 use std::marker::Model;
 
@@ -120,6 +121,18 @@ impl Rtype {
         ensures { result ≡ self }
     {
         self.0
+    }
+
+    /// The type that the next token spells: its name or `TYPE` and its number, in either case
+    /// (RFC 3597, section 5). Refuses every other token as `Custom("unknown record type")`, and a
+    /// missing one as `EndOfEntry`. A token that is refused is gone past too.
+    pub fn scan<S: Scanner>(scanner: &mut S) -> Result<Rtype, ScanError>
+        ensures ok { IfOk result (λ value. TakesToken (λ token. TypeText token value)
+            (S.tokens scanner.old) (S.tokens scanner.new)) }
+        ensures err { IfErr result (λ e. RefusesToken IsNoType (S.tokens scanner.old)
+            (S.tokens scanner.new) (scan_fault_of e)) }
+    {
+        <Rtype as FromToken>::scan(scanner)
     }
 }
 

@@ -3,11 +3,9 @@ ghost use Rattle.std.specs.Prelude.{◌≡◌, ◌<◌, ◌+◌, ◌++◌, ◌�
 ghost use Rattle.std.specs.Fmt.{decimal};
 ghost use Rattle.std.specs.Int.{w32, to_be_bytes};
 ghost use Rattle.std.specs.Ordering.{nat_cmp};
-ghost use Rattle.std.specs.Str.Parse.{without_leading_plus};
 ghost use Rattle.domain_octets.specs.Limit.{IsOver};
 ghost use Rattle.domain_octets.specs.Place.{Takes};
-ghost use Rattle.domain_base.specs.Scan.{IsNumber, IsNoNumber, scan_fault_of};
-ghost use Rattle.domain_base.specs.Serial.{serial_cmp};
+ghost use Rattle.domain_base.specs.Serial.{ReadsSerial, serial_cmp};
 ghost use Rattle.std.specs.Cmp.{nat_cmp_total};
 
 use crate::{CanonicalOrd, ParseError, ScanError};
@@ -15,6 +13,7 @@ use domain_octets::{AppendError, OctetsBuilder, Parser};
 use std::cmp::Ordering;
 use std::fmt;
 use std::marker::Model;
+use std::str::FromStr;
 
 /// A serial number: 32 bits, in a circle (RFC 1982).
 #[derive(Clone, Copy, Debug, PartialEq)]
@@ -72,19 +71,6 @@ impl Serial {
         target.append_slice(&self.0.to_be_bytes())
     }
 
-    /// The serial number of a text: decimal digits, with one plus sign before them or none. Refuses
-    /// every other text, and a number over 32 bits, as `Custom("decimal number expected")`.
-    pub fn from_str(text: &str) -> Result<Serial, ScanError>
-        ensures ok { IfOk result (IsNumber 32 (without_leading_plus text.now)) }
-        ensures err { IfErr result (λ e.
-            IsNoNumber 32 (scan_fault_of e) (without_leading_plus text.now)) }
-    {
-        match text.parse::<u32>() {
-            Ok(number) => Ok(Serial(number)),
-            Err(_) => Err(ScanError::Custom("decimal number expected")),
-        }
-    }
-
     /// The order of serial numbers: each is before the 2,147,483,647 that follow it in the circle.
     /// Two that are just half of the circle apart have none (RFC 1982, section 3.2).
     pub fn partial_cmp(&self, other: &Serial) -> Option<Ordering>
@@ -99,6 +85,21 @@ impl Serial {
             None
         } else {
             Some(Ordering::Greater)
+        }
+    }
+}
+
+/// Decimal digits, with one plus sign before them or none. Refuses every other text, and a number
+/// over 32 bits, as `Custom("decimal number expected")`.
+impl FromStr for Serial {
+    type Err = ScanError;
+
+    ghost from_str_gives = { ReadsSerial };
+
+    fn from_str(text: &str) -> Result<Serial, ScanError> {
+        match text.parse::<u32>() {
+            Ok(number) => Ok(Serial(number)),
+            Err(_) => Err(ScanError::Custom("decimal number expected")),
         }
     }
 }

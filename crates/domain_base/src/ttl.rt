@@ -1,9 +1,9 @@
 //! Times to live.
-ghost use Rattle.std.specs.Prelude.{◌≡◌, ◌*◌, Some};
+ghost use Rattle.std.specs.Prelude.{◌≡◌, ◌*◌, Some, IfOk, IfErr};
 ghost use Rattle.std.specs.Fmt.{decimal};
-ghost use Rattle.domain_base.specs.Scan.{IsNumber, IsNoNumber};
+ghost use Rattle.domain_base.specs.Scan.{IsNumber, IsNoNumber, RefusesToken, TakesToken, scan_fault_of};
 
-use crate::{FromToken, ScanError};
+use crate::{FromToken, ScanError, Scanner};
 use std::fmt;
 use std::marker::Model;
 
@@ -49,6 +49,18 @@ impl Ttl {
         ensures { result ≡ self }
     {
         self.0
+    }
+
+    /// The seconds that the next token spells: a decimal number of at most 32 bits. Refuses every
+    /// other token as `Custom("decimal number expected")`, and a missing one as `EndOfEntry`. A
+    /// token that is refused is gone past too.
+    pub fn scan<S: Scanner>(scanner: &mut S) -> Result<Ttl, ScanError>
+        ensures ok { IfOk result (λ value. TakesToken (λ token. IsNumber 32 token value)
+            (S.tokens scanner.old) (S.tokens scanner.new)) }
+        ensures err { IfErr result (λ e. RefusesToken (IsNoNumber 32) (S.tokens scanner.old)
+            (S.tokens scanner.new) (scan_fault_of e)) }
+    {
+        <Ttl as FromToken>::scan(scanner)
     }
 }
 

@@ -7,10 +7,11 @@ ghost use Rattle.std.specs.Cmp.{nat_cmp_total};
 ghost use Rattle.domain_octets.specs.Limit.{IsOver};
 ghost use Rattle.domain_octets.specs.Piece.{token};
 ghost use Rattle.domain_octets.specs.Place.{Takes};
+ghost use Rattle.domain_base.specs.Scan.{RefusesToken, TakesToken, scan_fault_of};
 ghost use Rattle.domain_base.specs.Serial.{serial_cmp};
 ghost use Rattle.domain_rrsig.specs.Time.{IsNear, TimeAt, TimeToken, IsNoTime, ReadsTime};
 
-use domain_base::{CanonicalOrd, FromToken, ParseError, ScanError, Serial};
+use domain_base::{CanonicalOrd, FromToken, ParseError, ScanError, Scanner, Serial};
 use domain_octets::{AppendError, Formatter, OctetsBuilder, OutOfMemory, Parser, ZonefileFmt};
 use std::cmp::Ordering;
 use std::error::Error;
@@ -121,6 +122,19 @@ impl Timestamp {
         ensures { result ≡ serial_cmp self.now other.now }
     {
         self.0.partial_cmp(&other.0)
+    }
+
+    /// The time that the next token spells: decimal digits, with one plus sign before them or none,
+    /// at most 10 characters. Refuses every other token, and a number over 32 bits, as
+    /// `Custom("illegal signature time")`, and a missing token as `EndOfEntry`. A token that is
+    /// refused is gone past too.
+    pub fn scan<S: Scanner>(scanner: &mut S) -> Result<Timestamp, ScanError>
+        ensures ok { IfOk result (λ value. TakesToken (λ token. TimeToken token value)
+            (S.tokens scanner.old) (S.tokens scanner.new)) }
+        ensures err { IfErr result (λ e. RefusesToken IsNoTime (S.tokens scanner.old)
+            (S.tokens scanner.new) (scan_fault_of e)) }
+    {
+        <Timestamp as FromToken>::scan(scanner)
     }
 }
 
