@@ -1,6 +1,7 @@
 -- The data of records, read whole.
 use Rattle.std.proofs.Common.{◌≡◌, ℕ, List, [], ◌++◌, ap, subst, ◌∙◌, append-nil}
 use Rattle.domain_base.specs.Fault.{Fault}
+use Rattle.domain_bitmap.proofs.BlockLemmas.{bitmap_small}
 use Rattle.domain_fields.specs.Layout.{Values, octets_of, Begins, FirstFault}
 use Rattle.domain_chain_rdata.specs.NsecWire.{BeginsNsec, NsecFault}
 use Rattle.domain_chain_rdata.specs.Nsec3Wire.{BeginsNsec3, Nsec3Fault}
@@ -22,7 +23,7 @@ nsec_whole octets after v b = b.begins.parts ∙ ap (λ o. octets_of nsec v ++ o
 
 pub no_nsec : (q : RawRecord) (fault : Fault) → NsecFault q.«data» fault → (k : Link) → q ≡ nsec_record k → IsNsec k → ⊥
 no_nsec q fault found k e is =
-    (nsec_back (k.next, k.bits) (is.next, tt) is.bits).no_fault fault (subst (λ o. NsecFault o fault) (data_of q (nsec_record k) e) found)
+    (nsec_back (k.next, k.bits) (is.next, bitmap_small k.bits is.bits) is.bits).no_fault fault (subst (λ o. NsecFault o fault) (data_of q (nsec_record k) e) found)
 
 -- ---- NSEC3
 
@@ -31,7 +32,7 @@ nsec3_whole octets after v b = b.begins.parts ∙ ap (λ o. octets_of nsec3 v ++
 
 pub no_nsec3 : (q : RawRecord) (fault : Fault) → Nsec3Fault q.«data» fault → (k : HashedLink) → q ≡ nsec3_record k → IsNsec3 k → ⊥
 no_nsec3 q fault found k e is =
-    (nsec3_back (hash_values k, k.bits) (is.fields, tt) is.bits).no_fault fault (subst (λ o. Nsec3Fault o fault) (data_of q (nsec3_record k) e) found)
+    (nsec3_back (hash_values k, k.bits) (is.fields, bitmap_small k.bits is.bits) is.bits).no_fault fault (subst (λ o. Nsec3Fault o fault) (data_of q (nsec3_record k) e) found)
 
 -- ---- NSEC3PARAM
 

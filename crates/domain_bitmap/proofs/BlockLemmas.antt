@@ -1,7 +1,9 @@
 -- octets read as blocks
-use Rattle.std.proofs.Common.{◌≡◌, ℕ, zero, suc, ◌+◌, ◌-◌, ◌*◌, ◌/◌, ◌%◌, ◌<◌, ◌≤◌, ◌≢◌, Bool, true, false, List, [], ◌∷◌, ◌++◌, length, get_or, take, drop, refl, sym, ap, subst, arith, length-append}
+use Rattle.std.proofs.Common.{◌≡◌, ℕ, zero, suc, ◌+◌, ◌-◌, ◌*◌, ◌/◌, ◌%◌, ◌<◌, ◌≤◌, ◌≢◌, Bool, true, false, List, [], ◌∷◌, ◌++◌, length, slice_index, get_or, take, drop, refl, sym, ap, subst, arith, length-append}
 use Rattle.std.specs.List.{AllByRecursion, flat_map}
 use Rattle.std.proofs.lemmas.List.{take_at, drop_at, get_or_past}
+use Rattle.std.proofs.lemmas.List.Elements.{All-from_recursion, All-append, All-cons, All-nil}
+use Rattle.domain_octets.specs.Words.{AreOctets}
 use Rattle.std.specs.Prelude.{◌==◌}
 use Rattle.std.proofs.lemmas.Bool.Decides.{nat_tests}
 use Rattle.domain_bitmap.proofs.RangeLemmas.{filter_none}
@@ -142,3 +144,22 @@ types_from_nothing octets place is = rw is refl
 pub ruleset look_steps = (contains_here, contains_later, contains_nothing)
 
 pub ruleset iter_steps = (types_from_next, types_from_here, types_from_nothing)
+
+-- ---- bitmaps are octets
+
+small_at : (octets : List ℕ) → ((i : ℕ) → slice_index octets i < 256) → AllByRecursion (λ octet. octet < 256) octets
+small_at [] bounded = tt
+small_at (octet ∷ octets) bounded = (bounded 0, small_at octets (λ i. bounded (suc i)))
+
+small_block : (block : Block) → IsBlock block → AreOctets (block.window ∷ length block.octets ∷ block.octets)
+small_block block is =
+    All-cons (λ octet. octet < 256) block.window (length block.octets ∷ block.octets) is.window
+    (All-cons (λ octet. octet < 256) (length block.octets) block.octets (omega (arith, is.fits)) (All-from_recursion (λ octet. octet < 256) block.octets (small_at block.octets is.bounded)))
+
+blocks_small : (blocks : List Block) → AllByRecursion IsBlock blocks → AreOctets (octets_of_blocks blocks)
+blocks_small [] all = All-nil (λ octet. octet < 256)
+blocks_small (block ∷ blocks) (here, all) =
+    All-append (λ octet. octet < 256) (block.window ∷ length block.octets ∷ block.octets) (octets_of_blocks blocks) (small_block block here) (blocks_small blocks all)
+
+pub bitmap_small : (octets : List ℕ) → IsBitmap octets → AreOctets octets
+bitmap_small octets is = subst AreOctets (sym is.spelled) (blocks_small (blocks_of octets) is.valid)

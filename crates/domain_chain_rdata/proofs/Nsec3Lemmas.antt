@@ -7,6 +7,7 @@ use Rattle.std.proofs.lemmas.List.{append-nil, append_assoc}
 use Rattle.domain_octets.specs.Base32.{base32_upper}
 use Rattle.domain_octets.specs.Piece.{PieceText, token, comment, opens, closes}
 use Rattle.domain_octets.specs.Place.{Place, Takes}
+use Rattle.domain_octets.specs.Words.{AreOctets}
 use Rattle.domain_base.specs.Fault.{Fault}
 use Rattle.domain_bitmap.specs.Blocks.{IsBitmap, types_of}
 use Rattle.domain_bitmap.specs.Fault.{BitmapFault}
@@ -42,7 +43,7 @@ params_back v fits = parses_back nsec3param v refl fits ((tt, (tt, tt)), tt)
 
 nsec3_faultless : (v : Values nsec3) → ParsesBack nsec3 v → IsBitmap v.1 → (fault : Fault) → Nsec3Fault (octets_of nsec3 v) fault → ⊥
 nsec3_faultless v back bitmap fault (in_fields found) = fields_excluded hash_fields v fault back found
-nsec3_faultless v back bitmap fault (in_types fields types front why) = types_excluded hash_fields v fields types fault back bitmap front why
+nsec3_faultless v back bitmap fault (in_types fields types front why) = types_excluded hash_fields v fields types fault refl back bitmap front why
 
 -- octets of fields that fit and a bitmap are read as them alone
 pub nsec3_back : (v : Values nsec3) → Fits nsec3 v → IsBitmap v.1 → Nsec3ParsesBack v
@@ -56,12 +57,12 @@ nsec3_back v fits bitmap =
 
 -- fields were read, and then all that was left as a bitmap
 pub fields_then_types : (old start between new : Place) (v : Values hash_fields) (types : List ℕ) → start ≡ old → Begins hash_fields start.left v between.left
-    → Takes types between new → new.left ≡ [] → IsBitmap between.left → BeginsNsec3 old.left (v, types) new.left
+    → Takes types between new → new.left ≡ [] → IsBitmap between.left → AreOctets types → BeginsNsec3 old.left (v, types) new.left
 unfolding octets_of
-fields_then_types old start between new v types from read takes all bitmap = record {
+fields_then_types old start between new v types from read takes all bitmap small = record {
   begins = record {
     parts = sym (ap (λ p. p.left) from) ∙ read.parts ∙ ap (λ o. octets_of hash_fields v ++ o) takes.parts ∙ sym (append_assoc (octets_of hash_fields v) types new.left);
-    fits = (read.fits, tt);
+    fits = (read.fits, small);
     ends = ((((tt, (tt, tt)), tt), tt), all);
   };
   bitmap = subst IsBitmap (takes.parts ∙ ap (λ o. types ++ o) all ∙ append-nil types) bitmap;

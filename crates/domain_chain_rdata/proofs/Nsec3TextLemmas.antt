@@ -12,7 +12,7 @@ use Rattle.domain_bitmap.specs.HashScan.{CountedFault, BeginsWithDash, SaltToken
 use Rattle.domain_bitmap.specs.HashText.{SaltText, dash, digits}
 use Rattle.domain_bitmap.specs.Scan.{is_among, RefusesTypes}
 use Rattle.domain_fields.specs.Layout.{one, Fits}
-use Rattle.domain_fields.specs.Field.{counted}
+use Rattle.domain_fields.specs.Field.{counted, rest}
 use Rattle.domain_fields.specs.Scan.{Scans, Refuses}
 use Rattle.domain_fields.specs.Sequence.{OneToken}
 use Rattle.domain_fields.proofs.GrammarLemmas.{ReadsOnce, Excludes, Any, fields_once, fields_refused, one_token, token_refused, both_once, both_refused, decodes_once, codec_excludes}
@@ -90,11 +90,11 @@ bitmap_once = record {
   left = λ old m n v w x y. x.all ∙ sym y.all;
 }
 
-bitmap_refused : Excludes Any BitmapText (RefusesTypes None)
+bitmap_refused : Excludes (Fits (one rest)) BitmapText (RefusesTypes None)
 bitmap_refused = λ old new after v fault any why is known. types_refused old new is.types fault why is.spelled known
 
 pub nsec3_once : ReadsOnce Nsec3Text
 nsec3_once = both_once HashText BitmapText hashes_once bitmap_once
 
 pub nsec3_refused : Excludes (Fits nsec3) Nsec3Text (RefusesNsec3 None)
-nsec3_refused = both_refused (Fits hash_fields) Any HashText BitmapText (RefusesHash None) (RefusesTypes None) hashes_once hashes_refused bitmap_refused
+nsec3_refused = both_refused (Fits hash_fields) (Fits (one rest)) HashText BitmapText (RefusesHash None) (RefusesTypes None) hashes_once hashes_refused bitmap_refused

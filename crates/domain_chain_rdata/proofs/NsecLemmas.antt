@@ -1,26 +1,28 @@
 -- NSEC data on the wire: how they are read
-use Rattle.std.proofs.Common.{◌≡◌, ℕ, List, [], ◌++◌, refl, sym, ap, subst, ◌∙◌}
+use Rattle.std.proofs.Common.{◌≡◌, ℕ, true, List, [], ◌++◌, refl, sym, ap, subst, ◌∙◌}
 use Rattle.domain_base.specs.Name.{wire_of}
 use Rattle.domain_base.specs.Fault.{Fault}
 use Rattle.domain_octets.specs.Place.{Place, Takes}
+use Rattle.domain_octets.specs.Words.{AreOctets}
 use Rattle.domain_bitmap.specs.Blocks.{IsBitmap}
 use Rattle.domain_bitmap.specs.Fault.{BitmapFault}
 use Rattle.domain_bitmap.proofs.FaultLemmas.{no_bitmap_fault}
 use Rattle.std.proofs.lemmas.List.{append-nil, append_assoc}
 use Rattle.domain_fields.specs.Field.{spelled_name, rest}
-use Rattle.domain_fields.specs.Layout.{Layout, Values, one, ◌▸◌, Fits, Ends, Begins, FirstFault, in_first, ParsesBack, octets_of}
+use Rattle.domain_fields.specs.Layout.{Layout, Values, one, ◌▸◌, Fits, Ends, Begins, FirstFault, in_first, ParsesBack, octets_of, is_delimited}
 use Rattle.domain_fields.proofs.ExactLemmas.{parses_back}
+use Rattle.domain_fields.proofs.OrderLemmas.{same_data}
 use Rattle.domain_chain_rdata.specs.Rdata.{nsec}
 use Rattle.domain_chain_rdata.specs.NsecWire.{BeginsNsec, NsecFault, in_name, in_types, NsecParsesBack}
 
 -- a name was read, and then all that was left as a bitmap
 pub name_then_types : (old start between new : Place) (labels : List (List ℕ)) (types : List ℕ) → start ≡ old → Begins (one spelled_name) start.left labels between.left
-    → Takes types between new → new.left ≡ [] → IsBitmap between.left → BeginsNsec old.left (labels, types) new.left
+    → Takes types between new → new.left ≡ [] → IsBitmap between.left → AreOctets types → BeginsNsec old.left (labels, types) new.left
 unfolding octets_of
-name_then_types old start between new labels types from name takes all bitmap = record {
+name_then_types old start between new labels types from name takes all bitmap small = record {
   begins = record {
     parts = sym (ap (λ p. p.left) from) ∙ name.parts ∙ ap (λ o. wire_of labels ++ o) takes.parts ∙ sym (append_assoc (wire_of labels) types new.left);
-    fits = (name.fits, tt);
+    fits = (name.fits, small);
     ends = (tt, all);
   };
   bitmap = subst IsBitmap (takes.parts ∙ ap (λ o. types ++ o) all ∙ append-nil types) bitmap;
@@ -36,20 +38,16 @@ pub fields_excluded : (a : Layout) (v : Values (a ▸ one rest)) (fault : Fault)
 fields_excluded a v fault back found = back.no_fault fault (in_first a (one rest) (octets_of (a ▸ one rest) v) fault found)
 
 -- nor have the octets after them, if they are a bitmap
-pub types_excluded : (a : Layout) (v : Values (a ▸ one rest)) (fields : Values a) (types : List ℕ) (fault : Fault) → ParsesBack (a ▸ one rest) v → IsBitmap v.1
+pub types_excluded : (a : Layout) (v : Values (a ▸ one rest)) (fields : Values a) (types : List ℕ) (fault : Fault) → is_delimited a ≡ true → ParsesBack (a ▸ one rest) v → IsBitmap v.1
     → Begins a (octets_of (a ▸ one rest) v) fields types → BitmapFault types fault → ⊥
 unfolding octets_of
-types_excluded a v fields types fault back bitmap front why =
-    let same = back.alone (fields, types) [] (record {
-      parts = front.parts ∙ sym (append-nil (octets_of a fields ++ types));
-      fits = (front.fits, tt);
-      ends = (subst (λ (o : List ℕ). Ends a fields o) (sym (append-nil types)) front.ends, refl);
-    }) in
-    no_bitmap_fault types fault why (subst IsBitmap (sym (ap (λ (u : Values (a ▸ one rest)). u.1) same.0)) bitmap)
+types_excluded a v fields types fault told back bitmap front why =
+    let same = same_data a v.0 fields v.1 types told back.begins.fits.0 front.fits front.parts in
+    no_bitmap_fault types fault why (subst IsBitmap same.after bitmap)
 
 nsec_faultless : (v : Values nsec) → ParsesBack nsec v → IsBitmap v.1 → (fault : Fault) → NsecFault (octets_of nsec v) fault → ⊥
 nsec_faultless v back bitmap fault (in_name found) = fields_excluded (one spelled_name) v fault back found
-nsec_faultless v back bitmap fault (in_types labels types front why) = types_excluded (one spelled_name) v labels types fault back bitmap front why
+nsec_faultless v back bitmap fault (in_types labels types front why) = types_excluded (one spelled_name) v labels types fault refl back bitmap front why
 
 -- octets of a name and a bitmap are read as them alone
 pub nsec_back : (v : Values nsec) → Fits nsec v → IsBitmap v.1 → NsecParsesBack v

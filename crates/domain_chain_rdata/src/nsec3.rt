@@ -12,7 +12,7 @@ use crate::nsec3param::{HashNumbers, ParamFields, has_opt_out};
 use domain_base::{CanonicalOrd, Nsec3HashAlgorithm, Rtype};
 use domain_bitmap::{Nsec3Salt, OwnerHash, RtypeBitmap};
 use domain_fields::{Counted, Fields, MAX_RDLEN, Rest};
-use domain_octets::{AppendError, Octets, OctetsBuilder};
+use domain_octets::{AppendError, Octets, OctetsBuilder, laws};
 use domain_plain::{ComposeRecordData, RecordData};
 use std::cmp::Ordering;
 
@@ -181,10 +181,11 @@ impl<O: Octets> Nsec3<O> {
     {
         let salt = Counted::new(self.salt.as_slice());
         let next_owner = Counted::new(self.next_owner.as_slice());
-        (
-            ((self.numbers(), salt), next_owner),
-            Rest(self.types.as_slice()),
-        )
+        let types = self.types.as_slice();
+        laws::slices_hold_octets(salt.as_slice());
+        laws::slices_hold_octets(next_owner.as_slice());
+        laws::slices_hold_octets(types);
+        (((self.numbers(), salt), next_owner), Rest(types))
     }
 }
 

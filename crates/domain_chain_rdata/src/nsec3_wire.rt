@@ -11,7 +11,7 @@ use crate::{Nsec3, Nsec3param};
 use domain_base::Rtype;
 use domain_bitmap::{OwnerHash, RtypeBitmap};
 use domain_fields::{Counted, ReadFields};
-use domain_octets::{ParseError, Parser};
+use domain_octets::{ParseError, Parser, laws};
 use domain_plain::ParseRecordData;
 
 /// The parameters and the hash that the octets begin with.
@@ -56,6 +56,7 @@ impl<'a> Nsec3<&'a [u8]> {
         };
         match RtypeBitmap::parse(&mut ahead) {
             Ok(types) => {
+                laws::slices_hold_octets(types.as_slice());
                 *parser = ahead;
                 Ok(Nsec3::of_params(params, next_owner, types))
             }

@@ -19,7 +19,7 @@ use domain_bitmap::Nsec3Salt;
 use domain_fields::{Counted, Fields, MAX_RDLEN, ReadFields, Rest};
 use domain_octets::{
     AppendError, CopyOctets, EmptyOctets, Octets, OctetsBuilder, OctetsFrom, OutOfMemory,
-    ParseError, Parser, TryClone,
+    ParseError, Parser, TryClone, laws,
 };
 use domain_plain::{CloneRecordData, ComposeRecordData, ParseRecordData, RecordData};
 use std::alloc::Global;
@@ -182,7 +182,9 @@ impl<O: Octets> Nsec3param<O> {
         ensures salt { result.1.octets.now ≡ self.now.salt }
         ensures fits { Fits nsec3param (nsec3param_values self.now) }
     {
-        (self.numbers(), Counted::new(self.salt.as_slice()))
+        let salt = self.salt.as_slice();
+        laws::slices_hold_octets(salt);
+        (self.numbers(), Counted::new(salt))
     }
 
     /// The numbers, and the octets of the salt.
@@ -194,7 +196,9 @@ impl<O: Octets> Nsec3param<O> {
         ensures salt { result.1.0.now ≡ self.now.salt }
         ensures fits { Fits uncounted (nsec3param_values self.now) }
     {
-        (self.numbers(), Rest(self.salt.as_slice()))
+        let salt = self.salt.as_slice();
+        laws::slices_hold_octets(salt);
+        (self.numbers(), Rest(salt))
     }
 }
 

@@ -14,6 +14,7 @@ ghost use Rattle.domain_chain_rdata.specs.Rdata.{nsec_values};
 use crate::Nsec;
 use domain_base::ToName;
 use domain_octets::Octets;
+use domain_octets::laws::slices_hold_octets;
 
 /// The octets of NSEC data are read as this name and this type bitmap, in no other way, and nothing
 /// is left.
@@ -21,7 +22,7 @@ pub fn nsec_parses_back<O: Octets, N: ToName>(value: &Nsec<O, N>)
     ensures { NsecParsesBack (nsec_values N.labels value.now) }
 {
     let _next_name = value.next_name().as_wire();
-    let _types = value.types().as_slice();
+    slices_hold_octets(value.types().as_slice());
 }
 
 /// The words of what NSEC data are written as spell the same name and the same types. They spell

@@ -11,7 +11,7 @@ use crate::Nsec;
 use domain_base::{ParsedName, Rtype};
 use domain_bitmap::RtypeBitmap;
 use domain_fields::{ReadFields, Spelled};
-use domain_octets::{ParseError, Parser};
+use domain_octets::{ParseError, Parser, laws};
 use domain_plain::ParseRecordData;
 
 /// The name that the octets begin with.
@@ -53,6 +53,7 @@ impl<'a> Nsec<&'a [u8], ParsedName<'a>> {
         };
         match RtypeBitmap::parse(&mut ahead) {
             Ok(types) => {
+                laws::slices_hold_octets(types.as_slice());
                 *parser = ahead;
                 Ok(Nsec::new(next_name, types))
             }

@@ -44,7 +44,7 @@ field_excludes f octets fault (no_spelled_name o d h) v r fits ends e = no_name_
 field_excludes f octets fault no_count v r fits ends e = cc
 field_excludes f octets fault (cut_counted count tail cut) v r fits ends e =
     let n : count ≡ length v = cc in omega (arith, cut, ap length e, length-append v r)
-field_excludes f octets fault (cut_exactly count o d cut) v r fits ends e = omega (arith, cut.short, ap length e, length-append v r, fits)
+field_excludes f octets fault (cut_exactly count o d cut) v r fits ends e = omega (arith, cut.short, ap length e, length-append v r, fits.0)
 field_excludes f octets fault (too_long limit o d h) v r fits ends e = omega (arith, h.long, ends, ap length e)
 
 -- data of which one can tell where they end

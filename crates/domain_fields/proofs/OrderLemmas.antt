@@ -60,7 +60,7 @@ same_field long v w r s d fv fw e =
 same_field name v w r s d fv fw e = let x : IsName v = fv in let y : IsName w = fw in same_name v w r s x.of_labels y.of_labels e
 same_field spelled_name v w r s d fv fw e = let x : IsName v = fv in let y : IsName w = fw in same_name v w r s x.of_labels y.of_labels e
 same_field counted v w r s d fv fw e = same_counted v w r s e
-same_field (exactly count) v w r s d fv fw e = let as_long : length v ≡ length w = fv ∙ sym fw in same_front v w r s as_long e
+same_field (exactly count) v w r s d fv fw e = let as_long : length v ≡ length w = fv.0 ∙ sym fw.0 in same_front v w r s as_long e
 same_field (at_most limit) v w r s d fv fw e = record { values = refl; after = e }
 same_field rest v w r s d fv fw e = absurd (cc)
 

@@ -23,7 +23,7 @@ field_excludes long text v fault why is known = why.none v is
 field_excludes name text v fault why is known = name_excludes text v fault why is known
 field_excludes spelled_name text v fault why is known = name_excludes text v fault why is known
 field_excludes counted text v fault why is known = is
-field_excludes (exactly count) text v fault why is known = why.none v is
+field_excludes (exactly count) text v fault why is known = why.none v is.0
 field_excludes (at_most limit) text v fault why is known = is
 field_excludes rest text v fault why is known = is
 
@@ -67,7 +67,7 @@ field_once long text v w x y = x.value ∙ sym y.value
 field_once name text v w x y = one_name text v w x y
 field_once spelled_name text v w x y = one_name text v w x y
 field_once counted text v w x y = absurd x
-field_once (exactly count) text v w x y = one_address text v w x y
+field_once (exactly count) text v w x y = one_address text v w x.0 y.0
 field_once (at_most limit) text v w x y = absurd x
 field_once rest text v w x y = absurd x
 

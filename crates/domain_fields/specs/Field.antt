@@ -1,7 +1,7 @@
 -- the kinds of fields of data on the wire
 use Rattle.std.specs.Prelude.{◌≡◌, ℕ, ◌<◌, ◌≤◌, ◌^◌, [], ◌∷◌, length, codes}
 use Rattle.std.specs.Int.{w16, w32, to_be_bytes}
-use Rattle.domain_octets.specs.Words.{Octets}
+use Rattle.domain_octets.specs.Words.{Octets, AreOctets}
 use Rattle.domain_base.specs.Name.{wire_of, lowered, IsName}
 use Rattle.domain_base.specs.Fault.{Fault, ends_early, malformed, NameFault}
 use Rattle.domain_base.specs.Words.{Name}
@@ -53,10 +53,10 @@ FieldFits short n = n < 2 ^ 16
 FieldFits long n = n < 2 ^ 32
 FieldFits name labels = IsName labels
 FieldFits spelled_name labels = IsName labels
-FieldFits counted octets = length octets < 2 ^ 8
-FieldFits (exactly count) octets = length octets ≡ count
+FieldFits counted octets = (length octets < 2 ^ 8) × AreOctets octets
+FieldFits (exactly count) octets = (length octets ≡ count) × AreOctets octets
 FieldFits (at_most limit) v = Unit {0}
-FieldFits rest octets = Unit {0}
+FieldFits rest octets = AreOctets octets
 
 -- what may stand after the field
 abbrev pub FieldEnds : Field → Octets → Type 0

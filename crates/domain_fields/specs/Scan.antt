@@ -1,5 +1,5 @@
 -- record data as tokens: fields in their order, each as one token
-use Rattle.std.specs.Prelude.{◌≡◌, ◌⊎◌, ℕ, codes, Option}
+use Rattle.std.specs.Prelude.{◌≡◌, ◌⊎◌, ℕ, codes, length, Option}
 use Rattle.std.specs.Net.Grammar.{IsDotted}
 use Rattle.domain_octets.specs.Words.{Octets}
 use Rattle.domain_base.specs.Text.{NameText}
@@ -16,7 +16,7 @@ FieldText long text n = IsNumber 32 text n
 FieldText name text labels = NameText text labels
 FieldText spelled_name text labels = NameText text labels
 FieldText counted text v = ⊥
-FieldText (exactly count) text octets = IsDotted text octets
+FieldText (exactly count) text octets = IsDotted text octets × (length octets ≡ count)
 FieldText (at_most limit) text v = ⊥
 FieldText rest text v = ⊥
 

@@ -4,7 +4,7 @@ ghost use Rattle.domain_fields.specs.Field.{counted};
 ghost use Rattle.domain_fields.specs.Layout.{one};
 
 use crate::fields::{Delimited, Fields, Rest};
-use domain_octets::{AppendError, OctetsBuilder};
+use domain_octets::{AppendError, OctetsBuilder, laws};
 use std::cmp::Ordering;
 use std::hash::Hasher;
 
@@ -82,6 +82,7 @@ impl<'a> Fields for Counted<'a> {
 
     fn fits(&self) {
         self.parts().0.fits();
+        laws::slices_hold_octets(self.octets);
     }
 }
 

@@ -12,7 +12,7 @@ ghost use Rattle.domain_fields.specs.Laws.{both_true};
 ghost use Rattle.domain_fields.specs.Target.{Appends};
 
 use domain_base::{ParsedName, ToName};
-use domain_octets::{AppendError, OctetsBuilder};
+use domain_octets::{AppendError, OctetsBuilder, laws};
 use std::cmp::Ordering;
 use std::hash::Hasher;
 
@@ -203,6 +203,7 @@ impl<const COUNT: usize> Octeted for Exactly<COUNT> {
     ghost keeps = { λ v. refl };
 
     fn octets<'o>(&'o self, _buffer: &'o mut [u8; 4]) -> &'o [u8] {
+        laws::slices_hold_octets(&self.0);
         &self.0
     }
 }
@@ -227,6 +228,7 @@ impl<'a> Octeted for Rest<'a> {
     ghost keeps = { λ v. refl };
 
     fn octets<'o>(&'o self, _buffer: &'o mut [u8; 4]) -> &'o [u8] {
+        laws::slices_hold_octets(self.0);
         self.0
     }
 }

@@ -8,7 +8,7 @@ use crate::WireFault;
 use crate::counted::Counted;
 use crate::fields::{AtMost, Exactly, Rest, Spelled};
 use domain_base::ParsedName;
-use domain_octets::Parser;
+use domain_octets::{Parser, laws};
 
 /// Fields that are read from octets, in the order of the wire.
 pub trait ReadFields<'a>: Drop {
@@ -103,6 +103,7 @@ impl<'a, const COUNT: usize> ReadFields<'a> for Exactly<COUNT> {
     fn read(parser: &mut Parser<'a>) -> Result<Exactly<COUNT>, WireFault> {
         match parser.parse_octets(COUNT) {
             Ok(octets) => {
+                laws::slices_hold_octets(octets);
                 let mut array = [0; COUNT];
                 array.copy_from_slice(octets);
                 Ok(Exactly(array))
@@ -125,6 +126,7 @@ impl<'a> ReadFields<'a> for Counted<'a> {
         };
         match ahead.parse_octets(usize::from(count)) {
             Ok(octets) => {
+                laws::slices_hold_octets(octets);
                 *parser = ahead;
                 Ok(Counted::new(octets))
             }
@@ -155,6 +157,7 @@ impl<'a> ReadFields<'a> for Rest<'a> {
     #[tactic(auto, using(crate::proofs::ReadLemmas::reading), unfolding(crate::specs::Layout::octets_of))]
     fn read(parser: &mut Parser<'a>) -> Result<Rest<'a>, WireFault> {
         let octets = parser.peek_all();
+        laws::slices_hold_octets(octets);
         parser.advance(octets.len());
         Ok(Rest(octets))
     }

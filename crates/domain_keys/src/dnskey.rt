@@ -21,7 +21,7 @@ use domain_base::{CanonicalOrd, Rtype, SecurityAlgorithm};
 use domain_fields::{AtMost, Fields, MAX_RDLEN, ReadFields, Rest};
 use domain_octets::{
     AppendError, CopyOctets, Octets, OctetsBuilder, OctetsFrom, OutOfMemory, ParseError, Parser,
-    TryClone,
+    TryClone, laws,
 };
 use domain_plain::{
     CloneRecordData, ComposeRecordData, LongRecordData, ParseRecordData, RecordData,
@@ -238,7 +238,9 @@ impl<O: Octets> Dnskey<O> {
         ensures fits { Fits dnskey (dnskey_values self.now) }
         ensures limit { length self.now.public_key ≤ 65531 }
     {
-        let key = (AtMost, Rest(self.public_key.as_slice()));
+        let octets = self.public_key.as_slice();
+        laws::slices_hold_octets(octets);
+        let key = (AtMost, Rest(octets));
         (
             self.flags(),
             (self.protocol(), (self.algorithm.to_int(), key)),

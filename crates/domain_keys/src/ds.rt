@@ -18,7 +18,7 @@ use domain_base::{CanonicalOrd, DigestAlgorithm, Rtype, SecurityAlgorithm};
 use domain_fields::{AtMost, Fields, MAX_RDLEN, ReadFields, Rest};
 use domain_octets::{
     AppendError, CopyOctets, Octets, OctetsBuilder, OctetsFrom, OutOfMemory, ParseError, Parser,
-    TryClone,
+    TryClone, laws,
 };
 use domain_plain::{
     CloneRecordData, ComposeRecordData, LongRecordData, ParseRecordData, RecordData,
@@ -174,7 +174,9 @@ impl<O: Octets> Ds<O> {
         ensures fits { Fits ds (ds_values self.now) }
         ensures limit { length self.now.digest ≤ 65531 }
     {
-        let digest = (AtMost, Rest(self.digest.as_slice()));
+        let octets = self.digest.as_slice();
+        laws::slices_hold_octets(octets);
+        let digest = (AtMost, Rest(octets));
         (
             self.key_tag(),
             (self.algorithm.to_int(), (self.digest_type.to_int(), digest)),

@@ -1,2 +1,3 @@
 pub mod GenericLemmas
 pub mod ReadBackLemmas
+pub mod WireLemmas

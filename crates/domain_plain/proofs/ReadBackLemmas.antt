@@ -46,7 +46,7 @@ four_back : (w x y z : ℕ) → w < 256 → x < 256 → y < 256 → z < 256 → 
 four_back w x y z w_small x_small y_small z_small = record {
   token = dotted_text w x y z;
   first = one_word (dotted_text w x y z) (dotted_word w x y z w_small x_small y_small z_small);
-  holds = record { a = w; b = x; c = y; d = z; fit = (w_small, x_small, y_small, z_small); value = refl; spelled = refl };
+  holds = (record { a = w; b = x; c = y; d = z; fit = (w_small, x_small, y_small, z_small); value = refl; spelled = refl }, refl);
 }
 
 pub a_back : (octets : List ℕ) → length octets ≡ 4 → slice_index octets 0 < 256 → slice_index octets 1 < 256 → slice_index octets 2 < 256 → slice_index octets 3 < 256 → Scans a (words_of (ipv4_text octets)) octets []

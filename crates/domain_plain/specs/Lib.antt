@@ -1,4 +1,5 @@
 pub mod Record
+pub mod Unknown
 pub mod Plain
 pub mod RecordLends
 pub mod RecordText

@@ -7,7 +7,7 @@ use Rattle.domain_plain.specs.declared.a.A.{A}
 use Rattle.domain_plain.specs.declared.ns.Ns.{Ns}
 use Rattle.domain_plain.specs.declared.soa.Soa.{Soa}
 use Rattle.domain_plain.specs.declared.mx.Mx.{Mx}
-use Rattle.domain_plain.specs.declared.unknown.UnknownRecordData.{UnknownRecordData}
+use Rattle.domain_plain.specs.Unknown.{UnknownData}
 use Rattle.domain_base.specs.Words.{Name}
 
 -- the address (RFC 1035, section 3.4.1)
@@ -44,5 +44,5 @@ mx_values labels d = (d.preference, labels d.exchange)
 abbrev pub unknown : Layout
 unknown = one (at_most 65535) ▸ one rest
 
-abbrev pub unknown_values : {O : Type 0} → (O → Octets) → UnknownRecordData O → Values unknown
+abbrev pub unknown_values : {O : Type 0} → (O → Octets) → UnknownData O → Values unknown
 unknown_values octets d = (tt, octets d.«data»)

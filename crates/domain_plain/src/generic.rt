@@ -41,3 +41,13 @@ impl<O: Octets> fmt::Display for UnknownRecordData<O> {
         base16::display(octets, f)
     }
 }
+
+/// The type and the octets.
+impl<O: Octets> fmt::Debug for UnknownRecordData<O> {
+    fn fmt<W: fmt::Write>(&self, f: &mut fmt::Formatter<W>) -> fmt::Result {
+        f.debug_struct("UnknownRecordData")
+            .field("rtype", &self.rtype())
+            .field("data", &self.data().as_slice())
+            .finish()
+    }
+}

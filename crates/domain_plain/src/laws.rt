@@ -16,14 +16,14 @@ ghost use Rattle.domain_base.specs.Words.{Tokens};
 
 use crate::{A, Mx, Ns, Soa, UnknownRecordData};
 use domain_base::ToName;
-use domain_octets::Octets;
+use domain_octets::{Octets, laws};
 
 /// The octets that an address is composed to parse back to it, and nothing is left.
-#[tactic(auto, using(domain_fields::proofs::ExactLemmas::parses_back))]
+#[tactic(auto, using(crate::proofs::WireLemmas::address_back))]
 pub fn a_parses_back(value: &A)
     ensures { ParsesBack a (a_values value.now) }
 {
-    let _octets = value.addr().octets();
+    laws::slices_hold_octets(&value.addr().octets());
 }
 
 /// So does a name server.
@@ -58,12 +58,12 @@ pub fn mx_parses_back<N: ToName>(value: &Mx<N>)
     let _exchange = value.exchange().as_wire();
 }
 
-/// So does data of any type that fits into a record.
+/// So does data of any type.
+#[tactic(auto, using(crate::proofs::WireLemmas::short_data_back))]
 pub fn unknown_data_parses_back<O: Octets>(value: &UnknownRecordData<O>)
-    requires { length (O.octets value.now.«data») ≤ 65535 }
     ensures { ParsesBack unknown (unknown_values O.octets value.now) }
 {
-    let _octets = value.data().as_slice();
+    laws::slices_hold_octets(value.data().as_slice());
 }
 
 /// Over octets that grow, tokens that are refused as the generic form but for want of memory spell

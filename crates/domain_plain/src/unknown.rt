@@ -1,5 +1,6 @@
 //! Data of types that are not known.
-ghost use Rattle.std.specs.Prelude.{◌≡◌, ◌≤◌, ◌↔◌, length, IsOk, IfOk, IfErr, OnOk, OnErr, []};
+ghost use Rattle.std.specs.Prelude.{◌≡◌, ◌≤◌, ◌↔◌, length, IsOk, IsNone, IfOk, IfErr, OnOk, OnErr, []};
+ghost use Rattle.domain_octets.specs.Limit.{IsOver};
 ghost use Rattle.std.specs.Ordering.{on, nat_cmp};
 ghost use Rattle.std.specs.Cmp.Lexicographic.{slice_cmp, on_texts};
 ghost use Rattle.domain_base.specs.Fault.{fault_of};
@@ -14,17 +15,29 @@ use crate::{CloneRecordData, ComposeRecordData, LongRecordData, ParseRecordData,
 use domain_base::{CanonicalOrd, FromToken, Rtype, ScanError, Scanner};
 use domain_fields::{AtMost, Fields, MAX_RDLEN, ReadFields, Rest};
 use domain_octets::{
-    AppendError, Codec, FlattenInto, FromBuilder, Octets, OctetsBuilder, OctetsFrom, OutOfMemory,
-    ParseError, Parser, TryClone,
+    AppendError, Codec, CopyOctets, FlattenInto, FromBuilder, Octets, OctetsBuilder, OctetsFrom,
+    OutOfMemory, ParseError, Parser, TryClone,
 };
 use std::alloc::Global;
 use std::cmp::Ordering;
+use std::marker::Model;
 
-/// Data of any type, as octets (RFC 3597).
-#[derive(Debug, Drop)]
-pub struct UnknownRecordData<O> {
+/// Data of any type, as at most 65,535 octets (RFC 3597).
+#[derive(Drop)]
+pub struct UnknownRecordData<O: Octets> {
     rtype: Rtype,
     data: O,
+}
+
+impl<O: Octets> Model for UnknownRecordData<O> {
+    ghost use Rattle.std.specs.Prelude.{◌≤◌, length};
+    ghost use Rattle.domain_plain.specs.Unknown.{UnknownData};
+
+    ghost Value = { UnknownData O };
+
+    ghost view = { λ d. record { rtype = d.rtype; «data» = d.«data» } };
+
+    ghost invariant = { λ d. length (O.octets d.«data») ≤ 65535 };
 }
 
 impl<O: Octets> UnknownRecordData<O> {
@@ -52,9 +65,10 @@ impl<O: Octets> UnknownRecordData<O> {
         self.rtype
     }
 
-    /// The octets of the data.
+    /// The octets of the data, of which there are at most 65,535.
     pub fn data(&self) -> &O
-        ensures { result.now ≡ self.now.«data» }
+        ensures octets { result.now ≡ self.now.«data» }
+        ensures fits { length (O.octets self.now.«data») ≤ 65535 }
     {
         &self.data
     }
@@ -87,8 +101,8 @@ impl<O: FromBuilder> UnknownRecordData<O> {
     /// `EndOfEntry` where the mark or the number is missing; `Custom("illegal data")` for another
     /// token in place of the mark; `Custom("decimal number expected")` for what is no number of at
     /// most 65,535; `Custom("illegal data")` for what is no Base 16; `ShortBuf` and `OutOfMemory`
-    /// where the octets have no room or no memory; and `Custom("illegal data")` where they have,
-    /// but are another number of octets. A refusal leaves an end of the tokens.
+    /// where the octets have no room or no memory; and `Custom("illegal data")` where they have, but
+    /// are another number of octets. A refusal leaves an end of the tokens.
     #[tactic(auto, using(crate::proofs::GenericLemmas::generic))]
     pub fn scan<S: Scanner<Octets = O>>(
         alloc: Global,
@@ -169,37 +183,32 @@ impl<O: Octets> CloneRecordData for UnknownRecordData<O> {
         same_values_tie unknown (unknown_values O.octets) d copy (λ i. (tt, same.1 i)) };
 }
 
-impl<P, O: OctetsFrom<P>> OctetsFrom<UnknownRecordData<P>> for UnknownRecordData<O> {
+impl<S: Octets + Drop, O: CopyOctets> OctetsFrom<UnknownRecordData<S>> for UnknownRecordData<O> {
     ghost is_same = { λ source made. (made.rtype ≡ source.rtype)
-        × O.is_same source.«data» made.«data» };
+        × (O.octets made.«data» ≡ S.octets source.«data») };
 
-    ghost has_no_room = { λ source. O.has_no_room source.«data» };
+    ghost has_no_room = { λ source. IsOver O.capacity (length (S.octets source.«data»)) };
 
-    ghost takes_memory = { O.takes_memory };
+    ghost takes_memory = { IsNone O.capacity };
 
-    fn try_octets_from(alloc: Global, source: UnknownRecordData<P>) -> Result<Self, AppendError> {
-        let UnknownRecordData { rtype, data } = source;
+    fn try_octets_from(alloc: Global, source: UnknownRecordData<S>) -> Result<Self, AppendError> {
         Ok(UnknownRecordData {
-            rtype,
-            data: O::try_octets_from(alloc, data)?,
+            rtype: source.rtype,
+            data: O::copy_octets(alloc, source.data.as_slice())?,
         })
     }
 }
 
-impl<O, P: OctetsFrom<O>> FlattenInto<UnknownRecordData<P>> for UnknownRecordData<O> {
+impl<O: Octets + Drop, P: CopyOctets> FlattenInto<UnknownRecordData<P>> for UnknownRecordData<O> {
     ghost is_same = { λ source made. (made.rtype ≡ source.rtype)
-        × P.is_same source.«data» made.«data» };
+        × (P.octets made.«data» ≡ O.octets source.«data») };
 
-    ghost has_no_room = { λ source. P.has_no_room source.«data» };
+    ghost has_no_room = { λ source. IsOver P.capacity (length (O.octets source.«data»)) };
 
-    ghost takes_memory = { P.takes_memory };
+    ghost takes_memory = { IsNone P.capacity };
 
     fn try_flatten_into(self, alloc: Global) -> Result<UnknownRecordData<P>, AppendError> {
-        let UnknownRecordData { rtype, data } = self;
-        Ok(UnknownRecordData {
-            rtype,
-            data: P::try_octets_from(alloc, data)?,
-        })
+        UnknownRecordData::<P>::try_octets_from(alloc, self)
     }
 }
 

@@ -21,7 +21,7 @@ use Rattle.domain_plain.specs.Plain.{ns, soa, soa_values}
 use Rattle.domain_plain.specs.Soa.{soa_text}
 use Rattle.domain_plain.specs.declared.ns.Ns.{Ns as NsData}
 use Rattle.domain_plain.specs.declared.soa.Soa.{Soa as SoaData}
-use Rattle.domain_plain.specs.declared.unknown.UnknownRecordData.{UnknownRecordData as UnknownData}
+use Rattle.domain_plain.specs.Unknown.{UnknownData}
 use Rattle.domain_plain.proofs.ReadBackLemmas.{generic_back}
 use Rattle.domain_rrsig.specs.Data.{RrsigData}
 use Rattle.domain_rrsig.specs.Scan.{RrsigText}

@@ -11,7 +11,7 @@ use Rattle.domain_plain.specs.Plain.{ns, ns_values, soa, soa_values, mx, mx_valu
 use Rattle.domain_plain.specs.declared.ns.Ns as names
 use Rattle.domain_plain.specs.declared.soa.Soa as starts
 use Rattle.domain_plain.specs.declared.mx.Mx as exchanges
-use Rattle.domain_plain.specs.declared.unknown.UnknownRecordData as unknowns
+use Rattle.domain_plain.specs.Unknown.{UnknownData}
 use Rattle.domain_chain_rdata.specs.declared.nsec.Nsec as chains
 use Rattle.domain_chain_rdata.specs.Rdata.{nsec, nsec_values}
 use Rattle.domain_rdata.specs.Zone.{rtype_of, canonical_octets, data_cmp, data_cmp_total}
@@ -37,7 +37,7 @@ IsZoneClone {O} {N} octets labels (Nsec d) copy =
 IsZoneClone octets labels (Nsec3 d) copy = copy ≡ Nsec3 d
 IsZoneClone octets labels (Nsec3param d) copy = copy ≡ Nsec3param d
 IsZoneClone {O} {N} octets labels (Unknown d) copy =
-    (c : unknowns.UnknownRecordData O) × (copy ≡ Unknown c) × (c.rtype ≡ d.rtype)
+    (c : UnknownData O) × (copy ≡ Unknown c) × (c.rtype ≡ d.rtype)
     × (unknown_values octets c ≡ unknown_values octets d)
 
 module _ {O N : Type 0} (octets : O → Octets) (labels : N → Name) where

@@ -30,11 +30,11 @@ canonical_of_lowered : (d : RrsigData) → rrsig_canonical d ≡ octets_of group
 unfolding octets_of
 canonical_of_lowered d = refl
 
-lowered_fit : (d : RrsigData) → Fits proto_rrsig (proto_rrsig_values d.fields) → Fits grouped (lowered_values d)
-lowered_fit d fits = (numbers_fit d.fields fits, (IsName-lowered d.fields.signer_name fits.1.1.1, tt))
+lowered_fit : (d : RrsigData) → Fits rrsig (rrsig_values d) → Fits grouped (lowered_values d)
+lowered_fit d fits = (numbers_fit d.fields fits.1.0, (IsName-lowered d.fields.signer_name fits.1.0.1.1.1, fits.1.1))
 
 -- equal octets are of the same signature
-pub same_rrsig : (a b : RrsigData) (r : Bool) → Fits proto_rrsig (proto_rrsig_values a.fields) → Fits proto_rrsig (proto_rrsig_values b.fields) → r ≡ bytes_eq (rrsig_canonical a) (rrsig_canonical b)
+pub same_rrsig : (a b : RrsigData) (r : Bool) → Fits rrsig (rrsig_values a) → Fits rrsig (rrsig_values b) → r ≡ bytes_eq (rrsig_canonical a) (rrsig_canonical b)
     → IsTrue r ↔ IsSameRrsig a b
 same_rrsig a b r fits_a fits_b is = (
   λ yes.

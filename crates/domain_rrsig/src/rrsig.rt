@@ -17,7 +17,7 @@ use crate::{ProtoRrsig, Timestamp};
 use domain_base::{CanonicalOrd, ParsedName, Rtype, SecurityAlgorithm, ToName, Ttl};
 use domain_fields::{AtMost, Fields, MAX_RDLEN, ReadFields, Rest};
 use domain_octets::{
-    AppendError, Octets, OctetsBuilder, OutOfMemory, ParseError, Parser, TryClone,
+    AppendError, Octets, OctetsBuilder, OutOfMemory, ParseError, Parser, TryClone, laws,
 };
 use domain_plain::{
     CloneRecordData, ComposeRecordData, LongRecordData, ParseRecordData, RecordData,
@@ -268,10 +268,9 @@ impl<O: Octets, N: ToName> Rrsig<O, N> {
         ensures fits { Fits rrsig (rrsig_values self.now) }
         ensures limit { length (rrsig_octets self.now) ≤ 65535 }
     {
-        (
-            AtMost,
-            (self.fields.fields(), Rest(self.signature.as_slice())),
-        )
+        let signature = self.signature.as_slice();
+        laws::slices_hold_octets(signature);
+        (AtMost, (self.fields.fields(), Rest(signature)))
     }
 }
 

@@ -1,5 +1,6 @@
 use Rattle.std.proofs.Common.{subst, ◌∙◌, ap}
 use Rattle.domain_base.specs.Name.{IsName}
+use Rattle.domain_octets.specs.Words.{AreOctets}
 use Rattle.domain_bitmap.specs.Blocks.{IsBitmap}
 use Rattle.domain_fields.proofs.NameLemmas.{name_fits}
 use Rattle.domain_chain_rdata.proofs.NsecLemmas.{nsec_back}
@@ -10,4 +11,4 @@ pub returns : goal.returns
 returns g c =
     let wire = c.as_wire-next_name in
     let named : IsName (g.N.ToName.labels c.args.value.now.next_name) = subst IsName (wire.ensures.labels ∙ ap g.N.ToName.labels c.next_name.ensures) (name_fits wire.result.now wire.ensures.wire) in
-    nsec_back (nsec_values g.N.ToName.labels c.args.value.now) (named, tt) (subst IsBitmap c.types.ensures c.as_slice-types.ensures.blocks)
+    nsec_back (nsec_values g.N.ToName.labels c.args.value.now) (named, subst AreOctets (c.as_slice.ensures.octets ∙ c.types.ensures) c.slices_hold_octets.ensures) (subst IsBitmap c.types.ensures c.as_slice.ensures.blocks)

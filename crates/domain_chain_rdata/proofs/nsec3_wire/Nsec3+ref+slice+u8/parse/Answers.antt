@@ -1,4 +1,5 @@
 use Rattle.std.proofs.Common.{refl, sym, subst}
+use Rattle.domain_octets.specs.Words.{AreOctets}
 use Rattle.domain_chain_rdata.specs.Nsec3Wire.{BeginsNsec3}
 use Rattle.domain_fields.specs.Layout.{Values}
 use Rattle.domain_chain_rdata.specs.Rdata.{hash_fields, nsec3param_values}
@@ -9,7 +10,7 @@ pub returns-in-Ok-parse-clause-ok : goal.returns-in-Ok-parse-clause-ok
 returns-in-Ok-parse-clause-ok c =
     let fields : Values hash_fields = (nsec3param_values c.in-Ok.hashed.0, c.in-Ok.hashed.1) in
     let read = fields_then_types c.args.parser.now c.fork-ahead.result c.parse_hash.new.parser c.parse.new.parser fields c.in-Ok-parse.types c.fork-ahead.ensures c.in-Ok.ensures.ok
-    c.in-Ok-parse.ensures.octets.0 c.in-Ok-parse.ensures.octets.1 (c.in-Ok-parse.ensures.ok.0 refl) in
+    c.in-Ok-parse.ensures.octets.0 c.in-Ok-parse.ensures.octets.1 (c.in-Ok-parse.ensures.ok.0 refl) (subst AreOctets c.as_slice.ensures.octets c.slices_hold_octets.ensures) in
     subst (λ v. BeginsNsec3 c.args.parser.now.left v c.parse.new.parser.left) (sym c.of_params.ensures) read
 
 pub returns-in-Err-parse-clause-err : goal.returns-in-Err-parse-clause-err

@@ -18,4 +18,4 @@ returns-clause-value g c = equal g c
 
 pub returns-clause-same : goal.returns-clause-same
 returns-clause-same g c =
-    same_rrsig c.args.self.now c.args.other.now c.is_eq.result c.fields.ensures.fits.1.0 c.fields-2.ensures.fits.1.0 (equal g c)
+    same_rrsig c.args.self.now c.args.other.now c.is_eq.result c.fields.ensures.fits c.fields-2.ensures.fits (equal g c)
