@@ -6,7 +6,7 @@ ghost use Rattle.denial.specs.declared.fault.DenialFault.TheVariants as denial_f
 
 use domain_dnssec::ChainError;
 use domain_octets::OutOfMemory;
-use domain_records::{Nsec3HashError, SigningError};
+use domain_records::SigningError;
 use std::alloc::{AllocError, AllocFailed};
 use std::fmt;
 
@@ -43,49 +43,6 @@ impl DenialFault {
     }
 }
 
-/// What the program says of hashes that could not be used.
-#[derive(Clone, Copy)]
-struct HashText(Nsec3HashError);
-
-impl fmt::Display for HashText {
-    ghost use Rattle.denial.specs.FaultText.{hash_text};
-
-    ghost output = { λ t. Some (hash_text t.0) };
-
-    fn fmt<W: fmt::Write>(&self, f: &mut fmt::Formatter<W>) -> fmt::Result {
-        match self.0 {
-            Nsec3HashError::Hasher(n) => write!(f, "hasher refused: {n}"),
-            Nsec3HashError::AppendError => f.write_str("signing fault"),
-            Nsec3HashError::OwnerHashError => f.write_str("hash of unusable length"),
-            Nsec3HashError::Nsec3NameTooLong => f.write_str("hashed owner name too long"),
-            Nsec3HashError::CollisionDetected => f.write_str("hash collision"),
-            Nsec3HashError::OutOfMemory => f.write_str("out of memory"),
-        }
-    }
-}
-
-/// What the program says of a chain that could not be made.
-#[derive(Clone, Copy)]
-struct SigningText(SigningError);
-
-impl fmt::Display for SigningText {
-    ghost use Rattle.denial.specs.FaultText.{signing_text};
-
-    ghost output = { λ t. Some (signing_text t.0) };
-
-    fn fmt<W: fmt::Write>(&self, f: &mut fmt::Formatter<W>) -> fmt::Result {
-        match self.0 {
-            SigningError::EmptyRecordSlice => f.write_str("signing fault"),
-            SigningError::MultipleTtlValues => f.write_str("RRset with more than one TTL"),
-            SigningError::SoaRecordCouldNotBeDetermined => {
-                f.write_str("no single SOA at the apex")
-            }
-            SigningError::Nsec3HashingError(error) => write!(f, "{}", HashText(error)),
-            SigningError::OutOfMemory => f.write_str("out of memory"),
-        }
-    }
-}
-
 impl fmt::Display for DenialFault {
     ghost use Rattle.denial.specs.FaultText.{fault_text};
 
@@ -97,7 +54,7 @@ impl fmt::Display for DenialFault {
             DenialFault::Read => f.write_str("denial: cannot read input"),
             DenialFault::Line(number) => write!(f, "denial: line {number}: bad record"),
             DenialFault::MixedClasses => f.write_str("denial: more than one class"),
-            DenialFault::Signing(error) => write!(f, "denial: {}", SigningText(error)),
+            DenialFault::Signing(error) => write!(f, "denial: {error}"),
             DenialFault::Param => f.write_str("denial: no single NSEC3PARAM at the apex"),
             DenialFault::Write => f.write_str("denial: cannot write output"),
             DenialFault::OutOfMemory => f.write_str("denial: out of memory"),

@@ -1,14 +1,26 @@
 -- What the errors of the library are to a program: their kind, without their texts.
+use Rattle.domain_base.specs.declared.error.NameError.{NameError}
+use Rattle.domain_base.specs.declared.error.NameError.TheVariants as name_error
 use Rattle.domain_base.specs.declared.error.ScanError.{ScanError}
 use Rattle.domain_base.specs.declared.error.ScanError.TheVariants as scan_error
+use Rattle.domain_bitmap.specs.declared.error.RtypeBitmapError.{RtypeBitmapError}
+use Rattle.domain_bitmap.specs.declared.error.RtypeBitmapError.TheVariants as bitmap_error
+use Rattle.domain_bitmap.specs.declared.salt_text.Nsec3SaltFromStrError.{Nsec3SaltFromStrError}
+use Rattle.domain_bitmap.specs.declared.salt_text.Nsec3SaltFromStrError.TheVariants as salt_error
+use Rattle.domain_octets.specs.declared.codec.DecodeError.{DecodeError}
+use Rattle.domain_octets.specs.declared.codec.DecodeError.TheVariants as decode_error
 use Rattle.domain_octets.specs.declared.error.AppendError.{AppendError}
 use Rattle.domain_octets.specs.declared.error.AppendError.TheVariants as append_error
 use Rattle.domain_octets.specs.declared.error.ParseError.{ParseError}
 use Rattle.domain_octets.specs.declared.error.ParseError.TheVariants as parse_error
+use Rattle.domain_records.specs.declared.error.InsertError.{InsertError}
+use Rattle.domain_records.specs.declared.error.InsertError.TheVariants as insert_error
 use Rattle.domain_records.specs.declared.error.Nsec3HashError.{Nsec3HashError}
 use Rattle.domain_records.specs.declared.error.Nsec3HashError.TheVariants as hash_error
 use Rattle.domain_records.specs.declared.error.SigningError.{SigningError}
 use Rattle.domain_records.specs.declared.error.SigningError.TheVariants as signing_error
+use Rattle.domain_zone.specs.declared.hasher.HasherError.{HasherError}
+use Rattle.domain_zone.specs.declared.hasher.HasherError.TheVariants as hasher_error
 use Rattle.domain_dnssec.specs.declared.chain.ChainError.{ChainError}
 use Rattle.domain_dnssec.specs.declared.chain.ChainError.TheVariants as chain_error
 use Rattle.domain_dnssec.specs.declared.error.Error.{Error}
@@ -54,3 +66,31 @@ abbrev pub of_chain : ChainError → Error
 of_chain chain_error.MixedClasses = variant.MixedClasses
 of_chain (chain_error.Signing error) = of_signing error
 of_chain chain_error.OutOfMemory = variant.OutOfMemory
+
+abbrev pub of_name : NameError → Error
+of_name name_error.ShortInput = variant.ShortInput
+of_name name_error.BadLabel = variant.Form
+of_name name_error.LongName = variant.Form
+
+abbrev pub of_bitmap : RtypeBitmapError → Error
+of_bitmap bitmap_error.ShortInput = variant.ShortInput
+of_bitmap bitmap_error.BadRtypeBitmap = variant.Form
+
+abbrev pub of_decoding : DecodeError → Error
+of_decoding (decode_error.IllegalChar c) = variant.Text
+of_decoding decode_error.ShortInput = variant.Text
+of_decoding decode_error.ShortBuf = variant.ShortBuf
+of_decoding decode_error.OutOfMemory = variant.OutOfMemory
+
+abbrev pub of_salt : Nsec3SaltFromStrError → Error
+of_salt (salt_error.DecodeError error) = of_decoding error
+of_salt (salt_error.Nsec3SaltError error) = variant.LongSalt
+
+abbrev pub of_hasher : HasherError → Error
+of_hasher (hasher_error.Refused n) =
+    variant.Signing (signing_error.Nsec3HashingError (hash_error.Hasher n))
+of_hasher hasher_error.OutOfMemory = variant.OutOfMemory
+
+abbrev pub of_insert : {N D : Type 0} → InsertError N D → Error
+of_insert (insert_error.Present r) = variant.Present
+of_insert (insert_error.OutOfMemory r) = variant.OutOfMemory

@@ -1,6 +1,7 @@
 pub mod AnyOrder
 pub mod AnyOrderNsec3
 pub mod Error
+pub mod ErrorText
 pub use Rattle.domain_zone.specs.Covering
 pub use Rattle.domain_zone.specs.Zone
 pub use Rattle.domain_zone.specs.Soa

@@ -1,17 +1,21 @@
 //! One error for programs that call several of these crates.
-ghost use Rattle.std.specs.Prelude.{◌≡◌};
-ghost use Rattle.domain_dnssec.specs.Error.{of_append, of_chain, of_hashing, of_parsing, of_scanning, of_signing};
+ghost use Rattle.std.specs.Prelude.{◌≡◌, Some};
+ghost use Rattle.domain_dnssec.specs.Error.{of_append, of_bitmap, of_chain, of_decoding, of_hasher, of_hashing, of_insert, of_name, of_parsing, of_salt, of_scanning, of_signing};
+ghost use Rattle.domain_dnssec.specs.ErrorText.{error_text};
 ghost use Rattle.domain_dnssec.specs.declared.error.Error.TheVariants as variant;
 
 use crate::ChainError;
-use domain_base::{ParseError, ScanError};
-use domain_octets::{AppendError, OutOfMemory};
+use domain_base::{NameError, ParseError, ScanError};
+use domain_bitmap::{Nsec3SaltError, Nsec3SaltFromStrError, OwnerHashError, RtypeBitmapError};
+use domain_octets::{AppendError, DecodeError, OutOfMemory};
 use domain_plain::LongRecordData;
-use domain_records::{Nsec3HashError, SigningError};
+use domain_records::{InsertError, Nsec3HashError, SigningError};
+use domain_rrsig::IllegalSignatureTime;
+use domain_zone::HasherError;
 use std::alloc::{AllocError, AllocFailed};
+use std::fmt;
 
-/// Why a program has no answer. The errors of names, tokens, octets, chains, hashing and memory
-/// turn into it, so that `?` is enough for these.
+/// Why a program has no answer. Every error of these crates turns into it, so that `?` is enough.
 ///
 /// It holds none of the texts of `ScanError` and `ParseError`: an error that holds a text cannot be
 /// passed on by `?` from a generic call, for which there is no proof then.
@@ -19,7 +23,7 @@ use std::alloc::{AllocError, AllocFailed};
 pub enum Error {
     /// There is no token where one is needed.
     EndOfEntry,
-    /// A text or a token is not of the form that is wanted.
+    /// A text or a token is not of the form that is wanted, or ends too early.
     Text,
     /// Octets end too early.
     ShortInput,
@@ -27,15 +31,47 @@ pub enum Error {
     Form,
     /// Data are over 65,535 octets.
     LongRecordData,
+    /// A salt is over 255 octets.
+    LongSalt,
+    /// A hash is over 255 octets.
+    LongHash,
     /// The records are of more than one class.
     MixedClasses,
     /// There is no chain, or a name is not hashed.
     Signing(SigningError),
+    /// A record was not put in: an equal one stands there.
+    Present,
+    /// A text was not written.
+    Write,
     /// Octets have no room.
     ShortBuf,
     /// There was no memory.
     OutOfMemory,
 }
+
+impl fmt::Display for Error {
+    ghost output = { λ e. Some (error_text e) };
+
+    fn fmt<W: fmt::Write>(&self, f: &mut fmt::Formatter<W>) -> fmt::Result {
+        match self {
+            Error::EndOfEntry => f.write_str("unexpected end of entry"),
+            Error::Text => f.write_str("illegal text"),
+            Error::ShortInput => f.write_str("unexpected end of input"),
+            Error::Form => f.write_str("malformed octets"),
+            Error::LongRecordData => f.write_str("record data too long"),
+            Error::LongSalt => f.write_str("illegal NSEC3 salt"),
+            Error::LongHash => f.write_str("illegal owner name hash"),
+            Error::MixedClasses => f.write_str("more than one class"),
+            Error::Signing(error) => write!(f, "{error}"),
+            Error::Present => f.write_str("record already present"),
+            Error::Write => f.write_str("cannot write"),
+            Error::ShortBuf => f.write_str("buffer size exceeded"),
+            Error::OutOfMemory => f.write_str("out of memory"),
+        }
+    }
+}
+
+impl std::error::Error for Error {}
 
 impl From<ScanError> for Error {
     ghost from_gives = { λ source e. e ≡ of_scanning source };
@@ -58,6 +94,75 @@ impl From<ParseError> for Error {
             ParseError::ShortInput => Error::ShortInput,
             ParseError::Form(_) => Error::Form,
         }
+    }
+}
+
+impl From<NameError> for Error {
+    ghost from_gives = { λ source e. e ≡ of_name source };
+
+    fn from(error: NameError) -> Error {
+        match error {
+            NameError::ShortInput => Error::ShortInput,
+            NameError::BadLabel | NameError::LongName => Error::Form,
+        }
+    }
+}
+
+impl From<RtypeBitmapError> for Error {
+    ghost from_gives = { λ source e. e ≡ of_bitmap source };
+
+    fn from(error: RtypeBitmapError) -> Error {
+        match error {
+            RtypeBitmapError::ShortInput => Error::ShortInput,
+            RtypeBitmapError::BadRtypeBitmap => Error::Form,
+        }
+    }
+}
+
+impl From<DecodeError> for Error {
+    ghost from_gives = { λ source e. e ≡ of_decoding source };
+
+    fn from(error: DecodeError) -> Error {
+        match error {
+            DecodeError::IllegalChar(_) | DecodeError::ShortInput => Error::Text,
+            DecodeError::ShortBuf => Error::ShortBuf,
+            DecodeError::OutOfMemory => Error::OutOfMemory,
+        }
+    }
+}
+
+impl From<Nsec3SaltError> for Error {
+    ghost from_gives = { λ _ e. e ≡ variant.LongSalt };
+
+    fn from(_error: Nsec3SaltError) -> Error {
+        Error::LongSalt
+    }
+}
+
+impl From<Nsec3SaltFromStrError> for Error {
+    ghost from_gives = { λ source e. e ≡ of_salt source };
+
+    fn from(error: Nsec3SaltFromStrError) -> Error {
+        match error {
+            Nsec3SaltFromStrError::DecodeError(error) => Error::from(error),
+            Nsec3SaltFromStrError::Nsec3SaltError(error) => Error::from(error),
+        }
+    }
+}
+
+impl From<OwnerHashError> for Error {
+    ghost from_gives = { λ _ e. e ≡ variant.LongHash };
+
+    fn from(_error: OwnerHashError) -> Error {
+        Error::LongHash
+    }
+}
+
+impl From<IllegalSignatureTime> for Error {
+    ghost from_gives = { λ _ e. e ≡ variant.Text };
+
+    fn from(_error: IllegalSignatureTime) -> Error {
+        Error::Text
     }
 }
 
@@ -102,6 +207,28 @@ impl From<Nsec3HashError> for Error {
     }
 }
 
+impl From<HasherError> for Error {
+    ghost from_gives = { λ source e. e ≡ of_hasher source };
+
+    fn from(error: HasherError) -> Error {
+        match error {
+            HasherError::Refused(n) => Error::from(Nsec3HashError::Hasher(n)),
+            HasherError::OutOfMemory => Error::OutOfMemory,
+        }
+    }
+}
+
+impl<N: Drop, D: Drop> From<InsertError<N, D>> for Error {
+    ghost from_gives = { λ source e. e ≡ of_insert source };
+
+    fn from(error: InsertError<N, D>) -> Error {
+        match error {
+            InsertError::Present(_) => Error::Present,
+            InsertError::OutOfMemory(_) => Error::OutOfMemory,
+        }
+    }
+}
+
 impl From<ChainError> for Error {
     ghost from_gives = { λ source e. e ≡ of_chain source };
 
@@ -111,6 +238,14 @@ impl From<ChainError> for Error {
             ChainError::Signing(error) => Error::from(error),
             ChainError::OutOfMemory => Error::OutOfMemory,
         }
+    }
+}
+
+impl From<fmt::Error> for Error {
+    ghost from_gives = { λ _ e. e ≡ variant.Write };
+
+    fn from(_error: fmt::Error) -> Error {
+        Error::Write
     }
 }
 

@@ -1,6 +1,6 @@
 //! Why octets were not appended or not read, and want of memory.
 ghost use Rattle.std.specs.Prelude.{◌≡◌, Some, codes};
-ghost use Rattle.domain_octets.specs.Texts.{parse_error_text};
+ghost use Rattle.domain_octets.specs.Texts.{append_error_text, parse_error_text};
 ghost use Rattle.domain_octets.specs.declared.error.AppendError.TheVariants as append_error;
 
 use std::alloc::{AllocError, AllocFailed};
@@ -41,6 +41,19 @@ pub enum AppendError {
     /// There was no memory.
     OutOfMemory,
 }
+
+impl fmt::Display for AppendError {
+    ghost output = { λ e. Some (append_error_text e) };
+
+    fn fmt<W: fmt::Write>(&self, f: &mut fmt::Formatter<W>) -> fmt::Result {
+        f.write_str(match self {
+            AppendError::ShortBuf => "buffer size exceeded",
+            AppendError::OutOfMemory => "out of memory",
+        })
+    }
+}
+
+impl Error for AppendError {}
 
 impl From<OutOfMemory> for AppendError {
     ghost from_gives = { λ _ e. e ≡ append_error.OutOfMemory };

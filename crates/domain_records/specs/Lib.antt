@@ -1,5 +1,6 @@
 pub mod Edits
 pub mod Errors
+pub mod ErrorText
 pub mod Groups
 pub mod Lookup
 pub mod Order

@@ -1,13 +1,16 @@
 //! Why records were not put in, signed or hashed.
-ghost use Rattle.std.specs.Prelude.{◌≡◌};
+ghost use Rattle.std.specs.Prelude.{◌≡◌, Some};
 ghost use Rattle.domain_records.specs.declared.error.SigningError.TheVariants as signing_error;
 ghost use Rattle.domain_records.specs.declared.error.Nsec3HashError.TheVariants as nsec3_hash_error;
 ghost use Rattle.domain_records.specs.Edits.{refused};
 ghost use Rattle.domain_records.specs.Errors.{signing_error_of};
+ghost use Rattle.domain_records.specs.ErrorText.{hash_error_text, signing_error_text, insert_error_text};
 
 use domain_octets::OutOfMemory;
 use domain_plain::Record;
 use std::alloc::{AllocError, AllocFailed};
+use std::error::Error;
+use std::fmt;
 
 /// Why a chain of hashed names was not made (RFC 5155, section 7.1).
 #[derive(Clone, Copy, Debug, PartialEq, Eq)]
@@ -26,6 +29,23 @@ pub enum Nsec3HashError {
     /// There was no memory.
     OutOfMemory,
 }
+
+impl fmt::Display for Nsec3HashError {
+    ghost output = { λ e. Some (hash_error_text e) };
+
+    fn fmt<W: fmt::Write>(&self, f: &mut fmt::Formatter<W>) -> fmt::Result {
+        match self {
+            Nsec3HashError::Hasher(n) => write!(f, "hasher refused: {n}"),
+            Nsec3HashError::AppendError => f.write_str("signing fault"),
+            Nsec3HashError::OwnerHashError => f.write_str("hash of unusable length"),
+            Nsec3HashError::Nsec3NameTooLong => f.write_str("hashed owner name too long"),
+            Nsec3HashError::CollisionDetected => f.write_str("hash collision"),
+            Nsec3HashError::OutOfMemory => f.write_str("out of memory"),
+        }
+    }
+}
+
+impl Error for Nsec3HashError {}
 
 impl From<OutOfMemory> for Nsec3HashError {
     ghost from_gives = { λ _ e. e ≡ nsec3_hash_error.OutOfMemory };
@@ -65,6 +85,24 @@ pub enum SigningError {
     /// There was no memory.
     OutOfMemory,
 }
+
+impl fmt::Display for SigningError {
+    ghost output = { λ e. Some (signing_error_text e) };
+
+    fn fmt<W: fmt::Write>(&self, f: &mut fmt::Formatter<W>) -> fmt::Result {
+        match self {
+            SigningError::EmptyRecordSlice => f.write_str("signing fault"),
+            SigningError::MultipleTtlValues => f.write_str("RRset with more than one TTL"),
+            SigningError::SoaRecordCouldNotBeDetermined => {
+                f.write_str("no single SOA at the apex")
+            }
+            SigningError::Nsec3HashingError(error) => write!(f, "{error}"),
+            SigningError::OutOfMemory => f.write_str("out of memory"),
+        }
+    }
+}
+
+impl Error for SigningError {}
 
 /// Want of memory stays what it is; every other refusal is one of hashing.
 impl From<Nsec3HashError> for SigningError {
@@ -120,5 +158,16 @@ impl<N, D> InsertError<N, D> {
             InsertError::Present(record) => record,
             InsertError::OutOfMemory(record) => record,
         }
+    }
+}
+
+impl<N, D> fmt::Display for InsertError<N, D> {
+    ghost output = { λ e. Some (insert_error_text e) };
+
+    fn fmt<W: fmt::Write>(&self, f: &mut fmt::Formatter<W>) -> fmt::Result {
+        f.write_str(match self {
+            InsertError::Present(_) => "record already present",
+            InsertError::OutOfMemory(_) => "out of memory",
+        })
     }
 }

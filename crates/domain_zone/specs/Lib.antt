@@ -1,4 +1,5 @@
 pub mod Covering
+pub mod HasherText
 pub mod Zone
 pub mod Soa
 pub mod Enclosers

@@ -3,6 +3,8 @@ ghost use Rattle.std.specs.Prelude.{◌≡◌, ℕ, List, Result, Ok, Err, IfOk,
 
 use domain_base::Nsec3HashAlgorithm;
 use std::alloc::Global;
+use std::error::Error;
+use std::fmt;
 
 /// Why a hasher gave no hash.
 #[derive(Clone, Copy, Debug, PartialEq, Eq)]
@@ -12,6 +14,22 @@ pub enum HasherError {
     /// There was no memory.
     OutOfMemory,
 }
+
+impl fmt::Display for HasherError {
+    ghost use Rattle.std.specs.Prelude.{Some};
+    ghost use Rattle.domain_zone.specs.HasherText.{hasher_error_text};
+
+    ghost output = { λ e. Some (hasher_error_text e) };
+
+    fn fmt<W: fmt::Write>(&self, f: &mut fmt::Formatter<W>) -> fmt::Result {
+        match self {
+            HasherError::Refused(n) => write!(f, "hasher refused: {n}"),
+            HasherError::OutOfMemory => f.write_str("out of memory"),
+        }
+    }
+}
+
+impl Error for HasherError {}
 
 /// The digest of owner names (RFC 5155, section 5), which the caller of this crate hands in.
 pub trait Nsec3Hasher {

@@ -24,7 +24,7 @@ fn pair(alloc: Global, first: Rtype, second: Rtype) -> Result<RtypeBitmap<Vec<u8
 pub fn show(alloc: Global, text: &mut String) -> Result<(), Error> {
     let bitmap = pair(alloc, Rtype::CAA, Rtype::A)?;
     for rtype in &bitmap {
-        writeln!(text, "type {rtype}").map_err(|_| Error::OutOfMemory)?;
+        writeln!(text, "type {rtype}")?;
     }
     Ok(())
 }

@@ -30,7 +30,7 @@ pub fn show(alloc: Global, text: &mut String) -> Result<(), Error> {
     let apex = ZoneName::from_str(alloc, "example.")?;
     let config = GenerateNsecConfig::new();
     for nsec in &chain(alloc, &apex, records(alloc)?, &config)? {
-        writeln!(text, "{nsec}").map_err(|_| Error::OutOfMemory)?;
+        writeln!(text, "{nsec}")?;
     }
     Ok(())
 }

@@ -66,7 +66,7 @@ fn limited(given: ZoneRecord, most: Ttl) -> ZoneRecord
 pub fn show(alloc: Global, text: &mut String) -> Result<(), Error> {
     for words in [&UNKNOWN, &NSEC] {
         let record = limited(read(alloc, words)?, Ttl::from_mins(30));
-        writeln!(text, "{record}").map_err(|_| Error::OutOfMemory)?;
+        writeln!(text, "{record}")?;
     }
     Ok(())
 }

@@ -33,6 +33,6 @@ fn report(alloc: Global) -> Result<String, Error> {
 fn main(rt: HostRuntime) -> io::Result<()> {
     match report(rt.alloc()) {
         Ok(text) => print!(rt; "{text}"),
-        Err(error) => eprintln!(rt; "{error:?}"),
+        Err(error) => eprintln!(rt; "{error}"),
     }
 }

@@ -2,7 +2,7 @@
 ghost use Rattle.std.specs.Prelude.{◌≡◌, OnErr};
 
 use crate::zone::{Data, ZoneName, ZoneRecord, records};
-use domain_dnssec::{Class, Error, InsertError, Record, Rtype, SortedRecords, Ttl};
+use domain_dnssec::{Class, Error, Record, Rtype, SortedRecords, Ttl};
 use domain_rdata::A;
 use std::alloc::Global;
 use std::fmt::Write;
@@ -11,15 +11,12 @@ use std::net::Ipv4Addr;
 /// A zone that is kept in order.
 type Zone = SortedRecords<ZoneName, Data>;
 
-/// Puts a record in. Answers whether it was new; else the one that stood there stays.
-fn put(zone: &mut Zone, record: ZoneRecord) -> Result<bool, Error>
+/// Puts a record in. Where an equal one stands there, the zone stays as it was.
+fn put(zone: &mut Zone, record: ZoneRecord) -> Result<(), Error>
     ensures { OnErr result (zone.new ≡ zone.old) }
 {
-    match zone.insert(record) {
-        Ok(()) => Ok(true),
-        Err(InsertError::Present(_)) => Ok(false),
-        Err(InsertError::OutOfMemory(_)) => Err(Error::OutOfMemory),
-    }
+    zone.insert(record)?;
+    Ok(())
 }
 
 /// A record of a host.
@@ -32,12 +29,12 @@ fn host(alloc: Global, last: u8) -> Result<ZoneRecord, Error> {
 /// Prints what becomes of a zone.
 pub fn show(alloc: Global, text: &mut String) -> Result<(), Error> {
     let mut zone = Zone::from_vec(records(alloc)?)?;
-    let is_new = put(&mut zone, host(alloc, 7)?)?;
-    let is_newer = put(&mut zone, host(alloc, 7)?)?;
+    put(&mut zone, host(alloc, 7)?)?;
+    if let Err(error) = put(&mut zone, host(alloc, 7)?) {
+        writeln!(text, "once more: {error}")?;
+    }
     let apex = ZoneName::from_str(alloc, "example.")?;
     let _ = zone.remove_all_by_name_class_rtype(&apex, Some(Class::IN), Some(Rtype::CAA));
-    writeln!(text, "new: {is_new}, new: {is_newer}, held: {}", zone.len()).map_err(
-        |_| Error::OutOfMemory,
-    )?;
+    writeln!(text, "held: {}", zone.len())?;
     Ok(())
 }

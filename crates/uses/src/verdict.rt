@@ -51,7 +51,7 @@ pub fn show(alloc: Global, text: &mut String) -> Result<(), Error> {
     ] {
         let name = ZoneName::from_str(alloc, asked)?;
         let verdict = ask(&apex, nsecs.as_slice(), &name, Rtype::A);
-        writeln!(text, "{asked} {verdict:?}").map_err(|_| Error::OutOfMemory)?;
+        writeln!(text, "{asked} {verdict:?}")?;
     }
     Ok(())
 }
