@@ -1,19 +1,20 @@
 -- the labels at which two names part, and what they decide
-use Rattle.std.proofs.Common.{◌≡◌, ◌≢◌, ℕ, ◌≤◌, List, [], ◌∷◌, ◌++◌, length, map, reverse, refl, sym, ap, ◌∙◌, arith, Option, None, Some, ◌⊎◌, inl, inr}
+use Rattle.std.proofs.Common.{◌≡◌, ◌≢◌, ℕ, ◌≤◌, ◌-◌, List, [], ◌∷◌, ◌++◌, length, length-append, drop, map, reverse, refl, sym, ap, subst, ◌∙◌, arith, Option, None, Some, ◌⊎◌, inl, inr}
 use Rattle.std.specs.declared.cmp.Ordering.{Ordering}
 use Rattle.std.specs.declared.cmp.Ordering.TheVariants.{Less, Equal, Greater}
 use Rattle.std.specs.Ordering.{ordering_then, nat_cmp}
 use Rattle.std.specs.Char.{to_ascii_lowercase}
 use Rattle.std.specs.Cmp.{tied_itself}
 use Rattle.std.specs.Cmp.Lexicographic.{slice_cmp, nat_list_cmp_total}
-use Rattle.std.proofs.lemmas.List.{append-nil, append_assoc, map-append, reverse-append}
+use Rattle.std.proofs.Math.Seq.{drop-append_seam}
+use Rattle.std.proofs.lemmas.List.{append-nil, append_assoc, drop-drop, map-append, reverse-append}
 use Rattle.domain_base.specs.Name.{wire_of, lowered}
 use Rattle.domain_base.specs.Wire.{labels_of, IsWire}
 use Rattle.domain_base.specs.Order.{canonical_cmp, from_root}
 use Rattle.domain_base.specs.Laws.{same_tied}
-use Rattle.domain_base.specs.Parting.{EndsIn, Part}
+use Rattle.domain_base.specs.Parting.{EndAlike, EndsIn, Part}
 use Rattle.domain_base.proofs.OrderLemmas.{decided, from_root-cons}
-use Rattle.domain_base.proofs.WireLemmas.{wire_is, length-wire_of}
+use Rattle.domain_base.proofs.WireLemmas.{wire_is, length-wire}
 
 -- the next label is the one right below the rest
 pub next_end : (name : List (List ℕ)) (below : Option (List ℕ)) (label : List ℕ) (here above : List (List ℕ)) → EndsIn name below here → here ≡ label ∷ above → EndsIn name (Some label) above
@@ -21,21 +22,11 @@ next_end name None label here above ends is = ([], ends ∙ is)
 next_end name (Some x) label here above ends is =
     (ends.0 ++ x ∷ [], ends.1 ∙ ap (λ l. ends.0 ++ x ∷ l) is ∙ sym (append_assoc ends.0 (x ∷ []) (label ∷ above)))
 
-short_root : (labels : List (List ℕ)) (b : List ℕ) → wire_of labels ≡ b → length b ≤ 1 → wire_of [] ≡ b
-short_root [] b is short = is
-short_root (label ∷ labels) b is short = absurd (omega (arith, ap length is, length-wire_of (label ∷ labels)))
-
 -- the root's wire form is one octet
 pub root_length : (a : List ℕ) → IsWire a → labels_of a ≡ [] → length a ≤ 1
 root_length a a_wire root =
     let a_is : wire_of [] ≡ a = ap wire_of (sym root) ∙ wire_is a a_wire in
     omega (arith, ap length a_is)
-
--- only the root is as short as the root
-pub both_roots : (a b : List ℕ) → IsWire a → IsWire b → labels_of a ≡ [] → length b ≤ length a → a ≡ b
-both_roots a b a_wire b_wire root within =
-    let a_is : wire_of [] ≡ a = ap wire_of (sym root) ∙ wire_is a a_wire in
-    sym a_is ∙ short_root (labels_of b) b (wire_is b b_wire) (omega (arith, ap length a_is))
 
 module _ {X : Type 0} (R : X → X → Ordering) (tied : (x : X) → R x x ≡ Equal) where
   slice_cmp-shared : (shared xs ys : List X) → slice_cmp R (shared ++ xs) (shared ++ ys) ≡ slice_cmp R xs ys
@@ -100,3 +91,64 @@ roots_tie [] (m ∷ y) counts root = absurd (omega arith)
 roots_tie (l ∷ x) [] counts root = absurd (omega arith)
 roots_tie (l ∷ x) (m ∷ y) counts (inl e) = absurd (cc)
 roots_tie (l ∷ x) (m ∷ y) counts (inr e) = absurd (cc)
+
+-- the octets of a name end in those of the labels that it ends in
+wire_of-end : (front above : List (List ℕ)) → (octets : List ℕ) × (wire_of (front ++ above) ≡ octets ++ wire_of above)
+wire_of-end [] above = ([], refl)
+wire_of-end (label ∷ front) above =
+    let more = wire_of-end front above in
+    (length label ∷ (label ++ more.0), ap (λ l. length label ∷ (label ++ l)) more.1 ∙ ap (λ l. length label ∷ l) (sym (append_assoc label more.0 (wire_of above))))
+
+ends_in : (name : List (List ℕ)) (below : Option (List ℕ)) (here : List (List ℕ)) → EndsIn name below here → (front : List (List ℕ)) × (name ≡ front ++ here)
+ends_in name None here ends = ([], ends)
+ends_in name (Some label) here ends = (ends.0 ++ label ∷ [], ends.1 ∙ sym (append_assoc ends.0 (label ∷ []) here))
+
+wire_end : (name end : List ℕ) (below : Option (List ℕ)) → IsWire name → IsWire end → EndsIn (labels_of name) below (labels_of end) → end ≡ drop (length name - length end) name
+wire_end name end below name_wire end_wire ends =
+    let front = ends_in (labels_of name) below (labels_of end) ends in
+    let octets = wire_of-end front.0 (labels_of end) in
+    let is : name ≡ octets.0 ++ end = sym (wire_is name name_wire) ∙ ap wire_of front.1 ∙ octets.1 ∙ ap (λ l. octets.0 ++ l) (wire_is end end_wire) in
+    let size : length octets.0 ≡ length name - length end = omega (arith, ap length is, length-append octets.0 end) in
+    sym (ap (λ n. drop n name) (sym size) ∙ ap (drop (length octets.0)) is ∙ drop-append_seam octets.0 end)
+
+shorter_end : (name : List ℕ) (count short : ℕ) → short ≤ count → count ≤ length name → drop (length name - short) name ≡ drop (count - short) (drop (length name - count) name)
+shorter_end name count short within inside =
+    ap (λ n. drop n name) (omega (arith, within, inside)) ∙ sym (drop-drop (count - short) (length name - count) name)
+
+-- ends that are as long as each other, and within octets that both names end in alike
+same_ends : (a b x y : List ℕ) (count : ℕ) → EndAlike a b count → x ≡ drop (length a - length x) a → y ≡ drop (length b - length y) b → length x ≡ length y → length x ≤ count → x ≡ y
+same_ends a b x y count alike x_is y_is size within =
+    x_is
+    ∙ shorter_end a count (length x) within alike.in_left
+    ∙ ap (drop (count - length x)) alike.same
+    ∙ sym (shorter_end b count (length x) within alike.in_right)
+    ∙ ap (λ n. drop (length b - n) b) size
+    ∙ sym y_is
+
+-- two names part below ends that are as long as each other
+pub part_at : (a b x y : List ℕ) (left right : Option (List ℕ)) (count : ℕ) → IsWire a → IsWire b → IsWire x → IsWire y → EndsIn (labels_of a) left (labels_of x) → EndsIn (labels_of b) right (labels_of y) → EndAlike a b count → length x ≡ length y → length x ≤ count → Part (labels_of a) (labels_of b) left right
+part_at a b x y left right count a_wire b_wire x_wire y_wire a_ends b_ends alike size within =
+    let same : x ≡ y = same_ends a b x y count alike (wire_end a x left a_wire x_wire a_ends) (wire_end b y right b_wire y_wire b_ends) size within in
+    record {
+      shared = labels_of x;
+      left = a_ends;
+      right = subst (λ (l : List ℕ). EndsIn (labels_of b) right (labels_of l)) (sym same) b_ends;
+    }
+
+last_of_wire : (labels : List (List ℕ)) → drop (length (wire_of labels) - 1) (wire_of labels) ≡ 0 ∷ []
+last_of_wire labels =
+    let octets = wire_of-end labels [] in
+    let is : wire_of labels ≡ octets.0 ++ 0 ∷ [] = ap wire_of (sym (append-nil labels)) ∙ octets.1 in
+    let size : length (wire_of labels) - 1 ≡ length octets.0 = omega (arith, ap length is, length-append octets.0 (0 ∷ [])) in
+    ap (λ n. drop n (wire_of labels)) size ∙ ap (drop (length octets.0)) is ∙ drop-append_seam octets.0 (0 ∷ [])
+
+last_octet : (name : List ℕ) → IsWire name → drop (length name - 1) name ≡ 0 ∷ []
+last_octet name wire = subst (λ (l : List ℕ). drop (length l - 1) l ≡ 0 ∷ []) (wire_is name wire) (last_of_wire (labels_of name))
+
+-- all names end in the root
+pub alike_root : (a b : List ℕ) → IsWire a → IsWire b → EndAlike a b 1
+alike_root a b a_wire b_wire = record {
+  in_left = omega (arith, length-wire a a_wire);
+  in_right = omega (arith, length-wire b b_wire);
+  same = last_octet a a_wire ∙ sym (last_octet b b_wire);
+}

@@ -1,28 +1,27 @@
-use Rattle.std.proofs.Common.{◌≡◌, arith, sym}
-use Rattle.domain_base.proofs.PartingLemmas.{next_end, both_roots, root_length}
+use Rattle.std.proofs.Common.{arith}
+use Rattle.domain_base.proofs.PartingLemmas.{next_end, part_at, root_length}
+use Rattle.domain_base.proofs.WireLemmas.{length-wire}
 use Rattle.domain_base.proofs.wire.parting_labels.Goals as goal
 
 pub unreachable-requires : goal.unreachable-requires
 unreachable-requires c =
-    let root = c.in_default.ensures.root in
-    let same : c.parting.a.now ≡ c.parting.b.now = both_roots _ _ c.parting.invariant.a_wire c.parting.invariant.b_wire root (omega (arith, c.if-a-b.true)) in
-    cc (c.are_equal.ensures.root same (root_length _ c.parting.invariant.a_wire root))
+    let short = root_length _ c.parting.invariant.a_wire c.in_default.ensures.root in
+    omega (arith, short, length-wire _ c.parting.invariant.b_wire, c.if-a_end-b_end.true)
 
-pub parting-preserved-then-a-b : goal.parting-preserved-then-a-b
-parting-preserved-then-a-b c = record {
+pub parting-preserved-then-a_end-b_end : goal.parting-preserved-then-a_end-b_end
+parting-preserved-then-a_end-b_end c = record {
   a_wire = c.in-Some.ensures.rest;
   b_wire = c.parting.invariant.b_wire;
   a_ends = next_end _ _ _ _ _ c.parting.invariant.a_ends c.in-Some.ensures.label;
   b_ends = c.parting.invariant.b_ends;
-  root = c.equal_end-equal.ensures;
+  a_within = omega (arith, c.parting.invariant.a_within, c.in-Some.ensures.shorter);
+  b_within = c.parting.invariant.b_within;
 }
 
 pub unreachable-requires-in_default-split_first : goal.unreachable-requires-in_default-split_first
 unreachable-requires-in_default-split_first c =
-    let root = c.in_default-split_first.ensures.root in
-    let same : c.parting.b.now ≡ c.parting.a.now = both_roots _ _ c.parting.invariant.b_wire c.parting.invariant.a_wire root (omega (arith, c.if-a-b.false)) in
-    let short = root_length _ c.parting.invariant.b_wire root in
-    cc (c.are_equal.ensures.root (sym same) (omega (arith, c.if-a-b.false, short)))
+    let short = root_length _ c.parting.invariant.b_wire c.in_default-split_first.ensures.root in
+    c.parting-test.true (omega (arith, short, length-wire _ c.parting.invariant.a_wire, c.if-a_end-b_end.false))
 
 pub parting-preserved : goal.parting-preserved
 parting-preserved c = record {
@@ -30,5 +29,11 @@ parting-preserved c = record {
   b_wire = c.in-Some-split_first.ensures.rest;
   a_ends = c.parting.invariant.a_ends;
   b_ends = next_end _ _ _ _ _ c.parting.invariant.b_ends c.in-Some-split_first.ensures.label;
-  root = c.equal_end-equal.ensures;
+  a_within = c.parting.invariant.a_within;
+  b_within = omega (arith, c.parting.invariant.b_within, c.in-Some-split_first.ensures.shorter);
 }
+
+pub returns : goal.returns
+returns c = part_at c.args.a.now c.args.b.now c.parting.a_end.now c.parting.b_end.now _ _ c.equal_end-equal.result
+    c.requires.a c.requires.b c.parting.invariant.a_wire c.parting.invariant.b_wire c.parting.invariant.a_ends c.parting.invariant.b_ends
+    c.equal_end-equal.ensures.alike c.parting-test.false c.parting.invariant.a_within
