@@ -6,7 +6,7 @@ use Rattle.std.proofs.lemmas.Bool.{ne_eqb, le-leb}
 use Rattle.std.proofs.lemmas.List.{append-nil, append_assoc, drop-drop, length-drop, take_more}
 use Rattle.domain_base.specs.Name.{wire_of, IsLabel, IsName}
 use Rattle.domain_base.proofs.WireLemmas.{length-wire_of}
-use Rattle.domain_base.specs.Text.{symbol_at, LabelText, at_end, at_dot, octet, HasNoLabel, LabelTexts, last, last_with_dot, dotted, NameText, root, of_labels, IsNoName}
+use Rattle.domain_base.specs.Text.{symbol_at, LabelText, at_end, at_dot, octet, HasNoLabel, HasNoLabelAfter, LabelTexts, last, last_with_dot, dotted, NameText, root, of_labels, IsNoName}
 
 -- a label's text ends where no octet stands
 no_symbol_at_dot : (after : List ℕ) → symbol_at (46 ∷ after) ≡ None
@@ -80,6 +80,27 @@ spelling_ends text done so_far = subst (λ l. LabelText text l []) (append-nil d
 
 pub spelling_dots : (text done after : List ℕ) → Spelling text (46 ∷ after) done → LabelText text done (46 ∷ after)
 spelling_dots text done after so_far = subst (λ l. LabelText text l (46 ∷ after)) (append-nil done) (so_far.onward [] (46 ∷ after) (at_dot after))
+
+pub spelling_stops : (text rest done : List ℕ) → Spelling text rest done → LabelText rest [] rest → LabelText text done rest
+spelling_stops text rest done so_far stops = subst (λ l. LabelText text l rest) (append-nil done) (so_far.onward [] rest stops)
+
+pub stops_at_end : (text : List ℕ) → length text < 1 → LabelText text [] text
+stops_at_end [] short = at_end
+stops_at_end (c ∷ text) short = absurd (omega arith)
+
+pub stops_at_dot : (text : List ℕ) → 1 ≤ length text → get_or text 0 0 ≡ 46 → LabelText text [] text
+stops_at_dot [] some dot = absurd (omega arith)
+stops_at_dot (c ∷ text) some dot = subst (λ d. LabelText (d ∷ text) [] (d ∷ text)) (sym dot) (at_dot text)
+
+-- a label that is spelled without escapes
+pub plain_label : (text label rest : List ℕ) (n : ℕ) → n ≤ length text → ((k : ℕ) → k < n → symbol_at (drop k text) ≡ Some (get_or text k 0, 1)) → label ≡ take n text → rest ≡ drop n text → LabelText rest [] rest → LabelText text label rest
+plain_label text label rest n within plain front back stops =
+    subst (λ l. LabelText text l rest) (sym front)
+    (spelling_stops text rest (take n text) (subst (λ r. Spelling text r (take n text)) (sym back) (spelling_plain text n within plain)) stops)
+
+pub no_plain_label : (text label : List ℕ) (n : ℕ) → n ≤ length text → ((k : ℕ) → k < n → symbol_at (drop k text) ≡ Some (get_or text k 0, 1)) → label ≡ take n text → 63 < length label → HasNoLabel text
+no_plain_label text label n within plain front long =
+    no_label_by_front text (drop n text) (take n text) (spelling_plain text n within plain) (subst (λ (l : List ℕ). 63 < length l) front long)
 
 -- a text within a label that begins with no octet
 stuck : (rest label after : List ℕ) → rest ≢ [] → ((end : List ℕ) → rest ≢ 46 ∷ end) → symbol_at rest ≡ None → LabelText rest label after → ⊥
@@ -220,6 +241,10 @@ bad_label_left text rest wire label after so_far read bad = λ all spelled valid
       | inr long ↦ omega (arith, long, size, length-append label (wire_of head.more), length-wire_of head.more, valid.fits)
     ]
 
+pub no_label_after_left : (text rest wire : List ℕ) → Naming text rest wire → HasNoLabelAfter wire rest → IsNoLabels text
+no_label_after_left text rest wire so_far (inl none) = no_label_left text rest wire so_far none
+no_label_after_left text rest wire so_far (inr bad) = bad_label_left text rest wire bad.0 bad.1 so_far bad.2 bad.3
+
 -- the text is the root's or that of labels
 pub no_name : (text : List ℕ) → text ≢ 46 ∷ [] → IsNoLabels text → IsNoName text
 no_name text other none labels root = other refl
@@ -274,28 +299,28 @@ one_name text xs ys (of_labels t l spelled valid) (of_labels t' l' spelled' vali
 abbrev pub IsNamed : List ℕ → List ℕ → Type 0
 IsNamed text wire = (labels : List (List ℕ)) × NameText text labels × (wire ≡ wire_of labels)
 
-pub named_root : (text : List ℕ) (o : Option (List ℕ)) → text ≡ 46 ∷ [] → IfSome o (λ w. w ≡ 0 ∷ []) → IfSome o (IsNamed text)
-named_root text None is found = tt
-named_root text (Some w) is found = ([], subst (λ t. NameText t []) (sym is) root, found)
+pub named_root : {U : Type 0} (text new : List ℕ) (o : Option U) → text ≡ 46 ∷ [] → IfSome o (λ _. new ≡ 0 ∷ []) → IfSome o (λ _. IsNamed text new)
+named_root text new None is found = tt
+named_root text new (Some u) is found = ([], subst (λ t. NameText t []) (sym is) root, found)
 
-module _ (text wire : List ℕ) (o : Option (List ℕ)) (found : IsLabelsWire text wire) (room : IsSome o ↔ (length wire < 255)) where
-  pub named_labels : IfSome o (λ w. w ≡ wire ++ 0 ∷ []) → IfSome o (IsNamed text)
+module _ {U : Type 0} (text wire new : List ℕ) (o : Option U) (found : IsLabelsWire text wire) (room : IsSome o ↔ (length wire < 255)) where
+  pub named_labels : IfSome o (λ _. new ≡ wire ++ 0 ∷ []) → IfSome o (λ _. IsNamed text new)
   named_labels is = go o room is where
-    go : (p : Option (List ℕ)) → IsSome p ↔ (length wire < 255) → IfSome p (λ w. w ≡ wire ++ 0 ∷ []) → IfSome p (IsNamed text)
+    go : (p : Option U) → IsSome p ↔ (length wire < 255) → IfSome p (λ _. new ≡ wire ++ 0 ∷ []) → IfSome p (λ _. IsNamed text new)
     go None room' is' = tt
-    go (Some w) room' is' =
+    go (Some u) room' is' =
         let fits : length wire < 255 = room'.0 refl in
         let valid : IsName found.0 = record { of_labels = found.2; fits = omega (arith, fits, ap length found.3, length-append wire (0 ∷ [])) } in
         (found.0, of_labels text found.0 found.1 valid, is' ∙ found.3)
 
   pub named_none : text ≢ 46 ∷ [] → IfNone o (IsNoName text)
   named_none other = go o room where
-    go : (p : Option (List ℕ)) → IsSome p ↔ (length wire < 255) → IfNone p (IsNoName text)
+    go : (p : Option U) → IsSome p ↔ (length wire < 255) → IfNone p (IsNoName text)
     go None room' = no_name text other (λ labels spelled valid.
         let same = same_labels text found.0 labels found.1 spelled found.2 valid.of_labels in
         let size : length (wire_of found.0) ≤ 255 = subst (λ l. length (wire_of l) ≤ 255) (sym same) valid.fits in
         absurd (let some = room'.1 (omega (arith, size, ap length found.3, length-append wire (0 ∷ []))) in cc))
-    go (Some w) room' = tt
+    go (Some u) room' = tt
 
 pub name_is_valid : (text : List ℕ) (labels : List (List ℕ)) → NameText text labels → IsName labels
 name_is_valid text labels root = record { of_labels = tt; fits = omega arith }

@@ -12,7 +12,9 @@ ghost use Rattle.domain_base.specs.Wire.{labels_of, IsWire};
 ghost use Rattle.domain_base.specs.Words.{Name};
 
 use crate::{MakeName, ParseError, ScanError, ToName, text, wire};
-use domain_octets::{EmptyBuilder, FromBuilder, Octets, OctetsBuilder, OutOfMemory, TryClone};
+use domain_octets::{
+    ArrayBuilder, EmptyBuilder, FromBuilder, Octets, OctetsBuilder, OutOfMemory, TryClone,
+};
 use std::alloc::Global;
 use std::cmp::Ordering;
 use std::fmt;
@@ -92,9 +94,10 @@ where
         ensures ok { IfOk result (NameText text.now) }
         ensures err { IfErr result (λ e. NameTextFault O.Builder.limit (scan_fault_of e) text.now) }
     {
-        let Some(wire) = text::read_name(text.as_bytes()) else {
+        let mut wire = ArrayBuilder::new();
+        if text::read_name(&mut wire, text.as_bytes()).is_none() {
             return Err(ScanError::Custom("illegal name"));
-        };
+        }
         let mut builder = O::Builder::empty(alloc);
         builder.append_slice(wire.as_slice())?;
         Ok(Name {

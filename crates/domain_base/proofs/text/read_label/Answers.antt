@@ -1,8 +1,8 @@
-use Rattle.std.proofs.Common.{◌≡◌, [], ◌∷◌, ◌++◌, ℕ, List, Some, length, take, drop, ap, ◌∙◌, sym, arith, rules, ◌+◌, ◌<◌}
-use Rattle.std.proofs.lemmas.List.{take_rest, drop_more, nil_from_length, length-take-le}
+use Rattle.std.proofs.Common.{◌≡◌, [], ◌∷◌, ◌++◌, Some, length, take, drop, ap, ◌∙◌, sym, arith, rules, ◌+◌, ◌<◌}
+use Rattle.std.proofs.lemmas.List.{take_rest, drop_more, nil_from_length}
 use Rattle.std.proofs.lemmas.Grind.{common_steps}
 use Rattle.domain_base.specs.Text.{symbol_at}
-use Rattle.domain_base.proofs.SpellingLemmas.{Spelling, spelling_goes, spelling_ends, spelling_dots, spelling_plain, no_label_by_front, no_label_by_length}
+use Rattle.domain_base.proofs.SpellingLemmas.{spelling_goes, spelling_ends, spelling_dots, spelling_plain, no_label_by_front, no_label_by_length}
 use Rattle.domain_base.proofs.text.read_label.Goals as goal
 use Rattle.domain_base.proofs.text.read_label.Goals.{in_default, in-len1-up+then-first-eq46}
 

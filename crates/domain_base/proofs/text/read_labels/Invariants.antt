@@ -2,8 +2,8 @@ use Rattle.std.proofs.Common.{length}
 use Rattle.domain_base.proofs.SpellingLemmas.{Naming}
 use Rattle.domain_base.proofs.text.read_labels.Given as goal
 
-abbrev pub invariant-loop-label : goal.invariant-loop-label
-invariant-loop-label l = Naming l.fn.text l.rest l.wire
+abbrev pub invariant-loop-after : goal.invariant-loop-after
+invariant-loop-after l = Naming l.text l.rest l.wire
 
-abbrev pub decreases-loop-label : goal.decreases-loop-label
-decreases-loop-label l = length l.rest
+abbrev pub decreases-loop-after : goal.decreases-loop-after
+decreases-loop-after l = length l.rest
