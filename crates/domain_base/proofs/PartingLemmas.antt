@@ -1,13 +1,17 @@
 -- the labels at which two names part, and what they decide
-use Rattle.std.proofs.Common.{◌≡◌, ◌≢◌, ℕ, ◌≤◌, ◌-◌, List, [], ◌∷◌, ◌++◌, length, length-append, drop, map, reverse, refl, sym, ap, subst, ◌∙◌, arith, Option, None, Some, ◌⊎◌, inl, inr}
+use Rattle.std.proofs.Common.{w8, w64, Fits, ◌≡◌, ◌≢◌, ℕ, ◌≤◌, ◌<◌, ◌+◌, ◌-◌, List, [], ◌∷◌, ◌++◌, length, length-append, take, drop, get_or, map, reverse, refl, sym, ap, subst, ◌∙◌, arith, Option, None, Some, ◌⊎◌, inl, inr}
 use Rattle.std.specs.declared.cmp.Ordering.{Ordering}
 use Rattle.std.specs.declared.cmp.Ordering.TheVariants.{Less, Equal, Greater}
 use Rattle.std.specs.Ordering.{ordering_then, nat_cmp}
 use Rattle.std.specs.Char.{to_ascii_lowercase}
 use Rattle.std.specs.Cmp.{tied_itself}
 use Rattle.std.specs.Cmp.Lexicographic.{slice_cmp, nat_list_cmp_total}
+use Rattle.std.specs.Array.{IsWholeChunk}
+use Rattle.std.specs.Int.{from_le_bytes}
+use Rattle.std.proofs.Math.ListN.{drop_of_length-le}
 use Rattle.std.proofs.Math.Seq.{drop-append_seam}
-use Rattle.std.proofs.lemmas.List.{append-nil, append_assoc, drop-drop, map-append, reverse-append}
+use Rattle.std.proofs.lemmas.List.{append-nil, append_assoc, drop-append-le, drop-drop, drop_more, get_or-drop, length-take-le, take-take, map-append, reverse-append, take-append-drop}
+use Rattle.std.proofs.lemmas.Nat.{le_bytes_8}
 use Rattle.domain_base.specs.Name.{wire_of, lowered}
 use Rattle.domain_base.specs.Wire.{labels_of, IsWire}
 use Rattle.domain_base.specs.Order.{canonical_cmp, from_root}
@@ -151,4 +155,78 @@ alike_root a b a_wire b_wire = record {
   in_left = omega (arith, length-wire a a_wire);
   in_right = omega (arith, length-wire b b_wire);
   same = last_octet a a_wire ∙ sym (last_octet b b_wire);
+}
+
+-- nothing is compared yet
+pub alike_nothing : (a b : List ℕ) → EndAlike a b 0
+alike_nothing a b = record {
+  in_left = omega arith;
+  in_right = omega arith;
+  same = drop_of_length-le a (omega arith) ∙ sym (drop_of_length-le b (omega arith));
+}
+
+-- eight octets that are the same number
+pub alike_eight : (a b x y : List ℕ) → 8 ≤ length a → 8 ≤ length b → IsWholeChunk (drop (length a - 8) a) x 8 → IsWholeChunk (drop (length b - 8) b) y 8
+    → ((i : ℕ) → Fits w8 (get_or a i 0)) → ((i : ℕ) → Fits w8 (get_or b i 0)) → from_le_bytes w64 x ≡ from_le_bytes w64 y → EndAlike a b 8
+alike_eight a b x y in_a in_b x_is y_is a_octets b_octets same =
+    let x_octets : (i : ℕ) → get_or x i 0 < 256 = λ i. let fits = a_octets (length a - 8 + i) in rw (x_is.same, get_or-drop (length a - 8) a i 0) (omega (arith, fits)) in
+    let y_octets : (i : ℕ) → get_or y i 0 < 256 = λ i. let fits = b_octets (length b - 8 + i) in rw (y_is.same, get_or-drop (length b - 8) b i 0) (omega (arith, fits)) in
+    let x_size : length x ≡ 8 = ap length x_is.same ∙ x_is.long in
+    let y_size : length y ≡ 8 = ap length y_is.same ∙ y_is.long in
+    let x_back = le_bytes_8 x (from_le_bytes w64 x) x_size x_octets refl in
+    let y_back = le_bytes_8 y (from_le_bytes w64 x) y_size y_octets same in
+    record {
+      in_left = in_a;
+      in_right = in_b;
+      same = sym x_is.same ∙ sym x_back ∙ y_back ∙ y_is.same;
+    }
+
+-- so many octets more, before those that are known to be alike
+joined_end : (a : List ℕ) (count more : ℕ) → count + more ≤ length a → drop (length a - (count + more)) a ≡ drop (length (take (length a - count) a) - more) (take (length a - count) a) ++ drop (length a - count) a
+joined_end a count more within =
+    let n = length a - count in
+    let size : length (take n a) ≡ n = length-take-le n a (omega arith) in
+    ap (λ k. drop k a) (omega (arith, size, within))
+    ∙ ap (drop (length (take n a) - more)) (sym (take-append-drop n a))
+    ∙ drop-append-le (length (take n a) - more) (take n a) (drop n a) (omega arith)
+
+pub alike_before : (a b x y : List ℕ) (count more : ℕ) → EndAlike a b count → x ≡ take (length a - count) a → y ≡ take (length b - count) b → EndAlike x y more → EndAlike a b (count + more)
+alike_before a b x y count more alike x_is y_is before =
+    let x_size : length x ≡ length a - count = ap length x_is ∙ length-take-le (length a - count) a (omega arith) in
+    let y_size : length y ≡ length b - count = ap length y_is ∙ length-take-le (length b - count) b (omega arith) in
+    let a_within : count + more ≤ length a = omega (arith, alike.in_left, before.in_left, x_size) in
+    let b_within : count + more ≤ length b = omega (arith, alike.in_right, before.in_right, y_size) in
+    record {
+      in_left = a_within;
+      in_right = b_within;
+      same = joined_end a count more a_within
+          ∙ ap (λ l. drop (length l - more) l ++ drop (length a - count) a) (sym x_is)
+          ∙ ap (λ l. l ++ drop (length a - count) a) before.same
+          ∙ ap (λ l. drop (length y - more) y ++ l) alike.same
+          ∙ ap (λ l. drop (length l - more) l ++ drop (length b - count) b) y_is
+          ∙ sym (joined_end b count more b_within);
+    }
+
+-- eight octets more
+pub alike_onward : (a b x y : List ℕ) (count : ℕ) → EndAlike a b count → x ≡ take (length a - count) a → y ≡ take (length b - count) b → EndAlike x y 8
+    → (EndAlike a b (count + 8)) × (take (length x - 8) x ≡ take (length a - (count + 8)) a) × (take (length y - 8) y ≡ take (length b - (count + 8)) b)
+alike_onward a b x y count alike x_is y_is before =
+    (alike_before a b x y count 8 alike x_is y_is before, shorter_front a x count x_is alike.in_left before.in_left, shorter_front b y count y_is alike.in_right before.in_right) where
+      shorter_front : (l front : List ℕ) (n : ℕ) → front ≡ take (length l - n) l → n ≤ length l → 8 ≤ length front → take (length front - 8) front ≡ take (length l - (n + 8)) l
+      shorter_front l front n is inside some =
+          let size : length front ≡ length l - n = ap length is ∙ length-take-le (length l - n) l (omega arith) in
+          ap (take (length front - 8)) is
+          ∙ take-take (length front - 8) (length l - n) l (omega (arith, size))
+          ∙ ap (λ k. take k l) (omega (arith, size, inside, some))
+
+one_before : (name : List ℕ) (count place : ℕ) → count < length name → place ≡ length name - 1 - count → drop (length name - (count + 1)) name ≡ get_or name place 0 ∷ drop (length name - count) name
+one_before name count place inside is =
+    ap (λ n. drop n name) (omega (arith, is, inside)) ∙ drop_more name place 0 (omega (arith, is, inside)) ∙ ap (λ n. get_or name place 0 ∷ drop n name) (omega (arith, is, inside))
+
+-- one octet more
+pub alike_more : (a b : List ℕ) (count i j : ℕ) → EndAlike a b count → count < length a → count < length b → i ≡ length a - 1 - count → j ≡ length b - 1 - count → get_or a i 0 ≡ get_or b j 0 → EndAlike a b (count + 1)
+alike_more a b count i j alike in_a in_b i_is j_is same = record {
+  in_left = omega (arith, in_a);
+  in_right = omega (arith, in_b);
+  same = one_before a count i in_a i_is ∙ ap (λ c. c ∷ drop (length a - count) a) same ∙ ap (λ l. get_or b j 0 ∷ l) alike.same ∙ sym (one_before b count j in_b j_is);
 }
