@@ -1,16 +1,16 @@
 -- the labels at which two names part, and what they decide
-use Rattle.std.proofs.Common.{w8, w64, Fits, ◌≡◌, ◌≢◌, ℕ, ◌≤◌, ◌<◌, ◌+◌, ◌-◌, List, [], ◌∷◌, ◌++◌, length, length-append, take, drop, get_or, map, reverse, refl, sym, ap, subst, ◌∙◌, arith, Option, None, Some, ◌⊎◌, inl, inr}
+use Rattle.std.proofs.Common.{w8, w64, Fits, ◌≡◌, ◌≢◌, ℕ, ◌≤◌, ◌<◌, ◌+◌, ◌-◌, List, [], ◌∷◌, ◌++◌, length, length-append, min, take, drop, get_or, map, reverse, refl, sym, ap, subst, ◌∙◌, arith, Option, None, Some, ◌⊎◌, inl, inr}
 use Rattle.std.specs.declared.cmp.Ordering.{Ordering}
 use Rattle.std.specs.declared.cmp.Ordering.TheVariants.{Less, Equal, Greater}
 use Rattle.std.specs.Ordering.{ordering_then, nat_cmp}
 use Rattle.std.specs.Char.{to_ascii_lowercase}
-use Rattle.std.specs.Cmp.{tied_itself}
+use Rattle.std.specs.Cmp.{tied_itself, nat_cmp_is}
 use Rattle.std.specs.Cmp.Lexicographic.{slice_cmp, nat_list_cmp_total}
 use Rattle.std.specs.Array.{IsWholeChunk}
 use Rattle.std.specs.Int.{from_le_bytes}
 use Rattle.std.proofs.Math.ListN.{drop_of_length-le}
 use Rattle.std.proofs.Math.Seq.{drop-append_seam}
-use Rattle.std.proofs.lemmas.List.{append-nil, append_assoc, drop-append-le, drop-drop, drop_more, get_or-drop, length-take-le, take-take, map-append, reverse-append, take-append-drop}
+use Rattle.std.proofs.lemmas.List.{append-nil, append_assoc, drop-append-le, drop-drop, drop_more, get_or-drop, length-drop, length-take-le, take-take, map-append, reverse-append, take-append-drop}
 use Rattle.std.proofs.lemmas.Nat.{le_bytes_8}
 use Rattle.domain_base.specs.Name.{wire_of, lowered}
 use Rattle.domain_base.specs.Wire.{labels_of, IsWire}
@@ -230,3 +230,12 @@ alike_more a b count i j alike in_a in_b i_is j_is same = record {
   in_right = omega (arith, in_b);
   same = one_before a count i in_a i_is ∙ ap (λ c. c ∷ drop (length a - count) a) same ∙ ap (λ l. get_or b j 0 ∷ l) alike.same ∙ sym (one_before b count j in_b j_is);
 }
+
+-- octets of which one list is at its end
+pub lengths_decide : (a b : List ℕ) (i : ℕ) → i ≡ min (length a) (length b) → nat_cmp (length a) (length b) ≡ slice_cmp nat_cmp (map to_ascii_lowercase (drop i a)) (map to_ascii_lowercase (drop i b))
+lengths_decide a b i is = go (drop i a) (drop i b) (length-drop i a) (length-drop i b) where
+  go : (xs ys : List ℕ) → length xs ≡ length a - i → length ys ≡ length b - i → nat_cmp (length a) (length b) ≡ slice_cmp nat_cmp (map to_ascii_lowercase xs) (map to_ascii_lowercase ys)
+  go [] [] left right = sym (nat_cmp_is (length a) (length b) Equal (omega (arith, is, left, right)))
+  go [] (y ∷ ys) left right = sym (nat_cmp_is (length a) (length b) Less (omega (arith, is, left, right)))
+  go (x ∷ xs) [] left right = sym (nat_cmp_is (length a) (length b) Greater (omega (arith, is, left, right)))
+  go (x ∷ xs) (y ∷ ys) left right = absurd (omega (arith, is, left, right))

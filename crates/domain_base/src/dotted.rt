@@ -38,7 +38,6 @@ impl<'a> fmt::Display for DottedName<'a> {
     ghost output = { λ n. Some (name_text n ++ dot ∷ []) };
 
     fn fmt<W: fmt::Write>(&self, f: &mut fmt::Formatter<W>) -> fmt::Result {
-        text::write_name(self.wire, f)?;
-        f.write_str(".")
+        text::write_dotted(self.wire, f)
     }
 }

@@ -1,13 +1,10 @@
-use Rattle.std.proofs.Common.{◌≡◌, refl, rules}
-use Rattle.std.specs.Char.{to_ascii_lowercase}
-use Rattle.std.specs.Ordering.{nat_cmp}
-use Rattle.std.proofs.lemmas.Iterator.{YieldsList-from_slice, YieldsList-from_map}
-use Rattle.std.proofs.lemmas.Iterator.Search.{cmp_from_yields_List}
+use Rattle.std.proofs.Common.{◌≡◌, length, min, sym, ◌∙◌, arith}
+use Rattle.domain_base.proofs.PartingLemmas.{lengths_decide}
 use Rattle.domain_base.proofs.wire.lowered_octets_cmp.Goals as goal
 
 pub returns : goal.returns
 returns c =
-    cmp_from_yields_List (λ x y. y ≡ x) _ nat_cmp _ c.cmp.ensures.ran
-    (YieldsList-from_map _ to_ascii_lowercase (YieldsList-from_slice c.args.a.now (cc)) (cc) (λ x r q k. search rules))
-    (λ it e. rw e (YieldsList-from_map _ to_ascii_lowercase (YieldsList-from_slice c.args.b.now (cc)) (cc) (λ x r q k. search rules)))
-    (λ x y. refl)
+    let a = c.args.a.now in
+    let b = c.args.b.now in
+    let end : c.loop-i.i ≡ min (length a) (length b) = omega (arith, c.loop-i-test.false, c.loop-i.auto.i-end, c.min-most.ensures) in
+    c.cmp.ensures ∙ lengths_decide a b c.loop-i.i end ∙ sym c.loop-i.invariant
