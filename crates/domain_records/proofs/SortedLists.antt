@@ -1,9 +1,9 @@
 -- Sorted sets as lists: where an element stands or goes, and what a sort and a dedup leave.
-use Rattle.std.proofs.Common.{◌≡◌, ℕ, ◌+◌, ◌<◌, ◌≤◌, suc, Bool, true, false, not, ◌&&◌, cond, List, [], ◌∷◌, ◌++◌, length, get_or, take, drop, Option, Some, None, Result, Ok, Err, IfOk, IfErr, refl, sym, ◌∙◌, ap, subst, arith, is_lt}
+use Rattle.std.proofs.Common.{◌≡◌, ℕ, ◌+◌, ◌<◌, ◌≤◌, suc, Bool, true, false, cond, List, [], ◌∷◌, ◌++◌, length, get_or, take, drop, Option, Some, None, Result, Ok, Err, IfOk, IfErr, refl, sym, ◌∙◌, ap, subst, arith, is_lt}
 use Rattle.std.specs.List.{AllByRecursion, Contains, dedup, dedup_from, filter, find, insert, remove}
-use Rattle.std.specs.List.Sorted.{IsStrictlySortedBy, IsSorted, IsStable, IsPermutation, IsSearchInRange, IsBinarySearchResult, IsNonDecreasingBy, ties}
+use Rattle.std.specs.List.Sorted.{IsStrictlySortedBy, IsSorted, IsPermutation, IsSearchInRange, IsBinarySearchResult, IsNonDecreasingBy}
 use Rattle.std.specs.Cmp.{IsTotalOrder, IsEquivalence, eq_by_cmp_equiv, tied_back, Equal-is}
-use Rattle.std.specs.Ordering.{eq_by_cmp, is_eq, ordering_index, ordering_reverse}
+use Rattle.std.specs.Ordering.{eq_by_cmp, ordering_index, ordering_reverse}
 use Rattle.std.specs.declared.cmp.Ordering.{Ordering}
 use Rattle.std.specs.declared.cmp.Ordering.TheVariants.{Less, Equal, Greater}
 use Rattle.std.proofs.lemmas.Map.Keys.{Less-from_sorted}
@@ -12,7 +12,7 @@ use Rattle.std.proofs.lemmas.List.Kept.{IsStrictlySortedBy-dedup, Any-dedup}
 use Rattle.std.proofs.lemmas.List.Filters.{All-dedup}
 use Rattle.std.proofs.lemmas.List.{take-append-drop, get_or-take, get_or-drop, get_or_default, length-take-le, length-drop}
 use Rattle.std.proofs.Math.Seq.{drop-cons}
-use Rattle.std.proofs.lemmas.List.Elements.{filter_agree, All-contains_itself, recursion_from_All}
+use Rattle.std.proofs.lemmas.List.Elements.{All-contains_itself, recursion_from_All}
 use Rattle.domain_records.specs.SortedSet.{IsAt, IsGapFor, Holds, IsSortedSetOf, KeepsEarliest, Adds}
 
 module _ {X : Type 0} where
@@ -90,28 +90,7 @@ module _ {X : Type 0} {R : X → X → Ordering} (o : IsTotalOrder R) where
       let p = parted (answers_rise xs x s) in
       (tt, record { in_range = bound; lesser = λ k d lt. p.0 k d (omega arith) lt; greater = λ k d le lt. p.1 k d le lt })
 
-  -- an order's ties are where it answers `Equal`
-  tie_cases : (x y : X) (r s : Ordering) → R x y ≡ r → R y x ≡ s → not (is_lt r) && not (is_lt s) ≡ is_eq s
-  tie_cases x y Less Less p q = refl
-  tie_cases x y Less Equal p q = absurd (let e = sym q ∙ (o.antisymm y x ∙ ap ordering_reverse p) in cc)
-  tie_cases x y Less Greater p q = refl
-  tie_cases x y Equal Less p q = refl
-  tie_cases x y Equal Equal p q = refl
-  tie_cases x y Equal Greater p q = absurd (let e = sym q ∙ (o.antisymm y x ∙ ap ordering_reverse p) in cc)
-  tie_cases x y Greater Less p q = refl
-  tie_cases x y Greater Equal p q = absurd (let e = sym q ∙ (o.antisymm y x ∙ ap ordering_reverse p) in cc)
-  tie_cases x y Greater Greater p q = absurd (let e = sym q ∙ (o.antisymm y x ∙ ap ordering_reverse p) in cc)
-
-  pub ties_are_equals : (x y : X) → ties (λ a b. is_lt (R a b)) x y ≡ is_eq (R y x)
-  ties_are_equals x y = tie_cases x y (R x y) (R y x) refl refl
-
-  -- a stable sort keeps the earliest of equals
-  pub stable_earliest : (xs ys : List X) → IsStable R xs ys → KeepsEarliest R xs ys
-  stable_earliest xs ys stable x =
-      find_alike (λ y. is_eq (R y x)) ys xs
-      (sym (filter_agree _ _ (ties_are_equals x) ys) ∙ stable x ∙ filter_agree _ _ (ties_are_equals x) xs)
-
-  -- so does a dedup
+  -- a dedup keeps the earliest of equals
   pub dedup_earliest : (xs ys : List X) → KeepsEarliest R xs ys → KeepsEarliest R xs (dedup (eq_by_cmp R) ys)
   dedup_earliest xs ys first x = find-dedup (eq_by_cmp_equiv o) x ys ∙ first x
 

@@ -9,9 +9,9 @@ use crate::owner_runs::{runs_of, sorted_places};
 use crate::sorter::Sorter;
 use domain_octets::OutOfMemory;
 
-/// Puts the items into canonical order. Where neighbours often have one owner, the sorter is given
-/// the runs of one owner, so that it compares few owners, and then the places of each owner; an
-/// item is moved once. Otherwise it is given the items. A refusal leaves the list as it was.
+/// Puts the items into canonical order. The sorter is given the runs of one owner, so that it
+/// compares few owners, and then the places of each owner; an item is moved once. A refusal leaves
+/// the list as it was.
 pub(crate) fn sort_items<T: OwnerOrd + Drop, S: Sorter>(
     items: &mut Vec<T>,
 ) -> Result<(), OutOfMemory>
@@ -26,9 +26,6 @@ pub(crate) fn sort_items<T: OwnerOrd + Drop, S: Sorter>(
         return Ok(());
     };
     let runs = runs_of(alloc, items, first)?;
-    if runs.len() > items.len() / 4 * 3 {
-        return S::sort_by(items, T::canonical_cmp);
-    }
     let mut places = sorted_places::<T, S>(alloc, items, first, runs)?;
     let mut seats = seats_of(alloc, &places)?;
     arrange(items, &mut places, &mut seats);

@@ -1,27 +1,10 @@
-use Rattle.std.proofs.Common.{rules, ◌≡◌, ◌∙◌, ℕ, List, length, drop, sym, subst}
+use Rattle.std.proofs.Common.{◌≡◌, ◌∙◌, ℕ, List, length, drop, sym, subst}
 use Rattle.std.specs.List.Sorted.{IsSorted}
 use Rattle.std.proofs.lemmas.List.{take_at}
-use Rattle.std.proofs.lemmas.List.Sorted.{answers_always}
-use Rattle.std.proofs.lemmas.Result.{on_ok_weaker}
 use Rattle.domain_records.specs.Places.{ArePlaces, AreSortedPlaces, IsArranged}
 use Rattle.domain_records.specs.SortedSet.{KeepsEarliest}
-use Rattle.domain_records.proofs.SortedLists.{stable_earliest}
 use Rattle.domain_records.proofs.Placing.{length_places, arranged-moved, arranged-sorted, arranged-earliest}
 use Rattle.domain_records.proofs.sort.sort_items.Goals as goal
-
-pub sort_by-requires-clause-order : goal.sort_by-requires-clause-order
-sort_by-requires-clause-order g c = (g.T.CanonicalOrd.canonical_cmp, g.met.T.CanonicalOrd.total, answers_always _ _ _ (λ f a r h called. search rules))
-
-pub returns-then-len-clause-sorted : goal.returns-then-len-clause-sorted
-returns-then-len-clause-sorted g c =
-    on_ok_weaker c.sort_by.result (λ h. h g.T.CanonicalOrd.canonical_cmp g.met.T.CanonicalOrd.total (answers_always _ _ _ (λ f a r h called. search rules))) c.sort_by.ensures.sorted
-
-pub returns-then-len-clause-earliest : goal.returns-then-len-clause-earliest
-returns-then-len-clause-earliest g c =
-    on_ok_weaker c.sort_by.result
-    (λ h on. stable_earliest g.met.T.CanonicalOrd.total c.args.items.now.items c.sort_by.new.records.items
-    (c.sort_by.ensures.stable on g.T.CanonicalOrd.canonical_cmp g.met.T.CanonicalOrd.total (answers_always _ _ _ (λ f a r h called. search rules))))
-    c.sort_by.ensures.sorted
 
 pub seats_of-requires : goal.seats_of-requires
 seats_of-requires g c =
