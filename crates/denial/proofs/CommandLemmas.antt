@@ -1,8 +1,8 @@
 -- The words of a command.
-use Rattle.std.proofs.Common.{◌≡◌, ◌≢◌, ℕ, Bool, IsTrue, List, [], ◌∷◌, length, get_or, refl, ap, sym, ◌∙◌, arith}
+use Rattle.std.proofs.Common.{◌≡◌, ◌≢◌, ℕ, Bool, IsTrue, List, [], ◌∷◌, length, get_or, refl, ap, sym, ◌∙◌, arith, None}
 use Rattle.std.specs.Str.{bytes_eq}
 use Rattle.std.proofs.lemmas.Slice.Eq.{bytes_eq-Decides}
-use Rattle.domain_base.specs.Scan.{no_memory, scan_fault_of}
+use Rattle.domain_base.specs.Scan.{IsOfTokens, scan_fault_of}
 use Rattle.domain_base.specs.declared.error.ScanError.{ScanError}
 use Rattle.domain_base.specs.declared.error.ScanError.TheVariants as scan_error
 
@@ -20,9 +20,9 @@ one_item (x ∷ y ∷ xs) a n p = absurd (omega arith)
 pub same_text : (r : Bool) (xs ys : List ℕ) → r ≡ bytes_eq xs ys → IsTrue r → xs ≡ ys
 same_text r xs ys e f = (bytes_eq-Decides xs ys).0 (sym e ∙ f)
 
--- other errors than want of memory are other faults
-pub other_fault : (e : ScanError) → e ≢ scan_error.OutOfMemory → scan_fault_of e ≢ no_memory
-other_fault scan_error.EndOfEntry other = λ p. cc
-other_fault (scan_error.Custom text) other = λ p. cc
-other_fault scan_error.ShortBuf other = λ p. cc
-other_fault scan_error.OutOfMemory other = λ p. other refl
+-- other errors than want of memory are faults of the tokens, over octets that grow
+pub other_fault : (e : ScanError) → e ≢ scan_error.OutOfMemory → IsOfTokens None (scan_fault_of e)
+other_fault scan_error.EndOfEntry other = tt
+other_fault (scan_error.Custom text) other = tt
+other_fault scan_error.ShortBuf other = refl
+other_fault scan_error.OutOfMemory other = other refl

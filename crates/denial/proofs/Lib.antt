@@ -1,9 +1,9 @@
 pub mod LineLemmas
 pub mod WordLemmas
+pub mod LineReading
 pub mod LineSteps
 pub mod Reading
 pub mod RunLemmas
 pub mod CommandLemmas
-pub mod SaltLemmas
 pub mod AnswerLemmas
 pub mod CheckLemmas

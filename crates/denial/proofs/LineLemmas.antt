@@ -1,14 +1,13 @@
 -- The record that tokens spell, part after part, and tokens that spell none.
 use Rattle.std.proofs.Common.{◌≡◌, ◌≢◌, ◌↔◌, ℕ, Bool, false, IsTrue, List, [], ◌∷◌, refl, ap, sym, ◌∙◌, subst, Option, None}
 use Rattle.domain_base.specs.Text.{NameText}
-use Rattle.domain_base.specs.Scan.{ScanFault, no_memory, scan_fault_of, TakesToken, RefusesToken, ended, refused, IsNumber, IsNoNumber, NameTextFault}
+use Rattle.domain_base.specs.Scan.{ScanFault, IsOfTokens, scan_fault_of, TakesToken, RefusesToken, ended, refused, IsNumber, IsNoNumber, NameTextFault}
 use Rattle.domain_base.specs.Numbers.{ClassText, IsNoClass, TypeText, IsNoType, type_names}
 use Rattle.domain_base.specs.declared.error.ScanError.{ScanError}
 use Rattle.domain_base.specs.declared.error.ScanError.TheVariants as scan_error
 use Rattle.domain_base.proofs.NamedLemmas.{one_named}
-use Rattle.domain_fields.specs.Field.{name}
+use Rattle.domain_base.proofs.RefusalLemmas.{token_excludes, name_excludes}
 use Rattle.domain_plain.specs.declared.record.Record.{Record}
-use Rattle.domain_fields.proofs.ScanLemmas.{token_excludes}
 use Rattle.domain_rdata.specs.Scan.{RdataText}
 use Rattle.domain_rdata.specs.declared.zone_record_data.ZoneRecordData.{ZoneRecordData}
 use Rattle.domain_rdata.proofs.ScanLemmas.{text_once}
@@ -56,10 +55,10 @@ refused_spells Why P old new after fault apart (refused token left why_fault why
 -- a line that spells a record, whose tokens were read so far
 module _ {O N : Type 0} (octets : O → List ℕ) (labels : N → List (List ℕ)) (ws1 ws2 ws3 ws4 ws5 : List (List ℕ)) (r : Record N (ZoneRecordData O N)) (line : LineText octets labels ws1 r) where
   module _ (limit : Option ℕ) (new : List (List ℕ)) (fault : ScanFault) where
-    pub no_owner : limit ≡ None → fault ≢ no_memory → RefusesToken (NameTextFault limit) ws1 new fault → ⊥
-    no_owner grows known why =
-        token_excludes name ws1 new (line.ttl_word ∷ line.class_word ∷ line.type_word ∷ line.data_words) (labels r.owner) fault
-        (subst (λ l. RefusesToken (NameTextFault l) ws1 new fault) grows why) (record { token = line.owner_word; first = line.are; holds = line.owner }) known
+    pub no_owner : IsOfTokens limit fault → RefusesToken (NameTextFault limit) ws1 new fault → ⊥
+    no_owner own why =
+        token_excludes NameText (NameTextFault limit) limit (name_excludes limit) ws1 new (line.ttl_word ∷ line.class_word ∷ line.type_word ∷ line.data_words) (labels r.owner) fault why
+        (record { token = line.owner_word; first = line.are; holds = line.owner }) own
 
   module _ {P1 : List ℕ → Type 0} (first : TakesToken P1 ws1 ws2) where
     after_owner : ws2 ≡ line.ttl_word ∷ line.class_word ∷ line.type_word ∷ line.data_words
@@ -103,13 +102,13 @@ module _ {O N : Type 0} (octets : O → List ℕ) (labels : N → List (List ℕ
           pub no_more : (d : ZoneRecordData O N) (ws6 : List (List ℕ)) → RdataText octets labels rtype ws5 d ws6 → ws6 ≢ [] → ⊥
           no_more d ws6 is more = more ((text_once octets labels rtype ws5 ws6 [] d r.«data» is data_left).0)
 
-pub spells_none : (ws : List (List ℕ)) (e : LineError) → (e ≡ Bad → (r : ProgramRecord) → LineText (λ o. o.items) (λ n. n) ws r → ⊥) → SpellsNone ws e
+pub spells_none : (ws : List (List ℕ)) (e : LineError) → (e ≡ Bad → (r : ProgramRecord) → LineText (λ o. o) (λ n. n) ws r → ⊥) → SpellsNone ws e
 spells_none ws Bad h = h refl
 spells_none ws OutOfMemory h = tt
 
 -- words are bad only where the refusal was no want of memory
-pub known_if_bad : (s : ScanError) (e : LineError) → e ≡ line_error_of s → e ≡ Bad → scan_fault_of s ≢ no_memory
-known_if_bad scan_error.EndOfEntry e made bad = λ p. cc
-known_if_bad (scan_error.Custom text) e made bad = λ p. cc
-known_if_bad scan_error.ShortBuf e made bad = λ p. cc
-known_if_bad scan_error.OutOfMemory e made bad = λ p. cc
+pub known_if_bad : (s : ScanError) (e : LineError) → e ≡ line_error_of s → e ≡ Bad → IsOfTokens None (scan_fault_of s)
+known_if_bad scan_error.EndOfEntry e made bad = tt
+known_if_bad (scan_error.Custom text) e made bad = tt
+known_if_bad scan_error.ShortBuf e made bad = refl
+known_if_bad scan_error.OutOfMemory e made bad = cc

@@ -15,7 +15,7 @@ taken_some (x ∷ xs) h = omega arith
 
 -- what rest gives after these records, all gives; and rest begins with the line of this number
 pub record Continues (all rest : List (List ℕ)) (records : List ProgramRecord) (number : ℕ) : Type 0 where
-  pub gives : (more : List ProgramRecord) → Give (λ o. o.items) (λ n. n) rest more → Give (λ o. o.items) (λ n. n) all (records ++ more)
+  pub gives : (more : List ProgramRecord) → Give (λ o. o) (λ n. n) rest more → Give (λ o. o) (λ n. n) all (records ++ more)
   pub bad : (k n : ℕ) → n + 1 ≡ k + number → IsFirstBad rest k → IsFirstBad all n
 
 first_bad_here : (line : List ℕ) (more : List (List ℕ)) → IsBad line → IsFirstBad (line ∷ more) 1
@@ -46,18 +46,18 @@ follows_start (Some all) records number e one = (
   all,
   refl,
   record {
-    gives = λ more h. subst (λ rs. Give (λ o. o.items) (λ n. n) (lines all) (rs ++ more)) (sym e) h;
+    gives = λ more h. subst (λ rs. Give (λ o. o) (λ n. n) (lines all) (rs ++ more)) (sym e) h;
     bad = λ k n p h. let same : k ≡ n = omega (arith, one) in subst (IsFirstBad (lines all)) same h;
   },
 )
 
-pub follows_end : (known now : Option (List ℕ)) (records : List ProgramRecord) (number : ℕ) → Follows known now records number → IsAtEnd now → IfSome known (λ all. Give (λ o. o.items) (λ n. n) (lines all) records)
+pub follows_end : (known now : Option (List ℕ)) (records : List ProgramRecord) (number : ℕ) → Follows known now records number → IsAtEnd now → IfSome known (λ all. Give (λ o. o) (λ n. n) (lines all) records)
 follows_end None now records number h e = tt
 follows_end (Some all) None records number h e = absurd (let w = h.1 in cc)
 follows_end (Some all) (Some xs) records number h e =
     let same : h.0 ≡ [] = (let w = h.1 in cc) in
     let c : Continues (lines all) [] records number = subst (λ (r : List ℕ). Continues (lines all) (lines r) records number) same h.2 in
-    subst (Give (λ o. o.items) (λ n. n) (lines all)) (append-nil records) (c.gives [] refl)
+    subst (Give (λ o. o) (λ n. n) (lines all)) (append-nil records) (c.gives [] refl)
 
 -- a line was read into a buffer that was empty
 pub follows_next : (known old new : Option (List ℕ)) (records : List ProgramRecord) (number : ℕ) (was buf view out : List ℕ) → Follows known old records number
@@ -90,14 +90,14 @@ follows_skip (Some all) now out records number h s = (
 )
 
 pub follows_record : (known now : Option (List ℕ)) (out : List ℕ) (old new : List ProgramRecord) (r : ProgramRecord) (number : ℕ) → FollowsAt known now out old number
-    → new ≡ old ++ r ∷ [] → IsRecord (λ o. o.items) (λ n. n) out r → Follows known now new (number + 1)
+    → new ≡ old ++ r ∷ [] → IsRecord (λ o. o) (λ n. n) out r → Follows known now new (number + 1)
 follows_record None now out old new r number h e s = tt
 follows_record (Some all) now out old new r number h e s = (
   h.0,
   h.1,
   record {
-    gives = λ more g. subst (λ rs. Give (λ o. o.items) (λ n. n) (lines all) (rs ++ more)) (sym e)
-        (subst (Give (λ o. o.items) (λ n. n) (lines all)) (sym (append_assoc old (r ∷ []) more)) (h.2.gives (r ∷ more) (inr (r, more, refl, s, g))));
+    gives = λ more g. subst (λ rs. Give (λ o. o) (λ n. n) (lines all) (rs ++ more)) (sym e)
+        (subst (Give (λ o. o) (λ n. n) (lines all)) (sym (append_assoc old (r ∷ []) more)) (h.2.gives (r ∷ more) (inr (r, more, refl, s, g))));
     bad = λ k n p b. h.2.bad (k + 1) n (omega arith) (first_bad_later out (lines h.0) k (inr (r, s)) b);
   },
 )

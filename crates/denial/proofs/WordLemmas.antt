@@ -1,5 +1,5 @@
 -- Words none of whose octets is past `~`, and lines that are bad.
-use Rattle.std.proofs.Common.{◌≡◌, ◌↔◌, Bor, map, below_more, Bool, true, false, IsTrue, eqb, ℕ, ◌+◌, ◌-◌, suc, ◌<◌, ◌≤◌, List, [], ◌∷◌, ◌++◌, take, drop, length, get_or, ap, sym, ◌∙◌, subst, inl, inr, arith, append_assoc, append-nil, length-drop}
+use Rattle.std.proofs.Common.{◌≡◌, ◌↔◌, Bor, map, below_more, Bool, true, false, IsTrue, eqb, ℕ, ◌+◌, ◌-◌, ◌<◌, ◌≤◌, List, [], ◌∷◌, ◌++◌, take, drop, length, get_or, ap, sym, ◌∙◌, subst, inl, inr, arith, append_assoc, append-nil, length-drop}
 use Rattle.std.specs.Prelude.{nat_lt}
 use Rattle.std.specs.List.{All, AllByRecursion as ByRecursion, filter, slice_split, onto_first}
 use Rattle.std.specs.Str.{IsUtf8}
@@ -140,7 +140,7 @@ pub is_bad : (line : List ℕ) (tokens : List (List ℕ)) (skipped : Bool) (e : 
     → IsTrue skipped ↔ IsSkipped (words line) → skipped ≡ false → e ≡ Bad → SpellsNone tokens e → IsBad line
 is_bad line tokens skipped e same test off bad none = record {
   seen = λ s. absurd (let on = test.1 s in cc);
-  none = λ r h. (subst (SpellsNone tokens) bad none) r (subst (λ ws. LineText (λ o. o.items) (λ n. n) ws r) (sym same) h.spelled);
+  none = λ r h. (subst (SpellsNone tokens) bad none) r (subst (λ ws. LineText (λ o. o) (λ n. n) ws r) (sym same) h.spelled);
 }
 
 -- a line that is not skipped, and holds an octet past `~`

@@ -1,5 +1,5 @@
 -- The answer to a command over the records that were read, in whatever order they came.
-use Rattle.std.specs.Prelude.{◌≡◌, ℕ, true, false, List, Vec}
+use Rattle.std.specs.Prelude.{◌≡◌, true, false, List, Vec}
 use Rattle.std.specs.Global.{Global}
 use Rattle.domain_octets.specs.Words.{Octets}
 use Rattle.domain_base.specs.Words.{Name, Tokens}
@@ -33,9 +33,9 @@ fault_of_chain chain_error.OutOfMemory = OutOfMemory
 
 -- the answer is the NSEC chain of the records, as `GenerateNsecConfig::new` has it
 pub record IsNsecs (given : List ProgramRecord) (apex : Name) (answer : Answer) : Type 0 where
-  pub nsecs : Vec (Record Name (NsecData (Vec ℕ Global) Name)) Global
+  pub nsecs : Vec (Record Name (NsecData Octets Name)) Global
   pub is : answer ≡ Nsecs nsecs
-  pub chain : IsChainOf (λ o. o.items) (λ n. n) given apex usual_config
+  pub chain : IsChainOf (λ o. o) (λ n. n) given apex usual_config
       (links_of (λ n. n) nsecs.items)
 
 -- there is none, for this reason
@@ -43,7 +43,7 @@ pub record HasNoNsecs (given : List ProgramRecord) (apex : Name) (fault : Denial
     : Type 0 where
   pub error : ChainError
   pub is : fault ≡ fault_of_chain error
-  pub none : HasNoChain (λ o. o.items) (λ n. n) given apex usual_config error
+  pub none : HasNoChain (λ o. o) (λ n. n) given apex usual_config error
 
 -- how the program makes an NSEC3 chain with these parameters: as `GenerateNsec3Config::new` has it
 abbrev pub usual_nsec3_config : HasherAnswer → Params → ChainConfig
@@ -60,9 +60,9 @@ usual_nsec3_config answer p =
 -- the answer is the NSEC3 chain of the records by this hasher, and its NSEC3PARAM record
 pub record IsNsec3s (answers : HasherAnswer) (given : List ProgramRecord) (apex : Name) (p : Params)
     (answer : Answer) : Type 0 where
-  pub made : HashedNsec3s Name (Vec ℕ Global)
+  pub made : HashedNsec3s Name Octets
   pub is : answer ≡ Nsec3s made
-  pub chain : IsHashedChainOf (λ o. o.items) (λ n. n) given apex (usual_nsec3_config answers p) Soa
+  pub chain : IsHashedChainOf (λ o. o) (λ n. n) given apex (usual_nsec3_config answers p) Soa
       made.chain (as_param_record (λ n. n) made.nsec3param)
 
 -- there is none, for this reason
@@ -70,7 +70,7 @@ pub record HasNoNsec3s (answers : HasherAnswer) (given : List ProgramRecord) (ap
     (p : Params) (fault : DenialFault) : Type 0 where
   pub error : ChainError
   pub is : fault ≡ fault_of_chain error
-  pub none : HasNoHashedChain (λ o. o.items) (λ n. n) given apex (usual_nsec3_config answers p)
+  pub none : HasNoHashedChain (λ o. o) (λ n. n) given apex (usual_nsec3_config answers p)
       error
 
 abbrev pub IsAnswer : HasherAnswer → Command → List ProgramRecord → Answer → Type 0
@@ -92,7 +92,7 @@ pub record Answers (answers : HasherAnswer) (words : Tokens) (lines : List Octet
   pub command : Command
   pub given : List ProgramRecord
   pub asks : Asks words command
-  pub gives : Give (λ o. o.items) (λ n. n) lines given
+  pub gives : Give (λ o. o) (λ n. n) lines given
   pub is : IsAnswer answers command given answer
 
 -- it has none over them, for this reason
@@ -101,5 +101,5 @@ pub record GivesNoAnswer (answers : HasherAnswer) (words : Tokens) (lines : List
   pub command : Command
   pub given : List ProgramRecord
   pub asks : Asks words command
-  pub gives : Give (λ o. o.items) (λ n. n) lines given
+  pub gives : Give (λ o. o) (λ n. n) lines given
   pub none : HasNoAnswer answers command given fault

@@ -1,6 +1,5 @@
 -- What the records of a chain that were read prove of a name and a type.
-use Rattle.std.specs.Prelude.{ℕ, ◌≡◌, ◌≢◌, true, false, ◌-◌, List, [], ◌∷◌, ◌++◌, Vec, codes, drop, length, if◌then◌else◌}
-use Rattle.std.specs.Global.{Global}
+use Rattle.std.specs.Prelude.{ℕ, ◌≡◌, ◌≢◌, true, false, ◌-◌, List, [], ◌∷◌, ◌++◌, codes, drop, length, if◌then◌else◌}
 use Rattle.std.specs.List.{flat_map}
 use Rattle.domain_octets.specs.Words.{Octets}
 use Rattle.domain_base.specs.Name.{is_at_or_below, same_name}
@@ -32,16 +31,16 @@ use Rattle.denial.specs.declared.fault.DenialFault.TheVariants.{Usage, Read, Lin
 
 -- the data of the program's records
 abbrev pub Data : Type 0
-Data = ZoneRecordData (Vec ℕ Global) Name
+Data = ZoneRecordData Octets Name
 
 abbrev pub NsecRecord : Type 0
-NsecRecord = Record Name (NsecData (Vec ℕ Global) Name)
+NsecRecord = Record Name (NsecData Octets Name)
 
 abbrev pub Nsec3Record : Type 0
-Nsec3Record = Record Name (Nsec3Data (Vec ℕ Global))
+Nsec3Record = Record Name (Nsec3Data Octets)
 
 abbrev pub ParamRecord : Type 0
-ParamRecord = Record Name (Nsec3paramData (Vec ℕ Global))
+ParamRecord = Record Name (Nsec3paramData Octets)
 
 -- the record with these data
 abbrev pub with_data : {D : Type 0} → ProgramRecord → D → Record Name D

@@ -1,6 +1,6 @@
 -- What the words after the program's name ask for.
-use Rattle.std.specs.Prelude.{◌≡◌, ℕ, ◌≤◌, [], ◌∷◌, codes, length, Vec}
-use Rattle.std.specs.Global.{Global}
+use Rattle.std.specs.Prelude.{◌≡◌, ℕ, [], ◌∷◌, codes}
+use Rattle.domain_octets.specs.Words.{Octets}
 use Rattle.domain_base.specs.Numbers.{TypeText}
 use Rattle.domain_base.specs.Scan.{IsNumber}
 use Rattle.domain_base.specs.Text.{NameText}
@@ -13,7 +13,7 @@ use Rattle.denial.specs.declared.command.Question.{Question}
 
 -- the parameters of an NSEC3 chain; the octets of the salt are held in a vector
 abbrev pub Params : Type 0
-Params = Nsec3param (Vec ℕ Global)
+Params = Nsec3param Octets
 
 -- the words ask for the NSEC chain of the zone with this apex
 pub record AsksForNsec (words : Tokens) (apex : Name) : Type 0 where
@@ -33,7 +33,6 @@ pub record Spell (iterations_word salt_word : Token) (last : Tokens) (p : Params
   pub algorithm : p.hash_algorithm ≡ 1
   pub iterations : IsNumber 16 iterations_word p.iterations
   pub salt : SaltText salt_word p.salt
-  pub fits : length p.salt ≤ 255
   pub flags : FlagsText last p.flags
 
 -- the words ask for the NSEC3 chain of the zone with this apex, with these parameters

@@ -1,6 +1,5 @@
 -- What the lines of a text give.
-use Rattle.std.specs.Prelude.{◌≡◌, ◌⊎◌, ℕ, ◌+◌, List, [], ◌∷◌, ◌++◌, All, length, Vec}
-use Rattle.std.specs.Global.{Global}
+use Rattle.std.specs.Prelude.{◌≡◌, ◌⊎◌, ℕ, ◌+◌, List, [], ◌∷◌, ◌++◌, All, length}
 use Rattle.domain_octets.specs.Words.{Octets}
 use Rattle.domain_plain.specs.declared.record.Record.{Record}
 use Rattle.domain_rdata.specs.declared.zone_record_data.ZoneRecordData.{ZoneRecordData}
@@ -23,19 +22,19 @@ Give {O} {N} octets labels (line ∷ more) records =
     ⊎ ((r : Record N (ZoneRecordData O N)) × (others : List (Record N (ZoneRecordData O N)))
     × (records ≡ r ∷ others) × IsRecord octets labels line r × Give octets labels more others)
 
--- the program's records: their octets are held in vectors, and their names are seen as labels
+-- the program's records, whose octets and labels are seen as they are
 abbrev pub ProgramRecord : Type 0
-ProgramRecord = Record Name (ZoneRecordData (Vec ℕ Global) Name)
+ProgramRecord = Record Name (ZoneRecordData Octets Name)
 
 -- the line is skipped, or spells a record
 abbrev pub IsGood : Octets → Type 0
 IsGood line =
-    IsSkipped (words line) ⊎ ((r : ProgramRecord) × IsRecord (λ o. o.items) (λ n. n) line r)
+    IsSkipped (words line) ⊎ ((r : ProgramRecord) × IsRecord (λ o. o) (λ n. n) line r)
 
 -- the line is neither skipped nor a record
 pub record IsBad (line : Octets) : Type 0 where
   pub seen : IsSkipped (words line) → ⊥
-  pub none : (r : ProgramRecord) → IsRecord (λ o. o.items) (λ n. n) line r → ⊥
+  pub none : (r : ProgramRecord) → IsRecord (λ o. o) (λ n. n) line r → ⊥
 
 -- the line of this number, counted from 1, is the lowest that is bad
 pub record IsFirstBad (lines : List Octets) (number : ℕ) : Type 0 where

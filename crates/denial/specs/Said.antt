@@ -12,7 +12,7 @@ use Rattle.denial.specs.declared.line.LineError.TheVariants as line_error
 
 abbrev pub Says : Octets → Line → Type 0
 Says line Nothing = IsSkipped (words line)
-Says line (Record r) = IsRecord (λ o. o.items) (λ n. n) line r
+Says line (Record r) = IsRecord (λ o. o) (λ n. n) line r
 Says line Bad = IsBad line
 
 -- why words are no record, where a token was refused
@@ -24,5 +24,5 @@ line_error_of scan_error.OutOfMemory = line_error.OutOfMemory
 
 -- the words spell no record, unless there was no memory to tell
 abbrev pub SpellsNone : Tokens → LineError → Type 0
-SpellsNone ws line_error.Bad = (r : ProgramRecord) → LineText (λ o. o.items) (λ n. n) ws r → ⊥
+SpellsNone ws line_error.Bad = (r : ProgramRecord) → LineText (λ o. o) (λ n. n) ws r → ⊥
 SpellsNone ws line_error.OutOfMemory = Unit {0}

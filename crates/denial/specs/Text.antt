@@ -1,6 +1,5 @@
 -- The text of an answer.
-use Rattle.std.specs.Prelude.{ℕ, List, ◌++◌, codes, Vec}
-use Rattle.std.specs.Global.{Global}
+use Rattle.std.specs.Prelude.{ℕ, List, ◌++◌, codes}
 use Rattle.std.specs.List.{flat_map}
 use Rattle.std.specs.Fmt.{decimal}
 use Rattle.domain_octets.specs.Words.{Octets}
@@ -30,7 +29,7 @@ record_line rtype data_text r =
     ++ class_text r.class ++ codes " " ++ type_text rtype ++ codes " " ++ data_text r.«data»
 
 -- the next name with its last dot and the types
-abbrev pub nsec_line : Record Name (Nsec (Vec ℕ Global) Name) → Octets
+abbrev pub nsec_line : Record Name (Nsec Octets Name) → Octets
 nsec_line =
     record_line nsec (λ d. (name_text d.next_name ++ codes ". ") ++ types_text (types_of d.types))
 
@@ -47,14 +46,14 @@ nsec3_line k =
     (record { owner = k.owner; class = k.class; ttl = k.ttl; «data» = link_values k })
 
 -- algorithm, flags, iterations and salt
-abbrev pub nsec3param_line : Record Name (Nsec3param (Vec ℕ Global)) → Octets
+abbrev pub nsec3param_line : Record Name (Nsec3param Octets) → Octets
 nsec3param_line = record_line nsec3param (λ d. nsec3param_text (nsec3param_values d))
 
 abbrev pub lines_of : {T : Type 0} → (T → Octets) → List T → Octets
 lines_of text = flat_map (λ item. text item ++ codes "\n")
 
 -- a line for each record of an NSEC3 chain, and one for its NSEC3PARAM record
-abbrev pub nsec3s_text : HashedNsec3s Name (Vec ℕ Global) → Octets
+abbrev pub nsec3s_text : HashedNsec3s Name Octets → Octets
 nsec3s_text made =
     lines_of nsec3_line made.chain ++ (nsec3param_line made.nsec3param ++ codes "\n")
 

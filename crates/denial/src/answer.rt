@@ -8,7 +8,7 @@ ghost use Rattle.denial.specs.Text.{answer_text, lines_of, nsec_line, nsec3_line
 use crate::check::{nsec_verdict, nsec3_verdict};
 use crate::command::{Command, Nsec3Params};
 use crate::fault::DenialFault;
-use crate::line::{ZoneName, ZoneRr};
+use crate::line::{ZoneName, ZoneOctets, ZoneRr};
 use crate::verdict_text::VerdictText;
 use domain_dnssec::{
     DefaultSorter, GenerateNsec3Config, GenerateNsecConfig, HashedNsec3s, Nsec3Chain, Nsec3Hasher,
@@ -21,10 +21,10 @@ use std::io::Write;
 use std::{fmt, io};
 
 /// A record of an NSEC chain.
-pub type NsecRr = Record<ZoneName, Nsec<Vec<u8>, ZoneName>>;
+pub type NsecRr = Record<ZoneName, Nsec<ZoneOctets, ZoneName>>;
 
 /// A record of an NSEC3 chain.
-pub type Nsec3Rr = Record<ZoneName, Nsec3<Vec<u8>>>;
+pub type Nsec3Rr = Record<ZoneName, Nsec3<ZoneOctets>>;
 
 /// What a run answers.
 #[derive(Drop)]
@@ -32,7 +32,7 @@ pub enum Answer {
     /// An NSEC chain.
     Nsecs(Vec<NsecRr>),
     /// An NSEC3 chain before its records are made, and the record of its parameters.
-    Nsec3s(HashedNsec3s<ZoneName, Vec<u8>>),
+    Nsec3s(HashedNsec3s<ZoneName, ZoneOctets>),
     /// What records prove of a name.
     Verdict(ZoneName, Verdict),
 }
@@ -61,7 +61,9 @@ fn nsec3s_of<H: Nsec3Hasher>(
     ensures err { IfErr result
         (HasNoNsec3s (H.answer hasher.now) records.items apex.now parameters) }
 {
-    let config: GenerateNsec3Config<Vec<u8>, DefaultSorter> = GenerateNsec3Config::new(parameters);
+    let config: GenerateNsec3Config<ZoneOctets, DefaultSorter> = GenerateNsec3Config::new(
+        parameters,
+    );
     match hash_nsec3s_of_records(alloc, apex, records, &config, hasher) {
         Ok(made) => Ok(Answer::Nsec3s(made)),
         Err(error) => Err(DenialFault::from(error)),
@@ -114,7 +116,7 @@ fn write_nsecs<W: Write>(nsecs: &[NsecRr], output: &mut W) -> io::Result<()>
 
 /// Writes the records of an NSEC3 chain, one a line. They borrow from the chain, so that this takes
 /// no memory.
-fn write_chain<W: Write>(chain: &Nsec3Chain<ZoneName, Vec<u8>>, output: &mut W) -> io::Result<()>
+fn write_chain<W: Write>(chain: &Nsec3Chain<ZoneName, ZoneOctets>, output: &mut W) -> io::Result<()>
     ensures { OnOk result (Appends (W.contents output.old) (W.contents output.new)
         (lines_of nsec3_line chain.now)) }
 {
@@ -128,7 +130,10 @@ fn write_chain<W: Write>(chain: &Nsec3Chain<ZoneName, Vec<u8>>, output: &mut W) 
 }
 
 /// Writes the records of an NSEC3 chain, and the record of its parameters.
-fn write_nsec3s<W: Write>(made: &HashedNsec3s<ZoneName, Vec<u8>>, output: &mut W) -> io::Result<()>
+fn write_nsec3s<W: Write>(
+    made: &HashedNsec3s<ZoneName, ZoneOctets>,
+    output: &mut W,
+) -> io::Result<()>
     ensures { OnOk result (Appends (W.contents output.old) (W.contents output.new)
         (nsec3s_text made.now)) }
 {

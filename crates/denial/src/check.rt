@@ -6,7 +6,7 @@ ghost use Rattle.denial.specs.declared.fault.DenialFault.TheVariants.{OutOfMemor
 use crate::answer::{Answer, Nsec3Rr, NsecRr};
 use crate::command::{Nsec3Params, Question};
 use crate::fault::DenialFault;
-use crate::line::{ZoneName, ZoneRr};
+use crate::line::{ZoneName, ZoneOctets, ZoneRr};
 use domain_base::ToName;
 use domain_dnssec::{Nsec3Hasher, Nsec3Records, Verdict, check_nsec, check_nsec3};
 use domain_octets::OutOfMemory;
@@ -84,7 +84,7 @@ fn chain_of(
     alloc: Global,
     apex: &ZoneName,
     records: Vec<ZoneRr>,
-) -> Result<Nsec3Records<ZoneName, Vec<u8>>, DenialFault>
+) -> Result<Nsec3Records<ZoneName, ZoneOctets>, DenialFault>
     ensures ok { IfOk result (λ chain. (params_at apex.now records.items ≡ chain.nsec3param ∷ [])
         × (chain.nsec3s.items ≡ nsec3s_among records.items)) }
     ensures err { IfErr result (λ e. ((e ≡ DenialFault.Param)

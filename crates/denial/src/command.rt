@@ -1,5 +1,5 @@
 //! What the words after the program's name ask for.
-ghost use Rattle.std.specs.Prelude.{◌≡◌, ◌⊎◌, ◌≤◌, ℕ, ◌∷◌, codes, length, IfErr, IfNone, IfOk, IfSome, map, string_bytes};
+ghost use Rattle.std.specs.Prelude.{◌≡◌, ◌⊎◌, ℕ, ◌∷◌, codes, IfErr, IfNone, IfOk, IfSome, map, string_bytes};
 ghost use Rattle.domain_base.specs.Text.{NameText, IsNoName};
 ghost use Rattle.domain_base.specs.Scan.{IsNumber};
 ghost use Rattle.domain_bitmap.specs.HashText.{SaltText};
@@ -10,14 +10,14 @@ ghost use Rattle.denial.specs.declared.command.Question.{Question};
 ghost use Rattle.denial.specs.declared.fault.DenialFault.TheVariants.{OutOfMemory};
 
 use crate::fault::DenialFault;
-use crate::line::ZoneName;
+use crate::line::{ZoneName, ZoneOctets};
 use domain_base::{FromToken, IterScanner, Nsec3HashAlgorithm, Rtype, ScanError};
 use domain_bitmap::Nsec3Salt;
 use domain_rdata::Nsec3param;
 use std::alloc::Global;
 
 /// The parameters of an NSEC3 chain.
-pub type Nsec3Params = Nsec3param<Vec<u8>>;
+pub type Nsec3Params = Nsec3param<ZoneOctets>;
 
 /// A zone by its apex, and a name and a type that are asked of it.
 #[derive(Drop)]
@@ -69,14 +69,14 @@ fn iterations_of(word: &str) -> Result<u16, DenialFault>
 }
 
 /// A salt that a word spells (RFC 5155, section 4.3).
-fn salt_of(alloc: Global, word: &str) -> Result<Nsec3Salt<Vec<u8>>, DenialFault>
+fn salt_of(alloc: Global, word: &str) -> Result<Nsec3Salt<ZoneOctets>, DenialFault>
     ensures ok { IfOk result (SaltText word.now) }
     ensures err { IfErr result (λ e. ((e ≡ DenialFault.Usage)
-        × ((salt : Octets) → SaltText word.now salt → length salt ≤ 255 → ⊥))
+        × ((salt : Octets) → SaltText word.now salt → ⊥))
         ⊎ (e ≡ OutOfMemory)) }
 {
     let words = [word];
-    let mut scanner = IterScanner::<Vec<u8>>::new(&words);
+    let mut scanner = IterScanner::<ZoneOctets>::new(&words);
     match Nsec3Salt::scan(alloc, &mut scanner) {
         Ok(salt) => Ok(salt),
         Err(error) => match error {

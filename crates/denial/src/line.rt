@@ -1,23 +1,27 @@
 //! What a line of the input says.
-ghost use Rattle.std.specs.Prelude.{◌≡◌, ◌↔◌, IsTrue, IfErr, IfOk, IfSome, IfNone, map};
+ghost use Rattle.std.specs.Prelude.{◌≡◌, ◌≤◌, ◌↔◌, false, IsTrue, IfErr, IfOk, IfSome, IfNone, map};
 ghost use Rattle.domain_base.specs.Scan.{ScanFault, TakesToken, RefusesToken};
 ghost use Rattle.denial.specs.Words.{words, is_blank, IsSkipped, IsPlain, ArePlain, LineText};
 ghost use Rattle.denial.specs.Said.{Says, SpellsNone, line_error_of};
 
 use domain_base::{Class, FromToken, IterScanner, Name, Rtype, ScanError, Scanner, Ttl};
-use domain_octets::OutOfMemory;
+use domain_octets::{OutOfMemory, SmallOctets};
 use domain_plain::Record;
 use domain_rdata::ZoneRecordData;
+use smallvec::SmallVec;
 use std::alloc::{AllocError, Global};
 
-/// The names of the program: each in octets of its own.
-pub type ZoneName = Name<Vec<u8>>;
+/// The octets of the program's names and data: most lie in the value itself, and take no memory.
+pub type ZoneOctets = SmallOctets;
 
-/// Room for the words of most records.
-const USUAL_WORDS: usize = 8;
+/// The names of the program: each in octets of its own.
+pub type ZoneName = Name<ZoneOctets>;
+
+/// The words of a line. Those of most records, up to eight, take no memory.
+type LineWords<'a> = SmallVec<&'a str, 8>;
 
 /// The data of the program's records.
-pub type ZoneData = ZoneRecordData<Vec<u8>, ZoneName>;
+pub type ZoneData = ZoneRecordData<ZoneOctets, ZoneName>;
 
 /// The program's records.
 pub type ZoneRr = Record<ZoneName, ZoneData>;
@@ -38,6 +42,13 @@ fn separates(octet: u8) -> bool
     ensures { result ≡ is_blank octet }
 {
     octet == b' ' || octet == b'\t'
+}
+
+/// Whether the octet stands in words of text.
+fn is_of_word(octet: u8) -> bool
+    ensures { IsTrue result → (is_blank octet ≡ false) × (octet ≤ 126) }
+{
+    octet > b' ' && octet <= b'~'
 }
 
 /// Whether a line is blank, or a comment.
@@ -61,14 +72,17 @@ fn text_of(word: &[u8]) -> &str
 }
 
 /// The words of a line as text, where none of their octets is past `~`. Looks at each octet once.
-fn tokens_of(alloc: Global, line: &[u8]) -> Result<Option<Vec<&str>>, AllocError>
+fn tokens_of(alloc: Global, line: &[u8]) -> Result<Option<LineWords<'_>>, AllocError>
     ensures same { IfOk result (λ o. IfSome o (λ v. map (λ t. t.now) v.items ≡ words line.now)) }
     ensures plain { IfOk result (λ o. IfSome o (λ _. ArePlain (words line.now))) }
     ensures none { IfOk result (λ o. IfNone o (ArePlain (words line.now) → ⊥)) }
 {
-    let mut tokens = Vec::with_capacity(alloc, USUAL_WORDS)?;
+    let mut tokens = SmallVec::new(alloc);
     let mut start = 0;
     for (i, octet) in line.iter().enumerate() {
+        if is_of_word(*octet) {
+            continue;
+        }
         if *octet > b'~' {
             return Ok(None);
         }
@@ -119,11 +133,11 @@ fn field<F: FromToken, S: Scanner>(scanner: &mut S) -> Result<F, LineError>
 }
 
 /// The record that tokens spell: owner, TTL, class, type and data.
-fn scan_record<S: Scanner<Name = ZoneName, Octets = Vec<u8>>>(
+fn scan_record<S: Scanner<Name = ZoneName, Octets = ZoneOctets>>(
     alloc: Global,
     scanner: &mut S,
 ) -> Result<ZoneRr, LineError>
-    ensures ok { IfOk result (LineText (λ o. o.items) (λ n. n) (S.tokens scanner.old)) }
+    ensures ok { IfOk result (LineText (λ o. o) (λ n. n) (S.tokens scanner.old)) }
     ensures err { IfErr result (SpellsNone (S.tokens scanner.old)) }
 {
     let owner = scanner.scan_name(alloc)?;
@@ -139,10 +153,10 @@ fn scan_record<S: Scanner<Name = ZoneName, Octets = Vec<u8>>>(
 
 /// The record that words spell.
 fn record_of<'a>(alloc: Global, words: &'a [&'a str]) -> Result<ZoneRr, LineError>
-    ensures ok { IfOk result (LineText (λ o. o.items) (λ n. n) (map (λ w. w.now) words.now)) }
+    ensures ok { IfOk result (LineText (λ o. o) (λ n. n) (map (λ w. w.now) words.now)) }
     ensures err { IfErr result (SpellsNone (map (λ w. w.now) words.now)) }
 {
-    let mut scanner = IterScanner::<Vec<u8>>::new(words);
+    let mut scanner = IterScanner::<ZoneOctets>::new(words);
     scan_record(alloc, &mut scanner)
 }
 

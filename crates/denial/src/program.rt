@@ -1,7 +1,8 @@
 //! The run of the program, over any reader and any writer.
-ghost use Rattle.std.specs.Prelude.{◌≡◌, ◌≢◌, ◌⊎◌, ℕ, ◌-◌, [], ◌∷◌, ◌++◌, IfErr, IfOk, MatchResult, OnOk, IsErrOf, IfSome, map, length, slice_index, string_bytes};
+ghost use Rattle.std.specs.Prelude.{◌≡◌, ◌≢◌, ◌⊎◌, ℕ, ◌+◌, ◌-◌, [], ◌∷◌, ◌++◌, IfErr, IfOk, MatchResult, OnOk, IsErrOf, IfSome, map, length, slice_index, string_bytes, vec_len};
 ghost use Rattle.std.specs.Str.Lines.{lines, strip_carriage_return};
-ghost use Rattle.std.specs.Io.KnownBytes.{Appends};
+ghost use Rattle.std.specs.Io.BufRead.{take_through, DropsThrough};
+ghost use Rattle.std.specs.Io.KnownBytes.{Appends, IsAtEnd};
 ghost use Rattle.std.specs.IoError.{error_kind};
 ghost use Rattle.domain_octets.specs.Words.{Octets};
 ghost use Rattle.domain_octets.specs.Characters.{line_feed};
@@ -18,6 +19,7 @@ use crate::command::command_of;
 use crate::fault::DenialFault;
 use crate::line::{Line, ZoneRr, read_line};
 use domain_dnssec::Nsec3Hasher;
+use memchr::memchr;
 use std::alloc::Global;
 use std::io;
 use std::io::{BufRead, ErrorKind, Write};
@@ -64,11 +66,34 @@ fn skip_all<R: BufRead>(input: &mut R) -> Result<(), DenialFault>
     Err(DenialFault::Read)
 }
 
+/// Appends the next line, with its end, and answers how many octets it has: none at the end of the
+/// input alone. A line that the reader holds whole is found by one fast search.
+fn append_line<R: BufRead>(input: &mut R, line: &mut Vec<u8>) -> io::Result<usize>
+    ensures ok { IfOk result (λ n. vec_len line.new ≡ vec_len line.old + n) }
+    ensures bytes { OnOk result (IfSome (R.remaining input.old)
+        (λ all. line.new.items ≡ line.old.items ++ take_through line_feed all)) }
+    ensures rest { OnOk result
+        (DropsThrough (R.remaining input.old) (R.remaining input.new) line_feed) }
+    ensures end { IfOk result (λ n. n ≡ 0 → IsAtEnd (R.remaining input.old)) }
+{
+    let held = match input.fill_buf() {
+        Ok(held) => held,
+        Err(e) if e.kind() == ErrorKind::Interrupted => return input.read_until(b'\n', line),
+        Err(e) => return Err(e),
+    };
+    let Some(place) = memchr(b'\n', held) else {
+        return input.read_until(b'\n', line);
+    };
+    line.extend_from_slice(&held[..place + 1])?;
+    input.consume(place + 1);
+    Ok(place + 1)
+}
+
 /// The records of the lines that are left. A bad line is told only after the rest has been read,
 /// since a fault of the reader is told before it.
 fn read_records<R: BufRead>(alloc: Global, input: &mut R) -> Result<Vec<ZoneRr>, DenialFault>
     ensures ok { IfOk result (λ v.
-        IfSome (R.remaining input.old) (λ all. Give (λ o. o.items) (λ n. n) (lines all) v.items)) }
+        IfSome (R.remaining input.old) (λ all. Give (λ o. o) (λ n. n) (lines all) v.items)) }
     ensures err { IfErr result IsReadingFault }
     ensures line { (n : ℕ) → IsErrOf result (DenialFault.Line n)
         → IfSome (R.remaining input.old) (λ all. IsFirstBad (lines all) n) }
@@ -81,7 +106,7 @@ fn read_records<R: BufRead>(alloc: Global, input: &mut R) -> Result<Vec<ZoneRr>,
     let mut line = Vec::new(alloc);
     for number in 1..u64::MAX {
         line.clear();
-        let count = match input.read_until(b'\n', &mut line) {
+        let count = match append_line(input, &mut line) {
             Ok(count) => count,
             Err(e) => return Err(fault_of(&e, DenialFault::Read)),
         };

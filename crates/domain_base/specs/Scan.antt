@@ -1,5 +1,5 @@
 -- the tokens of an entry, and what is read from them
-use Rattle.std.specs.Prelude.{◌≡◌, ◌⊎◌, ℕ, ◌<◌, ◌^◌, [], ◌∷◌, ◌++◌, codes, Option, IsNone, length}
+use Rattle.std.specs.Prelude.{◌≡◌, ℕ, ◌<◌, ◌^◌, [], ◌∷◌, ◌++◌, codes, Option, None, IsNone, length}
 use Rattle.std.specs.Str.Parse.{IsNumeral, digits_value}
 use Rattle.domain_octets.specs.Limit.{IsOver}
 use Rattle.std.specs.List.{concat}
@@ -31,6 +31,14 @@ scan_fault_of EndOfEntry = entry_ends
 scan_fault_of (Custom text) = illegal text.now
 scan_fault_of ShortBuf = no_room
 scan_fault_of OutOfMemory = no_memory
+
+-- the fault is one of the tokens, and not of a builder with this limit: memory is not wanting, and
+-- nor is room, where there is a limit
+abbrev pub IsOfTokens : Option ℕ → ScanFault → Type 0
+IsOfTokens limit entry_ends = Unit {0}
+IsOfTokens limit (illegal said) = Unit {0}
+IsOfTokens limit no_room = limit ≡ None
+IsOfTokens limit no_memory = ⊥
 
 -- the first token was taken, and P holds of it
 pub record TakesToken (P : Token → Type 0) (old new : Tokens) : Type 0 where
@@ -84,17 +92,9 @@ abbrev pub TokenHasNoRoom : Codec → Option ℕ → Tokens → Type 0
 TokenHasNoRoom codec limit [] = ⊥
 TokenHasNoRoom codec limit (token ∷ tokens) = HasNoRoom codec limit token
 
--- there are several tokens, so that memory is taken to join them
-abbrev pub AreSeveral : Tokens → Type 0
-AreSeveral tokens = 1 < length tokens
-
 -- why tokens, joined, are not decoded into octets that have this limit
 abbrev pub EntryFault : Codec → Option ℕ → ScanFault → Tokens → Type 0
-EntryFault codec limit entry_ends tokens = ⊥
-EntryFault codec limit (illegal said) tokens = CodecFault codec limit (illegal said) (concat tokens)
-EntryFault codec limit no_room tokens = CodecFault codec limit no_room (concat tokens)
-EntryFault codec limit no_memory tokens =
-    AreSeveral tokens ⊎ CodecFault codec limit no_memory (concat tokens)
+EntryFault codec limit fault tokens = CodecFault codec limit fault (concat tokens)
 
 -- tokens begin with a text of a value, and others are left
 abbrev pub Grammar : Type 0 → Type 1

@@ -13,7 +13,8 @@ ghost use Rattle.domain_base.specs.Words.{Name};
 
 use crate::{MakeName, ParseError, ScanError, ToName, text, wire};
 use domain_octets::{
-    ArrayBuilder, EmptyBuilder, FromBuilder, Octets, OctetsBuilder, OutOfMemory, TryClone,
+    ArrayBuilder, EmptyBuilder, FromBuilder, Octets, OctetsBuilder, OutOfMemory, SmallOctets,
+    TryClone,
 };
 use std::alloc::Global;
 use std::cmp::Ordering;
@@ -110,6 +111,14 @@ impl MakeName for Name<Vec<u8>> {
     fn make(alloc: Global, wire: &[u8]) -> Result<Self, OutOfMemory> {
         Ok(Name {
             octets: Vec::from_slice(alloc, wire)?,
+        })
+    }
+}
+
+impl MakeName for Name<SmallOctets> {
+    fn make(alloc: Global, wire: &[u8]) -> Result<Self, OutOfMemory> {
+        Ok(Name {
+            octets: SmallOctets::from_slice(alloc, wire)?,
         })
     }
 }

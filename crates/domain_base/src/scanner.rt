@@ -1,15 +1,16 @@
 //! The tokens of an entry of a zone file.
-ghost use Rattle.std.specs.Prelude.{◌≡◌, ◌≢◌, ◌↔◌, ◌∷◌, [], drop, length, map, IsTrue, IfOk, IfErr, IsErrOf, IsOkAnd, OnOk, MatchOption, string_bytes};
+ghost use Rattle.std.specs.Prelude.{◌≡◌, ◌≢◌, ◌↔◌, ◌∷◌, [], ℕ, Option, drop, length, map, IsTrue, IfOk, IfErr, IsErrOf, IsOkAnd, OnOk, MatchOption};
 ghost use Rattle.std.specs.Fn.{FnOnceReturnsAt};
 ghost use Rattle.domain_base.specs.Scan.{ScanFault, scan_fault_of, TakesToken, RefusesToken, NameTextFault, CodecFault, TokenHasNoRoom, EntryFault, IsEnd};
-ghost use Rattle.domain_octets.specs.Codec.{Decodes, HasNoRoom};
+ghost use Rattle.domain_octets.specs.Codec.{Decodes, HasNoRoom, DecodeFault};
 ghost use Rattle.domain_octets.specs.Limit.{HasRoom};
 ghost use Rattle.std.specs.List.{concat};
 ghost use Rattle.domain_base.specs.Text.{NameText};
 ghost use Rattle.domain_base.specs.Words.{Tokens, Token};
+ghost use Rattle.domain_octets.specs.Words.{Octets};
 
 use crate::{Name, ScanError, ToName};
-use domain_octets::{Codec, DecodeError, EmptyBuilder, FromBuilder, OutOfMemory};
+use domain_octets::{Codec, DecodeError, EmptyBuilder, FromBuilder};
 use std::alloc::Global;
 use std::marker::{Model, PhantomData};
 
@@ -89,7 +90,7 @@ pub trait Scanner {
     ///
     /// Refuses a text that stands for no octets as `Custom("illegal data")`, and then octets for
     /// which the builder has no room or no memory. The tokens that are left then are an end of
-    /// those before. Several tokens may be joined in memory, for want of which they are refused too.
+    /// those before.
     fn convert_entry(&mut self, alloc: Global, codec: Codec) -> Result<Self::Octets, ScanError>
         ensures ok { IfOk result (λ octets.
             Decodes codec (concat (tokens self.old)) (Self.Octets.octets octets)) }
@@ -184,43 +185,26 @@ where
     }
 
     fn convert_entry(&mut self, alloc: Global, codec: Codec) -> Result<O, ScanError> {
-        if self.left.len() > 1 {
-            let text = self.join_tokens(alloc)?;
-            return convert(alloc, codec, text.as_str());
-        }
-        match self.take_token() {
-            Some(text) => convert(alloc, codec, text),
-            None => convert(alloc, codec, ""),
+        let tokens = self.left;
+        self.left = &[];
+        match tokens {
+            [token] => convert(alloc, codec, token),
+            _ => convert_joined(alloc, codec, tokens),
         }
     }
 }
 
-impl<'a, O> IterScanner<'a, O> {
-    /// Takes the next token.
-    fn take_token(&mut self) -> Option<&'a str>
-        ensures { MatchOption result ((self.old ≡ []) × (self.new ≡ [])) (λ token.
-            self.old ≡ token.now ∷ self.new) }
-    {
-        match self.left {
-            [] => None,
-            [first, rest @ ..] => {
-                self.left = rest;
-                Some(first)
-            }
-        }
-    }
-
-    /// All tokens that are left, joined.
-    fn join_tokens(&mut self, alloc: Global) -> Result<String, OutOfMemory>
-        ensures ok { IfOk result (λ text. string_bytes text ≡ concat self.old) }
-        ensures all { OnOk result (self.new ≡ []) }
-        ensures end { IsEnd self.new self.old }
-    {
-        let mut text = String::new(alloc);
-        while let Some(token) = self.take_token() {
-            text.push_str(token)?;
-        }
-        Ok(text)
+/// What is said of a text that is not decoded.
+fn refusal(error: DecodeError) -> ScanError
+    ensures fault { (codec : Codec) (limit : Option ℕ) (text : Octets)
+        → DecodeFault codec limit text error → CodecFault codec limit (scan_fault_of result) text }
+    ensures room { (result ≡ ScanError.ShortBuf) ↔ (error ≡ DecodeError.ShortBuf) }
+{
+    match error {
+        DecodeError::IllegalChar(_) => ScanError::Custom("illegal data"),
+        DecodeError::ShortInput => ScanError::Custom("illegal data"),
+        DecodeError::ShortBuf => ScanError::ShortBuf,
+        DecodeError::OutOfMemory => ScanError::OutOfMemory,
     }
 }
 
@@ -234,10 +218,28 @@ where
 {
     match codec.decode(alloc, text) {
         Ok(octets) => Ok(octets),
-        Err(DecodeError::IllegalChar(_)) => Err(ScanError::Custom("illegal data")),
-        Err(DecodeError::ShortInput) => Err(ScanError::Custom("illegal data")),
-        Err(DecodeError::ShortBuf) => Err(ScanError::ShortBuf),
-        Err(DecodeError::OutOfMemory) => Err(ScanError::OutOfMemory),
+        Err(error) => Err(refusal(error)),
+    }
+}
+
+/// The octets that tokens stand for when they are joined.
+fn convert_joined<O: FromBuilder>(
+    alloc: Global,
+    codec: Codec,
+    tokens: &[&str],
+) -> Result<O, ScanError>
+where
+    O::Builder: EmptyBuilder + Drop,
+    ensures ok { IfOk result (λ octets.
+        Decodes codec (concat (map (λ token. token.now) tokens.now)) (O.octets octets)) }
+    ensures err { IfErr result (λ e. EntryFault codec O.Builder.limit (scan_fault_of e)
+        (map (λ token. token.now) tokens.now)) }
+    ensures room { IsErrOf result ScanError.ShortBuf
+        ↔ HasNoRoom codec O.Builder.limit (concat (map (λ token. token.now) tokens.now)) }
+{
+    match codec.decode_joined(alloc, tokens) {
+        Ok(octets) => Ok(octets),
+        Err(error) => Err(refusal(error)),
     }
 }
 

@@ -13,3 +13,4 @@ pub mod CountedLemmas
 pub mod SaltLemmas
 pub mod PieceLemmas
 pub mod ReadBackLemmas
+pub mod RefusalLemmas

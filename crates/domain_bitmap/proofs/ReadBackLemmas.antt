@@ -1,5 +1,5 @@
 -- what sets of types and salts are written as is read back
-use Rattle.std.proofs.Common.{◌≡◌, ◌≢◌, ℕ, ◌+◌, ◌-◌, ◌*◌, ◌<◌, ◌≤◌, Bool, true, false, List, [], ◌∷◌, ◌++◌, zero, suc, map, codes, refl, sym, ap, subst, ◌∙◌, arith, inl, inr, append_assoc}
+use Rattle.std.proofs.Common.{◌≡◌, ◌≢◌, ℕ, ◌+◌, ◌-◌, ◌*◌, ◌<◌, ◌≤◌, Bool, true, false, List, [], ◌∷◌, ◌++◌, zero, suc, map, codes, refl, sym, ap, subst, ◌∙◌, arith, inl, inr, append_assoc, length}
 use Rattle.std.specs.Prelude.{◌==◌, ◌&&◌, filter}
 use Rattle.std.specs.List.{AllByRecursion, All, range_with_len, flat_map}
 use Rattle.std.proofs.lemmas.Bool.{cases_Bool}
@@ -135,15 +135,9 @@ no_dash : (octet : ℕ) (octets : List ℕ) → encode_upper (octet ∷ octets) 
 unfolding encode_with
 no_dash octet octets = λ same. cc
 
-pub salt_back : (octets : List ℕ) → All (λ octet. octet < 256) octets → SaltText (salt_text octets) octets
-salt_back [] small = dash (codes "-") refl
-salt_back (octet ∷ octets) small = digits (encode_upper (octet ∷ octets)) (octet ∷ octets) (no_dash octet octets) (upper_back (octet ∷ octets) small)
-
-pub one_salt : (text x y : List ℕ) → SaltText text x → SaltText text y → x ≡ y
-one_salt text x y (dash t is) (dash u is') = refl
-one_salt text x y (dash t is) (digits u other not decoded) = absurd (not is)
-one_salt text x y (digits t other not decoded) (dash u is) = absurd (not is)
-one_salt text x y (digits t octets not decoded) (digits u others not' decoded') = decodes_once Base16 text octets others decoded decoded'
+pub salt_back : (octets : List ℕ) → All (λ octet. octet < 256) octets → length octets ≤ 255 → SaltText (salt_text octets) octets
+salt_back [] small counted = dash (codes "-") refl
+salt_back (octet ∷ octets) small counted = digits (encode_upper (octet ∷ octets)) (octet ∷ octets) (no_dash octet octets) (upper_back (octet ∷ octets) small) counted
 
 pub salt_word : (octets : List ℕ) → IsWord (salt_text octets)
 salt_word [] = record { some = λ none. cc; unbroken = (refl, tt) }

@@ -1,5 +1,5 @@
 -- salts read from tokens
-use Rattle.std.proofs.Common.{◌≡◌, ◌≢◌, ℕ, List, [], ◌∷◌, drop, sym, ap, ◌∙◌, subst, codes}
+use Rattle.std.proofs.Common.{◌≡◌, ◌≢◌, ◌≤◌, ℕ, List, [], ◌∷◌, length, drop, sym, ap, ◌∙◌, subst, codes}
 use Rattle.std.specs.Prelude.{Option, Result, Ok, Err, IfOk, IfErr}
 use Rattle.domain_octets.specs.Codec.{Decodes}
 use Rattle.domain_octets.specs.declared.codec.Codec.TheVariants.{Base16}
@@ -32,14 +32,14 @@ not_dash : (token : List ℕ) → (BeginsWithDash token → ⊥) → token ≢ c
 not_dash [] other is = cc
 not_dash (c ∷ rest) other is = other (cc)
 
-took_digits : (old new : List (List ℕ)) (token salt : List ℕ) → (rest : List (List ℕ)) × (old ≡ token ∷ rest) → (BeginsWithDash token → ⊥) → TakesToken (λ t. Decodes Base16 t salt) old new → TakesToken (λ t. SaltText t salt) old new
-took_digits old new token salt first other took =
+took_digits : (old new : List (List ℕ)) (token salt : List ℕ) → (rest : List (List ℕ)) × (old ≡ token ∷ rest) → (BeginsWithDash token → ⊥) → TakesToken (λ t. Decodes Base16 t salt) old new → length salt ≤ 255 → TakesToken (λ t. SaltText t salt) old new
+took_digits old new token salt first other took counted =
     let both : took.token ∷ new ≡ token ∷ first.0 = sym took.first ∙ first.1 in
     let same : token ≡ took.token = cc in
     record {
       token = took.token;
       first = took.first;
-      holds = digits took.token salt (not_dash took.token (subst (λ (t : List ℕ). BeginsWithDash t → ⊥) same other)) took.holds;
+      holds = digits took.token salt (not_dash took.token (subst (λ (t : List ℕ). BeginsWithDash t → ⊥) same other)) took.holds counted;
     }
 
 refused_digits : (limit : Option ℕ) (old new : List (List ℕ)) (token : List ℕ) (fault : ScanFault) → (rest : List (List ℕ)) × (old ≡ token ∷ rest) → (BeginsWithDash token → ⊥) → RefusesToken (CountedFault Base16 (codes "illegal NSEC3 salt") limit) old new fault → RefusesToken (SaltTokenFault limit) old new fault
@@ -50,9 +50,9 @@ refused_digits limit old new token fault first other (refused read left why_faul
     refused read left why_fault (in_digits why_fault read (subst (λ (t : List ℕ). BeginsWithDash t → ⊥) same other) why)
 
 -- the same of an answer
-pub digits_ok : {E : Type 0} (r : Result (List ℕ) E) (old new : List (List ℕ)) (token : List ℕ) → (rest : List (List ℕ)) × (old ≡ token ∷ rest) → (BeginsWithDash token → ⊥) → IfOk r (λ salt. TakesToken (λ t. Decodes Base16 t salt) old new) → IfOk r (λ salt. TakesToken (λ t. SaltText t salt) old new)
-digits_ok (Ok salt) old new token first other took = took_digits old new token salt first other took
-digits_ok (Err e) old new token first other took = took
+pub digits_ok : {E : Type 0} (r : Result (List ℕ) E) (old new : List (List ℕ)) (token : List ℕ) → (rest : List (List ℕ)) × (old ≡ token ∷ rest) → (BeginsWithDash token → ⊥) → IfOk r (λ salt. TakesToken (λ t. Decodes Base16 t salt) old new) → IfOk r (λ salt. length salt ≤ 255) → IfOk r (λ salt. TakesToken (λ t. SaltText t salt) old new)
+digits_ok (Ok salt) old new token first other took counted = took_digits old new token salt first other took counted
+digits_ok (Err e) old new token first other took counted = took
 
 pub digits_err : {A E : Type 0} (fault_of : E → ScanFault) (r : Result A E) (limit : Option ℕ) (old new : List (List ℕ)) (token : List ℕ) → (rest : List (List ℕ)) × (old ≡ token ∷ rest) → (BeginsWithDash token → ⊥) → IfErr r (λ e. RefusesToken (CountedFault Base16 (codes "illegal NSEC3 salt") limit) old new (fault_of e)) → IfErr r (λ e. RefusesToken (SaltTokenFault limit) old new (fault_of e))
 digits_err fault_of (Ok a) limit old new token first other why = why

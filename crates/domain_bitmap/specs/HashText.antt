@@ -1,10 +1,10 @@
 -- salts and hashes of owner names as text (RFC 5155, section 3.3)
-use Rattle.std.specs.Prelude.{◌≡◌, ◌≢◌, ℕ, ◌<◌, [], ◌∷◌, length, codes, Option}
+use Rattle.std.specs.Prelude.{◌≡◌, ◌≢◌, ℕ, ◌<◌, ◌≤◌, [], ◌∷◌, length, codes, Option}
 use Rattle.hex.specs.Hex.{encode_upper}
 use Rattle.domain_octets.specs.Limit.{HasRoom}
 use Rattle.domain_octets.specs.Codec.{Decodes, DecodeFault}
 use Rattle.domain_octets.specs.Texts.{decode_error_text}
-use Rattle.domain_octets.specs.declared.codec.Codec.TheVariants.{Base16}
+use Rattle.domain_octets.specs.declared.codec.Codec.TheVariants.{Base16, Base32Hex}
 use Rattle.domain_octets.specs.Words.{Octets}
 use Rattle.domain_bitmap.specs.declared.salt_text.Nsec3SaltFromStrError.{Nsec3SaltFromStrError}
 use Rattle.domain_bitmap.specs.declared.salt_text.Nsec3SaltFromStrError.TheVariants as refusal
@@ -14,16 +14,22 @@ abbrev pub salt_text : Octets → Octets
 salt_text [] = codes "-"
 salt_text (octet ∷ octets) = encode_upper (octet ∷ octets)
 
--- the text is read as this salt
+-- the text is read as this salt, of at most 255 octets
 pub data SaltText : Octets → Octets → Type 0 where
   dash : (text : Octets) → text ≡ codes "-" → SaltText text []
   digits : (text octets : Octets) → text ≢ codes "-" → Decodes Base16 text octets
-      → SaltText text octets
+      → length octets ≤ 255 → SaltText text octets
 
--- the text stands for a salt of over 255 octets, which a builder with this limit has room for
+-- the text is read as this hash of an owner name, of at most 255 octets
+pub record OwnerHashText (text octets : Octets) : Type 0 where
+  pub decoded : Decodes Base32Hex text octets
+  pub counted : length octets ≤ 255
+
+-- the text stands for over 255 octets, which a builder with this limit has room for
 pub record IsLongSalt (limit : Option ℕ) (text : Octets) : Type 0 where
   pub octets : Octets
-  pub spelled : SaltText text octets
+  pub other : text ≢ codes "-"
+  pub decoded : Decodes Base16 text octets
   pub room : HasRoom limit (length octets)
   pub long : 255 < length octets
 

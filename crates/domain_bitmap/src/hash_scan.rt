@@ -1,9 +1,9 @@
 //! Salts and hashes of owner names from tokens (RFC 5155, section 3.3).
-ghost use Rattle.std.specs.Prelude.{◌≡◌, ◌↔◌, IfOk, IfErr, IsTrue, codes};
+ghost use Rattle.std.specs.Prelude.{◌≡◌, ◌≤◌, ◌↔◌, IfOk, IfErr, IsTrue, codes, length};
 ghost use Rattle.domain_octets.specs.Codec.{Decodes};
 ghost use Rattle.domain_octets.specs.declared.codec.Codec.TheVariants as codec;
 ghost use Rattle.domain_base.specs.Scan.{scan_fault_of, TakesToken, RefusesToken};
-ghost use Rattle.domain_bitmap.specs.HashText.{SaltText};
+ghost use Rattle.domain_bitmap.specs.HashText.{OwnerHashText, SaltText};
 ghost use Rattle.domain_bitmap.specs.HashScan.{CountedFault, SaltTokenFault, BeginsWithDash};
 
 use crate::{CountedOctets, Nsec3Salt, OwnerHash};
@@ -22,6 +22,7 @@ impl<O: FromBuilder + Drop, E: Default + Drop> CountedOctets<O, E> {
         ensures ok { IfOk result (λ counted.
             TakesToken (λ token. Decodes kind token counted)
             (S.tokens scanner.old) (S.tokens scanner.new)) }
+        ensures counted { IfOk result (λ counted. length counted ≤ 255) }
         ensures err { IfErr result (λ e.
             RefusesToken (CountedFault kind long.now O.Builder.limit)
             (S.tokens scanner.old) (S.tokens scanner.new) (scan_fault_of e)) }
@@ -47,7 +48,7 @@ impl<O: FromBuilder + Drop> OwnerHash<O> {
     /// memory, else `Custom("illegal owner name hash")` where it stands for over 255 octets.
     pub fn scan<S: Scanner<Octets = O>>(alloc: Global, scanner: &mut S) -> Result<Self, ScanError>
         ensures ok { IfOk result (λ hash.
-            TakesToken (λ token. Decodes codec.Base32Hex token hash) (S.tokens scanner.old)
+            TakesToken (λ token. OwnerHashText token hash) (S.tokens scanner.old)
             (S.tokens scanner.new)) }
         ensures err { IfErr result (λ e.
             RefusesToken (CountedFault codec.Base32Hex (codes "illegal owner name hash")

@@ -1,13 +1,16 @@
 //! What holds of the octets of sets of types, of octets that are read as such, and of their texts
 //! and those of salts. A caller calls the law in its body.
-ghost use Rattle.std.specs.Prelude.{◌≡◌, ◌<◌, ◌≤◌, length, ◌↔◌, ℕ, Bool};
+ghost use Rattle.std.specs.Prelude.{◌≡◌, ◌≢◌, ◌<◌, ◌≤◌, length, ◌↔◌, ℕ, Bool, Option, codes};
+ghost use Rattle.domain_octets.specs.declared.codec.Codec.TheVariants.{Base32Hex};
 ghost use Rattle.domain_octets.specs.Line.{words_of, IsWord};
 ghost use Rattle.domain_octets.specs.Words.{Octets, AreOctets};
+ghost use Rattle.domain_base.specs.Scan.{ScanFault, no_memory, IsOfTokens};
 ghost use Rattle.domain_base.specs.Words.{Rtypes, Tokens};
 ghost use Rattle.domain_bitmap.specs.Bitmap.{bitmap_octets};
 ghost use Rattle.domain_bitmap.specs.Blocks.{IsBitmap, IsShortest, contains_type, types_of, types_below};
-ghost use Rattle.domain_bitmap.specs.HashText.{SaltText, salt_text};
-ghost use Rattle.domain_bitmap.specs.Scan.{TypeTexts, is_among};
+ghost use Rattle.domain_bitmap.specs.HashScan.{CountedFault, SaltTokenFault};
+ghost use Rattle.domain_bitmap.specs.HashText.{OwnerHashText, SaltText, salt_text};
+ghost use Rattle.domain_bitmap.specs.Scan.{RefusesTypes, TypeTexts, is_among};
 ghost use Rattle.domain_bitmap.specs.Text.{types_text};
 
 /// Two bitmaps that builders made have the same octets exactly where the same types were added.
@@ -43,13 +46,43 @@ pub fn bitmaps_are_read_back()
 
 /// What a salt is written as is read back, and is one word.
 pub fn salts_are_read_back()
-    ensures salt { (octets : Octets) → AreOctets octets → SaltText (salt_text octets) octets }
+    ensures salt { (octets : Octets) → AreOctets octets → length octets ≤ 255
+        → SaltText (salt_text octets) octets }
     ensures word { (octets : Octets) → IsWord (salt_text octets) }
 {}
 
-/// Tokens spell one list of types at most, and a text one salt at most.
-pub fn types_and_salts_are_spelled_once()
+/// Tokens spell one list of types at most, and a text one salt and one hash at most.
+pub fn types_and_hashes_are_spelled_once()
     ensures types { (tokens : Tokens) (x y : Rtypes) → TypeTexts tokens x → TypeTexts tokens y
         → x ≡ y }
     ensures salt { (text x y : Octets) → SaltText text x → SaltText text y → x ≡ y }
+    ensures hash { (text x y : Octets) → OwnerHashText text x → OwnerHashText text y → x ≡ y }
+{}
+
+/// Tokens that are refused as types, and texts that are refused as a salt or as a hash, but for
+/// want of room or of memory, spell none, over builders with any limit.
+pub fn refused_tokens_spell_no_types()
+    ensures types { (limit : Option ℕ) (old new : Tokens) (types : Rtypes) (fault : ScanFault)
+        → RefusesTypes limit old new fault → IsOfTokens limit fault → TypeTexts old types → ⊥ }
+    ensures salt { (limit : Option ℕ) (text salt : Octets) (fault : ScanFault)
+        → SaltTokenFault limit fault text → IsOfTokens limit fault → SaltText text salt → ⊥ }
+    ensures hash { (limit : Option ℕ) (text hash : Octets) (fault : ScanFault)
+        → CountedFault Base32Hex (codes "illegal owner name hash") limit fault text
+        → IsOfTokens limit fault → OwnerHashText text hash → ⊥ }
+{}
+
+/// Tokens are refused as types, but for want of room or of memory, for one reason, and the tokens
+/// that are left then are determined. A text is refused as a salt or as a hash, but for want of
+/// memory, for one reason. Both over builders with any limit.
+pub fn types_and_hashes_have_one_fault()
+    ensures types { (limit : Option ℕ) (old m n : Tokens) (x y : ScanFault)
+        → RefusesTypes limit old m x → RefusesTypes limit old n y → IsOfTokens limit x
+        → IsOfTokens limit y → (x ≡ y) × (m ≡ n) }
+    ensures salt { (limit : Option ℕ) (text : Octets) (x y : ScanFault)
+        → SaltTokenFault limit x text → SaltTokenFault limit y text → x ≢ no_memory
+        → y ≢ no_memory → x ≡ y }
+    ensures hash { (limit : Option ℕ) (text : Octets) (x y : ScanFault)
+        → CountedFault Base32Hex (codes "illegal owner name hash") limit x text
+        → CountedFault Base32Hex (codes "illegal owner name hash") limit y text → x ≢ no_memory
+        → y ≢ no_memory → x ≡ y }
 {}

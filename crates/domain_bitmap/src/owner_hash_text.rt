@@ -1,9 +1,8 @@
 //! Hashed owner names as text (RFC 5155, section 3.3).
 ghost use Rattle.std.specs.Prelude.{◌<◌, IfOk, IfErr, Some};
 ghost use Rattle.domain_octets.specs.Base32.{base32_upper};
-ghost use Rattle.domain_octets.specs.Codec.{Decodes};
-ghost use Rattle.domain_octets.specs.declared.codec.Codec.TheVariants as codec;
 ghost use Rattle.domain_bitmap.specs.HashFault.{HashFault};
+ghost use Rattle.domain_bitmap.specs.HashText.{OwnerHashText};
 
 use crate::OwnerHash;
 use domain_octets::{DecodeError, EmptyBuilder, FromBuilder, Octets, base32};
@@ -35,7 +34,7 @@ where
     ///
     /// Those of the codec, and `ShortBuf` for over 255 octets too.
     pub fn from_str(alloc: Global, text: &str) -> Result<Self, DecodeError>
-        ensures ok { IfOk result (λ hash. Decodes codec.Base32Hex text.now hash) }
+        ensures ok { IfOk result (OwnerHashText text.now) }
         ensures err { IfErr result (HashFault O.Builder.limit text.now) }
     {
         let octets = base32::decode_hex::<O>(alloc, text)?;

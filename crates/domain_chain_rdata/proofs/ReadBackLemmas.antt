@@ -69,7 +69,7 @@ params_read : (v : Values nsec3param) (after : List (List ℕ)) → Fits nsec3pa
 params_read v after fits small = (
   salt_text v.1 ∷ after,
   fields_back hash_numbers v.0 (salt_text v.1 ∷ after) refl fits.0,
-  record { token = salt_text v.1; first = refl; holds = salt_back v.1 small },
+  record { token = salt_text v.1; first = refl; holds = salt_back v.1 small (omega (arith, fits.1.0)) },
 )
 
 pub params_text_back : (v : Values nsec3param) → Fits nsec3param v → All (λ octet. octet < 256) v.1 → Nsec3paramText (words_of (nsec3param_text v)) v []
@@ -81,7 +81,7 @@ hash_read : (v : Values hash_fields) (after : List (List ℕ)) → Fits hash_fie
 hash_read v after fits salt_small hash_small = (
   base32_upper v.1 ∷ after,
   params_read v.0 (base32_upper v.1 ∷ after) fits.0 salt_small,
-  record { token = base32_upper v.1; first = refl; holds = upper_reads_back v.1 hash_small },
+  record { token = base32_upper v.1; first = refl; holds = record { decoded = upper_reads_back v.1 hash_small; counted = omega (arith, fits.1.0) } },
 )
 
 types_read : (octets : List ℕ) → IsBitmap octets → BitmapText (map type_text (types_of octets)) (rebuilt octets) []

@@ -1,49 +1,34 @@
--- The texts of types and of NSEC data: tokens spell one at most, and none where they are refused.
-use Rattle.std.proofs.Common.{◌≡◌, ◌≢◌, ℕ, List, [], ◌∷◌, ◌++◌, refl, sym, ap, ◌∙◌, subst, None}
-use Rattle.domain_base.specs.Scan.{ScanFault, no_memory}
-use Rattle.domain_base.specs.Numbers.{TypeText}
+-- The text of NSEC data: tokens spell one at most, and are refused for one reason, spelling none.
+use Rattle.std.proofs.Common.{◌≡◌, ℕ, List, sym, ap, ◌∙◌, subst, Option}
+use Rattle.domain_base.specs.Scan.{ScanFault, IsOfTokens, NameTextFault}
 use Rattle.domain_base.specs.Text.{NameText}
-use Rattle.domain_base.proofs.NamedLemmas.{one_named}
+use Rattle.domain_base.proofs.RefusalLemmas.{token_excludes, token_one_fault, name_excludes, name_one_fault}
 use Rattle.domain_base.proofs.SpellingLemmas.{one_name}
 use Rattle.domain_bitmap.specs.Bitmap.{bitmap_octets}
-use Rattle.domain_bitmap.specs.Scan.{TypeTexts, no_types, one_more, is_among, TypeFault, not_a_type, without_room, without_memory, RefusesTypes}
-use Rattle.domain_fields.specs.Field.{name}
-use Rattle.domain_fields.proofs.ScanLemmas.{token_excludes}
+use Rattle.domain_bitmap.specs.Scan.{TypeTexts, is_among, RefusesTypes}
+use Rattle.domain_bitmap.proofs.ReadBackLemmas.{spelled_once}
+use Rattle.domain_bitmap.proofs.RefusalLemmas.{types_refused, types_one_fault}
 use Rattle.domain_chain_rdata.specs.NsecText.{NsecText, RefusesNsec, in_name, in_types}
 
--- among the tokens of types every token spells a type
-type_at : (taken : List (List ℕ)) (token : List ℕ) (new : List (List ℕ)) (types : List ℕ) → TypeTexts (taken ++ token ∷ new) types → (t : ℕ) × TypeText token t
-type_at [] token new [] none = elim none [ ]
-type_at [] token new (t ∷ types) (one_more tok toks u us is more) = (t, is)
-type_at (first ∷ taken) token new [] none = elim none [ ]
-type_at (first ∷ taken) token new (t ∷ types) (one_more tok toks u us is more) = type_at taken token new types more
+module _ (names bitmaps : Option ℕ) (old : List (List ℕ)) where
+  pub nsec_refused : (new after : List (List ℕ)) (fault : ScanFault) (labels : List (List ℕ)) (octets : List ℕ) → RefusesNsec names bitmaps old new fault → NsecText old labels octets after
+      → IsOfTokens names fault → IsOfTokens bitmaps fault → ⊥
+  nsec_refused new after fault labels octets (in_name why) is own also =
+      token_excludes NameText (NameTextFault names) names (name_excludes names) old new is.between labels fault why is.next_name own
+  nsec_refused new after fault labels octets (in_types others between takes why) is own also =
+      let same : is.between ≡ between = (let e = takes.first in let f = is.next_name.first in cc) in
+      types_refused bitmaps between new is.types fault why (subst (λ t. TypeTexts t is.types) same is.spelled) also
 
-pub types_once : (tokens : List (List ℕ)) (xs ys : List ℕ) → TypeTexts tokens xs → TypeTexts tokens ys → xs ≡ ys
-types_once [] [] [] no_types no_types = refl
-types_once [] [] (y ∷ ys) p q = elim q [ ]
-types_once [] (x ∷ xs) ys p q = elim p [ ]
-types_once (token ∷ tokens) [] ys p q = elim p [ ]
-types_once (token ∷ tokens) (x ∷ xs) [] p q = elim q [ ]
-types_once (token ∷ tokens) (x ∷ xs) (y ∷ ys) (one_more tok toks t ts p ps) (one_more tok' toks' u us q qs) =
-    λ i. one_named _ _ token x y p q i ∷ types_once tokens xs ys ps qs i
-
-type_excludes : (before : List ℕ) (fault : ScanFault) (token : List ℕ) (t : ℕ) → TypeFault None before fault token → TypeText token t → fault ≢ no_memory → ⊥
-type_excludes before fault token t (not_a_type f tok why) is known = why.none t is
-type_excludes before fault token t (without_room tok u text over) is known = over
-type_excludes before fault token t (without_memory tok u text none) is known = known refl
-
--- tokens of which one is refused spell no types
-pub types_refused : (old new : List (List ℕ)) (types : List ℕ) (fault : ScanFault) → RefusesTypes None old new fault → TypeTexts old types → fault ≢ no_memory → ⊥
-types_refused old new types fault why is known =
-    let found = type_at why.taken why.token new types (subst (λ t. TypeTexts t types) why.parts is) in
-    type_excludes why.types fault why.token found.0 why.why found.1 known
-
--- NSEC data
-pub nsec_refused : (old new after : List (List ℕ)) (fault : ScanFault) (labels : List (List ℕ)) (octets : List ℕ) → RefusesNsec None None old new fault → NsecText old labels octets after → fault ≢ no_memory → ⊥
-nsec_refused old new after fault labels octets (in_name why) is known = token_excludes name old new is.between labels fault why is.next_name known
-nsec_refused old new after fault labels octets (in_types others between takes why) is known =
-    let same : is.between ≡ between = (let e = takes.first in let f = is.next_name.first in cc) in
-    types_refused between new is.types fault why (subst (λ t. TypeTexts t is.types) same is.spelled) known
+  pub nsec_one_fault : (m n : List (List ℕ)) (x y : ScanFault) → RefusesNsec names bitmaps old m x → RefusesNsec names bitmaps old n y
+      → IsOfTokens names x → IsOfTokens bitmaps x → IsOfTokens names y → IsOfTokens bitmaps y → (x ≡ y) × (m ≡ n)
+  nsec_one_fault m n x y (in_name p) (in_name q) own also own' also' = token_one_fault (NameTextFault names) (name_one_fault names) old m n x y p q
+  nsec_one_fault m n x y (in_name p) (in_types labels between takes q) own also own' also' =
+      absurd (token_excludes NameText (NameTextFault names) names (name_excludes names) old m between labels x p takes own)
+  nsec_one_fault m n x y (in_types labels between takes p) (in_name q) own also own' also' =
+      absurd (token_excludes NameText (NameTextFault names) names (name_excludes names) old n between labels y q takes own')
+  nsec_one_fault m n x y (in_types labels between takes p) (in_types others left took q) own also own' also' =
+      let same : left ≡ between = (let e = takes.first in let f = took.first in cc) in
+      types_one_fault bitmaps between m n x y p (subst (λ t. RefusesTypes bitmaps t n y) same q) also also'
 
 pub nsec_name_once : (old m n : List (List ℕ)) (a b : List (List ℕ)) (x y : List ℕ) → NsecText old a x m → NsecText old b y n → a ≡ b
 nsec_name_once old m n a b x y p q =
@@ -53,5 +38,5 @@ nsec_name_once old m n a b x y p q =
 pub nsec_types_once : (old m n : List (List ℕ)) (a b : List (List ℕ)) (x y : List ℕ) → NsecText old a x m → NsecText old b y n → x ≡ y
 nsec_types_once old m n a b x y p q =
     let same : q.between ≡ p.between = (let e = p.next_name.first in let f = q.next_name.first in cc) in
-    let types : p.types ≡ q.types = types_once p.between p.types q.types p.spelled (subst (λ t. TypeTexts t q.types) same q.spelled) in
+    let types : p.types ≡ q.types = spelled_once p.between p.types q.types p.spelled (subst (λ t. TypeTexts t q.types) same q.spelled) in
     p.built ∙ ap (λ ts. bitmap_octets (is_among ts)) types ∙ sym q.built

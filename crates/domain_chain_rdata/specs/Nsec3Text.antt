@@ -1,7 +1,6 @@
 -- NSEC3 data as text (RFC 5155, section 3.3), and in the pieces of a zone file
 use Rattle.std.specs.Prelude.{◌≡◌, ℕ, List, [], ◌∷◌, ◌++◌, codes, Option}
 use Rattle.domain_octets.specs.Base32.{base32_upper}
-use Rattle.domain_octets.specs.Codec.{Decodes}
 use Rattle.domain_octets.specs.declared.codec.Codec.TheVariants.{Base32Hex}
 use Rattle.domain_octets.specs.Piece.{PieceText, token, opens, closes}
 use Rattle.domain_octets.specs.Words.{Octets}
@@ -9,7 +8,7 @@ use Rattle.domain_base.specs.Scan.{RefusesToken, Refusal, Grammar}
 use Rattle.domain_bitmap.specs.Bitmap.{bitmap_octets}
 use Rattle.domain_bitmap.specs.Blocks.{types_of}
 use Rattle.domain_bitmap.specs.HashScan.{CountedFault}
-use Rattle.domain_bitmap.specs.HashText.{salt_text}
+use Rattle.domain_bitmap.specs.HashText.{OwnerHashText, salt_text}
 use Rattle.domain_bitmap.specs.Pieces.{type_pieces, salt_pieces}
 use Rattle.domain_bitmap.specs.Scan.{TypeTexts, RefusesTypes, is_among}
 use Rattle.domain_bitmap.specs.Text.{spaced_types}
@@ -29,7 +28,7 @@ pub record BitmapText (old : Tokens) (octets : Octets) (new : Tokens) : Type 0 w
 
 -- parameters, and a hash in Base 32 hex
 abbrev pub HashText : Grammar (Values hash_fields)
-HashText = Both Nsec3paramText (OneToken (Decodes Base32Hex))
+HashText = Both Nsec3paramText (OneToken OwnerHashText)
 
 abbrev pub RefusesHash : Option ℕ → Refusal
 RefusesHash limit =

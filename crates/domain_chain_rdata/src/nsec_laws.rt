@@ -1,13 +1,16 @@
 //! What holds of the octets and the text of NSEC data (RFC 4034, section 4).
 //! A caller calls the law in its body.
-ghost use Rattle.std.specs.Prelude.{◌++◌, [], codes};
+ghost use Rattle.std.specs.Prelude.{◌≡◌, ℕ, ◌++◌, [], Option, codes};
 ghost use Rattle.domain_octets.specs.Line.{words_of};
+ghost use Rattle.domain_octets.specs.Words.{Octets};
+ghost use Rattle.domain_base.specs.Scan.{ScanFault, IsOfTokens};
 ghost use Rattle.domain_base.specs.Text.{name_text};
+ghost use Rattle.domain_base.specs.Words.{Name, Tokens};
 ghost use Rattle.domain_bitmap.specs.Bitmap.{bitmap_octets};
 ghost use Rattle.domain_bitmap.specs.Blocks.{IsShortest, types_of};
 ghost use Rattle.domain_bitmap.specs.Scan.{is_among};
 ghost use Rattle.domain_bitmap.specs.Text.{types_text};
-ghost use Rattle.domain_chain_rdata.specs.NsecText.{NsecText};
+ghost use Rattle.domain_chain_rdata.specs.NsecText.{NsecText, RefusesNsec};
 ghost use Rattle.domain_chain_rdata.specs.NsecWire.{NsecParsesBack};
 ghost use Rattle.domain_chain_rdata.specs.Rdata.{nsec_values};
 
@@ -39,3 +42,21 @@ pub fn nsec_reads_back<O: Octets, N: ToName>(value: &Nsec<O, N>)
     let _next_name = value.next_name().as_wire();
     let _types = value.types().as_slice();
 }
+
+/// Tokens that are refused as NSEC data, but for want of room or of memory, spell none, over
+/// builders with any limit.
+pub fn refused_tokens_spell_no_nsec()
+    ensures { (names bitmaps : Option ℕ) (old new after : Tokens) (fault : ScanFault)
+        (labels : Name) (octets : Octets) → RefusesNsec names bitmaps old new fault
+        → IsOfTokens names fault → IsOfTokens bitmaps fault → NsecText old labels octets after
+        → ⊥ }
+{}
+
+/// Tokens are refused as NSEC data, but for want of room or of memory, for one reason, and the
+/// tokens that are left then are determined, over builders with any limit.
+pub fn nsec_has_one_fault()
+    ensures { (names bitmaps : Option ℕ) (old m n : Tokens) (x y : ScanFault)
+        → RefusesNsec names bitmaps old m x → RefusesNsec names bitmaps old n y
+        → IsOfTokens names x → IsOfTokens bitmaps x → IsOfTokens names y → IsOfTokens bitmaps y
+        → (x ≡ y) × (m ≡ n) }
+{}

@@ -38,7 +38,7 @@ pub use domain_nsec3::{
 };
 pub use domain_octets::{
     AppendError, ArrayBuilder, EmptyBuilder, FreezeBuilder, FromBuilder, GrowingBuilder, Octets,
-    OutOfMemory, Parser, Truncate, TryClone,
+    OutOfMemory, Parser, SmallBuilder, SmallOctets, Truncate, TryClone,
 };
 pub use domain_plain::{LongRecordData, Record};
 pub use domain_rdata::{Nsec, Nsec3, Nsec3param, ZoneRecordData};

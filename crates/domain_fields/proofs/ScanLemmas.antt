@@ -1,38 +1,36 @@
 -- Tokens that are refused spell no values, and tokens spell one list of values at most.
-use Rattle.std.proofs.Common.{◌≡◌, ◌≢◌, ℕ, List, [], ◌++◌, refl, sym, ap, subst, ◌∙◌, inl, inr, Some, None, Option, lit≤}
+use Rattle.std.proofs.Common.{◌≡◌, ℕ, List, [], ◌++◌, sym, ap, subst, ◌∙◌, inl, inr, Some, None, Option, lit≤}
 use Rattle.std.specs.Net.Grammar.{IsDotted}
 use Rattle.std.specs.Net.Reader.{read_ipv4}
 use Rattle.std.proofs.NetLemmas.Ipv4.{read_ipv4_complete}
 use Rattle.domain_base.proofs.SpellingLemmas.{one_name}
-use Rattle.domain_base.specs.Scan.{ScanFault, entry_ends, illegal, no_room, no_memory, TakesToken, RefusesToken, ended, refused, NameTextFault}
-use Rattle.domain_base.specs.Text.{NameText}
+use Rattle.domain_base.specs.Scan.{ScanFault, IsOfTokens}
+use Rattle.domain_base.proofs.RefusalLemmas.{token_excludes, token_one_fault, name_excludes, name_one_fault}
 use Rattle.domain_fields.specs.Field.{Field, octet, short, long, name, spelled_name, counted, exactly, at_most, rest, Value}
 use Rattle.domain_fields.specs.Layout.{Layout, one, ◌▸◌, Values}
 use Rattle.domain_fields.specs.Scan.{FieldText, FieldTextFault, Scans, Refuses}
 
-name_excludes : (text : List ℕ) (labels : List (List ℕ)) (fault : ScanFault) → NameTextFault None fault text → NameText text labels → fault ≢ no_memory → ⊥
-name_excludes text labels entry_ends why is known = why
-name_excludes text labels (illegal said) why is known = why.1 labels is
-name_excludes text labels no_room why is known = why.2
-name_excludes text labels no_memory why is known = known refl
+field_excludes : (f : Field) (limit : Option ℕ) (fault : ScanFault) (text : List ℕ) (v : Value f) → FieldTextFault limit f fault text → FieldText f text v → IsOfTokens limit fault → ⊥
+field_excludes octet limit fault text v why is own = why.none v is
+field_excludes short limit fault text v why is own = why.none v is
+field_excludes long limit fault text v why is own = why.none v is
+field_excludes name limit fault text v why is own = name_excludes limit fault text v why is own
+field_excludes spelled_name limit fault text v why is own = name_excludes limit fault text v why is own
+field_excludes counted limit fault text v why is own = is
+field_excludes (exactly count) limit fault text v why is own = why.none v is.0
+field_excludes (at_most n) limit fault text v why is own = is
+field_excludes rest limit fault text v why is own = is
 
-field_excludes : (f : Field) (text : List ℕ) (v : Value f) (fault : ScanFault) → FieldTextFault None f fault text → FieldText f text v → fault ≢ no_memory → ⊥
-field_excludes octet text v fault why is known = why.none v is
-field_excludes short text v fault why is known = why.none v is
-field_excludes long text v fault why is known = why.none v is
-field_excludes name text v fault why is known = name_excludes text v fault why is known
-field_excludes spelled_name text v fault why is known = name_excludes text v fault why is known
-field_excludes counted text v fault why is known = is
-field_excludes (exactly count) text v fault why is known = why.none v is.0
-field_excludes (at_most limit) text v fault why is known = is
-field_excludes rest text v fault why is known = is
-
--- a token that is refused as a field, but for want of memory, is the text of none of its values
-pub token_excludes : (f : Field) (old new after : List (List ℕ)) (v : Value f) (fault : ScanFault) → RefusesToken (FieldTextFault None f) old new fault → TakesToken (λ text. FieldText f text v) old after → fault ≢ no_memory → ⊥
-token_excludes f old new after v fault ended takes known = let e = takes.first in cc
-token_excludes f old new after v fault (refused token left why_fault why) takes known =
-    let same : token ≡ takes.token = (let e = takes.first in cc) in
-    field_excludes f takes.token v fault (subst (FieldTextFault None f fault) same why) takes.holds known
+field_one_fault : (f : Field) (limit : Option ℕ) (x y : ScanFault) (text : List ℕ) → FieldTextFault limit f x text → FieldTextFault limit f y text → x ≡ y
+field_one_fault octet limit x y text p q = p.said ∙ sym q.said
+field_one_fault short limit x y text p q = p.said ∙ sym q.said
+field_one_fault long limit x y text p q = p.said ∙ sym q.said
+field_one_fault name limit x y text p q = name_one_fault limit x y text p q
+field_one_fault spelled_name limit x y text p q = name_one_fault limit x y text p q
+field_one_fault counted limit x y text p q = absurd p
+field_one_fault (exactly count) limit x y text p q = p.said ∙ sym q.said
+field_one_fault (at_most n) limit x y text p q = absurd p
+field_one_fault rest limit x y text p q = absurd p
 
 -- what is left after the values of a layout
 pub scans_left : (l : Layout) (old m n : List (List ℕ)) (v w : Values l) → Scans l old v m → Scans l old w n → m ≡ n
@@ -41,13 +39,28 @@ scans_left (a ▸ b) old m n v w x y =
     let between = scans_left a old x.0 y.0 v.0 w.0 x.1 y.1 in
     scans_left b y.0 m n v.1 w.1 (subst (λ t. Scans b t v.1 m) between x.2) y.2
 
--- over octets that grow, what is refused but for want of memory spells no values
-pub refused_spells_none : (l : Layout) (old new after : List (List ℕ)) (v : Values l) (fault : ScanFault) → Refuses None l old new fault → Scans l old v after → fault ≢ no_memory → ⊥
-refused_spells_none (one f) old new after v fault why is known = token_excludes f old new after v fault why is known
-refused_spells_none (a ▸ b) old new after v fault (inl why) is known = refused_spells_none a old new is.0 v.0 fault why is.1 known
-refused_spells_none (a ▸ b) old new after v fault (inr why) is known =
+-- what is refused, but for want of room or memory, spells no values
+pub refused_spells_none : (l : Layout) (limit : Option ℕ) (old new after : List (List ℕ)) (v : Values l) (fault : ScanFault) → Refuses limit l old new fault → Scans l old v after → IsOfTokens limit fault → ⊥
+refused_spells_none (one f) limit old new after v fault why is own =
+    token_excludes (λ text u. FieldText f text u) (FieldTextFault limit f) limit (field_excludes f limit) old new after v fault why is own
+refused_spells_none (a ▸ b) limit old new after v fault (inl why) is own = refused_spells_none a limit old new is.0 v.0 fault why is.1 own
+refused_spells_none (a ▸ b) limit old new after v fault (inr why) is own =
     let between = scans_left a old why.1 is.0 why.0 v.0 why.2 is.1 in
-    refused_spells_none b is.0 new after v.1 fault (subst (λ t. Refuses None b t new fault) between why.3) is.2 known
+    refused_spells_none b limit is.0 new after v.1 fault (subst (λ t. Refuses limit b t new fault) between why.3) is.2 own
+
+-- one field of one token is refused for one reason
+pub one_field_one_fault : (f : Field) (limit : Option ℕ) (old m n : List (List ℕ)) (x y : ScanFault) → Refuses limit (one f) old m x → Refuses limit (one f) old n y → (x ≡ y) × (m ≡ n)
+one_field_one_fault f limit old m n x y p q = token_one_fault (FieldTextFault limit f) (field_one_fault f limit) old m n x y p q
+
+-- there is one first field that is refused, but for want of room or memory, and one reason for it
+pub one_first_fault : (l : Layout) (limit : Option ℕ) (old m n : List (List ℕ)) (x y : ScanFault) → Refuses limit l old m x → Refuses limit l old n y → IsOfTokens limit x → IsOfTokens limit y → (x ≡ y) × (m ≡ n)
+one_first_fault (one f) limit old m n x y p q own also = one_field_one_fault f limit old m n x y p q
+one_first_fault (a ▸ b) limit old m n x y (inl p) (inl q) own also = one_first_fault a limit old m n x y p q own also
+one_first_fault (a ▸ b) limit old m n x y (inl p) (inr q) own also = absurd (refused_spells_none a limit old m q.1 q.0 x p q.2 own)
+one_first_fault (a ▸ b) limit old m n x y (inr p) (inl q) own also = absurd (refused_spells_none a limit old n p.1 p.0 y q p.2 also)
+one_first_fault (a ▸ b) limit old m n x y (inr p) (inr q) own also =
+    let between = scans_left a old q.1 p.1 q.0 p.0 q.2 p.2 in
+    one_first_fault b limit p.1 m n x y p.3 (subst (λ t. Refuses limit b t n y) between q.3) own also
 
 abbrev address_read : Option (List ℕ × List ℕ) → List ℕ
 address_read None = []

@@ -1,15 +1,16 @@
 //! What holds of all fields, on the wire, in canonical order and as tokens.
 //! A caller calls the law in its body.
-ghost use Rattle.std.specs.Prelude.{◌≡◌, ◌≢◌, ◌++◌, [], None, true};
+ghost use Rattle.std.specs.Prelude.{◌≡◌, ℕ, ◌++◌, [], Option, true};
 ghost use Rattle.std.specs.List.{AllByRecursion};
 ghost use Rattle.std.specs.Ordering.{ordering_then};
 ghost use Rattle.domain_octets.specs.Line.{IsWord};
 ghost use Rattle.domain_octets.specs.Words.{Octets};
 ghost use Rattle.domain_base.specs.Fault.{Fault};
-ghost use Rattle.domain_base.specs.Scan.{ScanFault, no_memory};
+ghost use Rattle.domain_base.specs.Scan.{ScanFault, IsOfTokens};
+ghost use Rattle.domain_fields.specs.Field.{Field};
 ghost use Rattle.domain_fields.specs.Printed.{is_printed, printed};
 ghost use Rattle.domain_fields.specs.Scan.{Scans, Refuses};
-ghost use Rattle.domain_fields.specs.Layout.{Layout, ◌▸◌, Values, Begins, FirstFault, Fits, Ends, ParsesBack, splits, is_delimited, canonical_order};
+ghost use Rattle.domain_fields.specs.Layout.{Layout, one, ◌▸◌, Values, Begins, FirstFault, Fits, Ends, ParsesBack, splits, is_delimited, canonical_order};
 ghost use Rattle.domain_base.specs.Words.{Tokens};
 
 /// Octets begin with data of given fields in one way at most, and in none where they have a fault.
@@ -49,11 +50,22 @@ pub fn tokens_spell_values_once()
         → Scans l old w n → m ≡ n }
 {}
 
-/// Tokens that are refused as a list of fields, but for want of memory or room, begin with no
-/// values of it.
+/// Tokens that are refused as a list of fields, but for want of room or of memory, begin with no
+/// values of it, over builders with any limit.
 pub fn refused_tokens_spell_nothing()
-    ensures { (l : Layout) (old new after : Tokens) (v : Values l) (fault : ScanFault)
-        → Refuses None l old new fault → Scans l old v after → fault ≢ no_memory → ⊥ }
+    ensures { (limit : Option ℕ) (l : Layout) (old new after : Tokens) (v : Values l)
+        (fault : ScanFault) → Refuses limit l old new fault → IsOfTokens limit fault
+        → Scans l old v after → ⊥ }
+{}
+
+/// A list of tokens has one first fault, but for want of room or of memory, and the tokens that are
+/// left then are determined, over builders with any limit. One field has one fault of any kind.
+pub fn tokens_have_one_first_fault()
+    ensures fields { (limit : Option ℕ) (l : Layout) (old m n : Tokens) (x y : ScanFault)
+        → Refuses limit l old m x → Refuses limit l old n y → IsOfTokens limit x
+        → IsOfTokens limit y → (x ≡ y) × (m ≡ n) }
+    ensures field { (limit : Option ℕ) (f : Field) (old m n : Tokens) (x y : ScanFault)
+        → Refuses limit (one f) old m x → Refuses limit (one f) old n y → (x ≡ y) × (m ≡ n) }
 {}
 
 /// What numbers and names are written as, a token each, is read as these values, and what follows

@@ -1,14 +1,26 @@
 //! What holds of the texts of keys and digests. A caller calls the law in its body.
-ghost use Rattle.std.specs.Prelude.{◌≢◌, None};
-ghost use Rattle.domain_base.specs.Scan.{ScanFault, no_memory};
+ghost use Rattle.std.specs.Prelude.{◌≡◌, ℕ, Option};
+ghost use Rattle.domain_base.specs.Scan.{ScanFault, IsOfTokens};
 ghost use Rattle.domain_keys.specs.Data.{DnskeyData, DsData};
 ghost use Rattle.domain_keys.specs.Scan.{DnskeyText, RefusesDnskey, DsText, RefusesDs};
 ghost use Rattle.domain_base.specs.Words.{Tokens};
 
-/// Over octets that grow, tokens that are refused but for want of memory spell no data.
+/// Tokens that are refused, but for want of room or of memory, spell no data, over builders with
+/// any limit.
 pub fn refused_tokens_spell_no_keys()
-    ensures keys { (old new : Tokens) (fault : ScanFault) (d : DnskeyData)
-        → RefusesDnskey None old new fault → fault ≢ no_memory → DnskeyText old d → ⊥ }
-    ensures digests { (old new : Tokens) (fault : ScanFault) (d : DsData)
-        → RefusesDs None old new fault → fault ≢ no_memory → DsText old d → ⊥ }
+    ensures keys { (limit : Option ℕ) (old new : Tokens) (fault : ScanFault) (d : DnskeyData)
+        → RefusesDnskey limit old new fault → IsOfTokens limit fault → DnskeyText old d → ⊥ }
+    ensures digests { (limit : Option ℕ) (old new : Tokens) (fault : ScanFault) (d : DsData)
+        → RefusesDs limit old new fault → IsOfTokens limit fault → DsText old d → ⊥ }
+{}
+
+/// Tokens are refused, but for want of room or of memory, for one reason, over builders with any
+/// limit.
+pub fn keys_have_one_fault()
+    ensures keys { (limit : Option ℕ) (old m n : Tokens) (x y : ScanFault)
+        → RefusesDnskey limit old m x → RefusesDnskey limit old n y → IsOfTokens limit x
+        → IsOfTokens limit y → x ≡ y }
+    ensures digests { (limit : Option ℕ) (old m n : Tokens) (x y : ScanFault)
+        → RefusesDs limit old m x → RefusesDs limit old n y → IsOfTokens limit x
+        → IsOfTokens limit y → x ≡ y }
 {}

@@ -1,5 +1,5 @@
 -- digits of five bits, one after another
-use Rattle.std.proofs.Common.{◌≡◌, ◌≢◌, ℕ, ◌+◌, ◌*◌, ◌/◌, ◌%◌, ◌<◌, ◌≤◌, List, [], ◌∷◌, refl, arith, lit<}
+use Rattle.std.proofs.Common.{◌≡◌, ◌≢◌, ℕ, ◌+◌, ◌*◌, ◌/◌, ◌%◌, ◌<◌, ◌≤◌, List, [], ◌∷◌, ◌++◌, length, get_or, drop, refl, sym, ap, ◌∙◌, arith, lit<}
 use Rattle.domain_octets.specs.Scale.{IsScale, no_bits, one_bit, two_bits, three_bits, four_bits, five_bits, six_bits, seven_bits}
 use Rattle.domain_octets.specs.Base32.{base32_from, digits_left}
 
@@ -80,3 +80,98 @@ none_left scale rest octets none one = rw (none, one) refl
 pub ends_left : (scale rest : ℕ) (octets : List ℕ) → octets ≡ [] → IsScale scale → scale < 32 → scale ≢ 1 → digits_left scale rest octets ≡ ((32 / scale) * rest) ∷ base32_from 1 0 octets
 unfolding base32_from
 ends_left scale rest octets none scale_is narrow other = rw none (last_left scale rest scale_is narrow other)
+
+-- eight digits of five octets, step by step: v is what an octet makes of the bits before it
+first_of_five : (a : ℕ) (octets : List ℕ) → base32_from 1 0 (a ∷ octets) ≡ (a / 8) ∷ base32_from 8 (a % 8) octets
+unfolding base32_from
+first_of_five a octets = let same : 256 * 0 + a ≡ a = omega arith in ap (λ v. (v / 8) ∷ base32_from 8 (v % 8) octets) same
+
+second_of_five : (rest b v : ℕ) (octets : List ℕ) → v ≡ 256 * rest + b → base32_from 8 rest (b ∷ octets) ≡ (v / 64) ∷ (v % 64 / 2) ∷ base32_from 2 (v % 2) octets
+unfolding base32_from
+second_of_five rest b v octets e =
+    let left : v % 64 % 2 ≡ v % 2 = omega arith in
+    ap (λ w. (w / 64) ∷ (w % 64 / 2) ∷ base32_from 2 (w % 64 % 2) octets) (sym e) ∙ ap (λ r. (v / 64) ∷ (v % 64 / 2) ∷ base32_from 2 r octets) left
+
+third_of_five : (rest c v : ℕ) (octets : List ℕ) → v ≡ 256 * rest + c → base32_from 2 rest (c ∷ octets) ≡ (v / 16) ∷ base32_from 16 (v % 16) octets
+unfolding base32_from
+third_of_five rest c v octets e = ap (λ w. (w / 16) ∷ base32_from 16 (w % 16) octets) (sym e)
+
+fourth_of_five : (rest d v : ℕ) (octets : List ℕ) → v ≡ 256 * rest + d → base32_from 16 rest (d ∷ octets) ≡ (v / 128) ∷ (v % 128 / 4) ∷ base32_from 4 (v % 4) octets
+unfolding base32_from
+fourth_of_five rest d v octets e =
+    let left : v % 128 % 4 ≡ v % 4 = omega arith in
+    ap (λ w. (w / 128) ∷ (w % 128 / 4) ∷ base32_from 4 (w % 128 % 4) octets) (sym e) ∙ ap (λ r. (v / 128) ∷ (v % 128 / 4) ∷ base32_from 4 r octets) left
+
+fifth_of_five : (rest e v : ℕ) (octets : List ℕ) → v ≡ 256 * rest + e → base32_from 4 rest (e ∷ octets) ≡ (v / 32) ∷ (v % 32) ∷ base32_from 1 0 octets
+unfolding base32_from
+fifth_of_five rest e v octets is =
+    let whole : v % 32 / 1 ≡ v % 32 = omega arith in
+    let none : v % 32 % 1 ≡ 0 = omega arith in
+    ap (λ w. (w / 32) ∷ (w % 32 / 1) ∷ base32_from 1 (w % 32 % 1) octets) (sym is) ∙ ap (λ w. (v / 32) ∷ w ∷ base32_from 1 (v % 32 % 1) octets) whole
+    ∙ ap (λ r. (v / 32) ∷ (v % 32) ∷ base32_from 1 r octets) none
+
+-- the digits of five octets, and then those of the octets after them
+pub five_octets : (a b c d e : ℕ) (octets : List ℕ) →
+    let second = 256 * (a % 8) + b in
+    let third = 256 * (second % 2) + c in
+    let fourth = 256 * (third % 16) + d in
+    let fifth = 256 * (fourth % 4) + e in
+    base32_from 1 0 (a ∷ b ∷ c ∷ d ∷ e ∷ octets)
+    ≡ (a / 8) ∷ (second / 64) ∷ (second % 64 / 2) ∷ (third / 16) ∷ (fourth / 128) ∷ (fourth % 128 / 4) ∷ (fifth / 32) ∷ (fifth % 32) ∷ base32_from 1 0 octets
+five_octets a b c d e octets =
+    let second = 256 * (a % 8) + b in
+    let third = 256 * (second % 2) + c in
+    let fourth = 256 * (third % 16) + d in
+    let fifth = 256 * (fourth % 4) + e in
+    first_of_five a (b ∷ c ∷ d ∷ e ∷ octets)
+    ∙ ap (λ l. (a / 8) ∷ l) (second_of_five (a % 8) b second (c ∷ d ∷ e ∷ octets) refl
+    ∙ ap (λ l. (second / 64) ∷ (second % 64 / 2) ∷ l) (third_of_five (second % 2) c third (d ∷ e ∷ octets) refl
+    ∙ ap (λ l. (third / 16) ∷ l) (fourth_of_five (third % 16) d fourth (e ∷ octets) refl
+    ∙ ap (λ l. (fourth / 128) ∷ (fourth % 128 / 4) ∷ l) (fifth_of_five (fourth % 4) e fifth octets refl))))
+
+no_digits : base32_from 1 0 [] ≡ []
+unfolding base32_from
+no_digits = refl
+
+pub five_alone : (a b c d e : ℕ) →
+    let second = 256 * (a % 8) + b in
+    let third = 256 * (second % 2) + c in
+    let fourth = 256 * (third % 16) + d in
+    let fifth = 256 * (fourth % 4) + e in
+    base32_from 1 0 (a ∷ b ∷ c ∷ d ∷ e ∷ [])
+    ≡ (a / 8) ∷ (second / 64) ∷ (second % 64 / 2) ∷ (third / 16) ∷ (fourth / 128) ∷ (fourth % 128 / 4) ∷ (fifth / 32) ∷ (fifth % 32) ∷ []
+five_alone a b c d e =
+    let second = 256 * (a % 8) + b in
+    let third = 256 * (second % 2) + c in
+    let fourth = 256 * (third % 16) + d in
+    let fifth = 256 * (fourth % 4) + e in
+    five_octets a b c d e [] ∙ ap (λ l. (a / 8) ∷ (second / 64) ∷ (second % 64 / 2) ∷ (third / 16) ∷ (fourth / 128) ∷ (fourth % 128 / 4) ∷ (fifth / 32) ∷ (fifth % 32) ∷ l) no_digits
+
+-- eight digits at once, where no bits are left over
+pub eight_left : (a b c d e scale rest : ℕ) (octets eight : List ℕ) → scale ≡ 1 → rest < scale → eight ≡ base32_from 1 0 (a ∷ b ∷ c ∷ d ∷ e ∷ [])
+    → digits_left scale rest (a ∷ b ∷ c ∷ d ∷ e ∷ octets) ≡ eight ++ digits_left scale rest octets
+eight_left a b c d e scale rest octets eight one below is =
+    let none : rest ≡ 0 = omega (arith, one) in
+    rw (one, none, is, five_alone a b c d e) (five_octets a b c d e octets)
+
+-- a list of eight
+pub are_eight : (xs : List ℕ) → length xs ≡ 8 → xs ≡ get_or xs 0 0 ∷ get_or xs 1 0 ∷ get_or xs 2 0 ∷ get_or xs 3 0 ∷ get_or xs 4 0 ∷ get_or xs 5 0 ∷ get_or xs 6 0 ∷ get_or xs 7 0 ∷ []
+are_eight (a ∷ b ∷ c ∷ d ∷ e ∷ f ∷ g ∷ h ∷ []) is = refl
+are_eight [] is = absurd (omega arith)
+are_eight (a ∷ []) is = absurd (omega arith)
+are_eight (a ∷ b ∷ []) is = absurd (omega arith)
+are_eight (a ∷ b ∷ c ∷ []) is = absurd (omega arith)
+are_eight (a ∷ b ∷ c ∷ d ∷ []) is = absurd (omega arith)
+are_eight (a ∷ b ∷ c ∷ d ∷ e ∷ []) is = absurd (omega arith)
+are_eight (a ∷ b ∷ c ∷ d ∷ e ∷ f ∷ []) is = absurd (omega arith)
+are_eight (a ∷ b ∷ c ∷ d ∷ e ∷ f ∷ g ∷ []) is = absurd (omega arith)
+are_eight (a ∷ b ∷ c ∷ d ∷ e ∷ f ∷ g ∷ h ∷ i ∷ xs) is = absurd (omega arith)
+
+-- a list of five and more
+pub five_first : (xs : List ℕ) → 5 ≤ length xs → xs ≡ get_or xs 0 0 ∷ get_or xs 1 0 ∷ get_or xs 2 0 ∷ get_or xs 3 0 ∷ get_or xs 4 0 ∷ drop 5 xs
+five_first (a ∷ b ∷ c ∷ d ∷ e ∷ xs) long = refl
+five_first [] long = absurd (omega arith)
+five_first (a ∷ []) long = absurd (omega arith)
+five_first (a ∷ b ∷ []) long = absurd (omega arith)
+five_first (a ∷ b ∷ c ∷ []) long = absurd (omega arith)
+five_first (a ∷ b ∷ c ∷ d ∷ []) long = absurd (omega arith)

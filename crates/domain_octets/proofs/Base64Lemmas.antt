@@ -135,6 +135,10 @@ encoded_length octets =
     ap2 : {a b c d : ℕ} → a ≡ b → c ≡ d → a + c ≡ b + d
     ap2 e f = λ i. e i + f i
 
+-- a text stands for whole groups: four characters for three octets, or for one or two at the end
+pub decoded_length : (text octets : List ℕ) → IsBytes text → DecodesTo text octets → length text ≡ (4 * length octets + 2) / 3 + (3 - length octets % 3) % 3
+decoded_length text octets bytes decoded = ap length (encoding text octets bytes decoded) ∙ encoded_length octets
+
 -- what a text of over 64 characters stands for: 48 octets by the first 64, and others
 pub record Pieces (text octets : List ℕ) : Type 0 where
   pub first : DecodesTo (take 64 text) (take 48 octets)

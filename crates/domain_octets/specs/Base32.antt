@@ -1,6 +1,6 @@
 -- octets written in Base 32 with the extended hex alphabet, without padding (RFC 4648, sections 6
 -- and 7)
-use Rattle.std.specs.Prelude.{ℕ, ◌+◌, ◌*◌, ◌/◌, ◌%◌, ◌==◌, nat_le, nat_lt, [], ◌∷◌, map, if◌then◌else◌}
+use Rattle.std.specs.Prelude.{ℕ, ◌+◌, ◌*◌, ◌/◌, ◌%◌, ◌<◌, ◌==◌, nat_le, nat_lt, [], ◌∷◌, All, map, if◌then◌else◌}
 use Rattle.domain_octets.specs.Words.{Octets}
 
 -- The digits of octets, five bits each, first bits first, after bits that are left over: a number
@@ -28,6 +28,10 @@ base32_upper octets = map upper_digit (base32_from 1 0 octets)
 
 abbrev pub base32_lower : Octets → Octets
 base32_lower octets = map lower_digit (base32_from 1 0 octets)
+
+-- these are digits
+abbrev pub AreDigits : Octets → Type 0
+AreDigits digits = All (λ digit. digit < 32) digits
 
 -- the digits that are left, where one of the last octet may be among them
 abbrev pub digits_left : ℕ → ℕ → Octets → Octets

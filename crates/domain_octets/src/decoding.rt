@@ -1,24 +1,16 @@
 //! Octets read from text.
-ghost use Rattle.std.specs.Prelude.{◌≡◌, ◌↔◌, ℕ, [], ◌∷◌, length, Ok, IfOk, IfErr, IsErrOf};
+ghost use Rattle.std.specs.Prelude.{◌≡◌, ◌≤◌, ◌↔◌, ℕ, [], ◌∷◌, length, map, Ok, IfOk, IfErr, IsErrOf};
+ghost use Rattle.std.specs.List.{concat};
 ghost use Rattle.hex.specs.Hex.{decode_pairs};
 ghost use Rattle.domain_octets.specs.Codec.{Decodes, IsText, HasNoRoom, BuildFault, DecodeFault};
 ghost use Rattle.domain_octets.specs.Limit.{HasRoom};
+ghost use Rattle.domain_octets.specs.Words.{AreOctets};
 
+use crate::joined::Joined;
 use crate::judging::{base32_digit, judge};
-use crate::{AppendError, Codec, DecodeError, EmptyBuilder, FromBuilder};
+use crate::{AppendError, ArrayBuilder, Codec, DecodeError, EmptyBuilder, FromBuilder, Octets};
 use base64::engine::general_purpose::STANDARD;
 use std::alloc::Global;
-
-/// The octet that two digits of Base 16 stand for, and 0 where there is none.
-fn base16_octet(high: u8, low: u8) -> u8
-    ensures { (octet : ℕ) → decode_pairs 0 (high ∷ low ∷ []) ≡ Ok (octet ∷ []) → result ≡ octet }
-{
-    let mut octet = [0u8; 1];
-    match hex::decode_to_slice([high, low].as_slice(), &mut octet) {
-        Ok(()) => octet[0],
-        Err(_) => 0,
-    }
-}
 
 fn build_base16<B: EmptyBuilder + Drop>(alloc: Global, text: &[u8]) -> Result<B, AppendError>
     requires { IsText Codec.Base16 text.now }
@@ -27,9 +19,16 @@ fn build_base16<B: EmptyBuilder + Drop>(alloc: Global, text: &[u8]) -> Result<B,
     ensures err { IfErr result (BuildFault Codec.Base16 B.limit text.now) }
 {
     let mut octets = B::empty(alloc);
-    for i in 0..text.len() / 2 {
-        let octet = base16_octet(text[2 * i], text[2 * i + 1]);
-        octets.append_slice(&[octet])?;
+    let mut piece = [0u8; 32];
+    let mut left = text;
+    while !left.is_empty() {
+        let (front, after) = left.split_at(left.len().min(64));
+        let part = &mut piece[..front.len() / 2];
+        let Ok(()) = hex::decode_to_slice(front, part) else {
+            unreachable!();
+        };
+        octets.append_slice(part)?;
+        left = after;
     }
     Ok(octets)
 }
@@ -92,6 +91,46 @@ fn build<B: EmptyBuilder + Drop>(alloc: Global, codec: Codec, text: &[u8]) -> Re
     }
 }
 
+/// The octets that a piece of a text stands for, which are no more than its characters.
+fn build_piece(alloc: Global, codec: Codec, piece: &[u8]) -> ArrayBuilder<64>
+    requires text { IsText codec piece.now }
+    requires small { length piece.now ≤ 64 }
+    ensures { Decodes codec piece.now result }
+{
+    let Ok(octets) = build(alloc, codec, piece) else {
+        unreachable!();
+    };
+    octets
+}
+
+/// A builder of the octets that texts stand for when they are joined: 64 characters after 64, which
+/// stand for whole octets in each codec.
+fn build_joined<B: EmptyBuilder + Drop>(
+    alloc: Global,
+    codec: Codec,
+    texts: &[&str],
+) -> Result<B, AppendError>
+    requires text { IsText codec (concat (map (λ text. text.now) texts.now)) }
+    requires octets { AreOctets (concat (map (λ text. text.now) texts.now)) }
+    ensures ok { IfOk result (λ b.
+        Decodes codec (concat (map (λ text. text.now) texts.now)) (B.octets b)) }
+    ensures room { IfOk result (λ b. HasRoom B.limit (length (B.octets b))) }
+    ensures err { IfErr result
+        (BuildFault codec B.limit (concat (map (λ text. text.now) texts.now))) }
+{
+    let mut octets = B::empty(alloc);
+    let mut left = Joined::new(texts);
+    let mut piece = [0u8; 64];
+    loop {
+        let count = left.take_piece(&mut piece);
+        if count == 0 {
+            return Ok(octets);
+        }
+        let part = build_piece(alloc, codec, &piece[..count]);
+        octets.append_slice(part.as_slice())?;
+    }
+}
+
 impl Codec {
     /// The octets that a text stands for. What is wrong with the text is answered first, as
     /// `IllegalChar` or `ShortInput`, and then want of room. Memory is taken for the octets alone:
@@ -104,8 +143,29 @@ impl Codec {
         ensures room { IsErrOf result DecodeError.ShortBuf
             ↔ HasNoRoom self O.Builder.limit text.now }
     {
-        judge(self, text.as_bytes())?;
+        judge(self, &text.as_bytes())?;
         let builder = build::<O::Builder>(alloc, self, text.as_bytes())?;
+        Ok(O::from_builder(builder))
+    }
+
+    /// The octets that texts stand for when they are joined: what `decode` answers of the joined text.
+    /// Nothing is joined in memory.
+    pub fn decode_joined<O: FromBuilder>(
+        self,
+        alloc: Global,
+        texts: &[&str],
+    ) -> Result<O, DecodeError>
+    where
+        O::Builder: EmptyBuilder + Drop,
+        ensures ok { IfOk result (λ octets.
+            Decodes self (concat (map (λ text. text.now) texts.now)) (O.octets octets)) }
+        ensures err { IfErr result
+            (DecodeFault self O.Builder.limit (concat (map (λ text. text.now) texts.now))) }
+        ensures room { IsErrOf result DecodeError.ShortBuf
+            ↔ HasNoRoom self O.Builder.limit (concat (map (λ text. text.now) texts.now)) }
+    {
+        judge(self, &texts)?;
+        let builder = build_joined::<O::Builder>(alloc, self, texts)?;
         Ok(O::from_builder(builder))
     }
 }

@@ -1,9 +1,10 @@
 //! Whether a text stands for octets, and what is wrong with it.
-ghost use Rattle.std.specs.Prelude.{◌≡◌, ◌<◌, ◌↔◌, IsTrue, IfErr, IfSome, IfNone, OnOk, Some, unwrap_or};
-ghost use Rattle.std.specs.List.{AllPass};
+ghost use Rattle.std.specs.Prelude.{◌≡◌, ◌<◌, ◌%◌, ◌↔◌, IsTrue, IfErr, IfSome, IfNone, OnOk, Some, length, map, unwrap_or};
+ghost use Rattle.std.specs.List.{AllPass, concat};
 ghost use Rattle.domain_octets.specs.Codec.{base32_value, is_digit, IsFirstOther, IsText, TextFault};
+ghost use Rattle.domain_octets.specs.Words.{Octets, AreOctets};
 
-use crate::{Codec, DecodeError};
+use crate::{Codec, DecodeError, joined};
 use base64::engine::general_purpose::STANDARD;
 
 /// The value of a digit of Base 32 hex.
@@ -34,7 +35,7 @@ pub(crate) fn base32_digit(c: u8) -> u32
 }
 
 /// Whether a character stands in texts of the codec.
-fn is_digit(codec: Codec, c: u8) -> bool
+pub(crate) fn is_digit(codec: Codec, c: u8) -> bool
     ensures { result ≡ is_digit codec c }
 {
     match codec {
@@ -77,30 +78,92 @@ fn is_base64(text: &[u8]) -> bool
     STANDARD.decode_slice_unchecked(left, &mut piece).is_ok()
 }
 
-/// Refuses what is no text in Base 16: an odd number of digits, and then what is no digit.
-fn judge_base16(text: &[u8]) -> Result<(), DecodeError>
-    ensures ok { OnOk result (IsText Codec.Base16 text.now) }
-    ensures err { IfErr result (TextFault Codec.Base16 text.now) }
+/// How many characters a text has over a multiple of 8.
+pub(crate) fn over_eight(text: &[u8]) -> usize
+    ensures over { result ≡ length text.now % 8 }
+    ensures octets { AreOctets text.now }
 {
-    if text.len() % 2 == 1 {
+    text.len() % 8
+}
+
+/// A text that is judged, in one part or in several.
+pub(crate) trait Text {
+    /// Its characters.
+    ghost characters: { Self → Octets };
+
+    /// How many characters it has over a multiple of 8.
+    fn over_eight(&self) -> usize
+        ensures over { result ≡ length (characters self.now) % 8 }
+        ensures octets { AreOctets (characters self.now) };
+
+    /// Its first character that stands in no text of the codec.
+    fn first_other(&self, codec: Codec) -> Option<u8>
+        ensures some { IfSome result (IsFirstOther codec (characters self.now)) }
+        ensures none { IfNone result (AllPass (is_digit codec) (characters self.now)) };
+
+    /// Whether it stands for octets in Base 64.
+    fn is_base64(&self) -> bool
+        ensures { IsTrue result ↔ IsText Codec.Base64 (characters self.now) };
+}
+
+impl Text for &[u8] {
+    ghost characters = { λ text. text.now };
+
+    fn over_eight(&self) -> usize {
+        over_eight(self)
+    }
+
+    fn first_other(&self, codec: Codec) -> Option<u8> {
+        first_other(codec, self)
+    }
+
+    fn is_base64(&self) -> bool {
+        is_base64(self)
+    }
+}
+
+impl Text for &[&str] {
+    ghost characters = { λ texts. concat (map (λ text. text.now) texts.now) };
+
+    fn over_eight(&self) -> usize {
+        joined::over_eight(self)
+    }
+
+    fn first_other(&self, codec: Codec) -> Option<u8> {
+        joined::first_other(codec, self)
+    }
+
+    fn is_base64(&self) -> bool {
+        joined::is_base64(self)
+    }
+}
+
+/// Refuses what is no text in Base 16: an odd number of digits, and then what is no digit. It has so
+/// many characters over a multiple of 8.
+fn judge_base16<T: Text>(over: usize, text: &T) -> Result<(), DecodeError>
+    requires { over ≡ length (T.characters text.now) % 8 }
+    ensures ok { OnOk result (IsText Codec.Base16 (T.characters text.now)) }
+    ensures err { IfErr result (TextFault Codec.Base16 (T.characters text.now)) }
+{
+    if over % 2 == 1 {
         return Err(DecodeError::ShortInput);
     }
-    match first_other(Codec::Base16, text) {
+    match text.first_other(Codec::Base16) {
         Some(c) => Err(DecodeError::IllegalChar(char::from(c))),
         None => Ok(()),
     }
 }
 
 /// Refuses what is no text in Base 32 hex: what is no digit, and then a number of digits that no
-/// octets have.
-fn judge_base32(text: &[u8]) -> Result<(), DecodeError>
-    ensures ok { OnOk result (IsText Codec.Base32Hex text.now) }
-    ensures err { IfErr result (TextFault Codec.Base32Hex text.now) }
+/// octets have. It has so many characters over a multiple of 8.
+fn judge_base32<T: Text>(over: usize, text: &T) -> Result<(), DecodeError>
+    requires { over ≡ length (T.characters text.now) % 8 }
+    ensures ok { OnOk result (IsText Codec.Base32Hex (T.characters text.now)) }
+    ensures err { IfErr result (TextFault Codec.Base32Hex (T.characters text.now)) }
 {
-    if let Some(c) = first_other(Codec::Base32Hex, text) {
+    if let Some(c) = text.first_other(Codec::Base32Hex) {
         return Err(DecodeError::IllegalChar(char::from(c)));
     }
-    let over = text.len() % 8;
     if over == 1 || over == 3 || over == 6 {
         return Err(DecodeError::ShortInput);
     }
@@ -108,27 +171,29 @@ fn judge_base32(text: &[u8]) -> Result<(), DecodeError>
 }
 
 /// Refuses what is no text in Base 64, with its first character that no such text has, if any.
-fn judge_base64(text: &[u8]) -> Result<(), DecodeError>
-    ensures ok { OnOk result (IsText Codec.Base64 text.now) }
-    ensures err { IfErr result (TextFault Codec.Base64 text.now) }
+fn judge_base64<T: Text>(text: &T) -> Result<(), DecodeError>
+    ensures ok { OnOk result (IsText Codec.Base64 (T.characters text.now)) }
+    ensures err { IfErr result (TextFault Codec.Base64 (T.characters text.now)) }
 {
-    if is_base64(text) {
+    if text.is_base64() {
         return Ok(());
     }
-    match first_other(Codec::Base64, text) {
+    match text.first_other(Codec::Base64) {
         Some(c) => Err(DecodeError::IllegalChar(char::from(c))),
         None => Err(DecodeError::ShortInput),
     }
 }
 
 /// Refuses what is no text of the codec. Takes no memory.
-pub(crate) fn judge(codec: Codec, text: &[u8]) -> Result<(), DecodeError>
-    ensures ok { OnOk result (IsText codec text.now) }
-    ensures err { IfErr result (TextFault codec text.now) }
+pub(crate) fn judge<T: Text>(codec: Codec, text: &T) -> Result<(), DecodeError>
+    ensures ok { OnOk result (IsText codec (T.characters text.now)) }
+    ensures err { IfErr result (TextFault codec (T.characters text.now)) }
+    ensures octets { AreOctets (T.characters text.now) }
 {
+    let over = text.over_eight();
     match codec {
-        Codec::Base16 => judge_base16(text),
-        Codec::Base32Hex => judge_base32(text),
+        Codec::Base16 => judge_base16(over, text),
+        Codec::Base32Hex => judge_base32(over, text),
         Codec::Base64 => judge_base64(text),
     }
 }

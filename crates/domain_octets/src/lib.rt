@@ -2,6 +2,8 @@
 //!
 //! - [`Octets`] are read as one slice; [`OctetsBuilder`] takes octets at its end, whole or not at
 //!   all, and answers `ShortBuf` exactly where its limit would be passed.
+//! - [`SmallOctets`] hold up to 30 octets in the value itself, and take memory only for more;
+//!   [`ArrayBuilder`] has room in the value itself alone.
 //! - [`Parser`] reads from the front, numbers with the octet that weighs most first (RFC 1035,
 //!   section 2.3.2), and stands where it stood after a refusal.
 //! - [`Codec`] and the modules `base16`, `base32` and `base64_standard` read and write octets as
@@ -26,12 +28,15 @@ mod decoding;
 mod error;
 mod formatter;
 mod impls;
+mod joined;
 mod judging;
 pub mod laws;
 mod octets;
 mod parser;
 mod pieces;
 mod shared;
+mod small;
+mod small_builder;
 mod zonefile;
 
 pub use array::ArrayBuilder;
@@ -45,4 +50,6 @@ pub use formatter::{Formatter, PieceFormatter};
 pub use octets::{Octets, TryClone};
 pub use parser::Parser;
 pub use pieces::Piece;
+pub use small::SmallOctets;
+pub use small_builder::SmallBuilder;
 pub use zonefile::{DisplayKind, ZonefileFmt};

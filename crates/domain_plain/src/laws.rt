@@ -1,11 +1,11 @@
 //! What holds of data of the types of this crate. A caller calls the law in its body.
-ghost use Rattle.std.specs.Prelude.{◌≢◌, ◌<◌, ◌≤◌, ◌++◌, [], None, IfSome, length, codes};
+ghost use Rattle.std.specs.Prelude.{◌≡◌, ℕ, ◌<◌, ◌≤◌, ◌++◌, [], Option, IfSome, length, codes};
 ghost use Rattle.std.specs.Fmt.{decimal};
 ghost use Rattle.std.specs.Net.Addr.{ipv4_octets};
 ghost use Rattle.std.specs.Net.Text.{ipv4_text};
 ghost use Rattle.domain_octets.specs.Line.{words_of};
 ghost use Rattle.domain_octets.specs.Words.{Octets, AreOctets};
-ghost use Rattle.domain_base.specs.Scan.{ScanFault, no_memory};
+ghost use Rattle.domain_base.specs.Scan.{ScanFault, IsOfTokens};
 ghost use Rattle.domain_base.specs.Text.{name_text};
 ghost use Rattle.domain_fields.specs.Layout.{ParsesBack};
 ghost use Rattle.domain_fields.specs.Scan.{Scans};
@@ -66,11 +66,19 @@ pub fn unknown_data_parses_back<O: Octets>(value: &UnknownRecordData<O>)
     laws::slices_hold_octets(value.data().as_slice());
 }
 
-/// Over octets that grow, tokens that are refused as the generic form but for want of memory spell
-/// no data in that form.
+/// Tokens that are refused as the generic form, but for want of room or of memory, spell no data in
+/// that form, over builders with any limit.
 pub fn refused_tokens_spell_no_generic_data()
-    ensures { (old new : Tokens) (fault : ScanFault) (octets : Octets)
-        → GenericFault None old new fault → GenericText old octets → fault ≢ no_memory → ⊥ }
+    ensures { (limit : Option ℕ) (old new : Tokens) (fault : ScanFault) (octets : Octets)
+        → GenericFault limit old new fault → IsOfTokens limit fault → GenericText old octets → ⊥ }
+{}
+
+/// Tokens are refused as the generic form, but for want of room or of memory, for one reason, over
+/// builders with any limit.
+pub fn generic_data_has_one_fault()
+    ensures { (limit : Option ℕ) (old m n : Tokens) (x y : ScanFault)
+        → GenericFault limit old m x → GenericFault limit old n y → IsOfTokens limit x
+        → IsOfTokens limit y → x ≡ y }
 {}
 
 fn are_octets(first: u8, second: u8, third: u8, fourth: u8)

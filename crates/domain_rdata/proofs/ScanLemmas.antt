@@ -1,15 +1,15 @@
 -- Tokens that are refused as the data of a type spell no data of that type, and tokens spell data of a type in one way at most.
-use Rattle.std.proofs.Common.{◌≡◌, ◌≢◌, ℕ, List, [], ◌∷◌, refl, sym, ap, ◌∙◌, subst, Option, Some, None, length}
+use Rattle.std.proofs.Common.{◌≡◌, ℕ, List, [], ◌∷◌, refl, sym, ap, ◌∙◌, subst, Option, Some, None, length}
 use Rattle.std.proofs.lemmas.List.{append-nil}
 use Rattle.std.specs.Prelude.{Result, Ok, Err, IfOk, IfErr}
-use Rattle.domain_octets.specs.Limit.{IsOver}
 use Rattle.domain_base.specs.declared.error.ScanError.{ScanError}
 use Rattle.std.specs.List.{concat}
 use Rattle.domain_octets.specs.Codec.{Decodes}
 use Rattle.domain_octets.specs.declared.codec.Codec.TheVariants.{Base16}
-use Rattle.domain_base.specs.Scan.{ScanFault, entry_ends, illegal, no_room, no_memory, scan_fault_of}
+use Rattle.domain_base.specs.Scan.{ScanFault, entry_ends, illegal, no_room, no_memory, IsOfTokens, scan_fault_of}
+use Rattle.domain_base.proofs.RefusalLemmas.{over_none}
 use Rattle.domain_plain.specs.Generic.{GenericText, GenericFault}
-use Rattle.domain_fields.specs.Layout.{Values, Fits, octets_of}
+use Rattle.domain_fields.specs.Layout.{Values, octets_of}
 use Rattle.domain_plain.specs.Plain.{a, a_values, ns, ns_values, soa, soa_values, mx, mx_values}
 use Rattle.domain_fields.specs.Scan.{Scans}
 use Rattle.domain_plain.proofs.GenericLemmas.{refused_is_no_text}
@@ -40,8 +40,8 @@ Reads key old wire new = (d : DnskeyData) × DnskeyText old d × (new ≡ []) ×
 Reads digest old wire new = (d : DsData) × DsText old d × (new ≡ []) × (wire ≡ ds_octets d)
 Reads signature old wire new = (d : RrsigData) × RrsigText old d × (new ≡ []) × (wire ≡ rrsig_octets d)
 Reads next_by_name old wire new = (labels : List (List ℕ)) × (types : List ℕ) × NsecText old labels types new × (wire ≡ octets_of nsec (labels, types))
-Reads next_by_hash old wire new = (v : Values nsec3) × Nsec3Text old v new × Fits nsec3 v × (wire ≡ octets_of nsec3 v)
-Reads params old wire new = (v : Values nsec3param) × Nsec3paramText old v new × Fits nsec3param v × (wire ≡ octets_of nsec3param v)
+Reads next_by_hash old wire new = (v : Values nsec3) × Nsec3Text old v new × (wire ≡ octets_of nsec3 v)
+Reads params old wire new = (v : Values nsec3param) × Nsec3paramText old v new × (wire ≡ octets_of nsec3param v)
 
 -- data of a kind are read in one way at most
 kind_once : (k : Kind) (old m n : List (List ℕ)) (x y : List ℕ) → Reads k old x m → Reads k old y n → (m ≡ n) × (x ≡ y)
@@ -53,18 +53,18 @@ kind_once next_by_name old m n x y p q =
     let names = nsec_name_once old m n p.0 q.0 p.1 q.1 p.2 q.2 in
     let types = nsec_types_once old m n p.0 q.0 p.1 q.1 p.2 q.2 in
     (p.2.all ∙ sym q.2.all, p.3 ∙ (λ i. octets_of nsec (names i, types i)) ∙ sym q.3)
-kind_once next_by_hash old m n x y p q = (nsec3_once.left old m n p.0 q.0 p.1 q.1, p.3 ∙ ap (octets_of nsec3) (nsec3_once.value old m n p.0 q.0 p.1 q.1) ∙ sym q.3)
-kind_once params old m n x y p q = (params_once.left old m n p.0 q.0 p.1 q.1, p.3 ∙ ap (octets_of nsec3param) (params_once.value old m n p.0 q.0 p.1 q.1) ∙ sym q.3)
+kind_once next_by_hash old m n x y p q = (nsec3_once.left old m n p.0 q.0 p.1 q.1, p.2 ∙ ap (octets_of nsec3) (nsec3_once.value old m n p.0 q.0 p.1 q.1) ∙ sym q.2)
+kind_once params old m n x y p q = (params_once.left old m n p.0 q.0 p.1 q.1, p.2 ∙ ap (octets_of nsec3param) (params_once.value old m n p.0 q.0 p.1 q.1) ∙ sym q.2)
 
--- over octets that grow, what is refused but for want of memory are no data of the kind
-kind_refused : (k : Kind) (old new after : List (List ℕ)) (wire : List ℕ) (fault : ScanFault) → RefusesKind None k old new fault → Reads k old wire after → fault ≢ no_memory → ⊥
-kind_refused (plain l) old new after wire fault why is known = refused_spells_none l old new after is.0 fault why is.1 known
-kind_refused key old new after wire fault why is known = refused_dnskey old new fault is.0 why known is.1
-kind_refused digest old new after wire fault why is known = refused_ds old new fault is.0 why known is.1
-kind_refused signature old new after wire fault why is known = refused_rrsig old new fault is.0 why known is.1
-kind_refused next_by_name old new after wire fault why is known = nsec_refused old new after fault is.0 is.1 why is.2 known
-kind_refused next_by_hash old new after wire fault why is known = nsec3_refused old new after is.0 fault is.2 why is.1 known
-kind_refused params old new after wire fault why is known = params_refused old new after is.0 fault is.2 why is.1 known
+-- what is refused, but for want of room or memory, are no data of the kind
+kind_refused : (k : Kind) (limit : Option ℕ) (old new after : List (List ℕ)) (wire : List ℕ) (fault : ScanFault) → RefusesKind limit k old new fault → Reads k old wire after → IsOfTokens limit fault → ⊥
+kind_refused (plain l) limit old new after wire fault why is alone = refused_spells_none l limit old new after is.0 fault why is.1 alone
+kind_refused key limit old new after wire fault why is alone = refused_dnskey limit old new fault is.0 why alone is.1
+kind_refused digest limit old new after wire fault why is alone = refused_ds limit old new fault is.0 why alone is.1
+kind_refused signature limit old new after wire fault why is alone = refused_rrsig limit old new fault is.0 why alone is.1
+kind_refused next_by_name limit old new after wire fault why is alone = nsec_refused limit limit old new after fault is.0 is.1 why is.2 alone alone
+kind_refused next_by_hash limit old new after wire fault why is alone = nsec3_refused limit old new after is.0 fault why is.1 alone
+kind_refused params limit old new after wire fault why is alone = params_refused limit old new after is.0 fault why is.1 alone
 
 -- how the text form of a type is read, to these octets
 pub record Way (rtype : ℕ) (old new : List (List ℕ)) (wire : List ℕ) : Type 0 where
@@ -82,8 +82,8 @@ module _ {O N : Type 0} (octets : O → List ℕ) (labels : N → List (List ℕ
   way (Ds d) h = record { kind = digest; is = ap kind_of h.0; reads = (d, h.1, h.2, refl) }
   way (Rrsig d) h = record { kind = signature; is = ap kind_of h.0; reads = (d, h.1, h.2, refl) }
   way (Nsec d) h = record { kind = next_by_name; is = ap kind_of h.0; reads = (labels d.next_name, d.types, h.1, refl) }
-  way (Nsec3 d) h = record { kind = next_by_hash; is = ap kind_of h.0; reads = (nsec3_values d, h.1, h.2, refl) }
-  way (Nsec3param d) h = record { kind = params; is = ap kind_of h.0; reads = (nsec3param_values d, h.1, h.2, refl) }
+  way (Nsec3 d) h = record { kind = next_by_hash; is = ap kind_of h.0; reads = (nsec3_values d, h.1, refl) }
+  way (Nsec3param d) h = record { kind = params; is = ap kind_of h.0; reads = (nsec3param_values d, h.1, refl) }
   way (Unknown d) h = absurd h
 
 -- a type is of one kind
@@ -96,29 +96,25 @@ one_way rtype old m n x y p q =
     let same = one_kind (kind_of rtype) p.kind q.kind p.is q.is in
     kind_once q.kind old m n x y (subst (λ k. Reads k old x m) same p.reads) q.reads
 
--- over octets that grow, what is refused as the text form of a type, but for want of memory, is not read
-own_refused : (limit : Option ℕ) (rtype : ℕ) (old new after : List (List ℕ)) (wire : List ℕ) (fault : ScanFault) → RefusesOwn limit rtype old new fault → limit ≡ None → fault ≢ no_memory → Way rtype old after wire → ⊥
-own_refused limit rtype old new after wire fault (at_field kind is why) grows known way =
+-- what is refused as the text form of a type, but for want of room or memory, is not read
+own_refused : (limit : Option ℕ) (rtype : ℕ) (old new after : List (List ℕ)) (wire : List ℕ) (fault : ScanFault) → RefusesOwn limit rtype old new fault → IsOfTokens limit fault → Way rtype old after wire → ⊥
+own_refused limit rtype old new after wire fault (at_field kind is why) alone way =
     let same = one_kind (kind_of rtype) way.kind kind way.is is in
-    kind_refused kind old new after wire fault (subst (λ q. RefusesKind q kind old new fault) grows why) (subst (λ j. Reads j old wire after) same way.reads) known
-own_refused limit rtype old new after wire fault (no_form none said all) grows known way = let e = sym way.is ∙ none in cc
+    kind_refused kind limit old new after wire fault why (subst (λ j. Reads j old wire after) same way.reads) alone
+own_refused limit rtype old new after wire fault (no_form none said all) alone way = let e = sym way.is ∙ none in cc
 
 -- octets are data of a type of this kind, or of none, of which any octets are data
 abbrev AreOf : Option Kind → List ℕ → Type 0
 AreOf None wire = Unit {0}
 AreOf (Some kind) wire = AreOfKind kind wire
 
--- what grows has room
-never_over : (limit : Option ℕ) (count : ℕ) → limit ≡ None → IsOver limit count → ⊥
-never_over limit count grows over = subst (λ q. IsOver q count) grows over
-
--- over octets that grow, octets that are refused but for want of memory are no data
-octets_refused : (limit : Option ℕ) (known : Option Kind) (wire : List ℕ) (fault : ScanFault) → OctetsFault limit known wire fault → limit ≡ None → fault ≢ no_memory → AreOf known wire → ⊥
-octets_refused limit None wire fault why grows other are = why
-octets_refused limit (Some kind) wire entry_ends why grows other are = why
-octets_refused limit (Some kind) wire (illegal said) why grows other are = why.1 are
-octets_refused limit (Some kind) wire no_room why grows other are = never_over limit (length why.0) grows why.2
-octets_refused limit (Some kind) wire no_memory why grows other are = other refl
+-- octets that are refused, but for want of room or memory, are no data
+octets_refused : (limit : Option ℕ) (known : Option Kind) (wire : List ℕ) (fault : ScanFault) → OctetsFault limit known wire fault → IsOfTokens limit fault → AreOf known wire → ⊥
+octets_refused limit None wire fault why alone are = why
+octets_refused limit (Some kind) wire entry_ends why alone are = why
+octets_refused limit (Some kind) wire (illegal said) why alone are = why.1 are
+octets_refused limit (Some kind) wire no_room why alone are = over_none limit (length why.0) why.2 alone
+octets_refused limit (Some kind) wire no_memory why alone are = alone
 
 -- generic text
 generic_begins : (tokens : List (List ℕ)) (wire : List ℕ) → GenericText tokens wire → IsGeneric tokens
@@ -137,10 +133,10 @@ module _ {O N : Type 0} (octets : O → List ℕ) (labels : N → List (List ℕ
   own_excludes unmarked none d after (own other text) = none d after text
   own_excludes unmarked none d after (generic wire text are all) = unmarked (generic_begins old wire text)
 
-  mark_excludes : (limit : Option ℕ) (new : List (List ℕ)) (fault : ScanFault) → limit ≡ None → IsGeneric old → GenericFault limit old new fault → fault ≢ no_memory
+  mark_excludes : (limit : Option ℕ) (new : List (List ℕ)) (fault : ScanFault) → IsGeneric old → GenericFault limit old new fault → IsOfTokens limit fault
       → (d : ZoneRecordData O N) (after : List (List ℕ)) → RdataText octets labels rtype old d after → ⊥
-  mark_excludes limit new fault grows marked why known d after (own other text) = other marked
-  mark_excludes limit new fault grows marked why known d after (generic wire text are all) = refused_is_no_text old new fault wire (subst (λ q. GenericFault q old new fault) grows why) text known
+  mark_excludes limit new fault marked why known d after (own other text) = other marked
+  mark_excludes limit new fault marked why known d after (generic wire text are all) = refused_is_no_text limit old new fault wire why text known
 
   octets_exclude : (wire : List ℕ) → GenericText old wire → ((d : ZoneRecordData O N) → AreData octets labels rtype wire d → ⊥)
       → (d : ZoneRecordData O N) (after : List (List ℕ)) → RdataText octets labels rtype old d after → ⊥
@@ -160,17 +156,17 @@ module _ {O N : Type 0} (octets : O → List ℕ) (labels : N → List (List ℕ
   are_of_type wire (Nsec3param d) h = subst (λ k. AreOf k wire) (sym (ap kind_of h.0)) (nsec3param_values d, h.1)
   are_of_type wire (Unknown d) h = subst (λ k. AreOf k wire) (sym h.0) tt
 
-  -- over octets that grow, what is refused but for want of memory spells no data of the type
-  pub none_spelled : (limit : Option ℕ) (new : List (List ℕ)) (fault : ScanFault) → RefusesRdata limit rtype old new fault → limit ≡ None → fault ≢ no_memory
+  -- what is refused, but for want of room or memory, spells no data of the type
+  pub none_spelled : (limit : Option ℕ) (new : List (List ℕ)) (fault : ScanFault) → RefusesRdata limit rtype old new fault → IsOfTokens limit fault
       → (d : ZoneRecordData O N) (after : List (List ℕ)) → RdataText octets labels rtype old d after → ⊥
-  none_spelled limit new fault (in_own unmarked why) grows known d after spelled =
-      own_excludes unmarked (λ d after text. own_refused limit rtype old new after _ fault why grows known (way octets labels rtype old after d text)) d after spelled
-  none_spelled limit new fault (in_generic marked why) grows known d after spelled = mark_excludes limit new fault grows marked why known d after spelled
-  none_spelled limit new fault (in_octets wire text all why) grows known d after spelled =
-      octets_exclude wire text (λ d are. octets_refused limit (kind_of rtype) wire fault why grows known (are_of_type wire d are)) d after spelled
+  none_spelled limit new fault (in_own unmarked why) known d after spelled =
+      own_excludes unmarked (λ d after text. own_refused limit rtype old new after _ fault why known (way octets labels rtype old after d text)) d after spelled
+  none_spelled limit new fault (in_generic marked why) known d after spelled = mark_excludes limit new fault marked why known d after spelled
+  none_spelled limit new fault (in_octets wire text all why) known d after spelled =
+      octets_exclude wire text (λ d are. octets_refused limit (kind_of rtype) wire fault why known (are_of_type wire d are)) d after spelled
 
   pub refused_none : (limit : Option ℕ) (new : List (List ℕ)) (result : Result (ZoneRecordData O N) ScanError) → IfErr result (λ e. RefusesRdata limit rtype old new (scan_fault_of e))
-      → IfErr result (λ e. limit ≡ None → scan_fault_of e ≢ no_memory → (d : ZoneRecordData O N) (after : List (List ℕ)) → RdataText octets labels rtype old d after → ⊥)
+      → IfErr result (λ e. IsOfTokens limit (scan_fault_of e) → (d : ZoneRecordData O N) (after : List (List ℕ)) → RdataText octets labels rtype old d after → ⊥)
   refused_none limit new (Ok d) why = tt
   refused_none limit new (Err e) why = none_spelled limit new (scan_fault_of e) why
 

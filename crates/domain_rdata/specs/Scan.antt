@@ -3,7 +3,7 @@ use Rattle.std.specs.Prelude.{◌≡◌, ℕ, None, [], ◌∷◌}
 use Rattle.domain_octets.specs.Words.{Octets}
 use Rattle.domain_base.specs.Types as rtypes
 use Rattle.domain_plain.specs.Generic.{GenericText, generic_mark}
-use Rattle.domain_fields.specs.Layout.{Begins, Fits}
+use Rattle.domain_fields.specs.Layout.{Begins}
 use Rattle.domain_plain.specs.Plain.{a, a_values, ns, ns_values, soa, soa_values, mx, mx_values}
 use Rattle.domain_fields.specs.Scan.{Scans}
 use Rattle.domain_keys.specs.Data.{dnskey, dnskey_values, ds, ds_values}
@@ -21,8 +21,7 @@ use Rattle.domain_rdata.specs.declared.zone_record_data.ZoneRecordData.{ZoneReco
 use Rattle.domain_rdata.specs.declared.zone_record_data.ZoneRecordData.TheVariants.{A, Ns, Soa, Mx, Dnskey, Ds, Rrsig, Nsec, Nsec3, Nsec3param, Unknown}
 use Rattle.domain_base.specs.Words.{Tokens, Name}
 
--- the tokens begin with the data in the text form of their type, and these are left; salts and
--- hashes have at most 255 octets
+-- the tokens begin with the data in the text form of their type, and these are left
 abbrev pub OwnText : {O N : Type 0} → (N → Name) → ℕ → Tokens → ZoneRecordData O N
     → Tokens → Type 0
 OwnText labels rtype old (A d) new = (rtype ≡ rtypes.a) × Scans a old (a_values d) new
@@ -36,10 +35,9 @@ OwnText labels rtype old (Rrsig d) new = (rtype ≡ rtypes.rrsig) × RrsigText o
 OwnText labels rtype old (Nsec d) new =
     (rtype ≡ rtypes.nsec) × NsecText old (labels d.next_name) d.types new
 OwnText labels rtype old (Nsec3 d) new =
-    (rtype ≡ rtypes.nsec3) × Nsec3Text old (nsec3_values d) new × Fits nsec3 (nsec3_values d)
+    (rtype ≡ rtypes.nsec3) × Nsec3Text old (nsec3_values d) new
 OwnText labels rtype old (Nsec3param d) new =
     (rtype ≡ rtypes.nsec3param) × Nsec3paramText old (nsec3param_values d) new
-    × Fits nsec3param (nsec3param_values d)
 OwnText labels rtype old (Unknown d) new = ⊥
 
 -- the octets are the data of a type

@@ -1,7 +1,7 @@
 //! Data of all types from tokens.
-ghost use Rattle.std.specs.Prelude.{◌≡◌, ◌≢◌, ◌==◌, ◌↔◌, false, None, IsTrue, IfOk, IfErr};
+ghost use Rattle.std.specs.Prelude.{◌≡◌, ◌==◌, ◌↔◌, false, IsTrue, IfOk, IfErr};
 ghost use Rattle.domain_base.specs.Types as rtypes;
-ghost use Rattle.domain_base.specs.Scan.{scan_fault_of, no_memory};
+ghost use Rattle.domain_base.specs.Scan.{IsOfTokens, scan_fault_of};
 ghost use Rattle.domain_rdata.specs.DataText.{data_text};
 ghost use Rattle.domain_rdata.specs.Refusal.{RefusesOwn, RefusesRdata};
 ghost use Rattle.domain_rdata.specs.Scan.{RdataText, OwnText, IsGeneric};
@@ -160,9 +160,9 @@ where
             RefusesRdata O.Builder.limit rtype (S.tokens scanner.old) (S.tokens scanner.new)
             (scan_fault_of e)) }
 
-        // Over octets that grow, what is refused but for want of memory spells no data of the type.
-        ensures spells_none { IfErr result (λ e. O.Builder.limit ≡ None
-            → scan_fault_of e ≢ no_memory
+        // What is refused, but for want of room or of memory, spells no data of the type.
+        ensures spells_none { IfErr result (λ e.
+            IsOfTokens O.Builder.limit (scan_fault_of e)
             → (d : ZoneRecordData O N) (after : Tokens)
             → RdataText O.octets N.labels rtype (S.tokens scanner.old) d after → ⊥) }
     {

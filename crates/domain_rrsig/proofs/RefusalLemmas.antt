@@ -1,15 +1,15 @@
 -- The texts of signatures: tokens spell one at most, and none where they are refused.
-use Rattle.std.proofs.Common.{◌≡◌, ◌≢◌, ℕ, ◌+◌, ◌<◌, List, length, sym, ◌∙◌, arith, None}
+use Rattle.std.proofs.Common.{◌≡◌, ℕ, ◌+◌, ◌<◌, List, length, sym, ◌∙◌, arith, Option}
 use Rattle.domain_octets.specs.declared.codec.Codec.TheVariants.{Base64}
 use Rattle.domain_base.specs.Name.{wire_of}
 use Rattle.domain_base.specs.Numbers.{TypeText, IsNoType}
-use Rattle.domain_base.specs.Scan.{ScanFault, no_memory, RefusesToken}
+use Rattle.domain_base.specs.Scan.{ScanFault, IsOfTokens, RefusesToken}
 use Rattle.domain_base.proofs.NamedLemmas.{one_named}
 use Rattle.domain_fields.specs.Field.{octet, short, long, name}
 use Rattle.domain_fields.specs.Layout.{Layout, one, ◌▸◌}
 use Rattle.domain_fields.specs.Scan.{Scans, Refuses}
-use Rattle.domain_fields.specs.Sequence.{OneToken}
-use Rattle.domain_fields.proofs.GrammarLemmas.{ReadsOnce, Excludes, Any, fields_once, fields_refused, one_token, token_refused, both_once, both_refused, same_fields, same_octets, entry_refused}
+use Rattle.domain_fields.specs.Sequence.{OneToken, Both, RefusesBoth}
+use Rattle.domain_fields.proofs.GrammarLemmas.{ReadsOnce, Excludes, OneFault, fields_once, fields_refused, fields_one_fault, one_token, token_refused, token_once_refused, both_once, both_refused, both_one_fault, same_fields, same_octets, entry_refused, entry_refused_once}
 use Rattle.domain_rrsig.specs.Data.{proto_rrsig_data, RrsigData}
 use Rattle.domain_rrsig.specs.Time.{TimeToken, IsNoTime}
 use Rattle.domain_rrsig.specs.Scan.{numbers_text, RefusesNumbers, times_text, RefusesTimes, rrsig_fields_text, RefusesRrsigFields, RrsigText, RefusesRrsig}
@@ -22,30 +22,15 @@ lengths = one octet ▸ one octet ▸ one long
 type_once : (text : List ℕ) (m n : ℕ) → TypeText text m → TypeText text n → m ≡ n
 type_once text m n x y = one_named _ _ text m n x y
 
-type_refused : (fault : ScanFault) (text : List ℕ) (n : ℕ) → Any n → IsNoType fault text → TypeText text n → fault ≢ no_memory → ⊥
-type_refused fault text n any why is known = why.none n is
-
 numbers_once : ReadsOnce numbers_text
 numbers_once = both_once (OneToken TypeText) (Scans lengths) (one_token TypeText type_once) (fields_once lengths)
-
-numbers_refused : Excludes (λ v. Any v.0 × Any v.1) numbers_text (RefusesNumbers None)
-numbers_refused =
-    both_refused Any Any (OneToken TypeText) (Scans lengths) (RefusesToken IsNoType) (Refuses None lengths) (one_token TypeText type_once) (token_refused Any TypeText IsNoType type_refused) (fields_refused lengths)
 
 -- the times
 time_once : (text : List ℕ) (m n : ℕ) → TimeToken text m → TimeToken text n → m ≡ n
 time_once text m n x y = x.number.value ∙ sym y.number.value
 
-time_refused : (fault : ScanFault) (text : List ℕ) (n : ℕ) → Any n → IsNoTime fault text → TimeToken text n → fault ≢ no_memory → ⊥
-time_refused fault text n any why is known = why.none n is
-
 times_once : ReadsOnce times_text
 times_once = both_once (OneToken TimeToken) (OneToken TimeToken) (one_token TimeToken time_once) (one_token TimeToken time_once)
-
-times_refused : Excludes (λ v. Any v.0 × Any v.1) times_text RefusesTimes
-times_refused =
-    let each = token_refused Any TimeToken IsNoTime time_refused in
-    both_refused Any Any (OneToken TimeToken) (OneToken TimeToken) (RefusesToken IsNoTime) (RefusesToken IsNoTime) (one_token TimeToken time_once) each each
 
 -- all fields but the signature
 abbrev signer : Layout
@@ -54,11 +39,57 @@ signer = one short ▸ one name
 rrsig_fields_once : ReadsOnce rrsig_fields_text
 rrsig_fields_once = both_once numbers_text _ numbers_once (both_once times_text (Scans signer) times_once (fields_once signer))
 
-rrsig_fields_refused : Excludes Any rrsig_fields_text (RefusesRrsigFields None)
-rrsig_fields_refused = λ old new after v fault any.
-    both_refused _ _ numbers_text _ (RefusesNumbers None) _ numbers_once numbers_refused
-    (both_refused _ Any times_text (Scans signer) RefusesTimes (Refuses None signer) times_once times_refused (fields_refused signer))
-    old new after v fault ((tt, tt), ((tt, tt), tt))
+-- refusals of the fields, over builders with a limit
+module _ (limit : Option ℕ) where
+  type_apart : Excludes limit (OneToken TypeText) (RefusesToken IsNoType)
+  type_apart = token_refused limit TypeText IsNoType (λ fault text n why is own. why.none n is)
+
+  type_one_fault : OneFault limit (RefusesToken IsNoType)
+  type_one_fault = token_once_refused limit IsNoType (λ x y text p q. p.said ∙ sym q.said)
+
+  numbers_apart : Excludes limit numbers_text (RefusesNumbers limit)
+  numbers_apart =
+      both_refused limit (OneToken TypeText) (Scans lengths) (RefusesToken IsNoType) (Refuses limit lengths) (one_token TypeText type_once) type_apart (fields_refused limit lengths)
+
+  numbers_one_fault : OneFault limit (RefusesNumbers limit)
+  numbers_one_fault =
+      both_one_fault limit (OneToken TypeText) (Scans lengths) (RefusesToken IsNoType) (Refuses limit lengths) (one_token TypeText type_once) type_apart
+      type_one_fault (fields_one_fault limit lengths)
+
+  time_apart : Excludes limit (OneToken TimeToken) (RefusesToken IsNoTime)
+  time_apart = token_refused limit TimeToken IsNoTime (λ fault text n why is own. why.none n is)
+
+  time_one_fault : OneFault limit (RefusesToken IsNoTime)
+  time_one_fault = token_once_refused limit IsNoTime (λ x y text p q. p.said ∙ sym q.said)
+
+  times_apart : Excludes limit times_text RefusesTimes
+  times_apart =
+      both_refused limit (OneToken TimeToken) (OneToken TimeToken) (RefusesToken IsNoTime) (RefusesToken IsNoTime) (one_token TimeToken time_once) time_apart time_apart
+
+  times_one_fault : OneFault limit RefusesTimes
+  times_one_fault =
+      both_one_fault limit (OneToken TimeToken) (OneToken TimeToken) (RefusesToken IsNoTime) (RefusesToken IsNoTime) (one_token TimeToken time_once) time_apart
+      time_one_fault time_one_fault
+
+  end_apart : Excludes limit (Both times_text (Scans signer)) (RefusesBoth times_text RefusesTimes (Refuses limit signer))
+  end_apart = both_refused limit times_text (Scans signer) RefusesTimes (Refuses limit signer) times_once times_apart (fields_refused limit signer)
+
+  end_one_fault : OneFault limit (RefusesBoth times_text RefusesTimes (Refuses limit signer))
+  end_one_fault =
+      both_one_fault limit times_text (Scans signer) RefusesTimes (Refuses limit signer) times_once times_apart times_one_fault (fields_one_fault limit signer)
+
+  rrsig_fields_apart : Excludes limit rrsig_fields_text (RefusesRrsigFields limit)
+  rrsig_fields_apart =
+      both_refused limit numbers_text (Both times_text (Scans signer)) (RefusesNumbers limit) (RefusesBoth times_text RefusesTimes (Refuses limit signer)) numbers_once numbers_apart end_apart
+
+  rrsig_fields_one_fault : OneFault limit (RefusesRrsigFields limit)
+  rrsig_fields_one_fault =
+      both_one_fault limit numbers_text (Both times_text (Scans signer)) (RefusesNumbers limit) (RefusesBoth times_text RefusesTimes (Refuses limit signer)) numbers_once numbers_apart
+      numbers_one_fault end_one_fault
+
+-- over the limit of all data
+abbrev Long : (ℕ × (ℕ × (ℕ × ℕ))) × ((ℕ × ℕ) × (ℕ × List (List ℕ))) → List ℕ → Type 0
+Long fields octets = 65535 < 18 + length (wire_of fields.1.1.1) + length octets
 
 pub rrsig_once : (old : List (List ℕ)) (d e : RrsigData) → RrsigText old d → RrsigText old e → d ≡ e
 rrsig_once old d e x y =
@@ -69,7 +100,11 @@ rrsig_once old d e x y =
       signature = octets i;
     }
 
-pub refused_rrsig : (old new : List (List ℕ)) (fault : ScanFault) (d : RrsigData) → RefusesRrsig None old new fault → fault ≢ no_memory → RrsigText old d → ⊥
-refused_rrsig old new fault d why known text =
-    entry_refused rrsig_fields_text (RefusesRrsigFields None) rrsig_fields_once rrsig_fields_refused (λ fields octets. 65535 < 18 + length (wire_of fields.1.1.1) + length octets) Base64 old new fault known
+pub refused_rrsig : (limit : Option ℕ) (old new : List (List ℕ)) (fault : ScanFault) (d : RrsigData) → RefusesRrsig limit old new fault → IsOfTokens limit fault → RrsigText old d → ⊥
+refused_rrsig limit old new fault d why own text =
+    entry_refused limit rrsig_fields_text (RefusesRrsigFields limit) rrsig_fields_once (rrsig_fields_apart limit) Long Base64 old new fault own
     _ d.signature text.spelled (λ many. omega (arith, many, text.fits, length_of_rrsig d)) why
+
+pub rrsig_one_fault : (limit : Option ℕ) (old m n : List (List ℕ)) (x y : ScanFault) → RefusesRrsig limit old m x → RefusesRrsig limit old n y → IsOfTokens limit x → IsOfTokens limit y → x ≡ y
+rrsig_one_fault limit old m n x y p q own also =
+    entry_refused_once limit rrsig_fields_text (RefusesRrsigFields limit) rrsig_fields_once (rrsig_fields_apart limit) Long Base64 (rrsig_fields_one_fault limit) old m n x y p q own also

@@ -76,6 +76,23 @@ fn decode(alloc: Global, codec: Codec, text: &str, answers: &mut Answers) {
     answers.debug("ArrayBuilder<2>", &short.err());
 }
 
+/// What texts stand for when they are joined, by themselves and where there is room for two octets.
+fn decode_joined(alloc: Global, codec: Codec, texts: &[&str], answers: &mut Answers) {
+    answers.octets_or_refused("joined", codec.decode_joined::<Vec<u8>>(alloc, texts));
+    let short: Result<ArrayBuilder<2>, DecodeError> = codec.decode_joined(alloc, texts);
+    answers.debug("ArrayBuilder<2>", &short.err());
+}
+
+/// What a text stands for that is cut in two at each place, with an empty text between.
+fn decode_cut(alloc: Global, codec: Codec, text: &str, answers: &mut Answers) {
+    for place in 0..=text.len() {
+        if let Some((front, back)) = text.split_at_checked(place) {
+            let octets = codec.decode_joined::<Vec<u8>>(alloc, &[front, "", back]);
+            answers.octets_or_error("cut", octets);
+        }
+    }
+}
+
 /// The octets that a text stands for, of one kind.
 fn in_kind<O: FromBuilder + Drop>(alloc: Global, codec: Codec, text: &str, answers: &mut Answers)
 where
@@ -118,6 +135,21 @@ fn of_octets(alloc: Global, words: &[&str], answers: &mut Answers) {
     }
 }
 
+/// Answers a vector on octets as text in several parts.
+fn of_texts(alloc: Global, words: &[&str], answers: &mut Answers) {
+    let texts = words.get(1..).unwrap_or_default();
+    let text = input::word(words, 1);
+    match input::word(words, 0) {
+        "joined16" => decode_joined(alloc, Codec::Base16, texts, answers),
+        "joined32" => decode_joined(alloc, Codec::Base32Hex, texts, answers),
+        "joined64" => decode_joined(alloc, Codec::Base64, texts, answers),
+        "cut16" => decode_cut(alloc, Codec::Base16, text, answers),
+        "cut32" => decode_cut(alloc, Codec::Base32Hex, text, answers),
+        "cut64" => decode_cut(alloc, Codec::Base64, text, answers),
+        _ => answers.echo("  no such vector"),
+    }
+}
+
 /// Answers a vector on octets as text.
 pub fn answer(alloc: Global, words: &[&str], answers: &mut Answers) {
     let text = input::word(words, 1);
@@ -131,6 +163,6 @@ pub fn answer(alloc: Global, words: &[&str], answers: &mut Answers) {
         "arrays64" => in_arrays(alloc, Codec::Base64, text, answers),
         "named" => named(alloc, text, answers),
         "errors" => errors(answers),
-        _ => answers.echo("  no such vector"),
+        _ => of_texts(alloc, words, answers),
     }
 }

@@ -2,7 +2,7 @@
 use bytes::Bytes;
 use domain_octets::{
     AppendError, ArrayBuilder, EmptyBuilder, EmptyOctets, FreezeBuilder, Octets, OctetsFrom,
-    ParseError, Parser, TryClone,
+    ParseError, Parser, SmallBuilder, SmallOctets, TryClone,
 };
 use std::alloc::Global;
 use vector_lines::input::Parts;
@@ -55,6 +55,8 @@ fn held_twice<O: Octets + TryClone + Drop>(
 fn held(alloc: Global, octets: &[u8], answers: &mut Answers) {
     answers.octets_or_error("Vec", Vec::try_octets_from(alloc, octets));
     held_twice("Bytes", Bytes::try_octets_from(alloc, octets), answers);
+    let small = SmallOctets::try_octets_from(alloc, octets);
+    held_twice("SmallOctets", small, answers);
     let array = ArrayBuilder::<3>::try_octets_from(alloc, octets);
     held_twice("ArrayBuilder<3>", array, answers);
     let array = ArrayBuilder::<2>::try_octets_from(alloc, octets);
@@ -65,6 +67,7 @@ fn held(alloc: Global, octets: &[u8], answers: &mut Answers) {
 fn none(alloc: Global, answers: &mut Answers) {
     answers.octets("Vec", &<Vec<u8> as EmptyOctets>::empty(alloc));
     answers.octets("Bytes", &<Bytes as EmptyOctets>::empty(alloc));
+    answers.octets("SmallOctets", &<SmallOctets as EmptyOctets>::empty(alloc));
     answers.octets("slice", &<&[u8] as EmptyOctets>::empty(alloc));
 }
 
@@ -85,6 +88,7 @@ fn parse(octets: &[u8], answers: &mut Answers) {
 /// What builders make of two parts, by the room that they have.
 fn joined(alloc: Global, parts: &Parts, answers: &mut Answers) {
     answers.octets_or_error("Vec", join::<Vec<u8>>(alloc, parts));
+    answers.octets_or_error("SmallBuilder", join::<SmallBuilder>(alloc, parts));
     answers.octets_or_error("ArrayBuilder<3>", join::<ArrayBuilder<3>>(alloc, parts));
     answers.octets_or_error("ArrayBuilder<2>", join::<ArrayBuilder<2>>(alloc, parts));
 }
@@ -93,6 +97,8 @@ fn joined(alloc: Global, parts: &Parts, answers: &mut Answers) {
 fn overwritten(alloc: Global, parts: &Parts, answers: &mut Answers) {
     let other = parts.second().first().copied().unwrap_or(0);
     answers.octets_or_error("Vec", overwrite::<Vec<u8>>(alloc, parts.first(), other));
+    let small = overwrite::<SmallBuilder>(alloc, parts.first(), other);
+    answers.octets_or_error("SmallBuilder", small);
     let array = overwrite::<ArrayBuilder<9>>(alloc, parts.first(), other);
     answers.octets_or_error("ArrayBuilder<9>", array);
 }

@@ -1,6 +1,6 @@
-use Rattle.std.proofs.Common.{◌≡◌, ◌≤◌, ◌+◌, ◌++◌, ◌∷◌, [], length, drop, map, sym, ap, ◌∙◌, subst, arith}
+use Rattle.std.proofs.Common.{◌≡◌, ◌≤◌, ◌+◌, ◌++◌, length, drop, map, get_or, false, rules, sym, ap, ◌∙◌, subst, arith}
 use Rattle.std.proofs.lemmas.List.{take_rest}
-use Rattle.denial.specs.Words.{words, ArePlain}
+use Rattle.denial.specs.Words.{words, is_blank, ArePlain}
 use Rattle.denial.proofs.WordLemmas.{blank_passed, low_more, not_plain_at, part, part_all, pushed, pushed_plain, whole_more, word_ends, word_last, word_none}
 use Rattle.denial.proofs.line.tokens_of.Goals as goal
 use Rattle.denial.proofs.line.tokens_of.Goals.{then-separates, then-start-i+in_ok-push, else-start-i, else-separates, then-start-line+in_ok-push-2, else-start-line}
@@ -17,7 +17,7 @@ loop-i-preserved c =
           let blank = sym c.separates.ensures ∙ w.if-separates.true in
           elim w.if-start-i.branch [
             | then-start-i+in_ok-push v ↦ (
-                rw (w.start-is, w.tokens-is, v.tokens-is, v.in_ok-push.ensures.items) (record {
+                rw (w.start-is, w.tokens-is, v.tokens-is, v.in_ok-push.ensures.ok) (record {
                   begun = omega arith;
                   same = ap (λ ws. ws ++ words (drop (i + 1) line)) (pushed c.loop-i.tokens.items v.text_of.result (part line start i) v.text_of.ensures)
                       ∙ word_ends line start (map (λ t. t.now) c.loop-i.tokens.items) i v.if-start-i.true c.loop-i-test.true inv.same inv.whole blank;
@@ -44,6 +44,20 @@ loop-i-preserved c =
       })
     ]
 
+pub loop-i-preserved-then-is_of_word : goal.loop-i-preserved-then-is_of_word
+loop-i-preserved-then-is_of_word c =
+    let line = c.args.line.now in
+    let i = c.loop-i.i in
+    let inv = c.loop-i.invariant in
+    let here : (is_blank (get_or line i 0) ≡ false) × (get_or line i 0 ≤ 126) = search rules in
+    record {
+      begun = omega (arith, inv.begun);
+      same = inv.same;
+      plain = inv.plain;
+      whole = whole_more line c.loop-i.start i inv.whole here.0;
+      low = low_more line i inv.low here.1;
+    }
+
 pub returns-then-octet-gt126-clause-none : goal.returns-then-octet-gt126-clause-none
 returns-then-octet-gt126-clause-none c = not_plain_at c.args.line.now c.loop-i.i c.loop-i-test.true c.if-octet-gt126.true
 
@@ -66,7 +80,7 @@ returns-clause-same c =
     let ts = c.loop-i.tokens.items in
     elim c.if-start-line.branch [
       | then-start-line+in_ok-push-2 w ↦ (
-          rw (w.tokens-is, w.in_ok-push-2.ensures.items)
+          rw (w.tokens-is, w.in_ok-push-2.ensures.ok)
           (pushed ts w.text_of-then-start-line.result (drop start line) (w.text_of-then-start-line.ensures ∙ take_rest line start)
           ∙ word_last line start (map (λ t. t.now) ts) w.if-start-line.true inv.same (λ k le lt. inv.whole k le (omega (arith, c.loop-i-test.false)))))
       | else-start-line w ↦ rw w.tokens-is (word_none line start (map (λ t. t.now) ts) w.if-start-line.false inv.same)

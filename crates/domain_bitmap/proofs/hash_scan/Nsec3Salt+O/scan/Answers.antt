@@ -17,7 +17,7 @@ returns-then-begins-clause-err g c =
 pub returns-clause-ok : goal.returns-clause-ok
 returns-clause-ok g c =
     digits_ok c.scan_token.result _ _ _ c.in-Some.ensures (λ dash. let begins = c.dash-begins.ensures.begins.1 dash in cc (begins, c.if-begins.false))
-    c.scan_token.ensures.ok
+    c.scan_token.ensures.ok c.scan_token.ensures.counted
 
 pub returns-clause-err : goal.returns-clause-err
 returns-clause-err g c =

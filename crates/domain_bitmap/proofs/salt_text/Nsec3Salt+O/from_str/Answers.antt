@@ -1,4 +1,4 @@
-use Rattle.std.proofs.Common.{◌≡◌, ◌≢◌, codes, rules, sym, subst}
+use Rattle.std.proofs.Common.{◌≡◌, ◌≢◌, codes, rules, refl, sym, subst}
 use Rattle.domain_octets.specs.declared.codec.Codec.TheVariants.{Base16}
 use Rattle.domain_bitmap.specs.HashText.{SaltText, dash, digits}
 use Rattle.domain_bitmap.proofs.CountedLemmas.{over_limit, decoded_has_room}
@@ -12,14 +12,15 @@ returns-then-eq-clause-ok g c =
 pub returns-in-Ok-from_octets-clause-ok : goal.returns-in-Ok-from_octets-clause-ok
 returns-in-Ok-from_octets-clause-ok g c =
     let other : c.args.text.now ≢ codes "-" = search rules in
-    subst (SaltText c.args.text.now) (sym c.in-Ok-from_octets.ensures.octets) (digits c.args.text.now _ other c.in-Ok.ensures.ok)
+    subst (SaltText c.args.text.now) (sym c.in-Ok-from_octets.ensures.octets) (digits c.args.text.now _ other c.in-Ok.ensures.ok (c.in-Ok-from_octets.ensures.ok.0 refl))
 
 pub returns-in-Err-from_octets-clause-err : goal.returns-in-Err-from_octets-clause-err
 returns-in-Err-from_octets-clause-err g c =
     let other : c.args.text.now ≢ codes "-" = search rules in
     record {
       octets = _;
-      spelled = digits c.args.text.now _ other c.in-Ok.ensures.ok;
+      other = other;
+      decoded = c.in-Ok.ensures.ok;
       room = decoded_has_room Base16 g.O.Builder.OctetsBuilder.limit c.args.text.now _ _ c.decode.result c.in-Ok.is c.in-Ok.ensures.ok c.decode.ensures.room;
       long = over_limit _ c.in-Err-from_octets.ensures.ok.1;
     }
