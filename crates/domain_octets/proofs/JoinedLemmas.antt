@@ -26,7 +26,7 @@ use Rattle.domain_octets.specs.declared.error.AppendError.TheVariants.{ShortBuf,
 use Rattle.base64.specs.declared.decode.DecodeError.{DecodeError}
 use Rattle.base64.specs.GeneralPurpose as base64
 
--- octets, as Base 64 speaks of them
+-- octets are what the library `base64` takes for bytes
 pub bytes_of : (text : List ℕ) → AreOctets text → IsBytes text
 bytes_of text all i = elim (cases_lt i (length text)) [
   | inl inside ↦ all i 0 inside
