@@ -1,7 +1,9 @@
 //! NSEC chains of small zones (RFC 4034, section 4; RFC 4035, section 2.3; RFC 9077).
 use crate::verdicts;
 use domain_base::ScanError;
-use domain_dnssec::{GenerateNsecConfig, generate_nsecs, generate_nsecs_of_records};
+use domain_dnssec::{
+    GenerateNsecConfig, NsecChain, generate_nsecs, generate_nsecs_of_records, lend_nsecs_of_sorted,
+};
 use std::alloc::Global;
 use vector_lines::{Answers, OwnName, input};
 use zone_lines::{Zone, ZoneRecord, list, records, zone};
@@ -32,6 +34,27 @@ fn chain_of_any(alloc: Global, apex: &OwnName, given: Vec<ZoneRecord>, answers: 
     }
 }
 
+/// The records of a chain as it lends them, each on a line, and none past the last one.
+fn show_lent(chain: &NsecChain<'_, OwnName>, answers: &mut Answers) {
+    answers.show("records", &chain.len());
+    for place in 0..chain.len() {
+        if let Some(nsec) = chain.lend(place) {
+            answers.show("record", &nsec);
+        }
+    }
+    if chain.lend(chain.len()).is_none() {
+        answers.echo("  no further record");
+    }
+}
+
+/// The chain of sorted records as it is lent, or why they have none.
+fn chain_lent(alloc: Global, apex: &OwnName, zone: &Zone, answers: &mut Answers) {
+    match lend_nsecs_of_sorted(alloc, apex, zone, &GenerateNsecConfig::new()) {
+        Ok(chain) => show_lent(&chain, answers),
+        Err(error) => answers.refused(&error),
+    }
+}
+
 /// What a form asks of the generator.
 fn config(form: &str) -> GenerateNsecConfig {
     match form {
@@ -53,6 +76,7 @@ fn of_apex(
 ) -> Result<(), ScanError> {
     match form {
         "any" => chain_of_any(alloc, apex, records(alloc, words)?, answers),
+        "lent" => chain_lent(alloc, apex, &zone(alloc, words)?, answers),
         "verdict" => verdicts::by_name(alloc, apex, words, answers)?,
         _ => chain(alloc, apex, &zone(alloc, words)?, &config(form), answers),
     }

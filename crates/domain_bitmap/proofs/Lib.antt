@@ -14,3 +14,4 @@ pub mod SaltLemmas
 pub mod PieceLemmas
 pub mod ReadBackLemmas
 pub mod RefusalLemmas
+pub mod ListLemmas

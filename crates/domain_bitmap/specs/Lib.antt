@@ -11,3 +11,4 @@ pub mod HashText
 pub mod HashFault
 pub mod HashScan
 pub mod Pieces
+pub mod List

@@ -19,6 +19,8 @@
 //!   was added (`laws`).
 //! - Equality, both orders and `Hash` are those of the octets; of two bitmaps that builders made,
 //!   equality is that of the sets.
+//! - `RtypeBitmaps` is a list of bitmaps in two vectors, in which each takes 8 octets beside its own.
+//!   `push` copies one or changes nothing, and `get` lends one in constant time, without memory.
 //! - An `Nsec3Salt` and an `OwnerHash` have at most 255 octets, and are these octets in clauses.
 //!   `Ord` is lexicographic; the canonical order, that of the wire form, looks at the length first.
 #![tactic(auto)]
@@ -34,6 +36,7 @@ mod error;
 mod hash_scan;
 mod iter;
 pub mod laws;
+mod list;
 mod owner_hash;
 mod owner_hash_text;
 mod pack;
@@ -50,6 +53,7 @@ pub use builder::RtypeBitmapBuilder;
 pub use counted::CountedOctets;
 pub use error::RtypeBitmapError;
 pub use iter::RtypeBitmapIter;
+pub use list::RtypeBitmaps;
 pub use owner_hash::{OwnerHash, OwnerHashError};
 pub use salt::{Nsec3Salt, Nsec3SaltError};
 pub use salt_text::Nsec3SaltFromStrError;

@@ -4,13 +4,42 @@ ghost use Rattle.domain_nsec.specs.ChainView.{links_of};
 ghost use Rattle.domain_dnssec.specs.AnyOrder.{HasNoChain, HasNoSortedChain, IsChainOf, IsSortedChain};
 
 use crate::chain::ChainError;
-use domain_base::MakeName;
-use domain_nsec::{GenerateNsecConfig, generate_nsecs};
-use domain_octets::{EmptyBuilder, FreezeBuilder, FromBuilder, GrowingBuilder, Truncate};
+use domain_base::{MakeName, ToName};
+use domain_nsec::{GenerateNsecConfig, NsecChain, lend_nsecs};
+use domain_octets::{EmptyBuilder, FreezeBuilder, FromBuilder, GrowingBuilder, Octets, Truncate};
 use domain_plain::Record;
 use domain_rdata::{Nsec, ZoneRecordData};
 use domain_records::{SigningError, SortedRecords, Sorter};
 use std::alloc::Global;
+
+/// The NSEC chain of the zone that sorted records are, as `lend_nsecs` makes it: the chain makes its
+/// records one by one, and borrows their names from the sorted records.
+///
+/// # Errors
+///
+/// The first that stands: `MixedClasses` where the records are not of one class; `Signing` with the
+/// first fault of the zone; and `OutOfMemory`.
+pub fn lend_nsecs_of_sorted<'a, S: Sorter, O: Octets, N: ToName>(
+    alloc: Global,
+    apex: &'a N,
+    records: &'a SortedRecords<N, ZoneRecordData<O, N>, S>,
+    config: &GenerateNsecConfig,
+) -> Result<NsecChain<'a, N>, ChainError>
+    ensures ok { IfOk result
+        (IsSortedChain N.labels records.now (N.labels apex.now) config.now) }
+    ensures err { IfErr result
+        (HasNoSortedChain N.labels records.now (N.labels apex.now) config.now) }
+{
+    let groups = records.owner_rrs();
+    if !groups.is_one_class() {
+        return Err(ChainError::MixedClasses);
+    }
+    match lend_nsecs(alloc, apex, groups, config) {
+        Ok(chain) => Ok(chain),
+        Err(SigningError::OutOfMemory) => Err(ChainError::OutOfMemory),
+        Err(error) => Err(ChainError::Signing(error)),
+    }
+}
 
 /// The NSEC chain of the zone that sorted records are, as `generate_nsecs` makes it.
 ///
@@ -33,14 +62,10 @@ where
     ensures err { IfErr result
         (HasNoSortedChain N.labels records.now (N.labels apex.now) config.now) }
 {
-    let groups = records.owner_rrs();
-    if !groups.is_one_class() {
-        return Err(ChainError::MixedClasses);
-    }
-    match generate_nsecs(alloc, apex, groups, config) {
+    let chain = lend_nsecs_of_sorted(alloc, apex, records, config)?;
+    match chain.records(alloc) {
         Ok(nsecs) => Ok(nsecs),
-        Err(SigningError::OutOfMemory) => Err(ChainError::OutOfMemory),
-        Err(error) => Err(ChainError::Signing(error)),
+        Err(_) => Err(ChainError::OutOfMemory),
     }
 }
 

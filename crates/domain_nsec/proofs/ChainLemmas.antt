@@ -1,9 +1,10 @@
 -- How the records of a chain are gathered, and what the finished chain means.
-use Rattle.std.proofs.Common.{◌≡◌, ℕ, ◌+◌, Bool, true, false, cond, not, ◌&&◌, ◌||◌, List, [], ◌∷◌, ◌++◌, map, refl, sym, ap, ◌∙◌, subst, inl, inr, ◌⊎◌, Option, Some, None}
-use Rattle.std.specs.Prelude.{count_by, All, IfSome}
+use Rattle.std.proofs.Common.{◌≡◌, ℕ, ◌+◌, Bool, true, false, cond, not, ◌&&◌, ◌||◌, List, [], ◌∷◌, ◌++◌, map, refl, sym, ap, ◌∙◌, subst, inl, inr, ◌⊎◌, Some, zero, suc, ◌<◌, ◌≤◌, length, get_or, take, arith, add-one}
+use Rattle.std.specs.Prelude.{count_by, All}
 use Rattle.std.specs.List.{AllByRecursion, list_any}
-use Rattle.std.proofs.lemmas.Bool.{cases_Bool, false≢true, true≢false, and_parts, or_cases, not-true}
-use Rattle.std.proofs.lemmas.List.Elements.{All-push, All-nil, recursion_from_All}
+use Rattle.std.proofs.lemmas.Bool.{cases_Bool, cases_lt, false≢true, true≢false, and_parts, or_cases, not-true}
+use Rattle.std.proofs.lemmas.List.{length-map, get_or-map, get_or_past, map-append as made_more, take_more}
+use Rattle.std.proofs.lemmas.List.Elements.{All-from_recursion, recursion_from_All}
 use Rattle.domain_bitmap.specs.Bitmap.{bitmap_octets}
 use Rattle.domain_zone.specs.Covering.{matches, covers, matches_or_covers, pairs}
 use Rattle.domain_base.specs.Name.{is_at_or_below, lowered, same_name}
@@ -18,86 +19,81 @@ use Rattle.domain_zone.proofs.PairLemmas.{In, all_in, IsAscending, IsApart, one_
 use Rattle.domain_zone.proofs.PlaceLemmas.{count_cons, one_place, in_at}
 use Rattle.domain_zone.proofs.SoaLemmas.{soa_owned}
 use Rattle.domain_zone.proofs.ZoneLemmas.{weaker, apart_right}
-use Rattle.domain_nsec.specs.Chain.{Link, link_of, nsec_lists, IsChain}
+use Rattle.domain_nsec.specs.Chain.{Link, link_of, links_in, nsec_lists, IsChain}
 use Rattle.domain_nsec.specs.Meaning.{MirrorsZone, IsMatchedOrCoveredOnce, IsCycle, OwnersAscend, last_next}
 use Rattle.domain_nsec.specs.declared.config.GenerateNsecConfig.{GenerateNsecConfig}
 
 abbrev pub pair_of : Link → Name × Name
 pair_of k = (k.owner, k.next)
 
-abbrev pub Waiting : Type 0
-Waiting = Option (Name × List ℕ)
+-- names with their bits as links join the names
+links_pairs : (numbers : ApexSoa) (a : Name) (names : List Name) (bits : List (List ℕ)) → length names ≡ length bits → map pair_of (links_in numbers a names bits) ≡ pairs names a
+links_pairs numbers a [] bits e = refl
+links_pairs numbers a (n ∷ names) [] e = absurd (omega (arith, e))
+links_pairs numbers a (n ∷ []) (b ∷ bits) e = refl
+links_pairs numbers a (n ∷ m ∷ names) (b ∷ bits) e = ap (λ t. (n, m) ∷ t) (links_pairs numbers a (m ∷ names) bits (omega (arith, e)))
 
-abbrev pub pair_to : Waiting → Name → List (Name × Name)
-pair_to None y = []
-pair_to (Some w) y = (w.0, y) ∷ []
+links_numbered : (numbers : ApexSoa) (a : Name) (names : List Name) (bits : List (List ℕ)) → AllByRecursion (λ k. (k.class ≡ numbers.class) × (k.ttl ≡ chain_ttl numbers)) (links_in numbers a names bits)
+links_numbered numbers a [] bits = tt
+links_numbered numbers a (n ∷ names) [] = tt
+links_numbered numbers a (n ∷ names) (b ∷ bits) = ((refl, refl), links_numbered numbers a names bits)
 
--- links join the names ks up to next, with their numbers and bits
-pub record IsClosed (L : List ZoneRecord) (a : Name) (assume : Bool) (numbers : ApexSoa) (links : List Link) (ks : List Name) (next : Name) : Type 0 where
-  pub names : map pair_of links ≡ pairs ks next
-  pub numbered : All (λ k. (k.class ≡ numbers.class) × (k.ttl ≡ chain_ttl numbers)) links
-  pub bits : All (λ k. k.bits ≡ bitmap_octets (nsec_lists L a assume k.owner)) links
+links_listed : (numbers : ApexSoa) (a : Name) (f : Name → List ℕ) (names : List Name) → AllByRecursion (λ k. k.bits ≡ f k.owner) (links_in numbers a names (map f names))
+links_listed numbers a f [] = tt
+links_listed numbers a f (n ∷ names) = (refl, links_listed numbers a f names)
 
--- and the last name waits for the next one
-pub record IsLinked (L : List ZoneRecord) (a : Name) (assume : Bool) (numbers : ApexSoa) (links : List Link) (waiting : Waiting) (ks : List Name) : Type 0 where
-  pub names : (y : Name) → map pair_of links ++ pair_to waiting y ≡ pairs ks y
-  pub numbered : All (λ k. (k.class ≡ numbers.class) × (k.ttl ≡ chain_ttl numbers)) links
-  pub bits : All (λ k. k.bits ≡ bitmap_octets (nsec_lists L a assume k.owner)) links
-  pub ready : IfSome waiting (λ w. w.1 ≡ bitmap_octets (nsec_lists L a assume w.0))
+-- a link for each name
+links_counted : (numbers : ApexSoa) (a : Name) (names : List Name) (bits : List (List ℕ)) → length names ≡ length bits → length (links_in numbers a names bits) ≡ length names
+links_counted numbers a [] bits e = refl
+links_counted numbers a (n ∷ names) [] e = absurd (omega (arith, e))
+links_counted numbers a (n ∷ names) (b ∷ bits) e = ap suc (links_counted numbers a names bits (omega (arith, e)))
 
-append_nil : {X : Type 0} (xs : List X) → xs ++ [] ≡ xs
-append_nil [] = refl
-append_nil (x ∷ xs) = ap (λ ys. x ∷ ys) (append_nil xs)
+link_at : (numbers : ApexSoa) (a : Name) (names : List Name) (bits : List (List ℕ)) (i : ℕ) (d : Link) → length names ≡ length bits → i < length names
+    → link_of (get_or names i a) (get_or names (suc i) a) numbers (get_or bits i []) ≡ get_or (links_in numbers a names bits) i d
+link_at numbers a [] bits i d e l = absurd (omega (arith, l))
+link_at numbers a (n ∷ names) [] i d e l = absurd (omega (arith, e))
+link_at numbers a (n ∷ names) (b ∷ bits) zero d e l = refl
+link_at numbers a (n ∷ names) (b ∷ bits) (suc i) d e l = link_at numbers a names bits i d (omega (arith, e)) (omega (arith, l))
 
-map-append : (xs ys : List Link) → map pair_of (xs ++ ys) ≡ map pair_of xs ++ map pair_of ys
-map-append [] ys = refl
-map-append (x ∷ xs) ys = ap (λ t. pair_of x ∷ t) (map-append xs ys)
+-- a link for each of these
+pub lent_counted : {X : Type 0} (f : X → Name) (numbers : ApexSoa) (a : Name) (xs : List X) (bits : List (List ℕ)) → length xs ≡ length bits → length (links_in numbers a (map f xs) bits) ≡ length xs
+lent_counted f numbers a xs bits even = let long = length-map xs f in links_counted numbers a (map f xs) bits (long ∙ even) ∙ long
 
-pairs_push : (ks : List Name) (n y : Name) → pairs (ks ++ n ∷ []) y ≡ pairs ks n ++ (n, y) ∷ []
-pairs_push [] n y = refl
-pairs_push (k ∷ []) n y = refl
-pairs_push (k ∷ l ∷ ks) n y = ap (λ t. (k, l) ∷ t) (pairs_push (l ∷ ks) n y)
+-- the link at a place has the names from there on, or the apex for a next one, and the bits there
+pub link_lent : {X : Type 0} (f : X → Name) (numbers : ApexSoa) (a : Name) (xs : List X) (bits : List (List ℕ)) (i : ℕ) (d : Link) (x : X) (next : Name) (types : List ℕ)
+    → length xs ≡ length bits → i < length xs → x ≡ get_or xs i x → types ≡ get_or bits i []
+    → (i + 1 < length xs → next ≡ f (get_or xs (i + 1) x)) → (length xs ≤ i + 1 → next ≡ a)
+    → link_of (f x) next numbers types ≡ get_or (links_in numbers a (map f xs) bits) i d
+link_lent f numbers a xs bits i d x next types even within owner listed later last =
+    let long = length-map xs f in
+    let here : f x ≡ get_or (map f xs) i a = ap f owner ∙ sym (get_or-map f xs i x a within) in
+    let after : next ≡ get_or (map f xs) (suc i) a =
+    elim (cases_lt (i + 1) (length xs)) [
+      | inl l ↦ later l ∙ sym (get_or-map f xs (i + 1) x a l) ∙ ap (λ n. get_or (map f xs) n a) (add-one i)
+      | inr l ↦ last l ∙ sym (get_or_past (map f xs) (suc i) a (omega (arith, long, l)))
+    ] in
+    (λ j. link_of (here j) (after j) numbers (listed j)) ∙ link_at numbers a (map f xs) bits i d (long ∙ even) (omega (arith, long))
 
-module _ (L : List ZoneRecord) (a : Name) (assume : Bool) (numbers : ApexSoa) where
-  pub link_start : IsLinked L a assume numbers [] None []
-  link_start = record {
-    names = λ y. refl;
-    numbered = All-nil (λ k. (k.class ≡ numbers.class) × (k.ttl ≡ chain_ttl numbers));
-    bits = All-nil (λ k. k.bits ≡ bitmap_octets (nsec_lists L a assume k.owner));
-    ready = tt;
-  }
+-- one more record is made
+pub record_made : {X : Type 0} (see : X → Link) (old new : List X) (item : X) (i : ℕ) (links : List Link) → i < length links → new ≡ old ++ item ∷ [] → ((d : Link) → see item ≡ get_or links i d) → map see old ≡ take i links → map see new ≡ take (i + 1) links
+record_made see old new item i links within pushed is h =
+    ap (map see) pushed ∙ made_more see old (item ∷ []) ∙ (λ j. h j ++ is (see item) j ∷ []) ∙ sym (take_more links i (see item) within)
 
-  pub close_none : (links : List Link) (ks : List Name) (n : Name) → IsLinked L a assume numbers links None ks → IsClosed L a assume numbers links ks n
-  close_none links ks n h = record {
-    names = sym (append_nil (map pair_of links)) ∙ h.names n;
-    numbered = h.numbered;
-    bits = h.bits;
-  }
-
-  pub close_some : (links : List Link) (ks : List Name) (m n : Name) (bits : List ℕ) → IsLinked L a assume numbers links (Some (m, bits)) ks → IsClosed L a assume numbers (links ++ link_of m n numbers bits ∷ []) ks n
-  close_some links ks m n bits h = record {
-    names = map-append links (link_of m n numbers bits ∷ []) ∙ h.names n;
-    numbered = All-push (λ k. (k.class ≡ numbers.class) × (k.ttl ≡ chain_ttl numbers)) links (link_of m n numbers bits) h.numbered (refl, refl);
-    bits = All-push (λ k. k.bits ≡ bitmap_octets (nsec_lists L a assume k.owner)) links (link_of m n numbers bits) h.bits h.ready;
-  }
-
-  pub wait_with : (links : List Link) (ks : List Name) (n : Name) (bits : List ℕ) → bits ≡ bitmap_octets (nsec_lists L a assume n) → IsClosed L a assume numbers links ks n → IsLinked L a assume numbers links (Some (n, bits)) (ks ++ n ∷ [])
-  wait_with links ks n bits b h = record {
-    names = λ y. ap (λ t. t ++ (n, y) ∷ []) h.names ∙ sym (pairs_push ks n y);
-    numbered = h.numbered;
-    bits = h.bits;
-    ready = b;
-  }
-
-pub chain_from : (L : List ZoneRecord) (a : Name) (config : GenerateNsecConfig) (numbers : ApexSoa) (links : List Link) → soa_of L a ≡ Some numbers
-    → IsClosed L a config.assume_dnskeys_will_be_added numbers links (unoccluded_owners config.occlude_below_dname L a) a → IsChain L a config links
-chain_from L a config numbers links s h = record {
-  numbers = numbers;
-  soa = s;
-  names = h.names;
-  numbered = h.numbered;
-  bits = h.bits;
-}
+-- the owners of a zone with their types are its chain
+pub chain_of : (L : List ZoneRecord) (a : Name) (config : GenerateNsecConfig) (numbers : ApexSoa) (names : List Name) (bits : List (List ℕ)) → soa_of L a ≡ Some numbers
+    → names ≡ unoccluded_owners config.occlude_below_dname L a → bits ≡ map (λ n. bitmap_octets (nsec_lists L a config.assume_dnskeys_will_be_added n)) names
+    → IsChain L a config (links_in numbers a names bits)
+chain_of L a config numbers names bits soa named listed =
+    let f : Name → List ℕ = λ n. bitmap_octets (nsec_lists L a config.assume_dnskeys_will_be_added n) in
+    let long : length names ≡ length bits = sym (length-map names f) ∙ ap length (sym listed) in
+    record {
+      numbers = numbers;
+      soa = soa;
+      names = links_pairs numbers a names bits long ∙ ap (λ ks. pairs ks a) named;
+      numbered = All-from_recursion (λ k. (k.class ≡ numbers.class) × (k.ttl ≡ chain_ttl numbers)) (links_in numbers a names bits) (links_numbered numbers a names bits);
+      bits = All-from_recursion (λ k. k.bits ≡ f k.owner) (links_in numbers a names bits)
+          (subst (λ bs. AllByRecursion (λ k. k.bits ≡ f k.owner) (links_in numbers a names bs)) (sym listed) (links_listed numbers a f names));
+    }
 
 -- ---- pairs
 

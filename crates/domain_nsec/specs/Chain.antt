@@ -1,5 +1,5 @@
 -- The NSEC chain of a zone (RFC 4034, section 4; RFC 4035, section 2.3), and when there is none.
-use Rattle.std.specs.Prelude.{ℕ, Bool, true, false, ◌&&◌, ◌||◌, ◌==◌, List, map, Some, None, ◌≡◌, ◌≢◌, All}
+use Rattle.std.specs.Prelude.{ℕ, Bool, true, false, ◌&&◌, ◌||◌, ◌==◌, List, [], ◌∷◌, map, slice_index_or, Some, None, ◌≡◌, ◌≢◌, All}
 use Rattle.domain_bitmap.specs.Bitmap.{bitmap_octets}
 use Rattle.domain_records.specs.declared.error.SigningError.{SigningError}
 use Rattle.domain_records.specs.declared.error.SigningError.TheVariants.{EmptyRecordSlice, SoaRecordCouldNotBeDetermined, MultipleTtlValues, Nsec3HashingError, OutOfMemory}
@@ -29,6 +29,13 @@ link_of owner next numbers bits =
       ttl = chain_ttl numbers;
       bits = bits;
     }
+
+-- names with their bits as links, each to the next name, the last one to the apex
+abbrev pub links_in : ApexSoa → Name → List Name → List (List ℕ) → List Link
+links_in numbers a [] bits = []
+links_in numbers a (n ∷ names) [] = []
+links_in numbers a (n ∷ names) (b ∷ bits) =
+    link_of n (slice_index_or names 0 a) numbers b ∷ links_in numbers a names bits
 
 -- the types that the NSEC record of an owner with these records lists: RRSIG and NSEC, since both
 -- will stand there; DNSKEY where it is assumed; and the types of the records, at a zone cut NS and

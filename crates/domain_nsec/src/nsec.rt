@@ -1,26 +1,25 @@
 //! The NSEC chain of a zone.
-ghost use Rattle.std.specs.Prelude.{◌≡◌, ◌∷◌, ◌++◌, [], ℕ, Bool, ◌<◌, map, IfOk, IfErr, OnOk};
+ghost use Rattle.std.specs.Prelude.{◌≡◌, ◌∷◌, ◌++◌, [], ℕ, Bool, ◌<◌, IfOk, IfErr, OnOk};
 ghost use Rattle.domain_bitmap.specs.Bitmap.{bitmap_octets};
 ghost use Rattle.domain_bitmap.specs.Builder.{holds};
 ghost use Rattle.domain_rdata.specs.Zone.{rtype_of};
 ghost use Rattle.domain_records.specs.Order.{IsOneClass, IsInOrder};
-ghost use Rattle.domain_nsec.specs.Chain.{link_of, is_listed, IsChain, IsFaultless, IsFirstFault};
+ghost use Rattle.domain_nsec.specs.Chain.{is_listed, IsChain, IsFaultless, IsFirstFault};
 ghost use Rattle.domain_nsec.specs.Meaning.{CoversBelowOccluders, IsCycle, MirrorsZone, TellsEmpty, TellsEncloser};
 ghost use Rattle.domain_zone.specs.View.{zone_of};
-ghost use Rattle.domain_nsec.specs.ChainView.{as_link, links_of};
+ghost use Rattle.domain_nsec.specs.ChainView.{links_of};
 
-use crate::GenerateNsecConfig;
+use crate::{GenerateNsecConfig, NsecChain};
 use domain_base::{MakeName, Rtype, ToName};
-use domain_bitmap::{RtypeBitmap, RtypeBitmapBuilder};
+use domain_bitmap::{RtypeBitmap, RtypeBitmapBuilder, RtypeBitmaps};
 use domain_octets::{
-    EmptyBuilder, FreezeBuilder, FromBuilder, GrowingBuilder, Octets, OutOfMemory, Truncate,
+    EmptyBuilder, FreezeBuilder, FromBuilder, GrowingBuilder, Octets, OutOfMemory, SmallBuilder,
+    SmallOctets, Truncate,
 };
 use domain_plain::Record;
 use domain_rdata::{Nsec, ZoneRecordData};
 use domain_records::{RecordsIter, SigningError, SliceRefsOrOwnedIterator};
-use domain_zone::{
-    ApexSoa, UnoccludedOwners, ZoneRr, add_type, add_types, find_soa, has_unequal_ttls,
-};
+use domain_zone::{UnoccludedOwners, ZoneRr, add_type, add_types, find_soa, has_unequal_ttls};
 use std::alloc::Global;
 
 /// The types that each NSEC record lists, and DNSKEY where it is assumed.
@@ -43,43 +42,73 @@ where
 }
 
 /// The types of an owner's NSEC record.
-fn types_of<O, N: ToName>(
+fn types_of<O: Octets, N: ToName>(
     alloc: Global,
     records: SliceRefsOrOwnedIterator<'_, ZoneRr<O, N>>,
     assumed: bool,
     at_cut: bool,
-) -> Result<RtypeBitmap<O>, OutOfMemory>
-where
-    O: FromBuilder,
-    O::Builder: GrowingBuilder + EmptyBuilder + Truncate + FreezeBuilder<Frozen = O> + Drop,
+) -> Result<RtypeBitmap<SmallOctets>, OutOfMemory>
     ensures { IfOk result (λ types. types
         ≡ bitmap_octets (is_listed assumed at_cut (zone_of N.labels records.entry))) }
 {
-    let mut types = common_types::<O::Builder>(alloc, assumed)?;
+    let mut types = common_types::<SmallBuilder>(alloc, assumed)?;
     add_types(&mut types, records, at_cut)?;
     Ok(types.finalize())
 }
 
-/// Adds the NSEC record of a name to the chain. A refusal leaves the chain as it was.
-fn push_nsec<O: Octets, N: MakeName>(
+/// Appends the types of an owner's NSEC record.
+fn push_types<O: Octets, N: ToName>(
     alloc: Global,
-    nsecs: &mut Vec<Record<N, Nsec<O, N>>>,
-    owner: &N,
-    next: &N,
-    soa: &ApexSoa,
-    types: RtypeBitmap<O>,
+    types: &mut RtypeBitmaps,
+    records: SliceRefsOrOwnedIterator<'_, ZoneRr<O, N>>,
+    assumed: bool,
+    at_cut: bool,
 ) -> Result<(), OutOfMemory>
-where
-    O: Drop,
-    N: Drop,
-    ensures { OnOk result (map (as_link N.labels) nsecs.new.items
-        ≡ map (as_link N.labels) nsecs.old.items
-        ++ link_of (N.labels owner.now) (N.labels next.now) soa.now types ∷ []) }
+    ensures { OnOk result (types.new ≡ types.old
+        ++ bitmap_octets (is_listed assumed at_cut (zone_of N.labels records.entry)) ∷ []) }
 {
-    let owner = N::make(alloc, owner.as_wire())?;
-    let next = N::make(alloc, next.as_wire())?;
-    nsecs.push(Record::new(owner, soa.class, soa.chain_ttl(), Nsec::new(next, types)))?;
-    Ok(())
+    let listed = types_of(alloc, records, assumed, at_cut)?;
+    types.push(&listed)
+}
+
+/// The NSEC chain of a zone (RFC 4034, section 4; RFC 4035, section 2.3) before its records are
+/// made: the chain that `generate_nsecs` gives, with the same refusals, as a list that makes its
+/// records one by one and borrows their names from the records of the zone.
+///
+/// # Errors
+///
+/// Those of `generate_nsecs`.
+pub fn lend_nsecs<'a, O: Octets, N: ToName>(
+    alloc: Global,
+    apex: &'a N,
+    records: RecordsIter<'a, N, ZoneRecordData<O, N>>,
+    config: &GenerateNsecConfig,
+) -> Result<NsecChain<'a, N>, SigningError>
+    requires one_class { IsOneClass records }
+    requires in_order { IsInOrder N.labels rtype_of records }
+    ensures chain { IfOk result (λ links. IsChain (zone_of N.labels records.entry)
+        (N.labels apex.now) config.now links) }
+    ensures faultless { OnOk result
+        (IsFaultless (zone_of N.labels records.entry) (N.labels apex.now) config.now) }
+    ensures fault { IfErr result
+        (IsFirstFault (zone_of N.labels records.entry) (N.labels apex.now) config.now) }
+{
+    let Some(soa) = find_soa(apex, records.records()) else {
+        return Err(SigningError::SoaRecordCouldNotBeDetermined);
+    };
+    let mut owners = UnoccludedOwners::new(apex, records, config.occlude_below_dname);
+    let mut names = Vec::new(alloc);
+    let mut types = RtypeBitmaps::new(alloc);
+    'owners: while let Some(owner) = owners.next() {
+        if has_unequal_ttls(owner.records.records()) {
+            return Err(SigningError::MultipleTtlValues);
+        }
+        let assumed = config.assume_dnskeys_will_be_added & owner.name.name_eq(apex);
+        let records = owner.records.records();
+        push_types(alloc, &mut types, records, assumed, owner.is_zone_cut)?;
+        names.push(owner.name)?;
+    }
+    Ok(NsecChain::new(apex, soa, names, types))
 }
 
 /// The NSEC chain of a zone (RFC 4034, section 4; RFC 4035, section 2.3): one record for each owner
@@ -136,25 +165,6 @@ where
     ensures occluded { IfOk result (λ nsecs. CoversBelowOccluders (zone_of N.labels records.entry)
         (N.labels apex.now) config.now (links_of N.labels nsecs.items)) }
 {
-    let Some(soa) = find_soa(apex, records.records()) else {
-        return Err(SigningError::SoaRecordCouldNotBeDetermined);
-    };
-    let mut owners = UnoccludedOwners::new(apex, records, config.occlude_below_dname);
-    let mut nsecs = Vec::new(alloc);
-    let mut waiting: Option<(&N, RtypeBitmap<O>)> = None;
-    'owners: while let Some(owner) = owners.next() {
-        if has_unequal_ttls(owner.records.records()) {
-            return Err(SigningError::MultipleTtlValues);
-        }
-        if let Some((name, types)) = waiting.take() {
-            push_nsec(alloc, &mut nsecs, name, owner.name, &soa, types)?;
-        }
-        let assumed = config.assume_dnskeys_will_be_added & owner.name.name_eq(apex);
-        let types = types_of(alloc, owner.records.records(), assumed, owner.is_zone_cut)?;
-        waiting = Some((owner.name, types));
-    }
-    if let Some((name, types)) = waiting {
-        push_nsec(alloc, &mut nsecs, name, apex, &soa, types)?;
-    }
-    Ok(nsecs)
+    let chain = lend_nsecs(alloc, apex, records, config)?;
+    Ok(chain.records(alloc)?)
 }

@@ -1,0 +1,100 @@
+//! Many sets of types in little memory.
+ghost use Rattle.std.specs.Prelude.{◌≡◌, ◌≤◌, ◌∷◌, ◌++◌, ◌↔◌, [], length, slice_index, slice_index_or, IsTrue, IfSome, IfNone, OnOk, OnErr};
+ghost use Rattle.domain_octets.specs.Words.{Octets};
+
+use crate::RtypeBitmap;
+use domain_octets::{Octets, OutOfMemory};
+use std::alloc::Global;
+use std::marker::Model;
+
+/// Bitmaps whose octets stand one after another, so that each takes 8 octets beside its own.
+/// Contracts see the list of their octets.
+#[derive(Drop)]
+pub struct RtypeBitmaps {
+    octets: Vec<u8>,
+    /// Where the octets of each end.
+    ends: Vec<usize>,
+}
+
+impl Model for RtypeBitmaps {
+    ghost use Rattle.std.specs.Prelude.{List};
+    ghost use Rattle.domain_octets.specs.Words.{Octets};
+    ghost use Rattle.domain_bitmap.specs.List.{cut_at, AreBitmaps};
+
+    ghost Value = { List Octets };
+
+    ghost view = { λ b. cut_at b.ends.items 0 b.octets.items };
+
+    ghost invariant = { λ b. AreBitmaps b.ends.items b.octets.items };
+}
+
+impl RtypeBitmaps {
+    /// A list without bitmaps. Takes no memory.
+    pub fn new(alloc: Global) -> Self
+        ensures { result ≡ [] }
+    {
+        RtypeBitmaps {
+            octets: Vec::new(alloc),
+            ends: Vec::new(alloc),
+        }
+    }
+
+    /// How many bitmaps there are.
+    #[tactic(auto, using(crate::proofs::ListLemmas::count_steps))]
+    pub fn len(&self) -> usize
+        ensures { result ≡ length self.now }
+    {
+        self.ends.len()
+    }
+
+    /// Whether there is no bitmap.
+    #[tactic(auto, using(crate::proofs::ListLemmas::count_steps))]
+    pub fn is_empty(&self) -> bool
+        ensures { IsTrue result ↔ (self.now ≡ []) }
+    {
+        self.ends.is_empty()
+    }
+
+    /// Appends a copy of a bitmap. After a refusal nothing has changed.
+    ///
+    /// # Errors
+    ///
+    /// `OutOfMemory` where there was no memory for its octets or for their end.
+    #[tactic(auto, using(crate::proofs::ListLemmas::cut_pushed))]
+    pub fn push<O: Octets>(&mut self, types: &RtypeBitmap<O>) -> Result<(), OutOfMemory>
+        ensures ok { OnOk result (self.new ≡ self.old ++ types.now ∷ []) }
+        ensures err { OnErr result (self.new ≡ self.old) }
+    {
+        // With room for its end, the copy of the octets is the last thing that can be refused.
+        self.ends.reserve(1)?;
+        self.octets.extend_from_slice(types.as_slice())?;
+        self.ends.push(self.octets.len())?;
+        Ok(())
+    }
+
+    /// The bitmap at a place, and `None` past the last one. Takes no memory.
+    #[tactic(auto, using(crate::proofs::ListLemmas::get_steps))]
+    pub fn get(&self, place: usize) -> Option<RtypeBitmap<&[u8]>>
+        ensures some { IfSome result (λ types. (d : Octets)
+            → types ≡ slice_index_or self.now place d) }
+        ensures none { IfNone result (length self.now ≤ place) }
+    {
+        if place >= self.ends.len() {
+            return None;
+        }
+        let start = start_at(&self.ends, place);
+        let end = self.ends[place];
+        Some(RtypeBitmap::over(&self.octets[start..end]))
+    }
+}
+
+/// Where the octets begin that have their end at a place: at the end before it.
+fn start_at(ends: &[usize], place: usize) -> usize
+    requires { place ≤ length ends.now }
+    ensures { result ≡ slice_index (0 ∷ ends.now) place }
+{
+    if place == 0 {
+        return 0;
+    }
+    ends[place - 1]
+}

@@ -1,0 +1,147 @@
+//! NSEC chains whose records are made one by one.
+ghost use Rattle.std.specs.Prelude.{◌≡◌, ◌≤◌, ◌↔◌, [], length, slice_index_or, IsTrue, IfOk, IfNone, IfSome, map};
+ghost use Rattle.domain_nsec.specs.Chain.{Link, links_in};
+ghost use Rattle.domain_nsec.specs.ChainView.{as_link, links_of};
+
+use domain_base::{MakeName, ParsedName, ToName};
+use domain_bitmap::{RtypeBitmap, RtypeBitmaps};
+use domain_octets::{EmptyBuilder, FromBuilder, GrowingBuilder, OctetsBuilder, OutOfMemory};
+use domain_plain::Record;
+use domain_rdata::Nsec;
+use domain_zone::ApexSoa;
+use std::alloc::Global;
+use std::marker::Model;
+
+/// A record of a chain whose names and types lie in the records of the zone and in the chain.
+pub type LentNsec<'a> = Record<ParsedName<'a>, Nsec<&'a [u8], ParsedName<'a>>>;
+
+/// The NSEC chain of a zone before its records are made. Contracts see the links that its records
+/// have. It borrows the names from the records of the zone, and holds 16 octets for each of them
+/// beside the octets of its types: a caller that needs one record at a time needs no list of them.
+#[derive(Drop)]
+pub struct NsecChain<'a, N: ToName> {
+    apex: &'a N,
+    soa: ApexSoa,
+    names: Vec<&'a N>,
+    types: RtypeBitmaps,
+}
+
+impl<'a, N: ToName> Model for NsecChain<'a, N> {
+    ghost use Rattle.std.specs.Prelude.{◌≡◌, List, length, map};
+    ghost use Rattle.domain_nsec.specs.Chain.{Link, links_in};
+
+    ghost Value = { List Link };
+
+    ghost view = { λ c. links_in c.soa (N.labels c.apex.now)
+        (map (λ n. N.labels n.now) c.names.items) c.types };
+
+    ghost invariant = { λ c. length c.names.items ≡ length c.types };
+}
+
+impl<'a, N: ToName> NsecChain<'a, N> {
+    /// The chain of these names and their types.
+    pub(crate) fn new(apex: &'a N, soa: ApexSoa, names: Vec<&'a N>, types: RtypeBitmaps) -> Self
+        requires { length names.items ≡ length types }
+        ensures { result ≡ links_in soa (N.labels apex.now)
+            (map (λ n. N.labels n.now) names.entry.items) types }
+    {
+        NsecChain {
+            apex,
+            soa,
+            names,
+            types,
+        }
+    }
+
+    /// How many records the chain has.
+    pub fn len(&self) -> usize
+        ensures { result ≡ length self.now }
+    {
+        self.names.len()
+    }
+
+    /// Whether the chain has no records. That of a zone has one for the apex.
+    pub fn is_empty(&self) -> bool
+        ensures { IsTrue result ↔ (self.now ≡ []) }
+    {
+        self.len() == 0
+    }
+
+    /// The record at a place, in canonical order, which borrows from the chain; None past the last
+    /// one. Takes no memory.
+    pub fn lend(&self, place: usize) -> Option<LentNsec<'_>>
+        ensures some { IfSome result (λ made. (d : Link)
+            → as_link (λ n. n) made ≡ slice_index_or self.now place d) }
+        ensures none { IfNone result (length self.now ≤ place) }
+    {
+        if place >= self.names.len() {
+            return None;
+        }
+        let types = self.types.get(place)?;
+        let owner = self.names[place].as_parsed();
+        let next = if place + 1 < self.names.len() {
+            self.names[place + 1].as_parsed()
+        } else {
+            self.apex.as_parsed()
+        };
+        let nsec = Nsec::new(next, types);
+        Some(Record::new(owner, self.soa.class, self.soa.chain_ttl(), nsec))
+    }
+}
+
+/// A copy of types in octets of their own.
+fn copy_types<O: FromBuilder>(
+    alloc: Global,
+    types: &RtypeBitmap<&[u8]>,
+) -> Result<RtypeBitmap<O>, OutOfMemory>
+where
+    O::Builder: GrowingBuilder + EmptyBuilder + Drop,
+    ensures { IfOk result (λ copy. copy ≡ types.now) }
+{
+    let mut builder = O::Builder::empty(alloc);
+    builder
+        .append_slice(types.as_slice())
+        .map_err(|_| OutOfMemory)?;
+    Ok(types.remade(O::from_builder(builder)))
+}
+
+/// The record in octets of its own.
+fn copy_record<O: FromBuilder, N: MakeName>(
+    alloc: Global,
+    lent: &LentNsec<'_>,
+) -> Result<Record<N, Nsec<O, N>>, OutOfMemory>
+where
+    N: Drop,
+    O: Drop,
+    O::Builder: GrowingBuilder + EmptyBuilder + Drop,
+    ensures { IfOk result (λ made. as_link N.labels made ≡ as_link (λ n. n) lent.now) }
+{
+    let owner = N::make(alloc, lent.owner().as_wire())?;
+    let next = N::make(alloc, lent.data().next_name().as_wire())?;
+    let types = copy_types(alloc, lent.data().types())?;
+    Ok(Record::new(owner, lent.class(), lent.ttl(), Nsec::new(next, types)))
+}
+
+impl<'a, N: MakeName> NsecChain<'a, N> {
+    /// All records, in canonical order.
+    pub fn records<O: FromBuilder>(
+        &self,
+        alloc: Global,
+    ) -> Result<Vec<Record<N, Nsec<O, N>>>, OutOfMemory>
+    where
+        N: Drop,
+        O: Drop,
+        O::Builder: GrowingBuilder + EmptyBuilder + Drop,
+        ensures { IfOk result (λ nsecs. links_of N.labels nsecs.items ≡ self.now) }
+    {
+        let mut nsecs = Vec::with_capacity(alloc, self.len())?;
+        for place in 0..self.len() {
+            let Some(lent) = self.lend(place) else {
+                unreachable!();
+            };
+            let nsec = copy_record(alloc, &lent)?;
+            nsecs.push(nsec)?;
+        }
+        Ok(nsecs)
+    }
+}
