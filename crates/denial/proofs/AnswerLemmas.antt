@@ -1,10 +1,18 @@
 -- How the program makes chains.
-use Rattle.std.proofs.Common.{◌≡◌, true, false}
+use Rattle.std.proofs.Common.{◌≡◌, true, false, List, sym, subst, inl, inr, Result, Ok, Err, IfErr, IsErrOf, OnOk}
+use Rattle.domain_dnssec.specs.declared.chain.ChainError.{ChainError}
+use Rattle.domain_dnssec.specs.declared.chain.ChainError.TheVariants.{MixedClasses, Signing, OutOfMemory}
 use Rattle.domain_octets.specs.Words.{Octets}
 use Rattle.domain_nsec3.specs.View.{Answer, config_of, hash_by, parameters_of}
 use Rattle.domain_nsec3.specs.declared.config.GenerateNsec3Config.{GenerateNsec3Config}
-use Rattle.denial.specs.Answer.{usual_nsec3_config}
+use Rattle.denial.specs.Answer.{fault_of_chain, usual_nsec3_config, HasNoAnswer, IsAnswer, IsUnwritten}
 use Rattle.denial.specs.Command.{Params}
+use Rattle.denial.specs.Listing.{ProgramRecord}
+use Rattle.denial.specs.declared.answer.Answer.{Answer as RunAnswer}
+use Rattle.denial.specs.declared.command.Command.{Command}
+use Rattle.denial.specs.declared.command.Command.TheVariants.{Nsec, Nsec3, CheckNsec, CheckNsec3}
+use Rattle.denial.specs.declared.fault.DenialFault.{DenialFault}
+use Rattle.denial.specs.declared.fault.DenialFault.TheVariants.{Write}
 
 -- a configuration with these fields is the usual one
 pub usual_is : {S : Type 0} (answers : Answer) (config : GenerateNsec3Config Octets S) (p : Params) → config.params ≡ p
@@ -18,3 +26,30 @@ usual_is answers config p params assumed excluded kept = λ i. record {
   assume_dnskeys_will_be_added = assumed i;
   occlude_below_dname = kept i;
 }
+
+-- a fault of a chain is none of the device
+chain_no_write : (e : ChainError) → fault_of_chain e ≡ Write → ⊥
+chain_no_write MixedClasses is = cc
+chain_no_write (Signing e) is = cc
+chain_no_write OutOfMemory is = cc
+
+-- nor is any for which there is no answer
+no_answer_no_write : (answers : Answer) (command : Command) (given : List ProgramRecord) → HasNoAnswer answers command given Write → ⊥
+no_answer_no_write answers (Nsec apex) given none = chain_no_write none.error (sym none.is)
+no_answer_no_write answers (Nsec3 apex p) given none = chain_no_write none.error (sym none.is)
+no_answer_no_write answers (CheckNsec q) given none = cc
+no_answer_no_write answers (CheckNsec3 q) given none = none
+
+-- where writing failed there was an answer
+pub answer_unwritten : {X : Type 0} (answers : Answer) (command : Command) (given : List ProgramRecord) (r : Result X DenialFault)
+    → IfErr r (IsUnwritten (IsAnswer answers command given) (HasNoAnswer answers command given)) → IsErrOf r Write
+    → (x : RunAnswer) × IsAnswer answers command given x
+answer_unwritten answers command given r h is = there (subst (λ q. IfErr q (IsUnwritten (IsAnswer answers command given) (HasNoAnswer answers command given))) is h)
+  where
+    there : IsUnwritten (IsAnswer answers command given) (HasNoAnswer answers command given) Write → (x : RunAnswer) × IsAnswer answers command given x
+    there (inl h) = h.1
+    there (inr none) = absurd (no_answer_no_write answers command given none)
+
+pub on_ok : {X E P Q : Type 0} → (P → Q) → (r : Result X E) → OnOk r P → OnOk r Q
+on_ok f (Ok x) h = f h
+on_ok f (Err e) h = tt

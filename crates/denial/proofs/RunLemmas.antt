@@ -14,11 +14,12 @@ use Rattle.domain_chain_rdata.specs.Nsec3Text.{nsec3_text}
 use Rattle.domain_chain_rdata.specs.Nsec3paramText.{nsec3param_text}
 use Rattle.domain_chain_rdata.specs.Rdata.{nsec3_values, nsec3param_values}
 use Rattle.domain_base.specs.Words.{Name}
+use Rattle.domain_chain_rdata.specs.declared.nsec.Nsec.{Nsec}
 use Rattle.domain_chain_rdata.specs.declared.nsec3.Nsec3.{Nsec3}
-use Rattle.domain_plain.specs.RecordText.{record_text}
 use Rattle.domain_plain.specs.declared.record.Record.{Record}
+use Rattle.domain_nsec.specs.ChainView.{as_link}
 use Rattle.domain_nsec3.specs.View.{as_hashed_link}
-use Rattle.denial.specs.Check.{NsecRecord, ParamRecord}
+use Rattle.denial.specs.Check.{ParamRecord}
 use Rattle.denial.specs.Text.{lines_of, nsec_line, nsec3_line, nsec3param_line}
 
 pub appends_more : (a b c : Option Octets) (t u : Octets) → Appends a b t → Appends b c u → Appends a c (t ++ u)
@@ -33,12 +34,15 @@ parts_of_line : (owner ttl class kind text : Octets)
     ≡ (owner ++ codes ".") ++ codes " " ++ ttl ++ codes " " ++ class ++ codes " " ++ kind ++ codes " " ++ text
 parts_of_line owner ttl class kind text = simp append_assoc
 
--- a record of a chain is printed as its line
-pub nsec_printed : (r : NsecRecord) → record_text (λ n. n) (λ d. nsec) (λ d. Some ((name_text d.next_name ++ codes ". ") ++ types_text (types_of d.types))) r ≡ Some (nsec_line r)
-nsec_printed r =
-    ap Some (parts_of_line (name_text r.owner) (decimal r.ttl) (class_text r.class) (type_text nsec) ((name_text r.«data».next_name ++ codes ". ") ++ types_text (types_of r.«data».types)))
-
 -- a record that is a link is printed as the link's line, with the end of the line
+pub nsec_printed : {O : Type 0} (r : Record Name (Nsec O Name))
+    → (name_text r.owner ++ codes ".") ++ (codes " " ++ (decimal r.ttl ++ (codes " " ++ (class_text r.class ++ (codes " " ++ (type_text nsec ++ (codes " " ++ ((name_text r.«data».next_name ++ codes ". ") ++ types_text (types_of r.«data».types))))))))) ++ codes "\n"
+    ≡ nsec_line (as_link (λ n. n) r) ++ codes "\n"
+nsec_printed r =
+    ap (λ t. t ++ codes "\n")
+    (parts_of_line (name_text r.owner) (decimal r.ttl) (class_text r.class) (type_text nsec) ((name_text r.«data».next_name ++ codes ". ") ++ types_text (types_of r.«data».types)))
+
+-- so is that of a link of hashes
 pub nsec3_printed : {O : Type 0} (r : Record Name (Nsec3 O))
     → (name_text r.owner ++ codes ".") ++ (codes " " ++ (decimal r.ttl ++ (codes " " ++ (class_text r.class ++ (codes " " ++ (type_text nsec3 ++ (codes " " ++ nsec3_text (nsec3_values r.«data»)))))))) ++ codes "\n"
     ≡ nsec3_line (as_hashed_link (λ n. n) r) ++ codes "\n"

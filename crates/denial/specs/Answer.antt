@@ -1,12 +1,9 @@
 -- The answer to a command over the records that were read, in whatever order they came.
-use Rattle.std.specs.Prelude.{◌≡◌, true, false, List, Vec}
-use Rattle.std.specs.Global.{Global}
+use Rattle.std.specs.Prelude.{◌≡◌, ◌⊎◌, true, false, List, Option}
+use Rattle.std.specs.Io.KnownBytes.{Appends}
 use Rattle.domain_octets.specs.Words.{Octets}
 use Rattle.domain_base.specs.Words.{Name, Tokens}
-use Rattle.domain_plain.specs.declared.record.Record.{Record}
-use Rattle.domain_chain_rdata.specs.declared.nsec.Nsec.{Nsec as NsecData}
-use Rattle.domain_nsec.specs.ChainView.{links_of}
-use Rattle.domain_nsec.specs.Chain.{usual_config}
+use Rattle.domain_nsec.specs.Chain.{Link, usual_config}
 use Rattle.domain_nsec3.specs.Config.{ChainConfig}
 use Rattle.domain_nsec3.specs.View.{Answer as HasherAnswer, as_param_record, hash_by, parameters_of}
 use Rattle.domain_nsec3.specs.declared.config.Nsec3ParamTtlMode.TheVariants.{Soa}
@@ -18,12 +15,13 @@ use Rattle.domain_dnssec.specs.declared.chain.ChainError.TheVariants as chain_er
 use Rattle.denial.specs.Check.{HasNoNsec3Verdict, IsNsec3Verdict, IsNsecVerdict}
 use Rattle.denial.specs.Command.{Asks, Params}
 use Rattle.denial.specs.Listing.{Give, ProgramRecord}
+use Rattle.denial.specs.Text.{answer_text}
 use Rattle.denial.specs.declared.answer.Answer.{Answer}
 use Rattle.denial.specs.declared.answer.Answer.TheVariants.{Nsecs, Nsec3s}
 use Rattle.denial.specs.declared.command.Command.{Command}
 use Rattle.denial.specs.declared.command.Command.TheVariants.{Nsec, Nsec3, CheckNsec, CheckNsec3}
 use Rattle.denial.specs.declared.fault.DenialFault.{DenialFault}
-use Rattle.denial.specs.declared.fault.DenialFault.TheVariants.{MixedClasses, Signing, OutOfMemory}
+use Rattle.denial.specs.declared.fault.DenialFault.TheVariants.{MixedClasses, Signing, Write, OutOfMemory}
 
 -- what the program says where there is no chain
 abbrev pub fault_of_chain : ChainError → DenialFault
@@ -33,10 +31,9 @@ fault_of_chain chain_error.OutOfMemory = OutOfMemory
 
 -- the answer is the NSEC chain of the records, as `GenerateNsecConfig::new` has it
 pub record IsNsecs (given : List ProgramRecord) (apex : Name) (answer : Answer) : Type 0 where
-  pub nsecs : Vec (Record Name (NsecData Octets Name)) Global
-  pub is : answer ≡ Nsecs nsecs
-  pub chain : IsChainOf (λ o. o) (λ n. n) given apex usual_config
-      (links_of (λ n. n) nsecs.items)
+  pub links : List Link
+  pub is : answer ≡ Nsecs links
+  pub chain : IsChainOf (λ o. o) (λ n. n) given apex usual_config links
 
 -- there is none, for this reason
 pub record HasNoNsecs (given : List ProgramRecord) (apex : Name) (fault : DenialFault)
@@ -78,6 +75,17 @@ IsAnswer answers (Nsec apex) given answer = IsNsecs given apex answer
 IsAnswer answers (Nsec3 apex p) given answer = IsNsec3s answers given apex p answer
 IsAnswer answers (CheckNsec q) given answer = IsNsecVerdict given q answer
 IsAnswer answers (CheckNsec3 q) given answer = IsNsec3Verdict answers given q answer
+
+-- the text of an answer that is such has been appended
+pub record IsWritten (is_such : Answer → Type 0) (old new : Option Octets) : Type 0 where
+  pub answer : Answer
+  pub is : is_such answer
+  pub appends : Appends old new (answer_text answer)
+
+-- there is such an answer, and the device failed, or there is none for this reason
+abbrev pub IsUnwritten : (Answer → Type 0) → (DenialFault → Type 0) → DenialFault → Type 0
+IsUnwritten is_such has_none fault =
+    ((fault ≡ Write) × ((answer : Answer) × is_such answer)) ⊎ has_none fault
 
 -- why there is no answer
 abbrev pub HasNoAnswer : HasherAnswer → Command → List ProgramRecord → DenialFault → Type 0

@@ -13,9 +13,9 @@ use Rattle.domain_plain.specs.declared.record.Record.{Record}
 use Rattle.domain_chain_rdata.specs.Nsec3Text.{nsec3_text}
 use Rattle.domain_chain_rdata.specs.Nsec3paramText.{nsec3param_text}
 use Rattle.domain_chain_rdata.specs.Rdata.{nsec3 as nsec3_fields, nsec3param_values}
-use Rattle.domain_chain_rdata.specs.declared.nsec.Nsec.{Nsec}
 use Rattle.domain_chain_rdata.specs.declared.nsec3param.Nsec3param.{Nsec3param}
 use Rattle.domain_fields.specs.Layout.{Values}
+use Rattle.domain_nsec.specs.Chain.{Link}
 use Rattle.domain_nsec3.specs.Chain.{HashedLink}
 use Rattle.domain_nsec3.specs.declared.nsec3.HashedNsec3s.{HashedNsec3s}
 use Rattle.denial.specs.Check.{verdict_text}
@@ -28,10 +28,11 @@ record_line rtype data_text r =
     (name_text r.owner ++ codes ".") ++ codes " " ++ decimal r.ttl ++ codes " "
     ++ class_text r.class ++ codes " " ++ type_text rtype ++ codes " " ++ data_text r.«data»
 
--- the next name with its last dot and the types
-abbrev pub nsec_line : Record Name (Nsec Octets Name) → Octets
-nsec_line =
-    record_line nsec (λ d. (name_text d.next_name ++ codes ". ") ++ types_text (types_of d.types))
+-- the record of a link, with the next name, its last dot, and the types
+abbrev pub nsec_line : Link → Octets
+nsec_line k =
+    record_line nsec (λ d. (name_text d.next ++ codes ". ") ++ types_text (types_of d.bits))
+    (record { owner = k.owner; class = k.class; ttl = k.ttl; «data» = k })
 
 -- algorithm, flags, iterations, salt, next hash and types
 abbrev pub link_values : HashedLink → Values nsec3_fields
@@ -59,6 +60,6 @@ nsec3s_text made =
 
 -- a line for each record of a chain, or one line with a verdict
 abbrev pub answer_text : Answer → Octets
-answer_text (Nsecs nsecs) = lines_of nsec_line nsecs.items
+answer_text (Nsecs links) = lines_of nsec_line links
 answer_text (Nsec3s made) = nsec3s_text made
 answer_text (Verdict name verdict) = verdict_text name verdict ++ codes "\n"

@@ -66,11 +66,11 @@ fn params_at(
 }
 
 /// What the NSEC records among these prove.
-pub fn nsec_verdict(
+pub fn nsec_verdict<'a>(
     alloc: Global,
     question: Question,
     records: Vec<ZoneRr>,
-) -> Result<Answer, OutOfMemory>
+) -> Result<Answer<'a>, OutOfMemory>
     ensures { IfOk result (IsNsecVerdict records.items question) }
 {
     let nsecs = nsecs_among(alloc, records)?;
@@ -102,12 +102,12 @@ fn chain_of(
 }
 
 /// What the NSEC3 records among these prove.
-pub fn nsec3_verdict<H: Nsec3Hasher>(
+pub fn nsec3_verdict<'a, H: Nsec3Hasher>(
     alloc: Global,
     question: Question,
     records: Vec<ZoneRr>,
     hasher: &H,
-) -> Result<Answer, DenialFault>
+) -> Result<Answer<'a>, DenialFault>
     ensures ok { IfOk result (IsNsec3Verdict (H.answer hasher.now) records.items question) }
     ensures err { IfErr result
         (HasNoNsec3Verdict (H.answer hasher.now) records.items question) }

@@ -1,5 +1,6 @@
 //! Why a run stops.
-ghost use Rattle.std.specs.Prelude.{◌≡◌, Some};
+ghost use Rattle.std.specs.Prelude.{◌≡◌, ◌⊎◌, Some};
+ghost use Rattle.std.specs.IoError.{error_kind};
 ghost use Rattle.denial.specs.Answer.{fault_of_chain};
 ghost use Rattle.denial.specs.Fault.{exit_status};
 ghost use Rattle.denial.specs.declared.fault.DenialFault.TheVariants as denial_fault;
@@ -8,7 +9,8 @@ use domain_dnssec::ChainError;
 use domain_octets::OutOfMemory;
 use domain_records::SigningError;
 use std::alloc::{AllocError, AllocFailed};
-use std::fmt;
+use std::io::ErrorKind;
+use std::{fmt, io};
 
 /// Why a run of the program stops. Its text is what the program prints on standard error.
 #[derive(Clone, Copy, Debug, PartialEq, Eq)]
@@ -64,6 +66,18 @@ impl fmt::Display for DenialFault {
 
 const USAGE: &str = "usage: denial nsec APEX | denial nsec3 APEX ITERATIONS SALT [optout] \
      | denial check nsec APEX NAME TYPE | denial check nsec3 APEX NAME TYPE";
+
+/// An error of a device is that device's fault, unless it is want of memory.
+pub fn fault_of(error: &io::Error, fault: DenialFault) -> DenialFault
+    ensures either { (result ≡ fault) ⊎ (result ≡ denial_fault.OutOfMemory) }
+    ensures memory { error_kind error.now ≡ ErrorKind.OutOfMemory → result ≡ denial_fault.OutOfMemory }
+{
+    if error.kind() == ErrorKind::OutOfMemory {
+        DenialFault::OutOfMemory
+    } else {
+        fault
+    }
+}
 
 impl From<ChainError> for DenialFault {
     ghost from_gives = { λ error made. made ≡ fault_of_chain error };

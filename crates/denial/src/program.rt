@@ -14,27 +14,15 @@ ghost use Rattle.denial.specs.Text.{answer_text};
 ghost use Rattle.denial.specs.declared.answer.Answer.{Answer};
 ghost use Rattle.denial.specs.declared.fault.DenialFault.TheVariants.{OutOfMemory};
 
-use crate::answer::answer_of;
+use crate::answer::write_answer;
 use crate::command::command_of;
-use crate::fault::DenialFault;
+use crate::fault::{DenialFault, fault_of};
 use crate::line::{Line, ZoneRr, read_line};
 use domain_dnssec::Nsec3Hasher;
 use memchr::memchr;
 use std::alloc::Global;
 use std::io;
 use std::io::{BufRead, ErrorKind, Write};
-
-/// An error of a device is that device's fault, unless it is want of memory.
-fn fault_of(error: &io::Error, fault: DenialFault) -> DenialFault
-    ensures either { (result ≡ fault) ⊎ (result ≡ OutOfMemory) }
-    ensures memory { error_kind error.now ≡ ErrorKind.OutOfMemory → result ≡ OutOfMemory }
-{
-    if error.kind() == ErrorKind::OutOfMemory {
-        DenialFault::OutOfMemory
-    } else {
-        fault
-    }
-}
 
 /// A line without its end: a line feed, and a carriage return before it.
 fn without_end(line: &[u8]) -> &[u8]
@@ -176,9 +164,5 @@ pub fn run_denial<R: BufRead, W: Write, H: Nsec3Hasher>(
 {
     let command = command_of(alloc, words)?;
     let records = read_records(alloc, input)?;
-    let answer = answer_of(alloc, command, records, hasher)?;
-    match answer.write(output) {
-        Ok(()) => Ok(()),
-        Err(e) => Err(fault_of(&e, DenialFault::Write)),
-    }
+    write_answer(alloc, command, records, hasher, output)
 }

@@ -1,12 +1,14 @@
 use Rattle.std.proofs.Common.{refl, subst}
-use Rattle.domain_dnssec.specs.AnyOrder.{IsChainOf}
-use Rattle.domain_nsec.specs.ChainView.{links_of}
+use Rattle.domain_dnssec.specs.AnyOrder.{IsSortedChain}
 use Rattle.denial.proofs.answer.nsecs_of.Goals as goal
 
 pub returns-in-Ok-clause-ok : goal.returns-in-Ok-clause-ok
-returns-in-Ok-clause-ok c = record {
-  nsecs = c.in-Ok.nsecs;
+returns-in-Ok-clause-ok c = λ given sorts. record {
+  links = c.in-Ok.nsecs;
   is = refl;
-  chain = subst (λ config. IsChainOf (λ o. o) (λ n. n) c.args.records.items c.args.apex.now config (links_of (λ n. n) c.in-Ok.nsecs.items))
-      c.new-config.ensures c.in-Ok.ensures.ok;
+  chain = record {
+    sorted = c.args.sorted.now;
+    sorts = sorts;
+    chain = subst (λ config. IsSortedChain (λ n. n) c.args.sorted.now c.args.apex.now config c.in-Ok.nsecs) c.new-config.ensures c.in-Ok.ensures.ok;
+  };
 }

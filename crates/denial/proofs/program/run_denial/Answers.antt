@@ -5,28 +5,34 @@ use Rattle.denial.specs.Answer.{Answers}
 use Rattle.denial.specs.Listing.{Give}
 use Rattle.denial.specs.Text.{answer_text}
 use Rattle.denial.specs.declared.answer.Answer.{Answer}
+use Rattle.denial.proofs.AnswerLemmas.{answer_unwritten, on_ok}
 use Rattle.denial.proofs.LineReading.{known_so}
 use Rattle.denial.proofs.program.run_denial.Goals as goal
 
-pub returns-in-Ok-clause-ok : goal.returns-in-Ok-clause-ok
-returns-in-Ok-clause-ok g c =
+pub returns-clause-ok : goal.returns-clause-ok
+returns-clause-ok g c =
+    let answers = g.H.Nsec3Hasher.answer c.args.hasher.now in
+    on_ok (λ written.
     known_so (λ bytes. Give (λ o. o) (λ n. n) (lines bytes) c.in_ok-records.records.items)
-    (λ bytes. (x : Answer) × Answers (g.H.Nsec3Hasher.answer c.args.hasher.now) (map string_bytes c.args.words.now) (lines bytes) x × Appends (g.W.Write.contents c.args.output.now) (g.W.Write.contents c.write.new.output) (answer_text x))
+    (λ bytes. (x : Answer) × Answers answers (map string_bytes c.args.words.now) (lines bytes) x × Appends (g.W.Write.contents c.args.output.now) (g.W.Write.contents c.write_answer.new.output) (answer_text x))
     (g.R.Read.remaining c.args.input.now)
     (λ bytes gives. (
-      c.in_ok-answer.answer,
-      record { command = c.in_ok-command.command; given = c.in_ok-records.records.items; asks = c.in_ok-command.ensures.ok; gives = gives; is = c.in_ok-answer.ensures.ok },
-      c.in-Ok.ensures,
+      written.answer,
+      record { command = c.in_ok-command.command; given = c.in_ok-records.records.items; asks = c.in_ok-command.ensures.ok; gives = gives; is = written.is },
+      written.appends,
     ))
-    c.in_ok-records.ensures.ok
+    c.in_ok-records.ensures.ok)
+    c.write_answer.result c.write_answer.ensures.ok
 
 pub returns-clause-write : goal.returns-clause-write
 returns-clause-write g c = λ is.
+    let answers = g.H.Nsec3Hasher.answer c.args.hasher.now in
+    let there = answer_unwritten answers c.in_ok-command.command c.in_ok-records.records.items c.write_answer.result c.write_answer.ensures.err is in
     known_so (λ bytes. Give (λ o. o) (λ n. n) (lines bytes) c.in_ok-records.records.items)
-    (λ bytes. (x : Answer) × Answers (g.H.Nsec3Hasher.answer c.args.hasher.now) (map string_bytes c.args.words.now) (lines bytes) x)
+    (λ bytes. (x : Answer) × Answers answers (map string_bytes c.args.words.now) (lines bytes) x)
     (g.R.Read.remaining c.args.input.now)
     (λ bytes gives. (
-      c.in_ok-answer.answer,
-      record { command = c.in_ok-command.command; given = c.in_ok-records.records.items; asks = c.in_ok-command.ensures.ok; gives = gives; is = c.in_ok-answer.ensures.ok },
+      there.0,
+      record { command = c.in_ok-command.command; given = c.in_ok-records.records.items; asks = c.in_ok-command.ensures.ok; gives = gives; is = there.1 },
     ))
     c.in_ok-records.ensures.ok
