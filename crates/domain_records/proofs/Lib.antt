@@ -6,9 +6,11 @@ pub mod Lookups
 pub mod Matches
 pub mod OrderLemmas
 pub mod Removals
+pub mod KeyLemmas
 pub mod OwnerRunLemmas
 pub mod Placing
 pub mod RrsetLemmas
+pub mod RunKeyLemmas
 pub mod Runs
 pub mod SortedLists
 pub mod Sorting

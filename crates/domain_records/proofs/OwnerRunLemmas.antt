@@ -14,7 +14,7 @@ use Rattle.std.proofs.lemmas.List.Elements.{All-nil, All-append, All-push, All-g
 use Rattle.std.proofs.lemmas.List.FromFn.{length-range_with_len, get_or-range_with_len}
 use Rattle.std.proofs.lemmas.List.Sorted.{All-permutation, IsPermutation-append, IsPermutation-append_comm, IsPermutation-append_left, IsPermutation-append_right, IsPermutation-keeps, IsPermutation-refl, IsPermutation-trans, ranks_by, sorted_far}
 use Rattle.domain_records.specs.declared.owner_runs.Run.{Run}
-use Rattle.domain_records.specs.OwnerRuns.{places_of, places_of_all, IsOneOwner, run_cmp, AreRuns, AreSortedRuns, IsOwner}
+use Rattle.domain_records.specs.OwnerRuns.{places_of, places_of_all, IsOneOwner, run_cmp, AreSortedRuns, IsOwner}
 use Rattle.domain_records.specs.Places.{compared_places, place_cmp, AreSortedPlaces}
 
 -- the places of the runs before i, sorted, and with owners before those of the others
@@ -148,7 +148,7 @@ module _ {X : Type 0} (Q W R : X → X → Ordering) (o : IsTotalOrder Q) (parts
 
   module _ (runs : List Run) (h : AreSortedRuns Q xs d runs) where
     abbrev none : Run
-    none = record { start = 0; end = 0 }
+    none = record { key = 0; start = 0; end = 0 }
 
     abbrev at : ℕ → X
     at k = key (get_or runs k none).start
@@ -322,14 +322,6 @@ module _ {X Y : Type 0} (f : X → List Y) where
   flat-moved xs ys moved =
       IsPermutation-keeps xs (λ l. IsPermutation (flat xs) (flat l)) (IsPermutation-refl (flat xs))
       (λ l i j lt below h. IsPermutation-trans (flat xs) (flat l) (flat (swap l i j)) h (flat_swapped l i j lt below)) ys moved
-
--- runs that are sorted by owner have the same places
-pub runs_sorted : {X : Type 0} (Q : X → X → Ordering) (xs : List X) (d : X) (runs sorted : List Run) → AreRuns Q xs d runs → IsPermutation runs sorted → IsSorted (run_cmp Q xs d) sorted → AreSortedRuns Q xs d sorted
-runs_sorted Q xs d runs sorted h moved up = record {
-  all = subst (λ (l : List ℕ). IsPermutation l (places_of_all sorted)) h.all (flat-moved places_of runs sorted moved);
-  each = All-permutation (IsOneOwner Q xs d) runs sorted moved h.each;
-  sorted = up;
-}
 
 module _ {X : Type 0} {R : X → X → Ordering} (o : IsTotalOrder R) (xs : List X) (d : X) where
   pub compared_total : IsTotalOrder (compared_places R xs d)

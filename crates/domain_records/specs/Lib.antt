@@ -4,6 +4,7 @@ pub mod ErrorText
 pub mod Groups
 pub mod Lookup
 pub mod Order
+pub mod OwnerKey
 pub mod OwnerOrder
 pub mod OwnerRuns
 pub mod Places

@@ -2,8 +2,11 @@
 use Rattle.std.specs.Prelude.{◌≡◌, ◌≢◌, ℕ, ◌-◌, ◌<◌, ◌≤◌, List, length, take, drop, slice_index_or}
 use Rattle.std.specs.List.{All, flat_map, range_with_len}
 use Rattle.std.specs.List.Sorted.{IsSorted}
+use Rattle.std.specs.Ordering.{nat_cmp, on, then_cmp}
 use Rattle.std.specs.declared.cmp.Ordering.{Ordering}
-use Rattle.std.specs.declared.cmp.Ordering.TheVariants.{Equal}
+use Rattle.std.specs.declared.cmp.Ordering.TheVariants.{Less, Equal}
+use Rattle.domain_base.specs.Name.{IsAtOrBelow}
+use Rattle.domain_base.specs.Words.{Name}
 use Rattle.domain_records.specs.declared.owner_runs.Run.{Run}
 use Rattle.domain_records.specs.Places.{ArePlaces}
 
@@ -33,11 +36,41 @@ pub record AreRuns {X : Type 0} (Q : X → X → Ordering) (xs : List X) (d : X)
 abbrev pub run_cmp : {X : Type 0} → (X → X → Ordering) → List X → X → Run → Run → Ordering
 run_cmp Q xs d r s = Q (slice_index_or xs r.start d) (slice_index_or xs s.start d)
 
+-- where the first run has the lesser key, its owner comes first
+abbrev pub KeyTells : {X : Type 0} → (X → X → Ordering) → List X → X → Run → Run → Type 0
+KeyTells Q xs d r s = r.key < s.key → run_cmp Q xs d r s ≡ Less
+
+-- so it is for any two of the runs
+abbrev pub AreKeyed : {X : Type 0} → (X → X → Ordering) → List X → X → List Run → Type 0
+AreKeyed Q xs d runs = All (λ r. All (KeyTells Q xs d r) runs) runs
+
+-- by key, and then by owner
+abbrev pub keyed_cmp : {X : Type 0} → (X → X → Ordering) → List X → X → Run → Run → Ordering
+keyed_cmp Q xs d = then_cmp (on (λ r. r.key) nat_cmp) (run_cmp Q xs d)
+
+-- the same, as a comparison answers it
+unfoldable pub compared_runs : {X : Type 0} → (X → X → Ordering) → List X → X → Run → Run → Ordering
+compared_runs Q xs d r s = keyed_cmp Q xs d r s
+
+-- the run's owner has the class of d, and is at or below the name
+pub record IsUnder {X : Type 0} (class : X → ℕ) (labels : X → Name) (xs : List X) (d : X)
+    (base : Name) (r : Run) : Type 0 where
+  pub one_class : class (slice_index_or xs r.start d) ≡ class d
+  pub below : IsAtOrBelow (labels (slice_index_or xs r.start d)) base
+
+-- all are so, of one name with n labels
+pub record AreUnder {X : Type 0} (class : X → ℕ) (labels : X → Name) (xs : List X) (d : X)
+    (runs : List Run) (n : ℕ) : Type 0 where
+  pub base : Name
+  pub long : n ≡ length base
+  pub all : All (IsUnder class labels xs d base) runs
+
 -- the same runs in the order of their owners
 pub record AreSortedRuns {X : Type 0} (Q : X → X → Ordering) (xs : List X) (d : X)
     (runs : List Run) : Type 0 where
   pub all : ArePlaces (length xs) (places_of_all runs)
   pub each : All (IsOneOwner Q xs d) runs
+  pub keyed : AreKeyed Q xs d runs
   pub sorted : IsSorted (run_cmp Q xs d) runs
 
 -- group has the places of the runs from place i up to n, which have one owner; the run at n, if

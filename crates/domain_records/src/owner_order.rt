@@ -1,10 +1,12 @@
 //! The canonical order of records in two parts.
-ghost use Rattle.std.specs.Prelude.{◌≡◌};
-ghost use Rattle.std.specs.Ordering.{ordering_then};
+ghost use Rattle.std.specs.Prelude.{◌≡◌, ℕ, refl};
+ghost use Rattle.std.specs.Ordering.{is_ne, nat_cmp, ordering_then};
 ghost use Rattle.std.specs.declared.cmp.Ordering.{Ordering};
 ghost use Rattle.std.specs.Cmp.{IsTotalOrder};
+ghost use Rattle.domain_base.specs.Order.{canonical_cmp};
+ghost use Rattle.domain_base.specs.Words.{Name};
 
-use domain_base::{CanonicalOrd, ToName};
+use domain_base::{CanonicalOrd, Class, ParsedName, ToName};
 use domain_plain::{Record, RecordData};
 use std::cmp::Ordering;
 
@@ -16,6 +18,12 @@ pub(crate) trait OwnerOrd: CanonicalOrd {
     /// The order within an owner.
     ghost rest_order: { Self → Self → Ordering };
 
+    /// The class.
+    ghost owner_class: { Self → ℕ };
+
+    /// The labels of the owner.
+    ghost owner_labels: { Self → Name };
+
     /// Compares the owners.
     fn owner_cmp(&self, other: &Self) -> Ordering
         ensures { result ≡ owner_order self.now other.now };
@@ -24,10 +32,27 @@ pub(crate) trait OwnerOrd: CanonicalOrd {
     fn rest_cmp(&self, other: &Self) -> Ordering
         ensures { result ≡ rest_order self.now other.now };
 
+    /// Whether the owners differ.
+    fn differs_in_owner(&self, other: &Self) -> bool
+        ensures { result ≡ is_ne (owner_order self.now other.now) };
+
+    /// The class.
+    fn owner_class(&self) -> Class
+        ensures { result ≡ owner_class self.now };
+
+    /// The owner, as a name over its wire form.
+    fn owner_name(&self) -> ParsedName<'_>
+        ensures { result ≡ owner_labels self.now };
+
     /// Owners are in a total order.
     ghost owners_total: { IsTotalOrder owner_order };
 
-    /// So is the rest.
+    /// They go by class, and then in the order of names.
+    ghost by_class: { (x y : Self) → owner_order x y
+        ≡ ordering_then (nat_cmp (owner_class x) (owner_class y))
+        (canonical_cmp (owner_labels x) (owner_labels y)) };
+
+    /// The rest is too.
     ghost rests_total: { IsTotalOrder rest_order };
 
     /// The canonical order goes by owner, and then by the rest.
@@ -43,7 +68,13 @@ impl<N: ToName, D: RecordData + CanonicalOrd> OwnerOrd for Record<N, D> {
 
     ghost rest_order = { rest_cmp D.rtype D.canonical_cmp };
 
+    ghost owner_class = { λ r. r.class };
+
+    ghost owner_labels = { λ r. N.labels r.owner };
+
     ghost owners_total = { owner_cmp_total N.labels };
+
+    ghost by_class = { λ x y. refl };
 
     ghost rests_total = { rest_cmp_total D.rtype D.canonical_cmp D.total };
 
@@ -53,6 +84,18 @@ impl<N: ToName, D: RecordData + CanonicalOrd> OwnerOrd for Record<N, D> {
         self.class()
             .cmp(&other.class())
             .then_with(|| self.owner().name_cmp(other.owner()))
+    }
+
+    fn differs_in_owner(&self, other: &Self) -> bool {
+        self.class() != other.class() || !self.owner().name_eq(other.owner())
+    }
+
+    fn owner_class(&self) -> Class {
+        self.class()
+    }
+
+    fn owner_name(&self) -> ParsedName<'_> {
+        self.owner().as_parsed()
     }
 
     fn rest_cmp(&self, other: &Self) -> Ordering {

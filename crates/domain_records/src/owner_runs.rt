@@ -1,30 +1,33 @@
 //! Runs: neighbours of one owner.
 ghost use Rattle.std.specs.Prelude.{◌≡◌, ◌<◌, ◌≤◌, ◌++◌, [], length, slice_index_or, IfOk, OnOk, IsPermutation};
 ghost use Rattle.std.specs.List.Sorted.{IsSorted};
+ghost use Rattle.std.specs.Ordering.{is_ne};
 ghost use Rattle.domain_records.specs.Places.{AreSortedPlaces, compared_places, place_cmp};
-ghost use Rattle.domain_records.specs.OwnerRuns.{AreRuns, AreSortedRuns, IsOwner, places_of, run_cmp};
+ghost use Rattle.domain_records.specs.OwnerRuns.{AreKeyed, AreRuns, AreSortedRuns, IsOwner, KeyTells, compared_runs, places_of, run_cmp};
 
 use crate::owner_order::OwnerOrd;
+use crate::run_keys::give_keys;
 use crate::sorter::Sorter;
 use domain_octets::OutOfMemory;
 use std::alloc::Global;
 use std::cmp::Ordering;
 
-/// The items from `start` up to `end`, which have one owner.
+/// The items from `start` up to `end`, which have one owner, with a key of the owner.
 #[derive(Clone, Copy)]
 pub(crate) struct Run {
+    pub(crate) key: u64,
     pub(crate) start: usize,
     pub(crate) end: usize,
 }
 
 /// The item at a place. Past the end `other` stands.
-fn item_at<'a, T>(items: &'a [T], place: usize, other: &'a T) -> &'a T
+pub(crate) fn item_at<'a, T>(items: &'a [T], place: usize, other: &'a T) -> &'a T
     ensures { result.now ≡ slice_index_or items.now place other.now }
 {
     items.get(place).unwrap_or(other)
 }
 
-/// The runs of the items, each as long as its owner goes on.
+/// The runs of the items, each as long as its owner goes on. They have no keys yet.
 pub(crate) fn runs_of<T: OwnerOrd>(
     alloc: Global,
     items: &[T],
@@ -35,17 +38,14 @@ pub(crate) fn runs_of<T: OwnerOrd>(
     let mut runs = Vec::new(alloc);
     let mut start = 0;
     for end in 1..items.len() {
-        if item_at(items, start, other)
-            .owner_cmp(item_at(items, end, other))
-            .is_ne()
-        {
-            runs.push(Run { start, end })?;
+        if item_at(items, start, other).differs_in_owner(item_at(items, end, other)) {
+            runs.push(Run { key: 0, start, end })?;
             start = end;
         }
     }
     if start < items.len() {
         let end = items.len();
-        runs.push(Run { start, end })?;
+        runs.push(Run { key: 0, start, end })?;
     }
     Ok(runs)
 }
@@ -57,6 +57,15 @@ fn compare_runs<T: OwnerOrd>(items: &[T], other: &T, a: Run, b: Run) -> Ordering
     item_at(items, a.start, other).owner_cmp(item_at(items, b.start, other))
 }
 
+/// Compares the keys of two runs, and their owners only where the keys are the same.
+fn compare_keyed<T: OwnerOrd>(items: &[T], other: &T, a: Run, b: Run) -> Ordering
+    ensures { result ≡ compared_runs T.owner_order items.now other.now a b }
+{
+    a.key
+        .cmp(&b.key)
+        .then_with(|| compare_runs(items, other, a, b))
+}
+
 /// Compares two places by all but the owners of their items, and then by themselves.
 fn compare_places<T: OwnerOrd>(items: &[T], other: &T, a: usize, b: usize) -> Ordering
     ensures { result ≡ compared_places T.rest_order items.now other.now a b }
@@ -66,16 +75,29 @@ fn compare_places<T: OwnerOrd>(items: &[T], other: &T, a: usize, b: usize) -> Or
         .then(a.cmp(&b))
 }
 
+/// Whether the owners of two runs differ, as they do where the keys differ.
+fn has_other_owner<T: OwnerOrd>(items: &[T], other: &T, a: Run, b: Run) -> bool
+    requires forth { KeyTells T.owner_order items.now other.now a b }
+    requires back { KeyTells T.owner_order items.now other.now b a }
+    ensures { result ≡ is_ne (run_cmp T.owner_order items.now other.now a b) }
+{
+    if a.key != b.key {
+        return true;
+    }
+    item_at(items, a.start, other).differs_in_owner(item_at(items, b.start, other))
+}
+
 /// Puts the runs into the order of their owners.
 fn sort_runs<T: OwnerOrd, S: Sorter>(
     items: &[T],
     other: &T,
     runs: &mut Vec<Run>,
 ) -> Result<(), OutOfMemory>
-    requires { AreRuns T.owner_order items.now other.now runs.old.items }
+    requires runs { AreRuns T.owner_order items.now other.now runs.old.items }
+    requires keyed { AreKeyed T.owner_order items.now other.now runs.old.items }
     ensures { OnOk result (AreSortedRuns T.owner_order items.now other.now runs.new.items) }
 {
-    S::sort_by(runs, |a, b| compare_runs(items, other, *a, *b))
+    S::sort_by(runs, |a, b| compare_keyed(items, other, *a, *b))
 }
 
 /// Puts places of one owner into the order of their items.
@@ -114,12 +136,13 @@ fn take_owner<T: OwnerOrd>(
     group: &mut Vec<usize>,
 ) -> Result<usize, OutOfMemory>
     requires some { first < length runs.now }
+    requires keyed { AreKeyed T.owner_order items.now other.now runs.now }
     requires empty { group.old.items ≡ [] }
     ensures { IfOk result (λ next. IsOwner T.owner_order items.now other.now runs.now first next
         group.new.items) }
 {
     for next in first..runs.len() {
-        if compare_runs(items, other, runs[first], runs[next]).is_ne() {
+        if has_other_owner(items, other, runs[first], runs[next]) {
             return Ok(next);
         }
         push_places(group, runs[next])?;
@@ -149,8 +172,8 @@ fn places_by_owner<T: OwnerOrd, S: Sorter>(
     Ok(places)
 }
 
-/// The places of the items in canonical order, from their runs: the runs are sorted by owner, and
-/// then the items of each owner.
+/// The places of the items in canonical order, from their runs: the runs are given keys and
+/// sorted by owner, and then the items of each owner.
 pub(crate) fn sorted_places<T: OwnerOrd, S: Sorter>(
     alloc: Global,
     items: &[T],
@@ -161,6 +184,7 @@ pub(crate) fn sorted_places<T: OwnerOrd, S: Sorter>(
     ensures { IfOk result (λ places. AreSortedPlaces T.canonical_cmp items.now other.now
         places.items) }
 {
+    give_keys(items, other, &mut runs);
     sort_runs::<T, S>(items, other, &mut runs)?;
     places_by_owner::<T, S>(alloc, items, other, &runs)
 }

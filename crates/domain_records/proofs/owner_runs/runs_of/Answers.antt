@@ -4,7 +4,7 @@ use Rattle.std.specs.List.{range_with_len}
 use Rattle.domain_records.specs.declared.owner_runs.Run.{Run}
 use Rattle.domain_records.proofs.OwnerRunLemmas.{runs_push, each_push, one_more, one_begun}
 use Rattle.domain_records.proofs.owner_runs.runs_of.Goals as goal
-use Rattle.domain_records.proofs.owner_runs.runs_of.Goals.{then-is_ne+in_ok-push, else-is_ne, then-start-items+in_ok-push-2, else-start-items}
+use Rattle.domain_records.proofs.owner_runs.runs_of.Goals.{then-differs_in_owner+in_ok-push, else-differs_in_owner, then-start-items+in_ok-push-2, else-start-items}
 
 pub loop-end-preserved : goal.loop-end-preserved
 loop-end-preserved g c =
@@ -13,8 +13,8 @@ loop-end-preserved g c =
     let d = c.args.other.now in
     let inv = c.loop-end.invariant in
     let le = inv.begun in
-    elim c.if-is_ne.branch [
-      | then-is_ne+in_ok-push w ↦ let run : Run = record { start = c.loop-end.start; end = c.loop-end.end } in
+    elim c.if-differs_in_owner.branch [
+      | then-differs_in_owner+in_ok-push w ↦ let run : Run = record { key = 0; start = c.loop-end.start; end = c.loop-end.end } in
           rw (w.runs-is, w.start-is, w.in_ok-push.ensures.items) (record {
             begun = omega arith;
             within = omega (arith, inv.within, c.loop-end-test.true);
@@ -22,12 +22,12 @@ loop-end-preserved g c =
             each = each_push Q xs d c.loop-end.runs.items run inv.each inv.one;
             one = one_begun Q xs d g.met.T.OwnerOrd.owners_total c.loop-end.end;
           })
-      | else-is_ne w ↦ rw (w.runs-is, w.start-is) (record {
+      | else-differs_in_owner w ↦ rw (w.runs-is, w.start-is) (record {
         begun = omega arith;
         within = omega (arith, inv.within, c.loop-end-test.true);
         all = inv.all;
         each = inv.each;
-        one = one_more Q xs d c.loop-end.start c.loop-end.end inv.one (ap is_ne (let t : Q (get_or xs c.loop-end.start d) (get_or xs c.loop-end.end d) ≡ c.owner_cmp.result = rw (← c.item_at.ensures, ← c.item_at-in-loop-end.ensures) (sym c.owner_cmp.ensures) in t) ∙ sym w.if-is_ne.ensures);
+        one = one_more Q xs d c.loop-end.start c.loop-end.end inv.one ((let t : is_ne (Q (get_or xs c.loop-end.start d) (get_or xs c.loop-end.end d)) ≡ c.differs_in_owner.result = rw (← c.item_at.ensures, ← c.item_at-in-loop-end.ensures) (sym c.differs_in_owner.ensures) in t) ∙ w.if-differs_in_owner.false);
       })
     ]
 
@@ -39,7 +39,7 @@ returns g c =
     let inv = c.loop-end.invariant in
     elim c.if-start-items.branch [
       | then-start-items+in_ok-push-2 w ↦ (
-          let run : Run = record { start = c.loop-end.start; end = length xs } in
+          let run : Run = record { key = 0; start = c.loop-end.start; end = length xs } in
           let lt = w.if-start-items.true in
           rw (w.runs-is, w.in_ok-push-2.ensures.items) (record {
             all = runs_push c.loop-end.runs.items run (omega arith) inv.all;

@@ -1,6 +1,5 @@
-use Rattle.std.proofs.Common.{sym, ap, ◌∙◌}
+use Rattle.std.proofs.Common.{sym, ◌∙◌}
 use Rattle.std.proofs.lemmas.List.{get_or_default}
-use Rattle.std.specs.Ordering.{is_ne}
 use Rattle.domain_records.specs.declared.owner_runs.Run.{Run}
 use Rattle.domain_records.proofs.OwnerRunLemmas.{pushed_more, owner_more}
 use Rattle.domain_records.proofs.owner_runs.take_owner.Goals as goal
@@ -8,8 +7,8 @@ use Rattle.domain_records.proofs.owner_runs.take_owner.Goals as goal
 pub loop-next-preserved : goal.loop-next-preserved
 loop-next-preserved g c =
     let runs = c.args.runs.now in
-    let none : Run = record { start = 0; end = 0 } in
-    let same = ap is_ne (sym c.compare_runs.ensures) ∙ sym c.is_ne.ensures ∙ c.if-is_ne.false in record {
+    let none : Run = record { key = 0; start = 0; end = 0 } in
+    let same = sym c.has_other_owner.ensures ∙ c.if-has_other_owner.false in record {
       all = c.in_ok-push_places.ensures ∙ pushed_more runs c.args.first c.loop-next.next none c.loop-next.group.items c.loop-next.auto.next c.loop-next-test.true c.loop-next.invariant.all;
       one = owner_more g.T.OwnerOrd.owner_order c.args.items.now c.args.other.now runs c.args.first c.loop-next.next c.loop-next.invariant.one
           (λ r. rw (get_or_default runs c.args.first r none c.requires.some, get_or_default runs c.loop-next.next r none c.loop-next-test.true) same);
