@@ -132,18 +132,9 @@ module _ (a : Name) (p : Common) where
             (λ j. link_to a p (here j) (after j)) ∙ sym (link_last (map see hs) i d (see item) (omega arith) (omega arith))
       ]
 
--- the hash after a place is one of those
-pub next_short : {X : Type 0} (f : X → List ℕ) (a : Name) (hs : List X) (item : X) (next : List ℕ) (i : ℕ) → i < length hs → All (λ h. hash_fault a (Ok (f h)) ≡ None) hs
-    → (i + 1 < length hs → (x : X) → next ≡ f (get_or hs (i + 1) x)) → (length hs ≤ i + 1 → (x : X) → next ≡ f (get_or hs 0 x)) → length next ≤ 39
-next_short f a hs item next i within sound later first =
-    elim (cases_lt (i + 1) (length hs)) [
-      | inl l ↦ subst (λ (v : List ℕ). length v ≤ 39) (sym (later l item)) (sound_short a (f (get_or hs (i + 1) item)) (sound (i + 1) item l))
-      | inr l ↦ subst (λ (v : List ℕ). length v ≤ 39) (sym (first l item)) (sound_short a (f (get_or hs 0 item)) (sound 0 item (omega arith)))
-    ]
-
 -- a link for each hash
-pub links_counted : {N O : Type 0} (labels : N → Name) (chain : HashedChain N O) (p : Common) → length (links_in labels chain p) ≡ length chain.hashed.items
-links_counted labels chain p = chain_length (labels chain.apex) p (map (as_hashed_types chain.types.items) chain.hashed.items) ∙ length-map chain.hashed.items (as_hashed_types chain.types.items)
+pub links_counted : (a : Name) (chain : HashedChain) (p : Common) → length (links_in a chain p) ≡ length chain.hashed.items
+links_counted a chain p = chain_length a p (map (as_hashed_types chain.types) chain.hashed.items) ∙ length-map chain.hashed.items (as_hashed_types chain.types)
 
 -- one more record is made
 pub one_made : {X : Type 0} (see : X → HashedLink) (old new : List X) (item : X) (i : ℕ) (links : List HashedLink) → i < length links → new ≡ old ++ item ∷ [] → ((d : HashedLink) → see item ≡ get_or links i d) → map see old ≡ take i links → map see new ≡ take (i + 1) links

@@ -11,8 +11,8 @@ use Rattle.domain_nsec3.specs.declared.chain.HashedChain.{HashedChain}
 use Rattle.domain_nsec3.specs.declared.hash.Hashed.{Hashed}
 use Rattle.domain_nsec3.specs.declared.owners.Owners.{Owners}
 
-abbrev pub as_entries : {O : Type 0} → Owners O → List Entry
-as_entries owners = entries_of owners.names.items owners.types.items
+abbrev pub as_entries : Owners → List Entry
+as_entries owners = entries_of owners.names.items owners.types
 
 -- a hash and its place among these entries
 abbrev pub as_hashed_entry : List Entry → Hashed → HashedEntry
@@ -28,13 +28,10 @@ as_hashed_types types h =
 abbrev pub common_of : {O : Type 0} → Nsec3param O → ℕ → Common
 common_of p ttl = record { ttl = ttl; parameters = parameters_of p; flags = p.flags }
 
--- the links of a chain
-abbrev pub links_in : {N O : Type 0} → (N → Name) → HashedChain N O → Common → List HashedLink
-links_in labels chain p =
-    chain_links (labels chain.apex) p
-    (map (as_hashed_types chain.types.items) chain.hashed.items)
+-- the links of a chain below an apex
+abbrev pub links_in : Name → HashedChain → Common → List HashedLink
+links_in a chain p = chain_links a p (map (as_hashed_types chain.types) chain.hashed.items)
 
--- all hashes of a chain are of use
-abbrev pub AreUsable : {N O : Type 0} → (N → Name) → HashedChain N O → Type 0
-AreUsable labels chain =
-    All (λ h. hash_fault (labels chain.apex) (Ok h.hash) ≡ None) chain.hashed.items
+-- all hashes of a chain are of use below an apex
+abbrev pub AreUsable : Name → HashedChain → Type 0
+AreUsable a chain = All (λ h. hash_fault a (Ok h.hash) ≡ None) chain.hashed.items

@@ -144,7 +144,7 @@ pub(crate) fn write_owner<'a>(buffer: &'a mut [u8], apex: &ParsedName<'_>, hash:
 }
 
 /// The owner of the record of a hash.
-pub(crate) fn make_owner<N: MakeName>(
+fn make_owner<N: MakeName>(
     alloc: Global,
     apex: &ParsedName<'_>,
     hash: &[u8],

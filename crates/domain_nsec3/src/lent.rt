@@ -9,7 +9,7 @@ ghost use Rattle.domain_nsec3.specs.View.{as_hashed_link};
 use crate::chain::{HashedChain, hash_after};
 use crate::hash::{Hashed, MAX_NAME, write_owner};
 use domain_base::{Class, Name, ParsedName, ToName, Ttl};
-use domain_bitmap::{OwnerHash, RtypeBitmap};
+use domain_bitmap::{OwnerHash, RtypeBitmap, RtypeBitmaps};
 use domain_octets::{ArrayBuilder, Octets, OctetsBuilder};
 use domain_plain::Record;
 use domain_rdata::{Nsec3, Nsec3param};
@@ -37,12 +37,11 @@ fn lend_owner(apex: &ParsedName<'_>, hash: &[u8]) -> Name<ArrayBuilder<255>>
 }
 
 /// The types at a place; past the end there are none.
-fn lend_types<'a, O: Octets>(types: &'a [RtypeBitmap<O>], place: usize) -> RtypeBitmap<&'a [u8]>
+fn lend_types<'a>(types: &'a RtypeBitmaps, place: usize) -> RtypeBitmap<&'a [u8]>
     ensures { result ≡ slice_index_or types.now place no_types }
 {
-    if place < types.len() {
-        let own = &types[place];
-        return own.remade(own.as_slice());
+    if let Some(own) = types.get(place) {
+        return own;
     }
     let none: &'a [u8] = &[];
     let Ok(types) = RtypeBitmap::from_octets(none) else {
@@ -51,21 +50,22 @@ fn lend_types<'a, O: Octets>(types: &'a [RtypeBitmap<O>], place: usize) -> Rtype
     types
 }
 
-/// The record of a name of a chain that points to a hash.
+/// The record below the apex of a name of a chain, which points to a hash.
 fn lend_link<'a, N: ToName, O: Octets>(
-    chain: &'a HashedChain<N, O>,
+    apex: &N,
+    chain: &'a HashedChain,
     hashed: &Hashed,
     next: &'a [u8],
     params: &'a Nsec3param<O>,
     ttl: Ttl,
 ) -> LentNsec3<'a>
-    requires sound { hash_fault (N.labels chain.now.apex) (Ok hashed.now.hash) ≡ None }
+    requires sound { hash_fault (N.labels apex.now) (Ok hashed.now.hash) ≡ None }
     requires short { length next.now ≤ 39 }
     ensures { as_hashed_link (λ n. n) result
-        ≡ link_to (N.labels chain.now.apex) (common_of params.now ttl)
-        (as_hashed_types chain.now.types.items hashed.now) next.now }
+        ≡ link_to (N.labels apex.now) (common_of params.now ttl)
+        (as_hashed_types chain.now.types hashed.now) next.now }
 {
-    let apex = chain.apex.as_parsed();
+    let apex = apex.as_parsed();
     let owner = lend_owner(&apex, hashed.hash.as_slice());
     let salt = params.salt();
     let nsec3 = Nsec3::new(
@@ -74,24 +74,25 @@ fn lend_link<'a, N: ToName, O: Octets>(
         params.iterations(),
         salt.remade(salt.as_slice()),
         OwnerHash::from_octets_unchecked(next),
-        lend_types(chain.types.as_slice(), hashed.place),
+        lend_types(&chain.types, hashed.place),
     );
     Record::new(owner, Class::IN, ttl, nsec3)
 }
 
-/// The record at a place of a chain. It points to the hash after its own, the last one to the
-/// first.
+/// The record at a place of a chain, below the apex. It points to the hash after its own, the last
+/// one to the first.
 pub(crate) fn lend_record<'a, N: ToName, O: Octets>(
-    chain: &'a HashedChain<N, O>,
+    apex: &N,
+    chain: &'a HashedChain,
     at: usize,
     params: &'a Nsec3param<O>,
     ttl: Ttl,
 ) -> LentNsec3<'a>
     requires inside { at < length chain.now.hashed.items }
-    requires sound { AreUsable N.labels chain.now }
+    requires sound { AreUsable (N.labels apex.now) chain.now }
     ensures { (d : HashedLink) → as_hashed_link (λ n. n) result
-        ≡ slice_index_or (links_in N.labels chain.now (common_of params.now ttl)) at d }
+        ≡ slice_index_or (links_in (N.labels apex.now) chain.now (common_of params.now ttl)) at d }
 {
     let next = hash_after(chain.hashed.as_slice(), at);
-    lend_link(chain, &chain.hashed[at], next, params, ttl)
+    lend_link(apex, chain, &chain.hashed[at], next, params, ttl)
 }

@@ -9,6 +9,7 @@
 
 mod chain;
 mod config;
+mod copy;
 mod empty;
 mod hash;
 mod hash_text;

@@ -21,12 +21,13 @@ ghost use Rattle.domain_nsec3.specs.View.{as_param_record, config_of, hash_by, h
 
 use crate::GenerateNsec3Config;
 use crate::chain::{HashedChain, has_collision, sort_by_hash};
+use crate::copy::own_param;
 use crate::empty::empty_nonterminals;
 use crate::hash::hash_names;
 use crate::nsec3_chain::Nsec3Chain;
 use crate::owners::{Owners, list_owners};
 use domain_base::{Class, MakeName, ParsedName, ToName};
-use domain_bitmap::RtypeBitmap;
+use domain_bitmap::RtypeBitmaps;
 use domain_octets::{
     EmptyBuilder, FreezeBuilder, FromBuilder, GrowingBuilder, Octets, OutOfMemory, Truncate,
 };
@@ -57,35 +58,32 @@ impl<N, O: Octets> Nsec3Records<N, O> {
 /// The NSEC3 chain of a zone before its records are made, and the record that tells its parameters
 /// (RFC 5155, section 7.1).
 #[derive(Drop)]
-pub struct HashedNsec3s<N: ToName, O: Octets> {
+pub struct HashedNsec3s<'a, N: ToName, O: Octets> {
     /// The chain, which makes its records one by one.
-    pub chain: Nsec3Chain<N, O>,
-    /// The NSEC3PARAM record of the apex.
-    pub nsec3param: Record<N, Nsec3param<O>>,
+    pub chain: Nsec3Chain<'a, N, O>,
+    /// The NSEC3PARAM record of the apex, whose name it borrows.
+    pub nsec3param: Record<ParsedName<'a>, Nsec3param<O>>,
 }
 
 /// A chain over these names, of which the first own records and have these types: each is hashed,
 /// in the order of the list, and then they are put in the order of their hashes.
-fn hash_chain<S: Sorter, H: Nsec3Hasher, O: Octets, N: MakeName>(
+fn hash_chain<S: Sorter, H: Nsec3Hasher, O: Octets, N: ToName>(
     alloc: Global,
     hasher: &H,
     params: &Nsec3param<O>,
     apex: &N,
     names: Vec<ParsedName<'_>>,
-    types: Vec<RtypeBitmap<O>>,
-) -> Result<HashedChain<N, O>, Nsec3HashError>
-where
-    O: Drop,
-    N: Drop,
+    types: RtypeBitmaps,
+) -> Result<HashedChain, Nsec3HashError>
     requires some { 0 < length names.items }
-    requires within { length types.items ≤ length names.items }
+    requires within { length types ≤ length names.items }
     ensures chain { IfOk result (λ chain. (p : Common) → IsOrderedChain (N.labels apex.now)
         (hash_by (H.answer hasher.now) (parameters_of params.now)) p
-        (entries_of names.entry.items types.items) (links_in N.labels chain p)) }
-    ensures sound { IfOk result (λ chain. AreUsable N.labels chain) }
+        (entries_of names.entry.items types) (links_in (N.labels apex.now) chain p)) }
+    ensures sound { IfOk result (λ chain. AreUsable (N.labels apex.now) chain) }
     ensures fault { IfErr result (IsHashingFault (N.labels apex.now)
         (hash_by (H.answer hasher.now) (parameters_of params.now))
-        (entries_of names.entry.items types.items)) }
+        (entries_of names.entry.items types)) }
 {
     let above = apex.as_parsed();
     let mut hashed = match hash_names(alloc, hasher, params, &above, names.as_slice()) {
@@ -97,27 +95,19 @@ where
     if has_collision(hashed.as_slice()) {
         return Err(Nsec3HashError::CollisionDetected);
     }
-    let apex = N::make(alloc, apex.as_wire())?;
-    Ok(HashedChain {
-        apex,
-        hashed,
-        types,
-    })
+    Ok(HashedChain { hashed, types })
 }
 
 /// The chain over these owners, which stand in canonical order from the apex on, with their types:
 /// their empty non-terminals are added, all are hashed and put in order.
-fn chain_of_owners<'a, S: Sorter, H: Nsec3Hasher, O: Octets, N: MakeName>(
+fn chain_of_owners<'a, S: Sorter, H: Nsec3Hasher, O: Octets, N: ToName>(
     alloc: Global,
     config: &GenerateNsec3Config<O, S>,
     hasher: &H,
     apex: &'a N,
-    owners: Owners<'a, O>,
-) -> Result<HashedChain<N, O>, Nsec3HashError>
-where
-    O: Drop,
-    N: Drop,
-    requires paired { length owners.names.items ≡ length owners.types.items }
+    owners: Owners<'a>,
+) -> Result<HashedChain, Nsec3HashError>
+    requires paired { length owners.names.items ≡ length owners.types }
     requires ascend { IsStrictlySortedBy canonical_cmp owners.names.items }
     requires in_zone { All (λ n. is_at_or_below n (N.labels apex.now) ≡ true) owners.names.items }
     requires begins { list_any (λ n. same_name n (N.labels apex.now)) owners.names.items ≡ true }
@@ -126,8 +116,8 @@ where
         → AreOriginalOwners L (N.labels apex.now) (config_of (H.answer hasher.now) config.now)
         (as_entries owners.entry)
         → IsHashedChain L (N.labels apex.now) (config_of (H.answer hasher.now) config.now)
-        (links_in N.labels chain (common_of config.now.params (chain_ttl soa)))) }
-    ensures sound { IfOk result (λ chain. AreUsable N.labels chain) }
+        (links_in (N.labels apex.now) chain (common_of config.now.params (chain_ttl soa)))) }
+    ensures sound { IfOk result (λ chain. AreUsable (N.labels apex.now) chain) }
     ensures hashed { OnOk result ((L : List ZoneRecord)
         → AreOriginalOwners L (N.labels apex.now) (config_of (H.answer hasher.now) config.now)
         (as_entries owners.entry)
@@ -150,17 +140,43 @@ where
     }
 }
 
-/// The NSEC3PARAM record of a chain.
-fn param_record<S, O: Octets, N: MakeName>(
+/// The chain of a zone whose SOA record is known.
+fn chain_of_zone<S: Sorter, H: Nsec3Hasher, R: Octets, O: Octets, N: ToName>(
     alloc: Global,
     apex: &N,
+    records: RecordsIter<'_, N, ZoneRecordData<R, N>>,
+    config: &GenerateNsec3Config<O, S>,
+    hasher: &H,
+    soa: &ApexSoa,
+) -> Result<HashedChain, SigningError>
+    requires in_order { IsInOrder N.labels rtype_of records }
+    requires soa { soa_of (zone_of N.labels records) (N.labels apex.now) ≡ Some soa.now }
+    ensures chain { IfOk result (λ chain. IsHashedChain (zone_of N.labels records.entry)
+        (N.labels apex.now) (config_of (H.answer hasher.now) config.now)
+        (links_in (N.labels apex.now) chain (common_of config.now.params (chain_ttl soa.now)))) }
+    ensures sound { IfOk result (λ chain. AreUsable (N.labels apex.now) chain) }
+    ensures faultless { OnOk result (IsFaultless (zone_of N.labels records.entry)
+        (N.labels apex.now) (config_of (H.answer hasher.now) config.now)) }
+    ensures fault { IfErr result (IsFirstFault (zone_of N.labels records.entry)
+        (N.labels apex.now) (config_of (H.answer hasher.now) config.now)) }
+{
+    let owners = match list_owners(alloc, apex, records, config) {
+        Ok(owners) => owners,
+        Err(error) => return Err(error),
+    };
+    match chain_of_owners(alloc, config, hasher, apex, owners) {
+        Ok(chain) => Ok(chain),
+        Err(error) => Err(SigningError::from(error)),
+    }
+}
+
+/// The NSEC3PARAM record of a chain, which borrows the apex.
+fn param_record<'a, S, O: Octets, N: ToName>(
+    apex: &'a N,
     config: &GenerateNsec3Config<O, S>,
     soa: &ApexSoa,
-) -> Result<Record<N, Nsec3param<O>>, OutOfMemory>
-where
-    O: Drop,
-    N: Drop,
-    ensures { IfOk result (λ made. as_param_record N.labels made ≡ record {
+) -> Result<Record<ParsedName<'a>, Nsec3param<O>>, OutOfMemory>
+    ensures { IfOk result (λ made. as_param_record (λ n. n) made ≡ record {
       owner = N.labels apex.now;
       class = in_class;
       ttl = param_ttl config.now.nsec3param_ttl_mode soa.now;
@@ -168,10 +184,9 @@ where
       flags = config.now.params.flags;
     }) }
 {
-    let owner = N::make(alloc, apex.as_wire())?;
     let params = config.params.clone()?;
     Ok(Record::new(
-        owner,
+        apex.as_parsed(),
         Class::IN,
         config.nsec3param_ttl_mode.ttl(soa),
         params,
@@ -180,22 +195,20 @@ where
 
 /// The NSEC3 chain of a zone and its NSEC3PARAM record, as `generate_nsec3s` makes them, but that
 /// the chain makes its records one by one: so they need not all be held at a time, nor the records
-/// of the zone beside them.
+/// of the zone beside them. Both borrow the apex; the records are only read.
 ///
 /// # Errors
 ///
 /// Those of `generate_nsec3s`.
-pub fn hash_nsec3s<S: Sorter, H: Nsec3Hasher, O, N: MakeName>(
+pub fn hash_nsec3s<'a, S: Sorter, H: Nsec3Hasher, R: Octets, O: Octets, N: ToName>(
     alloc: Global,
-    apex: &N,
-    records: RecordsIter<'_, N, ZoneRecordData<O, N>>,
+    apex: &'a N,
+    records: RecordsIter<'_, N, ZoneRecordData<R, N>>,
     config: &GenerateNsec3Config<O, S>,
     hasher: &H,
-) -> Result<HashedNsec3s<N, O>, SigningError>
+) -> Result<HashedNsec3s<'a, N, O>, SigningError>
 where
-    N: Drop,
-    O: FromBuilder + Drop,
-    O::Builder: GrowingBuilder + EmptyBuilder + Truncate + FreezeBuilder<Frozen = O> + Drop,
+    O: Drop,
     requires one_class { IsOneClass records }
     requires in_order { IsInOrder N.labels rtype_of records }
 
@@ -204,7 +217,7 @@ where
         (N.labels apex.now) (config_of (H.answer hasher.now) config.now) made.chain) }
     ensures param { IfOk result (λ made. IsChainParam (zone_of N.labels records.entry)
         (N.labels apex.now) (config_of (H.answer hasher.now) config.now)
-        config.now.nsec3param_ttl_mode (as_param_record N.labels made.nsec3param)) }
+        config.now.nsec3param_ttl_mode (as_param_record (λ n. n) made.nsec3param)) }
     ensures faultless { OnOk result (IsFaultless (zone_of N.labels records.entry)
         (N.labels apex.now) (config_of (H.answer hasher.now) config.now)) }
     ensures fault { IfErr result (IsFirstFault (zone_of N.labels records.entry)
@@ -213,18 +226,34 @@ where
     let Some(soa) = find_soa(apex, records.records()) else {
         return Err(SigningError::SoaRecordCouldNotBeDetermined);
     };
-    let owners = match list_owners(alloc, apex, records, config) {
-        Ok(owners) => owners,
+    let chain = match chain_of_zone(alloc, apex, records, config, hasher, &soa) {
+        Ok(chain) => chain,
         Err(error) => return Err(error),
     };
-    let hashed = match chain_of_owners(alloc, config, hasher, apex, owners) {
-        Ok(hashed) => hashed,
-        Err(error) => return Err(SigningError::from(error)),
-    };
     let params = config.params.clone()?;
-    let chain = Nsec3Chain::new(hashed, params, soa.chain_ttl());
-    let nsec3param = param_record(alloc, apex, config, &soa)?;
+    let chain = Nsec3Chain::new(apex, chain, params, soa.chain_ttl());
+    let nsec3param = param_record(apex, config, &soa)?;
     Ok(HashedNsec3s { chain, nsec3param })
+}
+
+/// The records of a chain, and that of its parameters, in octets of their own.
+fn copy_records<O: FromBuilder, N: MakeName>(
+    alloc: Global,
+    hashed: HashedNsec3s<'_, N, O>,
+) -> Result<Nsec3Records<N, O>, OutOfMemory>
+where
+    N: Drop,
+    O: Drop,
+    O::Builder: GrowingBuilder + EmptyBuilder + Drop,
+    ensures nsec3s { IfOk result (λ made.
+        hashed_links_of N.labels made.nsec3s.items ≡ hashed.entry.chain) }
+    ensures param { IfOk result (λ made. as_param_record N.labels made.nsec3param
+        ≡ as_param_record (λ n. n) hashed.entry.nsec3param) }
+{
+    let HashedNsec3s { chain, nsec3param } = hashed;
+    let nsec3s = chain.records(alloc)?;
+    let nsec3param = own_param(alloc, nsec3param)?;
+    Ok(Nsec3Records::new(nsec3s, nsec3param))
 }
 
 /// The NSEC3 chain of a zone, and its NSEC3PARAM record (RFC 5155, section 7.1): one record for
@@ -299,7 +328,5 @@ where
         Ok(hashed) => hashed,
         Err(error) => return Err(error),
     };
-    let HashedNsec3s { chain, nsec3param } = hashed;
-    let nsec3s = chain.records(alloc)?;
-    Ok(Nsec3Records::new(nsec3s, nsec3param))
+    Ok(copy_records(alloc, hashed)?)
 }

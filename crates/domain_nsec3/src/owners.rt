@@ -12,10 +12,10 @@ ghost use Rattle.domain_zone.specs.View.{zone_of};
 ghost use Rattle.domain_nsec3.specs.View.{Answer, config_of};
 
 use crate::GenerateNsec3Config;
-use crate::types::{OwnerKind, owns_ds, types_of};
+use crate::types::{OwnerKind, owns_ds, push_types};
 use domain_base::{ParsedName, ToName};
-use domain_bitmap::RtypeBitmap;
-use domain_octets::{EmptyBuilder, FreezeBuilder, FromBuilder, GrowingBuilder, Octets, Truncate};
+use domain_bitmap::RtypeBitmaps;
+use domain_octets::Octets;
 use domain_rdata::ZoneRecordData;
 use domain_records::{RecordsIter, SigningError};
 use domain_zone::{UnoccludedOwner, UnoccludedOwners, has_unequal_ttls};
@@ -23,9 +23,9 @@ use std::alloc::Global;
 
 /// Names of a chain that own records, and the types of each.
 #[derive(Drop)]
-pub(crate) struct Owners<'a, O: Octets> {
+pub(crate) struct Owners<'a> {
     pub(crate) names: Vec<ParsedName<'a>>,
-    pub(crate) types: Vec<RtypeBitmap<O>>,
+    pub(crate) types: RtypeBitmaps,
 }
 
 /// Whether the owner is a zone cut without DS records.
@@ -44,21 +44,18 @@ fn is_unsigned_cut<O: Octets, N: ToName>(owner: &UnoccludedOwner<'_, O, N>) -> b
 ///
 /// `MultipleTtlValues` where two records of one of them and one type other than RRSIG differ in
 /// TTL; `OutOfMemory`.
-pub(crate) fn list_owners<'a, S, O, N: ToName>(
+pub(crate) fn list_owners<'a, S, R: Octets, O: Octets, N: ToName>(
     alloc: Global,
     apex: &'a N,
-    records: RecordsIter<'a, N, ZoneRecordData<O, N>>,
+    records: RecordsIter<'a, N, ZoneRecordData<R, N>>,
     config: &GenerateNsec3Config<O, S>,
-) -> Result<Owners<'a, O>, SigningError>
-where
-    O: FromBuilder + Drop,
-    O::Builder: GrowingBuilder + EmptyBuilder + Truncate + FreezeBuilder<Frozen = O> + Drop,
+) -> Result<Owners<'a>, SigningError>
     requires { IsInOrder N.labels rtype_of records }
     ensures owners { IfOk result (λ owners. (answer : Answer) → AreOriginalOwners
         (zone_of N.labels records.entry) (N.labels apex.now) (config_of answer config.now)
         (as_entries owners)) }
     ensures paired { IfOk result (λ owners.
-        length owners.names.items ≡ length owners.types.items) }
+        length owners.names.items ≡ length owners.types) }
     ensures even { OnOk result ((answer : Answer) → has_unequal_ttls
         (zone_of N.labels records.entry) (original_owners (zone_of N.labels records.entry)
         (N.labels apex.now) (config_of answer config.now)) ≡ false) }
@@ -71,7 +68,7 @@ where
         & config.opt_out_exclude_owner_names_of_unsigned_delegations;
     let mut owners = UnoccludedOwners::new(apex, records, config.occlude_below_dname);
     let mut names = Vec::new(alloc);
-    let mut types = Vec::new(alloc);
+    let mut types = RtypeBitmaps::new(alloc);
     'owners: while let Some(owner) = owners.next() {
         let is_unsigned_cut = is_unsigned_cut(&owner);
         if excludes & is_unsigned_cut {
@@ -87,8 +84,7 @@ where
             is_apex,
         };
         let assumed = config.assume_dnskeys_will_be_added & is_apex;
-        let listed = types_of(alloc, owner.records.records(), kind, assumed)?;
-        types.push(listed)?;
+        push_types(alloc, &mut types, owner.records.records(), kind, assumed)?;
         names.push(owner.name.as_parsed())?;
     }
     Ok(Owners { names, types })

@@ -1,5 +1,5 @@
 //! The types that NSEC3 records list.
-ghost use Rattle.std.specs.Prelude.{◌≡◌, ◌||◌, ◌&&◌, ◌==◌, ℕ, Bool, [], ◌<◌, map, IfOk, OnOk};
+ghost use Rattle.std.specs.Prelude.{◌≡◌, ◌||◌, ◌&&◌, ◌==◌, ◌∷◌, ◌++◌, ℕ, Bool, [], ◌<◌, map, IfOk, OnOk};
 ghost use Rattle.domain_bitmap.specs.Bitmap.{bitmap_octets};
 ghost use Rattle.domain_bitmap.specs.Builder.{holds};
 ghost use Rattle.domain_base.specs.Types.{ds};
@@ -8,10 +8,8 @@ ghost use Rattle.domain_nsec3.specs.Owners.{is_listed};
 ghost use Rattle.domain_zone.specs.View.{zone_of};
 
 use domain_base::{Rtype, ToName};
-use domain_bitmap::{RtypeBitmap, RtypeBitmapBuilder};
-use domain_octets::{
-    EmptyBuilder, FreezeBuilder, FromBuilder, GrowingBuilder, Octets, OutOfMemory, Truncate,
-};
+use domain_bitmap::{RtypeBitmap, RtypeBitmapBuilder, RtypeBitmaps};
+use domain_octets::{EmptyBuilder, GrowingBuilder, Octets, OutOfMemory, SmallBuilder, SmallOctets};
 use domain_records::SliceRefsOrOwnedIterator;
 use domain_zone::{ZoneRr, add_type, add_types};
 use std::alloc::Global;
@@ -75,20 +73,33 @@ where
 }
 
 /// The types of an owner's NSEC3 record (RFC 5155, section 7.1).
-pub(crate) fn types_of<O, N: ToName>(
+fn types_of<O: Octets, N: ToName>(
     alloc: Global,
     records: SliceRefsOrOwnedIterator<'_, ZoneRr<O, N>>,
     kind: OwnerKind,
     assumed: bool,
-) -> Result<RtypeBitmap<O>, OutOfMemory>
-where
-    O: FromBuilder,
-    O::Builder: GrowingBuilder + EmptyBuilder + Truncate + FreezeBuilder<Frozen = O> + Drop,
+) -> Result<RtypeBitmap<SmallOctets>, OutOfMemory>
     ensures { IfOk result (λ types. types
         ≡ bitmap_octets (is_listed kind.is_unsigned_cut kind.is_apex assumed kind.is_zone_cut
         (zone_of N.labels records.entry))) }
 {
-    let mut types = common_types::<O::Builder>(alloc, kind, assumed)?;
+    let mut types = common_types::<SmallBuilder>(alloc, kind, assumed)?;
     add_types(&mut types, records, kind.is_zone_cut)?;
     Ok(types.finalize())
+}
+
+/// Appends the types of an owner's NSEC3 record.
+pub(crate) fn push_types<O: Octets, N: ToName>(
+    alloc: Global,
+    types: &mut RtypeBitmaps,
+    records: SliceRefsOrOwnedIterator<'_, ZoneRr<O, N>>,
+    kind: OwnerKind,
+    assumed: bool,
+) -> Result<(), OutOfMemory>
+    ensures { OnOk result (types.new ≡ types.old
+        ++ bitmap_octets (is_listed kind.is_unsigned_cut kind.is_apex assumed kind.is_zone_cut
+        (zone_of N.labels records.entry)) ∷ []) }
+{
+    let listed = types_of(alloc, records, kind, assumed)?;
+    types.push(&listed)
 }

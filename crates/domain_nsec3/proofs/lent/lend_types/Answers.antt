@@ -12,4 +12,4 @@ nothing : [] ≡ no_types
 nothing = sym (holds_nothing [] refl) ∙ none_made [] (bitmap_octets (holds [])) refl refl
 
 pub returns : goal.returns
-returns g c = c.in-Ok.ensures.octets ∙ nothing ∙ sym (get_or_past c.args.types.now c.args.place no_types c.if-place-types.false)
+returns c = c.in-Ok.ensures.octets ∙ nothing ∙ sym (get_or_past c.args.types.now c.args.place no_types c.in_default.ensures.none)

@@ -1,4 +1,4 @@
-use Rattle.std.proofs.Common.{◌≡◌, sym, ap, ◌∙◌, subst}
+use Rattle.std.proofs.Common.{sym, subst}
 use Rattle.domain_zone.specs.View.{zone_of}
 use Rattle.domain_nsec3.specs.Chain.{IsHashedChain}
 use Rattle.domain_nsec3.specs.View.{config_of, hashed_links_of}
@@ -13,8 +13,7 @@ returns-clause-chain g c =
     let L = zone_of labels c.args.records in
     let a = labels c.args.apex.now in
     let config = config_of (g.H.Nsec3Hasher.answer c.args.hasher.now) c.args.config.now in
-    let made : hashed_links_of {O = g.row.O.Denot} labels c.new.result.nsec3s.items ≡ c.in-Ok.hashed.chain = ap (λ r. hashed_links_of {O = g.row.O.Denot} labels r.nsec3s.items) c.new.ensures ∙ c.in_ok-nsec3s.ensures in
-    subst (IsHashedChain L a config) (sym made) c.in-Ok.ensures.chain
+    subst (IsHashedChain L a config) (sym c.in_ok-copy_records.ensures.nsec3s) c.in-Ok.ensures.chain
 
 pub returns-clause-ascent : goal.returns-clause-ascent
 returns-clause-ascent g c =
@@ -22,7 +21,7 @@ returns-clause-ascent g c =
     let L = zone_of labels c.args.records in
     let a = labels c.args.apex.now in
     let config = config_of (g.H.Nsec3Hasher.answer c.args.hasher.now) c.args.config.now in
-    owners_ascend L a config (hashed_links_of {O = g.row.O.Denot} labels c.new.result.nsec3s.items) (returns-clause-chain g c)
+    owners_ascend L a config (hashed_links_of {O = g.row.O.Denot} labels c.in_ok-copy_records.field-0.nsec3s.items) (returns-clause-chain g c)
 
 pub returns-clause-denial : goal.returns-clause-denial
 returns-clause-denial g c =
@@ -30,7 +29,7 @@ returns-clause-denial g c =
     let L = zone_of labels c.args.records in
     let a = labels c.args.apex.now in
     let config = config_of (g.H.Nsec3Hasher.answer c.args.hasher.now) c.args.config.now in
-    mirrors_zone L a config (hashed_links_of {O = g.row.O.Denot} labels c.new.result.nsec3s.items) (returns-clause-chain g c)
+    mirrors_zone L a config (hashed_links_of {O = g.row.O.Denot} labels c.in_ok-copy_records.field-0.nsec3s.items) (returns-clause-chain g c)
 
 pub returns-clause-enclosers : goal.returns-clause-enclosers
 returns-clause-enclosers g c =
@@ -38,7 +37,7 @@ returns-clause-enclosers g c =
     let L = zone_of labels c.args.records in
     let a = labels c.args.apex.now in
     let config = config_of (g.H.Nsec3Hasher.answer c.args.hasher.now) c.args.config.now in
-    tells_encloser L a config (hashed_links_of {O = g.row.O.Denot} labels c.new.result.nsec3s.items) (returns-clause-chain g c)
+    tells_encloser L a config (hashed_links_of {O = g.row.O.Denot} labels c.in_ok-copy_records.field-0.nsec3s.items) (returns-clause-chain g c)
 
 pub returns-clause-excluded : goal.returns-clause-excluded
 returns-clause-excluded g c =
@@ -46,7 +45,7 @@ returns-clause-excluded g c =
     let L = zone_of labels c.args.records in
     let a = labels c.args.apex.now in
     let config = config_of (g.H.Nsec3Hasher.answer c.args.hasher.now) c.args.config.now in
-    covers_excluded L a config (hashed_links_of {O = g.row.O.Denot} labels c.new.result.nsec3s.items) (returns-clause-chain g c)
+    covers_excluded L a config (hashed_links_of {O = g.row.O.Denot} labels c.in_ok-copy_records.field-0.nsec3s.items) (returns-clause-chain g c)
 
 pub returns-clause-cuts : goal.returns-clause-cuts
 returns-clause-cuts g c =

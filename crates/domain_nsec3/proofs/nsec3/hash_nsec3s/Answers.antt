@@ -1,88 +1,21 @@
-use Rattle.std.proofs.Common.{◌≡◌, true, sym, ap, ◌∙◌, subst, Some}
-use Rattle.std.specs.Prelude.{All}
-use Rattle.std.specs.List.{list_any}
-use Rattle.std.specs.List.Sorted.{IsStrictlySortedBy}
-use Rattle.domain_base.specs.Order.{canonical_cmp}
-use Rattle.domain_base.specs.Name.{is_at_or_below, same_name}
+use Rattle.std.proofs.Common.{◌≡◌, sym, ap, ◌∙◌, subst}
 use Rattle.domain_zone.specs.Soa.{chain_ttl, soa_of}
-use Rattle.domain_zone.proofs.GroupLemmas.{owners_in_order}
-use Rattle.domain_zone.proofs.SoaLemmas.{soa_owned}
-use Rattle.domain_nsec3.specs.Chain.{IsHashedChain}
-use Rattle.domain_nsec3.specs.Faults.{IsFirstFault}
-use Rattle.domain_nsec3.specs.Owners.{original_owners}
-use Rattle.domain_nsec3.specs.StepView.{common_of, links_in}
 use Rattle.domain_zone.specs.View.{zone_of}
+use Rattle.domain_nsec3.specs.Chain.{IsHashedChain}
+use Rattle.domain_nsec3.specs.StepView.{common_of, links_in}
 use Rattle.domain_nsec3.specs.View.{config_of}
-use Rattle.domain_nsec3.proofs.EntryLemmas.{entries_names}
-use Rattle.domain_nsec3.proofs.FaultLemmas.{apart_hashes}
-use Rattle.domain_nsec3.proofs.OutcomeLemmas.{original_ascend, original_below, apex_original, signing_fault}
 use Rattle.domain_nsec3.proofs.nsec3.hash_nsec3s.Goals as goal
 
-pub chain_of_owners-requires-clause-ascend : goal.chain_of_owners-requires-clause-ascend
-chain_of_owners-requires-clause-ascend g c =
-    let labels = g.N.ToName.labels in
-    let L = zone_of labels c.args.records in
-    let a = labels c.args.apex.now in
-    let answer = g.H.Nsec3Hasher.answer c.args.hasher.now in
-    let config = config_of answer c.args.config.now in
-    let names : c.in-Ok.owners.names.items ≡ original_owners L a config = sym (entries_names c.in-Ok.owners.names.items c.in-Ok.owners.types.items) ∙ (c.in-Ok.ensures.owners answer).names in
-    subst (IsStrictlySortedBy canonical_cmp) (sym names) (original_ascend L a config (owners_in_order labels c.args.records c.requires.in_order))
-
-pub chain_of_owners-requires-clause-in_zone : goal.chain_of_owners-requires-clause-in_zone
-chain_of_owners-requires-clause-in_zone g c =
-    let labels = g.N.ToName.labels in
-    let L = zone_of labels c.args.records in
-    let a = labels c.args.apex.now in
-    let answer = g.H.Nsec3Hasher.answer c.args.hasher.now in
-    let config = config_of answer c.args.config.now in
-    let names : c.in-Ok.owners.names.items ≡ original_owners L a config = sym (entries_names c.in-Ok.owners.names.items c.in-Ok.owners.types.items) ∙ (c.in-Ok.ensures.owners answer).names in
-    subst (All (λ n. is_at_or_below n a ≡ true)) (sym names) (original_below L a config)
-
-pub chain_of_owners-requires-clause-begins : goal.chain_of_owners-requires-clause-begins
-chain_of_owners-requires-clause-begins g c =
-    let labels = g.N.ToName.labels in
-    let L = zone_of labels c.args.records in
-    let a = labels c.args.apex.now in
-    let answer = g.H.Nsec3Hasher.answer c.args.hasher.now in
-    let config = config_of answer c.args.config.now in
-    let soa : soa_of L a ≡ Some c.in-Some.soa = ap (λ rs. soa_of (zone_of labels rs) a) (sym c.records.ensures) ∙ sym c.in-Some.ensures in
-    let names : c.in-Ok.owners.names.items ≡ original_owners L a config = sym (entries_names c.in-Ok.owners.names.items c.in-Ok.owners.types.items) ∙ (c.in-Ok.ensures.owners answer).names in
-    ap (list_any (λ n. same_name n a)) names ∙ apex_original L a config (soa_owned L a c.in-Some.soa soa)
-
-pub returns-in-Err-chain_of_owners-clause-fault : goal.returns-in-Err-chain_of_owners-clause-fault
-returns-in-Err-chain_of_owners-clause-fault g c =
-    let labels = g.N.ToName.labels in
-    let L = zone_of labels c.args.records in
-    let a = labels c.args.apex.now in
-    let answer = g.H.Nsec3Hasher.answer c.args.hasher.now in
-    let config = config_of answer c.args.config.now in
-    let soa : soa_of L a ≡ Some c.in-Some.soa = ap (λ rs. soa_of (zone_of labels rs) a) (sym c.records.ensures) ∙ sym c.in-Some.ensures in
-    let e = c.in-Err-chain_of_owners.error in
-    subst (IsFirstFault L a config) (sym c.from.ensures)
-    (signing_fault L a config e (record { soa = λ n. cc; ttls = c.in-Ok.ensures.even answer }) (c.in-Err-chain_of_owners.ensures.fault L (c.in-Ok.ensures.owners answer)))
+pub chain_of_zone-requires-clause-soa : goal.chain_of_zone-requires-clause-soa
+chain_of_zone-requires-clause-soa g c =
+    ap (λ rs. soa_of (zone_of g.N.ToName.labels rs) (g.N.ToName.labels c.args.apex.now)) (sym c.records.ensures) ∙ sym c.in-Some.ensures
 
 pub returns-clause-chain : goal.returns-clause-chain
 returns-clause-chain g c =
     let labels = g.N.ToName.labels in
     let L = zone_of labels c.args.records in
     let a = labels c.args.apex.now in
-    let answer = g.H.Nsec3Hasher.answer c.args.hasher.now in
-    let config = config_of answer c.args.config.now in
-    let soa : soa_of L a ≡ Some c.in-Some.soa = ap (λ rs. soa_of (zone_of labels rs) a) (sym c.records.ensures) ∙ sym c.in-Some.ensures in
-    let is : c.new-chain.result ≡ links_in labels c.in-Ok-chain_of_owners.hashed (common_of c.args.config.now.params (chain_ttl c.in-Some.soa)) =
-    c.new-chain.ensures ∙ (λ i. links_in labels c.in-Ok-chain_of_owners.hashed (common_of (c.in_ok-params.ensures i) (c.chain_ttl.ensures i))) in
-    subst (IsHashedChain L a config) (sym is) (c.in-Ok-chain_of_owners.ensures.chain L c.in-Some.soa soa (c.in-Ok.ensures.owners answer))
-
-pub returns-clause-faultless : goal.returns-clause-faultless
-returns-clause-faultless g c =
-    let labels = g.N.ToName.labels in
-    let L = zone_of labels c.args.records in
-    let a = labels c.args.apex.now in
-    let answer = g.H.Nsec3Hasher.answer c.args.hasher.now in
-    let config = config_of answer c.args.config.now in
-    let soa : soa_of L a ≡ Some c.in-Some.soa = ap (λ rs. soa_of (zone_of labels rs) a) (sym c.records.ensures) ∙ sym c.in-Some.ensures in
-    record {
-      ready = record { soa = λ n. cc; ttls = c.in-Ok.ensures.even answer };
-      hashed = c.in-Ok-chain_of_owners.ensures.hashed L (c.in-Ok.ensures.owners answer);
-      apart = apart_hashes L a config c.new-chain.result (returns-clause-chain g c);
-    }
+    let config = config_of (g.H.Nsec3Hasher.answer c.args.hasher.now) c.args.config.now in
+    let is : c.new-chain.result ≡ links_in a c.in-Ok.chain (common_of c.args.config.now.params (chain_ttl c.in-Some.soa)) =
+    c.new-chain.ensures ∙ (λ i. links_in a c.in-Ok.chain (common_of (c.in_ok-params.ensures i) (c.chain_ttl.ensures i))) in
+    subst (IsHashedChain L a config) (sym is) c.in-Ok.ensures.chain

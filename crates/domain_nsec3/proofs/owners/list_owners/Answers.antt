@@ -1,4 +1,5 @@
-use Rattle.std.proofs.Common.{◌≡◌, ◌∙◌, ◌&&◌, ◌++◌, ◌∷◌, [], true, false, not, sym, ap, map, subst, inr, refl, Err}
+use Rattle.std.proofs.Common.{◌≡◌, Bool, ◌∙◌, ◌&&◌, ◌++◌, ◌∷◌, [], true, false, not, sym, ap, map, subst, inr, refl, Err}
+use Rattle.domain_octets.specs.Words.{Octets}
 use Rattle.domain_bitmap.specs.Bitmap.{bitmap_octets}
 use Rattle.domain_zone.specs.Owners.{OwnerRecords}
 use Rattle.domain_zone.specs.OwnerView.{as_owner_records}
@@ -18,7 +19,7 @@ owners-init g c =
     let labels = g.N.ToName.labels in
     let L = zone_of labels c.args.records in
     let a = labels c.args.apex.now in
-    rw (c.new-names.ensures.items, c.new-types.ensures.items) (record {
+    rw (c.new-names.ensures.items, c.new-types.ensures) (record {
       at = λ answer.
           let config = config_of answer c.args.config.now in
           subst (λ left. IsAt L a config left []) (sym c.new-owners.ensures) (at_start L a config);
@@ -33,7 +34,7 @@ owners-preserved-then-excludes-is_unsigned_cut g c = record {
       let a = labels c.args.apex.now in
       let config = config_of answer c.args.config.now in
       let o : OwnerRecords = as_owner_records labels c.in-Some.owner in
-      let entries = entries_of c.owners.names.items c.owners.types.items in
+      let entries = entries_of c.owners.names.items c.owners.types in
       let at = subst (λ left. IsAt L a config left entries) c.in-Some.ensures.steps (c.owners.invariant.at answer) in
       let out : stays config o ≡ false = ap not (sym (λ i. (c.opt_out_flag.ensures i && config.exclude_unsigned) && c.is_unsigned_cut-is_unsigned_cut.ensures i) ∙ c.if-excludes-is_unsigned_cut.true) in
       at_excluded L a config o c.next.new.self entries at out;
@@ -48,7 +49,7 @@ has_unequal_ttls-requires g c =
     let answer : Answer = λ octets algorithm iterations salt. Err 0 in
     let config = config_of answer c.args.config.now in
     let o : OwnerRecords = as_owner_records labels c.in-Some.owner in
-    let entries = entries_of c.owners.names.items c.owners.types.items in
+    let entries = entries_of c.owners.names.items c.owners.types in
     let at = subst (λ left. IsAt L a config left entries) c.in-Some.ensures.steps (c.owners.invariant.at answer) in
     let known = at_known L a config o c.next.new.self entries at in
     raw_types labels c.records.result
@@ -65,7 +66,7 @@ returns-then-has_unequal_ttls-clause-fault g c =
           let a = labels c.args.apex.now in
           let config = config_of answer c.args.config.now in
           let o : OwnerRecords = as_owner_records labels c.in-Some.owner in
-          let entries = entries_of c.owners.names.items c.owners.types.items in
+          let entries = entries_of c.owners.names.items c.owners.types in
           let at = subst (λ left. IsAt L a config left entries) c.in-Some.ensures.steps (c.owners.invariant.at answer) in
           let kept : stays config o ≡ true = ap not (sym (λ i. (c.opt_out_flag.ensures i && config.exclude_unsigned) && c.is_unsigned_cut-is_unsigned_cut.ensures i) ∙ c.if-excludes-is_unsigned_cut.false) in
           at_fault L a config o c.next.new.self entries at kept
@@ -78,19 +79,21 @@ owners-preserved g c =
     let L = zone_of labels c.args.records in
     let a = labels c.args.apex.now in
     let paired = c.owners.invariant.paired in
+    let assume : Bool = c.args.config.now.assume_dnskeys_will_be_added in
+    let is_apex : Bool = c.name_eq-is_apex.result in
+    let listed : Octets = bitmap_octets (is_listed c.is_unsigned_cut-is_unsigned_cut.result is_apex (assume && is_apex) c.in-Some.owner.is_zone_cut (zone_of labels c.records-in-Some.result)) in
     record {
       at = λ answer.
           let config = config_of answer c.args.config.now in
           let o : OwnerRecords = as_owner_records labels c.in-Some.owner in
-          let entries = entries_of c.owners.names.items c.owners.types.items in
+          let entries = entries_of c.owners.names.items c.owners.types in
           let at = subst (λ left. IsAt L a config left entries) c.in-Some.ensures.steps (c.owners.invariant.at answer) in
           let kept : stays config o ≡ true = ap not (sym (λ i. (c.opt_out_flag.ensures i && config.exclude_unsigned) && c.is_unsigned_cut-is_unsigned_cut.ensures i) ∙ c.if-excludes-is_unsigned_cut.false) in
-          at_owner L a config o c.next.new.self entries at c.in_ok-listed.listed (entries_of c.push-in-Some.new.self.items c.push.new.self.items) kept
+          at_owner L a config o c.next.new.self entries at listed (entries_of c.push.new.self.items c.push_types.new.types) kept
           (ap (λ rs. has_clash (zone_of labels rs)) (sym c.records.ensures) ∙ sym c.has_unequal_ttls.ensures ∙ c.if-has_unequal_ttls.false)
-          (c.in_ok-listed.ensures
-          ∙ (λ i. bitmap_octets (is_listed (c.is_unsigned_cut-is_unsigned_cut.ensures i) (c.name_eq-is_apex.ensures.value i) (config.assume_dnskeys_will_be_added && c.name_eq-is_apex.ensures.value i) c.in-Some.owner.is_zone_cut (zone_of labels (c.records-in-Some.ensures i)))))
-          ((λ i. entries_of (c.in_ok-push-2.ensures.items i) (c.in_ok-push.ensures.items i)) ∙ entries_push c.owners.names.items c.owners.types.items c.as_parsed.result c.in_ok-listed.listed paired ∙ (λ i. entries ++ record { name = c.as_parsed.ensures i; bits = c.in_ok-listed.listed } ∷ []));
-      paired = paired_push c.owners.names.items c.push-in-Some.new.self.items c.owners.types.items c.push.new.self.items c.as_parsed.result c.in_ok-listed.listed c.in_ok-push-2.ensures.items c.in_ok-push.ensures.items paired;
+          (λ i. bitmap_octets (is_listed (c.is_unsigned_cut-is_unsigned_cut.ensures i) (c.name_eq-is_apex.ensures.value i) (assume && c.name_eq-is_apex.ensures.value i) c.in-Some.owner.is_zone_cut (zone_of labels (c.records-in-Some.ensures i))))
+          ((λ i. entries_of (c.in_ok-push.ensures.items i) (c.in_ok-push_types.ensures i)) ∙ entries_push c.owners.names.items c.owners.types c.as_parsed.result listed paired ∙ (λ i. entries ++ record { name = c.as_parsed.ensures i; bits = listed } ∷ []));
+      paired = paired_push c.owners.names.items c.push.new.self.items c.owners.types c.push_types.new.types c.as_parsed.result listed c.in_ok-push.ensures.items c.in_ok-push_types.ensures paired;
     }
 
 pub returns-clause-owners : goal.returns-clause-owners
@@ -99,7 +102,7 @@ returns-clause-owners g c = λ answer.
     let L = zone_of labels c.args.records in
     let a = labels c.args.apex.now in
     let config = config_of answer c.args.config.now in
-    let entries = entries_of c.owners.names.items c.owners.types.items in
+    let entries = entries_of c.owners.names.items c.owners.types in
     at_end L a config entries (subst (λ left. IsAt L a config left entries) c.in_default.ensures.steps.0 (c.owners.invariant.at answer))
 
 pub returns-clause-even : goal.returns-clause-even
@@ -108,5 +111,5 @@ returns-clause-even g c = λ answer.
     let L = zone_of labels c.args.records in
     let a = labels c.args.apex.now in
     let config = config_of answer c.args.config.now in
-    let entries = entries_of c.owners.names.items c.owners.types.items in
+    let entries = entries_of c.owners.names.items c.owners.types in
     even_end L a config entries (subst (λ left. IsAt L a config left entries) c.in_default.ensures.steps.0 (c.owners.invariant.at answer))
