@@ -4,9 +4,9 @@ ghost use Rattle.domain_nsec3.specs.View.{as_param_record, config_of};
 ghost use Rattle.domain_dnssec.specs.AnyOrderNsec3.{HasNoHashedChain, HasNoSortedHashedChain, IsHashedChainOf, IsSortedHashedChain};
 
 use crate::chain::ChainError;
-use domain_base::MakeName;
+use domain_base::ToName;
 use domain_nsec3::{GenerateNsec3Config, HashedNsec3s, hash_nsec3s};
-use domain_octets::{EmptyBuilder, FreezeBuilder, FromBuilder, GrowingBuilder, Truncate};
+use domain_octets::Octets;
 use domain_plain::Record;
 use domain_rdata::ZoneRecordData;
 use domain_records::{SigningError, SortedRecords, Sorter};
@@ -14,26 +14,33 @@ use domain_zone::Nsec3Hasher;
 use std::alloc::Global;
 
 /// The NSEC3 chain of the zone that sorted records are, with its NSEC3PARAM record, as
-/// `hash_nsec3s` makes them: the chain makes its records one by one.
+/// `hash_nsec3s` makes them: the chain makes its records one by one, and borrows nothing from the
+/// sorted records.
 ///
 /// # Errors
 ///
 /// The first that stands: `MixedClasses` where the records are not of one class; `Signing` with the
 /// first fault of the zone; and `OutOfMemory`.
-pub fn hash_nsec3s_of_sorted<R: Sorter, S: Sorter, H: Nsec3Hasher, O, N: MakeName>(
+pub fn hash_nsec3s_of_sorted<
+    'a,
+    T: Sorter,
+    S: Sorter,
+    H: Nsec3Hasher,
+    R: Octets,
+    O: Octets,
+    N: ToName,
+>(
     alloc: Global,
-    apex: &N,
-    records: &SortedRecords<N, ZoneRecordData<O, N>, R>,
+    apex: &'a N,
+    records: &SortedRecords<N, ZoneRecordData<R, N>, T>,
     config: &GenerateNsec3Config<O, S>,
     hasher: &H,
-) -> Result<HashedNsec3s<N, O>, ChainError>
+) -> Result<HashedNsec3s<'a, N, O>, ChainError>
 where
-    N: Drop,
-    O: FromBuilder + Drop,
-    O::Builder: GrowingBuilder + EmptyBuilder + Truncate + FreezeBuilder<Frozen = O> + Drop,
+    O: Drop,
     ensures ok { IfOk result (λ made. IsSortedHashedChain N.labels records.now (N.labels apex.now)
         (config_of (H.answer hasher.now) config.now) config.now.nsec3param_ttl_mode
-        made.chain (as_param_record N.labels made.nsec3param)) }
+        made.chain (as_param_record (λ n. n) made.nsec3param)) }
     ensures err { IfErr result (HasNoSortedHashedChain N.labels records.now (N.labels apex.now)
         (config_of (H.answer hasher.now) config.now)) }
 {
@@ -50,31 +57,31 @@ where
 
 /// The NSEC3 chain of the zone that records in any order are, with its NSEC3PARAM record: they are
 /// sorted, and of equal records the earliest is kept. The chain makes its records one by one, and
-/// when it is given back the records of the zone are gone.
+/// when it is given back the records of the zone are gone: it borrows the apex alone.
 ///
 /// # Errors
 ///
 /// The first that stands: `MixedClasses` where the records are not of one class; `Signing` with the
 /// first fault of the zone; and `OutOfMemory`.
-pub fn hash_nsec3s_of_records<S: Sorter, H: Nsec3Hasher, O, N: MakeName>(
+pub fn hash_nsec3s_of_records<'a, S: Sorter, H: Nsec3Hasher, R: Octets, O: Octets, N: ToName>(
     alloc: Global,
-    apex: &N,
-    records: Vec<Record<N, ZoneRecordData<O, N>>>,
+    apex: &'a N,
+    records: Vec<Record<N, ZoneRecordData<R, N>>>,
     config: &GenerateNsec3Config<O, S>,
     hasher: &H,
-) -> Result<HashedNsec3s<N, O>, ChainError>
+) -> Result<HashedNsec3s<'a, N, O>, ChainError>
 where
     N: Drop,
-    O: FromBuilder + Drop,
-    O::Builder: GrowingBuilder + EmptyBuilder + Truncate + FreezeBuilder<Frozen = O> + Drop,
-    ensures ok { IfOk result (λ made. IsHashedChainOf O.octets N.labels records.items
+    R: Drop,
+    O: Drop,
+    ensures ok { IfOk result (λ made. IsHashedChainOf R.octets N.labels records.items
         (N.labels apex.now) (config_of (H.answer hasher.now) config.now)
         config.now.nsec3param_ttl_mode made.chain
-        (as_param_record N.labels made.nsec3param)) }
-    ensures err { IfErr result (HasNoHashedChain O.octets N.labels records.items
+        (as_param_record (λ n. n) made.nsec3param)) }
+    ensures err { IfErr result (HasNoHashedChain R.octets N.labels records.items
         (N.labels apex.now) (config_of (H.answer hasher.now) config.now)) }
 {
-    let sorted: SortedRecords<N, ZoneRecordData<O, N>> = match SortedRecords::from_vec(records) {
+    let sorted: SortedRecords<N, ZoneRecordData<R, N>> = match SortedRecords::from_vec(records) {
         Ok(sorted) => sorted,
         Err(_) => return Err(ChainError::OutOfMemory),
     };
