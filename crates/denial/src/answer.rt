@@ -33,13 +33,13 @@ pub type Nsec3Rr = Record<ZoneName, Nsec3<ZoneOctets>>;
 /// The records of a zone, sorted.
 type SortedZone = SortedRecords<ZoneName, ZoneRecordData<ZoneOctets, ZoneName>>;
 
-/// What a run answers. An NSEC chain borrows from the records of its zone.
+/// What a run answers. An NSEC chain borrows from the records of its zone, an NSEC3 chain its apex.
 #[derive(Drop)]
 pub enum Answer<'a> {
     /// An NSEC chain before its records are made.
     Nsecs(NsecChain<'a, ZoneName>),
     /// An NSEC3 chain before its records are made, and the record of its parameters.
-    Nsec3s(HashedNsec3s<ZoneName, ZoneOctets>),
+    Nsec3s(HashedNsec3s<'a, ZoneName, ZoneOctets>),
     /// What records prove of a name.
     Verdict(ZoneName, Verdict),
 }
@@ -73,22 +73,22 @@ fn nsecs_of<'a>(
     }
 }
 
-/// The NSEC3 chain of the zone that the records are.
+/// The NSEC3 chain of the zone that the records are. It borrows the apex.
 fn nsec3s_of<'a, H: Nsec3Hasher>(
     alloc: Global,
-    apex: ZoneName,
+    apex: &'a ZoneName,
     parameters: Nsec3Params,
     records: Vec<ZoneRr>,
     hasher: &H,
 ) -> Result<Answer<'a>, DenialFault>
-    ensures ok { IfOk result (IsNsec3s (H.answer hasher.now) records.items apex parameters) }
+    ensures ok { IfOk result (IsNsec3s (H.answer hasher.now) records.items apex.now parameters) }
     ensures err { IfErr result
-        (HasNoNsec3s (H.answer hasher.now) records.items apex parameters) }
+        (HasNoNsec3s (H.answer hasher.now) records.items apex.now parameters) }
 {
     let config: GenerateNsec3Config<ZoneOctets, DefaultSorter> = GenerateNsec3Config::new(
         parameters,
     );
-    match hash_nsec3s_of_records(alloc, &apex, records, &config, hasher) {
+    match hash_nsec3s_of_records(alloc, apex, records, &config, hasher) {
         Ok(made) => Ok(Answer::Nsec3s(made)),
         Err(error) => Err(DenialFault::from(error)),
     }
@@ -111,7 +111,10 @@ fn write_nsecs<W: Write>(chain: &NsecChain<'_, ZoneName>, output: &mut W) -> io:
 
 /// Writes the records of an NSEC3 chain, one a line. They borrow from the chain, so that this takes
 /// no memory.
-fn write_chain<W: Write>(chain: &Nsec3Chain<ZoneName, ZoneOctets>, output: &mut W) -> io::Result<()>
+fn write_chain<W: Write>(
+    chain: &Nsec3Chain<'_, ZoneName, ZoneOctets>,
+    output: &mut W,
+) -> io::Result<()>
     ensures { OnOk result (Appends (W.contents output.old) (W.contents output.new)
         (lines_of nsec3_line chain.now)) }
 {
@@ -126,7 +129,7 @@ fn write_chain<W: Write>(chain: &Nsec3Chain<ZoneName, ZoneOctets>, output: &mut 
 
 /// Writes the records of an NSEC3 chain, and the record of its parameters.
 fn write_nsec3s<W: Write>(
-    made: &HashedNsec3s<ZoneName, ZoneOctets>,
+    made: &HashedNsec3s<'_, ZoneName, ZoneOctets>,
     output: &mut W,
 ) -> io::Result<()>
     ensures { OnOk result (Appends (W.contents output.old) (W.contents output.new)
@@ -185,6 +188,27 @@ fn write_nsecs_of<W: Write>(
     answer.send(output)
 }
 
+/// Writes the NSEC3 chain of the zone that the records are, and the record of its parameters.
+fn write_nsec3s_of<W: Write, H: Nsec3Hasher>(
+    alloc: Global,
+    apex: ZoneName,
+    parameters: Nsec3Params,
+    records: Vec<ZoneRr>,
+    hasher: &H,
+    output: &mut W,
+) -> Result<(), DenialFault>
+    ensures ok { OnOk result (IsWritten
+        (IsNsec3s (H.answer hasher.now) records.items apex parameters)
+        (W.contents output.old) (W.contents output.new)) }
+    ensures err { IfErr result (IsUnwritten
+        (IsNsec3s (H.answer hasher.now) records.items apex parameters)
+        (HasNoNsec3s (H.answer hasher.now) records.items apex parameters)) }
+    ensures untouched { IfErr result (λ e. IsBeforeOutput e → output.new ≡ output.old) }
+{
+    let answer = nsec3s_of(alloc, &apex, parameters, records, hasher)?;
+    answer.send(output)
+}
+
 /// Writes what a command asks of the records.
 ///
 /// # Errors
@@ -209,8 +233,7 @@ pub fn write_answer<W: Write, H: Nsec3Hasher>(
     match command {
         Command::Nsec(apex) => write_nsecs_of(alloc, apex, records, output),
         Command::Nsec3(apex, parameters) => {
-            let answer = nsec3s_of(alloc, apex, parameters, records, hasher)?;
-            answer.send(output)
+            write_nsec3s_of(alloc, apex, parameters, records, hasher, output)
         }
         Command::CheckNsec(question) => {
             let answer = nsec_verdict(alloc, question, records)?;

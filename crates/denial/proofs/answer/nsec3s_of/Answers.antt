@@ -13,9 +13,9 @@ returns-in-Ok-clause-ok g c =
     record {
       made = c.in-Ok.made;
       is = refl;
-      chain = subst (λ mode. IsHashedChainOf (λ o. o) (λ n. n) c.args.records.items c.args.apex (usual_nsec3_config answers c.args.parameters) mode links param)
+      chain = subst (λ mode. IsHashedChainOf (λ o. o) (λ n. n) c.args.records.items c.args.apex.now (usual_nsec3_config answers c.args.parameters) mode links param)
           c.new-config.ensures.mode
-          (subst (λ config. IsHashedChainOf (λ o. o) (λ n. n) c.args.records.items c.args.apex config c.new-config.result.nsec3param_ttl_mode links param)
+          (subst (λ config. IsHashedChainOf (λ o. o) (λ n. n) c.args.records.items c.args.apex.now config c.new-config.result.nsec3param_ttl_mode links param)
           (usual_is answers c.new-config.result c.args.parameters c.new-config.ensures.params c.new-config.ensures.dnskeys c.new-config.ensures.excludes c.new-config.ensures.dnames)
           c.in-Ok.ensures.ok);
     }
