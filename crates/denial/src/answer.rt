@@ -11,11 +11,14 @@ ghost use Rattle.denial.specs.declared.fault.DenialFault.TheVariants.{OutOfMemor
 use crate::check::{nsec_verdict, nsec3_verdict};
 use crate::command::{Command, Nsec3Params};
 use crate::fault::{DenialFault, fault_of};
-use crate::line::{ZoneName, ZoneOctets, ZoneRr};
+use crate::arena::{StoredData, StoredOctets, StoredRr, store_name};
+use bumpalo::Bump;
+use crate::line::{ZoneName, ZoneOctets};
+use domain_base::ParsedName;
 use crate::verdict_text::VerdictText;
 use domain_dnssec::{
     DefaultSorter, GenerateNsec3Config, GenerateNsecConfig, HashedNsec3s, Nsec3Chain, Nsec3Hasher,
-    NsecChain, SortedRecords, Verdict, ZoneRecordData, hash_nsec3s_of_records,
+    NsecChain, SortedRecords, Verdict, hash_nsec3s_of_records,
     lend_nsecs_of_sorted,
 };
 use domain_plain::Record;
@@ -25,28 +28,28 @@ use std::io;
 use std::io::Write;
 
 /// A record of an NSEC chain.
-pub type NsecRr = Record<ZoneName, Nsec<ZoneOctets, ZoneName>>;
+pub type NsecRr<'a> = Record<ParsedName<'a>, Nsec<StoredOctets<'a>, ParsedName<'a>>>;
 
 /// A record of an NSEC3 chain.
-pub type Nsec3Rr = Record<ZoneName, Nsec3<ZoneOctets>>;
+pub type Nsec3Rr<'a> = Record<ParsedName<'a>, Nsec3<StoredOctets<'a>>>;
 
 /// The records of a zone, sorted.
-type SortedZone = SortedRecords<ZoneName, ZoneRecordData<ZoneOctets, ZoneName>>;
+type SortedZone<'a> = SortedRecords<ParsedName<'a>, StoredData<'a>>;
 
 /// What a run answers. An NSEC chain borrows from the records of its zone, an NSEC3 chain its apex.
 #[derive(Drop)]
-pub enum Answer<'a> {
+pub enum Answer<'s, 'a> {
     /// An NSEC chain before its records are made.
-    Nsecs(NsecChain<'a, ZoneName>),
+    Nsecs(NsecChain<'s, ParsedName<'a>>),
     /// An NSEC3 chain before its records are made, and the record of its parameters.
-    Nsec3s(HashedNsec3s<'a, ZoneName, ZoneOctets>),
+    Nsec3s(HashedNsec3s<'s, ParsedName<'a>, ZoneOctets>),
     /// What records prove of a name.
     Verdict(ZoneName, Verdict),
 }
 
 /// The records, sorted.
-fn sort_zone(records: Vec<ZoneRr>) -> Result<SortedZone, DenialFault>
-    ensures ok { IfOk result (Sorts (λ o. o) (λ n. n) records.items) }
+fn sort_zone<'a>(records: Vec<StoredRr<'a>>) -> Result<SortedZone<'a>, DenialFault>
+    ensures ok { IfOk result (Sorts (λ o. o) (λ n. n) records.entry.items) }
     ensures err { IfErr result (λ e. e ≡ OutOfMemory) }
 {
     match SortedRecords::from_vec(records) {
@@ -56,11 +59,11 @@ fn sort_zone(records: Vec<ZoneRr>) -> Result<SortedZone, DenialFault>
 }
 
 /// The NSEC chain of the zone that the records are, from which it borrows.
-fn nsecs_of<'a>(
+fn nsecs_of<'s, 'a>(
     alloc: Global,
-    apex: &'a ZoneName,
-    sorted: &'a SortedZone,
-) -> Result<Answer<'a>, DenialFault>
+    apex: &'s ParsedName<'a>,
+    sorted: &'s SortedZone<'a>,
+) -> Result<Answer<'s, 'a>, DenialFault>
     ensures ok { IfOk result (λ answer. (given : List ProgramRecord)
         → Sorts (λ o. o) (λ n. n) given sorted.now → IsNsecs given apex.now answer) }
     ensures err { IfErr result (λ fault. (given : List ProgramRecord)
@@ -74,16 +77,16 @@ fn nsecs_of<'a>(
 }
 
 /// The NSEC3 chain of the zone that the records are. It borrows the apex.
-fn nsec3s_of<'a, H: Nsec3Hasher>(
+fn nsec3s_of<'s, 'a, H: Nsec3Hasher>(
     alloc: Global,
-    apex: &'a ZoneName,
+    apex: &'s ParsedName<'a>,
     parameters: Nsec3Params,
-    records: Vec<ZoneRr>,
+    records: Vec<StoredRr<'a>>,
     hasher: &H,
-) -> Result<Answer<'a>, DenialFault>
-    ensures ok { IfOk result (IsNsec3s (H.answer hasher.now) records.items apex.now parameters) }
+) -> Result<Answer<'s, 'a>, DenialFault>
+    ensures ok { IfOk result (IsNsec3s (H.answer hasher.now) records.entry.items apex.now parameters) }
     ensures err { IfErr result
-        (HasNoNsec3s (H.answer hasher.now) records.items apex.now parameters) }
+        (HasNoNsec3s (H.answer hasher.now) records.entry.items apex.now parameters) }
 {
     let config: GenerateNsec3Config<ZoneOctets, DefaultSorter> = GenerateNsec3Config::new(
         parameters,
@@ -96,7 +99,7 @@ fn nsec3s_of<'a, H: Nsec3Hasher>(
 
 /// Writes the records of an NSEC chain, one a line. They borrow from the chain, so that this takes
 /// no memory.
-fn write_nsecs<W: Write>(chain: &NsecChain<'_, ZoneName>, output: &mut W) -> io::Result<()>
+fn write_nsecs<W: Write>(chain: &NsecChain<'_, ParsedName<'_>>, output: &mut W) -> io::Result<()>
     ensures { OnOk result (Appends (W.contents output.old) (W.contents output.new)
         (lines_of nsec_line chain.now)) }
 {
@@ -111,10 +114,7 @@ fn write_nsecs<W: Write>(chain: &NsecChain<'_, ZoneName>, output: &mut W) -> io:
 
 /// Writes the records of an NSEC3 chain, one a line. They borrow from the chain, so that this takes
 /// no memory.
-fn write_chain<W: Write>(
-    chain: &Nsec3Chain<'_, ZoneName, ZoneOctets>,
-    output: &mut W,
-) -> io::Result<()>
+fn write_chain<W: Write>(chain: &Nsec3Chain<'_, ParsedName<'_>, ZoneOctets>, output: &mut W) -> io::Result<()>
     ensures { OnOk result (Appends (W.contents output.old) (W.contents output.new)
         (lines_of nsec3_line chain.now)) }
 {
@@ -129,7 +129,7 @@ fn write_chain<W: Write>(
 
 /// Writes the records of an NSEC3 chain, and the record of its parameters.
 fn write_nsec3s<W: Write>(
-    made: &HashedNsec3s<'_, ZoneName, ZoneOctets>,
+    made: &HashedNsec3s<'_, ParsedName<'_>, ZoneOctets>,
     output: &mut W,
 ) -> io::Result<()>
     ensures { OnOk result (Appends (W.contents output.old) (W.contents output.new)
@@ -140,7 +140,7 @@ fn write_nsec3s<W: Write>(
     Ok(())
 }
 
-impl<'a> Answer<'a> {
+impl<'s, 'a> Answer<'s, 'a> {
     /// Writes the answer, and hands it on to the device.
     fn write<W: Write>(&self, output: &mut W) -> io::Result<()>
         ensures { OnOk result
@@ -171,40 +171,44 @@ impl<'a> Answer<'a> {
 
 /// Writes the NSEC chain of the zone that the records are. They are sorted first, and the chain
 /// borrows from them.
-fn write_nsecs_of<W: Write>(
+fn write_nsecs_of<'a, W: Write>(
     alloc: Global,
-    apex: ZoneName,
-    records: Vec<ZoneRr>,
+    arena: &'a Bump,
+    apex: &ZoneName,
+    records: Vec<StoredRr<'a>>,
     output: &mut W,
 ) -> Result<(), DenialFault>
-    ensures ok { OnOk result (IsWritten (IsNsecs records.items apex)
+    ensures ok { OnOk result (IsWritten (IsNsecs records.entry.items apex.now)
         (W.contents output.old) (W.contents output.new)) }
     ensures err { IfErr result
-        (IsUnwritten (IsNsecs records.items apex) (HasNoNsecs records.items apex)) }
+        (IsUnwritten (IsNsecs records.entry.items apex.now) (HasNoNsecs records.entry.items apex.now)) }
     ensures untouched { IfErr result (λ e. IsBeforeOutput e → output.new ≡ output.old) }
 {
+    let apex = store_name(arena, apex)?;
     let sorted = sort_zone(records)?;
     let answer = nsecs_of(alloc, &apex, &sorted)?;
     answer.send(output)
 }
 
-/// Writes the NSEC3 chain of the zone that the records are, and the record of its parameters.
-fn write_nsec3s_of<W: Write, H: Nsec3Hasher>(
+/// Writes the NSEC3 chain of the zone that the records are. They are sorted first.
+fn write_nsec3s_of<'a, W: Write, H: Nsec3Hasher>(
     alloc: Global,
-    apex: ZoneName,
+    arena: &'a Bump,
+    apex: &ZoneName,
     parameters: Nsec3Params,
-    records: Vec<ZoneRr>,
+    records: Vec<StoredRr<'a>>,
     hasher: &H,
     output: &mut W,
 ) -> Result<(), DenialFault>
-    ensures ok { OnOk result (IsWritten
-        (IsNsec3s (H.answer hasher.now) records.items apex parameters)
+    ensures ok { OnOk result
+        (IsWritten (IsNsec3s (H.answer hasher.now) records.entry.items apex.now parameters)
         (W.contents output.old) (W.contents output.new)) }
-    ensures err { IfErr result (IsUnwritten
-        (IsNsec3s (H.answer hasher.now) records.items apex parameters)
-        (HasNoNsec3s (H.answer hasher.now) records.items apex parameters)) }
+    ensures err { IfErr result
+        (IsUnwritten (IsNsec3s (H.answer hasher.now) records.entry.items apex.now parameters)
+        (HasNoNsec3s (H.answer hasher.now) records.entry.items apex.now parameters)) }
     ensures untouched { IfErr result (λ e. IsBeforeOutput e → output.new ≡ output.old) }
 {
+    let apex = store_name(arena, apex)?;
     let answer = nsec3s_of(alloc, &apex, parameters, records, hasher)?;
     answer.send(output)
 }
@@ -217,30 +221,31 @@ fn write_nsec3s_of<W: Write, H: Nsec3Hasher>(
 /// verdict of NSEC3 records `Param` where the apex has not exactly one NSEC3PARAM record, and
 /// `Signing` where the hasher refuses; `Write` where the output could not be written; and
 /// `OutOfMemory`. Nothing is written before `Write`.
-pub fn write_answer<W: Write, H: Nsec3Hasher>(
+pub fn write_answer<'a, W: Write, H: Nsec3Hasher>(
     alloc: Global,
+    arena: &'a Bump,
     command: Command,
-    records: Vec<ZoneRr>,
+    records: Vec<StoredRr<'a>>,
     hasher: &H,
     output: &mut W,
 ) -> Result<(), DenialFault>
-    ensures ok { OnOk result (IsWritten (IsAnswer (H.answer hasher.now) command records.items)
+    ensures ok { OnOk result (IsWritten (IsAnswer (H.answer hasher.now) command records.entry.items)
         (W.contents output.old) (W.contents output.new)) }
-    ensures err { IfErr result (IsUnwritten (IsAnswer (H.answer hasher.now) command records.items)
-        (HasNoAnswer (H.answer hasher.now) command records.items)) }
+    ensures err { IfErr result (IsUnwritten (IsAnswer (H.answer hasher.now) command records.entry.items)
+        (HasNoAnswer (H.answer hasher.now) command records.entry.items)) }
     ensures untouched { IfErr result (λ e. IsBeforeOutput e → output.new ≡ output.old) }
 {
     match command {
-        Command::Nsec(apex) => write_nsecs_of(alloc, apex, records, output),
+        Command::Nsec(apex) => write_nsecs_of(alloc, arena, &apex, records, output),
         Command::Nsec3(apex, parameters) => {
-            write_nsec3s_of(alloc, apex, parameters, records, hasher, output)
+            write_nsec3s_of(alloc, arena, &apex, parameters, records, hasher, output)
         }
         Command::CheckNsec(question) => {
             let answer = nsec_verdict(alloc, question, records)?;
             answer.send(output)
         }
         Command::CheckNsec3(question) => {
-            let answer = nsec3_verdict(alloc, question, records, hasher)?;
+            let answer = nsec3_verdict(alloc, arena, question, records, hasher)?;
             answer.send(output)
         }
     }

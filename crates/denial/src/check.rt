@@ -4,20 +4,28 @@ ghost use Rattle.denial.specs.Check.{HasNoNsec3Verdict, IsNsec3Verdict, IsNsecVe
 ghost use Rattle.denial.specs.declared.fault.DenialFault.TheVariants.{OutOfMemory as Memory};
 
 use crate::answer::{Answer, Nsec3Rr, NsecRr};
-use crate::command::{Nsec3Params, Question};
+use crate::arena::{StoredOctets, StoredRr, store_name};
+use bumpalo::Bump;
+use crate::command::Question;
 use crate::fault::DenialFault;
-use crate::line::{ZoneName, ZoneOctets, ZoneRr};
-use domain_base::ToName;
+use crate::line::ZoneName;
+use domain_base::{ParsedName, ToName};
 use domain_dnssec::{Nsec3Hasher, Nsec3Records, Verdict, check_nsec, check_nsec3};
-use domain_octets::OutOfMemory;
+use domain_octets::{OutOfMemory, TryClone};
 use domain_plain::Record;
-use domain_rdata::ZoneRecordData;
+use domain_rdata::{Nsec3param, ZoneRecordData};
 use domain_records::{Nsec3HashError, SigningError};
 use std::alloc::Global;
 
+/// An NSEC3PARAM record in an arena.
+type ParamRr<'a> = Record<ParsedName<'a>, Nsec3param<StoredOctets<'a>>>;
+
 /// The NSEC records among these, in their order.
-fn nsecs_among(alloc: Global, records: Vec<ZoneRr>) -> Result<Vec<NsecRr>, OutOfMemory>
-    ensures { IfOk result (λ nsecs. nsecs.items ≡ nsecs_among records.items) }
+fn nsecs_among<'a>(
+    alloc: Global,
+    records: Vec<StoredRr<'a>>,
+) -> Result<Vec<NsecRr<'a>>, OutOfMemory>
+    ensures { IfOk result (λ nsecs. nsecs.items ≡ nsecs_among records.entry.items) }
 {
     let mut nsecs = Vec::new(alloc);
     let mut left = records.into_iter();
@@ -31,8 +39,11 @@ fn nsecs_among(alloc: Global, records: Vec<ZoneRr>) -> Result<Vec<NsecRr>, OutOf
 }
 
 /// The NSEC3 records among these, in their order.
-fn nsec3s_among(alloc: Global, records: Vec<ZoneRr>) -> Result<Vec<Nsec3Rr>, OutOfMemory>
-    ensures { IfOk result (λ nsec3s. nsec3s.items ≡ nsec3s_among records.items) }
+fn nsec3s_among<'a>(
+    alloc: Global,
+    records: Vec<StoredRr<'a>>,
+) -> Result<Vec<Nsec3Rr<'a>>, OutOfMemory>
+    ensures { IfOk result (λ nsec3s. nsec3s.items ≡ nsec3s_among records.entry.items) }
 {
     let mut nsec3s = Vec::new(alloc);
     let mut left = records.into_iter();
@@ -46,11 +57,11 @@ fn nsec3s_among(alloc: Global, records: Vec<ZoneRr>) -> Result<Vec<Nsec3Rr>, Out
 }
 
 /// The NSEC3PARAM records of the apex among these.
-fn params_at(
+fn params_at<'a>(
     alloc: Global,
     apex: &ZoneName,
-    records: &[ZoneRr],
-) -> Result<Vec<Record<ZoneName, Nsec3Params>>, OutOfMemory>
+    records: &[StoredRr<'a>],
+) -> Result<Vec<ParamRr<'a>>, OutOfMemory>
     ensures { IfOk result (λ params. params.items ≡ params_at apex.now records.now) }
 {
     let mut params = Vec::new(alloc);
@@ -58,7 +69,7 @@ fn params_at(
         if let ZoneRecordData::Nsec3param(data) = record.data()
             && record.owner().name_eq(apex)
         {
-            let owner = record.owner().clone()?;
+            let owner = record.owner().try_clone()?;
             params.push(Record::new(owner, record.class(), record.ttl(), data.clone()?))?;
         }
     }
@@ -66,12 +77,12 @@ fn params_at(
 }
 
 /// What the NSEC records among these prove.
-pub fn nsec_verdict<'a>(
+pub fn nsec_verdict<'s, 'a>(
     alloc: Global,
     question: Question,
-    records: Vec<ZoneRr>,
-) -> Result<Answer<'a>, OutOfMemory>
-    ensures { IfOk result (IsNsecVerdict records.items question) }
+    records: Vec<StoredRr<'a>>,
+) -> Result<Answer<'s, 'a>, OutOfMemory>
+    ensures { IfOk result (IsNsecVerdict records.entry.items question) }
 {
     let nsecs = nsecs_among(alloc, records)?;
     let Question { apex, name, rtype } = question;
@@ -80,15 +91,15 @@ pub fn nsec_verdict<'a>(
 }
 
 /// The NSEC3 records among these, with the one NSEC3PARAM record of the apex.
-fn chain_of(
+fn chain_of<'a>(
     alloc: Global,
     apex: &ZoneName,
-    records: Vec<ZoneRr>,
-) -> Result<Nsec3Records<ZoneName, ZoneOctets>, DenialFault>
-    ensures ok { IfOk result (λ chain. (params_at apex.now records.items ≡ chain.nsec3param ∷ [])
-        × (chain.nsec3s.items ≡ nsec3s_among records.items)) }
+    records: Vec<StoredRr<'a>>,
+) -> Result<Nsec3Records<ParsedName<'a>, StoredOctets<'a>>, DenialFault>
+    ensures ok { IfOk result (λ chain. (params_at apex.now records.entry.items ≡ chain.nsec3param ∷ [])
+        × (chain.nsec3s.items ≡ nsec3s_among records.entry.items)) }
     ensures err { IfErr result (λ e. ((e ≡ DenialFault.Param)
-        × ((param : ParamRecord) → params_at apex.now records.items ≡ param ∷ [] → ⊥))
+        × ((param : ParamRecord) → params_at apex.now records.entry.items ≡ param ∷ [] → ⊥))
         ⊎ (e ≡ Memory)) }
 {
     let mut params = params_at(alloc, apex, &records)?;
@@ -102,19 +113,22 @@ fn chain_of(
 }
 
 /// What the NSEC3 records among these prove.
-pub fn nsec3_verdict<'a, H: Nsec3Hasher>(
+pub fn nsec3_verdict<'s, 'a, H: Nsec3Hasher>(
     alloc: Global,
+    arena: &'a Bump,
     question: Question,
-    records: Vec<ZoneRr>,
+    records: Vec<StoredRr<'a>>,
     hasher: &H,
-) -> Result<Answer<'a>, DenialFault>
-    ensures ok { IfOk result (IsNsec3Verdict (H.answer hasher.now) records.items question) }
+) -> Result<Answer<'s, 'a>, DenialFault>
+    ensures ok { IfOk result (IsNsec3Verdict (H.answer hasher.now) records.entry.items question) }
     ensures err { IfErr result
-        (HasNoNsec3Verdict (H.answer hasher.now) records.items question) }
+        (HasNoNsec3Verdict (H.answer hasher.now) records.entry.items question) }
 {
     let Question { apex, name, rtype } = question;
     let chain = chain_of(alloc, &apex, records)?;
-    match check_nsec3(alloc, &apex, &chain, &name, rtype, hasher) {
+    let stored_apex = store_name(arena, &apex)?;
+    let stored_name = store_name(arena, &name)?;
+    match check_nsec3(alloc, &stored_apex, &chain, &stored_name, rtype, hasher) {
         Ok(verdict) => Ok(Answer::Verdict(name, verdict)),
         Err(error) => match error {
             Nsec3HashError::OutOfMemory => Err(DenialFault::OutOfMemory),

@@ -7,6 +7,7 @@
 #![tactic(auto)]
 
 mod answer;
+mod arena;
 mod check;
 mod command;
 mod fault;

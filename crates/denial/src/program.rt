@@ -15,9 +15,11 @@ ghost use Rattle.denial.specs.declared.answer.Answer.{Answer};
 ghost use Rattle.denial.specs.declared.fault.DenialFault.TheVariants.{OutOfMemory};
 
 use crate::answer::write_answer;
+use crate::arena::{StoredRr, store_record};
 use crate::command::command_of;
 use crate::fault::{DenialFault, fault_of};
-use crate::line::{Line, ZoneRr, read_line};
+use crate::line::{Line, read_line};
+use bumpalo::Bump;
 use domain_dnssec::Nsec3Hasher;
 use memchr::memchr;
 use std::alloc::Global;
@@ -77,9 +79,13 @@ fn append_line<R: BufRead>(input: &mut R, line: &mut Vec<u8>) -> io::Result<usiz
     Ok(place + 1)
 }
 
-/// The records of the lines that are left. A bad line is told only after the rest has been read,
+/// The records of the lines that are left, with their octets in the arena. A bad line is told only after the rest has been read,
 /// since a fault of the reader is told before it.
-fn read_records<R: BufRead>(alloc: Global, input: &mut R) -> Result<Vec<ZoneRr>, DenialFault>
+fn read_records<'a, R: BufRead>(
+    alloc: Global,
+    arena: &'a Bump,
+    input: &mut R,
+) -> Result<Vec<StoredRr<'a>>, DenialFault>
     ensures ok { IfOk result (λ v.
         IfSome (R.remaining input.old) (λ all. Give (λ o. o) (λ n. n) (lines all) v.items)) }
     ensures err { IfErr result IsReadingFault }
@@ -103,7 +109,7 @@ fn read_records<R: BufRead>(alloc: Global, input: &mut R) -> Result<Vec<ZoneRr>,
         }
         match read_line(alloc, without_end(&line))? {
             Line::Nothing => {}
-            Line::Record(record) => records.push(record)?,
+            Line::Record(record) => store_record(arena, &mut records, &record)?,
             Line::Bad => {
                 skip_all(input)?;
                 return Err(DenialFault::Line(number));
@@ -163,6 +169,7 @@ pub fn run_denial<R: BufRead, W: Write, H: Nsec3Hasher>(
     ensures untouched { IfErr result (λ e. IsBeforeOutput e → output.new ≡ output.old) }
 {
     let command = command_of(alloc, words)?;
-    let records = read_records(alloc, input)?;
-    write_answer(alloc, command, records, hasher, output)
+    let arena = Bump::new(alloc);
+    let records = read_records(alloc, &arena, input)?;
+    write_answer(alloc, &arena, command, records, hasher, output)
 }

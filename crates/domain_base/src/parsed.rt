@@ -59,8 +59,9 @@ impl<'a> ParsedName<'a> {
         Ok(ParsedName { wire })
     }
 
-    /// A name over its wire form.
-    pub(crate) fn over(wire: &'a [u8]) -> Self
+    /// The name whose wire form these octets are. Takes no memory, and looks at none of them: those
+    /// that are not known to be a name are for `from_slice`.
+    pub fn over(wire: &'a [u8]) -> Self
         requires { IsWire wire.now }
         ensures { result ≡ labels_of wire.now }
     {

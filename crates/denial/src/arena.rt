@@ -1,0 +1,230 @@
+//! Records whose names and octets lie in an arena, one after another.
+ghost use Rattle.std.specs.Prelude.{◌≡◌, ◌∷◌, ◌++◌, [], IfOk, OnOk};
+
+use crate::line::{ZoneData, ZoneName, ZoneOctets, ZoneRr};
+use bumpalo::Bump;
+use domain_base::{ParsedName, ToName};
+use domain_octets::{Octets, OutOfMemory, TryClone};
+use domain_plain::{Mx, Ns, Record, Soa, UnknownRecordData};
+use domain_rdata::{Nsec, Nsec3, Nsec3param, ZoneRecordData};
+use domain_rrsig::Rrsig;
+use std::marker::Model;
+
+/// Octets in an arena.
+#[derive(Drop)]
+pub struct StoredOctets<'a> {
+    octets: &'a [u8],
+}
+
+impl<'a> Model for StoredOctets<'a> {
+    ghost use Rattle.domain_octets.specs.Words.{Octets};
+
+    ghost Value = { Octets };
+
+    ghost view = { λ s. s.octets.now };
+}
+
+impl<'a> TryClone for StoredOctets<'a> {
+    ghost is_clone = { λ s copy. copy ≡ s };
+
+    fn try_clone(&self) -> Result<Self, OutOfMemory> {
+        Ok(StoredOctets {
+            octets: self.octets,
+        })
+    }
+}
+
+impl<'a> Octets for StoredOctets<'a> {
+    ghost octets = { λ s. s };
+
+    ghost clone_octets = { λ s copy same. same };
+
+    fn as_slice(&self) -> &[u8] {
+        self.octets
+    }
+}
+
+/// The data of a record in an arena.
+pub type StoredData<'a> = ZoneRecordData<StoredOctets<'a>, ParsedName<'a>>;
+
+/// A record in an arena: 88 octets beside those that lie there.
+pub type StoredRr<'a> = Record<ParsedName<'a>, StoredData<'a>>;
+
+/// A copy of octets.
+fn store_octets<'a>(arena: &'a Bump, octets: &[u8]) -> Result<StoredOctets<'a>, OutOfMemory>
+    ensures { IfOk result (λ copy. copy ≡ octets.now) }
+{
+    let octets = arena.try_alloc_slice_copy(octets)?;
+    Ok(StoredOctets { octets })
+}
+
+/// A copy of a name.
+pub fn store_name<'a>(arena: &'a Bump, name: &ZoneName) -> Result<ParsedName<'a>, OutOfMemory>
+    ensures { IfOk result (λ copy. copy ≡ name.now) }
+{
+    let wire = arena.try_alloc_slice_copy(name.as_wire())?;
+    Ok(ParsedName::over(wire))
+}
+
+/// A copy of the start of a zone.
+fn store_soa<'a>(arena: &'a Bump, data: &Soa<ZoneName>) -> Result<Soa<ParsedName<'a>>, OutOfMemory>
+    ensures { IfOk result (λ copy. copy ≡ «data».now) }
+{
+    let mname = store_name(arena, data.mname())?;
+    let rname = store_name(arena, data.rname())?;
+    Ok(Soa::new(
+        mname,
+        rname,
+        data.serial(),
+        data.refresh(),
+        data.retry(),
+        data.expire(),
+        data.minimum(),
+    ))
+}
+
+/// A copy of a signature.
+fn store_rrsig<'a>(
+    arena: &'a Bump,
+    data: &Rrsig<ZoneOctets, ZoneName>,
+) -> Result<Rrsig<StoredOctets<'a>, ParsedName<'a>>, OutOfMemory>
+    ensures { IfOk result (λ copy. copy ≡ «data».now) }
+{
+    let signer_name = store_name(arena, data.signer_name())?;
+    let signature = store_octets(arena, data.signature().as_slice())?;
+    Ok(Rrsig::new_unchecked(
+        data.type_covered(),
+        data.algorithm(),
+        data.labels(),
+        data.original_ttl(),
+        data.expiration(),
+        data.inception(),
+        data.key_tag(),
+        signer_name,
+        signature,
+    ))
+}
+
+/// A copy of the next name and the types at a name.
+fn store_nsec<'a>(
+    arena: &'a Bump,
+    data: &Nsec<ZoneOctets, ZoneName>,
+) -> Result<Nsec<StoredOctets<'a>, ParsedName<'a>>, OutOfMemory>
+    ensures { IfOk result (λ copy. copy ≡ «data».now) }
+{
+    let next_name = store_name(arena, data.next_name())?;
+    let types = store_octets(arena, data.types().as_slice())?;
+    Ok(Nsec::new(next_name, data.types().remade(types)))
+}
+
+/// A copy of the next hash and the types at a hashed name.
+fn store_nsec3<'a>(
+    arena: &'a Bump,
+    data: &Nsec3<ZoneOctets>,
+) -> Result<Nsec3<StoredOctets<'a>>, OutOfMemory>
+    ensures { IfOk result (λ copy. copy ≡ «data».now) }
+{
+    let salt = store_octets(arena, data.salt().as_slice())?;
+    let next_owner = store_octets(arena, data.next_owner().as_slice())?;
+    let types = store_octets(arena, data.types().as_slice())?;
+    Ok(Nsec3::new(
+        data.hash_algorithm(),
+        data.flags(),
+        data.iterations(),
+        data.salt().remade(salt),
+        data.next_owner().remade(next_owner),
+        data.types().remade(types),
+    ))
+}
+
+/// A copy of how the names of a zone are hashed.
+fn store_nsec3param<'a>(
+    arena: &'a Bump,
+    data: &Nsec3param<ZoneOctets>,
+) -> Result<Nsec3param<StoredOctets<'a>>, OutOfMemory>
+    ensures { IfOk result (λ copy. copy ≡ «data».now) }
+{
+    let salt = store_octets(arena, data.salt().as_slice())?;
+    Ok(Nsec3param::new(
+        data.hash_algorithm(),
+        data.flags(),
+        data.iterations(),
+        data.salt().remade(salt),
+    ))
+}
+
+/// A copy of data of any type.
+fn store_unknown<'a>(
+    arena: &'a Bump,
+    data: &UnknownRecordData<ZoneOctets>,
+) -> Result<UnknownRecordData<StoredOctets<'a>>, OutOfMemory>
+    ensures { IfOk result (λ copy. copy ≡ «data».now) }
+{
+    let octets = store_octets(arena, data.data().as_slice())?;
+    match UnknownRecordData::from_octets(data.rtype(), octets) {
+        Ok(copy) => Ok(copy),
+        Err(_) => unreachable!(),
+    }
+}
+
+/// A copy of data.
+fn store_data<'a>(arena: &'a Bump, data: &ZoneData) -> Result<StoredData<'a>, OutOfMemory>
+    ensures { IfOk result (λ copy. copy ≡ «data».now) }
+{
+    Ok(match data {
+        ZoneRecordData::A(data) => ZoneRecordData::A(*data),
+        ZoneRecordData::Ns(data) => {
+            ZoneRecordData::Ns(Ns::new(store_name(arena, data.nsdname())?))
+        }
+        ZoneRecordData::Soa(data) => ZoneRecordData::Soa(store_soa(arena, data)?),
+        ZoneRecordData::Mx(data) => ZoneRecordData::Mx(Mx::new(
+            data.preference(),
+            store_name(arena, data.exchange())?,
+        )),
+        ZoneRecordData::Dnskey(data) => ZoneRecordData::Dnskey(data.remade(store_octets(
+            arena,
+            data.public_key().as_slice(),
+        )?)),
+        ZoneRecordData::Ds(data) => {
+            ZoneRecordData::Ds(data.remade(store_octets(arena, data.digest().as_slice())?))
+        }
+        ZoneRecordData::Rrsig(data) => ZoneRecordData::Rrsig(store_rrsig(arena, data)?),
+        ZoneRecordData::Nsec(data) => ZoneRecordData::Nsec(store_nsec(arena, data)?),
+        ZoneRecordData::Nsec3(data) => ZoneRecordData::Nsec3(store_nsec3(arena, data)?),
+        ZoneRecordData::Nsec3param(data) => {
+            ZoneRecordData::Nsec3param(store_nsec3param(arena, data)?)
+        }
+        ZoneRecordData::Unknown(data) => ZoneRecordData::Unknown(store_unknown(arena, data)?),
+    })
+}
+
+/// A copy of an owner, which shares the octets of the record before it where these are the same:
+/// records of one owner mostly follow one another.
+fn store_owner<'a>(
+    arena: &'a Bump,
+    before: Option<&StoredRr<'a>>,
+    owner: &ZoneName,
+) -> Result<ParsedName<'a>, OutOfMemory>
+    ensures { IfOk result (λ copy. copy ≡ owner.now) }
+{
+    if let Some(before) = before
+        && before.owner().as_wire() == owner.as_wire()
+    {
+        return before.owner().try_clone();
+    }
+    store_name(arena, owner)
+}
+
+/// Puts a copy of a record, whose names and octets lie in the arena, at the end of a list.
+pub fn store_record<'a>(
+    arena: &'a Bump,
+    records: &mut Vec<StoredRr<'a>>,
+    record: &ZoneRr,
+) -> Result<(), OutOfMemory>
+    ensures { OnOk result (records.new.items ≡ records.old.items ++ «record».now ∷ []) }
+{
+    let owner = store_owner(arena, records.last(), record.owner())?;
+    let data = store_data(arena, record.data())?;
+    records.push(Record::new(owner, record.class(), record.ttl(), data))?;
+    Ok(())
+}
