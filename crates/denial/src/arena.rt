@@ -216,7 +216,7 @@ fn store_owner<'a>(
 }
 
 /// Puts a copy of a record, whose names and octets lie in the arena, at the end of a list.
-pub fn store_record<'a>(
+fn store_copy<'a>(
     arena: &'a Bump,
     records: &mut Vec<StoredRr<'a>>,
     record: &ZoneRr,
@@ -227,4 +227,15 @@ pub fn store_record<'a>(
     let data = store_data(arena, record.data())?;
     records.push(Record::new(owner, record.class(), record.ttl(), data))?;
     Ok(())
+}
+
+/// Puts a record into the arena, and at the end of a list.
+pub fn store_record<'a>(
+    arena: &'a Bump,
+    records: &mut Vec<StoredRr<'a>>,
+    record: ZoneRr,
+) -> Result<(), OutOfMemory>
+    ensures { OnOk result (records.new.items ≡ records.old.items ++ «record» ∷ []) }
+{
+    store_copy(arena, records, &record)
 }

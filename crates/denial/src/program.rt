@@ -109,7 +109,7 @@ fn read_records<'a, R: BufRead>(
         }
         match read_line(alloc, without_end(&line))? {
             Line::Nothing => {}
-            Line::Record(record) => store_record(arena, &mut records, &record)?,
+            Line::Record(record) => store_record(arena, &mut records, record)?,
             Line::Bad => {
                 skip_all(input)?;
                 return Err(DenialFault::Line(number));
