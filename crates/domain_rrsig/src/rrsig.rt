@@ -236,6 +236,16 @@ impl<O: Octets, N: ToName> Rrsig<O, N> {
         (fields, signature)
     }
 
+    /// The same data over another name and other octets, which spell those of this.
+    pub fn remade<P: Octets, M: ToName>(&self, signer_name: M, signature: P) -> Rrsig<P, M>
+        requires signer { M.labels signer_name ≡ self.now.fields.signer_name }
+        requires signature { P.octets signature ≡ self.now.signature }
+        ensures { result ≡ self.now }
+    {
+        let fields = ProtoRrsig::of_parts(self.fields.numbers(), signer_name);
+        Rrsig { fields, signature }
+    }
+
     /// Fields with a signature, which have at most 65,535 octets.
     pub(crate) fn of_parts(fields: ProtoRrsig<N>, signature: O) -> Self
         requires { length (rrsig_octets (rrsig_data fields (O.octets signature))) ≤ 65535 }
