@@ -8,18 +8,17 @@ ghost use Rattle.denial.specs.Listing.{ProgramRecord};
 ghost use Rattle.denial.specs.Text.{answer_text, lines_of, nsec_line, nsec3_line, nsec3s_text};
 ghost use Rattle.denial.specs.declared.fault.DenialFault.TheVariants.{OutOfMemory};
 
+use crate::arena::{StoredData, StoredOctets, StoredRr, store_name};
 use crate::check::{nsec_verdict, nsec3_verdict};
 use crate::command::{Command, Nsec3Params};
 use crate::fault::{DenialFault, fault_of};
-use crate::arena::{StoredData, StoredOctets, StoredRr, store_name};
-use bumpalo::Bump;
 use crate::line::{ZoneName, ZoneOctets};
-use domain_base::ParsedName;
 use crate::verdict_text::VerdictText;
+use bumpalo::Bump;
+use domain_base::ParsedName;
 use domain_dnssec::{
     DefaultSorter, GenerateNsec3Config, GenerateNsecConfig, HashedNsec3s, Nsec3Chain, Nsec3Hasher,
-    NsecChain, SortedRecords, Verdict, hash_nsec3s_of_records,
-    lend_nsecs_of_sorted,
+    NsecChain, SortedRecords, Verdict, hash_nsec3s_of_records, lend_nsecs_of_sorted,
 };
 use domain_plain::Record;
 use domain_rdata::{Nsec, Nsec3};
@@ -114,7 +113,10 @@ fn write_nsecs<W: Write>(chain: &NsecChain<'_, ParsedName<'_>>, output: &mut W) 
 
 /// Writes the records of an NSEC3 chain, one a line. They borrow from the chain, so that this takes
 /// no memory.
-fn write_chain<W: Write>(chain: &Nsec3Chain<'_, ParsedName<'_>, ZoneOctets>, output: &mut W) -> io::Result<()>
+fn write_chain<W: Write>(
+    chain: &Nsec3Chain<'_, ParsedName<'_>, ZoneOctets>,
+    output: &mut W,
+) -> io::Result<()>
     ensures { OnOk result (Appends (W.contents output.old) (W.contents output.new)
         (lines_of nsec3_line chain.now)) }
 {

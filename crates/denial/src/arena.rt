@@ -92,17 +92,7 @@ fn store_rrsig<'a>(
 {
     let signer_name = store_name(arena, data.signer_name())?;
     let signature = store_octets(arena, data.signature().as_slice())?;
-    Ok(Rrsig::new_unchecked(
-        data.type_covered(),
-        data.algorithm(),
-        data.labels(),
-        data.original_ttl(),
-        data.expiration(),
-        data.inception(),
-        data.key_tag(),
-        signer_name,
-        signature,
-    ))
+    Ok(data.remade(signer_name, signature))
 }
 
 /// A copy of the next name and the types at a name.

@@ -5,10 +5,10 @@ ghost use Rattle.denial.specs.declared.fault.DenialFault.TheVariants.{OutOfMemor
 
 use crate::answer::{Answer, Nsec3Rr, NsecRr};
 use crate::arena::{StoredOctets, StoredRr, store_name};
-use bumpalo::Bump;
 use crate::command::Question;
 use crate::fault::DenialFault;
 use crate::line::ZoneName;
+use bumpalo::Bump;
 use domain_base::{ParsedName, ToName};
 use domain_dnssec::{Nsec3Hasher, Nsec3Records, Verdict, check_nsec, check_nsec3};
 use domain_octets::{OutOfMemory, TryClone};
