@@ -83,7 +83,8 @@ fn nsec3s_of<'s, 'a, H: Nsec3Hasher>(
     records: Vec<StoredRr<'a>>,
     hasher: &H,
 ) -> Result<Answer<'s, 'a>, DenialFault>
-    ensures ok { IfOk result (IsNsec3s (H.answer hasher.now) records.entry.items apex.now parameters) }
+    ensures ok { IfOk result
+        (IsNsec3s (H.answer hasher.now) records.entry.items apex.now parameters) }
     ensures err { IfErr result
         (HasNoNsec3s (H.answer hasher.now) records.entry.items apex.now parameters) }
 {
@@ -183,7 +184,8 @@ fn write_nsecs_of<'a, W: Write>(
     ensures ok { OnOk result (IsWritten (IsNsecs records.entry.items apex.now)
         (W.contents output.old) (W.contents output.new)) }
     ensures err { IfErr result
-        (IsUnwritten (IsNsecs records.entry.items apex.now) (HasNoNsecs records.entry.items apex.now)) }
+        (IsUnwritten (IsNsecs records.entry.items apex.now)
+        (HasNoNsecs records.entry.items apex.now)) }
     ensures untouched { IfErr result (λ e. IsBeforeOutput e → output.new ≡ output.old) }
 {
     let apex = store_name(arena, apex)?;
@@ -233,7 +235,8 @@ pub fn write_answer<'a, W: Write, H: Nsec3Hasher>(
 ) -> Result<(), DenialFault>
     ensures ok { OnOk result (IsWritten (IsAnswer (H.answer hasher.now) command records.entry.items)
         (W.contents output.old) (W.contents output.new)) }
-    ensures err { IfErr result (IsUnwritten (IsAnswer (H.answer hasher.now) command records.entry.items)
+    ensures err { IfErr result
+        (IsUnwritten (IsAnswer (H.answer hasher.now) command records.entry.items)
         (HasNoAnswer (H.answer hasher.now) command records.entry.items)) }
     ensures untouched { IfErr result (λ e. IsBeforeOutput e → output.new ≡ output.old) }
 {

@@ -96,7 +96,8 @@ fn chain_of<'a>(
     apex: &ZoneName,
     records: Vec<StoredRr<'a>>,
 ) -> Result<Nsec3Records<ParsedName<'a>, StoredOctets<'a>>, DenialFault>
-    ensures ok { IfOk result (λ chain. (params_at apex.now records.entry.items ≡ chain.nsec3param ∷ [])
+    ensures ok { IfOk result (λ chain.
+        (params_at apex.now records.entry.items ≡ chain.nsec3param ∷ [])
         × (chain.nsec3s.items ≡ nsec3s_among records.entry.items)) }
     ensures err { IfErr result (λ e. ((e ≡ DenialFault.Param)
         × ((param : ParamRecord) → params_at apex.now records.entry.items ≡ param ∷ [] → ⊥))

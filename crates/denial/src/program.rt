@@ -79,8 +79,8 @@ fn append_line<R: BufRead>(input: &mut R, line: &mut Vec<u8>) -> io::Result<usiz
     Ok(place + 1)
 }
 
-/// The records of the lines that are left, with their octets in the arena. A bad line is told only after the rest has been read,
-/// since a fault of the reader is told before it.
+/// The records of the lines that are left, with their octets in the arena. A bad line is told only
+/// after the rest has been read, since a fault of the reader is told before it.
 fn read_records<'a, R: BufRead>(
     alloc: Global,
     arena: &'a Bump,
