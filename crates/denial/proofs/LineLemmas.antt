@@ -1,5 +1,5 @@
 -- The record that tokens spell, part after part, and tokens that spell none.
-use Rattle.std.proofs.Common.{◌≡◌, ◌≢◌, ◌↔◌, ℕ, Bool, false, IsTrue, List, [], ◌∷◌, refl, ap, sym, ◌∙◌, subst, Option, None}
+use Rattle.std.proofs.Common.{◌≡◌, ◌≢◌, ◌↔◌, ℕ, Bool, false, IsTrue, List, [], ◌∷◌, refl, ap, sym, ◌∙◌, subst, None}
 use Rattle.domain_base.specs.Text.{NameText}
 use Rattle.domain_base.specs.Scan.{ScanFault, IsOfTokens, scan_fault_of, TakesToken, RefusesToken, ended, refused, IsNumber, IsNoNumber, NameTextFault}
 use Rattle.domain_base.specs.Numbers.{ClassText, IsNoClass, TypeText, IsNoType, type_names}
@@ -12,7 +12,7 @@ use Rattle.domain_rdata.specs.Scan.{RdataText}
 use Rattle.domain_rdata.specs.declared.zone_record_data.ZoneRecordData.{ZoneRecordData}
 use Rattle.domain_rdata.proofs.ScanLemmas.{text_once}
 use Rattle.denial.specs.Listing.{ProgramRecord}
-use Rattle.denial.specs.Said.{line_error_of, SpellsNone}
+use Rattle.denial.specs.Said.{line_error_of, SpellsNoName, SpellsNone}
 use Rattle.denial.specs.Words.{LineText}
 use Rattle.denial.specs.declared.line.LineError.{LineError}
 use Rattle.denial.specs.declared.line.LineError.TheVariants.{Bad, OutOfMemory}
@@ -54,12 +54,6 @@ refused_spells Why P old new after fault apart (refused token left why_fault why
 
 -- a line that spells a record, whose tokens were read so far
 module _ {O N : Type 0} (octets : O → List ℕ) (labels : N → List (List ℕ)) (ws1 ws2 ws3 ws4 ws5 : List (List ℕ)) (r : Record N (ZoneRecordData O N)) (line : LineText octets labels ws1 r) where
-  module _ (limit : Option ℕ) (new : List (List ℕ)) (fault : ScanFault) where
-    pub no_owner : IsOfTokens limit fault → RefusesToken (NameTextFault limit) ws1 new fault → ⊥
-    no_owner own why =
-        token_excludes NameText (NameTextFault limit) limit (name_excludes limit) ws1 new (line.ttl_word ∷ line.class_word ∷ line.type_word ∷ line.data_words) (labels r.owner) fault why
-        (record { token = line.owner_word; first = line.are; holds = line.owner }) own
-
   module _ {P1 : List ℕ → Type 0} (first : TakesToken P1 ws1 ws2) where
     after_owner : ws2 ≡ line.ttl_word ∷ line.class_word ∷ line.type_word ∷ line.data_words
     after_owner = let e = first.first in let f = line.are in cc
@@ -112,3 +106,15 @@ known_if_bad scan_error.EndOfEntry e made bad = tt
 known_if_bad (scan_error.Custom text) e made bad = tt
 known_if_bad scan_error.ShortBuf e made bad = refl
 known_if_bad scan_error.OutOfMemory e made bad = cc
+
+-- words whose first spells no name spell no record
+pub no_owner : (ws : List (List ℕ)) (e : LineError) → SpellsNoName ws e → SpellsNone ws e
+no_owner ws Bad none = λ r line. none r.owner (line.ttl_word ∷ line.class_word ∷ line.type_word ∷ line.data_words)
+    (record { token = line.owner_word; first = line.are; holds = line.owner })
+no_owner ws OutOfMemory none = tt
+
+-- a first word that was refused spells no name
+pub no_name : (ws new : List (List ℕ)) (s : ScanError) (e : LineError) → e ≡ line_error_of s → RefusesToken (NameTextFault None) ws new (scan_fault_of s) → SpellsNoName ws e
+no_name ws new s Bad made why = λ name after takes.
+    token_excludes NameText (NameTextFault None) None (name_excludes None) ws new after name (scan_fault_of s) why takes (known_if_bad s Bad made refl)
+no_name ws new s OutOfMemory made why = tt

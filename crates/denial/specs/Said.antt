@@ -1,8 +1,10 @@
 -- What was read of a line.
 use Rattle.domain_octets.specs.Words.{Octets}
+use Rattle.domain_base.specs.Scan.{TakesToken}
+use Rattle.domain_base.specs.Text.{NameText}
 use Rattle.domain_base.specs.declared.error.ScanError.{ScanError}
 use Rattle.domain_base.specs.declared.error.ScanError.TheVariants as scan_error
-use Rattle.domain_base.specs.Words.{Tokens}
+use Rattle.domain_base.specs.Words.{Name, Tokens}
 use Rattle.denial.specs.Words.{words, IsSkipped, LineText}
 use Rattle.denial.specs.Listing.{IsRecord, IsBad, ProgramRecord}
 use Rattle.denial.specs.declared.line.Line.{Line}
@@ -26,3 +28,9 @@ line_error_of scan_error.OutOfMemory = line_error.OutOfMemory
 abbrev pub SpellsNone : Tokens → LineError → Type 0
 SpellsNone ws line_error.Bad = (r : ProgramRecord) → LineText (λ o. o) (λ n. n) ws r → ⊥
 SpellsNone ws line_error.OutOfMemory = Unit {0}
+
+-- the first word spells no name, unless there was no memory to tell
+abbrev pub SpellsNoName : Tokens → LineError → Type 0
+SpellsNoName ws line_error.Bad =
+    (name : Name) (after : Tokens) → TakesToken (λ word. NameText word name) ws after → ⊥
+SpellsNoName ws line_error.OutOfMemory = Unit {0}

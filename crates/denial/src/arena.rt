@@ -1,7 +1,7 @@
 //! Records whose names and octets lie in an arena, one after another.
 ghost use Rattle.std.specs.Prelude.{◌≡◌, ◌∷◌, ◌++◌, [], IfOk, OnOk};
 
-use crate::line::{ZoneData, ZoneName, ZoneOctets, ZoneRr};
+use crate::line::{ReadRr, ZoneData, ZoneName, ZoneOctets};
 use bumpalo::Bump;
 use domain_base::{ParsedName, ToName};
 use domain_octets::{Octets, OutOfMemory, TryClone};
@@ -188,44 +188,27 @@ fn store_data<'a>(arena: &'a Bump, data: &ZoneData) -> Result<StoredData<'a>, Ou
     })
 }
 
-/// A copy of an owner, which shares the octets of the record before it where these are the same:
-/// records of one owner mostly follow one another.
-fn store_owner<'a>(
-    arena: &'a Bump,
-    before: Option<&StoredRr<'a>>,
-    owner: &ZoneName,
-) -> Result<ParsedName<'a>, OutOfMemory>
-    ensures { IfOk result (λ copy. copy ≡ owner.now) }
-{
-    if let Some(before) = before
-        && before.owner().as_wire() == owner.as_wire()
-    {
-        return before.owner().try_clone();
-    }
-    store_name(arena, owner)
-}
-
-/// Puts a copy of a record, whose names and octets lie in the arena, at the end of a list.
+/// Puts a record whose data are copied into the arena, where its owner lies, at the end of a list.
 fn store_copy<'a>(
     arena: &'a Bump,
     records: &mut Vec<StoredRr<'a>>,
-    record: &ZoneRr,
+    record: &ReadRr<'a>,
 ) -> Result<(), OutOfMemory>
     ensures { OnOk result (records.new.items ≡ records.old.items ++ «record».now ∷ []) }
 {
-    let owner = store_owner(arena, records.last(), record.owner())?;
+    let owner = record.owner().try_clone()?;
     let data = store_data(arena, record.data())?;
     records.push(Record::new(owner, record.class(), record.ttl(), data))?;
     Ok(())
 }
 
-/// Puts a record into the arena, and at the end of a list.
+/// Puts a record, with its data in the arena, at the end of a list.
 pub fn store_record<'a>(
     arena: &'a Bump,
     records: &mut Vec<StoredRr<'a>>,
-    record: ZoneRr,
+    record: ReadRr<'a>,
 ) -> Result<(), OutOfMemory>
-    ensures { OnOk result (records.new.items ≡ records.old.items ++ «record» ∷ []) }
+    ensures { OnOk result (records.new.items ≡ records.old.items ++ «record».entry ∷ []) }
 {
     store_copy(arena, records, &record)
 }

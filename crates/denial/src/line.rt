@@ -3,8 +3,13 @@ ghost use Rattle.std.specs.Prelude.{◌≡◌, ◌≤◌, ◌↔◌, false, IsTr
 ghost use Rattle.domain_base.specs.Scan.{ScanFault, TakesToken, RefusesToken};
 ghost use Rattle.denial.specs.Words.{words, is_blank, IsSkipped, IsPlain, ArePlain, LineText};
 ghost use Rattle.denial.specs.Said.{Says, SpellsNone, line_error_of};
+ghost use Rattle.denial.specs.declared.line.LineError.TheVariants.{OutOfMemory as memory};
 
-use domain_base::{Class, FromToken, IterScanner, Name, Rtype, ScanError, Scanner, Ttl};
+use crate::last_owner::LastOwner;
+use bumpalo::Bump;
+use domain_base::{
+    Class, FromToken, IterScanner, Name, ParsedName, Rtype, ScanError, Scanner, Ttl,
+};
 use domain_octets::{OutOfMemory, SmallOctets};
 use domain_plain::Record;
 use domain_rdata::ZoneRecordData;
@@ -23,16 +28,16 @@ type LineWords<'a> = SmallVec<&'a str, 8>;
 /// The data of the program's records.
 pub type ZoneData = ZoneRecordData<ZoneOctets, ZoneName>;
 
-/// The program's records.
-pub type ZoneRr = Record<ZoneName, ZoneData>;
+/// A record as it was read: its owner lies in an arena already, its data in octets of their own.
+pub type ReadRr<'a> = Record<ParsedName<'a>, ZoneData>;
 
 /// What a line says.
 #[derive(Drop)]
-pub enum Line {
+pub enum Line<'a> {
     /// It is blank, or a comment.
     Nothing,
     /// A record.
-    Record(ZoneRr),
+    Record(ReadRr<'a>),
     /// None of these.
     Bad,
 }
@@ -101,7 +106,7 @@ fn tokens_of(alloc: Global, line: &[u8]) -> Result<Option<LineWords<'_>>, AllocE
 
 /// Why words are no record.
 #[derive(Clone, Copy, Debug, PartialEq, Eq)]
-enum LineError {
+pub enum LineError {
     /// They spell none.
     Bad,
     /// There was no memory.
@@ -119,6 +124,14 @@ impl From<ScanError> for LineError {
     }
 }
 
+impl From<OutOfMemory> for LineError {
+    ghost from_gives = { λ _ made. made ≡ memory };
+
+    fn from(_error: OutOfMemory) -> LineError {
+        LineError::OutOfMemory
+    }
+}
+
 /// The value that the next token spells.
 fn field<F: FromToken, S: Scanner>(scanner: &mut S) -> Result<F, LineError>
     ensures ok { IfOk result (λ v.
@@ -133,14 +146,16 @@ fn field<F: FromToken, S: Scanner>(scanner: &mut S) -> Result<F, LineError>
 }
 
 /// The record that tokens spell: owner, TTL, class, type and data.
-fn scan_record<S: Scanner<Name = ZoneName, Octets = ZoneOctets>>(
+fn scan_record<'a, S: Scanner<Name = ZoneName, Octets = ZoneOctets>>(
     alloc: Global,
+    arena: &'a Bump,
+    last: &mut LastOwner<'a>,
     scanner: &mut S,
-) -> Result<ZoneRr, LineError>
+) -> Result<ReadRr<'a>, LineError>
     ensures ok { IfOk result (LineText (λ o. o) (λ n. n) (S.tokens scanner.old)) }
     ensures err { IfErr result (SpellsNone (S.tokens scanner.old)) }
 {
-    let owner = scanner.scan_name(alloc)?;
+    let owner = last.scan(alloc, arena, scanner)?;
     let ttl = field::<Ttl, S>(scanner)?;
     let class = field::<Class, S>(scanner)?;
     let rtype = field::<Rtype, S>(scanner)?;
@@ -152,16 +167,26 @@ fn scan_record<S: Scanner<Name = ZoneName, Octets = ZoneOctets>>(
 }
 
 /// The record that words spell.
-fn record_of<'a>(alloc: Global, words: &'a [&'a str]) -> Result<ZoneRr, LineError>
+fn record_of<'a, 'w>(
+    alloc: Global,
+    arena: &'a Bump,
+    last: &mut LastOwner<'a>,
+    words: &'w [&'w str],
+) -> Result<ReadRr<'a>, LineError>
     ensures ok { IfOk result (LineText (λ o. o) (λ n. n) (map (λ w. w.now) words.now)) }
     ensures err { IfErr result (SpellsNone (map (λ w. w.now) words.now)) }
 {
     let mut scanner = IterScanner::<ZoneOctets>::new(words);
-    scan_record(alloc, &mut scanner)
+    scan_record(alloc, arena, last, &mut scanner)
 }
 
-/// What a line says. The line stands without its end.
-pub fn read_line(alloc: Global, line: &[u8]) -> Result<Line, OutOfMemory>
+/// What a line says, with the owner in the arena. The line stands without its end.
+pub fn read_line<'a>(
+    alloc: Global,
+    arena: &'a Bump,
+    last: &mut LastOwner<'a>,
+    line: &[u8],
+) -> Result<Line<'a>, OutOfMemory>
     ensures { IfOk result (Says line.now) }
 {
     if is_skipped(line) {
@@ -170,7 +195,7 @@ pub fn read_line(alloc: Global, line: &[u8]) -> Result<Line, OutOfMemory>
     let Some(tokens) = tokens_of(alloc, line)? else {
         return Ok(Line::Bad);
     };
-    match record_of(alloc, tokens.as_slice()) {
+    match record_of(alloc, arena, last, tokens.as_slice()) {
         Ok(record) => Ok(Line::Record(record)),
         Err(LineError::OutOfMemory) => Err(OutOfMemory),
         Err(LineError::Bad) => Ok(Line::Bad),

@@ -11,6 +11,7 @@ mod arena;
 mod check;
 mod command;
 mod fault;
+mod last_owner;
 mod line;
 mod program;
 #[cfg(test)]

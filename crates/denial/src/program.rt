@@ -18,6 +18,7 @@ use crate::answer::write_answer;
 use crate::arena::{StoredRr, store_record};
 use crate::command::command_of;
 use crate::fault::{DenialFault, fault_of};
+use crate::last_owner::LastOwner;
 use crate::line::{Line, read_line};
 use bumpalo::Bump;
 use domain_dnssec::Nsec3Hasher;
@@ -98,6 +99,7 @@ fn read_records<'a, R: BufRead>(
 {
     let mut records = Vec::new(alloc);
     let mut line = Vec::new(alloc);
+    let mut last = LastOwner::new(alloc);
     for number in 1..u64::MAX {
         line.clear();
         let count = match append_line(input, &mut line) {
@@ -107,7 +109,7 @@ fn read_records<'a, R: BufRead>(
         if count == 0 {
             return Ok(records);
         }
-        match read_line(alloc, without_end(&line))? {
+        match read_line(alloc, arena, &mut last, without_end(&line))? {
             Line::Nothing => {}
             Line::Record(record) => store_record(arena, &mut records, record)?,
             Line::Bad => {
