@@ -1,5 +1,5 @@
 -- Keys are in the order of names.
-use Rattle.std.proofs.Common.{◌≡◌, ℕ, zero, suc, ◌+◌, ◌*◌, ◌/◌, ◌<◌, ◌≤◌, Bool, false, cond, List, [], ◌∷◌, ◌++◌, length, reverse, map, take, drop, fold, flat_map, refl, sym, ap, subst, ◌∙◌, inl, inr, ◌≢◌, arith, append_assoc, not, ◌||◌, ◌==◌, if◌then◌else◌, Some}
+use Rattle.std.proofs.Common.{◌≡◌, ℕ, zero, suc, ◌+◌, ◌-◌, ◌*◌, ◌^◌, ◌<◌, ◌≤◌, Bool, true, false, cond, List, [], ◌∷◌, ◌++◌, length, reverse, map, drop, flat_map, refl, sym, ap, subst, ◌∙◌, inl, inr, ◌≢◌, arith, append_assoc, not, ◌||◌, ◌==◌, if◌then◌else◌, Some}
 use Rattle.std.specs.Char.{to_ascii_lowercase}
 use Rattle.std.specs.Cmp.{ranks, tied_itself, unsigned_ties}
 use Rattle.std.specs.Cmp.Lexicographic.{slice_cmp, nat_list_cmp_total}
@@ -8,15 +8,15 @@ use Rattle.std.specs.declared.cmp.Ordering.{Ordering}
 use Rattle.std.specs.declared.cmp.Ordering.TheVariants.{Less, Equal, Greater}
 use Rattle.std.proofs.lemmas.Bool.{cases_Bool, cases_order, eq-eqb, or_left, or_right, false≢true}
 use Rattle.std.proofs.lemmas.Nat.{mul-le}
-use Rattle.std.proofs.lemmas.List.{map-append, take-append-drop, drop_at, length-map, length-reverse}
-use Rattle.std.proofs.lemmas.List.Sums.{fold-append}
+use Rattle.std.proofs.lemmas.List.{map-append, drop_at, length-map, length-reverse}
+use Rattle.std.proofs.Math.Nat.{pow-suc, one-le-pow}
 use Rattle.domain_base.specs.Name.{lowered, parent_of, same_name, IsAtOrBelow}
 use Rattle.domain_base.specs.Laws.{from_root-below, same_name_ties}
 use Rattle.domain_base.specs.Order.{canonical_cmp, from_root}
 use Rattle.domain_base.specs.Words.{Label, Name}
 use Rattle.domain_records.specs.declared.owner_key.Key.{Key}
 use Rattle.domain_plain.specs.declared.record.Record.{Record}
-use Rattle.domain_records.specs.OwnerKey.{digit_of, digits, is_shared, pushed, empty, name_key}
+use Rattle.domain_records.specs.OwnerKey.{Fits, digit_of, digits, is_shared, number, followed, name_key}
 use Rattle.domain_records.specs.OwnerOrder.{owner_cmp}
 
 -- ---- orders of numbers
@@ -115,10 +115,24 @@ own_up zero (suc p) lt low high = omega arith
 own_up (suc o) zero lt low high = absurd (omega arith)
 own_up (suc o) (suc p) lt low high = omega arith
 
--- ---- what digits do to a key
+-- ---- the numbers that digits make
 
-abbrev grown : Key → List ℕ → Key
-grown key ds = fold pushed key (map mark_digit ds)
+abbrev number_of : ℕ → List ℕ → ℕ
+number_of n ds = number n (map mark_digit ds)
+
+unless_at_most : (b : Bool) (n : ℕ) → (if b then 0 else n) ≤ n
+unless_at_most true n = omega arith
+unless_at_most false n = omega arith
+
+times_less : (n m w : ℕ) → n < m → n * w + w ≤ m * w
+times_less n m w lt = let t : (n + 1) * w ≤ m * w = mul-le (n + 1) w m w (omega arith) (omega arith) in omega (arith, t)
+
+number_below : (n : ℕ) (ds : List ℕ) → number_of n ds < 84 ^ n
+number_below zero ds = omega arith
+number_below (suc n) [] = one-le-pow (suc n) 84 (omega arith)
+number_below (suc n) (d ∷ ds) =
+    let times = times_less (mark_digit d) 84 (84 ^ n) (omega (arith, digit_within d)) in
+    omega (arith, times, unless_at_most (is_shared (mark_digit d)) (number_of n ds), number_below n ds, pow-suc 84 n)
 
 not_shared : (n : ℕ) → is_shared n ≡ false → (n ≢ 1) × (n ≢ 83)
 not_shared n h = (
@@ -126,87 +140,83 @@ not_shared n h = (
   λ e. false≢true (sym h ∙ or_right (n == 1) (n == 83) (eq-eqb n 83 e)),
 )
 
-weight_less : (n w : ℕ) → 84 * (if is_shared n then 0 else w / 84) ≤ w
-weight_less n w = elim (cases_Bool (is_shared n)) [
-  | inl t ↦ omega (arith, ap (λ b. cond b 0 (w / 84)) t)
-  | inr f ↦ omega (arith, ap (λ b. cond b 0 (w / 84)) f)
+-- what follows a lesser octet stays at most where a greater one begins
+apart : (n d e : ℕ) (ds es : List ℕ) → d < e → number_of (suc n) (d ∷ ds) ≤ number_of (suc n) (e ∷ es)
+apart n d e ds es lt = elim (cases_Bool (is_shared (mark_digit d))) [
+  | inl t ↦ (
+      let times : mark_digit d * 84 ^ n ≤ mark_digit e * 84 ^ n = mul-le (mark_digit d) (84 ^ n) (mark_digit e) (84 ^ n) (digits_up d e lt) (omega arith) in
+      omega (arith, times, ap (λ b. cond b 0 (number_of n ds)) t))
+  | inr f ↦ (
+      let own = not_shared (mark_digit d) f in
+      let times = times_less (mark_digit d) (mark_digit e) (84 ^ n) (own_up d e lt own.0 own.1) in
+      omega (arith, times, ap (λ b. cond b 0 (number_of n ds)) f, number_below n ds))
 ]
 
--- what a key may grow to
-record Between (key longer : Key) : Type 0 where
-  least : key.value ≤ longer.value
-  most : longer.value ≤ key.value + 84 * key.weight
+-- the same digit first
+same_first : (n d : ℕ) (ds es : List ℕ) → number_of (suc n) (d ∷ ds) < number_of (suc n) (d ∷ es) → number_of n ds < number_of n es
+same_first n d ds es lt = elim (cases_Bool (is_shared (mark_digit d))) [
+  | inl t ↦ absurd (omega (arith, lt, ap (λ b. cond b 0 (number_of n ds)) t, ap (λ b. cond b 0 (number_of n es)) t))
+  | inr f ↦ omega (arith, lt, ap (λ b. cond b 0 (number_of n ds)) f, ap (λ b. cond b 0 (number_of n es)) f)
+]
 
-times_less : (n m w : ℕ) → n < m → n * w + w ≤ m * w
-times_less n m w lt = let t : (n + 1) * w ≤ m * w = mul-le (n + 1) w m w (omega arith) (omega arith) in omega (arith, t)
-
-between : (key : Key) (ds : List ℕ) → Between key (grown key ds)
-between key [] = record { least = omega arith; most = omega arith }
-between key (d ∷ ds) =
-    let n = mark_digit d in
-    let more = between (pushed key n) ds in
-    let times : n * key.weight + key.weight ≤ 84 * key.weight = times_less n 84 key.weight (omega (arith, digit_within d)) in
-    let room = weight_less n key.weight in
-    record { least = omega (arith, more.least); most = omega (arith, more.most, times, room) }
-
--- what follows a lesser octet stays at most where a greater one begins
-apart : (key : Key) (d e : ℕ) (ds es : List ℕ) → d < e → (grown key (d ∷ ds)).value ≤ (grown key (e ∷ es)).value
-apart key d e ds es lt =
-    let n = mark_digit d in
-    let m = mark_digit e in
-    let w = key.weight in
-    let up = between (pushed key n) ds in
-    let down = between (pushed key m) es in
-    elim (cases_Bool (is_shared n)) [
-      | inl t ↦ (
-          let times : n * w ≤ m * w = mul-le n w m w (digits_up d e lt) (omega arith) in
-          omega (arith, up.most, down.least, times, ap (λ b. cond b 0 (w / 84)) t))
-      | inr f ↦ (
-          let own = not_shared n f in
-          let times : n * w + w ≤ m * w = times_less n m w (own_up d e lt own.0 own.1) in
-          omega (arith, up.most, down.least, times, weight_less n w))
-    ]
-
--- a lesser key is of octets that come before
-pub less_marks : (key : Key) (ds es : List ℕ) → (grown key ds).value < (grown key es).value → slice_cmp nat_cmp ds es ≡ Less
-less_marks key [] [] lt = absurd (omega arith)
-less_marks key [] (e ∷ es) lt = refl
-less_marks key (d ∷ ds) [] lt = absurd (let b = between key (d ∷ ds) in omega (arith, b.least))
-less_marks key (d ∷ ds) (e ∷ es) lt = elim (cases_order d e) [
-  | inl same ↦ (
-      let up = less_marks (pushed key (mark_digit d)) ds es (subst (λ q. (grown key (d ∷ ds)).value < (grown key (q ∷ es)).value) (sym same) lt) in
-      ap (λ r. ordering_then r (slice_cmp nat_cmp ds es)) (same_cmp d e same) ∙ up)
+-- a lesser number is of octets that come before
+less_marks : (n : ℕ) (ds es : List ℕ) → number_of n ds < number_of n es → slice_cmp nat_cmp ds es ≡ Less
+less_marks zero ds es lt = absurd (omega arith)
+less_marks (suc n) [] [] lt = absurd (omega arith)
+less_marks (suc n) [] (e ∷ es) lt = refl
+less_marks (suc n) (d ∷ ds) [] lt = absurd (omega arith)
+less_marks (suc n) (d ∷ ds) (e ∷ es) lt = elim (cases_order d e) [
+  | inl same ↦ ap (λ r. ordering_then r (slice_cmp nat_cmp ds es)) (same_cmp d e same)
+      ∙ less_marks n ds es (same_first n d ds es (subst (λ q. number_of (suc n) (d ∷ ds) < number_of (suc n) (q ∷ es)) (sym same) lt))
   | inr w ↦ elim w [
     | inl less ↦ ap (λ r. ordering_then r (slice_cmp nat_cmp ds es)) (less_cmp d e less)
-    | inr more ↦ absurd (let b = apart key e d es ds more in omega (arith, b))
+    | inr more ↦ absurd (omega (arith, lt, apart n e d es ds more))
   ]
 ]
 
--- ---- keys that are full
+-- ---- keys that grow
 
-no_more : (key : Key) (n : ℕ) → key.weight ≡ 0 → key.value + n * key.weight ≡ key.value
-no_more key n full = ap (λ w. key.value + n * w) full ∙ omega arith
+abbrev pub longer : Key → ℕ → Key
+longer key d = record { value = key.value * 84 + d; left = key.left - 1 }
 
-no_weight : (n w : ℕ) → w ≡ 0 → (if is_shared n then 0 else w / 84) ≡ w
-no_weight n w full = let e = weight_less n w in omega (arith, e)
+-- 128 bits hold the value, also with 0 for each digit that is left
+pub record HasRoom (key : Key) : Type 0 where
+  pub fits : Fits key
+  pub value : key.value < 84 ^ 20
+  pub padded : key.value * 84 ^ key.left < 84 ^ 20
 
-pushed_full : (key : Key) (digit : ℕ) → key.weight ≡ 0 → pushed key digit ≡ key
-pushed_full key digit full = λ i. record { value = no_more key digit full i; weight = no_weight digit key.weight full i }
+-- what is left falls by one
+fewer : (n : ℕ) → n ≢ 0 → 84 ^ n ≡ 84 ^ (n - 1) * 84
+fewer n some = let e : n ≡ suc (n - 1) = omega arith in ap (λ k. 84 ^ k) e ∙ pow-suc 84 (n - 1)
 
--- a full key stays as it is
-pub stays_full : (key : Key) (ds : List ℕ) → key.weight ≡ 0 → fold pushed key ds ≡ key
-stays_full key [] full = refl
-stays_full key (d ∷ ds) full = ap (λ k. fold pushed k ds) (pushed_full key d full) ∙ stays_full key ds full
+pub room : (key : Key) (d : ℕ) → key.left ≢ 0 → d < 84 → Fits key → HasRoom (longer key d)
+room key d some digit fits =
+    let w = 84 ^ (key.left - 1) in
+    let v = key.value * 84 + d in
+    let up : (v + 1) * w ≤ ((key.value + 1) * 84) * w = mul-le (v + 1) w ((key.value + 1) * 84) w (omega arith) (omega arith) in
+    let all = ap (λ p. (key.value + 1) * p) (fewer key.left some) in
+    let one : 1 ≤ w = one-le-pow (key.left - 1) 84 (omega arith) in
+    let alone : (v + 1) * 1 ≤ (v + 1) * w = mul-le (v + 1) 1 (v + 1) w (omega arith) one in
+    record { fits = omega (arith, up, all); value = omega (arith, up, all, alone); padded = omega (arith, up, all, one) }
 
--- the digits of the octets before place i come first
-pub full_early : (key longer : Key) (label : Label) (i : ℕ) → longer ≡ fold pushed key (map digit_of (take i label)) → longer.weight ≡ 0 → longer ≡ fold pushed key (digits label)
-full_early key longer label i is full =
-    let rest = map digit_of (drop i label) ++ 0 ∷ [] in
-    let front = map digit_of (take i label) in
-    let all : digits label ≡ front ++ rest =
-    ap (λ l. map digit_of l ++ 0 ∷ []) (sym (take-append-drop i label)) ∙ ap (λ l. l ++ 0 ∷ []) (map-append digit_of (take i label) (drop i label))
-    ∙ append_assoc front (map digit_of (drop i label)) (0 ∷ []) in
-    sym (stays_full longer rest full) ∙ ap (λ k. fold pushed k rest) is ∙ sym (fold-append pushed key front rest) ∙ ap (fold pushed key) (sym all)
+-- a number of digits by its first
+by_first : (n d : ℕ) (ds : List ℕ) → n ≢ 0 → number n (d ∷ ds) ≡ d * 84 ^ (n - 1) + (if is_shared d then 0 else number (n - 1) ds)
+by_first n d ds some = let e : n ≡ suc (n - 1) = omega arith in ap (λ k. number k (d ∷ ds)) e
+
+pub digit_more : (key : Key) (d : ℕ) (ds : List ℕ) → key.left ≢ 0 → is_shared d ≡ false → followed (longer key d) ds ≡ followed key (d ∷ ds)
+digit_more key d ds some own =
+    let all = ap (λ p. key.value * p) (fewer key.left some) in
+    omega (arith, all, by_first key.left d ds some, ap (λ b. cond b 0 (number (key.left - 1) ds)) own)
+
+-- nothing follows a shared digit
+pub digit_shared : (key : Key) (d : ℕ) (ds : List ℕ) → key.left ≢ 0 → is_shared d ≡ true → (longer key d).value * 84 ^ (longer key d).left ≡ followed key (d ∷ ds)
+digit_shared key d ds some shared =
+    let all = ap (λ p. key.value * p) (fewer key.left some) in
+    omega (arith, all, by_first key.left d ds some, ap (λ b. cond b 0 (number (key.left - 1) ds)) shared)
+
+pub no_digits : (n : ℕ) → number n [] ≡ 0
+no_digits zero = refl
+no_digits (suc n) = refl
 
 -- ---- names below another
 
@@ -232,7 +242,7 @@ key_less base x y x_below y_below lt =
     ∙ ap (slice_cmp (slice_cmp nat_cmp) (from_root base ++ a)) (from_root-below y base y_below)
     ∙ same_front (from_root base) a b
     ∙ sym (marks_cmp a b)
-    ∙ less_marks empty (flat_map marks a) (flat_map marks b) (rw (← flat-marks a, ← flat-marks b, ← under base x x_below, ← under base y y_below) lt)
+    ∙ less_marks 20 (flat_map marks a) (flat_map marks b) (rw (← flat-marks a, ← flat-marks b, ← under base x x_below, ← under base y y_below) lt)
 
 -- ---- ends of a name
 

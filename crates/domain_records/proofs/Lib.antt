@@ -1,5 +1,6 @@
 pub mod Arranging
 pub mod Clones
+pub mod Dedups
 pub mod Firsts
 pub mod FoundGroups
 pub mod Lookups

@@ -1,9 +1,9 @@
 -- Runs of one owner, in the order of owners, give sorted places.
 use Rattle.std.proofs.Common.{◌≡◌, ℕ, zero, suc, ◌+◌, ◌-◌, ◌<◌, ◌≤◌, ◌≢◌, add-zero, zero-add, Bool, true, false, List, [], ◌∷◌, ◌++◌, length, get_or, set, take, drop, append_assoc, refl, sym, ◌∙◌, ap, subst, inl, inr, arith, is_lt, append-nil, length-append, length-drop}
-use Rattle.std.specs.List.{All, AllByRecursion as ByRecursion, flat_map, range_with_len, swap}
+use Rattle.std.specs.List.{All, AllByRecursion as ByRecursion, dedup, flat_map, range_with_len, swap}
 use Rattle.std.specs.List.Sorted.{IsSorted, IsSortedBy, IsPermutation}
 use Rattle.std.specs.Cmp.{IsTotalOrder, tied_itself, alike_right, then_total, on_total, nat_cmp_total}
-use Rattle.std.specs.Ordering.{is_ne, nat_cmp, ordering_then, ordering_reverse}
+use Rattle.std.specs.Ordering.{is_eq, is_ne, nat_cmp, ordering_then, ordering_reverse}
 use Rattle.std.specs.declared.cmp.Ordering.{Ordering}
 use Rattle.std.specs.declared.cmp.Ordering.TheVariants.{Less, Equal, Greater}
 use Rattle.std.proofs.lemmas.Bool.{cases_eq, cases_lt, cases_order, false≢true}
@@ -15,7 +15,8 @@ use Rattle.std.proofs.lemmas.List.FromFn.{length-range_with_len, get_or-range_wi
 use Rattle.std.proofs.lemmas.List.Sorted.{All-permutation, IsPermutation-append, IsPermutation-append_comm, IsPermutation-append_left, IsPermutation-append_right, IsPermutation-keeps, IsPermutation-refl, IsPermutation-trans, ranks_by, sorted_far}
 use Rattle.domain_records.specs.declared.owner_runs.Run.{Run}
 use Rattle.domain_records.specs.OwnerRuns.{places_of, places_of_all, IsOneOwner, run_cmp, AreSortedRuns, IsOwner}
-use Rattle.domain_records.specs.Places.{compared_places, place_cmp, AreSortedPlaces}
+use Rattle.domain_records.specs.Places.{alike, compared_places, place_cmp, AreSortedPlaces}
+use Rattle.domain_records.proofs.Dedups.{dedup_apart, dedup_by_same}
 
 -- the places of the runs before i, sorted, and with owners before those of the others
 pub record AreFirst {X : Type 0} (Q R : X → X → Ordering) (xs : List X) (d : X) (runs : List Run) (i : ℕ) (places : List ℕ) : Type 0 where
@@ -218,6 +219,36 @@ module _ {X : Type 0} (Q W R : X → X → Ordering) (o : IsTotalOrder Q) (parts
         behind a b less =
             let greater : Q (key b) (key a) ≡ Greater = o.antisymm (key b) (key a) ∙ ap ordering_reverse less in
             ap is_lt (ap (λ r. ordering_then r (nat_cmp b a)) (parts (key b) (key a))) ∙ first_greater_then (Q (key b) (key a)) (W (key b) (key a)) (nat_cmp b a) greater
+
+        -- of the whole group, items are equal where the rest of them is
+        rest_tells : (a b : ℕ) → Q (at i) (key a) ≡ Equal → Q (at i) (key b) ≡ Equal → alike W xs d a b ≡ alike R xs d a b
+        rest_tells a b e f = sym (ap is_eq (parts (key a) (key b) ∙ ap (λ q. ordering_then q (W (key a) (key b))) (tied a b e f)))
+
+        not_equal : (a b : ℕ) → Q (key a) (key b) ≡ Less → alike R xs d b a ≡ false
+        not_equal a b less =
+            let greater : Q (key b) (key a) ≡ Greater = o.antisymm (key b) (key a) ∙ ap ordering_reverse less in
+            ap is_eq (parts (key b) (key a) ∙ ap (λ q. ordering_then q (W (key b) (key a))) greater)
+
+        -- what is kept of the places before and of the group is what is kept of both
+        pub kept_more : (places : List ℕ) → AreFirst Q R xs d runs i places → dedup (alike R xs d) places ++ dedup (alike W xs d) moved ≡ dedup (alike R xs d) (places ++ moved)
+        kept_more places f =
+            let before : All (λ a. All (λ b. Q (key a) (key b) ≡ Less) (group ++ places_of_all (drop n runs))) places = subst (λ (l : List ℕ). All (λ a. All (λ b. Q (key a) (key b) ≡ Less) l) places) rest_is f.before in
+            ap (λ l. dedup (alike R xs d) places ++ l)
+            (dedup_by_same (λ a. Q (at i) (key a) ≡ Equal) (alike W xs d) (alike R xs d) rest_tells moved (recursion_from_All (λ a. Q (at i) (key a) ≡ Equal) moved of_owner_moved))
+            ∙ dedup_apart (alike R xs d) places moved
+            (all_turned places moved
+            (All-weaker (λ a. All (λ b. Q (key a) (key b) ≡ Less) (group ++ places_of_all (drop n runs))) (λ a. All (λ b. alike R xs d b a ≡ false) moved)
+            (λ a all. All-weaker (λ b. Q (key a) (key b) ≡ Less) (λ b. alike R xs d b a ≡ false) (λ b less. not_equal a b less) moved
+            (All-permutation (λ b. Q (key a) (key b) ≡ Less) group moved p
+            (All-from_recursion (λ b. Q (key a) (key b) ≡ Less) group (all_left (λ b. Q (key a) (key b) ≡ Less) group (places_of_all (drop n runs)) (recursion_from_All (λ b. Q (key a) (key b) ≡ Less) (group ++ places_of_all (drop n runs)) all)))))
+            places before))
+          where
+            all_turned : (as' bs : List ℕ) → All (λ a. All (λ b. alike R xs d b a ≡ false) bs) as' → ByRecursion (λ b. ByRecursion (λ a. alike R xs d b a ≡ false) as') bs
+            all_turned as' bs h =
+                recursion_from_All (λ b. ByRecursion (λ a. alike R xs d b a ≡ false) as') bs
+                (All-from_get_or (λ b. ByRecursion (λ a. alike R xs d b a ≡ false) as') bs 0
+                (λ k lt. recursion_from_All (λ a. alike R xs d (get_or bs k 0) a ≡ false) as'
+                (All-weaker (λ a. All (λ b. alike R xs d b a ≡ false) bs) (λ a. alike R xs d (get_or bs k 0) a ≡ false) (λ a all. All-get_or (λ b. alike R xs d b a ≡ false) bs k 0 lt all) as' h)))
 
         pub first_more : (places : List ℕ) → AreFirst Q R xs d runs i places → AreFirst Q R xs d runs n (places ++ moved)
         first_more places f =

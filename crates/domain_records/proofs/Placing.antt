@@ -1,22 +1,23 @@
--- A list that is put into the order of sorted places is sorted, and of equals the earliest stays first.
-use Rattle.std.proofs.Common.{below_more, zero-add, set, ◌≡◌, ℕ, ◌+◌, ◌<◌, ◌≢◌, Bool, true, false, ◌||◌, ◌&&◌, cond, eqb, List, [], ◌∷◌, length, get_or, map, Some, refl, sym, ◌∙◌, ap, subst, inl, inr, arith, is_lt}
-use Rattle.std.specs.List.{AllByRecursion, Contains, list_any, filter, find, range_with_len, IsDistinct}
+-- A list that is put into the order of the places of its set begins with its sorted set.
+use Rattle.std.proofs.Common.{below_more, zero-add, set, ◌≡◌, ℕ, ◌+◌, ◌<◌, ◌≢◌, Bool, true, false, ◌||◌, ◌&&◌, cond, eqb, List, [], ◌∷◌, length, get_or, map, take, Some, refl, sym, ◌∙◌, ap, subst, inl, inr, arith, is_lt}
+use Rattle.std.specs.List.{AllByRecursion, Contains, dedup, list_any, filter, find, range_with_len, IsDistinct}
 use Rattle.std.specs.Option.{option_map}
 use Rattle.std.specs.List.Sorted.{IsStrictlySortedBy, IsSorted, IsPermutation}
 use Rattle.std.specs.Cmp.{IsTotalOrder, then_total, on_total, nat_cmp_total, alike_right, tied_back, Equal-is, ranks}
-use Rattle.std.specs.Ordering.{is_eq, nat_cmp, ordering_then, ordering_reverse, MatchOrdering}
+use Rattle.std.specs.Ordering.{eq_by_cmp, is_eq, nat_cmp, ordering_then, ordering_reverse, MatchOrdering}
 use Rattle.std.specs.declared.cmp.Ordering.{Ordering}
 use Rattle.std.specs.declared.cmp.Ordering.TheVariants.{Less, Equal, Greater}
 use Rattle.std.proofs.lemmas.Bool.{cases_eq, or_from, or_left, cases_order, false≢true, eq-eqb, eqb-false, ne_eqb}
-use Rattle.std.proofs.lemmas.List.{same_lists, length-map, get_or-map, get_or-set_same, get_or-set_other, get_or_default}
+use Rattle.std.proofs.lemmas.List.{same_lists, take-map, length-map, get_or-map, get_or-set_same, get_or-set_other, get_or_default}
 use Rattle.std.proofs.lemmas.List.Elements.{All-get_or, All-from_get_or, filter_passes}
 use Rattle.std.proofs.lemmas.List.FromFn.{fill_by_all, length-range_with_len, get_or-range_with_len}
 use Rattle.std.proofs.lemmas.List.Kept.{IsStrictlySortedBy-filter}
-use Rattle.std.proofs.lemmas.List.Sorted.{IsPermutation-map, length_permutation, list_any-IsPermutation, All-permutation, Contains-permutation}
+use Rattle.std.proofs.lemmas.List.Sorted.{IsPermutation-map, IsPermutation-trans, length_permutation, list_any-IsPermutation, All-permutation, Contains-permutation}
 use Rattle.std.proofs.lemmas.Map.Keys.{Less-from_sorted, sorted_from_all_adjacent, IsDistinct-from_apart, IsDistinct-IsPermutation, apart_from_distinct, sorted_head}
-use Rattle.domain_records.specs.Places.{ArePlaces, AreSeats, IsArranged, place_cmp}
-use Rattle.domain_records.specs.SortedSet.{KeepsEarliest}
-use Rattle.domain_records.proofs.SortedLists.{first_of, find_first}
+use Rattle.domain_records.specs.Places.{ArePlaces, AreSeats, AreSetPlaces, IsArranged, place_cmp}
+use Rattle.domain_records.specs.SortedSet.{KeepsEarliest, IsUnion}
+use Rattle.domain_records.proofs.Dedups.{dedup-map}
+use Rattle.domain_records.proofs.SortedLists.{first_of, find_first, sorted_set, dedup_earliest}
 
 by_rank : (x y : ℕ) (r : Ordering) → MatchOrdering r (x < y) (x ≡ y) (y < x) → x < y → r ≡ Less
 by_rank x y Less h lt = refl
@@ -205,29 +206,46 @@ module _ {X : Type 0} {R : X → X → Ordering} (o : IsTotalOrder R) (xs : List
   in_place : xs ≡ map key (range_with_len 0 (length xs))
   in_place = fill_by_all key xs (length xs) d refl (λ k lt. refl)
 
-  module _ (ys : List X) (h : IsArranged xs places ys) where
-    moved_is : ys ≡ map key places
-    moved_is =
-        let n = length_places (length xs) places all in
-        same_lists ys (map key places) (h.many ∙ sym n ∙ sym (length-map places key))
-        (λ k e lt. let below : k < length places = let m = h.many in omega (arith, n) in
-        get_or_default ys k e d lt ∙ h.each k d (let m = h.many in omega arith) ∙ sym (get_or-map key places k 0 e below))
+  pub mapped-moved : IsPermutation xs (map key places)
+  mapped-moved =
+      let p = IsPermutation-map key (range_with_len 0 (length xs)) places all in
+      subst (λ (l : List X). IsPermutation l (map key places)) (sym in_place) p
 
-    pub arranged-moved : IsPermutation xs ys
-    arranged-moved =
-        let p = IsPermutation-map key (range_with_len 0 (length xs)) places all in
-        subst (λ (l : List X). IsPermutation l ys) (sym in_place) (subst (IsPermutation (map key (range_with_len 0 (length xs)))) (sym moved_is) p)
+  pub mapped-sorted : IsSorted R (map key places)
+  mapped-sorted k e le lt =
+      let m = length-map places key in
+      let below : k + 1 < length places = omega arith in
+      let up : is_lt (R (key (get_or places (k + 1) 0)) (key (get_or places k 0))) ≡ false = not_lt_first (R (key (get_or places (k + 1) 0)) (key (get_or places k 0))) (nat_cmp (get_or places (k + 1) 0) (get_or places k 0)) (sorted k 0 (omega arith) below) in
+      rw (get_or-map key places k 0 e (omega arith), get_or-map key places (k + 1) 0 e below) up
 
-    pub arranged-sorted : IsSorted R ys
-    arranged-sorted k e le lt =
-        let n = length_places (length xs) places all in
-        let m = h.many in
-        let up : is_lt (R (key (get_or places (k + 1) 0)) (key (get_or places k 0))) ≡ false = not_lt_first (R (key (get_or places (k + 1) 0)) (key (get_or places k 0))) (nat_cmp (get_or places (k + 1) 0) (get_or places k 0)) (sorted k 0 (omega arith) (omega (arith, n))) in
-        let a = get_or_default ys k e d (omega arith) ∙ h.each k d (omega arith) in
-        let b = get_or_default ys (k + 1) e d lt ∙ h.each (k + 1) d (omega arith) in
-        rw (a, b) up
+  pub mapped-earliest : KeepsEarliest R xs (map key places)
+  mapped-earliest x =
+      let p = λ (y : X). is_eq (R y x) in
+      find-map key p places ∙ ap (option_map key) (same_first x) ∙ sym (find-map key p (range_with_len 0 (length xs))) ∙ ap (find p) (sym in_place)
 
-    pub arranged-earliest : KeepsEarliest R xs ys
-    arranged-earliest x =
-        let p = λ (y : X). is_eq (R y x) in
-        ap (find p) moved_is ∙ find-map key p places ∙ ap (option_map key) (same_first x) ∙ sym (find-map key p (range_with_len 0 (length xs))) ∙ ap (find p) (sym in_place)
+-- what a list that is put into the order of places has at its seats
+arranged_is : {X : Type 0} (xs : List X) (d : X) (places : List ℕ) → ArePlaces (length xs) places → (ys : List X) → IsArranged xs places ys → ys ≡ map (λ k. get_or xs k d) places
+arranged_is {X = X} xs d places all ys h =
+    let key : ℕ → X = λ k. get_or xs k d in
+    let n = length_places (length xs) places all in
+    same_lists ys (map key places) (h.many ∙ sym n ∙ sym (length-map places key))
+    (λ k e lt. let below : k < length places = let m = h.many in omega (arith, n) in
+    get_or_default ys k e d lt ∙ h.each k d (let m = h.many in omega arith) ∙ sym (get_or-map key places k 0 e below))
+
+module _ {X : Type 0} {R : X → X → Ordering} (o : IsTotalOrder R) (xs : List X) (d : X) (places : List ℕ) (n : ℕ) (h : AreSetPlaces R xs d places n) where
+  pub set_places_all : ArePlaces (length xs) places
+  set_places_all = IsPermutation-trans (range_with_len 0 (length xs)) h.sorted places h.in_order.all h.moved
+
+  -- the first n of the items that are put into the order of these places are the sorted set
+  pub arranged_set : (stable : Bool) (ys : List X) → IsArranged xs places ys → IsUnion stable R xs (take n ys)
+  arranged_set stable ys put =
+      let key : ℕ → X = λ k. get_or xs k d in
+      let zs = map key h.sorted in
+      let p = h.in_order in
+      let is : take n ys ≡ dedup (eq_by_cmp R) zs =
+      ap (take n) (arranged_is xs d places set_places_all ys put) ∙ take-map key n places ∙ ap (map key) h.kept ∙ sym (dedup-map key (eq_by_cmp R) h.sorted) in
+      subst (IsUnion stable R xs) (sym is)
+      (record {
+        set = sorted_set o xs zs (mapped-moved o xs d h.sorted p.all p.sorted) (mapped-sorted o xs d h.sorted p.all p.sorted);
+        earliest = λ on. dedup_earliest o xs zs (mapped-earliest o xs d h.sorted p.all p.sorted);
+      })

@@ -1,19 +1,19 @@
 -- Sorted sets as lists: where an element stands or goes, and what a sort and a dedup leave.
 use Rattle.std.proofs.Common.{◌≡◌, ℕ, ◌+◌, ◌<◌, ◌≤◌, suc, Bool, true, false, cond, List, [], ◌∷◌, ◌++◌, length, get_or, take, drop, Option, Some, None, Result, Ok, Err, IfOk, IfErr, refl, sym, ◌∙◌, ap, subst, arith, is_lt}
-use Rattle.std.specs.List.{AllByRecursion, Contains, dedup, dedup_from, filter, find, insert, remove}
+use Rattle.std.specs.List.{AllByRecursion, Contains, dedup, dedup_from, filter, find, insert, remove, slice_get}
 use Rattle.std.specs.List.Sorted.{IsStrictlySortedBy, IsSorted, IsPermutation, IsSearchInRange, IsBinarySearchResult, IsNonDecreasingBy}
 use Rattle.std.specs.Cmp.{IsTotalOrder, IsEquivalence, eq_by_cmp_equiv, tied_back, Equal-is}
 use Rattle.std.specs.Ordering.{eq_by_cmp, ordering_index, ordering_reverse}
 use Rattle.std.specs.declared.cmp.Ordering.{Ordering}
 use Rattle.std.specs.declared.cmp.Ordering.TheVariants.{Less, Equal, Greater}
 use Rattle.std.proofs.lemmas.Map.Keys.{Less-from_sorted}
-use Rattle.std.proofs.lemmas.List.Sorted.{searchable_from_sorted, IsPermutation-insert, Contains-permutation, All-permutation}
+use Rattle.std.proofs.lemmas.List.Sorted.{searchable_from_sorted, IsPermutation-refl, IsPermutation-insert, Contains-permutation, All-permutation}
 use Rattle.std.proofs.lemmas.List.Kept.{IsStrictlySortedBy-dedup, Any-dedup}
 use Rattle.std.proofs.lemmas.List.Filters.{All-dedup}
 use Rattle.std.proofs.lemmas.List.{take-append-drop, get_or-take, get_or-drop, get_or_default, length-take-le, length-drop}
 use Rattle.std.proofs.Math.Seq.{drop-cons}
 use Rattle.std.proofs.lemmas.List.Elements.{All-contains_itself, recursion_from_All}
-use Rattle.domain_records.specs.SortedSet.{IsAt, IsGapFor, Holds, IsSortedSetOf, KeepsEarliest, Adds}
+use Rattle.domain_records.specs.SortedSet.{IsAt, IsGapFor, Holds, IsSortedSetOf, IsUnion, KeepsEarliest, Adds}
 
 module _ {X : Type 0} where
   -- the first that passes is the first of those that pass
@@ -103,6 +103,11 @@ module _ {X : Type 0} {R : X → X → Ordering} (o : IsTotalOrder R) where
         let a = Any-dedup (eq_by_cmp_equiv o) ys x (Contains-permutation xs ys x moved h) in
         (a.0, a.1, a.2, a.3, tied_back o x a.1 ((Equal-is (R x a.1)).0 a.4));
   }
+
+  -- of no elements
+  pub no_union : (stable : Bool) (xs : List X) → None ≡ slice_get xs 0 → IsUnion stable R xs xs
+  no_union stable [] none = record { set = sorted_set [] [] (IsPermutation-refl []) (λ k d le lt. absurd (omega arith)); earliest = λ on x. refl }
+  no_union stable (x ∷ xs) none = absurd (cc)
 
   -- a new element in its gap
   pub sorted_insert : (xs : List X) (x : X) (i : ℕ) → IsStrictlySortedBy R xs → IsGapFor R xs x i → Adds R xs x (insert xs i x)

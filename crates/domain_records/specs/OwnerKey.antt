@@ -1,5 +1,5 @@
 -- Keys of names: numbers in the order of names.
-use Rattle.std.specs.Prelude.{ℕ, ◌+◌, ◌*◌, ◌/◌, ◌-◌, ◌≤◌, min, max, Bool, ◌==◌, ◌||◌, List, [], ◌∷◌, ◌++◌, map, drop, fold, Option, None, Some, if◌then◌else◌}
+use Rattle.std.specs.Prelude.{ℕ, zero, suc, ◌+◌, ◌*◌, ◌^◌, ◌-◌, ◌≤◌, min, max, Bool, ◌==◌, ◌||◌, List, [], ◌∷◌, ◌++◌, map, drop, Option, None, Some, if◌then◌else◌}
 use Rattle.std.specs.List.{flat_map}
 use Rattle.domain_base.specs.Order.{from_root}
 use Rattle.domain_base.specs.Words.{Label, Name}
@@ -18,30 +18,27 @@ digits label = map digit_of label ++ 0 ∷ []
 abbrev pub is_shared : ℕ → Bool
 is_shared digit = digit == 1 || digit == 83
 
--- a digit at the end
-abbrev pub pushed : Key → ℕ → Key
-pushed key digit = record {
-  value = key.value + digit * key.weight;
-  weight = if is_shared digit then 0 else key.weight / 84;
-}
+-- the first n of the digits, to the base 84; 0 stands for each that is not there, or that follows a
+-- shared one
+abbrev pub number : ℕ → List ℕ → ℕ
+number zero ds = 0
+number (suc n) [] = 0
+number (suc n) (d ∷ ds) = d * 84 ^ n + (if is_shared d then 0 else number n ds)
 
--- there is room for ten digits to the base 84, which is 84 to the tenth
-abbrev pub empty : Key
-empty = record { value = 0; weight = 208215748530929664 }
-
--- the labels one after another
-abbrev pub key_of : Name → Key
-key_of labels = fold pushed empty (flat_map digits labels)
-
--- the key of a name below its first n labels from the root
+-- the key of a name below its first n labels from the root: twenty digits of one label after
+-- another
 abbrev pub name_key : ℕ → Name → ℕ
-name_key n name = (key_of (drop n (from_root name))).value
+name_key n name = number 20 (flat_map digits (drop n (from_root name)))
 
 -- the key of what has labels, where all are at or below a name of n; else all keys are 0
 abbrev pub key_below : {X : Type 0} → (X → Name) → Option ℕ → X → ℕ
 key_below labels None x = 0
 key_below labels (Some n) x = name_key n (labels x)
 
--- the digits that come fit 64 bits
+-- what a key comes to with the digits that follow
+abbrev pub followed : Key → List ℕ → ℕ
+followed key ds = key.value * 84 ^ key.left + number key.left ds
+
+-- with the digits that are left there are at most twenty, which fit 128 bits
 abbrev pub Fits : Key → Type 0
-Fits key = key.value + 84 * key.weight ≤ 18446744073709551616
+Fits key = (key.value + 1) * 84 ^ key.left ≤ 84 ^ 20

@@ -1,8 +1,8 @@
 -- The elements of a list, put into another order by their places.
-use Rattle.std.specs.Prelude.{◌≡◌, ℕ, ◌<◌, List, length, slice_index, slice_index_or, IsPermutation}
-use Rattle.std.specs.List.{range_with_len}
+use Rattle.std.specs.Prelude.{◌≡◌, ℕ, ◌<◌, Bool, List, length, take, slice_index, slice_index_or, IsPermutation}
+use Rattle.std.specs.List.{dedup, range_with_len}
 use Rattle.std.specs.List.Sorted.{IsSorted}
-use Rattle.std.specs.Ordering.{nat_cmp, on, then_cmp}
+use Rattle.std.specs.Ordering.{is_eq, nat_cmp, on, then_cmp}
 use Rattle.std.specs.declared.cmp.Ordering.{Ordering}
 
 -- the places of a list of n elements, each once
@@ -36,3 +36,15 @@ pub record AreSortedPlaces {X : Type 0} (R : X → X → Ordering) (xs : List X)
     (places : List ℕ) : Type 0 where
   pub all : ArePlaces (length xs) places
   pub sorted : IsSorted (place_cmp R xs d) places
+
+-- R calls what stands at the places equal
+abbrev pub alike : {X : Type 0} → (X → X → Ordering) → List X → X → ℕ → ℕ → Bool
+alike R xs d a b = is_eq (R (slice_index_or xs a d) (slice_index_or xs b d))
+
+-- all places of xs: the first n are the sorted ones without all but the first of those alike
+pub record AreSetPlaces {X : Type 0} (R : X → X → Ordering) (xs : List X) (d : X)
+    (places : List ℕ) (n : ℕ) : Type 0 where
+  pub sorted : List ℕ
+  pub in_order : AreSortedPlaces R xs d sorted
+  pub moved : IsPermutation sorted places
+  pub kept : take n places ≡ dedup (alike R xs d) sorted

@@ -1,37 +1,14 @@
 //! Lists as sorted sets.
 ghost use Rattle.std.specs.Prelude.{◌≡◌, ◌++◌, List, IfOk, IfErr, OnOk, OnErr};
-ghost use Rattle.std.specs.List.{AllZip, dedup};
+ghost use Rattle.std.specs.List.{AllZip};
 ghost use Rattle.std.specs.List.Sorted.{IsStrictlySortedBy};
-ghost use Rattle.std.specs.Ordering.{eq_by_cmp};
 ghost use Rattle.std.specs.Iterator.{IsFiniteIterable};
 ghost use Rattle.domain_records.specs.Edits.{Gives, IsFirstMatch};
-ghost use Rattle.domain_records.specs.SortedSet.{IsAt, IsGapFor, IsUnion};
+ghost use Rattle.domain_records.specs.SortedSet.{IsAt, IsGapFor};
 
-use crate::owner_order::OwnerOrd;
-use crate::sort::sort_items;
-use crate::sorter::Sorter;
 use domain_base::CanonicalOrd;
 use domain_octets::{OutOfMemory, TryClone};
 use std::alloc::Global;
-
-/// Keeps the first of each run of equal elements.
-pub(crate) fn dedup_equal<T: CanonicalOrd + Drop>(items: &mut Vec<T>)
-    ensures { items.new.items ≡ dedup (eq_by_cmp T.canonical_cmp) items.old.items }
-{
-    items.dedup_by(|a, b| a.canonical_cmp(b).is_eq());
-}
-
-/// Sorts, and keeps one of equal elements. A refusal leaves the list as it was.
-pub(crate) fn sort_and_dedup<T: OwnerOrd + Drop, S: Sorter>(
-    items: &mut Vec<T>,
-) -> Result<(), OutOfMemory>
-    ensures ok { OnOk result (IsUnion S.is_stable T.canonical_cmp items.old.items items.new.items) }
-    ensures err { OnErr result (items.new.items ≡ items.old.items) }
-{
-    sort_items::<T, S>(items)?;
-    dedup_equal(items);
-    Ok(())
-}
 
 /// Where an equal element stands, or where `item` would go, by a binary search.
 pub(crate) fn search<T: CanonicalOrd>(items: &[T], item: &T) -> Result<usize, usize>

@@ -1,8 +1,9 @@
 //! Runs: neighbours of one owner.
 ghost use Rattle.std.specs.Prelude.{◌≡◌, ◌<◌, ◌≤◌, ◌++◌, [], length, slice_index_or, IfOk, OnOk, IsPermutation};
+ghost use Rattle.std.specs.List.{dedup};
 ghost use Rattle.std.specs.List.Sorted.{IsSorted};
 ghost use Rattle.std.specs.Ordering.{is_ne};
-ghost use Rattle.domain_records.specs.Places.{AreSortedPlaces, compared_places, place_cmp};
+ghost use Rattle.domain_records.specs.Places.{AreSetPlaces, alike, compared_places, place_cmp};
 ghost use Rattle.domain_records.specs.OwnerRuns.{AreKeyed, AreRuns, AreSortedRuns, IsOwner, KeyTells, compared_runs, places_of, run_cmp};
 
 use crate::owner_order::OwnerOrd;
@@ -15,9 +16,17 @@ use std::cmp::Ordering;
 /// The items from `start` up to `end`, which have one owner, with a key of the owner.
 #[derive(Clone, Copy)]
 pub(crate) struct Run {
-    pub(crate) key: u64,
+    pub(crate) key: u128,
     pub(crate) start: usize,
     pub(crate) end: usize,
+}
+
+/// The places of all items: those of their sorted set in order, and then those of items that are
+/// equal to one of these.
+pub(crate) struct SetPlaces {
+    pub(crate) places: Vec<usize>,
+    /// How many are of the set.
+    pub(crate) kept: usize,
 }
 
 /// The item at a place. Past the end `other` stands.
@@ -141,7 +150,8 @@ fn take_owner<T: OwnerOrd>(
     ensures { IfOk result (λ next. IsOwner T.owner_order items.now other.now runs.now first next
         group.new.items) }
 {
-    for next in first..runs.len() {
+    push_places(group, runs[first])?;
+    for next in first + 1..runs.len() {
         if has_other_owner(items, other, runs[first], runs[next]) {
             return Ok(next);
         }
@@ -150,39 +160,84 @@ fn take_owner<T: OwnerOrd>(
     Ok(runs.len())
 }
 
-/// The places of all items in canonical order.
+/// Whether items that have one owner are equal.
+fn is_alike<T: OwnerOrd>(items: &[T], other: &T, a: usize, b: usize) -> bool
+    ensures { result ≡ alike T.rest_order items.now other.now a b }
+{
+    item_at(items, a, other)
+        .rest_cmp(item_at(items, b, other))
+        .is_eq()
+}
+
+/// Takes the places out of a group that is in order: of those of equal items the first goes to
+/// `kept`, and the others go to `equals`.
+fn part_group<T: OwnerOrd>(
+    items: &[T],
+    other: &T,
+    group: &mut Vec<usize>,
+    kept: &mut Vec<usize>,
+    equals: &mut Vec<usize>,
+) -> Result<(), OutOfMemory>
+    ensures empty { OnOk result (group.new.items ≡ []) }
+    ensures kept { OnOk result (kept.new.items
+        ≡ kept.old.items ++ dedup (alike T.rest_order items.now other.now) group.old.items) }
+    ensures all { OnOk result
+        (IsPermutation (kept.old.items ++ (equals.old.items ++ group.old.items))
+        (kept.new.items ++ equals.new.items)) }
+{
+    let Some((first, rest)) = group.split_first() else {
+        return Ok(());
+    };
+    kept.push(*first)?;
+    let mut last = *first;
+    for place in rest {
+        if is_alike(items, other, *place, last) {
+            equals.push(*place)?;
+        } else {
+            kept.push(*place)?;
+            last = *place;
+        }
+    }
+    group.clear();
+    Ok(())
+}
+
+/// The places of all items, those of their set in canonical order.
 fn places_by_owner<T: OwnerOrd, S: Sorter>(
     alloc: Global,
     items: &[T],
     other: &T,
     runs: &[Run],
-) -> Result<Vec<usize>, OutOfMemory>
+) -> Result<SetPlaces, OutOfMemory>
     requires { AreSortedRuns T.owner_order items.now other.now runs.now }
-    ensures { IfOk result (λ places. AreSortedPlaces T.canonical_cmp items.now other.now
-        places.items) }
+    ensures { IfOk result (λ set. AreSetPlaces T.canonical_cmp items.now other.now
+        set.places.items set.kept) }
 {
     let mut places = Vec::with_capacity(alloc, items.len())?;
+    let mut equals = Vec::new(alloc);
     let mut group = Vec::new(alloc);
     let mut next = 0;
     while next < runs.len() {
         next = take_owner(items, other, runs, next, &mut group)?;
         sort_group::<T, S>(items, other, &mut group)?;
-        places.append(&mut group)?;
+        part_group(items, other, &mut group, &mut places, &mut equals)?;
     }
-    Ok(places)
+    let kept = places.len();
+    places.append(&mut equals)?;
+    Ok(SetPlaces { places, kept })
 }
 
-/// The places of the items in canonical order, from their runs: the runs are given keys and
-/// sorted by owner, and then the items of each owner.
-pub(crate) fn sorted_places<T: OwnerOrd, S: Sorter>(
+/// The places of the items, those of their set in canonical order, from their runs: the runs are
+/// given keys and sorted by owner, and then the items of each owner.
+pub(crate) fn set_places<T: OwnerOrd, S: Sorter>(
     alloc: Global,
     items: &[T],
     other: &T,
     mut runs: Vec<Run>,
-) -> Result<Vec<usize>, OutOfMemory>
+) -> Result<SetPlaces, OutOfMemory>
     requires { AreRuns T.owner_order items.now other.now runs.items }
-    ensures { IfOk result (λ places. AreSortedPlaces T.canonical_cmp items.now other.now
-        places.items) }
+    ensures { IfOk result (λ set. AreSetPlaces T.canonical_cmp items.now other.now
+        set.places.items set.kept) }
 {
     give_keys(items, other, &mut runs);
     sort_runs::<T, S>(items, other, &mut runs)?;

@@ -43,7 +43,7 @@ fn shared_labels<T: OwnerOrd>(items: &[T], other: &T, runs: &[Run]) -> Option<us
 }
 
 /// The key of an item's owner, where all share as many labels.
-fn key_below<T: OwnerOrd>(item: &T, shared: Option<usize>) -> u64
+fn key_below<T: OwnerOrd>(item: &T, shared: Option<usize>) -> u128
     ensures { result ≡ key_below T.owner_labels shared item.now }
 {
     match shared {

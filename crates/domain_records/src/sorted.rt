@@ -18,10 +18,11 @@ ghost use Rattle.domain_records.specs.Order.{IsOneClass, IsInOrder};
 ghost use Rattle.domain_records.specs.SortedSet.{IsUnion, Adds, Holds};
 
 use crate::error::{InsertError, SigningError};
-use crate::list::{append, clone_all, first_match, search, sort_and_dedup};
+use crate::list::{append, clone_all, first_match, search};
 use crate::lookup::{Wanted, first_of_type, first_place, is_wanted, rrset_at};
 use crate::owner::RecordsIter;
 use crate::rrset::{Rrset, RrsetIter};
+use crate::sort::sort_and_dedup;
 use crate::sorter::{DefaultSorter, Sorter};
 use crate::write::{SoaRecords, write_part, write_part_with_comments};
 use domain_base::{CanonicalOrd, Class, Rtype, ToName};

@@ -1,11 +1,11 @@
-use Rattle.std.proofs.Common.{◌≡◌, map, take, fold}
+use Rattle.std.proofs.Common.{◌≡◌, List, ℕ, ◌++◌, map, drop}
 use Rattle.std.specs.Char.{to_ascii_lowercase}
-use Rattle.domain_records.specs.OwnerKey.{Fits, digit_of, pushed}
+use Rattle.domain_records.specs.OwnerKey.{Fits, digits, followed}
 use Rattle.domain_records.proofs.owner_key.push_label.Given as goal
 
--- the octets so far
+-- the octets that are left make the key what the whole label makes it
 abbrev pub invariant-loop-octet : goal.invariant-loop-octet
 invariant-loop-octet l = record {
-  pushed : l.longer ≡ fold pushed l.initial.longer (map digit_of (map to_ascii_lowercase (take l.octet-index l.label)));
+  pushed : (ds : List ℕ) → followed l.longer (digits (map to_ascii_lowercase (drop l.octet-index l.label)) ++ ds) ≡ followed l.initial.longer (digits (map to_ascii_lowercase l.label) ++ ds);
   fits : Fits l.longer;
 }
