@@ -1,14 +1,19 @@
 //! What a run answers, and how it is printed.
 ghost use Rattle.std.specs.Prelude.{◌≡◌, ◌⊎◌, List, IfErr, IfOk, OnOk};
 ghost use Rattle.std.specs.Io.KnownBytes.{Appends};
+ghost use Rattle.domain_base.specs.Words.{Name};
+ghost use Rattle.domain_rdata.specs.Zone.{rtype_of};
+ghost use Rattle.domain_records.specs.Order.{IsInOrder, IsOneClass};
+ghost use Rattle.domain_nsec3.specs.View.{Answer as HasherAnswer};
 ghost use Rattle.domain_dnssec.specs.AnyOrder.{Sorts};
 ghost use Rattle.denial.specs.Answer.{HasNoAnswer, HasNoNsec3s, HasNoNsecs, IsAnswer, IsNsec3s, IsNsecs, IsUnwritten, IsWritten};
+ghost use Rattle.denial.specs.Command.{Params};
 ghost use Rattle.denial.specs.Fault.{IsBeforeOutput};
 ghost use Rattle.denial.specs.Listing.{ProgramRecord};
 ghost use Rattle.denial.specs.Text.{answer_text, lines_of, nsec_line, nsec3_line, nsec3s_text};
 ghost use Rattle.denial.specs.declared.fault.DenialFault.TheVariants.{OutOfMemory};
 
-use crate::arena::{StoredData, StoredOctets, StoredRr, store_name};
+use crate::arena::{StoredData, StoredOctets, StoredRr, lay_owners, store_name};
 use crate::check::{nsec_verdict, nsec3_verdict};
 use crate::command::{Command, Nsec3Params};
 use crate::fault::{DenialFault, fault_of};
@@ -18,7 +23,7 @@ use bumpalo::Bump;
 use domain_base::ParsedName;
 use domain_dnssec::{
     DefaultSorter, GenerateNsec3Config, GenerateNsecConfig, HashedNsec3s, Nsec3Chain, Nsec3Hasher,
-    NsecChain, SortedRecords, Verdict, hash_nsec3s_of_records, lend_nsecs_of_sorted,
+    NsecChain, RecordsIter, SigningError, SortedRecords, Verdict, hash_nsec3s, lend_nsecs,
 };
 use domain_plain::Record;
 use domain_rdata::{Nsec, Nsec3};
@@ -32,9 +37,6 @@ pub type NsecRr<'a> = Record<ParsedName<'a>, Nsec<StoredOctets<'a>, ParsedName<'
 /// A record of an NSEC3 chain.
 pub type Nsec3Rr<'a> = Record<ParsedName<'a>, Nsec3<StoredOctets<'a>>>;
 
-/// The records of a zone, sorted.
-type SortedZone<'a> = SortedRecords<ParsedName<'a>, StoredData<'a>>;
-
 /// What a run answers. An NSEC chain borrows from the records of its zone, an NSEC3 chain its apex.
 #[derive(Drop)]
 pub enum Answer<'s, 'a> {
@@ -46,32 +48,56 @@ pub enum Answer<'s, 'a> {
     Verdict(ZoneName, Verdict),
 }
 
-/// The records, sorted.
-fn sort_zone<'a>(records: Vec<StoredRr<'a>>) -> Result<SortedZone<'a>, DenialFault>
-    ensures ok { IfOk result (Sorts (λ o. o) (λ n. n) records.entry.items) }
-    ensures err { IfErr result (λ e. e ≡ OutOfMemory) }
+/// The records, sorted, with the octets of their owners in the arena once more, in order: the walk
+/// over them, and the chain that borrows them, go over these from one end to the other.
+///
+/// # Errors
+///
+/// `MixedClasses` where the records are not of one class, and `OutOfMemory`.
+fn sort_zone<'a>(
+    arena: &'a Bump,
+    records: Vec<StoredRr<'a>>,
+) -> Result<Vec<StoredRr<'a>>, DenialFault>
+    ensures sorts { IfOk result
+        (λ sorted. Sorts (λ o. o) (λ n. n) records.entry.items sorted.items) }
+    ensures one_class { IfOk result (λ sorted. IsOneClass sorted.items) }
+    ensures in_order { IfOk result (λ sorted. IsInOrder (λ n. n) rtype_of sorted.items) }
+    ensures none { IfErr result
+        (λ fault. (apex : Name) → HasNoNsecs records.entry.items apex fault) }
+    ensures none_hashed { IfErr result (λ fault. (answers : HasherAnswer) (apex : Name) (p : Params)
+        → HasNoNsec3s answers records.entry.items apex p fault) }
 {
-    match SortedRecords::from_vec(records) {
-        Ok(sorted) => Ok(sorted),
-        Err(_) => Err(DenialFault::OutOfMemory),
+    let sorted: SortedRecords<ParsedName<'a>, StoredData<'a>> = match SortedRecords::from_vec(
+        records,
+    ) {
+        Ok(sorted) => sorted,
+        Err(_) => return Err(DenialFault::OutOfMemory),
+    };
+    if !sorted.owner_rrs().is_one_class() {
+        return Err(DenialFault::MixedClasses);
     }
+    let laid = lay_owners(arena, sorted.into_inner())?;
+    Ok(laid)
 }
 
 /// The NSEC chain of the zone that the records are, from which it borrows.
 fn nsecs_of<'s, 'a>(
     alloc: Global,
     apex: &'s ParsedName<'a>,
-    sorted: &'s SortedZone<'a>,
+    sorted: &'s [StoredRr<'a>],
 ) -> Result<Answer<'s, 'a>, DenialFault>
+    requires one_class { IsOneClass sorted.now }
+    requires in_order { IsInOrder (λ n. n) rtype_of sorted.now }
     ensures ok { IfOk result (λ answer. (given : List ProgramRecord)
         → Sorts (λ o. o) (λ n. n) given sorted.now → IsNsecs given apex.now answer) }
     ensures err { IfErr result (λ fault. (given : List ProgramRecord)
         → Sorts (λ o. o) (λ n. n) given sorted.now → HasNoNsecs given apex.now fault) }
 {
     let config = GenerateNsecConfig::new();
-    match lend_nsecs_of_sorted(alloc, apex, sorted, &config) {
+    match lend_nsecs(alloc, apex, RecordsIter::new_from_owned(sorted), &config) {
         Ok(nsecs) => Ok(Answer::Nsecs(nsecs)),
-        Err(error) => Err(DenialFault::from(error)),
+        Err(SigningError::OutOfMemory) => Err(DenialFault::OutOfMemory),
+        Err(error) => Err(DenialFault::Signing(error)),
     }
 }
 
@@ -80,20 +106,31 @@ fn nsec3s_of<'s, 'a, H: Nsec3Hasher>(
     alloc: Global,
     apex: &'s ParsedName<'a>,
     parameters: Nsec3Params,
-    records: Vec<StoredRr<'a>>,
+    sorted: &[StoredRr<'a>],
     hasher: &H,
 ) -> Result<Answer<'s, 'a>, DenialFault>
-    ensures ok { IfOk result
-        (IsNsec3s (H.answer hasher.now) records.entry.items apex.now parameters) }
-    ensures err { IfErr result
-        (HasNoNsec3s (H.answer hasher.now) records.entry.items apex.now parameters) }
+    requires one_class { IsOneClass sorted.now }
+    requires in_order { IsInOrder (λ n. n) rtype_of sorted.now }
+    ensures ok { IfOk result (λ answer. (given : List ProgramRecord)
+        → Sorts (λ o. o) (λ n. n) given sorted.now
+        → IsNsec3s (H.answer hasher.now) given apex.now parameters answer) }
+    ensures err { IfErr result (λ fault. (given : List ProgramRecord)
+        → Sorts (λ o. o) (λ n. n) given sorted.now
+        → HasNoNsec3s (H.answer hasher.now) given apex.now parameters fault) }
 {
     let config: GenerateNsec3Config<ZoneOctets, DefaultSorter> = GenerateNsec3Config::new(
         parameters,
     );
-    match hash_nsec3s_of_records(alloc, apex, records, &config, hasher) {
+    match hash_nsec3s(
+        alloc,
+        apex,
+        RecordsIter::new_from_owned(sorted),
+        &config,
+        hasher,
+    ) {
         Ok(made) => Ok(Answer::Nsec3s(made)),
-        Err(error) => Err(DenialFault::from(error)),
+        Err(SigningError::OutOfMemory) => Err(DenialFault::OutOfMemory),
+        Err(error) => Err(DenialFault::Signing(error)),
     }
 }
 
@@ -189,7 +226,7 @@ fn write_nsecs_of<'a, W: Write>(
     ensures untouched { IfErr result (λ e. IsBeforeOutput e → output.new ≡ output.old) }
 {
     let apex = store_name(arena, apex)?;
-    let sorted = sort_zone(records)?;
+    let sorted = sort_zone(arena, records)?;
     let answer = nsecs_of(alloc, &apex, &sorted)?;
     answer.send(output)
 }
@@ -213,7 +250,8 @@ fn write_nsec3s_of<'a, W: Write, H: Nsec3Hasher>(
     ensures untouched { IfErr result (λ e. IsBeforeOutput e → output.new ≡ output.old) }
 {
     let apex = store_name(arena, apex)?;
-    let answer = nsec3s_of(alloc, &apex, parameters, records, hasher)?;
+    let sorted = sort_zone(arena, records)?;
+    let answer = nsec3s_of(alloc, &apex, parameters, &sorted, hasher)?;
     answer.send(output)
 }
 

@@ -1,14 +1,17 @@
 //! Records whose names and octets lie in an arena, one after another.
 ghost use Rattle.std.specs.Prelude.{◌≡◌, ◌∷◌, ◌++◌, [], IfOk, OnOk};
+ghost use Rattle.domain_base.specs.Wire.{IsWire, labels_of};
 
 use crate::line::{ReadRr, ZoneData, ZoneName, ZoneOctets};
 use bumpalo::Bump;
 use domain_base::{ParsedName, ToName};
 use domain_octets::{Octets, OutOfMemory, TryClone};
-use domain_plain::{Mx, Ns, Record, Soa, UnknownRecordData};
+use domain_plain::{A, Mx, Ns, Record, Soa, UnknownRecordData};
 use domain_rdata::{Nsec, Nsec3, Nsec3param, ZoneRecordData};
 use domain_rrsig::Rrsig;
 use std::marker::Model;
+use std::mem;
+use std::net::Ipv4Addr;
 
 /// Octets in an arena.
 #[derive(Drop)]
@@ -211,4 +214,49 @@ pub fn store_record<'a>(
     ensures { OnOk result (records.new.items ≡ records.old.items ++ «record».entry ∷ []) }
 {
     store_copy(arena, records, &record)
+}
+
+/// The wire form of a name in the arena: `last`, where it is spelled like that, or a copy.
+fn lay_wire<'a>(arena: &'a Bump, last: &'a [u8], wire: &[u8]) -> Result<&'a [u8], OutOfMemory>
+    ensures { IfOk result (λ laid. laid.now ≡ wire.now) }
+{
+    if last == wire {
+        return Ok(last);
+    }
+    let copy = arena.try_alloc_slice_copy(wire)?;
+    Ok(copy)
+}
+
+/// Puts another copy of its owner's wire form into a record. An empty record stands there while the
+/// parts of the record are out.
+fn put_wire<'a>(stored: &mut StoredRr<'a>, wire: &'a [u8])
+    requires wire { IsWire wire.now }
+    requires same { labels_of wire.now ≡ stored.old.owner }
+    ensures { stored.new ≡ stored.old }
+{
+    let nothing = ZoneRecordData::A(A::new(Ipv4Addr::UNSPECIFIED));
+    let empty = Record::new(
+        ParsedName::over(wire),
+        stored.class(),
+        stored.ttl(),
+        nothing,
+    );
+    let (_, class, ttl, data) = mem::replace(stored, empty).into_parts();
+    *stored = Record::new(ParsedName::over(wire), class, ttl, data);
+}
+
+/// Lays the owners of records into the arena once more, in the order of the records, so that who
+/// goes over them goes over the arena from one end to the other.
+pub fn lay_owners<'a>(
+    arena: &'a Bump,
+    mut records: Vec<StoredRr<'a>>,
+) -> Result<Vec<StoredRr<'a>>, OutOfMemory>
+    ensures { IfOk result (λ laid. laid.items ≡ records.entry.items) }
+{
+    let mut last: &'a [u8] = &[];
+    for i in 0..records.len() {
+        last = lay_wire(arena, last, records[i].owner().as_wire())?;
+        put_wire(&mut records[i], last);
+    }
+    Ok(records)
 }
