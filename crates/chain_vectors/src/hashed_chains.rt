@@ -3,8 +3,8 @@ use crate::hashers::table;
 use crate::verdicts;
 use domain_base::{Nsec3HashAlgorithm, ScanError, Ttl};
 use domain_dnssec::{
-    DefaultSorter, GenerateNsec3Config, Nsec3Hasher, Nsec3ParamTtlMode, Nsec3Records,
-    generate_nsec3s, generate_nsec3s_of_records, generate_nsec3s_of_sorted,
+    DefaultSorter, GenerateNsec3Config, HashedNsec3s, Nsec3Hasher, Nsec3ParamTtlMode, Nsec3Records,
+    generate_nsec3s, generate_nsec3s_of_records, generate_nsec3s_of_sorted, hash_nsec3s_of_records,
     mk_hashed_nsec3_owner_name,
 };
 use domain_rdata::{Nsec3Salt, Nsec3param};
@@ -115,6 +115,36 @@ fn of_any<H: Nsec3Hasher>(
     Ok(())
 }
 
+/// A chain that lends its records, and its NSEC3PARAM record, each on a line.
+fn show_lent(made: &HashedNsec3s<'_, OwnName, Vec<u8>>, answers: &mut Answers) {
+    for place in 0..made.chain.len() {
+        if let Some(nsec3) = made.chain.lend(place) {
+            answers.show("record", &nsec3);
+        }
+    }
+    if made.chain.lend(made.chain.len()).is_none() {
+        answers.echo("  no further record");
+    }
+    answers.show("record", &made.nsec3param);
+}
+
+/// The chain of records in any order as it is lent.
+fn lent<H: Nsec3Hasher>(
+    alloc: Global,
+    apex: &OwnName,
+    config: &Config,
+    hasher: &H,
+    words: &[&str],
+    answers: &mut Answers,
+) -> Result<(), ScanError> {
+    let given = records(alloc, words)?;
+    match hash_nsec3s_of_records(alloc, apex, given, config, hasher) {
+        Ok(made) => show_lent(&made, answers),
+        Err(error) => answers.refused(&error),
+    }
+    Ok(())
+}
+
 /// What there is instead of a chain where the sorter of the hashes has no memory.
 fn without_sorting<H: Nsec3Hasher>(
     alloc: Global,
@@ -150,6 +180,7 @@ fn with_hasher<H: Nsec3Hasher>(
     match form {
         "owner" => owner(alloc, apex, config, hasher, input::word(words, 0), answers),
         "any" => of_any(alloc, apex, config, hasher, words, answers),
+        "lent" => lent(alloc, apex, config, hasher, words, answers),
         "verdict" => verdicts::by_hash(alloc, apex, &config.params, hasher, words, answers),
         "unsorted" => without_sorting(alloc, apex, hasher, words, answers),
         _ => of_sorted(alloc, apex, config, hasher, words, answers),
