@@ -1,7 +1,12 @@
 -- digits of five bits, one after another
-use Rattle.std.proofs.Common.{◌≡◌, ◌≢◌, ℕ, ◌+◌, ◌*◌, ◌/◌, ◌%◌, ◌<◌, ◌≤◌, List, [], ◌∷◌, ◌++◌, length, get_or, drop, refl, sym, ap, ◌∙◌, arith, lit<}
+use Rattle.std.proofs.Common.{◌≡◌, ◌≢◌, ℕ, zero, suc, ◌+◌, ◌*◌, ◌/◌, ◌%◌, ◌<◌, ◌≤◌, zero-add, Bool, true, false, nat_lt, if◌then◌else◌, List, [], ◌∷◌, ◌++◌, length, get_or, map, take, drop, refl, sym, ap, subst, ◌∙◌, arith, lit<}
+use Rattle.std.specs.List.{AllByRecursion as ByRecursion, range_with_len}
+use Rattle.std.specs.Str.{IsAscii}
+use Rattle.std.proofs.lemmas.List.{get_or-map, length-map, length-take-le}
+use Rattle.std.proofs.lemmas.List.Elements.{All-from_recursion, recursion_from_All}
+use Rattle.std.proofs.lemmas.List.FromFn.{length-range_with_len, get_or-range_with_len}
 use Rattle.domain_octets.specs.Scale.{IsScale, no_bits, one_bit, two_bits, three_bits, four_bits, five_bits, six_bits, seven_bits}
-use Rattle.domain_octets.specs.Base32.{base32_from, digits_left}
+use Rattle.domain_octets.specs.Base32.{base32_from, digits_left, lower_digit, upper_digit, AreDigits}
 
 -- one digit is taken, and then these bits are left over
 pub record TakesDigit (scale rest : ℕ) : Type 0 where
@@ -147,31 +152,101 @@ five_alone a b c d e =
     let fifth = 256 * (fourth % 4) + e in
     five_octets a b c d e [] ∙ ap (λ l. (a / 8) ∷ (second / 64) ∷ (second % 64 / 2) ∷ (third / 16) ∷ (fourth / 128) ∷ (fourth % 128 / 4) ∷ (fifth / 32) ∷ (fifth % 32) ∷ l) no_digits
 
--- eight digits at once, where no bits are left over
-pub eight_left : (a b c d e scale rest : ℕ) (octets eight : List ℕ) → scale ≡ 1 → rest < scale → eight ≡ base32_from 1 0 (a ∷ b ∷ c ∷ d ∷ e ∷ [])
-    → digits_left scale rest (a ∷ b ∷ c ∷ d ∷ e ∷ octets) ≡ eight ++ digits_left scale rest octets
-eight_left a b c d e scale rest octets eight one below is =
+-- five octets, where no bits are left over, and those after them
+pub five_left : (xs : List ℕ) (scale rest : ℕ) → scale ≡ 1 → rest < scale → 5 ≤ length xs → digits_left scale rest xs ≡ base32_from 1 0 (take 5 xs) ++ digits_left scale rest (drop 5 xs)
+five_left (a ∷ b ∷ c ∷ d ∷ e ∷ octets) scale rest one below long =
     let none : rest ≡ 0 = omega (arith, one) in
-    rw (one, none, is, five_alone a b c d e) (five_octets a b c d e octets)
+    rw (one, none, five_alone a b c d e) (five_octets a b c d e octets)
+five_left [] scale rest one below long = absurd (omega arith)
+five_left (a ∷ []) scale rest one below long = absurd (omega arith)
+five_left (a ∷ b ∷ []) scale rest one below long = absurd (omega arith)
+five_left (a ∷ b ∷ c ∷ []) scale rest one below long = absurd (omega arith)
+five_left (a ∷ b ∷ c ∷ d ∷ []) scale rest one below long = absurd (omega arith)
 
--- a list of eight
-pub are_eight : (xs : List ℕ) → length xs ≡ 8 → xs ≡ get_or xs 0 0 ∷ get_or xs 1 0 ∷ get_or xs 2 0 ∷ get_or xs 3 0 ∷ get_or xs 4 0 ∷ get_or xs 5 0 ∷ get_or xs 6 0 ∷ get_or xs 7 0 ∷ []
-are_eight (a ∷ b ∷ c ∷ d ∷ e ∷ f ∷ g ∷ h ∷ []) is = refl
-are_eight [] is = absurd (omega arith)
-are_eight (a ∷ []) is = absurd (omega arith)
-are_eight (a ∷ b ∷ []) is = absurd (omega arith)
-are_eight (a ∷ b ∷ c ∷ []) is = absurd (omega arith)
-are_eight (a ∷ b ∷ c ∷ d ∷ []) is = absurd (omega arith)
-are_eight (a ∷ b ∷ c ∷ d ∷ e ∷ []) is = absurd (omega arith)
-are_eight (a ∷ b ∷ c ∷ d ∷ e ∷ f ∷ []) is = absurd (omega arith)
-are_eight (a ∷ b ∷ c ∷ d ∷ e ∷ f ∷ g ∷ []) is = absurd (omega arith)
-are_eight (a ∷ b ∷ c ∷ d ∷ e ∷ f ∷ g ∷ h ∷ i ∷ xs) is = absurd (omega arith)
+-- a list of five
+are_five : (xs : List ℕ) → length xs ≡ 5 → xs ≡ get_or xs 0 0 ∷ get_or xs 1 0 ∷ get_or xs 2 0 ∷ get_or xs 3 0 ∷ get_or xs 4 0 ∷ []
+are_five (a ∷ b ∷ c ∷ d ∷ e ∷ []) is = refl
+are_five [] is = absurd (omega arith)
+are_five (a ∷ []) is = absurd (omega arith)
+are_five (a ∷ b ∷ []) is = absurd (omega arith)
+are_five (a ∷ b ∷ c ∷ []) is = absurd (omega arith)
+are_five (a ∷ b ∷ c ∷ d ∷ []) is = absurd (omega arith)
+are_five (a ∷ b ∷ c ∷ d ∷ e ∷ f ∷ xs) is = absurd (omega arith)
 
--- a list of five and more
-pub five_first : (xs : List ℕ) → 5 ≤ length xs → xs ≡ get_or xs 0 0 ∷ get_or xs 1 0 ∷ get_or xs 2 0 ∷ get_or xs 3 0 ∷ get_or xs 4 0 ∷ drop 5 xs
-five_first (a ∷ b ∷ c ∷ d ∷ e ∷ xs) long = refl
-five_first [] long = absurd (omega arith)
-five_first (a ∷ []) long = absurd (omega arith)
-five_first (a ∷ b ∷ []) long = absurd (omega arith)
-five_first (a ∷ b ∷ c ∷ []) long = absurd (omega arith)
-five_first (a ∷ b ∷ c ∷ d ∷ []) long = absurd (omega arith)
+-- their digits
+pub digits_of_five : (xs : List ℕ) → length xs ≡ 5 →
+    let second = 256 * (get_or xs 0 0 % 8) + get_or xs 1 0 in
+    let third = 256 * (second % 2) + get_or xs 2 0 in
+    let fourth = 256 * (third % 16) + get_or xs 3 0 in
+    let fifth = 256 * (fourth % 4) + get_or xs 4 0 in
+    base32_from 1 0 xs
+    ≡ (get_or xs 0 0 / 8) ∷ (second / 64) ∷ (second % 64 / 2) ∷ (third / 16) ∷ (fourth / 128) ∷ (fourth % 128 / 4) ∷ (fifth / 32) ∷ (fifth % 32) ∷ []
+digits_of_five xs long = ap (base32_from 1 0) (are_five xs long) ∙ five_alone (get_or xs 0 0) (get_or xs 1 0) (get_or xs 2 0) (get_or xs 3 0) (get_or xs 4 0)
+
+eight_digits : (a b c d e f g h : ℕ) → a < 32 → b < 32 → c < 32 → d < 32 → e < 32 → f < 32 → g < 32 → h < 32 → AreDigits (a ∷ b ∷ c ∷ d ∷ e ∷ f ∷ g ∷ h ∷ [])
+eight_digits a b c d e f g h p q r s t u v w = All-from_recursion (λ digit. digit < 32) (a ∷ b ∷ c ∷ d ∷ e ∷ f ∷ g ∷ h ∷ []) (p, (q, (r, (s, (t, (u, (v, (w, tt))))))))
+
+pub five_are_digits : (xs : List ℕ) → length xs ≡ 5 → ((i : ℕ) → get_or xs i 0 < 256) → AreDigits (base32_from 1 0 xs)
+five_are_digits xs long small =
+    let a = small 0 in
+    let b = small 1 in
+    let c = small 2 in
+    let d = small 3 in
+    let e = small 4 in
+    let second = 256 * (get_or xs 0 0 % 8) + get_or xs 1 0 in
+    let third = 256 * (second % 2) + get_or xs 2 0 in
+    let fourth = 256 * (third % 16) + get_or xs 3 0 in
+    let fifth = 256 * (fourth % 4) + get_or xs 4 0 in
+    subst AreDigits (sym (digits_of_five xs long))
+    (eight_digits (get_or xs 0 0 / 8) (second / 64) (second % 64 / 2) (third / 16) (fourth / 128) (fourth % 128 / 4) (fifth / 32) (fifth % 32) (omega arith) (omega arith) (omega arith) (omega arith) (omega arith) (omega arith) (omega arith) (omega arith))
+
+-- the alphabets
+abbrev lower_alphabet : List ℕ
+lower_alphabet = 48 ∷ 49 ∷ 50 ∷ 51 ∷ 52 ∷ 53 ∷ 54 ∷ 55 ∷ 56 ∷ 57 ∷ 97 ∷ 98 ∷ 99 ∷ 100 ∷ 101 ∷ 102 ∷ 103 ∷ 104 ∷ 105 ∷ 106 ∷ 107 ∷ 108 ∷ 109 ∷ 110 ∷ 111 ∷ 112 ∷ 113 ∷ 114 ∷ 115 ∷ 116 ∷ 117 ∷ 118 ∷ []
+
+abbrev upper_alphabet : List ℕ
+upper_alphabet = 48 ∷ 49 ∷ 50 ∷ 51 ∷ 52 ∷ 53 ∷ 54 ∷ 55 ∷ 56 ∷ 57 ∷ 65 ∷ 66 ∷ 67 ∷ 68 ∷ 69 ∷ 70 ∷ 71 ∷ 72 ∷ 73 ∷ 74 ∷ 75 ∷ 76 ∷ 77 ∷ 78 ∷ 79 ∷ 80 ∷ 81 ∷ 82 ∷ 83 ∷ 84 ∷ 85 ∷ 86 ∷ []
+
+spelled : (f : ℕ → ℕ) (alphabet : List ℕ) → alphabet ≡ map f (range_with_len 0 32) → (n : ℕ) → n < 32 → get_or alphabet n 0 ≡ f n
+spelled f alphabet is n lt =
+    let long = length-range_with_len 0 32 in
+    ap (λ l. get_or l n 0) is ∙ get_or-map f (range_with_len 0 32) n 0 0 (omega (arith, long)) ∙ ap f (get_or-range_with_len 0 32 n 0 lt ∙ zero-add n)
+
+pub spelled_lower : (n : ℕ) → n < 32 → get_or lower_alphabet n 0 ≡ lower_digit n
+spelled_lower = spelled lower_digit lower_alphabet refl
+
+pub spelled_upper : (n : ℕ) → n < 32 → get_or upper_alphabet n 0 ≡ upper_digit n
+spelled_upper = spelled upper_digit upper_alphabet refl
+
+small_digit : (b : Bool) (n k : ℕ) → n < 32 → k < 96 → (if b then 48 + n else (k + n)) < 128
+small_digit true n k lt below = omega arith
+small_digit false n k lt below = omega arith
+
+pub lower_is_ascii : (n : ℕ) → n < 32 → lower_digit n < 128
+lower_is_ascii n lt = small_digit (nat_lt n 10) n 87 lt (lit< tt)
+
+pub upper_is_ascii : (n : ℕ) → n < 32 → upper_digit n < 128
+upper_is_ascii n lt = small_digit (nat_lt n 10) n 55 lt (lit< tt)
+
+-- the same characters, where digits are spelled by another function
+map_digits : (f g : ℕ → ℕ) → ((n : ℕ) → n < 32 → f n ≡ g n) → (digits : List ℕ) → ByRecursion (λ digit. digit < 32) digits → map f digits ≡ map g digits
+map_digits f g same [] small = refl
+map_digits f g same (n ∷ digits) small = ap (λ l. f n ∷ l) (map_digits f g same digits small.1) ∙ ap (λ m. m ∷ map g digits) (same n small.0)
+
+pub lower_digits : (digits : List ℕ) → AreDigits digits → map (λ n. get_or lower_alphabet n 0) digits ≡ map lower_digit digits
+lower_digits digits small = map_digits (λ n. get_or lower_alphabet n 0) lower_digit spelled_lower digits (recursion_from_All (λ digit. digit < 32) digits small)
+
+pub upper_digits : (digits : List ℕ) → AreDigits digits → map (λ n. get_or upper_alphabet n 0) digits ≡ map upper_digit digits
+upper_digits digits small = map_digits (λ n. get_or upper_alphabet n 0) upper_digit spelled_upper digits (recursion_from_All (λ digit. digit < 32) digits small)
+
+ascii_rec : (digits : List ℕ) → ByRecursion (λ digit. digit < 32) digits → (i : ℕ) → get_or (map upper_digit digits) i 0 < 128
+ascii_rec [] small i = lit< tt
+ascii_rec (n ∷ digits) small zero = upper_is_ascii n small.0
+ascii_rec (n ∷ digits) small (suc i) = ascii_rec digits small.1 i
+
+pub upper_are_ascii : (digits : List ℕ) → AreDigits digits → IsAscii (map upper_digit digits)
+upper_are_ascii digits small = ascii_rec digits (recursion_from_All (λ digit. digit < 32) digits small)
+
+-- what is written of digits is as long as they are
+pub many_written : (f : ℕ → ℕ) (end : ℕ) (buffer digits : List ℕ) → end ≤ length buffer → take end buffer ≡ map f digits → length digits ≡ end
+many_written f end buffer digits within is = sym (length-map digits f) ∙ ap length (sym is) ∙ length-take-le end buffer within

@@ -1,5 +1,5 @@
 //! Base 32 with the extended hex alphabet, without padding (RFC 4648, section 7).
-ghost use Rattle.std.specs.Prelude.{◌≡◌, ◌<◌, ◌∷◌, ◌++◌, [], ℕ, map, IfOk, IfErr, IfSome, IfNone, IsErrOf, OnOk, ◌↔◌, MatchOption, string_bytes};
+ghost use Rattle.std.specs.Prelude.{◌≡◌, ◌+◌, ◌<◌, ◌≤◌, ◌∷◌, ◌++◌, [], ℕ, map, length, slice_index, take, IfOk, IfErr, IfSome, IfNone, IsErrOf, OnOk, ◌↔◌, MatchOption, string_bytes};
 ghost use Rattle.std.specs.Str.{IsAscii};
 ghost use Rattle.std.specs.Fmt.{HasWritten, IsPlainFormatter, WritesOnOk};
 ghost use Rattle.domain_octets.specs.Base32.{AreDigits, base32_from, base32_upper, base32_lower, upper_digit, lower_digit};
@@ -27,25 +27,46 @@ where
     Codec::Base32Hex.decode(alloc, text)
 }
 
-/// The eight digits of five octets.
-fn digits_of_five(a: u8, b: u8, c: u8, d: u8, e: u8) -> [u8; 8]
-    ensures value { result ≡ base32_from 1 0 (a ∷ b ∷ c ∷ d ∷ e ∷ []) }
-    ensures small { AreDigits result }
+/// The digits in lower case.
+const LOWER: &[u8; 32] = b"0123456789abcdefghijklmnopqrstuv";
+
+/// The digits in upper case.
+const UPPER: &[u8; 32] = b"0123456789ABCDEFGHIJKLMNOPQRSTUV";
+
+/// The eight digits of five octets, as characters of an alphabet.
+fn spell_five(alphabet: &[u8; 32], five: &[u8]) -> [u8; 8]
+    requires { length five.now ≡ 5 }
+    ensures value { result ≡ map (slice_index alphabet.now) (base32_from 1 0 five.now) }
+    ensures small { AreDigits (base32_from 1 0 five.now) }
 {
-    let second = 256 * u32::from(a % 8) + u32::from(b);
-    let third = 256 * (second % 2) + u32::from(c);
-    let fourth = 256 * (third % 16) + u32::from(d);
-    let fifth = 256 * (fourth % 4) + u32::from(e);
+    let [a, b, c, d, e] = five else {
+        unreachable!();
+    };
+    let second = 256 * u32::from(*a % 8) + u32::from(*b);
+    let third = 256 * (second % 2) + u32::from(*c);
+    let fourth = 256 * (third % 16) + u32::from(*d);
+    let fifth = 256 * (fourth % 4) + u32::from(*e);
     [
-        a / 8,
-        (second / 64) as u8,
-        (second % 64 / 2) as u8,
-        (third / 16) as u8,
-        (fourth / 128) as u8,
-        (fourth % 128 / 4) as u8,
-        (fifth / 32) as u8,
-        (fifth % 32) as u8,
+        alphabet[usize::from(*a / 8)],
+        alphabet[(second / 64) as usize],
+        alphabet[(second % 64 / 2) as usize],
+        alphabet[(third / 16) as usize],
+        alphabet[(fourth / 128) as usize],
+        alphabet[(fourth % 128 / 4) as usize],
+        alphabet[(fifth / 32) as usize],
+        alphabet[(fifth % 32) as usize],
     ]
+}
+
+/// Writes eight octets from a place in a buffer on, and gives the place after them.
+fn put_eight(buffer: &mut [u8], at: usize, eight: &[u8; 8]) -> usize
+    requires { at + 8 ≤ length buffer.old }
+    ensures end { result ≡ at + 8 }
+    ensures front { take result buffer.new ≡ take at buffer.old ++ eight.now }
+    ensures room { length buffer.new ≡ length buffer.old }
+{
+    buffer[at..at + 8].copy_from_slice(eight);
+    at + 8
 }
 
 /// The digits of octets that are left, each a number below 32. Takes no memory.
@@ -109,59 +130,61 @@ impl<'a> Digits<'a> {
         Some((value / (wide / 32)) as u8)
     }
 
-    /// The next eight digits, where five octets are left that they are the digits of.
-    fn next_eight(&mut self) -> Option<[u8; 8]>
-        ensures some { IfSome result (λ eight. self.old ≡ eight ++ self.new) }
-        ensures small { IfSome result AreDigits }
+    /// The next five octets, where so many are left and no bits are.
+    fn next_five(&mut self) -> Option<&'a [u8]>
+        ensures some { IfSome result (λ five. self.old ≡ base32_from 1 0 five.now ++ self.new) }
+        ensures five { IfSome result (λ five. length five.now ≡ 5) }
         ensures none { IfNone result (self.new ≡ self.old) }
     {
-        let [a, b, c, d, e, after @ ..] = self.octets else {
-            return None;
-        };
-        if self.scale != 1 {
+        if self.scale != 1 || self.octets.len() < 5 {
             return None;
         }
+        let (five, after) = self.octets.split_at(5);
         self.octets = after;
-        Some(digits_of_five(*a, *b, *c, *d, *e))
+        Some(five)
     }
 
-    /// The next eight digits in lower case, where they are those of five octets.
-    pub fn next_eight_lower(&mut self) -> Option<[u8; 8]>
-        ensures some { IfSome result (λ text. (digits : Octets)
-            × (self.old ≡ digits ++ self.new) × (text ≡ map lower_digit digits)) }
-        ensures none { IfNone result (self.new ≡ self.old) }
+    /// Writes the next digits, eight of five octets each, as characters of an alphabet to the front
+    /// of a buffer, as far as there are any and there is room, and gives the place after them.
+    fn put_eights(&mut self, alphabet: &[u8; 32], buffer: &mut [u8]) -> usize
+        ensures written { (digits : Octets) × AreDigits digits × (self.old ≡ digits ++ self.new)
+            × (take result buffer.new ≡ map (slice_index alphabet.now) digits) }
+        ensures end { result ≤ length buffer.new }
+        ensures room { length buffer.new ≡ length buffer.old }
     {
-        let [a, b, c, d, e, f, g, h] = self.next_eight()?;
-        Some([
-            lower_digit(a),
-            lower_digit(b),
-            lower_digit(c),
-            lower_digit(d),
-            lower_digit(e),
-            lower_digit(f),
-            lower_digit(g),
-            lower_digit(h),
-        ])
+        let mut end = 0;
+        while buffer.len() - end >= 8 {
+            let Some(five) = self.next_five() else {
+                return end;
+            };
+            end = put_eight(buffer, end, &spell_five(alphabet, five));
+        }
+        end
     }
 
-    /// The next eight digits in upper case, where they are those of five octets.
-    fn next_eight_upper(&mut self) -> Option<[u8; 8]>
-        ensures some { IfSome result (λ text. (digits : Octets)
-            × (self.old ≡ digits ++ self.new) × (text ≡ map upper_digit digits)) }
-        ensures ascii { IfSome result IsAscii }
+    /// Writes the next digits in lower case, eight of five octets each, to the front of a buffer, as
+    /// far as there are any and there is room, and gives the place after them.
+    pub fn put_lower(&mut self, buffer: &mut [u8]) -> usize
+        ensures written { (digits : Octets) × (self.old ≡ digits ++ self.new)
+            × (take result buffer.new ≡ map lower_digit digits) }
+        ensures end { result ≤ length buffer.new }
+        ensures room { length buffer.new ≡ length buffer.old }
+    {
+        self.put_eights(LOWER, buffer)
+    }
+
+    /// The text of the next digits in upper case, eight of five octets each, as many as there are and
+    /// a buffer has room for; None where these are none.
+    fn next_upper<'b>(&mut self, buffer: &'b mut [u8]) -> Option<&'b str>
+        ensures some { IfSome result (λ text. (digits : Octets) × (self.old ≡ digits ++ self.new)
+            × (text.now ≡ map upper_digit digits) × (0 < length digits)) }
         ensures none { IfNone result (self.new ≡ self.old) }
     {
-        let [a, b, c, d, e, f, g, h] = self.next_eight()?;
-        Some([
-            upper_digit(a),
-            upper_digit(b),
-            upper_digit(c),
-            upper_digit(d),
-            upper_digit(e),
-            upper_digit(f),
-            upper_digit(g),
-            upper_digit(h),
-        ])
+        let end = self.put_eights(UPPER, buffer);
+        if end == 0 {
+            return None;
+        }
+        Some(unsafe { str::from_utf8_unchecked(&buffer[..end]) })
     }
 
     /// The next digit, in lower case.
@@ -179,11 +202,7 @@ fn lower_digit(value: u8) -> u8
     ensures value { result ≡ lower_digit value }
     ensures ascii { result < 128 }
 {
-    if value < 10 {
-        b'0' + value
-    } else {
-        b'a' + (value - 10)
-    }
+    LOWER[usize::from(value)]
 }
 
 fn upper_digit(value: u8) -> u8
@@ -191,11 +210,7 @@ fn upper_digit(value: u8) -> u8
     ensures value { result ≡ upper_digit value }
     ensures ascii { result < 128 }
 {
-    if value < 10 {
-        b'0' + value
-    } else {
-        b'A' + (value - 10)
-    }
+    UPPER[usize::from(value)]
 }
 
 /// The text of octets in lower case, as octets: what the first label of an NSEC3 owner holds
@@ -223,14 +238,16 @@ pub fn encode_string(alloc: Global, octets: &[u8]) -> Result<String, OutOfMemory
     Ok(text)
 }
 
-/// Writes the digits that are those of five octets each, in upper case, and leaves the others.
+/// Writes the digits that are those of five octets each, in upper case, 64 at a time, and leaves
+/// the others.
 fn display_eights<W: fmt::Write>(digits: &mut Digits<'_>, f: &mut fmt::Formatter<W>) -> fmt::Result
     ensures { OnOk result (IsPlainFormatter f.old
         → (written : Octets) × (digits.old ≡ written ++ digits.new)
         × HasWritten W.write_str_gives f.old (map upper_digit written) f.new) }
 {
-    while let Some(eight) = digits.next_eight_upper() {
-        f.write_str(unsafe { str::from_utf8_unchecked(&eight) })?;
+    let mut buffer = [0; 64];
+    while let Some(text) = digits.next_upper(&mut buffer) {
+        f.write_str(text)?;
     }
     Ok(())
 }
