@@ -57,7 +57,26 @@ impl<O: FromBuilder + Drop> Nsec3param<O> {
     }
 }
 
-/// Hash algorithm, flags and iterations, as they are written: with single spaces.
+/// Hash algorithm, flags and iterations with single spaces, where each has one digit, as those of
+/// nearly all zones have (RFC 9276, section 3.1).
+fn short_numbers(hash_algorithm: u8, flags: u8, iterations: u16) -> Option<[u8; 5]>
+    ensures { IfSome result
+        (λ text. text ≡ hash_numbers_text (hash_algorithm, flags, iterations)) }
+{
+    if hash_algorithm > 9 || flags > 9 || iterations > 9 {
+        return None;
+    }
+    Some([
+        b'0' + hash_algorithm,
+        b' ',
+        b'0' + flags,
+        b' ',
+        b'0' + iterations as u8,
+    ])
+}
+
+/// Hash algorithm, flags and iterations, as they are written: with single spaces. In one piece,
+/// where each has one digit.
 #[derive(Drop)]
 pub struct Spaced(pub HashNumbers);
 
@@ -67,6 +86,11 @@ impl fmt::Display for Spaced {
     #[tactic(auto, unfolding(crate::specs::Nsec3paramText::hash_numbers_text))]
     fn fmt<W: fmt::Write>(&self, f: &mut fmt::Formatter<W>) -> fmt::Result {
         let (hash_algorithm, (flags, iterations)) = self.0;
+        if let Some(short) = short_numbers(hash_algorithm, flags, iterations)
+            && let Ok(text) = str::from_utf8(&short)
+        {
+            return f.write_str(text);
+        }
         write!(f, "{hash_algorithm} {flags} {iterations}")
     }
 }
