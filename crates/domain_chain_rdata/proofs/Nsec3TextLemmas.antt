@@ -1,6 +1,7 @@
 -- The texts of the parameters of hashes and of NSEC3 data: tokens spell one at most, and are refused for one reason, spelling none.
-use Rattle.std.proofs.Common.{◌≡◌, ℕ, List, sym, ap, ◌∙◌, Option}
+use Rattle.std.proofs.Common.{◌≡◌, ℕ, ◌+◌, ◌<◌, [], ◌∷◌, sym, ap, ◌∙◌, refl, Option}
 use Rattle.std.specs.Prelude.{codes}
+use Rattle.std.proofs.lemmas.Fmt.{decimal_digit}
 use Rattle.domain_octets.specs.declared.codec.Codec.TheVariants.{Base32Hex}
 use Rattle.domain_base.specs.Scan.{RefusesToken}
 use Rattle.domain_base.proofs.RefusalLemmas.{not_memory, token_one_fault_if}
@@ -14,7 +15,7 @@ use Rattle.domain_fields.specs.Scan.{Scans, Refuses}
 use Rattle.domain_fields.specs.Sequence.{OneToken}
 use Rattle.domain_fields.proofs.GrammarLemmas.{ReadsOnce, Excludes, OneFault, fields_once, fields_refused, fields_one_fault, one_token, token_refused, both_once, both_refused, both_one_fault}
 use Rattle.domain_chain_rdata.specs.Rdata.{hash_numbers}
-use Rattle.domain_chain_rdata.specs.Nsec3paramText.{Nsec3paramText, RefusesNsec3param}
+use Rattle.domain_chain_rdata.specs.Nsec3paramText.{Nsec3paramText, RefusesNsec3param, hash_numbers_text}
 use Rattle.domain_chain_rdata.specs.Nsec3Text.{BitmapText, HashText, RefusesHash, Nsec3Text, RefusesNsec3}
 
 -- parameters
@@ -77,3 +78,8 @@ module _ (limit : Option ℕ) where
 
   pub nsec3_one_fault : OneFault limit (RefusesNsec3 limit)
   nsec3_one_fault = both_one_fault limit HashText BitmapText (RefusesHash limit) (RefusesTypes limit) hashes_once hashes_refused hashes_one_fault bitmap_one
+
+-- numbers of one digit each
+pub one_digit_each : (a f i : ℕ) → a < 10 → f < 10 → i < 10 → hash_numbers_text (a, (f, i)) ≡ (48 + a) ∷ 32 ∷ (48 + f) ∷ 32 ∷ (48 + i) ∷ []
+unfolding hash_numbers_text
+one_digit_each a f i p q r = rw (decimal_digit a p, decimal_digit f q, decimal_digit i r) refl

@@ -1,5 +1,5 @@
 //! The parameters of the hashes of names as text (RFC 5155, section 4.3).
-ghost use Rattle.std.specs.Prelude.{◌≡◌, ◌++◌, Some, IfOk, IfErr, OnOk};
+ghost use Rattle.std.specs.Prelude.{◌≡◌, ◌++◌, Some, IfOk, IfErr, IfSome, OnOk};
 ghost use Rattle.domain_base.specs.Scan.{scan_fault_of};
 ghost use Rattle.domain_fields.specs.Layout.{Fits};
 ghost use Rattle.domain_fields.specs.Scan.{Scans, Refuses};
@@ -61,7 +61,7 @@ impl<O: FromBuilder + Drop> Nsec3param<O> {
 /// nearly all zones have (RFC 9276, section 3.1).
 fn short_numbers(hash_algorithm: u8, flags: u8, iterations: u16) -> Option<[u8; 5]>
     ensures { IfSome result
-        (λ text. text ≡ hash_numbers_text (hash_algorithm, flags, iterations)) }
+        (λ text. text ≡ hash_numbers_text (hash_algorithm, (flags, iterations))) }
 {
     if hash_algorithm > 9 || flags > 9 || iterations > 9 {
         return None;
