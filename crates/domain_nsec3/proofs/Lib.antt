@@ -6,6 +6,7 @@ pub mod TextLemmas
 pub mod TypeLemmas
 pub mod StateLemmas
 pub mod HashLemmas
+pub mod HashOrderLemmas
 pub mod ChainLemmas
 pub mod EntryLemmas
 pub mod FaultLemmas

@@ -26,7 +26,7 @@ pub(crate) fn sort_by_hash<S: Sorter>(hashed: &mut Vec<Hashed>) -> Result<(), Ou
         (IsSortedByKey (λ h. h.hash) (slice_cmp nat_cmp) hashed.new.items) }
     ensures err { OnErr result (hashed.new.items ≡ hashed.old.items) }
 {
-    S::sort_by(hashed, |a, b| a.hash.as_slice().cmp(b.hash.as_slice()))
+    S::sort_by(hashed, |a, b| a.hash.compare(&b.hash))
 }
 
 /// Whether two of the hashes are alike.

@@ -1,0 +1,78 @@
+-- Hashes are in the order of their first octets as one number, where those differ.
+use Rattle.std.proofs.Common.{◌≡◌, ℕ, zero, suc, ◌+◌, ◌*◌, ◌^◌, ◌<◌, ◌≤◌, List, [], ◌∷◌, length, take, sym, ap, ◌∙◌, inl, inr, arith, true}
+use Rattle.std.specs.Int.{w64, from_be_bytes}
+use Rattle.std.specs.Cmp.{nat_cmp_is}
+use Rattle.std.specs.Cmp.Lexicographic.{slice_cmp, nat_list_cmp_total}
+use Rattle.std.specs.Ordering.{nat_cmp, ordering_then, ordering_reverse, is_ne}
+use Rattle.std.specs.declared.cmp.Ordering.TheVariants.{Less, Equal, Greater}
+use Rattle.std.proofs.lemmas.Bool.{cases_order, false≢true}
+use Rattle.std.proofs.lemmas.Nat.{mul-le}
+use Rattle.std.proofs.Math.Nat.{pow-suc, one-le-pow}
+use Rattle.domain_octets.specs.Words.{AreOctets}
+
+-- the first n numbers of a list as one number in base 256
+abbrev front_number : ℕ → List ℕ → ℕ
+front_number zero ds = 0
+front_number (suc n) [] = 0
+front_number (suc n) (d ∷ ds) = d * 256 ^ n + front_number n ds
+
+rest_octets : (d : ℕ) (ds : List ℕ) → AreOctets (d ∷ ds) → AreOctets ds
+rest_octets d ds octets k e lt = octets (suc k) e (omega arith)
+
+times_less : (n m w : ℕ) → n < m → n * w + w ≤ m * w
+times_less n m w lt = let t : (n + 1) * w ≤ m * w = mul-le (n + 1) w m w (omega arith) (omega arith) in omega (arith, t)
+
+front_below : (n : ℕ) (ds : List ℕ) → AreOctets ds → front_number n ds < 256 ^ n
+front_below zero ds octets = omega arith
+front_below (suc n) [] octets = one-le-pow (suc n) 256 (omega arith)
+front_below (suc n) (d ∷ ds) octets =
+    let times = times_less d 256 (256 ^ n) (octets 0 0 (omega arith)) in
+    omega (arith, times, front_below n ds (rest_octets d ds octets), pow-suc 256 n)
+
+-- what follows a lesser octet stays below where a greater one begins
+apart : (n d e : ℕ) (ds es : List ℕ) → AreOctets ds → d < e → front_number (suc n) (d ∷ ds) < front_number (suc n) (e ∷ es)
+apart n d e ds es octets lt =
+    let times = times_less d e (256 ^ n) lt in
+    omega (arith, times, front_below n ds octets)
+
+-- a lesser number is of octets that come before
+less_front : (n : ℕ) (ds es : List ℕ) → n ≤ length ds → n ≤ length es → AreOctets ds → AreOctets es → front_number n ds < front_number n es → slice_cmp nat_cmp ds es ≡ Less
+less_front zero ds es long long' octets octets' lt = absurd (omega arith)
+less_front (suc n) [] es long long' octets octets' lt = absurd (omega arith)
+less_front (suc n) (d ∷ ds) [] long long' octets octets' lt = absurd (omega arith)
+less_front (suc n) (d ∷ ds) (e ∷ es) long long' octets octets' lt = elim (cases_order d e) [
+  | inl same ↦ ap (λ r. ordering_then r (slice_cmp nat_cmp ds es)) (sym (nat_cmp_is d e Equal same))
+      ∙ less_front n ds es (omega arith) (omega arith) (rest_octets d ds octets) (rest_octets e es octets') (omega (arith, lt, ap (λ q. q * 256 ^ n) same))
+  | inr w ↦ elim w [
+    | inl less ↦ ap (λ r. ordering_then r (slice_cmp nat_cmp ds es)) (sym (nat_cmp_is d e Less less))
+    | inr more ↦ absurd (omega (arith, lt, apart n e d es ds (rest_octets e es octets') more))
+  ]
+]
+
+front_is : (ds : List ℕ) → 8 ≤ length ds → from_be_bytes w64 (take 8 ds) ≡ front_number 8 ds
+front_is [] long = absurd (omega arith)
+front_is (a ∷ []) long = absurd (omega arith)
+front_is (a ∷ b ∷ []) long = absurd (omega arith)
+front_is (a ∷ b ∷ c ∷ []) long = absurd (omega arith)
+front_is (a ∷ b ∷ c ∷ d ∷ []) long = absurd (omega arith)
+front_is (a ∷ b ∷ c ∷ d ∷ e ∷ []) long = absurd (omega arith)
+front_is (a ∷ b ∷ c ∷ d ∷ e ∷ f ∷ []) long = absurd (omega arith)
+front_is (a ∷ b ∷ c ∷ d ∷ e ∷ f ∷ g ∷ []) long = absurd (omega arith)
+front_is (a ∷ b ∷ c ∷ d ∷ e ∷ f ∷ g ∷ h ∷ ds) long = omega arith
+
+-- the numbers of the first eight octets, where they differ, are in the order of the lists
+pub by_front : (ds es : List ℕ) (m n : ℕ) → 8 ≤ length ds → 8 ≤ length es
+    → AreOctets ds → AreOctets es → m ≡ from_be_bytes w64 (take 8 ds) → n ≡ from_be_bytes w64 (take 8 es)
+    → is_ne (nat_cmp m n) ≡ true → nat_cmp m n ≡ slice_cmp nat_cmp ds es
+by_front ds es m n long long' octets octets' m_is n_is differ =
+    let m_number = m_is ∙ front_is ds long in
+    let n_number = n_is ∙ front_is es long' in
+    elim (cases_order m n) [
+      | inl same ↦ absurd (false≢true (ap is_ne (nat_cmp_is m n Equal same) ∙ differ))
+      | inr w ↦ elim w [
+        | inl less ↦ sym (nat_cmp_is m n Less less)
+            ∙ sym (less_front 8 ds es long long' octets octets' (omega (arith, less, m_number, n_number)))
+        | inr more ↦ sym (nat_cmp_is m n Greater more)
+            ∙ sym (nat_list_cmp_total.antisymm ds es ∙ ap ordering_reverse (less_front 8 es ds long' long octets' octets (omega (arith, more, m_number, n_number))))
+      ]
+    ]
