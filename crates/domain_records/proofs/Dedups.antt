@@ -1,6 +1,6 @@
 -- What `dedup` keeps: of lists one after another, of mapped lists, and step by step.
-use Rattle.std.proofs.Common.{◌≡◌, ℕ, Bool, true, false, cond, List, [], ◌∷◌, ◌++◌, map, refl, sym, ◌∙◌, ap, subst, append-nil, append_assoc}
-use Rattle.std.specs.List.{AllByRecursion, dedup, dedup_from}
+use Rattle.std.proofs.Common.{◌≡◌, ℕ, zero, suc, ◌+◌, ◌<◌, ◌≤◌, arith, Bool, true, false, cond, List, [], ◌∷◌, ◌++◌, map, refl, sym, ◌∙◌, ap, subst, append-nil, append_assoc}
+use Rattle.std.specs.List.{AllByRecursion, dedup, dedup_from, range_with_len}
 use Rattle.std.specs.List.Sorted.{IsPermutation}
 use Rattle.std.proofs.lemmas.List.Sorted.{IsPermutation-append_comm, IsPermutation-append_left, IsPermutation-append_right, IsPermutation-trans}
 
@@ -53,6 +53,17 @@ module _ {X Y : Type 0} (f : Y → X) (E : X → X → Bool) where
   dedup-map [] = refl
   dedup-map (y ∷ ys) = from_map y ys
 
+-- no place of a range is alike the one before it
+range_from : (E : ℕ → ℕ → Bool) (k n : ℕ) → ((i : ℕ) → k ≤ i → i < k + n → E (i + 1) i ≡ false) → dedup_from E k (range_with_len (k + 1) n) ≡ k ∷ range_with_len (k + 1) n
+range_from E k zero h = refl
+range_from E k (suc n) h =
+    ap (λ b. cond b (dedup_from E k (range_with_len (k + 1 + 1) n)) (k ∷ dedup_from E (k + 1) (range_with_len (k + 1 + 1) n))) (h k (omega arith) (omega arith))
+    ∙ ap (λ l. k ∷ l) (range_from E (k + 1) n (λ i le lt. h i (omega arith) (omega arith)))
+
+pub dedup_range : (E : ℕ → ℕ → Bool) (a n : ℕ) → ((i : ℕ) → a ≤ i → i + 1 < a + n → E (i + 1) i ≡ false) → dedup E (range_with_len a n) ≡ range_with_len a n
+dedup_range E a zero h = refl
+dedup_range E a (suc n) h = range_from E a n (λ i le lt. h i le (omega arith))
+
 -- ---- a loop that keeps one place after another
 
 module _ (E : ℕ → ℕ → Bool) (k x : ℕ) (before rest whole : List ℕ) where
@@ -87,3 +98,9 @@ pub moved_group : (sorted group kept equals kept' equals' : List ℕ) → IsPerm
 moved_group sorted group kept equals kept' equals' h k =
     IsPermutation-trans (sorted ++ group) (kept ++ (equals ++ group)) (kept' ++ equals')
     (subst (IsPermutation (sorted ++ group)) (append_assoc kept equals group) (IsPermutation-append_left group sorted (kept ++ equals) h)) k
+
+-- a group of places is kept whole after those before it
+pub kept_group : (sorted group kept equals : List ℕ) → IsPermutation sorted (kept ++ equals) → IsPermutation (sorted ++ group) ((kept ++ group) ++ equals)
+kept_group sorted group kept equals h =
+    moved_group sorted group kept equals (kept ++ group) equals h
+    (subst (IsPermutation (kept ++ (equals ++ group))) (sym (append_assoc kept group equals)) (IsPermutation-append_right kept (equals ++ group) (group ++ equals) (IsPermutation-append_comm equals group)))

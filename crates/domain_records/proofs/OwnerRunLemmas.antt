@@ -7,16 +7,16 @@ use Rattle.std.specs.Ordering.{is_eq, is_ne, nat_cmp, ordering_then, ordering_re
 use Rattle.std.specs.declared.cmp.Ordering.{Ordering}
 use Rattle.std.specs.declared.cmp.Ordering.TheVariants.{Less, Equal, Greater}
 use Rattle.std.proofs.lemmas.Bool.{cases_eq, cases_lt, cases_order, false≢true}
-use Rattle.std.proofs.lemmas.List.{take-append-drop, take-take, take_more, take_all, drop-take, drop-drop, drop_more, set_at, set-set, set_comm, set-get_or, get_or-take, get_or-drop, get_or_append_left, get_or-append_right, length-take-le}
+use Rattle.std.proofs.lemmas.List.{take-append-drop, take-take, take_more, take_all, drop-take, drop-drop, drop_more, set_at, set-set, set_comm, set-get_or, get_or-take, get_or-drop, get_or_append_left, get_or-append_right, length-take-le, get_or-set_same, get_or-set_other}
 use Rattle.std.proofs.lemmas.List.Concat.{flat_map-append}
 use Rattle.std.proofs.lemmas.List.Edits.{swap_is}
 use Rattle.std.proofs.lemmas.List.Elements.{All-nil, All-append, All-push, All-get_or, All-from_get_or, All-weaker, All-from_recursion, recursion_from_All}
 use Rattle.std.proofs.lemmas.List.FromFn.{length-range_with_len, get_or-range_with_len}
 use Rattle.std.proofs.lemmas.List.Sorted.{All-permutation, IsPermutation-append, IsPermutation-append_comm, IsPermutation-append_left, IsPermutation-append_right, IsPermutation-keeps, IsPermutation-refl, IsPermutation-trans, ranks_by, sorted_far}
 use Rattle.domain_records.specs.declared.owner_runs.Run.{Run}
-use Rattle.domain_records.specs.OwnerRuns.{places_of, places_of_all, IsOneOwner, run_cmp, AreSortedRuns, IsOwner}
+use Rattle.domain_records.specs.OwnerRuns.{places_of, places_of_all, AreRises, Ascends, IsOneOwner, run_cmp, AreSortedRuns, IsOwner}
 use Rattle.domain_records.specs.Places.{alike, compared_places, place_cmp, AreSortedPlaces}
-use Rattle.domain_records.proofs.Dedups.{dedup_apart, dedup_by_same}
+use Rattle.domain_records.proofs.Dedups.{dedup_apart, dedup_by_same, dedup_range}
 
 -- the places of the runs before i, sorted, and with owners before those of the others
 pub record AreFirst {X : Type 0} (Q R : X → X → Ordering) (xs : List X) (d : X) (runs : List Run) (i : ℕ) (places : List ℕ) : Type 0 where
@@ -88,6 +88,46 @@ pushed_more runs i n r group le lt h =
     ap (λ l. l ++ places_of (get_or runs n r)) h ∙ ap (λ l. places_of_all (take (n - i) (drop i runs)) ++ l) (sym (append-nil (places_of (get_or runs n r))))
     ∙ sym (flat_map-append places_of (take (n - i) (drop i runs)) (get_or runs n r ∷ []))
     ∙ ap places_of_all (ap (λ q. take (n - i) (drop i runs) ++ q ∷ []) (sym is) ∙ sym more ∙ ap (λ q. take q (drop i runs)) (sym e))
+
+less_means : (r : Ordering) → is_lt r ≡ true → r ≡ Less
+less_means Less h = refl
+less_means Equal h = absurd (cc)
+less_means Greater h = absurd (cc)
+
+-- one more place is looked at
+pub rises_set : {X : Type 0} (W : X → X → Ordering) (xs : List X) (d : X) (rises : List Bool) (e : ℕ) (b : Bool) → 0 < e → e < length rises → b ≡ is_lt (W (get_or xs (e - 1) d) (get_or xs e d)) → AreRises W xs d rises → AreRises W xs d (set rises e b)
+rises_set W xs d rises e b some below is h k up =
+    elim (cases_eq (k + 1) e) [
+      | inl at ↦ let before : e - 1 ≡ k = omega arith in
+          let t : is_lt (W (get_or xs k d) (get_or xs (k + 1) d)) ≡ true =
+          ap (λ q. is_lt (W (get_or xs k d) (get_or xs q d))) at ∙ ap (λ q. is_lt (W (get_or xs q d) (get_or xs e d))) (sym before)
+          ∙ sym is ∙ sym (get_or-set_same rises e b false below) ∙ ap (λ q. get_or (set rises e b) q false) (sym at) ∙ up in
+          less_means (W (get_or xs k d) (get_or xs (k + 1) d)) t
+      | inr other ↦ h k (sym (get_or-set_other rises e (k + 1) b false other) ∙ up)
+    ]
+
+module _ {X : Type 0} {W : X → X → Ordering} (o : IsTotalOrder W) (xs : List X) (d : X) (rises : List Bool) (h : AreRises W xs d rises) (r : Run) (up : Ascends rises r) where
+  greater_next : (k : ℕ) → r.start ≤ k → k + 1 < r.end → W (get_or xs (k + 1) d) (get_or xs k d) ≡ Greater
+  greater_next k le lt = o.antisymm (get_or xs (k + 1) d) (get_or xs k d) ∙ ap ordering_reverse (h k (up (k + 1) (omega arith) lt))
+
+  -- the places of a run that ascends are in order
+  pub ascending_sorted : IsSorted (place_cmp W xs d) (places_of r)
+  ascending_sorted k e le lt =
+      let n : k + 1 < r.end - r.start = omega (arith, length-range_with_len r.start (r.end - r.start)) in
+      let more : r.start + (k + 1) ≡ r.start + k + 1 = omega arith in
+      let a = r.start + k in
+      rw (get_or-range_with_len r.start (r.end - r.start) k e (omega arith), get_or-range_with_len r.start (r.end - r.start) (k + 1) e n, more)
+      (ap (λ q. is_lt (ordering_then q (nat_cmp (a + 1) a))) (greater_next a (omega arith) (omega arith)))
+
+  -- and no two of its items are equal
+  pub ascending_kept : dedup (alike W xs d) (places_of r) ≡ places_of r
+  ascending_kept = dedup_range (alike W xs d) r.start (r.end - r.start) (λ k le lt. ap is_eq (greater_next k le (omega arith)))
+
+-- the places of the one run of an owner
+pub one_run : {X : Type 0} (Q : X → X → Ordering) (xs : List X) (d : X) (runs : List Run) (i n : ℕ) (group : List ℕ) (r : Run) → i < length runs → n ≡ i + 1 → IsOwner Q xs d runs i n group → group ≡ places_of (get_or runs i r)
+one_run Q xs d runs i n group r lt is w =
+    let e : n - i ≡ 1 = omega arith in
+    w.all ∙ ap (λ q. places_of_all (take q (drop i runs))) e ∙ ap (λ l. places_of_all (take 1 l)) (drop_more runs i r lt) ∙ append-nil (places_of (get_or runs i r))
 
 module _ {X Y : Type 0} (P : Y → Type 0) (f : X → List Y) where
   pub all_flat : (xs : List X) → ByRecursion (λ x. All P (f x)) xs → All P (flat_map f xs)

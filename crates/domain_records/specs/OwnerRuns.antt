@@ -1,5 +1,5 @@
 -- Runs of one owner in a list, by an order Q of owners; d stands past the end of the list.
-use Rattle.std.specs.Prelude.{◌≡◌, ◌≢◌, ℕ, ◌-◌, ◌<◌, ◌≤◌, List, length, take, drop, slice_index_or}
+use Rattle.std.specs.Prelude.{◌≡◌, ◌≢◌, ℕ, ◌+◌, ◌-◌, ◌<◌, ◌≤◌, Bool, true, false, List, length, take, drop, slice_index_or}
 use Rattle.std.specs.List.{All, flat_map, range_with_len}
 use Rattle.std.specs.List.Sorted.{IsSorted}
 use Rattle.std.specs.Ordering.{nat_cmp, on, then_cmp}
@@ -31,6 +31,15 @@ pub record AreRuns {X : Type 0} (Q : X → X → Ordering) (xs : List X) (d : X)
     (runs : List Run) : Type 0 where
   pub all : places_of_all runs ≡ range_with_len 0 (length xs)
   pub each : All (IsOneOwner Q xs d) runs
+
+-- a place that rises holds what comes after the one before it, by W
+abbrev pub AreRises : {X : Type 0} → (X → X → Ordering) → List X → X → List Bool → Type 0
+AreRises W xs d rises = (k : ℕ) → slice_index_or rises (k + 1) false ≡ true
+    → W (slice_index_or xs k d) (slice_index_or xs (k + 1) d) ≡ Less
+
+-- each place of the run after its first rises
+abbrev pub Ascends : List Bool → Run → Type 0
+Ascends rises r = (k : ℕ) → r.start < k → k < r.end → slice_index_or rises k false ≡ true
 
 -- by owner
 abbrev pub run_cmp : {X : Type 0} → (X → X → Ordering) → List X → X → Run → Run → Ordering

@@ -21,8 +21,9 @@
 //!   records left have one class and where owners never descend and types never descend within an
 //!   owner. Sorted records of one class are in order.
 //! - Sorting many records goes by owner first where neighbours often have one owner: the sorter
-//!   sorts runs of one owner, and then the places of each owner. `insert` and the look-ups by owner
-//!   take binary searches, and no comparison takes memory.
+//!   sorts runs of one owner, and then the places of each owner but those that stand together in
+//!   order. `insert` and the look-ups by owner take binary searches, and no comparison takes
+//!   memory.
 //!
 //! The errors of those who sign and hash records stand here too: [`SigningError`] and
 //! [`Nsec3HashError`].

@@ -1,10 +1,10 @@
 //! Runs: neighbours of one owner.
-ghost use Rattle.std.specs.Prelude.{◌≡◌, ◌<◌, ◌≤◌, ◌++◌, [], length, slice_index_or, IfOk, OnOk, IsPermutation};
+ghost use Rattle.std.specs.Prelude.{◌≡◌, ◌<◌, ◌≤◌, ◌-◌, ◌++◌, [], true, length, slice_index_or, IfOk, OnOk, IsPermutation};
 ghost use Rattle.std.specs.List.{dedup};
 ghost use Rattle.std.specs.List.Sorted.{IsSorted};
-ghost use Rattle.std.specs.Ordering.{is_ne};
+ghost use Rattle.std.specs.Ordering.{is_lt, is_ne};
 ghost use Rattle.domain_records.specs.Places.{AreSetPlaces, alike, compared_places, place_cmp};
-ghost use Rattle.domain_records.specs.OwnerRuns.{AreKeyed, AreRuns, AreSortedRuns, IsOwner, KeyTells, compared_runs, places_of, run_cmp};
+ghost use Rattle.domain_records.specs.OwnerRuns.{AreKeyed, AreRises, AreRuns, AreSortedRuns, Ascends, IsOwner, KeyTells, compared_runs, places_of, run_cmp};
 
 use crate::owner_order::OwnerOrd;
 use crate::run_keys::give_keys;
@@ -19,6 +19,13 @@ pub(crate) struct Run {
     pub(crate) key: u128,
     pub(crate) start: usize,
     pub(crate) end: usize,
+}
+
+/// The runs of a list of items.
+pub(crate) struct Runs {
+    pub(crate) runs: Vec<Run>,
+    /// Of each item, whether it is in the run of the one before it and comes after that one.
+    pub(crate) rises: Vec<bool>,
 }
 
 /// The places of all items: those of their sorted set in order, and then those of items that are
@@ -36,27 +43,42 @@ pub(crate) fn item_at<'a, T>(items: &'a [T], place: usize, other: &'a T) -> &'a 
     items.get(place).unwrap_or(other)
 }
 
+/// Whether the item at a place comes after the one before it, where they have one owner.
+fn comes_after<T: OwnerOrd>(items: &[T], other: &T, place: usize) -> bool
+    requires { 0 < place }
+    ensures { result ≡ is_lt (T.rest_order (slice_index_or items.now (place - 1) other.now)
+        (slice_index_or items.now place other.now)) }
+{
+    item_at(items, place - 1, other)
+        .rest_cmp(item_at(items, place, other))
+        .is_lt()
+}
+
 /// The runs of the items, each as long as its owner goes on. They have no keys yet.
 pub(crate) fn runs_of<T: OwnerOrd>(
     alloc: Global,
     items: &[T],
     other: &T,
-) -> Result<Vec<Run>, OutOfMemory>
-    ensures { IfOk result (λ runs. AreRuns T.owner_order items.now other.now runs.items) }
+) -> Result<Runs, OutOfMemory>
+    ensures runs { IfOk result (λ r. AreRuns T.owner_order items.now other.now r.runs.items) }
+    ensures rises { IfOk result (λ r. AreRises T.rest_order items.now other.now r.rises.items) }
 {
     let mut runs = Vec::new(alloc);
+    let mut rises = vec![in alloc; false; items.len()]?;
     let mut start = 0;
     for end in 1..items.len() {
         if item_at(items, start, other).differs_in_owner(item_at(items, end, other)) {
             runs.push(Run { key: 0, start, end })?;
             start = end;
+        } else {
+            rises[end] = comes_after(items, other, end);
         }
     }
     if start < items.len() {
         let end = items.len();
         runs.push(Run { key: 0, start, end })?;
     }
-    Ok(runs)
+    Ok(Runs { runs, rises })
 }
 
 /// Compares the owners of two runs.
@@ -202,14 +224,29 @@ fn part_group<T: OwnerOrd>(
     Ok(())
 }
 
-/// The places of all items, those of their set in canonical order.
+/// Whether each item of the run comes after the one before it in the run.
+fn ascends(rises: &[bool], run: Run) -> bool
+    ensures { result ≡ true → Ascends rises.now run }
+{
+    for place in run.start.saturating_add(1)..run.end {
+        if !*item_at(rises, place, &false) {
+            return false;
+        }
+    }
+    true
+}
+
+/// The places of all items, those of their set in canonical order. An owner that is one run of
+/// items in order is taken as it stands, without another look at its items.
 fn places_by_owner<T: OwnerOrd, S: Sorter>(
     alloc: Global,
     items: &[T],
     other: &T,
     runs: &[Run],
+    rises: &[bool],
 ) -> Result<SetPlaces, OutOfMemory>
-    requires { AreSortedRuns T.owner_order items.now other.now runs.now }
+    requires runs { AreSortedRuns T.owner_order items.now other.now runs.now }
+    requires rises { AreRises T.rest_order items.now other.now rises.now }
     ensures { IfOk result (λ set. AreSetPlaces T.canonical_cmp items.now other.now
         set.places.items set.kept) }
 {
@@ -218,9 +255,14 @@ fn places_by_owner<T: OwnerOrd, S: Sorter>(
     let mut group = Vec::new(alloc);
     let mut next = 0;
     while next < runs.len() {
-        next = take_owner(items, other, runs, next, &mut group)?;
-        sort_group::<T, S>(items, other, &mut group)?;
-        part_group(items, other, &mut group, &mut places, &mut equals)?;
+        let first = next;
+        next = take_owner(items, other, runs, first, &mut group)?;
+        if next == first + 1 && ascends(rises, runs[first]) {
+            places.append(&mut group)?;
+        } else {
+            sort_group::<T, S>(items, other, &mut group)?;
+            part_group(items, other, &mut group, &mut places, &mut equals)?;
+        }
     }
     let kept = places.len();
     places.append(&mut equals)?;
@@ -228,18 +270,20 @@ fn places_by_owner<T: OwnerOrd, S: Sorter>(
 }
 
 /// The places of the items, those of their set in canonical order, from their runs: the runs are
-/// given keys and sorted by owner, and then the items of each owner.
+/// given keys and sorted by owner, and then the items of each owner that do not stand in order.
 pub(crate) fn set_places<T: OwnerOrd, S: Sorter>(
     alloc: Global,
     items: &[T],
     other: &T,
     mut runs: Vec<Run>,
+    rises: &[bool],
 ) -> Result<SetPlaces, OutOfMemory>
-    requires { AreRuns T.owner_order items.now other.now runs.items }
+    requires runs { AreRuns T.owner_order items.now other.now runs.items }
+    requires rises { AreRises T.rest_order items.now other.now rises.now }
     ensures { IfOk result (λ set. AreSetPlaces T.canonical_cmp items.now other.now
         set.places.items set.kept) }
 {
     give_keys(items, other, &mut runs);
     sort_runs::<T, S>(items, other, &mut runs)?;
-    places_by_owner::<T, S>(alloc, items, other, &runs)
+    places_by_owner::<T, S>(alloc, items, other, &runs, rises)
 }

@@ -1,8 +1,9 @@
 use Rattle.std.proofs.Common.{◌≡◌, get_or, length, arith, ap, sym, ◌∙◌}
 use Rattle.std.specs.Ordering.{is_ne}
 use Rattle.std.specs.List.{range_with_len}
+use Rattle.std.proofs.lemmas.List.{length-set}
 use Rattle.domain_records.specs.declared.owner_runs.Run.{Run}
-use Rattle.domain_records.proofs.OwnerRunLemmas.{runs_push, each_push, one_more, one_begun}
+use Rattle.domain_records.proofs.OwnerRunLemmas.{runs_push, each_push, one_more, one_begun, rises_set}
 use Rattle.domain_records.proofs.owner_runs.runs_of.Goals as goal
 use Rattle.domain_records.proofs.owner_runs.runs_of.Goals.{then-differs_in_owner+in_ok-push, else-differs_in_owner, then-start-items+in_ok-push-2, else-start-items}
 
@@ -15,24 +16,28 @@ loop-end-preserved g c =
     let le = inv.begun in
     elim c.if-differs_in_owner.branch [
       | then-differs_in_owner+in_ok-push w ↦ let run : Run = record { key = 0; start = c.loop-end.start; end = c.loop-end.end } in
-          rw (w.runs-is, w.start-is, w.in_ok-push.ensures.items) (record {
+          rw (w.runs-is, w.rises-is, w.start-is, w.in_ok-push.ensures.items) (record {
             begun = omega arith;
             within = omega (arith, inv.within, c.loop-end-test.true);
             all = runs_push c.loop-end.runs.items run (omega arith) inv.all;
             each = each_push Q xs d c.loop-end.runs.items run inv.each inv.one;
             one = one_begun Q xs d g.met.T.OwnerOrd.owners_total c.loop-end.end;
+            many = inv.many;
+            rises = inv.rises;
           })
-      | else-differs_in_owner w ↦ rw (w.runs-is, w.start-is) (record {
+      | else-differs_in_owner w ↦ rw (w.runs-is, w.rises-is, w.start-is) (record {
         begun = omega arith;
         within = omega (arith, inv.within, c.loop-end-test.true);
         all = inv.all;
         each = inv.each;
         one = one_more Q xs d c.loop-end.start c.loop-end.end inv.one ((let t : is_ne (Q (get_or xs c.loop-end.start d) (get_or xs c.loop-end.end d)) ≡ c.differs_in_owner.result = rw (← c.item_at.ensures, ← c.item_at-in-loop-end.ensures) (sym c.differs_in_owner.ensures) in t) ∙ w.if-differs_in_owner.false);
+        many = length-set c.loop-end.rises.items c.loop-end.end w.comes_after.result ∙ inv.many;
+        rises = rises_set g.T.OwnerOrd.rest_order xs d c.loop-end.rises.items c.loop-end.end w.comes_after.result (omega arith) (omega (arith, inv.many, c.loop-end-test.true)) w.comes_after.ensures inv.rises;
       })
     ]
 
-pub returns : goal.returns
-returns g c =
+pub returns-clause-runs : goal.returns-clause-runs
+returns-clause-runs g c =
     let Q = g.T.OwnerOrd.owner_order in
     let xs = c.args.items.now in
     let d = c.args.other.now in

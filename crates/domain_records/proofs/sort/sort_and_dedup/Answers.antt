@@ -12,7 +12,7 @@ seats_of-requires g c =
     let places = c.in_ok-places.field-0.places.items in
     let xs = c.deref-3.result.now in
     let p : ArePlaces (length xs) places = set_places_all g.met.T.CanonicalOrd.total xs c.in-Some.first.now places c.in_ok-places.field-0.kept c.in_ok-places.ensures in
-    rw c.deref-4.ensures.value (subst (λ (n : ℕ). ArePlaces n places) (sym (length_places (length xs) places p)) p)
+    rw c.deref-5.ensures.value (subst (λ (n : ℕ). ArePlaces n places) (sym (length_places (length xs) places p)) p)
 
 pub arrange-requires-clause-all : goal.arrange-requires-clause-all
 arrange-requires-clause-all g c =
