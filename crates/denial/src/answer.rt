@@ -22,7 +22,7 @@ use crate::verdict_text::VerdictText;
 use bumpalo::Bump;
 use domain_base::ParsedName;
 use domain_dnssec::{
-    DefaultSorter, GenerateNsec3Config, GenerateNsecConfig, HashedNsec3s, Nsec3Chain, Nsec3Hasher,
+    GenerateNsec3Config, GenerateNsecConfig, HashedNsec3s, InPlaceSorter, Nsec3Chain, Nsec3Hasher,
     NsecChain, RecordsIter, SigningError, SortedRecords, Verdict, hash_nsec3s, lend_nsecs,
 };
 use domain_plain::Record;
@@ -118,7 +118,7 @@ fn nsec3s_of<'s, 'a, H: Nsec3Hasher>(
         → Sorts (λ o. o) (λ n. n) given sorted.now
         → HasNoNsec3s (H.answer hasher.now) given apex.now parameters fault) }
 {
-    let config: GenerateNsec3Config<ZoneOctets, DefaultSorter> = GenerateNsec3Config::new(
+    let config: GenerateNsec3Config<ZoneOctets, InPlaceSorter> = GenerateNsec3Config::new(
         parameters,
     );
     match hash_nsec3s(

@@ -44,7 +44,7 @@ pub use domain_octets::{
 pub use domain_plain::{LongRecordData, Record};
 pub use domain_rdata::{Nsec, Nsec3, Nsec3param, ZoneRecordData};
 pub use domain_records::{
-    DefaultSorter, InsertError, Nsec3HashError, OwnerRrs, RecordsIter, SigningError, SortedRecords,
+    DefaultSorter, InPlaceSorter, InsertError, Nsec3HashError, OwnerRrs, RecordsIter, SigningError, SortedRecords,
     Sorter,
 };
 pub use domain_zone::{

@@ -52,4 +52,4 @@ pub use owner::{OwnerRrs, RecordsIter};
 pub use rrset::{OwnerRrsIter, Rrset, RrsetIter};
 pub use slice::{RefSlice, SliceRefsOrOwned, SliceRefsOrOwnedIterator};
 pub use sorted::SortedRecords;
-pub use sorter::{DefaultSorter, Sorter};
+pub use sorter::{DefaultSorter, InPlaceSorter, Sorter};

@@ -1,5 +1,5 @@
 //! What sorts.
-ghost use Rattle.std.specs.Prelude.{◌≡◌, Bool, true, IsTrue, OnOk, OnErr};
+ghost use Rattle.std.specs.Prelude.{◌≡◌, Bool, true, false, IsTrue, OnOk, OnErr};
 ghost use Rattle.std.specs.declared.cmp.Ordering.{Ordering};
 ghost use Rattle.std.specs.Cmp.{IsTotalOrder};
 ghost use Rattle.std.specs.List.Sorted.{IsPermutation, IsSorted, IsStable};
@@ -45,5 +45,20 @@ impl Sorter for DefaultSorter {
         compare: F,
     ) -> Result<(), OutOfMemory> {
         records.sort_by(compare).map_err(|_| OutOfMemory)
+    }
+}
+
+/// The unstable sort of the standard library, on one thread. Takes no memory.
+pub struct InPlaceSorter;
+
+impl Sorter for InPlaceSorter {
+    ghost is_stable = { false };
+
+    fn sort_by<T, F: Fn(&T, &T) -> Ordering>(
+        records: &mut Vec<T>,
+        compare: F,
+    ) -> Result<(), OutOfMemory> {
+        records.sort_unstable_by(compare);
+        Ok(())
     }
 }
