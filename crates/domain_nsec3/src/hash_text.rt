@@ -1,6 +1,6 @@
 //! The text of a hash, written without memory.
-ghost use Rattle.std.specs.Prelude.{◌≡◌, ◌≤◌, ◌++◌, length, map, take};
-ghost use Rattle.domain_octets.specs.Base32.{base32_lower, lower_digit};
+ghost use Rattle.std.specs.Prelude.{◌≡◌, ◌≤◌, length};
+ghost use Rattle.domain_octets.specs.Base32.{base32_lower};
 
 use crate::hash::put_octets;
 use domain_octets::base32::Digits;
