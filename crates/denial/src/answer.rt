@@ -48,16 +48,12 @@ pub enum Answer<'s, 'a> {
     Verdict(ZoneName, Verdict),
 }
 
-/// The records, sorted, with the octets of their owners in the arena once more, in order: the walk
-/// over them, and the chain that borrows them, go over these from one end to the other.
+/// The records, sorted.
 ///
 /// # Errors
 ///
 /// `MixedClasses` where the records are not of one class, and `OutOfMemory`.
-fn sort_zone<'a>(
-    arena: &'a Bump,
-    records: Vec<StoredRr<'a>>,
-) -> Result<Vec<StoredRr<'a>>, DenialFault>
+fn sort_zone<'a>(records: Vec<StoredRr<'a>>) -> Result<Vec<StoredRr<'a>>, DenialFault>
     ensures sorts { IfOk result
         (λ sorted. Sorts (λ o. o) (λ n. n) records.entry.items sorted.items) }
     ensures one_class { IfOk result (λ sorted. IsOneClass sorted.items) }
@@ -76,8 +72,7 @@ fn sort_zone<'a>(
     if !sorted.owner_rrs().is_one_class() {
         return Err(DenialFault::MixedClasses);
     }
-    let laid = lay_owners(arena, sorted.into_inner())?;
-    Ok(laid)
+    Ok(sorted.into_inner())
 }
 
 /// The NSEC chain of the zone that the records are, from which it borrows.
@@ -101,7 +96,8 @@ fn nsecs_of<'s, 'a>(
     }
 }
 
-/// The NSEC3 chain of the zone that the records are. It borrows the apex.
+/// The NSEC3 chain of the zone that the records are. It borrows the apex. No two of its hashes are
+/// alike, so that a sorter that takes no memory serves as well as a stable one.
 fn nsec3s_of<'s, 'a, H: Nsec3Hasher>(
     alloc: Global,
     apex: &'s ParsedName<'a>,
@@ -209,8 +205,9 @@ impl<'s, 'a> Answer<'s, 'a> {
     }
 }
 
-/// Writes the NSEC chain of the zone that the records are. They are sorted first, and the chain
-/// borrows from them.
+/// Writes the NSEC chain of the zone that the records are. They are sorted first, and the octets of
+/// their owners laid into the arena once more, in order: the walk over them, and the chain that
+/// borrows them, go over these from one end to the other.
 fn write_nsecs_of<'a, W: Write>(
     alloc: Global,
     arena: &'a Bump,
@@ -226,12 +223,14 @@ fn write_nsecs_of<'a, W: Write>(
     ensures untouched { IfErr result (λ e. IsBeforeOutput e → output.new ≡ output.old) }
 {
     let apex = store_name(arena, apex)?;
-    let sorted = sort_zone(arena, records)?;
-    let answer = nsecs_of(alloc, &apex, &sorted)?;
+    let sorted = sort_zone(records)?;
+    let laid = lay_owners(arena, sorted)?;
+    let answer = nsecs_of(alloc, &apex, &laid)?;
     answer.send(output)
 }
 
-/// Writes the NSEC3 chain of the zone that the records are. They are sorted first.
+/// Writes the NSEC3 chain of the zone that the records are. They are sorted first. Its owners are
+/// hashed, and not printed, so that they stay where they lie.
 fn write_nsec3s_of<'a, W: Write, H: Nsec3Hasher>(
     alloc: Global,
     arena: &'a Bump,
@@ -250,7 +249,7 @@ fn write_nsec3s_of<'a, W: Write, H: Nsec3Hasher>(
     ensures untouched { IfErr result (λ e. IsBeforeOutput e → output.new ≡ output.old) }
 {
     let apex = store_name(arena, apex)?;
-    let sorted = sort_zone(arena, records)?;
+    let sorted = sort_zone(records)?;
     let answer = nsec3s_of(alloc, &apex, parameters, &sorted, hasher)?;
     answer.send(output)
 }
