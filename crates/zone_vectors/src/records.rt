@@ -142,6 +142,7 @@ fn of_form(
     match form {
         "extend" => extend(alloc, words, answers),
         "refuse" => sorters::refuse(alloc, words, answers),
+        "in-place" => sorters::in_place(alloc, words, answers),
         "held" => copies::held(alloc, words, answers),
         "write" => of_text(alloc, words, answers),
         "insert" | "copy" | "set" => of_records(alloc, form, words, answers),
