@@ -44,8 +44,8 @@ pub use domain_octets::{
 pub use domain_plain::{LongRecordData, Record};
 pub use domain_rdata::{Nsec, Nsec3, Nsec3param, ZoneRecordData};
 pub use domain_records::{
-    DefaultSorter, InPlaceSorter, InsertError, Nsec3HashError, OwnerRrs, RecordsIter, SigningError, SortedRecords,
-    Sorter,
+    DefaultSorter, InPlaceSorter, InsertError, Nsec3HashError, OwnerRrs, RecordsIter, SigningError,
+    SortedRecords, Sorter,
 };
 pub use domain_zone::{
     ApexSoa, HasherError, Nsec3Hasher, UnoccludedOwner, UnoccludedOwners, ZoneRr, find_soa,
