@@ -1,7 +1,9 @@
 -- The texts of the parameters of hashes and of NSEC3 data: tokens spell one at most, and are refused for one reason, spelling none.
-use Rattle.std.proofs.Common.{◌≡◌, ℕ, ◌+◌, ◌<◌, [], ◌∷◌, sym, ap, ◌∙◌, refl, Option}
-use Rattle.std.specs.Prelude.{codes}
+use Rattle.std.proofs.Common.{◌≡◌, ℕ, ◌+◌, ◌<◌, true, List, [], ◌∷◌, length, sym, ap, ◌∙◌, refl, arith, Option}
+use Rattle.std.proofs.lemmas.Bool.Decides.{nat_tests}
 use Rattle.std.proofs.lemmas.Fmt.{decimal_digit}
+use Rattle.std.proofs.lemmas.Grind.{common_steps}
+use Rattle.std.specs.Prelude.{◌==◌, codes}
 use Rattle.domain_octets.specs.declared.codec.Codec.TheVariants.{Base32Hex}
 use Rattle.domain_base.specs.Scan.{RefusesToken}
 use Rattle.domain_base.proofs.RefusalLemmas.{not_memory, token_one_fault_if}
@@ -11,12 +13,13 @@ use Rattle.domain_bitmap.specs.HashText.{SaltText, OwnerHashText}
 use Rattle.domain_bitmap.specs.Scan.{is_among, RefusesTypes}
 use Rattle.domain_bitmap.proofs.ReadBackLemmas.{spelled_once}
 use Rattle.domain_bitmap.proofs.RefusalLemmas.{types_refused, types_one_fault, salt_once, salt_excludes, salt_one_fault, hash_once, hash_excludes, counted_one_fault}
+use Rattle.domain_fields.specs.Layout.{Values}
 use Rattle.domain_fields.specs.Scan.{Scans, Refuses}
 use Rattle.domain_fields.specs.Sequence.{OneToken}
 use Rattle.domain_fields.proofs.GrammarLemmas.{ReadsOnce, Excludes, OneFault, fields_once, fields_refused, fields_one_fault, one_token, token_refused, both_once, both_refused, both_one_fault}
 use Rattle.domain_chain_rdata.specs.Rdata.{hash_numbers}
 use Rattle.domain_chain_rdata.specs.Nsec3paramText.{Nsec3paramText, RefusesNsec3param, hash_numbers_text}
-use Rattle.domain_chain_rdata.specs.Nsec3Text.{BitmapText, HashText, RefusesHash, Nsec3Text, RefusesNsec3}
+use Rattle.domain_chain_rdata.specs.Nsec3Text.{BitmapText, HashText, RefusesHash, Nsec3Text, RefusesNsec3, params_before_hash}
 
 -- parameters
 pub params_once : ReadsOnce Nsec3paramText
@@ -79,7 +82,9 @@ module _ (limit : Option ℕ) where
   pub nsec3_one_fault : OneFault limit (RefusesNsec3 limit)
   nsec3_one_fault = both_one_fault limit HashText BitmapText (RefusesHash limit) (RefusesTypes limit) hashes_once hashes_refused hashes_one_fault bitmap_one
 
--- numbers of one digit each
-pub one_digit_each : (a f i : ℕ) → a < 10 → f < 10 → i < 10 → hash_numbers_text (a, (f, i)) ≡ (48 + a) ∷ 32 ∷ (48 + f) ∷ 32 ∷ (48 + i) ∷ []
+-- parameters of SHA-1 without iterations and salt, with flags of one digit
+pub usual_text : (numbers : Values hash_numbers) (salt : List ℕ) (flags : ℕ) → flags < 10 → numbers.0 ≡ 1 → numbers.1.0 ≡ flags → numbers.1.1 ≡ 0 → true ≡ length salt == 0
+    → 49 ∷ 32 ∷ (48 + flags) ∷ codes " 0 - " ≡ params_before_hash numbers salt
 unfolding hash_numbers_text
-one_digit_each a f i p q r = rw (decimal_digit a p, decimal_digit f q, decimal_digit i r) refl
+usual_text numbers [] flags small algorithm same iterations none = rw (algorithm, same, iterations, decimal_digit 1 (omega arith), decimal_digit flags small, decimal_digit 0 (omega arith)) refl
+usual_text numbers (octet ∷ salt) flags small algorithm same iterations none = grind (arith, nat_tests, common_steps)

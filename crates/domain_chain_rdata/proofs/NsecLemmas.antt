@@ -9,7 +9,7 @@ use Rattle.domain_bitmap.specs.Fault.{BitmapFault}
 use Rattle.domain_bitmap.proofs.FaultLemmas.{no_bitmap_fault}
 use Rattle.std.proofs.lemmas.List.{append-nil, append_assoc}
 use Rattle.domain_fields.specs.Field.{spelled_name, rest}
-use Rattle.domain_fields.specs.Layout.{Layout, Values, one, ◌▸◌, Fits, Ends, Begins, FirstFault, in_first, ParsesBack, octets_of, is_delimited}
+use Rattle.domain_fields.specs.Layout.{Layout, Values, one, ◌▸◌, Fits, Begins, FirstFault, in_first, ParsesBack, octets_of, is_delimited}
 use Rattle.domain_fields.proofs.ExactLemmas.{parses_back}
 use Rattle.domain_fields.proofs.OrderLemmas.{same_data}
 use Rattle.domain_chain_rdata.specs.Rdata.{nsec}

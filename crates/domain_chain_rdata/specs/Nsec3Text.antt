@@ -16,7 +16,7 @@ use Rattle.domain_fields.specs.Layout.{Values}
 use Rattle.domain_fields.specs.Sequence.{OneToken, Both, RefusesBoth}
 use Rattle.domain_chain_rdata.specs.OptOut.{opt_out_comment}
 use Rattle.domain_chain_rdata.specs.Nsec3paramText.{Nsec3paramText, RefusesNsec3param, hash_numbers_text, number_pieces}
-use Rattle.domain_chain_rdata.specs.Rdata.{hash_fields, nsec3}
+use Rattle.domain_chain_rdata.specs.Rdata.{hash_numbers, hash_fields, nsec3}
 use Rattle.domain_base.specs.Words.{Tokens, Rtypes}
 
 -- all tokens spell the types of a bitmap, one each
@@ -43,11 +43,15 @@ Nsec3Text = Both HashText BitmapText
 abbrev pub RefusesNsec3 : Option ℕ → Refusal
 RefusesNsec3 limit = RefusesBoth HashText (RefusesHash limit) (RefusesTypes limit)
 
+-- the parameters with a space after each
+abbrev pub params_before_hash : Values hash_numbers → Octets → Octets
+params_before_hash numbers salt =
+    hash_numbers_text numbers ++ codes " " ++ salt_text salt ++ codes " "
+
 -- the fields with single spaces; there is none after the hash where there are no types
 abbrev pub nsec3_text : Values nsec3 → Octets
 nsec3_text v =
-    hash_numbers_text v.0.0.0 ++ codes " " ++ salt_text v.0.0.1 ++ codes " " ++ base32_upper v.0.1
-    ++ spaced_types (types_of v.1)
+    params_before_hash v.0.0.0 v.0.0.1 ++ base32_upper v.0.1 ++ spaced_types (types_of v.1)
 
 abbrev pub nsec3_pieces : Values nsec3 → List PieceText
 nsec3_pieces v =

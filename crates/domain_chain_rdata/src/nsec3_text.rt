@@ -1,17 +1,18 @@
 //! NSEC3 data as text (RFC 5155, section 3.3).
-ghost use Rattle.std.specs.Prelude.{◌≡◌, Some, IfOk, IfErr};
+ghost use Rattle.std.specs.Prelude.{◌≡◌, Some, IfOk, IfErr, IfSome};
 ghost use Rattle.domain_base.specs.Scan.{scan_fault_of};
 ghost use Rattle.domain_bitmap.specs.Blocks.{types_of};
 ghost use Rattle.domain_bitmap.specs.Text.{spaced_types};
 ghost use Rattle.domain_chain_rdata.specs.OptOut.{opt_out_comment};
 ghost use Rattle.domain_fields.specs.Layout.{Fits};
 ghost use Rattle.domain_chain_rdata.specs.Rdata.{nsec3, nsec3_values, nsec3param_values};
-ghost use Rattle.domain_chain_rdata.specs.Nsec3Text.{HashText, RefusesHash, Nsec3Text, RefusesNsec3, nsec3_text, nsec3_pieces};
+ghost use Rattle.domain_chain_rdata.specs.Nsec3Text.{HashText, RefusesHash, Nsec3Text, RefusesNsec3, params_before_hash, nsec3_text, nsec3_pieces};
 
-use crate::nsec3param_text::{Spaced, write_numbers};
+use crate::nsec3param::HashNumbers;
+use crate::nsec3param_text::write_numbers;
 use crate::{Nsec3, Nsec3param};
 use domain_base::{ScanError, Scanner};
-use domain_bitmap::{OwnerHash, RtypeBitmap};
+use domain_bitmap::{Nsec3Salt, OwnerHash, RtypeBitmap};
 use domain_octets::{
     EmptyBuilder, Formatter, FreezeBuilder, FromBuilder, Octets, OutOfMemory, Truncate, ZonefileFmt,
 };
@@ -106,15 +107,48 @@ impl<'a, O: Octets> fmt::Display for AfterSpaces<'a, O> {
     }
 }
 
+/// The parameters that a zone should have, as they are written before a hash: SHA-1, with opt-out
+/// or not, no iterations and no salt (RFC 9276, section 3.1).
+fn usual_params(numbers: HashNumbers, salt: &[u8]) -> Option<&'static str>
+    ensures { IfSome result (λ text. text.now ≡ params_before_hash numbers salt.now) }
+{
+    let (hash_algorithm, (flags, iterations)) = numbers;
+    if hash_algorithm != 1 || iterations != 0 || !salt.is_empty() {
+        return None;
+    }
+    match flags {
+        0 => Some("1 0 0 - "),
+        1 => Some("1 1 0 - "),
+        _ => None,
+    }
+}
+
+/// The parameters, a space after each. Those of nearly all zones are written in one piece.
+#[derive(Drop)]
+struct BeforeHash<'a, O: Octets>(HashNumbers, &'a Nsec3Salt<O>);
+
+impl<'a, O: Octets> fmt::Display for BeforeHash<'a, O> {
+    ghost output = { λ p. Some (params_before_hash p.0 p.1.now) };
+
+    #[tactic(auto, unfolding(crate::specs::Nsec3paramText::hash_numbers_text))]
+    fn fmt<W: fmt::Write>(&self, f: &mut fmt::Formatter<W>) -> fmt::Result {
+        let (numbers, salt) = (self.0, self.1);
+        if let Some(text) = usual_params(numbers, salt.as_slice()) {
+            return f.write_str(text);
+        }
+        let (hash_algorithm, (flags, iterations)) = numbers;
+        write!(f, "{hash_algorithm} {flags} {iterations} {salt} ")
+    }
+}
+
 /// The fields with single spaces. There is none after the hash where there are no types.
 impl<O: Octets> fmt::Display for Nsec3<O> {
     ghost output = { λ d. Some (nsec3_text (nsec3_values d)) };
 
     fn fmt<W: fmt::Write>(&self, f: &mut fmt::Formatter<W>) -> fmt::Result {
-        let numbers = Spaced(self.numbers());
-        let (salt, next_owner) = (self.salt(), self.next_owner());
+        let params = BeforeHash(self.numbers(), self.salt());
         let types = AfterSpaces(self.types());
-        write!(f, "{numbers} {salt} {next_owner}{types}")
+        write!(f, "{params}{}{types}", self.next_owner())
     }
 }
 

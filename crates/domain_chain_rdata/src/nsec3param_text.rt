@@ -1,5 +1,5 @@
 //! The parameters of the hashes of names as text (RFC 5155, section 4.3).
-ghost use Rattle.std.specs.Prelude.{◌≡◌, ◌++◌, Some, IfOk, IfErr, IfSome, OnOk};
+ghost use Rattle.std.specs.Prelude.{◌≡◌, ◌++◌, Some, IfOk, IfErr, OnOk};
 ghost use Rattle.domain_base.specs.Scan.{scan_fault_of};
 ghost use Rattle.domain_fields.specs.Layout.{Fits};
 ghost use Rattle.domain_fields.specs.Scan.{Scans, Refuses};
@@ -57,51 +57,15 @@ impl<O: FromBuilder + Drop> Nsec3param<O> {
     }
 }
 
-/// Hash algorithm, flags and iterations with single spaces, where each has one digit, as those of
-/// nearly all zones have (RFC 9276, section 3.1).
-fn short_numbers(hash_algorithm: u8, flags: u8, iterations: u16) -> Option<[u8; 5]>
-    ensures { IfSome result
-        (λ text. text ≡ hash_numbers_text (hash_algorithm, (flags, iterations))) }
-{
-    if hash_algorithm > 9 || flags > 9 || iterations > 9 {
-        return None;
-    }
-    Some([
-        b'0' + hash_algorithm,
-        b' ',
-        b'0' + flags,
-        b' ',
-        b'0' + iterations as u8,
-    ])
-}
-
-/// Hash algorithm, flags and iterations, as they are written: with single spaces. In one piece,
-/// where each has one digit.
-#[derive(Drop)]
-pub struct Spaced(pub HashNumbers);
-
-impl fmt::Display for Spaced {
-    ghost output = { λ n. Some (hash_numbers_text n.0) };
-
-    #[tactic(auto, unfolding(crate::specs::Nsec3paramText::hash_numbers_text))]
-    fn fmt<W: fmt::Write>(&self, f: &mut fmt::Formatter<W>) -> fmt::Result {
-        let (hash_algorithm, (flags, iterations)) = self.0;
-        if let Some(short) = short_numbers(hash_algorithm, flags, iterations)
-            && let Ok(text) = str::from_utf8(&short)
-        {
-            return f.write_str(text);
-        }
-        write!(f, "{hash_algorithm} {flags} {iterations}")
-    }
-}
-
 /// Hash algorithm, flags, iterations and salt, with single spaces.
 impl<O: Octets> fmt::Display for Nsec3param<O> {
     ghost output = { λ d. Some (nsec3param_text (nsec3param_values d)) };
 
+    #[tactic(auto, unfolding(crate::specs::Nsec3paramText::hash_numbers_text))]
     fn fmt<W: fmt::Write>(&self, f: &mut fmt::Formatter<W>) -> fmt::Result {
-        let (numbers, salt) = (Spaced(self.numbers()), self.salt());
-        write!(f, "{numbers} {salt}")
+        let (hash_algorithm, (flags, iterations)) = self.numbers();
+        let salt = self.salt();
+        write!(f, "{hash_algorithm} {flags} {iterations} {salt}")
     }
 }
 

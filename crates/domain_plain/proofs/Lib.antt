@@ -1,3 +1,4 @@
 pub mod GenericLemmas
 pub mod ReadBackLemmas
+pub mod RecordLemmas
 pub mod WireLemmas

@@ -8,6 +8,10 @@ use Rattle.domain_base.specs.Numbers.{class_text, type_text}
 use Rattle.domain_plain.specs.declared.record.Record.{Record}
 use Rattle.domain_base.specs.Words.{Name}
 
+-- a class with a space before and after it
+abbrev pub spaced_class : ℕ → Octets
+spaced_class class = space ∷ class_text class ++ space ∷ []
+
 -- the owner with its last dot, the TTL, the class, the type and the data, with single spaces
 -- between them
 abbrev pub record_text : {N D : Type 0} → (N → Name) → (D → ℕ) → (D → Option Octets) → Record N D

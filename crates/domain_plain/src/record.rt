@@ -1,5 +1,5 @@
 //! Records.
-ghost use Rattle.std.specs.Prelude.{◌≡◌, ◌⊎◌};
+ghost use Rattle.std.specs.Prelude.{◌≡◌, ◌⊎◌, Some};
 ghost use Rattle.domain_plain.specs.RecordClone.{IsRecordClone};
 ghost use Rattle.std.specs.Borrow.{sem};
 ghost use Rattle.domain_plain.specs.RecordLends.{LendsData};
@@ -200,6 +200,23 @@ impl<N: ToName, D: RecordData + CanonicalOrd> CanonicalOrd for Record<N, D> {
     }
 }
 
+/// A class with a space before and after it. That of nearly all records is written in one piece.
+#[derive(Drop)]
+struct Spaced(Class);
+
+impl fmt::Display for Spaced {
+    ghost use Rattle.domain_plain.specs.RecordText.{spaced_class};
+
+    ghost output = { λ c. Some (spaced_class c.0) };
+
+    fn fmt<W: fmt::Write>(&self, f: &mut fmt::Formatter<W>) -> fmt::Result {
+        if self.0 == Class::IN {
+            return f.write_str(" IN ");
+        }
+        write!(f, " {} ", self.0)
+    }
+}
+
 /// The owner with its last dot, the TTL, the class, the type and the data, with single spaces
 /// between them.
 impl<N: ToName, D: RecordData + fmt::Display> fmt::Display for Record<N, D> {
@@ -207,13 +224,14 @@ impl<N: ToName, D: RecordData + fmt::Display> fmt::Display for Record<N, D> {
 
     ghost output = { record_text N.labels D.rtype D.output };
 
+    #[tactic(auto, using(crate::proofs::RecordLemmas::class_in_spaces))]
     fn fmt<W: fmt::Write>(&self, f: &mut fmt::Formatter<W>) -> fmt::Result {
         write!(
             f,
-            "{} {} {} {} {}",
+            "{} {}{}{} {}",
             self.owner.fmt_with_dot(),
             self.ttl,
-            self.class,
+            Spaced(self.class),
             self.data.rtype(),
             self.data
         )

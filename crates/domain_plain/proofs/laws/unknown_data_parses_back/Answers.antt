@@ -1,4 +1,4 @@
-use Rattle.std.proofs.Common.{sym, subst, ap, ◌∙◌, ◌≡◌}
+use Rattle.std.proofs.Common.{subst, ap, ◌∙◌, ◌≡◌}
 use Rattle.domain_octets.specs.Words.{AreOctets}
 use Rattle.domain_plain.proofs.WireLemmas.{short_data_back}
 use Rattle.domain_plain.proofs.laws.unknown_data_parses_back.Goals as goal
