@@ -19,12 +19,12 @@ ldns_rdf *name_of(const char *text)
     return name;
 }
 
-/* Takes over the question from a line such as ";name. IN TYPE". */
+/* Takes over the question from a line such as ";name. IN TYPE", as dig prints it, or ";; name. IN TYPE", as drill does. */
 static void read_question(struct input *input, const char *line)
 {
     char name[1024], rtype[64];
 
-    if (input->name != NULL || sscanf(line, ";%1023s IN %63s", name, rtype) != 2 || line[1] == ';')
+    if (input->name != NULL || sscanf(line + strspn(line, ";"), "%1023s IN %63s", name, rtype) != 2)
         return;
     input->name = name_of(name);
     input->rtype = ldns_get_rr_type_by_name(rtype);
