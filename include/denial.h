@@ -43,10 +43,13 @@ enum denial_answer {
     /* The name owns records of the type. */
     DENIAL_HAS = 3,
 
-    /* The name owns records, and none of the type. */
+    /* The name owns records, and none of the type. No proof of no data where the name owns a CNAME
+     * record, which answers in the place of the type: ask for the type CNAME (5) at the name too,
+     * and take DENIAL_HAS for an alias (RFC 6840, section 4.3). */
     DENIAL_NO_TYPE = 4,
 
-    /* The name owns no records, and a name below it does: it is an empty non-terminal. */
+    /* The name owns no records, and a name below it does: it is an empty non-terminal. As to a DNAME
+     * record above it, see DENIAL_NO_NAME. */
     DENIAL_EMPTY_NAME = 5,
 
     /* The name, or one above it, may be an unsigned delegation that the chain leaves out. Comes
@@ -54,7 +57,10 @@ enum denial_answer {
     DENIAL_OPT_OUT = 6,
 
     /* There is no such name. Comes with the labels of the closest encloser. A wildcard below the
-     * closest encloser may still answer: ask for that name too. */
+     * closest encloser may still answer: ask for that name too. No proof of a name error where the
+     * closest encloser, or a name between it and the apex, owns a DNAME record, which redirects all
+     * names below it: ask for the type DNAME (39) at each of these, and take DENIAL_HAS for a
+     * redirection (RFC 6840, section 4.1). */
     DENIAL_NO_NAME = 7,
 
     /* The least number of a fault. */

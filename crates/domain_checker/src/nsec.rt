@@ -134,6 +134,12 @@ pub(crate) fn cover_verdict<A: ToName, O: Octets, N: ToName, M: ToName>(
 ///
 /// The chain is one of `domain_nsec` that keeps the names below a DNAME. The records' signatures
 /// are not looked at.
+///
+/// Two verdicts are no denials by themselves. `NoType` is none where the name owns a CNAME record,
+/// which answers in the place of the type: ask for CNAME too, which must not be `Has` (RFC 6840,
+/// section 4.3). `NoName` and `EmptyName` are none where a name above the asked one owns a DNAME
+/// record, which redirects all names below it: ask for DNAME at each of them that is at or below
+/// the apex, and none may be `Has` (RFC 6840, section 4.1).
 pub fn check_nsec<A: ToName, O: Octets, N: ToName, M: ToName>(
     apex: &A,
     chain: &[Record<N, Nsec<O, N>>],

@@ -34,6 +34,11 @@ const MAX_NAME: usize = 255;
 /// label longer. The first match and the first cover in the list count, and the flag of opt-out is
 /// the cover's. Takes no memory but for the hasher's answers, one at a time.
 ///
+/// As with `check_nsec`, `NoType` is no denial where the name owns a CNAME record (ask for CNAME
+/// too), and `NoName` and `EmptyName` are none where a name above it owns a DNAME record (ask for
+/// DNAME at the closest encloser and at each name between it and the apex; RFC 6840, sections 4.1
+/// and 4.3).
+///
 /// # Errors
 ///
 /// `Hasher` with the number of the first refusal among the hashes that are asked for, and

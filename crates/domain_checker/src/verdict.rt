@@ -10,7 +10,7 @@ pub enum Verdict {
     BelowDelegation,
     /// The name owns records of the type.
     Has,
-    /// The name owns records, and none of the type.
+    /// The name owns records, and none of the type. Where it owns a CNAME record, that answers.
     NoType,
     /// The name owns no records, and a name below it does: it is an empty non-terminal.
     EmptyName,
@@ -19,7 +19,8 @@ pub enum Verdict {
     /// many labels of the name.
     OptOut(usize),
     /// There is no such name. The number is how many labels the closest encloser has, the root not
-    /// counted: it is the last so many labels of the name.
+    /// counted: it is the last so many labels of the name. A wildcard below the closest encloser
+    /// may answer, and a DNAME record of a name above.
     NoName(usize),
     /// The records do not prove what the zone says.
     NotProven,
