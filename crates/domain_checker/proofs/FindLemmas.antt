@@ -105,5 +105,10 @@ pub record Stands {X : Type 0} (xs : List X) (x : X) : Type 0 where
 pub stands_from : {X : Type 0} (xs : List X) (x : X) → Contains xs x → Stands xs x
 stands_from xs x c = record { place = c.0; there = slice_get-get_or xs c.0 x c.1 ∙ ap Some c.2 }
 
+pub stands_in : {X : Type 0} (xs : List X) (x : X) → In x xs → Stands xs x
+stands_in [] x i = absurd i
+stands_in (y ∷ xs) x (inl e) = record { place = zero; there = ap Some e }
+stands_in (y ∷ xs) x (inr i) = let s = stands_in xs x i in record { place = suc s.place; there = s.there }
+
 pub stands_all : {X : Type 0} (xs ys : List X) → All (Contains xs) ys → (y : X) → In y ys → Stands xs y
 stands_all xs ys h y i = stands_from xs y (all_in (Contains xs) ys y (recursion_from_All (Contains xs) ys h) i)

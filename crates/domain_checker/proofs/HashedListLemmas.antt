@@ -1,6 +1,6 @@
 -- What a record of an NSEC3 chain says of the hash of a name that no other name of the chain has.
 use Rattle.std.proofs.Common.{◌≡◌, ◌<◌, ℕ, Bool, zero, suc, true, false, cond, not, ◌&&◌, ◌||◌, List, [], ◌∷◌, map, refl, sym, ap, ◌∙◌, inl, inr, eq-eqb, Some, None, slice_get}
-use Rattle.std.specs.List.{AllByRecursion}
+use Rattle.std.specs.List.{AllByRecursion, list_any}
 use Rattle.std.specs.Cmp.Lexicographic.{nat_list_cmp_total, slice_cmp, bytes_decides}
 use Rattle.std.specs.Ordering.{nat_cmp, is_lt, is_eq, ordering_reverse}
 use Rattle.std.specs.declared.cmp.Ordering.{Ordering}
@@ -22,10 +22,11 @@ use Rattle.domain_zone.specs.Enclosers.{exists_over}
 use Rattle.domain_zone.proofs.NameLemmas.{one_lowered, same_itself}
 use Rattle.domain_nsec3.specs.Chain.{HashedLink, HashedName, IsHashedChain, IsOfChain, cycle, ends, ends_of, hashed_owner}
 use Rattle.domain_nsec3.specs.Config.{ChainConfig, Hash, Parameters, hash_name}
-use Rattle.domain_nsec3.specs.Meaning.{CutsEnclose, IsAlone, IsMatchedOrCoveredOnce, IsRecordOf, MirrorsZone, TellsEncloser, octets_before}
+use Rattle.domain_nsec3.specs.Meaning.{CutsEnclose, IsAlone, IsCovered, IsMatched, IsMatchedOrCoveredOnce, IsRecordOf, MirrorsZone, TellsEncloser, octets_before}
 use Rattle.domain_nsec3.specs.Owners.{is_chain_name, is_original_owner, nsec3_lists, original_owners}
 use Rattle.domain_checker.specs.HashedList.{same_parameters, is_spelling, read_label, hash_in, owner_hash, is_some_with, is_hash_match, is_hash_cover}
-use Rattle.domain_checker.proofs.FindLemmas.{In, all_in, in_pairs, Stands}
+use Rattle.domain_checker.specs.HashedVerdict.{is_covered, is_matched, is_ok_with}
+use Rattle.domain_checker.proofs.FindLemmas.{In, all_in, in_any, in_at, in_pairs, Stands}
 
 -- octets that the order cannot tell apart
 pub tied_is : (u v : Octets) → matches octets_before u v ≡ is_eq (slice_cmp nat_cmp u v)
@@ -108,6 +109,22 @@ module _ (L : List ZoneRecord) (a : Name) (config : ChainConfig) (links : List H
     where
       tied : (p : Parameters) → same_parameters p p ≡ true
       tied p = λ j. (eq-eqb p.algorithm p.algorithm refl j && eq-eqb p.iterations p.iterations refl j) && (bytes_decides p.salt p.salt).1 refl j
+
+  -- what a record of the chain says of the hash of a name, a list says that has the record
+  module _ (listed : List HashedLink) (has : (k : HashedLink) → In k links → In k listed) (d : Name) where
+    pub matched_in : IsMatched a config links d → is_matched a config.parameters config.hash listed d ≡ true
+    matched_in m =
+        let i = in_at links m.place m.link m.is.there in
+        ap (is_ok_with (λ v. list_any (is_hash_match a config.parameters v) listed)) m.known
+        ∙ in_any (is_hash_match a config.parameters m.value) listed m.link (has m.link i)
+        (ap (is_some_with (λ h. matches octets_before h m.value)) (hash_at m.link i m.hash m.is.octets m.is.spelled) ∙ m.says)
+
+    pub covered_in : IsCovered a config links d → is_covered a config.parameters config.hash listed d ≡ true
+    covered_in m =
+        let i = in_at links m.place m.link m.is.there in
+        ap (is_ok_with (λ v. list_any (is_hash_cover a config.parameters v) listed)) m.known
+        ∙ in_any (is_hash_cover a config.parameters m.value) listed m.link (has m.link i)
+        (ap (is_some_with (λ h. covers octets_before h m.link.next m.value)) (hash_at m.link i m.hash m.is.octets m.is.spelled) ∙ m.says)
 
   -- the place of the record that says something of d, where no other name of the chain has its hash
   module _ (d : Name) (low : is_at_or_below d a ≡ true) (v : Octets) (alone : IsAlone L a config d v) where

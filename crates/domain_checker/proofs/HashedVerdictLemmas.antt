@@ -24,10 +24,10 @@ use Rattle.domain_checker.specs.HashedReading.{is_none, tells_cut, hash_match_ve
 use Rattle.domain_checker.specs.HashedVerdict.{is_below_chain_cut, original_verdict, missing_verdict, hashed_zone_verdict, next_closer, is_ok_with, is_matched, is_covered, proves, hashed_proved_verdict, IsHashedProved, IsFirstMatched, lists_ns, is_told_cut, HasHashedProof}
 use Rattle.domain_checker.specs.Verdict.{closest_encloser, IsWithin}
 use Rattle.domain_checker.specs.declared.verdict.Verdict.{Verdict}
-use Rattle.domain_checker.specs.declared.verdict.Verdict.TheVariants.{OutsideZone, BelowDelegation, Has, NoType, EmptyName, NotProven}
+use Rattle.domain_checker.specs.declared.verdict.Verdict.TheVariants.{OutsideZone, BelowDelegation, Has, NoType, EmptyName, OptOut, NoName, NotProven}
 use Rattle.domain_checker.proofs.EncloserLemmas.{closest_is, cut_same, exists_same, owner_owns, same_length, strictly_longer}
-use Rattle.domain_checker.proofs.FindLemmas.{In, any_in, any_none, in_any, in_at, in_filter, find_some, find_none, Stands, stands_all}
-use Rattle.domain_checker.proofs.HashedListLemmas.{ChainFacts, covered_never, hash_same, matched_once, told_at}
+use Rattle.domain_checker.proofs.FindLemmas.{In, any_in, any_none, in_any, in_at, in_filter, find_some, find_none, Stands, stands_all, stands_in}
+use Rattle.domain_checker.proofs.HashedListLemmas.{ChainFacts, covered_in, covered_never, hash_same, matched_in, matched_once, told_at}
 use Rattle.domain_checker.proofs.HashedWalkLemmas.{below_strictly, closer_is, same_back, same_count}
 
 -- ---- a bitmap without types
@@ -142,6 +142,27 @@ module _ (L : List ZoneRecord) (a : Name) (config : ChainConfig) (links : List H
   closest : IsClosestEncloser (original_owners L a config) a x (closest_encloser (original_owners L a config) a x)
   closest = closest_is (original_owners L a config) a x apex_exists low
 
+  -- a list that has every record of the chain proves all
+  pub whole_proves : ((k : HashedLink) → In k links → In k listed) → proves L a config listed x ≡ true
+  whole_proves has =
+      let tells = facts.tells.each x en low free closest in
+      let in_zone = (and_parts (is_at_or_below en a) (list_any (λ n. is_at_or_below n en) owners) closest.found).0 in
+      and_from (matched en) ((same_name en x || is_zone_cut L a en) || covered (next_closer x en))
+      (matched_in L a config links facts listed has en (tells.runs en closest.above in_zone (below_itself en)))
+      (elim (cases_Bool (same_name en x)) [
+        | inl s ↦ or_left (same_name en x || is_zone_cut L a en) (covered (next_closer x en)) (or_left (same_name en x) (is_zone_cut L a en) s)
+        | inr s ↦
+            let closer = closer_is x en closest.above (shorter_encloser s) in
+            or_right (same_name en x || is_zone_cut L a en) (covered (next_closer x en))
+            (covered_in L a config links facts listed has (next_closer x en) (tells.next (next_closer x en) (record { above = closer.above; below = closer.below; longer = closer.long })))
+      ])
+    where
+      shorter_encloser : same_name en x ≡ false → length en < length x
+      shorter_encloser s = elim (cases_lt (length en) (length x)) [
+        | inl h ↦ h
+        | inr h ↦ absurd (false≢true (sym s ∙ same_back x en (same_length x en closest.above h)))
+      ]
+
   within_links : (k : HashedLink) → In k listed → In k links
   within_links k i = let s = among k i in in_at links s.place k s.there
 
@@ -152,7 +173,7 @@ module _ (L : List ZoneRecord) (a : Name) (config : ChainConfig) (links : List H
 
   pub none_proved : (t : ℕ) → IsUnmatched listed a config.parameters config.hash x → NotProven ≡ hashed_proved_verdict L a config listed x t
   none_proved t f =
-      untold t (f en closest.above (and_parts (is_at_or_below en a) (list_any (λ n. is_at_or_below n en) owners) closest.found).0)
+      untold t (f en closest.above (and_parts (is_at_or_below en a) (list_any (λ n. is_at_or_below n en) owners) closest.found).0).2
 
   -- what exists is not strictly below a zone cut of the chain
   cut_apart : (c y : Name) → is_zone_cut L a c ≡ true → is_original_owner L a config c ≡ true → exists_over (original_owners L a config) a y ≡ true → is_strictly_below y c ≡ true → ⊥
@@ -468,3 +489,55 @@ walked_proved knows listed a p hash x t verdict b low w = λ L config links same
         told.says ∙ told_proved L a config links facts listed (stands_all links listed among) x low free told.name told.first told.value told.known told.link told.found t b told.next told.closes
     by L config links facts free among (inr none) =
         none.0 ∙ none_proved L a config links facts listed (stands_all links listed among) x low free t none.1
+
+-- ---- the whole chain
+
+pub whole_chain_proves : KnowsChains → (L : List ZoneRecord) (a : Name) (config : ChainConfig) (links : List HashedLink) (x : Name) (t : ℕ) → IsHashedChain L a config links → AreAlone L a config x
+    → hashed_proved_verdict L a config links x t ≡ hashed_zone_verdict L a config x t
+whole_chain_proves knows L a config links x t chain free =
+    elim (cases_Bool (is_at_or_below x a)) [
+      | inl e ↦
+          let whole = whole_proves L a config links (knows L a config links chain) links (stands_in links) x e free (λ k i. i) in
+          (λ i. cond (not (e i) || whole i) (hashed_zone_verdict L a config x t) NotProven)
+      | inr e ↦ (λ i. cond (not (e i) || proves L a config links x) (hashed_zone_verdict L a config x t) NotProven)
+    ]
+
+is_told : Verdict → Bool
+is_told OutsideZone = true
+is_told BelowDelegation = true
+is_told Has = true
+is_told NoType = true
+is_told EmptyName = true
+is_told (OptOut n) = true
+is_told (NoName n) = true
+is_told NotProven = false
+
+choose : (b : Bool) (v w : Verdict) → is_told v ≡ true → is_told w ≡ true → is_told (cond b v w) ≡ true
+choose true v w e f = e
+choose false v w e f = f
+
+-- a zone has a verdict on every name and type
+pub hashed_zone_says : (L : List ZoneRecord) (a : Name) (config : ChainConfig) (x : Name) (t : ℕ) → hashed_zone_verdict L a config x t ≢ NotProven
+unfolding is_told
+hashed_zone_says L a config x t none = false≢true (ap is_told (sym none) ∙ says)
+  where
+    cut : Verdict
+    cut = cond (is_zone_cut L a x && not (nat_eq t ds)) BelowDelegation NoType
+
+    missing : Verdict
+    missing = missing_verdict (is_opt_out config.flags) (length (closest_encloser (original_owners L a config) a x))
+
+    other : Verdict
+    other = cond (exists_over (original_owners L a config) a x) EmptyName missing
+
+    inner : Verdict
+    inner = cond (is_original_owner L a config x) (original_verdict L a config x t) other
+
+    says : is_told (hashed_zone_verdict L a config x t) ≡ true
+    says =
+        choose (not (is_at_or_below x a)) OutsideZone (cond (is_below_chain_cut L a config x) BelowDelegation inner) refl
+        (choose (is_below_chain_cut L a config x) BelowDelegation inner refl
+        (choose (is_original_owner L a config x) (original_verdict L a config x t) other
+        (choose (nsec3_lists L a config x t) Has cut refl (choose (is_zone_cut L a x && not (nat_eq t ds)) BelowDelegation NoType refl refl))
+        (choose (exists_over (original_owners L a config) a x) EmptyName missing refl
+        (choose (is_opt_out config.flags) (OptOut (length (closest_encloser (original_owners L a config) a x))) (NoName (length (closest_encloser (original_owners L a config) a x))) refl refl))))

@@ -119,10 +119,10 @@ module _ (listed : List HashedLink) (a : Name) (p : Parameters) (hash : Hash) wh
       pub none_left : same_name left a ≡ true → IsUnmatched listed a p hash x
       none_left s y up low =
           elim (cases_Bool (same_name y left)) [
-            | inl e ↦ matched_same y left e ∙ none_matched left missed.value missed.known missed.none
+            | inl e ↦ (missed.value, hash_same hash y left e ∙ missed.known, matched_same y left e ∙ none_matched left missed.value missed.known missed.none)
             | inr e ↦
                 let down : is_at_or_below y left ≡ true = ap (λ k. lowered_below (lowered y) k) (one_lowered left a s) ∙ low in
-                (missed.first y up (and_from (is_at_or_below y left) (not (same_name y left)) down (ap not e))).2
+                missed.first y up (and_from (is_at_or_below y left) (not (same_name y left)) down (ap not e))
           ]
 
       pub passed_on : (l : Label) (next : Name) → left ≡ l ∷ next → same_name left a ≡ false → IsPassed next missed.value

@@ -5,13 +5,19 @@ ghost use Rattle.domain_base.specs.Words.{Name};
 ghost use Rattle.domain_zone.specs.Enclosers.{exists_over, IsClosestEncloser};
 ghost use Rattle.domain_zone.specs.Zone.{OwnersNeverDescend, ZoneRecord};
 ghost use Rattle.domain_nsec.specs.Chain.{IsChain, Link};
+ghost use Rattle.domain_nsec3.specs.Chain.{HashedLink, IsHashedChain};
+ghost use Rattle.domain_nsec3.specs.Config.{ChainConfig};
+ghost use Rattle.domain_nsec3.specs.Meaning.{AreAlone};
 ghost use Rattle.domain_nsec.specs.declared.config.GenerateNsecConfig.{GenerateNsecConfig};
 ghost use Rattle.domain_checker.specs.Verdict.{closest_encloser, proved_verdict, zone_verdict, IsProved};
+ghost use Rattle.domain_checker.specs.HashedVerdict.{hashed_proved_verdict, hashed_zone_verdict};
 ghost use Rattle.domain_checker.specs.Reading.{reading};
 ghost use Rattle.domain_checker.specs.declared.verdict.Verdict.TheVariants.{NotProven};
 
 use domain_bitmap::laws::built_bitmaps_give_their_types;
 use domain_nsec::laws::{chains_mean_the_zone, types_ignore_case};
+use domain_nsec3::laws as hashed;
+use domain_octets::laws::{base32_reads_back, base32_tells_apart};
 
 /// Where the apex exists, a name at or below it has a closest encloser, which is the first of the
 /// name and its ancestors that exists.
@@ -42,4 +48,24 @@ pub fn whole_chains_prove_all()
         → zone_verdict L a assume x t ≢ NotProven }
 {
     chains_mean_the_zone();
+}
+
+/// The whole NSEC3 chain of a zone proves what the zone says of every name and type, where no other
+/// name of the chain has the hash of the name or of an ancestor at or below the apex; and the zone
+/// says something of each.
+pub fn whole_hashed_chains_prove_all()
+    ensures zone { (L : List ZoneRecord) (a : Name) (config : ChainConfig)
+        (links : List HashedLink) (x : Name) (t : ℕ)
+        → IsHashedChain L a config links → AreAlone L a config x
+        → hashed_proved_verdict L a config links x t ≡ hashed_zone_verdict L a config x t }
+    ensures definite { (L : List ZoneRecord) (a : Name) (config : ChainConfig) (x : Name) (t : ℕ)
+        → hashed_zone_verdict L a config x t ≢ NotProven }
+{
+    hashed::chains_mean_the_zone();
+    hashed::names_exist();
+    hashed::names_end_at_the_encloser();
+    hashed::types_ignore_case();
+    built_bitmaps_give_their_types();
+    base32_reads_back();
+    base32_tells_apart();
 }

@@ -73,7 +73,8 @@ pub fn check_nsec3<O: Octets, N: ToName, H: Nsec3Hasher>(
         (N.labels name.now)) }
     ensures within { IfOk result (IsWithin (length (N.labels name.now))) }
 
-    // An error is the first refusal, or want of memory.
+    // An error is the first refusal, or want of memory; and a verdict comes only where no name that
+    // is asked for is refused (`exact`).
     ensures refusal { (n : ℕ) → IsErrOf result (hash_error.Hasher n)
         → IsFirstRefusal (links N.labels records.now) (N.labels apex.now)
         (parameters records.now) (hash_with (H.answer hasher.now) records.now)
