@@ -29,6 +29,6 @@ pub use ns::Ns;
 pub use pairs::both;
 pub use record::Record;
 pub use record_clone::CloneRecordData;
-pub use record_data::{ComposeRecordData, LongRecordData, ParseRecordData, RecordData};
+pub use record_data::{ComposeRecordData, LongRecordData, ParseRecordData, RecordData, ZoneData};
 pub use soa::Soa;
 pub use unknown::UnknownRecordData;

@@ -1,5 +1,5 @@
 //! Data of records.
-ghost use Rattle.std.specs.Prelude.{◌≡◌, ◌≤◌, ◌↔◌, ℕ, Some, length, IsTrue, IfOk, IfErr, OnErr, IfNone, MatchOption, codes};
+ghost use Rattle.std.specs.Prelude.{◌≡◌, ◌≤◌, ◌↔◌, ℕ, Option, Some, length, IsTrue, IfOk, IfErr, OnErr, IfNone, MatchOption, codes};
 ghost use Rattle.std.specs.Ordering.{nat_cmp};
 ghost use Rattle.std.specs.Cmp.Lexicographic.{slice_cmp};
 ghost use Rattle.domain_octets.specs.Words.{Octets};
@@ -7,7 +7,7 @@ ghost use Rattle.domain_base.specs.Fault.{Fault, fault_of};
 ghost use Rattle.domain_fields.specs.Layout.{GoesOn};
 ghost use Rattle.domain_fields.specs.Target.{Appends};
 
-use domain_base::Rtype;
+use domain_base::{Rtype, Ttl};
 use domain_octets::{AppendError, OctetsBuilder, ParseError, Parser};
 use std::cmp::Ordering;
 use std::error::Error;
@@ -36,6 +36,18 @@ pub trait RecordData {
     /// The type of the data.
     fn rtype(&self) -> Rtype
         ensures { result ≡ rtype self.now };
+}
+
+/// The data of a record as the chains of its zone see it: its type and, of an SOA, the MINIMUM.
+pub trait ZoneData: RecordData {
+    /// The MINIMUM field of the data of an SOA, in seconds (RFC 1035, section 3.3.13); None for
+    /// data that have no such field.
+    ghost minimum: { Self → Option ℕ };
+
+    /// How long a negative answer from a zone that starts with these data may be cached (RFC 2308,
+    /// section 4): the MINIMUM field of an SOA; None for data that have no such field.
+    fn soa_minimum(&self) -> Option<Ttl>
+        ensures { result ≡ minimum self.now };
 }
 
 /// Data that can be read from the octets of a record (RFC 1035, section 3.2.1).

@@ -1,5 +1,5 @@
 -- data of all types as one type
-use Rattle.std.specs.Prelude.{ℕ}
+use Rattle.std.specs.Prelude.{ℕ, Option, Some, None}
 use Rattle.std.specs.declared.cmp.Ordering.{Ordering}
 use Rattle.std.specs.Ordering.{nat_cmp, on, then_cmp}
 use Rattle.std.specs.Cmp.{IsTotalOrder, on_total, then_total, nat_cmp_total}
@@ -28,6 +28,11 @@ rtype_of (Nsec d) = rtypes.nsec
 rtype_of (Nsec3 d) = rtypes.nsec3
 rtype_of (Nsec3param d) = rtypes.nsec3param
 rtype_of (Unknown d) = d.rtype
+
+-- the MINIMUM field of an SOA
+abbrev pub minimum_of : {O N : Type 0} → ZoneRecordData O N → Option ℕ
+minimum_of (Soa d) = Some d.minimum
+minimum_of _ = None
 
 -- the octets of the data on the wire
 abbrev pub wire_octets : {O N : Type 0} → (O → Octets) → (N → Name) → ZoneRecordData O N → Octets

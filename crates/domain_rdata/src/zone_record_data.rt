@@ -3,11 +3,11 @@ ghost use Rattle.std.specs.Prelude.{◌≡◌};
 ghost use Rattle.std.specs.Ordering.{nat_cmp};
 ghost use Rattle.std.specs.Cmp.Lexicographic.{slice_cmp};
 
-use domain_base::{CanonicalOrd, Rtype, ToName};
+use domain_base::{CanonicalOrd, Rtype, ToName, Ttl};
 use domain_chain_rdata::{Nsec, Nsec3, Nsec3param};
 use domain_keys::{Dnskey, Ds};
 use domain_octets::{AppendError, Octets, OctetsBuilder};
-use domain_plain::{A, ComposeRecordData, Mx, Ns, RecordData, Soa, UnknownRecordData};
+use domain_plain::{A, ComposeRecordData, Mx, Ns, RecordData, Soa, UnknownRecordData, ZoneData};
 use domain_rrsig::Rrsig;
 use std::cmp::Ordering;
 
@@ -67,6 +67,20 @@ impl<O: Octets, N: ToName> RecordData for ZoneRecordData<O, N> {
 
     fn rtype(&self) -> Rtype {
         with_data!(self, data => data.rtype())
+    }
+}
+
+// The MINIMUM of the `Soa` variant.
+impl<O: Octets, N: ToName> ZoneData for ZoneRecordData<O, N> {
+    ghost use Rattle.domain_rdata.specs.Zone.{minimum_of};
+
+    ghost minimum = { minimum_of };
+
+    fn soa_minimum(&self) -> Option<Ttl> {
+        match self {
+            ZoneRecordData::Soa(soa) => Some(soa.minimum()),
+            _ => None,
+        }
     }
 }
 
