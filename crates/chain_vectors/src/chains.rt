@@ -20,7 +20,7 @@ fn chain(
     if !groups.is_one_class() {
         return answers.echo("  more than one class");
     }
-    match generate_nsecs(alloc, apex, groups, config) {
+    match generate_nsecs::<Vec<u8>, _, _>(alloc, apex, groups, config) {
         Ok(nsecs) => list(nsecs.as_slice(), answers),
         Err(error) => answers.refused(&error),
     }
@@ -28,7 +28,12 @@ fn chain(
 
 /// The chain of records in any order, or why they have none.
 fn chain_of_any(alloc: Global, apex: &OwnName, given: Vec<ZoneRecord>, answers: &mut Answers) {
-    match generate_nsecs_of_records(alloc, apex, given, &GenerateNsecConfig::new()) {
+    match generate_nsecs_of_records::<Vec<u8>, _, _>(
+        alloc,
+        apex,
+        given,
+        &GenerateNsecConfig::new(),
+    ) {
         Ok(nsecs) => list(nsecs.as_slice(), answers),
         Err(error) => answers.refused(&error),
     }

@@ -8,8 +8,7 @@ use Rattle.domain_nsec3.specs.Config.{ChainConfig}
 use Rattle.domain_nsec3.specs.View.{Answer as HasherAnswer, as_param_record, hash_by, parameters_of}
 use Rattle.domain_nsec3.specs.declared.config.Nsec3ParamTtlMode.TheVariants.{Soa}
 use Rattle.domain_nsec3.specs.declared.nsec3.HashedNsec3s.{HashedNsec3s}
-use Rattle.domain_dnssec.specs.AnyOrder.{IsChainOf, HasNoChain}
-use Rattle.domain_dnssec.specs.AnyOrderNsec3.{IsHashedChainOf, HasNoHashedChain}
+use Rattle.domain_dnssec.specs.ZoneRecords.{IsChainOf, HasNoChain, IsHashedChainOf, HasNoHashedChain}
 use Rattle.domain_dnssec.specs.declared.chain.ChainError.{ChainError}
 use Rattle.domain_dnssec.specs.declared.chain.ChainError.TheVariants as chain_error
 use Rattle.denial.specs.Check.{HasNoNsec3Verdict, IsNsec3Verdict, IsNsecVerdict}

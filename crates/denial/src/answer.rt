@@ -5,7 +5,7 @@ ghost use Rattle.domain_base.specs.Words.{Name};
 ghost use Rattle.domain_rdata.specs.Zone.{rtype_of};
 ghost use Rattle.domain_records.specs.Order.{IsInOrder, IsOneClass};
 ghost use Rattle.domain_nsec3.specs.View.{Answer as HasherAnswer};
-ghost use Rattle.domain_dnssec.specs.AnyOrder.{Sorts};
+ghost use Rattle.domain_dnssec.specs.ZoneRecords.{Sorts};
 ghost use Rattle.denial.specs.Answer.{HasNoAnswer, HasNoNsec3s, HasNoNsecs, IsAnswer, IsNsec3s, IsNsecs, IsUnwritten, IsWritten};
 ghost use Rattle.denial.specs.Command.{Params};
 ghost use Rattle.denial.specs.Fault.{IsBeforeOutput};

@@ -11,9 +11,9 @@ ghost use Rattle.domain_checker.specs.Reading.{cover_verdict, is_at_cut, is_cove
 use crate::Verdict;
 use crate::nsec_check::NsecCheck;
 use domain_base::{Rtype, ToName};
+use domain_chain_rdata::Nsec;
 use domain_octets::Octets;
 use domain_plain::Record;
-use domain_rdata::Nsec;
 use std::cmp::Ordering;
 
 /// An NSEC record.

@@ -11,9 +11,9 @@ ghost use Rattle.domain_checker.specs.Reading.{reading};
 use crate::nsec::{cover_verdict, is_cover, is_inside, match_verdict};
 use crate::{Verdict, laws};
 use domain_base::{ParsedName, Rtype, ToName};
+use domain_chain_rdata::Nsec;
 use domain_octets::Octets;
 use domain_plain::Record;
-use domain_rdata::Nsec;
 
 /// A question about a name and a type, for NSEC records that are handed in one after another, as
 /// they are read from a message (RFC 4035, section 5.4). Keeps none of them, and takes no memory.

@@ -1,7 +1,7 @@
 -- What sorted records tell of the records that were given.
-use Rattle.std.proofs.Common.{List, ℕ, Result, Ok, Err, IfOk, IfErr}
+use Rattle.std.proofs.Common.{List, ℕ, Option, Result, Ok, Err, IfOk, IfErr}
 use Rattle.domain_plain.specs.declared.record.Record.{Record}
-use Rattle.domain_rdata.specs.declared.zone_record_data.ZoneRecordData.{ZoneRecordData}
+use Rattle.std.specs.declared.cmp.Ordering.{Ordering}
 use Rattle.domain_base.specs.Words.{Name}
 use Rattle.domain_nsec.specs.declared.config.GenerateNsecConfig.{GenerateNsecConfig}
 use Rattle.domain_nsec3.specs.Config.{ChainConfig}
@@ -18,14 +18,14 @@ pub if_err : {X E : Type 0} (P Q : E → Type 0) → ((e : E) → P e → Q e) �
 if_err P Q f (Ok x) h = tt
 if_err P Q f (Err e) h = f e h
 
-module _ {O N : Type 0} (octets : O → List ℕ) (labels : N → Name) (given sorted : List (Record N (ZoneRecordData O N))) (apex : Name) (config : GenerateNsecConfig) (sorts : Sorts octets labels given sorted) where
-  pub no_chain_of : (e : ChainError) → HasNoSortedChain labels sorted apex config e → HasNoChain octets labels given apex config e
+module _ {N D : Type 0} (labels : N → Name) (rtype_of : D → ℕ) (minimum_of : D → Option ℕ) (data_cmp : D → D → Ordering) (given sorted : List (Record N D)) (apex : Name) (config : GenerateNsecConfig) (sorts : Sorts labels rtype_of data_cmp given sorted) where
+  pub no_chain_of : (e : ChainError) → HasNoSortedChain labels rtype_of minimum_of sorted apex config e → HasNoChain labels rtype_of minimum_of data_cmp given apex config e
   no_chain_of MixedClasses h = record { sorted = sorted; sorts = sorts; mixed = h }
   no_chain_of (Signing e) h = record { sorted = sorted; sorts = sorts; fault = h }
   no_chain_of OutOfMemory h = tt
 
-module _ {O N : Type 0} (octets : O → List ℕ) (labels : N → Name) (given sorted : List (Record N (ZoneRecordData O N))) (apex : Name) (config : ChainConfig) (sorts : Sorts octets labels given sorted) where
-  pub no_hashed_chain_of : (e : ChainError) → HasNoSortedHashedChain labels sorted apex config e → HasNoHashedChain octets labels given apex config e
+module _ {N D : Type 0} (labels : N → Name) (rtype_of : D → ℕ) (minimum_of : D → Option ℕ) (data_cmp : D → D → Ordering) (given sorted : List (Record N D)) (apex : Name) (config : ChainConfig) (sorts : Sorts labels rtype_of data_cmp given sorted) where
+  pub no_hashed_chain_of : (e : ChainError) → HasNoSortedHashedChain labels rtype_of minimum_of sorted apex config e → HasNoHashedChain labels rtype_of minimum_of data_cmp given apex config e
   no_hashed_chain_of MixedClasses h = record { sorted = sorted; sorts = sorts; mixed = h }
   no_hashed_chain_of (Signing e) h = record { sorted = sorted; sorts = sorts; fault = h }
   no_hashed_chain_of OutOfMemory h = tt

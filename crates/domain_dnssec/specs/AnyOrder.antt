@@ -1,9 +1,8 @@
 -- The chain of a zone whose records are given in any order, and when there is none.
-use Rattle.std.specs.Prelude.{◌≢◌, ℕ, List, true}
+use Rattle.std.specs.Prelude.{◌≢◌, ℕ, List, Option, true}
+use Rattle.std.specs.declared.cmp.Ordering.{Ordering}
 use Rattle.domain_plain.specs.Record.{record_cmp}
 use Rattle.domain_plain.specs.declared.record.Record.{Record}
-use Rattle.domain_rdata.specs.Zone.{rtype_of, data_cmp}
-use Rattle.domain_rdata.specs.declared.zone_record_data.ZoneRecordData.{ZoneRecordData}
 use Rattle.domain_records.specs.Order.{IsOneClass}
 use Rattle.domain_records.specs.SortedSet.{IsUnion}
 use Rattle.domain_records.specs.declared.error.SigningError.{SigningError}
@@ -15,56 +14,56 @@ use Rattle.domain_nsec.specs.declared.config.GenerateNsecConfig.{GenerateNsecCon
 use Rattle.domain_dnssec.specs.declared.chain.ChainError.{ChainError}
 use Rattle.domain_dnssec.specs.declared.chain.ChainError.TheVariants.{MixedClasses, Signing, OutOfMemory}
 
-module _ {O N : Type 0} (labels : N → Name) where
+module _ {N D : Type 0} (labels : N → Name) (rtype_of : D → ℕ) (minimum_of : D → Option ℕ) where
   -- sorted records are of one class, and this is the chain of their zone
-  pub record IsSortedChain (sorted : List (Record N (ZoneRecordData O N))) (apex : Name)
+  pub record IsSortedChain (sorted : List (Record N D)) (apex : Name)
       (config : GenerateNsecConfig) (links : List Link) : Type 0 where
     pub one_class : IsOneClass sorted
-    pub chain : IsChain (zone_of labels sorted) apex config links
+    pub chain : IsChain (zone_of labels rtype_of minimum_of sorted) apex config links
 
   -- sorted records are of one class, and this is the first fault of their zone
-  pub record IsSortedFault (sorted : List (Record N (ZoneRecordData O N))) (apex : Name)
+  pub record IsSortedFault (sorted : List (Record N D)) (apex : Name)
       (config : GenerateNsecConfig) (error : SigningError) : Type 0 where
     pub one_class : IsOneClass sorted
-    pub fault : IsFirstFault (zone_of labels sorted) apex config error
+    pub fault : IsFirstFault (zone_of labels rtype_of minimum_of sorted) apex config error
     pub told : error ≢ signing_error.OutOfMemory
 
   -- why sorted records have no chain
-  abbrev pub HasNoSortedChain : List (Record N (ZoneRecordData O N)) → Name → GenerateNsecConfig
+  abbrev pub HasNoSortedChain : List (Record N D) → Name → GenerateNsecConfig
       → ChainError → Type 0
   HasNoSortedChain sorted apex config MixedClasses = IsOneClass sorted → ⊥
   HasNoSortedChain sorted apex config (Signing e) = IsSortedFault sorted apex config e
   HasNoSortedChain sorted apex config OutOfMemory = Unit {0}
 
-module _ {O N : Type 0} (octets : O → List ℕ) (labels : N → Name) where
+module _ {N D : Type 0} (labels : N → Name) (rtype_of : D → ℕ) (data_cmp : D → D → Ordering) where
   -- sorted is the sorted set of the records that were given, with the earliest of equal ones
-  abbrev pub Sorts : List (Record N (ZoneRecordData O N)) → List (Record N (ZoneRecordData O N))
-      → Type 0
-  Sorts = IsUnion true (record_cmp labels rtype_of (data_cmp octets labels))
-
-  -- this is the chain of the given records
-  pub record IsChainOf (given : List (Record N (ZoneRecordData O N))) (apex : Name)
-      (config : GenerateNsecConfig) (links : List Link) : Type 0 where
-    pub sorted : List (Record N (ZoneRecordData O N))
-    pub sorts : Sorts given sorted
-    pub chain : IsSortedChain labels sorted apex config links
-
-  -- this is the first fault of the given records
-  pub record IsFaultOf (given : List (Record N (ZoneRecordData O N))) (apex : Name)
-      (config : GenerateNsecConfig) (error : SigningError) : Type 0 where
-    pub sorted : List (Record N (ZoneRecordData O N))
-    pub sorts : Sorts given sorted
-    pub fault : IsSortedFault labels sorted apex config error
+  abbrev pub Sorts : List (Record N D) → List (Record N D) → Type 0
+  Sorts = IsUnion true (record_cmp labels rtype_of data_cmp)
 
   -- the given records are not of one class
-  pub record AreMixed (given : List (Record N (ZoneRecordData O N))) : Type 0 where
-    pub sorted : List (Record N (ZoneRecordData O N))
+  pub record AreMixed (given : List (Record N D)) : Type 0 where
+    pub sorted : List (Record N D)
     pub sorts : Sorts given sorted
     pub mixed : IsOneClass sorted → ⊥
 
+module _ {N D : Type 0} (labels : N → Name) (rtype_of : D → ℕ) (minimum_of : D → Option ℕ)
+    (data_cmp : D → D → Ordering) where
+  -- this is the chain of the given records
+  pub record IsChainOf (given : List (Record N D)) (apex : Name) (config : GenerateNsecConfig)
+      (links : List Link) : Type 0 where
+    pub sorted : List (Record N D)
+    pub sorts : Sorts labels rtype_of data_cmp given sorted
+    pub chain : IsSortedChain labels rtype_of minimum_of sorted apex config links
+
+  -- this is the first fault of the given records
+  pub record IsFaultOf (given : List (Record N D)) (apex : Name) (config : GenerateNsecConfig)
+      (error : SigningError) : Type 0 where
+    pub sorted : List (Record N D)
+    pub sorts : Sorts labels rtype_of data_cmp given sorted
+    pub fault : IsSortedFault labels rtype_of minimum_of sorted apex config error
+
   -- why the given records have no chain
-  abbrev pub HasNoChain : List (Record N (ZoneRecordData O N)) → Name → GenerateNsecConfig
-      → ChainError → Type 0
-  HasNoChain given apex config MixedClasses = AreMixed given
+  abbrev pub HasNoChain : List (Record N D) → Name → GenerateNsecConfig → ChainError → Type 0
+  HasNoChain given apex config MixedClasses = AreMixed labels rtype_of data_cmp given
   HasNoChain given apex config (Signing e) = IsFaultOf given apex config e
   HasNoChain given apex config OutOfMemory = Unit {0}

@@ -1,11 +1,10 @@
 -- The NSEC3 chain of a zone whose records are given in any order, and when there is none.
-use Rattle.std.specs.Prelude.{◌≢◌, List}
+use Rattle.std.specs.Prelude.{◌≢◌, ℕ, List, Option}
+use Rattle.std.specs.declared.cmp.Ordering.{Ordering}
 use Rattle.domain_plain.specs.declared.record.Record.{Record}
-use Rattle.domain_rdata.specs.declared.zone_record_data.ZoneRecordData.{ZoneRecordData}
 use Rattle.domain_records.specs.Order.{IsOneClass}
 use Rattle.domain_records.specs.declared.error.SigningError.{SigningError}
 use Rattle.domain_records.specs.declared.error.SigningError.TheVariants as signing_error
-use Rattle.domain_octets.specs.Words.{Octets}
 use Rattle.domain_base.specs.Words.{Name}
 use Rattle.domain_nsec3.specs.Chain.{HashedLink, IsChainParam, IsHashedChain, ParamRecord}
 use Rattle.domain_nsec3.specs.Config.{ChainConfig}
@@ -16,49 +15,50 @@ use Rattle.domain_dnssec.specs.AnyOrder.{AreMixed, Sorts}
 use Rattle.domain_dnssec.specs.declared.chain.ChainError.{ChainError}
 use Rattle.domain_dnssec.specs.declared.chain.ChainError.TheVariants.{MixedClasses, Signing, OutOfMemory}
 
-module _ {O N : Type 0} (labels : N → Name) where
+module _ {N D : Type 0} (labels : N → Name) (rtype_of : D → ℕ) (minimum_of : D → Option ℕ) where
   -- sorted records are of one class, and these are the chain and the NSEC3PARAM record of their
   -- zone
-  pub record IsSortedHashedChain (sorted : List (Record N (ZoneRecordData O N))) (apex : Name)
+  pub record IsSortedHashedChain (sorted : List (Record N D)) (apex : Name)
       (config : ChainConfig) (mode : Nsec3ParamTtlMode) (links : List HashedLink)
       (param : ParamRecord) : Type 0 where
     pub one_class : IsOneClass sorted
-    pub chain : IsHashedChain (zone_of labels sorted) apex config links
-    pub told : IsChainParam (zone_of labels sorted) apex config mode param
+    pub chain : IsHashedChain (zone_of labels rtype_of minimum_of sorted) apex config links
+    pub told : IsChainParam (zone_of labels rtype_of minimum_of sorted) apex config mode param
 
   -- sorted records are of one class, and this is the first fault of their zone
-  pub record IsSortedHashedFault (sorted : List (Record N (ZoneRecordData O N))) (apex : Name)
+  pub record IsSortedHashedFault (sorted : List (Record N D)) (apex : Name)
       (config : ChainConfig) (error : SigningError) : Type 0 where
     pub one_class : IsOneClass sorted
-    pub fault : IsFirstFault (zone_of labels sorted) apex config error
+    pub fault : IsFirstFault (zone_of labels rtype_of minimum_of sorted) apex config error
     pub told : error ≢ signing_error.OutOfMemory
 
   -- why sorted records have no chain
-  abbrev pub HasNoSortedHashedChain : List (Record N (ZoneRecordData O N)) → Name → ChainConfig
+  abbrev pub HasNoSortedHashedChain : List (Record N D) → Name → ChainConfig
       → ChainError → Type 0
   HasNoSortedHashedChain sorted apex config MixedClasses = IsOneClass sorted → ⊥
   HasNoSortedHashedChain sorted apex config (Signing e) = IsSortedHashedFault sorted apex config e
   HasNoSortedHashedChain sorted apex config OutOfMemory = Unit {0}
 
-module _ {O N : Type 0} (octets : O → Octets) (labels : N → Name) where
+module _ {N D : Type 0} (labels : N → Name) (rtype_of : D → ℕ) (minimum_of : D → Option ℕ)
+    (data_cmp : D → D → Ordering) where
   -- these are the chain and the NSEC3PARAM record of the given records
-  pub record IsHashedChainOf (given : List (Record N (ZoneRecordData O N))) (apex : Name)
+  pub record IsHashedChainOf (given : List (Record N D)) (apex : Name)
       (config : ChainConfig) (mode : Nsec3ParamTtlMode) (links : List HashedLink)
       (param : ParamRecord) : Type 0 where
-    pub sorted : List (Record N (ZoneRecordData O N))
-    pub sorts : Sorts octets labels given sorted
-    pub chain : IsSortedHashedChain labels sorted apex config mode links param
+    pub sorted : List (Record N D)
+    pub sorts : Sorts labels rtype_of data_cmp given sorted
+    pub chain : IsSortedHashedChain labels rtype_of minimum_of sorted apex config mode links param
 
   -- this is the first fault of the given records
-  pub record IsHashedFaultOf (given : List (Record N (ZoneRecordData O N))) (apex : Name)
+  pub record IsHashedFaultOf (given : List (Record N D)) (apex : Name)
       (config : ChainConfig) (error : SigningError) : Type 0 where
-    pub sorted : List (Record N (ZoneRecordData O N))
-    pub sorts : Sorts octets labels given sorted
-    pub fault : IsSortedHashedFault labels sorted apex config error
+    pub sorted : List (Record N D)
+    pub sorts : Sorts labels rtype_of data_cmp given sorted
+    pub fault : IsSortedHashedFault labels rtype_of minimum_of sorted apex config error
 
   -- why the given records have no chain
-  abbrev pub HasNoHashedChain : List (Record N (ZoneRecordData O N)) → Name → ChainConfig
+  abbrev pub HasNoHashedChain : List (Record N D) → Name → ChainConfig
       → ChainError → Type 0
-  HasNoHashedChain given apex config MixedClasses = AreMixed octets labels given
+  HasNoHashedChain given apex config MixedClasses = AreMixed labels rtype_of data_cmp given
   HasNoHashedChain given apex config (Signing e) = IsHashedFaultOf given apex config e
   HasNoHashedChain given apex config OutOfMemory = Unit {0}

@@ -4,11 +4,11 @@ ghost use Rattle.domain_nsec.specs.ChainView.{links_of};
 ghost use Rattle.domain_dnssec.specs.AnyOrder.{HasNoChain, HasNoSortedChain, IsChainOf, IsSortedChain};
 
 use crate::chain::ChainError;
-use domain_base::{MakeName, ToName};
+use domain_base::{CanonicalOrd, MakeName, ToName};
 use domain_nsec::{GenerateNsecConfig, NsecChain, lend_nsecs};
-use domain_octets::{EmptyBuilder, FreezeBuilder, FromBuilder, GrowingBuilder, Octets, Truncate};
-use domain_plain::Record;
-use domain_rdata::{Nsec, ZoneRecordData};
+use domain_octets::{EmptyBuilder, FreezeBuilder, FromBuilder, GrowingBuilder, Truncate};
+use domain_plain::{Record, ZoneData};
+use domain_rdata::Nsec;
 use domain_records::{SigningError, SortedRecords, Sorter};
 use std::alloc::Global;
 
@@ -19,16 +19,16 @@ use std::alloc::Global;
 ///
 /// The first that stands: `MixedClasses` where the records are not of one class; `Signing` with the
 /// first fault of the zone; and `OutOfMemory`.
-pub fn lend_nsecs_of_sorted<'a, S: Sorter, O: Octets, N: ToName>(
+pub fn lend_nsecs_of_sorted<'a, S: Sorter, N: ToName, D: ZoneData + CanonicalOrd>(
     alloc: Global,
     apex: &'a N,
-    records: &'a SortedRecords<N, ZoneRecordData<O, N>, S>,
+    records: &'a SortedRecords<N, D, S>,
     config: &GenerateNsecConfig,
 ) -> Result<NsecChain<'a, N>, ChainError>
     ensures ok { IfOk result
-        (IsSortedChain N.labels records.now (N.labels apex.now) config.now) }
+        (IsSortedChain N.labels D.rtype D.minimum records.now (N.labels apex.now) config.now) }
     ensures err { IfErr result
-        (HasNoSortedChain N.labels records.now (N.labels apex.now) config.now) }
+        (HasNoSortedChain N.labels D.rtype D.minimum records.now (N.labels apex.now) config.now) }
 {
     let groups = records.owner_rrs();
     if !groups.is_one_class() {
@@ -47,20 +47,20 @@ pub fn lend_nsecs_of_sorted<'a, S: Sorter, O: Octets, N: ToName>(
 ///
 /// The first that stands: `MixedClasses` where the records are not of one class; `Signing` with the
 /// first fault of the zone; and `OutOfMemory`.
-pub fn generate_nsecs_of_sorted<S: Sorter, O, N: MakeName>(
+pub fn generate_nsecs_of_sorted<S: Sorter, O, N: MakeName, D: ZoneData + CanonicalOrd>(
     alloc: Global,
     apex: &N,
-    records: &SortedRecords<N, ZoneRecordData<O, N>, S>,
+    records: &SortedRecords<N, D, S>,
     config: &GenerateNsecConfig,
 ) -> Result<Vec<Record<N, Nsec<O, N>>>, ChainError>
 where
     N: Drop,
     O: FromBuilder + Drop,
     O::Builder: GrowingBuilder + EmptyBuilder + Truncate + FreezeBuilder<Frozen = O> + Drop,
-    ensures ok { IfOk result (λ nsecs. IsSortedChain N.labels records.now (N.labels apex.now)
-        config.now (links_of N.labels nsecs.items)) }
+    ensures ok { IfOk result (λ nsecs. IsSortedChain N.labels D.rtype D.minimum records.now
+        (N.labels apex.now) config.now (links_of N.labels nsecs.items)) }
     ensures err { IfErr result
-        (HasNoSortedChain N.labels records.now (N.labels apex.now) config.now) }
+        (HasNoSortedChain N.labels D.rtype D.minimum records.now (N.labels apex.now) config.now) }
 {
     let chain = lend_nsecs_of_sorted(alloc, apex, records, config)?;
     match chain.records(alloc) {
@@ -76,22 +76,23 @@ where
 ///
 /// The first that stands: `MixedClasses` where the records are not of one class; `Signing` with the
 /// first fault of the zone; and `OutOfMemory`.
-pub fn generate_nsecs_of_records<O, N: MakeName>(
+pub fn generate_nsecs_of_records<O, N: MakeName, D: ZoneData + CanonicalOrd>(
     alloc: Global,
     apex: &N,
-    records: Vec<Record<N, ZoneRecordData<O, N>>>,
+    records: Vec<Record<N, D>>,
     config: &GenerateNsecConfig,
 ) -> Result<Vec<Record<N, Nsec<O, N>>>, ChainError>
 where
     N: Drop,
+    D: Drop,
     O: FromBuilder + Drop,
     O::Builder: GrowingBuilder + EmptyBuilder + Truncate + FreezeBuilder<Frozen = O> + Drop,
-    ensures ok { IfOk result (λ nsecs. IsChainOf O.octets N.labels records.items
-        (N.labels apex.now) config.now (links_of N.labels nsecs.items)) }
-    ensures err { IfErr result
-        (HasNoChain O.octets N.labels records.items (N.labels apex.now) config.now) }
+    ensures ok { IfOk result (λ nsecs. IsChainOf N.labels D.rtype D.minimum D.canonical_cmp
+        records.items (N.labels apex.now) config.now (links_of N.labels nsecs.items)) }
+    ensures err { IfErr result (HasNoChain N.labels D.rtype D.minimum D.canonical_cmp records.items
+        (N.labels apex.now) config.now) }
 {
-    let sorted: SortedRecords<N, ZoneRecordData<O, N>> = match SortedRecords::from_vec(records) {
+    let sorted: SortedRecords<N, D> = match SortedRecords::from_vec(records) {
         Ok(sorted) => sorted,
         Err(_) => return Err(ChainError::OutOfMemory),
     };

@@ -4,11 +4,10 @@ ghost use Rattle.domain_nsec3.specs.View.{as_param_record, config_of, hashed_lin
 ghost use Rattle.domain_dnssec.specs.AnyOrderNsec3.{HasNoHashedChain, HasNoSortedHashedChain, IsHashedChainOf, IsSortedHashedChain};
 
 use crate::chain::ChainError;
-use domain_base::MakeName;
+use domain_base::{CanonicalOrd, MakeName};
 use domain_nsec3::{GenerateNsec3Config, Nsec3Records, generate_nsec3s};
 use domain_octets::{EmptyBuilder, FreezeBuilder, FromBuilder, GrowingBuilder, Truncate};
-use domain_plain::Record;
-use domain_rdata::ZoneRecordData;
+use domain_plain::{Record, ZoneData};
 use domain_records::{SigningError, SortedRecords, Sorter};
 use domain_zone::Nsec3Hasher;
 use std::alloc::Global;
@@ -20,10 +19,17 @@ use std::alloc::Global;
 ///
 /// The first that stands: `MixedClasses` where the records are not of one class; `Signing` with the
 /// first fault of the zone; and `OutOfMemory`.
-pub fn generate_nsec3s_of_sorted<R: Sorter, S: Sorter, H: Nsec3Hasher, O, N: MakeName>(
+pub fn generate_nsec3s_of_sorted<
+    R: Sorter,
+    S: Sorter,
+    H: Nsec3Hasher,
+    O,
+    N: MakeName,
+    D: ZoneData + CanonicalOrd,
+>(
     alloc: Global,
     apex: &N,
-    records: &SortedRecords<N, ZoneRecordData<O, N>, R>,
+    records: &SortedRecords<N, D, R>,
     config: &GenerateNsec3Config<O, S>,
     hasher: &H,
 ) -> Result<Nsec3Records<N, O>, ChainError>
@@ -31,11 +37,12 @@ where
     N: Drop,
     O: FromBuilder + Drop,
     O::Builder: GrowingBuilder + EmptyBuilder + Truncate + FreezeBuilder<Frozen = O> + Drop,
-    ensures ok { IfOk result (λ made. IsSortedHashedChain N.labels records.now (N.labels apex.now)
-        (config_of (H.answer hasher.now) config.now) config.now.nsec3param_ttl_mode
-        (hashed_links_of N.labels made.nsec3s.items) (as_param_record N.labels made.nsec3param)) }
-    ensures err { IfErr result (HasNoSortedHashedChain N.labels records.now (N.labels apex.now)
-        (config_of (H.answer hasher.now) config.now)) }
+    ensures ok { IfOk result (λ made. IsSortedHashedChain N.labels D.rtype D.minimum records.now
+        (N.labels apex.now) (config_of (H.answer hasher.now) config.now)
+        config.now.nsec3param_ttl_mode (hashed_links_of N.labels made.nsec3s.items)
+        (as_param_record N.labels made.nsec3param)) }
+    ensures err { IfErr result (HasNoSortedHashedChain N.labels D.rtype D.minimum records.now
+        (N.labels apex.now) (config_of (H.answer hasher.now) config.now)) }
 {
     let groups = records.owner_rrs();
     if !groups.is_one_class() {
@@ -55,25 +62,32 @@ where
 ///
 /// The first that stands: `MixedClasses` where the records are not of one class; `Signing` with the
 /// first fault of the zone; and `OutOfMemory`.
-pub fn generate_nsec3s_of_records<S: Sorter, H: Nsec3Hasher, O, N: MakeName>(
+pub fn generate_nsec3s_of_records<
+    S: Sorter,
+    H: Nsec3Hasher,
+    O,
+    N: MakeName,
+    D: ZoneData + CanonicalOrd,
+>(
     alloc: Global,
     apex: &N,
-    records: Vec<Record<N, ZoneRecordData<O, N>>>,
+    records: Vec<Record<N, D>>,
     config: &GenerateNsec3Config<O, S>,
     hasher: &H,
 ) -> Result<Nsec3Records<N, O>, ChainError>
 where
     N: Drop,
+    D: Drop,
     O: FromBuilder + Drop,
     O::Builder: GrowingBuilder + EmptyBuilder + Truncate + FreezeBuilder<Frozen = O> + Drop,
-    ensures ok { IfOk result (λ made. IsHashedChainOf O.octets N.labels records.items
-        (N.labels apex.now) (config_of (H.answer hasher.now) config.now)
+    ensures ok { IfOk result (λ made. IsHashedChainOf N.labels D.rtype D.minimum D.canonical_cmp
+        records.items (N.labels apex.now) (config_of (H.answer hasher.now) config.now)
         config.now.nsec3param_ttl_mode (hashed_links_of N.labels made.nsec3s.items)
         (as_param_record N.labels made.nsec3param)) }
-    ensures err { IfErr result (HasNoHashedChain O.octets N.labels records.items
-        (N.labels apex.now) (config_of (H.answer hasher.now) config.now)) }
+    ensures err { IfErr result (HasNoHashedChain N.labels D.rtype D.minimum D.canonical_cmp
+        records.items (N.labels apex.now) (config_of (H.answer hasher.now) config.now)) }
 {
-    let sorted: SortedRecords<N, ZoneRecordData<O, N>> = match SortedRecords::from_vec(records) {
+    let sorted: SortedRecords<N, D> = match SortedRecords::from_vec(records) {
         Ok(sorted) => sorted,
         Err(_) => return Err(ChainError::OutOfMemory),
     };

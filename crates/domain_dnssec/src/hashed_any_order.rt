@@ -4,11 +4,10 @@ ghost use Rattle.domain_nsec3.specs.View.{as_param_record, config_of};
 ghost use Rattle.domain_dnssec.specs.AnyOrderNsec3.{HasNoHashedChain, HasNoSortedHashedChain, IsHashedChainOf, IsSortedHashedChain};
 
 use crate::chain::ChainError;
-use domain_base::ToName;
+use domain_base::{CanonicalOrd, ToName};
 use domain_nsec3::{GenerateNsec3Config, HashedNsec3s, hash_nsec3s};
 use domain_octets::Octets;
-use domain_plain::Record;
-use domain_rdata::ZoneRecordData;
+use domain_plain::{Record, ZoneData};
 use domain_records::{SigningError, SortedRecords, Sorter};
 use domain_zone::Nsec3Hasher;
 use std::alloc::Global;
@@ -26,23 +25,23 @@ pub fn hash_nsec3s_of_sorted<
     T: Sorter,
     S: Sorter,
     H: Nsec3Hasher,
-    R: Octets,
     O: Octets,
     N: ToName,
+    D: ZoneData + CanonicalOrd,
 >(
     alloc: Global,
     apex: &'a N,
-    records: &SortedRecords<N, ZoneRecordData<R, N>, T>,
+    records: &SortedRecords<N, D, T>,
     config: &GenerateNsec3Config<O, S>,
     hasher: &H,
 ) -> Result<HashedNsec3s<'a, N, O>, ChainError>
 where
     O: Drop,
-    ensures ok { IfOk result (λ made. IsSortedHashedChain N.labels records.now (N.labels apex.now)
-        (config_of (H.answer hasher.now) config.now) config.now.nsec3param_ttl_mode
-        made.chain (as_param_record (λ n. n) made.nsec3param)) }
-    ensures err { IfErr result (HasNoSortedHashedChain N.labels records.now (N.labels apex.now)
-        (config_of (H.answer hasher.now) config.now)) }
+    ensures ok { IfOk result (λ made. IsSortedHashedChain N.labels D.rtype D.minimum records.now
+        (N.labels apex.now) (config_of (H.answer hasher.now) config.now)
+        config.now.nsec3param_ttl_mode made.chain (as_param_record (λ n. n) made.nsec3param)) }
+    ensures err { IfErr result (HasNoSortedHashedChain N.labels D.rtype D.minimum records.now
+        (N.labels apex.now) (config_of (H.answer hasher.now) config.now)) }
 {
     let groups = records.owner_rrs();
     if !groups.is_one_class() {
@@ -63,25 +62,31 @@ where
 ///
 /// The first that stands: `MixedClasses` where the records are not of one class; `Signing` with the
 /// first fault of the zone; and `OutOfMemory`.
-pub fn hash_nsec3s_of_records<'a, S: Sorter, H: Nsec3Hasher, R: Octets, O: Octets, N: ToName>(
+pub fn hash_nsec3s_of_records<
+    'a,
+    S: Sorter,
+    H: Nsec3Hasher,
+    O: Octets,
+    N: ToName,
+    D: ZoneData + CanonicalOrd,
+>(
     alloc: Global,
     apex: &'a N,
-    records: Vec<Record<N, ZoneRecordData<R, N>>>,
+    records: Vec<Record<N, D>>,
     config: &GenerateNsec3Config<O, S>,
     hasher: &H,
 ) -> Result<HashedNsec3s<'a, N, O>, ChainError>
 where
     N: Drop,
-    R: Drop,
     O: Drop,
-    ensures ok { IfOk result (λ made. IsHashedChainOf R.octets N.labels records.items
-        (N.labels apex.now) (config_of (H.answer hasher.now) config.now)
-        config.now.nsec3param_ttl_mode made.chain
-        (as_param_record (λ n. n) made.nsec3param)) }
-    ensures err { IfErr result (HasNoHashedChain R.octets N.labels records.items
-        (N.labels apex.now) (config_of (H.answer hasher.now) config.now)) }
+    D: Drop,
+    ensures ok { IfOk result (λ made. IsHashedChainOf N.labels D.rtype D.minimum D.canonical_cmp
+        records.items (N.labels apex.now) (config_of (H.answer hasher.now) config.now)
+        config.now.nsec3param_ttl_mode made.chain (as_param_record (λ n. n) made.nsec3param)) }
+    ensures err { IfErr result (HasNoHashedChain N.labels D.rtype D.minimum D.canonical_cmp
+        records.items (N.labels apex.now) (config_of (H.answer hasher.now) config.now)) }
 {
-    let sorted: SortedRecords<N, ZoneRecordData<R, N>> = match SortedRecords::from_vec(records) {
+    let sorted: SortedRecords<N, D> = match SortedRecords::from_vec(records) {
         Ok(sorted) => sorted,
         Err(_) => return Err(ChainError::OutOfMemory),
     };

@@ -1,7 +1,6 @@
 //! What callers may take from names, chains and sorting. A caller calls the law in its body.
 ghost use Rattle.std.specs.Prelude.{◌≡◌, ◌↔◌, ℕ, Bool, true, Contains, List, Some};
 ghost use Rattle.domain_plain.specs.declared.record.Record.{Record};
-ghost use Rattle.domain_rdata.specs.declared.zone_record_data.ZoneRecordData.{ZoneRecordData};
 ghost use Rattle.domain_base.specs.Words.{Name};
 ghost use Rattle.domain_records.specs.Order.{IsOneClass};
 ghost use Rattle.domain_zone.specs.Soa.{is_soa, numbers_of, soa_of};
@@ -10,42 +9,45 @@ ghost use Rattle.domain_zone.specs.declared.soa.ApexSoa.{ApexSoa};
 ghost use Rattle.domain_zone.specs.View.{zone_of};
 ghost use Rattle.domain_dnssec.specs.AnyOrder.{Sorts};
 
-use domain_base::ToName;
+use domain_base::{CanonicalOrd, ToName};
 pub use domain_nsec::laws::{chains_mean_the_zone, types_ignore_case};
-use domain_octets::Octets;
+use domain_plain::ZoneData;
 pub use domain_zone::laws::covering_ignores_case;
 
 /// The sorted set of records has the owners of the list that was put in, each with the same types,
 /// and the same of them are not occluded: of equal records one stays.
-pub fn sorting_keeps_owners_and_types<O: Octets, N: ToName>()
-    ensures owners { (given sorted : List (Record N (ZoneRecordData O N)))
-        → Sorts O.octets N.labels given sorted
-        → (n : Name) → owns (zone_of N.labels sorted) n ≡ owns (zone_of N.labels given) n }
-    ensures types { (given sorted : List (Record N (ZoneRecordData O N)))
-        → Sorts O.octets N.labels given sorted
-        → (n : Name) (t : ℕ) → has_type (records_of (zone_of N.labels sorted) n) t
-        ≡ has_type (records_of (zone_of N.labels given) n) t }
-    ensures unoccluded { (given sorted : List (Record N (ZoneRecordData O N)))
-        → Sorts O.octets N.labels given sorted
+pub fn sorting_keeps_owners_and_types<N: ToName, D: ZoneData + CanonicalOrd>()
+    ensures owners { (given sorted : List (Record N D))
+        → Sorts N.labels D.rtype D.canonical_cmp given sorted
+        → (n : Name) → owns (zone_of N.labels D.rtype D.minimum sorted) n
+        ≡ owns (zone_of N.labels D.rtype D.minimum given) n }
+    ensures types { (given sorted : List (Record N D))
+        → Sorts N.labels D.rtype D.canonical_cmp given sorted
+        → (n : Name) (t : ℕ) → has_type (records_of (zone_of N.labels D.rtype D.minimum sorted) n) t
+        ≡ has_type (records_of (zone_of N.labels D.rtype D.minimum given) n) t }
+    ensures unoccluded { (given sorted : List (Record N D))
+        → Sorts N.labels D.rtype D.canonical_cmp given sorted
         → (below_dname : Bool) (a n : Name)
-        → is_unoccluded below_dname (zone_of N.labels sorted) a n
-        ≡ is_unoccluded below_dname (zone_of N.labels given) a n }
+        → is_unoccluded below_dname (zone_of N.labels D.rtype D.minimum sorted) a n
+        ≡ is_unoccluded below_dname (zone_of N.labels D.rtype D.minimum given) a n }
 {}
 
 /// Of the sorted set of records: it is of one class exactly where the list that was put in is; its
 /// SOA at an apex is a record of that list; and where it has unequal TTLs at a name, so has the
 /// list. The converse of the last two doesn't hold, since records that differ in TTL alone are
 /// equal, and one of them stays.
-pub fn sorting_keeps_classes_and_records<O: Octets, N: ToName>()
-    ensures classes { (given sorted : List (Record N (ZoneRecordData O N)))
-        → Sorts O.octets N.labels given sorted → (IsOneClass sorted ↔ IsOneClass given) }
-    ensures soa { (given sorted : List (Record N (ZoneRecordData O N)))
-        → Sorts O.octets N.labels given sorted
-        → (a : Name) (numbers : ApexSoa) → soa_of (zone_of N.labels sorted) a ≡ Some numbers
-        → (r : ZoneRecord) × Contains (zone_of N.labels given) r × (is_soa a r ≡ true)
-        × (numbers_of r r.minimum ≡ Some numbers) }
-    ensures ttls { (given sorted : List (Record N (ZoneRecordData O N)))
-        → Sorts O.octets N.labels given sorted
-        → (n : Name) → has_clash (records_of (zone_of N.labels sorted) n) ≡ true
-        → has_clash (records_of (zone_of N.labels given) n) ≡ true }
+pub fn sorting_keeps_classes_and_records<N: ToName, D: ZoneData + CanonicalOrd>()
+    ensures classes { (given sorted : List (Record N D))
+        → Sorts N.labels D.rtype D.canonical_cmp given sorted
+        → (IsOneClass sorted ↔ IsOneClass given) }
+    ensures soa { (given sorted : List (Record N D))
+        → Sorts N.labels D.rtype D.canonical_cmp given sorted
+        → (a : Name) (numbers : ApexSoa)
+        → soa_of (zone_of N.labels D.rtype D.minimum sorted) a ≡ Some numbers
+        → (r : ZoneRecord) × Contains (zone_of N.labels D.rtype D.minimum given) r
+        × (is_soa a r ≡ true) × (numbers_of r r.minimum ≡ Some numbers) }
+    ensures ttls { (given sorted : List (Record N D))
+        → Sorts N.labels D.rtype D.canonical_cmp given sorted
+        → (n : Name) → has_clash (records_of (zone_of N.labels D.rtype D.minimum sorted) n) ≡ true
+        → has_clash (records_of (zone_of N.labels D.rtype D.minimum given) n) ≡ true }
 {}

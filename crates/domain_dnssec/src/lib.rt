@@ -41,14 +41,14 @@ pub use domain_octets::{
     AppendError, ArrayBuilder, EmptyBuilder, FreezeBuilder, FromBuilder, GrowingBuilder, Octets,
     OutOfMemory, Parser, SmallBuilder, SmallOctets, Truncate, TryClone,
 };
-pub use domain_plain::{LongRecordData, Record};
+pub use domain_plain::{LongRecordData, Record, ZoneData};
 pub use domain_rdata::{Nsec, Nsec3, Nsec3param, ZoneRecordData};
 pub use domain_records::{
     DefaultSorter, InPlaceSorter, InsertError, Nsec3HashError, OwnerRrs, RecordsIter, SigningError,
     SortedRecords, Sorter,
 };
 pub use domain_zone::{
-    ApexSoa, HasherError, Nsec3Hasher, UnoccludedOwner, UnoccludedOwners, ZoneRr, find_soa,
+    ApexSoa, HasherError, Nsec3Hasher, UnoccludedOwner, UnoccludedOwners, find_soa,
 };
 pub use error::Error;
 pub use hashed_any_order::{hash_nsec3s_of_records, hash_nsec3s_of_sorted};

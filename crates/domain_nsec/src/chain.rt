@@ -5,9 +5,9 @@ ghost use Rattle.domain_nsec.specs.ChainView.{as_link, links_of};
 
 use domain_base::{MakeName, ParsedName, ToName};
 use domain_bitmap::{RtypeBitmap, RtypeBitmaps};
+use domain_chain_rdata::Nsec;
 use domain_octets::{EmptyBuilder, FromBuilder, GrowingBuilder, OctetsBuilder, OutOfMemory};
 use domain_plain::Record;
-use domain_rdata::Nsec;
 use domain_zone::ApexSoa;
 use std::alloc::Global;
 use std::marker::Model;

@@ -2,7 +2,6 @@
 ghost use Rattle.std.specs.Prelude.{◌≡◌, ◌∷◌, ◌++◌, [], ℕ, Bool, ◌<◌, IfOk, IfErr, OnOk};
 ghost use Rattle.domain_bitmap.specs.Bitmap.{bitmap_octets};
 ghost use Rattle.domain_bitmap.specs.Builder.{holds};
-ghost use Rattle.domain_rdata.specs.Zone.{rtype_of};
 ghost use Rattle.domain_records.specs.Order.{IsOneClass, IsInOrder};
 ghost use Rattle.domain_nsec.specs.Chain.{is_listed, IsChain, IsFaultless, IsFirstFault};
 ghost use Rattle.domain_nsec.specs.Meaning.{CoversBelowOccluders, IsCycle, MirrorsZone, TellsEmpty, TellsEncloser};
@@ -12,14 +11,14 @@ ghost use Rattle.domain_nsec.specs.ChainView.{links_of};
 use crate::{GenerateNsecConfig, NsecChain};
 use domain_base::{MakeName, Rtype, ToName};
 use domain_bitmap::{RtypeBitmap, RtypeBitmapBuilder, RtypeBitmaps};
+use domain_chain_rdata::Nsec;
 use domain_octets::{
-    EmptyBuilder, FreezeBuilder, FromBuilder, GrowingBuilder, Octets, OutOfMemory, SmallBuilder,
+    EmptyBuilder, FreezeBuilder, FromBuilder, GrowingBuilder, OutOfMemory, SmallBuilder,
     SmallOctets, Truncate,
 };
-use domain_plain::Record;
-use domain_rdata::{Nsec, ZoneRecordData};
+use domain_plain::{Record, ZoneData};
 use domain_records::{RecordsIter, SigningError, SliceRefsOrOwnedIterator};
-use domain_zone::{UnoccludedOwners, ZoneRr, add_type, add_types, find_soa, has_unequal_ttls};
+use domain_zone::{UnoccludedOwners, add_type, add_types, find_soa, has_unequal_ttls};
 use std::alloc::Global;
 
 /// The types that each NSEC record lists, and DNSKEY where it is assumed.
@@ -42,14 +41,15 @@ where
 }
 
 /// The types of an owner's NSEC record.
-fn types_of<O: Octets, N: ToName>(
+fn types_of<N: ToName, D: ZoneData>(
     alloc: Global,
-    records: SliceRefsOrOwnedIterator<'_, ZoneRr<O, N>>,
+    records: SliceRefsOrOwnedIterator<'_, Record<N, D>>,
     assumed: bool,
     at_cut: bool,
 ) -> Result<RtypeBitmap<SmallOctets>, OutOfMemory>
     ensures { IfOk result (λ types. types
-        ≡ bitmap_octets (is_listed assumed at_cut (zone_of N.labels records.entry))) }
+        ≡ bitmap_octets (is_listed assumed at_cut
+        (zone_of N.labels D.rtype D.minimum records.entry))) }
 {
     let mut types = common_types::<SmallBuilder>(alloc, assumed)?;
     add_types(&mut types, records, at_cut)?;
@@ -57,15 +57,15 @@ fn types_of<O: Octets, N: ToName>(
 }
 
 /// Appends the types of an owner's NSEC record.
-fn push_types<O: Octets, N: ToName>(
+fn push_types<N: ToName, D: ZoneData>(
     alloc: Global,
     types: &mut RtypeBitmaps,
-    records: SliceRefsOrOwnedIterator<'_, ZoneRr<O, N>>,
+    records: SliceRefsOrOwnedIterator<'_, Record<N, D>>,
     assumed: bool,
     at_cut: bool,
 ) -> Result<(), OutOfMemory>
-    ensures { OnOk result (types.new ≡ types.old
-        ++ bitmap_octets (is_listed assumed at_cut (zone_of N.labels records.entry)) ∷ []) }
+    ensures { OnOk result (types.new ≡ types.old ++ bitmap_octets (is_listed assumed at_cut
+        (zone_of N.labels D.rtype D.minimum records.entry)) ∷ []) }
 {
     let listed = types_of(alloc, records, assumed, at_cut)?;
     types.push(&listed)
@@ -78,20 +78,20 @@ fn push_types<O: Octets, N: ToName>(
 /// # Errors
 ///
 /// Those of `generate_nsecs`.
-pub fn lend_nsecs<'a, O: Octets, N: ToName>(
+pub fn lend_nsecs<'a, N: ToName, D: ZoneData>(
     alloc: Global,
     apex: &'a N,
-    records: RecordsIter<'a, N, ZoneRecordData<O, N>>,
+    records: RecordsIter<'a, N, D>,
     config: &GenerateNsecConfig,
 ) -> Result<NsecChain<'a, N>, SigningError>
     requires one_class { IsOneClass records }
-    requires in_order { IsInOrder N.labels rtype_of records }
-    ensures chain { IfOk result (λ links. IsChain (zone_of N.labels records.entry)
+    requires in_order { IsInOrder N.labels D.rtype records }
+    ensures chain { IfOk result (λ links. IsChain (zone_of N.labels D.rtype D.minimum records.entry)
         (N.labels apex.now) config.now links) }
-    ensures faultless { OnOk result
-        (IsFaultless (zone_of N.labels records.entry) (N.labels apex.now) config.now) }
-    ensures fault { IfErr result
-        (IsFirstFault (zone_of N.labels records.entry) (N.labels apex.now) config.now) }
+    ensures faultless { OnOk result (IsFaultless (zone_of N.labels D.rtype D.minimum records.entry)
+        (N.labels apex.now) config.now) }
+    ensures fault { IfErr result (IsFirstFault (zone_of N.labels D.rtype D.minimum records.entry)
+        (N.labels apex.now) config.now) }
 {
     let Some(soa) = find_soa(apex, records.records()) else {
         return Err(SigningError::SoaRecordCouldNotBeDetermined);
@@ -128,12 +128,12 @@ pub fn lend_nsecs<'a, O: Octets, N: ToName>(
 /// # Errors
 ///
 /// The first that stands: `SoaRecordCouldNotBeDetermined` where the apex does not own exactly one
-/// record of type SOA, or its data is not the `Soa` variant; `MultipleTtlValues` where two records
-/// of one owner of the chain and one type other than RRSIG differ in TTL; and `OutOfMemory`.
-pub fn generate_nsecs<O, N: MakeName>(
+/// record of type SOA, or its data tell no MINIMUM; `MultipleTtlValues` where two records of one
+/// owner of the chain and one type other than RRSIG differ in TTL; and `OutOfMemory`.
+pub fn generate_nsecs<O, N: MakeName, D: ZoneData>(
     alloc: Global,
     apex: &N,
-    records: RecordsIter<'_, N, ZoneRecordData<O, N>>,
+    records: RecordsIter<'_, N, D>,
     config: &GenerateNsecConfig,
 ) -> Result<Vec<Record<N, Nsec<O, N>>>, SigningError>
 where
@@ -141,29 +141,33 @@ where
     O: FromBuilder + Drop,
     O::Builder: GrowingBuilder + EmptyBuilder + Truncate + FreezeBuilder<Frozen = O> + Drop,
     requires one_class { IsOneClass records }
-    requires in_order { IsInOrder N.labels rtype_of records }
+    requires in_order { IsInOrder N.labels D.rtype records }
 
     // Ok is exactly the chain, and comes only where no fault stands.
-    ensures chain { IfOk result (λ nsecs. IsChain (zone_of N.labels records.entry)
+    ensures chain { IfOk result (λ nsecs. IsChain (zone_of N.labels D.rtype D.minimum records.entry)
         (N.labels apex.now) config.now (links_of N.labels nsecs.items)) }
-    ensures faultless { OnOk result
-        (IsFaultless (zone_of N.labels records.entry) (N.labels apex.now) config.now) }
-    ensures fault { IfErr result
-        (IsFirstFault (zone_of N.labels records.entry) (N.labels apex.now) config.now) }
+    ensures faultless { OnOk result (IsFaultless (zone_of N.labels D.rtype D.minimum records.entry)
+        (N.labels apex.now) config.now) }
+    ensures fault { IfErr result (IsFirstFault (zone_of N.labels D.rtype D.minimum records.entry)
+        (N.labels apex.now) config.now) }
 
     // The chain begins and ends at the apex, and its owners ascend.
     ensures cycle { IfOk result (λ nsecs.
         IsCycle (N.labels apex.now) (links_of N.labels nsecs.items)) }
 
     // What the chain says of every name of the zone.
-    ensures denial { IfOk result (λ nsecs. MirrorsZone (zone_of N.labels records.entry)
-        (N.labels apex.now) config.now (links_of N.labels nsecs.items)) }
-    ensures nonterminals { IfOk result (λ nsecs. TellsEmpty (zone_of N.labels records.entry)
-        (N.labels apex.now) config.now (links_of N.labels nsecs.items)) }
-    ensures enclosers { IfOk result (λ nsecs. TellsEncloser (zone_of N.labels records.entry)
-        (N.labels apex.now) config.now (links_of N.labels nsecs.items)) }
-    ensures occluded { IfOk result (λ nsecs. CoversBelowOccluders (zone_of N.labels records.entry)
-        (N.labels apex.now) config.now (links_of N.labels nsecs.items)) }
+    ensures denial { IfOk result (λ nsecs. MirrorsZone
+        (zone_of N.labels D.rtype D.minimum records.entry) (N.labels apex.now) config.now
+        (links_of N.labels nsecs.items)) }
+    ensures nonterminals { IfOk result (λ nsecs. TellsEmpty
+        (zone_of N.labels D.rtype D.minimum records.entry) (N.labels apex.now) config.now
+        (links_of N.labels nsecs.items)) }
+    ensures enclosers { IfOk result (λ nsecs. TellsEncloser
+        (zone_of N.labels D.rtype D.minimum records.entry) (N.labels apex.now) config.now
+        (links_of N.labels nsecs.items)) }
+    ensures occluded { IfOk result (λ nsecs. CoversBelowOccluders
+        (zone_of N.labels D.rtype D.minimum records.entry) (N.labels apex.now) config.now
+        (links_of N.labels nsecs.items)) }
 {
     let chain = lend_nsecs(alloc, apex, records, config)?;
     Ok(chain.records(alloc)?)

@@ -6,8 +6,8 @@ ghost use Rattle.domain_nsec3.specs.Chain.{param_ttl};
 ghost use Rattle.domain_nsec3.specs.declared.config.Nsec3ParamTtlMode.TheVariants as ttl_mode;
 
 use domain_base::Ttl;
+use domain_chain_rdata::Nsec3param;
 use domain_octets::{EmptyOctets, Octets, OutOfMemory};
-use domain_rdata::Nsec3param;
 use domain_zone::ApexSoa;
 use std::alloc::Global;
 use std::marker::PhantomData;

@@ -4,11 +4,11 @@ ghost use Rattle.domain_nsec3.specs.View.{as_hashed_link, as_param_record, param
 
 use crate::lent::LentNsec3;
 use domain_base::{MakeName, ParsedName, ToName};
+use domain_chain_rdata::{Nsec3, Nsec3param};
 use domain_octets::{
     EmptyBuilder, FromBuilder, GrowingBuilder, Octets, OctetsBuilder, OutOfMemory,
 };
 use domain_plain::Record;
-use domain_rdata::{Nsec3, Nsec3param};
 use std::alloc::Global;
 
 /// A copy of octets.

@@ -10,9 +10,9 @@ use crate::chain::{HashedChain, hash_after};
 use crate::hash::{Hashed, MAX_NAME, write_owner};
 use domain_base::{Class, Name, ParsedName, ToName, Ttl};
 use domain_bitmap::{OwnerHash, RtypeBitmap, RtypeBitmaps};
+use domain_chain_rdata::{Nsec3, Nsec3param};
 use domain_octets::{ArrayBuilder, Octets, OctetsBuilder};
 use domain_plain::Record;
-use domain_rdata::{Nsec3, Nsec3param};
 
 /// A record of a chain whose owner lies in the record itself, and whose data lies in the chain.
 pub type LentNsec3<'a> = Record<Name<ArrayBuilder<255>>, Nsec3<&'a [u8]>>;

@@ -4,7 +4,6 @@ ghost use Rattle.std.specs.List.{list_any};
 ghost use Rattle.std.specs.List.Sorted.{IsStrictlySortedBy};
 ghost use Rattle.domain_base.specs.Classes.{in_class};
 ghost use Rattle.domain_base.specs.Order.{canonical_cmp};
-ghost use Rattle.domain_rdata.specs.Zone.{rtype_of};
 ghost use Rattle.domain_records.specs.Order.{IsOneClass, IsInOrder};
 ghost use Rattle.domain_records.specs.declared.error.Nsec3HashError.TheVariants as hash_error;
 ghost use Rattle.domain_base.specs.Name.{is_at_or_below, same_name};
@@ -28,11 +27,11 @@ use crate::nsec3_chain::Nsec3Chain;
 use crate::owners::{Owners, list_owners};
 use domain_base::{Class, MakeName, ParsedName, ToName};
 use domain_bitmap::RtypeBitmaps;
+use domain_chain_rdata::{Nsec3, Nsec3param};
 use domain_octets::{
     EmptyBuilder, FreezeBuilder, FromBuilder, GrowingBuilder, Octets, OutOfMemory, Truncate,
 };
-use domain_plain::Record;
-use domain_rdata::{Nsec3, Nsec3param, ZoneRecordData};
+use domain_plain::{Record, ZoneData};
 use domain_records::{Nsec3HashError, RecordsIter, SigningError, Sorter};
 use domain_zone::{ApexSoa, Nsec3Hasher, find_soa};
 use std::alloc::Global;
@@ -141,23 +140,25 @@ fn chain_of_owners<'a, S: Sorter, H: Nsec3Hasher, O: Octets, N: ToName>(
 }
 
 /// The chain of a zone whose SOA record is known.
-fn chain_of_zone<S: Sorter, H: Nsec3Hasher, R: Octets, O: Octets, N: ToName>(
+fn chain_of_zone<S: Sorter, H: Nsec3Hasher, O: Octets, N: ToName, D: ZoneData>(
     alloc: Global,
     apex: &N,
-    records: RecordsIter<'_, N, ZoneRecordData<R, N>>,
+    records: RecordsIter<'_, N, D>,
     config: &GenerateNsec3Config<O, S>,
     hasher: &H,
     soa: &ApexSoa,
 ) -> Result<HashedChain, SigningError>
-    requires in_order { IsInOrder N.labels rtype_of records }
-    requires soa { soa_of (zone_of N.labels records) (N.labels apex.now) ≡ Some soa.now }
-    ensures chain { IfOk result (λ chain. IsHashedChain (zone_of N.labels records.entry)
-        (N.labels apex.now) (config_of (H.answer hasher.now) config.now)
+    requires in_order { IsInOrder N.labels D.rtype records }
+    requires soa { soa_of (zone_of N.labels D.rtype D.minimum records) (N.labels apex.now)
+        ≡ Some soa.now }
+    ensures chain { IfOk result (λ chain. IsHashedChain
+        (zone_of N.labels D.rtype D.minimum records.entry) (N.labels apex.now)
+        (config_of (H.answer hasher.now) config.now)
         (links_in (N.labels apex.now) chain (common_of config.now.params (chain_ttl soa.now)))) }
     ensures sound { IfOk result (λ chain. AreUsable (N.labels apex.now) chain) }
-    ensures faultless { OnOk result (IsFaultless (zone_of N.labels records.entry)
+    ensures faultless { OnOk result (IsFaultless (zone_of N.labels D.rtype D.minimum records.entry)
         (N.labels apex.now) (config_of (H.answer hasher.now) config.now)) }
-    ensures fault { IfErr result (IsFirstFault (zone_of N.labels records.entry)
+    ensures fault { IfErr result (IsFirstFault (zone_of N.labels D.rtype D.minimum records.entry)
         (N.labels apex.now) (config_of (H.answer hasher.now) config.now)) }
 {
     let owners = match list_owners(alloc, apex, records, config) {
@@ -200,27 +201,29 @@ fn param_record<'a, S, O: Octets, N: ToName>(
 /// # Errors
 ///
 /// Those of `generate_nsec3s`.
-pub fn hash_nsec3s<'a, S: Sorter, H: Nsec3Hasher, R: Octets, O: Octets, N: ToName>(
+pub fn hash_nsec3s<'a, S: Sorter, H: Nsec3Hasher, O: Octets, N: ToName, D: ZoneData>(
     alloc: Global,
     apex: &'a N,
-    records: RecordsIter<'_, N, ZoneRecordData<R, N>>,
+    records: RecordsIter<'_, N, D>,
     config: &GenerateNsec3Config<O, S>,
     hasher: &H,
 ) -> Result<HashedNsec3s<'a, N, O>, SigningError>
 where
     O: Drop,
     requires one_class { IsOneClass records }
-    requires in_order { IsInOrder N.labels rtype_of records }
+    requires in_order { IsInOrder N.labels D.rtype records }
 
     // Ok is exactly the chain, and comes only where no fault stands.
-    ensures chain { IfOk result (λ made. IsHashedChain (zone_of N.labels records.entry)
-        (N.labels apex.now) (config_of (H.answer hasher.now) config.now) made.chain) }
-    ensures param { IfOk result (λ made. IsChainParam (zone_of N.labels records.entry)
-        (N.labels apex.now) (config_of (H.answer hasher.now) config.now)
-        config.now.nsec3param_ttl_mode (as_param_record (λ n. n) made.nsec3param)) }
-    ensures faultless { OnOk result (IsFaultless (zone_of N.labels records.entry)
+    ensures chain { IfOk result (λ made. IsHashedChain
+        (zone_of N.labels D.rtype D.minimum records.entry) (N.labels apex.now)
+        (config_of (H.answer hasher.now) config.now) made.chain) }
+    ensures param { IfOk result (λ made. IsChainParam
+        (zone_of N.labels D.rtype D.minimum records.entry) (N.labels apex.now)
+        (config_of (H.answer hasher.now) config.now) config.now.nsec3param_ttl_mode
+        (as_param_record (λ n. n) made.nsec3param)) }
+    ensures faultless { OnOk result (IsFaultless (zone_of N.labels D.rtype D.minimum records.entry)
         (N.labels apex.now) (config_of (H.answer hasher.now) config.now)) }
-    ensures fault { IfErr result (IsFirstFault (zone_of N.labels records.entry)
+    ensures fault { IfErr result (IsFirstFault (zone_of N.labels D.rtype D.minimum records.entry)
         (N.labels apex.now) (config_of (H.answer hasher.now) config.now)) }
 {
     let Some(soa) = find_soa(apex, records.records()) else {
@@ -276,15 +279,15 @@ where
 /// # Errors
 ///
 /// The first that stands: `SoaRecordCouldNotBeDetermined` where the apex does not own exactly one
-/// record of type SOA, or its data is not the `Soa` variant; `MultipleTtlValues` where two records
-/// of one owner of the chain and one type other than RRSIG differ in TTL; for the first name of the
-/// chain, owners before empty non-terminals and each in canonical order, whose hash is of no use,
+/// record of type SOA, or its data tell no MINIMUM; `MultipleTtlValues` where two records of one
+/// owner of the chain and one type other than RRSIG differ in TTL; for the first name of the chain,
+/// owners before empty non-terminals and each in canonical order, whose hash is of no use,
 /// `Nsec3HashingError` with `Hasher`, `OwnerHashError` or `Nsec3NameTooLong`; the same with
 /// `CollisionDetected` where two names of the chain have one hash; and `OutOfMemory`.
-pub fn generate_nsec3s<S: Sorter, H: Nsec3Hasher, O, N: MakeName>(
+pub fn generate_nsec3s<S: Sorter, H: Nsec3Hasher, O, N: MakeName, D: ZoneData>(
     alloc: Global,
     apex: &N,
-    records: RecordsIter<'_, N, ZoneRecordData<O, N>>,
+    records: RecordsIter<'_, N, D>,
     config: &GenerateNsec3Config<O, S>,
     hasher: &H,
 ) -> Result<Nsec3Records<N, O>, SigningError>
@@ -293,18 +296,19 @@ where
     O: FromBuilder + Drop,
     O::Builder: GrowingBuilder + EmptyBuilder + Truncate + FreezeBuilder<Frozen = O> + Drop,
     requires one_class { IsOneClass records }
-    requires in_order { IsInOrder N.labels rtype_of records }
+    requires in_order { IsInOrder N.labels D.rtype records }
 
     // Ok is exactly the chain, and comes only where no fault stands.
-    ensures chain { IfOk result (λ made. IsHashedChain (zone_of N.labels records.entry)
-        (N.labels apex.now) (config_of (H.answer hasher.now) config.now)
-        (hashed_links_of N.labels made.nsec3s.items)) }
-    ensures param { IfOk result (λ made. IsChainParam (zone_of N.labels records.entry)
-        (N.labels apex.now) (config_of (H.answer hasher.now) config.now)
-        config.now.nsec3param_ttl_mode (as_param_record N.labels made.nsec3param)) }
-    ensures faultless { OnOk result (IsFaultless (zone_of N.labels records.entry)
+    ensures chain { IfOk result (λ made. IsHashedChain
+        (zone_of N.labels D.rtype D.minimum records.entry) (N.labels apex.now)
+        (config_of (H.answer hasher.now) config.now) (hashed_links_of N.labels made.nsec3s.items)) }
+    ensures param { IfOk result (λ made. IsChainParam
+        (zone_of N.labels D.rtype D.minimum records.entry) (N.labels apex.now)
+        (config_of (H.answer hasher.now) config.now) config.now.nsec3param_ttl_mode
+        (as_param_record N.labels made.nsec3param)) }
+    ensures faultless { OnOk result (IsFaultless (zone_of N.labels D.rtype D.minimum records.entry)
         (N.labels apex.now) (config_of (H.answer hasher.now) config.now)) }
-    ensures fault { IfErr result (IsFirstFault (zone_of N.labels records.entry)
+    ensures fault { IfErr result (IsFirstFault (zone_of N.labels D.rtype D.minimum records.entry)
         (N.labels apex.now) (config_of (H.answer hasher.now) config.now)) }
 
     // The owners of the chain ascend as their hashes do.
@@ -312,17 +316,17 @@ where
         (hashed_links_of N.labels made.nsec3s.items)) }
 
     // What the chain says of every name of the zone.
-    ensures denial { IfOk result (λ made. MirrorsZone (zone_of N.labels records.entry)
-        (N.labels apex.now) (config_of (H.answer hasher.now) config.now)
-        (hashed_links_of N.labels made.nsec3s.items)) }
-    ensures enclosers { IfOk result (λ made. TellsEncloser (zone_of N.labels records.entry)
-        (N.labels apex.now) (config_of (H.answer hasher.now) config.now)
-        (hashed_links_of N.labels made.nsec3s.items)) }
-    ensures cuts { OnOk result (CutsEnclose (zone_of N.labels records.entry)
+    ensures denial { IfOk result (λ made. MirrorsZone
+        (zone_of N.labels D.rtype D.minimum records.entry) (N.labels apex.now)
+        (config_of (H.answer hasher.now) config.now) (hashed_links_of N.labels made.nsec3s.items)) }
+    ensures enclosers { IfOk result (λ made. TellsEncloser
+        (zone_of N.labels D.rtype D.minimum records.entry) (N.labels apex.now)
+        (config_of (H.answer hasher.now) config.now) (hashed_links_of N.labels made.nsec3s.items)) }
+    ensures cuts { OnOk result (CutsEnclose (zone_of N.labels D.rtype D.minimum records.entry)
         (N.labels apex.now) (config_of (H.answer hasher.now) config.now)) }
-    ensures excluded { IfOk result (λ made. CoversExcluded (zone_of N.labels records.entry)
-        (N.labels apex.now) (config_of (H.answer hasher.now) config.now)
-        (hashed_links_of N.labels made.nsec3s.items)) }
+    ensures excluded { IfOk result (λ made. CoversExcluded
+        (zone_of N.labels D.rtype D.minimum records.entry) (N.labels apex.now)
+        (config_of (H.answer hasher.now) config.now) (hashed_links_of N.labels made.nsec3s.items)) }
 {
     let hashed = match hash_nsec3s(alloc, apex, records, config, hasher) {
         Ok(hashed) => hashed,

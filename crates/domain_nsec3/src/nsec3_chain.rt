@@ -8,9 +8,9 @@ use crate::chain::HashedChain;
 use crate::copy::copy_record;
 use crate::lent::{LentNsec3, lend_record};
 use domain_base::{MakeName, ToName, Ttl};
+use domain_chain_rdata::{Nsec3, Nsec3param};
 use domain_octets::{EmptyBuilder, FromBuilder, GrowingBuilder, Octets, OutOfMemory};
 use domain_plain::Record;
-use domain_rdata::{Nsec3, Nsec3param};
 use std::alloc::Global;
 use std::marker::Model;
 

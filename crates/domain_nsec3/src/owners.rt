@@ -1,6 +1,5 @@
 //! The owners of a zone that its NSEC3 chain holds.
 ghost use Rattle.std.specs.Prelude.{◌≡◌, ◌&&◌, ◌⊎◌, true, false, not, length, IfOk, IfErr, OnOk};
-ghost use Rattle.domain_rdata.specs.Zone.{rtype_of};
 ghost use Rattle.domain_records.specs.Order.{IsInOrder};
 ghost use Rattle.domain_records.specs.declared.error.SigningError.TheVariants as signing_error;
 ghost use Rattle.domain_base.specs.Types.{ds};
@@ -16,7 +15,7 @@ use crate::types::{OwnerKind, owns_ds, push_types};
 use domain_base::{ParsedName, ToName};
 use domain_bitmap::RtypeBitmaps;
 use domain_octets::Octets;
-use domain_rdata::ZoneRecordData;
+use domain_plain::ZoneData;
 use domain_records::{RecordsIter, SigningError};
 use domain_zone::{UnoccludedOwner, UnoccludedOwners, has_unequal_ttls};
 use std::alloc::Global;
@@ -29,9 +28,9 @@ pub(crate) struct Owners<'a> {
 }
 
 /// Whether the owner is a zone cut without DS records.
-fn is_unsigned_cut<O: Octets, N: ToName>(owner: &UnoccludedOwner<'_, O, N>) -> bool
+fn is_unsigned_cut<N: ToName, D: ZoneData>(owner: &UnoccludedOwner<'_, N, D>) -> bool
     ensures { result ≡ (owner.now.is_zone_cut
-        && not (has_type (zone_of N.labels owner.now.records) ds)) }
+        && not (has_type (zone_of N.labels D.rtype D.minimum owner.now.records) ds)) }
 {
     owner.is_zone_cut && !owns_ds(owner.records.records())
 }
@@ -44,25 +43,27 @@ fn is_unsigned_cut<O: Octets, N: ToName>(owner: &UnoccludedOwner<'_, O, N>) -> b
 ///
 /// `MultipleTtlValues` where two records of one of them and one type other than RRSIG differ in
 /// TTL; `OutOfMemory`.
-pub(crate) fn list_owners<'a, S, R: Octets, O: Octets, N: ToName>(
+pub(crate) fn list_owners<'a, S, O: Octets, N: ToName, D: ZoneData>(
     alloc: Global,
     apex: &'a N,
-    records: RecordsIter<'a, N, ZoneRecordData<R, N>>,
+    records: RecordsIter<'a, N, D>,
     config: &GenerateNsec3Config<O, S>,
 ) -> Result<Owners<'a>, SigningError>
-    requires { IsInOrder N.labels rtype_of records }
+    requires { IsInOrder N.labels D.rtype records }
     ensures owners { IfOk result (λ owners. (answer : Answer) → AreOriginalOwners
-        (zone_of N.labels records.entry) (N.labels apex.now) (config_of answer config.now)
-        (as_entries owners)) }
+        (zone_of N.labels D.rtype D.minimum records.entry) (N.labels apex.now)
+        (config_of answer config.now) (as_entries owners)) }
     ensures paired { IfOk result (λ owners.
         length owners.names.items ≡ length owners.types) }
     ensures even { OnOk result ((answer : Answer) → has_unequal_ttls
-        (zone_of N.labels records.entry) (original_owners (zone_of N.labels records.entry)
-        (N.labels apex.now) (config_of answer config.now)) ≡ false) }
+        (zone_of N.labels D.rtype D.minimum records.entry)
+        (original_owners (zone_of N.labels D.rtype D.minimum records.entry) (N.labels apex.now)
+        (config_of answer config.now)) ≡ false) }
     ensures fault { IfErr result (λ e. (e ≡ signing_error.OutOfMemory)
         ⊎ ((e ≡ signing_error.MultipleTtlValues) × ((answer : Answer) → has_unequal_ttls
-        (zone_of N.labels records.entry) (original_owners (zone_of N.labels records.entry)
-        (N.labels apex.now) (config_of answer config.now)) ≡ true))) }
+        (zone_of N.labels D.rtype D.minimum records.entry)
+        (original_owners (zone_of N.labels D.rtype D.minimum records.entry) (N.labels apex.now)
+        (config_of answer config.now)) ≡ true))) }
 {
     let excludes = config.params.opt_out_flag()
         & config.opt_out_exclude_owner_names_of_unsigned_delegations;

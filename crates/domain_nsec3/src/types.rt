@@ -9,9 +9,10 @@ ghost use Rattle.domain_zone.specs.View.{zone_of};
 
 use domain_base::{Rtype, ToName};
 use domain_bitmap::{RtypeBitmap, RtypeBitmapBuilder, RtypeBitmaps};
-use domain_octets::{EmptyBuilder, GrowingBuilder, Octets, OutOfMemory, SmallBuilder, SmallOctets};
+use domain_octets::{EmptyBuilder, GrowingBuilder, OutOfMemory, SmallBuilder, SmallOctets};
+use domain_plain::{Record, ZoneData};
 use domain_records::SliceRefsOrOwnedIterator;
-use domain_zone::{ZoneRr, add_type, add_types};
+use domain_zone::{add_type, add_types};
 use std::alloc::Global;
 
 /// What an owner is to a chain, but for its records.
@@ -26,10 +27,10 @@ pub(crate) struct OwnerKind {
 }
 
 /// Whether one of the records is a DS record.
-pub(crate) fn owns_ds<O: Octets, N: ToName>(
-    mut records: SliceRefsOrOwnedIterator<'_, ZoneRr<O, N>>,
+pub(crate) fn owns_ds<N: ToName, D: ZoneData>(
+    mut records: SliceRefsOrOwnedIterator<'_, Record<N, D>>,
 ) -> bool
-    ensures { result ≡ has_type (zone_of N.labels records.entry) ds }
+    ensures { result ≡ has_type (zone_of N.labels D.rtype D.minimum records.entry) ds }
 {
     'records: while let Some(record) = records.next() {
         if record.rtype() == Rtype::DS {
@@ -73,15 +74,15 @@ where
 }
 
 /// The types of an owner's NSEC3 record (RFC 5155, section 7.1).
-fn types_of<O: Octets, N: ToName>(
+fn types_of<N: ToName, D: ZoneData>(
     alloc: Global,
-    records: SliceRefsOrOwnedIterator<'_, ZoneRr<O, N>>,
+    records: SliceRefsOrOwnedIterator<'_, Record<N, D>>,
     kind: OwnerKind,
     assumed: bool,
 ) -> Result<RtypeBitmap<SmallOctets>, OutOfMemory>
     ensures { IfOk result (λ types. types
         ≡ bitmap_octets (is_listed kind.is_unsigned_cut kind.is_apex assumed kind.is_zone_cut
-        (zone_of N.labels records.entry))) }
+        (zone_of N.labels D.rtype D.minimum records.entry))) }
 {
     let mut types = common_types::<SmallBuilder>(alloc, kind, assumed)?;
     add_types(&mut types, records, kind.is_zone_cut)?;
@@ -89,16 +90,16 @@ fn types_of<O: Octets, N: ToName>(
 }
 
 /// Appends the types of an owner's NSEC3 record.
-pub(crate) fn push_types<O: Octets, N: ToName>(
+pub(crate) fn push_types<N: ToName, D: ZoneData>(
     alloc: Global,
     types: &mut RtypeBitmaps,
-    records: SliceRefsOrOwnedIterator<'_, ZoneRr<O, N>>,
+    records: SliceRefsOrOwnedIterator<'_, Record<N, D>>,
     kind: OwnerKind,
     assumed: bool,
 ) -> Result<(), OutOfMemory>
     ensures { OnOk result (types.new ≡ types.old
         ++ bitmap_octets (is_listed kind.is_unsigned_cut kind.is_apex assumed kind.is_zone_cut
-        (zone_of N.labels records.entry)) ∷ []) }
+        (zone_of N.labels D.rtype D.minimum records.entry)) ∷ []) }
 {
     let listed = types_of(alloc, records, kind, assumed)?;
     types.push(&listed)

@@ -1,12 +1,10 @@
 -- What is known of the owners that an iterator has given and has left.
-use Rattle.std.proofs.Common.{◌≡◌, ◌≤◌, Bool, true, false, cond, ◌||◌, List, [], ◌∷◌, ◌++◌, map, refl, sym, ap, ◌∙◌, subst}
+use Rattle.std.proofs.Common.{◌≡◌, ◌≤◌, Bool, true, false, cond, ◌||◌, List, [], ◌∷◌, ◌++◌, map, refl, sym, ap, ◌∙◌, subst, Option, ℕ}
 use Rattle.std.specs.List.{list_any, AllByRecursion}
 use Rattle.std.proofs.lemmas.Bool.{or_right}
 use Rattle.std.proofs.lemmas.List.Folds.{list_any-append}
 use Rattle.domain_base.specs.Laws.{same_name_same}
 use Rattle.domain_plain.specs.declared.record.Record.{Record}
-use Rattle.domain_rdata.specs.Zone.{rtype_of}
-use Rattle.domain_rdata.specs.declared.zone_record_data.ZoneRecordData.{ZoneRecordData}
 use Rattle.domain_records.specs.Order.{MayFollow, HoldsPairwise, IsInOrder}
 use Rattle.domain_base.specs.Name.{same_name}
 use Rattle.domain_base.specs.Words.{Name}
@@ -59,31 +57,34 @@ module _ (d : Bool) (L : List ZoneRecord) (a : Name) (given : List OwnerRecords)
 
 -- ---- the types of an owner's records never descend
 
-module _ {O N : Type 0} (labels : N → Name) where
-  follows : (r : Record N (ZoneRecordData O N)) (rs : List (Record N (ZoneRecordData O N))) → AllByRecursion (MayFollow labels rtype_of r) rs
-      → AllByRecursion (λ s. same_name (labels r.owner) s.owner ≡ true → rtype_of r.«data» ≤ s.rtype) (map (as_zone_record labels) rs)
+module _ {N D : Type 0} (labels : N → Name) (rtype_of : D → ℕ) (minimum_of : D → Option ℕ) where
+  abbrev see : Record N D → ZoneRecord
+  see = as_zone_record labels rtype_of minimum_of
+
+  follows : (r : Record N D) (rs : List (Record N D)) → AllByRecursion (MayFollow labels rtype_of r) rs
+      → AllByRecursion (λ s. same_name (labels r.owner) s.owner ≡ true → rtype_of r.«data» ≤ s.rtype) (map see rs)
   follows r [] h = tt
   follows r (s ∷ rs) h =
       let first : MayFollow labels rtype_of r s = h.0 in
       ((λ e. first.type ((same_name_same (labels r.owner) (labels s.owner)).0 e)), follows r rs h.1)
 
-  pub types_at : (rs : List (Record N (ZoneRecordData O N))) (n : Name) → IsInOrder labels rtype_of rs → NeverDescend (records_of (map (as_zone_record labels) rs) n)
+  pub types_at : (rs : List (Record N D)) (n : Name) → IsInOrder labels rtype_of rs → NeverDescend (records_of (map see rs) n)
   types_at [] n h = tt
   types_at (r ∷ rs) n h =
-      let more = records_of (map (as_zone_record labels) rs) n in
-      elim (same_name (labels r.owner) n) as (λ b. same_name (labels r.owner) n ≡ b → NeverDescend (cond b (as_zone_record labels r ∷ records_of (map (as_zone_record labels) rs) n) (records_of (map (as_zone_record labels) rs) n))) [
+      let more = records_of (map see rs) n in
+      elim (same_name (labels r.owner) n) as (λ b. same_name (labels r.owner) n ≡ b → NeverDescend (cond b (see r ∷ records_of (map see rs) n) (records_of (map see rs) n))) [
         | true ↦ λ e. (
           filter_passes (λ s. same_name (labels r.owner) s.owner ≡ true → rtype_of r.«data» ≤ s.rtype) (λ s. rtype_of r.«data» ≤ s.rtype) (λ s. same_name s.owner n)
-              (λ s f q. f (same_itself (labels r.owner) s.owner (one_lowered (labels r.owner) n e ∙ sym (one_lowered s.owner n q)))) (map (as_zone_record labels) rs) (follows r rs h.0),
+              (λ s f q. f (same_itself (labels r.owner) s.owner (one_lowered (labels r.owner) n e ∙ sym (one_lowered s.owner n q)))) (map see rs) (follows r rs h.0),
           types_at rs n h.1,
         )
         | false ↦ λ e. types_at rs n h.1
       ] refl
 
-  pub raw_types : (rs : List (Record N (ZoneRecordData O N))) → NeverDescend (map (as_zone_record labels) rs) → HoldsPairwise (λ r s. rtype_of r.«data» ≤ rtype_of s.«data») rs
+  pub raw_types : (rs : List (Record N D)) → NeverDescend (map see rs) → HoldsPairwise (λ r s. rtype_of r.«data» ≤ rtype_of s.«data») rs
   raw_types [] h = tt
   raw_types (r ∷ rs) h = (raw rs h.0, raw_types rs h.1)
     where
-      raw : (ss : List (Record N (ZoneRecordData O N))) → AllByRecursion (λ s. rtype_of r.«data» ≤ s.rtype) (map (as_zone_record labels) ss) → AllByRecursion (λ s. rtype_of r.«data» ≤ rtype_of s.«data») ss
+      raw : (ss : List (Record N D)) → AllByRecursion (λ s. rtype_of r.«data» ≤ s.rtype) (map see ss) → AllByRecursion (λ s. rtype_of r.«data» ≤ rtype_of s.«data») ss
       raw [] h = tt
       raw (s ∷ ss) h = (h.0, raw ss h.1)

@@ -1,5 +1,5 @@
 -- Groups of records, as the walk sees them.
-use Rattle.std.proofs.Common.{◌≡◌, ◌≤◌, ℕ, Bool, true, false, not, ◌&&◌, ◌↔◌, IsTrue, List, [], ◌∷◌, ◌++◌, map, refl, sym, ap, ◌∙◌, subst, inl, inr, nat_eq}
+use Rattle.std.proofs.Common.{◌≡◌, ◌≤◌, ℕ, Bool, true, false, not, ◌&&◌, ◌↔◌, IsTrue, List, [], ◌∷◌, ◌++◌, map, refl, sym, ap, ◌∙◌, subst, inl, inr, nat_eq, Option}
 use Rattle.std.specs.Prelude.{if◌then◌else◌}
 use Rattle.std.specs.declared.cmp.Ordering.{Ordering}
 use Rattle.std.specs.declared.cmp.Ordering.TheVariants.{Less, Equal, Greater}
@@ -12,8 +12,6 @@ use Rattle.domain_base.specs.Name.{IsSame, lowered, same_name}
 use Rattle.domain_base.specs.Laws.{same_name_same}
 use Rattle.domain_base.specs.Order.{canonical_cmp, canonical_cmp_total, before}
 use Rattle.domain_plain.specs.declared.record.Record.{Record}
-use Rattle.domain_rdata.specs.Zone.{rtype_of}
-use Rattle.domain_rdata.specs.declared.zone_record_data.ZoneRecordData.{ZoneRecordData}
 use Rattle.domain_records.specs.Runs.{runs, add_to}
 use Rattle.domain_records.specs.Groups.{same_owner, HasFirst, IsZoneCut}
 use Rattle.domain_records.specs.Order.{MayFollow, IsInOrder}
@@ -109,19 +107,22 @@ module _ {X : Type 0} (alike : X → X → Bool) (onward : (x y z : X) → alike
 two : (n : ℕ) → n ≡ 2 → nat_eq n 2 ≡ true
 two n e = ap (λ m. nat_eq m 2) e
 
-module _ {O N : Type 0} (labels : N → Name) where
-  owner_key : (r s : Record N (ZoneRecordData O N)) → same_owner labels r s ≡ true → lowered (labels r.owner) ≡ lowered (labels s.owner)
+module _ {N D : Type 0} (labels : N → Name) (rtype_of : D → ℕ) (minimum_of : D → Option ℕ) where
+  abbrev see : Record N D → ZoneRecord
+  see = as_zone_record labels rtype_of minimum_of
+
+  owner_key : (r s : Record N D) → same_owner labels r s ≡ true → lowered (labels r.owner) ≡ lowered (labels s.owner)
   owner_key r s e = one_lowered (labels r.owner) (labels s.owner) e
 
-  owner_onward : (r s t : Record N (ZoneRecordData O N)) → same_owner labels r s ≡ true → same_owner labels r t ≡ same_owner labels s t
+  owner_onward : (r s t : Record N D) → same_owner labels r s ≡ true → same_owner labels r t ≡ same_owner labels s t
   owner_onward r s t e =
       ap (λ k. same_lowered k (lowered (labels t.owner))) (owner_key r s e)
 
-  all_at : (r : Record N (ZoneRecordData O N)) (more : List (Record N (ZoneRecordData O N))) → AllByRecursion (λ s. same_owner labels r s ≡ true) more → AllByRecursion (λ s. same_name s.owner (labels r.owner) ≡ true) (map (as_zone_record labels) more)
+  all_at : (r : Record N D) (more : List (Record N D)) → AllByRecursion (λ s. same_owner labels r s ≡ true) more → AllByRecursion (λ s. same_name s.owner (labels r.owner) ≡ true) (map see more)
   all_at r [] h = tt
   all_at r (s ∷ more) h = (same_itself (labels s.owner) (labels r.owner) (sym (owner_key r s h.0)), all_at r more h.1)
 
-  elsewhere : (r : Record N (ZoneRecordData O N)) (t : List (Record N (ZoneRecordData O N))) → StartsApart (same_owner labels) r t → BeginsElsewhere (labels r.owner) (map (as_zone_record labels) t)
+  elsewhere : (r : Record N D) (t : List (Record N D)) → StartsApart (same_owner labels) r t → BeginsElsewhere (labels r.owner) (map see t)
   elsewhere r [] h = tt
   elsewhere r (s ∷ t) h =
       elim (cases_Bool (same_name (labels s.owner) (labels r.owner))) [
@@ -130,28 +131,28 @@ module _ {O N : Type 0} (labels : N → Name) where
       ]
 
   -- what the iterator over groups hands out
-  pub front_group : (rest group after : List (Record N (ZoneRecordData O N))) → rest ≡ group ++ after → runs (same_owner labels) rest ≡ group ∷ runs (same_owner labels) after → (owner : N) → HasFirst (λ r. r.owner ≡ owner) group
-      → (g : ZoneRecord) × IsFront (map (as_zone_record labels) rest) g (map (as_zone_record labels) group) (map (as_zone_record labels) after) × (g.owner ≡ labels owner)
+  pub front_group : (rest group after : List (Record N D)) → rest ≡ group ++ after → runs (same_owner labels) rest ≡ group ∷ runs (same_owner labels) after → (owner : N) → HasFirst (λ r. r.owner ≡ owner) group
+      → (g : ZoneRecord) × IsFront (map see rest) g (map see group) (map see after) × (g.owner ≡ labels owner)
   front_group [] [] after e f owner h = absurd h
   front_group [] (g ∷ group) after e f owner h = cc
   front_group (r ∷ rest) group after e f owner h =
       let run = first_run (same_owner labels) owner_onward r rest group after e f in (
-        as_zone_record labels r,
+        see r,
         record {
-          gs = map (as_zone_record labels) run.more;
-          are = ap (map (as_zone_record labels)) run.are;
-          split = ap (map (as_zone_record labels)) (e ∙ ap (λ t. t ++ after) run.are) ∙ map-append (as_zone_record labels) (r ∷ run.more) after;
+          gs = map see run.more;
+          are = ap (map see) run.are;
+          split = ap (map see) (e ∙ ap (λ t. t ++ after) run.are) ∙ map-append see (r ∷ run.more) after;
           group = (all_at r run.more run.all, elsewhere r after run.ends);
         },
         ap labels (named run.more (subst (HasFirst (λ s. s.owner ≡ owner)) run.are h)),
       )
     where
-      named : (more : List (Record N (ZoneRecordData O N))) → HasFirst (λ s. s.owner ≡ owner) (r ∷ more) → r.owner ≡ owner
+      named : (more : List (Record N D)) → HasFirst (λ s. s.owner ≡ owner) (r ∷ more) → r.owner ≡ owner
       named more k = k
 
   -- ---- order
 
-  not_before : (r s : Record N (ZoneRecordData O N)) → MayFollow labels rtype_of r s → before (labels s.owner) (labels r.owner) ≡ false
+  not_before : (r s : Record N D) → MayFollow labels rtype_of r s → before (labels s.owner) (labels r.owner) ≡ false
   not_before r s m =
       ap is_lt (canonical_cmp_total.antisymm (labels s.owner) (labels r.owner)) ∙ turned (canonical_cmp (labels r.owner) (labels s.owner)) ∙ m.owner
     where
@@ -160,54 +161,54 @@ module _ {O N : Type 0} (labels : N → Name) where
       turned Equal = refl
       turned Greater = refl
 
-  all_follow : (r : Record N (ZoneRecordData O N)) (rs : List (Record N (ZoneRecordData O N))) → AllByRecursion (MayFollow labels rtype_of r) rs → AllByRecursion (λ s. before s.owner (labels r.owner) ≡ false) (map (as_zone_record labels) rs)
+  all_follow : (r : Record N D) (rs : List (Record N D)) → AllByRecursion (MayFollow labels rtype_of r) rs → AllByRecursion (λ s. before s.owner (labels r.owner) ≡ false) (map see rs)
   all_follow r [] h = tt
   all_follow r (s ∷ rs) h = (not_before r s h.0, all_follow r rs h.1)
 
-  pub owners_in_order : (rs : List (Record N (ZoneRecordData O N))) → IsInOrder labels rtype_of rs → OwnersNeverDescend (map (as_zone_record labels) rs)
+  pub owners_in_order : (rs : List (Record N D)) → IsInOrder labels rtype_of rs → OwnersNeverDescend (map see rs)
   owners_in_order [] h = tt
   owners_in_order (r ∷ rs) h = (all_follow r rs h.0, owners_in_order rs h.1)
 
   -- the records of a list in order that come after a group are in order
-  pub order_after : (group after : List (Record N (ZoneRecordData O N))) → IsInOrder labels rtype_of (group ++ after) → IsInOrder labels rtype_of after
+  pub order_after : (group after : List (Record N D)) → IsInOrder labels rtype_of (group ++ after) → IsInOrder labels rtype_of after
   order_after [] after h = h
   order_after (g ∷ group) after h = order_after group after h.1
 
-  alike_types : (r : Record N (ZoneRecordData O N)) (more after : List (Record N (ZoneRecordData O N))) → AllByRecursion (λ s. same_owner labels r s ≡ true) more → AllByRecursion (MayFollow labels rtype_of r) (more ++ after) → AllByRecursion (λ s. rtype_of r.«data» ≤ s.rtype) (map (as_zone_record labels) more)
+  alike_types : (r : Record N D) (more after : List (Record N D)) → AllByRecursion (λ s. same_owner labels r s ≡ true) more → AllByRecursion (MayFollow labels rtype_of r) (more ++ after) → AllByRecursion (λ s. rtype_of r.«data» ≤ s.rtype) (map see more)
   alike_types r [] after all h = tt
   alike_types r (s ∷ more) after all h =
       let follow : MayFollow labels rtype_of r s = h.0 in
       (follow.type ((same_name_same (labels r.owner) (labels s.owner)).0 all.0), alike_types r more after all.1 h.1)
 
   -- the types of a group never descend
-  types_of_group : (r : Record N (ZoneRecordData O N)) (more after : List (Record N (ZoneRecordData O N))) → AllByRecursion (λ s. same_owner labels r s ≡ true) more → IsInOrder labels rtype_of ((r ∷ more) ++ after) → NeverDescend (map (as_zone_record labels) (r ∷ more))
+  types_of_group : (r : Record N D) (more after : List (Record N D)) → AllByRecursion (λ s. same_owner labels r s ≡ true) more → IsInOrder labels rtype_of ((r ∷ more) ++ after) → NeverDescend (map see (r ∷ more))
   types_of_group r [] after all h = (tt, tt)
   types_of_group r (s ∷ more) after all h =
       (alike_types r (s ∷ more) after all h.0, types_of_group s more after (moved more all.0 all.1) h.1)
     where
-      moved : (us : List (Record N (ZoneRecordData O N))) → same_owner labels r s ≡ true → AllByRecursion (λ t. same_owner labels r t ≡ true) us → AllByRecursion (λ t. same_owner labels s t ≡ true) us
+      moved : (us : List (Record N D)) → same_owner labels r s ≡ true → AllByRecursion (λ t. same_owner labels r t ≡ true) us → AllByRecursion (λ t. same_owner labels s t ≡ true) us
       moved [] e k = tt
       moved (u ∷ us) e k = (sym (owner_onward r s u e) ∙ k.0, moved us e k.1)
 
-  pub group_types : (rest group after : List (Record N (ZoneRecordData O N))) → rest ≡ group ++ after → runs (same_owner labels) rest ≡ group ∷ runs (same_owner labels) after → IsInOrder labels rtype_of rest → NeverDescend (map (as_zone_record labels) group)
+  pub group_types : (rest group after : List (Record N D)) → rest ≡ group ++ after → runs (same_owner labels) rest ≡ group ∷ runs (same_owner labels) after → IsInOrder labels rtype_of rest → NeverDescend (map see group)
   group_types [] [] after e f h = tt
   group_types [] (g ∷ group) after e f h = cc
   group_types (r ∷ rest) group after e f h =
       let run = first_run (same_owner labels) owner_onward r rest group after e f in
-      subst (λ t. NeverDescend (map (as_zone_record labels) t)) (sym run.are)
+      subst (λ t. NeverDescend (map see t)) (sym run.are)
       (types_of_group r run.more after run.all (subst (λ t. IsInOrder labels rtype_of t) (e ∙ ap (λ t. t ++ after) run.are) h))
 
   -- ---- zone cuts
 
-  pub cut_test : (b : Bool) (a : Name) (owner : N) (group : List (Record N (ZoneRecordData O N))) → HasFirst (λ r. r.owner ≡ owner) group → (IsTrue b ↔ IsZoneCut labels rtype_of a group) → b ≡ (not (same_name (labels owner) a) && has_type (map (as_zone_record labels) group) 2)
+  pub cut_test : (b : Bool) (a : Name) (owner : N) (group : List (Record N D)) → HasFirst (λ r. r.owner ≡ owner) group → (IsTrue b ↔ IsZoneCut labels rtype_of a group) → b ≡ (not (same_name (labels owner) a) && has_type (map see group) 2)
   cut_test b a owner [] h f = absurd h
   cut_test b a owner (g ∷ more) h f = by b f
     where
-      group : List (Record N (ZoneRecordData O N))
+      group : List (Record N D)
       group = g ∷ more
 
-      types : has_type (map (as_zone_record labels) (g ∷ more)) 2 ≡ list_any (λ r. nat_eq (rtype_of r.«data») 2) (g ∷ more)
-      types = any_map (λ r. nat_eq r.rtype 2) (as_zone_record labels) (g ∷ more)
+      types : has_type (map see (g ∷ more)) 2 ≡ list_any (λ r. nat_eq (rtype_of r.«data») 2) (g ∷ more)
+      types = any_map (λ r. nat_eq r.rtype 2) see (g ∷ more)
 
       apart : ¬ (IsSame (labels g.owner) a) → same_name (labels owner) a ≡ false
       apart n = elim (cases_Bool (same_name (labels owner) a)) [
@@ -216,22 +217,22 @@ module _ {O N : Type 0} (labels : N → Name) where
       ]
 
       -- what the test says
-      says : (not (same_name (labels owner) a) && has_type (map (as_zone_record labels) (g ∷ more)) 2) ≡ true → IsZoneCut labels rtype_of a (g ∷ more)
+      says : (not (same_name (labels owner) a) && has_type (map see (g ∷ more)) 2) ≡ true → IsZoneCut labels rtype_of a (g ∷ more)
       says e =
-          let p = and_parts (not (same_name (labels owner) a)) (has_type (map (as_zone_record labels) (g ∷ more)) 2) e in
+          let p = and_parts (not (same_name (labels owner) a)) (has_type (map see (g ∷ more)) 2) e in
           let found = Any-from_list_any (λ r. nat_eq (rtype_of r.«data») 2) (g ∷ more) (sym types ∙ p.1) in
           record {
             below = λ s. false≢true (sym (not-true (same_name (labels owner) a) p.0) ∙ ap (λ o. same_name (labels o) a) (sym h) ∙ (same_name_same (labels g.owner) a).1 s);
             delegates = (found.0, found.1, found.2, found.3, eqb-true (rtype_of found.1.«data») 2 found.4);
           }
 
-      by : (v : Bool) → (IsTrue v ↔ IsZoneCut labels rtype_of a (g ∷ more)) → v ≡ (not (same_name (labels owner) a) && has_type (map (as_zone_record labels) (g ∷ more)) 2)
+      by : (v : Bool) → (IsTrue v ↔ IsZoneCut labels rtype_of a (g ∷ more)) → v ≡ (not (same_name (labels owner) a) && has_type (map see (g ∷ more)) 2)
       by true k =
           let cut = k.0 refl in
           let ns = cut.delegates in
           let typed = types ∙ list_any-from_Any (λ r. nat_eq (rtype_of r.«data») 2) (g ∷ more) (ns.0, ns.1, ns.2, ns.3, two (rtype_of ns.1.«data») ns.4) in
           sym (λ i. not (apart cut.below i) && typed i)
-      by false k = elim (cases_Bool (not (same_name (labels owner) a) && has_type (map (as_zone_record labels) (g ∷ more)) 2)) [
+      by false k = elim (cases_Bool (not (same_name (labels owner) a) && has_type (map see (g ∷ more)) 2)) [
         | inl e ↦ absurd (false≢true (k.1 (says e)))
         | inr e ↦ sym e
       ]

@@ -1,10 +1,8 @@
 -- What an iterator over the owners that are not occluded has left to give.
-use Rattle.std.proofs.Common.{◌≡◌, Bool, true, false, cond, not, ◌&&◌, ◌||◌, List, [], ◌∷◌, ◌++◌, map, refl, sym, ap, ◌∙◌, subst, inl, inr, Option, Some, None, append_assoc}
+use Rattle.std.proofs.Common.{◌≡◌, Bool, true, false, cond, not, ◌&&◌, ◌||◌, List, [], ◌∷◌, ◌++◌, map, refl, sym, ap, ◌∙◌, subst, inl, inr, Option, Some, None, append_assoc, ℕ}
 use Rattle.std.specs.Prelude.{if◌then◌else◌}
 use Rattle.std.proofs.lemmas.Bool.{cases_Bool}
 use Rattle.domain_plain.specs.declared.record.Record.{Record}
-use Rattle.domain_rdata.specs.Zone.{rtype_of}
-use Rattle.domain_rdata.specs.declared.zone_record_data.ZoneRecordData.{ZoneRecordData}
 use Rattle.domain_records.specs.Groups.{same_owner, HasFirst}
 use Rattle.domain_records.specs.Order.{IsInOrder}
 use Rattle.domain_records.specs.Runs.{runs, add_to}
@@ -21,24 +19,24 @@ use Rattle.domain_zone.proofs.ZoneLemmas.{IsFront}
 
 -- ---- one group
 
-module _ {O N : Type 0} (labels : N → Name) (d : Bool) (a : Name) (o : Option Name) where
-  pub left_passed : (group : List (Record N (ZoneRecordData O N))) (owner : N) (gs : List (List ZoneRecord)) → HasFirst (λ r. r.owner ≡ owner) group
-      → is_passed_over a o (labels owner) ≡ true → left_owners d a o (map (as_zone_record labels) group ∷ gs) ≡ left_owners d a o gs
+module _ {N D : Type 0} (labels : N → Name) (rtype_of : D → ℕ) (minimum_of : D → Option ℕ) (d : Bool) (a : Name) (o : Option Name) where
+  pub left_passed : (group : List (Record N D)) (owner : N) (gs : List (List ZoneRecord)) → HasFirst (λ r. r.owner ≡ owner) group
+      → is_passed_over a o (labels owner) ≡ true → left_owners d a o (map (as_zone_record labels rtype_of minimum_of) group ∷ gs) ≡ left_owners d a o gs
   left_passed [] owner gs h e = absurd h
   left_passed (r ∷ rs) owner gs h e =
-      let see = as_zone_record labels in
+      let see = as_zone_record labels rtype_of minimum_of in
       λ i. if ((ap (λ m. is_passed_over a o (labels m)) h ∙ e) i) then left_owners d a o gs
       else record { name = labels r.owner; records = map see (r ∷ rs); is_zone_cut = is_cut_group a (labels r.owner) (map see (r ∷ rs)) }
       ∷ left_owners d a (occluder_from d a (labels r.owner) (map see (r ∷ rs))) gs
 
-  pub left_given : (group : List (Record N (ZoneRecordData O N))) (owner : N) (gs : List (List ZoneRecord)) → HasFirst (λ r. r.owner ≡ owner) group
+  pub left_given : (group : List (Record N D)) (owner : N) (gs : List (List ZoneRecord)) → HasFirst (λ r. r.owner ≡ owner) group
       → is_passed_over a o (labels owner) ≡ false
-      → left_owners d a o (map (as_zone_record labels) group ∷ gs)
-      ≡ record { name = labels owner; records = map (as_zone_record labels) group; is_zone_cut = is_cut_group a (labels owner) (map (as_zone_record labels) group) }
-      ∷ left_owners d a (occluder_from d a (labels owner) (map (as_zone_record labels) group)) gs
+      → left_owners d a o (map (as_zone_record labels rtype_of minimum_of) group ∷ gs)
+      ≡ record { name = labels owner; records = map (as_zone_record labels rtype_of minimum_of) group; is_zone_cut = is_cut_group a (labels owner) (map (as_zone_record labels rtype_of minimum_of) group) }
+      ∷ left_owners d a (occluder_from d a (labels owner) (map (as_zone_record labels rtype_of minimum_of) group)) gs
   left_given [] owner gs h e = absurd h
   left_given (r ∷ rs) owner gs h e =
-      let see = as_zone_record labels in
+      let see = as_zone_record labels rtype_of minimum_of in
       let given : N → List OwnerRecords = λ m. record { name = labels m; records = map see (r ∷ rs); is_zone_cut = is_cut_group a (labels m) (map see (r ∷ rs)) } ∷ left_owners d a (occluder_from d a (labels m) (map see (r ∷ rs))) gs in
       (λ i. if ((ap (λ m. is_passed_over a o (labels m)) h ∙ e) i) then left_owners d a o gs else given r.owner) ∙ ap given h
 
@@ -128,65 +126,68 @@ append_nil : {X : Type 0} (xs : List X) → xs ++ [] ≡ xs
 append_nil [] = refl
 append_nil (x ∷ xs) = ap (λ ys. x ∷ ys) (append_nil xs)
 
-module _ {O N : Type 0} (labels : N → Name) (d : Bool) (L : List ZoneRecord) (a : Name) where
+module _ {N D : Type 0} (labels : N → Name) (rtype_of : D → ℕ) (minimum_of : D → Option ℕ) (d : Bool) (L : List ZoneRecord) (a : Name) where
+  abbrev see : Record N D → ZoneRecord
+  see = as_zone_record labels rtype_of minimum_of
+
   -- the owners found so far and those that are left are all
-  left_all : (gs : List (List (Record N (ZoneRecordData O N)))) (rest : List (Record N (ZoneRecordData O N))) (o : Option Name) (ks : List Name) → runs (same_owner labels) rest ≡ gs
-      → IsWalked d L a (map (as_zone_record labels) rest) o ks
-      → map (owner_at L a) ks ++ left_owners d a o (map (map (as_zone_record labels)) gs) ≡ owners_with_records d L a
+  left_all : (gs : List (List (Record N D))) (rest : List (Record N D)) (o : Option Name) (ks : List Name) → runs (same_owner labels) rest ≡ gs
+      → IsWalked d L a (map see rest) o ks
+      → map (owner_at L a) ks ++ left_owners d a o (map (map see) gs) ≡ owners_with_records d L a
   left_all [] rest o ks e w =
       append_nil (map (owner_at L a) ks)
-      ∙ sym (ap (map (owner_at L a)) (walk_end d L a o ks (subst (λ t. IsWalked d L a (map (as_zone_record labels) t) o ks) (runs_none (same_owner labels) rest e) w)))
+      ∙ sym (ap (map (owner_at L a)) (walk_end d L a o ks (subst (λ t. IsWalked d L a (map see t) o ks) (runs_none (same_owner labels) rest e) w)))
   left_all (group ∷ gs) [] o ks e w = absurd (no_runs (same_owner labels) group gs e)
   left_all (group ∷ gs) (r ∷ rest) o ks e w =
       let more = runs_rest (same_owner labels) (r ∷ rest) group gs e in
       let t = more.0 in
       let first : HasFirst (λ s. s.owner ≡ r.owner) group = named group (runs_first (same_owner labels) r rest group gs e) in
-      let front = front_group labels (r ∷ rest) group t more.1 (e ∙ ap (λ h. group ∷ h) (sym more.2)) r.owner first in
+      let front = front_group labels rtype_of minimum_of (r ∷ rest) group t more.1 (e ∙ ap (λ h. group ∷ h) (sym more.2)) r.owner first in
       step (left_all gs) t more.2 first front.0 front.1 front.2
     where
-      named : (h : List (Record N (ZoneRecordData O N))) → HasFirst (λ y. y ≡ r) h → HasFirst (λ s. s.owner ≡ r.owner) h
+      named : (h : List (Record N D)) → HasFirst (λ y. y ≡ r) h → HasFirst (λ s. s.owner ≡ r.owner) h
       named [] i = i
       named (s ∷ h) i = ap (λ t. t.owner) i
 
-      step : ((rest : List (Record N (ZoneRecordData O N))) (o : Option Name) (ks : List Name) → runs (same_owner labels) rest ≡ gs
-          → IsWalked d L a (map (as_zone_record labels) rest) o ks
-          → map (owner_at L a) ks ++ left_owners d a o (map (map (as_zone_record labels)) gs) ≡ owners_with_records d L a)
-          → (t : List (Record N (ZoneRecordData O N))) → runs (same_owner labels) t ≡ gs → HasFirst (λ s. s.owner ≡ r.owner) group → (g : ZoneRecord)
-          → IsFront (map (as_zone_record labels) (r ∷ rest)) g (map (as_zone_record labels) group) (map (as_zone_record labels) t) → g.owner ≡ labels r.owner
-          → map (owner_at L a) ks ++ left_owners d a o (map (as_zone_record labels) group ∷ map (map (as_zone_record labels)) gs) ≡ owners_with_records d L a
+      step : ((rest : List (Record N D)) (o : Option Name) (ks : List Name) → runs (same_owner labels) rest ≡ gs
+          → IsWalked d L a (map see rest) o ks
+          → map (owner_at L a) ks ++ left_owners d a o (map (map see) gs) ≡ owners_with_records d L a)
+          → (t : List (Record N D)) → runs (same_owner labels) t ≡ gs → HasFirst (λ s. s.owner ≡ r.owner) group → (g : ZoneRecord)
+          → IsFront (map see (r ∷ rest)) g (map see group) (map see t) → g.owner ≡ labels r.owner
+          → map (owner_at L a) ks ++ left_owners d a o (map see group ∷ map (map see) gs) ≡ owners_with_records d L a
       step ih t runs_t first g f at =
           elim (cases_Bool (is_at_or_below (labels r.owner) a)) [
             | inl zone ↦
                 elim (cases_Bool (is_under o (labels r.owner))) [
                   | inl under ↦
-                      ap (λ t. map (owner_at L a) ks ++ t) (left_passed labels d a o group r.owner (map (map (as_zone_record labels)) gs) first (λ i. not (zone i) || under i))
+                      ap (λ t. map (owner_at L a) ks ++ t) (left_passed labels rtype_of minimum_of d a o group r.owner (map (map see) gs) first (λ i. not (zone i) || under i))
                       ∙ ih t o ks runs_t
-                      (walk_under d L a (map (as_zone_record labels) (r ∷ rest)) o ks w g f.gs (map (as_zone_record labels) t) f.split f.group (ap (λ m. is_at_or_below m a) at ∙ zone) (ap (is_under o) at ∙ under))
+                      (walk_under d L a (map see (r ∷ rest)) o ks w g f.gs (map see t) f.split f.group (ap (λ m. is_at_or_below m a) at ∙ zone) (ap (is_under o) at ∙ under))
                   | inr over ↦
-                      let records_are : records_of L (labels r.owner) ≡ map (as_zone_record labels) group =
-                      ap (records_of L) (sym at) ∙ next_records d L a (map (as_zone_record labels) (r ∷ rest)) o ks w g f.gs (map (as_zone_record labels) t) f.split f.group ∙ sym f.are in
-                      let cut_is : is_zone_cut L a (labels r.owner) ≡ is_cut_group a (labels r.owner) (map (as_zone_record labels) group) =
+                      let records_are : records_of L (labels r.owner) ≡ map see group =
+                      ap (records_of L) (sym at) ∙ next_records d L a (map see (r ∷ rest)) o ks w g f.gs (map see t) f.split f.group ∙ sym f.are in
+                      let cut_is : is_zone_cut L a (labels r.owner) ≡ is_cut_group a (labels r.owner) (map see group) =
                       λ i. (zone i && not (same_name (labels r.owner) a)) && has_type (records_are i) ns in
-                      let occludes_is : occludes d L a (labels r.owner) ≡ (is_cut_group a (labels r.owner) (map (as_zone_record labels) group) || (d && has_type (map (as_zone_record labels) group) dname)) =
-                      (λ i. cut_is i || (d && zone i && has_type (records_are i) dname)) ∙ ap (λ b. is_cut_group a (labels r.owner) (map (as_zone_record labels) group) || b) (and_true d (has_type (map (as_zone_record labels) group) dname)) in
-                      let next : cond (occludes d L a g.owner) (Some g.owner) None ≡ occluder_from d a (labels r.owner) (map (as_zone_record labels) group) =
+                      let occludes_is : occludes d L a (labels r.owner) ≡ (is_cut_group a (labels r.owner) (map see group) || (d && has_type (map see group) dname)) =
+                      (λ i. cut_is i || (d && zone i && has_type (records_are i) dname)) ∙ ap (λ b. is_cut_group a (labels r.owner) (map see group) || b) (and_true d (has_type (map see group) dname)) in
+                      let next : cond (occludes d L a g.owner) (Some g.owner) None ≡ occluder_from d a (labels r.owner) (map see group) =
                       (λ i. cond (occludes d L a (at i)) (Some (at i)) None) ∙ (λ i. cond (occludes_is i) (Some (labels r.owner)) None) in
-                      let entry : record { name = labels r.owner; records = map (as_zone_record labels) group; is_zone_cut = is_cut_group a (labels r.owner) (map (as_zone_record labels) group) } ≡ owner_at L a (labels r.owner) =
+                      let entry : record { name = labels r.owner; records = map see group; is_zone_cut = is_cut_group a (labels r.owner) (map see group) } ≡ owner_at L a (labels r.owner) =
                       λ i. record { name = labels r.owner; records = sym records_are i; is_zone_cut = sym cut_is i } in
-                      let walked = walk_onto d L a (map (as_zone_record labels) (r ∷ rest)) o ks w g f.gs (map (as_zone_record labels) t) f.split f.group (ap (λ m. is_at_or_below m a) at ∙ zone) (ap (is_under o) at ∙ over) in
-                      let walked' = subst (λ m. IsWalked d L a (map (as_zone_record labels) t) (occluder_from d a (labels r.owner) (map (as_zone_record labels) group)) (ks ++ m ∷ [])) at
-                      (subst (λ c. IsWalked d L a (map (as_zone_record labels) t) c (ks ++ g.owner ∷ [])) next walked) in
-                      let later = left_owners d a (occluder_from d a (labels r.owner) (map (as_zone_record labels) group)) (map (map (as_zone_record labels)) gs) in
-                      ap (λ t. map (owner_at L a) ks ++ t) (left_given labels d a o group r.owner (map (map (as_zone_record labels)) gs) first (λ i. not (zone i) || over i))
+                      let walked = walk_onto d L a (map see (r ∷ rest)) o ks w g f.gs (map see t) f.split f.group (ap (λ m. is_at_or_below m a) at ∙ zone) (ap (is_under o) at ∙ over) in
+                      let walked' = subst (λ m. IsWalked d L a (map see t) (occluder_from d a (labels r.owner) (map see group)) (ks ++ m ∷ [])) at
+                      (subst (λ c. IsWalked d L a (map see t) c (ks ++ g.owner ∷ [])) next walked) in
+                      let later = left_owners d a (occluder_from d a (labels r.owner) (map see group)) (map (map see) gs) in
+                      ap (λ t. map (owner_at L a) ks ++ t) (left_given labels rtype_of minimum_of d a o group r.owner (map (map see) gs) first (λ i. not (zone i) || over i))
                       ∙ ap (λ e. map (owner_at L a) ks ++ e ∷ later) entry
                       ∙ sym (append_assoc (map (owner_at L a) ks) (owner_at L a (labels r.owner) ∷ []) later)
                       ∙ ap (λ t. t ++ later) (sym (map_more L a ks (labels r.owner)))
-                      ∙ ih t (occluder_from d a (labels r.owner) (map (as_zone_record labels) group)) (ks ++ labels r.owner ∷ []) runs_t walked'
+                      ∙ ih t (occluder_from d a (labels r.owner) (map see group)) (ks ++ labels r.owner ∷ []) runs_t walked'
                 ]
             | inr out ↦
-                ap (λ t. map (owner_at L a) ks ++ t) (left_passed labels d a o group r.owner (map (map (as_zone_record labels)) gs) first (λ i. not (out i) || is_under o (labels r.owner)))
+                ap (λ t. map (owner_at L a) ks ++ t) (left_passed labels rtype_of minimum_of d a o group r.owner (map (map see) gs) first (λ i. not (out i) || is_under o (labels r.owner)))
                 ∙ ih t o ks runs_t
-                (walk_outside d L a (map (as_zone_record labels) (r ∷ rest)) o ks w g f.gs (map (as_zone_record labels) t) f.split f.group (ap (λ m. is_at_or_below m a) at ∙ out))
+                (walk_outside d L a (map see (r ∷ rest)) o ks w g f.gs (map see t) f.split f.group (ap (λ m. is_at_or_below m a) at ∙ out))
           ]
         where
           and_true : (b c : Bool) → (b && true && c) ≡ (b && c)
@@ -194,16 +195,16 @@ module _ {O N : Type 0} (labels : N → Name) (d : Bool) (L : List ZoneRecord) (
           and_true false c = refl
 
 -- at first all are left
-pub left_first : {O N : Type 0} (labels : N → Name) (d : Bool) (a : Name) (rs : List (Record N (ZoneRecordData O N))) → IsInOrder labels rtype_of rs
-    → left_owners d a None (map (map (as_zone_record labels)) (runs (same_owner labels) rs)) ≡ owners_with_records d (map (as_zone_record labels) rs) a
-left_first labels d a rs h =
-    left_all labels d (map (as_zone_record labels) rs) a (runs (same_owner labels) rs) rs None [] refl (walk_start d (map (as_zone_record labels) rs) a (owners_in_order labels rs h))
+pub left_first : {N D : Type 0} (labels : N → Name) (rtype_of : D → ℕ) (minimum_of : D → Option ℕ) (d : Bool) (a : Name) (rs : List (Record N D)) → IsInOrder labels rtype_of rs
+    → left_owners d a None (map (map (as_zone_record labels rtype_of minimum_of)) (runs (same_owner labels) rs)) ≡ owners_with_records d (map (as_zone_record labels rtype_of minimum_of) rs) a
+left_first labels rtype_of minimum_of d a rs h =
+    left_all labels rtype_of minimum_of d (map (as_zone_record labels rtype_of minimum_of) rs) a (runs (same_owner labels) rs) rs None [] refl (walk_start d (map (as_zone_record labels rtype_of minimum_of) rs) a (owners_in_order labels rtype_of minimum_of rs h))
 
 -- at last none are
-pub left_none : {O N : Type 0} (labels : N → Name) (d : Bool) (a : Name) (o : Option Name) (rs : List (Record N (ZoneRecordData O N))) → rs ≡ []
-    → left_owners d a o (map (map (as_zone_record labels)) (runs (same_owner labels) rs)) ≡ []
+pub left_none : {N D : Type 0} (labels : N → Name) (rtype_of : D → ℕ) (minimum_of : D → Option ℕ) (d : Bool) (a : Name) (o : Option Name) (rs : List (Record N D)) → rs ≡ []
+    → left_owners d a o (map (map (as_zone_record labels rtype_of minimum_of)) (runs (same_owner labels) rs)) ≡ []
 unfolding runs
-left_none labels d a o rs e = ap (λ ts. left_owners d a o (map (map (as_zone_record labels)) (runs (same_owner labels) ts))) e
+left_none labels rtype_of minimum_of d a o rs e = ap (λ ts. left_owners d a o (map (map (as_zone_record labels rtype_of minimum_of)) (runs (same_owner labels) ts))) e
 
 -- the occluder after a group
 pub occluder_after : (d : Bool) (a n : Name) (G : List ZoneRecord) (cut owns : Bool) (o : Option Name) → cut ≡ is_cut_group a n G → owns ≡ has_type G dname

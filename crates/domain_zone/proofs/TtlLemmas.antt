@@ -1,10 +1,8 @@
 -- Where types never descend, two records of one type differ in TTL exactly where two neighbours do.
-use Rattle.std.proofs.Common.{◌≡◌, ◌≤◌, ℕ, Bool, true, false, not, ◌&&◌, ◌||◌, List, [], ◌∷◌, map, refl, sym, ap, ◌∙◌, inl, inr, arith, nat_eq}
+use Rattle.std.proofs.Common.{◌≡◌, ◌≤◌, ℕ, Bool, true, false, not, ◌&&◌, ◌||◌, List, [], ◌∷◌, map, refl, sym, ap, ◌∙◌, inl, inr, arith, nat_eq, Option}
 use Rattle.std.specs.List.{list_any, AllByRecursion}
 use Rattle.std.proofs.lemmas.Bool.{cases_Bool, false≢true, and_parts, or_parts, or_cases, eqb-true, eqb-false}
 use Rattle.domain_plain.specs.declared.record.Record.{Record}
-use Rattle.domain_rdata.specs.Zone.{rtype_of}
-use Rattle.domain_rdata.specs.declared.zone_record_data.ZoneRecordData.{ZoneRecordData}
 use Rattle.domain_records.specs.Order.{HoldsPairwise}
 use Rattle.domain_base.specs.Words.{Name}
 use Rattle.domain_zone.specs.View.{as_zone_record}
@@ -132,12 +130,15 @@ neighbours_tell rs order =
     ]
 
 -- records whose types never descend, as a zone sees them
-module _ {O N : Type 0} (labels : N → Name) where
-  seen_after : (r : Record N (ZoneRecordData O N)) (ss : List (Record N (ZoneRecordData O N))) → AllByRecursion (λ s. rtype_of r.«data» ≤ rtype_of s.«data») ss
-      → AllByRecursion (λ s. rtype_of r.«data» ≤ s.rtype) (map (as_zone_record labels) ss)
+module _ {N D : Type 0} (labels : N → Name) (rtype_of : D → ℕ) (minimum_of : D → Option ℕ) where
+  abbrev see : Record N D → ZoneRecord
+  see = as_zone_record labels rtype_of minimum_of
+
+  seen_after : (r : Record N D) (ss : List (Record N D)) → AllByRecursion (λ s. rtype_of r.«data» ≤ rtype_of s.«data») ss
+      → AllByRecursion (λ s. rtype_of r.«data» ≤ s.rtype) (map see ss)
   seen_after r [] h = tt
   seen_after r (s ∷ ss) h = (h.0, seen_after r ss h.1)
 
-  pub seen_never_descend : (rs : List (Record N (ZoneRecordData O N))) → HoldsPairwise (λ r s. rtype_of r.«data» ≤ rtype_of s.«data») rs → NeverDescend (map (as_zone_record labels) rs)
+  pub seen_never_descend : (rs : List (Record N D)) → HoldsPairwise (λ r s. rtype_of r.«data» ≤ rtype_of s.«data») rs → NeverDescend (map see rs)
   seen_never_descend [] h = tt
   seen_never_descend (r ∷ rs) h = (seen_after r rs h.0, seen_never_descend rs h.1)

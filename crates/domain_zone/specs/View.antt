@@ -1,28 +1,13 @@
 -- How records are seen as a zone.
-use Rattle.std.specs.Prelude.{ℕ, List, map, Option, Some, None}
+use Rattle.std.specs.Prelude.{ℕ, List, map, Option}
 use Rattle.domain_plain.specs.declared.record.Record.{Record}
-use Rattle.domain_rdata.specs.Zone.{rtype_of}
-use Rattle.domain_rdata.specs.declared.zone_record_data.ZoneRecordData.{ZoneRecordData}
-use Rattle.domain_rdata.specs.declared.zone_record_data.ZoneRecordData.TheVariants.{A, Ns, Soa, Mx, Dnskey, Ds, Rrsig, Nsec as NsecData, Nsec3, Nsec3param, Unknown}
 use Rattle.domain_base.specs.Words.{Name}
 use Rattle.domain_zone.specs.Zone.{ZoneRecord}
 
--- the MINIMUM field of an SOA
-abbrev pub minimum_of : {O N : Type 0} → ZoneRecordData O N → Option ℕ
-minimum_of (A d) = None
-minimum_of (Ns d) = None
-minimum_of (Soa d) = Some d.minimum
-minimum_of (Mx d) = None
-minimum_of (Dnskey d) = None
-minimum_of (Ds d) = None
-minimum_of (Rrsig d) = None
-minimum_of (NsecData d) = None
-minimum_of (Nsec3 d) = None
-minimum_of (Nsec3param d) = None
-minimum_of (Unknown d) = None
-
-abbrev pub as_zone_record : {O N : Type 0} → (N → Name) → Record N (ZoneRecordData O N) → ZoneRecord
-as_zone_record labels r =
+-- by how names are read, and by what data tell of their type and of the MINIMUM of an SOA
+abbrev pub as_zone_record : {N D : Type 0} → (N → Name) → (D → ℕ) → (D → Option ℕ) → Record N D
+    → ZoneRecord
+as_zone_record labels rtype_of minimum_of r =
     record {
       owner = labels r.owner;
       class = r.class;
@@ -32,6 +17,6 @@ as_zone_record labels r =
     }
 
 -- the zone that records are
-abbrev pub zone_of : {O N : Type 0} → (N → Name) → List (Record N (ZoneRecordData O N))
+abbrev pub zone_of : {N D : Type 0} → (N → Name) → (D → ℕ) → (D → Option ℕ) → List (Record N D)
     → List ZoneRecord
-zone_of labels = map (as_zone_record labels)
+zone_of labels rtype_of minimum_of = map (as_zone_record labels rtype_of minimum_of)

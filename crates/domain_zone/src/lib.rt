@@ -17,6 +17,6 @@ mod types;
 
 pub use hasher::{HasherError, Nsec3Hasher};
 pub use owners::{UnoccludedOwner, UnoccludedOwners};
-pub use soa::{ApexSoa, ZoneRr, find_soa};
+pub use soa::{ApexSoa, find_soa};
 pub use ttl::has_unequal_ttls;
 pub use types::{add_type, add_types};

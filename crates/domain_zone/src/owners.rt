@@ -5,19 +5,17 @@ ghost use Rattle.domain_zone.specs.View.{zone_of};
 ghost use Rattle.domain_zone.specs.Walk.{is_passed_over};
 ghost use Rattle.domain_zone.specs.Zone.{has_type};
 
-use crate::soa::ZoneRr;
 use domain_base::{Rtype, ToName};
-use domain_octets::Octets;
-use domain_rdata::ZoneRecordData;
+use domain_plain::{Record, ZoneData};
 use domain_records::{OwnerRrs, RecordsIter, SliceRefsOrOwnedIterator};
 use std::marker::Model;
 
 /// Whether some record is of this type.
-fn has_type<O: Octets, N: ToName>(
-    mut records: SliceRefsOrOwnedIterator<'_, ZoneRr<O, N>>,
+fn has_type<N: ToName, D: ZoneData>(
+    mut records: SliceRefsOrOwnedIterator<'_, Record<N, D>>,
     wanted: Rtype,
 ) -> bool
-    ensures { result ≡ has_type (zone_of N.labels records.entry) wanted }
+    ensures { result ≡ has_type (zone_of N.labels D.rtype D.minimum records.entry) wanted }
 {
     'records: while let Some(record) = records.next() {
         if record.rtype() == wanted {
@@ -43,11 +41,11 @@ fn is_passed_over<N: ToName>(apex: &N, occluder: Option<&N>, name: &N) -> bool
 
 /// An owner of a zone that is not occluded.
 #[derive(Drop)]
-pub struct UnoccludedOwner<'a, O: Octets, N: ToName> {
+pub struct UnoccludedOwner<'a, N: ToName, D> {
     /// The name, as its first record spells it.
     pub name: &'a N,
     /// Its records, in order.
-    pub records: OwnerRrs<'a, N, ZoneRecordData<O, N>>,
+    pub records: OwnerRrs<'a, N, D>,
     /// Whether it is strictly below the apex and owns an NS record.
     pub is_zone_cut: bool,
 }
@@ -56,14 +54,14 @@ pub struct UnoccludedOwner<'a, O: Octets, N: ToName> {
 /// records of all others are passed over. Takes no memory; contracts see the list of the owners
 /// that are left.
 #[derive(Drop)]
-pub struct UnoccludedOwners<'a, O: Octets, N: ToName> {
+pub struct UnoccludedOwners<'a, N: ToName, D: ZoneData> {
     apex: &'a N,
     below_dname: bool,
-    groups: RecordsIter<'a, N, ZoneRecordData<O, N>>,
+    groups: RecordsIter<'a, N, D>,
     occluder: Option<&'a N>,
 }
 
-impl<'a, O: Octets, N: ToName> Model for UnoccludedOwners<'a, O, N> {
+impl<'a, N: ToName, D: ZoneData> Model for UnoccludedOwners<'a, N, D> {
     ghost use Rattle.std.specs.Prelude.{List, map};
     ghost use Rattle.std.specs.Option.{option_map};
     ghost use Rattle.domain_records.specs.Groups.{same_owner};
@@ -76,25 +74,20 @@ impl<'a, O: Octets, N: ToName> Model for UnoccludedOwners<'a, O, N> {
 
     ghost view = { λ s. left_owners s.below_dname (N.labels s.apex.now)
         (option_map (λ o. N.labels o.now) s.occluder)
-        (map (zone_of N.labels) (runs (same_owner N.labels) s.groups)) };
+        (map (zone_of N.labels D.rtype D.minimum) (runs (same_owner N.labels) s.groups)) };
 }
 
-impl<'a, O: Octets, N: ToName> UnoccludedOwners<'a, O, N> {
-    ghost use Rattle.domain_rdata.specs.Zone.{rtype_of};
+impl<'a, N: ToName, D: ZoneData> UnoccludedOwners<'a, N, D> {
     ghost use Rattle.domain_records.specs.Order.{IsInOrder};
     ghost use Rattle.domain_zone.specs.Owners.{owners_with_records};
 
     /// Over the owners of records in order, at or below the apex and not strictly below a zone cut,
     /// nor, where `below_dname` says so, strictly below a name at or below the apex that owns a
     /// DNAME record.
-    pub fn new(
-        apex: &'a N,
-        records: RecordsIter<'a, N, ZoneRecordData<O, N>>,
-        below_dname: bool,
-    ) -> Self
-        requires { IsInOrder N.labels rtype_of records }
+    pub fn new(apex: &'a N, records: RecordsIter<'a, N, D>, below_dname: bool) -> Self
+        requires { IsInOrder N.labels D.rtype records }
         ensures { result ≡ owners_with_records below_dname
-            (zone_of N.labels records.entry) (N.labels apex.now) }
+            (zone_of N.labels D.rtype D.minimum records.entry) (N.labels apex.now) }
     {
         UnoccludedOwners {
             apex,
@@ -105,17 +98,17 @@ impl<'a, O: Octets, N: ToName> UnoccludedOwners<'a, O, N> {
     }
 }
 
-impl<'a, O: Octets, N: ToName> Iterator for UnoccludedOwners<'a, O, N> {
+impl<'a, N: ToName, D: ZoneData> Iterator for UnoccludedOwners<'a, N, D> {
     ghost use Rattle.std.specs.Iterator.{YieldsFirstBy, item_count};
     ghost use Rattle.domain_zone.specs.OwnerView.{as_owner_records};
 
-    type Item = UnoccludedOwner<'a, O, N>;
+    type Item = UnoccludedOwner<'a, N, D>;
 
-    ghost next_gives = { YieldsFirstBy (as_owner_records N.labels) (λ s. s) };
+    ghost next_gives = { YieldsFirstBy (as_owner_records N.labels D.rtype D.minimum) (λ s. s) };
 
     ghost remaining = { item_count (λ s. s) };
 
-    fn next(&mut self) -> Option<UnoccludedOwner<'a, O, N>> {
+    fn next(&mut self) -> Option<UnoccludedOwner<'a, N, D>> {
         'groups: while let Some(records) = self.groups.next() {
             let name = records.owner();
             if is_passed_over(self.apex, self.occluder, name) {

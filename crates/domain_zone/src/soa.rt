@@ -4,13 +4,8 @@ ghost use Rattle.domain_zone.specs.Soa.{chain_ttl, is_soa, soa_of};
 ghost use Rattle.domain_zone.specs.View.{as_zone_record, zone_of};
 
 use domain_base::{Class, Rtype, ToName, Ttl};
-use domain_octets::Octets;
-use domain_plain::Record;
-use domain_rdata::ZoneRecordData;
+use domain_plain::{Record, ZoneData};
 use domain_records::SliceRefsOrOwnedIterator;
-
-/// A record of a zone.
-pub type ZoneRr<O, N> = Record<N, ZoneRecordData<O, N>>;
 
 /// What the SOA record of an apex gives to a chain.
 #[derive(Clone, Copy, Debug, PartialEq, Eq)]
@@ -33,21 +28,23 @@ impl ApexSoa {
 }
 
 /// Whether the record is an SOA of the apex.
-fn is_soa_at<O: Octets, N: ToName>(apex: &N, candidate: &ZoneRr<O, N>) -> bool
-    ensures { result ≡ is_soa (N.labels apex.now) (as_zone_record N.labels candidate.now) }
+fn is_soa_at<N: ToName, D: ZoneData>(apex: &N, candidate: &Record<N, D>) -> bool
+    ensures { result ≡ is_soa (N.labels apex.now)
+        (as_zone_record N.labels D.rtype D.minimum candidate.now) }
 {
     candidate.rtype() == Rtype::SOA && candidate.owner().name_eq(apex)
 }
 
 /// What the SOA record of the apex gives to a chain; None where the apex does not own exactly one
-/// record of type SOA, or the data of that one is not the `Soa` variant. Takes no memory.
-pub fn find_soa<O: Octets, N: ToName>(
+/// record of type SOA, or the data of that one tell no MINIMUM. Takes no memory.
+pub fn find_soa<N: ToName, D: ZoneData>(
     apex: &N,
-    mut records: SliceRefsOrOwnedIterator<'_, ZoneRr<O, N>>,
+    mut records: SliceRefsOrOwnedIterator<'_, Record<N, D>>,
 ) -> Option<ApexSoa>
-    ensures { result ≡ soa_of (zone_of N.labels records.entry) (N.labels apex.now) }
+    ensures { result ≡ soa_of (zone_of N.labels D.rtype D.minimum records.entry)
+        (N.labels apex.now) }
 {
-    let mut found: Option<&ZoneRr<O, N>> = None;
+    let mut found: Option<&Record<N, D>> = None;
     'records: while let Some(record) = records.next() {
         if is_soa_at(apex, record) {
             if found.is_some() {
@@ -57,12 +54,10 @@ pub fn find_soa<O: Octets, N: ToName>(
         }
     }
     let record = found?;
-    let ZoneRecordData::Soa(soa) = record.data() else {
-        return None;
-    };
+    let minimum = record.data().soa_minimum()?;
     Some(ApexSoa {
         class: record.class(),
         ttl: record.ttl(),
-        minimum: soa.minimum(),
+        minimum,
     })
 }

@@ -1,19 +1,17 @@
 //! Unequal TTLs.
 ghost use Rattle.std.specs.Prelude.{◌≡◌, ◌≤◌, map};
-ghost use Rattle.domain_rdata.specs.Zone.{rtype_of};
 ghost use Rattle.domain_records.specs.Order.{HoldsPairwise};
 ghost use Rattle.domain_zone.specs.View.{as_zone_record, zone_of};
 ghost use Rattle.domain_zone.specs.Zone.{clashes, has_clash};
 
-use crate::soa::ZoneRr;
 use domain_base::{Rtype, ToName};
-use domain_octets::Octets;
+use domain_plain::{Record, ZoneData};
 use domain_records::SliceRefsOrOwnedIterator;
 
 /// Whether two records of one type other than RRSIG differ in their TTLs.
-fn clash<O: Octets, N: ToName>(first: &ZoneRr<O, N>, second: &ZoneRr<O, N>) -> bool
-    ensures { result
-        ≡ clashes (as_zone_record N.labels first.now) (as_zone_record N.labels second.now) }
+fn clash<N: ToName, D: ZoneData>(first: &Record<N, D>, second: &Record<N, D>) -> bool
+    ensures { result ≡ clashes (as_zone_record N.labels D.rtype D.minimum first.now)
+        (as_zone_record N.labels D.rtype D.minimum second.now) }
 {
     let rtype = first.rtype();
     rtype == second.rtype() && rtype != Rtype::RRSIG && first.ttl() != second.ttl()
@@ -21,11 +19,11 @@ fn clash<O: Octets, N: ToName>(first: &ZoneRr<O, N>, second: &ZoneRr<O, N>) -> b
 
 /// Whether two of these records, whose types never descend, are of one type other than RRSIG and
 /// differ in their TTLs (RFC 2181, section 5.2). Looks at neighbours alone.
-pub fn has_unequal_ttls<O: Octets, N: ToName>(
-    mut records: SliceRefsOrOwnedIterator<'_, ZoneRr<O, N>>,
+pub fn has_unequal_ttls<N: ToName, D: ZoneData>(
+    mut records: SliceRefsOrOwnedIterator<'_, Record<N, D>>,
 ) -> bool
-    requires { HoldsPairwise (λ r s. rtype_of r.«data» ≤ rtype_of s.«data») records }
-    ensures { result ≡ has_clash (zone_of N.labels records.entry) }
+    requires { HoldsPairwise (λ r s. D.rtype r.«data» ≤ D.rtype s.«data») records }
+    ensures { result ≡ has_clash (zone_of N.labels D.rtype D.minimum records.entry) }
 {
     let Some(first) = records.next() else {
         return false;

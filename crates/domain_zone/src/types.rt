@@ -4,10 +4,10 @@ ghost use Rattle.domain_bitmap.specs.Builder.{holds};
 ghost use Rattle.domain_zone.specs.View.{zone_of};
 ghost use Rattle.domain_zone.specs.Zone.{may_list, lists_type};
 
-use crate::soa::ZoneRr;
 use domain_base::{Rtype, ToName};
 use domain_bitmap::RtypeBitmapBuilder;
-use domain_octets::{GrowingBuilder, Octets, OutOfMemory};
+use domain_octets::{GrowingBuilder, OutOfMemory};
+use domain_plain::{Record, ZoneData};
 use domain_records::SliceRefsOrOwnedIterator;
 
 /// Whether a chain may list a type of an owner: at a zone cut those of NS and DS alone.
@@ -38,14 +38,14 @@ pub fn add_type<B: GrowingBuilder>(
 /// # Errors
 ///
 /// `OutOfMemory`; some types may then have been added.
-pub fn add_types<B: GrowingBuilder, O: Octets, N: ToName>(
+pub fn add_types<B: GrowingBuilder, N: ToName, D: ZoneData>(
     types: &mut RtypeBitmapBuilder<B>,
-    mut records: SliceRefsOrOwnedIterator<'_, ZoneRr<O, N>>,
+    mut records: SliceRefsOrOwnedIterator<'_, Record<N, D>>,
     at_cut: bool,
 ) -> Result<(), OutOfMemory>
     ensures { OnOk result ((t : ℕ) → t < 65536
         → holds types.new t ≡ (holds types.old t
-        || lists_type at_cut (zone_of N.labels records.entry) t)) }
+        || lists_type at_cut (zone_of N.labels D.rtype D.minimum records.entry) t)) }
 {
     'records: while let Some(record) = records.next() {
         if may_list(at_cut, record.rtype()) {

@@ -1,6 +1,6 @@
 //! A chain from records.
 ghost use Rattle.std.specs.Prelude.{IfOk};
-ghost use Rattle.domain_dnssec.specs.AnyOrder.{IsChainOf};
+ghost use Rattle.domain_dnssec.specs.ZoneRecords.{IsChainOf};
 ghost use Rattle.domain_dnssec.specs.ChainView.{links_of};
 
 use crate::zone::{ZoneName, ZoneRecord, records};

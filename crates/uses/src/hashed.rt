@@ -2,7 +2,7 @@
 ghost use Rattle.std.specs.Prelude.{nat_le, Err, IfOk, if◌then◌else◌};
 ghost use Rattle.domain_sha1.specs.Iterated.{sha1_answer};
 ghost use Rattle.domain_nsec3.specs.View.{as_param_record, config_of, hashed_links_of};
-ghost use Rattle.domain_dnssec.specs.AnyOrderNsec3.{IsHashedChainOf};
+ghost use Rattle.domain_dnssec.specs.ZoneRecords.{IsHashedChainOf};
 
 use crate::zone::{ZoneName, ZoneRecord, records};
 use domain_dnssec::{

@@ -1,5 +1,5 @@
 use Rattle.std.proofs.Common.{List, sym, subst}
-use Rattle.domain_dnssec.specs.AnyOrder.{Sorts}
+use Rattle.domain_dnssec.specs.ZoneRecords.{Sorts}
 use Rattle.denial.specs.Listing.{ProgramRecord}
 use Rattle.denial.proofs.answer.sort_zone.Goals as goal
 

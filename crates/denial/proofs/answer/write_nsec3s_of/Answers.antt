@@ -1,5 +1,5 @@
 use Rattle.std.proofs.Common.{List, sym, subst, inr}
-use Rattle.domain_dnssec.specs.AnyOrder.{Sorts}
+use Rattle.domain_dnssec.specs.ZoneRecords.{Sorts}
 use Rattle.denial.specs.Answer.{HasNoNsec3s, IsNsec3s, IsUnwritten}
 use Rattle.denial.specs.Listing.{ProgramRecord}
 use Rattle.denial.proofs.AnswerLemmas.{if_err_of, nsec3s_unwritten, on_ok}

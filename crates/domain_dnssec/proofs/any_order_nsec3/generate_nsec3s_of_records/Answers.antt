@@ -8,15 +8,15 @@ returns-clause-ok g c =
     let labels = g.N.ToName.labels in
     let config = config_of (g.H.Nsec3Hasher.answer c.args.hasher.now) c.args.config.now in
     let mode = c.args.config.now.nsec3param_ttl_mode in
-    if_ok (λ made. IsSortedHashedChain labels c.in-Ok.sorted (labels c.args.apex.now) config mode (hashed_links_of labels made.nsec3s.items) (as_param_record labels made.nsec3param))
-    (λ made. IsHashedChainOf g.O.Octets.octets labels c.args.records.items (labels c.args.apex.now) config mode (hashed_links_of labels made.nsec3s.items) (as_param_record labels made.nsec3param))
+    if_ok (λ made. IsSortedHashedChain labels g.D.RecordData.rtype g.D.ZoneData.minimum c.in-Ok.sorted (labels c.args.apex.now) config mode (hashed_links_of labels made.nsec3s.items) (as_param_record labels made.nsec3param))
+    (λ made. IsHashedChainOf labels g.D.RecordData.rtype g.D.ZoneData.minimum g.D.CanonicalOrd.canonical_cmp c.args.records.items (labels c.args.apex.now) config mode (hashed_links_of labels made.nsec3s.items) (as_param_record labels made.nsec3param))
     (λ made h. record { sorted = c.in-Ok.sorted; sorts = c.in-Ok.ensures; chain = h }) c.generate_nsec3s_of_sorted.result c.generate_nsec3s_of_sorted.ensures.ok
 
 pub returns-clause-err : goal.returns-clause-err
 returns-clause-err g c =
     let labels = g.N.ToName.labels in
     let config = config_of (g.H.Nsec3Hasher.answer c.args.hasher.now) c.args.config.now in
-    if_err (HasNoSortedHashedChain labels c.in-Ok.sorted (labels c.args.apex.now) config)
-    (HasNoHashedChain g.O.Octets.octets labels c.args.records.items (labels c.args.apex.now) config)
-    (no_hashed_chain_of g.O.Octets.octets labels c.args.records.items c.in-Ok.sorted (labels c.args.apex.now) config c.in-Ok.ensures)
+    if_err (HasNoSortedHashedChain labels g.D.RecordData.rtype g.D.ZoneData.minimum c.in-Ok.sorted (labels c.args.apex.now) config)
+    (HasNoHashedChain labels g.D.RecordData.rtype g.D.ZoneData.minimum g.D.CanonicalOrd.canonical_cmp c.args.records.items (labels c.args.apex.now) config)
+    (no_hashed_chain_of labels g.D.RecordData.rtype g.D.ZoneData.minimum g.D.CanonicalOrd.canonical_cmp c.args.records.items c.in-Ok.sorted (labels c.args.apex.now) config c.in-Ok.ensures)
     c.generate_nsec3s_of_sorted.result c.generate_nsec3s_of_sorted.ensures.err

@@ -20,17 +20,17 @@ use Rattle.domain_nsec3.proofs.nsec3.chain_of_zone.Goals as goal
 pub chain_of_owners-requires-clause-ascend : goal.chain_of_owners-requires-clause-ascend
 chain_of_owners-requires-clause-ascend g c =
     let labels = g.N.ToName.labels in
-    let L = zone_of labels c.args.records in
+    let L = zone_of labels g.D.RecordData.rtype g.D.ZoneData.minimum c.args.records in
     let a = labels c.args.apex.now in
     let answer = g.H.Nsec3Hasher.answer c.args.hasher.now in
     let config = config_of answer c.args.config.now in
     let names : c.in-Ok.owners.names.items ≡ original_owners L a config = sym (entries_names c.in-Ok.owners.names.items c.in-Ok.owners.types) ∙ (c.in-Ok.ensures.owners answer).names in
-    subst (IsStrictlySortedBy canonical_cmp) (sym names) (original_ascend L a config (owners_in_order labels c.args.records c.requires.in_order))
+    subst (IsStrictlySortedBy canonical_cmp) (sym names) (original_ascend L a config (owners_in_order labels g.D.RecordData.rtype g.D.ZoneData.minimum c.args.records c.requires.in_order))
 
 pub chain_of_owners-requires-clause-in_zone : goal.chain_of_owners-requires-clause-in_zone
 chain_of_owners-requires-clause-in_zone g c =
     let labels = g.N.ToName.labels in
-    let L = zone_of labels c.args.records in
+    let L = zone_of labels g.D.RecordData.rtype g.D.ZoneData.minimum c.args.records in
     let a = labels c.args.apex.now in
     let answer = g.H.Nsec3Hasher.answer c.args.hasher.now in
     let config = config_of answer c.args.config.now in
@@ -40,7 +40,7 @@ chain_of_owners-requires-clause-in_zone g c =
 pub chain_of_owners-requires-clause-begins : goal.chain_of_owners-requires-clause-begins
 chain_of_owners-requires-clause-begins g c =
     let labels = g.N.ToName.labels in
-    let L = zone_of labels c.args.records in
+    let L = zone_of labels g.D.RecordData.rtype g.D.ZoneData.minimum c.args.records in
     let a = labels c.args.apex.now in
     let answer = g.H.Nsec3Hasher.answer c.args.hasher.now in
     let config = config_of answer c.args.config.now in
@@ -51,7 +51,7 @@ chain_of_owners-requires-clause-begins g c =
 pub returns-in-Err-chain_of_owners-clause-fault : goal.returns-in-Err-chain_of_owners-clause-fault
 returns-in-Err-chain_of_owners-clause-fault g c =
     let labels = g.N.ToName.labels in
-    let L = zone_of labels c.args.records in
+    let L = zone_of labels g.D.RecordData.rtype g.D.ZoneData.minimum c.args.records in
     let a = labels c.args.apex.now in
     let answer = g.H.Nsec3Hasher.answer c.args.hasher.now in
     let config = config_of answer c.args.config.now in
@@ -63,14 +63,14 @@ returns-in-Err-chain_of_owners-clause-fault g c =
 pub returns-in-Ok-chain_of_owners-clause-chain : goal.returns-in-Ok-chain_of_owners-clause-chain
 returns-in-Ok-chain_of_owners-clause-chain g c =
     let labels = g.N.ToName.labels in
-    let L = zone_of labels c.args.records in
+    let L = zone_of labels g.D.RecordData.rtype g.D.ZoneData.minimum c.args.records in
     let answer = g.H.Nsec3Hasher.answer c.args.hasher.now in
     c.in-Ok-chain_of_owners.ensures.chain L c.args.soa.now c.requires.soa (c.in-Ok.ensures.owners answer)
 
 pub returns-in-Ok-chain_of_owners-clause-faultless : goal.returns-in-Ok-chain_of_owners-clause-faultless
 returns-in-Ok-chain_of_owners-clause-faultless g c =
     let labels = g.N.ToName.labels in
-    let L = zone_of labels c.args.records in
+    let L = zone_of labels g.D.RecordData.rtype g.D.ZoneData.minimum c.args.records in
     let a = labels c.args.apex.now in
     let answer = g.H.Nsec3Hasher.answer c.args.hasher.now in
     let config = config_of answer c.args.config.now in

@@ -6,7 +6,7 @@ use Rattle.domain_nsec3.proofs.types.owns_ds.Given as goal
 
 abbrev pub invariant-records : goal.invariant-records
 invariant-records g l =
-    let see = as_zone_record g.N.ToName.labels in
+    let see = as_zone_record g.N.ToName.labels g.D.RecordData.rtype g.D.ZoneData.minimum in
     has_type (map see l.fn.records) ds ≡ has_type (map see l.records) ds
 
 abbrev pub decreases-records : goal.decreases-records

@@ -5,7 +5,7 @@ use Rattle.domain_zone.proofs.owners.has_type.Given as goal
 
 abbrev pub invariant-records : goal.invariant-records
 invariant-records g l =
-    let see = as_zone_record g.N.ToName.labels in
+    let see = as_zone_record g.N.ToName.labels g.D.RecordData.rtype g.D.ZoneData.minimum in
     has_type (map see l.fn.records) l.wanted ≡ has_type (map see l.records) l.wanted
 
 abbrev pub decreases-records : goal.decreases-records

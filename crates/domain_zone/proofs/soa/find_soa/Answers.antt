@@ -7,7 +7,7 @@ use Rattle.domain_zone.proofs.soa.find_soa.Goals as goal
 pub records-preserved-then-is_soa_at : goal.records-preserved-then-is_soa_at
 records-preserved-then-is_soa_at g c =
     let labels = g.N.ToName.labels in
-    let see = as_zone_record labels in
+    let see = as_zone_record labels g.D.RecordData.rtype g.D.ZoneData.minimum in
     let found = option_map (λ r. see r.now) c.records.found in
     scan_soa (labels c.args.apex.now) (map see c.args.records) (see c.in-Some.record.now) (map see c.next.new.self) found
     (subst (λ xs. IsScanned (labels c.args.apex.now) (map see c.args.records) (map see xs) found) c.in-Some.ensures.steps c.records.invariant)
@@ -16,7 +16,7 @@ records-preserved-then-is_soa_at g c =
 pub records-preserved : goal.records-preserved
 records-preserved g c =
     let labels = g.N.ToName.labels in
-    let see = as_zone_record labels in
+    let see = as_zone_record labels g.D.RecordData.rtype g.D.ZoneData.minimum in
     let found = option_map (λ r. see r.now) c.records.found in
     scan_other (labels c.args.apex.now) (map see c.args.records) (see c.in-Some.record.now) (map see c.next.new.self) found
     (subst (λ xs. IsScanned (labels c.args.apex.now) (map see c.args.records) (map see xs) found) c.in-Some.ensures.steps c.records.invariant)
@@ -25,7 +25,7 @@ records-preserved g c =
 pub returns-then-is_some : goal.returns-then-is_some
 returns-then-is_some g c =
     let labels = g.N.ToName.labels in
-    let see = as_zone_record labels in
+    let see = as_zone_record labels g.D.RecordData.rtype g.D.ZoneData.minimum in
     let found = option_map (λ r. see r.now) c.records.found in
     sym (scan_second (labels c.args.apex.now) (map see c.args.records) (see c.in-Some.record.now) (map see c.next.new.self) found
     (subst (λ xs. IsScanned (labels c.args.apex.now) (map see c.args.records) (map see xs) found) c.in-Some.ensures.steps c.records.invariant)

@@ -6,18 +6,18 @@ use Rattle.domain_zone.proofs.ttl.has_unequal_ttls.Goals as goal
 pub returns-then-clash : goal.returns-then-clash
 returns-then-clash g c =
     let labels = g.N.ToName.labels in
-    let see = as_zone_record labels in
+    let see = as_zone_record labels g.D.RecordData.rtype g.D.ZoneData.minimum in
     let some : has_neighbour_clash (map see c.args.records) ≡ true =
     c.neighbours.invariant
     ∙ ap (λ rs. has_neighbour_clash (see c.neighbours.previous.now ∷ map see rs)) c.in-Some-next.ensures.steps
     ∙ (λ i. (sym c.clash.ensures ∙ c.if-clash.true) i || has_neighbour_clash (see c.in-Some-next.record.now ∷ map see c.next-in-neighbours.new.self)) in
-    sym some ∙ neighbours_tell (map see c.args.records) (seen_never_descend labels c.args.records c.requires)
+    sym some ∙ neighbours_tell (map see c.args.records) (seen_never_descend labels g.D.RecordData.rtype g.D.ZoneData.minimum c.args.records c.requires)
 
 pub returns : goal.returns
 returns g c =
     let labels = g.N.ToName.labels in
-    let see = as_zone_record labels in
+    let see = as_zone_record labels g.D.RecordData.rtype g.D.ZoneData.minimum in
     let none : has_neighbour_clash (map see c.args.records) ≡ false =
     c.neighbours.invariant
     ∙ ap (λ rs. has_neighbour_clash (see c.neighbours.previous.now ∷ map see rs)) c.in_default-next.ensures.steps.0 in
-    sym none ∙ neighbours_tell (map see c.args.records) (seen_never_descend labels c.args.records c.requires)
+    sym none ∙ neighbours_tell (map see c.args.records) (seen_never_descend labels g.D.RecordData.rtype g.D.ZoneData.minimum c.args.records c.requires)

@@ -5,7 +5,7 @@ use Rattle.domain_zone.proofs.ttl.has_unequal_ttls.Given as goal
 
 abbrev pub invariant-neighbours : goal.invariant-neighbours
 invariant-neighbours g l =
-    let see = as_zone_record g.N.ToName.labels in
+    let see = as_zone_record g.N.ToName.labels g.D.RecordData.rtype g.D.ZoneData.minimum in
     has_neighbour_clash (map see l.fn.records) ≡ has_neighbour_clash (map see (l.previous ∷ l.records))
 
 abbrev pub decreases-neighbours : goal.decreases-neighbours

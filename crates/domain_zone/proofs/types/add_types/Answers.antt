@@ -7,7 +7,7 @@ use Rattle.domain_zone.proofs.types.add_types.Goals as goal
 
 pub records-preserved-in-Continue-1 : goal.records-preserved-in-Continue-1
 records-preserved-in-Continue-1 g c =
-    let see = as_zone_record g.N.ToName.labels in
+    let see = as_zone_record g.N.ToName.labels g.D.RecordData.rtype g.D.ZoneData.minimum in
     list_more c.args.types.now c.args.at_cut (map see c.args.records) (see c.in-Some.record.now) (map see c.next.new.self) c.records.types
     (subst (λ xs. Lists c.args.types.now c.args.at_cut (map see c.args.records) (map see xs) c.records.types) c.in-Some.ensures.steps c.records.invariant)
     c.add_type.new.types
@@ -16,7 +16,7 @@ records-preserved-in-Continue-1 g c =
 
 pub records-preserved : goal.records-preserved
 records-preserved g c =
-    let see = as_zone_record g.N.ToName.labels in
+    let see = as_zone_record g.N.ToName.labels g.D.RecordData.rtype g.D.ZoneData.minimum in
     list_not c.args.types.now c.args.at_cut (map see c.args.records) (see c.in-Some.record.now) (map see c.next.new.self) c.records.types
     (subst (λ xs. Lists c.args.types.now c.args.at_cut (map see c.args.records) (map see xs) c.records.types) c.in-Some.ensures.steps c.records.invariant)
     (subst (λ n. may_list c.args.at_cut n ≡ false) c.rtype.ensures (sym c.may_list.ensures ∙ c.if-may_list.false))

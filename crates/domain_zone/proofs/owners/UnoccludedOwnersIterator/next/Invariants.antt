@@ -11,7 +11,7 @@ invariant-groups g l =
     let labels = g.N.ToName.labels in
     l.fn.self
     ≡ left_owners l.self-inside.below_dname (labels l.self-inside.apex.now) (option_map (λ o. labels o.now) l.self-inside.occluder)
-    (map (map (as_zone_record labels)) (runs (same_owner labels) l.self-inside.groups))
+    (map (map (as_zone_record labels g.D.RecordData.rtype g.D.ZoneData.minimum)) (runs (same_owner labels) l.self-inside.groups))
 
 abbrev pub decreases-groups : goal.decreases-groups
 decreases-groups g l = length l.self-inside.groups

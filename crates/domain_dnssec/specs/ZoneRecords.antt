@@ -1,0 +1,38 @@
+-- The definitions of `AnyOrder` and `AnyOrderNsec3` for records whose data are `ZoneRecordData`.
+use Rattle.std.specs.Prelude.{List}
+use Rattle.domain_octets.specs.Words.{Octets}
+use Rattle.domain_base.specs.Words.{Name}
+use Rattle.domain_plain.specs.declared.record.Record.{Record}
+use Rattle.domain_rdata.specs.Zone.{data_cmp, minimum_of, rtype_of}
+use Rattle.domain_rdata.specs.declared.zone_record_data.ZoneRecordData.{ZoneRecordData}
+use Rattle.domain_nsec.specs.Chain.{Link}
+use Rattle.domain_nsec.specs.declared.config.GenerateNsecConfig.{GenerateNsecConfig}
+use Rattle.domain_nsec3.specs.Chain.{HashedLink, ParamRecord}
+use Rattle.domain_nsec3.specs.Config.{ChainConfig}
+use Rattle.domain_nsec3.specs.declared.config.Nsec3ParamTtlMode.{Nsec3ParamTtlMode}
+use Rattle.domain_dnssec.specs.AnyOrder as any_order
+use Rattle.domain_dnssec.specs.AnyOrderNsec3 as any_order_nsec3
+use Rattle.domain_dnssec.specs.declared.chain.ChainError.{ChainError}
+
+module _ {O N : Type 0} (octets : O → Octets) (labels : N → Name) where
+  abbrev pub Sorts : List (Record N (ZoneRecordData O N)) → List (Record N (ZoneRecordData O N))
+      → Type 0
+  Sorts = any_order.Sorts labels rtype_of (data_cmp octets labels)
+
+  abbrev pub IsChainOf : List (Record N (ZoneRecordData O N)) → Name → GenerateNsecConfig
+      → List Link → Type 0
+  IsChainOf = any_order.IsChainOf labels rtype_of minimum_of (data_cmp octets labels)
+
+  abbrev pub HasNoChain : List (Record N (ZoneRecordData O N)) → Name → GenerateNsecConfig
+      → ChainError → Type 0
+  HasNoChain = any_order.HasNoChain labels rtype_of minimum_of (data_cmp octets labels)
+
+  abbrev pub IsHashedChainOf : List (Record N (ZoneRecordData O N)) → Name → ChainConfig
+      → Nsec3ParamTtlMode → List HashedLink → ParamRecord → Type 0
+  IsHashedChainOf =
+      any_order_nsec3.IsHashedChainOf labels rtype_of minimum_of (data_cmp octets labels)
+
+  abbrev pub HasNoHashedChain : List (Record N (ZoneRecordData O N)) → Name → ChainConfig
+      → ChainError → Type 0
+  HasNoHashedChain =
+      any_order_nsec3.HasNoHashedChain labels rtype_of minimum_of (data_cmp octets labels)
