@@ -14,12 +14,15 @@ use Rattle.domain_rdata.specs.declared.zone_record_data.ZoneRecordData.TheVarian
 use Rattle.domain_records.specs.declared.error.Nsec3HashError.TheVariants.{Hasher}
 use Rattle.domain_records.specs.declared.error.SigningError.{SigningError}
 use Rattle.domain_records.specs.declared.error.SigningError.TheVariants.{Nsec3HashingError}
+use Rattle.domain_nsec.specs.Chain.{Link}
 use Rattle.domain_nsec.specs.ChainView.{links_of}
 use Rattle.domain_nsec3.specs.Chain.{HashedLink}
 use Rattle.domain_nsec3.specs.Config.{Hash}
 use Rattle.domain_nsec3.specs.View.{Answer as HasherAnswer, hash_by, hashed_links_of, parameters_of}
 use Rattle.domain_checker.specs.Verdict.{HasProof, IsProved}
+use Rattle.domain_checker.specs.Reading.{reading}
 use Rattle.domain_checker.specs.HashedVerdict.{HasHashedProof, IsFirstRefusal, IsHashedProved}
+use Rattle.domain_checker.specs.HashedReading.{IsWalked}
 use Rattle.domain_checker.specs.declared.verdict.Verdict.{Verdict}
 use Rattle.domain_checker.specs.declared.verdict.Verdict.TheVariants as verdicts
 use Rattle.denial_program.specs.Listing.{ProgramRecord}
@@ -106,25 +109,33 @@ nsec3s_among = flat_map nsec3_of
 abbrev pub params_at : Name → List ProgramRecord → List ParamRecord
 params_at apex = flat_map (param_of apex)
 
+-- the links of the NSEC records among these; of the NSEC3 records
+abbrev pub links_among : List ProgramRecord → List Link
+links_among given = links_of (λ n. n) (nsecs_among given)
+
+abbrev pub hashed_links_among : List ProgramRecord → List HashedLink
+hashed_links_among given = hashed_links_of (λ n. n) (nsec3s_among given)
+
 -- the answer is what the NSEC records prove of the question: what is proved of any zone of whose
--- chain they are, and, from any records, nothing without a proof
+-- chain they are, and, from any records, what the first match says, or else the first cover, and
+-- nothing without a proof
 pub record IsNsecVerdict (given : List ProgramRecord) (q : Question) (answer : Answer)
     : Type 0 where
   pub verdict : Verdict
   pub is : answer ≡ answers.Verdict q.name verdict
-  pub zone : IsProved (links_of (λ n. n) (nsecs_among given)) q.apex q.name q.rtype verdict
+  pub outside : is_at_or_below q.name q.apex ≡ false → verdict ≡ verdicts.OutsideZone
+  pub zone : IsProved (links_among given) q.apex q.name q.rtype verdict
+  pub exact : verdict ≡ reading q.apex (links_among given) q.name q.rtype
   pub proof : is_at_or_below q.name q.apex ≡ true → verdict ≢ verdicts.NotProven
-      → HasProof (links_of (λ n. n) (nsecs_among given)) q.apex q.name
-
-abbrev pub hashed_links_among : List ProgramRecord → List HashedLink
-hashed_links_among given = hashed_links_of (λ n. n) (nsec3s_among given)
+      → HasProof (links_among given) q.apex q.name
 
 -- a hasher with the parameters of a record
 abbrev pub hash_with : HasherAnswer → ParamRecord → Hash
 hash_with hashes param = hash_by hashes (parameters_of param.«data»)
 
 -- the apex has one NSEC3PARAM record, and the answer is what the NSEC3 records prove of the
--- question with its parameters
+-- question with its parameters: of any zone of whose chain they are, and, from any records, what
+-- they say on the way from the name to the apex
 pub record IsNsec3Verdict (hashes : HasherAnswer) (given : List ProgramRecord) (q : Question)
     (answer : Answer) : Type 0 where
   pub param : ParamRecord
@@ -133,6 +144,9 @@ pub record IsNsec3Verdict (hashes : HasherAnswer) (given : List ProgramRecord) (
   pub is : answer ≡ answers.Verdict q.name verdict
   pub outside : is_at_or_below q.name q.apex ≡ false → verdict ≡ verdicts.OutsideZone
   pub zone : IsHashedProved (hashed_links_among given) q.apex (parameters_of param.«data»)
+      (hash_with hashes param) q.name q.rtype verdict
+  pub exact : is_at_or_below q.name q.apex ≡ true
+      → IsWalked (hashed_links_among given) q.apex (parameters_of param.«data»)
       (hash_with hashes param) q.name q.rtype verdict
   pub proof : is_at_or_below q.name q.apex ≡ true → verdict ≢ verdicts.NotProven
       → HasHashedProof (hashed_links_among given) q.apex (parameters_of param.«data»)

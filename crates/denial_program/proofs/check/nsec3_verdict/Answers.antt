@@ -1,6 +1,7 @@
 use Rattle.std.proofs.Common.{◌≡◌, false, true, refl, sym, subst, IfOk, Err}
 use Rattle.domain_base.specs.Name.{is_at_or_below}
 use Rattle.domain_nsec3.specs.View.{hashed_links_of, parameters_of}
+use Rattle.domain_checker.specs.HashedReading.{IsWalked}
 use Rattle.domain_checker.specs.HashedVerdict.{HasHashedProof, IsFirstRefusal, IsHashedProved}
 use Rattle.domain_checker.specs.declared.verdict.Verdict.TheVariants.{OutsideZone}
 use Rattle.domain_records.specs.declared.error.SigningError.TheVariants.{Nsec3HashingError}
@@ -20,6 +21,8 @@ returns-in-Ok-clause-ok g c =
     let name = c.in_ok-stored_name.stored_name in
     let same_apex : apex ≡ q.apex = c.in_ok-stored_apex.ensures in
     let same_name : name ≡ q.name = c.in_ok-stored_name.ensures in
+    let stored_below : is_at_or_below q.name q.apex ≡ true → is_at_or_below name apex ≡ true =
+    λ low. subst (λ n. is_at_or_below n apex ≡ true) (sym same_name) (subst (λ a. is_at_or_below q.name a ≡ true) (sym same_apex) low) in
     record {
       param = param;
       single = chain.0;
@@ -29,10 +32,14 @@ returns-in-Ok-clause-ok g c =
       zone = subst (λ rs. IsHashedProved (hashed_links_of (λ n. n) rs) q.apex p hash q.name q.rtype verdict) chain.1
           (subst (λ n. IsHashedProved (hashed_links_of (λ n. n) c.in_ok-chain.chain.nsec3s.items) q.apex p hash n q.rtype verdict) same_name
           (subst (λ a. IsHashedProved (hashed_links_of (λ n. n) c.in_ok-chain.chain.nsec3s.items) a p hash name q.rtype verdict) same_apex c.in-Ok.ensures.zone));
+      exact = λ low. subst (λ rs. IsWalked (hashed_links_of (λ n. n) rs) q.apex p hash q.name q.rtype verdict) chain.1
+          (subst (λ n. IsWalked (hashed_links_of (λ n. n) c.in_ok-chain.chain.nsec3s.items) q.apex p hash n q.rtype verdict) same_name
+          (subst (λ a. IsWalked (hashed_links_of (λ n. n) c.in_ok-chain.chain.nsec3s.items) a p hash name q.rtype verdict) same_apex
+          (c.in-Ok.ensures.exact (stored_below low))));
       proof = λ low some. subst (λ rs. HasHashedProof (hashed_links_of (λ n. n) rs) q.apex p hash q.name) chain.1
           (subst (λ n. HasHashedProof (hashed_links_of (λ n. n) c.in_ok-chain.chain.nsec3s.items) q.apex p hash n) same_name
           (subst (λ a. HasHashedProof (hashed_links_of (λ n. n) c.in_ok-chain.chain.nsec3s.items) a p hash name) same_apex
-          (c.in-Ok.ensures.proof (subst (λ n. is_at_or_below n apex ≡ true) (sym same_name) (subst (λ a. is_at_or_below q.name a ≡ true) (sym same_apex) low)) some)));
+          (c.in-Ok.ensures.proof (stored_below low) some)));
     }
 
 pub returns : goal.returns
