@@ -1,5 +1,5 @@
 //! Why a run stops.
-ghost use Rattle.std.specs.Prelude.{◌≡◌, ◌⊎◌, Some};
+ghost use Rattle.std.specs.Prelude.{◌≡◌, ◌⊎◌, ◌↔◌, Some};
 ghost use Rattle.std.specs.IoError.{error_kind};
 ghost use Rattle.denial_program.specs.Answer.{fault_of_chain};
 ghost use Rattle.denial_program.specs.Fault.{exit_status};
@@ -70,7 +70,8 @@ const USAGE: &str = "usage: denial nsec APEX | denial nsec3 APEX ITERATIONS SALT
 /// An error of a device is that device's fault, unless it is want of memory.
 pub fn fault_of(error: &io::Error, fault: DenialFault) -> DenialFault
     ensures either { (result ≡ fault) ⊎ (result ≡ denial_fault.OutOfMemory) }
-    ensures memory { error_kind error.now ≡ ErrorKind.OutOfMemory → result ≡ denial_fault.OutOfMemory }
+    ensures memory { (result ≡ denial_fault.OutOfMemory)
+        ↔ ((error_kind error.now ≡ ErrorKind.OutOfMemory) ⊎ (fault ≡ denial_fault.OutOfMemory)) }
 {
     if error.kind() == ErrorKind::OutOfMemory {
         DenialFault::OutOfMemory
