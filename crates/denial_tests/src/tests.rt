@@ -7,11 +7,13 @@ use std::io;
 use std::io::{BufRead, BufReader, ErrorKind, Read, Write};
 use std::test::Fail;
 
-/// Gives at most 7 octets a read, and fails once at the read after the first `good` ones.
+/// Gives at most 7 octets a read, and fails once, for this reason, at the read after the first
+/// `good` ones.
 #[derive(Drop)]
 struct FailingReader<'a> {
     octets: &'a [u8],
     good: usize,
+    reason: ErrorKind,
     has_failed: bool,
 }
 
@@ -19,7 +21,7 @@ impl Read for FailingReader<'_> {
     fn read(&mut self, buf: &mut [u8]) -> io::Result<usize> {
         if self.good == 0 && !self.has_failed {
             self.has_failed = true;
-            return Err(io::Error::from(ErrorKind::Other));
+            return Err(io::Error::from(self.reason));
         }
         self.good = self.good.saturating_sub(1);
         let n = buf.len().min(7);
@@ -27,10 +29,12 @@ impl Read for FailingReader<'_> {
     }
 }
 
-/// Takes at most 11 octets a write, and fails at the write after the first `good` ones.
+/// Takes at most 11 octets a write, and fails at the write after the first `good` ones, or only
+/// once it is told to hand them on.
 #[derive(Drop)]
 struct FailingWriter {
     good: usize,
+    hands_on: bool,
     held: Vec<u8>,
 }
 
@@ -45,7 +49,7 @@ impl Write for FailingWriter {
     }
 
     fn flush(&mut self) -> io::Result<()> {
-        if self.good == 0 {
+        if self.good == 0 || !self.hands_on {
             return Err(io::Error::from(ErrorKind::Other));
         }
         Ok(())
@@ -99,6 +103,23 @@ fn split(alloc: Global, text: &str) -> Result<Vec<String>, AllocError> {
         words.push(String::from_str(alloc, word)?)?;
     }
     Ok(words)
+}
+
+/// The answer of a run over the words and a text.
+fn answer_into<W: Write>(
+    alloc: Global,
+    words: &str,
+    input: &str,
+    output: &mut W,
+) -> Result<Result<(), DenialFault>, AllocError> {
+    let words = split(alloc, words)?;
+    Ok(run_denial(
+        alloc,
+        words.as_slice(),
+        &Sha1Hasher,
+        &mut input.as_bytes(),
+        output,
+    ))
 }
 
 /// What a run over the words writes, or what it says of its fault.
@@ -228,6 +249,14 @@ some_a.a. 1800 IN NSEC a. A RRSIG NSEC
 ~check nsec a. b. A|a. 1800 IN NSEC some_a.a. SOA RRSIG NSEC DNSKEY
 some_a.a. 1800 IN NSEC a. A RRSIG NSEC
 |outside zone
+~check nsec a. b. A|x. 60 IN NSEC y. A
+|outside zone
+~check nsec a. a. A|a. 60 IN NSEC b.a. A RRSIG NSEC
+a. 60 IN NSEC b.a. MX RRSIG NSEC
+|has
+~check nsec a. a. A|a. 60 IN NSEC b.a. MX RRSIG NSEC
+a. 60 IN NSEC b.a. A RRSIG NSEC
+|no type
 ~check nsec a. b.a. A|a. 1800 IN NSEC y.b.a. SOA RRSIG NSEC DNSKEY
 y.b.a. 1800 IN NSEC c.a. A RRSIG NSEC
 c.a. 1800 IN NSEC a. NS RRSIG NSEC
@@ -261,6 +290,10 @@ some_a.a. 1800 IN NSEC a. A RRSIG NSEC
 2vptu5timamqttgl4luu9kg21e0aor3s.example. 1800 IN NSEC3 1 0 12 AABBCCDD JI6NEOAEPV8B5O6K4EV33ABHA8HT9FGC MX RRSIG
 ji6neoaepv8b5o6k4ev33abha8ht9fgc.example. 1800 IN NSEC3 1 0 12 AABBCCDD K8UDEMVP1J2F7EG6JEBPS17VP3N8I58H
 k8udemvp1j2f7eg6jebps17vp3n8i58h.example. 1800 IN NSEC3 1 0 12 AABBCCDD 0P9MHAVEQVM6T7VBL5LOP2U3T2RP3TOM
+example. 3600 IN NSEC3PARAM 1 0 12 AABBCCDD
+|has
+~check nsec3 example. example. A|0p9mhaveqvm6t7vbl5lop2u3t2rp3tom.example. 60 IN NSEC3 1 0 12 AABBCCDD 2VPTU5TIMAMQTTGL4LUU9KG21E0AOR3S A RRSIG
+0p9mhaveqvm6t7vbl5lop2u3t2rp3tom.example. 60 IN NSEC3 1 0 12 AABBCCDD 2VPTU5TIMAMQTTGL4LUU9KG21E0AOR3S MX RRSIG
 example. 3600 IN NSEC3PARAM 1 0 12 AABBCCDD
 |has
 ~check nsec3 example. w.example. A|0p9mhaveqvm6t7vbl5lop2u3t2rp3tom.example. 1800 IN NSEC3 1 0 12 AABBCCDD 2VPTU5TIMAMQTTGL4LUU9KG21E0AOR3S SOA RRSIG DNSKEY NSEC3PARAM
@@ -335,21 +368,50 @@ fn answers(rt: HostRuntime) -> Result<(), Fail> {
     Ok(())
 }
 
+/// What a run says of a text whose reader fails once, for this reason, after so many reads.
+fn outcome_of_failing(
+    alloc: Global,
+    words: &str,
+    text: &str,
+    good: usize,
+    reason: ErrorKind,
+) -> Result<String, Fail> {
+    let reader = FailingReader {
+        octets: text.as_bytes(),
+        good,
+        reason,
+        has_failed: false,
+    };
+    let mut input = BufReader::with_capacity(alloc, 8, reader)?;
+    outcome(alloc, words, &mut input)
+}
+
+const BAD: &str = "a. 3600 IN SOA b. c. 1 2 3 4 1800\nbad\nx.a. 300 IN A 192.0.2.1";
+
+// A read that is interrupted is done again, also after a bad line.
+#[test]
+fn interrupted_reads(rt: HostRuntime) -> Result<(), Fail> {
+    let alloc = rt.alloc();
+    for good in 0..16 {
+        let said = outcome_of_failing(alloc, "nsec a.", SMALL, good, ErrorKind::Interrupted)?;
+        assert!(rt; said.as_str() == SMALL_CHAIN, "after {good}: {said}");
+        let said = outcome_of_failing(alloc, "nsec a.", BAD, good, ErrorKind::Interrupted)?;
+        assert!(rt;
+            said.as_str() == "denial: line 2: bad record",
+            "after {good}: {said}"
+        );
+    }
+    Ok(())
+}
+
 // A read that fails is told as such, also where it comes after a bad line, and nothing is written.
 #[test]
 fn failing_reads(rt: HostRuntime) -> Result<(), Fail> {
     let alloc = rt.alloc();
-    let text = "a. 3600 IN SOA b. c. 1 2 3 4 1800\nbad\nx.a. 300 IN A 192.0.2.1";
     for good in 0..32 {
         let words = if good < 16 { "nsec a." } else { "nsec3 a. 0 -" };
         let good = good % 16;
-        let reader = FailingReader {
-            octets: text.as_bytes(),
-            good,
-            has_failed: false,
-        };
-        let mut input = BufReader::with_capacity(alloc, 8, reader)?;
-        let said = outcome(alloc, words, &mut input)?;
+        let said = outcome_of_failing(alloc, words, BAD, good, ErrorKind::Other)?;
         // The text takes nine reads, and the end of the input one or two more.
         let is_read = said.as_str() == "denial: cannot read input";
         let is_line = said.as_str() == "denial: line 2: bad record";
@@ -364,20 +426,14 @@ fn failing_reads(rt: HostRuntime) -> Result<(), Fail> {
 fn failing_writes(rt: HostRuntime) -> Result<(), Fail> {
     let alloc = rt.alloc();
     for (words, input, chain) in SMALL_RUNS {
-        let words = split(alloc, words)?;
         let mut refused = 0;
         for good in 0..300 {
             let mut output = FailingWriter {
                 good,
+                hands_on: true,
                 held: Vec::new(alloc),
             };
-            let answer = run_denial(
-                alloc,
-                words.as_slice(),
-                &Sha1Hasher,
-                &mut input.as_bytes(),
-                &mut output,
-            );
+            let answer = answer_into(alloc, words, input, &mut output)?;
             let is_whole = output.held.as_slice() == chain.as_bytes();
             assert!(rt; chain.as_bytes().starts_with(output.held.as_slice()));
             if answer == Err(DenialFault::Write) {
@@ -389,6 +445,34 @@ fn failing_writes(rt: HostRuntime) -> Result<(), Fail> {
         // The octets go out in pieces, at most 11 octets each.
         assert!(rt; refused >= chain.len() / 11 && refused < 300);
     }
+    Ok(())
+}
+
+// A writer that takes all of the chain and cannot hand it on has failed.
+#[test]
+fn failing_flushes(rt: HostRuntime) -> Result<(), Fail> {
+    let alloc = rt.alloc();
+    for (words, input, chain) in SMALL_RUNS {
+        let mut output = FailingWriter {
+            good: usize::MAX,
+            hands_on: false,
+            held: Vec::new(alloc),
+        };
+        let answer = answer_into(alloc, words, input, &mut output)?;
+        assert!(rt; answer == Err(DenialFault::Write), "{answer:?}");
+        assert!(rt; output.held.as_slice() == chain.as_bytes());
+    }
+    Ok(())
+}
+
+// Lines are read and counted past 16 bits, before a bad one and after it.
+#[test]
+fn many_lines(rt: HostRuntime) -> Result<(), Fail> {
+    let alloc = rt.alloc();
+    let lines = ";\n".repeat(alloc, 70_000)?;
+    let text = format!(in alloc; "{lines}bad\n{lines}")?;
+    let said = outcome(alloc, "nsec a.", &mut text.as_bytes())?;
+    assert!(rt; said.as_str() == "denial: line 70001: bad record", "{said}");
     Ok(())
 }
 
@@ -432,18 +516,10 @@ fn deep_empty_nonterminals(rt: HostRuntime) -> Result<(), Fail> {
 fn short_of_memory(rt: HostRuntime) {
     let alloc = rt.alloc();
     for (words, input, chain) in SMALL_RUNS {
-        let Ok(words) = split(alloc, words) else {
+        let mut output = Vec::new(alloc);
+        let Ok(answer) = answer_into(alloc, words, input, &mut output) else {
             return;
         };
-        let mut input = input.as_bytes();
-        let mut output = Vec::new(alloc);
-        let answer = run_denial(
-            alloc,
-            words.as_slice(),
-            &Sha1Hasher,
-            &mut input,
-            &mut output,
-        );
         if answer != Err(DenialFault::OutOfMemory) {
             assert_eq!(rt; answer, Ok(()));
             assert!(rt; output.as_slice() == chain.as_bytes());
