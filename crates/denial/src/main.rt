@@ -2,25 +2,12 @@
 //! the chain that denies what the zone does not hold; or reads records of such a chain, and prints
 //! what they prove of a name and a type.
 //!
-//! The work is done by `run_denial`, which is generic over its reader, its writer and its hasher.
-//! `main` hands in those of the process.
+//! The work is done by `run_denial` of `denial_program`, which is generic over its reader, its
+//! writer and its hasher. `main` hands in those of the process.
 #![tactic(auto)]
 
-mod answer;
-mod arena;
-mod check;
-mod command;
-mod fault;
-mod last_owner;
-mod line;
-mod program;
-#[cfg(test)]
-mod tests;
-mod verdict_text;
-
+use denial_program::{DenialFault, run_denial};
 use domain_sha1::Sha1Hasher;
-use fault::DenialFault;
-use program::run_denial;
 use std::alloc::Global;
 use std::io::{BufReader, BufWriter, ErrorKind};
 use std::process::ExitCode;

@@ -1,5 +1,0 @@
-use Rattle.denial.proofs.WordLemmas.{plain_is_text}
-use Rattle.denial.proofs.line.text_of.Goals as goal
-
-pub from_utf8_unchecked-requires : goal.from_utf8_unchecked-requires
-from_utf8_unchecked-requires c = plain_is_text c.args.word.now c.requires

@@ -1,5 +1,0 @@
-use Rattle.denial.proofs.Reading.{Follows}
-use Rattle.denial.proofs.program.read_records.Given as goal
-
-abbrev pub invariant-loop-number : goal.invariant-loop-number
-invariant-loop-number g l = Follows (g.R.Read.remaining l.fn.input) (g.R.Read.remaining l.input) l.records.items l.number

@@ -1,5 +1,0 @@
-use Rattle.denial.proofs.Reading.{StaysKnown}
-use Rattle.denial.proofs.program.skip_all.Given as goal
-
-abbrev pub invariant-loop : goal.invariant-loop
-invariant-loop g l = StaysKnown (g.R.Read.remaining l.fn.input) (g.R.Read.remaining l.input)

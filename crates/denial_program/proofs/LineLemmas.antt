@@ -1,0 +1,120 @@
+-- The record that tokens spell, part after part, and tokens that spell none.
+use Rattle.std.proofs.Common.{◌≡◌, ◌≢◌, ◌↔◌, ℕ, Bool, false, IsTrue, List, [], ◌∷◌, refl, ap, sym, ◌∙◌, subst, None}
+use Rattle.domain_base.specs.Text.{NameText}
+use Rattle.domain_base.specs.Scan.{ScanFault, IsOfTokens, scan_fault_of, TakesToken, RefusesToken, ended, refused, IsNumber, IsNoNumber, NameTextFault}
+use Rattle.domain_base.specs.Numbers.{ClassText, IsNoClass, TypeText, IsNoType, type_names}
+use Rattle.domain_base.specs.declared.error.ScanError.{ScanError}
+use Rattle.domain_base.specs.declared.error.ScanError.TheVariants as scan_error
+use Rattle.domain_base.proofs.NamedLemmas.{one_named}
+use Rattle.domain_base.proofs.RefusalLemmas.{token_excludes, name_excludes}
+use Rattle.domain_plain.specs.declared.record.Record.{Record}
+use Rattle.domain_rdata.specs.Scan.{RdataText}
+use Rattle.domain_rdata.specs.declared.zone_record_data.ZoneRecordData.{ZoneRecordData}
+use Rattle.domain_rdata.proofs.ScanLemmas.{text_once}
+use Rattle.denial_program.specs.Listing.{ProgramRecord}
+use Rattle.denial_program.specs.Said.{line_error_of, SpellsNoName, SpellsNone}
+use Rattle.denial_program.specs.Words.{LineText}
+use Rattle.denial_program.specs.declared.line.LineError.{LineError}
+use Rattle.denial_program.specs.declared.line.LineError.TheVariants.{Bad, OutOfMemory}
+
+pub none_left : (ts : List (List ℕ)) (b : Bool) → (IsTrue b ↔ (ts ≢ [])) → b ≡ false → ts ≡ []
+none_left [] b h e = refl
+none_left (t ∷ ts) b h e = absurd (let w = h.1 (λ p. cc) in cc)
+
+pub line_text : {O N : Type 0} (octets : O → List ℕ) (labels : N → List (List ℕ)) (ws1 ws2 ws3 ws4 ws5 ws6 : List (List ℕ)) (owner : N) (class ttl rtype : ℕ) (d : ZoneRecordData O N) (r : Record N (ZoneRecordData O N))
+    → TakesToken (λ t. NameText t (labels owner)) ws1 ws2
+    → TakesToken (λ t. IsNumber 32 t ttl) ws2 ws3
+    → TakesToken (λ t. ClassText t class) ws3 ws4
+    → TakesToken (λ t. TypeText t rtype) ws4 ws5
+    → RdataText octets labels rtype ws5 d ws6 → ws6 ≡ []
+    → r ≡ record { owner = owner; class = class; ttl = ttl; «data» = d }
+    → LineText octets labels ws1 r
+line_text octets labels ws1 ws2 ws3 ws4 ws5 ws6 owner class ttl rtype d r o t c k h e same = subst (LineText octets labels ws1) (sym same) (record {
+  owner_word = o.token;
+  ttl_word = t.token;
+  class_word = c.token;
+  type_word = k.token;
+  data_words = ws5;
+  rtype = rtype;
+  are = o.first ∙ ap (λ ws. o.token ∷ ws) (t.first ∙ ap (λ ws. t.token ∷ ws) (c.first ∙ ap (λ ws. c.token ∷ ws) k.first));
+  owner = o.holds;
+  ttl = t.holds;
+  class = c.holds;
+  type = k.holds;
+  rdata = subst (λ ws. RdataText octets labels rtype ws5 d ws) e h;
+})
+
+-- a token that is refused spells no value
+refused_spells : (Why : ScanFault → List ℕ → Type 0) (P : List ℕ → Type 0) (old new after : List (List ℕ)) (fault : ScanFault)
+    → ((token : List ℕ) → Why fault token → P token → ⊥) → RefusesToken Why old new fault → TakesToken P old after → ⊥
+refused_spells Why P old new after fault apart ended takes = let e = takes.first in cc
+refused_spells Why P old new after fault apart (refused token left why_fault why) takes =
+    let same : token ≡ takes.token = (let e = takes.first in cc) in
+    apart takes.token (subst (Why fault) same why) takes.holds
+
+-- a line that spells a record, whose tokens were read so far
+module _ {O N : Type 0} (octets : O → List ℕ) (labels : N → List (List ℕ)) (ws1 ws2 ws3 ws4 ws5 : List (List ℕ)) (r : Record N (ZoneRecordData O N)) (line : LineText octets labels ws1 r) where
+  module _ {P1 : List ℕ → Type 0} (first : TakesToken P1 ws1 ws2) where
+    after_owner : ws2 ≡ line.ttl_word ∷ line.class_word ∷ line.type_word ∷ line.data_words
+    after_owner = let e = first.first in let f = line.are in cc
+
+    pub no_ttl : (new : List (List ℕ)) (fault : ScanFault) → RefusesToken (IsNoNumber 32) ws2 new fault → ⊥
+    no_ttl new fault why =
+        refused_spells (IsNoNumber 32) (λ t. IsNumber 32 t r.ttl) ws2 new (line.class_word ∷ line.type_word ∷ line.data_words) fault (λ token no yes. no.none r.ttl yes) why
+        (record { token = line.ttl_word; first = after_owner; holds = line.ttl })
+
+    module _ {P2 : List ℕ → Type 0} (second : TakesToken P2 ws2 ws3) where
+      after_ttl : ws3 ≡ line.class_word ∷ line.type_word ∷ line.data_words
+      after_ttl = let e = second.first in let f = after_owner in cc
+
+      pub no_class : (new : List (List ℕ)) (fault : ScanFault) → RefusesToken IsNoClass ws3 new fault → ⊥
+      no_class new fault why =
+          refused_spells IsNoClass (λ t. ClassText t r.class) ws3 new (line.type_word ∷ line.data_words) fault (λ token no yes. no.none r.class yes) why
+          (record { token = line.class_word; first = after_ttl; holds = line.class })
+
+      module _ {P3 : List ℕ → Type 0} (third : TakesToken P3 ws3 ws4) where
+        after_class : ws4 ≡ line.type_word ∷ line.data_words
+        after_class = let e = third.first in let f = after_ttl in cc
+
+        pub no_type : (new : List (List ℕ)) (fault : ScanFault) → RefusesToken IsNoType ws4 new fault → ⊥
+        no_type new fault why =
+            refused_spells IsNoType (λ t. TypeText t line.rtype) ws4 new line.data_words fault (λ token no yes. no.none line.rtype yes) why
+            (record { token = line.type_word; first = after_class; holds = line.type })
+
+        -- the data that the line spells stand in the tokens that are left, under the type that was read
+        module _ (rtype : ℕ) (fourth : TakesToken (λ t. TypeText t rtype) ws4 ws5) where
+          data_left : RdataText octets labels rtype ws5 r.«data» []
+          data_left =
+              let word : fourth.token ≡ line.type_word = (let e = fourth.first in let f = after_class in cc) in
+              let left : line.data_words ≡ ws5 = (let e = fourth.first in let f = after_class in cc) in
+              let same : line.rtype ≡ rtype = one_named type_names _ line.type_word line.rtype rtype line.type (subst (λ t. TypeText t rtype) word fourth.holds) in
+              subst (λ t. RdataText octets labels t ws5 r.«data» []) same (subst (λ ws. RdataText octets labels line.rtype ws r.«data» []) left line.rdata)
+
+          pub no_data : ((d : ZoneRecordData O N) (after : List (List ℕ)) → RdataText octets labels rtype ws5 d after → ⊥) → ⊥
+          no_data none = none r.«data» [] data_left
+
+          pub no_more : (d : ZoneRecordData O N) (ws6 : List (List ℕ)) → RdataText octets labels rtype ws5 d ws6 → ws6 ≢ [] → ⊥
+          no_more d ws6 is more = more ((text_once octets labels rtype ws5 ws6 [] d r.«data» is data_left).0)
+
+pub spells_none : (ws : List (List ℕ)) (e : LineError) → (e ≡ Bad → (r : ProgramRecord) → LineText (λ o. o) (λ n. n) ws r → ⊥) → SpellsNone ws e
+spells_none ws Bad h = h refl
+spells_none ws OutOfMemory h = tt
+
+-- words are bad only where the refusal was no want of memory
+pub known_if_bad : (s : ScanError) (e : LineError) → e ≡ line_error_of s → e ≡ Bad → IsOfTokens None (scan_fault_of s)
+known_if_bad scan_error.EndOfEntry e made bad = tt
+known_if_bad (scan_error.Custom text) e made bad = tt
+known_if_bad scan_error.ShortBuf e made bad = refl
+known_if_bad scan_error.OutOfMemory e made bad = cc
+
+-- words whose first spells no name spell no record
+pub no_owner : (ws : List (List ℕ)) (e : LineError) → SpellsNoName ws e → SpellsNone ws e
+no_owner ws Bad none = λ r line. none r.owner (line.ttl_word ∷ line.class_word ∷ line.type_word ∷ line.data_words)
+    (record { token = line.owner_word; first = line.are; holds = line.owner })
+no_owner ws OutOfMemory none = tt
+
+-- a first word that was refused spells no name
+pub no_name : (ws new : List (List ℕ)) (s : ScanError) (e : LineError) → e ≡ line_error_of s → RefusesToken (NameTextFault None) ws new (scan_fault_of s) → SpellsNoName ws e
+no_name ws new s Bad made why = λ name after takes.
+    token_excludes NameText (NameTextFault None) None (name_excludes None) ws new after name (scan_fault_of s) why takes (known_if_bad s Bad made refl)
+no_name ws new s OutOfMemory made why = tt

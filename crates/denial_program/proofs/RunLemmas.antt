@@ -1,0 +1,64 @@
+-- What a run writes, piece after piece.
+use Rattle.std.proofs.Common.{◌≡◌, ℕ, ◌+◌, ◌<◌, List, [], ◌∷◌, ◌++◌, codes, length, take, get_or, ap, ◌∙◌, Some, None, Option, append_assoc}
+use Rattle.std.proofs.lemmas.Grind.{flat_map-append}
+use Rattle.std.proofs.lemmas.List.{append-nil, take_more}
+use Rattle.std.specs.Fmt.{decimal}
+use Rattle.std.specs.Io.KnownBytes.{Appends}
+use Rattle.domain_octets.specs.Words.{Octets}
+use Rattle.domain_base.specs.Text.{name_text}
+use Rattle.domain_base.specs.Types.{nsec, nsec3, nsec3param}
+use Rattle.domain_base.specs.Numbers.{class_text, type_text}
+use Rattle.domain_bitmap.specs.Blocks.{types_of}
+use Rattle.domain_bitmap.specs.Text.{types_text}
+use Rattle.domain_chain_rdata.specs.Nsec3Text.{nsec3_text}
+use Rattle.domain_chain_rdata.specs.Nsec3paramText.{nsec3param_text}
+use Rattle.domain_chain_rdata.specs.Rdata.{nsec3_values, nsec3param_values}
+use Rattle.domain_base.specs.Words.{Name}
+use Rattle.domain_chain_rdata.specs.declared.nsec.Nsec.{Nsec}
+use Rattle.domain_chain_rdata.specs.declared.nsec3.Nsec3.{Nsec3}
+use Rattle.domain_plain.specs.declared.record.Record.{Record}
+use Rattle.domain_nsec.specs.ChainView.{as_link}
+use Rattle.domain_nsec3.specs.View.{as_hashed_link}
+use Rattle.denial_program.specs.Check.{ParamRecord}
+use Rattle.denial_program.specs.Text.{lines_of, nsec_line, nsec3_line, nsec3param_line}
+
+pub appends_more : (a b c : Option Octets) (t u : Octets) → Appends a b t → Appends b c u → Appends a c (t ++ u)
+appends_more None b c t u h k = tt
+appends_more (Some x) None c t u h k = absurd h
+appends_more (Some x) (Some y) None t u h k = absurd k
+appends_more (Some x) (Some y) (Some z) t u h k = k ∙ ap (λ l. l ++ u) h ∙ append_assoc x t u
+
+-- the parts of a line in the grouping in which they are written
+parts_of_line : (owner ttl class kind text : Octets)
+    → (owner ++ codes ".") ++ (codes " " ++ (ttl ++ (codes " " ++ (class ++ (codes " " ++ (kind ++ (codes " " ++ text)))))))
+    ≡ (owner ++ codes ".") ++ codes " " ++ ttl ++ codes " " ++ class ++ codes " " ++ kind ++ codes " " ++ text
+parts_of_line owner ttl class kind text = simp append_assoc
+
+-- a record that is a link is printed as the link's line, with the end of the line
+pub nsec_printed : {O : Type 0} (r : Record Name (Nsec O Name))
+    → (name_text r.owner ++ codes ".") ++ (codes " " ++ (decimal r.ttl ++ (codes " " ++ (class_text r.class ++ (codes " " ++ (type_text nsec ++ (codes " " ++ ((name_text r.«data».next_name ++ codes ". ") ++ types_text (types_of r.«data».types))))))))) ++ codes "\n"
+    ≡ nsec_line (as_link (λ n. n) r) ++ codes "\n"
+nsec_printed r =
+    ap (λ t. t ++ codes "\n")
+    (parts_of_line (name_text r.owner) (decimal r.ttl) (class_text r.class) (type_text nsec) ((name_text r.«data».next_name ++ codes ". ") ++ types_text (types_of r.«data».types)))
+
+-- so is that of a link of hashes
+pub nsec3_printed : {O : Type 0} (r : Record Name (Nsec3 O))
+    → (name_text r.owner ++ codes ".") ++ (codes " " ++ (decimal r.ttl ++ (codes " " ++ (class_text r.class ++ (codes " " ++ (type_text nsec3 ++ (codes " " ++ nsec3_text (nsec3_values r.«data»)))))))) ++ codes "\n"
+    ≡ nsec3_line (as_hashed_link (λ n. n) r) ++ codes "\n"
+nsec3_printed r =
+    ap (λ t. t ++ codes "\n") (parts_of_line (name_text r.owner) (decimal r.ttl) (class_text r.class) (type_text nsec3) (nsec3_text (nsec3_values r.«data»)))
+
+-- one more line
+pub lines_more : {T : Type 0} (text : T → Octets) (items : List T) (i : ℕ) (d : T) → i < length items → lines_of text (take (i + 1) items) ≡ lines_of text (take i items) ++ (text (get_or items i d) ++ codes "\n")
+lines_more text items i d l =
+    ap (lines_of text) (take_more items i d l)
+    ∙ flat_map-append (λ item. text item ++ codes "\n") (take i items) (get_or items i d ∷ [])
+    ∙ ap (λ t. lines_of text (take i items) ++ t) (append-nil (text (get_or items i d) ++ codes "\n"))
+
+-- and the record of its parameters, with the end of the line
+pub param_printed : (r : ParamRecord)
+    → (name_text r.owner ++ codes ".") ++ (codes " " ++ (decimal r.ttl ++ (codes " " ++ (class_text r.class ++ (codes " " ++ (type_text nsec3param ++ (codes " " ++ nsec3param_text (nsec3param_values r.«data»)))))))) ++ codes "\n"
+    ≡ nsec3param_line r ++ codes "\n"
+param_printed r =
+    ap (λ t. t ++ codes "\n") (parts_of_line (name_text r.owner) (decimal r.ttl) (class_text r.class) (type_text nsec3param) (nsec3param_text (nsec3param_values r.«data»)))

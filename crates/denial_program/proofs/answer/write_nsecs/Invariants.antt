@@ -1,0 +1,7 @@
+use Rattle.std.proofs.Common.{take}
+use Rattle.std.specs.Io.KnownBytes.{Appends}
+use Rattle.denial_program.specs.Text.{lines_of, nsec_line}
+use Rattle.denial_program.proofs.answer.write_nsecs.Given as goal
+
+abbrev pub invariant-loop-place : goal.invariant-loop-place
+invariant-loop-place g l = Appends (g.W.Write.contents l.fn.output) (g.W.Write.contents l.output) (lines_of nsec_line (take l.place l.chain))

@@ -1,0 +1,112 @@
+-- The answer to a command over the records that were read, in whatever order they came.
+use Rattle.std.specs.Prelude.{◌≡◌, ◌⊎◌, true, false, List, Option}
+use Rattle.std.specs.Io.KnownBytes.{Appends}
+use Rattle.domain_octets.specs.Words.{Octets}
+use Rattle.domain_base.specs.Words.{Name, Tokens}
+use Rattle.domain_nsec.specs.Chain.{Link, usual_config}
+use Rattle.domain_nsec3.specs.Config.{ChainConfig}
+use Rattle.domain_nsec3.specs.View.{Answer as HasherAnswer, as_param_record, hash_by, parameters_of}
+use Rattle.domain_nsec3.specs.declared.config.Nsec3ParamTtlMode.TheVariants.{Soa}
+use Rattle.domain_nsec3.specs.declared.nsec3.HashedNsec3s.{HashedNsec3s}
+use Rattle.domain_dnssec.specs.ZoneRecords.{IsChainOf, HasNoChain, IsHashedChainOf, HasNoHashedChain}
+use Rattle.domain_dnssec.specs.declared.chain.ChainError.{ChainError}
+use Rattle.domain_dnssec.specs.declared.chain.ChainError.TheVariants as chain_error
+use Rattle.denial_program.specs.Check.{HasNoNsec3Verdict, IsNsec3Verdict, IsNsecVerdict}
+use Rattle.denial_program.specs.Command.{Asks, Params}
+use Rattle.denial_program.specs.Listing.{Give, ProgramRecord}
+use Rattle.denial_program.specs.Text.{answer_text}
+use Rattle.denial_program.specs.declared.answer.Answer.{Answer}
+use Rattle.denial_program.specs.declared.answer.Answer.TheVariants.{Nsecs, Nsec3s}
+use Rattle.denial_program.specs.declared.command.Command.{Command}
+use Rattle.denial_program.specs.declared.command.Command.TheVariants.{Nsec, Nsec3, CheckNsec, CheckNsec3}
+use Rattle.denial_program.specs.declared.fault.DenialFault.{DenialFault}
+use Rattle.denial_program.specs.declared.fault.DenialFault.TheVariants.{MixedClasses, Signing, Write, OutOfMemory}
+
+-- what the program says where there is no chain
+abbrev pub fault_of_chain : ChainError → DenialFault
+fault_of_chain chain_error.MixedClasses = MixedClasses
+fault_of_chain (chain_error.Signing e) = Signing e
+fault_of_chain chain_error.OutOfMemory = OutOfMemory
+
+-- the answer is the NSEC chain of the records, as `GenerateNsecConfig::new` has it
+pub record IsNsecs (given : List ProgramRecord) (apex : Name) (answer : Answer) : Type 0 where
+  pub links : List Link
+  pub is : answer ≡ Nsecs links
+  pub chain : IsChainOf (λ o. o) (λ n. n) given apex usual_config links
+
+-- there is none, for this reason
+pub record HasNoNsecs (given : List ProgramRecord) (apex : Name) (fault : DenialFault)
+    : Type 0 where
+  pub error : ChainError
+  pub is : fault ≡ fault_of_chain error
+  pub none : HasNoChain (λ o. o) (λ n. n) given apex usual_config error
+
+-- how the program makes an NSEC3 chain with these parameters: as `GenerateNsec3Config::new` has it
+abbrev pub usual_nsec3_config : HasherAnswer → Params → ChainConfig
+usual_nsec3_config answer p =
+    record {
+      hash = hash_by answer (parameters_of p);
+      parameters = parameters_of p;
+      flags = p.flags;
+      exclude_unsigned = true;
+      assume_dnskeys_will_be_added = true;
+      occlude_below_dname = false;
+    }
+
+-- the answer is the NSEC3 chain of the records by this hasher, and its NSEC3PARAM record
+pub record IsNsec3s (answers : HasherAnswer) (given : List ProgramRecord) (apex : Name) (p : Params)
+    (answer : Answer) : Type 0 where
+  pub made : HashedNsec3s Name Octets
+  pub is : answer ≡ Nsec3s made
+  pub chain : IsHashedChainOf (λ o. o) (λ n. n) given apex (usual_nsec3_config answers p) Soa
+      made.chain (as_param_record (λ n. n) made.nsec3param)
+
+-- there is none, for this reason
+pub record HasNoNsec3s (answers : HasherAnswer) (given : List ProgramRecord) (apex : Name)
+    (p : Params) (fault : DenialFault) : Type 0 where
+  pub error : ChainError
+  pub is : fault ≡ fault_of_chain error
+  pub none : HasNoHashedChain (λ o. o) (λ n. n) given apex (usual_nsec3_config answers p)
+      error
+
+abbrev pub IsAnswer : HasherAnswer → Command → List ProgramRecord → Answer → Type 0
+IsAnswer answers (Nsec apex) given answer = IsNsecs given apex answer
+IsAnswer answers (Nsec3 apex p) given answer = IsNsec3s answers given apex p answer
+IsAnswer answers (CheckNsec q) given answer = IsNsecVerdict given q answer
+IsAnswer answers (CheckNsec3 q) given answer = IsNsec3Verdict answers given q answer
+
+-- the text of an answer that is such has been appended
+pub record IsWritten (is_such : Answer → Type 0) (old new : Option Octets) : Type 0 where
+  pub answer : Answer
+  pub is : is_such answer
+  pub appends : Appends old new (answer_text answer)
+
+-- there is such an answer, and the device failed, or there is none for this reason
+abbrev pub IsUnwritten : (Answer → Type 0) → (DenialFault → Type 0) → DenialFault → Type 0
+IsUnwritten is_such has_none fault =
+    ((fault ≡ Write) × ((answer : Answer) × is_such answer)) ⊎ has_none fault
+
+-- why there is no answer
+abbrev pub HasNoAnswer : HasherAnswer → Command → List ProgramRecord → DenialFault → Type 0
+HasNoAnswer answers (Nsec apex) given fault = HasNoNsecs given apex fault
+HasNoAnswer answers (Nsec3 apex p) given fault = HasNoNsec3s answers given apex p fault
+HasNoAnswer answers (CheckNsec q) given fault = fault ≡ OutOfMemory
+HasNoAnswer answers (CheckNsec3 q) given fault = HasNoNsec3Verdict answers given q fault
+
+-- the words are a command, the lines give records, and this is its answer over them
+pub record Answers (answers : HasherAnswer) (words : Tokens) (lines : List Octets) (answer : Answer)
+    : Type 0 where
+  pub command : Command
+  pub given : List ProgramRecord
+  pub asks : Asks words command
+  pub gives : Give (λ o. o) (λ n. n) lines given
+  pub is : IsAnswer answers command given answer
+
+-- it has none over them, for this reason
+pub record GivesNoAnswer (answers : HasherAnswer) (words : Tokens) (lines : List Octets)
+    (fault : DenialFault) : Type 0 where
+  pub command : Command
+  pub given : List ProgramRecord
+  pub asks : Asks words command
+  pub gives : Give (λ o. o) (λ n. n) lines given
+  pub none : HasNoAnswer answers command given fault

@@ -1,0 +1,72 @@
+-- What the words after the program's name ask for.
+use Rattle.std.specs.Prelude.{◌≡◌, ℕ, [], ◌∷◌, codes}
+use Rattle.domain_octets.specs.Words.{Octets}
+use Rattle.domain_base.specs.Numbers.{TypeText}
+use Rattle.domain_base.specs.Scan.{IsNumber}
+use Rattle.domain_base.specs.Text.{NameText}
+use Rattle.domain_base.specs.Words.{Name, Token, Tokens}
+use Rattle.domain_bitmap.specs.HashText.{SaltText}
+use Rattle.domain_chain_rdata.specs.declared.nsec3param.Nsec3param.{Nsec3param}
+use Rattle.denial_program.specs.declared.command.Command.{Command}
+use Rattle.denial_program.specs.declared.command.Command.TheVariants.{Nsec, Nsec3, CheckNsec, CheckNsec3}
+use Rattle.denial_program.specs.declared.command.Question.{Question}
+
+-- the parameters of an NSEC3 chain; the octets of the salt are held in a vector
+abbrev pub Params : Type 0
+Params = Nsec3param Octets
+
+-- the words ask for the NSEC chain of the zone with this apex
+pub record AsksForNsec (words : Tokens) (apex : Name) : Type 0 where
+  pub word : Token
+  pub are : words ≡ codes "nsec" ∷ word ∷ []
+  pub names : NameText word apex
+
+-- a last word asks for the flag of opt-out (RFC 5155, section 3.1.2.1); without one there is none
+abbrev pub FlagsText : Tokens → ℕ → Type 0
+FlagsText [] flags = flags ≡ 0
+FlagsText (word ∷ []) flags = (word ≡ codes "optout") × (flags ≡ 1)
+FlagsText (word ∷ other ∷ more) flags = ⊥
+
+-- SHA-1, with iterations and a salt as in the text of an NSEC3PARAM record (RFC 5155, sections 4.3
+-- and 11), and with the flags that a last word asks for
+pub record Spell (iterations_word salt_word : Token) (last : Tokens) (p : Params) : Type 0 where
+  pub algorithm : p.hash_algorithm ≡ 1
+  pub iterations : IsNumber 16 iterations_word p.iterations
+  pub salt : SaltText salt_word p.salt
+  pub flags : FlagsText last p.flags
+
+-- the words ask for the NSEC3 chain of the zone with this apex, with these parameters
+pub record AsksForNsec3 (words : Tokens) (apex : Name) (p : Params) : Type 0 where
+  pub apex_word : Token
+  pub iterations_word : Token
+  pub salt_word : Token
+  pub last : Tokens
+  pub are : words ≡ codes "nsec3" ∷ apex_word ∷ iterations_word ∷ salt_word ∷ last
+  pub names : NameText apex_word apex
+  pub parameters : Spell iterations_word salt_word last p
+
+-- the words spell an apex, a name and a type
+pub record SpellQuestion (apex_word name_word type_word : Token) (q : Question) : Type 0 where
+  pub apex : NameText apex_word q.apex
+  pub name : NameText name_word q.name
+  pub rtype : TypeText type_word q.rtype
+
+-- the words ask what records of this kind prove of the question
+pub record AsksToCheck (kind : Token) (words : Tokens) (q : Question) : Type 0 where
+  pub apex_word : Token
+  pub name_word : Token
+  pub type_word : Token
+  pub are : words ≡ codes "check" ∷ kind ∷ apex_word ∷ name_word ∷ type_word ∷ []
+  pub question : SpellQuestion apex_word name_word type_word q
+
+abbrev pub Asks : Tokens → Command → Type 0
+Asks words (Nsec apex) = AsksForNsec words apex
+Asks words (Nsec3 apex p) = AsksForNsec3 words apex p
+Asks words (CheckNsec q) = AsksToCheck (codes "nsec") words q
+Asks words (CheckNsec3 q) = AsksToCheck (codes "nsec3") words q
+
+abbrev pub IsCommand : Tokens → Type 0
+IsCommand words = (command : Command) × Asks words command
+
+abbrev pub IsNoCommand : Tokens → Type 0
+IsNoCommand words = (command : Command) → Asks words command → ⊥

@@ -1,0 +1,65 @@
+-- The text of an answer.
+use Rattle.std.specs.Prelude.{ℕ, List, ◌++◌, codes}
+use Rattle.std.specs.List.{flat_map}
+use Rattle.std.specs.Fmt.{decimal}
+use Rattle.domain_octets.specs.Words.{Octets}
+use Rattle.domain_base.specs.Text.{name_text}
+use Rattle.domain_base.specs.Numbers.{class_text, type_text}
+use Rattle.domain_base.specs.Types.{nsec, nsec3, nsec3param}
+use Rattle.domain_base.specs.Words.{Name}
+use Rattle.domain_bitmap.specs.Blocks.{types_of}
+use Rattle.domain_bitmap.specs.Text.{types_text}
+use Rattle.domain_plain.specs.declared.record.Record.{Record}
+use Rattle.domain_chain_rdata.specs.Nsec3Text.{nsec3_text}
+use Rattle.domain_chain_rdata.specs.Nsec3paramText.{nsec3param_text}
+use Rattle.domain_chain_rdata.specs.Rdata.{nsec3 as nsec3_fields, nsec3param_values}
+use Rattle.domain_chain_rdata.specs.declared.nsec3param.Nsec3param.{Nsec3param}
+use Rattle.domain_fields.specs.Layout.{Values}
+use Rattle.domain_nsec.specs.Chain.{Link}
+use Rattle.domain_nsec3.specs.Chain.{HashedLink}
+use Rattle.domain_nsec3.specs.declared.nsec3.HashedNsec3s.{HashedNsec3s}
+use Rattle.denial_program.specs.Check.{verdict_text}
+use Rattle.denial_program.specs.declared.answer.Answer.{Answer}
+use Rattle.denial_program.specs.declared.answer.Answer.TheVariants.{Nsecs, Nsec3s, Verdict}
+
+-- the owner with its last dot, the TTL, the class, the type and the text of the data
+abbrev pub record_line : {D : Type 0} → ℕ → (D → Octets) → Record Name D → Octets
+record_line rtype data_text r =
+    (name_text r.owner ++ codes ".") ++ codes " " ++ decimal r.ttl ++ codes " "
+    ++ class_text r.class ++ codes " " ++ type_text rtype ++ codes " " ++ data_text r.«data»
+
+-- the record of a link, with the next name, its last dot, and the types
+abbrev pub nsec_line : Link → Octets
+nsec_line k =
+    record_line nsec (λ d. (name_text d.next ++ codes ". ") ++ types_text (types_of d.bits))
+    (record { owner = k.owner; class = k.class; ttl = k.ttl; «data» = k })
+
+-- algorithm, flags, iterations, salt, next hash and types
+abbrev pub link_values : HashedLink → Values nsec3_fields
+link_values k =
+    let p = k.parameters in
+    ((((p.algorithm, (k.flags, p.iterations)), p.salt), k.next), k.bits)
+
+-- the record of a link, with those data
+abbrev pub nsec3_line : HashedLink → Octets
+nsec3_line k =
+    record_line nsec3 nsec3_text
+    (record { owner = k.owner; class = k.class; ttl = k.ttl; «data» = link_values k })
+
+-- algorithm, flags, iterations and salt
+abbrev pub nsec3param_line : Record Name (Nsec3param Octets) → Octets
+nsec3param_line = record_line nsec3param (λ d. nsec3param_text (nsec3param_values d))
+
+abbrev pub lines_of : {T : Type 0} → (T → Octets) → List T → Octets
+lines_of text = flat_map (λ item. text item ++ codes "\n")
+
+-- a line for each record of an NSEC3 chain, and one for its NSEC3PARAM record
+abbrev pub nsec3s_text : HashedNsec3s Name Octets → Octets
+nsec3s_text made =
+    lines_of nsec3_line made.chain ++ (nsec3param_line made.nsec3param ++ codes "\n")
+
+-- a line for each record of a chain, or one line with a verdict
+abbrev pub answer_text : Answer → Octets
+answer_text (Nsecs links) = lines_of nsec_line links
+answer_text (Nsec3s made) = nsec3s_text made
+answer_text (Verdict name verdict) = verdict_text name verdict ++ codes "\n"

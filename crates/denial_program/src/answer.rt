@@ -1,0 +1,294 @@
+//! What a run answers, and how it is printed.
+ghost use Rattle.std.specs.Prelude.{◌≡◌, ◌⊎◌, List, IfErr, IfOk, OnOk};
+ghost use Rattle.std.specs.Io.KnownBytes.{Appends};
+ghost use Rattle.domain_base.specs.Words.{Name};
+ghost use Rattle.domain_rdata.specs.Zone.{rtype_of};
+ghost use Rattle.domain_records.specs.Order.{IsInOrder, IsOneClass};
+ghost use Rattle.domain_nsec3.specs.View.{Answer as HasherAnswer};
+ghost use Rattle.domain_dnssec.specs.ZoneRecords.{Sorts};
+ghost use Rattle.denial_program.specs.Answer.{HasNoAnswer, HasNoNsec3s, HasNoNsecs, IsAnswer, IsNsec3s, IsNsecs, IsUnwritten, IsWritten};
+ghost use Rattle.denial_program.specs.Command.{Params};
+ghost use Rattle.denial_program.specs.Fault.{IsBeforeOutput};
+ghost use Rattle.denial_program.specs.Listing.{ProgramRecord};
+ghost use Rattle.denial_program.specs.Text.{answer_text, lines_of, nsec_line, nsec3_line, nsec3s_text};
+ghost use Rattle.denial_program.specs.declared.fault.DenialFault.TheVariants.{OutOfMemory};
+
+use crate::arena::{StoredData, StoredOctets, StoredRr, lay_owners, store_name};
+use crate::check::{nsec_verdict, nsec3_verdict};
+use crate::command::{Command, Nsec3Params};
+use crate::fault::{DenialFault, fault_of};
+use crate::line::{ZoneName, ZoneOctets};
+use crate::verdict_text::VerdictText;
+use bumpalo::Bump;
+use domain_base::ParsedName;
+use domain_dnssec::{
+    GenerateNsec3Config, GenerateNsecConfig, HashedNsec3s, InPlaceSorter, Nsec3Chain, Nsec3Hasher,
+    NsecChain, RecordsIter, SigningError, SortedRecords, Verdict, hash_nsec3s, lend_nsecs,
+};
+use domain_plain::Record;
+use domain_rdata::{Nsec, Nsec3};
+use std::alloc::Global;
+use std::io;
+use std::io::Write;
+
+/// A record of an NSEC chain.
+pub type NsecRr<'a> = Record<ParsedName<'a>, Nsec<StoredOctets<'a>, ParsedName<'a>>>;
+
+/// A record of an NSEC3 chain.
+pub type Nsec3Rr<'a> = Record<ParsedName<'a>, Nsec3<StoredOctets<'a>>>;
+
+/// What a run answers. An NSEC chain borrows from the records of its zone, an NSEC3 chain its apex.
+#[derive(Drop)]
+pub enum Answer<'s, 'a> {
+    /// An NSEC chain before its records are made.
+    Nsecs(NsecChain<'s, ParsedName<'a>>),
+    /// An NSEC3 chain before its records are made, and the record of its parameters.
+    Nsec3s(HashedNsec3s<'s, ParsedName<'a>, ZoneOctets>),
+    /// What records prove of a name.
+    Verdict(ZoneName, Verdict),
+}
+
+/// The records, sorted.
+///
+/// # Errors
+///
+/// `MixedClasses` where the records are not of one class, and `OutOfMemory`.
+fn sort_zone<'a>(records: Vec<StoredRr<'a>>) -> Result<Vec<StoredRr<'a>>, DenialFault>
+    ensures sorts { IfOk result
+        (λ sorted. Sorts (λ o. o) (λ n. n) records.entry.items sorted.items) }
+    ensures one_class { IfOk result (λ sorted. IsOneClass sorted.items) }
+    ensures in_order { IfOk result (λ sorted. IsInOrder (λ n. n) rtype_of sorted.items) }
+    ensures none { IfErr result
+        (λ fault. (apex : Name) → HasNoNsecs records.entry.items apex fault) }
+    ensures none_hashed { IfErr result (λ fault. (answers : HasherAnswer) (apex : Name) (p : Params)
+        → HasNoNsec3s answers records.entry.items apex p fault) }
+{
+    let sorted: SortedRecords<ParsedName<'a>, StoredData<'a>> = match SortedRecords::from_vec(
+        records,
+    ) {
+        Ok(sorted) => sorted,
+        Err(_) => return Err(DenialFault::OutOfMemory),
+    };
+    if !sorted.owner_rrs().is_one_class() {
+        return Err(DenialFault::MixedClasses);
+    }
+    Ok(sorted.into_inner())
+}
+
+/// The NSEC chain of the zone that the records are, from which it borrows.
+fn nsecs_of<'s, 'a>(
+    alloc: Global,
+    apex: &'s ParsedName<'a>,
+    sorted: &'s [StoredRr<'a>],
+) -> Result<Answer<'s, 'a>, DenialFault>
+    requires one_class { IsOneClass sorted.now }
+    requires in_order { IsInOrder (λ n. n) rtype_of sorted.now }
+    ensures ok { IfOk result (λ answer. (given : List ProgramRecord)
+        → Sorts (λ o. o) (λ n. n) given sorted.now → IsNsecs given apex.now answer) }
+    ensures err { IfErr result (λ fault. (given : List ProgramRecord)
+        → Sorts (λ o. o) (λ n. n) given sorted.now → HasNoNsecs given apex.now fault) }
+{
+    let config = GenerateNsecConfig::new();
+    match lend_nsecs(alloc, apex, RecordsIter::new_from_owned(sorted), &config) {
+        Ok(nsecs) => Ok(Answer::Nsecs(nsecs)),
+        Err(SigningError::OutOfMemory) => Err(DenialFault::OutOfMemory),
+        Err(error) => Err(DenialFault::Signing(error)),
+    }
+}
+
+/// The NSEC3 chain of the zone that the records are. It borrows the apex. No two of its hashes are
+/// alike, so that a sorter that takes no memory serves as well as a stable one.
+fn nsec3s_of<'s, 'a, H: Nsec3Hasher>(
+    alloc: Global,
+    apex: &'s ParsedName<'a>,
+    parameters: Nsec3Params,
+    sorted: &[StoredRr<'a>],
+    hasher: &H,
+) -> Result<Answer<'s, 'a>, DenialFault>
+    requires one_class { IsOneClass sorted.now }
+    requires in_order { IsInOrder (λ n. n) rtype_of sorted.now }
+    ensures ok { IfOk result (λ answer. (given : List ProgramRecord)
+        → Sorts (λ o. o) (λ n. n) given sorted.now
+        → IsNsec3s (H.answer hasher.now) given apex.now parameters answer) }
+    ensures err { IfErr result (λ fault. (given : List ProgramRecord)
+        → Sorts (λ o. o) (λ n. n) given sorted.now
+        → HasNoNsec3s (H.answer hasher.now) given apex.now parameters fault) }
+{
+    let config: GenerateNsec3Config<ZoneOctets, InPlaceSorter> = GenerateNsec3Config::new(
+        parameters,
+    );
+    match hash_nsec3s(
+        alloc,
+        apex,
+        RecordsIter::new_from_owned(sorted),
+        &config,
+        hasher,
+    ) {
+        Ok(made) => Ok(Answer::Nsec3s(made)),
+        Err(SigningError::OutOfMemory) => Err(DenialFault::OutOfMemory),
+        Err(error) => Err(DenialFault::Signing(error)),
+    }
+}
+
+/// Writes the records of an NSEC chain, one a line. They borrow from the chain, so that this takes
+/// no memory.
+fn write_nsecs<W: Write>(chain: &NsecChain<'_, ParsedName<'_>>, output: &mut W) -> io::Result<()>
+    ensures { OnOk result (Appends (W.contents output.old) (W.contents output.new)
+        (lines_of nsec_line chain.now)) }
+{
+    for place in 0..chain.len() {
+        let Some(nsec) = chain.lend(place) else {
+            unreachable!();
+        };
+        writeln!(output, "{nsec}")?;
+    }
+    Ok(())
+}
+
+/// Writes the records of an NSEC3 chain, one a line. They borrow from the chain, so that this takes
+/// no memory.
+fn write_chain<W: Write>(
+    chain: &Nsec3Chain<'_, ParsedName<'_>, ZoneOctets>,
+    output: &mut W,
+) -> io::Result<()>
+    ensures { OnOk result (Appends (W.contents output.old) (W.contents output.new)
+        (lines_of nsec3_line chain.now)) }
+{
+    for place in 0..chain.len() {
+        let Some(nsec3) = chain.lend(place) else {
+            unreachable!();
+        };
+        writeln!(output, "{nsec3}")?;
+    }
+    Ok(())
+}
+
+/// Writes the records of an NSEC3 chain, and the record of its parameters.
+fn write_nsec3s<W: Write>(
+    made: &HashedNsec3s<'_, ParsedName<'_>, ZoneOctets>,
+    output: &mut W,
+) -> io::Result<()>
+    ensures { OnOk result (Appends (W.contents output.old) (W.contents output.new)
+        (nsec3s_text made.now)) }
+{
+    write_chain(&made.chain, output)?;
+    writeln!(output, "{}", made.nsec3param)?;
+    Ok(())
+}
+
+impl<'s, 'a> Answer<'s, 'a> {
+    /// Writes the answer, and hands it on to the device.
+    fn write<W: Write>(&self, output: &mut W) -> io::Result<()>
+        ensures { OnOk result
+            (Appends (W.contents output.old) (W.contents output.new) (answer_text self.now)) }
+    {
+        match self {
+            Answer::Nsecs(chain) => write_nsecs(chain, output)?,
+            Answer::Nsec3s(made) => write_nsec3s(made, output)?,
+            Answer::Verdict(name, verdict) => {
+                writeln!(output, "{}", VerdictText::new(name, *verdict))?;
+            }
+        }
+        output.flush()
+    }
+
+    /// Writes the answer; an error of the device is `Write`, unless it is want of memory.
+    fn send<W: Write>(self, output: &mut W) -> Result<(), DenialFault>
+        ensures ok { OnOk result
+            (Appends (W.contents output.old) (W.contents output.new) (answer_text self.entry)) }
+        ensures err { IfErr result (λ e. (e ≡ DenialFault.Write) ⊎ (e ≡ OutOfMemory)) }
+    {
+        match self.write(output) {
+            Ok(()) => Ok(()),
+            Err(e) => Err(fault_of(&e, DenialFault::Write)),
+        }
+    }
+}
+
+/// Writes the NSEC chain of the zone that the records are. They are sorted first, and the octets of
+/// their owners laid into the arena once more, in order: the walk over them, and the chain that
+/// borrows them, go over these from one end to the other.
+fn write_nsecs_of<'a, W: Write>(
+    alloc: Global,
+    arena: &'a Bump,
+    apex: &ZoneName,
+    records: Vec<StoredRr<'a>>,
+    output: &mut W,
+) -> Result<(), DenialFault>
+    ensures ok { OnOk result (IsWritten (IsNsecs records.entry.items apex.now)
+        (W.contents output.old) (W.contents output.new)) }
+    ensures err { IfErr result
+        (IsUnwritten (IsNsecs records.entry.items apex.now)
+        (HasNoNsecs records.entry.items apex.now)) }
+    ensures untouched { IfErr result (λ e. IsBeforeOutput e → output.new ≡ output.old) }
+{
+    let apex = store_name(arena, apex)?;
+    let sorted = sort_zone(records)?;
+    let laid = lay_owners(arena, sorted)?;
+    let answer = nsecs_of(alloc, &apex, &laid)?;
+    answer.send(output)
+}
+
+/// Writes the NSEC3 chain of the zone that the records are. They are sorted first. Its owners are
+/// hashed, and not printed, so that they stay where they lie.
+fn write_nsec3s_of<'a, W: Write, H: Nsec3Hasher>(
+    alloc: Global,
+    arena: &'a Bump,
+    apex: &ZoneName,
+    parameters: Nsec3Params,
+    records: Vec<StoredRr<'a>>,
+    hasher: &H,
+    output: &mut W,
+) -> Result<(), DenialFault>
+    ensures ok { OnOk result
+        (IsWritten (IsNsec3s (H.answer hasher.now) records.entry.items apex.now parameters)
+        (W.contents output.old) (W.contents output.new)) }
+    ensures err { IfErr result
+        (IsUnwritten (IsNsec3s (H.answer hasher.now) records.entry.items apex.now parameters)
+        (HasNoNsec3s (H.answer hasher.now) records.entry.items apex.now parameters)) }
+    ensures untouched { IfErr result (λ e. IsBeforeOutput e → output.new ≡ output.old) }
+{
+    let apex = store_name(arena, apex)?;
+    let sorted = sort_zone(records)?;
+    let answer = nsec3s_of(alloc, &apex, parameters, &sorted, hasher)?;
+    answer.send(output)
+}
+
+/// Writes what a command asks of the records.
+///
+/// # Errors
+///
+/// The first that stands: of a chain `MixedClasses`, and `Signing` where there is none; of a
+/// verdict of NSEC3 records `Param` where the apex has not exactly one NSEC3PARAM record, and
+/// `Signing` where the hasher refuses; `Write` where the output could not be written; and
+/// `OutOfMemory`. Nothing is written before `Write`.
+pub fn write_answer<'a, W: Write, H: Nsec3Hasher>(
+    alloc: Global,
+    arena: &'a Bump,
+    command: Command,
+    records: Vec<StoredRr<'a>>,
+    hasher: &H,
+    output: &mut W,
+) -> Result<(), DenialFault>
+    ensures ok { OnOk result (IsWritten (IsAnswer (H.answer hasher.now) command records.entry.items)
+        (W.contents output.old) (W.contents output.new)) }
+    ensures err { IfErr result
+        (IsUnwritten (IsAnswer (H.answer hasher.now) command records.entry.items)
+        (HasNoAnswer (H.answer hasher.now) command records.entry.items)) }
+    ensures untouched { IfErr result (λ e. IsBeforeOutput e → output.new ≡ output.old) }
+{
+    match command {
+        Command::Nsec(apex) => write_nsecs_of(alloc, arena, &apex, records, output),
+        Command::Nsec3(apex, parameters) => {
+            write_nsec3s_of(alloc, arena, &apex, parameters, records, hasher, output)
+        }
+        Command::CheckNsec(question) => {
+            let answer = nsec_verdict(alloc, question, records)?;
+            answer.send(output)
+        }
+        Command::CheckNsec3(question) => {
+            let answer = nsec3_verdict(alloc, arena, question, records, hasher)?;
+            answer.send(output)
+        }
+    }
+}

@@ -1,0 +1,213 @@
+//! What the words after the program's name ask for.
+ghost use Rattle.std.specs.Prelude.{◌≡◌, ◌⊎◌, ℕ, ◌∷◌, codes, IfErr, IfNone, IfOk, IfSome, map, string_bytes};
+ghost use Rattle.domain_base.specs.Text.{NameText, IsNoName};
+ghost use Rattle.domain_base.specs.Scan.{IsNumber};
+ghost use Rattle.domain_bitmap.specs.HashText.{SaltText};
+ghost use Rattle.domain_octets.specs.Words.{Octets};
+ghost use Rattle.domain_base.specs.Numbers.{TypeText};
+ghost use Rattle.denial_program.specs.Command.{Asks, FlagsText, IsNoCommand, Params, Spell, SpellQuestion};
+ghost use Rattle.denial_program.specs.declared.command.Question.{Question};
+ghost use Rattle.denial_program.specs.declared.fault.DenialFault.TheVariants.{OutOfMemory};
+
+use crate::fault::DenialFault;
+use crate::line::{ZoneName, ZoneOctets};
+use domain_base::{FromToken, IterScanner, Nsec3HashAlgorithm, Rtype, ScanError};
+use domain_bitmap::Nsec3Salt;
+use domain_rdata::Nsec3param;
+use std::alloc::Global;
+
+/// The parameters of an NSEC3 chain.
+pub type Nsec3Params = Nsec3param<ZoneOctets>;
+
+/// A zone by its apex, and a name and a type that are asked of it.
+#[derive(Drop)]
+pub struct Question {
+    /// The apex.
+    pub apex: ZoneName,
+    /// The name.
+    pub name: ZoneName,
+    /// The type.
+    pub rtype: Rtype,
+}
+
+/// What the words ask for.
+#[derive(Drop)]
+pub enum Command {
+    /// The NSEC chain of the zone with this apex.
+    Nsec(ZoneName),
+    /// The NSEC3 chain of the zone with this apex, with these parameters.
+    Nsec3(ZoneName, Nsec3Params),
+    /// What NSEC records prove.
+    CheckNsec(Question),
+    /// What NSEC3 records prove.
+    CheckNsec3(Question),
+}
+
+/// A name that a word spells.
+fn name_of(alloc: Global, word: &str) -> Result<ZoneName, DenialFault>
+    ensures ok { IfOk result (NameText word.now) }
+    ensures err { IfErr result (λ e. ((e ≡ DenialFault.Usage) × IsNoName word.now)
+        ⊎ (e ≡ OutOfMemory)) }
+{
+    match ZoneName::from_str(alloc, word) {
+        Ok(name) => Ok(name),
+        Err(ScanError::OutOfMemory) => Err(DenialFault::OutOfMemory),
+        Err(_) => Err(DenialFault::Usage),
+    }
+}
+
+/// A number of iterations that a word spells (RFC 5155, section 4.3).
+fn iterations_of(word: &str) -> Result<u16, DenialFault>
+    ensures ok { IfOk result (IsNumber 16 word.now) }
+    ensures err { IfErr result (λ e.
+        (e ≡ DenialFault.Usage) × ((n : ℕ) → IsNumber 16 word.now n → ⊥)) }
+{
+    match u16::from_token(word) {
+        Ok(number) => Ok(number),
+        Err(_) => Err(DenialFault::Usage),
+    }
+}
+
+/// A salt that a word spells (RFC 5155, section 4.3).
+fn salt_of(alloc: Global, word: &str) -> Result<Nsec3Salt<ZoneOctets>, DenialFault>
+    ensures ok { IfOk result (SaltText word.now) }
+    ensures err { IfErr result (λ e. ((e ≡ DenialFault.Usage)
+        × ((salt : Octets) → SaltText word.now salt → ⊥))
+        ⊎ (e ≡ OutOfMemory)) }
+{
+    let words = [word];
+    let mut scanner = IterScanner::<ZoneOctets>::new(&words);
+    match Nsec3Salt::scan(alloc, &mut scanner) {
+        Ok(salt) => Ok(salt),
+        Err(error) => match error {
+            ScanError::OutOfMemory => Err(DenialFault::OutOfMemory),
+            _ => Err(DenialFault::Usage),
+        },
+    }
+}
+
+/// The flags that a last word asks for (RFC 5155, section 3.1.2).
+fn flags_of(words: &[String]) -> Option<u8>
+    ensures some { IfSome result (FlagsText (map string_bytes words.now)) }
+    ensures none { IfNone result
+        ((flags : ℕ) → FlagsText (map string_bytes words.now) flags → ⊥) }
+{
+    match words {
+        [] => Some(0),
+        [word] if word.as_str() == "optout" => Some(1),
+        _ => None,
+    }
+}
+
+/// What `nsec` and these words ask for.
+fn nsec_command(alloc: Global, words: &[String]) -> Result<Command, DenialFault>
+    ensures ok { IfOk result (Asks (codes "nsec" ∷ map string_bytes words.now)) }
+    ensures err { IfErr result (λ e. ((e ≡ DenialFault.Usage)
+        × IsNoCommand (codes "nsec" ∷ map string_bytes words.now))
+        ⊎ (e ≡ OutOfMemory)) }
+{
+    let [apex] = words else {
+        return Err(DenialFault::Usage);
+    };
+    Ok(Command::Nsec(name_of(alloc, apex.as_str())?))
+}
+
+/// The parameters with these iterations, this salt, and the flags that a last word asks for.
+fn parameters_of(
+    alloc: Global,
+    iterations: &str,
+    salt: &str,
+    last: &[String],
+) -> Result<Nsec3Params, DenialFault>
+    ensures ok { IfOk result (Spell iterations.now salt.now (map string_bytes last.now)) }
+    ensures err { IfErr result (λ e. ((e ≡ DenialFault.Usage)
+        × ((p : Params) → Spell iterations.now salt.now (map string_bytes last.now) p → ⊥))
+        ⊎ (e ≡ OutOfMemory)) }
+{
+    let Some(flags) = flags_of(last) else {
+        return Err(DenialFault::Usage);
+    };
+    let iterations = iterations_of(iterations)?;
+    let salt = salt_of(alloc, salt)?;
+    Ok(Nsec3param::new(Nsec3HashAlgorithm::SHA1, flags, iterations, salt))
+}
+
+/// What `nsec3` and these words ask for.
+fn nsec3_command(alloc: Global, words: &[String]) -> Result<Command, DenialFault>
+    ensures ok { IfOk result (Asks (codes "nsec3" ∷ map string_bytes words.now)) }
+    ensures err { IfErr result (λ e. ((e ≡ DenialFault.Usage)
+        × IsNoCommand (codes "nsec3" ∷ map string_bytes words.now))
+        ⊎ (e ≡ OutOfMemory)) }
+{
+    let [apex, iterations, salt, last @ ..] = words else {
+        return Err(DenialFault::Usage);
+    };
+    let apex = name_of(alloc, apex.as_str())?;
+    let parameters = parameters_of(alloc, iterations.as_str(), salt.as_str(), last)?;
+    Ok(Command::Nsec3(apex, parameters))
+}
+
+/// A type that a word spells.
+fn rtype_of(word: &str) -> Result<Rtype, DenialFault>
+    ensures ok { IfOk result (TypeText word.now) }
+    ensures err { IfErr result (λ e.
+        (e ≡ DenialFault.Usage) × ((t : ℕ) → TypeText word.now t → ⊥)) }
+{
+    match Rtype::from_token(word) {
+        Ok(rtype) => Ok(rtype),
+        Err(_) => Err(DenialFault::Usage),
+    }
+}
+
+/// The question that these words spell.
+fn question_of(alloc: Global, apex: &str, name: &str, rtype: &str) -> Result<Question, DenialFault>
+    ensures ok { IfOk result (SpellQuestion apex.now name.now rtype.now) }
+    ensures err { IfErr result (λ e. ((e ≡ DenialFault.Usage)
+        × ((q : Question) → SpellQuestion apex.now name.now rtype.now q → ⊥))
+        ⊎ (e ≡ OutOfMemory)) }
+{
+    let rtype = rtype_of(rtype)?;
+    let apex = name_of(alloc, apex)?;
+    let name = name_of(alloc, name)?;
+    Ok(Question { apex, name, rtype })
+}
+
+/// What `check` and these words ask for.
+fn check_command(alloc: Global, words: &[String]) -> Result<Command, DenialFault>
+    ensures ok { IfOk result (Asks (codes "check" ∷ map string_bytes words.now)) }
+    ensures err { IfErr result (λ e. ((e ≡ DenialFault.Usage)
+        × IsNoCommand (codes "check" ∷ map string_bytes words.now))
+        ⊎ (e ≡ OutOfMemory)) }
+{
+    let [kind, apex, name, rtype] = words else {
+        return Err(DenialFault::Usage);
+    };
+    let question = question_of(alloc, apex.as_str(), name.as_str(), rtype.as_str())?;
+    match kind.as_str() {
+        "nsec" => Ok(Command::CheckNsec(question)),
+        "nsec3" => Ok(Command::CheckNsec3(question)),
+        _ => Err(DenialFault::Usage),
+    }
+}
+
+/// What the words after the program's name ask for.
+///
+/// # Errors
+///
+/// `Usage` exactly where they are no command, and `OutOfMemory`.
+pub fn command_of(alloc: Global, words: &[String]) -> Result<Command, DenialFault>
+    ensures ok { IfOk result (Asks (map string_bytes words.now)) }
+    ensures err { IfErr result (λ e.
+        ((e ≡ DenialFault.Usage) × IsNoCommand (map string_bytes words.now))
+        ⊎ (e ≡ OutOfMemory)) }
+{
+    let [first, rest @ ..] = words else {
+        return Err(DenialFault::Usage);
+    };
+    match first.as_str() {
+        "nsec" => nsec_command(alloc, rest),
+        "nsec3" => nsec3_command(alloc, rest),
+        "check" => check_command(alloc, rest),
+        _ => Err(DenialFault::Usage),
+    }
+}

@@ -1,0 +1,20 @@
+//! All that the program `denial` is made of: the records of a zone are read, one a line, and the
+//! chain is written that denies what the zone does not hold; or records of such a chain are read,
+//! and what they prove of a name and a type is written.
+//!
+//! `run_denial` is generic over its reader, its writer and its hasher. The program hands in those
+//! of its process, and tests hand in such as fail.
+#![tactic(auto)]
+
+mod answer;
+mod arena;
+mod check;
+mod command;
+mod fault;
+mod last_owner;
+mod line;
+mod program;
+mod verdict_text;
+
+pub use fault::DenialFault;
+pub use program::run_denial;

@@ -1,0 +1,203 @@
+//! What a line of the input says.
+ghost use Rattle.std.specs.Prelude.{◌≡◌, ◌≤◌, ◌↔◌, false, IsTrue, IfErr, IfOk, IfSome, IfNone, map};
+ghost use Rattle.domain_base.specs.Scan.{ScanFault, TakesToken, RefusesToken};
+ghost use Rattle.denial_program.specs.Words.{words, is_blank, IsSkipped, IsPlain, ArePlain, LineText};
+ghost use Rattle.denial_program.specs.Said.{Says, SpellsNone, line_error_of};
+ghost use Rattle.denial_program.specs.declared.line.LineError.TheVariants.{OutOfMemory as memory};
+
+use crate::last_owner::LastOwner;
+use bumpalo::Bump;
+use domain_base::{
+    Class, FromToken, IterScanner, Name, ParsedName, Rtype, ScanError, Scanner, Ttl,
+};
+use domain_octets::{OutOfMemory, SmallOctets};
+use domain_plain::Record;
+use domain_rdata::ZoneRecordData;
+use smallvec::SmallVec;
+use std::alloc::{AllocError, Global};
+
+/// The octets of the program's names and data: most lie in the value itself, and take no memory.
+pub type ZoneOctets = SmallOctets;
+
+/// The names of the program: each in octets of its own.
+pub type ZoneName = Name<ZoneOctets>;
+
+/// The words of a line. Those of most records, up to eight, take no memory.
+type LineWords<'a> = SmallVec<&'a str, 8>;
+
+/// The data of the program's records.
+pub type ZoneData = ZoneRecordData<ZoneOctets, ZoneName>;
+
+/// A record as it was read: its owner lies in an arena already, its data in octets of their own.
+pub type ReadRr<'a> = Record<ParsedName<'a>, ZoneData>;
+
+/// What a line says.
+#[derive(Drop)]
+pub enum Line<'a> {
+    /// It is blank, or a comment.
+    Nothing,
+    /// A record.
+    Record(ReadRr<'a>),
+    /// None of these.
+    Bad,
+}
+
+/// Whether the octet separates words.
+fn separates(octet: u8) -> bool
+    ensures { result ≡ is_blank octet }
+{
+    octet == b' ' || octet == b'\t'
+}
+
+/// Whether the octet stands in words of text.
+fn is_of_word(octet: u8) -> bool
+    ensures { IsTrue result → (is_blank octet ≡ false) × (octet ≤ 126) }
+{
+    octet > b' ' && octet <= b'~'
+}
+
+/// Whether a line is blank, or a comment.
+fn is_skipped(line: &[u8]) -> bool
+    ensures { IsTrue result ↔ IsSkipped (words line.now) }
+{
+    for octet in line {
+        if !separates(*octet) {
+            return *octet == b';';
+        }
+    }
+    true
+}
+
+/// A word as text. That it is text is proved, so that it need not be looked through again.
+fn text_of(word: &[u8]) -> &str
+    requires { IsPlain word.now }
+    ensures { result.now ≡ word.now }
+{
+    unsafe { str::from_utf8_unchecked(word) }
+}
+
+/// The words of a line as text, where none of their octets is past `~`. Looks at each octet once.
+fn tokens_of(alloc: Global, line: &[u8]) -> Result<Option<LineWords<'_>>, AllocError>
+    ensures same { IfOk result (λ o. IfSome o (λ v. map (λ t. t.now) v.items ≡ words line.now)) }
+    ensures plain { IfOk result (λ o. IfSome o (λ _. ArePlain (words line.now))) }
+    ensures none { IfOk result (λ o. IfNone o (ArePlain (words line.now) → ⊥)) }
+{
+    let mut tokens = SmallVec::new(alloc);
+    let mut start = 0;
+    for (i, octet) in line.iter().enumerate() {
+        if is_of_word(*octet) {
+            continue;
+        }
+        if *octet > b'~' {
+            return Ok(None);
+        }
+        if separates(*octet) {
+            if start < i {
+                tokens.push(text_of(&line[start..i]))?;
+            }
+            start = i + 1;
+        }
+    }
+    if start < line.len() {
+        tokens.push(text_of(&line[start..]))?;
+    }
+    Ok(Some(tokens))
+}
+
+/// Why words are no record.
+#[derive(Clone, Copy, Debug, PartialEq, Eq)]
+pub enum LineError {
+    /// They spell none.
+    Bad,
+    /// There was no memory.
+    OutOfMemory,
+}
+
+impl From<ScanError> for LineError {
+    ghost from_gives = { λ error made. made ≡ line_error_of error };
+
+    fn from(error: ScanError) -> LineError {
+        match error {
+            ScanError::OutOfMemory => LineError::OutOfMemory,
+            _ => LineError::Bad,
+        }
+    }
+}
+
+impl From<OutOfMemory> for LineError {
+    ghost from_gives = { λ _ made. made ≡ memory };
+
+    fn from(_error: OutOfMemory) -> LineError {
+        LineError::OutOfMemory
+    }
+}
+
+/// The value that the next token spells.
+fn field<F: FromToken, S: Scanner>(scanner: &mut S) -> Result<F, LineError>
+    ensures ok { IfOk result (λ v.
+        TakesToken (λ token. F.spells token v) (S.tokens scanner.old) (S.tokens scanner.new)) }
+    ensures err { IfErr result (λ _. (fault : ScanFault)
+        × RefusesToken F.refuses (S.tokens scanner.old) (S.tokens scanner.new) fault) }
+{
+    match F::scan(scanner) {
+        Ok(value) => Ok(value),
+        Err(error) => Err(LineError::from(error)),
+    }
+}
+
+/// The record that tokens spell: owner, TTL, class, type and data.
+fn scan_record<'a, S: Scanner<Name = ZoneName, Octets = ZoneOctets>>(
+    alloc: Global,
+    arena: &'a Bump,
+    last: &mut LastOwner<'a>,
+    scanner: &mut S,
+) -> Result<ReadRr<'a>, LineError>
+    ensures ok { IfOk result (LineText (λ o. o) (λ n. n) (S.tokens scanner.old)) }
+    ensures err { IfErr result (SpellsNone (S.tokens scanner.old)) }
+{
+    let owner = last.scan(alloc, arena, scanner)?;
+    let ttl = field::<Ttl, S>(scanner)?;
+    let class = field::<Class, S>(scanner)?;
+    let rtype = field::<Rtype, S>(scanner)?;
+    let data = ZoneData::scan_rdata(alloc, rtype, scanner)?;
+    if scanner.continues() {
+        return Err(LineError::Bad);
+    }
+    Ok(Record::new(owner, class, ttl, data))
+}
+
+/// The record that words spell.
+fn record_of<'a, 'w>(
+    alloc: Global,
+    arena: &'a Bump,
+    last: &mut LastOwner<'a>,
+    words: &'w [&'w str],
+) -> Result<ReadRr<'a>, LineError>
+    ensures ok { IfOk result (LineText (λ o. o) (λ n. n) (map (λ w. w.now) words.now)) }
+    ensures err { IfErr result (SpellsNone (map (λ w. w.now) words.now)) }
+{
+    let mut scanner = IterScanner::<ZoneOctets>::new(words);
+    scan_record(alloc, arena, last, &mut scanner)
+}
+
+/// What a line says, with the owner in the arena. The line stands without its end.
+pub fn read_line<'a>(
+    alloc: Global,
+    arena: &'a Bump,
+    last: &mut LastOwner<'a>,
+    line: &[u8],
+) -> Result<Line<'a>, OutOfMemory>
+    ensures { IfOk result (Says line.now) }
+{
+    if is_skipped(line) {
+        return Ok(Line::Nothing);
+    }
+    let Some(tokens) = tokens_of(alloc, line)? else {
+        return Ok(Line::Bad);
+    };
+    match record_of(alloc, arena, last, tokens.as_slice()) {
+        Ok(record) => Ok(Line::Record(record)),
+        Err(LineError::OutOfMemory) => Err(OutOfMemory),
+        Err(LineError::Bad) => Ok(Line::Bad),
+    }
+}

@@ -1,0 +1,9 @@
+//! Tests of `denial_program`, over readers and writers that fail.
+//!
+//! They stand apart from it, since a crate with test functions is proved twice: here that is next
+//! to nothing, and there it would be the whole program. What a clause says needs no test, so the
+//! tests are of what no clause says.
+#![tactic(auto)]
+
+#[cfg(test)]
+mod tests;
