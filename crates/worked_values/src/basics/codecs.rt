@@ -34,7 +34,7 @@ fn encode_in(
     text: Result<String, OutOfMemory>,
     answers: &mut Answers,
 ) {
-    answers.show_or_refused(label, text);
+    answers.show_or_refused(label, &text);
     let codec = Some(codec);
     answers.show("printed", &Encoded { codec, octets });
 }

@@ -112,9 +112,9 @@ fn room(alloc: Global, text: &str, answers: &mut Answers) {
 /// A salt and a hash, each after its number of octets.
 fn parse(octets: &[u8], answers: &mut Answers) {
     let mut parser = Parser::new(octets);
-    answers.show_or_refused("salt", Nsec3Salt::parse(&mut parser));
+    answers.show_or_refused("salt", &Nsec3Salt::parse(&mut parser));
     answers.show("at", &parser.pos());
-    answers.show_or_refused("hash", OwnerHash::parse(&mut parser));
+    answers.show_or_refused("hash", &OwnerHash::parse(&mut parser));
     answers.show("at", &parser.pos());
 }
 

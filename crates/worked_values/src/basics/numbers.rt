@@ -14,7 +14,7 @@ use std::fmt::Display;
 /// The value that the first token spells.
 fn scan<F: FromToken + Display + Drop>(tokens: &[&str], answers: &mut Answers) {
     let mut scanner = Tokens::new(tokens);
-    answers.show_or_refused("value", F::scan(&mut scanner));
+    answers.show_or_refused("value", &F::scan(&mut scanner));
     answers.debug("next", &scanner.first_token());
 }
 

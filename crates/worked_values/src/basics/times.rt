@@ -46,7 +46,7 @@ fn time(alloc: Global, text: &str, answers: &mut Answers) {
         Err(IllegalSignatureTime) => answers.show("refused", &IllegalSignatureTime),
     }
     let scanned = <Timestamp as FromToken>::scan(&mut Tokens::new(&[text]));
-    answers.show_or_refused("scanned", scanned);
+    answers.show_or_refused("scanned", &scanned);
 }
 
 /// A time in each of its forms.

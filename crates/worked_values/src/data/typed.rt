@@ -23,7 +23,7 @@ fn pieces<D: Debug + ZonefileFmt>(alloc: Global, data: &D, answers: &mut Answers
         Err(error) => answers.refused(&error),
     }
     let text = data.display_zonefile(alloc, DisplayKind::Simple);
-    answers.show_or_refused("zone file", text);
+    answers.show_or_refused("zone file", &text);
 }
 
 /// What a key says.

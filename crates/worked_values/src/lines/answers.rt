@@ -73,14 +73,10 @@ impl Answers {
     }
 
     /// Adds a line with a label and a value as it prints, or with the error in its place.
-    pub fn show_or_refused<T: Display + Drop, E: Debug + Drop>(
-        &mut self,
-        label: &str,
-        value: Result<T, E>,
-    ) {
+    pub fn show_or_refused<T: Display, E: Debug>(&mut self, label: &str, value: &Result<T, E>) {
         match value {
-            Ok(value) => self.show(label, &value),
-            Err(error) => self.refused(&error),
+            Ok(value) => self.show(label, value),
+            Err(error) => self.refused(error),
         }
     }
 
