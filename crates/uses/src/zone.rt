@@ -35,21 +35,28 @@ fn caa(alloc: Global) -> Result<Data, Error> {
     Ok(Data::from_octets(alloc, Rtype::CAA, octets)?)
 }
 
+/// Adds a record of the owner that a text spells.
+fn add(alloc: Global, owner: &str, data: Data, records: &mut Vec<ZoneRecord>) -> Result<(), Error> {
+    let owner = ZoneName::from_str(alloc, owner)?;
+    records.push(Record::new(owner, Class::IN, Ttl::from_hours(1), data))?;
+    Ok(())
+}
+
 /// The records of `example.`, in no order.
 pub fn records(alloc: Global) -> Result<Vec<ZoneRecord>, Error> {
-    let mail = A::new(Ipv4Addr::new(192, 0, 2, 1));
-    let exchange = ZoneName::from_str(alloc, "mail.office.example.")?;
-    let server = ZoneName::from_str(alloc, "ns.example.")?;
+    let address = A::new(Ipv4Addr::new(192, 0, 2, 1));
+    let mail = Mx::new(10, ZoneName::from_str(alloc, "mail.office.example.")?);
+    let server = Ns::new(ZoneName::from_str(alloc, "ns.example.")?);
     let mut records = Vec::new(alloc);
-    for (owner, data) in [
-        ("mail.office.example.", Data::A(mail)),
-        ("example.", Data::Mx(Mx::new(10, exchange))),
-        ("example.", caa(alloc)?),
-        ("example.", Data::Ns(Ns::new(server))),
-        ("example.", soa(alloc)?),
-    ] {
-        let owner = ZoneName::from_str(alloc, owner)?;
-        records.push(Record::new(owner, Class::IN, Ttl::from_hours(1), data))?;
-    }
+    add(
+        alloc,
+        "mail.office.example.",
+        Data::A(address),
+        &mut records,
+    )?;
+    add(alloc, "example.", Data::Mx(mail), &mut records)?;
+    add(alloc, "example.", caa(alloc)?, &mut records)?;
+    add(alloc, "example.", Data::Ns(server), &mut records)?;
+    add(alloc, "example.", soa(alloc)?, &mut records)?;
     Ok(records)
 }

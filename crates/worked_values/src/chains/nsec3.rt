@@ -1,0 +1,187 @@
+//! NSEC3 chains of small zones (RFC 5155, section 7.1).
+use crate::chains::hashers::table;
+use crate::chains::verdicts;
+use crate::lines::records::{Zone, ZoneRecord, list, records, zone};
+use crate::lines::{Answers, OwnName, input};
+use crate::zones::RefusingSorter;
+use domain_base::{Nsec3HashAlgorithm, ScanError, Ttl};
+use domain_dnssec::{
+    DefaultSorter, GenerateNsec3Config, Nsec3Hasher, Nsec3ParamTtlMode, Nsec3Records,
+    generate_nsec3s, generate_nsec3s_of_records, generate_nsec3s_of_sorted, hash_nsec3s_of_records,
+    mk_hashed_nsec3_owner_name,
+};
+use domain_rdata::{Nsec3Salt, Nsec3param};
+use domain_sha1::Sha1Hasher;
+use std::alloc::Global;
+use std::fmt::Debug;
+
+/// A salt.
+type Salt = Nsec3Salt<Vec<u8>>;
+
+/// How the chains here are made.
+type Config = GenerateNsec3Config<Vec<u8>, DefaultSorter>;
+
+/// A chain with its NSEC3PARAM record, each record on a line, or why there is none.
+fn show<E: Debug + Drop>(made: Result<Nsec3Records<OwnName, Vec<u8>>, E>, answers: &mut Answers) {
+    match made {
+        Ok(made) => {
+            list(made.nsec3s.as_slice(), answers);
+            answers.show("record", &made.nsec3param);
+        }
+        Err(error) => answers.refused(&error),
+    }
+}
+
+/// The salt that a word spells; without a word there is none.
+fn salt(alloc: Global, word: &str) -> Result<Salt, ScanError> {
+    let text = if word.is_empty() { "-" } else { word };
+    match Salt::from_str(alloc, text) {
+        Ok(salt) => Ok(salt),
+        Err(_) => Err(ScanError::Custom("no salt")),
+    }
+}
+
+/// What a form asks of the generator.
+fn config(form: &str, iterations: u16, salt: Salt) -> Config {
+    let params = Nsec3param::new(Nsec3HashAlgorithm::SHA1, 0, iterations, salt);
+    let config = Config::new(params);
+    if form == "dnskey" {
+        return config;
+    }
+    let config = config.without_assuming_dnskeys_will_be_added();
+    match form {
+        "out" => config.with_opt_out(),
+        "kept" => config
+            .with_opt_out()
+            .without_opt_out_excluding_owner_names_of_unsigned_delegations(),
+        "dname" => config.with_occlude_below_dname(),
+        "fixed" => config.with_ttl_mode(Nsec3ParamTtlMode::fixed(Ttl::from_secs(60))),
+        "minimum" => config.with_ttl_mode(Nsec3ParamTtlMode::soa_minimum()),
+        _ => config,
+    }
+}
+
+/// The owner of the NSEC3 record of a name, or why there is none.
+fn owner<H: Nsec3Hasher>(
+    alloc: Global,
+    apex: &OwnName,
+    config: &Config,
+    hasher: &H,
+    word: &str,
+    answers: &mut Answers,
+) -> Result<(), ScanError> {
+    let name = OwnName::from_str(alloc, word)?;
+    let params = &config.params;
+    let (algorithm, iterations) = (params.hash_algorithm(), params.iterations());
+    match mk_hashed_nsec3_owner_name(
+        alloc,
+        &name,
+        algorithm,
+        iterations,
+        params.salt(),
+        apex,
+        hasher,
+    ) {
+        Ok(owner) => answers.show("owner", &owner),
+        Err(error) => answers.refused(&error),
+    }
+    Ok(())
+}
+
+/// The chain of records in any order as it lends its records, and its NSEC3PARAM record, each on a
+/// line.
+fn lent<H: Nsec3Hasher>(
+    alloc: Global,
+    apex: &OwnName,
+    config: &Config,
+    hasher: &H,
+    given: Vec<ZoneRecord>,
+    answers: &mut Answers,
+) {
+    match hash_nsec3s_of_records(alloc, apex, given, config, hasher) {
+        Ok(made) => {
+            for place in 0..made.chain.len() {
+                if let Some(nsec3) = made.chain.lend(place) {
+                    answers.show("record", &nsec3);
+                }
+            }
+            if made.chain.lend(made.chain.len()).is_none() {
+                answers.echo("  no further record");
+            }
+            answers.show("record", &made.nsec3param);
+        }
+        Err(error) => answers.refused(&error),
+    }
+}
+
+/// What there is instead of a chain where the sorter of the hashes has no memory.
+fn without_sorting<H: Nsec3Hasher>(
+    alloc: Global,
+    apex: &OwnName,
+    hasher: &H,
+    zone: &Zone,
+    answers: &mut Answers,
+) {
+    let config: GenerateNsec3Config<Vec<u8>, RefusingSorter> = GenerateNsec3Config::default(alloc);
+    let groups = zone.owner_rrs();
+    if !groups.is_one_class() {
+        return answers.echo("  more than one class");
+    }
+    show(
+        generate_nsec3s(alloc, apex, groups, &config, hasher),
+        answers,
+    );
+}
+
+/// Answers a vector with a hasher.
+fn with_hasher<H: Nsec3Hasher>(
+    alloc: Global,
+    form: &str,
+    apex: &OwnName,
+    config: &Config,
+    hasher: &H,
+    words: &[&str],
+    answers: &mut Answers,
+) -> Result<(), ScanError> {
+    match form {
+        "owner" => owner(alloc, apex, config, hasher, input::word(words, 0), answers)?,
+        "any" => {
+            let given = records(alloc, words)?;
+            show(
+                generate_nsec3s_of_records(alloc, apex, given, config, hasher),
+                answers,
+            );
+        }
+        "lent" => lent(alloc, apex, config, hasher, records(alloc, words)?, answers),
+        "verdict" => verdicts::by_hash(alloc, apex, &config.params, hasher, words, answers)?,
+        "unsorted" => without_sorting(alloc, apex, hasher, &zone(alloc, words)?, answers),
+        _ => {
+            let zone = zone(alloc, words)?;
+            show(
+                generate_nsec3s_of_sorted(alloc, apex, &zone, config, hasher),
+                answers,
+            );
+        }
+    }
+    Ok(())
+}
+
+/// Answers a vector on chains by hashes: a form, the apex, a table of names and hashes, or `sha1`
+/// with a number of iterations and a salt, and after a colon the records or the name.
+pub fn answer(
+    alloc: Global,
+    form: &str,
+    words: &[&str],
+    answers: &mut Answers,
+) -> Result<(), ScanError> {
+    let apex = OwnName::from_str(alloc, input::word(words, 0))?;
+    let (hashing, given) = input::halves(words.get(1..).unwrap_or_default(), ":");
+    if input::word(hashing, 0) == "sha1" {
+        let iterations = input::word(hashing, 1).parse::<u16>().unwrap_or(0);
+        let config = config(form, iterations, salt(alloc, input::word(hashing, 2))?);
+        return with_hasher(alloc, form, &apex, &config, &Sha1Hasher, given, answers);
+    }
+    let hasher = table(alloc, hashing)?;
+    let config = config(form, 0, salt(alloc, "-")?);
+    with_hasher(alloc, form, &apex, &config, &hasher, given, answers)
+}
