@@ -9,3 +9,6 @@ pub mod HashedListLemmas
 pub mod HashedWalkLemmas
 pub mod HashedVerdictLemmas
 pub mod HandedInLemmas
+pub mod PairedLemmas
+pub mod AlikeLemmas
+pub mod HashedAlikeLemmas

@@ -6,3 +6,4 @@ pub mod HashedReading
 pub mod HashedView
 pub mod HashedPass
 pub mod HandedIn
+pub mod Alike

@@ -1,19 +1,23 @@
 //! What holds of verdicts, and of what records say. A caller calls the law in its body.
-ghost use Rattle.std.specs.Prelude.{◌≡◌, ◌≢◌, ◌<◌, ℕ, Bool, List, true, false};
+ghost use Rattle.std.specs.Prelude.{◌≡◌, ◌≢◌, ◌<◌, ℕ, Bool, All, List, true, false};
 ghost use Rattle.domain_base.specs.Name.{is_at_or_below};
 ghost use Rattle.domain_base.specs.Words.{Name};
 ghost use Rattle.domain_zone.specs.Enclosers.{exists_over, IsClosestEncloser};
 ghost use Rattle.domain_zone.specs.Zone.{OwnersNeverDescend, ZoneRecord};
 ghost use Rattle.domain_nsec.specs.Chain.{IsChain, Link};
 ghost use Rattle.domain_nsec3.specs.Chain.{HashedLink, IsHashedChain};
-ghost use Rattle.domain_nsec3.specs.Config.{ChainConfig};
+ghost use Rattle.domain_nsec3.specs.Config.{ChainConfig, Hash, Parameters};
 ghost use Rattle.domain_nsec3.specs.Meaning.{AreAlone};
 ghost use Rattle.domain_nsec.specs.declared.config.GenerateNsecConfig.{GenerateNsecConfig};
 ghost use Rattle.domain_checker.specs.Verdict.{closest_encloser, proved_verdict, zone_verdict, IsProved};
+ghost use Rattle.domain_checker.specs.Alike.{ArePaired, IsAlike, IsHashedAlike, IsPairedIn};
 ghost use Rattle.domain_checker.specs.HashedVerdict.{hashed_proved_verdict, hashed_zone_verdict};
+ghost use Rattle.domain_checker.specs.HashedReading.{IsWalked};
 ghost use Rattle.domain_checker.specs.Reading.{reading};
+ghost use Rattle.domain_checker.specs.declared.verdict.Verdict.{Verdict};
 ghost use Rattle.domain_checker.specs.declared.verdict.Verdict.TheVariants.{NotProven};
 
+use crate::nsec3_laws::walks_are_proved;
 use domain_bitmap::laws::built_bitmaps_give_their_types;
 use domain_nsec::laws::{chains_mean_the_zone, types_ignore_case};
 use domain_nsec3::laws as hashed;
@@ -34,6 +38,38 @@ pub fn readings_are_proved()
     chains_mean_the_zone();
     types_ignore_case();
     built_bitmaps_give_their_types();
+}
+
+/// What NSEC records say and prove does not depend on TTLs, classes and the case of letters: so it
+/// is what the zone says, or that they do not prove it, also where they are records of its chain
+/// but for these.
+pub fn readings_ignore_case_and_ttl()
+    ensures alike { (listed other : List Link) (a x : Name) (t : ℕ)
+        → ArePaired IsAlike listed other → reading a listed x t ≡ reading a other x t }
+    ensures proved { (listed : List Link) (a x : Name) (t : ℕ) → t < 65536
+        → (L : List ZoneRecord) (config : GenerateNsecConfig) (links : List Link)
+        → config.occlude_below_dname ≡ false → OwnersNeverDescend L → IsChain L a config links
+        → All (IsPairedIn IsAlike links) listed
+        → reading a listed x t
+        ≡ proved_verdict L a config.assume_dnskeys_will_be_added listed x t }
+{
+    readings_are_proved();
+}
+
+/// The same of NSEC3 records.
+pub fn walks_ignore_case_and_ttl()
+    ensures alike { (listed other : List HashedLink) (a : Name) (p : Parameters) (hash : Hash)
+        (x : Name) (t : ℕ) (verdict : Verdict) → ArePaired IsHashedAlike listed other
+        → IsWalked listed a p hash x t verdict → IsWalked other a p hash x t verdict }
+    ensures proved { (listed : List HashedLink) (a : Name) (x : Name) (t : ℕ) (verdict : Verdict)
+        → t < 65536 → is_at_or_below x a ≡ true
+        → (L : List ZoneRecord) (config : ChainConfig) (links : List HashedLink)
+        → config.occlude_below_dname ≡ false → IsHashedChain L a config links
+        → AreAlone L a config x → All (IsPairedIn IsHashedAlike links) listed
+        → IsWalked listed a config.parameters config.hash x t verdict
+        → verdict ≡ hashed_proved_verdict L a config listed x t }
+{
+    walks_are_proved();
 }
 
 /// The whole chain of a zone proves what the zone says of every name and type, and the zone says

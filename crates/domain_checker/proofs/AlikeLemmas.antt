@@ -1,0 +1,89 @@
+-- What NSEC records say does not depend on TTLs, classes and the case of letters.
+use Rattle.std.proofs.Common.{◌≡◌, ℕ, ◌<◌, Bool, true, false, cond, not, ◌&&◌, ◌||◌, List, [], ◌∷◌, length, refl, sym, ap, ◌∙◌, subst, inl, inr, ◌⊎◌, nat_eq, Option, Some, None}
+use Rattle.std.specs.List.{find}
+use Rattle.domain_base.specs.Name.{is_at_or_below, is_strictly_below, lowered, same_name}
+use Rattle.domain_base.specs.Order.{before}
+use Rattle.domain_base.specs.Types.{ds, ns}
+use Rattle.domain_base.specs.Words.{Name}
+use Rattle.domain_bitmap.specs.Blocks.{contains_type}
+use Rattle.domain_zone.specs.Covering.{covers, matches, matches_or_covers}
+use Rattle.domain_zone.specs.Enclosers.{longer, shared}
+use Rattle.domain_zone.specs.Zone.{ZoneRecord}
+use Rattle.domain_zone.proofs.NameLemmas.{before_left, before_right, lowered_below, one_lowered, same_lowered}
+use Rattle.domain_nsec.specs.Chain.{Link}
+use Rattle.domain_checker.specs.Alike.{ArePaired, IsAlike}
+use Rattle.domain_checker.specs.Reading.{cover_verdict, is_at_cut, is_cover, is_match, list_verdict, match_verdict, reading, verdict_of_both, verdict_of_cover}
+use Rattle.domain_checker.specs.Verdict.{has_match_or_cover, is_inside, proved_verdict, zone_verdict}
+use Rattle.domain_checker.specs.declared.verdict.Verdict.{Verdict}
+use Rattle.domain_checker.specs.declared.verdict.Verdict.TheVariants.{OutsideZone, BelowDelegation, Has, NoType, EmptyName, NoName, NotProven}
+use Rattle.domain_checker.proofs.PairedLemmas.{OptionsPaired, any_alike, find_alike}
+
+-- ---- one record
+
+matches_alike : (o p x : Name) → lowered o ≡ lowered p → matches before o x ≡ matches before p x
+matches_alike o p x e = λ i. not (before_left o p x e i || before_right x o p e i)
+
+covers_alike : (o p n m x : Name) → lowered o ≡ lowered p → lowered n ≡ lowered m → covers before o n x ≡ covers before p m x
+covers_alike o p n m x e f =
+    λ i. not (matches_alike o p x e i)
+    && cond ((before_left o p n e ∙ before_right p n m f) i)
+    (before_left o p x e i && before_right x n m f i)
+    (before_left o p x e i || before_right x n m f i)
+
+shared_alike : (x y z : Name) → lowered y ≡ lowered z → shared x y ≡ shared x z
+shared_alike [] y z e = refl
+shared_alike (l ∷ x) y z e = λ i. cond (lowered_below (e i) (lowered (l ∷ x))) (l ∷ x) (shared_alike x y z e i)
+
+module _ (a x : Name) (k l : Link) (alike : IsAlike k l) where
+  owners : lowered k.owner ≡ lowered l.owner
+  owners = one_lowered k.owner l.owner alike.owner
+
+  nexts : lowered k.next ≡ lowered l.next
+  nexts = one_lowered k.next l.next alike.next
+
+  inside_alike : is_inside a k ≡ is_inside a l
+  inside_alike = λ i. lowered_below (owners i) (lowered a) && lowered_below (nexts i) (lowered a)
+
+  pub is_match_alike : is_match a x k ≡ is_match a x l
+  is_match_alike = λ i. matches_alike k.owner l.owner x owners i && inside_alike i
+
+  pub is_cover_alike : is_cover a x k ≡ is_cover a x l
+  is_cover_alike = λ i. covers_alike k.owner l.owner k.next l.next x owners nexts i && inside_alike i
+
+  pub says_alike : matches_or_covers before k.owner k.next x ≡ matches_or_covers before l.owner l.next x
+  says_alike = λ i. matches_alike k.owner l.owner x owners i || covers_alike k.owner l.owner k.next l.next x owners nexts i
+
+  cut_alike : is_at_cut a k ≡ is_at_cut a l
+  cut_alike = λ i. not (same_lowered (owners i) (lowered a)) && contains_type (alike.bits i) ns
+
+  pub match_verdict_alike : (t : ℕ) → match_verdict a k t ≡ match_verdict a l t
+  match_verdict_alike t = λ i. cond (contains_type (alike.bits i) t) Has (cond (cut_alike i && not (nat_eq t ds)) BelowDelegation NoType)
+
+  pub cover_verdict_alike : cover_verdict a k x ≡ cover_verdict a l x
+  cover_verdict_alike =
+      λ i. cond (lowered_below (lowered x) (owners i) && cut_alike i) BelowDelegation
+      (cond (lowered_below (nexts i) (lowered x) && not (same_lowered (nexts i) (lowered x))) EmptyName
+      (NoName (length (longer (shared_alike x k.owner l.owner owners i) (shared_alike x k.next l.next nexts i)))))
+
+-- ---- lists
+
+module _ (a x : Name) (t : ℕ) where
+  both_alike : (m n c d : Option Link) → OptionsPaired IsAlike m n → OptionsPaired IsAlike c d → verdict_of_both a x t m c ≡ verdict_of_both a x t n d
+  both_alike (Some k) (Some l) c d m h = match_verdict_alike a x k l m t
+  both_alike (Some k) None c d m h = absurd m
+  both_alike None (Some l) c d m h = absurd m
+  both_alike None None None None m h = refl
+  both_alike None None None (Some d) m h = absurd h
+  both_alike None None (Some c) None m h = absurd h
+  both_alike None None (Some c) (Some d) m h = cover_verdict_alike a x c d h
+
+  pub reading_alike : (ks ls : List Link) → ArePaired IsAlike ks ls → reading a ks x t ≡ reading a ls x t
+  reading_alike ks ls h =
+      let matching = find_alike IsAlike (is_match a x) (is_match_alike a x) ks ls h in
+      let covering = find_alike IsAlike (is_cover a x) (is_cover_alike a x) ks ls h in
+      λ i. cond (is_at_or_below x a) (both_alike (find (is_match a x) ks) (find (is_match a x) ls) (find (is_cover a x) ks) (find (is_cover a x) ls) matching covering i) OutsideZone
+
+  pub proved_alike : (L : List ZoneRecord) (assume : Bool) (ks ls : List Link) → ArePaired IsAlike ks ls → proved_verdict L a assume ks x t ≡ proved_verdict L a assume ls x t
+  proved_alike L assume ks ls h =
+      let says = any_alike IsAlike (λ k. matches_or_covers before k.owner k.next x) (says_alike a x) ks ls h in
+      λ i. cond (not (is_at_or_below x a) || says i) (zone_verdict L a assume x t) NotProven

@@ -1,0 +1,167 @@
+-- What NSEC3 records say does not depend on TTLs, classes and the case of letters.
+use Rattle.std.proofs.Common.{◌≡◌, ℕ, ◌+◌, ◌-◌, ◌<◌, ◌≤◌, Bool, true, false, cond, not, ◌&&◌, ◌||◌, List, [], ◌∷◌, map, length, refl, sym, ap, ◌∙◌, subst, inl, inr, nat_eq, Option, Some, None, arith}
+use Rattle.std.specs.Prelude.{Ok, is_some, unwrap_or}
+use Rattle.std.specs.Char.{to_ascii_lowercase}
+use Rattle.std.specs.List.{find, list_all, list_any}
+use Rattle.std.proofs.lemmas.Bool.{cases_lt}
+use Rattle.std.proofs.lemmas.Bool.Decides.{nat_tests}
+use Rattle.std.proofs.lemmas.List.{length-map}
+use Rattle.domain_octets.specs.Codec.{base32_digits, base32_octets, base32_value, is_base32_length, is_digit}
+use Rattle.domain_octets.specs.Words.{Octets}
+use Rattle.domain_octets.specs.declared.codec.Codec.TheVariants.{Base32Hex}
+use Rattle.domain_base.specs.Name.{is_at_or_below, lowered, same_name}
+use Rattle.domain_base.specs.Types.{ds, ns}
+use Rattle.domain_base.specs.Words.{Label, Name}
+use Rattle.domain_bitmap.specs.Blocks.{contains_type, types_of}
+use Rattle.domain_chain_rdata.specs.OptOut.{is_opt_out}
+use Rattle.domain_zone.specs.Covering.{covers, matches}
+use Rattle.domain_zone.specs.Zone.{ZoneRecord, is_zone_cut}
+use Rattle.domain_zone.proofs.NameLemmas.{one_lowered, same_lowered}
+use Rattle.domain_nsec3.specs.Chain.{HashedLink}
+use Rattle.domain_nsec3.specs.Config.{ChainConfig, Hash, Parameters, hash_name}
+use Rattle.domain_nsec3.specs.Meaning.{octets_before}
+use Rattle.domain_nsec3.specs.Owners.{original_owners}
+use Rattle.domain_checker.specs.Alike.{ArePaired, IsHashedAlike}
+use Rattle.domain_checker.specs.HashedList.{hash_in, is_hash_cover, is_hash_match, is_some_with, is_spelling, owner_hash, read_label, same_parameters}
+use Rattle.domain_checker.specs.HashedReading.{IsWalked, hash_cover_verdict, hash_match_verdict, is_none, tells_cut, told_verdict}
+use Rattle.domain_checker.specs.HashedVerdict.{IsFirst, hashed_proved_verdict, hashed_zone_verdict, is_covered, is_matched, is_ok_with, missing_verdict, next_closer, proves}
+use Rattle.domain_checker.specs.Verdict.{closest_encloser}
+use Rattle.domain_checker.specs.declared.verdict.Verdict.{Verdict}
+use Rattle.domain_checker.specs.declared.verdict.Verdict.TheVariants.{BelowDelegation, Has, NoType, EmptyName, NotProven}
+use Rattle.domain_checker.proofs.PairedLemmas.{OptionsPaired, any_alike, find_alike}
+
+-- ---- labels
+
+-- a digit of Base 32 hex has one value in either case
+value_lower : (c : ℕ) → base32_value (to_ascii_lowercase c) ≡ base32_value c
+value_lower c =
+    elim (cases_lt c 65) [
+      | inl h ↦ ap base32_value (before c h)
+      | inr h ↦ elim (cases_lt c 91) [
+        | inl g ↦ capital c h g
+        | inr g ↦ ap base32_value (after c g)
+      ]
+    ]
+  where
+    before : (c : ℕ) → c < 65 → to_ascii_lowercase c ≡ c
+    before c h = grind (arith, nat_tests)
+
+    after : (c : ℕ) → 91 ≤ c → to_ascii_lowercase c ≡ c
+    after c g = grind (arith, nat_tests)
+
+    capital : (c : ℕ) → 65 ≤ c → c < 91 → base32_value (to_ascii_lowercase c) ≡ base32_value c
+    capital c h g = grind (arith, nat_tests)
+
+all_lower : (label : Label) → list_all (is_digit Base32Hex) (map to_ascii_lowercase label) ≡ list_all (is_digit Base32Hex) label
+all_lower [] = refl
+all_lower (c ∷ label) = λ i. is_some (value_lower c i) && all_lower label i
+
+digits_lower : (label : Label) → base32_digits (map to_ascii_lowercase label) ≡ base32_digits label
+digits_lower [] = refl
+digits_lower (c ∷ label) = λ i. unwrap_or (value_lower c i) 0 ∷ digits_lower label i
+
+spelling_lower : (label : Label) → is_spelling (map to_ascii_lowercase label) ≡ is_spelling label
+spelling_lower label = λ i. all_lower label i && is_base32_length (length-map label to_ascii_lowercase i)
+
+read_lower : (label : Label) → read_label (map to_ascii_lowercase label) ≡ read_label label
+read_lower label = ap (base32_octets 1 0) (digits_lower label)
+
+-- owners that are the same spell one hash
+hash_in_alike : (a o q : Name) → lowered o ≡ lowered q → hash_in a o ≡ hash_in a q
+hash_in_alike a [] [] e = refl
+hash_in_alike a [] (m ∷ q) e = absurd (cc)
+hash_in_alike a (l ∷ o) [] e = absurd (cc)
+hash_in_alike a (l ∷ o) (m ∷ q) e =
+    let label : map to_ascii_lowercase l ≡ map to_ascii_lowercase m = cc in
+    let above : lowered o ≡ lowered q = cc in
+    let spelling : is_spelling l ≡ is_spelling m = sym (spelling_lower l) ∙ ap is_spelling label ∙ spelling_lower m in
+    let read : read_label l ≡ read_label m = sym (read_lower l) ∙ ap read_label label ∙ read_lower m in
+    λ i. cond (same_lowered (above i) (lowered a) && spelling i) (Some (read i)) None
+
+-- ---- one record
+
+module _ (a : Name) (p : Parameters) (k l : HashedLink) (alike : IsHashedAlike k l) where
+  owner_hash_alike : owner_hash a p k ≡ owner_hash a p l
+  owner_hash_alike = λ i. cond (same_parameters (alike.parameters i) p) (hash_in_alike a k.owner l.owner (one_lowered k.owner l.owner alike.owner) i) None
+
+  pub hash_match_alike : (v : Octets) → is_hash_match a p v k ≡ is_hash_match a p v l
+  hash_match_alike v = ap (is_some_with (λ h. matches octets_before h v)) owner_hash_alike
+
+  pub hash_cover_alike : (v : Octets) → is_hash_cover a p v k ≡ is_hash_cover a p v l
+  hash_cover_alike v = λ i. is_some_with (λ h. covers octets_before h (alike.next i) v) (owner_hash_alike i)
+
+  pub cut_alike : (d : Name) → tells_cut a d k ≡ tells_cut a d l
+  cut_alike d = λ i. not (same_name d a) && contains_type (alike.bits i) ns
+
+  pub match_says_alike : (d : Name) (t : ℕ) → hash_match_verdict a d k t ≡ hash_match_verdict a d l t
+  match_says_alike d t =
+      λ i. cond (contains_type (alike.bits i) t) Has
+      (cond (cut_alike d i && not (nat_eq t ds)) BelowDelegation (cond (is_none (types_of (alike.bits i))) EmptyName NoType))
+
+-- ---- lists
+
+module _ (a : Name) (p : Parameters) (hash : Hash) (ks ls : List HashedLink) (alike : ArePaired IsHashedAlike ks ls) where
+  pub matched_alike : (n : Name) → is_matched a p hash ks n ≡ is_matched a p hash ls n
+  matched_alike n = λ i. is_ok_with (λ v. any_alike IsHashedAlike (is_hash_match a p v) (λ k l h. hash_match_alike a p k l h v) ks ls alike i) (hash_name hash n)
+
+  pub covered_alike : (n : Name) → is_covered a p hash ks n ≡ is_covered a p hash ls n
+  covered_alike n = λ i. is_ok_with (λ v. any_alike IsHashedAlike (is_hash_cover a p v) (λ k l h. hash_cover_alike a p k l h v) ks ls alike i) (hash_name hash n)
+
+  cover_says_alike : (count : ℕ) (m n : Option HashedLink) → OptionsPaired IsHashedAlike m n → hash_cover_verdict count m ≡ hash_cover_verdict count n
+  cover_says_alike count None None h = refl
+  cover_says_alike count None (Some l) h = absurd h
+  cover_says_alike count (Some k) None h = absurd h
+  cover_says_alike count (Some k) (Some l) h = ap (λ f. missing_verdict (is_opt_out f) count) h.flags
+
+  told_alike : (d : Name) (k l : HashedLink) → IsHashedAlike k l → (t : ℕ) (next : Option Octets) → told_verdict a p ks d k t next ≡ told_verdict a p ls d l t next
+  told_alike d k l h t None = match_says_alike a p k l h d t
+  told_alike d k l h t (Some v) =
+      let covering = find_alike IsHashedAlike (is_hash_cover a p v) (λ k l h. hash_cover_alike a p k l h v) ks ls alike in
+      λ i. cond (cut_alike a p k l h d i) BelowDelegation (cover_says_alike (length d) (find (is_hash_cover a p v) ks) (find (is_hash_cover a p v) ls) covering i)
+
+  module _ (x : Name) (t : ℕ) (verdict : Verdict) where
+    first_alike : (d : Name) → IsFirst a p hash ks x d → IsFirst a p hash ls x d
+    first_alike d first = λ y up below. let f = first y up below in (f.0, f.1, sym (matched_alike y) ∙ f.2)
+
+    -- the first match in the one list, and in the other
+    found_alike : (v : Octets) (k : HashedLink) → find (is_hash_match a p v) ks ≡ Some k → (l : HashedLink) × IsHashedAlike k l × (find (is_hash_match a p v) ls ≡ Some l)
+    found_alike v k e =
+        by (find (is_hash_match a p v) ls) refl
+        (subst (λ o. OptionsPaired IsHashedAlike o (find (is_hash_match a p v) ls)) e (find_alike IsHashedAlike (is_hash_match a p v) (λ k l h. hash_match_alike a p k l h v) ks ls alike))
+      where
+        by : (o : Option HashedLink) → find (is_hash_match a p v) ls ≡ o → OptionsPaired IsHashedAlike (Some k) (find (is_hash_match a p v) ls) → (l : HashedLink) × IsHashedAlike k l × (find (is_hash_match a p v) ls ≡ Some l)
+        by None f h = absurd (subst (OptionsPaired IsHashedAlike (Some k)) f h)
+        by (Some l) f h = (l, subst (OptionsPaired IsHashedAlike (Some k)) f h, f)
+
+    pub walked_alike : IsWalked ks a p hash x t verdict → IsWalked ls a p hash x t verdict
+    walked_alike (inl w) =
+        let other = found_alike w.value w.link w.found in
+        inl (record {
+          name = w.name;
+          link = other.0;
+          value = w.value;
+          next = w.next;
+          first = record {
+            above = w.first.above;
+            within = w.first.within;
+            found = sym (matched_alike w.name) ∙ w.first.found;
+            first = first_alike w.name w.first.first;
+          };
+          known = w.known;
+          found = other.2;
+          closes = w.closes;
+          says = w.says ∙ told_alike w.name w.link other.0 other.1 t w.next;
+        })
+    walked_alike (inr w) = inr (w.0, λ y up low. let f = w.1 y up low in (f.0, f.1, sym (matched_alike y) ∙ f.2))
+
+module _ (L : List ZoneRecord) (a : Name) (config : ChainConfig) (x : Name) (t : ℕ) (ks ls : List HashedLink) (alike : ArePaired IsHashedAlike ks ls) where
+  abbrev en : Name
+  en = closest_encloser (original_owners L a config) a x
+
+  proves_alike : proves L a config ks x ≡ proves L a config ls x
+  proves_alike =
+      λ i. matched_alike a config.parameters config.hash ks ls alike en i
+      && ((same_name en x || is_zone_cut L a en) || covered_alike a config.parameters config.hash ks ls alike (next_closer x en) i)
+
+  pub proved_alike : hashed_proved_verdict L a config ks x t ≡ hashed_proved_verdict L a config ls x t
+  proved_alike = λ i. cond (not (is_at_or_below x a) || proves_alike i) (hashed_zone_verdict L a config x t) NotProven
