@@ -15,7 +15,7 @@ use domain_octets::laws::{base32_reads_back, base32_tells_apart};
 
 /// What NSEC3 records say on the way from a name to the apex is what they prove of any zone of
 /// whose chain they are; and of any records at all no verdict comes without a proof.
-pub(crate) fn walks_are_proved()
+pub fn walks_are_proved()
     ensures { (listed : List HashedLink) (a : Name) (p : Parameters) (hash : Hash) (x : Name)
         (t : ℕ) (verdict : Verdict) → t < 65536 → is_at_or_below x a ≡ true
         → IsWalked listed a p hash x t verdict → WalksAreProved listed a p hash x t verdict }
