@@ -476,41 +476,6 @@ fn many_lines(rt: HostRuntime) -> Result<(), Fail> {
     Ok(())
 }
 
-/// The zone with an SOA at `a.` and an A so many labels `a` below it.
-fn deep_zone(alloc: Global, below: usize) -> Result<String, Fail> {
-    let below = "a.".repeat(alloc, below)?;
-    Ok(format!(in alloc; "a. 3600 IN SOA b. c. 1 2 3 4 1800\n{below}a. 60 IN A 192.0.2.1\n")?)
-}
-
-// A name of 127 labels is an owner as any other; with 128 it is none.
-#[test]
-fn long_names(rt: HostRuntime) -> Result<(), Fail> {
-    let alloc = rt.alloc();
-    for (below, lines) in [(126, 2), (127, 0)] {
-        let text = deep_zone(alloc, below)?;
-        let said = outcome(alloc, "nsec a.", &mut text.as_bytes())?;
-        let written = said.matches('\n').count();
-        assert_eq!(rt; written, lines, "{said}");
-    }
-    Ok(())
-}
-
-// Below an owner of 127 labels the NSEC3 chain has 125 empty non-terminals: their records list no
-// types, so that these have nine words.
-#[test]
-fn deep_empty_nonterminals(rt: HostRuntime) -> Result<(), Fail> {
-    let alloc = rt.alloc();
-    let text = deep_zone(alloc, 126)?;
-    let said = outcome(alloc, "nsec3 a. 0 -", &mut text.as_bytes())?;
-    let untyped = said
-        .lines()
-        .filter(|line| line.contains(" NSEC3 ") && line.split(' ').count() == 9)
-        .count();
-    assert_eq!(rt; said.matches(" IN NSEC3 ").count(), 127, "{said}");
-    assert_eq!(rt; untyped, 125, "{said}");
-    Ok(())
-}
-
 // For `rt try --test --fail-alloc N`: want of memory, or the answer.
 #[test]
 fn short_of_memory(rt: HostRuntime) {

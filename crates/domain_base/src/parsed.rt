@@ -1,5 +1,5 @@
 //! Names in octets that they borrow: those of a message, or of another name.
-ghost use Rattle.std.specs.Prelude.{◌≡◌, ◌∷◌, [], Some, IfNone, IfSome, IfOk, IfErr, OnErr};
+ghost use Rattle.std.specs.Prelude.{◌≡◌, ◌∷◌, [], Some, IsOk, IfNone, IfSome, IfOk, IfErr, OnErr};
 ghost use Rattle.domain_base.specs.Text.{name_text};
 ghost use Rattle.domain_base.specs.Name.{wire_of, IsName, parent_of};
 ghost use Rattle.domain_base.specs.Fault.{NameFault, WholeNameFault, fault_of, name_fault_of};
@@ -100,7 +100,11 @@ impl<'a> ParsedName<'a> {
 impl<'a> TryClone for ParsedName<'a> {
     ghost is_clone = { λ n copy. copy ≡ n };
 
-    fn try_clone(&self) -> Result<Self, OutOfMemory> {
+    /// The same name, in the same octets. Takes no memory.
+    fn try_clone(&self) -> Result<Self, OutOfMemory>
+        ensures copy { IfOk result (λ copy. copy ≡ self.now) }
+        ensures always { IsOk result }
+    {
         Ok(ParsedName { wire: self.wire })
     }
 }

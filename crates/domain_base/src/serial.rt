@@ -13,7 +13,10 @@ use domain_octets::{AppendError, OctetsBuilder, Parser};
 use std::cmp::Ordering;
 use std::fmt;
 use std::marker::Model;
+use std::mem::size_of;
 use std::str::FromStr;
+
+const _: () = prove!(Serial::COMPOSE_LEN as usize == size_of::<u32>());
 
 /// A serial number: 32 bits, in a circle (RFC 1982).
 #[derive(Clone, Copy, Debug, PartialEq)]

@@ -1,5 +1,5 @@
 //! Octets in an array of a fixed size.
-ghost use Rattle.std.specs.Prelude.{◌≡◌, [], Some, length};
+ghost use Rattle.std.specs.Prelude.{◌≡◌, [], Some, length, IfOk, IsOk};
 ghost use Rattle.std.specs.List.{refill};
 ghost use Rattle.std.proofs.Common.{sym};
 ghost use Rattle.domain_octets.specs.Written.{refilled};
@@ -39,7 +39,11 @@ impl<const K: usize> ArrayBuilder<K> {
 impl<const K: usize> TryClone for ArrayBuilder<K> {
     ghost is_clone = { λ b copy. copy ≡ b };
 
-    fn try_clone(&self) -> Result<Self, OutOfMemory> {
+    /// A copy. Takes no memory.
+    fn try_clone(&self) -> Result<Self, OutOfMemory>
+        ensures copy { IfOk result (λ copy. copy ≡ self.now) }
+        ensures always { IsOk result }
+    {
         let mut octets = ArrayVec::new();
         if octets
             .try_extend_from_slice(self.octets.as_slice())

@@ -1,5 +1,5 @@
 //! Octets that lie together.
-ghost use Rattle.std.specs.Prelude.{◌≡◌, IfOk};
+ghost use Rattle.std.specs.Prelude.{◌≡◌, IfOk, IsOk};
 ghost use Rattle.domain_octets.specs.Words.{Octets};
 
 use crate::OutOfMemory;
@@ -41,7 +41,11 @@ impl TryClone for Vec<u8> {
 impl<'a> TryClone for &'a [u8] {
     ghost is_clone = { λ s copy. copy.now ≡ s.now };
 
-    fn try_clone(&self) -> Result<&'a [u8], OutOfMemory> {
+    /// The slice itself. Takes no memory.
+    fn try_clone(&self) -> Result<&'a [u8], OutOfMemory>
+        ensures copy { IfOk result (λ copy. copy.now ≡ self.now.now) }
+        ensures always { IsOk result }
+    {
         Ok(*self)
     }
 }

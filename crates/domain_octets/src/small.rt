@@ -92,8 +92,12 @@ impl SmallOctets {
 impl TryClone for SmallOctets {
     ghost is_clone = { λ s copy. copy ≡ s };
 
+    /// A copy. Takes no memory where there are at most 30 octets.
     #[inline]
-    fn try_clone(&self) -> Result<Self, OutOfMemory> {
+    fn try_clone(&self) -> Result<Self, OutOfMemory>
+        ensures copy { IfOk result (λ copy. copy ≡ self.now) }
+        ensures inside { length self.now ≤ room_inside → IsOk result }
+    {
         let held = match &self.held {
             Held::Inside(len, octets) => Held::Inside(*len, *octets),
             Held::Outside(octets) => Held::Outside(octets.clone()?),

@@ -1,7 +1,8 @@
 //! The builder of octets that lie in the value itself where they are few.
-ghost use Rattle.std.specs.Prelude.{◌≡◌, None, refl, length};
+ghost use Rattle.std.specs.Prelude.{◌≡◌, ◌≤◌, ◌+◌, ◌++◌, None, refl, length, IfOk, IsErrOf, IsOk, OnErr, OnOk};
 ghost use Rattle.std.specs.List.{refill};
 ghost use Rattle.std.proofs.Common.{sym};
+ghost use Rattle.domain_octets.specs.Small.{room_inside};
 ghost use Rattle.domain_octets.specs.Written.{refilled};
 ghost use Rattle.domain_octets.specs.Words.{Octets};
 
@@ -24,6 +25,8 @@ impl Model for SmallBuilder {
     ghost Value = { Octets };
 
     ghost view = { λ b. b.octets.items };
+
+    ghost invariant = { λ b. room_inside ≤ b.octets.capacity };
 }
 
 impl SmallBuilder {
@@ -40,7 +43,11 @@ impl SmallBuilder {
 impl TryClone for SmallBuilder {
     ghost is_clone = { λ b copy. copy ≡ b };
 
-    fn try_clone(&self) -> Result<Self, OutOfMemory> {
+    /// A copy. Takes no memory where there are at most 30 octets.
+    fn try_clone(&self) -> Result<Self, OutOfMemory>
+        ensures copy { IfOk result (λ copy. copy ≡ self.now) }
+        ensures inside { length self.now ≤ room_inside → IsOk result }
+    {
         Ok(SmallBuilder {
             octets: SmallVec::from_slice(*self.octets.allocator(), self.octets.as_slice())?,
         })
@@ -64,8 +71,14 @@ impl OctetsBuilder for SmallBuilder {
     ghost with_octets = { λ b xs. refill (length b) b xs };
 
     /// The first octets are given just the memory that they need, since most octets come at once.
+    /// Takes no memory where there are then at most 30.
     #[inline]
-    fn append_slice(&mut self, slice: &[u8]) -> Result<(), AppendError> {
+    fn append_slice(&mut self, slice: &[u8]) -> Result<(), AppendError>
+        ensures ok { OnOk result (self.new ≡ self.old ++ slice.now) }
+        ensures err { OnErr result (self.new ≡ self.old) }
+        ensures grows { IsErrOf result AppendError.ShortBuf → ⊥ }
+        ensures inside { length self.old + length slice.now ≤ room_inside → IsOk result }
+    {
         if self.octets.is_empty() {
             self.octets.reserve_exact(slice.len())?;
         }

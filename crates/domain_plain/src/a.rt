@@ -1,5 +1,5 @@
 //! Addresses of hosts.
-ghost use Rattle.std.specs.Prelude.{◌≡◌, refl, IfOk, IfErr, OnErr, Some};
+ghost use Rattle.std.specs.Prelude.{◌≡◌, refl, IfOk, IsOk, IfErr, OnErr, Some};
 ghost use Rattle.std.specs.Net.Addr.{ipv4_octets};
 ghost use Rattle.std.specs.Net.Text.{ipv4_text};
 ghost use Rattle.std.specs.Ordering.{on, nat_cmp};
@@ -90,7 +90,11 @@ impl A {
 impl TryClone for A {
     ghost is_clone = { λ d copy. copy.addr ≡ d.addr };
 
-    fn try_clone(&self) -> Result<Self, OutOfMemory> {
+    /// A copy. Takes no memory.
+    fn try_clone(&self) -> Result<Self, OutOfMemory>
+        ensures copy { IfOk result (λ copy. copy.addr ≡ self.now.addr) }
+        ensures always { IsOk result }
+    {
         Ok(*self)
     }
 }

@@ -4,20 +4,13 @@ use Rattle.domain_octets.specs.Words.{Octets}
 use Rattle.domain_bitmap.specs.Blocks.{IsShortest}
 use Rattle.domain_rdata.specs.Kind.{kind_of}
 use Rattle.domain_rdata.specs.declared.zone_record_data.ZoneRecordData.{ZoneRecordData}
-use Rattle.domain_rdata.specs.declared.zone_record_data.ZoneRecordData.TheVariants.{A, Ns, Soa, Mx, Dnskey, Ds, Rrsig, Nsec, Nsec3, Nsec3param, Unknown}
+use Rattle.domain_rdata.specs.declared.zone_record_data.ZoneRecordData.TheVariants.{Nsec, Nsec3, Unknown}
 
 -- a bitmap is in its shortest form, a hash has an octet, and octets are of a type that has no other
 -- form and fit into a record
 abbrev pub HasExactText : {O N : Type 0} → (O → Octets) → ZoneRecordData O N → Type 0
-HasExactText octets (A d) = Unit {0}
-HasExactText octets (Ns d) = Unit {0}
-HasExactText octets (Soa d) = Unit {0}
-HasExactText octets (Mx d) = Unit {0}
-HasExactText octets (Dnskey d) = Unit {0}
-HasExactText octets (Ds d) = Unit {0}
-HasExactText octets (Rrsig d) = Unit {0}
 HasExactText octets (Nsec d) = IsShortest d.types
 HasExactText octets (Nsec3 d) = (d.next_owner ≢ []) × IsShortest d.types
-HasExactText octets (Nsec3param d) = Unit {0}
 HasExactText octets (Unknown d) =
     (kind_of d.rtype ≡ None) × (length (octets d.«data») ≤ 65535)
+HasExactText octets _ = Unit {0}

@@ -3,6 +3,8 @@ use Rattle.std.specs.Prelude.{ℕ, ◌==◌, Option, Some, None, if◌then◌els
 use Rattle.domain_base.specs.Types as rtypes
 use Rattle.domain_fields.specs.Layout.{Layout}
 use Rattle.domain_plain.specs.Plain.{a, ns, soa, mx}
+use Rattle.domain_rdata.specs.declared.kind.OwnType.{OwnType}
+use Rattle.domain_rdata.specs.declared.kind.OwnType.TheVariants.{A, Ns, Soa, Mx, Dnskey, Ds, Rrsig, Nsec, Nsec3, Nsec3param}
 
 -- how the data of a type are made up: of fields of one token each, or in a way of their own
 pub data Kind : Type 0 where
@@ -28,3 +30,16 @@ kind_of rtype =
     else (if rtype == rtypes.nsec3 then Some next_by_hash
     else (if rtype == rtypes.nsec3param then Some params
     else None)))))))))
+
+-- the numbers of these types, as code names them
+abbrev pub number_of : OwnType → ℕ
+number_of A = rtypes.a
+number_of Ns = rtypes.ns
+number_of Soa = rtypes.soa
+number_of Mx = rtypes.mx
+number_of Dnskey = rtypes.dnskey
+number_of Ds = rtypes.ds
+number_of Rrsig = rtypes.rrsig
+number_of Nsec = rtypes.nsec
+number_of Nsec3 = rtypes.nsec3
+number_of Nsec3param = rtypes.nsec3param

@@ -15,7 +15,7 @@ use Rattle.domain_chain_rdata.specs.NsecWire.{BeginsNsec}
 use Rattle.domain_chain_rdata.specs.Nsec3Text.{Nsec3Text}
 use Rattle.domain_chain_rdata.specs.Nsec3Wire.{BeginsNsec3}
 use Rattle.domain_chain_rdata.specs.Nsec3paramText.{Nsec3paramText}
-use Rattle.domain_chain_rdata.specs.Rdata.{nsec_values, nsec3, nsec3_values, nsec3param, nsec3param_values}
+use Rattle.domain_chain_rdata.specs.Rdata.{nsec_values, nsec3_values, nsec3param, nsec3param_values}
 use Rattle.domain_rdata.specs.Kind.{kind_of}
 use Rattle.domain_rdata.specs.declared.zone_record_data.ZoneRecordData.{ZoneRecordData}
 use Rattle.domain_rdata.specs.declared.zone_record_data.ZoneRecordData.TheVariants.{A, Ns, Soa, Mx, Dnskey, Ds, Rrsig, Nsec, Nsec3, Nsec3param, Unknown}

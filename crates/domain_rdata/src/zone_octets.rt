@@ -1,6 +1,5 @@
 //! Data of all types from the octets of their generic form.
-ghost use Rattle.std.specs.Prelude.{◌≡◌, ◌==◌, ◌<◌, ◌≤◌, ◌⊎◌, false, [], Some, None, codes, length, IfOk, IfErr, OnOk};
-ghost use Rattle.domain_base.specs.Types as rtypes;
+ghost use Rattle.std.specs.Prelude.{◌≡◌, ◌<◌, ◌≤◌, ◌⊎◌, [], Some, None, codes, length, IfOk, IfErr, OnOk};
 ghost use Rattle.domain_base.specs.Scan.{illegal, scan_fault_of};
 ghost use Rattle.domain_fields.specs.Layout.{Begins};
 ghost use Rattle.domain_plain.specs.Plain.{a, a_values, ns, ns_values, soa, soa_values, mx, mx_values};
@@ -14,6 +13,7 @@ ghost use Rattle.domain_rdata.specs.Refusal.{CopyFault, IsNotWhole, OctetsFault}
 ghost use Rattle.domain_rdata.specs.Scan.{AreData};
 
 use crate::ZoneRecordData;
+use crate::kind::{OwnType, own_type};
 use domain_base::{MakeName, ParsedName, Rtype, ScanError, ToName};
 use domain_chain_rdata::{Nsec, Nsec3, Nsec3param};
 use domain_keys::{Dnskey, Ds};
@@ -284,76 +284,19 @@ where
             OctetsFault O.Builder.limit (kind_of «data».rtype) (O.octets «data».«data»)
             (scan_fault_of e)) }
     {
-        let (rtype, octets) = (data.rtype(), data.data().as_slice());
-        if rtype == Rtype::A {
-            return Ok(ZoneRecordData::A(a_of(octets)?));
-        }
-        if rtype == Rtype::NS {
-            return Ok(ZoneRecordData::Ns(ns_of(alloc, octets)?));
-        }
-        if rtype == Rtype::SOA {
-            return Ok(ZoneRecordData::Soa(soa_of(alloc, octets)?));
-        }
-        if rtype == Rtype::MX {
-            return Ok(ZoneRecordData::Mx(mx_of(alloc, octets)?));
-        }
-        Self::from_signing(alloc, data)
-    }
-
-    /// The same for a type that is neither A, NS, SOA nor MX.
-    fn from_signing(alloc: Global, data: UnknownRecordData<O>) -> Result<Self, ScanError>
-    where
-        O: Drop,
-        N: MakeName + Drop,
-        requires not_a { («data».rtype == rtypes.a) ≡ false }
-        requires not_ns { («data».rtype == rtypes.ns) ≡ false }
-        requires not_soa { («data».rtype == rtypes.soa) ≡ false }
-        requires not_mx { («data».rtype == rtypes.mx) ≡ false }
-        ensures ok { IfOk result (λ d. AreData O.octets N.labels «data».rtype
-            (O.octets «data».«data») d) }
-        ensures err { IfErr result (λ e. OctetsFault O.Builder.limit (kind_of «data».rtype)
-            (O.octets «data».«data») (scan_fault_of e)) }
-    {
-        let (rtype, octets) = (data.rtype(), data.data().as_slice());
-        if rtype == Rtype::DNSKEY {
-            return Ok(ZoneRecordData::Dnskey(dnskey_of(alloc, octets)?));
-        }
-        if rtype == Rtype::DS {
-            return Ok(ZoneRecordData::Ds(ds_of(alloc, octets)?));
-        }
-        if rtype == Rtype::RRSIG {
-            return Ok(ZoneRecordData::Rrsig(rrsig_of(alloc, octets)?));
-        }
-        Self::from_denying(alloc, data)
-    }
-
-    /// The same for a type that is none of these, nor DNSKEY, DS or RRSIG.
-    fn from_denying(alloc: Global, data: UnknownRecordData<O>) -> Result<Self, ScanError>
-    where
-        O: Drop,
-        N: MakeName + Drop,
-        requires not_a { («data».rtype == rtypes.a) ≡ false }
-        requires not_ns { («data».rtype == rtypes.ns) ≡ false }
-        requires not_soa { («data».rtype == rtypes.soa) ≡ false }
-        requires not_mx { («data».rtype == rtypes.mx) ≡ false }
-        requires not_dnskey { («data».rtype == rtypes.dnskey) ≡ false }
-        requires not_ds { («data».rtype == rtypes.ds) ≡ false }
-        requires not_rrsig { («data».rtype == rtypes.rrsig) ≡ false }
-        ensures ok { IfOk result (λ d. AreData O.octets N.labels «data».rtype
-            (O.octets «data».«data») d) }
-        ensures err { IfErr result (λ e. OctetsFault O.Builder.limit (kind_of «data».rtype)
-            (O.octets «data».«data») (scan_fault_of e)) }
-    {
-        let (rtype, octets) = (data.rtype(), data.data().as_slice());
-        if rtype == Rtype::NSEC {
-            return Ok(ZoneRecordData::Nsec(nsec_of(alloc, octets)?));
-        }
-        if rtype == Rtype::NSEC3 {
-            return Ok(ZoneRecordData::Nsec3(nsec3_of(alloc, octets)?));
-        }
-        if rtype == Rtype::NSEC3PARAM {
-            return Ok(ZoneRecordData::Nsec3param(nsec3param_of(alloc, octets)?));
-        }
-        Ok(ZoneRecordData::Unknown(data))
+        let octets = data.data().as_slice();
+        Ok(match own_type(data.rtype()) {
+            Some(OwnType::A) => ZoneRecordData::A(a_of(octets)?),
+            Some(OwnType::Ns) => ZoneRecordData::Ns(ns_of(alloc, octets)?),
+            Some(OwnType::Soa) => ZoneRecordData::Soa(soa_of(alloc, octets)?),
+            Some(OwnType::Mx) => ZoneRecordData::Mx(mx_of(alloc, octets)?),
+            Some(OwnType::Dnskey) => ZoneRecordData::Dnskey(dnskey_of(alloc, octets)?),
+            Some(OwnType::Ds) => ZoneRecordData::Ds(ds_of(alloc, octets)?),
+            Some(OwnType::Rrsig) => ZoneRecordData::Rrsig(rrsig_of(alloc, octets)?),
+            Some(OwnType::Nsec) => ZoneRecordData::Nsec(nsec_of(alloc, octets)?),
+            Some(OwnType::Nsec3) => ZoneRecordData::Nsec3(nsec3_of(alloc, octets)?),
+            Some(OwnType::Nsec3param) => ZoneRecordData::Nsec3param(nsec3param_of(alloc, octets)?),
+            None => ZoneRecordData::Unknown(data),
+        })
     }
 }

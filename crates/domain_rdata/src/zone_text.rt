@@ -1,6 +1,5 @@
 //! Data of all types from tokens.
-ghost use Rattle.std.specs.Prelude.{◌≡◌, ◌==◌, ◌↔◌, false, IsTrue, IfOk, IfErr};
-ghost use Rattle.domain_base.specs.Types as rtypes;
+ghost use Rattle.std.specs.Prelude.{◌↔◌, IsTrue, IfOk, IfErr};
 ghost use Rattle.domain_base.specs.Scan.{IsOfTokens, scan_fault_of};
 ghost use Rattle.domain_rdata.specs.DataText.{data_text};
 ghost use Rattle.domain_rdata.specs.Refusal.{RefusesOwn, RefusesRdata};
@@ -9,6 +8,7 @@ ghost use Rattle.domain_rdata.specs.declared.zone_record_data.ZoneRecordData.{Zo
 ghost use Rattle.domain_base.specs.Words.{Tokens};
 
 use crate::ZoneRecordData;
+use crate::kind::{OwnType, own_type};
 use crate::zone_record_data::with_data;
 use domain_base::{MakeName, Rtype, ScanError, Scanner, ToName};
 use domain_chain_rdata::{Nsec, Nsec3, Nsec3param};
@@ -53,82 +53,21 @@ where
             RefusesOwn O.Builder.limit rtype (S.tokens scanner.old) (S.tokens scanner.new)
             (scan_fault_of e)) }
     {
-        if rtype == Rtype::A {
-            return Ok(ZoneRecordData::A(A::scan(alloc, scanner)?));
-        }
-        if rtype == Rtype::NS {
-            return Ok(ZoneRecordData::Ns(Ns::scan(alloc, scanner)?));
-        }
-        if rtype == Rtype::SOA {
-            return Ok(ZoneRecordData::Soa(Soa::scan(alloc, scanner)?));
-        }
-        if rtype == Rtype::MX {
-            return Ok(ZoneRecordData::Mx(Mx::scan(alloc, scanner)?));
-        }
-        Self::scan_signing(alloc, rtype, scanner)
-    }
-
-    /// The same for a type that is neither A, NS, SOA nor MX.
-    fn scan_signing<S: Scanner<Name = N, Octets = O>>(
-        alloc: Global,
-        rtype: Rtype,
-        scanner: &mut S,
-    ) -> Result<Self, ScanError>
-    where
-        O: Drop,
-        N: Drop,
-        requires not_a { (rtype == rtypes.a) ≡ false }
-        requires not_ns { (rtype == rtypes.ns) ≡ false }
-        requires not_soa { (rtype == rtypes.soa) ≡ false }
-        requires not_mx { (rtype == rtypes.mx) ≡ false }
-        ensures ok { IfOk result (λ d. OwnText N.labels rtype
-            (S.tokens scanner.old) d (S.tokens scanner.new)) }
-        ensures err { IfErr result (λ e. RefusesOwn O.Builder.limit rtype
-            (S.tokens scanner.old) (S.tokens scanner.new) (scan_fault_of e)) }
-    {
-        if rtype == Rtype::DNSKEY {
-            return Ok(ZoneRecordData::Dnskey(Dnskey::scan(alloc, scanner)?));
-        }
-        if rtype == Rtype::DS {
-            return Ok(ZoneRecordData::Ds(Ds::scan(alloc, scanner)?));
-        }
-        if rtype == Rtype::RRSIG {
-            return Ok(ZoneRecordData::Rrsig(Rrsig::scan(alloc, scanner)?));
-        }
-        Self::scan_denying(alloc, rtype, scanner)
-    }
-
-    /// The same for a type that is none of these, nor DNSKEY, DS or RRSIG.
-    fn scan_denying<S: Scanner<Name = N, Octets = O>>(
-        alloc: Global,
-        rtype: Rtype,
-        scanner: &mut S,
-    ) -> Result<Self, ScanError>
-    where
-        O: Drop,
-        N: Drop,
-        requires not_a { (rtype == rtypes.a) ≡ false }
-        requires not_ns { (rtype == rtypes.ns) ≡ false }
-        requires not_soa { (rtype == rtypes.soa) ≡ false }
-        requires not_mx { (rtype == rtypes.mx) ≡ false }
-        requires not_dnskey { (rtype == rtypes.dnskey) ≡ false }
-        requires not_ds { (rtype == rtypes.ds) ≡ false }
-        requires not_rrsig { (rtype == rtypes.rrsig) ≡ false }
-        ensures ok { IfOk result (λ d. OwnText N.labels rtype
-            (S.tokens scanner.old) d (S.tokens scanner.new)) }
-        ensures err { IfErr result (λ e. RefusesOwn O.Builder.limit rtype
-            (S.tokens scanner.old) (S.tokens scanner.new) (scan_fault_of e)) }
-    {
-        if rtype == Rtype::NSEC {
-            return Ok(ZoneRecordData::Nsec(Nsec::scan(alloc, scanner)?));
-        }
-        if rtype == Rtype::NSEC3 {
-            return Ok(ZoneRecordData::Nsec3(Nsec3::scan(alloc, scanner)?));
-        }
-        if rtype == Rtype::NSEC3PARAM {
-            return Ok(ZoneRecordData::Nsec3param(Nsec3param::scan(alloc, scanner)?));
-        }
-        Err(ScanError::Custom("unknown record data"))
+        Ok(match own_type(rtype) {
+            Some(OwnType::A) => ZoneRecordData::A(A::scan(alloc, scanner)?),
+            Some(OwnType::Ns) => ZoneRecordData::Ns(Ns::scan(alloc, scanner)?),
+            Some(OwnType::Soa) => ZoneRecordData::Soa(Soa::scan(alloc, scanner)?),
+            Some(OwnType::Mx) => ZoneRecordData::Mx(Mx::scan(alloc, scanner)?),
+            Some(OwnType::Dnskey) => ZoneRecordData::Dnskey(Dnskey::scan(alloc, scanner)?),
+            Some(OwnType::Ds) => ZoneRecordData::Ds(Ds::scan(alloc, scanner)?),
+            Some(OwnType::Rrsig) => ZoneRecordData::Rrsig(Rrsig::scan(alloc, scanner)?),
+            Some(OwnType::Nsec) => ZoneRecordData::Nsec(Nsec::scan(alloc, scanner)?),
+            Some(OwnType::Nsec3) => ZoneRecordData::Nsec3(Nsec3::scan(alloc, scanner)?),
+            Some(OwnType::Nsec3param) => ZoneRecordData::Nsec3param(Nsec3param::scan(
+                alloc, scanner,
+            )?),
+            None => return Err(ScanError::Custom("unknown record data")),
+        })
     }
 
     /// The data of a type that the tokens begin with: in the text form of that type, or, where the

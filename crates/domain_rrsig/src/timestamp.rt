@@ -19,6 +19,8 @@ use std::fmt;
 use std::marker::Model;
 use std::str::FromStr;
 
+const _: () = prove!(Timestamp::COMPOSE_LEN == Serial::COMPOSE_LEN);
+
 /// When a signature begins or ends to hold: seconds since the start of 1970, without leap seconds,
 /// modulo 2^32 (RFC 4034, section 3.1.5).
 ///

@@ -1,9 +1,16 @@
-//! What callers may take from the definition of covering. A caller calls the law in its body.
-ghost use Rattle.std.specs.Prelude.{◌≡◌, true};
+//! What callers may take from definitions. A caller calls the law in its body.
+ghost use Rattle.std.specs.Prelude.{◌≡◌, List, true};
 ghost use Rattle.domain_base.specs.Name.{same_name};
 ghost use Rattle.domain_base.specs.Order.{before};
 ghost use Rattle.domain_base.specs.Words.{Name};
+ghost use Rattle.domain_plain.specs.declared.record.Record.{Record};
+ghost use Rattle.domain_records.specs.Order.{IsInOrder};
 ghost use Rattle.domain_zone.specs.Covering.{matches, covers};
+ghost use Rattle.domain_zone.specs.View.{zone_of};
+ghost use Rattle.domain_zone.specs.Zone.{OwnersNeverDescend};
+
+use domain_base::ToName;
+use domain_plain::ZoneData;
 
 /// A pair of names matches and covers a name in each of its spellings alike.
 pub fn covering_ignores_case()
@@ -11,4 +18,11 @@ pub fn covering_ignores_case()
         → matches before owner x ≡ matches before owner y }
     ensures covers { (owner next x y : Name) → same_name x y ≡ true
         → covers before owner next x ≡ covers before owner next y }
+{}
+
+/// The zone of records that are in order, as sorted records of one class are, has owners that never
+/// descend.
+pub fn owners_never_descend<N: ToName, D: ZoneData>()
+    ensures { (records : List (Record N D)) → IsInOrder N.labels D.rtype records
+        → OwnersNeverDescend (zone_of N.labels D.rtype D.minimum records) }
 {}

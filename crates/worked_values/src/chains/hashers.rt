@@ -7,11 +7,13 @@ use domain_base::{Nsec3HashAlgorithm, ScanError, ToName};
 use domain_dnssec::{HasherError, Nsec3Hasher};
 use std::alloc::{AllocError, Global};
 
-/// A name in the octets of its wire form in lower case, and its hash.
+/// A name in the octets of its wire form in lower case, and its hash, for which there may be no
+/// memory.
 #[derive(Drop)]
 pub struct Row {
     name: Vec<u8>,
     hash: Vec<u8>,
+    has_memory: bool,
 }
 
 /// A hasher that answers the hash of a name's row, and refuses names without a row with the number
@@ -43,6 +45,9 @@ fn look_up(alloc: Global, rows: &[Row], name: &[u8]) -> Result<Vec<u8>, HasherEr
         return Err(HasherError::Refused(7));
     };
     if row.name.as_slice() == name {
+        if !row.has_memory {
+            return Err(HasherError::OutOfMemory);
+        }
         return copied(alloc, row.hash.as_slice());
     }
     look_up(alloc, later, name)
@@ -64,16 +69,19 @@ impl Nsec3Hasher for TableHasher {
     }
 }
 
-/// The row that a word spells: a name, and after `=` the octets of its hash in Base 16.
+/// The row that a word spells: a name, and after `=` the octets of its hash in Base 16, or `memory`
+/// where there is none for them.
 fn make_row(alloc: Global, word: &str) -> Result<Row, ScanError> {
     let (name, digits) = word.split_once('=').unwrap_or((word, "-"));
     let name = OwnName::from_str(alloc, name)?;
     let mut lowered = Vec::new(alloc);
     name.compose_canonical(&mut lowered)?;
-    let hash = input::octets(alloc, &[digits])?;
+    let has_memory = digits != "memory";
+    let digits = if has_memory { digits } else { "-" };
     Ok(Row {
         name: lowered,
-        hash,
+        hash: input::octets(alloc, &[digits])?,
+        has_memory,
     })
 }
 
