@@ -1,5 +1,6 @@
 -- how many labels two names share from the root on: a walk over labels counts since the last two that differ
-use Rattle.std.proofs.Common.{◌≡◌, ℕ, ◌+◌, ◌-◌, Bool, true, false, cond, ◌&&◌, List, [], ◌∷◌, ◌++◌, map, length, reverse, take, drop, refl, sym, ap, ◌∙◌, inl, inr, ◌⊎◌, arith, nat_eq}
+use Rattle.std.proofs.Common.{◌≡◌, ℕ, ◌+◌, ◌-◌, Bool, true, false, cond, ◌&&◌, List, [], ◌∷◌, ◌++◌, map}
+use Rattle.std.proofs.Common.{length, reverse, take, drop, refl, sym, ap, ◌∙◌, inl, inr, ◌⊎◌, arith, nat_eq}
 use Rattle.std.specs.List.{common_prefix_len}
 use Rattle.std.specs.Cmp.Lexicographic.{pointwise}
 use Rattle.std.specs.Char.{to_ascii_lowercase}
@@ -111,7 +112,8 @@ module _ {X : Type 0} (e : X → X → Bool) where
             let whole = (runs 0 xs ys l).whole t in
             let same_length : length (reverse xs) ≡ length (reverse ys) = omega (arith, length-reverse xs, length-reverse ys) in
             let all = common_whole (reverse xs) (reverse ys) [] [] same_length t in
-            let out : common (reverse xs ++ []) (reverse ys ++ []) ≡ common (reverse xs) (reverse ys) = λ i. common (append_nil (reverse xs) i) (append_nil (reverse ys) i) in
+            let out : common (reverse xs ++ []) (reverse ys ++ [])
+            ≡ common (reverse xs) (reverse ys) = λ i. common (append_nil (reverse xs) i) (append_nil (reverse ys) i) in
             omega (arith, length-reverse xs, whole, all, out)
         | inr f ↦ (runs 0 xs ys l).part f
       ]
@@ -129,11 +131,14 @@ module _ {X : Type 0} (e : X → X → Bool) where
       ∙ elim (cases_lt (length xs) (length ys)) [
         | inl h ↦
             (λ i. common (reverse (none xs (length xs - length ys) (omega arith) i)) (reverse (drop (length ys - length xs) ys)))
-            ∙ sym (common_right (reverse xs) (reverse (drop (length ys - length xs) ys)) (reverse (take (length ys - length xs) ys)) (omega (arith, length-reverse xs, length-reverse (drop (length ys - length xs) ys), right)))
+            ∙ sym (common_right (reverse xs) (reverse (drop (length ys - length xs) ys))
+            (reverse (take (length ys - length xs) ys))
+            (omega (arith, length-reverse xs, length-reverse (drop (length ys - length xs) ys), right)))
             ∙ sym (λ i. common (reverse xs) (turned (length ys - length xs) ys i))
         | inr h ↦
             (λ i. common (reverse (drop (length xs - length ys) xs)) (reverse (none ys (length ys - length xs) (omega arith) i)))
-            ∙ sym (common_left (reverse (drop (length xs - length ys) xs)) (reverse (take (length xs - length ys) xs)) (reverse ys) (omega (arith, length-reverse ys, length-reverse (drop (length xs - length ys) xs), left)))
+            ∙ sym (common_left (reverse (drop (length xs - length ys) xs)) (reverse (take (length xs - length ys) xs))
+            (reverse ys) (omega (arith, length-reverse ys, length-reverse (drop (length xs - length ys) xs), left)))
             ∙ sym (λ i. common (turned (length xs - length ys) xs i) (reverse ys))
       ]
     where
@@ -149,7 +154,8 @@ abbrev pub same_label : List ℕ → List ℕ → Bool
 same_label = pointwise nat_eq
 
 -- of lowered labels
-pub walk_is : (x y : List (List ℕ)) → tail_run same_label 0 (lowered (drop (length x - length y) x)) (lowered (drop (length y - length x) y)) ≡ common_labels x y
+pub walk_is : (x y : List (List ℕ)) → tail_run same_label 0 (lowered (drop (length x - length y) x))
+    (lowered (drop (length y - length x) y)) ≡ common_labels x y
 walk_is x y =
     (λ i. tail_run same_label 0 (at_lowered x (length x - length y) i) (at_lowered y (length y - length x) i))
     ∙ (λ i. tail_run same_label 0 (drop (counts x i - counts y i) (lowered x)) (drop (counts y i - counts x i) (lowered y)))
@@ -162,7 +168,9 @@ walk_is x y =
     counts z = sym (length-map z (map to_ascii_lowercase))
 
 -- where one of the two has no labels left
-pub walk_ends : (n : ℕ) (x y left right : List (List ℕ)) → tail_run same_label n (lowered left) (lowered right) ≡ tail_run same_label 0 (lowered (drop (length x - length y) x)) (lowered (drop (length y - length x) y)) → (left ≡ []) ⊎ (right ≡ []) → n ≡ common_labels x y
+pub walk_ends : (n : ℕ) (x y left right : List (List ℕ)) → tail_run same_label n (lowered left) (lowered right)
+    ≡ tail_run same_label 0 (lowered (drop (length x - length y) x)) (lowered (drop (length y - length x) y))
+    → (left ≡ []) ⊎ (right ≡ []) → n ≡ common_labels x y
 walk_ends n x y left right counted over = sym (ended left right over) ∙ counted ∙ walk_is x y
   where
     ended : (u v : List (List ℕ)) → (u ≡ []) ⊎ (v ≡ []) → tail_run same_label n (lowered u) (lowered v) ≡ n

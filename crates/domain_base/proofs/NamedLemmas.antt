@@ -1,5 +1,6 @@
 -- tables of numbers and names, entry by entry
-use Rattle.std.proofs.Common.{◌≡◌, ◌≢◌, ℕ, ◌+◌, ◌-◌, ◌<◌, List, [], Bool, true, false, Some, None, map, length, get_or, take, drop, sym, ap, subst, ◌∙◌, arith, ◌↔◌, IsTrue, length-append}
+use Rattle.std.proofs.Common.{◌≡◌, ◌≢◌, ℕ, ◌+◌, ◌-◌, ◌<◌, List, [], Bool, true, false, Some, None}
+use Rattle.std.proofs.Common.{map, length, get_or, take, drop, sym, ap, subst, ◌∙◌, arith, ◌↔◌, IsTrue, length-append}
 use Rattle.std.specs.Prelude.{◌==◌, ◌^◌, Option, IsSome, IfSome, IfNone}
 use Rattle.std.specs.Option.{SomeIff}
 use Rattle.std.specs.Str.Parse.{IsNumeral, digits_value}
@@ -25,10 +26,13 @@ abbrev pub no_row : Row
 no_row = (0, record { ref_ptr = (0, 0); now = [] })
 
 module _ (table : List Row) (i : ℕ) (below : i < length table) where
-  pub named_here : (text : List ℕ) (same : Bool) → IsTrue same ↔ (map to_ascii_lowercase (get_or table i no_row).1.now ≡ map to_ascii_lowercase text) → same ≡ true → number_named (entries (drop i table)) text ≡ Some (get_or table i no_row).0
+  pub named_here : (text : List ℕ) (same : Bool) → IsTrue same ↔ (map to_ascii_lowercase (get_or table i no_row).1.now
+      ≡ map to_ascii_lowercase text) → same ≡ true → number_named (entries (drop i table)) text ≡ Some (get_or table i no_row).0
   named_here text same test is = let e = sym (text_test same (get_or table i no_row).1.now text test) ∙ is in rw (drop_more table i no_row below, e)
 
-  pub named_later : (text : List ℕ) (same : Bool) → IsTrue same ↔ (map to_ascii_lowercase (get_or table i no_row).1.now ≡ map to_ascii_lowercase text) → same ≡ false → number_named (entries (drop i table)) text ≡ number_named (entries (drop (i + 1) table)) text
+  pub named_later : (text : List ℕ) (same : Bool) → IsTrue same ↔ (map to_ascii_lowercase (get_or table i no_row).1.now
+      ≡ map to_ascii_lowercase text) → same ≡ false → number_named (entries (drop i table)) text
+      ≡ number_named (entries (drop (i + 1) table)) text
   named_later text same test is = let e = sym (text_test same (get_or table i no_row).1.now text test) ∙ is in rw (drop_more table i no_row below, e)
 
   pub name_here : (n : ℕ) → (get_or table i no_row).0 ≡ n → name_of (entries (drop i table)) n ≡ Some (get_or table i no_row).1.now
@@ -43,7 +47,8 @@ same_length front prefix same = sym (length-map front to_ascii_lowercase) ∙ ap
 lowered_low : (c d : ℕ) → to_ascii_lowercase c ≡ to_ascii_lowercase d → d < 128 → c < 128
 lowered_low c d same low = grind (arith, nat_tests)
 
-low_at : (front prefix : List ℕ) (i : ℕ) → map to_ascii_lowercase front ≡ map to_ascii_lowercase prefix → IsAscii prefix → i < length prefix → get_or front i 0 < 128
+low_at : (front prefix : List ℕ) (i : ℕ) → map to_ascii_lowercase front ≡ map to_ascii_lowercase prefix → IsAscii prefix
+    → i < length prefix → get_or front i 0 < 128
 low_at front prefix i same ascii below =
     let front_below : i < length front = omega (arith, same_length front prefix same) in
     let e : to_ascii_lowercase (get_or front i 0) ≡ to_ascii_lowercase (get_or prefix i 0) =
@@ -51,7 +56,8 @@ low_at front prefix i same ascii below =
     lowered_low (get_or front i 0) (get_or prefix i 0) e (ascii i)
 
 -- a text that has the prefix can be cut behind it
-pub cut_behind : (prefix text rest : List ℕ) → IsUtf8 text → IsAscii prefix → 0 < length prefix → HasPrefix prefix text rest → IsCharBoundary text (length prefix)
+pub cut_behind : (prefix text rest : List ℕ) → IsUtf8 text → IsAscii prefix → 0 < length prefix → HasPrefix prefix text rest
+    → IsCharBoundary text (length prefix)
 cut_behind prefix text rest utf8 ascii some has =
     let i = length prefix - 1 in
     let long = same_length has.front prefix has.same in
@@ -77,11 +83,15 @@ module _ (table : List Named) (prefix text : List ℕ) where
   no_number n none without (by_name t m is) = cc
   no_number n none without (by_number t digits m none' has is) = without digits has
 
-  pub number_some : (o : Option ℕ) (digits : List ℕ) → number_named table text ≡ None → HasPrefix prefix text digits → SomeIff o (IsNumeral 10 digits × (digits_value 10 digits < 2 ^ 16)) (digits_value 10 digits) → IfSome o (NumberText table prefix text)
+  pub number_some : (o : Option ℕ) (digits : List ℕ) → number_named table text ≡ None → HasPrefix prefix text digits
+      → SomeIff o (IsNumeral 10 digits × (digits_value 10 digits < 2 ^ 16)) (digits_value 10 digits)
+      → IfSome o (NumberText table prefix text)
   number_some None digits none has given = tt
   number_some (Some n) digits none has given = by_number text digits n none has (record { digits = given.0.0; fits = given.0.1; value = given.1 })
 
-  pub number_none : (o : Option ℕ) (digits : List ℕ) → number_named table text ≡ None → HasPrefix prefix text digits → SomeIff o (IsNumeral 10 digits × (digits_value 10 digits < 2 ^ 16)) (digits_value 10 digits) → IfNone o ((n : ℕ) → NumberText table prefix text n → ⊥)
+  pub number_none : (o : Option ℕ) (digits : List ℕ) → number_named table text ≡ None → HasPrefix prefix text digits
+      → SomeIff o (IsNumeral 10 digits × (digits_value 10 digits < 2 ^ 16)) (digits_value 10 digits)
+      → IfNone o ((n : ℕ) → NumberText table prefix text n → ⊥)
   number_none (Some n) digits none has given = tt
   number_none None digits none has given = refused where
     refused : (n : ℕ) → NumberText table prefix text n → ⊥

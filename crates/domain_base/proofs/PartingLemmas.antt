@@ -1,5 +1,6 @@
 -- the labels at which two names part, and what they decide
-use Rattle.std.proofs.Common.{w8, w64, Fits, ◌≡◌, ◌≢◌, ℕ, ◌≤◌, ◌<◌, ◌+◌, ◌-◌, List, [], ◌∷◌, ◌++◌, length, length-append, min, take, drop, get_or, map, reverse, refl, sym, ap, subst, ◌∙◌, arith, Option, None, Some, ◌⊎◌, inl, inr}
+use Rattle.std.proofs.Common.{w8, w64, Fits, ◌≡◌, ◌≢◌, ℕ, ◌≤◌, ◌<◌, ◌+◌, ◌-◌, List, [], ◌∷◌, ◌++◌, length, length-append, min}
+use Rattle.std.proofs.Common.{take, drop, get_or, map, reverse, refl, sym, ap, subst, ◌∙◌, arith, Option, None, Some, ◌⊎◌, inl, inr}
 use Rattle.std.specs.declared.cmp.Ordering.{Ordering}
 use Rattle.std.specs.declared.cmp.Ordering.TheVariants.{Less, Equal, Greater}
 use Rattle.std.specs.Ordering.{ordering_then, nat_cmp}
@@ -10,7 +11,8 @@ use Rattle.std.specs.Array.{IsWholeChunk}
 use Rattle.std.specs.Int.{from_le_bytes}
 use Rattle.std.proofs.Math.ListN.{drop_of_length-le}
 use Rattle.std.proofs.Math.Seq.{drop-append_seam}
-use Rattle.std.proofs.lemmas.List.{append-nil, append_assoc, drop-append-le, drop-drop, drop_more, get_or-drop, length-drop, length-take-le, take-take, map-append, reverse-append, take-append-drop}
+use Rattle.std.proofs.lemmas.List.{append-nil, append_assoc, drop-append-le, drop-drop, drop_more, get_or-drop}
+use Rattle.std.proofs.lemmas.List.{length-drop, length-take-le, take-take, map-append, reverse-append, take-append-drop}
 use Rattle.std.proofs.lemmas.Nat.{le_bytes_8}
 use Rattle.domain_base.specs.Name.{wire_of, lowered}
 use Rattle.domain_base.specs.Wire.{labels_of, IsWire}
@@ -21,7 +23,8 @@ use Rattle.domain_base.proofs.OrderLemmas.{decided, from_root-cons}
 use Rattle.domain_base.proofs.WireLemmas.{wire_is, length-wire}
 
 -- the next label is the one right below the rest
-pub next_end : (name : List (List ℕ)) (below : Option (List ℕ)) (label : List ℕ) (here above : List (List ℕ)) → EndsIn name below here → here ≡ label ∷ above → EndsIn name (Some label) above
+pub next_end : (name : List (List ℕ)) (below : Option (List ℕ)) (label : List ℕ) (here above : List (List ℕ))
+    → EndsIn name below here → here ≡ label ∷ above → EndsIn name (Some label) above
 next_end name None label here above ends is = ([], ends ∙ is)
 next_end name (Some x) label here above ends is =
     (ends.0 ++ x ∷ [], ends.1 ∙ ap (λ l. ends.0 ++ x ∷ l) is ∙ sym (append_assoc ends.0 (x ∷ []) (label ∷ above)))
@@ -37,7 +40,8 @@ module _ {X : Type 0} (R : X → X → Ordering) (tied : (x : X) → R x x ≡ E
   slice_cmp-shared [] xs ys = refl
   slice_cmp-shared (s ∷ shared) xs ys = ap (λ o. ordering_then o (slice_cmp R (shared ++ xs) (shared ++ ys))) (tied s) ∙ slice_cmp-shared shared xs ys
 
-from_root-part : (front shared : List (List ℕ)) (label : List ℕ) → from_root (front ++ label ∷ shared) ≡ from_root shared ++ map to_ascii_lowercase label ∷ from_root front
+from_root-part : (front shared : List (List ℕ)) (label : List ℕ)
+    → from_root (front ++ label ∷ shared) ≡ from_root shared ++ map to_ascii_lowercase label ∷ from_root front
 from_root-part front shared label =
     ap reverse (map-append (map to_ascii_lowercase) front (label ∷ shared))
     ∙ reverse-append (lowered front) (lowered (label ∷ shared))
@@ -76,7 +80,8 @@ left_below xs ys x p =
     ∙ slice_cmp-shared (slice_cmp nat_cmp) octets_tie (from_root p.shared) (map to_ascii_lowercase x ∷ from_root p.left.0) [])
 
 -- the labels at which names part decide, unless they tie
-pub parted : (xs ys : List (List ℕ)) (x y : List ℕ) → Part xs ys (Some x) (Some y) → slice_cmp nat_cmp (map to_ascii_lowercase x) (map to_ascii_lowercase y) ≢ Equal
+pub parted : (xs ys : List (List ℕ)) (x y : List ℕ) → Part xs ys (Some x) (Some y)
+    → slice_cmp nat_cmp (map to_ascii_lowercase x) (map to_ascii_lowercase y) ≢ Equal
     → slice_cmp nat_cmp (map to_ascii_lowercase x) (map to_ascii_lowercase y) ≡ canonical_cmp xs ys
 unfolding canonical_cmp
 parted xs ys x y p differ =
@@ -85,7 +90,8 @@ parted xs ys x y p differ =
     decided _ (slice_cmp (slice_cmp nat_cmp) (from_root p.left.0) (from_root p.right.0)) _
     (ap (slice_cmp (slice_cmp nat_cmp) (from_root xs)) ys_is
     ∙ ap (λ l. slice_cmp (slice_cmp nat_cmp) l (from_root p.shared ++ map to_ascii_lowercase y ∷ from_root p.right.0)) xs_is
-    ∙ slice_cmp-shared (slice_cmp nat_cmp) octets_tie (from_root p.shared) (map to_ascii_lowercase x ∷ from_root p.left.0) (map to_ascii_lowercase y ∷ from_root p.right.0))
+    ∙ slice_cmp-shared (slice_cmp nat_cmp) octets_tie (from_root p.shared) (map to_ascii_lowercase x ∷ from_root p.left.0)
+    (map to_ascii_lowercase y ∷ from_root p.right.0))
     differ
 
 -- two names with as many labels, of which one is the root
@@ -100,14 +106,18 @@ roots_tie (l ∷ x) (m ∷ y) counts (inr e) = absurd (cc)
 wire_of-end : (front above : List (List ℕ)) → (octets : List ℕ) × (wire_of (front ++ above) ≡ octets ++ wire_of above)
 wire_of-end [] above = ([], refl)
 wire_of-end (label ∷ front) above =
-    let more = wire_of-end front above in
-    (length label ∷ (label ++ more.0), ap (λ l. length label ∷ (label ++ l)) more.1 ∙ ap (λ l. length label ∷ l) (sym (append_assoc label more.0 (wire_of above))))
+    let more = wire_of-end front above in (
+      length label ∷ (label ++ more.0),
+      ap (λ l. length label ∷ (label ++ l)) more.1
+          ∙ ap (λ l. length label ∷ l) (sym (append_assoc label more.0 (wire_of above))),
+    )
 
 ends_in : (name : List (List ℕ)) (below : Option (List ℕ)) (here : List (List ℕ)) → EndsIn name below here → (front : List (List ℕ)) × (name ≡ front ++ here)
 ends_in name None here ends = ([], ends)
 ends_in name (Some label) here ends = (ends.0 ++ label ∷ [], ends.1 ∙ sym (append_assoc ends.0 (label ∷ []) here))
 
-wire_end : (name end : List ℕ) (below : Option (List ℕ)) → IsWire name → IsWire end → EndsIn (labels_of name) below (labels_of end) → end ≡ drop (length name - length end) name
+wire_end : (name end : List ℕ) (below : Option (List ℕ)) → IsWire name → IsWire end
+    → EndsIn (labels_of name) below (labels_of end) → end ≡ drop (length name - length end) name
 wire_end name end below name_wire end_wire ends =
     let front = ends_in (labels_of name) below (labels_of end) ends in
     let octets = wire_of-end front.0 (labels_of end) in
@@ -115,12 +125,14 @@ wire_end name end below name_wire end_wire ends =
     let size : length octets.0 ≡ length name - length end = omega (arith, ap length is, length-append octets.0 end) in
     sym (ap (λ n. drop n name) (sym size) ∙ ap (drop (length octets.0)) is ∙ drop-append_seam octets.0 end)
 
-shorter_end : (name : List ℕ) (count short : ℕ) → short ≤ count → count ≤ length name → drop (length name - short) name ≡ drop (count - short) (drop (length name - count) name)
+shorter_end : (name : List ℕ) (count short : ℕ) → short ≤ count → count ≤ length name
+    → drop (length name - short) name ≡ drop (count - short) (drop (length name - count) name)
 shorter_end name count short within inside =
     ap (λ n. drop n name) (omega (arith, within, inside)) ∙ sym (drop-drop (count - short) (length name - count) name)
 
 -- ends that are as long as each other, and within octets that both names end in alike
-same_ends : (a b x y : List ℕ) (count : ℕ) → EndAlike a b count → x ≡ drop (length a - length x) a → y ≡ drop (length b - length y) b → length x ≡ length y → length x ≤ count → x ≡ y
+same_ends : (a b x y : List ℕ) (count : ℕ) → EndAlike a b count → x ≡ drop (length a - length x) a
+    → y ≡ drop (length b - length y) b → length x ≡ length y → length x ≤ count → x ≡ y
 same_ends a b x y count alike x_is y_is size within =
     x_is
     ∙ shorter_end a count (length x) within alike.in_left
@@ -130,7 +142,9 @@ same_ends a b x y count alike x_is y_is size within =
     ∙ sym y_is
 
 -- two names part below ends that are as long as each other
-pub part_at : (a b x y : List ℕ) (left right : Option (List ℕ)) (count : ℕ) → IsWire a → IsWire b → IsWire x → IsWire y → EndsIn (labels_of a) left (labels_of x) → EndsIn (labels_of b) right (labels_of y) → EndAlike a b count → length x ≡ length y → length x ≤ count → Part (labels_of a) (labels_of b) left right
+pub part_at : (a b x y : List ℕ) (left right : Option (List ℕ)) (count : ℕ) → IsWire a → IsWire b → IsWire x → IsWire y
+    → EndsIn (labels_of a) left (labels_of x) → EndsIn (labels_of b) right (labels_of y) → EndAlike a b count
+    → length x ≡ length y → length x ≤ count → Part (labels_of a) (labels_of b) left right
 part_at a b x y left right count a_wire b_wire x_wire y_wire a_ends b_ends alike size within =
     let same : x ≡ y = same_ends a b x y count alike (wire_end a x left a_wire x_wire a_ends) (wire_end b y right b_wire y_wire b_ends) size within in
     record {
@@ -169,8 +183,14 @@ alike_nothing a b = record {
 pub alike_eight : (a b x y : List ℕ) → 8 ≤ length a → 8 ≤ length b → IsWholeChunk (drop (length a - 8) a) x 8 → IsWholeChunk (drop (length b - 8) b) y 8
     → ((i : ℕ) → Fits w8 (get_or a i 0)) → ((i : ℕ) → Fits w8 (get_or b i 0)) → from_le_bytes w64 x ≡ from_le_bytes w64 y → EndAlike a b 8
 alike_eight a b x y in_a in_b x_is y_is a_octets b_octets same =
-    let x_octets : (i : ℕ) → get_or x i 0 < 256 = λ i. let fits = a_octets (length a - 8 + i) in rw (x_is.same, get_or-drop (length a - 8) a i 0) (omega (arith, fits)) in
-    let y_octets : (i : ℕ) → get_or y i 0 < 256 = λ i. let fits = b_octets (length b - 8 + i) in rw (y_is.same, get_or-drop (length b - 8) b i 0) (omega (arith, fits)) in
+    let x_octets : (i : ℕ) → get_or x i 0 < 256 = λ i. let fits = a_octets (length a - 8 + i) in rw (
+      x_is.same,
+      get_or-drop (length a - 8) a i 0,
+    ) (omega (arith, fits)) in
+    let y_octets : (i : ℕ) → get_or y i 0 < 256 = λ i. let fits = b_octets (length b - 8 + i) in rw (
+      y_is.same,
+      get_or-drop (length b - 8) b i 0,
+    ) (omega (arith, fits)) in
     let x_size : length x ≡ 8 = ap length x_is.same ∙ x_is.long in
     let y_size : length y ≡ 8 = ap length y_is.same ∙ y_is.long in
     let x_back = le_bytes_8 x (from_le_bytes w64 x) x_size x_octets refl in
@@ -182,7 +202,9 @@ alike_eight a b x y in_a in_b x_is y_is a_octets b_octets same =
     }
 
 -- so many octets more, before those that are known to be alike
-joined_end : (a : List ℕ) (count more : ℕ) → count + more ≤ length a → drop (length a - (count + more)) a ≡ drop (length (take (length a - count) a) - more) (take (length a - count) a) ++ drop (length a - count) a
+joined_end : (a : List ℕ) (count more : ℕ) → count + more ≤ length a
+    → drop (length a - (count + more)) a ≡ drop (length (take (length a - count) a) - more) (take (length a - count) a)
+    ++ drop (length a - count) a
 joined_end a count more within =
     let n = length a - count in
     let size : length (take n a) ≡ n = length-take-le n a (omega arith) in
@@ -190,7 +212,8 @@ joined_end a count more within =
     ∙ ap (drop (length (take n a) - more)) (sym (take-append-drop n a))
     ∙ drop-append-le (length (take n a) - more) (take n a) (drop n a) (omega arith)
 
-pub alike_before : (a b x y : List ℕ) (count more : ℕ) → EndAlike a b count → x ≡ take (length a - count) a → y ≡ take (length b - count) b → EndAlike x y more → EndAlike a b (count + more)
+pub alike_before : (a b x y : List ℕ) (count more : ℕ) → EndAlike a b count → x ≡ take (length a - count) a
+    → y ≡ take (length b - count) b → EndAlike x y more → EndAlike a b (count + more)
 alike_before a b x y count more alike x_is y_is before =
     let x_size : length x ≡ length a - count = ap length x_is ∙ length-take-le (length a - count) a (omega arith) in
     let y_size : length y ≡ length b - count = ap length y_is ∙ length-take-le (length b - count) b (omega arith) in
@@ -210,31 +233,41 @@ alike_before a b x y count more alike x_is y_is before =
 -- eight octets more
 pub alike_onward : (a b x y : List ℕ) (count : ℕ) → EndAlike a b count → x ≡ take (length a - count) a → y ≡ take (length b - count) b → EndAlike x y 8
     → (EndAlike a b (count + 8)) × (take (length x - 8) x ≡ take (length a - (count + 8)) a) × (take (length y - 8) y ≡ take (length b - (count + 8)) b)
-alike_onward a b x y count alike x_is y_is before =
-    (alike_before a b x y count 8 alike x_is y_is before, shorter_front a x count x_is alike.in_left before.in_left, shorter_front b y count y_is alike.in_right before.in_right) where
-      shorter_front : (l front : List ℕ) (n : ℕ) → front ≡ take (length l - n) l → n ≤ length l → 8 ≤ length front → take (length front - 8) front ≡ take (length l - (n + 8)) l
-      shorter_front l front n is inside some =
-          let size : length front ≡ length l - n = ap length is ∙ length-take-le (length l - n) l (omega arith) in
-          ap (take (length front - 8)) is
-          ∙ take-take (length front - 8) (length l - n) l (omega (arith, size))
-          ∙ ap (λ k. take k l) (omega (arith, size, inside, some))
+alike_onward a b x y count alike x_is y_is before = (
+  alike_before a b x y count 8 alike x_is y_is before,
+  shorter_front a x count x_is alike.in_left before.in_left,
+  shorter_front b y count y_is alike.in_right before.in_right,
+) where
+  shorter_front : (l front : List ℕ) (n : ℕ) → front ≡ take (length l - n) l → n ≤ length l → 8 ≤ length front
+      → take (length front - 8) front ≡ take (length l - (n + 8)) l
+  shorter_front l front n is inside some =
+      let size : length front ≡ length l - n = ap length is ∙ length-take-le (length l - n) l (omega arith) in
+      ap (take (length front - 8)) is
+      ∙ take-take (length front - 8) (length l - n) l (omega (arith, size))
+      ∙ ap (λ k. take k l) (omega (arith, size, inside, some))
 
-one_before : (name : List ℕ) (count place : ℕ) → count < length name → place ≡ length name - 1 - count → drop (length name - (count + 1)) name ≡ get_or name place 0 ∷ drop (length name - count) name
+one_before : (name : List ℕ) (count place : ℕ) → count < length name → place ≡ length name - 1 - count
+    → drop (length name - (count + 1)) name ≡ get_or name place 0 ∷ drop (length name - count) name
 one_before name count place inside is =
-    ap (λ n. drop n name) (omega (arith, is, inside)) ∙ drop_more name place 0 (omega (arith, is, inside)) ∙ ap (λ n. get_or name place 0 ∷ drop n name) (omega (arith, is, inside))
+    ap (λ n. drop n name) (omega (arith, is, inside)) ∙ drop_more name place 0 (omega (arith, is, inside))
+    ∙ ap (λ n. get_or name place 0 ∷ drop n name) (omega (arith, is, inside))
 
 -- one octet more
-pub alike_more : (a b : List ℕ) (count i j : ℕ) → EndAlike a b count → count < length a → count < length b → i ≡ length a - 1 - count → j ≡ length b - 1 - count → get_or a i 0 ≡ get_or b j 0 → EndAlike a b (count + 1)
+pub alike_more : (a b : List ℕ) (count i j : ℕ) → EndAlike a b count → count < length a → count < length b
+    → i ≡ length a - 1 - count → j ≡ length b - 1 - count → get_or a i 0 ≡ get_or b j 0 → EndAlike a b (count + 1)
 alike_more a b count i j alike in_a in_b i_is j_is same = record {
   in_left = omega (arith, in_a);
   in_right = omega (arith, in_b);
-  same = one_before a count i in_a i_is ∙ ap (λ c. c ∷ drop (length a - count) a) same ∙ ap (λ l. get_or b j 0 ∷ l) alike.same ∙ sym (one_before b count j in_b j_is);
+  same = one_before a count i in_a i_is ∙ ap (λ c. c ∷ drop (length a - count) a) same ∙ ap (λ l. get_or b j 0 ∷ l) alike.same
+      ∙ sym (one_before b count j in_b j_is);
 }
 
 -- octets of which one list is at its end
-pub lengths_decide : (a b : List ℕ) (i : ℕ) → i ≡ min (length a) (length b) → nat_cmp (length a) (length b) ≡ slice_cmp nat_cmp (map to_ascii_lowercase (drop i a)) (map to_ascii_lowercase (drop i b))
+pub lengths_decide : (a b : List ℕ) (i : ℕ) → i ≡ min (length a) (length b)
+    → nat_cmp (length a) (length b) ≡ slice_cmp nat_cmp (map to_ascii_lowercase (drop i a)) (map to_ascii_lowercase (drop i b))
 lengths_decide a b i is = go (drop i a) (drop i b) (length-drop i a) (length-drop i b) where
-  go : (xs ys : List ℕ) → length xs ≡ length a - i → length ys ≡ length b - i → nat_cmp (length a) (length b) ≡ slice_cmp nat_cmp (map to_ascii_lowercase xs) (map to_ascii_lowercase ys)
+  go : (xs ys : List ℕ) → length xs ≡ length a - i → length ys ≡ length b - i
+      → nat_cmp (length a) (length b) ≡ slice_cmp nat_cmp (map to_ascii_lowercase xs) (map to_ascii_lowercase ys)
   go [] [] left right = sym (nat_cmp_is (length a) (length b) Equal (omega (arith, is, left, right)))
   go [] (y ∷ ys) left right = sym (nat_cmp_is (length a) (length b) Less (omega (arith, is, left, right)))
   go (x ∷ xs) [] left right = sym (nat_cmp_is (length a) (length b) Greater (omega (arith, is, left, right)))

@@ -1,5 +1,6 @@
 -- what numbers, types, classes and names are written as is read back
-use Rattle.std.proofs.Common.{◌≡◌, ◌≢◌, ℕ, ◌+◌, ◌-◌, ◌*◌, ◌/◌, ◌%◌, ◌<◌, true, false, List, [], ◌∷◌, ◌++◌, Some, None, get_or, length, drop, codes, refl, ap, sym, subst, ◌∙◌, arith, inl, inr}
+use Rattle.std.proofs.Common.{◌≡◌, ◌≢◌, ℕ, ◌+◌, ◌-◌, ◌*◌, ◌/◌, ◌%◌, ◌<◌, true, false, List, [], ◌∷◌, ◌++◌}
+use Rattle.std.proofs.Common.{Some, None, get_or, length, drop, codes, refl, ap, sym, subst, ◌∙◌, arith, inl, inr}
 use Rattle.std.specs.Prelude.{◌^◌, ◌==◌, ◌&&◌, not, nat_le, Bool, Option, unwrap_or}
 use Rattle.std.specs.List.{AllByRecursion, list_all}
 use Rattle.std.specs.Fmt.{decimal}
@@ -16,7 +17,8 @@ use Rattle.domain_base.specs.Named.{Named, number_named, name_of, NumberText, by
 use Rattle.domain_base.specs.Numbers.{type_names, TypeText, type_text, class_names, ClassText, class_text}
 use Rattle.domain_base.specs.Scan.{IsNumber}
 use Rattle.domain_base.specs.Name.{IsLabel, IsName}
-use Rattle.domain_base.specs.Text.{symbol_at, is_printable, is_special, octet_text, label_text, dotted_text, name_text, LabelText, at_end, at_dot, octet, LabelTexts, last, last_with_dot, dotted, NameText, root, of_labels}
+use Rattle.domain_base.specs.Text.{symbol_at, is_printable, is_special, octet_text, label_text, dotted_text, name_text, LabelText, at_end}
+use Rattle.domain_base.specs.Text.{at_dot, octet, LabelTexts, last, last_with_dot, dotted, NameText, root, of_labels}
 
 -- ---- numbers
 
@@ -43,15 +45,66 @@ named_back table (entry ∷ entries) n name stand is = elim (cases_Bool (entry.n
 ]
 
 -- where the table tells nothing else of such a text
-number_back_by : (table : List Named) (prefix : List ℕ) (n : ℕ) → NamesStand table table → ((digits : List ℕ) → number_named table (prefix ++ digits) ≡ None) → n < 65536 → (o : Option (List ℕ)) → name_of table n ≡ o → NumberText table prefix (unwrap_or o (prefix ++ decimal n)) n
+number_back_by : (table : List Named) (prefix : List ℕ) (n : ℕ) → NamesStand table table
+    → ((digits : List ℕ) → number_named table (prefix ++ digits) ≡ None) → n < 65536 → (o : Option (List ℕ)) → name_of table n ≡ o
+    → NumberText table prefix (unwrap_or o (prefix ++ decimal n)) n
 number_back_by table prefix n stand other fits None is =
-    by_number (prefix ++ decimal n) (decimal n) n (other (decimal n)) (record { front = prefix; parts = refl; same = refl }) (number_back 16 n fits (omega (arith, fits)))
+    by_number (prefix ++ decimal n) (decimal n) n (other (decimal n)) (record { front = prefix; parts = refl; same = refl })
+    (number_back 16 n fits (omega (arith, fits)))
 number_back_by table prefix n stand other fits (Some name) is = by_name name n (named_back table table n name stand is)
 
 pub type_back : (n : ℕ) → n < 65536 → TypeText (type_text n) n
 type_back n fits = number_back_by type_names (codes "TYPE") n stand (λ digits. refl) fits (name_of type_names n) refl where
   stand : NamesStand type_names type_names
-  stand = (refl, (refl, (refl, (refl, (refl, (refl, (refl, (refl, (refl, (refl, (refl, (refl, (refl, (refl, (refl, (refl, (refl, (refl, (refl, (refl, (refl, (refl, (refl, (refl, (refl, (refl, (refl, (refl, tt))))))))))))))))))))))))))))
+  stand = (
+    refl,
+    (
+      refl,
+      (
+        refl,
+        (
+          refl,
+          (
+            refl,
+            (
+              refl,
+              (
+                refl,
+                (
+                  refl,
+                  (
+                    refl,
+                    (
+                      refl,
+                      (
+                        refl,
+                        (
+                          refl,
+                          (
+                            refl,
+                            (
+                              refl,
+                              (
+                                refl,
+                                (
+                                  refl,
+                                  (refl, (refl, (refl, (refl, (refl, (refl, (refl, (refl, (refl, (refl, (refl, (refl, tt)))))))))))),
+                                ),
+                              ),
+                            ),
+                          ),
+                        ),
+                      ),
+                    ),
+                  ),
+                ),
+              ),
+            ),
+          ),
+        ),
+      ),
+    ),
+  )
 
 pub class_back : (n : ℕ) → n < 65536 → ClassText (class_text n) n
 class_back n fits = number_back_by class_names (codes "CLASS") n stand (λ digits. refl) fits (name_of class_names n) refl where
@@ -92,7 +145,19 @@ symbol_back c rest small = elim (cases_Bool (is_special c)) [
         let found = plain_octet c other graphic in
         record { used = 1; read = rw (other, graphic, found.0, found.1) refl; left = rw (other, graphic) refl }
     | inr unseen ↦
-        record { used = 4; read = rw (other, unseen, digit_is (c / 100) (omega arith), digit_is (c / 10 % 10) (omega arith), digit_is (c % 10) (omega arith), value_is c small, value_fits c small) refl; left = rw (other, unseen) refl }
+        record {
+          used = 4;
+          read = rw (
+            other,
+            unseen,
+            digit_is (c / 100) (omega arith),
+            digit_is (c / 10 % 10) (omega arith),
+            digit_is (c % 10) (omega arith),
+            value_is c small,
+            value_fits c small,
+          ) refl;
+          left = rw (other, unseen) refl;
+        }
   ]
 ]
 
@@ -109,20 +174,23 @@ label_octets : (label : List ℕ) → IsLabel label → AllByRecursion (λ c. c 
 label_octets label valid = recursion_from_All (λ c. c < 256) label valid.octets
 
 -- labels with a last dot, or without one
-with_dot : (label : List ℕ) (labels : List (List ℕ)) → AllByRecursion IsLabel (label ∷ labels) → LabelTexts (name_text (label ∷ labels) ++ 46 ∷ []) (label ∷ labels)
+with_dot : (label : List ℕ) (labels : List (List ℕ)) → AllByRecursion IsLabel (label ∷ labels)
+    → LabelTexts (name_text (label ∷ labels) ++ 46 ∷ []) (label ∷ labels)
 with_dot label [] valid =
     subst (λ t. LabelTexts (t ++ 46 ∷ []) (label ∷ [])) (sym (append-nil (label_text label)))
     (last_with_dot (label_text label ++ 46 ∷ []) label (label_back label (46 ∷ []) (label_octets label valid.0) (at_dot [])))
 with_dot label (next ∷ labels) valid =
     let after = name_text (next ∷ labels) ++ 46 ∷ [] in
     subst (λ t. LabelTexts t (label ∷ next ∷ labels)) (sym (append_assoc (label_text label) (dotted_text (next ∷ labels)) (46 ∷ [])))
-    (dotted (label_text label ++ 46 ∷ after) label after (next ∷ labels) (label_back label (46 ∷ after) (label_octets label valid.0) (at_dot after)) (with_dot next labels valid.1))
+    (dotted (label_text label ++ 46 ∷ after) label after (next ∷ labels)
+    (label_back label (46 ∷ after) (label_octets label valid.0) (at_dot after)) (with_dot next labels valid.1))
 
 without_dot : (label : List ℕ) (labels : List (List ℕ)) → AllByRecursion IsLabel (label ∷ labels) → LabelTexts (name_text (label ∷ labels)) (label ∷ labels)
 without_dot label [] valid = last (label_text label ++ []) label (label_back label [] (label_octets label valid.0) at_end)
 without_dot label (next ∷ labels) valid =
     let after = name_text (next ∷ labels) in
-    dotted (label_text label ++ 46 ∷ after) label after (next ∷ labels) (label_back label (46 ∷ after) (label_octets label valid.0) (at_dot after)) (without_dot next labels valid.1)
+    dotted (label_text label ++ 46 ∷ after) label after (next ∷ labels)
+    (label_back label (46 ∷ after) (label_octets label valid.0) (at_dot after)) (without_dot next labels valid.1)
 
 pub dotted_name_back : (name : List (List ℕ)) → IsName name → NameText (name_text name ++ 46 ∷ []) name
 dotted_name_back [] valid = root
@@ -163,7 +231,8 @@ dotted_plain (label ∷ labels) valid =
 
 name_plain : (name : List (List ℕ)) → AllByRecursion IsLabel name → HasNoSpace (name_text name)
 name_plain [] valid = tt
-name_plain (label ∷ labels) valid = no_space-append (label_text label) (dotted_text labels) (label_plain label (label_octets label valid.0)) (dotted_plain labels valid.1)
+name_plain (label ∷ labels) valid = no_space-append (label_text label) (dotted_text labels)
+    (label_plain label (label_octets label valid.0)) (dotted_plain labels valid.1)
 
 not_empty : (text : List ℕ) (c : ℕ) → text ++ c ∷ [] ≢ []
 not_empty [] c = λ none. cc
@@ -189,7 +258,8 @@ named_word (entry ∷ entries) n name words is = elim (cases_Bool (entry.number 
   | inr other ↦ named_word entries n name words.1 (rw other at is)
 ]
 
-number_word_by : (table : List Named) (prefix : List ℕ) (n : ℕ) → AreWords table → IsWord prefix → n < 65536 → (o : Option (List ℕ)) → name_of table n ≡ o → IsWord (unwrap_or o (prefix ++ decimal n))
+number_word_by : (table : List Named) (prefix : List ℕ) (n : ℕ) → AreWords table → IsWord prefix → n < 65536
+    → (o : Option (List ℕ)) → name_of table n ≡ o → IsWord (unwrap_or o (prefix ++ decimal n))
 number_word_by table prefix n words word fits None is = record {
   some = λ none. some_before prefix (decimal n) word.some none;
   unbroken = no_space-append prefix (decimal n) word.unbroken (decimal_word n (omega (arith, fits))).unbroken;
@@ -207,10 +277,12 @@ plain_test text all = recursion_from_All (λ c. (c == 32) ≡ false) text
     not_true : (b : Bool) → not b ≡ true → b ≡ false
     not_true b h = grind (arith, nat_tests)
 
-words_test : (entries : List Named) → list_all (λ entry. list_all (λ c. not (c == 32)) entry.name && not (length entry.name == 0)) entries ≡ true → AreWords entries
+words_test : (entries : List Named) → list_all (λ entry. list_all (λ c. not (c == 32)) entry.name
+    && not (length entry.name == 0)) entries ≡ true → AreWords entries
 words_test [] all = tt
 words_test (entry ∷ entries) all =
-    let parts = both (list_all (λ c. not (c == 32)) entry.name && not (length entry.name == 0)) (list_all (λ entry. list_all (λ c. not (c == 32)) entry.name && not (length entry.name == 0)) entries) all in
+    let parts = both (list_all (λ c. not (c == 32)) entry.name && not (length entry.name == 0))
+    (list_all (λ entry. list_all (λ c. not (c == 32)) entry.name && not (length entry.name == 0)) entries) all in
     let here = both (list_all (λ c. not (c == 32)) entry.name) (not (length entry.name == 0)) parts.0 in
     (record { some = λ none. some entry.name here.1 none; unbroken = plain_test entry.name here.0 }, words_test entries parts.1)
   where
@@ -224,7 +296,13 @@ words_test (entry ∷ entries) all =
     some (c ∷ text) test = λ none. cc
 
 pub type_word : (n : ℕ) → n < 65536 → IsWord (type_text n)
-type_word n fits = number_word_by type_names (codes "TYPE") n (words_test type_names refl) (record { some = λ none. cc; unbroken = plain_test (codes "TYPE") refl }) fits (name_of type_names n) refl
+type_word n fits = number_word_by type_names (codes "TYPE") n (words_test type_names refl) (record {
+  some = λ none. cc;
+  unbroken = plain_test (codes "TYPE") refl;
+}) fits (name_of type_names n) refl
 
 pub class_word : (n : ℕ) → n < 65536 → IsWord (class_text n)
-class_word n fits = number_word_by class_names (codes "CLASS") n (words_test class_names refl) (record { some = λ none. cc; unbroken = plain_test (codes "CLASS") refl }) fits (name_of class_names n) refl
+class_word n fits = number_word_by class_names (codes "CLASS") n (words_test class_names refl) (record {
+  some = λ none. cc;
+  unbroken = plain_test (codes "CLASS") refl;
+}) fits (name_of class_names n) refl

@@ -6,7 +6,8 @@ use Rattle.domain_octets.specs.Limit.{IsOver}
 use Rattle.domain_octets.specs.Codec.{Decodes}
 use Rattle.domain_octets.specs.declared.codec.Codec.{Codec}
 use Rattle.domain_octets.specs.declared.codec.Codec.TheVariants.{Base16, Base32Hex, Base64}
-use Rattle.domain_base.specs.Scan.{ScanFault, entry_ends, illegal, no_room, no_memory, IsOfTokens, TakesToken, RefusesToken, ended, refused, NameTextFault, CodecFault, EntryFault}
+use Rattle.domain_base.specs.Scan.{ScanFault, entry_ends, illegal, no_room, no_memory, IsOfTokens, TakesToken}
+use Rattle.domain_base.specs.Scan.{RefusesToken, ended, refused, NameTextFault, CodecFault, EntryFault}
 use Rattle.domain_base.specs.Text.{NameText}
 
 -- over octets that grow
@@ -36,7 +37,8 @@ told Why old new fault (refused token left why_fault why) = inr (token, refl, wh
 
 pub token_excludes : {V : Type 0} (spells : List ℕ → V → Type 0) (Why : ScanFault → List ℕ → Type 0) (limit : Option ℕ)
     → ((fault : ScanFault) (text : List ℕ) (v : V) → Why fault text → spells text v → IsOfTokens limit fault → ⊥)
-    → (old new after : List (List ℕ)) (v : V) (fault : ScanFault) → RefusesToken Why old new fault → TakesToken (λ text. spells text v) old after → IsOfTokens limit fault → ⊥
+    → (old new after : List (List ℕ)) (v : V) (fault : ScanFault) → RefusesToken Why old new fault
+    → TakesToken (λ text. spells text v) old after → IsOfTokens limit fault → ⊥
 token_excludes spells Why limit none old new after v fault why takes own = elim (told Why old new fault why) [
   | inl h ↦ let e = takes.first in let f = h.0 in absurd (cc)
   | inr h ↦
@@ -66,7 +68,8 @@ token_one_fault Why one old m n x y first second = token_one_fault_if Why old m 
 
 -- ---- names
 
-pub name_excludes : (limit : Option ℕ) (fault : ScanFault) (text : List ℕ) (labels : List (List ℕ)) → NameTextFault limit fault text → NameText text labels → IsOfTokens limit fault → ⊥
+pub name_excludes : (limit : Option ℕ) (fault : ScanFault) (text : List ℕ) (labels : List (List ℕ))
+    → NameTextFault limit fault text → NameText text labels → IsOfTokens limit fault → ⊥
 name_excludes limit entry_ends text labels why is own = why
 name_excludes limit (illegal said) text labels why is own = why.1 labels is
 name_excludes limit no_room text labels why is own = over_none limit _ why.2 own
@@ -95,13 +98,15 @@ decodes_once Base16 text a b x y = cc
 decodes_once Base32Hex text a b x y = x.value ∙ sym y.value
 decodes_once Base64 text a b x y = cc
 
-pub codec_excludes : (codec : Codec) (limit : Option ℕ) (fault : ScanFault) (text octets : List ℕ) → CodecFault codec limit fault text → Decodes codec text octets → IsOfTokens limit fault → ⊥
+pub codec_excludes : (codec : Codec) (limit : Option ℕ) (fault : ScanFault) (text octets : List ℕ)
+    → CodecFault codec limit fault text → Decodes codec text octets → IsOfTokens limit fault → ⊥
 codec_excludes codec limit entry_ends text octets why is own = why
 codec_excludes codec limit (illegal said) text octets why is own = why.1 octets is
 codec_excludes codec limit no_room text octets why is own = over_none limit _ why.2 own
 codec_excludes codec limit no_memory text octets why is own = own
 
-pub codec_one_fault : (codec : Codec) (limit : Option ℕ) (x y : ScanFault) (text : List ℕ) → CodecFault codec limit x text → CodecFault codec limit y text → x ≡ y
+pub codec_one_fault : (codec : Codec) (limit : Option ℕ) (x y : ScanFault) (text : List ℕ) → CodecFault codec limit x text
+    → CodecFault codec limit y text → x ≡ y
 codec_one_fault codec limit entry_ends y text p q = absurd p
 codec_one_fault codec limit (illegal a) entry_ends text p q = absurd q
 codec_one_fault codec limit (illegal a) (illegal b) text p q = ap illegal (p.0 ∙ sym q.0)
@@ -117,10 +122,12 @@ codec_one_fault codec limit no_memory no_room text p q = absurd (over_limit limi
 codec_one_fault codec limit no_memory no_memory text p q = refl
 
 -- of tokens that are joined
-pub entry_excludes : (codec : Codec) (limit : Option ℕ) (fault : ScanFault) (tokens : List (List ℕ)) (octets : List ℕ) → EntryFault codec limit fault tokens → Decodes codec (concat tokens) octets → IsOfTokens limit fault → ⊥
+pub entry_excludes : (codec : Codec) (limit : Option ℕ) (fault : ScanFault) (tokens : List (List ℕ)) (octets : List ℕ)
+    → EntryFault codec limit fault tokens → Decodes codec (concat tokens) octets → IsOfTokens limit fault → ⊥
 entry_excludes codec limit fault tokens octets why is own = codec_excludes codec limit fault (concat tokens) octets why is own
 
-pub entry_one_fault : (codec : Codec) (limit : Option ℕ) (x y : ScanFault) (tokens : List (List ℕ)) → EntryFault codec limit x tokens → EntryFault codec limit y tokens → x ≡ y
+pub entry_one_fault : (codec : Codec) (limit : Option ℕ) (x y : ScanFault) (tokens : List (List ℕ))
+    → EntryFault codec limit x tokens → EntryFault codec limit y tokens → x ≡ y
 entry_one_fault codec limit x y tokens p q = codec_one_fault codec limit x y (concat tokens) p q
 
 pub not_memory : (limit : Option ℕ) (fault : ScanFault) → IsOfTokens limit fault → fault ≢ no_memory

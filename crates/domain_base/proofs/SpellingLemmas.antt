@@ -1,12 +1,14 @@
 -- names spelled by texts
-use Rattle.std.proofs.Common.{◌≡◌, ◌≢◌, ℕ, zero, suc, take, get_or, ◌+◌, ◌<◌, ◌≤◌, List, [], ◌∷◌, ◌++◌, Option, Some, None, length, drop, refl, sym, ap, subst, ◌∙◌, arith, length-append, inl, inr, ◌⊎◌}
+use Rattle.std.proofs.Common.{◌≡◌, ◌≢◌, ℕ, zero, suc, take, get_or, ◌+◌, ◌<◌, ◌≤◌, List, [], ◌∷◌, ◌++◌, Option}
+use Rattle.std.proofs.Common.{Some, None, length, drop, refl, sym, ap, subst, ◌∙◌, arith, length-append, inl, inr, ◌⊎◌}
 use Rattle.std.specs.Prelude.{unwrap_or, IsSome, IfSome, IfNone, ◌↔◌}
 use Rattle.std.specs.List.{AllByRecursion}
 use Rattle.std.proofs.lemmas.Bool.{ne_eqb, le-leb}
 use Rattle.std.proofs.lemmas.List.{append-nil, append_assoc, drop-drop, length-drop, take_more}
 use Rattle.domain_base.specs.Name.{wire_of, IsLabel, IsName}
 use Rattle.domain_base.proofs.WireLemmas.{length-wire_of}
-use Rattle.domain_base.specs.Text.{symbol_at, LabelText, at_end, at_dot, octet, HasNoLabel, HasNoLabelAfter, LabelTexts, last, last_with_dot, dotted, NameText, root, of_labels, IsNoName}
+use Rattle.domain_base.specs.Text.{symbol_at, LabelText, at_end, at_dot, octet, HasNoLabel, HasNoLabelAfter, LabelTexts}
+use Rattle.domain_base.specs.Text.{last, last_with_dot, dotted, NameText, root, of_labels, IsNoName}
 
 -- a label's text ends where no octet stands
 no_symbol_at_dot : (after : List ℕ) → symbol_at (46 ∷ after) ≡ None
@@ -44,7 +46,8 @@ pub record Spelling (text rest done : List ℕ) : Type 0 where
 pub spelling_begins : (text : List ℕ) → Spelling text text []
 spelling_begins text = record { onward = λ label after spelled. spelled; back = λ label after spelled. (label, refl, spelled) }
 
-pub spelling_goes : (text rest done : List ℕ) (c used : ℕ) → Spelling text rest done → symbol_at rest ≡ Some (c, used) → Spelling text (drop used rest) (done ++ c ∷ [])
+pub spelling_goes : (text rest done : List ℕ) (c used : ℕ) → Spelling text rest done → symbol_at rest ≡ Some (c, used)
+    → Spelling text (drop used rest) (done ++ c ∷ [])
 spelling_goes text rest done c used so_far is = record {
   onward = λ label after spelled. rw append_assoc (so_far.onward (c ∷ label) after (octet rest label after c used is spelled));
   back = λ label after spelled.
@@ -54,7 +57,8 @@ spelling_goes text rest done c used so_far is = record {
 }
 
 -- characters that stand for themselves
-pub spelling_plain : (text : List ℕ) (n : ℕ) → n ≤ length text → ((k : ℕ) → k < n → symbol_at (drop k text) ≡ Some (get_or text k 0, 1)) → Spelling text (drop n text) (take n text)
+pub spelling_plain : (text : List ℕ) (n : ℕ) → n ≤ length text
+    → ((k : ℕ) → k < n → symbol_at (drop k text) ≡ Some (get_or text k 0, 1)) → Spelling text (drop n text) (take n text)
 spelling_plain text zero le h = spelling_begins text
 spelling_plain text (suc n) le h =
     let e : n + 1 ≡ suc n = omega arith in
@@ -93,12 +97,16 @@ stops_at_dot [] some dot = absurd (omega arith)
 stops_at_dot (c ∷ text) some dot = subst (λ d. LabelText (d ∷ text) [] (d ∷ text)) (sym dot) (at_dot text)
 
 -- a label that is spelled without escapes
-pub plain_label : (text label rest : List ℕ) (n : ℕ) → n ≤ length text → ((k : ℕ) → k < n → symbol_at (drop k text) ≡ Some (get_or text k 0, 1)) → label ≡ take n text → rest ≡ drop n text → LabelText rest [] rest → LabelText text label rest
+pub plain_label : (text label rest : List ℕ) (n : ℕ) → n ≤ length text
+    → ((k : ℕ) → k < n → symbol_at (drop k text) ≡ Some (get_or text k 0, 1)) → label ≡ take n text → rest ≡ drop n text
+    → LabelText rest [] rest → LabelText text label rest
 plain_label text label rest n within plain front back stops =
     subst (λ l. LabelText text l rest) (sym front)
     (spelling_stops text rest (take n text) (subst (λ r. Spelling text r (take n text)) (sym back) (spelling_plain text n within plain)) stops)
 
-pub no_plain_label : (text label : List ℕ) (n : ℕ) → n ≤ length text → ((k : ℕ) → k < n → symbol_at (drop k text) ≡ Some (get_or text k 0, 1)) → label ≡ take n text → 63 < length label → HasNoLabel text
+pub no_plain_label : (text label : List ℕ) (n : ℕ) → n ≤ length text
+    → ((k : ℕ) → k < n → symbol_at (drop k text) ≡ Some (get_or text k 0, 1)) → label ≡ take n text → 63 < length label
+    → HasNoLabel text
 no_plain_label text label n within plain front long =
     no_label_by_front text (drop n text) (take n text) (spelling_plain text n within plain) (subst (λ (l : List ℕ). 63 < length l) front long)
 
@@ -108,12 +116,14 @@ stuck rest label after some no_dot none at_end = some refl
 stuck rest label after some no_dot none (at_dot end) = no_dot end refl
 stuck rest label after some no_dot none (octet t l a c used is spelled) = cc
 
-pub no_label_by_symbol : (text rest done : List ℕ) (c : ℕ) (end : List ℕ) → Spelling text rest done → rest ≡ c ∷ end → c ≢ 46 → symbol_at rest ≡ None → HasNoLabel text
+pub no_label_by_symbol : (text rest done : List ℕ) (c : ℕ) (end : List ℕ) → Spelling text rest done → rest ≡ c ∷ end → c ≢ 46
+    → symbol_at rest ≡ None → HasNoLabel text
 no_label_by_symbol text rest done c end so_far is other none = λ label after spelled.
     let here = so_far.back label after spelled in
     absurd (stuck rest here.0 after (λ e. cc) (λ end' e. other (cc)) none here.2)
 
-pub no_label_by_length : (text rest done : List ℕ) (c used : ℕ) → Spelling text rest done → symbol_at rest ≡ Some (c, used) → 63 < length done + 1 → HasNoLabel text
+pub no_label_by_length : (text rest done : List ℕ) (c used : ℕ) → Spelling text rest done → symbol_at rest ≡ Some (c, used)
+    → 63 < length done + 1 → HasNoLabel text
 no_label_by_length text rest done c used so_far is long = λ label after spelled.
     let here = so_far.back label after spelled in
     let next = after_octet rest here.0 after c used is here.2 in
@@ -138,8 +148,10 @@ one_label text label after other end (octet t l a c used is spelled) second =
 
 -- labels that are read up to some place, and their octets
 pub record Naming (text rest wire : List ℕ) : Type 0 where
-  pub onward : (labels : List (List ℕ)) → LabelTexts rest labels → AllByRecursion IsLabel labels → (all : List (List ℕ)) × LabelTexts text all × AllByRecursion IsLabel all × (wire ++ wire_of labels ≡ wire_of all)
-  pub back : (all : List (List ℕ)) → LabelTexts text all → AllByRecursion IsLabel all → (labels : List (List ℕ)) × LabelTexts rest labels × AllByRecursion IsLabel labels × (wire ++ wire_of labels ≡ wire_of all)
+  pub onward : (labels : List (List ℕ)) → LabelTexts rest labels → AllByRecursion IsLabel labels
+      → (all : List (List ℕ)) × LabelTexts text all × AllByRecursion IsLabel all × (wire ++ wire_of labels ≡ wire_of all)
+  pub back : (all : List (List ℕ)) → LabelTexts text all → AllByRecursion IsLabel all
+      → (labels : List (List ℕ)) × LabelTexts rest labels × AllByRecursion IsLabel labels × (wire ++ wire_of labels ≡ wire_of all)
 
 pub naming_begins : (text : List ℕ) → Naming text text []
 naming_begins text = record { onward = λ labels spelled valid. (labels, spelled, valid, refl); back = λ all spelled valid. (all, spelled, valid, refl) }
@@ -165,7 +177,8 @@ head_is rest label after labels read (dotted text l end more spelled others) =
       spelled = λ next is some. let e : end ≡ next = (let s = same.1 in cc) in subst (λ t. LabelTexts t more) e others;
     }
 
-pub naming_goes : (text rest wire label after next : List ℕ) → Naming text rest wire → LabelText rest label after → after ≡ 46 ∷ next → next ≢ [] → IsLabel label → Naming text next (wire ++ length label ∷ label)
+pub naming_goes : (text rest wire label after next : List ℕ) → Naming text rest wire → LabelText rest label after
+    → after ≡ 46 ∷ next → next ≢ [] → IsLabel label → Naming text next (wire ++ length label ∷ label)
 naming_goes text rest wire label after next so_far read dot some valid = record {
   onward = λ labels spelled all.
       let whole = so_far.onward (label ∷ labels) (dotted rest label next labels (subst (LabelText rest label) dot read) spelled) (valid, all) in
@@ -185,12 +198,14 @@ naming_goes text rest wire label after next so_far read dot some valid = record 
 abbrev pub IsLabelsWire : List ℕ → List ℕ → Type 0
 IsLabelsWire text wire = (labels : List (List ℕ)) × LabelTexts text labels × AllByRecursion IsLabel labels × (wire ++ 0 ∷ [] ≡ wire_of labels)
 
-naming_done : (text rest wire label : List ℕ) → Naming text rest wire → LabelTexts rest (label ∷ []) → IsLabel label → IsLabelsWire text (wire ++ length label ∷ label)
+naming_done : (text rest wire label : List ℕ) → Naming text rest wire → LabelTexts rest (label ∷ []) → IsLabel label
+    → IsLabelsWire text (wire ++ length label ∷ label)
 naming_done text rest wire label so_far spelled valid =
     let whole = so_far.onward (label ∷ []) spelled (valid, tt) in
     (whole.0, whole.1, whole.2, append_assoc wire (length label ∷ label) (0 ∷ []) ∙ whole.3)
 
-pub naming_ends : (text rest wire label after : List ℕ) → Naming text rest wire → LabelText rest label after → length after ≤ 1 → IsLabel label → IsLabelsWire text (wire ++ length label ∷ label)
+pub naming_ends : (text rest wire label after : List ℕ) → Naming text rest wire → LabelText rest label after → length after ≤ 1
+    → IsLabel label → IsLabelsWire text (wire ++ length label ∷ label)
 naming_ends text rest wire label after so_far read short valid = naming_done text rest wire label so_far (whole after read short) valid where
   at_the_end : (end : List ℕ) → LabelText rest label (46 ∷ end) → length (46 ∷ end) ≤ 1 → LabelTexts rest (label ∷ [])
   at_the_end [] spelled fits = last_with_dot rest label spelled
@@ -216,7 +231,8 @@ dot_after text label after c end (octet t l a c' used s spelled) is = dot_after 
 abbrev pub IsNoLabels : List ℕ → Type 0
 IsNoLabels text = (labels : List (List ℕ)) → LabelTexts text labels → IsName labels → ⊥
 
-first_label : (rest : List ℕ) (labels : List (List ℕ)) → LabelTexts rest labels → (label : List ℕ) × (after : List ℕ) × (more : List (List ℕ)) × LabelText rest label after × (labels ≡ label ∷ more)
+first_label : (rest : List ℕ) (labels : List (List ℕ)) → LabelTexts rest labels
+    → (label : List ℕ) × (after : List ℕ) × (more : List (List ℕ)) × LabelText rest label after × (labels ≡ label ∷ more)
 first_label rest labels (last text l spelled) = (l, [], [], spelled, refl)
 first_label rest labels (last_with_dot text l spelled) = (l, 46 ∷ [], [], spelled, refl)
 first_label rest labels (dotted text l end more spelled others) = (l, 46 ∷ end, more, spelled, refl)
@@ -229,13 +245,16 @@ no_label_left text rest wire so_far none = λ all spelled valid.
     let one : IsLabel first.0 = valid_all.0 in
     omega (arith, none first.0 first.1 first.3, one.fits)
 
-pub bad_label_left : (text rest wire label after : List ℕ) → Naming text rest wire → LabelText rest label after → (length label ≡ 0) ⊎ (255 ≤ length wire + length label) → IsNoLabels text
+pub bad_label_left : (text rest wire label after : List ℕ) → Naming text rest wire → LabelText rest label after
+    → (length label ≡ 0) ⊎ (255 ≤ length wire + length label) → IsNoLabels text
 bad_label_left text rest wire label after so_far read bad = λ all spelled valid.
     let here = so_far.back all spelled valid.of_labels in
     let head = head_is rest label after here.0 read here.1 in
     let valid_all : AllByRecursion IsLabel (label ∷ head.more) = subst (AllByRecursion IsLabel) head.is here.2 in
     let one : IsLabel label = valid_all.0 in
-    let size : length wire + length (wire_of (label ∷ head.more)) ≡ length (wire_of all) = sym (length-append wire (wire_of (label ∷ head.more))) ∙ ap length (ap (λ l. wire ++ wire_of l) (sym head.is) ∙ here.3) in
+    let size : length wire + length (wire_of (label ∷ head.more))
+    ≡ length (wire_of all) = sym (length-append wire (wire_of (label ∷ head.more)))
+    ∙ ap length (ap (λ l. wire ++ wire_of l) (sym head.is) ∙ here.3) in
     elim bad [
       | inl none ↦ omega (arith, none, one.not_empty)
       | inr long ↦ omega (arith, long, size, length-append label (wire_of head.more), length-wire_of head.more, valid.fits)
@@ -260,7 +279,8 @@ no_empty_text after labels none spelled valid =
     omega (arith, one.not_empty, ap length same.0)
 
 -- a text spells one list of labels at most
-same_labels : (text : List ℕ) (xs ys : List (List ℕ)) → LabelTexts text xs → LabelTexts text ys → AllByRecursion IsLabel xs → AllByRecursion IsLabel ys → xs ≡ ys
+same_labels : (text : List ℕ) (xs ys : List (List ℕ)) → LabelTexts text xs → LabelTexts text ys → AllByRecursion IsLabel xs
+    → AllByRecursion IsLabel ys → xs ≡ ys
 same_labels text xs ys (last t l s) (last t' l' s') xs_valid ys_valid = ap (λ x. x ∷ []) (sym (one_label t l [] l' [] s s').0)
 same_labels text xs ys (last t l s) (last_with_dot t' l' s') xs_valid ys_valid = absurd (let e = (one_label t l [] l' (46 ∷ []) s s').1 in cc)
 same_labels text xs ys (last t l s) (dotted t' l' end more s' others) xs_valid ys_valid = absurd (let e = (one_label t l [] l' (46 ∷ end) s s').1 in cc)

@@ -28,7 +28,8 @@ digit_tells false = refl
 
 -- an octet as the sum of its bits
 record Sum (bit : ℕ → Bool) : Type 0 where
-  whole : octet_with bit ≡ 128 * digit (bit 0) + 64 * digit (bit 1) + 32 * digit (bit 2) + 16 * digit (bit 3) + 8 * digit (bit 4) + 4 * digit (bit 5) + 2 * digit (bit 6) + digit (bit 7)
+  whole : octet_with bit ≡ 128 * digit (bit 0) + 64 * digit (bit 1) + 32 * digit (bit 2) + 16 * digit (bit 3) + 8 * digit
+      (bit 4) + 4 * digit (bit 5) + 2 * digit (bit 6) + digit (bit 7)
   small0 : digit (bit 0) ≤ 1
   small1 : digit (bit 1) ≤ 1
   small2 : digit (bit 2) ≤ 1
@@ -41,7 +42,17 @@ record Sum (bit : ℕ → Bool) : Type 0 where
 sum_of : (bit : ℕ → Bool) → Sum bit
 unfolding octet_with
 sum_of bit = record {
-  whole = omega (arith, weight-digit 128 (bit 0), weight-digit 64 (bit 1), weight-digit 32 (bit 2), weight-digit 16 (bit 3), weight-digit 8 (bit 4), weight-digit 4 (bit 5), weight-digit 2 (bit 6), weight-digit 1 (bit 7));
+  whole = omega (
+    arith,
+    weight-digit 128 (bit 0),
+    weight-digit 64 (bit 1),
+    weight-digit 32 (bit 2),
+    weight-digit 16 (bit 3),
+    weight-digit 8 (bit 4),
+    weight-digit 4 (bit 5),
+    weight-digit 2 (bit 6),
+    weight-digit 1 (bit 7),
+  );
   small0 = digit_small (bit 0);
   small1 = digit_small (bit 1);
   small2 = digit_small (bit 2);
@@ -112,9 +123,11 @@ octet_with-bit_of x small = octets_same (octet_with (bit_of x)) x (octet_with-lt
 -- octets of bits that agree are equal
 pub octet_with-same : (p q : ℕ → Bool) → ((b : ℕ) → b < 8 → p b ≡ q b) → octet_with p ≡ octet_with q
 octet_with-same p q same =
-    octets_same (octet_with p) (octet_with q) (octet_with-lt p) (octet_with-lt q) (λ b small. bit_of-octet_with p b small ∙ same b small ∙ sym (bit_of-octet_with q b small))
+    octets_same (octet_with p) (octet_with q) (octet_with-lt p) (octet_with-lt q) (λ b small. bit_of-octet_with p b small
+    ∙ same b small ∙ sym (bit_of-octet_with q b small))
 
 pub octet_with-none : (p : ℕ → Bool) → ((b : ℕ) → b < 8 → p b ≡ false) → octet_with p ≡ 0
-octet_with-none p none = octets_same (octet_with p) 0 (octet_with-lt p) (omega arith) (λ b small. bit_of-octet_with p b small ∙ none b small ∙ sym (bit_of-zero b))
+octet_with-none p none = octets_same (octet_with p) 0 (octet_with-lt p) (omega arith) (λ b small. bit_of-octet_with p b small
+    ∙ none b small ∙ sym (bit_of-zero b))
 
 pub ruleset bit_reads = (bit_of-shr, bit_of-zero)

@@ -1,5 +1,6 @@
 -- the octets of a set of types
-use Rattle.std.proofs.Common.{◌≡◌, ℕ, zero, suc, ◌+◌, ◌*◌, ◌/◌, ◌<◌, ◌≤◌, Bool, false, List, [], ◌∷◌, ◌++◌, length, get_or, refl, sym, ap, ◌∙◌, subst, inl, inr, arith, zero-add}
+use Rattle.std.proofs.Common.{◌≡◌, ℕ, zero, suc, ◌+◌, ◌*◌, ◌/◌, ◌<◌, ◌≤◌, Bool, false, List, []}
+use Rattle.std.proofs.Common.{◌∷◌, ◌++◌, length, get_or, refl, sym, ap, ◌∙◌, subst, inl, inr, arith, zero-add}
 use Rattle.std.proofs.lemmas.List.{append-nil, get_or_past}
 use Rattle.std.specs.List.{AllByRecursion, flat_map, range_with_len}
 use Rattle.std.proofs.lemmas.List.FromFn.{length-map-range_with_len, get_or-map-range_with_len, fill_by_all}
@@ -28,11 +29,13 @@ bounded types w i =
     ]
 
 -- the octets of a window are those with its bits
-pub window_octets-is : (types : ℕ → Bool) (w : ℕ) (xs : List ℕ) → length xs ≡ 32 → ((k : ℕ) → get_or xs k 0 < 256) → ((k b : ℕ) → k < 32 → b < 8 → bit_of (get_or xs k 0) b ≡ types (256 * w + 8 * k + b)) → window_octets types w ≡ xs
+pub window_octets-is : (types : ℕ → Bool) (w : ℕ) (xs : List ℕ) → length xs ≡ 32 → ((k : ℕ) → get_or xs k 0 < 256)
+    → ((k b : ℕ) → k < 32 → b < 8 → bit_of (get_or xs k 0) b ≡ types (256 * w + 8 * k + b)) → window_octets types w ≡ xs
 unfolding window_octets
 window_octets-is types w xs long small bits =
     sym (fill_by_all (λ i. octet_with (λ b. types (256 * w + 8 * i + b))) xs 32 0 long
-    (λ k inside. sym (octet_with-bit_of (get_or xs k 0) (small k)) ∙ octet_with-same (bit_of (get_or xs k 0)) (λ b. types (256 * w + 8 * k + b)) (λ b b_small. bits k b inside b_small)))
+    (λ k inside. sym (octet_with-bit_of (get_or xs k 0) (small k))
+    ∙ octet_with-same (bit_of (get_or xs k 0)) (λ b. types (256 * w + 8 * k + b)) (λ b b_small. bits k b inside b_small)))
 
 -- the types of a window
 in_window : (w k b : ℕ) → k < 32 → b < 8 → (256 * w + 8 * k + b) / 256 ≡ w
@@ -55,7 +58,11 @@ window_block-none types w none = rw (trimmed-zeros (window_octets types w) (zero
 window_octets-same : (p q : ℕ → Bool) (w : ℕ) → ((t : ℕ) → t / 256 ≡ w → p t ≡ q t) → window_octets p w ≡ window_octets q w
 window_octets-same p q w same =
     window_octets-is p w (window_octets q w) (length-window_octets q w) (bounded q w)
-    (λ k b k_small b_small. rw (get_or-window_octets q w k k_small, bit_of-octet_with (λ c. q (256 * w + 8 * k + c)) b b_small) (sym (same (256 * w + 8 * k + b) (in_window w k b k_small b_small))))
+    (λ k b k_small b_small. rw (
+      get_or-window_octets q w k k_small,
+      bit_of-octet_with (λ c. q (256 * w + 8 * k + c)) b b_small,
+    )
+    (sym (same (256 * w + 8 * k + b) (in_window w k b k_small b_small))))
 
 window_block-same : (p q : ℕ → Bool) (w : ℕ) → ((t : ℕ) → t / 256 ≡ w → p t ≡ q t) → window_block p w ≡ window_block q w
 unfolding window_block
@@ -86,7 +93,8 @@ unfolding blocks_from window_block
 octets_of_blocks-blocks_from types a zero = refl
 octets_of_blocks-blocks_from types a (suc n) =
     let xs = trimmed (window_octets types a) in
-    octets_of_blocks-append (block_list a xs) (blocks_from types (a + 1) n) ∙ rw (octets_of_blocks-block_list a xs, octets_of_blocks-blocks_from types (a + 1) n) refl
+    octets_of_blocks-append (block_list a xs) (blocks_from types (a + 1) n)
+    ∙ rw (octets_of_blocks-block_list a xs, octets_of_blocks-blocks_from types (a + 1) n) refl
 
 valid_list : (w : ℕ) (xs : List ℕ) → w < 256 → length xs ≤ 32 → ((i : ℕ) → get_or xs i 0 < 256) → AllByRecursion IsBlock (block_list w xs)
 unfolding block_list
@@ -108,14 +116,20 @@ IsBitmap-bitmap_octets types =
     subst IsBitmap (octets_of_blocks-blocks_from types 0 256) (IsBitmap-octets_of_blocks (blocks_from types 0 256) (valid_from types 0 256 (omega arith)))
 
 -- the blocks of the windows below one, with those of that one
-pub written_more : (types : ℕ → Bool) (w : ℕ) (front out xs : List ℕ) → front ≡ flat_map (window_block types) (range_with_len 0 w) → window_octets types w ≡ xs → out ≡ front ++ block_with w (trimmed xs) → out ≡ flat_map (window_block types) (range_with_len 0 (w + 1))
+pub written_more : (types : ℕ → Bool) (w : ℕ) (front out xs : List ℕ) → front ≡ flat_map (window_block types) (range_with_len 0 w)
+    → window_octets types w ≡ xs → out ≡ front ++ block_with w (trimmed xs)
+    → out ≡ flat_map (window_block types) (range_with_len 0 (w + 1))
 unfolding window_block
 written_more types w front out xs before octets is =
-    is ∙ ap (λ l. l ++ block_with w (trimmed xs)) before ∙ ap (λ l. flat_map (window_block types) (range_with_len 0 w) ++ block_with w (trimmed l)) (sym octets) ∙ sym (flat_more (window_block types) w)
+    is ∙ ap (λ l. l ++ block_with w (trimmed xs)) before ∙ ap (λ l. flat_map (window_block types) (range_with_len 0 w)
+    ++ block_with w (trimmed l)) (sym octets) ∙ sym (flat_more (window_block types) w)
 
-pub skipped_more : (types : ℕ → Bool) (w : ℕ) (front : List ℕ) → front ≡ flat_map (window_block types) (range_with_len 0 w) → ((t : ℕ) → t / 256 ≡ w → types t ≡ false) → front ≡ flat_map (window_block types) (range_with_len 0 (w + 1))
+pub skipped_more : (types : ℕ → Bool) (w : ℕ) (front : List ℕ) → front ≡ flat_map (window_block types) (range_with_len 0 w)
+    → ((t : ℕ) → t / 256 ≡ w → types t ≡ false) → front ≡ flat_map (window_block types) (range_with_len 0 (w + 1))
 skipped_more types w front before none =
-    before ∙ sym (append-nil (flat_map (window_block types) (range_with_len 0 w))) ∙ ap (λ l. flat_map (window_block types) (range_with_len 0 w) ++ l) (sym (window_block-none types w none)) ∙ sym (flat_more (window_block types) w)
+    before ∙ sym (append-nil (flat_map (window_block types) (range_with_len 0 w)))
+    ∙ ap (λ l. flat_map (window_block types) (range_with_len 0 w) ++ l) (sym (window_block-none types w none))
+    ∙ sym (flat_more (window_block types) w)
 
 pub all_written : (types : ℕ → Bool) (n : ℕ) (out : List ℕ) → n ≡ 256 → out ≡ flat_map (window_block types) (range_with_len 0 n) → out ≡ bitmap_octets types
 unfolding bitmap_octets

@@ -1,5 +1,6 @@
 -- octets read as blocks
-use Rattle.std.proofs.Common.{◌≡◌, ℕ, zero, suc, ◌+◌, ◌-◌, ◌*◌, ◌/◌, ◌%◌, ◌<◌, ◌≤◌, ◌≢◌, Bool, true, false, List, [], ◌∷◌, ◌++◌, length, slice_index, get_or, take, drop, refl, sym, ap, subst, arith, length-append}
+use Rattle.std.proofs.Common.{◌≡◌, ℕ, zero, suc, ◌+◌, ◌-◌, ◌*◌, ◌/◌, ◌%◌, ◌<◌, ◌≤◌, ◌≢◌, Bool, true, false}
+use Rattle.std.proofs.Common.{List, [], ◌∷◌, ◌++◌, length, slice_index, get_or, take, drop, refl, sym, ap, subst, arith, length-append}
 use Rattle.std.specs.List.{AllByRecursion, flat_map}
 use Rattle.std.proofs.lemmas.List.{take_at, drop_at, get_or_past}
 use Rattle.std.proofs.lemmas.List.Elements.{All-from_recursion, All-append, All-cons, All-nil}
@@ -9,7 +10,8 @@ use Rattle.std.proofs.lemmas.Bool.Decides.{nat_tests}
 use Rattle.domain_bitmap.proofs.RangeLemmas.{filter_none}
 use Rattle.domain_bitmap.proofs.BitLemmas.{bit_of-zero}
 use Rattle.std.proofs.lemmas.List.Concat.{flat_map-append}
-use Rattle.domain_bitmap.specs.Blocks.{Block, IsBlock, octets_of_blocks, blocks_within, blocks_of, IsBitmap, block_types_from, types_from, types_of, contains_type}
+use Rattle.domain_bitmap.specs.Blocks.{Block, IsBlock, octets_of_blocks, blocks_within, blocks_of}
+use Rattle.domain_bitmap.specs.Blocks.{IsBitmap, block_types_from, types_from, types_of, contains_type}
 use Rattle.domain_bitmap.specs.Bits.{has_bit}
 
 blocks_within-octets_of_blocks : (blocks : List Block) (n : ℕ) → length (octets_of_blocks blocks) ≤ n → blocks_within n (octets_of_blocks blocks) ≡ blocks
@@ -45,7 +47,10 @@ all-append (x ∷ xs) ys xs_all ys_all = (xs_all.0, all-append xs ys xs_all.1 ys
 pub record HasBlock (octets : List ℕ) : Type 0 where
   pub headed : 1 < length octets
   pub inside : get_or octets 1 0 + 2 ≤ length octets
-  pub blocks : blocks_of octets ≡ record { window = get_or octets 0 0; octets = take (get_or octets 1 0) (drop 2 octets) } ∷ blocks_of (drop (get_or octets 1 0 + 2) octets)
+  pub blocks : blocks_of octets ≡ record {
+    window = get_or octets 0 0;
+    octets = take (get_or octets 1 0) (drop 2 octets);
+  } ∷ blocks_of (drop (get_or octets 1 0 + 2) octets)
   pub first : IsBlock (record { window = get_or octets 0 0; octets = take (get_or octets 1 0) (drop 2 octets) })
   pub rest : IsBitmap (drop (get_or octets 1 0 + 2) octets)
 
@@ -54,7 +59,9 @@ block_from [] valid some = absurd (omega (arith, some))
 block_from (block ∷ blocks) valid some =
     let more = length-append block.octets (octets_of_blocks blocks) in
     let front = take_at block.octets (octets_of_blocks blocks) (length block.octets) refl in
-    let after : drop (length block.octets + 2) (octets_of_blocks (block ∷ blocks)) ≡ octets_of_blocks blocks = rw (add_two (length block.octets)) (drop_at block.octets (octets_of_blocks blocks) (length block.octets) refl) in
+    let after : drop (length block.octets + 2) (octets_of_blocks (block ∷ blocks))
+    ≡ octets_of_blocks blocks = rw (add_two (length block.octets))
+    (drop_at block.octets (octets_of_blocks blocks) (length block.octets) refl) in
     record {
       headed = omega (arith, more);
       inside = omega (arith, more);
@@ -74,14 +81,16 @@ nothing_at octets none = rw none refl
 pub ruleset block_reads = (block_at, nothing_at)
 
 -- the types of a block, place by place
-pub types_step : (block : Block) (place : ℕ) → place < 256 → has_bit block.octets (256 * block.window + place) ≡ true → block_types_from block place ≡ (256 * block.window + place) ∷ block_types_from block (place + 1)
+pub types_step : (block : Block) (place : ℕ) → place < 256 → has_bit block.octets (256 * block.window + place) ≡ true
+    → block_types_from block place ≡ (256 * block.window + place) ∷ block_types_from block (place + 1)
 unfolding block_types_from
 types_step block place inside set =
     let count : 256 - place ≡ suc (256 - (place + 1)) = omega arith in
     let next : 256 * block.window + (place + 1) ≡ 256 * block.window + place + 1 = omega arith in
     rw (count, next, set) refl
 
-pub types_skip : (block : Block) (place : ℕ) → place < 256 → has_bit block.octets (256 * block.window + place) ≡ false → block_types_from block place ≡ block_types_from block (place + 1)
+pub types_skip : (block : Block) (place : ℕ) → place < 256 → has_bit block.octets (256 * block.window + place) ≡ false
+    → block_types_from block place ≡ block_types_from block (place + 1)
 unfolding block_types_from
 types_skip block place inside clear =
     let count : 256 - place ≡ suc (256 - (place + 1)) = omega arith in
@@ -98,11 +107,15 @@ types_past block place past =
 abbrev pub IsBitAt : List ℕ → ℕ → Bool → Type 0
 IsBitAt octets place set = (t : ℕ) → t % 256 / 8 ≡ place / 8 → t % 8 ≡ place % 8 → set ≡ has_bit octets t
 
-pub found_at : (octets : List ℕ) (place : ℕ) → place < 256 → IsBitAt octets place true → (w : ℕ) → block_types_from (record { window = w; octets = octets }) place ≡ (256 * w + place) ∷ block_types_from (record { window = w; octets = octets }) (place + 1)
+pub found_at : (octets : List ℕ) (place : ℕ) → place < 256 → IsBitAt octets place true → (w : ℕ)
+    → block_types_from (record { window = w; octets = octets }) place
+    ≡ (256 * w + place) ∷ block_types_from (record { window = w; octets = octets }) (place + 1)
 found_at octets place inside set w =
     types_step (record { window = w; octets = octets }) place inside (sym (set (256 * w + place) (omega arith) (omega arith)))
 
-pub clear_at : (octets : List ℕ) (place : ℕ) → place < 256 → IsBitAt octets place false → (w : ℕ) → block_types_from (record { window = w; octets = octets }) place ≡ block_types_from (record { window = w; octets = octets }) (place + 1)
+pub clear_at : (octets : List ℕ) (place : ℕ) → place < 256 → IsBitAt octets place false → (w : ℕ)
+    → block_types_from (record { window = w; octets = octets }) place
+    ≡ block_types_from (record { window = w; octets = octets }) (place + 1)
 clear_at octets place inside clear w =
     types_skip (record { window = w; octets = octets }) place inside (sym (clear (256 * w + place) (omega arith) (omega arith)))
 
@@ -115,13 +128,15 @@ unfolding types_of
 types_from_start octets = types_from-blocks (blocks_of octets)
 
 -- a look into the first block, and past it
-pub contains_here : (octets : List ℕ) (block : Block) (blocks : List Block) (t : ℕ) → blocks_of octets ≡ block ∷ blocks → block.window ≡ t / 256 → contains_type octets t ≡ has_bit block.octets t
+pub contains_here : (octets : List ℕ) (block : Block) (blocks : List Block) (t : ℕ) → blocks_of octets ≡ block ∷ blocks
+    → block.window ≡ t / 256 → contains_type octets t ≡ has_bit block.octets t
 unfolding contains_type
 contains_here octets block blocks t is here =
     let test : (block.window == t / 256) ≡ true = grind (arith, nat_tests) in
     rw (is, test) refl
 
-pub contains_later : (octets rest : List ℕ) (block : Block) (t : ℕ) → blocks_of octets ≡ block ∷ blocks_of rest → block.window ≢ t / 256 → contains_type octets t ≡ contains_type rest t
+pub contains_later : (octets rest : List ℕ) (block : Block) (t : ℕ) → blocks_of octets ≡ block ∷ blocks_of rest
+    → block.window ≢ t / 256 → contains_type octets t ≡ contains_type rest t
 unfolding contains_type
 contains_later octets rest block t is other =
     let test : (block.window == t / 256) ≡ false = grind (arith, nat_tests) in
@@ -132,10 +147,13 @@ unfolding contains_type
 contains_nothing octets t is = rw is refl
 
 -- a block without types from a place on is passed
-pub types_from_next : (octets rest : List ℕ) (block : Block) (place : ℕ) → blocks_of octets ≡ block ∷ blocks_of rest → block_types_from block place ≡ [] → types_from (blocks_of octets) place ≡ types_from (blocks_of rest) 0
+pub types_from_next : (octets rest : List ℕ) (block : Block) (place : ℕ) → blocks_of octets ≡ block ∷ blocks_of rest
+    → block_types_from block place ≡ [] → types_from (blocks_of octets) place ≡ types_from (blocks_of rest) 0
 types_from_next octets rest block place is none = rw (is, none) (sym (types_from-blocks (blocks_of rest)))
 
-pub types_from_here : (octets : List ℕ) (block : Block) (blocks : List Block) (place next t : ℕ) → blocks_of octets ≡ block ∷ blocks → block_types_from block place ≡ t ∷ block_types_from block next → types_from (blocks_of octets) place ≡ t ∷ types_from (blocks_of octets) next
+pub types_from_here : (octets : List ℕ) (block : Block) (blocks : List Block) (place next t : ℕ)
+    → blocks_of octets ≡ block ∷ blocks → block_types_from block place ≡ t ∷ block_types_from block next
+    → types_from (blocks_of octets) place ≡ t ∷ types_from (blocks_of octets) next
 types_from_here octets block blocks place next t is found = rw (is, found) refl
 
 pub types_from_nothing : (octets : List ℕ) (place : ℕ) → blocks_of octets ≡ [] → types_from (blocks_of octets) place ≡ []
@@ -154,12 +172,14 @@ small_at (octet ∷ octets) bounded = (bounded 0, small_at octets (λ i. bounded
 small_block : (block : Block) → IsBlock block → AreOctets (block.window ∷ length block.octets ∷ block.octets)
 small_block block is =
     All-cons (λ octet. octet < 256) block.window (length block.octets ∷ block.octets) is.window
-    (All-cons (λ octet. octet < 256) (length block.octets) block.octets (omega (arith, is.fits)) (All-from_recursion (λ octet. octet < 256) block.octets (small_at block.octets is.bounded)))
+    (All-cons (λ octet. octet < 256) (length block.octets) block.octets (omega (arith, is.fits))
+    (All-from_recursion (λ octet. octet < 256) block.octets (small_at block.octets is.bounded)))
 
 blocks_small : (blocks : List Block) → AllByRecursion IsBlock blocks → AreOctets (octets_of_blocks blocks)
 blocks_small [] all = All-nil (λ octet. octet < 256)
 blocks_small (block ∷ blocks) (here, all) =
-    All-append (λ octet. octet < 256) (block.window ∷ length block.octets ∷ block.octets) (octets_of_blocks blocks) (small_block block here) (blocks_small blocks all)
+    All-append (λ octet. octet < 256) (block.window ∷ length block.octets ∷ block.octets) (octets_of_blocks blocks)
+    (small_block block here) (blocks_small blocks all)
 
 pub bitmap_small : (octets : List ℕ) → IsBitmap octets → AreOctets octets
 bitmap_small octets is = subst AreOctets (sym is.spelled) (blocks_small (blocks_of octets) is.valid)

@@ -24,32 +24,39 @@ pub over_limit : (n : ℕ) → (n ≤ 255 → false ≡ true) → 255 < n
 over_limit n answer = elim (leb_tells n 255) [ inl h ↦ let two_answers = answer h.1 in absurd (cc) | inr h ↦ h.1 ]
 
 -- a token that stands for too many octets
-pub refused_too_long : (codec : Codec) (long : List ℕ) (limit : Option ℕ) (old new : List (List ℕ)) (octets : List ℕ) → TakesToken (λ token. Decodes codec token octets) old new → HasRoom limit (length octets) → 255 < length octets → RefusesToken (CountedFault codec long limit) old new (illegal long)
+pub refused_too_long : (codec : Codec) (long : List ℕ) (limit : Option ℕ) (old new : List (List ℕ)) (octets : List ℕ)
+    → TakesToken (λ token. Decodes codec token octets) old new → HasRoom limit (length octets) → 255 < length octets
+    → RefusesToken (CountedFault codec long limit) old new (illegal long)
 refused_too_long codec long limit old new octets took room over =
     subst (λ (o : List (List ℕ)). RefusesToken (CountedFault codec long limit) o new (illegal long)) (sym took.first)
     (refused took.token new (illegal long) (inr (record { octets = octets; decoded = took.holds; room = room; long = over }, refl)))
 
 -- a token that was read had room
-pub token_has_room : {X : Type 0} (codec : Codec) (limit : Option ℕ) (old new : List (List ℕ)) (octets : List ℕ) (x : X) (r : Result X ScanError) → r ≡ Ok x → TakesToken (λ token. Decodes codec token octets) old new
+pub token_has_room : {X : Type 0} (codec : Codec) (limit : Option ℕ) (old new : List (List ℕ)) (octets : List ℕ) (x : X)
+    (r : Result X ScanError) → r ≡ Ok x → TakesToken (λ token. Decodes codec token octets) old new
     → IsErrOf r ShortBuf ↔ TokenHasNoRoom codec limit old → HasRoom limit (length octets)
 token_has_room codec limit old new octets x r is took room over =
     let none : TokenHasNoRoom codec limit (took.token ∷ new) = (octets, took.holds, over) in
     let wrong = room.1 (subst (TokenHasNoRoom codec limit) (sym took.first) none) in
     cc
 
-pub counted_fault : (codec : Codec) (long : List ℕ) (limit : Option ℕ) (fault : ScanFault) (token : List ℕ) → CodecFault codec limit fault token → CountedFault codec long limit fault token
+pub counted_fault : (codec : Codec) (long : List ℕ) (limit : Option ℕ) (fault : ScanFault) (token : List ℕ)
+    → CodecFault codec limit fault token → CountedFault codec long limit fault token
 counted_fault codec long limit entry_ends token bad = bad
 counted_fault codec long limit (illegal said) token bad = inl bad
 counted_fault codec long limit no_room token bad = bad
 counted_fault codec long limit no_memory token bad = bad
 
 -- a token that the codec refused
-pub refused_by_codec : (codec : Codec) (long : List ℕ) (limit : Option ℕ) (old new : List (List ℕ)) (fault : ScanFault) → RefusesToken (CodecFault codec limit) old new fault → RefusesToken (CountedFault codec long limit) old new fault
+pub refused_by_codec : (codec : Codec) (long : List ℕ) (limit : Option ℕ) (old new : List (List ℕ)) (fault : ScanFault)
+    → RefusesToken (CodecFault codec limit) old new fault → RefusesToken (CountedFault codec long limit) old new fault
 refused_by_codec codec long limit old new fault ended = ended
-refused_by_codec codec long limit old new fault (refused token left why_fault why) = refused token left why_fault (counted_fault codec long limit why_fault token why)
+refused_by_codec codec long limit old new fault (refused token left why_fault why) =
+    refused token left why_fault (counted_fault codec long limit why_fault token why)
 
 -- octets that were decoded had room
-pub decoded_has_room : {X : Type 0} (codec : Codec) (limit : Option ℕ) (text octets : List ℕ) (x : X) (r : Result X DecodeError) → r ≡ Ok x → Decodes codec text octets
+pub decoded_has_room : {X : Type 0} (codec : Codec) (limit : Option ℕ) (text octets : List ℕ) (x : X) (r : Result X DecodeError)
+    → r ≡ Ok x → Decodes codec text octets
     → IsErrOf r decode_error.ShortBuf ↔ HasNoRoom codec limit text → HasRoom limit (length octets)
 decoded_has_room codec limit text octets x r is decoded room over =
     let wrong = room.1 (octets, decoded, over) in

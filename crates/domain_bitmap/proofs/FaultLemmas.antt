@@ -48,19 +48,25 @@ split (w ∷ len ∷ tail) two fits small =
       ];
     }
 
-IsBitmap-split : (window : ℕ) (block others : List ℕ) → window < 256 → 0 < length block → length block ≤ 32 → ((i : ℕ) → get_or block i 0 < 256) → IsBitmap others → IsBitmap (window ∷ length block ∷ (block ++ others))
+IsBitmap-split : (window : ℕ) (block others : List ℕ) → window < 256 → 0 < length block → length block ≤ 32
+    → ((i : ℕ) → get_or block i 0 < 256) → IsBitmap others → IsBitmap (window ∷ length block ∷ (block ++ others))
 IsBitmap-split window block others window_small some fits small bitmap =
     let first : Block = record { window = window; octets = block } in
     let blocks : List Block = first ∷ blocks_of others in
     let whole : octets_of_blocks blocks ≡ window ∷ length block ∷ (block ++ others) = ap (λ l. window ∷ length block ∷ (block ++ l)) (sym bitmap.spelled) in
     subst IsBitmap whole (IsBitmap-octets_of_blocks blocks (record { window = window_small; not_empty = some; fits = fits; bounded = small }, bitmap.valid))
 
-pub reading_goes : (octets rest : List ℕ) → Reading octets rest → 2 ≤ length rest → 0 < get_or rest 1 0 → get_or rest 1 0 ≤ 32 → get_or rest 1 0 ≤ length rest - 2 → Reading octets (drop (get_or rest 1 0 + 2) rest)
+pub reading_goes : (octets rest : List ℕ) → Reading octets rest → 2 ≤ length rest → 0 < get_or rest 1 0 → get_or rest 1 0 ≤ 32
+    → get_or rest 1 0 ≤ length rest - 2 → Reading octets (drop (get_or rest 1 0 + 2) rest)
 reading_goes octets rest reading two some small fits =
     let s = split rest two fits reading.bounded in
     record {
-      bitmap = λ b. reading.bitmap (subst IsBitmap (sym s.is) (IsBitmap-split s.window s.block s.others s.window_small (omega (arith, s.count)) (omega (arith, s.count)) s.small (subst IsBitmap (sym s.left) b)));
-      fault = λ e f. reading.fault e (subst (λ (o : List ℕ). FirstBlockFault o e) (sym s.is) (after s.window s.block s.others e (omega (arith, s.count)) (omega (arith, s.count)) (subst (λ (o : List ℕ). FirstBlockFault o e) (sym s.left) f)));
+      bitmap = λ b. reading.bitmap (subst IsBitmap (sym s.is)
+          (IsBitmap-split s.window s.block s.others s.window_small (omega (arith, s.count)) (omega (arith, s.count)) s.small
+          (subst IsBitmap (sym s.left) b)));
+      fault = λ e f. reading.fault e (subst (λ (o : List ℕ). FirstBlockFault o e) (sym s.is)
+          (after s.window s.block s.others e (omega (arith, s.count)) (omega (arith, s.count))
+          (subst (λ (o : List ℕ). FirstBlockFault o e) (sym s.left) f)));
       bounded = λ i. rw (get_or-drop (get_or rest 1 0 + 2) rest i 0) (reading.bounded (get_or rest 1 0 + 2 + i));
     }
 
@@ -74,7 +80,8 @@ fault_bad_length [] two bad = absurd (omega (arith, two))
 fault_bad_length (w ∷ []) two bad = absurd (omega (arith, two))
 fault_bad_length (w ∷ len ∷ tail) two bad = bad_length w len tail bad
 
-pub fault_cut_block : (rest : List ℕ) → 2 ≤ length rest → 0 < get_or rest 1 0 → get_or rest 1 0 ≤ 32 → length rest - 2 < get_or rest 1 0 → FirstBlockFault rest ShortInput
+pub fault_cut_block : (rest : List ℕ) → 2 ≤ length rest → 0 < get_or rest 1 0 → get_or rest 1 0 ≤ 32
+    → length rest - 2 < get_or rest 1 0 → FirstBlockFault rest ShortInput
 fault_cut_block [] two some small cut = absurd (omega (arith, two))
 fault_cut_block (w ∷ []) two some small cut = absurd (omega (arith, two))
 fault_cut_block (w ∷ len ∷ tail) two some small cut = cut_block w len tail some small (omega (arith, cut))
@@ -97,11 +104,13 @@ no_fault (cut_block window len rest some small cut) bitmap =
     omega (arith, has.inside, cut)
 no_fault (after window block rest fault some small later) bitmap =
     let has = block_at (window ∷ length block ∷ (block ++ rest)) bitmap (omega arith) in
-    let left : drop (length block + 2) (window ∷ length block ∷ (block ++ rest)) ≡ rest = rw (add_two (length block)) (drop_at block rest (length block) refl) in
+    let left : drop (length block + 2) (window ∷ length block ∷ (block ++ rest))
+    ≡ rest = rw (add_two (length block)) (drop_at block rest (length block) refl) in
     no_fault later (subst IsBitmap left has.rest)
 
 -- a fault by its name
-pub bitmap_fault : (octets : List ℕ) (first : RtypeBitmapError) (fault : Fault) → FirstBlockFault octets first → fault ≡ bitmap_fault_of first → BitmapFault octets fault
+pub bitmap_fault : (octets : List ℕ) (first : RtypeBitmapError) (fault : Fault) → FirstBlockFault octets first
+    → fault ≡ bitmap_fault_of first → BitmapFault octets fault
 bitmap_fault octets first fault found named = record { first = first; found = found; named = named }
 
 pub no_bitmap_fault : (octets : List ℕ) (fault : Fault) → BitmapFault octets fault → IsBitmap octets → ⊥

@@ -1,5 +1,6 @@
 -- bitmaps whose octets stand one after another
-use Rattle.std.proofs.Common.{◌≡◌, ℕ, zero, suc, ◌+◌, ◌-◌, ◌<◌, ◌≤◌, List, [], ◌∷◌, ◌++◌, length, get_or, drop, refl, sym, ap, ◌∙◌, arith, length-append, length-drop}
+use Rattle.std.proofs.Common.{◌≡◌, ℕ, zero, suc, ◌+◌, ◌-◌, ◌<◌, ◌≤◌, List, [], ◌∷◌}
+use Rattle.std.proofs.Common.{◌++◌, length, get_or, drop, refl, sym, ap, ◌∙◌, arith, length-append, length-drop}
 use Rattle.std.specs.Prelude.{slice_range}
 use Rattle.std.proofs.lemmas.List.{take_all, drop_at, take-append-le, drop-append-le}
 use Rattle.std.proofs.lemmas.List.Elements.{All-get_or, All-push}
@@ -34,7 +35,8 @@ last_part : (octets more : List ℕ) (start : ℕ) → start ≡ length octets �
 last_part octets more start is =
     rw (drop_at octets more start (sym is)) (take_all (length octets + length more - start) more (omega arith))
 
-cut_more : (ends : List ℕ) (start : ℕ) (octets more : List ℕ) → EndAt (length octets) ends start → cut_at (ends ++ (length octets + length more) ∷ []) start (octets ++ more) ≡ cut_at ends start octets ++ more ∷ []
+cut_more : (ends : List ℕ) (start : ℕ) (octets more : List ℕ) → EndAt (length octets) ends start
+    → cut_at (ends ++ (length octets + length more) ∷ []) start (octets ++ more) ≡ cut_at ends start octets ++ more ∷ []
 cut_more [] start octets more is = ap (λ l. l ∷ []) (last_part octets more start is)
 cut_more (end ∷ ends) start octets more is =
     rw (part-append octets more start end is.0 (end_high (length octets) ends end is.1), cut_more ends end octets more is.1) refl
@@ -43,10 +45,12 @@ end_more : (len next : ℕ) (ends : List ℕ) (start : ℕ) → EndAt len ends s
 end_more len next [] start is long = (omega arith, refl)
 end_more len next (end ∷ ends) start is long = (is.0, end_more len next ends end is.1 long)
 
-pub cut_pushed : (ends octets more : List ℕ) (end : ℕ) → AreBitmaps ends octets → end ≡ length octets + length more → cut_at (ends ++ end ∷ []) 0 (octets ++ more) ≡ cut_at ends 0 octets ++ more ∷ []
+pub cut_pushed : (ends octets more : List ℕ) (end : ℕ) → AreBitmaps ends octets → end ≡ length octets + length more
+    → cut_at (ends ++ end ∷ []) 0 (octets ++ more) ≡ cut_at ends 0 octets ++ more ∷ []
 cut_pushed ends octets more end are is = rw is (cut_more ends 0 octets more are.whole)
 
-pub AreBitmaps-push : (ends octets more : List ℕ) (end : ℕ) → AreBitmaps ends octets → IsBitmap more → end ≡ length octets + length more → AreBitmaps (ends ++ end ∷ []) (octets ++ more)
+pub AreBitmaps-push : (ends octets more : List ℕ) (end : ℕ) → AreBitmaps ends octets → IsBitmap more
+    → end ≡ length octets + length more → AreBitmaps (ends ++ end ∷ []) (octets ++ more)
 AreBitmaps-push ends octets more end are is at = record {
   whole = rw (length-append octets more, ← at) (end_more (length octets) end ends 0 are.whole (omega arith));
   bitmaps = rw (cut_pushed ends octets more end are at) (All-push IsBitmap (cut_at ends 0 octets) more are.bitmaps is);
@@ -54,7 +58,8 @@ AreBitmaps-push ends octets more end are is at = record {
 
 -- ---- the one at a place
 
-cut_here : (ends : List ℕ) (start : ℕ) (octets : List ℕ) (place end : ℕ) (d : List ℕ) → place < length ends → get_or (cut_at ends start octets) place d ≡ slice_range octets (get_or (start ∷ ends) place 0) (get_or ends place end)
+cut_here : (ends : List ℕ) (start : ℕ) (octets : List ℕ) (place end : ℕ) (d : List ℕ) → place < length ends
+    → get_or (cut_at ends start octets) place d ≡ slice_range octets (get_or (start ∷ ends) place 0) (get_or ends place end)
 cut_here [] start octets place end d inside = absurd (omega (arith, inside))
 cut_here (next ∷ ends) start octets zero end d inside = refl
 cut_here (next ∷ ends) start octets (suc place) end d inside = cut_here ends next octets place end d (omega (arith, inside))
@@ -63,7 +68,8 @@ record LiesWithin (len start end : ℕ) : Type 0 where
   pub ordered : start ≤ end
   pub inside : end ≤ len
 
-end_here : (len : ℕ) (ends : List ℕ) (start place end : ℕ) → EndAt len ends start → place < length ends → LiesWithin len (get_or (start ∷ ends) place 0) (get_or ends place end)
+end_here : (len : ℕ) (ends : List ℕ) (start place end : ℕ) → EndAt len ends start → place < length ends
+    → LiesWithin len (get_or (start ∷ ends) place 0) (get_or ends place end)
 end_here len [] start place end is inside = absurd (omega (arith, inside))
 end_here len (next ∷ ends) start zero end is inside = record { ordered = is.0; inside = end_high len ends next is.1 }
 end_here len (next ∷ ends) start (suc place) end is inside = end_here len ends next place end is.1 (omega (arith, inside))
@@ -75,10 +81,12 @@ part_ordered ends octets place end are inside = (end_here (length octets) ends 0
 pub part_inside : (ends octets : List ℕ) (place end : ℕ) → AreBitmaps ends octets → place < length ends → get_or ends place end ≤ length octets
 part_inside ends octets place end are inside = (end_here (length octets) ends 0 place end are.whole inside).inside
 
-pub part_is : (ends octets : List ℕ) (place end : ℕ) (d : List ℕ) → place < length ends → slice_range octets (get_or (0 ∷ ends) place 0) (get_or ends place end) ≡ get_or (cut_at ends 0 octets) place d
+pub part_is : (ends octets : List ℕ) (place end : ℕ) (d : List ℕ) → place < length ends
+    → slice_range octets (get_or (0 ∷ ends) place 0) (get_or ends place end) ≡ get_or (cut_at ends 0 octets) place d
 part_is ends octets place end d inside = sym (cut_here ends 0 octets place end d inside)
 
-pub part_bitmap : (ends octets : List ℕ) (place end : ℕ) → AreBitmaps ends octets → place < length ends → IsBitmap (slice_range octets (get_or (0 ∷ ends) place 0) (get_or ends place end))
+pub part_bitmap : (ends octets : List ℕ) (place end : ℕ) → AreBitmaps ends octets → place < length ends
+    → IsBitmap (slice_range octets (get_or (0 ∷ ends) place 0) (get_or ends place end))
 part_bitmap ends octets place end are inside =
     rw (part_is ends octets place end [] inside) (All-get_or IsBitmap (cut_at ends 0 octets) place [] (omega (arith, length-cut_at ends 0 octets)) are.bitmaps)
 

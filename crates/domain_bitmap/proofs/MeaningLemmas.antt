@@ -1,5 +1,6 @@
 -- what the octets of a set of types say
-use Rattle.std.proofs.Common.{◌≡◌, ◌≢◌, ℕ, zero, suc, ◌+◌, ◌-◌, ◌*◌, ◌/◌, ◌%◌, ◌<◌, ◌≤◌, Bool, true, false, List, [], ◌∷◌, ◌++◌, refl, sym, ap, ◌∙◌, inl, inr, arith, add-one, add_comm}
+use Rattle.std.proofs.Common.{◌≡◌, ◌≢◌, ℕ, zero, suc, ◌+◌, ◌-◌, ◌*◌, ◌/◌, ◌%◌, ◌<◌, ◌≤◌, Bool, true}
+use Rattle.std.proofs.Common.{false, List, [], ◌∷◌, ◌++◌, refl, sym, ap, ◌∙◌, inl, inr, arith, add-one, add_comm}
 use Rattle.std.proofs.Math.Nat.{mul-suc}
 use Rattle.std.specs.Prelude.{◌==◌, filter}
 use Rattle.std.specs.List.{range_with_len, flat_map}
@@ -22,7 +23,11 @@ has_bit-window types t =
     let w = t / 256 in
     let o = t % 256 / 8 in
     let is : 256 * w + 8 * o + t % 8 ≡ t = omega arith in
-    rw (get_or-trimmed (window_octets types w) o, get_or-window_octets types w o (omega arith), bit_of-octet_with (λ b. types (256 * w + 8 * o + b)) (t % 8) (omega arith)) (ap types is)
+    rw (
+      get_or-trimmed (window_octets types w) o,
+      get_or-window_octets types w o (omega arith),
+      bit_of-octet_with (λ b. types (256 * w + 8 * o + b)) (t % 8) (omega arith),
+    ) (ap types is)
 
 has_bit-none : (t : ℕ) → has_bit [] t ≡ false
 unfolding has_bit
@@ -41,7 +46,8 @@ in_blocks-past types t a zero past = refl
 in_blocks-past types t a (suc n) past =
     in_list-other a (trimmed (window_octets types a)) (blocks_from types (a + 1) n) t (omega arith) ∙ in_blocks-past types t (a + 1) n (omega arith)
 
-in_list-here : (w : ℕ) (xs : List ℕ) (blocks : List Block) (t : ℕ) → w ≡ t / 256 → in_first_block blocks t ≡ false → in_first_block (block_list w xs ++ blocks) t ≡ has_bit xs t
+in_list-here : (w : ℕ) (xs : List ℕ) (blocks : List Block) (t : ℕ) → w ≡ t / 256 → in_first_block blocks t ≡ false
+    → in_first_block (block_list w xs ++ blocks) t ≡ has_bit xs t
 unfolding block_list
 in_list-here w [] blocks t here none = none ∙ sym (has_bit-none t)
 in_list-here w (x ∷ xs) blocks t here none =
@@ -55,7 +61,8 @@ in_blocks types t a (suc n) low high =
     elim (eqb_tells a (t / 256)) [
       | inl h ↦
           let past = in_blocks-past types t (a + 1) n (omega (arith, h.1)) in
-          in_list-here a (trimmed (window_octets types a)) (blocks_from types (a + 1) n) t h.1 past ∙ ap (λ w. has_bit (trimmed (window_octets types w)) t) h.1 ∙ has_bit-window types t
+          in_list-here a (trimmed (window_octets types a)) (blocks_from types (a + 1) n) t h.1 past
+          ∙ ap (λ w. has_bit (trimmed (window_octets types w)) t) h.1 ∙ has_bit-window types t
       | inr h ↦
           in_list-other a (trimmed (window_octets types a)) (blocks_from types (a + 1) n) t h.1 ∙ in_blocks types t (a + 1) n (omega (arith, h.1)) (omega arith)
     ]
@@ -78,19 +85,24 @@ window_in m w t all low high =
     omega arith
 
 -- the types of a block whose bits are those of a set
-block_types_from-is : (types : ℕ → Bool) (block : Block) (place m : ℕ) → place ≡ 0 → m ≡ 256 → ((t : ℕ) → t / 256 ≡ block.window → has_bit block.octets t ≡ types t) → block_types_from block place ≡ filter types (range_with_len (m * block.window) m)
+block_types_from-is : (types : ℕ → Bool) (block : Block) (place m : ℕ) → place ≡ 0 → m ≡ 256
+    → ((t : ℕ) → t / 256 ≡ block.window → has_bit block.octets t ≡ types t)
+    → block_types_from block place ≡ filter types (range_with_len (m * block.window) m)
 unfolding block_types_from
 block_types_from-is types block place m start all same =
     let count : 256 - place ≡ m = omega arith in
     let from : 256 * block.window + place ≡ m * block.window = rw (start, all) (omega arith) in
     rw (count, from) (filter_same (has_bit block.octets) types (m * block.window) m (λ t low high. same t (window_in m block.window t all low high)))
 
-types_of_list : (types : ℕ → Bool) (w m : ℕ) (xs : List ℕ) → m ≡ 256 → ((t : ℕ) → t / 256 ≡ w → has_bit xs t ≡ types t) → flat_map (λ b. block_types_from b 0) (block_list w xs) ≡ filter types (range_with_len (m * w) m)
+types_of_list : (types : ℕ → Bool) (w m : ℕ) (xs : List ℕ) → m ≡ 256 → ((t : ℕ) → t / 256 ≡ w → has_bit xs t ≡ types t)
+    → flat_map (λ b. block_types_from b 0) (block_list w xs) ≡ filter types (range_with_len (m * w) m)
 unfolding block_list
 types_of_list types w m [] all same = sym (filter_none types (m * w) m (λ t low high. sym (same t (window_in m w t all low high)) ∙ has_bit-none t))
-types_of_list types w m (x ∷ xs) all same = append-nil (block_types_from (record { window = w; octets = x ∷ xs }) 0) ∙ block_types_from-is types (record { window = w; octets = x ∷ xs }) 0 m refl all same
+types_of_list types w m (x ∷ xs) all same = append-nil (block_types_from (record { window = w; octets = x ∷ xs }) 0)
+    ∙ block_types_from-is types (record { window = w; octets = x ∷ xs }) 0 m refl all same
 
-types_of_blocks : (types : ℕ → Bool) (m a n : ℕ) → m ≡ 256 → flat_map (λ b. block_types_from b 0) (blocks_from types a n) ≡ filter types (range_with_len (m * a) (m * n))
+types_of_blocks : (types : ℕ → Bool) (m a n : ℕ) → m ≡ 256 → flat_map (λ b. block_types_from b 0) (blocks_from types a n)
+    ≡ filter types (range_with_len (m * a) (m * n))
 unfolding blocks_from
 types_of_blocks types m a zero all =
     let none : m * 0 ≡ 0 = omega arith in
@@ -100,7 +112,8 @@ types_of_blocks types m a (suc n) all =
     let count : m * suc n ≡ m + m * n = mul-suc m n ∙ add_comm (m * n) m in
     let next : m * (a + 1) ≡ m * a + m = ap (λ k. m * k) (add-one a) ∙ mul-suc m a in
     let list = types_of_list types a m xs all (λ t window. rw (← window) (has_bit-window types t)) in
-    let rest : flat_map (λ b. block_types_from b 0) (blocks_from types (a + 1) n) ≡ filter types (range_with_len (m * a + m) (m * n)) = rw (← next) (types_of_blocks types m (a + 1) n all) in
+    let rest : flat_map (λ b. block_types_from b 0) (blocks_from types (a + 1) n)
+    ≡ filter types (range_with_len (m * a + m) (m * n)) = rw (← next) (types_of_blocks types m (a + 1) n all) in
     flat_map-append (λ b. block_types_from b 0) (block_list a xs) (blocks_from types (a + 1) n) ∙ rw (list, rest, count) (filter_append types (m * a) m (m * n))
 
 blocks_of-built : (types : ℕ → Bool) → blocks_of (bitmap_octets types) ≡ blocks_from types 0 256

@@ -1,5 +1,7 @@
 -- blocks put in order
-use Rattle.std.proofs.Common.{◌≡◌, ℕ, zero, suc, ◌+◌, ◌-◌, ◌*◌, ◌/◌, ◌%◌, ◌<◌, ◌≤◌, ◌≢◌, max, Bool, true, false, List, [], ◌∷◌, ◌++◌, length, get_or, take, drop, refl, sym, ap, ◌∙◌, inl, inr, arith, add-one, add-zero, append_assoc, set, get_or-set_same, get_or-set_other, length-append}
+use Rattle.std.proofs.Common.{◌≡◌, ℕ, zero, suc, ◌+◌, ◌-◌, ◌*◌, ◌/◌, ◌%◌, ◌<◌, ◌≤◌, ◌≢◌, max}
+use Rattle.std.proofs.Common.{Bool, true, false, List, [], ◌∷◌, ◌++◌, length, get_or, take, drop, refl, sym}
+use Rattle.std.proofs.Common.{ap, ◌∙◌, inl, inr, arith, add-one, add-zero, append_assoc, set, get_or-set_same, get_or-set_other, length-append}
 use Rattle.std.specs.Prelude.{◌||◌, ◌==◌, ◌&&◌, bit_or, nat_lt, if◌then◌else◌}
 use Rattle.std.specs.Int.{bit_at}
 use Rattle.std.specs.List.{range_with_len, list_any}
@@ -95,7 +97,9 @@ tally-absent (suc n) = rw (tally-absent n) refl
 tally-blocks : (value : List ℕ) (k n : ℕ) → tally (λ w. list_any (is_of_window value w) (range_with_len 0 k)) n ≤ k
 tally-blocks value zero n = omega (arith, tally-absent n)
 tally-blocks value (suc k) n =
-    let split = tally-same (λ w. list_any (is_of_window value w) (range_with_len 0 (suc k))) (λ w. list_any (is_of_window value w) (range_with_len 0 k) || is_of_window value w k) n (λ w. any_suc (is_of_window value w) k) in
+    let split = tally-same (λ w. list_any (is_of_window value w) (range_with_len 0 (suc k)))
+    (λ w. list_any (is_of_window value w) (range_with_len 0 k) || is_of_window value w k) n
+    (λ w. any_suc (is_of_window value w) k) in
     let parts = tally-or (λ w. list_any (is_of_window value w) (range_with_len 0 k)) (λ w. is_of_window value w k) n in
     omega (arith, split, parts, tally-blocks value k n, tally-one (get_or value (34 * k) 0) n)
 
@@ -135,8 +139,11 @@ abbrev pub merged_at : List ℕ → List ℕ → ℕ → ℕ → ℕ → ℕ
 merged_at initial slots j i p =
     if (p / 32 == get_or slots (34 * j) 0) && nat_lt (p % 32) i then bit_or (get_or initial p 0) (get_or slots (34 * j + 2 + p % 32) 0) else get_or initial p 0
 
-pub merge_more : (initial now slots : List ℕ) (j i : ℕ) → i < 32 → get_or slots (34 * j) 0 * 32 + i < length now → ((p : ℕ) → get_or now p 0 ≡ merged_at initial slots j i p)
-    → (p : ℕ) → get_or (set now (get_or slots (34 * j) 0 * 32 + i) (bit_or (get_or now (get_or slots (34 * j) 0 * 32 + i) 0) (get_or slots (34 * j + 2 + i) 0))) p 0 ≡ merged_at initial slots j (i + 1) p
+pub merge_more : (initial now slots : List ℕ) (j i : ℕ) → i < 32 → get_or slots (34 * j) 0 * 32 + i < length now
+    → ((p : ℕ) → get_or now p 0 ≡ merged_at initial slots j i p)
+    → (p : ℕ) → get_or (set now (get_or slots (34 * j) 0 * 32 + i)
+    (bit_or (get_or now (get_or slots (34 * j) 0 * 32 + i) 0) (get_or slots (34 * j + 2 + i) 0))) p 0
+    ≡ merged_at initial slots j (i + 1) p
 merge_more initial now slots j i small inside same p =
     let w = get_or slots (34 * j) 0 in
     let at = w * 32 + i in
@@ -144,7 +151,12 @@ merge_more initial now slots j i small inside same p =
       | inl h ↦
           let is : p ≡ w * 32 + i = h.1 in
           let before : get_or now p 0 ≡ get_or initial p 0 = same p ∙ rw (test_before p w i is small) refl in
-          rw (test_here p w i is small, place_in p w i is small, ← is) (get_or-set_same now p (bit_or (get_or now p 0) (get_or slots (34 * j + 2 + i) 0)) 0 (omega arith) ∙ ap (λ o. bit_or o (get_or slots (34 * j + 2 + i) 0)) before)
+          rw (
+            test_here p w i is small,
+            place_in p w i is small,
+            ← is,
+          ) (get_or-set_same now p (bit_or (get_or now p 0) (get_or slots (34 * j + 2 + i) 0)) 0 (omega arith)
+          ∙ ap (λ o. bit_or o (get_or slots (34 * j + 2 + i) 0)) before)
       | inr h ↦
           let other : p ≢ w * 32 + i = h.1 in
           rw (test_other p w i other small) (get_or-set_other now at p (bit_or (get_or now at 0) (get_or slots (34 * j + 2 + i) 0)) 0 other ∙ same p)
@@ -159,13 +171,15 @@ octet_in t = omega arith
 
 -- the table after the block at a place
 pub types_more : (octets after slots : List ℕ) (j t : ℕ)
-    → ((p : ℕ) → get_or after p 0 ≡ (if p / 32 == get_or slots (34 * j) 0 then bit_or (get_or octets p 0) (get_or slots (34 * j + 2 + p % 32) 0) else get_or octets p 0))
+    → ((p : ℕ) → get_or after p 0 ≡ (if p / 32 == get_or slots (34 * j) 0 then bit_or (get_or octets p 0)
+    (get_or slots (34 * j + 2 + p % 32) 0) else get_or octets p 0))
     → bit_of (get_or octets (t / 8) 0) (t % 8) ≡ list_any (block_holds slots t) (range_with_len 0 j)
     → bit_of (get_or after (t / 8) 0) (t % 8) ≡ list_any (block_holds slots t) (range_with_len 0 (j + 1))
 types_more octets after slots j t merged before =
     let old = get_or octets (t / 8) 0 in
     let more = get_or slots (34 * j + 2 + t % 256 / 8) 0 in
-    let step : get_or after (t / 8) 0 ≡ (if t / 256 == get_or slots (34 * j) 0 then bit_or old more else old) = rw (← octet_place t, ← octet_in t) (merged (t / 8)) in
+    let step : get_or after (t / 8) 0 ≡ (if t / 256 == get_or slots (34 * j) 0 then bit_or old more else old) =
+    rw (← octet_place t, ← octet_in t) (merged (t / 8)) in
     elim (eqb_tells (t / 256) (get_or slots (34 * j) 0)) [
       | inl h ↦
           let turned : (get_or slots (34 * j) 0 == t / 256) ≡ true = let is : t / 256 ≡ get_or slots (34 * j) 0 = h.1 in grind (arith, nat_tests) in
@@ -184,10 +198,12 @@ windows_more present slots j w inside before =
     let c = get_or slots (34 * j) 0 in
     elim (eqb_tells c w) [
       | inl h ↦
-          rw (any_more (is_of_window slots w) j, h.0, ← h.1) (get_or-set_same present c true false inside ∙ sym (or_true (list_any (is_of_window slots c) (range_with_len 0 j))))
+          rw (any_more (is_of_window slots w) j, h.0, ← h.1) (get_or-set_same present c true false inside
+          ∙ sym (or_true (list_any (is_of_window slots c) (range_with_len 0 j))))
       | inr h ↦
           let other : w ≢ c = λ e. h.1 (sym e) in
-          rw (any_more (is_of_window slots w) j, h.0) (get_or-set_other present c w true false other ∙ before ∙ sym (or_false (list_any (is_of_window slots w) (range_with_len 0 j))))
+          rw (any_more (is_of_window slots w) j, h.0) (get_or-set_other present c w true false other ∙ before
+          ∙ sym (or_false (list_any (is_of_window slots w) (range_with_len 0 j))))
     ]
 
 pub ruleset table_steps = (types_more, windows_more)
@@ -202,7 +218,10 @@ table_window octets value xs w inside all is small bits =
     let t : ℕ = 256 * w + 8 * k + b in
     let place : t / 8 ≡ 32 * w + k = omega arith in
     let bit : t % 8 ≡ b = omega arith in
-    let octet : get_or xs k 0 ≡ get_or octets (t / 8) 0 = rw (is, place) (get_or-take 32 (drop (32 * w) octets) k 0 k_small ∙ get_or-drop (32 * w) octets k 0) in
+    let octet : get_or xs k 0 ≡ get_or octets (t / 8) 0 = rw (
+      is,
+      place,
+    ) (get_or-take 32 (drop (32 * w) octets) k 0 k_small ∙ get_or-drop (32 * w) octets k 0) in
     rw octet (ap (λ c. bit_of (get_or octets (t / 8) 0) c) (sym bit) ∙ bits t (omega arith)))
 
 -- a builder without blocks, and one with one block
@@ -217,7 +236,8 @@ one_bit value t one window =
     let test : (get_or value 0 0 == t / 256) ≡ true = grind (arith, nat_tests) in
     rw (one, test) (or_false (bit_of (get_or value (2 + t % 256 / 8) 0) (t % 8)))
 
-pub one_block : (value : List ℕ) → length value ≡ 34 → ((i : ℕ) → get_or value i 0 < 256) → bitmap_octets (holds value) ≡ block_with (get_or value 0 0) (trimmed (drop 2 value))
+pub one_block : (value : List ℕ) → length value ≡ 34 → ((i : ℕ) → get_or value i 0 < 256)
+    → bitmap_octets (holds value) ≡ block_with (get_or value 0 0) (trimmed (drop 2 value))
 unfolding bitmap_octets window_block
 one_block value one small =
     let w = get_or value 0 0 in
@@ -232,11 +252,14 @@ one_block value one small =
     let bit : t % 8 ≡ b = omega arith in
     rw (get_or-drop 2 value k 0) (sym (one_bit value t one window ∙ rw (place, bit) refl))) in
     flat_single (window_block (holds value)) w 256 (small 0)
-    (λ v below other. window_block-none (holds value) v (holds-absent value v (window_absent value v (λ j inside. let at : j ≡ 0 = omega arith in rw at (λ is. other (sym is))))))
+    (λ v below other. window_block-none (holds value) v (holds-absent value v
+    (window_absent value v (λ j inside. let at : j ≡ 0 = omega arith in rw at (λ is. other (sym is))))))
     ∙ ap (λ l. block_with w (trimmed l)) octets
 
 -- the only block is cut where it stands
-pub cut_in_place : (value after : List ℕ) (len : ℕ) → length value ≡ 34 → 0 < len → len ≤ 32 → after ≡ take 1 value ++ (len ∷ drop 2 value) → take (len + 2) after ≡ block_with (get_or value 0 0) (take len (drop 2 value))
+pub cut_in_place : (value after : List ℕ) (len : ℕ) → length value ≡ 34 → 0 < len → len ≤ 32
+    → after ≡ take 1 value ++ (len ∷ drop 2 value) → take (len + 2) after
+    ≡ block_with (get_or value 0 0) (take len (drop 2 value))
 cut_in_place [] after len one some fits is = absurd (omega (arith, one))
 cut_in_place (w ∷ []) after len one some fits is = absurd (omega (arith, one))
 cut_in_place (w ∷ o ∷ rest) after len one some fits is =

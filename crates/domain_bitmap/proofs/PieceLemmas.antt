@@ -7,7 +7,8 @@ use Rattle.domain_base.specs.Numbers.{type_text}
 use Rattle.domain_bitmap.specs.HashText.{salt_text}
 use Rattle.domain_bitmap.specs.Pieces.{type_pieces, salt_pieces, salt_comment}
 
-pub type_written : (old new all : List PieceText) (types rest : List ℕ) (t : ℕ) → old ++ type_pieces types ≡ all → types ≡ t ∷ rest → new ≡ old ++ token (type_text t) ∷ [] → new ++ type_pieces rest ≡ all
+pub type_written : (old new all : List PieceText) (types rest : List ℕ) (t : ℕ) → old ++ type_pieces types ≡ all
+    → types ≡ t ∷ rest → new ≡ old ++ token (type_text t) ∷ [] → new ++ type_pieces rest ≡ all
 unfolding type_pieces
 type_written old new all types rest t before is written =
     ap (λ l. l ++ type_pieces rest) written ∙ append_assoc old (token (type_text t) ∷ []) (type_pieces rest) ∙ ap (λ l. old ++ type_pieces l) (sym is) ∙ before
@@ -20,6 +21,8 @@ pub on_ok_gives : {T E P Q : Type 0} (r : Result T E) → (P → Q) → OnOk r P
 on_ok_gives (Ok x) gives holds = gives holds
 on_ok_gives (Err e) gives holds = tt
 
-pub salt_written : (a b c d e : List PieceText) (octets : List ℕ) (n : ℕ) → b ≡ a ++ opens ∷ [] → c ≡ b ++ token (salt_text octets) ∷ [] → d ≡ c ++ comment (salt_comment n) ∷ [] → n ≡ length octets → e ≡ d ++ closes ∷ [] → e ≡ a ++ salt_pieces octets
+pub salt_written : (a b c d e : List PieceText) (octets : List ℕ) (n : ℕ) → b ≡ a ++ opens ∷ []
+    → c ≡ b ++ token (salt_text octets) ∷ [] → d ≡ c ++ comment (salt_comment n) ∷ [] → n ≡ length octets → e ≡ d ++ closes ∷ []
+    → e ≡ a ++ salt_pieces octets
 salt_written a b c d e octets n begun shown said count ended =
     ended ∙ rw (said, shown, begun, count) (simp append_assoc)

@@ -1,5 +1,6 @@
 -- numbers in a row
-use Rattle.std.proofs.Common.{◌≡◌, ℕ, zero, suc, ◌+◌, ◌*◌, ◌<◌, ◌≤◌, ◌≢◌, Bool, true, false, List, [], ◌∷◌, ◌++◌, length, get_or, refl, sym, ap, ◌∙◌, inl, inr, arith, add-zero, zero-add, add-one, append-nil, length-append, cond, subst}
+use Rattle.std.proofs.Common.{◌≡◌, ℕ, zero, suc, ◌+◌, ◌*◌, ◌<◌, ◌≤◌, ◌≢◌, Bool, true, false, List, [], ◌∷◌, ◌++◌}
+use Rattle.std.proofs.Common.{length, get_or, refl, sym, ap, ◌∙◌, inl, inr, arith, add-zero, zero-add, add-one, append-nil, length-append, cond, subst}
 use Rattle.std.proofs.Math.Nat.{mul-suc}
 use Rattle.std.specs.Prelude.{◌||◌, ◌&&◌}
 use Rattle.std.specs.List.{range_with_len, list_any, flat_map, filter}
@@ -56,7 +57,8 @@ any_same_from : (p q : ℕ → Bool) (a n : ℕ) → ((j : ℕ) → a ≤ j → 
 any_same_from p q a zero same = refl
 any_same_from p q a (suc n) same =
     let first : p a ≡ q a = same a (omega arith) (omega arith) in
-    let rest : list_any p (range_with_len (a + 1) n) ≡ list_any q (range_with_len (a + 1) n) = any_same_from p q (a + 1) n (λ j low high. same j (omega arith) (omega arith)) in
+    let rest : list_any p (range_with_len (a + 1) n) ≡ list_any q (range_with_len (a + 1) n) =
+    any_same_from p q (a + 1) n (λ j low high. same j (omega arith) (omega arith)) in
     rw (first, rest) refl
 
 pub any_same : (p q : ℕ → Bool) (n : ℕ) → ((j : ℕ) → j < n → p j ≡ q j) → list_any p (range_with_len 0 n) ≡ list_any q (range_with_len 0 n)
@@ -70,23 +72,28 @@ any_at p n k below passes =
 pub any_none : (p : ℕ → Bool) (n : ℕ) → ((j : ℕ) → j < n → p j ≡ false) → list_any p (range_with_len 0 n) ≡ false
 any_none p n fails = any_same p (λ _. false) n fails ∙ list_any_none (λ _. false) (range_with_len 0 n) (λ k d below. refl)
 
-any_with_from : (p q : ℕ → Bool) (c : Bool) (a n k : ℕ) → a ≤ k → k < a + n → ((j : ℕ) → a ≤ j → j < a + n → j ≢ k → q j ≡ p j) → q k ≡ (c || p k) → list_any q (range_with_len a n) ≡ (c || list_any p (range_with_len a n))
+any_with_from : (p q : ℕ → Bool) (c : Bool) (a n k : ℕ) → a ≤ k → k < a + n → ((j : ℕ) → a ≤ j → j < a + n → j ≢ k → q j ≡ p j)
+    → q k ≡ (c || p k) → list_any q (range_with_len a n) ≡ (c || list_any p (range_with_len a n))
 any_with_from p q c a zero k low high same more = absurd (omega arith)
 any_with_from p q c a (suc n) k low high same more =
     elim (eqb_tells a k) [
       | inl h ↦
           let here : q a ≡ (c || p a) = subst (λ j. q j ≡ (c || p j)) (sym h.1) more in
-          let rest : list_any q (range_with_len (a + 1) n) ≡ list_any p (range_with_len (a + 1) n) = any_same_from q p (a + 1) n (λ j j_low j_high. same j (omega arith) (omega arith) (omega (arith, h.1))) in
+          let rest : list_any q (range_with_len (a + 1) n) ≡ list_any p (range_with_len (a + 1) n) =
+          any_same_from q p (a + 1) n (λ j j_low j_high. same j (omega arith) (omega arith) (omega (arith, h.1))) in
           rw (here, rest) (or_next c (p a) (list_any p (range_with_len (a + 1) n)))
       | inr h ↦
           let other : a ≢ k = h.1 in
           let here : q a ≡ p a = same a (omega arith) (omega arith) other in
-          let rest : list_any q (range_with_len (a + 1) n) ≡ (c || list_any p (range_with_len (a + 1) n)) = any_with_from p q c (a + 1) n k (omega arith) (omega arith) (λ j j_low j_high. same j (omega arith) (omega arith)) more in
+          let rest : list_any q (range_with_len (a + 1) n) ≡ (c || list_any p (range_with_len (a + 1) n)) =
+          any_with_from p q c (a + 1) n k (omega arith) (omega arith)
+          (λ j j_low j_high. same j (omega arith) (omega arith)) more in
           rw (here, rest) (or_swap (p a) c (list_any p (range_with_len (a + 1) n)))
     ]
 
 -- a test that says more at one place says so of the row
-pub any_with : (p q : ℕ → Bool) (c : Bool) (n k : ℕ) → k < n → ((j : ℕ) → j < n → j ≢ k → q j ≡ p j) → q k ≡ (c || p k) → list_any q (range_with_len 0 n) ≡ (c || list_any p (range_with_len 0 n))
+pub any_with : (p q : ℕ → Bool) (c : Bool) (n k : ℕ) → k < n → ((j : ℕ) → j < n → j ≢ k → q j ≡ p j) → q k ≡ (c || p k)
+    → list_any q (range_with_len 0 n) ≡ (c || list_any p (range_with_len 0 n))
 any_with p q c n k below same more = any_with_from p q c 0 n k (omega arith) (omega arith) (λ j low high. same j (omega arith)) more
 
 -- lists made for each number in a row
@@ -94,14 +101,16 @@ flat_same_from : (f g : ℕ → List ℕ) (a n : ℕ) → ((j : ℕ) → a ≤ j
 flat_same_from f g a zero same = refl
 flat_same_from f g a (suc n) same =
     let first : f a ≡ g a = same a (omega arith) (omega arith) in
-    let rest : flat_map f (range_with_len (a + 1) n) ≡ flat_map g (range_with_len (a + 1) n) = flat_same_from f g (a + 1) n (λ j low high. same j (omega arith) (omega arith)) in
+    let rest : flat_map f (range_with_len (a + 1) n) ≡ flat_map g (range_with_len (a + 1) n) =
+    flat_same_from f g (a + 1) n (λ j low high. same j (omega arith) (omega arith)) in
     rw (first, rest) refl
 
 pub flat_same : (f g : ℕ → List ℕ) (n : ℕ) → ((j : ℕ) → j < n → f j ≡ g j) → flat_map f (range_with_len 0 n) ≡ flat_map g (range_with_len 0 n)
 flat_same f g n same = flat_same_from f g 0 n (λ j low high. same j (omega arith))
 
 pub flat_more : (f : ℕ → List ℕ) (n : ℕ) → flat_map f (range_with_len 0 (n + 1)) ≡ flat_map f (range_with_len 0 n) ++ f n
-flat_more f n = ap (flat_map f) (range_more n) ∙ flat_map-append f (range_with_len 0 n) (n ∷ []) ∙ ap (λ l. flat_map f (range_with_len 0 n) ++ l) (append-nil (f n))
+flat_more f n = ap (flat_map f) (range_more n) ∙ flat_map-append f (range_with_len 0 n) (n ∷ [])
+    ∙ ap (λ l. flat_map f (range_with_len 0 n) ++ l) (append-nil (f n))
 
 flat_none_from : (f : ℕ → List ℕ) (a n : ℕ) → ((j : ℕ) → a ≤ j → j < a + n → f j ≡ []) → flat_map f (range_with_len a n) ≡ []
 flat_none_from f a zero none = refl
@@ -145,18 +154,21 @@ filter_append p a zero n = rw (add-zero a, zero-add n) refl
 filter_append p a (suc m) n =
     let start : a + suc m ≡ a + 1 + m = omega arith in
     let count : suc m + n ≡ suc (m + n) = omega arith in
-    rw (start, count) (kept_append (p a) a (filter p (range_with_len (a + 1) m)) (filter p (range_with_len (a + 1 + m) n)) ∙ ap (λ rest. cond (p a) (a ∷ rest) rest) (filter_append p (a + 1) m n))
+    rw (start, count) (kept_append (p a) a (filter p (range_with_len (a + 1) m)) (filter p (range_with_len (a + 1 + m) n))
+    ∙ ap (λ rest. cond (p a) (a ∷ rest) rest) (filter_append p (a + 1) m n))
 
 kept_length : (b : Bool) (x : ℕ) (xs : List ℕ) → length (cond b (x ∷ xs) xs) ≡ length xs + cond b 1 0
 kept_length true x xs = omega arith
 kept_length false x xs = omega arith
 
-filter_more_from : (p q : ℕ → Bool) (c a n : ℕ) → a ≤ c → c < a + n → ((j : ℕ) → j ≢ c → q j ≡ p j) → p c ≡ false → q c ≡ true → length (filter q (range_with_len a n)) ≡ length (filter p (range_with_len a n)) + 1
+filter_more_from : (p q : ℕ → Bool) (c a n : ℕ) → a ≤ c → c < a + n → ((j : ℕ) → j ≢ c → q j ≡ p j) → p c ≡ false → q c ≡ true
+    → length (filter q (range_with_len a n)) ≡ length (filter p (range_with_len a n)) + 1
 filter_more_from p q c a zero low high same was is = absurd (omega arith)
 filter_more_from p q c a (suc n) low high same was is =
     elim (eqb_tells a c) [
       | inl h ↦
-          let rest : filter q (range_with_len (a + 1) n) ≡ filter p (range_with_len (a + 1) n) = filter_same q p (a + 1) n (λ j j_low j_high. same j (omega (arith, h.1))) in
+          let rest : filter q (range_with_len (a + 1) n) ≡ filter p (range_with_len (a + 1) n) =
+          filter_same q p (a + 1) n (λ j j_low j_high. same j (omega (arith, h.1))) in
           let now : q a ≡ true = ap q h.1 ∙ is in
           let before : p a ≡ false = ap p h.1 ∙ was in
           rw (now, before, rest) (sym (add-one (length (filter p (range_with_len (a + 1) n)))))
@@ -167,7 +179,8 @@ filter_more_from p q c a (suc n) low high same was is =
     ]
 
 -- one more number passes
-pub filter_more : (p q : ℕ → Bool) (c n : ℕ) → c < n → ((j : ℕ) → j ≢ c → q j ≡ p j) → p c ≡ false → q c ≡ true → length (filter q (range_with_len 0 n)) ≡ length (filter p (range_with_len 0 n)) + 1
+pub filter_more : (p q : ℕ → Bool) (c n : ℕ) → c < n → ((j : ℕ) → j ≢ c → q j ≡ p j) → p c ≡ false → q c ≡ true
+    → length (filter q (range_with_len 0 n)) ≡ length (filter p (range_with_len 0 n)) + 1
 filter_more p q c n inside same was is = filter_more_from p q c 0 n (omega arith) (omega arith) same was is
 
 pub flat_length : (f : ℕ → List ℕ) (most a n : ℕ) → ((j : ℕ) → length (f j) ≤ most) → length (flat_map f (range_with_len a n)) ≤ most * n

@@ -1,5 +1,6 @@
 -- what sets of types and salts are written as is read back
-use Rattle.std.proofs.Common.{◌≡◌, ◌≢◌, ℕ, ◌+◌, ◌-◌, ◌*◌, ◌<◌, ◌≤◌, Bool, true, false, List, [], ◌∷◌, ◌++◌, zero, suc, map, codes, refl, sym, ap, subst, ◌∙◌, arith, inl, inr, append_assoc, length}
+use Rattle.std.proofs.Common.{◌≡◌, ◌≢◌, ℕ, ◌+◌, ◌-◌, ◌*◌, ◌<◌, ◌≤◌, Bool, true, false, List, [], ◌∷◌, ◌++◌}
+use Rattle.std.proofs.Common.{zero, suc, map, codes, refl, sym, ap, subst, ◌∙◌, arith, inl, inr, append_assoc, length}
 use Rattle.std.specs.Prelude.{◌==◌, ◌&&◌, filter}
 use Rattle.std.specs.List.{AllByRecursion, All, range_with_len, flat_map}
 use Rattle.std.proofs.lemmas.Bool.{cases_Bool}
@@ -47,7 +48,8 @@ block_types block small = filtered_types (has_bit block.octets) (256 * block.win
 
 blocks_types : (blocks : List Block) → AllByRecursion IsBlock blocks → AreTypes (flat_map (λ block. block_types_from block 0) blocks)
 blocks_types [] valid = tt
-blocks_types (block ∷ blocks) valid = types-append (block_types_from block 0) (flat_map (λ b. block_types_from b 0) blocks) (block_types block valid.0.window) (blocks_types blocks valid.1)
+blocks_types (block ∷ blocks) valid = types-append (block_types_from block 0) (flat_map (λ b. block_types_from b 0) blocks)
+    (block_types block valid.0.window) (blocks_types blocks valid.1)
 
 pub are_types : (octets : List ℕ) → IsBitmap octets → AreTypes (types_of octets)
 unfolding types_of
@@ -73,7 +75,8 @@ spaced_words front [] small = ap words_of (append-nil front) ∙ sym (append-nil
 spaced_words front (t ∷ types) small =
     let before = (front ++ 32 ∷ []) ++ type_text t in
     let parts : front ++ (32 ∷ (type_text t ++ flat_map (λ u. 32 ∷ type_text u) types)) ≡ before ++ flat_map (λ u. 32 ∷ type_text u) types =
-    sym (append_assoc front (32 ∷ []) (type_text t ++ flat_map (λ u. 32 ∷ type_text u) types)) ∙ sym (append_assoc (front ++ 32 ∷ []) (type_text t) (flat_map (λ u. 32 ∷ type_text u) types)) in
+    sym (append_assoc front (32 ∷ []) (type_text t ++ flat_map (λ u. 32 ∷ type_text u) types))
+    ∙ sym (append_assoc (front ++ 32 ∷ []) (type_text t) (flat_map (λ u. 32 ∷ type_text u) types)) in
     ap words_of parts ∙ spaced_words before types small.1
     ∙ ap (λ l. l ++ map type_text types) (next_word front (type_text t) (type_word t small.0))
     ∙ append_assoc (words_of front) (type_text t ∷ []) (map type_text types)
@@ -137,7 +140,8 @@ no_dash octet octets = λ same. cc
 
 pub salt_back : (octets : List ℕ) → All (λ octet. octet < 256) octets → length octets ≤ 255 → SaltText (salt_text octets) octets
 salt_back [] small counted = dash (codes "-") refl
-salt_back (octet ∷ octets) small counted = digits (encode_upper (octet ∷ octets)) (octet ∷ octets) (no_dash octet octets) (upper_back (octet ∷ octets) small) counted
+salt_back (octet ∷ octets) small counted = digits (encode_upper (octet ∷ octets)) (octet ∷ octets) (no_dash octet octets)
+    (upper_back (octet ∷ octets) small) counted
 
 pub salt_word : (octets : List ℕ) → IsWord (salt_text octets)
 salt_word [] = record { some = λ none. cc; unbroken = (refl, tt) }

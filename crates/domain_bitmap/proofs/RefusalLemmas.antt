@@ -16,7 +16,8 @@ use Rattle.domain_bitmap.specs.Scan.{TypeTexts, one_more, TypeFault, not_a_type,
 
 -- ---- types
 
-head_of : (token : List ℕ) (tokens : List (List ℕ)) (types : List ℕ) → TypeTexts (token ∷ tokens) types → (t : ℕ) × (rest : List ℕ) × TypeText token t × TypeTexts tokens rest
+head_of : (token : List ℕ) (tokens : List (List ℕ)) (types : List ℕ) → TypeTexts (token ∷ tokens) types
+    → (t : ℕ) × (rest : List ℕ) × TypeText token t × TypeTexts tokens rest
 head_of token tokens [] none = elim none [ ]
 head_of token tokens (t ∷ types) (one_more tok toks u us is more) = (t, types, is, more)
 
@@ -43,25 +44,32 @@ first_same (t ∷ ts) (u ∷ us) a b m n xs ys same before after unread unspelle
     let rest : ts ++ a ∷ m ≡ us ++ b ∷ n = cc in
     first_same ts us a b m n h.1 k.1 rest h.3 k.3 unread unspelled
 
-type_fault : (limit : Option ℕ) (before : List ℕ) (fault : ScanFault) (token : List ℕ) → TypeFault limit before fault token → IsOfTokens limit fault → IsNoType fault token
+type_fault : (limit : Option ℕ) (before : List ℕ) (fault : ScanFault) (token : List ℕ) → TypeFault limit before fault token
+    → IsOfTokens limit fault → IsNoType fault token
 type_fault limit before fault token (not_a_type f tok why) own = why
 type_fault limit before fault token (without_room tok t text over) own = absurd (over_none limit _ over own)
 type_fault limit before fault token (without_memory tok t text none) own = absurd own
 
-pub types_refused : (limit : Option ℕ) (old new : List (List ℕ)) (types : List ℕ) (fault : ScanFault) → RefusesTypes limit old new fault → TypeTexts old types → IsOfTokens limit fault → ⊥
+pub types_refused : (limit : Option ℕ) (old new : List (List ℕ)) (types : List ℕ) (fault : ScanFault)
+    → RefusesTypes limit old new fault → TypeTexts old types → IsOfTokens limit fault → ⊥
 types_refused limit old new types fault why is own =
     let found = type_at why.taken why.token new types (subst (λ t. TypeTexts t types) why.parts is) in
     (type_fault limit why.types fault why.token why.why own).none found.0 found.1
 
-pub types_one_fault : (limit : Option ℕ) (old m n : List (List ℕ)) (x y : ScanFault) → RefusesTypes limit old m x → RefusesTypes limit old n y → IsOfTokens limit x → IsOfTokens limit y → (x ≡ y) × (m ≡ n)
+pub types_one_fault : (limit : Option ℕ) (old m n : List (List ℕ)) (x y : ScanFault) → RefusesTypes limit old m x
+    → RefusesTypes limit old n y → IsOfTokens limit x → IsOfTokens limit y → (x ≡ y) × (m ≡ n)
 types_one_fault limit old m n x y p q own also =
     let first = type_fault limit p.types x p.token p.why own in
-    let second = type_fault limit q.types y q.token q.why also in
-    (first.said ∙ sym second.said, first_same p.taken q.taken p.token q.token m n p.types q.types (sym p.parts ∙ q.parts) p.spelled q.spelled first.none second.none)
+    let second = type_fault limit q.types y q.token q.why also in (
+      first.said ∙ sym second.said,
+      first_same p.taken q.taken p.token q.token m n p.types q.types (sym p.parts
+          ∙ q.parts) p.spelled q.spelled first.none second.none,
+    )
 
 -- ---- octets that an octet counts
 
-counted_excludes : (codec : Codec) (long : List ℕ) (limit : Option ℕ) (fault : ScanFault) (text octets : List ℕ) → CountedFault codec long limit fault text → Decodes codec text octets → length octets ≤ 255 → IsOfTokens limit fault → ⊥
+counted_excludes : (codec : Codec) (long : List ℕ) (limit : Option ℕ) (fault : ScanFault) (text octets : List ℕ)
+    → CountedFault codec long limit fault text → Decodes codec text octets → length octets ≤ 255 → IsOfTokens limit fault → ⊥
 counted_excludes codec long limit entry_ends text octets why is counted own = why
 counted_excludes codec long limit (illegal said) text octets (inl why) is counted own = codec_excludes codec limit (illegal said) text octets why is own
 counted_excludes codec long limit (illegal said) text octets (inr why) is counted own =
@@ -70,18 +78,21 @@ counted_excludes codec long limit no_room text octets why is counted own = codec
 counted_excludes codec long limit no_memory text octets why is counted own = own
 
 -- what has room is not refused for want of it
-room_apart : (codec : Codec) (long : List ℕ) (limit : Option ℕ) (said : List ℕ) (text : List ℕ) → CountedFault codec long limit (illegal said) text → CountedFault codec long limit no_room text → ⊥
+room_apart : (codec : Codec) (long : List ℕ) (limit : Option ℕ) (said : List ℕ) (text : List ℕ)
+    → CountedFault codec long limit (illegal said) text → CountedFault codec long limit no_room text → ⊥
 room_apart codec long limit said text (inl p) q = p.1 q.0 q.1
 room_apart codec long limit said text (inr p) q = p.0.room (subst (λ o. IsOver limit (length o)) (decodes_once codec text q.0 p.0.octets q.1 p.0.decoded) q.2)
 
-illegal_once : (codec : Codec) (long : List ℕ) (limit : Option ℕ) (a b : List ℕ) (text : List ℕ) → CountedFault codec long limit (illegal a) text → CountedFault codec long limit (illegal b) text → illegal a ≡ illegal b
+illegal_once : (codec : Codec) (long : List ℕ) (limit : Option ℕ) (a b : List ℕ) (text : List ℕ)
+    → CountedFault codec long limit (illegal a) text → CountedFault codec long limit (illegal b) text → illegal a ≡ illegal b
 illegal_once codec long limit a b text (inl p) (inl q) = codec_one_fault codec limit (illegal a) (illegal b) text p q
 illegal_once codec long limit a b text (inl p) (inr q) = absurd (p.1 q.0.octets q.0.decoded)
 illegal_once codec long limit a b text (inr p) (inl q) = absurd (q.1 p.0.octets p.0.decoded)
 illegal_once codec long limit a b text (inr p) (inr q) = ap illegal (p.1 ∙ sym q.1)
 
 -- memory may be wanting for octets that turn out to be too many
-pub counted_one_fault : (codec : Codec) (long : List ℕ) (limit : Option ℕ) (x y : ScanFault) (text : List ℕ) → CountedFault codec long limit x text → CountedFault codec long limit y text → x ≢ no_memory → y ≢ no_memory → x ≡ y
+pub counted_one_fault : (codec : Codec) (long : List ℕ) (limit : Option ℕ) (x y : ScanFault) (text : List ℕ)
+    → CountedFault codec long limit x text → CountedFault codec long limit y text → x ≢ no_memory → y ≢ no_memory → x ≡ y
 counted_one_fault codec long limit entry_ends y text p q known also = absurd p
 counted_one_fault codec long limit (illegal a) entry_ends text p q known also = absurd q
 counted_one_fault codec long limit (illegal a) (illegal b) text p q known also = illegal_once codec long limit a b text p q
@@ -95,8 +106,11 @@ counted_one_fault codec long limit no_memory y text p q known also = absurd (kno
 
 -- ---- hashes
 
-pub hash_excludes : (limit : Option ℕ) (fault : ScanFault) (text octets : List ℕ) → CountedFault Base32Hex (codes "illegal owner name hash") limit fault text → OwnerHashText text octets → IsOfTokens limit fault → ⊥
-hash_excludes limit fault text octets why is own = counted_excludes Base32Hex (codes "illegal owner name hash") limit fault text octets why is.decoded is.counted own
+pub hash_excludes : (limit : Option ℕ) (fault : ScanFault) (text octets : List ℕ)
+    → CountedFault Base32Hex (codes "illegal owner name hash") limit fault text → OwnerHashText text octets
+    → IsOfTokens limit fault → ⊥
+hash_excludes limit fault text octets why is own = counted_excludes Base32Hex
+    (codes "illegal owner name hash") limit fault text octets why is.decoded is.counted own
 
 pub hash_once : (text a b : List ℕ) → OwnerHashText text a → OwnerHashText text b → a ≡ b
 hash_once text a b x y = decodes_once Base32Hex text a b x.decoded y.decoded
@@ -127,14 +141,18 @@ salt_once text x y (dash t is) (digits u o other d counted) = absurd (other is)
 salt_once text x y (digits t o other d counted) (dash u js) = absurd (other js)
 salt_once text x y (digits t o other d counted) (digits u p others e also) = decodes_once Base16 text o p d e
 
-pub salt_excludes : (limit : Option ℕ) (fault : ScanFault) (text octets : List ℕ) → SaltTokenFault limit fault text → SaltText text octets → IsOfTokens limit fault → ⊥
+pub salt_excludes : (limit : Option ℕ) (fault : ScanFault) (text octets : List ℕ) → SaltTokenFault limit fault text
+    → SaltText text octets → IsOfTokens limit fault → ⊥
 salt_excludes limit fault text octets (after_dash t begins other) (dash u is) own = other is
 salt_excludes limit fault text octets (after_dash t begins other) (digits u o plain is counted) own = dash_is_no_digit text octets begins is
 salt_excludes limit fault text octets (in_digits f t plain why) (dash u is) own = plain (begins_with_dash text is)
-salt_excludes limit fault text octets (in_digits f t plain why) (digits u o other is counted) own = counted_excludes Base16 (codes "illegal NSEC3 salt") limit fault text octets why is counted own
+salt_excludes limit fault text octets (in_digits f t plain why) (digits u o other is counted) own =
+    counted_excludes Base16 (codes "illegal NSEC3 salt") limit fault text octets why is counted own
 
-pub salt_one_fault : (limit : Option ℕ) (x y : ScanFault) (text : List ℕ) → SaltTokenFault limit x text → SaltTokenFault limit y text → x ≢ no_memory → y ≢ no_memory → x ≡ y
+pub salt_one_fault : (limit : Option ℕ) (x y : ScanFault) (text : List ℕ) → SaltTokenFault limit x text
+    → SaltTokenFault limit y text → x ≢ no_memory → y ≢ no_memory → x ≡ y
 salt_one_fault limit x y text (after_dash t begins other) (after_dash u begin others) known also = refl
 salt_one_fault limit x y text (after_dash t begins other) (in_digits f u plain why) known also = absurd (plain begins)
 salt_one_fault limit x y text (in_digits f t plain why) (after_dash u begins other) known also = absurd (plain begins)
-salt_one_fault limit x y text (in_digits f t plain why) (in_digits g u plains whys) known also = counted_one_fault Base16 (codes "illegal NSEC3 salt") limit x y text why whys known also
+salt_one_fault limit x y text (in_digits f t plain why) (in_digits g u plains whys) known also =
+    counted_one_fault Base16 (codes "illegal NSEC3 salt") limit x y text why whys known also

@@ -14,7 +14,8 @@ gone_past : (old new rest : List (List ℕ)) (token : List ℕ) → old ≡ toke
 gone_past old new rest token is past = is ∙ ap (λ l. token ∷ l) (sym (past ∙ ap (drop 1) is))
 
 -- a dash alone
-pub took_dash : (old new : List (List ℕ)) (token salt : List ℕ) → (rest : List (List ℕ)) × (old ≡ token ∷ rest) → new ≡ drop 1 old → token ≡ codes "-" → salt ≡ [] → TakesToken (λ t. SaltText t salt) old new
+pub took_dash : (old new : List (List ℕ)) (token salt : List ℕ) → (rest : List (List ℕ)) × (old ≡ token ∷ rest) → new ≡ drop 1 old
+    → token ≡ codes "-" → salt ≡ [] → TakesToken (λ t. SaltText t salt) old new
 took_dash old new token salt first past alone none = record {
   token = token;
   first = gone_past old new first.0 token first.1 past;
@@ -22,9 +23,12 @@ took_dash old new token salt first past alone none = record {
 }
 
 -- a dash and more
-pub refused_dash : (limit : Option ℕ) (old new : List (List ℕ)) (token : List ℕ) → (rest : List (List ℕ)) × (old ≡ token ∷ rest) → new ≡ drop 1 old → BeginsWithDash token → token ≢ codes "-" → RefusesToken (SaltTokenFault limit) old new (illegal (codes "illegal NSEC3 salt"))
+pub refused_dash : (limit : Option ℕ) (old new : List (List ℕ)) (token : List ℕ) → (rest : List (List ℕ)) × (old ≡ token ∷ rest)
+    → new ≡ drop 1 old → BeginsWithDash token → token ≢ codes "-"
+    → RefusesToken (SaltTokenFault limit) old new (illegal (codes "illegal NSEC3 salt"))
 refused_dash limit old new token first past begins more =
-    subst (λ (l : List (List ℕ)). RefusesToken (SaltTokenFault limit) l new (illegal (codes "illegal NSEC3 salt"))) (sym (gone_past old new first.0 token first.1 past))
+    subst (λ (l : List (List ℕ)). RefusesToken (SaltTokenFault limit) l new (illegal (codes "illegal NSEC3 salt")))
+    (sym (gone_past old new first.0 token first.1 past))
     (refused token new (illegal (codes "illegal NSEC3 salt")) (after_dash token begins more))
 
 -- digits
@@ -32,7 +36,9 @@ not_dash : (token : List ℕ) → (BeginsWithDash token → ⊥) → token ≢ c
 not_dash [] other is = cc
 not_dash (c ∷ rest) other is = other (cc)
 
-took_digits : (old new : List (List ℕ)) (token salt : List ℕ) → (rest : List (List ℕ)) × (old ≡ token ∷ rest) → (BeginsWithDash token → ⊥) → TakesToken (λ t. Decodes Base16 t salt) old new → length salt ≤ 255 → TakesToken (λ t. SaltText t salt) old new
+took_digits : (old new : List (List ℕ)) (token salt : List ℕ) → (rest : List (List ℕ)) × (old ≡ token ∷ rest)
+    → (BeginsWithDash token → ⊥) → TakesToken (λ t. Decodes Base16 t salt) old new → length salt ≤ 255
+    → TakesToken (λ t. SaltText t salt) old new
 took_digits old new token salt first other took counted =
     let both : took.token ∷ new ≡ token ∷ first.0 = sym took.first ∙ first.1 in
     let same : token ≡ took.token = cc in
@@ -42,7 +48,10 @@ took_digits old new token salt first other took counted =
       holds = digits took.token salt (not_dash took.token (subst (λ (t : List ℕ). BeginsWithDash t → ⊥) same other)) took.holds counted;
     }
 
-refused_digits : (limit : Option ℕ) (old new : List (List ℕ)) (token : List ℕ) (fault : ScanFault) → (rest : List (List ℕ)) × (old ≡ token ∷ rest) → (BeginsWithDash token → ⊥) → RefusesToken (CountedFault Base16 (codes "illegal NSEC3 salt") limit) old new fault → RefusesToken (SaltTokenFault limit) old new fault
+refused_digits : (limit : Option ℕ) (old new : List (List ℕ)) (token : List ℕ) (fault : ScanFault)
+    → (rest : List (List ℕ)) × (old ≡ token ∷ rest) → (BeginsWithDash token → ⊥)
+    → RefusesToken (CountedFault Base16 (codes "illegal NSEC3 salt") limit) old new fault
+    → RefusesToken (SaltTokenFault limit) old new fault
 refused_digits limit old new token fault first other ended = absurd (let none = first.1 in cc)
 refused_digits limit old new token fault first other (refused read left why_fault why) =
     let both = first.1 in
@@ -50,10 +59,16 @@ refused_digits limit old new token fault first other (refused read left why_faul
     refused read left why_fault (in_digits why_fault read (subst (λ (t : List ℕ). BeginsWithDash t → ⊥) same other) why)
 
 -- the same of an answer
-pub digits_ok : {E : Type 0} (r : Result (List ℕ) E) (old new : List (List ℕ)) (token : List ℕ) → (rest : List (List ℕ)) × (old ≡ token ∷ rest) → (BeginsWithDash token → ⊥) → IfOk r (λ salt. TakesToken (λ t. Decodes Base16 t salt) old new) → IfOk r (λ salt. length salt ≤ 255) → IfOk r (λ salt. TakesToken (λ t. SaltText t salt) old new)
+pub digits_ok : {E : Type 0} (r : Result (List ℕ) E) (old new : List (List ℕ)) (token : List ℕ)
+    → (rest : List (List ℕ)) × (old ≡ token ∷ rest) → (BeginsWithDash token → ⊥)
+    → IfOk r (λ salt. TakesToken (λ t. Decodes Base16 t salt) old new) → IfOk r (λ salt. length salt ≤ 255)
+    → IfOk r (λ salt. TakesToken (λ t. SaltText t salt) old new)
 digits_ok (Ok salt) old new token first other took counted = took_digits old new token salt first other took counted
 digits_ok (Err e) old new token first other took counted = took
 
-pub digits_err : {A E : Type 0} (fault_of : E → ScanFault) (r : Result A E) (limit : Option ℕ) (old new : List (List ℕ)) (token : List ℕ) → (rest : List (List ℕ)) × (old ≡ token ∷ rest) → (BeginsWithDash token → ⊥) → IfErr r (λ e. RefusesToken (CountedFault Base16 (codes "illegal NSEC3 salt") limit) old new (fault_of e)) → IfErr r (λ e. RefusesToken (SaltTokenFault limit) old new (fault_of e))
+pub digits_err : {A E : Type 0} (fault_of : E → ScanFault) (r : Result A E) (limit : Option ℕ) (old new : List (List ℕ))
+    (token : List ℕ) → (rest : List (List ℕ)) × (old ≡ token ∷ rest) → (BeginsWithDash token → ⊥)
+    → IfErr r (λ e. RefusesToken (CountedFault Base16 (codes "illegal NSEC3 salt") limit) old new (fault_of e))
+    → IfErr r (λ e. RefusesToken (SaltTokenFault limit) old new (fault_of e))
 digits_err fault_of (Ok a) limit old new token first other why = why
 digits_err fault_of (Err e) limit old new token first other why = refused_digits limit old new token (fault_of e) first other why

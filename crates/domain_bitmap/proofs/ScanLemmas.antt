@@ -1,5 +1,6 @@
 -- types read from tokens
-use Rattle.std.proofs.Common.{◌≡◌, ◌≢◌, ℕ, ◌+◌, ◌*◌, ◌/◌, ◌<◌, Bool, true, false, List, [], ◌∷◌, ◌++◌, length, refl, sym, ap, ◌∙◌, subst, inl, inr, arith, append_assoc}
+use Rattle.std.proofs.Common.{◌≡◌, ◌≢◌, ℕ, ◌+◌, ◌*◌, ◌/◌, ◌<◌, Bool, true, false, List, []}
+use Rattle.std.proofs.Common.{◌∷◌, ◌++◌, length, refl, sym, ap, ◌∙◌, subst, inl, inr, arith, append_assoc}
 use Rattle.std.specs.Prelude.{◌||◌, ◌==◌, Option, if◌then◌else◌}
 use Rattle.std.specs.List.{list_any}
 use Rattle.std.proofs.lemmas.List.Folds.{list_any-append}
@@ -16,9 +17,11 @@ use Rattle.domain_bitmap.specs.Builder.{holds, has_window}
 use Rattle.domain_bitmap.specs.Scan.{TypeTexts, no_types, one_more, is_among, has_type_in, room_for, not_a_type, without_room, without_memory, RefusesTypes}
 use Rattle.domain_bitmap.proofs.RangeLemmas.{or_false, or_turn, filter_same, filter_more}
 
-texts-more : {taken : List (List ℕ)} {types : List ℕ} (token : List ℕ) (t : ℕ) → TypeTexts taken types → TypeText token t → TypeTexts (taken ++ token ∷ []) (types ++ t ∷ [])
+texts-more : {taken : List (List ℕ)} {types : List ℕ} (token : List ℕ) (t : ℕ) → TypeTexts taken types → TypeText token t
+    → TypeTexts (taken ++ token ∷ []) (types ++ t ∷ [])
 texts-more token t no_types spells = one_more token [] t [] spells no_types
-texts-more token t (one_more first tokens u types first_spells rest) spells = one_more first (tokens ++ token ∷ []) u (types ++ t ∷ []) first_spells (texts-more token t rest spells)
+texts-more token t (one_more first tokens u types first_spells rest) spells =
+    one_more first (tokens ++ token ∷ []) u (types ++ t ∷ []) first_spells (texts-more token t rest spells)
 
 among-more : (types : List ℕ) (t u : ℕ) → is_among (types ++ t ∷ []) u ≡ ((u == t) || is_among types u)
 unfolding is_among
@@ -54,11 +57,16 @@ room-none : 0 ≡ room_for []
 unfolding room_for has_type_in
 room-none = refl
 
-room-step_at : (types : List ℕ) (t : ℕ) (value after : List ℕ) (known : Bool) → has_type_in types (t / 256) ≡ known → length value ≡ room_for types → t < 65536 → length after ≡ (if known then length value else length value + 34) → length after ≡ room_for (types ++ t ∷ [])
+room-step_at : (types : List ℕ) (t : ℕ) (value after : List ℕ) (known : Bool) → has_type_in types (t / 256) ≡ known
+    → length value ≡ room_for types → t < 65536 → length after ≡ (if known then length value else length value + 34)
+    → length after ≡ room_for (types ++ t ∷ [])
 room-step_at types t value after true known room small size = size ∙ room ∙ sym (room-same types t known)
 room-step_at types t value after false known room small size = size ∙ ap (λ n. n + 34) room ∙ sym (room-more types t small known)
 
-room-step : (types : List ℕ) (t : ℕ) (value after : List ℕ) → length value ≡ room_for types → t < 65536 → has_window value (t / 256) ≡ has_type_in types (t / 256) → length after ≡ (if has_window value (t / 256) then length value else length value + 34) → length after ≡ room_for (types ++ t ∷ [])
+room-step : (types : List ℕ) (t : ℕ) (value after : List ℕ) → length value ≡ room_for types → t < 65536
+    → has_window value (t / 256) ≡ has_type_in types (t / 256)
+    → length after ≡ (if has_window value (t / 256) then length value else length value + 34)
+    → length after ≡ room_for (types ++ t ∷ [])
 room-step types t value after room small windows size = room-step_at types t value after (has_type_in types (t / 256)) refl room small (rw (← windows) size)
 
 -- what was read so far
@@ -90,7 +98,8 @@ scan_starts tokens value none = record {
   room = rw none room-none;
 }
 
-pub scan_goes : (old now rest : List (List ℕ)) (value after : List ℕ) (token : List ℕ) (t : ℕ) → Scanned old now value → now ≡ token ∷ rest → TypeText token t → t < 65536
+pub scan_goes : (old now rest : List (List ℕ)) (value after : List ℕ) (token : List ℕ) (t : ℕ) → Scanned old now value
+    → now ≡ token ∷ rest → TypeText token t → t < 65536
     → ((u : ℕ) → u < 65536 → holds after u ≡ ((u == t) || holds value u)) → ((w : ℕ) → has_window after w ≡ ((w == t / 256) || has_window value w))
     → length after ≡ (if has_window value (t / 256) then length value else length value + 34) → Scanned old rest after
 scan_goes old now rest value after token t scanned first spells small held windows size = record {
@@ -103,12 +112,14 @@ scan_goes old now rest value after token t scanned first spells small held windo
   room = room-step scanned.types t value after scanned.room small (scanned.windows (t / 256)) size;
 }
 
-pub scan_ends : (old now : List (List ℕ)) (value : List ℕ) → Scanned old now value → now ≡ [] → (types : List ℕ) × TypeTexts old types × ((t : ℕ) → t < 65536 → holds value t ≡ is_among types t)
+pub scan_ends : (old now : List (List ℕ)) (value : List ℕ) → Scanned old now value → now ≡ []
+    → (types : List ℕ) × TypeTexts old types × ((t : ℕ) → t < 65536 → holds value t ≡ is_among types t)
 scan_ends old now value scanned none =
     let all : old ≡ scanned.taken = scanned.parts ∙ ap (λ l. scanned.taken ++ l) none ∙ append-nil scanned.taken in
     (scanned.types, subst (λ (o : List (List ℕ)). TypeTexts o scanned.types) (sym all) scanned.spelled, scanned.held)
 
-pub scan_refused : (limit : Option ℕ) (old now rest : List (List ℕ)) (value : List ℕ) (fault : ScanFault) → Scanned old now value → now ≢ [] → RefusesToken IsNoType now rest fault → RefusesTypes limit old rest fault
+pub scan_refused : (limit : Option ℕ) (old now rest : List (List ℕ)) (value : List ℕ) (fault : ScanFault) → Scanned old now value
+    → now ≢ [] → RefusesToken IsNoType now rest fault → RefusesTypes limit old rest fault
 scan_refused limit old now rest value fault scanned some ended = absurd (some refl)
 scan_refused limit old now rest value fault scanned some (refused token left why_fault why) = record {
   taken = scanned.taken;
@@ -120,11 +131,16 @@ scan_refused limit old now rest value fault scanned some (refused token left why
 }
 
 -- a type for which the builder has no room, or no memory
-pub scan_full : (limit : Option ℕ) (old now rest : List (List ℕ)) (value : List ℕ) (token : List ℕ) (t : ℕ) (error : AppendError) → Scanned old now value → now ≡ token ∷ rest → TypeText token t → t < 65536
-    → (error ≡ ShortBuf → (has_window value (t / 256) ≡ false) × IsOver limit (length value + 34)) → (error ≡ OutOfMemory → IsNone limit) → RefusesTypes limit old rest (scan_fault_of (scan_error_of error))
+pub scan_full : (limit : Option ℕ) (old now rest : List (List ℕ)) (value : List ℕ) (token : List ℕ) (t : ℕ) (error : AppendError)
+    → Scanned old now value → now ≡ token ∷ rest → TypeText token t → t < 65536
+    → (error ≡ ShortBuf → (has_window value (t / 256) ≡ false) × IsOver limit (length value + 34))
+    → (error ≡ OutOfMemory → IsNone limit) → RefusesTypes limit old rest (scan_fault_of (scan_error_of error))
 scan_full limit old now rest value token t ShortBuf scanned first spells small short memory =
     let full = short refl in
-    let room : length value + 34 ≡ room_for (scanned.types ++ t ∷ []) = rw (scanned.room, room-more scanned.types t small (sym (scanned.windows (t / 256)) ∙ full.0)) refl in
+    let room : length value + 34 ≡ room_for (scanned.types ++ t ∷ []) = rw (
+      scanned.room,
+      room-more scanned.types t small (sym (scanned.windows (t / 256)) ∙ full.0),
+    ) refl in
     record {
       taken = scanned.taken;
       types = scanned.types;

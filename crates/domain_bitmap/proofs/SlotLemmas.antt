@@ -1,5 +1,7 @@
 -- the blocks of 34 octets that a builder holds
-use Rattle.std.proofs.Common.{◌≡◌, ℕ, zero, suc, ◌+◌, ◌-◌, ◌*◌, ◌/◌, ◌%◌, ◌^◌, ◌<◌, ◌≢◌, true, false, List, ◌∷◌, ◌++◌, length, get_or, take, drop, refl, sym, ap, ◌∙◌, inl, inr, arith, add-one, length-append, set, get_or-set_same, get_or-set_other, length-set}
+use Rattle.std.proofs.Common.{◌≡◌, ℕ, zero, suc, ◌+◌, ◌-◌, ◌*◌, ◌/◌, ◌%◌, ◌^◌, ◌<◌, ◌≢◌}
+use Rattle.std.proofs.Common.{true, false, List, ◌∷◌, ◌++◌, length, get_or, take, drop, refl, sym, ap}
+use Rattle.std.proofs.Common.{◌∙◌, inl, inr, arith, add-one, length-append, set, get_or-set_same, get_or-set_other, length-set}
 use Rattle.std.specs.Prelude.{◌||◌, ◌==◌, bit_or, replicate}
 use Rattle.std.proofs.lemmas.Bool.Decides.{nat_tests, eqb_tells}
 use Rattle.std.proofs.lemmas.List.{take-set, drop-set, take-append-drop, get_or-append-add, get_or_append_left}
@@ -16,7 +18,8 @@ window_found value window j inside is = any_at (is_of_window value window) (leng
 
 pub window_absent : (value : List ℕ) (window : ℕ) → ((j : ℕ) → j < length value / 34 → get_or value (34 * j) 0 ≢ window) → has_window value window ≡ false
 unfolding has_window
-window_absent value window other = any_none (is_of_window value window) (length value / 34) (λ j inside. let differs = other j inside in grind (arith, nat_tests))
+window_absent value window other = any_none (is_of_window value window) (length value / 34)
+    (λ j inside. let differs = other j inside in grind (arith, nat_tests))
 
 -- one octet written over
 pub written_is : (value : List ℕ) (at octet : ℕ) → at < length value → take at value ++ (octet ∷ drop (at + 1) value) ≡ set value at octet
@@ -60,7 +63,8 @@ module _ (value : List ℕ) (p r : ℕ) (inside : p < length value / 34) (window
       rw (window_kept j, kept (34 * j + 2 + t % 256 / 8) place) refl
 
   -- the bit of a type in the block
-  bit_after : (t : ℕ) → t / 256 ≡ r / 256 → bit_of (get_or after (34 * p + 2 + t % 256 / 8) 0) (t % 8) ≡ ((t == r) || bit_of (get_or value (34 * p + 2 + t % 256 / 8) 0) (t % 8))
+  bit_after : (t : ℕ) → t / 256 ≡ r / 256 → bit_of (get_or after (34 * p + 2 + t % 256 / 8) 0) (t % 8)
+      ≡ ((t == r) || bit_of (get_or value (34 * p + 2 + t % 256 / 8) 0) (t % 8))
   bit_after t of_window =
       elim (eqb_tells (t % 256 / 8) (r % 256 / 8)) [
         | inl h ↦
@@ -102,15 +106,19 @@ added : (value slots : List ℕ) (j o b r : ℕ) → slots ≡ value → j < len
     → take (34 * j + 2 + o) value ++ (bit_or (get_or slots (34 * j + 2 + o) 0) (1 * 2 ^ (7 - b) % 2 ^ 8) ∷ drop (34 * j + 2 + o + 1) value)
     ≡ set value (34 * j + 2 + r % 256 / 8) (bit_or (get_or value (34 * j + 2 + r % 256 / 8) 0) (1 * 2 ^ (7 - r % 8) % 2 ^ 8))
 added value slots j o b r same inside window octet bit =
-    rw (same, octet, bit) (written_is value (34 * j + 2 + r % 256 / 8) (bit_or (get_or value (34 * j + 2 + r % 256 / 8) 0) (1 * 2 ^ (7 - r % 8) % 2 ^ 8)) (omega (arith, inside)))
+    rw (same, octet, bit) (written_is value (34 * j + 2 + r % 256 / 8)
+    (bit_or (get_or value (34 * j + 2 + r % 256 / 8) 0) (1 * 2 ^ (7 - r % 8) % 2 ^ 8)) (omega (arith, inside)))
 
 pub holds-added : (value slots : List ℕ) (j o b r : ℕ) → slots ≡ value → j < length value / 34 → get_or value (34 * j) 0 ≡ r / 256 → o ≡ r % 256 / 8 → b ≡ r % 8
-    → (t : ℕ) → holds (take (34 * j + 2 + o) value ++ (bit_or (get_or slots (34 * j + 2 + o) 0) (1 * 2 ^ (7 - b) % 2 ^ 8) ∷ drop (34 * j + 2 + o + 1) value)) t ≡ ((t == r) || holds value t)
+    → (t : ℕ) → holds (take (34 * j + 2 + o) value ++ (bit_or (get_or slots (34 * j + 2 + o) 0) (1 * 2 ^ (7 - b) % 2 ^ 8) ∷ drop
+    (34 * j + 2 + o + 1) value)) t ≡ ((t == r) || holds value t)
 holds-added value slots j o b r same inside window octet bit t =
     ap (λ v. holds v t) (added value slots j o b r same inside window octet bit) ∙ holds-set_bit value j r inside window t
 
-pub has_window-added : (value slots : List ℕ) (j o b r : ℕ) → slots ≡ value → j < length value / 34 → get_or value (34 * j) 0 ≡ r / 256 → o ≡ r % 256 / 8 → b ≡ r % 8
-    → (w : ℕ) → has_window (take (34 * j + 2 + o) value ++ (bit_or (get_or slots (34 * j + 2 + o) 0) (1 * 2 ^ (7 - b) % 2 ^ 8) ∷ drop (34 * j + 2 + o + 1) value)) w ≡ has_window value w
+pub has_window-added : (value slots : List ℕ) (j o b r : ℕ) → slots ≡ value → j < length value / 34
+    → get_or value (34 * j) 0 ≡ r / 256 → o ≡ r % 256 / 8 → b ≡ r % 8
+    → (w : ℕ) → has_window (take (34 * j + 2 + o) value ++ (bit_or (get_or slots (34 * j + 2 + o) 0)
+    (1 * 2 ^ (7 - b) % 2 ^ 8) ∷ drop (34 * j + 2 + o + 1) value)) w ≡ has_window value w
 has_window-added value slots j o b r same inside window octet bit w =
     ap (λ v. has_window v w) (added value slots j o b r same inside window octet bit) ∙ has_window-set_bit value j r inside window w
 
@@ -160,7 +168,8 @@ module _ (value rest : List ℕ) (window : ℕ) (whole : length value % 34 ≡ 0
   has_window-grown w =
       rw one_more
       (any_more (is_of_window grown w) (length value / 34)
-      ∙ rw (window_last w, any_same (is_of_window grown w) (is_of_window value w) (length value / 34) (window_front w)) (or_turn (has_window value w) (w == window)))
+      ∙ rw (window_last w, any_same (is_of_window grown w) (is_of_window value w) (length value / 34) (window_front w))
+      (or_turn (has_window value w) (w == window)))
 
   block_last : (t : ℕ) → block_holds grown t (length value / 34) ≡ false
   block_last t = rw (zero_last (t % 256 / 8), bit_of-zero (t % 8)) (and_false (is_of_window grown (t / 256) (length value / 34)))
@@ -170,7 +179,12 @@ module _ (value rest : List ℕ) (window : ℕ) (whole : length value % 34 ≡ 0
   holds-grown t =
       rw one_more
       (any_more (block_holds grown t) (length value / 34)
-      ∙ rw (block_last t, any_same (block_holds grown t) (block_holds value t) (length value / 34) (λ j below. rw (front (34 * j) (omega arith), front (34 * j + 2 + t % 256 / 8) (omega arith)) refl)) (or_false (holds value t)))
+      ∙ rw (
+        block_last t,
+        any_same (block_holds grown t) (block_holds value t) (length value / 34)
+            (λ j below. rw (front (34 * j) (omega arith), front (34 * j + 2 + t % 256 / 8) (omega arith)) refl),
+      )
+      (or_false (holds value t)))
 
 -- a window that has a block already
 pub window_known : (value : List ℕ) (window w : ℕ) → has_window value window ≡ true → ((w == window) || has_window value w) ≡ has_window value w

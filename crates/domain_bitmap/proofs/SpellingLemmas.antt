@@ -1,12 +1,14 @@
 -- the one form of the octets of a set of types
-use Rattle.std.proofs.Common.{◌≡◌, ◌≢◌, ℕ, zero, suc, ◌+◌, ◌*◌, ◌/◌, ◌%◌, ◌<◌, ◌≤◌, Bool, true, false, List, [], ◌∷◌, ◌++◌, length, get_or, refl, sym, ap, ◌∙◌, subst, inl, inr, arith}
+use Rattle.std.proofs.Common.{◌≡◌, ◌≢◌, ℕ, zero, suc, ◌+◌, ◌*◌, ◌/◌, ◌%◌, ◌<◌, ◌≤◌, Bool, true, false}
+use Rattle.std.proofs.Common.{List, [], ◌∷◌, ◌++◌, length, get_or, refl, sym, ap, ◌∙◌, subst, inl, inr, arith}
 use Rattle.std.specs.Prelude.{◌==◌}
 use Rattle.std.specs.List.{AllByRecursion}
 use Rattle.std.proofs.lemmas.Bool.Decides.{nat_tests, eqb_tells, leb_tells}
 use Rattle.std.proofs.lemmas.List.{get_or_past}
 use Rattle.domain_bitmap.specs.Bits.{bit_of, has_bit}
 use Rattle.domain_bitmap.specs.Bitmap.{window_octets, trimmed, before_trimmed, bitmap_octets}
-use Rattle.domain_bitmap.specs.Blocks.{Block, IsBlock, IsBitmap, IsShortest, WindowsAscendFrom, last_octet, blocks_of, octets_of_blocks, in_first_block, contains_type}
+use Rattle.domain_bitmap.specs.Blocks.{Block, IsBlock, IsBitmap, IsShortest, WindowsAscendFrom}
+use Rattle.domain_bitmap.specs.Blocks.{last_octet, blocks_of, octets_of_blocks, in_first_block, contains_type}
 use Rattle.domain_bitmap.proofs.BitLemmas.{octet_with-same, octet_with-bit_of}
 use Rattle.domain_bitmap.proofs.TrimLemmas.{before_trimmed-cons, before_trimmed-last, trimmed-zeros}
 use Rattle.domain_bitmap.proofs.BlockLemmas.{blocks_of-octets_of_blocks}
@@ -57,7 +59,8 @@ ascend-list low w (x ∷ xs) blocks lower ascend = (lower, ascend)
 ascend-blocks_from : (types : ℕ → Bool) (a n : ℕ) → WindowsAscendFrom a (blocks_from types a n)
 unfolding blocks_from
 ascend-blocks_from types a zero = tt
-ascend-blocks_from types a (suc n) = ascend-list a a (trimmed (window_octets types a)) (blocks_from types (a + 1) n) (omega arith) (ascend-blocks_from types (a + 1) n)
+ascend-blocks_from types a (suc n) = ascend-list a a (trimmed (window_octets types a)) (blocks_from types (a + 1) n) (omega arith)
+    (ascend-blocks_from types (a + 1) n)
 
 abbrev IsCut : Block → Type 0
 IsCut block = last_octet block.octets ≢ 0
@@ -70,7 +73,8 @@ cut-list w (x ∷ xs) blocks cut all = (cut, all)
 cut-blocks_from : (types : ℕ → Bool) (a n : ℕ) → AllByRecursion IsCut (blocks_from types a n)
 unfolding blocks_from
 cut-blocks_from types a zero = tt
-cut-blocks_from types a (suc n) = cut-list a (trimmed (window_octets types a)) (blocks_from types (a + 1) n) (cut-trimmed (window_octets types a)) (cut-blocks_from types (a + 1) n)
+cut-blocks_from types a (suc n) = cut-list a (trimmed (window_octets types a)) (blocks_from types (a + 1) n)
+    (cut-trimmed (window_octets types a)) (cut-blocks_from types (a + 1) n)
 
 blocks_of-bitmap_octets : (types : ℕ → Bool) → blocks_of (bitmap_octets types) ≡ blocks_from types 0 256
 unfolding bitmap_octets
@@ -92,7 +96,9 @@ none_below (block ∷ blocks) low t ascend below =
     rw test (none_below blocks (block.window + 1) t ascend.1 (omega (arith, ascend.0)))
 
 -- the octets of a window whose types are the bits of a block
-window_of_block : (types : ℕ → Bool) (block : Block) → IsBlock block → ((t : ℕ) → t / 256 ≡ block.window → types t ≡ has_bit block.octets t) → (i : ℕ) → get_or (window_octets types block.window) i 0 ≡ get_or block.octets i 0
+window_of_block : (types : ℕ → Bool) (block : Block) → IsBlock block
+    → ((t : ℕ) → t / 256 ≡ block.window → types t ≡ has_bit block.octets t) → (i : ℕ)
+    → get_or (window_octets types block.window) i 0 ≡ get_or block.octets i 0
 unfolding has_bit
 window_of_block types block valid same i =
     elim (leb_tells 32 i) [
@@ -116,7 +122,9 @@ zero_window : (types : ℕ → Bool) (w : ℕ) → ((t : ℕ) → t / 256 ≡ w 
 unfolding block_list
 zero_window types w none = ap (block_list w) (trimmed-zeros (window_octets types w) (zero_octets types w none))
 
-own_window : (types : ℕ → Bool) (block : Block) → IsBlock block → IsCut block → ((t : ℕ) → t / 256 ≡ block.window → types t ≡ has_bit block.octets t) → trimmed (window_octets types block.window) ≡ block.octets
+own_window : (types : ℕ → Bool) (block : Block) → IsBlock block → IsCut block
+    → ((t : ℕ) → t / 256 ≡ block.window → types t ≡ has_bit block.octets t)
+    → trimmed (window_octets types block.window) ≡ block.octets
 own_window types block valid cut same =
     trimmed-same (window_octets types block.window) block.octets (window_of_block types block valid same) ∙ trimmed-whole block.octets cut
 
@@ -132,7 +140,9 @@ in_first block blocks t here = let test : (block.window == t / 256) ≡ true = g
 in_later : (block : Block) (blocks : List Block) (t : ℕ) → block.window < t / 256 → in_first_block (block ∷ blocks) t ≡ in_first_block blocks t
 in_later block blocks t past = let test : (block.window == t / 256) ≡ false = grind (arith, nat_tests) in rw test refl
 
-rebuilt : (types : ℕ → Bool) (blocks : List Block) (a n : ℕ) → a + n ≡ 256 → AllByRecursion IsBlock blocks → WindowsAscendFrom a blocks → AllByRecursion IsCut blocks → ((t : ℕ) → a ≤ t / 256 → types t ≡ in_first_block blocks t) → blocks ≡ blocks_from types a n
+rebuilt : (types : ℕ → Bool) (blocks : List Block) (a n : ℕ) → a + n ≡ 256 → AllByRecursion IsBlock blocks
+    → WindowsAscendFrom a blocks → AllByRecursion IsCut blocks → ((t : ℕ) → a ≤ t / 256 → types t ≡ in_first_block blocks t)
+    → blocks ≡ blocks_from types a n
 unfolding blocks_from
 rebuilt types [] a zero whole valid ascend cut same = refl
 rebuilt types (block ∷ blocks) a zero whole valid ascend cut same =
@@ -146,10 +156,13 @@ rebuilt types (block ∷ blocks) a (suc n) whole valid ascend cut same =
       | inl h ↦
           let here : block.window ≡ a = h.1 in
           let first : IsBlock block = valid.0 in
-          let own : trimmed (window_octets types a) ≡ block.octets = rw (← here) (own_window types block first cut.0 (λ t window. same t (omega arith) ∙ in_first block blocks t window)) in
+          let own : trimmed (window_octets types a) ≡ block.octets =
+          rw (← here) (own_window types block first cut.0 (λ t window. same t (omega arith)
+          ∙ in_first block blocks t window)) in
           let list : block_list a (trimmed (window_octets types a)) ≡ block ∷ [] = rw (own, ← here) (list_of_block block.window block.octets first.not_empty) in
           let ascend_rest : WindowsAscendFrom (a + 1) blocks = rw (← here) ascend.1 in
-          rw list (ap (λ rest. block ∷ rest) (rebuilt types blocks (a + 1) n (omega arith) valid.1 ascend_rest cut.1 (λ t above. same t (omega arith) ∙ in_later block blocks t (omega arith))))
+          rw list (ap (λ rest. block ∷ rest) (rebuilt types blocks (a + 1) n (omega arith) valid.1 ascend_rest cut.1
+          (λ t above. same t (omega arith) ∙ in_later block blocks t (omega arith))))
       | inr h ↦
           let other : block.window ≢ a = h.1 in
           let low : a ≤ block.window = ascend.0 in

@@ -30,7 +30,8 @@ same_by_octets l v w r split fits_v fits_w ends_v ends_w is = (
   λ same. is ∙ (bytes_decides (octets_of l v) (octets_of l w)).1 (ap (octets_of l) same),
 )
 
-pub same_params : (v w : Values uncounted) (r : Bool) → Fits uncounted v → Fits uncounted w → r ≡ bytes_eq (octets_of uncounted v) (octets_of uncounted w) → IsTrue r ↔ (v ≡ w)
+pub same_params : (v w : Values uncounted) (r : Bool) → Fits uncounted v → Fits uncounted w
+    → r ≡ bytes_eq (octets_of uncounted v) (octets_of uncounted w) → IsTrue r ↔ (v ≡ w)
 same_params v w r fits_v fits_w is = same_by_octets uncounted v w r refl fits_v fits_w ((tt, (tt, tt)), refl) ((tt, (tt, tt)), refl) is
 
 pub same_nsec3 : (v w : Values nsec3) (r : Bool) → Fits nsec3 v → Fits nsec3 w → r ≡ bytes_eq (octets_of nsec3 v) (octets_of nsec3 w) → IsTrue r ↔ (v ≡ w)
@@ -61,7 +62,8 @@ pub fields_then_types : (old start between new : Place) (v : Values hash_fields)
 unfolding octets_of
 fields_then_types old start between new v types from read takes all bitmap small = record {
   begins = record {
-    parts = sym (ap (λ p. p.left) from) ∙ read.parts ∙ ap (λ o. octets_of hash_fields v ++ o) takes.parts ∙ sym (append_assoc (octets_of hash_fields v) types new.left);
+    parts = sym (ap (λ p. p.left) from) ∙ read.parts ∙ ap (λ o. octets_of hash_fields v ++ o) takes.parts
+        ∙ sym (append_assoc (octets_of hash_fields v) types new.left);
     fits = (read.fits, small);
     ends = ((((tt, (tt, tt)), tt), tt), all);
   };
@@ -91,7 +93,8 @@ pub numbers_written : (a b c d e f : List PieceText) (said : List ℕ) (x y z : 
     → b ≡ a ++ token (decimal x) ∷ [] → c ≡ b ++ token (decimal y) ∷ [] → d ≡ c ++ comment said ∷ [] → e ≡ d ++ token (decimal z) ∷ []
     → f ≡ e ++ comment (codes "iterations") ∷ [] → f ≡ a ++ number_pieces said (x, (y, z))
 numbers_written a b c d e f said x y z ab bc cd de ef =
-    before a b f (token (decimal x) ∷ []) _ ab (before b c f (token (decimal y) ∷ []) _ bc (before c d f (comment said ∷ []) _ cd (before d e f (token (decimal z) ∷ []) _ de ef)))
+    before a b f (token (decimal x) ∷ []) _ ab (before b c f (token (decimal y) ∷ []) _ bc
+    (before c d f (comment said ∷ []) _ cd (before d e f (token (decimal z) ∷ []) _ de ef)))
 
 pub params_written : (a b c d e : List PieceText) (v : Values nsec3param) (numbers : Values hash_numbers) (salt : List ℕ) → numbers ≡ v.0 → salt ≡ v.1
     → b ≡ a ++ opens ∷ [] → c ≡ b ++ number_pieces (codes "flags") numbers → d ≡ c ++ salt_pieces salt → e ≡ d ++ closes ∷ []

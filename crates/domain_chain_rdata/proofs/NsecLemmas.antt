@@ -16,7 +16,8 @@ use Rattle.domain_chain_rdata.specs.Rdata.{nsec}
 use Rattle.domain_chain_rdata.specs.NsecWire.{BeginsNsec, NsecFault, in_name, in_types, NsecParsesBack}
 
 -- a name was read, and then all that was left as a bitmap
-pub name_then_types : (old start between new : Place) (labels : List (List ℕ)) (types : List ℕ) → start ≡ old → Begins (one spelled_name) start.left labels between.left
+pub name_then_types : (old start between new : Place) (labels : List (List ℕ)) (types : List ℕ) → start ≡ old
+    → Begins (one spelled_name) start.left labels between.left
     → Takes types between new → new.left ≡ [] → IsBitmap between.left → AreOctets types → BeginsNsec old.left (labels, types) new.left
 unfolding octets_of
 name_then_types old start between new labels types from name takes all bitmap small = record {
@@ -29,16 +30,20 @@ name_then_types old start between new labels types from name takes all bitmap sm
 }
 
 -- a name was read, and what was left is no bitmap
-pub name_then_fault : (old start between : Place) (labels : List (List ℕ)) (fault : Fault) → start ≡ old → Begins (one spelled_name) start.left labels between.left
+pub name_then_fault : (old start between : Place) (labels : List (List ℕ)) (fault : Fault) → start ≡ old
+    → Begins (one spelled_name) start.left labels between.left
     → BitmapFault between.left fault → NsecFault old.left fault
-name_then_fault old start between labels fault from name why = in_types labels between.left (subst (λ p. Begins (one spelled_name) p.left labels between.left) from name) why
+name_then_fault old start between labels fault from name why =
+    in_types labels between.left (subst (λ p. Begins (one spelled_name) p.left labels between.left) from name) why
 
 -- where fields and the octets after them parse back, the fields have no fault
-pub fields_excluded : (a : Layout) (v : Values (a ▸ one rest)) (fault : Fault) → ParsesBack (a ▸ one rest) v → FirstFault a (octets_of (a ▸ one rest) v) fault → ⊥
+pub fields_excluded : (a : Layout) (v : Values (a ▸ one rest)) (fault : Fault) → ParsesBack (a ▸ one rest) v
+    → FirstFault a (octets_of (a ▸ one rest) v) fault → ⊥
 fields_excluded a v fault back found = back.no_fault fault (in_first a (one rest) (octets_of (a ▸ one rest) v) fault found)
 
 -- nor have the octets after them, if they are a bitmap
-pub types_excluded : (a : Layout) (v : Values (a ▸ one rest)) (fields : Values a) (types : List ℕ) (fault : Fault) → is_delimited a ≡ true → ParsesBack (a ▸ one rest) v → IsBitmap v.1
+pub types_excluded : (a : Layout) (v : Values (a ▸ one rest)) (fields : Values a) (types : List ℕ) (fault : Fault)
+    → is_delimited a ≡ true → ParsesBack (a ▸ one rest) v → IsBitmap v.1
     → Begins a (octets_of (a ▸ one rest) v) fields types → BitmapFault types fault → ⊥
 unfolding octets_of
 types_excluded a v fields types fault told back bitmap front why =

@@ -28,7 +28,8 @@ rebuilt octets = bitmap_octets (is_among (types_of octets))
 
 -- ---- NSEC
 
-pub nsec_text_back : (labels : List (List ℕ)) (octets : List ℕ) → IsName labels → IsBitmap octets → NsecText (words_of (name_text labels ++ 46 ∷ 32 ∷ [] ++ types_text (types_of octets))) labels (rebuilt octets) []
+pub nsec_text_back : (labels : List (List ℕ)) (octets : List ℕ) → IsName labels → IsBitmap octets
+    → NsecText (words_of (name_text labels ++ 46 ∷ 32 ∷ [] ++ types_text (types_of octets))) labels (rebuilt octets) []
 nsec_text_back labels octets valid bitmap =
     let types = types_of octets in
     let small = are_types octets bitmap in
@@ -45,9 +46,11 @@ nsec_text_back labels octets valid bitmap =
       all = refl;
     }
 
-pub nsec_text_same : (labels : List (List ℕ)) (octets : List ℕ) → IsName labels → IsBitmap octets → IsShortest octets → NsecText (words_of (name_text labels ++ 46 ∷ 32 ∷ [] ++ types_text (types_of octets))) labels octets []
+pub nsec_text_same : (labels : List (List ℕ)) (octets : List ℕ) → IsName labels → IsBitmap octets → IsShortest octets
+    → NsecText (words_of (name_text labels ++ 46 ∷ 32 ∷ [] ++ types_text (types_of octets))) labels octets []
 nsec_text_same labels octets valid bitmap shortest =
-    subst (λ o. NsecText (words_of (name_text labels ++ 46 ∷ 32 ∷ [] ++ types_text (types_of octets))) labels o []) (bitmap_back octets bitmap shortest) (nsec_text_back labels octets valid bitmap)
+    subst (λ o. NsecText (words_of (name_text labels ++ 46 ∷ 32 ∷ [] ++ types_text (types_of octets))) labels o [])
+    (bitmap_back octets bitmap shortest) (nsec_text_back labels octets valid bitmap)
 
 -- ---- the parameters of hashes
 
@@ -56,7 +59,8 @@ unfolding hash_numbers_text
 numbers_words v fits =
     let first = one_word (decimal v.0) (decimal_word v.0 (omega (arith, fits.0))) in
     let second = next_word (decimal v.0) (decimal v.1.0) (decimal_word v.1.0 (omega (arith, fits.1.0))) ∙ ap (λ l. l ++ decimal v.1.0 ∷ []) first in
-    next_word (decimal v.0 ++ 32 ∷ [] ++ decimal v.1.0) (decimal v.1.1) (decimal_word v.1.1 (omega (arith, fits.1.1))) ∙ ap (λ l. l ++ decimal v.1.1 ∷ []) second
+    next_word (decimal v.0 ++ 32 ∷ [] ++ decimal v.1.0) (decimal v.1.1) (decimal_word v.1.1 (omega (arith, fits.1.1)))
+    ∙ ap (λ l. l ++ decimal v.1.1 ∷ []) second
 
 abbrev params_tokens : Values nsec3param → List (List ℕ)
 params_tokens v = decimal v.0.0 ∷ decimal v.0.1.0 ∷ decimal v.0.1.1 ∷ salt_text v.1 ∷ []
@@ -65,7 +69,8 @@ params_words : (v : Values nsec3param) → Fits nsec3param v → words_of (nsec3
 params_words v fits =
     next_word (hash_numbers_text v.0) (salt_text v.1) (salt_word v.1) ∙ ap (λ l. l ++ salt_text v.1 ∷ []) (numbers_words v.0 fits.0)
 
-params_read : (v : Values nsec3param) (after : List (List ℕ)) → Fits nsec3param v → All (λ octet. octet < 256) v.1 → Nsec3paramText (params_tokens v ++ after) v after
+params_read : (v : Values nsec3param) (after : List (List ℕ)) → Fits nsec3param v → All (λ octet. octet < 256) v.1
+    → Nsec3paramText (params_tokens v ++ after) v after
 params_read v after fits small = (
   salt_text v.1 ∷ after,
   fields_back hash_numbers v.0 (salt_text v.1 ∷ after) refl fits.0,
@@ -77,7 +82,8 @@ params_text_back v fits small = subst (λ tokens. Nsec3paramText tokens v []) (s
 
 -- ---- NSEC3
 
-hash_read : (v : Values hash_fields) (after : List (List ℕ)) → Fits hash_fields v → All (λ octet. octet < 256) v.0.1 → All (λ octet. octet < 256) v.1 → HashText (params_tokens v.0 ++ base32_upper v.1 ∷ after) v after
+hash_read : (v : Values hash_fields) (after : List (List ℕ)) → Fits hash_fields v → All (λ octet. octet < 256) v.0.1
+    → All (λ octet. octet < 256) v.1 → HashText (params_tokens v.0 ++ base32_upper v.1 ∷ after) v after
 hash_read v after fits salt_small hash_small = (
   base32_upper v.1 ∷ after,
   params_read v.0 (base32_upper v.1 ∷ after) fits.0 salt_small,
@@ -87,18 +93,22 @@ hash_read v after fits salt_small hash_small = (
 types_read : (octets : List ℕ) → IsBitmap octets → BitmapText (map type_text (types_of octets)) (rebuilt octets) []
 types_read octets bitmap = record { types = types_of octets; spelled = texts_spell (types_of octets) (are_types octets bitmap); built = refl; all = refl }
 
-nsec3_words : (v : Values nsec3) → Fits nsec3 v → v.0.1 ≢ [] → IsBitmap v.1 → words_of (nsec3_text v) ≡ params_tokens v.0.0 ++ base32_upper v.0.1 ∷ map type_text (types_of v.1)
+nsec3_words : (v : Values nsec3) → Fits nsec3 v → v.0.1 ≢ [] → IsBitmap v.1
+    → words_of (nsec3_text v) ≡ params_tokens v.0.0 ++ base32_upper v.0.1 ∷ map type_text (types_of v.1)
 nsec3_words v fits some bitmap =
     let hash = base32_upper v.0.1 in
     spaced_words (nsec3param_text v.0.0 ++ 32 ∷ [] ++ hash) (types_of v.1) (are_types v.1 bitmap)
-    ∙ ap (λ l. l ++ map type_text (types_of v.1)) (next_word (nsec3param_text v.0.0) hash (upper_base32_word v.0.1 some) ∙ ap (λ l. l ++ hash ∷ []) (params_words v.0.0 fits.0.0))
+    ∙ ap (λ l. l ++ map type_text (types_of v.1)) (next_word (nsec3param_text v.0.0) hash (upper_base32_word v.0.1 some)
+    ∙ ap (λ l. l ++ hash ∷ []) (params_words v.0.0 fits.0.0))
 
-pub nsec3_text_back : (v : Values nsec3) → Fits nsec3 v → v.0.1 ≢ [] → IsBitmap v.1 → All (λ octet. octet < 256) v.0.0.1 → All (λ octet. octet < 256) v.0.1 → Nsec3Text (words_of (nsec3_text v)) (v.0, rebuilt v.1) []
+pub nsec3_text_back : (v : Values nsec3) → Fits nsec3 v → v.0.1 ≢ [] → IsBitmap v.1 → All (λ octet. octet < 256) v.0.0.1
+    → All (λ octet. octet < 256) v.0.1 → Nsec3Text (words_of (nsec3_text v)) (v.0, rebuilt v.1) []
 nsec3_text_back v fits some bitmap salt_small hash_small =
     let types = map type_text (types_of v.1) in
     subst (λ tokens. Nsec3Text tokens (v.0, rebuilt v.1) []) (sym (nsec3_words v fits some bitmap))
     (types, hash_read v.0 types fits.0 salt_small hash_small, types_read v.1 bitmap)
 
-pub nsec3_text_same : (v : Values nsec3) → Fits nsec3 v → v.0.1 ≢ [] → IsBitmap v.1 → IsShortest v.1 → All (λ octet. octet < 256) v.0.0.1 → All (λ octet. octet < 256) v.0.1 → Nsec3Text (words_of (nsec3_text v)) v []
+pub nsec3_text_same : (v : Values nsec3) → Fits nsec3 v → v.0.1 ≢ [] → IsBitmap v.1 → IsShortest v.1
+    → All (λ octet. octet < 256) v.0.0.1 → All (λ octet. octet < 256) v.0.1 → Nsec3Text (words_of (nsec3_text v)) v []
 nsec3_text_same v fits some bitmap shortest salt_small hash_small =
     subst (λ o. Nsec3Text (words_of (nsec3_text v)) (v.0, o) []) (bitmap_back v.1 bitmap shortest) (nsec3_text_back v fits some bitmap salt_small hash_small)

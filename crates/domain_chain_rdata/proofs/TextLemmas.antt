@@ -11,7 +11,8 @@ use Rattle.domain_bitmap.proofs.RefusalLemmas.{types_refused, types_one_fault}
 use Rattle.domain_chain_rdata.specs.NsecText.{NsecText, RefusesNsec, in_name, in_types}
 
 module _ (names bitmaps : Option ℕ) (old : List (List ℕ)) where
-  pub nsec_refused : (new after : List (List ℕ)) (fault : ScanFault) (labels : List (List ℕ)) (octets : List ℕ) → RefusesNsec names bitmaps old new fault → NsecText old labels octets after
+  pub nsec_refused : (new after : List (List ℕ)) (fault : ScanFault) (labels : List (List ℕ)) (octets : List ℕ)
+      → RefusesNsec names bitmaps old new fault → NsecText old labels octets after
       → IsOfTokens names fault → IsOfTokens bitmaps fault → ⊥
   nsec_refused new after fault labels octets (in_name why) is own also =
       token_excludes NameText (NameTextFault names) names (name_excludes names) old new is.between labels fault why is.next_name own

@@ -4,11 +4,15 @@ use Rattle.std.specs.Prelude.{◌&&◌}
 use Rattle.std.specs.Cmp.{first_so, second_so}
 use Rattle.domain_base.specs.Fault.{Fault}
 use Rattle.domain_base.proofs.FaultLemmas.{no_name_fault}
-use Rattle.domain_fields.specs.Field.{Field, octet, short, long, name, spelled_name, counted, exactly, at_most, rest, Value, field_octets, FieldFits, FieldEnds, FieldFault, cut_octet, cut_short, cut_long, no_name, no_spelled_name, no_count, cut_counted, cut_exactly, too_long}
-use Rattle.domain_fields.specs.Layout.{Layout, one, ◌▸◌, Values, octets_of, Fits, Ends, Begins, ParsesBack, is_delimited, splits, FirstFault, in_field, in_first, in_later}
+use Rattle.domain_fields.specs.Field.{Field, octet, short, long, name, spelled_name, counted, exactly}
+use Rattle.domain_fields.specs.Field.{at_most, rest, Value, field_octets, FieldFits, FieldEnds, FieldFault, cut_octet}
+use Rattle.domain_fields.specs.Field.{cut_short, cut_long, no_name, no_spelled_name, no_count, cut_counted, cut_exactly, too_long}
+use Rattle.domain_fields.specs.Layout.{Layout, one, ◌▸◌, Values, octets_of, Fits, Ends, Begins}
+use Rattle.domain_fields.specs.Layout.{ParsesBack, is_delimited, splits, FirstFault, in_field, in_first, in_later}
 use Rattle.domain_fields.proofs.OrderLemmas.{Same, same_field, same_data}
 
-last_field : (f : Field) (v w : Value f) (r s : List ℕ) → FieldFits f v → FieldFits f w → FieldEnds f r → FieldEnds f s → field_octets f v ++ r ≡ field_octets f w ++ s → Same v w r s
+last_field : (f : Field) (v w : Value f) (r s : List ℕ) → FieldFits f v → FieldFits f w → FieldEnds f r → FieldEnds f s
+    → field_octets f v ++ r ≡ field_octets f w ++ s → Same v w r s
 last_field octet v w r s fv fw er es e = same_field octet v w r s refl fv fw e
 last_field short v w r s fv fw er es e = same_field short v w r s refl fv fw e
 last_field long v w r s fv fw er es e = same_field long v w r s refl fv fw e
@@ -20,7 +24,8 @@ last_field (at_most limit) v w r s fv fw er es e = same_field (at_most limit) v 
 last_field rest v w r s fv fw er es e =
     record { values = sym (append-nil v) ∙ ap (λ t. v ++ t) (sym er) ∙ e ∙ ap (λ t. w ++ t) es ∙ append-nil w; after = er ∙ sym es }
 
-same_whole : (l : Layout) (v w : Values l) (r s : List ℕ) → splits l ≡ true → Fits l v → Fits l w → Ends l v r → Ends l w s → octets_of l v ++ r ≡ octets_of l w ++ s → Same v w r s
+same_whole : (l : Layout) (v w : Values l) (r s : List ℕ) → splits l ≡ true → Fits l v → Fits l w → Ends l v r → Ends l w s
+    → octets_of l v ++ r ≡ octets_of l w ++ s → Same v w r s
 unfolding octets_of
 same_whole (one f) v w r s d fv fw er es e = last_field f v w r s fv fw er es e
 same_whole (a ▸ b) v w r s d fv fw er es e =
@@ -30,12 +35,14 @@ same_whole (a ▸ b) v w r s d fv fw er es e =
     record { values = λ i. (first.values i, second.values i); after = second.after }
 
 -- octets begin with one value of a layout at most
-pub one_reading : (l : Layout) (octets : List ℕ) (v w : Values l) (r s : List ℕ) → splits l ≡ true → Begins l octets v r → Begins l octets w s → (v ≡ w) × (r ≡ s)
+pub one_reading : (l : Layout) (octets : List ℕ) (v w : Values l) (r s : List ℕ) → splits l ≡ true → Begins l octets v r
+    → Begins l octets w s → (v ≡ w) × (r ≡ s)
 one_reading l octets v w r s d x y =
     let same = same_whole l v w r s d x.fits y.fits x.ends y.ends (sym x.parts ∙ y.parts) in
     (same.values, same.after)
 
-field_excludes : (f : Field) (octets : List ℕ) (fault : Fault) → FieldFault f octets fault → (v : Value f) (r : List ℕ) → FieldFits f v → FieldEnds f r → octets ≡ field_octets f v ++ r → ⊥
+field_excludes : (f : Field) (octets : List ℕ) (fault : Fault) → FieldFault f octets fault → (v : Value f) (r : List ℕ)
+    → FieldFits f v → FieldEnds f r → octets ≡ field_octets f v ++ r → ⊥
 field_excludes f octets fault (cut_octet o d cut) v r fits ends e = omega (arith, cut.short, ap length e)
 field_excludes f octets fault (cut_short o d cut) v r fits ends e = omega (arith, cut.short, ap length e)
 field_excludes f octets fault (cut_long o d cut) v r fits ends e = omega (arith, cut.short, ap length e)
@@ -56,7 +63,8 @@ delimited_splits (a ▸ b) d =
     λ i. first i && second i
 
 -- octets with a fault begin with no value
-pub fault_excludes : (l : Layout) (octets : List ℕ) (fault : Fault) → FirstFault l octets fault → splits l ≡ true → (v : Values l) (r : List ℕ) → Begins l octets v r → ⊥
+pub fault_excludes : (l : Layout) (octets : List ℕ) (fault : Fault) → FirstFault l octets fault → splits l ≡ true
+    → (v : Values l) (r : List ℕ) → Begins l octets v r → ⊥
 unfolding octets_of
 fault_excludes l octets fault (in_field f o d h) sp v r begins = field_excludes f o d h v r begins.fits begins.ends begins.parts
 fault_excludes l octets fault (in_first a b o d h) sp v r begins =

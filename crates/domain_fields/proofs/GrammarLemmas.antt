@@ -44,14 +44,17 @@ one_token spells once = record {
 }
 
 module _ {V : Type 0} (limit : Option ℕ) (spells : List ℕ → V → Type 0) (Why : ScanFault → List ℕ → Type 0) where
-  pub token_refused : ((fault : ScanFault) (text : List ℕ) (v : V) → Why fault text → spells text v → IsOfTokens limit fault → ⊥) → Excludes limit (OneToken spells) (RefusesToken Why)
+  pub token_refused : ((fault : ScanFault) (text : List ℕ) (v : V) → Why fault text → spells text v → IsOfTokens limit fault → ⊥)
+      → Excludes limit (OneToken spells) (RefusesToken Why)
   token_refused none = λ old new after v fault why takes own. token_excludes spells Why limit none old new after v fault why takes own
 
-pub token_once_refused : (limit : Option ℕ) (Why : ScanFault → List ℕ → Type 0) → ((x y : ScanFault) (text : List ℕ) → Why x text → Why y text → x ≡ y) → OneFault limit (RefusesToken Why)
+pub token_once_refused : (limit : Option ℕ) (Why : ScanFault → List ℕ → Type 0)
+    → ((x y : ScanFault) (text : List ℕ) → Why x text → Why y text → x ≡ y) → OneFault limit (RefusesToken Why)
 token_once_refused limit Why one = λ old m n x y p q own also. token_one_fault Why one old m n x y p q
 
 -- one grammar after another
-pub both_once : {V W : Type 0} (A : List (List ℕ) → V → List (List ℕ) → Type 0) (B : List (List ℕ) → W → List (List ℕ) → Type 0) → ReadsOnce A → ReadsOnce B → ReadsOnce (Both A B)
+pub both_once : {V W : Type 0} (A : List (List ℕ) → V → List (List ℕ) → Type 0) (B : List (List ℕ) → W → List (List ℕ) → Type 0)
+    → ReadsOnce A → ReadsOnce B → ReadsOnce (Both A B)
 both_once A B first second = record {
   value = λ old m n v w x y.
       let between = first.left old x.0 y.0 v.0 w.0 x.1 y.1 in
@@ -90,7 +93,8 @@ module _ {V : Type 0} (G : List (List ℕ) → V → List (List ℕ) → Type 0)
       let entry = once.left old first.entry second.entry v w first.fields second.fields in
       decodes_once codec (concat second.entry) x y (subst (λ t. Decodes codec (concat t) x) entry first.decoded) second.decoded
 
-module _ {V : Type 0} (limit : Option ℕ) (G : List (List ℕ) → V → List (List ℕ) → Type 0) (R : List (List ℕ) → List (List ℕ) → ScanFault → Type 0) (once : ReadsOnce G) (excludes : Excludes limit G R)
+module _ {V : Type 0} (limit : Option ℕ) (G : List (List ℕ) → V → List (List ℕ) → Type 0) (R : List (List ℕ) → List (List ℕ)
+    → ScanFault → Type 0) (once : ReadsOnce G) (excludes : Excludes limit G R)
     (TooMany : V → List ℕ → Type 0) (codec : Codec) where
   module _ (old new : List (List ℕ)) (fault : ScanFault) (own : IsOfTokens limit fault) (v : V) (octets : List ℕ) (is : Spells G codec old v octets) where
     pub entry_apart : RefusesEntry G limit codec old new fault → ⊥
@@ -107,7 +111,8 @@ module _ {V : Type 0} (limit : Option ℕ) (G : List (List ℕ) → V → List (
         fits (subst (λ u. TooMany u octets) values (subst (λ o. TooMany why.value o) texts why.long))
 
   -- data are refused, but for want of room or memory, for one reason
-  pub entry_refused_once : OneFault limit R → (old m n : List (List ℕ)) (x y : ScanFault) → RefusesData G R limit TooMany codec old m x → RefusesData G R limit TooMany codec old n y
+  pub entry_refused_once : OneFault limit R → (old m n : List (List ℕ)) (x y : ScanFault)
+      → RefusesData G R limit TooMany codec old m x → RefusesData G R limit TooMany codec old n y
       → IsOfTokens limit x → IsOfTokens limit y → x ≡ y
   entry_refused_once one old m n x y (in_field p) (in_field q) own also = (one old m n x y p q own also).0
   entry_refused_once one old m n x y (in_field p) (in_entry q) own also = absurd (excludes old m q.entry q.value x p q.fields own)

@@ -21,7 +21,8 @@ pub lowered_length : (octets : List ℕ) → IsWire octets → length (wire_of (
 lowered_length octets wire = rw (lowered_wire octets wire, length-map, wire_is octets wire) refl
 
 -- the lowered octets of a name, compared with as many others
-pub lowered_order_from : (wire o : List ℕ) → IsWire wire → slice_cmp nat_cmp (map to_ascii_lowercase wire) (take (length wire) o) ≡ slice_cmp nat_cmp (wire_of (lowered (labels_of wire))) (take (length (wire_of (lowered (labels_of wire)))) o)
+pub lowered_order_from : (wire o : List ℕ) → IsWire wire → slice_cmp nat_cmp (map to_ascii_lowercase wire) (take (length wire) o)
+    ≡ slice_cmp nat_cmp (wire_of (lowered (labels_of wire))) (take (length (wire_of (lowered (labels_of wire)))) o)
 lowered_order_from wire o h = rw (lowered_wire wire h, length-map) refl
 
 pub lowered_rest_from : (wire o : List ℕ) → IsWire wire → drop (length wire) o ≡ drop (length (wire_of (lowered (labels_of wire)))) o

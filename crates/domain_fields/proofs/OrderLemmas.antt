@@ -1,6 +1,7 @@
 -- the lexicographic order of octets, field by field
 use Rattle.std.specs.declared.cmp.Ordering.{Ordering}
-use Rattle.std.proofs.Common.{◌≡◌, ℕ, zero, suc, ◌+◌, true, List, [], ◌∷◌, ◌++◌, length, take, drop, refl, sym, ap, subst, ◌∙◌, arith, length-append, append_assoc, append-nil}
+use Rattle.std.proofs.Common.{◌≡◌, ℕ, zero, suc, ◌+◌, true, List, [], ◌∷◌, ◌++◌, length}
+use Rattle.std.proofs.Common.{take, drop, refl, sym, ap, subst, ◌∙◌, arith, length-append, append_assoc, append-nil}
 use Rattle.std.specs.declared.cmp.Ordering.TheVariants.{Less, Equal, Greater}
 use Rattle.std.specs.Ordering.{ordering_then, nat_cmp}
 use Rattle.std.specs.Cmp.{first_so, second_so}
@@ -16,8 +17,10 @@ use Rattle.std.proofs.lemmas.List.{take_at, drop_at}
 use Rattle.std.proofs.lemmas.Nat.{from_be_bytes-to_be_bytes_2, from_be_bytes-to_be_bytes_4}
 use Rattle.domain_base.specs.Name.{wire_of, IsLabel, IsName}
 use Rattle.domain_base.proofs.CaseLemmas.{IsName-lowered}
-use Rattle.domain_fields.specs.Field.{Field, octet, short, long, name, spelled_name, counted, exactly, at_most, rest, Value, field_octets, FieldFits, lower_field}
-use Rattle.domain_fields.specs.Layout.{Layout, one, ◌▸◌, Values, octets_of, Fits, lower, canonical_of, canonical_order, is_delimited, is_delimited_field, Begins}
+use Rattle.domain_fields.specs.Field.{Field, octet, short, long, name, spelled_name, counted}
+use Rattle.domain_fields.specs.Field.{exactly, at_most, rest, Value, field_octets, FieldFits, lower_field}
+use Rattle.domain_fields.specs.Layout.{Layout, one, ◌▸◌, Values, octets_of, Fits}
+use Rattle.domain_fields.specs.Layout.{lower, canonical_of, canonical_order, is_delimited, is_delimited_field, Begins}
 
 -- two values, and what stands after them, are the same
 pub record Same {V : Type 0} (v w : V) (r s : List ℕ) : Type 0 where
@@ -49,7 +52,8 @@ same_name (k ∷ ks) (l ∷ ls) r s all_x all_y e =
     record { values = λ i. front.values i ∷ more.values i; after = more.after }
 
 -- one can tell where a field ends
-pub same_field : (f : Field) (v w : Value f) (r s : List ℕ) → is_delimited_field f ≡ true → FieldFits f v → FieldFits f w → field_octets f v ++ r ≡ field_octets f w ++ s → Same v w r s
+pub same_field : (f : Field) (v w : Value f) (r s : List ℕ) → is_delimited_field f ≡ true → FieldFits f v → FieldFits f w
+    → field_octets f v ++ r ≡ field_octets f w ++ s → Same v w r s
 same_field octet v w r s d fv fw e = record { values = cc; after = cc }
 same_field short v w r s d fv fw e =
     let front = same_front (to_be_bytes w16 v) (to_be_bytes w16 w) r s refl e in
@@ -64,7 +68,8 @@ same_field (exactly count) v w r s d fv fw e = let as_long : length v ≡ length
 same_field (at_most limit) v w r s d fv fw e = record { values = refl; after = e }
 same_field rest v w r s d fv fw e = absurd (cc)
 
-pub same_data : (l : Layout) (v w : Values l) (r s : List ℕ) → is_delimited l ≡ true → Fits l v → Fits l w → octets_of l v ++ r ≡ octets_of l w ++ s → Same v w r s
+pub same_data : (l : Layout) (v w : Values l) (r s : List ℕ) → is_delimited l ≡ true → Fits l v → Fits l w
+    → octets_of l v ++ r ≡ octets_of l w ++ s → Same v w r s
 unfolding octets_of
 same_data (one f) v w r s d fv fw e = same_field f v w r s d fv fw e
 same_data (a ▸ b) v w r s d fv fw e =
@@ -90,7 +95,8 @@ cmp_apart [] [] x y apart = refl
 cmp_apart [] (b ∷ bs) x y apart = let e : b ∷ bs ≡ [] = apart.right (b ∷ bs) refl in absurd (cc)
 cmp_apart (a ∷ as') [] x y apart = let e : a ∷ as' ≡ [] = apart.left (a ∷ as') refl in absurd (cc)
 cmp_apart (a ∷ as') (b ∷ bs) x y apart =
-    elim (nat_cmp a b) as (λ o. nat_cmp a b ≡ o → ordering_then o (slice_cmp nat_cmp (as' ++ x) (bs ++ y)) ≡ ordering_then (ordering_then o (slice_cmp nat_cmp as' bs)) (slice_cmp nat_cmp x y)) [
+    elim (nat_cmp a b) as (λ o. nat_cmp a b ≡ o → ordering_then o (slice_cmp nat_cmp (as' ++ x) (bs ++ y))
+    ≡ ordering_then (ordering_then o (slice_cmp nat_cmp as' bs)) (slice_cmp nat_cmp x y)) [
       | Less ↦ λ is. refl
       | Equal ↦ λ is. let same : a ≡ b = nat_cmp-IsAntisymmetric a b is in
           cmp_apart as' bs x y (tails_apart b as' bs (subst (λ (n : ℕ). Apart (n ∷ as') (b ∷ bs)) same apart))
@@ -119,20 +125,24 @@ Fits-lower (one f) v h = lowered_field f v h
 Fits-lower (a ▸ b) v h = (Fits-lower a v.0 h.0, Fits-lower b v.1 h.1)
 
 -- fields of a layout that can be told apart decide first
-pub order_both : (a b : Layout) (v w : Values a) (x y : Values b) → is_delimited a ≡ true → Fits a v → Fits a w → canonical_order (a ▸ b) (v, x) (w, y) ≡ ordering_then (canonical_order a v w) (canonical_order b x y)
+pub order_both : (a b : Layout) (v w : Values a) (x y : Values b) → is_delimited a ≡ true → Fits a v → Fits a w
+    → canonical_order (a ▸ b) (v, x) (w, y) ≡ ordering_then (canonical_order a v w) (canonical_order b x y)
 unfolding octets_of
 order_both a b v w x y d fv fw =
-    cmp_apart (canonical_of a v) (canonical_of a w) (canonical_of b x) (canonical_of b y) (data_apart a (lower a v) (lower a w) d (Fits-lower a v fv) (Fits-lower a w fw))
+    cmp_apart (canonical_of a v) (canonical_of a w) (canonical_of b x) (canonical_of b y)
+    (data_apart a (lower a v) (lower a w) d (Fits-lower a v fv) (Fits-lower a w fw))
 
 -- octets begin with one value at most
-pub one_reading : (l : Layout) (octets : List ℕ) (v w : Values l) (r s : List ℕ) → is_delimited l ≡ true → Begins l octets v r → Begins l octets w s → Same v w r s
+pub one_reading : (l : Layout) (octets : List ℕ) (v w : Values l) (r s : List ℕ) → is_delimited l ≡ true → Begins l octets v r
+    → Begins l octets w s → Same v w r s
 one_reading l octets v w r s d x y = same_data l v w r s d x.fits y.fits (sym x.parts ∙ y.parts)
 
 pub length_both : (a b : Layout) (v : Values a) (w : Values b) → length (octets_of (a ▸ b) (v, w)) ≡ length (octets_of a v) + length (octets_of b w)
 unfolding octets_of
 length_both a b v w = length-append (octets_of a v) (octets_of b w)
 
-pub feed_both : (a b : Layout) (v : Values a) (w : Values b) → flat_map fed.u8 (octets_of (a ▸ b) (v, w)) ≡ flat_map fed.u8 (octets_of a v) ++ flat_map fed.u8 (octets_of b w)
+pub feed_both : (a b : Layout) (v : Values a) (w : Values b)
+    → flat_map fed.u8 (octets_of (a ▸ b) (v, w)) ≡ flat_map fed.u8 (octets_of a v) ++ flat_map fed.u8 (octets_of b w)
 unfolding octets_of
 feed_both a b v w = flat_map-append fed.u8 (octets_of a v) (octets_of b w)
 
@@ -154,10 +164,13 @@ then_assoc Equal p q = refl
 then_assoc Greater p q = refl
 
 -- a list is compared with as many octets part by part
-pub front_cmp : (a b o : List ℕ) → slice_cmp nat_cmp (a ++ b) (take (length (a ++ b)) o) ≡ ordering_then (slice_cmp nat_cmp a (take (length a) o)) (slice_cmp nat_cmp b (take (length b) (drop (length a) o)))
+pub front_cmp : (a b o : List ℕ) → slice_cmp nat_cmp (a ++ b) (take (length (a ++ b)) o)
+    ≡ ordering_then (slice_cmp nat_cmp a (take (length a) o)) (slice_cmp nat_cmp b (take (length b) (drop (length a) o)))
 front_cmp [] b o = refl
 front_cmp (x ∷ a) b [] = refl
-front_cmp (x ∷ a) b (y ∷ o) = ap (ordering_then (nat_cmp x y)) (front_cmp a b o) ∙ then_assoc (nat_cmp x y) (slice_cmp nat_cmp a (take (length a) o)) (slice_cmp nat_cmp b (take (length b) (drop (length a) o)))
+front_cmp (x ∷ a) b (y ∷ o) = ap (ordering_then (nat_cmp x y)) (front_cmp a b o)
+    ∙ then_assoc (nat_cmp x y) (slice_cmp nat_cmp a (take (length a) o))
+    (slice_cmp nat_cmp b (take (length b) (drop (length a) o)))
 
 drop_nil : (n : ℕ) → drop {A = ℕ} n [] ≡ []
 drop_nil zero = refl
@@ -168,12 +181,15 @@ front_drop [] b o = refl
 front_drop (x ∷ a) b [] = sym (drop_nil (length b))
 front_drop (x ∷ a) b (y ∷ o) = front_drop a b o
 
-pub order_from_both : (a b : Layout) (v : Values a) (w : Values b) (o : List ℕ) → slice_cmp nat_cmp (canonical_of (a ▸ b) (v, w)) (take (length (canonical_of (a ▸ b) (v, w))) o)
-    ≡ ordering_then (slice_cmp nat_cmp (canonical_of a v) (take (length (canonical_of a v)) o)) (slice_cmp nat_cmp (canonical_of b w) (take (length (canonical_of b w)) (drop (length (canonical_of a v)) o)))
+pub order_from_both : (a b : Layout) (v : Values a) (w : Values b) (o : List ℕ)
+    → slice_cmp nat_cmp (canonical_of (a ▸ b) (v, w)) (take (length (canonical_of (a ▸ b) (v, w))) o)
+    ≡ ordering_then (slice_cmp nat_cmp (canonical_of a v) (take (length (canonical_of a v)) o))
+    (slice_cmp nat_cmp (canonical_of b w) (take (length (canonical_of b w)) (drop (length (canonical_of a v)) o)))
 unfolding octets_of
 order_from_both a b v w o = front_cmp (canonical_of a v) (canonical_of b w) o
 
-pub rest_of_both : (a b : Layout) (v : Values a) (w : Values b) (o : List ℕ) → drop (length (canonical_of (a ▸ b) (v, w))) o ≡ drop (length (canonical_of b w)) (drop (length (canonical_of a v)) o)
+pub rest_of_both : (a b : Layout) (v : Values a) (w : Values b) (o : List ℕ)
+    → drop (length (canonical_of (a ▸ b) (v, w))) o ≡ drop (length (canonical_of b w)) (drop (length (canonical_of a v)) o)
 unfolding octets_of
 rest_of_both a b v w o = front_drop (canonical_of a v) (canonical_of b w) o
 
@@ -181,6 +197,7 @@ rest_of_both a b v w o = front_drop (canonical_of a v) (canonical_of b w) o
 pub whole_cmp : (a o : List ℕ) → slice_cmp nat_cmp a o ≡ ordering_then (slice_cmp nat_cmp a (take (length a) o)) (slice_cmp nat_cmp [] (drop (length a) o))
 whole_cmp [] o = refl
 whole_cmp (x ∷ a) [] = refl
-whole_cmp (x ∷ a) (y ∷ o) = ap (ordering_then (nat_cmp x y)) (whole_cmp a o) ∙ then_assoc (nat_cmp x y) (slice_cmp nat_cmp a (take (length a) o)) (slice_cmp nat_cmp [] (drop (length a) o))
+whole_cmp (x ∷ a) (y ∷ o) = ap (ordering_then (nat_cmp x y)) (whole_cmp a o)
+    ∙ then_assoc (nat_cmp x y) (slice_cmp nat_cmp a (take (length a) o)) (slice_cmp nat_cmp [] (drop (length a) o))
 
 pub ruleset both_from = (order_from_both, rest_of_both)

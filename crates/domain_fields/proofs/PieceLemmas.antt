@@ -8,5 +8,6 @@ on_ok_gives (Ok x) gives holds = gives holds
 on_ok_gives (Err e) gives holds = tt
 
 -- one piece, and those after it
-pub piece_before : (old mid new : List PieceText) (piece : PieceText) (pieces : List PieceText) → mid ≡ old ++ piece ∷ [] → new ≡ mid ++ pieces → new ≡ old ++ (piece ∷ pieces)
+pub piece_before : (old mid new : List PieceText) (piece : PieceText) (pieces : List PieceText) → mid ≡ old ++ piece ∷ []
+    → new ≡ mid ++ pieces → new ≡ old ++ (piece ∷ pieces)
 piece_before old mid new piece pieces first later = later ∙ ap (λ l. l ++ pieces) first ∙ append_assoc old (piece ∷ []) pieces

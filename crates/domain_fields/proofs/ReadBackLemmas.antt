@@ -34,8 +34,12 @@ both false b is = absurd (let e = is in cc)
 pub fields_back : (l : Layout) (v : Values l) (after : List (List ℕ)) → is_printed l ≡ true → Fits l v → Scans l (printed l v ++ after) v after
 fields_back (one f) v after is fits = record { token = printed_field f v; first = refl; holds = field_back f v is fits }
 fields_back (a ▸ b) v after is fits =
-    let parts = both (is_printed a) (is_printed b) is in
-    (printed b v.1 ++ after, subst (λ tokens. Scans a tokens v.0 (printed b v.1 ++ after)) (sym (append_assoc (printed a v.0) (printed b v.1) after)) (fields_back a v.0 (printed b v.1 ++ after) parts.0 fits.0), fields_back b v.1 after parts.1 fits.1)
+    let parts = both (is_printed a) (is_printed b) is in (
+      printed b v.1 ++ after,
+      subst (λ tokens. Scans a tokens v.0 (printed b v.1 ++ after))
+          (sym (append_assoc (printed a v.0) (printed b v.1) after)) (fields_back a v.0 (printed b v.1 ++ after) parts.0 fits.0),
+      fields_back b v.1 after parts.1 fits.1,
+    )
 
 -- fields that are all that the tokens are
 pub fields_alone : (l : Layout) (v : Values l) (tokens : List (List ℕ)) → tokens ≡ printed l v → is_printed l ≡ true → Fits l v → Scans l tokens v []
@@ -64,7 +68,8 @@ fields_words (a ▸ b) v is fits =
     words-append (printed a v.0) (printed b v.1) (fields_words a v.0 parts.0 fits.0) (fields_words b v.1 parts.1 fits.1)
 
 -- fields, and then octets in one word or none
-pub entry_back : {V : Type 0} (G : Grammar V) (codec : Codec) (tokens : List (List ℕ)) (v : V) (text octets : List ℕ) → G tokens v (word_if_any text) → Decodes codec text octets → Spells G codec tokens v octets
+pub entry_back : {V : Type 0} (G : Grammar V) (codec : Codec) (tokens : List (List ℕ)) (v : V) (text octets : List ℕ)
+    → G tokens v (word_if_any text) → Decodes codec text octets → Spells G codec tokens v octets
 entry_back G codec tokens v text octets fields decoded = record {
   entry = word_if_any text;
   fields = fields;

@@ -2,7 +2,8 @@
 use Rattle.std.proofs.Common.{◌≡◌, ℕ, ◌<◌, List, [], ◌∷◌, ◌++◌, length, sym, ap, subst, ◌∙◌, arith, length-append, append_assoc}
 use Rattle.domain_octets.specs.Place.{Place, Takes}
 use Rattle.domain_base.specs.Fault.{Fault, NameFault, ends_early}
-use Rattle.domain_fields.specs.Field.{octet, short, long, name, spelled_name, counted, exactly, at_most, IsCut, IsLong, cut_octet, cut_short, cut_long, no_name, no_spelled_name, no_count, cut_counted, cut_exactly, too_long}
+use Rattle.domain_fields.specs.Field.{octet, short, long, name, spelled_name, counted, exactly, at_most, IsCut, IsLong}
+use Rattle.domain_fields.specs.Field.{cut_octet, cut_short, cut_long, no_name, no_spelled_name, no_count, cut_counted, cut_exactly, too_long}
 use Rattle.domain_fields.specs.Layout.{Layout, one, ◌▸◌, Values, octets_of, Ends, Begins, FirstFault, in_field, in_first, in_later, GoesOn}
 
 pub goes_on : (octets : List ℕ) (old new : Place) → Takes octets old new → GoesOn old new
@@ -34,11 +35,24 @@ count_fault [] h = in_field counted [] ends_early no_count
 count_fault (n ∷ octets) h = absurd (omega arith)
 
 pub counted_fault : (octets after : List ℕ) (count : ℕ) → octets ≡ (count ∷ []) ++ after → length after < count → FirstFault (one counted) octets ends_early
-counted_fault octets after count is h = subst (λ o. FirstFault (one counted) o ends_early) (sym is) (in_field counted (count ∷ after) ends_early (cut_counted count after h))
+counted_fault octets after count is h = subst (λ o. FirstFault (one counted) o ends_early) (sym is)
+    (in_field counted (count ∷ after) ends_early (cut_counted count after h))
 
-pub ruleset reading = (goes_on, octet_fault, short_fault, long_fault, name_fault, spelled_name_fault, exactly_fault, long_data_fault, count_fault, counted_fault)
+pub ruleset reading = (
+  goes_on,
+  octet_fault,
+  short_fault,
+  long_fault,
+  name_fault,
+  spelled_name_fault,
+  exactly_fault,
+  long_data_fault,
+  count_fault,
+  counted_fault,
+)
 
-pub begins_both : (a b : Layout) (octets : List ℕ) (v : Values a) (w : Values b) (between after : List ℕ) → Begins a octets v between → Begins b between w after → Begins (a ▸ b) octets (v, w) after
+pub begins_both : (a b : Layout) (octets : List ℕ) (v : Values a) (w : Values b) (between after : List ℕ)
+    → Begins a octets v between → Begins b between w after → Begins (a ▸ b) octets (v, w) after
 unfolding octets_of
 begins_both a b octets v w between after h more = record {
   parts = h.parts ∙ ap (λ r. octets_of a v ++ r) more.parts ∙ sym (append_assoc (octets_of a v) (octets_of b w) after);

@@ -10,7 +10,8 @@ use Rattle.domain_fields.specs.Field.{Field, octet, short, long, name, spelled_n
 use Rattle.domain_fields.specs.Layout.{Layout, one, ◌▸◌, Values}
 use Rattle.domain_fields.specs.Scan.{FieldText, FieldTextFault, Scans, Refuses}
 
-field_excludes : (f : Field) (limit : Option ℕ) (fault : ScanFault) (text : List ℕ) (v : Value f) → FieldTextFault limit f fault text → FieldText f text v → IsOfTokens limit fault → ⊥
+field_excludes : (f : Field) (limit : Option ℕ) (fault : ScanFault) (text : List ℕ) (v : Value f)
+    → FieldTextFault limit f fault text → FieldText f text v → IsOfTokens limit fault → ⊥
 field_excludes octet limit fault text v why is own = why.none v is
 field_excludes short limit fault text v why is own = why.none v is
 field_excludes long limit fault text v why is own = why.none v is
@@ -40,7 +41,8 @@ scans_left (a ▸ b) old m n v w x y =
     scans_left b y.0 m n v.1 w.1 (subst (λ t. Scans b t v.1 m) between x.2) y.2
 
 -- what is refused, but for want of room or memory, spells no values
-pub refused_spells_none : (l : Layout) (limit : Option ℕ) (old new after : List (List ℕ)) (v : Values l) (fault : ScanFault) → Refuses limit l old new fault → Scans l old v after → IsOfTokens limit fault → ⊥
+pub refused_spells_none : (l : Layout) (limit : Option ℕ) (old new after : List (List ℕ)) (v : Values l) (fault : ScanFault)
+    → Refuses limit l old new fault → Scans l old v after → IsOfTokens limit fault → ⊥
 refused_spells_none (one f) limit old new after v fault why is own =
     token_excludes (λ text u. FieldText f text u) (FieldTextFault limit f) limit (field_excludes f limit) old new after v fault why is own
 refused_spells_none (a ▸ b) limit old new after v fault (inl why) is own = refused_spells_none a limit old new is.0 v.0 fault why is.1 own
@@ -49,11 +51,13 @@ refused_spells_none (a ▸ b) limit old new after v fault (inr why) is own =
     refused_spells_none b limit is.0 new after v.1 fault (subst (λ t. Refuses limit b t new fault) between why.3) is.2 own
 
 -- one field of one token is refused for one reason
-pub one_field_one_fault : (f : Field) (limit : Option ℕ) (old m n : List (List ℕ)) (x y : ScanFault) → Refuses limit (one f) old m x → Refuses limit (one f) old n y → (x ≡ y) × (m ≡ n)
+pub one_field_one_fault : (f : Field) (limit : Option ℕ) (old m n : List (List ℕ)) (x y : ScanFault)
+    → Refuses limit (one f) old m x → Refuses limit (one f) old n y → (x ≡ y) × (m ≡ n)
 one_field_one_fault f limit old m n x y p q = token_one_fault (FieldTextFault limit f) (field_one_fault f limit) old m n x y p q
 
 -- there is one first field that is refused, but for want of room or memory, and one reason for it
-pub one_first_fault : (l : Layout) (limit : Option ℕ) (old m n : List (List ℕ)) (x y : ScanFault) → Refuses limit l old m x → Refuses limit l old n y → IsOfTokens limit x → IsOfTokens limit y → (x ≡ y) × (m ≡ n)
+pub one_first_fault : (l : Layout) (limit : Option ℕ) (old m n : List (List ℕ)) (x y : ScanFault) → Refuses limit l old m x
+    → Refuses limit l old n y → IsOfTokens limit x → IsOfTokens limit y → (x ≡ y) × (m ≡ n)
 one_first_fault (one f) limit old m n x y p q own also = one_field_one_fault f limit old m n x y p q
 one_first_fault (a ▸ b) limit old m n x y (inl p) (inl q) own also = one_first_fault a limit old m n x y p q own also
 one_first_fault (a ▸ b) limit old m n x y (inl p) (inr q) own also = absurd (refused_spells_none a limit old m q.1 q.0 x p q.2 own)

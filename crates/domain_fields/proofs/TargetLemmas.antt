@@ -1,5 +1,6 @@
 -- one part of the octets appended after another
-use Rattle.std.proofs.Common.{◌≡◌, ℕ, ◌+◌, ◌≤◌, List, [], ◌++◌, length, refl, sym, ap, ◌∙◌, arith, length-append, append_assoc, append-nil, Option, None, Some, Result, Ok, Err}
+use Rattle.std.proofs.Common.{◌≡◌, ℕ, ◌+◌, ◌≤◌, List, [], ◌++◌, length, refl, sym, ap}
+use Rattle.std.proofs.Common.{◌∙◌, arith, length-append, append_assoc, append-nil, Option, None, Some, Result, Ok, Err}
 use Rattle.std.specs.Prelude.{◌↔◌, OnOk, OnErr, IsErrOf, IsNone}
 use Rattle.domain_octets.specs.Limit.{IsOver}
 use Rattle.domain_octets.specs.declared.error.AppendError.{AppendError}
@@ -36,24 +37,40 @@ module _ (limit : Option ℕ) (old mid new a b : List ℕ) (first : Appended lim
 
 pub appends_stop : (limit : Option ℕ) (e : AppendError) (old new a b : List ℕ) → Stops limit e old new a → Stops limit e old new (a ++ b)
 appends_stop limit ShortBuf old new a b first = (
-  record { front = first.0.front; back = first.0.back ++ b; parts = ap (λ l. l ++ b) first.0.parts ∙ append_assoc first.0.front first.0.back b; new_is = first.0.new_is },
+  record {
+    front = first.0.front;
+    back = first.0.back ++ b;
+    parts = ap (λ l. l ++ b) first.0.parts ∙ append_assoc first.0.front first.0.back b;
+    new_is = first.0.new_is;
+  },
   over_more limit _ _ (omega (arith, length-append a b)) first.1,
 )
-appends_stop limit OutOfMemory old new a b first =
-    (record { front = first.0.front; back = first.0.back ++ b; parts = ap (λ l. l ++ b) first.0.parts ∙ append_assoc first.0.front first.0.back b; new_is = first.0.new_is }, first.1)
+appends_stop limit OutOfMemory old new a b first = (
+  record {
+    front = first.0.front;
+    back = first.0.back ++ b;
+    parts = ap (λ l. l ++ b) first.0.parts ∙ append_assoc first.0.front first.0.back b;
+    new_is = first.0.new_is;
+  },
+  first.1,
+)
 
-pub appends_both : {X : Type 0} (limit : Option ℕ) (r : Result X AppendError) (old mid new : List ℕ) (a b : Layout) (v : Values a) (w : Values b) → Appended limit old mid (octets_of a v) → Appends limit r mid new (octets_of b w) → Appends limit r old new (octets_of (a ▸ b) (v, w))
+pub appends_both : {X : Type 0} (limit : Option ℕ) (r : Result X AppendError) (old mid new : List ℕ) (a b : Layout) (v : Values a)
+    (w : Values b) → Appended limit old mid (octets_of a v) → Appends limit r mid new (octets_of b w)
+    → Appends limit r old new (octets_of (a ▸ b) (v, w))
 unfolding octets_of
 appends_both limit r old mid new a b v w first more = appends_more limit old mid new (octets_of a v) (octets_of b w) first r more
 
-pub stops_both : (limit : Option ℕ) (e : AppendError) (old new : List ℕ) (a b : Layout) (v : Values a) (w : Values b) → Stops limit e old new (octets_of a v) → Stops limit e old new (octets_of (a ▸ b) (v, w))
+pub stops_both : (limit : Option ℕ) (e : AppendError) (old new : List ℕ) (a b : Layout) (v : Values a) (w : Values b)
+    → Stops limit e old new (octets_of a v) → Stops limit e old new (octets_of (a ▸ b) (v, w))
 unfolding octets_of
 stops_both limit e old new a b v w first = appends_stop limit e old new (octets_of a v) (octets_of b w) first
 
 pub ruleset writing = (appends_both, stops_both)
 
 -- octets appended whole or not at all, where their number is given in another way
-pub appends_whole : {X : Type 0} (limit : Option ℕ) (r : Result X AppendError) (old new octets : List ℕ) (count : ℕ) → length octets ≡ count → OnOk r (new ≡ old ++ octets) → OnErr r (new ≡ old)
+pub appends_whole : {X : Type 0} (limit : Option ℕ) (r : Result X AppendError) (old new octets : List ℕ) (count : ℕ)
+    → length octets ≡ count → OnOk r (new ≡ old ++ octets) → OnErr r (new ≡ old)
     → IsErrOf r ShortBuf ↔ IsOver limit (length old + count) → (IsErrOf r OutOfMemory → IsNone limit) → Appends limit r old new octets
 appends_whole limit (Ok x) old new octets count counts ok err short memory = record {
   all = ok;

@@ -27,11 +27,13 @@ dnskey_back d fits brief = parses_back dnskey (dnskey_values d) refl fits (ends_
 pub ds_back : (d : DsData) → Fits ds (ds_values d) → length d.digest ≤ 65531 → ParsesBack ds (ds_values d)
 ds_back d fits brief = parses_back ds (ds_values d) refl fits (ends_of_octets (ds_values d) brief)
 
-pub same_dnskey : (a b : DnskeyData) (r : Bool) → Fits dnskey (dnskey_values a) → Fits dnskey (dnskey_values b) → length a.public_key ≤ 65531 → length b.public_key ≤ 65531
+pub same_dnskey : (a b : DnskeyData) (r : Bool) → Fits dnskey (dnskey_values a) → Fits dnskey (dnskey_values b)
+    → length a.public_key ≤ 65531 → length b.public_key ≤ 65531
     → r ≡ bytes_eq (dnskey_octets a) (dnskey_octets b) → IsTrue r ↔ (a ≡ b)
 same_dnskey a b r fits_a fits_b limit_a limit_b is = (
   λ yes. ap (λ v. record { flags = v.0; protocol = v.1.0; algorithm = v.1.1.0; public_key = v.1.1.1.1 })
-      (same_values dnskey (dnskey_values a) (dnskey_values b) refl fits_a fits_b (ends_of_octets (dnskey_values a) limit_a) (ends_of_octets (dnskey_values b) limit_b)
+      (same_values dnskey (dnskey_values a) (dnskey_values b) refl fits_a fits_b (ends_of_octets (dnskey_values a) limit_a)
+      (ends_of_octets (dnskey_values b) limit_b)
       ((bytes_decides (dnskey_octets a) (dnskey_octets b)).0 (sym is ∙ yes))),
   λ same. is ∙ (bytes_decides (dnskey_octets a) (dnskey_octets b)).1 (ap dnskey_octets same),
 )

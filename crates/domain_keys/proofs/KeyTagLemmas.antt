@@ -17,7 +17,8 @@ weighed-odd (x ∷ y ∷ octets) a odd = omega (arith, weighed-odd octets a (ome
 even_or_odd : (i : ℕ) → (i % 2 ≡ 0) ⊎ (i % 2 ≡ 1)
 even_or_odd i = elim (cases_lt (i % 2) 1) [ inl lt ↦ inl (omega arith) | inr le ↦ inr (omega arith) ]
 
-pub weighed_step : (key : List ℕ) (i w octet : ℕ) → i < length key → (i % 2 ≡ 0 → w ≡ 256 * octet) → (i % 2 ≡ 1 → w ≡ octet) → get_or key i 0 ≡ octet → weighed (take (i + 1) key) ≡ weighed (take i key) + w
+pub weighed_step : (key : List ℕ) (i w octet : ℕ) → i < length key → (i % 2 ≡ 0 → w ≡ 256 * octet) → (i % 2 ≡ 1 → w ≡ octet)
+    → get_or key i 0 ≡ octet → weighed (take (i + 1) key) ≡ weighed (take i key) + w
 weighed_step key i w octet below even odd is =
     let so_far : length (take i key) ≡ i = length-take-le i key (omega (arith, below)) in
     let more : take (i + 1) key ≡ take i key ++ octet ∷ [] = take_more key i 0 below ∙ ap (λ x. take i key ++ x ∷ []) is in

@@ -14,13 +14,18 @@ use Rattle.domain_keys.specs.Pieces.{dnskey_pieces, ds_pieces}
 
 pub dnskey_written : (a b c d e f g h i j : List PieceText) (key : DnskeyData) (flags protocol algorithm tag : ℕ) (octets : List ℕ)
     → flags ≡ key.flags → protocol ≡ key.protocol → algorithm ≡ key.algorithm → octets ≡ key.public_key → tag ≡ key_tag_of key
-    → b ≡ a ++ opens ∷ [] → c ≡ b ++ token (decimal flags) ∷ [] → d ≡ c ++ comment (flags_comment flags) ∷ [] → e ≡ d ++ token (decimal protocol) ∷ [] → f ≡ e ++ comment (codes "protocol") ∷ []
-    → g ≡ f ++ token (decimal algorithm) ∷ [] → h ≡ g ++ token (encode_of standard octets) ∷ [] → i ≡ h ++ comment (codes "key tag: " ++ decimal tag) ∷ [] → j ≡ i ++ closes ∷ []
+    → b ≡ a ++ opens ∷ [] → c ≡ b ++ token (decimal flags) ∷ [] → d ≡ c ++ comment (flags_comment flags) ∷ []
+    → e ≡ d ++ token (decimal protocol) ∷ [] → f ≡ e ++ comment (codes "protocol") ∷ []
+    → g ≡ f ++ token (decimal algorithm) ∷ [] → h ≡ g ++ token (encode_of standard octets) ∷ []
+    → i ≡ h ++ comment (codes "key tag: " ++ decimal tag) ∷ [] → j ≡ i ++ closes ∷ []
     → j ≡ a ++ dnskey_pieces key
-dnskey_written a b c d e f g h i j key flags protocol algorithm tag octets same_flags same_protocol same_algorithm same_key same_tag ab bc cd de ef fg gh hi ij =
-    let all : j ≡ a ++ (opens ∷ token (decimal flags) ∷ comment (flags_comment flags) ∷ token (decimal protocol) ∷ comment (codes "protocol") ∷ token (decimal algorithm)
+dnskey_written a b c d e f g h i j key flags protocol algorithm tag octets same_flags same_protocol same_algorithm same_key
+    same_tag ab bc cd de ef fg gh hi ij =
+    let all : j ≡ a ++ (opens ∷ token (decimal flags) ∷ comment (flags_comment flags) ∷ token (decimal protocol) ∷ comment
+    (codes "protocol") ∷ token (decimal algorithm)
     ∷ token (encode_of standard octets) ∷ comment (codes "key tag: " ++ decimal tag) ∷ closes ∷ []) =
-    piece_before a b j _ _ ab (piece_before b c j _ _ bc (piece_before c d j _ _ cd (piece_before d e j _ _ de (piece_before e f j _ _ ef (piece_before f g j _ _ fg
+    piece_before a b j _ _ ab (piece_before b c j _ _ bc (piece_before c d j _ _ cd
+    (piece_before d e j _ _ de (piece_before e f j _ _ ef (piece_before f g j _ _ fg
     (piece_before g h j _ _ gh (piece_before h i j _ _ hi ij))))))) in
     cc
 
@@ -30,6 +35,8 @@ pub ds_written : (a b c d e f g h : List PieceText) (ds : DsData) (key_tag algor
     → f ≡ e ++ token (decimal digest_type) ∷ [] → g ≡ f ++ token (encode_upper octets) ∷ [] → h ≡ g ++ closes ∷ []
     → h ≡ a ++ ds_pieces ds
 ds_written a b c d e f g h ds key_tag algorithm digest_type octets same_tag same_algorithm same_type same_digest ab bc cd de ef fg gh =
-    let all : h ≡ a ++ (opens ∷ token (decimal key_tag) ∷ comment (codes "key tag") ∷ token (decimal algorithm) ∷ token (decimal digest_type) ∷ token (encode_upper octets) ∷ closes ∷ []) =
-    piece_before a b h _ _ ab (piece_before b c h _ _ bc (piece_before c d h _ _ cd (piece_before d e h _ _ de (piece_before e f h _ _ ef (piece_before f g h _ _ fg gh))))) in
+    let all : h ≡ a ++ (opens ∷ token (decimal key_tag) ∷ comment (codes "key tag") ∷ token (decimal algorithm) ∷ token
+    (decimal digest_type) ∷ token (encode_upper octets) ∷ closes ∷ []) =
+    piece_before a b h _ _ ab (piece_before b c h _ _ bc (piece_before c d h _ _ cd
+    (piece_before d e h _ _ de (piece_before e f h _ _ ef (piece_before f g h _ _ fg gh))))) in
     cc

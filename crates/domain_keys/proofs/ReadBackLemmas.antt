@@ -31,14 +31,18 @@ numbers_and_text codec x y z text octets x_small y_small z_small plain decoded =
     (entry_back (Scans three_numbers) codec (decimal x ∷ decimal y ∷ decimal z ∷ word_if_any text) (x, (y, z)) text octets
     (fields_back three_numbers (x, (y, z)) (word_if_any text) refl (x_small, (y_small, z_small))) decoded)
 
-pub dnskey_text_back : (d : DnskeyData) → Fits dnskey (dnskey_values d) → length d.public_key ≤ 65531 → All (λ octet. octet < 256) d.public_key → DnskeyText (words_of (dnskey_text d)) d
+pub dnskey_text_back : (d : DnskeyData) → Fits dnskey (dnskey_values d) → length d.public_key ≤ 65531
+    → All (λ octet. octet < 256) d.public_key → DnskeyText (words_of (dnskey_text d)) d
 dnskey_text_back d fits few small = record {
-  spelled = numbers_and_text Base64 d.flags d.protocol d.algorithm (encode_of standard d.public_key) d.public_key fits.0 fits.1.0 fits.1.1.0 (base64_plain d.public_key) (base64_back d.public_key small);
+  spelled = numbers_and_text Base64 d.flags d.protocol d.algorithm
+      (encode_of standard d.public_key) d.public_key fits.0 fits.1.0 fits.1.1.0 (base64_plain d.public_key)
+      (base64_back d.public_key small);
   fits = few;
 }
 
 pub ds_text_back : (d : DsData) → Fits ds (ds_values d) → length d.digest ≤ 65531 → All (λ octet. octet < 256) d.digest → DsText (words_of (ds_text d)) d
 ds_text_back d fits few small = record {
-  spelled = numbers_and_text Base16 d.key_tag d.algorithm d.digest_type (encode_lower d.digest) d.digest fits.0 fits.1.0 fits.1.1.0 (lower_hex_plain d.digest) (lower_back d.digest small);
+  spelled = numbers_and_text Base16 d.key_tag d.algorithm d.digest_type
+      (encode_lower d.digest) d.digest fits.0 fits.1.0 fits.1.1.0 (lower_hex_plain d.digest) (lower_back d.digest small);
   fits = few;
 }

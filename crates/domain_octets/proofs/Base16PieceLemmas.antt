@@ -18,17 +18,25 @@ front_of left count is = record {
 }
 
 -- they stand for octets, and those after them for others
-pub next_front : (text left built : List ℕ) (count : ℕ) → ReadPieces Base16 text left built → count ≡ min (length left) 64 → NextPiece Base16 text (take count left) (drop count left) built
+pub next_front : (text left built : List ℕ) (count : ℕ) → ReadPieces Base16 text left built → count ≡ min (length left) 64
+    → NextPiece Base16 text (take count left) (drop count left) built
 next_front text left built count so_far is = pieces_next Base16 text left (take count left) (drop count left) built so_far (front_of left count is)
 
 -- which are those that the decoder writes
-pub front_read : (left front buffer octets new : List ℕ) (count : ℕ) (result : Result (Unit {0}) FromHexError) → decode_of (take count left) ≡ Ok octets → front ≡ take count left
+pub front_read : (left front buffer octets new : List ℕ) (count : ℕ) (result : Result (Unit {0}) FromHexError)
+    → decode_of (take count left) ≡ Ok octets → front ≡ take count left
     → count ≡ min (length left) 64 → length buffer ≡ 32
     → MatchResult (decode_sized front (length (take (length front / 2) buffer))) (λ bytes. (result ≡ Ok tt) × (new ≡ bytes)) (λ e. result ≡ Err e)
     → (result ≡ Ok tt) × (new ≡ octets)
 front_read left front buffer octets new count result decoded same is size given =
     let text : decode_of front ≡ Ok octets = ap decode_of same ∙ decoded in
     let even = (decode_of-ok front octets text).0 in
-    let half : length front ≡ 2 * length (take (length front / 2) buffer) = omega (arith, length-take (length front / 2) buffer, ap length same, length-take count left) in
-    let read : decode_sized front (length (take (length front / 2) buffer)) ≡ Ok octets = decode_sized-twice front (length (take (length front / 2) buffer)) half ∙ text in
+    let half : length front ≡ 2 * length (take (length front / 2) buffer) = omega (
+      arith,
+      length-take (length front / 2) buffer,
+      ap length same,
+      length-take count left,
+    ) in
+    let read : decode_sized front (length (take (length front / 2) buffer))
+    ≡ Ok octets = decode_sized-twice front (length (take (length front / 2) buffer)) half ∙ text in
     rw read at given

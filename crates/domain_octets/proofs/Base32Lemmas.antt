@@ -1,5 +1,6 @@
 -- digits of five bits, one after another
-use Rattle.std.proofs.Common.{◌≡◌, ◌≢◌, ℕ, zero, suc, ◌+◌, ◌*◌, ◌/◌, ◌%◌, ◌<◌, ◌≤◌, zero-add, Bool, true, false, nat_lt, if◌then◌else◌, List, [], ◌∷◌, ◌++◌, length, get_or, map, take, drop, refl, sym, ap, subst, ◌∙◌, arith, lit<}
+use Rattle.std.proofs.Common.{◌≡◌, ◌≢◌, ℕ, zero, suc, ◌+◌, ◌*◌, ◌/◌, ◌%◌, ◌<◌, ◌≤◌, zero-add, Bool, true, false, nat_lt, if◌then◌else◌}
+use Rattle.std.proofs.Common.{List, [], ◌∷◌, ◌++◌, length, get_or, map, take, drop, refl, sym, ap, subst, ◌∙◌, arith, lit<}
 use Rattle.std.specs.List.{AllByRecursion as ByRecursion, range_with_len}
 use Rattle.std.specs.Str.{IsAscii}
 use Rattle.std.proofs.lemmas.List.{get_or-map, length-map, length-take-le}
@@ -25,7 +26,8 @@ held_digit scale rest five_bits wide below = record { scale_is = no_bits; below 
 held_digit scale rest six_bits wide below = record { scale_is = one_bit; below = omega arith; digit = omega arith; some = lit< tt }
 held_digit scale rest seven_bits wide below = record { scale_is = two_bits; below = omega arith; digit = omega arith; some = lit< tt }
 
-pub held_left : (scale rest : ℕ) (octets : List ℕ) → IsScale scale → 32 ≤ scale → digits_left scale rest octets ≡ (rest / (scale / 32)) ∷ digits_left (scale / 32) (rest % (scale / 32)) octets
+pub held_left : (scale rest : ℕ) (octets : List ℕ) → IsScale scale → 32 ≤ scale
+    → digits_left scale rest octets ≡ (rest / (scale / 32)) ∷ digits_left (scale / 32) (rest % (scale / 32)) octets
 held_left scale rest octets no_bits wide = absurd (omega arith)
 held_left scale rest octets one_bit wide = absurd (omega arith)
 held_left scale rest octets two_bits wide = absurd (omega arith)
@@ -45,7 +47,9 @@ pulled_digit scale rest octet five_bits narrow below small = absurd (omega arith
 pulled_digit scale rest octet six_bits narrow below small = absurd (omega arith)
 pulled_digit scale rest octet seven_bits narrow below small = absurd (omega arith)
 
-pub pulled_left : (scale rest octet : ℕ) (octets : List ℕ) → IsScale scale → scale < 32 → digits_left scale rest (octet ∷ octets) ≡ ((256 * rest + octet) / (256 * scale / 32)) ∷ digits_left (256 * scale / 32) ((256 * rest + octet) % (256 * scale / 32)) octets
+pub pulled_left : (scale rest octet : ℕ) (octets : List ℕ) → IsScale scale → scale < 32
+    → digits_left scale rest (octet ∷ octets) ≡ ((256 * rest + octet) / (256 * scale / 32)) ∷ digits_left (256 * scale / 32)
+    ((256 * rest + octet) % (256 * scale / 32)) octets
 unfolding base32_from
 pulled_left scale rest octet octets no_bits narrow = refl
 pulled_left scale rest octet octets one_bit narrow = refl
@@ -82,7 +86,8 @@ pub none_left : (scale rest : ℕ) (octets : List ℕ) → octets ≡ [] → sca
 unfolding base32_from
 none_left scale rest octets none one = rw (none, one) refl
 
-pub ends_left : (scale rest : ℕ) (octets : List ℕ) → octets ≡ [] → IsScale scale → scale < 32 → scale ≢ 1 → digits_left scale rest octets ≡ ((32 / scale) * rest) ∷ base32_from 1 0 octets
+pub ends_left : (scale rest : ℕ) (octets : List ℕ) → octets ≡ [] → IsScale scale → scale < 32 → scale ≢ 1
+    → digits_left scale rest octets ≡ ((32 / scale) * rest) ∷ base32_from 1 0 octets
 unfolding base32_from
 ends_left scale rest octets none scale_is narrow other = rw none (last_left scale rest scale_is narrow other)
 
@@ -91,7 +96,8 @@ first_of_five : (a : ℕ) (octets : List ℕ) → base32_from 1 0 (a ∷ octets)
 unfolding base32_from
 first_of_five a octets = let same : 256 * 0 + a ≡ a = omega arith in ap (λ v. (v / 8) ∷ base32_from 8 (v % 8) octets) same
 
-second_of_five : (rest b v : ℕ) (octets : List ℕ) → v ≡ 256 * rest + b → base32_from 8 rest (b ∷ octets) ≡ (v / 64) ∷ (v % 64 / 2) ∷ base32_from 2 (v % 2) octets
+second_of_five : (rest b v : ℕ) (octets : List ℕ) → v ≡ 256 * rest + b
+    → base32_from 8 rest (b ∷ octets) ≡ (v / 64) ∷ (v % 64 / 2) ∷ base32_from 2 (v % 2) octets
 unfolding base32_from
 second_of_five rest b v octets e =
     let left : v % 64 % 2 ≡ v % 2 = omega arith in
@@ -101,7 +107,8 @@ third_of_five : (rest c v : ℕ) (octets : List ℕ) → v ≡ 256 * rest + c �
 unfolding base32_from
 third_of_five rest c v octets e = ap (λ w. (w / 16) ∷ base32_from 16 (w % 16) octets) (sym e)
 
-fourth_of_five : (rest d v : ℕ) (octets : List ℕ) → v ≡ 256 * rest + d → base32_from 16 rest (d ∷ octets) ≡ (v / 128) ∷ (v % 128 / 4) ∷ base32_from 4 (v % 4) octets
+fourth_of_five : (rest d v : ℕ) (octets : List ℕ) → v ≡ 256 * rest + d
+    → base32_from 16 rest (d ∷ octets) ≡ (v / 128) ∷ (v % 128 / 4) ∷ base32_from 4 (v % 4) octets
 unfolding base32_from
 fourth_of_five rest d v octets e =
     let left : v % 128 % 4 ≡ v % 4 = omega arith in
@@ -150,10 +157,12 @@ five_alone a b c d e =
     let third = 256 * (second % 2) + c in
     let fourth = 256 * (third % 16) + d in
     let fifth = 256 * (fourth % 4) + e in
-    five_octets a b c d e [] ∙ ap (λ l. (a / 8) ∷ (second / 64) ∷ (second % 64 / 2) ∷ (third / 16) ∷ (fourth / 128) ∷ (fourth % 128 / 4) ∷ (fifth / 32) ∷ (fifth % 32) ∷ l) no_digits
+    five_octets a b c d e [] ∙ ap (λ l. (a / 8) ∷ (second / 64) ∷ (second % 64 / 2) ∷ (third / 16) ∷ (fourth / 128) ∷
+    (fourth % 128 / 4) ∷ (fifth / 32) ∷ (fifth % 32) ∷ l) no_digits
 
 -- five octets, where no bits are left over, and those after them
-pub five_left : (xs : List ℕ) (scale rest : ℕ) → scale ≡ 1 → rest < scale → 5 ≤ length xs → digits_left scale rest xs ≡ base32_from 1 0 (take 5 xs) ++ digits_left scale rest (drop 5 xs)
+pub five_left : (xs : List ℕ) (scale rest : ℕ) → scale ≡ 1 → rest < scale → 5 ≤ length xs
+    → digits_left scale rest xs ≡ base32_from 1 0 (take 5 xs) ++ digits_left scale rest (drop 5 xs)
 five_left (a ∷ b ∷ c ∷ d ∷ e ∷ octets) scale rest one below long =
     let none : rest ≡ 0 = omega (arith, one) in
     rw (one, none, five_alone a b c d e) (five_octets a b c d e octets)
@@ -184,7 +193,10 @@ pub digits_of_five : (xs : List ℕ) → length xs ≡ 5 →
 digits_of_five xs long = ap (base32_from 1 0) (are_five xs long) ∙ five_alone (get_or xs 0 0) (get_or xs 1 0) (get_or xs 2 0) (get_or xs 3 0) (get_or xs 4 0)
 
 eight_digits : (a b c d e f g h : ℕ) → a < 32 → b < 32 → c < 32 → d < 32 → e < 32 → f < 32 → g < 32 → h < 32 → AreDigits (a ∷ b ∷ c ∷ d ∷ e ∷ f ∷ g ∷ h ∷ [])
-eight_digits a b c d e f g h p q r s t u v w = All-from_recursion (λ digit. digit < 32) (a ∷ b ∷ c ∷ d ∷ e ∷ f ∷ g ∷ h ∷ []) (p, (q, (r, (s, (t, (u, (v, (w, tt))))))))
+eight_digits a b c d e f g h p q r s t u v w = All-from_recursion (λ digit. digit < 32) (a ∷ b ∷ c ∷ d ∷ e ∷ f ∷ g ∷ h ∷ []) (
+  p,
+  (q, (r, (s, (t, (u, (v, (w, tt))))))),
+)
 
 pub five_are_digits : (xs : List ℕ) → length xs ≡ 5 → ((i : ℕ) → get_or xs i 0 < 256) → AreDigits (base32_from 1 0 xs)
 five_are_digits xs long small =
@@ -198,14 +210,18 @@ five_are_digits xs long small =
     let fourth = 256 * (third % 16) + get_or xs 3 0 in
     let fifth = 256 * (fourth % 4) + get_or xs 4 0 in
     subst AreDigits (sym (digits_of_five xs long))
-    (eight_digits (get_or xs 0 0 / 8) (second / 64) (second % 64 / 2) (third / 16) (fourth / 128) (fourth % 128 / 4) (fifth / 32) (fifth % 32) (omega arith) (omega arith) (omega arith) (omega arith) (omega arith) (omega arith) (omega arith) (omega arith))
+    (eight_digits (get_or xs 0 0 / 8) (second / 64) (second % 64 / 2) (third / 16) (fourth / 128) (fourth % 128 / 4) (fifth / 32)
+    (fifth % 32) (omega arith) (omega arith) (omega arith) (omega arith) (omega arith) (omega arith) (omega arith)
+    (omega arith))
 
 -- the alphabets
 abbrev lower_alphabet : List ℕ
-lower_alphabet = 48 ∷ 49 ∷ 50 ∷ 51 ∷ 52 ∷ 53 ∷ 54 ∷ 55 ∷ 56 ∷ 57 ∷ 97 ∷ 98 ∷ 99 ∷ 100 ∷ 101 ∷ 102 ∷ 103 ∷ 104 ∷ 105 ∷ 106 ∷ 107 ∷ 108 ∷ 109 ∷ 110 ∷ 111 ∷ 112 ∷ 113 ∷ 114 ∷ 115 ∷ 116 ∷ 117 ∷ 118 ∷ []
+lower_alphabet = 48 ∷ 49 ∷ 50 ∷ 51 ∷ 52 ∷ 53 ∷ 54 ∷ 55 ∷ 56 ∷ 57 ∷ 97 ∷ 98 ∷ 99 ∷ 100 ∷ 101 ∷ 102 ∷ 103 ∷ 104 ∷ 105 ∷ 106 ∷ 107 ∷
+    108 ∷ 109 ∷ 110 ∷ 111 ∷ 112 ∷ 113 ∷ 114 ∷ 115 ∷ 116 ∷ 117 ∷ 118 ∷ []
 
 abbrev upper_alphabet : List ℕ
-upper_alphabet = 48 ∷ 49 ∷ 50 ∷ 51 ∷ 52 ∷ 53 ∷ 54 ∷ 55 ∷ 56 ∷ 57 ∷ 65 ∷ 66 ∷ 67 ∷ 68 ∷ 69 ∷ 70 ∷ 71 ∷ 72 ∷ 73 ∷ 74 ∷ 75 ∷ 76 ∷ 77 ∷ 78 ∷ 79 ∷ 80 ∷ 81 ∷ 82 ∷ 83 ∷ 84 ∷ 85 ∷ 86 ∷ []
+upper_alphabet = 48 ∷ 49 ∷ 50 ∷ 51 ∷ 52 ∷ 53 ∷ 54 ∷ 55 ∷ 56 ∷ 57 ∷ 65 ∷ 66 ∷ 67 ∷ 68 ∷ 69 ∷ 70 ∷ 71 ∷ 72 ∷ 73 ∷ 74 ∷ 75 ∷ 76 ∷ 77
+    ∷ 78 ∷ 79 ∷ 80 ∷ 81 ∷ 82 ∷ 83 ∷ 84 ∷ 85 ∷ 86 ∷ []
 
 spelled : (f : ℕ → ℕ) (alphabet : List ℕ) → alphabet ≡ map f (range_with_len 0 32) → (n : ℕ) → n < 32 → get_or alphabet n 0 ≡ f n
 spelled f alphabet is n lt =

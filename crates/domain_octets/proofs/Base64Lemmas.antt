@@ -1,6 +1,7 @@
 -- texts in Base 64, 64 characters at a time
 use Rattle.std.specs.Prelude.{min, replicate, ◌-◌, ◌/◌, ◌%◌}
-use Rattle.std.proofs.Common.{◌≡◌, ℕ, zero, suc, ◌+◌, ◌*◌, ◌<◌, ◌≤◌, List, [], ◌∷◌, ◌++◌, length, take, drop, slice_index, length-drop, length-take, length-append, refl, sym, ap, subst, ◌∙◌, arith, ◌⊎◌, inl, inr, Option, None, Some, Result, Ok, Err, true}
+use Rattle.std.proofs.Common.{◌≡◌, ℕ, zero, suc, ◌+◌, ◌*◌, ◌<◌, ◌≤◌, List, [], ◌∷◌, ◌++◌, length, take, drop, slice_index, length-drop, length-take}
+use Rattle.std.proofs.Common.{length-append, refl, sym, ap, subst, ◌∙◌, arith, ◌⊎◌, inl, inr, Option, None, Some, Result, Ok, Err, true}
 use Rattle.std.proofs.lemmas.Bool.{cases_lt}
 use Rattle.std.proofs.lemmas.List.{nil_from_length, take_at, drop_at, length-replicate, take-append-drop, take_all, drop_all, append-nil, append_assoc}
 use Rattle.base64.specs.GeneralPurpose.{decode_of, encode_of, IsBytes}
@@ -8,7 +9,8 @@ use Rattle.base64.specs.Engines.{standard}
 use Rattle.base64.specs.Rfc4648.{encode_symbols, padding_len}
 use Rattle.base64.proofs.RoundTrip.{length-encode_symbols}
 use Rattle.base64.specs.Tables.{is_inverse}
-use Rattle.base64.specs.Decode.{IsDecodeTable, decode_outcome, decoded_bytes, decode_group, group_error, groups_error, groups_bytes, groups_before_last, leftover_bytes, lone_error, no_leftover, or_else, scan_bytes, scan_last, symbol_error}
+use Rattle.base64.specs.Decode.{IsDecodeTable, decode_outcome, decoded_bytes, decode_group, group_error, groups_error, groups_bytes, groups_before_last}
+use Rattle.base64.specs.Decode.{leftover_bytes, lone_error, no_leftover, or_else, scan_bytes, scan_last, symbol_error}
 use Rattle.base64.specs.declared.decode.DecodeError.{DecodeError}
 use Rattle.base64.proofs.Canonical.{IsScanned-scan, decoded_bytes-nil}
 use Rattle.base64.proofs.EngineFacts.{decode_of-encode_of, decode_of_strict, encode_of-append, encode_of-nil}
@@ -61,7 +63,8 @@ groups_small dec s (suc q) table bytes none =
     let p1 = no_error (symbol_error dec s (i + 1)) _ p0.1 in
     let p2 = no_error (symbol_error dec s (i + 2)) (symbol_error dec s (i + 3)) p1.1 in
     bytes-append (groups_bytes dec s q) _ (groups_small dec s q table bytes parts.0)
-    (group_small _ _ _ _ (symbol_small dec s i table (bytes i) p0.0) (symbol_small dec s (i + 1) table (bytes (i + 1)) p1.0) (symbol_small dec s (i + 2) table (bytes (i + 2)) p2.0) (symbol_small dec s (i + 3) table (bytes (i + 3)) p2.1))
+    (group_small _ _ _ _ (symbol_small dec s i table (bytes i) p0.0) (symbol_small dec s (i + 1) table (bytes (i + 1)) p1.0)
+    (symbol_small dec s (i + 2) table (bytes (i + 2)) p2.0) (symbol_small dec s (i + 3) table (bytes (i + 3)) p2.1))
 
 zeros : (k : ℕ) → slice_index (0 ∷ 0 ∷ 0 ∷ 0 ∷ []) k < 64
 zeros zero = omega arith
@@ -96,7 +99,8 @@ decoded_small s b bytes decoded =
             | inl ok ↦
                 let st = ok.0 in
                 let short : length (drop at s) ≤ 4 = omega (arith, length-drop at s) in
-                let held = IsScanned-scan standard.encode_table standard.decode_table (drop at s) 61 at (drop at s) no_leftover st 0 inverse (bytes-drop at s bytes) short (omega arith) refl
+                let held = IsScanned-scan standard.encode_table standard.decode_table (drop at s) 61 at
+                (drop at s) no_leftover st 0 inverse (bytes-drop at s bytes) short (omega arith) refl
                 ((refl, refl, λ j lt. absurd (omega arith), λ j low lt. absurd (omega arith)), (omega arith, omega arith, omega arith, zeros)) ok.1 in
                 let small = held.1.3 in
                 let back : IsBytes (leftover_bytes st) = bytes-take _ _ (group_small _ _ _ _ (small 0) (small 1) (small 2) (small 3)) in
@@ -119,10 +123,12 @@ encoding : (text octets : List ℕ) → IsBytes text → DecodesTo text octets �
 encoding text octets bytes decoded = decode_of_strict standard text octets (refl, refl) bytes decoded
 
 -- groups of three octets and what stands for others after them
-pub joined_groups : (front back a b : List ℕ) → IsBytes front → IsBytes back → length a % 3 ≡ 0 → DecodesTo front a → DecodesTo back b → DecodesTo (front ++ back) (a ++ b)
+pub joined_groups : (front back a b : List ℕ) → IsBytes front → IsBytes back → length a % 3 ≡ 0 → DecodesTo front a
+    → DecodesTo back b → DecodesTo (front ++ back) (a ++ b)
 joined_groups front back a b fine rest whole first second =
     let parts : front ++ back ≡ encode_of standard (a ++ b) =
-    ap (λ t. t ++ back) (encoding front a fine first) ∙ ap (λ t. encode_of standard a ++ t) (encoding back b rest second) ∙ sym (encode_of-append standard a b whole) in
+    ap (λ t. t ++ back) (encoding front a fine first) ∙ ap (λ t. encode_of standard a ++ t) (encoding back b rest second)
+    ∙ sym (encode_of-append standard a b whole) in
     subst (λ t. DecodesTo t (a ++ b)) (sym parts)
     (decode_of-encode_of standard (a ++ b) refl (bytes-append a b (decoded_small front a fine first) (decoded_small back b rest second)))
 
@@ -166,7 +172,8 @@ split_pieces text octets bytes long decoded =
 
 -- no characters stand for no octets
 pub nothing_decodes : (octets : List ℕ) → DecodesTo [] octets → octets ≡ []
-nothing_decodes octets decoded = let none : DecodesTo [] [] = subst (λ t. DecodesTo t []) (encode_of-nil standard) (decode_of-encode_of standard [] refl (λ i. omega arith)) in cc
+nothing_decodes octets decoded = let none : DecodesTo [] [] =
+    subst (λ t. DecodesTo t []) (encode_of-nil standard) (decode_of-encode_of standard [] refl (λ i. omega arith)) in cc
 
 -- ---- a text that is gone through piece by piece
 
@@ -180,13 +187,16 @@ pub passed_none : (text : List ℕ) → IsBytes text → Passed text text
 passed_none text bytes = record { back = λ octets decoded. (octets, decoded); forth = λ whole decoded. (whole, decoded); bytes = bytes }
 
 -- one piece more
-pub passed_more : (text left piece : List ℕ) → Passed text left → 64 < length left → DecodesTo (take 64 left) piece → length piece ≡ 48 → Passed text (drop 64 left)
+pub passed_more : (text left piece : List ℕ) → Passed text left → 64 < length left → DecodesTo (take 64 left) piece
+    → length piece ≡ 48 → Passed text (drop 64 left)
 passed_more text left piece so_far long first full =
     let bytes = bytes-drop 64 left so_far.bytes in
     record {
       back = λ octets decoded.
           so_far.back (piece ++ octets)
-          (subst (λ t. DecodesTo t (piece ++ octets)) (take-append-drop 64 left) (joined_groups (take 64 left) (drop 64 left) piece octets (bytes-take 64 left so_far.bytes) bytes (omega arith) first decoded));
+          (subst (λ t. DecodesTo t (piece ++ octets)) (take-append-drop 64 left)
+          (joined_groups (take 64 left) (drop 64 left) piece octets (bytes-take 64 left so_far.bytes) bytes
+          (omega arith) first decoded));
       forth = λ whole decoded.
           let here = so_far.forth whole decoded in
           (drop 48 here.0, (split_pieces left here.0 so_far.bytes long here.1).others);
@@ -230,7 +240,8 @@ last_piece text left built count so_far short =
       first = subst (λ t. DecodesTo t so_far.rest) (sym (take_all count left short)) so_far.decoded;
       more = record {
         rest = [];
-        decoded = subst (λ t. DecodesTo t []) (sym nothing) (subst (λ t. DecodesTo t []) (encode_of-nil standard) (decode_of-encode_of standard [] refl (λ i. omega arith)));
+        decoded = subst (λ t. DecodesTo t []) (sym nothing)
+            (subst (λ t. DecodesTo t []) (encode_of-nil standard) (decode_of-encode_of standard [] refl (λ i. omega arith)));
         whole = subst (λ o. DecodesTo text o) (sym (append-nil (built ++ so_far.rest))) so_far.whole;
         bytes = bytes-drop count left so_far.bytes;
       };

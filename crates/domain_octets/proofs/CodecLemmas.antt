@@ -18,14 +18,70 @@ pub record Widens (scale : ℕ) : Type 0 where
   pub octet : (value : ℕ) → 256 ≤ 32 * scale → value < 32 * scale → value / (32 * scale / 256) < 256
 
 pub widens : (scale : ℕ) → IsScale scale → Widens scale
-widens scale no_bits = record { some = lit< tt; small = lit≤ tt; narrow = λ _. five_bits; wide = λ h. absurd (omega arith); left = λ h. omega arith; octet = λ v h below. absurd (omega arith) }
-widens scale one_bit = record { some = lit< tt; small = lit≤ tt; narrow = λ _. six_bits; wide = λ h. absurd (omega arith); left = λ h. omega arith; octet = λ v h below. absurd (omega arith) }
-widens scale two_bits = record { some = lit< tt; small = lit≤ tt; narrow = λ _. seven_bits; wide = λ h. absurd (omega arith); left = λ h. omega arith; octet = λ v h below. absurd (omega arith) }
-widens scale three_bits = record { some = lit< tt; small = lit≤ tt; narrow = λ h. absurd (omega arith); wide = λ h. no_bits; left = λ h. lit< tt; octet = λ v h below. omega arith }
-widens scale four_bits = record { some = lit< tt; small = lit≤ tt; narrow = λ h. absurd (omega arith); wide = λ h. one_bit; left = λ h. lit< tt; octet = λ v h below. omega arith }
-widens scale five_bits = record { some = lit< tt; small = lit≤ tt; narrow = λ h. absurd (omega arith); wide = λ h. two_bits; left = λ h. lit< tt; octet = λ v h below. omega arith }
-widens scale six_bits = record { some = lit< tt; small = lit≤ tt; narrow = λ h. absurd (omega arith); wide = λ h. three_bits; left = λ h. lit< tt; octet = λ v h below. omega arith }
-widens scale seven_bits = record { some = lit< tt; small = lit≤ tt; narrow = λ h. absurd (omega arith); wide = λ h. four_bits; left = λ h. lit< tt; octet = λ v h below. omega arith }
+widens scale no_bits = record {
+  some = lit< tt;
+  small = lit≤ tt;
+  narrow = λ _. five_bits;
+  wide = λ h. absurd (omega arith);
+  left = λ h. omega arith;
+  octet = λ v h below. absurd (omega arith);
+}
+widens scale one_bit = record {
+  some = lit< tt;
+  small = lit≤ tt;
+  narrow = λ _. six_bits;
+  wide = λ h. absurd (omega arith);
+  left = λ h. omega arith;
+  octet = λ v h below. absurd (omega arith);
+}
+widens scale two_bits = record {
+  some = lit< tt;
+  small = lit≤ tt;
+  narrow = λ _. seven_bits;
+  wide = λ h. absurd (omega arith);
+  left = λ h. omega arith;
+  octet = λ v h below. absurd (omega arith);
+}
+widens scale three_bits = record {
+  some = lit< tt;
+  small = lit≤ tt;
+  narrow = λ h. absurd (omega arith);
+  wide = λ h. no_bits;
+  left = λ h. lit< tt;
+  octet = λ v h below. omega arith;
+}
+widens scale four_bits = record {
+  some = lit< tt;
+  small = lit≤ tt;
+  narrow = λ h. absurd (omega arith);
+  wide = λ h. one_bit;
+  left = λ h. lit< tt;
+  octet = λ v h below. omega arith;
+}
+widens scale five_bits = record {
+  some = lit< tt;
+  small = lit≤ tt;
+  narrow = λ h. absurd (omega arith);
+  wide = λ h. two_bits;
+  left = λ h. lit< tt;
+  octet = λ v h below. omega arith;
+}
+widens scale six_bits = record {
+  some = lit< tt;
+  small = lit≤ tt;
+  narrow = λ h. absurd (omega arith);
+  wide = λ h. three_bits;
+  left = λ h. lit< tt;
+  octet = λ v h below. omega arith;
+}
+widens scale seven_bits = record {
+  some = lit< tt;
+  small = lit≤ tt;
+  narrow = λ h. absurd (omega arith);
+  wide = λ h. four_bits;
+  left = λ h. lit< tt;
+  octet = λ v h below. omega arith;
+}
 
 -- a text in Base 32 that is read up to a place
 pub record Digits (text octets : List ℕ) (scale rest at : ℕ) : Type 0 where
@@ -39,7 +95,8 @@ digits_begin text = record { scale_is = no_bits; below = lit< tt; read = refl }
 abbrev pub digit_at : List ℕ → ℕ → ℕ
 digit_at text at = unwrap_or (base32_value (get_or text at 0)) 0
 
-module _ (text octets : List ℕ) (scale rest at : ℕ) (inside : at < length text) (small : digit_at text at < 32) (so_far : Digits text octets scale rest at) where
+module _ (text octets : List ℕ) (scale rest at : ℕ) (inside : at < length text) (small : digit_at text at < 32)
+    (so_far : Digits text octets scale rest at) where
   pub digits_narrow : (32 * scale < 256) → Digits text octets (32 * scale) (32 * rest + digit_at text at) (at + 1)
   unfolding base32_octets
   digits_narrow low =
@@ -51,7 +108,8 @@ module _ (text octets : List ℕ) (scale rest at : ℕ) (inside : at < length te
         read = rw (drop_more text at 0 inside, test) at so_far.read;
       }
 
-  pub digits_wide : (256 ≤ 32 * scale) → Digits text (octets ++ ((32 * rest + digit_at text at) / (32 * scale / 256)) ∷ []) (32 * scale / 256) ((32 * rest + digit_at text at) % (32 * scale / 256)) (at + 1)
+  pub digits_wide : (256 ≤ 32 * scale) → Digits text (octets ++ ((32 * rest + digit_at text at) / (32 * scale / 256)) ∷ [])
+      (32 * scale / 256) ((32 * rest + digit_at text at) % (32 * scale / 256)) (at + 1)
   unfolding base32_octets
   digits_wide high =
       let w = widens scale so_far.scale_is in
@@ -64,7 +122,8 @@ module _ (text octets : List ℕ) (scale rest at : ℕ) (inside : at < length te
       }
 
 -- what is left of a text that is read to its end
-pub digits_end : (text octets : List ℕ) (scale rest at : ℕ) → length text ≤ at → Digits text octets scale rest at → octets ≡ base32_octets 1 0 (base32_digits text)
+pub digits_end : (text octets : List ℕ) (scale rest at : ℕ) → length text ≤ at → Digits text octets scale rest at
+    → octets ≡ base32_octets 1 0 (base32_digits text)
 unfolding base32_octets
 digits_end text octets scale rest at done so_far = sym (append-nil octets) ∙ rw (drop_all at text done) at so_far.read
 
@@ -74,7 +133,9 @@ unfolding encode_with
 encode_push table [] x = refl
 encode_push table (y ∷ ys) x = ap (λ l. get_or table (y / 16) 0 ∷ get_or table (y % 16) 0 ∷ l) (encode_push table ys x)
 
-pub encode_more : (table octets : List ℕ) (i : ℕ) → i < length octets → encode_with table (take (i + 1) octets) ≡ encode_with table (take i octets) ++ (get_or table (get_or octets i 0 / 16) 0 ∷ get_or table (get_or octets i 0 % 16) 0 ∷ [])
+pub encode_more : (table octets : List ℕ) (i : ℕ) → i < length octets
+    → encode_with table (take (i + 1) octets) ≡ encode_with table (take i octets)
+    ++ (get_or table (get_or octets i 0 / 16) 0 ∷ get_or table (get_or octets i 0 % 16) 0 ∷ [])
 encode_more table octets i inside = ap (encode_with table) (take_more octets i 0 inside) ∙ encode_push table (take i octets) (get_or octets i 0)
 
 pub encode_none : (table : List ℕ) → encode_with table [] ≡ []
@@ -82,9 +143,11 @@ unfolding encode_with
 encode_none table = refl
 
 -- the octets so far and those of the digits that are left are what the text stands for
-pub digits_stand : (text octets : List ℕ) (scale rest at : ℕ) (whole : List ℕ) → IsBase32 text whole → Digits text octets scale rest at → IsBase32 text (octets ++ base32_octets scale rest (base32_digits (drop at text)))
+pub digits_stand : (text octets : List ℕ) (scale rest at : ℕ) (whole : List ℕ) → IsBase32 text whole
+    → Digits text octets scale rest at → IsBase32 text (octets ++ base32_octets scale rest (base32_digits (drop at text)))
 digits_stand text octets scale rest at whole is so_far = record { digits = is.digits; whole = is.whole; value = so_far.read }
 
-pub digits_all : (text octets whole : List ℕ) (scale rest at : ℕ) → IsBase32 text whole → length text ≤ at → Digits text octets scale rest at → IsBase32 text octets
+pub digits_all : (text octets whole : List ℕ) (scale rest at : ℕ) → IsBase32 text whole → length text ≤ at
+    → Digits text octets scale rest at → IsBase32 text octets
 digits_all text octets whole scale rest at is done so_far =
     record { digits = is.digits; whole = is.whole; value = digits_end text octets scale rest at done so_far }

@@ -1,5 +1,6 @@
 -- texts that are gone through in pieces of 64 characters, and what each piece stands for
-use Rattle.std.proofs.Common.{◌≡◌, ◌≢◌, ℕ, zero, suc, ◌+◌, ◌*◌, ◌/◌, ◌%◌, ◌<◌, ◌≤◌, true, false, List, [], ◌∷◌, ◌++◌, length, take, drop, get_or, length-append, length-take, refl, sym, ap, subst, ◌∙◌, arith, inl, inr, Option, None, Some, Ok, Err}
+use Rattle.std.proofs.Common.{◌≡◌, ◌≢◌, ℕ, zero, suc, ◌+◌, ◌*◌, ◌/◌, ◌%◌, ◌<◌, ◌≤◌, true, false, List, [], ◌∷◌, ◌++◌, length}
+use Rattle.std.proofs.Common.{take, drop, get_or, length-append, length-take, refl, sym, ap, subst, ◌∙◌, arith, inl, inr, Option, None, Some, Ok, Err}
 use Rattle.std.specs.Prelude.{◌↔◌, Bool, not, nat_le, is_some, unwrap_or, IsTrue, MatchOption}
 use Rattle.std.specs.List.{AllPass}
 use Rattle.std.proofs.Math.ListN.{get_or-append, get_or-eq_default}
@@ -20,7 +21,8 @@ use Rattle.domain_octets.specs.Cut.{Cut}
 use Rattle.domain_octets.specs.Words.{AreOctets}
 use Rattle.domain_octets.proofs.CodecBackLemmas.{decodes_once}
 use Rattle.domain_octets.proofs.Base16Lemmas.{First, pairs_first}
-use Rattle.domain_octets.proofs.Base64Lemmas.{DecodesTo, split_pieces, nothing_decodes, bytes-drop, Passed, passed_none, passed_more, short_piece, decoded_length}
+use Rattle.domain_octets.proofs.Base64Lemmas.{DecodesTo, split_pieces, nothing_decodes, bytes-drop, Passed}
+use Rattle.domain_octets.proofs.Base64Lemmas.{passed_none, passed_more, short_piece, decoded_length}
 use Rattle.domain_octets.specs.declared.error.AppendError.{AppendError}
 use Rattle.domain_octets.specs.declared.error.AppendError.TheVariants.{ShortBuf, OutOfMemory}
 use Rattle.base64.specs.declared.decode.DecodeError.{DecodeError}
@@ -47,17 +49,20 @@ searched_none codec text = record { front = []; parts = refl; pass = λ i d belo
 pass-append : (codec : Codec) (front back : List ℕ) → AllPass (is_digit codec) front → AllPass (is_digit codec) back → AllPass (is_digit codec) (front ++ back)
 pass-append codec front back first second = All-append (λ c. is_digit codec c ≡ true) front back first second
 
-pub searched_more : (codec : Codec) (text left after : List ℕ) (c : ℕ) → Searched codec text left → left ≡ c ∷ after → is_digit codec c ≡ true → Searched codec text after
+pub searched_more : (codec : Codec) (text left after : List ℕ) (c : ℕ) → Searched codec text left → left ≡ c ∷ after
+    → is_digit codec c ≡ true → Searched codec text after
 searched_more codec text left after c so_far is digit = record {
   front = so_far.front ++ c ∷ [];
   parts = so_far.parts ∙ ap (λ l. so_far.front ++ l) is ∙ sym (append_assoc so_far.front (c ∷ []) after);
   pass = pass-append codec so_far.front (c ∷ []) so_far.pass (All-cons (λ x. is_digit codec x ≡ true) c [] digit (All-nil (λ x. is_digit codec x ≡ true)));
 }
 
-pub searched_other : (codec : Codec) (text left after : List ℕ) (c : ℕ) → Searched codec text left → left ≡ c ∷ after → is_digit codec c ≡ false → IsFirstOther codec text c
+pub searched_other : (codec : Codec) (text left after : List ℕ) (c : ℕ) → Searched codec text left → left ≡ c ∷ after
+    → is_digit codec c ≡ false → IsFirstOther codec text c
 searched_other codec text left after c so_far is other =
     let parts : text ≡ so_far.front ++ c ∷ after = so_far.parts ∙ ap (λ l. so_far.front ++ l) is in
-    let before : take (length so_far.front) text ≡ so_far.front = ap (take (length so_far.front)) parts ∙ take_at so_far.front (c ∷ after) (length so_far.front) refl in
+    let before : take (length so_far.front) text ≡ so_far.front = ap (take (length so_far.front)) parts
+    ∙ take_at so_far.front (c ∷ after) (length so_far.front) refl in
     record {
       place = length so_far.front;
       below = omega (arith, ap length parts, length-append so_far.front (c ∷ after));
@@ -74,12 +79,14 @@ pass_front : (codec : Codec) (front back : List ℕ) → AllPass (is_digit codec
 pass_front codec front back all = λ i d below. let here = all i d (omega (arith, length-append front back)) in rw (get_or-append front back d i below) at here
 
 pass_back : (codec : Codec) (front back : List ℕ) → AllPass (is_digit codec) (front ++ back) → AllPass (is_digit codec) back
-pass_back codec front back all = λ i d below. let here = all (length front + i) d (omega (arith, length-append front back)) in rw (get_or-append-add front back i d) at here
+pass_back codec front back all = λ i d below. let here = all (length front + i) d (omega (arith, length-append front back)) in rw
+    (get_or-append-add front back i d) at here
 
 -- ---- one piece after another
 
 -- what stands in a buffer is a piece, where the buffer is full or the text is over
-pub cut_at : (text buffer after : List ℕ) (count : ℕ) → length buffer ≡ 64 → text ≡ take count buffer ++ after → count ≤ 64 → (count < 64 → after ≡ []) → Cut text (take count buffer) after
+pub cut_at : (text buffer after : List ℕ) (count : ℕ) → length buffer ≡ 64 → text ≡ take count buffer ++ after → count ≤ 64
+    → (count < 64 → after ≡ []) → Cut text (take count buffer) after
 cut_at text buffer after count size parts small full =
     let same : length (take count buffer) ≡ count = omega (arith, length-take count buffer) in
     record { parts = parts; small = omega arith; full = λ short. full (omega arith) }
@@ -99,7 +106,8 @@ nothing Base16 = refl
 nothing Base32Hex = record { digits = λ i d below. absurd (omega arith); whole = refl; value = refl }
 nothing Base64 = subst (λ t. DecodesTo t []) (encode_of-nil standard) (decode_of-encode_of standard [] refl (λ i. omega arith))
 
-all_in_front : (codec : Codec) (text piece after octets : List ℕ) → Cut text piece after → after ≡ [] → Decodes codec text octets → Halves codec piece after octets
+all_in_front : (codec : Codec) (text piece after octets : List ℕ) → Cut text piece after → after ≡ [] → Decodes codec text octets
+    → Halves codec piece after octets
 all_in_front codec text piece after octets cut none decoded = record {
   front = octets;
   back = [];
@@ -109,7 +117,8 @@ all_in_front codec text piece after octets cut none decoded = record {
 }
 
 -- a pair of digits in Base 16, and those after it
-pair_more : (i a b octet : ℕ) (text rest : List ℕ) → pair_value a b i ≡ Ok octet → decode_pairs (i + 2) text ≡ Ok rest → decode_pairs i (a ∷ b ∷ text) ≡ Ok (octet ∷ rest)
+pair_more : (i a b octet : ℕ) (text rest : List ℕ) → pair_value a b i ≡ Ok octet → decode_pairs (i + 2) text ≡ Ok rest
+    → decode_pairs i (a ∷ b ∷ text) ≡ Ok (octet ∷ rest)
 pair_more i a b octet text rest pair read = decode_pairs-ok_pair i a b octet text pair ∙ ap (cons_byte octet) read
 
 -- pairs of digits, wherever they stand
@@ -129,7 +138,8 @@ record PairsOfTwo (i j : ℕ) (front back octets : List ℕ) : Type 0 where
   others : decode_pairs j back ≡ Ok second
   parts : octets ≡ first ++ second
 
-pairs_after : (i j a b : ℕ) (front back octets : List ℕ) (here : First a b (decode_pairs (i + 2) (front ++ back)) octets) → PairsOfTwo (i + 2) j front back here.rest → PairsOfTwo i j (a ∷ b ∷ front) back octets
+pairs_after : (i j a b : ℕ) (front back octets : List ℕ) (here : First a b (decode_pairs (i + 2) (front ++ back)) octets)
+    → PairsOfTwo (i + 2) j front back here.rest → PairsOfTwo i j (a ∷ b ∷ front) back octets
 pairs_after i j a b front back octets here more = record {
   first = here.octet ∷ more.first;
   second = more.second;
@@ -164,7 +174,8 @@ no_rest : (value : ℕ) (digits : List ℕ) → base32_octets 1 (value % 1) digi
 no_rest value digits = let none : value % 1 ≡ 0 = omega arith in ap (λ rest. base32_octets 1 rest digits) none
 
 -- eight digits are five octets
-eight : (a b c d e f g h : ℕ) (digits : List ℕ) → base32_octets 1 0 (a ∷ b ∷ c ∷ d ∷ e ∷ f ∷ g ∷ h ∷ digits) ≡ base32_octets 1 0 (a ∷ b ∷ c ∷ d ∷ e ∷ f ∷ g ∷ h ∷ []) ++ base32_octets 1 0 digits
+eight : (a b c d e f g h : ℕ) (digits : List ℕ) → base32_octets 1 0 (a ∷ b ∷ c ∷ d ∷ e ∷ f ∷ g ∷ h ∷ digits)
+    ≡ base32_octets 1 0 (a ∷ b ∷ c ∷ d ∷ e ∷ f ∷ g ∷ h ∷ []) ++ base32_octets 1 0 digits
 unfolding base32_octets
 eight a b c d e f g h digits =
     let one : ℕ = (32 * (32 * 0 + a) + b) % 4 in
@@ -187,7 +198,8 @@ eights (suc n) (a ∷ b ∷ c ∷ d ∷ e ∷ f ∷ []) back size = absurd (omeg
 eights (suc n) (a ∷ b ∷ c ∷ d ∷ e ∷ f ∷ g ∷ []) back size = absurd (omega arith)
 eights (suc n) (a ∷ b ∷ c ∷ d ∷ e ∷ f ∷ g ∷ h ∷ front) back size =
     let five : List ℕ = base32_octets 1 0 (a ∷ b ∷ c ∷ d ∷ e ∷ f ∷ g ∷ h ∷ []) in
-    eight a b c d e f g h (front ++ back) ∙ ap (λ l. five ++ l) (eights n front back (omega arith)) ∙ sym (append_assoc five (base32_octets 1 0 front) (base32_octets 1 0 back))
+    eight a b c d e f g h (front ++ back) ∙ ap (λ l. five ++ l) (eights n front back (omega arith))
+    ∙ sym (append_assoc five (base32_octets 1 0 front) (base32_octets 1 0 back))
     ∙ ap (λ l. l ++ base32_octets 1 0 back) (sym (eight a b c d e f g h front))
 
 halves32 : (piece after octets : List ℕ) → length piece ≡ 64 → IsBase32 (piece ++ after) octets → Halves Base32Hex piece after octets
@@ -198,10 +210,12 @@ halves32 piece after octets full decoded =
       back = base32_octets 1 0 (base32_digits after);
       first = record { digits = pass_front Base32Hex piece after decoded.digits; whole = rw full refl; value = refl };
       others = record { digits = pass_back Base32Hex piece after decoded.digits; whole = rw same at decoded.whole; value = refl };
-      parts = decoded.value ∙ ap (base32_octets 1 0) (map-append _ piece after) ∙ eights 8 (base32_digits piece) (base32_digits after) (length-map piece _ ∙ full);
+      parts = decoded.value ∙ ap (base32_octets 1 0) (map-append _ piece after)
+          ∙ eights 8 (base32_digits piece) (base32_digits after) (length-map piece _ ∙ full);
     }
 
-halves64 : (piece after octets : List ℕ) (c : ℕ) → IsBytes (piece ++ c ∷ after) → length piece ≡ 64 → DecodesTo (piece ++ c ∷ after) octets → Halves Base64 piece (c ∷ after) octets
+halves64 : (piece after octets : List ℕ) (c : ℕ) → IsBytes (piece ++ c ∷ after) → length piece ≡ 64
+    → DecodesTo (piece ++ c ∷ after) octets → Halves Base64 piece (c ∷ after) octets
 halves64 piece after octets c bytes full decoded =
     let parts = split_pieces (piece ++ c ∷ after) octets bytes (omega (arith, length-append piece (c ∷ after))) decoded in
     record {
@@ -212,12 +226,14 @@ halves64 piece after octets c bytes full decoded =
       parts = sym (take-append-drop 48 octets);
     }
 
-of_two : (codec : Codec) (piece after octets : List ℕ) (c : ℕ) → IsBytes (piece ++ c ∷ after) → length piece ≡ 64 → Decodes codec (piece ++ c ∷ after) octets → Halves codec piece (c ∷ after) octets
+of_two : (codec : Codec) (piece after octets : List ℕ) (c : ℕ) → IsBytes (piece ++ c ∷ after) → length piece ≡ 64
+    → Decodes codec (piece ++ c ∷ after) octets → Halves codec piece (c ∷ after) octets
 of_two Base16 piece after octets c bytes full decoded = halves16 piece (c ∷ after) octets full decoded
 of_two Base32Hex piece after octets c bytes full decoded = halves32 piece (c ∷ after) octets full decoded
 of_two Base64 piece after octets c bytes full decoded = halves64 piece after octets c bytes full decoded
 
-pub halves : (codec : Codec) (text piece after octets : List ℕ) → IsBytes text → Cut text piece after → Decodes codec text octets → Halves codec piece after octets
+pub halves : (codec : Codec) (text piece after octets : List ℕ) → IsBytes text → Cut text piece after → Decodes codec text octets
+    → Halves codec piece after octets
 halves codec text piece [] octets bytes cut decoded = all_in_front codec text piece [] octets cut refl decoded
 halves codec text piece (c ∷ after) octets bytes cut decoded = elim (cases_lt (length piece) 64) [
   | inl short ↦ cc (cut.full short)
@@ -248,7 +264,8 @@ pieces_begin codec text left built is none all decoded =
     subst (ReadPieces codec text left) (sym none)
     (subst (λ l. ReadPieces codec text l []) (sym is) (record { rest = decoded.0; decoded = decoded.1; whole = decoded.1; bytes = bytes_of text all }))
 
-pub pieces_next : (codec : Codec) (text left piece after built : List ℕ) → ReadPieces codec text left built → Cut left piece after → NextPiece codec text piece after built
+pub pieces_next : (codec : Codec) (text left piece after built : List ℕ) → ReadPieces codec text left built → Cut left piece after
+    → NextPiece codec text piece after built
 pieces_next codec text left piece after built so_far cut =
     let two = halves codec left piece after so_far.rest so_far.bytes cut so_far.decoded in
     let parts : built ++ so_far.rest ≡ (built ++ two.front) ++ two.back = ap (λ o. built ++ o) two.parts ∙ sym (append_assoc built two.front two.back) in
@@ -304,7 +321,8 @@ module _ (text left piece after : List ℕ) (so_far : Passed text left) (cut : C
       so_far.back octets (subst (λ t. DecodesTo t octets) (sym (cut.parts ∙ ap (λ l. piece ++ l) none ∙ append-nil piece)) read)
 
 -- one that stands for fewer than 48 octets is the last
-pub short_ends : (text left piece after rest octets : List ℕ) (c : ℕ) → Passed text left → Cut left piece after → after ≡ c ∷ rest → DecodesTo piece octets → length octets < 48 → IsText Base64 text → ⊥
+pub short_ends : (text left piece after rest octets : List ℕ) (c : ℕ) → Passed text left → Cut left piece after → after ≡ c ∷ rest
+    → DecodesTo piece octets → length octets < 48 → IsText Base64 text → ⊥
 short_ends text left piece after rest octets c so_far cut more read short is =
     let there : Cut left piece (c ∷ rest) = subst (λ a. Cut left piece a) more cut in
     let full = long_cut left piece rest c there in
@@ -313,16 +331,19 @@ short_ends text left piece after rest octets c so_far cut more read short is =
     short_piece text left so_far long is.0 is.1 octets (subst (λ t. DecodesTo t octets) (sym front) read) short
 
 -- so whether anything is left says whether it is a text
-pub short_decides : (text left piece after rest octets : List ℕ) (next : Option ℕ) (none : Bool) → Passed text left → Cut left piece after → is_some next ≡ not none
+pub short_decides : (text left piece after rest octets : List ℕ) (next : Option ℕ) (none : Bool) → Passed text left
+    → Cut left piece after → is_some next ≡ not none
     → MatchOption next ((after ≡ []) × (rest ≡ [])) (λ c. after ≡ c ∷ rest) → DecodesTo piece octets → length octets < 48 → IsTrue none ↔ IsText Base64 text
-short_decides text left piece after rest octets None true so_far cut told left_over read short = (λ yes. last_in_text text left piece after so_far cut octets read left_over.0, λ is. refl)
+short_decides text left piece after rest octets None true so_far cut told left_over read short =
+    (λ yes. last_in_text text left piece after so_far cut octets read left_over.0, λ is. refl)
 short_decides text left piece after rest octets None false so_far cut told left_over read short = cc told
 short_decides text left piece after rest octets (Some c) true so_far cut told left_over read short = cc told
 short_decides text left piece after rest octets (Some c) false so_far cut told left_over read short =
     (λ no. cc no, λ is. absurd (short_ends text left piece after rest octets c so_far cut left_over read short is))
 
 -- one that stands for 48 octets may be followed by others
-pub full_goes_on : (text left piece after octets : List ℕ) → Passed text left → Cut left piece after → DecodesTo piece octets → length octets ≡ 48 → Passed text after
+pub full_goes_on : (text left piece after octets : List ℕ) → Passed text left → Cut left piece after → DecodesTo piece octets
+    → length octets ≡ 48 → Passed text after
 full_goes_on text left piece [] octets so_far cut read full = record {
   back = λ none decoded. last_in_text text left piece [] so_far cut octets read refl;
   forth = λ whole decoded. ([], nothing Base64);
@@ -352,7 +373,12 @@ base32_short scale rest (digit ∷ digits) = elim (cases_Bool (nat_le 256 (32 * 
 
 no_longer : (codec : Codec) (text octets : List ℕ) → IsBytes text → Decodes codec text octets → length octets ≤ length text
 no_longer Base16 text octets bytes decoded = omega (arith, (decode_of-ok text octets decoded).2)
-no_longer Base32Hex text octets bytes decoded = omega (arith, ap length decoded.value, base32_short 1 0 (base32_digits text), length-map text (λ c. unwrap_or (base32_value c) 0))
+no_longer Base32Hex text octets bytes decoded = omega (
+  arith,
+  ap length decoded.value,
+  base32_short 1 0 (base32_digits text),
+  length-map text (λ c. unwrap_or (base32_value c) 0),
+)
 no_longer Base64 text octets bytes decoded = omega (arith, decoded_length text octets bytes decoded)
 
 -- an array of 64 octets takes those of a piece

@@ -47,15 +47,74 @@ record Head (scale rest : ℕ) (octets : List ℕ) : Type 0 where
 
 head : (scale rest : ℕ) (octets : List ℕ) → IsScale scale → scale < 32 → (scale ≡ 1 → octets ≢ []) → AreOctets octets → Head scale rest octets
 head scale rest [] no_bits narrow some small = absurd (some refl refl)
-head scale rest [] one_bit narrow some small = record { digit = (32 / 2) * rest; tail = []; is = last_left 2 rest one_bit narrow (λ e. omega arith); low = omega arith; high = omega arith }
-head scale rest [] two_bits narrow some small = record { digit = (32 / 4) * rest; tail = []; is = last_left 4 rest two_bits narrow (λ e. omega arith); low = omega arith; high = omega arith }
-head scale rest [] three_bits narrow some small = record { digit = (32 / 8) * rest; tail = []; is = last_left 8 rest three_bits narrow (λ e. omega arith); low = omega arith; high = omega arith }
-head scale rest [] four_bits narrow some small = record { digit = (32 / 16) * rest; tail = []; is = last_left 16 rest four_bits narrow (λ e. omega arith); low = omega arith; high = omega arith }
-head scale rest (x ∷ xs) no_bits narrow some small = let b = All-head (λ octet. octet < 256) x xs small in record { digit = (256 * rest + x) / (256 * 1 / 32); tail = digits_left (256 * 1 / 32) ((256 * rest + x) % (256 * 1 / 32)) xs; is = pulled_left 1 rest x xs no_bits narrow; low = omega arith; high = omega arith }
-head scale rest (x ∷ xs) one_bit narrow some small = let b = All-head (λ octet. octet < 256) x xs small in record { digit = (256 * rest + x) / (256 * 2 / 32); tail = digits_left (256 * 2 / 32) ((256 * rest + x) % (256 * 2 / 32)) xs; is = pulled_left 2 rest x xs one_bit narrow; low = omega arith; high = omega arith }
-head scale rest (x ∷ xs) two_bits narrow some small = let b = All-head (λ octet. octet < 256) x xs small in record { digit = (256 * rest + x) / (256 * 4 / 32); tail = digits_left (256 * 4 / 32) ((256 * rest + x) % (256 * 4 / 32)) xs; is = pulled_left 4 rest x xs two_bits narrow; low = omega arith; high = omega arith }
-head scale rest (x ∷ xs) three_bits narrow some small = let b = All-head (λ octet. octet < 256) x xs small in record { digit = (256 * rest + x) / (256 * 8 / 32); tail = digits_left (256 * 8 / 32) ((256 * rest + x) % (256 * 8 / 32)) xs; is = pulled_left 8 rest x xs three_bits narrow; low = omega arith; high = omega arith }
-head scale rest (x ∷ xs) four_bits narrow some small = let b = All-head (λ octet. octet < 256) x xs small in record { digit = (256 * rest + x) / (256 * 16 / 32); tail = digits_left (256 * 16 / 32) ((256 * rest + x) % (256 * 16 / 32)) xs; is = pulled_left 16 rest x xs four_bits narrow; low = omega arith; high = omega arith }
+head scale rest [] one_bit narrow some small = record {
+  digit = (32 / 2) * rest;
+  tail = [];
+  is = last_left 2 rest one_bit narrow (λ e. omega arith);
+  low = omega arith;
+  high = omega arith;
+}
+head scale rest [] two_bits narrow some small = record {
+  digit = (32 / 4) * rest;
+  tail = [];
+  is = last_left 4 rest two_bits narrow (λ e. omega arith);
+  low = omega arith;
+  high = omega arith;
+}
+head scale rest [] three_bits narrow some small = record {
+  digit = (32 / 8) * rest;
+  tail = [];
+  is = last_left 8 rest three_bits narrow (λ e. omega arith);
+  low = omega arith;
+  high = omega arith;
+}
+head scale rest [] four_bits narrow some small = record {
+  digit = (32 / 16) * rest;
+  tail = [];
+  is = last_left 16 rest four_bits narrow (λ e. omega arith);
+  low = omega arith;
+  high = omega arith;
+}
+head scale rest (x ∷ xs) no_bits narrow some small = let b =
+    All-head (λ octet. octet < 256) x xs small in record {
+      digit = (256 * rest + x) / (256 * 1 / 32);
+      tail = digits_left (256 * 1 / 32) ((256 * rest + x) % (256 * 1 / 32)) xs;
+      is = pulled_left 1 rest x xs no_bits narrow;
+      low = omega arith;
+      high = omega arith;
+    }
+head scale rest (x ∷ xs) one_bit narrow some small = let b =
+    All-head (λ octet. octet < 256) x xs small in record {
+      digit = (256 * rest + x) / (256 * 2 / 32);
+      tail = digits_left (256 * 2 / 32) ((256 * rest + x) % (256 * 2 / 32)) xs;
+      is = pulled_left 2 rest x xs one_bit narrow;
+      low = omega arith;
+      high = omega arith;
+    }
+head scale rest (x ∷ xs) two_bits narrow some small = let b =
+    All-head (λ octet. octet < 256) x xs small in record {
+      digit = (256 * rest + x) / (256 * 4 / 32);
+      tail = digits_left (256 * 4 / 32) ((256 * rest + x) % (256 * 4 / 32)) xs;
+      is = pulled_left 4 rest x xs two_bits narrow;
+      low = omega arith;
+      high = omega arith;
+    }
+head scale rest (x ∷ xs) three_bits narrow some small = let b =
+    All-head (λ octet. octet < 256) x xs small in record {
+      digit = (256 * rest + x) / (256 * 8 / 32);
+      tail = digits_left (256 * 8 / 32) ((256 * rest + x) % (256 * 8 / 32)) xs;
+      is = pulled_left 8 rest x xs three_bits narrow;
+      low = omega arith;
+      high = omega arith;
+    }
+head scale rest (x ∷ xs) four_bits narrow some small = let b =
+    All-head (λ octet. octet < 256) x xs small in record {
+      digit = (256 * rest + x) / (256 * 16 / 32);
+      tail = digits_left (256 * 16 / 32) ((256 * rest + x) % (256 * 16 / 32)) xs;
+      is = pulled_left 16 rest x xs four_bits narrow;
+      low = omega arith;
+      high = omega arith;
+    }
 head scale rest octets five_bits narrow some small = absurd (omega arith)
 head scale rest octets six_bits narrow some small = absurd (omega arith)
 head scale rest octets seven_bits narrow some small = absurd (omega arith)
@@ -71,13 +130,15 @@ apart scale r s xs ys five_bits narrow a b below = absurd (omega arith)
 apart scale r s xs ys six_bits narrow a b below = absurd (omega arith)
 apart scale r s xs ys seven_bits narrow a b below = absurd (omega arith)
 
-below_narrow : (scale r s : ℕ) (xs ys : List ℕ) → IsScale scale → scale < 32 → AreOctets xs → AreOctets ys → r < s → s < scale → slice_cmp nat_cmp (digits_left scale r xs) (digits_left scale s ys) ≡ Less
+below_narrow : (scale r s : ℕ) (xs ys : List ℕ) → IsScale scale → scale < 32 → AreOctets xs → AreOctets ys → r < s → s < scale
+    → slice_cmp nat_cmp (digits_left scale r xs) (digits_left scale s ys) ≡ Less
 below_narrow scale r s xs ys scale_is narrow xs_small ys_small below fits =
     let a = head scale r xs scale_is narrow (λ one none. omega (arith, one)) xs_small in
     let b = head scale s ys scale_is narrow (λ one none. omega (arith, one)) ys_small in
     rw (a.is, b.is) (head_less a.digit b.digit a.tail b.tail (apart scale r s xs ys scale_is narrow a b below))
 
-below_any : (scale r s : ℕ) (xs ys : List ℕ) → IsScale scale → AreOctets xs → AreOctets ys → r < s → s < scale → slice_cmp nat_cmp (digits_left scale r xs) (digits_left scale s ys) ≡ Less
+below_any : (scale r s : ℕ) (xs ys : List ℕ) → IsScale scale → AreOctets xs → AreOctets ys → r < s → s < scale
+    → slice_cmp nat_cmp (digits_left scale r xs) (digits_left scale s ys) ≡ Less
 below_any scale r s xs ys no_bits xs_small ys_small below fits = below_narrow 1 r s xs ys no_bits (lit< tt) xs_small ys_small below fits
 below_any scale r s xs ys one_bit xs_small ys_small below fits = below_narrow 2 r s xs ys one_bit (lit< tt) xs_small ys_small below fits
 below_any scale r s xs ys two_bits xs_small ys_small below fits = below_narrow 4 r s xs ys two_bits (lit< tt) xs_small ys_small below fits
@@ -86,9 +147,11 @@ below_any scale r s xs ys four_bits xs_small ys_small below fits = below_narrow 
 below_any scale r s xs ys five_bits xs_small ys_small below fits =
     digits_less (r / 1) (s / 1) (digits_left 1 (r % 1) xs) (digits_left 1 (s % 1) ys) (omega arith) (λ same. absurd (omega arith))
 below_any scale r s xs ys six_bits xs_small ys_small below fits =
-    digits_less (r / 2) (s / 2) (digits_left 2 (r % 2) xs) (digits_left 2 (s % 2) ys) (omega arith) (λ same. below_narrow 2 (r % 2) (s % 2) xs ys one_bit (lit< tt) xs_small ys_small (omega arith) (omega arith))
+    digits_less (r / 2) (s / 2) (digits_left 2 (r % 2) xs) (digits_left 2 (s % 2) ys) (omega arith)
+    (λ same. below_narrow 2 (r % 2) (s % 2) xs ys one_bit (lit< tt) xs_small ys_small (omega arith) (omega arith))
 below_any scale r s xs ys seven_bits xs_small ys_small below fits =
-    digits_less (r / 4) (s / 4) (digits_left 4 (r % 4) xs) (digits_left 4 (s % 4) ys) (omega arith) (λ same. below_narrow 4 (r % 4) (s % 4) xs ys two_bits (lit< tt) xs_small ys_small (omega arith) (omega arith))
+    digits_less (r / 4) (s / 4) (digits_left 4 (r % 4) xs) (digits_left 4 (s % 4) ys) (omega arith)
+    (λ same. below_narrow 4 (r % 4) (s % 4) xs ys two_bits (lit< tt) xs_small ys_small (omega arith) (omega arith))
 
 -- digits are left wherever bits are
 record Some (digits : List ℕ) : Type 0 where
@@ -114,7 +177,8 @@ nothing_first : (digits : List ℕ) → Some digits → slice_cmp nat_cmp [] dig
 nothing_first digits some = rw some.is refl
 
 -- what ends comes before what goes on
-ends_first : (scale rest y : ℕ) (ys : List ℕ) → IsScale scale → scale < 32 → rest < scale → AreOctets (y ∷ ys) → slice_cmp nat_cmp (digits_left scale rest []) (digits_left scale rest (y ∷ ys)) ≡ Less
+ends_first : (scale rest y : ℕ) (ys : List ℕ) → IsScale scale → scale < 32 → rest < scale → AreOctets (y ∷ ys)
+    → slice_cmp nat_cmp (digits_left scale rest []) (digits_left scale rest (y ∷ ys)) ≡ Less
 ends_first scale rest y ys scale_is narrow below small =
     let b = head scale rest (y ∷ ys) scale_is narrow (λ one none. cc) small in
     let t = pulled_digit scale rest y scale_is narrow below (All-head (λ octet. octet < 256) y ys small) in
@@ -124,7 +188,9 @@ ends_first scale rest y ys scale_is narrow below small =
           let low_other : 256 * scale / 32 ≢ 1 = (λ e. omega arith) in
           let more = some_left (256 * scale / 32) ((256 * rest + y) % (256 * scale / 32)) ys t.scale_is low_other in
           rw (last_left scale rest scale_is narrow other, pulled_left scale rest y ys scale_is narrow)
-          (digits_less ((32 / scale) * rest) ((256 * rest + y) / (256 * scale / 32)) [] (digits_left (256 * scale / 32) ((256 * rest + y) % (256 * scale / 32)) ys) (low_digit scale rest y scale_is narrow) (λ same. nothing_first _ more))
+          (digits_less ((32 / scale) * rest) ((256 * rest + y) / (256 * scale / 32)) []
+          (digits_left (256 * scale / 32) ((256 * rest + y) % (256 * scale / 32)) ys) (low_digit scale rest y scale_is narrow)
+          (λ same. nothing_first _ more))
     ]
   where
     low_digit : (k r x : ℕ) → IsScale k → k < 32 → (32 / k) * r ≤ (256 * r + x) / (256 * k / 32)
@@ -138,7 +204,8 @@ ends_first scale rest y ys scale_is narrow below small =
     low_digit k r x seven_bits n = absurd (omega arith)
 
 -- a lower octet comes first
-lower_first : (scale rest x y : ℕ) (xs ys : List ℕ) → IsScale scale → scale < 32 → rest < scale → AreOctets (x ∷ xs) → AreOctets (y ∷ ys) → x < y → slice_cmp nat_cmp (digits_left scale rest (x ∷ xs)) (digits_left scale rest (y ∷ ys)) ≡ Less
+lower_first : (scale rest x y : ℕ) (xs ys : List ℕ) → IsScale scale → scale < 32 → rest < scale → AreOctets (x ∷ xs)
+    → AreOctets (y ∷ ys) → x < y → slice_cmp nat_cmp (digits_left scale rest (x ∷ xs)) (digits_left scale rest (y ∷ ys)) ≡ Less
 lower_first scale rest x y xs ys scale_is narrow below xs_small ys_small lower =
     let t = pulled_digit scale rest y scale_is narrow below (All-head (λ octet. octet < 256) y ys ys_small) in
     let low = 256 * scale / 32 in
@@ -146,32 +213,46 @@ lower_first scale rest x y xs ys scale_is narrow below xs_small ys_small lower =
     let w = 256 * rest + y in
     rw (pulled_left scale rest x xs scale_is narrow, pulled_left scale rest y ys scale_is narrow)
     (digits_less (v / low) (w / low) (digits_left low (v % low) xs) (digits_left low (w % low) ys) (quotients v w low t.some (omega arith))
-    (λ same. below_any low (v % low) (w % low) xs ys t.scale_is (All-tail (λ octet. octet < 256) x xs xs_small) (All-tail (λ octet. octet < 256) y ys ys_small) (remainders v w low t.some (omega arith) same) t.below))
+    (λ same. below_any low (v % low) (w % low) xs ys t.scale_is (All-tail (λ octet. octet < 256) x xs xs_small)
+    (All-tail (λ octet. octet < 256) y ys ys_small) (remainders v w low t.some (omega arith) same) t.below))
   where
     quotients : (a b k : ℕ) → 0 < k → a < b → a / k ≤ b / k
-    quotients a b k some lt = elim (cases_lt (b / k) (a / k)) [ inl more ↦ absurd (let e : k * (b / k + 1) ≤ k * (a / k) = mul-le-mul_left k (omega arith) in omega (arith, e)) | inr upto ↦ upto ]
+    quotients a b k some lt = elim (cases_lt (b / k) (a / k)) [
+      | inl more ↦ absurd (let e : k * (b / k + 1) ≤ k * (a / k) = mul-le-mul_left k (omega arith) in omega (arith, e))
+      | inr
+          upto ↦ upto
+    ]
 
     remainders : (a b k : ℕ) → 0 < k → a < b → a / k ≡ b / k → a % k < b % k
     remainders a b k some lt same = let e : k * (a / k) ≡ k * (b / k) = ap (λ n. k * n) same in omega (arith, e)
 
 -- the order of octets, where the order is known after one octet more
-wide : (xs ys : List ℕ) → ((scale rest : ℕ) → IsScale scale → scale < 32 → rest < scale → slice_cmp nat_cmp (digits_left scale rest xs) (digits_left scale rest ys) ≡ slice_cmp nat_cmp xs ys) → (scale rest : ℕ) → IsScale scale → rest < scale → slice_cmp nat_cmp (digits_left scale rest xs) (digits_left scale rest ys) ≡ slice_cmp nat_cmp xs ys
+wide : (xs ys : List ℕ) → ((scale rest : ℕ) → IsScale scale → scale < 32 → rest < scale
+    → slice_cmp nat_cmp (digits_left scale rest xs) (digits_left scale rest ys) ≡ slice_cmp nat_cmp xs ys) → (scale rest : ℕ)
+    → IsScale scale → rest < scale → slice_cmp nat_cmp (digits_left scale rest xs) (digits_left scale rest ys)
+    ≡ slice_cmp nat_cmp xs ys
 wide xs ys narrow scale rest no_bits below = narrow 1 rest no_bits (lit< tt) below
 wide xs ys narrow scale rest one_bit below = narrow 2 rest one_bit (lit< tt) below
 wide xs ys narrow scale rest two_bits below = narrow 4 rest two_bits (lit< tt) below
 wide xs ys narrow scale rest three_bits below = narrow 8 rest three_bits (lit< tt) below
 wide xs ys narrow scale rest four_bits below = narrow 16 rest four_bits (lit< tt) below
-wide xs ys narrow scale rest five_bits below = head_same (rest / 1) (rest / 1) (digits_left 1 (rest % 1) xs) (digits_left 1 (rest % 1) ys) refl ∙ narrow 1 (rest % 1) no_bits (lit< tt) (omega arith)
-wide xs ys narrow scale rest six_bits below = head_same (rest / 2) (rest / 2) (digits_left 2 (rest % 2) xs) (digits_left 2 (rest % 2) ys) refl ∙ narrow 2 (rest % 2) one_bit (lit< tt) (omega arith)
-wide xs ys narrow scale rest seven_bits below = head_same (rest / 4) (rest / 4) (digits_left 4 (rest % 4) xs) (digits_left 4 (rest % 4) ys) refl ∙ narrow 4 (rest % 4) two_bits (lit< tt) (omega arith)
+wide xs ys narrow scale rest five_bits below = head_same (rest / 1) (rest / 1) (digits_left 1 (rest % 1) xs)
+    (digits_left 1 (rest % 1) ys) refl ∙ narrow 1 (rest % 1) no_bits (lit< tt) (omega arith)
+wide xs ys narrow scale rest six_bits below = head_same (rest / 2) (rest / 2) (digits_left 2 (rest % 2) xs)
+    (digits_left 2 (rest % 2) ys) refl ∙ narrow 2 (rest % 2) one_bit (lit< tt) (omega arith)
+wide xs ys narrow scale rest seven_bits below = head_same (rest / 4) (rest / 4) (digits_left 4 (rest % 4) xs)
+    (digits_left 4 (rest % 4) ys) refl ∙ narrow 4 (rest % 4) two_bits (lit< tt) (omega arith)
 
 turned : (xs ys : List ℕ) → slice_cmp nat_cmp ys xs ≡ Less → slice_cmp nat_cmp xs ys ≡ Greater
 turned xs ys below = (nat_list_cmp_total).antisymm xs ys ∙ ap ordering_reverse below
 
-keeps : (xs ys : List ℕ) → AreOctets xs → AreOctets ys → (scale rest : ℕ) → IsScale scale → scale < 32 → rest < scale → slice_cmp nat_cmp (digits_left scale rest xs) (digits_left scale rest ys) ≡ slice_cmp nat_cmp xs ys
+keeps : (xs ys : List ℕ) → AreOctets xs → AreOctets ys → (scale rest : ℕ) → IsScale scale → scale < 32 → rest < scale
+    → slice_cmp nat_cmp (digits_left scale rest xs) (digits_left scale rest ys) ≡ slice_cmp nat_cmp xs ys
 keeps [] [] xs_small ys_small scale rest scale_is narrow below = tied_itself nat_list_cmp_total (digits_left scale rest [])
 keeps [] (y ∷ ys) xs_small ys_small scale rest scale_is narrow below = ends_first scale rest y ys scale_is narrow below ys_small
-keeps (x ∷ xs) [] xs_small ys_small scale rest scale_is narrow below = turned (digits_left scale rest (x ∷ xs)) (digits_left scale rest []) (ends_first scale rest x xs scale_is narrow below xs_small)
+keeps (x ∷ xs) [] xs_small ys_small scale rest scale_is narrow below =
+    turned (digits_left scale rest (x ∷ xs)) (digits_left scale rest [])
+    (ends_first scale rest x xs scale_is narrow below xs_small)
 keeps (x ∷ xs) (y ∷ ys) xs_small ys_small scale rest scale_is narrow below =
     by_ranked _ _ _ (nat_cmp x y) (ranked x y (nat_cmp x y) refl)
     (λ is lower. lower_first scale rest x y xs ys scale_is narrow below xs_small ys_small lower ∙ sym (head_less x y xs ys lower))
@@ -180,8 +261,12 @@ keeps (x ∷ xs) (y ∷ ys) xs_small ys_small scale rest scale_is narrow below =
     let low = 256 * scale / 32 in
     let rest_keeps = keeps xs ys (All-tail (λ octet. octet < 256) x xs xs_small) (All-tail (λ octet. octet < 256) y ys ys_small) in
     rw (pulled_left scale rest x xs scale_is narrow, pulled_left scale rest y ys scale_is narrow, ← same)
-    (head_same ((256 * rest + x) / low) ((256 * rest + x) / low) (digits_left low ((256 * rest + x) % low) xs) (digits_left low ((256 * rest + x) % low) ys) refl ∙ wide xs ys rest_keeps low ((256 * rest + x) % low) t.scale_is t.below ∙ sym (head_same x x xs ys refl)))
-    (λ is higher. turned (digits_left scale rest (x ∷ xs)) (digits_left scale rest (y ∷ ys)) (lower_first scale rest y x ys xs scale_is narrow below ys_small xs_small higher) ∙ sym (turned (x ∷ xs) (y ∷ ys) (head_less y x ys xs higher)))
+    (head_same ((256 * rest + x) / low) ((256 * rest + x) / low) (digits_left low ((256 * rest + x) % low) xs)
+    (digits_left low ((256 * rest + x) % low) ys) refl ∙ wide xs ys rest_keeps low ((256 * rest + x) % low) t.scale_is t.below
+    ∙ sym (head_same x x xs ys refl)))
+    (λ is higher. turned (digits_left scale rest (x ∷ xs)) (digits_left scale rest (y ∷ ys))
+    (lower_first scale rest y x ys xs scale_is narrow below ys_small xs_small higher)
+    ∙ sym (turned (x ∷ xs) (y ∷ ys) (head_less y x ys xs higher)))
 
 pub digits_keep_order : (xs ys : List ℕ) → AreOctets xs → AreOctets ys → slice_cmp nat_cmp (base32_from 1 0 xs) (base32_from 1 0 ys) ≡ slice_cmp nat_cmp xs ys
 digits_keep_order xs ys xs_small ys_small = keeps xs ys xs_small ys_small 1 0 no_bits (lit< tt) (lit< tt)
@@ -207,10 +292,12 @@ upper_grows : (a b : ℕ) → a < b → upper_digit a < upper_digit b
 upper_grows a b below = grind (arith, nat_tests)
 
 pub lower_keeps : (xs ys : List ℕ) → AreOctets xs → AreOctets ys → slice_cmp nat_cmp (base32_lower xs) (base32_lower ys) ≡ slice_cmp nat_cmp xs ys
-lower_keeps xs ys xs_small ys_small = map_keeps lower_digit (digit_keeps lower_digit lower_grows) (base32_from 1 0 xs) (base32_from 1 0 ys) ∙ digits_keep_order xs ys xs_small ys_small
+lower_keeps xs ys xs_small ys_small = map_keeps lower_digit (digit_keeps lower_digit lower_grows) (base32_from 1 0 xs)
+    (base32_from 1 0 ys) ∙ digits_keep_order xs ys xs_small ys_small
 
 pub upper_keeps : (xs ys : List ℕ) → AreOctets xs → AreOctets ys → slice_cmp nat_cmp (base32_upper xs) (base32_upper ys) ≡ slice_cmp nat_cmp xs ys
-upper_keeps xs ys xs_small ys_small = map_keeps upper_digit (digit_keeps upper_digit upper_grows) (base32_from 1 0 xs) (base32_from 1 0 ys) ∙ digits_keep_order xs ys xs_small ys_small
+upper_keeps xs ys xs_small ys_small = map_keeps upper_digit (digit_keeps upper_digit upper_grows) (base32_from 1 0 xs)
+    (base32_from 1 0 ys) ∙ digits_keep_order xs ys xs_small ys_small
 
 -- what keeps the order tells octets apart
 apart_by : (f : List ℕ → List ℕ) (xs ys : List ℕ) → slice_cmp nat_cmp (f xs) (f ys) ≡ slice_cmp nat_cmp xs ys → f xs ≡ f ys → xs ≡ ys

@@ -27,7 +27,8 @@ join_push [] text some = absurd (some refl)
 join_push (x ∷ []) text some = sym (append_assoc x (32 ∷ []) text)
 join_push (x ∷ y ∷ rest) text some =
     ap (λ l. x ++ (32 ∷ l)) (join_push (y ∷ rest) text (λ e. cc))
-    ∙ sym (append_assoc x (32 ∷ (join_with_byte 32 (y ∷ rest) ++ 32 ∷ [])) text) ∙ ap (λ l. l ++ text) (sym (append_assoc x (32 ∷ join_with_byte 32 (y ∷ rest)) (32 ∷ [])))
+    ∙ sym (append_assoc x (32 ∷ (join_with_byte 32 (y ∷ rest) ++ 32 ∷ [])) text)
+    ∙ ap (λ l. l ++ text) (sym (append_assoc x (32 ∷ join_with_byte 32 (y ∷ rest)) (32 ∷ [])))
 
 not_none : (tokens : List (List ℕ)) (text : List ℕ) → tokens ++ text ∷ [] ≢ []
 not_none [] text e = cc
@@ -35,7 +36,8 @@ not_none (x ∷ xs) text e = cc
 
 pub line_first : (tokens : List (List ℕ)) (line text : List ℕ) → Line tokens true line → Line (tokens ++ text ∷ []) false (line ++ text)
 line_first tokens line text so_far = record {
-  joined = ap (λ l. l ++ text) (so_far.joined ∙ ap (join_with_byte 32) (so_far.none refl)) ∙ ap (λ l. join_with_byte 32 (l ++ text ∷ [])) (sym (so_far.none refl));
+  joined = ap (λ l. l ++ text) (so_far.joined ∙ ap (join_with_byte 32) (so_far.none refl))
+      ∙ ap (λ l. join_with_byte 32 (l ++ text ∷ [])) (sym (so_far.none refl));
   none = λ e. absurd (cc);
   some = λ _. not_none tokens text;
 }
@@ -48,11 +50,15 @@ line_next tokens line text so_far = record {
 }
 
 -- one piece more
-pub tokens_more : (pieces : List Piece) (i : ℕ) (piece : Piece) → take (i + 1) pieces ≡ take i pieces ++ piece ∷ [] → tokens_of (map piece_text (take (i + 1) pieces)) ≡ tokens_of (map piece_text (take i pieces)) ++ tokens_of (piece_text piece ∷ [])
+pub tokens_more : (pieces : List Piece) (i : ℕ) (piece : Piece) → take (i + 1) pieces ≡ take i pieces ++ piece ∷ []
+    → tokens_of (map piece_text (take (i + 1) pieces)) ≡ tokens_of (map piece_text (take i pieces))
+    ++ tokens_of (piece_text piece ∷ [])
 tokens_more pieces i piece is =
-    ap (λ l. tokens_of (map piece_text l)) is ∙ ap tokens_of (map-append piece_text (take i pieces) (piece ∷ [])) ∙ tokens_of-append (map piece_text (take i pieces)) (piece_text piece ∷ [])
+    ap (λ l. tokens_of (map piece_text l)) is ∙ ap tokens_of (map-append piece_text (take i pieces) (piece ∷ []))
+    ∙ tokens_of-append (map piece_text (take i pieces)) (piece_text piece ∷ [])
 
-pub line_more : (tokens : List (List ℕ)) (first : Bool) (line text : List ℕ) → Line tokens first line → Line (tokens ++ text ∷ []) false (line_with first line text)
+pub line_more : (tokens : List (List ℕ)) (first : Bool) (line text : List ℕ) → Line tokens first line
+    → Line (tokens ++ text ∷ []) false (line_with first line text)
 line_more tokens true line text so_far = line_first tokens line text so_far
 line_more tokens false line text so_far = line_next tokens line text so_far
 

@@ -68,7 +68,8 @@ back_more y ys l up = record {
       let g : (32 * (y / 32) + y % 32 / 1) / 1 ≡ y = omega arith in
       let m : (32 * (y / 32) + y % 32 / 1) % 1 ≡ 0 = omega arith in
       let n : y % 32 % 1 ≡ 0 = omega arith in
-      (λ i. ((32 * (32 * (d / 128) + d % 128 / 4) + v i) / 8) ∷ base32_octets 8 ((32 * (32 * (d / 128) + d % 128 / 4) + v i) % 8) ((w i / 1) ∷ base32_from 1 (w i % 1) ys))
+      (λ i. ((32 * (32 * (d / 128) + d % 128 / 4) + v i) / 8) ∷ base32_octets 8 ((32 * (32 * (d / 128) + d % 128 / 4) + v i) % 8)
+      ((w i / 1) ∷ base32_from 1 (w i % 1) ys))
       ∙ (λ i. e i ∷ base32_octets 8 (f i) ((y % 32 / 1) ∷ base32_from 1 (n i) ys))
       ∙ (λ i. d ∷ g i ∷ base32_octets 1 (m i) (base32_from 1 0 ys))
       ∙ ap (λ t. d ∷ y ∷ t) up.whole;
@@ -113,17 +114,35 @@ digits_none = record {
 digits_more : (y : ℕ) (ys : List ℕ) → y < 256 → Digits ys → Digits (y ∷ ys)
 unfolding base32_from
 digits_more y ys b up = record {
-  whole = λ r n l e. let h = up.three ((256 * r + y) % 8) (n + 1) (omega arith) (omega arith) in ((omega arith, h.0), onward n ((256 * r + y) / 8) (base32_from 8 ((256 * r + y) % 8) ys) h.1);
+  whole = λ r n l e. let h = up.three ((256 * r + y) % 8) (n + 1) (omega arith) (omega arith) in (
+    (omega arith, h.0),
+    onward n ((256 * r + y) / 8) (base32_from 8 ((256 * r + y) % 8) ys) h.1,
+  );
   three = λ r n l e.
-      let h = up.one ((256 * r + y) % 64 % 2) (n + 1 + 1) (omega arith) (omega arith) in
-      ((omega arith, (omega arith, h.0)), onward n ((256 * r + y) / 64) ((256 * r + y) % 64 / 2 ∷ base32_from 2 ((256 * r + y) % 64 % 2) ys) (onward (n + 1) ((256 * r + y) % 64 / 2) (base32_from 2 ((256 * r + y) % 64 % 2) ys) h.1));
-  one = λ r n l e. let h = up.four ((256 * r + y) % 16) (n + 1) (omega arith) (omega arith) in ((omega arith, h.0), onward n ((256 * r + y) / 16) (base32_from 16 ((256 * r + y) % 16) ys) h.1);
+      let h = up.one ((256 * r + y) % 64 % 2) (n + 1 + 1) (omega arith) (omega arith) in (
+        (omega arith, (omega arith, h.0)),
+        onward n ((256 * r + y) / 64)
+            ((256 * r + y) % 64 / 2 ∷ base32_from 2 ((256 * r + y) % 64 % 2) ys)
+            (onward (n + 1) ((256 * r + y) % 64 / 2) (base32_from 2 ((256 * r + y) % 64 % 2) ys) h.1),
+      );
+  one = λ r n l e. let h = up.four ((256 * r + y) % 16) (n + 1) (omega arith) (omega arith) in (
+    (omega arith, h.0),
+    onward n ((256 * r + y) / 16) (base32_from 16 ((256 * r + y) % 16) ys) h.1,
+  );
   four = λ r n l e.
-      let h = up.two ((256 * r + y) % 128 % 4) (n + 1 + 1) (omega arith) (omega arith) in
-      ((omega arith, (omega arith, h.0)), onward n ((256 * r + y) / 128) ((256 * r + y) % 128 / 4 ∷ base32_from 4 ((256 * r + y) % 128 % 4) ys) (onward (n + 1) ((256 * r + y) % 128 / 4) (base32_from 4 ((256 * r + y) % 128 % 4) ys) h.1));
+      let h = up.two ((256 * r + y) % 128 % 4) (n + 1 + 1) (omega arith) (omega arith) in (
+        (omega arith, (omega arith, h.0)),
+        onward n ((256 * r + y) / 128)
+            ((256 * r + y) % 128 / 4 ∷ base32_from 4 ((256 * r + y) % 128 % 4) ys)
+            (onward (n + 1) ((256 * r + y) % 128 / 4) (base32_from 4 ((256 * r + y) % 128 % 4) ys) h.1),
+      );
   two = λ r n l e.
-      let h = up.whole ((256 * r + y) % 32 % 1) (n + 1 + 1) (omega arith) (omega arith) in
-      ((omega arith, (omega arith, h.0)), onward n ((256 * r + y) / 32) ((256 * r + y) % 32 / 1 ∷ base32_from 1 ((256 * r + y) % 32 % 1) ys) (onward (n + 1) ((256 * r + y) % 32 / 1) (base32_from 1 ((256 * r + y) % 32 % 1) ys) h.1));
+      let h = up.whole ((256 * r + y) % 32 % 1) (n + 1 + 1) (omega arith) (omega arith) in (
+        (omega arith, (omega arith, h.0)),
+        onward n ((256 * r + y) / 32)
+            ((256 * r + y) % 32 / 1 ∷ base32_from 1 ((256 * r + y) % 32 % 1) ys)
+            (onward (n + 1) ((256 * r + y) % 32 / 1) (base32_from 1 ((256 * r + y) % 32 % 1) ys) h.1),
+      );
 }
 
 digits : (xs : List ℕ) → AllByRecursion (λ octet. octet < 256) xs → Digits xs

@@ -26,7 +26,8 @@ refused_length Base32Hex text refused octets decoded = let both : true ≡ false
 refused_length Base64 text refused octets decoded = refused.0 octets decoded
 
 -- a text that is refused is not refused for room
-pub refused_for_itself : {Y : Type 0} (codec : Codec) (limit : Option ℕ) (text : List ℕ) (e : DecodeError) (r : Result Y DecodeError) → IsErrAnd r (λ y. y ≡ e) → TextFault codec text e
+pub refused_for_itself : {Y : Type 0} (codec : Codec) (limit : Option ℕ) (text : List ℕ) (e : DecodeError)
+    (r : Result Y DecodeError) → IsErrAnd r (λ y. y ≡ e) → TextFault codec text e
     → IsErrOf r ShortBuf ↔ HasNoRoom codec limit text
 refused_for_itself codec limit text e (Ok y) is why = absurd is
 refused_for_itself codec limit text (IllegalChar c) (Err d) is why = (λ short. cc, λ none. absurd (refused_char codec text c why none.0 none.1))

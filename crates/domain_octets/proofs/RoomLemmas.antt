@@ -24,12 +24,15 @@ room_for_part limit x r built part after is grown short over =
     cc
 
 -- where a part has no room, neither has the whole
-pub no_room_for_whole : (limit : Option ℕ) (built part rest whole : List ℕ) → (built ++ part) ++ rest ≡ whole → IsOver limit (length built + length part) → IsOver limit (length whole)
+pub no_room_for_whole : (limit : Option ℕ) (built part rest whole : List ℕ) → (built ++ part) ++ rest ≡ whole
+    → IsOver limit (length built + length part) → IsOver limit (length whole)
 no_room_for_whole limit built part rest whole parts over =
-    over_more limit (length built + length part) (length whole) (omega (arith, ap length parts, length-append (built ++ part) rest, length-append built part)) over
+    over_more limit (length built + length part) (length whole)
+    (omega (arith, ap length parts, length-append (built ++ part) rest, length-append built part)) over
 
 -- a part that is refused on the way to the octets of a text
-pub build_stops : {X : Type 0} (codec : Codec) (limit : Option ℕ) (text built part rest : List ℕ) (r : Result X AppendError) (e : AppendError) → r ≡ Err e → Decodes codec text ((built ++ part) ++ rest)
+pub build_stops : {X : Type 0} (codec : Codec) (limit : Option ℕ) (text built part rest : List ℕ) (r : Result X AppendError)
+    (e : AppendError) → r ≡ Err e → Decodes codec text ((built ++ part) ++ rest)
     → IsErrOf r ShortBuf ↔ IsOver limit (length built + length part) → (IsErrOf r OutOfMemory → IsNone limit) → BuildFault codec limit text e
 build_stops codec limit text built part rest r ShortBuf is decoded short memory =
     ((built ++ part) ++ rest, decoded, no_room_for_whole limit built part rest ((built ++ part) ++ rest) refl (short.0 (rw is refl)))

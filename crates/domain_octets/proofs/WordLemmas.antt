@@ -44,7 +44,8 @@ next_after : (word front text : List ℕ) → IsWord text → words_after word (
 unfolding words_after
 next_after word [] text is = ap (λ l. word_if_any word ++ l) (one_word text is)
 next_after word (c ∷ front) text is = elim (cases_Bool (c == 32)) [
-  | inl space ↦ rw space (ap (λ l. word_if_any word ++ l) (next_after [] front text is) ∙ sym (append_assoc (word_if_any word) (words_after [] front) (text ∷ [])))
+  | inl space ↦ rw space (ap (λ l. word_if_any word ++ l) (next_after [] front text is)
+      ∙ sym (append_assoc (word_if_any word) (words_after [] front) (text ∷ [])))
   | inr other ↦ rw other (next_after (word ++ c ∷ []) front text is)
 ]
 
@@ -104,7 +105,8 @@ not_true b h = grind (arith, nat_tests)
 -- which a test finds
 table_plain : (table : List ℕ) → list_all (λ c. not (c == 32)) table ≡ true → NoSpaceIn table
 table_plain table all i = elim (cases_lt i (length table)) [
-  | inl inside ↦ not_true (get_or table i 0 == 32) (All-get_or (λ c. not (c == 32) ≡ true) table i 0 inside (AllPass-from_list_all (λ c. not (c == 32)) table all))
+  | inl inside ↦ not_true (get_or table i 0 == 32) (All-get_or (λ c. not (c == 32) ≡ true) table i 0 inside
+      (AllPass-from_list_all (λ c. not (c == 32)) table all))
   | inr past ↦ let e : get_or table i 0 ≡ 0 = get_or-eq_default table 0 (omega arith) in rw e refl
 ]
 
@@ -145,10 +147,16 @@ base32_some [] some = absurd (some refl)
 base32_some (octet ∷ octets) some = λ none. cc
 
 pub upper_base32_word : (octets : List ℕ) → octets ≢ [] → IsWord (base32_upper octets)
-upper_base32_word octets some = record { some = map_some upper_digit (base32_from 1 0 octets) (base32_some octets some); unbroken = map_plain upper_digit upper_plain (base32_from 1 0 octets) }
+upper_base32_word octets some = record {
+  some = map_some upper_digit (base32_from 1 0 octets) (base32_some octets some);
+  unbroken = map_plain upper_digit upper_plain (base32_from 1 0 octets);
+}
 
 pub lower_base32_word : (octets : List ℕ) → octets ≢ [] → IsWord (base32_lower octets)
-lower_base32_word octets some = record { some = map_some lower_digit (base32_from 1 0 octets) (base32_some octets some); unbroken = map_plain lower_digit lower_plain (base32_from 1 0 octets) }
+lower_base32_word octets some = record {
+  some = map_some lower_digit (base32_from 1 0 octets) (base32_some octets some);
+  unbroken = map_plain lower_digit lower_plain (base32_from 1 0 octets);
+}
 
 symbols_plain : (table octets : List ℕ) → NoSpaceIn table → HasNoSpace (encode_symbols table octets)
 unfolding encode_symbols
@@ -172,13 +180,17 @@ padding_plain (suc n) = (refl, padding_plain n)
 pub base64_word : (octets : List ℕ) → octets ≢ [] → IsWord (encode_of standard octets)
 base64_word octets some = record {
   some = symbols_some standard.encode_table octets (replicate (padding_len (length octets)) 61) some;
-  unbroken = no_space-append (encode_symbols standard.encode_table octets) (replicate (padding_len (length octets)) 61) (symbols_plain standard.encode_table octets (table_plain standard.encode_table refl)) (padding_plain (padding_len (length octets)));
+  unbroken = no_space-append (encode_symbols standard.encode_table octets) (replicate (padding_len (length octets)) 61)
+      (symbols_plain standard.encode_table octets (table_plain standard.encode_table refl))
+      (padding_plain (padding_len (length octets)));
 }
 
 -- ---- texts that may have no characters
 
 pub base64_plain : (octets : List ℕ) → HasNoSpace (encode_of standard octets)
-base64_plain octets = no_space-append (encode_symbols standard.encode_table octets) (replicate (padding_len (length octets)) 61) (symbols_plain standard.encode_table octets (table_plain standard.encode_table refl)) (padding_plain (padding_len (length octets)))
+base64_plain octets = no_space-append (encode_symbols standard.encode_table octets) (replicate (padding_len (length octets)) 61)
+    (symbols_plain standard.encode_table octets (table_plain standard.encode_table refl))
+    (padding_plain (padding_len (length octets)))
 
 pub upper_hex_plain : (octets : List ℕ) → HasNoSpace (encode_upper octets)
 upper_hex_plain octets = hex_plain upper_digits octets (table_plain upper_digits refl)
@@ -200,7 +212,8 @@ joined_after : (word front text : List ℕ) → words_after word ((front ++ 32 �
 unfolding words_after
 joined_after word [] text = refl
 joined_after word (c ∷ front) text = elim (cases_Bool (c == 32)) [
-  | inl space ↦ rw space (ap (λ l. word_if_any word ++ l) (joined_after [] front text) ∙ sym (append_assoc (word_if_any word) (words_after [] front) (words_of text)))
+  | inl space ↦ rw space (ap (λ l. word_if_any word ++ l) (joined_after [] front text)
+      ∙ sym (append_assoc (word_if_any word) (words_after [] front) (words_of text)))
   | inr other ↦ rw other (joined_after (word ++ c ∷ []) front text)
 ]
 

@@ -8,7 +8,8 @@ use Rattle.domain_base.specs.Scan.{ScanFault, illegal, IsOfTokens, IsNumber, IsN
 use Rattle.domain_base.proofs.RefusalLemmas.{entry_one_fault}
 use Rattle.domain_fields.specs.Entry.{Spells, RefusesEntry}
 use Rattle.domain_fields.specs.Sequence.{OneToken, Both, RefusesBoth}
-use Rattle.domain_fields.proofs.GrammarLemmas.{ReadsOnce, Excludes, OneFault, one_token, token_refused, token_once_refused, both_once, both_refused, both_one_fault, same_fields, same_octets, entry_apart}
+use Rattle.domain_fields.proofs.GrammarLemmas.{ReadsOnce, Excludes, OneFault, one_token, token_refused, token_once_refused}
+use Rattle.domain_fields.proofs.GrammarLemmas.{both_once, both_refused, both_one_fault, same_fields, same_octets, entry_apart}
 use Rattle.domain_plain.specs.Generic.{GenericText, GenericFault, IsNoMark, generic_mark, no_mark, no_count, no_data, other_count}
 
 after_mark : (old between : List (List ℕ)) → TakesToken (λ text. text ≡ generic_mark) old between → old ≡ generic_mark ∷ between
@@ -17,20 +18,27 @@ after_mark old between mark = mark.first ∙ ap (λ token. token ∷ between) ma
 pub mark_refused : (limit : Option ℕ) (old new : List (List ℕ)) (fault : ScanFault) → RefusesToken IsNoMark old new fault → GenericFault limit old new fault
 mark_refused limit old new fault h = no_mark old new fault h
 
-pub count_refused : (limit : Option ℕ) (old between new : List (List ℕ)) (fault : ScanFault) → TakesToken (λ text. text ≡ generic_mark) old between → RefusesToken (IsNoNumber 16) between new fault → GenericFault limit old new fault
-count_refused limit old between new fault mark h = subst (λ o. GenericFault limit o new fault) (sym (after_mark old between mark)) (no_count between new fault h)
+pub count_refused : (limit : Option ℕ) (old between new : List (List ℕ)) (fault : ScanFault)
+    → TakesToken (λ text. text ≡ generic_mark) old between → RefusesToken (IsNoNumber 16) between new fault
+    → GenericFault limit old new fault
+count_refused limit old between new fault mark h = subst (λ o. GenericFault limit o new fault) (sym (after_mark old between mark))
+    (no_count between new fault h)
 
-module _ (limit : Option ℕ) (old between digits : List (List ℕ)) (n : ℕ) (mark : TakesToken (λ text. text ≡ generic_mark) old between) (count : TakesToken (λ text. IsNumber 16 text n) between digits) where
+module _ (limit : Option ℕ) (old between digits : List (List ℕ)) (n : ℕ)
+    (mark : TakesToken (λ text. text ≡ generic_mark) old between)
+    (count : TakesToken (λ text. IsNumber 16 text n) between digits) where
   parts : old ≡ generic_mark ∷ count.token ∷ digits
   parts = after_mark old between mark ∙ ap (λ t. generic_mark ∷ t) count.first
 
   pub data_refused : (new : List (List ℕ)) (fault : ScanFault) → EntryFault Base16 limit fault digits → IsEnd new digits → GenericFault limit old new fault
   data_refused new fault h end = subst (λ o. GenericFault limit o new fault) (sym parts) (no_data count.token n digits new fault count.holds h end)
 
-  pub count_differs : (new : List (List ℕ)) (octets : List ℕ) → new ≡ [] → Decodes Base16 (concat digits) octets → HasRoom limit (length octets) → n ≢ length octets → GenericFault limit old new (illegal (codes "illegal data"))
+  pub count_differs : (new : List (List ℕ)) (octets : List ℕ) → new ≡ [] → Decodes Base16 (concat digits) octets
+      → HasRoom limit (length octets) → n ≢ length octets → GenericFault limit old new (illegal (codes "illegal data"))
   count_differs new octets none decoded room other =
       subst (λ t. GenericFault limit old t (illegal (codes "illegal data"))) (sym none)
-      (subst (λ o. GenericFault limit o [] (illegal (codes "illegal data"))) (sym parts) (other_count count.token n digits octets count.holds decoded room other))
+      (subst (λ o. GenericFault limit o [] (illegal (codes "illegal data"))) (sym parts)
+      (other_count count.token n digits octets count.holds decoded room other))
 
 pub ruleset generic = (mark_refused, count_refused, data_refused, count_differs)
 
@@ -63,7 +71,8 @@ module _ (limit : Option ℕ) where
   number_apart = token_refused limit (IsNumber 16) (IsNoNumber 16) (λ fault text n why is own. why.none n is)
 
   head_apart : Excludes limit Head RefusesHead
-  head_apart = both_refused limit (OneToken IsMark) (OneToken (IsNumber 16)) (RefusesToken IsNoMark) (RefusesToken (IsNoNumber 16)) mark_once mark_apart number_apart
+  head_apart = both_refused limit (OneToken IsMark) (OneToken (IsNumber 16)) (RefusesToken IsNoMark)
+      (RefusesToken (IsNoNumber 16)) mark_once mark_apart number_apart
 
   head_one_fault : OneFault limit RefusesHead
   head_one_fault =
@@ -110,10 +119,13 @@ text_spells old octets is = record {
 }
 
 module _ (limit : Option ℕ) (old : List (List ℕ)) where
-  data_apart : (new : List (List ℕ)) (fault : ScanFault) → IsOfTokens limit fault → (n : ℕ) (octets : List ℕ) → Spells Head Base16 old (tt, n) octets → RefusesEntry Head limit Base16 old new fault → ⊥
-  data_apart new fault own n octets is why = entry_apart limit Head RefusesHead head_once (head_apart limit) (λ v found. ⊥) Base16 old new fault own (tt, n) octets is why
+  data_apart : (new : List (List ℕ)) (fault : ScanFault) → IsOfTokens limit fault → (n : ℕ) (octets : List ℕ)
+      → Spells Head Base16 old (tt, n) octets → RefusesEntry Head limit Base16 old new fault → ⊥
+  data_apart new fault own n octets is why = entry_apart limit Head RefusesHead head_once (head_apart limit)
+      (λ v found. ⊥) Base16 old new fault own (tt, n) octets is why
 
-  told_apart : (new : List (List ℕ)) (fault : ScanFault) (octets : List ℕ) → IsOfTokens limit fault → Spells Head Base16 old (tt, length octets) octets → Told limit old new fault → ⊥
+  told_apart : (new : List (List ℕ)) (fault : ScanFault) (octets : List ℕ) → IsOfTokens limit fault
+      → Spells Head Base16 old (tt, length octets) octets → Told limit old new fault → ⊥
   told_apart new fault octets own text (inl p) = head_apart limit old new text.entry (tt, length octets) fault p text.fields own
   told_apart new fault octets own text (inr (inl p)) = data_apart new fault own (length octets) octets text p
   told_apart new fault octets own text (inr (inr p)) =
@@ -122,7 +134,8 @@ module _ (limit : Option ℕ) (old : List (List ℕ)) where
       p.other (ap (λ (v : Unit {0} × ℕ). v.1) heads ∙ ap length (sym all))
 
   -- what is refused, but for want of room or memory, is no generic text
-  pub refused_is_no_text : (new : List (List ℕ)) (fault : ScanFault) (octets : List ℕ) → GenericFault limit old new fault → GenericText old octets → IsOfTokens limit fault → ⊥
+  pub refused_is_no_text : (new : List (List ℕ)) (fault : ScanFault) (octets : List ℕ) → GenericFault limit old new fault
+      → GenericText old octets → IsOfTokens limit fault → ⊥
   refused_is_no_text new fault octets why is own = told_apart new fault octets own (text_spells old octets is) (told limit old new fault why)
 
   told_once : (m n : List (List ℕ)) (x y : ScanFault) → IsOfTokens limit x → IsOfTokens limit y → Told limit old m x → Told limit old n y → x ≡ y
@@ -138,5 +151,6 @@ module _ (limit : Option ℕ) (old : List (List ℕ)) where
   told_once m n x y own also (inr (inr p)) (inr (inl q)) = absurd (data_apart n y also p.n p.octets p.spelled q)
   told_once m n x y own also (inr (inr p)) (inr (inr q)) = p.said ∙ sym q.said
 
-  pub generic_one_fault : (m n : List (List ℕ)) (x y : ScanFault) → GenericFault limit old m x → GenericFault limit old n y → IsOfTokens limit x → IsOfTokens limit y → x ≡ y
+  pub generic_one_fault : (m n : List (List ℕ)) (x y : ScanFault) → GenericFault limit old m x → GenericFault limit old n y
+      → IsOfTokens limit x → IsOfTokens limit y → x ≡ y
   generic_one_fault m n x y first second own also = told_once m n x y own also (told limit old m x first) (told limit old n y second)

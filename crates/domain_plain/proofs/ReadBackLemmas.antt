@@ -49,7 +49,8 @@ four_back w x y z w_small x_small y_small z_small = record {
   holds = (record { a = w; b = x; c = y; d = z; fit = (w_small, x_small, y_small, z_small); value = refl; spelled = refl }, refl);
 }
 
-pub a_back : (octets : List ℕ) → length octets ≡ 4 → slice_index octets 0 < 256 → slice_index octets 1 < 256 → slice_index octets 2 < 256 → slice_index octets 3 < 256 → Scans a (words_of (ipv4_text octets)) octets []
+pub a_back : (octets : List ℕ) → length octets ≡ 4 → slice_index octets 0 < 256 → slice_index octets 1 < 256
+    → slice_index octets 2 < 256 → slice_index octets 3 < 256 → Scans a (words_of (ipv4_text octets)) octets []
 a_back [] four w_small x_small y_small z_small = absurd (omega (arith, four))
 a_back (w ∷ []) four w_small x_small y_small z_small = absurd (omega (arith, four))
 a_back (w ∷ x ∷ []) four w_small x_small y_small z_small = absurd (omega (arith, four))
@@ -60,9 +61,11 @@ a_back (w ∷ x ∷ y ∷ z ∷ v ∷ more) four w_small x_small y_small z_small
 -- ---- names and numbers
 
 pub ns_back : (labels : List (List ℕ)) → IsName labels → Scans ns (words_of (name_text labels ++ 46 ∷ [])) labels []
-ns_back labels valid = fields_alone ns labels (words_of (name_text labels ++ 46 ∷ [])) (one_word (name_text labels ++ 46 ∷ []) (name_word labels valid)) refl valid
+ns_back labels valid = fields_alone ns labels (words_of (name_text labels ++ 46 ∷ []))
+    (one_word (name_text labels ++ 46 ∷ []) (name_word labels valid)) refl valid
 
-pub mx_back : (n : ℕ) (labels : List (List ℕ)) → n < 2 ^ 16 → IsName labels → Scans mx (words_of (decimal n ++ 32 ∷ [] ++ name_text labels ++ 46 ∷ [])) (n, labels) []
+pub mx_back : (n : ℕ) (labels : List (List ℕ)) → n < 2 ^ 16 → IsName labels
+    → Scans mx (words_of (decimal n ++ 32 ∷ [] ++ name_text labels ++ 46 ∷ [])) (n, labels) []
 mx_back n labels small valid =
     let number = decimal_word n (omega (arith, small)) in
     fields_alone mx (n, labels) (words_of (decimal n ++ 32 ∷ [] ++ name_text labels ++ 46 ∷ []))
@@ -71,18 +74,26 @@ mx_back n labels small valid =
     ∙ ap (λ l. l ++ (name_text labels ++ 46 ∷ []) ∷ []) (one_word (decimal n) number))
     refl (small, valid)
 
-pub soa_back : (m r : List (List ℕ)) (serial refresh retry expire minimum : ℕ) → IsName m → IsName r → serial < 2 ^ 32 → refresh < 2 ^ 32 → retry < 2 ^ 32 → expire < 2 ^ 32 → minimum < 2 ^ 32
-    → Scans soa (words_of ((name_text m ++ 46 ∷ []) ++ 32 ∷ ((name_text r ++ 46 ∷ []) ++ 32 ∷ (decimal serial ++ 32 ∷ (decimal refresh ++ 32 ∷ (decimal retry ++ 32 ∷ (decimal expire ++ 32 ∷ decimal minimum)))))))
+pub soa_back : (m r : List (List ℕ)) (serial refresh retry expire minimum : ℕ) → IsName m → IsName r → serial < 2 ^ 32
+    → refresh < 2 ^ 32 → retry < 2 ^ 32 → expire < 2 ^ 32 → minimum < 2 ^ 32
+    → Scans soa (words_of ((name_text m ++ 46 ∷ []) ++ 32 ∷ ((name_text r ++ 46 ∷ [])
+    ++ 32 ∷ (decimal serial ++ 32 ∷ (decimal refresh ++ 32 ∷ (decimal retry
+    ++ 32 ∷ (decimal expire ++ 32 ∷ decimal minimum)))))))
     ((m, r), ((serial, (refresh, retry)), (expire, minimum))) []
 soa_back m r serial refresh retry expire minimum m_valid r_valid a_small b_small c_small d_small e_small =
     let fifth = one_word (decimal minimum) (decimal_word minimum (omega (arith, e_small))) in
     let fourth = first_word (decimal expire) (decimal minimum) (decimal_word expire (omega (arith, d_small))) ∙ ap (λ l. decimal expire ∷ l) fifth in
-    let third = first_word (decimal retry) (decimal expire ++ 32 ∷ decimal minimum) (decimal_word retry (omega (arith, c_small))) ∙ ap (λ l. decimal retry ∷ l) fourth in
-    let second = first_word (decimal refresh) (decimal retry ++ 32 ∷ (decimal expire ++ 32 ∷ decimal minimum)) (decimal_word refresh (omega (arith, b_small))) ∙ ap (λ l. decimal refresh ∷ l) third in
-    let numbers = first_word (decimal serial) (decimal refresh ++ 32 ∷ (decimal retry ++ 32 ∷ (decimal expire ++ 32 ∷ decimal minimum))) (decimal_word serial (omega (arith, a_small))) ∙ ap (λ l. decimal serial ∷ l) second in
+    let third = first_word (decimal retry) (decimal expire ++ 32 ∷ decimal minimum) (decimal_word retry (omega (arith, c_small)))
+    ∙ ap (λ l. decimal retry ∷ l) fourth in
+    let second = first_word (decimal refresh) (decimal retry ++ 32 ∷ (decimal expire ++ 32 ∷ decimal minimum))
+    (decimal_word refresh (omega (arith, b_small))) ∙ ap (λ l. decimal refresh ∷ l) third in
+    let numbers = first_word (decimal serial) (decimal refresh
+    ++ 32 ∷ (decimal retry ++ 32 ∷ (decimal expire ++ 32 ∷ decimal minimum))) (decimal_word serial (omega (arith, a_small)))
+    ∙ ap (λ l. decimal serial ∷ l) second in
     let after = decimal serial ++ 32 ∷ (decimal refresh ++ 32 ∷ (decimal retry ++ 32 ∷ (decimal expire ++ 32 ∷ decimal minimum))) in
     let names = first_word (name_text r ++ 46 ∷ []) after (name_word r r_valid) ∙ ap (λ l. (name_text r ++ 46 ∷ []) ∷ l) numbers in
-    fields_alone soa ((m, r), ((serial, (refresh, retry)), (expire, minimum))) (words_of ((name_text m ++ 46 ∷ []) ++ 32 ∷ ((name_text r ++ 46 ∷ []) ++ 32 ∷ after)))
+    fields_alone soa ((m, r), ((serial, (refresh, retry)), (expire, minimum)))
+    (words_of ((name_text m ++ 46 ∷ []) ++ 32 ∷ ((name_text r ++ 46 ∷ []) ++ 32 ∷ after)))
     (first_word (name_text m ++ 46 ∷ []) ((name_text r ++ 46 ∷ []) ++ 32 ∷ after) (name_word m m_valid) ∙ ap (λ l. (name_text m ++ 46 ∷ []) ∷ l) names)
     refl ((m_valid, r_valid), ((a_small, (b_small, c_small)), (d_small, e_small)))
 
@@ -99,7 +110,8 @@ pub generic_back : (octets : List ℕ) → All (λ octet. octet < 256) octets �
 generic_back [] small fits = record {
   count = decimal 0;
   digits = [];
-  parts = ap words_of (append-nil (generic_mark ++ 32 ∷ decimal 0)) ∙ first_word generic_mark (decimal 0) mark_word ∙ ap (λ l. generic_mark ∷ l) (one_word (decimal 0) (decimal_word 0 (omega arith)));
+  parts = ap words_of (append-nil (generic_mark ++ 32 ∷ decimal 0)) ∙ first_word generic_mark (decimal 0) mark_word
+      ∙ ap (λ l. generic_mark ∷ l) (one_word (decimal 0) (decimal_word 0 (omega arith)));
   counted = number_back 16 0 (omega arith) (omega arith);
   decoded = subst (λ t. Decodes Base16 t []) none_written (upper_back [] small);
 }
@@ -111,7 +123,8 @@ generic_back (octet ∷ octets) small fits =
       count = decimal n;
       digits = text ∷ [];
       parts = rw some (ap words_of (append_assoc generic_mark (32 ∷ decimal n) (32 ∷ text)) ∙ first_word generic_mark (decimal n ++ 32 ∷ text) mark_word
-          ∙ ap (λ l. generic_mark ∷ l) (first_word (decimal n) text (decimal_word n (omega (arith, fits))) ∙ ap (λ l. decimal n ∷ l) (one_word text (upper_hex_word (octet ∷ octets) (λ none. cc)))));
+          ∙ ap (λ l. generic_mark ∷ l) (first_word (decimal n) text (decimal_word n (omega (arith, fits)))
+          ∙ ap (λ l. decimal n ∷ l) (one_word text (upper_hex_word (octet ∷ octets) (λ none. cc)))));
       counted = number_back 16 n (omega (arith, fits)) (omega (arith, fits));
       decoded = subst (λ t. Decodes Base16 t (octet ∷ octets)) (sym (append-nil text)) (upper_back (octet ∷ octets) small);
     }

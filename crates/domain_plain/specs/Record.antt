@@ -2,7 +2,8 @@
 use Rattle.std.specs.Prelude.{ℕ, Bool, nat_eq}
 use Rattle.std.specs.declared.cmp.Ordering.{Ordering}
 use Rattle.std.specs.Ordering.{nat_cmp, on, then_cmp, eq_of_both}
-use Rattle.std.specs.Cmp.{IsTotalOrder, on_total, then_total, nat_cmp_total, IsPartialEquivalence, IsEquivalence, on_per, and_per, on_equiv, and_equiv, nat_eq_equiv, partial_equiv_from_equiv}
+use Rattle.std.specs.Cmp.{IsTotalOrder, on_total, then_total, nat_cmp_total, IsPartialEquivalence, IsEquivalence}
+use Rattle.std.specs.Cmp.{on_per, and_per, on_equiv, and_equiv, nat_eq_equiv, partial_equiv_from_equiv}
 use Rattle.domain_base.specs.Name.{same_name}
 use Rattle.domain_base.specs.Laws.{same_name_equiv}
 use Rattle.domain_base.specs.Order.{canonical_cmp, canonical_cmp_total}

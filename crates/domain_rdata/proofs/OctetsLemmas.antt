@@ -13,7 +13,8 @@ use Rattle.domain_chain_rdata.specs.NsecWire.{BeginsNsec, NsecFault, in_name, in
 use Rattle.domain_chain_rdata.specs.Nsec3Wire.{BeginsNsec3, Nsec3Fault, in_fields, in_types as in_bitmap}
 use Rattle.domain_chain_rdata.specs.Rdata.{nsec, hash_fields, nsec3}
 use Rattle.domain_rdata.specs.Kind.{Kind, next_by_name, next_by_hash}
-use Rattle.domain_rdata.specs.Refusal.{AreOfKind, IsPart, of_key, of_digest, of_signature, types_by_name, salt_by_hash, next_hash, types_by_hash, salt, CopyFault, IsNotWhole, at_fault, goes_on, OctetsFault, TakesMemory}
+use Rattle.domain_rdata.specs.Refusal.{AreOfKind, IsPart, of_key, of_digest, of_signature, types_by_name, salt_by_hash, next_hash}
+use Rattle.domain_rdata.specs.Refusal.{types_by_hash, salt, CopyFault, IsNotWhole, at_fault, goes_on, OctetsFault, TakesMemory}
 use Rattle.std.specs.Prelude.{IsNone}
 
 clash : false ≡ true → ⊥
@@ -24,7 +25,8 @@ faulty : (l : Layout) (octets : List ℕ) (fault : Fault) → FirstFault l octet
 faulty l octets fault why split whole = fault_excludes l octets fault why split whole.0 [] whole.1
 
 -- octets that go on after the data are no data
-longer : (l : Layout) (octets : List ℕ) (w : Values l) (after : List ℕ) → Begins l octets w after → 0 < length after → splits l ≡ true → (v : Values l) × Begins l octets v [] → ⊥
+longer : (l : Layout) (octets : List ℕ) (w : Values l) (after : List ℕ) → Begins l octets w after → 0 < length after
+    → splits l ≡ true → (v : Values l) × Begins l octets v [] → ⊥
 longer l octets w after begins more split whole = omega (arith, more, ap length (one_reading l octets w whole.0 after [] split begins whole.1).1)
 
 name_begins : (octets : List ℕ) (v : Values nsec) → Begins nsec octets v [] → Begins (one spelled_name) octets v.0 v.1
@@ -37,7 +39,8 @@ name_begins octets v begins = record {
 
 -- octets of which the name or the bitmap has a fault are no data of an NSEC record
 nsec_faulty : (octets : List ℕ) (fault : Fault) → NsecFault octets fault → (v : Values nsec) × BeginsNsec octets v [] → ⊥
-nsec_faulty octets fault (in_name why) whole = fault_excludes nsec octets fault (in_first (one spelled_name) (one rest) octets fault why) refl whole.0 [] whole.1.begins
+nsec_faulty octets fault (in_name why) whole = fault_excludes nsec octets fault
+    (in_first (one spelled_name) (one rest) octets fault why) refl whole.0 [] whole.1.begins
 nsec_faulty octets fault (in_types labels types begins why) whole =
     let name = name_begins octets whole.0 whole.1.begins in
     let same = (one_reading (one spelled_name) octets labels whole.0.0 types whole.0.1 refl begins name).1 in
@@ -53,14 +56,16 @@ hash_begins octets v begins = record {
 
 -- octets of which a field or the bitmap has a fault are no data of an NSEC3 record
 nsec3_faulty : (octets : List ℕ) (fault : Fault) → Nsec3Fault octets fault → (v : Values nsec3) × BeginsNsec3 octets v [] → ⊥
-nsec3_faulty octets fault (in_fields why) whole = fault_excludes nsec3 octets fault (in_first hash_fields (one rest) octets fault why) refl whole.0 [] whole.1.begins
+nsec3_faulty octets fault (in_fields why) whole = fault_excludes nsec3 octets fault
+    (in_first hash_fields (one rest) octets fault why) refl whole.0 [] whole.1.begins
 nsec3_faulty octets fault (in_bitmap fields types begins why) whole =
     let fields_read = hash_begins octets whole.0 whole.1.begins in
     let same = (one_reading hash_fields octets fields whole.0.0 types whole.0.1 refl begins fields_read).1 in
     no_fault (subst (λ t. bitmap.FirstBlockFault t why.first) same why.found) whole.1.bitmap
 
 -- octets with a fault, or that go on after the data, are no data of a kind
-not_whole : {D : Type 0} (begins : List ℕ → D → List ℕ → Type 0) (faults : List ℕ → Fault → Type 0) (octets : List ℕ) (kind : Kind) (limit : Option ℕ) (fault : ScanFault) → fault ≡ illegal (codes "illegal data")
+not_whole : {D : Type 0} (begins : List ℕ → D → List ℕ → Type 0) (faults : List ℕ → Fault
+    → Type 0) (octets : List ℕ) (kind : Kind) (limit : Option ℕ) (fault : ScanFault) → fault ≡ illegal (codes "illegal data")
     → ((f : Fault) → faults octets f → AreOfKind kind octets → ⊥)
     → ((d : D) (after : List ℕ) → begins octets d after → 0 < length after → AreOfKind kind octets → ⊥)
     → IsNotWhole begins faults octets → OctetsFault limit (Some kind) octets fault
@@ -80,13 +85,15 @@ not_fields {D} l values octets kind limit fault split are said =
 pub not_nsec : {D : Type 0} (values : D → Values nsec) (octets : List ℕ) (limit : Option ℕ) (fault : ScanFault) → fault ≡ illegal (codes "illegal data")
     → IsNotWhole (λ o d after. BeginsNsec o (values d) after) NsecFault octets → OctetsFault limit (Some next_by_name) octets fault
 not_nsec {D} values octets limit fault said =
-    not_whole {D = D} (λ o d after. BeginsNsec o (values d) after) NsecFault octets next_by_name limit fault said (λ f why whole. nsec_faulty octets f why whole)
+    not_whole {D = D} (λ o d after. BeginsNsec o (values d) after) NsecFault octets next_by_name limit fault said
+    (λ f why whole. nsec_faulty octets f why whole)
     (λ d after begins more whole. omega (arith, more, ap length begins.begins.ends.1))
 
 pub not_nsec3 : {D : Type 0} (values : D → Values nsec3) (octets : List ℕ) (limit : Option ℕ) (fault : ScanFault) → fault ≡ illegal (codes "illegal data")
     → IsNotWhole (λ o d after. BeginsNsec3 o (values d) after) Nsec3Fault octets → OctetsFault limit (Some next_by_hash) octets fault
 not_nsec3 {D} values octets limit fault said =
-    not_whole {D = D} (λ o d after. BeginsNsec3 o (values d) after) Nsec3Fault octets next_by_hash limit fault said (λ f why whole. nsec3_faulty octets f why whole)
+    not_whole {D = D} (λ o d after. BeginsNsec3 o (values d) after) Nsec3Fault octets next_by_hash limit fault said
+    (λ f why whole. nsec3_faulty octets f why whole)
     (λ d after begins more whole. omega (arith, more, ap length begins.begins.ends.1))
 
 -- octets that have a part are data
@@ -112,7 +119,8 @@ part_takes limit wire _ _ (types_by_hash v begins) grows = grows
 part_takes limit wire _ _ (salt v begins) grows = grows
 
 -- data of which a part is not copied
-pub not_copied : (limit : Option ℕ) (kind : Kind) (wire octets part : List ℕ) (fault : ScanFault) → CopyFault limit octets fault → octets ≡ part → IsPart wire kind part → OctetsFault limit (Some kind) wire fault
+pub not_copied : (limit : Option ℕ) (kind : Kind) (wire octets part : List ℕ) (fault : ScanFault) → CopyFault limit octets fault
+    → octets ≡ part → IsPart wire kind part → OctetsFault limit (Some kind) wire fault
 not_copied limit kind wire octets part entry_ends why same is = why
 not_copied limit kind wire octets part (illegal said) why same is = absurd why
 not_copied limit kind wire octets part no_room why same is = (part, is, subst (λ p. IsOver limit (length p)) same why)

@@ -84,21 +84,25 @@ address_first octets old new takes marked = no_address octets (mark_first old ne
 
 pub name_alone : (labels : List (List ℕ)) → IsName labels → IsGeneric (words_of (name_text labels ++ 46 ∷ [])) → ⊥
 name_alone labels valid marked =
-    let both : (name_text labels ++ 46 ∷ []) ∷ [] ≡ generic_mark ∷ marked.0 = sym (one_word (name_text labels ++ 46 ∷ []) (name_word labels valid)) ∙ marked.1 in
+    let both : (name_text labels ++ 46 ∷ []) ∷ [] ≡ generic_mark ∷ marked.0 =
+    sym (one_word (name_text labels ++ 46 ∷ []) (name_word labels valid)) ∙ marked.1 in
     no_dotted (name_text labels) (ap first_of both)
 
 pub name_first : (labels : List (List ℕ)) (rest : List ℕ) → IsName labels → IsGeneric (words_of ((name_text labels ++ 46 ∷ []) ++ 32 ∷ rest)) → ⊥
 name_first labels rest valid marked =
-    let both : (name_text labels ++ 46 ∷ []) ∷ words_of rest ≡ generic_mark ∷ marked.0 = sym (first_word (name_text labels ++ 46 ∷ []) rest (name_word labels valid)) ∙ marked.1 in
+    let both : (name_text labels ++ 46 ∷ []) ∷ words_of rest
+    ≡ generic_mark ∷ marked.0 = sym (first_word (name_text labels ++ 46 ∷ []) rest (name_word labels valid)) ∙ marked.1 in
     no_dotted (name_text labels) (ap first_of both)
 
 -- ---- data in their own form, or in the generic one
 
 module _ {O N : Type 0} (octets : O → List ℕ) (labels : N → List (List ℕ)) where
-  pub ns_text : (d : NsData N) → Scans ns (words_of (name_text (labels d.nsdname) ++ 46 ∷ [])) (labels d.nsdname) [] → RdataText octets labels rtypes.ns (words_of (name_text (labels d.nsdname) ++ 46 ∷ [])) (Ns d) []
+  pub ns_text : (d : NsData N) → Scans ns (words_of (name_text (labels d.nsdname) ++ 46 ∷ [])) (labels d.nsdname) []
+      → RdataText octets labels rtypes.ns (words_of (name_text (labels d.nsdname) ++ 46 ∷ [])) (Ns d) []
   ns_text d read = own (name_alone (labels d.nsdname) (name_is_valid read.token (labels d.nsdname) read.holds)) (refl, read)
 
-  pub soa_back : (d : SoaData N) → IfSome (soa_text labels d) (λ text. Scans soa (words_of text) (soa_values labels d) []) → IfSome (soa_text labels d) (λ text. RdataText octets labels rtypes.soa (words_of text) (Soa d) [])
+  pub soa_back : (d : SoaData N) → IfSome (soa_text labels d) (λ text. Scans soa (words_of text) (soa_values labels d) [])
+      → IfSome (soa_text labels d) (λ text. RdataText octets labels rtypes.soa (words_of text) (Soa d) [])
   soa_back d read = own (name_first (labels d.mname) _ (name_is_valid read.1.1.token (labels d.mname) read.1.1.holds)) (refl, read)
 
   pub rrsig_back : (d : RrsigData) (tokens : List (List ℕ)) → RrsigText tokens d → IsGeneric tokens → ⊥
@@ -110,5 +114,7 @@ module _ {O N : Type 0} (octets : O → List ℕ) (labels : N → List (List ℕ
       ap (λ l. l ++ types) (sym (append_assoc (name_text name) (46 ∷ []) (32 ∷ []))) ∙ append_assoc (name_text name ++ 46 ∷ []) (32 ∷ []) types in
       name_first name types valid (subst (λ t. IsGeneric (words_of t)) parts marked)
 
-  pub unknown_back : (d : UnknownData O) → All (λ octet. octet < 256) (octets d.«data») → HasExactText {O = O} {N = N} octets (Unknown d) → RdataText octets labels d.rtype (words_of (generic_text (octets d.«data»))) (Unknown d) []
+  pub unknown_back : (d : UnknownData O) → All (λ octet. octet < 256) (octets d.«data»)
+      → HasExactText {O = O} {N = N} octets (Unknown d) → RdataText octets labels d.rtype
+      (words_of (generic_text (octets d.«data»))) (Unknown d) []
   unknown_back d small exact = generic (octets d.«data») (generic_back (octets d.«data») small exact.1) (exact.0, refl, refl) refl

@@ -53,11 +53,18 @@ kind_once next_by_name old m n x y p q =
     let names = nsec_name_once old m n p.0 q.0 p.1 q.1 p.2 q.2 in
     let types = nsec_types_once old m n p.0 q.0 p.1 q.1 p.2 q.2 in
     (p.2.all ∙ sym q.2.all, p.3 ∙ (λ i. octets_of nsec (names i, types i)) ∙ sym q.3)
-kind_once next_by_hash old m n x y p q = (nsec3_once.left old m n p.0 q.0 p.1 q.1, p.2 ∙ ap (octets_of nsec3) (nsec3_once.value old m n p.0 q.0 p.1 q.1) ∙ sym q.2)
-kind_once params old m n x y p q = (params_once.left old m n p.0 q.0 p.1 q.1, p.2 ∙ ap (octets_of nsec3param) (params_once.value old m n p.0 q.0 p.1 q.1) ∙ sym q.2)
+kind_once next_by_hash old m n x y p q = (
+  nsec3_once.left old m n p.0 q.0 p.1 q.1,
+  p.2 ∙ ap (octets_of nsec3) (nsec3_once.value old m n p.0 q.0 p.1 q.1) ∙ sym q.2,
+)
+kind_once params old m n x y p q = (
+  params_once.left old m n p.0 q.0 p.1 q.1,
+  p.2 ∙ ap (octets_of nsec3param) (params_once.value old m n p.0 q.0 p.1 q.1) ∙ sym q.2,
+)
 
 -- what is refused, but for want of room or memory, are no data of the kind
-kind_refused : (k : Kind) (limit : Option ℕ) (old new after : List (List ℕ)) (wire : List ℕ) (fault : ScanFault) → RefusesKind limit k old new fault → Reads k old wire after → IsOfTokens limit fault → ⊥
+kind_refused : (k : Kind) (limit : Option ℕ) (old new after : List (List ℕ)) (wire : List ℕ) (fault : ScanFault)
+    → RefusesKind limit k old new fault → Reads k old wire after → IsOfTokens limit fault → ⊥
 kind_refused (plain l) limit old new after wire fault why is alone = refused_spells_none l limit old new after is.0 fault why is.1 alone
 kind_refused key limit old new after wire fault why is alone = refused_dnskey limit old new fault is.0 why alone is.1
 kind_refused digest limit old new after wire fault why is alone = refused_ds limit old new fault is.0 why alone is.1
@@ -97,7 +104,8 @@ one_way rtype old m n x y p q =
     kind_once q.kind old m n x y (subst (λ k. Reads k old x m) same p.reads) q.reads
 
 -- what is refused as the text form of a type, but for want of room or memory, is not read
-own_refused : (limit : Option ℕ) (rtype : ℕ) (old new after : List (List ℕ)) (wire : List ℕ) (fault : ScanFault) → RefusesOwn limit rtype old new fault → IsOfTokens limit fault → Way rtype old after wire → ⊥
+own_refused : (limit : Option ℕ) (rtype : ℕ) (old new after : List (List ℕ)) (wire : List ℕ) (fault : ScanFault)
+    → RefusesOwn limit rtype old new fault → IsOfTokens limit fault → Way rtype old after wire → ⊥
 own_refused limit rtype old new after wire fault (at_field kind is why) alone way =
     let same = one_kind (kind_of rtype) way.kind kind way.is is in
     kind_refused kind limit old new after wire fault why (subst (λ j. Reads j old wire after) same way.reads) alone
@@ -109,7 +117,8 @@ AreOf None wire = Unit {0}
 AreOf (Some kind) wire = AreOfKind kind wire
 
 -- octets that are refused, but for want of room or memory, are no data
-octets_refused : (limit : Option ℕ) (known : Option Kind) (wire : List ℕ) (fault : ScanFault) → OctetsFault limit known wire fault → IsOfTokens limit fault → AreOf known wire → ⊥
+octets_refused : (limit : Option ℕ) (known : Option Kind) (wire : List ℕ) (fault : ScanFault) → OctetsFault limit known wire fault
+    → IsOfTokens limit fault → AreOf known wire → ⊥
 octets_refused limit None wire fault why alone are = why
 octets_refused limit (Some kind) wire entry_ends why alone are = why
 octets_refused limit (Some kind) wire (illegal said) why alone are = why.1 are
@@ -141,7 +150,8 @@ module _ {O N : Type 0} (octets : O → List ℕ) (labels : N → List (List ℕ
   octets_exclude : (wire : List ℕ) → GenericText old wire → ((d : ZoneRecordData O N) → AreData octets labels rtype wire d → ⊥)
       → (d : ZoneRecordData O N) (after : List (List ℕ)) → RdataText octets labels rtype old d after → ⊥
   octets_exclude wire is none d after (own other text) = other (generic_begins old wire is)
-  octets_exclude wire is none d after (generic wire' text are all) = none d (subst (λ w. AreData octets labels rtype w d) (generic_once old wire' wire text is) are)
+  octets_exclude wire is none d after (generic wire' text are all) =
+      none d (subst (λ w. AreData octets labels rtype w d) (generic_once old wire' wire text is) are)
 
   are_of_type : (wire : List ℕ) (d : ZoneRecordData O N) → AreData octets labels rtype wire d → AreOf (kind_of rtype) wire
   are_of_type wire (A d) h = subst (λ k. AreOf k wire) (sym (ap kind_of h.0)) (a_values d, h.1)
@@ -165,25 +175,30 @@ module _ {O N : Type 0} (octets : O → List ℕ) (labels : N → List (List ℕ
   none_spelled limit new fault (in_octets wire text all why) known d after spelled =
       octets_exclude wire text (λ d are. octets_refused limit (kind_of rtype) wire fault why known (are_of_type wire d are)) d after spelled
 
-  pub refused_none : (limit : Option ℕ) (new : List (List ℕ)) (result : Result (ZoneRecordData O N) ScanError) → IfErr result (λ e. RefusesRdata limit rtype old new (scan_fault_of e))
-      → IfErr result (λ e. IsOfTokens limit (scan_fault_of e) → (d : ZoneRecordData O N) (after : List (List ℕ)) → RdataText octets labels rtype old d after → ⊥)
+  pub refused_none : (limit : Option ℕ) (new : List (List ℕ)) (result : Result (ZoneRecordData O N) ScanError)
+      → IfErr result (λ e. RefusesRdata limit rtype old new (scan_fault_of e))
+      → IfErr result (λ e. IsOfTokens limit (scan_fault_of e) → (d : ZoneRecordData O N) (after : List (List ℕ))
+      → RdataText octets labels rtype old d after → ⊥)
   refused_none limit new (Ok d) why = tt
   refused_none limit new (Err e) why = none_spelled limit new (scan_fault_of e) why
 
   -- refusals of text without the mark
-  pub own_err : (limit : Option ℕ) (new : List (List ℕ)) (result : Result (ZoneRecordData O N) ScanError) → IfErr result (λ e. RefusesOwn limit rtype old new (scan_fault_of e)) → (IsGeneric old → ⊥)
+  pub own_err : (limit : Option ℕ) (new : List (List ℕ)) (result : Result (ZoneRecordData O N) ScanError)
+      → IfErr result (λ e. RefusesOwn limit rtype old new (scan_fault_of e)) → (IsGeneric old → ⊥)
       → IfErr result (λ e. RefusesRdata limit rtype old new (scan_fault_of e))
   own_err limit new (Ok d) why unmarked = tt
   own_err limit new (Err e) why unmarked = in_own unmarked why
 
   -- refusals of the octets of generic text
-  pub octets_err : (limit : Option ℕ) (new : List (List ℕ)) (t : ℕ) (wire : List ℕ) (result : Result (ZoneRecordData O N) ScanError) → IfErr result (λ e. OctetsFault limit (kind_of t) wire (scan_fault_of e))
+  pub octets_err : (limit : Option ℕ) (new : List (List ℕ)) (t : ℕ) (wire : List ℕ)
+      (result : Result (ZoneRecordData O N) ScanError) → IfErr result (λ e. OctetsFault limit (kind_of t) wire (scan_fault_of e))
       → t ≡ rtype → GenericText old wire → new ≡ [] → IfErr result (λ e. RefusesRdata limit rtype old new (scan_fault_of e))
   octets_err limit new t wire (Ok d) why same text all = tt
   octets_err limit new t wire (Err e) why same text all = in_octets wire text all (subst (λ n. OctetsFault limit (kind_of n) wire (scan_fault_of e)) same why)
 
   -- generic text whose octets are data
-  pub generic_ok : (new : List (List ℕ)) (t : ℕ) (wire : List ℕ) (result : Result (ZoneRecordData O N) ScanError) → IfOk result (λ d. AreData octets labels t wire d) → t ≡ rtype → GenericText old wire → new ≡ []
+  pub generic_ok : (new : List (List ℕ)) (t : ℕ) (wire : List ℕ) (result : Result (ZoneRecordData O N) ScanError)
+      → IfOk result (λ d. AreData octets labels t wire d) → t ≡ rtype → GenericText old wire → new ≡ []
       → IfOk result (λ d. RdataText octets labels rtype old d new)
   generic_ok new t wire (Ok d) are same text all = generic wire text (subst (λ n. AreData octets labels n wire d) same are) all
   generic_ok new t wire (Err e) are same text all = tt

@@ -54,24 +54,33 @@ module _ (d : ProtoRrsigData) (fits : Fits proto_rrsig (proto_rrsig_values d)) w
   unfolding signed_numbers_text
   numbers_words =
       let first = one_word (type_text d.type_covered) (type_word d.type_covered fits.0.0) in
-      let second = next_word (type_text d.type_covered) (decimal d.algorithm) (decimal_word d.algorithm (omega (arith, fits.0.1.0))) ∙ ap (λ l. l ++ decimal d.algorithm ∷ []) first in
-      let third = next_word (type_text d.type_covered ++ 32 ∷ [] ++ decimal d.algorithm) (decimal d.labels) (decimal_word d.labels (omega (arith, fits.0.1.1))) ∙ ap (λ l. l ++ decimal d.labels ∷ []) second in
-      next_word (type_text d.type_covered ++ 32 ∷ [] ++ decimal d.algorithm ++ 32 ∷ [] ++ decimal d.labels) (decimal d.original_ttl) (decimal_word d.original_ttl (omega (arith, fits.1.0.0))) ∙ ap (λ l. l ++ decimal d.original_ttl ∷ []) third
+      let second = next_word (type_text d.type_covered) (decimal d.algorithm)
+      (decimal_word d.algorithm (omega (arith, fits.0.1.0))) ∙ ap (λ l. l ++ decimal d.algorithm ∷ []) first in
+      let third = next_word (type_text d.type_covered ++ 32 ∷ [] ++ decimal d.algorithm) (decimal d.labels)
+      (decimal_word d.labels (omega (arith, fits.0.1.1))) ∙ ap (λ l. l ++ decimal d.labels ∷ []) second in
+      next_word (type_text d.type_covered ++ 32 ∷ [] ++ decimal d.algorithm ++ 32 ∷ [] ++ decimal d.labels)
+      (decimal d.original_ttl) (decimal_word d.original_ttl (omega (arith, fits.1.0.0)))
+      ∙ ap (λ l. l ++ decimal d.original_ttl ∷ []) third
 
   times_words : words_of (signed_times_text d) ≡ decimal d.expiration ∷ decimal d.inception ∷ decimal d.key_tag ∷ []
   unfolding signed_times_text
   times_words =
       let first = one_word (decimal d.expiration) (decimal_word d.expiration (omega (arith, fits.1.0.1.0))) in
-      let second = next_word (decimal d.expiration) (decimal d.inception) (decimal_word d.inception (omega (arith, fits.1.0.1.1))) ∙ ap (λ l. l ++ decimal d.inception ∷ []) first in
-      next_word (decimal d.expiration ++ 32 ∷ [] ++ decimal d.inception) (decimal d.key_tag) (decimal_word d.key_tag (omega (arith, fits.1.1.0))) ∙ ap (λ l. l ++ decimal d.key_tag ∷ []) second
+      let second = next_word (decimal d.expiration) (decimal d.inception) (decimal_word d.inception (omega (arith, fits.1.0.1.1)))
+      ∙ ap (λ l. l ++ decimal d.inception ∷ []) first in
+      next_word (decimal d.expiration ++ 32 ∷ [] ++ decimal d.inception) (decimal d.key_tag)
+      (decimal_word d.key_tag (omega (arith, fits.1.1.0))) ∙ ap (λ l. l ++ decimal d.key_tag ∷ []) second
 
   fields_words : words_of (signed_numbers_text d ++ 32 ∷ [] ++ signed_times_text d ++ 32 ∷ [] ++ dotted d.signer_name)
-      ≡ type_text d.type_covered ∷ decimal d.algorithm ∷ decimal d.labels ∷ decimal d.original_ttl ∷ decimal d.expiration ∷ decimal d.inception ∷ decimal d.key_tag ∷ dotted d.signer_name ∷ []
+      ≡ type_text d.type_covered ∷ decimal d.algorithm ∷ decimal d.labels ∷ decimal d.original_ttl ∷ decimal d.expiration ∷
+      decimal d.inception ∷ decimal d.key_tag ∷ dotted d.signer_name ∷ []
   fields_words =
       next_word (signed_numbers_text d ++ 32 ∷ [] ++ signed_times_text d) (dotted d.signer_name) (name_word d.signer_name fits.1.1.1)
       ∙ ap (λ l. l ++ dotted d.signer_name ∷ []) (two_lines (signed_numbers_text d) (signed_times_text d) ∙ (λ i. numbers_words i ++ times_words i))
 
-  fields_text : (after : List (List ℕ)) → rrsig_fields_text (type_text d.type_covered ∷ decimal d.algorithm ∷ decimal d.labels ∷ decimal d.original_ttl ∷ decimal d.expiration ∷ decimal d.inception ∷ decimal d.key_tag ∷ dotted d.signer_name ∷ after)
+  fields_text : (after : List (List ℕ)) → rrsig_fields_text
+      (type_text d.type_covered ∷ decimal d.algorithm ∷ decimal d.labels ∷ decimal d.original_ttl ∷ decimal d.expiration ∷ decimal
+      d.inception ∷ decimal d.key_tag ∷ dotted d.signer_name ∷ after)
       ((d.type_covered, (d.algorithm, (d.labels, d.original_ttl))), ((d.expiration, d.inception), (d.key_tag, d.signer_name))) after
   fields_text after =
       let last = decimal d.key_tag ∷ dotted d.signer_name ∷ after in
@@ -94,17 +103,23 @@ module _ (d : ProtoRrsigData) (fits : Fits proto_rrsig (proto_rrsig_values d)) w
         ),
       )
 
-pub rrsig_text_back : (d : RrsigData) → Fits rrsig (rrsig_values d) → length (rrsig_octets d) ≤ 65535 → All (λ octet. octet < 256) d.signature → RrsigText (words_of (rrsig_text d)) d
+pub rrsig_text_back : (d : RrsigData) → Fits rrsig (rrsig_values d) → length (rrsig_octets d) ≤ 65535
+    → All (λ octet. octet < 256) d.signature → RrsigText (words_of (rrsig_text d)) d
 rrsig_text_back d fits brief small =
     let text = encode_of standard d.signature in
     let fields = d.fields in
-    let before = type_text fields.type_covered ∷ decimal fields.algorithm ∷ decimal fields.labels ∷ decimal fields.original_ttl ∷ decimal fields.expiration ∷ decimal fields.inception ∷ decimal fields.key_tag ∷ dotted fields.signer_name ∷ [] in
+    let before = type_text fields.type_covered ∷ decimal fields.algorithm ∷ decimal fields.labels ∷ decimal fields.original_ttl ∷
+    decimal fields.expiration ∷ decimal fields.inception ∷ decimal fields.key_tag ∷ dotted fields.signer_name ∷ [] in
     let words : words_of (rrsig_text d) ≡ before ++ word_if_any text =
     next_any (signed_numbers_text fields ++ 32 ∷ [] ++ signed_times_text fields ++ 32 ∷ [] ++ dotted fields.signer_name) text (base64_plain d.signature)
     ∙ ap (λ l. l ++ word_if_any text) (fields_words fields fits.1.0) in
-    let values : (ℕ × (ℕ × (ℕ × ℕ))) × ((ℕ × ℕ) × (ℕ × List (List ℕ))) = ((fields.type_covered, (fields.algorithm, (fields.labels, fields.original_ttl))), ((fields.expiration, fields.inception), (fields.key_tag, fields.signer_name))) in
+    let values : (ℕ × (ℕ × (ℕ × ℕ))) × ((ℕ × ℕ) × (ℕ × List (List ℕ))) = (
+      (fields.type_covered, (fields.algorithm, (fields.labels, fields.original_ttl))),
+      ((fields.expiration, fields.inception), (fields.key_tag, fields.signer_name)),
+    ) in
     record {
       spelled = subst (λ tokens. Spells rrsig_fields_text Base64 tokens values d.signature) (sym words)
-          (entry_back rrsig_fields_text Base64 (before ++ word_if_any text) values text d.signature (fields_text fields fits.1.0 (word_if_any text)) (base64_back d.signature small));
+          (entry_back rrsig_fields_text Base64 (before ++ word_if_any text) values text d.signature
+          (fields_text fields fits.1.0 (word_if_any text)) (base64_back d.signature small));
       fits = brief;
     }

@@ -9,7 +9,9 @@ use Rattle.domain_fields.specs.Field.{octet, short, long, name}
 use Rattle.domain_fields.specs.Layout.{Layout, one, ◌▸◌}
 use Rattle.domain_fields.specs.Scan.{Scans, Refuses}
 use Rattle.domain_fields.specs.Sequence.{OneToken, Both, RefusesBoth}
-use Rattle.domain_fields.proofs.GrammarLemmas.{ReadsOnce, Excludes, OneFault, fields_once, fields_refused, fields_one_fault, one_token, token_refused, token_once_refused, both_once, both_refused, both_one_fault, same_fields, same_octets, entry_refused, entry_refused_once}
+use Rattle.domain_fields.proofs.GrammarLemmas.{ReadsOnce, Excludes, OneFault, fields_once, fields_refused, fields_one_fault}
+use Rattle.domain_fields.proofs.GrammarLemmas.{one_token, token_refused, token_once_refused, both_once, both_refused, both_one_fault}
+use Rattle.domain_fields.proofs.GrammarLemmas.{same_fields, same_octets, entry_refused, entry_refused_once}
 use Rattle.domain_rrsig.specs.Data.{proto_rrsig_data, RrsigData}
 use Rattle.domain_rrsig.specs.Time.{TimeToken, IsNoTime}
 use Rattle.domain_rrsig.specs.Scan.{numbers_text, RefusesNumbers, times_text, RefusesTimes, rrsig_fields_text, RefusesRrsigFields, RrsigText, RefusesRrsig}
@@ -49,7 +51,8 @@ module _ (limit : Option ℕ) where
 
   numbers_apart : Excludes limit numbers_text (RefusesNumbers limit)
   numbers_apart =
-      both_refused limit (OneToken TypeText) (Scans lengths) (RefusesToken IsNoType) (Refuses limit lengths) (one_token TypeText type_once) type_apart (fields_refused limit lengths)
+      both_refused limit (OneToken TypeText) (Scans lengths) (RefusesToken IsNoType) (Refuses limit lengths)
+      (one_token TypeText type_once) type_apart (fields_refused limit lengths)
 
   numbers_one_fault : OneFault limit (RefusesNumbers limit)
   numbers_one_fault =
@@ -64,7 +67,8 @@ module _ (limit : Option ℕ) where
 
   times_apart : Excludes limit times_text RefusesTimes
   times_apart =
-      both_refused limit (OneToken TimeToken) (OneToken TimeToken) (RefusesToken IsNoTime) (RefusesToken IsNoTime) (one_token TimeToken time_once) time_apart time_apart
+      both_refused limit (OneToken TimeToken) (OneToken TimeToken) (RefusesToken IsNoTime) (RefusesToken IsNoTime)
+      (one_token TimeToken time_once) time_apart time_apart
 
   times_one_fault : OneFault limit RefusesTimes
   times_one_fault =
@@ -80,11 +84,13 @@ module _ (limit : Option ℕ) where
 
   rrsig_fields_apart : Excludes limit rrsig_fields_text (RefusesRrsigFields limit)
   rrsig_fields_apart =
-      both_refused limit numbers_text (Both times_text (Scans signer)) (RefusesNumbers limit) (RefusesBoth times_text RefusesTimes (Refuses limit signer)) numbers_once numbers_apart end_apart
+      both_refused limit numbers_text (Both times_text (Scans signer)) (RefusesNumbers limit)
+      (RefusesBoth times_text RefusesTimes (Refuses limit signer)) numbers_once numbers_apart end_apart
 
   rrsig_fields_one_fault : OneFault limit (RefusesRrsigFields limit)
   rrsig_fields_one_fault =
-      both_one_fault limit numbers_text (Both times_text (Scans signer)) (RefusesNumbers limit) (RefusesBoth times_text RefusesTimes (Refuses limit signer)) numbers_once numbers_apart
+      both_one_fault limit numbers_text (Both times_text (Scans signer)) (RefusesNumbers limit)
+      (RefusesBoth times_text RefusesTimes (Refuses limit signer)) numbers_once numbers_apart
       numbers_one_fault end_one_fault
 
 -- over the limit of all data
@@ -96,15 +102,19 @@ rrsig_once old d e x y =
     let fields = same_fields rrsig_fields_text rrsig_fields_once Base64 old _ _ d.signature e.signature x.spelled y.spelled in
     let octets = same_octets rrsig_fields_text rrsig_fields_once Base64 old _ _ d.signature e.signature x.spelled y.spelled in
     λ i. record {
-      fields = proto_rrsig_data (fields i).0.0 (fields i).0.1.0 (fields i).0.1.1.0 (fields i).0.1.1.1 (fields i).1.0.0 (fields i).1.0.1 (fields i).1.1.0 (fields i).1.1.1;
+      fields = proto_rrsig_data (fields i).0.0 (fields i).0.1.0 (fields i).0.1.1.0 (fields i).0.1.1.1 (fields i).1.0.0
+          (fields i).1.0.1 (fields i).1.1.0 (fields i).1.1.1;
       signature = octets i;
     }
 
-pub refused_rrsig : (limit : Option ℕ) (old new : List (List ℕ)) (fault : ScanFault) (d : RrsigData) → RefusesRrsig limit old new fault → IsOfTokens limit fault → RrsigText old d → ⊥
+pub refused_rrsig : (limit : Option ℕ) (old new : List (List ℕ)) (fault : ScanFault) (d : RrsigData)
+    → RefusesRrsig limit old new fault → IsOfTokens limit fault → RrsigText old d → ⊥
 refused_rrsig limit old new fault d why own text =
     entry_refused limit rrsig_fields_text (RefusesRrsigFields limit) rrsig_fields_once (rrsig_fields_apart limit) Long Base64 old new fault own
     _ d.signature text.spelled (λ many. omega (arith, many, text.fits, length_of_rrsig d)) why
 
-pub rrsig_one_fault : (limit : Option ℕ) (old m n : List (List ℕ)) (x y : ScanFault) → RefusesRrsig limit old m x → RefusesRrsig limit old n y → IsOfTokens limit x → IsOfTokens limit y → x ≡ y
+pub rrsig_one_fault : (limit : Option ℕ) (old m n : List (List ℕ)) (x y : ScanFault) → RefusesRrsig limit old m x
+    → RefusesRrsig limit old n y → IsOfTokens limit x → IsOfTokens limit y → x ≡ y
 rrsig_one_fault limit old m n x y p q own also =
-    entry_refused_once limit rrsig_fields_text (RefusesRrsigFields limit) rrsig_fields_once (rrsig_fields_apart limit) Long Base64 (rrsig_fields_one_fault limit) old m n x y p q own also
+    entry_refused_once limit rrsig_fields_text (RefusesRrsigFields limit) rrsig_fields_once (rrsig_fields_apart limit) Long Base64
+    (rrsig_fields_one_fault limit) old m n x y p q own also

@@ -7,7 +7,8 @@ use Rattle.domain_base.proofs.CaseLemmas.{IsName-lowered}
 use Rattle.domain_fields.specs.Field.{name, rest}
 use Rattle.domain_fields.specs.Layout.{Layout, one, ◌▸◌, Values, octets_of, canonical_of, Fits, Begins, ParsesBack}
 use Rattle.domain_fields.proofs.ExactLemmas.{parses_back, same_values}
-use Rattle.domain_rrsig.specs.Data.{ProtoRrsigData, proto_rrsig, proto_rrsig_values, RrsigData, rrsig, rrsig_values, rrsig_octets, rrsig_canonical, rrsig_numbers, rrsig_numbers_values, IsSameRrsig}
+use Rattle.domain_rrsig.specs.Data.{ProtoRrsigData, proto_rrsig, proto_rrsig_values, RrsigData, rrsig, rrsig_values}
+use Rattle.domain_rrsig.specs.Data.{rrsig_octets, rrsig_canonical, rrsig_numbers, rrsig_numbers_values, IsSameRrsig}
 
 -- the numbers, then the name and the signature
 abbrev grouped : Layout
@@ -56,5 +57,9 @@ limit_of_rrsig octets v after begins = omega (arith, begins.ends.0, length-appen
 pub rrsig_back : (d : RrsigData) → Fits rrsig (rrsig_values d) → length (rrsig_octets d) ≤ 65535 → ParsesBack rrsig (rrsig_values d)
 unfolding octets_of
 rrsig_back d fits brief =
-    let limit : length (octets_of (proto_rrsig ▸ one rest) (rrsig_values d).1 ++ []) ≤ 65535 = omega (arith, brief, length-append (octets_of (proto_rrsig ▸ one rest) (rrsig_values d).1) []) in
+    let limit : length (octets_of (proto_rrsig ▸ one rest) (rrsig_values d).1 ++ []) ≤ 65535 = omega (
+      arith,
+      brief,
+      length-append (octets_of (proto_rrsig ▸ one rest) (rrsig_values d).1) [],
+    ) in
     parses_back rrsig (rrsig_values d) refl fits (limit, (((tt, (tt, tt)), ((tt, (tt, tt)), (tt, tt))), refl))

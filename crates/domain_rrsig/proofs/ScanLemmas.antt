@@ -13,12 +13,16 @@ use Rattle.domain_rrsig.specs.Data.{ProtoRrsigData, proto_rrsig_data, RrsigData,
 use Rattle.domain_rrsig.specs.Scan.{numbers_text, times_text, rrsig_fields_text, RefusesRrsigFields, RefusesRrsig}
 use Rattle.domain_fields.specs.Entry.{in_field, in_entry, too_long}
 
-module _ (old first second new : List (List ℕ)) (numbers : ℕ × (ℕ × (ℕ × ℕ))) (times : ℕ × ℕ) (start : numbers_text old numbers first) (middle : times_text first times second) where
+module _ (old first second new : List (List ℕ)) (numbers : ℕ × (ℕ × (ℕ × ℕ))) (times : ℕ × ℕ)
+    (start : numbers_text old numbers first) (middle : times_text first times second) where
   pub read_fields : (signer : ℕ × List (List ℕ)) (d : ProtoRrsigData) → Scans (one short ▸ one name) second signer new
       → d ≡ proto_rrsig_data numbers.0 numbers.1.0 numbers.1.1.0 numbers.1.1.1 times.0 times.1 signer.0 signer.1
       → rrsig_fields_text old ((d.type_covered, (d.algorithm, (d.labels, d.original_ttl))), ((d.expiration, d.inception), (d.key_tag, d.signer_name))) new
   read_fields signer d end_of is =
-      subst (λ (x : ProtoRrsigData). rrsig_fields_text old ((x.type_covered, (x.algorithm, (x.labels, x.original_ttl))), ((x.expiration, x.inception), (x.key_tag, x.signer_name))) new)
+      subst (λ (x : ProtoRrsigData). rrsig_fields_text old (
+        (x.type_covered, (x.algorithm, (x.labels, x.original_ttl))),
+        ((x.expiration, x.inception), (x.key_tag, x.signer_name)),
+      ) new)
       (sym is) (first, start, (second, middle, end_of))
 
   pub refused_signer : (limit : Option ℕ) (fault : ScanFault) → Refuses limit (one short ▸ one name) second new fault → RefusesRrsigFields limit old new fault
@@ -35,12 +39,15 @@ FieldsAre old d entry =
 pub refused_field : (limit : Option ℕ) (old new : List (List ℕ)) (fault : ScanFault) → RefusesRrsigFields limit old new fault → RefusesRrsig limit old new fault
 refused_field limit old new fault why = in_field why
 
-pub refused_entry : (limit : Option ℕ) (old entry new : List (List ℕ)) (fault : ScanFault) (d : ProtoRrsigData) → FieldsAre old d entry → IsEnd new entry → EntryFault Base64 limit fault entry
+pub refused_entry : (limit : Option ℕ) (old entry new : List (List ℕ)) (fault : ScanFault) (d : ProtoRrsigData)
+    → FieldsAre old d entry → IsEnd new entry → EntryFault Base64 limit fault entry
     → RefusesRrsig limit old new fault
 refused_entry limit old entry new fault d fields end_of why = in_entry (record { value = _; entry = entry; fields = fields; end_of = end_of; why = why })
 
-pub refused_length : (limit : Option ℕ) (old entry new : List (List ℕ)) (fault : ScanFault) (d : ProtoRrsigData) (octets : List ℕ) → FieldsAre old d entry → Decodes Base64 (concat entry) octets
-    → HasRoom limit (length octets) → new ≡ [] → (length (rrsig_octets (rrsig_data d octets)) ≤ 65535 → ⊥) → fault ≡ illegal (codes "record data too long") → RefusesRrsig limit old new fault
+pub refused_length : (limit : Option ℕ) (old entry new : List (List ℕ)) (fault : ScanFault) (d : ProtoRrsigData) (octets : List ℕ)
+    → FieldsAre old d entry → Decodes Base64 (concat entry) octets
+    → HasRoom limit (length octets) → new ≡ [] → (length (rrsig_octets (rrsig_data d octets)) ≤ 65535 → ⊥)
+    → fault ≡ illegal (codes "record data too long") → RefusesRrsig limit old new fault
 refused_length limit old entry new fault d octets fields decoded room all long said = too_long (record {
   value = _;
   octets = octets;

@@ -23,11 +23,13 @@ module _ (stamp reference ahead : ℕ) (small : stamp < 4294967296) (is : ahead 
   none_near far early time n = omega (arith, congruent_ahead, n.congruent, n.not_before, n.not_after)
 
 -- a sum that fits is the time
-pub time_after : (stamp reference ahead limit : ℕ) (o : Option ℕ) → SomeIff o (reference + ahead < limit) (reference + ahead) → IsNear stamp reference (reference + ahead) → IfSome o (TimeAt stamp reference)
+pub time_after : (stamp reference ahead limit : ℕ) (o : Option ℕ) → SomeIff o (reference + ahead < limit) (reference + ahead)
+    → IsNear stamp reference (reference + ahead) → IfSome o (TimeAt stamp reference)
 time_after stamp reference ahead limit None is n = tt
 time_after stamp reference ahead limit (Some x) is n = nearest x (subst (IsNear stamp reference) (sym is.1) n)
 
-pub none_after : (stamp reference ahead limit : ℕ) (o : Option ℕ) → SomeIff o (reference + ahead < limit) (reference + ahead) → IsNear stamp reference (reference + ahead) → IsNone o ↔ ((time : ℕ) × IsNear stamp reference time × (limit ≤ time))
+pub none_after : (stamp reference ahead limit : ℕ) (o : Option ℕ) → SomeIff o (reference + ahead < limit) (reference + ahead)
+    → IsNear stamp reference (reference + ahead) → IsNone o ↔ ((time : ℕ) × IsNear stamp reference time × (limit ≤ time))
 none_after stamp reference ahead limit None is n = (λ _. (reference + ahead, n, omega (arith, is)), λ _. refl)
 none_after stamp reference ahead limit (Some x) is n = (
   λ e. absurd (cc),

@@ -12,8 +12,10 @@ returns-in_default-after_prefix-clause-none c = λ n is.
 
 pub returns-clause-some : goal.returns-clause-some
 returns-clause-some c =
-    number_some (entries c.args.table.now) c.args.prefix.now c.args.text.now c.read_u16.result c.in-Some-after_prefix.digits.now (sym c.in_default.ensures) c.in-Some-after_prefix.ensures c.read_u16.ensures
+    number_some (entries c.args.table.now) c.args.prefix.now c.args.text.now c.read_u16.result c.in-Some-after_prefix.digits.now
+    (sym c.in_default.ensures) c.in-Some-after_prefix.ensures c.read_u16.ensures
 
 pub returns-clause-none : goal.returns-clause-none
 returns-clause-none c =
-    number_none (entries c.args.table.now) c.args.prefix.now c.args.text.now c.read_u16.result c.in-Some-after_prefix.digits.now (sym c.in_default.ensures) c.in-Some-after_prefix.ensures c.read_u16.ensures
+    number_none (entries c.args.table.now) c.args.prefix.now c.args.text.now c.read_u16.result c.in-Some-after_prefix.digits.now
+    (sym c.in_default.ensures) c.in-Some-after_prefix.ensures c.read_u16.ensures

@@ -29,7 +29,8 @@ returns-then-is_err-clause-none c =
 pub returns-then-is_err-2-clause-none : goal.returns-then-is_err-2-clause-none
 returns-then-is_err-2-clause-none c =
     let long : 63 < length c.loop-rest.label + 1 = search rules in
-    no_label_by_length c.args.text.now c.loop-rest.rest.now c.loop-rest.label c.in-Some.octet c.in-Some.used c.loop-rest.invariant.read (sym c.in-Some.ensures.value) long
+    no_label_by_length c.args.text.now c.loop-rest.rest.now c.loop-rest.label c.in-Some.octet c.in-Some.used
+    c.loop-rest.invariant.read (sym c.in-Some.ensures.value) long
 
 pub loop-rest-preserved : goal.loop-rest-preserved
 loop-rest-preserved c =
@@ -45,7 +46,8 @@ pub returns-clause-label : goal.returns-clause-label
 returns-clause-label c =
     let rest = c.loop-rest.rest.now in
     elim c.if-rest-lt1.branch [
-      | in_default w ↦ let none : rest ≡ [] = nil_from_length rest (omega arith) in rw none (spelling_ends _ c.loop-rest.label (rw none at c.loop-rest.invariant.read))
+      | in_default w ↦ let none : rest ≡ [] = nil_from_length rest (omega arith) in rw none
+          (spelling_ends _ c.loop-rest.label (rw none at c.loop-rest.invariant.read))
       | in-len1-up+then-first-eq46 w ↦
           let dot : rest ≡ 46 ∷ drop 1 rest = drop_more rest 0 0 (omega arith) ∙ ap (λ x. x ∷ drop 1 rest) w.if-first-eq46.true in
           rw dot (spelling_dots _ c.loop-rest.label (drop 1 rest) (rw dot at c.loop-rest.invariant.read))

@@ -8,7 +8,13 @@ pub aligned_cmp-requires-clause-same_count : goal.aligned_cmp-requires-clause-sa
 aligned_cmp-requires-clause-same_count c =
     let xs = labels_of c.args.a.now in
     let ys = labels_of c.args.b.now in
-    omega (arith, ap length c.skip_labels-a_end.ensures.rest, ap length c.skip_labels-b_end.ensures.rest, length-drop c.saturating_sub.result xs, length-drop c.saturating_sub-2.result ys)
+    omega (
+      arith,
+      ap length c.skip_labels-a_end.ensures.rest,
+      ap length c.skip_labels-b_end.ensures.rest,
+      length-drop c.saturating_sub.result xs,
+      length-drop c.saturating_sub-2.result ys,
+    )
 
 pub returns : goal.returns
 returns c =

@@ -6,4 +6,5 @@ use Rattle.domain_base.proofs.wire.lowered_octets_cmp.Given as goal
 
 -- the octets so far tie
 abbrev pub invariant-loop-i : goal.invariant-loop-i
-invariant-loop-i l = slice_cmp nat_cmp (map to_ascii_lowercase l.a) (map to_ascii_lowercase l.b) ≡ slice_cmp nat_cmp (map to_ascii_lowercase (drop l.i l.a)) (map to_ascii_lowercase (drop l.i l.b))
+invariant-loop-i l = slice_cmp nat_cmp (map to_ascii_lowercase l.a) (map to_ascii_lowercase l.b)
+    ≡ slice_cmp nat_cmp (map to_ascii_lowercase (drop l.i l.a)) (map to_ascii_lowercase (drop l.i l.b))

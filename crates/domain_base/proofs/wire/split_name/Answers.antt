@@ -30,4 +30,5 @@ loop-len-preserved c =
     let octets = c.args.octets.now in
     let below : c.loop-len.at < length octets = grind (arith, common_steps) in
     let is : get_or octets c.loop-len.at 0 ≡ c.in-Some.field-0.now = grind (arith, common_steps) in
-    reading_goes octets c.loop-len.at c.in-Some.field-0.now below is (octets_from_type octets c.type_inv.octets) c.loop-len.invariant (omega arith) (omega arith) (omega arith) (omega arith)
+    reading_goes octets c.loop-len.at c.in-Some.field-0.now below is
+    (octets_from_type octets c.type_inv.octets) c.loop-len.invariant (omega arith) (omega arith) (omega arith) (omega arith)

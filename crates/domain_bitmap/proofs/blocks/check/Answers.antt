@@ -14,7 +14,8 @@ returns-then-rest-lt2 c =
 
 pub returns-then-len-eq0 : goal.returns-then-len-eq0
 returns-then-len-eq0 c =
-    c.loop-rest.invariant.fault _ (fault_bad_length c.loop-rest.rest.now c.if-rest-lt2.false (elim c.then-len-eq0.either [ inl zero_len ↦ inl zero_len | inr long ↦ inr long.1 ]))
+    c.loop-rest.invariant.fault _ (fault_bad_length c.loop-rest.rest.now c.if-rest-lt2.false
+    (elim c.then-len-eq0.either [ inl zero_len ↦ inl zero_len | inr long ↦ inr long.1 ]))
 
 pub returns-then-rest-len : goal.returns-then-rest-len
 returns-then-rest-len c =

@@ -16,4 +16,5 @@ loop-octet-preserved g c = λ plain.
     let high = c.upper_digit in
     let low = c.upper_digit-in-loop-octet in
     let two = rw (encode_ascii high.result high.ensures.ascii, encode_ascii low.result low.ensures.ascii, high.ensures.value, low.ensures.value) at more in
-    has_written_of_eq _ _ _ _ _ (sym (encode_more upper_digits c.args.octets.now c.loop-octet.octet-index c.loop-octet-test.true)) (has_written_append _ _ _ _ _ _ so_far two)
+    has_written_of_eq _ _ _ _ _ (sym (encode_more upper_digits c.args.octets.now c.loop-octet.octet-index c.loop-octet-test.true))
+    (has_written_append _ _ _ _ _ _ so_far two)

@@ -5,7 +5,8 @@ use Rattle.domain_octets.proofs.base32.display.Given as goal
 
 abbrev pub invariant-loop-digit : goal.invariant-loop-digit
 invariant-loop-digit g l =
-    IsPlainFormatter l.fn.f → (front : List ℕ) × (front ++ map upper_digit l.digits ≡ base32_upper l.octets) × HasWritten g.W.Write.write_str_gives l.fn.f front l.f
+    IsPlainFormatter l.fn.f → (front : List ℕ) × (front ++ map upper_digit l.digits ≡ base32_upper l.octets)
+    × HasWritten g.W.Write.write_str_gives l.fn.f front l.f
 
 abbrev pub decreases-loop-digit : goal.decreases-loop-digit
 decreases-loop-digit g l = length l.digits

@@ -37,7 +37,9 @@ returns-in_err-append_slice-clause-err g c =
     let after : List ℕ = base32_octets scale (value % scale) (base32_digits (drop (at + 1) text)) in
     let stands = rw (← digit) at (digits_stand text _ _ _ (at + 1) c.requires.0 c.requires.1 next) in
     handed_on (BuildFault Base32Hex g.B.OctetsBuilder.limit text) c.in_err-append_slice.field-0.0 c.from_residual.result c.from_residual.ensures.1
-    (build_stops Base32Hex g.B.OctetsBuilder.limit text built ((value / scale) ∷ []) after c.append_slice.result c.in_err-append_slice.field-0.0 c.in_err-append_slice.was stands c.append_slice.ensures.short c.append_slice.ensures.memory)
+    (build_stops Base32Hex g.B.OctetsBuilder.limit text built
+    ((value / scale) ∷ []) after c.append_slice.result c.in_err-append_slice.field-0.0 c.in_err-append_slice.was stands
+    c.append_slice.ensures.short c.append_slice.ensures.memory)
 
 pub loop-c-preserved : goal.loop-c-preserved
 loop-c-preserved g c =
@@ -48,17 +50,29 @@ loop-c-preserved g c =
     let small : digit_at text at < 32 = rw (← digit) c.base32_digit.ensures.small in
     elim c.if-wider-lt256.branch [
       | then-wider-lt256 w ↦ record {
-        digits = rw (w.octets-is, w.scale-is, w.rest-is, digit) (digits_narrow text built c.loop-c.scale c.loop-c.rest at c.loop-c-test.true small c.loop-c.invariant.digits w.if-wider-lt256.true);
+        digits = rw (w.octets-is, w.scale-is, w.rest-is, digit)
+            (digits_narrow text built c.loop-c.scale c.loop-c.rest at c.loop-c-test.true small c.loop-c.invariant.digits
+            w.if-wider-lt256.true);
         room = rw w.octets-is c.loop-c.invariant.room;
       }
       | else-wider-lt256+in_ok-append_slice w ↦ record {
-        digits = rw (w.octets-is, w.scale-is, w.rest-is, w.in_ok-append_slice.ensures.ok, digit) (digits_wide text built c.loop-c.scale c.loop-c.rest at c.loop-c-test.true small c.loop-c.invariant.digits w.if-wider-lt256.false);
+        digits = rw (
+          w.octets-is,
+          w.scale-is,
+          w.rest-is,
+          w.in_ok-append_slice.ensures.ok,
+          digit,
+        ) (digits_wide text built c.loop-c.scale c.loop-c.rest at c.loop-c-test.true small c.loop-c.invariant.digits
+            w.if-wider-lt256.false);
         room =
             rw w.octets-is
-            (room_for_part g.B.OctetsBuilder.limit w.in_ok-append_slice.field-0 w.append_slice.result built _ (g.B.Octets.octets w.append_slice.new.self) w.in_ok-append_slice.was w.in_ok-append_slice.ensures.ok w.append_slice.ensures.short);
+            (room_for_part g.B.OctetsBuilder.limit w.in_ok-append_slice.field-0 w.append_slice.result built _
+            (g.B.Octets.octets w.append_slice.new.self) w.in_ok-append_slice.was w.in_ok-append_slice.ensures.ok
+            w.append_slice.ensures.short);
       }
     ]
 
 pub returns-clause-ok : goal.returns-clause-ok
 returns-clause-ok g c =
-    digits_all c.args.text.now (g.B.Octets.octets c.loop-c.octets) c.requires.0 c.loop-c.scale c.loop-c.rest c.loop-c.c-index c.requires.1 c.loop-c-test.false c.loop-c.invariant.digits
+    digits_all c.args.text.now (g.B.Octets.octets c.loop-c.octets) c.requires.0 c.loop-c.scale c.loop-c.rest c.loop-c.c-index
+    c.requires.1 c.loop-c-test.false c.loop-c.invariant.digits

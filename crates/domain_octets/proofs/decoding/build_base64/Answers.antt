@@ -31,7 +31,9 @@ returns-in_err-append_slice-clause-err g c =
     let same : next.piece ≡ piece = cc in
     let whole = rw same at next.more.whole in
     handed_on (BuildFault Base64 g.B.OctetsBuilder.limit text) c.in_err-append_slice.field-0.0 c.from_residual.result c.from_residual.ensures.1
-    (build_stops Base64 g.B.OctetsBuilder.limit text built piece next.more.rest c.append_slice.result c.in_err-append_slice.field-0.0 c.in_err-append_slice.was whole c.append_slice.ensures.short c.append_slice.ensures.memory)
+    (build_stops Base64 g.B.OctetsBuilder.limit text built piece next.more.rest c.append_slice.result
+    c.in_err-append_slice.field-0.0 c.in_err-append_slice.was whole c.append_slice.ensures.short
+    c.append_slice.ensures.memory)
 
 pub loop-left-preserved : goal.loop-left-preserved
 loop-left-preserved g c =
@@ -45,7 +47,8 @@ loop-left-preserved g c =
     let grown : g.B.Octets.octets c.append_slice.new.self ≡ built ++ piece = c.in_ok-append_slice.ensures.ok in
     record {
       read = rw (grown, c.split_at.ensures.back) (rw same at next.more);
-      room = room_for_part g.B.OctetsBuilder.limit c.in_ok-append_slice.field-0 c.append_slice.result built piece (g.B.Octets.octets c.append_slice.new.self) c.in_ok-append_slice.was grown c.append_slice.ensures.short;
+      room = room_for_part g.B.OctetsBuilder.limit c.in_ok-append_slice.field-0 c.append_slice.result built piece
+          (g.B.Octets.octets c.append_slice.new.self) c.in_ok-append_slice.was grown c.append_slice.ensures.short;
     }
 
 pub returns-clause-ok : goal.returns-clause-ok

@@ -13,13 +13,15 @@ returns-in-Soa g c = rw c.in-Soa.is (λ exact. soa_back g.O.Octets.octets g.N.To
 
 pub returns-in-Rrsig : goal.returns-in-Rrsig
 returns-in-Rrsig g c =
-    rw c.in-Rrsig.is (λ exact. own (rrsig_back g.O.Octets.octets g.N.ToName.labels c.in-Rrsig.data _ c.rrsig_reads_back.ensures) (refl, c.rrsig_reads_back.ensures, refl))
+    rw c.in-Rrsig.is (λ exact. own (rrsig_back g.O.Octets.octets g.N.ToName.labels c.in-Rrsig.data _ c.rrsig_reads_back.ensures)
+    (refl, c.rrsig_reads_back.ensures, refl))
 
 pub returns-in-Nsec : goal.returns-in-Nsec
 returns-in-Nsec g c =
     let name = g.N.ToName.labels c.in-Nsec.data.next_name in
     let first = c.nsec_reads_back.ensures.types.next_name in
-    rw c.in-Nsec.is (λ exact. own (nsec_first g.O.Octets.octets g.N.ToName.labels name _ (name_is_valid first.token name first.holds)) (refl, c.nsec_reads_back.ensures.same exact))
+    rw c.in-Nsec.is (λ exact. own (nsec_first g.O.Octets.octets g.N.ToName.labels name _
+    (name_is_valid first.token name first.holds)) (refl, c.nsec_reads_back.ensures.same exact))
 
 pub returns-in-Unknown : goal.returns-in-Unknown
 returns-in-Unknown g c =

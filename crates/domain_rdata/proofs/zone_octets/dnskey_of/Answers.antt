@@ -16,4 +16,5 @@ pub returns-in_err-key-clause-err : goal.returns-in_err-key-clause-err
 returns-in_err-key-clause-err g c =
     let p = err_from_is_err_and c.from_residual-in_err-key.result c.from_residual-in_err-key.ensures.1 in
     rw (p.1, p.2)
-    (not_copied _ _ c.args.octets.now _ _ _ c.in_err-key.ensures.err (grind (arith, common_steps)) (of_key (dnskey_values c.in_ok-data.data) c.in_ok-data.ensures.ok))
+    (not_copied _ _ c.args.octets.now _ _ _ c.in_err-key.ensures.err (grind (arith, common_steps))
+    (of_key (dnskey_values c.in_ok-data.data) c.in_ok-data.ensures.ok))

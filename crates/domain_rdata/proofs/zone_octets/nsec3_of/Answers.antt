@@ -15,16 +15,19 @@ pub returns-in_err-salt-clause-err : goal.returns-in_err-salt-clause-err
 returns-in_err-salt-clause-err g c =
     let p = err_from_is_err_and c.from_residual-in_err-salt.result c.from_residual-in_err-salt.ensures.1 in
     rw (p.1, p.2)
-    (not_copied _ _ c.args.octets.now _ _ _ c.in_err-salt.ensures.err (grind (arith, common_steps)) (salt_by_hash (nsec3_values c.in_ok-data.data) c.in_ok-data.ensures.ok))
+    (not_copied _ _ c.args.octets.now _ _ _ c.in_err-salt.ensures.err (grind (arith, common_steps))
+    (salt_by_hash (nsec3_values c.in_ok-data.data) c.in_ok-data.ensures.ok))
 
 pub returns-in_err-next_owner-clause-err : goal.returns-in_err-next_owner-clause-err
 returns-in_err-next_owner-clause-err g c =
     let p = err_from_is_err_and c.from_residual-in_err-next_owner.result c.from_residual-in_err-next_owner.ensures.1 in
     rw (p.1, p.2)
-    (not_copied _ _ c.args.octets.now _ _ _ c.in_err-next_owner.ensures.err (grind (arith, common_steps)) (next_hash (nsec3_values c.in_ok-data.data) c.in_ok-data.ensures.ok))
+    (not_copied _ _ c.args.octets.now _ _ _ c.in_err-next_owner.ensures.err (grind (arith, common_steps))
+    (next_hash (nsec3_values c.in_ok-data.data) c.in_ok-data.ensures.ok))
 
 pub returns-in_err-types-clause-err : goal.returns-in_err-types-clause-err
 returns-in_err-types-clause-err g c =
     let p = err_from_is_err_and c.from_residual-in_err-types.result c.from_residual-in_err-types.ensures.1 in
     rw (p.1, p.2)
-    (not_copied _ _ c.args.octets.now _ _ _ c.in_err-types.ensures.err (grind (arith, common_steps)) (types_by_hash (nsec3_values c.in_ok-data.data) c.in_ok-data.ensures.ok))
+    (not_copied _ _ c.args.octets.now _ _ _ c.in_err-types.ensures.err (grind (arith, common_steps))
+    (types_by_hash (nsec3_values c.in_ok-data.data) c.in_ok-data.ensures.ok))

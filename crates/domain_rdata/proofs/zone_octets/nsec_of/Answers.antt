@@ -15,4 +15,5 @@ pub returns-in_err-types-clause-err : goal.returns-in_err-types-clause-err
 returns-in_err-types-clause-err g c =
     let p = err_from_is_err_and c.from_residual-in_err-types.result c.from_residual-in_err-types.ensures.1 in
     rw (p.1, p.2)
-    (not_copied _ _ c.args.octets.now _ _ _ c.in_err-types.ensures.err (grind (arith, common_steps)) (types_by_name ((nsec_values {N = List (List ℕ)} (λ name. name)) c.in_ok-data.data) c.in_ok-data.ensures.ok))
+    (not_copied _ _ c.args.octets.now _ _ _ c.in_err-types.ensures.err (grind (arith, common_steps))
+    (types_by_name ((nsec_values {N = List (List ℕ)} (λ name. name)) c.in_ok-data.data) c.in_ok-data.ensures.ok))

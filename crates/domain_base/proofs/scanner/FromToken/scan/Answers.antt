@@ -9,4 +9,6 @@ returns-in_default-clause-err g c =
 pub returns-clause-err : goal.returns-clause-err
 returns-clause-err g c =
     let first = c.in-Some.ensures in
-    refused_token g.Self.FromToken.refuses (g.S.Scanner.tokens c.args.scanner.now) (g.S.Scanner.tokens c.skip_token.new.self) first.0 c.in-Some.token.now c.from_token-value.result first.1 c.skip_token.ensures c.from_token-value.ensures.err
+    refused_token g.Self.FromToken.refuses (g.S.Scanner.tokens c.args.scanner.now)
+    (g.S.Scanner.tokens c.skip_token.new.self) first.0 c.in-Some.token.now c.from_token-value.result first.1
+    c.skip_token.ensures c.from_token-value.ensures.err

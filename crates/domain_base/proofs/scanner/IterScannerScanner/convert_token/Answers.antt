@@ -10,4 +10,5 @@ returns-in_default-clause-err g c =
 pub returns-clause-err : goal.returns-clause-err
 returns-clause-err g c =
     let first = c.in-Some.ensures in
-    refused_token (CodecFault c.args.codec g.O.Builder.OctetsBuilder.limit) c.args.self.now c.skip_token.new.self first.0 c.in-Some.token.now c.convert-octets.result first.1 c.skip_token.ensures c.convert-octets.ensures.err
+    refused_token (CodecFault c.args.codec g.O.Builder.OctetsBuilder.limit) c.args.self.now c.skip_token.new.self first.0
+    c.in-Some.token.now c.convert-octets.result first.1 c.skip_token.ensures c.convert-octets.ensures.err

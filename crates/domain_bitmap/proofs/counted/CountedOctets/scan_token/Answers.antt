@@ -8,4 +8,5 @@ returns-in-Err-clause-err g c =
 pub returns-clause-err : goal.returns-clause-err
 returns-clause-err g c =
     refused_too_long _ _ g.O.Builder.OctetsBuilder.limit _ _ _ c.in-Ok.ensures.ok
-    (token_has_room _ g.O.Builder.OctetsBuilder.limit _ _ _ _ c.convert_token.result c.in-Ok.is c.in-Ok.ensures.ok c.convert_token.ensures.room) (over_limit _ c.in-Err-from_octets.ensures.ok.1)
+    (token_has_room _ g.O.Builder.OctetsBuilder.limit _ _ _ _ c.convert_token.result c.in-Ok.is c.in-Ok.ensures.ok
+    c.convert_token.ensures.room) (over_limit _ c.in-Err-from_octets.ensures.ok.1)

@@ -12,7 +12,8 @@ returns-then-eq-clause-ok g c =
 pub returns-in-Ok-from_octets-clause-ok : goal.returns-in-Ok-from_octets-clause-ok
 returns-in-Ok-from_octets-clause-ok g c =
     let other : c.args.text.now ≢ codes "-" = search rules in
-    subst (SaltText c.args.text.now) (sym c.in-Ok-from_octets.ensures.octets) (digits c.args.text.now _ other c.in-Ok.ensures.ok (c.in-Ok-from_octets.ensures.ok.0 refl))
+    subst (SaltText c.args.text.now) (sym c.in-Ok-from_octets.ensures.octets)
+    (digits c.args.text.now _ other c.in-Ok.ensures.ok (c.in-Ok-from_octets.ensures.ok.0 refl))
 
 pub returns-in-Err-from_octets-clause-err : goal.returns-in-Err-from_octets-clause-err
 returns-in-Err-from_octets-clause-err g c =

@@ -18,4 +18,5 @@ returns-clause-value g c = equal g c
 
 pub returns-clause-same : goal.returns-clause-same
 returns-clause-same g c =
-    same_params (nsec3param_values c.args.self.now) (nsec3param_values c.args.other.now) c.is_eq.result c.uncounted.ensures.fits c.uncounted-2.ensures.fits (equal g c)
+    same_params (nsec3param_values c.args.self.now) (nsec3param_values c.args.other.now) c.is_eq.result c.uncounted.ensures.fits
+    c.uncounted-2.ensures.fits (equal g c)

@@ -7,8 +7,11 @@ use Rattle.domain_chain_rdata.proofs.nsec_wire.Nsec+ref+slice+u8+ParsedName.pars
 
 pub returns-in-Ok-parse-clause-ok : goal.returns-in-Ok-parse-clause-ok
 returns-in-Ok-parse-clause-ok c =
-    let read = name_then_types c.args.parser.now c.fork-ahead.result c.parse_name.new.parser c.parse.new.parser c.in-Ok.name c.in-Ok-parse.types c.fork-ahead.ensures c.in-Ok.ensures.ok c.in-Ok-parse.ensures.octets.0 c.in-Ok-parse.ensures.octets.1 (c.in-Ok-parse.ensures.ok.0 refl) (subst AreOctets c.as_slice.ensures.octets c.slices_hold_octets.ensures) in
+    let read = name_then_types c.args.parser.now c.fork-ahead.result c.parse_name.new.parser c.parse.new.parser c.in-Ok.name
+    c.in-Ok-parse.types c.fork-ahead.ensures c.in-Ok.ensures.ok c.in-Ok-parse.ensures.octets.0 c.in-Ok-parse.ensures.octets.1
+    (c.in-Ok-parse.ensures.ok.0 refl) (subst AreOctets c.as_slice.ensures.octets c.slices_hold_octets.ensures) in
     subst (λ d. BeginsNsec c.args.parser.now.left (nsec_values {N = List (List ℕ)} (λ name. name) d) c.parse.new.parser.left) (sym c.new.ensures) read
 
 pub returns-in-Err-parse-clause-err : goal.returns-in-Err-parse-clause-err
-returns-in-Err-parse-clause-err c = name_then_fault c.args.parser.now c.fork-ahead.result c.parse_name.new.parser c.in-Ok.name _ c.fork-ahead.ensures c.in-Ok.ensures.ok c.in-Err-parse.ensures.err
+returns-in-Err-parse-clause-err c = name_then_fault c.args.parser.now c.fork-ahead.result c.parse_name.new.parser c.in-Ok.name _
+    c.fork-ahead.ensures c.in-Ok.ensures.ok c.in-Err-parse.ensures.err

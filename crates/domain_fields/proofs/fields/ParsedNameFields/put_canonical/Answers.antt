@@ -9,6 +9,7 @@ pub returns : goal.returns
 unfolding octets_of
 returns g c =
     let wire = c.as_wire-wire in
-    let as_long = subst (λ labels. length (wire_of (lowered labels)) ≡ length (wire_of labels)) wire.ensures.labels (lowered_length wire.result.now wire.ensures.wire) in
+    let as_long = subst (λ labels. length (wire_of (lowered labels)) ≡ length (wire_of labels)) wire.ensures.labels
+    (lowered_length wire.result.now wire.ensures.wire) in
     let compose = c.compose_canonical.ensures in
     appends_whole g.B.OctetsBuilder.limit c.compose_canonical.result _ _ _ _ as_long compose.ok compose.err compose.short compose.memory

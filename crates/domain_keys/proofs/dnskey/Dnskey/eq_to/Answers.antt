@@ -18,4 +18,5 @@ returns-clause-value g c = equal g c
 
 pub returns-clause-same : goal.returns-clause-same
 returns-clause-same g c =
-    same_dnskey c.args.self.now c.args.other.now c.is_eq.result c.fields.ensures.fits c.fields-2.ensures.fits c.fields.ensures.limit c.fields-2.ensures.limit (equal g c)
+    same_dnskey c.args.self.now c.args.other.now c.is_eq.result c.fields.ensures.fits c.fields-2.ensures.fits
+    c.fields.ensures.limit c.fields-2.ensures.limit (equal g c)

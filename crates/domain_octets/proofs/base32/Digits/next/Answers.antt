@@ -23,8 +23,12 @@ invariant_of-self-in_default c = (no_bits, lit< tt)
 pub returns-in_default : goal.returns-in_default
 returns-in_default c =
     let inside = c.self.inside in
-    let none : inside.octets.now ≡ [] = nil_from_length inside.octets.now c.in_default.ensures.cases in
-    (sym c.self.view_is ∙ ends_left inside.scale inside.rest inside.octets.now none c.self.invariant.0 (omega arith) c.if-scale-eq1.false, last_digit inside.scale inside.rest c.self.invariant.0 (omega arith) c.self.invariant.1)
+    let none : inside.octets.now ≡ [] = nil_from_length inside.octets.now c.in_default.ensures.cases in (
+      sym c.self.view_is ∙ ends_left inside.scale inside.rest inside.octets.now none c.self.invariant.0
+          (omega arith) c.if-scale-eq1.false,
+      last_digit inside.scale inside.rest c.self.invariant.0
+          (omega arith) c.self.invariant.1,
+    )
 
 pub invariant_of-self-2 : goal.invariant_of-self-2
 invariant_of-self-2 c =
@@ -35,5 +39,8 @@ pub returns : goal.returns
 returns c =
     let inside = c.self.inside in
     let t = pulled_digit inside.scale inside.rest c.from.result c.self.invariant.0 (omega arith) c.self.invariant.1 (omega arith) in
-    let parts : inside.octets.now ≡ c.from.result ∷ c.in-Some.after.now = rw c.from.ensures c.in-Some.ensures.cases.0 in
-    (sym c.self.view_is ∙ ap (λ o. digits_left inside.scale inside.rest o) parts ∙ pulled_left inside.scale inside.rest c.from.result c.in-Some.after.now c.self.invariant.0 (omega arith), t.digit)
+    let parts : inside.octets.now ≡ c.from.result ∷ c.in-Some.after.now = rw c.from.ensures c.in-Some.ensures.cases.0 in (
+      sym c.self.view_is ∙ ap (λ o. digits_left inside.scale inside.rest o) parts
+          ∙ pulled_left inside.scale inside.rest c.from.result c.in-Some.after.now c.self.invariant.0 (omega arith),
+      t.digit,
+    )

@@ -5,4 +5,5 @@ use Rattle.domain_octets.proofs.base32.Digits.next_five.Goals as goal
 pub returns-clause-some : goal.returns-clause-some
 returns-clause-some c =
     let inside = c.self.inside in
-    rw (c.split_at.ensures.front, c.split_at.ensures.back) (sym c.self.view_is ∙ five_left inside.octets.now inside.scale inside.rest c.if-self-ne1.false c.self.invariant.1 c.if-self-lt5.false)
+    rw (c.split_at.ensures.front, c.split_at.ensures.back) (sym c.self.view_is
+    ∙ five_left inside.octets.now inside.scale inside.rest c.if-self-ne1.false c.self.invariant.1 c.if-self-lt5.false)

@@ -9,7 +9,8 @@ pub returns-then-end-eq0-clause-none : goal.returns-then-end-eq0-clause-none
 returns-then-end-eq0-clause-none c =
     let h = c.put_eights-end.ensures in
     let digits = h.written.0 in
-    let none : digits ≡ [] = nil_from_length digits (many_written _ c.put_eights-end.result c.put_eights-end.new.buffer digits h.end h.written.3 ∙ c.if-end-eq0.true) in
+    let none : digits ≡ [] = nil_from_length digits (many_written _ c.put_eights-end.result c.put_eights-end.new.buffer digits
+    h.end h.written.3 ∙ c.if-end-eq0.true) in
     sym (h.written.2 ∙ ap (λ l. l ++ c.put_eights-end.new.self) none)
 
 pub from_utf8_unchecked-requires : goal.from_utf8_unchecked-requires

@@ -16,6 +16,7 @@ loop-buffer-preserved c =
         so_far.0 ++ more,
         All-append (λ digit. digit < 32) so_far.0 more so_far.1 c.spell_five.ensures.small,
         so_far.2 ∙ ap (λ l. so_far.0 ++ l) c.in-Some.ensures.some ∙ sym (append_assoc so_far.0 more c.next_five.new.self),
-        c.put_eight-end.ensures.front ∙ ap (λ l. l ++ c.spell_five.result) so_far.3 ∙ ap (λ l. map char so_far.0 ++ l) c.spell_five.ensures.value ∙ sym (map-append char so_far.0 more),
+        c.put_eight-end.ensures.front ∙ ap (λ l. l ++ c.spell_five.result) so_far.3
+            ∙ ap (λ l. map char so_far.0 ++ l) c.spell_five.ensures.value ∙ sym (map-append char so_far.0 more),
       );
     }

@@ -29,9 +29,18 @@ pub returns-in_ok-clone-in-Nsec : goal.returns-in_ok-clone-in-Nsec
 returns-in_ok-clone-in-Nsec g c =
     let made = c.in_ok-clone-in-Nsec in
     let next_name = g.met.N.ToName.clone_labels c.in-Nsec.«data».next_name made.field-0.next_name made.ensures.next_name in
-    subst (λ d. IsZoneClone g.O.Octets.octets g.N.ToName.labels d (Nsec made.field-0)) (sym c.in-Nsec.is) (made.field-0, refl, λ i. (next_name i, made.ensures.types i))
+    subst (λ d. IsZoneClone g.O.Octets.octets g.N.ToName.labels d (Nsec made.field-0)) (sym c.in-Nsec.is) (
+      made.field-0,
+      refl,
+      λ i. (next_name i, made.ensures.types i),
+    )
 
 pub returns-in_ok-clone-in-Unknown : goal.returns-in_ok-clone-in-Unknown
 returns-in_ok-clone-in-Unknown g c =
     let made = c.in_ok-clone-in-Unknown in
-    subst (λ d. IsZoneClone g.O.Octets.octets g.N.ToName.labels d (Unknown made.field-0)) (sym c.in-Unknown.is) (made.field-0, refl, made.ensures.0, λ i. (tt, made.ensures.1 i))
+    subst (λ d. IsZoneClone g.O.Octets.octets g.N.ToName.labels d (Unknown made.field-0)) (sym c.in-Unknown.is) (
+      made.field-0,
+      refl,
+      made.ensures.0,
+      λ i. (tt, made.ensures.1 i),
+    )

@@ -6,7 +6,8 @@ use Rattle.domain_rdata.proofs.zone_record_data.ZoneRecordData.scan_rdata.Goals 
 
 pub returns-then-not-is_generic-clause-err : goal.returns-then-not-is_generic-clause-err
 returns-then-not-is_generic-clause-err g c =
-    own_err g.O.Octets.octets g.N.ToName.labels c.args.rtype _ _ _ c.scan_own.result c.scan_own.ensures.err (λ marked. let e = c.is_generic.ensures.1 marked in grind (arith, common_steps))
+    own_err g.O.Octets.octets g.N.ToName.labels c.args.rtype _ _ _ c.scan_own.result c.scan_own.ensures.err
+    (λ marked. let e = c.is_generic.ensures.1 marked in grind (arith, common_steps))
 
 pub returns-then-not-is_generic-clause-spells_none : goal.returns-then-not-is_generic-clause-spells_none
 returns-then-not-is_generic-clause-spells_none g c =
@@ -14,11 +15,13 @@ returns-then-not-is_generic-clause-spells_none g c =
 
 pub returns-in-Ok-clause-ok : goal.returns-in-Ok-clause-ok
 returns-in-Ok-clause-ok g c =
-    generic_ok g.O.Octets.octets g.N.ToName.labels c.args.rtype _ _ _ _ c.from_generic.result c.from_generic.ensures.ok c.in-Ok.ensures.rtype c.in-Ok.ensures.ok c.in-Ok.ensures.all
+    generic_ok g.O.Octets.octets g.N.ToName.labels c.args.rtype _ _ _ _ c.from_generic.result c.from_generic.ensures.ok
+    c.in-Ok.ensures.rtype c.in-Ok.ensures.ok c.in-Ok.ensures.all
 
 pub returns-in-Ok-clause-err : goal.returns-in-Ok-clause-err
 returns-in-Ok-clause-err g c =
-    octets_err g.O.Octets.octets g.N.ToName.labels c.args.rtype _ _ _ _ _ c.from_generic.result c.from_generic.ensures.err c.in-Ok.ensures.rtype c.in-Ok.ensures.ok c.in-Ok.ensures.all
+    octets_err g.O.Octets.octets g.N.ToName.labels c.args.rtype _ _ _ _ _ c.from_generic.result c.from_generic.ensures.err
+    c.in-Ok.ensures.rtype c.in-Ok.ensures.ok c.in-Ok.ensures.all
 
 pub returns-in-Ok-clause-spells_none : goal.returns-in-Ok-clause-spells_none
 returns-in-Ok-clause-spells_none g c =

@@ -22,4 +22,5 @@ returns-in-Some-clause-time c =
 pub returns-in-None-clause-time : goal.returns-in-None-clause-time
 returns-in-None-clause-time c =
     subst (TimeAt c.args.self c.args.reference) (sym (c.from.ensures ∙ c.into_int-in-None.ensures))
-    (before_1970 (none_near c.args.self c.args.reference c.from-ahead.result (omega arith) (omega arith) c.if-ahead-lt2147483648.false (omega (arith, c.in-None.ensures))))
+    (before_1970 (none_near c.args.self c.args.reference c.from-ahead.result (omega arith)
+    (omega arith) c.if-ahead-lt2147483648.false (omega (arith, c.in-None.ensures))))
