@@ -18,7 +18,7 @@ use Rattle.domain_chain_rdata.specs.declared.nsec.Nsec.{Nsec}
 use Rattle.domain_chain_rdata.specs.declared.nsec3.Nsec3.{Nsec3}
 use Rattle.domain_plain.specs.declared.record.Record.{Record}
 use Rattle.domain_nsec.specs.ChainView.{as_link}
-use Rattle.domain_nsec3.specs.View.{as_hashed_link}
+use Rattle.domain_nsec3.specs.View.{as_hashed_link, as_param_record}
 use Rattle.denial_program.specs.Check.{ParamRecord}
 use Rattle.denial_program.specs.Text.{lines_of, nsec_line, nsec3_line, nsec3param_line}
 
@@ -59,6 +59,6 @@ lines_more text items i d l =
 -- and the record of its parameters, with the end of the line
 pub param_printed : (r : ParamRecord)
     → (name_text r.owner ++ codes ".") ++ (codes " " ++ (decimal r.ttl ++ (codes " " ++ (class_text r.class ++ (codes " " ++ (type_text nsec3param ++ (codes " " ++ nsec3param_text (nsec3param_values r.«data»)))))))) ++ codes "\n"
-    ≡ nsec3param_line r ++ codes "\n"
+    ≡ nsec3param_line (as_param_record (λ n. n) r) ++ codes "\n"
 param_printed r =
     ap (λ t. t ++ codes "\n") (parts_of_line (name_text r.owner) (decimal r.ttl) (class_text r.class) (type_text nsec3param) (nsec3param_text (nsec3param_values r.«data»)))

@@ -4,10 +4,10 @@ use Rattle.std.specs.Io.KnownBytes.{Appends}
 use Rattle.domain_octets.specs.Words.{Octets}
 use Rattle.domain_base.specs.Words.{Name, Tokens}
 use Rattle.domain_nsec.specs.Chain.{Link, usual_config}
+use Rattle.domain_nsec3.specs.Chain.{ChainRecords}
 use Rattle.domain_nsec3.specs.Config.{ChainConfig}
-use Rattle.domain_nsec3.specs.View.{Answer as HasherAnswer, as_param_record, hash_by, parameters_of}
+use Rattle.domain_nsec3.specs.View.{Answer as HasherAnswer, hash_by, parameters_of}
 use Rattle.domain_nsec3.specs.declared.config.Nsec3ParamTtlMode.TheVariants.{Soa}
-use Rattle.domain_nsec3.specs.declared.nsec3.HashedNsec3s.{HashedNsec3s}
 use Rattle.domain_dnssec.specs.ZoneRecords.{IsChainOf, HasNoChain, IsHashedChainOf, HasNoHashedChain}
 use Rattle.domain_dnssec.specs.declared.chain.ChainError.{ChainError}
 use Rattle.domain_dnssec.specs.declared.chain.ChainError.TheVariants as chain_error
@@ -56,10 +56,10 @@ usual_nsec3_config answer p =
 -- the answer is the NSEC3 chain of the records by this hasher, and its NSEC3PARAM record
 pub record IsNsec3s (answers : HasherAnswer) (given : List ProgramRecord) (apex : Name) (p : Params)
     (answer : Answer) : Type 0 where
-  pub made : HashedNsec3s Name Octets
+  pub made : ChainRecords
   pub is : answer ≡ Nsec3s made
   pub chain : IsHashedChainOf (λ o. o) (λ n. n) given apex (usual_nsec3_config answers p) Soa
-      made.chain (as_param_record (λ n. n) made.nsec3param)
+      made.links made.param
 
 -- there is none, for this reason
 pub record HasNoNsec3s (answers : HasherAnswer) (given : List ProgramRecord) (apex : Name)

@@ -12,12 +12,10 @@ use Rattle.domain_bitmap.specs.Text.{types_text}
 use Rattle.domain_plain.specs.declared.record.Record.{Record}
 use Rattle.domain_chain_rdata.specs.Nsec3Text.{nsec3_text}
 use Rattle.domain_chain_rdata.specs.Nsec3paramText.{nsec3param_text}
-use Rattle.domain_chain_rdata.specs.Rdata.{nsec3 as nsec3_fields, nsec3param_values}
-use Rattle.domain_chain_rdata.specs.declared.nsec3param.Nsec3param.{Nsec3param}
+use Rattle.domain_chain_rdata.specs.Rdata.{nsec3 as nsec3_fields}
 use Rattle.domain_fields.specs.Layout.{Values}
 use Rattle.domain_nsec.specs.Chain.{Link}
-use Rattle.domain_nsec3.specs.Chain.{HashedLink}
-use Rattle.domain_nsec3.specs.declared.nsec3.HashedNsec3s.{HashedNsec3s}
+use Rattle.domain_nsec3.specs.Chain.{ChainRecords, HashedLink, ParamRecord}
 use Rattle.denial_program.specs.Check.{verdict_text}
 use Rattle.denial_program.specs.declared.answer.Answer.{Answer}
 use Rattle.denial_program.specs.declared.answer.Answer.TheVariants.{Nsecs, Nsec3s, Verdict}
@@ -47,16 +45,24 @@ nsec3_line k =
     (record { owner = k.owner; class = k.class; ttl = k.ttl; «data» = link_values k })
 
 -- algorithm, flags, iterations and salt
-abbrev pub nsec3param_line : Record Name (Nsec3param Octets) → Octets
-nsec3param_line = record_line nsec3param (λ d. nsec3param_text (nsec3param_values d))
+abbrev pub nsec3param_line : ParamRecord → Octets
+nsec3param_line k =
+    let p = k.parameters in
+    record_line nsec3param nsec3param_text
+    (record {
+      owner = k.owner;
+      class = k.class;
+      ttl = k.ttl;
+      «data» = ((p.algorithm, (k.flags, p.iterations)), p.salt);
+    })
 
 abbrev pub lines_of : {T : Type 0} → (T → Octets) → List T → Octets
 lines_of text = flat_map (λ item. text item ++ codes "\n")
 
 -- a line for each record of an NSEC3 chain, and one for its NSEC3PARAM record
-abbrev pub nsec3s_text : HashedNsec3s Name Octets → Octets
+abbrev pub nsec3s_text : ChainRecords → Octets
 nsec3s_text made =
-    lines_of nsec3_line made.chain ++ (nsec3param_line made.nsec3param ++ codes "\n")
+    lines_of nsec3_line made.links ++ (nsec3param_line made.param ++ codes "\n")
 
 -- a line for each record of a chain, or one line with a verdict
 abbrev pub answer_text : Answer → Octets

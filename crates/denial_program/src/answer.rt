@@ -22,8 +22,8 @@ use crate::verdict_text::VerdictText;
 use bumpalo::Bump;
 use domain_base::ParsedName;
 use domain_dnssec::{
-    GenerateNsec3Config, GenerateNsecConfig, HashedNsec3s, InPlaceSorter, Nsec3Chain, Nsec3Hasher,
-    NsecChain, RecordsIter, SigningError, SortedRecords, Verdict, hash_nsec3s, lend_nsecs,
+    GenerateNsec3Config, GenerateNsecConfig, InPlaceSorter, Nsec3Chain, Nsec3Hasher, NsecChain,
+    RecordsIter, SigningError, SortedRecords, Verdict,
 };
 use domain_plain::Record;
 use domain_rdata::{Nsec, Nsec3};
@@ -42,8 +42,8 @@ pub type Nsec3Rr<'a> = Record<ParsedName<'a>, Nsec3<StoredOctets<'a>>>;
 pub enum Answer<'s, 'a> {
     /// An NSEC chain before its records are made.
     Nsecs(NsecChain<'s, ParsedName<'a>>),
-    /// An NSEC3 chain before its records are made, and the record of its parameters.
-    Nsec3s(HashedNsec3s<'s, ParsedName<'a>, ZoneOctets>),
+    /// An NSEC3 chain before its records are made, with the record of its parameters.
+    Nsec3s(Nsec3Chain<'s, ZoneOctets>),
     /// What records prove of a name.
     Verdict(ZoneName, Verdict),
 }
@@ -89,7 +89,7 @@ fn nsecs_of<'s, 'a>(
         → Sorts (λ o. o) (λ n. n) given sorted.now → HasNoNsecs given apex.now fault) }
 {
     let config = GenerateNsecConfig::new();
-    match lend_nsecs(alloc, apex, RecordsIter::new_from_owned(sorted), &config) {
+    match NsecChain::generate(alloc, apex, RecordsIter::new_from_owned(sorted), &config) {
         Ok(nsecs) => Ok(Answer::Nsecs(nsecs)),
         Err(SigningError::OutOfMemory) => Err(DenialFault::OutOfMemory),
         Err(error) => Err(DenialFault::Signing(error)),
@@ -117,7 +117,7 @@ fn nsec3s_of<'s, 'a, H: Nsec3Hasher>(
     let config: GenerateNsec3Config<ZoneOctets, InPlaceSorter> = GenerateNsec3Config::new(
         parameters,
     );
-    match hash_nsec3s(
+    match Nsec3Chain::generate(
         alloc,
         apex,
         RecordsIter::new_from_owned(sorted),
@@ -147,12 +147,9 @@ fn write_nsecs<W: Write>(chain: &NsecChain<'_, ParsedName<'_>>, output: &mut W) 
 
 /// Writes the records of an NSEC3 chain, one a line. They borrow from the chain, so that this takes
 /// no memory.
-fn write_chain<W: Write>(
-    chain: &Nsec3Chain<'_, ParsedName<'_>, ZoneOctets>,
-    output: &mut W,
-) -> io::Result<()>
+fn write_chain<W: Write>(chain: &Nsec3Chain<'_, ZoneOctets>, output: &mut W) -> io::Result<()>
     ensures { OnOk result (Appends (W.contents output.old) (W.contents output.new)
-        (lines_of nsec3_line chain.now)) }
+        (lines_of nsec3_line chain.now.links)) }
 {
     for place in 0..chain.len() {
         let Some(nsec3) = chain.lend(place) else {
@@ -164,15 +161,12 @@ fn write_chain<W: Write>(
 }
 
 /// Writes the records of an NSEC3 chain, and the record of its parameters.
-fn write_nsec3s<W: Write>(
-    made: &HashedNsec3s<'_, ParsedName<'_>, ZoneOctets>,
-    output: &mut W,
-) -> io::Result<()>
+fn write_nsec3s<W: Write>(chain: &Nsec3Chain<'_, ZoneOctets>, output: &mut W) -> io::Result<()>
     ensures { OnOk result (Appends (W.contents output.old) (W.contents output.new)
-        (nsec3s_text made.now)) }
+        (nsec3s_text chain.now)) }
 {
-    write_chain(&made.chain, output)?;
-    writeln!(output, "{}", made.nsec3param)?;
+    write_chain(chain, output)?;
+    writeln!(output, "{}", chain.nsec3param())?;
     Ok(())
 }
 
@@ -184,7 +178,7 @@ impl<'s, 'a> Answer<'s, 'a> {
     {
         match self {
             Answer::Nsecs(chain) => write_nsecs(chain, output)?,
-            Answer::Nsec3s(made) => write_nsec3s(made, output)?,
+            Answer::Nsec3s(chain) => write_nsec3s(chain, output)?,
             Answer::Verdict(name, verdict) => {
                 writeln!(output, "{}", VerdictText::new(name, *verdict))?;
             }
@@ -287,7 +281,7 @@ pub fn write_answer<'a, W: Write, H: Nsec3Hasher>(
             answer.send(output)
         }
         Command::CheckNsec3(question) => {
-            let answer = nsec3_verdict(alloc, arena, question, records, hasher)?;
+            let answer = nsec3_verdict(alloc, question, records, hasher)?;
             answer.send(output)
         }
     }

@@ -4,11 +4,10 @@ ghost use Rattle.denial_program.specs.Check.{HasNoNsec3Verdict, IsNsec3Verdict, 
 ghost use Rattle.denial_program.specs.declared.fault.DenialFault.TheVariants.{OutOfMemory as Memory};
 
 use crate::answer::{Answer, Nsec3Rr, NsecRr};
-use crate::arena::{StoredOctets, StoredRr, store_name};
+use crate::arena::{StoredOctets, StoredRr};
 use crate::command::Question;
 use crate::fault::DenialFault;
 use crate::line::ZoneName;
-use bumpalo::Bump;
 use domain_base::{ParsedName, ToName};
 use domain_dnssec::{Nsec3Hasher, Nsec3Records, Verdict, check_nsec, check_nsec3};
 use domain_octets::{OutOfMemory, TryClone};
@@ -116,7 +115,6 @@ fn chain_of<'a>(
 /// What the NSEC3 records among these prove.
 pub fn nsec3_verdict<'s, 'a, H: Nsec3Hasher>(
     alloc: Global,
-    arena: &'a Bump,
     question: Question,
     records: Vec<StoredRr<'a>>,
     hasher: &H,
@@ -127,9 +125,7 @@ pub fn nsec3_verdict<'s, 'a, H: Nsec3Hasher>(
 {
     let Question { apex, name, rtype } = question;
     let chain = chain_of(alloc, &apex, records)?;
-    let stored_apex = store_name(arena, &apex)?;
-    let stored_name = store_name(arena, &name)?;
-    match check_nsec3(alloc, &stored_apex, &chain, &stored_name, rtype, hasher) {
+    match check_nsec3(alloc, &apex, &chain, &name, rtype, hasher) {
         Ok(verdict) => Ok(Answer::Verdict(name, verdict)),
         Err(error) => match error {
             Nsec3HashError::OutOfMemory => Err(DenialFault::OutOfMemory),

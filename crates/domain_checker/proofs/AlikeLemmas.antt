@@ -1,7 +1,7 @@
 -- What NSEC records say does not depend on TTLs, classes and the case of letters.
-use Rattle.std.proofs.Common.{◌≡◌, ℕ, ◌<◌, Bool, true, false, cond, not, ◌&&◌, ◌||◌, List, [], ◌∷◌, length, refl, sym, ap, ◌∙◌, subst, inl, inr, ◌⊎◌, nat_eq, Option, Some, None}
+use Rattle.std.proofs.Common.{◌≡◌, ℕ, Bool, cond, not, ◌&&◌, ◌||◌, List, [], ◌∷◌, length, refl, ◌∙◌, nat_eq, Option, Some, None}
 use Rattle.std.specs.List.{find}
-use Rattle.domain_base.specs.Name.{is_at_or_below, is_strictly_below, lowered, same_name}
+use Rattle.domain_base.specs.Name.{is_at_or_below, lowered}
 use Rattle.domain_base.specs.Order.{before}
 use Rattle.domain_base.specs.Types.{ds, ns}
 use Rattle.domain_base.specs.Words.{Name}
@@ -12,9 +12,8 @@ use Rattle.domain_zone.specs.Zone.{ZoneRecord}
 use Rattle.domain_zone.proofs.NameLemmas.{before_left, before_right, lowered_below, one_lowered, same_lowered}
 use Rattle.domain_nsec.specs.Chain.{Link}
 use Rattle.domain_checker.specs.Alike.{ArePaired, IsAlike}
-use Rattle.domain_checker.specs.Reading.{cover_verdict, is_at_cut, is_cover, is_match, list_verdict, match_verdict, reading, verdict_of_both, verdict_of_cover}
-use Rattle.domain_checker.specs.Verdict.{has_match_or_cover, is_inside, proved_verdict, zone_verdict}
-use Rattle.domain_checker.specs.declared.verdict.Verdict.{Verdict}
+use Rattle.domain_checker.specs.Reading.{cover_verdict, is_at_cut, is_cover, is_match, match_verdict, reading, verdict_of_both}
+use Rattle.domain_checker.specs.Verdict.{is_inside, proved_verdict, zone_verdict}
 use Rattle.domain_checker.specs.declared.verdict.Verdict.TheVariants.{OutsideZone, BelowDelegation, Has, NoType, EmptyName, NoName, NotProven}
 use Rattle.domain_checker.proofs.PairedLemmas.{OptionsPaired, any_alike, find_alike}
 

@@ -1,5 +1,5 @@
 -- What lists of records say of which each is alike that at the same place of the other.
-use Rattle.std.proofs.Common.{◌≡◌, Bool, true, false, cond, ◌||◌, List, [], ◌∷◌, refl, sym, ap, ◌∙◌, subst, inl, inr, Option, Some, None}
+use Rattle.std.proofs.Common.{◌≡◌, Bool, cond, ◌||◌, List, [], ◌∷◌, refl, sym, subst, inl, inr, Option, Some, None}
 use Rattle.std.specs.List.{find, list_any, Contains, AllByRecursion}
 use Rattle.std.proofs.lemmas.Bool.{cases_Bool}
 use Rattle.domain_checker.specs.Alike.{ArePaired, IsPairedIn}

@@ -35,13 +35,13 @@ fn has_parameters<O: Octets>(nsec3: &Nsec3<O>, param: &Nsec3param<O>) -> bool
 
 /// The label that spells the hash at which a record stands. None where the record has other
 /// parameters, or an owner of another form.
-fn hash_label<'a, O: Octets, N: ToName>(
-    apex: &N,
+fn hash_label<'a, A: ToName, O: Octets, N: ToName>(
+    apex: &A,
     param: &Nsec3param<O>,
     listed: &'a Nsec3Rr<O, N>,
 ) -> Option<&'a [u8]>
     ensures { option_map (λ l. read_label l.now) result
-        ≡ owner_hash (N.labels apex.now) (parameters_of param.now)
+        ≡ owner_hash (A.labels apex.now) (parameters_of param.now)
         (as_hashed_link N.labels listed.now) }
 {
     let owner = listed.owner().as_parsed();
@@ -96,13 +96,13 @@ fn is_cover(label: Option<&[u8]>, next: &[u8], hash: &[u8]) -> bool
 
 /// The first record that matches the hash or, where none does, the first that covers it. Goes over
 /// the records once.
-pub(crate) fn find_hash<'a, O: Octets, N: ToName>(
-    apex: &N,
+pub(crate) fn find_hash<'a, A: ToName, O: Octets, N: ToName>(
+    apex: &A,
     param: &Nsec3param<O>,
     nsec3s: &'a [Nsec3Rr<O, N>],
     hash: &[u8],
 ) -> Found<'a, O, N>
-    ensures { IsFound (N.labels apex.now) (parameters_of param.now)
+    ensures { IsFound (A.labels apex.now) (parameters_of param.now)
         (hashed_links_of N.labels nsec3s.now) hash.now
         (found_match N.labels result) (found_cover N.labels result) }
 {

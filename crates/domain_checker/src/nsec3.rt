@@ -14,11 +14,8 @@ use domain_base::{Rtype, ToName};
 use domain_nsec3::Nsec3Records;
 use domain_octets::Octets;
 use domain_records::Nsec3HashError;
-use domain_zone::Nsec3Hasher;
+use domain_zone::{MAX_NAME, Nsec3Hasher, lower_wire};
 use std::alloc::Global;
-
-/// The greatest length of a name.
-const MAX_NAME: usize = 255;
 
 /// What records of an NSEC3 chain prove of a name and a type (RFC 5155, section 8).
 ///
@@ -43,42 +40,42 @@ const MAX_NAME: usize = 255;
 ///
 /// `Hasher` with the number of the first refusal among the hashes that are asked for, and
 /// `OutOfMemory` where the hasher has none.
-pub fn check_nsec3<O: Octets, N: ToName, H: Nsec3Hasher>(
+pub fn check_nsec3<A: ToName, O: Octets, N: ToName, M: ToName, H: Nsec3Hasher>(
     alloc: Global,
-    apex: &N,
+    apex: &A,
     records: &Nsec3Records<N, O>,
-    name: &N,
+    name: &M,
     rtype: Rtype,
     hasher: &H,
 ) -> Result<Verdict, Nsec3HashError>
-    ensures outside { is_at_or_below (N.labels name.now) (N.labels apex.now) ≡ false
+    ensures outside { is_at_or_below (M.labels name.now) (A.labels apex.now) ≡ false
         → result ≡ Ok Verdict.OutsideZone }
 
     // For records of the chain of any zone, the verdict of that zone where they prove it, and else
     // `NotProven`.
-    ensures zone { IfOk result (IsHashedProved (links N.labels records.now) (N.labels apex.now)
+    ensures zone { IfOk result (IsHashedProved (links N.labels records.now) (A.labels apex.now)
         (parameters records.now) (hash_with (H.answer hasher.now) records.now)
-        (N.labels name.now) rtype) }
+        (M.labels name.now) rtype) }
 
     // For any list at all, the verdict is what the records say by themselves, there is none without
     // a proof, and a closest encloser has no more labels than the name.
-    ensures exact { is_at_or_below (N.labels name.now) (N.labels apex.now) ≡ true
-        → IfOk result (IsWalked (links N.labels records.now) (N.labels apex.now)
+    ensures exact { is_at_or_below (M.labels name.now) (A.labels apex.now) ≡ true
+        → IfOk result (IsWalked (links N.labels records.now) (A.labels apex.now)
         (parameters records.now) (hash_with (H.answer hasher.now) records.now)
-        (N.labels name.now) rtype) }
-    ensures proof { is_at_or_below (N.labels name.now) (N.labels apex.now) ≡ true
+        (M.labels name.now) rtype) }
+    ensures proof { is_at_or_below (M.labels name.now) (A.labels apex.now) ≡ true
         → IfOk result (λ verdict. verdict ≢ Verdict.NotProven
-        → HasHashedProof (links N.labels records.now) (N.labels apex.now)
+        → HasHashedProof (links N.labels records.now) (A.labels apex.now)
         (parameters records.now) (hash_with (H.answer hasher.now) records.now)
-        (N.labels name.now)) }
-    ensures within { IfOk result (IsWithin (length (N.labels name.now))) }
+        (M.labels name.now)) }
+    ensures within { IfOk result (IsWithin (length (M.labels name.now))) }
 
     // An error is the first refusal, or want of memory; and a verdict comes only where no name that
     // is asked for is refused (`exact`).
     ensures refusal { (n : ℕ) → IsErrOf result (hash_error.Hasher n)
-        → IsFirstRefusal (links N.labels records.now) (N.labels apex.now)
+        → IsFirstRefusal (links N.labels records.now) (A.labels apex.now)
         (parameters records.now) (hash_with (H.answer hasher.now) records.now)
-        (N.labels name.now) n }
+        (M.labels name.now) n }
     ensures errors { IfErr result (λ e. (e ≡ hash_error.OutOfMemory)
         ⊎ ((n : ℕ) × (e ≡ hash_error.Hasher n))) }
 {
@@ -87,11 +84,8 @@ pub fn check_nsec3<O: Octets, N: ToName, H: Nsec3Hasher>(
     }
     walks_are_proved();
     let _number = rtype.to_int();
-    let wire = name.as_wire();
     let mut buffer = [0; MAX_NAME];
-    let lowered = &mut buffer[..wire.len()];
-    lowered.copy_from_slice(wire);
-    lowered.make_ascii_lowercase();
+    let lowered = lower_wire(&mut buffer, name);
     match walk(
         alloc,
         apex,

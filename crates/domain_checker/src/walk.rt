@@ -1,5 +1,5 @@
 //! The way from a name towards the apex, up to the first name that an NSEC3 record matches.
-ghost use Rattle.std.specs.Prelude.{◌≡◌, ◌≤◌, ◌⊎◌, ℕ, Ok, Err, true, length, drop, IfOk, IfErr};
+ghost use Rattle.std.specs.Prelude.{◌≡◌, ◌≤◌, ◌⊎◌, ℕ, Err, true, length, drop, IfOk, IfErr};
 ghost use Rattle.std.specs.Option.{option_map};
 ghost use Rattle.domain_base.specs.Name.{is_at_or_below, lowered, wire_of};
 ghost use Rattle.domain_nsec3.specs.View.{as_hashed_link};
@@ -15,24 +15,28 @@ use domain_base::{ParsedName, Rtype, ToName};
 use domain_nsec3::Nsec3Records;
 use domain_octets::Octets;
 use domain_records::Nsec3HashError;
-use domain_zone::{HasherError, Nsec3Hasher};
+use domain_zone::{Nsec3Hasher, hash_wire};
 use std::alloc::Global;
 
 /// Whether a record that matches a name tells that the name is a zone cut.
-fn tells_cut<O: Octets, N: ToName>(apex: &N, name: &ParsedName<'_>, listed: &Nsec3Rr<O, N>) -> bool
-    ensures { result ≡ tells_cut (N.labels apex.now) name.now (as_hashed_link N.labels listed.now) }
+fn tells_cut<A: ToName, O: Octets, N: ToName>(
+    apex: &A,
+    name: &ParsedName<'_>,
+    listed: &Nsec3Rr<O, N>,
+) -> bool
+    ensures { result ≡ tells_cut (A.labels apex.now) name.now (as_hashed_link N.labels listed.now) }
 {
     !name.name_eq(apex) & listed.data().types().contains(Rtype::NS)
 }
 
 /// What a record that matches a name says of it.
-fn match_verdict<O: Octets, N: ToName>(
-    apex: &N,
+fn match_verdict<A: ToName, O: Octets, N: ToName>(
+    apex: &A,
     name: &ParsedName<'_>,
     listed: &Nsec3Rr<O, N>,
     rtype: Rtype,
 ) -> Verdict
-    ensures { result ≡ hash_match_verdict (N.labels apex.now) name.now
+    ensures { result ≡ hash_match_verdict (A.labels apex.now) name.now
         (as_hashed_link N.labels listed.now) rtype }
 {
     let types = listed.data().types();
@@ -68,13 +72,13 @@ fn cover_verdict<O: Octets, N: ToName>(cover: Option<&Nsec3Rr<O, N>>, count: usi
 
 /// What the first record that matches the closest encloser says of the name below it, with the
 /// first cover of the next closer name's hash.
-fn closer_verdict<O: Octets, N: ToName>(
-    apex: &N,
+fn closer_verdict<A: ToName, O: Octets, N: ToName>(
+    apex: &A,
     encloser: &ParsedName<'_>,
     listed: &Nsec3Rr<O, N>,
     cover: Option<&Nsec3Rr<O, N>>,
 ) -> Verdict
-    ensures { result ≡ closer_verdict (N.labels apex.now) encloser.now
+    ensures { result ≡ closer_verdict (A.labels apex.now) encloser.now
         (as_hashed_link N.labels listed.now)
         (option_map (λ k. as_hashed_link N.labels k.now) cover.entry) }
 {
@@ -84,47 +88,26 @@ fn closer_verdict<O: Octets, N: ToName>(
     cover_verdict(cover, encloser.count_labels())
 }
 
-/// The hash of the name with this wire form in lower case.
-fn hash_octets<O: Octets, N: ToName, H: Nsec3Hasher>(
-    alloc: Global,
-    hasher: &H,
-    records: &Nsec3Records<N, O>,
-    wire: &[u8],
-) -> Result<Vec<u8>, Nsec3HashError>
-    ensures ok { IfOk result (λ hash.
-        hash_with (H.answer hasher.now) records.now wire.now ≡ Ok hash.items) }
-    ensures err { IfErr result (λ e. (e ≡ hash_error.OutOfMemory) ⊎ ((n : ℕ)
-        × (e ≡ hash_error.Hasher n)
-        × (hash_with (H.answer hasher.now) records.now wire.now ≡ Err n))) }
-{
-    let param = records.nsec3param.data();
-    let algorithm = param.hash_algorithm();
-    let salt = param.salt().as_slice();
-    match hasher.hash(alloc, wire, algorithm, param.iterations(), salt) {
-        Ok(hash) => Ok(hash),
-        Err(HasherError::Refused(reason)) => Err(Nsec3HashError::Hasher(reason)),
-        Err(HasherError::OutOfMemory) => Err(Nsec3HashError::OutOfMemory),
-    }
-}
-
 /// What the records say of the name with this wire form in lower case. Hashes it, and goes over the
 /// records once.
-fn look_up<'a, O: Octets, N: ToName, H: Nsec3Hasher>(
+fn look_up<'a, A: ToName, O: Octets, N: ToName, H: Nsec3Hasher>(
     alloc: Global,
-    apex: &N,
+    apex: &A,
     records: &'a Nsec3Records<N, O>,
     wire: &[u8],
     hasher: &H,
 ) -> Result<Found<'a, O, N>, Nsec3HashError>
-    ensures ok { IfOk result (λ found. IsLookedUp (N.labels apex.now) (parameters records.now)
+    ensures ok { IfOk result (λ found. IsLookedUp (A.labels apex.now) (parameters records.now)
         (hash_with (H.answer hasher.now) records.now) (links N.labels records.now) wire.now
         (found_match N.labels found) (found_cover N.labels found)) }
     ensures err { IfErr result (λ e. (e ≡ hash_error.OutOfMemory) ⊎ ((n : ℕ)
         × (e ≡ hash_error.Hasher n)
         × (hash_with (H.answer hasher.now) records.now wire.now ≡ Err n))) }
 {
-    let hash = hash_octets(alloc, hasher, records, wire)?;
     let param = records.nsec3param.data();
+    let (algorithm, iterations) = (param.hash_algorithm(), param.iterations());
+    let salt = param.salt().as_slice();
+    let hash = hash_wire(alloc, hasher, algorithm, iterations, salt, wire)?;
     Ok(find_hash(apex, param, records.nsec3s.as_slice(), hash.as_slice()))
 }
 
@@ -140,22 +123,22 @@ fn skip(octets: &[u8], count: usize) -> &[u8]
 /// What the records say of a name at or below the apex, whose wire form in lower case is handed in:
 /// names are hashed from this one on, and each name above has an end of that form. Of a name that
 /// no record matches the first cover is kept for the name above it, and not the hash.
-pub(crate) fn walk<O: Octets, N: ToName, H: Nsec3Hasher>(
+pub(crate) fn walk<A: ToName, O: Octets, N: ToName, H: Nsec3Hasher>(
     alloc: Global,
-    apex: &N,
+    apex: &A,
     records: &Nsec3Records<N, O>,
     name: &ParsedName<'_>,
     wire: &[u8],
     rtype: Rtype,
     hasher: &H,
 ) -> Result<Verdict, Nsec3HashError>
-    requires below { is_at_or_below name.now (N.labels apex.now) ≡ true }
+    requires below { is_at_or_below name.now (A.labels apex.now) ≡ true }
     requires wire { wire.now ≡ wire_of (lowered name.now) }
-    ensures ok { IfOk result (IsWalked (links N.labels records.now) (N.labels apex.now)
+    ensures ok { IfOk result (IsWalked (links N.labels records.now) (A.labels apex.now)
         (parameters records.now) (hash_with (H.answer hasher.now) records.now) name.now rtype) }
     ensures err { IfErr result (λ e. (e ≡ hash_error.OutOfMemory) ⊎ ((n : ℕ)
         × (e ≡ hash_error.Hasher n)
-        × IsFirstRefusal (links N.labels records.now) (N.labels apex.now)
+        × IsFirstRefusal (links N.labels records.now) (A.labels apex.now)
         (parameters records.now) (hash_with (H.answer hasher.now) records.now) name.now n)) }
 {
     let mut cover = match look_up(alloc, apex, records, wire, hasher)? {

@@ -14,6 +14,15 @@ use Rattle.domain_nsec.specs.declared.config.GenerateNsecConfig.{GenerateNsecCon
 use Rattle.domain_dnssec.specs.declared.chain.ChainError.{ChainError}
 use Rattle.domain_dnssec.specs.declared.chain.ChainError.TheVariants.{MixedClasses, Signing, OutOfMemory}
 
+-- a fault of a zone as the reason why records have no chain
+abbrev pub chain_error_of : SigningError → ChainError
+chain_error_of signing_error.EmptyRecordSlice = Signing signing_error.EmptyRecordSlice
+chain_error_of signing_error.MultipleTtlValues = Signing signing_error.MultipleTtlValues
+chain_error_of signing_error.SoaRecordCouldNotBeDetermined =
+    Signing signing_error.SoaRecordCouldNotBeDetermined
+chain_error_of (signing_error.Nsec3HashingError e) = Signing (signing_error.Nsec3HashingError e)
+chain_error_of signing_error.OutOfMemory = OutOfMemory
+
 module _ {N D : Type 0} (labels : N → Name) (rtype_of : D → ℕ) (minimum_of : D → Option ℕ) where
   -- sorted records are of one class, and this is the chain of their zone
   pub record IsSortedChain (sorted : List (Record N D)) (apex : Name)
@@ -28,13 +37,6 @@ module _ {N D : Type 0} (labels : N → Name) (rtype_of : D → ℕ) (minimum_of
     pub fault : IsFirstFault (zone_of labels rtype_of minimum_of sorted) apex config error
     pub told : error ≢ signing_error.OutOfMemory
 
-  -- why sorted records have no chain
-  abbrev pub HasNoSortedChain : List (Record N D) → Name → GenerateNsecConfig
-      → ChainError → Type 0
-  HasNoSortedChain sorted apex config MixedClasses = IsOneClass sorted → ⊥
-  HasNoSortedChain sorted apex config (Signing e) = IsSortedFault sorted apex config e
-  HasNoSortedChain sorted apex config OutOfMemory = Unit {0}
-
 module _ {N D : Type 0} (labels : N → Name) (rtype_of : D → ℕ) (data_cmp : D → D → Ordering) where
   -- sorted is the sorted set of the records that were given, with the earliest of equal ones
   abbrev pub Sorts : List (Record N D) → List (Record N D) → Type 0
@@ -45,6 +47,12 @@ module _ {N D : Type 0} (labels : N → Name) (rtype_of : D → ℕ) (data_cmp :
     pub sorted : List (Record N D)
     pub sorts : Sorts given sorted
     pub mixed : IsOneClass sorted → ⊥
+
+  -- why the given records have no sorted set of one class
+  abbrev pub HasNoSet : List (Record N D) → ChainError → Type 0
+  HasNoSet given MixedClasses = AreMixed given
+  HasNoSet given (Signing e) = ⊥
+  HasNoSet given OutOfMemory = Unit {0}
 
 module _ {N D : Type 0} (labels : N → Name) (rtype_of : D → ℕ) (minimum_of : D → Option ℕ)
     (data_cmp : D → D → Ordering) where

@@ -32,13 +32,6 @@ module _ {N D : Type 0} (labels : N → Name) (rtype_of : D → ℕ) (minimum_of
     pub fault : IsFirstFault (zone_of labels rtype_of minimum_of sorted) apex config error
     pub told : error ≢ signing_error.OutOfMemory
 
-  -- why sorted records have no chain
-  abbrev pub HasNoSortedHashedChain : List (Record N D) → Name → ChainConfig
-      → ChainError → Type 0
-  HasNoSortedHashedChain sorted apex config MixedClasses = IsOneClass sorted → ⊥
-  HasNoSortedHashedChain sorted apex config (Signing e) = IsSortedHashedFault sorted apex config e
-  HasNoSortedHashedChain sorted apex config OutOfMemory = Unit {0}
-
 module _ {N D : Type 0} (labels : N → Name) (rtype_of : D → ℕ) (minimum_of : D → Option ℕ)
     (data_cmp : D → D → Ordering) where
   -- these are the chain and the NSEC3PARAM record of the given records

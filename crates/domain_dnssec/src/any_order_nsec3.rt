@@ -1,59 +1,17 @@
 //! NSEC3 chains of records that are sorted first.
 ghost use Rattle.std.specs.Prelude.{IfErr, IfOk};
 ghost use Rattle.domain_nsec3.specs.View.{as_param_record, config_of, hashed_links_of};
-ghost use Rattle.domain_dnssec.specs.AnyOrderNsec3.{HasNoHashedChain, HasNoSortedHashedChain, IsHashedChainOf, IsSortedHashedChain};
+ghost use Rattle.domain_dnssec.specs.AnyOrderNsec3.{HasNoHashedChain, IsHashedChainOf};
 
+use crate::any_order::sort_one_class;
 use crate::chain::ChainError;
 use domain_base::{CanonicalOrd, MakeName};
 use domain_nsec3::{GenerateNsec3Config, Nsec3Records, generate_nsec3s};
 use domain_octets::{EmptyBuilder, FreezeBuilder, FromBuilder, GrowingBuilder, Truncate};
 use domain_plain::{Record, ZoneData};
-use domain_records::{SigningError, SortedRecords, Sorter};
+use domain_records::Sorter;
 use domain_zone::Nsec3Hasher;
 use std::alloc::Global;
-
-/// The NSEC3 chain of the zone that sorted records are, with its NSEC3PARAM record, as
-/// `generate_nsec3s` makes them.
-///
-/// # Errors
-///
-/// The first that stands: `MixedClasses` where the records are not of one class; `Signing` with the
-/// first fault of the zone; and `OutOfMemory`.
-pub fn generate_nsec3s_of_sorted<
-    R: Sorter,
-    S: Sorter,
-    H: Nsec3Hasher,
-    O,
-    N: MakeName,
-    D: ZoneData + CanonicalOrd,
->(
-    alloc: Global,
-    apex: &N,
-    records: &SortedRecords<N, D, R>,
-    config: &GenerateNsec3Config<O, S>,
-    hasher: &H,
-) -> Result<Nsec3Records<N, O>, ChainError>
-where
-    N: Drop,
-    O: FromBuilder + Drop,
-    O::Builder: GrowingBuilder + EmptyBuilder + Truncate + FreezeBuilder<Frozen = O> + Drop,
-    ensures ok { IfOk result (λ made. IsSortedHashedChain N.labels D.rtype D.minimum records.now
-        (N.labels apex.now) (config_of (H.answer hasher.now) config.now)
-        config.now.nsec3param_ttl_mode (hashed_links_of N.labels made.nsec3s.items)
-        (as_param_record N.labels made.nsec3param)) }
-    ensures err { IfErr result (HasNoSortedHashedChain N.labels D.rtype D.minimum records.now
-        (N.labels apex.now) (config_of (H.answer hasher.now) config.now)) }
-{
-    let groups = records.owner_rrs();
-    if !groups.is_one_class() {
-        return Err(ChainError::MixedClasses);
-    }
-    match generate_nsec3s(alloc, apex, groups, config, hasher) {
-        Ok(made) => Ok(made),
-        Err(SigningError::OutOfMemory) => Err(ChainError::OutOfMemory),
-        Err(error) => Err(ChainError::Signing(error)),
-    }
-}
 
 /// The NSEC3 chain of the zone that records in any order are, with its NSEC3PARAM record: they are
 /// sorted, and of equal records the earliest is kept.
@@ -87,9 +45,12 @@ where
     ensures err { IfErr result (HasNoHashedChain N.labels D.rtype D.minimum D.canonical_cmp
         records.items (N.labels apex.now) (config_of (H.answer hasher.now) config.now)) }
 {
-    let sorted: SortedRecords<N, D> = match SortedRecords::from_vec(records) {
+    let sorted = match sort_one_class(records) {
         Ok(sorted) => sorted,
-        Err(_) => return Err(ChainError::OutOfMemory),
+        Err(error) => return Err(error),
     };
-    generate_nsec3s_of_sorted(alloc, apex, &sorted, config, hasher)
+    match generate_nsec3s(alloc, apex, sorted.owner_rrs(), config, hasher) {
+        Ok(made) => Ok(made),
+        Err(error) => Err(ChainError::from(error)),
+    }
 }

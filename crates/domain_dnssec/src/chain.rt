@@ -1,12 +1,16 @@
 //! Why records have no chain.
-ghost use Rattle.std.specs.Prelude.{Some};
+ghost use Rattle.std.specs.Prelude.{◌≡◌, Some};
+ghost use Rattle.domain_dnssec.specs.AnyOrder.{chain_error_of};
 ghost use Rattle.domain_dnssec.specs.ErrorText.{chain_error_text};
+ghost use Rattle.domain_dnssec.specs.declared.chain.ChainError.TheVariants as chain_error;
 
+use domain_octets::OutOfMemory;
 use domain_records::SigningError;
 use std::error::Error;
 use std::fmt;
 
-/// Why records have no chain.
+/// Why records have no chain. It is no `SigningError`, since the variants of that are those of the
+/// ported crate, and none of them says that records are of more than one class.
 #[derive(Clone, Copy, Debug, PartialEq, Eq)]
 pub enum ChainError {
     /// The records are of more than one class.
@@ -30,3 +34,23 @@ impl fmt::Display for ChainError {
 }
 
 impl Error for ChainError {}
+
+/// Want of memory stays what it is; every other refusal is a fault of the zone.
+impl From<SigningError> for ChainError {
+    ghost from_gives = { λ source e. e ≡ chain_error_of source };
+
+    fn from(error: SigningError) -> ChainError {
+        match error {
+            SigningError::OutOfMemory => ChainError::OutOfMemory,
+            other => ChainError::Signing(other),
+        }
+    }
+}
+
+impl From<OutOfMemory> for ChainError {
+    ghost from_gives = { λ _ e. e ≡ chain_error.OutOfMemory };
+
+    fn from(_error: OutOfMemory) -> ChainError {
+        ChainError::OutOfMemory
+    }
+}

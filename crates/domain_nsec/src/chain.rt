@@ -1,14 +1,19 @@
 //! NSEC chains whose records are made one by one.
-ghost use Rattle.std.specs.Prelude.{◌≡◌, ◌≤◌, ◌↔◌, [], length, slice_index_or, IsTrue, IfOk, IfNone, IfSome, map};
-ghost use Rattle.domain_nsec.specs.Chain.{Link, links_in};
+ghost use Rattle.std.specs.Prelude.{◌≡◌, ◌≤◌, ◌↔◌, [], length, slice_index_or, IsTrue, IfErr, IfOk, IfNone, IfSome, OnOk, map};
+ghost use Rattle.domain_records.specs.Order.{IsOneClass, IsInOrder};
+ghost use Rattle.domain_zone.specs.View.{zone_of};
+ghost use Rattle.domain_nsec.specs.Chain.{Link, links_in, IsChain, IsFaultless, IsFirstFault};
 ghost use Rattle.domain_nsec.specs.ChainView.{as_link, links_of};
 
+use crate::GenerateNsecConfig;
+use crate::types::push_types;
 use domain_base::{MakeName, ParsedName, ToName};
 use domain_bitmap::{RtypeBitmap, RtypeBitmaps};
 use domain_chain_rdata::Nsec;
 use domain_octets::{EmptyBuilder, FromBuilder, GrowingBuilder, OctetsBuilder, OutOfMemory};
-use domain_plain::Record;
-use domain_zone::ApexSoa;
+use domain_plain::{Record, ZoneData};
+use domain_records::{RecordsIter, SigningError};
+use domain_zone::{ApexSoa, UnoccludedOwners, find_soa, has_unequal_ttls};
 use std::alloc::Global;
 use std::marker::Model;
 
@@ -40,7 +45,7 @@ impl<'a, N: ToName> Model for NsecChain<'a, N> {
 
 impl<'a, N: ToName> NsecChain<'a, N> {
     /// The chain of these names and their types.
-    pub(crate) fn new(apex: &'a N, soa: ApexSoa, names: Vec<&'a N>, types: RtypeBitmaps) -> Self
+    fn new(apex: &'a N, soa: ApexSoa, names: Vec<&'a N>, types: RtypeBitmaps) -> Self
         requires { length names.items ≡ length types }
         ensures { result ≡ links_in soa (N.labels apex.now)
             (map (λ n. N.labels n.now) names.entry.items) types }
@@ -51,6 +56,49 @@ impl<'a, N: ToName> NsecChain<'a, N> {
             names,
             types,
         }
+    }
+
+    /// The NSEC chain of a zone (RFC 4034, section 4; RFC 4035, section 2.3): the chain that
+    /// `generate_nsecs` gives, with the same refusals, before its records are made. It borrows
+    /// their names from the records of the zone.
+    ///
+    /// # Errors
+    ///
+    /// Those of `generate_nsecs`.
+    pub fn generate<D: ZoneData>(
+        alloc: Global,
+        apex: &'a N,
+        records: RecordsIter<'a, N, D>,
+        config: &GenerateNsecConfig,
+    ) -> Result<Self, SigningError>
+        requires one_class { IsOneClass records }
+        requires in_order { IsInOrder N.labels D.rtype records }
+        ensures chain { IfOk result (λ links. IsChain
+            (zone_of N.labels D.rtype D.minimum records.entry) (N.labels apex.now) config.now
+            links) }
+        ensures faultless { OnOk result
+            (IsFaultless (zone_of N.labels D.rtype D.minimum records.entry) (N.labels apex.now)
+            config.now) }
+        ensures fault { IfErr result
+            (IsFirstFault (zone_of N.labels D.rtype D.minimum records.entry) (N.labels apex.now)
+            config.now) }
+    {
+        let Some(soa) = find_soa(apex, records.records()) else {
+            return Err(SigningError::SoaRecordCouldNotBeDetermined);
+        };
+        let mut owners = UnoccludedOwners::new(apex, records, config.occlude_below_dname);
+        let mut names = Vec::new(alloc);
+        let mut types = RtypeBitmaps::new(alloc);
+        'owners: while let Some(owner) = owners.next() {
+            if has_unequal_ttls(owner.records.records()) {
+                return Err(SigningError::MultipleTtlValues);
+            }
+            let assumed = config.assume_dnskeys_will_be_added & owner.name.name_eq(apex);
+            let records = owner.records.records();
+            push_types(alloc, &mut types, records, assumed, owner.is_zone_cut)?;
+            names.push(owner.name)?;
+        }
+        Ok(NsecChain::new(apex, soa, names, types))
     }
 
     /// How many records the chain has.

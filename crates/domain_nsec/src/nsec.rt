@@ -1,115 +1,18 @@
 //! The NSEC chain of a zone.
-ghost use Rattle.std.specs.Prelude.{◌≡◌, ◌∷◌, ◌++◌, [], ℕ, Bool, ◌<◌, IfOk, IfErr, OnOk};
-ghost use Rattle.domain_bitmap.specs.Bitmap.{bitmap_octets};
-ghost use Rattle.domain_bitmap.specs.Builder.{holds};
+ghost use Rattle.std.specs.Prelude.{IfOk, IfErr, OnOk};
 ghost use Rattle.domain_records.specs.Order.{IsOneClass, IsInOrder};
-ghost use Rattle.domain_nsec.specs.Chain.{is_listed, IsChain, IsFaultless, IsFirstFault};
+ghost use Rattle.domain_nsec.specs.Chain.{IsChain, IsFaultless, IsFirstFault};
 ghost use Rattle.domain_nsec.specs.Meaning.{CoversBelowOccluders, IsCycle, MirrorsZone, TellsEmpty, TellsEncloser};
 ghost use Rattle.domain_zone.specs.View.{zone_of};
 ghost use Rattle.domain_nsec.specs.ChainView.{links_of};
 
 use crate::{GenerateNsecConfig, NsecChain};
-use domain_base::{MakeName, Rtype, ToName};
-use domain_bitmap::{RtypeBitmap, RtypeBitmapBuilder, RtypeBitmaps};
+use domain_base::MakeName;
 use domain_chain_rdata::Nsec;
-use domain_octets::{
-    EmptyBuilder, FreezeBuilder, FromBuilder, GrowingBuilder, OutOfMemory, SmallBuilder,
-    SmallOctets, Truncate,
-};
+use domain_octets::{EmptyBuilder, FreezeBuilder, FromBuilder, GrowingBuilder, Truncate};
 use domain_plain::{Record, ZoneData};
-use domain_records::{RecordsIter, SigningError, SliceRefsOrOwnedIterator};
-use domain_zone::{UnoccludedOwners, add_type, add_types, find_soa, has_unequal_ttls};
+use domain_records::{RecordsIter, SigningError};
 use std::alloc::Global;
-
-/// The types that each NSEC record lists, and DNSKEY where it is assumed.
-fn common_types<B: GrowingBuilder + EmptyBuilder>(
-    alloc: Global,
-    assumed: bool,
-) -> Result<RtypeBitmapBuilder<B>, OutOfMemory>
-where
-    B: Drop,
-    ensures { IfOk result (λ types. (at_cut : Bool) (t : ℕ) → t < 65536
-        → holds types t ≡ is_listed assumed at_cut [] t) }
-{
-    let mut types = RtypeBitmapBuilder::<B>::new(alloc);
-    add_type(&mut types, Rtype::RRSIG)?;
-    add_type(&mut types, Rtype::NSEC)?;
-    if assumed {
-        add_type(&mut types, Rtype::DNSKEY)?;
-    }
-    Ok(types)
-}
-
-/// The types of an owner's NSEC record.
-fn types_of<N: ToName, D: ZoneData>(
-    alloc: Global,
-    records: SliceRefsOrOwnedIterator<'_, Record<N, D>>,
-    assumed: bool,
-    at_cut: bool,
-) -> Result<RtypeBitmap<SmallOctets>, OutOfMemory>
-    ensures { IfOk result (λ types. types
-        ≡ bitmap_octets (is_listed assumed at_cut
-        (zone_of N.labels D.rtype D.minimum records.entry))) }
-{
-    let mut types = common_types::<SmallBuilder>(alloc, assumed)?;
-    add_types(&mut types, records, at_cut)?;
-    Ok(types.finalize())
-}
-
-/// Appends the types of an owner's NSEC record.
-fn push_types<N: ToName, D: ZoneData>(
-    alloc: Global,
-    types: &mut RtypeBitmaps,
-    records: SliceRefsOrOwnedIterator<'_, Record<N, D>>,
-    assumed: bool,
-    at_cut: bool,
-) -> Result<(), OutOfMemory>
-    ensures { OnOk result (types.new ≡ types.old ++ bitmap_octets (is_listed assumed at_cut
-        (zone_of N.labels D.rtype D.minimum records.entry)) ∷ []) }
-{
-    let listed = types_of(alloc, records, assumed, at_cut)?;
-    types.push(&listed)
-}
-
-/// The NSEC chain of a zone (RFC 4034, section 4; RFC 4035, section 2.3) before its records are
-/// made: the chain that `generate_nsecs` gives, with the same refusals, as a list that makes its
-/// records one by one and borrows their names from the records of the zone.
-///
-/// # Errors
-///
-/// Those of `generate_nsecs`.
-pub fn lend_nsecs<'a, N: ToName, D: ZoneData>(
-    alloc: Global,
-    apex: &'a N,
-    records: RecordsIter<'a, N, D>,
-    config: &GenerateNsecConfig,
-) -> Result<NsecChain<'a, N>, SigningError>
-    requires one_class { IsOneClass records }
-    requires in_order { IsInOrder N.labels D.rtype records }
-    ensures chain { IfOk result (λ links. IsChain (zone_of N.labels D.rtype D.minimum records.entry)
-        (N.labels apex.now) config.now links) }
-    ensures faultless { OnOk result (IsFaultless (zone_of N.labels D.rtype D.minimum records.entry)
-        (N.labels apex.now) config.now) }
-    ensures fault { IfErr result (IsFirstFault (zone_of N.labels D.rtype D.minimum records.entry)
-        (N.labels apex.now) config.now) }
-{
-    let Some(soa) = find_soa(apex, records.records()) else {
-        return Err(SigningError::SoaRecordCouldNotBeDetermined);
-    };
-    let mut owners = UnoccludedOwners::new(apex, records, config.occlude_below_dname);
-    let mut names = Vec::new(alloc);
-    let mut types = RtypeBitmaps::new(alloc);
-    'owners: while let Some(owner) = owners.next() {
-        if has_unequal_ttls(owner.records.records()) {
-            return Err(SigningError::MultipleTtlValues);
-        }
-        let assumed = config.assume_dnskeys_will_be_added & owner.name.name_eq(apex);
-        let records = owner.records.records();
-        push_types(alloc, &mut types, records, assumed, owner.is_zone_cut)?;
-        names.push(owner.name)?;
-    }
-    Ok(NsecChain::new(apex, soa, names, types))
-}
 
 /// The NSEC chain of a zone (RFC 4034, section 4; RFC 4035, section 2.3): one record for each owner
 /// that is at or below the apex and not strictly below a zone cut, in canonical order. Where the
@@ -169,6 +72,6 @@ where
         (zone_of N.labels D.rtype D.minimum records.entry) (N.labels apex.now) config.now
         (links_of N.labels nsecs.items)) }
 {
-    let chain = lend_nsecs(alloc, apex, records, config)?;
+    let chain = NsecChain::generate(alloc, apex, records, config)?;
     Ok(chain.records(alloc)?)
 }

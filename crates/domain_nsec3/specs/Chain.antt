@@ -109,3 +109,8 @@ pub record IsChainParam (L : List ZoneRecord) (a : Name) (config : ChainConfig)
     parameters = config.parameters;
     flags = config.flags;
   }
+
+-- what an NSEC3 chain hands out: its links, and the record that tells its parameters
+pub record ChainRecords : Type 0 where
+  pub links : List HashedLink
+  pub param : ParamRecord

@@ -1,15 +1,36 @@
 //! A chain before its records are made.
-ghost use Rattle.std.specs.Prelude.{◌≡◌, ◌+◌, ◌<◌, ◌≤◌, true, false, length, map, slice_index_or, OnOk, OnErr, IsPermutation};
+ghost use Rattle.std.specs.Prelude.{◌≡◌, ◌+◌, ◌<◌, ◌≤◌, ◌⊎◌, List, Some, true, false, length, map, slice_index_or, All, IfOk, IfErr, OnOk, OnErr, IsPermutation};
+ghost use Rattle.std.specs.List.{list_any};
 ghost use Rattle.std.specs.List.Sorted.{IsSortedByKey, IsStrictlySortedBy};
 ghost use Rattle.std.specs.Ordering.{nat_cmp};
 ghost use Rattle.std.specs.Cmp.Lexicographic.{slice_cmp};
-ghost use Rattle.domain_nsec3.specs.Steps.{HasAlikeNeighbours};
+ghost use Rattle.domain_base.specs.Name.{is_at_or_below, same_name};
+ghost use Rattle.domain_base.specs.Order.{canonical_cmp};
+ghost use Rattle.domain_records.specs.Order.{IsInOrder};
+ghost use Rattle.domain_records.specs.declared.error.Nsec3HashError.TheVariants as hash_error;
+ghost use Rattle.domain_zone.specs.Soa.{chain_ttl, soa_of};
+ghost use Rattle.domain_zone.specs.View.{zone_of};
+ghost use Rattle.domain_zone.specs.Zone.{ZoneRecord};
+ghost use Rattle.domain_zone.specs.declared.soa.ApexSoa.{ApexSoa};
+ghost use Rattle.domain_nsec3.specs.Chain.{IsHashedChain};
+ghost use Rattle.domain_nsec3.specs.Faults.{AreAllHashed, IsFaultless, IsFirstFault, IsFirstHashingFault};
+ghost use Rattle.domain_nsec3.specs.Steps.{AreOriginalOwners, Common, HasAlikeNeighbours, IsHashingFault, IsOrderedChain, entries_of};
+ghost use Rattle.domain_nsec3.specs.StepView.{as_entries, common_of, links_in, AreUsable};
+ghost use Rattle.domain_nsec3.specs.View.{config_of, hash_by, parameters_of};
 ghost use Rattle.domain_nsec3.specs.declared.hash.Hashed.{Hashed};
 
-use crate::hash::Hashed;
+use crate::GenerateNsec3Config;
+use crate::empty::empty_nonterminals;
+use crate::hash::{Hashed, hash_names};
+use crate::owners::{Owners, list_owners};
+use domain_base::{ParsedName, ToName};
 use domain_bitmap::RtypeBitmaps;
-use domain_octets::OutOfMemory;
-use domain_records::Sorter;
+use domain_chain_rdata::Nsec3param;
+use domain_octets::{Octets, OutOfMemory};
+use domain_plain::ZoneData;
+use domain_records::{Nsec3HashError, RecordsIter, SigningError, Sorter};
+use domain_zone::{ApexSoa, Nsec3Hasher};
+use std::alloc::Global;
 
 /// A chain before its records are made: the hashes of its names, and the types of those names that
 /// own records, which come first among the names as they were hashed. The others have none.
@@ -57,4 +78,111 @@ pub(crate) fn hash_after(hashed: &[Hashed], at: usize) -> &[u8]
         return hashed[at + 1].hash.as_slice();
     }
     hashed[0].hash.as_slice()
+}
+
+/// A chain over these names, of which the first own records and have these types: each is hashed,
+/// in the order of the list, and then they are put in the order of their hashes.
+fn hash_chain<S: Sorter, H: Nsec3Hasher, O: Octets, N: ToName>(
+    alloc: Global,
+    hasher: &H,
+    params: &Nsec3param<O>,
+    apex: &N,
+    names: Vec<ParsedName<'_>>,
+    types: RtypeBitmaps,
+) -> Result<HashedChain, Nsec3HashError>
+    requires some { 0 < length names.items }
+    requires within { length types ≤ length names.items }
+    ensures chain { IfOk result (λ chain. (p : Common) → IsOrderedChain (N.labels apex.now)
+        (hash_by (H.answer hasher.now) (parameters_of params.now)) p
+        (entries_of names.entry.items types) (links_in (N.labels apex.now) chain p)) }
+    ensures sound { IfOk result (λ chain. AreUsable (N.labels apex.now) chain) }
+    ensures fault { IfErr result (IsHashingFault (N.labels apex.now)
+        (hash_by (H.answer hasher.now) (parameters_of params.now))
+        (entries_of names.entry.items types)) }
+{
+    let above = apex.as_parsed();
+    let mut hashed = match hash_names(alloc, hasher, params, &above, names.as_slice()) {
+        Ok(hashed) => hashed,
+        Err(error) => return Err(error),
+    };
+    drop(names);
+    sort_by_hash::<S>(&mut hashed)?;
+    if has_collision(hashed.as_slice()) {
+        return Err(Nsec3HashError::CollisionDetected);
+    }
+    Ok(HashedChain { hashed, types })
+}
+
+/// The chain over these owners, which stand in canonical order from the apex on, with their types:
+/// their empty non-terminals are added, all are hashed and put in order.
+fn chain_of_owners<'a, S: Sorter, H: Nsec3Hasher, O: Octets, N: ToName>(
+    alloc: Global,
+    config: &GenerateNsec3Config<O, S>,
+    hasher: &H,
+    apex: &'a N,
+    owners: Owners<'a>,
+) -> Result<HashedChain, Nsec3HashError>
+    requires paired { length owners.names.items ≡ length owners.types }
+    requires ascend { IsStrictlySortedBy canonical_cmp owners.names.items }
+    requires in_zone { All (λ n. is_at_or_below n (N.labels apex.now) ≡ true) owners.names.items }
+    requires begins { list_any (λ n. same_name n (N.labels apex.now)) owners.names.items ≡ true }
+    ensures chain { IfOk result (λ chain. (L : List ZoneRecord) (soa : ApexSoa)
+        → soa_of L (N.labels apex.now) ≡ Some soa
+        → AreOriginalOwners L (N.labels apex.now) (config_of (H.answer hasher.now) config.now)
+        (as_entries owners.entry)
+        → IsHashedChain L (N.labels apex.now) (config_of (H.answer hasher.now) config.now)
+        (links_in (N.labels apex.now) chain (common_of config.now.params (chain_ttl soa)))) }
+    ensures sound { IfOk result (λ chain. AreUsable (N.labels apex.now) chain) }
+    ensures hashed { OnOk result ((L : List ZoneRecord)
+        → AreOriginalOwners L (N.labels apex.now) (config_of (H.answer hasher.now) config.now)
+        (as_entries owners.entry)
+        → AreAllHashed L (N.labels apex.now) (config_of (H.answer hasher.now) config.now)) }
+    ensures fault { IfErr result (λ e. (L : List ZoneRecord)
+        → AreOriginalOwners L (N.labels apex.now) (config_of (H.answer hasher.now) config.now)
+        (as_entries owners.entry)
+        → ((e ≡ hash_error.OutOfMemory)
+        ⊎ IsFirstHashingFault L (N.labels apex.now)
+        (config_of (H.answer hasher.now) config.now) e)) }
+{
+    let Owners { mut names, types } = owners;
+    let above = apex.as_parsed();
+    let mut empty = empty_nonterminals(alloc, &above, names.as_slice())?;
+    names.append(&mut empty)?;
+    drop(empty);
+    match hash_chain::<S, H, O, N>(alloc, hasher, &config.params, apex, names, types) {
+        Ok(chain) => Ok(chain),
+        Err(error) => Err(error),
+    }
+}
+
+/// The chain of a zone whose SOA record is known.
+pub(crate) fn chain_of_zone<S: Sorter, H: Nsec3Hasher, O: Octets, N: ToName, D: ZoneData>(
+    alloc: Global,
+    apex: &N,
+    records: RecordsIter<'_, N, D>,
+    config: &GenerateNsec3Config<O, S>,
+    hasher: &H,
+    soa: &ApexSoa,
+) -> Result<HashedChain, SigningError>
+    requires in_order { IsInOrder N.labels D.rtype records }
+    requires soa { soa_of (zone_of N.labels D.rtype D.minimum records) (N.labels apex.now)
+        ≡ Some soa.now }
+    ensures chain { IfOk result (λ chain. IsHashedChain
+        (zone_of N.labels D.rtype D.minimum records.entry) (N.labels apex.now)
+        (config_of (H.answer hasher.now) config.now)
+        (links_in (N.labels apex.now) chain (common_of config.now.params (chain_ttl soa.now)))) }
+    ensures sound { IfOk result (λ chain. AreUsable (N.labels apex.now) chain) }
+    ensures faultless { OnOk result (IsFaultless (zone_of N.labels D.rtype D.minimum records.entry)
+        (N.labels apex.now) (config_of (H.answer hasher.now) config.now)) }
+    ensures fault { IfErr result (IsFirstFault (zone_of N.labels D.rtype D.minimum records.entry)
+        (N.labels apex.now) (config_of (H.answer hasher.now) config.now)) }
+{
+    let owners = match list_owners(alloc, apex, records, config) {
+        Ok(owners) => owners,
+        Err(error) => return Err(error),
+    };
+    match chain_of_owners(alloc, config, hasher, apex, owners) {
+        Ok(chain) => Ok(chain),
+        Err(error) => Err(SigningError::from(error)),
+    }
 }

@@ -62,17 +62,18 @@ where
     Ok(Record::new(owner, lent.class(), lent.ttl(), data))
 }
 
-/// The record of parameters with an owner of its own.
-pub(crate) fn own_param<O: Octets, N: MakeName>(
+/// A copy of the record of parameters.
+pub(crate) fn copy_param<O: Octets, N: MakeName>(
     alloc: Global,
-    lent: Record<ParsedName<'_>, Nsec3param<O>>,
+    lent: &Record<ParsedName<'_>, Nsec3param<O>>,
 ) -> Result<Record<N, Nsec3param<O>>, OutOfMemory>
 where
+    N: Drop,
     O: Drop,
     ensures { IfOk result (λ made. as_param_record N.labels made
-        ≡ as_param_record (λ n. n) lent.entry) }
+        ≡ as_param_record (λ n. n) lent.now) }
 {
     let owner = N::make(alloc, lent.owner().as_wire())?;
-    let (_, class, ttl, params) = lent.into_parts();
-    Ok(Record::new(owner, class, ttl, params))
+    let params = lent.data().clone()?;
+    Ok(Record::new(owner, lent.class(), lent.ttl(), params))
 }

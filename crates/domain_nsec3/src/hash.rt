@@ -18,11 +18,8 @@ use domain_bitmap::Nsec3Salt;
 use domain_chain_rdata::Nsec3param;
 use domain_octets::{Octets, OutOfMemory};
 use domain_records::Nsec3HashError;
-use domain_zone::{HasherError, Nsec3Hasher};
+use domain_zone::{MAX_NAME, Nsec3Hasher, hash_wire, lower_wire};
 use std::alloc::Global;
-
-/// The greatest length of a name.
-pub(crate) const MAX_NAME: usize = 255;
 
 /// The greatest length of a label.
 const MAX_LABEL: usize = 63;
@@ -52,15 +49,11 @@ fn hash_octets<H: Nsec3Hasher>(
         (record { algorithm = algorithm; iterations = iterations; salt = salt.now })) name.now)
         e) }
 {
-    let wire = name.as_wire();
     let mut buffer = [0; MAX_NAME];
-    let lowered = &mut buffer[..wire.len()];
-    lowered.copy_from_slice(wire);
-    lowered.make_ascii_lowercase();
-    match hasher.hash(alloc, lowered, algorithm, iterations, salt) {
+    let lowered = lower_wire(&mut buffer, name);
+    match hash_wire(alloc, hasher, algorithm, iterations, salt, lowered) {
         Ok(octets) => Ok(octets),
-        Err(HasherError::Refused(reason)) => Err(Nsec3HashError::Hasher(reason)),
-        Err(HasherError::OutOfMemory) => Err(Nsec3HashError::OutOfMemory),
+        Err(error) => Err(error),
     }
 }
 

@@ -7,12 +7,13 @@ ghost use Rattle.domain_nsec3.specs.StepView.{as_hashed_types, common_of, links_
 ghost use Rattle.domain_nsec3.specs.View.{as_hashed_link};
 
 use crate::chain::{HashedChain, hash_after};
-use crate::hash::{Hashed, MAX_NAME, write_owner};
+use crate::hash::{Hashed, write_owner};
 use domain_base::{Class, Name, ParsedName, ToName, Ttl};
 use domain_bitmap::{OwnerHash, RtypeBitmap, RtypeBitmaps};
 use domain_chain_rdata::{Nsec3, Nsec3param};
 use domain_octets::{ArrayBuilder, Octets, OctetsBuilder};
 use domain_plain::Record;
+use domain_zone::MAX_NAME;
 
 /// A record of a chain whose owner lies in the record itself, and whose data lies in the chain.
 pub type LentNsec3<'a> = Record<Name<ArrayBuilder<255>>, Nsec3<&'a [u8]>>;
@@ -50,23 +51,22 @@ fn lend_types<'a>(types: &'a RtypeBitmaps, place: usize) -> RtypeBitmap<&'a [u8]
     types
 }
 
-/// The record below the apex of a name of a chain, which points to a hash.
-fn lend_link<'a, N: ToName, O: Octets>(
-    apex: &N,
-    chain: &'a HashedChain,
+/// The record of a name of a chain, which points to a hash, by the record of its parameters.
+fn lend_link<'a, O: Octets>(
+    types: &'a RtypeBitmaps,
     hashed: &Hashed,
     next: &'a [u8],
-    params: &'a Nsec3param<O>,
     ttl: Ttl,
+    nsec3param: &'a Record<ParsedName<'_>, Nsec3param<O>>,
 ) -> LentNsec3<'a>
-    requires sound { hash_fault (N.labels apex.now) (Ok hashed.now.hash) ≡ None }
+    requires sound { hash_fault nsec3param.now.owner (Ok hashed.now.hash) ≡ None }
     requires short { length next.now ≤ 39 }
     ensures { as_hashed_link (λ n. n) result
-        ≡ link_to (N.labels apex.now) (common_of params.now ttl)
-        (as_hashed_types chain.now.types hashed.now) next.now }
+        ≡ link_to nsec3param.now.owner (common_of nsec3param.now.«data» ttl)
+        (as_hashed_types types.now hashed.now) next.now }
 {
-    let apex = apex.as_parsed();
-    let owner = lend_owner(&apex, hashed.hash.as_slice());
+    let owner = lend_owner(nsec3param.owner(), hashed.hash.as_slice());
+    let params = nsec3param.data();
     let salt = params.salt();
     let nsec3 = Nsec3::new(
         params.hash_algorithm(),
@@ -74,25 +74,24 @@ fn lend_link<'a, N: ToName, O: Octets>(
         params.iterations(),
         salt.remade(salt.as_slice()),
         OwnerHash::from_octets_unchecked(next),
-        lend_types(&chain.types, hashed.place),
+        lend_types(types, hashed.place),
     );
     Record::new(owner, Class::IN, ttl, nsec3)
 }
 
-/// The record at a place of a chain, below the apex. It points to the hash after its own, the last
-/// one to the first.
-pub(crate) fn lend_record<'a, N: ToName, O: Octets>(
-    apex: &N,
+/// The record at a place of a chain, by the record of its parameters, whose owner is the apex. It
+/// points to the hash after its own, the last one to the first.
+pub(crate) fn lend_record<'a, O: Octets>(
     chain: &'a HashedChain,
     at: usize,
-    params: &'a Nsec3param<O>,
     ttl: Ttl,
+    nsec3param: &'a Record<ParsedName<'_>, Nsec3param<O>>,
 ) -> LentNsec3<'a>
     requires inside { at < length chain.now.hashed.items }
-    requires sound { AreUsable (N.labels apex.now) chain.now }
-    ensures { (d : HashedLink) → as_hashed_link (λ n. n) result
-        ≡ slice_index_or (links_in (N.labels apex.now) chain.now (common_of params.now ttl)) at d }
+    requires sound { AreUsable nsec3param.now.owner chain.now }
+    ensures { (d : HashedLink) → as_hashed_link (λ n. n) result ≡ slice_index_or
+        (links_in nsec3param.now.owner chain.now (common_of nsec3param.now.«data» ttl)) at d }
 {
     let next = hash_after(chain.hashed.as_slice(), at);
-    lend_link(apex, chain, &chain.hashed[at], next, params, ttl)
+    lend_link(&chain.types, &chain.hashed[at], next, ttl, nsec3param)
 }

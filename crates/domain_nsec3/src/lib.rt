@@ -1,10 +1,11 @@
 //! The NSEC3 chain of a zone (RFC 5155, section 7.1).
 //!
-//! `generate_nsec3s` gathers the original owner names of a zone and their empty non-terminals,
-//! hashes them, and gives exactly the defined chain, or the first fault that stands; `hash_nsec3s`
-//! gives the same chain before its records are made, in a form that makes them one by one. The
-//! definitions stand in `specs/`, over those of `domain_zone`. The crates above may rely on this:
-//! exactly one record of the chain matches or covers the hash of each name of the zone.
+//! `Nsec3Chain::generate` gathers the original owner names of a zone and their empty non-terminals,
+//! hashes them, and gives exactly the defined chain, or the first fault that stands. The chain lends
+//! its records one by one, and hands all of them out; `generate_nsec3s` is both at once, under the
+//! name of the ported crate. The definitions stand in `specs/`, over those of `domain_zone`. The
+//! crates above may rely on this: exactly one record of the chain matches or covers the hash of each
+//! name of the zone.
 #![tactic(auto)]
 
 mod chain;
@@ -24,5 +25,5 @@ mod types;
 pub use config::{GenerateNsec3Config, Nsec3ParamTtlMode};
 pub use hash::mk_hashed_nsec3_owner_name;
 pub use lent::LentNsec3;
-pub use nsec3::{HashedNsec3s, Nsec3Records, generate_nsec3s, hash_nsec3s};
+pub use nsec3::{Nsec3Records, generate_nsec3s};
 pub use nsec3_chain::Nsec3Chain;

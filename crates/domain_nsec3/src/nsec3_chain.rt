@@ -1,93 +1,184 @@
 //! NSEC3 chains whose records are made one by one.
-ghost use Rattle.std.specs.Prelude.{◌≡◌, ◌≤◌, ◌↔◌, [], length, slice_index_or, IsTrue, IfOk, IfNone, IfSome};
-ghost use Rattle.domain_nsec3.specs.Chain.{HashedLink};
+ghost use Rattle.std.specs.Prelude.{◌≡◌, ◌≤◌, ◌↔◌, [], length, slice_index_or, IsTrue, IfErr, IfOk, IfNone, IfSome, OnOk};
+ghost use Rattle.domain_base.specs.Classes.{in_class};
+ghost use Rattle.domain_records.specs.Order.{IsOneClass, IsInOrder};
+ghost use Rattle.domain_zone.specs.View.{zone_of};
+ghost use Rattle.domain_nsec3.specs.Chain.{HashedLink, IsChainParam, IsHashedChain, param_ttl};
+ghost use Rattle.domain_nsec3.specs.Faults.{IsFaultless, IsFirstFault};
 ghost use Rattle.domain_nsec3.specs.StepView.{common_of, links_in, AreUsable};
-ghost use Rattle.domain_nsec3.specs.View.{as_hashed_link, hashed_links_of};
+ghost use Rattle.domain_nsec3.specs.View.{as_hashed_link, as_param_record, config_of, hashed_links_of, parameters_of};
 
-use crate::chain::HashedChain;
+use crate::GenerateNsec3Config;
+use crate::chain::{HashedChain, chain_of_zone};
 use crate::copy::copy_record;
 use crate::lent::{LentNsec3, lend_record};
-use domain_base::{MakeName, ToName, Ttl};
+use domain_base::{Class, MakeName, ParsedName, ToName, Ttl};
 use domain_chain_rdata::{Nsec3, Nsec3param};
 use domain_octets::{EmptyBuilder, FromBuilder, GrowingBuilder, Octets, OutOfMemory};
-use domain_plain::Record;
+use domain_plain::{Record, ZoneData};
+use domain_records::{RecordsIter, SigningError, Sorter};
+use domain_zone::{ApexSoa, Nsec3Hasher, find_soa};
 use std::alloc::Global;
 use std::marker::Model;
 
-/// The NSEC3 chain of a zone before its records are made. Contracts see the links that its records
-/// have. It borrows the apex, and holds 48 octets for each name of the chain, and for each of those
-/// that own records 8 more beside the octets of its types: a caller that needs one record at a time
-/// needs no list of them.
+/// The NSEC3 chain of a zone before its records are made, and the record that tells its parameters
+/// (RFC 5155, section 7.1). Contracts see the links that its records have, and that record. It
+/// borrows the apex, and holds 48 octets for each name of the chain, and for each of those that own
+/// records 8 more beside the octets of its types: a caller that needs one record at a time needs no
+/// list of them.
 #[derive(Drop)]
-pub struct Nsec3Chain<'a, N: ToName, O: Octets> {
-    apex: &'a N,
+pub struct Nsec3Chain<'a, O: Octets> {
     chain: HashedChain,
-    params: Nsec3param<O>,
     ttl: Ttl,
+    nsec3param: Record<ParsedName<'a>, Nsec3param<O>>,
 }
 
-impl<'a, N: ToName, O: Octets> Model for Nsec3Chain<'a, N, O> {
-    ghost use Rattle.std.specs.Prelude.{List};
-    ghost use Rattle.domain_nsec3.specs.Chain.{HashedLink};
+impl<'a, O: Octets> Model for Nsec3Chain<'a, O> {
+    ghost use Rattle.domain_nsec3.specs.Chain.{ChainRecords};
     ghost use Rattle.domain_nsec3.specs.StepView.{common_of, links_in, AreUsable};
+    ghost use Rattle.domain_nsec3.specs.View.{as_param_record};
 
-    ghost Value = { List HashedLink };
+    ghost Value = { ChainRecords };
 
-    ghost view = { λ c. links_in (N.labels c.apex.now) c.chain (common_of c.params c.ttl) };
+    ghost view = { λ c. record {
+      links = links_in c.nsec3param.owner c.chain (common_of c.nsec3param.«data» c.ttl);
+      param = as_param_record (λ n. n) c.nsec3param;
+    } };
 
-    ghost invariant = { λ c. AreUsable (N.labels c.apex.now) c.chain };
+    ghost invariant = { λ c. AreUsable c.nsec3param.owner c.chain };
 }
 
-impl<'a, N: ToName, O: Octets> Nsec3Chain<'a, N, O> {
-    /// The chain with these parameters and flags, and the TTL of its records.
-    pub(crate) fn new(apex: &'a N, chain: HashedChain, params: Nsec3param<O>, ttl: Ttl) -> Self
-        requires { AreUsable (N.labels apex.now) chain }
-        ensures { result ≡ links_in (N.labels apex.now) chain (common_of params ttl) }
+/// The NSEC3PARAM record of a chain, which borrows the apex.
+fn param_record<'a, S, O: Octets, N: ToName>(
+    apex: &'a N,
+    config: &GenerateNsec3Config<O, S>,
+    soa: &ApexSoa,
+) -> Result<Record<ParsedName<'a>, Nsec3param<O>>, OutOfMemory>
+    ensures { IfOk result (λ made. as_param_record (λ n. n) made ≡ record {
+      owner = N.labels apex.now;
+      class = in_class;
+      ttl = param_ttl config.now.nsec3param_ttl_mode soa.now;
+      parameters = parameters_of config.now.params;
+      flags = config.now.params.flags;
+    }) }
+{
+    let params = config.params.clone()?;
+    Ok(Record::new(
+        apex.as_parsed(),
+        Class::IN,
+        config.nsec3param_ttl_mode.ttl(soa),
+        params,
+    ))
+}
+
+impl<'a, O: Octets> Nsec3Chain<'a, O> {
+    /// The chain with the TTL of its records, and the record of its parameters, whose owner is the
+    /// apex.
+    fn new(chain: HashedChain, ttl: Ttl, nsec3param: Record<ParsedName<'a>, Nsec3param<O>>) -> Self
+        requires { AreUsable nsec3param.owner chain }
+        ensures links { result.links
+            ≡ links_in nsec3param.entry.owner chain (common_of nsec3param.entry.«data» ttl) }
+        ensures param { result.param ≡ as_param_record (λ n. n) nsec3param.entry }
     {
         Nsec3Chain {
-            apex,
             chain,
-            params,
             ttl,
+            nsec3param,
         }
     }
 
-    /// How many records the chain has.
+    /// The NSEC3 chain of a zone and its NSEC3PARAM record (RFC 5155, section 7.1): those that
+    /// `generate_nsec3s` gives, with the same refusals, before the records are made. It borrows the
+    /// apex; the records of the zone are only read.
+    ///
+    /// # Errors
+    ///
+    /// Those of `generate_nsec3s`.
+    pub fn generate<S: Sorter, H: Nsec3Hasher, N: ToName, D: ZoneData>(
+        alloc: Global,
+        apex: &'a N,
+        records: RecordsIter<'_, N, D>,
+        config: &GenerateNsec3Config<O, S>,
+        hasher: &H,
+    ) -> Result<Self, SigningError>
+    where
+        O: Drop,
+        requires one_class { IsOneClass records }
+        requires in_order { IsInOrder N.labels D.rtype records }
+
+        // Ok is exactly the chain, and comes only where no fault stands.
+        ensures chain { IfOk result (λ made. IsHashedChain
+            (zone_of N.labels D.rtype D.minimum records.entry) (N.labels apex.now)
+            (config_of (H.answer hasher.now) config.now) made.links) }
+        ensures param { IfOk result (λ made. IsChainParam
+            (zone_of N.labels D.rtype D.minimum records.entry) (N.labels apex.now)
+            (config_of (H.answer hasher.now) config.now) config.now.nsec3param_ttl_mode
+            made.param) }
+        ensures faultless { OnOk result
+            (IsFaultless (zone_of N.labels D.rtype D.minimum records.entry) (N.labels apex.now)
+            (config_of (H.answer hasher.now) config.now)) }
+        ensures fault { IfErr result
+            (IsFirstFault (zone_of N.labels D.rtype D.minimum records.entry) (N.labels apex.now)
+            (config_of (H.answer hasher.now) config.now)) }
+    {
+        let Some(soa) = find_soa(apex, records.records()) else {
+            return Err(SigningError::SoaRecordCouldNotBeDetermined);
+        };
+        let chain = match chain_of_zone(alloc, apex, records, config, hasher, &soa) {
+            Ok(chain) => chain,
+            Err(error) => return Err(error),
+        };
+        let nsec3param = param_record(apex, config, &soa)?;
+        Ok(Nsec3Chain::new(chain, soa.chain_ttl(), nsec3param))
+    }
+
+    /// How many NSEC3 records the chain has.
     pub fn len(&self) -> usize
-        ensures { result ≡ length self.now }
+        ensures { result ≡ length self.now.links }
     {
         self.chain.hashed.len()
     }
 
-    /// Whether the chain has no records. That of a zone has one for the apex.
+    /// Whether the chain has no NSEC3 records. That of a zone has one for the apex.
     pub fn is_empty(&self) -> bool
-        ensures { IsTrue result ↔ (self.now ≡ []) }
+        ensures { IsTrue result ↔ (self.now.links ≡ []) }
     {
         self.len() == 0
+    }
+
+    /// The NSEC3PARAM record of the apex, whose name it borrows.
+    pub fn nsec3param(&self) -> &Record<ParsedName<'a>, Nsec3param<O>>
+        ensures { as_param_record (λ n. n) result.now ≡ self.now.param }
+    {
+        &self.nsec3param
     }
 
     /// The record at a place, in the order of hashes, which borrows from the chain; None past the
     /// last one. Takes no memory.
     pub fn lend(&self, place: usize) -> Option<LentNsec3<'_>>
         ensures some { IfSome result (λ made. (d : HashedLink)
-            → as_hashed_link (λ n. n) made ≡ slice_index_or self.now place d) }
-        ensures none { IfNone result (length self.now ≤ place) }
+            → as_hashed_link (λ n. n) made ≡ slice_index_or self.now.links place d) }
+        ensures none { IfNone result (length self.now.links ≤ place) }
     {
         if place >= self.len() {
             return None;
         }
-        Some(lend_record(self.apex, &self.chain, place, &self.params, self.ttl))
+        Some(lend_record(&self.chain, place, self.ttl, &self.nsec3param))
     }
 }
 
-impl<'a, N: MakeName, O: FromBuilder> Nsec3Chain<'a, N, O> {
-    /// All records, in the order of hashes.
-    pub fn records(&self, alloc: Global) -> Result<Vec<Record<N, Nsec3<O>>>, OutOfMemory>
+impl<'a, O: FromBuilder> Nsec3Chain<'a, O> {
+    /// All NSEC3 records, in the order of hashes.
+    pub fn records<N: MakeName>(
+        &self,
+        alloc: Global,
+    ) -> Result<Vec<Record<N, Nsec3<O>>>, OutOfMemory>
     where
         O: Drop,
         N: Drop,
         O::Builder: GrowingBuilder + EmptyBuilder + Drop,
-        ensures { IfOk result (λ nsec3s. hashed_links_of N.labels nsec3s.items ≡ self.now) }
+        ensures { IfOk result (λ nsec3s.
+            hashed_links_of N.labels nsec3s.items ≡ self.now.links) }
     {
         let mut nsec3s = Vec::with_capacity(alloc, self.len())?;
         for place in 0..self.len() {

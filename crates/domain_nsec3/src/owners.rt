@@ -11,13 +11,13 @@ ghost use Rattle.domain_zone.specs.View.{zone_of};
 ghost use Rattle.domain_nsec3.specs.View.{Answer, config_of};
 
 use crate::GenerateNsec3Config;
-use crate::types::{OwnerKind, owns_ds, push_types};
-use domain_base::{ParsedName, ToName};
+use crate::types::{OwnerKind, push_types};
+use domain_base::{ParsedName, Rtype, ToName};
 use domain_bitmap::RtypeBitmaps;
 use domain_octets::Octets;
 use domain_plain::ZoneData;
 use domain_records::{RecordsIter, SigningError};
-use domain_zone::{UnoccludedOwner, UnoccludedOwners, has_unequal_ttls};
+use domain_zone::{UnoccludedOwner, UnoccludedOwners, has_type, has_unequal_ttls};
 use std::alloc::Global;
 
 /// Names of a chain that own records, and the types of each.
@@ -32,7 +32,7 @@ fn is_unsigned_cut<N: ToName, D: ZoneData>(owner: &UnoccludedOwner<'_, N, D>) ->
     ensures { result ≡ (owner.now.is_zone_cut
         && not (has_type (zone_of N.labels D.rtype D.minimum owner.now.records) ds)) }
 {
-    owner.is_zone_cut && !owns_ds(owner.records.records())
+    owner.is_zone_cut && !has_type(owner.records.records(), Rtype::DS)
 }
 
 /// The original owner names of a chain that own records, with their types: the owners that are not

@@ -2,8 +2,6 @@
 ghost use Rattle.std.specs.Prelude.{◌≡◌, ◌||◌, ◌&&◌, ◌==◌, ◌∷◌, ◌++◌, ℕ, Bool, [], ◌<◌, map, IfOk, OnOk};
 ghost use Rattle.domain_bitmap.specs.Bitmap.{bitmap_octets};
 ghost use Rattle.domain_bitmap.specs.Builder.{holds};
-ghost use Rattle.domain_base.specs.Types.{ds};
-ghost use Rattle.domain_zone.specs.Zone.{has_type};
 ghost use Rattle.domain_nsec3.specs.Owners.{is_listed};
 ghost use Rattle.domain_zone.specs.View.{zone_of};
 
@@ -24,20 +22,6 @@ pub(crate) struct OwnerKind {
     pub(crate) is_unsigned_cut: bool,
     /// Whether it is the apex.
     pub(crate) is_apex: bool,
-}
-
-/// Whether one of the records is a DS record.
-pub(crate) fn owns_ds<N: ToName, D: ZoneData>(
-    mut records: SliceRefsOrOwnedIterator<'_, Record<N, D>>,
-) -> bool
-    ensures { result ≡ has_type (zone_of N.labels D.rtype D.minimum records.entry) ds }
-{
-    'records: while let Some(record) = records.next() {
-        if record.rtype() == Rtype::DS {
-            return true;
-        }
-    }
-    false
 }
 
 /// Adds a type where it is wanted.

@@ -1,7 +1,10 @@
 //! Hashes of owner names.
-ghost use Rattle.std.specs.Prelude.{◌≡◌, ℕ, List, Result, Ok, Err, IfOk, IsErrOf};
+ghost use Rattle.std.specs.Prelude.{◌≡◌, ◌⊎◌, ℕ, List, Result, Ok, Err, IfErr, IfOk, IsErrOf};
+ghost use Rattle.domain_base.specs.Name.{lowered, wire_of};
+ghost use Rattle.domain_records.specs.declared.error.Nsec3HashError.TheVariants as hash_error;
 
-use domain_base::Nsec3HashAlgorithm;
+use domain_base::{Nsec3HashAlgorithm, ToName};
+use domain_records::Nsec3HashError;
 use std::alloc::Global;
 use std::error::Error;
 use std::fmt;
@@ -51,4 +54,45 @@ pub trait Nsec3Hasher {
             answer self.now name.now algorithm iterations salt.now ≡ Ok hash.items) }
         ensures refused { (n : ℕ) → IsErrOf result (HasherError.Refused n)
             → answer self.now name.now algorithm iterations salt.now ≡ Err n };
+}
+
+/// The greatest length of a name.
+pub const MAX_NAME: usize = 255;
+
+/// Writes the wire form of a name in lower case, as hashers take it, to the front of a buffer.
+pub fn lower_wire<'b, N: ToName>(buffer: &'b mut [u8; MAX_NAME], name: &N) -> &'b [u8]
+    ensures { result.now ≡ wire_of (lowered (N.labels name.now)) }
+{
+    let wire = name.as_wire();
+    let lowered = &mut buffer[..wire.len()];
+    lowered.copy_from_slice(wire);
+    lowered.make_ascii_lowercase();
+    lowered
+}
+
+/// The hash of a name, which is given by the octets of its wire form in lower case; a refusal of the
+/// hasher is one of the chain.
+///
+/// # Errors
+///
+/// `Hasher` with the number of the hasher's refusal, and `OutOfMemory` where it has none.
+pub fn hash_wire<H: Nsec3Hasher>(
+    alloc: Global,
+    hasher: &H,
+    algorithm: Nsec3HashAlgorithm,
+    iterations: u16,
+    salt: &[u8],
+    wire: &[u8],
+) -> Result<Vec<u8>, Nsec3HashError>
+    ensures ok { IfOk result (λ hash.
+        H.answer hasher.now wire.now algorithm iterations salt.now ≡ Ok hash.items) }
+    ensures err { IfErr result (λ e. (e ≡ hash_error.OutOfMemory) ⊎ ((n : ℕ)
+        × (e ≡ hash_error.Hasher n)
+        × (H.answer hasher.now wire.now algorithm iterations salt.now ≡ Err n))) }
+{
+    match hasher.hash(alloc, wire, algorithm, iterations, salt) {
+        Ok(hash) => Ok(hash),
+        Err(HasherError::Refused(reason)) => Err(Nsec3HashError::Hasher(reason)),
+        Err(HasherError::OutOfMemory) => Err(Nsec3HashError::OutOfMemory),
+    }
 }

@@ -15,8 +15,8 @@ mod soa;
 mod ttl;
 mod types;
 
-pub use hasher::{HasherError, Nsec3Hasher};
-pub use owners::{UnoccludedOwner, UnoccludedOwners};
+pub use hasher::{HasherError, MAX_NAME, Nsec3Hasher, hash_wire, lower_wire};
+pub use owners::{UnoccludedOwner, UnoccludedOwners, has_type};
 pub use soa::{ApexSoa, find_soa};
 pub use ttl::has_unequal_ttls;
 pub use types::{add_type, add_types};

@@ -11,7 +11,7 @@ use domain_records::{OwnerRrs, RecordsIter, SliceRefsOrOwnedIterator};
 use std::marker::Model;
 
 /// Whether some record is of this type.
-fn has_type<N: ToName, D: ZoneData>(
+pub fn has_type<N: ToName, D: ZoneData>(
     mut records: SliceRefsOrOwnedIterator<'_, Record<N, D>>,
     wanted: Rtype,
 ) -> bool

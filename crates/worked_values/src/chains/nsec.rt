@@ -4,7 +4,7 @@ use crate::lines::records::{Zone, list, records, zone};
 use crate::lines::{Answers, OwnName, input};
 use domain_base::ScanError;
 use domain_dnssec::{
-    GenerateNsecConfig, generate_nsecs, generate_nsecs_of_records, lend_nsecs_of_sorted,
+    ChainError, GenerateNsecConfig, NsecChain, generate_nsecs, generate_nsecs_of_records,
 };
 use std::alloc::Global;
 use std::fmt::{Debug, Display};
@@ -38,7 +38,11 @@ fn chain(
 /// The records of the chain of sorted records as it lends them, each on a line, and none past the
 /// last one; or why they have none.
 fn chain_lent(alloc: Global, apex: &OwnName, zone: &Zone, answers: &mut Answers) {
-    match lend_nsecs_of_sorted(alloc, apex, zone, &GenerateNsecConfig::new()) {
+    let groups = zone.owner_rrs();
+    if !groups.is_one_class() {
+        return answers.refused(&ChainError::MixedClasses);
+    }
+    match NsecChain::generate(alloc, apex, groups, &GenerateNsecConfig::new()) {
         Ok(chain) => {
             answers.show("records", &chain.len());
             for place in 0..chain.len() {
@@ -50,7 +54,7 @@ fn chain_lent(alloc: Global, apex: &OwnName, zone: &Zone, answers: &mut Answers)
                 answers.echo("  no further record");
             }
         }
-        Err(error) => answers.refused(&error),
+        Err(error) => answers.refused(&ChainError::from(error)),
     }
 }
 

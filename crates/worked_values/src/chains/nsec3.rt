@@ -1,14 +1,13 @@
 //! NSEC3 chains of small zones (RFC 5155, section 7.1).
 use crate::chains::hashers::table;
 use crate::chains::verdicts;
-use crate::lines::records::{Zone, ZoneRecord, list, records, zone};
+use crate::lines::records::{Zone, list, records, zone};
 use crate::lines::{Answers, OwnName, input};
 use crate::zones::RefusingSorter;
 use domain_base::{Nsec3HashAlgorithm, ScanError, Ttl};
 use domain_dnssec::{
-    DefaultSorter, GenerateNsec3Config, Nsec3Hasher, Nsec3ParamTtlMode, Nsec3Records,
-    generate_nsec3s, generate_nsec3s_of_records, generate_nsec3s_of_sorted, hash_nsec3s_of_records,
-    mk_hashed_nsec3_owner_name,
+    ChainError, DefaultSorter, GenerateNsec3Config, Nsec3Chain, Nsec3Hasher, Nsec3ParamTtlMode,
+    Nsec3Records, generate_nsec3s, generate_nsec3s_of_records, mk_hashed_nsec3_owner_name,
 };
 use domain_rdata::{Nsec3Salt, Nsec3param};
 use domain_sha1::Sha1Hasher;
@@ -88,29 +87,52 @@ fn owner<H: Nsec3Hasher>(
     Ok(())
 }
 
-/// The chain of records in any order as it lends its records, and its NSEC3PARAM record, each on a
+/// The records of the chain of sorted records as it lends them, and its NSEC3PARAM record, each on a
 /// line.
 fn lent<H: Nsec3Hasher>(
     alloc: Global,
     apex: &OwnName,
     config: &Config,
     hasher: &H,
-    given: Vec<ZoneRecord>,
+    zone: &Zone,
     answers: &mut Answers,
 ) {
-    match hash_nsec3s_of_records(alloc, apex, given, config, hasher) {
-        Ok(made) => {
-            for place in 0..made.chain.len() {
-                if let Some(nsec3) = made.chain.lend(place) {
+    let groups = zone.owner_rrs();
+    if !groups.is_one_class() {
+        return answers.refused(&ChainError::MixedClasses);
+    }
+    match Nsec3Chain::generate(alloc, apex, groups, config, hasher) {
+        Ok(chain) => {
+            for place in 0..chain.len() {
+                if let Some(nsec3) = chain.lend(place) {
                     answers.show("record", &nsec3);
                 }
             }
-            if made.chain.lend(made.chain.len()).is_none() {
+            if chain.lend(chain.len()).is_none() {
                 answers.echo("  no further record");
             }
-            answers.show("record", &made.nsec3param);
+            answers.show("record", chain.nsec3param());
         }
-        Err(error) => answers.refused(&error),
+        Err(error) => answers.refused(&ChainError::from(error)),
+    }
+}
+
+/// The chain of sorted records, made all at once, or why there is none.
+fn made<H: Nsec3Hasher>(
+    alloc: Global,
+    apex: &OwnName,
+    config: &Config,
+    hasher: &H,
+    zone: &Zone,
+    answers: &mut Answers,
+) {
+    let groups = zone.owner_rrs();
+    if !groups.is_one_class() {
+        return answers.refused(&ChainError::MixedClasses);
+    }
+    match generate_nsec3s(alloc, apex, groups, config, hasher) {
+        Ok(made) => show::<ChainError>(Ok(made), answers),
+        Err(error) => answers.refused(&ChainError::from(error)),
     }
 }
 
@@ -152,16 +174,10 @@ fn with_hasher<H: Nsec3Hasher>(
                 answers,
             );
         }
-        "lent" => lent(alloc, apex, config, hasher, records(alloc, words)?, answers),
+        "lent" => lent(alloc, apex, config, hasher, &zone(alloc, words)?, answers),
         "verdict" => verdicts::by_hash(alloc, apex, &config.params, hasher, words, answers)?,
         "unsorted" => without_sorting(alloc, apex, hasher, &zone(alloc, words)?, answers),
-        _ => {
-            let zone = zone(alloc, words)?;
-            show(
-                generate_nsec3s_of_sorted(alloc, apex, &zone, config, hasher),
-                answers,
-            );
-        }
+        _ => made(alloc, apex, config, hasher, &zone(alloc, words)?, answers),
     }
     Ok(())
 }

@@ -3,7 +3,6 @@ use Rattle.domain_rdata.specs.Zone.{minimum_of, rtype_of}
 use Rattle.domain_zone.specs.View.{zone_of}
 use Rattle.domain_nsec3.specs.Chain.{IsChainParam, IsHashedChain}
 use Rattle.domain_nsec3.specs.Faults.{IsFirstFault}
-use Rattle.domain_nsec3.specs.View.{as_param_record}
 use Rattle.domain_nsec3.specs.declared.config.Nsec3ParamTtlMode.TheVariants.{Soa}
 use Rattle.domain_dnssec.specs.declared.chain.ChainError.TheVariants.{Signing}
 use Rattle.denial_program.specs.Answer.{usual_nsec3_config}
@@ -14,8 +13,8 @@ use Rattle.denial_program.proofs.answer.nsec3s_of.Goals as goal
 pub returns-in-Ok-clause-ok : goal.returns-in-Ok-clause-ok
 returns-in-Ok-clause-ok g c = λ given sorts.
     let answers = g.H.Nsec3Hasher.answer c.args.hasher.now in
-    let links = c.in-Ok.made.chain in
-    let param = as_param_record (λ n. n) c.in-Ok.made.nsec3param in
+    let links = c.in-Ok.made.links in
+    let param = c.in-Ok.made.param in
     let apex = c.args.apex.now in
     let config = usual_nsec3_config answers c.args.parameters in
     let same = usual_is answers c.new-config.result c.args.parameters c.new-config.ensures.params c.new-config.ensures.dnskeys c.new-config.ensures.excludes c.new-config.ensures.dnames in

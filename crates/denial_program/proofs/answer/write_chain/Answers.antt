@@ -8,10 +8,10 @@ use Rattle.denial_program.proofs.answer.write_chain.Goals as goal
 pub loop-place-preserved : goal.loop-place-preserved
 loop-place-preserved g c =
     let link = as_hashed_link (λ n. n) c.in-Some.nsec3 in
-    let more = lines_more nsec3_line c.args.chain.now c.loop-place.place link (omega arith) in
+    let more = lines_more nsec3_line c.args.chain.now.links c.loop-place.place link (omega arith) in
     let line = nsec3_printed c.in-Some.nsec3 ∙ ap (λ k. nsec3_line k ++ codes "\n") (c.in-Some.ensures.some link) in
     subst (Appends (g.W.Write.contents c.args.output.now) (g.W.Write.contents c.writeln.new.self)) (sym more)
     (appends_more (g.W.Write.contents c.args.output.now) (g.W.Write.contents c.loop-place.output) (g.W.Write.contents c.writeln.new.self)
-    (lines_of nsec3_line (take c.loop-place.place c.args.chain.now)) _
+    (lines_of nsec3_line (take c.loop-place.place c.args.chain.now.links)) _
     c.loop-place.invariant
     (subst (Appends (g.W.Write.contents c.loop-place.output) (g.W.Write.contents c.writeln.new.self)) line c.in_ok-writeln.ensures.bytes))

@@ -1,5 +1,4 @@
-use Rattle.std.proofs.Common.{◌≡◌, false, true, refl, sym, subst, IfOk, Err}
-use Rattle.domain_base.specs.Name.{is_at_or_below}
+use Rattle.std.proofs.Common.{◌≡◌, refl, sym, subst, IfOk, Err}
 use Rattle.domain_nsec3.specs.View.{hashed_links_of, parameters_of}
 use Rattle.domain_checker.specs.HashedReading.{IsWalked}
 use Rattle.domain_checker.specs.HashedVerdict.{HasHashedProof, IsFirstRefusal, IsHashedProved}
@@ -17,29 +16,15 @@ returns-in-Ok-clause-ok g c =
     let p = parameters_of param.«data» in
     let hash = hash_with (g.H.Nsec3Hasher.answer c.args.hasher.now) param in
     let verdict = c.in-Ok.verdict in
-    let apex = c.in_ok-stored_apex.stored_apex in
-    let name = c.in_ok-stored_name.stored_name in
-    let same_apex : apex ≡ q.apex = c.in_ok-stored_apex.ensures in
-    let same_name : name ≡ q.name = c.in_ok-stored_name.ensures in
-    let stored_below : is_at_or_below q.name q.apex ≡ true → is_at_or_below name apex ≡ true =
-    λ low. subst (λ n. is_at_or_below n apex ≡ true) (sym same_name) (subst (λ a. is_at_or_below q.name a ≡ true) (sym same_apex) low) in
     record {
       param = param;
       single = chain.0;
       verdict = verdict;
       is = refl;
-      outside = λ off. subst (λ r. IfOk r (λ v. v ≡ OutsideZone)) (sym (c.in-Ok.ensures.outside (subst (λ n. is_at_or_below n apex ≡ false) (sym same_name) (subst (λ a. is_at_or_below q.name a ≡ false) (sym same_apex) off)))) refl;
-      zone = subst (λ rs. IsHashedProved (hashed_links_of (λ n. n) rs) q.apex p hash q.name q.rtype verdict) chain.1
-          (subst (λ n. IsHashedProved (hashed_links_of (λ n. n) c.in_ok-chain.chain.nsec3s.items) q.apex p hash n q.rtype verdict) same_name
-          (subst (λ a. IsHashedProved (hashed_links_of (λ n. n) c.in_ok-chain.chain.nsec3s.items) a p hash name q.rtype verdict) same_apex c.in-Ok.ensures.zone));
-      exact = λ low. subst (λ rs. IsWalked (hashed_links_of (λ n. n) rs) q.apex p hash q.name q.rtype verdict) chain.1
-          (subst (λ n. IsWalked (hashed_links_of (λ n. n) c.in_ok-chain.chain.nsec3s.items) q.apex p hash n q.rtype verdict) same_name
-          (subst (λ a. IsWalked (hashed_links_of (λ n. n) c.in_ok-chain.chain.nsec3s.items) a p hash name q.rtype verdict) same_apex
-          (c.in-Ok.ensures.exact (stored_below low))));
-      proof = λ low some. subst (λ rs. HasHashedProof (hashed_links_of (λ n. n) rs) q.apex p hash q.name) chain.1
-          (subst (λ n. HasHashedProof (hashed_links_of (λ n. n) c.in_ok-chain.chain.nsec3s.items) q.apex p hash n) same_name
-          (subst (λ a. HasHashedProof (hashed_links_of (λ n. n) c.in_ok-chain.chain.nsec3s.items) a p hash name) same_apex
-          (c.in-Ok.ensures.proof (stored_below low) some)));
+      outside = λ off. subst (λ r. IfOk r (λ v. v ≡ OutsideZone)) (sym (c.in-Ok.ensures.outside off)) refl;
+      zone = subst (λ rs. IsHashedProved (hashed_links_of (λ n. n) rs) q.apex p hash q.name q.rtype verdict) chain.1 c.in-Ok.ensures.zone;
+      exact = λ low. subst (λ rs. IsWalked (hashed_links_of (λ n. n) rs) q.apex p hash q.name q.rtype verdict) chain.1 (c.in-Ok.ensures.exact low);
+      proof = λ low some. subst (λ rs. HasHashedProof (hashed_links_of (λ n. n) rs) q.apex p hash q.name) chain.1 (c.in-Ok.ensures.proof low some);
     }
 
 pub returns : goal.returns
@@ -49,11 +34,8 @@ returns g c =
     let chain = c.in_ok-chain.ensures.ok in
     let p = parameters_of param.«data» in
     let hash = hash_with (g.H.Nsec3Hasher.answer c.args.hasher.now) param in
-    let apex = c.in_ok-stored_apex.stored_apex in
-    let name = c.in_ok-stored_name.stored_name in
-    let same_apex : apex ≡ q.apex = c.in_ok-stored_apex.ensures in
-    let same_name : name ≡ q.name = c.in_ok-stored_name.ensures in
-    let refused = hasher_refused {P = λ n. IsFirstRefusal (hashed_links_of (λ n. n) c.in_ok-chain.chain.nsec3s.items) apex p hash name n} c.in-Err.error c.in_default.not-OutOfMemory c.in-Err.ensures.errors (λ n is. c.in-Err.ensures.refusal n (λ i. Err (is i))) in
+    let refused = hasher_refused {P = λ n. IsFirstRefusal (hashed_links_of (λ n. n) c.in_ok-chain.chain.nsec3s.items) q.apex p hash q.name n}
+    c.in-Err.error c.in_default.not-OutOfMemory c.in-Err.ensures.errors (λ n is. c.in-Err.ensures.refusal n (λ i. Err (is i))) in
     record {
       ok = tt;
       err = record {
@@ -61,8 +43,6 @@ returns g c =
         single = chain.0;
         reason = refused.0;
         is = λ i. Nsec3HashingError (refused.1.0 i);
-        first = subst (λ rs. IsFirstRefusal (hashed_links_of (λ n. n) rs) q.apex p hash q.name refused.0) chain.1
-            (subst (λ n. IsFirstRefusal (hashed_links_of (λ n. n) c.in_ok-chain.chain.nsec3s.items) q.apex p hash n refused.0) same_name
-            (subst (λ a. IsFirstRefusal (hashed_links_of (λ n. n) c.in_ok-chain.chain.nsec3s.items) a p hash name refused.0) same_apex refused.1.1));
+        first = subst (λ rs. IsFirstRefusal (hashed_links_of (λ n. n) rs) q.apex p hash q.name refused.0) chain.1 refused.1.1;
       };
     }

@@ -9,8 +9,8 @@ use Rattle.domain_checker.proofs.hashed.find_hash.Given as goal
 abbrev pub invariant-loop-listed : goal.invariant-loop-listed
 invariant-loop-listed g l =
     let see = as_hashed_link g.N.ToName.labels in
-    let matched = is_hash_match (g.N.ToName.labels l.apex) (parameters_of l.param) l.hash in
-    let covered = is_hash_cover (g.N.ToName.labels l.apex) (parameters_of l.param) l.hash in
+    let matched = is_hash_match (g.A.ToName.labels l.apex) (parameters_of l.param) l.hash in
+    let covered = is_hash_cover (g.A.ToName.labels l.apex) (parameters_of l.param) l.hash in
     record {
       matching : find matched (map see l.nsec3s) ≡ find matched (map see (drop l.listed-index l.nsec3s));
       covering : find covered (map see l.nsec3s) ≡ option_or (option_map (λ r. see r.now) l.cover) (find covered (map see (drop l.listed-index l.nsec3s)));

@@ -1,4 +1,4 @@
-use Rattle.std.proofs.Common.{◌≡◌, ◌∙◌, refl, sym, cond, not, ◌&&◌, ◌||◌}
+use Rattle.std.proofs.Common.{◌∙◌, refl, sym}
 use Rattle.std.proofs.lemmas.List.Elements.{All-from_recursion, recursion_from_All}
 use Rattle.std.specs.List.{Contains}
 use Rattle.domain_checker.specs.Alike.{IsHashedAlike, IsPairedIn}

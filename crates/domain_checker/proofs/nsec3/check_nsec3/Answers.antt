@@ -1,23 +1,17 @@
-use Rattle.std.proofs.Common.{◌≡◌, ◌<◌, ◌∙◌, map, true, sym, ap, subst, inl, inr}
-use Rattle.std.specs.Char.{to_ascii_lowercase}
+use Rattle.std.proofs.Common.{◌≡◌, ◌<◌, ◌∙◌, true, sym, ap, subst, inl, inr}
 use Rattle.domain_base.specs.Name.{is_at_or_below, wire_of, lowered}
-use Rattle.domain_base.proofs.CaseLemmas.{lowered_wire}
 use Rattle.domain_checker.specs.HashedReading.{IsWalked}
 use Rattle.domain_checker.specs.HashedVerdict.{IsFirstRefusal}
 use Rattle.domain_checker.specs.HashedView.{hash_with, links, parameters}
 use Rattle.domain_checker.proofs.nsec3.check_nsec3.Goals as goal
 
 pub walk-requires-clause-wire : goal.walk-requires-clause-wire
-walk-requires-clause-wire g c =
-    let wire = c.as_wire-wire in
-    c.make_ascii_lowercase.ensures.after ∙ ap (map to_ascii_lowercase) c.copy_from_slice.ensures.after
-    ∙ sym (lowered_wire wire.result.now wire.ensures.wire) ∙ ap (λ l. wire_of (lowered l)) wire.ensures.labels
-    ∙ ap (λ l. wire_of (lowered l)) (sym c.as_parsed.ensures)
+walk-requires-clause-wire g c = c.lower_wire-lowered.ensures ∙ ap (λ l. wire_of (lowered l)) (sym c.as_parsed.ensures)
 
 pub returns-in-Ok-clause-zone : goal.returns-in-Ok-clause-zone
 returns-in-Ok-clause-zone g c =
-    let a = g.N.ToName.labels c.args.apex.now in
-    let x = g.N.ToName.labels c.args.name.now in
+    let a = g.A.ToName.labels c.args.apex.now in
+    let x = g.M.ToName.labels c.args.name.now in
     let listed = links g.N.ToName.labels c.args.records.now in
     let p = parameters c.args.records.now in
     let hash = hash_with (g.H.Nsec3Hasher.answer c.args.hasher.now) c.args.records.now in
@@ -30,7 +24,7 @@ returns-in-Ok-clause-zone g c =
 
 pub returns-in-Ok-clause-exact : goal.returns-in-Ok-clause-exact
 returns-in-Ok-clause-exact g c =
-    let a = g.N.ToName.labels c.args.apex.now in
+    let a = g.A.ToName.labels c.args.apex.now in
     let listed = links g.N.ToName.labels c.args.records.now in
     let p = parameters c.args.records.now in
     let hash = hash_with (g.H.Nsec3Hasher.answer c.args.hasher.now) c.args.records.now in
@@ -38,8 +32,8 @@ returns-in-Ok-clause-exact g c =
 
 pub returns-in-Ok-clause-proof : goal.returns-in-Ok-clause-proof
 returns-in-Ok-clause-proof g c =
-    let a = g.N.ToName.labels c.args.apex.now in
-    let x = g.N.ToName.labels c.args.name.now in
+    let a = g.A.ToName.labels c.args.apex.now in
+    let x = g.M.ToName.labels c.args.name.now in
     let listed = links g.N.ToName.labels c.args.records.now in
     let p = parameters c.args.records.now in
     let hash = hash_with (g.H.Nsec3Hasher.answer c.args.hasher.now) c.args.records.now in
@@ -51,8 +45,8 @@ returns-in-Ok-clause-proof g c =
 
 pub returns-in-Ok-clause-within : goal.returns-in-Ok-clause-within
 returns-in-Ok-clause-within g c =
-    let a = g.N.ToName.labels c.args.apex.now in
-    let x = g.N.ToName.labels c.args.name.now in
+    let a = g.A.ToName.labels c.args.apex.now in
+    let x = g.M.ToName.labels c.args.name.now in
     let listed = links g.N.ToName.labels c.args.records.now in
     let p = parameters c.args.records.now in
     let hash = hash_with (g.H.Nsec3Hasher.answer c.args.hasher.now) c.args.records.now in
@@ -65,7 +59,7 @@ returns-in-Ok-clause-within g c =
 
 pub returns-in-Err-clause-refusal : goal.returns-in-Err-clause-refusal
 returns-in-Err-clause-refusal g c n e =
-    let a = g.N.ToName.labels c.args.apex.now in
+    let a = g.A.ToName.labels c.args.apex.now in
     let listed = links g.N.ToName.labels c.args.records.now in
     let p = parameters c.args.records.now in
     let hash = hash_with (g.H.Nsec3Hasher.answer c.args.hasher.now) c.args.records.now in

@@ -11,7 +11,7 @@ use Rattle.domain_checker.proofs.walk.walk.Goals as goal
 
 pub returns-in_err-listed-clause-err : goal.returns-in_err-listed-clause-err
 returns-in_err-listed-clause-err g c =
-    let a = g.N.ToName.labels c.args.apex.now in
+    let a = g.A.ToName.labels c.args.apex.now in
     let x = c.args.name.now in
     let listed = links g.N.ToName.labels c.args.records.now in
     let p = parameters c.args.records.now in
@@ -25,7 +25,7 @@ returns-in_err-listed-clause-err g c =
 pub returns-in-Match-clause-ok : goal.returns-in-Match-clause-ok
 returns-in-Match-clause-ok g c =
     let labels = g.N.ToName.labels in
-    let a = labels c.args.apex.now in
+    let a = g.A.ToName.labels c.args.apex.now in
     let x = c.args.name.now in
     let listed = links labels c.args.records.now in
     let p = parameters c.args.records.now in
@@ -37,7 +37,7 @@ returns-in-Match-clause-ok g c =
 pub names-init : goal.names-init
 names-init g c =
     let labels = g.N.ToName.labels in
-    let a = labels c.args.apex.now in
+    let a = g.A.ToName.labels c.args.apex.now in
     let x = c.args.name.now in
     let listed = links labels c.args.records.now in
     let p = parameters c.args.records.now in
@@ -60,7 +60,7 @@ skip-octets-requires g c =
 pub returns-in_err-listed-2-clause-err : goal.returns-in_err-listed-2-clause-err
 returns-in_err-listed-2-clause-err g c =
     let labels = g.N.ToName.labels in
-    let a = labels c.args.apex.now in
+    let a = g.A.ToName.labels c.args.apex.now in
     let x = c.args.name.now in
     let listed = links labels c.args.records.now in
     let p = parameters c.args.records.now in
@@ -80,7 +80,7 @@ returns-in_err-listed-2-clause-err g c =
 pub returns-in-Match-2-clause-ok : goal.returns-in-Match-2-clause-ok
 returns-in-Match-2-clause-ok g c =
     let labels = g.N.ToName.labels in
-    let a = labels c.args.apex.now in
+    let a = g.A.ToName.labels c.args.apex.now in
     let x = c.args.name.now in
     let listed = links labels c.args.records.now in
     let p = parameters c.args.records.now in
@@ -98,7 +98,7 @@ returns-in-Match-2-clause-ok g c =
 pub names-preserved : goal.names-preserved
 names-preserved g c =
     let labels = g.N.ToName.labels in
-    let a = labels c.args.apex.now in
+    let a = g.A.ToName.labels c.args.apex.now in
     let x = c.args.name.now in
     let listed = links labels c.args.records.now in
     let p = parameters c.args.records.now in
@@ -119,7 +119,7 @@ names-preserved g c =
 pub returns-clause-ok : goal.returns-clause-ok
 returns-clause-ok g c =
     let labels = g.N.ToName.labels in
-    let a = labels c.args.apex.now in
+    let a = g.A.ToName.labels c.args.apex.now in
     let listed = links labels c.args.records.now in
     let p = parameters c.args.records.now in
     let hash = hash_with (g.H.Nsec3Hasher.answer c.args.hasher.now) c.args.records.now in

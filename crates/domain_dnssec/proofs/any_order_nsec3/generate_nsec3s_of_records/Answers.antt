@@ -1,22 +1,46 @@
+use Rattle.std.proofs.Common.{sym, subst}
+use Rattle.domain_zone.specs.View.{zone_of}
+use Rattle.domain_nsec3.specs.Chain.{IsChainParam, IsHashedChain}
+use Rattle.domain_nsec3.specs.Faults.{IsFirstFault}
 use Rattle.domain_nsec3.specs.View.{as_param_record, config_of, hashed_links_of}
-use Rattle.domain_dnssec.specs.AnyOrderNsec3.{IsHashedChainOf, IsSortedHashedChain, HasNoHashedChain, HasNoSortedHashedChain}
-use Rattle.domain_dnssec.proofs.AnyOrderLemmas.{if_ok, if_err, no_hashed_chain_of}
+use Rattle.domain_dnssec.specs.AnyOrderNsec3.{HasNoHashedChain}
+use Rattle.domain_dnssec.proofs.AnyOrderLemmas.{no_hashed_set, no_hashed_chain}
 use Rattle.domain_dnssec.proofs.any_order_nsec3.generate_nsec3s_of_records.Goals as goal
 
-pub returns-clause-ok : goal.returns-clause-ok
-returns-clause-ok g c =
-    let labels = g.N.ToName.labels in
-    let config = config_of (g.H.Nsec3Hasher.answer c.args.hasher.now) c.args.config.now in
-    let mode = c.args.config.now.nsec3param_ttl_mode in
-    if_ok (λ made. IsSortedHashedChain labels g.D.RecordData.rtype g.D.ZoneData.minimum c.in-Ok.sorted (labels c.args.apex.now) config mode (hashed_links_of labels made.nsec3s.items) (as_param_record labels made.nsec3param))
-    (λ made. IsHashedChainOf labels g.D.RecordData.rtype g.D.ZoneData.minimum g.D.CanonicalOrd.canonical_cmp c.args.records.items (labels c.args.apex.now) config mode (hashed_links_of labels made.nsec3s.items) (as_param_record labels made.nsec3param))
-    (λ made h. record { sorted = c.in-Ok.sorted; sorts = c.in-Ok.ensures; chain = h }) c.generate_nsec3s_of_sorted.result c.generate_nsec3s_of_sorted.ensures.ok
+pub returns-in-Err-clause-err : goal.returns-in-Err-clause-err
+returns-in-Err-clause-err g c =
+    no_hashed_set g.N.ToName.labels g.D.RecordData.rtype g.D.ZoneData.minimum g.D.CanonicalOrd.canonical_cmp c.args.records.items
+    (g.N.ToName.labels c.args.apex.now) (config_of (g.H.Nsec3Hasher.answer c.args.hasher.now) c.args.config.now) c.in-Err.error c.in-Err.ensures.err
 
 pub returns-clause-err : goal.returns-clause-err
 returns-clause-err g c =
     let labels = g.N.ToName.labels in
+    let rtype = g.D.RecordData.rtype in
+    let minimum = g.D.ZoneData.minimum in
+    let compare = g.D.CanonicalOrd.canonical_cmp in
+    let a = labels c.args.apex.now in
     let config = config_of (g.H.Nsec3Hasher.answer c.args.hasher.now) c.args.config.now in
-    if_err (HasNoSortedHashedChain labels g.D.RecordData.rtype g.D.ZoneData.minimum c.in-Ok.sorted (labels c.args.apex.now) config)
-    (HasNoHashedChain labels g.D.RecordData.rtype g.D.ZoneData.minimum g.D.CanonicalOrd.canonical_cmp c.args.records.items (labels c.args.apex.now) config)
-    (no_hashed_chain_of labels g.D.RecordData.rtype g.D.ZoneData.minimum g.D.CanonicalOrd.canonical_cmp c.args.records.items c.in-Ok.sorted (labels c.args.apex.now) config c.in-Ok.ensures)
-    c.generate_nsec3s_of_sorted.result c.generate_nsec3s_of_sorted.ensures.err
+    let e = c.in-Err-generate_nsec3s.error in
+    let fault = subst (λ rs. IsFirstFault (zone_of labels rtype minimum rs) a config e) c.owner_rrs.ensures.records c.in-Err-generate_nsec3s.ensures.fault in
+    subst (HasNoHashedChain labels rtype minimum compare c.args.records.items a config) (sym c.from.ensures)
+    (no_hashed_chain labels rtype minimum compare c.args.records.items a config c.in-Ok.sorted c.in-Ok.ensures.sorts c.in-Ok.ensures.one_class e fault)
+
+pub returns-in-Ok-generate_nsec3s-clause-ok : goal.returns-in-Ok-generate_nsec3s-clause-ok
+returns-in-Ok-generate_nsec3s-clause-ok g c =
+    let labels = g.N.ToName.labels in
+    let a = labels c.args.apex.now in
+    let config = config_of (g.H.Nsec3Hasher.answer c.args.hasher.now) c.args.config.now in
+    let made = c.in-Ok-generate_nsec3s.made in
+    let links = hashed_links_of {O = g.row.O.Denot} labels c.in-Ok-generate_nsec3s.made.nsec3s.items in
+    let mode = c.args.config.now.nsec3param_ttl_mode in
+    record {
+      sorted = c.in-Ok.sorted;
+      sorts = c.in-Ok.ensures.sorts;
+      chain = record {
+        one_class = c.in-Ok.ensures.one_class;
+        chain = subst (λ rs. IsHashedChain (zone_of labels g.D.RecordData.rtype g.D.ZoneData.minimum rs) a config links)
+            c.owner_rrs.ensures.records c.in-Ok-generate_nsec3s.ensures.chain;
+        told = subst (λ rs. IsChainParam (zone_of labels g.D.RecordData.rtype g.D.ZoneData.minimum rs) a config mode (as_param_record labels made.nsec3param))
+            c.owner_rrs.ensures.records c.in-Ok-generate_nsec3s.ensures.param;
+      };
+    }

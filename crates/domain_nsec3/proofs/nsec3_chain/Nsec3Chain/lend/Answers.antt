@@ -5,6 +5,6 @@ use Rattle.domain_nsec3.proofs.nsec3_chain.Nsec3Chain.lend.Goals as goal
 
 pub lend_record-requires-clause-inside : goal.lend_record-requires-clause-inside
 lend_record-requires-clause-inside g c =
-    let links = links_counted (g.N.ToName.labels c.self.inside.apex.now) c.self.inside.chain (common_of c.self.inside.params c.self.inside.ttl) in
-    let same = ap length c.self.view_is in
+    let links = links_counted c.self.inside.nsec3param.owner c.self.inside.chain (common_of c.self.inside.nsec3param.«data» c.self.inside.ttl) in
+    let same = ap (λ v. length v.links) c.self.view_is in
     omega arith

@@ -12,7 +12,7 @@ use Rattle.domain_records.specs.declared.error.Nsec3HashError.TheVariants.{Colli
 use Rattle.domain_nsec3.specs.View.{hash_by, parameters_of}
 use Rattle.domain_nsec3.proofs.ChainLemmas.{moved_entries, hashed_entries, sound_hashes, some_items, hashes_of, ordered_chain}
 use Rattle.domain_nsec3.proofs.EntryLemmas.{entries_names, types_told}
-use Rattle.domain_nsec3.proofs.nsec3.hash_chain.Goals as goal
+use Rattle.domain_nsec3.proofs.chain.hash_chain.Goals as goal
 
 pub returns-in-Err-clause-fault : goal.returns-in-Err-clause-fault
 returns-in-Err-clause-fault g c =

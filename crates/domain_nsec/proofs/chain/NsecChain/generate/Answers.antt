@@ -10,7 +10,7 @@ use Rattle.domain_zone.proofs.GivenLemmas.{raw_types, types_at}
 use Rattle.domain_zone.proofs.TtlLemmas.{NeverDescend}
 use Rattle.domain_nsec.specs.Chain.{is_listed, IsChain}
 use Rattle.domain_nsec.proofs.StateLemmas.{IsAt, at_start, at_known, at_owner, at_fault, at_end, even_end}
-use Rattle.domain_nsec.proofs.nsec.lend_nsecs.Goals as goal
+use Rattle.domain_nsec.proofs.chain.NsecChain.generate.Goals as goal
 
 pub owners-init : goal.owners-init
 owners-init g c =

@@ -10,7 +10,7 @@ use Rattle.domain_nsec3.specs.StepView.{common_of, links_in}
 use Rattle.domain_nsec3.specs.View.{config_of}
 use Rattle.domain_nsec3.proofs.EntryLemmas.{entries_names, entries_more}
 use Rattle.domain_nsec3.proofs.OutcomeLemmas.{outcome_chain, outcome_hashed, outcome_fault}
-use Rattle.domain_nsec3.proofs.nsec3.chain_of_owners.Goals as goal
+use Rattle.domain_nsec3.proofs.chain.chain_of_owners.Goals as goal
 
 pub returns-in-Ok-clause-chain : goal.returns-in-Ok-clause-chain
 returns-in-Ok-clause-chain g c = λ L soa found os.

@@ -1,7 +1,7 @@
 use Rattle.std.proofs.Common.{◌∙◌}
 use Rattle.domain_nsec.proofs.TypeLemmas.{listed_octets}
 use Rattle.domain_zone.specs.View.{zone_of}
-use Rattle.domain_nsec.proofs.nsec.types_of.Goals as goal
+use Rattle.domain_nsec.proofs.types.types_of.Goals as goal
 
 pub returns : goal.returns
 returns g c =

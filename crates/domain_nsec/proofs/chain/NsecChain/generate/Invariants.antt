@@ -1,7 +1,7 @@
 use Rattle.std.proofs.Common.{length, map}
 use Rattle.domain_zone.specs.View.{zone_of}
 use Rattle.domain_nsec.proofs.StateLemmas.{IsAt}
-use Rattle.domain_nsec.proofs.nsec.lend_nsecs.Given as goal
+use Rattle.domain_nsec.proofs.chain.NsecChain.generate.Given as goal
 
 abbrev pub invariant-owners : goal.invariant-owners
 invariant-owners g l =

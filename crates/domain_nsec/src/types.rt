@@ -1,0 +1,64 @@
+//! The types that NSEC records list.
+ghost use Rattle.std.specs.Prelude.{◌≡◌, ◌∷◌, ◌++◌, [], ℕ, Bool, ◌<◌, IfOk, OnOk};
+ghost use Rattle.domain_bitmap.specs.Bitmap.{bitmap_octets};
+ghost use Rattle.domain_bitmap.specs.Builder.{holds};
+ghost use Rattle.domain_nsec.specs.Chain.{is_listed};
+ghost use Rattle.domain_zone.specs.View.{zone_of};
+
+use domain_base::{Rtype, ToName};
+use domain_bitmap::{RtypeBitmap, RtypeBitmapBuilder, RtypeBitmaps};
+use domain_octets::{EmptyBuilder, GrowingBuilder, OutOfMemory, SmallBuilder, SmallOctets};
+use domain_plain::{Record, ZoneData};
+use domain_records::SliceRefsOrOwnedIterator;
+use domain_zone::{add_type, add_types};
+use std::alloc::Global;
+
+/// The types that each NSEC record lists, and DNSKEY where it is assumed.
+fn common_types<B: GrowingBuilder + EmptyBuilder>(
+    alloc: Global,
+    assumed: bool,
+) -> Result<RtypeBitmapBuilder<B>, OutOfMemory>
+where
+    B: Drop,
+    ensures { IfOk result (λ types. (at_cut : Bool) (t : ℕ) → t < 65536
+        → holds types t ≡ is_listed assumed at_cut [] t) }
+{
+    let mut types = RtypeBitmapBuilder::<B>::new(alloc);
+    add_type(&mut types, Rtype::RRSIG)?;
+    add_type(&mut types, Rtype::NSEC)?;
+    if assumed {
+        add_type(&mut types, Rtype::DNSKEY)?;
+    }
+    Ok(types)
+}
+
+/// The types of an owner's NSEC record.
+fn types_of<N: ToName, D: ZoneData>(
+    alloc: Global,
+    records: SliceRefsOrOwnedIterator<'_, Record<N, D>>,
+    assumed: bool,
+    at_cut: bool,
+) -> Result<RtypeBitmap<SmallOctets>, OutOfMemory>
+    ensures { IfOk result (λ types. types
+        ≡ bitmap_octets (is_listed assumed at_cut
+        (zone_of N.labels D.rtype D.minimum records.entry))) }
+{
+    let mut types = common_types::<SmallBuilder>(alloc, assumed)?;
+    add_types(&mut types, records, at_cut)?;
+    Ok(types.finalize())
+}
+
+/// Appends the types of an owner's NSEC record.
+pub(crate) fn push_types<N: ToName, D: ZoneData>(
+    alloc: Global,
+    types: &mut RtypeBitmaps,
+    records: SliceRefsOrOwnedIterator<'_, Record<N, D>>,
+    assumed: bool,
+    at_cut: bool,
+) -> Result<(), OutOfMemory>
+    ensures { OnOk result (types.new ≡ types.old ++ bitmap_octets (is_listed assumed at_cut
+        (zone_of N.labels D.rtype D.minimum records.entry)) ∷ []) }
+{
+    let listed = types_of(alloc, records, assumed, at_cut)?;
+    types.push(&listed)
+}
