@@ -6,7 +6,8 @@ use Rattle.std.proofs.lemmas.Bool.{false≢true}
 use Rattle.std.proofs.lemmas.List.{map-append}
 use Rattle.std.proofs.lemmas.List.Concat.{flat_map-append}
 use Rattle.std.proofs.lemmas.List.Elements.{filter-append}
-use Rattle.denial_c.specs.Wire.{RawRecord, record_octets, IsRecord}
+use Rattle.domain_lent.specs.Data.{RawRecord}
+use Rattle.denial_c.specs.Wire.{record_octets, IsRecord}
 use Rattle.denial_c.specs.Among.{AreAmong}
 use Rattle.denial_c.proofs.WireLemmas.{same_record, some_octets}
 

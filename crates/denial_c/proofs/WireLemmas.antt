@@ -6,13 +6,14 @@ use Rattle.domain_base.specs.Name.{wire_of}
 use Rattle.domain_fields.specs.Layout.{Values, octets_of, Begins, FirstFault}
 use Rattle.domain_fields.proofs.ExactLemmas.{fault_excludes}
 use Rattle.domain_fields.proofs.OrderLemmas.{same_data, Same}
-use Rattle.denial_c.specs.Wire.{RawRecord, header, header_of, record_octets, IsRecord}
+use Rattle.domain_lent.specs.Data.{RawRecord}
+use Rattle.denial_c.specs.Wire.{header, header_of, record_octets, IsRecord}
 
 -- the header of a record stands before its data
-header_first : (r : RawRecord) (after : List ℕ) → record_octets r ++ after ≡ octets_of header (header_of r) ++ (r.«data» ++ after)
-header_first r after = append_assoc (octets_of header (header_of r)) r.«data» after
+header_first : (r : RawRecord) (after : List ℕ) → record_octets r ++ after ≡ octets_of header (header_of r) ++ (r.«data».octets ++ after)
+header_first r after = append_assoc (octets_of header (header_of r)) r.«data».octets after
 
-begins_header : (r : RawRecord) (octets after : List ℕ) → IsRecord r → octets ≡ record_octets r ++ after → Begins header octets (header_of r) (r.«data» ++ after)
+begins_header : (r : RawRecord) (octets after : List ℕ) → IsRecord r → octets ≡ record_octets r ++ after → Begins header octets (header_of r) (r.«data».octets ++ after)
 begins_header r octets after fits e = record {
   parts = e ∙ header_first r after;
   fits = fits;
@@ -22,27 +23,27 @@ begins_header r octets after fits e = record {
 -- a header with a fault begins no record
 pub faulty_header : (octets : List ℕ) (fault : Fault) → FirstFault header octets fault
     → (r : RawRecord) (after : List ℕ) → IsRecord r → octets ≡ record_octets r ++ after → ⊥
-faulty_header octets fault found r after fits e = fault_excludes header octets fault found refl (header_of r) (r.«data» ++ after) (begins_header r octets after fits e)
+faulty_header octets fault found r after fits e = fault_excludes header octets fault found refl (header_of r) (r.«data».octets ++ after) (begins_header r octets after fits e)
 
 same_header : (v : Values header) (octets left : List ℕ) → Begins header octets v left
-    → (r : RawRecord) (after : List ℕ) → IsRecord r → octets ≡ record_octets r ++ after → Same v (header_of r) left (r.«data» ++ after)
+    → (r : RawRecord) (after : List ℕ) → IsRecord r → octets ≡ record_octets r ++ after → Same v (header_of r) left (r.«data».octets ++ after)
 same_header v octets left front r after fits e =
-    same_data header v (header_of r) left (r.«data» ++ after) refl front.fits fits (sym front.parts ∙ e ∙ header_first r after)
+    same_data header v (header_of r) left (r.«data».octets ++ after) refl front.fits fits (sym front.parts ∙ e ∙ header_first r after)
 
 -- nor does one whose data are cut
 pub cut_data : (v : Values header) (octets left : List ℕ) → Begins header octets v left → length left < v.1.1.1.1
     → (r : RawRecord) (after : List ℕ) → IsRecord r → octets ≡ record_octets r ++ after → ⊥
 cut_data v octets left front short r after fits e =
     let s = same_header v octets left front r after fits e in
-    let count : v.1.1.1.1 ≡ length r.«data» = ap (λ (u : Values header). u.1.1.1.1) s.values in
-    let long : length left ≡ length r.«data» + length after = ap length s.after ∙ length-append r.«data» after in
+    let count : v.1.1.1.1 ≡ length r.«data».octets = ap (λ (u : Values header). u.1.1.1.1) s.values in
+    let long : length left ≡ length r.«data».octets + length after = ap length s.after ∙ length-append r.«data».octets after in
     absurd (omega arith)
 
 -- a header and the data after it are a record
-pub whole_record : (r : RawRecord) (v : Values header) (octets left after : List ℕ) → Begins header octets v left → left ≡ r.«data» ++ after
+pub whole_record : (r : RawRecord) (v : Values header) (octets left after : List ℕ) → Begins header octets v left → left ≡ r.«data».octets ++ after
     → v ≡ header_of r → octets ≡ record_octets r ++ after
 whole_record r v octets left after front cut is =
-    front.parts ∙ ap (λ o. octets_of header v ++ o) cut ∙ ap (λ (u : Values header). octets_of header u ++ (r.«data» ++ after)) is ∙ sym (header_first r after)
+    front.parts ∙ ap (λ o. octets_of header v ++ o) cut ∙ ap (λ (u : Values header). octets_of header u ++ (r.«data».octets ++ after)) is ∙ sym (header_first r after)
 
 pub record OneRecord (q r : RawRecord) (x y : List ℕ) : Type 0 where
   pub records : q ≡ r
@@ -50,18 +51,17 @@ pub record OneRecord (q r : RawRecord) (x y : List ℕ) : Type 0 where
 
 pub same_record : (q r : RawRecord) (x y : List ℕ) → IsRecord q → IsRecord r → record_octets q ++ x ≡ record_octets r ++ y → OneRecord q r x y
 same_record q r x y fits_q fits_r e =
-    let s = same_header (header_of q) (record_octets q ++ x) (q.«data» ++ x) (begins_header q (record_octets q ++ x) x fits_q refl) r y fits_r e in
-    let as_long : length q.«data» ≡ length r.«data» = ap (λ (u : Values header). u.1.1.1.1) s.values in
-    let same : q.«data» ≡ r.«data» = sym (take_at q.«data» x (length q.«data») refl) ∙ ap (take (length q.«data»)) s.after ∙ take_at r.«data» y (length q.«data») (sym as_long) in
+    let s = same_header (header_of q) (record_octets q ++ x) (q.«data».octets ++ x) (begins_header q (record_octets q ++ x) x fits_q refl) r y fits_r e in
+    let as_long : length q.«data».octets ≡ length r.«data».octets = ap (λ (u : Values header). u.1.1.1.1) s.values in
+    let same : q.«data».octets ≡ r.«data».octets = sym (take_at q.«data».octets x (length q.«data».octets) refl) ∙ ap (take (length q.«data».octets)) s.after ∙ take_at r.«data».octets y (length q.«data».octets) (sym as_long) in
     record {
       records = λ i. record {
         owner = (s.values i).0;
-        rtype = (s.values i).1.0;
         class = (s.values i).1.1.0;
         ttl = (s.values i).1.1.1.0;
-        «data» = same i;
+        «data» = record { rtype = (s.values i).1.0; octets = same i };
       };
-      after = sym (drop_at q.«data» x (length q.«data») refl) ∙ ap (drop (length q.«data»)) s.after ∙ drop_at r.«data» y (length q.«data») (sym as_long);
+      after = sym (drop_at q.«data».octets x (length q.«data».octets) refl) ∙ ap (drop (length q.«data».octets)) s.after ∙ drop_at r.«data».octets y (length q.«data».octets) (sym as_long);
     }
 
 named_octets : (labels : List (List ℕ)) (after : List ℕ) → wire_of labels ++ after ≡ [] → ⊥

@@ -14,7 +14,6 @@ mod answer;
 mod fault;
 mod nsec;
 mod nsec3;
-mod rdata;
 mod wire;
 
 use std::alloc::Global;

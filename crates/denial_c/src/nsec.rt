@@ -7,10 +7,11 @@ ghost use Rattle.denial_c.specs.Among.{AreNsecs};
 ghost use Rattle.denial_c.specs.Result.{IsNsecResult, Spells, IsSpelled};
 
 use crate::fault::Fault;
-use crate::wire::LentRecord;
+use crate::wire::{is_of, read_record};
 use domain_base::laws::octets_begin_with_one_name;
 use domain_base::{Class, ParsedName, Rtype, ToName};
 use domain_checker::{NsecCheck, Verdict};
+use domain_lent::into_nsec;
 use domain_octets::Parser;
 
 /// The name that the octets are. Refuses, with the fault, octets that are none.
@@ -39,11 +40,11 @@ fn hand_in(check: &mut NsecCheck<'_>, class: Class, octets: &[u8]) -> Result<(),
 {
     let mut parser = Parser::new(octets);
     'records: while parser.remaining() > 0 {
-        let Some(record) = LentRecord::read(&mut parser) else {
+        let Some(record) = read_record(&mut parser) else {
             return Err(Fault::Records);
         };
-        if record.is_of(Rtype::NSEC, class) {
-            let Some(nsec) = record.into_nsec() else {
+        if is_of(&record, Rtype::NSEC, class) {
+            let Some(nsec) = into_nsec(record) else {
                 return Err(Fault::Records);
             };
             check.add(&nsec);

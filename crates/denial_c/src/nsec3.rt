@@ -7,10 +7,10 @@ ghost use Rattle.denial_c.specs.Result.{IsChainFault, IsNsec3Result, IsNsec3sFau
 
 use crate::fault::Fault;
 use crate::nsec::read_name;
-use crate::rdata::{Nsec3Rr, ParamRr};
-use crate::wire::LentRecord;
+use crate::wire::{is_of, read_record};
 use domain_base::{Class, ParsedName, Rtype, ToName};
 use domain_checker::{Verdict, check_nsec3};
+use domain_lent::{Nsec3Rr, Nsec3paramRr, into_nsec3, into_nsec3param};
 use domain_nsec3::Nsec3Records;
 use domain_octets::Parser;
 use domain_records::Nsec3HashError;
@@ -31,11 +31,11 @@ fn nsec3s_among<'a>(
     let mut nsec3s = Vec::new(alloc);
     let mut parser = Parser::new(octets);
     'records: while parser.remaining() > 0 {
-        let Some(record) = LentRecord::read(&mut parser) else {
+        let Some(record) = read_record(&mut parser) else {
             return Err(Fault::Records);
         };
-        if record.is_of(Rtype::NSEC3, class) {
-            let Some(nsec3) = record.into_nsec3() else {
+        if is_of(&record, Rtype::NSEC3, class) {
+            let Some(nsec3) = into_nsec3(record) else {
                 return Err(Fault::Records);
             };
             let Ok(()) = nsec3s.push(nsec3) else {
@@ -53,7 +53,7 @@ fn params_among<'a>(
     apex: &ParsedName<'_>,
     class: Class,
     octets: &'a [u8],
-) -> Result<Vec<ParamRr<'a>>, Fault>
+) -> Result<Vec<Nsec3paramRr<'a>>, Fault>
     ensures ok { IfOk result (λ params. AreParams apex.now class octets.now
         (map (as_param_record (λ n. n)) params.items)) }
     ensures err { IfErr result (IsParamFault apex.now class octets.now) }
@@ -61,11 +61,11 @@ fn params_among<'a>(
     let mut params = Vec::new(alloc);
     let mut parser = Parser::new(octets);
     'records: while parser.remaining() > 0 {
-        let Some(record) = LentRecord::read(&mut parser) else {
+        let Some(record) = read_record(&mut parser) else {
             return Err(Fault::Records);
         };
-        if record.is_of(Rtype::NSEC3PARAM, class) & record.owner.name_eq(apex) {
-            let Some(param) = record.into_param() else {
+        if is_of(&record, Rtype::NSEC3PARAM, class) & record.owner().name_eq(apex) {
+            let Some(param) = into_nsec3param(record) else {
                 return Err(Fault::Records);
             };
             let Ok(()) = params.push(param) else {
@@ -82,7 +82,7 @@ fn param_among<'a>(
     apex: &ParsedName<'_>,
     class: Class,
     octets: &'a [u8],
-) -> Result<ParamRr<'a>, Fault>
+) -> Result<Nsec3paramRr<'a>, Fault>
     ensures ok { IfOk result (λ param. AreParams apex.now class octets.now
         (as_param_record (λ n. n) param ∷ [])) }
     ensures err { IfErr result (IsParamFault apex.now class octets.now) }

@@ -1,8 +1,7 @@
 use Rattle.std.proofs.Common.{ap, length, refl, sym, ◌∙◌, arith}
 use Rattle.domain_base.specs.Types as rtypes
 use Rattle.domain_nsec.specs.ChainView.{as_link}
-use Rattle.denial_c.specs.Among.{nsec_record, IsNsec}
-use Rattle.denial_c.specs.View.{as_raw}
+use Rattle.domain_lent.specs.Links.{nsec_record, IsNsec}
 use Rattle.denial_c.specs.Wire.{is_of}
 use Rattle.denial_c.proofs.AmongLemmas.{refused, refused_data}
 use Rattle.denial_c.proofs.NsecLemmas.{handing_one, handing_other}
@@ -19,23 +18,23 @@ returns-in_default-clause-err c = (
 pub returns-in_default-into_nsec-clause-err : goal.returns-in_default-into_nsec-clause-err
 returns-in_default-into_nsec-clause-err c = (
   refl,
-  refused_data (is_of rtypes.nsec c.args.class) nsec_record IsNsec c.args.octets.now c.records.parser.left c.read.new.parser.left c.records.invariant.links (as_raw c.in-Some.record)
+  refused_data (is_of rtypes.nsec c.args.class) nsec_record IsNsec c.args.octets.now c.records.parser.left c.read_record.new.parser.left c.records.invariant.links c.in-Some.record
       c.records.invariant.read c.in-Some.ensures.some.0 c.in-Some.ensures.some.1 (sym c.is_of.ensures ∙ c.if-is_of.true) c.in_default-into_nsec.ensures.none,
 )
 
 pub records-smaller-then-is_of : goal.records-smaller-then-is_of
-records-smaller-then-is_of c = shorter (as_raw c.in-Some.record) c.records.parser.left c.read.new.parser.left c.in-Some.ensures.some.0
+records-smaller-then-is_of c = shorter c.in-Some.record c.records.parser.left c.read_record.new.parser.left c.in-Some.ensures.some.0
 
 pub records-preserved-then-is_of : goal.records-preserved-then-is_of
 records-preserved-then-is_of c =
-    handing_one c.args.class c.args.octets.now c.records.parser.left c.read.new.parser.left c.args.check.now c.records.check c.add.new.self (as_raw c.in-Some.record)
+    handing_one c.args.class c.args.octets.now c.records.parser.left c.read_record.new.parser.left c.args.check.now c.records.check c.add.new.self c.in-Some.record
     (as_link (λ n. n) c.in-Some-into_nsec.nsec) c.records.invariant c.in-Some.ensures.some.0 c.in-Some.ensures.some.1 (sym c.is_of.ensures ∙ c.if-is_of.true)
     c.in-Some-into_nsec.ensures.some.0 c.in-Some-into_nsec.ensures.some.1 c.add.ensures
 
 pub records-smaller : goal.records-smaller
-records-smaller c = shorter (as_raw c.in-Some.record) c.records.parser.left c.read.new.parser.left c.in-Some.ensures.some.0
+records-smaller c = shorter c.in-Some.record c.records.parser.left c.read_record.new.parser.left c.in-Some.ensures.some.0
 
 pub records-preserved : goal.records-preserved
 records-preserved c =
-    handing_other c.args.class c.args.octets.now c.records.parser.left c.read.new.parser.left c.args.check.now c.records.check (as_raw c.in-Some.record)
+    handing_other c.args.class c.args.octets.now c.records.parser.left c.read_record.new.parser.left c.args.check.now c.records.check c.in-Some.record
     c.records.invariant c.in-Some.ensures.some.0 c.in-Some.ensures.some.1 (sym c.is_of.ensures ∙ c.if-is_of.false)

@@ -3,8 +3,7 @@ use Rattle.std.proofs.lemmas.List.{map-append}
 use Rattle.domain_base.specs.Name.{same_name}
 use Rattle.domain_base.specs.Types as rtypes
 use Rattle.domain_nsec3.specs.View.{as_param_record}
-use Rattle.denial_c.specs.Among.{param_record, IsParam}
-use Rattle.denial_c.specs.View.{as_raw}
+use Rattle.domain_lent.specs.Links.{param_record, IsParam}
 use Rattle.denial_c.specs.Wire.{is_of}
 use Rattle.denial_c.proofs.AmongLemmas.{IsRead, passed, refused, refused_data, taken}
 use Rattle.denial_c.proofs.WireLemmas.{shorter}
@@ -15,29 +14,32 @@ returns-in_default-clause-err c =
     refused (λ r. is_of rtypes.nsec3param c.args.class r && same_name r.owner c.args.apex.now) param_record IsParam c.args.octets.now c.records.parser.left
     (map (as_param_record (λ n. n)) c.records.params.items) c.records.invariant (λ none. let n = ap length none in omega arith) c.in_default.ensures.none
 
-pub returns-in_default-into_param-clause-err : goal.returns-in_default-into_param-clause-err
-returns-in_default-into_param-clause-err c =
-    refused_data (λ r. is_of rtypes.nsec3param c.args.class r && same_name r.owner c.args.apex.now) param_record IsParam c.args.octets.now c.records.parser.left c.read.new.parser.left
-    (map (as_param_record (λ n. n)) c.records.params.items) (as_raw c.in-Some.record) c.records.invariant c.in-Some.ensures.some.0 c.in-Some.ensures.some.1
-    ((λ i. sym c.is_of.ensures i && sym c.name_eq.ensures.value i) ∙ c.if-is_of-name_eq.true) c.in_default-into_param.ensures.none
+pub returns-in_default-into_nsec3param-clause-err : goal.returns-in_default-into_nsec3param-clause-err
+returns-in_default-into_nsec3param-clause-err c =
+    let at_apex = ap (λ n. same_name n c.args.apex.now) (sym c.owner.ensures) ∙ sym c.name_eq.ensures.value in
+    refused_data (λ r. is_of rtypes.nsec3param c.args.class r && same_name r.owner c.args.apex.now) param_record IsParam c.args.octets.now c.records.parser.left c.read_record.new.parser.left
+    (map (as_param_record (λ n. n)) c.records.params.items) c.in-Some.record c.records.invariant c.in-Some.ensures.some.0 c.in-Some.ensures.some.1
+    ((λ i. sym c.is_of.ensures i && at_apex i) ∙ c.if-is_of-name_eq.true) c.in_default-into_nsec3param.ensures.none
 
 pub records-smaller-in-Ok-1 : goal.records-smaller-in-Ok-1
-records-smaller-in-Ok-1 c = shorter (as_raw c.in-Some.record) c.records.parser.left c.read.new.parser.left c.in-Some.ensures.some.0
+records-smaller-in-Ok-1 c = shorter c.in-Some.record c.records.parser.left c.read_record.new.parser.left c.in-Some.ensures.some.0
 
 pub records-preserved-in-Ok-1 : goal.records-preserved-in-Ok-1
 records-preserved-in-Ok-1 c =
-    let more = taken (λ r. is_of rtypes.nsec3param c.args.class r && same_name r.owner c.args.apex.now) param_record IsParam c.args.octets.now c.records.parser.left c.read.new.parser.left
-    (map (as_param_record (λ n. n)) c.records.params.items) (as_raw c.in-Some.record) (as_param_record (λ n. n) c.in-Some-into_param.param) c.records.invariant
-    c.in-Some.ensures.some.0 c.in-Some.ensures.some.1 ((λ i. sym c.is_of.ensures i && sym c.name_eq.ensures.value i) ∙ c.if-is_of-name_eq.true)
-    c.in-Some-into_param.ensures.some.0 c.in-Some-into_param.ensures.some.1 in
-    subst (λ ks. IsRead (λ r. is_of rtypes.nsec3param c.args.class r && same_name r.owner c.args.apex.now) param_record IsParam c.args.octets.now c.read.new.parser.left ks)
-    (sym (map-append (as_param_record (λ n. n)) c.records.params.items (c.in-Some-into_param.param ∷ [])) ∙ ap (map (as_param_record (λ n. n))) (sym c.in-Ok.ensures.items)) more
+    let at_apex = ap (λ n. same_name n c.args.apex.now) (sym c.owner.ensures) ∙ sym c.name_eq.ensures.value in
+    let more = taken (λ r. is_of rtypes.nsec3param c.args.class r && same_name r.owner c.args.apex.now) param_record IsParam c.args.octets.now c.records.parser.left c.read_record.new.parser.left
+    (map (as_param_record (λ n. n)) c.records.params.items) c.in-Some.record (as_param_record (λ n. n) c.in-Some-into_nsec3param.param) c.records.invariant
+    c.in-Some.ensures.some.0 c.in-Some.ensures.some.1 ((λ i. sym c.is_of.ensures i && at_apex i) ∙ c.if-is_of-name_eq.true)
+    c.in-Some-into_nsec3param.ensures.some.0 c.in-Some-into_nsec3param.ensures.some.1 in
+    subst (λ ks. IsRead (λ r. is_of rtypes.nsec3param c.args.class r && same_name r.owner c.args.apex.now) param_record IsParam c.args.octets.now c.read_record.new.parser.left ks)
+    (sym (map-append (as_param_record (λ n. n)) c.records.params.items (c.in-Some-into_nsec3param.param ∷ [])) ∙ ap (map (as_param_record (λ n. n))) (sym c.in-Ok.ensures.items)) more
 
 pub records-smaller : goal.records-smaller
-records-smaller c = shorter (as_raw c.in-Some.record) c.records.parser.left c.read.new.parser.left c.in-Some.ensures.some.0
+records-smaller c = shorter c.in-Some.record c.records.parser.left c.read_record.new.parser.left c.in-Some.ensures.some.0
 
 pub records-preserved : goal.records-preserved
 records-preserved c =
-    passed (λ r. is_of rtypes.nsec3param c.args.class r && same_name r.owner c.args.apex.now) param_record IsParam c.args.octets.now c.records.parser.left c.read.new.parser.left
-    (map (as_param_record (λ n. n)) c.records.params.items) (as_raw c.in-Some.record) c.records.invariant c.in-Some.ensures.some.0 c.in-Some.ensures.some.1
-    ((λ i. sym c.is_of.ensures i && sym c.name_eq.ensures.value i) ∙ c.if-is_of-name_eq.false)
+    let at_apex = ap (λ n. same_name n c.args.apex.now) (sym c.owner.ensures) ∙ sym c.name_eq.ensures.value in
+    passed (λ r. is_of rtypes.nsec3param c.args.class r && same_name r.owner c.args.apex.now) param_record IsParam c.args.octets.now c.records.parser.left c.read_record.new.parser.left
+    (map (as_param_record (λ n. n)) c.records.params.items) c.in-Some.record c.records.invariant c.in-Some.ensures.some.0 c.in-Some.ensures.some.1
+    ((λ i. sym c.is_of.ensures i && at_apex i) ∙ c.if-is_of-name_eq.false)

@@ -10,41 +10,43 @@ use Rattle.domain_chain_rdata.proofs.NsecLemmas.{nsec_back}
 use Rattle.domain_chain_rdata.proofs.Nsec3Lemmas.{nsec3_back, params_back}
 use Rattle.domain_nsec.specs.Chain.{Link}
 use Rattle.domain_nsec3.specs.Chain.{HashedLink, ParamRecord}
-use Rattle.denial_c.specs.Wire.{RawRecord}
-use Rattle.denial_c.specs.Among.{nsec_record, nsec3_record, param_record, hash_values, param_values, IsNsec, IsNsec3, IsParam}
+use Rattle.domain_lent.specs.Data.{RawRecord}
+use Rattle.domain_lent.specs.Links.{nsec_record, nsec3_record, param_record, hash_values, param_values, IsNsec, IsNsec3, IsParam}
 
-data_of : (q r : RawRecord) → q ≡ r → q.«data» ≡ r.«data»
-data_of q r e = ap (λ (o : RawRecord). o.«data») e
+octets_in : (q r : RawRecord) → q ≡ r → q.«data».octets ≡ r.«data».octets
+octets_in q r e = ap (λ (o : RawRecord). o.«data».octets) e
 
 -- ---- NSEC
 
 pub nsec_whole : (octets after : List ℕ) (v : Values nsec) → BeginsNsec octets v after → octets ≡ octets_of nsec v
 nsec_whole octets after v b = b.begins.parts ∙ ap (λ o. octets_of nsec v ++ o) b.begins.ends.1 ∙ append-nil (octets_of nsec v)
 
-pub no_nsec : (q : RawRecord) (fault : Fault) → NsecFault q.«data» fault → (k : Link) → q ≡ nsec_record k → IsNsec k → ⊥
+pub no_nsec : (q : RawRecord) (fault : Fault) → NsecFault q.«data».octets fault → (k : Link) → q ≡ nsec_record k → IsNsec k → ⊥
 no_nsec q fault found k e is =
-    (nsec_back (k.next, k.bits) (is.next, bitmap_small k.bits is.bits) is.bits).no_fault fault (subst (λ o. NsecFault o fault) (data_of q (nsec_record k) e) found)
+    (nsec_back (k.next, k.bits) (is.next, bitmap_small k.bits is.bits) is.bits).no_fault fault
+    (subst (λ o. NsecFault o fault) (octets_in q (nsec_record k) e) found)
 
 -- ---- NSEC3
 
 pub nsec3_whole : (octets after : List ℕ) (v : Values nsec3) → BeginsNsec3 octets v after → octets ≡ octets_of nsec3 v
 nsec3_whole octets after v b = b.begins.parts ∙ ap (λ o. octets_of nsec3 v ++ o) b.begins.ends.1 ∙ append-nil (octets_of nsec3 v)
 
-pub no_nsec3 : (q : RawRecord) (fault : Fault) → Nsec3Fault q.«data» fault → (k : HashedLink) → q ≡ nsec3_record k → IsNsec3 k → ⊥
+pub no_nsec3 : (q : RawRecord) (fault : Fault) → Nsec3Fault q.«data».octets fault → (k : HashedLink) → q ≡ nsec3_record k → IsNsec3 k → ⊥
 no_nsec3 q fault found k e is =
-    (nsec3_back (hash_values k, k.bits) (is.fields, bitmap_small k.bits is.bits) is.bits).no_fault fault (subst (λ o. Nsec3Fault o fault) (data_of q (nsec3_record k) e) found)
+    (nsec3_back (hash_values k, k.bits) (is.fields, bitmap_small k.bits is.bits) is.bits).no_fault fault
+    (subst (λ o. Nsec3Fault o fault) (octets_in q (nsec3_record k) e) found)
 
 -- ---- NSEC3PARAM
 
 pub param_whole : (octets after : List ℕ) (v : Values nsec3param) → Begins nsec3param octets v after → after ≡ [] → octets ≡ octets_of nsec3param v
 param_whole octets after v b none = b.parts ∙ ap (λ o. octets_of nsec3param v ++ o) none ∙ append-nil (octets_of nsec3param v)
 
-pub no_param : (q : RawRecord) (fault : Fault) → FirstFault nsec3param q.«data» fault → (k : ParamRecord) → q ≡ param_record k → IsParam k → ⊥
+pub no_param : (q : RawRecord) (fault : Fault) → FirstFault nsec3param q.«data».octets fault → (k : ParamRecord) → q ≡ param_record k → IsParam k → ⊥
 no_param q fault found k e is =
-    (params_back (param_values k) is).no_fault fault (subst (λ o. FirstFault nsec3param o fault) (data_of q (param_record k) e) found)
+    (params_back (param_values k) is).no_fault fault (subst (λ o. FirstFault nsec3param o fault) (octets_in q (param_record k) e) found)
 
 -- octets are left over
-pub no_whole_param : (q : RawRecord) (v : Values nsec3param) (after : List ℕ) → Begins nsec3param q.«data» v after → (after ≡ [] → ⊥)
+pub no_whole_param : (q : RawRecord) (v : Values nsec3param) (after : List ℕ) → Begins nsec3param q.«data».octets v after → (after ≡ [] → ⊥)
     → (k : ParamRecord) → q ≡ param_record k → IsParam k → ⊥
 no_whole_param q v after b some k e is =
-    some ((params_back (param_values k) is).alone v after (subst (λ o. Begins nsec3param o v after) (data_of q (param_record k) e) b)).1
+    some ((params_back (param_values k) is).alone v after (subst (λ o. Begins nsec3param o v after) (octets_in q (param_record k) e) b)).1

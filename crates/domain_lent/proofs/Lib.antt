@@ -1,0 +1,2 @@
+pub mod DataLemmas
+pub mod MinimumLemmas

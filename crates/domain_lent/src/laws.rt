@@ -1,0 +1,17 @@
+//! What holds of data as octets. A caller calls the law in its body.
+ghost use Rattle.std.specs.Prelude.{◌≡◌, ◌<◌, ◌^◌, Some};
+ghost use Rattle.domain_base.specs.Types as rtypes;
+ghost use Rattle.domain_fields.specs.Layout.{canonical_of};
+ghost use Rattle.domain_lent.specs.Data.{minimum_of};
+ghost use Rattle.domain_plain.specs.Plain.{soa, soa_values};
+ghost use Rattle.domain_plain.specs.declared.soa.Soa.{Soa};
+
+use domain_base::ToName;
+
+/// Of the canonical octets of an SOA the MINIMUM is what `soa_minimum` reads: the last four.
+pub fn minimum_is_last<N: ToName>()
+    ensures { (d : Soa N) → d.minimum < 2 ^ 32 → minimum_of (record {
+      rtype = rtypes.soa;
+      octets = canonical_of soa (soa_values N.labels d);
+    }) ≡ Some d.minimum }
+{}

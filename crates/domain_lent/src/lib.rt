@@ -1,0 +1,17 @@
+//! Records that lie in octets: their data are lent, in wire form, and read only by who asks for it.
+//!
+//! [`LentRecord`] is a record of owner, class, TTL and such data, as a message has it, or an arena.
+//! Where the data are in canonical form, `SortedRecords` and the generators of chains take these
+//! records as they are: of data they look at the type, the order of the octets, and the MINIMUM of
+//! an SOA. The checkers want data of their own types, as which [`into_nsec`], [`into_nsec3`] and
+//! [`into_nsec3param`] read them.
+#![tactic(auto)]
+
+mod data;
+pub mod laws;
+mod record;
+
+pub use data::LentData;
+pub use record::{
+    LentRecord, Nsec3Rr, Nsec3paramRr, NsecRr, into_nsec, into_nsec3, into_nsec3param,
+};

@@ -1,0 +1,82 @@
+//! Records that lie in octets, and their data as those of chains.
+ghost use Rattle.std.specs.Prelude.{◌≡◌, IfNone, IfSome};
+ghost use Rattle.domain_nsec.specs.Chain.{Link};
+ghost use Rattle.domain_nsec.specs.ChainView.{as_link};
+ghost use Rattle.domain_nsec3.specs.Chain.{HashedLink, ParamRecord};
+ghost use Rattle.domain_nsec3.specs.View.{as_hashed_link, as_param_record};
+ghost use Rattle.domain_lent.specs.Links.{nsec_record, nsec3_record, param_record, IsNsec, IsNsec3, IsParam};
+
+use crate::LentData;
+use domain_base::{ParsedName, Rtype};
+use domain_chain_rdata::{Nsec, Nsec3, Nsec3param};
+use domain_octets::Parser;
+use domain_plain::{Record, RecordData};
+
+/// A record that lies in octets, with its data unread.
+pub type LentRecord<'a> = Record<ParsedName<'a>, LentData<'a>>;
+
+/// An NSEC record that lies in octets.
+pub type NsecRr<'a> = Record<ParsedName<'a>, Nsec<&'a [u8], ParsedName<'a>>>;
+
+/// An NSEC3 record that lies in octets.
+pub type Nsec3Rr<'a> = Record<ParsedName<'a>, Nsec3<&'a [u8]>>;
+
+/// An NSEC3PARAM record that lies in octets.
+pub type Nsec3paramRr<'a> = Record<ParsedName<'a>, Nsec3param<&'a [u8]>>;
+
+/// The record with its data read as NSEC data (RFC 4034, section 4.1). None where it is of another
+/// type, or the octets are no such data.
+pub fn into_nsec<'a>(lent: LentRecord<'a>) -> Option<NsecRr<'a>>
+    ensures some { IfSome result (λ r. (lent.entry ≡ nsec_record (as_link (λ n. n) r))
+        × IsNsec (as_link (λ n. n) r)) }
+    ensures none { IfNone result ((k : Link) → lent.entry ≡ nsec_record k → IsNsec k → ⊥) }
+{
+    let (owner, class, ttl, data) = lent.into_parts();
+    if data.rtype() != Rtype::NSEC {
+        return None;
+    }
+    let mut parser = Parser::new(data.octets());
+    match Nsec::parse(&mut parser) {
+        Ok(nsec) => Some(Record::new(owner, class, ttl, nsec)),
+        Err(_) => None,
+    }
+}
+
+/// The record with its data read as NSEC3 data (RFC 5155, section 3.2). None where it is of another
+/// type, or the octets are no such data.
+pub fn into_nsec3<'a>(lent: LentRecord<'a>) -> Option<Nsec3Rr<'a>>
+    ensures some { IfSome result (λ r. (lent.entry ≡ nsec3_record (as_hashed_link (λ n. n) r))
+        × IsNsec3 (as_hashed_link (λ n. n) r)) }
+    ensures none { IfNone result ((k : HashedLink) → lent.entry ≡ nsec3_record k → IsNsec3 k → ⊥) }
+{
+    let (owner, class, ttl, data) = lent.into_parts();
+    if data.rtype() != Rtype::NSEC3 {
+        return None;
+    }
+    let mut parser = Parser::new(data.octets());
+    match Nsec3::parse(&mut parser) {
+        Ok(nsec3) => Some(Record::new(owner, class, ttl, nsec3)),
+        Err(_) => None,
+    }
+}
+
+/// The record with its data read as NSEC3PARAM data (RFC 5155, section 4.2). None where it is of
+/// another type, or the octets are no such data, or more than these.
+pub fn into_nsec3param<'a>(lent: LentRecord<'a>) -> Option<Nsec3paramRr<'a>>
+    ensures some { IfSome result (λ r. (lent.entry ≡ param_record (as_param_record (λ n. n) r))
+        × IsParam (as_param_record (λ n. n) r)) }
+    ensures none { IfNone result ((k : ParamRecord) → lent.entry ≡ param_record k → IsParam k → ⊥) }
+{
+    let (owner, class, ttl, data) = lent.into_parts();
+    if data.rtype() != Rtype::NSEC3PARAM {
+        return None;
+    }
+    let mut parser = Parser::new(data.octets());
+    let Ok(param) = Nsec3param::parse(&mut parser) else {
+        return None;
+    };
+    if parser.remaining() > 0 {
+        return None;
+    }
+    Some(Record::new(owner, class, ttl, param))
+}
