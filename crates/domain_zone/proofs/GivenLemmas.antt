@@ -1,5 +1,6 @@
 -- What is known of the owners that an iterator has given and has left.
 use Rattle.std.proofs.Common.{◌≡◌, ◌≤◌, Bool, true, false, cond, ◌||◌, List, [], ◌∷◌, ◌++◌, map, refl, sym, ap, ◌∙◌, subst, Option, ℕ}
+use Rattle.std.proofs.lemmas.List.{append-nil}
 use Rattle.std.specs.List.{list_any, AllByRecursion}
 use Rattle.std.proofs.lemmas.Bool.{or_right}
 use Rattle.std.proofs.lemmas.List.Folds.{list_any-append}
@@ -30,26 +31,24 @@ names_again : (L : List ZoneRecord) (a : Name) (ks : List Name) → map name_of 
 names_again L a [] = refl
 names_again L a (k ∷ ks) = ap (λ t. k ∷ t) (names_again L a ks)
 
-append_nil : {X : Type 0} (xs : List X) → xs ++ [] ≡ xs
-append_nil [] = refl
-append_nil (x ∷ xs) = ap (λ ys. x ∷ ys) (append_nil xs)
-
 module _ (d : Bool) (L : List ZoneRecord) (a : Name) (given : List OwnerRecords) where
   -- the next one is an owner with its records
   pub next_is_owner : (o : OwnerRecords) (left : List OwnerRecords) → given ++ o ∷ left ≡ owners_with_records d L a → o ≡ owner_at L a o.name
   next_is_owner o left e =
-      (all_front (λ o. o ≡ owner_at L a o.name) given (o ∷ left) (subst (AllByRecursion (λ o. o ≡ owner_at L a o.name)) (sym e) (all_known L a (unoccluded_owners d L a)))).1.0
+      (all_front (λ o. o ≡ owner_at L a o.name) given (o ∷ left)
+      (subst (AllByRecursion (λ o. o ≡ owner_at L a o.name)) (sym e) (all_known L a (unoccluded_owners d L a)))).1.0
 
   -- at the end all owners have been given
   pub all_given : given ++ [] ≡ owners_with_records d L a → map name_of given ≡ unoccluded_owners d L a
-  all_given e = ap (map name_of) (sym (append_nil given) ∙ e) ∙ names_again L a (unoccluded_owners d L a)
+  all_given e = ap (map name_of) (sym (append-nil given) ∙ e) ∙ names_again L a (unoccluded_owners d L a)
 
   pub even_given : given ++ [] ≡ owners_with_records d L a → list_any clashes_in given ≡ false → has_unequal_ttls L (unoccluded_owners d L a) ≡ false
   even_given e h =
-      sym (any_map clashes_in (owner_at L a) (unoccluded_owners d L a)) ∙ ap (list_any clashes_in) (sym e ∙ append_nil given) ∙ h
+      sym (any_map clashes_in (owner_at L a) (unoccluded_owners d L a)) ∙ ap (list_any clashes_in) (sym e ∙ append-nil given) ∙ h
 
   -- an owner with unequal TTLs
-  pub uneven_next : (o : OwnerRecords) (left : List OwnerRecords) → given ++ o ∷ left ≡ owners_with_records d L a → has_clash o.records ≡ true → has_unequal_ttls L (unoccluded_owners d L a) ≡ true
+  pub uneven_next : (o : OwnerRecords) (left : List OwnerRecords) → given ++ o ∷ left ≡ owners_with_records d L a
+      → has_clash o.records ≡ true → has_unequal_ttls L (unoccluded_owners d L a) ≡ true
   uneven_next o left e h =
       sym (any_map clashes_in (owner_at L a) (unoccluded_owners d L a)) ∙ ap (list_any clashes_in) (sym e)
       ∙ list_any-append clashes_in given (o ∷ left)
@@ -72,10 +71,13 @@ module _ {N D : Type 0} (labels : N → Name) (rtype_of : D → ℕ) (minimum_of
   types_at [] n h = tt
   types_at (r ∷ rs) n h =
       let more = records_of (map see rs) n in
-      elim (same_name (labels r.owner) n) as (λ b. same_name (labels r.owner) n ≡ b → NeverDescend (cond b (see r ∷ records_of (map see rs) n) (records_of (map see rs) n))) [
+      elim (same_name (labels r.owner) n) as (λ b. same_name (labels r.owner) n ≡ b
+      → NeverDescend (cond b (see r ∷ records_of (map see rs) n) (records_of (map see rs) n))) [
         | true ↦ λ e. (
-          filter_passes (λ s. same_name (labels r.owner) s.owner ≡ true → rtype_of r.«data» ≤ s.rtype) (λ s. rtype_of r.«data» ≤ s.rtype) (λ s. same_name s.owner n)
-              (λ s f q. f (same_itself (labels r.owner) s.owner (one_lowered (labels r.owner) n e ∙ sym (one_lowered s.owner n q)))) (map see rs) (follows r rs h.0),
+          filter_passes (λ s. same_name (labels r.owner) s.owner ≡ true
+              → rtype_of r.«data» ≤ s.rtype) (λ s. rtype_of r.«data» ≤ s.rtype) (λ s. same_name s.owner n)
+              (λ s f q. f (same_itself (labels r.owner) s.owner (one_lowered (labels r.owner) n e
+              ∙ sym (one_lowered s.owner n q)))) (map see rs) (follows r rs h.0),
           types_at rs n h.1,
         )
         | false ↦ λ e. types_at rs n h.1
@@ -85,6 +87,7 @@ module _ {N D : Type 0} (labels : N → Name) (rtype_of : D → ℕ) (minimum_of
   raw_types [] h = tt
   raw_types (r ∷ rs) h = (raw rs h.0, raw_types rs h.1)
     where
-      raw : (ss : List (Record N D)) → AllByRecursion (λ s. rtype_of r.«data» ≤ s.rtype) (map see ss) → AllByRecursion (λ s. rtype_of r.«data» ≤ rtype_of s.«data») ss
+      raw : (ss : List (Record N D)) → AllByRecursion (λ s. rtype_of r.«data» ≤ s.rtype) (map see ss)
+          → AllByRecursion (λ s. rtype_of r.«data» ≤ rtype_of s.«data») ss
       raw [] h = tt
       raw (s ∷ ss) h = (h.0, raw ss h.1)

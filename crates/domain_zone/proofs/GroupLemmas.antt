@@ -1,5 +1,6 @@
 -- Groups of records, as the walk sees them.
-use Rattle.std.proofs.Common.{◌≡◌, ◌≤◌, ℕ, Bool, true, false, not, ◌&&◌, ◌↔◌, IsTrue, List, [], ◌∷◌, ◌++◌, map, refl, sym, ap, ◌∙◌, subst, inl, inr, nat_eq, Option}
+use Rattle.std.proofs.Common.{◌≡◌, ◌≤◌, ℕ, Bool, true, false, not, ◌&&◌, ◌↔◌, IsTrue, List, []}
+use Rattle.std.proofs.Common.{◌∷◌, ◌++◌, map, refl, sym, ap, ◌∙◌, subst, inl, inr, nat_eq, Option}
 use Rattle.std.specs.Prelude.{if◌then◌else◌}
 use Rattle.std.specs.declared.cmp.Ordering.{Ordering}
 use Rattle.std.specs.declared.cmp.Ordering.TheVariants.{Less, Equal, Greater}
@@ -41,7 +42,11 @@ module _ {X : Type 0} (alike : X → X → Bool) where
       by ((z ∷ zs) ∷ gs) e =
           elim (cases_Bool (alike y z)) [
             | inl t ↦ record { head = z ∷ zs; tails = gs; are = ap (add_to alike y) e ∙ (λ i. if (t i) then (y ∷ z ∷ zs) ∷ gs else (y ∷ []) ∷ (z ∷ zs) ∷ gs) }
-            | inr t ↦ record { head = []; tails = (z ∷ zs) ∷ gs; are = ap (add_to alike y) e ∙ (λ i. if (t i) then (y ∷ z ∷ zs) ∷ gs else (y ∷ []) ∷ (z ∷ zs) ∷ gs) }
+            | inr t ↦ record {
+              head = [];
+              tails = (z ∷ zs) ∷ gs;
+              are = ap (add_to alike y) e ∙ (λ i. if (t i) then (y ∷ z ∷ zs) ∷ gs else (y ∷ []) ∷ (z ∷ zs) ∷ gs);
+            }
           ]
 
   abbrev pub StartsApart : X → List X → Type 0
@@ -69,7 +74,8 @@ module _ {X : Type 0} (alike : X → X → Bool) (onward : (x y z : X) → alike
       let h = heads alike y ys in
       elim (cases_Bool (alike x y)) [
         | inl a ↦
-            let joined : runs alike (x ∷ y ∷ ys) ≡ (x ∷ y ∷ h.head) ∷ h.tails = ap (add_to alike x) h.are ∙ (λ i. if (a i) then (x ∷ y ∷ h.head) ∷ h.tails else (x ∷ []) ∷ (y ∷ h.head) ∷ h.tails) in
+            let joined : runs alike (x ∷ y ∷ ys) ≡ (x ∷ y ∷ h.head) ∷ h.tails = ap (add_to alike x) h.are
+            ∙ (λ i. if (a i) then (x ∷ y ∷ h.head) ∷ h.tails else (x ∷ []) ∷ (y ∷ h.head) ∷ h.tails) in
             let g_is : g ≡ x ∷ y ∷ h.head = cc in
             let rest_is : runs alike t ≡ h.tails = cc in
             let below : y ∷ ys ≡ (y ∷ h.head) ++ t = tails_of (subst (λ k. x ∷ y ∷ ys ≡ k ++ t) g_is e) in
@@ -82,7 +88,8 @@ module _ {X : Type 0} (alike : X → X → Bool) (onward : (x y z : X) → alike
               ends = apart t inner.ends a;
             }
         | inr a ↦
-            let joined : runs alike (x ∷ y ∷ ys) ≡ (x ∷ []) ∷ (y ∷ h.head) ∷ h.tails = ap (add_to alike x) h.are ∙ (λ i. if (a i) then (x ∷ y ∷ h.head) ∷ h.tails else (x ∷ []) ∷ (y ∷ h.head) ∷ h.tails) in
+            let joined : runs alike (x ∷ y ∷ ys) ≡ (x ∷ []) ∷ (y ∷ h.head) ∷ h.tails = ap (add_to alike x) h.are
+            ∙ (λ i. if (a i) then (x ∷ y ∷ h.head) ∷ h.tails else (x ∷ []) ∷ (y ∷ h.head) ∷ h.tails) in
             let g_is : g ≡ x ∷ [] = cc in
             let t_is : y ∷ ys ≡ t = tails_of (subst (λ k. x ∷ y ∷ ys ≡ k ++ t) g_is e) in
             record { more = []; are = g_is; all = tt; ends = subst (StartsApart alike x) t_is a }
@@ -118,7 +125,8 @@ module _ {N D : Type 0} (labels : N → Name) (rtype_of : D → ℕ) (minimum_of
   owner_onward r s t e =
       ap (λ k. same_lowered k (lowered (labels t.owner))) (owner_key r s e)
 
-  all_at : (r : Record N D) (more : List (Record N D)) → AllByRecursion (λ s. same_owner labels r s ≡ true) more → AllByRecursion (λ s. same_name s.owner (labels r.owner) ≡ true) (map see more)
+  all_at : (r : Record N D) (more : List (Record N D)) → AllByRecursion (λ s. same_owner labels r s ≡ true) more
+      → AllByRecursion (λ s. same_name s.owner (labels r.owner) ≡ true) (map see more)
   all_at r [] h = tt
   all_at r (s ∷ more) h = (same_itself (labels s.owner) (labels r.owner) (sym (owner_key r s h.0)), all_at r more h.1)
 
@@ -131,7 +139,9 @@ module _ {N D : Type 0} (labels : N → Name) (rtype_of : D → ℕ) (minimum_of
       ]
 
   -- what the iterator over groups hands out
-  pub front_group : (rest group after : List (Record N D)) → rest ≡ group ++ after → runs (same_owner labels) rest ≡ group ∷ runs (same_owner labels) after → (owner : N) → HasFirst (λ r. r.owner ≡ owner) group
+  pub front_group : (rest group after : List (Record N D)) → rest ≡ group ++ after
+      → runs (same_owner labels) rest ≡ group ∷ runs (same_owner labels) after → (owner : N)
+      → HasFirst (λ r. r.owner ≡ owner) group
       → (g : ZoneRecord) × IsFront (map see rest) g (map see group) (map see after) × (g.owner ≡ labels owner)
   front_group [] [] after e f owner h = absurd h
   front_group [] (g ∷ group) after e f owner h = cc
@@ -161,7 +171,8 @@ module _ {N D : Type 0} (labels : N → Name) (rtype_of : D → ℕ) (minimum_of
       turned Equal = refl
       turned Greater = refl
 
-  all_follow : (r : Record N D) (rs : List (Record N D)) → AllByRecursion (MayFollow labels rtype_of r) rs → AllByRecursion (λ s. before s.owner (labels r.owner) ≡ false) (map see rs)
+  all_follow : (r : Record N D) (rs : List (Record N D)) → AllByRecursion (MayFollow labels rtype_of r) rs
+      → AllByRecursion (λ s. before s.owner (labels r.owner) ≡ false) (map see rs)
   all_follow r [] h = tt
   all_follow r (s ∷ rs) h = (not_before r s h.0, all_follow r rs h.1)
 
@@ -174,23 +185,29 @@ module _ {N D : Type 0} (labels : N → Name) (rtype_of : D → ℕ) (minimum_of
   order_after [] after h = h
   order_after (g ∷ group) after h = order_after group after h.1
 
-  alike_types : (r : Record N D) (more after : List (Record N D)) → AllByRecursion (λ s. same_owner labels r s ≡ true) more → AllByRecursion (MayFollow labels rtype_of r) (more ++ after) → AllByRecursion (λ s. rtype_of r.«data» ≤ s.rtype) (map see more)
+  alike_types : (r : Record N D) (more after : List (Record N D)) → AllByRecursion (λ s. same_owner labels r s ≡ true) more
+      → AllByRecursion (MayFollow labels rtype_of r) (more ++ after)
+      → AllByRecursion (λ s. rtype_of r.«data» ≤ s.rtype) (map see more)
   alike_types r [] after all h = tt
   alike_types r (s ∷ more) after all h =
       let follow : MayFollow labels rtype_of r s = h.0 in
       (follow.type ((same_name_same (labels r.owner) (labels s.owner)).0 all.0), alike_types r more after all.1 h.1)
 
   -- the types of a group never descend
-  types_of_group : (r : Record N D) (more after : List (Record N D)) → AllByRecursion (λ s. same_owner labels r s ≡ true) more → IsInOrder labels rtype_of ((r ∷ more) ++ after) → NeverDescend (map see (r ∷ more))
+  types_of_group : (r : Record N D) (more after : List (Record N D)) → AllByRecursion (λ s. same_owner labels r s ≡ true) more
+      → IsInOrder labels rtype_of ((r ∷ more) ++ after) → NeverDescend (map see (r ∷ more))
   types_of_group r [] after all h = (tt, tt)
   types_of_group r (s ∷ more) after all h =
       (alike_types r (s ∷ more) after all h.0, types_of_group s more after (moved more all.0 all.1) h.1)
     where
-      moved : (us : List (Record N D)) → same_owner labels r s ≡ true → AllByRecursion (λ t. same_owner labels r t ≡ true) us → AllByRecursion (λ t. same_owner labels s t ≡ true) us
+      moved : (us : List (Record N D)) → same_owner labels r s ≡ true → AllByRecursion (λ t. same_owner labels r t ≡ true) us
+          → AllByRecursion (λ t. same_owner labels s t ≡ true) us
       moved [] e k = tt
       moved (u ∷ us) e k = (sym (owner_onward r s u e) ∙ k.0, moved us e k.1)
 
-  pub group_types : (rest group after : List (Record N D)) → rest ≡ group ++ after → runs (same_owner labels) rest ≡ group ∷ runs (same_owner labels) after → IsInOrder labels rtype_of rest → NeverDescend (map see group)
+  pub group_types : (rest group after : List (Record N D)) → rest ≡ group ++ after
+      → runs (same_owner labels) rest ≡ group ∷ runs (same_owner labels) after → IsInOrder labels rtype_of rest
+      → NeverDescend (map see group)
   group_types [] [] after e f h = tt
   group_types [] (g ∷ group) after e f h = cc
   group_types (r ∷ rest) group after e f h =
@@ -200,7 +217,8 @@ module _ {N D : Type 0} (labels : N → Name) (rtype_of : D → ℕ) (minimum_of
 
   -- ---- zone cuts
 
-  pub cut_test : (b : Bool) (a : Name) (owner : N) (group : List (Record N D)) → HasFirst (λ r. r.owner ≡ owner) group → (IsTrue b ↔ IsZoneCut labels rtype_of a group) → b ≡ (not (same_name (labels owner) a) && has_type (map see group) 2)
+  pub cut_test : (b : Bool) (a : Name) (owner : N) (group : List (Record N D)) → HasFirst (λ r. r.owner ≡ owner) group
+      → (IsTrue b ↔ IsZoneCut labels rtype_of a group) → b ≡ (not (same_name (labels owner) a) && has_type (map see group) 2)
   cut_test b a owner [] h f = absurd h
   cut_test b a owner (g ∷ more) h f = by b f
     where
@@ -222,7 +240,8 @@ module _ {N D : Type 0} (labels : N → Name) (rtype_of : D → ℕ) (minimum_of
           let p = and_parts (not (same_name (labels owner) a)) (has_type (map see (g ∷ more)) 2) e in
           let found = Any-from_list_any (λ r. nat_eq (rtype_of r.«data») 2) (g ∷ more) (sym types ∙ p.1) in
           record {
-            below = λ s. false≢true (sym (not-true (same_name (labels owner) a) p.0) ∙ ap (λ o. same_name (labels o) a) (sym h) ∙ (same_name_same (labels g.owner) a).1 s);
+            below = λ s. false≢true (sym (not-true (same_name (labels owner) a) p.0) ∙ ap (λ o. same_name (labels o) a) (sym h)
+                ∙ (same_name_same (labels g.owner) a).1 s);
             delegates = (found.0, found.1, found.2, found.3, eqb-true (rtype_of found.1.«data») 2 found.4);
           }
 

@@ -1,5 +1,7 @@
 -- What an iterator over the owners that are not occluded has left to give.
-use Rattle.std.proofs.Common.{◌≡◌, Bool, true, false, cond, not, ◌&&◌, ◌||◌, List, [], ◌∷◌, ◌++◌, map, refl, sym, ap, ◌∙◌, subst, inl, inr, Option, Some, None, append_assoc, ℕ}
+use Rattle.std.proofs.Common.{◌≡◌, Bool, true, false, cond, not, ◌&&◌, ◌||◌, List, [], ◌∷◌, ◌++◌, map}
+use Rattle.std.proofs.Common.{refl, sym, ap, ◌∙◌, subst, inl, inr, Option, Some, None, append_assoc, ℕ}
+use Rattle.std.proofs.lemmas.List.{append-nil}
 use Rattle.std.specs.Prelude.{if◌then◌else◌}
 use Rattle.std.proofs.lemmas.Bool.{cases_Bool}
 use Rattle.domain_plain.specs.declared.record.Record.{Record}
@@ -32,12 +34,21 @@ module _ {N D : Type 0} (labels : N → Name) (rtype_of : D → ℕ) (minimum_of
   pub left_given : (group : List (Record N D)) (owner : N) (gs : List (List ZoneRecord)) → HasFirst (λ r. r.owner ≡ owner) group
       → is_passed_over a o (labels owner) ≡ false
       → left_owners d a o (map (as_zone_record labels rtype_of minimum_of) group ∷ gs)
-      ≡ record { name = labels owner; records = map (as_zone_record labels rtype_of minimum_of) group; is_zone_cut = is_cut_group a (labels owner) (map (as_zone_record labels rtype_of minimum_of) group) }
+      ≡ record {
+        name = labels owner;
+        records = map (as_zone_record labels rtype_of minimum_of) group;
+        is_zone_cut = is_cut_group a (labels owner) (map (as_zone_record labels rtype_of minimum_of) group);
+      }
       ∷ left_owners d a (occluder_from d a (labels owner) (map (as_zone_record labels rtype_of minimum_of) group)) gs
   left_given [] owner gs h e = absurd h
   left_given (r ∷ rs) owner gs h e =
       let see = as_zone_record labels rtype_of minimum_of in
-      let given : N → List OwnerRecords = λ m. record { name = labels m; records = map see (r ∷ rs); is_zone_cut = is_cut_group a (labels m) (map see (r ∷ rs)) } ∷ left_owners d a (occluder_from d a (labels m) (map see (r ∷ rs))) gs in
+      let given : N → List OwnerRecords = λ m. record {
+        name = labels m;
+        records = map see (r ∷ rs);
+        is_zone_cut = is_cut_group a (labels m) (map see (r ∷ rs));
+      } ∷ left_owners d a
+      (occluder_from d a (labels m) (map see (r ∷ rs))) gs in
       (λ i. if ((ap (λ m. is_passed_over a o (labels m)) h ∙ e) i) then left_owners d a o gs else given r.owner) ∙ ap given h
 
 -- ---- runs, one after another
@@ -71,7 +82,8 @@ module _ {X : Type 0} (alike : X → X → Bool) where
                 let up = ih (y ∷ ys) hs f in
                 (up.0, ap (λ t. x ∷ t) up.1 ∙ ap (λ h. h ++ up.0) first, up.2 ∙ later)
             | inr t ↦
-                let is : (x ∷ []) ∷ (y ∷ ys) ∷ hs ≡ g ∷ gs = sym (ap (add_to alike x) f ∙ (λ i. if (t i) then (x ∷ y ∷ ys) ∷ hs else (x ∷ []) ∷ (y ∷ ys) ∷ hs)) ∙ e in
+                let is : (x ∷ []) ∷ (y ∷ ys) ∷ hs ≡ g ∷ gs =
+                sym (ap (add_to alike x) f ∙ (λ i. if (t i) then (x ∷ y ∷ ys) ∷ hs else (x ∷ []) ∷ (y ∷ ys) ∷ hs)) ∙ e in
                 let first : x ∷ [] ≡ g = cc in
                 let later : (y ∷ ys) ∷ hs ≡ gs = cc in
                 (xs, ap (λ h. h ++ xs) first, f ∙ later)
@@ -92,8 +104,11 @@ module _ {X : Type 0} (alike : X → X → Bool) where
       by ([] ∷ hs) f = let is : (x ∷ []) ∷ hs ≡ [] = sym (ap (add_to alike x) f) ∙ e in absurd (cc)
       by ((y ∷ ys) ∷ hs) f =
           elim (cases_Bool (alike x y)) [
-            | inl t ↦ let is : (x ∷ y ∷ ys) ∷ hs ≡ [] = sym (ap (add_to alike x) f ∙ (λ i. if (t i) then (x ∷ y ∷ ys) ∷ hs else (x ∷ []) ∷ (y ∷ ys) ∷ hs)) ∙ e in absurd (cc)
-            | inr t ↦ let is : (x ∷ []) ∷ (y ∷ ys) ∷ hs ≡ [] = sym (ap (add_to alike x) f ∙ (λ i. if (t i) then (x ∷ y ∷ ys) ∷ hs else (x ∷ []) ∷ (y ∷ ys) ∷ hs)) ∙ e in absurd (cc)
+            | inl t ↦ let is : (x ∷ y ∷ ys) ∷ hs ≡ [] = sym (ap (add_to alike x) f
+                ∙ (λ i. if (t i) then (x ∷ y ∷ ys) ∷ hs else (x ∷ []) ∷ (y ∷ ys) ∷ hs)) ∙ e in absurd (cc)
+            | inr t ↦ let is : (x ∷ []) ∷ (y ∷ ys) ∷ hs ≡ [] =
+                sym (ap (add_to alike x) f ∙ (λ i. if (t i) then (x ∷ y ∷ ys) ∷ hs else (x ∷ []) ∷ (y ∷ ys) ∷ hs))
+                ∙ e in absurd (cc)
           ]
 
   pub runs_first : (x : X) (xs g : List X) (gs : List (List X)) → runs alike (x ∷ xs) ≡ g ∷ gs → HasFirst (λ y. y ≡ x) g
@@ -112,7 +127,8 @@ module _ {X : Type 0} (alike : X → X → Bool) where
                 let is : (x ∷ y ∷ ys) ∷ hs ≡ g ∷ gs = sym (ap (add_to alike x) f ∙ (λ i. if (t i) then (x ∷ y ∷ ys) ∷ hs else (x ∷ []) ∷ (y ∷ ys) ∷ hs)) ∙ e in
                 let first : x ∷ y ∷ ys ≡ g = cc in at (y ∷ ys) first
             | inr t ↦
-                let is : (x ∷ []) ∷ (y ∷ ys) ∷ hs ≡ g ∷ gs = sym (ap (add_to alike x) f ∙ (λ i. if (t i) then (x ∷ y ∷ ys) ∷ hs else (x ∷ []) ∷ (y ∷ ys) ∷ hs)) ∙ e in
+                let is : (x ∷ []) ∷ (y ∷ ys) ∷ hs ≡ g ∷ gs =
+                sym (ap (add_to alike x) f ∙ (λ i. if (t i) then (x ∷ y ∷ ys) ∷ hs else (x ∷ []) ∷ (y ∷ ys) ∷ hs)) ∙ e in
                 let first : x ∷ [] ≡ g = cc in at [] first
           ]
 
@@ -121,10 +137,6 @@ module _ {X : Type 0} (alike : X → X → Bool) where
 map_more : (L : List ZoneRecord) (a : Name) (ks : List Name) (n : Name) → map (owner_at L a) (ks ++ n ∷ []) ≡ map (owner_at L a) ks ++ owner_at L a n ∷ []
 map_more L a [] n = refl
 map_more L a (k ∷ ks) n = ap (λ t. owner_at L a k ∷ t) (map_more L a ks n)
-
-append_nil : {X : Type 0} (xs : List X) → xs ++ [] ≡ xs
-append_nil [] = refl
-append_nil (x ∷ xs) = ap (λ ys. x ∷ ys) (append_nil xs)
 
 module _ {N D : Type 0} (labels : N → Name) (rtype_of : D → ℕ) (minimum_of : D → Option ℕ) (d : Bool) (L : List ZoneRecord) (a : Name) where
   abbrev see : Record N D → ZoneRecord
@@ -135,7 +147,7 @@ module _ {N D : Type 0} (labels : N → Name) (rtype_of : D → ℕ) (minimum_of
       → IsWalked d L a (map see rest) o ks
       → map (owner_at L a) ks ++ left_owners d a o (map (map see) gs) ≡ owners_with_records d L a
   left_all [] rest o ks e w =
-      append_nil (map (owner_at L a) ks)
+      append-nil (map (owner_at L a) ks)
       ∙ sym (ap (map (owner_at L a)) (walk_end d L a o ks (subst (λ t. IsWalked d L a (map see t) o ks) (runs_none (same_owner labels) rest e) w)))
   left_all (group ∷ gs) [] o ks e w = absurd (no_runs (same_owner labels) group gs e)
   left_all (group ∷ gs) (r ∷ rest) o ks e w =
@@ -160,32 +172,44 @@ module _ {N D : Type 0} (labels : N → Name) (rtype_of : D → ℕ) (minimum_of
             | inl zone ↦
                 elim (cases_Bool (is_under o (labels r.owner))) [
                   | inl under ↦
-                      ap (λ t. map (owner_at L a) ks ++ t) (left_passed labels rtype_of minimum_of d a o group r.owner (map (map see) gs) first (λ i. not (zone i) || under i))
+                      ap (λ t. map (owner_at L a) ks ++ t) (left_passed labels rtype_of minimum_of d a o group r.owner
+                      (map (map see) gs) first (λ i. not (zone i) || under i))
                       ∙ ih t o ks runs_t
-                      (walk_under d L a (map see (r ∷ rest)) o ks w g f.gs (map see t) f.split f.group (ap (λ m. is_at_or_below m a) at ∙ zone) (ap (is_under o) at ∙ under))
+                      (walk_under d L a (map see (r ∷ rest)) o ks w g f.gs (map see t) f.split f.group
+                      (ap (λ m. is_at_or_below m a) at ∙ zone) (ap (is_under o) at ∙ under))
                   | inr over ↦
                       let records_are : records_of L (labels r.owner) ≡ map see group =
                       ap (records_of L) (sym at) ∙ next_records d L a (map see (r ∷ rest)) o ks w g f.gs (map see t) f.split f.group ∙ sym f.are in
                       let cut_is : is_zone_cut L a (labels r.owner) ≡ is_cut_group a (labels r.owner) (map see group) =
                       λ i. (zone i && not (same_name (labels r.owner) a)) && has_type (records_are i) ns in
-                      let occludes_is : occludes d L a (labels r.owner) ≡ (is_cut_group a (labels r.owner) (map see group) || (d && has_type (map see group) dname)) =
-                      (λ i. cut_is i || (d && zone i && has_type (records_are i) dname)) ∙ ap (λ b. is_cut_group a (labels r.owner) (map see group) || b) (and_true d (has_type (map see group) dname)) in
+                      let occludes_is : occludes d L a (labels r.owner)
+                      ≡ (is_cut_group a (labels r.owner) (map see group) || (d && has_type (map see group) dname)) =
+                      (λ i. cut_is i || (d && zone i && has_type (records_are i) dname))
+                      ∙ ap (λ b. is_cut_group a (labels r.owner) (map see group) || b)
+                      (and_true d (has_type (map see group) dname)) in
                       let next : cond (occludes d L a g.owner) (Some g.owner) None ≡ occluder_from d a (labels r.owner) (map see group) =
                       (λ i. cond (occludes d L a (at i)) (Some (at i)) None) ∙ (λ i. cond (occludes_is i) (Some (labels r.owner)) None) in
-                      let entry : record { name = labels r.owner; records = map see group; is_zone_cut = is_cut_group a (labels r.owner) (map see group) } ≡ owner_at L a (labels r.owner) =
+                      let entry : record {
+                        name = labels r.owner;
+                        records = map see group;
+                        is_zone_cut = is_cut_group a (labels r.owner) (map see group);
+                      } ≡ owner_at L a (labels r.owner) =
                       λ i. record { name = labels r.owner; records = sym records_are i; is_zone_cut = sym cut_is i } in
-                      let walked = walk_onto d L a (map see (r ∷ rest)) o ks w g f.gs (map see t) f.split f.group (ap (λ m. is_at_or_below m a) at ∙ zone) (ap (is_under o) at ∙ over) in
+                      let walked = walk_onto d L a (map see (r ∷ rest)) o ks w g f.gs (map see t) f.split f.group
+                      (ap (λ m. is_at_or_below m a) at ∙ zone) (ap (is_under o) at ∙ over) in
                       let walked' = subst (λ m. IsWalked d L a (map see t) (occluder_from d a (labels r.owner) (map see group)) (ks ++ m ∷ [])) at
                       (subst (λ c. IsWalked d L a (map see t) c (ks ++ g.owner ∷ [])) next walked) in
                       let later = left_owners d a (occluder_from d a (labels r.owner) (map see group)) (map (map see) gs) in
-                      ap (λ t. map (owner_at L a) ks ++ t) (left_given labels rtype_of minimum_of d a o group r.owner (map (map see) gs) first (λ i. not (zone i) || over i))
+                      ap (λ t. map (owner_at L a) ks ++ t) (left_given labels rtype_of minimum_of d a o group r.owner
+                      (map (map see) gs) first (λ i. not (zone i) || over i))
                       ∙ ap (λ e. map (owner_at L a) ks ++ e ∷ later) entry
                       ∙ sym (append_assoc (map (owner_at L a) ks) (owner_at L a (labels r.owner) ∷ []) later)
                       ∙ ap (λ t. t ++ later) (sym (map_more L a ks (labels r.owner)))
                       ∙ ih t (occluder_from d a (labels r.owner) (map see group)) (ks ++ labels r.owner ∷ []) runs_t walked'
                 ]
             | inr out ↦
-                ap (λ t. map (owner_at L a) ks ++ t) (left_passed labels rtype_of minimum_of d a o group r.owner (map (map see) gs) first (λ i. not (out i) || is_under o (labels r.owner)))
+                ap (λ t. map (owner_at L a) ks ++ t) (left_passed labels rtype_of minimum_of d a o group r.owner
+                (map (map see) gs) first (λ i. not (out i) || is_under o (labels r.owner)))
                 ∙ ih t o ks runs_t
                 (walk_outside d L a (map see (r ∷ rest)) o ks w g f.gs (map see t) f.split f.group (ap (λ m. is_at_or_below m a) at ∙ out))
           ]
@@ -195,16 +219,22 @@ module _ {N D : Type 0} (labels : N → Name) (rtype_of : D → ℕ) (minimum_of
           and_true false c = refl
 
 -- at first all are left
-pub left_first : {N D : Type 0} (labels : N → Name) (rtype_of : D → ℕ) (minimum_of : D → Option ℕ) (d : Bool) (a : Name) (rs : List (Record N D)) → IsInOrder labels rtype_of rs
-    → left_owners d a None (map (map (as_zone_record labels rtype_of minimum_of)) (runs (same_owner labels) rs)) ≡ owners_with_records d (map (as_zone_record labels rtype_of minimum_of) rs) a
+pub left_first : {N D : Type 0} (labels : N → Name) (rtype_of : D → ℕ) (minimum_of : D
+    → Option ℕ) (d : Bool) (a : Name) (rs : List (Record N D)) → IsInOrder labels rtype_of rs
+    → left_owners d a None (map (map (as_zone_record labels rtype_of minimum_of)) (runs (same_owner labels) rs))
+    ≡ owners_with_records d (map (as_zone_record labels rtype_of minimum_of) rs) a
 left_first labels rtype_of minimum_of d a rs h =
-    left_all labels rtype_of minimum_of d (map (as_zone_record labels rtype_of minimum_of) rs) a (runs (same_owner labels) rs) rs None [] refl (walk_start d (map (as_zone_record labels rtype_of minimum_of) rs) a (owners_in_order labels rtype_of minimum_of rs h))
+    left_all labels rtype_of minimum_of d (map (as_zone_record labels rtype_of minimum_of) rs) a
+    (runs (same_owner labels) rs) rs None [] refl (walk_start d (map (as_zone_record labels rtype_of minimum_of) rs) a
+    (owners_in_order labels rtype_of minimum_of rs h))
 
 -- at last none are
-pub left_none : {N D : Type 0} (labels : N → Name) (rtype_of : D → ℕ) (minimum_of : D → Option ℕ) (d : Bool) (a : Name) (o : Option Name) (rs : List (Record N D)) → rs ≡ []
+pub left_none : {N D : Type 0} (labels : N → Name) (rtype_of : D → ℕ) (minimum_of : D
+    → Option ℕ) (d : Bool) (a : Name) (o : Option Name) (rs : List (Record N D)) → rs ≡ []
     → left_owners d a o (map (map (as_zone_record labels rtype_of minimum_of)) (runs (same_owner labels) rs)) ≡ []
 unfolding runs
-left_none labels rtype_of minimum_of d a o rs e = ap (λ ts. left_owners d a o (map (map (as_zone_record labels rtype_of minimum_of)) (runs (same_owner labels) ts))) e
+left_none labels rtype_of minimum_of d a o rs e = ap (λ ts.
+    left_owners d a o (map (map (as_zone_record labels rtype_of minimum_of)) (runs (same_owner labels) ts))) e
 
 -- the occluder after a group
 pub occluder_after : (d : Bool) (a n : Name) (G : List ZoneRecord) (cut owns : Bool) (o : Option Name) → cut ≡ is_cut_group a n G → owns ≡ has_type G dname

@@ -17,6 +17,10 @@ use Rattle.domain_base.specs.Words.{Label, Name}
 use Rattle.domain_base.proofs.CaseLemmas.{at_or_below_test, one_line}
 use Rattle.domain_zone.specs.Covering.{matches}
 
+pub or_false : (b : Bool) → (b || false) ≡ b
+or_false true = refl
+or_false false = refl
+
 -- the tests on names are tests on their lowered labels
 abbrev pub same_lowered : Name → Name → Bool
 same_lowered = pointwise (pointwise nat_eq)
@@ -49,7 +53,8 @@ before_left x z y e = ap is_lt (canonical_cmp_total.congr x z y (same_tied x z e
 
 pub before_right : (y x z : Name) → lowered x ≡ lowered z → before y x ≡ before y z
 before_right y x z e =
-    ap is_lt (canonical_cmp_total.antisymm y x ∙ ap ordering_reverse (canonical_cmp_total.congr x z y (same_tied x z e)) ∙ sym (canonical_cmp_total.antisymm y z))
+    ap is_lt (canonical_cmp_total.antisymm y x ∙ ap ordering_reverse (canonical_cmp_total.congr x z y (same_tied x z e))
+    ∙ sym (canonical_cmp_total.antisymm y z))
 
 -- ---- what is below a name
 

@@ -7,7 +7,8 @@ use Rattle.domain_base.specs.Name.{is_at_or_below, is_strictly_below, lowered, s
 use Rattle.domain_base.specs.Order.{before}
 use Rattle.domain_base.specs.Words.{Name}
 use Rattle.domain_base.specs.Types.{ns, dname}
-use Rattle.domain_zone.specs.Zone.{ZoneRecord, OwnersNeverDescend, records_of, owns, has_type, is_zone_cut, occludes, is_occluded, is_unoccluded, distinct, unoccluded_owners}
+use Rattle.domain_zone.specs.Zone.{ZoneRecord, OwnersNeverDescend, records_of, owns, has_type, is_zone_cut}
+use Rattle.domain_zone.specs.Zone.{occludes, is_occluded, is_unoccluded, distinct, unoccluded_owners}
 use Rattle.domain_zone.proofs.PairLemmas.{IsAscending, In}
 use Rattle.domain_zone.proofs.NameLemmas.{one_lowered, same_itself, below_itself, below_from, lowered_below, same_lowered}
 use Rattle.domain_zone.proofs.ZoneLemmas.{all_filter, all_distinct, any_none, any_map, same_back, after_or, not_strictly}
@@ -43,7 +44,8 @@ module _ {X : Type 0} where
   in_any p (y ∷ xs) x (inr i) e = or_right (p y) (list_any p xs) (in_any p xs x i e)
 
   -- what passes a filter
-  pub filter_passes : (P Q : X → Type 0) (q : X → Bool) → ((x : X) → P x → q x ≡ true → Q x) → (xs : List X) → AllByRecursion P xs → AllByRecursion Q (filter q xs)
+  pub filter_passes : (P Q : X → Type 0) (q : X → Bool) → ((x : X) → P x → q x ≡ true → Q x) → (xs : List X) → AllByRecursion P xs
+      → AllByRecursion Q (filter q xs)
   filter_passes P Q q f [] h = tt
   filter_passes P Q q f (x ∷ xs) h =
       elim (q x) as (λ b. q x ≡ b → AllByRecursion Q (cond b (x ∷ filter q xs) (filter q xs))) [
@@ -59,7 +61,8 @@ module _ {X : Type 0} where
         | false ↦ ascending_filter lt q xs h.1
       ]
 
-owners_in_order : (r : ZoneRecord) (rs : List ZoneRecord) → AllByRecursion (λ s. before s.owner r.owner ≡ false) rs → AllByRecursion (λ n. before n r.owner ≡ false) (map (λ s. s.owner) rs)
+owners_in_order : (r : ZoneRecord) (rs : List ZoneRecord) → AllByRecursion (λ s. before s.owner r.owner ≡ false) rs
+    → AllByRecursion (λ n. before n r.owner ≡ false) (map (λ s. s.owner) rs)
 owners_in_order r [] h = tt
 owners_in_order r (s ∷ rs) h = (h.0, owners_in_order r rs h.1)
 
@@ -99,9 +102,12 @@ any_distinct s (x ∷ xs) h =
         ]
 
 -- a name that owns records and is not occluded is among them, by any test of keys
-pub any_owner : (d : Bool) (L : List ZoneRecord) (a x : Name) (s : Name → Bool) → owns L x ≡ true → is_unoccluded d L a x ≡ true → s (lowered x) ≡ true → list_any (λ m. s (lowered m)) (unoccluded_owners d L a) ≡ true
+pub any_owner : (d : Bool) (L : List ZoneRecord) (a x : Name) (s : Name → Bool) → owns L x ≡ true → is_unoccluded d L a x ≡ true
+    → s (lowered x) ≡ true → list_any (λ m. s (lowered m)) (unoccluded_owners d L a) ≡ true
 any_owner d L a x s o k e =
-    let unoccluded_at : Name → Bool = λ m. (lowered_below m (lowered a) && not (list_any (λ r. occludes d L a r.owner && (lowered_below m (lowered r.owner) && not (same_lowered m (lowered r.owner)))) L)) && s m in
+    let unoccluded_at : Name → Bool = λ m. (lowered_below m (lowered a)
+    && not (list_any (λ r. occludes d L a r.owner && (lowered_below m (lowered r.owner)
+    && not (same_lowered m (lowered r.owner)))) L)) && s m in
     any_filter (λ m. s (lowered m)) (is_unoccluded d L a) (distinct (map (λ r. r.owner) L))
     ∙ any_distinct unoccluded_at (map (λ r. r.owner) L)
     (any_map (λ m. unoccluded_at (lowered m)) (λ r. r.owner) L
@@ -110,10 +116,14 @@ any_owner d L a x s o k e =
 
 owns_itself : (L : List ZoneRecord) (K : List ZoneRecord) → ((r : ZoneRecord) → In r K → In r L) → AllByRecursion (λ n. owns L n ≡ true) (map (λ r. r.owner) K)
 owns_itself L [] f = tt
-owns_itself L (r ∷ K) f = (in_any (λ s. same_name s.owner r.owner) L r (f r (inl refl)) (same_itself r.owner r.owner refl), owns_itself L K (λ s i. f s (inr i)))
+owns_itself L (r ∷ K) f = (
+  in_any (λ s. same_name s.owner r.owner) L r (f r (inl refl)) (same_itself r.owner r.owner refl),
+  owns_itself L K (λ s i. f s (inr i)),
+)
 
 -- each owner of the chain owns records, and is at or below the apex
-pub owners_are : (d : Bool) (L : List ZoneRecord) (a : Name) → AllByRecursion (λ n. (owns L n ≡ true) × (is_unoccluded d L a n ≡ true)) (unoccluded_owners d L a)
+pub owners_are : (d : Bool) (L : List ZoneRecord) (a : Name)
+    → AllByRecursion (λ n. (owns L n ≡ true) × (is_unoccluded d L a n ≡ true)) (unoccluded_owners d L a)
 owners_are d L a =
     filter_passes (λ n. owns L n ≡ true) (λ n. (owns L n ≡ true) × (is_unoccluded d L a n ≡ true)) (is_unoccluded d L a) (λ n o k. (o, k))
     (distinct (map (λ r. r.owner) L)) (all_distinct (λ n. owns L n ≡ true) (map (λ r. r.owner) L) (owns_itself L L (λ r i. i)))
@@ -164,7 +174,9 @@ occluder_owns d L a c h =
 pub below_occluder : (d : Bool) (L : List ZoneRecord) (a c x : Name) → occludes d L a c ≡ true → is_strictly_below x c ≡ true → is_occluded d L a x ≡ true
 below_occluder d L a c x h s =
     let types : Name → ℕ → Bool = λ k. has_type (filter (λ s. same_lowered (lowered s.owner) k) L) in
-    let over : Name → Bool = λ k. (lowered_below k (lowered a) && not (same_lowered k (lowered a)) && types k ns) || (d && lowered_below k (lowered a) && types k dname) in
+    let over : Name → Bool = λ k. (lowered_below k (lowered a) && not (same_lowered k (lowered a)) && types k ns)
+    || (d && lowered_below k (lowered a) && types k dname) in
     let at : Name → Bool = λ k. over k && (lowered_below (lowered x) k && not (same_lowered (lowered x) k)) in
     let q = any_in (λ r. same_name r.owner c) L (occluder_owns d L a c h) in
-    in_any (λ r. occludes d L a r.owner && is_strictly_below x r.owner) L q.0 q.1 (ap at (one_lowered q.0.owner c q.2) ∙ and_from (occludes d L a c) (is_strictly_below x c) h s)
+    in_any (λ r. occludes d L a r.owner && is_strictly_below x r.owner) L q.0 q.1 (ap at (one_lowered q.0.owner c q.2)
+    ∙ and_from (occludes d L a c) (is_strictly_below x c) h s)

@@ -84,17 +84,21 @@ module _ {X : Type 0} {lt : X → X → Bool} (o : IsStrictWeakOrder lt) where
   abbrev pub count_of : List X → X → X → ℕ
   count_of ks a x = count_by (λ (p : X × X). matches_or_covers lt p.0 p.1 x) (pairs ks a)
 
-  step : (k n x : X) (rest : List (X × X)) (b : Bool) (m : ℕ) → matches_or_covers lt k n x ≡ b → count_by (λ (p : X × X). matches_or_covers lt p.0 p.1 x) rest ≡ m → count_by (λ (p : X × X). matches_or_covers lt p.0 p.1 x) ((k, n) ∷ rest) ≡ cond b 1 0 + m
+  step : (k n x : X) (rest : List (X × X)) (b : Bool) (m : ℕ) → matches_or_covers lt k n x ≡ b
+      → count_by (λ (p : X × X). matches_or_covers lt p.0 p.1 x) rest ≡ m
+      → count_by (λ (p : X × X). matches_or_covers lt p.0 p.1 x) ((k, n) ∷ rest) ≡ cond b 1 0 + m
   step k n x rest b m e f = sum_by-cons (λ (p : X × X). cond (matches_or_covers lt p.0 p.1 x) 1 0) (k, n) rest ∙ (λ i. cond (e i) 1 0 + f i)
 
   -- from before the first one on, where the last one's next isn't after x
-  pub none_before : (k : X) (ks : List X) (a x : X) → IsAscending lt (k ∷ ks) → AllByRecursion (λ y. lt y a ≡ false) (k ∷ ks) → lt x k ≡ true → lt x a ≡ false → count_of (k ∷ ks) a x ≡ 0
+  pub none_before : (k : X) (ks : List X) (a x : X) → IsAscending lt (k ∷ ks) → AllByRecursion (λ y. lt y a ≡ false) (k ∷ ks)
+      → lt x k ≡ true → lt x a ≡ false → count_of (k ∷ ks) a x ≡ 0
   none_before k [] a x up low e f = step k a x [] false 0 (falling_answer k a x low.0 ∙ (λ i. not (e i) || f i)) refl
   none_before k (l ∷ ks) a x up low e f =
       step k l x (pairs (l ∷ ks) a) false 0 (rising_answer k l x up.0.0 ∙ (λ i. not (e i) && lt x l))
       (none_before l ks a x up.1 low.1 (lt_trans x k l e up.0.0) f)
 
-  pub one_from : (k : X) (ks : List X) (a x : X) → IsAscending lt (k ∷ ks) → AllByRecursion (λ y. lt y a ≡ false) (k ∷ ks) → lt x k ≡ false → lt x a ≡ false → count_of (k ∷ ks) a x ≡ 1
+  pub one_from : (k : X) (ks : List X) (a x : X) → IsAscending lt (k ∷ ks) → AllByRecursion (λ y. lt y a ≡ false) (k ∷ ks)
+      → lt x k ≡ false → lt x a ≡ false → count_of (k ∷ ks) a x ≡ 1
   one_from k [] a x up low e f = step k a x [] true 0 (falling_answer k a x low.0 ∙ (λ i. not (e i) || lt x a)) refl
   one_from k (l ∷ ks) a x up low e f =
       elim (cases_Bool (lt x l)) [
@@ -103,7 +107,8 @@ module _ {X : Type 0} {lt : X → X → Bool} (o : IsStrictWeakOrder lt) where
       ]
 
   -- of what is before all of them the last one matches_or_covers
-  pub one_before : (k : X) (ks : List X) (a x : X) → IsAscending lt (k ∷ ks) → AllByRecursion (λ y. lt y a ≡ false) (k ∷ ks) → lt x a ≡ true → count_of (k ∷ ks) a x ≡ 1
+  pub one_before : (k : X) (ks : List X) (a x : X) → IsAscending lt (k ∷ ks) → AllByRecursion (λ y. lt y a ≡ false) (k ∷ ks)
+      → lt x a ≡ true → count_of (k ∷ ks) a x ≡ 1
   one_before k [] a x up low f = step k a x [] true 0 (falling_answer k a x low.0 ∙ (λ i. not (lt x k) || f i) ∙ or_true (not (lt x k))) refl
     where
       or_true : (b : Bool) → (b || true) ≡ true
@@ -114,7 +119,8 @@ module _ {X : Type 0} {lt : X → X → Bool} (o : IsStrictWeakOrder lt) where
       (one_before l ks a x up.1 low.1 f)
 
   -- exactly one pair matches or covers any value at all
-  pub one_matches_or_covers : (k : X) (ks : List X) (a x : X) → IsAscending lt (k ∷ ks) → AllByRecursion (λ y. lt y a ≡ false) (k ∷ ks) → lt a k ≡ false → count_of (k ∷ ks) a x ≡ 1
+  pub one_matches_or_covers : (k : X) (ks : List X) (a x : X) → IsAscending lt (k ∷ ks)
+      → AllByRecursion (λ y. lt y a ≡ false) (k ∷ ks) → lt a k ≡ false → count_of (k ∷ ks) a x ≡ 1
   one_matches_or_covers k ks a x up low g =
       elim (cases_Bool (lt x a)) [
         | inl f ↦ one_before k ks a x up low f
@@ -130,7 +136,8 @@ module _ {X : Type 0} {lt : X → X → Bool} (o : IsStrictWeakOrder lt) where
   owner_in k (l ∷ ks) a p (inr i) = inr (owner_in l ks a p i)
 
   -- the next one is a later one, or the first
-  pub next_is : (k : X) (ks : List X) (a : X) (p : X × X) → IsAscending lt (k ∷ ks) → In p (pairs (k ∷ ks) a) → ((lt p.0 p.1 ≡ true) × In p.1 (k ∷ ks)) ⊎ (a ≡ p.1)
+  pub next_is : (k : X) (ks : List X) (a : X) (p : X × X) → IsAscending lt (k ∷ ks) → In p (pairs (k ∷ ks) a)
+      → ((lt p.0 p.1 ≡ true) × In p.1 (k ∷ ks)) ⊎ (a ≡ p.1)
   next_is k [] a p up (inl e) = inr (ap (λ q. q.1) e)
   next_is k [] a p up (inr i) = absurd i
   next_is k (l ∷ ks) a p up (inl e) =

@@ -38,7 +38,9 @@ module _ {X : Type 0} where
   only_first p x xs z zero s g h = refl
   only_first p x xs z (suc j) s g h = absurd (none_counted p xs z j s g h)
 
-  only_later : (p : X → Bool) (x : X) (xs : List X) → p x ≡ false → (place : ℕ) → ((j : ℕ) (s : X) → slice_get xs j ≡ Some s → p s ≡ true → j ≡ place) → (j : ℕ) (s : X) → slice_get (x ∷ xs) j ≡ Some s → p s ≡ true → j ≡ suc place
+  only_later : (p : X → Bool) (x : X) (xs : List X) → p x ≡ false → (place : ℕ)
+      → ((j : ℕ) (s : X) → slice_get xs j ≡ Some s → p s ≡ true → j ≡ place) → (j : ℕ) (s : X) → slice_get (x ∷ xs) j ≡ Some s
+      → p s ≡ true → j ≡ suc place
   only_later p x xs t place f zero s g h = let same : x ≡ s = cc in absurd (false≢true (sym t ∙ ap p same ∙ h))
   only_later p x xs t place f (suc j) s g h = ap suc (f j s g h)
 

@@ -19,7 +19,11 @@ shared_is (l ∷ x) y =
       | true ↦ λ e. record { first = below_itself (l ∷ x); second = e; longest = λ d p q. below_length (l ∷ x) d p }
       | false ↦ λ e.
           let up = shared_is x y in
-          record { first = below_trans (l ∷ x) x (shared x y) (below_parent l x) up.first; second = up.second; longest = λ d p q. up.longest d (below_longer (l ∷ x) x d (below_parent l x) p (shorter d e p q)) q }
+          record {
+            first = below_trans (l ∷ x) x (shared x y) (below_parent l x) up.first;
+            second = up.second;
+            longest = λ d p q. up.longest d (below_longer (l ∷ x) x d (below_parent l x) p (shorter d e p q)) q;
+          }
     ] refl
   where
     shorter : (d : Name) → is_at_or_below y (l ∷ x) ≡ false → is_at_or_below (l ∷ x) d ≡ true → is_at_or_below y d ≡ true → length d ≤ length x

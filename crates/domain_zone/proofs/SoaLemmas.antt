@@ -1,5 +1,6 @@
 -- The SOA records that a scan of the records finds.
 use Rattle.std.proofs.Common.{◌≡◌, List, [], ◌∷◌, ◌++◌, Option, Some, None, true, false, cond, nat_eq, refl, ap, ◌∙◌, sym, inl, inr, append_assoc}
+use Rattle.std.proofs.lemmas.List.{append-nil}
 use Rattle.std.specs.Prelude.{filter}
 use Rattle.std.specs.Option.{is_some, option_map}
 use Rattle.std.proofs.lemmas.Bool.{true≢false, cases_Bool, or_parts, and_right}
@@ -22,18 +23,15 @@ pub record IsScanned (a : Name) (L rest : List ZoneRecord) (found : Option ZoneR
   pub whole : passed ++ rest ≡ L
   pub is_found : IsFoundIn a passed found
 
-append_nil : {X : Type 0} (xs : List X) → xs ++ [] ≡ xs
-append_nil [] = refl
-append_nil (x ∷ xs) = ap (λ ys. x ∷ ys) (append_nil xs)
-
 passed_over : (a : Name) (rs : List ZoneRecord) (r : ZoneRecord) → is_soa a r ≡ false → filter (is_soa a) (rs ++ r ∷ []) ≡ filter (is_soa a) rs
-passed_over a rs r e = filter-append (is_soa a) rs (r ∷ []) ∙ (λ i. filter (is_soa a) rs ++ cond (e i) (r ∷ []) []) ∙ append_nil (filter (is_soa a) rs)
+passed_over a rs r e = filter-append (is_soa a) rs (r ∷ []) ∙ (λ i. filter (is_soa a) rs ++ cond (e i) (r ∷ []) []) ∙ append-nil (filter (is_soa a) rs)
 
 still_found : (a : Name) (rs : List ZoneRecord) (r : ZoneRecord) (f : Option ZoneRecord) → is_soa a r ≡ false → IsFoundIn a rs f → IsFoundIn a (rs ++ r ∷ []) f
 still_found a rs r None e h = passed_over a rs r e ∙ h
 still_found a rs r (Some s) e h = passed_over a rs r e ∙ h
 
-found_now : (a : Name) (rs : List ZoneRecord) (r : ZoneRecord) (f : Option ZoneRecord) → is_soa a r ≡ true → is_some f ≡ false → IsFoundIn a rs f → IsFoundIn a (rs ++ r ∷ []) (Some r)
+found_now : (a : Name) (rs : List ZoneRecord) (r : ZoneRecord) (f : Option ZoneRecord) → is_soa a r ≡ true → is_some f ≡ false
+    → IsFoundIn a rs f → IsFoundIn a (rs ++ r ∷ []) (Some r)
 found_now a rs r None e s h = filter-append (is_soa a) rs (r ∷ []) ∙ (λ i. h i ++ cond (e i) (r ∷ []) [])
 found_now a rs r (Some t) e s h = absurd (true≢false s)
 
@@ -60,13 +58,14 @@ module _ (a : Name) (L : List ZoneRecord) where
       where
         second : (g : Option ZoneRecord) → is_some g ≡ true → IsFoundIn a s.passed g → soa_of (s.passed ++ r ∷ rest) a ≡ None
         second None n h = absurd (true≢false (sym n))
-        second (Some t) n h = ap of_only (filter-append (is_soa a) s.passed (r ∷ rest) ∙ (λ i. h i ++ cond (e i) (r ∷ filter (is_soa a) rest) (filter (is_soa a) rest)))
+        second (Some t) n h = ap of_only (filter-append (is_soa a) s.passed (r ∷ rest)
+            ∙ (λ i. h i ++ cond (e i) (r ∷ filter (is_soa a) rest) (filter (is_soa a) rest)))
 
   pub scan_none : IsScanned a L [] None → soa_of L a ≡ None
-  scan_none s = ap (λ K. soa_of K a) (sym s.whole) ∙ ap of_only (ap (filter (is_soa a)) (append_nil s.passed) ∙ s.is_found)
+  scan_none s = ap (λ K. soa_of K a) (sym s.whole) ∙ ap of_only (ap (filter (is_soa a)) (append-nil s.passed) ∙ s.is_found)
 
   pub scan_one : (r : ZoneRecord) → IsScanned a L [] (Some r) → soa_of L a ≡ numbers_of r r.minimum
-  scan_one r s = ap (λ K. soa_of K a) (sym s.whole) ∙ ap of_only (ap (filter (is_soa a)) (append_nil s.passed) ∙ s.is_found)
+  scan_one r s = ap (λ K. soa_of K a) (sym s.whole) ∙ ap of_only (ap (filter (is_soa a)) (append-nil s.passed) ∙ s.is_found)
 
 -- an apex with an SOA owns records
 pub soa_owned : (L : List ZoneRecord) (a : Name) (numbers : ApexSoa) → soa_of L a ≡ Some numbers → owns L a ≡ true

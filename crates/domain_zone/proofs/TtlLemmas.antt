@@ -63,13 +63,15 @@ no_clash_itself : (r : ZoneRecord) → clashes r r ≡ false
 no_clash_itself r = no_clash r r (λ c. differ r r c refl)
 
 -- where no neighbours clash, the first record clashes with none
-first_even : (r : ZoneRecord) (rs : List ZoneRecord) → NeverDescend (r ∷ rs) → has_neighbour_clash (r ∷ rs) ≡ false → AllByRecursion (λ s. clashes r s ≡ false) rs
+first_even : (r : ZoneRecord) (rs : List ZoneRecord) → NeverDescend (r ∷ rs) → has_neighbour_clash (r ∷ rs) ≡ false
+    → AllByRecursion (λ s. clashes r s ≡ false) rs
 first_even r [] order e = tt
 first_even r (s ∷ rs) order e =
     let p = or_parts (clashes r s) (has_neighbour_clash (s ∷ rs)) e in
     (p.0, further rs (first_even s rs order.1 p.1) order.0.1 order.1.0 p.0)
   where
-    further : (ts : List ZoneRecord) → AllByRecursion (λ t. clashes s t ≡ false) ts → AllByRecursion (λ t. r.rtype ≤ t.rtype) ts → AllByRecursion (λ t. s.rtype ≤ t.rtype) ts → clashes r s ≡ false → AllByRecursion (λ t. clashes r t ≡ false) ts
+    further : (ts : List ZoneRecord) → AllByRecursion (λ t. clashes s t ≡ false) ts → AllByRecursion (λ t. r.rtype ≤ t.rtype) ts
+        → AllByRecursion (λ t. s.rtype ≤ t.rtype) ts → clashes r s ≡ false → AllByRecursion (λ t. clashes r t ≡ false) ts
     further [] even low high here = tt
     further (t ∷ ts) even low high here = (
       no_clash r t (λ c.
@@ -93,7 +95,8 @@ all_pairs (r ∷ s ∷ rs) order e =
     let first = first_even r (s ∷ rs) order e in
     (λ i. (no_clash_itself r i || any_none (clashes r) (s ∷ rs) first i) || list_any (λ t. list_any (clashes t) (r ∷ s ∷ rs)) (s ∷ rs))
     ∙ any_front (λ t. list_any (clashes t) (r ∷ s ∷ rs)) (λ t. list_any (clashes t) (s ∷ rs)) (s ∷ rs)
-    (weaker (λ t. clashes r t ≡ false) (λ t. list_any (clashes t) (r ∷ s ∷ rs) ≡ list_any (clashes t) (s ∷ rs)) (λ t h. λ i. no_clash_back r t h i || list_any (clashes t) (s ∷ rs)) (s ∷ rs) first)
+    (weaker (λ t. clashes r t ≡ false) (λ t. list_any (clashes t) (r ∷ s ∷ rs) ≡ list_any (clashes t) (s ∷ rs))
+    (λ t h. λ i. no_clash_back r t h i || list_any (clashes t) (s ∷ rs)) (s ∷ rs) first)
     ∙ all_pairs (s ∷ rs) order.1 p.1
 
 -- neighbours that clash are a pair that clashes
@@ -103,7 +106,8 @@ some_pair (r ∷ []) e = absurd (false≢true e)
 some_pair (r ∷ s ∷ rs) e =
     elim (or_cases (clashes r s) (has_neighbour_clash (s ∷ rs)) e) [
       | inl h ↦ in_front (list_any (λ t. list_any (clashes t) (r ∷ s ∷ rs)) (s ∷ rs)) (clashes r r) (list_any (clashes r) rs) (clashes r s) h
-      | inr h ↦ later (list_any (clashes r) (r ∷ s ∷ rs)) (list_any (λ t. list_any (clashes t) (r ∷ s ∷ rs)) (s ∷ rs)) (more (s ∷ rs) (s ∷ rs) (some_pair (s ∷ rs) h))
+      | inr h ↦ later (list_any (clashes r) (r ∷ s ∷ rs)) (list_any (λ t. list_any (clashes t) (r ∷ s ∷ rs)) (s ∷ rs))
+          (more (s ∷ rs) (s ∷ rs) (some_pair (s ∷ rs) h))
     ]
   where
     in_front : (z a c b : Bool) → b ≡ true → ((a || (b || c)) || z) ≡ true

@@ -1,9 +1,11 @@
 -- The types that a walk over the records of an owner has gathered.
 use Rattle.std.proofs.Common.{◌≡◌, ℕ, ◌<◌, Bool, true, false, ◌&&◌, ◌||◌, List, [], ◌∷◌, ◌++◌, refl, sym, ap, ◌∙◌, inl, inr, nat_eq, append_assoc, eq-eqb}
+use Rattle.std.proofs.lemmas.List.{append-nil}
 use Rattle.std.proofs.lemmas.Bool.{cases_Bool, eqb-true, and_left, and_right}
 use Rattle.std.proofs.lemmas.List.Folds.{list_any-append}
 use Rattle.domain_bitmap.specs.Builder.{holds}
 use Rattle.domain_zone.specs.Zone.{ZoneRecord, has_type, lists_type, may_list}
+use Rattle.domain_zone.proofs.NameLemmas.{or_false}
 
 -- a builder that held what `old` holds has the listed types of the records passed so far as well
 pub record Lists (old : List ℕ) (cut : Bool) (G rest : List ZoneRecord) (value : List ℕ) : Type 0 where
@@ -12,7 +14,8 @@ pub record Lists (old : List ℕ) (cut : Bool) (G rest : List ZoneRecord) (value
   pub types : (t : ℕ) → t < 65536 → holds value t ≡ (holds old t || lists_type cut passed t)
 
 -- one more record's type
-listed_more : (b cut : Bool) (rs : List ZoneRecord) (r : ZoneRecord) (t : ℕ) → (b || lists_type cut (rs ++ r ∷ []) t) ≡ ((b || lists_type cut rs t) || (nat_eq r.rtype t && may_list cut t))
+listed_more : (b cut : Bool) (rs : List ZoneRecord) (r : ZoneRecord) (t : ℕ)
+    → (b || lists_type cut (rs ++ r ∷ []) t) ≡ ((b || lists_type cut rs t) || (nat_eq r.rtype t && may_list cut t))
 listed_more b cut rs r t =
     ap (λ h. b || (h && may_list cut t)) (list_any-append (λ s. nat_eq s.rtype t) rs (r ∷ []))
     ∙ spread b (has_type rs t) (nat_eq r.rtype t) (may_list cut t)
@@ -40,10 +43,6 @@ is_listed cut k t e =
       | inl h ↦ (λ i. h i && (ap (may_list cut) (sym (eqb-true k t h)) ∙ e) i) ∙ sym h
       | inr h ↦ and_left (nat_eq k t) (may_list cut t) h ∙ sym h
     ]
-
-or_false : (b : Bool) → (b || false) ≡ b
-or_false true = refl
-or_false false = refl
 
 or_turned : (b c : Bool) → (b || c) ≡ (c || b)
 or_turned true true = refl
@@ -73,19 +72,20 @@ module _ (old : List ℕ) (cut : Bool) (G : List ZoneRecord) where
     list_not e = record {
       passed = s.passed ++ r ∷ [];
       whole = append_assoc s.passed (r ∷ []) rest ∙ s.whole;
-      types = λ t b. s.types t b ∙ sym (listed_more (holds old t) cut s.passed r t ∙ (λ i. (holds old t || lists_type cut s.passed t) || not_listed cut r.rtype t e i) ∙ or_false (holds old t || lists_type cut s.passed t));
+      types = λ t b. s.types t b ∙ sym (listed_more (holds old t) cut s.passed r t
+          ∙ (λ i. (holds old t || lists_type cut s.passed t) || not_listed cut r.rtype t e i)
+          ∙ or_false (holds old t || lists_type cut s.passed t));
     }
 
-    pub list_more : (new : List ℕ) → may_list cut r.rtype ≡ true → ((t : ℕ) → t < 65536 → holds new t ≡ (nat_eq t r.rtype || holds value t)) → Lists old cut G rest new
+    pub list_more : (new : List ℕ) → may_list cut r.rtype ≡ true
+        → ((t : ℕ) → t < 65536 → holds new t ≡ (nat_eq t r.rtype || holds value t)) → Lists old cut G rest new
     list_more new e h = record {
       passed = s.passed ++ r ∷ [];
       whole = append_assoc s.passed (r ∷ []) rest ∙ s.whole;
-      types = λ t b. h t b ∙ or_turned (nat_eq t r.rtype) (holds value t) ∙ (λ i. s.types t b i || (eq_turned t r.rtype ∙ sym (is_listed cut r.rtype t e)) i) ∙ sym (listed_more (holds old t) cut s.passed r t);
+      types = λ t b. h t b ∙ or_turned (nat_eq t r.rtype) (holds value t)
+          ∙ (λ i. s.types t b i || (eq_turned t r.rtype ∙ sym (is_listed cut r.rtype t e)) i)
+          ∙ sym (listed_more (holds old t) cut s.passed r t);
     }
 
-  append_nil : (xs : List ZoneRecord) → xs ++ [] ≡ xs
-  append_nil [] = refl
-  append_nil (x ∷ xs) = ap (λ ys. x ∷ ys) (append_nil xs)
-
   pub list_end : (value : List ℕ) → Lists old cut G [] value → (t : ℕ) → t < 65536 → holds value t ≡ (holds old t || lists_type cut G t)
-  list_end value s t b = s.types t b ∙ ap (λ K. holds old t || lists_type cut K t) (sym (append_nil s.passed) ∙ s.whole)
+  list_end value s t b = s.types t b ∙ ap (λ K. holds old t || lists_type cut K t) (sym (append-nil s.passed) ∙ s.whole)

@@ -1,8 +1,10 @@
 -- What the walk knows before each group, and one step of it.
-use Rattle.std.proofs.Common.{◌≡◌, ℕ, Bool, true, false, cond, not, ◌&&◌, ◌||◌, List, [], ◌∷◌, ◌++◌, map, refl, sym, ap, ◌∙◌, subst, inl, inr, Option, Some, None, append_assoc}
+use Rattle.std.proofs.Common.{◌≡◌, ℕ, Bool, true, false, cond, not, ◌&&◌, ◌||◌, List, [], ◌∷◌, ◌++◌}
+use Rattle.std.proofs.Common.{map, refl, sym, ap, ◌∙◌, subst, inl, inr, Option, Some, None, append_assoc}
+use Rattle.std.proofs.lemmas.List.{append-nil}
 use Rattle.std.specs.Prelude.{filter}
 use Rattle.std.specs.List.{AllByRecursion, list_any}
-use Rattle.std.proofs.lemmas.Bool.{cases_Bool, false≢true, true≢false}
+use Rattle.std.proofs.lemmas.Bool.{cases_Bool, false≢true, true≢false, and_right}
 use Rattle.std.proofs.lemmas.List.Elements.{filter-append}
 use Rattle.std.proofs.lemmas.List.Folds.{list_any-append}
 use Rattle.domain_base.specs.Name.{is_at_or_below, is_strictly_below, lowered, same_name}
@@ -12,8 +14,10 @@ use Rattle.domain_base.specs.Types.{ns, dname}
 use Rattle.domain_zone.specs.Walk.{is_under}
 use Rattle.domain_zone.specs.Zone.{ZoneRecord, OwnersNeverDescend, records_of, has_type, occludes, is_occluded, is_unoccluded, distinct, unoccluded_owners}
 use Rattle.domain_zone.proofs.PairLemmas.{lt_le}
-use Rattle.domain_zone.proofs.NameLemmas.{before_left, before_order, one_lowered, below_itself, below_trans, below_from, below_between, lowered_below, same_lowered}
-use Rattle.domain_zone.proofs.ZoneLemmas.{weaker, all_both, all_front, any_none, BeginsElsewhere, IsGroup, AreAt, AllBefore, AllAfter, records_at, distinct_more, after_or, not_strictly, strictly_after}
+use Rattle.domain_zone.proofs.NameLemmas.{before_left, before_order, one_lowered, below_itself, below_trans}
+use Rattle.domain_zone.proofs.NameLemmas.{below_from, below_between, lowered_below, same_lowered, or_false}
+use Rattle.domain_zone.proofs.ZoneLemmas.{weaker, all_both, all_front, any_none, BeginsElsewhere, IsGroup, AreAt}
+use Rattle.domain_zone.proofs.ZoneLemmas.{AllBefore, AllAfter, records_at, distinct_more, after_or, not_strictly, strictly_after}
 
 abbrev pub IsSince : Option Name → Name → Type 0
 IsSince None y = Unit {0}
@@ -58,7 +62,8 @@ all_after n (r ∷ R) h o b =
     (first, weaker (λ s. before s.owner r.owner ≡ false) (λ s. before n s.owner ≡ true) (λ s e. lt_le before_order n r.owner s.owner first e) R o.0)
 
 -- what is known of a group that comes next
-pub record IsNext (d : Bool) (L : List ZoneRecord) (a : Name) (cut : Option Name) (passed : List ZoneRecord) (n : Name) (group R : List ZoneRecord) : Type 0 where
+pub record IsNext (d : Bool) (L : List ZoneRecord) (a : Name) (cut : Option Name) (passed : List ZoneRecord) (n : Name)
+    (group R : List ZoneRecord) : Type 0 where
   pub at : AreAt n group
   pub after : AllAfter R n
   pub earlier : AllBefore passed n
@@ -66,7 +71,9 @@ pub record IsNext (d : Bool) (L : List ZoneRecord) (a : Name) (cut : Option Name
   pub under : is_occluded d L a n ≡ is_under cut n
   pub since : IsSince cut n
 
-pub next_known : (d : Bool) (L : List ZoneRecord) (a : Name) (rest : List ZoneRecord) (cut : Option Name) (ks : List Name) (w : IsWalked d L a rest cut ks) (g : ZoneRecord) (gs R : List ZoneRecord) → rest ≡ (g ∷ gs) ++ R → IsGroup (g ∷ gs) R → IsNext d L a cut w.passed g.owner (g ∷ gs) R
+pub next_known : (d : Bool) (L : List ZoneRecord) (a : Name) (rest : List ZoneRecord) (cut : Option Name) (ks : List Name)
+    (w : IsWalked d L a rest cut ks) (g : ZoneRecord) (gs R : List ZoneRecord) → rest ≡ (g ∷ gs) ++ R → IsGroup (g ∷ gs) R
+    → IsNext d L a cut w.passed g.owner (g ∷ gs) R
 next_known d L a rest cut ks w g gs R e i =
     let n = g.owner in
     let at : AreAt n (g ∷ gs) = (refl, weaker (λ r. same_name r.owner n ≡ true) (λ r. lowered r.owner ≡ lowered n) (λ r h. one_lowered r.owner n h) gs i.0) in
@@ -76,7 +83,7 @@ next_known d L a rest cut ks w g gs R e i =
     let since = subst (AllByRecursion (λ r. IsSince cut r.owner)) e w.since in
     let test : ZoneRecord → Bool = λ r. occludes d L a r.owner && is_strictly_below n r.owner in
     let rest_false : (r : ZoneRecord) → before r.owner n ≡ false → test r ≡ false =
-    λ r h. ap (λ b. occludes d L a r.owner && b) (not_strictly n r.owner h) ∙ and_false (occludes d L a r.owner) in
+    λ r h. ap (λ b. occludes d L a r.owner && b) (not_strictly n r.owner h) ∙ and_right (occludes d L a r.owner) false refl in
     record {
       at = at;
       after = after;
@@ -94,19 +101,13 @@ next_known d L a rest cut ks w g gs R e i =
       since = since.0;
     }
   where
-    and_false : (b : Bool) → (b && false) ≡ false
-    and_false true = refl
-    and_false false = refl
-
-    or_false : (b : Bool) → (b || false) ≡ b
-    or_false true = refl
-    or_false false = refl
-
     lt_irreflexive : (m : Name) → before m m ≡ false
     lt_irreflexive m = below_from m m (below_itself m)
 
 -- past the group, where the new occluder is known
-pub walk_on : (d : Bool) (L : List ZoneRecord) (a : Name) (rest : List ZoneRecord) (cut : Option Name) (ks : List Name) (w : IsWalked d L a rest cut ks) (g : ZoneRecord) (gs R : List ZoneRecord) → rest ≡ (g ∷ gs) ++ R → IsNext d L a cut w.passed g.owner (g ∷ gs) R
+pub walk_on : (d : Bool) (L : List ZoneRecord) (a : Name) (rest : List ZoneRecord) (cut : Option Name) (ks : List Name)
+    (w : IsWalked d L a rest cut ks) (g : ZoneRecord) (gs R : List ZoneRecord) → rest ≡ (g ∷ gs) ++ R
+    → IsNext d L a cut w.passed g.owner (g ∷ gs) R
     → (cut' : Option Name) → ((y : Name) → before g.owner y ≡ true → IsSince cut y → IsSince cut' y)
     → ((y : Name) → before g.owner y ≡ true → (is_under cut y || (occludes d L a g.owner && is_strictly_below y g.owner)) ≡ is_under cut' y)
     → IsWalked d L a R cut' (ks ++ cond (is_unoccluded d L a g.owner) (g.owner ∷ []) [])
@@ -125,7 +126,8 @@ walk_on d L a rest cut ks w g gs R e x cut' since' below' =
       in_order = in_order_after group R (subst OwnersNeverDescend e w.in_order);
       unoccluded =
           ap (filter (is_unoccluded d L a)) (ap distinct (owners_append w.passed group)
-          ∙ distinct_more (owners w.passed) n (owners gs) (owners_all (λ m. before m n ≡ true) w.passed x.earlier) (owners_all (λ m. lowered m ≡ lowered n) gs x.at.1))
+          ∙ distinct_more (owners w.passed) n (owners gs) (owners_all (λ m. before m n ≡ true) w.passed x.earlier)
+          (owners_all (λ m. lowered m ≡ lowered n) gs x.at.1))
           ∙ filter-append (is_unoccluded d L a) (distinct (owners w.passed)) (n ∷ [])
           ∙ ap (λ t. t ++ cond (is_unoccluded d L a n) (n ∷ []) []) w.unoccluded;
       since = both (λ r. IsSince cut r.owner) (λ r. before n r.owner ≡ true) (λ r. IsSince cut' r.owner) (λ r p q. since' r.owner q p) R since x.after;
@@ -137,7 +139,8 @@ walk_on d L a rest cut ks w g gs R e x cut' since' below' =
           ∙ below' y parts.1.0;
     }
   where
-    both : (P Q S : ZoneRecord → Type 0) → ((r : ZoneRecord) → P r → Q r → S r) → (rs : List ZoneRecord) → AllByRecursion P rs → AllByRecursion Q rs → AllByRecursion S rs
+    both : (P Q S : ZoneRecord → Type 0) → ((r : ZoneRecord) → P r → Q r → S r) → (rs : List ZoneRecord) → AllByRecursion P rs
+        → AllByRecursion Q rs → AllByRecursion S rs
     both P Q S f [] p q = tt
     both P Q S f (r ∷ rs) p q = (f r p.0 q.0, both P Q S f rs p.1 q.1)
 
@@ -158,7 +161,8 @@ walk_on d L a rest cut ks w g gs R e x cut' since' below' =
         or_none false = refl
     any_at y (r ∷ rs) h =
         let types : Name → ℕ → Bool = λ k. has_type (filter (λ s. same_lowered (lowered s.owner) k) L) in
-        let over : Name → Bool = λ k. (lowered_below k (lowered a) && not (same_lowered k (lowered a)) && types k ns) || (d && lowered_below k (lowered a) && types k dname) in
+        let over : Name → Bool = λ k. (lowered_below k (lowered a) && not (same_lowered k (lowered a)) && types k ns)
+        || (d && lowered_below k (lowered a) && types k dname) in
         let at : Name → Bool = λ k. over k && (lowered_below (lowered y) k && not (same_lowered (lowered y) k)) in
         ap (λ b. at (lowered g.owner) || (b || list_any (λ s. at (lowered s.owner)) rs)) (ap at h.0)
         ∙ or_twice (at (lowered g.owner)) (list_any (λ s. at (lowered s.owner)) rs)
@@ -168,18 +172,17 @@ walk_on d L a rest cut ks w g gs R e x cut' since' below' =
         or_twice true c = refl
         or_twice false c = refl
 
-append_nil : {X : Type 0} (xs : List X) → xs ++ [] ≡ xs
-append_nil [] = refl
-append_nil (x ∷ xs) = ap (λ ys. x ∷ ys) (append_nil xs)
-
 -- the group is out of the zone
-pub walk_outside : (d : Bool) (L : List ZoneRecord) (a : Name) (rest : List ZoneRecord) (cut : Option Name) (ks : List Name) → IsWalked d L a rest cut ks → (g : ZoneRecord) (gs R : List ZoneRecord) → rest ≡ (g ∷ gs) ++ R → IsGroup (g ∷ gs) R → is_at_or_below g.owner a ≡ false → IsWalked d L a R cut ks
+pub walk_outside : (d : Bool) (L : List ZoneRecord) (a : Name) (rest : List ZoneRecord) (cut : Option Name) (ks : List Name)
+    → IsWalked d L a rest cut ks → (g : ZoneRecord) (gs R : List ZoneRecord) → rest ≡ (g ∷ gs) ++ R → IsGroup (g ∷ gs) R
+    → is_at_or_below g.owner a ≡ false → IsWalked d L a R cut ks
 walk_outside d L a rest cut ks w g gs R e i out =
     let n = g.owner in
-    subst (IsWalked d L a R cut) ((λ i. ks ++ cond (out i && not (is_occluded d L a n)) (n ∷ []) []) ∙ append_nil ks)
+    subst (IsWalked d L a R cut) ((λ i. ks ++ cond (out i && not (is_occluded d L a n)) (n ∷ []) []) ∙ append-nil ks)
     (walk_on d L a rest cut ks w g gs R e (next_known d L a rest cut ks w g gs R e i) cut (λ y h s. s)
     (λ y h.
-    (λ i. is_under cut y || ((out i && not (same_name n a) && has_type (records_of L n) ns || (d && out i && has_type (records_of L n) dname)) && is_strictly_below y n))
+    (λ i. is_under cut y || ((out i && not (same_name n a) && has_type (records_of L n) ns
+    || (d && out i && has_type (records_of L n) dname)) && is_strictly_below y n))
     ∙ (λ i. is_under cut y || (not_there d (has_type (records_of L n) dname) i && is_strictly_below y n))
     ∙ or_false (is_under cut y)))
   where
@@ -187,17 +190,17 @@ walk_outside d L a rest cut ks w g gs R e i out =
     not_there true c = refl
     not_there false c = refl
 
-    or_false : (b : Bool) → (b || false) ≡ b
-    or_false true = refl
-    or_false false = refl
-
 -- the group is below the last occluder
-pub walk_under : (d : Bool) (L : List ZoneRecord) (a : Name) (rest : List ZoneRecord) (cut : Option Name) (ks : List Name) → IsWalked d L a rest cut ks → (g : ZoneRecord) (gs R : List ZoneRecord) → rest ≡ (g ∷ gs) ++ R → IsGroup (g ∷ gs) R → is_at_or_below g.owner a ≡ true → is_under cut g.owner ≡ true → IsWalked d L a R cut ks
+pub walk_under : (d : Bool) (L : List ZoneRecord) (a : Name) (rest : List ZoneRecord) (cut : Option Name) (ks : List Name)
+    → IsWalked d L a rest cut ks → (g : ZoneRecord) (gs R : List ZoneRecord) → rest ≡ (g ∷ gs) ++ R → IsGroup (g ∷ gs) R
+    → is_at_or_below g.owner a ≡ true → is_under cut g.owner ≡ true → IsWalked d L a R cut ks
 walk_under d L a rest cut ks w g gs R e i zone under =
     let n = g.owner in
     let x = next_known d L a rest cut ks w g gs R e i in
-    subst (IsWalked d L a R cut) ((λ i. ks ++ cond (zone i && not ((x.under ∙ under) i)) (n ∷ []) []) ∙ append_nil ks)
-    (walk_on d L a rest cut ks w g gs R e x cut (λ y h s. s) (λ y h. absorbed (is_under cut y) (occludes d L a n) (is_at_or_below y n) (not (same_name y n)) (λ b. lower cut n y under b)))
+    subst (IsWalked d L a R cut) ((λ i. ks ++ cond (zone i && not ((x.under ∙ under) i)) (n ∷ []) []) ∙ append-nil ks)
+    (walk_on d L a rest cut ks w g gs R e x cut (λ y h s. s)
+    (λ y h. absorbed (is_under cut y) (occludes d L a n) (is_at_or_below y n) (not (same_name y n))
+    (λ b. lower cut n y under b)))
   where
     lower : (c : Option Name) (n y : Name) → is_under c n ≡ true → is_at_or_below y n ≡ true → is_under c y ≡ true
     lower None n y u b = absurd (false≢true u)
@@ -210,7 +213,10 @@ walk_under d L a rest cut ks w g gs R e i zone under =
     absorbed false false b d f = refl
 
 -- the group's name is not occluded
-pub walk_onto : (d : Bool) (L : List ZoneRecord) (a : Name) (rest : List ZoneRecord) (cut : Option Name) (ks : List Name) → IsWalked d L a rest cut ks → (g : ZoneRecord) (gs R : List ZoneRecord) → rest ≡ (g ∷ gs) ++ R → IsGroup (g ∷ gs) R → is_at_or_below g.owner a ≡ true → is_under cut g.owner ≡ false → IsWalked d L a R (cond (occludes d L a g.owner) (Some g.owner) None) (ks ++ g.owner ∷ [])
+pub walk_onto : (d : Bool) (L : List ZoneRecord) (a : Name) (rest : List ZoneRecord) (cut : Option Name) (ks : List Name)
+    → IsWalked d L a rest cut ks → (g : ZoneRecord) (gs R : List ZoneRecord) → rest ≡ (g ∷ gs) ++ R → IsGroup (g ∷ gs) R
+    → is_at_or_below g.owner a ≡ true → is_under cut g.owner ≡ false
+    → IsWalked d L a R (cond (occludes d L a g.owner) (Some g.owner) None) (ks ++ g.owner ∷ [])
 walk_onto d L a rest cut ks w g gs R e i zone under =
     let n = g.owner in
     let x = next_known d L a rest cut ks w g gs R e i in
@@ -232,12 +238,16 @@ walk_onto d L a rest cut ks w g gs R e i zone under =
 
 -- at the end the names found so far are all
 pub walk_end : (d : Bool) (L : List ZoneRecord) (a : Name) (cut : Option Name) (ks : List Name) → IsWalked d L a [] cut ks → unoccluded_owners d L a ≡ ks
-walk_end d L a cut ks w = ap (λ K. filter (is_unoccluded d L a) (distinct (owners K))) (sym w.whole ∙ append_nil w.passed) ∙ w.unoccluded
+walk_end d L a cut ks w = ap (λ K. filter (is_unoccluded d L a) (distinct (owners K))) (sym w.whole ∙ append-nil w.passed) ∙ w.unoccluded
 
 -- what the walk's tests say of a name that comes next
-pub next_unoccluded : (d : Bool) (L : List ZoneRecord) (a : Name) (rest : List ZoneRecord) (cut : Option Name) (ks : List Name) → IsWalked d L a rest cut ks → (g : ZoneRecord) (gs R : List ZoneRecord) → rest ≡ (g ∷ gs) ++ R → IsGroup (g ∷ gs) R → is_at_or_below g.owner a ≡ true → is_under cut g.owner ≡ false → is_unoccluded d L a g.owner ≡ true
+pub next_unoccluded : (d : Bool) (L : List ZoneRecord) (a : Name) (rest : List ZoneRecord) (cut : Option Name) (ks : List Name)
+    → IsWalked d L a rest cut ks → (g : ZoneRecord) (gs R : List ZoneRecord) → rest ≡ (g ∷ gs) ++ R → IsGroup (g ∷ gs) R
+    → is_at_or_below g.owner a ≡ true → is_under cut g.owner ≡ false → is_unoccluded d L a g.owner ≡ true
 next_unoccluded d L a rest cut ks w g gs R e i zone under =
     λ j. zone j && not (((next_known d L a rest cut ks w g gs R e i).under ∙ under) j)
 
-pub next_records : (d : Bool) (L : List ZoneRecord) (a : Name) (rest : List ZoneRecord) (cut : Option Name) (ks : List Name) → IsWalked d L a rest cut ks → (g : ZoneRecord) (gs R : List ZoneRecord) → rest ≡ (g ∷ gs) ++ R → IsGroup (g ∷ gs) R → records_of L g.owner ≡ g ∷ gs
+pub next_records : (d : Bool) (L : List ZoneRecord) (a : Name) (rest : List ZoneRecord) (cut : Option Name) (ks : List Name)
+    → IsWalked d L a rest cut ks → (g : ZoneRecord) (gs R : List ZoneRecord) → rest ≡ (g ∷ gs) ++ R → IsGroup (g ∷ gs) R
+    → records_of L g.owner ≡ g ∷ gs
 next_records d L a rest cut ks w g gs R e i = (next_known d L a rest cut ks w g gs R e i).records

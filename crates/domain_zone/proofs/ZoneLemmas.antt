@@ -1,5 +1,6 @@
 -- One step of the walk: the records of one name come after those passed, and before the rest.
 use Rattle.std.proofs.Common.{◌≡◌, Bool, true, false, cond, not, ◌&&◌, ◌||◌, List, [], ◌∷◌, ◌++◌, map, refl, sym, ap, ◌∙◌, inl, inr}
+use Rattle.std.proofs.lemmas.List.{append-nil}
 use Rattle.std.specs.Prelude.{filter}
 use Rattle.std.specs.List.{AllByRecursion, list_any}
 use Rattle.std.proofs.lemmas.Bool.{cases_Bool, true≢false}
@@ -111,20 +112,18 @@ AllBefore rs y = AllByRecursion (λ r. before r.owner y ≡ true) rs
 abbrev pub AllAfter : List ZoneRecord → Name → Type 0
 AllAfter rs y = AllByRecursion (λ r. before y r.owner ≡ true) rs
 
-pub records_at : (n : Name) (passed group rest : List ZoneRecord) → AllBefore passed n → AreAt n group → AllAfter rest n → records_of (passed ++ (group ++ rest)) n ≡ group
+pub records_at : (n : Name) (passed group rest : List ZoneRecord) → AllBefore passed n → AreAt n group → AllAfter rest n
+    → records_of (passed ++ (group ++ rest)) n ≡ group
 records_at n passed group rest p g r =
     filter-append at' passed (group ++ rest)
-    ∙ (λ i. filter_none at' passed (weaker (λ r. before r.owner n ≡ true) (λ r. at' r ≡ false) (λ r h. apart_left r.owner n h) passed p) i ++ filter-append at' group rest i)
+    ∙ (λ i. filter_none at' passed (weaker (λ r. before r.owner n ≡ true) (λ r. at' r ≡ false)
+    (λ r h. apart_left r.owner n h) passed p) i ++ filter-append at' group rest i)
     ∙ (λ i. filter_whole at' group (weaker (λ r. lowered r.owner ≡ lowered n) (λ r. at' r ≡ true) (λ r h. same_itself r.owner n h) group g) i
     ++ filter_none at' rest (weaker (λ r. before n r.owner ≡ true) (λ r. at' r ≡ false) (λ r h. apart_right n r.owner h) rest r) i)
-    ∙ append_nil group
+    ∙ append-nil group
   where
     at' : ZoneRecord → Bool
     at' r = same_name r.owner n
-
-    append_nil : (xs : List ZoneRecord) → xs ++ [] ≡ xs
-    append_nil [] = refl
-    append_nil (x ∷ xs) = ap (λ ys. x ∷ ys) (append_nil xs)
 
 -- ---- distinct names
 
@@ -135,10 +134,12 @@ all_distinct P (x ∷ xs) h = (h.0, all_filter P (λ y. not (same_name x y)) (di
 distinct_one : (n : Name) (ys : List Name) → AllByRecursion (λ y. lowered y ≡ lowered n) ys → distinct (n ∷ ys) ≡ n ∷ []
 distinct_one n ys h =
     ap (λ zs. n ∷ zs) (filter_none (λ y. not (same_name n y)) (distinct ys)
-    (all_distinct (λ y. not (same_name n y) ≡ false) ys (weaker (λ y. lowered y ≡ lowered n) (λ y. not (same_name n y) ≡ false) (λ y e. ap not (same_itself n y (sym e))) ys h)))
+    (all_distinct (λ y. not (same_name n y) ≡ false) ys (weaker (λ y. lowered y ≡ lowered n) (λ y. not (same_name n y) ≡ false)
+    (λ y e. ap not (same_itself n y (sym e))) ys h)))
 
 -- names that are one, after others
-pub distinct_more : (xs : List Name) (n : Name) (ys : List Name) → AllByRecursion (λ x. before x n ≡ true) xs → AllByRecursion (λ y. lowered y ≡ lowered n) ys → distinct (xs ++ n ∷ ys) ≡ distinct xs ++ n ∷ []
+pub distinct_more : (xs : List Name) (n : Name) (ys : List Name) → AllByRecursion (λ x. before x n ≡ true) xs
+    → AllByRecursion (λ y. lowered y ≡ lowered n) ys → distinct (xs ++ n ∷ ys) ≡ distinct xs ++ n ∷ []
 distinct_more [] n ys h k = distinct_one n ys k
 distinct_more (x ∷ xs) n ys h k =
     ap (λ zs. x ∷ filter other zs) (distinct_more xs n ys h.1 k)

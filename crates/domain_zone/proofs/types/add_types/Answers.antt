@@ -12,7 +12,8 @@ records-preserved-in-Continue-1 g c =
     (subst (λ xs. Lists c.args.types.now c.args.at_cut (map see c.args.records) (map see xs) c.records.types) c.in-Some.ensures.steps c.records.invariant)
     c.add_type.new.types
     (subst (λ n. may_list c.args.at_cut n ≡ true) c.rtype.ensures (sym c.may_list.ensures ∙ c.if-may_list.true))
-    (subst (λ n. (t : ℕ) → t < 65536 → holds c.add_type.new.types t ≡ (nat_eq t n || holds c.records.types t)) c.rtype-then-may_list.ensures c.in_ok-add_type.ensures)
+    (subst (λ n. (t : ℕ) → t < 65536 → holds c.add_type.new.types t
+    ≡ (nat_eq t n || holds c.records.types t)) c.rtype-then-may_list.ensures c.in_ok-add_type.ensures)
 
 pub records-preserved : goal.records-preserved
 records-preserved g c =
