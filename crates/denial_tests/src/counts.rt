@@ -17,6 +17,8 @@ struct CountingHasher {
 impl Nsec3Hasher for CountingHasher {
     ghost answer = { λ hasher. sha1_answer };
 
+    ghost takes_memory = { λ hasher. Unit {0} };
+
     fn hash(
         &self,
         alloc: Global,

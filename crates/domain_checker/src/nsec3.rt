@@ -78,6 +78,7 @@ pub fn check_nsec3<A: ToName, O: Octets, N: ToName, M: ToName, H: Nsec3Hasher>(
         (M.labels name.now) n }
     ensures errors { IfErr result (λ e. (e ≡ hash_error.OutOfMemory)
         ⊎ ((n : ℕ) × (e ≡ hash_error.Hasher n))) }
+    ensures memory { IsErrOf result hash_error.OutOfMemory → H.takes_memory hasher.now }
 {
     if !name.ends_with(apex) {
         return Ok(Verdict::OutsideZone);

@@ -1,5 +1,5 @@
 //! The way from a name towards the apex, up to the first name that an NSEC3 record matches.
-ghost use Rattle.std.specs.Prelude.{◌≡◌, ◌≤◌, ◌⊎◌, ℕ, Err, true, length, drop, IfOk, IfErr};
+ghost use Rattle.std.specs.Prelude.{◌≡◌, ◌≤◌, ◌⊎◌, ℕ, Err, true, length, drop, IfOk, IfErr, IsErrOf};
 ghost use Rattle.std.specs.Option.{option_map};
 ghost use Rattle.domain_base.specs.Name.{is_at_or_below, lowered, wire_of};
 ghost use Rattle.domain_nsec3.specs.View.{as_hashed_link};
@@ -103,6 +103,7 @@ fn look_up<'a, A: ToName, O: Octets, N: ToName, H: Nsec3Hasher>(
     ensures err { IfErr result (λ e. (e ≡ hash_error.OutOfMemory) ⊎ ((n : ℕ)
         × (e ≡ hash_error.Hasher n)
         × (hash_with (H.answer hasher.now) records.now wire.now ≡ Err n))) }
+    ensures memory { IsErrOf result hash_error.OutOfMemory → H.takes_memory hasher.now }
 {
     let param = records.nsec3param.data();
     let (algorithm, iterations) = (param.hash_algorithm(), param.iterations());
@@ -140,6 +141,7 @@ pub(crate) fn walk<A: ToName, O: Octets, N: ToName, H: Nsec3Hasher>(
         × (e ≡ hash_error.Hasher n)
         × IsFirstRefusal (links N.labels records.now) (A.labels apex.now)
         (parameters records.now) (hash_with (H.answer hasher.now) records.now) name.now n)) }
+    ensures memory { IsErrOf result hash_error.OutOfMemory → H.takes_memory hasher.now }
 {
     let mut cover = match look_up(alloc, apex, records, wire, hasher)? {
         Found::Match(listed) => return Ok(match_verdict(apex, name, listed, rtype)),

@@ -49,6 +49,8 @@ fn hash_name(name: &[u8], iterations: u16, salt: &[u8]) -> [u8; 20]
 impl Nsec3Hasher for Sha1Hasher {
     ghost answer = { λ hasher. sha1_answer };
 
+    ghost takes_memory = { λ hasher. Unit {0} };
+
     fn hash(
         &self,
         alloc: Global,

@@ -40,8 +40,12 @@ pub trait Nsec3Hasher {
     /// and a salt: the octets of a hash, or the number of its refusal.
     ghost answer: { Self → List ℕ → ℕ → ℕ → List ℕ → Result (List ℕ) ℕ };
 
+    /// Whether it may want memory.
+    ghost takes_memory: { Self → Type 0 };
+
     /// The hash of a name, which is given by the octets of its wire form in lower case. But for
-    /// want of memory the answer depends on the hasher and these arguments alone.
+    /// want of memory the answer depends on the hasher and these arguments alone; `OutOfMemory`
+    /// comes from a hasher that takes memory.
     fn hash(
         &self,
         alloc: Global,
@@ -53,7 +57,8 @@ pub trait Nsec3Hasher {
         ensures ok { IfOk result (λ hash.
             answer self.now name.now algorithm iterations salt.now ≡ Ok hash.items) }
         ensures refused { (n : ℕ) → IsErrOf result (HasherError.Refused n)
-            → answer self.now name.now algorithm iterations salt.now ≡ Err n };
+            → answer self.now name.now algorithm iterations salt.now ≡ Err n }
+        ensures memory { IsErrOf result HasherError.OutOfMemory → takes_memory self.now };
 }
 
 /// The greatest length of a name.
@@ -89,6 +94,7 @@ pub fn hash_wire<H: Nsec3Hasher>(
     ensures err { IfErr result (λ e. (e ≡ hash_error.OutOfMemory) ⊎ ((n : ℕ)
         × (e ≡ hash_error.Hasher n)
         × (H.answer hasher.now wire.now algorithm iterations salt.now ≡ Err n))) }
+    ensures memory { IsErrOf result hash_error.OutOfMemory → H.takes_memory hasher.now }
 {
     match hasher.hash(alloc, wire, algorithm, iterations, salt) {
         Ok(hash) => Ok(hash),

@@ -27,6 +27,8 @@ impl Nsec3Hasher for LimitedHasher {
         then sha1_answer name algorithm iterations salt
         else Err 1 };
 
+    ghost takes_memory = { λ hasher. Unit {0} };
+
     fn hash(
         &self,
         alloc: Global,

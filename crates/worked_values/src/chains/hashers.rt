@@ -57,6 +57,8 @@ impl Nsec3Hasher for TableHasher {
     ghost answer = { λ hasher name algorithm iterations salt.
         table_answer hasher.rows.items name };
 
+    ghost takes_memory = { λ hasher. Unit {0} };
+
     fn hash(
         &self,
         alloc: Global,
