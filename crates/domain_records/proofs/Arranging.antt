@@ -1,108 +1,88 @@
 -- Items that are put into the order of their places, one seat after another.
-use Rattle.std.proofs.Common.{◌≡◌, ℕ, ◌+◌, ◌<◌, ◌≤◌, ◌≢◌, List, length, get_or, set, refl, sym, ◌∙◌, ap, subst, inl, inr, arith}
+use Rattle.std.proofs.Common.{below_more, ◌≡◌, ◌∙◌, ℕ, ◌+◌, ◌<◌, List, length, get_or, refl, sym, ap, inl, inr, arith}
 use Rattle.std.specs.List.{swap}
+use Rattle.std.specs.List.Sorted.{IsPermutation}
 use Rattle.std.proofs.lemmas.Bool.{cases_eq}
-use Rattle.std.proofs.lemmas.List.{get_or-set_same, get_or-set_other, length-set}
-use Rattle.std.proofs.lemmas.Grind.{get_or-set_at}
 use Rattle.std.proofs.lemmas.List.Edits.{length-swap, swapped_from_swap}
+use Rattle.std.proofs.lemmas.List.Elements.{All-get_or, All-from_get_or}
+use Rattle.std.proofs.lemmas.List.Sorted.{IsPermutation-swap, IsPermutation-trans, All-permutation}
+use Rattle.domain_records.specs.Places.{AreSeats}
 
--- the seats before i are taken by their items; the items of the others stand at their places,
--- which are in s, and t has the seat of what stands at each place
+-- the seats before i are taken by their items; what goes to seat p now stands at s p, and t has the
+-- seats of these places
 pub record IsArranging {X : Type 0} (xs : List X) (from : List ℕ) (ys : List X) (s t : List ℕ) (i : ℕ) : Type 0 where
-  pub items : length ys ≡ length xs
+  pub many : length ys ≡ length xs
   pub places : length s ≡ length xs
-  pub seats : length t ≡ length xs
-  pub place : (p : ℕ) → i ≤ p → p < length xs → (i ≤ get_or s p 0) × (get_or s p 0 < length xs) × (get_or t (get_or s p 0) 0 ≡ p)
-  pub seat : (p : ℕ) → i ≤ p → p < length xs → (i ≤ get_or t p 0) × (get_or t p 0 < length xs) × (get_or s (get_or t p 0) 0 ≡ p)
-  pub done : (p : ℕ) (d : X) → p < i → get_or ys p d ≡ get_or xs (get_or from p 0) d
-  pub left : (p : ℕ) (d : X) → i ≤ p → p < length xs → get_or ys (get_or s p 0) d ≡ get_or xs (get_or from p 0) d
+  pub seats : AreSeats s t
+  pub done : (k : ℕ) → k < i → get_or s k 0 ≡ k
+  pub same : (k : ℕ) (d : X) → k < length xs → get_or ys (get_or s k 0) d ≡ get_or xs (get_or from k 0) d
+  pub moved : IsPermutation xs ys
 
--- where s and t are the inverse of each other from i on, they are from i + 1 on after i is taken out of both
-module _ (n i : ℕ) (s t : List ℕ) (lt : i < n) (sn : length s ≡ n) (tn : length t ≡ n)
-    (place : (p : ℕ) → i ≤ p → p < n → (i ≤ get_or s p 0) × (get_or s p 0 < n) × (get_or t (get_or s p 0) 0 ≡ p))
-    (seat : (p : ℕ) → i ≤ p → p < n → (i ≤ get_or t p 0) × (get_or t p 0 < n) × (get_or s (get_or t p 0) 0 ≡ p)) where
-  abbrev j : ℕ
-  j = get_or s i 0
+flip : (s t : List ℕ) → AreSeats s t → AreSeats t s
+flip s t h = let n = h.many in record { many = sym n; place = λ k lt. let a = h.seat k (omega arith) in (omega (arith, a.0), a.1); seat = λ k lt. let a = h.place k (omega arith) in (omega (arith, a.0), a.1) }
 
-  abbrev u : ℕ
-  u = get_or t i 0
+module _ (s t : List ℕ) (i : ℕ) (h : AreSeats s t) (lt : i < length s) where
+  abbrev p : ℕ
+  p = get_or s i 0
 
-  in_s : u < length s
-  in_s = let h = seat i (omega arith) lt in omega arith
+  abbrev o : ℕ
+  o = get_or t i 0
 
-  at_u : (p : ℕ) → p ≡ u → get_or (set s u j) p 0 ≡ j
-  at_u p e = get_or-set_at s u p j 0 e in_s
-
-  not_at_u : (p : ℕ) → p ≢ u → get_or (set s u j) p 0 ≡ get_or s p 0
-  not_at_u p e = get_or-set_other s u p j 0 e
-
-  -- where the seat of i is i, so is its place
-  place_moves : (p : ℕ) → i + 1 ≤ p → p ≡ u → i + 1 ≤ j
-  place_moves p le e =
-      let h = place i (omega arith) lt in
-      elim (cases_eq j i) [ inl k ↦ absurd (let back : get_or t j 0 ≡ i = h.2 in let same : get_or t j 0 ≡ u = ap (λ q. get_or t q 0) k in omega arith) | inr k ↦ omega (arith, h.0, k) ]
-
-  pub place_next : (p : ℕ) → i + 1 ≤ p → p < n → (i + 1 ≤ get_or (set s u j) p 0) × (get_or (set s u j) p 0 < n) × (get_or (set t j u) (get_or (set s u j) p 0) 0 ≡ p)
-  place_next p le below =
-      let hi = place i (omega arith) lt in
-      let hp = place p (omega arith) below in
-      let in_t : j < length t = omega (arith, hi.1) in
-      elim (cases_eq p u) [
-        | inl e ↦ (
-          subst (λ q. i + 1 ≤ q) (sym (at_u p e)) (place_moves p le e),
-          subst (λ q. q < n) (sym (at_u p e)) hi.1,
-          ap (λ q. get_or (set t j u) q 0) (at_u p e) ∙ get_or-set_same t j u 0 in_t ∙ sym e,
-        )
+  -- an exchange of what stands at i and p, and of the places of their seats i and o
+  turned : {Y : Type 0} (ys : List Y) (k : ℕ) (d : Y) → length ys ≡ length s → k < length s → get_or (swap ys i p) (get_or (swap s i o) k 0) d ≡ get_or ys (get_or s k 0) d
+  turned ys k d n below =
+      let w = swap ys i p in
+      let v = swap s i o in
+      let back = h.seat i lt in
+      let there = h.place i lt in
+      let a = swapped_from_swap s v i o 0 lt back.0 refl in
+      let b = swapped_from_swap ys w i p d (omega arith) (omega (arith, there.0)) refl in
+      elim (cases_eq k i) [
+        | inl e ↦ ap (λ q. get_or w (get_or v q 0) d) e ∙ ap (λ q. get_or w q d) (a.0 ∙ back.1) ∙ b.0 ∙ ap (λ q. get_or ys (get_or s q 0) d) (sym e)
         | inr e ↦
-            let here = not_at_u p e in
-            let other : get_or s p 0 ≢ i = λ k. e (sym hp.2 ∙ ap (λ q. get_or t q 0) k) in
-            let apart : get_or s p 0 ≢ j = λ k. absurd (let same : get_or t (get_or s p 0) 0 ≡ get_or t j 0 = ap (λ q. get_or t q 0) k in let a = hp.2 in let b = hi.2 in omega arith) in (
-              subst (λ q. i + 1 ≤ q) (sym here) (omega (arith, hp.0, other)),
-              subst (λ q. q < n) (sym here) hp.1,
-              ap (λ q. get_or (set t j u) q 0) here ∙ get_or-set_other t j (get_or s p 0) u 0 apart ∙ hp.2,
-            )
+            elim (cases_eq k o) [
+              | inl f ↦ ap (λ q. get_or w (get_or v q 0) d) f ∙ ap (λ q. get_or w q d) a.1 ∙ b.1 ∙ ap (λ q. get_or ys q d) (sym back.1 ∙ ap (λ q. get_or s q 0) (sym f))
+              | inr f ↦
+                  let seat = sym (h.place k below).1 in
+                  ap (λ q. get_or w q d) (a.2 k e f)
+                  ∙ b.2 (get_or s k 0) (λ g. f (seat ∙ ap (λ q. get_or t q 0) g)) (λ g. e (seat ∙ ap (λ q. get_or t q 0) g ∙ there.1))
+            ]
       ]
 
-  -- the place of another seat is neither i nor the place of i
-  pub elsewhere : (p : ℕ) → i + 1 ≤ p → p < n → p ≢ u → (get_or s p 0 ≢ i) × (get_or s p 0 ≢ j)
-  elsewhere p le below e =
-      let hi = place i (omega arith) lt in
-      let hp = place p (omega arith) below in (
-        λ k. e (sym hp.2 ∙ ap (λ q. get_or t q 0) k),
-        λ k. let same : get_or t (get_or s p 0) 0 ≡ get_or t j 0 = ap (λ q. get_or t q 0) k in let a = hp.2 in let b = hi.2 in omega arith,
-      )
+  half : (k : ℕ) → k < length (swap s i o) → (get_or (swap s i o) k 0 < length (swap s i o)) × (get_or (swap t i p) (get_or (swap s i o) k 0) 0 ≡ k)
+  half k below =
+      let v = swap s i o in
+      let n = length-swap s i o in
+      let all = All-permutation (λ q. q < length s) s v (IsPermutation-swap s v i o lt (h.seat i lt).0 refl) (All-from_get_or (λ q. q < length s) s 0 (λ j less. (h.place j less).0)) in
+      let here : get_or v k 0 < length s = All-get_or (λ q. q < length s) v k 0 below all in
+      (omega arith, turned t k 0 h.many (omega arith) ∙ (h.place k (omega arith)).1)
+
+seats_next : (s t : List ℕ) (i : ℕ) → AreSeats s t → i < length s → AreSeats (swap s i (get_or t i 0)) (swap t i (get_or s i 0))
+seats_next s t i h lt =
+    let n = length-swap s i (get_or t i 0) in
+    let m = length-swap t i (get_or s i 0) in
+    let many = h.many in record {
+      many = m ∙ many ∙ sym n;
+      place = half s t i h lt;
+      seat = λ k less. let a = half t s i (flip s t h) (omega arith) k (omega arith) in (omega (arith, a.0), a.1);
+    }
 
 module _ {X : Type 0} (xs : List X) (from : List ℕ) (ys : List X) (s t : List ℕ) (i : ℕ) (lt : i < length xs) (h : IsArranging xs from ys s t i) where
-  abbrev put : List X
-  put = swap ys i (get_or s i 0)
-
-  exchanged : (d : X) → (get_or put i d ≡ get_or ys (get_or s i 0) d) × (get_or put (get_or s i 0) d ≡ get_or ys i d) × ((m : ℕ) → (m ≡ i → ⊥) → (m ≡ get_or s i 0 → ⊥) → get_or put m d ≡ get_or ys m d)
-  exchanged d = let e = h.items in let a = h.place i (omega arith) lt in swapped_from_swap ys put i (get_or s i 0) d (omega arith) (omega (arith, a.1)) refl
-
-  done_next : (p : ℕ) (d : X) → p < i + 1 → get_or put p d ≡ get_or xs (get_or from p 0) d
-  done_next p d below = elim (cases_eq p i) [
-    | inl e ↦ ap (λ q. get_or put q d) e ∙ (exchanged d).0 ∙ h.left i d (omega arith) lt ∙ sym (ap (λ q. get_or xs (get_or from q 0) d) e)
-    | inr e ↦ let a = h.place i (omega arith) lt in (exchanged d).2 p e (λ k. absurd (omega (arith, a.0))) ∙ h.done p d (omega arith)
-  ]
-
-  left_next : (p : ℕ) (d : X) → i + 1 ≤ p → p < length xs → get_or put (get_or (set s (get_or t i 0) (get_or s i 0)) p 0) d ≡ get_or xs (get_or from p 0) d
-  left_next p d le below = elim (cases_eq p (get_or t i 0)) [
-    | inl e ↦ (
-        let b = h.seat i (omega arith) lt in
-        ap (λ q. get_or put q d) (get_or-set_at s (get_or t i 0) p (get_or s i 0) 0 e (let l = h.places in omega (arith, b.1))) ∙ (exchanged d).1
-        ∙ ap (λ q. get_or ys q d) (sym b.2 ∙ ap (λ q. get_or s q 0) (sym e)) ∙ h.left p d (omega arith) below)
-    | inr e ↦ (
-        let apart = elsewhere (length xs) i s t lt h.places h.seats h.place h.seat p le below e in
-        ap (λ q. get_or put q d) (get_or-set_other s (get_or t i 0) p (get_or s i 0) 0 e) ∙ (exchanged d).2 (get_or s p 0) apart.0 apart.1 ∙ h.left p d (omega arith) below)
-  ]
-
-  pub arranging_more : IsArranging xs from put (set s (get_or t i 0) (get_or s i 0)) (set t (get_or s i 0) (get_or t i 0)) (i + 1)
-  arranging_more = record {
-    items = length-swap ys i (get_or s i 0) ∙ h.items;
-    places = length-set s (get_or t i 0) (get_or s i 0) ∙ h.places;
-    seats = length-set t (get_or s i 0) (get_or t i 0) ∙ h.seats;
-    place = place_next (length xs) i s t lt h.places h.seats h.place h.seat;
-    seat = place_next (length xs) i t s lt h.seats h.places h.seat h.place;
-    done = done_next;
-    left = left_next;
-  }
+  pub arranging_more : IsArranging xs from (swap ys i (get_or s i 0)) (swap s i (get_or t i 0)) (swap t i (get_or s i 0)) (i + 1)
+  arranging_more =
+      let places = h.places in
+      let many = h.many in
+      let in_s : i < length s = omega arith in
+      let there = h.seats.place i in_s in
+      let back = h.seats.seat i in_s in
+      let v = swap s i (get_or t i 0) in
+      let a = swapped_from_swap s v i (get_or t i 0) 0 in_s back.0 refl in record {
+        many = length-swap ys i (get_or s i 0) ∙ h.many;
+        places = length-swap s i (get_or t i 0) ∙ h.places;
+        seats = seats_next s t i h.seats in_s;
+        done = below_more (λ k. get_or v k 0 ≡ k) i
+            (λ k less. a.2 k (λ e. absurd (omega arith)) (λ e. absurd (let is : get_or s k 0 ≡ i = ap (λ q. get_or s q 0) e ∙ back.1 in let stays = h.done k less in omega arith)) ∙ h.done k less)
+            (a.0 ∙ back.1);
+        same = λ k d less. turned s t i h.seats in_s ys k d (omega arith) (omega arith) ∙ h.same k d less;
+        moved = IsPermutation-trans xs ys (swap ys i (get_or s i 0)) h.moved (IsPermutation-swap ys (swap ys i (get_or s i 0)) i (get_or s i 0) (omega arith) (omega (arith, there.0)) refl);
+      }

@@ -1,17 +1,13 @@
 pub mod Arranging
 pub mod Clones
-pub mod Dedups
 pub mod Firsts
 pub mod FoundGroups
 pub mod Lookups
 pub mod Matches
 pub mod OrderLemmas
 pub mod Removals
-pub mod KeyLemmas
-pub mod OwnerRunLemmas
 pub mod Placing
 pub mod RrsetLemmas
-pub mod RunKeyLemmas
 pub mod Runs
 pub mod SortedLists
 pub mod Sorting

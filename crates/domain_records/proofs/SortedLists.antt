@@ -1,9 +1,9 @@
 -- Sorted sets as lists: where an element stands or goes, and what a sort and a dedup leave.
-use Rattle.std.proofs.Common.{◌≡◌, ℕ, ◌+◌, ◌<◌, ◌≤◌, suc, Bool, true, false, cond, List, [], ◌∷◌, ◌++◌, length, get_or, take, drop, Option, Some, None, Result, Ok, Err, IfOk, IfErr, refl, sym, ◌∙◌, ap, subst, arith, is_lt}
+use Rattle.std.proofs.Common.{◌≡◌, ℕ, ◌+◌, ◌<◌, ◌≤◌, suc, Bool, true, false, cond, not, ◌&&◌, List, [], ◌∷◌, ◌++◌, length, get_or, take, drop, Option, Some, None, Result, Ok, Err, IfOk, IfErr, refl, sym, ◌∙◌, ap, subst, arith, is_lt}
 use Rattle.std.specs.List.{AllByRecursion, Contains, dedup, dedup_from, filter, find, insert, remove, slice_get}
-use Rattle.std.specs.List.Sorted.{IsStrictlySortedBy, IsSorted, IsPermutation, IsSearchInRange, IsBinarySearchResult, IsNonDecreasingBy}
+use Rattle.std.specs.List.Sorted.{IsStrictlySortedBy, IsSorted, IsStable, IsPermutation, ties, IsSearchInRange, IsBinarySearchResult, IsNonDecreasingBy}
 use Rattle.std.specs.Cmp.{IsTotalOrder, IsEquivalence, eq_by_cmp_equiv, tied_back, Equal-is}
-use Rattle.std.specs.Ordering.{eq_by_cmp, ordering_index, ordering_reverse}
+use Rattle.std.specs.Ordering.{eq_by_cmp, is_eq, ordering_index, ordering_reverse}
 use Rattle.std.specs.declared.cmp.Ordering.{Ordering}
 use Rattle.std.specs.declared.cmp.Ordering.TheVariants.{Less, Equal, Greater}
 use Rattle.std.proofs.lemmas.Map.Keys.{Less-from_sorted}
@@ -12,8 +12,8 @@ use Rattle.std.proofs.lemmas.List.Kept.{IsStrictlySortedBy-dedup, Any-dedup}
 use Rattle.std.proofs.lemmas.List.Filters.{All-dedup}
 use Rattle.std.proofs.lemmas.List.{take-append-drop, get_or-take, get_or-drop, get_or_default, length-take-le, length-drop}
 use Rattle.std.proofs.Math.Seq.{drop-cons}
-use Rattle.std.proofs.lemmas.List.Elements.{All-contains_itself, recursion_from_All}
-use Rattle.domain_records.specs.SortedSet.{IsAt, IsGapFor, Holds, IsSortedSetOf, IsUnion, KeepsEarliest, Adds}
+use Rattle.std.proofs.lemmas.List.Elements.{All-contains_itself, filter_agree, recursion_from_All}
+use Rattle.domain_records.specs.SortedSet.{IsAt, IsGapFor, Holds, IsSortedSetOf, IsSortOf, IsUnion, KeepsEarliest, Adds}
 
 module _ {X : Type 0} where
   -- the first that passes is the first of those that pass
@@ -62,6 +62,11 @@ module _ {X : Type 0} where
   rec_cut P [] x ys h = h.1
   rec_cut P (y ∷ xs) x ys h = (h.0, rec_cut P xs x ys h.1)
 
+tied : (s : Ordering) → not (is_lt (ordering_reverse s)) && not (is_lt s) ≡ is_eq s
+tied Less = refl
+tied Equal = refl
+tied Greater = refl
+
 module _ {X : Type 0} {R : X → X → Ordering} (o : IsTotalOrder R) where
   pub sorted_join : (xs : List X) (x : X) (ys : List X) → IsStrictlySortedBy R (xs ++ ys) → AllByRecursion (λ y. R y x ≡ Less) xs → AllByRecursion (λ y. R x y ≡ Less) ys → IsStrictlySortedBy R (xs ++ x ∷ ys)
   unfolding IsStrictlySortedBy
@@ -105,9 +110,19 @@ module _ {X : Type 0} {R : X → X → Ordering} (o : IsTotalOrder R) where
   }
 
   -- of no elements
-  pub no_union : (stable : Bool) (xs : List X) → None ≡ slice_get xs 0 → IsUnion stable R xs xs
-  no_union stable [] none = record { set = sorted_set [] [] (IsPermutation-refl []) (λ k d le lt. absurd (omega arith)); earliest = λ on x. refl }
-  no_union stable (x ∷ xs) none = absurd (cc)
+  pub no_sort : (stable : Bool) (xs : List X) → None ≡ slice_get xs 0 → IsSortOf stable R xs xs
+  no_sort stable [] none = record { moved = IsPermutation-refl []; sorted = λ k d le lt. absurd (omega arith); earliest = λ on x. refl }
+  no_sort stable (x ∷ xs) none = absurd (cc)
+
+  -- what a stable sort leaves begins with the earliest of equals
+  pub stable_earliest : (xs ys : List X) → IsStable R xs ys → KeepsEarliest R xs ys
+  stable_earliest xs ys stable x =
+      let same : (y : X) → ties (λ a b. is_lt (R a b)) x y ≡ is_eq (R y x) = λ y. ap (λ r. not (is_lt r) && not (is_lt (R y x))) (o.antisymm x y) ∙ tied (R y x) in
+      find_alike (λ y. is_eq (R y x)) ys xs (sym (filter_agree _ _ same ys) ∙ stable x ∙ filter_agree _ _ same xs)
+
+  -- a sorted list without all but the first of equals is the sorted set
+  pub union_of : (stable : Bool) (xs ys : List X) → IsSortOf stable R xs ys → IsUnion stable R xs (dedup (eq_by_cmp R) ys)
+  union_of stable xs ys h = record { set = sorted_set xs ys h.moved h.sorted; earliest = λ on. dedup_earliest xs ys (h.earliest on) }
 
   -- a new element in its gap
   pub sorted_insert : (xs : List X) (x : X) (i : ℕ) → IsStrictlySortedBy R xs → IsGapFor R xs x i → Adds R xs x (insert xs i x)

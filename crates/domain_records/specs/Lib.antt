@@ -4,9 +4,7 @@ pub mod ErrorText
 pub mod Groups
 pub mod Lookup
 pub mod Order
-pub mod OwnerKey
 pub mod OwnerOrder
-pub mod OwnerRuns
 pub mod Places
 pub mod Rrsets
 pub mod Runs

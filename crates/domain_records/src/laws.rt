@@ -1,10 +1,13 @@
-//! What holds of groups. A caller calls the law in its body.
+//! What holds of groups and of sorted records. A caller calls the law in its body.
 ghost use Rattle.std.specs.Prelude.{List};
 ghost use Rattle.domain_plain.specs.declared.record.Record.{Record};
+ghost use Rattle.std.specs.List.Sorted.{IsStrictlySortedBy};
+ghost use Rattle.domain_plain.specs.Record.{record_cmp};
 ghost use Rattle.domain_records.specs.Groups.{same_owner, same_type, same_rrset};
+ghost use Rattle.domain_records.specs.Order.{IsOneClass, IsInOrder};
 ghost use Rattle.domain_records.specs.Runs.{AreGroups, runs};
 
-use domain_base::ToName;
+use domain_base::{CanonicalOrd, ToName};
 use domain_plain::RecordData;
 
 /// The groups of records of one owner joined are the list; in each the neighbours share their
@@ -25,4 +28,12 @@ pub fn rrset_groups_are_maximal_runs<N: ToName, D: RecordData>()
     ensures { (records : List (Record N D))
         → AreGroups (same_rrset N.labels D.rtype) records
         (runs (same_rrset N.labels D.rtype) records) }
+{}
+
+/// Records of one class that strictly ascend in canonical order, as `SortedRecords` hands them out,
+/// are in order of owner and type.
+pub fn sorted_records_are_in_order<N: ToName, D: RecordData + CanonicalOrd>()
+    ensures { (records : List (Record N D))
+        → IsStrictlySortedBy (record_cmp N.labels D.rtype D.canonical_cmp) records
+        → IsOneClass records → IsInOrder N.labels D.rtype records }
 {}

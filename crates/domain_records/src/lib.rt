@@ -20,9 +20,10 @@
 //! - [`RecordsIter::is_one_class`] and [`RecordsIter::is_in_order`] are true exactly where the
 //!   records left have one class and where owners never descend and types never descend within an
 //!   owner. Sorted records of one class are in order.
-//! - Sorting many records goes by owner first where neighbours often have one owner: the sorter
-//!   sorts runs of one owner, and then the places of each owner but those that stand together in
-//!   order. `insert` and the look-ups by owner take binary searches, and no comparison takes
+//! - Sorting many records goes by runs of neighbours of one owner, which the sorter puts into the
+//!   order of keys. Keys are only hints: the order that they lead to is checked before a record is
+//!   moved, and where it is not the canonical one, the sorter is given the records themselves.
+//!   `insert` and the look-ups by owner take binary searches, and no comparison takes
 //!   memory.
 //!
 //! The errors of those who sign and hash records stand here too: [`SigningError`] and
@@ -40,7 +41,6 @@ mod owner_key;
 mod owner_order;
 mod owner_runs;
 mod rrset;
-mod run_keys;
 mod slice;
 mod sort;
 mod sorted;

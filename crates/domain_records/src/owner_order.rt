@@ -1,106 +1,65 @@
-//! The canonical order of records in two parts.
-ghost use Rattle.std.specs.Prelude.{◌≡◌, ℕ, refl};
-ghost use Rattle.std.specs.Ordering.{is_ne, nat_cmp, ordering_then};
-ghost use Rattle.std.specs.declared.cmp.Ordering.{Ordering};
-ghost use Rattle.std.specs.Cmp.{IsTotalOrder};
-ghost use Rattle.domain_base.specs.Order.{canonical_cmp};
-ghost use Rattle.domain_base.specs.Words.{Name};
+//! Records compared by owner, and by the rest.
+ghost use Rattle.std.specs.Prelude.{◌≡◌, slice_index_or};
+ghost use Rattle.std.specs.Ordering.{is_eq};
+ghost use Rattle.domain_plain.specs.Record.{record_cmp};
+ghost use Rattle.domain_records.specs.OwnerOrder.{owner_cmp, rest_cmp};
 
-use domain_base::{CanonicalOrd, Class, ParsedName, ToName};
+use domain_base::{CanonicalOrd, ToName};
 use domain_plain::{Record, RecordData};
 use std::cmp::Ordering;
 
-/// A canonical order that goes by owner first, and within an owner by the rest.
-pub(crate) trait OwnerOrd: CanonicalOrd {
-    /// The order of owners.
-    ghost owner_order: { Self → Self → Ordering };
-
-    /// The order within an owner.
-    ghost rest_order: { Self → Self → Ordering };
-
-    /// The class.
-    ghost owner_class: { Self → ℕ };
-
-    /// The labels of the owner.
-    ghost owner_labels: { Self → Name };
-
-    /// Compares the owners.
-    fn owner_cmp(&self, other: &Self) -> Ordering
-        ensures { result ≡ owner_order self.now other.now };
-
-    /// Compares all but the owners.
-    fn rest_cmp(&self, other: &Self) -> Ordering
-        ensures { result ≡ rest_order self.now other.now };
-
-    /// Whether the owners differ.
-    fn differs_in_owner(&self, other: &Self) -> bool
-        ensures { result ≡ is_ne (owner_order self.now other.now) };
-
-    /// The class.
-    fn owner_class(&self) -> Class
-        ensures { result ≡ owner_class self.now };
-
-    /// The owner, as a name over its wire form.
-    fn owner_name(&self) -> ParsedName<'_>
-        ensures { result ≡ owner_labels self.now };
-
-    /// Owners are in a total order.
-    ghost owners_total: { IsTotalOrder owner_order };
-
-    /// They go by class, and then in the order of names.
-    ghost by_class: { (x y : Self) → owner_order x y
-        ≡ ordering_then (nat_cmp (owner_class x) (owner_class y))
-        (canonical_cmp (owner_labels x) (owner_labels y)) };
-
-    /// The rest is too.
-    ghost rests_total: { IsTotalOrder rest_order };
-
-    /// The canonical order goes by owner, and then by the rest.
-    ghost in_parts: { (x y : Self)
-        → Self.canonical_cmp x y ≡ ordering_then (owner_order x y) (rest_order x y) };
+/// The item at a place. Past the end `other` stands.
+pub(crate) fn item_at<'a, T>(items: &'a [T], place: usize, other: &'a T) -> &'a T
+    ensures { result.now ≡ slice_index_or items.now place other.now }
+{
+    items.get(place).unwrap_or(other)
 }
 
-// The owner with its class, and then type and data.
-impl<N: ToName, D: RecordData + CanonicalOrd> OwnerOrd for Record<N, D> {
-    ghost use Rattle.domain_records.specs.OwnerOrder.{owner_cmp, rest_cmp, owner_cmp_total, rest_cmp_total, record_cmp_in_parts};
-
-    ghost owner_order = { owner_cmp N.labels };
-
-    ghost rest_order = { rest_cmp D.rtype D.canonical_cmp };
-
-    ghost owner_class = { λ r. r.class };
-
-    ghost owner_labels = { λ r. N.labels r.owner };
-
-    ghost owners_total = { owner_cmp_total N.labels };
-
-    ghost by_class = { λ x y. refl };
-
-    ghost rests_total = { rest_cmp_total D.rtype D.canonical_cmp D.total };
-
-    ghost in_parts = { record_cmp_in_parts N.labels D.rtype D.canonical_cmp };
-
-    fn owner_cmp(&self, other: &Self) -> Ordering {
-        self.class()
-            .cmp(&other.class())
-            .then_with(|| self.owner().name_cmp(other.owner()))
+/// Whether two records have one class and one owner.
+pub(crate) fn is_one_owner<N: ToName, D>(a: &Record<N, D>, b: &Record<N, D>) -> bool
+    ensures { result ≡ is_eq (owner_cmp N.labels a.now b.now) }
+{
+    if a.class() == b.class() {
+        return a.owner().name_eq(b.owner());
     }
+    false
+}
 
-    fn differs_in_owner(&self, other: &Self) -> bool {
-        self.class() != other.class() || !self.owner().name_eq(other.owner())
-    }
+/// Compares records by all but class and owner: by type, and then by the data.
+pub(crate) fn rest_cmp<N, D: RecordData + CanonicalOrd>(
+    a: &Record<N, D>,
+    b: &Record<N, D>,
+) -> Ordering
+    ensures { result ≡ rest_cmp D.rtype D.canonical_cmp a.now b.now }
+{
+    a.rtype()
+        .cmp(&b.rtype())
+        .then_with(|| a.data().canonical_cmp(b.data()))
+}
 
-    fn owner_class(&self) -> Class {
-        self.class()
+/// The canonical order of records, for those that often have one owner.
+pub(crate) fn neighbour_cmp<N: ToName, D: RecordData + CanonicalOrd>(
+    a: &Record<N, D>,
+    b: &Record<N, D>,
+) -> Ordering
+    ensures { result ≡ record_cmp N.labels D.rtype D.canonical_cmp a.now b.now }
+{
+    if is_one_owner(a, b) {
+        rest_cmp(a, b)
+    } else {
+        a.canonical_cmp(b)
     }
+}
 
-    fn owner_name(&self) -> ParsedName<'_> {
-        self.owner().as_parsed()
+/// Whether records are equal in canonical order. Owners are compared last.
+pub(crate) fn is_equal<N: ToName, D: RecordData + CanonicalOrd>(
+    a: &Record<N, D>,
+    b: &Record<N, D>,
+) -> bool
+    ensures { result ≡ is_eq (record_cmp N.labels D.rtype D.canonical_cmp a.now b.now) }
+{
+    if rest_cmp(a, b).is_ne() {
+        return false;
     }
-
-    fn rest_cmp(&self, other: &Self) -> Ordering {
-        self.rtype()
-            .cmp(&other.rtype())
-            .then_with(|| self.data().canonical_cmp(other.data()))
-    }
+    is_one_owner(a, b)
 }

@@ -1,19 +1,19 @@
-//! Runs: neighbours of one owner.
-ghost use Rattle.std.specs.Prelude.{◌≡◌, ◌<◌, ◌≤◌, ◌-◌, ◌++◌, [], true, length, slice_index_or, IfOk, OnOk, IsPermutation};
-ghost use Rattle.std.specs.List.{dedup};
-ghost use Rattle.std.specs.List.Sorted.{IsSorted};
-ghost use Rattle.std.specs.Ordering.{is_lt, is_ne};
-ghost use Rattle.domain_records.specs.Places.{AreSetPlaces, alike, compared_places, place_cmp};
-ghost use Rattle.domain_records.specs.OwnerRuns.{AreKeyed, AreRises, AreRuns, AreSortedRuns, Ascends, IsOwner, KeyTells, compared_runs, places_of, run_cmp};
+//! Runs: neighbours of one owner, and the order of records that they lead to. It is a hint, which
+//! `sort` checks: nothing is promised of it.
+ghost use Rattle.std.specs.Prelude.{◌≡◌};
+ghost use Rattle.domain_plain.specs.Record.{record_cmp};
+ghost use Rattle.domain_records.specs.OwnerOrder.{compared_runs};
 
-use crate::owner_order::OwnerOrd;
-use crate::run_keys::give_keys;
+use crate::owner_key::owner_key;
+use crate::owner_order::{is_one_owner, item_at, rest_cmp};
 use crate::sorter::Sorter;
+use domain_base::{CanonicalOrd, ToName};
 use domain_octets::OutOfMemory;
+use domain_plain::{Record, RecordData};
 use std::alloc::Global;
 use std::cmp::Ordering;
 
-/// The items from `start` up to `end`, which have one owner, with a key of the owner.
+/// The records from `start` up to `end`, which have one owner, with its key.
 #[derive(Clone, Copy)]
 pub(crate) struct Run {
     pub(crate) key: u128,
@@ -21,269 +21,105 @@ pub(crate) struct Run {
     pub(crate) end: usize,
 }
 
-/// The runs of a list of items.
-pub(crate) struct Runs {
-    pub(crate) runs: Vec<Run>,
-    /// Of each item, whether it is in the run of the one before it and comes after that one.
-    pub(crate) rises: Vec<bool>,
-}
-
-/// The places of all items: those of their sorted set in order, and then those of items that are
-/// equal to one of these.
-pub(crate) struct SetPlaces {
-    pub(crate) places: Vec<usize>,
-    /// How many are of the set.
-    pub(crate) kept: usize,
-}
-
-/// The item at a place. Past the end `other` stands.
-pub(crate) fn item_at<'a, T>(items: &'a [T], place: usize, other: &'a T) -> &'a T
-    ensures { result.now ≡ slice_index_or items.now place other.now }
-{
-    items.get(place).unwrap_or(other)
-}
-
-/// Whether the item at a place comes after the one before it, where they have one owner.
-fn comes_after<T: OwnerOrd>(items: &[T], other: &T, place: usize) -> bool
-    requires { 0 < place }
-    ensures { result ≡ is_lt (T.rest_order (slice_index_or items.now (place - 1) other.now)
-        (slice_index_or items.now place other.now)) }
-{
-    item_at(items, place - 1, other)
-        .rest_cmp(item_at(items, place, other))
-        .is_lt()
-}
-
-/// The runs of the items, each as long as its owner goes on. They have no keys yet.
-pub(crate) fn runs_of<T: OwnerOrd>(
+/// The runs, each as long as its owner goes on. They have no keys yet.
+fn runs_of<N: ToName, D: RecordData>(
     alloc: Global,
-    items: &[T],
-    other: &T,
-) -> Result<Runs, OutOfMemory>
-    ensures runs { IfOk result (λ r. AreRuns T.owner_order items.now other.now r.runs.items) }
-    ensures rises { IfOk result (λ r. AreRises T.rest_order items.now other.now r.rises.items) }
-{
+    records: &[Record<N, D>],
+) -> Result<Vec<Run>, OutOfMemory> {
     let mut runs = Vec::new(alloc);
-    let mut rises = vec![in alloc; false; items.len()]?;
-    let mut start = 0;
-    for end in 1..items.len() {
-        if item_at(items, start, other).differs_in_owner(item_at(items, end, other)) {
-            runs.push(Run { key: 0, start, end })?;
-            start = end;
-        } else {
-            rises[end] = comes_after(items, other, end);
-        }
-    }
-    if start < items.len() {
-        let end = items.len();
+    let mut start: usize = 0;
+    for run in records.chunk_by(|a, b| is_one_owner(a, b)) {
+        let end = start.saturating_add(run.len());
         runs.push(Run { key: 0, start, end })?;
+        start = end;
     }
-    Ok(Runs { runs, rises })
+    Ok(runs)
 }
 
-/// Compares the owners of two runs.
-fn compare_runs<T: OwnerOrd>(items: &[T], other: &T, a: Run, b: Run) -> Ordering
-    ensures { result ≡ run_cmp T.owner_order items.now other.now a b }
-{
-    item_at(items, a.start, other).owner_cmp(item_at(items, b.start, other))
-}
-
-/// Compares the keys of two runs, and their owners only where the keys are the same.
-fn compare_keyed<T: OwnerOrd>(items: &[T], other: &T, a: Run, b: Run) -> Ordering
-    ensures { result ≡ compared_runs T.owner_order items.now other.now a b }
-{
-    a.key
-        .cmp(&b.key)
-        .then_with(|| compare_runs(items, other, a, b))
-}
-
-/// Compares two places by all but the owners of their items, and then by themselves.
-fn compare_places<T: OwnerOrd>(items: &[T], other: &T, a: usize, b: usize) -> Ordering
-    ensures { result ≡ compared_places T.rest_order items.now other.now a b }
-{
-    item_at(items, a, other)
-        .rest_cmp(item_at(items, b, other))
-        .then(a.cmp(&b))
-}
-
-/// Whether the owners of two runs differ, as they do where the keys differ.
-fn has_other_owner<T: OwnerOrd>(items: &[T], other: &T, a: Run, b: Run) -> bool
-    requires forth { KeyTells T.owner_order items.now other.now a b }
-    requires back { KeyTells T.owner_order items.now other.now b a }
-    ensures { result ≡ is_ne (run_cmp T.owner_order items.now other.now a b) }
-{
-    if a.key != b.key {
-        return true;
+/// How many labels, from the root on, the owners of all runs share with that of `first`.
+fn shared_labels<N: ToName, D>(
+    records: &[Record<N, D>],
+    first: &Record<N, D>,
+    runs: &[Run],
+) -> usize {
+    let mut shared = first.owner().count_labels();
+    for run in runs {
+        let owner = item_at(records, run.start, first).owner();
+        shared = shared.min(first.owner().common_labels(owner));
     }
-    item_at(items, a.start, other).differs_in_owner(item_at(items, b.start, other))
+    shared
 }
 
-/// Puts the runs into the order of their owners.
-fn sort_runs<T: OwnerOrd, S: Sorter>(
-    items: &[T],
-    other: &T,
-    runs: &mut Vec<Run>,
-) -> Result<(), OutOfMemory>
-    requires runs { AreRuns T.owner_order items.now other.now runs.old.items }
-    requires keyed { AreKeyed T.owner_order items.now other.now runs.old.items }
-    ensures { OnOk result (AreSortedRuns T.owner_order items.now other.now runs.new.items) }
-{
-    S::sort_by(runs, |a, b| compare_keyed(items, other, *a, *b))
-}
-
-/// Puts places of one owner into the order of their items.
-fn sort_group<T: OwnerOrd, S: Sorter>(
-    items: &[T],
-    other: &T,
-    group: &mut Vec<usize>,
-) -> Result<(), OutOfMemory>
-    ensures moved { IsPermutation group.old.items group.new.items }
-    ensures sorted { OnOk result (IsSorted (place_cmp T.rest_order items.now other.now)
-        group.new.items) }
-{
-    if group.len() < 2 {
-        return Ok(());
+/// Gives each run the key of its owner.
+fn give_keys<N: ToName, D>(records: &[Record<N, D>], first: &Record<N, D>, runs: &mut [Run]) {
+    let shared = shared_labels(records, first, runs);
+    for run in runs.iter_mut() {
+        run.key = owner_key(item_at(records, run.start, first).owner(), shared);
     }
-    S::sort_by(group, |a, b| compare_places(items, other, *a, *b))
 }
 
-/// Puts the places of a run at the end.
-fn push_places(places: &mut Vec<usize>, run: Run) -> Result<(), OutOfMemory>
-    ensures { OnOk result (places.new.items ≡ places.old.items ++ places_of run) }
+/// Compares the keys of two runs, and the first record of each where the keys are the same.
+fn compare_runs<N: ToName, D: RecordData + CanonicalOrd>(
+    records: &[Record<N, D>],
+    first: &Record<N, D>,
+    a: Run,
+    b: Run,
+) -> Ordering
+    ensures { result ≡ compared_runs (record_cmp N.labels D.rtype D.canonical_cmp) records.now
+        first.now a b }
 {
-    for place in run.start..run.end {
-        places.push(place)?;
-    }
+    a.key.cmp(&b.key).then_with(|| {
+        item_at(records, a.start, first).canonical_cmp(item_at(records, b.start, first))
+    })
+}
+
+/// Puts the places of a run at the end, and those from `start` on into the order of their records,
+/// which have one owner.
+fn push_places<N: ToName, D: RecordData + CanonicalOrd>(
+    records: &[Record<N, D>],
+    first: &Record<N, D>,
+    run: Run,
+    start: usize,
+    places: &mut Vec<usize>,
+) -> Result<(), OutOfMemory> {
+    places.extend(run.start..run.end)?;
+    let start = start.min(places.len());
+    places[start..].sort_unstable_by(|a, b| {
+        rest_cmp(item_at(records, *a, first), item_at(records, *b, first)).then(a.cmp(b))
+    });
     Ok(())
 }
 
-/// Puts the places of the runs from `first` on that have one owner into the empty `group`, and
-/// answers which run comes after them.
-fn take_owner<T: OwnerOrd>(
-    items: &[T],
-    other: &T,
-    runs: &[Run],
-    first: usize,
-    group: &mut Vec<usize>,
-) -> Result<usize, OutOfMemory>
-    requires some { first < length runs.now }
-    requires keyed { AreKeyed T.owner_order items.now other.now runs.now }
-    requires empty { group.old.items ≡ [] }
-    ensures { IfOk result (λ next. IsOwner T.owner_order items.now other.now runs.now first next
-        group.new.items) }
-{
-    push_places(group, runs[first])?;
-    for next in first + 1..runs.len() {
-        if has_other_owner(items, other, runs[first], runs[next]) {
-            return Ok(next);
-        }
-        push_places(group, runs[next])?;
-    }
-    Ok(runs.len())
-}
-
-/// Whether items that have one owner are equal.
-fn is_alike<T: OwnerOrd>(items: &[T], other: &T, a: usize, b: usize) -> bool
-    ensures { result ≡ alike T.rest_order items.now other.now a b }
-{
-    item_at(items, a, other)
-        .rest_cmp(item_at(items, b, other))
-        .is_eq()
-}
-
-/// Takes the places out of a group that is in order: of those of equal items the first goes to
-/// `kept`, and the others go to `equals`.
-fn part_group<T: OwnerOrd>(
-    items: &[T],
-    other: &T,
-    group: &mut Vec<usize>,
-    kept: &mut Vec<usize>,
-    equals: &mut Vec<usize>,
-) -> Result<(), OutOfMemory>
-    ensures empty { OnOk result (group.new.items ≡ []) }
-    ensures kept { OnOk result (kept.new.items
-        ≡ kept.old.items ++ dedup (alike T.rest_order items.now other.now) group.old.items) }
-    ensures all { OnOk result
-        (IsPermutation (kept.old.items ++ (equals.old.items ++ group.old.items))
-        (kept.new.items ++ equals.new.items)) }
-{
-    let Some((first, rest)) = group.split_first() else {
-        return Ok(());
-    };
-    kept.push(*first)?;
-    let mut last = *first;
-    for place in rest {
-        if is_alike(items, other, *place, last) {
-            equals.push(*place)?;
-        } else {
-            kept.push(*place)?;
-            last = *place;
-        }
-    }
-    group.clear();
-    Ok(())
-}
-
-/// Whether each item of the run comes after the one before it in the run.
-fn ascends(rises: &[bool], run: Run) -> bool
-    ensures { result ≡ true → Ascends rises.now run }
-{
-    for place in run.start.saturating_add(1)..run.end {
-        if !*item_at(rises, place, &false) {
-            return false;
-        }
-    }
-    true
-}
-
-/// The places of all items, those of their set in canonical order. An owner that is one run of
-/// items in order is taken as it stands, without another look at its items.
-fn places_by_owner<T: OwnerOrd, S: Sorter>(
+/// The places of the records, in the order of sorted runs, and of the records within an owner.
+fn places_of<N: ToName, D: RecordData + CanonicalOrd>(
     alloc: Global,
-    items: &[T],
-    other: &T,
+    records: &[Record<N, D>],
+    first: &Record<N, D>,
     runs: &[Run],
-    rises: &[bool],
-) -> Result<SetPlaces, OutOfMemory>
-    requires runs { AreSortedRuns T.owner_order items.now other.now runs.now }
-    requires rises { AreRises T.rest_order items.now other.now rises.now }
-    ensures { IfOk result (λ set. AreSetPlaces T.canonical_cmp items.now other.now
-        set.places.items set.kept) }
-{
-    let mut places = Vec::with_capacity(alloc, items.len())?;
-    let mut equals = Vec::new(alloc);
-    let mut group = Vec::new(alloc);
-    let mut next = 0;
-    while next < runs.len() {
-        let first = next;
-        next = take_owner(items, other, runs, first, &mut group)?;
-        if next == first + 1 && ascends(rises, runs[first]) {
-            places.append(&mut group)?;
-        } else {
-            sort_group::<T, S>(items, other, &mut group)?;
-            part_group(items, other, &mut group, &mut places, &mut equals)?;
+) -> Result<Vec<usize>, OutOfMemory> {
+    let mut places = Vec::with_capacity(alloc, records.len())?;
+    let mut owner = first;
+    let mut start = 0;
+    for run in runs {
+        let next = item_at(records, run.start, first);
+        if !is_one_owner(owner, next) {
+            owner = next;
+            start = places.len();
         }
+        push_places(records, first, *run, start, &mut places)?;
     }
-    let kept = places.len();
-    places.append(&mut equals)?;
-    Ok(SetPlaces { places, kept })
+    Ok(places)
 }
 
-/// The places of the items, those of their set in canonical order, from their runs: the runs are
-/// given keys and sorted by owner, and then the items of each owner that do not stand in order.
-pub(crate) fn set_places<T: OwnerOrd, S: Sorter>(
+/// The places of the records in what is most probably canonical order, by their owners' keys. Of
+/// equal records the earliest comes first.
+pub(crate) fn likely_places<N: ToName, D: RecordData + CanonicalOrd, S: Sorter>(
     alloc: Global,
-    items: &[T],
-    other: &T,
-    mut runs: Vec<Run>,
-    rises: &[bool],
-) -> Result<SetPlaces, OutOfMemory>
-    requires runs { AreRuns T.owner_order items.now other.now runs.items }
-    requires rises { AreRises T.rest_order items.now other.now rises.now }
-    ensures { IfOk result (λ set. AreSetPlaces T.canonical_cmp items.now other.now
-        set.places.items set.kept) }
-{
-    give_keys(items, other, &mut runs);
-    sort_runs::<T, S>(items, other, &mut runs)?;
-    places_by_owner::<T, S>(alloc, items, other, &runs, rises)
+    records: &[Record<N, D>],
+    first: &Record<N, D>,
+) -> Result<Vec<usize>, OutOfMemory> {
+    let mut runs = runs_of(alloc, records)?;
+    give_keys(records, first, &mut runs);
+    S::sort_by(&mut runs, |a, b| compare_runs(records, first, *a, *b))?;
+    places_of(alloc, records, first, &runs)
 }

@@ -1,30 +1,92 @@
-//! Sorting by owner first.
-ghost use Rattle.std.specs.Prelude.{◌≡◌, OnOk, OnErr};
-ghost use Rattle.domain_records.specs.SortedSet.{IsUnion};
+//! Sorting, by owner first where that is right.
+ghost use Rattle.std.specs.Prelude.{◌≡◌, IsTrue, OnOk, OnErr};
+ghost use Rattle.domain_plain.specs.Record.{record_cmp};
+ghost use Rattle.domain_records.specs.Places.{AreInOrder, compared_places};
+ghost use Rattle.domain_records.specs.SortedSet.{IsSortOf, IsUnion};
 
-use crate::arrange::{arrange, seats_of};
-use crate::owner_order::OwnerOrd;
-use crate::owner_runs::{Runs, SetPlaces, runs_of, set_places};
+use crate::arrange::{are_seats, arrange, seats_of};
+use crate::owner_order::{is_equal, item_at, neighbour_cmp};
+use crate::owner_runs::likely_places;
 use crate::sorter::Sorter;
+use domain_base::{CanonicalOrd, ToName};
 use domain_octets::OutOfMemory;
+use domain_plain::{Record, RecordData};
+use std::cmp::Ordering;
 
-/// Puts the items into canonical order, and keeps the earliest of equal ones. The sorter is given
-/// the runs of one owner, so that it compares few owners, and then the places of each owner but
-/// those that are one run in order; an item is moved once. A refusal leaves the list as it was.
-pub(crate) fn sort_and_dedup<T: OwnerOrd + Drop, S: Sorter>(
-    items: &mut Vec<T>,
-) -> Result<(), OutOfMemory>
-    ensures ok { OnOk result (IsUnion S.is_stable T.canonical_cmp items.old.items items.new.items) }
+/// Compares the records at two places, and then the places.
+fn compare_places<N: ToName, D: RecordData + CanonicalOrd>(
+    records: &[Record<N, D>],
+    first: &Record<N, D>,
+    a: usize,
+    b: usize,
+) -> Ordering
+    ensures { result ≡ compared_places (record_cmp N.labels D.rtype D.canonical_cmp) records.now
+        first.now a b }
+{
+    neighbour_cmp(item_at(records, a, first), item_at(records, b, first)).then(a.cmp(&b))
+}
+
+/// Whether these are the places of the records in canonical order, of equal ones the earliest
+/// first, and their seats.
+fn are_in_order<N: ToName, D: RecordData + CanonicalOrd>(
+    records: &[Record<N, D>],
+    first: &Record<N, D>,
+    places: &[usize],
+    seats: &[usize],
+) -> bool
+    ensures { IsTrue result → AreInOrder (record_cmp N.labels D.rtype D.canonical_cmp) records.now
+        first.now places.now seats.now }
+{
+    if places.len() != records.len() {
+        return false;
+    }
+    if !are_seats(places, seats) {
+        return false;
+    }
+    places.is_sorted_by(|a, b| compare_places(records, first, *a, *b).is_lt())
+}
+
+/// Puts items into canonical order by the sorter. A refusal leaves the list as it was.
+fn sort_whole<T: CanonicalOrd, S: Sorter>(items: &mut Vec<T>) -> Result<(), OutOfMemory>
+    ensures ok { OnOk result (IsSortOf S.is_stable T.canonical_cmp items.old.items items.new.items) }
     ensures err { OnErr result (items.new.items ≡ items.old.items) }
 {
-    let alloc = *items.allocator();
-    let Some(first) = items.first() else {
+    S::sort_by(items, |a, b| a.canonical_cmp(b))
+}
+
+/// Puts the records into canonical order. Each is moved once, to the place that keys of owners make
+/// likely, where these places are right; else the sorter is given the records. A refusal leaves the
+/// list as it was.
+fn sort<N: ToName, D: RecordData + CanonicalOrd, S: Sorter>(
+    records: &mut Vec<Record<N, D>>,
+) -> Result<(), OutOfMemory>
+    ensures ok { OnOk result (IsSortOf S.is_stable (record_cmp N.labels D.rtype D.canonical_cmp)
+        records.old.items records.new.items) }
+    ensures err { OnErr result (records.new.items ≡ records.old.items) }
+{
+    let alloc = *records.allocator();
+    let Some(first) = records.first() else {
         return Ok(());
     };
-    let Runs { runs, rises } = runs_of(alloc, items, first)?;
-    let SetPlaces { mut places, kept } = set_places::<T, S>(alloc, items, first, runs, &rises)?;
+    let mut places = likely_places::<N, D, S>(alloc, records, first)?;
     let mut seats = seats_of(alloc, &places)?;
-    arrange(items, &mut places, &mut seats);
-    items.truncate(kept);
+    if are_in_order(records, first, &places, &seats) {
+        arrange(records, &mut places, &mut seats);
+        return Ok(());
+    }
+    sort_whole::<Record<N, D>, S>(records)
+}
+
+/// Puts the records into canonical order, and keeps the earliest of equal ones. A refusal leaves
+/// the list as it was.
+pub(crate) fn sort_and_dedup<N: ToName + Drop, D: RecordData + CanonicalOrd + Drop, S: Sorter>(
+    records: &mut Vec<Record<N, D>>,
+) -> Result<(), OutOfMemory>
+    ensures ok { OnOk result (IsUnion S.is_stable (record_cmp N.labels D.rtype D.canonical_cmp)
+        records.old.items records.new.items) }
+    ensures err { OnErr result (records.new.items ≡ records.old.items) }
+{
+    sort::<N, D, S>(records)?;
+    records.dedup_by(|later, earlier| is_equal(later, earlier));
     Ok(())
 }

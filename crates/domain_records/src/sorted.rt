@@ -75,8 +75,8 @@ impl<N: ToName, D: RecordData + CanonicalOrd, Sort: Sorter> SortedRecords<N, D, 
     }
 
     /// Sorts the records, and keeps one of those that are equal under the canonical order: the
-    /// earliest, where the sorter is stable. Sorts by owner first where neighbours often have one
-    /// owner, and takes one pass.
+    /// earliest, where the sorter is stable. Names are compared rarely where neighbours often have
+    /// one owner.
     ///
     /// # Errors
     ///
@@ -88,7 +88,7 @@ impl<N: ToName, D: RecordData + CanonicalOrd, Sort: Sorter> SortedRecords<N, D, 
         ensures { IfOk result (IsUnion Sort.is_stable (record_cmp N.labels D.rtype D.canonical_cmp)
             records.items) }
     {
-        sort_and_dedup::<Record<N, D>, Sort>(&mut records)?;
+        sort_and_dedup::<N, D, Sort>(&mut records)?;
         Ok(SortedRecords {
             records,
             sorter: PhantomData,
@@ -143,7 +143,7 @@ impl<N: ToName, D: RecordData + CanonicalOrd, Sort: Sorter> SortedRecords<N, D, 
     {
         let stored = self.records.len();
         append(&mut self.records, more)?;
-        let result = sort_and_dedup::<Record<N, D>, Sort>(&mut self.records);
+        let result = sort_and_dedup::<N, D, Sort>(&mut self.records);
         if result.is_err() {
             self.records.truncate(stored);
         }

@@ -1,0 +1,27 @@
+use Rattle.std.proofs.Common.{◌≡◌, Bool, true, false, List, length, rules, is_lt, IsTrue, refl}
+use Rattle.std.specs.List.{AllAdjacentBelow, IsAllAdjacentAnswer}
+use Rattle.std.specs.declared.cmp.Ordering.{Ordering}
+use Rattle.std.specs.declared.cmp.Ordering.TheVariants.{Less, Equal, Greater}
+use Rattle.std.proofs.lemmas.Bool.{false≢true}
+use Rattle.std.proofs.lemmas.Fn.{always_returns_same}
+use Rattle.domain_plain.specs.Record.{record_cmp}
+use Rattle.domain_records.specs.Places.{compared_places}
+use Rattle.domain_records.proofs.sort.are_in_order.Goals as goal
+
+is_less : (r : Ordering) → true ≡ is_lt r → r ≡ Less
+is_less Less h = refl
+is_less Equal h = absurd (cc)
+is_less Greater h = absurd (cc)
+
+each_next : {X : Type 0} (e : X → X → Bool) (xs : List X) (r : Bool) → IsTrue r → IsAllAdjacentAnswer (λ x y b. b ≡ e x y) xs r → AllAdjacentBelow (λ x y. true ≡ e x y) xs (length xs)
+each_next e xs true on h = h
+each_next e xs false on h = absurd (false≢true on)
+
+pub returns : goal.returns
+returns g c = λ on.
+    let R = compared_places (record_cmp g.N.ToName.labels g.D.RecordData.rtype g.D.CanonicalOrd.canonical_cmp) c.args.records.now c.args.first.now in
+    let answer = c.is_sorted_by.ensures.cases (λ a b. is_lt (R a b)) (always_returns_same _ _ _ (λ a r h called. search rules)) in record {
+      all = c.if-places-records.false;
+      inverse = c.if-not-are_seats.ensures refl;
+      ascend = λ k d lt. is_less (R _ _) (each_next (λ a b. is_lt (R a b)) c.args.places.now c.is_sorted_by.result on answer k d lt);
+    }

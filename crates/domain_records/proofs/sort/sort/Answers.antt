@@ -1,0 +1,41 @@
+use Rattle.std.proofs.Common.{◌≡◌, ◌∙◌, None, length, ap, sym, refl}
+use Rattle.std.specs.List.{slice_get}
+use Rattle.std.specs.List.Sorted.{IsPermutation}
+use Rattle.std.specs.Option.{option_copied}
+use Rattle.std.proofs.lemmas.List.{take_at}
+use Rattle.domain_plain.specs.Record.{record_cmp, record_cmp_total}
+use Rattle.domain_records.specs.Places.{AreInOrder, IsArranged}
+use Rattle.domain_records.proofs.SortedLists.{no_sort}
+use Rattle.domain_records.proofs.Placing.{arranged_sort}
+use Rattle.domain_records.proofs.sort.sort.Goals as goal
+
+pub arrange-requires-clause-seats : goal.arrange-requires-clause-seats
+arrange-requires-clause-seats g c =
+    let up = c.if-are_in_order.ensures refl in
+    rw (c.deref_mut-then-are_in_order.ensures.value, c.deref_mut-then-are_in_order-2.ensures.value, ← c.deref-5.ensures.value, ← c.deref-6.ensures.value) up.inverse
+
+pub arrange-requires-clause-all : goal.arrange-requires-clause-all
+arrange-requires-clause-all g c =
+    let up = c.if-are_in_order.ensures refl in
+    rw (c.deref_mut-then-are_in_order.ensures.value, c.deref_mut.ensures.value, ← c.deref-4.ensures.value, ← c.deref-5.ensures.value) up.all
+
+pub returns-then-are_in_order-clause-ok : goal.returns-then-are_in_order-clause-ok
+returns-then-are_in_order-clause-ok g c =
+    let R = record_cmp g.N.ToName.labels g.D.RecordData.rtype g.D.CanonicalOrd.canonical_cmp in
+    let o = record_cmp_total g.N.ToName.labels g.D.RecordData.rtype g.D.CanonicalOrd.canonical_cmp g.met.D.CanonicalOrd.total in
+    let xs = c.args.records.now.items in
+    let places = c.in_ok-places.places.items in
+    let seats = c.in_ok-seats.seats.items in
+    let ys = c.arrange.new.items in
+    let up : AreInOrder R xs c.in-Some.first.now places seats = rw (c.deref-4.ensures.value, c.deref-5.ensures.value, c.deref-6.ensures.value) at (c.if-are_in_order.ensures refl) in
+    let put : IsArranged xs places ys = rw (c.deref_mut.ensures.value, c.deref_mut-then-are_in_order.ensures.value) at c.arrange.ensures.arranged in
+    let moved : IsPermutation xs ys = rw c.deref_mut.ensures.value at c.arrange.ensures.moved in
+    let m : length ys ≡ c.args.records.now.len = put.many ∙ (rw c.deref_mut.ensures.value at c.deref_mut.ensures.len) in
+    rw (take_at ys _ c.args.records.now.len m) (arranged_sort o xs c.in-Some.first.now places seats up ys put g.S.Sorter.is_stable moved)
+
+pub returns-in_default-clause-ok : goal.returns-in_default-clause-ok
+returns-in_default-clause-ok g c =
+    let o = record_cmp_total g.N.ToName.labels g.D.RecordData.rtype g.D.CanonicalOrd.canonical_cmp g.met.D.CanonicalOrd.total in
+    let xs = c.args.records.now.items in
+    let none : None ≡ slice_get xs 0 = ap option_copied (sym c.in_default.is) ∙ c.first.ensures.value ∙ ap (λ l. slice_get l 0) c.deref.ensures.value in
+    no_sort o g.S.Sorter.is_stable xs none
