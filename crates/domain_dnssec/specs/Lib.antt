@@ -1,5 +1,6 @@
 pub mod AnyOrder
 pub mod AnyOrderNsec3
+pub mod Told
 pub mod ZoneRecords
 pub mod Error
 pub mod ErrorText

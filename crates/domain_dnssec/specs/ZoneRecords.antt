@@ -1,5 +1,5 @@
--- The definitions of `AnyOrder` and `AnyOrderNsec3` for records whose data are `ZoneRecordData`.
-use Rattle.std.specs.Prelude.{List}
+-- The definitions of `AnyOrder`, `AnyOrderNsec3` and `Told` for records whose data are `ZoneRecordData`.
+use Rattle.std.specs.Prelude.{ℕ, List}
 use Rattle.domain_octets.specs.Words.{Octets}
 use Rattle.domain_base.specs.Words.{Name}
 use Rattle.domain_plain.specs.declared.record.Record.{Record}
@@ -10,8 +10,10 @@ use Rattle.domain_nsec.specs.declared.config.GenerateNsecConfig.{GenerateNsecCon
 use Rattle.domain_nsec3.specs.Chain.{HashedLink, ParamRecord}
 use Rattle.domain_nsec3.specs.Config.{ChainConfig}
 use Rattle.domain_nsec3.specs.declared.config.Nsec3ParamTtlMode.{Nsec3ParamTtlMode}
+use Rattle.domain_checker.specs.declared.verdict.Verdict.{Verdict}
 use Rattle.domain_dnssec.specs.AnyOrder as any_order
 use Rattle.domain_dnssec.specs.AnyOrderNsec3 as any_order_nsec3
+use Rattle.domain_dnssec.specs.Told as told
 use Rattle.domain_dnssec.specs.declared.chain.ChainError.{ChainError}
 
 module _ {O N : Type 0} (octets : O → Octets) (labels : N → Name) where
@@ -36,3 +38,7 @@ module _ {O N : Type 0} (octets : O → Octets) (labels : N → Name) where
       → ChainError → Type 0
   HasNoHashedChain =
       any_order_nsec3.HasNoHashedChain labels rtype_of minimum_of (data_cmp octets labels)
+
+  abbrev pub IsSaidOf : List (Record N (ZoneRecordData O N)) → Name → GenerateNsecConfig
+      → Name → ℕ → Verdict → Type 0
+  IsSaidOf = told.IsSaidOf labels rtype_of minimum_of (data_cmp octets labels)

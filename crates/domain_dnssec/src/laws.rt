@@ -1,18 +1,25 @@
 //! What callers may take from names, chains and sorting. A caller calls the law in its body.
-ghost use Rattle.std.specs.Prelude.{◌≡◌, ◌↔◌, ℕ, Bool, true, Contains, List, Some};
+ghost use Rattle.std.specs.Prelude.{◌≡◌, ◌↔◌, ℕ, ◌<◌, All, Bool, false, true, Contains, List, Some};
 ghost use Rattle.domain_plain.specs.declared.record.Record.{Record};
 ghost use Rattle.domain_base.specs.Words.{Name};
 ghost use Rattle.domain_records.specs.Order.{IsOneClass};
+ghost use Rattle.domain_checker.specs.Verdict.{IsProved};
+ghost use Rattle.domain_checker.specs.declared.verdict.Verdict.{Verdict};
+ghost use Rattle.domain_nsec.specs.Chain.{Link};
+ghost use Rattle.domain_nsec.specs.declared.config.GenerateNsecConfig.{GenerateNsecConfig};
 ghost use Rattle.domain_zone.specs.Soa.{is_soa, numbers_of, soa_of};
-ghost use Rattle.domain_zone.specs.Zone.{ZoneRecord, has_clash, has_type, is_unoccluded, owns, records_of};
+ghost use Rattle.domain_zone.specs.Zone.{OwnersNeverDescend, ZoneRecord, has_clash, has_type, is_unoccluded, owns, records_of};
 ghost use Rattle.domain_zone.specs.declared.soa.ApexSoa.{ApexSoa};
 ghost use Rattle.domain_zone.specs.View.{zone_of};
-ghost use Rattle.domain_dnssec.specs.AnyOrder.{Sorts};
+ghost use Rattle.domain_dnssec.specs.AnyOrder.{IsChainOf, Sorts};
+ghost use Rattle.domain_dnssec.specs.Told.{IsProvedOf, IsSaidOf};
 
 use domain_base::{CanonicalOrd, ToName};
+use domain_checker::laws::whole_chains_prove_all;
 pub use domain_nsec::laws::{chains_mean_the_zone, types_ignore_case};
 use domain_plain::ZoneData;
-pub use domain_zone::laws::covering_ignores_case;
+use domain_records::laws::sorted_records_are_in_order;
+pub use domain_zone::laws::{covering_ignores_case, owners_never_descend};
 
 /// The sorted set of records has the owners of the list that was put in, each with the same types,
 /// and the same of them are not occluded: of equal records one stays.
@@ -51,3 +58,36 @@ pub fn sorting_keeps_classes_and_records<N: ToName, D: ZoneData + CanonicalOrd>(
         → (n : Name) → has_clash (records_of (zone_of N.labels D.rtype D.minimum sorted) n) ≡ true
         → has_clash (records_of (zone_of N.labels D.rtype D.minimum given) n) ≡ true }
 {}
+
+/// The zone of sorted records of one class has owners that never descend, as the theorems on chains
+/// and verdicts ask.
+pub fn sorted_owners_never_descend<N: ToName, D: ZoneData + CanonicalOrd>()
+    ensures { (given sorted : List (Record N D))
+        → Sorts N.labels D.rtype D.canonical_cmp given sorted → IsOneClass sorted
+        → OwnersNeverDescend (zone_of N.labels D.rtype D.minimum sorted) }
+{
+    sorted_records_are_in_order::<N, D>();
+    owners_never_descend::<N, D>();
+}
+
+/// What a verdict over records of a chain tells of the records that the chain was made of, in
+/// whatever order they were handed in: what is proved of their zone, and of the whole chain what
+/// the zone says.
+pub fn verdicts_tell_of_records<N: ToName, D: ZoneData + CanonicalOrd>()
+    ensures some { (given : List (Record N D)) (apex : Name) (config : GenerateNsecConfig)
+        (links listed : List Link) (x : Name) (t : ℕ) (verdict : Verdict)
+        → config.occlude_below_dname ≡ false
+        → IsChainOf N.labels D.rtype D.minimum D.canonical_cmp given apex config links
+        → All (Contains links) listed → IsProved listed apex x t verdict
+        → IsProvedOf N.labels D.rtype D.minimum D.canonical_cmp given apex config listed x t
+        verdict }
+    ensures all { (given : List (Record N D)) (apex : Name) (config : GenerateNsecConfig)
+        (links : List Link) (x : Name) (t : ℕ) (verdict : Verdict)
+        → config.occlude_below_dname ≡ false
+        → IsChainOf N.labels D.rtype D.minimum D.canonical_cmp given apex config links
+        → IsProved links apex x t verdict
+        → IsSaidOf N.labels D.rtype D.minimum D.canonical_cmp given apex config x t verdict }
+{
+    sorted_owners_never_descend::<N, D>();
+    whole_chains_prove_all();
+}

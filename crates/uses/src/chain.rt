@@ -12,7 +12,7 @@ use std::fmt::Write;
 type NsecRecord = Record<ZoneName, Nsec<Vec<u8>, ZoneName>>;
 
 /// The NSEC chain of a zone whose records are handed over in any order.
-fn chain(
+pub fn chain(
     alloc: Global,
     apex: &ZoneName,
     records: Vec<ZoneRecord>,

@@ -1,4 +1,4 @@
-//! Seven uses of the library, each a proved function that calls it, with what it prints.
+//! Eight uses of the library, each a proved function that calls it, with what it prints.
 //!
 //! `docs/GUIDE.md` quotes them. A program names `domain_dnssec` first, which hands on what its own
 //! signatures name.
@@ -9,6 +9,7 @@ mod chain;
 mod hashed;
 mod key;
 mod line;
+mod said;
 mod sorted;
 mod verdict;
 mod zone;
@@ -23,6 +24,7 @@ fn report(alloc: Global) -> Result<String, Error> {
     chain::show(alloc, &mut text)?;
     hashed::show(alloc, &mut text)?;
     verdict::show(alloc, &mut text)?;
+    said::show(alloc, &mut text)?;
     bitmap::show(alloc, &mut text)?;
     line::show(alloc, &mut text)?;
     sorted::show(alloc, &mut text)?;
