@@ -12,15 +12,16 @@ use Rattle.domain_bitmap.specs.Blocks.{types_of}
 use Rattle.domain_bitmap.specs.Text.{types_text}
 use Rattle.domain_chain_rdata.specs.Nsec3Text.{nsec3_text}
 use Rattle.domain_chain_rdata.specs.Nsec3paramText.{nsec3param_text}
-use Rattle.domain_chain_rdata.specs.Rdata.{nsec3_values, nsec3param_values}
+use Rattle.domain_chain_rdata.specs.Rdata.{nsec3param_values}
 use Rattle.domain_base.specs.Words.{Name}
 use Rattle.domain_chain_rdata.specs.declared.nsec.Nsec.{Nsec}
-use Rattle.domain_chain_rdata.specs.declared.nsec3.Nsec3.{Nsec3}
 use Rattle.domain_plain.specs.declared.record.Record.{Record}
 use Rattle.domain_nsec.specs.ChainView.{as_link}
-use Rattle.domain_nsec3.specs.View.{as_hashed_link, as_param_record}
+use Rattle.domain_nsec3.specs.Chain.{HashedLink}
+use Rattle.domain_nsec3.specs.Text.{link_text}
+use Rattle.domain_nsec3.specs.View.{as_param_record}
 use Rattle.denial_program.specs.Check.{ParamRecord}
-use Rattle.denial_program.specs.Text.{lines_of, nsec_line, nsec3_line, nsec3param_line}
+use Rattle.denial_program.specs.Text.{lines_of, link_values, nsec_line, nsec3_line, nsec3param_line}
 
 pub appends_more : (a b c : Option Octets) (t u : Octets) → Appends a b t → Appends b c u → Appends a c (t ++ u)
 appends_more None b c t u h k = tt
@@ -42,12 +43,10 @@ nsec_printed r =
     ap (λ t. t ++ codes "\n")
     (parts_of_line (name_text r.owner) (decimal r.ttl) (class_text r.class) (type_text nsec) ((name_text r.«data».next_name ++ codes ". ") ++ types_text (types_of r.«data».types)))
 
--- so is that of a link of hashes
-pub nsec3_printed : {O : Type 0} (r : Record Name (Nsec3 O))
-    → (name_text r.owner ++ codes ".") ++ (codes " " ++ (decimal r.ttl ++ (codes " " ++ (class_text r.class ++ (codes " " ++ (type_text nsec3 ++ (codes " " ++ nsec3_text (nsec3_values r.«data»)))))))) ++ codes "\n"
-    ≡ nsec3_line (as_hashed_link (λ n. n) r) ++ codes "\n"
-nsec3_printed r =
-    ap (λ t. t ++ codes "\n") (parts_of_line (name_text r.owner) (decimal r.ttl) (class_text r.class) (type_text nsec3) (nsec3_text (nsec3_values r.«data»)))
+-- so is a link of hashes
+pub nsec3_printed : (k : HashedLink) → link_text k ++ codes "\n" ≡ nsec3_line k ++ codes "\n"
+nsec3_printed k =
+    ap (λ t. t ++ codes "\n") (parts_of_line (name_text k.owner) (decimal k.ttl) (class_text k.class) (type_text nsec3) (nsec3_text (link_values k)))
 
 -- one more line
 pub lines_more : {T : Type 0} (text : T → Octets) (items : List T) (i : ℕ) (d : T) → i < length items → lines_of text (take (i + 1) items) ≡ lines_of text (take i items) ++ (text (get_or items i d) ++ codes "\n")

@@ -31,8 +31,8 @@ pub use domain_bitmap::{RtypeBitmap, RtypeBitmapBuilder, RtypeBitmaps};
 pub use domain_checker::{NsecCheck, Verdict, check_nsec, check_nsec3};
 pub use domain_nsec::{GenerateNsecConfig, LentNsec, NsecChain, generate_nsecs};
 pub use domain_nsec3::{
-    GenerateNsec3Config, LentNsec3, Nsec3Chain, Nsec3ParamTtlMode, Nsec3Records, generate_nsec3s,
-    mk_hashed_nsec3_owner_name,
+    GenerateNsec3Config, HashedOwner, LentNsec3, Nsec3Chain, Nsec3ParamTtlMode, Nsec3Records,
+    generate_nsec3s, mk_hashed_nsec3_owner_name,
 };
 pub use domain_octets::{
     AppendError, ArrayBuilder, EmptyBuilder, FreezeBuilder, FromBuilder, GrowingBuilder, Octets,

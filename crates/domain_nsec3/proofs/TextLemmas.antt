@@ -1,5 +1,5 @@
 -- The text of a hash as a label.
-use Rattle.std.proofs.Common.{◌≡◌, ℕ, ◌+◌, ◌*◌, ◌/◌, ◌%◌, ◌<◌, ◌≤◌, List, [], ◌∷◌, ◌++◌, map, length, refl, inl, inr, sym, ap, ◌∙◌, subst, arith, length-append, get_or, set, take, Fits, w8}
+use Rattle.std.proofs.Common.{◌≡◌, ℕ, ◌+◌, ◌*◌, ◌/◌, ◌%◌, ◌<◌, ◌≤◌, List, [], ◌∷◌, ◌++◌, map, length, refl, inl, inr, sym, ap, ◌∙◌, subst, arith, length-append, get_or, set, take, Fits, w8, zero, suc, append_assoc}
 use Rattle.std.specs.Prelude.{All, Some, None, Ok, nat_lt, ◌==◌, ◌||◌, true, false, if◌then◌else◌}
 use Rattle.std.specs.Char.{to_ascii_lowercase}
 use Rattle.std.specs.List.{AllByRecursion}
@@ -9,7 +9,11 @@ use Rattle.std.proofs.lemmas.List.Elements.{recursion_from_All, All-from_recursi
 use Rattle.std.proofs.lemmas.List.{length-map, get_or_default}
 use Rattle.domain_octets.specs.Base32.{base32_from, base32_lower, lower_digit}
 use Rattle.domain_base.specs.Name.{wire_of, IsName}
+use Rattle.domain_base.specs.Text.{is_ordinary, label_text, name_text}
 use Rattle.domain_base.specs.Wire.{labels_of, IsWire}
+use Rattle.domain_base.proofs.TextLemmas.{ordinary_octet}
+use Rattle.std.specs.Str.{IsAscii}
+use Rattle.std.proofs.lemmas.List.{append-nil}
 use Rattle.domain_base.proofs.WireLemmas.{IsWire-wire_of, labels_of-wire_of, wire_is}
 use Rattle.domain_base.specs.Words.{Name}
 use Rattle.domain_records.specs.declared.error.Nsec3HashError.TheVariants.{OwnerHashError, Nsec3NameTooLong}
@@ -65,7 +69,7 @@ mutual
   least_16 rest (o ∷ h) = let more = least_4 ((256 * rest + o) % 128 % 4) h in omega arith
 
 -- how many digits a hash has
-text_length : (h : List ℕ) → length (base32_lower h) ≡ (8 * length h + 4) / 5
+pub text_length : (h : List ℕ) → length (base32_lower h) ≡ (8 * length h + 4) / 5
 text_length h = omega (arith, length-map (base32_from 1 0 h) lower_digit, least_1 0 h, digits_1 0 h)
 
 -- each digit has five bits
@@ -116,6 +120,49 @@ text_octets h all = All-from_recursion (λ o. o < 256) (base32_lower h) (digits_
 
 pub lower_text : (h : List ℕ) → All (λ o. o < 256) h → map to_ascii_lowercase (base32_lower h) ≡ base32_lower h
 lower_text h all = digits_lower (base32_from 1 0 h) (small_1 0 h (omega arith) (recursion_from_All (λ o. o < 256) h all))
+
+-- ---- the text of a hash within that of a name
+
+-- a digit stands for itself
+digit_ordinary : (d : ℕ) → d < 32 → is_ordinary (lower_digit d) ≡ true
+digit_ordinary d b =
+    elim (cases_Bool (nat_lt d 10)) [
+      | inl e ↦ rw e (grind (arith, nat_tests))
+      | inr e ↦ rw e (grind (arith, nat_tests))
+    ]
+
+digits_text : (ds : List ℕ) → AllByRecursion (λ d. d < 32) ds → label_text (map lower_digit ds) ≡ map lower_digit ds
+digits_text [] all = refl
+digits_text (d ∷ ds) all =
+    ap (λ l. l ++ label_text (map lower_digit ds)) (ordinary_octet (lower_digit d) (digit_ordinary d all.0))
+    ∙ ap (λ l. lower_digit d ∷ l) (digits_text ds all.1)
+
+hash_text : (h : List ℕ) → All (λ o. o < 256) h → label_text (base32_lower h) ≡ base32_lower h
+hash_text h all = digits_text (base32_from 1 0 h) (small_1 0 h (omega arith) (recursion_from_All (λ o. o < 256) h all))
+
+digit_ascii : (d : ℕ) → d < 32 → lower_digit d < 128
+digit_ascii d b = elim (nat_lt d 10) as (λ t. (if t then 48 + d else 87 + d) < 128) [ true ↦ omega arith | false ↦ omega arith ]
+
+digits_ascii : (ds : List ℕ) → AllByRecursion (λ d. d < 32) ds → (i : ℕ) → get_or (map lower_digit ds) i 0 < 128
+digits_ascii [] all i = omega arith
+digits_ascii (d ∷ ds) all zero = digit_ascii d all.0
+digits_ascii (d ∷ ds) all (suc i) = digits_ascii ds all.1 i
+
+pub ascii_text : (h : List ℕ) → All (λ o. o < 256) h → IsAscii (base32_lower h)
+ascii_text h all = digits_ascii (base32_from 1 0 h) (small_1 0 h (omega arith) (recursion_from_All (λ o. o < 256) h all))
+
+-- the text of the owner of a record, with its last dot: right below the root, and elsewhere
+pub owner_at_root : (a : Name) (h : List ℕ) → All (λ o. o < 256) h → a ≡ [] → base32_lower h ++ 46 ∷ [] ≡ name_text (hashed_owner a h) ++ 46 ∷ []
+owner_at_root a h all root =
+    subst (λ (n : Name). base32_lower h ++ 46 ∷ [] ≡ name_text (hashed_owner n h) ++ 46 ∷ []) (sym root)
+    (ap (λ t. t ++ 46 ∷ []) (sym (append-nil (label_text (base32_lower h)) ∙ hash_text h all)))
+
+pub owner_below : (a : Name) (h : List ℕ) → All (λ o. o < 256) h → (a ≡ [] → ⊥)
+    → base32_lower h ++ 46 ∷ (name_text a ++ 46 ∷ []) ≡ name_text (hashed_owner a h) ++ 46 ∷ []
+owner_below [] h all some = absurd (some refl)
+owner_below (l ∷ ls) h all some =
+    ap (λ t. t ++ 46 ∷ (name_text (l ∷ ls) ++ 46 ∷ [])) (sym (hash_text h all))
+    ∙ sym (append_assoc (label_text (base32_lower h)) (46 ∷ name_text (l ∷ ls)) (46 ∷ []))
 
 -- ---- when a hash is of use
 

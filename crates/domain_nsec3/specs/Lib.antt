@@ -4,6 +4,7 @@ pub mod Chain
 pub mod Faults
 pub mod Meaning
 pub mod View
+pub mod Text
 pub mod Ancestors
 pub mod Steps
 pub mod StepView

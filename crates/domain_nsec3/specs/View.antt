@@ -36,17 +36,21 @@ config_of answer config =
       occlude_below_dname = config.occlude_below_dname;
     }
 
-abbrev pub as_hashed_link : {O N : Type 0} → (N → Name) → Record N (Nsec3 O) → HashedLink
-as_hashed_link labels r =
+-- the link of data at an owner, of a class and with a TTL
+abbrev pub link_with : {O : Type 0} → Name → ℕ → ℕ → Nsec3 O → HashedLink
+link_with owner class ttl d =
     record {
-      owner = labels r.owner;
-      next = r.«data».next_owner;
-      class = r.class;
-      ttl = r.ttl;
-      parameters = parameters_in r.«data»;
-      flags = r.«data».flags;
-      bits = r.«data».types;
+      owner = owner;
+      next = d.next_owner;
+      class = class;
+      ttl = ttl;
+      parameters = parameters_in d;
+      flags = d.flags;
+      bits = d.types;
     }
+
+abbrev pub as_hashed_link : {O N : Type 0} → (N → Name) → Record N (Nsec3 O) → HashedLink
+as_hashed_link labels r = link_with (labels r.owner) r.class r.ttl r.«data»
 
 abbrev pub hashed_links_of : {O N : Type 0} → (N → Name) → List (Record N (Nsec3 O))
     → List HashedLink

@@ -3,7 +3,7 @@ ghost use Rattle.std.specs.Prelude.{◌≡◌, IfOk};
 ghost use Rattle.domain_nsec3.specs.View.{as_hashed_link, as_param_record, parameters_in};
 
 use crate::lent::LentNsec3;
-use domain_base::{MakeName, ParsedName, ToName};
+use domain_base::{Class, MakeName, ParsedName, ToName};
 use domain_chain_rdata::{Nsec3, Nsec3param};
 use domain_octets::{
     EmptyBuilder, FromBuilder, GrowingBuilder, Octets, OctetsBuilder, OutOfMemory,
@@ -54,12 +54,11 @@ where
     O: Drop,
     N: Drop,
     O::Builder: GrowingBuilder + EmptyBuilder + Drop,
-    ensures { IfOk result (λ made. as_hashed_link N.labels made
-        ≡ as_hashed_link (λ n. n) lent.now) }
+    ensures { IfOk result (λ made. as_hashed_link N.labels made ≡ lent.now) }
 {
-    let owner = N::make(alloc, lent.owner().as_wire())?;
+    let owner = lent.owner().make(alloc)?;
     let data = copy_data(alloc, lent.data())?;
-    Ok(Record::new(owner, lent.class(), lent.ttl(), data))
+    Ok(Record::new(owner, Class::IN, lent.ttl(), data))
 }
 
 /// A copy of the record of parameters.

@@ -22,7 +22,7 @@ use domain_zone::{MAX_NAME, Nsec3Hasher, hash_wire, lower_wire};
 use std::alloc::Global;
 
 /// The greatest length of a label.
-const MAX_LABEL: usize = 63;
+pub(crate) const MAX_LABEL: usize = 63;
 
 /// A name of a chain: its hash, and its place among the names as they were hashed.
 #[derive(Drop)]
@@ -137,7 +137,7 @@ pub(crate) fn write_owner<'a>(buffer: &'a mut [u8], apex: &ParsedName<'_>, hash:
 }
 
 /// The owner of the record of a hash.
-fn make_owner<N: MakeName>(
+pub(crate) fn make_owner<N: MakeName>(
     alloc: Global,
     apex: &ParsedName<'_>,
     hash: &[u8],

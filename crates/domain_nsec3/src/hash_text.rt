@@ -1,9 +1,11 @@
 //! The text of a hash, written without memory.
 ghost use Rattle.std.specs.Prelude.{◌≡◌, ◌≤◌, length};
+ghost use Rattle.std.specs.Fmt.{WritesOnOk};
 ghost use Rattle.domain_octets.specs.Base32.{base32_lower};
 
-use crate::hash::put_octets;
+use crate::hash::{MAX_LABEL, put_octets};
 use domain_octets::base32::Digits;
+use std::fmt;
 
 /// Writes the text of a hash in lower case to the front of a buffer.
 pub(crate) fn write_hash<'a>(buffer: &'a mut [u8], hash: &[u8]) -> &'a [u8]
@@ -16,4 +18,14 @@ pub(crate) fn write_hash<'a>(buffer: &'a mut [u8], hash: &[u8]) -> &'a [u8]
         end = put_octets(buffer, end, &[digit]);
     }
     &buffer[..end]
+}
+
+/// Prints the text of a hash in lower case.
+pub(crate) fn display_hash<W: fmt::Write>(hash: &[u8], f: &mut fmt::Formatter<W>) -> fmt::Result
+    requires { length hash.now ≤ 39 }
+    ensures { WritesOnOk W.write_str_gives f.old result (base32_lower hash.now) f.new }
+{
+    let mut buffer = [0; MAX_LABEL];
+    let text = write_hash(&mut buffer, hash);
+    f.write_str(unsafe { str::from_utf8_unchecked(text) })
 }

@@ -14,6 +14,7 @@ mod copy;
 mod empty;
 mod hash;
 mod hash_text;
+mod hashed_owner;
 pub mod laws;
 mod lent;
 mod name_hash;
@@ -24,6 +25,7 @@ mod types;
 
 pub use config::{GenerateNsec3Config, Nsec3ParamTtlMode};
 pub use hash::mk_hashed_nsec3_owner_name;
+pub use hashed_owner::HashedOwner;
 pub use lent::LentNsec3;
 pub use nsec3::{Nsec3Records, generate_nsec3s};
 pub use nsec3_chain::Nsec3Chain;

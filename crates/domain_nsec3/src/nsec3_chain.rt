@@ -6,7 +6,7 @@ ghost use Rattle.domain_zone.specs.View.{zone_of};
 ghost use Rattle.domain_nsec3.specs.Chain.{HashedLink, IsChainParam, IsHashedChain, param_ttl};
 ghost use Rattle.domain_nsec3.specs.Faults.{IsFaultless, IsFirstFault};
 ghost use Rattle.domain_nsec3.specs.StepView.{common_of, links_in, AreUsable};
-ghost use Rattle.domain_nsec3.specs.View.{as_hashed_link, as_param_record, config_of, hashed_links_of, parameters_of};
+ghost use Rattle.domain_nsec3.specs.View.{as_param_record, config_of, hashed_links_of, parameters_of};
 
 use crate::GenerateNsec3Config;
 use crate::chain::{HashedChain, chain_of_zone};
@@ -157,7 +157,7 @@ impl<'a, O: Octets> Nsec3Chain<'a, O> {
     /// last one. Takes no memory.
     pub fn lend(&self, place: usize) -> Option<LentNsec3<'_>>
         ensures some { IfSome result (λ made. (d : HashedLink)
-            → as_hashed_link (λ n. n) made ≡ slice_index_or self.now.links place d) }
+            → made ≡ slice_index_or self.now.links place d) }
         ensures none { IfNone result (length self.now.links ≤ place) }
     {
         if place >= self.len() {

@@ -1,13 +1,12 @@
 use Rattle.std.proofs.Common.{◌++◌, codes, take, sym, ap, ◌∙◌, subst, arith}
 use Rattle.std.specs.Io.KnownBytes.{Appends}
-use Rattle.domain_nsec3.specs.View.{as_hashed_link}
 use Rattle.denial_program.specs.Text.{lines_of, nsec3_line}
 use Rattle.denial_program.proofs.RunLemmas.{appends_more, lines_more, nsec3_printed}
 use Rattle.denial_program.proofs.answer.write_chain.Goals as goal
 
 pub loop-place-preserved : goal.loop-place-preserved
 loop-place-preserved g c =
-    let link = as_hashed_link (λ n. n) c.in-Some.nsec3 in
+    let link = c.in-Some.nsec3 in
     let more = lines_more nsec3_line c.args.chain.now.links c.loop-place.place link (omega arith) in
     let line = nsec3_printed c.in-Some.nsec3 ∙ ap (λ k. nsec3_line k ++ codes "\n") (c.in-Some.ensures.some link) in
     subst (Appends (g.W.Write.contents c.args.output.now) (g.W.Write.contents c.writeln.new.self)) (sym more)
