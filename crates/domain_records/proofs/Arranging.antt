@@ -19,7 +19,12 @@ pub record IsArranging {X : Type 0} (xs : List X) (from : List ℕ) (ys : List X
   pub moved : IsPermutation xs ys
 
 flip : (s t : List ℕ) → AreSeats s t → AreSeats t s
-flip s t h = let n = h.many in record { many = sym n; place = λ k lt. let a = h.seat k (omega arith) in (omega (arith, a.0), a.1); seat = λ k lt. let a = h.place k (omega arith) in (omega (arith, a.0), a.1) }
+flip s t h =
+    let n = h.many in record {
+      many = sym n;
+      place = λ k lt. let a = h.seat k (omega arith) in (omega (arith, a.0), a.1);
+      seat = λ k lt. let a = h.place k (omega arith) in (omega (arith, a.0), a.1);
+    }
 
 module _ (s t : List ℕ) (i : ℕ) (h : AreSeats s t) (lt : i < length s) where
   abbrev p : ℕ
@@ -29,7 +34,8 @@ module _ (s t : List ℕ) (i : ℕ) (h : AreSeats s t) (lt : i < length s) where
   o = get_or t i 0
 
   -- an exchange of what stands at i and p, and of the places of their seats i and o
-  turned : {Y : Type 0} (ys : List Y) (k : ℕ) (d : Y) → length ys ≡ length s → k < length s → get_or (swap ys i p) (get_or (swap s i o) k 0) d ≡ get_or ys (get_or s k 0) d
+  turned : {Y : Type 0} (ys : List Y) (k : ℕ) (d : Y) → length ys ≡ length s → k < length s
+      → get_or (swap ys i p) (get_or (swap s i o) k 0) d ≡ get_or ys (get_or s k 0) d
   turned ys k d n below =
       let w = swap ys i p in
       let v = swap s i o in
@@ -41,7 +47,8 @@ module _ (s t : List ℕ) (i : ℕ) (h : AreSeats s t) (lt : i < length s) where
         | inl e ↦ ap (λ q. get_or w (get_or v q 0) d) e ∙ ap (λ q. get_or w q d) (a.0 ∙ back.1) ∙ b.0 ∙ ap (λ q. get_or ys (get_or s q 0) d) (sym e)
         | inr e ↦
             elim (cases_eq k o) [
-              | inl f ↦ ap (λ q. get_or w (get_or v q 0) d) f ∙ ap (λ q. get_or w q d) a.1 ∙ b.1 ∙ ap (λ q. get_or ys q d) (sym back.1 ∙ ap (λ q. get_or s q 0) (sym f))
+              | inl f ↦ ap (λ q. get_or w (get_or v q 0) d) f ∙ ap (λ q. get_or w q d) a.1 ∙ b.1
+                  ∙ ap (λ q. get_or ys q d) (sym back.1 ∙ ap (λ q. get_or s q 0) (sym f))
               | inr f ↦
                   let seat = sym (h.place k below).1 in
                   ap (λ q. get_or w q d) (a.2 k e f)
@@ -53,7 +60,8 @@ module _ (s t : List ℕ) (i : ℕ) (h : AreSeats s t) (lt : i < length s) where
   half k below =
       let v = swap s i o in
       let n = length-swap s i o in
-      let all = All-permutation (λ q. q < length s) s v (IsPermutation-swap s v i o lt (h.seat i lt).0 refl) (All-from_get_or (λ q. q < length s) s 0 (λ j less. (h.place j less).0)) in
+      let all = All-permutation (λ q. q < length s) s v (IsPermutation-swap s v i o lt (h.seat i lt).0 refl)
+      (All-from_get_or (λ q. q < length s) s 0 (λ j less. (h.place j less).0)) in
       let here : get_or v k 0 < length s = All-get_or (λ q. q < length s) v k 0 below all in
       (omega arith, turned t k 0 h.many (omega arith) ∙ (h.place k (omega arith)).1)
 
@@ -81,8 +89,10 @@ module _ {X : Type 0} (xs : List X) (from : List ℕ) (ys : List X) (s t : List 
         places = length-swap s i (get_or t i 0) ∙ h.places;
         seats = seats_next s t i h.seats in_s;
         done = below_more (λ k. get_or v k 0 ≡ k) i
-            (λ k less. a.2 k (λ e. absurd (omega arith)) (λ e. absurd (let is : get_or s k 0 ≡ i = ap (λ q. get_or s q 0) e ∙ back.1 in let stays = h.done k less in omega arith)) ∙ h.done k less)
+            (λ k less. a.2 k (λ e. absurd (omega arith))
+            (λ e. absurd (let is : get_or s k 0 ≡ i = ap (λ q. get_or s q 0) e ∙ back.1 in let stays = h.done k less in omega arith)) ∙ h.done k less)
             (a.0 ∙ back.1);
         same = λ k d less. turned s t i h.seats in_s ys k d (omega arith) (omega arith) ∙ h.same k d less;
-        moved = IsPermutation-trans xs ys (swap ys i (get_or s i 0)) h.moved (IsPermutation-swap ys (swap ys i (get_or s i 0)) i (get_or s i 0) (omega arith) (omega (arith, there.0)) refl);
+        moved = IsPermutation-trans xs ys (swap ys i (get_or s i 0)) h.moved
+            (IsPermutation-swap ys (swap ys i (get_or s i 0)) i (get_or s i 0) (omega arith) (omega (arith, there.0)) refl);
       }

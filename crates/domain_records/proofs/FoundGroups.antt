@@ -1,5 +1,6 @@
 -- The first group that begins with an element of some kind.
-use Rattle.std.proofs.Common.{◌≡◌, ℕ, zero, suc, Bool, true, false, cond, ◌&&◌, eqb, List, [], ◌∷◌, find, Option, Some, None, Result, Ok, Err, refl, sym, ◌∙◌, ap, subst, arith}
+use Rattle.std.proofs.Common.{◌≡◌, ℕ, zero, suc, Bool, true, false, cond, ◌&&◌, eqb, List, [], ◌∷◌}
+use Rattle.std.proofs.Common.{find, Option, Some, None, Result, Ok, Err, refl, sym, ◌∙◌, ap, subst, arith}
 use Rattle.std.specs.Option.{option_transpose}
 use Rattle.std.proofs.lemmas.Bool.{eqb-true}
 use Rattle.domain_base.specs.Name.{same_name}
@@ -13,9 +14,11 @@ use Rattle.domain_records.specs.Runs.{runs, add_to}
 use Rattle.domain_records.proofs.Runs.{begins, runs_nil}
 
 module _ {X : Type 0} (same : X → X → Bool) (p : X → Bool) (alike : (x y : X) → same x y ≡ true → p x ≡ p y) where
-  passed_step : (x y : X) (ys : List X) (gs : List (List X)) (b : Bool) → same x y ≡ b → p x ≡ false → find (begins_with p) (cond b ((x ∷ y ∷ ys) ∷ gs) ((x ∷ []) ∷ (y ∷ ys) ∷ gs)) ≡ find (begins_with p) ((y ∷ ys) ∷ gs)
+  passed_step : (x y : X) (ys : List X) (gs : List (List X)) (b : Bool) → same x y ≡ b → p x ≡ false
+      → find (begins_with p) (cond b ((x ∷ y ∷ ys) ∷ gs) ((x ∷ []) ∷ (y ∷ ys) ∷ gs)) ≡ find (begins_with p) ((y ∷ ys) ∷ gs)
   passed_step x y ys gs true is h =
-      ap (λ c. cond c (Some (x ∷ y ∷ ys)) (find (begins_with p) gs)) h ∙ sym (ap (λ c. cond c (Some (y ∷ ys)) (find (begins_with p) gs)) (sym (alike x y is) ∙ h))
+      ap (λ c. cond c (Some (x ∷ y ∷ ys)) (find (begins_with p) gs)) h
+      ∙ sym (ap (λ c. cond c (Some (y ∷ ys)) (find (begins_with p) gs)) (sym (alike x y is) ∙ h))
   passed_step x y ys gs false is h = ap (λ c. cond c (Some (x ∷ [])) (find (begins_with p) ((y ∷ ys) ∷ gs))) h
 
   passed : (x : X) (gs : List (List X)) → p x ≡ false → find (begins_with p) (add_to same x gs) ≡ find (begins_with p) gs
@@ -39,19 +42,24 @@ module _ {X : Type 0} (same : X → X → Bool) (p : X → Bool) (alike : (x y :
       passed x (runs same xs) (h.2 0 x (omega arith)) ∙ found_group xs (Some i) (let lt = h.0 in omega arith, λ d. h.1 d, λ k d lt. h.2 (suc k) d (omega arith))
 
 module _ {N D : Type 0} (same : Record N D → Record N D → Bool) (rtype : D → ℕ) where
-  taken_some : (item : Result (List (Record N D)) SigningError) (group : List (Record N D)) → IsRrsetOf rtype group item → IsFound rtype (Some group) (option_transpose (Some item))
+  taken_some : (item : Result (List (Record N D)) SigningError) (group : List (Record N D)) → IsRrsetOf rtype group item
+      → IsFound rtype (Some group) (option_transpose (Some item))
   taken_some (Ok set) group h = (ap Some h.0, h.1)
   taken_some (Err e) group h = h
 
   -- what stands at the place of the first record that passes the test is the first group that begins with one
-  pub found_by : (p : Record N D → Bool) → ((r s : Record N D) → same r s ≡ true → p r ≡ p s) → (records : List (Record N D)) (place : Option ℕ) (found : Result (Option (List (Record N D))) SigningError)
+  pub found_by : (p : Record N D → Bool) → ((r s : Record N D) → same r s ≡ true → p r ≡ p s)
+      → (records : List (Record N D)) (place : Option ℕ) (found : Result (Option (List (Record N D))) SigningError)
       → IsFirstPlace p records place → IsFound rtype (group_at same records place) found → IsFound rtype (find (begins_with p) (runs same records)) found
-  found_by p alike records place found first h = subst (λ (group : Option (List (Record N D))). IsFound rtype group found) (sym (found_group same p alike records place first)) h
+  found_by p alike records place found first h = subst (λ (group : Option (List (Record N D))). IsFound rtype group found)
+      (sym (found_group same p alike records place first)) h
 
   -- the first call of `next` finds the first group
-  pub taken_group : (s : List (Record N D)) (r : Option (Result (List (Record N D)) SigningError)) (t : List (Record N D)) → TakesRrset same rtype s r t → IsFound rtype (first_group (runs same s)) (option_transpose r)
+  pub taken_group : (s : List (Record N D)) (r : Option (Result (List (Record N D)) SigningError)) (t : List (Record N D))
+      → TakesRrset same rtype s r t → IsFound rtype (first_group (runs same s)) (option_transpose r)
   taken_group s None t h = subst (λ (gs : List (List (Record N D))). IsFound rtype (first_group gs) (Ok None)) (sym (runs_nil same s h.0)) refl
-  taken_group s (Some item) t h = subst (λ (gs : List (List (Record N D))). IsFound rtype (first_group gs) (option_transpose (Some item))) (sym h.2) (taken_some item h.0 h.3)
+  taken_group s (Some item) t h = subst (λ (gs : List (List (Record N D))). IsFound rtype (first_group gs) (option_transpose (Some item))) (sym h.2)
+      (taken_some item h.0 h.3)
 
 module _ {N D : Type 0} (labels : N → List (List ℕ)) (rtype : D → ℕ) where
   both : (a b : Bool) → a && b ≡ true → (a ≡ true) × (b ≡ true)
@@ -63,7 +71,8 @@ module _ {N D : Type 0} (labels : N → List (List ℕ)) (rtype : D → ℕ) whe
   types_alike t r s h = ap (λ n. eqb n t) (eqb-true (rtype r.«data») (rtype s.«data») (both (same_owner labels r s) (same_type rtype r s) h).1)
 
   -- and match alike, where no class is asked
-  pub matches_alike : (owner : List (List ℕ)) (type : Option ℕ) (r s : Record N D) → same_rrset labels rtype r s ≡ true → matches labels rtype owner None type r ≡ matches labels rtype owner None type s
+  pub matches_alike : (owner : List (List ℕ)) (type : Option ℕ) (r s : Record N D) → same_rrset labels rtype r s ≡ true
+      → matches labels rtype owner None type r ≡ matches labels rtype owner None type s
   matches_alike owner type r s h =
       let p = both (same_owner labels r s) (same_type rtype r s) h in
       let a = same_name_equiv.congr (labels r.owner) (labels s.owner) owner p.0 in

@@ -13,10 +13,12 @@ use Rattle.domain_base.specs.Order.{canonical_cmp, canonical_cmp_total}
 use Rattle.domain_base.specs.Laws.{same_name_ties}
 use Rattle.domain_plain.specs.declared.record.Record.{Record}
 use Rattle.domain_plain.specs.Record.{record_cmp}
-use Rattle.domain_records.specs.Lookup.{Key, key_cmp, key_of, wanted_key, where_asked, number_asked, is_asked, is_before, matches, HasAt, IsParted, IsFirstPlace}
+use Rattle.domain_records.specs.Lookup.{Key, key_cmp, key_of, wanted_key, where_asked, number_asked}
+use Rattle.domain_records.specs.Lookup.{is_asked, is_before, matches, HasAt, IsParted, IsFirstPlace}
 
 pub key_cmp_total : IsTotalOrder key_cmp
-key_cmp_total = then_total (on_total (λ k. k.class) nat_cmp_total) (then_total (on_total (λ k. k.owner) canonical_cmp_total) (on_total (λ k. k.type) nat_cmp_total))
+key_cmp_total = then_total (on_total (λ k. k.class) nat_cmp_total)
+    (then_total (on_total (λ k. k.owner) canonical_cmp_total) (on_total (λ k. k.type) nat_cmp_total))
 
 module _ {X : Type 0} {R : X → X → Ordering} (o : IsTotalOrder R) where
   less_by : (x y z : X) (r : Ordering) → R x y ≡ r → is_gt r ≡ false → R y z ≡ Less → R x z ≡ Less
@@ -33,11 +35,13 @@ is_less Less h = refl
 is_less Equal h = absurd (cc)
 is_less Greater h = absurd (cc)
 
-asked_step : (type : Option ℕ) (m n : ℕ) → (r : Ordering) → nat_cmp m n ≡ r → is_gt r ≡ false → is_gt (nat_cmp (where_asked type m) (where_asked type n)) ≡ false
+asked_step : (type : Option ℕ) (m n : ℕ) → (r : Ordering) → nat_cmp m n ≡ r → is_gt r ≡ false
+    → is_gt (nat_cmp (where_asked type m) (where_asked type n)) ≡ false
 asked_step None m n r is h = refl
 asked_step (Some t) m n r is h = ap is_gt is ∙ h
 
-class_by : (x y : Key) (a : Ordering) → nat_cmp x.class y.class ≡ a → MatchOrdering a (x.class < y.class) (x.class ≡ y.class) (y.class < x.class) → is_gt (ordering_then a (ordering_then (canonical_cmp x.owner y.owner) (nat_cmp x.type y.type))) ≡ false → x.class ≤ y.class
+class_by : (x y : Key) (a : Ordering) → nat_cmp x.class y.class ≡ a → MatchOrdering a (x.class < y.class) (x.class ≡ y.class) (y.class < x.class)
+    → is_gt (ordering_then a (ordering_then (canonical_cmp x.owner y.owner) (nat_cmp x.type y.type))) ≡ false → x.class ≤ y.class
 class_by x y Less is h k = omega arith
 class_by x y Equal is h k = omega arith
 class_by x y Greater is h k = absurd (cc)
@@ -99,7 +103,8 @@ module _ {N D : Type 0} (labels : N → List (List ℕ)) (rtype : D → ℕ) (ow
       ((Equal-is (canonical_cmp (labels r.owner) owner)).0 (sym (same_name_ties (labels r.owner) owner) ∙ p.0))
       (type_tied type (rtype r.«data») q.1)
 
-  unmatched_before : (r : Record N D) (class : ℕ) → r.class ≡ class → is_before labels rtype class owner type r ≡ true → matches labels rtype owner asked type r ≡ false
+  unmatched_before : (r : Record N D) (class : ℕ) → r.class ≡ class → is_before labels rtype class owner type r ≡ true
+      → matches labels rtype owner asked type r ≡ false
   unmatched_before r class one h =
       unless_true _ (λ m.
       let level : key_cmp (key_of labels rtype type r) (wanted_key class owner type) ≡ Equal = rw (← one) (matched_key r m) in
@@ -107,11 +112,13 @@ module _ {N D : Type 0} (labels : N → List (List ℕ)) (rtype : D → ℕ) (ow
       absurd (cc))
 
   -- r isn't after s, which matches, and not before those that match: then r matches too
-  matched_too : (r s : Record N D) (class : ℕ) → s.class ≡ class → is_gt (key_cmp (key_of labels rtype type r) (key_of labels rtype type s)) ≡ false → is_before labels rtype class owner type r ≡ false → matches labels rtype owner asked type s ≡ true → matches labels rtype owner asked type r ≡ true
+  matched_too : (r s : Record N D) (class : ℕ) → s.class ≡ class → is_gt (key_cmp (key_of labels rtype type r) (key_of labels rtype type s)) ≡ false
+      → is_before labels rtype class owner type r ≡ false → matches labels rtype owner asked type s ≡ true → matches labels rtype owner asked type r ≡ true
   matched_too r s class one up before m =
       let tied : key_cmp (key_of labels rtype type s) (wanted_key class owner type) ≡ Equal = rw (← one) (matched_key s m) in
       let same = alike_right key_cmp_total (key_of labels rtype type s) (wanted_key class owner type) (key_of labels rtype type r) tied in
-      let all = tied_parts (nat_cmp r.class class) (canonical_cmp (labels r.owner) owner) (nat_cmp (where_asked type (rtype r.«data»)) (number_asked type)) (level _ before (ap is_gt (sym same) ∙ up)) in
+      let all = tied_parts (nat_cmp r.class class) (canonical_cmp (labels r.owner) owner)
+      (nat_cmp (where_asked type (rtype r.«data»)) (number_asked type)) (level _ before (ap is_gt (sym same) ∙ up)) in
       let of_s = both (same_name (labels s.owner) owner) _ m in
       let asks = both (is_asked asked s.class) (is_asked type (rtype s.«data»)) of_s.1 in
       let r_class : r.class ≡ s.class = tied_number r.class class all.0 ∙ sym one in
@@ -121,8 +128,10 @@ module _ {N D : Type 0} (labels : N → List (List ℕ)) (rtype : D → ℕ) (ow
       rw (a, b, c) refl
 
 module _ {N D : Type 0} (labels : N → List (List ℕ)) (rtype : D → ℕ) (data_cmp : D → D → Ordering) where
-  rises_by : (type : Option ℕ) (r s : Record N D) (a b c : Ordering) → nat_cmp r.class s.class ≡ a → canonical_cmp (labels r.owner) (labels s.owner) ≡ b → nat_cmp (rtype r.«data») (rtype s.«data») ≡ c
-      → ordering_then a (ordering_then b (ordering_then c (data_cmp r.«data» s.«data»))) ≡ Less → is_gt (ordering_then a (ordering_then b (nat_cmp (where_asked type (rtype r.«data»)) (where_asked type (rtype s.«data»))))) ≡ false
+  rises_by : (type : Option ℕ) (r s : Record N D) (a b c : Ordering) → nat_cmp r.class s.class ≡ a
+      → canonical_cmp (labels r.owner) (labels s.owner) ≡ b → nat_cmp (rtype r.«data») (rtype s.«data») ≡ c
+      → ordering_then a (ordering_then b (ordering_then c (data_cmp r.«data» s.«data»))) ≡ Less
+      → is_gt (ordering_then a (ordering_then b (nat_cmp (where_asked type (rtype r.«data»)) (where_asked type (rtype s.«data»))))) ≡ false
   rises_by type r s Less b c p q t h = refl
   rises_by type r s Equal Less c p q t h = refl
   rises_by type r s Equal Equal Less p q t h = asked_step type _ _ Less t refl
@@ -132,14 +141,18 @@ module _ {N D : Type 0} (labels : N → List (List ℕ)) (rtype : D → ℕ) (da
   rises_by type r s Greater b c p q t h = absurd (cc)
 
   -- the keys of records in canonical order never descend
-  rises : (type : Option ℕ) (r s : Record N D) → record_cmp labels rtype data_cmp r s ≡ Less → is_gt (key_cmp (key_of labels rtype type r) (key_of labels rtype type s)) ≡ false
+  rises : (type : Option ℕ) (r s : Record N D) → record_cmp labels rtype data_cmp r s ≡ Less
+      → is_gt (key_cmp (key_of labels rtype type r) (key_of labels rtype type s)) ≡ false
   rises type r s h = rises_by type r s _ _ _ refl refl refl h
 
   module _ (rs : List (Record N D)) (sorted : IsStrictlySortedBy (record_cmp labels rtype data_cmp) rs) where
-    rises_below : (type : Option ℕ) (i j : ℕ) (d : Record N D) → i < j → j < length rs → is_gt (key_cmp (key_of labels rtype type (get_or rs i d)) (key_of labels rtype type (get_or rs j d))) ≡ false
-    rises_below type i j d lt within = rises type (get_or rs i d) (get_or rs j d) (Less-from_sorted (record_cmp labels rtype data_cmp) rs i j d sorted lt within)
+    rises_below : (type : Option ℕ) (i j : ℕ) (d : Record N D) → i < j → j < length rs
+        → is_gt (key_cmp (key_of labels rtype type (get_or rs i d)) (key_of labels rtype type (get_or rs j d))) ≡ false
+    rises_below type i j d lt within = rises type (get_or rs i d) (get_or rs j d)
+        (Less-from_sorted (record_cmp labels rtype data_cmp) rs i j d sorted lt within)
 
-    pub rises_along : (type : Option ℕ) (i j : ℕ) (d : Record N D) → i ≤ j → j < length rs → is_gt (key_cmp (key_of labels rtype type (get_or rs i d)) (key_of labels rtype type (get_or rs j d))) ≡ false
+    pub rises_along : (type : Option ℕ) (i j : ℕ) (d : Record N D) → i ≤ j → j < length rs
+        → is_gt (key_cmp (key_of labels rtype type (get_or rs i d)) (key_of labels rtype type (get_or rs j d))) ≡ false
     rises_along type i j d le within =
         ⊎_elim (λ lt. rises_below type i j d lt within)
         (λ ge. let same : i ≡ j = omega arith in rw same (ap is_gt (tied_itself key_cmp_total (key_of labels rtype type (get_or rs j d)))))
@@ -147,16 +160,21 @@ module _ {N D : Type 0} (labels : N → List (List ℕ)) (rtype : D → ℕ) (da
 
     pub parted_by_key : (class : ℕ) (owner : List (List ℕ)) (type : Option ℕ) → IsPartitionedBy (is_before labels rtype class owner type) rs
     parted_by_key class owner type i j d le within h =
-        ap is_lt (less_from key_cmp_total (key_of labels rtype type (get_or rs i d)) (key_of labels rtype type (get_or rs j d)) (wanted_key class owner type) (rises_along type i j d le within) (is_less _ h))
+        ap is_lt (less_from key_cmp_total (key_of labels rtype type (get_or rs i d)) (key_of labels rtype type (get_or rs j d))
+        (wanted_key class owner type) (rises_along type i j d le within) (is_less _ h))
 
     pub classes_rise : (i j : ℕ) (d : Record N D) → i ≤ j → j < length rs → (get_or rs i d).class ≤ (get_or rs j d).class
-    classes_rise i j d le within = class_upto (key_of labels rtype None (get_or rs i d)) (key_of labels rtype None (get_or rs j d)) (rises_along None i j d le within)
+    classes_rise i j d le within = class_upto (key_of labels rtype None (get_or rs i d)) (key_of labels rtype None (get_or rs j d))
+        (rises_along None i j d le within)
 
     pub parted_by_class : (class : ℕ) → IsPartitionedBy (λ r. leb r.class class) rs
-    parted_by_class class i j d le within h = le-leb _ _ (let up = classes_rise i j d le within in let down = leb-true (get_or rs j d).class class h in omega arith)
+    parted_by_class class i j d le within h = le-leb _ _
+        (let up = classes_rise i j d le within in let down = leb-true (get_or rs j d).class class h in omega arith)
 
-    module _ (owner : List (List ℕ)) (asked : Option ℕ) (type : Option ℕ) (start : ℕ) (class : ℕ) (here : start < length rs) (is : (d : Record N D) → (get_or rs start d).class ≡ class)
-        (none : (k : ℕ) (d : Record N D) → k < start → matches labels rtype owner asked type (get_or rs k d) ≡ false) (at : ℕ) (parted : IsParted (is_before labels rtype class owner type) rs at) where
+    module _ (owner : List (List ℕ)) (asked : Option ℕ) (type : Option ℕ) (start : ℕ) (class : ℕ) (here : start < length rs)
+        (is : (d : Record N D) → (get_or rs start d).class ≡ class)
+        (none : (k : ℕ) (d : Record N D) → k < start → matches labels rtype owner asked type (get_or rs k d) ≡ false) (at : ℕ)
+        (parted : IsParted (is_before labels rtype class owner type) rs at) where
       before_at : (k : ℕ) (d : Record N D) → k < at → k < length rs → matches labels rtype owner asked type (get_or rs k d) ≡ false
       before_at k d below within =
           ⊎_elim (λ lt. none k d lt)
@@ -173,7 +191,8 @@ module _ {N D : Type 0} (labels : N → List (List ℕ)) (rtype : D → ℕ) (da
       found h = (h.0, h.1, λ k d below. before_at k d below (omega (arith, h.0)))
 
       -- if it doesn't, no record of this class does
-      pub passed : ¬ (HasAt (matches labels rtype owner asked type) rs at) → (end : ℕ) → IsParted (λ r. leb r.class class) rs end → (k : ℕ) (d : Record N D) → k < end → k < length rs → matches labels rtype owner asked type (get_or rs k d) ≡ false
+      pub passed : ¬ (HasAt (matches labels rtype owner asked type) rs at) → (end : ℕ) → IsParted (λ r. leb r.class class) rs end
+          → (k : ℕ) (d : Record N D) → k < end → k < length rs → matches labels rtype owner asked type (get_or rs k d) ≡ false
       passed not_at end ends k d below within =
           ⊎_elim (λ lt. before_at k d lt within)
           (λ ge.
@@ -183,10 +202,16 @@ module _ {N D : Type 0} (labels : N → List (List ℕ)) (rtype : D → ℕ) (da
           let up = classes_rise start k d from within in
           let first = is d in
           let one : (get_or rs k d).class ≡ class = omega arith in
-          unless_true _ (λ m. not_at (omega arith, λ e. matched_too labels rtype owner asked type (get_or rs at e) (get_or rs k e) class (rw (get_or_default rs k e d within) one) (rises_along type at k e ge within) (parted.1 at e (omega arith) (omega arith)) (rw (get_or_default rs k e d within) m))))
+          unless_true _ (λ m. not_at (
+            omega arith,
+            λ e. matched_too labels rtype owner asked type (get_or rs at e) (get_or rs k e) class
+                (rw (get_or_default rs k e d within) one) (rises_along type at k e ge within) (parted.1 at e (omega arith) (omega arith))
+                (rw (get_or_default rs k e d within) m),
+          )))
           (cases_lt k start))
           (cases_lt k at)
 
-    pub class_ends_after : (start class end : ℕ) → start < length rs → (d : Record N D) → (get_or rs start d).class ≡ class → IsParted (λ r. leb r.class class) rs end → start < end
+    pub class_ends_after : (start class end : ℕ) → start < length rs → (d : Record N D) → (get_or rs start d).class ≡ class
+        → IsParted (λ r. leb r.class class) rs end → start < end
     class_ends_after start class end here d is ends =
         ⊎_elim (λ lt. lt) (λ ge. absurd (false≢true (sym (ends.1 start d ge here) ∙ le-leb (get_or rs start d).class class (omega arith)))) (cases_lt start end)

@@ -21,7 +21,8 @@ module _ {X : Type 0} (P : X → X → Type 0) where
   each_after chain x y (z ∷ ys) p h = (chain x y z p h.0, each_after chain x y ys p h.1)
 
   -- a relation that chains holds of all pairs where it holds of neighbours
-  pub pairs_from_neighbours : ((x y z : X) → P x y → P y z → P x z) → (xs : List X) → ((k : ℕ) (d : X) → k + 1 < length xs → P (get_or xs k d) (get_or xs (k + 1) d)) → HoldsPairwise P xs
+  pub pairs_from_neighbours : ((x y z : X) → P x y → P y z → P x z) → (xs : List X)
+      → ((k : ℕ) (d : X) → k + 1 < length xs → P (get_or xs k d) (get_or xs (k + 1) d)) → HoldsPairwise P xs
   pairs_from_neighbours chain [] h = tt
   pairs_from_neighbours chain (x ∷ []) h = (tt, tt)
   pairs_from_neighbours chain (x ∷ y ∷ ys) h =
@@ -70,7 +71,8 @@ number_upto m n Greater h k = absurd (cc)
 
 module _ {N D : Type 0} (labels : N → List (List ℕ)) (rtype : D → ℕ) where
   -- by what the order of the owners answers
-  follows_by : (r s : Record N D) (o : Ordering) → canonical_cmp (labels r.owner) (labels s.owner) ≡ o → is_gt o ≡ false → (o ≡ Equal → rtype r.«data» ≤ rtype s.«data») → MayFollow labels rtype r s
+  follows_by : (r s : Record N D) (o : Ordering) → canonical_cmp (labels r.owner) (labels s.owner) ≡ o → is_gt o ≡ false
+      → (o ≡ Equal → rtype r.«data» ≤ rtype s.«data») → MayFollow labels rtype r s
   follows_by r s o is up types = record {
     owner = ap is_gt is ∙ up;
     type = λ same. types (sym is ∙ same_tied (labels r.owner) (labels s.owner) same);
@@ -80,7 +82,8 @@ module _ {N D : Type 0} (labels : N → List (List ℕ)) (rtype : D → ℕ) whe
   follows_chain r s t h k = record {
     owner = upto canonical_cmp_total (labels r.owner) (labels s.owner) (labels t.owner) h.owner k.owner;
     type = λ same.
-        let tied = tied_between canonical_cmp_total (labels r.owner) (labels s.owner) (labels t.owner) h.owner k.owner (same_tied (labels r.owner) (labels t.owner) same) in
+        let tied = tied_between canonical_cmp_total (labels r.owner) (labels s.owner) (labels t.owner) h.owner k.owner
+        (same_tied (labels r.owner) (labels t.owner) same) in
         let first : IsSame (labels r.owner) (labels s.owner) = tied_same (labels r.owner) (labels s.owner) tied in
         let a = h.type first in
         let b = k.type (sym first ∙ same) in
@@ -93,12 +96,14 @@ module _ {N D : Type 0} (labels : N → List (List ℕ)) (rtype : D → ℕ) whe
   up_number : (m n : ℕ) → m ≤ n → is_le (nat_cmp m n) ≡ true
   up_number m n h = by_number m n (nat_cmp m n) (ranks m n) h
 
-  tested : (r s : Record N D) (o : Ordering) → canonical_cmp (labels r.owner) (labels s.owner) ≡ o → is_le (ordering_then o (nat_cmp (rtype r.«data») (rtype s.«data»))) ≡ true → MayFollow labels rtype r s
+  tested : (r s : Record N D) (o : Ordering) → canonical_cmp (labels r.owner) (labels s.owner) ≡ o
+      → is_le (ordering_then o (nat_cmp (rtype r.«data») (rtype s.«data»))) ≡ true → MayFollow labels rtype r s
   tested r s Less is h = follows_by r s Less is refl (λ e. absurd (cc))
   tested r s Equal is h = follows_by r s Equal is refl (λ e. number_up _ _ h)
   tested r s Greater is h = absurd (cc)
 
-  test_of : (r s : Record N D) (o : Ordering) → canonical_cmp (labels r.owner) (labels s.owner) ≡ o → MayFollow labels rtype r s → is_le (ordering_then o (nat_cmp (rtype r.«data») (rtype s.«data»))) ≡ true
+  test_of : (r s : Record N D) (o : Ordering) → canonical_cmp (labels r.owner) (labels s.owner) ≡ o → MayFollow labels rtype r s
+      → is_le (ordering_then o (nat_cmp (rtype r.«data») (rtype s.«data»))) ≡ true
   test_of r s Less is h = refl
   test_of r s Equal is h = up_number _ _ (h.type (tied_same (labels r.owner) (labels s.owner) is))
   test_of r s Greater is h = absurd (let e = sym h.owner ∙ ap is_gt is in cc)
@@ -111,19 +116,25 @@ module _ {N D : Type 0} (labels : N → List (List ℕ)) (rtype : D → ℕ) whe
   may_follow-from r s = test_of r s _ refl
 
   module _ (data_cmp : D → D → Ordering) where
-    follows_step : (r s : Record N D) (o p : Ordering) → canonical_cmp (labels r.owner) (labels s.owner) ≡ o → nat_cmp (rtype r.«data») (rtype s.«data») ≡ p → ordering_then o (ordering_then p (data_cmp r.«data» s.«data»)) ≡ Less → MayFollow labels rtype r s
+    follows_step : (r s : Record N D) (o p : Ordering) → canonical_cmp (labels r.owner) (labels s.owner) ≡ o
+        → nat_cmp (rtype r.«data») (rtype s.«data») ≡ p → ordering_then o (ordering_then p (data_cmp r.«data» s.«data»)) ≡ Less → MayFollow labels rtype r s
     follows_step r s Less p is types h = follows_by r s Less is refl (λ e. absurd (cc))
-    follows_step r s Equal Less is types h = follows_by r s Equal is refl (λ e. number_upto _ _ Less (rw types at (ranks (rtype r.«data») (rtype s.«data»))) refl)
-    follows_step r s Equal Equal is types h = follows_by r s Equal is refl (λ e. number_upto _ _ Equal (rw types at (ranks (rtype r.«data») (rtype s.«data»))) refl)
+    follows_step r s Equal Less is types h = follows_by r s Equal is refl
+        (λ e. number_upto _ _ Less (rw types at (ranks (rtype r.«data») (rtype s.«data»))) refl)
+    follows_step r s Equal Equal is types h = follows_by r s Equal is refl
+        (λ e. number_upto _ _ Equal (rw types at (ranks (rtype r.«data») (rtype s.«data»))) refl)
     follows_step r s Equal Greater is types h = absurd (cc)
     follows_step r s Greater p is types h = absurd (cc)
 
     follows_less : (r s : Record N D) → r.class ≡ s.class → record_cmp labels rtype data_cmp r s ≡ Less → MayFollow labels rtype r s
     follows_less r s one less =
         follows_step r s _ _ refl refl
-        (ap (λ o. ordering_then o (ordering_then (canonical_cmp (labels r.owner) (labels s.owner)) (ordering_then (nat_cmp (rtype r.«data») (rtype s.«data»)) (data_cmp r.«data» s.«data»)))) (sym (ap (λ c. nat_cmp r.class c) (sym one) ∙ tied_itself nat_cmp_total r.class)) ∙ less)
+        (ap (λ o. ordering_then o (ordering_then (canonical_cmp (labels r.owner) (labels s.owner))
+        (ordering_then (nat_cmp (rtype r.«data») (rtype s.«data»)) (data_cmp r.«data» s.«data»))))
+        (sym (ap (λ c. nat_cmp r.class c) (sym one) ∙ tied_itself nat_cmp_total r.class)) ∙ less)
 
-    each_follows : (r : Record N D) (rs : List (Record N D)) → AllByRecursion (λ s. r.class ≡ s.class) rs → AllByRecursion (λ s. record_cmp labels rtype data_cmp r s ≡ Less) rs → AllByRecursion (MayFollow labels rtype r) rs
+    each_follows : (r : Record N D) (rs : List (Record N D)) → AllByRecursion (λ s. r.class ≡ s.class) rs
+        → AllByRecursion (λ s. record_cmp labels rtype data_cmp r s ≡ Less) rs → AllByRecursion (MayFollow labels rtype r) rs
     each_follows r [] one less = tt
     each_follows r (s ∷ rs) one less = (follows_less r s one.0 less.0, each_follows r rs one.1 less.1)
 
@@ -133,7 +144,8 @@ module _ {N D : Type 0} (labels : N → List (List ℕ)) (rtype : D → ℕ) whe
     in_order_from_sorted [] sorted one = tt
     in_order_from_sorted (r ∷ rs) sorted one = (each_follows r rs one.0 sorted.0, in_order_from_sorted rs sorted.1 one.1)
 
-module _ {X : Type 0} (same : X → X → Bool) (P : X → X → Type 0) (means : (x y : X) → same x y ≡ true → P x y) (from : (x y : X) → P x y → same x y ≡ true) (chain : (x y z : X) → P x y → P y z → P x z) where
+module _ {X : Type 0} (same : X → X → Bool) (P : X → X → Type 0) (means : (x y : X) → same x y ≡ true → P x y)
+    (from : (x y : X) → P x y → same x y ≡ true) (chain : (x y z : X) → P x y → P y z → P x z) where
   pub pairs_of_run : (xs : List X) → HoldsOfNeighbours same xs → HoldsPairwise P xs
   pairs_of_run xs h = pairs_from_neighbours P chain xs (λ k d lt. means _ _ (h k d lt))
 

@@ -9,7 +9,8 @@ module _ {X : Type 0} (p : X → Bool) where
   pub all_kept : (xs : List X) → IsFirstPlace p xs None → filter (λ x. not (p x)) xs ≡ xs
   all_kept [] h = refl
   all_kept (x ∷ xs) h =
-      ap (λ c. cond (not c) (x ∷ filter (λ y. not (p y)) xs) (filter (λ y. not (p y)) xs)) (h 0 x (omega arith)) ∙ ap (λ l. x ∷ l) (all_kept xs (λ k d lt. h (suc k) d (omega arith)))
+      ap (λ c. cond (not c) (x ∷ filter (λ y. not (p y)) xs) (filter (λ y. not (p y)) xs)) (h 0 x (omega arith))
+      ∙ ap (λ l. x ∷ l) (all_kept xs (λ k d lt. h (suc k) d (omega arith)))
 
   pub none_without : (xs : List X) → IsFirstPlace p xs None → without_first p xs ≡ xs
   none_without [] h = refl

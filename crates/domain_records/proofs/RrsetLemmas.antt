@@ -2,7 +2,8 @@
 use Rattle.std.proofs.Common.{◌≡◌, ℕ, ◌<◌, List, length, Result, Ok, Err, IfOk, IfErr, refl, ap, arith}
 use Rattle.domain_plain.specs.declared.record.Record.{Record}
 use Rattle.domain_records.specs.declared.error.SigningError.{SigningError}
-use Rattle.domain_records.specs.declared.error.SigningError.TheVariants.{EmptyRecordSlice, MultipleTtlValues, SoaRecordCouldNotBeDetermined, Nsec3HashingError, OutOfMemory}
+use Rattle.domain_records.specs.declared.error.SigningError.TheVariants.{EmptyRecordSlice, MultipleTtlValues}
+use Rattle.domain_records.specs.declared.error.SigningError.TheVariants.{SoaRecordCouldNotBeDetermined, Nsec3HashingError, OutOfMemory}
 use Rattle.domain_records.specs.Rrsets.{HasOneTtl, IsRrset, IsRrsetOf, IsNoRrset}
 
 module _ {N D : Type 0} (rtype : D → ℕ) (group : List (Record N D)) (some : 0 < length group) where
@@ -14,6 +15,7 @@ module _ {N D : Type 0} (rtype : D → ℕ) (group : List (Record N D)) (some : 
   refusal OutOfMemory h = absurd h
 
   -- of a group that isn't empty, it answers the RRset or the refusal
-  pub set_or_refusal : (r : Result (List (Record N D)) SigningError) → IfOk r (λ set. (set ≡ group) × IsRrset rtype group) → IfErr r (IsNoRrset rtype group) → IsRrsetOf rtype group r
+  pub set_or_refusal : (r : Result (List (Record N D)) SigningError) → IfOk r (λ set. (set ≡ group) × IsRrset rtype group)
+      → IfErr r (IsNoRrset rtype group) → IsRrsetOf rtype group r
   set_or_refusal (Ok set) ok err = (ok.0, ok.1.one_ttl)
   set_or_refusal (Err e) ok err = refusal e err

@@ -1,5 +1,6 @@
 -- The maximal runs of a list.
-use Rattle.std.proofs.Common.{◌≡◌, ℕ, ◌+◌, ◌<◌, ◌≤◌, eqb, IsTrue, zero, suc, Bool, true, false, cond, List, [], ◌∷◌, ◌++◌, length, get_or, take, drop, refl, sym, ◌∙◌, ap, arith, add-one, append-nil}
+use Rattle.std.proofs.Common.{◌≡◌, ℕ, ◌+◌, ◌<◌, ◌≤◌, eqb, IsTrue, zero, suc, Bool, true, false, cond, List}
+use Rattle.std.proofs.Common.{[], ◌∷◌, ◌++◌, length, get_or, take, drop, refl, sym, ◌∙◌, ap, arith, add-one, append-nil}
 use Rattle.std.proofs.lemmas.Bool.{eqb-true, eq-eqb}
 use Rattle.std.specs.List.{AllByRecursion}
 use Rattle.domain_records.specs.Runs.{AreGroups, IsOneRun, Apart, joined, add_to, runs, IsFirstRun, HoldsOfNeighbours}
@@ -9,10 +10,11 @@ module _ {X : Type 0} (same : X → X → Bool) where
   heads_step : (x : X) (gs : List (List X)) → (g : List X) × (hs : List (List X)) × (add_to same x gs ≡ (x ∷ g) ∷ hs)
   heads_step x [] = ([], [], refl)
   heads_step x ([] ∷ gs) = ([], gs, refl)
-  heads_step x ((y ∷ ys) ∷ gs) = elim (same x y) as (λ b. (g : List X) × (hs : List (List X)) × (cond b ((x ∷ y ∷ ys) ∷ gs) ((x ∷ []) ∷ (y ∷ ys) ∷ gs) ≡ (x ∷ g) ∷ hs)) [
-    | true ↦ (y ∷ ys, gs, refl)
-    | false ↦ ([], (y ∷ ys) ∷ gs, refl)
-  ]
+  heads_step x ((y ∷ ys) ∷ gs) = elim (same x y) as
+      (λ b. (g : List X) × (hs : List (List X)) × (cond b ((x ∷ y ∷ ys) ∷ gs) ((x ∷ []) ∷ (y ∷ ys) ∷ gs) ≡ (x ∷ g) ∷ hs)) [
+        | true ↦ (y ∷ ys, gs, refl)
+        | false ↦ ([], (y ∷ ys) ∷ gs, refl)
+      ]
 
   pub begins : (x : X) (xs : List X) → (g : List X) × (hs : List (List X)) × (runs same (x ∷ xs) ≡ (x ∷ g) ∷ hs)
   unfolding runs
@@ -55,7 +57,8 @@ pub all_taken : {X : Type 0} (same : X → X → Bool) (gs all : List (List X)) 
 all_taken same gs all xs h e = sym (append-nil gs) ∙ ap (λ l. gs ++ l) (sym (runs_nil same xs e)) ∙ h
 
 module _ {X : Type 0} (same : X → X → Bool) where
-  join_step : (x y : X) (ys : List X) (gs : List (List X)) (b : Bool) → joined (cond b ((x ∷ y ∷ ys) ∷ gs) ((x ∷ []) ∷ (y ∷ ys) ∷ gs)) ≡ x ∷ joined ((y ∷ ys) ∷ gs)
+  join_step : (x y : X) (ys : List X) (gs : List (List X)) (b : Bool)
+      → joined (cond b ((x ∷ y ∷ ys) ∷ gs) ((x ∷ []) ∷ (y ∷ ys) ∷ gs)) ≡ x ∷ joined ((y ∷ ys) ∷ gs)
   join_step x y ys gs true = refl
   join_step x y ys gs false = refl
 
@@ -64,7 +67,8 @@ module _ {X : Type 0} (same : X → X → Bool) where
   joined_add x ([] ∷ gs) = refl
   joined_add x ((y ∷ ys) ∷ gs) = join_step x y ys gs (same x y)
 
-  each_step : (x y : X) (ys : List X) (gs : List (List X)) (b : Bool) → same x y ≡ b → AllByRecursion (IsOneRun same) ((y ∷ ys) ∷ gs) → AllByRecursion (IsOneRun same) (cond b ((x ∷ y ∷ ys) ∷ gs) ((x ∷ []) ∷ (y ∷ ys) ∷ gs))
+  each_step : (x y : X) (ys : List X) (gs : List (List X)) (b : Bool) → same x y ≡ b → AllByRecursion (IsOneRun same) ((y ∷ ys) ∷ gs)
+      → AllByRecursion (IsOneRun same) (cond b ((x ∷ y ∷ ys) ∷ gs) ((x ∷ []) ∷ (y ∷ ys) ∷ gs))
   each_step x y ys gs true e h = ((e, h.0), h.1)
   each_step x y ys gs false e h = (tt, h)
 
@@ -77,7 +81,8 @@ module _ {X : Type 0} (same : X → X → Bool) where
   longer x y ys [] h = tt
   longer x y ys (g ∷ gs) h = h
 
-  apart_step : (x y : X) (ys : List X) (gs : List (List X)) (b : Bool) → same x y ≡ b → Apart same ((y ∷ ys) ∷ gs) → Apart same (cond b ((x ∷ y ∷ ys) ∷ gs) ((x ∷ []) ∷ (y ∷ ys) ∷ gs))
+  apart_step : (x y : X) (ys : List X) (gs : List (List X)) (b : Bool) → same x y ≡ b → Apart same ((y ∷ ys) ∷ gs)
+      → Apart same (cond b ((x ∷ y ∷ ys) ∷ gs) ((x ∷ []) ∷ (y ∷ ys) ∷ gs))
   apart_step x y ys gs true e h = longer x y ys gs h
   apart_step x y ys gs false e h = (e, h)
 

@@ -1,5 +1,6 @@
 -- Sorted sets as lists: where an element stands or goes, and what a sort and a dedup leave.
-use Rattle.std.proofs.Common.{◌≡◌, ℕ, ◌+◌, ◌<◌, ◌≤◌, suc, Bool, true, false, cond, not, ◌&&◌, List, [], ◌∷◌, ◌++◌, length, get_or, take, drop, Option, Some, None, Result, Ok, Err, IfOk, IfErr, refl, sym, ◌∙◌, ap, subst, arith, is_lt}
+use Rattle.std.proofs.Common.{◌≡◌, ℕ, ◌+◌, ◌<◌, ◌≤◌, suc, Bool, true, false, cond, not, ◌&&◌, List, [], ◌∷◌, ◌++◌, length}
+use Rattle.std.proofs.Common.{get_or, take, drop, Option, Some, None, Result, Ok, Err, IfOk, IfErr, refl, sym, ◌∙◌, ap, subst, arith, is_lt}
 use Rattle.std.specs.List.{AllByRecursion, Contains, dedup, dedup_from, filter, find, insert, remove, slice_get}
 use Rattle.std.specs.List.Sorted.{IsStrictlySortedBy, IsSorted, IsStable, IsPermutation, ties, IsSearchInRange, IsBinarySearchResult, IsNonDecreasingBy}
 use Rattle.std.specs.Cmp.{IsTotalOrder, IsEquivalence, eq_by_cmp_equiv, tied_back, Equal-is}
@@ -21,7 +22,8 @@ module _ {X : Type 0} where
   first_of [] = None
   first_of (x ∷ xs) = Some x
 
-  first_step : (p : X → Bool) (x : X) (xs : List X) (b : Bool) → find p xs ≡ first_of (filter p xs) → cond b (Some x) (find p xs) ≡ first_of (cond b (x ∷ filter p xs) (filter p xs))
+  first_step : (p : X → Bool) (x : X) (xs : List X) (b : Bool) → find p xs ≡ first_of (filter p xs)
+      → cond b (Some x) (find p xs) ≡ first_of (cond b (x ∷ filter p xs) (filter p xs))
   first_step p x xs true h = refl
   first_step p x xs false h = h
 
@@ -68,7 +70,8 @@ tied Equal = refl
 tied Greater = refl
 
 module _ {X : Type 0} {R : X → X → Ordering} (o : IsTotalOrder R) where
-  pub sorted_join : (xs : List X) (x : X) (ys : List X) → IsStrictlySortedBy R (xs ++ ys) → AllByRecursion (λ y. R y x ≡ Less) xs → AllByRecursion (λ y. R x y ≡ Less) ys → IsStrictlySortedBy R (xs ++ x ∷ ys)
+  pub sorted_join : (xs : List X) (x : X) (ys : List X) → IsStrictlySortedBy R (xs ++ ys) → AllByRecursion (λ y. R y x ≡ Less) xs
+      → AllByRecursion (λ y. R x y ≡ Less) ys → IsStrictlySortedBy R (xs ++ x ∷ ys)
   unfolding IsStrictlySortedBy
   sorted_join [] x ys s l g = (g, s)
   sorted_join (y ∷ xs) x ys s l g = (rec_join _ xs x ys s.0 l.0, sorted_join xs x ys s.1 l.1 g)
@@ -89,7 +92,8 @@ module _ {X : Type 0} {R : X → X → Ordering} (o : IsTotalOrder R) where
   answers_rise xs x s = searchable_from_sorted o (λ y. y) xs x (λ k d le lt. turned _ _ (Less-from_sorted R xs k (k + 1) d s (omega arith) lt))
 
   -- where a binary search ends
-  pub searched : (xs : List X) (x : X) (r : Result ℕ ℕ) → IsStrictlySortedBy R xs → IsSearchInRange r (length xs) → IsBinarySearchResult (λ y. R y x) xs r → IfOk r (IsAt R xs x) × IfErr r (IsGapFor R xs x)
+  pub searched : (xs : List X) (x : X) (r : Result ℕ ℕ) → IsStrictlySortedBy R xs → IsSearchInRange r (length xs)
+      → IsBinarySearchResult (λ y. R y x) xs r → IfOk r (IsAt R xs x) × IfErr r (IsGapFor R xs x)
   searched xs x (Ok i) s bound at = (record { in_range = bound; equal = at }, tt)
   searched xs x (Err i) s bound parted =
       let p = parted (answers_rise xs x s) in
@@ -117,7 +121,8 @@ module _ {X : Type 0} {R : X → X → Ordering} (o : IsTotalOrder R) where
   -- what a stable sort leaves begins with the earliest of equals
   pub stable_earliest : (xs ys : List X) → IsStable R xs ys → KeepsEarliest R xs ys
   stable_earliest xs ys stable x =
-      let same : (y : X) → ties (λ a b. is_lt (R a b)) x y ≡ is_eq (R y x) = λ y. ap (λ r. not (is_lt r) && not (is_lt (R y x))) (o.antisymm x y) ∙ tied (R y x) in
+      let same : (y : X) → ties (λ a b. is_lt (R a b)) x y ≡ is_eq (R y x) = λ y. ap (λ r. not (is_lt r) && not (is_lt (R y x))) (o.antisymm x y)
+      ∙ tied (R y x) in
       find_alike (λ y. is_eq (R y x)) ys xs (sym (filter_agree _ _ same ys) ∙ stable x ∙ filter_agree _ _ same xs)
 
   -- a sorted list without all but the first of equals is the sorted set

@@ -14,5 +14,6 @@ module _ {F X R : Type 0} (g : Mut F X R) (P Q : X → R → Type 0) (f : (a : X
   AlwaysReturns-weaker s h = record { at = λ xs. each_weaker xs s (h.at xs) }
 
 -- a comparison by an order says what is less
-pub ComparesAs-from_order : {F X : Type 0} (g : Mut F (Bor X × (Bor X × Unit {0})) Ordering) (R : X → X → Ordering) (f : F) → AnswersBy g R f → ComparesAs g (λ x y. is_lt (R x y)) f
+pub ComparesAs-from_order : {F X : Type 0} (g : Mut F (Bor X × (Bor X × Unit {0})) Ordering) (R : X → X → Ordering) (f : F) → AnswersBy g R f
+    → ComparesAs g (λ x y. is_lt (R x y)) f
 ComparesAs-from_order g R f = AlwaysReturns-weaker g _ _ (λ a r e. ap is_lt e) f

@@ -1,5 +1,6 @@
 -- One text after another.
-use Rattle.std.proofs.Common.{◌≡◌, ℕ, ◌+◌, ◌<◌, length, get_or, drop, subst, Result, Bool, true, false, not, cond, List, [], ◌∷◌, ◌++◌, Option, Some, None, refl, sym, ◌∙◌, ap, append_assoc, append-nil}
+use Rattle.std.proofs.Common.{◌≡◌, ℕ, ◌+◌, ◌<◌, length, get_or, drop, subst, Result, Bool, true, false, not}
+use Rattle.std.proofs.Common.{cond, List, [], ◌∷◌, ◌++◌, Option, Some, None, refl, sym, ◌∙◌, ap, append_assoc, append-nil}
 use Rattle.std.specs.Bool.{beq}
 use Rattle.std.specs.List.{FoldsTo, concat, filter}
 use Rattle.std.specs.Fmt.{WritesInCalls, WritesText, ◌++?◌}
@@ -70,32 +71,46 @@ filter_cons p x xs = filter_step p x xs (p x)
 
 module _ {X W : Type 0} (took : W → List ℕ → W → Type 0) (output : X → Option (List ℕ)) (p : X → Bool) where
   -- the text of the picked, one element on
-  pub picked_more : (xs : List X) (i : ℕ) (x : X) → i < length xs → x ≡ get_or xs i x → (w u v : W) → WritesText took w (texts output (filter p (x ∷ []))) u → WritesText took u (texts output (filter p (drop (i + 1) xs))) v → WritesText took w (texts output (filter p (drop i xs))) v
+  pub picked_more : (xs : List X) (i : ℕ) (x : X) → i < length xs → x ≡ get_or xs i x → (w u v : W)
+      → WritesText took w (texts output (filter p (x ∷ []))) u → WritesText took u (texts output (filter p (drop (i + 1) xs))) v
+      → WritesText took w (texts output (filter p (drop i xs))) v
   picked_more xs i x lt is w u v h k =
       let all : texts output (filter p (drop i xs)) ≡ texts output (filter p (x ∷ [])) ++? texts output (filter p (drop (i + 1) xs)) =
-      ap (λ l. texts output (filter p l)) (drop_more xs i x lt ∙ ap (λ y. y ∷ drop (i + 1) xs) (sym is)) ∙ ap (texts output) (filter_cons p x (drop (i + 1) xs)) ∙ texts_append output (filter p (x ∷ [])) (filter p (drop (i + 1) xs)) in
-      subst (λ (o : Option (List ℕ)). WritesText took w o v) (sym all) (writes_append took (texts output (filter p (x ∷ []))) (texts output (filter p (drop (i + 1) xs))) w u v h k)
+      ap (λ l. texts output (filter p l)) (drop_more xs i x lt ∙ ap (λ y. y ∷ drop (i + 1) xs) (sym is))
+      ∙ ap (texts output) (filter_cons p x (drop (i + 1) xs)) ∙ texts_append output (filter p (x ∷ [])) (filter p (drop (i + 1) xs)) in
+      subst (λ (o : Option (List ℕ)). WritesText took w o v) (sym all)
+      (writes_append took (texts output (filter p (x ∷ []))) (texts output (filter p (drop (i + 1) xs))) w u v h k)
 
   module _ {F : Type 0} (g : Shared F (Bor X × (MutBor W × Unit {0})) (Result (Unit {0}) Error × (MutBor W × Unit {0}))) (f : F) where
-    pub lines_append : (xs ys : List X) (w u v : W) → WritesWithComments took output g f w xs u → WritesWithComments took output g f u ys v → WritesWithComments took output g f w (xs ++ ys) v
+    pub lines_append : (xs ys : List X) (w u v : W) → WritesWithComments took output g f w xs u → WritesWithComments took output g f u ys v
+        → WritesWithComments took output g f w (xs ++ ys) v
     lines_append [] ys w u v h k = subst (λ (a : W). WritesWithComments took output g f a ys v) (sym h) k
     lines_append (x ∷ xs) ys w u v h k = (h.0, h.1, lines_append xs ys h.0 u v h.2 k)
 
-    pub picked_lines_more : (xs : List X) (i : ℕ) (x : X) → i < length xs → x ≡ get_or xs i x → (w u v : W) → WritesWithComments took output g f w (filter p (x ∷ [])) u → WritesWithComments took output g f u (filter p (drop (i + 1) xs)) v → WritesWithComments took output g f w (filter p (drop i xs)) v
+    pub picked_lines_more : (xs : List X) (i : ℕ) (x : X) → i < length xs → x ≡ get_or xs i x → (w u v : W)
+        → WritesWithComments took output g f w (filter p (x ∷ [])) u → WritesWithComments took output g f u (filter p (drop (i + 1) xs)) v
+        → WritesWithComments took output g f w (filter p (drop i xs)) v
     picked_lines_more xs i x lt is w u v h k =
-        let all : filter p (drop i xs) ≡ filter p (x ∷ []) ++ filter p (drop (i + 1) xs) = ap (filter p) (drop_more xs i x lt ∙ ap (λ y. y ∷ drop (i + 1) xs) (sym is)) ∙ filter_cons p x (drop (i + 1) xs) in
+        let all : filter p (drop i xs) ≡ filter p (x ∷ []) ++ filter p (drop (i + 1) xs) = ap (filter p)
+        (drop_more xs i x lt ∙ ap (λ y. y ∷ drop (i + 1) xs) (sym is)) ∙ filter_cons p x (drop (i + 1) xs) in
         subst (λ (l : List X). WritesWithComments took output g f w l v) (sym all) (lines_append (filter p (x ∷ [])) (filter p (drop (i + 1) xs)) w u v h k)
 
     -- the lines of the picked, and then those of the others
-    pub lines_of_both : (xs : List X) (w u v : W) → WritesWithComments took output g f w (filter (λ x. beq (p x) true) xs) u → WritesWithComments took output g f u (filter (λ x. beq (p x) false) xs) v → WritesWithComments took output g f w (filter p xs ++ filter (λ x. not (p x)) xs) v
+    pub lines_of_both : (xs : List X) (w u v : W) → WritesWithComments took output g f w (filter (λ x. beq (p x) true) xs) u
+        → WritesWithComments took output g f u (filter (λ x. beq (p x) false) xs) v
+        → WritesWithComments took output g f w (filter p xs ++ filter (λ x. not (p x)) xs) v
     lines_of_both xs w u v h k =
         let a : WritesWithComments took output g f w (filter p xs) u = subst (λ (l : List X). WritesWithComments took output g f w l u) (picked_true p xs) h in
-        let b : WritesWithComments took output g f u (filter (λ x. not (p x)) xs) v = subst (λ (l : List X). WritesWithComments took output g f u l v) (picked_false p xs) k in
+        let b : WritesWithComments took output g f u
+        (filter (λ x. not (p x)) xs) v = subst (λ (l : List X). WritesWithComments took output g f u l v) (picked_false p xs) k in
         lines_append (filter p xs) (filter (λ x. not (p x)) xs) w u v a b
 
   -- the text of the picked, and then that of the others
-  pub text_of_both : (xs : List X) (w u v : W) → WritesText took w (texts output (filter (λ x. beq (p x) true) xs)) u → WritesText took u (texts output (filter (λ x. beq (p x) false) xs)) v → WritesText took w (texts output (filter p xs ++ filter (λ x. not (p x)) xs)) v
+  pub text_of_both : (xs : List X) (w u v : W) → WritesText took w (texts output (filter (λ x. beq (p x) true) xs)) u
+      → WritesText took u (texts output (filter (λ x. beq (p x) false) xs)) v → WritesText took w (texts output (filter p xs ++ filter (λ x. not (p x)) xs)) v
   text_of_both xs w u v h k =
       let a : WritesText took w (texts output (filter p xs)) u = subst (λ (l : List X). WritesText took w (texts output l) u) (picked_true p xs) h in
-      let b : WritesText took u (texts output (filter (λ x. not (p x)) xs)) v = subst (λ (l : List X). WritesText took u (texts output l) v) (picked_false p xs) k in
-      subst (λ (o : Option (List ℕ)). WritesText took w o v) (sym (texts_append output (filter p xs) (filter (λ x. not (p x)) xs))) (writes_append took (texts output (filter p xs)) (texts output (filter (λ x. not (p x)) xs)) w u v a b)
+      let b : WritesText took u (texts output (filter (λ x. not (p x)) xs)) v = subst (λ (l : List X). WritesText took u (texts output l) v)
+      (picked_false p xs) k in
+      subst (λ (o : Option (List ℕ)). WritesText took w o v) (sym (texts_append output (filter p xs) (filter (λ x. not (p x)) xs)))
+      (writes_append took (texts output (filter p xs)) (texts output (filter (λ x. not (p x)) xs)) w u v a b)

@@ -3,7 +3,8 @@ use Rattle.std.specs.Prelude.{◌≡◌, ◌≢◌, ℕ, ◌<◌, Bool, false, L
 use Rattle.domain_base.specs.Types.{rrsig}
 use Rattle.domain_plain.specs.declared.record.Record.{Record}
 use Rattle.domain_records.specs.declared.error.SigningError.{SigningError}
-use Rattle.domain_records.specs.declared.error.SigningError.TheVariants.{EmptyRecordSlice, MultipleTtlValues, SoaRecordCouldNotBeDetermined, Nsec3HashingError, OutOfMemory}
+use Rattle.domain_records.specs.declared.error.SigningError.TheVariants.{EmptyRecordSlice, MultipleTtlValues}
+use Rattle.domain_records.specs.declared.error.SigningError.TheVariants.{SoaRecordCouldNotBeDetermined, Nsec3HashingError, OutOfMemory}
 use Rattle.domain_records.specs.Groups.{IfFirst}
 use Rattle.domain_records.specs.Order.{HoldsPairwise}
 use Rattle.domain_records.specs.Runs.{runs}

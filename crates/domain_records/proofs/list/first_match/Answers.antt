@@ -4,8 +4,11 @@ use Rattle.domain_records.proofs.Matches.{answered, seen_more}
 use Rattle.domain_records.proofs.list.first_match.Goals as goal
 
 pub returns-then-test : goal.returns-then-test
-returns-then-test g c =
-    (c.loop-i-test.true, answered g.F.Fn _ c.args.items.now c.loop-i.i _ _ _ c.test.ensures c.if-test.true c.loop-i-test.true c.index-items-i.is, c.loop-i.invariant)
+returns-then-test g c = (
+  c.loop-i-test.true,
+  answered g.F.Fn _ c.args.items.now c.loop-i.i _ _ _ c.test.ensures c.if-test.true c.loop-i-test.true c.index-items-i.is,
+  c.loop-i.invariant,
+)
 
 pub loop-i-preserved : goal.loop-i-preserved
 loop-i-preserved g c =

@@ -8,7 +8,8 @@ use Rattle.domain_records.proofs.owner.count_outside.Given as goal
 abbrev pub invariant-loop-n : goal.invariant-loop-n
 invariant-loop-n g l = record {
   within : l.n ≤ length (items_of l.records);
-  outside : (k : ℕ) (d : Record g.row.N.Denot g.row.D.Denot) → k < l.n → ¬ (IsAtOrBelow (g.N.ToName.labels (get_or (items_of l.records) k d).owner) (g.N.ToName.labels l.apex));
+  outside : (k : ℕ) (d : Record g.row.N.Denot g.row.D.Denot) → k < l.n
+      → ¬ (IsAtOrBelow (g.N.ToName.labels (get_or (items_of l.records) k d).owner) (g.N.ToName.labels l.apex));
 }
 
 abbrev pub decreases-loop-n : goal.decreases-loop-n

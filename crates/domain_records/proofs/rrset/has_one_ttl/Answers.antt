@@ -14,5 +14,7 @@ returns-else-eq g c =
     let other : g.D.RecordData.rtype c.at.result.now.data ≢ 46 = λ h. eqb-false c.rtype.result 46 (sym c.eq.ensures ∙ c.if-eq.false) (c.rtype.ensures ∙ h) in
     let P = λ (r s : Record g.row.N.Denot g.row.D.Denot). r.ttl ≡ s.ttl in (
       λ e first. pairs_of_run same_ttl P means from (λ r s t a b. a ∙ b) _ (c.is_one_run.ensures.0 e),
-      λ h. c.is_one_run.ensures.1 (run_of_pairs same_ttl P means from (λ r s t a b. a ∙ b) _ (h (if_first_at (λ (r : Record g.row.N.Denot g.row.D.Denot). g.D.RecordData.rtype r.data ≢ 46) (items_of c.args.records.now) 0 c.at.result.now c.at.ensures other))),
+      λ h. c.is_one_run.ensures.1 (run_of_pairs same_ttl P means from (λ r s t a b. a ∙ b) _
+          (h (if_first_at (λ (r : Record g.row.N.Denot g.row.D.Denot). g.D.RecordData.rtype r.data ≢ 46)
+          (items_of c.args.records.now) 0 c.at.result.now c.at.ensures other))),
     )

@@ -13,7 +13,8 @@ is_less Less h = refl
 is_less Equal h = absurd (cc)
 is_less Greater h = absurd (cc)
 
-each_next : {X : Type 0} (e : X → X → Bool) (xs : List X) (r : Bool) → IsTrue r → IsAllAdjacentAnswer (λ x y b. b ≡ e x y) xs r → AllAdjacentBelow (λ x y. true ≡ e x y) xs (length xs)
+each_next : {X : Type 0} (e : X → X → Bool) (xs : List X) (r : Bool) → IsTrue r → IsAllAdjacentAnswer (λ x y b. b ≡ e x y) xs r
+    → AllAdjacentBelow (λ x y. true ≡ e x y) xs (length xs)
 each_next e xs true on h = h
 each_next e xs false on h = absurd (false≢true on)
 

@@ -12,7 +12,13 @@ use Rattle.domain_records.proofs.sort.sort.Goals as goal
 pub arrange-requires-clause-seats : goal.arrange-requires-clause-seats
 arrange-requires-clause-seats g c =
     let up = c.if-are_in_order.ensures refl in
-    rw (c.deref_mut-then-are_in_order.ensures.value, c.deref_mut-then-are_in_order-2.ensures.value, ← c.deref-5.ensures.value, ← c.deref-6.ensures.value) up.inverse
+    rw (
+      c.deref_mut-then-are_in_order.ensures.value,
+      c.deref_mut-then-are_in_order-2.ensures.value,
+      ← c.deref-5.ensures.value,
+      ←
+          c.deref-6.ensures.value,
+    ) up.inverse
 
 pub arrange-requires-clause-all : goal.arrange-requires-clause-all
 arrange-requires-clause-all g c =
@@ -27,7 +33,8 @@ returns-then-are_in_order-clause-ok g c =
     let places = c.in_ok-places.places.items in
     let seats = c.in_ok-seats.seats.items in
     let ys = c.arrange.new.items in
-    let up : AreInOrder R xs c.in-Some.first.now places seats = rw (c.deref-4.ensures.value, c.deref-5.ensures.value, c.deref-6.ensures.value) at (c.if-are_in_order.ensures refl) in
+    let up : AreInOrder R xs c.in-Some.first.now places seats = rw (c.deref-4.ensures.value, c.deref-5.ensures.value, c.deref-6.ensures.value)
+    at (c.if-are_in_order.ensures refl) in
     let put : IsArranged xs places ys = rw (c.deref_mut.ensures.value, c.deref_mut-then-are_in_order.ensures.value) at c.arrange.ensures.arranged in
     let moved : IsPermutation xs ys = rw c.deref_mut.ensures.value at c.arrange.ensures.moved in
     let m : length ys ≡ c.args.records.now.len = put.many ∙ (rw c.deref_mut.ensures.value at c.deref_mut.ensures.len) in

@@ -9,5 +9,6 @@ invariant_of-result g c =
     let rtype = g.D.RecordData.rtype in
     let data_cmp = g.D.CanonicalOrd.canonical_cmp in
     sorted_too (record_cmp_total labels rtype data_cmp g.met.D.CanonicalOrd.total) (IsRecordClone g.N.TryClone.is_clone g.D.TryClone.is_clone)
-    (clone_tied labels rtype data_cmp g.N.TryClone.is_clone g.D.TryClone.is_clone g.met.N.ToName.clone_labels g.met.D.CloneRecordData.clone_rtype g.met.D.CloneRecordData.clone_canonical)
+    (clone_tied labels rtype data_cmp g.N.TryClone.is_clone g.D.TryClone.is_clone g.met.N.ToName.clone_labels g.met.D.CloneRecordData.clone_rtype
+    g.met.D.CloneRecordData.clone_canonical)
     _ _ c.in_ok-records.ensures (rw c.as_slice.ensures.records c.as_slice.ensures.sorted)

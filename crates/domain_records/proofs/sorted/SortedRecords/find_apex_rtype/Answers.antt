@@ -9,5 +9,6 @@ returns g c =
     let labels = g.N.ToName.labels in
     let rtype = g.D.RecordData.rtype in
     let owner = labels c.args.apex.now in
-    let found = found_by (same_rrset labels rtype) rtype (matches labels rtype owner None (Some c.args.rtype)) (matches_alike labels rtype owner (Some c.args.rtype)) _ _ _ c.first_place.ensures c.rrset_at.ensures in
+    let found = found_by (same_rrset labels rtype) rtype (matches labels rtype owner None (Some c.args.rtype))
+    (matches_alike labels rtype owner (Some c.args.rtype)) _ _ _ c.first_place.ensures c.rrset_at.ensures in
     rw (← c.as_slice-records.ensures.records) found

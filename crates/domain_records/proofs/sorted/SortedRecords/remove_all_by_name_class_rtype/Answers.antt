@@ -18,12 +18,14 @@ returns-then-is_none-clause-found g c =
 
 pub invariant_of-self : goal.invariant_of-self
 invariant_of-self g c =
-    let p = λ (r : Record g.row.N.Denot g.row.D.Denot). not (matches g.N.ToName.labels g.D.RecordData.rtype (g.N.ToName.labels c.args.name.now) c.args.class c.args.rtype r) in
+    let p = λ (r : Record g.row.N.Denot g.row.D.Denot). not
+    (matches g.N.ToName.labels g.D.RecordData.rtype (g.N.ToName.labels c.args.name.now) c.args.class c.args.rtype r) in
     rw (filter_same _ p _ (λ x b f' k. search rules) _ _ c.retain.ensures.filtered) (IsStrictlySortedBy-filter _ p _ c.self.invariant)
 
 pub returns-clause-kept : goal.returns-clause-kept
 returns-clause-kept g c =
-    let p = λ (r : Record g.row.N.Denot g.row.D.Denot). not (matches g.N.ToName.labels g.D.RecordData.rtype (g.N.ToName.labels c.args.name.now) c.args.class c.args.rtype r) in
+    let p = λ (r : Record g.row.N.Denot g.row.D.Denot). not
+    (matches g.N.ToName.labels g.D.RecordData.rtype (g.N.ToName.labels c.args.name.now) c.args.class c.args.rtype r) in
     rw (← c.self.view_is) (filter_same _ p _ (λ x b f' k. search rules) _ _ c.retain.ensures.filtered)
 
 pub returns-clause-found : goal.returns-clause-found

@@ -21,7 +21,8 @@ pub invariant_of-self : goal.invariant_of-self
 invariant_of-self g c =
     let o = record_cmp_total g.N.ToName.labels g.D.RecordData.rtype g.D.CanonicalOrd.canonical_cmp g.met.D.CanonicalOrd.total in
     let within = rw c.deref.ensures.value at c.in-Some.ensures.0 in
-    let room : IsOk c.insert.result = c.insert.ensures.succeeds (omega (arith, c.remove-changed.ensures.len, c.remove-changed.ensures.capacity, c.self.inside.records.ok)) in
+    let room : IsOk c.insert.result = c.insert.ensures.succeeds
+    (omega (arith, c.remove-changed.ensures.len, c.remove-changed.ensures.capacity, c.self.inside.records.ok)) in
     let gap = rw (c.deref-in-Some.ensures.value, c.remove-changed.ensures.items) at c.in-Err.ensures.absent in
     rw (c.insert.ensures.items, room, c.remove-changed.ensures.items) (sorted_insert o _ _ _ (sorted_remove o _ _ within c.self.invariant) gap).sorted
 
@@ -29,14 +30,16 @@ pub returns-in-Err : goal.returns-in-Err
 returns-in-Err g c =
     let o = record_cmp_total g.N.ToName.labels g.D.RecordData.rtype g.D.CanonicalOrd.canonical_cmp g.met.D.CanonicalOrd.total in
     let within = rw c.deref.ensures.value at c.in-Some.ensures.0 in
-    let room : IsOk c.insert.result = c.insert.ensures.succeeds (omega (arith, c.remove-changed.ensures.len, c.remove-changed.ensures.capacity, c.self.inside.records.ok)) in
+    let room : IsOk c.insert.result = c.insert.ensures.succeeds
+    (omega (arith, c.remove-changed.ensures.len, c.remove-changed.ensures.capacity, c.self.inside.records.ok)) in
     let gap = rw (c.deref-in-Some.ensures.value, c.remove-changed.ensures.items) at c.in-Err.ensures.absent in (
       Some c.in-Some.at,
       rw (← c.self.view_is, ← c.deref.ensures.value) c.in-Some.ensures,
       (
         c.remove-changed.result,
         rw (← c.self.view_is) (read_is _ _ _ within c.remove-changed.ensures.value),
-        rw (← c.self.view_is, c.insert.ensures.items, room, c.remove-changed.ensures.items) (inr (none_in_gap o _ _ _ gap, sorted_insert o _ _ _ (sorted_remove o _ _ within c.self.invariant) gap)),
+        rw (← c.self.view_is, c.insert.ensures.items, room, c.remove-changed.ensures.items)
+            (inr (none_in_gap o _ _ _ gap, sorted_insert o _ _ _ (sorted_remove o _ _ within c.self.invariant) gap)),
       ),
     )
 
@@ -49,7 +52,8 @@ returns-in-Some g c =
       (
         c.remove-changed.result,
         rw (← c.self.view_is) (read_is _ _ _ within c.remove-changed.ensures.value),
-        rw (← c.self.view_is, c.remove-changed.ensures.items) (inl (holds_at o _ _ _ (rw (c.deref-in-Some.ensures.value, c.remove-changed.ensures.items) at c.in_default-search.ensures.found), refl)),
+        rw (← c.self.view_is, c.remove-changed.ensures.items)
+            (inl (holds_at o _ _ _ (rw (c.deref-in-Some.ensures.value, c.remove-changed.ensures.items) at c.in_default-search.ensures.found), refl)),
       ),
     )
 

@@ -10,7 +10,9 @@ use Rattle.domain_records.proofs.sorter.DefaultSorterSorter.sort_by.Goals as goa
 
 pub returns-clause-sorted : goal.returns-clause-sorted
 returns-clause-sorted g c =
-    let sorted : OnOk c.sort_by.result ((R : g.row.T.Denot → g.row.T.Denot → Ordering) → IsTotalOrder R → AnswersBy g.F.Fn R c.args.compare → IsSorted R c.sort_by.new.self.items) = on_ok_weaker c.sort_by.result (λ h R o by. h (λ x y. is_lt (R x y)) (ranks_by o (λ x. x)) (ComparesAs-from_order _ R _ by)) c.sort_by.ensures.sorted in
+    let sorted : OnOk c.sort_by.result ((R : g.row.T.Denot → g.row.T.Denot → Ordering) → IsTotalOrder R → AnswersBy g.F.Fn R c.args.compare
+    → IsSorted R c.sort_by.new.self.items) = on_ok_weaker c.sort_by.result
+    (λ h R o by. h (λ x y. is_lt (R x y)) (ranks_by o (λ x. x)) (ComparesAs-from_order _ R _ by)) c.sort_by.ensures.sorted in
     search rules
 
 pub returns-clause-stable : goal.returns-clause-stable
