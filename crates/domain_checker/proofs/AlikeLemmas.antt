@@ -80,9 +80,11 @@ module _ (a x : Name) (t : ℕ) where
   reading_alike ks ls h =
       let matching = find_alike IsAlike (is_match a x) (is_match_alike a x) ks ls h in
       let covering = find_alike IsAlike (is_cover a x) (is_cover_alike a x) ks ls h in
-      λ i. cond (is_at_or_below x a) (both_alike (find (is_match a x) ks) (find (is_match a x) ls) (find (is_cover a x) ks) (find (is_cover a x) ls) matching covering i) OutsideZone
+      λ i. cond (is_at_or_below x a) (both_alike (find (is_match a x) ks) (find (is_match a x) ls) (find (is_cover a x) ks)
+      (find (is_cover a x) ls) matching covering i) OutsideZone
 
-  pub proved_alike : (L : List ZoneRecord) (assume : Bool) (ks ls : List Link) → ArePaired IsAlike ks ls → proved_verdict L a assume ks x t ≡ proved_verdict L a assume ls x t
+  pub proved_alike : (L : List ZoneRecord) (assume : Bool) (ks ls : List Link) → ArePaired IsAlike ks ls
+      → proved_verdict L a assume ks x t ≡ proved_verdict L a assume ls x t
   proved_alike L assume ks ls h =
       let says = any_alike IsAlike (λ k. matches_or_covers before k.owner k.next x) (says_alike a x) ks ls h in
       λ i. cond (not (is_at_or_below x a) || says i) (zone_verdict L a assume x t) NotProven

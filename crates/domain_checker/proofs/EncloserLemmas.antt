@@ -1,5 +1,6 @@
 -- The first of a name and its ancestors that exists is its closest encloser, and an occluded name is below a name that occludes and is not occluded itself.
-use Rattle.std.proofs.Common.{◌≡◌, ℕ, ◌≤◌, ◌<◌, Bool, zero, suc, true, false, cond, not, ◌&&◌, ◌||◌, List, [], ◌∷◌, map, length, refl, sym, ap, ◌∙◌, inl, inr, arith}
+use Rattle.std.proofs.Common.{◌≡◌, ℕ, ◌≤◌, ◌<◌, Bool, zero, suc, true, false, cond, not, ◌&&◌, ◌||◌}
+use Rattle.std.proofs.Common.{List, [], ◌∷◌, map, length, refl, sym, ap, ◌∙◌, inl, inr, arith}
 use Rattle.std.specs.Prelude.{filter}
 use Rattle.std.specs.List.{list_any}
 use Rattle.std.proofs.lemmas.Bool.{cases_Bool, false≢true, and_parts, and_from, or_cases, not-true, cases_lt}
@@ -8,7 +9,8 @@ use Rattle.domain_base.specs.Types.{ns, dname}
 use Rattle.domain_base.specs.Words.{Name}
 use Rattle.domain_zone.specs.Enclosers.{IsClosestEncloser, exists_over}
 use Rattle.domain_zone.specs.Zone.{ZoneRecord, records_of, has_type, is_zone_cut, occludes, is_occluded, is_unoccluded, distinct, unoccluded_owners, owns}
-use Rattle.domain_zone.proofs.NameLemmas.{one_lowered, same_itself, same_is, below_itself, below_trans, below_from, below_longer, below_length, below_parent, below_root, lowered_below, same_lowered}
+use Rattle.domain_zone.proofs.NameLemmas.{one_lowered, same_itself, same_is, below_itself, below_trans, below_from}
+use Rattle.domain_zone.proofs.NameLemmas.{below_longer, below_length, below_parent, below_root, lowered_below, same_lowered}
 use Rattle.domain_checker.specs.Verdict.{closest_encloser}
 use Rattle.domain_checker.proofs.FindLemmas.{In, any_in, in_any, in_filter, from_map}
 
@@ -58,7 +60,8 @@ module _ (names : List Name) (a : Name) where
     longest = λ d f q. below_length [] d q;
   }
   closest_is (l ∷ x) e p =
-      elim (exists_over names a (l ∷ x)) as (λ b. exists_over names a (l ∷ x) ≡ b → IsClosestEncloser names a (l ∷ x) (cond b (l ∷ x) (closest_encloser names a x))) [
+      elim (exists_over names a (l ∷ x)) as (λ b. exists_over names a (l ∷ x) ≡ b
+      → IsClosestEncloser names a (l ∷ x) (cond b (l ∷ x) (closest_encloser names a x))) [
         | true ↦ λ f. record { found = f; above = below_itself (l ∷ x); longest = λ d g q. below_length (l ∷ x) d q }
         | false ↦ λ f.
             let up = closest_is x e (higher a e f p) in
@@ -126,7 +129,8 @@ module _ (below_dname : Bool) (L : List ZoneRecord) (a : Name) where
 
   -- a name that is the same is occluded alike
   pub occluded_same : (m n : Name) → same_name m n ≡ true → is_occluded below_dname L a m ≡ is_occluded below_dname L a n
-  occluded_same m n s = ap (λ k. list_any (λ r. occludes below_dname L a r.owner && (lowered_below k (lowered r.owner) && not (same_lowered k (lowered r.owner)))) L) (one_lowered m n s)
+  occluded_same m n s = ap (λ k. list_any (λ r. occludes below_dname L a r.owner
+      && (lowered_below k (lowered r.owner) && not (same_lowered k (lowered r.owner)))) L) (one_lowered m n s)
 
   -- ---- owners that are not occluded
 
@@ -139,7 +143,8 @@ module _ (below_dname : Bool) (L : List ZoneRecord) (a : Name) where
   owner_unoccluded n i = (in_filter (is_unoccluded below_dname L a) (distinct (map (λ r. r.owner) L)) n i).1
 
   record_of : (n : Name) → In n (unoccluded_owners below_dname L a) → (r : ZoneRecord) × In r L × (r.owner ≡ n)
-  record_of n i = from_map (λ r. r.owner) L n (in_distinct (map (λ r. r.owner) L) n (in_filter (is_unoccluded below_dname L a) (distinct (map (λ r. r.owner) L)) n i).0)
+  record_of n i = from_map (λ r. r.owner) L n (in_distinct (map (λ r. r.owner) L) n
+      (in_filter (is_unoccluded below_dname L a) (distinct (map (λ r. r.owner) L)) n i).0)
 
   -- whatever is the same as such an owner owns records
   pub owner_owns : (n x : Name) → In n (unoccluded_owners below_dname L a) → same_name n x ≡ true → owns L x ≡ true
@@ -148,7 +153,8 @@ module _ (below_dname : Bool) (L : List ZoneRecord) (a : Name) where
       in_any (λ r. same_name r.owner x) L r.0 r.1 (same_itself r.0.owner x (ap lowered r.2 ∙ one_lowered n x s))
 
   -- what is strictly below such an owner that occludes is occluded
-  pub below_owner : (n x : Name) → In n (unoccluded_owners below_dname L a) → occludes below_dname L a n ≡ true → is_strictly_below x n ≡ true → is_occluded below_dname L a x ≡ true
+  pub below_owner : (n x : Name) → In n (unoccluded_owners below_dname L a) → occludes below_dname L a n ≡ true
+      → is_strictly_below x n ≡ true → is_occluded below_dname L a x ≡ true
   below_owner n x i h s =
       let r = record_of n i in
       in_any (λ r. occludes below_dname L a r.owner && is_strictly_below x r.owner) L r.0 r.1
@@ -157,4 +163,5 @@ module _ (below_dname : Bool) (L : List ZoneRecord) (a : Name) where
 -- ---- zone cuts
 
 pub cut_same : (L : List ZoneRecord) (a m n : Name) → same_name m n ≡ true → is_zone_cut L a m ≡ is_zone_cut L a n
-cut_same L a m n s = ap (λ k. (lowered_below k (lowered a) && not (same_lowered k (lowered a))) && has_type (filter (λ r. same_lowered (lowered r.owner) k) L) ns) (one_lowered m n s)
+cut_same L a m n s = ap (λ k. (lowered_below k (lowered a) && not (same_lowered k (lowered a)))
+    && has_type (filter (λ r. same_lowered (lowered r.owner) k) L) ns) (one_lowered m n s)

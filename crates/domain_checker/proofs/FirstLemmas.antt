@@ -41,7 +41,8 @@ module _ {X Y : Type 0} (p : Y → Bool) (f : X → Y) (xs : List X) (i : ℕ) (
 
     pub met_before : is_some met ≡ true → all ≡ option_or (option_map v met) (find p (map f (drop (i + 1) xs)))
     met_before some =
-        elim met as (λ o. is_some o ≡ true → all ≡ option_or (option_map v o) (find p (map f (drop i xs))) → all ≡ option_or (option_map v o) (find p (map f (drop (i + 1) xs)))) [
+        elim met as (λ o. is_some o ≡ true → all ≡ option_or (option_map v o) (find p (map f (drop i xs)))
+        → all ≡ option_or (option_map v o) (find p (map f (drop (i + 1) xs)))) [
           | None ↦ λ n s. absurd (false≢true n)
           | Some y ↦ λ n s. s
         ] some so

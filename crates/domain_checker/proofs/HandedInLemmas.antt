@@ -30,7 +30,8 @@ module _ {X V : Type 0} (p : X → Bool) (f : X → V) (xs : List X) (x : X) whe
       by (Some y) e q = refl
 
   -- the last is the first
-  pub found_last : (found : Option V) → found ≡ option_map f (find p xs) → is_some found ≡ false → p x ≡ true → Some (f x) ≡ option_map f (find p (xs ++ x ∷ []))
+  pub found_last : (found : Option V) → found ≡ option_map f (find p xs) → is_some found ≡ false → p x ≡ true
+      → Some (f x) ≡ option_map f (find p (xs ++ x ∷ []))
   found_last found so none e =
       by (find p xs) (ap is_some (sym so) ∙ none) ∙ sym (ap (option_map f) (found_with true e))
     where
@@ -52,7 +53,9 @@ told : (a x : Name) (t : ℕ) (m c : Option Link) (matched covered : Option Verd
 told a x t None c matched covered e f = (λ i. option_or (e i) covered) ∙ f e
 told a x t (Some k) c matched covered e f = λ i. option_or (e i) covered
 
-says : (a x : Name) (t : ℕ) (m c : Option Link) → unwrap_or (option_or (option_map (λ k. match_verdict a k t) m) (option_map (λ k. cover_verdict a k x) c)) NotProven ≡ verdict_of_both a x t m c
+says : (a x : Name) (t : ℕ) (m c : Option Link) → unwrap_or
+    (option_or (option_map (λ k. match_verdict a k t) m) (option_map (λ k. cover_verdict a k x) c)) NotProven
+    ≡ verdict_of_both a x t m c
 says a x t (Some k) c = refl
 says a x t None None = refl
 says a x t None (Some k) = refl

@@ -1,5 +1,6 @@
 -- What NSEC3 records say does not depend on TTLs, classes and the case of letters.
-use Rattle.std.proofs.Common.{◌≡◌, ℕ, ◌<◌, ◌≤◌, cond, not, ◌&&◌, ◌||◌, List, [], ◌∷◌, map, length, refl, sym, ap, ◌∙◌, subst, inl, inr, nat_eq, Option, Some, None, arith}
+use Rattle.std.proofs.Common.{◌≡◌, ℕ, ◌<◌, ◌≤◌, cond, not, ◌&&◌, ◌||◌, List, [], ◌∷◌, map, length}
+use Rattle.std.proofs.Common.{refl, sym, ap, ◌∙◌, subst, inl, inr, nat_eq, Option, Some, None, arith}
 use Rattle.std.specs.Prelude.{is_some, unwrap_or}
 use Rattle.std.specs.Char.{to_ascii_lowercase}
 use Rattle.std.specs.List.{find, list_all}
@@ -24,7 +25,8 @@ use Rattle.domain_nsec3.specs.Owners.{original_owners}
 use Rattle.domain_checker.specs.Alike.{ArePaired, IsHashedAlike}
 use Rattle.domain_checker.specs.HashedList.{hash_in, is_hash_cover, is_hash_match, is_some_with, is_spelling, owner_hash, read_label, same_parameters}
 use Rattle.domain_checker.specs.HashedReading.{IsWalked, hash_cover_verdict, hash_match_verdict, is_none, tells_cut, told_verdict}
-use Rattle.domain_checker.specs.HashedVerdict.{IsFirst, hashed_proved_verdict, hashed_zone_verdict, is_covered, is_matched, is_ok_with, missing_verdict, next_closer, proves}
+use Rattle.domain_checker.specs.HashedVerdict.{IsFirst, hashed_proved_verdict, hashed_zone_verdict, is_covered, is_matched}
+use Rattle.domain_checker.specs.HashedVerdict.{is_ok_with, missing_verdict, next_closer, proves}
 use Rattle.domain_checker.specs.Verdict.{closest_encloser}
 use Rattle.domain_checker.specs.declared.verdict.Verdict.{Verdict}
 use Rattle.domain_checker.specs.declared.verdict.Verdict.TheVariants.{BelowDelegation, Has, NoType, EmptyName, NotProven}
@@ -102,10 +104,12 @@ module _ (a : Name) (p : Parameters) (k l : HashedLink) (alike : IsHashedAlike k
 
 module _ (a : Name) (p : Parameters) (hash : Hash) (ks ls : List HashedLink) (alike : ArePaired IsHashedAlike ks ls) where
   pub matched_alike : (n : Name) → is_matched a p hash ks n ≡ is_matched a p hash ls n
-  matched_alike n = λ i. is_ok_with (λ v. any_alike IsHashedAlike (is_hash_match a p v) (λ k l h. hash_match_alike a p k l h v) ks ls alike i) (hash_name hash n)
+  matched_alike n = λ i. is_ok_with (λ v. any_alike IsHashedAlike (is_hash_match a p v)
+      (λ k l h. hash_match_alike a p k l h v) ks ls alike i) (hash_name hash n)
 
   pub covered_alike : (n : Name) → is_covered a p hash ks n ≡ is_covered a p hash ls n
-  covered_alike n = λ i. is_ok_with (λ v. any_alike IsHashedAlike (is_hash_cover a p v) (λ k l h. hash_cover_alike a p k l h v) ks ls alike i) (hash_name hash n)
+  covered_alike n = λ i. is_ok_with (λ v. any_alike IsHashedAlike (is_hash_cover a p v)
+      (λ k l h. hash_cover_alike a p k l h v) ks ls alike i) (hash_name hash n)
 
   cover_says_alike : (count : ℕ) (m n : Option HashedLink) → OptionsPaired IsHashedAlike m n → hash_cover_verdict count m ≡ hash_cover_verdict count n
   cover_says_alike count None None h = refl
@@ -113,23 +117,29 @@ module _ (a : Name) (p : Parameters) (hash : Hash) (ks ls : List HashedLink) (al
   cover_says_alike count (Some k) None h = absurd h
   cover_says_alike count (Some k) (Some l) h = ap (λ f. missing_verdict (is_opt_out f) count) h.flags
 
-  told_alike : (d : Name) (k l : HashedLink) → IsHashedAlike k l → (t : ℕ) (next : Option Octets) → told_verdict a p ks d k t next ≡ told_verdict a p ls d l t next
+  told_alike : (d : Name) (k l : HashedLink) → IsHashedAlike k l → (t : ℕ) (next : Option Octets)
+      → told_verdict a p ks d k t next ≡ told_verdict a p ls d l t next
   told_alike d k l h t None = match_says_alike a p k l h d t
   told_alike d k l h t (Some v) =
       let covering = find_alike IsHashedAlike (is_hash_cover a p v) (λ k l h. hash_cover_alike a p k l h v) ks ls alike in
-      λ i. cond (cut_alike a p k l h d i) BelowDelegation (cover_says_alike (length d) (find (is_hash_cover a p v) ks) (find (is_hash_cover a p v) ls) covering i)
+      λ i. cond (cut_alike a p k l h d i) BelowDelegation (cover_says_alike (length d) (find (is_hash_cover a p v) ks)
+      (find (is_hash_cover a p v) ls) covering i)
 
   module _ (x : Name) (t : ℕ) (verdict : Verdict) where
     first_alike : (d : Name) → IsFirst a p hash ks x d → IsFirst a p hash ls x d
     first_alike d first = λ y up below. let f = first y up below in (f.0, f.1, sym (matched_alike y) ∙ f.2)
 
     -- the first match in the one list, and in the other
-    found_alike : (v : Octets) (k : HashedLink) → find (is_hash_match a p v) ks ≡ Some k → (l : HashedLink) × IsHashedAlike k l × (find (is_hash_match a p v) ls ≡ Some l)
+    found_alike : (v : Octets) (k : HashedLink) → find (is_hash_match a p v) ks ≡ Some k
+        → (l : HashedLink) × IsHashedAlike k l × (find (is_hash_match a p v) ls ≡ Some l)
     found_alike v k e =
         by (find (is_hash_match a p v) ls) refl
-        (subst (λ o. OptionsPaired IsHashedAlike o (find (is_hash_match a p v) ls)) e (find_alike IsHashedAlike (is_hash_match a p v) (λ k l h. hash_match_alike a p k l h v) ks ls alike))
+        (subst (λ o. OptionsPaired IsHashedAlike o (find (is_hash_match a p v) ls)) e
+        (find_alike IsHashedAlike (is_hash_match a p v) (λ k l h. hash_match_alike a p k l h v) ks ls alike))
       where
-        by : (o : Option HashedLink) → find (is_hash_match a p v) ls ≡ o → OptionsPaired IsHashedAlike (Some k) (find (is_hash_match a p v) ls) → (l : HashedLink) × IsHashedAlike k l × (find (is_hash_match a p v) ls ≡ Some l)
+        by : (o : Option HashedLink) → find (is_hash_match a p v) ls ≡ o
+            → OptionsPaired IsHashedAlike (Some k) (find (is_hash_match a p v) ls)
+            → (l : HashedLink) × IsHashedAlike k l × (find (is_hash_match a p v) ls ≡ Some l)
         by None f h = absurd (subst (OptionsPaired IsHashedAlike (Some k)) f h)
         by (Some l) f h = (l, subst (OptionsPaired IsHashedAlike (Some k)) f h, f)
 

@@ -1,5 +1,6 @@
 -- What a record of an NSEC3 chain says of the hash of a name that no other name of the chain has.
-use Rattle.std.proofs.Common.{◌≡◌, ◌<◌, ℕ, Bool, zero, suc, true, false, cond, not, ◌&&◌, ◌||◌, List, [], ◌∷◌, map, refl, sym, ap, ◌∙◌, inl, inr, eq-eqb, Some, None, slice_get}
+use Rattle.std.proofs.Common.{◌≡◌, ◌<◌, ℕ, Bool, zero, suc, true, false, cond, not, ◌&&◌, ◌||◌, List}
+use Rattle.std.proofs.Common.{[], ◌∷◌, map, refl, sym, ap, ◌∙◌, inl, inr, eq-eqb, Some, None, slice_get}
 use Rattle.std.specs.List.{AllByRecursion, list_any}
 use Rattle.std.specs.Cmp.Lexicographic.{nat_list_cmp_total, slice_cmp, bytes_decides}
 use Rattle.std.specs.Ordering.{nat_cmp, is_lt, is_eq, ordering_reverse}
@@ -22,7 +23,8 @@ use Rattle.domain_zone.specs.Enclosers.{exists_over}
 use Rattle.domain_zone.proofs.NameLemmas.{one_lowered, same_itself}
 use Rattle.domain_nsec3.specs.Chain.{HashedLink, HashedName, IsHashedChain, IsOfChain, cycle, ends, ends_of, hashed_owner}
 use Rattle.domain_nsec3.specs.Config.{ChainConfig, Hash, Parameters, hash_name}
-use Rattle.domain_nsec3.specs.Meaning.{CutsEnclose, IsAlone, IsCovered, IsMatched, IsMatchedOrCoveredOnce, IsRecordOf, MirrorsZone, TellsEncloser, octets_before}
+use Rattle.domain_nsec3.specs.Meaning.{CutsEnclose, IsAlone, IsCovered, IsMatched, IsMatchedOrCoveredOnce}
+use Rattle.domain_nsec3.specs.Meaning.{IsRecordOf, MirrorsZone, TellsEncloser, octets_before}
 use Rattle.domain_nsec3.specs.Owners.{is_chain_name, is_original_owner, nsec3_lists, original_owners}
 use Rattle.domain_checker.specs.HashedList.{same_parameters, is_spelling, read_label, hash_in, owner_hash, is_some_with, is_hash_match, is_hash_cover}
 use Rattle.domain_checker.specs.HashedVerdict.{is_covered, is_matched, is_ok_with}
@@ -56,7 +58,8 @@ pub record ChainFacts (L : List ZoneRecord) (a : Name) (config : ChainConfig) (l
   pub tells_apart : (u v : Octets) → AreOctets u → AreOctets v → base32_lower u ≡ base32_lower v → u ≡ v
 
 -- the ends of a link at a place are those of a pair
-end_at : (a : Name) (links : List HashedLink) (ps : List (Octets × Octets)) → map ends links ≡ map (ends_of a) ps → (j : ℕ) (k : HashedLink) → slice_get links j ≡ Some k → (p : Octets × Octets) × In p ps × (k.owner ≡ hashed_owner a p.0)
+end_at : (a : Name) (links : List HashedLink) (ps : List (Octets × Octets)) → map ends links ≡ map (ends_of a) ps
+    → (j : ℕ) (k : HashedLink) → slice_get links j ≡ Some k → (p : Octets × Octets) × In p ps × (k.owner ≡ hashed_owner a p.0)
 end_at a [] ps e j k g = absurd (cc)
 end_at a (l ∷ links) [] e j k g = absurd (cc)
 end_at a (l ∷ links) (p ∷ ps) e zero k g =
@@ -72,7 +75,8 @@ in_cycle : (hashes : List Octets) (p : Octets × Octets) → In p (cycle hashes)
 in_cycle [] p i = i
 in_cycle (u ∷ us) p i = (in_pairs (u ∷ us) u p i).0
 
-hashes_octets : (L : List ZoneRecord) (a : Name) (config : ChainConfig) (names : List HashedName) → AllByRecursion (IsOfChain L a config) names → AllByRecursion AreOctets (map (λ n. n.hash) names)
+hashes_octets : (L : List ZoneRecord) (a : Name) (config : ChainConfig) (names : List HashedName)
+    → AllByRecursion (IsOfChain L a config) names → AllByRecursion AreOctets (map (λ n. n.hash) names)
 hashes_octets L a config [] h = tt
 hashes_octets L a config (n ∷ names) h = (h.0.sound.2, hashes_octets L a config names h.1)
 
@@ -86,7 +90,8 @@ module _ (L : List ZoneRecord) (a : Name) (config : ChainConfig) (links : List H
         record {
           there = s.there;
           spelled = e.2;
-          octets = all_in AreOctets hashes e.0.0 (hashes_octets L a config chain.names (recursion_from_All (IsOfChain L a config) chain.names chain.sound)) (in_cycle hashes e.0 e.1);
+          octets = all_in AreOctets hashes e.0.0 (hashes_octets L a config chain.names
+              (recursion_from_All (IsOfChain L a config) chain.names chain.sound)) (in_cycle hashes e.0 e.1);
         },
       )
 
@@ -132,7 +137,8 @@ module _ (L : List ZoneRecord) (a : Name) (config : ChainConfig) (links : List H
     one = facts.mirrors.each d v low alone
 
     -- a record that matches or covers the hash is that one
-    record_is : (k : HashedLink) (s : Stands links k) → matches_or_covers octets_before (record_at k s).0 k.next v ≡ true → (k ≡ one.link) × ((record_at k s).0 ≡ one.hash)
+    record_is : (k : HashedLink) (s : Stands links k) → matches_or_covers octets_before (record_at k s).0 k.next v ≡ true
+        → (k ≡ one.link) × ((record_at k s).0 ≡ one.hash)
     record_is k s h =
         let r = (record_at k s).1 in
         let place : s.place ≡ one.place = one.only s.place k (record_at k s).0 r h in
@@ -142,11 +148,13 @@ module _ (L : List ZoneRecord) (a : Name) (config : ChainConfig) (links : List H
         let text : base32_lower (record_at k s).0 ≡ base32_lower one.hash = cc in
         (same, facts.tells_apart (record_at k s).0 one.hash r.octets one.is.octets text)
 
-    says : (test : Octets → Bool) (k : HashedLink) (i : In k links) (s : Stands links k) → is_some_with test (owner_hash a config.parameters k) ≡ test (record_at k s).0
+    says : (test : Octets → Bool) (k : HashedLink) (i : In k links) (s : Stands links k)
+        → is_some_with test (owner_hash a config.parameters k) ≡ test (record_at k s).0
     says test k i s = let r = (record_at k s).1 in ap (is_some_with test) (hash_at k i (record_at k s).0 r.octets r.spelled)
 
     -- a record that matches the hash is that of d, which is a name of the chain
-    pub matched_once : (k : HashedLink) (i : In k links) (s : Stands links k) → is_hash_match a config.parameters v k ≡ true → (is_chain_name L a config d ≡ true) × (k.bits ≡ bitmap_octets (nsec3_lists L a config d))
+    pub matched_once : (k : HashedLink) (i : In k links) (s : Stands links k) → is_hash_match a config.parameters v k ≡ true
+        → (is_chain_name L a config d ≡ true) × (k.bits ≡ bitmap_octets (nsec3_lists L a config d))
     matched_once k i s h =
         let m : matches octets_before (record_at k s).0 v ≡ true = sym (says (λ u. matches octets_before u v) k i s) ∙ h in
         let is = record_is k s (or_left (matches octets_before (record_at k s).0 v) (covers octets_before (record_at k s).0 k.next v) m) in
@@ -154,9 +162,13 @@ module _ (L : List ZoneRecord) (a : Name) (config : ChainConfig) (links : List H
         (known, ap (λ l. l.bits) is.0 ∙ one.bits known)
 
     -- no record covers the hash of a name of the chain
-    pub covered_never : is_chain_name L a config d ≡ true → (k : HashedLink) (i : In k links) (s : Stands links k) → is_hash_cover a config.parameters v k ≡ true → ⊥
+    pub covered_never : is_chain_name L a config d ≡ true → (k : HashedLink) (i : In k links) (s : Stands links k)
+        → is_hash_cover a config.parameters v k ≡ true → ⊥
     covered_never known k i s h =
         let c : covers octets_before (record_at k s).0 k.next v ≡ true = sym (says (λ u. covers octets_before u k.next v) k i s) ∙ h in
         let is = record_is k s (or_right (matches octets_before (record_at k s).0 v) (covers octets_before (record_at k s).0 k.next v) c) in
         let m : matches octets_before (record_at k s).0 v ≡ true = ap (λ u. matches octets_before u v) is.1 ∙ one.matched ∙ known in
-        false≢true (sym (not-true (matches octets_before (record_at k s).0 v) (and_parts (not (matches octets_before (record_at k s).0 v)) (cond (octets_before (record_at k s).0 k.next) (octets_before (record_at k s).0 v && octets_before v k.next) (octets_before (record_at k s).0 v || octets_before v k.next)) c).0) ∙ m)
+        false≢true (sym (not-true (matches octets_before (record_at k s).0 v)
+        (and_parts (not (matches octets_before (record_at k s).0 v))
+        (cond (octets_before (record_at k s).0 k.next) (octets_before (record_at k s).0 v && octets_before v k.next)
+        (octets_before (record_at k s).0 v || octets_before v k.next)) c).0) ∙ m)

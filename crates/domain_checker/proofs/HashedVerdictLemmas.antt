@@ -1,5 +1,6 @@
 -- What a list of records of an NSEC3 chain says is what it proves.
-use Rattle.std.proofs.Common.{◌≡◌, ◌≢◌, ℕ, ◌+◌, ◌-◌, ◌≤◌, ◌<◌, Bool, true, false, cond, not, ◌&&◌, ◌||◌, List, [], ◌∷◌, All, length, drop, refl, sym, ap, ◌∙◌, subst, inl, inr, ◌⊎◌, nat_eq, Option, Some, None, arith}
+use Rattle.std.proofs.Common.{◌≡◌, ◌≢◌, ℕ, ◌+◌, ◌-◌, ◌≤◌, ◌<◌, Bool, true, false, cond, not, ◌&&◌, ◌||◌, List, [], ◌∷◌}
+use Rattle.std.proofs.Common.{All, length, drop, refl, sym, ap, ◌∙◌, subst, inl, inr, ◌⊎◌, nat_eq, Option, Some, None, arith}
 use Rattle.std.specs.Prelude.{Ok, filter}
 use Rattle.std.specs.List.{find, list_any, Contains, range_with_len}
 use Rattle.std.proofs.lemmas.Bool.{cases_Bool, cases_lt, false≢true, and_parts, and_from, or_left, or_right}
@@ -21,7 +22,9 @@ use Rattle.domain_nsec3.specs.Meaning.{AreAlone, IsAlone}
 use Rattle.domain_nsec3.specs.Owners.{is_chain_name, is_empty, is_excluded, is_listed, is_original_owner, is_unsigned_cut, nsec3_lists, original_owners}
 use Rattle.domain_checker.specs.HashedList.{is_hash_match, is_hash_cover}
 use Rattle.domain_checker.specs.HashedReading.{is_none, tells_cut, hash_match_verdict, hash_cover_verdict, told_verdict, IsNextHash, IsUnmatched, IsWalked}
-use Rattle.domain_checker.specs.HashedVerdict.{is_below_chain_cut, original_verdict, missing_verdict, hashed_zone_verdict, next_closer, is_ok_with, is_matched, is_covered, proves, hashed_proved_verdict, IsHashedProved, IsFirstMatched, lists_ns, is_told_cut, HasHashedProof}
+use Rattle.domain_checker.specs.HashedVerdict.{is_below_chain_cut, original_verdict, missing_verdict, hashed_zone_verdict, next_closer}
+use Rattle.domain_checker.specs.HashedVerdict.{is_ok_with, is_matched, is_covered, proves, hashed_proved_verdict}
+use Rattle.domain_checker.specs.HashedVerdict.{IsHashedProved, IsFirstMatched, lists_ns, is_told_cut, HasHashedProof}
 use Rattle.domain_checker.specs.Verdict.{closest_encloser, IsWithin}
 use Rattle.domain_checker.specs.declared.verdict.Verdict.{Verdict}
 use Rattle.domain_checker.specs.declared.verdict.Verdict.TheVariants.{OutsideZone, BelowDelegation, Has, NoType, EmptyName, OptOut, NoName, NotProven}
@@ -32,7 +35,8 @@ use Rattle.domain_checker.proofs.HashedWalkLemmas.{below_strictly, closer_is, sa
 
 -- ---- a bitmap without types
 
-nil_none : (types : ℕ → Bool) → types_of (bitmap_octets types) ≡ types_below 65536 types → ((t : ℕ) → types t ≡ false) → is_none (types_of (bitmap_octets types)) ≡ true
+nil_none : (types : ℕ → Bool) → types_of (bitmap_octets types) ≡ types_below 65536 types → ((t : ℕ) → types t ≡ false)
+    → is_none (types_of (bitmap_octets types)) ≡ true
 unfolding types_below
 nil_none types gives f = ap is_none gives ∙ each (range_with_len 0 65536)
   where
@@ -53,7 +57,8 @@ in_range n t l =
     let within : t < length (range_with_len 0 n) = subst (λ m. t < m) (sym (length-range_with_len 0 n)) l in
     in_at (range_with_len 0 n) t t (slice_get-get_or (range_with_len 0 n) t 0 within ∙ ap Some (get_or-range_with_len 0 n t 0 l ∙ omega arith))
 
-nil_some : (types : ℕ → Bool) → types_of (bitmap_octets types) ≡ types_below 65536 types → (t : ℕ) → t < 65536 → types t ≡ true → is_none (types_of (bitmap_octets types)) ≡ false
+nil_some : (types : ℕ → Bool) → types_of (bitmap_octets types) ≡ types_below 65536 types → (t : ℕ) → t < 65536 → types t ≡ true
+    → is_none (types_of (bitmap_octets types)) ≡ false
 unfolding types_below
 nil_some types gives t b e =
     ap is_none gives
@@ -73,7 +78,8 @@ module _ (L : List ZoneRecord) (a : Name) (config : ChainConfig) where
   ns_listed : (n : Name) → nsec3_lists L a config n ns ≡ has_type (records_of L n) ns
   ns_listed n = by (owns L n) (is_zone_cut L a n) (has_type (records_of L n) ns) (typed_owns L n ns)
     where
-      by : (o c h : Bool) → (h ≡ true → o ≡ true) → (o && ((((false && not (is_unsigned_cut L a n)) || (false && same_name n a)) || (false && (config.assume_dnskeys_will_be_added && same_name n a))) || (h && ((not c || true) || false)))) ≡ h
+      by : (o c h : Bool) → (h ≡ true → o ≡ true) → (o && ((((false && not (is_unsigned_cut L a n)) || (false && same_name n a))
+          || (false && (config.assume_dnskeys_will_be_added && same_name n a))) || (h && ((not c || true) || false)))) ≡ h
       by true true true f = refl
       by true true false f = refl
       by true false true f = refl
@@ -88,13 +94,16 @@ module _ (L : List ZoneRecord) (a : Name) (config : ChainConfig) where
         | inl e ↦
             let cut = (and_parts (is_zone_cut L a n) (not (has_type (records_of L n) ds)) e).0 in
             inr (ns_listed n ∙ (and_parts (is_strictly_below n a) (has_type (records_of L n) ns) cut).1)
-        | inr e ↦ inl (λ i. o i && ((((true && not (e i)) || (false && same_name n a)) || (false && (config.assume_dnskeys_will_be_added && same_name n a))) || lists_type (is_zone_cut L a n) (records_of L n) rrsig))
+        | inr e ↦ inl (λ i. o i && ((((true && not (e i)) || (false && same_name n a))
+            || (false && (config.assume_dnskeys_will_be_added && same_name n a)))
+            || lists_type (is_zone_cut L a n) (records_of L n) rrsig))
       ]
 
   original_owns : (x : Name) → is_original_owner L a config x ≡ true → owns L x ≡ true
   original_owns x h =
       let m = any_in (λ n. same_name n x) (original_owners L a config) h in
-      owner_owns config.occlude_below_dname L a m.0 x (in_filter (λ n. not (is_excluded L a config n)) (unoccluded_owners config.occlude_below_dname L a) m.0 m.1).0 m.2
+      owner_owns config.occlude_below_dname L a m.0 x (in_filter (λ n. not (is_excluded L a config n))
+      (unoccluded_owners config.occlude_below_dname L a) m.0 m.1).0 m.2
 
   -- a name of the chain that is no original owner lists nothing
   empty_lists : (x : Name) → is_chain_name L a config x ≡ true → is_original_owner L a config x ≡ false → (t : ℕ) → nsec3_lists L a config x t ≡ false
@@ -106,7 +115,8 @@ module _ (L : List ZoneRecord) (a : Name) (config : ChainConfig) where
         | inl o ↦ absurd (false≢true (ap not (sym o) ∙ other))
         | inr o ↦ o
       ] in
-      λ i. none i && is_listed (is_unsigned_cut L a x) (same_name x a) (config.assume_dnskeys_will_be_added && same_name x a) (is_zone_cut L a x) (records_of L x) t
+      λ i. none i && is_listed (is_unsigned_cut L a x) (same_name x a) (config.assume_dnskeys_will_be_added && same_name x a)
+      (is_zone_cut L a x) (records_of L x) t
 
 none_found : {X : Type 0} (p : X → Bool) (xs : List X) → ((x : X) → In x xs → p x ≡ true → ⊥) → find p xs ≡ None
 none_found p [] f = refl
@@ -154,7 +164,8 @@ module _ (L : List ZoneRecord) (a : Name) (config : ChainConfig) (links : List H
         | inr s ↦
             let closer = closer_is x en closest.above (shorter_encloser s) in
             or_right (same_name en x || is_zone_cut L a en) (covered (next_closer x en))
-            (covered_in L a config links facts listed has (next_closer x en) (tells.next (next_closer x en) (record { above = closer.above; below = closer.below; longer = closer.long })))
+            (covered_in L a config links facts listed has (next_closer x en)
+            (tells.next (next_closer x en) (record { above = closer.above; below = closer.below; longer = closer.long })))
       ])
     where
       shorter_encloser : same_name en x ≡ false → length en < length x
@@ -167,16 +178,19 @@ module _ (L : List ZoneRecord) (a : Name) (config : ChainConfig) (links : List H
   within_links k i = let s = among k i in in_at links s.place k s.there
 
   -- without the record of the closest encloser nothing is proved
-  untold : (t : ℕ) → is_matched a config.parameters config.hash listed (closest_encloser (original_owners L a config) a x) ≡ false → NotProven ≡ hashed_proved_verdict L a config listed x t
+  untold : (t : ℕ) → is_matched a config.parameters config.hash listed (closest_encloser (original_owners L a config) a x) ≡ false
+      → NotProven ≡ hashed_proved_verdict L a config listed x t
   untold t f =
-      sym (λ j. cond (not (low j) || (f j && ((same_name en x || is_zone_cut L a en) || covered (next_closer x en)))) (hashed_zone_verdict L a config x t) NotProven)
+      sym (λ j. cond (not (low j) || (f j && ((same_name en x || is_zone_cut L a en) || covered (next_closer x en))))
+      (hashed_zone_verdict L a config x t) NotProven)
 
   pub none_proved : (t : ℕ) → IsUnmatched listed a config.parameters config.hash x → NotProven ≡ hashed_proved_verdict L a config listed x t
   none_proved t f =
       untold t (f en closest.above (and_parts (is_at_or_below en a) (list_any (λ n. is_at_or_below n en) owners) closest.found).0).2
 
   -- what exists is not strictly below a zone cut of the chain
-  cut_apart : (c y : Name) → is_zone_cut L a c ≡ true → is_original_owner L a config c ≡ true → exists_over (original_owners L a config) a y ≡ true → is_strictly_below y c ≡ true → ⊥
+  cut_apart : (c y : Name) → is_zone_cut L a c ≡ true → is_original_owner L a config c ≡ true
+      → exists_over (original_owners L a config) a y ≡ true → is_strictly_below y c ≡ true → ⊥
   cut_apart c y cut original there s =
       let l = (facts.cuts.each c y cut original s).longest y there (below_itself y) in
       let m = strictly_longer y c s in
@@ -194,7 +208,8 @@ module _ (L : List ZoneRecord) (a : Name) (config : ChainConfig) (links : List H
       let p = and_parts (is_zone_cut L a m.0) (is_strictly_below y m.0) m.2 in
       record { cut = m.0; is_cut = p.0; original = in_any (λ n. same_name n m.0) owners m.0 m.1 (same_itself m.0 m.0 refl); under = p.1 }
 
-  below_cut : (c y : Name) → is_zone_cut L a c ≡ true → is_original_owner L a config c ≡ true → is_strictly_below y c ≡ true → is_below_chain_cut L a config y ≡ true
+  below_cut : (c y : Name) → is_zone_cut L a c ≡ true → is_original_owner L a config c ≡ true → is_strictly_below y c ≡ true
+      → is_below_chain_cut L a config y ≡ true
   below_cut c y cut original s =
       let m = any_in (λ n. same_name n c) owners original in
       let at : Name → Bool = λ k. lowered_below (lowered y) k && not (same_lowered (lowered y) k) in
@@ -209,7 +224,9 @@ module _ (L : List ZoneRecord) (a : Name) (config : ChainConfig) (links : List H
       ]
 
   -- d is the first that is matched, v its hash, and k the first record that matches it
-  module _ (d : Name) (first : IsFirstMatched a config.parameters config.hash listed x d) (v : Octets) (known : hash_name config.hash d ≡ Ok v) (k : HashedLink) (found : find (is_hash_match a config.parameters v) listed ≡ Some k) where
+  module _ (d : Name) (first : IsFirstMatched a config.parameters config.hash listed x d) (v : Octets)
+      (known : hash_name config.hash d ≡ Ok v) (k : HashedLink) (found : find (is_hash_match a config.parameters v) listed
+      ≡ Some k) where
     alone_at : (y : Name) → is_at_or_below x y ≡ true → is_at_or_below y a ≡ true → (w : Octets) → hash_name config.hash y ≡ Ok w → IsAlone L a config y w
     alone_at y up in_zone w is =
         let f = free y up in_zone in
@@ -220,7 +237,8 @@ module _ (L : List ZoneRecord) (a : Name) (config : ChainConfig) (links : List H
     passes = find_some (is_hash_match a config.parameters v) listed k found
 
     told : (is_chain_name L a config d ≡ true) × (k.bits ≡ bitmap_octets (nsec3_lists L a config d))
-    told = matched_once L a config links facts d first.within v (alone_at d first.above first.within v known) k (within_links k passes.0) (among k passes.0) passes.1
+    told = matched_once L a config links facts d first.within v (alone_at d first.above first.within v known) k
+        (within_links k passes.0) (among k passes.0) passes.1
 
     exists : exists_over (original_owners L a config) a d ≡ true
     exists = facts.exist d first.within ∙ told.0
@@ -260,12 +278,20 @@ module _ (L : List ZoneRecord) (a : Name) (config : ChainConfig) (links : List H
           λ j. (ap (is_ok_with (λ v. list_any (is_hash_match a config.parameters v) listed)) (hash_same config.hash en d is_d) ∙ first.found) j
           && ((same_lowered (one_lowered en d is_d j) (lowered x) || cut_same L a en d is_d j) || covered (drop (length x - (long j + 1)) x))
 
-      proved : (w : Verdict) → ((same_name d x || is_zone_cut L a d) || is_covered a config.parameters config.hash listed (next_closer x d)) ≡ true → w ≡ hashed_zone_verdict L a config x t → w ≡ hashed_proved_verdict L a config listed x t
+      proved : (w : Verdict) → ((same_name d x || is_zone_cut L a d)
+          || is_covered a config.parameters config.hash listed (next_closer x d)) ≡ true → w ≡ hashed_zone_verdict L a config x t
+          → w ≡ hashed_proved_verdict L a config listed x t
       proved w h f = f ∙ sym (λ j. cond (not (low j) || (proves_is ∙ h) j) (hashed_zone_verdict L a config x t) NotProven)
 
-      inside : (w : Verdict) → is_below_chain_cut L a config x ≡ false → w ≡ cond (is_original_owner L a config x) (original_verdict L a config x t) (cond (exists_over (original_owners L a config) a x) EmptyName (missing_verdict (is_opt_out config.flags) (length (closest_encloser (original_owners L a config) a x)))) → w ≡ hashed_zone_verdict L a config x t
+      inside : (w : Verdict) → is_below_chain_cut L a config x ≡ false
+          → w ≡ cond (is_original_owner L a config x) (original_verdict L a config x t)
+          (cond (exists_over (original_owners L a config) a x) EmptyName
+          (missing_verdict (is_opt_out config.flags) (length (closest_encloser (original_owners L a config) a x))))
+          → w ≡ hashed_zone_verdict L a config x t
       inside w n f =
-          f ∙ sym (λ j. cond (not (low j)) OutsideZone (cond (n j) BelowDelegation (cond (is_original_owner L a config x) (original_verdict L a config x t) (cond (exists_over owners a x) EmptyName (missing_verdict (is_opt_out config.flags) (length en))))))
+          f ∙ sym (λ j. cond (not (low j)) OutsideZone (cond (n j) BelowDelegation
+          (cond (is_original_owner L a config x) (original_verdict L a config x t)
+          (cond (exists_over owners a x) EmptyName (missing_verdict (is_opt_out config.flags) (length en))))))
 
       -- the name itself
       at_name : same_name d x ≡ true → hash_match_verdict a d k t ≡ hashed_proved_verdict L a config listed x t
@@ -275,10 +301,14 @@ module _ (L : List ZoneRecord) (a : Name) (config : ChainConfig) (links : List H
           (inside (hash_match_verdict a d k t) (not_below x there)
           (elim (cases_Bool (is_original_owner L a config x)) [
             | inl h ↦
-                (λ j. cond ((type_at t bound ∙ facts.alike d x s t) j) Has (cond ((told_cut ∙ cut_same L a d x s) j && not (nat_eq t ds)) BelowDelegation (cond (typed (some_listed L a config x (original_owns L a config x h)) j) EmptyName NoType)))
-                ∙ sym (λ j. cond (h j) (original_verdict L a config x t) (cond (exists_over owners a x) EmptyName (missing_verdict (is_opt_out config.flags) (length en))))
+                (λ j. cond ((type_at t bound ∙ facts.alike d x s t) j) Has
+                (cond ((told_cut ∙ cut_same L a d x s) j && not (nat_eq t ds)) BelowDelegation
+                (cond (typed (some_listed L a config x (original_owns L a config x h)) j) EmptyName NoType)))
+                ∙ sym (λ j. cond (h j) (original_verdict L a config x t)
+                (cond (exists_over owners a x) EmptyName (missing_verdict (is_opt_out config.flags) (length en))))
             | inr h ↦
-                let no_bit : (u : ℕ) → nsec3_lists L a config d u ≡ false = λ u. facts.alike d x s u ∙ empty_lists L a config x (sym (facts.exist x low) ∙ there) h u in
+                let no_bit : (u : ℕ) → nsec3_lists L a config d u ≡ false = λ u. facts.alike d x s u
+                ∙ empty_lists L a config x (sym (facts.exist x low) ∙ there) h u in
                 let no_cut : tells_cut a d k ≡ false = (λ j. not (same_name d a) && (type_at ns (omega arith) ∙ no_bit ns) j) ∙ none (not (same_name d a)) in
                 (λ j. cond ((type_at t bound ∙ no_bit t) j) Has (cond (no_cut j && not (nat_eq t ds)) BelowDelegation (cond (empty no_bit j) EmptyName NoType)))
                 ∙ sym (λ j. cond (h j) (original_verdict L a config x t) (cond (there j) EmptyName (missing_verdict (is_opt_out config.flags) (length en))))
@@ -289,8 +319,12 @@ module _ (L : List ZoneRecord) (a : Name) (config : ChainConfig) (links : List H
           none false = refl
 
           typed : (nsec3_lists L a config x rrsig ≡ true) ⊎ (nsec3_lists L a config x ns ≡ true) → is_none (types_of k.bits) ≡ false
-          typed (inl e) = ap (λ o. is_none (types_of o)) told.1 ∙ nil_some (nsec3_lists L a config d) (facts.gives (nsec3_lists L a config d)) rrsig (omega arith) (facts.alike d x s rrsig ∙ e)
-          typed (inr e) = ap (λ o. is_none (types_of o)) told.1 ∙ nil_some (nsec3_lists L a config d) (facts.gives (nsec3_lists L a config d)) ns (omega arith) (facts.alike d x s ns ∙ e)
+          typed (inl e) = ap (λ o. is_none (types_of o)) told.1
+              ∙ nil_some (nsec3_lists L a config d) (facts.gives (nsec3_lists L a config d)) rrsig (omega arith)
+              (facts.alike d x s rrsig ∙ e)
+          typed (inr e) = ap (λ o. is_none (types_of o)) told.1
+              ∙ nil_some (nsec3_lists L a config d) (facts.gives (nsec3_lists L a config d)) ns (omega arith)
+              (facts.alike d x s ns ∙ e)
 
           empty : ((u : ℕ) → nsec3_lists L a config d u ≡ false) → is_none (types_of k.bits) ≡ true
           empty f = ap (λ o. is_none (types_of o)) told.1 ∙ nil_none (nsec3_lists L a config d) (facts.gives (nsec3_lists L a config d)) f
@@ -306,10 +340,14 @@ module _ (L : List ZoneRecord) (a : Name) (config : ChainConfig) (links : List H
       at_cut s c =
           let under = below_strictly x d first.above (longer s) in
           proved BelowDelegation (or_left (same_name d x || is_zone_cut L a d) (covered (next_closer x d)) (or_right (same_name d x) (is_zone_cut L a d) c))
-          (sym (λ j. cond (not (low j)) OutsideZone (cond (below_cut d x c (cut_original c) under j) BelowDelegation (cond (is_original_owner L a config x) (original_verdict L a config x t) (cond (exists_over owners a x) EmptyName (missing_verdict (is_opt_out config.flags) (length en)))))))
+          (sym (λ j. cond (not (low j)) OutsideZone (cond (below_cut d x c (cut_original c) under j) BelowDelegation
+          (cond (is_original_owner L a config x) (original_verdict L a config x t)
+          (cond (exists_over owners a x) EmptyName (missing_verdict (is_opt_out config.flags) (length en)))))))
 
       -- no zone cut, and a cover or none
-      at_gap : same_name d x ≡ false → is_zone_cut L a d ≡ false → (w : Octets) → hash_name config.hash (next_closer x d) ≡ Ok w → hash_cover_verdict (length d) (find (is_hash_cover a config.parameters w) listed) ≡ hashed_proved_verdict L a config listed x t
+      at_gap : same_name d x ≡ false → is_zone_cut L a d ≡ false → (w : Octets) → hash_name config.hash (next_closer x d) ≡ Ok w
+          → hash_cover_verdict (length d) (find (is_hash_cover a config.parameters w) listed)
+          ≡ hashed_proved_verdict L a config listed x t
       at_gap s c w asked = by (find (is_hash_cover a config.parameters w) listed) refl
         where
           covered_is : is_covered a config.parameters config.hash listed (next_closer x d) ≡ list_any (is_hash_cover a config.parameters w) listed
@@ -340,12 +378,15 @@ module _ (L : List ZoneRecord) (a : Name) (config : ChainConfig) (links : List H
                     let under = below_longer x d r.cut first.above above (omega (arith, l, level)) in
                     elim (cases_Bool (same_name d r.cut)) [
                       | inl g ↦ absurd (false≢true (sym c ∙ cut_same L a d r.cut g ∙ r.is_cut))
-                      | inr g ↦ absurd (cut_apart r.cut d r.is_cut r.original exists (and_from (is_at_or_below d r.cut) (not (same_name d r.cut)) under (ap not g)))
+                      | inr g ↦ absurd (cut_apart r.cut d r.is_cut r.original exists
+                          (and_from (is_at_or_below d r.cut) (not (same_name d r.cut)) under (ap not g)))
                     ]
                 | inr f ↦ f
               ]
 
-          by : (o : Option HashedLink) → find (is_hash_cover a config.parameters w) listed ≡ o → hash_cover_verdict (length d) (find (is_hash_cover a config.parameters w) listed) ≡ hashed_proved_verdict L a config listed x t
+          by : (o : Option HashedLink) → find (is_hash_cover a config.parameters w) listed ≡ o
+              → hash_cover_verdict (length d) (find (is_hash_cover a config.parameters w) listed)
+              ≡ hashed_proved_verdict L a config listed x t
           by None f =
               let none = any_none (is_hash_cover a config.parameters w) listed (find_none (is_hash_cover a config.parameters w) listed f) in
               ap (hash_cover_verdict (length d)) f
@@ -359,9 +400,11 @@ module _ (L : List ZoneRecord) (a : Name) (config : ChainConfig) (links : List H
               ∙ proved (missing_verdict (is_opt_out config.flags) (length en))
               (or_right (same_name d x || is_zone_cut L a d) (covered (next_closer x d)) (covered_is ∙ some))
               (inside (missing_verdict (is_opt_out config.flags) (length en)) no_cut_above
-              (sym (λ j. cond (not_original j) (original_verdict L a config x t) (cond (not_there j) EmptyName (missing_verdict (is_opt_out config.flags) (length en))))))
+              (sym (λ j. cond (not_original j) (original_verdict L a config x t)
+              (cond (not_there j) EmptyName (missing_verdict (is_opt_out config.flags) (length en))))))
 
-      at_level : (next : Option Octets) → IsNextHash config.hash x d next → told_verdict a config.parameters listed d k t next ≡ hashed_proved_verdict L a config listed x t
+      at_level : (next : Option Octets) → IsNextHash config.hash x d next
+          → told_verdict a config.parameters listed d k t next ≡ hashed_proved_verdict L a config listed x t
       at_level None s = at_name s
       at_level (Some w) n =
           (λ j. cond (told_cut j) BelowDelegation (hash_cover_verdict (length d) (find (is_hash_cover a config.parameters w) listed)))
@@ -393,11 +436,15 @@ module _ (L : List ZoneRecord) (a : Name) (config : ChainConfig) (links : List H
           let under = below_longer x en q closest.above closer.above (omega (arith, closer.long, deeper)) in
           let e = and_parts (is_at_or_below en a) (list_any (λ n. is_at_or_below n en) owners) closest.found in
           let o = any_in (λ n. is_at_or_below n en) owners e.1 in
-          let there : exists_over owners a q ≡ true = and_from (is_at_or_below q a) (list_any (λ n. is_at_or_below n q) owners) in_zone (in_any (λ n. is_at_or_below n q) owners o.0 o.1 (below_trans o.0 en q o.2 under)) in
+          let there : exists_over owners a q ≡ true = and_from (is_at_or_below q a)
+          (list_any (λ n. is_at_or_below n q) owners) in_zone
+          (in_any (λ n. is_at_or_below n q) owners o.0 o.1 (below_trans o.0 en q o.2 under)) in
           none_found (is_hash_cover a config.parameters w) listed
-          (λ r i h. covered_never L a config links facts q in_zone w (alone_at q closer.above in_zone w asked) (sym (facts.exist q in_zone) ∙ there) r (within_links r i) (among r i) h)
+          (λ r i h. covered_never L a config links facts q in_zone w (alone_at q closer.above in_zone w asked)
+          (sym (facts.exist q in_zone) ∙ there) r (within_links r i) (among r i) h)
 
-      at_higher : (next : Option Octets) → IsNextHash config.hash x d next → told_verdict a config.parameters listed d k t next ≡ hashed_proved_verdict L a config listed x t
+      at_higher : (next : Option Octets) → IsNextHash config.hash x d next
+          → told_verdict a config.parameters listed d k t next ≡ hashed_proved_verdict L a config listed x t
       at_higher None s =
           let n = same_count d x s in
           let m = below_length x en closest.above in
@@ -406,7 +453,8 @@ module _ (L : List ZoneRecord) (a : Name) (config : ChainConfig) (links : List H
           (λ j. cond (no_cut j) BelowDelegation (hash_cover_verdict (length d) (no_cover w n.1 j)))
           ∙ untold t (first.first en closest.above strictly).2
 
-    pub told_proved : (t : ℕ) → t < 65536 → (next : Option Octets) → IsNextHash config.hash x d next → told_verdict a config.parameters listed d k t next ≡ hashed_proved_verdict L a config listed x t
+    pub told_proved : (t : ℕ) → t < 65536 → (next : Option Octets) → IsNextHash config.hash x d next
+        → told_verdict a config.parameters listed d k t next ≡ hashed_proved_verdict L a config listed x t
     told_proved t b next n =
         elim (cases_lt (length d) (length (closest_encloser (original_owners L a config) a x))) [
           | inl h ↦ at_higher h t next n
@@ -416,18 +464,23 @@ module _ (L : List ZoneRecord) (a : Name) (config : ChainConfig) (links : List H
 -- ---- lists from anywhere
 
 module _ (listed : List HashedLink) (a : Name) (p : Parameters) (hash : Hash) (x : Name) (t : ℕ) where
-  told_has_proof : (d : Name) (k : HashedLink) (v : Octets) (next : Option Octets) → IsFirstMatched a p hash listed x d → hash_name hash d ≡ Ok v → find (is_hash_match a p v) listed ≡ Some k → IsNextHash hash x d next → told_verdict a p listed d k t next ≢ NotProven → HasHashedProof listed a p hash x
+  told_has_proof : (d : Name) (k : HashedLink) (v : Octets) (next : Option Octets) → IsFirstMatched a p hash listed x d
+      → hash_name hash d ≡ Ok v → find (is_hash_match a p v) listed ≡ Some k → IsNextHash hash x d next
+      → told_verdict a p listed d k t next ≢ NotProven → HasHashedProof listed a p hash x
   told_has_proof d k v None first known found s n = record {
     longest = d;
     first = first;
-    closes = or_left (same_name d x || is_told_cut a p hash listed d) (is_covered a p hash listed (next_closer x d)) (or_left (same_name d x) (is_told_cut a p hash listed d) s);
+    closes = or_left (same_name d x || is_told_cut a p hash listed d) (is_covered a p hash listed (next_closer x d))
+        (or_left (same_name d x) (is_told_cut a p hash listed d) s);
   }
   told_has_proof d k v (Some w) first known found s n = record {
     longest = d;
     first = first;
     closes = elim (cases_Bool (tells_cut a d k)) [
-      | inl c ↦ or_left (same_name d x || is_told_cut a p hash listed d) (is_covered a p hash listed (next_closer x d)) (or_right (same_name d x) (is_told_cut a p hash listed d) (cut_told ∙ c))
-      | inr c ↦ or_right (same_name d x || is_told_cut a p hash listed d) (is_covered a p hash listed (next_closer x d)) (by (find (is_hash_cover a p w) listed) refl c)
+      | inl c ↦ or_left (same_name d x || is_told_cut a p hash listed d) (is_covered a p hash listed (next_closer x d))
+          (or_right (same_name d x) (is_told_cut a p hash listed d) (cut_told ∙ c))
+      | inr c ↦ or_right (same_name d x || is_told_cut a p hash listed d) (is_covered a p hash listed (next_closer x d))
+          (by (find (is_hash_cover a p w) listed) refl c)
     ];
   }
     where
@@ -479,20 +532,27 @@ abbrev pub KnowsChains : Type 0
 KnowsChains = (L : List ZoneRecord) (a : Name) (config : ChainConfig) (links : List HashedLink) → IsHashedChain L a config links → ChainFacts L a config links
 
 -- for records of the chain of any zone
-pub walked_proved : KnowsChains → (listed : List HashedLink) (a : Name) (p : Parameters) (hash : Hash) (x : Name) (t : ℕ) (verdict : Verdict) → t < 65536 → is_at_or_below x a ≡ true → IsWalked listed a p hash x t verdict → IsHashedProved listed a p hash x t verdict
+pub walked_proved : KnowsChains → (listed : List HashedLink) (a : Name) (p : Parameters) (hash : Hash) (x : Name) (t : ℕ)
+    (verdict : Verdict) → t < 65536 → is_at_or_below x a ≡ true → IsWalked listed a p hash x t verdict
+    → IsHashedProved listed a p hash x t verdict
 walked_proved knows listed a p hash x t verdict b low w = λ L config links same_hash same_parameters off chain free among.
     by L config links (knows L a config links chain) free among
     (subst (λ h. IsWalked listed a config.parameters h x t verdict) (sym same_hash) (subst (λ q. IsWalked listed a q hash x t verdict) (sym same_parameters) w))
   where
-    by : (L : List ZoneRecord) (config : ChainConfig) (links : List HashedLink) → ChainFacts L a config links → AreAlone L a config x → All (Contains links) listed → IsWalked listed a config.parameters config.hash x t verdict → verdict ≡ hashed_proved_verdict L a config listed x t
+    by : (L : List ZoneRecord) (config : ChainConfig) (links : List HashedLink) → ChainFacts L a config links
+        → AreAlone L a config x → All (Contains links) listed → IsWalked listed a config.parameters config.hash x t verdict
+        → verdict ≡ hashed_proved_verdict L a config listed x t
     by L config links facts free among (inl told) =
-        told.says ∙ told_proved L a config links facts listed (stands_all links listed among) x low free told.name told.first told.value told.known told.link told.found t b told.next told.closes
+        told.says ∙ told_proved L a config links facts listed
+        (stands_all links listed among) x low free told.name told.first told.value told.known told.link told.found t b
+        told.next told.closes
     by L config links facts free among (inr none) =
         none.0 ∙ none_proved L a config links facts listed (stands_all links listed among) x low free t none.1
 
 -- ---- the whole chain
 
-pub whole_chain_proves : KnowsChains → (L : List ZoneRecord) (a : Name) (config : ChainConfig) (links : List HashedLink) (x : Name) (t : ℕ) → IsHashedChain L a config links → AreAlone L a config x
+pub whole_chain_proves : KnowsChains → (L : List ZoneRecord) (a : Name) (config : ChainConfig) (links : List HashedLink)
+    (x : Name) (t : ℕ) → IsHashedChain L a config links → AreAlone L a config x
     → hashed_proved_verdict L a config links x t ≡ hashed_zone_verdict L a config x t
 whole_chain_proves knows L a config links x t chain free =
     elim (cases_Bool (is_at_or_below x a)) [
@@ -540,4 +600,5 @@ hashed_zone_says L a config x t none = false≢true (ap is_told (sym none) ∙ s
         (choose (is_original_owner L a config x) (original_verdict L a config x t) other
         (choose (nsec3_lists L a config x t) Has cut refl (choose (is_zone_cut L a x && not (nat_eq t ds)) BelowDelegation NoType refl refl))
         (choose (exists_over (original_owners L a config) a x) EmptyName missing refl
-        (choose (is_opt_out config.flags) (OptOut (length (closest_encloser (original_owners L a config) a x))) (NoName (length (closest_encloser (original_owners L a config) a x))) refl refl))))
+        (choose (is_opt_out config.flags) (OptOut (length (closest_encloser (original_owners L a config) a x)))
+        (NoName (length (closest_encloser (original_owners L a config) a x))) refl refl))))

@@ -1,5 +1,6 @@
 -- The names from x up to the apex: which of them are passed, and the hash of the next closer name.
-use Rattle.std.proofs.Common.{◌≡◌, ℕ, ◌+◌, ◌-◌, ◌≤◌, ◌<◌, zero, suc, true, false, not, List, [], ◌∷◌, ◌++◌, map, length, drop, refl, sym, ap, ◌∙◌, inl, inr, Option, Some, None, arith}
+use Rattle.std.proofs.Common.{◌≡◌, ℕ, ◌+◌, ◌-◌, ◌≤◌, ◌<◌, zero, suc, true, false, not, List, [], ◌∷◌}
+use Rattle.std.proofs.Common.{◌++◌, map, length, drop, refl, sym, ap, ◌∙◌, inl, inr, Option, Some, None, arith}
 use Rattle.std.specs.Prelude.{Ok, Err}
 use Rattle.std.specs.Char.{to_ascii_lowercase}
 use Rattle.std.specs.List.{find, list_any}
@@ -84,7 +85,8 @@ module _ (listed : List HashedLink) (a : Name) (p : Parameters) (hash : Hash) wh
   none_matched d v known none =
       ap (is_ok_with (λ v. list_any (is_hash_match a p v) listed)) known ∙ any_none (is_hash_match a p v) listed (find_none (is_hash_match a p v) listed none)
 
-  pub some_matched : (d : Name) (v : Octets) (k : HashedLink) → hash_name hash d ≡ Ok v → find (is_hash_match a p v) listed ≡ Some k → is_matched a p hash listed d ≡ true
+  pub some_matched : (d : Name) (v : Octets) (k : HashedLink) → hash_name hash d ≡ Ok v
+      → find (is_hash_match a p v) listed ≡ Some k → is_matched a p hash listed d ≡ true
   some_matched d v k known found =
       let f = find_some (is_hash_match a p v) listed k found in
       ap (is_ok_with (λ v. list_any (is_hash_match a p v) listed)) known ∙ in_any (is_hash_match a p v) listed k f.0 f.1
@@ -145,22 +147,32 @@ module _ (listed : List HashedLink) (a : Name) (p : Parameters) (hash : Hash) wh
                 | inl s ↦ let n = same_count next x s in absurd (omega arith)
                 | inr s ↦ s
               ],
-              hash_same hash (next_closer x next) left (same_length (next_closer x next) left (below_longer x (next_closer x next) left closer.above missed.above (omega (arith, closer.long))) (omega (arith, closer.long))) ∙ missed.known,
+              hash_same hash (next_closer x next) left (same_length (next_closer x next) left
+                  (below_longer x (next_closer x next) left closer.above missed.above (omega (arith, closer.long)))
+                  (omega (arith, closer.long))) ∙ missed.known,
             );
           }
         where
-          on : (y : Name) → is_at_or_below x y ≡ true → is_strictly_below y next ≡ true → length left ≡ length next + 1 → is_at_or_below left next ≡ true → (w : Octets) × (hash_name hash y ≡ Ok w) × (is_matched a p hash listed y ≡ false)
+          on : (y : Name) → is_at_or_below x y ≡ true → is_strictly_below y next ≡ true → length left ≡ length next + 1
+              → is_at_or_below left next ≡ true → (w : Octets) × (hash_name hash y ≡ Ok w)
+              × (is_matched a p hash listed y ≡ false)
           on y g h count parent =
               let longer = strictly_longer y next h in
               let down = below_longer x y left g missed.above (omega arith) in
               elim (cases_Bool (same_name y left)) [
-                | inl s ↦ (missed.value, hash_same hash y left s ∙ missed.known, matched_same y left s ∙ none_matched left missed.value missed.known missed.none)
+                | inl s ↦ (
+                  missed.value,
+                  hash_same hash y left s ∙ missed.known,
+                  matched_same y left s ∙ none_matched left missed.value missed.known missed.none,
+                )
                 | inr s ↦ missed.first y g (and_from (is_at_or_below y left) (not (same_name y left)) down (ap not s))
               ]
 
       -- at the name above, a match tells of x what the cover and it say
-      pub told_above : (next : Name) → IsPassed next missed.value → (k : HashedLink) (wire : Octets) (covering : Option HashedLink) → wire ≡ wire_of (lowered next)
-          → IsLookedUp a p hash listed wire (Some k) covering → (t : ℕ) (verdict : Verdict) → verdict ≡ closer_verdict a next k cover → IsTold listed a p hash x t verdict
+      pub told_above : (next : Name) → IsPassed next missed.value
+          → (k : HashedLink) (wire : Octets) (covering : Option HashedLink) → wire ≡ wire_of (lowered next)
+          → IsLookedUp a p hash listed wire (Some k) covering → (t : ℕ) (verdict : Verdict)
+          → verdict ≡ closer_verdict a next k cover → IsTold listed a p hash x t verdict
       told_above next passed k wire covering e looked t verdict says =
           let known = ap hash (sym e) ∙ looked.known in
           record {
@@ -181,7 +193,8 @@ module _ (listed : List HashedLink) (a : Name) (p : Parameters) (hash : Hash) wh
           }
 
     -- a name whose names before it were passed
-    module _ (left : Name) (above : is_at_or_below x left ≡ true) (within : is_at_or_below left a ≡ true) (first : IsFirst a p hash listed x left) (wire : Octets) (e : wire ≡ wire_of (lowered left)) where
+    module _ (left : Name) (above : is_at_or_below x left ≡ true) (within : is_at_or_below left a ≡ true)
+        (first : IsFirst a p hash listed x left) (wire : Octets) (e : wire ≡ wire_of (lowered left)) where
       pub missed_here : (covering : Option HashedLink) → IsLookedUp a p hash listed wire None covering → IsMissed left covering
       missed_here covering looked = record {
         above = above;
@@ -204,7 +217,8 @@ module _ (listed : List HashedLink) (a : Name) (p : Parameters) (hash : Hash) wh
 
     -- a match of x itself tells of it
     pub told_here : is_at_or_below x a ≡ true → (k : HashedLink) (wire : Octets) (covering : Option HashedLink) → wire ≡ wire_of (lowered x)
-        → IsLookedUp a p hash listed wire (Some k) covering → (t : ℕ) (verdict : Verdict) → verdict ≡ hash_match_verdict a x k t → IsTold listed a p hash x t verdict
+        → IsLookedUp a p hash listed wire (Some k) covering → (t : ℕ) (verdict : Verdict) → verdict ≡ hash_match_verdict a x k t
+        → IsTold listed a p hash x t verdict
     told_here low k wire covering e looked t verdict says =
         let known = ap hash (sym e) ∙ looked.known in
         record {

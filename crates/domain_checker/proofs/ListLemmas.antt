@@ -1,5 +1,6 @@
 -- What a list of records of the chain says by itself is what it proves.
-use Rattle.std.proofs.Common.{◌≡◌, ◌≢◌, ℕ, ◌<◌, ◌≤◌, Bool, true, false, cond, not, ◌&&◌, ◌||◌, nat_eq, ltb, List, [], ◌∷◌, length, refl, sym, ap, ◌∙◌, subst, inl, inr, Option, Some, None, arith}
+use Rattle.std.proofs.Common.{◌≡◌, ◌≢◌, ℕ, ◌<◌, ◌≤◌, Bool, true, false, cond, not, ◌&&◌, ◌||◌, nat_eq, ltb, List}
+use Rattle.std.proofs.Common.{[], ◌∷◌, length, refl, sym, ap, ◌∙◌, subst, inl, inr, Option, Some, None, arith}
 use Rattle.std.specs.List.{find, list_any}
 use Rattle.std.proofs.lemmas.Bool.{cases_Bool, true≢false, and_parts, and_from, or_left, or_right}
 use Rattle.domain_bitmap.specs.Blocks.{contains_type}
@@ -15,20 +16,27 @@ use Rattle.domain_nsec.specs.Meaning.{IsCycle, MirrorsZone, TellsEmpty, TellsEnc
 use Rattle.domain_nsec.specs.declared.config.GenerateNsecConfig.{GenerateNsecConfig}
 use Rattle.domain_checker.specs.declared.verdict.Verdict.{Verdict}
 use Rattle.domain_checker.specs.declared.verdict.Verdict.TheVariants.{OutsideZone, BelowDelegation, Has, NoType, EmptyName, OptOut, NoName, NotProven}
-use Rattle.domain_checker.specs.Verdict.{closest_encloser, owner_verdict, other_verdict, zone_verdict, has_match_or_cover, proved_verdict, IsProved, is_inside, HasProof, IsWithin}
+use Rattle.domain_checker.specs.Verdict.{closest_encloser, owner_verdict, other_verdict, zone_verdict, has_match_or_cover}
+use Rattle.domain_checker.specs.Verdict.{proved_verdict, IsProved, is_inside, HasProof, IsWithin}
 use Rattle.domain_checker.specs.Reading.{is_at_cut, is_match, is_cover, verdict_of_both, verdict_of_cover, match_verdict, cover_verdict, list_verdict, reading}
 use Rattle.domain_checker.proofs.FindLemmas.{In, in_any, in_at, any_none, find_some, find_none, Stands, stands_all}
 use Rattle.domain_checker.proofs.VerdictLemmas.{config_with, IsMeant, IgnoresCase, BitmapsAreSets, inside, some_link, matched, covers_told}
 
 -- the public laws of chains
 pub record ChainLaws : Type 0 where
-  pub cycle : (L : List ZoneRecord) (a : Name) (config : GenerateNsecConfig) (links : List Link) → OwnersNeverDescend L → IsChain L a config links → IsCycle a links
-  pub denial : (L : List ZoneRecord) (a : Name) (config : GenerateNsecConfig) (links : List Link) → OwnersNeverDescend L → IsChain L a config links → MirrorsZone L a config links
-  pub nonterminals : (L : List ZoneRecord) (a : Name) (config : GenerateNsecConfig) (links : List Link) → OwnersNeverDescend L → IsChain L a config links → TellsEmpty L a config links
-  pub enclosers : (L : List ZoneRecord) (a : Name) (config : GenerateNsecConfig) (links : List Link) → OwnersNeverDescend L → IsChain L a config links → TellsEncloser L a config links
-  pub occluded : (L : List ZoneRecord) (a : Name) (config : GenerateNsecConfig) (links : List Link) → OwnersNeverDescend L → IsChain L a config links → CoversBelowOccluders L a config links
+  pub cycle : (L : List ZoneRecord) (a : Name) (config : GenerateNsecConfig) (links : List Link) → OwnersNeverDescend L
+      → IsChain L a config links → IsCycle a links
+  pub denial : (L : List ZoneRecord) (a : Name) (config : GenerateNsecConfig) (links : List Link) → OwnersNeverDescend L
+      → IsChain L a config links → MirrorsZone L a config links
+  pub nonterminals : (L : List ZoneRecord) (a : Name) (config : GenerateNsecConfig) (links : List Link) → OwnersNeverDescend L
+      → IsChain L a config links → TellsEmpty L a config links
+  pub enclosers : (L : List ZoneRecord) (a : Name) (config : GenerateNsecConfig) (links : List Link) → OwnersNeverDescend L
+      → IsChain L a config links → TellsEncloser L a config links
+  pub occluded : (L : List ZoneRecord) (a : Name) (config : GenerateNsecConfig) (links : List Link) → OwnersNeverDescend L
+      → IsChain L a config links → CoversBelowOccluders L a config links
 
-meant_by : ChainLaws → (L : List ZoneRecord) (a : Name) (config : GenerateNsecConfig) (links : List Link) → config.occlude_below_dname ≡ false → OwnersNeverDescend L → IsChain L a config links
+meant_by : ChainLaws → (L : List ZoneRecord) (a : Name) (config : GenerateNsecConfig) (links : List Link)
+    → config.occlude_below_dname ≡ false → OwnersNeverDescend L → IsChain L a config links
     → IsMeant L a config.assume_dnskeys_will_be_added links
 meant_by laws L a config links keeps order chain =
     let plain = config_with config.assume_dnskeys_will_be_added in
@@ -49,7 +57,8 @@ with_true : (p q : Bool) → q ≡ true → (p && q) ≡ p
 with_true true q e = e
 with_true false q e = refl
 
-module _ (L : List ZoneRecord) (a : Name) (assume : Bool) (links : List Link) (meant : IsMeant L a assume links) (alike : IgnoresCase L a assume) (sets : BitmapsAreSets)
+module _ (L : List ZoneRecord) (a : Name) (assume : Bool) (links : List Link) (meant : IsMeant L a assume links)
+    (alike : IgnoresCase L a assume) (sets : BitmapsAreSets)
     (listed : List Link) (among : (k : Link) → In k listed → Stands links k) (x : Name) (low : is_at_or_below x a ≡ true) where
   says : (k : Link) → In k listed → matches_or_covers before k.owner k.next x ≡ true → has_match_or_cover listed x ≡ true
   says k i e = in_any (λ k. matches_or_covers before k.owner k.next x) listed k i e
@@ -70,7 +79,8 @@ module _ (L : List ZoneRecord) (a : Name) (assume : Bool) (links : List Link) (m
   list_proved : (t : ℕ) → t < 65536 → list_verdict a listed x t ≡ proved_verdict L a assume listed x t
   list_proved t b = by_match (find (is_match a x) listed) refl
     where
-      by_cover : (o : Option Link) → find (is_match a x) listed ≡ None → find (is_cover a x) listed ≡ o → verdict_of_cover a x o ≡ proved_verdict L a assume listed x t
+      by_cover : (o : Option Link) → find (is_match a x) listed ≡ None → find (is_cover a x) listed ≡ o
+          → verdict_of_cover a x o ≡ proved_verdict L a assume listed x t
       by_cover None e f = sym (λ j. cond (not (low j) || silent e f j) (zone_verdict L a assume x t) NotProven)
       by_cover (Some k) e f =
           let r = find_some (is_cover a x) listed k f in
@@ -79,7 +89,8 @@ module _ (L : List ZoneRecord) (a : Name) (assume : Bool) (links : List Link) (m
           proved t (cover_verdict a k x) (covers_told L a assume links meant alike sets k s.place s.there x low c t)
           (says k r.0 (or_right (matches before k.owner x) (covers before k.owner k.next x) c))
 
-      by_match : (o : Option Link) → find (is_match a x) listed ≡ o → verdict_of_both a x t o (find (is_cover a x) listed) ≡ proved_verdict L a assume listed x t
+      by_match : (o : Option Link) → find (is_match a x) listed ≡ o
+          → verdict_of_both a x t o (find (is_cover a x) listed) ≡ proved_verdict L a assume listed x t
       by_match None e = by_cover (find (is_cover a x) listed) e refl
       by_match (Some k) e =
           let r = find_some (is_match a x) listed k e in
@@ -97,7 +108,8 @@ reading_proved laws alike sets listed a x t b L config links keeps order chain a
     assume = config.assume_dnskeys_will_be_added
 
     by : (low : Bool) → is_at_or_below x a ≡ low → cond low (list_verdict a listed x t) OutsideZone ≡ proved_verdict L a assume listed x t
-    by true e = list_proved L a assume links (meant_by laws L a config links keeps order chain) (alike L a assume) sets listed (stands_all links listed among) x e t b
+    by true e = list_proved L a assume links (meant_by laws L a config links keeps order chain) (alike L a assume) sets listed
+        (stands_all links listed among) x e t b
     by false e = sym (outside (is_at_or_below x a) (has_match_or_cover listed x) _ e)
       where
         outside : (low s : Bool) (v : Verdict) → low ≡ false → cond (not low || s) (cond (not low) OutsideZone v) NotProven ≡ OutsideZone
@@ -110,7 +122,8 @@ pub has_proof : (a : Name) (listed : List Link) (x : Name) (t : ℕ) → list_ve
 has_proof a listed x t n = by (find (is_match a x) listed) (find (is_cover a x) listed) refl refl n
   where
     told : (k : Link) → In k listed → is_inside a k ≡ true → matches_or_covers before k.owner k.next x ≡ true → HasProof listed a x
-    told k i e f = in_any (λ k. is_inside a k && matches_or_covers before k.owner k.next x) listed k i (and_from (is_inside a k) (matches_or_covers before k.owner k.next x) e f)
+    told k i e f = in_any (λ k. is_inside a k && matches_or_covers before k.owner k.next x) listed k i
+        (and_from (is_inside a k) (matches_or_covers before k.owner k.next x) e f)
 
     by : (o p : Option Link) → find (is_match a x) listed ≡ o → find (is_cover a x) listed ≡ p → verdict_of_both a x t o p ≢ NotProven → HasProof listed a x
     by None None e f n = absurd (n refl)
@@ -161,11 +174,13 @@ list_within a listed x t = by (find (is_match a x) listed) (find (is_cover a x) 
 
 -- ---- the whole chain
 
-pub whole_proves : ChainLaws → (L : List ZoneRecord) (a : Name) (config : GenerateNsecConfig) (links : List Link) (x : Name) (t : ℕ) → config.occlude_below_dname ≡ false → OwnersNeverDescend L → IsChain L a config links
+pub whole_proves : ChainLaws → (L : List ZoneRecord) (a : Name) (config : GenerateNsecConfig) (links : List Link) (x : Name)
+    (t : ℕ) → config.occlude_below_dname ≡ false → OwnersNeverDescend L → IsChain L a config links
     → proved_verdict L a config.assume_dnskeys_will_be_added links x t ≡ zone_verdict L a config.assume_dnskeys_will_be_added x t
 whole_proves laws L a config links x t keeps order chain =
     elim (cases_Bool (is_at_or_below x a)) [
-      | inl e ↦ (λ i. cond (not (e i) || some_link L a assume links (meant_by laws L a config links keeps order chain) x e i) (zone_verdict L a assume x t) NotProven)
+      | inl e ↦ (λ i. cond (not (e i) || some_link L a assume links (meant_by laws L a config links keeps order chain) x e i)
+          (zone_verdict L a assume x t) NotProven)
       | inr e ↦ (λ i. cond (not (e i) || has_match_or_cover links x) (zone_verdict L a assume x t) NotProven)
     ]
   where
@@ -198,7 +213,8 @@ zone_says L a assume x t none = true≢false (sym says ∙ ap is_proof none)
     owner = choose (nsec_lists L a assume x t) Has cut refl (choose (is_zone_cut L a x && not (nat_eq t ds)) BelowDelegation NoType refl refl)
 
     other : is_proof (other_verdict (unoccluded_owners false L a) a x) ≡ true
-    other = choose (is_empty_nonterminal (unoccluded_owners false L a) a x) EmptyName (NoName (length (closest_encloser (unoccluded_owners false L a) a x))) refl refl
+    other = choose (is_empty_nonterminal (unoccluded_owners false L a) a x) EmptyName
+        (NoName (length (closest_encloser (unoccluded_owners false L a) a x))) refl refl
 
     inner : Verdict
     inner = cond (list_any (λ n. same_name n x) (unoccluded_owners false L a)) (owner_verdict L a assume x t) (other_verdict (unoccluded_owners false L a) a x)
@@ -207,4 +223,5 @@ zone_says L a assume x t none = true≢false (sym says ∙ ap is_proof none)
     says =
         choose (not (is_at_or_below x a)) OutsideZone (cond (is_occluded false L a x) BelowDelegation inner) refl
         (choose (is_occluded false L a x) BelowDelegation inner refl
-        (choose (list_any (λ n. same_name n x) (unoccluded_owners false L a)) (owner_verdict L a assume x t) (other_verdict (unoccluded_owners false L a) a x) owner other))
+        (choose (list_any (λ n. same_name n x) (unoccluded_owners false L a)) (owner_verdict L a assume x t)
+        (other_verdict (unoccluded_owners false L a) a x) owner other))

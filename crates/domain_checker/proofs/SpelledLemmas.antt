@@ -46,7 +46,8 @@ pub record IsCompared (label hash left : Octets) (scale rest at : ℕ) : Type 0 
 pub compared_first : (label hash : Octets) → IsCompared label hash hash 1 0 0
 compared_first label hash = record { scale_is = no_bits; below = omega arith; order = refl }
 
-module _ (label hash left : Octets) (scale rest at : ℕ) (inside : at < length label) (small : digit_at label at < 32) (so_far : IsCompared label hash left scale rest at) where
+module _ (label hash left : Octets) (scale rest at : ℕ) (inside : at < length label) (small : digit_at label at < 32)
+    (so_far : IsCompared label hash left scale rest at) where
   pub compared_narrow : 32 * scale < 256 → IsCompared label hash left (32 * scale) (32 * rest + digit_at label at) (at + 1)
   unfolding base32_octets
   compared_narrow low =
@@ -59,7 +60,10 @@ module _ (label hash left : Octets) (scale rest at : ℕ) (inside : at < length 
       }
 
   -- the next octet, and those after it
-  pub compared_octet : 256 ≤ 32 * scale → slice_cmp nat_cmp ((32 * rest + digit_at label at) / (32 * scale / 256) ∷ base32_octets (32 * scale / 256) ((32 * rest + digit_at label at) % (32 * scale / 256)) (base32_digits (drop (at + 1) label))) left ≡ slice_cmp nat_cmp (read_label label) hash
+  pub compared_octet : 256 ≤ 32 * scale → slice_cmp nat_cmp
+      ((32 * rest + digit_at label at) / (32 * scale / 256) ∷ base32_octets (32 * scale / 256)
+      ((32 * rest + digit_at label at) % (32 * scale / 256)) (base32_digits (drop (at + 1) label))) left
+      ≡ slice_cmp nat_cmp (read_label label) hash
   unfolding base32_octets
   compared_octet high =
       let test : nat_le 256 (32 * scale) ≡ true = grind (arith, nat_tests) in
@@ -69,7 +73,8 @@ module _ (label hash left : Octets) (scale rest at : ℕ) (inside : at < length 
   compared_none high none = rw none at (compared_octet high)
 
   module _ (octet : ℕ) (after : Octets) (first : left ≡ octet ∷ after) where
-    pub compared_apart : 256 ≤ 32 * scale → nat_cmp ((32 * rest + digit_at label at) / (32 * scale / 256)) octet ≢ Equal → nat_cmp ((32 * rest + digit_at label at) / (32 * scale / 256)) octet ≡ slice_cmp nat_cmp (read_label label) hash
+    pub compared_apart : 256 ≤ 32 * scale → nat_cmp ((32 * rest + digit_at label at) / (32 * scale / 256)) octet ≢ Equal
+        → nat_cmp ((32 * rest + digit_at label at) / (32 * scale / 256)) octet ≡ slice_cmp nat_cmp (read_label label) hash
     compared_apart high other = by (nat_cmp ((32 * rest + digit_at label at) / (32 * scale / 256)) octet) _ other ∙ rw first at (compared_octet high)
       where
         by : (o r : Ordering) → o ≢ Equal → o ≡ ordering_then o r
@@ -77,7 +82,8 @@ module _ (label hash left : Octets) (scale rest at : ℕ) (inside : at < length 
         by Equal r n = absurd (n refl)
         by Greater r n = refl
 
-    pub compared_wide : 256 ≤ 32 * scale → nat_cmp ((32 * rest + digit_at label at) / (32 * scale / 256)) octet ≡ Equal → IsCompared label hash after (32 * scale / 256) ((32 * rest + digit_at label at) % (32 * scale / 256)) (at + 1)
+    pub compared_wide : 256 ≤ 32 * scale → nat_cmp ((32 * rest + digit_at label at) / (32 * scale / 256)) octet ≡ Equal
+        → IsCompared label hash after (32 * scale / 256) ((32 * rest + digit_at label at) % (32 * scale / 256)) (at + 1)
     compared_wide high tie =
         let w = widens scale so_far.scale_is in
         let some : 0 < 32 * scale / 256 = w.left high in
@@ -88,6 +94,7 @@ module _ (label hash left : Octets) (scale rest at : ℕ) (inside : at < length 
         }
 
 -- a label that is read to its end
-pub compared_end : (label hash left : Octets) (scale rest at : ℕ) → length label ≤ at → IsCompared label hash left scale rest at → slice_cmp nat_cmp [] left ≡ slice_cmp nat_cmp (read_label label) hash
+pub compared_end : (label hash left : Octets) (scale rest at : ℕ) → length label ≤ at → IsCompared label hash left scale rest at
+    → slice_cmp nat_cmp [] left ≡ slice_cmp nat_cmp (read_label label) hash
 unfolding base32_octets
 compared_end label hash left scale rest at done so_far = rw (drop_all at label done) at so_far.order

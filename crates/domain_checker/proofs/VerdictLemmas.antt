@@ -1,5 +1,6 @@
 -- What a record of the chain says of a name that it matches or covers is the verdict of the zone.
-use Rattle.std.proofs.Common.{◌≡◌, ℕ, ◌<◌, Bool, true, false, cond, not, ◌&&◌, ◌||◌, List, length, refl, sym, ap, ◌∙◌, subst, inl, inr, ◌⊎◌, nat_eq, Some, slice_get, arith}
+use Rattle.std.proofs.Common.{◌≡◌, ℕ, ◌<◌, Bool, true, false, cond, not, ◌&&◌, ◌||◌, List, length}
+use Rattle.std.proofs.Common.{refl, sym, ap, ◌∙◌, subst, inl, inr, ◌⊎◌, nat_eq, Some, slice_get, arith}
 use Rattle.std.specs.List.{list_any}
 use Rattle.std.proofs.lemmas.Bool.{cases_Bool, false≢true, and_parts, and_from, or_right, not-true}
 use Rattle.std.proofs.lemmas.List.Elements.{recursion_from_All}
@@ -111,31 +112,36 @@ module _ (L : List ZoneRecord) (a : Name) (assume : Bool) (links : List Link) (m
     -- the types of a record are those of its owner
     type_at : (k : Link) → In k links → (t : ℕ) → t < 65536 → contains_type k.bits t ≡ nsec_lists L a assume k.owner t
     type_at k i t b =
-        ap (λ o. contains_type o t) (all_in (λ l. l.bits ≡ bitmap_octets (nsec_lists L a assume l.owner)) links k (recursion_from_All (λ l. l.bits ≡ bitmap_octets (nsec_lists L a assume l.owner)) links meant.chain.bits) i)
+        ap (λ o. contains_type o t) (all_in (λ l. l.bits ≡ bitmap_octets (nsec_lists L a assume l.owner)) links k
+        (recursion_from_All (λ l. l.bits ≡ bitmap_octets (nsec_lists L a assume l.owner)) links meant.chain.bits) i)
         ∙ sets (nsec_lists L a assume k.owner) t b
 
     -- its owner is a zone cut exactly where the record says so
     cut_at : (k : Link) → In k links → is_at_cut a k ≡ is_zone_cut L a k.owner
     cut_at k i =
         let low = owner_low k.owner (ends k i).0 in
-        (λ j. not (same_name k.owner a) && (type_at k i ns (omega arith) ∙ ns_bit (assume && same_name k.owner a) (is_zone_cut L a k.owner) (records_of L k.owner)) j)
+        (λ j. not (same_name k.owner a) && (type_at k i ns (omega arith)
+        ∙ ns_bit (assume && same_name k.owner a) (is_zone_cut L a k.owner) (records_of L k.owner)) j)
         ∙ (λ j. (sym low j && not (same_name k.owner a)) && has_type (records_of L k.owner) ns)
 
     -- ---- a match
 
-    pub matched : (k : Link) → In k links → (x : Name) → matches before k.owner x ≡ true → (t : ℕ) → t < 65536 → match_verdict a k t ≡ zone_verdict L a assume x t
+    pub matched : (k : Link) → In k links → (x : Name) → matches before k.owner x ≡ true → (t : ℕ) → t < 65536
+        → match_verdict a k t ≡ zone_verdict L a assume x t
     matched k i x m t b =
         let s : same_name k.owner x ≡ true = same_is k.owner x ∙ m in
         let free = and_parts (is_at_or_below k.owner a) (not (is_occluded false L a k.owner)) (owner_free k i) in
         let low : is_at_or_below x a ≡ true = ap (λ q. lowered_below q (lowered a)) (sym (one_lowered k.owner x s)) ∙ free.0 in
         let high : is_occluded false L a x ≡ false = sym (occluded_same false L a k.owner x s) ∙ not-true (is_occluded false L a k.owner) free.1 in
         let owner : list_any (λ n. same_name n x) owners ≡ true = in_any (λ n. same_name n x) owners k.owner (ends k i).0 s in
-        (λ j. cond ((type_at k i t b ∙ alike k.owner x s t) j) Has (cond ((cut_at k i ∙ cut_same L a k.owner x s) j && not (nat_eq t ds)) BelowDelegation NoType))
+        (λ j. cond ((type_at k i t b ∙ alike k.owner x s t) j) Has
+        (cond ((cut_at k i ∙ cut_same L a k.owner x s) j && not (nat_eq t ds)) BelowDelegation NoType))
         ∙ sym (λ j. cond (not (low j)) OutsideZone (cond (high j) BelowDelegation (cond (owner j) (owner_verdict L a assume x t) (other_verdict owners a x))))
 
     -- ---- a cover
 
-    module _ (k : Link) (place : ℕ) (there : slice_get links place ≡ Some k) (x : Name) (low : is_at_or_below x a ≡ true) (c : covers before k.owner k.next x ≡ true) where
+    module _ (k : Link) (place : ℕ) (there : slice_get links place ≡ Some k) (x : Name) (low : is_at_or_below x a ≡ true)
+        (c : covers before k.owner k.next x ≡ true) where
       i : In k links
       i = in_at links place k there
 
@@ -143,7 +149,8 @@ module _ (L : List ZoneRecord) (a : Name) (assume : Bool) (links : List Link) (m
       says = or_right (matches before k.owner x) (covers before k.owner k.next x) c
 
       other : matches before k.owner x ≡ false
-      other = not-true (matches before k.owner x) (and_parts (not (matches before k.owner x)) (cond (before k.owner k.next) (before k.owner x && before x k.next) (before k.owner x || before x k.next)) c).0
+      other = not-true (matches before k.owner x) (and_parts (not (matches before k.owner x))
+          (cond (before k.owner k.next) (before k.owner x && before x k.next) (before k.owner x || before x k.next)) c).0
 
       not_owner : list_any (λ n. same_name n x) owners ≡ false
       not_owner =
@@ -201,4 +208,5 @@ module _ (L : List ZoneRecord) (a : Name) (assume : Bool) (links : List Link) (m
       pub covers_told : (t : ℕ) → cover_verdict a k x ≡ zone_verdict L a assume x t
       covers_told t =
           (λ j. cond (occluded_told j) BelowDelegation (cond (sym (meant.nonterminals.each x low place k there c) j) EmptyName (NoName (encloser_told j))))
-          ∙ sym (λ j. cond (not (low j)) OutsideZone (cond (is_occluded false L a x) BelowDelegation (cond (not_owner j) (owner_verdict L a assume x t) (other_verdict owners a x))))
+          ∙ sym (λ j. cond (not (low j)) OutsideZone (cond (is_occluded false L a x) BelowDelegation
+          (cond (not_owner j) (owner_verdict L a assume x t) (other_verdict owners a x))))

@@ -38,7 +38,8 @@ module _ {X : Type 0} where
       ] refl
 
   -- what passes a test twice over a list does so over one that has all of its elements
-  pub any_two : (c : X → X → Bool) (xs ys : List X) → ((x : X) → In x xs → In x ys) → list_any (λ x. list_any (c x) xs) xs ≡ true → list_any (λ x. list_any (c x) ys) ys ≡ true
+  pub any_two : (c : X → X → Bool) (xs ys : List X) → ((x : X) → In x xs → In x ys) → list_any (λ x. list_any (c x) xs) xs ≡ true
+      → list_any (λ x. list_any (c x) ys) ys ≡ true
   any_two c xs ys f h =
       let p = any_in (λ x. list_any (c x) xs) xs h in
       let q = any_in (c p.0) xs p.2 in

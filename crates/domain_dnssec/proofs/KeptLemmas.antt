@@ -40,8 +40,10 @@ module _ {N D : Type 0} (labels : N → Name) (rtype_of : D → ℕ) (minimum_of
   tied : (r s : Record N D) → record_cmp labels rtype_of data_cmp r s ≡ Equal
       → (lowered (labels r.owner) ≡ lowered (labels s.owner)) × (rtype_of r.«data» ≡ rtype_of s.«data»)
   tied r s e =
-      let class = then_equal (nat_cmp r.class s.class) (ordering_then (canonical_cmp (labels r.owner) (labels s.owner)) (ordering_then (nat_cmp (rtype_of r.«data») (rtype_of s.«data»)) (data_cmp r.«data» s.«data»))) e in
-      let owner = then_equal (canonical_cmp (labels r.owner) (labels s.owner)) (ordering_then (nat_cmp (rtype_of r.«data») (rtype_of s.«data»)) (data_cmp r.«data» s.«data»)) class.1 in
+      let class = then_equal (nat_cmp r.class s.class) (ordering_then (canonical_cmp (labels r.owner) (labels s.owner))
+      (ordering_then (nat_cmp (rtype_of r.«data») (rtype_of s.«data»)) (data_cmp r.«data» s.«data»))) e in
+      let owner = then_equal (canonical_cmp (labels r.owner) (labels s.owner))
+      (ordering_then (nat_cmp (rtype_of r.«data») (rtype_of s.«data»)) (data_cmp r.«data» s.«data»)) class.1 in
       let type = then_equal (nat_cmp (rtype_of r.«data») (rtype_of s.«data»)) (data_cmp r.«data» s.«data») owner.1 in (
         one_lowered (labels r.owner) (labels s.owner) (same_name_ties (labels r.owner) (labels s.owner) ∙ ap is_eq owner.0),
         nat_cmp-IsAntisymmetric (rtype_of r.«data») (rtype_of s.«data») type.0,
@@ -49,7 +51,8 @@ module _ {N D : Type 0} (labels : N → Name) (rtype_of : D → ℕ) (minimum_of
 
   module _ (given sorted : List (Record N D)) (s : Sorts labels rtype_of data_cmp given sorted) where
     -- a test of the owner and the type
-    any_kept : (p : Name → ℕ → Bool) → list_any (λ r. p (lowered r.owner) r.rtype) (zone_of labels rtype_of minimum_of sorted) ≡ list_any (λ r. p (lowered r.owner) r.rtype) (zone_of labels rtype_of minimum_of given)
+    any_kept : (p : Name → ℕ → Bool) → list_any (λ r. p (lowered r.owner) r.rtype) (zone_of labels rtype_of minimum_of sorted)
+        ≡ list_any (λ r. p (lowered r.owner) r.rtype) (zone_of labels rtype_of minimum_of given)
     any_kept p =
         any_map (λ r. p (lowered r.owner) r.rtype) (as_zone_record labels rtype_of minimum_of) sorted
         ∙ either_way (list_any q sorted) (list_any q given) there back
@@ -71,26 +74,37 @@ module _ {N D : Type 0} (labels : N → Name) (rtype_of : D → ℕ) (minimum_of
             let t = tied c.1 f.1 c.4 in
             list_any-from_Any q sorted (c.0, c.1, c.2, c.3, (λ i. p (t.0 i) (t.1 i)) ∙ f.4)
 
-    types_kept : (k : Name) (t : ℕ) → has_type (filter (λ r. same_lowered (lowered r.owner) k) (zone_of labels rtype_of minimum_of sorted)) t ≡ has_type (filter (λ r. same_lowered (lowered r.owner) k) (zone_of labels rtype_of minimum_of given)) t
+    types_kept : (k : Name) (t : ℕ) → has_type (filter (λ r. same_lowered (lowered r.owner) k)
+        (zone_of labels rtype_of minimum_of sorted)) t ≡ has_type
+        (filter (λ r. same_lowered (lowered r.owner) k) (zone_of labels rtype_of minimum_of given)) t
     types_kept k t =
         any_filter (λ r. nat_eq r.rtype t) (λ r. same_lowered (lowered r.owner) k) (zone_of labels rtype_of minimum_of sorted)
         ∙ any_kept (λ m u. same_lowered m k && nat_eq u t)
         ∙ sym (any_filter (λ r. nat_eq r.rtype t) (λ r. same_lowered (lowered r.owner) k) (zone_of labels rtype_of minimum_of given))
 
-    pub type_kept : (n : Name) (t : ℕ) → has_type (records_of (zone_of labels rtype_of minimum_of sorted) n) t ≡ has_type (records_of (zone_of labels rtype_of minimum_of given) n) t
+    pub type_kept : (n : Name) (t : ℕ) → has_type (records_of (zone_of labels rtype_of minimum_of sorted) n) t
+        ≡ has_type (records_of (zone_of labels rtype_of minimum_of given) n) t
     type_kept n t = types_kept (lowered n) t
 
     pub owner_kept : (n : Name) → owns (zone_of labels rtype_of minimum_of sorted) n ≡ owns (zone_of labels rtype_of minimum_of given) n
     owner_kept n = any_kept (λ m u. same_lowered m (lowered n))
 
-    occluded_kept : (d : Bool) (a n : Name) → is_occluded d (zone_of labels rtype_of minimum_of sorted) a n ≡ is_occluded d (zone_of labels rtype_of minimum_of given) a n
+    occluded_kept : (d : Bool) (a n : Name) → is_occluded d (zone_of labels rtype_of minimum_of sorted) a n
+        ≡ is_occluded d (zone_of labels rtype_of minimum_of given) a n
     occluded_kept d a n =
-        any_kept (λ k u. ((lowered_below k (lowered a) && not (same_lowered k (lowered a)) && has_type (filter (λ r. same_lowered (lowered r.owner) k) (zone_of labels rtype_of minimum_of sorted)) ns)
-        || (d && lowered_below k (lowered a) && has_type (filter (λ r. same_lowered (lowered r.owner) k) (zone_of labels rtype_of minimum_of sorted)) dname)) && (lowered_below (lowered n) k && not (same_lowered (lowered n) k)))
-        ∙ (λ i. list_any (λ r. ((lowered_below (lowered r.owner) (lowered a) && not (same_lowered (lowered r.owner) (lowered a)) && types_kept (lowered r.owner) ns i)
-        || (d && lowered_below (lowered r.owner) (lowered a) && types_kept (lowered r.owner) dname i)) && (lowered_below (lowered n) (lowered r.owner) && not (same_lowered (lowered n) (lowered r.owner)))) (zone_of labels rtype_of minimum_of given))
+        any_kept (λ k u. ((lowered_below k (lowered a) && not (same_lowered k (lowered a))
+        && has_type (filter (λ r. same_lowered (lowered r.owner) k) (zone_of labels rtype_of minimum_of sorted)) ns)
+        || (d && lowered_below k (lowered a) && has_type (filter (λ r. same_lowered (lowered r.owner) k)
+        (zone_of labels rtype_of minimum_of sorted)) dname))
+        && (lowered_below (lowered n) k && not (same_lowered (lowered n) k)))
+        ∙ (λ i. list_any (λ r. ((lowered_below (lowered r.owner) (lowered a) && not (same_lowered (lowered r.owner) (lowered a))
+        && types_kept (lowered r.owner) ns i)
+        || (d && lowered_below (lowered r.owner) (lowered a) && types_kept (lowered r.owner) dname i))
+        && (lowered_below (lowered n) (lowered r.owner) && not (same_lowered (lowered n) (lowered r.owner))))
+        (zone_of labels rtype_of minimum_of given))
 
-    pub unoccluded_kept : (d : Bool) (a n : Name) → is_unoccluded d (zone_of labels rtype_of minimum_of sorted) a n ≡ is_unoccluded d (zone_of labels rtype_of minimum_of given) a n
+    pub unoccluded_kept : (d : Bool) (a n : Name) → is_unoccluded d (zone_of labels rtype_of minimum_of sorted) a n
+        ≡ is_unoccluded d (zone_of labels rtype_of minimum_of given) a n
     unoccluded_kept d a n = λ i. is_at_or_below n a && not (occluded_kept d a n i)
 
     -- ---- records of the set are records of the list
@@ -105,10 +119,12 @@ module _ {N D : Type 0} (labels : N → Name) (rtype_of : D → ℕ) (minimum_of
         let m = map_in (as_zone_record labels rtype_of minimum_of) sorted z i in
         subst (λ y. In y (zone_of labels rtype_of minimum_of given)) m.2 (in_map (as_zone_record labels rtype_of minimum_of) given m.0 (record_among m.0 m.1))
 
-    pub clash_among : (n : Name) → has_clash (records_of (zone_of labels rtype_of minimum_of sorted) n) ≡ true → has_clash (records_of (zone_of labels rtype_of minimum_of given) n) ≡ true
+    pub clash_among : (n : Name) → has_clash (records_of (zone_of labels rtype_of minimum_of sorted) n) ≡ true
+        → has_clash (records_of (zone_of labels rtype_of minimum_of given) n) ≡ true
     clash_among n h =
         any_two clashes (records_of (zone_of labels rtype_of minimum_of sorted) n) (records_of (zone_of labels rtype_of minimum_of given) n)
-        (λ z i. let f = in_filter (λ r. same_name r.owner n) (zone_of labels rtype_of minimum_of sorted) z i in in_filtered (λ r. same_name r.owner n) (zone_of labels rtype_of minimum_of given) z (zone_record_among z f.0) f.1) h
+        (λ z i. let f = in_filter (λ r. same_name r.owner n) (zone_of labels rtype_of minimum_of sorted) z i in in_filtered
+        (λ r. same_name r.owner n) (zone_of labels rtype_of minimum_of given) z (zone_record_among z f.0) f.1) h
 
     pub soa_among : (a : Name) (numbers : ApexSoa) → soa_of (zone_of labels rtype_of minimum_of sorted) a ≡ Some numbers
         → (r : ZoneRecord) × Contains (zone_of labels rtype_of minimum_of given) r × (is_soa a r ≡ true) × (numbers_of r r.minimum ≡ Some numbers)
@@ -127,7 +143,8 @@ module _ {N D : Type 0} (labels : N → Name) (rtype_of : D → ℕ) (minimum_of
     kept_class : (r : Record N D) → In r given → (t : Record N D) × In t sorted × (t.class ≡ r.class)
     kept_class r i =
         let c = s.set.each r (in_contains given r i) in
-        let first = then_equal (nat_cmp c.1.class r.class) (ordering_then (canonical_cmp (labels c.1.owner) (labels r.owner)) (ordering_then (nat_cmp (rtype_of c.1.«data») (rtype_of r.«data»)) (data_cmp c.1.«data» r.«data»))) c.4 in
+        let first = then_equal (nat_cmp c.1.class r.class) (ordering_then (canonical_cmp (labels c.1.owner) (labels r.owner))
+        (ordering_then (nat_cmp (rtype_of c.1.«data») (rtype_of r.«data»)) (data_cmp c.1.«data» r.«data»))) c.4 in
         (c.1, contains_in sorted c.1 (c.0, c.2, c.3), nat_cmp-IsAntisymmetric c.1.class r.class first.0)
 
     pub classes_kept : IsOneClass sorted ↔ IsOneClass given
@@ -136,5 +153,6 @@ module _ {N D : Type 0} (labels : N → Name) (rtype_of : D → ℕ) (minimum_of
           let u = kept_class x i in
           let v = kept_class y j in
           sym u.2 ∙ pair_of_two alike (λ r. refl) (λ r t e. sym e) sorted u.0 v.0 h u.1 v.1 ∙ v.2),
-      λ h. all_pairs alike (λ r. refl) (λ r t e. sym e) sorted (λ x y i j. pair_of_two alike (λ r. refl) (λ r t e. sym e) given x y h (record_among x i) (record_among y j)),
+      λ h. all_pairs alike (λ r. refl) (λ r t e. sym e) sorted
+          (λ x y i j. pair_of_two alike (λ r. refl) (λ r t e. sym e) given x y h (record_among x i) (record_among y j)),
     )

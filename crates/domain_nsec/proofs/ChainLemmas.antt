@@ -1,5 +1,6 @@
 -- How the records of a chain are gathered, and what the finished chain means.
-use Rattle.std.proofs.Common.{◌≡◌, ℕ, ◌+◌, Bool, true, false, cond, not, ◌&&◌, ◌||◌, List, [], ◌∷◌, ◌++◌, map, refl, sym, ap, ◌∙◌, subst, inl, inr, ◌⊎◌, Some, zero, suc, ◌<◌, ◌≤◌, length, get_or, take, arith, add-one}
+use Rattle.std.proofs.Common.{◌≡◌, ℕ, ◌+◌, Bool, true, false, cond, not, ◌&&◌, ◌||◌, List, [], ◌∷◌, ◌++◌, map, refl, sym}
+use Rattle.std.proofs.Common.{ap, ◌∙◌, subst, inl, inr, ◌⊎◌, Some, zero, suc, ◌<◌, ◌≤◌, length, get_or, take, arith, add-one}
 use Rattle.std.specs.Prelude.{count_by, All}
 use Rattle.std.specs.List.{AllByRecursion, list_any}
 use Rattle.std.proofs.lemmas.Bool.{cases_Bool, cases_lt, false≢true, true≢false, and_parts, or_cases, not-true}
@@ -27,23 +28,27 @@ abbrev pub pair_of : Link → Name × Name
 pair_of k = (k.owner, k.next)
 
 -- names with their bits as links join the names
-links_pairs : (numbers : ApexSoa) (a : Name) (names : List Name) (bits : List (List ℕ)) → length names ≡ length bits → map pair_of (links_in numbers a names bits) ≡ pairs names a
+links_pairs : (numbers : ApexSoa) (a : Name) (names : List Name) (bits : List (List ℕ)) → length names ≡ length bits
+    → map pair_of (links_in numbers a names bits) ≡ pairs names a
 links_pairs numbers a [] bits e = refl
 links_pairs numbers a (n ∷ names) [] e = absurd (omega (arith, e))
 links_pairs numbers a (n ∷ []) (b ∷ bits) e = refl
 links_pairs numbers a (n ∷ m ∷ names) (b ∷ bits) e = ap (λ t. (n, m) ∷ t) (links_pairs numbers a (m ∷ names) bits (omega (arith, e)))
 
-links_numbered : (numbers : ApexSoa) (a : Name) (names : List Name) (bits : List (List ℕ)) → AllByRecursion (λ k. (k.class ≡ numbers.class) × (k.ttl ≡ chain_ttl numbers)) (links_in numbers a names bits)
+links_numbered : (numbers : ApexSoa) (a : Name) (names : List Name) (bits : List (List ℕ))
+    → AllByRecursion (λ k. (k.class ≡ numbers.class) × (k.ttl ≡ chain_ttl numbers)) (links_in numbers a names bits)
 links_numbered numbers a [] bits = tt
 links_numbered numbers a (n ∷ names) [] = tt
 links_numbered numbers a (n ∷ names) (b ∷ bits) = ((refl, refl), links_numbered numbers a names bits)
 
-links_listed : (numbers : ApexSoa) (a : Name) (f : Name → List ℕ) (names : List Name) → AllByRecursion (λ k. k.bits ≡ f k.owner) (links_in numbers a names (map f names))
+links_listed : (numbers : ApexSoa) (a : Name) (f : Name → List ℕ) (names : List Name)
+    → AllByRecursion (λ k. k.bits ≡ f k.owner) (links_in numbers a names (map f names))
 links_listed numbers a f [] = tt
 links_listed numbers a f (n ∷ names) = (refl, links_listed numbers a f names)
 
 -- a link for each name
-links_counted : (numbers : ApexSoa) (a : Name) (names : List Name) (bits : List (List ℕ)) → length names ≡ length bits → length (links_in numbers a names bits) ≡ length names
+links_counted : (numbers : ApexSoa) (a : Name) (names : List Name) (bits : List (List ℕ)) → length names ≡ length bits
+    → length (links_in numbers a names bits) ≡ length names
 links_counted numbers a [] bits e = refl
 links_counted numbers a (n ∷ names) [] e = absurd (omega (arith, e))
 links_counted numbers a (n ∷ names) (b ∷ bits) e = ap suc (links_counted numbers a names bits (omega (arith, e)))
@@ -56,11 +61,13 @@ link_at numbers a (n ∷ names) (b ∷ bits) zero d e l = refl
 link_at numbers a (n ∷ names) (b ∷ bits) (suc i) d e l = link_at numbers a names bits i d (omega (arith, e)) (omega (arith, l))
 
 -- a link for each of these
-pub lent_counted : {X : Type 0} (f : X → Name) (numbers : ApexSoa) (a : Name) (xs : List X) (bits : List (List ℕ)) → length xs ≡ length bits → length (links_in numbers a (map f xs) bits) ≡ length xs
+pub lent_counted : {X : Type 0} (f : X → Name) (numbers : ApexSoa) (a : Name) (xs : List X) (bits : List (List ℕ))
+    → length xs ≡ length bits → length (links_in numbers a (map f xs) bits) ≡ length xs
 lent_counted f numbers a xs bits even = let long = length-map xs f in links_counted numbers a (map f xs) bits (long ∙ even) ∙ long
 
 -- the link at a place has the names from there on, or the apex for a next one, and the bits there
-pub link_lent : {X : Type 0} (f : X → Name) (numbers : ApexSoa) (a : Name) (xs : List X) (bits : List (List ℕ)) (i : ℕ) (d : Link) (x : X) (next : Name) (types : List ℕ)
+pub link_lent : {X : Type 0} (f : X → Name) (numbers : ApexSoa) (a : Name) (xs : List X) (bits : List (List ℕ)) (i : ℕ) (d : Link)
+    (x : X) (next : Name) (types : List ℕ)
     → length xs ≡ length bits → i < length xs → x ≡ get_or xs i x → types ≡ get_or bits i []
     → (i + 1 < length xs → next ≡ f (get_or xs (i + 1) x)) → (length xs ≤ i + 1 → next ≡ a)
     → link_of (f x) next numbers types ≡ get_or (links_in numbers a (map f xs) bits) i d
@@ -75,12 +82,15 @@ link_lent f numbers a xs bits i d x next types even within owner listed later la
     (λ j. link_of (here j) (after j) numbers (listed j)) ∙ link_at numbers a (map f xs) bits i d (long ∙ even) (omega (arith, long))
 
 -- one more record is made
-pub record_made : {X : Type 0} (see : X → Link) (old new : List X) (item : X) (i : ℕ) (links : List Link) → i < length links → new ≡ old ++ item ∷ [] → ((d : Link) → see item ≡ get_or links i d) → map see old ≡ take i links → map see new ≡ take (i + 1) links
+pub record_made : {X : Type 0} (see : X → Link) (old new : List X) (item : X) (i : ℕ) (links : List Link) → i < length links
+    → new ≡ old ++ item ∷ [] → ((d : Link) → see item ≡ get_or links i d) → map see old ≡ take i links
+    → map see new ≡ take (i + 1) links
 record_made see old new item i links within pushed is h =
     ap (map see) pushed ∙ made_more see old (item ∷ []) ∙ (λ j. h j ++ is (see item) j ∷ []) ∙ sym (take_more links i (see item) within)
 
 -- the owners of a zone with their types are its chain
-pub chain_of : (L : List ZoneRecord) (a : Name) (config : GenerateNsecConfig) (numbers : ApexSoa) (names : List Name) (bits : List (List ℕ)) → soa_of L a ≡ Some numbers
+pub chain_of : (L : List ZoneRecord) (a : Name) (config : GenerateNsecConfig) (numbers : ApexSoa) (names : List Name)
+    (bits : List (List ℕ)) → soa_of L a ≡ Some numbers
     → names ≡ unoccluded_owners config.occlude_below_dname L a → bits ≡ map (λ n. bitmap_octets (nsec_lists L a config.assume_dnskeys_will_be_added n)) names
     → IsChain L a config (links_in numbers a names bits)
 chain_of L a config numbers names bits soa named listed =
@@ -90,14 +100,16 @@ chain_of L a config numbers names bits soa named listed =
       numbers = numbers;
       soa = soa;
       names = links_pairs numbers a names bits long ∙ ap (λ ks. pairs ks a) named;
-      numbered = All-from_recursion (λ k. (k.class ≡ numbers.class) × (k.ttl ≡ chain_ttl numbers)) (links_in numbers a names bits) (links_numbered numbers a names bits);
+      numbered = All-from_recursion (λ k. (k.class ≡ numbers.class) × (k.ttl ≡ chain_ttl numbers)) (links_in numbers a names bits)
+          (links_numbered numbers a names bits);
       bits = All-from_recursion (λ k. k.bits ≡ f k.owner) (links_in numbers a names bits)
           (subst (λ bs. AllByRecursion (λ k. k.bits ≡ f k.owner) (links_in numbers a names bs)) (sym listed) (links_listed numbers a f names));
     }
 
 -- ---- pairs
 
-count_pairs : (x : Name) (links : List Link) → count_by (λ k. matches_or_covers before k.owner k.next x) links ≡ count_by (λ (p : Name × Name). matches_or_covers before p.0 p.1 x) (map pair_of links)
+count_pairs : (x : Name) (links : List Link) → count_by (λ k. matches_or_covers before k.owner k.next x) links
+    ≡ count_by (λ (p : Name × Name). matches_or_covers before p.0 p.1 x) (map pair_of links)
 count_pairs x [] = refl
 count_pairs x (k ∷ links) =
     count_cons (λ k. matches_or_covers before k.owner k.next x) k links
@@ -144,7 +156,8 @@ module _ (d : Bool) (L : List ZoneRecord) (a : Name) (order : OwnersNeverDescend
       by [] up low h = absurd (false≢true h)
       by (k ∷ ks) up low h = record { first = k; later = ks; are = refl; up = up; low = low; begins = begins_at k ks up h }
 
-module _ (L : List ZoneRecord) (a : Name) (order : OwnersNeverDescend L) (config : GenerateNsecConfig) (links : List Link) (chain : IsChain L a config links) where
+module _ (L : List ZoneRecord) (a : Name) (order : OwnersNeverDescend L) (config : GenerateNsecConfig) (links : List Link)
+    (chain : IsChain L a config links) where
   pub apex_owns : owns L a ≡ true
   apex_owns = soa_owned L a chain.numbers chain.soa
 
@@ -160,10 +173,12 @@ module _ (L : List ZoneRecord) (a : Name) (order : OwnersNeverDescend L) (config
       ∙ one_matches_or_covers before_order k.first k.later a x k.up k.low k.begins
 
   -- of a record's pair and an unoccluded owner
-  pub owner_gap : (l : Link) (m : Name) → In l links → In m (unoccluded_owners config.occlude_below_dname L a) → IsApart {lt = before} before_order m (l.owner, l.next)
+  pub owner_gap : (l : Link) (m : Name) → In l links → In m (unoccluded_owners config.occlude_below_dname L a)
+      → IsApart {lt = before} before_order m (l.owner, l.next)
   owner_gap l m i j =
       let k = owners in
-      gap before_order k.first k.later a (l.owner, l.next) m k.up (subst (In (l.owner, l.next)) (chain.names ∙ ap (λ ks. pairs ks a) k.are) (in_map links l i)) (subst (In m) k.are j)
+      gap before_order k.first k.later a (l.owner, l.next) m k.up
+      (subst (In (l.owner, l.next)) (chain.names ∙ ap (λ ks. pairs ks a) k.are) (in_map links l i)) (subst (In m) k.are j)
 
   pub link_owner : (l : Link) → In l links → In l.owner (unoccluded_owners config.occlude_below_dname L a)
   link_owner l i =
@@ -174,29 +189,40 @@ module _ (L : List ZoneRecord) (a : Name) (order : OwnersNeverDescend L) (config
   pub link_next : (l : Link) → In l links → ((before l.owner l.next ≡ true) × In l.next (unoccluded_owners config.occlude_below_dname L a)) ⊎ (a ≡ l.next)
   link_next l i =
       let k = owners in
-      elim (next_is before_order k.first k.later a (l.owner, l.next) k.up (subst (In (l.owner, l.next)) (chain.names ∙ ap (λ ks. pairs ks a) k.are) (in_map links l i))) [
+      elim (next_is before_order k.first k.later a (
+        l.owner,
+        l.next,
+      ) k.up (subst (In (l.owner, l.next)) (chain.names ∙ ap (λ ks. pairs ks a) k.are) (in_map links l i))) [
         | inl h ↦ inl (h.0, subst (In l.next) (sym k.are) h.1)
         | inr h ↦ inr h
       ]
 
-  bit_at : (l : Link) (xs : List Link) → All (λ k. k.bits ≡ bitmap_octets (nsec_lists L a config.assume_dnskeys_will_be_added k.owner)) xs → In l xs → l.bits ≡ bitmap_octets (nsec_lists L a config.assume_dnskeys_will_be_added l.owner)
-  bit_at l xs h i = all_in (λ k. k.bits ≡ bitmap_octets (nsec_lists L a config.assume_dnskeys_will_be_added k.owner)) xs l (recursion_from_All (λ k. k.bits ≡ bitmap_octets (nsec_lists L a config.assume_dnskeys_will_be_added k.owner)) xs h) i
+  bit_at : (l : Link) (xs : List Link) → All (λ k. k.bits ≡ bitmap_octets
+      (nsec_lists L a config.assume_dnskeys_will_be_added k.owner)) xs → In l xs
+      → l.bits ≡ bitmap_octets (nsec_lists L a config.assume_dnskeys_will_be_added l.owner)
+  bit_at l xs h i = all_in (λ k. k.bits ≡ bitmap_octets (nsec_lists L a config.assume_dnskeys_will_be_added k.owner)) xs l
+      (recursion_from_All (λ k. k.bits ≡ bitmap_octets (nsec_lists L a config.assume_dnskeys_will_be_added k.owner)) xs h) i
 
   -- where x is not occluded and isn't the owner of the record that matches or covers it, it owns nothing
-  uncovered : (x : Name) (l : Link) → In l links → is_unoccluded config.occlude_below_dname L a x ≡ true → covers before l.owner l.next x ≡ true → owns L x ≡ false
+  uncovered : (x : Name) (l : Link) → In l links → is_unoccluded config.occlude_below_dname L a x ≡ true
+      → covers before l.owner l.next x ≡ true → owns L x ≡ false
   uncovered x l i zone c =
       elim (cases_Bool (owns L x)) [
         | inl o ↦
-            let m = any_in (λ m. same_name m x) (unoccluded_owners config.occlude_below_dname L a) (any_owner config.occlude_below_dname L a x (λ m. same_lowered m (lowered x)) o zone (same_itself x x refl)) in
+            let m = any_in (λ m. same_name m x) (unoccluded_owners config.occlude_below_dname L a)
+            (any_owner config.occlude_below_dname L a x (λ m. same_lowered m (lowered x)) o zone (same_itself x x refl)) in
             let k = one_lowered m.0 x m.2 in
             let low = below_from x a (and_parts (is_at_or_below x a) (not (is_occluded config.occlude_below_dname L a x)) zone).0 in
-            let parts = and_parts (not (matches before l.owner x)) (cond (before l.owner l.next) (before l.owner x && before x l.next) (before l.owner x || before x l.next)) c in
+            let parts = and_parts (not (matches before l.owner x))
+            (cond (before l.owner l.next) (before l.owner x && before x l.next) (before l.owner x || before x l.next)) c in
             absurd (clash (before l.owner l.next) refl parts.1 low m.0 k (owner_gap l m.0 i m.1) (link_next l i))
         | inr o ↦ o
       ]
     where
-      clash : (b : Bool) → before l.owner l.next ≡ b → cond b (before l.owner x && before x l.next) (before l.owner x || before x l.next) ≡ true → before x a ≡ false → (m : Name) → lowered m ≡ lowered x
-          → IsApart {lt = before} before_order m (l.owner, l.next) → ((before l.owner l.next ≡ true) × In l.next (unoccluded_owners config.occlude_below_dname L a)) ⊎ (a ≡ l.next) → ⊥
+      clash : (b : Bool) → before l.owner l.next ≡ b → cond b (before l.owner x && before x l.next) (before l.owner x
+          || before x l.next) ≡ true → before x a ≡ false → (m : Name) → lowered m ≡ lowered x
+          → IsApart {lt = before} before_order m (l.owner, l.next)
+          → ((before l.owner l.next ≡ true) × In l.next (unoccluded_owners config.occlude_below_dname L a)) ⊎ (a ≡ l.next) → ⊥
       clash true e h low m k (inl f) n =
           false≢true (sym f ∙ before_right l.owner m x k ∙ (and_parts (before l.owner x) (before x l.next) h).0)
       clash true e h low m k (inr f) n =
@@ -224,11 +250,15 @@ module _ (L : List ZoneRecord) (a : Name) (order : OwnersNeverDescend L) (config
         only = one.only;
         matched = elim (or_cases (matches before one.item.owner x) (covers before one.item.owner one.item.next x) one.passes) [
           | inl m ↦
-              let own = (all_in (λ n. (owns L n ≡ true) × (is_unoccluded config.occlude_below_dname L a n ≡ true)) (unoccluded_owners config.occlude_below_dname L a) one.item.owner (owners_are config.occlude_below_dname L a) (link_owner one.item i)).0 in
+              let own = (all_in (λ n. (owns L n ≡ true) × (is_unoccluded config.occlude_below_dname L a n ≡ true))
+              (unoccluded_owners config.occlude_below_dname L a) one.item.owner (owners_are config.occlude_below_dname L a)
+              (link_owner one.item i)).0 in
               let same_key = one_lowered one.item.owner x (same_is one.item.owner x ∙ m) in
               m ∙ sym (ap (λ k. list_any (λ r. same_lowered (lowered r.owner) k) L) (sym same_key) ∙ own)
           | inr c ↦
-              not-true (matches before one.item.owner x) (and_parts (not (matches before one.item.owner x)) (cond (before one.item.owner one.item.next) (before one.item.owner x && before x one.item.next) (before one.item.owner x || before x one.item.next)) c).0
+              not-true (matches before one.item.owner x) (and_parts (not (matches before one.item.owner x))
+              (cond (before one.item.owner one.item.next) (before one.item.owner x && before x one.item.next)
+              (before one.item.owner x || before x one.item.next)) c).0
               ∙ sym (uncovered x one.item i chosen c)
         ];
         bits = bit_at one.item links chain.bits i;
@@ -270,7 +300,8 @@ round a k (n ∷ ks) (l ∷ links) e up =
       ends = ap (last_next l.next) r.are ∙ r.ends;
     }
 
-pub chain_cycle : (L : List ZoneRecord) (a : Name) (order : OwnersNeverDescend L) (config : GenerateNsecConfig) (links : List Link) (chain : IsChain L a config links) → IsCycle a links
+pub chain_cycle : (L : List ZoneRecord) (a : Name) (order : OwnersNeverDescend L) (config : GenerateNsecConfig)
+    (links : List Link) (chain : IsChain L a config links) → IsCycle a links
 chain_cycle L a order config links chain =
     let k = owners L a order config links chain in
     let r = round a k.first k.later links (chain.names ∙ ap (λ ks. pairs ks a) k.are) k.up in

@@ -1,5 +1,6 @@
 -- What the record that covers a name tells of it.
-use Rattle.std.proofs.Common.{ℕ, slice_get, Some, ◌≡◌, ◌≤◌, Bool, true, false, cond, not, ◌&&◌, ◌||◌, List, length, ltb, refl, sym, ap, ◌∙◌, subst, inl, inr, ◌⊎◌, arith}
+use Rattle.std.proofs.Common.{ℕ, slice_get, Some, ◌≡◌, ◌≤◌, Bool, true, false, cond, not, ◌&&◌, ◌||◌}
+use Rattle.std.proofs.Common.{List, length, ltb, refl, sym, ap, ◌∙◌, subst, inl, inr, ◌⊎◌, arith}
 use Rattle.std.specs.List.{list_any}
 use Rattle.std.proofs.lemmas.Bool.{cases_Bool, false≢true, true≢false, and_parts, and_from, or_cases, not-true, ltb-true, ltb-false}
 use Rattle.domain_zone.specs.Covering.{matches, covers, matches_or_covers}
@@ -8,7 +9,8 @@ use Rattle.domain_base.specs.Name.{is_at_or_below, is_strictly_below, lowered, s
 use Rattle.domain_base.specs.Order.{before}
 use Rattle.domain_base.specs.Words.{Name}
 use Rattle.domain_zone.specs.Zone.{ZoneRecord, OwnersNeverDescend, owns, occludes, is_occluded, is_unoccluded, unoccluded_owners}
-use Rattle.domain_zone.proofs.NameLemmas.{before_order, one_lowered, same_itself, same_is, before_left, before_right, below_itself, below_trans, below_from, below_between, below_longer, lowered_below, same_lowered}
+use Rattle.domain_zone.proofs.NameLemmas.{before_order, one_lowered, same_itself, same_is, before_left, before_right, below_itself}
+use Rattle.domain_zone.proofs.NameLemmas.{below_trans, below_from, below_between, below_longer, lowered_below, same_lowered}
 use Rattle.domain_zone.proofs.OwnerLemmas.{any_owner, any_in, in_any, owners_are, below_occluder, occluder_owns}
 use Rattle.domain_zone.proofs.PairLemmas.{In, all_in, le_lt}
 use Rattle.domain_zone.proofs.PlaceLemmas.{one_place, in_at}
@@ -19,20 +21,25 @@ use Rattle.domain_nsec.specs.Meaning.{TellsEmpty, TellsEncloser, IsCoveredBy, Co
 use Rattle.domain_nsec.specs.declared.config.GenerateNsecConfig.{GenerateNsecConfig}
 use Rattle.domain_nsec.proofs.ChainLemmas.{answered_once, owner_gap, link_owner, link_next}
 
-module _ (L : List ZoneRecord) (a : Name) (order : OwnersNeverDescend L) (config : GenerateNsecConfig) (links : List Link) (chain : IsChain L a config links) where
+module _ (L : List ZoneRecord) (a : Name) (order : OwnersNeverDescend L) (config : GenerateNsecConfig) (links : List Link)
+    (chain : IsChain L a config links) where
   owner_low : (m : Name) → In m (unoccluded_owners config.occlude_below_dname L a) → is_at_or_below m a ≡ true
-  owner_low m i = (and_parts (is_at_or_below m a) (not (is_occluded config.occlude_below_dname L a m)) (all_in (λ n. (owns L n ≡ true) × (is_unoccluded config.occlude_below_dname L a n ≡ true)) (unoccluded_owners config.occlude_below_dname L a) m (owners_are config.occlude_below_dname L a) i).1).0
+  owner_low m i = (and_parts (is_at_or_below m a) (not (is_occluded config.occlude_below_dname L a m))
+      (all_in (λ n. (owns L n ≡ true) × (is_unoccluded config.occlude_below_dname L a n ≡ true))
+      (unoccluded_owners config.occlude_below_dname L a) m (owners_are config.occlude_below_dname L a) i).1).0
 
   -- x lies after the owner, and each owner of the chain is on one side of it
   pub record Covered (x : Name) (l : Link) : Type 0 where
     pub owner_in_chain : In l.owner (unoccluded_owners config.occlude_below_dname L a)
     pub after : before l.owner x ≡ true
     pub next_unoccluded : (before x l.next ≡ true) × In l.next (unoccluded_owners config.occlude_below_dname L a) ⊎ (a ≡ l.next)
-    pub sides : (m : Name) → In m (unoccluded_owners config.occlude_below_dname L a) → (before l.owner m ≡ false) ⊎ ((before x l.next ≡ true) × (before m l.next ≡ false))
+    pub sides : (m : Name) → In m (unoccluded_owners config.occlude_below_dname L a)
+        → (before l.owner m ≡ false) ⊎ ((before x l.next ≡ true) × (before m l.next ≡ false))
 
   pub covered : (x : Name) (l : Link) → In l links → is_at_or_below x a ≡ true → covers before l.owner l.next x ≡ true → Covered x l
   covered x l i low c =
-      let parts = and_parts (not (matches before l.owner x)) (cond (before l.owner l.next) (before l.owner x && before x l.next) (before l.owner x || before x l.next)) c in
+      let parts = and_parts (not (matches before l.owner x))
+      (cond (before l.owner l.next) (before l.owner x && before x l.next) (before l.owner x || before x l.next)) c in
       by (before l.owner l.next) refl parts.1 (link_next L a order config links chain l i)
     where
       by : (b : Bool) → before l.owner l.next ≡ b → cond b (before l.owner x && before x l.next) (before l.owner x || before x l.next) ≡ true
@@ -73,7 +80,9 @@ module _ (L : List ZoneRecord) (a : Name) (order : OwnersNeverDescend L) (config
     where
       there : Covered x l → is_empty_nonterminal (unoccluded_owners config.occlude_below_dname L a) a x ≡ true → is_strictly_below l.next x ≡ true
       there v h =
-          let p = and_parts (is_at_or_below x a && not (list_any (λ n. same_name n x) (unoccluded_owners config.occlude_below_dname L a))) (list_any (λ n. is_strictly_below n x) (unoccluded_owners config.occlude_below_dname L a)) h in
+          let p = and_parts (is_at_or_below x a && not (list_any (λ n. same_name n x)
+          (unoccluded_owners config.occlude_below_dname L a)))
+          (list_any (λ n. is_strictly_below n x) (unoccluded_owners config.occlude_below_dname L a)) h in
           let m = any_in (λ n. is_strictly_below n x) (unoccluded_owners config.occlude_below_dname L a) p.1 in
           let q = and_parts (is_at_or_below m.0 x) (not (same_name m.0 x)) m.2 in
           elim (v.sides m.0 m.1) [
@@ -86,7 +95,8 @@ module _ (L : List ZoneRecord) (a : Name) (order : OwnersNeverDescend L) (config
       back : Covered x l → is_strictly_below l.next x ≡ true → is_empty_nonterminal (unoccluded_owners config.occlude_below_dname L a) a x ≡ true
       back v h =
           let q = and_parts (is_at_or_below l.next x) (not (same_name l.next x)) h in
-          and_from (is_at_or_below x a && not (list_any (λ n. same_name n x) (unoccluded_owners config.occlude_below_dname L a))) (list_any (λ n. is_strictly_below n x) (unoccluded_owners config.occlude_below_dname L a))
+          and_from (is_at_or_below x a && not (list_any (λ n. same_name n x) (unoccluded_owners config.occlude_below_dname L a)))
+          (list_any (λ n. is_strictly_below n x) (unoccluded_owners config.occlude_below_dname L a))
           (and_from (is_at_or_below x a) (not (list_any (λ n. same_name n x) (unoccluded_owners config.occlude_below_dname L a))) low
           (elim (cases_Bool (list_any (λ n. same_name n x) (unoccluded_owners config.occlude_below_dname L a))) [
             | inl e ↦ let m = any_in (λ n. same_name n x) (unoccluded_owners config.occlude_below_dname L a) e in absurd (apart x l v m.0 m.1 m.2)
@@ -96,38 +106,52 @@ module _ (L : List ZoneRecord) (a : Name) (order : OwnersNeverDescend L) (config
             | inl k ↦ in_any (λ n. is_strictly_below n x) (unoccluded_owners config.occlude_below_dname L a) l.next k.1 h
             | inr k ↦
                 let below = subst (λ n. is_at_or_below n x ≡ true) (sym k) q.0 in
-                absurd (true≢false (sym (same_is a x ∙ (λ i. not (below_from a x below i || below_from x a low i)) ∙ refl) ∙ (ap (λ n. same_name n x) k ∙ not-true (same_name l.next x) q.1)))
+                absurd (true≢false (sym (same_is a x ∙ (λ i. not (below_from a x below i || below_from x a low i)) ∙ refl)
+                ∙ (ap (λ n. same_name n x) k ∙ not-true (same_name l.next x) q.1)))
           ])
 
   pub tells_empty : TellsEmpty L a config links
   tells_empty = record { each = told_empty }
 
-  tells_by_shared : (x : Name) → is_at_or_below x a ≡ true → (place : ℕ) (l : Link) → slice_get links place ≡ Some l → covers before l.owner l.next x ≡ true → (e f : Name) → IsShared x l.owner e → IsShared x l.next f → IsClosestEncloser (unoccluded_owners config.occlude_below_dname L a) a x (longer e f)
+  tells_by_shared : (x : Name) → is_at_or_below x a ≡ true → (place : ℕ) (l : Link) → slice_get links place ≡ Some l
+      → covers before l.owner l.next x ≡ true → (e f : Name) → IsShared x l.owner e → IsShared x l.next f
+      → IsClosestEncloser (unoccluded_owners config.occlude_below_dname L a) a x (longer e f)
   tells_by_shared x low place l at c e f s t =
       let v = covered x l (in_at links place l at) low c in
       let own = owner_low l.owner v.owner_in_chain in
       let e_low = below_longer x e a s.first low (s.longest a low own) in
-      let next_low : is_at_or_below l.next a ≡ true = elim v.next_unoccluded [ inl k ↦ owner_low l.next k.1 | inr k ↦ subst (λ n. is_at_or_below n a ≡ true) k (below_itself a) ] in
+      let next_low : is_at_or_below l.next a ≡ true = elim v.next_unoccluded
+      [ inl k ↦ owner_low l.next k.1 | inr k ↦ subst (λ n. is_at_or_below n a ≡ true) k (below_itself a) ] in
       let f_low = below_longer x f a t.first low (t.longest a low next_low) in
-      let e_found = and_from (is_at_or_below e a) (list_any (λ n. is_at_or_below n e) (unoccluded_owners config.occlude_below_dname L a)) e_low (in_any (λ n. is_at_or_below n e) (unoccluded_owners config.occlude_below_dname L a) l.owner v.owner_in_chain s.second) in
+      let e_found = and_from (is_at_or_below e a) (list_any (λ n. is_at_or_below n e)
+      (unoccluded_owners config.occlude_below_dname L a)) e_low
+      (in_any (λ n. is_at_or_below n e) (unoccluded_owners config.occlude_below_dname L a) l.owner v.owner_in_chain
+      s.second) in
       let f_some : list_any (λ n. is_at_or_below n f) (unoccluded_owners config.occlude_below_dname L a) ≡ true =
       elim v.next_unoccluded [
         | inl k ↦ in_any (λ n. is_at_or_below n f) (unoccluded_owners config.occlude_below_dname L a) l.next k.1 t.second
-        | inr k ↦ in_any (λ n. is_at_or_below n f) (unoccluded_owners config.occlude_below_dname L a) l.owner v.owner_in_chain (below_trans l.owner a f own (subst (λ n. is_at_or_below n f ≡ true) (sym k) t.second))
+        | inr k ↦ in_any (λ n. is_at_or_below n f) (unoccluded_owners config.occlude_below_dname L a) l.owner v.owner_in_chain
+            (below_trans l.owner a f own (subst (λ n. is_at_or_below n f ≡ true) (sym k) t.second))
       ] in
       let f_found = and_from (is_at_or_below f a) (list_any (λ n. is_at_or_below n f) (unoccluded_owners config.occlude_below_dname L a)) f_low f_some in
       record {
-        found = elim (ltb (length e) (length f)) as (λ b. exists_over (unoccluded_owners config.occlude_below_dname L a) a (cond b f e) ≡ true) [ true ↦ f_found | false ↦ e_found ];
+        found = elim (ltb (length e) (length f)) as (λ b. exists_over (unoccluded_owners config.occlude_below_dname L a) a
+            (cond b f e) ≡ true) [ true ↦ f_found | false ↦ e_found ];
         above = elim (ltb (length e) (length f)) as (λ b. is_at_or_below x (cond b f e) ≡ true) [ true ↦ t.first | false ↦ s.first ];
         longest = λ d g h. up (ltb (length e) (length f)) refl d (bound v d g h);
       }
     where
-      bound : Covered x l → (d : Name) → exists_over (unoccluded_owners config.occlude_below_dname L a) a d ≡ true → is_at_or_below x d ≡ true → (length d ≤ length e) ⊎ (length d ≤ length f)
+      bound : Covered x l → (d : Name) → exists_over (unoccluded_owners config.occlude_below_dname L a) a d ≡ true
+          → is_at_or_below x d ≡ true → (length d ≤ length e) ⊎ (length d ≤ length f)
       bound v d g h =
-          let m = any_in (λ n. is_at_or_below n d) (unoccluded_owners config.occlude_below_dname L a) (and_parts (is_at_or_below d a) (list_any (λ n. is_at_or_below n d) (unoccluded_owners config.occlude_below_dname L a)) g).1 in
+          let m = any_in (λ n. is_at_or_below n d) (unoccluded_owners config.occlude_below_dname L a)
+          (and_parts (is_at_or_below d a) (list_any (λ n. is_at_or_below n d)
+          (unoccluded_owners config.occlude_below_dname L a)) g).1 in
           elim (v.sides m.0 m.1) [
-            | inl k ↦ inl (s.longest d h (below_between x d l.owner h (before_order.chain l.owner m.0 d k (below_from m.0 d m.2)) (before_order.one_way l.owner x v.after)))
-            | inr k ↦ inr (t.longest d h (below_between m.0 d l.next m.2 (before_order.chain l.next x d (before_order.one_way x l.next k.0) (below_from x d h)) k.1))
+            | inl k ↦ inl (s.longest d h (below_between x d l.owner h (before_order.chain l.owner m.0 d k (below_from m.0 d m.2))
+                (before_order.one_way l.owner x v.after)))
+            | inr k ↦ inr (t.longest d h (below_between m.0 d l.next m.2
+                (before_order.chain l.next x d (before_order.one_way x l.next k.0) (below_from x d h)) k.1))
           ]
 
       up : (b : Bool) → ltb (length e) (length f) ≡ b → (d : Name) → (length d ≤ length e) ⊎ (length d ≤ length f) → length d ≤ length (cond b f e)
@@ -141,18 +165,24 @@ module _ (L : List ZoneRecord) (a : Name) (order : OwnersNeverDescend L) (config
     each = λ x low place l at c. tells_by_shared x low place l at c (shared x l.owner) (shared x l.next) (shared_is x l.owner) (shared_is x l.next);
   }
 
-  covered_below : (c x : Name) → occludes config.occlude_below_dname L a c ≡ true → is_unoccluded config.occlude_below_dname L a c ≡ true → is_strictly_below x c ≡ true → IsCoveredBy links c x
+  covered_below : (c x : Name) → occludes config.occlude_below_dname L a c ≡ true
+      → is_unoccluded config.occlude_below_dname L a c ≡ true → is_strictly_below x c ≡ true → IsCoveredBy links c x
   covered_below c x cut unoccluded s =
       let one = one_place (λ k. matches_or_covers before k.owner k.next x) links (answered_once L a order config links chain x) in
       let l = one.item in
       let i = in_at links one.place l one.there in
-      let own = (all_in (λ n. (owns L n ≡ true) × (is_unoccluded config.occlude_below_dname L a n ≡ true)) (unoccluded_owners config.occlude_below_dname L a) l.owner (owners_are config.occlude_below_dname L a) (link_owner L a order config links chain l i)).1 in
-      let not_under = not-true (is_occluded config.occlude_below_dname L a l.owner) (and_parts (is_at_or_below l.owner a) (not (is_occluded config.occlude_below_dname L a l.owner)) own).1 in
+      let own = (all_in (λ n. (owns L n ≡ true) × (is_unoccluded config.occlude_below_dname L a n ≡ true))
+      (unoccluded_owners config.occlude_below_dname L a) l.owner (owners_are config.occlude_below_dname L a)
+      (link_owner L a order config links chain l i)).1 in
+      let not_under = not-true (is_occluded config.occlude_below_dname L a l.owner)
+      (and_parts (is_at_or_below l.owner a) (not (is_occluded config.occlude_below_dname L a l.owner)) own).1 in
       let down = (and_parts (is_at_or_below x c) (not (same_name x c)) s).0 in
       let low = below_trans x c a down (and_parts (is_at_or_below c a) (not (is_occluded config.occlude_below_dname L a c)) unoccluded).0 in
       let cover : covers before l.owner l.next x ≡ true =
       elim (or_cases (matches before l.owner x) (covers before l.owner l.next x) one.passes) [
-        | inl m ↦ absurd (false≢true (sym not_under ∙ below_occluder config.occlude_below_dname L a c l.owner cut (ap (λ k. lowered_below k (lowered c) && not (same_lowered k (lowered c))) (one_lowered l.owner x (same_is l.owner x ∙ m)) ∙ s)))
+        | inl m ↦ absurd (false≢true (sym not_under ∙ below_occluder config.occlude_below_dname L a c l.owner cut
+            (ap (λ k. lowered_below k (lowered c) && not (same_lowered k (lowered c)))
+            (one_lowered l.owner x (same_is l.owner x ∙ m)) ∙ s)))
         | inr m ↦ m
       ] in
       record {
@@ -169,7 +199,9 @@ module _ (L : List ZoneRecord) (a : Name) (order : OwnersNeverDescend L) (config
 
       at : (l : Link) → Covered x l → is_occluded config.occlude_below_dname L a l.owner ≡ false → is_at_or_below x c ≡ true → same_name l.owner c ≡ true
       at l v u down =
-          let m = any_in (λ n. same_name n c) (unoccluded_owners config.occlude_below_dname L a) (any_owner config.occlude_below_dname L a c (λ n. same_lowered n (lowered c)) cut_owns unoccluded (same_itself c c refl)) in
+          let m = any_in (λ n. same_name n c) (unoccluded_owners config.occlude_below_dname L a)
+          (any_owner config.occlude_below_dname L a c (λ n. same_lowered n (lowered c)) cut_owns unoccluded
+          (same_itself c c refl)) in
           let k = one_lowered m.0 c m.2 in
           let c_first : before l.owner c ≡ false =
           elim (v.sides m.0 m.1) [
@@ -179,7 +211,8 @@ module _ (L : List ZoneRecord) (a : Name) (order : OwnersNeverDescend L) (config
           let under = below_between x c l.owner down c_first (before_order.one_way l.owner x v.after) in
           elim (cases_Bool (same_name l.owner c)) [
             | inl e ↦ e
-            | inr e ↦ absurd (false≢true (sym u ∙ below_occluder config.occlude_below_dname L a c l.owner cut (and_from (is_at_or_below l.owner c) (not (same_name l.owner c)) under (ap not e))))
+            | inr e ↦ absurd (false≢true (sym u ∙ below_occluder config.occlude_below_dname L a c l.owner cut
+                (and_from (is_at_or_below l.owner c) (not (same_name l.owner c)) under (ap not e))))
           ]
 
   pub covers_below_occluders : CoversBelowOccluders L a config links

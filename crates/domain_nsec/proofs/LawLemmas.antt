@@ -8,7 +8,9 @@ use Rattle.domain_zone.specs.Zone.{ZoneRecord, has_type}
 use Rattle.domain_zone.proofs.NameLemmas.{one_lowered, lowered_below, same_lowered}
 use Rattle.domain_nsec.specs.Chain.{nsec_lists, is_listed}
 
-pub bits_alike : (L : List ZoneRecord) (a : Name) (assume : Bool) (x y : Name) → same_name x y ≡ true → (t : ℕ) → nsec_lists L a assume x t ≡ nsec_lists L a assume y t
+pub bits_alike : (L : List ZoneRecord) (a : Name) (assume : Bool) (x y : Name) → same_name x y ≡ true → (t : ℕ)
+    → nsec_lists L a assume x t ≡ nsec_lists L a assume y t
 bits_alike L a assume x y e t =
     let rs : Name → List ZoneRecord = λ k. filter (λ r. same_lowered (lowered r.owner) k) L in
-    ap (λ k. is_listed (assume && same_lowered k (lowered a)) ((lowered_below k (lowered a) && not (same_lowered k (lowered a))) && has_type (rs k) ns) (rs k) t) (one_lowered x y e)
+    ap (λ k. is_listed (assume && same_lowered k (lowered a)) ((lowered_below k (lowered a) && not (same_lowered k (lowered a)))
+    && has_type (rs k) ns) (rs k) t) (one_lowered x y e)

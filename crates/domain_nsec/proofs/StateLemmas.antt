@@ -20,7 +20,8 @@ abbrev pub bits_of : List ZoneRecord → Name → GenerateNsecConfig → List Na
 bits_of L a config = map (λ n. bitmap_octets (nsec_lists L a config.assume_dnskeys_will_be_added n))
 
 -- the owners given so far and those left are all; the names and their types are those of the given
-pub record IsAt (L : List ZoneRecord) (a : Name) (config : GenerateNsecConfig) (left : List OwnerRecords) (names : List Name) (bits : List (List ℕ)) : Type 0 where
+pub record IsAt (L : List ZoneRecord) (a : Name) (config : GenerateNsecConfig) (left : List OwnerRecords) (names : List Name)
+    (bits : List (List ℕ)) : Type 0 where
   pub given : List OwnerRecords
   pub all : given ++ left ≡ owners_with_records config.occlude_below_dname L a
   pub even : list_any clashes_in given ≡ false

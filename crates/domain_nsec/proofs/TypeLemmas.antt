@@ -11,7 +11,9 @@ holds_nothing : (value : List ℕ) → value ≡ [] → (t : ℕ) → holds valu
 unfolding holds
 holds_nothing value e t = ap (λ v. holds v t) e
 
-pub common_two : (cut : Bool) (v0 v1 v2 : List ℕ) → v0 ≡ [] → ((t : ℕ) → t < 65536 → holds v1 t ≡ (nat_eq t 46 || holds v0 t)) → ((t : ℕ) → t < 65536 → holds v2 t ≡ (nat_eq t 47 || holds v1 t)) → (t : ℕ) → t < 65536 → holds v2 t ≡ is_listed false cut [] t
+pub common_two : (cut : Bool) (v0 v1 v2 : List ℕ) → v0 ≡ [] → ((t : ℕ) → t < 65536 → holds v1 t ≡ (nat_eq t 46 || holds v0 t))
+    → ((t : ℕ) → t < 65536 → holds v2 t ≡ (nat_eq t 47 || holds v1 t)) → (t : ℕ) → t < 65536
+    → holds v2 t ≡ is_listed false cut [] t
 common_two cut v0 v1 v2 e f g t b =
     g t b ∙ (λ i. nat_eq t 47 || (f t b ∙ (λ j. nat_eq t 46 || holds_nothing v0 e t j)) i) ∙ by (nat_eq t 46) (nat_eq t 47)
   where
@@ -21,7 +23,9 @@ common_two cut v0 v1 v2 e f g t b =
     by false true = refl
     by false false = refl
 
-pub common_three : (cut : Bool) (v2 v3 : List ℕ) → ((t : ℕ) → t < 65536 → holds v2 t ≡ is_listed false cut [] t) → ((t : ℕ) → t < 65536 → holds v3 t ≡ (nat_eq t 48 || holds v2 t)) → (t : ℕ) → t < 65536 → holds v3 t ≡ is_listed true cut [] t
+pub common_three : (cut : Bool) (v2 v3 : List ℕ) → ((t : ℕ) → t < 65536 → holds v2 t ≡ is_listed false cut [] t)
+    → ((t : ℕ) → t < 65536 → holds v3 t ≡ (nat_eq t 48 || holds v2 t)) → (t : ℕ) → t < 65536
+    → holds v3 t ≡ is_listed true cut [] t
 common_three cut v2 v3 f g t b = g t b ∙ (λ i. nat_eq t 48 || f t b i) ∙ by (nat_eq t 46) (nat_eq t 47) (nat_eq t 48)
   where
     by : (p q r : Bool) → (r || (((p || q) || false) || false)) ≡ (((p || q) || r) || false)
@@ -33,7 +37,8 @@ common_three cut v2 v3 f g t b = g t b ∙ (λ i. nat_eq t 48 || f t b i) ∙ by
     by false false false = refl
 
 -- the common types, and then those of the records
-pub listed_octets : (assumed cut : Bool) (G : List ZoneRecord) (old new : List ℕ) → ((at_cut : Bool) (t : ℕ) → t < 65536 → holds old t ≡ is_listed assumed at_cut [] t)
+pub listed_octets : (assumed cut : Bool) (G : List ZoneRecord) (old new : List ℕ)
+    → ((at_cut : Bool) (t : ℕ) → t < 65536 → holds old t ≡ is_listed assumed at_cut [] t)
     → ((t : ℕ) → t < 65536 → holds new t ≡ (holds old t || lists_type cut G t)) → bitmap_octets (holds new) ≡ bitmap_octets (is_listed assumed cut G)
 listed_octets assumed cut G old new common more =
     bitmap_octets-same (holds new) (is_listed assumed cut G)

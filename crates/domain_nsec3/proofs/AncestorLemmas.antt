@@ -56,7 +56,11 @@ are_above n [] = tt
 are_above n (label ∷ x) =
     elim (nat_lt n (length x)) as (λ b. nat_lt n (length x) ≡ b → AllByRecursion (IsAbove n (label ∷ x)) (cond b (above_with_more n x ++ x ∷ []) [])) [
       | true ↦ λ e. all_both (IsAbove n (label ∷ x)) (above_with_more n x) (x ∷ [])
-          (weaker (IsAbove n x) (IsAbove n (label ∷ x)) (λ m h. (below_trans (label ∷ x) x m (below_parent label x) h.0, omega (arith, h.1), h.2)) (above_with_more n x) (are_above n x))
+          (weaker (IsAbove n x) (IsAbove n (label ∷ x)) (λ m h. (
+            below_trans (label ∷ x) x m (below_parent label x) h.0,
+            omega (arith, h.1),
+            h.2,
+          )) (above_with_more n x) (are_above n x))
           ((below_parent label x, omega arith, is_less n (length x) e), tt)
       | false ↦ λ e. tt
     ] refl
@@ -66,8 +70,11 @@ has_each n [] x h more fewer = absurd (omega arith)
 has_each n (label ∷ o) x h more fewer =
     let up : length x ≤ length o = omega arith in
     let above : is_at_or_below o x ≡ true = sym (cons_below label o x up) ∙ h in
-    let there : list_any (λ m. same_name m x) (above_with_more n o ++ o ∷ []) ≡ true = list_any-append (λ m. same_name m x) (above_with_more n o) (o ∷ []) ∙ elim (cases_Bool (nat_le (length o) (length x))) [
-      | inl l ↦ or_right (list_any (λ m. same_name m x) (above_with_more n o)) (same_name o x || false) (or_left (same_name o x) false (same_itself o x (at_length o x above (leb-true (length o) (length x) l))))
+    let there : list_any (λ m. same_name m x) (above_with_more n o ++ o ∷ [])
+    ≡ true = list_any-append (λ m. same_name m x) (above_with_more n o) (o ∷ [])
+    ∙ elim (cases_Bool (nat_le (length o) (length x))) [
+      | inl l ↦ or_right (list_any (λ m. same_name m x) (above_with_more n o)) (same_name o x || false)
+          (or_left (same_name o x) false (same_itself o x (at_length o x above (leb-true (length o) (length x) l))))
       | inr l ↦ or_left (list_any (λ m. same_name m x) (above_with_more n o)) (same_name o x || false) (has_each n o x above more (grind (arith, nat_tests)))
     ] in
     rw (less n (length o) (omega arith)) there
@@ -95,10 +102,13 @@ known_apex a = record {
 pub known_owner : (a : Name) (owners : List Name) (o : Name) → is_at_or_below o a ≡ true → IsKnown a (owners ++ o ∷ []) o
 known_owner a owners o h = record {
   in_zone = h;
-  there = λ e s up. list_any-append (λ n. is_at_or_below n e) owners (o ∷ []) ∙ or_right (list_any (λ n. is_at_or_below n e) owners) (is_at_or_below o e || false) (or_left (is_at_or_below o e) false up);
+  there = λ e s up. list_any-append (λ n. is_at_or_below n e) owners (o ∷ [])
+      ∙ or_right (list_any (λ n. is_at_or_below n e) owners) (is_at_or_below o e || false)
+      (or_left (is_at_or_below o e) false up);
 }
 
-module _ (a : Name) (owners names : List Name) (p o : Name) (s : ℕ) (known : IsKnown a owners p) (zone : is_at_or_below o a ≡ true) (shares : Shares o p s) (h : HoldsAncestors a owners names) where
+module _ (a : Name) (owners names : List Name) (p o : Name) (s : ℕ) (known : IsKnown a owners p) (zone : is_at_or_below o a
+    ≡ true) (shares : Shares o p s) (h : HoldsAncestors a owners names) where
   apex_short : length a ≤ s
   apex_short = leb-true (length a) s (sym (shares a zone) ∙ known.in_zone)
 
@@ -109,27 +119,36 @@ module _ (a : Name) (owners names : List Name) (p o : Name) (s : ℕ) (known : I
       let k = one_lowered m.0 x m.2 in
       let long : length a < length m.0 = omega (arith, apex_short, f.2) in
       let low = strictly_from m.0 a (below_longer o m.0 a f.0 zone (omega arith)) long in
-      let high = strictly_from o m.0 f.0 f.1 in
-      (ap (λ q. lowered_below q (lowered a) && not (same_lowered q (lowered a))) (sym k) ∙ low, ap (λ q. lowered_below (lowered o) q && not (same_lowered (lowered o) q)) (sym k) ∙ high)
+      let high = strictly_from o m.0 f.0 f.1 in (
+        ap (λ q. lowered_below q (lowered a) && not (same_lowered q (lowered a))) (sym k) ∙ low,
+        ap (λ q. lowered_below (lowered o) q && not (same_lowered (lowered o) q)) (sym k) ∙ high,
+      )
 
   pub holds_more : HoldsAncestors a (owners ++ o ∷ []) (names ++ above_with_more s o)
   holds_more = record {
-    below = λ x e. elim (or_cases (list_any (λ n. same_name n x) names) (list_any (λ n. same_name n x) (above_with_more s o)) (sym (list_any-append (λ n. same_name n x) names (above_with_more s o)) ∙ e)) [
-      | inl t ↦ h.below x t
-      | inr t ↦ (fresh_below x t).0
-    ];
-    above = λ x e. list_any-append (λ n. is_strictly_below n x) owners (o ∷ []) ∙ elim (or_cases (list_any (λ n. same_name n x) names) (list_any (λ n. same_name n x) (above_with_more s o)) (sym (list_any-append (λ n. same_name n x) names (above_with_more s o)) ∙ e)) [
-      | inl t ↦ or_left (list_any (λ n. is_strictly_below n x) owners) (is_strictly_below o x || false) (h.above x t)
-      | inr t ↦ or_right (list_any (λ n. is_strictly_below n x) owners) (is_strictly_below o x || false) (or_left (is_strictly_below o x) false (fresh_below x t).1)
-    ];
+    below = λ x e. elim (or_cases (list_any (λ n. same_name n x) names) (list_any (λ n. same_name n x) (above_with_more s o))
+        (sym (list_any-append (λ n. same_name n x) names (above_with_more s o)) ∙ e)) [
+          | inl t ↦ h.below x t
+          | inr t ↦ (fresh_below x t).0
+        ];
+    above = λ x e. list_any-append (λ n. is_strictly_below n x) owners (o ∷ [])
+        ∙ elim (or_cases (list_any (λ n. same_name n x) names) (list_any (λ n. same_name n x) (above_with_more s o))
+        (sym (list_any-append (λ n. same_name n x) names (above_with_more s o)) ∙ e)) [
+          | inl t ↦ or_left (list_any (λ n. is_strictly_below n x) owners) (is_strictly_below o x || false) (h.above x t)
+          | inr t ↦ or_right (list_any (λ n. is_strictly_below n x) owners) (is_strictly_below o x || false)
+              (or_left (is_strictly_below o x) false (fresh_below x t).1)
+        ];
     each = λ x low e.
         let S : List Name → Bool = list_any (λ n. same_name n x) in
         let old : list_any (λ n. is_at_or_below n x) owners ≡ true → (S (owners ++ o ∷ []) || S (names ++ above_with_more s o)) ≡ true = λ t.
         elim (or_cases (S owners) (S names) (h.each x low t)) [
-          | inl u ↦ or_left (S (owners ++ o ∷ [])) (S (names ++ above_with_more s o)) (list_any-append (λ n. same_name n x) owners (o ∷ []) ∙ or_left (S owners) (S (o ∷ [])) u)
-          | inr u ↦ or_right (S (owners ++ o ∷ [])) (S (names ++ above_with_more s o)) (list_any-append (λ n. same_name n x) names (above_with_more s o) ∙ or_left (S names) (S (above_with_more s o)) u)
+          | inl u ↦ or_left (S (owners ++ o ∷ [])) (S (names ++ above_with_more s o))
+              (list_any-append (λ n. same_name n x) owners (o ∷ []) ∙ or_left (S owners) (S (o ∷ [])) u)
+          | inr u ↦ or_right (S (owners ++ o ∷ [])) (S (names ++ above_with_more s o))
+              (list_any-append (λ n. same_name n x) names (above_with_more s o) ∙ or_left (S names) (S (above_with_more s o)) u)
         ] in
-        elim (or_cases (list_any (λ n. is_at_or_below n x) owners) (is_at_or_below o x || false) (sym (list_any-append (λ n. is_at_or_below n x) owners (o ∷ [])) ∙ e)) [
+        elim (or_cases (list_any (λ n. is_at_or_below n x) owners) (is_at_or_below o x || false)
+        (sym (list_any-append (λ n. is_at_or_below n x) owners (o ∷ [])) ∙ e)) [
           | inl t ↦ old t
           | inr t ↦ elim (or_cases (is_at_or_below o x) false t) [
             | inr u ↦ absurd (false≢true u)
@@ -140,9 +159,13 @@ module _ (a : Name) (owners names : List Name) (p o : Name) (s : ℕ) (known : I
                   elim (cases_Bool (nat_le (length o) (length x))) [
                     | inl w ↦
                         let one = same_itself o x (at_length o x u (leb-true (length o) (length x) w)) in
-                        or_left (S (owners ++ o ∷ [])) (S (names ++ above_with_more s o)) (list_any-append (λ n. same_name n x) owners (o ∷ []) ∙ or_right (S owners) (S (o ∷ [])) (or_left (same_name o x) false one))
+                        or_left (S (owners ++ o ∷ [])) (S (names ++ above_with_more s o))
+                        (list_any-append (λ n. same_name n x) owners (o ∷ [])
+                        ∙ or_right (S owners) (S (o ∷ [])) (or_left (same_name o x) false one))
                     | inr w ↦
-                        or_right (S (owners ++ o ∷ [])) (S (names ++ above_with_more s o)) (list_any-append (λ n. same_name n x) names (above_with_more s o) ∙ or_right (S names) (S (above_with_more s o)) (has_each s o x u more (grind (arith, nat_tests))))
+                        or_right (S (owners ++ o ∷ [])) (S (names ++ above_with_more s o))
+                        (list_any-append (λ n. same_name n x) names (above_with_more s o)
+                        ∙ or_right (S names) (S (above_with_more s o)) (has_each s o x u more (grind (arith, nat_tests))))
                   ]
             ]
           ]

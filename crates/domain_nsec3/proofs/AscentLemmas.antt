@@ -20,29 +20,35 @@ use Rattle.domain_nsec3.specs.Config.{ChainConfig}
 use Rattle.domain_nsec3.specs.Meaning.{OwnersAscend}
 use Rattle.domain_nsec3.proofs.TextLemmas.{lower_text}
 
-before_owner : (a : Name) (u v : List ℕ) → All (λ o. o < 256) u → All (λ o. o < 256) v → slice_cmp nat_cmp u v ≡ Less → canonical_cmp (hashed_owner a u) (hashed_owner a v) ≡ Less
+before_owner : (a : Name) (u v : List ℕ) → All (λ o. o < 256) u → All (λ o. o < 256) v → slice_cmp nat_cmp u v ≡ Less
+    → canonical_cmp (hashed_owner a u) (hashed_owner a v) ≡ Less
 before_owner a u v p q e =
     canonical_cmp-more a a (base32_lower u) (base32_lower v) refl
     ∙ (λ i. ordering_then (tied_itself canonical_cmp_total a i) (slice_cmp nat_cmp (lower_text u p i) (lower_text v q i)))
     ∙ lower_keeps u v p q ∙ e
 
-ascending : (a : Name) (us : List (List ℕ)) → AllByRecursion (λ u. All (λ o. o < 256) u) us → IsStrictlySortedBy (slice_cmp nat_cmp) us → IsStrictlySortedBy canonical_cmp (map (hashed_owner a) us)
+ascending : (a : Name) (us : List (List ℕ)) → AllByRecursion (λ u. All (λ o. o < 256) u) us
+    → IsStrictlySortedBy (slice_cmp nat_cmp) us → IsStrictlySortedBy canonical_cmp (map (hashed_owner a) us)
 unfolding IsStrictlySortedBy
 ascending a [] h up = tt
 ascending a (u ∷ us) h up = (each us h.1 up.0, ascending a us h.1 up.1)
   where
-    each : (vs : List (List ℕ)) → AllByRecursion (λ u. All (λ o. o < 256) u) vs → AllByRecursion (λ v. slice_cmp nat_cmp u v ≡ Less) vs → AllByRecursion (λ y. canonical_cmp (hashed_owner a u) y ≡ Less) (map (hashed_owner a) vs)
+    each : (vs : List (List ℕ)) → AllByRecursion (λ u. All (λ o. o < 256) u) vs
+        → AllByRecursion (λ v. slice_cmp nat_cmp u v ≡ Less) vs
+        → AllByRecursion (λ y. canonical_cmp (hashed_owner a u) y ≡ Less) (map (hashed_owner a) vs)
     each [] k m = tt
     each (v ∷ vs) k m = (before_owner a u v h.0 k.0 m.0, each vs k.1 m.1)
 
-owners_of_cycle : (a : Name) (links : List HashedLink) (us : List (List ℕ)) → map ends links ≡ map (ends_of a) (cycle us) → map (λ k. k.owner) links ≡ map (hashed_owner a) us
+owners_of_cycle : (a : Name) (links : List HashedLink) (us : List (List ℕ)) → map ends links ≡ map (ends_of a) (cycle us)
+    → map (λ k. k.owner) links ≡ map (hashed_owner a) us
 owners_of_cycle a links us e = first links ∙ ap (map (λ (p : Name × List ℕ). p.0)) e ∙ cycled us
   where
     first : (ls : List HashedLink) → map (λ k. k.owner) ls ≡ map (λ (p : Name × List ℕ). p.0) (map ends ls)
     first [] = refl
     first (l ∷ ls) = ap (λ t. l.owner ∷ t) (first ls)
 
-    paired : (w : List ℕ) (ws : List (List ℕ)) (f : List ℕ) → map (λ (p : Name × List ℕ). p.0) (map (ends_of a) (pairs (w ∷ ws) f)) ≡ map (hashed_owner a) (w ∷ ws)
+    paired : (w : List ℕ) (ws : List (List ℕ)) (f : List ℕ)
+        → map (λ (p : Name × List ℕ). p.0) (map (ends_of a) (pairs (w ∷ ws) f)) ≡ map (hashed_owner a) (w ∷ ws)
     paired w [] f = refl
     paired w (x ∷ ws) f = ap (λ t. hashed_owner a w ∷ t) (paired x ws f)
 

@@ -1,5 +1,6 @@
 -- A chain over entries is the chain of the zone where the entries are its names with their types.
-use Rattle.std.proofs.Common.{◌≡◌, ℕ, zero, suc, ◌+◌, ◌<◌, ◌≤◌, true, List, [], ◌∷◌, ◌++◌, map, length, get_or, take, Some, None, Ok, refl, sym, ap, ◌∙◌, subst, arith, inl, inr, add-one}
+use Rattle.std.proofs.Common.{◌≡◌, ℕ, zero, suc, ◌+◌, ◌<◌, ◌≤◌, true, List, [], ◌∷◌, ◌++◌, map, length}
+use Rattle.std.proofs.Common.{get_or, take, Some, None, Ok, refl, sym, ap, ◌∙◌, subst, arith, inl, inr, add-one}
 use Rattle.std.specs.Prelude.{All, IsPermutation, ◌||◌}
 use Rattle.std.specs.List.{AllByRecursion, list_any}
 use Rattle.std.specs.List.Sorted.{IsStrictlySortedBy}
@@ -25,22 +26,27 @@ use Rattle.domain_nsec3.specs.Chain.{HashedLink, HashedName, IsHash, IsHashedCha
 use Rattle.domain_nsec3.specs.Config.{ChainConfig, Hash}
 use Rattle.domain_nsec3.specs.Faults.{hash_fault}
 use Rattle.domain_nsec3.specs.Owners.{is_chain_name, nsec3_lists}
-use Rattle.domain_nsec3.specs.Steps.{Common, Entry, HashedEntry, HashedTypes, without_hash, without_name, IsHashed, link_to, links_from, chain_links, IsOrderedChain}
+use Rattle.domain_nsec3.specs.Steps.{Common, Entry, HashedEntry, HashedTypes, without_hash, without_name}
+use Rattle.domain_nsec3.specs.Steps.{IsHashed, link_to, links_from, chain_links, IsOrderedChain}
 use Rattle.domain_nsec3.specs.StepView.{as_hashed_types, links_in}
 use Rattle.domain_nsec3.specs.declared.chain.HashedChain.{HashedChain}
 use Rattle.domain_nsec3.proofs.TextLemmas.{sound_some, sound_short}
 
 -- ---- a list that was hashed, and then put in order
 
-module _ {X : Type 0} (see : X → HashedEntry) (a : Name) (hash : Hash) (entries : List Entry) (items ordered : List X) (moved : IsPermutation items ordered) (same : map without_hash (map see items) ≡ entries) (ok : All (IsHashed a hash) (map see items)) where
+module _ {X : Type 0} (see : X → HashedEntry) (a : Name) (hash : Hash) (entries : List Entry) (items ordered : List X)
+    (moved : IsPermutation items ordered) (same : map without_hash (map see items) ≡ entries)
+    (ok : All (IsHashed a hash) (map see items)) where
   pub moved_entries : IsPermutation entries (map without_hash (map see ordered))
-  moved_entries = subst (λ (es : List Entry). IsPermutation es (map without_hash (map see ordered))) same (IsPermutation-map without_hash (map see items) (map see ordered) (IsPermutation-map see items ordered moved))
+  moved_entries = subst (λ (es : List Entry). IsPermutation es (map without_hash (map see ordered))) same
+      (IsPermutation-map without_hash (map see items) (map see ordered) (IsPermutation-map see items ordered moved))
 
   pub hashed_entries : All (IsHashed a hash) (map see ordered)
   hashed_entries = All-permutation (IsHashed a hash) (map see items) (map see ordered) (IsPermutation-map see items ordered moved) ok
 
   pub sound_hashes : All (λ x. hash_fault a (Ok (see x).hash) ≡ None) ordered
-  sound_hashes = All-from_recursion (λ x. hash_fault a (Ok (see x).hash) ≡ None) ordered (each ordered (recursion_from_All (IsHashed a hash) (map see ordered) hashed_entries))
+  sound_hashes = All-from_recursion (λ x. hash_fault a (Ok (see x).hash) ≡ None) ordered
+      (each ordered (recursion_from_All (IsHashed a hash) (map see ordered) hashed_entries))
     where
       each : (xs : List X) → AllByRecursion (IsHashed a hash) (map see xs) → AllByRecursion (λ x. hash_fault a (Ok (see x).hash) ≡ None) xs
       each [] h = tt
@@ -53,7 +59,9 @@ pub hashes_of : {X : Type 0} (see : X → HashedEntry) (xs : List X) → map (λ
 hashes_of see [] = refl
 hashes_of see (x ∷ xs) = ap (λ l. (see x).hash ∷ l) (hashes_of see xs)
 
-pub ordered_chain : (a : Name) (hash : Hash) (p : Common) (entries : List Entry) (es : List HashedEntry) (links : List HashedLink) → 0 < length es → IsPermutation entries (map without_hash es) → All (IsHashed a hash) es → IsStrictlySortedBy (slice_cmp nat_cmp) (map (λ e. e.hash) es)
+pub ordered_chain : (a : Name) (hash : Hash) (p : Common) (entries : List Entry) (es : List HashedEntry) (links : List HashedLink)
+    → 0 < length es → IsPermutation entries (map without_hash es) → All (IsHashed a hash) es
+    → IsStrictlySortedBy (slice_cmp nat_cmp) (map (λ e. e.hash) es)
     → links ≡ chain_links a p (map without_name es) → IsOrderedChain a hash p entries links
 ordered_chain a hash p entries [] links some moved hashed ascend are = absurd (omega arith)
 ordered_chain a hash p entries (first ∷ later) links some moved hashed ascend are = record {
@@ -66,7 +74,9 @@ ordered_chain a hash p entries (first ∷ later) links some moved hashed ascend 
 }
 
 module _ (a : Name) (p : Common) where
-  ends_from : (e : HashedEntry) (es : List HashedEntry) (first : List ℕ) → map ends (links_from a p (map without_name (e ∷ es)) first) ≡ map (ends_of a) (pairs (e.hash ∷ map (λ f. f.hash) es) first)
+  ends_from : (e : HashedEntry) (es : List HashedEntry) (first : List ℕ)
+      → map ends (links_from a p (map without_name (e ∷ es)) first)
+      ≡ map (ends_of a) (pairs (e.hash ∷ map (λ f. f.hash) es) first)
   ends_from e [] first = refl
   ends_from e (f ∷ es) first = ap (λ l. (hashed_owner a e.hash, f.hash) ∷ l) (ends_from f es first)
 
@@ -86,24 +96,28 @@ module _ (a : Name) (p : Common) where
   told_from (e ∷ f ∷ es) first = ((refl, refl), told_from (f ∷ es) first)
 
   -- the link at a place
-  front_at : (es : List HashedTypes) (first : List ℕ) (i : ℕ) (d : HashedLink) (e : HashedTypes) → suc i < length es → get_or (links_from a p es first) i d ≡ link_to a p (get_or es i e) (get_or es (suc i) e).hash
+  front_at : (es : List HashedTypes) (first : List ℕ) (i : ℕ) (d : HashedLink) (e : HashedTypes) → suc i < length es
+      → get_or (links_from a p es first) i d ≡ link_to a p (get_or es i e) (get_or es (suc i) e).hash
   front_at [] first i d e l = absurd (omega arith)
   front_at (x ∷ []) first i d e l = absurd (omega arith)
   front_at (x ∷ y ∷ es) first zero d e l = refl
   front_at (x ∷ y ∷ es) first (suc i) d e l = front_at (y ∷ es) first i d e (omega arith)
 
-  end_at : (es : List HashedTypes) (first : List ℕ) (i : ℕ) (d : HashedLink) (e : HashedTypes) → suc i ≡ length es → get_or (links_from a p es first) i d ≡ link_to a p (get_or es i e) first
+  end_at : (es : List HashedTypes) (first : List ℕ) (i : ℕ) (d : HashedLink) (e : HashedTypes) → suc i ≡ length es
+      → get_or (links_from a p es first) i d ≡ link_to a p (get_or es i e) first
   end_at [] first i d e l = absurd (omega arith)
   end_at (x ∷ []) first zero d e l = refl
   end_at (x ∷ []) first (suc i) d e l = absurd (omega arith)
   end_at (x ∷ y ∷ es) first zero d e l = absurd (omega arith)
   end_at (x ∷ y ∷ es) first (suc i) d e l = end_at (y ∷ es) first i d e (omega arith)
 
-  pub link_before : (es : List HashedTypes) (i : ℕ) (d : HashedLink) (e : HashedTypes) → i + 1 < length es → get_or (chain_links a p es) i d ≡ link_to a p (get_or es i e) (get_or es (i + 1) e).hash
+  pub link_before : (es : List HashedTypes) (i : ℕ) (d : HashedLink) (e : HashedTypes) → i + 1 < length es
+      → get_or (chain_links a p es) i d ≡ link_to a p (get_or es i e) (get_or es (i + 1) e).hash
   link_before [] i d e l = absurd (omega arith)
   link_before (x ∷ es) i d e l = rw add-one (front_at (x ∷ es) x.hash i d e (omega arith))
 
-  pub link_last : (es : List HashedTypes) (i : ℕ) (d : HashedLink) (e : HashedTypes) → i < length es → length es ≤ i + 1 → get_or (chain_links a p es) i d ≡ link_to a p (get_or es i e) (get_or es 0 e).hash
+  pub link_last : (es : List HashedTypes) (i : ℕ) (d : HashedLink) (e : HashedTypes) → i < length es → length es ≤ i + 1
+      → get_or (chain_links a p es) i d ≡ link_to a p (get_or es i e) (get_or es 0 e).hash
   link_last [] i d e l m = absurd (omega arith)
   link_last (x ∷ es) i d e l m = end_at (x ∷ es) x.hash i d e (omega arith)
 
@@ -125,10 +139,12 @@ module _ (a : Name) (p : Common) where
       let here : see item ≡ get_or (map see hs) i (see item) = ap see is ∙ sym (get_or-map see hs i item (see item) within) in
       elim (cases_lt (i + 1) (length hs)) [
         | inl l ↦
-            let after : next ≡ (get_or (map see hs) (i + 1) (see item)).hash = later l item ∙ ap (λ t. t.hash) (sym (get_or-map see hs (i + 1) item (see item) l)) in
+            let after : next ≡ (get_or (map see hs) (i + 1) (see item)).hash = later l item
+            ∙ ap (λ t. t.hash) (sym (get_or-map see hs (i + 1) item (see item) l)) in
             (λ j. link_to a p (here j) (after j)) ∙ sym (link_before (map see hs) i d (see item) (omega arith))
         | inr l ↦
-            let after : next ≡ (get_or (map see hs) 0 (see item)).hash = first l item ∙ ap (λ t. t.hash) (sym (get_or-map see hs 0 item (see item) (omega arith))) in
+            let after : next ≡ (get_or (map see hs) 0 (see item)).hash = first l item
+            ∙ ap (λ t. t.hash) (sym (get_or-map see hs 0 item (see item) (omega arith))) in
             (λ j. link_to a p (here j) (after j)) ∙ sym (link_last (map see hs) i d (see item) (omega arith) (omega arith))
       ]
 
@@ -137,7 +153,9 @@ pub links_counted : (a : Name) (chain : HashedChain) (p : Common) → length (li
 links_counted a chain p = chain_length a p (map (as_hashed_types chain.types) chain.hashed.items) ∙ length-map chain.hashed.items (as_hashed_types chain.types)
 
 -- one more record is made
-pub one_made : {X : Type 0} (see : X → HashedLink) (old new : List X) (item : X) (i : ℕ) (links : List HashedLink) → i < length links → new ≡ old ++ item ∷ [] → ((d : HashedLink) → see item ≡ get_or links i d) → map see old ≡ take i links → map see new ≡ take (i + 1) links
+pub one_made : {X : Type 0} (see : X → HashedLink) (old new : List X) (item : X) (i : ℕ) (links : List HashedLink)
+    → i < length links → new ≡ old ++ item ∷ [] → ((d : HashedLink) → see item ≡ get_or links i d) → map see old ≡ take i links
+    → map see new ≡ take (i + 1) links
 one_made see old new item i links within pushed is h =
     ap (map see) pushed ∙ map-append see old (item ∷ []) ∙ (λ j. h j ++ is (see item) j ∷ []) ∙ sym (take_more links i (see item) within)
 
@@ -149,7 +167,8 @@ names_of (e ∷ es) = ap (λ l. e.name ∷ l) (names_of es)
 abbrev named : HashedEntry → HashedName
 named e = record { name = e.name; hash = e.hash }
 
-bits_of : (b : Name → List ℕ) (es : List HashedEntry) → AllByRecursion (λ n. n.bits ≡ b n.name) (map without_hash es) → map (λ e. e.bits) es ≡ map (λ n. b n.name) (map named es)
+bits_of : (b : Name → List ℕ) (es : List HashedEntry) → AllByRecursion (λ n. n.bits ≡ b n.name) (map without_hash es)
+    → map (λ e. e.bits) es ≡ map (λ n. b n.name) (map named es)
 bits_of b [] h = refl
 bits_of b (e ∷ es) h = λ i. h.0 i ∷ bits_of b es h.1 i
 
@@ -171,20 +190,25 @@ module _ (L : List ZoneRecord) (a : Name) (config : ChainConfig) (p : Common) (e
     pub names : (x : Name) → list_any (λ n. same_name n x) (map (λ n. n.name) entries) ≡ is_chain_name L a config x
     pub bits : All (λ n. n.bits ≡ bitmap_octets (nsec3_lists L a config n.name)) entries
 
-  module _ (entry : AreChainNames) (es : List HashedEntry) (moved : IsPermutation entries (map without_hash es)) (hashed : All (IsHashed a config.hash) es) where
+  module _ (entry : AreChainNames) (es : List HashedEntry) (moved : IsPermutation entries (map without_hash es))
+      (hashed : All (IsHashed a config.hash) es) where
     any_name : (x : Name) → list_any (λ n. same_name n x) (map (λ e. e.name) es) ≡ is_chain_name L a config x
     any_name x =
         ap (list_any (λ n. same_name n x)) (sym (names_of es))
-        ∙ sym (list_any-IsPermutation (λ n. same_name n x) (map (λ n. n.name) entries) (map (λ n. n.name) (map without_hash es)) (IsPermutation-map (λ n. n.name) entries (map without_hash es) moved))
+        ∙ sym (list_any-IsPermutation (λ n. same_name n x) (map (λ n. n.name) entries) (map (λ n. n.name) (map without_hash es))
+        (IsPermutation-map (λ n. n.name) entries (map without_hash es) moved))
         ∙ entry.names x
 
     pub all_complete : (x : Name) → is_chain_name L a config x ≡ true → list_any (λ n. same_name n.name x) (map named es) ≡ true
     all_complete x h = any_named x es ∙ any_name x ∙ h
 
     all_sound : AllByRecursion (IsOfChain L a config) (map named es)
-    all_sound = each es (all_from_in (λ n. is_chain_name L a config n ≡ true) (map (λ e. e.name) es) (λ x i. sym (any_name x) ∙ in_any (λ n. same_name n x) (map (λ e. e.name) es) x i (same_itself x x refl))) (recursion_from_All (IsHashed a config.hash) es hashed)
+    all_sound = each es (all_from_in (λ n. is_chain_name L a config n ≡ true) (map (λ e. e.name) es) (λ x i. sym (any_name x)
+        ∙ in_any (λ n. same_name n x) (map (λ e. e.name) es) x i (same_itself x x refl)))
+        (recursion_from_All (IsHashed a config.hash) es hashed)
       where
-        each : (fs : List HashedEntry) → AllByRecursion (λ n. is_chain_name L a config n ≡ true) (map (λ e. e.name) fs) → AllByRecursion (IsHashed a config.hash) fs → AllByRecursion (IsOfChain L a config) (map named fs)
+        each : (fs : List HashedEntry) → AllByRecursion (λ n. is_chain_name L a config n ≡ true) (map (λ e. e.name) fs)
+            → AllByRecursion (IsHashed a config.hash) fs → AllByRecursion (IsOfChain L a config) (map named fs)
         each [] c h = tt
         each (f ∷ fs) c h = (
           record { in_chain = c.0; hashed = h.0.known; sound = sound_hash a f.hash (ap (hash_fault a) (sym h.0.known) ∙ h.0.sound) h.0.octets },
@@ -202,7 +226,9 @@ module _ (L : List ZoneRecord) (a : Name) (config : ChainConfig) (p : Common) (e
   pub chain_of_zone : IsCommon → AreChainNames → IsOrderedChain a config.hash p entries links → IsHashedChain L a config links
   chain_of_zone common entry c =
       let listed : AllByRecursion (λ n. n.bits ≡ bitmap_octets (nsec3_lists L a config n.name)) (map without_hash (c.first ∷ c.later)) =
-      recursion_from_All (λ n. n.bits ≡ bitmap_octets (nsec3_lists L a config n.name)) (map without_hash (c.first ∷ c.later)) (All-permutation (λ n. n.bits ≡ bitmap_octets (nsec3_lists L a config n.name)) entries (map without_hash (c.first ∷ c.later)) c.moved entry.bits) in
+      recursion_from_All (λ n. n.bits ≡ bitmap_octets (nsec3_lists L a config n.name)) (map without_hash (c.first ∷ c.later))
+      (All-permutation (λ n. n.bits ≡ bitmap_octets (nsec3_lists L a config n.name)) entries
+      (map without_hash (c.first ∷ c.later)) c.moved entry.bits) in
       record {
         numbers = common.numbers;
         soa = common.soa;
@@ -210,12 +236,19 @@ module _ (L : List ZoneRecord) (a : Name) (config : ChainConfig) (p : Common) (e
         sound = All-from_recursion (IsOfChain L a config) (map named (c.first ∷ c.later)) (all_sound entry (c.first ∷ c.later) c.moved c.hashed);
         complete = all_complete entry (c.first ∷ c.later) c.moved c.hashed;
         ascend = subst (IsStrictlySortedBy (slice_cmp nat_cmp)) (sym (hashes_named (c.first ∷ c.later))) c.ascend;
-        linked = ap (map ends) c.are ∙ ends_from a p c.first c.later c.first.hash ∙ ap (λ hs. map (ends_of a) (pairs (c.first.hash ∷ hs) c.first.hash)) (sym (hashes_named c.later));
-        bits = ap (map (λ k. k.bits)) c.are ∙ bits_from a p (c.first ∷ c.later) c.first.hash ∙ bits_of (λ n. bitmap_octets (nsec3_lists L a config n)) (c.first ∷ c.later) listed;
+        linked = ap (map ends) c.are ∙ ends_from a p c.first c.later c.first.hash
+            ∙ ap (λ hs. map (ends_of a) (pairs (c.first.hash ∷ hs) c.first.hash)) (sym (hashes_named c.later));
+        bits = ap (map (λ k. k.bits)) c.are ∙ bits_from a p (c.first ∷ c.later) c.first.hash
+            ∙ bits_of (λ n. bitmap_octets (nsec3_lists L a config n)) (c.first ∷ c.later) listed;
         numbered = subst (All (λ k. (k.class ≡ in_class) × (k.ttl ≡ chain_ttl common.numbers))) (sym c.are)
             (All-from_recursion (λ k. (k.class ≡ in_class) × (k.ttl ≡ chain_ttl common.numbers)) (chain_links a p (map without_name (c.first ∷ c.later)))
-            (weaker (λ k. (k.class ≡ in_class) × (k.ttl ≡ p.ttl)) (λ k. (k.class ≡ in_class) × (k.ttl ≡ chain_ttl common.numbers)) (λ k n. (n.0, n.1 ∙ common.ttl)) (chain_links a p (map without_name (c.first ∷ c.later))) (numbers_from a p (map without_name (c.first ∷ c.later)) c.first.hash)));
+            (weaker (λ k. (k.class ≡ in_class) × (k.ttl ≡ p.ttl)) (λ k. (k.class ≡ in_class) × (k.ttl ≡ chain_ttl common.numbers))
+            (λ k n. (n.0, n.1 ∙ common.ttl)) (chain_links a p (map without_name (c.first ∷ c.later)))
+            (numbers_from a p (map without_name (c.first ∷ c.later)) c.first.hash)));
         told = subst (All (λ k. (k.parameters ≡ config.parameters) × (k.flags ≡ config.flags))) (sym c.are)
             (All-from_recursion (λ k. (k.parameters ≡ config.parameters) × (k.flags ≡ config.flags)) (chain_links a p (map without_name (c.first ∷ c.later)))
-            (weaker (λ k. (k.parameters ≡ p.parameters) × (k.flags ≡ p.flags)) (λ k. (k.parameters ≡ config.parameters) × (k.flags ≡ config.flags)) (λ k n. (n.0 ∙ common.parameters, n.1 ∙ common.flags)) (chain_links a p (map without_name (c.first ∷ c.later))) (told_from a p (map without_name (c.first ∷ c.later)) c.first.hash)));
+            (weaker (λ k. (k.parameters ≡ p.parameters) × (k.flags ≡ p.flags)) (λ k. (k.parameters ≡ config.parameters)
+            × (k.flags ≡ config.flags)) (λ k n. (n.0 ∙ common.parameters, n.1 ∙ common.flags))
+            (chain_links a p (map without_name (c.first ∷ c.later)))
+            (told_from a p (map without_name (c.first ∷ c.later)) c.first.hash)));
       }

@@ -34,27 +34,31 @@ entries_names [] types = refl
 entries_names (n ∷ names) [] = ap (λ l. n ∷ l) (entries_names names [])
 entries_names (n ∷ names) (b ∷ types) = ap (λ l. n ∷ l) (entries_names names types)
 
-pub entries_push : (names : List Name) (types : List (List ℕ)) (n : Name) (b : List ℕ) → length names ≡ length types → entries_of (names ++ n ∷ []) (types ++ b ∷ []) ≡ entries_of names types ++ record { name = n; bits = b } ∷ []
+pub entries_push : (names : List Name) (types : List (List ℕ)) (n : Name) (b : List ℕ) → length names ≡ length types
+    → entries_of (names ++ n ∷ []) (types ++ b ∷ []) ≡ entries_of names types ++ record { name = n; bits = b } ∷ []
 entries_push [] [] n b h = refl
 entries_push [] (c ∷ types) n b h = absurd (omega arith)
 entries_push (m ∷ names) [] n b h = absurd (omega arith)
 entries_push (m ∷ names) (c ∷ types) n b h = ap (λ l. record { name = m; bits = c } ∷ l) (entries_push names types n b (omega arith))
 
-pub paired_push : {X Y : Type 0} (xs xs' : List X) (ys ys' : List Y) (x : X) (y : Y) → xs' ≡ xs ++ x ∷ [] → ys' ≡ ys ++ y ∷ [] → length xs ≡ length ys → length xs' ≡ length ys'
+pub paired_push : {X Y : Type 0} (xs xs' : List X) (ys ys' : List Y) (x : X) (y : Y) → xs' ≡ xs ++ x ∷ [] → ys' ≡ ys ++ y ∷ []
+    → length xs ≡ length ys → length xs' ≡ length ys'
 paired_push xs xs' ys ys' x y more_xs more_ys h = omega (arith, ap length more_xs, ap length more_ys, length-append xs (x ∷ []), length-append ys (y ∷ []), h)
 
 entries_none : (empty : List Name) → entries_of empty [] ≡ map without_types empty
 entries_none [] = refl
 entries_none (n ∷ empty) = ap (λ l. without_types n ∷ l) (entries_none empty)
 
-pub entries_more : (names : List Name) (types : List (List ℕ)) (empty : List Name) → length names ≡ length types → entries_of (names ++ empty) types ≡ entries_of names types ++ map without_types empty
+pub entries_more : (names : List Name) (types : List (List ℕ)) (empty : List Name) → length names ≡ length types
+    → entries_of (names ++ empty) types ≡ entries_of names types ++ map without_types empty
 entries_more [] [] empty h = entries_none empty
 entries_more [] (c ∷ types) empty h = absurd (omega arith)
 entries_more (m ∷ names) [] empty h = absurd (omega arith)
 entries_more (m ∷ names) (c ∷ types) empty h = ap (λ l. record { name = m; bits = c } ∷ l) (entries_more names types empty (omega arith))
 
 -- what stands at a place
-types_at : (names : List Name) (types : List (List ℕ)) (i : ℕ) → length types ≤ length names → (get_or (entries_of names types) i (without_types [])).bits ≡ get_or types i no_types
+types_at : (names : List Name) (types : List (List ℕ)) (i : ℕ) → length types ≤ length names
+    → (get_or (entries_of names types) i (without_types [])).bits ≡ get_or types i no_types
 types_at [] [] i h = refl
 types_at [] (c ∷ types) i h = absurd (omega arith)
 types_at (n ∷ names) [] zero h = refl
@@ -62,7 +66,8 @@ types_at (n ∷ names) [] (suc i) h = types_at names [] i (omega arith)
 types_at (n ∷ names) (c ∷ types) zero h = refl
 types_at (n ∷ names) (c ∷ types) (suc i) h = types_at names types i (omega arith)
 
-pub types_told : (names : List Name) (types : List (List ℕ)) (hashed : List Hashed) → length types ≤ length names → map without_name (map (as_hashed_entry (entries_of names types)) hashed) ≡ map (as_hashed_types types) hashed
+pub types_told : (names : List Name) (types : List (List ℕ)) (hashed : List Hashed) → length types ≤ length names
+    → map without_name (map (as_hashed_entry (entries_of names types)) hashed) ≡ map (as_hashed_types types) hashed
 types_told names types [] h = refl
 types_told names types (x ∷ hashed) h = λ i. record { hash = x.hash; bits = types_at names types x.place h i } ∷ types_told names types hashed h i
 
@@ -76,7 +81,8 @@ names_without : (empty : List Name) → map (λ n. n.name) (map without_types em
 names_without [] = refl
 names_without (n ∷ empty) = ap (λ l. n ∷ l) (names_without empty)
 
-module _ (L : List ZoneRecord) (a : Name) (config : ChainConfig) (p : Common) (owners entries : List Entry) (empty : List Name) (links : List HashedLink) (os : AreOriginalOwners L a config owners)
+module _ (L : List ZoneRecord) (a : Name) (config : ChainConfig) (p : Common) (owners entries : List Entry) (empty : List Name)
+    (links : List HashedLink) (os : AreOriginalOwners L a config owners)
     (es : IsListOf (is_empty_nonterminal (map (λ n. n.name) owners) a) empty) (are : entries ≡ owners ++ map without_types empty) where
   -- no name that is empty has a bit
   unowned_bits : (x : Name) → is_empty L a config x ≡ true → bitmap_octets (λ t. false) ≡ bitmap_octets (nsec3_lists L a config x)
@@ -84,7 +90,8 @@ module _ (L : List ZoneRecord) (a : Name) (config : ChainConfig) (p : Common) (o
       let q = and_parts (is_at_or_below x a && not (owns L x)) (list_any (λ n. is_strictly_below n x) (original_owners L a config)) e in
       let none = not-true (owns L x) (and_parts (is_at_or_below x a) (not (owns L x)) q.0).1 in
       sym (bitmap_octets-same (nsec3_lists L a config x) (λ t. false)
-      (λ t b. ap (λ o. o && is_listed (is_unsigned_cut L a x) (same_name x a) (config.assume_dnskeys_will_be_added && same_name x a) (is_zone_cut L a x) (records_of L x) t) none))
+      (λ t b. ap (λ o. o && is_listed (is_unsigned_cut L a x) (same_name x a) (config.assume_dnskeys_will_be_added
+      && same_name x a) (is_zone_cut L a x) (records_of L x) t) none))
 
   pub names_joined : map (λ n. n.name) entries ≡ original_owners L a config ++ empty
   names_joined = ap (map (λ n. n.name)) are ∙ map-append (λ n. n.name) owners (map without_types empty) ∙ (λ i. os.names i ++ names_without empty i)
@@ -95,14 +102,17 @@ module _ (L : List ZoneRecord) (a : Name) (config : ChainConfig) (p : Common) (o
 
   pub are_chain_names : AreChainNames L a config p entries links
   are_chain_names = record {
-    names = λ x. ap (list_any (λ n. same_name n x)) names_joined ∙ names_are L a config empty (λ y. es.exactly y ∙ ap (λ l. is_empty_nonterminal l a y) os.names) x;
+    names = λ x. ap (list_any (λ n. same_name n x)) names_joined
+        ∙ names_are L a config empty (λ y. es.exactly y ∙ ap (λ l. is_empty_nonterminal l a y) os.names) x;
     bits = subst (All (λ n. n.bits ≡ bitmap_octets (nsec3_lists L a config n.name))) (sym are)
         (All-from_recursion (λ n. n.bits ≡ bitmap_octets (nsec3_lists L a config n.name)) (owners ++ map without_types empty)
         (all_both (λ n. n.bits ≡ bitmap_octets (nsec3_lists L a config n.name)) owners (map without_types empty)
         (recursion_from_All (λ n. n.bits ≡ bitmap_octets (nsec3_lists L a config n.name)) owners os.bits)
-        (each empty (all_from_in (λ x. is_empty L a config x ≡ true) empty (λ x i. sym (empty_names x) ∙ in_any (λ n. same_name n x) empty x i (same_itself x x refl))))));
+        (each empty (all_from_in (λ x. is_empty L a config x ≡ true) empty (λ x i. sym (empty_names x)
+        ∙ in_any (λ n. same_name n x) empty x i (same_itself x x refl))))));
   }
     where
-      each : (xs : List Name) → AllByRecursion (λ x. is_empty L a config x ≡ true) xs → AllByRecursion (λ n. n.bits ≡ bitmap_octets (nsec3_lists L a config n.name)) (map without_types xs)
+      each : (xs : List Name) → AllByRecursion (λ x. is_empty L a config x ≡ true) xs
+          → AllByRecursion (λ n. n.bits ≡ bitmap_octets (nsec3_lists L a config n.name)) (map without_types xs)
       each [] h = tt
       each (x ∷ xs) h = (unowned_bits x h.0, each xs h.1)

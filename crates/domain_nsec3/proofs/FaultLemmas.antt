@@ -1,6 +1,7 @@
 -- The faults of hashing: the first name that is refused in the list that is hashed is the first in the order of hashing, and two
 -- neighbours with one hash are two names.
-use Rattle.std.proofs.Common.{◌≡◌, ◌≢◌, ℕ, zero, suc, ◌+◌, ◌<◌, Bool, true, false, not, ◌&&◌, ◌||◌, cond, List, [], ◌∷◌, ◌++◌, map, length, get_or, swap, Some, None, Ok, Err, refl, sym, ap, ◌∙◌, subst, inl, inr, ◌⊎◌, arith, IsPermutation}
+use Rattle.std.proofs.Common.{◌≡◌, ◌≢◌, ℕ, zero, suc, ◌+◌, ◌<◌, Bool, true, false, not, ◌&&◌, ◌||◌, cond, List, [], ◌∷◌, ◌++◌}
+use Rattle.std.proofs.Common.{map, length, get_or, swap, Some, None, Ok, Err, refl, sym, ap, ◌∙◌, subst, inl, inr, ◌⊎◌, arith, IsPermutation}
 use Rattle.std.specs.Prelude.{All}
 use Rattle.std.specs.List.{AllByRecursion, list_any}
 use Rattle.std.specs.List.Sorted.{IsStrictlySortedBy}
@@ -16,7 +17,8 @@ use Rattle.std.proofs.lemmas.List.Sorted.{IsPermutation-keeps, IsPermutation-map
 use Rattle.domain_base.specs.Name.{lowered, wire_of, same_name}
 use Rattle.domain_base.specs.Order.{canonical_cmp, before}
 use Rattle.domain_records.specs.declared.error.Nsec3HashError.{Nsec3HashError}
-use Rattle.domain_records.specs.declared.error.Nsec3HashError.TheVariants.{Hasher, AppendError, OwnerHashError, Nsec3NameTooLong, CollisionDetected, OutOfMemory}
+use Rattle.domain_records.specs.declared.error.Nsec3HashError.TheVariants.{Hasher, AppendError, OwnerHashError}
+use Rattle.domain_records.specs.declared.error.Nsec3HashError.TheVariants.{Nsec3NameTooLong, CollisionDetected, OutOfMemory}
 use Rattle.domain_base.specs.Words.{Name}
 use Rattle.domain_zone.specs.Zone.{ZoneRecord}
 use Rattle.domain_zone.proofs.NameLemmas.{before_order, before_left, one_lowered, same_itself, same_lowered}
@@ -38,7 +40,8 @@ abbrev pub Pairwise : (Name → Name → Type 0) → List Name → Type 0
 Pairwise R [] = Unit {0}
 Pairwise R (x ∷ xs) = AllByRecursion (R x) xs × Pairwise R xs
 
-pairwise_both : (R : Name → Name → Type 0) (xs ys : List Name) → Pairwise R xs → Pairwise R ys → AllByRecursion (λ x. AllByRecursion (R x) ys) xs → Pairwise R (xs ++ ys)
+pairwise_both : (R : Name → Name → Type 0) (xs ys : List Name) → Pairwise R xs → Pairwise R ys
+    → AllByRecursion (λ x. AllByRecursion (R x) ys) xs → Pairwise R (xs ++ ys)
 pairwise_both R [] ys h k across = k
 pairwise_both R (x ∷ xs) ys h k across = (all_both (R x) xs ys h.0 across.0, pairwise_both R xs ys h.1 k across.1)
 
@@ -60,7 +63,8 @@ unfolding IsStrictlySortedBy
 rising [] h = tt
 rising (x ∷ xs) h = (weaker (λ y. canonical_cmp x y ≡ Less) (λ y. before y x ≡ false) (λ y e. not_back x y e) xs h.0, rising xs h.1)
 
-pairwise_in : (R S : Name → Name → Type 0) (P : Name → Type 0) → ((x y : Name) → P x → P y → R x y → S x y) → (xs : List Name) → AllByRecursion P xs → Pairwise R xs → Pairwise S xs
+pairwise_in : (R S : Name → Name → Type 0) (P : Name → Type 0) → ((x y : Name) → P x → P y → R x y → S x y) → (xs : List Name)
+    → AllByRecursion P xs → Pairwise R xs → Pairwise S xs
 pairwise_in R S P f [] all h = tt
 pairwise_in R S P f (x ∷ xs) all h = (each xs all.1 h.0, pairwise_in R S P f xs all.1 h.1)
   where
@@ -70,13 +74,15 @@ pairwise_in R S P f (x ∷ xs) all h = (each xs all.1 h.0, pairwise_in R S P f x
 
 module _ (L : List ZoneRecord) (a : Name) (config : ChainConfig) where
   -- an owner, and a name that isn't before it
-  both_owners : (x y : Name) → is_original_owner L a config x ≡ true → is_original_owner L a config y ≡ true → before y x ≡ false → is_hashed_before L a config y x ≡ false
+  both_owners : (x y : Name) → is_original_owner L a config x ≡ true → is_original_owner L a config y ≡ true → before y x ≡ false
+      → is_hashed_before L a config y x ≡ false
   both_owners x y o q h = (λ i. cond (q i) (not (o i) || h i) (not (o i) && h i))
 
   owner_first : (x y : Name) → is_original_owner L a config x ≡ true → is_original_owner L a config y ≡ false → is_hashed_before L a config y x ≡ false
   owner_first x y o q = (λ i. cond (q i) (not (o i) || before y x) (not (o i) && before y x))
 
-  both_empty : (x y : Name) → is_original_owner L a config x ≡ false → is_original_owner L a config y ≡ false → before y x ≡ false → is_hashed_before L a config y x ≡ false
+  both_empty : (x y : Name) → is_original_owner L a config x ≡ false → is_original_owner L a config y ≡ false → before y x ≡ false
+      → is_hashed_before L a config y x ≡ false
   both_empty x y o q h = (λ i. cond (q i) (not (o i) || h i) (not (o i) && h i))
 
   pub hashed_in_order : (owners empty : List Name) → IsStrictlySortedBy canonical_cmp owners → IsStrictlySortedBy canonical_cmp empty
@@ -84,10 +90,13 @@ module _ (L : List ZoneRecord) (a : Name) (config : ChainConfig) where
       → Pairwise (λ x y. is_hashed_before L a config y x ≡ false) (owners ++ empty)
   hashed_in_order owners empty up_o up_e own not_own =
       pairwise_both (λ x y. is_hashed_before L a config y x ≡ false) owners empty
-      (pairwise_in (λ x y. before y x ≡ false) (λ x y. is_hashed_before L a config y x ≡ false) (λ n. is_original_owner L a config n ≡ true) both_owners owners own (rising owners up_o))
-      (pairwise_in (λ x y. before y x ≡ false) (λ x y. is_hashed_before L a config y x ≡ false) (λ n. is_original_owner L a config n ≡ false) both_empty empty not_own (rising empty up_e))
+      (pairwise_in (λ x y. before y x ≡ false) (λ x y. is_hashed_before L a config y x ≡ false)
+      (λ n. is_original_owner L a config n ≡ true) both_owners owners own (rising owners up_o))
+      (pairwise_in (λ x y. before y x ≡ false) (λ x y. is_hashed_before L a config y x ≡ false)
+      (λ n. is_original_owner L a config n ≡ false) both_empty empty not_own (rising empty up_e))
       (weaker (λ n. is_original_owner L a config n ≡ true) (λ x. AllByRecursion (λ y. is_hashed_before L a config y x ≡ false) empty)
-      (λ x o. weaker (λ n. is_original_owner L a config n ≡ false) (λ y. is_hashed_before L a config y x ≡ false) (λ y q. owner_first x y o q) empty not_own) owners own)
+      (λ x o. weaker (λ n. is_original_owner L a config n ≡ false) (λ y. is_hashed_before L a config y x ≡ false)
+      (λ y q. owner_first x y o q) empty not_own) owners own)
 
   -- no name is hashed before itself
   not_itself : (x : Name) → is_hashed_before L a config x x ≡ false
@@ -103,17 +112,22 @@ module _ (L : List ZoneRecord) (a : Name) (config : ChainConfig) where
       → IsFirstRefused a config.hash names e → IsFirstHashFault L a config e
   first_fault names e are order r = record {
     name = r.name;
-    in_chain = sym (are r.name) ∙ in_any (λ n. same_name n r.name) names r.name (subst (In r.name) (sym r.joined) (in_middle r.before r.name r.after)) (same_itself r.name r.name refl);
+    in_chain = sym (are r.name) ∙ in_any (λ n. same_name n r.name) names r.name
+        (subst (In r.name) (sym r.joined) (in_middle r.before r.name r.after)) (same_itself r.name r.name refl);
     fault = r.fault;
     first = λ y c b.
         let m = any_in (λ n. same_name n y) names (are y ∙ c) in
         let k = one_lowered m.0 y m.2 in
         let b' : is_hashed_before L a config m.0 r.name ≡ true =
-        (λ i. cond (list_any (λ n. same_lowered (lowered n) (k i)) (original_owners L a config)) (not (is_original_owner L a config r.name) || before_left m.0 y r.name k i) (not (is_original_owner L a config r.name) && before_left m.0 y r.name k i)) ∙ b in
+        (λ i. cond (list_any (λ n. same_lowered (lowered n) (k i)) (original_owners L a config))
+        (not (is_original_owner L a config r.name) || before_left m.0 y r.name k i) (not (is_original_owner L a config r.name)
+        && before_left m.0 y r.name k i)) ∙ b in
         ap (hash_fault a) (sym (hash_same config.hash m.0 y m.2)) ∙ elim (in_parts r.before (r.name ∷ r.after) m.0 (subst (In m.0) r.joined m.1)) [
           | inl i ↦ all_in (λ n. hash_fault a (hash_name config.hash n) ≡ None) r.before m.0 r.sound i
           | inr (inl i) ↦ absurd (false≢true (sym (not_itself r.name) ∙ ap (λ n. is_hashed_before L a config n r.name) i ∙ b'))
-          | inr (inr i) ↦ absurd (false≢true (sym (all_in (λ y. is_hashed_before L a config y r.name ≡ false) r.after m.0 (from_on (λ x y. is_hashed_before L a config y x ≡ false) r.before r.name r.after (subst (Pairwise (λ x y. is_hashed_before L a config y x ≡ false)) r.joined order)) i) ∙ b'))
+          | inr (inr i) ↦ absurd (false≢true (sym (all_in (λ y. is_hashed_before L a config y r.name ≡ false) r.after m.0
+              (from_on (λ x y. is_hashed_before L a config y x ≡ false) r.before r.name r.after
+              (subst (Pairwise (λ x y. is_hashed_before L a config y x ≡ false)) r.joined order)) i) ∙ b'))
         ];
   }
     where
@@ -218,8 +232,10 @@ in_list [] i d l = absurd (omega arith)
 in_list (x ∷ xs) zero d l = inl refl
 in_list (x ∷ xs) (suc i) d l = inr (in_list xs i d (omega arith))
 
-module _ (L : List ZoneRecord) (a : Name) (config : ChainConfig) (owners empty : List Name) (up_o : IsStrictlySortedBy canonical_cmp owners) (up_e : IsStrictlySortedBy canonical_cmp empty)
-    (own : AllByRecursion (λ n. is_original_owner L a config n ≡ true) owners) (not_own : AllByRecursion (λ n. is_original_owner L a config n ≡ false) empty) where
+module _ (L : List ZoneRecord) (a : Name) (config : ChainConfig) (owners empty : List Name)
+    (up_o : IsStrictlySortedBy canonical_cmp owners) (up_e : IsStrictlySortedBy canonical_cmp empty)
+    (own : AllByRecursion (λ n. is_original_owner L a config n ≡ true) owners)
+    (not_own : AllByRecursion (λ n. is_original_owner L a config n ≡ false) empty) where
   all_apart : Pairwise (λ x y. same_name x y ≡ false) (owners ++ empty)
   all_apart =
       pairwise_both (λ x y. same_name x y ≡ false) owners empty (apart_names owners up_o) (apart_names empty up_e)
@@ -233,15 +249,20 @@ module _ (L : List ZoneRecord) (a : Name) (config : ChainConfig) (owners empty :
             | inr e ↦ e
           ]
 
-  module _ (entries : List Entry) (joined : map (λ n. n.name) entries ≡ owners ++ empty) (are : (x : Name) → list_any (λ n. same_name n x) (map (λ n. n.name) entries) ≡ is_chain_name L a config x) where
+  module _ (entries : List Entry) (joined : map (λ n. n.name) entries ≡ owners ++ empty) (are : (x : Name)
+      → list_any (λ n. same_name n x) (map (λ n. n.name) entries) ≡ is_chain_name L a config x) where
     -- what all entries hash to, in another order
     pub all_hashed : (es : List HashedEntry) → IsPermutation entries (map without_hash es) → All (IsHashed a config.hash) es → AreAllHashed L a config
     all_hashed es moved hashed x c =
         let there : list_any (λ n. same_name n x) (map (λ e. e.name) es) ≡ true =
-        ap (list_any (λ n. same_name n x)) (sym (names_of es)) ∙ sym (list_any-IsPermutation (λ n. same_name n x) (map (λ n. n.name) entries) (map (λ n. n.name) (map without_hash es)) (IsPermutation-map (λ n. n.name) entries (map without_hash es) moved)) ∙ are x ∙ c in
+        ap (list_any (λ n. same_name n x)) (sym (names_of es))
+        ∙ sym (list_any-IsPermutation (λ n. same_name n x) (map (λ n. n.name) entries)
+        (map (λ n. n.name) (map without_hash es)) (IsPermutation-map (λ n. n.name) entries (map without_hash es) moved))
+        ∙ are x ∙ c in
         by es (recursion_from_All (IsHashed a config.hash) es hashed) there
       where
-        by : (fs : List HashedEntry) → AllByRecursion (IsHashed a config.hash) fs → list_any (λ n. same_name n x) (map (λ e. e.name) fs) ≡ true → hash_fault a (hash_of config x) ≡ None
+        by : (fs : List HashedEntry) → AllByRecursion (IsHashed a config.hash) fs
+            → list_any (λ n. same_name n x) (map (λ e. e.name) fs) ≡ true → hash_fault a (hash_of config x) ≡ None
         by [] h t = absurd (false≢true t)
         by (f ∷ fs) h t = elim (or_cases (same_name f.name x) (list_any (λ n. same_name n x) (map (λ e. e.name) fs)) t) [
           | inl e ↦ ap (hash_fault a) (sym (hash_same config.hash f.name x e)) ∙ h.0.sound
@@ -251,23 +272,29 @@ module _ (L : List ZoneRecord) (a : Name) (config : ChainConfig) (owners empty :
     -- two neighbours with one hash are two names
     pub collides : HasAlikeEntries a config.hash entries → HasCollision L a config
     collides c =
-        by c.ordered c.alike.place (omega (arith, c.alike.inside, length-map c.ordered (λ (e : HashedEntry). e.hash))) c.moved (recursion_from_All (IsHashed a config.hash) c.ordered c.hashed) c.alike.alike
+        by c.ordered c.alike.place (omega (arith, c.alike.inside, length-map c.ordered (λ (e : HashedEntry). e.hash))) c.moved
+        (recursion_from_All (IsHashed a config.hash) c.ordered c.hashed) c.alike.alike
       where
         keys_moved : (es : List HashedEntry) → IsPermutation entries (map without_hash es) → AreDistinct (map lowered (map (λ e. e.name) es))
         keys_moved es moved =
             distinct_moved (map lowered (owners ++ empty)) (map lowered (map (λ e. e.name) es))
             (subst (λ (l : List Name). IsPermutation (map lowered l) (map lowered (map (λ e. e.name) es))) joined
-            (IsPermutation-map lowered (map (λ n. n.name) entries) (map (λ e. e.name) es) (subst (λ (l : List Name). IsPermutation (map (λ n. n.name) entries) l) (names_of es) (IsPermutation-map (λ n. n.name) entries (map without_hash es) moved))))
+            (IsPermutation-map lowered (map (λ n. n.name) entries) (map (λ e. e.name) es)
+            (subst (λ (l : List Name). IsPermutation (map (λ n. n.name) entries) l) (names_of es)
+            (IsPermutation-map (λ n. n.name) entries (map without_hash es) moved))))
             (distinct_names (owners ++ empty) all_apart)
 
-        chain_name : (es : List HashedEntry) → IsPermutation entries (map without_hash es) → (e : HashedEntry) → In e es → is_chain_name L a config e.name ≡ true
+        chain_name : (es : List HashedEntry) → IsPermutation entries (map without_hash es) → (e : HashedEntry) → In e es
+            → is_chain_name L a config e.name ≡ true
         chain_name es moved e i =
-            sym (are e.name) ∙ list_any-IsPermutation (λ n. same_name n e.name) (map (λ n. n.name) entries) (map (λ n. n.name) (map without_hash es)) (IsPermutation-map (λ n. n.name) entries (map without_hash es) moved)
+            sym (are e.name) ∙ list_any-IsPermutation (λ n. same_name n e.name) (map (λ n. n.name) entries)
+            (map (λ n. n.name) (map without_hash es)) (IsPermutation-map (λ n. n.name) entries (map without_hash es) moved)
             ∙ ap (list_any (λ n. same_name n e.name)) (names_of es) ∙ there es i
           where
             there : (fs : List HashedEntry) → In e fs → list_any (λ n. same_name n e.name) (map (λ e. e.name) fs) ≡ true
             there [] i = absurd i
-            there (f ∷ fs) (inl k) = λ j. (ap (λ g. same_name g.name e.name) k ∙ same_itself e.name e.name refl) j || list_any (λ n. same_name n e.name) (map (λ e. e.name) fs)
+            there (f ∷ fs) (inl k) = λ j. (ap (λ g. same_name g.name e.name) k ∙ same_itself e.name e.name refl) j
+                || list_any (λ n. same_name n e.name) (map (λ e. e.name) fs)
             there (f ∷ fs) (inr k) = or_right (same_name f.name e.name) (list_any (λ n. same_name n e.name) (map (λ e. e.name) fs)) (there fs k)
 
         by : (es : List HashedEntry) (i : ℕ) → i + 1 < length es → IsPermutation entries (map without_hash es) → AllByRecursion (IsHashed a config.hash) es
@@ -280,20 +307,24 @@ module _ (L : List ZoneRecord) (a : Name) (config : ChainConfig) (owners empty :
             let first : i < length (f ∷ fs) = omega arith in
             let within : i + 1 < length (map (λ e. e.name) (f ∷ fs)) = omega (arith, l, length-map (f ∷ fs) (λ (e : HashedEntry). e.name)) in
             let key_at : (k : ℕ) → k < length (f ∷ fs) → get_or (map lowered (map (λ e. e.name) (f ∷ fs))) k [] ≡ lowered (get_or (f ∷ fs) k f).name =
-            λ k m. get_or-map lowered (map (λ e. e.name) (f ∷ fs)) k f.name [] (omega (arith, m, length-map (f ∷ fs) (λ (e : HashedEntry). e.name))) ∙ ap lowered (get_or-map (λ (e : HashedEntry). e.name) (f ∷ fs) k f f.name m) in
+            λ k m. get_or-map lowered (map (λ e. e.name) (f ∷ fs)) k f.name []
+            (omega (arith, m, length-map (f ∷ fs) (λ (e : HashedEntry). e.name)))
+            ∙ ap lowered (get_or-map (λ (e : HashedEntry). e.name) (f ∷ fs) k f f.name m) in
             record {
               x = (get_or (f ∷ fs) i f).name;
               y = (get_or (f ∷ fs) (i + 1) f).name;
               first = chain_name (f ∷ fs) moved (get_or (f ∷ fs) i f) (in_list (f ∷ fs) i f first);
               second = chain_name (f ∷ fs) moved (get_or (f ∷ fs) (i + 1) f) (in_list (f ∷ fs) (i + 1) f l);
               apart = elim (cases_Bool (same_name (get_or (f ∷ fs) i f).name (get_or (f ∷ fs) (i + 1) f).name)) [
-                | inl t ↦ absurd (keys_moved (f ∷ fs) moved i (i + 1) [] (omega arith) (omega (arith, within, length-map (map (λ (e : HashedEntry). e.name) (f ∷ fs)) lowered))
+                | inl t ↦ absurd (keys_moved (f ∷ fs) moved i (i + 1) [] (omega arith)
+                    (omega (arith, within, length-map (map (λ (e : HashedEntry). e.name) (f ∷ fs)) lowered))
                     (key_at i first ∙ one_lowered (get_or (f ∷ fs) i f).name (get_or (f ∷ fs) (i + 1) f).name t ∙ sym (key_at (i + 1) l)))
                 | inr t ↦ t
               ];
               alike =
                   (entry_at (IsHashed a config.hash) (f ∷ fs) i f first hashed).known
-                  ∙ ap Ok (sym (get_or-map (λ (e : HashedEntry). e.hash) (f ∷ fs) i f [] first) ∙ alike [] ∙ get_or-map (λ (e : HashedEntry). e.hash) (f ∷ fs) (i + 1) f [] l)
+                  ∙ ap Ok (sym (get_or-map (λ (e : HashedEntry). e.hash) (f ∷ fs) i f [] first) ∙ alike []
+                  ∙ get_or-map (λ (e : HashedEntry). e.hash) (f ∷ fs) (i + 1) f [] l)
                   ∙ sym (entry_at (IsHashed a config.hash) (f ∷ fs) (i + 1) f l hashed).known;
             }
 
@@ -301,7 +332,8 @@ module _ (L : List ZoneRecord) (a : Name) (config : ChainConfig) (owners empty :
 
 module _ (L : List ZoneRecord) (a : Name) (config : ChainConfig) (links : List HashedLink) (chain : IsHashedChain L a config links) where
   -- a hash comes before all later ones
-  never : (k n : HashedName) (ns : List HashedName) → AllByRecursion (λ h. slice_cmp nat_cmp k.hash h ≡ Less) (map (λ n. n.hash) ns) → In n ns → k.hash ≡ n.hash → ⊥
+  never : (k n : HashedName) (ns : List HashedName) → AllByRecursion (λ h. slice_cmp nat_cmp k.hash h ≡ Less)
+      (map (λ n. n.hash) ns) → In n ns → k.hash ≡ n.hash → ⊥
   never k n [] h i e = i
   never k n (m ∷ ns) h (inl f) e =
       let less : slice_cmp nat_cmp k.hash k.hash ≡ Less = ap (slice_cmp nat_cmp k.hash) (e ∙ ap (λ l. l.hash) (sym f)) ∙ h.0 in
@@ -309,7 +341,8 @@ module _ (L : List ZoneRecord) (a : Name) (config : ChainConfig) (links : List H
       true≢false (sym (ap is_lt less) ∙ ap is_lt tied)
   never k n (m ∷ ns) h (inr i) e = never k n ns h.1 i e
 
-  one_place : (ns : List HashedName) → IsStrictlySortedBy (slice_cmp nat_cmp) (map (λ n. n.hash) ns) → (m n : HashedName) → In m ns → In n ns → m.hash ≡ n.hash → m ≡ n
+  one_place : (ns : List HashedName) → IsStrictlySortedBy (slice_cmp nat_cmp) (map (λ n. n.hash) ns) → (m n : HashedName)
+      → In m ns → In n ns → m.hash ≡ n.hash → m ≡ n
   unfolding IsStrictlySortedBy
   one_place [] up m n i j e = absurd i
   one_place (k ∷ ns) up m n (inl f) (inl g) e = sym f ∙ g
@@ -324,6 +357,7 @@ module _ (L : List ZoneRecord) (a : Name) (config : ChainConfig) (links : List H
       let sound = recursion_from_All (IsOfChain L a config) chain.names chain.sound in
       let m_is = (all_in (IsOfChain L a config) chain.names m.0 sound m.1).hashed in
       let n_is = (all_in (IsOfChain L a config) chain.names n.0 sound n.1).hashed in
-      let both : Ok m.0.hash ≡ Ok n.0.hash = sym m_is ∙ hash_same config.hash m.0.name c.x m.2 ∙ c.alike ∙ sym (hash_same config.hash n.0.name c.y n.2) ∙ n_is in
+      let both : Ok m.0.hash ≡ Ok n.0.hash = sym m_is ∙ hash_same config.hash m.0.name c.x m.2 ∙ c.alike
+      ∙ sym (hash_same config.hash n.0.name c.y n.2) ∙ n_is in
       let one = one_place chain.names chain.ascend m.0 n.0 m.1 n.1 (cc) in
       true≢false (sym (same_itself c.x c.y (sym (one_lowered m.0.name c.x m.2) ∙ ap (λ l. lowered l.name) one ∙ one_lowered n.0.name c.y n.2)) ∙ c.apart)

@@ -1,5 +1,6 @@
 -- Lists of hashed names: how they are ordered and built.
-use Rattle.std.proofs.Common.{◌≡◌, ℕ, zero, suc, ◌+◌, ◌-◌, ◌<◌, ◌≤◌, true, List, [], ◌∷◌, ◌++◌, map, length, get_or, take, drop, None, refl, sym, ap, ◌∙◌, subst, arith, inl, inr, ◌⊎◌, add-one}
+use Rattle.std.proofs.Common.{◌≡◌, ℕ, zero, suc, ◌+◌, ◌-◌, ◌<◌, ◌≤◌, true, List, [], ◌∷◌, ◌++◌, map, length}
+use Rattle.std.proofs.Common.{get_or, take, drop, None, refl, sym, ap, ◌∙◌, subst, arith, inl, inr, ◌⊎◌, add-one}
 use Rattle.std.specs.Prelude.{All}
 use Rattle.std.specs.List.{AllByRecursion, dedup, dedup_from}
 use Rattle.std.specs.List.Sorted.{IsStrictlySortedBy, IsSorted, IsSortedByKey}
@@ -36,7 +37,8 @@ dedup_apart x [] h = refl
 dedup_apart x (y ∷ xs) h =
     elim (cases_Bool (eq_by_cmp (slice_cmp nat_cmp) y x)) [
       | inl e ↦ absurd (h 0 [] (omega arith) (ties_are x y e))
-      | inr e ↦ rw e (ap (λ zs. x ∷ zs) (dedup_apart y xs (λ k d l same. h (k + 1) d (omega arith) (get_next x (y ∷ xs) k d ∙ same ∙ sym (get_next x (y ∷ xs) (k + 1) d)))))
+      | inr e ↦ rw e (ap (λ zs. x ∷ zs) (dedup_apart y xs (λ k d l same.
+          h (k + 1) d (omega arith) (get_next x (y ∷ xs) k d ∙ same ∙ sym (get_next x (y ∷ xs) (k + 1) d)))))
     ]
 
 pub strictly_apart : (xs : List (List ℕ)) → IsSorted (slice_cmp nat_cmp) xs → AreApart xs (length xs) → IsStrictlySortedBy (slice_cmp nat_cmp) xs
@@ -56,24 +58,29 @@ module _ {X : Type 0} (f : X → List ℕ) where
   hash_at : (xs : List X) (i : ℕ) (x : X) (d : List ℕ) → i < length xs → x ≡ get_or xs i x → get_or (map f xs) i d ≡ f x
   hash_at xs i x d l is = get_or-map f xs i x d l ∙ ap f (sym is)
 
-  pub apart_more : (xs : List X) (i : ℕ) (x y : X) → 0 < i → i < length xs → x ≡ get_or xs (i - 1) x → y ≡ get_or xs i y → (f x ≡ f y → ⊥) → AreApart (map f xs) i → AreApart (map f xs) (i + 1)
+  pub apart_more : (xs : List X) (i : ℕ) (x y : X) → 0 < i → i < length xs → x ≡ get_or xs (i - 1) x → y ≡ get_or xs i y
+      → (f x ≡ f y → ⊥) → AreApart (map f xs) i → AreApart (map f xs) (i + 1)
   apart_more xs i x y some l x_is y_is other h k d m same =
       elim (cases_lt (k + 1) i) [
         | inl n ↦ h k d n same
         | inr n ↦
             let first : k ≡ i - 1 = omega arith in
             let second : k + 1 ≡ i = omega arith in
-            other (sym (hash_at xs (i - 1) x d (omega arith) x_is) ∙ ap (λ j. get_or (map f xs) j d) (sym first) ∙ same ∙ ap (λ j. get_or (map f xs) j d) second ∙ hash_at xs i y d l y_is)
+            other (sym (hash_at xs (i - 1) x d (omega arith) x_is) ∙ ap (λ j. get_or (map f xs) j d) (sym first) ∙ same
+            ∙ ap (λ j. get_or (map f xs) j d) second ∙ hash_at xs i y d l y_is)
       ]
 
-  pub alike_at : (xs : List X) (i : ℕ) (x y : X) → 0 < i → i < length xs → x ≡ get_or xs (i - 1) x → y ≡ get_or xs i y → f x ≡ f y → HasAlikeNeighbours (map f xs)
+  pub alike_at : (xs : List X) (i : ℕ) (x y : X) → 0 < i → i < length xs → x ≡ get_or xs (i - 1) x → y ≡ get_or xs i y → f x ≡ f y
+      → HasAlikeNeighbours (map f xs)
   alike_at xs i x y some l x_is y_is same = record {
     place = i - 1;
     inside = omega (arith, l, length-map xs f);
-    alike = λ d. let here : i - 1 + 1 ≡ i = omega arith in hash_at xs (i - 1) x d (omega arith) x_is ∙ same ∙ sym (hash_at xs i y d l y_is) ∙ ap (λ j. get_or (map f xs) j d) (sym here);
+    alike = λ d. let here : i - 1 + 1 ≡ i = omega arith in hash_at xs (i - 1) x d (omega arith) x_is ∙ same
+        ∙ sym (hash_at xs i y d l y_is) ∙ ap (λ j. get_or (map f xs) j d) (sym here);
   }
 
-  pub apart_end : (xs : List X) (i : ℕ) → length xs ≤ i → IsSortedByKey f (slice_cmp nat_cmp) xs → AreApart (map f xs) i → IsStrictlySortedBy (slice_cmp nat_cmp) (map f xs)
+  pub apart_end : (xs : List X) (i : ℕ) → length xs ≤ i → IsSortedByKey f (slice_cmp nat_cmp) xs → AreApart (map f xs) i
+      → IsStrictlySortedBy (slice_cmp nat_cmp) (map f xs)
   apart_end xs i l s h = strictly_apart (map f xs) (sorted_keys xs s) (λ k d m. h k d (omega (arith, m, length-map xs f)))
 
 -- ---- one more name is hashed
@@ -81,12 +88,16 @@ module _ {X : Type 0} (f : X → List ℕ) where
 module _ (a : Name) (hash : Hash) (names : List Name) where
   -- the names up to a place are hashed, each with its place
   abbrev pub AreHashed : ℕ → List Hashed → Type 0
-  AreHashed n hashed = (entries : List Entry) → map (λ e. e.name) entries ≡ names → (map without_hash (map (as_hashed_entry entries) hashed) ≡ take n entries) × All (IsHashed a hash) (map (as_hashed_entry entries) hashed)
+  AreHashed n hashed = (entries : List Entry) → map (λ e. e.name) entries ≡ names
+      → (map without_hash (map (as_hashed_entry entries) hashed) ≡ take n entries)
+      × All (IsHashed a hash) (map (as_hashed_entry entries) hashed)
 
   pub none_hashed : AreHashed 0 []
   none_hashed entries are = (refl, All-nil (IsHashed a hash))
 
-  pub one_hashed : (n : ℕ) (old new : List Hashed) (item : Hashed) (x : Name) → n < length names → x ≡ get_or names n x → item.place ≡ n → IsHashed a hash (record { name = x; hash = item.hash; bits = [] }) → new ≡ old ++ item ∷ [] → AreHashed n old → AreHashed (n + 1) new
+  pub one_hashed : (n : ℕ) (old new : List Hashed) (item : Hashed) (x : Name) → n < length names → x ≡ get_or names n x
+      → item.place ≡ n → IsHashed a hash (record { name = x; hash = item.hash; bits = [] }) → new ≡ old ++ item ∷ []
+      → AreHashed n old → AreHashed (n + 1) new
   one_hashed n old new item x within x_is place one is h entries are =
       let see = as_hashed_entry entries in
       let within_entries : n < length entries = omega (arith, within, ap length are, length-map entries (λ (e : Entry). e.name)) in
@@ -98,16 +109,20 @@ module _ (a : Name) (hash : Hash) (names : List Name) where
         sound = ap (λ m. hash_fault a (hash_name hash m)) name ∙ one.sound;
         octets = one.octets;
       } in (
-        ap (λ l. map without_hash (map see l)) is ∙ ap (map without_hash) (map-append see old (item ∷ [])) ∙ map-append without_hash (map see old) (see item ∷ [])
+        ap (λ l. map without_hash (map see l)) is ∙ ap (map without_hash) (map-append see old (item ∷ []))
+            ∙ map-append without_hash (map see old) (see item ∷ [])
             ∙ (λ i. (h entries are).0 i ++ here i ∷ []) ∙ sym (take_more entries n (without_types []) within_entries),
-        subst (All (IsHashed a hash)) (sym (ap (map see) is ∙ map-append see old (item ∷ []))) (All-push (IsHashed a hash) (map see old) (see item) (h entries are).1 good),
+        subst (All (IsHashed a hash)) (sym (ap (map see) is ∙ map-append see old (item ∷ [])))
+            (All-push (IsHashed a hash) (map see old) (see item) (h entries are).1 good),
       )
 
-  pub all_placed : (n : ℕ) (hashed : List Hashed) → length names ≤ n → AreHashed n hashed → (entries : List Entry) → map (λ e. e.name) entries ≡ names → map without_hash (map (as_hashed_entry entries) hashed) ≡ entries
+  pub all_placed : (n : ℕ) (hashed : List Hashed) → length names ≤ n → AreHashed n hashed → (entries : List Entry)
+      → map (λ e. e.name) entries ≡ names → map without_hash (map (as_hashed_entry entries) hashed) ≡ entries
   all_placed n hashed end h entries are = (h entries are).0 ∙ take_all n entries (omega (arith, end, ap length are, length-map entries (λ (e : Entry). e.name)))
 
   -- the first name that is refused, after those that were hashed
-  pub first_refused : (n : ℕ) (hashed : List Hashed) (x : Name) (e : Nsec3HashError) → n < length names → x ≡ get_or names n x → AreHashed n hashed → IsRefusal a (hash_name hash x) e → (e ≡ OutOfMemory) ⊎ IsFirstRefused a hash names e
+  pub first_refused : (n : ℕ) (hashed : List Hashed) (x : Name) (e : Nsec3HashError) → n < length names → x ≡ get_or names n x
+      → AreHashed n hashed → IsRefusal a (hash_name hash x) e → (e ≡ OutOfMemory) ⊎ IsFirstRefused a hash names e
   first_refused n hashed x e within x_is h (inl m) = inl m
   first_refused n hashed x e within x_is h (inr f) =
       let entries = map without_types names in
@@ -120,7 +135,9 @@ module _ (a : Name) (hash : Hash) (names : List Name) where
             sym (take-append-drop n names)
             ∙ (λ i. sym (taken n names) i ++ drop n names)
             ∙ ap (λ l. map (λ n. n.name) (take n (map without_types names)) ++ l) (drop_more names n x within ∙ ap (λ m. m ∷ drop (n + 1) names) (sym x_is));
-        sound = subst (λ (b : List Entry). AllByRecursion (λ n. hash_fault a (hash_name hash n) ≡ None) (map (λ n. n.name) b)) told.0 (each (map (as_hashed_entry (map without_types names)) hashed) (recursion_from_All (IsHashed a hash) (map (as_hashed_entry (map without_types names)) hashed) told.1));
+        sound = subst (λ (b : List Entry). AllByRecursion (λ n. hash_fault a (hash_name hash n) ≡ None) (map (λ n. n.name) b))
+            told.0 (each (map (as_hashed_entry (map without_types names)) hashed)
+            (recursion_from_All (IsHashed a hash) (map (as_hashed_entry (map without_types names)) hashed) told.1));
         fault = f;
       })
     where
@@ -133,6 +150,7 @@ module _ (a : Name) (hash : Hash) (names : List Name) where
       taken (suc i) [] = refl
       taken (suc i) (n ∷ ns) = ap (λ l. n ∷ l) (taken i ns)
 
-      each : (es : List HashedEntry) → AllByRecursion (IsHashed a hash) es → AllByRecursion (λ n. hash_fault a (hash_name hash n) ≡ None) (map (λ n. n.name) (map without_hash es))
+      each : (es : List HashedEntry) → AllByRecursion (IsHashed a hash) es
+          → AllByRecursion (λ n. hash_fault a (hash_name hash n) ≡ None) (map (λ n. n.name) (map without_hash es))
       each [] all = tt
       each (f ∷ es) all = (all.0.sound, each es all.1)

@@ -36,7 +36,8 @@ apart n d e ds es octets lt =
     omega (arith, times, front_below n ds octets)
 
 -- a lesser number is of octets that come before
-less_front : (n : ℕ) (ds es : List ℕ) → n ≤ length ds → n ≤ length es → AreOctets ds → AreOctets es → front_number n ds < front_number n es → slice_cmp nat_cmp ds es ≡ Less
+less_front : (n : ℕ) (ds es : List ℕ) → n ≤ length ds → n ≤ length es → AreOctets ds → AreOctets es
+    → front_number n ds < front_number n es → slice_cmp nat_cmp ds es ≡ Less
 less_front zero ds es long long' octets octets' lt = absurd (omega arith)
 less_front (suc n) [] es long long' octets octets' lt = absurd (omega arith)
 less_front (suc n) (d ∷ ds) [] long long' octets octets' lt = absurd (omega arith)
@@ -73,6 +74,7 @@ by_front ds es m n long long' octets octets' m_is n_is differ =
         | inl less ↦ sym (nat_cmp_is m n Less less)
             ∙ sym (less_front 8 ds es long long' octets octets' (omega (arith, less, m_number, n_number)))
         | inr more ↦ sym (nat_cmp_is m n Greater more)
-            ∙ sym (nat_list_cmp_total.antisymm ds es ∙ ap ordering_reverse (less_front 8 es ds long' long octets' octets (omega (arith, more, m_number, n_number))))
+            ∙ sym (nat_list_cmp_total.antisymm ds es ∙ ap ordering_reverse
+            (less_front 8 es ds long' long octets' octets (omega (arith, more, m_number, n_number))))
       ]
     ]

@@ -1,5 +1,6 @@
 -- Names above owners that stand in order: they ascend, and none of them is an owner.
-use Rattle.std.proofs.Common.{◌≡◌, ℕ, ◌<◌, ◌≤◌, true, false, cond, not, ◌&&◌, ◌||◌, List, [], ◌∷◌, ◌++◌, length, refl, sym, ap, ◌∙◌, subst, arith, inl, inr, append_assoc}
+use Rattle.std.proofs.Common.{◌≡◌, ℕ, ◌<◌, ◌≤◌, true, false, cond, not, ◌&&◌, ◌||◌, List, []}
+use Rattle.std.proofs.Common.{◌∷◌, ◌++◌, length, refl, sym, ap, ◌∙◌, subst, arith, inl, inr, append_assoc}
 use Rattle.std.specs.Prelude.{filter, nat_lt}
 use Rattle.std.specs.List.{AllByRecursion, list_any}
 use Rattle.std.specs.List.Sorted.{IsStrictlySortedBy}
@@ -37,7 +38,8 @@ unfolding IsStrictlySortedBy
 ascending [] h = tt
 ascending (k ∷ ks) h = (weaker (λ y. canonical_cmp k y ≡ Less) (λ y. before k y ≡ true) (λ y e. ap is_lt e) ks h.0, ascending ks h.1)
 
-ascending_both : (xs ys : List Name) → IsAscending before xs → IsAscending before ys → AllByRecursion (λ x. AllByRecursion (λ y. before x y ≡ true) ys) xs → IsAscending before (xs ++ ys)
+ascending_both : (xs ys : List Name) → IsAscending before xs → IsAscending before ys
+    → AllByRecursion (λ x. AllByRecursion (λ y. before x y ≡ true) ys) xs → IsAscending before (xs ++ ys)
 ascending_both [] ys h k across = k
 ascending_both (x ∷ xs) ys h k across = (all_both (λ y. before x y ≡ true) xs ys h.0 across.0, ascending_both xs ys h.1 k across.1)
 
@@ -58,7 +60,11 @@ above_ascend : (n : ℕ) (o : Name) → IsAscending before (above_with_more n o)
 above_ascend n [] = tt
 above_ascend n (label ∷ x) =
     elim (nat_lt n (length x)) as (λ b. IsAscending before (cond b (above_with_more n x ++ x ∷ []) [])) [
-      | true ↦ ascending_both (above_with_more n x) (x ∷ []) (above_ascend n x) (tt, tt) (weaker (λ m. before m x ≡ true) (λ m. AllByRecursion (λ y. before m y ≡ true) (x ∷ [])) (λ m e. (e, tt)) (above_with_more n x) (above_before n x))
+      | true ↦ ascending_both (above_with_more n x) (x ∷ []) (above_ascend n x) (
+        tt,
+        tt,
+      ) (weaker (λ m. before m x ≡ true) (λ m. AllByRecursion (λ y. before m y ≡ true) (x ∷ [])) (λ m e. (e, tt))
+          (above_with_more n x) (above_before n x))
       | false ↦ tt
     ]
 
@@ -82,9 +88,12 @@ abbrev pub gathered : Name → List Name → List Name
 gathered p [] = []
 gathered p (o ∷ os) = above_with_more (common_labels o p) o ++ gathered o os
 
-pub gathered_step : (names names' : List Name) (p o : Name) (s : ℕ) (left rest all : List Name) → left ≡ o ∷ rest → s ≡ common_labels o p → names' ≡ names ++ above_with_more s o → names ++ gathered p left ≡ all → names' ++ gathered o rest ≡ all
+pub gathered_step : (names names' : List Name) (p o : Name) (s : ℕ) (left rest all : List Name) → left ≡ o ∷ rest
+    → s ≡ common_labels o p → names' ≡ names ++ above_with_more s o → names ++ gathered p left ≡ all
+    → names' ++ gathered o rest ≡ all
 gathered_step names names' p o s left rest all left_is shared pushed h =
-    ap (λ l. l ++ gathered o rest) pushed ∙ append_assoc names (above_with_more s o) (gathered o rest) ∙ (λ i. names ++ (above_with_more (shared i) o ++ gathered o rest)) ∙ ap (λ l. names ++ gathered p l) (sym left_is) ∙ h
+    ap (λ l. l ++ gathered o rest) pushed ∙ append_assoc names (above_with_more s o) (gathered o rest)
+    ∙ (λ i. names ++ (above_with_more (shared i) o ++ gathered o rest)) ∙ ap (λ l. names ++ gathered p l) (sym left_is) ∙ h
 
 gathered_after : (p : Name) (os : List Name) → IsAscending before (p ∷ os) → AllByRecursion (λ m. before p m ≡ true) (gathered p os)
 gathered_after p [] h = tt
@@ -97,7 +106,8 @@ gathered_ascend p [] h = tt
 gathered_ascend p (o ∷ os) h =
     ascending_both (above_with_more (common_labels o p) o) (gathered o os) (above_ascend (common_labels o p) o) (gathered_ascend o os h.1)
     (weaker (λ m. before m o ≡ true) (λ m. AllByRecursion (λ y. before m y ≡ true) (gathered o os))
-    (λ m e. weaker (λ y. before o y ≡ true) (λ y. before m y ≡ true) (λ y f. lt_trans before_order m o y e f) (gathered o os) (gathered_after o os h)) (above_with_more (common_labels o p) o) (above_before (common_labels o p) o))
+    (λ m e. weaker (λ y. before o y ≡ true) (λ y. before m y ≡ true) (λ y f. lt_trans before_order m o y e f) (gathered o os)
+    (gathered_after o os h)) (above_with_more (common_labels o p) o) (above_before (common_labels o p) o))
 
 none_same : (o n : Name) (os : List Name) → before n o ≡ true → AllByRecursion (λ m. before o m ≡ true) os → list_any (λ m. same_name m n) os ≡ false
 none_same o n [] e h = refl
@@ -107,8 +117,11 @@ gathered_apart : (p : Name) (os : List Name) → IsAscending before os → AllBy
 gathered_apart p [] h = tt
 gathered_apart p (o ∷ os) h =
     all_both (λ m. list_any (λ n. same_name n m) (o ∷ os) ≡ false) (above_with_more (common_labels o p) o) (gathered o os)
-    (weaker (λ m. before m o ≡ true) (λ m. list_any (λ n. same_name n m) (o ∷ os) ≡ false) (λ m e. (λ i. apart_right m o e i || none_same o m os e h.0 i)) (above_with_more (common_labels o p) o) (above_before (common_labels o p) o))
-    (weaker (λ m. (before o m ≡ true) × (list_any (λ n. same_name n m) os ≡ false)) (λ m. list_any (λ n. same_name n m) (o ∷ os) ≡ false) (λ m e. (λ i. apart_left o m e.0 i || e.1 i)) (gathered o os)
+    (weaker (λ m. before m o ≡ true) (λ m. list_any (λ n. same_name n m) (o ∷ os) ≡ false)
+    (λ m e. (λ i. apart_right m o e i || none_same o m os e h.0 i)) (above_with_more (common_labels o p) o)
+    (above_before (common_labels o p) o))
+    (weaker (λ m. (before o m ≡ true) × (list_any (λ n. same_name n m) os ≡ false)) (λ m. list_any (λ n. same_name n m) (o ∷ os)
+    ≡ false) (λ m e. (λ i. apart_left o m e.0 i || e.1 i)) (gathered o os)
     (both (λ m. before o m ≡ true) (λ m. list_any (λ n. same_name n m) os ≡ false) (gathered o os) (gathered_after o os h) (gathered_apart o os h.1)))
 
 -- the names above the owners, without the owners
@@ -123,23 +136,28 @@ module _ (a : Name) (owners names : List Name) (h : HoldsAncestors a owners name
       let k = one_lowered m.0 x p.1 in
       let there : list_any (λ n. same_name n x) names ≡ true = in_any (λ n. same_name n x) names m.0 m.1 p.1 in
       and_from (is_at_or_below x a && not (list_any (λ n. same_name n x) owners)) (list_any (λ n. is_strictly_below n x) owners)
-      (and_from (is_at_or_below x a) (not (list_any (λ n. same_name n x) owners)) (and_parts (is_at_or_below x a) (not (same_name x a)) (h.below x there)).0 (ap (λ q. not (list_any (λ n. same_lowered (lowered n) q) owners)) (sym k) ∙ p.0))
+      (and_from (is_at_or_below x a) (not (list_any (λ n. same_name n x) owners))
+      (and_parts (is_at_or_below x a) (not (same_name x a)) (h.below x there)).0
+      (ap (λ q. not (list_any (λ n. same_lowered (lowered n) q) owners)) (sym k) ∙ p.0))
       (h.above x there))
       (λ e.
       let p = and_parts (is_at_or_below x a && not (list_any (λ n. same_name n x) owners)) (list_any (λ n. is_strictly_below n x) owners) e in
       let q = and_parts (is_at_or_below x a) (not (list_any (λ n. same_name n x) owners)) p.0 in
       let none = not-true (list_any (λ n. same_name n x) owners) q.1 in
-      let below : (is_at_or_below x a && not (same_name x a)) ≡ true = and_from (is_at_or_below x a) (not (same_name x a)) q.0 (elim (cases_Bool (same_name x a)) [
+      let below : (is_at_or_below x a && not (same_name x a))
+      ≡ true = and_from (is_at_or_below x a) (not (same_name x a)) q.0 (elim (cases_Bool (same_name x a)) [
         | inl t ↦ absurd (false≢true (sym none ∙ ap (λ k. list_any (λ n. same_lowered (lowered n) k) owners) (one_lowered x a t) ∙ apex))
         | inr t ↦ ap not t
       ]) in
       elim (or_cases (list_any (λ n. same_name n x) owners) (list_any (λ n. same_name n x) names)
-      (h.each x below (any_weaker (λ n. is_strictly_below n x) (λ n. is_at_or_below n x) (λ n t. (and_parts (is_at_or_below n x) (not (same_name n x)) t).0) owners p.1))) [
+      (h.each x below (any_weaker (λ n. is_strictly_below n x) (λ n. is_at_or_below n x)
+      (λ n t. (and_parts (is_at_or_below n x) (not (same_name n x)) t).0) owners p.1))) [
         | inl t ↦ absurd (false≢true (sym none ∙ t))
         | inr t ↦
             let m = any_in (λ n. same_name n x) names t in
             in_any (λ n. not (list_any (λ m. same_name m n) owners) && same_name n x) names m.0 m.1
-            (and_from (not (list_any (λ n. same_name n m.0) owners)) (same_name m.0 x) (ap (λ k. not (list_any (λ n. same_lowered (lowered n) k) owners)) (one_lowered m.0 x m.2) ∙ q.1) m.2)
+            (and_from (not (list_any (λ n. same_name n m.0) owners)) (same_name m.0 x)
+            (ap (λ k. not (list_any (λ n. same_lowered (lowered n) k) owners)) (one_lowered m.0 x m.2) ∙ q.1) m.2)
       ])
 
   pub listed : names ≡ gathered a owners → IsStrictlySortedBy canonical_cmp owners → IsListOf (is_empty_nonterminal owners a) names
@@ -148,7 +166,8 @@ module _ (a : Name) (owners names : List Name) (h : HoldsAncestors a owners name
       let whole : filter (λ n. not (list_any (λ m. same_name m n) owners)) names ≡ names =
       filter_whole (λ n. not (list_any (λ m. same_name m n) owners)) names
       (subst (AllByRecursion (λ n. not (list_any (λ m. same_name m n) owners) ≡ true)) (sym are)
-      (weaker (λ n. list_any (λ m. same_name m n) owners ≡ false) (λ n. not (list_any (λ m. same_name m n) owners) ≡ true) (λ n e. ap not e) (gathered a owners) (gathered_apart a owners up_owners))) in
+      (weaker (λ n. list_any (λ m. same_name m n) owners ≡ false) (λ n. not (list_any (λ m. same_name m n) owners) ≡ true)
+      (λ n e. ap not e) (gathered a owners) (gathered_apart a owners up_owners))) in
       record {
         ascend = subst (IsStrictlySortedBy canonical_cmp) (sym are) (sorted (gathered a owners) (gathered_ascend a owners up_owners));
         exactly = λ x. ap (list_any (λ n. same_name n x)) (sym whole) ∙ left_are x;

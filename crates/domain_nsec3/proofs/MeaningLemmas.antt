@@ -1,5 +1,6 @@
 -- What the records of an NSEC3 chain say of every name, from the chain alone.
-use Rattle.std.proofs.Common.{length, ◌≤◌, arith, ◌≡◌, ℕ, zero, suc, Bool, true, false, cond, not, ◌&&◌, ◌||◌, List, [], ◌∷◌, map, Some, Ok, refl, sym, ap, ◌∙◌, subst, inl, inr, ◌⊎◌}
+use Rattle.std.proofs.Common.{length, ◌≤◌, arith, ◌≡◌, ℕ, zero, suc, Bool, true, false, cond, not, ◌&&◌, ◌||◌}
+use Rattle.std.proofs.Common.{List, [], ◌∷◌, map, Some, Ok, refl, sym, ap, ◌∙◌, subst, inl, inr, ◌⊎◌}
 use Rattle.std.specs.Prelude.{filter, slice_get}
 use Rattle.std.specs.List.{AllByRecursion, list_any}
 use Rattle.std.specs.List.Sorted.{IsStrictlySortedBy}
@@ -23,7 +24,8 @@ use Rattle.domain_base.specs.Name.{is_at_or_below, is_strictly_below, lowered, s
 use Rattle.domain_base.specs.Words.{Name}
 use Rattle.domain_base.specs.Types.{ns, ds}
 use Rattle.domain_zone.specs.Zone.{ZoneRecord, records_of, owns, has_type, is_zone_cut, is_unoccluded, unoccluded_owners}
-use Rattle.domain_zone.proofs.NameLemmas.{one_lowered, same_itself, below_itself, below_trans, below_length, below_longer, below_parent, lowered_below, same_lowered}
+use Rattle.domain_zone.proofs.NameLemmas.{one_lowered, same_itself, below_itself, below_trans, below_length}
+use Rattle.domain_zone.proofs.NameLemmas.{below_longer, below_parent, lowered_below, same_lowered}
 use Rattle.domain_zone.proofs.OwnerLemmas.{any_filter, any_in, any_owner, apex_unoccluded, typed_owns}
 use Rattle.domain_zone.proofs.PairLemmas.{In, all_in, IsAscending, IsApart, gap, next_is, irreflexive, one_matches_or_covers}
 use Rattle.domain_zone.proofs.PlaceLemmas.{IsOnly, one_place, in_at}
@@ -31,7 +33,8 @@ use Rattle.domain_zone.proofs.SharedLemmas.{either_way}
 use Rattle.domain_zone.proofs.SoaLemmas.{soa_owned}
 use Rattle.domain_nsec3.specs.Chain.{HashedLink, HashedName, IsHashedChain, IsOfChain, cycle, ends, ends_of, hashed_owner}
 use Rattle.domain_nsec3.specs.Config.{ChainConfig, HashAnswer, excludes, hash_of}
-use Rattle.domain_nsec3.specs.Meaning.{octets_before, IsAlone, AreAlone, IsRecordOf, IsMatchedOrCoveredOnce, MirrorsZone, TellsEncloserOf, TellsEncloser, CoversExcluded}
+use Rattle.domain_nsec3.specs.Meaning.{octets_before, IsAlone, AreAlone, IsRecordOf, IsMatchedOrCoveredOnce}
+use Rattle.domain_nsec3.specs.Meaning.{MirrorsZone, TellsEncloserOf, TellsEncloser, CoversExcluded}
 use Rattle.domain_nsec3.specs.Owners.{original_owners, is_original_owner, is_excluded, is_unsigned_cut, is_empty, is_chain_name, is_listed, nsec3_lists}
 use Rattle.domain_nsec3.proofs.FaultLemmas.{hash_same}
 use Rattle.domain_nsec3.proofs.OwnerLemmas.{existing_are, runs_to_encloser}
@@ -44,7 +47,8 @@ octets_order = ranks_by nat_list_cmp_total (λ v. v)
 
 -- octets that the order can't tell apart are the same
 tied_octets : (u v : List ℕ) → matches octets_before u v ≡ true → u ≡ v
-tied_octets u v m = slice_cmp-IsAntisymmetric nat_cmp-IsAntisymmetric u v (by (slice_cmp nat_cmp u v) (slice_cmp nat_cmp v u) (nat_list_cmp_total.antisymm v u) m)
+tied_octets u v m = slice_cmp-IsAntisymmetric nat_cmp-IsAntisymmetric u v
+    (by (slice_cmp nat_cmp u v) (slice_cmp nat_cmp v u) (nat_list_cmp_total.antisymm v u) m)
   where
     by : (r s : Ordering) → s ≡ ordering_reverse r → not (is_lt r || is_lt s) ≡ true → r ≡ Equal
     by Less s e m = absurd (false≢true m)
@@ -69,10 +73,13 @@ all_after [] u h = tt
 all_after (v ∷ us) u h = (octets_order.one_way u v h.0, all_after us u h.1)
 
 -- a hash of the list lies in no gap of the cycle
-no_gap : (us : List (List ℕ)) → IsStrictlySortedBy (slice_cmp nat_cmp) us → (p : List ℕ × List ℕ) → In p (cycle us) → (v : List ℕ) → In v us → covers octets_before p.0 p.1 v ≡ true → ⊥
+no_gap : (us : List (List ℕ)) → IsStrictlySortedBy (slice_cmp nat_cmp) us → (p : List ℕ × List ℕ) → In p (cycle us) → (v : List ℕ)
+    → In v us → covers octets_before p.0 p.1 v ≡ true → ⊥
 no_gap [] up p i v j c = i
 no_gap (u ∷ us) up p i v j c =
-    let parts = and_parts (not (matches octets_before p.0 v)) (cond (octets_before p.0 p.1) (octets_before p.0 v && octets_before v p.1) (octets_before p.0 v || octets_before v p.1)) c in
+    let parts = and_parts (not (matches octets_before p.0 v))
+    (cond (octets_before p.0 p.1) (octets_before p.0 v && octets_before v p.1) (octets_before p.0 v || octets_before v p.1))
+    c in
     by (octets_before p.0 p.1) refl parts.1 (gap octets_order u us u p v (ascends (u ∷ us) up) i j) (next_is octets_order u us u p (ascends (u ∷ us) up) i)
   where
     first_low : octets_before v u ≡ false
@@ -81,7 +88,9 @@ no_gap (u ∷ us) up p i v j c =
       | inr k ↦ octets_order.one_way u v (all_in (λ w. octets_before u w ≡ true) us v (ascends (u ∷ us) up).0 k)
     ]
 
-    by : (b : Bool) → octets_before p.0 p.1 ≡ b → cond b (octets_before p.0 v && octets_before v p.1) (octets_before p.0 v || octets_before v p.1) ≡ true → IsApart {lt = octets_before} octets_order v p → ((octets_before p.0 p.1 ≡ true) × In p.1 (u ∷ us)) ⊎ (u ≡ p.1) → ⊥
+    by : (b : Bool) → octets_before p.0 p.1 ≡ b → cond b (octets_before p.0 v && octets_before v p.1) (octets_before p.0 v
+        || octets_before v p.1) ≡ true → IsApart {lt = octets_before} octets_order v p
+        → ((octets_before p.0 p.1 ≡ true) × In p.1 (u ∷ us)) ⊎ (u ≡ p.1) → ⊥
     by true e h (inl f) n = false≢true (sym f ∙ (and_parts (octets_before p.0 v) (octets_before v p.1) h).0)
     by true e h (inr f) n = false≢true (sym f.1 ∙ (and_parts (octets_before p.0 v) (octets_before v p.1) h).1)
     by false e h (inr f) n = true≢false (sym f.0 ∙ e)
@@ -93,7 +102,8 @@ no_gap (u ∷ us) up p i v j c =
         ]
 
 -- exactly one pair of the cycle matches or covers any octets
-one_pair : (u : List ℕ) (us : List (List ℕ)) → IsStrictlySortedBy (slice_cmp nat_cmp) (u ∷ us) → (v : List ℕ) → IsOnly (λ (p : List ℕ × List ℕ). matches_or_covers octets_before p.0 p.1 v) (cycle (u ∷ us))
+one_pair : (u : List ℕ) (us : List (List ℕ)) → IsStrictlySortedBy (slice_cmp nat_cmp) (u ∷ us) → (v : List ℕ)
+    → IsOnly (λ (p : List ℕ × List ℕ). matches_or_covers octets_before p.0 p.1 v) (cycle (u ∷ us))
 one_pair u us up v =
     let rise = ascends (u ∷ us) up in
     one_place (λ (p : List ℕ × List ℕ). matches_or_covers octets_before p.0 p.1 v) (cycle (u ∷ us))
@@ -130,7 +140,8 @@ exists_same : (ks : List Name) (a m n : Name) → lowered m ≡ lowered n → ex
 exists_same ks a m n e = ap (λ k. lowered_below k (lowered a) && list_any (λ o. lowered_below (lowered o) k) ks) e
 
 -- what exists over a name that does not, is above its first label
-shorter : (ks : List Name) (a : Name) (l : List ℕ) (x d : Name) → exists_over ks a (l ∷ x) ≡ false → exists_over ks a d ≡ true → is_at_or_below (l ∷ x) d ≡ true → length d ≤ length x
+shorter : (ks : List Name) (a : Name) (l : List ℕ) (x d : Name) → exists_over ks a (l ∷ x) ≡ false → exists_over ks a d ≡ true
+    → is_at_or_below (l ∷ x) d ≡ true → length d ≤ length x
 shorter ks a l x d none h p =
     elim (cases_lt (length x) (length d)) [
       | inl k ↦ absurd (true≢false (sym h ∙ exists_same ks a d (l ∷ x) (sym (at_length (l ∷ x) d p (omega arith))) ∙ none))
@@ -168,14 +179,20 @@ module _ (L : List ZoneRecord) (a : Name) (config : ChainConfig) where
   pub chain_same : (m n : Name) → same_name m n ≡ true → is_chain_name L a config m ≡ is_chain_name L a config n
   chain_same m n s =
       ap (λ k. list_any (λ o. same_lowered (lowered o) k) (original_owners L a config)
-      || (lowered_below k (lowered a) && not (list_any (λ r. same_lowered (lowered r.owner) k) L) && list_any (λ o. lowered_below (lowered o) k && not (same_lowered (lowered o) k)) (original_owners L a config))) (one_lowered m n s)
+      || (lowered_below k (lowered a) && not (list_any (λ r. same_lowered (lowered r.owner) k) L)
+      && list_any (λ o. lowered_below (lowered o) k && not (same_lowered (lowered o) k)) (original_owners L a config)))
+      (one_lowered m n s)
 
   pub bit_same : (m n : Name) → same_name m n ≡ true → (t : ℕ) → nsec3_lists L a config m t ≡ nsec3_lists L a config n t
   bit_same m n s t =
       ap (λ k. list_any (λ r. same_lowered (lowered r.owner) k) L
-      && is_listed ((lowered_below k (lowered a) && not (same_lowered k (lowered a)) && has_type (filter (λ r. same_lowered (lowered r.owner) k) L) ns) && not (has_type (filter (λ r. same_lowered (lowered r.owner) k) L) ds))
+      && is_listed ((lowered_below k (lowered a) && not (same_lowered k (lowered a))
+      && has_type (filter (λ r. same_lowered (lowered r.owner) k) L) ns)
+      && not (has_type (filter (λ r. same_lowered (lowered r.owner) k) L) ds))
       (same_lowered k (lowered a)) (config.assume_dnskeys_will_be_added && same_lowered k (lowered a))
-      (lowered_below k (lowered a) && not (same_lowered k (lowered a)) && has_type (filter (λ r. same_lowered (lowered r.owner) k) L) ns) (filter (λ r. same_lowered (lowered r.owner) k) L) t) (one_lowered m n s)
+      (lowered_below k (lowered a) && not (same_lowered k (lowered a))
+      && has_type (filter (λ r. same_lowered (lowered r.owner) k) L) ns) (filter (λ r. same_lowered (lowered r.owner) k) L) t)
+      (one_lowered m n s)
 
   pub bits_same : (m n : Name) → same_name m n ≡ true → bitmap_octets (nsec3_lists L a config m) ≡ bitmap_octets (nsec3_lists L a config n)
   bits_same m n s = bitmap_octets-same (nsec3_lists L a config m) (nsec3_lists L a config n) (λ t b. bit_same m n s t)
@@ -212,7 +229,8 @@ module _ (L : List ZoneRecord) (a : Name) (config : ChainConfig) where
       }
 
   -- there is one
-  link_there : (links : List HashedLink) (ps : List (List ℕ × List ℕ)) → map ends links ≡ map (ends_of a) ps → (p : List ℕ × List ℕ) (j : ℕ) → slice_get ps j ≡ Some p → (k : HashedLink) × (slice_get links j ≡ Some k)
+  link_there : (links : List HashedLink) (ps : List (List ℕ × List ℕ)) → map ends links ≡ map (ends_of a) ps
+      → (p : List ℕ × List ℕ) (j : ℕ) → slice_get ps j ≡ Some p → (k : HashedLink) × (slice_get links j ≡ Some k)
   link_there links [] h p j i = absurd (cc)
   link_there [] (q ∷ ps) h p j i = absurd (cc)
   link_there (l ∷ links) (q ∷ ps) h p zero i = (l, refl)
@@ -221,12 +239,15 @@ module _ (L : List ZoneRecord) (a : Name) (config : ChainConfig) where
   -- the apex is a name of the chain where it owns records
   apex_named : owns L a ≡ true → is_chain_name L a config a ≡ true
   apex_named o =
-      let at : Name → Bool = λ k. not (excludes config && ((lowered_below k (lowered a) && not (same_lowered k (lowered a)) && has_type (filter (λ r. same_lowered (lowered r.owner) k) L) ns) && not (has_type (filter (λ r. same_lowered (lowered r.owner) k) L) ds))) && same_lowered k (lowered a) in
+      let at : Name → Bool = λ k. not (excludes config && ((lowered_below k (lowered a) && not (same_lowered k (lowered a))
+      && has_type (filter (λ r. same_lowered (lowered r.owner) k) L) ns)
+      && not (has_type (filter (λ r. same_lowered (lowered r.owner) k) L) ds))) && same_lowered k (lowered a) in
       or_left (is_original_owner L a config a) (is_empty L a config a)
       (any_filter (λ n. same_name n a) (λ n. not (is_excluded L a config n)) (unoccluded_owners config.occlude_below_dname L a)
       ∙ any_owner config.occlude_below_dname L a a at o (apex_unoccluded config.occlude_below_dname L a)
       (and_from (not (is_excluded L a config a)) (same_name a a)
-      (ap not ((λ i. excludes config && (((below_itself a i && not (same_itself a a refl i)) && has_type (records_of L a) ns) && not (has_type (records_of L a) ds))) ∙ none (excludes config)))
+      (ap not ((λ i. excludes config && (((below_itself a i && not (same_itself a a refl i)) && has_type (records_of L a) ns)
+      && not (has_type (records_of L a) ds))) ∙ none (excludes config)))
       (same_itself a a refl)))
     where
       none : (b : Bool) → (b && false) ≡ false
@@ -238,7 +259,8 @@ module _ (L : List ZoneRecord) (a : Name) (config : ChainConfig) where
     name_sound n i = all_in (IsOfChain L a config) chain.names n (recursion_from_All (IsOfChain L a config) chain.names chain.sound) i
 
     pub of_place : (k : HashedLink) (j : ℕ) → slice_get links j ≡ Some k → IsAtPlace k j chain.names (cycle (map (λ n. n.hash) chain.names))
-    of_place k j i = at_place links chain.names (cycle (map (λ n. n.hash) chain.names)) chain.linked (cycle_owners (map (λ n. n.hash) chain.names)) chain.bits k j i
+    of_place k j i = at_place links chain.names (cycle (map (λ n. n.hash) chain.names)) chain.linked
+        (cycle_owners (map (λ n. n.hash) chain.names)) chain.bits k j i
 
     -- what the owner of a record spells
     spelled_is : (k : HashedLink) (j : ℕ) (h : List ℕ) (r : IsRecordOf a links j k h) → (of_place k j r.there).name.hash ≡ h
@@ -248,7 +270,9 @@ module _ (L : List ZoneRecord) (a : Name) (config : ChainConfig) where
         lower_apart p.name.hash h (name_sound p.name p.there).sound.2 r.octets (head_is owner)
 
     -- a record that matches the hash of a name that shares it with none is that of the name
-    pub matched_name : (x : Name) (v : List ℕ) → IsAlone L a config x v → (k : HashedLink) (j : ℕ) (i : slice_get links j ≡ Some k) → matches octets_before (of_place k j i).name.hash v ≡ true → same_name (of_place k j i).name.name x ≡ true
+    pub matched_name : (x : Name) (v : List ℕ) → IsAlone L a config x v
+        → (k : HashedLink) (j : ℕ) (i : slice_get links j ≡ Some k) → matches octets_before (of_place k j i).name.hash v ≡ true
+        → same_name (of_place k j i).name.name x ≡ true
     matched_name x v alone k j i m =
         let p = of_place k j i in
         let s = name_sound p.name p.there in
@@ -258,14 +282,17 @@ module _ (L : List ZoneRecord) (a : Name) (config : ChainConfig) where
     among : (x : Name) (v : List ℕ) → hash_of config x ≡ Ok v → is_chain_name L a config x ≡ true → In v (map (λ n. n.hash) chain.names)
     among x v known c =
         let n = any_in (λ n. same_name n.name x) chain.names (chain.complete x c) in
-        let is : n.0.hash ≡ v = ok_is n.0.hash v (hash_of config n.0.name) (hash_of config x) (hash_same config.hash n.0.name x n.2) (name_sound n.0 n.1).hashed known in
+        let is : n.0.hash ≡ v = ok_is n.0.hash v (hash_of config n.0.name) (hash_of config x)
+        (hash_same config.hash n.0.name x n.2) (name_sound n.0 n.1).hashed known in
         subst (λ w. In w (map (λ n. n.hash) chain.names)) is (in_map (λ (n : HashedName). n.hash) chain.names n.0 n.1)
 
     -- exactly one pair of the cycle matches or covers any octets
     the_pair : (v : List ℕ) → IsOnly (λ (p : List ℕ × List ℕ). matches_or_covers octets_before p.0 p.1 v) (cycle (map (λ n. n.hash) chain.names))
     the_pair v = by chain.names chain.ascend (chain.complete a (apex_named (soa_owned L a chain.numbers chain.soa)))
       where
-        by : (ns : List HashedName) → IsStrictlySortedBy (slice_cmp nat_cmp) (map (λ n. n.hash) ns) → list_any (λ n. same_name n.name a) ns ≡ true → IsOnly (λ (p : List ℕ × List ℕ). matches_or_covers octets_before p.0 p.1 v) (cycle (map (λ n. n.hash) ns))
+        by : (ns : List HashedName) → IsStrictlySortedBy (slice_cmp nat_cmp) (map (λ n. n.hash) ns)
+            → list_any (λ n. same_name n.name a) ns ≡ true →
+            IsOnly (λ (p : List ℕ × List ℕ). matches_or_covers octets_before p.0 p.1 v) (cycle (map (λ n. n.hash) ns))
         by [] up h = absurd (false≢true h)
         by (n ∷ ns) up h = one_pair n.hash (map (λ n. n.hash) ns) up v
 
@@ -275,13 +302,18 @@ module _ (L : List ZoneRecord) (a : Name) (config : ChainConfig) where
         let l = link_there links (cycle (map (λ n. n.hash) chain.names)) chain.linked one.item one.place one.there in
         let p = of_place l.0 one.place l.1 in
         let is : one.item ≡ (p.name.hash, l.0.next) = some_is one.item (p.name.hash, l.0.next) (sym one.there ∙ p.pair) in
-        let says : matches_or_covers octets_before p.name.hash l.0.next v ≡ true = ap (λ (q : List ℕ × List ℕ). matches_or_covers octets_before q.0 q.1 v) (sym is) ∙ one.passes in
+        let says : matches_or_covers octets_before p.name.hash l.0.next v
+        ≡ true = ap (λ (q : List ℕ × List ℕ). matches_or_covers octets_before q.0 q.1 v) (sym is) ∙ one.passes in
         let matched : matches octets_before p.name.hash v ≡ is_chain_name L a config x =
         either_way (matches octets_before p.name.hash v) (is_chain_name L a config x)
         (λ m. sym (chain_same p.name.name x (matched_name x v alone l.0 one.place l.1 m)) ∙ (name_sound p.name p.there).in_chain)
         (λ c. elim (or_cases (matches octets_before p.name.hash v) (covers octets_before p.name.hash l.0.next v) says) [
           | inl m ↦ m
-          | inr k ↦ absurd (no_gap (map (λ n. n.hash) chain.names) chain.ascend (p.name.hash, l.0.next) (in_at (cycle (map (λ n. n.hash) chain.names)) one.place (p.name.hash, l.0.next) p.pair) v (among x v alone.known c) k)
+          | inr k ↦ absurd (no_gap (map (λ n. n.hash) chain.names) chain.ascend (
+            p.name.hash,
+            l.0.next,
+          ) (in_at (cycle (map (λ n. n.hash) chain.names)) one.place (p.name.hash, l.0.next) p.pair) v
+              (among x v alone.known c) k)
         ]) in
         record {
           place = one.place;
@@ -307,12 +339,21 @@ module _ (L : List ZoneRecord) (a : Name) (config : ChainConfig) where
         runs = λ d up low under.
             let v = alone d up low in
             let m = mirrored d v.0 v.1 in
-            record { place = m.place; link = m.link; hash = m.hash; value = v.0; is = m.is; known = v.1.known; says = m.matched ∙ runs_to_encloser L a config x e d c up low ∙ under };
+            record {
+              place = m.place;
+              link = m.link;
+              hash = m.hash;
+              value = v.0;
+              is = m.is;
+              known = v.1.known;
+              says = m.matched ∙ runs_to_encloser L a config x e d c up low ∙ under;
+            };
         stops = λ d up low under m.
             let v = alone d up low in
             let value : m.value ≡ v.0 = ok_is m.value v.0 (hash_of config d) (hash_of config d) refl m.known v.1.known in
             let p = of_place m.link m.place m.is.there in
-            let s = matched_name d v.0 v.1 m.link m.place m.is.there ((λ i. matches octets_before (spelled_is m.link m.place m.hash m.is i) (sym value i)) ∙ m.says) in
+            let s = matched_name d v.0 v.1 m.link m.place m.is.there
+            ((λ i. matches octets_before (spelled_is m.link m.place m.hash m.is i) (sym value i)) ∙ m.says) in
             false≢true (sym (runs_to_encloser L a config x e d c up low ∙ under) ∙ sym (chain_same p.name.name d s) ∙ (name_sound p.name p.there).in_chain);
         next = λ d n.
             let high = (and_parts (is_at_or_below e a) (list_any (λ o. is_at_or_below o e) (original_owners L a config)) c.found).0 in
@@ -335,7 +376,9 @@ module _ (L : List ZoneRecord) (a : Name) (config : ChainConfig) where
                 | inl t ↦ absurd (false≢true (sym none ∙ t))
                 | inr t ↦ t
               ];
-              flags = (all_in (λ k. (k.parameters ≡ config.parameters) × (k.flags ≡ config.flags)) links m.link (recursion_from_All (λ k. (k.parameters ≡ config.parameters) × (k.flags ≡ config.flags)) links chain.told) (in_at links m.place m.link m.is.there)).1;
+              flags = (all_in (λ k. (k.parameters ≡ config.parameters) × (k.flags ≡ config.flags)) links m.link
+                  (recursion_from_All (λ k. (k.parameters ≡ config.parameters) × (k.flags ≡ config.flags)) links chain.told)
+                  (in_at links m.place m.link m.is.there)).1;
             };
       }
 
@@ -346,16 +389,21 @@ module _ (L : List ZoneRecord) (a : Name) (config : ChainConfig) where
     }
 
     -- a zone cut that is no owner of the chain is left out
-    out_flag : (c : Name) → is_zone_cut L a c ≡ true → is_unoccluded config.occlude_below_dname L a c ≡ true → is_original_owner L a config c ≡ false → is_opt_out config.flags ≡ true
+    out_flag : (c : Name) → is_zone_cut L a c ≡ true → is_unoccluded config.occlude_below_dname L a c ≡ true
+        → is_original_owner L a config c ≡ false → is_opt_out config.flags ≡ true
     out_flag c cut high out =
         elim (cases_Bool (is_opt_out config.flags)) [
           | inl e ↦ e
           | inr e ↦
-              let at : Name → Bool = λ k. not (excludes config && ((lowered_below k (lowered a) && not (same_lowered k (lowered a)) && has_type (filter (λ r. same_lowered (lowered r.owner) k) L) ns) && not (has_type (filter (λ r. same_lowered (lowered r.owner) k) L) ds))) && same_lowered k (lowered c) in
+              let at : Name → Bool = λ k. not (excludes config
+              && ((lowered_below k (lowered a) && not (same_lowered k (lowered a))
+              && has_type (filter (λ r. same_lowered (lowered r.owner) k) L) ns)
+              && not (has_type (filter (λ r. same_lowered (lowered r.owner) k) L) ds))) && same_lowered k (lowered c) in
               absurd (false≢true (sym out
               ∙ (any_filter (λ n. same_name n c) (λ n. not (is_excluded L a config n)) (unoccluded_owners config.occlude_below_dname L a)
               ∙ any_owner config.occlude_below_dname L a c at (typed_owns L c ns (and_parts (is_strictly_below c a) (has_type (records_of L c) ns) cut).1) high
-              (and_from (not (is_excluded L a config c)) (same_name c c) (λ i. not ((e i && config.exclude_unsigned) && is_unsigned_cut L a c)) (same_itself c c refl)))))
+              (and_from (not (is_excluded L a config c)) (same_name c c)
+              (λ i. not ((e i && config.exclude_unsigned) && is_unsigned_cut L a c)) (same_itself c c refl)))))
         ]
 
     pub covers_excluded : CoversExcluded L a config links

@@ -8,7 +8,8 @@ use Rattle.std.proofs.lemmas.List.Elements.{All-from_recursion}
 use Rattle.domain_base.specs.Order.{canonical_cmp, before}
 use Rattle.domain_records.specs.Errors.{signing_error_of}
 use Rattle.domain_records.specs.declared.error.Nsec3HashError.{Nsec3HashError}
-use Rattle.domain_records.specs.declared.error.Nsec3HashError.TheVariants.{Hasher, AppendError, OwnerHashError, Nsec3NameTooLong, CollisionDetected, OutOfMemory}
+use Rattle.domain_records.specs.declared.error.Nsec3HashError.TheVariants.{Hasher, AppendError, OwnerHashError}
+use Rattle.domain_records.specs.declared.error.Nsec3HashError.TheVariants.{Nsec3NameTooLong, CollisionDetected, OutOfMemory}
 use Rattle.domain_zone.specs.Enclosers.{is_empty_nonterminal}
 use Rattle.domain_base.specs.Name.{is_at_or_below, is_strictly_below, lowered, same_name}
 use Rattle.domain_base.specs.Words.{Name}
@@ -37,23 +38,28 @@ module _ (L : List ZoneRecord) (a : Name) (config : ChainConfig) where
   pub original_ascend : OwnersNeverDescend L → IsStrictlySortedBy canonical_cmp (original_owners L a config)
   original_ascend order =
       sorted (original_owners L a config)
-      (ascending_filter before (λ n. not (is_excluded L a config n)) (unoccluded_owners config.occlude_below_dname L a) (owners_ascend config.occlude_below_dname L a order))
+      (ascending_filter before (λ n. not (is_excluded L a config n)) (unoccluded_owners config.occlude_below_dname L a)
+      (owners_ascend config.occlude_below_dname L a order))
 
   pub original_below : All (λ n. is_at_or_below n a ≡ true) (original_owners L a config)
   original_below =
       All-from_recursion (λ n. is_at_or_below n a ≡ true) (original_owners L a config)
       (all_filter (λ n. is_at_or_below n a ≡ true) (λ n. not (is_excluded L a config n)) (unoccluded_owners config.occlude_below_dname L a)
       (weaker (λ n. (owns L n ≡ true) × (is_unoccluded config.occlude_below_dname L a n ≡ true)) (λ n. is_at_or_below n a ≡ true)
-      (λ n h. (and_parts (is_at_or_below n a) (not (is_occluded config.occlude_below_dname L a n)) h.1).0) (unoccluded_owners config.occlude_below_dname L a) (owners_are config.occlude_below_dname L a)))
+      (λ n h. (and_parts (is_at_or_below n a) (not (is_occluded config.occlude_below_dname L a n)) h.1).0)
+      (unoccluded_owners config.occlude_below_dname L a) (owners_are config.occlude_below_dname L a)))
 
   -- the apex is one where it owns records
   pub apex_original : owns L a ≡ true → is_original_owner L a config a ≡ true
   apex_original o =
-      let at : Name → Bool = λ k. not (excludes config && ((lowered_below k (lowered a) && not (same_lowered k (lowered a)) && has_type (filter (λ r. same_lowered (lowered r.owner) k) L) ns) && not (has_type (filter (λ r. same_lowered (lowered r.owner) k) L) ds))) && same_lowered k (lowered a) in
+      let at : Name → Bool = λ k. not (excludes config && ((lowered_below k (lowered a) && not (same_lowered k (lowered a))
+      && has_type (filter (λ r. same_lowered (lowered r.owner) k) L) ns)
+      && not (has_type (filter (λ r. same_lowered (lowered r.owner) k) L) ds))) && same_lowered k (lowered a) in
       any_filter (λ n. same_name n a) (λ n. not (is_excluded L a config n)) (unoccluded_owners config.occlude_below_dname L a)
       ∙ any_owner config.occlude_below_dname L a a at o (apex_unoccluded config.occlude_below_dname L a)
       (and_from (not (is_excluded L a config a)) (same_name a a)
-      (ap not ((λ i. excludes config && (((below_itself a i && not (same_itself a a refl i)) && has_type (records_of L a) ns) && not (has_type (records_of L a) ds))) ∙ none (excludes config)))
+      (ap not ((λ i. excludes config && (((below_itself a i && not (same_itself a a refl i)) && has_type (records_of L a) ns)
+      && not (has_type (records_of L a) ds))) ∙ none (excludes config)))
       (same_itself a a refl))
     where
       none : (b : Bool) → (b && false) ≡ false
@@ -62,36 +68,53 @@ module _ (L : List ZoneRecord) (a : Name) (config : ChainConfig) where
 
   -- ---- what hashing comes to
 
-  module _ (p : Common) (owners entries : List Entry) (empty : List Name) (os : AreOriginalOwners L a config owners) (es : IsListOf (is_empty_nonterminal (map (λ n. n.name) owners) a) empty)
+  module _ (p : Common) (owners entries : List Entry) (empty : List Name) (os : AreOriginalOwners L a config owners)
+      (es : IsListOf (is_empty_nonterminal (map (λ n. n.name) owners) a) empty)
       (are : entries ≡ owners ++ map without_types empty) where
-    pub outcome_chain : (numbers : ApexSoa) → soa_of L a ≡ Some numbers → p.ttl ≡ chain_ttl numbers → p.parameters ≡ config.parameters → p.flags ≡ config.flags → (links : List HashedLink)
+    pub outcome_chain : (numbers : ApexSoa) → soa_of L a ≡ Some numbers → p.ttl ≡ chain_ttl numbers
+        → p.parameters ≡ config.parameters → p.flags ≡ config.flags → (links : List HashedLink)
         → IsOrderedChain a config.hash p entries links → IsHashedChain L a config links
     outcome_chain numbers soa ttl parameters flags links c =
-        chain_of_zone L a config p entries links (record { numbers = numbers; soa = soa; ttl = ttl; parameters = parameters; flags = flags }) (are_chain_names L a config p owners entries empty links os es are) c
+        chain_of_zone L a config p entries links (record {
+          numbers = numbers;
+          soa = soa;
+          ttl = ttl;
+          parameters = parameters;
+          flags = flags;
+        }) (are_chain_names L a config p owners entries empty links os es are) c
 
     module _ (up : IsStrictlySortedBy canonical_cmp (map (λ n. n.name) owners)) where
       up_owners : IsStrictlySortedBy canonical_cmp (original_owners L a config)
       up_owners = subst (IsStrictlySortedBy canonical_cmp) os.names up
 
       own : AllByRecursion (λ n. is_original_owner L a config n ≡ true) (original_owners L a config)
-      own = all_from_in (λ n. is_original_owner L a config n ≡ true) (original_owners L a config) (λ x i. in_any (λ n. same_name n x) (original_owners L a config) x i (same_itself x x refl))
+      own = all_from_in (λ n. is_original_owner L a config n ≡ true) (original_owners L a config)
+          (λ x i. in_any (λ n. same_name n x) (original_owners L a config) x i (same_itself x x refl))
 
       not_own : AllByRecursion (λ n. is_original_owner L a config n ≡ false) empty
       not_own = all_from_in (λ n. is_original_owner L a config n ≡ false) empty (λ x i.
-          let e : is_empty_nonterminal (original_owners L a config) a x ≡ true = ap (λ l. is_empty_nonterminal l a x) (sym os.names) ∙ sym (es.exactly x) ∙ in_any (λ n. same_name n x) empty x i (same_itself x x refl) in
-          let q = and_parts (is_at_or_below x a && not (is_original_owner L a config x)) (list_any (λ n. is_strictly_below n x) (original_owners L a config)) e in
+          let e : is_empty_nonterminal (original_owners L a config) a x
+          ≡ true = ap (λ l. is_empty_nonterminal l a x) (sym os.names) ∙ sym (es.exactly x)
+          ∙ in_any (λ n. same_name n x) empty x i (same_itself x x refl) in
+          let q = and_parts (is_at_or_below x a && not (is_original_owner L a config x))
+          (list_any (λ n. is_strictly_below n x) (original_owners L a config)) e in
           not-true (is_original_owner L a config x) (and_parts (is_at_or_below x a) (not (is_original_owner L a config x)) q.0).1)
 
       pub outcome_hashed : (links : List HashedLink) → IsOrderedChain a config.hash p entries links → AreAllHashed L a config
       outcome_hashed links c =
-          all_hashed L a config (original_owners L a config) empty up_owners es.ascend own not_own entries (names_joined L a config p owners entries empty links os es are) (are_chain_names L a config p owners entries empty links os es are).names
+          all_hashed L a config (original_owners L a config) empty up_owners es.ascend own not_own entries
+          (names_joined L a config p owners entries empty links os es are)
+          (are_chain_names L a config p owners entries empty links os es are).names
           (c.first ∷ c.later) c.moved c.hashed
 
       pub outcome_fault : (e : Nsec3HashError) → IsHashingFault a config.hash entries e → (e ≡ OutOfMemory) ⊎ IsFirstHashingFault L a config e
       outcome_fault e (inl m) = inl m
       outcome_fault e (inr (inl r)) =
-          inr (hashing_fault L a config e (first_fault L a config (map (λ n. n.name) entries) e (are_chain_names L a config p owners entries empty [] os es are).names
-          (subst (Pairwise (λ x y. is_hashed_before L a config y x ≡ false)) (sym (names_joined L a config p owners entries empty [] os es are)) (hashed_in_order L a config (original_owners L a config) empty up_owners es.ascend own not_own)) r))
+          inr (hashing_fault L a config e (first_fault L a config (map (λ n. n.name) entries) e
+          (are_chain_names L a config p owners entries empty [] os es are).names
+          (subst (Pairwise (λ x y. is_hashed_before L a config y x ≡ false))
+          (sym (names_joined L a config p owners entries empty [] os es are))
+          (hashed_in_order L a config (original_owners L a config) empty up_owners es.ascend own not_own)) r))
       outcome_fault e (inr (inr k)) =
           let are_names = (are_chain_names L a config p owners entries empty [] os es are).names in
           let joined = names_joined L a config p owners entries empty [] os es are in
@@ -102,7 +125,8 @@ module _ (L : List ZoneRecord) (a : Name) (config : ChainConfig) where
           )))
 
   -- what it is to those who sign
-  pub signing_fault : (e : Nsec3HashError) → IsReady L a config → (e ≡ OutOfMemory) ⊎ IsFirstHashingFault L a config e → IsFirstFault L a config (signing_error_of e)
+  pub signing_fault : (e : Nsec3HashError) → IsReady L a config → (e ≡ OutOfMemory) ⊎ IsFirstHashingFault L a config e
+      → IsFirstFault L a config (signing_error_of e)
   signing_fault OutOfMemory ready h = tt
   signing_fault (Hasher n) ready (inl m) = absurd (cc)
   signing_fault (Hasher n) ready (inr f) = (ready, f)

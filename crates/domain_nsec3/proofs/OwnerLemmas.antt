@@ -10,7 +10,8 @@ use Rattle.domain_base.specs.Types.{ns, ds, dname}
 use Rattle.domain_zone.specs.Zone.{ZoneRecord, records_of, owns, has_type, is_zone_cut, occludes, is_occluded, is_unoccluded, unoccluded_owners}
 use Rattle.domain_zone.specs.Enclosers.{exists_over, is_empty_nonterminal, IsClosestEncloser}
 use Rattle.domain_zone.proofs.PairLemmas.{In, all_in}
-use Rattle.domain_zone.proofs.NameLemmas.{one_lowered, same_itself, same_is, below_itself, below_trans, below_from, below_longer, below_length, lowered_below, same_lowered}
+use Rattle.domain_zone.proofs.NameLemmas.{one_lowered, same_itself, same_is, below_itself, below_trans}
+use Rattle.domain_zone.proofs.NameLemmas.{below_from, below_longer, below_length, lowered_below, same_lowered}
 use Rattle.domain_zone.proofs.OwnerLemmas.{any_owner, any_in, in_any, owners_are, any_weaker, any_filter, below_occluder}
 use Rattle.domain_zone.proofs.SharedLemmas.{either_way}
 use Rattle.domain_nsec3.specs.Config.{ChainConfig, excludes}
@@ -26,7 +27,8 @@ strictly_down x m c p s =
     let q = and_parts (is_at_or_below x c) (not (same_name x c)) s in
     and_from (is_at_or_below m c) (not (same_name m c)) (below_trans m x c p q.0)
     (elim (cases_Bool (same_name m c)) [
-      | inl e ↦ absurd (false≢true (sym (not-true (same_name x c) q.1) ∙ same_both x c q.0 (sym (ap (λ k. lowered_below k (lowered x)) (one_lowered m c e)) ∙ p)))
+      | inl e ↦ absurd (false≢true (sym (not-true (same_name x c) q.1)
+          ∙ same_both x c q.0 (sym (ap (λ k. lowered_below k (lowered x)) (one_lowered m c e)) ∙ p)))
       | inr e ↦ ap not e
     ])
 
@@ -36,30 +38,45 @@ module _ (L : List ZoneRecord) (a : Name) (config : ChainConfig) where
 
   pub owner_unoccluded : (m : Name) → list_any (λ n. same_name n m) (original_owners L a config) ≡ true → is_occluded config.occlude_below_dname L a m ≡ false
   owner_unoccluded m h =
-      let k = any_in (λ n. not (is_excluded L a config n) && same_name n m) (unoccluded_owners config.occlude_below_dname L a) (sym (any_filter (λ n. same_name n m) (λ n. not (is_excluded L a config n)) (unoccluded_owners config.occlude_below_dname L a)) ∙ h) in
-      let own = (all_in (λ n. (owns L n ≡ true) × (is_unoccluded config.occlude_below_dname L a n ≡ true)) (unoccluded_owners config.occlude_below_dname L a) k.0 (owners_are config.occlude_below_dname L a) k.1).1 in
+      let k = any_in (λ n. not (is_excluded L a config n) && same_name n m) (unoccluded_owners config.occlude_below_dname L a)
+      (sym (any_filter (λ n. same_name n m) (λ n. not (is_excluded L a config n))
+      (unoccluded_owners config.occlude_below_dname L a)) ∙ h) in
+      let own = (all_in (λ n. (owns L n ≡ true) × (is_unoccluded config.occlude_below_dname L a n ≡ true))
+      (unoccluded_owners config.occlude_below_dname L a) k.0 (owners_are config.occlude_below_dname L a) k.1).1 in
       let s = one_lowered k.0 m (and_parts (not (is_excluded L a config k.0)) (same_name k.0 m) k.2).1 in
-      ap (λ q. list_any (λ r. occludes config.occlude_below_dname L a r.owner && (lowered_below q (lowered r.owner) && not (same_lowered q (lowered r.owner)))) L) (sym s)
-      ∙ not-true (is_occluded config.occlude_below_dname L a k.0) (and_parts (is_at_or_below k.0 a) (not (is_occluded config.occlude_below_dname L a k.0)) own).1
+      ap (λ q. list_any (λ r. occludes config.occlude_below_dname L a r.owner
+      && (lowered_below q (lowered r.owner) && not (same_lowered q (lowered r.owner)))) L) (sym s)
+      ∙ not-true (is_occluded config.occlude_below_dname L a k.0)
+      (and_parts (is_at_or_below k.0 a) (not (is_occluded config.occlude_below_dname L a k.0)) own).1
 
   -- a name that owns records and has a chain owner below it is a chain owner
-  owner_above : (x m : Name) → is_at_or_below x a ≡ true → owns L x ≡ true → list_any (λ n. same_name n m) (original_owners L a config) ≡ true → is_strictly_below m x ≡ true → list_any (λ n. same_name n x) (original_owners L a config) ≡ true
+  owner_above : (x m : Name) → is_at_or_below x a ≡ true → owns L x ≡ true
+      → list_any (λ n. same_name n m) (original_owners L a config) ≡ true → is_strictly_below m x ≡ true
+      → list_any (λ n. same_name n x) (original_owners L a config) ≡ true
   owner_above x m low o h s =
       let high = owner_unoccluded m h in
       let down = (and_parts (is_at_or_below m x) (not (same_name m x)) s).0 in
       let x_high : is_occluded config.occlude_below_dname L a x ≡ false = elim (cases_Bool (is_occluded config.occlude_below_dname L a x)) [
-        | inl e ↦ absurd (false≢true (sym high ∙ any_weaker (λ r. occludes config.occlude_below_dname L a r.owner && is_strictly_below x r.owner) (λ r. occludes config.occlude_below_dname L a r.owner && is_strictly_below m r.owner)
-            (λ r t. let q = and_parts (occludes config.occlude_below_dname L a r.owner) (is_strictly_below x r.owner) t in and_from (occludes config.occlude_below_dname L a r.owner) (is_strictly_below m r.owner) q.0 (strictly_down x m r.owner down q.1)) L e))
+        | inl e ↦ absurd (false≢true (sym high ∙ any_weaker (λ r. occludes config.occlude_below_dname L a r.owner
+            && is_strictly_below x r.owner) (λ r. occludes config.occlude_below_dname L a r.owner
+            && is_strictly_below m r.owner)
+            (λ r t. let q = and_parts (occludes config.occlude_below_dname L a r.owner)
+            (is_strictly_below x r.owner) t in and_from (occludes config.occlude_below_dname L a r.owner)
+            (is_strictly_below m r.owner) q.0 (strictly_down x m r.owner down q.1)) L e))
         | inr e ↦ e
       ] in
       let no_cut : is_zone_cut L a x ≡ false = elim (cases_Bool (is_zone_cut L a x)) [
         | inl e ↦ absurd (false≢true (sym high ∙ below_occluder config.occlude_below_dname L a x m (cut_occludes x e) s))
         | inr e ↦ e
       ] in
-      let at : Name → Bool = λ k. not (excludes config && ((lowered_below k (lowered a) && not (same_lowered k (lowered a)) && has_type (filter (λ r. same_lowered (lowered r.owner) k) L) ns) && not (has_type (filter (λ r. same_lowered (lowered r.owner) k) L) ds))) && same_lowered k (lowered x) in
+      let at : Name → Bool = λ k. not (excludes config && ((lowered_below k (lowered a) && not (same_lowered k (lowered a))
+      && has_type (filter (λ r. same_lowered (lowered r.owner) k) L) ns)
+      && not (has_type (filter (λ r. same_lowered (lowered r.owner) k) L) ds))) && same_lowered k (lowered x) in
       any_filter (λ n. same_name n x) (λ n. not (is_excluded L a config n)) (unoccluded_owners config.occlude_below_dname L a)
       ∙ any_owner config.occlude_below_dname L a x at o (λ i. low i && not (x_high i))
-      (and_from (not (is_excluded L a config x)) (same_name x x) (ap not ((λ i. excludes config && (no_cut i && not (has_type (records_of L x) ds))) ∙ none (excludes config))) (same_itself x x refl))
+      (and_from (not (is_excluded L a config x)) (same_name x x)
+      (ap not ((λ i. excludes config && (no_cut i && not (has_type (records_of L x) ds))) ∙ none (excludes config)))
+      (same_itself x x refl))
     where
       none : (b : Bool) → (b && false) ≡ false
       none true = refl
@@ -77,14 +94,17 @@ module _ (L : List ZoneRecord) (a : Name) (config : ChainConfig) where
           let ks = original_owners L a config in
           let m = any_in (λ n. is_at_or_below n x) ks (and_parts (is_at_or_below x a) (list_any (λ n. is_at_or_below n x) ks) h).1 in
           elim (cases_Bool (same_name m.0 x)) [
-            | inl e ↦ or_left (list_any (λ n. same_name n x) ks) (is_at_or_below x a && not (owns L x) && list_any (λ n. is_strictly_below n x) ks) (in_any (λ n. same_name n x) ks m.0 m.1 e)
+            | inl e ↦ or_left (list_any (λ n. same_name n x) ks) (is_at_or_below x a && not (owns L x)
+                && list_any (λ n. is_strictly_below n x) ks) (in_any (λ n. same_name n x) ks m.0 m.1 e)
             | inr e ↦
                 let s = and_from (is_at_or_below m.0 x) (not (same_name m.0 x)) m.2 (ap not e) in
                 elim (cases_Bool (owns L x)) [
                   | inl o ↦ or_left (list_any (λ n. same_name n x) ks) (is_at_or_below x a && not (owns L x) && list_any (λ n. is_strictly_below n x) ks)
                       (owner_above x m.0 low o (in_any (λ n. same_name n m.0) ks m.0 m.1 (same_itself m.0 m.0 refl)) s)
                   | inr o ↦ or_right (list_any (λ n. same_name n x) ks) (is_at_or_below x a && not (owns L x) && list_any (λ n. is_strictly_below n x) ks)
-                      (and_from (is_at_or_below x a && not (owns L x)) (list_any (λ n. is_strictly_below n x) ks) (and_from (is_at_or_below x a) (not (owns L x)) low (ap not o)) (in_any (λ n. is_strictly_below n x) ks m.0 m.1 s))
+                      (and_from (is_at_or_below x a && not (owns L x)) (list_any (λ n. is_strictly_below n x) ks)
+                      (and_from (is_at_or_below x a) (not (owns L x)) low (ap not o))
+                      (in_any (λ n. is_strictly_below n x) ks m.0 m.1 s))
                 ]
           ]
 
@@ -93,11 +113,15 @@ module _ (L : List ZoneRecord) (a : Name) (config : ChainConfig) where
           let ks = original_owners L a config in
           and_from (is_at_or_below x a) (list_any (λ n. is_at_or_below n x) ks) low
           (elim (or_cases (list_any (λ n. same_name n x) ks) (is_at_or_below x a && not (owns L x) && list_any (λ n. is_strictly_below n x) ks) h) [
-            | inl e ↦ any_weaker (λ n. same_name n x) (λ n. is_at_or_below n x) (λ n t. ap (λ k. lowered_below k (lowered x)) (one_lowered n x t) ∙ below_itself x) ks e
-            | inr e ↦ any_weaker (λ n. is_strictly_below n x) (λ n. is_at_or_below n x) (λ n t. (and_parts (is_at_or_below n x) (not (same_name n x)) t).0) ks (and_parts (is_at_or_below x a && not (owns L x)) (list_any (λ n. is_strictly_below n x) ks) e).1
+            | inl e ↦ any_weaker (λ n. same_name n x) (λ n. is_at_or_below n x)
+                (λ n t. ap (λ k. lowered_below k (lowered x)) (one_lowered n x t) ∙ below_itself x) ks e
+            | inr e ↦ any_weaker (λ n. is_strictly_below n x) (λ n. is_at_or_below n x)
+                (λ n t. (and_parts (is_at_or_below n x) (not (same_name n x)) t).0) ks
+                (and_parts (is_at_or_below x a && not (owns L x)) (list_any (λ n. is_strictly_below n x) ks) e).1
           ])
 
-  pub runs_to_encloser : (x e d : Name) → IsClosestEncloser (original_owners L a config) a x e → is_at_or_below x d ≡ true → is_at_or_below d a ≡ true → is_chain_name L a config d ≡ is_at_or_below e d
+  pub runs_to_encloser : (x e d : Name) → IsClosestEncloser (original_owners L a config) a x e → is_at_or_below x d ≡ true
+      → is_at_or_below d a ≡ true → is_chain_name L a config d ≡ is_at_or_below e d
   runs_to_encloser x e d c p q =
       sym (existing_are d q)
       ∙ either_way (exists_over (original_owners L a config) a d) (is_at_or_below e d)
@@ -108,19 +132,24 @@ module _ (L : List ZoneRecord) (a : Name) (config : ChainConfig) where
 
   below_none : (c m : Name) → is_zone_cut L a c ≡ true → In m (original_owners L a config) → is_strictly_below m c ≡ true → ⊥
   below_none c m cut i s =
-      false≢true (sym (owner_unoccluded m (in_any (λ n. same_name n m) (original_owners L a config) m i (same_itself m m refl))) ∙ below_occluder config.occlude_below_dname L a c m (cut_occludes c cut) s)
+      false≢true (sym (owner_unoccluded m (in_any (λ n. same_name n m) (original_owners L a config) m i (same_itself m m refl)))
+      ∙ below_occluder config.occlude_below_dname L a c m (cut_occludes c cut) s)
 
-  encloses : (c x : Name) → is_zone_cut L a c ≡ true → is_original_owner L a config c ≡ true → is_strictly_below x c ≡ true → IsClosestEncloser (original_owners L a config) a x c
+  encloses : (c x : Name) → is_zone_cut L a c ≡ true → is_original_owner L a config c ≡ true → is_strictly_below x c ≡ true
+      → IsClosestEncloser (original_owners L a config) a x c
   encloses c x cut k s =
       let down = (and_parts (is_at_or_below x c) (not (same_name x c)) s).0 in
       let low = (and_parts (is_at_or_below c a) (not (same_name c a)) (and_parts (is_strictly_below c a) (has_type (records_of L c) ns) cut).0).0 in
       record {
         found = and_from (is_at_or_below c a) (list_any (λ n. is_at_or_below n c) (original_owners L a config)) low
-            (any_weaker (λ n. same_name n c) (λ n. is_at_or_below n c) (λ n t. ap (λ q. lowered_below q (lowered c)) (one_lowered n c t) ∙ below_itself c) (original_owners L a config) k);
+            (any_weaker (λ n. same_name n c) (λ n. is_at_or_below n c)
+            (λ n t. ap (λ q. lowered_below q (lowered c)) (one_lowered n c t) ∙ below_itself c)
+            (original_owners L a config) k);
         above = down;
         longest = λ d h p. elim (cases_lt (length c) (length d)) [
           | inl l ↦
-              let m = any_in (λ n. is_at_or_below n d) (original_owners L a config) (and_parts (is_at_or_below d a) (list_any (λ n. is_at_or_below n d) (original_owners L a config)) h).1 in
+              let m = any_in (λ n. is_at_or_below n d) (original_owners L a config)
+              (and_parts (is_at_or_below d a) (list_any (λ n. is_at_or_below n d) (original_owners L a config)) h).1 in
               let under = below_longer x d c p down (omega arith) in
               let apart : same_name d c ≡ false = elim (cases_Bool (same_name d c)) [
                 | inl e ↦ let q = below_length c d (sym (ap (λ q. lowered_below q (lowered d)) (one_lowered d c e)) ∙ below_itself d) in absurd (omega arith)
@@ -134,15 +163,19 @@ module _ (L : List ZoneRecord) (a : Name) (config : ChainConfig) where
   pub cut_encloses : CutsEnclose L a config
   cut_encloses = record { each = encloses }
 
-  pub cut_is_out : (c : Name) → is_zone_cut L a c ≡ true → list_any (λ n. same_name n c) (original_owners L a config) ≡ false → is_chain_name L a config c ≡ false
+  pub cut_is_out : (c : Name) → is_zone_cut L a c ≡ true → list_any (λ n. same_name n c) (original_owners L a config) ≡ false
+      → is_chain_name L a config c ≡ false
   cut_is_out c cut k =
       elim (cases_Bool (is_chain_name L a config c)) [
-        | inl e ↦ elim (or_cases (list_any (λ n. same_name n c) (original_owners L a config)) (is_at_or_below c a && not (owns L c) && list_any (λ n. is_strictly_below n c) (original_owners L a config)) e) [
-          | inl f ↦ absurd (true≢false (sym f ∙ k))
-          | inr f ↦
-              let m = any_in (λ n. is_strictly_below n c) (original_owners L a config) (and_parts (is_at_or_below c a && not (owns L c)) (list_any (λ n. is_strictly_below n c) (original_owners L a config)) f).1 in
-              absurd (below_none c m.0 cut m.1 m.2)
-        ]
+        | inl e ↦ elim (or_cases (list_any (λ n. same_name n c) (original_owners L a config)) (is_at_or_below c a
+            && not (owns L c) && list_any (λ n. is_strictly_below n c) (original_owners L a config)) e) [
+              | inl f ↦ absurd (true≢false (sym f ∙ k))
+              | inr f ↦
+                  let m = any_in (λ n. is_strictly_below n c) (original_owners L a config)
+                  (and_parts (is_at_or_below c a && not (owns L c))
+                  (list_any (λ n. is_strictly_below n c) (original_owners L a config)) f).1 in
+                  absurd (below_none c m.0 cut m.1 m.2)
+            ]
         | inr e ↦ e
       ]
 
@@ -152,7 +185,8 @@ module _ (L : List ZoneRecord) (a : Name) (config : ChainConfig) where
       let ks = original_owners L a config in
       either_way (is_empty_nonterminal (original_owners L a config) a x) (is_empty L a config x)
       (λ e.
-      let p = and_parts (is_at_or_below x a && not (list_any (λ n. same_name n x) (original_owners L a config))) (list_any (λ n. is_strictly_below n x) (original_owners L a config)) e in
+      let p = and_parts (is_at_or_below x a && not (list_any (λ n. same_name n x) (original_owners L a config)))
+      (list_any (λ n. is_strictly_below n x) (original_owners L a config)) e in
       let q = and_parts (is_at_or_below x a) (not (list_any (λ n. same_name n x) (original_owners L a config))) p.0 in
       let none : owns L x ≡ false = elim (cases_Bool (owns L x)) [
         | inl o ↦
@@ -161,20 +195,32 @@ module _ (L : List ZoneRecord) (a : Name) (config : ChainConfig) where
             ∙ owner_above x m.0 q.0 o (in_any (λ n. same_name n m.0) (original_owners L a config) m.0 m.1 (same_itself m.0 m.0 refl)) m.2))
         | inr o ↦ o
       ] in
-      and_from (is_at_or_below x a && not (owns L x)) (list_any (λ n. is_strictly_below n x) (original_owners L a config)) (and_from (is_at_or_below x a) (not (owns L x)) q.0 (ap not none)) p.1)
+      and_from (is_at_or_below x a && not (owns L x)) (list_any (λ n. is_strictly_below n x) (original_owners L a config))
+      (and_from (is_at_or_below x a) (not (owns L x)) q.0 (ap not none)) p.1)
       (λ e.
       let p = and_parts (is_at_or_below x a && not (owns L x)) (list_any (λ n. is_strictly_below n x) (original_owners L a config)) e in
       let q = and_parts (is_at_or_below x a) (not (owns L x)) p.0 in
-      let none : list_any (λ n. same_name n x) (original_owners L a config) ≡ false = elim (cases_Bool (list_any (λ n. same_name n x) (original_owners L a config))) [
+      let none : list_any (λ n. same_name n x) (original_owners L a config)
+      ≡ false = elim (cases_Bool (list_any (λ n. same_name n x) (original_owners L a config))) [
         | inl t ↦
-            let k = any_in (λ n. not (is_excluded L a config n) && same_name n x) (unoccluded_owners config.occlude_below_dname L a) (sym (any_filter (λ n. same_name n x) (λ n. not (is_excluded L a config n)) (unoccluded_owners config.occlude_below_dname L a)) ∙ t) in
-            let own = (all_in (λ n. (owns L n ≡ true) × (is_unoccluded config.occlude_below_dname L a n ≡ true)) (unoccluded_owners config.occlude_below_dname L a) k.0 (owners_are config.occlude_below_dname L a) k.1).0 in
+            let k = any_in (λ n. not (is_excluded L a config n) && same_name n x)
+            (unoccluded_owners config.occlude_below_dname L a)
+            (sym (any_filter (λ n. same_name n x) (λ n. not (is_excluded L a config n))
+            (unoccluded_owners config.occlude_below_dname L a)) ∙ t) in
+            let own = (all_in (λ n. (owns L n ≡ true) × (is_unoccluded config.occlude_below_dname L a n ≡ true))
+            (unoccluded_owners config.occlude_below_dname L a) k.0 (owners_are config.occlude_below_dname L a) k.1).0 in
             let s = one_lowered k.0 x (and_parts (not (is_excluded L a config k.0)) (same_name k.0 x) k.2).1 in
             absurd (false≢true (sym (not-true (owns L x) q.1) ∙ ap (λ j. list_any (λ r. same_lowered (lowered r.owner) j) L) (sym s) ∙ own))
         | inr t ↦ t
       ] in
-      and_from (is_at_or_below x a && not (list_any (λ n. same_name n x) (original_owners L a config))) (list_any (λ n. is_strictly_below n x) (original_owners L a config)) (and_from (is_at_or_below x a) (not (list_any (λ n. same_name n x) (original_owners L a config))) q.0 (ap not none)) p.1)
+      and_from (is_at_or_below x a && not (list_any (λ n. same_name n x) (original_owners L a config)))
+      (list_any (λ n. is_strictly_below n x) (original_owners L a config))
+      (and_from (is_at_or_below x a) (not (list_any (λ n. same_name n x) (original_owners L a config))) q.0 (ap not none))
+      p.1)
 
   -- the owners and the empty non-terminals over them are the names of the chain
-  pub names_are : (empty : List Name) → ((x : Name) → list_any (λ n. same_name n x) empty ≡ is_empty_nonterminal (original_owners L a config) a x) → (x : Name) → list_any (λ n. same_name n x) (original_owners L a config ++ empty) ≡ is_chain_name L a config x
-  names_are empty h x = list_any-append (λ n. same_name n x) (original_owners L a config) empty ∙ ap (λ b. list_any (λ n. same_name n x) (original_owners L a config) || b) (h x ∙ empty_are x)
+  pub names_are : (empty : List Name) → ((x : Name) → list_any (λ n. same_name n x) empty
+      ≡ is_empty_nonterminal (original_owners L a config) a x) → (x : Name)
+      → list_any (λ n. same_name n x) (original_owners L a config ++ empty) ≡ is_chain_name L a config x
+  names_are empty h x = list_any-append (λ n. same_name n x) (original_owners L a config) empty
+      ∙ ap (λ b. list_any (λ n. same_name n x) (original_owners L a config) || b) (h x ∙ empty_are x)

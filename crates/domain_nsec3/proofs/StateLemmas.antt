@@ -33,23 +33,33 @@ pub record IsAt (L : List ZoneRecord) (a : Name) (config : ChainConfig) (left : 
   pub bits : All (λ n. n.bits ≡ bitmap_octets (nsec3_lists L a config n.name)) entries
 
 -- which of the owners stay
-names_stay : (config : ChainConfig) (L : List ZoneRecord) (a : Name) (ks : List Name) → map name_of (filter (stays config) (map (owner_at L a) ks)) ≡ filter (λ n. not (is_excluded L a config n)) ks
+names_stay : (config : ChainConfig) (L : List ZoneRecord) (a : Name) (ks : List Name)
+    → map name_of (filter (stays config) (map (owner_at L a) ks)) ≡ filter (λ n. not (is_excluded L a config n)) ks
 names_stay config L a [] = refl
 names_stay config L a (k ∷ ks) =
-    elim (is_excluded L a config k) as (λ b. map name_of (cond (not b) (owner_at L a k ∷ filter (stays config) (map (owner_at L a) ks)) (filter (stays config) (map (owner_at L a) ks))) ≡ cond (not b) (k ∷ filter (λ n. not (is_excluded L a config n)) ks) (filter (λ n. not (is_excluded L a config n)) ks)) [
+    elim (is_excluded L a config k) as (λ b. map name_of (cond (not b)
+    (owner_at L a k ∷ filter (stays config) (map (owner_at L a) ks)) (filter (stays config) (map (owner_at L a) ks)))
+    ≡ cond (not b) (k ∷ filter (λ n. not (is_excluded L a config n)) ks) (filter (λ n. not (is_excluded L a config n)) ks)) [
       | true ↦ names_stay config L a ks
       | false ↦ ap (λ t. k ∷ t) (names_stay config L a ks)
     ]
 
-clashes_stay : (config : ChainConfig) (L : List ZoneRecord) (a : Name) (ks : List Name) → list_any clashes_in (filter (stays config) (map (owner_at L a) ks)) ≡ has_unequal_ttls L (filter (λ n. not (is_excluded L a config n)) ks)
+clashes_stay : (config : ChainConfig) (L : List ZoneRecord) (a : Name) (ks : List Name)
+    → list_any clashes_in (filter (stays config) (map (owner_at L a) ks))
+    ≡ has_unequal_ttls L (filter (λ n. not (is_excluded L a config n)) ks)
 clashes_stay config L a [] = refl
 clashes_stay config L a (k ∷ ks) =
-    elim (is_excluded L a config k) as (λ b. list_any clashes_in (cond (not b) (owner_at L a k ∷ filter (stays config) (map (owner_at L a) ks)) (filter (stays config) (map (owner_at L a) ks))) ≡ has_unequal_ttls L (cond (not b) (k ∷ filter (λ n. not (is_excluded L a config n)) ks) (filter (λ n. not (is_excluded L a config n)) ks))) [
+    elim (is_excluded L a config k) as (λ b. list_any clashes_in
+    (cond (not b) (owner_at L a k ∷ filter (stays config) (map (owner_at L a) ks))
+    (filter (stays config) (map (owner_at L a) ks))) ≡ has_unequal_ttls L
+    (cond (not b) (k ∷ filter (λ n. not (is_excluded L a config n)) ks) (filter (λ n. not (is_excluded L a config n)) ks))) [
       | true ↦ clashes_stay config L a ks
       | false ↦ ap (λ t. has_clash (records_of L k) || t) (clashes_stay config L a ks)
     ]
 
-all_own : (d : Bool) (L : List ZoneRecord) (a : Name) (ks : List Name) → AllByRecursion (λ n. (owns L n ≡ true) × (is_unoccluded d L a n ≡ true)) ks → AllByRecursion (λ o. owns L o.name ≡ true) (map (owner_at L a) ks)
+all_own : (d : Bool) (L : List ZoneRecord) (a : Name) (ks : List Name)
+    → AllByRecursion (λ n. (owns L n ≡ true) × (is_unoccluded d L a n ≡ true)) ks
+    → AllByRecursion (λ o. owns L o.name ≡ true) (map (owner_at L a) ks)
 all_own d L a [] h = tt
 all_own d L a (k ∷ ks) h = (h.0.0, all_own d L a ks h.1)
 
@@ -64,7 +74,9 @@ module _ (L : List ZoneRecord) (a : Name) (config : ChainConfig) where
     at_owns : owns L o.name ≡ true
     at_owns =
         (all_front (λ o. owns L o.name ≡ true) s.given (o ∷ left)
-        (subst (AllByRecursion (λ o. owns L o.name ≡ true)) (sym s.all) (all_own config.occlude_below_dname L a (unoccluded_owners config.occlude_below_dname L a) (owners_are config.occlude_below_dname L a)))).1.0
+        (subst (AllByRecursion (λ o. owns L o.name ≡ true)) (sym s.all)
+        (all_own config.occlude_below_dname L a (unoccluded_owners config.occlude_below_dname L a)
+        (owners_are config.occlude_below_dname L a)))).1.0
 
     one_more : (b : Bool) → stays config o ≡ b → filter (stays config) (s.given ++ o ∷ []) ≡ filter (stays config) s.given ++ cond b (o ∷ []) []
     one_more b e = filter-append (stays config) s.given (o ∷ []) ∙ (λ i. filter (stays config) s.given ++ cond (e i) (o ∷ []) [])
@@ -72,7 +84,8 @@ module _ (L : List ZoneRecord) (a : Name) (config : ChainConfig) where
     -- one that is left out
     pub at_excluded : stays config o ≡ false → IsAt L a config left entries
     at_excluded out =
-        let same_list : filter (stays config) (s.given ++ o ∷ []) ≡ filter (stays config) s.given = one_more false out ∙ append-nil (filter (stays config) s.given) in
+        let same_list : filter (stays config) (s.given ++ o ∷ []) ≡ filter (stays config) s.given = one_more false out
+        ∙ append-nil (filter (stays config) s.given) in
         record {
           given = s.given ++ o ∷ [];
           all = append_assoc s.given (o ∷ []) left ∙ s.all;
@@ -83,14 +96,18 @@ module _ (L : List ZoneRecord) (a : Name) (config : ChainConfig) where
 
     -- one that stays
     pub at_owner : (bits : List ℕ) (entries' : List Entry) → stays config o ≡ true → has_clash o.records ≡ false
-        → bits ≡ bitmap_octets (is_listed (o.is_zone_cut && not (has_type o.records ds)) (same_name o.name a) (config.assume_dnskeys_will_be_added && same_name o.name a) o.is_zone_cut o.records)
+        → bits ≡ bitmap_octets (is_listed (o.is_zone_cut && not (has_type o.records ds)) (same_name o.name a)
+        (config.assume_dnskeys_will_be_added && same_name o.name a) o.is_zone_cut o.records)
         → entries' ≡ entries ++ record { name = o.name; bits = bits } ∷ [] → IsAt L a config left entries'
     at_owner bits entries' kept even b is =
         let more = one_more true kept in
         let listed : bits ≡ bitmap_octets (nsec3_lists L a config o.name) =
-        b ∙ ap (λ p. bitmap_octets (is_listed (p.is_zone_cut && not (has_type p.records ds)) (same_name o.name a) (config.assume_dnskeys_will_be_added && same_name o.name a) p.is_zone_cut p.records)) at_known
-        ∙ bitmap_octets-same (is_listed (is_unsigned_cut L a o.name) (same_name o.name a) (config.assume_dnskeys_will_be_added && same_name o.name a) (is_zone_cut L a o.name) (records_of L o.name)) (nsec3_lists L a config o.name)
-        (λ t k. sym (λ i. at_owns i && is_listed (is_unsigned_cut L a o.name) (same_name o.name a) (config.assume_dnskeys_will_be_added && same_name o.name a) (is_zone_cut L a o.name) (records_of L o.name) t)) in
+        b ∙ ap (λ p. bitmap_octets (is_listed (p.is_zone_cut && not (has_type p.records ds)) (same_name o.name a)
+        (config.assume_dnskeys_will_be_added && same_name o.name a) p.is_zone_cut p.records)) at_known
+        ∙ bitmap_octets-same (is_listed (is_unsigned_cut L a o.name) (same_name o.name a) (config.assume_dnskeys_will_be_added
+        && same_name o.name a) (is_zone_cut L a o.name) (records_of L o.name)) (nsec3_lists L a config o.name)
+        (λ t k. sym (λ i. at_owns i && is_listed (is_unsigned_cut L a o.name) (same_name o.name a)
+        (config.assume_dnskeys_will_be_added && same_name o.name a) (is_zone_cut L a o.name) (records_of L o.name) t)) in
         record {
           given = s.given ++ o ∷ [];
           all = append_assoc s.given (o ∷ []) left ∙ s.all;
@@ -107,15 +124,18 @@ module _ (L : List ZoneRecord) (a : Name) (config : ChainConfig) where
         ∙ ap (list_any clashes_in) (filter-append (stays config) s.given (o ∷ left))
         ∙ list_any-append clashes_in (filter (stays config) s.given) (filter (stays config) (o ∷ left))
         ∙ or_right (list_any clashes_in (filter (stays config) s.given)) (list_any clashes_in (filter (stays config) (o ∷ left)))
-        ((λ i. list_any clashes_in (cond (kept i) (o ∷ filter (stays config) left) (filter (stays config) left))) ∙ (λ i. h i || list_any clashes_in (filter (stays config) left)))
+        ((λ i. list_any clashes_in (cond (kept i) (o ∷ filter (stays config) left) (filter (stays config) left)))
+        ∙ (λ i. h i || list_any clashes_in (filter (stays config) left)))
 
   -- with nothing left
   pub at_end : (entries : List Entry) → IsAt L a config [] entries → AreOriginalOwners L a config entries
   at_end entries s = record {
-    names = s.names ∙ ap (λ l. map name_of (filter (stays config) l)) (sym (append-nil s.given) ∙ s.all) ∙ names_stay config L a (unoccluded_owners config.occlude_below_dname L a);
+    names = s.names ∙ ap (λ l. map name_of (filter (stays config) l)) (sym (append-nil s.given) ∙ s.all)
+        ∙ names_stay config L a (unoccluded_owners config.occlude_below_dname L a);
     bits = s.bits;
   }
 
   pub even_end : (entries : List Entry) → IsAt L a config [] entries → has_unequal_ttls L (original_owners L a config) ≡ false
   even_end entries s =
-      sym (clashes_stay config L a (unoccluded_owners config.occlude_below_dname L a)) ∙ ap (λ l. list_any clashes_in (filter (stays config) l)) (sym s.all ∙ append-nil s.given) ∙ s.even
+      sym (clashes_stay config L a (unoccluded_owners config.occlude_below_dname L a))
+      ∙ ap (λ l. list_any clashes_in (filter (stays config) l)) (sym s.all ∙ append-nil s.given) ∙ s.even

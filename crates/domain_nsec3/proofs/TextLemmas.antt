@@ -1,5 +1,6 @@
 -- The text of a hash as a label.
-use Rattle.std.proofs.Common.{◌≡◌, ℕ, ◌+◌, ◌*◌, ◌/◌, ◌%◌, ◌<◌, ◌≤◌, List, [], ◌∷◌, ◌++◌, map, length, refl, inl, inr, sym, ap, ◌∙◌, subst, arith, length-append, get_or, set, take, Fits, w8, zero, suc, append_assoc}
+use Rattle.std.proofs.Common.{◌≡◌, ℕ, ◌+◌, ◌*◌, ◌/◌, ◌%◌, ◌<◌, ◌≤◌, List, [], ◌∷◌, ◌++◌, map, length, refl, inl}
+use Rattle.std.proofs.Common.{inr, sym, ap, ◌∙◌, subst, arith, length-append, get_or, set, take, Fits, w8, zero, suc, append_assoc}
 use Rattle.std.specs.Prelude.{All, Some, None, Ok, nat_lt, ◌==◌, ◌||◌, true, false, if◌then◌else◌}
 use Rattle.std.specs.Char.{to_ascii_lowercase}
 use Rattle.std.specs.List.{AllByRecursion}
@@ -116,7 +117,8 @@ digits_small [] all = tt
 digits_small (d ∷ ds) all = (digit_small d all.0, digits_small ds all.1)
 
 pub text_octets : (h : List ℕ) → All (λ o. o < 256) h → All (λ o. o < 256) (base32_lower h)
-text_octets h all = All-from_recursion (λ o. o < 256) (base32_lower h) (digits_small (base32_from 1 0 h) (small_1 0 h (omega arith) (recursion_from_All (λ o. o < 256) h all)))
+text_octets h all = All-from_recursion (λ o. o < 256) (base32_lower h)
+    (digits_small (base32_from 1 0 h) (small_1 0 h (omega arith) (recursion_from_All (λ o. o < 256) h all)))
 
 pub lower_text : (h : List ℕ) → All (λ o. o < 256) h → map to_ascii_lowercase (base32_lower h) ≡ base32_lower h
 lower_text h all = digits_lower (base32_from 1 0 h) (small_1 0 h (omega arith) (recursion_from_All (λ o. o < 256) h all))
@@ -166,7 +168,8 @@ owner_below (l ∷ ls) h all some =
 
 -- ---- when a hash is of use
 
-pub owner_length : (a : Name) (h above : List ℕ) → IsWire above → labels_of above ≡ a → length (wire_of (hashed_owner a h)) ≡ (8 * length h + 4) / 5 + 1 + length above
+pub owner_length : (a : Name) (h above : List ℕ) → IsWire above → labels_of above ≡ a
+    → length (wire_of (hashed_owner a h)) ≡ (8 * length h + 4) / 5 + 1 + length above
 owner_length a h above w l =
     let same : wire_of a ≡ above = ap wire_of (sym l) ∙ wire_is above w in
     omega (arith, length-append (base32_lower h) (wire_of a), ap length same, text_length h)
@@ -182,18 +185,23 @@ more_than_none n h = grind (arith, nat_tests)
 
 module _ (a : Name) (h : List ℕ) where
   pub fault_none : length h ≡ 0 → hash_fault a (Ok h) ≡ Some OwnerHashError
-  fault_none e = λ i. if is_none (length h) e i || nat_lt 39 (length h) then Some OwnerHashError else if nat_lt 255 (length (wire_of (hashed_owner a h))) then Some Nsec3NameTooLong else None
+  fault_none e = λ i. if is_none (length h) e i || nat_lt 39 (length h) then Some OwnerHashError else if nat_lt 255
+      (length (wire_of (hashed_owner a h))) then Some Nsec3NameTooLong else None
 
   pub fault_long : 39 < length h → hash_fault a (Ok h) ≡ Some OwnerHashError
-  fault_long l = ap (λ b. if b then Some OwnerHashError else if nat_lt 255 (length (wire_of (hashed_owner a h))) then Some Nsec3NameTooLong else None) (or_right (length h == 0) (nat_lt 39 (length h)) (less 39 (length h) l))
+  fault_long l = ap (λ b. if b then Some OwnerHashError else if nat_lt 255
+      (length (wire_of (hashed_owner a h))) then Some Nsec3NameTooLong else None)
+      (or_right (length h == 0) (nat_lt 39 (length h)) (less 39 (length h) l))
 
   pub fault_name : 0 < length h → length h ≤ 39 → 255 < length (wire_of (hashed_owner a h)) → hash_fault a (Ok h) ≡ Some Nsec3NameTooLong
   fault_name some short long =
-      λ i. if is_some (length h) some i || not_less 39 (length h) short i then Some OwnerHashError else if less 255 (length (wire_of (hashed_owner a h))) long i then Some Nsec3NameTooLong else None
+      λ i. if is_some (length h) some i || not_less 39 (length h) short i then Some OwnerHashError else if less 255
+      (length (wire_of (hashed_owner a h))) long i then Some Nsec3NameTooLong else None
 
   pub fault_free : 0 < length h → length h ≤ 39 → length (wire_of (hashed_owner a h)) ≤ 255 → hash_fault a (Ok h) ≡ None
   fault_free some short fits =
-      λ i. if is_some (length h) some i || not_less 39 (length h) short i then Some OwnerHashError else if not_less 255 (length (wire_of (hashed_owner a h))) fits i then Some Nsec3NameTooLong else None
+      λ i. if is_some (length h) some i || not_less 39 (length h) short i then Some OwnerHashError else if not_less 255
+      (length (wire_of (hashed_owner a h))) fits i then Some Nsec3NameTooLong else None
 
   pub sound_some : hash_fault a (Ok h) ≡ None → 0 < length h
   sound_some e = elim (cases_lt 0 (length h)) [
@@ -224,7 +232,8 @@ first_set [] n h = absurd (omega arith)
 first_set (x ∷ xs) n h = refl
 
 -- there is room for the owner of a hash of use
-pub owner_room : (a : Name) (hash label above : List ℕ) → IsWire above → labels_of above ≡ a → hash_fault a (Ok hash) ≡ None → label ≡ base32_lower hash → (0 < length label) × (length label ≤ 63) × (length label + 1 + length above ≤ 255)
+pub owner_room : (a : Name) (hash label above : List ℕ) → IsWire above → labels_of above ≡ a → hash_fault a (Ok hash) ≡ None
+    → label ≡ base32_lower hash → (0 < length label) × (length label ≤ 63) × (length label + 1 + length above ≤ 255)
 owner_room a hash label above w l sound is =
     let some = sound_some a hash sound in
     let short = sound_short a hash sound in
@@ -237,13 +246,16 @@ pub record IsOwnerWire (a : Name) (hash wire : List ℕ) : Type 0 where
   pub is_wire : IsWire wire
   pub labels : labels_of wire ≡ hashed_owner a hash
 
-pub owner_made : (a : Name) (hash label above wire : List ℕ) → IsWire above → labels_of above ≡ a → hash_fault a (Ok hash) ≡ None → ((i : ℕ) → Fits w8 (get_or hash i 0)) → label ≡ base32_lower hash → wire ≡ length label ∷ (label ++ above) → IsOwnerWire a hash wire
+pub owner_made : (a : Name) (hash label above wire : List ℕ) → IsWire above → labels_of above ≡ a → hash_fault a (Ok hash) ≡ None
+    → ((i : ℕ) → Fits w8 (get_or hash i 0)) → label ≡ base32_lower hash → wire ≡ length label ∷ (label ++ above)
+    → IsOwnerWire a hash wire
 owner_made a hash label above wire w l sound octets is made =
     let some = sound_some a hash sound in
     let short = sound_short a hash sound in
     let digits = text_length hash in
     let long : wire_of (labels_of above) ≡ above = wire_is above w in
-    let fits : length (wire_of (base32_lower hash ∷ labels_of above)) ≤ 255 = subst (λ (x : Name). length (wire_of (base32_lower hash ∷ x)) ≤ 255) (sym l) (sound_fits a hash sound) in
+    let fits : length (wire_of (base32_lower hash ∷ labels_of above)) ≤ 255 =
+    subst (λ (x : Name). length (wire_of (base32_lower hash ∷ x)) ≤ 255) (sym l) (sound_fits a hash sound) in
     let valid : IsName (base32_lower hash ∷ labels_of above) = record {
       of_labels = (record { not_empty = omega arith; fits = omega arith; octets = text_octets hash (octets_below hash octets) }, w.valid.of_labels);
       fits = fits;

@@ -31,11 +31,14 @@ common_listed unsigned apex assumed cut signed v0 v1 v2 v3 e s f g h t b =
     by false false false = refl
 
 -- the common types, and then those of the records
-pub listed_octets : (unsigned apex assumed cut : Bool) (G : List ZoneRecord) (old new : List ℕ) → ((t : ℕ) → t < 65536 → holds old t ≡ is_listed unsigned apex assumed cut [] t)
-    → ((t : ℕ) → t < 65536 → holds new t ≡ (holds old t || lists_type cut G t)) → bitmap_octets (holds new) ≡ bitmap_octets (is_listed unsigned apex assumed cut G)
+pub listed_octets : (unsigned apex assumed cut : Bool) (G : List ZoneRecord) (old new : List ℕ)
+    → ((t : ℕ) → t < 65536 → holds old t ≡ is_listed unsigned apex assumed cut [] t)
+    → ((t : ℕ) → t < 65536 → holds new t ≡ (holds old t || lists_type cut G t))
+    → bitmap_octets (holds new) ≡ bitmap_octets (is_listed unsigned apex assumed cut G)
 listed_octets unsigned apex assumed cut G old new common more =
     bitmap_octets-same (holds new) (is_listed unsigned apex assumed cut G)
-    (λ t b. more t b ∙ (λ i. common t b i || lists_type cut G t) ∙ merged (((nat_eq t 46 && not unsigned) || (nat_eq t 51 && apex)) || (nat_eq t 48 && assumed)) (lists_type cut G t))
+    (λ t b. more t b ∙ (λ i. common t b i || lists_type cut G t)
+    ∙ merged (((nat_eq t 46 && not unsigned) || (nat_eq t 51 && apex)) || (nat_eq t 48 && assumed)) (lists_type cut G t))
   where
     merged : (b c : Bool) → ((b || false) || c) ≡ (b || c)
     merged true c = refl

@@ -2,7 +2,8 @@
 use Rattle.std.specs.Prelude.{Bool, true, false, not, ◌&&◌, ◌||◌, ◌==◌, List, length, nat_lt, Option, Some, None, Ok, Err, ◌≡◌, ◌≢◌, if◌then◌else◌}
 use Rattle.domain_base.specs.Name.{wire_of, same_name}
 use Rattle.domain_records.specs.declared.error.SigningError.{SigningError}
-use Rattle.domain_records.specs.declared.error.SigningError.TheVariants.{EmptyRecordSlice, SoaRecordCouldNotBeDetermined, MultipleTtlValues, Nsec3HashingError, OutOfMemory}
+use Rattle.domain_records.specs.declared.error.SigningError.TheVariants.{EmptyRecordSlice, SoaRecordCouldNotBeDetermined, MultipleTtlValues}
+use Rattle.domain_records.specs.declared.error.SigningError.TheVariants.{Nsec3HashingError, OutOfMemory}
 use Rattle.domain_records.specs.declared.error.Nsec3HashError.{Nsec3HashError}
 use Rattle.domain_records.specs.declared.error.Nsec3HashError.TheVariants as hash_error
 use Rattle.domain_base.specs.Order.{before}

@@ -9,7 +9,8 @@ use Rattle.domain_nsec3.specs.View.{as_hashed_link, parameters_of}
 use Rattle.domain_checker.specs.HashedList.{is_hash_cover, is_hash_match, is_some_with, read_label}
 use Rattle.domain_checker.proofs.FirstLemmas.{found_here, found_later, met_here, met_later, met_before}
 use Rattle.domain_checker.proofs.hashed.find_hash.Goals as goal
-use Rattle.domain_checker.proofs.hashed.find_hash.Goals.{then-is_none+then-is_cover, else-is_none, else-is_none-via-then-is_none+else-is_cover, else-is_none-via-else-is_none}
+use Rattle.domain_checker.proofs.hashed.find_hash.Goals.{then-is_none+then-is_cover, else-is_none}
+use Rattle.domain_checker.proofs.hashed.find_hash.Goals.{else-is_none-via-then-is_none+else-is_cover, else-is_none-via-else-is_none}
 
 pub returns-then-is_match : goal.returns-then-is_match
 returns-then-is_match g c =
@@ -20,7 +21,8 @@ returns-then-is_match g c =
     let matched = is_hash_match (g.A.ToName.labels c.args.apex.now) (parameters_of c.args.param.now) hash in
     let hit : matched (as_hashed_link labels listed) ≡ true =
     ap (is_some_with (λ h. matches octets_before h hash)) (sym c.hash_label-label.ensures) ∙ sym c.is_match.ensures ∙ c.if-is_match.true in
-    let found = c.loop-listed.invariant.matching ∙ found_here matched (as_hashed_link labels) nsec3s c.loop-listed.listed-index listed c.loop-listed-test.true c.listed-item.is hit in
+    let found = c.loop-listed.invariant.matching ∙ found_here matched
+    (as_hashed_link labels) nsec3s c.loop-listed.listed-index listed c.loop-listed-test.true c.listed-item.is hit in
     record {
       matching = sym found;
       covering = λ none. absurd (cc);
@@ -43,23 +45,29 @@ loop-listed-preserved g c =
     let apart : matched (see listed) ≡ false =
     ap (is_some_with (λ h. matches octets_before h hash)) (sym c.hash_label-label.ensures) ∙ sym c.is_match.ensures ∙ c.if-is_match.false in
     let none : is_some c.loop-listed.cover ≡ not c.is_none.result = c.is_none.ensures in
-    let kept : (o : Option _) → o ≡ c.loop-listed.cover → whole ≡ option_or (option_map (λ r. see r.now) c.loop-listed.cover) rest → whole ≡ option_or (option_map (λ r. see r.now) o) rest =
+    let kept : (o : Option _) → o ≡ c.loop-listed.cover → whole ≡ option_or (option_map (λ r. see r.now) c.loop-listed.cover) rest
+    → whole ≡ option_or (option_map (λ r. see r.now) o) rest =
     λ o e so. so ∙ sym (ap (λ q. option_or (option_map (λ r. see r.now) q) rest) e) in
     record {
       matching = c.loop-listed.invariant.matching ∙ found_later matched see nsec3s at listed c.loop-listed-test.true c.listed-item.is apart;
       covering = elim c.if-is_none.branch [
         | then-is_none+then-is_cover w ↦
-            met_here covered see nsec3s at listed c.loop-listed-test.true c.listed-item.is (λ r. see r.now) c.loop-listed.cover whole c.loop-listed.invariant.covering
+            met_here covered see nsec3s at listed c.loop-listed-test.true c.listed-item.is
+            (λ r. see r.now) c.loop-listed.cover whole c.loop-listed.invariant.covering
             (none ∙ ap not w.if-is_none.true) (ap (around listed.«data».next_owner) (sym c.hash_label-label.ensures)
-            ∙ ap (λ next. around next label) (sym (w.as_slice.ensures.octets ∙ w.next_owner.ensures ∙ ap (λ d. d.next_owner) w.data.ensures)) ∙ sym w.is_cover.ensures ∙ w.if-is_cover.true)
+            ∙ ap (λ next. around next label) (sym (w.as_slice.ensures.octets ∙ w.next_owner.ensures
+            ∙ ap (λ d. d.next_owner) w.data.ensures)) ∙ sym w.is_cover.ensures ∙ w.if-is_cover.true)
             ∙ sym (ap (λ q. option_or (option_map (λ r. see r.now) q) rest) w.cover-is)
         | else-is_none w ↦ kept c.if-is_none.cover w.cover-is (elim w.else-is_none.branch [
           | else-is_none-via-then-is_none+else-is_cover u ↦
-              met_later covered see nsec3s at listed c.loop-listed-test.true c.listed-item.is (λ r. see r.now) c.loop-listed.cover whole c.loop-listed.invariant.covering
+              met_later covered see nsec3s at listed c.loop-listed-test.true c.listed-item.is
+              (λ r. see r.now) c.loop-listed.cover whole c.loop-listed.invariant.covering
               (ap (around listed.«data».next_owner) (sym c.hash_label-label.ensures)
-              ∙ ap (λ next. around next label) (sym (u.as_slice.ensures.octets ∙ u.next_owner.ensures ∙ ap (λ d. d.next_owner) u.data.ensures)) ∙ sym u.is_cover.ensures ∙ u.if-is_cover.false)
+              ∙ ap (λ next. around next label) (sym (u.as_slice.ensures.octets ∙ u.next_owner.ensures
+              ∙ ap (λ d. d.next_owner) u.data.ensures)) ∙ sym u.is_cover.ensures ∙ u.if-is_cover.false)
           | else-is_none-via-else-is_none u ↦
-              met_before covered see nsec3s at listed c.loop-listed-test.true c.listed-item.is (λ r. see r.now) c.loop-listed.cover whole c.loop-listed.invariant.covering
+              met_before covered see nsec3s at listed c.loop-listed-test.true c.listed-item.is
+              (λ r. see r.now) c.loop-listed.cover whole c.loop-listed.invariant.covering
               (none ∙ ap not u.if-is_none.false)
         ])
       ];
@@ -81,5 +89,6 @@ returns g c =
     let cover = option_map (λ r. see r.now) c.loop-listed.cover in
     record {
       matching = sym (c.loop-listed.invariant.matching ∙ at_drop_all (λ ys. find matched (map see ys)) nsec3s at c.loop-listed-test.false);
-      covering = λ none. sym (c.loop-listed.invariant.covering ∙ at_drop_all (λ ys. option_or cover (find covered (map see ys))) nsec3s at c.loop-listed-test.false ∙ or_none cover);
+      covering = λ none. sym (c.loop-listed.invariant.covering
+          ∙ at_drop_all (λ ys. option_or cover (find covered (map see ys))) nsec3s at c.loop-listed-test.false ∙ or_none cover);
     }

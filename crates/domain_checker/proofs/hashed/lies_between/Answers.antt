@@ -14,9 +14,14 @@ returns c =
     let after = ap is_lt c.spelled_cmp-order.ensures in
     let ahead : c.is_lt-ahead.result ≡ octets_before hash next = c.is_lt-ahead.ensures ∙ ap is_lt c.cmp.ensures in
     let rises : c.is_lt.result ≡ octets_before owner next = c.is_lt.ensures ∙ ap is_lt c.spelled_cmp.ensures in
-    let between : c.if-is_lt.between ≡ cond (octets_before owner next) (octets_before owner hash && octets_before hash next) (octets_before owner hash || octets_before hash next) =
+    let between : c.if-is_lt.between ≡ cond (octets_before owner next) (octets_before owner hash && octets_before hash next)
+    (octets_before owner hash || octets_before hash next) =
     elim c.if-is_lt.branch [
-      | then-is_lt w ↦ w.between-is ∙ (λ i. (w.is_lt-then-is_lt.ensures ∙ after) i && ahead i) ∙ sym (λ i. cond ((sym rises ∙ w.if-is_lt.true) i) (octets_before owner hash && octets_before hash next) (octets_before owner hash || octets_before hash next))
-      | else-is_lt w ↦ w.between-is ∙ (λ i. (w.is_lt-else-is_lt.ensures ∙ after) i || ahead i) ∙ sym (λ i. cond ((sym rises ∙ w.if-is_lt.false) i) (octets_before owner hash && octets_before hash next) (octets_before owner hash || octets_before hash next))
+      | then-is_lt w ↦ w.between-is ∙ (λ i. (w.is_lt-then-is_lt.ensures ∙ after) i && ahead i)
+          ∙ sym (λ i. cond ((sym rises ∙ w.if-is_lt.true) i) (octets_before owner hash && octets_before hash next)
+          (octets_before owner hash || octets_before hash next))
+      | else-is_lt w ↦ w.between-is ∙ (λ i. (w.is_lt-else-is_lt.ensures ∙ after) i || ahead i)
+          ∙ sym (λ i. cond ((sym rises ∙ w.if-is_lt.false) i) (octets_before owner hash && octets_before hash next)
+          (octets_before owner hash || octets_before hash next))
     ] in
     λ i. not ((c.is_eq.ensures ∙ ap is_eq c.spelled_cmp-order.ensures ∙ sym (tied_is owner hash)) i) && between i

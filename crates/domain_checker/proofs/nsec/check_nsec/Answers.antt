@@ -14,7 +14,8 @@ loop-listed-preserved g c =
     let x = g.M.ToName.labels c.args.name.now in
     let chain = c.args.chain.now in
     let at = c.loop-listed.listed-index in
-    subst (λ links. HasRead a x c.args.rtype links c.add.new.self) (pushed (as_link labels) chain at c.listed-item.result c.loop-listed-test.true c.listed-item.is)
+    subst (λ links. HasRead a x c.args.rtype links c.add.new.self)
+    (pushed (as_link labels) chain at c.listed-item.result c.loop-listed-test.true c.listed-item.is)
     (c.add.ensures a x c.args.rtype (links_of labels (take at chain)) c.loop-listed.invariant)
 
 pub returns : goal.returns
@@ -24,7 +25,8 @@ returns g c =
     let x = g.M.ToName.labels c.args.name.now in
     let chain = c.args.chain.now in
     let all : HasRead a x c.args.rtype (links_of labels chain) c.loop-listed.check =
-    subst (λ rs. HasRead a x c.args.rtype (links_of labels rs) c.loop-listed.check) (take_all c.loop-listed.listed-index chain c.loop-listed-test.false) c.loop-listed.invariant in
+    subst (λ rs. HasRead a x c.args.rtype (links_of labels rs) c.loop-listed.check)
+    (take_all c.loop-listed.listed-index chain c.loop-listed-test.false) c.loop-listed.invariant in
     record {
       zone = c.verdict.ensures.zone a x c.args.rtype (links_of labels chain) all;
       proof = c.verdict.ensures.proof a x c.args.rtype (links_of labels chain) all;

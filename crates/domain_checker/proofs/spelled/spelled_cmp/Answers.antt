@@ -1,7 +1,8 @@
 use Rattle.std.proofs.Common.{◌≡◌, ◌<◌, ◌*◌, ◌+◌, ◌/◌, ◌∙◌, sym}
 use Rattle.std.specs.Ordering.{nat_cmp}
 use Rattle.domain_octets.proofs.CodecLemmas.{digit_at}
-use Rattle.domain_checker.proofs.SpelledLemmas.{nothing_left, ends_alike, ends_before, equal_by, apart_by, compared_first, compared_narrow, compared_wide, compared_none, compared_apart, compared_end}
+use Rattle.domain_checker.proofs.SpelledLemmas.{nothing_left, ends_alike, ends_before, equal_by, apart_by, compared_first}
+use Rattle.domain_checker.proofs.SpelledLemmas.{compared_narrow, compared_wide, compared_none, compared_apart, compared_end}
 use Rattle.domain_checker.proofs.spelled.spelled_cmp.Goals as goal
 use Rattle.domain_checker.proofs.spelled.spelled_cmp.Goals.{then-wider-lt256, else-wider-lt256+in-Some+else-ne}
 
@@ -12,7 +13,8 @@ pub returns-in_default : goal.returns-in_default
 returns-in_default c =
     let digit : c.digit_or_zero.result ≡ digit_at c.args.label.now c.loop-c.c-index = c.digit_or_zero.ensures.value in
     let small : digit_at c.args.label.now c.loop-c.c-index < 32 = rw (← digit) c.digit_or_zero.ensures.small in
-    compared_none c.args.label.now c.args.hash.now c.loop-c.left.now c.loop-c.scale c.loop-c.rest c.loop-c.c-index c.loop-c-test.true small c.loop-c.invariant c.if-wider-lt256.false
+    compared_none c.args.label.now c.args.hash.now c.loop-c.left.now c.loop-c.scale c.loop-c.rest c.loop-c.c-index
+    c.loop-c-test.true small c.loop-c.invariant c.if-wider-lt256.false
     (nothing_left c.loop-c.left.now c.in_default.ensures.cases)
 
 pub returns-then-ne : goal.returns-then-ne
@@ -26,7 +28,8 @@ returns-then-ne c =
     let order : c.cmp-order.result ≡ nat_cmp ((32 * rest + digit_at c.args.label.now at) / (32 * scale / 256)) octet =
     c.cmp-order.ensures ∙ (λ j. nat_cmp ((32 * rest + digit j) / (32 * scale / 256)) (c.from.ensures j)) in
     order
-    ∙ compared_apart c.args.label.now c.args.hash.now c.loop-c.left.now scale rest at c.loop-c-test.true small c.loop-c.invariant octet c.in-Some.after.now c.in-Some.ensures.cases.0 c.if-wider-lt256.false
+    ∙ compared_apart c.args.label.now c.args.hash.now c.loop-c.left.now scale rest at c.loop-c-test.true small c.loop-c.invariant
+    octet c.in-Some.after.now c.in-Some.ensures.cases.0 c.if-wider-lt256.false
     (λ e. apart_by c.cmp-order.result (sym c.ne.ensures ∙ c.if-ne.true) (order ∙ e))
 
 pub loop-c-preserved : goal.loop-c-preserved
@@ -35,7 +38,8 @@ loop-c-preserved c =
       | then-wider-lt256 w ↦
           let digit : c.digit_or_zero.result ≡ digit_at c.args.label.now c.loop-c.c-index = c.digit_or_zero.ensures.value in
           let small : digit_at c.args.label.now c.loop-c.c-index < 32 = rw (← digit) c.digit_or_zero.ensures.small in
-          rw (w.left-is, w.scale-is, w.rest-is, digit) (compared_narrow c.args.label.now c.args.hash.now c.loop-c.left.now c.loop-c.scale c.loop-c.rest c.loop-c.c-index c.loop-c-test.true small c.loop-c.invariant w.if-wider-lt256.true)
+          rw (w.left-is, w.scale-is, w.rest-is, digit) (compared_narrow c.args.label.now c.args.hash.now c.loop-c.left.now
+          c.loop-c.scale c.loop-c.rest c.loop-c.c-index c.loop-c-test.true small c.loop-c.invariant w.if-wider-lt256.true)
       | else-wider-lt256+in-Some+else-ne w ↦
           let at = c.loop-c.c-index in
           let scale = c.loop-c.scale in
@@ -46,7 +50,8 @@ loop-c-preserved c =
           let order : w.cmp-order.result ≡ nat_cmp ((32 * rest + digit_at c.args.label.now at) / (32 * scale / 256)) octet =
           w.cmp-order.ensures ∙ (λ j. nat_cmp ((32 * rest + digit j) / (32 * scale / 256)) (w.from.ensures j)) in
           rw (w.left-is, w.scale-is, w.rest-is, digit)
-          (compared_wide c.args.label.now c.args.hash.now c.loop-c.left.now scale rest at c.loop-c-test.true small c.loop-c.invariant octet w.in-Some.after.now w.in-Some.ensures.cases.0 w.if-wider-lt256.false
+          (compared_wide c.args.label.now c.args.hash.now c.loop-c.left.now scale rest at c.loop-c-test.true small
+          c.loop-c.invariant octet w.in-Some.after.now w.in-Some.ensures.cases.0 w.if-wider-lt256.false
           (sym order ∙ equal_by w.cmp-order.result (sym w.ne.ensures ∙ w.if-ne.false)))
     ]
 

@@ -6,7 +6,8 @@ use Rattle.domain_zone.proofs.NameLemmas.{below_itself}
 use Rattle.domain_nsec3.specs.View.{as_hashed_link}
 use Rattle.domain_checker.specs.HashedPass.{IsLookedUp, found_cover, found_match}
 use Rattle.domain_checker.specs.HashedView.{hash_with, links, parameters}
-use Rattle.domain_checker.proofs.HashedWalkLemmas.{IsMissed, missed_here, none_first, none_left, passed_on, refused_here, told_above, told_here, wire_above, wire_shorter}
+use Rattle.domain_checker.proofs.HashedWalkLemmas.{IsMissed, missed_here, none_first, none_left, passed_on}
+use Rattle.domain_checker.proofs.HashedWalkLemmas.{refused_here, told_above, told_here, wire_above, wire_shorter}
 use Rattle.domain_checker.proofs.walk.walk.Goals as goal
 
 pub returns-in_err-listed-clause-err : goal.returns-in_err-listed-clause-err
@@ -19,7 +20,12 @@ returns-in_err-listed-clause-err g c =
     let q = err_from_is_err_and c.from_residual.result c.from_residual.ensures.1 in
     rw (q.1, q.2) (elim c.in_err-listed.ensures.err [
       | inl full ↦ inl full
-      | inr r ↦ inr (r.0, r.1, refused_here listed a p hash x x (below_itself x) c.requires.below (none_first listed a p hash x) c.args.wire.now c.requires.wire r.0 r.2)
+      | inr r ↦ inr (
+        r.0,
+        r.1,
+        refused_here listed a p hash x x (below_itself x) c.requires.below
+            (none_first listed a p hash x) c.args.wire.now c.requires.wire r.0 r.2,
+      )
     ])
 
 pub returns-in-Match-clause-ok : goal.returns-in-Match-clause-ok
@@ -32,7 +38,8 @@ returns-in-Match-clause-ok g c =
     let hash = hash_with (g.H.Nsec3Hasher.answer c.args.hasher.now) c.args.records.now in
     let wire = c.args.wire.now in
     let looked = subst (λ f. IsLookedUp a p hash listed wire (found_match labels f) (found_cover labels f)) c.in-Match.is c.in_ok-listed.ensures.ok in
-    inl (told_here listed a p hash x c.requires.below (as_hashed_link labels c.in-Match.listed.now) wire None c.requires.wire looked c.args.rtype c.match_verdict.result c.match_verdict.ensures)
+    inl (told_here listed a p hash x c.requires.below (as_hashed_link labels c.in-Match.listed.now) wire None c.requires.wire
+    looked c.args.rtype c.match_verdict.result c.match_verdict.ensures)
 
 pub names-init : goal.names-init
 names-init g c =
@@ -48,7 +55,9 @@ names-init g c =
     let looked = subst (λ f. IsLookedUp a p hash listed wire (found_match labels f) (found_cover labels f)) c.in-NoMatch.is c.in_ok-listed.ensures.ok in
     record {
       wire = c.requires.wire ∙ ap (λ n. wire_of (lowered n)) (sym e);
-      missed = subst (λ n. IsMissed listed a p hash x n cover) (sym e) (missed_here listed a p hash x x (below_itself x) c.requires.below (none_first listed a p hash x) wire c.requires.wire cover looked);
+      missed = subst (λ n. IsMissed listed a p hash x n cover) (sym e)
+          (missed_here listed a p hash x x (below_itself x) c.requires.below
+          (none_first listed a p hash x) wire c.requires.wire cover looked);
     }
 
 pub skip-octets-requires : goal.skip-octets-requires
@@ -93,7 +102,9 @@ returns-in-Match-2-clause-ok g c =
     let on = passed_on listed a p hash x c.names.left cover c.names.invariant.missed label next parts (sym c.name_eq.ensures.value ∙ c.names-test.true) in
     let wire = c.skip-octets.ensures ∙ ap (drop (length label + 1)) (c.names.invariant.wire ∙ ap (λ n. wire_of (lowered n)) parts) ∙ wire_above label next in
     let looked = subst (λ f. IsLookedUp a p hash listed octets (found_match labels f) (found_cover labels f)) c.in-Match-2.is c.in_ok-listed-2.ensures.ok in
-    inl (told_above listed a p hash x c.names.left cover c.names.invariant.missed next on (as_hashed_link labels c.in-Match-2.listed.now) octets None wire looked c.args.rtype c.closer_verdict.result c.closer_verdict.ensures)
+    inl (told_above listed a p hash x c.names.left cover c.names.invariant.missed next on
+    (as_hashed_link labels c.in-Match-2.listed.now) octets None wire looked c.args.rtype c.closer_verdict.result
+    c.closer_verdict.ensures)
 
 pub names-preserved : goal.names-preserved
 names-preserved g c =
@@ -113,7 +124,8 @@ names-preserved g c =
     let looked = subst (λ f. IsLookedUp a p hash listed octets (found_match labels f) (found_cover labels f)) c.in-NoMatch-2.is c.in_ok-listed-2.ensures.ok in
     record {
       wire = wire;
-      missed = missed_here listed a p hash x next on.above on.within on.first octets wire (option_map (λ k. as_hashed_link labels k.now) c.in-NoMatch-2.next) looked;
+      missed = missed_here listed a p hash x next on.above on.within on.first octets wire
+          (option_map (λ k. as_hashed_link labels k.now) c.in-NoMatch-2.next) looked;
     }
 
 pub returns-clause-ok : goal.returns-clause-ok

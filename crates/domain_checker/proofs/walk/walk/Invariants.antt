@@ -10,7 +10,9 @@ use Rattle.domain_checker.proofs.walk.walk.Given as goal
 abbrev pub invariant-names : goal.invariant-names
 invariant-names g l = record {
   wire : l.octets ≡ wire_of (lowered l.left);
-  missed : IsMissed (links g.N.ToName.labels l.fn.records) (g.A.ToName.labels l.fn.apex) (parameters l.fn.records) (hash_with (g.H.Nsec3Hasher.answer l.fn.hasher) l.fn.records) l.fn.name l.left (option_map (λ k. as_hashed_link g.N.ToName.labels k.now) l.cover);
+  missed : IsMissed (links g.N.ToName.labels l.fn.records) (g.A.ToName.labels l.fn.apex) (parameters l.fn.records)
+      (hash_with (g.H.Nsec3Hasher.answer l.fn.hasher) l.fn.records) l.fn.name l.left
+      (option_map (λ k. as_hashed_link g.N.ToName.labels k.now) l.cover);
 }
 
 abbrev pub decreases-names : goal.decreases-names

@@ -24,8 +24,10 @@ chain_of_owners-requires-clause-ascend g c =
     let a = labels c.args.apex.now in
     let answer = g.H.Nsec3Hasher.answer c.args.hasher.now in
     let config = config_of answer c.args.config.now in
-    let names : c.in-Ok.owners.names.items ≡ original_owners L a config = sym (entries_names c.in-Ok.owners.names.items c.in-Ok.owners.types) ∙ (c.in-Ok.ensures.owners answer).names in
-    subst (IsStrictlySortedBy canonical_cmp) (sym names) (original_ascend L a config (owners_in_order labels g.D.RecordData.rtype g.D.ZoneData.minimum c.args.records c.requires.in_order))
+    let names : c.in-Ok.owners.names.items ≡ original_owners L a config =
+    sym (entries_names c.in-Ok.owners.names.items c.in-Ok.owners.types) ∙ (c.in-Ok.ensures.owners answer).names in
+    subst (IsStrictlySortedBy canonical_cmp) (sym names) (original_ascend L a config
+    (owners_in_order labels g.D.RecordData.rtype g.D.ZoneData.minimum c.args.records c.requires.in_order))
 
 pub chain_of_owners-requires-clause-in_zone : goal.chain_of_owners-requires-clause-in_zone
 chain_of_owners-requires-clause-in_zone g c =
@@ -34,7 +36,8 @@ chain_of_owners-requires-clause-in_zone g c =
     let a = labels c.args.apex.now in
     let answer = g.H.Nsec3Hasher.answer c.args.hasher.now in
     let config = config_of answer c.args.config.now in
-    let names : c.in-Ok.owners.names.items ≡ original_owners L a config = sym (entries_names c.in-Ok.owners.names.items c.in-Ok.owners.types) ∙ (c.in-Ok.ensures.owners answer).names in
+    let names : c.in-Ok.owners.names.items ≡ original_owners L a config =
+    sym (entries_names c.in-Ok.owners.names.items c.in-Ok.owners.types) ∙ (c.in-Ok.ensures.owners answer).names in
     subst (All (λ n. is_at_or_below n a ≡ true)) (sym names) (original_below L a config)
 
 pub chain_of_owners-requires-clause-begins : goal.chain_of_owners-requires-clause-begins
@@ -45,7 +48,8 @@ chain_of_owners-requires-clause-begins g c =
     let answer = g.H.Nsec3Hasher.answer c.args.hasher.now in
     let config = config_of answer c.args.config.now in
     let soa : soa_of L a ≡ Some c.args.soa.now = c.requires.soa in
-    let names : c.in-Ok.owners.names.items ≡ original_owners L a config = sym (entries_names c.in-Ok.owners.names.items c.in-Ok.owners.types) ∙ (c.in-Ok.ensures.owners answer).names in
+    let names : c.in-Ok.owners.names.items ≡ original_owners L a config =
+    sym (entries_names c.in-Ok.owners.names.items c.in-Ok.owners.types) ∙ (c.in-Ok.ensures.owners answer).names in
     ap (list_any (λ n. same_name n a)) names ∙ apex_original L a config (soa_owned L a c.args.soa.now soa)
 
 pub returns-in-Err-chain_of_owners-clause-fault : goal.returns-in-Err-chain_of_owners-clause-fault
@@ -58,7 +62,8 @@ returns-in-Err-chain_of_owners-clause-fault g c =
     let soa : soa_of L a ≡ Some c.args.soa.now = c.requires.soa in
     let e = c.in-Err-chain_of_owners.error in
     subst (IsFirstFault L a config) (sym c.from.ensures)
-    (signing_fault L a config e (record { soa = λ n. cc; ttls = c.in-Ok.ensures.even answer }) (c.in-Err-chain_of_owners.ensures.fault L (c.in-Ok.ensures.owners answer)))
+    (signing_fault L a config e (record { soa = λ n. cc; ttls = c.in-Ok.ensures.even answer })
+    (c.in-Err-chain_of_owners.ensures.fault L (c.in-Ok.ensures.owners answer)))
 
 pub returns-in-Ok-chain_of_owners-clause-chain : goal.returns-in-Ok-chain_of_owners-clause-chain
 returns-in-Ok-chain_of_owners-clause-chain g c =

@@ -7,13 +7,18 @@ use Rattle.domain_nsec3.proofs.chain.has_collision.Goals as goal
 
 pub returns-then-eq-clause-alike : goal.returns-then-eq-clause-alike
 returns-then-eq-clause-alike c _ =
-    alike_at (λ h. h.hash) c.args.hashed.now c.loop-i.i c.index-hashed-i.result c.index-hashed-i-in-loop-i.result (omega arith) (omega arith) c.index-hashed-i.is c.index-hashed-i-in-loop-i.is
-    (ap (λ h. h.hash) c.index-hashed-i.is ∙ sym c.as_slice.ensures ∙ same_octets _ _ (sym c.eq.ensures ∙ c.if-eq.true) ∙ c.as_slice-in-loop-i.ensures ∙ sym (ap (λ h. h.hash) c.index-hashed-i-in-loop-i.is))
+    alike_at (λ h. h.hash) c.args.hashed.now c.loop-i.i c.index-hashed-i.result c.index-hashed-i-in-loop-i.result (omega arith)
+    (omega arith) c.index-hashed-i.is c.index-hashed-i-in-loop-i.is
+    (ap (λ h. h.hash) c.index-hashed-i.is ∙ sym c.as_slice.ensures ∙ same_octets _ _ (sym c.eq.ensures ∙ c.if-eq.true)
+    ∙ c.as_slice-in-loop-i.ensures ∙ sym (ap (λ h. h.hash) c.index-hashed-i-in-loop-i.is))
 
 pub loop-i-preserved : goal.loop-i-preserved
 loop-i-preserved c =
-    apart_more (λ h. h.hash) c.args.hashed.now c.loop-i.i c.index-hashed-i.result c.index-hashed-i-in-loop-i.result (omega arith) (omega arith) c.index-hashed-i.is c.index-hashed-i-in-loop-i.is
-    (λ e. false≢true (sym c.if-eq.false ∙ c.eq.ensures ∙ (bytes_decides c.as_slice.result.now c.as_slice-in-loop-i.result.now).1 (c.as_slice.ensures ∙ sym (ap (λ h. h.hash) c.index-hashed-i.is) ∙ e ∙ ap (λ h. h.hash) c.index-hashed-i-in-loop-i.is ∙ sym c.as_slice-in-loop-i.ensures))) c.loop-i.invariant
+    apart_more (λ h. h.hash) c.args.hashed.now c.loop-i.i c.index-hashed-i.result c.index-hashed-i-in-loop-i.result (omega arith)
+    (omega arith) c.index-hashed-i.is c.index-hashed-i-in-loop-i.is
+    (λ e. false≢true (sym c.if-eq.false ∙ c.eq.ensures ∙ (bytes_decides c.as_slice.result.now c.as_slice-in-loop-i.result.now).1
+    (c.as_slice.ensures ∙ sym (ap (λ h. h.hash) c.index-hashed-i.is) ∙ e ∙ ap (λ h. h.hash) c.index-hashed-i-in-loop-i.is
+    ∙ sym c.as_slice-in-loop-i.ensures))) c.loop-i.invariant
 
 pub returns-clause-apart : goal.returns-clause-apart
 returns-clause-apart c _ = apart_end (λ h. h.hash) c.args.hashed.now c.loop-i.i (omega arith) c.requires c.loop-i.invariant

@@ -17,12 +17,16 @@ use Rattle.domain_nsec3.proofs.chain.hash_chain.Goals as goal
 pub returns-in-Err-clause-fault : goal.returns-in-Err-clause-fault
 returns-in-Err-clause-fault g c =
     let h = hash_by (g.H.Nsec3Hasher.answer c.args.hasher.now) (parameters_of c.args.params.now) in
-    let are : map (λ n. n.name) (entries_of c.args.names.items c.args.types) ≡ c.as_slice.result.now = entries_names c.args.names.items c.args.types ∙ sym c.as_slice.ensures.value in
+    let are : map (λ n. n.name) (entries_of c.args.names.items c.args.types)
+    ≡ c.as_slice.result.now = entries_names c.args.names.items c.args.types ∙ sym c.as_slice.ensures.value in
     let entries = entries_of c.args.names.items c.args.types in
-    let told : IsHashingFault c.as_parsed-above.result (hash_by (g.H.Nsec3Hasher.answer c.args.hasher.now) (parameters_of c.args.params.now)) (entries_of c.args.names.items c.args.types) c.in-Err.error =
+    let told : IsHashingFault c.as_parsed-above.result (hash_by (g.H.Nsec3Hasher.answer c.args.hasher.now)
+    (parameters_of c.args.params.now)) (entries_of c.args.names.items c.args.types) c.in-Err.error =
     elim c.in-Err.ensures.err [
       | inl m ↦ inl m
-      | inr r ↦ inr (inl (subst (λ (ns : List Name). IsFirstRefused c.as_parsed-above.result (hash_by (g.H.Nsec3Hasher.answer c.args.hasher.now) (parameters_of c.args.params.now)) ns c.in-Err.error) (sym are) r))
+      | inr r ↦ inr (inl (subst (λ (ns : List Name). IsFirstRefused c.as_parsed-above.result
+          (hash_by (g.H.Nsec3Hasher.answer c.args.hasher.now) (parameters_of c.args.params.now)) ns c.in-Err.error)
+          (sym are) r))
     ] in
     subst (λ (x : Name). IsHashingFault x h entries c.in-Err.error) c.as_parsed-above.ensures told
 
@@ -31,17 +35,22 @@ returns-then-has_collision-clause-fault g c =
     let entries = entries_of c.args.names.items c.args.types in
     let see = as_hashed_entry (entries_of c.args.names.items c.args.types) in
     let h = hash_by (g.H.Nsec3Hasher.answer c.args.hasher.now) (parameters_of c.args.params.now) in
-    let are : map (λ n. n.name) (entries_of c.args.names.items c.args.types) ≡ c.as_slice.result.now = entries_names c.args.names.items c.args.types ∙ sym c.as_slice.ensures.value in
+    let are : map (λ n. n.name) (entries_of c.args.names.items c.args.types)
+    ≡ c.as_slice.result.now = entries_names c.args.names.items c.args.types ∙ sym c.as_slice.ensures.value in
     let same = c.in-Ok.ensures.same entries are in
     let ok = c.in-Ok.ensures.ok entries are in
-    let told : IsHashingFault c.as_parsed-above.result (hash_by (g.H.Nsec3Hasher.answer c.args.hasher.now) (parameters_of c.args.params.now)) (entries_of c.args.names.items c.args.types) CollisionDetected =
+    let told : IsHashingFault c.as_parsed-above.result (hash_by (g.H.Nsec3Hasher.answer c.args.hasher.now)
+    (parameters_of c.args.params.now)) (entries_of c.args.names.items c.args.types) CollisionDetected =
     inr (inr (
       refl,
       record {
         ordered = map see c.sort_by_hash.new.hashed.items;
-        moved = moved_entries see c.as_parsed-above.result h entries c.in-Ok.hashed.items c.sort_by_hash.new.hashed.items c.in_ok-sort_by_hash.ensures.permutation same ok;
-        hashed = hashed_entries see c.as_parsed-above.result h entries c.in-Ok.hashed.items c.sort_by_hash.new.hashed.items c.in_ok-sort_by_hash.ensures.permutation same ok;
-        alike = subst HasAlikeNeighbours (ap (map (λ x. (see x).hash)) c.as_slice-2.ensures.value ∙ hashes_of see c.sort_by_hash.new.hashed.items) (c.has_collision.ensures.alike c.if-has_collision.true);
+        moved = moved_entries see c.as_parsed-above.result h entries c.in-Ok.hashed.items c.sort_by_hash.new.hashed.items
+            c.in_ok-sort_by_hash.ensures.permutation same ok;
+        hashed = hashed_entries see c.as_parsed-above.result h entries c.in-Ok.hashed.items c.sort_by_hash.new.hashed.items
+            c.in_ok-sort_by_hash.ensures.permutation same ok;
+        alike = subst HasAlikeNeighbours (ap (map (λ x. (see x).hash)) c.as_slice-2.ensures.value
+            ∙ hashes_of see c.sort_by_hash.new.hashed.items) (c.has_collision.ensures.alike c.if-has_collision.true);
       },
     )) in
     subst (λ (x : Name). IsHashingFault x h entries CollisionDetected) c.as_parsed-above.ensures told
@@ -58,12 +67,20 @@ returns-clause-chain g c p =
     let some : 0 < length entries = omega (arith, c.requires.some, ap length all, length-map entries (λ (n : Entry). n.name)) in
     let moved = c.in_ok-sort_by_hash.ensures.permutation in
     let types = map (as_hashed_types c.args.types) c.sort_by_hash.new.hashed.items in
-    let made : IsOrderedChain c.as_parsed-above.result (hash_by (g.H.Nsec3Hasher.answer c.args.hasher.now) (parameters_of c.args.params.now)) p (entries_of c.args.names.items c.args.types) (chain_links c.as_parsed-above.result p (map (as_hashed_types c.args.types) c.sort_by_hash.new.hashed.items)) =
+    let made : IsOrderedChain c.as_parsed-above.result (hash_by (g.H.Nsec3Hasher.answer c.args.hasher.now)
+    (parameters_of c.args.params.now)) p (entries_of c.args.names.items c.args.types)
+    (chain_links c.as_parsed-above.result p (map (as_hashed_types c.args.types) c.sort_by_hash.new.hashed.items)) =
     ordered_chain c.as_parsed-above.result h p entries (map see c.sort_by_hash.new.hashed.items) (chain_links c.as_parsed-above.result p types)
-    (omega (arith, some_items see c.as_parsed-above.result h entries c.in-Ok.hashed.items c.sort_by_hash.new.hashed.items moved same ok some, length-map c.sort_by_hash.new.hashed.items see))
+    (omega (
+      arith,
+      some_items see c.as_parsed-above.result h entries c.in-Ok.hashed.items c.sort_by_hash.new.hashed.items moved
+          same ok some,
+      length-map c.sort_by_hash.new.hashed.items see,
+    ))
     (moved_entries see c.as_parsed-above.result h entries c.in-Ok.hashed.items c.sort_by_hash.new.hashed.items moved same ok)
     (hashed_entries see c.as_parsed-above.result h entries c.in-Ok.hashed.items c.sort_by_hash.new.hashed.items moved same ok)
-    (subst (IsStrictlySortedBy (slice_cmp nat_cmp)) (ap (map (λ x. (see x).hash)) c.as_slice-2.ensures.value ∙ hashes_of see c.sort_by_hash.new.hashed.items) (c.has_collision.ensures.apart c.if-has_collision.false))
+    (subst (IsStrictlySortedBy (slice_cmp nat_cmp)) (ap (map (λ x. (see x).hash)) c.as_slice-2.ensures.value
+    ∙ hashes_of see c.sort_by_hash.new.hashed.items) (c.has_collision.ensures.apart c.if-has_collision.false))
     (ap (chain_links c.as_parsed-above.result p) (sym (types_told c.args.names.items c.args.types c.sort_by_hash.new.hashed.items c.requires.within))) in
     subst (λ (x : Name). IsOrderedChain x h p entries (chain_links x p types)) c.as_parsed-above.ensures made
 
@@ -72,7 +89,9 @@ returns-clause-sound g c =
     let entries = entries_of c.args.names.items c.args.types in
     let see = as_hashed_entry (entries_of c.args.names.items c.args.types) in
     let h = hash_by (g.H.Nsec3Hasher.answer c.args.hasher.now) (parameters_of c.args.params.now) in
-    let are : map (λ n. n.name) (entries_of c.args.names.items c.args.types) ≡ c.as_slice.result.now = entries_names c.args.names.items c.args.types ∙ sym c.as_slice.ensures.value in
+    let are : map (λ n. n.name) (entries_of c.args.names.items c.args.types)
+    ≡ c.as_slice.result.now = entries_names c.args.names.items c.args.types ∙ sym c.as_slice.ensures.value in
     let sound : All (λ x. hash_fault c.as_parsed-above.result (Ok x.hash) ≡ None) c.sort_by_hash.new.hashed.items =
-    sound_hashes see c.as_parsed-above.result h entries c.in-Ok.hashed.items c.sort_by_hash.new.hashed.items c.in_ok-sort_by_hash.ensures.permutation (c.in-Ok.ensures.same entries are) (c.in-Ok.ensures.ok entries are) in
+    sound_hashes see c.as_parsed-above.result h entries c.in-Ok.hashed.items c.sort_by_hash.new.hashed.items
+    c.in_ok-sort_by_hash.ensures.permutation (c.in-Ok.ensures.same entries are) (c.in-Ok.ensures.ok entries are) in
     subst (λ (y : Name). All (λ x. hash_fault y (Ok x.hash) ≡ None) c.sort_by_hash.new.hashed.items) c.as_parsed-above.ensures sound

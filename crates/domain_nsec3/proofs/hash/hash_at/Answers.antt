@@ -11,7 +11,8 @@ returns-in-Ok-clause-ok g c =
     let is : c.new.result ≡ c.in-Ok.octets.items = c.new.ensures ∙ c.as_slice.ensures.value in
     let salt = c.as_slice-salt.ensures.octets ∙ c.salt.ensures in
     let known : hash_name (hash_by (g.H.Nsec3Hasher.answer c.args.hasher.now) (parameters_of c.args.params.now)) c.args.name.now ≡ Ok c.in-Ok.octets.items =
-    (λ i. g.H.Nsec3Hasher.answer c.args.hasher.now (wire_of (lowered c.args.name.now)) (sym c.hash_algorithm-algorithm.ensures i) (sym c.iterations-iterations.ensures i) (sym salt i)) ∙ c.in-Ok.ensures.known in
+    (λ i. g.H.Nsec3Hasher.answer c.args.hasher.now (wire_of (lowered c.args.name.now)) (sym c.hash_algorithm-algorithm.ensures i)
+    (sym c.iterations-iterations.ensures i) (sym salt i)) ∙ c.in-Ok.ensures.known in
     record {
       known = known ∙ ap Ok (sym is);
       sound = ap (hash_fault c.args.apex.now) known ∙ c.in-Ok.ensures.sound;

@@ -5,4 +5,5 @@ use Rattle.domain_nsec3.proofs.hash.join_label.Goals as goal
 pub returns : goal.returns
 returns c =
     c.put_octets-end.ensures.front
-    ∙ ap (λ l. l ++ c.args.above.now) (c.put_octets-start.ensures.front ∙ ap (λ l. l ++ c.args.label.now) (first_set c.args.buffer.now (length c.args.label.now) (omega arith)))
+    ∙ ap (λ l. l ++ c.args.above.now) (c.put_octets-start.ensures.front
+    ∙ ap (λ l. l ++ c.args.label.now) (first_set c.args.buffer.now (length c.args.label.now) (omega arith)))

@@ -8,5 +8,6 @@ returns-then-is_ne c =
     let ours = c.front-our_front in
     let theirs = c.front-their_front in
     c.cmp-by_front.ensures
-    ∙ by_front c.args.ours.now c.args.theirs.now ours.result theirs.result (omega arith) (omega arith) ours.ensures.octets theirs.ensures.octets ours.ensures.number theirs.ensures.number
+    ∙ by_front c.args.ours.now c.args.theirs.now ours.result theirs.result (omega arith)
+    (omega arith) ours.ensures.octets theirs.ensures.octets ours.ensures.number theirs.ensures.number
     (ap is_ne (sym c.cmp-by_front.ensures) ∙ sym c.is_ne.ensures ∙ c.if-is_ne.true)

@@ -36,7 +36,8 @@ owners-preserved-then-excludes-is_unsigned_cut g c = record {
       let o : OwnerRecords = as_owner_records labels g.D.RecordData.rtype g.D.ZoneData.minimum c.in-Some.owner in
       let entries = entries_of c.owners.names.items c.owners.types in
       let at = subst (λ left. IsAt L a config left entries) c.in-Some.ensures.steps (c.owners.invariant.at answer) in
-      let out : stays config o ≡ false = ap not (sym (λ i. (c.opt_out_flag.ensures i && config.exclude_unsigned) && c.is_unsigned_cut-is_unsigned_cut.ensures i) ∙ c.if-excludes-is_unsigned_cut.true) in
+      let out : stays config o ≡ false = ap not (sym (λ i. (c.opt_out_flag.ensures i && config.exclude_unsigned)
+      && c.is_unsigned_cut-is_unsigned_cut.ensures i) ∙ c.if-excludes-is_unsigned_cut.true) in
       at_excluded L a config o c.next.new.self entries at out;
   paired = c.owners.invariant.paired;
 }
@@ -54,7 +55,8 @@ has_unequal_ttls-requires g c =
     let known = at_known L a config o c.next.new.self entries at in
     raw_types labels g.D.RecordData.rtype g.D.ZoneData.minimum c.records.result
     (subst (λ rs. NeverDescend (map (as_zone_record labels g.D.RecordData.rtype g.D.ZoneData.minimum) rs)) (sym c.records.ensures)
-    (subst NeverDescend (sym (ap (λ p. p.records) known)) (types_at labels g.D.RecordData.rtype g.D.ZoneData.minimum c.args.records (labels c.in-Some.owner.name.now) c.requires)))
+    (subst NeverDescend (sym (ap (λ p. p.records) known)) (types_at labels g.D.RecordData.rtype g.D.ZoneData.minimum
+    c.args.records (labels c.in-Some.owner.name.now) c.requires)))
 
 pub returns-then-has_unequal_ttls-clause-fault : goal.returns-then-has_unequal_ttls-clause-fault
 returns-then-has_unequal_ttls-clause-fault g c =
@@ -68,9 +70,11 @@ returns-then-has_unequal_ttls-clause-fault g c =
           let o : OwnerRecords = as_owner_records labels g.D.RecordData.rtype g.D.ZoneData.minimum c.in-Some.owner in
           let entries = entries_of c.owners.names.items c.owners.types in
           let at = subst (λ left. IsAt L a config left entries) c.in-Some.ensures.steps (c.owners.invariant.at answer) in
-          let kept : stays config o ≡ true = ap not (sym (λ i. (c.opt_out_flag.ensures i && config.exclude_unsigned) && c.is_unsigned_cut-is_unsigned_cut.ensures i) ∙ c.if-excludes-is_unsigned_cut.false) in
+          let kept : stays config o ≡ true = ap not (sym (λ i. (c.opt_out_flag.ensures i && config.exclude_unsigned)
+          && c.is_unsigned_cut-is_unsigned_cut.ensures i) ∙ c.if-excludes-is_unsigned_cut.false) in
           at_fault L a config o c.next.new.self entries at kept
-          (ap (λ rs. has_clash (zone_of labels g.D.RecordData.rtype g.D.ZoneData.minimum rs)) (sym c.records.ensures) ∙ sym c.has_unequal_ttls.ensures ∙ c.if-has_unequal_ttls.true),
+          (ap (λ rs. has_clash (zone_of labels g.D.RecordData.rtype g.D.ZoneData.minimum rs)) (sym c.records.ensures)
+          ∙ sym c.has_unequal_ttls.ensures ∙ c.if-has_unequal_ttls.true),
     )
 
 pub owners-preserved : goal.owners-preserved
@@ -81,19 +85,28 @@ owners-preserved g c =
     let paired = c.owners.invariant.paired in
     let assume : Bool = c.args.config.now.assume_dnskeys_will_be_added in
     let is_apex : Bool = c.name_eq-is_apex.result in
-    let listed : Octets = bitmap_octets (is_listed c.is_unsigned_cut-is_unsigned_cut.result is_apex (assume && is_apex) c.in-Some.owner.is_zone_cut (zone_of labels g.D.RecordData.rtype g.D.ZoneData.minimum c.records-in-Some.result)) in
+    let listed : Octets = bitmap_octets (is_listed c.is_unsigned_cut-is_unsigned_cut.result is_apex (assume
+    && is_apex) c.in-Some.owner.is_zone_cut (zone_of labels g.D.RecordData.rtype g.D.ZoneData.minimum
+    c.records-in-Some.result)) in
     record {
       at = λ answer.
           let config = config_of answer c.args.config.now in
           let o : OwnerRecords = as_owner_records labels g.D.RecordData.rtype g.D.ZoneData.minimum c.in-Some.owner in
           let entries = entries_of c.owners.names.items c.owners.types in
           let at = subst (λ left. IsAt L a config left entries) c.in-Some.ensures.steps (c.owners.invariant.at answer) in
-          let kept : stays config o ≡ true = ap not (sym (λ i. (c.opt_out_flag.ensures i && config.exclude_unsigned) && c.is_unsigned_cut-is_unsigned_cut.ensures i) ∙ c.if-excludes-is_unsigned_cut.false) in
+          let kept : stays config o ≡ true = ap not (sym (λ i. (c.opt_out_flag.ensures i && config.exclude_unsigned)
+          && c.is_unsigned_cut-is_unsigned_cut.ensures i) ∙ c.if-excludes-is_unsigned_cut.false) in
           at_owner L a config o c.next.new.self entries at listed (entries_of c.push.new.self.items c.push_types.new.types) kept
-          (ap (λ rs. has_clash (zone_of labels g.D.RecordData.rtype g.D.ZoneData.minimum rs)) (sym c.records.ensures) ∙ sym c.has_unequal_ttls.ensures ∙ c.if-has_unequal_ttls.false)
-          (λ i. bitmap_octets (is_listed (c.is_unsigned_cut-is_unsigned_cut.ensures i) (c.name_eq-is_apex.ensures.value i) (assume && c.name_eq-is_apex.ensures.value i) c.in-Some.owner.is_zone_cut (zone_of labels g.D.RecordData.rtype g.D.ZoneData.minimum (c.records-in-Some.ensures i))))
-          ((λ i. entries_of (c.in_ok-push.ensures.items i) (c.in_ok-push_types.ensures i)) ∙ entries_push c.owners.names.items c.owners.types c.as_parsed.result listed paired ∙ (λ i. entries ++ record { name = c.as_parsed.ensures i; bits = listed } ∷ []));
-      paired = paired_push c.owners.names.items c.push.new.self.items c.owners.types c.push_types.new.types c.as_parsed.result listed c.in_ok-push.ensures.items c.in_ok-push_types.ensures paired;
+          (ap (λ rs. has_clash (zone_of labels g.D.RecordData.rtype g.D.ZoneData.minimum rs)) (sym c.records.ensures)
+          ∙ sym c.has_unequal_ttls.ensures ∙ c.if-has_unequal_ttls.false)
+          (λ i. bitmap_octets (is_listed (c.is_unsigned_cut-is_unsigned_cut.ensures i) (c.name_eq-is_apex.ensures.value i) (assume
+          && c.name_eq-is_apex.ensures.value i) c.in-Some.owner.is_zone_cut
+          (zone_of labels g.D.RecordData.rtype g.D.ZoneData.minimum (c.records-in-Some.ensures i))))
+          ((λ i. entries_of (c.in_ok-push.ensures.items i) (c.in_ok-push_types.ensures i))
+          ∙ entries_push c.owners.names.items c.owners.types c.as_parsed.result listed paired
+          ∙ (λ i. entries ++ record { name = c.as_parsed.ensures i; bits = listed } ∷ []));
+      paired = paired_push c.owners.names.items c.push.new.self.items c.owners.types c.push_types.new.types c.as_parsed.result
+          listed c.in_ok-push.ensures.items c.in_ok-push_types.ensures paired;
     }
 
 pub returns-clause-owners : goal.returns-clause-owners

@@ -7,7 +7,8 @@ use Rattle.domain_nsec3.proofs.owners.list_owners.Given as goal
 
 abbrev pub invariant-owners : goal.invariant-owners
 invariant-owners g l = record {
-  at : (answer : Answer) → IsAt (zone_of g.N.ToName.labels g.D.RecordData.rtype g.D.ZoneData.minimum l.fn.records) (g.N.ToName.labels l.apex) (config_of answer l.config) l.owners (entries_of l.names.items l.types);
+  at : (answer : Answer) → IsAt (zone_of g.N.ToName.labels g.D.RecordData.rtype g.D.ZoneData.minimum l.fn.records)
+      (g.N.ToName.labels l.apex) (config_of answer l.config) l.owners (entries_of l.names.items l.types);
   paired : length l.names.items ≡ length l.types;
 }
 

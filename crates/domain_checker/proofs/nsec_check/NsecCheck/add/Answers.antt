@@ -10,7 +10,8 @@ use Rattle.domain_checker.specs.Reading.{cover_verdict, is_cover, is_match, matc
 use Rattle.domain_checker.proofs.FirstLemmas.{match_is_tie}
 use Rattle.domain_checker.proofs.HandedInLemmas.{found_stays, found_last, found_before, some_is_none}
 use Rattle.domain_checker.proofs.nsec_check.NsecCheck.add.Goals as goal
-use Rattle.domain_checker.proofs.nsec_check.NsecCheck.add.Goals.{else-is_eq-via-then-is_eq+else-is_inside, else-is_eq-via-else-is_eq, else-is_none-via-then-is_none+else-is_cover, else-is_none-via-else-is_none}
+use Rattle.domain_checker.proofs.nsec_check.NsecCheck.add.Goals.{else-is_eq-via-then-is_eq+else-is_inside, else-is_eq-via-else-is_eq}
+use Rattle.domain_checker.proofs.nsec_check.NsecCheck.add.Goals.{else-is_none-via-then-is_none+else-is_cover, else-is_none-via-else-is_none}
 
 pub returns-then-is_some : goal.returns-then-is_some
 returns-then-is_some g c =
@@ -20,7 +21,8 @@ returns-then-is_some g c =
       apex = h.apex;
       name = h.name;
       rtype = h.rtype;
-      matching = found_stays (is_match a x) (λ k. match_verdict a k t) listed (as_link g.N.ToName.labels c.args.listed.now) c.args.self.now.matched h.matching some;
+      matching = found_stays (is_match a x) (λ k. match_verdict a k t) listed
+          (as_link g.N.ToName.labels c.args.listed.now) c.args.self.now.matched h.matching some;
       covering = λ none. absurd (false≢true (ap is_some (sym none) ∙ some));
     }
 
@@ -32,7 +34,8 @@ returns-then-is_inside g c =
     let k = as_link labels c.args.listed.now in
     let unset : is_some check.matched ≡ false = sym c.is_some.ensures ∙ c.if-is_some.false in
     let tied : matches before k.owner check.name ≡ true =
-    match_is_tie k.owner check.name ∙ sym (c.is_eq.ensures ∙ ap is_eq c.name_cmp-order.ensures ∙ ap (λ n. is_eq (canonical_cmp (labels n) check.name)) c.owner.ensures) ∙ c.if-is_eq.true in
+    match_is_tie k.owner check.name ∙ sym (c.is_eq.ensures ∙ ap is_eq c.name_cmp-order.ensures
+    ∙ ap (λ n. is_eq (canonical_cmp (labels n) check.name)) c.owner.ensures) ∙ c.if-is_eq.true in
     let within : is_inside check.apex k ≡ true = sym c.is_inside.ensures ∙ c.if-is_inside.true in
     let matched : is_match a x k ≡ true = sym (λ i. is_match (h.apex i) (h.name i) k) ∙ (λ i. tied i && within i) in
     record {
@@ -52,7 +55,8 @@ returns-then-is_cover g c =
     let labels = g.N.ToName.labels in
     let k = as_link labels c.args.listed.now in
     let tied : matches before k.owner check.name ≡ c.is_eq.result =
-    match_is_tie k.owner check.name ∙ sym (c.is_eq.ensures ∙ ap is_eq c.name_cmp-order.ensures ∙ ap (λ n. is_eq (canonical_cmp (labels n) check.name)) c.owner.ensures) in
+    match_is_tie k.owner check.name ∙ sym (c.is_eq.ensures ∙ ap is_eq c.name_cmp-order.ensures
+    ∙ ap (λ n. is_eq (canonical_cmp (labels n) check.name)) c.owner.ensures) in
     let apart : is_match check.apex check.name k ≡ false =
     elim c.else-is_eq.branch [
       | else-is_eq-via-then-is_eq+else-is_inside w ↦ λ i. (tied ∙ w.if-is_eq.true) i && (sym w.is_inside.ensures ∙ w.if-is_inside.false) i
@@ -78,7 +82,8 @@ returns-else-is_none g c =
     let labels = g.N.ToName.labels in
     let k = as_link labels c.args.listed.now in
     let tied : matches before k.owner check.name ≡ c.is_eq.result =
-    match_is_tie k.owner check.name ∙ sym (c.is_eq.ensures ∙ ap is_eq c.name_cmp-order.ensures ∙ ap (λ n. is_eq (canonical_cmp (labels n) check.name)) c.owner.ensures) in
+    match_is_tie k.owner check.name ∙ sym (c.is_eq.ensures ∙ ap is_eq c.name_cmp-order.ensures
+    ∙ ap (λ n. is_eq (canonical_cmp (labels n) check.name)) c.owner.ensures) in
     let apart : is_match check.apex check.name k ≡ false =
     elim c.else-is_eq.branch [
       | else-is_eq-via-then-is_eq+else-is_inside w ↦ λ i. (tied ∙ w.if-is_eq.true) i && (sym w.is_inside.ensures ∙ w.if-is_inside.false) i

@@ -12,7 +12,8 @@ use Rattle.domain_checker.proofs.HandedInLemmas.{handed_in}
 use Rattle.domain_checker.proofs.ListLemmas.{has_proof, list_within}
 use Rattle.domain_checker.proofs.nsec_check.NsecCheck.verdict.Goals as goal
 
-low : (a x : Name) (t : ℕ) (listed : List Link) (check : NsecCheck) → HasRead a x t listed check → is_at_or_below check.name check.apex ≡ true → is_at_or_below x a ≡ true
+low : (a x : Name) (t : ℕ) (listed : List Link) (check : NsecCheck) → HasRead a x t listed check
+    → is_at_or_below check.name check.apex ≡ true → is_at_or_below x a ≡ true
 low a x t listed check h e = sym (λ i. is_at_or_below (h.name i) (h.apex i)) ∙ e
 
 read : (a x : Name) (t : ℕ) (listed : List Link) → is_at_or_below x a ≡ true → list_verdict a listed x t ≡ reading a listed x t

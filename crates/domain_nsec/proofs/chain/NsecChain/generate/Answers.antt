@@ -18,7 +18,8 @@ owners-init g c =
     let L = zone_of labels g.D.RecordData.rtype g.D.ZoneData.minimum c.args.records in
     let a = labels c.args.apex.now in
     subst (λ left. IsAt L a c.args.config.now left (map (λ n. labels n.now) c.new-names.result.items) c.new-types.result) (sym c.new-owners.ensures)
-    (subst (λ xs. IsAt L a c.args.config.now (owners_with_records c.args.config.now.occlude_below_dname L a) (map (λ n. labels n.now) xs) c.new-types.result) (sym c.new-names.ensures.items)
+    (subst (λ xs. IsAt L a c.args.config.now (owners_with_records c.args.config.now.occlude_below_dname L a)
+    (map (λ n. labels n.now) xs) c.new-types.result) (sym c.new-names.ensures.items)
     (subst (IsAt L a c.args.config.now (owners_with_records c.args.config.now.occlude_below_dname L a) []) (sym c.new-types.ensures)
     (at_start L a c.args.config.now)))
 
@@ -33,7 +34,8 @@ has_unequal_ttls-requires g c =
     let known = at_known L a c.args.config.now o c.next.new.self names c.owners.types at in
     raw_types labels g.D.RecordData.rtype g.D.ZoneData.minimum c.records-in-Some-next.result
     (subst (λ rs. NeverDescend (map (as_zone_record labels g.D.RecordData.rtype g.D.ZoneData.minimum) rs)) (sym c.records-in-Some-next.ensures)
-    (subst NeverDescend (sym (ap (λ p. p.records) known)) (types_at labels g.D.RecordData.rtype g.D.ZoneData.minimum c.args.records (labels c.in-Some-next.owner.name.now) c.requires.in_order)))
+    (subst NeverDescend (sym (ap (λ p. p.records) known)) (types_at labels g.D.RecordData.rtype g.D.ZoneData.minimum
+    c.args.records (labels c.in-Some-next.owner.name.now) c.requires.in_order)))
 
 pub returns-then-has_unequal_ttls-clause-fault : goal.returns-then-has_unequal_ttls-clause-fault
 returns-then-has_unequal_ttls-clause-fault g c =
@@ -43,10 +45,12 @@ returns-then-has_unequal_ttls-clause-fault g c =
     let names = map (λ n. labels n.now) c.owners.names.items in
     let o : OwnerRecords = as_owner_records labels g.D.RecordData.rtype g.D.ZoneData.minimum c.in-Some-next.owner in
     let at = subst (λ left. IsAt L a c.args.config.now left names c.owners.types) c.in-Some-next.ensures.steps c.owners.invariant in
-    let soa : soa_of L a ≡ Some c.in-Some.soa = ap (λ rs. soa_of (zone_of labels g.D.RecordData.rtype g.D.ZoneData.minimum rs) a) (sym c.records.ensures) ∙ sym c.in-Some.ensures in (
+    let soa : soa_of L a ≡ Some c.in-Some.soa = ap (λ rs. soa_of (zone_of labels g.D.RecordData.rtype g.D.ZoneData.minimum rs) a)
+    (sym c.records.ensures) ∙ sym c.in-Some.ensures in (
       λ e. cc,
       at_fault L a c.args.config.now o c.next.new.self names c.owners.types at
-          (ap (λ rs. has_clash (zone_of labels g.D.RecordData.rtype g.D.ZoneData.minimum rs)) (sym c.records-in-Some-next.ensures) ∙ sym c.has_unequal_ttls.ensures ∙ c.if-has_unequal_ttls.true),
+          (ap (λ rs. has_clash (zone_of labels g.D.RecordData.rtype g.D.ZoneData.minimum rs)) (sym c.records-in-Some-next.ensures)
+          ∙ sym c.has_unequal_ttls.ensures ∙ c.if-has_unequal_ttls.true),
     )
 
 pub owners-preserved : goal.owners-preserved
@@ -60,9 +64,13 @@ owners-preserved g c =
     let assume : Bool = config.assume_dnskeys_will_be_added in
     let at = subst (λ left. IsAt L a config left names c.owners.types) c.in-Some-next.ensures.steps c.owners.invariant in
     let given =
-    at_owner L a config o c.next.new.self names c.owners.types at (bitmap_octets (is_listed (assume && c.name_eq.result) c.in-Some-next.owner.is_zone_cut (zone_of labels g.D.RecordData.rtype g.D.ZoneData.minimum c.records-records.result)))
-    (ap (λ rs. has_clash (zone_of labels g.D.RecordData.rtype g.D.ZoneData.minimum rs)) (sym c.records-in-Some-next.ensures) ∙ sym c.has_unequal_ttls.ensures ∙ c.if-has_unequal_ttls.false)
-    (ap (λ rs. bitmap_octets (is_listed (assume && c.name_eq.result) c.in-Some-next.owner.is_zone_cut (zone_of labels g.D.RecordData.rtype g.D.ZoneData.minimum rs))) c.records-records.ensures
+    at_owner L a config o c.next.new.self names c.owners.types at
+    (bitmap_octets (is_listed (assume && c.name_eq.result) c.in-Some-next.owner.is_zone_cut
+    (zone_of labels g.D.RecordData.rtype g.D.ZoneData.minimum c.records-records.result)))
+    (ap (λ rs. has_clash (zone_of labels g.D.RecordData.rtype g.D.ZoneData.minimum rs)) (sym c.records-in-Some-next.ensures)
+    ∙ sym c.has_unequal_ttls.ensures ∙ c.if-has_unequal_ttls.false)
+    (ap (λ rs. bitmap_octets (is_listed (assume && c.name_eq.result) c.in-Some-next.owner.is_zone_cut
+    (zone_of labels g.D.RecordData.rtype g.D.ZoneData.minimum rs))) c.records-records.ensures
     ∙ ap (λ b. bitmap_octets (is_listed (assume && b) c.in-Some-next.owner.is_zone_cut o.records)) c.name_eq.ensures.value) in
     subst (λ ns. IsAt L a config c.next.new.self ns c.push_types.new.types)
     (sym (ap (map (λ n. labels n.now)) c.in_ok-push.ensures.items ∙ map-append (λ n. labels n.now) c.owners.names.items (c.in-Some-next.owner.name ∷ [])))
@@ -74,7 +82,8 @@ returns-clause-chain g c =
     let L = zone_of labels g.D.RecordData.rtype g.D.ZoneData.minimum c.args.records in
     let a = labels c.args.apex.now in
     let names = map (λ n. labels n.now) c.owners.names.items in
-    let soa : soa_of L a ≡ Some c.in-Some.soa = ap (λ rs. soa_of (zone_of labels g.D.RecordData.rtype g.D.ZoneData.minimum rs) a) (sym c.records.ensures) ∙ sym c.in-Some.ensures in
+    let soa : soa_of L a ≡ Some c.in-Some.soa = ap (λ rs. soa_of (zone_of labels g.D.RecordData.rtype g.D.ZoneData.minimum rs) a)
+    (sym c.records.ensures) ∙ sym c.in-Some.ensures in
     let at = subst (λ left. IsAt L a c.args.config.now left names c.owners.types) c.in_default-next.ensures.steps.0 c.owners.invariant in
     subst (IsChain L a c.args.config.now) (sym c.new.ensures) (at_end L a c.args.config.now names c.owners.types at c.in-Some.soa soa)
 
@@ -84,5 +93,10 @@ returns-clause-faultless g c =
     let L = zone_of labels g.D.RecordData.rtype g.D.ZoneData.minimum c.args.records in
     let a = labels c.args.apex.now in
     let names = map (λ n. labels n.now) c.owners.names.items in
-    let soa : soa_of L a ≡ Some c.in-Some.soa = ap (λ rs. soa_of (zone_of labels g.D.RecordData.rtype g.D.ZoneData.minimum rs) a) (sym c.records.ensures) ∙ sym c.in-Some.ensures in
-    (λ e. cc, even_end L a c.args.config.now names c.owners.types (subst (λ left. IsAt L a c.args.config.now left names c.owners.types) c.in_default-next.ensures.steps.0 c.owners.invariant))
+    let soa : soa_of L a ≡ Some c.in-Some.soa = ap (λ rs. soa_of (zone_of labels g.D.RecordData.rtype g.D.ZoneData.minimum rs) a)
+    (sym c.records.ensures) ∙ sym c.in-Some.ensures in (
+      λ e. cc,
+      even_end L a c.args.config.now names c.owners.types
+          (subst (λ left. IsAt L a c.args.config.now left names c.owners.types) c.in_default-next.ensures.steps.0
+          c.owners.invariant),
+    )

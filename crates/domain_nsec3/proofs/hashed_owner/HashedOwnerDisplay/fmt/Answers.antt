@@ -13,7 +13,8 @@ returns-then-is_root-clause-writes g c plain ok =
     let hash = c.self.inside.hash.now in
     let one = c.in_ok-display_hash.ensures plain refl in
     let two = c.write_str.ensures.writes one.plain ok in
-    put_two g.W.Write.write_str_gives c.args.f.now c.display_hash.new.f c.write_str.new.self (base32_lower hash) (codes ".") (name_text c.args.self.now ++ 46 ∷ []) one two
+    put_two g.W.Write.write_str_gives c.args.f.now c.display_hash.new.f c.write_str.new.self (base32_lower hash) (codes ".")
+    (name_text c.args.self.now ++ 46 ∷ []) one two
     (owner_at_root apex hash c.self.invariant.1 (c.is_root.ensures.0 c.if-is_root.true) ∙ ap (λ n. name_text n ++ 46 ∷ []) c.self.view_is)
 
 pub returns-clause-writes : goal.returns-clause-writes
@@ -22,7 +23,8 @@ returns-clause-writes g c plain ok =
     let hash = c.self.inside.hash.now in
     let one = c.in_ok-display_hash.ensures plain refl in
     let two = c.write.ensures.writes one.plain ok in
-    put_two g.W.Write.write_str_gives c.args.f.now c.display_hash.new.f c.write.new.self (base32_lower hash) (46 ∷ (name_text apex ++ 46 ∷ [])) (name_text c.args.self.now ++ 46 ∷ []) one
+    put_two g.W.Write.write_str_gives c.args.f.now c.display_hash.new.f c.write.new.self (base32_lower hash)
+    (46 ∷ (name_text apex ++ 46 ∷ [])) (name_text c.args.self.now ++ 46 ∷ []) one
     (subst (λ n. HasWritten g.W.Write.write_str_gives c.display_hash.new.f (46 ∷ (name_text n ++ 46 ∷ [])) c.write.new.self) c.fmt_with_dot.ensures two)
     (owner_below apex hash c.self.invariant.1 (λ root. false≢true (sym c.if-is_root.false ∙ c.is_root.ensures.1 root))
     ∙ ap (λ n. name_text n ++ 46 ∷ []) c.self.view_is)

@@ -8,7 +8,8 @@ use Rattle.domain_nsec3.proofs.nsec3_chain.Nsec3Chain.generate.Goals as goal
 
 pub chain_of_zone-requires-clause-soa : goal.chain_of_zone-requires-clause-soa
 chain_of_zone-requires-clause-soa g c =
-    ap (λ rs. soa_of (zone_of g.N.ToName.labels g.D.RecordData.rtype g.D.ZoneData.minimum rs) (g.N.ToName.labels c.args.apex.now)) (sym c.records.ensures) ∙ sym c.in-Some.ensures
+    ap (λ rs. soa_of (zone_of g.N.ToName.labels g.D.RecordData.rtype g.D.ZoneData.minimum rs) (g.N.ToName.labels c.args.apex.now))
+    (sym c.records.ensures) ∙ sym c.in-Some.ensures
 
 pub new-requires : goal.new-requires
 new-requires g c =
@@ -23,5 +24,9 @@ returns-clause-chain g c =
     let t = chain_ttl c.in-Some.soa in
     let is : c.new.result.links ≡ links_in a c.in-Ok.chain (common_of c.args.config.now.params t) =
     c.new.ensures.links
-    ∙ (λ i. let r = c.in_ok-nsec3param.ensures i in links_in r.owner c.in-Ok.chain (record { ttl = c.chain_ttl.ensures i; parameters = r.parameters; flags = r.flags })) in
+    ∙ (λ i. let r = c.in_ok-nsec3param.ensures i in links_in r.owner c.in-Ok.chain (record {
+      ttl = c.chain_ttl.ensures i;
+      parameters = r.parameters;
+      flags = r.flags;
+    })) in
     subst (IsHashedChain L a config) (sym is) c.in-Ok.ensures.chain
