@@ -7,9 +7,9 @@ use Rattle.domain_octets.specs.Words.{Octets}
 use Rattle.domain_base.specs.Words.{Name}
 use Rattle.domain_nsec3.specs.View.{Answer, config_of, hash_by, parameters_of}
 use Rattle.domain_nsec3.specs.declared.config.GenerateNsec3Config.{GenerateNsec3Config}
+use Rattle.domain_lent.specs.Data.{RawRecord}
 use Rattle.denial_program.specs.Answer.{fault_of_chain, usual_nsec3_config, HasNoAnswer, HasNoNsecs, HasNoNsec3s, IsAnswer, IsNsecs, IsNsec3s, IsUnwritten}
 use Rattle.denial_program.specs.Command.{Params}
-use Rattle.denial_program.specs.Listing.{ProgramRecord}
 use Rattle.denial_program.specs.declared.answer.Answer.{Answer as RunAnswer}
 use Rattle.denial_program.specs.declared.command.Command.{Command}
 use Rattle.denial_program.specs.declared.command.Command.TheVariants.{Nsec, Nsec3, CheckNsec, CheckNsec3}
@@ -36,14 +36,14 @@ chain_no_write (Signing e) is = cc
 chain_no_write OutOfMemory is = cc
 
 -- nor is any for which there is no answer
-no_answer_no_write : (answers : Answer) (command : Command) (given : List ProgramRecord) → HasNoAnswer answers command given Write → ⊥
+no_answer_no_write : (answers : Answer) (command : Command) (given : List RawRecord) → HasNoAnswer answers command given Write → ⊥
 no_answer_no_write answers (Nsec apex) given none = chain_no_write none.error (sym none.is)
 no_answer_no_write answers (Nsec3 apex p) given none = chain_no_write none.error (sym none.is)
 no_answer_no_write answers (CheckNsec q) given none = cc
 no_answer_no_write answers (CheckNsec3 q) given none = none
 
 -- where writing failed there was an answer
-pub answer_unwritten : {X : Type 0} (answers : Answer) (command : Command) (given : List ProgramRecord) (r : Result X DenialFault)
+pub answer_unwritten : {X : Type 0} (answers : Answer) (command : Command) (given : List RawRecord) (r : Result X DenialFault)
     → IfErr r (IsUnwritten (IsAnswer answers command given) (HasNoAnswer answers command given)) → IsErrOf r Write
     → (x : RunAnswer) × IsAnswer answers command given x
 answer_unwritten answers command given r h is = there (subst (λ q. IfErr q (IsUnwritten (IsAnswer answers command given) (HasNoAnswer answers command given))) is h)
@@ -57,13 +57,14 @@ on_ok f (Ok x) h = f h
 on_ok f (Err e) h = tt
 
 -- a chain that could not be written
-pub nsecs_unwritten : {X : Type 0} (given : List ProgramRecord) (apex : Name) (x : RunAnswer) → IsNsecs given apex x → (r : Result X DenialFault)
+pub nsecs_unwritten : {X : Type 0} (given : List RawRecord) (apex : Name) (x : RunAnswer) → IsNsecs given apex x → (r : Result X DenialFault)
     → IfErr r (λ e. (e ≡ Write) ⊎ (e ≡ NoMemory)) → IfErr r (IsUnwritten (IsNsecs given apex) (HasNoNsecs given apex))
 nsecs_unwritten given apex x is (Ok y) h = tt
 nsecs_unwritten given apex x is (Err e) (inl w) = inl (w, (x, is))
 nsecs_unwritten given apex x is (Err e) (inr m) = inr (record { error = OutOfMemory; is = m; none = tt })
 
-pub nsec3s_unwritten : {X : Type 0} (answers : Answer) (given : List ProgramRecord) (apex : Name) (p : Params) (x : RunAnswer) → IsNsec3s answers given apex p x → (r : Result X DenialFault)
+pub nsec3s_unwritten : {X : Type 0} (answers : Answer) (given : List RawRecord) (apex : Name) (p : Params) (x : RunAnswer)
+    → IsNsec3s answers given apex p x → (r : Result X DenialFault)
     → IfErr r (λ e. (e ≡ Write) ⊎ (e ≡ NoMemory)) → IfErr r (IsUnwritten (IsNsec3s answers given apex p) (HasNoNsec3s answers given apex p))
 nsec3s_unwritten answers given apex p x is (Ok y) h = tt
 nsec3s_unwritten answers given apex p x is (Err e) (inl w) = inl (w, (x, is))

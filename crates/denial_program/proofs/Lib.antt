@@ -7,3 +7,4 @@ pub mod RunLemmas
 pub mod CommandLemmas
 pub mod AnswerLemmas
 pub mod CheckLemmas
+pub mod AmongLemmas

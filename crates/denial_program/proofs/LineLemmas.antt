@@ -1,5 +1,7 @@
 -- The record that tokens spell, part after part, and tokens that spell none.
 use Rattle.std.proofs.Common.{◌≡◌, ◌≢◌, ◌↔◌, ℕ, Bool, false, IsTrue, List, [], ◌∷◌, refl, ap, sym, ◌∙◌, subst, None}
+use Rattle.domain_octets.specs.Words.{Octets}
+use Rattle.domain_base.specs.Words.{Name}
 use Rattle.domain_base.specs.Text.{NameText}
 use Rattle.domain_base.specs.Scan.{ScanFault, IsOfTokens, scan_fault_of, TakesToken, RefusesToken, ended, refused, IsNumber, IsNoNumber, NameTextFault}
 use Rattle.domain_base.specs.Numbers.{ClassText, IsNoClass, TypeText, IsNoType, type_names}
@@ -7,11 +9,11 @@ use Rattle.domain_base.specs.declared.error.ScanError.{ScanError}
 use Rattle.domain_base.specs.declared.error.ScanError.TheVariants as scan_error
 use Rattle.domain_base.proofs.NamedLemmas.{one_named}
 use Rattle.domain_base.proofs.RefusalLemmas.{token_excludes, name_excludes}
-use Rattle.domain_plain.specs.declared.record.Record.{Record}
 use Rattle.domain_rdata.specs.Scan.{RdataText}
+use Rattle.domain_rdata.specs.Zone.{canonical_octets}
 use Rattle.domain_rdata.specs.declared.zone_record_data.ZoneRecordData.{ZoneRecordData}
 use Rattle.domain_rdata.proofs.ScanLemmas.{text_once}
-use Rattle.denial_program.specs.Listing.{ProgramRecord}
+use Rattle.domain_lent.specs.Data.{RawData, RawRecord}
 use Rattle.denial_program.specs.Said.{line_error_of, SpellsNoName, SpellsNone}
 use Rattle.denial_program.specs.Words.{LineText}
 use Rattle.denial_program.specs.declared.line.LineError.{LineError}
@@ -21,28 +23,32 @@ pub none_left : (ts : List (List ℕ)) (b : Bool) → (IsTrue b ↔ (ts ≢ []))
 none_left [] b h e = refl
 none_left (t ∷ ts) b h e = absurd (let w = h.1 (λ p. cc) in cc)
 
-pub line_text : {O N : Type 0} (octets : O → List ℕ) (labels : N → List (List ℕ)) (ws1 ws2 ws3 ws4 ws5 ws6 : List (List ℕ)) (owner : N) (class ttl rtype : ℕ) (d : ZoneRecordData O N) (r : Record N (ZoneRecordData O N))
-    → TakesToken (λ t. NameText t (labels owner)) ws1 ws2
+pub line_text : (ws1 ws2 ws3 ws4 ws5 ws6 : List (List ℕ)) (owner : Name) (class ttl rtype : ℕ) (d : ZoneRecordData Octets Name)
+    (stored : RawData) (r : RawRecord)
+    → TakesToken (λ t. NameText t owner) ws1 ws2
     → TakesToken (λ t. IsNumber 32 t ttl) ws2 ws3
     → TakesToken (λ t. ClassText t class) ws3 ws4
     → TakesToken (λ t. TypeText t rtype) ws4 ws5
-    → RdataText octets labels rtype ws5 d ws6 → ws6 ≡ []
-    → r ≡ record { owner = owner; class = class; ttl = ttl; «data» = d }
-    → LineText octets labels ws1 r
-line_text octets labels ws1 ws2 ws3 ws4 ws5 ws6 owner class ttl rtype d r o t c k h e same = subst (LineText octets labels ws1) (sym same) (record {
-  owner_word = o.token;
-  ttl_word = t.token;
-  class_word = c.token;
-  type_word = k.token;
-  data_words = ws5;
-  rtype = rtype;
-  are = o.first ∙ ap (λ ws. o.token ∷ ws) (t.first ∙ ap (λ ws. t.token ∷ ws) (c.first ∙ ap (λ ws. c.token ∷ ws) k.first));
-  owner = o.holds;
-  ttl = t.holds;
-  class = c.holds;
-  type = k.holds;
-  rdata = subst (λ ws. RdataText octets labels rtype ws5 d ws) e h;
-})
+    → RdataText (λ o. o) (λ n. n) rtype ws5 d ws6 → ws6 ≡ []
+    → stored ≡ record { rtype = rtype; octets = canonical_octets (λ o. o) (λ n. n) d }
+    → r ≡ record { owner = owner; class = class; ttl = ttl; «data» = stored }
+    → LineText ws1 r
+line_text ws1 ws2 ws3 ws4 ws5 ws6 owner class ttl rtype d stored r o t c k h e kept same =
+    subst (LineText ws1) (sym (same ∙ ap (λ (s : RawData). record { owner = owner; class = class; ttl = ttl; «data» = s }) kept)) (record {
+      owner_word = o.token;
+      ttl_word = t.token;
+      class_word = c.token;
+      type_word = k.token;
+      data_words = ws5;
+      spelled = d;
+      are = o.first ∙ ap (λ ws. o.token ∷ ws) (t.first ∙ ap (λ ws. t.token ∷ ws) (c.first ∙ ap (λ ws. c.token ∷ ws) k.first));
+      owner = o.holds;
+      ttl = t.holds;
+      class = c.holds;
+      type = k.holds;
+      rdata = subst (λ ws. RdataText (λ o. o) (λ n. n) rtype ws5 d ws) e h;
+      octets = refl;
+    })
 
 -- a token that is refused spells no value
 refused_spells : (Why : ScanFault → List ℕ → Type 0) (P : List ℕ → Type 0) (old new after : List (List ℕ)) (fault : ScanFault)
@@ -53,7 +59,7 @@ refused_spells Why P old new after fault apart (refused token left why_fault why
     apart takes.token (subst (Why fault) same why) takes.holds
 
 -- a line that spells a record, whose tokens were read so far
-module _ {O N : Type 0} (octets : O → List ℕ) (labels : N → List (List ℕ)) (ws1 ws2 ws3 ws4 ws5 : List (List ℕ)) (r : Record N (ZoneRecordData O N)) (line : LineText octets labels ws1 r) where
+module _ (ws1 ws2 ws3 ws4 ws5 : List (List ℕ)) (r : RawRecord) (line : LineText ws1 r) where
   module _ {P1 : List ℕ → Type 0} (first : TakesToken P1 ws1 ws2) where
     after_owner : ws2 ≡ line.ttl_word ∷ line.class_word ∷ line.type_word ∷ line.data_words
     after_owner = let e = first.first in let f = line.are in cc
@@ -78,25 +84,27 @@ module _ {O N : Type 0} (octets : O → List ℕ) (labels : N → List (List ℕ
 
         pub no_type : (new : List (List ℕ)) (fault : ScanFault) → RefusesToken IsNoType ws4 new fault → ⊥
         no_type new fault why =
-            refused_spells IsNoType (λ t. TypeText t line.rtype) ws4 new line.data_words fault (λ token no yes. no.none line.rtype yes) why
+            refused_spells IsNoType (λ t. TypeText t r.«data».rtype) ws4 new line.data_words fault (λ token no yes. no.none r.«data».rtype yes) why
             (record { token = line.type_word; first = after_class; holds = line.type })
 
         -- the data that the line spells stand in the tokens that are left, under the type that was read
         module _ (rtype : ℕ) (fourth : TakesToken (λ t. TypeText t rtype) ws4 ws5) where
-          data_left : RdataText octets labels rtype ws5 r.«data» []
+          data_left : RdataText (λ o. o) (λ n. n) rtype ws5 line.spelled []
           data_left =
               let word : fourth.token ≡ line.type_word = (let e = fourth.first in let f = after_class in cc) in
               let left : line.data_words ≡ ws5 = (let e = fourth.first in let f = after_class in cc) in
-              let same : line.rtype ≡ rtype = one_named type_names _ line.type_word line.rtype rtype line.type (subst (λ t. TypeText t rtype) word fourth.holds) in
-              subst (λ t. RdataText octets labels t ws5 r.«data» []) same (subst (λ ws. RdataText octets labels line.rtype ws r.«data» []) left line.rdata)
+              let same : r.«data».rtype ≡ rtype =
+              one_named type_names _ line.type_word r.«data».rtype rtype line.type (subst (λ t. TypeText t rtype) word fourth.holds) in
+              subst (λ t. RdataText (λ o. o) (λ n. n) t ws5 line.spelled []) same
+              (subst (λ ws. RdataText (λ o. o) (λ n. n) r.«data».rtype ws line.spelled []) left line.rdata)
 
-          pub no_data : ((d : ZoneRecordData O N) (after : List (List ℕ)) → RdataText octets labels rtype ws5 d after → ⊥) → ⊥
-          no_data none = none r.«data» [] data_left
+          pub no_data : ((d : ZoneRecordData Octets Name) (after : List (List ℕ)) → RdataText (λ o. o) (λ n. n) rtype ws5 d after → ⊥) → ⊥
+          no_data none = none line.spelled [] data_left
 
-          pub no_more : (d : ZoneRecordData O N) (ws6 : List (List ℕ)) → RdataText octets labels rtype ws5 d ws6 → ws6 ≢ [] → ⊥
-          no_more d ws6 is more = more ((text_once octets labels rtype ws5 ws6 [] d r.«data» is data_left).0)
+          pub no_more : (d : ZoneRecordData Octets Name) (ws6 : List (List ℕ)) → RdataText (λ o. o) (λ n. n) rtype ws5 d ws6 → ws6 ≢ [] → ⊥
+          no_more d ws6 is more = more ((text_once (λ o. o) (λ n. n) rtype ws5 ws6 [] d line.spelled is data_left).0)
 
-pub spells_none : (ws : List (List ℕ)) (e : LineError) → (e ≡ Bad → (r : ProgramRecord) → LineText (λ o. o) (λ n. n) ws r → ⊥) → SpellsNone ws e
+pub spells_none : (ws : List (List ℕ)) (e : LineError) → (e ≡ Bad → (r : RawRecord) → LineText ws r → ⊥) → SpellsNone ws e
 spells_none ws Bad h = h refl
 spells_none ws OutOfMemory h = tt
 

@@ -4,9 +4,10 @@ use Rattle.std.specs.Str.Lines.{lines, strip_carriage_return}
 use Rattle.std.specs.Io.BufRead.{take_through, drop_through, DropsThrough}
 use Rattle.std.specs.Io.KnownBytes.{IsAtEnd}
 use Rattle.std.proofs.lemmas.List.Elements.{All-nil, All-cons}
+use Rattle.domain_lent.specs.Data.{RawRecord}
 use Rattle.denial_program.specs.Fault.{IsReadToEnd}
 use Rattle.denial_program.specs.Words.{words, IsSkipped}
-use Rattle.denial_program.specs.Listing.{Give, IsRecord, ProgramRecord, IsGood, IsBad, IsFirstBad}
+use Rattle.denial_program.specs.Listing.{Give, IsRecord, IsGood, IsBad, IsFirstBad}
 use Rattle.denial_program.proofs.LineSteps.{lines_step}
 
 taken_some : (bs : List ℕ) → 0 < length (take_through 10 bs) → 0 < length bs
@@ -14,8 +15,8 @@ taken_some [] h = h
 taken_some (x ∷ xs) h = omega arith
 
 -- what rest gives after these records, all gives; and rest begins with the line of this number
-pub record Continues (all rest : List (List ℕ)) (records : List ProgramRecord) (number : ℕ) : Type 0 where
-  pub gives : (more : List ProgramRecord) → Give (λ o. o) (λ n. n) rest more → Give (λ o. o) (λ n. n) all (records ++ more)
+pub record Continues (all rest : List (List ℕ)) (records : List RawRecord) (number : ℕ) : Type 0 where
+  pub gives : (more : List RawRecord) → Give rest more → Give all (records ++ more)
   pub bad : (k n : ℕ) → n + 1 ≡ k + number → IsFirstBad rest k → IsFirstBad all n
 
 first_bad_here : (line : List ℕ) (more : List (List ℕ)) → IsBad line → IsFirstBad (line ∷ more) 1
@@ -33,34 +34,35 @@ first_bad_later line more k good h = record {
 }
 
 -- of known octets the lines before this number gave these records, and the reader has the others left
-abbrev pub Follows : Option (List ℕ) → Option (List ℕ) → List ProgramRecord → ℕ → Type 0
+abbrev pub Follows : Option (List ℕ) → Option (List ℕ) → List RawRecord → ℕ → Type 0
 Follows known now records number = IfSome known (λ all. (rest : List ℕ) × (now ≡ Some rest) × Continues (lines all) (lines rest) records number)
 
 -- the same where the line of this number was taken
-abbrev pub FollowsAt : Option (List ℕ) → Option (List ℕ) → List ℕ → List ProgramRecord → ℕ → Type 0
+abbrev pub FollowsAt : Option (List ℕ) → Option (List ℕ) → List ℕ → List RawRecord → ℕ → Type 0
 FollowsAt known now out records number = IfSome known (λ all. (rest : List ℕ) × (now ≡ Some rest) × Continues (lines all) (out ∷ lines rest) records number)
 
-pub follows_start : (known : Option (List ℕ)) (records : List ProgramRecord) (number : ℕ) → records ≡ [] → number ≡ 1 → Follows known known records number
+pub follows_start : (known : Option (List ℕ)) (records : List RawRecord) (number : ℕ) → records ≡ [] → number ≡ 1 → Follows known known records number
 follows_start None records number e one = tt
 follows_start (Some all) records number e one = (
   all,
   refl,
   record {
-    gives = λ more h. subst (λ rs. Give (λ o. o) (λ n. n) (lines all) (rs ++ more)) (sym e) h;
+    gives = λ more h. subst (λ rs. Give (lines all) (rs ++ more)) (sym e) h;
     bad = λ k n p h. let same : k ≡ n = omega (arith, one) in subst (IsFirstBad (lines all)) same h;
   },
 )
 
-pub follows_end : (known now : Option (List ℕ)) (records : List ProgramRecord) (number : ℕ) → Follows known now records number → IsAtEnd now → IfSome known (λ all. Give (λ o. o) (λ n. n) (lines all) records)
+pub follows_end : (known now : Option (List ℕ)) (records : List RawRecord) (number : ℕ)
+    → Follows known now records number → IsAtEnd now → IfSome known (λ all. Give (lines all) records)
 follows_end None now records number h e = tt
 follows_end (Some all) None records number h e = absurd (let w = h.1 in cc)
 follows_end (Some all) (Some xs) records number h e =
     let same : h.0 ≡ [] = (let w = h.1 in cc) in
     let c : Continues (lines all) [] records number = subst (λ (r : List ℕ). Continues (lines all) (lines r) records number) same h.2 in
-    subst (Give (λ o. o) (λ n. n) (lines all)) (append-nil records) (c.gives [] refl)
+    subst (Give (lines all)) (append-nil records) (c.gives [] refl)
 
 -- a line was read into a buffer that was empty
-pub follows_next : (known old new : Option (List ℕ)) (records : List ProgramRecord) (number : ℕ) (was buf view out : List ℕ) → Follows known old records number
+pub follows_next : (known old new : Option (List ℕ)) (records : List RawRecord) (number : ℕ) (was buf view out : List ℕ) → Follows known old records number
     → DropsThrough old new 10 → was ≡ [] → IfSome old (λ xs. buf ≡ was ++ take_through 10 xs) → 0 < length buf → view ≡ buf
     → ((front : List ℕ) → view ≡ front ++ 10 ∷ [] → out ≡ strip_carriage_return front)
     → (get_or view (length view - 1) 0 ≢ 10 → out ≡ view)
@@ -78,7 +80,8 @@ follows_next (Some all) old new records number was buf view out h drops empty fi
     (λ p. last (subst (λ (t : List ℕ). get_or t (length t - 1) 0 ≢ 10) (sym seen) p) ∙ seen) in
     (drop_through 10 rest, dropped, subst (λ ls. Continues (lines all) ls records number) step h.2)
 
-pub follows_skip : (known now : Option (List ℕ)) (out : List ℕ) (records : List ProgramRecord) (number : ℕ) → FollowsAt known now out records number → IsSkipped (words out) → Follows known now records (number + 1)
+pub follows_skip : (known now : Option (List ℕ)) (out : List ℕ) (records : List RawRecord) (number : ℕ)
+    → FollowsAt known now out records number → IsSkipped (words out) → Follows known now records (number + 1)
 follows_skip None now out records number h s = tt
 follows_skip (Some all) now out records number h s = (
   h.0,
@@ -89,21 +92,22 @@ follows_skip (Some all) now out records number h s = (
   },
 )
 
-pub follows_record : (known now : Option (List ℕ)) (out : List ℕ) (old new : List ProgramRecord) (r : ProgramRecord) (number : ℕ) → FollowsAt known now out old number
-    → new ≡ old ++ r ∷ [] → IsRecord (λ o. o) (λ n. n) out r → Follows known now new (number + 1)
+pub follows_record : (known now : Option (List ℕ)) (out : List ℕ) (old new : List RawRecord) (r : RawRecord) (number : ℕ) → FollowsAt known now out old number
+    → new ≡ old ++ r ∷ [] → IsRecord out r → Follows known now new (number + 1)
 follows_record None now out old new r number h e s = tt
 follows_record (Some all) now out old new r number h e s = (
   h.0,
   h.1,
   record {
-    gives = λ more g. subst (λ rs. Give (λ o. o) (λ n. n) (lines all) (rs ++ more)) (sym e)
-        (subst (Give (λ o. o) (λ n. n) (lines all)) (sym (append_assoc old (r ∷ []) more)) (h.2.gives (r ∷ more) (inr (r, more, refl, s, g))));
+    gives = λ more g. subst (λ rs. Give (lines all) (rs ++ more)) (sym e)
+        (subst (Give (lines all)) (sym (append_assoc old (r ∷ []) more)) (h.2.gives (r ∷ more) (inr (r, more, refl, s, g))));
     bad = λ k n p b. h.2.bad (k + 1) n (omega arith) (first_bad_later out (lines h.0) k (inr (r, s)) b);
   },
 )
 
 -- the line that was taken is bad
-pub follows_bad : (known now : Option (List ℕ)) (out : List ℕ) (records : List ProgramRecord) (number : ℕ) → FollowsAt known now out records number → IsBad out → IfSome known (λ all. IsFirstBad (lines all) number)
+pub follows_bad : (known now : Option (List ℕ)) (out : List ℕ) (records : List RawRecord) (number : ℕ)
+    → FollowsAt known now out records number → IsBad out → IfSome known (λ all. IsFirstBad (lines all) number)
 follows_bad None now out records number h b = tt
 follows_bad (Some all) now out records number h b = h.2.bad 1 number (omega arith) (first_bad_here out (lines h.0) b)
 
@@ -129,6 +133,6 @@ pub known_after : (known middle new : Option (List ℕ)) → StaysKnown known mi
 known_after None middle new h end = tt
 known_after (Some all) middle new h end = subst (λ o. IsReadToEnd o new) h.1 end
 
-pub known_line : (known now : Option (List ℕ)) (records : List ProgramRecord) (number : ℕ) → Follows known now records number → StaysKnown known now
+pub known_line : (known now : Option (List ℕ)) (records : List RawRecord) (number : ℕ) → Follows known now records number → StaysKnown known now
 known_line None now records number h = tt
 known_line (Some all) now records number h = (h.0, h.1)

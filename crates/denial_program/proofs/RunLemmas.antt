@@ -15,12 +15,12 @@ use Rattle.domain_chain_rdata.specs.Nsec3paramText.{nsec3param_text}
 use Rattle.domain_chain_rdata.specs.Rdata.{nsec3param_values}
 use Rattle.domain_base.specs.Words.{Name}
 use Rattle.domain_chain_rdata.specs.declared.nsec.Nsec.{Nsec}
+use Rattle.domain_chain_rdata.specs.declared.nsec3param.Nsec3param.{Nsec3param}
 use Rattle.domain_plain.specs.declared.record.Record.{Record}
 use Rattle.domain_nsec.specs.ChainView.{as_link}
 use Rattle.domain_nsec3.specs.Chain.{HashedLink}
 use Rattle.domain_nsec3.specs.Text.{link_text}
 use Rattle.domain_nsec3.specs.View.{as_param_record}
-use Rattle.denial_program.specs.Check.{ParamRecord}
 use Rattle.denial_program.specs.Text.{lines_of, link_values, nsec_line, nsec3_line, nsec3param_line}
 
 pub appends_more : (a b c : Option Octets) (t u : Octets) → Appends a b t → Appends b c u → Appends a c (t ++ u)
@@ -56,7 +56,7 @@ lines_more text items i d l =
     ∙ ap (λ t. lines_of text (take i items) ++ t) (append-nil (text (get_or items i d) ++ codes "\n"))
 
 -- and the record of its parameters, with the end of the line
-pub param_printed : (r : ParamRecord)
+pub param_printed : (r : Record Name (Nsec3param Octets))
     → (name_text r.owner ++ codes ".") ++ (codes " " ++ (decimal r.ttl ++ (codes " " ++ (class_text r.class ++ (codes " " ++ (type_text nsec3param ++ (codes " " ++ nsec3param_text (nsec3param_values r.«data»)))))))) ++ codes "\n"
     ≡ nsec3param_line (as_param_record (λ n. n) r) ++ codes "\n"
 param_printed r =

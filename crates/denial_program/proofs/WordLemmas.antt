@@ -140,7 +140,7 @@ pub is_bad : (line : List ℕ) (tokens : List (List ℕ)) (skipped : Bool) (e : 
     → IsTrue skipped ↔ IsSkipped (words line) → skipped ≡ false → e ≡ Bad → SpellsNone tokens e → IsBad line
 is_bad line tokens skipped e same test off bad none = record {
   seen = λ s. absurd (let on = test.1 s in cc);
-  none = λ r h. (subst (SpellsNone tokens) bad none) r (subst (λ ws. LineText (λ o. o) (λ n. n) ws r) (sym same) h.spelled);
+  none = λ r h. (subst (SpellsNone tokens) bad none) r (subst (λ ws. LineText ws r) (sym same) h.spelled);
 }
 
 -- a line that is not skipped, and holds an octet past `~`

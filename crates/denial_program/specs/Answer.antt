@@ -8,12 +8,14 @@ use Rattle.domain_nsec3.specs.Chain.{ChainRecords}
 use Rattle.domain_nsec3.specs.Config.{ChainConfig}
 use Rattle.domain_nsec3.specs.View.{Answer as HasherAnswer, hash_by, parameters_of}
 use Rattle.domain_nsec3.specs.declared.config.Nsec3ParamTtlMode.TheVariants.{Soa}
-use Rattle.domain_dnssec.specs.ZoneRecords.{IsChainOf, HasNoChain, IsHashedChainOf, HasNoHashedChain}
+use Rattle.domain_lent.specs.Data.{data_cmp, minimum_of, RawRecord}
+use Rattle.domain_dnssec.specs.AnyOrder as any_order
+use Rattle.domain_dnssec.specs.AnyOrderNsec3 as any_order_nsec3
 use Rattle.domain_dnssec.specs.declared.chain.ChainError.{ChainError}
 use Rattle.domain_dnssec.specs.declared.chain.ChainError.TheVariants as chain_error
 use Rattle.denial_program.specs.Check.{HasNoNsec3Verdict, IsNsec3Verdict, IsNsecVerdict}
 use Rattle.denial_program.specs.Command.{Asks, Params}
-use Rattle.denial_program.specs.Listing.{Give, ProgramRecord}
+use Rattle.denial_program.specs.Listing.{Give}
 use Rattle.denial_program.specs.Text.{answer_text}
 use Rattle.denial_program.specs.declared.answer.Answer.{Answer}
 use Rattle.denial_program.specs.declared.answer.Answer.TheVariants.{Nsecs, Nsec3s}
@@ -22,6 +24,10 @@ use Rattle.denial_program.specs.declared.command.Command.TheVariants.{Nsec, Nsec
 use Rattle.denial_program.specs.declared.fault.DenialFault.{DenialFault}
 use Rattle.denial_program.specs.declared.fault.DenialFault.TheVariants.{MixedClasses, Signing, Write, OutOfMemory}
 
+-- sorted is the sorted set of the records, by owner, class, type and octets
+abbrev pub Sorts : List RawRecord → List RawRecord → Type 0
+Sorts = any_order.Sorts (λ n. n) (λ d. d.rtype) data_cmp
+
 -- what the program says where there is no chain
 abbrev pub fault_of_chain : ChainError → DenialFault
 fault_of_chain chain_error.MixedClasses = MixedClasses
@@ -29,17 +35,17 @@ fault_of_chain (chain_error.Signing e) = Signing e
 fault_of_chain chain_error.OutOfMemory = OutOfMemory
 
 -- the answer is the NSEC chain of the records, as `GenerateNsecConfig::new` has it
-pub record IsNsecs (given : List ProgramRecord) (apex : Name) (answer : Answer) : Type 0 where
+pub record IsNsecs (given : List RawRecord) (apex : Name) (answer : Answer) : Type 0 where
   pub links : List Link
   pub is : answer ≡ Nsecs links
-  pub chain : IsChainOf (λ o. o) (λ n. n) given apex usual_config links
+  pub chain : any_order.IsChainOf (λ n. n) (λ d. d.rtype) minimum_of data_cmp given apex usual_config links
 
 -- there is none, for this reason
-pub record HasNoNsecs (given : List ProgramRecord) (apex : Name) (fault : DenialFault)
+pub record HasNoNsecs (given : List RawRecord) (apex : Name) (fault : DenialFault)
     : Type 0 where
   pub error : ChainError
   pub is : fault ≡ fault_of_chain error
-  pub none : HasNoChain (λ o. o) (λ n. n) given apex usual_config error
+  pub none : any_order.HasNoChain (λ n. n) (λ d. d.rtype) minimum_of data_cmp given apex usual_config error
 
 -- how the program makes an NSEC3 chain with these parameters: as `GenerateNsec3Config::new` has it
 abbrev pub usual_nsec3_config : HasherAnswer → Params → ChainConfig
@@ -54,22 +60,22 @@ usual_nsec3_config answer p =
     }
 
 -- the answer is the NSEC3 chain of the records by this hasher, and its NSEC3PARAM record
-pub record IsNsec3s (answers : HasherAnswer) (given : List ProgramRecord) (apex : Name) (p : Params)
+pub record IsNsec3s (answers : HasherAnswer) (given : List RawRecord) (apex : Name) (p : Params)
     (answer : Answer) : Type 0 where
   pub made : ChainRecords
   pub is : answer ≡ Nsec3s made
-  pub chain : IsHashedChainOf (λ o. o) (λ n. n) given apex (usual_nsec3_config answers p) Soa
-      made.links made.param
+  pub chain : any_order_nsec3.IsHashedChainOf (λ n. n) (λ d. d.rtype) minimum_of data_cmp given apex
+      (usual_nsec3_config answers p) Soa made.links made.param
 
 -- there is none, for this reason
-pub record HasNoNsec3s (answers : HasherAnswer) (given : List ProgramRecord) (apex : Name)
+pub record HasNoNsec3s (answers : HasherAnswer) (given : List RawRecord) (apex : Name)
     (p : Params) (fault : DenialFault) : Type 0 where
   pub error : ChainError
   pub is : fault ≡ fault_of_chain error
-  pub none : HasNoHashedChain (λ o. o) (λ n. n) given apex (usual_nsec3_config answers p)
+  pub none : any_order_nsec3.HasNoHashedChain (λ n. n) (λ d. d.rtype) minimum_of data_cmp given apex (usual_nsec3_config answers p)
       error
 
-abbrev pub IsAnswer : HasherAnswer → Command → List ProgramRecord → Answer → Type 0
+abbrev pub IsAnswer : HasherAnswer → Command → List RawRecord → Answer → Type 0
 IsAnswer answers (Nsec apex) given answer = IsNsecs given apex answer
 IsAnswer answers (Nsec3 apex p) given answer = IsNsec3s answers given apex p answer
 IsAnswer answers (CheckNsec q) given answer = IsNsecVerdict given q answer
@@ -87,7 +93,7 @@ IsUnwritten is_such has_none fault =
     ((fault ≡ Write) × ((answer : Answer) × is_such answer)) ⊎ has_none fault
 
 -- why there is no answer
-abbrev pub HasNoAnswer : HasherAnswer → Command → List ProgramRecord → DenialFault → Type 0
+abbrev pub HasNoAnswer : HasherAnswer → Command → List RawRecord → DenialFault → Type 0
 HasNoAnswer answers (Nsec apex) given fault = HasNoNsecs given apex fault
 HasNoAnswer answers (Nsec3 apex p) given fault = HasNoNsec3s answers given apex p fault
 HasNoAnswer answers (CheckNsec q) given fault = fault ≡ OutOfMemory
@@ -97,16 +103,16 @@ HasNoAnswer answers (CheckNsec3 q) given fault = HasNoNsec3Verdict answers given
 pub record Answers (answers : HasherAnswer) (words : Tokens) (lines : List Octets) (answer : Answer)
     : Type 0 where
   pub command : Command
-  pub given : List ProgramRecord
+  pub given : List RawRecord
   pub asks : Asks words command
-  pub gives : Give (λ o. o) (λ n. n) lines given
+  pub gives : Give lines given
   pub is : IsAnswer answers command given answer
 
 -- it has none over them, for this reason
 pub record GivesNoAnswer (answers : HasherAnswer) (words : Tokens) (lines : List Octets)
     (fault : DenialFault) : Type 0 where
   pub command : Command
-  pub given : List ProgramRecord
+  pub given : List RawRecord
   pub asks : Asks words command
-  pub gives : Give (λ o. o) (λ n. n) lines given
+  pub gives : Give lines given
   pub none : HasNoAnswer answers command given fault

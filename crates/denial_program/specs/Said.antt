@@ -5,8 +5,9 @@ use Rattle.domain_base.specs.Text.{NameText}
 use Rattle.domain_base.specs.declared.error.ScanError.{ScanError}
 use Rattle.domain_base.specs.declared.error.ScanError.TheVariants as scan_error
 use Rattle.domain_base.specs.Words.{Name, Tokens}
+use Rattle.domain_lent.specs.Data.{RawRecord}
 use Rattle.denial_program.specs.Words.{words, IsSkipped, LineText}
-use Rattle.denial_program.specs.Listing.{IsRecord, IsBad, ProgramRecord}
+use Rattle.denial_program.specs.Listing.{IsRecord, IsBad}
 use Rattle.denial_program.specs.declared.line.Line.{Line}
 use Rattle.denial_program.specs.declared.line.Line.TheVariants.{Nothing, Record, Bad}
 use Rattle.denial_program.specs.declared.line.LineError.{LineError}
@@ -14,7 +15,7 @@ use Rattle.denial_program.specs.declared.line.LineError.TheVariants as line_erro
 
 abbrev pub Says : Octets → Line → Type 0
 Says line Nothing = IsSkipped (words line)
-Says line (Record r) = IsRecord (λ o. o) (λ n. n) line r
+Says line (Record r) = IsRecord line r
 Says line Bad = IsBad line
 
 -- why words are no record, where a token was refused
@@ -26,7 +27,7 @@ line_error_of scan_error.OutOfMemory = line_error.OutOfMemory
 
 -- the words spell no record, unless there was no memory to tell
 abbrev pub SpellsNone : Tokens → LineError → Type 0
-SpellsNone ws line_error.Bad = (r : ProgramRecord) → LineText (λ o. o) (λ n. n) ws r → ⊥
+SpellsNone ws line_error.Bad = (r : RawRecord) → LineText ws r → ⊥
 SpellsNone ws line_error.OutOfMemory = Unit {0}
 
 -- the first word spells no name, unless there was no memory to tell

@@ -7,9 +7,10 @@ use Rattle.domain_base.specs.Text.{NameText}
 use Rattle.domain_base.specs.Scan.{IsNumber}
 use Rattle.domain_base.specs.Numbers.{ClassText, TypeText}
 use Rattle.domain_base.specs.Words.{Name, Token, Tokens}
-use Rattle.domain_plain.specs.declared.record.Record.{Record}
 use Rattle.domain_rdata.specs.Scan.{RdataText}
+use Rattle.domain_rdata.specs.Zone.{canonical_octets}
 use Rattle.domain_rdata.specs.declared.zone_record_data.ZoneRecordData.{ZoneRecordData}
+use Rattle.domain_lent.specs.Data.{RawRecord}
 
 abbrev pub is_blank : ℕ → Bool
 is_blank b = (b == space) || (b == tab)
@@ -30,18 +31,19 @@ IsPlain word = All (λ octet. octet ≤ tilde) word
 abbrev pub ArePlain : Tokens → Type 0
 ArePlain ws = All IsPlain ws
 
--- the words spell a record: its owner, TTL, class, type and data (RFC 1035, section 5.1)
-pub record LineText {O N : Type 0} (octets : O → Octets) (labels : N → Name) (ws : Tokens)
-    (r : Record N (ZoneRecordData O N)) : Type 0 where
+-- the words spell a record: its owner, TTL, class, type and data (RFC 1035, section 5.1), of which
+-- the record has the octets in canonical form (RFC 4034, section 6.2)
+pub record LineText (ws : Tokens) (r : RawRecord) : Type 0 where
   pub owner_word : Token
   pub ttl_word : Token
   pub class_word : Token
   pub type_word : Token
   pub data_words : Tokens
-  pub rtype : ℕ
+  pub spelled : ZoneRecordData Octets Name
   pub are : ws ≡ owner_word ∷ ttl_word ∷ class_word ∷ type_word ∷ data_words
-  pub owner : NameText owner_word (labels r.owner)
+  pub owner : NameText owner_word r.owner
   pub ttl : IsNumber 32 ttl_word r.ttl
   pub class : ClassText class_word r.class
-  pub type : TypeText type_word rtype
-  pub rdata : RdataText octets labels rtype data_words r.«data» []
+  pub type : TypeText type_word r.«data».rtype
+  pub rdata : RdataText (λ o. o) (λ n. n) r.«data».rtype data_words spelled []
+  pub octets : r.«data».octets ≡ canonical_octets (λ o. o) (λ n. n) spelled

@@ -2,18 +2,16 @@
 ghost use Rattle.std.specs.Prelude.{◌≡◌, ◌⊎◌, List, IfErr, IfOk, OnOk};
 ghost use Rattle.std.specs.Io.KnownBytes.{Appends};
 ghost use Rattle.domain_base.specs.Words.{Name};
-ghost use Rattle.domain_rdata.specs.Zone.{rtype_of};
 ghost use Rattle.domain_records.specs.Order.{IsInOrder, IsOneClass};
 ghost use Rattle.domain_nsec3.specs.View.{Answer as HasherAnswer};
-ghost use Rattle.domain_dnssec.specs.ZoneRecords.{Sorts};
-ghost use Rattle.denial_program.specs.Answer.{HasNoAnswer, HasNoNsec3s, HasNoNsecs, IsAnswer, IsNsec3s, IsNsecs, IsUnwritten, IsWritten};
+ghost use Rattle.domain_lent.specs.Data.{RawRecord};
+ghost use Rattle.denial_program.specs.Answer.{HasNoAnswer, HasNoNsec3s, HasNoNsecs, IsAnswer, IsNsec3s, IsNsecs, IsUnwritten, IsWritten, Sorts};
 ghost use Rattle.denial_program.specs.Command.{Params};
 ghost use Rattle.denial_program.specs.Fault.{IsBeforeOutput};
-ghost use Rattle.denial_program.specs.Listing.{ProgramRecord};
 ghost use Rattle.denial_program.specs.Text.{answer_text, lines_of, nsec_line, nsec3_line, nsec3s_text};
 ghost use Rattle.denial_program.specs.declared.fault.DenialFault.TheVariants.{OutOfMemory};
 
-use crate::arena::{StoredData, StoredOctets, StoredRr, lay_owners, store_name};
+use crate::arena::{lay_owners, store_name};
 use crate::check::{nsec_verdict, nsec3_verdict};
 use crate::command::{Command, Nsec3Params};
 use crate::fault::{DenialFault, fault_of};
@@ -25,17 +23,10 @@ use domain_dnssec::{
     GenerateNsec3Config, GenerateNsecConfig, InPlaceSorter, Nsec3Chain, Nsec3Hasher, NsecChain,
     RecordsIter, SigningError, SortedRecords, Verdict,
 };
-use domain_plain::Record;
-use domain_rdata::{Nsec, Nsec3};
+use domain_lent::{LentData, LentRecord};
 use std::alloc::Global;
 use std::io;
 use std::io::Write;
-
-/// A record of an NSEC chain.
-pub type NsecRr<'a> = Record<ParsedName<'a>, Nsec<StoredOctets<'a>, ParsedName<'a>>>;
-
-/// A record of an NSEC3 chain.
-pub type Nsec3Rr<'a> = Record<ParsedName<'a>, Nsec3<StoredOctets<'a>>>;
 
 /// What a run answers. An NSEC chain borrows from the records of its zone, an NSEC3 chain its apex.
 #[derive(Drop)]
@@ -53,17 +44,17 @@ pub enum Answer<'s, 'a> {
 /// # Errors
 ///
 /// `MixedClasses` where the records are not of one class, and `OutOfMemory`.
-fn sort_zone<'a>(records: Vec<StoredRr<'a>>) -> Result<Vec<StoredRr<'a>>, DenialFault>
+fn sort_zone<'a>(records: Vec<LentRecord<'a>>) -> Result<Vec<LentRecord<'a>>, DenialFault>
     ensures sorts { IfOk result
-        (λ sorted. Sorts (λ o. o) (λ n. n) records.entry.items sorted.items) }
+        (λ sorted. Sorts records.entry.items sorted.items) }
     ensures one_class { IfOk result (λ sorted. IsOneClass sorted.items) }
-    ensures in_order { IfOk result (λ sorted. IsInOrder (λ n. n) rtype_of sorted.items) }
+    ensures in_order { IfOk result (λ sorted. IsInOrder (λ n. n) (λ d. d.rtype) sorted.items) }
     ensures none { IfErr result
         (λ fault. (apex : Name) → HasNoNsecs records.entry.items apex fault) }
     ensures none_hashed { IfErr result (λ fault. (answers : HasherAnswer) (apex : Name) (p : Params)
         → HasNoNsec3s answers records.entry.items apex p fault) }
 {
-    let sorted: SortedRecords<ParsedName<'a>, StoredData<'a>> = match SortedRecords::from_vec(
+    let sorted: SortedRecords<ParsedName<'a>, LentData<'a>> = match SortedRecords::from_vec(
         records,
     ) {
         Ok(sorted) => sorted,
@@ -79,14 +70,14 @@ fn sort_zone<'a>(records: Vec<StoredRr<'a>>) -> Result<Vec<StoredRr<'a>>, Denial
 fn nsecs_of<'s, 'a>(
     alloc: Global,
     apex: &'s ParsedName<'a>,
-    sorted: &'s [StoredRr<'a>],
+    sorted: &'s [LentRecord<'a>],
 ) -> Result<Answer<'s, 'a>, DenialFault>
     requires one_class { IsOneClass sorted.now }
-    requires in_order { IsInOrder (λ n. n) rtype_of sorted.now }
-    ensures ok { IfOk result (λ answer. (given : List ProgramRecord)
-        → Sorts (λ o. o) (λ n. n) given sorted.now → IsNsecs given apex.now answer) }
-    ensures err { IfErr result (λ fault. (given : List ProgramRecord)
-        → Sorts (λ o. o) (λ n. n) given sorted.now → HasNoNsecs given apex.now fault) }
+    requires in_order { IsInOrder (λ n. n) (λ d. d.rtype) sorted.now }
+    ensures ok { IfOk result (λ answer. (given : List RawRecord)
+        → Sorts given sorted.now → IsNsecs given apex.now answer) }
+    ensures err { IfErr result (λ fault. (given : List RawRecord)
+        → Sorts given sorted.now → HasNoNsecs given apex.now fault) }
 {
     let config = GenerateNsecConfig::new();
     match NsecChain::generate(alloc, apex, RecordsIter::new_from_owned(sorted), &config) {
@@ -102,16 +93,16 @@ fn nsec3s_of<'s, 'a, H: Nsec3Hasher>(
     alloc: Global,
     apex: &'s ParsedName<'a>,
     parameters: Nsec3Params,
-    sorted: &[StoredRr<'a>],
+    sorted: &[LentRecord<'a>],
     hasher: &H,
 ) -> Result<Answer<'s, 'a>, DenialFault>
     requires one_class { IsOneClass sorted.now }
-    requires in_order { IsInOrder (λ n. n) rtype_of sorted.now }
-    ensures ok { IfOk result (λ answer. (given : List ProgramRecord)
-        → Sorts (λ o. o) (λ n. n) given sorted.now
+    requires in_order { IsInOrder (λ n. n) (λ d. d.rtype) sorted.now }
+    ensures ok { IfOk result (λ answer. (given : List RawRecord)
+        → Sorts given sorted.now
         → IsNsec3s (H.answer hasher.now) given apex.now parameters answer) }
-    ensures err { IfErr result (λ fault. (given : List ProgramRecord)
-        → Sorts (λ o. o) (λ n. n) given sorted.now
+    ensures err { IfErr result (λ fault. (given : List RawRecord)
+        → Sorts given sorted.now
         → HasNoNsec3s (H.answer hasher.now) given apex.now parameters fault) }
 {
     let config: GenerateNsec3Config<ZoneOctets, InPlaceSorter> = GenerateNsec3Config::new(
@@ -206,7 +197,7 @@ fn write_nsecs_of<'a, W: Write>(
     alloc: Global,
     arena: &'a Bump,
     apex: &ZoneName,
-    records: Vec<StoredRr<'a>>,
+    records: Vec<LentRecord<'a>>,
     output: &mut W,
 ) -> Result<(), DenialFault>
     ensures ok { OnOk result (IsWritten (IsNsecs records.entry.items apex.now)
@@ -230,7 +221,7 @@ fn write_nsec3s_of<'a, W: Write, H: Nsec3Hasher>(
     arena: &'a Bump,
     apex: &ZoneName,
     parameters: Nsec3Params,
-    records: Vec<StoredRr<'a>>,
+    records: Vec<LentRecord<'a>>,
     hasher: &H,
     output: &mut W,
 ) -> Result<(), DenialFault>
@@ -260,7 +251,7 @@ pub fn write_answer<'a, W: Write, H: Nsec3Hasher>(
     alloc: Global,
     arena: &'a Bump,
     command: Command,
-    records: Vec<StoredRr<'a>>,
+    records: Vec<LentRecord<'a>>,
     hasher: &H,
     output: &mut W,
 ) -> Result<(), DenialFault>
@@ -277,7 +268,7 @@ pub fn write_answer<'a, W: Write, H: Nsec3Hasher>(
             write_nsec3s_of(alloc, arena, &apex, parameters, records, hasher, output)
         }
         Command::CheckNsec(question) => {
-            let answer = nsec_verdict(alloc, question, records)?;
+            let answer = nsec_verdict(question, records);
             answer.send(output)
         }
         Command::CheckNsec3(question) => {

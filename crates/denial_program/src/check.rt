@@ -1,55 +1,51 @@
 //! What a chain that was read proves of a name and a type.
-ghost use Rattle.std.specs.Prelude.{◌≡◌, ◌⊎◌, [], ◌∷◌, IfErr, IfOk};
-ghost use Rattle.denial_program.specs.Check.{HasNoNsec3Verdict, IsNsec3Verdict, IsNsecVerdict, ParamRecord, nsec3s_among, nsecs_among, params_at};
+ghost use Rattle.std.specs.Prelude.{◌≡◌, ◌⊎◌, ◌≢◌, ℕ, List, [], ◌∷◌, ◌++◌, map, length, IfErr, IfOk};
+ghost use Rattle.domain_base.specs.Words.{Name};
+ghost use Rattle.domain_nsec.specs.Chain.{Link};
+ghost use Rattle.domain_nsec3.specs.Chain.{ParamRecord};
+ghost use Rattle.domain_nsec3.specs.View.{as_param_record, hashed_links_of};
+ghost use Rattle.domain_checker.specs.HandedIn.{HasRead};
+ghost use Rattle.denial_program.specs.Check.{AreNsecs, AreNsec3s, AreParams, HasNoNsec3Verdict, HasNoParam, IsNsec3Verdict, IsNsecVerdict};
 ghost use Rattle.denial_program.specs.declared.fault.DenialFault.TheVariants.{OutOfMemory as Memory};
 
-use crate::answer::{Answer, Nsec3Rr, NsecRr};
-use crate::arena::{StoredOctets, StoredRr};
+use crate::answer::Answer;
 use crate::command::Question;
 use crate::fault::DenialFault;
 use crate::line::ZoneName;
 use domain_base::{ParsedName, ToName};
-use domain_dnssec::{Nsec3Hasher, Nsec3Records, Verdict, check_nsec, check_nsec3};
-use domain_octets::{OutOfMemory, TryClone};
-use domain_plain::Record;
-use domain_rdata::{Nsec3param, ZoneRecordData};
+use domain_dnssec::{Nsec3Hasher, Nsec3Records, NsecCheck, check_nsec3};
+use domain_lent::{LentRecord, Nsec3Rr, Nsec3paramRr, into_nsec, into_nsec3, into_nsec3param};
+use domain_octets::OutOfMemory;
 use domain_records::{Nsec3HashError, SigningError};
 use std::alloc::Global;
 
-/// An NSEC3PARAM record in an arena.
-type ParamRr<'a> = Record<ParsedName<'a>, Nsec3param<StoredOctets<'a>>>;
-
-/// The NSEC records among these, in their order.
-fn nsecs_among<'a>(
-    alloc: Global,
-    records: Vec<StoredRr<'a>>,
-) -> Result<Vec<NsecRr<'a>>, OutOfMemory>
-    ensures { IfOk result (λ nsecs. nsecs.items ≡ nsecs_among records.entry.items) }
+/// Hands in the NSEC records among these, in their order.
+fn hand_in<'a>(check: &mut NsecCheck<'_>, records: Vec<LentRecord<'a>>)
+    ensures { (links : List Link) × AreNsecs records.entry.items links
+        × ((a x : Name) (t : ℕ) (before : List Link) → HasRead a x t before check.old
+        → HasRead a x t (before ++ links) check.new) }
 {
-    let mut nsecs = Vec::new(alloc);
     let mut left = records.into_iter();
     'left: while let Some(record) = left.next() {
-        let (owner, class, ttl, data) = record.into_parts();
-        if let ZoneRecordData::Nsec(data) = data {
-            nsecs.push(Record::new(owner, class, ttl, data))?;
+        if let Some(nsec) = into_nsec(record) {
+            check.add(&nsec);
         }
     }
-    Ok(nsecs)
 }
 
 /// The NSEC3 records among these, in their order.
 fn nsec3s_among<'a>(
     alloc: Global,
-    records: Vec<StoredRr<'a>>,
+    records: Vec<LentRecord<'a>>,
 ) -> Result<Vec<Nsec3Rr<'a>>, OutOfMemory>
-    ensures { IfOk result (λ nsec3s. nsec3s.items ≡ nsec3s_among records.entry.items) }
+    ensures { IfOk result (λ nsec3s.
+        AreNsec3s records.entry.items (hashed_links_of (λ n. n) nsec3s.items)) }
 {
     let mut nsec3s = Vec::new(alloc);
     let mut left = records.into_iter();
     'left: while let Some(record) = left.next() {
-        let (owner, class, ttl, data) = record.into_parts();
-        if let ZoneRecordData::Nsec3(data) = data {
-            nsec3s.push(Record::new(owner, class, ttl, data))?;
+        if let Some(nsec3) = into_nsec3(record) {
+            nsec3s.push(nsec3)?;
         }
     }
     Ok(nsec3s)
@@ -59,48 +55,46 @@ fn nsec3s_among<'a>(
 fn params_at<'a>(
     alloc: Global,
     apex: &ZoneName,
-    records: &[StoredRr<'a>],
-) -> Result<Vec<ParamRr<'a>>, OutOfMemory>
-    ensures { IfOk result (λ params. params.items ≡ params_at apex.now records.now) }
+    records: &[LentRecord<'a>],
+) -> Result<Vec<Nsec3paramRr<'a>>, OutOfMemory>
+    ensures { IfOk result (λ params.
+        AreParams apex.now records.now (map (as_param_record (λ n. n)) params.items)) }
 {
     let mut params = Vec::new(alloc);
     for record in records {
-        if let ZoneRecordData::Nsec3param(data) = record.data()
-            && record.owner().name_eq(apex)
-        {
-            let owner = record.owner().try_clone()?;
-            params.push(Record::new(owner, record.class(), record.ttl(), data.clone()?))?;
+        let Some(param) = into_nsec3param(record.clone()?) else {
+            continue;
+        };
+        if param.owner().name_eq(apex) {
+            params.push(param)?;
         }
     }
     Ok(params)
 }
 
 /// What the NSEC records among these prove.
-pub fn nsec_verdict<'s, 'a>(
-    alloc: Global,
-    question: Question,
-    records: Vec<StoredRr<'a>>,
-) -> Result<Answer<'s, 'a>, OutOfMemory>
-    ensures { IfOk result (IsNsecVerdict records.entry.items question) }
+pub fn nsec_verdict<'s, 'a>(question: Question, records: Vec<LentRecord<'a>>) -> Answer<'s, 'a>
+    ensures { IsNsecVerdict records.entry.items question result }
 {
-    let nsecs = nsecs_among(alloc, records)?;
     let Question { apex, name, rtype } = question;
-    let verdict = check_nsec(&apex, &nsecs, &name, rtype);
-    Ok(Answer::Verdict(name, verdict))
+    let mut check = NsecCheck::new(&apex, &name, rtype);
+    hand_in(&mut check, records);
+    let verdict = check.verdict();
+    Answer::Verdict(name, verdict)
 }
 
 /// The NSEC3 records among these, with the one NSEC3PARAM record of the apex.
 fn chain_of<'a>(
     alloc: Global,
     apex: &ZoneName,
-    records: Vec<StoredRr<'a>>,
-) -> Result<Nsec3Records<ParsedName<'a>, StoredOctets<'a>>, DenialFault>
-    ensures ok { IfOk result (λ chain.
-        (params_at apex.now records.entry.items ≡ chain.nsec3param ∷ [])
-        × (chain.nsec3s.items ≡ nsec3s_among records.entry.items)) }
+    records: Vec<LentRecord<'a>>,
+) -> Result<Nsec3Records<ParsedName<'a>, &'a [u8]>, DenialFault>
+    ensures param { IfOk result (λ chain. AreParams apex.now records.entry.items
+        (as_param_record (λ n. n) chain.nsec3param ∷ [])) }
+    ensures nsec3s { IfOk result (λ chain.
+        AreNsec3s records.entry.items (hashed_links_of (λ n. n) chain.nsec3s.items)) }
     ensures err { IfErr result (λ e. ((e ≡ DenialFault.Param)
-        × ((param : ParamRecord) → params_at apex.now records.entry.items ≡ param ∷ [] → ⊥))
-        ⊎ (e ≡ Memory)) }
+        × HasNoParam apex.now records.entry.items) ⊎ (e ≡ Memory)) }
 {
     let mut params = params_at(alloc, apex, &records)?;
     let Some(param) = params.pop() else {
@@ -116,7 +110,7 @@ fn chain_of<'a>(
 pub fn nsec3_verdict<'s, 'a, H: Nsec3Hasher>(
     alloc: Global,
     question: Question,
-    records: Vec<StoredRr<'a>>,
+    records: Vec<LentRecord<'a>>,
     hasher: &H,
 ) -> Result<Answer<'s, 'a>, DenialFault>
     ensures ok { IfOk result (IsNsec3Verdict (H.answer hasher.now) records.entry.items question) }

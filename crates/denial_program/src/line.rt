@@ -5,11 +5,10 @@ ghost use Rattle.denial_program.specs.Words.{words, is_blank, IsSkipped, IsPlain
 ghost use Rattle.denial_program.specs.Said.{Says, SpellsNone, line_error_of};
 ghost use Rattle.denial_program.specs.declared.line.LineError.TheVariants.{OutOfMemory as memory};
 
+use crate::arena::Store;
 use crate::last_owner::LastOwner;
-use bumpalo::Bump;
-use domain_base::{
-    Class, FromToken, IterScanner, Name, ParsedName, Rtype, ScanError, Scanner, Ttl,
-};
+use domain_base::{Class, FromToken, IterScanner, Name, Rtype, ScanError, Scanner, Ttl};
+use domain_lent::LentRecord;
 use domain_octets::{OutOfMemory, SmallOctets};
 use domain_plain::Record;
 use domain_rdata::ZoneRecordData;
@@ -25,19 +24,16 @@ pub type ZoneName = Name<ZoneOctets>;
 /// The words of a line. Those of most records, up to eight, take no memory.
 type LineWords<'a> = SmallVec<&'a str, 8>;
 
-/// The data of the program's records.
+/// Data as they are read, before they are laid into an arena.
 pub type ZoneData = ZoneRecordData<ZoneOctets, ZoneName>;
-
-/// A record as it was read: its owner lies in an arena already, its data in octets of their own.
-pub type ReadRr<'a> = Record<ParsedName<'a>, ZoneData>;
 
 /// What a line says.
 #[derive(Drop)]
 pub enum Line<'a> {
     /// It is blank, or a comment.
     Nothing,
-    /// A record.
-    Record(ReadRr<'a>),
+    /// A record, with its owner and the canonical form of its data in an arena.
+    Record(LentRecord<'a>),
     /// None of these.
     Bad,
 }
@@ -148,14 +144,14 @@ fn field<F: FromToken, S: Scanner>(scanner: &mut S) -> Result<F, LineError>
 /// The record that tokens spell: owner, TTL, class, type and data.
 fn scan_record<'a, S: Scanner<Name = ZoneName, Octets = ZoneOctets>>(
     alloc: Global,
-    arena: &'a Bump,
+    store: &mut Store<'a>,
     last: &mut LastOwner<'a>,
     scanner: &mut S,
-) -> Result<ReadRr<'a>, LineError>
-    ensures ok { IfOk result (LineText (λ o. o) (λ n. n) (S.tokens scanner.old)) }
+) -> Result<LentRecord<'a>, LineError>
+    ensures ok { IfOk result (LineText (S.tokens scanner.old)) }
     ensures err { IfErr result (SpellsNone (S.tokens scanner.old)) }
 {
-    let owner = last.scan(alloc, arena, scanner)?;
+    let owner = last.scan(alloc, store.arena(), scanner)?;
     let ttl = field::<Ttl, S>(scanner)?;
     let class = field::<Class, S>(scanner)?;
     let rtype = field::<Rtype, S>(scanner)?;
@@ -163,27 +159,28 @@ fn scan_record<'a, S: Scanner<Name = ZoneName, Octets = ZoneOctets>>(
     if scanner.continues() {
         return Err(LineError::Bad);
     }
-    Ok(Record::new(owner, class, ttl, data))
+    let stored = store.data(rtype, &data)?;
+    Ok(Record::new(owner, class, ttl, stored))
 }
 
 /// The record that words spell.
 fn record_of<'a, 'w>(
     alloc: Global,
-    arena: &'a Bump,
+    store: &mut Store<'a>,
     last: &mut LastOwner<'a>,
     words: &'w [&'w str],
-) -> Result<ReadRr<'a>, LineError>
-    ensures ok { IfOk result (LineText (λ o. o) (λ n. n) (map (λ w. w.now) words.now)) }
+) -> Result<LentRecord<'a>, LineError>
+    ensures ok { IfOk result (LineText (map (λ w. w.now) words.now)) }
     ensures err { IfErr result (SpellsNone (map (λ w. w.now) words.now)) }
 {
     let mut scanner = IterScanner::<ZoneOctets>::new(words);
-    scan_record(alloc, arena, last, &mut scanner)
+    scan_record(alloc, store, last, &mut scanner)
 }
 
-/// What a line says, with the owner in the arena. The line stands without its end.
+/// What a line says, with the record in the arena. The line stands without its end.
 pub fn read_line<'a>(
     alloc: Global,
-    arena: &'a Bump,
+    store: &mut Store<'a>,
     last: &mut LastOwner<'a>,
     line: &[u8],
 ) -> Result<Line<'a>, OutOfMemory>
@@ -195,7 +192,7 @@ pub fn read_line<'a>(
     let Some(tokens) = tokens_of(alloc, line)? else {
         return Ok(Line::Bad);
     };
-    match record_of(alloc, arena, last, tokens.as_slice()) {
+    match record_of(alloc, store, last, tokens.as_slice()) {
         Ok(record) => Ok(Line::Record(record)),
         Err(LineError::OutOfMemory) => Err(OutOfMemory),
         Err(LineError::Bad) => Ok(Line::Bad),

@@ -15,13 +15,14 @@ ghost use Rattle.denial_program.specs.declared.answer.Answer.{Answer};
 ghost use Rattle.denial_program.specs.declared.fault.DenialFault.TheVariants.{OutOfMemory};
 
 use crate::answer::write_answer;
-use crate::arena::{StoredRr, store_record};
+use crate::arena::Store;
 use crate::command::command_of;
 use crate::fault::{DenialFault, fault_of};
 use crate::last_owner::LastOwner;
 use crate::line::{Line, read_line};
 use bumpalo::Bump;
 use domain_dnssec::Nsec3Hasher;
+use domain_lent::LentRecord;
 use memchr::memchr;
 use std::alloc::Global;
 use std::io;
@@ -86,9 +87,9 @@ fn read_records<'a, R: BufRead>(
     alloc: Global,
     arena: &'a Bump,
     input: &mut R,
-) -> Result<Vec<StoredRr<'a>>, DenialFault>
+) -> Result<Vec<LentRecord<'a>>, DenialFault>
     ensures ok { IfOk result (λ v.
-        IfSome (R.remaining input.old) (λ all. Give (λ o. o) (λ n. n) (lines all) v.items)) }
+        IfSome (R.remaining input.old) (λ all. Give (lines all) v.items)) }
     ensures err { IfErr result IsReadingFault }
     ensures line { (n : ℕ) → IsErrOf result (DenialFault.Line n)
         → IfSome (R.remaining input.old) (λ all. IsFirstBad (lines all) n) }
@@ -99,6 +100,7 @@ fn read_records<'a, R: BufRead>(
 {
     let mut records = Vec::new(alloc);
     let mut line = Vec::new(alloc);
+    let mut store = Store::new(alloc, arena);
     let mut last = LastOwner::new(alloc);
     for number in 1..u64::MAX {
         line.clear();
@@ -109,9 +111,9 @@ fn read_records<'a, R: BufRead>(
         if count == 0 {
             return Ok(records);
         }
-        match read_line(alloc, arena, &mut last, without_end(&line))? {
+        match read_line(alloc, &mut store, &mut last, without_end(&line))? {
             Line::Nothing => {}
-            Line::Record(record) => store_record(arena, &mut records, record)?,
+            Line::Record(record) => records.push(record)?,
             Line::Bad => {
                 skip_all(input)?;
                 return Err(DenialFault::Line(number));

@@ -1,12 +1,11 @@
 use Rattle.std.proofs.Common.{List, refl, rules, subst}
-use Rattle.domain_rdata.specs.Zone.{minimum_of, rtype_of}
 use Rattle.domain_zone.specs.View.{zone_of}
 use Rattle.domain_nsec3.specs.Chain.{IsChainParam, IsHashedChain}
 use Rattle.domain_nsec3.specs.Faults.{IsFirstFault}
 use Rattle.domain_nsec3.specs.declared.config.Nsec3ParamTtlMode.TheVariants.{Soa}
 use Rattle.domain_dnssec.specs.declared.chain.ChainError.TheVariants.{Signing}
+use Rattle.domain_lent.specs.Data.{minimum_of, RawRecord}
 use Rattle.denial_program.specs.Answer.{usual_nsec3_config}
-use Rattle.denial_program.specs.Listing.{ProgramRecord}
 use Rattle.denial_program.proofs.AnswerLemmas.{usual_is}
 use Rattle.denial_program.proofs.answer.nsec3s_of.Goals as goal
 
@@ -26,11 +25,12 @@ returns-in-Ok-clause-ok g c = λ given sorts.
         sorts = sorts;
         chain = record {
           one_class = c.requires.one_class;
-          chain = subst (λ (xs : List ProgramRecord). IsHashedChain (zone_of (λ n. n) rtype_of minimum_of xs) apex config links) c.new_from_owned.ensures
-              (subst (λ k. IsHashedChain (zone_of (λ n. n) rtype_of minimum_of c.new_from_owned.result) apex k links) same c.in-Ok.ensures.chain);
-          told = subst (λ (xs : List ProgramRecord). IsChainParam (zone_of (λ n. n) rtype_of minimum_of xs) apex config Soa param) c.new_from_owned.ensures
-              (subst (λ mode. IsChainParam (zone_of (λ n. n) rtype_of minimum_of c.new_from_owned.result) apex config mode param) c.new-config.ensures.mode
-              (subst (λ k. IsChainParam (zone_of (λ n. n) rtype_of minimum_of c.new_from_owned.result) apex k c.new-config.result.nsec3param_ttl_mode param) same c.in-Ok.ensures.param));
+          chain = subst (λ (xs : List RawRecord). IsHashedChain (zone_of (λ n. n) (λ d. d.rtype) minimum_of xs) apex config links) c.new_from_owned.ensures
+              (subst (λ k. IsHashedChain (zone_of (λ n. n) (λ d. d.rtype) minimum_of c.new_from_owned.result) apex k links) same c.in-Ok.ensures.chain);
+          told = subst (λ (xs : List RawRecord). IsChainParam (zone_of (λ n. n) (λ d. d.rtype) minimum_of xs) apex config Soa param) c.new_from_owned.ensures
+              (subst (λ mode. IsChainParam (zone_of (λ n. n) (λ d. d.rtype) minimum_of c.new_from_owned.result) apex config mode param)
+              c.new-config.ensures.mode
+              (subst (λ k. IsChainParam (zone_of (λ n. n) (λ d. d.rtype) minimum_of c.new_from_owned.result) apex k c.new-config.result.nsec3param_ttl_mode param) same c.in-Ok.ensures.param));
         };
       };
     }
@@ -51,8 +51,10 @@ returns g c =
           sorts = sorts;
           fault = record {
             one_class = c.requires.one_class;
-            fault = subst (λ (xs : List ProgramRecord). IsFirstFault (zone_of (λ n. n) rtype_of minimum_of xs) apex config c.in-Err.error) c.new_from_owned.ensures
-                (subst (λ k. IsFirstFault (zone_of (λ n. n) rtype_of minimum_of c.new_from_owned.result) apex k c.in-Err.error) same c.in-Err.ensures.fault);
+            fault = subst (λ (xs : List RawRecord). IsFirstFault (zone_of (λ n. n) (λ d. d.rtype) minimum_of xs) apex config c.in-Err.error)
+                c.new_from_owned.ensures
+                (subst (λ k. IsFirstFault (zone_of (λ n. n) (λ d. d.rtype) minimum_of c.new_from_owned.result) apex k c.in-Err.error)
+                same c.in-Err.ensures.fault);
             told = search rules;
           };
         };

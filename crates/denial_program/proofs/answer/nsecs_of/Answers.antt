@@ -1,9 +1,8 @@
 use Rattle.std.proofs.Common.{List, refl, rules, subst}
-use Rattle.domain_rdata.specs.Zone.{minimum_of, rtype_of}
 use Rattle.domain_zone.specs.View.{zone_of}
 use Rattle.domain_nsec.specs.Chain.{usual_config, IsChain, IsFirstFault}
 use Rattle.domain_dnssec.specs.declared.chain.ChainError.TheVariants.{Signing}
-use Rattle.denial_program.specs.Listing.{ProgramRecord}
+use Rattle.domain_lent.specs.Data.{minimum_of, RawRecord}
 use Rattle.denial_program.proofs.answer.nsecs_of.Goals as goal
 
 pub returns-in-Ok-clause-ok : goal.returns-in-Ok-clause-ok
@@ -15,8 +14,10 @@ returns-in-Ok-clause-ok c = λ given sorts. record {
     sorts = sorts;
     chain = record {
       one_class = c.requires.one_class;
-      chain = subst (λ (xs : List ProgramRecord). IsChain (zone_of (λ n. n) rtype_of minimum_of xs) c.args.apex.now usual_config c.in-Ok.nsecs) c.new_from_owned.ensures
-          (subst (λ config. IsChain (zone_of (λ n. n) rtype_of minimum_of c.new_from_owned.result) c.args.apex.now config c.in-Ok.nsecs) c.new-config.ensures c.in-Ok.ensures.chain);
+      chain = subst (λ (xs : List RawRecord). IsChain (zone_of (λ n. n) (λ d. d.rtype) minimum_of xs) c.args.apex.now usual_config c.in-Ok.nsecs)
+          c.new_from_owned.ensures
+          (subst (λ config. IsChain (zone_of (λ n. n) (λ d. d.rtype) minimum_of c.new_from_owned.result) c.args.apex.now config c.in-Ok.nsecs)
+          c.new-config.ensures c.in-Ok.ensures.chain);
     };
   };
 }
@@ -32,8 +33,10 @@ returns-in-Err c = record {
       sorts = sorts;
       fault = record {
         one_class = c.requires.one_class;
-        fault = subst (λ (xs : List ProgramRecord). IsFirstFault (zone_of (λ n. n) rtype_of minimum_of xs) c.args.apex.now usual_config c.in-Err.error) c.new_from_owned.ensures
-            (subst (λ config. IsFirstFault (zone_of (λ n. n) rtype_of minimum_of c.new_from_owned.result) c.args.apex.now config c.in-Err.error) c.new-config.ensures c.in-Err.ensures.fault);
+        fault = subst (λ (xs : List RawRecord). IsFirstFault (zone_of (λ n. n) (λ d. d.rtype) minimum_of xs) c.args.apex.now usual_config c.in-Err.error)
+            c.new_from_owned.ensures
+            (subst (λ config. IsFirstFault (zone_of (λ n. n) (λ d. d.rtype) minimum_of c.new_from_owned.result) c.args.apex.now config c.in-Err.error)
+            c.new-config.ensures c.in-Err.ensures.fault);
         told = search rules;
       };
     };

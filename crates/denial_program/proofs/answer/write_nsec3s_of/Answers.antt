@@ -1,7 +1,6 @@
 use Rattle.std.proofs.Common.{List, sym, subst, inr}
-use Rattle.domain_dnssec.specs.ZoneRecords.{Sorts}
-use Rattle.denial_program.specs.Answer.{HasNoNsec3s, IsNsec3s, IsUnwritten}
-use Rattle.denial_program.specs.Listing.{ProgramRecord}
+use Rattle.domain_lent.specs.Data.{RawRecord}
+use Rattle.denial_program.specs.Answer.{HasNoNsec3s, IsNsec3s, IsUnwritten, Sorts}
 use Rattle.denial_program.proofs.AnswerLemmas.{if_err_of, nsec3s_unwritten, on_ok}
 use Rattle.denial_program.proofs.answer.write_nsec3s_of.Goals as goal
 
@@ -10,7 +9,7 @@ returns-in_err-answer-clause-err g c =
     let answers = g.H.Nsec3Hasher.answer c.args.hasher.now in
     let p = c.args.parameters in
     let given = c.args.records.items in
-    let sorts = subst (λ (xs : List ProgramRecord). Sorts (λ o. o) (λ n. n) given xs) (sym c.deref.ensures.value) c.in_ok-sorted.ensures.sorts in
+    let sorts = subst (λ (xs : List RawRecord). Sorts given xs) (sym c.deref.ensures.value) c.in_ok-sorted.ensures.sorts in
     let none = subst (λ apex. HasNoNsec3s answers given apex p c.in_err-answer.field-0.0) c.in_ok-apex.ensures (c.in_err-answer.ensures.err given sorts) in
     if_err_of (IsUnwritten (IsNsec3s answers given c.args.apex.now p) (HasNoNsec3s answers given c.args.apex.now p)) c.in_err-answer.field-0.0 c.from_residual-in_err-answer.result c.from_residual-in_err-answer.ensures.1 (inr none)
 
@@ -19,7 +18,7 @@ returns-clause-ok g c =
     let answers = g.H.Nsec3Hasher.answer c.args.hasher.now in
     let p = c.args.parameters in
     let given = c.args.records.items in
-    let sorts = subst (λ (xs : List ProgramRecord). Sorts (λ o. o) (λ n. n) given xs) (sym c.deref.ensures.value) c.in_ok-sorted.ensures.sorts in
+    let sorts = subst (λ (xs : List RawRecord). Sorts given xs) (sym c.deref.ensures.value) c.in_ok-sorted.ensures.sorts in
     let is = subst (λ apex. IsNsec3s answers given apex p c.in_ok-answer.answer) c.in_ok-apex.ensures (c.in_ok-answer.ensures.ok given sorts) in
     on_ok (λ appends. record { answer = c.in_ok-answer.answer; is = is; appends = appends }) c.send.result c.send.ensures.ok
 
@@ -28,6 +27,6 @@ returns-clause-err g c =
     let answers = g.H.Nsec3Hasher.answer c.args.hasher.now in
     let p = c.args.parameters in
     let given = c.args.records.items in
-    let sorts = subst (λ (xs : List ProgramRecord). Sorts (λ o. o) (λ n. n) given xs) (sym c.deref.ensures.value) c.in_ok-sorted.ensures.sorts in
+    let sorts = subst (λ (xs : List RawRecord). Sorts given xs) (sym c.deref.ensures.value) c.in_ok-sorted.ensures.sorts in
     let is = subst (λ apex. IsNsec3s answers given apex p c.in_ok-answer.answer) c.in_ok-apex.ensures (c.in_ok-answer.ensures.ok given sorts) in
     nsec3s_unwritten answers given c.args.apex.now p c.in_ok-answer.answer is c.send.result c.send.ensures.err

@@ -1,5 +1,5 @@
 use Rattle.std.proofs.Common.{◌≡◌, refl, sym, subst, IfOk, Err}
-use Rattle.domain_nsec3.specs.View.{hashed_links_of, parameters_of}
+use Rattle.domain_nsec3.specs.View.{as_param_record, hashed_links_of}
 use Rattle.domain_checker.specs.HashedReading.{IsWalked}
 use Rattle.domain_checker.specs.HashedVerdict.{HasHashedProof, IsFirstRefusal, IsHashedProved}
 use Rattle.domain_checker.specs.declared.verdict.Verdict.TheVariants.{OutsideZone}
@@ -11,38 +11,42 @@ use Rattle.denial_program.proofs.check.nsec3_verdict.Goals as goal
 pub returns-in-Ok-clause-ok : goal.returns-in-Ok-clause-ok
 returns-in-Ok-clause-ok g c =
     let q = c.args.question in
-    let param = c.in_ok-chain.chain.nsec3param in
-    let chain = c.in_ok-chain.ensures.ok in
-    let p = parameters_of param.«data» in
+    let param = as_param_record (λ n. n) c.in_ok-chain.chain.nsec3param in
+    let links = hashed_links_of (λ n. n) c.in_ok-chain.chain.nsec3s.items in
+    let p = param.parameters in
     let hash = hash_with (g.H.Nsec3Hasher.answer c.args.hasher.now) param in
     let verdict = c.in-Ok.verdict in
     record {
       param = param;
-      single = chain.0;
+      single = c.in_ok-chain.ensures.param;
+      links = links;
+      are = c.in_ok-chain.ensures.nsec3s;
       verdict = verdict;
       is = refl;
       outside = λ off. subst (λ r. IfOk r (λ v. v ≡ OutsideZone)) (sym (c.in-Ok.ensures.outside off)) refl;
-      zone = subst (λ rs. IsHashedProved (hashed_links_of (λ n. n) rs) q.apex p hash q.name q.rtype verdict) chain.1 c.in-Ok.ensures.zone;
-      exact = λ low. subst (λ rs. IsWalked (hashed_links_of (λ n. n) rs) q.apex p hash q.name q.rtype verdict) chain.1 (c.in-Ok.ensures.exact low);
-      proof = λ low some. subst (λ rs. HasHashedProof (hashed_links_of (λ n. n) rs) q.apex p hash q.name) chain.1 (c.in-Ok.ensures.proof low some);
+      zone = c.in-Ok.ensures.zone;
+      exact = c.in-Ok.ensures.exact;
+      proof = c.in-Ok.ensures.proof;
     }
 
 pub returns : goal.returns
 returns g c =
     let q = c.args.question in
-    let param = c.in_ok-chain.chain.nsec3param in
-    let chain = c.in_ok-chain.ensures.ok in
-    let p = parameters_of param.«data» in
+    let param = as_param_record (λ n. n) c.in_ok-chain.chain.nsec3param in
+    let links = hashed_links_of (λ n. n) c.in_ok-chain.chain.nsec3s.items in
+    let p = param.parameters in
     let hash = hash_with (g.H.Nsec3Hasher.answer c.args.hasher.now) param in
-    let refused = hasher_refused {P = λ n. IsFirstRefusal (hashed_links_of (λ n. n) c.in_ok-chain.chain.nsec3s.items) q.apex p hash q.name n}
+    let refused = hasher_refused {P = λ n. IsFirstRefusal links q.apex p hash q.name n}
     c.in-Err.error c.in_default.not-OutOfMemory c.in-Err.ensures.errors (λ n is. c.in-Err.ensures.refusal n (λ i. Err (is i))) in
     record {
       ok = tt;
       err = record {
         param = param;
-        single = chain.0;
+        single = c.in_ok-chain.ensures.param;
+        links = links;
+        are = c.in_ok-chain.ensures.nsec3s;
         reason = refused.0;
         is = λ i. Nsec3HashingError (refused.1.0 i);
-        first = subst (λ rs. IsFirstRefusal (hashed_links_of (λ n. n) rs) q.apex p hash q.name refused.0) chain.1 refused.1.1;
+        first = refused.1.1;
       };
     }

@@ -1,23 +1,23 @@
-use Rattle.std.proofs.Common.{◌≡◌, refl, ◌∙◌, subst}
-use Rattle.domain_nsec.specs.ChainView.{links_of}
+use Rattle.std.proofs.Common.{◌≡◌, [], refl, ◌∙◌}
+use Rattle.domain_checker.specs.HandedIn.{HasRead}
 use Rattle.domain_checker.specs.Reading.{reading}
-use Rattle.domain_checker.specs.Verdict.{HasProof, IsProved}
-use Rattle.denial_program.specs.Check.{links_among, nsecs_among}
 use Rattle.denial_program.proofs.CheckLemmas.{reading_outside}
 use Rattle.denial_program.proofs.check.nsec_verdict.Goals as goal
 
 pub returns : goal.returns
 returns c =
     let q = c.args.question in
-    let verdict = c.check_nsec-verdict.result in
-    let same : c.deref.result.now ≡ nsecs_among c.args.records.items = c.deref.ensures.value ∙ c.in_ok-nsecs.ensures in
-    let exact : verdict ≡ reading q.apex (links_among c.args.records.items) q.name q.rtype =
-    subst (λ rs. verdict ≡ reading q.apex (links_of (λ n. n) rs) q.name q.rtype) same c.check_nsec-verdict.ensures.exact in
+    let handed = c.hand_in.ensures in
+    let links = handed.0 in
+    let read : HasRead q.apex q.name q.rtype links c.hand_in.new.check = handed.2 q.apex q.name q.rtype [] c.new-check.ensures in
+    let exact : c.verdict-verdict.result ≡ reading q.apex links q.name q.rtype = c.verdict-verdict.ensures.exact q.apex q.name q.rtype links read in
     record {
-      verdict = verdict;
+      links = links;
+      are = handed.1;
+      verdict = c.verdict-verdict.result;
       is = refl;
-      outside = λ off. exact ∙ reading_outside q.apex (links_among c.args.records.items) q.name q.rtype off;
-      zone = subst (λ rs. IsProved (links_of (λ n. n) rs) q.apex q.name q.rtype verdict) same c.check_nsec-verdict.ensures.zone;
+      outside = λ off. exact ∙ reading_outside q.apex links q.name q.rtype off;
+      zone = c.verdict-verdict.ensures.zone q.apex q.name q.rtype links read;
       exact = exact;
-      proof = λ low some. subst (λ rs. HasProof (links_of (λ n. n) rs) q.apex q.name) same (c.check_nsec-verdict.ensures.proof low some);
+      proof = c.verdict-verdict.ensures.proof q.apex q.name q.rtype links read;
     }

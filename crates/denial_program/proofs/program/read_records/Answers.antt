@@ -4,7 +4,7 @@ use Rattle.denial_program.specs.Listing.{IsFirstBad}
 use Rattle.denial_program.specs.Said.{Says}
 use Rattle.denial_program.proofs.Reading.{follows_end, follows_next, follows_skip, follows_record, follows_bad, Follows, known_line, known_next, known_end, known_after}
 use Rattle.denial_program.proofs.program.read_records.Goals as goal
-use Rattle.denial_program.proofs.program.read_records.Goals.{in-Nothing, in-Record+in_ok-store_record-in-Record}
+use Rattle.denial_program.proofs.program.read_records.Goals.{in-Nothing, in-Record+in_ok-push-in-Record}
 
 pub returns-then-count-eq0-clause-ok : goal.returns-then-count-eq0-clause-ok
 returns-then-count-eq0-clause-ok g c =
@@ -52,9 +52,10 @@ loop-number-preserved g c =
           let same : c.loop-number.records.items ≡ c.match-branch-2.records.items = cc in
           subst (λ rs. Follows (g.R.Read.remaining c.args.input.now) (g.R.Read.remaining c.append_line.new.input) rs (c.loop-number.number + 1)) same
           (follows_skip (g.R.Read.remaining c.args.input.now) (g.R.Read.remaining c.append_line.new.input) c.without_end.result.now _ _ here says)
-      | in-Record+in_ok-store_record-in-Record w ↦
+      | in-Record+in_ok-push-in-Record w ↦
           let says = subst (Says c.without_end.result.now) w.in-Record.is c.in_ok-read_line.ensures in
-          let pushed : c.match-branch-2.records.items ≡ c.loop-number.records.items ++ w.in-Record.record ∷ [] = cc (w.in_ok-store_record-in-Record.ensures, w.records-is) in
+          let pushed : c.match-branch-2.records.items ≡ c.loop-number.records.items ++ w.in-Record.record ∷ []
+          = cc (w.in_ok-push-in-Record.ensures.items, w.records-is) in
           follows_record (g.R.Read.remaining c.args.input.now) (g.R.Read.remaining c.append_line.new.input) c.without_end.result.now
           c.loop-number.records.items c.match-branch-2.records.items w.in-Record.record _ here pushed says
     ]

@@ -13,7 +13,7 @@ pub returns-clause-ok : goal.returns-clause-ok
 returns-clause-ok g c =
     let answers = g.H.Nsec3Hasher.answer c.args.hasher.now in
     on_ok (λ written.
-    known_so (λ bytes. Give (λ o. o) (λ n. n) (lines bytes) c.in_ok-records.records.items)
+    known_so (λ bytes. Give (lines bytes) c.in_ok-records.records.items)
     (λ bytes. (x : Answer) × Answers answers (map string_bytes c.args.words.now) (lines bytes) x × Appends (g.W.Write.contents c.args.output.now) (g.W.Write.contents c.write_answer.new.output) (answer_text x))
     (g.R.Read.remaining c.args.input.now)
     (λ bytes gives. (
@@ -28,7 +28,7 @@ pub returns-clause-write : goal.returns-clause-write
 returns-clause-write g c = λ is.
     let answers = g.H.Nsec3Hasher.answer c.args.hasher.now in
     let there = answer_unwritten answers c.in_ok-command.command c.in_ok-records.records.items c.write_answer.result c.write_answer.ensures.err is in
-    known_so (λ bytes. Give (λ o. o) (λ n. n) (lines bytes) c.in_ok-records.records.items)
+    known_so (λ bytes. Give (lines bytes) c.in_ok-records.records.items)
     (λ bytes. (x : Answer) × Answers answers (map string_bytes c.args.words.now) (lines bytes) x)
     (g.R.Read.remaining c.args.input.now)
     (λ bytes gives. (

@@ -1,0 +1,81 @@
+-- Records that are gone over one by one, of which some are kept.
+use Rattle.std.proofs.Common.{◌≡◌, ℕ, List, [], ◌∷◌, ◌++◌, arith, length, refl, sym, subst, inl, inr, append_assoc, append-nil}
+use Rattle.domain_base.specs.Words.{Name}
+use Rattle.domain_nsec.specs.Chain.{Link}
+use Rattle.domain_plain.specs.RecordClone.{IsRecordClone}
+use Rattle.domain_lent.specs.Data.{RawRecord}
+use Rattle.domain_checker.specs.HandedIn.{HasRead}
+use Rattle.domain_checker.specs.declared.nsec_check.NsecCheck.{NsecCheck}
+use Rattle.denial_program.specs.Check.{AreAmong, IsNsecOf}
+
+pub ended : (left : List RawRecord) → length left ≡ 0 → left ≡ []
+ended [] e = refl
+ended (r ∷ rs) e = absurd (omega arith)
+
+-- a copy is the record
+pub cloned : (r copy : RawRecord) → IsRecordClone (λ n m. m ≡ n) (λ d e. e ≡ d) r copy → r ≡ copy
+cloned r copy s = λ i. record {
+  owner = sym s.owner i;
+  class = sym s.class i;
+  ttl = sym s.ttl i;
+  «data» = sym s.«data» i;
+}
+
+module _ {K : Type 0} (Is : RawRecord → K → Type 0) where
+  -- the records before those that are left gave these
+  abbrev pub Goes : List RawRecord → List RawRecord → List K → Type 0
+  Goes all left kept = (more : List K) → AreAmong Is left more → AreAmong Is all (kept ++ more)
+
+  pub goes_start : (all left : List RawRecord) → left ≡ all → Goes all left []
+  goes_start all left e more h = subst (λ rs. AreAmong Is rs more) e h
+
+  pub goes_kept : (all left rest : List RawRecord) (kept : List K) (r : RawRecord) (k : K) → Goes all left kept → left ≡ r ∷ rest → Is r k
+      → Goes all rest (kept ++ k ∷ [])
+  goes_kept all left rest kept r k h e is more m =
+      subst (AreAmong Is all) (sym (append_assoc kept (k ∷ []) more))
+      (h (k ∷ more) (subst (λ rs. AreAmong Is rs (k ∷ more)) (sym e) (inl (k, more, refl, is, m))))
+
+  pub goes_past : (all left rest : List RawRecord) (kept : List K) (r : RawRecord) → Goes all left kept → left ≡ r ∷ rest
+      → ((k : K) → Is r k → ⊥) → Goes all rest kept
+  goes_past all left rest kept r h e none more m = h more (subst (λ rs. AreAmong Is rs more) (sym e) (inr (none, m)))
+
+  pub goes_end : (all left : List RawRecord) (kept : List K) → Goes all left kept → left ≡ [] → AreAmong Is all kept
+  goes_end all left kept h e = subst (AreAmong Is all) (append-nil kept) (h [] (subst (λ rs. AreAmong Is rs []) (sym e) refl))
+
+-- ---- NSEC records, handed in one after another
+
+-- the records that were handed in come after those that had been
+abbrev pub Adds : NsecCheck → NsecCheck → List Link → Type 0
+Adds old new links = (a x : Name) (t : ℕ) (before : List Link) → HasRead a x t before old → HasRead a x t (before ++ links) new
+
+pub record IsHanding (all left : List RawRecord) (old new : NsecCheck) : Type 0 where
+  pub links : List Link
+  pub goes : Goes IsNsecOf all left links
+  pub adds : Adds old new links
+
+pub handing_none : (all left : List RawRecord) (check : NsecCheck) → left ≡ all → IsHanding all left check check
+handing_none all left check e = record {
+  links = [];
+  goes = goes_start IsNsecOf all left e;
+  adds = λ a x t before h. subst (λ links. HasRead a x t links check) (sym (append-nil before)) h;
+}
+
+pub handing_other : (all left rest : List RawRecord) (old new : NsecCheck) (r : RawRecord) → IsHanding all left old new → left ≡ r ∷ rest
+    → ((k : Link) → IsNsecOf r k → ⊥)
+    → IsHanding all rest old new
+handing_other all left rest old new r s e none = record {
+  links = s.links;
+  goes = goes_past IsNsecOf all left rest s.links r s.goes e none;
+  adds = s.adds;
+}
+
+pub handing_one : (all left rest : List RawRecord) (old mid new : NsecCheck) (r : RawRecord) (k : Link)
+    → IsHanding all left old mid → left ≡ r ∷ rest → IsNsecOf r k
+    → ((a x : Name) (t : ℕ) (before : List Link) → HasRead a x t before mid → HasRead a x t (before ++ k ∷ []) new)
+    → IsHanding all rest old new
+handing_one all left rest old mid new r k s e is adds = record {
+  links = s.links ++ k ∷ [];
+  goes = goes_kept IsNsecOf all left rest s.links r k s.goes e is;
+  adds = λ a x t before h.
+      subst (λ links. HasRead a x t links new) (append_assoc before s.links (k ∷ [])) (adds a x t (before ++ s.links) (s.adds a x t before h));
+}
