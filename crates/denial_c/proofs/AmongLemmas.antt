@@ -15,7 +15,8 @@ all_push : {X : Type 0} (P : X → Type 0) (xs : List X) (y : X) → AllByRecurs
 all_push P [] y h p = (p, tt)
 all_push P (x ∷ xs) y h p = (h.0, all_push P xs y h.1 p)
 
-joined_push : (records : List RawRecord) (r : RawRecord) (after : List ℕ) → flat_map record_octets (records ++ r ∷ []) ++ after ≡ flat_map record_octets records ++ (record_octets r ++ after)
+joined_push : (records : List RawRecord) (r : RawRecord) (after : List ℕ)
+    → flat_map record_octets (records ++ r ∷ []) ++ after ≡ flat_map record_octets records ++ (record_octets r ++ after)
 joined_push records r after =
     ap (λ o. o ++ after) (flat_map-append record_octets records (r ∷ []) ∙ ap (λ o. flat_map record_octets records ++ o) (append-nil (record_octets r)))
     ∙ append_assoc (flat_map record_octets records) (record_octets r) after
@@ -42,7 +43,8 @@ module _ {K : Type 0} (is_kept : RawRecord → Bool) (raw : K → RawRecord) (Is
     records = s.records ++ r ∷ [];
     are = s.are ∙ ap (λ o. flat_map record_octets s.records ++ o) begins ∙ sym (joined_push s.records r after);
     whole = all_push IsRecord s.records r s.whole fits;
-    those = filter-append is_kept s.records (r ∷ []) ∙ (λ i. filter is_kept s.records ++ cond (off i) (r ∷ []) []) ∙ append-nil (filter is_kept s.records) ∙ s.those;
+    those = filter-append is_kept s.records (r ∷ []) ∙ (λ i. filter is_kept s.records ++ cond (off i) (r ∷ []) [])
+        ∙ append-nil (filter is_kept s.records) ∙ s.those;
     fit = s.fit;
   }
 
@@ -77,7 +79,8 @@ module _ {K : Type 0} (is_kept : RawRecord → Bool) (raw : K → RawRecord) (Is
         | true ↦ λ on e.
             elim kept as (λ ks. r ∷ filter is_kept rs ≡ map raw ks → AllByRecursion IsKept ks → AllByRecursion IsGood (r ∷ rs)) [
               | [] ↦ λ e f. absurd (cc)
-              | k ∷ ks ↦ λ e f. let head : r ≡ raw k = cc in let tail : filter is_kept rs ≡ map raw ks = cc in ((whole.0, λ _. (k, head, f.0)), all_good rs ks whole.1 tail f.1)
+              | k ∷ ks ↦ λ e f. let head : r ≡ raw k = cc in let tail : filter is_kept rs
+                  ≡ map raw ks = cc in ((whole.0, λ _. (k, head, f.0)), all_good rs ks whole.1 tail f.1)
             ] e fit
         | false ↦ λ off e. ((whole.0, λ on. absurd (false≢true (sym off ∙ on))), all_good rs kept whole.1 e fit)
       ] refl those
@@ -90,7 +93,8 @@ module _ {K : Type 0} (is_kept : RawRecord → Bool) (raw : K → RawRecord) (Is
   stuck (q ∷ qs) [] left some whole good none e =
       some_octets q (flat_map record_octets qs ++ left) (sym (append_assoc (record_octets q) (flat_map record_octets qs) left) ∙ e)
   stuck (q ∷ qs) (r ∷ rs) left some whole good none e =
-      let one = same_record q r (flat_map record_octets qs ++ left) (flat_map record_octets rs) whole.0 good.0.0 (sym (append_assoc (record_octets q) (flat_map record_octets qs) left) ∙ e) in
+      let one = same_record q r (flat_map record_octets qs ++ left) (flat_map record_octets rs) whole.0 good.0.0
+      (sym (append_assoc (record_octets q) (flat_map record_octets qs) left) ∙ e) in
       stuck qs rs left some whole.1 good.1 none one.after
 
   -- what is left begins with no record that can stand there
@@ -98,7 +102,8 @@ module _ {K : Type 0} (is_kept : RawRecord → Bool) (raw : K → RawRecord) (Is
       → ((r : RawRecord) (after : List ℕ) → IsRecord r → left ≡ record_octets r ++ after → ⊥)
       → (others : List K) → AreAmong is_kept raw IsKept octets others → ⊥
   refused octets left kept s some none others m =
-      stuck s.records m.records left some s.whole (all_good m.records others m.whole m.those m.fit) (λ r after e good. none r after good.0 e) (sym s.are ∙ m.are)
+      stuck s.records m.records left some s.whole (all_good m.records others m.whole m.those m.fit)
+      (λ r after e good. none r after good.0 e) (sym s.are ∙ m.are)
 
   -- what is left begins with a record that is to be kept, and can't be
   pub refused_data : (octets left after : List ℕ) (kept : List K) (q : RawRecord) → IsRead octets left kept → left ≡ record_octets q ++ after → IsRecord q

@@ -15,7 +15,8 @@ nsec3s_fault a class octets Param h = absurd h
 nsec3s_fault a class octets Hasher h = absurd h
 nsec3s_fault a class octets OutOfMemory h = tt
 
-pub param_fault : (a : Name) (class : ℕ) (octets : List ℕ) (links : List HashedLink) → AreNsec3s class octets links → (e : Fault) → IsParamFault a class octets e → IsChainFault a class octets e
+pub param_fault : (a : Name) (class : ℕ) (octets : List ℕ) (links : List HashedLink) → AreNsec3s class octets links → (e : Fault)
+    → IsParamFault a class octets e → IsChainFault a class octets e
 param_fault a class octets links are Apexless h = absurd h
 param_fault a class octets links are Nameless h = absurd h
 param_fault a class octets links are Records h = inr h

@@ -26,7 +26,8 @@ handing_none class octets check = record {
   adds = λ a x t before h. subst (λ links. HasRead a x t links check) (sym (append-nil before)) h;
 }
 
-pub handing_other : (class : ℕ) (octets left after : List ℕ) (old new : NsecCheck) (r : RawRecord) → IsHanding class octets left old new → left ≡ record_octets r ++ after → IsRecord r
+pub handing_other : (class : ℕ) (octets left after : List ℕ) (old new : NsecCheck) (r : RawRecord)
+    → IsHanding class octets left old new → left ≡ record_octets r ++ after → IsRecord r
     → is_of rtypes.nsec class r ≡ false → IsHanding class octets after old new
 handing_other class octets left after old new r s begins fits off = record {
   links = s.links;
@@ -34,12 +35,14 @@ handing_other class octets left after old new r s begins fits off = record {
   adds = s.adds;
 }
 
-pub handing_one : (class : ℕ) (octets left after : List ℕ) (old mid new : NsecCheck) (r : RawRecord) (k : Link) → IsHanding class octets left old mid → left ≡ record_octets r ++ after → IsRecord r
+pub handing_one : (class : ℕ) (octets left after : List ℕ) (old mid new : NsecCheck) (r : RawRecord) (k : Link)
+    → IsHanding class octets left old mid → left ≡ record_octets r ++ after → IsRecord r
     → is_of rtypes.nsec class r ≡ true → r ≡ nsec_record k → IsNsec k
     → ((a x : Name) (t : ℕ) (before : List Link) → HasRead a x t before mid → HasRead a x t (before ++ k ∷ []) new)
     → IsHanding class octets after old new
 handing_one class octets left after old mid new r k s begins fits on is fit adds = record {
   links = s.links ++ k ∷ [];
   read = taken (is_of rtypes.nsec class) nsec_record IsNsec octets left after s.links r k s.read begins fits on is fit;
-  adds = λ a x t before h. subst (λ links. HasRead a x t links new) (append_assoc before s.links (k ∷ [])) (adds a x t (before ++ s.links) (s.adds a x t before h));
+  adds = λ a x t before h. subst (λ links. HasRead a x t links new) (append_assoc before s.links (k ∷ []))
+      (adds a x t (before ++ s.links) (s.adds a x t before h));
 }

@@ -13,7 +13,8 @@ use Rattle.denial_c.specs.Wire.{header, header_of, record_octets, IsRecord}
 header_first : (r : RawRecord) (after : List ℕ) → record_octets r ++ after ≡ octets_of header (header_of r) ++ (r.«data».octets ++ after)
 header_first r after = append_assoc (octets_of header (header_of r)) r.«data».octets after
 
-begins_header : (r : RawRecord) (octets after : List ℕ) → IsRecord r → octets ≡ record_octets r ++ after → Begins header octets (header_of r) (r.«data».octets ++ after)
+begins_header : (r : RawRecord) (octets after : List ℕ) → IsRecord r → octets ≡ record_octets r ++ after
+    → Begins header octets (header_of r) (r.«data».octets ++ after)
 begins_header r octets after fits e = record {
   parts = e ∙ header_first r after;
   fits = fits;
@@ -23,7 +24,8 @@ begins_header r octets after fits e = record {
 -- a header with a fault begins no record
 pub faulty_header : (octets : List ℕ) (fault : Fault) → FirstFault header octets fault
     → (r : RawRecord) (after : List ℕ) → IsRecord r → octets ≡ record_octets r ++ after → ⊥
-faulty_header octets fault found r after fits e = fault_excludes header octets fault found refl (header_of r) (r.«data».octets ++ after) (begins_header r octets after fits e)
+faulty_header octets fault found r after fits e = fault_excludes header octets fault found refl (header_of r) (r.«data».octets
+    ++ after) (begins_header r octets after fits e)
 
 same_header : (v : Values header) (octets left : List ℕ) → Begins header octets v left
     → (r : RawRecord) (after : List ℕ) → IsRecord r → octets ≡ record_octets r ++ after → Same v (header_of r) left (r.«data».octets ++ after)
@@ -43,7 +45,8 @@ cut_data v octets left front short r after fits e =
 pub whole_record : (r : RawRecord) (v : Values header) (octets left after : List ℕ) → Begins header octets v left → left ≡ r.«data».octets ++ after
     → v ≡ header_of r → octets ≡ record_octets r ++ after
 whole_record r v octets left after front cut is =
-    front.parts ∙ ap (λ o. octets_of header v ++ o) cut ∙ ap (λ (u : Values header). octets_of header u ++ (r.«data».octets ++ after)) is ∙ sym (header_first r after)
+    front.parts ∙ ap (λ o. octets_of header v ++ o) cut ∙ ap (λ (u : Values header). octets_of header u
+    ++ (r.«data».octets ++ after)) is ∙ sym (header_first r after)
 
 pub record OneRecord (q r : RawRecord) (x y : List ℕ) : Type 0 where
   pub records : q ≡ r
@@ -53,7 +56,8 @@ pub same_record : (q r : RawRecord) (x y : List ℕ) → IsRecord q → IsRecord
 same_record q r x y fits_q fits_r e =
     let s = same_header (header_of q) (record_octets q ++ x) (q.«data».octets ++ x) (begins_header q (record_octets q ++ x) x fits_q refl) r y fits_r e in
     let as_long : length q.«data».octets ≡ length r.«data».octets = ap (λ (u : Values header). u.1.1.1.1) s.values in
-    let same : q.«data».octets ≡ r.«data».octets = sym (take_at q.«data».octets x (length q.«data».octets) refl) ∙ ap (take (length q.«data».octets)) s.after ∙ take_at r.«data».octets y (length q.«data».octets) (sym as_long) in
+    let same : q.«data».octets ≡ r.«data».octets = sym (take_at q.«data».octets x (length q.«data».octets) refl)
+    ∙ ap (take (length q.«data».octets)) s.after ∙ take_at r.«data».octets y (length q.«data».octets) (sym as_long) in
     record {
       records = λ i. record {
         owner = (s.values i).0;
@@ -61,7 +65,8 @@ same_record q r x y fits_q fits_r e =
         ttl = (s.values i).1.1.1.0;
         «data» = record { rtype = (s.values i).1.0; octets = same i };
       };
-      after = sym (drop_at q.«data».octets x (length q.«data».octets) refl) ∙ ap (drop (length q.«data».octets)) s.after ∙ drop_at r.«data».octets y (length q.«data».octets) (sym as_long);
+      after = sym (drop_at q.«data».octets x (length q.«data».octets) refl) ∙ ap (drop (length q.«data».octets)) s.after
+          ∙ drop_at r.«data».octets y (length q.«data».octets) (sym as_long);
     }
 
 named_octets : (labels : List (List ℕ)) (after : List ℕ) → wire_of labels ++ after ≡ [] → ⊥

@@ -46,7 +46,8 @@ no_answer_no_write answers (CheckNsec3 q) given none = none
 pub answer_unwritten : {X : Type 0} (answers : Answer) (command : Command) (given : List RawRecord) (r : Result X DenialFault)
     → IfErr r (IsUnwritten (IsAnswer answers command given) (HasNoAnswer answers command given)) → IsErrOf r Write
     → (x : RunAnswer) × IsAnswer answers command given x
-answer_unwritten answers command given r h is = there (subst (λ q. IfErr q (IsUnwritten (IsAnswer answers command given) (HasNoAnswer answers command given))) is h)
+answer_unwritten answers command given r h is = there (subst
+    (λ q. IfErr q (IsUnwritten (IsAnswer answers command given) (HasNoAnswer answers command given))) is h)
   where
     there : IsUnwritten (IsAnswer answers command given) (HasNoAnswer answers command given) Write → (x : RunAnswer) × IsAnswer answers command given x
     there (inl h) = h.1

@@ -23,7 +23,8 @@ pub reading_outside : (a : Name) (listed : List Link) (x : Name) (t : ℕ) → i
 reading_outside a listed x t off = cond-false (is_at_or_below x a) (list_verdict a listed x t) OutsideZone off
 
 -- an error that is no want of memory is a refusal of the hasher
-pub hasher_refused : {P : ℕ → Type 0} (e : Nsec3HashError) → (e ≡ OutOfMemory → ⊥) → (e ≡ OutOfMemory) ⊎ ((n : ℕ) × (e ≡ Hasher n)) → ((n : ℕ) → e ≡ Hasher n → P n)
+pub hasher_refused : {P : ℕ → Type 0} (e : Nsec3HashError) → (e ≡ OutOfMemory → ⊥)
+    → (e ≡ OutOfMemory) ⊎ ((n : ℕ) × (e ≡ Hasher n)) → ((n : ℕ) → e ≡ Hasher n → P n)
     → (n : ℕ) × ((e ≡ Hasher n) × P n)
 hasher_refused e not (inl memory) first = absurd (not memory)
 hasher_refused e not (inr (n, is)) first = (n, (is, first n is))

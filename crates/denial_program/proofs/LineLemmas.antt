@@ -66,7 +66,8 @@ module _ (ws1 ws2 ws3 ws4 ws5 : List (List ℕ)) (r : RawRecord) (line : LineTex
 
     pub no_ttl : (new : List (List ℕ)) (fault : ScanFault) → RefusesToken (IsNoNumber 32) ws2 new fault → ⊥
     no_ttl new fault why =
-        refused_spells (IsNoNumber 32) (λ t. IsNumber 32 t r.ttl) ws2 new (line.class_word ∷ line.type_word ∷ line.data_words) fault (λ token no yes. no.none r.ttl yes) why
+        refused_spells (IsNoNumber 32) (λ t. IsNumber 32 t r.ttl) ws2 new
+        (line.class_word ∷ line.type_word ∷ line.data_words) fault (λ token no yes. no.none r.ttl yes) why
         (record { token = line.ttl_word; first = after_owner; holds = line.ttl })
 
     module _ {P2 : List ℕ → Type 0} (second : TakesToken P2 ws2 ws3) where
@@ -122,7 +123,8 @@ no_owner ws Bad none = λ r line. none r.owner (line.ttl_word ∷ line.class_wor
 no_owner ws OutOfMemory none = tt
 
 -- a first word that was refused spells no name
-pub no_name : (ws new : List (List ℕ)) (s : ScanError) (e : LineError) → e ≡ line_error_of s → RefusesToken (NameTextFault None) ws new (scan_fault_of s) → SpellsNoName ws e
+pub no_name : (ws new : List (List ℕ)) (s : ScanError) (e : LineError) → e ≡ line_error_of s
+    → RefusesToken (NameTextFault None) ws new (scan_fault_of s) → SpellsNoName ws e
 no_name ws new s Bad made why = λ name after takes.
     token_excludes NameText (NameTextFault None) None (name_excludes None) ws new after name (scan_fault_of s) why takes (known_if_bad s Bad made refl)
 no_name ws new s OutOfMemory made why = tt

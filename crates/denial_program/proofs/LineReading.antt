@@ -1,5 +1,6 @@
 -- A line that was found in what the reader holds, and one that the reader found.
-use Rattle.std.proofs.Common.{◌≡◌, ◌≢◌, ℕ, ◌+◌, ◌-◌, ◌<◌, List, [], length, take, get_or, sym, ap, ◌∙◌, subst, arith, Some, None, IfSome, Option, length-take-le}
+use Rattle.std.proofs.Common.{◌≡◌, ◌≢◌, ℕ, ◌+◌, ◌-◌, ◌<◌, List, [], length, take, get_or}
+use Rattle.std.proofs.Common.{sym, ap, ◌∙◌, subst, arith, Some, None, IfSome, Option, length-take-le}
 use Rattle.std.specs.Io.BufRead.{take_through, DropsThrough}
 use Rattle.std.specs.Io.KnownBytes.{Consumes}
 use Rattle.std.proofs.KnownBytes.{Consumes-nil}
@@ -26,5 +27,6 @@ line_taken known now held place within before here taken =
     Consumes_through 10 known known now [] part (Consumes-nil known) (All-nil (λ x. x ≢ 10)) taken
     (All-from_get_or (λ x. x ≢ 10) (take (length part - 1) part) 0 (λ k lt.
     let low : k < length part - 1 = omega (arith, length-take-le (length part - 1) part (omega arith)) in
-    subst (λ x. x ≢ 10) (sym (get_or-take (length part - 1) part k 0 low ∙ get_or-take (place + 1) held k 0 (omega (arith, long)))) (before k (omega (arith, long)))))
+    subst (λ x. x ≢ 10) (sym (get_or-take (length part - 1) part k 0 low
+    ∙ get_or-take (place + 1) held k 0 (omega (arith, long)))) (before k (omega (arith, long)))))
     (λ some. last) (λ none. absurd (omega (arith, long)))

@@ -37,11 +37,15 @@ parts_of_line owner ttl class kind text = simp append_assoc
 
 -- a record that is a link is printed as the link's line, with the end of the line
 pub nsec_printed : {O : Type 0} (r : Record Name (Nsec O Name))
-    → (name_text r.owner ++ codes ".") ++ (codes " " ++ (decimal r.ttl ++ (codes " " ++ (class_text r.class ++ (codes " " ++ (type_text nsec ++ (codes " " ++ ((name_text r.«data».next_name ++ codes ". ") ++ types_text (types_of r.«data».types))))))))) ++ codes "\n"
+    → (name_text r.owner ++ codes ".") ++ (codes " " ++ (decimal r.ttl
+    ++ (codes " " ++ (class_text r.class ++ (codes " " ++ (type_text nsec
+    ++ (codes " " ++ ((name_text r.«data».next_name ++ codes ". ") ++ types_text (types_of r.«data».types)))))))))
+    ++ codes "\n"
     ≡ nsec_line (as_link (λ n. n) r) ++ codes "\n"
 nsec_printed r =
     ap (λ t. t ++ codes "\n")
-    (parts_of_line (name_text r.owner) (decimal r.ttl) (class_text r.class) (type_text nsec) ((name_text r.«data».next_name ++ codes ". ") ++ types_text (types_of r.«data».types)))
+    (parts_of_line (name_text r.owner) (decimal r.ttl) (class_text r.class) (type_text nsec)
+    ((name_text r.«data».next_name ++ codes ". ") ++ types_text (types_of r.«data».types)))
 
 -- so is a link of hashes
 pub nsec3_printed : (k : HashedLink) → link_text k ++ codes "\n" ≡ nsec3_line k ++ codes "\n"
@@ -49,7 +53,8 @@ nsec3_printed k =
     ap (λ t. t ++ codes "\n") (parts_of_line (name_text k.owner) (decimal k.ttl) (class_text k.class) (type_text nsec3) (nsec3_text (link_values k)))
 
 -- one more line
-pub lines_more : {T : Type 0} (text : T → Octets) (items : List T) (i : ℕ) (d : T) → i < length items → lines_of text (take (i + 1) items) ≡ lines_of text (take i items) ++ (text (get_or items i d) ++ codes "\n")
+pub lines_more : {T : Type 0} (text : T → Octets) (items : List T) (i : ℕ) (d : T) → i < length items
+    → lines_of text (take (i + 1) items) ≡ lines_of text (take i items) ++ (text (get_or items i d) ++ codes "\n")
 lines_more text items i d l =
     ap (lines_of text) (take_more items i d l)
     ∙ flat_map-append (λ item. text item ++ codes "\n") (take i items) (get_or items i d ∷ [])
@@ -57,7 +62,10 @@ lines_more text items i d l =
 
 -- and the record of its parameters, with the end of the line
 pub param_printed : (r : Record Name (Nsec3param Octets))
-    → (name_text r.owner ++ codes ".") ++ (codes " " ++ (decimal r.ttl ++ (codes " " ++ (class_text r.class ++ (codes " " ++ (type_text nsec3param ++ (codes " " ++ nsec3param_text (nsec3param_values r.«data»)))))))) ++ codes "\n"
+    → (name_text r.owner ++ codes ".") ++ (codes " " ++ (decimal r.ttl
+    ++ (codes " " ++ (class_text r.class ++ (codes " " ++ (type_text nsec3param
+    ++ (codes " " ++ nsec3param_text (nsec3param_values r.«data»)))))))) ++ codes "\n"
     ≡ nsec3param_line (as_param_record (λ n. n) r) ++ codes "\n"
 param_printed r =
-    ap (λ t. t ++ codes "\n") (parts_of_line (name_text r.owner) (decimal r.ttl) (class_text r.class) (type_text nsec3param) (nsec3param_text (nsec3param_values r.«data»)))
+    ap (λ t. t ++ codes "\n") (parts_of_line (name_text r.owner) (decimal r.ttl) (class_text r.class) (type_text nsec3param)
+    (nsec3param_text (nsec3param_values r.«data»)))

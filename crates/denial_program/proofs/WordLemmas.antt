@@ -1,11 +1,13 @@
 -- Words none of whose octets is past `~`, and lines that are bad.
-use Rattle.std.proofs.Common.{◌≡◌, ◌↔◌, Bor, map, below_more, Bool, true, false, IsTrue, eqb, ℕ, ◌+◌, ◌-◌, ◌<◌, ◌≤◌, List, [], ◌∷◌, ◌++◌, take, drop, length, get_or, ap, sym, ◌∙◌, subst, inl, inr, arith, append_assoc, append-nil, length-drop}
+use Rattle.std.proofs.Common.{◌≡◌, ◌↔◌, Bor, map, below_more, Bool, true, false, IsTrue, eqb, ℕ, ◌+◌, ◌-◌, ◌<◌, ◌≤◌, List, []}
+use Rattle.std.proofs.Common.{◌∷◌, ◌++◌, take, drop, length, get_or, ap, sym, ◌∙◌, subst, inl, inr, arith, append_assoc, append-nil, length-drop}
 use Rattle.std.specs.Prelude.{nat_lt}
 use Rattle.std.specs.List.{All, AllByRecursion as ByRecursion, filter, slice_split, onto_first}
 use Rattle.std.specs.Str.{IsUtf8}
 use Rattle.std.proofs.lemmas.Bool.{cases_Bool, cases_eq, cond-true, eqb-true, lt-ltb, or_cases}
 use Rattle.std.proofs.lemmas.List.{take-append-drop, drop-drop, drop_more, drop_all, get_or-take, get_or-drop, length-take-le, map_push}
-use Rattle.std.proofs.lemmas.List.Elements.{All-nil, All-head, All-tail, All-get_or, All-from_get_or, All-from_recursion, recursion_from_All, All-push, All-weaker}
+use Rattle.std.proofs.lemmas.List.Elements.{All-nil, All-head, All-tail, All-get_or, All-from_get_or}
+use Rattle.std.proofs.lemmas.List.Elements.{All-from_recursion, recursion_from_All, All-push, All-weaker}
 use Rattle.std.proofs.lemmas.List.Splits.{slice_split-cons_yes, slice_split-cons_no, slice_split_at, slice_split_none}
 use Rattle.std.proofs.lemmas.Str.{IsUtf8-from_ascii}
 use Rattle.std.proofs.lemmas.Str.Ascii.{IsAscii-from_all}
@@ -17,7 +19,8 @@ use Rattle.denial_program.specs.declared.line.LineError.TheVariants.{Bad}
 
 -- such a word is text
 pub plain_is_text : (word : List ℕ) → IsPlain word → IsUtf8 word
-plain_is_text word plain = IsUtf8-from_ascii word (IsAscii-from_all word (All-weaker (λ octet. octet ≤ 126) (λ octet. octet < 128) (λ octet h. omega arith) word plain))
+plain_is_text word plain = IsUtf8-from_ascii word (IsAscii-from_all word
+    (All-weaker (λ octet. octet ≤ 126) (λ octet. octet < 128) (λ octet h. omega arith) word plain))
 
 abbrev some : List ℕ → Bool
 some w = nat_lt 0 (length w)
@@ -53,7 +56,8 @@ module _ (line : List ℕ) (start : ℕ) where
   cut_at : (i : ℕ) → start ≤ i → i < length line → drop start line ≡ part i ++ get_or line i 0 ∷ drop (i + 1) line
   cut_at i le lt =
       let e : start + (i - start) ≡ i = omega arith in
-      sym (take-append-drop (i - start) (drop start line)) ∙ ap (λ l. part i ++ l) (drop-drop (i - start) start line ∙ ap (λ n. drop n line) e ∙ drop_more line i 0 lt)
+      sym (take-append-drop (i - start) (drop start line)) ∙
+      ap (λ l. part i ++ l) (drop-drop (i - start) start line ∙ ap (λ n. drop n line) e ∙ drop_more line i 0 lt)
 
   -- a word ends at i
   pub word_ends : (ws : List (List ℕ)) (i : ℕ) → start < i → i < length line → ws ++ words (drop start line) ≡ words line
@@ -61,7 +65,9 @@ module _ (line : List ℕ) (start : ℕ) where
       → (ws ++ part i ∷ []) ++ words (drop (i + 1) line) ≡ words line
   word_ends ws i begun lt h whole e =
       append_assoc ws (part i ∷ []) (words (drop (i + 1) line))
-      ∙ ap (λ l. ws ++ l) (sym (words_cut (part i) (get_or line i 0) (drop (i + 1) line) (part_all (λ c. is_blank c ≡ false) i (omega arith) (omega arith) whole) (omega (arith, length_part i (omega arith) (omega arith))) e)
+      ∙ ap (λ l. ws ++ l) (sym (words_cut (part i) (get_or line i 0) (drop (i + 1) line)
+      (part_all (λ c. is_blank c ≡ false) i (omega arith) (omega arith) whole)
+      (omega (arith, length_part i (omega arith) (omega arith))) e)
       ∙ ap words (sym (cut_at i (omega arith) lt))) ∙ h
 
   -- the last word ends with the line
@@ -69,7 +75,9 @@ module _ (line : List ℕ) (start : ℕ) where
       → ((k : ℕ) → start ≤ k → k < length line → is_blank (get_or line k 0) ≡ false) → ws ++ drop start line ∷ [] ≡ words line
   word_last ws lt h whole =
       let all : All (λ c. is_blank c ≡ false) (drop start line) =
-      All-from_get_or (λ c. is_blank c ≡ false) (drop start line) 0 (λ k below. subst (λ c. is_blank c ≡ false) (sym (get_or-drop start line k 0)) (whole (start + k) (omega arith) (omega (arith, length-drop start line)))) in
+      All-from_get_or (λ c. is_blank c ≡ false) (drop start line) 0
+      (λ k below. subst (λ c. is_blank c ≡ false) (sym (get_or-drop start line k 0))
+      (whole (start + k) (omega arith) (omega (arith, length-drop start line)))) in
       ap (λ l. ws ++ l) (sym (words_last (drop start line) all (omega (arith, length-drop start line)))) ∙ h
 
   pub word_none : (ws : List (List ℕ)) → length line ≤ start → ws ++ words (drop start line) ≡ words line → ws ≡ words line
@@ -79,13 +87,15 @@ module _ (line : List ℕ) (start : ℕ) where
 pub pushed : (ts : List (Bor (List ℕ))) (t : Bor (List ℕ)) (w : List ℕ) → t.now ≡ w → map (λ x. x.now) (ts ++ t ∷ []) ≡ map (λ x. x.now) ts ++ w ∷ []
 pushed ts t w e = map_push (λ x. x.now) ts t ∙ ap (λ q. map (λ x. x.now) ts ++ q ∷ []) e
 
-pub pushed_plain : (ts : List (Bor (List ℕ))) (t : Bor (List ℕ)) (w : List ℕ) → t.now ≡ w → ArePlain (map (λ x. x.now) ts) → IsPlain w → ArePlain (map (λ x. x.now) (ts ++ t ∷ []))
+pub pushed_plain : (ts : List (Bor (List ℕ))) (t : Bor (List ℕ)) (w : List ℕ) → t.now ≡ w → ArePlain (map (λ x. x.now) ts)
+    → IsPlain w → ArePlain (map (λ x. x.now) (ts ++ t ∷ []))
 pushed_plain ts t w e all one = subst ArePlain (sym (pushed ts t w e)) (All-push IsPlain (map (λ x. x.now) ts) w all one)
 
 pub low_more : (line : List ℕ) (i : ℕ) → ((k : ℕ) → k < i → get_or line k 0 ≤ 126) → get_or line i 0 ≤ 126 → (k : ℕ) → k < i + 1 → get_or line k 0 ≤ 126
 low_more line i h here = below_more (λ k. get_or line k 0 ≤ 126) i h here
 
-pub whole_more : (line : List ℕ) (start i : ℕ) → ((k : ℕ) → start ≤ k → k < i → is_blank (get_or line k 0) ≡ false) → is_blank (get_or line i 0) ≡ false → (k : ℕ) → start ≤ k → k < i + 1 → is_blank (get_or line k 0) ≡ false
+pub whole_more : (line : List ℕ) (start i : ℕ) → ((k : ℕ) → start ≤ k → k < i → is_blank (get_or line k 0) ≡ false)
+    → is_blank (get_or line i 0) ≡ false → (k : ℕ) → start ≤ k → k < i + 1 → is_blank (get_or line k 0) ≡ false
 whole_more line start i h here k le lt = elim (cases_eq k i) [ inl e ↦ ap (λ q. is_blank (get_or line q 0)) e ∙ here | inr other ↦ h k le (omega arith) ]
 
 -- no word begins at a blank
@@ -94,14 +104,21 @@ blank_passed line i lt e = sym (ap words (drop_more line i 0 lt) ∙ words_blank
 
 begins : (x : ℕ) (parts : List (List ℕ)) → (w : List ℕ) × (ws : List (List ℕ)) × (filter some (onto_first x parts) ≡ (x ∷ w) ∷ ws)
 begins x [] = ([], [], cond-true (some (x ∷ [])) ((x ∷ []) ∷ []) [] (lt-ltb 0 (length (x ∷ [])) (omega arith)))
-begins x (p ∷ parts) = (p, filter some parts, cond-true (some (x ∷ p)) ((x ∷ p) ∷ filter some parts) (filter some parts) (lt-ltb 0 (length (x ∷ p)) (omega arith)))
+begins x (p ∷ parts) = (
+  p,
+  filter some parts,
+  cond-true (some (x ∷ p)) ((x ∷ p) ∷ filter some parts) (filter some parts)
+      (lt-ltb 0 (length (x ∷ p)) (omega arith)),
+)
 
 -- the first word begins with the first octet that is no blank
-pub first_begins : (line : List ℕ) (i : ℕ) → i < length line → is_blank (get_or line i 0) ≡ false → words (drop i line) ≡ words line → IsSkipped (words line) ↔ (get_or line i 0 ≡ 59)
+pub first_begins : (line : List ℕ) (i : ℕ) → i < length line → is_blank (get_or line i 0) ≡ false
+    → words (drop i line) ≡ words line → IsSkipped (words line) ↔ (get_or line i 0 ≡ 59)
 first_begins line i lt e h =
     let x = get_or line i 0 in
     let b = begins x (slice_split is_blank (drop (i + 1) line)) in
-    let is : words line ≡ (x ∷ b.0) ∷ b.1 = sym h ∙ ap words (drop_more line i 0 lt) ∙ ap (filter some) (slice_split-cons_no is_blank x (drop (i + 1) line) e) ∙ b.2 in
+    let is : words line ≡ (x ∷ b.0) ∷ b.1 = sym h ∙ ap words (drop_more line i 0 lt)
+    ∙ ap (filter some) (slice_split-cons_no is_blank x (drop (i + 1) line) e) ∙ b.2 in
     (λ s. subst IsSkipped is s, λ s. subst IsSkipped (sym is) s)
 
 pub nothing_begins : (line : List ℕ) (i : ℕ) → length line ≤ i → words (drop i line) ≡ words line → IsSkipped (words line)
@@ -111,7 +128,8 @@ plain_parts : (parts : List (List ℕ)) → ByRecursion IsPlain (filter some par
 plain_parts [] h = tt
 plain_parts ([] ∷ parts) h = (All-nil (λ octet. octet ≤ 126), plain_parts parts h)
 plain_parts ((c ∷ w) ∷ parts) h =
-    let k = subst (ByRecursion IsPlain) (cond-true (some (c ∷ w)) ((c ∷ w) ∷ filter some parts) (filter some parts) (lt-ltb 0 (length (c ∷ w)) (omega arith))) h in
+    let k = subst (ByRecursion IsPlain) (cond-true (some (c ∷ w)) ((c ∷ w) ∷ filter some parts) (filter some parts)
+    (lt-ltb 0 (length (c ∷ w)) (omega arith))) h in
     (k.0, plain_parts parts k.1)
 
 onto_plain : (x : ℕ) (parts : List (List ℕ)) → ByRecursion IsPlain (onto_first x parts) → (x ≤ 126) × ByRecursion IsPlain parts
@@ -131,7 +149,8 @@ plain_octets (x ∷ xs) h = elim (cases_Bool (is_blank x)) [
 -- where an octet is past `~`, so is one of a word
 pub not_plain_at : (line : List ℕ) (i : ℕ) → i < length line → 126 < get_or line i 0 → ArePlain (words line) → ⊥
 not_plain_at line i lt high plain =
-    let all = All-from_recursion (λ octet. octet ≤ 126) line (plain_octets line (plain_parts (slice_split is_blank line) (recursion_from_All IsPlain (words line) plain))) in
+    let all = All-from_recursion (λ octet. octet ≤ 126) line
+    (plain_octets line (plain_parts (slice_split is_blank line) (recursion_from_All IsPlain (words line) plain))) in
     let low : get_or line i 0 ≤ 126 = All-get_or (λ octet. octet ≤ 126) line i 0 lt all in
     absurd (omega arith)
 

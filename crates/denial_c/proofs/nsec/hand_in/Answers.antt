@@ -18,7 +18,8 @@ returns-in_default-clause-err c = (
 pub returns-in_default-into_nsec-clause-err : goal.returns-in_default-into_nsec-clause-err
 returns-in_default-into_nsec-clause-err c = (
   refl,
-  refused_data (is_of rtypes.nsec c.args.class) nsec_record IsNsec c.args.octets.now c.records.parser.left c.read_record.new.parser.left c.records.invariant.links c.in-Some.record
+  refused_data (is_of rtypes.nsec c.args.class) nsec_record IsNsec c.args.octets.now c.records.parser.left
+      c.read_record.new.parser.left c.records.invariant.links c.in-Some.record
       c.records.invariant.read c.in-Some.ensures.some.0 c.in-Some.ensures.some.1 (sym c.is_of.ensures ∙ c.if-is_of.true) c.in_default-into_nsec.ensures.none,
 )
 
@@ -27,7 +28,8 @@ records-smaller-then-is_of c = shorter c.in-Some.record c.records.parser.left c.
 
 pub records-preserved-then-is_of : goal.records-preserved-then-is_of
 records-preserved-then-is_of c =
-    handing_one c.args.class c.args.octets.now c.records.parser.left c.read_record.new.parser.left c.args.check.now c.records.check c.add.new.self c.in-Some.record
+    handing_one c.args.class c.args.octets.now c.records.parser.left c.read_record.new.parser.left c.args.check.now
+    c.records.check c.add.new.self c.in-Some.record
     (as_link (λ n. n) c.in-Some-into_nsec.nsec) c.records.invariant c.in-Some.ensures.some.0 c.in-Some.ensures.some.1 (sym c.is_of.ensures ∙ c.if-is_of.true)
     c.in-Some-into_nsec.ensures.some.0 c.in-Some-into_nsec.ensures.some.1 c.add.ensures
 

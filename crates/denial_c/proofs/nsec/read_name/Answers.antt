@@ -13,5 +13,8 @@ no_spelling faultless one octets fault (trailing other after valid some) labels 
     some (one other labels after [] valid s.valid (s.are ∙ sym (append-nil (wire_of labels)))).1
 
 pub returns-in-Err-clause-err : goal.returns-in-Err-clause-err
-returns-in-Err-clause-err c =
-    (refl, λ s. no_spelling c.octets_begin_with_one_name.ensures.fault c.octets_begin_with_one_name.ensures.one c.args.octets.now _ c.in-Err.ensures.err s.0 s.1)
+returns-in-Err-clause-err c = (
+  refl,
+  λ s. no_spelling c.octets_begin_with_one_name.ensures.fault c.octets_begin_with_one_name.ensures.one c.args.octets.now
+      _ c.in-Err.ensures.err s.0 s.1,
+)

@@ -10,7 +10,8 @@ use Rattle.denial_c.proofs.nsec3.nsec3_verdict.Goals as goal
 
 pub returns-in-Err : goal.returns-in-Err
 returns-in-Err c =
-    chain_fault c.args.apex.now c.args.name.now c.args.rtype c.args.class c.args.records.now c.in_ok-apex.apex c.in_ok-apex.ensures.ok (c.in_ok-name.name, c.in_ok-name.ensures.ok) c.in-Err.fault
+    chain_fault c.args.apex.now c.args.name.now c.args.rtype c.args.class c.args.records.now c.in_ok-apex.apex
+    c.in_ok-apex.ensures.ok (c.in_ok-name.name, c.in_ok-name.ensures.ok) c.in-Err.fault
     (subst (λ n. IsChainFault c.in_ok-apex.apex n c.args.records.now c.in-Err.fault) c.from_int.ensures c.in-Err.ensures.err)
 
 pub returns-in-Ok-check_nsec3 : goal.returns-in-Ok-check_nsec3

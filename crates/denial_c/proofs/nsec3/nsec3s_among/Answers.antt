@@ -10,29 +10,36 @@ use Rattle.denial_c.proofs.nsec3.nsec3s_among.Goals as goal
 
 pub returns-in_default-clause-err : goal.returns-in_default-clause-err
 returns-in_default-clause-err c =
-    refused (is_of rtypes.nsec3 c.args.class) nsec3_record IsNsec3 c.args.octets.now c.records.parser.left (hashed_links_of (λ n. n) c.records.nsec3s.items) c.records.invariant
+    refused (is_of rtypes.nsec3 c.args.class) nsec3_record IsNsec3 c.args.octets.now c.records.parser.left
+    (hashed_links_of (λ n. n) c.records.nsec3s.items) c.records.invariant
     (λ none. let n = ap length none in omega arith) c.in_default.ensures.none
 
 pub returns-in_default-into_nsec3-clause-err : goal.returns-in_default-into_nsec3-clause-err
 returns-in_default-into_nsec3-clause-err c =
-    refused_data (is_of rtypes.nsec3 c.args.class) nsec3_record IsNsec3 c.args.octets.now c.records.parser.left c.read_record.new.parser.left (hashed_links_of (λ n. n) c.records.nsec3s.items)
-    c.in-Some.record c.records.invariant c.in-Some.ensures.some.0 c.in-Some.ensures.some.1 (sym c.is_of.ensures ∙ c.if-is_of.true) c.in_default-into_nsec3.ensures.none
+    refused_data (is_of rtypes.nsec3 c.args.class) nsec3_record IsNsec3 c.args.octets.now c.records.parser.left
+    c.read_record.new.parser.left (hashed_links_of (λ n. n) c.records.nsec3s.items)
+    c.in-Some.record c.records.invariant c.in-Some.ensures.some.0 c.in-Some.ensures.some.1 (sym c.is_of.ensures
+    ∙ c.if-is_of.true) c.in_default-into_nsec3.ensures.none
 
 pub records-smaller-in-Ok-1 : goal.records-smaller-in-Ok-1
 records-smaller-in-Ok-1 c = shorter c.in-Some.record c.records.parser.left c.read_record.new.parser.left c.in-Some.ensures.some.0
 
 pub records-preserved-in-Ok-1 : goal.records-preserved-in-Ok-1
 records-preserved-in-Ok-1 c =
-    let more = taken (is_of rtypes.nsec3 c.args.class) nsec3_record IsNsec3 c.args.octets.now c.records.parser.left c.read_record.new.parser.left (hashed_links_of (λ n. n) c.records.nsec3s.items)
-    c.in-Some.record (as_hashed_link (λ n. n) c.in-Some-into_nsec3.nsec3) c.records.invariant c.in-Some.ensures.some.0 c.in-Some.ensures.some.1 (sym c.is_of.ensures ∙ c.if-is_of.true)
+    let more = taken (is_of rtypes.nsec3 c.args.class) nsec3_record IsNsec3 c.args.octets.now c.records.parser.left
+    c.read_record.new.parser.left (hashed_links_of (λ n. n) c.records.nsec3s.items)
+    c.in-Some.record (as_hashed_link (λ n. n) c.in-Some-into_nsec3.nsec3) c.records.invariant c.in-Some.ensures.some.0
+    c.in-Some.ensures.some.1 (sym c.is_of.ensures ∙ c.if-is_of.true)
     c.in-Some-into_nsec3.ensures.some.0 c.in-Some-into_nsec3.ensures.some.1 in
     subst (λ ks. IsRead (is_of rtypes.nsec3 c.args.class) nsec3_record IsNsec3 c.args.octets.now c.read_record.new.parser.left ks)
-    (sym (map-append (as_hashed_link (λ n. n)) c.records.nsec3s.items (c.in-Some-into_nsec3.nsec3 ∷ [])) ∙ ap (hashed_links_of (λ n. n)) (sym c.in-Ok.ensures.items)) more
+    (sym (map-append (as_hashed_link (λ n. n)) c.records.nsec3s.items (c.in-Some-into_nsec3.nsec3 ∷ []))
+    ∙ ap (hashed_links_of (λ n. n)) (sym c.in-Ok.ensures.items)) more
 
 pub records-smaller : goal.records-smaller
 records-smaller c = shorter c.in-Some.record c.records.parser.left c.read_record.new.parser.left c.in-Some.ensures.some.0
 
 pub records-preserved : goal.records-preserved
 records-preserved c =
-    passed (is_of rtypes.nsec3 c.args.class) nsec3_record IsNsec3 c.args.octets.now c.records.parser.left c.read_record.new.parser.left (hashed_links_of (λ n. n) c.records.nsec3s.items)
+    passed (is_of rtypes.nsec3 c.args.class) nsec3_record IsNsec3 c.args.octets.now c.records.parser.left
+    c.read_record.new.parser.left (hashed_links_of (λ n. n) c.records.nsec3s.items)
     c.in-Some.record c.records.invariant c.in-Some.ensures.some.0 c.in-Some.ensures.some.1 (sym c.is_of.ensures ∙ c.if-is_of.false)

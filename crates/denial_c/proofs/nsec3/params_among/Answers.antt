@@ -17,7 +17,9 @@ returns-in_default-clause-err c =
 pub returns-in_default-into_nsec3param-clause-err : goal.returns-in_default-into_nsec3param-clause-err
 returns-in_default-into_nsec3param-clause-err c =
     let at_apex = ap (λ n. same_name n c.args.apex.now) (sym c.owner.ensures) ∙ sym c.name_eq.ensures.value in
-    refused_data (λ r. is_of rtypes.nsec3param c.args.class r && same_name r.owner c.args.apex.now) param_record IsParam c.args.octets.now c.records.parser.left c.read_record.new.parser.left
+    refused_data (λ r. is_of rtypes.nsec3param c.args.class r
+    && same_name r.owner c.args.apex.now) param_record IsParam c.args.octets.now c.records.parser.left
+    c.read_record.new.parser.left
     (map (as_param_record (λ n. n)) c.records.params.items) c.in-Some.record c.records.invariant c.in-Some.ensures.some.0 c.in-Some.ensures.some.1
     ((λ i. sym c.is_of.ensures i && at_apex i) ∙ c.if-is_of-name_eq.true) c.in_default-into_nsec3param.ensures.none
 
@@ -27,12 +29,16 @@ records-smaller-in-Ok-1 c = shorter c.in-Some.record c.records.parser.left c.rea
 pub records-preserved-in-Ok-1 : goal.records-preserved-in-Ok-1
 records-preserved-in-Ok-1 c =
     let at_apex = ap (λ n. same_name n c.args.apex.now) (sym c.owner.ensures) ∙ sym c.name_eq.ensures.value in
-    let more = taken (λ r. is_of rtypes.nsec3param c.args.class r && same_name r.owner c.args.apex.now) param_record IsParam c.args.octets.now c.records.parser.left c.read_record.new.parser.left
+    let more = taken (λ r. is_of rtypes.nsec3param c.args.class r
+    && same_name r.owner c.args.apex.now) param_record IsParam c.args.octets.now c.records.parser.left
+    c.read_record.new.parser.left
     (map (as_param_record (λ n. n)) c.records.params.items) c.in-Some.record (as_param_record (λ n. n) c.in-Some-into_nsec3param.param) c.records.invariant
     c.in-Some.ensures.some.0 c.in-Some.ensures.some.1 ((λ i. sym c.is_of.ensures i && at_apex i) ∙ c.if-is_of-name_eq.true)
     c.in-Some-into_nsec3param.ensures.some.0 c.in-Some-into_nsec3param.ensures.some.1 in
-    subst (λ ks. IsRead (λ r. is_of rtypes.nsec3param c.args.class r && same_name r.owner c.args.apex.now) param_record IsParam c.args.octets.now c.read_record.new.parser.left ks)
-    (sym (map-append (as_param_record (λ n. n)) c.records.params.items (c.in-Some-into_nsec3param.param ∷ [])) ∙ ap (map (as_param_record (λ n. n))) (sym c.in-Ok.ensures.items)) more
+    subst (λ ks. IsRead (λ r. is_of rtypes.nsec3param c.args.class r
+    && same_name r.owner c.args.apex.now) param_record IsParam c.args.octets.now c.read_record.new.parser.left ks)
+    (sym (map-append (as_param_record (λ n. n)) c.records.params.items (c.in-Some-into_nsec3param.param ∷ []))
+    ∙ ap (map (as_param_record (λ n. n))) (sym c.in-Ok.ensures.items)) more
 
 pub records-smaller : goal.records-smaller
 records-smaller c = shorter c.in-Some.record c.records.parser.left c.read_record.new.parser.left c.in-Some.ensures.some.0
@@ -40,6 +46,7 @@ records-smaller c = shorter c.in-Some.record c.records.parser.left c.read_record
 pub records-preserved : goal.records-preserved
 records-preserved c =
     let at_apex = ap (λ n. same_name n c.args.apex.now) (sym c.owner.ensures) ∙ sym c.name_eq.ensures.value in
-    passed (λ r. is_of rtypes.nsec3param c.args.class r && same_name r.owner c.args.apex.now) param_record IsParam c.args.octets.now c.records.parser.left c.read_record.new.parser.left
+    passed (λ r. is_of rtypes.nsec3param c.args.class r && same_name r.owner c.args.apex.now) param_record IsParam
+    c.args.octets.now c.records.parser.left c.read_record.new.parser.left
     (map (as_param_record (λ n. n)) c.records.params.items) c.in-Some.record c.records.invariant c.in-Some.ensures.some.0 c.in-Some.ensures.some.1
     ((λ i. sym c.is_of.ensures i && at_apex i) ∙ c.if-is_of-name_eq.false)

@@ -9,4 +9,6 @@ returns-in_default-clause-none c =
 pub returns-in_default-parse_octets-clause-none : goal.returns-in_default-parse_octets-clause-none
 returns-in_default-parse_octets-clause-none c =
     λ r after fits e.
-    cut_data _ c.args.parser.now.left c.read.new.parser.left c.in-Ok.ensures.ok (subst (λ n. length c.read.new.parser.left < n) c.from.ensures (c.in_default-parse_octets.ensures.short.0 refl)) r after fits e
+    cut_data _ c.args.parser.now.left c.read.new.parser.left c.in-Ok.ensures.ok
+    (subst (λ n. length c.read.new.parser.left < n) c.from.ensures (c.in_default-parse_octets.ensures.short.0 refl)) r after
+    fits e

@@ -16,7 +16,8 @@ returns-in-Ok-clause-ok g c = λ given sorts.
     let param = c.in-Ok.made.param in
     let apex = c.args.apex.now in
     let config = usual_nsec3_config answers c.args.parameters in
-    let same = usual_is answers c.new-config.result c.args.parameters c.new-config.ensures.params c.new-config.ensures.dnskeys c.new-config.ensures.excludes c.new-config.ensures.dnames in
+    let same = usual_is answers c.new-config.result c.args.parameters c.new-config.ensures.params c.new-config.ensures.dnskeys
+    c.new-config.ensures.excludes c.new-config.ensures.dnames in
     record {
       made = c.in-Ok.made;
       is = refl;
@@ -30,7 +31,8 @@ returns-in-Ok-clause-ok g c = λ given sorts.
           told = subst (λ (xs : List RawRecord). IsChainParam (zone_of (λ n. n) (λ d. d.rtype) minimum_of xs) apex config Soa param) c.new_from_owned.ensures
               (subst (λ mode. IsChainParam (zone_of (λ n. n) (λ d. d.rtype) minimum_of c.new_from_owned.result) apex config mode param)
               c.new-config.ensures.mode
-              (subst (λ k. IsChainParam (zone_of (λ n. n) (λ d. d.rtype) minimum_of c.new_from_owned.result) apex k c.new-config.result.nsec3param_ttl_mode param) same c.in-Ok.ensures.param));
+              (subst (λ k. IsChainParam (zone_of (λ n. n) (λ d. d.rtype) minimum_of c.new_from_owned.result) apex k
+              c.new-config.result.nsec3param_ttl_mode param) same c.in-Ok.ensures.param));
         };
       };
     }
@@ -40,7 +42,8 @@ returns g c =
     let answers = g.H.Nsec3Hasher.answer c.args.hasher.now in
     let apex = c.args.apex.now in
     let config = usual_nsec3_config answers c.args.parameters in
-    let same = usual_is answers c.new-config.result c.args.parameters c.new-config.ensures.params c.new-config.ensures.dnskeys c.new-config.ensures.excludes c.new-config.ensures.dnames in
+    let same = usual_is answers c.new-config.result c.args.parameters c.new-config.ensures.params c.new-config.ensures.dnskeys
+    c.new-config.ensures.excludes c.new-config.ensures.dnames in
     record {
       ok = tt;
       err = λ given sorts. record {

@@ -9,7 +9,8 @@ returns-in_err-answer-clause-err g c =
     let given = c.args.records.items in
     let sorts = subst (λ (xs : List RawRecord). Sorts given xs) (sym (c.deref.ensures.value ∙ c.in_ok-laid.ensures)) c.in_ok-sorted.ensures.sorts in
     let none = subst (λ apex. HasNoNsecs given apex c.in_err-answer.field-0.0) c.in_ok-apex.ensures (c.in_err-answer.ensures.err given sorts) in
-    if_err_of (IsUnwritten (IsNsecs given c.args.apex.now) (HasNoNsecs given c.args.apex.now)) c.in_err-answer.field-0.0 c.from_residual-in_err-answer.result c.from_residual-in_err-answer.ensures.1 (inr none)
+    if_err_of (IsUnwritten (IsNsecs given c.args.apex.now) (HasNoNsecs given c.args.apex.now)) c.in_err-answer.field-0.0
+    c.from_residual-in_err-answer.result c.from_residual-in_err-answer.ensures.1 (inr none)
 
 pub returns-clause-ok : goal.returns-clause-ok
 returns-clause-ok g c =

@@ -19,4 +19,5 @@ left-preserved-in-Continue-1 c =
 pub returns : goal.returns
 returns c =
     goes_end IsNsec3Of c.args.records.items c.left.left.rest.items
-    (hashed_links_of (λ n. n) c.left.nsec3s.items) c.left.invariant (ended c.left.left.rest.items (omega (arith, c.in_default.ensures.cases.0, c.left.left.rest.ok.0)))
+    (hashed_links_of (λ n. n) c.left.nsec3s.items) c.left.invariant
+    (ended c.left.left.rest.items (omega (arith, c.in_default.ensures.cases.0, c.left.left.rest.ok.0)))

@@ -1,9 +1,11 @@
 use Rattle.std.proofs.Common.{◌≡◌, ◌≤◌, ◌+◌, ◌++◌, length, drop, map, get_or, false, rules, sym, ap, ◌∙◌, subst, arith}
 use Rattle.std.proofs.lemmas.List.{take_rest}
 use Rattle.denial_program.specs.Words.{words, is_blank, ArePlain}
-use Rattle.denial_program.proofs.WordLemmas.{blank_passed, low_more, not_plain_at, part, part_all, pushed, pushed_plain, whole_more, word_ends, word_last, word_none}
+use Rattle.denial_program.proofs.WordLemmas.{blank_passed, low_more, not_plain_at, part, part_all, pushed}
+use Rattle.denial_program.proofs.WordLemmas.{pushed_plain, whole_more, word_ends, word_last, word_none}
 use Rattle.denial_program.proofs.line.tokens_of.Goals as goal
-use Rattle.denial_program.proofs.line.tokens_of.Goals.{then-separates, then-start-i+in_ok-push, else-start-i, else-separates, then-start-line+in_ok-push-2, else-start-line}
+use Rattle.denial_program.proofs.line.tokens_of.Goals.{then-separates, then-start-i+in_ok-push, else-start-i}
+use Rattle.denial_program.proofs.line.tokens_of.Goals.{else-separates, then-start-line+in_ok-push-2, else-start-line}
 
 pub loop-i-preserved : goal.loop-i-preserved
 loop-i-preserved c =
@@ -21,7 +23,9 @@ loop-i-preserved c =
                   begun = omega arith;
                   same = ap (λ ws. ws ++ words (drop (i + 1) line)) (pushed c.loop-i.tokens.items v.text_of.result (part line start i) v.text_of.ensures)
                       ∙ word_ends line start (map (λ t. t.now) c.loop-i.tokens.items) i v.if-start-i.true c.loop-i-test.true inv.same inv.whole blank;
-                  plain = pushed_plain c.loop-i.tokens.items v.text_of.result (part line start i) v.text_of.ensures inv.plain (part_all line start (λ octet. octet ≤ 126) i inv.begun (omega (arith, c.loop-i-test.true)) (λ k le lt. inv.low k lt));
+                  plain = pushed_plain c.loop-i.tokens.items v.text_of.result (part line start i) v.text_of.ensures inv.plain
+                      (part_all line start (λ octet. octet ≤ 126) i inv.begun (omega (arith, c.loop-i-test.true))
+                      (λ k le lt. inv.low k lt));
                   whole = λ k le lt. absurd (omega arith);
                   low = low;
                 }))
@@ -29,7 +33,8 @@ loop-i-preserved c =
                 let here : i ≡ start = omega (arith, inv.begun, v.if-start-i.false) in
                 rw (w.start-is, w.tokens-is, v.tokens-is) (record {
                   begun = omega arith;
-                  same = ap (λ ws. map (λ t. t.now) c.loop-i.tokens.items ++ ws) (blank_passed line i c.loop-i-test.true blank ∙ ap (λ q. words (drop q line)) here) ∙ inv.same;
+                  same = ap (λ ws. map (λ t. t.now) c.loop-i.tokens.items ++ ws) (blank_passed line i c.loop-i-test.true blank
+                      ∙ ap (λ q. words (drop q line)) here) ∙ inv.same;
                   plain = inv.plain;
                   whole = λ k le lt. absurd (omega arith);
                   low = low;
@@ -70,7 +75,8 @@ pub text_of-requires-then-start-line : goal.text_of-requires-then-start-line
 text_of-requires-then-start-line c =
     let inv = c.loop-i.invariant in
     let line = c.args.line.now in
-    part_all line c.loop-i.start (λ octet. octet ≤ 126) (length line) (omega (arith, c.if-start-line.true)) (omega arith) (λ k le lt. inv.low k (omega (arith, c.loop-i-test.false)))
+    part_all line c.loop-i.start (λ octet. octet ≤ 126) (length line) (omega (arith, c.if-start-line.true)) (omega arith)
+    (λ k le lt. inv.low k (omega (arith, c.loop-i-test.false)))
 
 pub returns-clause-same : goal.returns-clause-same
 returns-clause-same c =
@@ -96,9 +102,12 @@ returns-clause-plain c =
       | then-start-line+in_ok-push-2 w ↦ (
           let t = w.text_of-then-start-line.result in
           let is = w.text_of-then-start-line.ensures in
-          let same = pushed ts t (drop start line) (is ∙ take_rest line start) ∙ word_last line start (map (λ x. x.now) ts) w.if-start-line.true inv.same (λ k le lt. inv.whole k le (omega (arith, c.loop-i-test.false))) in
+          let same = pushed ts t (drop start line) (is ∙ take_rest line start)
+          ∙ word_last line start (map (λ x. x.now) ts) w.if-start-line.true inv.same
+          (λ k le lt. inv.whole k le (omega (arith, c.loop-i-test.false))) in
           subst ArePlain same
           (pushed_plain ts t (part line start (length line)) is inv.plain
-          (part_all line start (λ octet. octet ≤ 126) (length line) (omega (arith, w.if-start-line.true)) (omega arith) (λ k le lt. inv.low k (omega (arith, c.loop-i-test.false))))))
+          (part_all line start (λ octet. octet ≤ 126) (length line) (omega (arith, w.if-start-line.true)) (omega arith)
+          (λ k le lt. inv.low k (omega (arith, c.loop-i-test.false))))))
       | else-start-line w ↦ subst ArePlain (word_none line start (map (λ t. t.now) ts) w.if-start-line.false inv.same) inv.plain
     ]

@@ -17,7 +17,8 @@ found g c =
     let filled = subst (FillKeeps _ (g.R.Read.remaining rested) (g.R.BufRead.consumable_len rested)) c.in-Ok.is c.fill_buf.follows.holds-at-none in
     let first = c.in-Some.ensures in
     let within : place < length held = first.0.high in
-    let moved = Consumes_shown _ _ _ _ held (place + 1) (omega (arith, within)) c.in-Ok.ensures.front c.in-Ok.ensures.end filled.0 filled.1 c.consume.ensures.bytes in
+    let moved = Consumes_shown _ _ _ _ held (place + 1) (omega (arith, within)) c.in-Ok.ensures.front c.in-Ok.ensures.end filled.0
+    filled.1 c.consume.ensures.bytes in
     line_taken (g.R.Read.remaining c.args.input.now) (g.R.Read.remaining c.consume.new.self) held place within
     (λ k lt is. first.0.before k (omega arith) lt (rw is refl)) (eqb-true _ _ first.1) moved.0
 

@@ -14,7 +14,8 @@ returns-clause-ok g c =
     let answers = g.H.Nsec3Hasher.answer c.args.hasher.now in
     on_ok (λ written.
     known_so (λ bytes. Give (lines bytes) c.in_ok-records.records.items)
-    (λ bytes. (x : Answer) × Answers answers (map string_bytes c.args.words.now) (lines bytes) x × Appends (g.W.Write.contents c.args.output.now) (g.W.Write.contents c.write_answer.new.output) (answer_text x))
+    (λ bytes. (x : Answer) × Answers answers (map string_bytes c.args.words.now) (lines bytes) x
+    × Appends (g.W.Write.contents c.args.output.now) (g.W.Write.contents c.write_answer.new.output) (answer_text x))
     (g.R.Read.remaining c.args.input.now)
     (λ bytes gives. (
       written.answer,
