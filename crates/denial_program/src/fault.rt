@@ -1,11 +1,9 @@
 //! Why a run stops.
 ghost use Rattle.std.specs.Prelude.{◌≡◌, ◌⊎◌, ◌↔◌, Some};
 ghost use Rattle.std.specs.IoError.{error_kind};
-ghost use Rattle.denial_program.specs.Answer.{fault_of_chain};
 ghost use Rattle.denial_program.specs.Fault.{exit_status};
 ghost use Rattle.denial_program.specs.declared.fault.DenialFault.TheVariants as denial_fault;
 
-use domain_dnssec::ChainError;
 use domain_octets::OutOfMemory;
 use domain_records::SigningError;
 use std::alloc::{AllocError, AllocFailed};
@@ -77,18 +75,6 @@ pub fn fault_of(error: &io::Error, fault: DenialFault) -> DenialFault
         DenialFault::OutOfMemory
     } else {
         fault
-    }
-}
-
-impl From<ChainError> for DenialFault {
-    ghost from_gives = { λ error made. made ≡ fault_of_chain error };
-
-    fn from(error: ChainError) -> DenialFault {
-        match error {
-            ChainError::MixedClasses => DenialFault::MixedClasses,
-            ChainError::Signing(error) => DenialFault::Signing(error),
-            ChainError::OutOfMemory => DenialFault::OutOfMemory,
-        }
     }
 }
 
