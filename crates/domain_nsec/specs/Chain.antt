@@ -62,7 +62,13 @@ pub record IsChain (L : List ZoneRecord) (a : Name) (config : GenerateNsecConfig
   pub bits : All (λ k. k.bits
       ≡ bitmap_octets (nsec_lists L a config.assume_dnskeys_will_be_added k.owner)) links
 
--- the error is the first fault that stands, or want of memory
+-- no fault stands
+abbrev pub IsFaultless : List ZoneRecord → Name → GenerateNsecConfig → Type 0
+IsFaultless L a config =
+    (soa_of L a ≢ None)
+    × (has_unequal_ttls L (unoccluded_owners config.occlude_below_dname L a) ≡ false)
+
+-- the error is the first fault that stands or, where none does, want of memory
 abbrev pub IsFirstFault : List ZoneRecord → Name → GenerateNsecConfig → SigningError → Type 0
 IsFirstFault L a config SoaRecordCouldNotBeDetermined = soa_of L a ≡ None
 IsFirstFault L a config MultipleTtlValues =
@@ -70,13 +76,7 @@ IsFirstFault L a config MultipleTtlValues =
     × (has_unequal_ttls L (unoccluded_owners config.occlude_below_dname L a) ≡ true)
 IsFirstFault L a config EmptyRecordSlice = ⊥
 IsFirstFault L a config (Nsec3HashingError e) = ⊥
-IsFirstFault L a config OutOfMemory = Unit {0}
-
--- no fault stands
-abbrev pub IsFaultless : List ZoneRecord → Name → GenerateNsecConfig → Type 0
-IsFaultless L a config =
-    (soa_of L a ≢ None)
-    × (has_unequal_ttls L (unoccluded_owners config.occlude_below_dname L a) ≡ false)
+IsFirstFault L a config OutOfMemory = IsFaultless L a config
 
 -- how `GenerateNsecConfig::new` has it: DNSKEY records are assumed, and names below a DNAME stay
 abbrev pub usual_config : GenerateNsecConfig

@@ -6,7 +6,7 @@ ghost use Rattle.domain_nsec.specs.Chain.{Link, links_in, IsChain, IsFaultless, 
 ghost use Rattle.domain_nsec.specs.ChainView.{as_link, links_of};
 
 use crate::GenerateNsecConfig;
-use crate::types::push_types;
+use crate::owners::Owners;
 use domain_base::{MakeName, ParsedName, ToName};
 use domain_bitmap::{RtypeBitmap, RtypeBitmaps};
 use domain_chain_rdata::Nsec;
@@ -86,19 +86,19 @@ impl<'a, N: ToName> NsecChain<'a, N> {
         let Some(soa) = find_soa(apex, records.records()) else {
             return Err(SigningError::SoaRecordCouldNotBeDetermined);
         };
-        let mut owners = UnoccludedOwners::new(apex, records, config.occlude_below_dname);
-        let mut names = Vec::new(alloc);
-        let mut types = RtypeBitmaps::new(alloc);
-        'owners: while let Some(owner) = owners.next() {
+        let mut left = UnoccludedOwners::new(apex, records, config.occlude_below_dname);
+        let mut owners = Owners::new(alloc);
+        'owners: while let Some(owner) = left.next() {
             if has_unequal_ttls(owner.records.records()) {
                 return Err(SigningError::MultipleTtlValues);
             }
             let assumed = config.assume_dnskeys_will_be_added & owner.name.name_eq(apex);
-            let records = owner.records.records();
-            push_types(alloc, &mut types, records, assumed, owner.is_zone_cut)?;
-            names.push(owner.name)?;
+            owners.add(alloc, &owner, assumed);
         }
-        Ok(NsecChain::new(apex, soa, names, types))
+        if owners.is_full {
+            return Err(SigningError::OutOfMemory);
+        }
+        Ok(NsecChain::new(apex, soa, owners.names, owners.types))
     }
 
     /// How many records the chain has.

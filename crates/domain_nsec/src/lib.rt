@@ -12,6 +12,7 @@ mod chain;
 mod config;
 pub mod laws;
 mod nsec;
+mod owners;
 mod types;
 
 pub use chain::{LentNsec, NsecChain};

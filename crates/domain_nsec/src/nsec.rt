@@ -32,7 +32,8 @@ use std::alloc::Global;
 ///
 /// The first that stands: `SoaRecordCouldNotBeDetermined` where the apex does not own exactly one
 /// record of type SOA, or its data tell no MINIMUM; `MultipleTtlValues` where two records of one
-/// owner of the chain and one type other than RRSIG differ in TTL; and `OutOfMemory`.
+/// owner of the chain and one type other than RRSIG differ in TTL; and `OutOfMemory`, so that this
+/// says too that no other fault stands.
 pub fn generate_nsecs<O, N: MakeName, D: ZoneData>(
     alloc: Global,
     apex: &N,

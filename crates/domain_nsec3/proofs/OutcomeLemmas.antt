@@ -127,7 +127,7 @@ module _ (L : List ZoneRecord) (a : Name) (config : ChainConfig) where
   -- what it is to those who sign
   pub signing_fault : (e : Nsec3HashError) → IsReady L a config → (e ≡ OutOfMemory) ⊎ IsFirstHashingFault L a config e
       → IsFirstFault L a config (signing_error_of e)
-  signing_fault OutOfMemory ready h = tt
+  signing_fault OutOfMemory ready h = ready
   signing_fault (Hasher n) ready (inl m) = absurd (cc)
   signing_fault (Hasher n) ready (inr f) = (ready, f)
   signing_fault AppendError ready (inl m) = absurd (cc)

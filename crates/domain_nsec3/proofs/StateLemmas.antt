@@ -24,13 +24,15 @@ use Rattle.domain_nsec3.specs.Steps.{Entry, AreOriginalOwners}
 abbrev pub stays : ChainConfig → OwnerRecords → Bool
 stays config o = not (excludes config && (o.is_zone_cut && not (has_type o.records ds)))
 
--- the owners given so far and those left are all; those of them that stay are listed with their types, and have equal TTLs
-pub record IsAt (L : List ZoneRecord) (a : Name) (config : ChainConfig) (left : List OwnerRecords) (entries : List Entry) : Type 0 where
+-- the owners given so far and those left are all, and those that stay have equal TTLs; unless memory was wanting, those that stay
+-- are listed with their types
+pub record IsAt (L : List ZoneRecord) (a : Name) (config : ChainConfig) (left : List OwnerRecords) (full : Bool) (entries : List Entry)
+    : Type 0 where
   pub given : List OwnerRecords
   pub all : given ++ left ≡ owners_with_records config.occlude_below_dname L a
   pub even : list_any clashes_in (filter (stays config) given) ≡ false
-  pub names : map (λ n. n.name) entries ≡ map name_of (filter (stays config) given)
-  pub bits : All (λ n. n.bits ≡ bitmap_octets (nsec3_lists L a config n.name)) entries
+  pub names : full ≡ false → map (λ n. n.name) entries ≡ map name_of (filter (stays config) given)
+  pub bits : full ≡ false → All (λ n. n.bits ≡ bitmap_octets (nsec3_lists L a config n.name)) entries
 
 -- which of the owners stay
 names_stay : (config : ChainConfig) (L : List ZoneRecord) (a : Name) (ks : List Name)
@@ -64,10 +66,17 @@ all_own d L a [] h = tt
 all_own d L a (k ∷ ks) h = (h.0.0, all_own d L a ks h.1)
 
 module _ (L : List ZoneRecord) (a : Name) (config : ChainConfig) where
-  pub at_start : IsAt L a config (owners_with_records config.occlude_below_dname L a) []
-  at_start = record { given = []; all = refl; even = refl; names = refl; bits = All-nil (λ n. n.bits ≡ bitmap_octets (nsec3_lists L a config n.name)) }
+  pub at_start : IsAt L a config (owners_with_records config.occlude_below_dname L a) false []
+  at_start = record {
+    given = [];
+    all = refl;
+    even = refl;
+    names = λ room. refl;
+    bits = λ room. All-nil (λ n. n.bits ≡ bitmap_octets (nsec3_lists L a config n.name));
+  }
 
-  module _ (o : OwnerRecords) (left : List OwnerRecords) (entries : List Entry) (s : IsAt L a config (o ∷ left) entries) where
+  module _ (o : OwnerRecords) (left : List OwnerRecords) (full : Bool) (entries : List Entry)
+      (s : IsAt L a config (o ∷ left) full entries) where
     pub at_known : o ≡ owner_at L a o.name
     at_known = next_is_owner config.occlude_below_dname L a s.given o left s.all
 
@@ -82,7 +91,7 @@ module _ (L : List ZoneRecord) (a : Name) (config : ChainConfig) where
     one_more b e = filter-append (stays config) s.given (o ∷ []) ∙ (λ i. filter (stays config) s.given ++ cond (e i) (o ∷ []) [])
 
     -- one that is left out
-    pub at_excluded : stays config o ≡ false → IsAt L a config left entries
+    pub at_excluded : stays config o ≡ false → IsAt L a config left full entries
     at_excluded out =
         let same_list : filter (stays config) (s.given ++ o ∷ []) ≡ filter (stays config) s.given = one_more false out
         ∙ append-nil (filter (stays config) s.given) in
@@ -90,16 +99,17 @@ module _ (L : List ZoneRecord) (a : Name) (config : ChainConfig) where
           given = s.given ++ o ∷ [];
           all = append_assoc s.given (o ∷ []) left ∙ s.all;
           even = ap (list_any clashes_in) same_list ∙ s.even;
-          names = s.names ∙ ap (map name_of) (sym same_list);
+          names = λ room. s.names room ∙ ap (map name_of) (sym same_list);
           bits = s.bits;
         }
 
-    -- one that stays
-    pub at_owner : (bits : List ℕ) (entries' : List Entry) → stays config o ≡ true → has_clash o.records ≡ false
+    -- one that stays is listed with its types, where there is memory
+    pub at_owner : (bits : List ℕ) (full' : Bool) (entries' : List Entry) → stays config o ≡ true → has_clash o.records ≡ false
         → bits ≡ bitmap_octets (is_listed (o.is_zone_cut && not (has_type o.records ds)) (same_name o.name a)
         (config.assume_dnskeys_will_be_added && same_name o.name a) o.is_zone_cut o.records)
-        → entries' ≡ entries ++ record { name = o.name; bits = bits } ∷ [] → IsAt L a config left entries'
-    at_owner bits entries' kept even b is =
+        → (full' ≡ false → full ≡ false)
+        → (full' ≡ false → entries' ≡ entries ++ record { name = o.name; bits = bits } ∷ []) → IsAt L a config left full' entries'
+    at_owner bits full' entries' kept even b room is =
         let more = one_more true kept in
         let listed : bits ≡ bitmap_octets (nsec3_lists L a config o.name) =
         b ∙ ap (λ p. bitmap_octets (is_listed (p.is_zone_cut && not (has_type p.records ds)) (same_name o.name a)
@@ -112,10 +122,14 @@ module _ (L : List ZoneRecord) (a : Name) (config : ChainConfig) where
           given = s.given ++ o ∷ [];
           all = append_assoc s.given (o ∷ []) left ∙ s.all;
           even = ap (list_any clashes_in) more ∙ list_any-append clashes_in (filter (stays config) s.given) (o ∷ []) ∙ (λ i. s.even i || (even i || false));
-          names = ap (map (λ n. n.name)) is ∙ map-append (λ n. n.name) entries (record { name = o.name; bits = bits } ∷ []) ∙ ap (λ l. l ++ o.name ∷ []) s.names
-              ∙ sym (map-append name_of (filter (stays config) s.given) (o ∷ [])) ∙ ap (map name_of) (sym more);
-          bits = subst (All (λ n. n.bits ≡ bitmap_octets (nsec3_lists L a config n.name))) (sym is)
-              (All-push (λ n. n.bits ≡ bitmap_octets (nsec3_lists L a config n.name)) entries (record { name = o.name; bits = bits }) s.bits listed);
+          names = λ h.
+              ap (map (λ n. n.name)) (is h) ∙ map-append (λ n. n.name) entries (record { name = o.name; bits = bits } ∷ [])
+              ∙ ap (λ l. l ++ o.name ∷ []) (s.names (room h)) ∙ sym (map-append name_of (filter (stays config) s.given) (o ∷ []))
+              ∙ ap (map name_of) (sym more);
+          bits = λ h.
+              subst (All (λ n. n.bits ≡ bitmap_octets (nsec3_lists L a config n.name))) (sym (is h))
+              (All-push (λ n. n.bits ≡ bitmap_octets (nsec3_lists L a config n.name)) entries (record { name = o.name; bits = bits })
+              (s.bits (room h)) listed);
         }
 
     pub at_fault : stays config o ≡ true → has_clash o.records ≡ true → has_unequal_ttls L (original_owners L a config) ≡ true
@@ -128,14 +142,16 @@ module _ (L : List ZoneRecord) (a : Name) (config : ChainConfig) where
         ∙ (λ i. h i || list_any clashes_in (filter (stays config) left)))
 
   -- with nothing left
-  pub at_end : (entries : List Entry) → IsAt L a config [] entries → AreOriginalOwners L a config entries
-  at_end entries s = record {
-    names = s.names ∙ ap (λ l. map name_of (filter (stays config) l)) (sym (append-nil s.given) ∙ s.all)
+  pub at_end : (full : Bool) (entries : List Entry) → IsAt L a config [] full entries → full ≡ false
+      → AreOriginalOwners L a config entries
+  at_end full entries s room = record {
+    names = s.names room ∙ ap (λ l. map name_of (filter (stays config) l)) (sym (append-nil s.given) ∙ s.all)
         ∙ names_stay config L a (unoccluded_owners config.occlude_below_dname L a);
-    bits = s.bits;
+    bits = s.bits room;
   }
 
-  pub even_end : (entries : List Entry) → IsAt L a config [] entries → has_unequal_ttls L (original_owners L a config) ≡ false
-  even_end entries s =
+  pub even_end : (full : Bool) (entries : List Entry) → IsAt L a config [] full entries
+      → has_unequal_ttls L (original_owners L a config) ≡ false
+  even_end full entries s =
       sym (clashes_stay config L a (unoccluded_owners config.occlude_below_dname L a))
       ∙ ap (λ l. list_any clashes_in (filter (stays config) l)) (sym s.all ∙ append-nil s.given) ∙ s.even

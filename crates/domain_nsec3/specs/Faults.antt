@@ -70,7 +70,8 @@ IsFirstHashingFault L a config hash_error.CollisionDetected =
 IsFirstHashingFault L a config hash_error.AppendError = ⊥
 IsFirstHashingFault L a config hash_error.OutOfMemory = ⊥
 
--- the error is the first fault that stands, or want of memory
+-- the error is the first fault that stands, or want of memory, which leaves open whether one of
+-- hashing stands: hashes take memory themselves
 abbrev pub IsFirstFault : List ZoneRecord → Name → ChainConfig → SigningError → Type 0
 IsFirstFault L a config SoaRecordCouldNotBeDetermined = soa_of L a ≡ None
 IsFirstFault L a config MultipleTtlValues =
@@ -78,7 +79,7 @@ IsFirstFault L a config MultipleTtlValues =
 IsFirstFault L a config (Nsec3HashingError e) =
     IsReady L a config × IsFirstHashingFault L a config e
 IsFirstFault L a config EmptyRecordSlice = ⊥
-IsFirstFault L a config OutOfMemory = Unit {0}
+IsFirstFault L a config OutOfMemory = IsReady L a config
 
 -- no fault stands
 pub record IsFaultless (L : List ZoneRecord) (a : Name) (config : ChainConfig) : Type 0 where

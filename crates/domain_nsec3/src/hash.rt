@@ -1,5 +1,5 @@
 //! The hashes of names, and the owners of their records.
-ghost use Rattle.std.specs.Prelude.{◌≡◌, ◌+◌, ◌<◌, ◌≤◌, ◌++◌, ◌∷◌, ◌⊎◌, [], List, Ok, Some, None, length, map, take, All, IfOk, IfErr, OnOk};
+ghost use Rattle.std.specs.Prelude.{◌≡◌, ◌+◌, ◌<◌, ◌≤◌, ◌++◌, ◌∷◌, ◌⊎◌, [], List, Ok, Some, None, length, map, take, All, IfOk, IfErr, IsErrOf, OnOk};
 ghost use Rattle.domain_octets.specs.Words.{Octets};
 ghost use Rattle.domain_records.specs.declared.error.Nsec3HashError.TheVariants as hash_error;
 ghost use Rattle.domain_base.specs.Wire.{labels_of, IsWire};
@@ -48,6 +48,7 @@ fn hash_octets<H: Nsec3Hasher>(
         (hash_name (hash_by (H.answer hasher.now)
         (record { algorithm = algorithm; iterations = iterations; salt = salt.now })) name.now)
         e) }
+    ensures memory { IsErrOf result hash_error.OutOfMemory → H.takes_memory hasher.now }
 {
     let mut buffer = [0; MAX_NAME];
     let lowered = lower_wire(&mut buffer, name);
@@ -62,6 +63,7 @@ fn check_hash(apex: &ParsedName<'_>, hash: &[u8]) -> Result<(), Nsec3HashError>
     ensures ok { OnOk result (hash_fault apex.now (Ok hash.now) ≡ None) }
     ensures octets { OnOk result (All (λ octet. octet < 256) hash.now) }
     ensures err { IfErr result (λ e. hash_fault apex.now (Ok hash.now) ≡ Some e) }
+    ensures memory { IsErrOf result hash_error.OutOfMemory → ⊥ }
 {
     if hash.is_empty() || hash.len() > MAX_HASH {
         return Err(Nsec3HashError::OwnerHashError);
@@ -92,6 +94,7 @@ fn hash_checked<H: Nsec3Hasher>(
     ensures err { IfErr result (IsRefusal apex.now
         (hash_name (hash_by (H.answer hasher.now)
         (record { algorithm = algorithm; iterations = iterations; salt = salt.now })) name.now)) }
+    ensures memory { IsErrOf result hash_error.OutOfMemory → H.takes_memory hasher.now }
 {
     let hash = hash_octets(alloc, hasher, algorithm, iterations, salt, name)?;
     check_hash(apex, hash.as_slice())?;
@@ -156,7 +159,7 @@ pub(crate) fn make_owner<N: MakeName>(
 ///
 /// The first that stands: what the hasher refuses as `Hasher`; `OwnerHashError` where the hash has
 /// no octets or over 39; `Nsec3NameTooLong` where the owner would be over 255 octets; and
-/// `OutOfMemory`, also where the hasher has none.
+/// `OutOfMemory`. Only where the hasher has none may one of these faults stand beside that.
 pub fn mk_hashed_nsec3_owner_name<H: Nsec3Hasher, O: Octets, N: MakeName>(
     alloc: Global,
     name: &N,
@@ -181,6 +184,12 @@ where
         (hash_name (hash_by (H.answer hasher.now)
         (record { algorithm = algorithm; iterations = iterations; salt = salt.now }))
         (N.labels name.now))) }
+
+    // The name takes memory once it is known that no fault of the hash stands.
+    ensures memory { IsErrOf result hash_error.OutOfMemory → H.takes_memory hasher.now
+        ⊎ (hash_fault (N.labels apex.now) (hash_name (hash_by (H.answer hasher.now)
+        (record { algorithm = algorithm; iterations = iterations; salt = salt.now }))
+        (N.labels name.now)) ≡ None) }
 {
     let apex = apex.as_parsed();
     let name = name.as_parsed();
@@ -213,6 +222,7 @@ fn hash_at<H: Nsec3Hasher, O: Octets>(
         (record { name = name.now; hash = hashed.hash; bits = [] })) }
     ensures err { IfErr result (IsRefusal apex.now
         (hash_name (hash_by (H.answer hasher.now) (parameters_of params.now)) name.now)) }
+    ensures memory { IsErrOf result hash_error.OutOfMemory → H.takes_memory hasher.now }
 {
     let algorithm = params.hash_algorithm();
     let iterations = params.iterations();

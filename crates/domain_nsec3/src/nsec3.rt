@@ -81,7 +81,9 @@ where
 /// owner of the chain and one type other than RRSIG differ in TTL; for the first name of the chain,
 /// owners before empty non-terminals and each in canonical order, whose hash is of no use,
 /// `Nsec3HashingError` with `Hasher`, `OwnerHashError` or `Nsec3NameTooLong`; the same with
-/// `CollisionDetected` where two names of the chain have one hash; and `OutOfMemory`.
+/// `CollisionDetected` where two names of the chain have one hash; and `OutOfMemory`, which says
+/// that neither of the first two faults stands and leaves those of hashing open, since hashes take
+/// memory.
 pub fn generate_nsec3s<S: Sorter, H: Nsec3Hasher, O, N: MakeName, D: ZoneData>(
     alloc: Global,
     apex: &N,

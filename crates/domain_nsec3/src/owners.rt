@@ -1,10 +1,12 @@
 //! The owners of a zone that its NSEC3 chain holds.
-ghost use Rattle.std.specs.Prelude.{◌≡◌, ◌&&◌, ◌⊎◌, true, false, not, length, IfOk, IfErr, OnOk};
+ghost use Rattle.std.specs.Prelude.{◌≡◌, ◌≢◌, ◌&&◌, ◌∷◌, ◌++◌, [], false, not, length, None, IfOk, IfErr, OnOk};
 ghost use Rattle.domain_records.specs.Order.{IsInOrder};
-ghost use Rattle.domain_records.specs.declared.error.SigningError.TheVariants as signing_error;
 ghost use Rattle.domain_base.specs.Types.{ds};
+ghost use Rattle.domain_bitmap.specs.Bitmap.{bitmap_octets};
+ghost use Rattle.domain_zone.specs.Soa.{soa_of};
 ghost use Rattle.domain_zone.specs.Zone.{has_type, has_unequal_ttls};
-ghost use Rattle.domain_nsec3.specs.Owners.{original_owners};
+ghost use Rattle.domain_nsec3.specs.Faults.{IsFirstFault};
+ghost use Rattle.domain_nsec3.specs.Owners.{is_listed, original_owners};
 ghost use Rattle.domain_nsec3.specs.Steps.{AreOriginalOwners};
 ghost use Rattle.domain_nsec3.specs.StepView.{as_entries};
 ghost use Rattle.domain_zone.specs.View.{zone_of};
@@ -20,11 +22,58 @@ use domain_records::{RecordsIter, SigningError};
 use domain_zone::{UnoccludedOwner, UnoccludedOwners, has_type, has_unequal_ttls};
 use std::alloc::Global;
 
-/// Names of a chain that own records, and the types of each.
+/// Names of a chain that own records, and the types of each. Once memory was wanting for one it is
+/// full, and takes no other: so the walk that gathers them goes on, and finds the faults of the
+/// owners that are left.
 #[derive(Drop)]
 pub(crate) struct Owners<'a> {
     pub(crate) names: Vec<ParsedName<'a>>,
     pub(crate) types: RtypeBitmaps,
+    pub(crate) is_full: bool,
+}
+
+impl<'a> Owners<'a> {
+    /// No owners.
+    fn new(alloc: Global) -> Self
+        ensures room { result.is_full ≡ false }
+        ensures names { result.names.items ≡ [] }
+        ensures types { result.types ≡ [] }
+    {
+        Owners {
+            names: Vec::new(alloc),
+            types: RtypeBitmaps::new(alloc),
+            is_full: false,
+        }
+    }
+
+    /// Adds an owner of this kind with the types that its record lists, and DNSKEY where it is
+    /// assumed.
+    fn add<N: ToName, D: ZoneData>(
+        &mut self,
+        alloc: Global,
+        owner: &UnoccludedOwner<'a, N, D>,
+        kind: OwnerKind,
+        assumed: bool,
+    )
+        ensures room { self.new.is_full ≡ false → self.old.is_full ≡ false }
+        ensures names { self.new.is_full ≡ false
+            → self.new.names.items ≡ self.old.names.items ++ N.labels owner.now.name.now ∷ [] }
+        ensures types { self.new.is_full ≡ false → self.new.types ≡ self.old.types
+            ++ bitmap_octets (is_listed kind.is_unsigned_cut kind.is_apex assumed kind.is_zone_cut
+            (zone_of N.labels D.rtype D.minimum owner.now.records)) ∷ [] }
+    {
+        if self.is_full {
+            return;
+        }
+        let records = owner.records.records();
+        if push_types(alloc, &mut self.types, records, kind, assumed).is_err() {
+            self.is_full = true;
+            return;
+        }
+        if self.names.push(owner.name.as_parsed()).is_err() {
+            self.is_full = true;
+        }
+    }
 }
 
 /// Whether the owner is a zone cut without DS records.
@@ -42,7 +91,7 @@ fn is_unsigned_cut<N: ToName, D: ZoneData>(owner: &UnoccludedOwner<'_, N, D>) ->
 /// # Errors
 ///
 /// `MultipleTtlValues` where two records of one of them and one type other than RRSIG differ in
-/// TTL; `OutOfMemory`.
+/// TTL; else `OutOfMemory`.
 pub(crate) fn list_owners<'a, S, O: Octets, N: ToName, D: ZoneData>(
     alloc: Global,
     apex: &'a N,
@@ -59,18 +108,16 @@ pub(crate) fn list_owners<'a, S, O: Octets, N: ToName, D: ZoneData>(
         (zone_of N.labels D.rtype D.minimum records.entry)
         (original_owners (zone_of N.labels D.rtype D.minimum records.entry) (N.labels apex.now)
         (config_of answer config.now)) ≡ false) }
-    ensures fault { IfErr result (λ e. (e ≡ signing_error.OutOfMemory)
-        ⊎ ((e ≡ signing_error.MultipleTtlValues) × ((answer : Answer) → has_unequal_ttls
-        (zone_of N.labels D.rtype D.minimum records.entry)
-        (original_owners (zone_of N.labels D.rtype D.minimum records.entry) (N.labels apex.now)
-        (config_of answer config.now)) ≡ true))) }
+    ensures fault { IfErr result (λ e.
+        soa_of (zone_of N.labels D.rtype D.minimum records.entry) (N.labels apex.now) ≢ None
+        → (answer : Answer) → IsFirstFault (zone_of N.labels D.rtype D.minimum records.entry)
+        (N.labels apex.now) (config_of answer config.now) e) }
 {
     let excludes = config.params.opt_out_flag()
         & config.opt_out_exclude_owner_names_of_unsigned_delegations;
-    let mut owners = UnoccludedOwners::new(apex, records, config.occlude_below_dname);
-    let mut names = Vec::new(alloc);
-    let mut types = RtypeBitmaps::new(alloc);
-    'owners: while let Some(owner) = owners.next() {
+    let mut left = UnoccludedOwners::new(apex, records, config.occlude_below_dname);
+    let mut owners = Owners::new(alloc);
+    'owners: while let Some(owner) = left.next() {
         let is_unsigned_cut = is_unsigned_cut(&owner);
         if excludes & is_unsigned_cut {
             continue;
@@ -85,8 +132,10 @@ pub(crate) fn list_owners<'a, S, O: Octets, N: ToName, D: ZoneData>(
             is_apex,
         };
         let assumed = config.assume_dnskeys_will_be_added & is_apex;
-        push_types(alloc, &mut types, owner.records.records(), kind, assumed)?;
-        names.push(owner.name.as_parsed())?;
+        owners.add(alloc, &owner, kind, assumed);
     }
-    Ok(Owners { names, types })
+    if owners.is_full {
+        return Err(SigningError::OutOfMemory);
+    }
+    Ok(owners)
 }

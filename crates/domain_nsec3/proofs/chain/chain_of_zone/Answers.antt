@@ -86,3 +86,9 @@ returns-in-Ok-chain_of_owners-clause-faultless g c =
       hashed = c.in-Ok-chain_of_owners.ensures.hashed L (c.in-Ok.ensures.owners answer);
       apart = apart_hashes L a config (links_in a c.in-Ok-chain_of_owners.chain (common_of c.args.config.now.params (chain_ttl c.args.soa.now))) chain;
     }
+
+pub returns-in-Err-clause-fault : goal.returns-in-Err-clause-fault
+returns-in-Err-clause-fault g c =
+    let soa : soa_of (zone_of g.N.ToName.labels g.D.RecordData.rtype g.D.ZoneData.minimum c.args.records) (g.N.ToName.labels c.args.apex.now)
+    ≡ Some c.args.soa.now = c.requires.soa in
+    c.in-Err.ensures.fault (λ n. cc) (g.H.Nsec3Hasher.answer c.args.hasher.now)

@@ -1,4 +1,4 @@
-use Rattle.std.proofs.Common.{◌≡◌, Bool, ◌∙◌, ◌&&◌, ◌++◌, ◌∷◌, [], true, false, not, sym, ap, map, subst, inr, refl, Err}
+use Rattle.std.proofs.Common.{◌≡◌, Bool, ◌∙◌, ◌&&◌, ◌++◌, ◌∷◌, [], true, false, not, sym, ap, map, subst, refl, Err}
 use Rattle.domain_octets.specs.Words.{Octets}
 use Rattle.domain_bitmap.specs.Bitmap.{bitmap_octets}
 use Rattle.domain_zone.specs.Owners.{OwnerRecords}
@@ -19,11 +19,11 @@ owners-init g c =
     let labels = g.N.ToName.labels in
     let L = zone_of labels g.D.RecordData.rtype g.D.ZoneData.minimum c.args.records in
     let a = labels c.args.apex.now in
-    rw (c.new-names.ensures.items, c.new-types.ensures) (record {
+    rw (c.new-owners.ensures.room, c.new-owners.ensures.names, c.new-owners.ensures.types) (record {
       at = λ answer.
           let config = config_of answer c.args.config.now in
-          subst (λ left. IsAt L a config left []) (sym c.new-owners.ensures) (at_start L a config);
-      paired = refl;
+          subst (λ left. IsAt L a config left false []) (sym c.new-left.ensures) (at_start L a config);
+      paired = λ room. refl;
     })
 
 pub owners-preserved-then-excludes-is_unsigned_cut : goal.owners-preserved-then-excludes-is_unsigned_cut
@@ -34,11 +34,11 @@ owners-preserved-then-excludes-is_unsigned_cut g c = record {
       let a = labels c.args.apex.now in
       let config = config_of answer c.args.config.now in
       let o : OwnerRecords = as_owner_records labels g.D.RecordData.rtype g.D.ZoneData.minimum c.in-Some.owner in
-      let entries = entries_of c.owners.names.items c.owners.types in
-      let at = subst (λ left. IsAt L a config left entries) c.in-Some.ensures.steps (c.owners.invariant.at answer) in
+      let entries = entries_of c.owners.owners.names.items c.owners.owners.types in
+      let at = subst (λ left. IsAt L a config left c.owners.owners.is_full entries) c.in-Some.ensures.steps (c.owners.invariant.at answer) in
       let out : stays config o ≡ false = ap not (sym (λ i. (c.opt_out_flag.ensures i && config.exclude_unsigned)
       && c.is_unsigned_cut-is_unsigned_cut.ensures i) ∙ c.if-excludes-is_unsigned_cut.true) in
-      at_excluded L a config o c.next.new.self entries at out;
+      at_excluded L a config o c.next.new.self c.owners.owners.is_full entries at out;
   paired = c.owners.invariant.paired;
 }
 
@@ -50,29 +50,27 @@ has_unequal_ttls-requires g c =
     let answer : Answer = λ octets algorithm iterations salt. Err 0 in
     let config = config_of answer c.args.config.now in
     let o : OwnerRecords = as_owner_records labels g.D.RecordData.rtype g.D.ZoneData.minimum c.in-Some.owner in
-    let entries = entries_of c.owners.names.items c.owners.types in
-    let at = subst (λ left. IsAt L a config left entries) c.in-Some.ensures.steps (c.owners.invariant.at answer) in
-    let known = at_known L a config o c.next.new.self entries at in
+    let entries = entries_of c.owners.owners.names.items c.owners.owners.types in
+    let at = subst (λ left. IsAt L a config left c.owners.owners.is_full entries) c.in-Some.ensures.steps (c.owners.invariant.at answer) in
+    let known = at_known L a config o c.next.new.self c.owners.owners.is_full entries at in
     raw_types labels g.D.RecordData.rtype g.D.ZoneData.minimum c.records.result
     (subst (λ rs. NeverDescend (map (as_zone_record labels g.D.RecordData.rtype g.D.ZoneData.minimum) rs)) (sym c.records.ensures)
     (subst NeverDescend (sym (ap (λ p. p.records) known)) (types_at labels g.D.RecordData.rtype g.D.ZoneData.minimum
     c.args.records (labels c.in-Some.owner.name.now) c.requires)))
 
 pub returns-then-has_unequal_ttls-clause-fault : goal.returns-then-has_unequal_ttls-clause-fault
-returns-then-has_unequal_ttls-clause-fault g c =
-    inr (
-      refl,
-      λ answer.
-          let labels = g.N.ToName.labels in
-          let L = zone_of labels g.D.RecordData.rtype g.D.ZoneData.minimum c.args.records in
-          let a = labels c.args.apex.now in
-          let config = config_of answer c.args.config.now in
-          let o : OwnerRecords = as_owner_records labels g.D.RecordData.rtype g.D.ZoneData.minimum c.in-Some.owner in
-          let entries = entries_of c.owners.names.items c.owners.types in
-          let at = subst (λ left. IsAt L a config left entries) c.in-Some.ensures.steps (c.owners.invariant.at answer) in
-          let kept : stays config o ≡ true = ap not (sym (λ i. (c.opt_out_flag.ensures i && config.exclude_unsigned)
-          && c.is_unsigned_cut-is_unsigned_cut.ensures i) ∙ c.if-excludes-is_unsigned_cut.false) in
-          at_fault L a config o c.next.new.self entries at kept
+returns-then-has_unequal_ttls-clause-fault g c = λ soa answer.
+    let labels = g.N.ToName.labels in
+    let L = zone_of labels g.D.RecordData.rtype g.D.ZoneData.minimum c.args.records in
+    let a = labels c.args.apex.now in
+    let config = config_of answer c.args.config.now in
+    let o : OwnerRecords = as_owner_records labels g.D.RecordData.rtype g.D.ZoneData.minimum c.in-Some.owner in
+    let entries = entries_of c.owners.owners.names.items c.owners.owners.types in
+    let at = subst (λ left. IsAt L a config left c.owners.owners.is_full entries) c.in-Some.ensures.steps (c.owners.invariant.at answer) in
+    let kept : stays config o ≡ true = ap not (sym (λ i. (c.opt_out_flag.ensures i && config.exclude_unsigned)
+    && c.is_unsigned_cut-is_unsigned_cut.ensures i) ∙ c.if-excludes-is_unsigned_cut.false) in (
+      soa,
+      at_fault L a config o c.next.new.self c.owners.owners.is_full entries at kept
           (ap (λ rs. has_clash (zone_of labels g.D.RecordData.rtype g.D.ZoneData.minimum rs)) (sym c.records.ensures)
           ∙ sym c.has_unequal_ttls.ensures ∙ c.if-has_unequal_ttls.true),
     )
@@ -82,31 +80,47 @@ owners-preserved g c =
     let labels = g.N.ToName.labels in
     let L = zone_of labels g.D.RecordData.rtype g.D.ZoneData.minimum c.args.records in
     let a = labels c.args.apex.now in
+    let listed = c.owners.owners in
     let paired = c.owners.invariant.paired in
     let assume : Bool = c.args.config.now.assume_dnskeys_will_be_added in
     let is_apex : Bool = c.name_eq-is_apex.result in
-    let listed : Octets = bitmap_octets (is_listed c.is_unsigned_cut-is_unsigned_cut.result is_apex (assume
-    && is_apex) c.in-Some.owner.is_zone_cut (zone_of labels g.D.RecordData.rtype g.D.ZoneData.minimum
-    c.records-in-Some.result)) in
+    let types : Octets = bitmap_octets (is_listed c.is_unsigned_cut-is_unsigned_cut.result is_apex (assume
+    && is_apex) c.in-Some.owner.is_zone_cut
+    (zone_of labels g.D.RecordData.rtype g.D.ZoneData.minimum c.in-Some.owner.records)) in
     record {
       at = λ answer.
           let config = config_of answer c.args.config.now in
           let o : OwnerRecords = as_owner_records labels g.D.RecordData.rtype g.D.ZoneData.minimum c.in-Some.owner in
-          let entries = entries_of c.owners.names.items c.owners.types in
-          let at = subst (λ left. IsAt L a config left entries) c.in-Some.ensures.steps (c.owners.invariant.at answer) in
+          let entries = entries_of listed.names.items listed.types in
+          let at = subst (λ left. IsAt L a config left listed.is_full entries) c.in-Some.ensures.steps (c.owners.invariant.at answer) in
           let kept : stays config o ≡ true = ap not (sym (λ i. (c.opt_out_flag.ensures i && config.exclude_unsigned)
           && c.is_unsigned_cut-is_unsigned_cut.ensures i) ∙ c.if-excludes-is_unsigned_cut.false) in
-          at_owner L a config o c.next.new.self entries at listed (entries_of c.push.new.self.items c.push_types.new.types) kept
+          at_owner L a config o c.next.new.self listed.is_full entries at types c.add.new.self.is_full
+          (entries_of c.add.new.self.names.items c.add.new.self.types) kept
           (ap (λ rs. has_clash (zone_of labels g.D.RecordData.rtype g.D.ZoneData.minimum rs)) (sym c.records.ensures)
           ∙ sym c.has_unequal_ttls.ensures ∙ c.if-has_unequal_ttls.false)
           (λ i. bitmap_octets (is_listed (c.is_unsigned_cut-is_unsigned_cut.ensures i) (c.name_eq-is_apex.ensures.value i) (assume
-          && c.name_eq-is_apex.ensures.value i) c.in-Some.owner.is_zone_cut
-          (zone_of labels g.D.RecordData.rtype g.D.ZoneData.minimum (c.records-in-Some.ensures i))))
-          ((λ i. entries_of (c.in_ok-push.ensures.items i) (c.in_ok-push_types.ensures i))
-          ∙ entries_push c.owners.names.items c.owners.types c.as_parsed.result listed paired
-          ∙ (λ i. entries ++ record { name = c.as_parsed.ensures i; bits = listed } ∷ []));
-      paired = paired_push c.owners.names.items c.push.new.self.items c.owners.types c.push_types.new.types c.as_parsed.result
-          listed c.in_ok-push.ensures.items c.in_ok-push_types.ensures paired;
+          && c.name_eq-is_apex.ensures.value i) o.is_zone_cut o.records))
+          c.add.ensures.room
+          (λ h. (λ i. entries_of (c.add.ensures.names h i) (c.add.ensures.types h i))
+          ∙ entries_push listed.names.items listed.types o.name types (paired (c.add.ensures.room h)));
+      paired = λ h.
+          paired_push listed.names.items c.add.new.self.names.items listed.types c.add.new.self.types
+          (labels c.in-Some.owner.name.now) types (c.add.ensures.names h) (c.add.ensures.types h) (paired (c.add.ensures.room h));
+    }
+
+pub returns-then-owners-clause-fault : goal.returns-then-owners-clause-fault
+returns-then-owners-clause-fault g c = λ soa answer.
+    let labels = g.N.ToName.labels in
+    let L = zone_of labels g.D.RecordData.rtype g.D.ZoneData.minimum c.args.records in
+    let a = labels c.args.apex.now in
+    let config = config_of answer c.args.config.now in
+    let entries = entries_of c.owners.owners.names.items c.owners.owners.types in
+    record {
+      soa = soa;
+      ttls = even_end L a config c.owners.owners.is_full entries
+          (subst (λ left. IsAt L a config left c.owners.owners.is_full entries) c.in_default.ensures.steps.0
+          (c.owners.invariant.at answer));
     }
 
 pub returns-clause-owners : goal.returns-clause-owners
@@ -115,8 +129,10 @@ returns-clause-owners g c = λ answer.
     let L = zone_of labels g.D.RecordData.rtype g.D.ZoneData.minimum c.args.records in
     let a = labels c.args.apex.now in
     let config = config_of answer c.args.config.now in
-    let entries = entries_of c.owners.names.items c.owners.types in
-    at_end L a config entries (subst (λ left. IsAt L a config left entries) c.in_default.ensures.steps.0 (c.owners.invariant.at answer))
+    let entries = entries_of c.owners.owners.names.items c.owners.owners.types in
+    at_end L a config c.owners.owners.is_full entries
+    (subst (λ left. IsAt L a config left c.owners.owners.is_full entries) c.in_default.ensures.steps.0 (c.owners.invariant.at answer))
+    c.if-owners.false
 
 pub returns-clause-even : goal.returns-clause-even
 returns-clause-even g c = λ answer.
@@ -124,5 +140,6 @@ returns-clause-even g c = λ answer.
     let L = zone_of labels g.D.RecordData.rtype g.D.ZoneData.minimum c.args.records in
     let a = labels c.args.apex.now in
     let config = config_of answer c.args.config.now in
-    let entries = entries_of c.owners.names.items c.owners.types in
-    even_end L a config entries (subst (λ left. IsAt L a config left entries) c.in_default.ensures.steps.0 (c.owners.invariant.at answer))
+    let entries = entries_of c.owners.owners.names.items c.owners.owners.types in
+    even_end L a config c.owners.owners.is_full entries
+    (subst (λ left. IsAt L a config left c.owners.owners.is_full entries) c.in_default.ensures.steps.0 (c.owners.invariant.at answer))

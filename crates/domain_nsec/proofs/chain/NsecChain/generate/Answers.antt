@@ -1,11 +1,12 @@
-use Rattle.std.proofs.Common.{◌≡◌, ◌∙◌, ◌&&◌, ◌++◌, ◌∷◌, [], Bool, sym, ap, map, subst, Some}
+use Rattle.std.proofs.Common.{◌≡◌, ◌∙◌, ◌&&◌, ◌++◌, ◌∷◌, [], Bool, List, sym, ap, map, subst, Some, None, ◌≢◌}
 use Rattle.std.proofs.lemmas.List.{map-append}
+use Rattle.domain_base.specs.Words.{Name}
 use Rattle.domain_bitmap.specs.Bitmap.{bitmap_octets}
-use Rattle.domain_zone.specs.Owners.{OwnerRecords, owners_with_records}
+use Rattle.domain_zone.specs.Owners.{OwnerRecords}
 use Rattle.domain_zone.specs.OwnerView.{as_owner_records}
 use Rattle.domain_zone.specs.Soa.{soa_of}
 use Rattle.domain_zone.specs.View.{as_zone_record, zone_of}
-use Rattle.domain_zone.specs.Zone.{has_clash}
+use Rattle.domain_zone.specs.Zone.{ZoneRecord, has_clash}
 use Rattle.domain_zone.proofs.GivenLemmas.{raw_types, types_at}
 use Rattle.domain_zone.proofs.TtlLemmas.{NeverDescend}
 use Rattle.domain_nsec.specs.Chain.{is_listed, IsChain}
@@ -17,23 +18,24 @@ owners-init g c =
     let labels = g.N.ToName.labels in
     let L = zone_of labels g.D.RecordData.rtype g.D.ZoneData.minimum c.args.records in
     let a = labels c.args.apex.now in
-    subst (λ left. IsAt L a c.args.config.now left (map (λ n. labels n.now) c.new-names.result.items) c.new-types.result) (sym c.new-owners.ensures)
-    (subst (λ xs. IsAt L a c.args.config.now (owners_with_records c.args.config.now.occlude_below_dname L a)
-    (map (λ n. labels n.now) xs) c.new-types.result) (sym c.new-names.ensures.items)
-    (subst (IsAt L a c.args.config.now (owners_with_records c.args.config.now.occlude_below_dname L a) []) (sym c.new-types.ensures)
-    (at_start L a c.args.config.now)))
+    subst (λ left. IsAt L a c.args.config.now left c.new-owners.result.is_full
+    (map (λ n. labels n.now) c.new-owners.result.names.items) c.new-owners.result.types) (sym c.new-left.ensures)
+    (rw (c.new-owners.ensures.room, c.new-owners.ensures.names, c.new-owners.ensures.types) (at_start L a c.args.config.now))
 
 pub has_unequal_ttls-requires : goal.has_unequal_ttls-requires
 has_unequal_ttls-requires g c =
     let labels = g.N.ToName.labels in
     let L = zone_of labels g.D.RecordData.rtype g.D.ZoneData.minimum c.args.records in
     let a = labels c.args.apex.now in
-    let names = map (λ n. labels n.now) c.owners.names.items in
+    let listed = c.owners.owners in
+    let names = map (λ n. labels n.now) listed.names.items in
     let o : OwnerRecords = as_owner_records labels g.D.RecordData.rtype g.D.ZoneData.minimum c.in-Some-next.owner in
-    let at = subst (λ left. IsAt L a c.args.config.now left names c.owners.types) c.in-Some-next.ensures.steps c.owners.invariant in
-    let known = at_known L a c.args.config.now o c.next.new.self names c.owners.types at in
+    let at = subst (λ left. IsAt L a c.args.config.now left listed.is_full names listed.types) c.in-Some-next.ensures.steps
+    c.owners.invariant in
+    let known = at_known L a c.args.config.now o c.next.new.self listed.is_full names listed.types at in
     raw_types labels g.D.RecordData.rtype g.D.ZoneData.minimum c.records-in-Some-next.result
-    (subst (λ rs. NeverDescend (map (as_zone_record labels g.D.RecordData.rtype g.D.ZoneData.minimum) rs)) (sym c.records-in-Some-next.ensures)
+    (subst (λ rs. NeverDescend (map (as_zone_record labels g.D.RecordData.rtype g.D.ZoneData.minimum) rs))
+    (sym c.records-in-Some-next.ensures)
     (subst NeverDescend (sym (ap (λ p. p.records) known)) (types_at labels g.D.RecordData.rtype g.D.ZoneData.minimum
     c.args.records (labels c.in-Some-next.owner.name.now) c.requires.in_order)))
 
@@ -42,13 +44,15 @@ returns-then-has_unequal_ttls-clause-fault g c =
     let labels = g.N.ToName.labels in
     let L = zone_of labels g.D.RecordData.rtype g.D.ZoneData.minimum c.args.records in
     let a = labels c.args.apex.now in
-    let names = map (λ n. labels n.now) c.owners.names.items in
+    let listed = c.owners.owners in
+    let names = map (λ n. labels n.now) listed.names.items in
     let o : OwnerRecords = as_owner_records labels g.D.RecordData.rtype g.D.ZoneData.minimum c.in-Some-next.owner in
-    let at = subst (λ left. IsAt L a c.args.config.now left names c.owners.types) c.in-Some-next.ensures.steps c.owners.invariant in
+    let at = subst (λ left. IsAt L a c.args.config.now left listed.is_full names listed.types) c.in-Some-next.ensures.steps
+    c.owners.invariant in
     let soa : soa_of L a ≡ Some c.in-Some.soa = ap (λ rs. soa_of (zone_of labels g.D.RecordData.rtype g.D.ZoneData.minimum rs) a)
     (sym c.records.ensures) ∙ sym c.in-Some.ensures in (
       λ e. cc,
-      at_fault L a c.args.config.now o c.next.new.self names c.owners.types at
+      at_fault L a c.args.config.now o c.next.new.self listed.is_full names listed.types at
           (ap (λ rs. has_clash (zone_of labels g.D.RecordData.rtype g.D.ZoneData.minimum rs)) (sym c.records-in-Some-next.ensures)
           ∙ sym c.has_unequal_ttls.ensures ∙ c.if-has_unequal_ttls.true),
     )
@@ -59,44 +63,62 @@ owners-preserved g c =
     let L = zone_of labels g.D.RecordData.rtype g.D.ZoneData.minimum c.args.records in
     let a = labels c.args.apex.now in
     let config = c.args.config.now in
-    let names = map (λ n. labels n.now) c.owners.names.items in
+    let listed = c.owners.owners in
+    let names = map (λ n. labels n.now) listed.names.items in
     let o : OwnerRecords = as_owner_records labels g.D.RecordData.rtype g.D.ZoneData.minimum c.in-Some-next.owner in
     let assume : Bool = config.assume_dnskeys_will_be_added in
-    let at = subst (λ left. IsAt L a config left names c.owners.types) c.in-Some-next.ensures.steps c.owners.invariant in
-    let given =
-    at_owner L a config o c.next.new.self names c.owners.types at
-    (bitmap_octets (is_listed (assume && c.name_eq.result) c.in-Some-next.owner.is_zone_cut
-    (zone_of labels g.D.RecordData.rtype g.D.ZoneData.minimum c.records-records.result)))
+    let at = subst (λ left. IsAt L a config left listed.is_full names listed.types) c.in-Some-next.ensures.steps c.owners.invariant in
+    at_owner L a config o c.next.new.self listed.is_full names listed.types at
+    (bitmap_octets (is_listed (assume && c.name_eq.result) o.is_zone_cut o.records))
+    c.add.new.self.is_full (map (λ n. labels n.now) c.add.new.self.names.items) c.add.new.self.types
     (ap (λ rs. has_clash (zone_of labels g.D.RecordData.rtype g.D.ZoneData.minimum rs)) (sym c.records-in-Some-next.ensures)
     ∙ sym c.has_unequal_ttls.ensures ∙ c.if-has_unequal_ttls.false)
-    (ap (λ rs. bitmap_octets (is_listed (assume && c.name_eq.result) c.in-Some-next.owner.is_zone_cut
-    (zone_of labels g.D.RecordData.rtype g.D.ZoneData.minimum rs))) c.records-records.ensures
-    ∙ ap (λ b. bitmap_octets (is_listed (assume && b) c.in-Some-next.owner.is_zone_cut o.records)) c.name_eq.ensures.value) in
-    subst (λ ns. IsAt L a config c.next.new.self ns c.push_types.new.types)
-    (sym (ap (map (λ n. labels n.now)) c.in_ok-push.ensures.items ∙ map-append (λ n. labels n.now) c.owners.names.items (c.in-Some-next.owner.name ∷ [])))
-    (subst (IsAt L a config c.next.new.self (names ++ o.name ∷ [])) (sym c.in_ok-push_types.ensures) given)
+    (ap (λ b. bitmap_octets (is_listed (assume && b) o.is_zone_cut o.records)) c.name_eq.ensures.value)
+    c.add.ensures.room
+    (λ h. ap (map (λ n. labels n.now)) (c.add.ensures.names h)
+    ∙ map-append (λ n. labels n.now) listed.names.items (c.in-Some-next.owner.name ∷ []))
+    c.add.ensures.types
+
+pub returns-then-owners-clause-fault : goal.returns-then-owners-clause-fault
+returns-then-owners-clause-fault g c =
+    let labels = g.N.ToName.labels in
+    let L = zone_of labels g.D.RecordData.rtype g.D.ZoneData.minimum c.args.records in
+    let a = labels c.args.apex.now in
+    let listed = c.owners.owners in
+    let names = map (λ n. labels n.now) listed.names.items in
+    let soa : soa_of L a ≡ Some c.in-Some.soa = ap (λ rs. soa_of (zone_of labels g.D.RecordData.rtype g.D.ZoneData.minimum rs) a)
+    (sym c.records.ensures) ∙ sym c.in-Some.ensures in (
+      λ e. cc,
+      even_end L a c.args.config.now listed.is_full names listed.types
+          (subst (λ left. IsAt L a c.args.config.now left listed.is_full names listed.types) c.in_default-next.ensures.steps.0
+          c.owners.invariant),
+    )
 
 pub returns-clause-chain : goal.returns-clause-chain
 returns-clause-chain g c =
     let labels = g.N.ToName.labels in
     let L = zone_of labels g.D.RecordData.rtype g.D.ZoneData.minimum c.args.records in
     let a = labels c.args.apex.now in
-    let names = map (λ n. labels n.now) c.owners.names.items in
+    let listed = c.owners.owners in
+    let names = map (λ n. labels n.now) listed.names.items in
     let soa : soa_of L a ≡ Some c.in-Some.soa = ap (λ rs. soa_of (zone_of labels g.D.RecordData.rtype g.D.ZoneData.minimum rs) a)
     (sym c.records.ensures) ∙ sym c.in-Some.ensures in
-    let at = subst (λ left. IsAt L a c.args.config.now left names c.owners.types) c.in_default-next.ensures.steps.0 c.owners.invariant in
-    subst (IsChain L a c.args.config.now) (sym c.new.ensures) (at_end L a c.args.config.now names c.owners.types at c.in-Some.soa soa)
+    let at = subst (λ left. IsAt L a c.args.config.now left listed.is_full names listed.types) c.in_default-next.ensures.steps.0
+    c.owners.invariant in
+    subst (IsChain L a c.args.config.now) (sym c.new.ensures)
+    (at_end L a c.args.config.now listed.is_full names listed.types at c.in-Some.soa soa c.if-owners.false)
 
 pub returns-clause-faultless : goal.returns-clause-faultless
 returns-clause-faultless g c =
     let labels = g.N.ToName.labels in
     let L = zone_of labels g.D.RecordData.rtype g.D.ZoneData.minimum c.args.records in
     let a = labels c.args.apex.now in
-    let names = map (λ n. labels n.now) c.owners.names.items in
+    let listed = c.owners.owners in
+    let names = map (λ n. labels n.now) listed.names.items in
     let soa : soa_of L a ≡ Some c.in-Some.soa = ap (λ rs. soa_of (zone_of labels g.D.RecordData.rtype g.D.ZoneData.minimum rs) a)
     (sym c.records.ensures) ∙ sym c.in-Some.ensures in (
       λ e. cc,
-      even_end L a c.args.config.now names c.owners.types
-          (subst (λ left. IsAt L a c.args.config.now left names c.owners.types) c.in_default-next.ensures.steps.0
+      even_end L a c.args.config.now listed.is_full names listed.types
+          (subst (λ left. IsAt L a c.args.config.now left listed.is_full names listed.types) c.in_default-next.ensures.steps.0
           c.owners.invariant),
     )

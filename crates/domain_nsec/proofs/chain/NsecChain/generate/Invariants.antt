@@ -6,8 +6,8 @@ use Rattle.domain_nsec.proofs.chain.NsecChain.generate.Given as goal
 abbrev pub invariant-owners : goal.invariant-owners
 invariant-owners g l =
     let labels = g.N.ToName.labels in
-    IsAt (zone_of labels g.D.RecordData.rtype g.D.ZoneData.minimum l.fn.records) (labels l.apex) l.config l.owners
-    (map (λ n. labels n.now) l.names.items) l.types
+    IsAt (zone_of labels g.D.RecordData.rtype g.D.ZoneData.minimum l.fn.records) (labels l.apex) l.config l.left l.owners.is_full
+    (map (λ n. labels n.now) l.owners.names.items) l.owners.types
 
 abbrev pub decreases-owners : goal.decreases-owners
-decreases-owners g l = length l.owners
+decreases-owners g l = length l.left
