@@ -64,7 +64,7 @@ pub fn walks_ignore_case_and_ttl()
     ensures proved { (listed : List HashedLink) (a : Name) (x : Name) (t : ℕ) (verdict : Verdict)
         → t < 65536 → is_at_or_below x a ≡ true
         → (L : List ZoneRecord) (config : ChainConfig) (links : List HashedLink)
-        → config.occlude_below_dname ≡ false → IsHashedChain L a config links
+        → IsHashedChain L a config links
         → AreAlone L a config x → All (IsPairedIn IsHashedAlike links) listed
         → IsWalked listed a config.parameters config.hash x t verdict
         → verdict ≡ hashed_proved_verdict L a config listed x t }
