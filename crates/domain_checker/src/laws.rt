@@ -17,7 +17,7 @@ ghost use Rattle.domain_checker.specs.Reading.{reading};
 ghost use Rattle.domain_checker.specs.declared.verdict.Verdict.{Verdict};
 ghost use Rattle.domain_checker.specs.declared.verdict.Verdict.TheVariants.{NotProven};
 
-pub use crate::nsec3_laws::walks_are_proved;
+pub use crate::nsec3_laws::{hashes_tell_of_names, walks_are_proved};
 use domain_bitmap::laws::built_bitmaps_give_their_types;
 use domain_nsec::laws::{chains_mean_the_zone, types_ignore_case};
 use domain_nsec3::laws as hashed;
