@@ -13,7 +13,8 @@ use Rattle.domain_base.specs.Types.{dname, ns}
 use Rattle.domain_base.specs.Words.{Name}
 use Rattle.domain_zone.specs.Covering.{matches, covers, matches_or_covers, pairs}
 use Rattle.domain_zone.specs.Enclosers.{longer, shared}
-use Rattle.domain_zone.specs.Zone.{ZoneRecord, OwnersNeverDescend, has_type, is_occluded, is_unoccluded, is_zone_cut, occludes, owns, records_of, unoccluded_owners}
+use Rattle.domain_zone.specs.Zone.{ZoneRecord, OwnersNeverDescend, has_type, is_occluded, is_unoccluded, is_zone_cut}
+use Rattle.domain_zone.specs.Zone.{occludes, owns, records_of, unoccluded_owners}
 use Rattle.domain_zone.proofs.NameLemmas.{one_lowered, same_itself, same_is, below_itself, lowered_below}
 use Rattle.domain_nsec.specs.Chain.{Link, IsChain, is_listed, nsec_lists}
 use Rattle.domain_nsec.specs.Meaning.{IsCycle, MirrorsZone, TellsEmpty, TellsEncloser, CoversBelowOccluders}

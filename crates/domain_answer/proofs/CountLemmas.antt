@@ -86,7 +86,8 @@ closest_within names a (l ∷ x) =
 pub closest_last : (names : List Name) (a x : Name) → last_labels (length (closest_encloser names a x)) x ≡ closest_encloser names a x
 closest_last names a [] = refl
 closest_last names a (l ∷ x) =
-    elim (exists_over names a (l ∷ x)) as (λ b. last_labels (length (cond b (l ∷ x) (closest_encloser names a x))) (l ∷ x) ≡ cond b (l ∷ x) (closest_encloser names a x)) [
+    elim (exists_over names a (l ∷ x)) as (λ b. last_labels (length (cond b (l ∷ x) (closest_encloser names a x))) (l ∷ x)
+    ≡ cond b (l ∷ x) (closest_encloser names a x)) [
       | true ↦ last_all (l ∷ x) (length (l ∷ x)) (omega arith)
       | false ↦ last_more l x (length (closest_encloser names a x)) (closest_within names a x) ∙ closest_last names a x
     ]

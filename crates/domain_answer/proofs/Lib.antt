@@ -5,3 +5,5 @@ pub mod OccluderLemmas
 pub mod ChainLemmas
 pub mod AnswerLemmas
 pub mod ProofLemmas
+pub mod AlikeLemmas
+pub mod WholeLemmas

@@ -54,7 +54,8 @@ last_labels n x = drop (length x - n) x
 -- a record that is not passed over matches or covers x, and one the wildcard below the last n
 -- labels of x
 abbrev pub HasBothProofs : List Link → Name → Name → ℕ → Type 0
-HasBothProofs listed a x n = HasProof listed a x × HasProof listed a (wildcard_below (last_labels n x))
+HasBothProofs listed a x n =
+    HasProof listed a x × HasProof listed a (wildcard_below (last_labels n x))
 
 -- the records that an answer rests on are there, whatever else the list has
 abbrev pub RestsOn : List Link → Name → Name → Answer → Type 0
