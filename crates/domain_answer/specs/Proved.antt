@@ -1,5 +1,5 @@
 -- What a list of records of a zone's NSEC chain proves of what the zone says.
-use Rattle.std.specs.Prelude.{ℕ, Bool, true, not, ◌&&◌, ◌||◌, ◌-◌, List, ◌≡◌, All, drop, length, if◌then◌else◌}
+use Rattle.std.specs.Prelude.{ℕ, Bool, true, not, ◌&&◌, ◌||◌, ◌-◌, ◌<◌, ◌≤◌, List, ◌≡◌, All, drop, length, if◌then◌else◌}
 use Rattle.std.specs.List.{Contains}
 use Rattle.domain_base.specs.Name.{is_at_or_below}
 use Rattle.domain_base.specs.Words.{Name}
@@ -73,3 +73,20 @@ RestsOn listed a x (WildcardNoData n) = HasBothProofs listed a x n
 RestsOn listed a x (NameError n) = HasBothProofs listed a x n
 RestsOn listed a x (NoCloserName n) = HasProof listed a x
 RestsOn listed a x NotProven = Unit {0}
+
+-- what an answer counts are labels of a name that has n; a closest encloser has fewer
+abbrev pub CountsWithin : ℕ → Answer → Type 0
+CountsWithin n OutsideZone = Unit {0}
+CountsWithin n AtParent = Unit {0}
+CountsWithin n (Referral count) = count ≤ n
+CountsWithin n (Redirected count) = count ≤ n
+CountsWithin n Has = Unit {0}
+CountsWithin n NoDs = Unit {0}
+CountsWithin n Alias = Unit {0}
+CountsWithin n NoData = Unit {0}
+CountsWithin n (Wildcard count) = count < n
+CountsWithin n (WildcardAlias count) = count < n
+CountsWithin n (WildcardNoData count) = count < n
+CountsWithin n (NameError count) = count < n
+CountsWithin n (NoCloserName count) = count < n
+CountsWithin n NotProven = Unit {0}

@@ -1,11 +1,11 @@
 //! What holds of answers, and of what records say. A caller calls the law in its body.
-ghost use Rattle.std.specs.Prelude.{◌≡◌, ◌≢◌, ◌<◌, ℕ, Bool, All, List, true, false};
+ghost use Rattle.std.specs.Prelude.{◌≡◌, ◌≢◌, ◌<◌, ℕ, Bool, All, List, length, true, false};
 ghost use Rattle.domain_base.specs.Words.{Name};
 ghost use Rattle.domain_zone.specs.Zone.{is_occluded, OwnersNeverDescend, ZoneRecord};
 ghost use Rattle.domain_nsec.specs.Chain.{IsChain, Link};
 ghost use Rattle.domain_nsec.specs.declared.config.GenerateNsecConfig.{GenerateNsecConfig};
 ghost use Rattle.domain_checker.specs.Alike.{ArePaired, IsAlike, IsPairedIn};
-ghost use Rattle.domain_answer.specs.Proved.{proved_answer, IsAnswered, LeavesOutBelowDname, RestsOn};
+ghost use Rattle.domain_answer.specs.Proved.{proved_answer, CountsWithin, IsAnswered, LeavesOutBelowDname, RestsOn};
 ghost use Rattle.domain_answer.specs.Reading.{reading};
 ghost use Rattle.domain_answer.specs.ZoneAnswer.{zone_answer};
 ghost use Rattle.domain_answer.specs.declared.answer.Answer.TheVariants.{NoCloserName, NotProven};
@@ -13,13 +13,15 @@ ghost use Rattle.domain_answer.specs.declared.answer.Answer.TheVariants.{NoClose
 use domain_bitmap::laws::built_bitmaps_give_their_types;
 use domain_nsec::laws::{chains_mean_the_zone, types_ignore_case};
 
-/// What any NSEC records say by themselves is what they prove of the zone; and the records that the
-/// answer rests on are among them.
+/// What any NSEC records say by themselves is what they prove of the zone; the records that the
+/// answer rests on are among them; and the labels that it counts are labels of the name.
 pub fn readings_are_proved()
     ensures zone { (listed : List Link) (a x : Name) (t : ℕ) → t < 65536
         → IsAnswered listed a x t (reading a listed x t) }
     ensures proof { (listed : List Link) (a x : Name) (t : ℕ)
         → RestsOn listed a x (reading a listed x t) }
+    ensures within { (listed : List Link) (a x : Name) (t : ℕ)
+        → CountsWithin (length x) (reading a listed x t) }
 {
     chains_mean_the_zone();
     types_ignore_case();

@@ -3,7 +3,7 @@ ghost use Rattle.std.specs.Prelude.{◌≡◌, ◌<◌, true, length};
 ghost use Rattle.domain_base.specs.Order.{before};
 ghost use Rattle.domain_zone.specs.Covering.{covers};
 ghost use Rattle.domain_nsec.specs.ChainView.{as_link, links_of};
-ghost use Rattle.domain_answer.specs.Proved.{IsAnswered, RestsOn};
+ghost use Rattle.domain_answer.specs.Proved.{CountsWithin, IsAnswered, RestsOn};
 ghost use Rattle.domain_answer.specs.Reading.{absent_answer, cover_answer, listed_answer, match_answer, owner_answer, reading};
 ghost use Rattle.domain_answer.specs.Reading.{wildcard_answer, wildcard_cover_answer, wildcard_match_answer};
 
@@ -220,6 +220,10 @@ pub fn judge_nsec<A: ToName, O: Octets, N: ToName, M: ToName>(
     // name and, where that does not exist, of the wildcard.
     ensures exact { result ≡ reading (A.labels apex.now) (links_of N.labels chain.now)
         (M.labels name.now) rtype }
+
+    // For any list at all, the labels that the answer counts are labels of the name, and a closest
+    // encloser has fewer.
+    ensures within { CountsWithin (length (M.labels name.now)) result }
 {
     // By this law what the records say is what they prove, of a type of 16 bits.
     laws::readings_are_proved();

@@ -1,5 +1,5 @@
 use Rattle.domain_answer.proofs.AnswerLemmas.{reading_proved}
-use Rattle.domain_answer.proofs.ProofLemmas.{reading_rests}
+use Rattle.domain_answer.proofs.ProofLemmas.{reading_counts, reading_rests}
 use Rattle.domain_answer.proofs.laws.readings_are_proved.Goals as goal
 
 pub returns-clause-zone : goal.returns-clause-zone
@@ -11,3 +11,6 @@ returns-clause-zone c =
 
 pub returns-clause-proof : goal.returns-clause-proof
 returns-clause-proof c = λ listed a x t. reading_rests a listed x t
+
+pub returns-clause-within : goal.returns-clause-within
+returns-clause-within c = λ listed a x t. reading_counts a listed x t
