@@ -7,7 +7,7 @@ use Rattle.domain_base.specs.Name.{is_at_or_below, same_name}
 use Rattle.domain_base.specs.Types.{ds, ns}
 use Rattle.domain_base.specs.Words.{Name}
 use Rattle.domain_bitmap.specs.Blocks.{contains_type, types_of}
-use Rattle.domain_zone.specs.Zone.{ZoneRecord}
+use Rattle.domain_zone.specs.Zone.{ZoneRecord, has_type, records_of}
 use Rattle.domain_zone.proofs.NameLemmas.{below_trans}
 use Rattle.domain_nsec3.specs.Chain.{HashedLink}
 use Rattle.domain_nsec3.specs.Config.{ChainConfig, Hash, Parameters}
@@ -21,6 +21,7 @@ use Rattle.domain_checker.specs.declared.verdict.Verdict.TheVariants.{BelowDeleg
 use Rattle.domain_checker.proofs.EncloserLemmas.{same_length}
 use Rattle.domain_checker.proofs.FindLemmas.{in_at, stands_from}
 use Rattle.domain_checker.proofs.HashedListLemmas.{ChainFacts, covered_never, matched_once, told_at}
+use Rattle.domain_checker.proofs.HashedVerdictLemmas.{ns_listed}
 use Rattle.domain_checker.proofs.HashedWalkLemmas.{same_back, same_count}
 
 -- a test of numbers
@@ -94,6 +95,8 @@ module _ (L : List ZoneRecord) (a : Name) (config : ChainConfig) (links : List H
       record {
         exists = facts.exist x low ∙ m.0;
         types = λ t b. ap (λ o. contains_type o t) m.1 ∙ facts.contains (nsec3_lists L a config x) t b;
+        cut = (λ i. not (same_name x a) && (ap (λ o. contains_type o ns) m.1 ∙ facts.contains (nsec3_lists L a config x) ns (omega arith)
+            ∙ ns_listed L a config x) i) ∙ (λ i. (sym low i && not (same_name x a)) && has_type (records_of L x) ns);
       }
 
   pub cover_denies : is_hash_cover a config.parameters v k ≡ true → IsDenial L a config x k

@@ -75,7 +75,7 @@ typed_owns L n t h =
 
 module _ (L : List ZoneRecord) (a : Name) (config : ChainConfig) where
   -- NS is listed where the name owns NS records
-  ns_listed : (n : Name) → nsec3_lists L a config n ns ≡ has_type (records_of L n) ns
+  pub ns_listed : (n : Name) → nsec3_lists L a config n ns ≡ has_type (records_of L n) ns
   ns_listed n = by (owns L n) (is_zone_cut L a n) (has_type (records_of L n) ns) (typed_owns L n ns)
     where
       by : (o c h : Bool) → (h ≡ true → o ≡ true) → (o && ((((false && not (is_unsigned_cut L a n)) || (false && same_name n a))

@@ -8,13 +8,13 @@ use Rattle.domain_base.specs.Types.{ds, ns}
 use Rattle.domain_base.specs.Words.{Name}
 use Rattle.domain_bitmap.specs.Blocks.{contains_type, types_of}
 use Rattle.domain_zone.specs.Enclosers.{exists_over}
-use Rattle.domain_zone.specs.Zone.{ZoneRecord}
+use Rattle.domain_zone.specs.Zone.{ZoneRecord, is_zone_cut}
 use Rattle.domain_nsec3.specs.Chain.{HashedLink}
 use Rattle.domain_nsec3.specs.Config.{ChainConfig, Hash, Parameters, hash_name}
 use Rattle.domain_nsec3.specs.Owners.{nsec3_lists, original_owners}
 use Rattle.domain_nsec3.specs.View.{as_hashed_link}
 use Rattle.domain_checker.specs.HashedList.{is_hash_match, is_hash_cover}
-use Rattle.domain_checker.specs.HashedReading.{is_none, hash_cover_verdict, IsNextHash, IsUnmatched}
+use Rattle.domain_checker.specs.HashedReading.{is_none, tells_cut, hash_cover_verdict, IsNextHash, IsUnmatched}
 use Rattle.domain_checker.specs.HashedVerdict.{IsFirstMatched}
 use Rattle.domain_checker.specs.declared.encloser.Nsec3Encloser.{Nsec3Encloser}
 use Rattle.domain_checker.specs.declared.verdict.Verdict.{Verdict}
@@ -86,11 +86,12 @@ found_verdict a (Some e) n t = encloser_verdict a e n t
 
 -- ---- one record of a zone's chain
 
--- the record is that of x, which exists, and lists its types
+-- the record is that of x, which exists, lists its types, and tells whether it is a zone cut
 pub record IsOfName (L : List ZoneRecord) (a : Name) (config : ChainConfig) (x : Name)
     (k : HashedLink) : Type 0 where
   pub exists : exists_over (original_owners L a config) a x ≡ true
   pub types : (t : ℕ) → t < 65536 → contains_type k.bits t ≡ nsec3_lists L a config x t
+  pub cut : tells_cut a x k ≡ is_zone_cut L a x
 
 -- it says that there is no x, and has the flags of the chain
 pub record IsDenial (L : List ZoneRecord) (a : Name) (config : ChainConfig) (x : Name)
