@@ -75,7 +75,7 @@ typed_owns L n t h =
 
 module _ (L : List ZoneRecord) (a : Name) (config : ChainConfig) where
   -- NS is listed where the name owns NS records
-  ns_listed : (n : Name) → nsec3_lists L a config n ns ≡ has_type (records_of L n) ns
+  pub ns_listed : (n : Name) → nsec3_lists L a config n ns ≡ has_type (records_of L n) ns
   ns_listed n = by (owns L n) (is_zone_cut L a n) (has_type (records_of L n) ns) (typed_owns L n ns)
     where
       by : (o c h : Bool) → (h ≡ true → o ≡ true) → (o && ((((false && not (is_unsigned_cut L a n)) || (false && same_name n a))
@@ -535,7 +535,7 @@ KnowsChains = (L : List ZoneRecord) (a : Name) (config : ChainConfig) (links : L
 pub walked_proved : KnowsChains → (listed : List HashedLink) (a : Name) (p : Parameters) (hash : Hash) (x : Name) (t : ℕ)
     (verdict : Verdict) → t < 65536 → is_at_or_below x a ≡ true → IsWalked listed a p hash x t verdict
     → IsHashedProved listed a p hash x t verdict
-walked_proved knows listed a p hash x t verdict b low w = λ L config links same_hash same_parameters off chain free among.
+walked_proved knows listed a p hash x t verdict b low w = λ L config links same_hash same_parameters chain free among.
     by L config links (knows L a config links chain) free among
     (subst (λ h. IsWalked listed a config.parameters h x t verdict) (sym same_hash) (subst (λ q. IsWalked listed a q hash x t verdict) (sym same_parameters) w))
   where

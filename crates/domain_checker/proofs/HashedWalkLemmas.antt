@@ -13,10 +13,10 @@ use Rattle.domain_zone.proofs.NameLemmas.{one_lowered, same_itself, lowered_belo
 use Rattle.domain_nsec3.specs.Chain.{HashedLink}
 use Rattle.domain_nsec3.specs.Config.{Hash, Parameters, hash_name}
 use Rattle.domain_checker.specs.HashedList.{is_hash_cover, is_hash_match}
-use Rattle.domain_checker.specs.HashedPass.{IsLookedUp, closer_verdict}
-use Rattle.domain_checker.specs.HashedReading.{IsNextHash, IsTold, IsUnmatched, hash_match_verdict}
+use Rattle.domain_checker.specs.HashedEncloser.{IsEncloser}
+use Rattle.domain_checker.specs.HashedPass.{IsLookedUp}
+use Rattle.domain_checker.specs.HashedReading.{IsNextHash, IsUnmatched}
 use Rattle.domain_checker.specs.HashedVerdict.{IsFirst, IsFirstRefusal, is_matched, is_ok_with, next_closer}
-use Rattle.domain_checker.specs.declared.verdict.Verdict.{Verdict}
 use Rattle.domain_checker.proofs.EncloserLemmas.{same_length, strictly_longer}
 use Rattle.domain_checker.proofs.FindLemmas.{any_none, find_none, find_some, in_any}
 use Rattle.domain_checker.proofs.HashedListLemmas.{hash_same}
@@ -168,28 +168,28 @@ module _ (listed : List HashedLink) (a : Name) (p : Parameters) (hash : Hash) wh
                 | inr s ↦ missed.first y g (and_from (is_at_or_below y left) (not (same_name y left)) down (ap not s))
               ]
 
-      -- at the name above, a match tells of x what the cover and it say
-      pub told_above : (next : Name) → IsPassed next missed.value
+      -- at the name above, a match is that of the closest encloser
+      pub encloser_above : (next : Name) → IsPassed next missed.value
           → (k : HashedLink) (wire : Octets) (covering : Option HashedLink) → wire ≡ wire_of (lowered next)
-          → IsLookedUp a p hash listed wire (Some k) covering → (t : ℕ) (verdict : Verdict)
-          → verdict ≡ closer_verdict a next k cover → IsTold listed a p hash x t verdict
-      told_above next passed k wire covering e looked t verdict says =
+          → IsLookedUp a p hash listed wire (Some k) covering → (n : ℕ) → n ≡ length next
+          → IsEncloser listed a p hash x (record { count = n; link = k; cover = cover })
+      encloser_above next passed k wire covering e looked n counts =
           let known = ap hash (sym e) ∙ looked.known in
           record {
             name = next;
-            link = k;
-            value = looked.value;
-            next = Some missed.value;
+            counts = counts;
             first = record {
               above = passed.above;
               within = passed.within;
               found = some_matched next looked.value k known (sym looked.found.matching);
               first = passed.first;
             };
+            value = looked.value;
             known = known;
             found = sym looked.found.matching;
+            next = Some missed.value;
             closes = passed.closes;
-            says = says ∙ ap (closer_verdict a next k) missed.covered;
+            covers = missed.covered;
           }
 
     -- a name whose names before it were passed
@@ -215,25 +215,25 @@ module _ (listed : List HashedLink) (a : Name) (p : Parameters) (hash : Hash) wh
         first = first;
       }
 
-    -- a match of x itself tells of it
-    pub told_here : is_at_or_below x a ≡ true → (k : HashedLink) (wire : Octets) (covering : Option HashedLink) → wire ≡ wire_of (lowered x)
-        → IsLookedUp a p hash listed wire (Some k) covering → (t : ℕ) (verdict : Verdict) → verdict ≡ hash_match_verdict a x k t
-        → IsTold listed a p hash x t verdict
-    told_here low k wire covering e looked t verdict says =
+    -- a match of x itself is that of its closest encloser
+    pub encloser_here : is_at_or_below x a ≡ true → (k : HashedLink) (wire : Octets) (covering : Option HashedLink)
+        → wire ≡ wire_of (lowered x) → IsLookedUp a p hash listed wire (Some k) covering → (n : ℕ) → n ≡ length x
+        → IsEncloser listed a p hash x (record { count = n; link = k; cover = None })
+    encloser_here low k wire covering e looked n counts =
         let known = ap hash (sym e) ∙ looked.known in
         record {
           name = x;
-          link = k;
-          value = looked.value;
-          next = None;
+          counts = counts;
           first = record {
             above = below_itself x;
             within = low;
             found = some_matched x looked.value k known (sym looked.found.matching);
             first = none_first;
           };
+          value = looked.value;
           known = known;
           found = sym looked.found.matching;
+          next = None;
           closes = same_itself x x refl;
-          says = says;
+          covers = refl;
         }

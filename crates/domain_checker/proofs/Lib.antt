@@ -7,6 +7,7 @@ pub mod ListLemmas
 pub mod SpelledLemmas
 pub mod HashedListLemmas
 pub mod HashedWalkLemmas
+pub mod HashedEncloserLemmas
 pub mod HashedVerdictLemmas
 pub mod HandedInLemmas
 pub mod PairedLemmas

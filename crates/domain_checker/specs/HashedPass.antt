@@ -1,5 +1,5 @@
 -- What one pass over NSEC3 records finds of a hash; a is the apex.
-use Rattle.std.specs.Prelude.{◌≡◌, List, Option, Some, None, Ok, length, if◌then◌else◌}
+use Rattle.std.specs.Prelude.{◌≡◌, List, Option, Some, None, Ok}
 use Rattle.std.specs.List.{find}
 use Rattle.std.specs.Option.{option_map}
 use Rattle.domain_octets.specs.Words.{Octets}
@@ -8,18 +8,15 @@ use Rattle.domain_nsec3.specs.Chain.{HashedLink}
 use Rattle.domain_nsec3.specs.Config.{Hash, Parameters}
 use Rattle.domain_nsec3.specs.View.{as_hashed_link}
 use Rattle.domain_checker.specs.HashedList.{is_hash_match, is_hash_cover}
-use Rattle.domain_checker.specs.HashedReading.{tells_cut, hash_cover_verdict}
-use Rattle.domain_checker.specs.declared.hashed.Found.{Found}
-use Rattle.domain_checker.specs.declared.hashed.Found.TheVariants.{Match, NoMatch}
-use Rattle.domain_checker.specs.declared.verdict.Verdict.{Verdict}
-use Rattle.domain_checker.specs.declared.verdict.Verdict.TheVariants.{BelowDelegation}
+use Rattle.domain_checker.specs.declared.hashed.Nsec3Found.{Nsec3Found}
+use Rattle.domain_checker.specs.declared.hashed.Nsec3Found.TheVariants.{Match, NoMatch}
 
 -- the match that was found; the cover, which is looked for where there is no match
-abbrev pub found_match : {O N : Type 0} → (N → Name) → Found O N → Option HashedLink
+abbrev pub found_match : {O N : Type 0} → (N → Name) → Nsec3Found O N → Option HashedLink
 found_match labels (Match k) = Some (as_hashed_link labels k.now)
 found_match labels (NoMatch cover) = None
 
-abbrev pub found_cover : {O N : Type 0} → (N → Name) → Found O N → Option HashedLink
+abbrev pub found_cover : {O N : Type 0} → (N → Name) → Nsec3Found O N → Option HashedLink
 found_cover labels (Match k) = None
 found_cover labels (NoMatch cover) = option_map (λ k. as_hashed_link labels k.now) cover
 
@@ -35,9 +32,3 @@ pub record IsLookedUp (a : Name) (p : Parameters) (hash : Hash) (listed : List H
   pub value : Octets
   pub known : hash wire ≡ Ok value
   pub found : IsFound a p listed value matched covered
-
--- the first record k that matches a name d, the closest encloser of another, says of that one,
--- where the cover is the first of the next closer name
-abbrev pub closer_verdict : Name → Name → HashedLink → Option HashedLink → Verdict
-closer_verdict a d k cover =
-    if tells_cut a d k then BelowDelegation else hash_cover_verdict (length d) cover

@@ -79,11 +79,11 @@ hashed_proved_verdict L a config listed x t =
 
 -- the verdict is what these records, in any order, with repeats, prove of any zone of whose chain
 -- they are, where no other name of the chain has the hash of x or of an ancestor at or below the
--- apex; names below a DNAME are in such a chain
+-- apex
 abbrev pub IsHashedProved : List HashedLink → Name → Parameters → Hash → Name → ℕ → Verdict → Type 0
 IsHashedProved listed a p hash x t verdict =
     (L : List ZoneRecord) (config : ChainConfig) (links : List HashedLink)
-    → config.hash ≡ hash → config.parameters ≡ p → config.occlude_below_dname ≡ false
+    → config.hash ≡ hash → config.parameters ≡ p
     → IsHashedChain L a config links → AreAlone L a config x → All (Contains links) listed
     → verdict ≡ hashed_proved_verdict L a config listed x t
 

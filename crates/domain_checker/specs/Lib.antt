@@ -5,5 +5,6 @@ pub mod HashedVerdict
 pub mod HashedReading
 pub mod HashedView
 pub mod HashedPass
+pub mod HashedEncloser
 pub mod HandedIn
 pub mod Alike

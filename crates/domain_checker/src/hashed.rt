@@ -16,12 +16,13 @@ use domain_plain::Record;
 /// An NSEC3 record.
 pub(crate) type Nsec3Rr<O, N> = Record<N, Nsec3<O>>;
 
-/// What one pass over records finds of a hash.
-pub(crate) enum Found<'a, O: Octets, N: ToName> {
+/// What NSEC3 records tell of a hash (RFC 5155, section 1.3).
+#[derive(Drop)]
+pub enum Nsec3Found<'a, O: Octets, N: ToName> {
     /// The first record that matches it.
-    Match(&'a Nsec3Rr<O, N>),
-    /// No record matches it, and this is the first that covers it.
-    NoMatch(Option<&'a Nsec3Rr<O, N>>),
+    Match(&'a Record<N, Nsec3<O>>),
+    /// No record matches it, and this is the first that covers it, if one does.
+    NoMatch(Option<&'a Record<N, Nsec3<O>>>),
 }
 
 /// Whether a record's names are hashed with these parameters.
@@ -101,7 +102,7 @@ pub(crate) fn find_hash<'a, A: ToName, O: Octets, N: ToName>(
     param: &Nsec3param<O>,
     nsec3s: &'a [Nsec3Rr<O, N>],
     hash: &[u8],
-) -> Found<'a, O, N>
+) -> Nsec3Found<'a, O, N>
     ensures { IsFound (A.labels apex.now) (parameters_of param.now)
         (hashed_links_of N.labels nsec3s.now) hash.now
         (found_match N.labels result) (found_cover N.labels result) }
@@ -110,11 +111,11 @@ pub(crate) fn find_hash<'a, A: ToName, O: Octets, N: ToName>(
     for listed in nsec3s {
         let label = hash_label(apex, param, listed);
         if is_match(label, hash) {
-            return Found::Match(listed);
+            return Nsec3Found::Match(listed);
         }
         if cover.is_none() && is_cover(label, listed.data().next_owner().as_slice(), hash) {
             cover = Some(listed);
         }
     }
-    Found::NoMatch(cover)
+    Nsec3Found::NoMatch(cover)
 }

@@ -17,7 +17,7 @@ ghost use Rattle.domain_checker.specs.Reading.{reading};
 ghost use Rattle.domain_checker.specs.declared.verdict.Verdict.{Verdict};
 ghost use Rattle.domain_checker.specs.declared.verdict.Verdict.TheVariants.{NotProven};
 
-pub use crate::nsec3_laws::walks_are_proved;
+pub use crate::nsec3_laws::{hashes_tell_of_names, walks_are_proved};
 use domain_bitmap::laws::built_bitmaps_give_their_types;
 use domain_nsec::laws::{chains_mean_the_zone, types_ignore_case};
 use domain_nsec3::laws as hashed;
@@ -64,7 +64,7 @@ pub fn walks_ignore_case_and_ttl()
     ensures proved { (listed : List HashedLink) (a : Name) (x : Name) (t : ℕ) (verdict : Verdict)
         → t < 65536 → is_at_or_below x a ≡ true
         → (L : List ZoneRecord) (config : ChainConfig) (links : List HashedLink)
-        → config.occlude_below_dname ≡ false → IsHashedChain L a config links
+        → IsHashedChain L a config links
         → AreAlone L a config x → All (IsPairedIn IsHashedAlike links) listed
         → IsWalked listed a config.parameters config.hash x t verdict
         → verdict ≡ hashed_proved_verdict L a config listed x t }

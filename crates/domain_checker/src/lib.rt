@@ -9,9 +9,12 @@
 //!
 //! `check_nsec3` is handed records of an NSEC3 chain and the NSEC3PARAM record in the same way, and
 //! asks a hasher for the hashes of names. Here the zone and its chain stand in
-//! `specs/HashedVerdict`, the records alone in `specs/HashedList` and `specs/HashedReading`.
+//! `specs/HashedVerdict`, the records alone in `specs/HashedList` and `specs/HashedReading`. What
+//! this rests on is had by itself: `find_nsec3_encloser` says what such records tell of the closest
+//! encloser of a name, and `find_nsec3` what of one name.
 #![tactic(auto)]
 
+mod encloser;
 mod hashed;
 pub mod laws;
 mod nsec;
@@ -22,6 +25,8 @@ mod spelled;
 mod verdict;
 mod walk;
 
+pub use encloser::{Nsec3Encloser, find_nsec3, find_nsec3_encloser};
+pub use hashed::Nsec3Found;
 pub use nsec::check_nsec;
 pub use nsec_check::NsecCheck;
 pub use nsec3::check_nsec3;

@@ -1,21 +1,97 @@
 //! What records of an NSEC3 chain prove.
 ghost use Rattle.std.specs.Prelude.{◌≡◌, ◌≢◌, ◌⊎◌, ℕ, Ok, true, false, length, IfOk, IfErr, IsErrOf};
+ghost use Rattle.std.specs.Option.{option_map};
 ghost use Rattle.domain_base.specs.Name.{is_at_or_below};
+ghost use Rattle.domain_nsec3.specs.View.{as_hashed_link};
 ghost use Rattle.domain_records.specs.declared.error.Nsec3HashError.TheVariants as hash_error;
-ghost use Rattle.domain_checker.specs.HashedReading.{IsWalked};
+ghost use Rattle.domain_checker.specs.HashedEncloser.{encloser_of, found_verdict, lower_verdict, own_verdict};
+ghost use Rattle.domain_checker.specs.HashedReading.{hash_cover_verdict, IsWalked};
 ghost use Rattle.domain_checker.specs.HashedVerdict.{HasHashedProof, IsFirstRefusal, IsHashedProved};
 ghost use Rattle.domain_checker.specs.Verdict.{IsWithin};
 ghost use Rattle.domain_checker.specs.HashedView.{hash_with, links, parameters};
 
-use crate::Verdict;
+use crate::hashed::Nsec3Rr;
 use crate::nsec3_laws::walks_are_proved;
-use crate::walk::walk;
+use crate::{Nsec3Encloser, Verdict, find_nsec3_encloser};
 use domain_base::{Rtype, ToName};
 use domain_nsec3::Nsec3Records;
 use domain_octets::Octets;
 use domain_records::Nsec3HashError;
-use domain_zone::{MAX_NAME, Nsec3Hasher, lower_wire};
+use domain_zone::Nsec3Hasher;
 use std::alloc::Global;
+
+/// What the record that matches a name says of it.
+fn own_verdict<A: ToName, O: Octets, N: ToName>(
+    apex: &A,
+    encloser: &Nsec3Encloser<'_, O, N>,
+    rtype: Rtype,
+) -> Verdict
+    ensures { result ≡ own_verdict (A.labels apex.now) (encloser_of N.labels encloser.now) rtype }
+{
+    let types = encloser.matching.data().types();
+    if types.contains(rtype) {
+        return Verdict::Has;
+    }
+    if encloser.is_zone_cut(apex) && rtype != Rtype::DS {
+        return Verdict::BelowDelegation;
+    }
+    if types.is_empty() {
+        return Verdict::EmptyName;
+    }
+    Verdict::NoType
+}
+
+/// What the first cover of the next closer name says of a name. The number counts the labels of its
+/// closest encloser.
+fn cover_verdict<O: Octets, N: ToName>(cover: Option<&Nsec3Rr<O, N>>, count: usize) -> Verdict
+    ensures { result ≡ hash_cover_verdict count
+        (option_map (λ k. as_hashed_link N.labels k.now) cover.entry) }
+{
+    let Some(listed) = cover else {
+        return Verdict::NotProven;
+    };
+    if listed.data().opt_out() {
+        Verdict::OptOut(count)
+    } else {
+        Verdict::NoName(count)
+    }
+}
+
+/// What the record that matches the closest encloser says of the name below it, with the first
+/// cover of the next closer name.
+fn lower_verdict<A: ToName, O: Octets, N: ToName>(
+    apex: &A,
+    encloser: &Nsec3Encloser<'_, O, N>,
+) -> Verdict
+    ensures { result ≡ lower_verdict (A.labels apex.now) (encloser_of N.labels encloser.now) }
+{
+    if encloser.is_zone_cut(apex) {
+        return Verdict::BelowDelegation;
+    }
+    cover_verdict(encloser.cover, encloser.count)
+}
+
+/// What the records say of a name with so many labels, whose closest encloser they tell.
+fn found_verdict<A: ToName, O: Octets, N: ToName>(
+    apex: &A,
+    found: Option<Nsec3Encloser<'_, O, N>>,
+    count: usize,
+    rtype: Rtype,
+) -> Verdict
+    ensures { result ≡ found_verdict (A.labels apex.now)
+        (option_map (encloser_of N.labels) found.entry) count rtype }
+{
+    match found {
+        Some(encloser) => {
+            if encloser.count == count {
+                own_verdict(apex, &encloser, rtype)
+            } else {
+                lower_verdict(apex, &encloser)
+            }
+        }
+        None => Verdict::NotProven,
+    }
+}
 
 /// What records of an NSEC3 chain prove of a name and a type (RFC 5155, section 8).
 ///
@@ -85,18 +161,8 @@ pub fn check_nsec3<A: ToName, O: Octets, N: ToName, M: ToName, H: Nsec3Hasher>(
     }
     walks_are_proved();
     let _number = rtype.to_int();
-    let mut buffer = [0; MAX_NAME];
-    let lowered = lower_wire(&mut buffer, name);
-    match walk(
-        alloc,
-        apex,
-        records,
-        &name.as_parsed(),
-        lowered,
-        rtype,
-        hasher,
-    ) {
-        Ok(verdict) => Ok(verdict),
+    match find_nsec3_encloser(alloc, apex, records, name, hasher) {
+        Ok(found) => Ok(found_verdict(apex, found, name.count_labels(), rtype)),
         Err(error) => Err(error),
     }
 }

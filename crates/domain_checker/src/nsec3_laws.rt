@@ -1,9 +1,15 @@
 //! What the way from a name to the apex proves. A caller calls the law in its body.
 ghost use Rattle.std.specs.Prelude.{◌≡◌, ◌<◌, ℕ, true, List};
+ghost use Rattle.std.specs.List.{Contains};
+ghost use Rattle.domain_octets.specs.Words.{Octets};
 ghost use Rattle.domain_base.specs.Name.{is_at_or_below};
 ghost use Rattle.domain_base.specs.Words.{Name};
-ghost use Rattle.domain_nsec3.specs.Chain.{HashedLink};
-ghost use Rattle.domain_nsec3.specs.Config.{Hash, Parameters};
+ghost use Rattle.domain_zone.specs.Zone.{ZoneRecord};
+ghost use Rattle.domain_nsec3.specs.Chain.{HashedLink, IsHashedChain};
+ghost use Rattle.domain_nsec3.specs.Config.{ChainConfig, Hash, Parameters};
+ghost use Rattle.domain_nsec3.specs.Meaning.{IsAlone};
+ghost use Rattle.domain_checker.specs.HashedEncloser.{IsDenial, IsOfName};
+ghost use Rattle.domain_checker.specs.HashedList.{is_hash_cover, is_hash_match};
 ghost use Rattle.domain_checker.specs.HashedReading.{IsWalked, WalksAreProved};
 ghost use Rattle.domain_checker.specs.declared.verdict.Verdict.{Verdict};
 
@@ -19,6 +25,30 @@ pub fn walks_are_proved()
     ensures { (listed : List HashedLink) (a : Name) (p : Parameters) (hash : Hash) (x : Name)
         (t : ℕ) (verdict : Verdict) → t < 65536 → is_at_or_below x a ≡ true
         → IsWalked listed a p hash x t verdict → WalksAreProved listed a p hash x t verdict }
+{
+    chains_mean_the_zone();
+    names_exist();
+    names_end_at_the_encloser();
+    types_ignore_case();
+    built_bitmaps_give_their_types();
+    base32_reads_back();
+    base32_tells_apart();
+}
+
+/// A record of a chain that matches the hash of a name says that the name exists, and lists its
+/// types; one that covers it says that there is no such name. That holds of each name whose hash no
+/// other name of the chain has.
+pub fn hashes_tell_of_names()
+    ensures matches { (L : List ZoneRecord) (a : Name) (config : ChainConfig)
+        (links : List HashedLink) → IsHashedChain L a config links
+        → (x : Name) (v : Octets) → is_at_or_below x a ≡ true → IsAlone L a config x v
+        → (k : HashedLink) → Contains links k → is_hash_match a config.parameters v k ≡ true
+        → IsOfName L a config x k }
+    ensures covers { (L : List ZoneRecord) (a : Name) (config : ChainConfig)
+        (links : List HashedLink) → IsHashedChain L a config links
+        → (x : Name) (v : Octets) → is_at_or_below x a ≡ true → IsAlone L a config x v
+        → (k : HashedLink) → Contains links k → is_hash_cover a config.parameters v k ≡ true
+        → IsDenial L a config x k }
 {
     chains_mean_the_zone();
     names_exist();

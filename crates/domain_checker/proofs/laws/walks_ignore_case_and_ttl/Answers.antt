@@ -10,9 +10,9 @@ pub returns-clause-alike : goal.returns-clause-alike
 returns-clause-alike c = λ listed other a p hash x t verdict h w. walked_alike a p hash listed other h x t verdict w
 
 pub returns-clause-proved : goal.returns-clause-proved
-returns-clause-proved c = λ listed a x t verdict bound low L config links keeps chain free h walked.
+returns-clause-proved c = λ listed a x t verdict bound low L config links chain free h walked.
     let some = paired_with_some IsHashedAlike links listed (recursion_from_All (IsPairedIn IsHashedAlike links) listed h) in
     let told = walked_alike a config.parameters config.hash listed some.some some.alike x t verdict walked in
     (c.walks_are_proved.ensures some.some a config.parameters config.hash x t verdict bound low told).zone L config links refl
-    refl keeps chain free (All-from_recursion (Contains links) some.some some.among)
+    refl chain free (All-from_recursion (Contains links) some.some some.among)
     ∙ sym (proved_alike L a config x t listed some.some some.alike)

@@ -1,0 +1,121 @@
+-- What NSEC records answer does not depend on TTLs, classes and the case of letters.
+use Rattle.std.proofs.Common.{◌≡◌, ℕ, Bool, cond, not, ◌&&◌, ◌||◌, List, [], ◌∷◌, length, refl, ◌∙◌, Option, Some, None}
+use Rattle.std.specs.Prelude.{◌==◌}
+use Rattle.std.specs.List.{find}
+use Rattle.domain_base.specs.Name.{is_at_or_below, is_strictly_below, lowered}
+use Rattle.domain_base.specs.Order.{before}
+use Rattle.domain_base.specs.Types.{cname, dname, ds, ns}
+use Rattle.domain_base.specs.Words.{Name}
+use Rattle.domain_bitmap.specs.Blocks.{contains_type}
+use Rattle.domain_zone.specs.Covering.{matches_or_covers}
+use Rattle.domain_zone.specs.Enclosers.{longer, shared}
+use Rattle.domain_zone.specs.Zone.{ZoneRecord}
+use Rattle.domain_zone.proofs.NameLemmas.{lowered_below, one_lowered, same_lowered}
+use Rattle.domain_nsec.specs.Chain.{Link}
+use Rattle.domain_checker.specs.Alike.{ArePaired, IsAlike}
+use Rattle.domain_checker.specs.Reading.{is_at_cut, is_cover, is_match}
+use Rattle.domain_checker.proofs.AlikeLemmas.{is_cover_alike, is_match_alike, says_alike}
+use Rattle.domain_checker.proofs.PairedLemmas.{OptionsPaired, any_alike, find_alike}
+use Rattle.domain_answer.specs.declared.answer.Answer.TheVariants.{OutsideZone, AtParent, Referral, Redirected, Has, NoDs, Alias, NoData}
+use Rattle.domain_answer.specs.declared.answer.Answer.TheVariants.{Wildcard, WildcardAlias, WildcardNoData, NameError, NoCloserName, NotProven}
+use Rattle.domain_answer.specs.Proved.{is_missing, last_labels, needs_no_records, proved_answer}
+use Rattle.domain_answer.specs.Reading.{absent_answer, cover_answer, listed_answer, listed_both, match_answer, owner_answer, reading}
+use Rattle.domain_answer.specs.Reading.{tells_occluded, wildcard_both, wildcard_cover_answer, wildcard_match_answer}
+use Rattle.domain_answer.specs.ZoneAnswer.{encloser, is_at_parent, wildcard_below, zone_answer}
+use Rattle.domain_answer.proofs.CountLemmas.{same_count}
+
+shared_alike : (x y z : Name) → lowered y ≡ lowered z → shared x y ≡ shared x z
+shared_alike [] y z e = refl
+shared_alike (l ∷ x) y z e = λ i. cond (lowered_below (e i) (lowered (l ∷ x))) (l ∷ x) (shared_alike x y z e i)
+
+-- ---- one record
+
+module _ (a : Name) (k l : Link) (alike : IsAlike k l) where
+  owners : lowered k.owner ≡ lowered l.owner
+  owners = one_lowered k.owner l.owner alike.owner
+
+  nexts : lowered k.next ≡ lowered l.next
+  nexts = one_lowered k.next l.next alike.next
+
+  labels : length k.owner ≡ length l.owner
+  labels = same_count k.owner l.owner alike.owner
+
+  cut_alike : is_at_cut a k ≡ is_at_cut a l
+  cut_alike = λ i. not (same_lowered (owners i) (lowered a)) && contains_type (alike.bits i) ns
+
+  occluded_alike : (x : Name) → tells_occluded a k x ≡ tells_occluded a l x
+  occluded_alike x = λ i. lowered_below (lowered x) (owners i) && (cut_alike i || contains_type (alike.bits i) dname)
+
+  below_alike : (x : Name) → is_strictly_below k.next x ≡ is_strictly_below l.next x
+  below_alike x = λ i. lowered_below (nexts i) (lowered x) && not (same_lowered (nexts i) (lowered x))
+
+  owner_answer_alike : owner_answer a k ≡ owner_answer a l
+  owner_answer_alike = λ i. cond (cut_alike i) (Referral (labels i)) (Redirected (labels i))
+
+  match_answer_alike : (t : ℕ) → match_answer a k t ≡ match_answer a l t
+  match_answer_alike t = λ i. cond (cut_alike i && not (t == ds)) (Referral (labels i)) (cond (contains_type (alike.bits i) t) Has
+      (cond (cut_alike i) NoDs (cond (contains_type (alike.bits i) cname) Alias NoData)))
+
+  wildcard_match_alike : (n t : ℕ) → wildcard_match_answer a n k t ≡ wildcard_match_answer a n l t
+  wildcard_match_alike n t = λ i. cond (contains_type (alike.bits i) t || cut_alike i) (Wildcard n)
+      (cond (contains_type (alike.bits i) cname) (WildcardAlias n) (WildcardNoData n))
+
+  wildcard_cover_alike : (n : ℕ) (w : Name) → wildcard_cover_answer a n k w ≡ wildcard_cover_answer a n l w
+  wildcard_cover_alike n w = λ i. cond (occluded_alike w i) (NoCloserName n) (cond (below_alike w i) (WildcardNoData n) (NameError n))
+
+  count_alike : (x : Name) → length (longer (shared x k.owner) (shared x k.next)) ≡ length (longer (shared x l.owner) (shared x l.next))
+  count_alike x = λ i. length (longer (shared_alike x k.owner l.owner owners i) (shared_alike x k.next l.next nexts i))
+
+-- ---- lists
+
+module _ (a : Name) (t : ℕ) where
+  wildcard_both_alike : (n : ℕ) (w : Name) (m p c d : Option Link) → OptionsPaired IsAlike m p → OptionsPaired IsAlike c d
+      → wildcard_both a n w t m c ≡ wildcard_both a n w t p d
+  wildcard_both_alike n w (Some k) (Some l) c d m h = wildcard_match_alike a k l m n t
+  wildcard_both_alike n w (Some k) None c d m h = absurd m
+  wildcard_both_alike n w None (Some l) c d m h = absurd m
+  wildcard_both_alike n w None None None None m h = refl
+  wildcard_both_alike n w None None None (Some d) m h = absurd h
+  wildcard_both_alike n w None None (Some c) None m h = absurd h
+  wildcard_both_alike n w None None (Some c) (Some d) m h = wildcard_cover_alike a c d h n w
+
+  module _ (ks ls : List Link) (all : ArePaired IsAlike ks ls) where
+    matching : (y : Name) → OptionsPaired IsAlike (find (is_match a y) ks) (find (is_match a y) ls)
+    matching y = find_alike IsAlike (is_match a y) (is_match_alike a y) ks ls all
+
+    covering : (y : Name) → OptionsPaired IsAlike (find (is_cover a y) ks) (find (is_cover a y) ls)
+    covering y = find_alike IsAlike (is_cover a y) (is_cover_alike a y) ks ls all
+
+    absent_alike : (n : ℕ) (x : Name) → absent_answer a ks n x t ≡ absent_answer a ls n x t
+    absent_alike n x =
+        let w = wildcard_below (last_labels n x) in
+        wildcard_both_alike n w (find (is_match a w) ks) (find (is_match a w) ls) (find (is_cover a w) ks) (find (is_cover a w) ls) (matching w) (covering w)
+
+    cover_alike : (k l : Link) (x : Name) → IsAlike k l → cover_answer a ks k x t ≡ cover_answer a ls l x t
+    cover_alike k l x alike =
+        let absent = (λ i. absent_answer a ks (count_alike a k l alike x i) x t) ∙ absent_alike (length (longer (shared x l.owner) (shared x l.next))) x in
+        λ i. cond (occluded_alike a k l alike x i) (owner_answer_alike a k l alike i) (cond (below_alike a k l alike x i) NoData (absent i))
+
+    both_alike : (x : Name) (m n c d : Option Link) → OptionsPaired IsAlike m n → OptionsPaired IsAlike c d
+        → listed_both a ks x t m c ≡ listed_both a ls x t n d
+    both_alike x (Some k) (Some l) c d m h = match_answer_alike a k l m t
+    both_alike x (Some k) None c d m h = absurd m
+    both_alike x None (Some l) c d m h = absurd m
+    both_alike x None None None None m h = refl
+    both_alike x None None None (Some d) m h = absurd h
+    both_alike x None None (Some c) None m h = absurd h
+    both_alike x None None (Some c) (Some d) m h = cover_alike c d x h
+
+    pub reading_alike : (x : Name) → reading a ks x t ≡ reading a ls x t
+    reading_alike x =
+        let inner : listed_answer a ks x t ≡ listed_answer a ls x t =
+        both_alike x (find (is_match a x) ks) (find (is_match a x) ls) (find (is_cover a x) ks) (find (is_cover a x) ls) (matching x) (covering x) in
+        λ i. cond (not (is_at_or_below x a)) OutsideZone (cond (is_at_parent a x t) AtParent (inner i))
+
+    pub proved_alike : (L : List ZoneRecord) (assume : Bool) (x : Name) → proved_answer L a assume ks x t ≡ proved_answer L a assume ls x t
+    proved_alike L assume x =
+        let w = wildcard_below (encloser L a x) in
+        let said = any_alike IsAlike (λ k. matches_or_covers before k.owner k.next x) (says_alike a x) ks ls all in
+        let wild = any_alike IsAlike (λ k. matches_or_covers before k.owner k.next w) (says_alike a w) ks ls all in
+        λ i. cond (needs_no_records a x t) (zone_answer L a assume x t) (cond (not (said i)) NotProven
+        (cond (is_missing L a x && not (wild i)) (NoCloserName (length (encloser L a x))) (zone_answer L a assume x t)))

@@ -1,0 +1,164 @@
+-- How many labels names have: the last ones, and those that names share.
+use Rattle.std.proofs.Common.{◌≡◌, ℕ, ◌≤◌, ◌<◌, ◌-◌, suc, Bool, true, false, cond, not, ◌&&◌, ◌||◌, List, [], ◌∷◌}
+use Rattle.std.proofs.Common.{map, drop, length, refl, sym, ap, ◌∙◌, subst, inl, inr, arith, ltb, Some, None}
+use Rattle.std.specs.Char.{to_ascii_lowercase}
+use Rattle.std.proofs.lemmas.Bool.{cases_Bool, false≢true, and_parts, and_from}
+use Rattle.std.proofs.lemmas.List.{length-map}
+use Rattle.domain_base.specs.Name.{is_at_or_below, is_strictly_below, lowered, parent_of, same_name}
+use Rattle.domain_base.specs.Order.{before}
+use Rattle.domain_base.specs.Words.{Label, Name}
+use Rattle.domain_zone.specs.Covering.{covers, matches}
+use Rattle.domain_zone.specs.Enclosers.{exists_over, longer, shared}
+use Rattle.domain_zone.proofs.NameLemmas.{before_right, before_order, below_between, below_from, below_itself, below_length, below_longer, below_parent}
+use Rattle.domain_zone.proofs.NameLemmas.{below_root, below_trans, lowered_below, one_lowered, same_lowered}
+use Rattle.domain_checker.specs.Verdict.{closest_encloser}
+use Rattle.domain_checker.proofs.EncloserLemmas.{strictly_longer}
+use Rattle.domain_answer.specs.Proved.{last_labels}
+
+-- ---- names that are the same, and names below each other
+
+pub same_count : (x y : Name) → same_name x y ≡ true → length x ≡ length y
+same_count x y s = omega (arith, ap length (one_lowered x y s), length-map x (map to_ascii_lowercase), length-map y (map to_ascii_lowercase))
+
+pub strictly_same : (x m n : Name) → same_name m n ≡ true → is_strictly_below x m ≡ is_strictly_below x n
+strictly_same x m n s = ap (λ k. lowered_below (lowered x) k && not (same_lowered (lowered x) k)) (one_lowered m n s)
+
+-- x is strictly below what a name that it is strictly below is at or below
+pub strictly_from : (x c n : Name) → is_strictly_below x c ≡ true → is_at_or_below c n ≡ true → is_strictly_below x n ≡ true
+strictly_from x c n s q =
+    let p = and_parts (is_at_or_below x c) (not (same_name x c)) s in
+    and_from (is_at_or_below x n) (not (same_name x n)) (below_trans x c n p.0 q)
+    (elim (cases_Bool (same_name x n)) [
+      | inl e ↦
+          let far = strictly_longer x c s in
+          let near = below_length c n q in
+          let same = same_count x n e in
+          absurd (omega arith)
+      | inr e ↦ ap not e
+    ])
+
+pub child_below : (l : Label) (x : Name) → is_strictly_below (l ∷ x) x ≡ true
+child_below l x =
+    and_from (is_at_or_below (l ∷ x) x) (not (same_name (l ∷ x) x)) (below_parent l x)
+    (elim (cases_Bool (same_name (l ∷ x) x)) [
+      | inl e ↦ let same = same_count (l ∷ x) x e in absurd (omega arith)
+      | inr e ↦ ap not e
+    ])
+
+-- what a name is strictly below, its parent is at or below
+pub parent_below : (l : Label) (x c : Name) → is_strictly_below (l ∷ x) c ≡ true → is_at_or_below x c ≡ true
+parent_below l x c s =
+    let p = and_parts (is_at_or_below (l ∷ x) c) (not (same_name (l ∷ x) c)) s in
+    let far = strictly_longer (l ∷ x) c s in
+    below_longer (l ∷ x) x c (below_parent l x) p.0 (omega arith)
+
+-- ---- the last labels
+
+pub last_all : (x : Name) (n : ℕ) → length x ≤ n → last_labels n x ≡ x
+last_all x n h = let none : length x - n ≡ 0 = omega arith in ap (λ m. drop m x) none
+
+pub last_more : (l : Label) (x : Name) (n : ℕ) → n ≤ length x → last_labels n (l ∷ x) ≡ last_labels n x
+last_more l x n h = let more : length (l ∷ x) - n ≡ suc (length x - n) = omega arith in ap (λ m. drop m (l ∷ x)) more
+
+pub parent_some : (x above : Name) (n : ℕ) → parent_of x ≡ Some above → n < length x → last_labels n x ≡ last_labels n above
+parent_some [] above n e h = absurd (cc)
+parent_some (l ∷ x) above n e h = let same : x ≡ above = (cc) in last_more l x n (omega arith) ∙ ap (last_labels n) same
+
+pub parent_shorter : (x above : Name) → parent_of x ≡ Some above → length above < length x
+parent_shorter [] above e = absurd (cc)
+parent_shorter (l ∷ x) above e = let same : x ≡ above = (cc) in subst (λ y. length y < length (l ∷ x)) same (omega arith)
+
+pub parent_none : (x : Name) → parent_of x ≡ None → length x ≡ 0
+parent_none [] e = refl
+parent_none (l ∷ x) e = absurd (cc)
+
+-- ---- the closest encloser is the last labels of the name
+
+closest_within : (names : List Name) (a x : Name) → length (closest_encloser names a x) ≤ length x
+closest_within names a [] = omega arith
+closest_within names a (l ∷ x) =
+    let up = closest_within names a x in
+    elim (exists_over names a (l ∷ x)) as (λ b. length (cond b (l ∷ x) (closest_encloser names a x)) ≤ length (l ∷ x)) [
+      | true ↦ omega arith
+      | false ↦ omega arith
+    ]
+
+pub closest_last : (names : List Name) (a x : Name) → last_labels (length (closest_encloser names a x)) x ≡ closest_encloser names a x
+closest_last names a [] = refl
+closest_last names a (l ∷ x) =
+    elim (exists_over names a (l ∷ x)) as (λ b. last_labels (length (cond b (l ∷ x) (closest_encloser names a x))) (l ∷ x)
+    ≡ cond b (l ∷ x) (closest_encloser names a x)) [
+      | true ↦ last_all (l ∷ x) (length (l ∷ x)) (omega arith)
+      | false ↦ last_more l x (length (closest_encloser names a x)) (closest_within names a x) ∙ closest_last names a x
+    ]
+
+-- ---- names that share less than all labels
+
+shared_within : (x y : Name) → length (shared x y) ≤ length x
+shared_within [] y = omega arith
+shared_within (l ∷ x) y =
+    let up = shared_within x y in
+    elim (is_at_or_below y (l ∷ x)) as (λ b. length (cond b (l ∷ x) (shared x y)) ≤ length (l ∷ x)) [ true ↦ omega arith | false ↦ omega arith ]
+
+shared_less : (x y : Name) → is_at_or_below y x ≡ false → length (shared x y) < length x
+shared_less [] y e = absurd (false≢true (sym e ∙ below_root y))
+shared_less (l ∷ x) y e =
+    let up = shared_within x y in
+    let fewer : length (shared x y) < length (l ∷ x) = omega arith in
+    subst (λ b. length (cond b (l ∷ x) (shared x y)) < length (l ∷ x)) (sym e) fewer
+
+longer_less : (n : ℕ) (e f : Name) → length e < n → length f < n → length (longer e f) < n
+longer_less n e f p q =
+    elim (ltb (length e) (length f)) as (λ b. length (cond b f e) < n) [ true ↦ q | false ↦ p ]
+
+-- what a cover says, by what comes before what
+pub covers_parts : (m oo ox xn : Bool) → (not m && cond oo (ox && xn) (ox || xn)) ≡ true → (cond oo (ox && xn) (ox || xn)) ≡ true
+covers_parts m oo ox xn h = (and_parts (not m) (cond oo (ox && xn) (ox || xn)) h).1
+
+both_false : (b : Bool) → cond b (b && false) (b || false) ≡ true → ⊥
+both_false true h = false≢true h
+both_false false h = false≢true h
+
+module _ (o n x : Name) (c : covers before o n x ≡ true) where
+  between : cond (before o n) (before o x && before x n) (before o x || before x n) ≡ true
+  between = covers_parts (matches before o x) (before o n) (before o x) (before x n) c
+
+  -- the next name is not the one that is covered
+  other_next : same_name n x ≡ false
+  other_next =
+      elim (cases_Bool (same_name n x)) [
+        | inl e ↦
+            let low = one_lowered n x e in
+            let after : before x n ≡ false = before_right x n x low ∙ below_from x x (below_itself x) in
+            absurd (both_false (before o x) (sym (λ i. cond (before_right o n x low i) (before o x && after i) (before o x || after i)) ∙ between))
+        | inr e ↦ e
+      ]
+
+  -- a next name that is not strictly below it is not at it or below
+  next_apart : is_strictly_below n x ≡ false → is_at_or_below n x ≡ false
+  next_apart s =
+      elim (cases_Bool (is_at_or_below n x)) [
+        | inl e ↦ absurd (false≢true (sym s ∙ and_from (is_at_or_below n x) (not (same_name n x)) e (ap not other_next)))
+        | inr e ↦ e
+      ]
+
+  -- then the owner isn't either
+  owner_apart : is_strictly_below n x ≡ false → is_at_or_below o x ≡ false
+  owner_apart s =
+      elim (cases_Bool (is_at_or_below o x)) [
+        | inl e ↦
+            let behind : before o x ≡ false = below_from o x e in
+            let ahead = after_owner (before o n) refl behind in
+            absurd (false≢true (sym (next_apart s) ∙ below_between o x n e ahead.1 ahead.0))
+        | inr e ↦ e
+      ]
+    where
+      after_owner : (b : Bool) → before o n ≡ b → before o x ≡ false → (before o n ≡ false) × (before n x ≡ false)
+      after_owner true e f = absurd (false≢true (sym (λ i. cond (e i) (f i && before x n) (f i || before x n)) ∙ between))
+      after_owner false e f =
+          let ahead : before x n ≡ true = sym (λ i. cond (e i) (f i && before x n) (f i || before x n)) ∙ between in
+          (e, before_order.one_way x n ahead)
+
+  -- so the closest encloser has fewer labels
+  pub encloser_less : is_strictly_below n x ≡ false → length (longer (shared x o) (shared x n)) < length x
+  encloser_less s = longer_less (length x) (shared x o) (shared x n) (shared_less x o (owner_apart s)) (shared_less x n (next_apart s))

@@ -1,0 +1,9 @@
+pub mod FoundLemmas
+pub mod CountLemmas
+pub mod WildcardLemmas
+pub mod OccluderLemmas
+pub mod ChainLemmas
+pub mod AnswerLemmas
+pub mod ProofLemmas
+pub mod AlikeLemmas
+pub mod WholeLemmas

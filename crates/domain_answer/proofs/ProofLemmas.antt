@@ -1,0 +1,156 @@
+-- Of any records at all: those that an answer rests on are there, and what it counts is within the name.
+use Rattle.std.proofs.Common.{◌≡◌, ◌∙◌, ◌<◌, ◌≤◌, arith, ℕ, Bool, true, false, cond, not, ◌&&◌, ◌||◌, List, length, refl, Option, Some, None}
+use Rattle.std.specs.Prelude.{◌==◌}
+use Rattle.std.specs.List.{find}
+use Rattle.std.proofs.lemmas.Bool.{and_parts, and_from, or_left, or_right}
+use Rattle.domain_bitmap.specs.Blocks.{contains_type}
+use Rattle.domain_base.specs.Name.{is_at_or_below, is_strictly_below}
+use Rattle.domain_base.specs.Order.{before}
+use Rattle.domain_base.specs.Types.{cname, ds}
+use Rattle.domain_base.specs.Words.{Name}
+use Rattle.domain_zone.specs.Covering.{matches, covers, matches_or_covers}
+use Rattle.domain_zone.specs.Enclosers.{longer, shared}
+use Rattle.domain_zone.proofs.NameLemmas.{below_length, same_is}
+use Rattle.domain_nsec.specs.Chain.{Link}
+use Rattle.domain_checker.specs.Reading.{is_at_cut, is_cover, is_match}
+use Rattle.domain_checker.specs.Verdict.{HasProof, is_inside}
+use Rattle.domain_checker.proofs.FindLemmas.{In, find_some, in_any}
+use Rattle.domain_answer.specs.declared.answer.Answer.{Answer}
+use Rattle.domain_answer.specs.declared.answer.Answer.TheVariants.{OutsideZone, AtParent, Referral, Redirected, Has, NoDs, Alias, NoData}
+use Rattle.domain_answer.specs.declared.answer.Answer.TheVariants.{Wildcard, WildcardAlias, WildcardNoData, NameError, NoCloserName}
+use Rattle.domain_answer.specs.Proved.{CountsWithin, HasBothProofs, RestsOn, last_labels}
+use Rattle.domain_answer.specs.Reading.{absent_answer, cover_answer, listed_answer, listed_both, match_answer, owner_answer, reading}
+use Rattle.domain_answer.specs.Reading.{tells_occluded, tells_occluder, wildcard_both}
+use Rattle.domain_answer.specs.ZoneAnswer.{is_at_parent, wildcard_below}
+use Rattle.domain_answer.proofs.CountLemmas.{encloser_less, same_count}
+
+choose : (P : Answer → Type 0) (b : Bool) (v w : Answer) → P v → P w → P (cond b v w)
+choose P true v w p q = p
+choose P false v w p q = q
+
+module _ (a : Name) (listed : List Link) where
+  told : (y : Name) (k : Link) → In k listed → is_inside a k ≡ true → matches_or_covers before k.owner k.next y ≡ true → HasProof listed a y
+  told y k i e f = in_any (λ k. is_inside a k && matches_or_covers before k.owner k.next y) listed k i
+      (and_from (is_inside a k) (matches_or_covers before k.owner k.next y) e f)
+
+  by_match : (y : Name) (k : Link) → find (is_match a y) listed ≡ Some k → HasProof listed a y
+  by_match y k e =
+      let r = find_some (is_match a y) listed k e in
+      let p = and_parts (matches before k.owner y) (is_inside a k) r.1 in
+      told y k r.0 p.1 (or_left (matches before k.owner y) (covers before k.owner k.next y) p.0)
+
+  by_cover : (y : Name) (k : Link) → find (is_cover a y) listed ≡ Some k → HasProof listed a y
+  by_cover y k e =
+      let r = find_some (is_cover a y) listed k e in
+      let p = and_parts (covers before k.owner k.next y) (is_inside a k) r.1 in
+      told y k r.0 p.1 (or_right (matches before k.owner y) (covers before k.owner k.next y) p.0)
+
+  module _ (x : Name) (t : ℕ) where
+    abbrev Rests : Answer → Type 0
+    Rests = RestsOn listed a x
+
+    absent_rests : (n : ℕ) → HasProof listed a x → Rests (absent_answer a listed n x t)
+    absent_rests n h = by (find (is_match a w) listed) (find (is_cover a w) listed) refl refl
+      where
+        w : Name
+        w = wildcard_below (last_labels n x)
+
+        by : (o p : Option Link) → find (is_match a w) listed ≡ o → find (is_cover a w) listed ≡ p → Rests (wildcard_both a n w t o p)
+        by None None e f = h
+        by None (Some k) e f =
+            let both : HasBothProofs listed a x n = (h, by_cover w k f) in
+            choose Rests (tells_occluded a k w) (NoCloserName n) (cond (is_strictly_below k.next w) (WildcardNoData n) (NameError n)) h
+            (choose Rests (is_strictly_below k.next w) (WildcardNoData n) (NameError n) both both)
+        by (Some k) p e f =
+            let both : HasBothProofs listed a x n = (h, by_match w k e) in
+            choose Rests (contains_type k.bits t || is_at_cut a k) (Wildcard n) (cond (contains_type k.bits cname) (WildcardAlias n) (WildcardNoData n)) both
+            (choose Rests (contains_type k.bits cname) (WildcardAlias n) (WildcardNoData n) both both)
+
+    match_rests : (k : Link) → HasProof listed a x → Rests (match_answer a k t)
+    match_rests k h =
+        let last = cond (contains_type k.bits cname) Alias NoData in
+        let later = cond (is_at_cut a k) NoDs last in
+        choose Rests (is_at_cut a k && not (t == ds)) (Referral (length k.owner)) (cond (contains_type k.bits t) Has later) h
+        (choose Rests (contains_type k.bits t) Has later h
+        (choose Rests (is_at_cut a k) NoDs last h
+        (choose Rests (contains_type k.bits cname) Alias NoData h h)))
+
+    cover_rests : (k : Link) → HasProof listed a x → Rests (cover_answer a listed k x t)
+    cover_rests k h =
+        let n = length (longer (shared x k.owner) (shared x k.next)) in
+        choose Rests (tells_occluded a k x) (owner_answer a k) (cond (is_strictly_below k.next x) NoData (absent_answer a listed n x t))
+        (choose Rests (is_at_cut a k) (Referral (length k.owner)) (Redirected (length k.owner)) h h)
+        (choose Rests (is_strictly_below k.next x) NoData (absent_answer a listed n x t) h (absent_rests n h))
+
+    list_rests : Rests (listed_answer a listed x t)
+    list_rests = by (find (is_match a x) listed) (find (is_cover a x) listed) refl refl
+      where
+        by : (o p : Option Link) → find (is_match a x) listed ≡ o → find (is_cover a x) listed ≡ p → Rests (listed_both a listed x t o p)
+        by None None e f = tt
+        by None (Some k) e f = cover_rests k (by_cover x k f)
+        by (Some k) p e f = match_rests k (by_match x k e)
+
+    pub reading_rests : Rests (reading a listed x t)
+    reading_rests =
+        choose Rests (not (is_at_or_below x a)) OutsideZone (cond (is_at_parent a x t) AtParent (listed_answer a listed x t)) tt
+        (choose Rests (is_at_parent a x t) AtParent (listed_answer a listed x t) tt list_rests)
+
+    -- ---- how many labels an answer counts
+
+    abbrev Counts : Answer → Type 0
+    Counts = CountsWithin (length x)
+
+    choose_by : (b : Bool) (v w : Answer) → (b ≡ true → Counts v) → (b ≡ false → Counts w) → Counts (cond b v w)
+    choose_by true v w p q = p refl
+    choose_by false v w p q = q refl
+
+    absent_counts : (n : ℕ) → n < length x → Counts (absent_answer a listed n x t)
+    absent_counts n h = by (find (is_match a w) listed) (find (is_cover a w) listed)
+      where
+        w : Name
+        w = wildcard_below (last_labels n x)
+
+        by : (o p : Option Link) → Counts (wildcard_both a n w t o p)
+        by None None = h
+        by None (Some k) =
+            choose Counts (tells_occluded a k w) (NoCloserName n) (cond (is_strictly_below k.next w) (WildcardNoData n) (NameError n)) h
+            (choose Counts (is_strictly_below k.next w) (WildcardNoData n) (NameError n) h h)
+        by (Some k) p =
+            choose Counts (contains_type k.bits t || is_at_cut a k) (Wildcard n) (cond (contains_type k.bits cname) (WildcardAlias n) (WildcardNoData n)) h
+            (choose Counts (contains_type k.bits cname) (WildcardAlias n) (WildcardNoData n) h h)
+
+    match_counts : (k : Link) → matches before k.owner x ≡ true → Counts (match_answer a k t)
+    match_counts k m =
+        let last = cond (contains_type k.bits cname) Alias NoData in
+        let later = cond (is_at_cut a k) NoDs last in
+        let labels = same_count k.owner x (same_is k.owner x ∙ m) in
+        let within : length k.owner ≤ length x = omega arith in
+        choose Counts (is_at_cut a k && not (t == ds)) (Referral (length k.owner)) (cond (contains_type k.bits t) Has later) within
+        (choose Counts (contains_type k.bits t) Has later tt
+        (choose Counts (is_at_cut a k) NoDs last tt
+        (choose Counts (contains_type k.bits cname) Alias NoData tt tt)))
+
+    cover_counts : (k : Link) → covers before k.owner k.next x ≡ true → Counts (cover_answer a listed k x t)
+    cover_counts k c =
+        let n = length (longer (shared x k.owner) (shared x k.next)) in
+        choose_by (tells_occluded a k x) (owner_answer a k) (cond (is_strictly_below k.next x) NoData (absent_answer a listed n x t))
+        (λ e.
+        let within = below_length x k.owner (and_parts (is_at_or_below x k.owner) (tells_occluder a k) e).0 in
+        choose Counts (is_at_cut a k) (Referral (length k.owner)) (Redirected (length k.owner)) within within)
+        (λ e. choose_by (is_strictly_below k.next x) NoData (absent_answer a listed n x t) (λ f. tt)
+        (λ f. absent_counts n (encloser_less k.owner k.next x c f)))
+
+    list_counts : Counts (listed_answer a listed x t)
+    list_counts = by (find (is_match a x) listed) (find (is_cover a x) listed) refl refl
+      where
+        by : (o p : Option Link) → find (is_match a x) listed ≡ o → find (is_cover a x) listed ≡ p → Counts (listed_both a listed x t o p)
+        by None None e f = tt
+        by None (Some k) e f =
+            cover_counts k (and_parts (covers before k.owner k.next x) (is_inside a k) (find_some (is_cover a x) listed k f).1).0
+        by (Some k) p e f =
+            match_counts k (and_parts (matches before k.owner x) (is_inside a k) (find_some (is_match a x) listed k e).1).0
+
+    pub reading_counts : Counts (reading a listed x t)
+    reading_counts =
+        choose Counts (not (is_at_or_below x a)) OutsideZone (cond (is_at_parent a x t) AtParent (listed_answer a listed x t)) tt
+        (choose Counts (is_at_parent a x t) AtParent (listed_answer a listed x t) tt list_counts)

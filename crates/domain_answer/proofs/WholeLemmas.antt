@@ -1,0 +1,158 @@
+-- The whole chain proves all that the zone says; and which chains leave out the names below a DNAME.
+use Rattle.std.proofs.Common.{◌≡◌, ◌≢◌, ℕ, Bool, true, false, cond, not, ◌&&◌, ◌||◌, List, [], ◌∷◌, map, length}
+use Rattle.std.proofs.Common.{refl, sym, ap, ◌∙◌, inl, inr, Option, Some, None}
+use Rattle.std.specs.Prelude.{◌==◌, All, filter}
+use Rattle.std.specs.List.{list_any}
+use Rattle.std.proofs.lemmas.Bool.{cases_Bool, true≢false, and_parts}
+use Rattle.std.proofs.lemmas.List.Elements.{recursion_from_All}
+use Rattle.domain_base.specs.Name.{is_at_or_below, same_name}
+use Rattle.domain_base.specs.Types.{cname, ds}
+use Rattle.domain_base.specs.Words.{Name}
+use Rattle.domain_zone.specs.Zone.{ZoneRecord, OwnersNeverDescend, distinct, is_occluded, is_unoccluded, is_zone_cut, unoccluded_owners}
+use Rattle.domain_zone.proofs.NameLemmas.{below_parent, below_trans}
+use Rattle.domain_nsec.specs.Chain.{IsChain, Link}
+use Rattle.domain_nsec.specs.declared.config.GenerateNsecConfig.{GenerateNsecConfig}
+use Rattle.domain_checker.specs.Verdict.{has_match_or_cover}
+use Rattle.domain_checker.proofs.EncloserLemmas.{closest_is}
+use Rattle.domain_checker.proofs.FindLemmas.{In, all_in, from_map, in_filter}
+use Rattle.domain_checker.proofs.ListLemmas.{ChainLaws}
+use Rattle.domain_answer.specs.declared.answer.Answer.{Answer}
+use Rattle.domain_answer.specs.declared.answer.Answer.TheVariants.{OutsideZone, AtParent, Referral, Redirected, Has, NoDs, Alias, NoData}
+use Rattle.domain_answer.specs.declared.answer.Answer.TheVariants.{Wildcard, WildcardAlias, WildcardNoData, NameError, NoCloserName, NotProven}
+use Rattle.domain_answer.specs.Proved.{LeavesOutBelowDname, is_missing, knows_wildcard, proved_answer}
+use Rattle.domain_answer.specs.ZoneAnswer.{asterisk, encloser, existing_answer, highest_occluder, inside_answer, is_at_parent}
+use Rattle.domain_answer.specs.ZoneAnswer.{missing_answer, name_exists, owns_type, wildcard_below, zone_answer}
+use Rattle.domain_answer.proofs.ChainLemmas.{apex_exists, meant_by, some_link}
+
+and_false : (b : Bool) → (b && false) ≡ false
+and_false true = refl
+and_false false = refl
+
+wildcard_low : (L : List ZoneRecord) (a : Name) (x : Name) → name_exists L a a ≡ true → is_at_or_below x a ≡ true
+    → is_at_or_below (wildcard_below (encloser L a x)) a ≡ true
+wildcard_low L a x apex low =
+    let above = encloser L a x in
+    let closest = closest_is (unoccluded_owners true L a) a x apex low in
+    below_trans (wildcard_below above) above a (below_parent asterisk above)
+    (and_parts (is_at_or_below above a) (list_any (λ n. is_at_or_below n above) (unoccluded_owners true L a)) closest.found).0
+
+pub whole_proves : ChainLaws → (L : List ZoneRecord) (a : Name) (config : GenerateNsecConfig) (links : List Link) (x : Name)
+    (t : ℕ) → LeavesOutBelowDname L a config → OwnersNeverDescend L → IsChain L a config links
+    → proved_answer L a config.assume_dnskeys_will_be_added links x t ≡ zone_answer L a config.assume_dnskeys_will_be_added x t
+whole_proves laws L a config links x t leaves order chain =
+    elim (cases_Bool (is_at_or_below x a)) [
+      | inl e ↦
+          let meant = meant_by laws L a config links leaves order chain in
+          let said = some_link L a assume links meant x e in
+          let wild = some_link L a assume links meant (wildcard_below (encloser L a x)) (wildcard_low L a x (apex_exists L a assume links meant) e) in
+          (λ i. cond (not (e i) || is_at_parent a x t) zone (cond (not (said i)) NotProven
+          (cond (is_missing L a x && not (wild i)) (NoCloserName (length (encloser L a x))) zone)))
+          ∙ (λ i. cond (is_at_parent a x t) zone (cond (and_false (is_missing L a x) i) (NoCloserName (length (encloser L a x))) zone))
+          ∙ either (is_at_parent a x t) zone
+      | inr e ↦ (λ i. cond (not (e i) || is_at_parent a x t) zone (cond (not (has_match_or_cover links x)) NotProven
+          (cond (is_missing L a x && not (knows_wildcard L a links x)) (NoCloserName (length (encloser L a x))) zone)))
+    ]
+  where
+    assume : Bool
+    assume = config.assume_dnskeys_will_be_added
+
+    zone : Answer
+    zone = zone_answer L a config.assume_dnskeys_will_be_added x t
+
+    either : (b : Bool) (v : Answer) → cond b v v ≡ v
+    either true v = refl
+    either false v = refl
+
+-- ---- a zone says something of each name
+
+is_of_zone : Answer → Bool
+is_of_zone OutsideZone = true
+is_of_zone AtParent = true
+is_of_zone (Referral n) = true
+is_of_zone (Redirected n) = true
+is_of_zone Has = true
+is_of_zone NoDs = true
+is_of_zone Alias = true
+is_of_zone NoData = true
+is_of_zone (Wildcard n) = true
+is_of_zone (WildcardAlias n) = true
+is_of_zone (WildcardNoData n) = true
+is_of_zone (NameError n) = true
+is_of_zone (NoCloserName n) = false
+is_of_zone NotProven = false
+
+choose : (b : Bool) (v w : Answer) → is_of_zone v ≡ true → is_of_zone w ≡ true → is_of_zone (cond b v w) ≡ true
+choose true v w e f = e
+choose false v w e f = f
+
+module _ (L : List ZoneRecord) (a : Name) (assume : Bool) (x : Name) (t : ℕ) where
+  existing_says : is_of_zone (existing_answer L a assume x t) ≡ true
+  unfolding is_of_zone
+  existing_says =
+      let last = cond (owns_type L a assume x cname) Alias NoData in
+      let later = cond (is_zone_cut L a x) NoDs last in
+      choose (is_zone_cut L a x && not (t == ds)) (Referral (length x)) (cond (owns_type L a assume x t) Has later) refl
+      (choose (owns_type L a assume x t) Has later refl
+      (choose (is_zone_cut L a x) NoDs last refl
+      (choose (owns_type L a assume x cname) Alias NoData refl refl)))
+
+  missing_says : (e w : Name) → is_of_zone (missing_answer L a assume e w t) ≡ true
+  unfolding is_of_zone
+  missing_says e w =
+      let last = cond (owns_type L a assume w cname) (WildcardAlias (length e)) (WildcardNoData (length e)) in
+      choose (not (name_exists L a w)) (NameError (length e)) (cond (owns_type L a assume w t || is_zone_cut L a w) (Wildcard (length e)) last) refl
+      (choose (owns_type L a assume w t || is_zone_cut L a w) (Wildcard (length e)) last refl
+      (choose (owns_type L a assume w cname) (WildcardAlias (length e)) (WildcardNoData (length e)) refl refl))
+
+  inside_says : (o : Option Name) → is_of_zone (inside_answer L a assume x t o) ≡ true
+  unfolding is_of_zone
+  inside_says None = choose (name_exists L a x) (existing_answer L a assume x t)
+      (missing_answer L a assume (encloser L a x) (wildcard_below (encloser L a x)) t) existing_says
+      (missing_says (encloser L a x) (wildcard_below (encloser L a x)))
+  inside_says (Some o) = choose (is_zone_cut L a o) (Referral (length o)) (Redirected (length o)) refl refl
+
+  zone_says : is_of_zone (zone_answer L a assume x t) ≡ true
+  unfolding is_of_zone
+  zone_says =
+      let inside = inside_answer L a assume x t (highest_occluder L a x) in
+      choose (not (is_at_or_below x a)) OutsideZone (cond (is_at_parent a x t) AtParent inside) refl
+      (choose (is_at_parent a x t) AtParent inside refl (inside_says (highest_occluder L a x)))
+
+  pub zone_proves : zone_answer L a assume x t ≢ NotProven
+  unfolding is_of_zone
+  zone_proves e = true≢false (sym zone_says ∙ ap is_of_zone e)
+
+  pub zone_knows : (n : ℕ) → zone_answer L a assume x t ≢ NoCloserName n
+  unfolding is_of_zone
+  zone_knows n e = true≢false (sym zone_says ∙ ap is_of_zone e)
+
+-- ---- chains that leave out the names below a DNAME
+
+filter_same : {X : Type 0} (p q : X → Bool) (xs : List X) → ((x : X) → In x xs → p x ≡ q x) → filter p xs ≡ filter q xs
+filter_same p q [] h = refl
+filter_same p q (x ∷ xs) h = λ i. cond (h x (inl refl) i) (x ∷ filter_same p q xs (λ y j. h y (inr j)) i) (filter_same p q xs (λ y j. h y (inr j)) i)
+
+in_distinct : (xs : List Name) (n : Name) → In n (distinct xs) → In n xs
+in_distinct [] n i = i
+in_distinct (x ∷ xs) n (inl e) = inl e
+in_distinct (x ∷ xs) n (inr i) = inr (in_distinct xs n (in_filter (λ y. not (same_name x y)) (distinct xs) n i).0)
+
+pub left_out_by_choice : (L : List ZoneRecord) (a : Name) (config : GenerateNsecConfig) → config.occlude_below_dname ≡ true → LeavesOutBelowDname L a config
+left_out_by_choice L a config e = ap (λ b. unoccluded_owners b L a) e
+
+module _ (L : List ZoneRecord) (a : Name) (none : All (λ r. is_occluded true L a r.owner ≡ is_occluded false L a r.owner) L) where
+  same_owners : unoccluded_owners false L a ≡ unoccluded_owners true L a
+  same_owners =
+      filter_same (is_unoccluded false L a) (is_unoccluded true L a) (distinct (map (λ r. r.owner) L)) (λ n i.
+      let r = from_map (λ r. r.owner) L n (in_distinct (map (λ r. r.owner) L) n i) in
+      let same = all_in (λ r. is_occluded true L a r.owner ≡ is_occluded false L a r.owner) L r.0
+      (recursion_from_All (λ r. is_occluded true L a r.owner ≡ is_occluded false L a r.owner) L none) r.1 in
+      let at : is_occluded true L a n ≡ is_occluded false L a n = sym (ap (is_occluded true L a) r.2) ∙ same ∙ ap (is_occluded false L a) r.2 in
+      λ j. is_at_or_below n a && not (sym at j))
+
+  pub left_out_by_none : (config : GenerateNsecConfig) → LeavesOutBelowDname L a config
+  left_out_by_none config = by config.occlude_below_dname
+    where
+      by : (b : Bool) → unoccluded_owners b L a ≡ unoccluded_owners true L a
+      by true = refl
+      by false = same_owners

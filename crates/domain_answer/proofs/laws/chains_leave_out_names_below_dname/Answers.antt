@@ -1,0 +1,8 @@
+use Rattle.domain_answer.proofs.WholeLemmas.{left_out_by_choice, left_out_by_none}
+use Rattle.domain_answer.proofs.laws.chains_leave_out_names_below_dname.Goals as goal
+
+pub returns-clause-chosen : goal.returns-clause-chosen
+returns-clause-chosen c = left_out_by_choice
+
+pub returns-clause-none : goal.returns-clause-none
+returns-clause-none c = left_out_by_none

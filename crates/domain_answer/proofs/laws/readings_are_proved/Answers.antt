@@ -1,0 +1,16 @@
+use Rattle.domain_answer.proofs.AnswerLemmas.{reading_proved}
+use Rattle.domain_answer.proofs.ProofLemmas.{reading_counts, reading_rests}
+use Rattle.domain_answer.proofs.laws.readings_are_proved.Goals as goal
+
+pub returns-clause-zone : goal.returns-clause-zone
+returns-clause-zone c =
+    let laws = c.chains_mean_the_zone.ensures in
+    reading_proved
+    (record { cycle = laws.cycle; denial = laws.denial; nonterminals = laws.nonterminals; enclosers = laws.enclosers; occluded = laws.occluded })
+    c.types_ignore_case.ensures c.built_bitmaps_give_their_types.ensures.contains
+
+pub returns-clause-proof : goal.returns-clause-proof
+returns-clause-proof c = λ listed a x t. reading_rests a listed x t
+
+pub returns-clause-within : goal.returns-clause-within
+returns-clause-within c = λ listed a x t. reading_counts a listed x t

@@ -1,0 +1,4 @@
+pub mod ZoneAnswer
+pub mod Proved
+pub mod Reading
+pub mod Found

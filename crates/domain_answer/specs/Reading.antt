@@ -1,0 +1,87 @@
+-- What NSEC records answer by themselves (RFC 4035, section 5.4; RFC 6840, sections 4.1 and 4.3).
+use Rattle.std.specs.Prelude.{ℕ, Bool, not, ◌&&◌, ◌||◌, ◌==◌, List, Option, Some, None, length, if◌then◌else◌}
+use Rattle.std.specs.List.{find}
+use Rattle.domain_bitmap.specs.Blocks.{contains_type}
+use Rattle.domain_base.specs.Name.{is_at_or_below, is_strictly_below}
+use Rattle.domain_base.specs.Types.{cname, dname, ds}
+use Rattle.domain_base.specs.Words.{Name}
+use Rattle.domain_zone.specs.Enclosers.{longer, shared}
+use Rattle.domain_nsec.specs.Chain.{Link}
+use Rattle.domain_checker.specs.Reading.{is_at_cut, is_cover, is_match}
+use Rattle.domain_answer.specs.ZoneAnswer.{is_at_parent, wildcard_below}
+use Rattle.domain_answer.specs.Proved.{last_labels}
+use Rattle.domain_answer.specs.declared.answer.Answer.{Answer}
+use Rattle.domain_answer.specs.declared.answer.Answer.TheVariants.{OutsideZone, AtParent, Referral, Redirected, Has, NoDs, Alias, NoData}
+use Rattle.domain_answer.specs.declared.answer.Answer.TheVariants.{Wildcard, WildcardAlias, WildcardNoData, NameError, NoCloserName, NotProven}
+
+-- the record's owner is a zone cut or owns a DNAME record
+abbrev pub tells_occluder : Name → Link → Bool
+tells_occluder a k = is_at_cut a k || contains_type k.bits dname
+
+-- and x is at or below that owner: the record denies nothing there (RFC 6840, section 4.1)
+abbrev pub tells_occluded : Name → Link → Name → Bool
+tells_occluded a k x = is_at_or_below x k.owner && tells_occluder a k
+
+-- what such a record says of the names strictly below its owner
+abbrev pub owner_answer : Name → Link → Answer
+owner_answer a k =
+    if is_at_cut a k then Referral (length k.owner) else Redirected (length k.owner)
+
+-- what a record says of its owner
+abbrev pub match_answer : Name → Link → ℕ → Answer
+match_answer a k t =
+    if is_at_cut a k && not (t == ds) then Referral (length k.owner) else
+    (if contains_type k.bits t then Has else
+    (if is_at_cut a k then NoDs else
+    (if contains_type k.bits cname then Alias else NoData)))
+
+-- what the record of a wildcard says of a name whose closest encloser, right above the wildcard,
+-- has n labels
+abbrev pub wildcard_match_answer : Name → ℕ → Link → ℕ → Answer
+wildcard_match_answer a n k t =
+    if contains_type k.bits t || is_at_cut a k then Wildcard n else
+    (if contains_type k.bits cname then WildcardAlias n else WildcardNoData n)
+
+-- what a record that covers the wildcard w says of such a name
+abbrev pub wildcard_cover_answer : Name → ℕ → Link → Name → Answer
+wildcard_cover_answer a n k w =
+    if tells_occluded a k w then NoCloserName n else
+    (if is_strictly_below k.next w then WildcardNoData n else NameError n)
+
+-- a match counts before a cover
+abbrev pub wildcard_both : Name → ℕ → Name → ℕ → Option Link → Option Link → Answer
+wildcard_both a n w t (Some k) covering = wildcard_match_answer a n k t
+wildcard_both a n w t None (Some k) = wildcard_cover_answer a n k w
+wildcard_both a n w t None None = NoCloserName n
+
+abbrev pub wildcard_answer : Name → List Link → ℕ → Name → ℕ → Answer
+wildcard_answer a listed n w t =
+    wildcard_both a n w t (find (is_match a w) listed) (find (is_cover a w) listed)
+
+-- what the list says of a name x that does not exist, whose closest encloser has n labels
+abbrev pub absent_answer : Name → List Link → ℕ → Name → ℕ → Answer
+absent_answer a listed n x t = wildcard_answer a listed n (wildcard_below (last_labels n x)) t
+
+-- what it says of a name that a record covers: the closest encloser is the longer of the names that
+-- it shares with the owner and with the next name
+abbrev pub cover_answer : Name → List Link → Link → Name → ℕ → Answer
+cover_answer a listed k x t =
+    if tells_occluded a k x then owner_answer a k else
+    (if is_strictly_below k.next x then NoData else
+    absent_answer a listed (length (longer (shared x k.owner) (shared x k.next))) x t)
+
+abbrev pub listed_both : Name → List Link → Name → ℕ → Option Link → Option Link → Answer
+listed_both a listed x t (Some k) covering = match_answer a k t
+listed_both a listed x t None (Some k) = cover_answer a listed k x t
+listed_both a listed x t None None = NotProven
+
+-- what it says of a name at or below the apex: of matches and of covers the first counts
+abbrev pub listed_answer : Name → List Link → Name → ℕ → Answer
+listed_answer a listed x t =
+    listed_both a listed x t (find (is_match a x) listed) (find (is_cover a x) listed)
+
+-- what it says of any name
+abbrev pub reading : Name → List Link → Name → ℕ → Answer
+reading a listed x t =
+    if not (is_at_or_below x a) then OutsideZone else
+    (if is_at_parent a x t then AtParent else listed_answer a listed x t)

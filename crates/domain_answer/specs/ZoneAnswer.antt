@@ -1,0 +1,82 @@
+-- What a zone says of a name and a type (RFC 1034, section 4.3.2; RFC 4592, section 3.3; RFC 6672,
+-- section 3.2), over its records L alone; a is the apex. A name of the zone is one that is not
+-- occluded, where owners of DNAME records occlude too: nothing below them is a name of the zone
+-- (RFC 6672, section 2.4).
+use Rattle.std.specs.Prelude.{ℕ, Bool, true, not, ◌&&◌, ◌||◌, ◌==◌, List, [], ◌∷◌, Option, Some, None, length, if◌then◌else◌}
+use Rattle.std.specs.Option.{option_or}
+use Rattle.domain_base.specs.Name.{is_at_or_below, same_name}
+use Rattle.domain_base.specs.Types.{cname, ds}
+use Rattle.domain_base.specs.Words.{Label, Name}
+use Rattle.domain_zone.specs.Enclosers.{exists_over}
+use Rattle.domain_zone.specs.Zone.{ZoneRecord, is_zone_cut, occludes, owns, unoccluded_owners}
+use Rattle.domain_nsec.specs.Chain.{nsec_lists}
+use Rattle.domain_checker.specs.Verdict.{closest_encloser}
+use Rattle.domain_answer.specs.declared.answer.Answer.{Answer}
+use Rattle.domain_answer.specs.declared.answer.Answer.TheVariants.{OutsideZone, AtParent, Referral, Redirected, Has, NoDs, Alias, NoData}
+use Rattle.domain_answer.specs.declared.answer.Answer.TheVariants.{Wildcard, WildcardAlias, WildcardNoData, NameError}
+
+-- x is an owner that is not occluded, or an ancestor of one
+abbrev pub name_exists : List ZoneRecord → Name → Name → Bool
+name_exists L a x = exists_over (unoccluded_owners true L a) a x
+
+-- x owns records, and type t is one that its NSEC record lists
+abbrev pub owns_type : List ZoneRecord → Name → Bool → Name → ℕ → Bool
+owns_type L a assume x t = owns L x && nsec_lists L a assume x t
+
+-- the longest name that exists and that x is at or below
+abbrev pub encloser : List ZoneRecord → Name → Name → Name
+encloser L a x = closest_encloser (unoccluded_owners true L a) a x
+
+-- of the names strictly above x the highest one that occludes
+abbrev pub highest_occluder : List ZoneRecord → Name → Name → Option Name
+highest_occluder L a [] = None
+highest_occluder L a (l ∷ x) =
+    option_or (highest_occluder L a x) (if occludes true L a x then Some x else None)
+
+abbrev pub asterisk : Label
+asterisk = 42 ∷ []
+
+-- the wildcard right below a name (RFC 4592, section 2.1.1)
+abbrev pub wildcard_below : Name → Name
+wildcard_below x = asterisk ∷ x
+
+-- of what is strictly below the highest occluder o
+abbrev pub occluded_answer : List ZoneRecord → Name → Name → Answer
+occluded_answer L a o =
+    if is_zone_cut L a o then Referral (length o) else Redirected (length o)
+
+-- of a name that exists
+abbrev pub existing_answer : List ZoneRecord → Name → Bool → Name → ℕ → Answer
+existing_answer L a assume x t =
+    if is_zone_cut L a x && not (t == ds) then Referral (length x) else
+    (if owns_type L a assume x t then Has else
+    (if is_zone_cut L a x then NoDs else
+    (if owns_type L a assume x cname then Alias else NoData)))
+
+-- of a name that does not exist, by its closest encloser e and the wildcard w below that
+abbrev pub missing_answer : List ZoneRecord → Name → Bool → Name → Name → ℕ → Answer
+missing_answer L a assume e w t =
+    if not (name_exists L a w) then NameError (length e) else
+    (if owns_type L a assume w t || is_zone_cut L a w then Wildcard (length e) else
+    (if owns_type L a assume w cname then WildcardAlias (length e) else WildcardNoData (length e)))
+
+-- of a name that is not occluded
+abbrev pub unoccluded_answer : List ZoneRecord → Name → Bool → Name → ℕ → Answer
+unoccluded_answer L a assume x t =
+    if name_exists L a x then existing_answer L a assume x t
+    else missing_answer L a assume (encloser L a x) (wildcard_below (encloser L a x)) t
+
+abbrev pub inside_answer : List ZoneRecord → Name → Bool → Name → ℕ → Option Name → Answer
+inside_answer L a assume x t None = unoccluded_answer L a assume x t
+inside_answer L a assume x t (Some o) = occluded_answer L a o
+
+-- DS records of the apex are the parent's
+abbrev pub is_at_parent : Name → Name → ℕ → Bool
+is_at_parent a x t = (t == ds) && same_name x a
+
+-- the first that holds
+abbrev pub zone_answer : List ZoneRecord → Name → Bool → Name → ℕ → Answer
+zone_answer L a assume x t =
+    if not (is_at_or_below x a) then OutsideZone else
+    (if is_at_parent a x t then AtParent else
+    inside_answer L a assume x t (highest_occluder L a x))

@@ -1,0 +1,22 @@
+//! What a few records of a denial chain answer to a question about a name and a type, as a whole:
+//! that the name does not exist, and no wildcard either; that it exists without data of the type;
+//! that it is delegated, redirected or an alias (RFC 4035, section 5.4; RFC 4592; RFC 6672; RFC
+//! 6840, section 4).
+//!
+//! `judge_nsec` is handed records of an NSEC chain, any of them, in any order, and no zone. Its
+//! answer is what the zone itself says, or that these records do not prove it. What a zone says
+//! stands in `specs/ZoneAnswer`, over its records alone; what records of its chain prove of that in
+//! `specs/Proved`; what they say by themselves in `specs/Reading`.
+#![tactic(auto)]
+
+mod answer;
+mod found;
+pub mod laws;
+mod listed;
+mod nsec;
+#[cfg(test)]
+mod tests;
+mod wildcard;
+
+pub use answer::Answer;
+pub use nsec::judge_nsec;

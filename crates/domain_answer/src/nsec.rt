@@ -1,0 +1,232 @@
+//! What records of an NSEC chain answer.
+ghost use Rattle.std.specs.Prelude.{◌≡◌, ◌<◌, true, length};
+ghost use Rattle.domain_base.specs.Order.{before};
+ghost use Rattle.domain_zone.specs.Covering.{covers};
+ghost use Rattle.domain_nsec.specs.ChainView.{as_link, links_of};
+ghost use Rattle.domain_answer.specs.Proved.{CountsWithin, IsAnswered, RestsOn};
+ghost use Rattle.domain_answer.specs.Reading.{absent_answer, cover_answer, listed_answer, match_answer, owner_answer, reading};
+ghost use Rattle.domain_answer.specs.Reading.{wildcard_answer, wildcard_cover_answer, wildcard_match_answer};
+
+use crate::found::{Found, find};
+use crate::listed::{NsecRr, is_at_cut, is_strictly_below, longer_shared, tells_occluded};
+use crate::wildcard::wildcard_below;
+use crate::{Answer, laws};
+use domain_base::{ParsedName, Rtype, ToName};
+use domain_chain_rdata::Nsec;
+use domain_octets::Octets;
+use domain_plain::Record;
+use domain_zone::MAX_NAME;
+
+/// What a record whose owner is a zone cut or owns a DNAME record says of the names strictly below
+/// the owner.
+fn owner_answer<A: ToName, O: Octets, N: ToName>(apex: &A, listed: &NsecRr<O, N>) -> Answer
+    ensures { result ≡ owner_answer (A.labels apex.now) (as_link N.labels listed.now) }
+{
+    let count = listed.owner().count_labels();
+    if is_at_cut(apex, listed) {
+        return Answer::Referral(count);
+    }
+    Answer::Redirected(count)
+}
+
+/// What a record says of its owner.
+fn match_answer<A: ToName, O: Octets, N: ToName>(
+    apex: &A,
+    listed: &NsecRr<O, N>,
+    rtype: Rtype,
+) -> Answer
+    ensures { result ≡ match_answer (A.labels apex.now) (as_link N.labels listed.now) rtype }
+{
+    let types = listed.data().types();
+    let at_cut = is_at_cut(apex, listed);
+    if at_cut && rtype != Rtype::DS {
+        return Answer::Referral(listed.owner().count_labels());
+    }
+    if types.contains(rtype) {
+        return Answer::Has;
+    }
+    if at_cut {
+        return Answer::NoDs;
+    }
+    if types.contains(Rtype::CNAME) {
+        return Answer::Alias;
+    }
+    Answer::NoData
+}
+
+/// What the record of a wildcard says of a name whose closest encloser, right above the wildcard,
+/// has so many labels.
+fn wildcard_match_answer<A: ToName, O: Octets, N: ToName>(
+    apex: &A,
+    count: usize,
+    listed: &NsecRr<O, N>,
+    rtype: Rtype,
+) -> Answer
+    ensures { result ≡ wildcard_match_answer (A.labels apex.now) count
+        (as_link N.labels listed.now) rtype }
+{
+    let types = listed.data().types();
+    if types.contains(rtype) || is_at_cut(apex, listed) {
+        return Answer::Wildcard(count);
+    }
+    if types.contains(Rtype::CNAME) {
+        return Answer::WildcardAlias(count);
+    }
+    Answer::WildcardNoData(count)
+}
+
+/// What a record that covers that wildcard says of such a name.
+fn wildcard_cover_answer<A: ToName, O: Octets, N: ToName>(
+    apex: &A,
+    count: usize,
+    listed: &NsecRr<O, N>,
+    wildcard: &ParsedName<'_>,
+) -> Answer
+    ensures { result ≡ wildcard_cover_answer (A.labels apex.now) count
+        (as_link N.labels listed.now) wildcard.now }
+{
+    if tells_occluded(apex, listed, wildcard) {
+        return Answer::NoCloserName(count);
+    }
+    if is_strictly_below(listed.data().next_name(), wildcard) {
+        return Answer::WildcardNoData(count);
+    }
+    Answer::NameError(count)
+}
+
+/// What the records say of such a name.
+fn wildcard_answer<A: ToName, O: Octets, N: ToName>(
+    apex: &A,
+    chain: &[NsecRr<O, N>],
+    count: usize,
+    wildcard: &ParsedName<'_>,
+    rtype: Rtype,
+) -> Answer
+    ensures { result ≡ wildcard_answer (A.labels apex.now) (links_of N.labels chain.now) count
+        wildcard.now rtype }
+{
+    match find(apex, chain, wildcard) {
+        Found::Match(listed) => wildcard_match_answer(apex, count, listed, rtype),
+        Found::Cover(listed) => wildcard_cover_answer(apex, count, listed, wildcard),
+        Found::Neither => Answer::NoCloserName(count),
+    }
+}
+
+/// What the records say of a name that does not exist, whose closest encloser has so many labels.
+fn absent_answer<A: ToName, O: Octets, N: ToName, M: ToName>(
+    apex: &A,
+    chain: &[NsecRr<O, N>],
+    count: usize,
+    name: &M,
+    rtype: Rtype,
+) -> Answer
+    requires { count < length (M.labels name.now) }
+    ensures { result ≡ absent_answer (A.labels apex.now) (links_of N.labels chain.now) count
+        (M.labels name.now) rtype }
+{
+    let mut buffer = [0; MAX_NAME];
+    let wildcard = wildcard_below(&mut buffer, name, count);
+    wildcard_answer(apex, chain, count, &wildcard, rtype)
+}
+
+/// What the records say of a name that this one of them covers.
+#[tactic(auto, using(crate::proofs::CountLemmas::encloser_less))]
+fn cover_answer<A: ToName, O: Octets, N: ToName, M: ToName>(
+    apex: &A,
+    chain: &[NsecRr<O, N>],
+    listed: &NsecRr<O, N>,
+    name: &M,
+    rtype: Rtype,
+) -> Answer
+    requires { covers before (N.labels listed.now.owner) (N.labels listed.now.«data».next_name)
+        (M.labels name.now) ≡ true }
+    ensures { result ≡ cover_answer (A.labels apex.now) (links_of N.labels chain.now)
+        (as_link N.labels listed.now) (M.labels name.now) rtype }
+{
+    let next = listed.data().next_name();
+    if tells_occluded(apex, listed, name) {
+        return owner_answer(apex, listed);
+    }
+    if is_strictly_below(next, name) {
+        return Answer::NoData;
+    }
+    let count = longer_shared(name, listed.owner(), next);
+    absent_answer(apex, chain, count, name, rtype)
+}
+
+/// What the records say of a name at or below the apex.
+fn listed_answer<A: ToName, O: Octets, N: ToName, M: ToName>(
+    apex: &A,
+    chain: &[NsecRr<O, N>],
+    name: &M,
+    rtype: Rtype,
+) -> Answer
+    ensures { result ≡ listed_answer (A.labels apex.now) (links_of N.labels chain.now)
+        (M.labels name.now) rtype }
+{
+    match find(apex, chain, name) {
+        Found::Match(listed) => match_answer(apex, listed, rtype),
+        Found::Cover(listed) => cover_answer(apex, chain, listed, name, rtype),
+        Found::Neither => Answer::NotProven,
+    }
+}
+
+/// What the records say of a name.
+fn read<A: ToName, O: Octets, N: ToName, M: ToName>(
+    apex: &A,
+    chain: &[NsecRr<O, N>],
+    name: &M,
+    rtype: Rtype,
+) -> Answer
+    ensures { result ≡ reading (A.labels apex.now) (links_of N.labels chain.now)
+        (M.labels name.now) rtype }
+{
+    if !name.ends_with(apex) {
+        return Answer::OutsideZone;
+    }
+    if rtype == Rtype::DS && name.name_eq(apex) {
+        return Answer::AtParent;
+    }
+    listed_answer(apex, chain, name, rtype)
+}
+
+/// What records of an NSEC chain answer to a question about a name and a type (RFC 4035, section
+/// 5.4; RFC 6840, sections 4.1 and 4.3). Takes no memory, and goes over the records twice at most.
+///
+/// The records may be any of the zone's chain, in any order, with repeats. Those whose owner or
+/// next name is not at or below the apex are passed over. Where several match a name, the first
+/// counts, and where none does, the first that covers it. Where a record proves that the name does
+/// not exist, the wildcard below its closest encloser is looked for in the same way; with no record
+/// of it the answer is `NoCloserName`. Where none matches or covers the name, it is `NotProven`.
+///
+/// The chain is one that leaves out the names below an owner of a DNAME record, or there are none:
+/// such names are no names of the zone (RFC 6672, section 2.4). The records' signatures are not
+/// looked at.
+pub fn judge_nsec<A: ToName, O: Octets, N: ToName, M: ToName>(
+    apex: &A,
+    chain: &[Record<N, Nsec<O, N>>],
+    name: &M,
+    rtype: Rtype,
+) -> Answer
+    // For records of the chain of any zone, the answer of that zone, as far as they prove it.
+    ensures zone { IsAnswered (links_of N.labels chain.now) (A.labels apex.now) (M.labels name.now)
+        rtype result }
+
+    // For any list at all, the records that the answer rests on are there.
+    ensures proof { RestsOn (links_of N.labels chain.now) (A.labels apex.now) (M.labels name.now)
+        result }
+
+    // For any list at all, the answer is what its first match says, or else its first cover, of the
+    // name and, where that does not exist, of the wildcard.
+    ensures exact { result ≡ reading (A.labels apex.now) (links_of N.labels chain.now)
+        (M.labels name.now) rtype }
+
+    // For any list at all, the labels that the answer counts are labels of the name, and a closest
+    // encloser has fewer.
+    ensures within { CountsWithin (length (M.labels name.now)) result }
+{
+    // By this law what the records say is what they prove, of a type of 16 bits.
+    laws::readings_are_proved();
+    let _number = rtype.to_int();
+    read(apex, chain, name, rtype)
+}

@@ -1,0 +1,112 @@
+-- What the closest encloser tells of a name is what the way from the name to the apex gives.
+use Rattle.std.proofs.Common.{◌≡◌, ℕ, Bool, true, false, cond, not, ◌&&◌, List, length, refl, sym, ap, ◌∙◌, inl, inr, nat_eq, Option, Some, None, arith}
+use Rattle.std.proofs.lemmas.Bool.{cases_Bool, eq-eqb, ne_eqb, false≢true}
+use Rattle.std.specs.List.{Contains}
+use Rattle.domain_octets.specs.Words.{Octets}
+use Rattle.domain_base.specs.Name.{is_at_or_below, same_name}
+use Rattle.domain_base.specs.Types.{ds, ns}
+use Rattle.domain_base.specs.Words.{Name}
+use Rattle.domain_bitmap.specs.Blocks.{contains_type, types_of}
+use Rattle.domain_zone.specs.Zone.{ZoneRecord, has_type, records_of}
+use Rattle.domain_zone.proofs.NameLemmas.{below_trans}
+use Rattle.domain_nsec3.specs.Chain.{HashedLink}
+use Rattle.domain_nsec3.specs.Config.{ChainConfig, Hash, Parameters}
+use Rattle.domain_nsec3.specs.Meaning.{IsAlone}
+use Rattle.domain_nsec3.specs.Owners.{is_chain_name, nsec3_lists}
+use Rattle.domain_checker.specs.HashedList.{is_hash_cover, is_hash_match}
+use Rattle.domain_checker.specs.HashedEncloser.{Encloser, IsDenial, IsEncloser, IsFoundEncloser, IsOfName}
+use Rattle.domain_checker.specs.HashedEncloser.{encloser_is_cut, encloser_verdict, found_verdict, lower_verdict, next_cover, own_verdict}
+use Rattle.domain_checker.specs.HashedReading.{IsNextHash, IsTold, IsUnmatched, IsWalked, hash_cover_verdict, is_none, tells_cut, told_verdict}
+use Rattle.domain_checker.specs.declared.verdict.Verdict.TheVariants.{BelowDelegation, Has, NoType, EmptyName}
+use Rattle.domain_checker.proofs.EncloserLemmas.{same_length}
+use Rattle.domain_checker.proofs.FindLemmas.{in_at, stands_from}
+use Rattle.domain_checker.proofs.HashedListLemmas.{ChainFacts, covered_never, matched_once, told_at}
+use Rattle.domain_checker.proofs.HashedVerdictLemmas.{ns_listed}
+use Rattle.domain_checker.proofs.HashedWalkLemmas.{same_back, same_count}
+
+-- a test of numbers
+test_is : (m n : ℕ) (b : Bool) → (m ≡ n → b ≡ true) → (b ≡ true → m ≡ n) → nat_eq m n ≡ b
+test_is m n b f g =
+    elim (cases_Bool b) [
+      | inl e ↦ eq-eqb m n (g e) ∙ sym e
+      | inr e ↦ ne_eqb m n (λ q. false≢true (sym e ∙ f q)) ∙ sym e
+    ]
+
+module _ (listed : List HashedLink) (a : Name) (p : Parameters) (hash : Hash) (x : Name) (e : Encloser)
+    (is : IsEncloser listed a p hash x e) where
+  -- whether it is x itself
+  pub itself_counted : nat_eq e.count (length x) ≡ same_name is.name x
+  itself_counted =
+      ap (λ n. nat_eq n (length x)) is.counts
+      ∙ test_is (length is.name) (length x) (same_name is.name x)
+      (λ q. same_back x is.name (same_length x is.name is.first.above (omega arith))) (same_count is.name x)
+
+  -- whether it is a zone cut
+  pub cut_counted : encloser_is_cut a e ≡ tells_cut a is.name e.link
+  cut_counted =
+      ap (λ n. not (nat_eq n (length a)) && contains_type e.link.bits ns) is.counts
+      ∙ ap (λ b. not b && contains_type e.link.bits ns) (test_is (length is.name) (length a) (same_name is.name a)
+      (λ q. same_length is.name a is.first.within (omega arith)) (same_count is.name a))
+
+  -- what is told of x by how many labels there are
+  pub encloser_told : (t : ℕ) → IsTold listed a p hash x t (encloser_verdict a e (length x) t)
+  encloser_told t = record {
+    name = is.name;
+    link = e.link;
+    value = is.value;
+    next = is.next;
+    first = is.first;
+    known = is.known;
+    found = is.found;
+    closes = is.closes;
+    says = by is.next is.closes is.covers;
+  }
+    where
+      by : (next : Option Octets) → IsNextHash hash x is.name next → e.cover ≡ next_cover a p listed next
+          → encloser_verdict a e (length x) t ≡ told_verdict a p listed is.name e.link t next
+      by None s c =
+          (λ i. cond ((itself_counted ∙ s) i) (own_verdict a e t) (lower_verdict a e))
+          ∙ (λ i. cond (contains_type e.link.bits t) Has (cond (cut_counted i && not (nat_eq t ds)) BelowDelegation
+          (cond (is_none (types_of e.link.bits)) EmptyName NoType)))
+      by (Some v) s c =
+          (λ i. cond ((itself_counted ∙ s.0) i) (own_verdict a e t) (lower_verdict a e))
+          ∙ (λ i. cond (cut_counted i) BelowDelegation (hash_cover_verdict (is.counts i) (c i)))
+
+-- what is found gives what the way gives
+pub found_walked : (listed : List HashedLink) (a : Name) (p : Parameters) (hash : Hash) (x : Name) (t : ℕ) (o : Option Encloser)
+    → IsFoundEncloser listed a p hash x o → IsWalked listed a p hash x t (found_verdict a o (length x) t)
+found_walked listed a p hash x t None none = inr (refl, none)
+found_walked listed a p hash x t (Some e) is = inl (encloser_told listed a p hash x e is t)
+
+-- a name that is not at or below the apex has no ancestor there
+pub outside_unmatched : (listed : List HashedLink) (a : Name) (p : Parameters) (hash : Hash) (x : Name)
+    → is_at_or_below x a ≡ false → IsUnmatched listed a p hash x
+outside_unmatched listed a p hash x out = λ y up low. absurd (false≢true (sym out ∙ below_trans x y a up low))
+
+-- ---- one record of a zone's chain
+
+module _ (L : List ZoneRecord) (a : Name) (config : ChainConfig) (links : List HashedLink) (facts : ChainFacts L a config links)
+    (x : Name) (v : Octets) (low : is_at_or_below x a ≡ true) (alone : IsAlone L a config x v) (k : HashedLink)
+    (there : Contains links k) where
+  pub match_is_of_name : is_hash_match a config.parameters v k ≡ true → IsOfName L a config x k
+  match_is_of_name h =
+      let s = stands_from links k there in
+      let m = matched_once L a config links facts x low v alone k (in_at links s.place k s.there) s h in
+      record {
+        exists = facts.exist x low ∙ m.0;
+        types = λ t b. ap (λ o. contains_type o t) m.1 ∙ facts.contains (nsec3_lists L a config x) t b;
+        cut = (λ i. not (same_name x a) && (ap (λ o. contains_type o ns) m.1 ∙ facts.contains (nsec3_lists L a config x) ns (omega arith)
+            ∙ ns_listed L a config x) i) ∙ (λ i. (sym low i && not (same_name x a)) && has_type (records_of L x) ns);
+      }
+
+  pub cover_denies : is_hash_cover a config.parameters v k ≡ true → IsDenial L a config x k
+  cover_denies h =
+      let s = stands_from links k there in
+      let i = in_at links s.place k s.there in
+      record {
+        absent = facts.exist x low ∙ elim (cases_Bool (is_chain_name L a config x)) [
+          | inl e ↦ absurd (covered_never L a config links facts x low v alone e k i s h)
+          | inr e ↦ e
+        ];
+        flags = (told_at L a config links facts k i).1;
+      }
