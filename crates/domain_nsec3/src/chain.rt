@@ -144,7 +144,11 @@ fn chain_of_owners<'a, S: Sorter, H: Nsec3Hasher, O: Octets, N: ToName>(
         ⊎ IsFirstHashingFault L (N.labels apex.now)
         (config_of (H.answer hasher.now) config.now) e)) }
 {
-    let Owners { mut names, types, .. } = owners;
+    let Owners {
+        mut names,
+        types,
+        ..
+    } = owners;
     let above = apex.as_parsed();
     let mut empty = empty_nonterminals(alloc, &above, names.as_slice())?;
     names.append(&mut empty)?;
