@@ -5,19 +5,21 @@ use Rattle.domain_dnssec.specs.declared.chain.ChainError.{ChainError}
 use Rattle.domain_dnssec.specs.declared.chain.ChainError.TheVariants.{MixedClasses, Signing, OutOfMemory}
 use Rattle.domain_octets.specs.Words.{Octets}
 use Rattle.domain_base.specs.Words.{Name}
-use Rattle.domain_nsec3.specs.View.{Answer, config_of, hash_by, parameters_of}
+use Rattle.domain_nsec3.specs.View.{HasherAnswer, config_of, hash_by, parameters_of}
 use Rattle.domain_nsec3.specs.declared.config.GenerateNsec3Config.{GenerateNsec3Config}
-use Rattle.domain_lent.specs.Data.{RawRecord}
-use Rattle.denial_program.specs.Answer.{fault_of_chain, usual_nsec3_config, HasNoAnswer, HasNoNsecs, HasNoNsec3s, IsAnswer, IsNsecs, IsNsec3s, IsUnwritten}
+use Rattle.domain_lent.specs.Data.{RawRecord, data_cmp, minimum_of}
+use Rattle.domain_records.specs.Order.{IsOneClass}
+use Rattle.domain_dnssec.proofs.KeptLemmas.{classes_kept}
+use Rattle.denial_program.specs.Answer.{fault_of_chain, usual_nsec3_config, HasNoAnswer, HasNoNsecs, HasNoNsec3s, IsAnswer, IsNsecs, IsNsec3s, IsUnwritten, Sorts}
 use Rattle.denial_program.specs.Command.{Params}
-use Rattle.denial_program.specs.declared.answer.Answer.{Answer as RunAnswer}
+use Rattle.denial_program.specs.declared.answer.Answer.{Answer}
 use Rattle.denial_program.specs.declared.command.Command.{Command}
 use Rattle.denial_program.specs.declared.command.Command.TheVariants.{Nsec, Nsec3, CheckNsec, CheckNsec3}
 use Rattle.denial_program.specs.declared.fault.DenialFault.{DenialFault}
 use Rattle.denial_program.specs.declared.fault.DenialFault.TheVariants.{Write, OutOfMemory as NoMemory}
 
 -- a configuration with these fields is the usual one
-pub usual_is : {S : Type 0} (answers : Answer) (config : GenerateNsec3Config Octets S) (p : Params) → config.params ≡ p
+pub usual_is : {S : Type 0} (answers : HasherAnswer) (config : GenerateNsec3Config Octets S) (p : Params) → config.params ≡ p
     → config.assume_dnskeys_will_be_added ≡ true → config.opt_out_exclude_owner_names_of_unsigned_delegations ≡ true → config.occlude_below_dname ≡ false
     → config_of answers config ≡ usual_nsec3_config answers p
 usual_is answers config p params assumed excluded kept = λ i. record {
@@ -36,20 +38,20 @@ chain_no_write (Signing e) is = cc
 chain_no_write OutOfMemory is = cc
 
 -- nor is any for which there is no answer
-no_answer_no_write : (answers : Answer) (command : Command) (given : List RawRecord) → HasNoAnswer answers command given Write → ⊥
+no_answer_no_write : (answers : HasherAnswer) (command : Command) (given : List RawRecord) → HasNoAnswer answers command given Write → ⊥
 no_answer_no_write answers (Nsec apex) given none = chain_no_write none.error (sym none.is)
 no_answer_no_write answers (Nsec3 apex p) given none = chain_no_write none.error (sym none.is)
 no_answer_no_write answers (CheckNsec q) given none = cc
 no_answer_no_write answers (CheckNsec3 q) given none = none
 
 -- where writing failed there was an answer
-pub answer_unwritten : {X : Type 0} (answers : Answer) (command : Command) (given : List RawRecord) (r : Result X DenialFault)
+pub answer_unwritten : {X : Type 0} (answers : HasherAnswer) (command : Command) (given : List RawRecord) (r : Result X DenialFault)
     → IfErr r (IsUnwritten (IsAnswer answers command given) (HasNoAnswer answers command given)) → IsErrOf r Write
-    → (x : RunAnswer) × IsAnswer answers command given x
+    → (x : Answer) × IsAnswer answers command given x
 answer_unwritten answers command given r h is = there (subst
     (λ q. IfErr q (IsUnwritten (IsAnswer answers command given) (HasNoAnswer answers command given))) is h)
   where
-    there : IsUnwritten (IsAnswer answers command given) (HasNoAnswer answers command given) Write → (x : RunAnswer) × IsAnswer answers command given x
+    there : IsUnwritten (IsAnswer answers command given) (HasNoAnswer answers command given) Write → (x : Answer) × IsAnswer answers command given x
     there (inl h) = h.1
     there (inr none) = absurd (no_answer_no_write answers command given none)
 
@@ -57,19 +59,34 @@ pub on_ok : {X E P Q : Type 0} → (P → Q) → (r : Result X E) → OnOk r P �
 on_ok f (Ok x) h = f h
 on_ok f (Err e) h = tt
 
+-- records are of one class exactly where their sorted set is
+pub given_one_class : (given sorted : List RawRecord) → Sorts given sorted → IsOneClass sorted → IsOneClass given
+given_one_class given sorted sorts one = (classes_kept (λ n. n) (λ d. d.rtype) minimum_of data_cmp given sorted sorts).0 one
+
+pub sorted_one_class : (given sorted : List RawRecord) → Sorts given sorted → IsOneClass given → IsOneClass sorted
+sorted_one_class given sorted sorts one = (classes_kept (λ n. n) (λ d. d.rtype) minimum_of data_cmp given sorted sorts).1 one
+
 -- a chain that could not be written
-pub nsecs_unwritten : {X : Type 0} (given : List RawRecord) (apex : Name) (x : RunAnswer) → IsNsecs given apex x → (r : Result X DenialFault)
+pub nsecs_unwritten : {X : Type 0} (given : List RawRecord) (apex : Name) (x : Answer) → IsNsecs given apex x → (r : Result X DenialFault)
     → IfErr r (λ e. (e ≡ Write) ⊎ (e ≡ NoMemory)) → IfErr r (IsUnwritten (IsNsecs given apex) (HasNoNsecs given apex))
 nsecs_unwritten given apex x is (Ok y) h = tt
 nsecs_unwritten given apex x is (Err e) (inl w) = inl (w, (x, is))
-nsecs_unwritten given apex x is (Err e) (inr m) = inr (record { error = OutOfMemory; is = m; none = tt })
+nsecs_unwritten given apex x is (Err e) (inr m) = inr (record {
+  error = OutOfMemory;
+  is = m;
+  none = given_one_class given is.chain.sorted is.chain.sorts is.chain.chain.one_class;
+})
 
-pub nsec3s_unwritten : {X : Type 0} (answers : Answer) (given : List RawRecord) (apex : Name) (p : Params) (x : RunAnswer)
+pub nsec3s_unwritten : {X : Type 0} (answers : HasherAnswer) (given : List RawRecord) (apex : Name) (p : Params) (x : Answer)
     → IsNsec3s answers given apex p x → (r : Result X DenialFault)
     → IfErr r (λ e. (e ≡ Write) ⊎ (e ≡ NoMemory)) → IfErr r (IsUnwritten (IsNsec3s answers given apex p) (HasNoNsec3s answers given apex p))
 nsec3s_unwritten answers given apex p x is (Ok y) h = tt
 nsec3s_unwritten answers given apex p x is (Err e) (inl w) = inl (w, (x, is))
-nsec3s_unwritten answers given apex p x is (Err e) (inr m) = inr (record { error = OutOfMemory; is = m; none = tt })
+nsec3s_unwritten answers given apex p x is (Err e) (inr m) = inr (record {
+  error = OutOfMemory;
+  is = m;
+  none = given_one_class given is.chain.sorted is.chain.sorts is.chain.chain.one_class;
+})
 
 -- what holds of an error that is handed on
 pub if_err_of : {X : Type 0} (P : DenialFault → Type 0) (e : DenialFault) (r : Result X DenialFault) → IsErrAnd r (λ f. f ≡ e) → P e → IfErr r P

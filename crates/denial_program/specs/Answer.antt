@@ -6,7 +6,7 @@ use Rattle.domain_base.specs.Words.{Name, Tokens}
 use Rattle.domain_nsec.specs.Chain.{Link, usual_config}
 use Rattle.domain_nsec3.specs.Chain.{ChainRecords}
 use Rattle.domain_nsec3.specs.Config.{ChainConfig}
-use Rattle.domain_nsec3.specs.View.{Answer as HasherAnswer, hash_by, parameters_of}
+use Rattle.domain_nsec3.specs.View.{HasherAnswer, hash_by, parameters_of}
 use Rattle.domain_nsec3.specs.declared.config.Nsec3ParamTtlMode.TheVariants.{Soa}
 use Rattle.domain_lent.specs.Data.{data_cmp, minimum_of, RawRecord}
 use Rattle.domain_dnssec.specs.AnyOrder as any_order

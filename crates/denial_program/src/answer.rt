@@ -3,7 +3,7 @@ ghost use Rattle.std.specs.Prelude.{◌≡◌, ◌⊎◌, List, IfErr, IfOk, OnO
 ghost use Rattle.std.specs.Io.KnownBytes.{Appends};
 ghost use Rattle.domain_base.specs.Words.{Name};
 ghost use Rattle.domain_records.specs.Order.{IsInOrder, IsOneClass};
-ghost use Rattle.domain_nsec3.specs.View.{Answer as HasherAnswer};
+ghost use Rattle.domain_nsec3.specs.View.{HasherAnswer};
 ghost use Rattle.domain_lent.specs.Data.{RawRecord};
 ghost use Rattle.denial_program.specs.Answer.{HasNoAnswer, HasNoNsec3s, HasNoNsecs, IsAnswer, IsNsec3s, IsNsecs, IsUnwritten, IsWritten, Sorts};
 ghost use Rattle.denial_program.specs.Command.{Params};
@@ -43,7 +43,7 @@ pub enum Answer<'s, 'a> {
 ///
 /// # Errors
 ///
-/// `MixedClasses` where the records are not of one class, and `OutOfMemory`.
+/// `MixedClasses` where the records are not of one class, and else `OutOfMemory`.
 fn sort_zone<'a>(records: Vec<LentRecord<'a>>) -> Result<Vec<LentRecord<'a>>, DenialFault>
     ensures sorts { IfOk result
         (λ sorted. Sorts records.entry.items sorted.items) }
@@ -54,15 +54,15 @@ fn sort_zone<'a>(records: Vec<LentRecord<'a>>) -> Result<Vec<LentRecord<'a>>, De
     ensures none_hashed { IfErr result (λ fault. (answers : HasherAnswer) (apex : Name) (p : Params)
         → HasNoNsec3s answers records.entry.items apex p fault) }
 {
+    if !RecordsIter::new_from_owned(records.as_slice()).is_one_class() {
+        return Err(DenialFault::MixedClasses);
+    }
     let sorted: SortedRecords<ParsedName<'a>, LentData<'a>> = match SortedRecords::from_vec(
         records,
     ) {
         Ok(sorted) => sorted,
         Err(_) => return Err(DenialFault::OutOfMemory),
     };
-    if !sorted.owner_rrs().is_one_class() {
-        return Err(DenialFault::MixedClasses);
-    }
     Ok(sorted.into_inner())
 }
 

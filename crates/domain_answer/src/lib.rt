@@ -14,8 +14,6 @@ mod found;
 pub mod laws;
 mod listed;
 mod nsec;
-#[cfg(test)]
-mod tests;
 mod wildcard;
 
 pub use answer::Answer;

@@ -14,6 +14,7 @@ use Rattle.domain_records.specs.declared.error.SigningError.{SigningError}
 use Rattle.domain_records.specs.declared.error.SigningError.TheVariants.{EmptyRecordSlice, MultipleTtlValues, SoaRecordCouldNotBeDetermined}
 use Rattle.domain_records.specs.declared.error.SigningError.TheVariants.{Nsec3HashingError, OutOfMemory as NoMemory}
 use Rattle.domain_zone.specs.View.{zone_of}
+use Rattle.domain_dnssec.proofs.KeptLemmas.{classes_kept}
 use Rattle.domain_dnssec.specs.declared.chain.ChainError.{ChainError}
 use Rattle.domain_dnssec.specs.declared.chain.ChainError.TheVariants.{MixedClasses, Signing, OutOfMemory}
 
@@ -28,10 +29,10 @@ if_err P Q f (Err e) h = f e h
 module _ {N D : Type 0} (labels : N → Name) (rtype_of : D → ℕ) (minimum_of : D → Option ℕ) (data_cmp : D → D → Ordering)
     (given : List (Record N D)) (apex : Name) (config : GenerateNsecConfig) where
   -- what has no sorted set of one class has no chain
-  pub no_set : (e : ChainError) → HasNoSet labels rtype_of data_cmp given e → HasNoChain labels rtype_of minimum_of data_cmp given apex config e
+  pub no_set : (e : ChainError) → HasNoSet given e → HasNoChain labels rtype_of minimum_of data_cmp given apex config e
   no_set MixedClasses h = h
   no_set (Signing e) h = absurd h
-  no_set OutOfMemory h = tt
+  no_set OutOfMemory h = h
 
   -- nor has it where the zone of the sorted set has a fault
   pub no_chain : (sorted : List (Record N D)) → Sorts labels rtype_of data_cmp given sorted → IsOneClass sorted
@@ -43,15 +44,15 @@ module _ {N D : Type 0} (labels : N → Name) (rtype_of : D → ℕ) (minimum_of
   no_chain sorted sorts one SoaRecordCouldNotBeDetermined h =
       record { sorted = sorted; sorts = sorts; fault = record { one_class = one; fault = h; told = λ q. cc } }
   no_chain sorted sorts one (Nsec3HashingError n) h = absurd h
-  no_chain sorted sorts one NoMemory h = tt
+  no_chain sorted sorts one NoMemory h = (classes_kept labels rtype_of minimum_of data_cmp given sorted sorts).0 one
 
 module _ {N D : Type 0} (labels : N → Name) (rtype_of : D → ℕ) (minimum_of : D → Option ℕ) (data_cmp : D → D → Ordering)
     (given : List (Record N D)) (apex : Name) (config : ChainConfig) where
   -- the same of a chain of hashes
-  pub no_hashed_set : (e : ChainError) → HasNoSet labels rtype_of data_cmp given e → HasNoHashedChain labels rtype_of minimum_of data_cmp given apex config e
+  pub no_hashed_set : (e : ChainError) → HasNoSet given e → HasNoHashedChain labels rtype_of minimum_of data_cmp given apex config e
   no_hashed_set MixedClasses h = h
   no_hashed_set (Signing e) h = absurd h
-  no_hashed_set OutOfMemory h = tt
+  no_hashed_set OutOfMemory h = h
 
   pub no_hashed_chain : (sorted : List (Record N D)) → Sorts labels rtype_of data_cmp given sorted → IsOneClass sorted
       → (e : SigningError) → IsFirstHashedFault (zone_of labels rtype_of minimum_of sorted) apex config e
@@ -63,4 +64,4 @@ module _ {N D : Type 0} (labels : N → Name) (rtype_of : D → ℕ) (minimum_of
       record { sorted = sorted; sorts = sorts; fault = record { one_class = one; fault = h; told = λ q. cc } }
   no_hashed_chain sorted sorts one (Nsec3HashingError n) h =
       record { sorted = sorted; sorts = sorts; fault = record { one_class = one; fault = h; told = λ q. cc } }
-  no_hashed_chain sorted sorts one NoMemory h = tt
+  no_hashed_chain sorted sorts one NoMemory h = (classes_kept labels rtype_of minimum_of data_cmp given sorted sorts).0 one

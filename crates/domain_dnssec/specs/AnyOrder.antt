@@ -23,6 +23,17 @@ chain_error_of signing_error.SoaRecordCouldNotBeDetermined =
 chain_error_of (signing_error.Nsec3HashingError e) = Signing (signing_error.Nsec3HashingError e)
 chain_error_of signing_error.OutOfMemory = OutOfMemory
 
+-- the given records are not of one class
+abbrev pub AreMixed : {N D : Type 0} → List (Record N D) → Type 0
+AreMixed given = IsOneClass given → ⊥
+
+-- why the given records have no sorted set of one class; want of memory leaves open which fault of
+-- their zone stands, since that shows only when they are sorted
+abbrev pub HasNoSet : {N D : Type 0} → List (Record N D) → ChainError → Type 0
+HasNoSet given MixedClasses = AreMixed given
+HasNoSet given (Signing e) = ⊥
+HasNoSet given OutOfMemory = IsOneClass given
+
 module _ {N D : Type 0} (labels : N → Name) (rtype_of : D → ℕ) (minimum_of : D → Option ℕ) where
   -- sorted records are of one class, and this is the chain of their zone
   pub record IsSortedChain (sorted : List (Record N D)) (apex : Name)
@@ -42,18 +53,6 @@ module _ {N D : Type 0} (labels : N → Name) (rtype_of : D → ℕ) (data_cmp :
   abbrev pub Sorts : List (Record N D) → List (Record N D) → Type 0
   Sorts = IsUnion true (record_cmp labels rtype_of data_cmp)
 
-  -- the given records are not of one class
-  pub record AreMixed (given : List (Record N D)) : Type 0 where
-    pub sorted : List (Record N D)
-    pub sorts : Sorts given sorted
-    pub mixed : IsOneClass sorted → ⊥
-
-  -- why the given records have no sorted set of one class
-  abbrev pub HasNoSet : List (Record N D) → ChainError → Type 0
-  HasNoSet given MixedClasses = AreMixed given
-  HasNoSet given (Signing e) = ⊥
-  HasNoSet given OutOfMemory = Unit {0}
-
 module _ {N D : Type 0} (labels : N → Name) (rtype_of : D → ℕ) (minimum_of : D → Option ℕ)
     (data_cmp : D → D → Ordering) where
   -- this is the chain of the given records
@@ -72,6 +71,6 @@ module _ {N D : Type 0} (labels : N → Name) (rtype_of : D → ℕ) (minimum_of
 
   -- why the given records have no chain
   abbrev pub HasNoChain : List (Record N D) → Name → GenerateNsecConfig → ChainError → Type 0
-  HasNoChain given apex config MixedClasses = AreMixed labels rtype_of data_cmp given
+  HasNoChain given apex config MixedClasses = AreMixed given
   HasNoChain given apex config (Signing e) = IsFaultOf given apex config e
-  HasNoChain given apex config OutOfMemory = Unit {0}
+  HasNoChain given apex config OutOfMemory = IsOneClass given

@@ -52,6 +52,6 @@ module _ {N D : Type 0} (labels : N → Name) (rtype_of : D → ℕ) (minimum_of
   -- why the given records have no chain
   abbrev pub HasNoHashedChain : List (Record N D) → Name → ChainConfig
       → ChainError → Type 0
-  HasNoHashedChain given apex config MixedClasses = AreMixed labels rtype_of data_cmp given
+  HasNoHashedChain given apex config MixedClasses = AreMixed given
   HasNoHashedChain given apex config (Signing e) = IsHashedFaultOf given apex config e
-  HasNoHashedChain given apex config OutOfMemory = Unit {0}
+  HasNoHashedChain given apex config OutOfMemory = IsOneClass given

@@ -5,19 +5,20 @@ ghost use Rattle.domain_nsec.specs.ChainView.{links_of};
 ghost use Rattle.domain_dnssec.specs.AnyOrder.{HasNoChain, HasNoSet, IsChainOf, Sorts};
 
 use crate::chain::ChainError;
+use crate::laws::sorting_keeps_classes_and_records;
 use domain_base::{CanonicalOrd, MakeName, ToName};
 use domain_nsec::{GenerateNsecConfig, generate_nsecs};
 use domain_octets::{EmptyBuilder, FreezeBuilder, FromBuilder, GrowingBuilder, Truncate};
 use domain_plain::{Record, ZoneData};
 use domain_rdata::Nsec;
-use domain_records::SortedRecords;
+use domain_records::{RecordsIter, SortedRecords};
 use std::alloc::Global;
 
 /// The records of one class, sorted; of equal records the earliest is kept.
 ///
 /// # Errors
 ///
-/// `MixedClasses` where the records are not of one class, and `OutOfMemory`.
+/// `MixedClasses` where the records are not of one class, and else `OutOfMemory`.
 pub(crate) fn sort_one_class<N: ToName, D: ZoneData + CanonicalOrd>(
     records: Vec<Record<N, D>>,
 ) -> Result<SortedRecords<N, D>, ChainError>
@@ -26,12 +27,13 @@ where
     D: Drop,
     ensures sorts { IfOk result (Sorts N.labels D.rtype D.canonical_cmp records.items) }
     ensures one_class { IfOk result (λ sorted. IsOneClass sorted) }
-    ensures err { IfErr result (HasNoSet N.labels D.rtype D.canonical_cmp records.items) }
+    ensures err { IfErr result (HasNoSet records.items) }
 {
-    let sorted: SortedRecords<N, D> = SortedRecords::from_vec(records)?;
-    if !sorted.owner_rrs().is_one_class() {
+    sorting_keeps_classes_and_records::<N, D>();
+    if !RecordsIter::new_from_owned(records.as_slice()).is_one_class() {
         return Err(ChainError::MixedClasses);
     }
+    let sorted: SortedRecords<N, D> = SortedRecords::from_vec(records)?;
     Ok(sorted)
 }
 
@@ -41,7 +43,8 @@ where
 /// # Errors
 ///
 /// The first that stands: `MixedClasses` where the records are not of one class; `Signing` with the
-/// first fault of the zone; and `OutOfMemory`.
+/// first fault of the zone; and `OutOfMemory`, which leaves open whether there is such a fault: that
+/// shows only when the records are sorted.
 pub fn generate_nsecs_of_records<O, N: MakeName, D: ZoneData + CanonicalOrd>(
     alloc: Global,
     apex: &N,

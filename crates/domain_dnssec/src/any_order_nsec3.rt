@@ -19,7 +19,7 @@ use std::alloc::Global;
 /// # Errors
 ///
 /// The first that stands: `MixedClasses` where the records are not of one class; `Signing` with the
-/// first fault of the zone; and `OutOfMemory`.
+/// first fault of the zone; and `OutOfMemory`, which leaves open whether there is such a fault.
 pub fn generate_nsec3s_of_records<
     S: Sorter,
     H: Nsec3Hasher,

@@ -71,8 +71,8 @@ pub fn sorted_owners_never_descend<N: ToName, D: ZoneData + CanonicalOrd>()
 }
 
 /// What a verdict over records of a chain tells of the records that the chain was made of, in
-/// whatever order they were handed in: what is proved of their zone, and of the whole chain what
-/// the zone says.
+/// whatever order they were handed in: what is proved of their zone, and of the whole chain, as it
+/// was made or lent, what the zone says.
 pub fn verdicts_tell_of_records<N: ToName, D: ZoneData + CanonicalOrd>()
     ensures some { (given : List (Record N D)) (apex : Name) (config : GenerateNsecConfig)
         (links listed : List Link) (x : Name) (t : ℕ) (verdict : Verdict)
@@ -82,10 +82,10 @@ pub fn verdicts_tell_of_records<N: ToName, D: ZoneData + CanonicalOrd>()
         → IsProvedOf N.labels D.rtype D.minimum D.canonical_cmp given apex config listed x t
         verdict }
     ensures all { (given : List (Record N D)) (apex : Name) (config : GenerateNsecConfig)
-        (links : List Link) (x : Name) (t : ℕ) (verdict : Verdict)
+        (links listed : List Link) (x : Name) (t : ℕ) (verdict : Verdict)
         → config.occlude_below_dname ≡ false
         → IsChainOf N.labels D.rtype D.minimum D.canonical_cmp given apex config links
-        → IsProved links apex x t verdict
+        → listed ≡ links → IsProved listed apex x t verdict
         → IsSaidOf N.labels D.rtype D.minimum D.canonical_cmp given apex config x t verdict }
 {
     sorted_owners_never_descend::<N, D>();

@@ -10,8 +10,8 @@ use Rattle.domain_nsec3.specs.Config.{ChainConfig, Hash, HashAnswer, Parameters}
 use Rattle.domain_nsec3.specs.declared.config.GenerateNsec3Config.{GenerateNsec3Config}
 
 -- what a hasher answers for octets, an algorithm, iterations and a salt
-abbrev pub Answer : Type 0
-Answer = Octets → ℕ → ℕ → Octets → HashAnswer
+abbrev pub HasherAnswer : Type 0
+HasherAnswer = Octets → ℕ → ℕ → Octets → HashAnswer
 
 abbrev pub parameters_of : {O : Type 0} → Nsec3param O → Parameters
 parameters_of p =
@@ -22,10 +22,10 @@ parameters_in d =
     record { algorithm = d.hash_algorithm; iterations = d.iterations; salt = d.salt }
 
 -- a hasher with these parameters
-abbrev pub hash_by : Answer → Parameters → Hash
+abbrev pub hash_by : HasherAnswer → Parameters → Hash
 hash_by answer p octets = answer octets p.algorithm p.iterations p.salt
 
-abbrev pub config_of : {O S : Type 0} → Answer → GenerateNsec3Config O S → ChainConfig
+abbrev pub config_of : {O S : Type 0} → HasherAnswer → GenerateNsec3Config O S → ChainConfig
 config_of answer config =
     record {
       hash = hash_by answer (parameters_of config.params);

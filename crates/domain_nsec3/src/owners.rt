@@ -10,7 +10,7 @@ ghost use Rattle.domain_nsec3.specs.Owners.{is_listed, original_owners};
 ghost use Rattle.domain_nsec3.specs.Steps.{AreOriginalOwners};
 ghost use Rattle.domain_nsec3.specs.StepView.{as_entries};
 ghost use Rattle.domain_zone.specs.View.{zone_of};
-ghost use Rattle.domain_nsec3.specs.View.{Answer, config_of};
+ghost use Rattle.domain_nsec3.specs.View.{HasherAnswer, config_of};
 
 use crate::GenerateNsec3Config;
 use crate::types::{OwnerKind, push_types};
@@ -99,18 +99,18 @@ pub(crate) fn list_owners<'a, S, O: Octets, N: ToName, D: ZoneData>(
     config: &GenerateNsec3Config<O, S>,
 ) -> Result<Owners<'a>, SigningError>
     requires { IsInOrder N.labels D.rtype records }
-    ensures owners { IfOk result (λ owners. (answer : Answer) → AreOriginalOwners
+    ensures owners { IfOk result (λ owners. (answer : HasherAnswer) → AreOriginalOwners
         (zone_of N.labels D.rtype D.minimum records.entry) (N.labels apex.now)
         (config_of answer config.now) (as_entries owners)) }
     ensures paired { IfOk result (λ owners.
         length owners.names.items ≡ length owners.types) }
-    ensures even { OnOk result ((answer : Answer) → has_unequal_ttls
+    ensures even { OnOk result ((answer : HasherAnswer) → has_unequal_ttls
         (zone_of N.labels D.rtype D.minimum records.entry)
         (original_owners (zone_of N.labels D.rtype D.minimum records.entry) (N.labels apex.now)
         (config_of answer config.now)) ≡ false) }
     ensures fault { IfErr result (λ e.
         soa_of (zone_of N.labels D.rtype D.minimum records.entry) (N.labels apex.now) ≢ None
-        → (answer : Answer) → IsFirstFault (zone_of N.labels D.rtype D.minimum records.entry)
+        → (answer : HasherAnswer) → IsFirstFault (zone_of N.labels D.rtype D.minimum records.entry)
         (N.labels apex.now) (config_of answer config.now) e) }
 {
     let excludes = config.params.opt_out_flag()

@@ -88,6 +88,7 @@ pub fn answer(
         }
         "lent" => chain_lent(alloc, &apex, &zone(alloc, words)?, answers),
         "verdict" => verdicts::by_name(alloc, &apex, words, answers)?,
+        "judge" => verdicts::judged(alloc, &apex, words, answers)?,
         _ => chain(alloc, &apex, &zone(alloc, words)?, &config(form), answers),
     }
     Ok(())

@@ -1,7 +1,9 @@
-//! What records of chains prove of names and types (RFC 4035, section 5.4; RFC 5155, section 8).
+//! What records of chains prove of names and types, and what they answer as a whole (RFC 4035,
+//! section 5.4; RFC 5155, section 8; RFC 4592).
 use crate::lines::input::Tokens;
 use crate::lines::records::records;
 use crate::lines::{Answers, OwnName, input};
+use domain_answer::judge_nsec;
 use domain_base::{Class, Rtype, ScanError, Scanner, Ttl};
 use domain_dnssec::{Nsec3Hasher, Nsec3Records, check_nsec, check_nsec3};
 use domain_plain::Record;
@@ -64,6 +66,22 @@ pub fn by_name(
     for words in asked.split(|word| *word == "/") {
         let (name, rtype) = question(alloc, words)?;
         answers.debug("verdict", &check_nsec(apex, &chain, &name, rtype));
+    }
+    Ok(())
+}
+
+/// Answers what NSEC records answer as a whole, in the same form.
+pub fn judged(
+    alloc: Global,
+    apex: &OwnName,
+    words: &[&str],
+    answers: &mut Answers,
+) -> Result<(), ScanError> {
+    let (listed, asked) = input::halves(words, ":");
+    let chain = nsecs(alloc, listed)?;
+    for words in asked.split(|word| *word == "/") {
+        let (name, rtype) = question(alloc, words)?;
+        answers.debug("answer", &judge_nsec(apex, &chain, &name, rtype));
     }
     Ok(())
 }

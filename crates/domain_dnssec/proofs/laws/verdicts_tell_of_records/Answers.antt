@@ -1,4 +1,5 @@
-use Rattle.std.proofs.Common.{◌∙◌}
+use Rattle.std.proofs.Common.{◌∙◌, subst}
+use Rattle.domain_checker.specs.Verdict.{IsProved}
 use Rattle.domain_zone.specs.View.{zone_of}
 use Rattle.std.proofs.lemmas.List.Elements.{All-contains_itself}
 use Rattle.domain_dnssec.proofs.laws.verdicts_tell_of_records.Goals as goal
@@ -13,11 +14,11 @@ returns-clause-some g c = λ given apex config links listed x t verdict keeps ch
     }
 
 pub returns-clause-all : goal.returns-clause-all
-returns-clause-all g c = λ given apex config links x t verdict keeps chain proved.
+returns-clause-all g c = λ given apex config links listed x t verdict keeps chain same proved.
     let order = c.sorted_owners_never_descend.ensures given chain.sorted chain.sorts chain.chain.one_class in
     record {
       sorted = chain.sorted;
       sorts = chain.sorts;
-      is = proved _ config links keeps order chain.chain.chain (All-contains_itself links)
+      is = subst (λ ls. IsProved ls apex x t verdict) same proved _ config links keeps order chain.chain.chain (All-contains_itself links)
           ∙ c.whole_chains_prove_all.ensures.zone _ apex config links x t keeps order chain.chain.chain;
     }

@@ -10,7 +10,7 @@ use Rattle.domain_zone.proofs.TtlLemmas.{NeverDescend}
 use Rattle.domain_nsec3.specs.Owners.{is_listed}
 use Rattle.domain_nsec3.specs.Steps.{entries_of}
 use Rattle.domain_nsec3.proofs.EntryLemmas.{entries_push, paired_push}
-use Rattle.domain_nsec3.specs.View.{Answer, config_of}
+use Rattle.domain_nsec3.specs.View.{HasherAnswer, config_of}
 use Rattle.domain_nsec3.proofs.StateLemmas.{IsAt, stays, at_start, at_known, at_excluded, at_owner, at_fault, at_end, even_end}
 use Rattle.domain_nsec3.proofs.owners.list_owners.Goals as goal
 
@@ -47,7 +47,7 @@ has_unequal_ttls-requires g c =
     let labels = g.N.ToName.labels in
     let L = zone_of labels g.D.RecordData.rtype g.D.ZoneData.minimum c.args.records in
     let a = labels c.args.apex.now in
-    let answer : Answer = λ octets algorithm iterations salt. Err 0 in
+    let answer : HasherAnswer = λ octets algorithm iterations salt. Err 0 in
     let config = config_of answer c.args.config.now in
     let o : OwnerRecords = as_owner_records labels g.D.RecordData.rtype g.D.ZoneData.minimum c.in-Some.owner in
     let entries = entries_of c.owners.owners.names.items c.owners.owners.types in
