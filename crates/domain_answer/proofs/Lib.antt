@@ -7,3 +7,5 @@ pub mod AnswerLemmas
 pub mod ProofLemmas
 pub mod AlikeLemmas
 pub mod WholeLemmas
+pub mod HashedAnswerLemmas
+pub mod HashedProofLemmas

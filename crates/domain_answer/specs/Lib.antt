@@ -2,3 +2,6 @@ pub mod ZoneAnswer
 pub mod Proved
 pub mod Reading
 pub mod Found
+pub mod HashedZoneAnswer
+pub mod HashedProved
+pub mod HashedReading

@@ -10,6 +10,7 @@ ghost use Rattle.domain_answer.specs.Reading.{reading};
 ghost use Rattle.domain_answer.specs.ZoneAnswer.{zone_answer};
 ghost use Rattle.domain_answer.specs.declared.answer.Answer.TheVariants.{NoCloserName, NotProven};
 
+pub use crate::nsec3_laws::hashed_readings_are_proved;
 use domain_bitmap::laws::built_bitmaps_give_their_types;
 use domain_nsec::laws::{chains_mean_the_zone, types_ignore_case};
 
