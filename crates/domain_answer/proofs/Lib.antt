@@ -7,3 +7,4 @@ pub mod AnswerLemmas
 pub mod ProofLemmas
 pub mod AlikeLemmas
 pub mod WholeLemmas
+pub mod KindLemmas

@@ -2,3 +2,4 @@ pub mod ZoneAnswer
 pub mod Proved
 pub mod Reading
 pub mod Found
+pub mod Kinds
