@@ -51,9 +51,11 @@ IsSo L a assume x t AtParent = is_at_parent a x t ≡ true
 IsSo L a assume x t (Referral n) = IsReferred L a x t n
 IsSo L a assume x t (Redirected n) = IsRedirected L a x n
 IsSo L a assume x t Has =
-    IsHere L a x t × (owns_type L a assume x t ≡ true) × ((is_zone_cut L a x && not (t == ds)) ≡ false)
+    IsHere L a x t × (owns_type L a assume x t ≡ true)
+    × ((is_zone_cut L a x && not (t == ds)) ≡ false)
 IsSo L a assume x t NoDs =
-    IsHere L a x t × (owns_type L a assume x t ≡ false) × (is_zone_cut L a x ≡ true) × ((t == ds) ≡ true)
+    IsHere L a x t × (owns_type L a assume x t ≡ false) × (is_zone_cut L a x ≡ true)
+    × ((t == ds) ≡ true)
 IsSo L a assume x t Alias =
     IsHere L a x t × (owns_type L a assume x t ≡ false) × (is_zone_cut L a x ≡ false)
     × (owns_type L a assume x cname ≡ true)

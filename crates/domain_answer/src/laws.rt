@@ -15,8 +15,8 @@ ghost use Rattle.domain_answer.specs.declared.answer.Answer.TheVariants.{NoClose
 use domain_bitmap::laws::built_bitmaps_give_their_types;
 use domain_nsec::laws::{chains_mean_the_zone, types_ignore_case};
 
-/// Each kind of answer is the zone's exactly where what it says is so: exactly one kind holds of each
-/// name and type.
+/// Each kind of answer is the zone's exactly where what it says is so; of each name and type
+/// exactly one kind holds.
 pub fn one_kind_of_answer_holds()
     ensures so { (L : List ZoneRecord) (a : Name) (assume : Bool) (x : Name) (t : ℕ)
         → IsSo L a assume x t (zone_answer L a assume x t) }
