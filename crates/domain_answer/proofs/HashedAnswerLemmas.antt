@@ -209,24 +209,26 @@ module _ (L : List ZoneRecord) (a : Name) (config : ChainConfig) (links : List H
       as_zone v s n e =
           as_known v s (e ∙ sym zone_is ∙ sym (λ j. cond (n j && not (tells_wildcard L a config listed x)) (NoCloserName (length en)) zone))
 
+      abbrev uncut_gone : Bool
+      uncut_gone = not (is_below_chain_cut L a config x) && not (hashed_exists L a config x)
+
+      abbrev unlisted_there : Bool
+      unlisted_there = not (nsec3_lists L a config (hashed_encloser L a config x) dname)
+
       not_needed_cut : is_below_chain_cut L a config x ≡ true → needs_wildcard L a config x ≡ false
-      not_needed_cut f = λ j. ((not (f j) && not (hashed_exists L a config x)) && not (nsec3_lists L a config en dname)) && not (is_opt_out config.flags)
+      not_needed_cut f = λ j. ((not (f j) && not (hashed_exists L a config x)) && unlisted_there) && not (is_opt_out config.flags)
 
       not_needed_there : hashed_exists L a config x ≡ true → needs_wildcard L a config x ≡ false
       not_needed_there f =
-          and_left ((not (is_below_chain_cut L a config x) && not (hashed_exists L a config x)) && not (nsec3_lists L a config en dname)) (not (is_opt_out config.flags))
-          (and_left (not (is_below_chain_cut L a config x) && not (hashed_exists L a config x)) (not (nsec3_lists L a config en dname))
-          (and_right (not (is_below_chain_cut L a config x)) (not (hashed_exists L a config x)) (ap not f)))
+          and_left (uncut_gone && unlisted_there) (not (is_opt_out config.flags))
+          (and_left uncut_gone unlisted_there (and_right (not (is_below_chain_cut L a config x)) (not (hashed_exists L a config x)) (ap not f)))
 
       not_needed_dname : nsec3_lists L a config (hashed_encloser L a config x) dname ≡ true → needs_wildcard L a config x ≡ false
       not_needed_dname f =
-          and_left ((not (is_below_chain_cut L a config x) && not (hashed_exists L a config x)) && not (nsec3_lists L a config en dname)) (not (is_opt_out config.flags))
-          (and_right (not (is_below_chain_cut L a config x) && not (hashed_exists L a config x)) (not (nsec3_lists L a config en dname)) (ap not f))
+          and_left (uncut_gone && unlisted_there) (not (is_opt_out config.flags)) (and_right uncut_gone unlisted_there (ap not f))
 
       not_needed_out : is_opt_out config.flags ≡ true → needs_wildcard L a config x ≡ false
-      not_needed_out f =
-          and_right ((not (is_below_chain_cut L a config x) && not (hashed_exists L a config x)) && not (nsec3_lists L a config en dname))
-          (not (is_opt_out config.flags)) (ap not f)
+      not_needed_out f = and_right (uncut_gone && unlisted_there) (not (is_opt_out config.flags)) (ap not f)
 
       -- ---- where a record matches x or an ancestor, and k is the first that matches that one
 
@@ -381,7 +383,8 @@ module _ (L : List ZoneRecord) (a : Name) (config : ChainConfig) (links : List H
                   ]
 
               missing : hashed_inside_answer L a config x t ≡ hashed_missing_answer L a config (hashed_encloser L a config x) t
-              missing = λ j. cond (uncut j) (Referral (length en)) (cond (gone j) (hashed_existing_answer L a config x t) (hashed_missing_answer L a config en t))
+              missing = λ j. cond (uncut j) (Referral (length en))
+                  (cond (gone j) (hashed_existing_answer L a config x t) (hashed_missing_answer L a config en t))
 
             -- below an owner of a DNAME record
             at_dname : nsec3_lists L a config is.name dname ≡ true → answer ≡ hashed_proved_answer L a config listed x t
@@ -419,8 +422,9 @@ module _ (L : List ZoneRecord) (a : Name) (config : ChainConfig) (links : List H
 
                 next_low : is_at_or_below (next_closer x is.name) a ≡ true
                 next_low =
+                    let q = next_closer x d in
                     let closer = closer_is x d is.first.above long in
-                    below_trans (next_closer x d) d a (and_parts (is_at_or_below (next_closer x d) d) (not (same_name (next_closer x d) d)) closer.below).0 is.first.within
+                    below_trans q d a (and_parts (is_at_or_below q d) (not (same_name q d)) closer.below).0 is.first.within
 
                 denied : IsDenial L a config (next_closer x is.name) r
                 denied =
@@ -429,12 +433,14 @@ module _ (L : List ZoneRecord) (a : Name) (config : ChainConfig) (links : List H
 
                 same : same_name (hashed_encloser L a config x) is.name ≡ true
                 same = level (λ g.
+                    let q = next_closer x d in
                     let closer = closer_is x d is.first.above long in
                     let far = strictly_longer en d g in
-                    let up = below_longer x en (next_closer x d) closest.above closer.above (omega (arith, closer.long)) in
-                    let o = any_in (λ n. is_at_or_below n en) owners (and_parts (is_at_or_below en a) (list_any (λ n. is_at_or_below n en) owners) closest.found).1 in
-                    false≢true (sym denied.absent ∙ and_from (is_at_or_below (next_closer x d) a) (list_any (λ n. is_at_or_below n (next_closer x d)) owners) next_low
-                    (in_any (λ n. is_at_or_below n (next_closer x d)) owners o.0 o.1 (below_trans o.0 en (next_closer x d) o.2 up))))
+                    let up = below_longer x en q closest.above closer.above (omega (arith, closer.long)) in
+                    let found = and_parts (is_at_or_below en a) (list_any (λ n. is_at_or_below n en) owners) closest.found in
+                    let o = any_in (λ n. is_at_or_below n en) owners found.1 in
+                    false≢true (sym denied.absent ∙ and_from (is_at_or_below q a) (list_any (λ n. is_at_or_below n q) owners) next_low
+                    (in_any (λ n. is_at_or_below n q) owners o.0 o.1 (below_trans o.0 en q o.2 up))))
 
                 tells_it : tells_encloser L a config listed x ≡ true
                 tells_it =
@@ -507,7 +513,8 @@ module _ (L : List ZoneRecord) (a : Name) (config : ChainConfig) (links : List H
                       (find_none (is_hash_match a config.parameters asked_on.value) listed m) in
                       let no_cover = covered_w ∙ any_none (is_hash_cover a config.parameters asked_on.value) listed
                       (find_none (is_hash_cover a config.parameters asked_on.value) listed g) in
-                      as_known (NoCloserName (length en)) tells_it (sym (λ j. cond (needed j && not (no_match j || no_cover j)) (NoCloserName (length en)) zone))
+                      as_known (NoCloserName (length en)) tells_it
+                      (sym (λ j. cond (needed j && not (no_match j || no_cover j)) (NoCloserName (length en)) zone))
                   by_cover (Some k) m g =
                       let i = find_some (is_hash_cover a config.parameters asked_on.value) listed k g in
                       let absent = means.covers w asked_on.value low_w alone_w k (among k i.0) i.1 in

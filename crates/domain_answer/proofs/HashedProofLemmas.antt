@@ -217,8 +217,12 @@ asked_below listed a p hash x t n (Some f) is e =
           }
     ]
   where
+    lower : (o : Option HashedLink) → f.cover ≡ o → lower_answer a f
+        ≡ cond (encloser_is_cut a f) (Referral f.count) (cond (contains_type f.link.bits dname) (Redirected f.count) (next_answer f.count o))
+    lower o g = λ i. cond (encloser_is_cut a f) (Referral f.count)
+        (cond (contains_type f.link.bits dname) (Redirected f.count) (next_answer f.count (g i)))
+
     of_cover : (o : Option HashedLink) → f.cover ≡ o → lower_answer a f ≡ NoCloserName n → n ≡ f.count
-    of_cover None g h = absurd (asks_none (encloser_is_cut a f) (contains_type f.link.bits dname) f.count n
-        (sym (λ i. cond (encloser_is_cut a f) (Referral f.count) (cond (contains_type f.link.bits dname) (Redirected f.count) (next_answer f.count (g i)))) ∙ h))
-    of_cover (Some k) g h = asks_lower (encloser_is_cut a f) (contains_type f.link.bits dname) (is_opt_out k.flags) f.count n
-        (sym (λ i. cond (encloser_is_cut a f) (Referral f.count) (cond (contains_type f.link.bits dname) (Redirected f.count) (next_answer f.count (g i)))) ∙ h)
+    of_cover None g h = absurd (asks_none (encloser_is_cut a f) (contains_type f.link.bits dname) f.count n (sym (lower None g) ∙ h))
+    of_cover (Some k) g h =
+        asks_lower (encloser_is_cut a f) (contains_type f.link.bits dname) (is_opt_out k.flags) f.count n (sym (lower (Some k) g) ∙ h)
