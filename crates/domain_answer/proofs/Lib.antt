@@ -7,3 +7,6 @@ pub mod AnswerLemmas
 pub mod ProofLemmas
 pub mod AlikeLemmas
 pub mod WholeLemmas
+pub mod KindLemmas
+pub mod HashedAnswerLemmas
+pub mod HashedProofLemmas

@@ -15,7 +15,7 @@ use Rattle.domain_answer.proofs.CountLemmas.{child_below, parent_below, strictly
 
 module _ (L : List ZoneRecord) (a : Name) where
   -- a name that owns records of a type has one
-  typed_record : (c : Name) (t : ℕ) → has_type (records_of L c) t ≡ true → (r : ZoneRecord) × In r L × (same_name r.owner c ≡ true)
+  pub typed_record : (c : Name) (t : ℕ) → has_type (records_of L c) t ≡ true → (r : ZoneRecord) × In r L × (same_name r.owner c ≡ true)
   typed_record c t h =
       let r = any_in (λ r. nat_eq r.rtype t) (records_of L c) h in
       let p = in_filter (λ r. same_name r.owner c) L r.0 r.1 in

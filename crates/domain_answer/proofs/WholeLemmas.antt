@@ -18,7 +18,7 @@ use Rattle.domain_checker.proofs.FindLemmas.{In, all_in, from_map, in_filter}
 use Rattle.domain_checker.proofs.ListLemmas.{ChainLaws}
 use Rattle.domain_answer.specs.declared.answer.Answer.{Answer}
 use Rattle.domain_answer.specs.declared.answer.Answer.TheVariants.{OutsideZone, AtParent, Referral, Redirected, Has, NoDs, Alias, NoData}
-use Rattle.domain_answer.specs.declared.answer.Answer.TheVariants.{Wildcard, WildcardAlias, WildcardNoData, NameError, NoCloserName, NotProven}
+use Rattle.domain_answer.specs.declared.answer.Answer.TheVariants.{Wildcard, WildcardAlias, WildcardNoData, NameError, MayBeUnsigned, NoCloserName, TooManyIterations, NotProven}
 use Rattle.domain_answer.specs.Proved.{LeavesOutBelowDname, is_missing, knows_wildcard, proved_answer}
 use Rattle.domain_answer.specs.ZoneAnswer.{asterisk, encloser, existing_answer, highest_occluder, inside_answer, is_at_parent}
 use Rattle.domain_answer.specs.ZoneAnswer.{missing_answer, name_exists, owns_type, wildcard_below, zone_answer}
@@ -78,7 +78,9 @@ is_of_zone (Wildcard n) = true
 is_of_zone (WildcardAlias n) = true
 is_of_zone (WildcardNoData n) = true
 is_of_zone (NameError n) = true
+is_of_zone (MayBeUnsigned n) = false
 is_of_zone (NoCloserName n) = false
+is_of_zone TooManyIterations = false
 is_of_zone NotProven = false
 
 choose : (b : Bool) (v w : Answer) → is_of_zone v ≡ true → is_of_zone w ≡ true → is_of_zone (cond b v w) ≡ true

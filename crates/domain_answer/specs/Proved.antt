@@ -10,7 +10,7 @@ use Rattle.domain_checker.specs.Verdict.{has_match_or_cover, HasProof}
 use Rattle.domain_answer.specs.ZoneAnswer.{encloser, is_at_parent, name_exists, wildcard_below, zone_answer}
 use Rattle.domain_answer.specs.declared.answer.Answer.{Answer}
 use Rattle.domain_answer.specs.declared.answer.Answer.TheVariants.{OutsideZone, AtParent, Referral, Redirected, Has, NoDs, Alias, NoData}
-use Rattle.domain_answer.specs.declared.answer.Answer.TheVariants.{Wildcard, WildcardAlias, WildcardNoData, NameError, NoCloserName, NotProven}
+use Rattle.domain_answer.specs.declared.answer.Answer.TheVariants.{Wildcard, WildcardAlias, WildcardNoData, NameError, MayBeUnsigned, NoCloserName, TooManyIterations, NotProven}
 
 -- the zone's answer follows from the name and the type alone
 abbrev pub needs_no_records : Name → Name → ℕ → Bool
@@ -57,7 +57,8 @@ abbrev pub HasBothProofs : List Link → Name → Name → ℕ → Type 0
 HasBothProofs listed a x n =
     HasProof listed a x × HasProof listed a (wildcard_below (last_labels n x))
 
--- the records that an answer rests on are there, whatever else the list has
+-- the records that an answer rests on are there, whatever else the list has; NSEC records leave
+-- nothing out, and hash no name
 abbrev pub RestsOn : List Link → Name → Name → Answer → Type 0
 RestsOn listed a x OutsideZone = Unit {0}
 RestsOn listed a x AtParent = Unit {0}
@@ -71,7 +72,9 @@ RestsOn listed a x (Wildcard n) = HasBothProofs listed a x n
 RestsOn listed a x (WildcardAlias n) = HasBothProofs listed a x n
 RestsOn listed a x (WildcardNoData n) = HasBothProofs listed a x n
 RestsOn listed a x (NameError n) = HasBothProofs listed a x n
+RestsOn listed a x (MayBeUnsigned n) = ⊥
 RestsOn listed a x (NoCloserName n) = HasProof listed a x
+RestsOn listed a x TooManyIterations = ⊥
 RestsOn listed a x NotProven = Unit {0}
 
 -- what an answer counts are labels of a name that has n; a closest encloser has fewer
@@ -88,5 +91,7 @@ CountsWithin n (Wildcard count) = count < n
 CountsWithin n (WildcardAlias count) = count < n
 CountsWithin n (WildcardNoData count) = count < n
 CountsWithin n (NameError count) = count < n
+CountsWithin n (MayBeUnsigned count) = count < n
 CountsWithin n (NoCloserName count) = count < n
+CountsWithin n TooManyIterations = Unit {0}
 CountsWithin n NotProven = Unit {0}

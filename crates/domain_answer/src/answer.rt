@@ -40,11 +40,18 @@ pub enum Answer {
     /// There is no such name, and no wildcard below its closest encloser (RFC 2308, section 2.1).
     /// The closest encloser has so many labels.
     NameError(usize),
+    /// The name, or one above it, may be an unsigned delegation that an NSEC3 chain leaves out: the
+    /// record that would deny the name has the flag of opt-out (RFC 5155, section 6). The closest
+    /// encloser has so many labels.
+    MayBeUnsigned(usize),
     /// There is no such name, and the records say nothing of the wildcard below its closest
     /// encloser. That suffices for an answer that was expanded from that wildcard, whose signatures
     /// then have so many as their field Labels: it is how many labels the closest encloser has (RFC
     /// 4035, section 5.3.4).
     NoCloserName(usize),
+    /// Names of the NSEC3 chain are hashed in more iterations than are allowed, so that nothing was
+    /// asked of the records (RFC 9276, section 3.2).
+    TooManyIterations,
     /// The records do not prove what the zone says.
     NotProven,
 }

@@ -5,13 +5,25 @@ ghost use Rattle.domain_zone.specs.Zone.{is_occluded, OwnersNeverDescend, ZoneRe
 ghost use Rattle.domain_nsec.specs.Chain.{IsChain, Link};
 ghost use Rattle.domain_nsec.specs.declared.config.GenerateNsecConfig.{GenerateNsecConfig};
 ghost use Rattle.domain_checker.specs.Alike.{ArePaired, IsAlike, IsPairedIn};
+ghost use Rattle.domain_answer.specs.Kinds.{IsSo};
 ghost use Rattle.domain_answer.specs.Proved.{proved_answer, CountsWithin, IsAnswered, LeavesOutBelowDname, RestsOn};
 ghost use Rattle.domain_answer.specs.Reading.{reading};
 ghost use Rattle.domain_answer.specs.ZoneAnswer.{zone_answer};
+ghost use Rattle.domain_answer.specs.declared.answer.Answer.{Answer};
 ghost use Rattle.domain_answer.specs.declared.answer.Answer.TheVariants.{NoCloserName, NotProven};
 
+pub use crate::nsec3_laws::hashed_readings_are_proved;
 use domain_bitmap::laws::built_bitmaps_give_their_types;
 use domain_nsec::laws::{chains_mean_the_zone, types_ignore_case};
+
+/// Each kind of answer is the zone's exactly where what it says is so; of each name and type
+/// exactly one kind holds.
+pub fn one_kind_of_answer_holds()
+    ensures so { (L : List ZoneRecord) (a : Name) (assume : Bool) (x : Name) (t : ℕ)
+        → IsSo L a assume x t (zone_answer L a assume x t) }
+    ensures only { (L : List ZoneRecord) (a : Name) (assume : Bool) (x : Name) (t : ℕ)
+        (answer : Answer) → IsSo L a assume x t answer → zone_answer L a assume x t ≡ answer }
+{}
 
 /// What any NSEC records say by themselves is what they prove of the zone; the records that the
 /// answer rests on are among them; and the labels that it counts are labels of the name.

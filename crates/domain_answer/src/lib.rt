@@ -7,6 +7,11 @@
 //! answer is what the zone itself says, or that these records do not prove it. What a zone says
 //! stands in `specs/ZoneAnswer`, over its records alone; what records of its chain prove of that in
 //! `specs/Proved`; what they say by themselves in `specs/Reading`.
+//!
+//! `judge_nsec3` is handed records of an NSEC3 chain and the NSEC3PARAM record in the same way, and
+//! asks a hasher for the hashes of names. Here what a zone says stands in `specs/HashedZoneAnswer`,
+//! what records of its chain prove of that in `specs/HashedProved`, and what they say by themselves
+//! in `specs/HashedReading`.
 #![tactic(auto)]
 
 mod answer;
@@ -14,7 +19,10 @@ mod found;
 pub mod laws;
 mod listed;
 mod nsec;
+mod nsec3;
+mod nsec3_laws;
 mod wildcard;
 
 pub use answer::Answer;
 pub use nsec::judge_nsec;
+pub use nsec3::judge_nsec3;

@@ -1,0 +1,612 @@
+-- What the records of an NSEC3 chain answer by themselves is what they prove of the zone.
+use Rattle.std.proofs.Common.{◌≡◌, ℕ, ◌+◌, ◌-◌, ◌≤◌, ◌<◌, Bool, true, false, cond, not, ◌&&◌, ◌||◌, List}
+use Rattle.std.proofs.Common.{All, length, drop, refl, sym, ap, ◌∙◌, subst, inl, inr, nat_eq, Option, Some, None, arith}
+use Rattle.std.specs.Prelude.{Ok}
+use Rattle.std.specs.List.{find, list_any, Contains}
+use Rattle.std.proofs.lemmas.Bool.{cases_Bool, cases_lt, false≢true, and_parts, and_from, and_left, and_right, or_left, or_right, not-true}
+use Rattle.std.proofs.lemmas.List.Elements.{recursion_from_All}
+use Rattle.domain_octets.specs.Words.{Octets}
+use Rattle.domain_base.specs.Name.{is_at_or_below, is_strictly_below, lowered, same_name}
+use Rattle.domain_base.specs.Types.{cname, dname, ds, ns}
+use Rattle.domain_base.specs.Words.{Name}
+use Rattle.domain_bitmap.specs.Blocks.{contains_type}
+use Rattle.domain_chain_rdata.specs.OptOut.{is_opt_out}
+use Rattle.domain_zone.specs.Enclosers.{exists_over, IsClosestEncloser}
+use Rattle.domain_zone.specs.Zone.{ZoneRecord, has_type, is_occluded, is_zone_cut, may_list, owns, records_of, unoccluded_owners}
+use Rattle.domain_zone.proofs.NameLemmas.{one_lowered, same_itself, same_lowered, lowered_below, below_itself, below_trans, below_longer, below_length, below_parent}
+use Rattle.domain_nsec3.specs.Chain.{HashedLink, IsHashedChain}
+use Rattle.domain_nsec3.specs.Config.{ChainConfig, Hash, Parameters, hash_name}
+use Rattle.domain_nsec3.specs.Meaning.{CutsEnclose, IsAlone}
+use Rattle.domain_nsec3.specs.Owners.{is_chain_name, is_excluded, is_original_owner, nsec3_lists, original_owners}
+use Rattle.domain_checker.specs.HashedEncloser.{Encloser, IsDenial, IsEncloser, IsFoundEncloser, IsOfName, encloser_is_cut, next_cover}
+use Rattle.domain_checker.specs.HashedList.{is_hash_cover, is_hash_match}
+use Rattle.domain_checker.specs.HashedReading.{IsNextHash}
+use Rattle.domain_checker.specs.HashedVerdict.{is_below_chain_cut, is_covered, is_matched, is_ok_with, next_closer}
+use Rattle.domain_checker.proofs.EncloserLemmas.{closest_is, cut_same, exists_same, owner_unoccluded, same_length, strictly_longer}
+use Rattle.domain_checker.proofs.FindLemmas.{In, all_in, any_in, any_none, in_any, in_filter, find_some, find_none}
+use Rattle.domain_checker.proofs.HashedEncloserLemmas.{cut_counted, itself_counted}
+use Rattle.domain_checker.proofs.HashedListLemmas.{hash_same}
+use Rattle.domain_checker.proofs.HashedWalkLemmas.{below_strictly, closer_is, same_back}
+use Rattle.domain_answer.specs.declared.answer.Answer.{Answer}
+use Rattle.domain_answer.specs.declared.answer.Answer.TheVariants.{OutsideZone, AtParent, Referral, Redirected, Has, NoDs, Alias, NoData}
+use Rattle.domain_answer.specs.declared.answer.Answer.TheVariants.{Wildcard, WildcardAlias, WildcardNoData, NameError, MayBeUnsigned, NoCloserName, NotProven}
+use Rattle.domain_answer.specs.HashedProved.{AreAskedAlone, IsHashedAnswered, hashed_proved_answer, needs_wildcard, tells_encloser, tells_wildcard}
+use Rattle.domain_answer.specs.HashedReading.{IsHashedRead, IsReadOn, IsWildcardRead, encloser_answer, found_answer, lower_answer, next_answer, own_answer, wildcard_told}
+use Rattle.domain_answer.specs.HashedZoneAnswer.{HashedLeavesOutBelowDname, hashed_encloser, hashed_existing_answer, hashed_exists, hashed_inside_answer}
+use Rattle.domain_answer.specs.HashedZoneAnswer.{hashed_missing_answer, hashed_wildcard_answer, hashed_zone_answer}
+use Rattle.domain_answer.specs.Proved.{last_labels}
+use Rattle.domain_answer.specs.ZoneAnswer.{asterisk, is_at_parent, wildcard_below}
+use Rattle.domain_answer.proofs.CountLemmas.{closest_last, same_count}
+use Rattle.domain_answer.proofs.OccluderLemmas.{below_occluder}
+
+-- ---- where the wildcard is not asked for
+
+pub read_plain : (listed : List HashedLink) (a : Name) (p : Parameters) (hash : Hash) (x : Name) (t : ℕ) (first answer : Answer)
+    → ((n : ℕ) → first ≡ NoCloserName n → ⊥) → IsReadOn listed a p hash x t first answer → answer ≡ first
+read_plain listed a p hash x t (NoCloserName n) answer f r = absurd (f n refl)
+read_plain listed a p hash x t first answer f r = r
+
+pub own_apart : (b c d e : Bool) (m n : ℕ) → cond b (Referral m) (cond c Has (cond d NoDs (cond e Alias NoData))) ≡ NoCloserName n → ⊥
+own_apart true c d e m n h = absurd (cc)
+own_apart false true d e m n h = absurd (cc)
+own_apart false false true e m n h = absurd (cc)
+own_apart false false false true m n h = absurd (cc)
+own_apart false false false false m n h = absurd (cc)
+
+-- ---- what a chain is known to say
+
+-- what the laws say of one chain that leaves out what stands below a DNAME
+pub record ChainMeans (L : List ZoneRecord) (a : Name) (config : ChainConfig) (links : List HashedLink) : Type 0 where
+  pub matches : (x : Name) (v : Octets) → is_at_or_below x a ≡ true → IsAlone L a config x v → (k : HashedLink) → Contains links k
+      → is_hash_match a config.parameters v k ≡ true → IsOfName L a config x k
+  pub covers : (x : Name) (v : Octets) → is_at_or_below x a ≡ true → IsAlone L a config x v → (k : HashedLink) → Contains links k
+      → is_hash_cover a config.parameters v k ≡ true → IsDenial L a config x k
+  pub encloser : (x : Name) → is_at_or_below x a ≡ true → (e : Name) × IsClosestEncloser (original_owners L a config) a x e
+  pub cuts : CutsEnclose L a config
+  pub exist : (x : Name) → is_at_or_below x a ≡ true → exists_over (original_owners L a config) a x ≡ is_chain_name L a config x
+  pub left_out : (c : Name) → is_zone_cut L a c ≡ true → is_original_owner L a config c ≡ false → is_chain_name L a config c ≡ false
+  pub alike : (x y : Name) → same_name x y ≡ true → (t : ℕ) → nsec3_lists L a config x t ≡ nsec3_lists L a config y t
+  pub leaves : HashedLeavesOutBelowDname L a config
+
+-- ---- names below an owner of a DNAME
+
+-- of DNAME the chain lists what the name owns
+dname_owned : (L : List ZoneRecord) (a : Name) (config : ChainConfig) (d : Name) → nsec3_lists L a config d dname ≡ true
+    → has_type (records_of L d) dname ≡ true
+dname_owned L a config d h =
+    by (owns L d) (has_type (records_of L d) dname) (may_list (is_zone_cut L a d) dname) (same_name d a) (config.assume_dnskeys_will_be_added) h
+  where
+    by : (o has may apex assume : Bool) → (o && (((false || (false && apex)) || (false && (assume && apex))) || (has && may))) ≡ true → has ≡ true
+    by true true may apex assume e = refl
+    by true false may apex assume e = absurd (false≢true e)
+    by false has may apex assume e = absurd (false≢true e)
+
+below_both : (o y d : Name) → is_at_or_below o y ≡ true → is_strictly_below y d ≡ true → is_strictly_below o d ≡ true
+below_both o y d p s =
+    let q = (and_parts (is_at_or_below y d) (not (same_name y d)) s).0 in
+    let far = strictly_longer y d s in
+    let near = below_length o y p in
+    below_strictly o d (below_trans o y d p q) (omega arith)
+
+module _ (L : List ZoneRecord) (a : Name) (config : ChainConfig) (links : List HashedLink) (means : ChainMeans L a config links) where
+  abbrev owners : List Name
+  owners = original_owners L a config
+
+  owner_high : (o : Name) → In o (original_owners L a config) → is_occluded true L a o ≡ false
+  owner_high o i =
+      let j = (in_filter (λ n. not (is_excluded L a config n)) (unoccluded_owners config.occlude_below_dname L a) o i).0 in
+      let u = owner_unoccluded true L a o (subst (λ ns. In o ns) means.leaves j) in
+      not-true (is_occluded true L a o) (and_parts (is_at_or_below o a) (not (is_occluded true L a o)) u).1
+
+  -- no name of the chain is strictly below one that lists DNAME
+  none_below_dname : (d y : Name) → is_at_or_below d a ≡ true → nsec3_lists L a config d dname ≡ true
+      → exists_over (original_owners L a config) a y ≡ true → is_strictly_below y d ≡ true → ⊥
+  none_below_dname d y low h there s =
+      let o = any_in (λ n. is_at_or_below n y) owners (and_parts (is_at_or_below y a) (list_any (λ n. is_at_or_below n y) owners) there).1 in
+      let over = or_right (is_zone_cut L a d) (is_at_or_below d a && has_type (records_of L d) dname)
+      (and_from (is_at_or_below d a) (has_type (records_of L d) dname) low (dname_owned L a config d h)) in
+      false≢true (sym (owner_high o.0 o.1) ∙ below_occluder L a d o.0 over (below_both o.0 y d o.2 s))
+
+  -- nor below a zone cut of the chain
+  none_below_cut : (c y : Name) → is_zone_cut L a c ≡ true → is_original_owner L a config c ≡ true
+      → exists_over (original_owners L a config) a y ≡ true → is_strictly_below y c ≡ true → ⊥
+  none_below_cut c y cut original there s =
+      let l = (means.cuts.each c y cut original s).longest y there (below_itself y) in
+      let m = strictly_longer y c s in
+      omega arith
+
+  -- a zone cut that exists is one of the chain
+  cut_original : (d : Name) → is_at_or_below d a ≡ true → exists_over (original_owners L a config) a d ≡ true → is_zone_cut L a d ≡ true
+      → is_original_owner L a config d ≡ true
+  cut_original d low there c =
+      elim (cases_Bool (is_original_owner L a config d)) [
+        | inl h ↦ h
+        | inr h ↦ absurd (false≢true (sym (means.left_out d c h) ∙ sym (means.exist d low) ∙ there))
+      ]
+
+  below_cut : (c y : Name) → is_zone_cut L a c ≡ true → is_original_owner L a config c ≡ true → is_strictly_below y c ≡ true
+      → is_below_chain_cut L a config y ≡ true
+  below_cut c y cut original s =
+      let m = any_in (λ n. same_name n c) owners original in
+      let at : Name → Bool = λ k. lowered_below (lowered y) k && not (same_lowered (lowered y) k) in
+      in_any (λ n. is_zone_cut L a n && is_strictly_below y n) owners m.0 m.1
+      (and_from (is_zone_cut L a m.0) (is_strictly_below y m.0) (cut_same L a m.0 c m.2 ∙ cut) (ap at (one_lowered m.0 c m.2) ∙ s))
+
+  -- a zone cut of the chain that y is strictly below
+  record CutAbove (y : Name) : Type 0 where
+    cut : Name
+    is_cut : is_zone_cut L a cut ≡ true
+    original : is_original_owner L a config cut ≡ true
+    under : is_strictly_below y cut ≡ true
+
+  cut_above : (y : Name) → is_below_chain_cut L a config y ≡ true → CutAbove y
+  cut_above y h =
+      let m = any_in (λ n. is_zone_cut L a n && is_strictly_below y n) owners h in
+      let p = and_parts (is_zone_cut L a m.0) (is_strictly_below y m.0) m.2 in
+      record { cut = m.0; is_cut = p.0; original = in_any (λ n. same_name n m.0) owners m.0 m.1 (same_itself m.0 m.0 refl); under = p.1 }
+
+  -- what exists is not below one
+  high : (y : Name) → exists_over (original_owners L a config) a y ≡ true → is_below_chain_cut L a config y ≡ false
+  high y there =
+      elim (cases_Bool (is_below_chain_cut L a config y)) [
+        | inl f ↦ let c = cut_above y f in absurd (none_below_cut c.cut y c.is_cut c.original there c.under)
+        | inr f ↦ f
+      ]
+
+  -- ---- what is told of a name x
+
+  module _ (listed : List HashedLink) (among : (k : HashedLink) → In k listed → Contains links k)
+      (x : Name) (low : is_at_or_below x a ≡ true) (asked : AreAskedAlone L a config x) where
+    abbrev en : Name
+    en = hashed_encloser L a config x
+
+    abbrev matched : Name → Bool
+    matched = is_matched a config.parameters config.hash listed
+
+    abbrev covered : Name → Bool
+    covered = is_covered a config.parameters config.hash listed
+
+    apex_exists : exists_over (original_owners L a config) a a ≡ true
+    apex_exists =
+        let e = means.encloser x low in
+        let p = and_parts (is_at_or_below e.0 a) (list_any (λ n. is_at_or_below n e.0) owners) e.1.found in
+        let m = any_in (λ n. is_at_or_below n e.0) owners p.1 in
+        and_from (is_at_or_below a a) (list_any (λ n. is_at_or_below n a) owners) (below_itself a)
+        (in_any (λ n. is_at_or_below n a) owners m.0 m.1 (below_trans m.0 e.0 a m.2 p.0))
+
+    closest : IsClosestEncloser (original_owners L a config) a x (hashed_encloser L a config x)
+    closest = closest_is owners a x apex_exists low
+
+    en_low : is_at_or_below (hashed_encloser L a config x) a ≡ true
+    en_low = (and_parts (is_at_or_below en a) (list_any (λ n. is_at_or_below n en) owners) closest.found).0
+
+    module _ (t : ℕ) (bound : t < 65536) (apart : is_at_parent a x t ≡ false) where
+      abbrev zone : Answer
+      zone = hashed_zone_answer L a config x t
+
+      -- what is proved where records tell of the closest encloser
+      abbrev known : Answer
+      known = cond (needs_wildcard L a config x && not (tells_wildcard L a config listed x)) (NoCloserName (length en)) zone
+
+      zone_is : hashed_zone_answer L a config x t ≡ hashed_inside_answer L a config x t
+      zone_is = λ j. cond (not (low j)) OutsideZone (cond (apart j) AtParent (hashed_inside_answer L a config x t))
+
+      untold : tells_encloser L a config listed x ≡ false → NotProven ≡ hashed_proved_answer L a config listed x t
+      untold f = sym (λ j. cond (not (low j) || apart j) zone (cond (not (f j)) NotProven known))
+
+      unmatched : is_matched a config.parameters config.hash listed (hashed_encloser L a config x) ≡ false
+          → NotProven ≡ hashed_proved_answer L a config listed x t
+      unmatched f = untold (λ j. f j && (((same_name en x || is_zone_cut L a en) || nsec3_lists L a config en dname) || covered (next_closer x en)))
+
+      as_known : (v : Answer) → tells_encloser L a config listed x ≡ true
+          → v ≡ cond (needs_wildcard L a config x && not (tells_wildcard L a config listed x)) (NoCloserName (length (hashed_encloser L a config x)))
+          (hashed_zone_answer L a config x t)
+          → v ≡ hashed_proved_answer L a config listed x t
+      as_known v s e = e ∙ sym (λ j. cond (not (low j) || apart j) zone (cond (not (s j)) NotProven known))
+
+      as_zone : (v : Answer) → tells_encloser L a config listed x ≡ true → needs_wildcard L a config x ≡ false
+          → v ≡ hashed_inside_answer L a config x t → v ≡ hashed_proved_answer L a config listed x t
+      as_zone v s n e =
+          as_known v s (e ∙ sym zone_is ∙ sym (λ j. cond (n j && not (tells_wildcard L a config listed x)) (NoCloserName (length en)) zone))
+
+      abbrev uncut_gone : Bool
+      uncut_gone = not (is_below_chain_cut L a config x) && not (hashed_exists L a config x)
+
+      abbrev unlisted_there : Bool
+      unlisted_there = not (nsec3_lists L a config (hashed_encloser L a config x) dname)
+
+      not_needed_cut : is_below_chain_cut L a config x ≡ true → needs_wildcard L a config x ≡ false
+      not_needed_cut f = λ j. ((not (f j) && not (hashed_exists L a config x)) && unlisted_there) && not (is_opt_out config.flags)
+
+      not_needed_there : hashed_exists L a config x ≡ true → needs_wildcard L a config x ≡ false
+      not_needed_there f =
+          and_left (uncut_gone && unlisted_there) (not (is_opt_out config.flags))
+          (and_left uncut_gone unlisted_there (and_right (not (is_below_chain_cut L a config x)) (not (hashed_exists L a config x)) (ap not f)))
+
+      not_needed_dname : nsec3_lists L a config (hashed_encloser L a config x) dname ≡ true → needs_wildcard L a config x ≡ false
+      not_needed_dname f =
+          and_left (uncut_gone && unlisted_there) (not (is_opt_out config.flags)) (and_right uncut_gone unlisted_there (ap not f))
+
+      not_needed_out : is_opt_out config.flags ≡ true → needs_wildcard L a config x ≡ false
+      not_needed_out f = and_right (uncut_gone && unlisted_there) (not (is_opt_out config.flags)) (ap not f)
+
+      -- ---- where a record matches x or an ancestor, and k is the first that matches that one
+
+      module _ (e : Encloser) (is : IsEncloser listed a config.parameters config.hash x e) where
+        abbrev d : Name
+        d = is.name
+
+        alone_at : (y : Name) → is_at_or_below x y ≡ true → is_at_or_below y a ≡ true → (v : Octets) → hash_name config.hash y ≡ Ok v → IsAlone L a config y v
+        alone_at y up in_zone v known =
+            let f = asked.ancestors y up in_zone in
+            let same : f.0 ≡ v = let q : Ok f.0 ≡ Ok v = sym f.1.known ∙ known in cc in
+            subst (IsAlone L a config y) same f.1
+
+        of_d : IsOfName L a config is.name e.link
+        of_d =
+            let f = find_some (is_hash_match a config.parameters is.value) listed e.link is.found in
+            means.matches d is.value is.first.within (alone_at d is.first.above is.first.within is.value is.known) e.link (among e.link f.0) f.1
+
+        shorter : length is.name ≤ length (hashed_encloser L a config x)
+        shorter = closest.longest d of_d.exists is.first.above
+
+        down : is_at_or_below (hashed_encloser L a config x) is.name ≡ true
+        down = below_longer x en d closest.above is.first.above shorter
+
+        cut : encloser_is_cut a e ≡ is_zone_cut L a is.name
+        cut = cut_counted listed a config.parameters config.hash x e is ∙ of_d.cut
+
+        -- a name that is not the closest encloser is above it, and a record of that one is not in the list
+        level : ((is_strictly_below (hashed_encloser L a config x) is.name ≡ true) → ⊥) → same_name (hashed_encloser L a config x) is.name ≡ true
+        level f =
+            elim (cases_lt (length d) (length en)) [
+              | inl h ↦ absurd (f (below_strictly en d down h))
+              | inr h ↦ same_length en d down h
+            ]
+
+        module _ (same : same_name (hashed_encloser L a config x) is.name ≡ true) where
+          en_matched : is_matched a config.parameters config.hash listed (hashed_encloser L a config x) ≡ true
+          en_matched = ap (is_ok_with (λ v. list_any (is_hash_match a config.parameters v) listed)) (hash_same config.hash en d same) ∙ is.first.found
+
+          labels : e.count ≡ length (hashed_encloser L a config x)
+          labels = is.counts ∙ sym (same_count en d same)
+
+          en_x : same_name (hashed_encloser L a config x) x ≡ same_name is.name x
+          en_x = ap (λ k. same_lowered k (lowered x)) (one_lowered en d same)
+
+          en_cut : is_zone_cut L a (hashed_encloser L a config x) ≡ is_zone_cut L a is.name
+          en_cut = cut_same L a en d same
+
+          en_types : (u : ℕ) → nsec3_lists L a config (hashed_encloser L a config x) u ≡ nsec3_lists L a config is.name u
+          en_types = means.alike en d same
+
+          en_next : is_covered a config.parameters config.hash listed (next_closer x (hashed_encloser L a config x))
+              ≡ is_covered a config.parameters config.hash listed (next_closer x is.name)
+          en_next = λ j. covered (drop (length x - (same_count en d same j + 1)) x)
+
+          tells : tells_encloser L a config listed x
+              ≡ (((same_name is.name x || is_zone_cut L a is.name) || nsec3_lists L a config is.name dname)
+              || is_covered a config.parameters config.hash listed (next_closer x is.name))
+          tells = λ j. en_matched j && (((en_x j || en_cut j) || en_types dname j) || en_next j)
+
+        -- ---- x itself
+
+        at_name : (answer : Answer) → same_name is.name x ≡ true
+            → IsReadOn listed a config.parameters config.hash x t (encloser_answer a e (length x) t) answer
+            → answer ≡ hashed_proved_answer L a config listed x t
+        at_name answer s ends =
+            let there : exists_over owners a x ≡ true = sym (exists_same owners a d x s) ∙ of_d.exists in
+            let counts : e.count ≡ length x = is.counts ∙ same_count d x s in
+            let at_cut : encloser_is_cut a e ≡ is_zone_cut L a x = cut ∙ cut_same L a d x s in
+            let types : (u : ℕ) → u < 65536 → contains_type e.link.bits u ≡ nsec3_lists L a config x u = λ u b. of_d.types u b ∙ means.alike d x s u in
+            let same = level flat in
+            as_zone answer (tells same ∙ (λ j. ((s j || is_zone_cut L a d) || nsec3_lists L a config d dname) || covered (next_closer x d)))
+            (not_needed_there there)
+            (read_plain listed a config.parameters config.hash x t (own_answer a e t) answer
+            (own_apart (encloser_is_cut a e && not (nat_eq t ds)) (contains_type e.link.bits t) (encloser_is_cut a e) (contains_type e.link.bits cname) e.count)
+            (subst (λ f. IsReadOn listed a config.parameters config.hash x t f answer) own ends)
+            ∙ (λ j. cond (at_cut j && not (nat_eq t ds)) (Referral (counts j)) (cond (types t bound j) Has
+            (cond (at_cut j) NoDs (cond (types cname (omega arith) j) Alias NoData))))
+            ∙ sym (λ j. cond (high x there j) (Referral (length en)) (cond (there j) (hashed_existing_answer L a config x t)
+            (hashed_missing_answer L a config en t))))
+          where
+            own : encloser_answer a e (length x) t ≡ own_answer a e t
+            own = λ j. cond ((itself_counted listed a config.parameters config.hash x e is ∙ s) j) (own_answer a e t) (lower_answer a e)
+
+            flat : is_strictly_below (hashed_encloser L a config x) is.name ≡ true → ⊥
+            flat h =
+                let far = strictly_longer en d h in
+                let near = below_length x en closest.above in
+                let n = same_count d x s in
+                omega arith
+
+        -- ---- a name below it
+
+        module _ (s : same_name is.name x ≡ false) (answer : Answer)
+            (ends : IsReadOn listed a config.parameters config.hash x t (encloser_answer a e (length x) t) answer) where
+          long : length is.name < length x
+          long = elim (cases_lt (length d) (length x)) [
+            | inl h ↦ h
+            | inr h ↦ absurd (false≢true (sym s ∙ same_back x d (same_length x d is.first.above h)))
+          ]
+
+          lower : encloser_answer a e (length x) t ≡ lower_answer a e
+          lower = λ j. cond ((itself_counted listed a config.parameters config.hash x e is ∙ s) j) (own_answer a e t) (lower_answer a e)
+
+          read : (first : Answer) → lower_answer a e ≡ first → IsReadOn listed a config.parameters config.hash x t first answer
+          read first f = subst (λ f. IsReadOn listed a config.parameters config.hash x t f answer) (lower ∙ f) ends
+
+          -- below a zone cut
+          at_cut : is_zone_cut L a is.name ≡ true → answer ≡ hashed_proved_answer L a config listed x t
+          at_cut c =
+              let original = cut_original d is.first.within of_d.exists c in
+              let same = level (λ h. none_below_cut d en c original closest.found h) in
+              let under = below_cut d x c original (below_strictly x d is.first.above long) in
+              let told = read (Referral e.count) (λ j. cond ((cut ∙ c) j) (Referral e.count)
+              (cond (contains_type e.link.bits dname) (Redirected e.count) (next_answer e.count e.cover))) in
+              as_zone answer (tells same ∙ (λ j. ((s j || c j) || nsec3_lists L a config d dname) || covered (next_closer x d)))
+              (not_needed_cut under)
+              (told ∙ ap Referral (labels same) ∙ sym (λ j. cond (under j) (Referral (length en))
+              (cond (hashed_exists L a config x) (hashed_existing_answer L a config x t) (hashed_missing_answer L a config en t))))
+
+          module _ (c : is_zone_cut L a is.name ≡ false) where
+            bit : contains_type e.link.bits dname ≡ nsec3_lists L a config is.name dname
+            bit = of_d.types dname (omega arith)
+
+            past : lower_answer a e ≡ cond (nsec3_lists L a config is.name dname) (Redirected e.count) (next_answer e.count e.cover)
+            past = λ j. cond ((cut ∙ c) j) (Referral e.count) (cond (bit j) (Redirected e.count) (next_answer e.count e.cover))
+
+            -- where it is the closest encloser, x does not exist and is below no zone cut
+            module _ (same : same_name (hashed_encloser L a config x) is.name ≡ true) where
+              gone : exists_over (original_owners L a config) a x ≡ false
+              gone =
+                  elim (cases_Bool (exists_over owners a x)) [
+                    | inl h ↦
+                        let l = closest.longest x h (below_itself x) in
+                        let n = same_count en d same in
+                        absurd (omega (arith, long))
+                    | inr h ↦ h
+                  ]
+
+              uncut : is_below_chain_cut L a config x ≡ false
+              uncut =
+                  elim (cases_Bool (is_below_chain_cut L a config x)) [
+                    | inl f ↦
+                        let r = cut_above x f in
+                        let above = (and_parts (is_at_or_below x r.cut) (not (same_name x r.cut)) r.under).0 in
+                        let top = means.cuts.each r.cut x r.is_cut r.original r.under in
+                        let l = closest.longest r.cut top.found above in
+                        let m = top.longest en closest.found closest.above in
+                        let one = same_length en r.cut (below_longer x en r.cut closest.above above l) m in
+                        absurd (false≢true (sym (en_cut same ∙ c) ∙ cut_same L a en r.cut one ∙ r.is_cut))
+                    | inr f ↦ f
+                  ]
+
+              missing : hashed_inside_answer L a config x t ≡ hashed_missing_answer L a config (hashed_encloser L a config x) t
+              missing = λ j. cond (uncut j) (Referral (length en))
+                  (cond (gone j) (hashed_existing_answer L a config x t) (hashed_missing_answer L a config en t))
+
+            -- below an owner of a DNAME record
+            at_dname : nsec3_lists L a config is.name dname ≡ true → answer ≡ hashed_proved_answer L a config listed x t
+            at_dname h =
+                let same = level (λ g. none_below_dname d en is.first.within h closest.found g) in
+                let told = read (Redirected e.count) (past ∙ (λ j. cond (h j) (Redirected e.count) (next_answer e.count e.cover))) in
+                let listed_there = en_types same dname ∙ h in
+                as_zone answer (tells same ∙ (λ j. ((s j || c j) || h j) || covered (next_closer x d)))
+                (not_needed_dname listed_there)
+                (told ∙ ap Redirected (labels same) ∙ sym (missing same ∙ (λ j. cond (listed_there j) (Redirected (length en))
+                (cond (is_opt_out config.flags) (MayBeUnsigned (length en)) (hashed_wildcard_answer L a config (length en) (wildcard_below en) t)))))
+
+            module _ (h : nsec3_lists L a config is.name dname ≡ false) (v : Octets) (next : hash_name config.hash (next_closer x is.name) ≡ Ok v) where
+              passed : (o : Option HashedLink) → e.cover ≡ o → lower_answer a e ≡ next_answer e.count o
+              passed o f = past ∙ (λ j. cond (h j) (Redirected e.count) (next_answer e.count (f j)))
+
+              covered_is : is_covered a config.parameters config.hash listed (next_closer x is.name) ≡ list_any (is_hash_cover a config.parameters v) listed
+              covered_is = ap (is_ok_with (λ v. list_any (is_hash_cover a config.parameters v) listed)) next
+
+              -- no cover
+              at_gap : e.cover ≡ None → find (is_hash_cover a config.parameters v) listed ≡ None → answer ≡ hashed_proved_answer L a config listed x t
+              at_gap f none =
+                  let told : answer ≡ NotProven = read NotProven (passed None f) in
+                  told ∙ elim (cases_lt (length d) (length en)) [
+                    | inl g ↦ unmatched (is.first.first en closest.above (below_strictly en d down g)).2
+                    | inr g ↦
+                        let nothing = any_none (is_hash_cover a config.parameters v) listed (find_none (is_hash_cover a config.parameters v) listed none) in
+                        untold (tells (same_length en d down g) ∙ (λ j. ((s j || c j) || h j) || (covered_is ∙ nothing) j))
+                  ]
+
+              -- a cover: x does not exist, and d is its closest encloser
+              module _ (r : HashedLink) (f : e.cover ≡ Some r) (some : find (is_hash_cover a config.parameters v) listed ≡ Some r) where
+                cover_of : In r listed × (is_hash_cover a config.parameters v r ≡ true)
+                cover_of = find_some (is_hash_cover a config.parameters v) listed r some
+
+                next_low : is_at_or_below (next_closer x is.name) a ≡ true
+                next_low =
+                    let q = next_closer x d in
+                    let closer = closer_is x d is.first.above long in
+                    below_trans q d a (and_parts (is_at_or_below q d) (not (same_name q d)) closer.below).0 is.first.within
+
+                denied : IsDenial L a config (next_closer x is.name) r
+                denied =
+                    let closer = closer_is x d is.first.above long in
+                    means.covers (next_closer x d) v next_low (alone_at (next_closer x d) closer.above next_low v next) r (among r cover_of.0) cover_of.1
+
+                same : same_name (hashed_encloser L a config x) is.name ≡ true
+                same = level (λ g.
+                    let q = next_closer x d in
+                    let closer = closer_is x d is.first.above long in
+                    let far = strictly_longer en d g in
+                    let up = below_longer x en q closest.above closer.above (omega (arith, closer.long)) in
+                    let found = and_parts (is_at_or_below en a) (list_any (λ n. is_at_or_below n en) owners) closest.found in
+                    let o = any_in (λ n. is_at_or_below n en) owners found.1 in
+                    false≢true (sym denied.absent ∙ and_from (is_at_or_below q a) (list_any (λ n. is_at_or_below n q) owners) next_low
+                    (in_any (λ n. is_at_or_below n q) owners o.0 o.1 (below_trans o.0 en q o.2 up))))
+
+                tells_it : tells_encloser L a config listed x ≡ true
+                tells_it =
+                    tells same ∙ or_right ((same_name d x || is_zone_cut L a d) || nsec3_lists L a config d dname) (covered (next_closer x d))
+                    (covered_is ∙ in_any (is_hash_cover a config.parameters v) listed r cover_of.0 cover_of.1)
+
+                unlisted : nsec3_lists L a config (hashed_encloser L a config x) dname ≡ false
+                unlisted = en_types same dname ∙ h
+
+                -- with opt-out
+                at_out : is_opt_out config.flags ≡ true → answer ≡ hashed_proved_answer L a config listed x t
+                at_out out =
+                    let told : answer ≡ MayBeUnsigned e.count = read (MayBeUnsigned e.count) (passed (Some r) f
+                    ∙ (λ j. cond ((ap is_opt_out denied.flags ∙ out) j) (MayBeUnsigned e.count) (NoCloserName e.count))) in
+                    as_zone answer tells_it (not_needed_out out)
+                    (told ∙ ap MayBeUnsigned (labels same) ∙ sym (missing same ∙ (λ j. cond (unlisted j) (Redirected (length en))
+                    (cond (out j) (MayBeUnsigned (length en)) (hashed_wildcard_answer L a config (length en) (wildcard_below en) t)))))
+
+                -- without it the wildcard decides
+                module _ (out : is_opt_out config.flags ≡ false) where
+                  abbrev w : Name
+                  w = wildcard_below (hashed_encloser L a config x)
+
+                  asked_on : IsWildcardRead listed a config.parameters config.hash x t e.count answer
+                  asked_on = read (NoCloserName e.count) (passed (Some r) f
+                      ∙ (λ j. cond ((ap is_opt_out denied.flags ∙ out) j) (MayBeUnsigned e.count) (NoCloserName e.count)))
+
+                  needed : needs_wildcard L a config x ≡ true
+                  needed = λ j. ((not (uncut same j) && not (gone same j)) && not (unlisted j)) && not (out j)
+
+                  named : wildcard_below (last_labels e.count x) ≡ wildcard_below (hashed_encloser L a config x)
+                  named = ap wildcard_below ((λ j. last_labels (labels same j) x) ∙ closest_last owners a x)
+
+                  known_w : hash_name config.hash (wildcard_below (hashed_encloser L a config x)) ≡ Ok asked_on.value
+                  known_w = ap (hash_name config.hash) (sym named) ∙ asked_on.known
+
+                  low_w : is_at_or_below (wildcard_below (hashed_encloser L a config x)) a ≡ true
+                  low_w = below_trans w en a (below_parent asterisk en) en_low
+
+                  alone_w : IsAlone L a config (wildcard_below (hashed_encloser L a config x)) asked_on.value
+                  alone_w =
+                      let g = asked.wildcard (gone same) in
+                      let one : g.0 ≡ asked_on.value = let q : Ok g.0 ≡ Ok asked_on.value = sym g.1.known ∙ known_w in cc in
+                      subst (IsAlone L a config w) one g.1
+
+                  matched_w : is_matched a config.parameters config.hash listed (wildcard_below (hashed_encloser L a config x))
+                      ≡ list_any (is_hash_match a config.parameters asked_on.value) listed
+                  matched_w = ap (is_ok_with (λ v. list_any (is_hash_match a config.parameters v) listed)) known_w
+
+                  covered_w : is_covered a config.parameters config.hash listed (wildcard_below (hashed_encloser L a config x))
+                      ≡ list_any (is_hash_cover a config.parameters asked_on.value) listed
+                  covered_w = ap (is_ok_with (λ v. list_any (is_hash_cover a config.parameters v) listed)) known_w
+
+                  zone_w : hashed_zone_answer L a config x t ≡ hashed_wildcard_answer L a config (length (hashed_encloser L a config x))
+                      (wildcard_below (hashed_encloser L a config x)) t
+                  zone_w = zone_is ∙ missing same ∙ (λ j. cond (unlisted j) (Redirected (length en))
+                      (cond (out j) (MayBeUnsigned (length en)) (hashed_wildcard_answer L a config (length en) w t)))
+
+                  -- a record tells of it
+                  of_known : (u : Answer) → (matched w || covered w) ≡ true → u ≡ hashed_wildcard_answer L a config (length (hashed_encloser L a config x))
+                      (wildcard_below (hashed_encloser L a config x)) t → u ≡ hashed_proved_answer L a config listed x t
+                  of_known u heard g =
+                      as_known u tells_it (g ∙ sym zone_w ∙ sym (λ j. cond (needed j && not (heard j)) (NoCloserName (length en)) zone))
+
+                  by_cover : (o : Option HashedLink) → find (is_hash_match a config.parameters asked_on.value) listed ≡ None
+                      → find (is_hash_cover a config.parameters asked_on.value) listed ≡ o
+                      → wildcard_told (length (hashed_encloser L a config x)) t None o ≡ hashed_proved_answer L a config listed x t
+                  by_cover None m g =
+                      let no_match = matched_w ∙ any_none (is_hash_match a config.parameters asked_on.value) listed
+                      (find_none (is_hash_match a config.parameters asked_on.value) listed m) in
+                      let no_cover = covered_w ∙ any_none (is_hash_cover a config.parameters asked_on.value) listed
+                      (find_none (is_hash_cover a config.parameters asked_on.value) listed g) in
+                      as_known (NoCloserName (length en)) tells_it
+                      (sym (λ j. cond (needed j && not (no_match j || no_cover j)) (NoCloserName (length en)) zone))
+                  by_cover (Some k) m g =
+                      let i = find_some (is_hash_cover a config.parameters asked_on.value) listed k g in
+                      let absent = means.covers w asked_on.value low_w alone_w k (among k i.0) i.1 in
+                      of_known (NameError (length en))
+                      (or_right (matched w) (covered w) (covered_w ∙ in_any (is_hash_cover a config.parameters asked_on.value) listed k i.0 i.1))
+                      (sym (λ j. cond (not (absent.absent j)) (NameError (length en))
+                      (cond (nsec3_lists L a config w t || is_zone_cut L a w) (Wildcard (length en))
+                      (cond (nsec3_lists L a config w cname) (WildcardAlias (length en)) (WildcardNoData (length en))))))
+
+                  by_match : (o : Option HashedLink) → find (is_hash_match a config.parameters asked_on.value) listed ≡ o
+                      → wildcard_told (length (hashed_encloser L a config x)) t o (find (is_hash_cover a config.parameters asked_on.value) listed)
+                      ≡ hashed_proved_answer L a config listed x t
+                  by_match None m = by_cover (find (is_hash_cover a config.parameters asked_on.value) listed) m refl
+                  by_match (Some k) m =
+                      let i = find_some (is_hash_match a config.parameters asked_on.value) listed k m in
+                      let of = means.matches w asked_on.value low_w alone_w k (among k i.0) i.1 in
+                      let other : same_name w a ≡ false = elim (cases_Bool (same_name w a)) [
+                        | inl g ↦
+                            let n = same_count w a g in
+                            let b = below_length en a en_low in
+                            absurd (omega arith)
+                        | inr g ↦ g
+                      ] in
+                      let at_cut : contains_type k.bits ns ≡ is_zone_cut L a w = (λ j. not (sym other j) && contains_type k.bits ns) ∙ of.cut in
+                      of_known (wildcard_told (length en) t (Some k) (find (is_hash_cover a config.parameters asked_on.value) listed))
+                      (or_left (matched w) (covered w) (matched_w ∙ in_any (is_hash_match a config.parameters asked_on.value) listed k i.0 i.1))
+                      ((λ j. cond (of.types t bound j || at_cut j) (Wildcard (length en))
+                      (cond (of.types cname (omega arith) j) (WildcardAlias (length en)) (WildcardNoData (length en))))
+                      ∙ sym (λ j. cond (not (of.exists j)) (NameError (length en))
+                      (cond (nsec3_lists L a config w t || is_zone_cut L a w) (Wildcard (length en))
+                      (cond (nsec3_lists L a config w cname) (WildcardAlias (length en)) (WildcardNoData (length en))))))
+
+                  at_wildcard : answer ≡ hashed_proved_answer L a config listed x t
+                  at_wildcard =
+                      asked_on.says
+                      ∙ (λ j. wildcard_told (labels same j) t (find (is_hash_match a config.parameters asked_on.value) listed)
+                      (find (is_hash_cover a config.parameters asked_on.value) listed))
+                      ∙ by_match (find (is_hash_match a config.parameters asked_on.value) listed) refl
+
+          below_it : (next : Option Octets) → IsNextHash config.hash x is.name next → e.cover ≡ next_cover a config.parameters listed next
+              → answer ≡ hashed_proved_answer L a config listed x t
+          below_it None n f = absurd (false≢true (sym s ∙ n))
+          below_it (Some v) n f =
+              elim (cases_Bool (is_zone_cut L a d)) [
+                | inl c ↦ at_cut c
+                | inr c ↦ elim (cases_Bool (nsec3_lists L a config d dname)) [
+                  | inl h ↦ at_dname c h
+                  | inr h ↦ by c h (find (is_hash_cover a config.parameters v) listed) refl
+                ]
+              ]
+            where
+              by : is_zone_cut L a is.name ≡ false → nsec3_lists L a config is.name dname ≡ false
+                  → (o : Option HashedLink) → find (is_hash_cover a config.parameters v) listed ≡ o
+                  → answer ≡ hashed_proved_answer L a config listed x t
+              by c h None g = at_gap c h v n.1 (f ∙ g) g
+              by c h (Some r) g =
+                  elim (cases_Bool (is_opt_out config.flags)) [
+                    | inl out ↦ at_out c h v n.1 r (f ∙ g) g out
+                    | inr out ↦ at_wildcard c h v n.1 r (f ∙ g) g out
+                  ]
+
+        encloser_proved : (answer : Answer) → IsReadOn listed a config.parameters config.hash x t (encloser_answer a e (length x) t) answer
+            → answer ≡ hashed_proved_answer L a config listed x t
+        encloser_proved answer ends =
+            elim (cases_Bool (same_name d x)) [
+              | inl s ↦ at_name answer s ends
+              | inr s ↦ below_it s answer ends is.next is.closes is.covers
+            ]
+
+      pub found_proved : (found : Option Encloser) → IsFoundEncloser listed a config.parameters config.hash x found → (answer : Answer)
+          → IsReadOn listed a config.parameters config.hash x t (found_answer a found (length x) t) answer
+          → answer ≡ hashed_proved_answer L a config listed x t
+      found_proved None is answer ends = ends ∙ unmatched (is en closest.above en_low).2
+      found_proved (Some e) is answer ends = encloser_proved e is answer ends
+
+-- what the laws say of every chain
+abbrev pub KnowsMeaning : Type 0
+KnowsMeaning = (L : List ZoneRecord) (a : Name) (config : ChainConfig) (links : List HashedLink) → HashedLeavesOutBelowDname L a config
+    → IsHashedChain L a config links → ChainMeans L a config links
+
+-- for records of the chain of any zone
+pub read_proved : KnowsMeaning → (listed : List HashedLink) (a : Name) (p : Parameters) (hash : Hash) (x : Name) (t : ℕ) (answer : Answer)
+    → t < 65536 → is_at_or_below x a ≡ true → is_at_parent a x t ≡ false → IsHashedRead listed a p hash x t answer
+    → IsHashedAnswered listed a p hash x t answer
+read_proved knows listed a p hash x t answer b low apart read = λ L config links same_hash same_parameters leaves chain asked among.
+    by L config links (knows L a config links leaves chain) asked among
+    (subst (λ h. IsHashedRead listed a config.parameters h x t answer) (sym same_hash)
+    (subst (λ q. IsHashedRead listed a q hash x t answer) (sym same_parameters) read))
+  where
+    by : (L : List ZoneRecord) (config : ChainConfig) (links : List HashedLink) → ChainMeans L a config links
+        → AreAskedAlone L a config x → All (Contains links) listed → IsHashedRead listed a config.parameters config.hash x t answer
+        → answer ≡ hashed_proved_answer L a config listed x t
+    by L config links means asked among read =
+        found_proved L a config links means listed (λ k i. all_in (Contains links) listed k (recursion_from_All (Contains links) listed among) i)
+        x low asked t b apart read.found read.is answer read.ends

@@ -1,0 +1,120 @@
+-- What a list of records of a zone's NSEC3 chain proves of what the zone says.
+use Rattle.std.specs.Prelude.{ℕ, Bool, true, false, not, ◌&&◌, ◌||◌, List, ◌≡◌, All, length, if◌then◌else◌}
+use Rattle.std.specs.List.{Contains}
+use Rattle.domain_octets.specs.Words.{Octets}
+use Rattle.domain_base.specs.Name.{same_name}
+use Rattle.domain_base.specs.Types.{dname}
+use Rattle.domain_base.specs.Words.{Name}
+use Rattle.domain_chain_rdata.specs.OptOut.{is_opt_out}
+use Rattle.domain_zone.specs.Zone.{ZoneRecord, is_zone_cut}
+use Rattle.domain_nsec3.specs.Chain.{HashedLink, IsHashedChain}
+use Rattle.domain_nsec3.specs.Config.{ChainConfig, Hash, Parameters}
+use Rattle.domain_nsec3.specs.Meaning.{AreAlone, IsAlone}
+use Rattle.domain_nsec3.specs.Owners.{nsec3_lists}
+use Rattle.domain_checker.specs.HashedVerdict.{is_below_chain_cut, is_covered, is_matched, next_closer, IsFirstMatched}
+use Rattle.domain_answer.specs.HashedZoneAnswer.{hashed_encloser, hashed_exists, hashed_zone_answer, HashedLeavesOutBelowDname}
+use Rattle.domain_answer.specs.Proved.{last_labels, needs_no_records}
+use Rattle.domain_answer.specs.ZoneAnswer.{wildcard_below}
+use Rattle.domain_answer.specs.declared.answer.Answer.{Answer}
+use Rattle.domain_answer.specs.declared.answer.Answer.TheVariants.{OutsideZone, AtParent, Referral, Redirected, Has, NoDs, Alias, NoData}
+use Rattle.domain_answer.specs.declared.answer.Answer.TheVariants.{Wildcard, WildcardAlias, WildcardNoData, NameError, MayBeUnsigned, NoCloserName, TooManyIterations, NotProven}
+
+-- a record matches the closest encloser of x and, unless that is x, a zone cut or an owner of a
+-- DNAME record, one covers the next closer name
+abbrev pub tells_encloser : List ZoneRecord → Name → ChainConfig → List HashedLink → Name → Bool
+tells_encloser L a config listed x =
+    let e = hashed_encloser L a config x in
+    is_matched a config.parameters config.hash listed e
+    && (same_name e x || is_zone_cut L a e || nsec3_lists L a config e dname
+    || is_covered a config.parameters config.hash listed (next_closer x e))
+
+-- the wildcard below the closest encloser of x decides
+abbrev pub needs_wildcard : List ZoneRecord → Name → ChainConfig → Name → Bool
+needs_wildcard L a config x =
+    not (is_below_chain_cut L a config x) && not (hashed_exists L a config x)
+    && not (nsec3_lists L a config (hashed_encloser L a config x) dname)
+    && not (is_opt_out config.flags)
+
+-- a record of the list matches or covers that wildcard
+abbrev pub tells_wildcard : List ZoneRecord → Name → ChainConfig → List HashedLink → Name → Bool
+tells_wildcard L a config listed x =
+    let w = wildcard_below (hashed_encloser L a config x) in
+    is_matched a config.parameters config.hash listed w
+    || is_covered a config.parameters config.hash listed w
+
+-- the answer of the zone, where records tell of the closest encloser and, if the wildcard decides,
+-- of that; without the second no more than that there is no x
+abbrev pub hashed_proved_answer : List ZoneRecord → Name → ChainConfig → List HashedLink → Name → ℕ
+    → Answer
+hashed_proved_answer L a config listed x t =
+    if needs_no_records a x t then hashed_zone_answer L a config x t else
+    (if not (tells_encloser L a config listed x) then NotProven else
+    (if needs_wildcard L a config x && not (tells_wildcard L a config listed x)
+    then NoCloserName (length (hashed_encloser L a config x))
+    else hashed_zone_answer L a config x t))
+
+-- no other name of the chain has the hash of x, of an ancestor at or below the apex or, where there
+-- is no x, of the wildcard below its closest encloser
+pub record AreAskedAlone (L : List ZoneRecord) (a : Name) (config : ChainConfig) (x : Name)
+    : Type 0 where
+  pub ancestors : AreAlone L a config x
+  pub wildcard : hashed_exists L a config x ≡ false → (v : Octets)
+      × IsAlone L a config (wildcard_below (hashed_encloser L a config x)) v
+
+-- the answer is what is proved of any zone of whose chain these are records, in any order, with
+-- repeats
+abbrev pub IsHashedAnswered : List HashedLink → Name → Parameters → Hash → Name → ℕ → Answer
+    → Type 0
+IsHashedAnswered listed a p hash x t answer =
+    (L : List ZoneRecord) (config : ChainConfig) (links : List HashedLink)
+    → config.hash ≡ hash → config.parameters ≡ p → HashedLeavesOutBelowDname L a config
+    → IsHashedChain L a config links → AreAskedAlone L a config x → All (Contains links) listed
+    → answer ≡ hashed_proved_answer L a config listed x t
+
+-- ---- lists from anywhere
+
+-- of x and its ancestors at or below the apex the first that a record matches has n labels
+pub record HasEncloserProof (listed : List HashedLink) (a : Name) (p : Parameters) (hash : Hash)
+    (x : Name) (n : ℕ) : Type 0 where
+  pub longest : Name
+  pub first : IsFirstMatched a p hash listed x longest
+  pub counts : n ≡ length longest
+
+-- and a record covers the name one label longer
+pub record HasCloserProof (listed : List HashedLink) (a : Name) (p : Parameters) (hash : Hash)
+    (x : Name) (n : ℕ) : Type 0 where
+  pub longest : Name
+  pub first : IsFirstMatched a p hash listed x longest
+  pub counts : n ≡ length longest
+  pub covered : is_covered a p hash listed (next_closer x longest) ≡ true
+
+-- and a record matches the wildcard below the last n labels of x
+abbrev pub HasWildcardProof : List HashedLink → Name → Parameters → Hash → Name → ℕ → Type 0
+HasWildcardProof listed a p hash x n =
+    HasCloserProof listed a p hash x n
+    × (is_matched a p hash listed (wildcard_below (last_labels n x)) ≡ true)
+
+-- or covers it
+abbrev pub HasDenialProof : List HashedLink → Name → Parameters → Hash → Name → ℕ → Type 0
+HasDenialProof listed a p hash x n =
+    HasCloserProof listed a p hash x n
+    × (is_covered a p hash listed (wildcard_below (last_labels n x)) ≡ true)
+
+-- the records that an answer rests on are there, whatever else the list has
+abbrev pub HashedRestsOn : List HashedLink → Name → Parameters → Hash → Name → Answer → Type 0
+HashedRestsOn listed a p hash x OutsideZone = Unit {0}
+HashedRestsOn listed a p hash x AtParent = Unit {0}
+HashedRestsOn listed a p hash x (Referral n) = HasEncloserProof listed a p hash x n
+HashedRestsOn listed a p hash x (Redirected n) = HasEncloserProof listed a p hash x n
+HashedRestsOn listed a p hash x Has = is_matched a p hash listed x ≡ true
+HashedRestsOn listed a p hash x NoDs = is_matched a p hash listed x ≡ true
+HashedRestsOn listed a p hash x Alias = is_matched a p hash listed x ≡ true
+HashedRestsOn listed a p hash x NoData = is_matched a p hash listed x ≡ true
+HashedRestsOn listed a p hash x (Wildcard n) = HasWildcardProof listed a p hash x n
+HashedRestsOn listed a p hash x (WildcardAlias n) = HasWildcardProof listed a p hash x n
+HashedRestsOn listed a p hash x (WildcardNoData n) = HasWildcardProof listed a p hash x n
+HashedRestsOn listed a p hash x (NameError n) = HasDenialProof listed a p hash x n
+HashedRestsOn listed a p hash x (MayBeUnsigned n) = HasCloserProof listed a p hash x n
+HashedRestsOn listed a p hash x (NoCloserName n) = HasCloserProof listed a p hash x n
+HashedRestsOn listed a p hash x TooManyIterations = Unit {0}
+HashedRestsOn listed a p hash x NotProven = Unit {0}

@@ -1,0 +1,88 @@
+-- What NSEC3 records answer by themselves (RFC 5155, section 8; RFC 6840, sections 4.1 and 4.3).
+use Rattle.std.specs.Prelude.{ℕ, not, ◌&&◌, ◌||◌, ◌==◌, List, ◌≡◌, ◌⊎◌, Option, Some, None, Ok, Err, length, if◌then◌else◌}
+use Rattle.std.specs.List.{find}
+use Rattle.domain_octets.specs.Words.{Octets}
+use Rattle.domain_base.specs.Types.{cname, dname, ds, ns}
+use Rattle.domain_base.specs.Words.{Name}
+use Rattle.domain_bitmap.specs.Blocks.{contains_type}
+use Rattle.domain_chain_rdata.specs.OptOut.{is_opt_out}
+use Rattle.domain_nsec3.specs.Chain.{HashedLink}
+use Rattle.domain_nsec3.specs.Config.{Hash, Parameters, hash_name}
+use Rattle.domain_checker.specs.HashedEncloser.{Encloser, encloser_is_cut, IsEncloser, IsFoundEncloser}
+use Rattle.domain_checker.specs.HashedList.{is_hash_cover, is_hash_match}
+use Rattle.domain_checker.specs.HashedVerdict.{IsFirstRefusal}
+use Rattle.domain_answer.specs.Proved.{last_labels}
+use Rattle.domain_answer.specs.ZoneAnswer.{wildcard_below}
+use Rattle.domain_answer.specs.declared.answer.Answer.{Answer}
+use Rattle.domain_answer.specs.declared.answer.Answer.TheVariants.{Referral, Redirected, Has, NoDs, Alias, NoData}
+use Rattle.domain_answer.specs.declared.answer.Answer.TheVariants.{Wildcard, WildcardAlias, WildcardNoData, NameError, MayBeUnsigned, NoCloserName, NotProven}
+
+-- the record of the closest encloser says of its own name
+abbrev pub own_answer : Name → Encloser → ℕ → Answer
+own_answer a e t =
+    if encloser_is_cut a e && not (t == ds) then Referral e.count else
+    (if contains_type e.link.bits t then Has else
+    (if encloser_is_cut a e then NoDs else
+    (if contains_type e.link.bits cname then Alias else NoData)))
+
+-- a cover of the next closer name says, where the closest encloser has n labels
+abbrev pub next_answer : ℕ → Option HashedLink → Answer
+next_answer n None = NotProven
+next_answer n (Some k) = if is_opt_out k.flags then MayBeUnsigned n else NoCloserName n
+
+-- both say of a name below the closest encloser
+abbrev pub lower_answer : Name → Encloser → Answer
+lower_answer a e =
+    if encloser_is_cut a e then Referral e.count else
+    (if contains_type e.link.bits dname then Redirected e.count else next_answer e.count e.cover)
+
+-- they say of a name with n labels
+abbrev pub encloser_answer : Name → Encloser → ℕ → ℕ → Answer
+encloser_answer a e n t = if e.count == n then own_answer a e t else lower_answer a e
+
+abbrev pub found_answer : Name → Option Encloser → ℕ → ℕ → Answer
+found_answer a None n t = NotProven
+found_answer a (Some e) n t = encloser_answer a e n t
+
+-- what is said of a name whose closest encloser, right above the wildcard, has n labels, by the
+-- first match of the wildcard, or else its first cover
+abbrev pub wildcard_told : ℕ → ℕ → Option HashedLink → Option HashedLink → Answer
+wildcard_told n t (Some k) covering =
+    if contains_type k.bits t || contains_type k.bits ns then Wildcard n else
+    (if contains_type k.bits cname then WildcardAlias n else WildcardNoData n)
+wildcard_told n t None (Some k) = NameError n
+wildcard_told n t None None = NoCloserName n
+
+-- the wildcard below the last n labels of x is not refused by the hasher, and the list says so of x
+pub record IsWildcardRead (listed : List HashedLink) (a : Name) (p : Parameters) (hash : Hash)
+    (x : Name) (t n : ℕ) (answer : Answer) : Type 0 where
+  pub value : Octets
+  pub known : hash_name hash (wildcard_below (last_labels n x)) ≡ Ok value
+  pub says : answer ≡ wildcard_told n t (find (is_hash_match a p value) listed)
+      (find (is_hash_cover a p value) listed)
+
+-- where the closest encloser leaves no more to ask than the wildcard, that is asked for
+abbrev pub IsReadOn : List HashedLink → Name → Parameters → Hash → Name → ℕ → Answer → Answer
+    → Type 0
+IsReadOn listed a p hash x t (NoCloserName n) answer = IsWildcardRead listed a p hash x t n answer
+IsReadOn listed a p hash x t first answer = answer ≡ first
+
+-- what the list says of a name at or below the apex
+pub record IsHashedRead (listed : List HashedLink) (a : Name) (p : Parameters) (hash : Hash)
+    (x : Name) (t : ℕ) (answer : Answer) : Type 0 where
+  pub found : Option Encloser
+  pub is : IsFoundEncloser listed a p hash x found
+  pub ends : IsReadOn listed a p hash x t (found_answer a found (length x) t) answer
+
+-- the hasher refuses the wildcard below the closest encloser, which is asked for
+pub record IsWildcardRefusal (listed : List HashedLink) (a : Name) (p : Parameters) (hash : Hash)
+    (x : Name) (t reason : ℕ) : Type 0 where
+  pub encloser : Encloser
+  pub is : IsEncloser listed a p hash x encloser
+  pub asks : encloser_answer a encloser (length x) t ≡ NoCloserName encloser.count
+  pub refused : hash_name hash (wildcard_below (last_labels encloser.count x)) ≡ Err reason
+
+-- it is the first refusal among the names that are asked for
+abbrev pub IsFirstOfRefusals : List HashedLink → Name → Parameters → Hash → Name → ℕ → ℕ → Type 0
+IsFirstOfRefusals listed a p hash x t reason =
+    IsFirstRefusal listed a p hash x reason ⊎ IsWildcardRefusal listed a p hash x t reason
