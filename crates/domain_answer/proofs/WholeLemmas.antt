@@ -5,16 +5,17 @@ use Rattle.std.specs.Prelude.{◌==◌, All, filter}
 use Rattle.std.specs.List.{list_any}
 use Rattle.std.proofs.lemmas.Bool.{cases_Bool, true≢false, and_parts}
 use Rattle.std.proofs.lemmas.List.Elements.{recursion_from_All}
-use Rattle.domain_base.specs.Name.{is_at_or_below, same_name}
-use Rattle.domain_base.specs.Types.{cname, ds}
+use Rattle.domain_base.specs.Name.{is_at_or_below, is_strictly_below, same_name}
+use Rattle.domain_base.specs.Types.{cname, dname, ds}
 use Rattle.domain_base.specs.Words.{Name}
-use Rattle.domain_zone.specs.Zone.{ZoneRecord, OwnersNeverDescend, distinct, is_occluded, is_unoccluded, is_zone_cut, unoccluded_owners}
+use Rattle.domain_zone.specs.Zone.{ZoneRecord, OwnersNeverDescend, distinct, has_type, is_occluded, is_unoccluded}
+use Rattle.domain_zone.specs.Zone.{is_zone_cut, occludes, records_of, unoccluded_owners}
 use Rattle.domain_zone.proofs.NameLemmas.{below_parent, below_trans}
 use Rattle.domain_nsec.specs.Chain.{IsChain, Link}
 use Rattle.domain_nsec.specs.declared.config.GenerateNsecConfig.{GenerateNsecConfig}
 use Rattle.domain_checker.specs.Verdict.{has_match_or_cover}
 use Rattle.domain_checker.proofs.EncloserLemmas.{closest_is}
-use Rattle.domain_checker.proofs.FindLemmas.{In, all_in, from_map, in_filter}
+use Rattle.domain_checker.proofs.FindLemmas.{In, all_in, any_none, from_map, in_any, in_filter}
 use Rattle.domain_checker.proofs.ListLemmas.{ChainLaws}
 use Rattle.domain_answer.specs.declared.answer.Answer.{Answer}
 use Rattle.domain_answer.specs.declared.answer.Answer.TheVariants.{OutsideZone, AtParent, Referral, Redirected, Has, NoDs, Alias, NoData}
@@ -158,3 +159,24 @@ module _ (L : List ZoneRecord) (a : Name) (none : All (λ r. is_occluded true L 
       by : (b : Bool) → unoccluded_owners b L a ≡ unoccluded_owners true L a
       by true = refl
       by false = same_owners
+
+-- in a zone without DNAME records no more names are occluded
+module _ (L : List ZoneRecord) (a : Name) (none : has_type L dname ≡ false) where
+  no_dname : (n : Name) → has_type (records_of L n) dname ≡ false
+  no_dname n =
+      any_none (λ r. r.rtype == dname) (records_of L n) (λ r i.
+      elim (cases_Bool (r.rtype == dname)) [
+        | inl e ↦ absurd (true≢false (sym (in_any (λ r. r.rtype == dname) L r (in_filter (λ r. same_name r.owner n) L r i).0 e) ∙ none))
+        | inr e ↦ e
+      ])
+
+  same_occluders : (n : Name) → occludes false L a n ≡ occludes true L a n
+  same_occluders n = sym ((λ i. is_zone_cut L a n || (is_at_or_below n a && no_dname n i)) ∙ (λ i. is_zone_cut L a n || and_false (is_at_or_below n a) i))
+
+  pub left_out_without_dname : (config : GenerateNsecConfig) → LeavesOutBelowDname L a config
+  left_out_without_dname config = by config.occlude_below_dname
+    where
+      by : (b : Bool) → unoccluded_owners b L a ≡ unoccluded_owners true L a
+      by true = refl
+      by false = λ i. filter (λ n. is_at_or_below n a && not (list_any (λ r. same_occluders r.owner i && is_strictly_below n r.owner) L))
+          (distinct (map (λ r. r.owner) L))

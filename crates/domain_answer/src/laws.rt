@@ -1,7 +1,8 @@
 //! What holds of answers, and of what records say. A caller calls the law in its body.
 ghost use Rattle.std.specs.Prelude.{◌≡◌, ◌≢◌, ◌<◌, ℕ, Bool, All, List, length, true, false};
+ghost use Rattle.domain_base.specs.Types.{dname};
 ghost use Rattle.domain_base.specs.Words.{Name};
-ghost use Rattle.domain_zone.specs.Zone.{is_occluded, OwnersNeverDescend, ZoneRecord};
+ghost use Rattle.domain_zone.specs.Zone.{has_type, is_occluded, OwnersNeverDescend, ZoneRecord};
 ghost use Rattle.domain_nsec.specs.Chain.{IsChain, Link};
 ghost use Rattle.domain_nsec.specs.declared.config.GenerateNsecConfig.{GenerateNsecConfig};
 ghost use Rattle.domain_checker.specs.Alike.{ArePaired, IsAlike, IsPairedIn};
@@ -72,11 +73,13 @@ pub fn whole_chains_prove_all()
     chains_mean_the_zone();
 }
 
-/// A chain leaves out the names below an owner of a DNAME record where that was chosen, and where
-/// the zone has none there that is not below a zone cut too.
+/// A chain leaves out the names below an owner of a DNAME record where that was chosen, where the
+/// zone has no such record, and where it has none below one that is not below a zone cut too.
 pub fn chains_leave_out_names_below_dname()
     ensures chosen { (L : List ZoneRecord) (a : Name) (config : GenerateNsecConfig)
         → config.occlude_below_dname ≡ true → LeavesOutBelowDname L a config }
+    ensures no_dname { (L : List ZoneRecord) (a : Name) → has_type L dname ≡ false
+        → (config : GenerateNsecConfig) → LeavesOutBelowDname L a config }
     ensures none { (L : List ZoneRecord) (a : Name)
         → All (λ r. is_occluded true L a r.owner ≡ is_occluded false L a r.owner) L
         → (config : GenerateNsecConfig) → LeavesOutBelowDname L a config }
