@@ -176,6 +176,9 @@ fn with_hasher<H: Nsec3Hasher>(
         }
         "lent" => lent(alloc, apex, config, hasher, &zone(alloc, words)?, answers),
         "verdict" => verdicts::by_hash(alloc, apex, &config.params, hasher, words, answers)?,
+        "judge" => {
+            verdicts::judged_by_hash(alloc, apex, &config.params, hasher, words, answers)?;
+        }
         "unsorted" => without_sorting(alloc, apex, hasher, &zone(alloc, words)?, answers),
         _ => made(alloc, apex, config, hasher, &zone(alloc, words)?, answers),
     }

@@ -3,7 +3,7 @@
 use crate::lines::input::Tokens;
 use crate::lines::records::records;
 use crate::lines::{Answers, OwnName, input};
-use domain_answer::judge_nsec;
+use domain_answer::{judge_nsec, judge_nsec3};
 use domain_base::{Class, Rtype, ScanError, Scanner, Ttl};
 use domain_dnssec::{Nsec3Hasher, Nsec3Records, check_nsec, check_nsec3};
 use domain_plain::Record;
@@ -12,6 +12,9 @@ use std::alloc::Global;
 
 /// The parameters of an NSEC3 chain.
 type Params = Nsec3param<Vec<u8>>;
+
+/// The greatest number of iterations that answers are asked for with.
+const MOST_ITERATIONS: u16 = 12;
 
 /// The NSEC records that words spell.
 fn nsecs(
@@ -102,6 +105,28 @@ pub fn by_hash<H: Nsec3Hasher>(
         let (name, rtype) = question(alloc, words)?;
         match check_nsec3(alloc, apex, &chain, &name, rtype, hasher) {
             Ok(verdict) => answers.debug("verdict", &verdict),
+            Err(error) => answers.refused(&error),
+        }
+    }
+    Ok(())
+}
+
+/// Answers what NSEC3 records answer as a whole, in the same form.
+pub fn judged_by_hash<H: Nsec3Hasher>(
+    alloc: Global,
+    apex: &OwnName,
+    params: &Params,
+    hasher: &H,
+    words: &[&str],
+    answers: &mut Answers,
+) -> Result<(), ScanError> {
+    let (listed, asked) = input::halves(words, ":");
+    let param = Record::new(apex.clone()?, Class::IN, Ttl::from_secs(0), params.clone()?);
+    let chain = Nsec3Records::new(nsec3s(alloc, listed)?, param);
+    for words in asked.split(|word| *word == "/") {
+        let (name, rtype) = question(alloc, words)?;
+        match judge_nsec3(alloc, apex, &chain, &name, rtype, MOST_ITERATIONS, hasher) {
+            Ok(answer) => answers.debug("answer", &answer),
             Err(error) => answers.refused(&error),
         }
     }
