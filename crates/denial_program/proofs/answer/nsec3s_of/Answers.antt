@@ -3,10 +3,10 @@ use Rattle.domain_zone.specs.View.{zone_of}
 use Rattle.domain_nsec3.specs.Chain.{IsChainParam, IsHashedChain}
 use Rattle.domain_nsec3.specs.Faults.{IsFirstFault}
 use Rattle.domain_nsec3.specs.declared.config.Nsec3ParamTtlMode.TheVariants.{Soa}
-use Rattle.domain_dnssec.specs.declared.chain.ChainError.TheVariants.{Signing}
+use Rattle.domain_dnssec.specs.declared.chain.ChainError.TheVariants.{Signing, OutOfMemory}
 use Rattle.domain_lent.specs.Data.{minimum_of, RawRecord}
 use Rattle.denial_program.specs.Answer.{usual_nsec3_config}
-use Rattle.denial_program.proofs.AnswerLemmas.{usual_is}
+use Rattle.denial_program.proofs.AnswerLemmas.{given_one_class, usual_is}
 use Rattle.denial_program.proofs.answer.nsec3s_of.Goals as goal
 
 pub returns-in-Ok-clause-ok : goal.returns-in-Ok-clause-ok
@@ -63,3 +63,10 @@ returns g c =
         };
       };
     }
+
+pub returns-in-Err-OutOfMemory-clause-err : goal.returns-in-Err-OutOfMemory-clause-err
+returns-in-Err-OutOfMemory-clause-err g c = λ given sorts. record {
+  error = OutOfMemory;
+  is = refl;
+  none = given_one_class given c.args.sorted.now sorts c.requires.one_class;
+}
