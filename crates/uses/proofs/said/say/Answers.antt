@@ -1,10 +1,8 @@
-use Rattle.std.proofs.Common.{subst}
-use Rattle.domain_checker.specs.Verdict.{IsProved}
+use Rattle.std.proofs.Common.{ap}
 use Rattle.domain_dnssec.specs.ChainView.{links_of}
 use Rattle.uses.proofs.said.say.Goals as goal
 
 -- the list that is lent is the list
 pub returns : goal.returns
-returns c = λ keeps. c.verdicts_tell_of_records.ensures.all _ _ _ _ _ _ _ keeps c.in_ok-nsecs.ensures
-    (subst (λ xs. IsProved (links_of (λ name. name) xs) c.args.apex.now c.args.name.now c.args.rtype c.check_nsec.result)
-    c.deref.ensures.value c.check_nsec.ensures.zone)
+returns c = λ keeps. c.verdicts_tell_of_records.ensures.all _ _ _ _ _ _ _ _ keeps c.in_ok-nsecs.ensures
+    (ap (λ xs. links_of (λ name. name) xs) c.deref.ensures.value) c.check_nsec.ensures.zone
