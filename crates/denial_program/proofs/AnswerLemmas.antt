@@ -1,5 +1,5 @@
 -- How the program makes chains.
-use Rattle.std.proofs.Common.{◌≡◌, ◌⊎◌, true, false, List, sym, subst, inl, inr, Result, Ok, Err, IfErr, IsErrOf, OnOk}
+use Rattle.std.proofs.Common.{◌≡◌, ◌⊎◌, true, false, List, refl, sym, subst, inl, inr, Result, Ok, Err, IfErr, IsErrOf, OnOk}
 use Rattle.std.specs.Result.{IsErrAnd}
 use Rattle.domain_dnssec.specs.declared.chain.ChainError.{ChainError}
 use Rattle.domain_dnssec.specs.declared.chain.ChainError.TheVariants.{MixedClasses, Signing, OutOfMemory}
@@ -92,3 +92,17 @@ nsec3s_unwritten answers given apex p x is (Err e) (inr m) = inr (record {
 pub if_err_of : {X : Type 0} (P : DenialFault → Type 0) (e : DenialFault) (r : Result X DenialFault) → IsErrAnd r (λ f. f ≡ e) → P e → IfErr r P
 if_err_of P e (Ok x) h p = tt
 if_err_of P e (Err f) h p = subst P (sym h) p
+
+-- want of memory for records that were sorted
+pub nsecs_want_memory : {X : Type 0} (given sorted : List RawRecord) (apex : Name) → Sorts given sorted → IsOneClass sorted
+    → (r : Result X DenialFault) → IsErrAnd r (λ f. f ≡ NoMemory) → IfErr r (IsUnwritten (IsNsecs given apex) (HasNoNsecs given apex))
+nsecs_want_memory given sorted apex sorts one r h =
+    if_err_of (IsUnwritten (IsNsecs given apex) (HasNoNsecs given apex)) NoMemory r h
+    (inr (record { error = OutOfMemory; is = refl; none = given_one_class given sorted sorts one }))
+
+pub nsec3s_want_memory : {X : Type 0} (answers : HasherAnswer) (given sorted : List RawRecord) (apex : Name) (p : Params)
+    → Sorts given sorted → IsOneClass sorted → (r : Result X DenialFault) → IsErrAnd r (λ f. f ≡ NoMemory)
+    → IfErr r (IsUnwritten (IsNsec3s answers given apex p) (HasNoNsec3s answers given apex p))
+nsec3s_want_memory answers given sorted apex p sorts one r h =
+    if_err_of (IsUnwritten (IsNsec3s answers given apex p) (HasNoNsec3s answers given apex p)) NoMemory r h
+    (inr (record { error = OutOfMemory; is = refl; none = given_one_class given sorted sorts one }))

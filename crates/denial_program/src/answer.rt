@@ -207,8 +207,8 @@ fn write_nsecs_of<'a, W: Write>(
         (HasNoNsecs records.entry.items apex.now)) }
     ensures untouched { IfErr result (λ e. IsBeforeOutput e → output.new ≡ output.old) }
 {
-    let apex = store_name(arena, apex)?;
     let sorted = sort_zone(records)?;
+    let apex = store_name(arena, apex)?;
     let laid = lay_owners(arena, sorted)?;
     let answer = nsecs_of(alloc, &apex, &laid)?;
     answer.send(output)
@@ -233,8 +233,8 @@ fn write_nsec3s_of<'a, W: Write, H: Nsec3Hasher>(
         (HasNoNsec3s (H.answer hasher.now) records.entry.items apex.now parameters)) }
     ensures untouched { IfErr result (λ e. IsBeforeOutput e → output.new ≡ output.old) }
 {
-    let apex = store_name(arena, apex)?;
     let sorted = sort_zone(records)?;
+    let apex = store_name(arena, apex)?;
     let answer = nsec3s_of(alloc, &apex, parameters, &sorted, hasher)?;
     answer.send(output)
 }

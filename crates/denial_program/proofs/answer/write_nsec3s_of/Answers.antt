@@ -1,7 +1,7 @@
 use Rattle.std.proofs.Common.{List, sym, subst, inr}
 use Rattle.domain_lent.specs.Data.{RawRecord}
 use Rattle.denial_program.specs.Answer.{HasNoNsec3s, IsNsec3s, IsUnwritten, Sorts}
-use Rattle.denial_program.proofs.AnswerLemmas.{if_err_of, nsec3s_unwritten, on_ok}
+use Rattle.denial_program.proofs.AnswerLemmas.{if_err_of, nsec3s_unwritten, nsec3s_want_memory, on_ok}
 use Rattle.denial_program.proofs.answer.write_nsec3s_of.Goals as goal
 
 pub returns-in_err-answer-clause-err : goal.returns-in_err-answer-clause-err
@@ -31,3 +31,9 @@ returns-clause-err g c =
     let sorts = subst (λ (xs : List RawRecord). Sorts given xs) (sym c.deref.ensures.value) c.in_ok-sorted.ensures.sorts in
     let is = subst (λ apex. IsNsec3s answers given apex p c.in_ok-answer.answer) c.in_ok-apex.ensures (c.in_ok-answer.ensures.ok given sorts) in
     nsec3s_unwritten answers given c.args.apex.now p c.in_ok-answer.answer is c.send.result c.send.ensures.err
+
+pub returns-in_err-apex-clause-err : goal.returns-in_err-apex-clause-err
+returns-in_err-apex-clause-err g c =
+    nsec3s_want_memory (g.H.Nsec3Hasher.answer c.args.hasher.now) c.args.records.items c.in_ok-sorted.sorted.items c.args.apex.now
+    c.args.parameters c.in_ok-sorted.ensures.sorts c.in_ok-sorted.ensures.one_class c.from_residual-in_err-apex.result
+    c.from_residual-in_err-apex.ensures.1
