@@ -80,6 +80,25 @@ pub(crate) fn hash_after(hashed: &[Hashed], at: usize) -> &[u8]
     hashed[0].hash.as_slice()
 }
 
+/// The chain of these hashes, where no two of them are alike. Takes no memory.
+fn without_collision(
+    hashed: Vec<Hashed>,
+    types: RtypeBitmaps,
+) -> Result<HashedChain, Nsec3HashError>
+    requires { IsSortedByKey (λ h. h.hash) (slice_cmp nat_cmp) hashed.items }
+    ensures ok { IfOk result (λ chain. (chain.hashed.items ≡ hashed.items)
+        × (chain.types ≡ types)) }
+    ensures apart { OnOk result
+        (IsStrictlySortedBy (slice_cmp nat_cmp) (map (λ h. h.hash) hashed.items)) }
+    ensures err { IfErr result (λ e. (e ≡ hash_error.CollisionDetected)
+        × HasAlikeNeighbours (map (λ h. h.hash) hashed.items)) }
+{
+    if has_collision(hashed.as_slice()) {
+        return Err(Nsec3HashError::CollisionDetected);
+    }
+    Ok(HashedChain { hashed, types })
+}
+
 /// A chain over these names, of which the first own records and have these types: each is hashed,
 /// in the order of the list, and then they are put in the order of their hashes.
 fn hash_chain<S: Sorter, H: Nsec3Hasher, O: Octets, N: ToName>(
@@ -107,10 +126,10 @@ fn hash_chain<S: Sorter, H: Nsec3Hasher, O: Octets, N: ToName>(
     };
     drop(names);
     sort_by_hash::<S>(&mut hashed)?;
-    if has_collision(hashed.as_slice()) {
-        return Err(Nsec3HashError::CollisionDetected);
+    match without_collision(hashed, types) {
+        Ok(chain) => Ok(chain),
+        Err(error) => Err(error),
     }
-    Ok(HashedChain { hashed, types })
 }
 
 /// The chain over these owners, which stand in canonical order from the apex on, with their types:

@@ -1,5 +1,5 @@
 //! The hashes of names, and the owners of their records.
-ghost use Rattle.std.specs.Prelude.{◌≡◌, ◌+◌, ◌<◌, ◌≤◌, ◌++◌, ◌∷◌, ◌⊎◌, [], List, Ok, Some, None, length, map, take, All, IfOk, IfErr, IsErrOf, OnOk};
+ghost use Rattle.std.specs.Prelude.{◌≡◌, ◌+◌, ◌<◌, ◌≤◌, ◌++◌, ◌∷◌, ◌⊎◌, [], List, Ok, Some, None, length, map, take, All, IfOk, IfErr, IsErrOf, OnOk, vec_capacity, vec_len};
 ghost use Rattle.domain_octets.specs.Words.{Octets};
 ghost use Rattle.domain_records.specs.declared.error.Nsec3HashError.TheVariants as hash_error;
 ghost use Rattle.domain_base.specs.Wire.{labels_of, IsWire};
@@ -236,7 +236,42 @@ fn hash_at<H: Nsec3Hasher, O: Octets>(
     }
 }
 
+/// The hashes of names, each with the place of its name, in their order, in a list that has room for
+/// them; else the first refusal. Takes no memory but the hasher's.
+fn hash_into<H: Nsec3Hasher, O: Octets>(
+    alloc: Global,
+    hasher: &H,
+    params: &Nsec3param<O>,
+    apex: &ParsedName<'_>,
+    names: &[ParsedName<'_>],
+    mut hashed: Vec<Hashed>,
+) -> Result<Vec<Hashed>, Nsec3HashError>
+    requires empty { hashed.items ≡ [] }
+    requires none { vec_len hashed ≡ 0 }
+    requires room { length names.now ≤ vec_capacity hashed }
+    ensures same { IfOk result (λ hashed. (entries : List Entry)
+        → map (λ n. n.name) entries ≡ names.now
+        → map without_hash (map (as_hashed_entry entries) hashed.items) ≡ entries) }
+    ensures ok { IfOk result (λ hashed. (entries : List Entry)
+        → map (λ n. n.name) entries ≡ names.now → All
+        (IsHashed apex.now (hash_by (H.answer hasher.now) (parameters_of params.now)))
+        (map (as_hashed_entry entries) hashed.items)) }
+    ensures err { IfErr result (λ e. (e ≡ hash_error.OutOfMemory)
+        ⊎ IsFirstRefused apex.now (hash_by (H.answer hasher.now) (parameters_of params.now))
+        names.now e) }
+    ensures memory { IsErrOf result hash_error.OutOfMemory → H.takes_memory hasher.now }
+{
+    for (place, name) in names.iter().enumerate() {
+        match hash_at(alloc, hasher, params, apex, name, place) {
+            Ok(item) => hashed.push_reserved(item),
+            Err(error) => return Err(error),
+        }
+    }
+    Ok(hashed)
+}
+
 /// The hashes of names, each with the place of its name, in their order; else the first refusal.
+/// The memory of the list is taken first.
 pub(crate) fn hash_names<H: Nsec3Hasher, O: Octets>(
     alloc: Global,
     hasher: &H,
@@ -255,12 +290,6 @@ pub(crate) fn hash_names<H: Nsec3Hasher, O: Octets>(
         ⊎ IsFirstRefused apex.now (hash_by (H.answer hasher.now) (parameters_of params.now))
         names.now e) }
 {
-    let mut hashed = Vec::with_capacity(alloc, names.len())?;
-    for (place, name) in names.iter().enumerate() {
-        match hash_at(alloc, hasher, params, apex, name, place) {
-            Ok(item) => hashed.push(item)?,
-            Err(error) => return Err(error),
-        }
-    }
-    Ok(hashed)
+    let room = Vec::with_capacity(alloc, names.len())?;
+    hash_into(alloc, hasher, params, apex, names, room)
 }

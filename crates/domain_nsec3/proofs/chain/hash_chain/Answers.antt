@@ -30,8 +30,8 @@ returns-in-Err-clause-fault g c =
     ] in
     subst (λ (x : Name). IsHashingFault x h entries c.in-Err.error) c.as_parsed-above.ensures told
 
-pub returns-then-has_collision-clause-fault : goal.returns-then-has_collision-clause-fault
-returns-then-has_collision-clause-fault g c =
+pub returns-in-Err-without_collision-clause-fault : goal.returns-in-Err-without_collision-clause-fault
+returns-in-Err-without_collision-clause-fault g c =
     let entries = entries_of c.args.names.items c.args.types in
     let see = as_hashed_entry (entries_of c.args.names.items c.args.types) in
     let h = hash_by (g.H.Nsec3Hasher.answer c.args.hasher.now) (parameters_of c.args.params.now) in
@@ -40,23 +40,23 @@ returns-then-has_collision-clause-fault g c =
     let same = c.in-Ok.ensures.same entries are in
     let ok = c.in-Ok.ensures.ok entries are in
     let told : IsHashingFault c.as_parsed-above.result (hash_by (g.H.Nsec3Hasher.answer c.args.hasher.now)
-    (parameters_of c.args.params.now)) (entries_of c.args.names.items c.args.types) CollisionDetected =
+    (parameters_of c.args.params.now)) (entries_of c.args.names.items c.args.types) c.in-Err-without_collision.error =
     inr (inr (
-      refl,
+      c.in-Err-without_collision.ensures.err.0,
       record {
         ordered = map see c.sort_by_hash.new.hashed.items;
         moved = moved_entries see c.as_parsed-above.result h entries c.in-Ok.hashed.items c.sort_by_hash.new.hashed.items
             c.in_ok-sort_by_hash.ensures.permutation same ok;
         hashed = hashed_entries see c.as_parsed-above.result h entries c.in-Ok.hashed.items c.sort_by_hash.new.hashed.items
             c.in_ok-sort_by_hash.ensures.permutation same ok;
-        alike = subst HasAlikeNeighbours (ap (map (λ x. (see x).hash)) c.as_slice-2.ensures.value
-            ∙ hashes_of see c.sort_by_hash.new.hashed.items) (c.has_collision.ensures.alike c.if-has_collision.true);
+        alike = subst HasAlikeNeighbours (hashes_of see c.sort_by_hash.new.hashed.items)
+            c.in-Err-without_collision.ensures.err.1;
       },
     )) in
-    subst (λ (x : Name). IsHashingFault x h entries CollisionDetected) c.as_parsed-above.ensures told
+    subst (λ (x : Name). IsHashingFault x h entries c.in-Err-without_collision.error) c.as_parsed-above.ensures told
 
-pub returns-clause-chain : goal.returns-clause-chain
-returns-clause-chain g c p =
+pub returns-in-Ok-without_collision-clause-chain : goal.returns-in-Ok-without_collision-clause-chain
+returns-in-Ok-without_collision-clause-chain g c p =
     let entries = entries_of c.args.names.items c.args.types in
     let see = as_hashed_entry (entries_of c.args.names.items c.args.types) in
     let h = hash_by (g.H.Nsec3Hasher.answer c.args.hasher.now) (parameters_of c.args.params.now) in
@@ -79,13 +79,22 @@ returns-clause-chain g c p =
     ))
     (moved_entries see c.as_parsed-above.result h entries c.in-Ok.hashed.items c.sort_by_hash.new.hashed.items moved same ok)
     (hashed_entries see c.as_parsed-above.result h entries c.in-Ok.hashed.items c.sort_by_hash.new.hashed.items moved same ok)
-    (subst (IsStrictlySortedBy (slice_cmp nat_cmp)) (ap (map (λ x. (see x).hash)) c.as_slice-2.ensures.value
-    ∙ hashes_of see c.sort_by_hash.new.hashed.items) (c.has_collision.ensures.apart c.if-has_collision.false))
+    (subst (IsStrictlySortedBy (slice_cmp nat_cmp)) (hashes_of see c.sort_by_hash.new.hashed.items)
+    c.in-Ok-without_collision.ensures.apart)
     (ap (chain_links c.as_parsed-above.result p) (sym (types_told c.args.names.items c.args.types c.sort_by_hash.new.hashed.items c.requires.within))) in
-    subst (λ (x : Name). IsOrderedChain x h p entries (chain_links x p types)) c.as_parsed-above.ensures made
+    let ok = c.in-Ok-without_collision.ensures.ok in
+    let moved_in : IsOrderedChain c.as_parsed-above.result (hash_by (g.H.Nsec3Hasher.answer c.args.hasher.now) (parameters_of c.args.params.now))
+    p (entries_of c.args.names.items c.args.types) (chain_links c.as_parsed-above.result p
+    (map (as_hashed_types c.in-Ok-without_collision.chain.types) c.in-Ok-without_collision.chain.hashed.items)) =
+    subst (λ ts. IsOrderedChain c.as_parsed-above.result h p entries (chain_links c.as_parsed-above.result p
+    (map (as_hashed_types ts) c.in-Ok-without_collision.chain.hashed.items))) (sym ok.1)
+    (subst (λ hs. IsOrderedChain c.as_parsed-above.result h p entries (chain_links c.as_parsed-above.result p
+    (map (as_hashed_types c.args.types) hs))) (sym ok.0) made) in
+    subst (λ (x : Name). IsOrderedChain x h p entries (chain_links x p
+    (map (as_hashed_types c.in-Ok-without_collision.chain.types) c.in-Ok-without_collision.chain.hashed.items))) c.as_parsed-above.ensures moved_in
 
-pub returns-clause-sound : goal.returns-clause-sound
-returns-clause-sound g c =
+pub returns-in-Ok-without_collision-clause-sound : goal.returns-in-Ok-without_collision-clause-sound
+returns-in-Ok-without_collision-clause-sound g c =
     let entries = entries_of c.args.names.items c.args.types in
     let see = as_hashed_entry (entries_of c.args.names.items c.args.types) in
     let h = hash_by (g.H.Nsec3Hasher.answer c.args.hasher.now) (parameters_of c.args.params.now) in
@@ -94,4 +103,5 @@ returns-clause-sound g c =
     let sound : All (λ x. hash_fault c.as_parsed-above.result (Ok x.hash) ≡ None) c.sort_by_hash.new.hashed.items =
     sound_hashes see c.as_parsed-above.result h entries c.in-Ok.hashed.items c.sort_by_hash.new.hashed.items
     c.in_ok-sort_by_hash.ensures.permutation (c.in-Ok.ensures.same entries are) (c.in-Ok.ensures.ok entries are) in
-    subst (λ (y : Name). All (λ x. hash_fault y (Ok x.hash) ≡ None) c.sort_by_hash.new.hashed.items) c.as_parsed-above.ensures sound
+    subst (λ hs. All (λ x. hash_fault (g.N.ToName.labels c.args.apex.now) (Ok x.hash) ≡ None) hs) (sym c.in-Ok-without_collision.ensures.ok.0)
+    (subst (λ (y : Name). All (λ x. hash_fault y (Ok x.hash) ≡ None) c.sort_by_hash.new.hashed.items) c.as_parsed-above.ensures sound)

@@ -1,6 +1,0 @@
-use Rattle.domain_nsec3.specs.View.{hash_by, parameters_of}
-use Rattle.domain_nsec3.proofs.HashLemmas.{AreHashed}
-use Rattle.domain_nsec3.proofs.hash.hash_names.Given as goal
-
-abbrev pub invariant-loop-place : goal.invariant-loop-place
-invariant-loop-place g l = AreHashed l.apex (hash_by (g.H.Nsec3Hasher.answer l.hasher) (parameters_of l.params)) l.names l.place l.hashed.items
