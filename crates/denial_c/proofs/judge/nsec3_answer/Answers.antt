@@ -1,4 +1,8 @@
-use Rattle.std.proofs.Common.{◌∷◌, [], subst}
+use Rattle.std.proofs.Common.{◌≡◌, ◌∷◌, [], true, false, sym, subst}
+use Rattle.domain_answer.specs.HashedProved.{IsHashedAnswered}
+use Rattle.domain_answer.specs.HashedReading.{IsHashedRead}
+use Rattle.domain_answer.specs.Proved.{needs_no_records}
+use Rattle.domain_answer.specs.ZoneAnswer.{is_at_parent}
 use Rattle.domain_checker.specs.HashedView.{links}
 use Rattle.domain_nsec3.specs.View.{as_param_record}
 use Rattle.denial_c.specs.Among.{AreNsec3s, AreParams}
@@ -13,3 +17,34 @@ returns-in-Err c =
     (IsAnswerRefused c.args.apex.now c.args.name.now c.args.rtype c.args.class c.args.limit c.args.records.now) c.in_ok-apex.apex c.in_ok-apex.ensures.ok
     (c.in_ok-name.name, c.in_ok-name.ensures.ok) c.in-Err.fault
     (subst (λ n. IsChainFault c.in_ok-apex.apex n c.args.records.now c.in-Err.fault) c.from_int.ensures c.in-Err.ensures.err)
+
+pub returns-in-Ok-judge_nsec3 : goal.returns-in-Ok-judge_nsec3
+returns-in-Ok-judge_nsec3 c =
+    let a = c.in_ok-apex.apex in
+    let x = c.in_ok-name.name in
+    let chain = c.in-Ok.chain in
+    let param = as_param_record (λ n. n) chain.nsec3param in
+    let ks = links (λ n. n) chain in
+    let answer = c.in-Ok-judge_nsec3.answer in
+    record {
+      a = a;
+      x = x;
+      links = ks;
+      param = param;
+      asked = record {
+        apex_is = c.in_ok-apex.ensures.ok;
+        name_is = c.in_ok-name.ensures.ok;
+        nsec3s = subst (λ n. AreNsec3s n c.args.records.now ks) c.from_int.ensures c.in-Ok.ensures.nsec3s;
+        single = subst (λ n. AreParams a n c.args.records.now (param ∷ [])) c.from_int.ensures c.in-Ok.ensures.param;
+      };
+      outside = λ off. let e = c.in-Ok-judge_nsec3.ensures.outside off in cc;
+      parent = λ low at. let e = c.in-Ok-judge_nsec3.ensures.parent low (subst (λ t. is_at_parent a x t ≡ true) (sym c.from_int-rtype.ensures) at) in cc;
+      iterations = λ some over.
+          let e = c.in-Ok-judge_nsec3.ensures.iterations (subst (λ t. needs_no_records a x t ≡ false) (sym c.from_int-rtype.ensures) some) over in cc;
+      zone = λ few. subst (λ t. IsHashedAnswered ks a param.parameters (hash_of param) x t answer) c.from_int-rtype.ensures
+          (c.in-Ok-judge_nsec3.ensures.zone few);
+      exact = λ some few. subst (λ t. IsHashedRead ks a param.parameters (hash_of param) x t answer) c.from_int-rtype.ensures
+          (c.in-Ok-judge_nsec3.ensures.exact (subst (λ t. needs_no_records a x t ≡ false) (sym c.from_int-rtype.ensures) some) few);
+      proof = c.in-Ok-judge_nsec3.ensures.proof;
+      within = c.in-Ok-judge_nsec3.ensures.within;
+    }
