@@ -48,7 +48,7 @@ pub record HasNsecVerdict (apex name : Octets) (t class : ℕ) (records : Octets
   pub asked : AreNsecsAsked apex name class records a x links
   pub zone : IsProved links a x t verdict
   pub proof : is_at_or_below x a ≡ true → verdict ≢ NotProven → HasProof links a x
-  pub exact : verdict ≡ reading links a x t
+  pub exact : verdict ≡ reading a links x t
   pub within : IsWithin (length x) verdict
 
 -- no records, or NSEC records whose data are none

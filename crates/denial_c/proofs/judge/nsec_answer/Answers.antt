@@ -1,4 +1,4 @@
-use Rattle.std.proofs.Common.{◌≡◌, subst}
+use Rattle.std.proofs.Common.{◌≡◌, sym, subst}
 use Rattle.domain_answer.specs.Proved.{IsAnswered}
 use Rattle.domain_answer.specs.Reading.{reading}
 use Rattle.domain_nsec.specs.ChainView.{links_of}
@@ -17,7 +17,8 @@ pub returns : goal.returns
 returns c =
     let a = c.in_ok-apex.apex in
     let x = c.in_ok-name.name in
-    let links = links_of (λ n. n) c.in-Ok.nsecs.items in
+    let links = links_of (λ n. n) c.deref.result.now in
+    let listed = subst (λ items. AreNsecs c.from_int.result c.args.records.now (links_of (λ n. n) items)) (sym c.deref.ensures.value) c.in-Ok.ensures.ok in
     record {
       a = a;
       x = x;
@@ -25,7 +26,7 @@ returns c =
       asked = record {
         apex_is = c.in_ok-apex.ensures.ok;
         name_is = c.in_ok-name.ensures.ok;
-        are = subst (λ n. AreNsecs n c.args.records.now links) c.from_int.ensures c.in-Ok.ensures.ok;
+        are = subst (λ n. AreNsecs n c.args.records.now links) c.from_int.ensures listed;
       };
       zone = subst (λ t. IsAnswered links a x t c.judge_nsec.result) c.from_int-2.ensures c.judge_nsec.ensures.zone;
       proof = c.judge_nsec.ensures.proof;
