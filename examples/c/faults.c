@@ -1,7 +1,8 @@
 /*
  * Calls the library with small messages that are made by hand, and compares each answer with the
  * number in `denial.h` that must come: each verdict, each whole answer, each fault and each text, and
- * octets cut at each place. Needs no other library. Linked with `-Wl,--wrap=malloc`, so that memory can be refused.
+ * octets cut at each place. Needs no other library. Linked with `-Wl,--wrap=malloc,--wrap=realloc`,
+ * so that memory can be refused.
  */
 #include <stdio.h>
 #include <stdlib.h>
@@ -13,14 +14,28 @@ enum { A = 1, NS = 2, CNAME = 5, SOA = 6, MX = 15, DNAME = 39, DS = 43, RRSIG = 
 enum { IN = 1, CH = 3 };
 
 static int failures;
-/* The compiler may not know that malloc reads it. */
-static volatile int memory_is_refused;
+
+/* During a call of the library: whether it is refused all memory, or the request for memory that is
+ * refused, counted from 0; and how many it made. The compiler may not know that malloc reads them. */
+static volatile int is_calling, memory_is_refused;
+static volatile long refused_request = -1, requests;
 
 void *__real_malloc(size_t size);
+void *__real_realloc(void *block, size_t size);
+
+static int is_refused(void)
+{
+    return is_calling && (requests++ == refused_request || memory_is_refused);
+}
 
 void *__wrap_malloc(size_t size)
 {
-    return memory_is_refused ? NULL : __real_malloc(size);
+    return is_refused() ? NULL : __real_malloc(size);
+}
+
+void *__wrap_realloc(void *block, size_t size)
+{
+    return is_refused() ? NULL : __real_realloc(block, size);
 }
 
 /* Octets that grow. */
@@ -143,21 +158,21 @@ static uint32_t judge_nsec3(const uint8_t *apex, size_t apex_length, const uint8
 static uint32_t ask_octets(check *call, const struct octets *apex, const struct octets *name, int rtype,
                            const struct octets *records, size_t *labels)
 {
-    int was_refused = memory_is_refused;
     uint8_t *parts[3];
     uint32_t answer;
 
-    memory_is_refused = 0;
     parts[0] = malloc(apex->length + 1);
     parts[1] = malloc(name->length + 1);
     parts[2] = malloc(records->length + 1);
-    memory_is_refused = was_refused;
     memcpy(parts[0], apex->at, apex->length);
     memcpy(parts[1], name->at, name->length);
     memcpy(parts[2], records->at, records->length);
     *labels = 999;
+    requests = 0;
+    is_calling = 1;
     answer = call(parts[0], apex->length, parts[1], name->length, (uint16_t)rtype, IN, parts[2],
                   records->length, labels);
+    is_calling = 0;
     free(parts[0]);
     free(parts[1]);
     free(parts[2]);
@@ -464,6 +479,44 @@ static void try_without_memory(void)
     ask(denial_judge_nsec, "a.", "x.b.a.", A, &chain, DENIAL_JUDGED_NAME_ERROR, 2);
 }
 
+/* Refuses each request for memory in turn: the answer is that there is none. */
+static void refuse_each_request(check *call, const char *what, const struct octets *records)
+{
+    struct octets apex = {{0}, 0}, name = {{0}, 0};
+    size_t labels;
+    uint32_t answer;
+
+    put_name(&apex, "a.");
+    put_name(&name, "x.a.");
+    for (refused_request = 0;; refused_request++) {
+        answer = ask_octets(call, &apex, &name, A, records, &labels);
+        if (requests <= refused_request)
+            break;
+        expect(what, answer, labels, DENIAL_OUT_OF_MEMORY, 0);
+    }
+    if (refused_request == 0) {
+        printf("differs: no request for memory: %s\n", what);
+        failures++;
+    }
+    refused_request = -1;
+}
+
+static void try_short_of_memory(void)
+{
+    static const char low[20] = {0};
+    struct octets nsecs = {{0}, 0}, nsec3s = {{0}, 0};
+    int i;
+
+    put_param(&nsec3s, "a.", 1);
+    for (i = 0; i < 20; i++) {
+        put_nsec(&nsecs, "a.", IN, "y.a.", at_apex);
+        put_nsec3(&nsec3s, apex_owner, 0, low, at_apex);
+    }
+    refuse_each_request(denial_judge_nsec, "NSEC, short of memory", &nsecs);
+    refuse_each_request(denial_check_nsec3, "NSEC3 verdicts, short of memory", &nsec3s);
+    refuse_each_request(judge_nsec3, "NSEC3, short of memory", &nsec3s);
+}
+
 /* Cuts the octets at each place: only between two records are they still records. */
 static void try_cuts(void)
 {
@@ -526,6 +579,7 @@ int main(void)
     try_nsec3_faults(denial_check_nsec3, DENIAL_HAS);
     try_nsec3_faults(judge_nsec3, DENIAL_JUDGED_EXISTS);
     try_without_memory();
+    try_short_of_memory();
     try_cuts();
     puts(failures == 0 ? "same: verdicts, answers, texts, faults and cuts" : "differs: see above");
     return failures != 0;
