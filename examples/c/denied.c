@@ -1,7 +1,11 @@
 /*
- * Says what the NSEC or NSEC3 records of a file prove of a name and a type.
+ * Says what the NSEC or NSEC3 records of a file answer to a question about a name and a type.
  *
- *     denied APEX FILE [NAME TYPE]
+ *     denied [--check] APEX FILE [NAME TYPE]
+ *
+ * The answer is a whole one: that there is no such name and no wildcard either, that it is delegated,
+ * an alias, and so on. With --check it is a verdict on the one name and the one type. Of answers and
+ * verdicts that come with labels the name of so many labels is printed too.
  *
  * The file is an answer as `dig +dnssec` printed it, a chain or a signed zone, one record a line.
  * Without NAME and TYPE the question of the answer is asked. All records are handed on as they
@@ -10,12 +14,16 @@
  */
 #include <stdio.h>
 #include <stdlib.h>
+#include <string.h>
 
 #include "denial.h"
 #include "input.h"
 
-/* Prints the last so many labels of the name. */
-static void print_encloser(const char *verdict, const ldns_rdf *name, size_t labels)
+/* The most iterations that are allowed (RFC 9276, section 3.2, leaves the number to the validator). */
+enum { MOST_ITERATIONS = 150 };
+
+/* Prints the text, and the last so many labels of the name. */
+static void print_with_labels(const char *said, const ldns_rdf *name, size_t labels)
 {
     ldns_rdf *left = ldns_rdf_clone(name);
     char *text;
@@ -27,74 +35,92 @@ static void print_encloser(const char *verdict, const ldns_rdf *name, size_t lab
         left = above;
     }
     text = ldns_rdf2str(left);
-    printf("%s %s\n", verdict, text);
+    printf("%s %s\n", said, text);
     free(text);
     ldns_rdf_deep_free(left);
 }
 
-static int print_answer(uint32_t answer, const ldns_rdf *name, size_t labels)
+/* Whether the answer or the verdict comes with labels. */
+static int has_labels(uint32_t answer)
 {
     switch (answer) {
-    case DENIAL_NOT_PROVEN:
-        puts("not proven");
-        return 0;
-    case DENIAL_OUTSIDE_ZONE:
-        puts("outside zone");
-        return 0;
-    case DENIAL_BELOW_DELEGATION:
-        puts("below delegation");
-        return 0;
-    case DENIAL_HAS:
-        puts("has");
-        return 0;
-    case DENIAL_NO_TYPE:
-        puts("no type");
-        return 0;
-    case DENIAL_EMPTY_NAME:
-        puts("empty name");
-        return 0;
     case DENIAL_OPT_OUT:
-        print_encloser("opt-out", name, labels);
-        return 0;
     case DENIAL_NO_NAME:
-        print_encloser("no name", name, labels);
-        return 0;
+    case DENIAL_JUDGED_REFERRAL:
+    case DENIAL_JUDGED_REDIRECTED:
+    case DENIAL_JUDGED_WILDCARD:
+    case DENIAL_JUDGED_WILDCARD_ALIAS:
+    case DENIAL_JUDGED_WILDCARD_NO_DATA:
+    case DENIAL_JUDGED_NAME_ERROR:
+    case DENIAL_JUDGED_MAY_BE_UNSIGNED:
+    case DENIAL_JUDGED_NO_CLOSER_NAME:
+        return 1;
     default:
-        fprintf(stderr, "denied: fault %u\n", (unsigned)answer);
+        return 0;
+    }
+}
+
+static int print_answer(uint32_t answer, const ldns_rdf *name, size_t labels)
+{
+    if (answer >= DENIAL_FAULT && answer < DENIAL_JUDGED_NOT_PROVEN) {
+        fprintf(stderr, "denied: %s\n", denial_text(answer));
         return 1;
     }
+    if (has_labels(answer))
+        print_with_labels(denial_text(answer), name, labels);
+    else
+        puts(denial_text(answer));
+    return 0;
+}
+
+/* Asks the library, by the chain that the records are of. */
+static uint32_t ask(const struct input *input, const ldns_rdf *apex, int is_check, size_t *labels)
+{
+    const uint8_t *at_apex = ldns_rdf_data(apex), *at_name = ldns_rdf_data(input->name);
+    size_t apex_length = ldns_rdf_size(apex), name_length = ldns_rdf_size(input->name);
+    const uint8_t *records = ldns_buffer_begin(input->records);
+    size_t length = ldns_buffer_position(input->records);
+    uint16_t rtype = (uint16_t)input->rtype;
+
+    if (is_check)
+        return (input->is_hashed ? denial_check_nsec3 : denial_check_nsec)(
+            at_apex, apex_length, at_name, name_length, rtype, LDNS_RR_CLASS_IN, records, length, labels);
+    if (!input->is_hashed)
+        return denial_judge_nsec(at_apex, apex_length, at_name, name_length, rtype, LDNS_RR_CLASS_IN, records, length,
+                                 labels);
+    return denial_judge_nsec3(at_apex, apex_length, at_name, name_length, rtype, LDNS_RR_CLASS_IN, MOST_ITERATIONS,
+                              records, length, labels);
 }
 
 int main(int argc, char **argv)
 {
     struct input input = {NULL, NULL, 0, 0, 0};
+    int is_check = argc > 1 && strcmp(argv[1], "--check") == 0, status;
+    char **words = argv + 1 + is_check;
     ldns_rdf *apex;
     size_t labels;
     uint32_t answer;
 
+    argc -= is_check;
     if (argc != 3 && argc != 5) {
-        fprintf(stderr, "usage: denied APEX FILE [NAME TYPE]\n");
+        fprintf(stderr, "usage: denied [--check] APEX FILE [NAME TYPE]\n");
         return 2;
     }
-    apex = name_of(argv[1]);
+    apex = name_of(words[0]);
     if (argc == 5) {
-        input.name = name_of(argv[3]);
-        input.rtype = ldns_get_rr_type_by_name(argv[4]);
+        input.name = name_of(words[2]);
+        input.rtype = ldns_get_rr_type_by_name(words[3]);
     }
     input.records = ldns_buffer_new(65536);
-    read_file(&input, apex, argv[2]);
+    read_file(&input, apex, words[1]);
     if (input.name == NULL) {
-        fprintf(stderr, "denied: no question: %s\n", argv[2]);
+        fprintf(stderr, "denied: no question: %s\n", words[1]);
         return 1;
     }
-    answer = (input.is_hashed ? denial_check_nsec3 : denial_check_nsec)(
-        ldns_rdf_data(apex), ldns_rdf_size(apex),
-        ldns_rdf_data(input.name), ldns_rdf_size(input.name),
-        (uint16_t)input.rtype, LDNS_RR_CLASS_IN,
-        ldns_buffer_begin(input.records), ldns_buffer_position(input.records), &labels);
-    answer = (uint32_t)print_answer(answer, input.name, labels);
+    answer = ask(&input, apex, is_check, &labels);
+    status = print_answer(answer, input.name, labels);
     ldns_rdf_deep_free(apex);
     ldns_rdf_deep_free(input.name);
     ldns_buffer_free(input.records);
-    return (int)answer;
+    return status;
 }

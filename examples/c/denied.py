@@ -11,6 +11,8 @@ import struct
 import sys
 
 HAS, NO_TYPE, NO_NAME = 3, 4, 7
+EXISTS, NO_DATA, NAME_ERROR = 37, 40, 44
+TEXT_ROOM = 32
 A, SOA, NSEC, IN = 1, 6, 47, 1
 
 
@@ -37,9 +39,19 @@ class Checker:
         self.version.argtypes = []
         self.nsec = library.denial_check_nsec
         self.nsec3 = library.denial_check_nsec3
-        for call in (self.nsec, self.nsec3):
+        self.judge_nsec = library.denial_judge_nsec
+        self.find_text = library.denial_find_text
+        self.find_text.restype = None
+        self.find_text.argtypes = [ctypes.c_uint32, ctypes.POINTER(ctypes.POINTER(ctypes.c_char * TEXT_ROOM))]
+        for call in (self.nsec, self.nsec3, self.judge_nsec):
             call.restype = ctypes.c_uint32
             call.argtypes = [*pair, *pair, ctypes.c_uint16, ctypes.c_uint16, *pair, ctypes.POINTER(ctypes.c_size_t)]
+
+    def text(self, number):
+        """The text of a number."""
+        text = ctypes.pointer((ctypes.c_char * TEXT_ROOM)())
+        self.find_text(number, ctypes.byref(text))
+        return text.contents.value.decode()
 
     @staticmethod
     def ask(call, apex, name, rtype, records):
@@ -58,6 +70,14 @@ def main():
     for (name, rtype), answer in wanted.items():
         said = checker.ask(checker.nsec, "a.", name, rtype, records)
         if said != answer:
+            sys.exit(f"differs: Python: {name} {rtype}: {said}, not {answer}")
+    whole = records + nsec_record("n.a.", "a.", bytes([0x40, 0, 0, 0, 0, 0x03]))
+    for (name, rtype, records), answer in {
+        ("a.", SOA, records): (EXISTS, 0, "exists"), ("a.", A, records): (NO_DATA, 0, "no data"),
+        ("b.a.", A, records): (NAME_ERROR, 1, "name error"), ("q.n.a.", A, whole): (NAME_ERROR, 2, "name error"),
+    }.items():
+        said = checker.ask(checker.judge_nsec, "a.", name, rtype, records)
+        if (*said, checker.text(said[0])) != answer:
             sys.exit(f"differs: Python: {name} {rtype}: {said}, not {answer}")
     print(f"same: Python, over version {checker.version()}")
 

@@ -1,7 +1,8 @@
 /*
  * Calls the library with small messages that are made by hand, and compares each answer with the
- * number in `denial.h` that must come: each verdict, each fault, and octets cut at each place. Needs
- * no other library. Linked with `-Wl,--wrap=malloc`, so that memory can be refused.
+ * number in `denial.h` that must come: each verdict, each whole answer, each fault and each text, and
+ * octets cut at each place. Needs no other library. Linked with `-Wl,--wrap=malloc,--wrap=realloc`,
+ * so that memory can be refused.
  */
 #include <stdio.h>
 #include <stdlib.h>
@@ -9,18 +10,32 @@
 
 #include "denial.h"
 
-enum { A = 1, NS = 2, SOA = 6, MX = 15, DS = 43, RRSIG = 46, NSEC = 47, NSEC3 = 50, NSEC3PARAM = 51 };
+enum { A = 1, NS = 2, CNAME = 5, SOA = 6, MX = 15, DNAME = 39, DS = 43, RRSIG = 46, NSEC = 47, NSEC3 = 50, NSEC3PARAM = 51 };
 enum { IN = 1, CH = 3 };
 
 static int failures;
-/* The compiler may not know that malloc reads it. */
-static volatile int memory_is_refused;
+
+/* During a call of the library: whether it is refused all memory, or the request for memory that is
+ * refused, counted from 0; and how many it made. The compiler may not know that malloc reads them. */
+static volatile int is_calling, memory_is_refused;
+static volatile long refused_request = -1, requests;
 
 void *__real_malloc(size_t size);
+void *__real_realloc(void *block, size_t size);
+
+static int is_refused(void)
+{
+    return is_calling && (requests++ == refused_request || memory_is_refused);
+}
 
 void *__wrap_malloc(size_t size)
 {
-    return memory_is_refused ? NULL : __real_malloc(size);
+    return is_refused() ? NULL : __real_malloc(size);
+}
+
+void *__wrap_realloc(void *block, size_t size)
+{
+    return is_refused() ? NULL : __real_realloc(block, size);
 }
 
 /* Octets that grow. */
@@ -87,15 +102,20 @@ static void put_nsec(struct octets *to, const char *owner, int rclass, const cha
     put_record(to, owner, NSEC, rclass, &data);
 }
 
-static void put_param(struct octets *to, const char *owner, int algorithm)
+static void put_param_of(struct octets *to, const char *owner, int algorithm, int iterations)
 {
     struct octets data = {{0}, 0};
 
     put_number(&data, (unsigned long)algorithm, 1);
     put_number(&data, 0, 1);
-    put_number(&data, 0, 2);
+    put_number(&data, (unsigned long)iterations, 2);
     put_number(&data, 0, 1);
     put_record(to, owner, NSEC3PARAM, IN, &data);
+}
+
+static void put_param(struct octets *to, const char *owner, int algorithm)
+{
+    put_param_of(to, owner, algorithm, 0);
 }
 
 static void put_nsec3(struct octets *to, const char *owner, int flags, const char *next, const int *rtypes)
@@ -125,25 +145,34 @@ static void expect(const char *what, uint32_t answer, size_t labels, uint32_t wa
 typedef uint32_t check(const uint8_t *, size_t, const uint8_t *, size_t, uint16_t, uint16_t,
                        const uint8_t *, size_t, size_t *);
 
+/* The most iterations that judge_nsec3 allows. */
+static uint16_t limit;
+
+static uint32_t judge_nsec3(const uint8_t *apex, size_t apex_length, const uint8_t *name, size_t name_length,
+                            uint16_t rtype, uint16_t rclass, const uint8_t *records, size_t length, size_t *labels)
+{
+    return denial_judge_nsec3(apex, apex_length, name, name_length, rtype, rclass, limit, records, length, labels);
+}
+
 /* Asks, with octets that lie in blocks of their own length. */
 static uint32_t ask_octets(check *call, const struct octets *apex, const struct octets *name, int rtype,
                            const struct octets *records, size_t *labels)
 {
-    int was_refused = memory_is_refused;
     uint8_t *parts[3];
     uint32_t answer;
 
-    memory_is_refused = 0;
     parts[0] = malloc(apex->length + 1);
     parts[1] = malloc(name->length + 1);
     parts[2] = malloc(records->length + 1);
-    memory_is_refused = was_refused;
     memcpy(parts[0], apex->at, apex->length);
     memcpy(parts[1], name->at, name->length);
     memcpy(parts[2], records->at, records->length);
     *labels = 999;
+    requests = 0;
+    is_calling = 1;
     answer = call(parts[0], apex->length, parts[1], name->length, (uint16_t)rtype, IN, parts[2],
                   records->length, labels);
+    is_calling = 0;
     free(parts[0]);
     free(parts[1]);
     free(parts[2]);
@@ -239,44 +268,205 @@ static void try_nsec3_verdicts(void)
     ask(denial_check_nsec3, ".", "b.", A, &cut, DENIAL_NOT_PROVEN, 0);
 }
 
-static void try_faults(void)
+static const int at_alias[] = {CNAME, RRSIG, NSEC, 0}, at_dname[] = {DNAME, RRSIG, NSEC, 0},
+                 at_signed_cut[] = {NS, DS, RRSIG, NSEC, 0};
+
+/* Each whole answer that NSEC records give, over a whole chain. */
+static void try_nsec_answers(void)
+{
+    struct octets chain = {{0}, 0}, part = {{0}, 0}, none = {{0}, 0}, other = {{0}, 0};
+
+    put_nsec(&chain, "a.", IN, "alias.a.", at_apex);
+    put_nsec(&chain, "alias.a.", IN, "*.c.a.", at_alias);
+    put_nsec(&chain, "*.c.a.", IN, "cut.a.", at_alias);
+    put_nsec(&chain, "cut.a.", IN, "d.a.", at_cut);
+    put_nsec(&chain, "d.a.", IN, "*.n.a.", at_dname);
+    put_nsec(&chain, "*.n.a.", IN, "sec.a.", at_host);
+    put_nsec(&chain, "sec.a.", IN, "y.z.a.", at_signed_cut);
+    put_nsec(&chain, "y.z.a.", IN, "a.", at_host);
+    ask(denial_judge_nsec, "a.", "b.", A, &chain, DENIAL_JUDGED_OUTSIDE_ZONE, 0);
+    ask(denial_judge_nsec, "a.", "a.", DS, &chain, DENIAL_JUDGED_AT_PARENT, 0);
+    ask(denial_judge_nsec, "a.", "a.", SOA, &chain, DENIAL_JUDGED_EXISTS, 0);
+    ask(denial_judge_nsec, "A.", "A.", MX, &chain, DENIAL_JUDGED_NO_DATA, 0);
+    ask(denial_judge_nsec, "a.", "z.a.", A, &chain, DENIAL_JUDGED_NO_DATA, 0);
+    ask(denial_judge_nsec, "a.", "alias.a.", A, &chain, DENIAL_JUDGED_ALIAS, 0);
+    ask(denial_judge_nsec, "a.", "alias.a.", CNAME, &chain, DENIAL_JUDGED_EXISTS, 0);
+    ask(denial_judge_nsec, "a.", "cut.a.", A, &chain, DENIAL_JUDGED_REFERRAL, 2);
+    ask(denial_judge_nsec, "a.", "x.y.cut.a.", DS, &chain, DENIAL_JUDGED_REFERRAL, 2);
+    ask(denial_judge_nsec, "a.", "cut.a.", DS, &chain, DENIAL_JUDGED_NO_DS, 0);
+    ask(denial_judge_nsec, "a.", "sec.a.", DS, &chain, DENIAL_JUDGED_EXISTS, 0);
+    ask(denial_judge_nsec, "a.", "x.d.a.", A, &chain, DENIAL_JUDGED_REDIRECTED, 2);
+    ask(denial_judge_nsec, "a.", "d.a.", A, &chain, DENIAL_JUDGED_NO_DATA, 0);
+    ask(denial_judge_nsec, "a.", "x.y.n.a.", A, &chain, DENIAL_JUDGED_WILDCARD, 2);
+    ask(denial_judge_nsec, "a.", "x.n.a.", MX, &chain, DENIAL_JUDGED_WILDCARD_NO_DATA, 2);
+    ask(denial_judge_nsec, "a.", "x.c.a.", MX, &chain, DENIAL_JUDGED_WILDCARD_ALIAS, 2);
+    ask(denial_judge_nsec, "a.", "q.a.", A, &chain, DENIAL_JUDGED_NAME_ERROR, 1);
+    ask(denial_judge_nsec, "a.", "x.z.a.", A, &chain, DENIAL_JUDGED_NAME_ERROR, 2);
+    ask(denial_judge_nsec, "a.", "x.y.z.a.", A, &chain, DENIAL_JUDGED_NAME_ERROR, 3);
+    put_nsec(&part, "sec.a.", IN, "y.z.a.", at_signed_cut);
+    ask(denial_judge_nsec, "a.", "t.a.", A, &part, DENIAL_JUDGED_NO_CLOSER_NAME, 1);
+    ask(denial_judge_nsec, "a.", "b.a.", A, &part, DENIAL_JUDGED_NOT_PROVEN, 0);
+    ask(denial_judge_nsec, "a.", "a.", SOA, &none, DENIAL_JUDGED_NOT_PROVEN, 0);
+    put_nsec(&other, "a.", CH, "a.", at_apex);
+    ask(denial_judge_nsec, "a.", "a.", SOA, &other, DENIAL_JUDGED_NOT_PROVEN, 0);
+}
+
+/* Each whole answer that two NSEC3 records give: that of the apex, and one that covers all the rest. */
+static void try_nsec3_answers(void)
+{
+    static const char low[20] = {0}, high[20] = "\377\377\377\377\377\377\377\377\377\377"
+                                                               "\377\377\377\377\377\377\377\377\377";
+    static const char zero_owner[] = "00000000000000000000000000000000.a.";
+    struct octets chain = {{0}, 0}, opted = {{0}, 0}, half = {{0}, 0}, many = {{0}, 0};
+    const struct {
+        const int *rtypes;
+        uint32_t of_apex, below;
+        size_t labels;
+    } cases[] = {
+        {at_apex, DENIAL_JUDGED_NO_DATA, DENIAL_JUDGED_NAME_ERROR, 1},
+        {at_alias, DENIAL_JUDGED_ALIAS, DENIAL_JUDGED_NAME_ERROR, 1},
+        {at_dname, DENIAL_JUDGED_NO_DATA, DENIAL_JUDGED_REDIRECTED, 1},
+        {at_host, DENIAL_JUDGED_EXISTS, DENIAL_JUDGED_NAME_ERROR, 1},
+    };
+    size_t i;
+
+    for (i = 0; i < sizeof cases / sizeof *cases; i++) {
+        struct octets records = {{0}, 0};
+
+        put_param(&records, "a.", 1);
+        put_nsec3(&records, apex_owner, 0, low, cases[i].rtypes);
+        put_nsec3(&records, zero_owner, 0, high, nothing);
+        ask(judge_nsec3, "a.", "a.", A, &records, cases[i].of_apex, 0);
+        ask(judge_nsec3, "a.", "x.a.", A, &records, cases[i].below, cases[i].labels);
+        ask(judge_nsec3, "a.", "x.y.a.", A, &records, cases[i].below, cases[i].labels);
+        ask(judge_nsec3, "a.", "a.", DS, &records, DENIAL_JUDGED_AT_PARENT, 0);
+        ask(judge_nsec3, "a.", "b.", A, &records, DENIAL_JUDGED_OUTSIDE_ZONE, 0);
+    }
+    put_param(&opted, "A.", 1);
+    put_nsec3(&opted, apex_owner, 0, low, at_apex);
+    put_nsec3(&opted, zero_owner, 1, high, nothing);
+    ask(judge_nsec3, "a.", "x.a.", A, &opted, DENIAL_JUDGED_MAY_BE_UNSIGNED, 1);
+    put_param(&chain, ".", 1);
+    put_nsec3(&chain, "qj2k5gbslc63lg0qour6j95c8s2b6ueh.", 0, low, at_cut);
+    ask(judge_nsec3, ".", "a.", A, &chain, DENIAL_JUDGED_REFERRAL, 1);
+    ask(judge_nsec3, ".", "a.", DS, &chain, DENIAL_JUDGED_NO_DS, 0);
+    ask(judge_nsec3, ".", "x.a.", A, &chain, DENIAL_JUDGED_REFERRAL, 1);
+    ask(judge_nsec3, ".", "b.", A, &chain, DENIAL_JUDGED_NOT_PROVEN, 0);
+    put_param(&half, "a.", 1);
+    put_nsec3(&half, apex_owner, 0, low, at_apex);
+    ask(judge_nsec3, "a.", "x.a.", A, &half, DENIAL_JUDGED_NOT_PROVEN, 0);
+    put_param_of(&many, "a.", 1, 11);
+    limit = 10;
+    ask(judge_nsec3, "a.", "x.a.", A, &many, DENIAL_JUDGED_TOO_MANY_ITERATIONS, 0);
+    ask(judge_nsec3, "a.", "b.", A, &many, DENIAL_JUDGED_OUTSIDE_ZONE, 0);
+    limit = 11;
+    ask(judge_nsec3, "a.", "x.a.", A, &many, DENIAL_JUDGED_NOT_PROVEN, 0);
+    limit = 0;
+}
+
+/* Each number's text; the least number that has none follows the last that has one. */
+static void try_texts(void)
+{
+    static const struct {
+        uint32_t number;
+        const char *text;
+    } texts[] = {
+        {DENIAL_NOT_PROVEN, "not proven"},
+        {DENIAL_OUTSIDE_ZONE, "outside zone"},
+        {DENIAL_BELOW_DELEGATION, "below delegation"},
+        {DENIAL_HAS, "has"},
+        {DENIAL_NO_TYPE, "no type"},
+        {DENIAL_EMPTY_NAME, "empty name"},
+        {DENIAL_OPT_OUT, "opt-out"},
+        {DENIAL_NO_NAME, "no name"},
+        {DENIAL_BAD_APEX, "malformed apex"},
+        {DENIAL_BAD_NAME, "malformed name"},
+        {DENIAL_BAD_RECORDS, "malformed records"},
+        {DENIAL_NO_PARAM, "no single NSEC3PARAM record"},
+        {DENIAL_HASHER_REFUSED, "unknown hash algorithm"},
+        {DENIAL_OUT_OF_MEMORY, "out of memory"},
+        {DENIAL_JUDGED_NOT_PROVEN, "not proven"},
+        {DENIAL_JUDGED_OUTSIDE_ZONE, "outside zone"},
+        {DENIAL_JUDGED_AT_PARENT, "at the parent"},
+        {DENIAL_JUDGED_REFERRAL, "referral"},
+        {DENIAL_JUDGED_REDIRECTED, "redirected by DNAME"},
+        {DENIAL_JUDGED_EXISTS, "exists"},
+        {DENIAL_JUDGED_NO_DS, "no DS"},
+        {DENIAL_JUDGED_ALIAS, "alias"},
+        {DENIAL_JUDGED_NO_DATA, "no data"},
+        {DENIAL_JUDGED_WILDCARD, "wildcard"},
+        {DENIAL_JUDGED_WILDCARD_ALIAS, "wildcard alias"},
+        {DENIAL_JUDGED_WILDCARD_NO_DATA, "wildcard no data"},
+        {DENIAL_JUDGED_NAME_ERROR, "name error"},
+        {DENIAL_JUDGED_MAY_BE_UNSIGNED, "may be unsigned"},
+        {DENIAL_JUDGED_NO_CLOSER_NAME, "no closer name"},
+        {DENIAL_JUDGED_TOO_MANY_ITERATIONS, "too many iterations"},
+        {DENIAL_NO_NAME + 1, "no number of this library"},
+        {DENIAL_OUT_OF_MEMORY + 1, "no number of this library"},
+        {DENIAL_JUDGED_TOO_MANY_ITERATIONS + 1, "no number of this library"},
+        {UINT32_MAX, "no number of this library"},
+    };
+    size_t i;
+
+    for (i = 0; i < sizeof texts / sizeof *texts; i++)
+        if (strcmp(denial_text(texts[i].number), texts[i].text) != 0) {
+            printf("differs: the text of %u: %s, not %s\n", (unsigned)texts[i].number, denial_text(texts[i].number),
+                   texts[i].text);
+            failures++;
+        }
+}
+
+/* The faults of a call for NSEC. */
+static void try_nsec_faults(check *call, uint32_t not_proven)
+{
+    struct octets apex = {{0}, 0}, name = {{0}, 0}, bad = {{0}, 0};
+    struct octets no_bitmap = {{1, 'a', 0, 0, 0}, 5}, broken = {{0}, 0}, foreign = {{0}, 0};
+
+    put_name(&apex, "a.");
+    put_name(&name, "x.a.");
+    put(&bad, "\100", 1);
+    refuse(call, &bad, &bad, &bad, DENIAL_BAD_APEX);
+    refuse(call, &apex, &bad, &bad, DENIAL_BAD_NAME);
+    refuse(call, &apex, &name, &bad, DENIAL_BAD_RECORDS);
+    put_record(&broken, "a.", NSEC, IN, &no_bitmap);
+    ask(call, "a.", "a.", A, &broken, DENIAL_BAD_RECORDS, 0);
+    ask(call, "a.", "b.", A, &broken, DENIAL_BAD_RECORDS, 0);
+    put_record(&foreign, "a.", NSEC, CH, &no_bitmap);
+    ask(call, "a.", "a.", A, &foreign, not_proven, 0);
+}
+
+/* The faults of a call for NSEC3. */
+static void try_nsec3_faults(check *call, uint32_t has)
 {
     struct octets apex = {{0}, 0}, name = {{0}, 0}, bad = {{0}, 0}, param = {{0}, 0}, chain = {{0}, 0};
-    struct octets no_bitmap = {{1, 'a', 0, 0, 0}, 5}, broken = {{0}, 0}, foreign = {{0}, 0};
+    struct octets no_bitmap = {{1, 'a', 0, 0, 0}, 5}, broken = {{0}, 0};
 
     put_name(&apex, "a.");
     put_name(&name, "x.a.");
     put(&bad, "\100", 1);
     put_param(&param, "a.", 1);
     put_nsec3(&chain, apex_owner, 0, "01234567890123456789", at_apex);
-    refuse(denial_check_nsec, &bad, &bad, &bad, DENIAL_BAD_APEX);
-    refuse(denial_check_nsec, &apex, &bad, &bad, DENIAL_BAD_NAME);
-    refuse(denial_check_nsec, &apex, &name, &bad, DENIAL_BAD_RECORDS);
-    refuse(denial_check_nsec3, &bad, &bad, &bad, DENIAL_BAD_APEX);
-    refuse(denial_check_nsec3, &apex, &bad, &bad, DENIAL_BAD_NAME);
-    refuse(denial_check_nsec3, &apex, &name, &bad, DENIAL_BAD_RECORDS);
-    put_record(&broken, "a.", NSEC, IN, &no_bitmap);
+    refuse(call, &bad, &bad, &bad, DENIAL_BAD_APEX);
+    refuse(call, &apex, &bad, &bad, DENIAL_BAD_NAME);
+    refuse(call, &apex, &name, &bad, DENIAL_BAD_RECORDS);
     put_record(&broken, "a.", NSEC3, IN, &no_bitmap);
-    ask(denial_check_nsec, "a.", "a.", A, &broken, DENIAL_BAD_RECORDS, 0);
-    ask(denial_check_nsec3, "a.", "a.", A, &broken, DENIAL_BAD_RECORDS, 0);
-    put_record(&foreign, "a.", NSEC, CH, &no_bitmap);
-    ask(denial_check_nsec, "a.", "a.", A, &foreign, DENIAL_NOT_PROVEN, 0);
-    ask(denial_check_nsec3, "a.", "a.", A, &chain, DENIAL_NO_PARAM, 0);
+    ask(call, "a.", "a.", A, &broken, DENIAL_BAD_RECORDS, 0);
+    ask(call, "a.", "a.", A, &chain, DENIAL_NO_PARAM, 0);
     put_param(&chain, "b.", 1);
-    ask(denial_check_nsec3, "a.", "a.", A, &chain, DENIAL_NO_PARAM, 0);
+    ask(call, "a.", "a.", A, &chain, DENIAL_NO_PARAM, 0);
     put_param(&param, "a.", 1);
-    ask(denial_check_nsec3, "a.", "a.", A, &param, DENIAL_NO_PARAM, 0);
+    ask(call, "a.", "a.", A, &param, DENIAL_NO_PARAM, 0);
     param.length = 0;
     put_param(&param, "a.", 2);
-    ask(denial_check_nsec3, "a.", "a.", A, &param, DENIAL_HASHER_REFUSED, 0);
+    ask(call, "a.", "a.", A, &param, DENIAL_HASHER_REFUSED, 0);
     put_param(&chain, "a.", 1);
     memory_is_refused = 1;
-    ask(denial_check_nsec3, "a.", "a.", SOA, &chain, DENIAL_OUT_OF_MEMORY, 0);
+    ask(call, "a.", "a.", SOA, &chain, DENIAL_OUT_OF_MEMORY, 0);
     memory_is_refused = 0;
-    ask(denial_check_nsec3, "a.", "a.", SOA, &chain, DENIAL_HAS, 0);
+    ask(call, "a.", "a.", SOA, &chain, has, 0);
 }
 
-/* Without memory the NSEC records say the same. */
+/* Without memory the NSEC records prove the same; for a whole answer they are gathered in memory. */
 static void try_without_memory(void)
 {
     struct octets chain = {{0}, 0};
@@ -284,7 +474,47 @@ static void try_without_memory(void)
     put_chain(&chain);
     memory_is_refused = 1;
     ask(denial_check_nsec, "a.", "x.b.a.", A, &chain, DENIAL_NO_NAME, 2);
+    ask(denial_judge_nsec, "a.", "x.b.a.", A, &chain, DENIAL_OUT_OF_MEMORY, 0);
     memory_is_refused = 0;
+    ask(denial_judge_nsec, "a.", "x.b.a.", A, &chain, DENIAL_JUDGED_NAME_ERROR, 2);
+}
+
+/* Refuses each request for memory in turn: the answer is that there is none. */
+static void refuse_each_request(check *call, const char *what, const struct octets *records)
+{
+    struct octets apex = {{0}, 0}, name = {{0}, 0};
+    size_t labels;
+    uint32_t answer;
+
+    put_name(&apex, "a.");
+    put_name(&name, "x.a.");
+    for (refused_request = 0;; refused_request++) {
+        answer = ask_octets(call, &apex, &name, A, records, &labels);
+        if (requests <= refused_request)
+            break;
+        expect(what, answer, labels, DENIAL_OUT_OF_MEMORY, 0);
+    }
+    if (refused_request == 0) {
+        printf("differs: no request for memory: %s\n", what);
+        failures++;
+    }
+    refused_request = -1;
+}
+
+static void try_short_of_memory(void)
+{
+    static const char low[20] = {0};
+    struct octets nsecs = {{0}, 0}, nsec3s = {{0}, 0};
+    int i;
+
+    put_param(&nsec3s, "a.", 1);
+    for (i = 0; i < 20; i++) {
+        put_nsec(&nsecs, "a.", IN, "y.a.", at_apex);
+        put_nsec3(&nsec3s, apex_owner, 0, low, at_apex);
+    }
+    refuse_each_request(denial_judge_nsec, "NSEC, short of memory", &nsecs);
+    refuse_each_request(denial_check_nsec3, "NSEC3 verdicts, short of memory", &nsec3s);
+    refuse_each_request(judge_nsec3, "NSEC3, short of memory", &nsec3s);
 }
 
 /* Cuts the octets at each place: only between two records are they still records. */
@@ -317,6 +547,12 @@ static void try_cuts(void)
         expect("cut records", answer, labels,
                !is_whole ? DENIAL_BAD_RECORDS : length == chain.length ? DENIAL_NO_NAME : DENIAL_NOT_PROVEN,
                length == chain.length ? 1 : 0);
+        answer = ask_octets(denial_judge_nsec, &apex, &name, A, &cut, &labels);
+        expect("cut records", answer, labels,
+               !is_whole                  ? DENIAL_BAD_RECORDS
+               : length == chain.length ? DENIAL_JUDGED_NAME_ERROR
+                                          : DENIAL_JUDGED_NOT_PROVEN,
+               length == chain.length ? 1 : 0);
     }
     for (length = 0; length < name.length; length++) {
         cut = name;
@@ -324,6 +560,8 @@ static void try_cuts(void)
         answer = ask_octets(denial_check_nsec, &apex, &cut, A, &chain, &labels);
         expect("a cut name", answer, labels, DENIAL_BAD_NAME, 0);
         answer = ask_octets(denial_check_nsec3, &cut, &name, A, &chain, &labels);
+        expect("a cut apex", answer, labels, DENIAL_BAD_APEX, 0);
+        answer = ask_octets(judge_nsec3, &cut, &name, A, &chain, &labels);
         expect("a cut apex", answer, labels, DENIAL_BAD_APEX, 0);
     }
 }
@@ -333,9 +571,16 @@ int main(void)
     expect("the version", denial_version(), 0, DENIAL_VERSION, 0);
     try_nsec_verdicts();
     try_nsec3_verdicts();
-    try_faults();
+    try_nsec_answers();
+    try_nsec3_answers();
+    try_texts();
+    try_nsec_faults(denial_check_nsec, DENIAL_NOT_PROVEN);
+    try_nsec_faults(denial_judge_nsec, DENIAL_JUDGED_NOT_PROVEN);
+    try_nsec3_faults(denial_check_nsec3, DENIAL_HAS);
+    try_nsec3_faults(judge_nsec3, DENIAL_JUDGED_EXISTS);
     try_without_memory();
+    try_short_of_memory();
     try_cuts();
-    puts(failures == 0 ? "same: verdicts, faults and cuts" : "differs: see above");
+    puts(failures == 0 ? "same: verdicts, answers, texts, faults and cuts" : "differs: see above");
     return failures != 0;
 }

@@ -7,7 +7,8 @@
  * for. First each seed is cut at each place; then octets are changed, cut, doubled and joined at
  * random. What is handed in ends right before a page that can't be read, so that a read past its end
  * ends the program. Ends with status 1 where an answer is none of `denial.h`, where it differs when
- * the same is asked again, or where a closest encloser has more labels than the name.
+ * the same is asked again, where a closest encloser has more labels than the name, or where a whole
+ * answer and a verdict are of octets of which one is refused and the other is not.
  */
 #include <stdio.h>
 #include <stdlib.h>
@@ -34,7 +35,7 @@ static struct octets {
 
 static size_t seed_count;
 static struct guarded guards[3];
-static unsigned long answers[32];
+static unsigned long answers[64];
 static uint32_t state = 2463534242u;
 
 /* The next number of a fixed sequence, below a limit. */
@@ -79,35 +80,73 @@ static size_t count_labels(const struct octets *octets)
     return count;
 }
 
-static int is_answer(uint32_t answer, int is_hashed)
+/* The calls: of each chain that for a verdict, and that for a whole answer. */
+enum { IS_HASHED = 1, IS_JUDGED = 2, CALLS = 4, LIMIT = 20 };
+
+static int is_fault(uint32_t answer)
 {
-    if (answer <= DENIAL_NO_NAME)
-        return is_hashed || answer != DENIAL_OPT_OUT;
-    return answer >= DENIAL_BAD_APEX && answer <= (is_hashed ? DENIAL_OUT_OF_MEMORY : DENIAL_BAD_RECORDS);
+    return answer >= DENIAL_BAD_APEX && answer <= DENIAL_OUT_OF_MEMORY;
 }
 
-/* Asks both functions, each twice. */
+static int is_answer(uint32_t answer, int call)
+{
+    int is_hashed = (call & IS_HASHED) != 0;
+
+    if (is_fault(answer))
+        return is_hashed || answer <= DENIAL_BAD_RECORDS;
+    if (call & IS_JUDGED)
+        return answer >= DENIAL_JUDGED_NOT_PROVEN && answer <= DENIAL_JUDGED_TOO_MANY_ITERATIONS
+               && (is_hashed
+                   || (answer != DENIAL_JUDGED_MAY_BE_UNSIGNED && answer != DENIAL_JUDGED_TOO_MANY_ITERATIONS));
+    return answer <= DENIAL_NO_NAME && (is_hashed || answer != DENIAL_OPT_OUT);
+}
+
+static uint32_t ask_call(int call, uint16_t rtype, const uint8_t *at[3], size_t *labels)
+{
+    switch (call) {
+    case 0:
+        return denial_check_nsec(at[0], apex.length, at[1], name.length, rtype, 1, at[2], message.length, labels);
+    case IS_HASHED:
+        return denial_check_nsec3(at[0], apex.length, at[1], name.length, rtype, 1, at[2], message.length, labels);
+    case IS_JUDGED:
+        return denial_judge_nsec(at[0], apex.length, at[1], name.length, rtype, 1, at[2], message.length, labels);
+    default:
+        return denial_judge_nsec3(at[0], apex.length, at[1], name.length, rtype, 1, LIMIT, at[2], message.length,
+                                  labels);
+    }
+}
+
+/* Asks each function, each twice. */
 static void ask(uint16_t rtype)
 {
-    const uint8_t *at_apex = place(&guards[0], &apex), *at_name = place(&guards[1], &name);
-    const uint8_t *records = place(&guards[2], &message);
-    int is_hashed;
+    const uint8_t *at[3];
+    uint32_t said[CALLS];
+    int call;
 
-    for (is_hashed = 0; is_hashed < 2; is_hashed++) {
+    at[0] = place(&guards[0], &apex);
+    at[1] = place(&guards[1], &name);
+    at[2] = place(&guards[2], &message);
+    for (call = 0; call < CALLS; call++) {
         size_t labels = 999, again_labels = 999;
-        uint32_t answer = (is_hashed ? denial_check_nsec3 : denial_check_nsec)(
-            at_apex, apex.length, at_name, name.length, rtype, 1, records, message.length, &labels);
-        uint32_t again = (is_hashed ? denial_check_nsec3 : denial_check_nsec)(
-            at_apex, apex.length, at_name, name.length, rtype, 1, records, message.length, &again_labels);
+        uint32_t again;
 
-        if (!is_answer(answer, is_hashed) || again != answer || again_labels != labels
+        said[call] = ask_call(call, rtype, at, &labels);
+        again = ask_call(call, rtype, at, &again_labels);
+        if (!is_answer(said[call], call) || again != said[call] || again_labels != labels
             || (labels > 0 && labels > count_labels(&name))) {
-            printf("differs: answer %u with %zu labels, and again %u with %zu\n", (unsigned)answer, labels,
+            printf("differs: answer %u with %zu labels, and again %u with %zu\n", (unsigned)said[call], labels,
                    (unsigned)again, again_labels);
             exit(1);
         }
-        answers[answer]++;
+        answers[said[call]]++;
     }
+    for (call = 0; call < IS_JUDGED; call++)
+        /* For a whole answer other names may be hashed, or none, so that the hasher may refuse or not. */
+        if (said[call] != DENIAL_HASHER_REFUSED && said[call + IS_JUDGED] != DENIAL_HASHER_REFUSED
+            && (is_fault(said[call]) || is_fault(said[call + IS_JUDGED])) && said[call] != said[call + IS_JUDGED]) {
+            printf("differs: answers %u and %u\n", (unsigned)said[call], (unsigned)said[call + IS_JUDGED]);
+            exit(1);
+        }
 }
 
 /* Takes the owner of a record of the seed for the name, with a label before it at times. */
@@ -240,7 +279,7 @@ int main(int argc, char **argv)
     for (end = time(NULL) + atoi(argv[1]); time(NULL) < end; runs++)
         run();
     printf("same: %lu runs with %zu seeds; answers:", runs, seed_count);
-    for (i = 0; i < 32; i++)
+    for (i = 0; i < 64; i++)
         if (answers[i] > 0)
             printf(" %d %lu", i, answers[i]);
     puts("");

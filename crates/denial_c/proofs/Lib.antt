@@ -2,3 +2,4 @@ pub mod WireLemmas
 pub mod AmongLemmas
 pub mod NsecLemmas
 pub mod Nsec3Lemmas
+pub mod JudgeLemmas

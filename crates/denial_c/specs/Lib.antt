@@ -2,3 +2,5 @@ pub mod Wire
 pub mod Among
 pub mod Numbers
 pub mod Result
+pub mod Judged
+pub mod Texts

@@ -32,31 +32,43 @@ IsSpelled octets = (labels : Name) × Spells octets labels
 
 -- ---- NSEC
 
--- the verdict on the type t, over the NSEC records of a class
+-- the names and the NSEC records of a class that the octets are
+pub record AreNsecsAsked (apex name : Octets) (class : ℕ) (records : Octets) (a x : Name)
+    (links : List Link) : Type 0 where
+  pub apex_is : Spells apex a
+  pub name_is : Spells name x
+  pub are : AreNsecs class records links
+
+-- the verdict on the type t
 pub record HasNsecVerdict (apex name : Octets) (t class : ℕ) (records : Octets)
     (verdict : Verdict) : Type 0 where
   pub a : Name
   pub x : Name
   pub links : List Link
-  pub apex_is : Spells apex a
-  pub name_is : Spells name x
-  pub are : AreNsecs class records links
+  pub asked : AreNsecsAsked apex name class records a x links
   pub zone : IsProved links a x t verdict
   pub proof : is_at_or_below x a ≡ true → verdict ≢ NotProven → HasProof links a x
   pub exact : verdict ≡ reading a links x t
   pub within : IsWithin (length x) verdict
 
+-- no records, or NSEC records whose data are none
+abbrev pub HasNoNsecs : ℕ → Octets → Type 0
+HasNoNsecs class records = (links : List Link) → AreNsecs class records links → ⊥
+
 -- of faults the first that stands is told
+abbrev pub IsNsecFault : Octets → Octets → ℕ → Octets → Fault → Type 0
+IsNsecFault apex name class records fault.Apex = IsSpelled apex → ⊥
+IsNsecFault apex name class records fault.Name = IsSpelled apex × (IsSpelled name → ⊥)
+IsNsecFault apex name class records fault.Records =
+    IsSpelled apex × IsSpelled name × HasNoNsecs class records
+IsNsecFault apex name class records fault.Param = ⊥
+IsNsecFault apex name class records fault.Hasher = ⊥
+IsNsecFault apex name class records fault.OutOfMemory = ⊥
+
 abbrev pub IsNsecResult : Octets → Octets → ℕ → ℕ → Octets → Result Verdict Fault → Type 0
 IsNsecResult apex name t class records (Ok verdict) =
     HasNsecVerdict apex name t class records verdict
-IsNsecResult apex name t class records (Err fault.Apex) = IsSpelled apex → ⊥
-IsNsecResult apex name t class records (Err fault.Name) = IsSpelled apex × (IsSpelled name → ⊥)
-IsNsecResult apex name t class records (Err fault.Records) =
-    IsSpelled apex × IsSpelled name × ((links : List Link) → AreNsecs class records links → ⊥)
-IsNsecResult apex name t class records (Err fault.Param) = ⊥
-IsNsecResult apex name t class records (Err fault.Hasher) = ⊥
-IsNsecResult apex name t class records (Err fault.OutOfMemory) = ⊥
+IsNsecResult apex name t class records (Err e) = IsNsecFault apex name class records e
 
 -- ---- NSEC3
 
@@ -147,24 +159,30 @@ abbrev pub IsSpelledFault : Octets → ℕ → Octets → Fault → Type 0
 IsSpelledFault apex class records e =
     (a : Name) × Spells apex a × IsChainFault a class records e
 
--- of faults the first that stands is told, but for want of memory, which may come before others
+-- of faults the first that stands is told, but for want of memory, which may come before others;
+-- the hasher's is where a name that is asked for is refused
+abbrev pub IsNsec3Fault : Octets → Octets → ℕ → Octets → Type 0 → Fault → Type 0
+IsNsec3Fault apex name class records refused fault.Apex = IsSpelled apex → ⊥
+IsNsec3Fault apex name class records refused fault.Name = IsSpelled apex × (IsSpelled name → ⊥)
+IsNsec3Fault apex name class records refused fault.Records =
+    IsSpelled name × IsSpelledFault apex class records fault.Records
+IsNsec3Fault apex name class records refused fault.Param =
+    IsSpelled name × IsSpelledFault apex class records fault.Param
+IsNsec3Fault apex name class records refused fault.Hasher = refused
+IsNsec3Fault apex name class records refused fault.OutOfMemory = Unit {0}
+
 abbrev pub IsNsec3Result : Octets → Octets → ℕ → ℕ → Octets → Result Verdict Fault → Type 0
 IsNsec3Result apex name t class records (Ok verdict) =
     HasNsec3Verdict apex name t class records verdict
-IsNsec3Result apex name t class records (Err fault.Apex) = IsSpelled apex → ⊥
-IsNsec3Result apex name t class records (Err fault.Name) = IsSpelled apex × (IsSpelled name → ⊥)
-IsNsec3Result apex name t class records (Err fault.Records) =
-    IsSpelled name × IsSpelledFault apex class records fault.Records
-IsNsec3Result apex name t class records (Err fault.Param) =
-    IsSpelled name × IsSpelledFault apex class records fault.Param
-IsNsec3Result apex name t class records (Err fault.Hasher) = IsRefused apex name class records
-IsNsec3Result apex name t class records (Err fault.OutOfMemory) = Unit {0}
+IsNsec3Result apex name t class records (Err e) =
+    IsNsec3Fault apex name class records (IsRefused apex name class records) e
 
 -- ---- what C is told
 
 -- the numbers are those of an answer with this property
-pub record IsTold (IsAnswer : Result Verdict Fault → Type 0) (number labels : ℕ) : Type 0 where
-  pub answer : Result Verdict Fault
+pub record IsTold {V : Type 0} (number_by labels_by : V → ℕ)
+    (IsAnswer : Result V Fault → Type 0) (number labels : ℕ) : Type 0 where
+  pub answer : Result V Fault
   pub is : IsAnswer answer
-  pub tells : number ≡ number_of answer
-  pub counts : labels ≡ labels_of answer
+  pub tells : number ≡ number_of number_by answer
+  pub counts : labels ≡ labels_of labels_by answer

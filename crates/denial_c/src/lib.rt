@@ -1,30 +1,95 @@
-//! The checker for C: what the NSEC or NSEC3 records of a message prove of a name and a type (RFC
-//! 4035, section 5.4; RFC 5155, section 8).
+//! Denial for C: what the NSEC or NSEC3 records of a message answer to a question about a name and
+//! a type as a whole, and what they prove of one name and one type (RFC 4035, section 5.4; RFC
+//! 5155, section 8).
 //!
 //! Names and records are handed in as octets, as a message has them but without compression. Each
-//! function says what `check_nsec` or `check_nsec3` of `domain_checker` says of the records that
-//! the octets are, or why there is no such verdict. `include/denial.h` describes the functions and
-//! their numbers for C.
+//! function says what `judge_nsec` or `judge_nsec3` of `domain_answer`, or `check_nsec` or
+//! `check_nsec3` of `domain_checker`, says of the records that the octets are, or why there is no
+//! such answer. `include/denial.h` describes the functions and their numbers for C.
 #![tactic(auto)]
 
 ghost use Rattle.std.specs.Prelude.{◌≡◌};
+ghost use Rattle.denial_c.specs.Judged.{IsNsecAnswer, IsNsec3Answer};
+ghost use Rattle.denial_c.specs.Numbers.{answer_labels, answer_number, verdict_labels, verdict_number};
 ghost use Rattle.denial_c.specs.Result.{IsNsecResult, IsNsec3Result, IsTold};
+ghost use Rattle.denial_c.specs.Texts.{in_room, text_of};
 
 mod answer;
 mod fault;
+mod judge;
 mod nsec;
 mod nsec3;
+mod text;
 mod wire;
 
+use crate::text::ROOM;
 use std::alloc::Global;
 
 /// The version of the library: 10000 times its major number, 100 times its minor number, and its
 /// patch.
 #[unsafe(no_mangle)]
 pub extern "C" fn denial_version() -> u32
-    ensures { result ≡ 100 }
+    ensures { result ≡ 200 }
 {
-    100
+    200
+}
+
+/// Hands out the text of a number, and octets 0 after it. A number that no function here gives has
+/// a text that says so.
+#[unsafe(no_mangle)]
+pub extern "C" fn denial_find_text(number: u32, text: &mut &'static [u8; ROOM])
+    ensures { text.new.now ≡ in_room ROOM (text_of number) }
+{
+    *text = text::text_of(number);
+}
+
+/// What NSEC records answer to a question about a name and a type, as a whole.
+///
+/// Gives the number of an answer, and the number of labels that it counts, where it counts any; or
+/// the number of a fault.
+#[unsafe(no_mangle)]
+pub extern "C" fn denial_judge_nsec(
+    alloc: Global,
+    apex: &[u8],
+    name: &[u8],
+    rtype: u16,
+    class: u16,
+    records: &[u8],
+    labels: &mut usize,
+) -> u32
+    ensures { IsTold answer_number answer_labels
+        (IsNsecAnswer apex.now name.now rtype class records.now) result labels.new }
+{
+    answer::tell_answer(
+        judge::nsec_answer(alloc, apex, name, rtype, class, records),
+        labels,
+    )
+}
+
+/// What NSEC3 records answer to a question about a name and a type, as a whole, with the one
+/// NSEC3PARAM record of the apex among them. Where that has more iterations than the limit, nothing
+/// is hashed.
+///
+/// Gives the number of an answer, and the number of labels that it counts, where it counts any; or
+/// the number of a fault.
+#[unsafe(no_mangle)]
+pub extern "C" fn denial_judge_nsec3(
+    alloc: Global,
+    apex: &[u8],
+    name: &[u8],
+    rtype: u16,
+    class: u16,
+    limit: u16,
+    records: &[u8],
+    labels: &mut usize,
+) -> u32
+    ensures { IsTold answer_number answer_labels
+        (IsNsec3Answer apex.now name.now rtype class limit records.now) result labels.new }
+{
+    answer::tell_answer(
+        judge::nsec3_answer(alloc, apex, name, rtype, class, limit, records),
+        labels,
+    )
 }
 
 /// What NSEC records prove of a name and a type. Takes no memory.
@@ -40,9 +105,10 @@ pub extern "C" fn denial_check_nsec(
     records: &[u8],
     labels: &mut usize,
 ) -> u32
-    ensures { IsTold (IsNsecResult apex.now name.now rtype class records.now) result labels.new }
+    ensures { IsTold verdict_number verdict_labels
+        (IsNsecResult apex.now name.now rtype class records.now) result labels.new }
 {
-    answer::tell(
+    answer::tell_verdict(
         nsec::nsec_verdict(apex, name, rtype, class, records),
         labels,
     )
@@ -63,9 +129,10 @@ pub extern "C" fn denial_check_nsec3(
     records: &[u8],
     labels: &mut usize,
 ) -> u32
-    ensures { IsTold (IsNsec3Result apex.now name.now rtype class records.now) result labels.new }
+    ensures { IsTold verdict_number verdict_labels
+        (IsNsec3Result apex.now name.now rtype class records.now) result labels.new }
 {
-    answer::tell(
+    answer::tell_verdict(
         nsec3::nsec3_verdict(alloc, apex, name, rtype, class, records),
         labels,
     )

@@ -99,7 +99,7 @@ fn param_among<'a>(
 
 /// The NSEC3 records of the class among the records that the octets are, with the one NSEC3PARAM
 /// record of the apex.
-fn chain_among<'a>(
+pub(crate) fn chain_among<'a>(
     alloc: Global,
     apex: &ParsedName<'_>,
     class: Class,

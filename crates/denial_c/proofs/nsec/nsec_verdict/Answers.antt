@@ -17,9 +17,11 @@ returns-in-Ok c =
       a = a;
       x = x;
       links = links;
-      apex_is = c.in_ok-apex.ensures.ok;
-      name_is = c.in_ok-name.ensures.ok;
-      are = subst (λ n. AreNsecs n c.args.records.now links) c.from_int-2.ensures handed.1;
+      asked = record {
+        apex_is = c.in_ok-apex.ensures.ok;
+        name_is = c.in_ok-name.ensures.ok;
+        are = subst (λ n. AreNsecs n c.args.records.now links) c.from_int-2.ensures handed.1;
+      };
       zone = c.verdict.ensures.zone a x t links read;
       proof = c.verdict.ensures.proof a x t links read;
       exact = c.verdict.ensures.exact a x t links read;

@@ -1,0 +1,35 @@
+use Rattle.std.proofs.Common.{◌≡◌, sym, subst}
+use Rattle.domain_answer.specs.Proved.{IsAnswered}
+use Rattle.domain_answer.specs.Reading.{reading}
+use Rattle.domain_nsec.specs.ChainView.{links_of}
+use Rattle.denial_c.specs.Among.{AreNsecs}
+use Rattle.denial_c.specs.Judged.{IsNsecsFault}
+use Rattle.denial_c.proofs.JudgeLemmas.{nsecs_fault}
+use Rattle.denial_c.proofs.judge.nsec_answer.Goals as goal
+
+pub returns-in-Err : goal.returns-in-Err
+returns-in-Err c =
+    nsecs_fault c.args.apex.now c.args.name.now c.args.rtype c.args.class c.args.records.now (c.in_ok-apex.apex, c.in_ok-apex.ensures.ok)
+    (c.in_ok-name.name, c.in_ok-name.ensures.ok) c.in-Err.fault
+    (subst (λ n. IsNsecsFault n c.args.records.now c.in-Err.fault) c.from_int.ensures c.in-Err.ensures.err)
+
+pub returns : goal.returns
+returns c =
+    let a = c.in_ok-apex.apex in
+    let x = c.in_ok-name.name in
+    let links = links_of (λ n. n) c.deref.result.now in
+    let listed = subst (λ items. AreNsecs c.from_int.result c.args.records.now (links_of (λ n. n) items)) (sym c.deref.ensures.value) c.in-Ok.ensures.ok in
+    record {
+      a = a;
+      x = x;
+      links = links;
+      asked = record {
+        apex_is = c.in_ok-apex.ensures.ok;
+        name_is = c.in_ok-name.ensures.ok;
+        are = subst (λ n. AreNsecs n c.args.records.now links) c.from_int.ensures listed;
+      };
+      zone = subst (λ t. IsAnswered links a x t c.judge_nsec.result) c.from_int-2.ensures c.judge_nsec.ensures.zone;
+      proof = c.judge_nsec.ensures.proof;
+      exact = subst (λ t. c.judge_nsec.result ≡ reading a links x t) c.from_int-2.ensures c.judge_nsec.ensures.exact;
+      within = c.judge_nsec.ensures.within;
+    }

@@ -1,0 +1,88 @@
+-- What is answered of octets as a whole: the answer of `domain_answer` over the records that the
+-- octets are, or exactly why there is none.
+use Rattle.std.specs.Prelude.{◌≡◌, ◌<◌, ◌≤◌, ℕ, true, false, List, length, Result, Ok, Err}
+use Rattle.domain_octets.specs.Words.{Octets}
+use Rattle.domain_base.specs.Name.{is_at_or_below}
+use Rattle.domain_base.specs.Words.{Name}
+use Rattle.domain_nsec.specs.Chain.{Link}
+use Rattle.domain_nsec3.specs.Chain.{HashedLink, ParamRecord}
+use Rattle.domain_answer.specs.HashedProved.{HashedRestsOn, IsHashedAnswered}
+use Rattle.domain_answer.specs.HashedReading.{IsFirstOfRefusals, IsHashedRead}
+use Rattle.domain_answer.specs.Proved.{needs_no_records, CountsWithin, IsAnswered, RestsOn}
+use Rattle.domain_answer.specs.Reading.{reading}
+use Rattle.domain_answer.specs.ZoneAnswer.{is_at_parent}
+use Rattle.domain_answer.specs.declared.answer.Answer.{Answer}
+use Rattle.domain_answer.specs.declared.answer.Answer.TheVariants.{OutsideZone, AtParent, TooManyIterations}
+use Rattle.denial_c.specs.Result.{hash_of, AreAsked, AreNsecsAsked, HasNoNsecs, IsNsecFault, IsNsec3Fault}
+use Rattle.denial_c.specs.declared.fault.Fault.{Fault}
+use Rattle.denial_c.specs.declared.fault.Fault.TheVariants as fault
+
+-- ---- NSEC
+
+-- the answer to the name and the type t, over the NSEC records of a class
+pub record HasNsecAnswer (apex name : Octets) (t class : ℕ) (records : Octets) (answer : Answer)
+    : Type 0 where
+  pub a : Name
+  pub x : Name
+  pub links : List Link
+  pub asked : AreNsecsAsked apex name class records a x links
+  pub zone : IsAnswered links a x t answer
+  pub proof : RestsOn links a x answer
+  pub exact : answer ≡ reading a links x t
+  pub within : CountsWithin (length x) answer
+
+-- why there are no NSEC records
+abbrev pub IsNsecsFault : ℕ → Octets → Fault → Type 0
+IsNsecsFault class records fault.Apex = ⊥
+IsNsecsFault class records fault.Name = ⊥
+IsNsecsFault class records fault.Records = HasNoNsecs class records
+IsNsecsFault class records fault.Param = ⊥
+IsNsecsFault class records fault.Hasher = ⊥
+IsNsecsFault class records fault.OutOfMemory = Unit {0}
+
+-- of faults the first that stands is told, but for want of memory, which may come before others
+abbrev pub IsNsecAnswer : Octets → Octets → ℕ → ℕ → Octets → Result Answer Fault → Type 0
+IsNsecAnswer apex name t class records (Ok answer) = HasNsecAnswer apex name t class records answer
+IsNsecAnswer apex name t class records (Err fault.OutOfMemory) = Unit {0}
+IsNsecAnswer apex name t class records (Err e) = IsNsecFault apex name class records e
+
+-- ---- NSEC3
+
+-- the answer to the name and the type t, with at most so many iterations
+pub record HasNsec3Answer (apex name : Octets) (t class limit : ℕ) (records : Octets)
+    (answer : Answer) : Type 0 where
+  pub a : Name
+  pub x : Name
+  pub links : List HashedLink
+  pub param : ParamRecord
+  pub asked : AreAsked apex name class records a x links param
+  pub outside : is_at_or_below x a ≡ false → answer ≡ OutsideZone
+  pub parent : is_at_or_below x a ≡ true → is_at_parent a x t ≡ true → answer ≡ AtParent
+  pub iterations : needs_no_records a x t ≡ false → limit < param.parameters.iterations
+      → answer ≡ TooManyIterations
+  pub zone : param.parameters.iterations ≤ limit
+      → IsHashedAnswered links a param.parameters (hash_of param) x t answer
+  pub exact : needs_no_records a x t ≡ false → param.parameters.iterations ≤ limit
+      → IsHashedRead links a param.parameters (hash_of param) x t answer
+  pub proof : HashedRestsOn links a param.parameters (hash_of param) x answer
+  pub within : CountsWithin (length x) answer
+
+-- names are hashed, and the hasher refuses one of these
+pub record IsAnswerRefused (apex name : Octets) (t class limit : ℕ) (records : Octets)
+    : Type 0 where
+  pub a : Name
+  pub x : Name
+  pub links : List HashedLink
+  pub param : ParamRecord
+  pub reason : ℕ
+  pub asked : AreAsked apex name class records a x links param
+  pub needed : needs_no_records a x t ≡ false
+  pub allowed : param.parameters.iterations ≤ limit
+  pub first : IsFirstOfRefusals links a param.parameters (hash_of param) x t reason
+
+-- of faults the first that stands is told, but for want of memory, which may come before others
+abbrev pub IsNsec3Answer : Octets → Octets → ℕ → ℕ → ℕ → Octets → Result Answer Fault → Type 0
+IsNsec3Answer apex name t class limit records (Ok answer) =
+    HasNsec3Answer apex name t class limit records answer
+IsNsec3Answer apex name t class limit records (Err e) =
+    IsNsec3Fault apex name class records (IsAnswerRefused apex name t class limit records) e

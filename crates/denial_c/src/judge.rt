@@ -1,0 +1,91 @@
+//! What the NSEC or NSEC3 records in octets answer as a whole.
+ghost use Rattle.std.specs.Prelude.{IfErr, IfOk};
+ghost use Rattle.domain_nsec.specs.ChainView.{links_of};
+ghost use Rattle.denial_c.specs.Among.{AreNsecs};
+ghost use Rattle.denial_c.specs.Judged.{IsNsecAnswer, IsNsec3Answer, IsNsecsFault};
+
+use crate::fault::Fault;
+use crate::nsec::read_name;
+use crate::nsec3::chain_among;
+use crate::wire::{is_of, read_record};
+use domain_answer::{Answer, judge_nsec, judge_nsec3};
+use domain_base::{Class, Rtype};
+use domain_lent::{NsecRr, into_nsec};
+use domain_octets::Parser;
+use domain_records::Nsec3HashError;
+use domain_sha1::Sha1Hasher;
+use std::alloc::Global;
+
+/// The NSEC records of the class among the records that the octets are. Refuses octets that are no
+/// records, and NSEC records whose data are none.
+fn nsecs_among<'a>(alloc: Global, class: Class, octets: &'a [u8]) -> Result<Vec<NsecRr<'a>>, Fault>
+    ensures ok { IfOk result (λ nsecs. AreNsecs class octets.now (links_of (λ n. n) nsecs.items)) }
+    ensures err { IfErr result (IsNsecsFault class octets.now) }
+{
+    let mut nsecs = Vec::new(alloc);
+    let mut parser = Parser::new(octets);
+    'records: while parser.remaining() > 0 {
+        let Some(record) = read_record(&mut parser) else {
+            return Err(Fault::Records);
+        };
+        if is_of(&record, Rtype::NSEC, class) {
+            let Some(nsec) = into_nsec(record) else {
+                return Err(Fault::Records);
+            };
+            let Ok(()) = nsecs.push(nsec) else {
+                return Err(Fault::OutOfMemory);
+            };
+        }
+    }
+    Ok(nsecs)
+}
+
+/// What the NSEC records of the class among the records that the octets are answer to the name and
+/// the type.
+pub(crate) fn nsec_answer(
+    alloc: Global,
+    apex: &[u8],
+    name: &[u8],
+    rtype: u16,
+    class: u16,
+    records: &[u8],
+) -> Result<Answer, Fault>
+    ensures { IsNsecAnswer apex.now name.now rtype class records.now result }
+{
+    let apex = read_name(apex, Fault::Apex)?;
+    let name = read_name(name, Fault::Name)?;
+    let nsecs = match nsecs_among(alloc, Class::from_int(class), records) {
+        Ok(nsecs) => nsecs,
+        Err(fault) => return Err(fault),
+    };
+    Ok(judge_nsec(&apex, &nsecs, &name, Rtype::from_int(rtype)))
+}
+
+/// What the NSEC3 records of the class among the records that the octets are answer to the name and
+/// the type, with at most so many iterations.
+pub(crate) fn nsec3_answer(
+    alloc: Global,
+    apex: &[u8],
+    name: &[u8],
+    rtype: u16,
+    class: u16,
+    limit: u16,
+    records: &[u8],
+) -> Result<Answer, Fault>
+    ensures { IsNsec3Answer apex.now name.now rtype class limit records.now result }
+{
+    let apex = read_name(apex, Fault::Apex)?;
+    let name = read_name(name, Fault::Name)?;
+    let chain = match chain_among(alloc, &apex, Class::from_int(class), records) {
+        Ok(chain) => chain,
+        Err(fault) => return Err(fault),
+    };
+    let rtype = Rtype::from_int(rtype);
+    match judge_nsec3(alloc, &apex, &chain, &name, rtype, limit, &Sha1Hasher) {
+        Ok(answer) => Ok(answer),
+        Err(error) => match error {
+            Nsec3HashError::OutOfMemory => Err(Fault::OutOfMemory),
+            _ => Err(Fault::Hasher),
+        },
+    }
+}
