@@ -4,7 +4,7 @@ use Rattle.std.specs.Prelude.{◌==◌}
 use Rattle.std.specs.List.{find}
 use Rattle.domain_base.specs.Name.{is_at_or_below, is_strictly_below, lowered}
 use Rattle.domain_base.specs.Order.{before}
-use Rattle.domain_base.specs.Types.{cname, dname, ds, ns}
+use Rattle.domain_base.specs.Types.{cname, dname, ds, ns, soa}
 use Rattle.domain_base.specs.Words.{Name}
 use Rattle.domain_bitmap.specs.Blocks.{contains_type}
 use Rattle.domain_zone.specs.Covering.{matches_or_covers}
@@ -53,8 +53,9 @@ module _ (a : Name) (k l : Link) (alike : IsAlike k l) where
   owner_answer_alike = λ i. cond (cut_alike i) (Referral (labels i)) (Redirected (labels i))
 
   match_answer_alike : (t : ℕ) → match_answer a k t ≡ match_answer a l t
-  match_answer_alike t = λ i. cond (cut_alike i && not (t == ds)) (Referral (labels i)) (cond (contains_type (alike.bits i) t) Has
-      (cond (cut_alike i) NoDs (cond (contains_type (alike.bits i) cname) Alias NoData)))
+  match_answer_alike t = λ i. cond (cut_alike i && contains_type (alike.bits i) soa) NotProven
+      (cond (cut_alike i && not (t == ds)) (Referral (labels i)) (cond (contains_type (alike.bits i) t) Has
+      (cond (cut_alike i) NoDs (cond (contains_type (alike.bits i) cname) Alias NoData))))
 
   wildcard_match_alike : (n t : ℕ) → wildcard_match_answer a n k t ≡ wildcard_match_answer a n l t
   wildcard_match_alike n t = λ i. cond (contains_type (alike.bits i) t || cut_alike i) (Wildcard n)

@@ -27,7 +27,7 @@ use Rattle.domain_answer.specs.Reading.{absent_answer, cover_answer, listed_answ
 use Rattle.domain_answer.specs.Reading.{tells_occluded, wildcard_answer, wildcard_both, wildcard_cover_answer, wildcard_match_answer}
 use Rattle.domain_answer.specs.ZoneAnswer.{asterisk, encloser, existing_answer, highest_occluder, inside_answer, is_at_parent}
 use Rattle.domain_answer.specs.ZoneAnswer.{missing_answer, name_exists, owns_type, wildcard_below, zone_answer}
-use Rattle.domain_answer.proofs.ChainLemmas.{IsMeant, meant_by, apex_exists, inside, no_cut, no_type}
+use Rattle.domain_answer.proofs.ChainLemmas.{IsMeant, meant_by, apex_exists, child_at, inside, no_cut, no_type}
 use Rattle.domain_answer.proofs.ChainLemmas.{matched_cut, matched_exists, matched_high, matched_same, matched_type}
 use Rattle.domain_answer.proofs.ChainLemmas.{covered_cut, covered_encloser, covered_exists, covered_occluded, covered_under, covered_unowned}
 use Rattle.domain_answer.proofs.CountLemmas.{closest_last, parent_below, same_count, strictly_from}
@@ -198,9 +198,10 @@ module _ (L : List ZoneRecord) (a : Name) (assume : Bool) (links : List Link) (m
           let cut = matched_cut L a assume links meant alike sets k i x m in
           let exists = matched_exists L a assume links meant alike sets k i x m in
           let labels = same_count k.owner x (matched_same L a assume links meant alike sets k i x m) in
+          let child = child_at L a assume links meant alike sets k i in
           as_zone (match_answer a k t)
-          ((λ j. cond (cut j && not (t == ds)) (Referral (labels j)) (cond (types t bound j) Has
-          (cond (cut j) NoDs (cond (types cname (omega arith) j) Alias NoData))))
+          ((λ j. cond (child j) NotProven (cond (cut j && not (t == ds)) (Referral (labels j)) (cond (types t bound j) Has
+          (cond (cut j) NoDs (cond (types cname (omega arith) j) Alias NoData)))))
           ∙ sym (zone_free high ∙ (λ j. cond (exists j) (existing_answer L a assume x t) (missing_answer L a assume above wildcard t))))
           (there exists)
 

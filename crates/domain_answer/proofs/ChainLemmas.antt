@@ -9,7 +9,7 @@ use Rattle.domain_bitmap.specs.Bitmap.{bitmap_octets}
 use Rattle.domain_bitmap.specs.Blocks.{contains_type}
 use Rattle.domain_base.specs.Name.{is_at_or_below, is_strictly_below, lowered, same_name}
 use Rattle.domain_base.specs.Order.{before}
-use Rattle.domain_base.specs.Types.{dname, ns}
+use Rattle.domain_base.specs.Types.{dname, ns, soa}
 use Rattle.domain_base.specs.Words.{Name}
 use Rattle.domain_zone.specs.Covering.{matches, covers, matches_or_covers, pairs}
 use Rattle.domain_zone.specs.Enclosers.{longer, shared}
@@ -26,7 +26,7 @@ use Rattle.domain_checker.proofs.FindLemmas.{In, all_in, any_in, in_any, in_at, 
 use Rattle.domain_checker.proofs.ListLemmas.{ChainLaws}
 use Rattle.domain_checker.proofs.VerdictLemmas.{BitmapsAreSets, IgnoresCase}
 use Rattle.domain_answer.specs.Proved.{LeavesOutBelowDname}
-use Rattle.domain_answer.specs.Reading.{tells_occluded, tells_occluder}
+use Rattle.domain_answer.specs.Reading.{is_of_child, tells_occluded, tells_occluder}
 use Rattle.domain_answer.specs.ZoneAnswer.{encloser, name_exists, owns_type}
 use Rattle.domain_answer.proofs.OccluderLemmas.{below_occluder, occludes_same}
 
@@ -92,6 +92,18 @@ dname_bit assumed cut rs = by assumed cut (has_type rs dname)
     by false true false = refl
     by false false true = refl
     by false false false = refl
+
+-- at a zone cut there is no bit of SOA
+soa_bit : (assumed cut : Bool) (rs : List ZoneRecord) → (cut && is_listed assumed cut rs soa) ≡ false
+soa_bit assumed cut rs = by assumed cut (has_type rs soa)
+  where
+    by : (p q h : Bool) → (q && (((false || false) || (p && false)) || (h && ((not q || false) || false)))) ≡ false
+    by true true true = refl
+    by true true false = refl
+    by true false h = refl
+    by false true true = refl
+    by false true false = refl
+    by false false h = refl
 
 -- ---- tests over lists
 
@@ -191,6 +203,12 @@ module _ (L : List ZoneRecord) (a : Name) (assume : Bool) (links : List Link) (m
         (λ j. not (same_name k.owner a) && (type_at k i ns (omega arith)
         ∙ ns_bit (assume && same_name k.owner a) (is_zone_cut L a k.owner) (records_of L k.owner)) j)
         ∙ (λ j. (sym low j && not (same_name k.owner a)) && has_type (records_of L k.owner) ns)
+
+    -- it is no record of a child's apex
+    pub child_at : (k : Link) → In k links → is_of_child a k ≡ false
+    child_at k i =
+        (λ j. cut_at k i j && type_at k i soa (omega arith) j)
+        ∙ soa_bit (assume && same_name k.owner a) (is_zone_cut L a k.owner) (records_of L k.owner)
 
     -- and occludes exactly where it says so
     occludes_at : (k : Link) → In k links → tells_occluder a k ≡ occludes true L a k.owner

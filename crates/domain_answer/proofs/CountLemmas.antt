@@ -2,7 +2,7 @@
 use Rattle.std.proofs.Common.{◌≡◌, ℕ, ◌≤◌, ◌<◌, ◌-◌, suc, Bool, true, false, cond, not, ◌&&◌, ◌||◌, List, [], ◌∷◌}
 use Rattle.std.proofs.Common.{map, drop, length, refl, sym, ap, ◌∙◌, subst, inl, inr, arith, ltb, Some, None}
 use Rattle.std.specs.Char.{to_ascii_lowercase}
-use Rattle.std.proofs.lemmas.Bool.{cases_Bool, false≢true, and_parts, and_from}
+use Rattle.std.proofs.lemmas.Bool.{cases_Bool, cases_lt, false≢true, and_parts, and_from}
 use Rattle.std.proofs.lemmas.List.{length-map}
 use Rattle.domain_base.specs.Name.{is_at_or_below, is_strictly_below, lowered, parent_of, same_name}
 use Rattle.domain_base.specs.Order.{before}
@@ -59,6 +59,25 @@ last_all x n h = let none : length x - n ≡ 0 = omega arith in ap (λ m. drop m
 
 pub last_more : (l : Label) (x : Name) (n : ℕ) → n ≤ length x → last_labels n (l ∷ x) ≡ last_labels n x
 last_more l x n h = let more : length (l ∷ x) - n ≡ suc (length x - n) = omega arith in ap (λ m. drop m (l ∷ x)) more
+
+-- they are at or above the name, and so many
+pub last_above : (x : Name) (n : ℕ) → is_at_or_below x (last_labels n x) ≡ true
+last_above [] n = ap (is_at_or_below []) (last_all [] n (omega arith)) ∙ below_itself []
+last_above (l ∷ x) n =
+    elim (cases_lt n (length (l ∷ x))) [
+      | inl h ↦
+          let more = last_more l x n (omega arith) in
+          below_trans (l ∷ x) x (last_labels n (l ∷ x)) (below_parent l x) (ap (is_at_or_below x) more ∙ last_above x n)
+      | inr h ↦ ap (is_at_or_below (l ∷ x)) (last_all (l ∷ x) n h) ∙ below_itself (l ∷ x)
+    ]
+
+pub last_count : (x : Name) (n : ℕ) → n ≤ length x → length (last_labels n x) ≡ n
+last_count [] n h = let none : length {A = Label} [] ≡ n = omega arith in ap length (last_all [] n (omega arith)) ∙ none
+last_count (l ∷ x) n h =
+    elim (cases_lt n (length (l ∷ x))) [
+      | inl g ↦ ap length (last_more l x n (omega arith)) ∙ last_count x n (omega arith)
+      | inr g ↦ let all : length (l ∷ x) ≡ n = omega arith in ap length (last_all (l ∷ x) n g) ∙ all
+    ]
 
 pub parent_some : (x above : Name) (n : ℕ) → parent_of x ≡ Some above → n < length x → last_labels n x ≡ last_labels n above
 parent_some [] above n e h = absurd (cc)

@@ -7,7 +7,7 @@ use Rattle.std.proofs.lemmas.Bool.{cases_Bool, cases_lt, false≢true, and_parts
 use Rattle.std.proofs.lemmas.List.Elements.{recursion_from_All}
 use Rattle.domain_octets.specs.Words.{Octets}
 use Rattle.domain_base.specs.Name.{is_at_or_below, is_strictly_below, lowered, same_name}
-use Rattle.domain_base.specs.Types.{cname, dname, ds, ns}
+use Rattle.domain_base.specs.Types.{cname, dname, ds, ns, soa}
 use Rattle.domain_base.specs.Words.{Name}
 use Rattle.domain_bitmap.specs.Blocks.{contains_type}
 use Rattle.domain_chain_rdata.specs.OptOut.{is_opt_out}
@@ -31,7 +31,8 @@ use Rattle.domain_answer.specs.declared.answer.Answer.{Answer}
 use Rattle.domain_answer.specs.declared.answer.Answer.TheVariants.{OutsideZone, AtParent, Referral, Redirected, Has, NoDs, Alias, NoData}
 use Rattle.domain_answer.specs.declared.answer.Answer.TheVariants.{Wildcard, WildcardAlias, WildcardNoData, NameError, MayBeUnsigned, NoCloserName, NotProven}
 use Rattle.domain_answer.specs.HashedProved.{AreAskedAlone, IsHashedAnswered, hashed_proved_answer, needs_wildcard, tells_encloser, tells_wildcard}
-use Rattle.domain_answer.specs.HashedReading.{IsHashedRead, IsReadOn, IsWildcardRead, encloser_answer, found_answer, lower_answer, next_answer, own_answer, wildcard_told}
+use Rattle.domain_answer.specs.HashedReading.{IsHashedRead, IsReadOn, IsWildcardRead, encloser_answer, encloser_is_of_child, found_answer}
+use Rattle.domain_answer.specs.HashedReading.{lower_answer, next_answer, own_answer, wildcard_told}
 use Rattle.domain_answer.specs.HashedZoneAnswer.{HashedLeavesOutBelowDname, hashed_encloser, hashed_existing_answer, hashed_exists, hashed_inside_answer}
 use Rattle.domain_answer.specs.HashedZoneAnswer.{hashed_missing_answer, hashed_wildcard_answer, hashed_zone_answer}
 use Rattle.domain_answer.specs.Proved.{last_labels}
@@ -46,12 +47,18 @@ pub read_plain : (listed : List HashedLink) (a : Name) (p : Parameters) (hash : 
 read_plain listed a p hash x t (NoCloserName n) answer f r = absurd (f n refl)
 read_plain listed a p hash x t first answer f r = r
 
-pub own_apart : (b c d e : Bool) (m n : ℕ) → cond b (Referral m) (cond c Has (cond d NoDs (cond e Alias NoData))) ≡ NoCloserName n → ⊥
-own_apart true c d e m n h = absurd (cc)
-own_apart false true d e m n h = absurd (cc)
-own_apart false false true e m n h = absurd (cc)
-own_apart false false false true m n h = absurd (cc)
-own_apart false false false false m n h = absurd (cc)
+own_apart : (z b c d e : Bool) (m n : ℕ) → cond z NotProven (cond b (Referral m) (cond c Has (cond d NoDs (cond e Alias NoData)))) ≡ NoCloserName n → ⊥
+own_apart true b c d e m n h = absurd (cc)
+own_apart false true c d e m n h = absurd (cc)
+own_apart false false true d e m n h = absurd (cc)
+own_apart false false false true e m n h = absurd (cc)
+own_apart false false false false true m n h = absurd (cc)
+own_apart false false false false false m n h = absurd (cc)
+
+pub own_never : (a : Name) (e : Encloser) (t n : ℕ) → own_answer a e t ≡ NoCloserName n → ⊥
+own_never a e t n h =
+    own_apart (encloser_is_of_child a e) (encloser_is_cut a e && not (nat_eq t ds)) (contains_type e.link.bits t) (encloser_is_cut a e)
+    (contains_type e.link.bits cname) e.count n h
 
 -- ---- what a chain is known to say
 
@@ -71,7 +78,7 @@ pub record ChainMeans (L : List ZoneRecord) (a : Name) (config : ChainConfig) (l
 -- ---- names below an owner of a DNAME
 
 -- of DNAME the chain lists what the name owns
-dname_owned : (L : List ZoneRecord) (a : Name) (config : ChainConfig) (d : Name) → nsec3_lists L a config d dname ≡ true
+pub dname_owned : (L : List ZoneRecord) (a : Name) (config : ChainConfig) (d : Name) → nsec3_lists L a config d dname ≡ true
     → has_type (records_of L d) dname ≡ true
 dname_owned L a config d h =
     by (owns L d) (has_type (records_of L d) dname) (may_list (is_zone_cut L a d) dname) (same_name d a) (config.assume_dnskeys_will_be_added) h
@@ -80,6 +87,17 @@ dname_owned L a config d h =
     by true true may apex assume e = refl
     by true false may apex assume e = absurd (false≢true e)
     by false has may apex assume e = absurd (false≢true e)
+
+-- at a zone cut it lists no SOA
+soa_unlisted : (L : List ZoneRecord) (a : Name) (config : ChainConfig) (n : Name) → (is_zone_cut L a n && nsec3_lists L a config n soa) ≡ false
+soa_unlisted L a config n = by (is_zone_cut L a n) (owns L n) (has_type (records_of L n) soa) (same_name n a) config.assume_dnskeys_will_be_added
+  where
+    by : (cut o has apex assume : Bool)
+        → (cut && (o && (((false || (false && apex)) || (false && (assume && apex))) || (has && ((not cut || false) || false))))) ≡ false
+    by false o has apex assume = refl
+    by true false has apex assume = refl
+    by true true false apex assume = refl
+    by true true true apex assume = refl
 
 below_both : (o y d : Name) → is_at_or_below o y ≡ true → is_strictly_below y d ≡ true → is_strictly_below o d ≡ true
 below_both o y d p s =
@@ -116,7 +134,7 @@ module _ (L : List ZoneRecord) (a : Name) (config : ChainConfig) (links : List H
       omega arith
 
   -- a zone cut that exists is one of the chain
-  cut_original : (d : Name) → is_at_or_below d a ≡ true → exists_over (original_owners L a config) a d ≡ true → is_zone_cut L a d ≡ true
+  pub cut_original : (d : Name) → is_at_or_below d a ≡ true → exists_over (original_owners L a config) a d ≡ true → is_zone_cut L a d ≡ true
       → is_original_owner L a config d ≡ true
   cut_original d low there c =
       elim (cases_Bool (is_original_owner L a config d)) [
@@ -124,7 +142,7 @@ module _ (L : List ZoneRecord) (a : Name) (config : ChainConfig) (links : List H
         | inr h ↦ absurd (false≢true (sym (means.left_out d c h) ∙ sym (means.exist d low) ∙ there))
       ]
 
-  below_cut : (c y : Name) → is_zone_cut L a c ≡ true → is_original_owner L a config c ≡ true → is_strictly_below y c ≡ true
+  pub below_cut : (c y : Name) → is_zone_cut L a c ≡ true → is_original_owner L a config c ≡ true → is_strictly_below y c ≡ true
       → is_below_chain_cut L a config y ≡ true
   below_cut c y cut original s =
       let m = any_in (λ n. same_name n c) owners original in
@@ -153,7 +171,26 @@ module _ (L : List ZoneRecord) (a : Name) (config : ChainConfig) (links : List H
         | inr f ↦ f
       ]
 
-  -- ---- what is told of a name x
+  -- ---- the closest encloser of a name x
+
+  module _ (x : Name) (low : is_at_or_below x a ≡ true) where
+    pub apex_exists : exists_over (original_owners L a config) a a ≡ true
+    apex_exists =
+        let e = means.encloser x low in
+        let p = and_parts (is_at_or_below e.0 a) (list_any (λ n. is_at_or_below n e.0) owners) e.1.found in
+        let m = any_in (λ n. is_at_or_below n e.0) owners p.1 in
+        and_from (is_at_or_below a a) (list_any (λ n. is_at_or_below n a) owners) (below_itself a)
+        (in_any (λ n. is_at_or_below n a) owners m.0 m.1 (below_trans m.0 e.0 a m.2 p.0))
+
+    pub encloser_is : IsClosestEncloser (original_owners L a config) a x (hashed_encloser L a config x)
+    encloser_is = closest_is owners a x apex_exists low
+
+    pub encloser_low : is_at_or_below (hashed_encloser L a config x) a ≡ true
+    encloser_low =
+        let e = hashed_encloser L a config x in
+        (and_parts (is_at_or_below e a) (list_any (λ n. is_at_or_below n e) owners) encloser_is.found).0
+
+  -- ---- what is told of it
 
   module _ (listed : List HashedLink) (among : (k : HashedLink) → In k listed → Contains links k)
       (x : Name) (low : is_at_or_below x a ≡ true) (asked : AreAskedAlone L a config x) where
@@ -166,16 +203,8 @@ module _ (L : List ZoneRecord) (a : Name) (config : ChainConfig) (links : List H
     abbrev covered : Name → Bool
     covered = is_covered a config.parameters config.hash listed
 
-    apex_exists : exists_over (original_owners L a config) a a ≡ true
-    apex_exists =
-        let e = means.encloser x low in
-        let p = and_parts (is_at_or_below e.0 a) (list_any (λ n. is_at_or_below n e.0) owners) e.1.found in
-        let m = any_in (λ n. is_at_or_below n e.0) owners p.1 in
-        and_from (is_at_or_below a a) (list_any (λ n. is_at_or_below n a) owners) (below_itself a)
-        (in_any (λ n. is_at_or_below n a) owners m.0 m.1 (below_trans m.0 e.0 a m.2 p.0))
-
     closest : IsClosestEncloser (original_owners L a config) a x (hashed_encloser L a config x)
-    closest = closest_is owners a x apex_exists low
+    closest = encloser_is x low
 
     en_low : is_at_or_below (hashed_encloser L a config x) a ≡ true
     en_low = (and_parts (is_at_or_below en a) (list_any (λ n. is_at_or_below n en) owners) closest.found).0
@@ -303,10 +332,11 @@ module _ (L : List ZoneRecord) (a : Name) (config : ChainConfig) (links : List H
             as_zone answer (tells same ∙ (λ j. ((s j || is_zone_cut L a d) || nsec3_lists L a config d dname) || covered (next_closer x d)))
             (not_needed_there there)
             (read_plain listed a config.parameters config.hash x t (own_answer a e t) answer
-            (own_apart (encloser_is_cut a e && not (nat_eq t ds)) (contains_type e.link.bits t) (encloser_is_cut a e) (contains_type e.link.bits cname) e.count)
+            (own_never a e t)
             (subst (λ f. IsReadOn listed a config.parameters config.hash x t f answer) own ends)
-            ∙ (λ j. cond (at_cut j && not (nat_eq t ds)) (Referral (counts j)) (cond (types t bound j) Has
-            (cond (at_cut j) NoDs (cond (types cname (omega arith) j) Alias NoData))))
+            ∙ (λ j. cond (at_cut j && types soa (omega arith) j) NotProven (cond (at_cut j && not (nat_eq t ds)) (Referral (counts j))
+            (cond (types t bound j) Has (cond (at_cut j) NoDs (cond (types cname (omega arith) j) Alias NoData)))))
+            ∙ (λ j. cond (soa_unlisted L a config x j) NotProven (hashed_existing_answer L a config x t))
             ∙ sym (λ j. cond (high x there j) (Referral (length en)) (cond (there j) (hashed_existing_answer L a config x t)
             (hashed_missing_answer L a config en t))))
           where

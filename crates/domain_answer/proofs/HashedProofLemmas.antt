@@ -24,10 +24,11 @@ use Rattle.domain_answer.specs.declared.answer.Answer.{Answer}
 use Rattle.domain_answer.specs.declared.answer.Answer.TheVariants.{Referral, Redirected, Has, NoDs, Alias, NoData}
 use Rattle.domain_answer.specs.declared.answer.Answer.TheVariants.{Wildcard, WildcardAlias, WildcardNoData, NameError, MayBeUnsigned, NoCloserName, NotProven}
 use Rattle.domain_answer.specs.HashedProved.{HasCloserProof, HasEncloserProof, HashedRestsOn}
-use Rattle.domain_answer.specs.HashedReading.{IsHashedRead, IsReadOn, IsWildcardRead, encloser_answer, found_answer, lower_answer, next_answer, own_answer, wildcard_told}
+use Rattle.domain_answer.specs.HashedReading.{IsHashedRead, IsReadOn, IsWildcardRead, encloser_answer, encloser_is_of_child, found_answer}
+use Rattle.domain_answer.specs.HashedReading.{lower_answer, next_answer, own_answer, wildcard_told}
 use Rattle.domain_answer.specs.Proved.{CountsWithin, last_labels}
 use Rattle.domain_answer.specs.ZoneAnswer.{wildcard_below}
-use Rattle.domain_answer.proofs.HashedAnswerLemmas.{own_apart, read_plain}
+use Rattle.domain_answer.proofs.HashedAnswerLemmas.{own_never, read_plain}
 
 chosen : (P : Answer → Type 0) (b : Bool) (v w : Answer) → P v → P w → P (cond b v w)
 chosen P true v w h k = h
@@ -54,12 +55,12 @@ module _ (P : Answer → Type 0) (listed : List HashedLink) (a : Name) (p : Para
   of_own : same_name is.name x ≡ true → P (own_answer a e t)
   of_own s =
       let own = allows.own s in
-      chosen P (encloser_is_cut a e && not (nat_eq t ds)) (Referral e.count)
-      (cond (contains_type e.link.bits t) Has (cond (encloser_is_cut a e) NoDs (cond (contains_type e.link.bits cname) Alias NoData)))
-      allows.referral
+      let later = cond (contains_type e.link.bits t) Has (cond (encloser_is_cut a e) NoDs (cond (contains_type e.link.bits cname) Alias NoData)) in
+      chosen P (encloser_is_of_child a e) NotProven (cond (encloser_is_cut a e && not (nat_eq t ds)) (Referral e.count) later) allows.none
+      (chosen P (encloser_is_cut a e && not (nat_eq t ds)) (Referral e.count) later allows.referral
       (chosen P (contains_type e.link.bits t) Has (cond (encloser_is_cut a e) NoDs (cond (contains_type e.link.bits cname) Alias NoData)) own.0
       (chosen P (encloser_is_cut a e) NoDs (cond (contains_type e.link.bits cname) Alias NoData) own.1
-      (chosen P (contains_type e.link.bits cname) Alias NoData own.2 own.3)))
+      (chosen P (contains_type e.link.bits cname) Alias NoData own.2 own.3))))
 
   of_wildcard : same_name is.name x ≡ false → is_covered a p hash listed (next_closer x is.name) ≡ true
       → IsWildcardRead listed a p hash x t e.count answer → P answer
@@ -91,8 +92,7 @@ module _ (P : Answer → Type 0) (listed : List HashedLink) (a : Name) (p : Para
 
       by : (next : Option Octets) → IsNextHash hash x is.name next → e.cover ≡ next_cover a p listed next → P answer
       by None s f =
-          subst P (sym (read_plain listed a p hash x t (own_answer a e t) answer
-          (own_apart (encloser_is_cut a e && not (nat_eq t ds)) (contains_type e.link.bits t) (encloser_is_cut a e) (contains_type e.link.bits cname) e.count)
+          subst P (sym (read_plain listed a p hash x t (own_answer a e t) answer (own_never a e t)
           (read true (own_answer a e t) (itself_counted listed a p hash x e is ∙ s) refl))) (of_own s)
       by (Some v) n f = elim (cases_Bool (encloser_is_cut a e)) [
         | inl c ↦ subst P (sym (read false (Referral e.count) (itself_counted listed a p hash x e is ∙ n.0)
@@ -198,8 +198,7 @@ pub asked_below : (listed : List HashedLink) (a : Name) (p : Parameters) (hash :
 asked_below listed a p hash x t n None is e = absurd (cc)
 asked_below listed a p hash x t n (Some f) is e =
     elim (cases_Bool (nat_eq f.count (length x))) [
-      | inl s ↦ absurd (own_apart (encloser_is_cut a f && not (nat_eq t ds)) (contains_type f.link.bits t) (encloser_is_cut a f)
-          (contains_type f.link.bits cname) f.count n (sym (λ i. cond (s i) (own_answer a f t) (lower_answer a f)) ∙ e))
+      | inl s ↦ absurd (own_never a f t n (sym (λ i. cond (s i) (own_answer a f t) (lower_answer a f)) ∙ e))
       | inr s ↦
           let same : n ≡ f.count = of_cover f.cover refl (sym (λ i. cond (s i) (own_answer a f t) (lower_answer a f)) ∙ e) in
           record {

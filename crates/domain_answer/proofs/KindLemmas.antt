@@ -19,7 +19,7 @@ use Rattle.domain_answer.specs.Kinds.{IsAbsent, IsHere, IsRedirected, IsReferred
 use Rattle.domain_answer.specs.ZoneAnswer.{encloser, existing_answer, highest_occluder, inside_answer, is_at_parent}
 use Rattle.domain_answer.specs.ZoneAnswer.{missing_answer, name_exists, occluded_answer, owns_type, unoccluded_answer, zone_answer}
 use Rattle.domain_answer.proofs.CountLemmas.{same_count, strictly_from, strictly_same}
-use Rattle.domain_answer.proofs.OccluderLemmas.{highest_is, none_above, occludes_same, typed_record}
+use Rattle.domain_answer.proofs.OccluderLemmas.{highest_is, none_above, occluder_record, occludes_same, typed_record}
 
 and_false : (b : Bool) → (b && false) ≡ false
 and_false true = refl
@@ -60,7 +60,7 @@ module _ (L : List ZoneRecord) (a : Name) where
   free_same m n s = λ j. lowered_below (one_lowered m n s j) (lowered a) && not (occluded_same true L a m n s j)
 
   -- an owner that is not occluded exists
-  owner_exists : (x : Name) → owns L x ≡ true → is_unoccluded true L a x ≡ true → name_exists L a x ≡ true
+  pub owner_exists : (x : Name) → owns L x ≡ true → is_unoccluded true L a x ≡ true → name_exists L a x ≡ true
   owner_exists x own free =
       let r = any_in (λ r. same_name r.owner x) L own in
       let d = distinct_has (map (λ r. r.owner) L) r.0.owner (in_map (λ r. r.owner) L r.0 r.1) in
@@ -76,6 +76,11 @@ module _ (L : List ZoneRecord) (a : Name) where
       let r = typed_record L a x ns (and_parts (is_strictly_below x a) (has_type (records_of L x) ns) cut).1 in
       in_any (λ r. same_name r.owner x) L r.0 r.1 r.2
 
+  pub occluder_owns : (x : Name) → occludes true L a x ≡ true → owns L x ≡ true
+  occluder_owns x over =
+      let r = occluder_record L a x over in
+      in_any (λ r. same_name r.owner x) L r.0 r.1 r.2
+
   -- ---- the highest occluder
 
   pub record IsHighest (x o : Name) : Type 0 where
@@ -86,7 +91,7 @@ module _ (L : List ZoneRecord) (a : Name) where
   high : (o : Name) → is_unoccluded true L a o ≡ true → is_occluded true L a o ≡ false
   high o free = not-true (is_occluded true L a o) (and_parts (is_at_or_below o a) (not (is_occluded true L a o)) free).1
 
-  highest_of : (x : Name) → is_occluded true L a x ≡ true → (d : Name) × (highest_occluder L a x ≡ Some d) × IsHighest x d
+  pub highest_of : (x : Name) → is_occluded true L a x ≡ true → (d : Name) × (highest_occluder L a x ≡ Some d) × IsHighest x d
   highest_of x e =
       let top = top_occluder true L a x e in
       let r = highest_is L a x top.0.name top.0.over (high top.0.name top.1) top.0.under in (

@@ -10,3 +10,7 @@ pub mod WholeLemmas
 pub mod KindLemmas
 pub mod HashedAnswerLemmas
 pub mod HashedProofLemmas
+pub mod HashedAlikeLemmas
+pub mod HashedWholeLemmas
+pub mod HashedZoneLemmas
+pub mod ExpansionLemmas

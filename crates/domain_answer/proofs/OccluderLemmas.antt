@@ -21,7 +21,7 @@ module _ (L : List ZoneRecord) (a : Name) where
       let p = in_filter (λ r. same_name r.owner c) L r.0 r.1 in
       (r.0, p.0, p.1)
 
-  occluder_record : (c : Name) → occludes true L a c ≡ true → (r : ZoneRecord) × In r L × (same_name r.owner c ≡ true)
+  pub occluder_record : (c : Name) → occludes true L a c ≡ true → (r : ZoneRecord) × In r L × (same_name r.owner c ≡ true)
   occluder_record c h =
       elim (or_cases (is_zone_cut L a c) (is_at_or_below c a && has_type (records_of L c) dname) h) [
         | inl e ↦ typed_record c ns (and_parts (is_strictly_below c a) (has_type (records_of L c) ns) e).1

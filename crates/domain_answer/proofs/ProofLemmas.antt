@@ -17,10 +17,10 @@ use Rattle.domain_checker.specs.Verdict.{HasProof, is_inside}
 use Rattle.domain_checker.proofs.FindLemmas.{In, find_some, in_any}
 use Rattle.domain_answer.specs.declared.answer.Answer.{Answer}
 use Rattle.domain_answer.specs.declared.answer.Answer.TheVariants.{OutsideZone, AtParent, Referral, Redirected, Has, NoDs, Alias, NoData}
-use Rattle.domain_answer.specs.declared.answer.Answer.TheVariants.{Wildcard, WildcardAlias, WildcardNoData, NameError, NoCloserName}
+use Rattle.domain_answer.specs.declared.answer.Answer.TheVariants.{Wildcard, WildcardAlias, WildcardNoData, NameError, NoCloserName, NotProven}
 use Rattle.domain_answer.specs.Proved.{CountsWithin, HasBothProofs, RestsOn, last_labels}
 use Rattle.domain_answer.specs.Reading.{absent_answer, cover_answer, listed_answer, listed_both, match_answer, owner_answer, reading}
-use Rattle.domain_answer.specs.Reading.{tells_occluded, tells_occluder, wildcard_both}
+use Rattle.domain_answer.specs.Reading.{is_of_child, tells_occluded, tells_occluder, wildcard_both}
 use Rattle.domain_answer.specs.ZoneAnswer.{is_at_parent, wildcard_below}
 use Rattle.domain_answer.proofs.CountLemmas.{encloser_less, same_count}
 
@@ -70,10 +70,12 @@ module _ (a : Name) (listed : List Link) where
     match_rests k h =
         let last = cond (contains_type k.bits cname) Alias NoData in
         let later = cond (is_at_cut a k) NoDs last in
-        choose Rests (is_at_cut a k && not (t == ds)) (Referral (length k.owner)) (cond (contains_type k.bits t) Has later) h
+        let own = cond (is_at_cut a k && not (t == ds)) (Referral (length k.owner)) (cond (contains_type k.bits t) Has later) in
+        choose Rests (is_of_child a k) NotProven own tt
+        (choose Rests (is_at_cut a k && not (t == ds)) (Referral (length k.owner)) (cond (contains_type k.bits t) Has later) h
         (choose Rests (contains_type k.bits t) Has later h
         (choose Rests (is_at_cut a k) NoDs last h
-        (choose Rests (contains_type k.bits cname) Alias NoData h h)))
+        (choose Rests (contains_type k.bits cname) Alias NoData h h))))
 
     cover_rests : (k : Link) → HasProof listed a x → Rests (cover_answer a listed k x t)
     cover_rests k h =
@@ -125,10 +127,12 @@ module _ (a : Name) (listed : List Link) where
         let later = cond (is_at_cut a k) NoDs last in
         let labels = same_count k.owner x (same_is k.owner x ∙ m) in
         let within : length k.owner ≤ length x = omega arith in
-        choose Counts (is_at_cut a k && not (t == ds)) (Referral (length k.owner)) (cond (contains_type k.bits t) Has later) within
+        let own = cond (is_at_cut a k && not (t == ds)) (Referral (length k.owner)) (cond (contains_type k.bits t) Has later) in
+        choose Counts (is_of_child a k) NotProven own tt
+        (choose Counts (is_at_cut a k && not (t == ds)) (Referral (length k.owner)) (cond (contains_type k.bits t) Has later) within
         (choose Counts (contains_type k.bits t) Has later tt
         (choose Counts (is_at_cut a k) NoDs last tt
-        (choose Counts (contains_type k.bits cname) Alias NoData tt tt)))
+        (choose Counts (contains_type k.bits cname) Alias NoData tt tt))))
 
     cover_counts : (k : Link) → covers before k.owner k.next x ≡ true → Counts (cover_answer a listed k x t)
     cover_counts k c =

@@ -140,8 +140,8 @@ in_distinct [] n i = i
 in_distinct (x ∷ xs) n (inl e) = inl e
 in_distinct (x ∷ xs) n (inr i) = inr (in_distinct xs n (in_filter (λ y. not (same_name x y)) (distinct xs) n i).0)
 
-pub left_out_by_choice : (L : List ZoneRecord) (a : Name) (config : GenerateNsecConfig) → config.occlude_below_dname ≡ true → LeavesOutBelowDname L a config
-left_out_by_choice L a config e = ap (λ b. unoccluded_owners b L a) e
+pub left_out_by_choice : (L : List ZoneRecord) (a : Name) (b : Bool) → b ≡ true → unoccluded_owners b L a ≡ unoccluded_owners true L a
+left_out_by_choice L a b e = ap (λ b. unoccluded_owners b L a) e
 
 module _ (L : List ZoneRecord) (a : Name) (none : All (λ r. is_occluded true L a r.owner ≡ is_occluded false L a r.owner) L) where
   same_owners : unoccluded_owners false L a ≡ unoccluded_owners true L a
@@ -153,12 +153,9 @@ module _ (L : List ZoneRecord) (a : Name) (none : All (λ r. is_occluded true L 
       let at : is_occluded true L a n ≡ is_occluded false L a n = sym (ap (is_occluded true L a) r.2) ∙ same ∙ ap (is_occluded false L a) r.2 in
       λ j. is_at_or_below n a && not (sym at j))
 
-  pub left_out_by_none : (config : GenerateNsecConfig) → LeavesOutBelowDname L a config
-  left_out_by_none config = by config.occlude_below_dname
-    where
-      by : (b : Bool) → unoccluded_owners b L a ≡ unoccluded_owners true L a
-      by true = refl
-      by false = same_owners
+  pub none_left_out : (b : Bool) → unoccluded_owners b L a ≡ unoccluded_owners true L a
+  none_left_out true = refl
+  none_left_out false = same_owners
 
 -- in a zone without DNAME records no more names are occluded
 module _ (L : List ZoneRecord) (a : Name) (none : has_type L dname ≡ false) where
@@ -173,10 +170,8 @@ module _ (L : List ZoneRecord) (a : Name) (none : has_type L dname ≡ false) wh
   same_occluders : (n : Name) → occludes false L a n ≡ occludes true L a n
   same_occluders n = sym ((λ i. is_zone_cut L a n || (is_at_or_below n a && no_dname n i)) ∙ (λ i. is_zone_cut L a n || and_false (is_at_or_below n a) i))
 
-  pub left_out_without_dname : (config : GenerateNsecConfig) → LeavesOutBelowDname L a config
-  left_out_without_dname config = by config.occlude_below_dname
-    where
-      by : (b : Bool) → unoccluded_owners b L a ≡ unoccluded_owners true L a
-      by true = refl
-      by false = λ i. filter (λ n. is_at_or_below n a && not (list_any (λ r. same_occluders r.owner i && is_strictly_below n r.owner) L))
-          (distinct (map (λ r. r.owner) L))
+  pub left_out_without_dname : (b : Bool) → unoccluded_owners b L a ≡ unoccluded_owners true L a
+  left_out_without_dname true = refl
+  left_out_without_dname false =
+      λ i. filter (λ n. is_at_or_below n a && not (list_any (λ r. same_occluders r.owner i && is_strictly_below n r.owner) L))
+      (distinct (map (λ r. r.owner) L))

@@ -1,8 +1,9 @@
--- What NSEC3 records answer by themselves (RFC 5155, section 8; RFC 6840, sections 4.1 and 4.3).
-use Rattle.std.specs.Prelude.{ℕ, not, ◌&&◌, ◌||◌, ◌==◌, List, ◌≡◌, ◌⊎◌, Option, Some, None, Ok, Err, length, if◌then◌else◌}
+-- What NSEC3 records answer by themselves (RFC 5155, section 8; RFC 6840, sections 4.1, 4.3 and
+-- 4.4).
+use Rattle.std.specs.Prelude.{ℕ, Bool, not, ◌&&◌, ◌||◌, ◌==◌, List, ◌≡◌, ◌⊎◌, Option, Some, None, Ok, Err, length, if◌then◌else◌}
 use Rattle.std.specs.List.{find}
 use Rattle.domain_octets.specs.Words.{Octets}
-use Rattle.domain_base.specs.Types.{cname, dname, ds, ns}
+use Rattle.domain_base.specs.Types.{cname, dname, ds, ns, soa}
 use Rattle.domain_base.specs.Words.{Name}
 use Rattle.domain_bitmap.specs.Blocks.{contains_type}
 use Rattle.domain_chain_rdata.specs.OptOut.{is_opt_out}
@@ -17,13 +18,19 @@ use Rattle.domain_answer.specs.declared.answer.Answer.{Answer}
 use Rattle.domain_answer.specs.declared.answer.Answer.TheVariants.{Referral, Redirected, Has, NoDs, Alias, NoData}
 use Rattle.domain_answer.specs.declared.answer.Answer.TheVariants.{Wildcard, WildcardAlias, WildcardNoData, NameError, MayBeUnsigned, NoCloserName, NotProven}
 
+-- the record of the closest encloser is the child zone's, of its apex: that name is a zone cut, and
+-- the record lists SOA, which the parent's does not (RFC 5155, section 8.9)
+abbrev pub encloser_is_of_child : Name → Encloser → Bool
+encloser_is_of_child a e = encloser_is_cut a e && contains_type e.link.bits soa
+
 -- the record of the closest encloser says of its own name
 abbrev pub own_answer : Name → Encloser → ℕ → Answer
 own_answer a e t =
-    if encloser_is_cut a e && not (t == ds) then Referral e.count else
+    if encloser_is_of_child a e then NotProven else
+    (if encloser_is_cut a e && not (t == ds) then Referral e.count else
     (if contains_type e.link.bits t then Has else
     (if encloser_is_cut a e then NoDs else
-    (if contains_type e.link.bits cname then Alias else NoData)))
+    (if contains_type e.link.bits cname then Alias else NoData))))
 
 -- a cover of the next closer name says, where the closest encloser has n labels
 abbrev pub next_answer : ℕ → Option HashedLink → Answer

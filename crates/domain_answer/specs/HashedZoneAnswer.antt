@@ -2,8 +2,8 @@
 -- 4592, section 3.3; RFC 6672, section 3.2); a is the apex. The zone's names are those of the
 -- chain: its original owner names and their ancestors at or below the apex.
 use Rattle.std.specs.Prelude.{ℕ, Bool, true, not, ◌&&◌, ◌||◌, ◌==◌, List, ◌≡◌, length, if◌then◌else◌}
-use Rattle.domain_base.specs.Name.{is_at_or_below}
-use Rattle.domain_base.specs.Types.{cname, dname, ds}
+use Rattle.domain_base.specs.Name.{is_at_or_below, same_name}
+use Rattle.domain_base.specs.Types.{cname, dname, ds, nsec, nsec3param}
 use Rattle.domain_base.specs.Words.{Name}
 use Rattle.domain_chain_rdata.specs.OptOut.{is_opt_out}
 use Rattle.domain_zone.specs.Enclosers.{exists_over}
@@ -66,3 +66,8 @@ hashed_zone_answer L a config x t =
 abbrev pub HashedLeavesOutBelowDname : List ZoneRecord → Name → ChainConfig → Type 0
 HashedLeavesOutBelowDname L a config =
     unoccluded_owners config.occlude_below_dname L a ≡ unoccluded_owners true L a
+
+-- a type that of the two chains of a zone one lists for x, whatever x owns: NSEC, and at the apex
+-- NSEC3PARAM
+abbrev pub is_of_one_chain : Name → Name → ℕ → Bool
+is_of_one_chain a x t = (t == nsec) || ((t == nsec3param) && same_name x a)

@@ -6,3 +6,4 @@ pub mod Kinds
 pub mod HashedZoneAnswer
 pub mod HashedProved
 pub mod HashedReading
+pub mod Expansion

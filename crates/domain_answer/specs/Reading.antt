@@ -1,9 +1,10 @@
--- What NSEC records answer by themselves (RFC 4035, section 5.4; RFC 6840, sections 4.1 and 4.3).
+-- What NSEC records answer by themselves (RFC 4035, section 5.4; RFC 6840, sections 4.1, 4.3 and
+-- 4.4).
 use Rattle.std.specs.Prelude.{ℕ, Bool, not, ◌&&◌, ◌||◌, ◌==◌, List, Option, Some, None, length, if◌then◌else◌}
 use Rattle.std.specs.List.{find}
 use Rattle.domain_bitmap.specs.Blocks.{contains_type}
 use Rattle.domain_base.specs.Name.{is_at_or_below, is_strictly_below}
-use Rattle.domain_base.specs.Types.{cname, dname, ds}
+use Rattle.domain_base.specs.Types.{cname, dname, ds, soa}
 use Rattle.domain_base.specs.Words.{Name}
 use Rattle.domain_zone.specs.Enclosers.{longer, shared}
 use Rattle.domain_nsec.specs.Chain.{Link}
@@ -27,13 +28,19 @@ abbrev pub owner_answer : Name → Link → Answer
 owner_answer a k =
     if is_at_cut a k then Referral (length k.owner) else Redirected (length k.owner)
 
+-- the record is the child zone's, of its apex: the owner is a zone cut, and the record lists SOA,
+-- which the parent's does not (RFC 6840, section 4.4)
+abbrev pub is_of_child : Name → Link → Bool
+is_of_child a k = is_at_cut a k && contains_type k.bits soa
+
 -- what a record says of its owner
 abbrev pub match_answer : Name → Link → ℕ → Answer
 match_answer a k t =
-    if is_at_cut a k && not (t == ds) then Referral (length k.owner) else
+    if is_of_child a k then NotProven else
+    (if is_at_cut a k && not (t == ds) then Referral (length k.owner) else
     (if contains_type k.bits t then Has else
     (if is_at_cut a k then NoDs else
-    (if contains_type k.bits cname then Alias else NoData)))
+    (if contains_type k.bits cname then Alias else NoData))))
 
 -- what the record of a wildcard says of a name whose closest encloser, right above the wildcard,
 -- has n labels

@@ -19,7 +19,8 @@ pub enum Answer {
     /// The name owns records of the type.
     Has,
     /// The type is DS, and the name is a zone cut that owns none: an unsigned delegation (RFC 4035,
-    /// section 5.2).
+    /// section 5.2). No record that lists SOA proves it: that is of the child's apex (RFC 5155,
+    /// section 8.9; RFC 6840, section 4.4).
     NoDs,
     /// The name owns a CNAME record, which answers in the place of the type (RFC 1034, section
     /// 3.6.2).

@@ -11,10 +11,12 @@
 //! `judge_nsec3` is handed records of an NSEC3 chain and the NSEC3PARAM record in the same way, and
 //! asks a hasher for the hashes of names. Here what a zone says stands in `specs/HashedZoneAnswer`,
 //! what records of its chain prove of that in `specs/HashedProved`, and what they say by themselves
-//! in `specs/HashedReading`.
+//! in `specs/HashedReading`. `judge_nsec3_expansion` is asked of a name whose records were expanded
+//! from a wildcard; what it answers stands in `specs/Expansion`.
 #![tactic(auto)]
 
 mod answer;
+mod expansion;
 mod found;
 pub mod laws;
 mod listed;
@@ -24,5 +26,6 @@ mod nsec3_laws;
 mod wildcard;
 
 pub use answer::Answer;
+pub use expansion::judge_nsec3_expansion;
 pub use nsec::judge_nsec;
 pub use nsec3::judge_nsec3;

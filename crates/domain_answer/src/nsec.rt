@@ -29,7 +29,7 @@ fn owner_answer<A: ToName, O: Octets, N: ToName>(apex: &A, listed: &NsecRr<O, N>
     Answer::Redirected(count)
 }
 
-/// What a record says of its owner.
+/// What a record says of its owner: nothing, where it is of the apex of a child zone.
 fn match_answer<A: ToName, O: Octets, N: ToName>(
     apex: &A,
     listed: &NsecRr<O, N>,
@@ -39,6 +39,9 @@ fn match_answer<A: ToName, O: Octets, N: ToName>(
 {
     let types = listed.data().types();
     let at_cut = is_at_cut(apex, listed);
+    if at_cut && types.contains(Rtype::SOA) {
+        return Answer::NotProven;
+    }
     if at_cut && rtype != Rtype::DS {
         return Answer::Referral(listed.owner().count_labels());
     }
@@ -191,13 +194,16 @@ fn read<A: ToName, O: Octets, N: ToName, M: ToName>(
 }
 
 /// What records of an NSEC chain answer to a question about a name and a type (RFC 4035, section
-/// 5.4; RFC 6840, sections 4.1 and 4.3). Takes no memory, and goes over the records twice at most.
+/// 5.4; RFC 6840, sections 4.1, 4.3 and 4.4). Takes no memory, and goes over the records twice at
+/// most.
 ///
 /// The records may be any of the zone's chain, in any order, with repeats. Those whose owner or
 /// next name is not at or below the apex are passed over. Where several match a name, the first
 /// counts, and where none does, the first that covers it. Where a record proves that the name does
 /// not exist, the wildcard below its closest encloser is looked for in the same way; with no record
-/// of it the answer is `NoCloserName`. Where none matches or covers the name, it is `NotProven`.
+/// of it the answer is `NoCloserName`. Where none matches or covers the name, it is `NotProven`; so
+/// it is where the record that matches is at a zone cut and lists SOA, since that is the record of
+/// the child's apex, in the child zone (RFC 6840, section 4.4).
 ///
 /// The chain is one that leaves out the names below an owner of a DNAME record, or there are none:
 /// such names are no names of the zone (RFC 6672, section 2.4). The records' signatures are not

@@ -36,7 +36,8 @@ fn is_at_parent<A: ToName, M: ToName>(apex: &A, name: &M, rtype: Rtype) -> bool
     rtype == Rtype::DS && name.name_eq(apex)
 }
 
-/// What the record of the closest encloser says of its own name.
+/// What the record of the closest encloser says of its own name: nothing, where it is of the apex of
+/// a child zone.
 fn own_answer<A: ToName, O: Octets, N: ToName>(
     apex: &A,
     encloser: &Nsec3Encloser<'_, O, N>,
@@ -46,6 +47,9 @@ fn own_answer<A: ToName, O: Octets, N: ToName>(
 {
     let types = encloser.matching.data().types();
     let at_cut = encloser.is_zone_cut(apex);
+    if at_cut && types.contains(Rtype::SOA) {
+        return Answer::NotProven;
+    }
     if at_cut && rtype != Rtype::DS {
         return Answer::Referral(encloser.count);
     }
@@ -63,7 +67,10 @@ fn own_answer<A: ToName, O: Octets, N: ToName>(
 
 /// What the first cover of the next closer name says, where the closest encloser has so many
 /// labels.
-fn next_answer<O: Octets, N: ToName>(count: usize, cover: Option<&Nsec3Rr<O, N>>) -> Answer
+pub(crate) fn next_answer<O: Octets, N: ToName>(
+    count: usize,
+    cover: Option<&Nsec3Rr<O, N>>,
+) -> Answer
     ensures { result ≡ next_answer count (option_map (λ k. as_hashed_link N.labels k.now)
         cover.entry) }
 {
@@ -204,7 +211,7 @@ fn read_nsec3<A: ToName, O: Octets, N: ToName, M: ToName, H: Nsec3Hasher>(
 }
 
 /// What records of an NSEC3 chain answer to a question about a name and a type (RFC 5155, section
-/// 8; RFC 6840, sections 4.1 and 4.3).
+/// 8; RFC 6840, sections 4.1, 4.3 and 4.4).
 ///
 /// The records may be any of the zone's chain, in any order, with repeats. Those with another
 /// algorithm, iterations or salt than the NSEC3PARAM record, or whose owner is not one label in
@@ -216,8 +223,10 @@ fn read_nsec3<A: ToName, O: Octets, N: ToName, M: ToName, H: Nsec3Hasher>(
 /// record covers the name one label longer, without the flag of opt-out, the wildcard below the
 /// closest encloser is hashed too; with no record of it the answer is `NoCloserName`. Of several
 /// that match or cover a name the first counts. With no match, or no such cover where one is
-/// needed, the answer is `NotProven`. No name is hashed twice, and the records are gone over once
-/// for each. Takes no memory but for the hasher's answers, one at a time.
+/// needed, the answer is `NotProven`; so it is where the record of the name is at a zone cut and
+/// lists SOA, as that of a child's apex does (RFC 5155, section 8.9). No name is hashed twice, and
+/// the records are gone over once for each. Takes no memory but for the hasher's answers, one at a
+/// time.
 ///
 /// The chain is one that leaves out the names below an owner of a DNAME record, or there are none:
 /// such names are no names of the zone (RFC 6672, section 2.4). The records' signatures are not

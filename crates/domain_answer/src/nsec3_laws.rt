@@ -1,16 +1,25 @@
 //! What NSEC3 records prove by what they say. A caller calls the law in its body.
-ghost use Rattle.std.specs.Prelude.{◌≡◌, ◌<◌, ℕ, List, length, true, false};
+ghost use Rattle.std.specs.Prelude.{◌≡◌, ◌≢◌, ◌<◌, ℕ, All, List, length, true, false};
+ghost use Rattle.domain_octets.specs.Words.{Octets};
 ghost use Rattle.domain_base.specs.Name.{is_at_or_below};
+ghost use Rattle.domain_base.specs.Types.{dname};
 ghost use Rattle.domain_base.specs.Words.{Name};
-ghost use Rattle.domain_nsec3.specs.Chain.{HashedLink};
-ghost use Rattle.domain_nsec3.specs.Config.{Hash, Parameters};
-ghost use Rattle.domain_answer.specs.HashedProved.{HashedRestsOn, IsHashedAnswered};
+ghost use Rattle.domain_chain_rdata.specs.OptOut.{is_opt_out};
+ghost use Rattle.domain_zone.specs.Zone.{has_type, is_occluded, ZoneRecord};
+ghost use Rattle.domain_nsec3.specs.Chain.{HashedLink, IsHashedChain};
+ghost use Rattle.domain_nsec3.specs.Config.{ChainConfig, Hash, Parameters};
+ghost use Rattle.domain_nsec3.specs.Meaning.{IsAlone};
+ghost use Rattle.domain_checker.specs.Alike.{ArePaired, IsHashedAlike, IsPairedIn};
+ghost use Rattle.domain_answer.specs.Expansion.{closer_name, is_expanded, proved_expansion, ExpansionRestsOn, IsExpansionAnswered, IsExpansionRead};
+ghost use Rattle.domain_answer.specs.HashedProved.{hashed_proved_answer, AreAskedAlone, HashedRestsOn, IsHashedAnswered};
 ghost use Rattle.domain_answer.specs.HashedReading.{IsHashedRead};
-ghost use Rattle.domain_answer.specs.Proved.{CountsWithin};
-ghost use Rattle.domain_answer.specs.ZoneAnswer.{is_at_parent};
+ghost use Rattle.domain_answer.specs.HashedZoneAnswer.{hashed_encloser, hashed_exists, hashed_zone_answer, is_of_one_chain, HashedLeavesOutBelowDname};
+ghost use Rattle.domain_answer.specs.Proved.{last_labels, CountsWithin};
+ghost use Rattle.domain_answer.specs.ZoneAnswer.{is_at_parent, name_exists, wildcard_below, zone_answer};
 ghost use Rattle.domain_answer.specs.declared.answer.Answer.{Answer};
+ghost use Rattle.domain_answer.specs.declared.answer.Answer.TheVariants.{NoCloserName, NotProven, TooManyIterations};
 
-use domain_checker::laws::hashes_tell_of_names;
+use domain_checker::laws::{hashes_tell_of_names, whole_hashed_chains_prove_all};
 use domain_nsec3::laws::{
     chains_mean_the_zone, names_end_at_the_encloser, names_exist, types_ignore_case,
 };
@@ -33,5 +42,118 @@ pub fn hashed_readings_are_proved()
     chains_mean_the_zone();
     names_end_at_the_encloser();
     names_exist();
+    types_ignore_case();
+}
+
+/// What any NSEC3 records say of a name whose records were expanded from a wildcard is what they
+/// prove of the zone; the records that the answer rests on are among them; and the labels that it
+/// counts are fewer than those of the name. In a zone that has the wildcard, and no next closer
+/// name, the wildcard is the one right below the closest encloser.
+pub fn expansions_are_proved()
+    ensures zone { (listed : List HashedLink) (a : Name) (p : Parameters) (hash : Hash) (x : Name)
+        (n : ℕ) (answer : Answer) → is_expanded a x n ≡ true
+        → IsExpansionRead listed a p hash x n answer
+        → IsExpansionAnswered listed a p hash x n answer }
+    ensures proof { (listed : List HashedLink) (a : Name) (p : Parameters) (hash : Hash) (x : Name)
+        (n : ℕ) (answer : Answer) → IsExpansionRead listed a p hash x n answer
+        → ExpansionRestsOn listed a p hash x n answer }
+    ensures within { (listed : List HashedLink) (a : Name) (p : Parameters) (hash : Hash)
+        (x : Name) (n : ℕ) (answer : Answer) → is_expanded a x n ≡ true
+        → IsExpansionRead listed a p hash x n answer → CountsWithin (length x) answer }
+    ensures encloser { (L : List ZoneRecord) (a : Name) (config : ChainConfig) (x : Name) (n : ℕ)
+        → is_expanded a x n ≡ true
+        → hashed_exists L a config (wildcard_below (last_labels n x)) ≡ true
+        → hashed_exists L a config (closer_name n x) ≡ false
+        → hashed_encloser L a config x ≡ last_labels n x }
+{
+    hashes_tell_of_names();
+}
+
+/// What NSEC3 records answer and prove does not depend on TTLs, classes and the case of letters: so
+/// it is what the zone says, as far as they prove it, also where they are records of its chain but
+/// for these.
+pub fn hashed_readings_ignore_case_and_ttl()
+    ensures alike { (listed other : List HashedLink) (a : Name) (p : Parameters) (hash : Hash)
+        (x : Name) (t : ℕ) (answer : Answer) → ArePaired IsHashedAlike listed other
+        → IsHashedRead listed a p hash x t answer → IsHashedRead other a p hash x t answer }
+    ensures proved { (listed : List HashedLink) (a x : Name) (t : ℕ) (answer : Answer) → t < 65536
+        → is_at_or_below x a ≡ true → is_at_parent a x t ≡ false
+        → (L : List ZoneRecord) (config : ChainConfig) (links : List HashedLink)
+        → HashedLeavesOutBelowDname L a config → IsHashedChain L a config links
+        → AreAskedAlone L a config x → All (IsPairedIn IsHashedAlike links) listed
+        → IsHashedRead listed a config.parameters config.hash x t answer
+        → answer ≡ hashed_proved_answer L a config listed x t }
+{
+    hashed_readings_are_proved();
+}
+
+/// The same of a name whose records were expanded from a wildcard.
+pub fn expansions_ignore_case_and_ttl()
+    ensures alike { (listed other : List HashedLink) (a : Name) (p : Parameters) (hash : Hash)
+        (x : Name) (n : ℕ) (answer : Answer) → ArePaired IsHashedAlike listed other
+        → IsExpansionRead listed a p hash x n answer
+        → IsExpansionRead other a p hash x n answer }
+    ensures proved { (listed : List HashedLink) (a x : Name) (n : ℕ) (answer : Answer)
+        → is_expanded a x n ≡ true
+        → (L : List ZoneRecord) (config : ChainConfig) (links : List HashedLink) (value : Octets)
+        → IsHashedChain L a config links → IsAlone L a config (closer_name n x) value
+        → All (IsPairedIn IsHashedAlike links) listed
+        → IsExpansionRead listed a config.parameters config.hash x n answer
+        → answer ≡ proved_expansion L a config listed x n }
+{
+    expansions_are_proved();
+}
+
+/// The whole NSEC3 chain of a zone proves what the zone says of every name and type, where no other
+/// name of the chain has a hash that is asked for; and the zone says something of each.
+pub fn hashed_whole_chains_prove_all()
+    ensures zone { (L : List ZoneRecord) (a : Name) (config : ChainConfig)
+        (links : List HashedLink) (x : Name) (t : ℕ) → HashedLeavesOutBelowDname L a config
+        → IsHashedChain L a config links → AreAskedAlone L a config x
+        → hashed_proved_answer L a config links x t ≡ hashed_zone_answer L a config x t }
+    ensures definite { (L : List ZoneRecord) (a : Name) (config : ChainConfig) (x : Name) (t : ℕ)
+        → hashed_zone_answer L a config x t ≢ NotProven }
+    ensures closer { (L : List ZoneRecord) (a : Name) (config : ChainConfig) (x : Name) (t n : ℕ)
+        → hashed_zone_answer L a config x t ≢ NoCloserName n }
+    ensures within_limit { (L : List ZoneRecord) (a : Name) (config : ChainConfig) (x : Name)
+        (t : ℕ) → hashed_zone_answer L a config x t ≢ TooManyIterations }
+{
+    whole_hashed_chains_prove_all();
+    hashes_tell_of_names();
+    chains_mean_the_zone();
+    names_end_at_the_encloser();
+    names_exist();
+    types_ignore_case();
+}
+
+/// An NSEC3 chain leaves out the names below an owner of a DNAME record where that was chosen,
+/// where the zone has no such record, and where it has none below one that is not below a zone cut
+/// too.
+pub fn hashed_chains_leave_out_names_below_dname()
+    ensures chosen { (L : List ZoneRecord) (a : Name) (config : ChainConfig)
+        → config.occlude_below_dname ≡ true → HashedLeavesOutBelowDname L a config }
+    ensures no_dname { (L : List ZoneRecord) (a : Name) → has_type L dname ≡ false
+        → (config : ChainConfig) → HashedLeavesOutBelowDname L a config }
+    ensures none { (L : List ZoneRecord) (a : Name)
+        → All (λ r. is_occluded true L a r.owner ≡ is_occluded false L a r.owner) L
+        → (config : ChainConfig) → HashedLeavesOutBelowDname L a config }
+{}
+
+/// Without the flag of opt-out a zone says of its NSEC3 chain's names what it says of those of its
+/// NSEC chain, of every name and every type but those that one of the two chains lists of itself:
+/// NSEC, and at the apex NSEC3PARAM. The apex owns records, as it does where there is a chain.
+pub fn zones_without_opt_out_answer_alike()
+    ensures zone { (L : List ZoneRecord) (a : Name) (config : ChainConfig) (x : Name) (t : ℕ)
+        → is_opt_out config.flags ≡ false → HashedLeavesOutBelowDname L a config
+        → name_exists L a a ≡ true → is_of_one_chain a x t ≡ false
+        → hashed_zone_answer L a config x t
+        ≡ zone_answer L a config.assume_dnskeys_will_be_added x t }
+    ensures chain { (L : List ZoneRecord) (a : Name) (config : ChainConfig)
+        (links : List HashedLink) (x : Name) (t : ℕ) → is_opt_out config.flags ≡ false
+        → HashedLeavesOutBelowDname L a config → IsHashedChain L a config links
+        → is_of_one_chain a x t ≡ false → hashed_zone_answer L a config x t
+        ≡ zone_answer L a config.assume_dnskeys_will_be_added x t }
+{
+    chains_mean_the_zone();
     types_ignore_case();
 }

@@ -6,7 +6,7 @@ ghost use Rattle.domain_answer.specs.ZoneAnswer.{wildcard_below};
 use domain_base::{ParsedName, ToName};
 
 /// The last labels of a name, so many, or all of them where there are no more.
-fn last_labels<M: ToName>(name: &M, count: usize) -> ParsedName<'_>
+pub(crate) fn last_labels<M: ToName>(name: &M, count: usize) -> ParsedName<'_>
     ensures { result ≡ last_labels count (M.labels name.now) }
 {
     let mut left = name.as_parsed();

@@ -1,0 +1,185 @@
+-- What NSEC3 records answer does not depend on TTLs, classes and the case of letters.
+use Rattle.std.proofs.Common.{◌≡◌, ℕ, cond, not, ◌&&◌, ◌||◌, List, length, refl, sym, ◌∙◌, subst, nat_eq, Option, Some, None}
+use Rattle.std.specs.List.{find}
+use Rattle.domain_octets.specs.Words.{Octets}
+use Rattle.domain_base.specs.Name.{same_name}
+use Rattle.domain_base.specs.Types.{cname, dname, ds, ns, soa}
+use Rattle.domain_base.specs.Words.{Name}
+use Rattle.domain_bitmap.specs.Blocks.{contains_type}
+use Rattle.domain_chain_rdata.specs.OptOut.{is_opt_out}
+use Rattle.domain_zone.specs.Zone.{ZoneRecord, is_zone_cut}
+use Rattle.domain_nsec3.specs.Chain.{HashedLink}
+use Rattle.domain_nsec3.specs.Config.{ChainConfig, Hash, Parameters}
+use Rattle.domain_nsec3.specs.Owners.{nsec3_lists}
+use Rattle.domain_checker.specs.Alike.{ArePaired, IsHashedAlike}
+use Rattle.domain_checker.specs.HashedEncloser.{Encloser, IsFoundEncloser, encloser_is_cut, next_cover}
+use Rattle.domain_checker.specs.HashedList.{is_hash_cover, is_hash_match}
+use Rattle.domain_checker.specs.HashedVerdict.{IsFirst, next_closer}
+use Rattle.domain_checker.proofs.HashedAlikeLemmas.{covered_alike, hash_cover_alike, hash_match_alike, matched_alike}
+use Rattle.domain_checker.proofs.PairedLemmas.{OptionsPaired, find_alike}
+use Rattle.domain_answer.specs.declared.answer.Answer.{Answer}
+use Rattle.domain_answer.specs.declared.answer.Answer.TheVariants.{Referral, Redirected, Has, NoDs, Alias, NoData}
+use Rattle.domain_answer.specs.declared.answer.Answer.TheVariants.{Wildcard, WildcardAlias, WildcardNoData, MayBeUnsigned, NoCloserName, NotProven}
+use Rattle.domain_answer.specs.Expansion.{IsExpansionRead, closer_name, closer_told, proved_expansion}
+use Rattle.domain_answer.specs.HashedProved.{hashed_proved_answer, needs_wildcard, tells_encloser, tells_wildcard}
+use Rattle.domain_answer.specs.HashedReading.{IsHashedRead, IsReadOn, encloser_answer}
+use Rattle.domain_answer.specs.HashedReading.{found_answer, next_answer, wildcard_told}
+use Rattle.domain_answer.specs.HashedZoneAnswer.{hashed_encloser, hashed_exists, hashed_zone_answer}
+use Rattle.domain_answer.specs.Proved.{needs_no_records}
+use Rattle.domain_answer.specs.ZoneAnswer.{wildcard_below}
+
+-- ---- what records say that were found
+
+abbrev BothAlike : Option HashedLink → Option HashedLink → Type 0
+BothAlike = OptionsPaired IsHashedAlike
+
+wildcard_alike : (n t : ℕ) (m o c d : Option HashedLink) → BothAlike m o → BothAlike c d → wildcard_told n t m c ≡ wildcard_told n t o d
+wildcard_alike n t (Some k) (Some l) c d m h =
+    λ i. cond (contains_type (m.bits i) t || contains_type (m.bits i) ns) (Wildcard n)
+    (cond (contains_type (m.bits i) cname) (WildcardAlias n) (WildcardNoData n))
+wildcard_alike n t (Some k) None c d m h = absurd m
+wildcard_alike n t None (Some l) c d m h = absurd m
+wildcard_alike n t None None None None m h = refl
+wildcard_alike n t None None None (Some d) m h = absurd h
+wildcard_alike n t None None (Some c) None m h = absurd h
+wildcard_alike n t None None (Some c) (Some d) m h = refl
+
+next_alike : (n : ℕ) (c d : Option HashedLink) → BothAlike c d → next_answer n c ≡ next_answer n d
+next_alike n None None h = refl
+next_alike n None (Some d) h = absurd h
+next_alike n (Some c) None h = absurd h
+next_alike n (Some c) (Some d) h = λ i. cond (is_opt_out (h.flags i)) (MayBeUnsigned n) (NoCloserName n)
+
+closer_alike : (n : ℕ) (m o c d : Option HashedLink) → BothAlike m o → BothAlike c d → closer_told n m c ≡ closer_told n o d
+closer_alike n (Some k) (Some l) c d m h = refl
+closer_alike n (Some k) None c d m h = absurd m
+closer_alike n None (Some l) c d m h = absurd m
+closer_alike n None None c d m h = next_alike n c d h
+
+abbrev encloser_with : ℕ → HashedLink → Option HashedLink → Encloser
+encloser_with count link cover = record { count = count; link = link; cover = cover }
+
+module _ (a : Name) (n t count : ℕ) (k l : HashedLink) (alike : IsHashedAlike k l) (c d : Option HashedLink) (covers : BothAlike c d) where
+  cut_alike : encloser_is_cut a (encloser_with count k c) ≡ encloser_is_cut a (encloser_with count l d)
+  cut_alike = λ i. not (nat_eq count (length a)) && contains_type (alike.bits i) ns
+
+  encloser_answer_alike : encloser_answer a (encloser_with count k c) n t ≡ encloser_answer a (encloser_with count l d) n t
+  encloser_answer_alike =
+      λ i. cond (nat_eq count n)
+      (cond (cut_alike i && contains_type (alike.bits i) soa) NotProven (cond (cut_alike i && not (nat_eq t ds)) (Referral count)
+      (cond (contains_type (alike.bits i) t) Has (cond (cut_alike i) NoDs (cond (contains_type (alike.bits i) cname) Alias NoData)))))
+      (cond (cut_alike i) (Referral count) (cond (contains_type (alike.bits i) dname) (Redirected count) (next_alike count c d covers i)))
+
+-- ---- lists
+
+module _ (a : Name) (p : Parameters) (hash : Hash) (ks ls : List HashedLink) (alike : ArePaired IsHashedAlike ks ls) where
+  matching : (v : Octets) → BothAlike (find (is_hash_match a p v) ks) (find (is_hash_match a p v) ls)
+  matching v = find_alike IsHashedAlike (is_hash_match a p v) (λ k l h. hash_match_alike a p k l h v) ks ls alike
+
+  covering : (v : Octets) → BothAlike (find (is_hash_cover a p v) ks) (find (is_hash_cover a p v) ls)
+  covering v = find_alike IsHashedAlike (is_hash_cover a p v) (λ k l h. hash_cover_alike a p k l h v) ks ls alike
+
+  next_cover_alike : (next : Option Octets) → BothAlike (next_cover a p ks next) (next_cover a p ls next)
+  next_cover_alike None = tt
+  next_cover_alike (Some v) = covering v
+
+  -- the first match in the one list, and in the other
+  found_alike : (v : Octets) (k : HashedLink) → find (is_hash_match a p v) ks ≡ Some k
+      → (l : HashedLink) × IsHashedAlike k l × (find (is_hash_match a p v) ls ≡ Some l)
+  found_alike v k e =
+      by (find (is_hash_match a p v) ls) refl (subst (λ o. BothAlike o (find (is_hash_match a p v) ls)) e (matching v))
+    where
+      by : (o : Option HashedLink) → find (is_hash_match a p v) ls ≡ o → BothAlike (Some k) (find (is_hash_match a p v) ls)
+          → (l : HashedLink) × IsHashedAlike k l × (find (is_hash_match a p v) ls ≡ Some l)
+      by None f h = absurd (subst (BothAlike (Some k)) f h)
+      by (Some l) f h = (l, subst (BothAlike (Some k)) f h, f)
+
+  pub expansion_alike : (x : Name) (n : ℕ) (answer : Answer) → IsExpansionRead ks a p hash x n answer → IsExpansionRead ls a p hash x n answer
+  expansion_alike x n answer r =
+      record {
+        value = r.value;
+        known = r.known;
+        says = r.says ∙ closer_alike n (find (is_hash_match a p r.value) ks) (find (is_hash_match a p r.value) ls)
+            (find (is_hash_cover a p r.value) ks) (find (is_hash_cover a p r.value) ls) (matching r.value) (covering r.value);
+      }
+
+  module _ (x : Name) (t : ℕ) where
+    first_alike : (d : Name) → IsFirst a p hash ks x d → IsFirst a p hash ls x d
+    first_alike d first = λ y up below. let f = first y up below in (f.0, f.1, sym (matched_alike a p hash ks ls alike y) ∙ f.2)
+
+    read_on : (first answer : Answer) → IsReadOn ks a p hash x t first answer → IsReadOn ls a p hash x t first answer
+    read_on (NoCloserName n) answer r =
+        record {
+          value = r.value;
+          known = r.known;
+          says = r.says ∙ wildcard_alike n t (find (is_hash_match a p r.value) ks) (find (is_hash_match a p r.value) ls)
+              (find (is_hash_cover a p r.value) ks) (find (is_hash_cover a p r.value) ls) (matching r.value) (covering r.value);
+        }
+    read_on first answer r = r
+
+    read_found : (answer : Answer) (found : Option Encloser) → IsFoundEncloser ks a p hash x found
+        → IsReadOn ks a p hash x t (found_answer a found (length x) t) answer → IsHashedRead ls a p hash x t answer
+    read_found answer None is ends =
+        record {
+          found = None;
+          is = λ y up low. let f = is y up low in (f.0, f.1, sym (matched_alike a p hash ks ls alike y) ∙ f.2);
+          ends = ends;
+        }
+    read_found answer (Some e) is ends =
+        let other = found_alike is.value e.link is.found in
+        let cover = next_cover a p ls is.next in
+        let same = encloser_answer_alike a (length x) t e.count e.link other.0 other.1 e.cover cover
+        (subst (λ o. BothAlike o (next_cover a p ls is.next)) (sym is.covers) (next_cover_alike is.next)) in
+        record {
+          found = Some (encloser_with e.count other.0 cover);
+          is = record {
+            name = is.name;
+            counts = is.counts;
+            first = record {
+              above = is.first.above;
+              within = is.first.within;
+              found = sym (matched_alike a p hash ks ls alike is.name) ∙ is.first.found;
+              first = first_alike is.name is.first.first;
+            };
+            value = is.value;
+            known = is.known;
+            found = other.2;
+            next = is.next;
+            closes = is.closes;
+            covers = refl;
+          };
+          ends = subst (λ f. IsReadOn ls a p hash x t f answer) same (read_on (encloser_answer a e (length x) t) answer ends);
+        }
+
+    pub read_alike : (answer : Answer) → IsHashedRead ks a p hash x t answer → IsHashedRead ls a p hash x t answer
+    read_alike answer read = read_found answer read.found read.is read.ends
+
+module _ (L : List ZoneRecord) (a : Name) (config : ChainConfig) (x : Name) (t : ℕ) (ks ls : List HashedLink)
+    (alike : ArePaired IsHashedAlike ks ls) where
+  abbrev en : Name
+  en = hashed_encloser L a config x
+
+  abbrev zone : Answer
+  zone = hashed_zone_answer L a config x t
+
+  encloser_told : tells_encloser L a config ks x ≡ tells_encloser L a config ls x
+  encloser_told =
+      λ i. matched_alike a config.parameters config.hash ks ls alike en i
+      && (((same_name en x || is_zone_cut L a en) || nsec3_lists L a config en dname)
+      || covered_alike a config.parameters config.hash ks ls alike (next_closer x en) i)
+
+  wildcard_said : tells_wildcard L a config ks x ≡ tells_wildcard L a config ls x
+  wildcard_said =
+      λ i. matched_alike a config.parameters config.hash ks ls alike (wildcard_below en) i
+      || covered_alike a config.parameters config.hash ks ls alike (wildcard_below en) i
+
+  pub proved_alike : hashed_proved_answer L a config ks x t ≡ hashed_proved_answer L a config ls x t
+  proved_alike =
+      λ i. cond (needs_no_records a x t) zone (cond (not (encloser_told i)) NotProven
+      (cond (needs_wildcard L a config x && not (wildcard_said i)) (NoCloserName (length en)) zone))
+
+  pub proved_expansion_alike : (n : ℕ) → proved_expansion L a config ks x n ≡ proved_expansion L a config ls x n
+  proved_expansion_alike n =
+      λ i. cond (hashed_exists L a config (closer_name n x)) NotProven
+      (cond (not (covered_alike a config.parameters config.hash ks ls alike (closer_name n x) i)) NotProven
+      (cond (is_opt_out config.flags) (MayBeUnsigned n) (NoCloserName n)))

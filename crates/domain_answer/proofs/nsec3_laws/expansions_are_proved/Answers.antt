@@ -1,0 +1,15 @@
+use Rattle.domain_answer.proofs.ExpansionLemmas.{expansion_counts, expansion_encloser, expansion_proved, expansion_rests}
+use Rattle.domain_answer.proofs.nsec3_laws.expansions_are_proved.Goals as goal
+
+pub returns-clause-zone : goal.returns-clause-zone
+returns-clause-zone c =
+    expansion_proved (record { matches = c.hashes_tell_of_names.ensures.matches; covers = c.hashes_tell_of_names.ensures.covers })
+
+pub returns-clause-proof : goal.returns-clause-proof
+returns-clause-proof c = expansion_rests
+
+pub returns-clause-within : goal.returns-clause-within
+returns-clause-within c = λ listed a p hash x n answer e read. expansion_counts listed a p hash x n answer read e
+
+pub returns-clause-encloser : goal.returns-clause-encloser
+returns-clause-encloser c = expansion_encloser

@@ -1,0 +1,13 @@
+use Rattle.domain_zone.proofs.NameLemmas.{below_itself}
+use Rattle.domain_answer.proofs.HashedZoneLemmas.{apex_of_chain, zone_alike}
+use Rattle.domain_answer.proofs.nsec3_laws.zones_without_opt_out_answer_alike.Goals as goal
+
+pub returns-clause-zone : goal.returns-clause-zone
+returns-clause-zone c = λ L a config x t out leaves apex apart.
+    zone_alike L a config out leaves (c.types_ignore_case.ensures L a config) apex x t apart
+
+pub returns-clause-chain : goal.returns-clause-chain
+returns-clause-chain c = λ L a config links x t out leaves chain apart.
+    let e = (c.chains_mean_the_zone.ensures.enclosers L a config links chain).encloser a (below_itself a) in
+    zone_alike L a config out leaves (c.types_ignore_case.ensures L a config)
+    (apex_of_chain L a config out leaves e.0 e.1) x t apart

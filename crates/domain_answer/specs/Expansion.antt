@@ -1,0 +1,88 @@
+-- What NSEC3 records answer of a name x whose records were expanded from the wildcard right below
+-- its last n labels (RFC 5155, section 8.8; RFC 4035, section 5.3.4); a is the apex. As many labels
+-- as that the signatures of those records tell in their field Labels.
+use Rattle.std.specs.Prelude.{ℕ, ◌≡◌, ◌+◌, Bool, true, false, not, ◌&&◌, nat_le, nat_lt, List, All, length, Option, Some, None, Ok, if◌then◌else◌}
+use Rattle.std.specs.List.{find, Contains}
+use Rattle.domain_octets.specs.Words.{Octets}
+use Rattle.domain_base.specs.Name.{is_at_or_below}
+use Rattle.domain_base.specs.Words.{Name}
+use Rattle.domain_chain_rdata.specs.OptOut.{is_opt_out}
+use Rattle.domain_zone.specs.Zone.{ZoneRecord}
+use Rattle.domain_nsec3.specs.Chain.{HashedLink, IsHashedChain}
+use Rattle.domain_nsec3.specs.Config.{ChainConfig, Hash, Parameters, hash_name}
+use Rattle.domain_nsec3.specs.Meaning.{IsAlone}
+use Rattle.domain_checker.specs.HashedList.{is_hash_cover, is_hash_match}
+use Rattle.domain_checker.specs.HashedVerdict.{is_covered}
+use Rattle.domain_answer.specs.HashedReading.{next_answer}
+use Rattle.domain_answer.specs.HashedZoneAnswer.{hashed_exists}
+use Rattle.domain_answer.specs.Proved.{last_labels}
+use Rattle.domain_answer.specs.declared.answer.Answer.{Answer}
+use Rattle.domain_answer.specs.declared.answer.Answer.TheVariants.{OutsideZone, AtParent, Referral, Redirected, Has, NoDs, Alias, NoData}
+use Rattle.domain_answer.specs.declared.answer.Answer.TheVariants.{Wildcard, WildcardAlias, WildcardNoData, NameError, MayBeUnsigned, NoCloserName, TooManyIterations, NotProven}
+
+-- x is longer than its last n labels, and these are a name at or below the apex
+abbrev pub is_expanded : Name → Name → ℕ → Bool
+is_expanded a x n = is_at_or_below x a && nat_le (length a) n && nat_lt n (length x)
+
+-- the next closer name, which is one label longer
+abbrev pub closer_name : ℕ → Name → Name
+closer_name n x = last_labels (n + 1) x
+
+-- what the first match of that name says, or else its first cover
+abbrev pub closer_told : ℕ → Option HashedLink → Option HashedLink → Answer
+closer_told n (Some k) covering = NotProven
+closer_told n None covering = next_answer n covering
+
+-- that name is not refused by the hasher, and the list says so of it
+pub record IsExpansionRead (listed : List HashedLink) (a : Name) (p : Parameters) (hash : Hash)
+    (x : Name) (n : ℕ) (answer : Answer) : Type 0 where
+  pub value : Octets
+  pub known : hash_name hash (closer_name n x) ≡ Ok value
+  pub says : answer ≡ closer_told n (find (is_hash_match a p value) listed)
+      (find (is_hash_cover a p value) listed)
+
+-- what records of a zone's chain prove: there is no such name where one covers it, but that it may
+-- be an unsigned delegation or below one where the chain has the flag of opt-out
+abbrev pub proved_expansion : List ZoneRecord → Name → ChainConfig → List HashedLink → Name → ℕ
+    → Answer
+proved_expansion L a config listed x n =
+    if hashed_exists L a config (closer_name n x) then NotProven else
+    (if not (is_covered a config.parameters config.hash listed (closer_name n x)) then NotProven else
+    (if is_opt_out config.flags then MayBeUnsigned n else NoCloserName n))
+
+-- the answer is what is proved of any zone of whose chain these are records, in any order, with
+-- repeats, where no other name of the chain has the hash of the next closer name
+abbrev pub IsExpansionAnswered : List HashedLink → Name → Parameters → Hash → Name → ℕ → Answer
+    → Type 0
+IsExpansionAnswered listed a p hash x n answer =
+    (L : List ZoneRecord) (config : ChainConfig) (links : List HashedLink) (value : Octets)
+    → config.hash ≡ hash → config.parameters ≡ p → IsHashedChain L a config links
+    → IsAlone L a config (closer_name n x) value → All (Contains links) listed
+    → answer ≡ proved_expansion L a config listed x n
+
+-- it is about the last n labels of x, and a record covers the next closer name
+abbrev pub HasCoveredCloser : List HashedLink → Name → Parameters → Hash → Name → ℕ → ℕ → Type 0
+HasCoveredCloser listed a p hash x n count =
+    (count ≡ n) × (is_covered a p hash listed (closer_name n x) ≡ true)
+
+-- the records that an answer rests on are there, whatever else the list has
+abbrev pub ExpansionRestsOn : List HashedLink → Name → Parameters → Hash → Name → ℕ → Answer
+    → Type 0
+ExpansionRestsOn listed a p hash x n OutsideZone = is_at_or_below x a ≡ false
+ExpansionRestsOn listed a p hash x n AtParent = ⊥
+ExpansionRestsOn listed a p hash x n (Referral count) = ⊥
+ExpansionRestsOn listed a p hash x n (Redirected count) = ⊥
+ExpansionRestsOn listed a p hash x n Has = ⊥
+ExpansionRestsOn listed a p hash x n NoDs = ⊥
+ExpansionRestsOn listed a p hash x n Alias = ⊥
+ExpansionRestsOn listed a p hash x n NoData = ⊥
+ExpansionRestsOn listed a p hash x n (Wildcard count) = ⊥
+ExpansionRestsOn listed a p hash x n (WildcardAlias count) = ⊥
+ExpansionRestsOn listed a p hash x n (WildcardNoData count) = ⊥
+ExpansionRestsOn listed a p hash x n (NameError count) = ⊥
+ExpansionRestsOn listed a p hash x n (MayBeUnsigned count) =
+    HasCoveredCloser listed a p hash x n count
+ExpansionRestsOn listed a p hash x n (NoCloserName count) =
+    HasCoveredCloser listed a p hash x n count
+ExpansionRestsOn listed a p hash x n TooManyIterations = Unit {0}
+ExpansionRestsOn listed a p hash x n NotProven = Unit {0}

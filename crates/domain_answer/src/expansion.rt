@@ -1,0 +1,160 @@
+//! What NSEC3 records answer of a name whose records were expanded from a wildcard.
+ghost use Rattle.std.specs.Prelude.{◌≡◌, ◌<◌, ◌≤◌, ◌⊎◌, ℕ, Ok, Err, true, false, length, IfOk, IfErr, IsErrOf};
+ghost use Rattle.domain_base.specs.Name.{is_at_or_below};
+ghost use Rattle.domain_nsec3.specs.Config.{hash_name};
+ghost use Rattle.domain_records.specs.declared.error.Nsec3HashError.TheVariants as hash_error;
+ghost use Rattle.domain_checker.specs.HashedPass.{found_cover, found_match};
+ghost use Rattle.domain_checker.specs.HashedView.{hash_with, links, parameters};
+ghost use Rattle.domain_answer.specs.Expansion.{closer_name, closer_told, is_expanded};
+ghost use Rattle.domain_answer.specs.Expansion.{ExpansionRestsOn, IsExpansionAnswered, IsExpansionRead};
+ghost use Rattle.domain_answer.specs.Proved.{CountsWithin};
+
+use crate::nsec3::next_answer;
+use crate::wildcard::last_labels;
+use crate::{Answer, laws};
+use domain_base::{ParsedName, ToName};
+use domain_checker::{Nsec3Found, find_nsec3};
+use domain_nsec3::Nsec3Records;
+use domain_octets::Octets;
+use domain_records::Nsec3HashError;
+use domain_zone::Nsec3Hasher;
+use std::alloc::Global;
+
+/// Whether the name is in the zone, longer than its last labels, so many, and these no fewer than
+/// the apex has.
+fn is_expanded<A: ToName, M: ToName>(apex: &A, name: &M, labels: usize) -> bool
+    ensures { result ≡ is_expanded (A.labels apex.now) (M.labels name.now) labels }
+{
+    name.ends_with(apex) && apex.count_labels() <= labels && labels < name.count_labels()
+}
+
+/// The name one label longer than the last labels of a name, so many.
+fn closer_name<M: ToName>(name: &M, labels: usize) -> ParsedName<'_>
+    requires { labels < length (M.labels name.now) }
+    ensures { result ≡ closer_name labels (M.labels name.now) }
+{
+    // The count of labels is a usize, so that one more than fewer is.
+    let _count = name.count_labels();
+    last_labels(name, labels + 1)
+}
+
+/// What the records say of the name, by what they tell of the next closer name.
+fn closer_told<O: Octets, N: ToName>(labels: usize, found: Nsec3Found<'_, O, N>) -> Answer
+    ensures { result ≡ closer_told labels (found_match N.labels found.entry)
+        (found_cover N.labels found.entry) }
+{
+    match found {
+        Nsec3Found::Match(_) => Answer::NotProven,
+        Nsec3Found::NoMatch(cover) => next_answer(labels, cover),
+    }
+}
+
+/// What the records say of such a name. Hashes the next closer name, and no other.
+fn read_expansion<A: ToName, O: Octets, N: ToName, M: ToName, H: Nsec3Hasher>(
+    alloc: Global,
+    apex: &A,
+    records: &Nsec3Records<N, O>,
+    name: &M,
+    labels: usize,
+    hasher: &H,
+) -> Result<Answer, Nsec3HashError>
+    requires { labels < length (M.labels name.now) }
+    ensures ok { IfOk result (IsExpansionRead (links N.labels records.now) (A.labels apex.now)
+        (parameters records.now) (hash_with (H.answer hasher.now) records.now)
+        (M.labels name.now) labels) }
+    ensures refusal { (n : ℕ) → IsErrOf result (hash_error.Hasher n)
+        → hash_name (hash_with (H.answer hasher.now) records.now)
+        (closer_name labels (M.labels name.now)) ≡ Err n }
+    ensures errors { IfErr result (λ e. (e ≡ hash_error.OutOfMemory)
+        ⊎ ((n : ℕ) × (e ≡ hash_error.Hasher n))) }
+    ensures memory { IsErrOf result hash_error.OutOfMemory → H.takes_memory hasher.now }
+{
+    let closer = closer_name(name, labels);
+    match find_nsec3(alloc, apex, records, &closer, hasher) {
+        Ok(found) => Ok(closer_told(labels, found)),
+        Err(error) => Err(error),
+    }
+}
+
+/// What NSEC3 records answer of a name whose records were expanded from a wildcard (RFC 5155,
+/// section 8.8; RFC 4035, section 5.3.4). The signatures of such records have as their field Labels
+/// how many labels the closest encloser has, right below which the wildcard stands; no record of it
+/// comes with the answer, but one that covers the next closer name, which is one label longer.
+///
+/// The records may be any, and are passed over, as by `judge_nsec3`. Where one covers the next
+/// closer name, and none matches it, the answer is `NoCloserName` with these labels: there is no
+/// name between the wildcard's parent and the name, so that the expansion holds. Where the record
+/// has the flag of opt-out it is `MayBeUnsigned`: that name may be an unsigned delegation. Of
+/// several that match or cover it the first counts. Where none does, or one matches it, the answer
+/// is `NotProven`; so it is where the labels are fewer than the apex has, or not fewer than the
+/// name has. Where the NSEC3PARAM record has more iterations than the limit, it is
+/// `TooManyIterations` (RFC 9276, section 3.2), and of a name outside of the zone `OutsideZone`.
+///
+/// One name is hashed, the next closer name, and the records are gone over once; for the other
+/// answers no name is. Takes no memory but for the hasher's answer. The records' signatures, and
+/// those of the wildcard's records, are not looked at.
+///
+/// # Errors
+///
+/// `Hasher` with the number of the hasher's refusal, and `OutOfMemory` where it has none.
+pub fn judge_nsec3_expansion<A: ToName, O: Octets, N: ToName, M: ToName, H: Nsec3Hasher>(
+    alloc: Global,
+    apex: &A,
+    records: &Nsec3Records<N, O>,
+    name: &M,
+    labels: usize,
+    limit: u16,
+    hasher: &H,
+) -> Result<Answer, Nsec3HashError>
+    ensures outside { is_at_or_below (M.labels name.now) (A.labels apex.now) ≡ false
+        → result ≡ Ok Answer.OutsideZone }
+    ensures none { is_at_or_below (M.labels name.now) (A.labels apex.now) ≡ true
+        → is_expanded (A.labels apex.now) (M.labels name.now) labels ≡ false
+        → result ≡ Ok Answer.NotProven }
+    ensures iterations { is_expanded (A.labels apex.now) (M.labels name.now) labels ≡ true
+        → limit < (parameters records.now).iterations → result ≡ Ok Answer.TooManyIterations }
+
+    // For records of the chain of any zone, within the limit, what they prove of the next closer
+    // name.
+    ensures zone { is_expanded (A.labels apex.now) (M.labels name.now) labels ≡ true
+        → (parameters records.now).iterations ≤ limit
+        → IfOk result (IsExpansionAnswered (links N.labels records.now) (A.labels apex.now)
+        (parameters records.now) (hash_with (H.answer hasher.now) records.now)
+        (M.labels name.now) labels) }
+
+    // For any list at all, the answer is what the records say by themselves, and those that it
+    // rests on are there.
+    ensures exact { is_expanded (A.labels apex.now) (M.labels name.now) labels ≡ true
+        → (parameters records.now).iterations ≤ limit
+        → IfOk result (IsExpansionRead (links N.labels records.now) (A.labels apex.now)
+        (parameters records.now) (hash_with (H.answer hasher.now) records.now)
+        (M.labels name.now) labels) }
+    ensures proof { IfOk result (ExpansionRestsOn (links N.labels records.now) (A.labels apex.now)
+        (parameters records.now) (hash_with (H.answer hasher.now) records.now)
+        (M.labels name.now) labels) }
+    ensures within { IfOk result (CountsWithin (length (M.labels name.now))) }
+
+    // An error is the refusal of the one name that is hashed, or want of memory.
+    ensures refusal { (n : ℕ) → IsErrOf result (hash_error.Hasher n)
+        → hash_name (hash_with (H.answer hasher.now) records.now)
+        (closer_name labels (M.labels name.now)) ≡ Err n }
+    ensures errors { IfErr result (λ e. (e ≡ hash_error.OutOfMemory)
+        ⊎ ((n : ℕ) × (e ≡ hash_error.Hasher n))) }
+    ensures memory { IsErrOf result hash_error.OutOfMemory → H.takes_memory hasher.now }
+{
+    if !name.ends_with(apex) {
+        return Ok(Answer::OutsideZone);
+    }
+    if !is_expanded(apex, name, labels) {
+        return Ok(Answer::NotProven);
+    }
+    if records.nsec3param.data().iterations() > limit {
+        return Ok(Answer::TooManyIterations);
+    }
+    // By this law what the records say is what they prove.
+    laws::expansions_are_proved();
+    match read_expansion(alloc, apex, records, name, labels, hasher) {
+        Ok(answer) => Ok(answer),
+        Err(error) => Err(error),
+    }
+}
