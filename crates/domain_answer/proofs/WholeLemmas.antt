@@ -29,7 +29,7 @@ and_false : (b : Bool) → (b && false) ≡ false
 and_false true = refl
 and_false false = refl
 
-wildcard_low : (L : List ZoneRecord) (a : Name) (x : Name) → name_exists L a a ≡ true → is_at_or_below x a ≡ true
+pub wildcard_low : (L : List ZoneRecord) (a : Name) (x : Name) → name_exists L a a ≡ true → is_at_or_below x a ≡ true
     → is_at_or_below (wildcard_below (encloser L a x)) a ≡ true
 wildcard_low L a x apex low =
     let above = encloser L a x in

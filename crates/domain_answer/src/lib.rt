@@ -29,3 +29,4 @@ pub use answer::Answer;
 pub use expansion::judge_nsec3_expansion;
 pub use nsec::judge_nsec;
 pub use nsec3::judge_nsec3;
+pub use wildcard::wildcard_of;

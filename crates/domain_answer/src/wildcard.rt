@@ -1,9 +1,10 @@
 //! The wildcard right below an ancestor of a name.
-ghost use Rattle.std.specs.Prelude.{◌≡◌, ◌+◌, ◌<◌, ◌≤◌, ◌∷◌, ◌++◌, length, take};
+ghost use Rattle.std.specs.Prelude.{◌≡◌, ◌+◌, ◌<◌, ◌≤◌, ◌∷◌, ◌++◌, IfNone, IfSome, length, take};
 ghost use Rattle.domain_answer.specs.Proved.{last_labels};
 ghost use Rattle.domain_answer.specs.ZoneAnswer.{wildcard_below};
 
 use domain_base::{ParsedName, ToName};
+use domain_zone::MAX_NAME;
 
 /// The last labels of a name, so many, or all of them where there are no more.
 pub(crate) fn last_labels<M: ToName>(name: &M, count: usize) -> ParsedName<'_>
@@ -57,4 +58,21 @@ pub(crate) fn wildcard_below<'b, M: ToName>(
     let _whole = name.as_wire();
     let above = last_labels(name, count);
     ParsedName::over(write_wildcard(buffer, above.as_wire()))
+}
+
+/// The wildcard right below the last labels of a name, so many (RFC 4592, section 2.1.1), whose
+/// octets lie at the front of the buffer. None where the name has no more labels than these.
+pub fn wildcard_of<'b, M: ToName>(
+    buffer: &'b mut [u8; MAX_NAME],
+    name: &M,
+    count: usize,
+) -> Option<ParsedName<'b>>
+    ensures some { IfSome result
+        (λ wildcard. wildcard ≡ wildcard_below (last_labels count (M.labels name.now))) }
+    ensures none { IfNone result (length (M.labels name.now) ≤ count) }
+{
+    if count >= name.count_labels() {
+        return None;
+    }
+    Some(wildcard_below(buffer, name, count))
 }

@@ -1,4 +1,5 @@
--- What a verdict tells of the records that were handed in, by the chain that is made of them.
+-- What a verdict or an answer tells of the records that were handed in, by the chain that is made of
+-- them.
 use Rattle.std.specs.Prelude.{◌≡◌, ℕ, List, Option}
 use Rattle.std.specs.declared.cmp.Ordering.{Ordering}
 use Rattle.domain_plain.specs.declared.record.Record.{Record}
@@ -8,6 +9,9 @@ use Rattle.domain_nsec.specs.Chain.{Link}
 use Rattle.domain_nsec.specs.declared.config.GenerateNsecConfig.{GenerateNsecConfig}
 use Rattle.domain_checker.specs.Verdict.{proved_verdict, zone_verdict}
 use Rattle.domain_checker.specs.declared.verdict.Verdict.{Verdict}
+use Rattle.domain_answer.specs.Proved.{proved_answer}
+use Rattle.domain_answer.specs.ZoneAnswer.{zone_answer}
+use Rattle.domain_answer.specs.declared.answer.Answer.{Answer}
 use Rattle.domain_dnssec.specs.AnyOrder.{Sorts}
 
 module _ {N D : Type 0} (labels : N → Name) (rtype_of : D → ℕ) (minimum_of : D → Option ℕ)
@@ -26,4 +30,21 @@ module _ {N D : Type 0} (labels : N → Name) (rtype_of : D → ℕ) (minimum_of
     pub sorted : List (Record N D)
     pub sorts : Sorts labels rtype_of data_cmp given sorted
     pub is : verdict ≡ zone_verdict (zone_of labels rtype_of minimum_of sorted) apex
+        config.assume_dnskeys_will_be_added x t
+
+  -- the answer is what some records of the chain of the given records prove of a name and a type
+  pub record IsProvedAnswerOf (given : List (Record N D)) (apex : Name)
+      (config : GenerateNsecConfig) (listed : List Link) (x : Name) (t : ℕ) (answer : Answer)
+      : Type 0 where
+    pub sorted : List (Record N D)
+    pub sorts : Sorts labels rtype_of data_cmp given sorted
+    pub is : answer ≡ proved_answer (zone_of labels rtype_of minimum_of sorted) apex
+        config.assume_dnskeys_will_be_added listed x t
+
+  -- the answer is what the zone of the given records says of a name and a type
+  pub record IsAnswerOf (given : List (Record N D)) (apex : Name) (config : GenerateNsecConfig)
+      (x : Name) (t : ℕ) (answer : Answer) : Type 0 where
+    pub sorted : List (Record N D)
+    pub sorts : Sorts labels rtype_of data_cmp given sorted
+    pub is : answer ≡ zone_answer (zone_of labels rtype_of minimum_of sorted) apex
         config.assume_dnskeys_will_be_added x t

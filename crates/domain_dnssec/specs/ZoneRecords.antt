@@ -11,6 +11,7 @@ use Rattle.domain_nsec3.specs.Chain.{HashedLink, ParamRecord}
 use Rattle.domain_nsec3.specs.Config.{ChainConfig}
 use Rattle.domain_nsec3.specs.declared.config.Nsec3ParamTtlMode.{Nsec3ParamTtlMode}
 use Rattle.domain_checker.specs.declared.verdict.Verdict.{Verdict}
+use Rattle.domain_answer.specs.declared.answer.Answer.{Answer}
 use Rattle.domain_dnssec.specs.AnyOrder as any_order
 use Rattle.domain_dnssec.specs.AnyOrderNsec3 as any_order_nsec3
 use Rattle.domain_dnssec.specs.Told as told
@@ -42,3 +43,7 @@ module _ {O N : Type 0} (octets : O → Octets) (labels : N → Name) where
   abbrev pub IsSaidOf : List (Record N (ZoneRecordData O N)) → Name → GenerateNsecConfig
       → Name → ℕ → Verdict → Type 0
   IsSaidOf = told.IsSaidOf labels rtype_of minimum_of (data_cmp octets labels)
+
+  abbrev pub IsAnswerOf : List (Record N (ZoneRecordData O N)) → Name → GenerateNsecConfig
+      → Name → ℕ → Answer → Type 0
+  IsAnswerOf = told.IsAnswerOf labels rtype_of minimum_of (data_cmp octets labels)

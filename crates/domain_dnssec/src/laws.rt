@@ -11,9 +11,12 @@ ghost use Rattle.domain_zone.specs.Soa.{is_soa, numbers_of, soa_of};
 ghost use Rattle.domain_zone.specs.Zone.{OwnersNeverDescend, ZoneRecord, has_clash, has_type, is_unoccluded, owns, records_of};
 ghost use Rattle.domain_zone.specs.declared.soa.ApexSoa.{ApexSoa};
 ghost use Rattle.domain_zone.specs.View.{zone_of};
+ghost use Rattle.domain_answer.specs.Proved.{IsAnswered};
+ghost use Rattle.domain_answer.specs.declared.answer.Answer.{Answer};
 ghost use Rattle.domain_dnssec.specs.AnyOrder.{IsChainOf, Sorts};
-ghost use Rattle.domain_dnssec.specs.Told.{IsProvedOf, IsSaidOf};
+ghost use Rattle.domain_dnssec.specs.Told.{IsAnswerOf, IsProvedAnswerOf, IsProvedOf, IsSaidOf};
 
+use domain_answer::laws as answers;
 use domain_base::{CanonicalOrd, ToName};
 use domain_checker::laws::whole_chains_prove_all;
 pub use domain_nsec::laws::{chains_mean_the_zone, types_ignore_case};
@@ -90,4 +93,28 @@ pub fn verdicts_tell_of_records<N: ToName, D: ZoneData + CanonicalOrd>()
 {
     sorted_owners_never_descend::<N, D>();
     whole_chains_prove_all();
+}
+
+/// What a whole answer over records of a chain tells of the records that the chain was made of, in
+/// whatever order they were handed in: what is proved of their zone, and of the whole chain, as it
+/// was made or lent, what the zone says. The chain leaves out the names below an owner of a DNAME
+/// record.
+pub fn answers_tell_of_records<N: ToName, D: ZoneData + CanonicalOrd>()
+    ensures some { (given : List (Record N D)) (apex : Name) (config : GenerateNsecConfig)
+        (links listed : List Link) (x : Name) (t : ℕ) (answer : Answer)
+        → config.occlude_below_dname ≡ true
+        → IsChainOf N.labels D.rtype D.minimum D.canonical_cmp given apex config links
+        → All (Contains links) listed → IsAnswered listed apex x t answer
+        → IsProvedAnswerOf N.labels D.rtype D.minimum D.canonical_cmp given apex config listed x t
+        answer }
+    ensures all { (given : List (Record N D)) (apex : Name) (config : GenerateNsecConfig)
+        (links listed : List Link) (x : Name) (t : ℕ) (answer : Answer)
+        → config.occlude_below_dname ≡ true
+        → IsChainOf N.labels D.rtype D.minimum D.canonical_cmp given apex config links
+        → listed ≡ links → IsAnswered listed apex x t answer
+        → IsAnswerOf N.labels D.rtype D.minimum D.canonical_cmp given apex config x t answer }
+{
+    sorted_owners_never_descend::<N, D>();
+    answers::whole_chains_prove_all();
+    answers::chains_leave_out_names_below_dname();
 }

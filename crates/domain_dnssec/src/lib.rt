@@ -6,10 +6,11 @@
 //! canonical order, as `owner_rrs` of `SortedRecords` hands them out. `NsecChain::generate` and
 //! `Nsec3Chain::generate` give the same chains before their records are made: these lend them one
 //! by one, in less memory. `check_nsec` and `check_nsec3` say what records of a chain prove of a
-//! name and a type. What the contracts cite stands in `specs/` of
-//! `domain_zone`, `domain_nsec`, `domain_nsec3`, `domain_checker` and this crate. What signatures
-//! here name is handed on: names, types, classes, TTLs, records and their data, builders of
-//! octets, sorted records, and the errors.
+//! name and a type, `judge_nsec` and `judge_nsec3` what they answer as a whole: a name error, no
+//! data, a delegation, an alias, what a wildcard does. What the contracts cite stands in `specs/`
+//! of `domain_zone`, `domain_nsec`, `domain_nsec3`, `domain_checker`, `domain_answer` and this
+//! crate. What signatures here name is handed on: names, types, classes, TTLs, records and their
+//! data, builders of octets, sorted records, and the errors.
 #![tactic(auto)]
 
 mod any_order;
@@ -23,6 +24,7 @@ pub use any_order::generate_nsecs_of_records;
 pub use any_order_nsec3::generate_nsec3s_of_records;
 pub use chain::ChainError;
 pub use config::DenialConfig;
+pub use domain_answer::{Answer, judge_nsec, judge_nsec3, judge_nsec3_expansion};
 pub use domain_base::{
     Class, FromToken, IterScanner, MakeName, Name, Nsec3HashAlgorithm, ParseError, ParsedName,
     Rtype, ScanError, Scanner, ToName, Ttl,

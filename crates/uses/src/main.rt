@@ -1,9 +1,10 @@
-//! Eight uses of the library, each a proved function that calls it, with what it prints.
+//! Nine uses of the library, each a proved function that calls it, with what it prints.
 //!
 //! `docs/GUIDE.md` quotes them. A program names `domain_dnssec` first, which hands on what its own
 //! signatures name.
 #![tactic(auto)]
 
+mod answer;
 mod bitmap;
 mod chain;
 mod hashed;
@@ -25,6 +26,7 @@ fn report(alloc: Global) -> Result<String, Error> {
     hashed::show(alloc, &mut text)?;
     verdict::show(alloc, &mut text)?;
     said::show(alloc, &mut text)?;
+    answer::show(alloc, &mut text)?;
     bitmap::show(alloc, &mut text)?;
     line::show(alloc, &mut text)?;
     sorted::show(alloc, &mut text)?;

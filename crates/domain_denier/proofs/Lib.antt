@@ -1,0 +1,2 @@
+pub mod SearchLemmas
+pub mod PickLemmas

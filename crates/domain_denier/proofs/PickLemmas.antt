@@ -1,0 +1,222 @@
+-- What is picked of the chain of a zone is what its answer rests on, and no more.
+use Rattle.std.proofs.Common.{◌≡◌, ◌≢◌, ℕ, zero, suc, ◌<◌, arith, Bool, true, false, cond, not, ◌&&◌, ◌||◌, List, [], ◌∷◌, ◌++◌, length}
+use Rattle.std.proofs.Common.{slice_get, Option, Some, None, refl, sym, ap, ◌∙◌, subst, inl, inr, ◌⊎◌}
+use Rattle.std.specs.Prelude.{All}
+use Rattle.std.specs.List.{list_any, Contains}
+use Rattle.std.proofs.lemmas.Bool.{cases_Bool, false≢true, true≢false, and_parts, or_left, or_right}
+use Rattle.std.proofs.lemmas.List.Elements.{All-nil, All-push, Contains-get_or}
+use Rattle.domain_base.specs.Name.{is_at_or_below}
+use Rattle.domain_base.specs.Order.{before}
+use Rattle.domain_base.specs.Words.{Name}
+use Rattle.domain_zone.specs.Covering.{matches_or_covers}
+use Rattle.domain_zone.specs.Zone.{ZoneRecord, is_occluded, is_unoccluded, unoccluded_owners}
+use Rattle.domain_nsec.specs.Chain.{Link}
+use Rattle.domain_nsec.specs.declared.config.GenerateNsecConfig.{GenerateNsecConfig}
+use Rattle.domain_checker.specs.Verdict.{has_match_or_cover}
+use Rattle.domain_checker.proofs.ListLemmas.{ChainLaws}
+use Rattle.domain_answer.specs.declared.answer.Answer.{Answer}
+use Rattle.domain_answer.specs.declared.answer.Answer.TheVariants.{AtParent, NoCloserName, NotProven, OutsideZone}
+use Rattle.domain_answer.specs.Proved.{IsAnswered, is_missing, knows_wildcard, last_labels, needs_no_records, proved_answer}
+use Rattle.domain_answer.specs.Reading.{reading}
+use Rattle.domain_answer.specs.ZoneAnswer.{encloser, highest_occluder, inside_answer, is_at_parent, name_exists, wildcard_below, zone_answer}
+use Rattle.domain_answer.proofs.ChainLemmas.{IsMeant, apex_exists, meant_by}
+use Rattle.domain_answer.proofs.CountLemmas.{closest_last}
+use Rattle.domain_answer.proofs.WholeLemmas.{wildcard_low}
+use Rattle.domain_denier.specs.Picked.{AreNeeded, IsOf, IsWhole, IsWildcardPicked, at_place, listed_option, picked}
+use Rattle.domain_denier.specs.declared.nsec.NsecDenial.{NsecDenial}
+
+-- what lists say is what they prove, and no zone says that there is no closer name
+pub record AnswerLaws : Type 0 where
+  pub zone : (listed : List Link) (a x : Name) (t : ℕ) → t < 65536 → IsAnswered listed a x t (reading a listed x t)
+  pub closer : (L : List ZoneRecord) (a : Name) (assume : Bool) (x : Name) (t n : ℕ) → zone_answer L a assume x t ≢ NoCloserName n
+
+one_there : (links : List Link) (place : ℕ) (k : Link) → slice_get links place ≡ Some k → at_place links (Some place) ≡ k ∷ []
+one_there links place k e = ap listed_option e
+
+one_count : (m n : ℕ) (v : Answer) → v ≡ NoCloserName m → v ≡ NoCloserName n → m ≡ n
+one_count m n v e f = cc
+
+pub none_first : (links : List Link) (k : Link) (more : List Link) → links ≡ [] → links ≡ k ∷ more → ⊥
+none_first links k more none are = absurd (empty (sym none ∙ are))
+  where
+    empty : [] ≡ k ∷ more → ⊥
+    empty e = absurd (cc)
+
+pub one_place : (p q n : ℕ) → Some p ≡ Some q → p < n → q < n
+one_place p q n e l = subst (λ m. m < n) (inside_some e) l
+  where
+    inside_some : Some p ≡ Some q → p ≡ q
+    inside_some e = cc
+
+pub no_place : (p : ℕ) → None ≡ Some p → ⊥
+no_place p e = absurd (cc)
+
+-- outside of the zone no records are needed
+pub nothing_outside : (L : List ZoneRecord) (a : Name) (assume : Bool) (x : Name) (t : ℕ) → is_at_or_below x a ≡ false
+    → reading a [] x t ≡ zone_answer L a assume x t
+nothing_outside L a assume x t e =
+    (λ i. cond (not (e i)) OutsideZone (cond (is_at_parent a x t) AtParent NotProven))
+    ∙ sym (λ i. cond (not (e i)) OutsideZone (cond (is_at_parent a x t) AtParent (inside_answer L a assume x t (highest_occluder L a x))))
+
+contained : (links : List Link) (place : ℕ) (k : Link) → slice_get links place ≡ Some k → Contains links k
+contained [] place k e = absurd (cc)
+contained (l ∷ ls) zero k e = (0, omega arith, cc)
+contained (l ∷ ls) (suc place) k e = let r = contained ls place k e in (suc r.0, omega (arith, r.1), r.2)
+
+module _ (laws : ChainLaws) (answers : AnswerLaws) (links : List Link) (L : List ZoneRecord) (a : Name)
+    (config : GenerateNsecConfig) (whole : IsWhole L a config links) (x : Name) (t : ℕ) (small : t < 65536)
+    (under : is_at_or_below x a ≡ true) where
+  abbrev assume : Bool
+  assume = config.assume_dnskeys_will_be_added
+
+  abbrev zone : Answer
+  zone = zone_answer L a config.assume_dnskeys_will_be_added x t
+
+  meant : IsMeant L a config.assume_dnskeys_will_be_added links
+  meant = meant_by laws L a config links whole.leaves_out whole.order whole.chain
+
+  proved : (listed : List Link) → All (Contains links) listed → reading a listed x t ≡ proved_answer L a config.assume_dnskeys_will_be_added listed x t
+  proved listed among = answers.zone listed a x t small L config links whole.leaves_out whole.order whole.chain among
+
+  -- what a list proves that has a record of x: what the zone says or, where it lacks one of the wildcard that decides, that there
+  -- is no such name
+  pub record IsHalf (listed : List Link) : Type 0 where
+    pub says : reading a listed x t ≡ NoCloserName (length (encloser L a x))
+    pub missing : is_missing L a x ≡ true
+    pub unknown : knows_wildcard L a listed x ≡ false
+
+  halves : (needs has missing knows : Bool) (n : ℕ) (v : Answer) → has ≡ true
+      → (cond needs v (cond (not has) NotProven (cond (missing && not knows) (NoCloserName n) v)) ≡ v)
+      ⊎ ((cond needs v (cond (not has) NotProven (cond (missing && not knows) (NoCloserName n) v)) ≡ NoCloserName n)
+      × (missing ≡ true) × (knows ≡ false))
+  halves true has missing knows n v e = inl refl
+  halves false false missing knows n v e = absurd (false≢true e)
+  halves false true false knows n v e = inl refl
+  halves false true true true n v e = inl refl
+  halves false true true false n v e = inr (refl, refl, refl)
+
+  pub half : (listed : List Link) → All (Contains links) listed → has_match_or_cover listed x ≡ true
+      → (reading a listed x t ≡ zone) ⊎ IsHalf listed
+  half listed among has =
+      elim (halves (needs_no_records a x t) (has_match_or_cover listed x) (is_missing L a x) (knows_wildcard L a listed x)
+      (length (encloser L a x)) zone has) [
+        | inl e ↦ inl (proved listed among ∙ e)
+        | inr e ↦ inr (record { says = proved listed among ∙ e.0; missing = e.1; unknown = e.2 })
+      ]
+
+  one_among : (k : Link) → Contains links k → All (Contains links) (k ∷ [])
+  one_among k c = All-push (Contains links) [] k (All-nil (Contains links)) c
+
+  both_among : (k l : Link) → Contains links k → Contains links l → All (Contains links) (k ∷ l ∷ [])
+  both_among k l c d = All-push (Contains links) (k ∷ []) l (one_among k c) d
+
+  first_has : (y : Name) (k : Link) (more : List Link) → matches_or_covers before k.owner k.next y ≡ true → has_match_or_cover (k ∷ more) y ≡ true
+  first_has y k more e = λ i. e i || has_match_or_cover more y
+
+  -- no records prove nothing
+  pub none_says : is_at_parent a x t ≡ false → reading a [] x t ≡ NotProven
+  none_says parent = λ i. cond (not (under i)) OutsideZone (cond (parent i) AtParent NotProven)
+
+  module _ (p : ℕ) (of : IsOf links p x) where
+    here : at_place links (Some p) ≡ of.link ∷ []
+    here = one_there links p of.link of.there
+
+    half_here : (reading a (at_place links (Some p)) x t ≡ zone) ⊎ IsHalf (at_place links (Some p))
+    half_here = subst (λ ls. (reading a ls x t ≡ zone) ⊎ IsHalf ls) (sym here)
+        (half (of.link ∷ []) (one_among of.link (contained links p of.link of.there)) (first_has x of.link [] of.says))
+
+    pub one_says : ((n : ℕ) → reading a (at_place links (Some p)) x t ≢ NoCloserName n) → reading a (at_place links (Some p)) x t ≡ zone
+    one_says other = elim half_here [
+      | inl e ↦ e
+      | inr h ↦ absurd (other (length (encloser L a x)) h.says)
+    ]
+
+    module _ (count : ℕ) (says : reading a (at_place links (Some p)) x t ≡ NoCloserName count) where
+      only_half : IsHalf (at_place links (Some p))
+      only_half = elim half_here [
+        | inl e ↦ absurd (answers.closer L a config.assume_dnskeys_will_be_added x t count (sym e ∙ says))
+        | inr h ↦ h
+      ]
+
+      pub wildcard_is : wildcard_below (last_labels count x) ≡ wildcard_below (encloser L a x)
+      wildcard_is =
+          let same = one_count count (length (encloser L a x)) (reading a (at_place links (Some p)) x t) says only_half.says in
+          ap wildcard_below ((λ i. last_labels (same i) x) ∙ closest_last (unoccluded_owners true L a) a x)
+
+      pub wildcard_under : is_at_or_below (wildcard_below (last_labels count x)) a ≡ true
+      wildcard_under = ap (λ w. is_at_or_below w a) wildcard_is
+          ∙ wildcard_low L a x (apex_exists L a config.assume_dnskeys_will_be_added links meant) under
+
+      module _ (q : ℕ) (of_w : IsOf links q (wildcard_below (last_labels count x))) where
+        there_w : at_place links (Some q) ≡ of_w.link ∷ []
+        there_w = one_there links q of_w.link of_w.there
+
+        says_w : matches_or_covers before of_w.link.owner of_w.link.next (wildcard_below (encloser L a x)) ≡ true
+        says_w = (λ i. matches_or_covers before of_w.link.owner of_w.link.next (sym wildcard_is i)) ∙ of_w.says
+
+        pub both_say : reading a (at_place links (Some p) ++ at_place links (Some q)) x t ≡ zone
+        both_say =
+            let all : at_place links (Some p) ++ at_place links (Some q) ≡ of.link ∷ of_w.link ∷ [] = λ i. here i ++ there_w i in
+            let among = both_among of.link of_w.link (contained links p of.link of.there) (contained links q of_w.link of_w.there) in
+            let knows : knows_wildcard L a (of.link ∷ of_w.link ∷ []) x ≡ true =
+            or_right (matches_or_covers before of.link.owner of.link.next (wildcard_below (encloser L a x)))
+            (has_match_or_cover (of_w.link ∷ []) (wildcard_below (encloser L a x)))
+            (first_has (wildcard_below (encloser L a x)) of_w.link [] says_w) in
+            (λ i. reading a (all i) x t)
+            ∙ elim (half (of.link ∷ of_w.link ∷ []) among (first_has x of.link (of_w.link ∷ []) of.says)) [
+              | inl e ↦ e
+              | inr h ↦ absurd (false≢true (sym h.unknown ∙ knows))
+            ]
+
+        -- the record of the wildcard alone says nothing of x: it is not that of x, which would know the wildcard
+        other : matches_or_covers before of_w.link.owner of_w.link.next x ≡ false
+        other = elim (cases_Bool (matches_or_covers before of_w.link.owner of_w.link.next x)) [
+          | inr e ↦ e
+          | inl e ↦
+              let free : is_occluded true L a x ≡ false = unoccluded only_half.missing in
+              let once = meant.denial.each x under free in
+              let same : p ≡ q = once.only p of.link of.there of.says ∙ sym (once.only q of_w.link of_w.there e) in
+              let knows : knows_wildcard L a (at_place links (Some p)) x ≡ true =
+              (λ i. knows_wildcard L a (at_place links (Some (same i))) x) ∙ (λ i. knows_wildcard L a (there_w i) x)
+              ∙ first_has (wildcard_below (encloser L a x)) of_w.link [] says_w in
+              absurd (false≢true (sym only_half.unknown ∙ knows))
+        ]
+          where
+            not_false : (b : Bool) → not b ≡ true → b ≡ false
+            not_false true e = absurd (false≢true e)
+            not_false false e = refl
+
+            unoccluded : is_missing L a x ≡ true → is_occluded true L a x ≡ false
+            unoccluded e =
+                let parts = and_parts (is_unoccluded true L a x) (not (name_exists L a x)) e in
+                not_false (is_occluded true L a x) (and_parts (is_at_or_below x a) (not (is_occluded true L a x)) parts.0).1
+
+        pub wildcard_alone : is_at_parent a x t ≡ false → reading a (at_place links (Some q)) x t ≡ NotProven
+        wildcard_alone parent =
+            let among = one_among of_w.link (contained links q of_w.link of_w.there) in
+            (λ i. reading a (there_w i) x t) ∙ proved (of_w.link ∷ []) among
+            ∙ (λ i. cond (not (under i) || is_at_parent a x t) zone (cond (not (other i || false)) NotProven
+            (cond (is_missing L a x && not (knows_wildcard L a (of_w.link ∷ []) x)) (NoCloserName (length (encloser L a x))) zone)))
+            ∙ (λ i. cond (parent i) zone NotProven)
+
+      -- what is picked where the first record denies the name alone
+      module _ (d : NsecDenial) (name : d.of_name ≡ Some p) (wildcard : IsWildcardPicked links x count d) where
+        second : IsOf links wildcard.0 (wildcard_below (last_labels count x))
+        second = wildcard.2 L a config whole wildcard_under
+
+        pub zone_of_both : d.answer ≡ reading a (picked links d) x t → d.answer ≡ zone
+        zone_of_both exact = exact ∙ (λ i. reading a (at_place links (name i) ++ at_place links (wildcard.1 i)) x t)
+            ∙ both_say wildcard.0 second
+
+        pub needs_both : AreNeeded links a x t d
+        needs_both = record {
+          name = λ low parent. (λ i. reading a (at_place links (wildcard.1 i)) x t) ∙ wildcard_alone wildcard.0 second parent;
+          wildcard = λ some. (count, (λ i. reading a (at_place links (name i)) x t) ∙ says);
+        }
+
+  -- what is picked where the first record suffices
+  pub needs_one : (d : NsecDenial) → d.of_wildcard ≡ None → AreNeeded links a x t d
+  needs_one d none = record {
+    name = λ low parent. (λ i. reading a (at_place links (none i)) x t) ∙ none_says parent;
+    wildcard = λ some. absurd (some none);
+  }

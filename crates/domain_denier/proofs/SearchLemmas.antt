@@ -1,0 +1,118 @@
+-- Where a search in a chain ends, the record matches or covers the name.
+use Rattle.std.proofs.Common.{◌≡◌, ℕ, zero, suc, ◌+◌, ◌-◌, ◌<◌, ◌≤◌, Bool, true, false, cond, not, ◌&&◌, ◌||◌, List, [], ◌∷◌, map, length}
+use Rattle.std.proofs.Common.{get_or, slice_get, Some, refl, sym, ap, ◌∙◌, subst, arith, inl, inr, ◌⊎◌, add-one}
+use Rattle.std.proofs.lemmas.Bool.{cases_Bool, cases_lt, false≢true, and_parts}
+use Rattle.std.proofs.lemmas.Option.{slice_get-get_or}
+use Rattle.domain_base.specs.Name.{is_at_or_below, same_name}
+use Rattle.domain_base.specs.Order.{before}
+use Rattle.domain_base.specs.Words.{Name}
+use Rattle.domain_zone.specs.Covering.{matches_or_covers, pairs}
+use Rattle.domain_zone.specs.Zone.{OwnersNeverDescend, ZoneRecord, unoccluded_owners}
+use Rattle.domain_zone.proofs.NameLemmas.{below_from, before_right, one_lowered}
+use Rattle.domain_nsec.specs.Chain.{IsChain, Link}
+use Rattle.domain_nsec.specs.Meaning.{IsCycle}
+use Rattle.domain_nsec.specs.declared.config.GenerateNsecConfig.{GenerateNsecConfig}
+use Rattle.domain_checker.specs.Verdict.{is_inside}
+use Rattle.domain_checker.proofs.FindLemmas.{In, in_at}
+use Rattle.domain_checker.proofs.ListLemmas.{ChainLaws}
+use Rattle.domain_answer.proofs.ChainLemmas.{IsMeant, inside, meant_by}
+use Rattle.domain_denier.specs.Picked.{IsOf, IsWhole}
+
+abbrev pub ends : Link → Name × Name
+ends k = (k.owner, k.next)
+
+-- ---- the next name of a record is the owner of the one after it, that of the last one the apex
+
+owner_at : (ls : List Link) (ks : List Name) (a : Name) → map ends ls ≡ pairs ks a → (i : ℕ) → i < length ls → (d : Link)
+    → (get_or ls i d).owner ≡ get_or ks i a
+owner_at [] ks a e i h d = absurd (omega (arith, h))
+owner_at (l ∷ ls) [] a e i h d = absurd (cc)
+owner_at (l ∷ ls) (k ∷ []) a e zero h d = let one : ends l ≡ (k, a) = cc in ap (λ p. p.0) one
+owner_at (l ∷ []) (k ∷ []) a e (suc i) h d = absurd (omega (arith, h))
+owner_at (l ∷ m ∷ ls) (k ∷ []) a e (suc i) h d = absurd (cc)
+owner_at (l ∷ ls) (k ∷ m ∷ ks) a e zero h d = let one : ends l ≡ (k, m) = cc in ap (λ p. p.0) one
+owner_at (l ∷ ls) (k ∷ m ∷ ks) a e (suc i) h d = owner_at ls (m ∷ ks) a (cc) i (omega (arith, h)) d
+
+next_at : (ls : List Link) (ks : List Name) (a : Name) → map ends ls ≡ pairs ks a → (i : ℕ) → i < length ls → (d : Link)
+    → (get_or ls i d).next ≡ get_or ks (suc i) a
+next_at [] ks a e i h d = absurd (omega (arith, h))
+next_at (l ∷ ls) [] a e i h d = absurd (cc)
+next_at (l ∷ ls) (k ∷ []) a e zero h d = let one : ends l ≡ (k, a) = cc in ap (λ p. p.1) one
+next_at (l ∷ []) (k ∷ []) a e (suc i) h d = absurd (omega (arith, h))
+next_at (l ∷ m ∷ ls) (k ∷ []) a e (suc i) h d = absurd (cc)
+next_at (l ∷ ls) (k ∷ m ∷ ks) a e zero h d = let one : ends l ≡ (k, m) = cc in ap (λ p. p.1) one
+next_at (l ∷ ls) (k ∷ m ∷ ks) a e (suc i) h d = next_at ls (m ∷ ks) a (cc) i (omega (arith, h)) d
+
+last_at : (ls : List Link) (ks : List Name) (a : Name) → map ends ls ≡ pairs ks a → (i : ℕ) → suc i ≡ length ls → (d : Link)
+    → (get_or ls i d).next ≡ a
+last_at [] ks a e i h d = absurd (omega (arith, h))
+last_at (l ∷ ls) [] a e i h d = absurd (cc)
+last_at (l ∷ ls) (k ∷ []) a e zero h d = let one : ends l ≡ (k, a) = cc in ap (λ p. p.1) one
+last_at (l ∷ []) (k ∷ []) a e (suc i) h d = absurd (omega (arith, h))
+last_at (l ∷ m ∷ ls) (k ∷ []) a e (suc i) h d = absurd (cc)
+last_at (l ∷ []) (k ∷ m ∷ []) a e i h d = absurd (cc)
+last_at (l ∷ []) (k ∷ m ∷ n ∷ ks) a e i h d = absurd (cc)
+last_at (l ∷ n ∷ ls) (k ∷ m ∷ ks) a e zero h d = absurd (omega (arith, h))
+last_at (l ∷ n ∷ ls) (k ∷ m ∷ ks) a e (suc i) h d = last_at (n ∷ ls) (m ∷ ks) a (cc) i (omega (arith, h)) d
+
+-- ---- the two ends of the search
+
+-- the owner at the low end is not after x
+abbrev pub IsBehind : List Link → Name → ℕ → Type 0
+IsBehind links x low = (low ≡ 0) ⊎ ((d : Link) → before x (get_or links low d).owner ≡ false)
+
+-- the owner at the high end is after x, where the list has one there
+abbrev pub IsAhead : List Link → Name → ℕ → Type 0
+IsAhead links x high = (high ≡ length links) ⊎ ((d : Link) → before x (get_or links high d).owner ≡ true)
+
+-- an owner that is not after x, with a next name that is, or with one that is not after the owner
+said : (o n : Name) (x : Name) → before x o ≡ false → (before x n ≡ true) ⊎ (before o n ≡ false) → matches_or_covers before o n x ≡ true
+said o n x low high = told (before o x) (before x o) (before o n) (before x n) low high
+  where
+    told : (ox xo on xn : Bool) → xo ≡ false → (xn ≡ true) ⊎ (on ≡ false)
+        → (not (ox || xo) || (not (not (ox || xo)) && cond on (ox && xn) (ox || xn))) ≡ true
+    told true true on xn e h = absurd (false≢true (sym e))
+    told true false true true e h = refl
+    told true false true false e (inl f) = absurd (false≢true f)
+    told true false true false e (inr f) = absurd (false≢true (sym f))
+    told true false false xn e h = refl
+    told false true on xn e h = absurd (false≢true (sym e))
+    told false false on xn e h = refl
+
+module _ (laws : ChainLaws) (links : List Link) (x : Name) (low high : ℕ) (within : low < high) (end : high ≤ length links)
+    (near : high - low ≤ 1) (behind : IsBehind links x low) (ahead : IsAhead links x high) where
+  pub found : (L : List ZoneRecord) (a : Name) (config : GenerateNsecConfig) → IsWhole L a config links
+      → is_at_or_below x a ≡ true → IsOf links low x
+  found L a config whole under =
+      let cycle = laws.cycle L a config links whole.order whole.chain in
+      let d = cycle.first in
+      let k = get_or links low d in
+      let there : slice_get links low ≡ Some k = slice_get-get_or links low d (omega (arith, within, end)) in
+      let first : get_or links 0 d ≡ cycle.first = ap (λ ls. get_or ls 0 d) cycle.are in
+      let low_owner : before x k.owner ≡ false = elim behind [
+        | inl e ↦
+            (λ i. before x (get_or links (e i) d).owner) ∙ ap (λ l. before x l.owner) first
+            ∙ before_right x cycle.first.owner a (one_lowered cycle.first.owner a cycle.begins) ∙ below_from x a under
+        | inr f ↦ f d
+      ] in
+      let meant = meant_by laws L a config links whole.leaves_out whole.order whole.chain in
+      let owner_low : is_at_or_below k.owner a ≡ true = (and_parts (is_at_or_below k.owner a) (is_at_or_below k.next a)
+      (inside L a config.assume_dnskeys_will_be_added links meant k (in_at links low k there))).0 in
+      let names = whole.chain.names in
+      let is_high : high ≡ suc low = omega (arith, within, near) in
+      let is_next : (before x k.next ≡ true) ⊎ (before k.owner k.next ≡ false) = elim (cases_lt (suc low) (length links)) [
+        | inl more ↦ inl (
+            (λ i. before x ((next_at links (unoccluded_owners config.occlude_below_dname L a) a names low (omega (arith, more)) d
+            ∙ sym (owner_at links (unoccluded_owners config.occlude_below_dname L a) a names (suc low) more d)) i))
+            ∙ elim ahead [
+              | inl e ↦ absurd (omega (arith, more, e, within, near))
+              | inr f ↦ subst (λ h. before x (get_or links h d).owner ≡ true) is_high (f d)
+            ]
+            )
+        | inr none ↦ inr (
+            ap (before k.owner) (last_at links (unoccluded_owners config.occlude_below_dname L a) a names low
+            (omega (arith, none, within, end)) d)
+            ∙ below_from k.owner a owner_low
+            )
+      ] in
+      record { link = k; there = there; says = said k.owner k.next x low_owner is_next }

@@ -1,0 +1,61 @@
+-- The records of an NSEC chain that a server answers a question with (RFC 4035, section 3.1.3).
+use Rattle.std.specs.Prelude.{ℕ, ◌≡◌, ◌≢◌, true, false, List, [], ◌∷◌, ◌++◌, ◌<◌, length, Option, Some, None, slice_get}
+use Rattle.domain_base.specs.Name.{is_at_or_below}
+use Rattle.domain_base.specs.Order.{before}
+use Rattle.domain_base.specs.Words.{Name}
+use Rattle.domain_zone.specs.Covering.{matches_or_covers}
+use Rattle.domain_zone.specs.Zone.{OwnersNeverDescend, ZoneRecord}
+use Rattle.domain_nsec.specs.Chain.{IsChain, Link}
+use Rattle.domain_nsec.specs.declared.config.GenerateNsecConfig.{GenerateNsecConfig}
+use Rattle.domain_answer.specs.Proved.{last_labels, LeavesOutBelowDname}
+use Rattle.domain_answer.specs.Reading.{reading}
+use Rattle.domain_answer.specs.ZoneAnswer.{is_at_parent, wildcard_below}
+use Rattle.domain_answer.specs.declared.answer.Answer.TheVariants.{NoCloserName, NotProven}
+use Rattle.domain_denier.specs.declared.nsec.NsecDenial.{NsecDenial}
+
+-- the link at this place matches or covers x
+pub record IsOf (links : List Link) (place : ℕ) (x : Name) : Type 0 where
+  pub link : Link
+  pub there : slice_get links place ≡ Some link
+  pub says : matches_or_covers before link.owner link.next x ≡ true
+
+-- the link at a place, where one is given
+abbrev pub listed_option : Option Link → List Link
+listed_option None = []
+listed_option (Some k) = k ∷ []
+
+abbrev pub at_place : List Link → Option ℕ → List Link
+at_place links None = []
+at_place links (Some place) = listed_option (slice_get links place)
+
+-- the links that were picked: that of the name, and that of the wildcard
+abbrev pub picked : List Link → NsecDenial → List Link
+picked links d = at_place links d.of_name ++ at_place links d.of_wildcard
+
+-- the places that were picked are places of the chain
+pub record AreThere (links : List Link) (d : NsecDenial) : Type 0 where
+  pub name : (place : ℕ) → d.of_name ≡ Some place → place < length links
+  pub wildcard : (place : ℕ) → d.of_wildcard ≡ Some place → place < length links
+
+-- the links are the chain of a zone, in which names below a DNAME are left out
+pub record IsWhole (L : List ZoneRecord) (a : Name) (config : GenerateNsecConfig)
+    (links : List Link) : Type 0 where
+  pub leaves_out : LeavesOutBelowDname L a config
+  pub order : OwnersNeverDescend L
+  pub chain : IsChain L a config links
+
+-- the record of the wildcard below the last labels of x, so many, was picked
+abbrev pub IsWildcardPicked : List Link → Name → ℕ → NsecDenial → Type 0
+IsWildcardPicked links x count d =
+    (place : ℕ) × (d.of_wildcard ≡ Some place)
+    × ((L : List ZoneRecord) (a : Name) (config : GenerateNsecConfig) → IsWhole L a config links
+    → is_at_or_below (wildcard_below (last_labels count x)) a ≡ true
+    → IsOf links place (wildcard_below (last_labels count x)))
+
+-- without the picked record of the name nothing is proved, and without that of the wildcard no more
+-- than that there is no such name
+pub record AreNeeded (links : List Link) (a x : Name) (t : ℕ) (d : NsecDenial) : Type 0 where
+  pub name : is_at_or_below x a ≡ true → is_at_parent a x t ≡ false
+      → reading a (at_place links d.of_wildcard) x t ≡ NotProven
+  pub wildcard : d.of_wildcard ≢ None
+      → (n : ℕ) × (reading a (at_place links d.of_name) x t ≡ NoCloserName n)
