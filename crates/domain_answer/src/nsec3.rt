@@ -230,7 +230,8 @@ fn read_nsec3<A: ToName, O: Octets, N: ToName, M: ToName, H: Nsec3Hasher>(
 ///
 /// The chain is one that leaves out the names below an owner of a DNAME record, or there are none:
 /// such names are no names of the zone (RFC 6672, section 2.4). The records' signatures are not
-/// looked at.
+/// looked at. An answer that was expanded from a wildcard brings no record of the closest encloser:
+/// `judge_nsec3_expansion` judges that.
 ///
 /// # Errors
 ///

@@ -139,9 +139,9 @@ pub fn hashed_chains_leave_out_names_below_dname()
         → (config : ChainConfig) → HashedLeavesOutBelowDname L a config }
 {}
 
-/// Without the flag of opt-out a zone says of its NSEC3 chain's names what it says of those of its
-/// NSEC chain, of every name and every type but those that one of the two chains lists of itself:
-/// NSEC, and at the apex NSEC3PARAM. The apex owns records, as it does where there is a chain.
+/// Where its NSEC3 chain has no flag of opt-out, a zone answers with that as with an NSEC chain, of
+/// every name and of every type that both list alike: all but NSEC and, at the apex, NSEC3PARAM.
+/// The apex exists, as it does where there is a chain.
 pub fn zones_without_opt_out_answer_alike()
     ensures zone { (L : List ZoneRecord) (a : Name) (config : ChainConfig) (x : Name) (t : ℕ)
         → is_opt_out config.flags ≡ false → HashedLeavesOutBelowDname L a config
