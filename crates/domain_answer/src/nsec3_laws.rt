@@ -10,7 +10,7 @@ ghost use Rattle.domain_nsec3.specs.Chain.{HashedLink, IsHashedChain};
 ghost use Rattle.domain_nsec3.specs.Config.{ChainConfig, Hash, Parameters};
 ghost use Rattle.domain_nsec3.specs.Meaning.{IsAlone};
 ghost use Rattle.domain_checker.specs.Alike.{ArePaired, IsHashedAlike, IsPairedIn};
-ghost use Rattle.domain_answer.specs.Expansion.{closer_name, is_expanded, proved_expansion, ExpansionRestsOn, IsExpansionAnswered, IsExpansionRead};
+ghost use Rattle.domain_answer.specs.Expansion.{closer_name, is_expanded, missing_closer, proved_expansion, ExpansionRestsOn, IsExpansionAnswered, IsExpansionRead};
 ghost use Rattle.domain_answer.specs.HashedProved.{hashed_proved_answer, AreAskedAlone, HashedRestsOn, IsHashedAnswered};
 ghost use Rattle.domain_answer.specs.HashedReading.{IsHashedRead};
 ghost use Rattle.domain_answer.specs.HashedZoneAnswer.{hashed_encloser, hashed_exists, hashed_zone_answer, is_of_one_chain, HashedLeavesOutBelowDname};
@@ -19,10 +19,12 @@ ghost use Rattle.domain_answer.specs.ZoneAnswer.{is_at_parent, name_exists, wild
 ghost use Rattle.domain_answer.specs.declared.answer.Answer.{Answer};
 ghost use Rattle.domain_answer.specs.declared.answer.Answer.TheVariants.{NoCloserName, NotProven, TooManyIterations};
 
+use domain_bitmap::laws::built_bitmaps_give_their_types;
 use domain_checker::laws::{hashes_tell_of_names, whole_hashed_chains_prove_all};
 use domain_nsec3::laws::{
     chains_mean_the_zone, names_end_at_the_encloser, names_exist, types_ignore_case,
 };
+use domain_octets::laws::{base32_reads_back, base32_tells_apart};
 
 /// What any NSEC3 records say by themselves is what they prove of the zone; the records that the
 /// answer rests on are among them; and the labels that it counts are labels of the name.
@@ -124,6 +126,25 @@ pub fn hashed_whole_chains_prove_all()
     names_end_at_the_encloser();
     names_exist();
     types_ignore_case();
+}
+
+/// The whole NSEC3 chain of a zone proves of each name that was expanded from a wildcard that the
+/// zone does not have the next closer name, where it does not and no name of the chain has the hash
+/// of that.
+pub fn hashed_whole_chains_prove_expansions()
+    ensures { (L : List ZoneRecord) (a : Name) (config : ChainConfig) (links : List HashedLink)
+        (x : Name) (n : ℕ) (value : Octets) → IsHashedChain L a config links
+        → is_expanded a x n ≡ true → IsAlone L a config (closer_name n x) value
+        → hashed_exists L a config (closer_name n x) ≡ false
+        → proved_expansion L a config links x n ≡ missing_closer config n }
+{
+    chains_mean_the_zone();
+    names_end_at_the_encloser();
+    names_exist();
+    types_ignore_case();
+    built_bitmaps_give_their_types();
+    base32_reads_back();
+    base32_tells_apart();
 }
 
 /// An NSEC3 chain leaves out the names below an owner of a DNAME record where that was chosen,
