@@ -50,8 +50,9 @@ missing_closer config n = if is_opt_out config.flags then MayBeUnsigned n else N
 abbrev pub proved_expansion : List ZoneRecord → Name → ChainConfig → List HashedLink → Name → ℕ
     → Answer
 proved_expansion L a config listed x n =
-    if hashed_exists L a config (closer_name n x) then NotProven else
-    (if not (is_covered a config.parameters config.hash listed (closer_name n x)) then NotProven else
+    let closer = closer_name n x in
+    if hashed_exists L a config closer then NotProven else
+    (if not (is_covered a config.parameters config.hash listed closer) then NotProven else
     missing_closer config n)
 
 -- the answer is what is proved of any zone of whose chain these are records, in any order, with

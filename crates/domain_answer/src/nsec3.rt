@@ -36,8 +36,8 @@ fn is_at_parent<A: ToName, M: ToName>(apex: &A, name: &M, rtype: Rtype) -> bool
     rtype == Rtype::DS && name.name_eq(apex)
 }
 
-/// What the record of the closest encloser says of its own name: nothing, where it is of the apex of
-/// a child zone.
+/// What the record of the closest encloser says of its own name: nothing, where it is of the apex
+/// of a child zone.
 fn own_answer<A: ToName, O: Octets, N: ToName>(
     apex: &A,
     encloser: &Nsec3Encloser<'_, O, N>,
