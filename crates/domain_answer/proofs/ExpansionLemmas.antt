@@ -57,7 +57,7 @@ longer a x n e =
     of_lt : (m k : ℕ) → nat_lt m k ≡ true → m < k
     of_lt m k e = grind (arith, nat_tests)
 
-closer_low : (a x : Name) (n : ℕ) → is_expanded a x n ≡ true → is_at_or_below (closer_name n x) a ≡ true
+pub closer_low : (a x : Name) (n : ℕ) → is_expanded a x n ≡ true → is_at_or_below (closer_name n x) a ≡ true
 closer_low a x n e =
     let l = longer a x n e in
     let within = l.within in

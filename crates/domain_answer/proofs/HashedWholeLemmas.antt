@@ -3,30 +3,35 @@ use Rattle.std.proofs.Common.{◌≡◌, ◌≢◌, ℕ, ◌+◌, ◌-◌, Bool,
 use Rattle.std.proofs.Common.{refl, sym, ap, ◌∙◌, inl, inr, arith}
 use Rattle.std.specs.Prelude.{◌==◌}
 use Rattle.std.proofs.lemmas.Bool.{cases_Bool, true≢false, false≢true, and_parts, and_from, not-true, or_left, or_right}
+use Rattle.domain_octets.specs.Words.{Octets}
 use Rattle.domain_base.specs.Name.{is_at_or_below, is_strictly_below, same_name}
 use Rattle.domain_base.specs.Types.{cname, dname, ds}
 use Rattle.domain_base.specs.Words.{Label, Name}
 use Rattle.domain_chain_rdata.specs.OptOut.{is_opt_out}
+use Rattle.domain_zone.specs.Covering.{covers, matches}
 use Rattle.domain_zone.specs.Enclosers.{IsClosestEncloser, exists_over}
 use Rattle.domain_zone.specs.Zone.{ZoneRecord, is_zone_cut}
 use Rattle.domain_zone.proofs.NameLemmas.{below_parent, below_trans, one_lowered, same_itself}
 use Rattle.domain_nsec3.specs.Chain.{HashedLink, IsHashedChain}
 use Rattle.domain_nsec3.specs.Config.{ChainConfig}
-use Rattle.domain_nsec3.specs.Meaning.{AreAlone}
+use Rattle.domain_nsec3.specs.Meaning.{AreAlone, IsAlone, octets_before}
 use Rattle.domain_nsec3.specs.Owners.{nsec3_lists, original_owners}
 use Rattle.domain_checker.specs.HashedVerdict.{hashed_proved_verdict, hashed_zone_verdict, is_below_chain_cut, is_covered, is_matched, next_closer, proves}
 use Rattle.domain_checker.specs.Verdict.{closest_encloser}
 use Rattle.domain_checker.specs.declared.verdict.Verdict.TheVariants as verdict
 use Rattle.domain_checker.proofs.EncloserLemmas.{exists_same}
-use Rattle.domain_checker.proofs.HashedListLemmas.{hash_same}
+use Rattle.domain_checker.proofs.FindLemmas.{in_at}
+use Rattle.domain_checker.proofs.HashedListLemmas.{ChainFacts, covered_in, hash_same, told_at}
 use Rattle.domain_answer.specs.declared.answer.Answer.{Answer}
 use Rattle.domain_answer.specs.declared.answer.Answer.TheVariants.{OutsideZone, AtParent, Referral, Redirected, Has, NoDs, Alias, NoData}
 use Rattle.domain_answer.specs.declared.answer.Answer.TheVariants.{Wildcard, WildcardAlias, WildcardNoData, NameError, MayBeUnsigned, NoCloserName, TooManyIterations, NotProven}
+use Rattle.domain_answer.specs.Expansion.{closer_name, is_expanded, missing_closer, proved_expansion}
 use Rattle.domain_answer.specs.HashedProved.{AreAskedAlone, hashed_proved_answer, needs_wildcard, tells_encloser, tells_wildcard}
 use Rattle.domain_answer.specs.HashedZoneAnswer.{HashedLeavesOutBelowDname, hashed_encloser, hashed_existing_answer, hashed_exists, hashed_inside_answer}
 use Rattle.domain_answer.specs.HashedZoneAnswer.{hashed_missing_answer, hashed_wildcard_answer, hashed_zone_answer}
 use Rattle.domain_answer.specs.ZoneAnswer.{asterisk, is_at_parent, wildcard_below}
 use Rattle.domain_answer.proofs.CountLemmas.{parent_below, same_count}
+use Rattle.domain_answer.proofs.ExpansionLemmas.{closer_low}
 use Rattle.domain_answer.proofs.HashedAnswerLemmas.{ChainMeans, KnowsMeaning, below_cut, cut_original, encloser_is, encloser_low}
 
 -- what the law of the checker says of whole chains
@@ -202,6 +207,32 @@ whole_proves verdicts knows L a config links x t leaves chain asked =
 
     closer : Answer
     closer = NoCloserName (length (hashed_encloser L a config x))
+
+-- ---- names whose records were expanded from a wildcard
+
+pub whole_closer : (L : List ZoneRecord) (a : Name) (config : ChainConfig) (links : List HashedLink) → ChainFacts L a config links
+    → (x : Name) (n : ℕ) (v : Octets) → is_expanded a x n ≡ true → IsAlone L a config (closer_name n x) v
+    → hashed_exists L a config (closer_name n x) ≡ false → proved_expansion L a config links x n ≡ missing_closer config n
+whole_closer L a config links facts x n v e alone gone =
+    λ j. cond (gone j) NotProven (cond (not (covered j)) NotProven (missing_closer config n))
+  where
+    low : is_at_or_below (closer_name n x) a ≡ true
+    low = closer_low a x n e
+
+    covered : is_covered a config.parameters config.hash links (closer_name n x) ≡ true
+    covered =
+        let one = facts.mirrors.each (closer_name n x) v low alone in
+        let other : matches octets_before one.hash v ≡ false = one.matched ∙ sym (facts.exist (closer_name n x) low) ∙ gone in
+        covered_in L a config links facts links (λ k i. i) (closer_name n x) (record {
+          place = one.place;
+          link = one.link;
+          hash = one.hash;
+          value = v;
+          is = one.is;
+          known = alone.known;
+          says = sym (λ j. other j || covers octets_before one.hash one.link.next v) ∙ one.says;
+          flags = (told_at L a config links facts one.link (in_at links one.place one.link one.is.there)).1;
+        })
 
 -- ---- a zone says something of each name
 

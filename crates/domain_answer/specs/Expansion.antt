@@ -41,14 +41,19 @@ pub record IsExpansionRead (listed : List HashedLink) (a : Name) (p : Parameters
   pub says : answer ≡ closer_told n (find (is_hash_match a p value) listed)
       (find (is_hash_cover a p value) listed)
 
--- what records of a zone's chain prove: there is no such name where one covers it, but that it may
--- be an unsigned delegation or below one where the chain has the flag of opt-out
+-- of a name that the zone does not have: where the chain has the flag of opt-out, it may be an
+-- unsigned delegation
+abbrev pub missing_closer : ChainConfig → ℕ → Answer
+missing_closer config n = if is_opt_out config.flags then MayBeUnsigned n else NoCloserName n
+
+-- what records of a zone's chain prove: that the zone does not have that name, where one covers it
 abbrev pub proved_expansion : List ZoneRecord → Name → ChainConfig → List HashedLink → Name → ℕ
     → Answer
 proved_expansion L a config listed x n =
-    if hashed_exists L a config (closer_name n x) then NotProven else
-    (if not (is_covered a config.parameters config.hash listed (closer_name n x)) then NotProven else
-    (if is_opt_out config.flags then MayBeUnsigned n else NoCloserName n))
+    let closer = closer_name n x in
+    if hashed_exists L a config closer then NotProven else
+    (if not (is_covered a config.parameters config.hash listed closer) then NotProven else
+    missing_closer config n)
 
 -- the answer is what is proved of any zone of whose chain these are records, in any order, with
 -- repeats, where no other name of the chain has the hash of the next closer name

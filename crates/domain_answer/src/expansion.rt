@@ -83,12 +83,13 @@ fn read_expansion<A: ToName, O: Octets, N: ToName, M: ToName, H: Nsec3Hasher>(
 ///
 /// The records may be any, and are passed over, as by `judge_nsec3`. Where one covers the next
 /// closer name, and none matches it, the answer is `NoCloserName` with these labels: there is no
-/// name between the wildcard's parent and the name, so that the expansion holds. Where the record
-/// has the flag of opt-out it is `MayBeUnsigned`: that name may be an unsigned delegation. Of
-/// several that match or cover it the first counts. Where none does, or one matches it, the answer
-/// is `NotProven`; so it is where the labels are fewer than the apex has, or not fewer than the
-/// name has. Where the NSEC3PARAM record has more iterations than the limit, it is
-/// `TooManyIterations` (RFC 9276, section 3.2), and of a name outside of the zone `OutsideZone`.
+/// next closer name, and so not the name either, and the wildcard is the one right below its
+/// closest encloser. Where the record has the flag of opt-out it is `MayBeUnsigned`: the next
+/// closer name may be an unsigned delegation. Of several that match or cover it the first counts.
+/// Where none does, or one matches it, the answer is `NotProven`; so it is where the labels are
+/// fewer than the apex has, or not fewer than the name has. Where the NSEC3PARAM record has more
+/// iterations than the limit, it is `TooManyIterations` (RFC 9276, section 3.2), and of a name
+/// outside of the zone `OutsideZone`.
 ///
 /// One name is hashed, the next closer name, and the records are gone over once; for the other
 /// answers no name is. Takes no memory but for the hasher's answer. The records' signatures, and

@@ -17,7 +17,7 @@ pub use crate::nsec3_laws::{
     expansions_are_proved, expansions_ignore_case_and_ttl,
     hashed_chains_leave_out_names_below_dname, hashed_readings_are_proved,
     hashed_readings_ignore_case_and_ttl, hashed_whole_chains_prove_all,
-    zones_without_opt_out_answer_alike,
+    hashed_whole_chains_prove_expansions, zones_without_opt_out_answer_alike,
 };
 use domain_bitmap::laws::built_bitmaps_give_their_types;
 use domain_nsec::laws::{chains_mean_the_zone, types_ignore_case};

@@ -36,8 +36,8 @@ fn is_at_parent<A: ToName, M: ToName>(apex: &A, name: &M, rtype: Rtype) -> bool
     rtype == Rtype::DS && name.name_eq(apex)
 }
 
-/// What the record of the closest encloser says of its own name: nothing, where it is of the apex of
-/// a child zone.
+/// What the record of the closest encloser says of its own name: nothing, where it is of the apex
+/// of a child zone.
 fn own_answer<A: ToName, O: Octets, N: ToName>(
     apex: &A,
     encloser: &Nsec3Encloser<'_, O, N>,
@@ -230,7 +230,8 @@ fn read_nsec3<A: ToName, O: Octets, N: ToName, M: ToName, H: Nsec3Hasher>(
 ///
 /// The chain is one that leaves out the names below an owner of a DNAME record, or there are none:
 /// such names are no names of the zone (RFC 6672, section 2.4). The records' signatures are not
-/// looked at.
+/// looked at. An answer that was expanded from a wildcard brings no record of the closest encloser:
+/// `judge_nsec3_expansion` judges that.
 ///
 /// # Errors
 ///

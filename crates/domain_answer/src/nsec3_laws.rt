@@ -10,7 +10,7 @@ ghost use Rattle.domain_nsec3.specs.Chain.{HashedLink, IsHashedChain};
 ghost use Rattle.domain_nsec3.specs.Config.{ChainConfig, Hash, Parameters};
 ghost use Rattle.domain_nsec3.specs.Meaning.{IsAlone};
 ghost use Rattle.domain_checker.specs.Alike.{ArePaired, IsHashedAlike, IsPairedIn};
-ghost use Rattle.domain_answer.specs.Expansion.{closer_name, is_expanded, proved_expansion, ExpansionRestsOn, IsExpansionAnswered, IsExpansionRead};
+ghost use Rattle.domain_answer.specs.Expansion.{closer_name, is_expanded, missing_closer, proved_expansion, ExpansionRestsOn, IsExpansionAnswered, IsExpansionRead};
 ghost use Rattle.domain_answer.specs.HashedProved.{hashed_proved_answer, AreAskedAlone, HashedRestsOn, IsHashedAnswered};
 ghost use Rattle.domain_answer.specs.HashedReading.{IsHashedRead};
 ghost use Rattle.domain_answer.specs.HashedZoneAnswer.{hashed_encloser, hashed_exists, hashed_zone_answer, is_of_one_chain, HashedLeavesOutBelowDname};
@@ -19,10 +19,12 @@ ghost use Rattle.domain_answer.specs.ZoneAnswer.{is_at_parent, name_exists, wild
 ghost use Rattle.domain_answer.specs.declared.answer.Answer.{Answer};
 ghost use Rattle.domain_answer.specs.declared.answer.Answer.TheVariants.{NoCloserName, NotProven, TooManyIterations};
 
+use domain_bitmap::laws::built_bitmaps_give_their_types;
 use domain_checker::laws::{hashes_tell_of_names, whole_hashed_chains_prove_all};
 use domain_nsec3::laws::{
     chains_mean_the_zone, names_end_at_the_encloser, names_exist, types_ignore_case,
 };
+use domain_octets::laws::{base32_reads_back, base32_tells_apart};
 
 /// What any NSEC3 records say by themselves is what they prove of the zone; the records that the
 /// answer rests on are among them; and the labels that it counts are labels of the name.
@@ -126,6 +128,25 @@ pub fn hashed_whole_chains_prove_all()
     types_ignore_case();
 }
 
+/// The whole NSEC3 chain of a zone proves of each name that was expanded from a wildcard that the
+/// zone does not have the next closer name, where it does not and no name of the chain has the hash
+/// of that.
+pub fn hashed_whole_chains_prove_expansions()
+    ensures { (L : List ZoneRecord) (a : Name) (config : ChainConfig) (links : List HashedLink)
+        (x : Name) (n : ℕ) (value : Octets) → IsHashedChain L a config links
+        → is_expanded a x n ≡ true → IsAlone L a config (closer_name n x) value
+        → hashed_exists L a config (closer_name n x) ≡ false
+        → proved_expansion L a config links x n ≡ missing_closer config n }
+{
+    chains_mean_the_zone();
+    names_end_at_the_encloser();
+    names_exist();
+    types_ignore_case();
+    built_bitmaps_give_their_types();
+    base32_reads_back();
+    base32_tells_apart();
+}
+
 /// An NSEC3 chain leaves out the names below an owner of a DNAME record where that was chosen,
 /// where the zone has no such record, and where it has none below one that is not below a zone cut
 /// too.
@@ -139,9 +160,9 @@ pub fn hashed_chains_leave_out_names_below_dname()
         → (config : ChainConfig) → HashedLeavesOutBelowDname L a config }
 {}
 
-/// Without the flag of opt-out a zone says of its NSEC3 chain's names what it says of those of its
-/// NSEC chain, of every name and every type but those that one of the two chains lists of itself:
-/// NSEC, and at the apex NSEC3PARAM. The apex owns records, as it does where there is a chain.
+/// Where its NSEC3 chain has no flag of opt-out, a zone answers with that as with an NSEC chain, of
+/// every name and of every type that both list alike: all but NSEC and, at the apex, NSEC3PARAM.
+/// The apex exists, as it does where there is a chain.
 pub fn zones_without_opt_out_answer_alike()
     ensures zone { (L : List ZoneRecord) (a : Name) (config : ChainConfig) (x : Name) (t : ℕ)
         → is_opt_out config.flags ≡ false → HashedLeavesOutBelowDname L a config
