@@ -5,16 +5,16 @@ use Rattle.domain_base.specs.Words.{Name}
 use Rattle.domain_nsec.specs.Chain.{Link}
 use Rattle.domain_nsec.specs.ChainView.{as_link}
 use Rattle.domain_checker.specs.Reading.{is_cover, is_match}
-use Rattle.domain_answer.specs.declared.found.Found.{Found}
-use Rattle.domain_answer.specs.declared.found.Found.TheVariants.{Match, Cover, Neither}
+use Rattle.domain_answer.specs.declared.found.NsecFound.{NsecFound}
+use Rattle.domain_answer.specs.declared.found.NsecFound.TheVariants.{Match, Cover, Neither}
 
 -- the match that was found; the cover, which is looked for where there is no match
-abbrev pub found_match : {O N : Type 0} → (N → Name) → Found O N → Option Link
+abbrev pub found_match : {O N : Type 0} → (N → Name) → NsecFound O N → Option Link
 found_match labels (Match k) = Some (as_link labels k.now)
 found_match labels (Cover k) = None
 found_match labels Neither = None
 
-abbrev pub found_cover : {O N : Type 0} → (N → Name) → Found O N → Option Link
+abbrev pub found_cover : {O N : Type 0} → (N → Name) → NsecFound O N → Option Link
 found_cover labels (Match k) = None
 found_cover labels (Cover k) = Some (as_link labels k.now)
 found_cover labels Neither = None

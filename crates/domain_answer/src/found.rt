@@ -8,7 +8,7 @@ use domain_base::ToName;
 use domain_octets::Octets;
 
 /// What one pass over records finds of a name.
-pub(crate) enum Found<'a, O: Octets, N: ToName> {
+pub enum NsecFound<'a, O: Octets, N: ToName> {
     /// The first record that matches it.
     Match(&'a NsecRr<O, N>),
     /// No record matches it, and this is the first that covers it.
@@ -19,25 +19,25 @@ pub(crate) enum Found<'a, O: Octets, N: ToName> {
 
 /// The first record that matches the name or, where none does, the first that covers it. Records
 /// whose owner or next name is not at or below the apex are passed over.
-pub(crate) fn find<'a, A: ToName, O: Octets, N: ToName, M: ToName>(
+pub fn find_nsec<'a, A: ToName, O: Octets, N: ToName, M: ToName>(
     apex: &A,
     chain: &'a [NsecRr<O, N>],
     name: &M,
-) -> Found<'a, O, N>
+) -> NsecFound<'a, O, N>
     ensures { IsFound (A.labels apex.now) (links_of N.labels chain.now) (M.labels name.now)
         (found_match N.labels result) (found_cover N.labels result) }
 {
     let mut cover = None;
     for listed in chain {
         if is_match(apex, listed, name) {
-            return Found::Match(listed);
+            return NsecFound::Match(listed);
         }
         if cover.is_none() && is_cover(apex, listed, name) {
             cover = Some(listed);
         }
     }
     match cover {
-        Some(listed) => Found::Cover(listed),
-        None => Found::Neither,
+        Some(listed) => NsecFound::Cover(listed),
+        None => NsecFound::Neither,
     }
 }

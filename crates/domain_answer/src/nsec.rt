@@ -7,7 +7,7 @@ ghost use Rattle.domain_answer.specs.Proved.{CountsWithin, IsAnswered, RestsOn};
 ghost use Rattle.domain_answer.specs.Reading.{absent_answer, cover_answer, listed_answer, match_answer, owner_answer, reading};
 ghost use Rattle.domain_answer.specs.Reading.{wildcard_answer, wildcard_cover_answer, wildcard_match_answer};
 
-use crate::found::{Found, find};
+use crate::found::{NsecFound, find_nsec};
 use crate::listed::{NsecRr, is_at_cut, is_strictly_below, longer_shared, tells_occluded};
 use crate::wildcard::wildcard_below;
 use crate::{Answer, laws};
@@ -108,10 +108,10 @@ fn wildcard_answer<A: ToName, O: Octets, N: ToName>(
     ensures { result ≡ wildcard_answer (A.labels apex.now) (links_of N.labels chain.now) count
         wildcard.now rtype }
 {
-    match find(apex, chain, wildcard) {
-        Found::Match(listed) => wildcard_match_answer(apex, count, listed, rtype),
-        Found::Cover(listed) => wildcard_cover_answer(apex, count, listed, wildcard),
-        Found::Neither => Answer::NoCloserName(count),
+    match find_nsec(apex, chain, wildcard) {
+        NsecFound::Match(listed) => wildcard_match_answer(apex, count, listed, rtype),
+        NsecFound::Cover(listed) => wildcard_cover_answer(apex, count, listed, wildcard),
+        NsecFound::Neither => Answer::NoCloserName(count),
     }
 }
 
@@ -167,10 +167,10 @@ fn listed_answer<A: ToName, O: Octets, N: ToName, M: ToName>(
     ensures { result ≡ listed_answer (A.labels apex.now) (links_of N.labels chain.now)
         (M.labels name.now) rtype }
 {
-    match find(apex, chain, name) {
-        Found::Match(listed) => match_answer(apex, listed, rtype),
-        Found::Cover(listed) => cover_answer(apex, chain, listed, name, rtype),
-        Found::Neither => Answer::NotProven,
+    match find_nsec(apex, chain, name) {
+        NsecFound::Match(listed) => match_answer(apex, listed, rtype),
+        NsecFound::Cover(listed) => cover_answer(apex, chain, listed, name, rtype),
+        NsecFound::Neither => Answer::NotProven,
     }
 }
 

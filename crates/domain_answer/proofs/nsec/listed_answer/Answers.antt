@@ -13,7 +13,7 @@ returns-in-Match g c =
     let a = g.A.ToName.labels c.args.apex.now in
     let x = g.M.ToName.labels c.args.name.now in
     let listed = links_of labels c.args.chain.now in
-    let found = subst (λ f. IsFound a listed x (found_match labels f) (found_cover labels f)) c.in-Match.is c.find.ensures in
+    let found = subst (λ f. IsFound a listed x (found_match labels f) (found_cover labels f)) c.in-Match.is c.find_nsec.ensures in
     c.match_answer.ensures ∙ ap (λ o. listed_both a listed x c.args.rtype o (find (is_cover a x) listed)) found.matching
 
 pub cover_answer-requires : goal.cover_answer-requires
@@ -22,7 +22,7 @@ cover_answer-requires g c =
     let a = g.A.ToName.labels c.args.apex.now in
     let x = g.M.ToName.labels c.args.name.now in
     let listed = links_of labels c.args.chain.now in
-    let found = subst (λ f. IsFound a listed x (found_match labels f) (found_cover labels f)) c.in-Cover.is c.find.ensures in
+    let found = subst (λ f. IsFound a listed x (found_match labels f) (found_cover labels f)) c.in-Cover.is c.find_nsec.ensures in
     found_covers a listed x (as_link labels c.in-Cover.listed.now) found
 
 pub returns-in-Cover : goal.returns-in-Cover
@@ -31,7 +31,7 @@ returns-in-Cover g c =
     let a = g.A.ToName.labels c.args.apex.now in
     let x = g.M.ToName.labels c.args.name.now in
     let listed = links_of labels c.args.chain.now in
-    let found = subst (λ f. IsFound a listed x (found_match labels f) (found_cover labels f)) c.in-Cover.is c.find.ensures in
+    let found = subst (λ f. IsFound a listed x (found_match labels f) (found_cover labels f)) c.in-Cover.is c.find_nsec.ensures in
     c.cover_answer.ensures ∙ (λ i. listed_both a listed x c.args.rtype (found.matching i) (found.covering refl i))
 
 pub returns-in-Neither : goal.returns-in-Neither
@@ -40,5 +40,5 @@ returns-in-Neither g c =
     let a = g.A.ToName.labels c.args.apex.now in
     let x = g.M.ToName.labels c.args.name.now in
     let listed = links_of labels c.args.chain.now in
-    let found = subst (λ f. IsFound a listed x (found_match labels f) (found_cover labels f)) c.in-Neither.is c.find.ensures in
+    let found = subst (λ f. IsFound a listed x (found_match labels f) (found_cover labels f)) c.in-Neither.is c.find_nsec.ensures in
     λ i. listed_both a listed x c.args.rtype (found.matching i) (found.covering refl i)

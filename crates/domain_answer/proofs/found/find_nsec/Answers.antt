@@ -6,9 +6,9 @@ use Rattle.domain_nsec.specs.ChainView.{as_link}
 use Rattle.domain_checker.specs.Reading.{is_cover, is_match}
 use Rattle.domain_checker.proofs.FirstLemmas.{found_here, found_later, met_here, met_later, met_before}
 use Rattle.domain_answer.proofs.FoundLemmas.{or_none}
-use Rattle.domain_answer.proofs.found.find.Goals as goal
-use Rattle.domain_answer.proofs.found.find.Goals.{then-is_none+then-is_cover, else-is_none}
-use Rattle.domain_answer.proofs.found.find.Goals.{else-is_none-via-then-is_none+else-is_cover, else-is_none-via-else-is_none}
+use Rattle.domain_answer.proofs.found.find_nsec.Goals as goal
+use Rattle.domain_answer.proofs.found.find_nsec.Goals.{then-is_none+then-is_cover, else-is_none}
+use Rattle.domain_answer.proofs.found.find_nsec.Goals.{else-is_none-via-then-is_none+else-is_cover, else-is_none-via-else-is_none}
 
 pub returns-then-is_match : goal.returns-then-is_match
 returns-then-is_match g c =

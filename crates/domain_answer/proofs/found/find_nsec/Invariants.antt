@@ -3,7 +3,7 @@ use Rattle.std.specs.List.{find}
 use Rattle.std.specs.Option.{option_map, option_or}
 use Rattle.domain_nsec.specs.ChainView.{as_link}
 use Rattle.domain_checker.specs.Reading.{is_cover, is_match}
-use Rattle.domain_answer.proofs.found.find.Given as goal
+use Rattle.domain_answer.proofs.found.find_nsec.Given as goal
 
 -- what is found in the whole list is found in the rest, unless a cover was met already
 abbrev pub invariant-loop-listed : goal.invariant-loop-listed
