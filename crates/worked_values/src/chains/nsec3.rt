@@ -179,6 +179,9 @@ fn with_hasher<H: Nsec3Hasher>(
         "judge" => {
             verdicts::judged_by_hash(alloc, apex, &config.params, hasher, words, answers)?;
         }
+        "expanded" => {
+            verdicts::expanded_by_hash(alloc, apex, &config.params, hasher, words, answers)?;
+        }
         "unsorted" => without_sorting(alloc, apex, hasher, &zone(alloc, words)?, answers),
         _ => made(alloc, apex, config, hasher, &zone(alloc, words)?, answers),
     }

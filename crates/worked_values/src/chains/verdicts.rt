@@ -3,7 +3,7 @@
 use crate::lines::input::Tokens;
 use crate::lines::records::records;
 use crate::lines::{Answers, OwnName, input};
-use domain_answer::{judge_nsec, judge_nsec3};
+use domain_answer::{judge_nsec, judge_nsec3, judge_nsec3_expansion};
 use domain_base::{Class, Rtype, ScanError, Scanner, Ttl};
 use domain_dnssec::{Nsec3Hasher, Nsec3Records, check_nsec, check_nsec3};
 use domain_plain::Record;
@@ -126,6 +126,30 @@ pub fn judged_by_hash<H: Nsec3Hasher>(
     for words in asked.split(|word| *word == "/") {
         let (name, rtype) = question(alloc, words)?;
         match judge_nsec3(alloc, apex, &chain, &name, rtype, MOST_ITERATIONS, hasher) {
+            Ok(answer) => answers.debug("answer", &answer),
+            Err(error) => answers.refused(&error),
+        }
+    }
+    Ok(())
+}
+
+/// Answers what NSEC3 records answer of names whose records were expanded from a wildcard, in the
+/// same form, with the labels that signatures tell in place of a type.
+pub fn expanded_by_hash<H: Nsec3Hasher>(
+    alloc: Global,
+    apex: &OwnName,
+    params: &Params,
+    hasher: &H,
+    words: &[&str],
+    answers: &mut Answers,
+) -> Result<(), ScanError> {
+    let (listed, asked) = input::halves(words, ":");
+    let param = Record::new(apex.clone()?, Class::IN, Ttl::from_secs(0), params.clone()?);
+    let chain = Nsec3Records::new(nsec3s(alloc, listed)?, param);
+    for words in asked.split(|word| *word == "/") {
+        let name = OwnName::from_str(alloc, input::word(words, 0))?;
+        let labels = input::word(words, 1).parse::<usize>().unwrap_or(0);
+        match judge_nsec3_expansion(alloc, apex, &chain, &name, labels, MOST_ITERATIONS, hasher) {
             Ok(answer) => answers.debug("answer", &answer),
             Err(error) => answers.refused(&error),
         }
