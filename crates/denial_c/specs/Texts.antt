@@ -1,5 +1,5 @@
 -- The text of each number that C sees.
-use Rattle.std.specs.Prelude.{ℕ, ◌-◌, ◌==◌, List, [], ◌∷◌, ◌++◌, codes, length, replicate, if◌then◌else◌}
+use Rattle.std.specs.Prelude.{◌≡◌, ℕ, ◌-◌, ◌<◌, ◌==◌, Bool, true, not, ◌&&◌, List, [], ◌∷◌, ◌++◌, codes, length, replicate, if◌then◌else◌}
 use Rattle.domain_octets.specs.Words.{Octets}
 use Rattle.domain_answer.specs.declared.answer.Answer.TheVariants as answers
 use Rattle.domain_checker.specs.declared.verdict.Verdict.TheVariants as verdicts
@@ -49,6 +49,13 @@ text_among number (row ∷ rows) = if number == row.0 then row.1 else text_among
 abbrev pub text_of : ℕ → Octets
 text_of number = text_among number texts
 
--- a text as it stands in octets that are so many: only octets 0 come after it
-abbrev pub in_room : ℕ → Octets → Octets
-in_room room text = text ++ replicate (room - length text) 0
+-- no octet is 0
+abbrev pub has_no_end : Octets → Bool
+has_no_end [] = true
+has_no_end (octet ∷ octets) = not (octet == 0) && has_no_end octets
+
+-- the octets are the text as C reads it: nothing but octets 0 follows it, one or more
+pub record IsText (text octets : Octets) : Type 0 where
+  pub are : octets ≡ text ++ replicate (length octets - length text) 0
+  pub fits : length text < length octets
+  pub whole : has_no_end text ≡ true

@@ -12,7 +12,7 @@ ghost use Rattle.std.specs.Prelude.{◌≡◌};
 ghost use Rattle.denial_c.specs.Judged.{IsNsecAnswer, IsNsec3Answer};
 ghost use Rattle.denial_c.specs.Numbers.{answer_labels, answer_number, verdict_labels, verdict_number};
 ghost use Rattle.denial_c.specs.Result.{IsNsecResult, IsNsec3Result, IsTold};
-ghost use Rattle.denial_c.specs.Texts.{in_room, text_of};
+ghost use Rattle.denial_c.specs.Texts.{text_of, IsText};
 
 mod answer;
 mod fault;
@@ -38,7 +38,7 @@ pub extern "C" fn denial_version() -> u32
 /// a text that says so.
 #[unsafe(no_mangle)]
 pub extern "C" fn denial_find_text(number: u32, text: &mut &'static [u8; ROOM])
-    ensures { text.new.now ≡ in_room ROOM (text_of number) }
+    ensures { IsText (text_of number) text.new.now }
 {
     *text = text::text_of(number);
 }

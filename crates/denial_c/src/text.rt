@@ -1,13 +1,12 @@
 //! The texts of numbers.
-ghost use Rattle.std.specs.Prelude.{◌≡◌};
-ghost use Rattle.denial_c.specs.Texts.{in_room, text_of};
+ghost use Rattle.denial_c.specs.Texts.{text_of, IsText};
 
 /// How many octets a text has, with the octets 0 after it.
 pub(crate) const ROOM: usize = 32;
 
 /// The text of a number, with octets 0 after it.
 pub(crate) fn text_of(number: u32) -> &'static [u8; ROOM]
-    ensures { result.now ≡ in_room ROOM (text_of number) }
+    ensures { IsText (text_of number) result.now }
 {
     match number {
         0 => b"not proven\0\0\0\0\0\0\0\0\0\0\0\0\0\0\0\0\0\0\0\0\0\0",
