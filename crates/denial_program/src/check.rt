@@ -84,7 +84,11 @@ pub fn nsec_verdict<'s, 'a>(question: Question, records: Vec<LentRecord<'a>>) ->
 }
 
 /// The NSEC3 records among these, with the one NSEC3PARAM record of the apex.
-fn chain_of<'a>(
+///
+/// # Errors
+///
+/// `Param` where the apex has no such record, or several; and `OutOfMemory`.
+pub fn chain_of<'a>(
     alloc: Global,
     apex: &ZoneName,
     records: Vec<LentRecord<'a>>,

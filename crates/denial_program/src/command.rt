@@ -160,7 +160,16 @@ fn rtype_of(word: &str) -> Result<Rtype, DenialFault>
 }
 
 /// The question that these words spell.
-fn question_of(alloc: Global, apex: &str, name: &str, rtype: &str) -> Result<Question, DenialFault>
+///
+/// # Errors
+///
+/// `Usage` where one of them spells no name or no type; and `OutOfMemory`.
+pub fn question_of(
+    alloc: Global,
+    apex: &str,
+    name: &str,
+    rtype: &str,
+) -> Result<Question, DenialFault>
     ensures ok { IfOk result (SpellQuestion apex.now name.now rtype.now) }
     ensures err { IfErr result (λ e. ((e ≡ DenialFault.Usage)
         × ((q : Question) → SpellQuestion apex.now name.now rtype.now q → ⊥))

@@ -16,5 +16,8 @@ mod line;
 mod program;
 mod verdict_text;
 
-pub use fault::DenialFault;
-pub use program::run_denial;
+pub use check::chain_of;
+pub use command::{Question, question_of};
+pub use fault::{DenialFault, fault_of};
+pub use line::{ZoneName, ZoneOctets};
+pub use program::{read_records, run_denial};

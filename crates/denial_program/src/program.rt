@@ -83,7 +83,12 @@ fn append_line<R: BufRead>(input: &mut R, line: &mut Vec<u8>) -> io::Result<usiz
 
 /// The records of the lines that are left, with their octets in the arena. A bad line is told only
 /// after the rest has been read, since a fault of the reader is told before it.
-fn read_records<'a, R: BufRead>(
+///
+/// # Errors
+///
+/// `Read` where the input could not be read; `Line` of the lowest line that is no record; and
+/// `OutOfMemory`.
+pub fn read_records<'a, R: BufRead>(
     alloc: Global,
     arena: &'a Bump,
     input: &mut R,
