@@ -1,0 +1,2 @@
+pub mod TextLemmas
+pub mod RunLemmas

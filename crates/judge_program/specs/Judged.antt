@@ -1,0 +1,76 @@
+-- What the records of a chain that were read answer to a question.
+use Rattle.std.specs.Prelude.{◌≡◌, ◌<◌, ◌≤◌, ℕ, true, false, List, [], ◌∷◌}
+use Rattle.domain_base.specs.Name.{is_at_or_below}
+use Rattle.domain_records.specs.declared.error.Nsec3HashError.TheVariants.{Hasher}
+use Rattle.domain_records.specs.declared.error.SigningError.{SigningError}
+use Rattle.domain_records.specs.declared.error.SigningError.TheVariants.{Nsec3HashingError}
+use Rattle.domain_nsec.specs.Chain.{Link}
+use Rattle.domain_nsec3.specs.Chain.{HashedLink, ParamRecord}
+use Rattle.domain_nsec3.specs.View.{HasherAnswer}
+use Rattle.domain_lent.specs.Data.{RawRecord}
+use Rattle.domain_answer.specs.HashedProved.{HashedRestsOn, IsHashedAnswered}
+use Rattle.domain_answer.specs.HashedReading.{IsFirstOfRefusals, IsHashedRead}
+use Rattle.domain_answer.specs.Proved.{needs_no_records, IsAnswered, RestsOn}
+use Rattle.domain_answer.specs.Reading.{reading}
+use Rattle.domain_answer.specs.ZoneAnswer.{is_at_parent}
+use Rattle.domain_answer.specs.declared.answer.Answer.{Answer}
+use Rattle.domain_answer.specs.declared.answer.Answer.TheVariants.{OutsideZone, AtParent, TooManyIterations}
+use Rattle.denial_program.specs.Check.{hash_with, AreNsecs, AreNsec3s, AreParams, HasNoParam}
+use Rattle.denial_program.specs.declared.command.Question.{Question}
+use Rattle.denial_program.specs.declared.fault.DenialFault.{DenialFault}
+use Rattle.denial_program.specs.declared.fault.DenialFault.TheVariants.{Usage, Read, Line, MixedClasses, Signing, Param, Write, OutOfMemory}
+
+-- the answer is what the NSEC records prove of any zone of whose chain they are; from any records,
+-- what they say by themselves, and those that it rests on are there
+pub record IsNsecJudged (given : List RawRecord) (q : Question) (answer : Answer) : Type 0 where
+  pub links : List Link
+  pub are : AreNsecs given links
+  pub zone : IsAnswered links q.apex q.name q.rtype answer
+  pub exact : answer ≡ reading q.apex links q.name q.rtype
+  pub proof : RestsOn links q.apex q.name answer
+
+-- the apex has one NSEC3PARAM record, and the answer is what the NSEC3 records prove with its
+-- parameters, as those of NSEC; with more iterations than the limit none is asked of them
+pub record IsNsec3Judged (hashes : HasherAnswer) (given : List RawRecord) (q : Question)
+    (limit : ℕ) (answer : Answer) : Type 0 where
+  pub param : ParamRecord
+  pub single : AreParams q.apex given (param ∷ [])
+  pub links : List HashedLink
+  pub are : AreNsec3s given links
+  pub outside : is_at_or_below q.name q.apex ≡ false → answer ≡ OutsideZone
+  pub parent : is_at_or_below q.name q.apex ≡ true → is_at_parent q.apex q.name q.rtype ≡ true
+      → answer ≡ AtParent
+  pub iterations : needs_no_records q.apex q.name q.rtype ≡ false
+      → limit < param.parameters.iterations → answer ≡ TooManyIterations
+  pub zone : param.parameters.iterations ≤ limit
+      → IsHashedAnswered links q.apex param.parameters (hash_with hashes param) q.name q.rtype
+      answer
+  pub exact : needs_no_records q.apex q.name q.rtype ≡ false
+      → param.parameters.iterations ≤ limit
+      → IsHashedRead links q.apex param.parameters (hash_with hashes param) q.name q.rtype answer
+  pub proof : HashedRestsOn links q.apex param.parameters (hash_with hashes param) q.name answer
+
+-- the hasher refuses a name that is asked for: this is the first
+pub record IsJudgeRefused (hashes : HasherAnswer) (given : List RawRecord) (q : Question)
+    (error : SigningError) : Type 0 where
+  pub param : ParamRecord
+  pub single : AreParams q.apex given (param ∷ [])
+  pub links : List HashedLink
+  pub are : AreNsec3s given links
+  pub reason : ℕ
+  pub is : error ≡ Nsec3HashingError (Hasher reason)
+  pub first : IsFirstOfRefusals links q.apex param.parameters (hash_with hashes param) q.name
+      q.rtype reason
+
+-- why NSEC3 records have none: the apex has no NSEC3PARAM record, or more than one; or the hasher
+-- refuses
+abbrev pub IsNotNsec3Judged : HasherAnswer → List RawRecord → Question → DenialFault
+    → Type 0
+IsNotNsec3Judged hashes given q Usage = ⊥
+IsNotNsec3Judged hashes given q Read = ⊥
+IsNotNsec3Judged hashes given q (Line n) = ⊥
+IsNotNsec3Judged hashes given q MixedClasses = ⊥
+IsNotNsec3Judged hashes given q (Signing e) = IsJudgeRefused hashes given q e
+IsNotNsec3Judged hashes given q Param = HasNoParam q.apex given
+IsNotNsec3Judged hashes given q Write = ⊥
+IsNotNsec3Judged hashes given q OutOfMemory = Unit {0}

@@ -1,0 +1,4 @@
+pub mod Command
+pub mod Judged
+pub mod Text
+pub mod Run

@@ -1,0 +1,83 @@
+-- What a run answers to its words and lines, and when each of its faults comes.
+use Rattle.std.specs.Prelude.{◌≡◌, ◌⊎◌, ℕ, List, ◌++◌, codes, Option}
+use Rattle.std.specs.Io.KnownBytes.{Appends}
+use Rattle.domain_octets.specs.Words.{Octets}
+use Rattle.domain_base.specs.Words.{Tokens}
+use Rattle.domain_nsec3.specs.View.{HasherAnswer}
+use Rattle.domain_lent.specs.Data.{RawRecord}
+use Rattle.domain_answer.specs.declared.answer.Answer.{Answer}
+use Rattle.denial_program.specs.Listing.{Give}
+use Rattle.denial_program.specs.declared.command.Question.{Question}
+use Rattle.denial_program.specs.declared.fault.DenialFault.{DenialFault}
+use Rattle.denial_program.specs.declared.fault.DenialFault.TheVariants.{Usage, Read, Line, MixedClasses, Signing, Param, Write, OutOfMemory}
+use Rattle.judge_program.specs.Command.{Asks, IsCommand, IsNoCommand}
+use Rattle.judge_program.specs.Judged.{IsNotNsec3Judged, IsNsec3Judged, IsNsecJudged}
+use Rattle.judge_program.specs.Text.{answer_text}
+use Rattle.judge_program.specs.declared.command.ChainKind.{ChainKind}
+use Rattle.judge_program.specs.declared.command.ChainKind.TheVariants.{Nsec, Nsec3}
+use Rattle.judge_program.specs.declared.command.Command.{Command}
+
+-- the text is that of what the NSEC records answer to the question, on one line
+pub record IsNsecText (given : List RawRecord) (q : Question) (text : Octets) : Type 0 where
+  pub answer : Answer
+  pub judged : IsNsecJudged given q answer
+  pub is : text ≡ answer_text q.name answer ++ codes "\n"
+
+-- of what the NSEC3 records answer
+pub record IsNsec3Text (hashes : HasherAnswer) (given : List RawRecord) (q : Question) (limit : ℕ)
+    (text : Octets) : Type 0 where
+  pub answer : Answer
+  pub judged : IsNsec3Judged hashes given q limit answer
+  pub is : text ≡ answer_text q.name answer ++ codes "\n"
+
+-- of what records of this kind of chain answer
+abbrev pub IsText : HasherAnswer → ChainKind → List RawRecord → Question → Octets → Type 0
+IsText hashes Nsec given q text = IsNsecText given q text
+IsText hashes (Nsec3 limit) given q text = IsNsec3Text hashes given q limit text
+
+-- why they have no answer
+abbrev pub HasNoText : HasherAnswer → ChainKind → List RawRecord → Question → DenialFault
+    → Type 0
+HasNoText hashes Nsec given q fault = fault ≡ OutOfMemory
+HasNoText hashes (Nsec3 limit) given q fault = IsNotNsec3Judged hashes given q fault
+
+-- such a text has been appended
+pub record IsWritten (is_such : Octets → Type 0) (old new : Option Octets) : Type 0 where
+  pub text : Octets
+  pub is : is_such text
+  pub appends : Appends old new text
+
+-- there is such a text, and the device failed, or there is none for this reason
+abbrev pub IsUnwritten : (Octets → Type 0) → (DenialFault → Type 0) → DenialFault → Type 0
+IsUnwritten is_such has_none fault =
+    ((fault ≡ Write) × ((text : Octets) × is_such text)) ⊎ has_none fault
+
+-- the words are a command, the lines give records, and this is the text of their answer
+pub record Judges (hashes : HasherAnswer) (words : Tokens) (lines : List Octets) (text : Octets)
+    : Type 0 where
+  pub command : Command
+  pub given : List RawRecord
+  pub asks : Asks words command
+  pub gives : Give lines given
+  pub is : IsText hashes command.kind given command.question text
+
+-- they have none, for this reason
+pub record GivesNoJudgement (hashes : HasherAnswer) (words : Tokens) (lines : List Octets)
+    (fault : DenialFault) : Type 0 where
+  pub command : Command
+  pub given : List RawRecord
+  pub asks : Asks words command
+  pub gives : Give lines given
+  pub none : HasNoText hashes command.kind given command.question fault
+
+-- a fault of usage says that the words are no command; any other but want of memory, that they are
+-- one
+abbrev pub TellsUsage : Tokens → DenialFault → Type 0
+TellsUsage words Usage = IsNoCommand words
+TellsUsage words Read = IsCommand words
+TellsUsage words (Line n) = IsCommand words
+TellsUsage words MixedClasses = IsCommand words
+TellsUsage words (Signing e) = IsCommand words
+TellsUsage words Param = IsCommand words
+TellsUsage words Write = IsCommand words
+TellsUsage words OutOfMemory = Unit {0}

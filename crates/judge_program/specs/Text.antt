@@ -1,0 +1,70 @@
+-- The text of an answer about a name, and that of a fault.
+use Rattle.std.specs.Prelude.{ℕ, ◌++◌, codes}
+use Rattle.domain_octets.specs.Words.{Octets}
+use Rattle.domain_base.specs.Text.{name_text}
+use Rattle.domain_base.specs.Words.{Name}
+use Rattle.domain_answer.specs.Proved.{last_labels}
+use Rattle.domain_answer.specs.ZoneAnswer.{wildcard_below}
+use Rattle.domain_answer.specs.declared.answer.Answer.{Answer}
+use Rattle.domain_answer.specs.declared.answer.Answer.TheVariants as answers
+use Rattle.denial_program.specs.FaultText.{fault_text}
+use Rattle.denial_program.specs.declared.fault.DenialFault.{DenialFault}
+use Rattle.denial_program.specs.declared.fault.DenialFault.TheVariants.{Usage, Read, Line, MixedClasses, Signing, Param, Write, OutOfMemory}
+
+-- a name with its last dot
+abbrev pub full_text : Name → Octets
+full_text name = name_text name ++ codes "."
+
+-- the last so many labels of a name
+abbrev pub last_text : Name → ℕ → Octets
+last_text name count = full_text (last_labels count name)
+
+-- the wildcard below these
+abbrev pub wildcard_text : Name → ℕ → Octets
+wildcard_text name count = full_text (wildcard_below (last_labels count name))
+
+-- what a name is about that does not exist: its closest encloser has so many labels, and this is
+-- told of the wildcard below it
+abbrev pub missing_text : Octets → Name → ℕ → Octets → Octets
+missing_text kind name count told =
+    kind ++ codes ": closest encloser " ++ last_text name count ++ codes "; wildcard "
+    ++ wildcard_text name count ++ codes " " ++ told
+
+-- an answer about a name
+abbrev pub answer_text : Name → Answer → Octets
+answer_text name answers.OutsideZone = codes "outside the zone"
+answer_text name answers.AtParent = codes "at the parent: DS of the apex"
+answer_text name (answers.Referral count) = codes "referral: zone cut " ++ last_text name count
+answer_text name (answers.Redirected count) =
+    codes "redirected: DNAME at " ++ last_text name count
+answer_text name answers.Has = codes "data exists"
+answer_text name answers.NoDs = codes "no DS: unsigned delegation at " ++ full_text name
+answer_text name answers.Alias = codes "alias: CNAME at " ++ full_text name
+answer_text name answers.NoData = codes "no data"
+answer_text name (answers.Wildcard count) =
+    missing_text (codes "wildcard") name count (codes "answers")
+answer_text name (answers.WildcardAlias count) =
+    missing_text (codes "wildcard alias") name count (codes "owns a CNAME record")
+answer_text name (answers.WildcardNoData count) =
+    missing_text (codes "wildcard no data") name count (codes "has no such type")
+answer_text name (answers.NameError count) =
+    missing_text (codes "name error") name count (codes "does not exist")
+answer_text name (answers.MayBeUnsigned count) =
+    codes "may be unsigned: opt-out; closest encloser " ++ last_text name count
+answer_text name (answers.NoCloserName count) =
+    missing_text (codes "no closer name") name count (codes "is not shown")
+answer_text name answers.TooManyIterations = codes "too many iterations"
+answer_text name answers.NotProven = codes "not proven"
+
+-- a fault as this program prints it
+abbrev pub judge_fault_text : DenialFault → Octets
+judge_fault_text Usage =
+    codes "usage: denial judge nsec APEX NAME TYPE"
+    ++ codes " | denial judge nsec3 APEX NAME TYPE [--limit ITERATIONS]"
+judge_fault_text Read = fault_text Read
+judge_fault_text (Line n) = fault_text (Line n)
+judge_fault_text MixedClasses = fault_text MixedClasses
+judge_fault_text (Signing e) = fault_text (Signing e)
+judge_fault_text Param = fault_text Param
+judge_fault_text Write = fault_text Write
+judge_fault_text OutOfMemory = fault_text OutOfMemory
