@@ -35,11 +35,12 @@ extern "C" {
 /*
  * What denial_judge_nsec and denial_judge_nsec3 answer: one of these, or a fault of `enum
  * denial_answer`. Compare it with the names: no answer is 0, so that none can stand for a truth value.
- * Where an answer comes with labels, they are those of the name that it speaks of: the last so many
+ * Where an answer comes with labels, they are those of the name that it is about: the last so many
  * labels of the name that was asked for.
  */
 enum denial_judgement {
-    /* The records do not prove what the zone says. */
+    /* The records do not prove what the zone says; or the one that matches the name stands at a zone
+     * cut and lists SOA, so that it is of the child zone's apex (RFC 6840, section 4.4). */
     DENIAL_JUDGED_NOT_PROVEN = 32,
 
     /* The name is not at or below the apex. */
