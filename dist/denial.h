@@ -1,14 +1,18 @@
 /*
- * What the NSEC or NSEC3 records of a DNS message prove of a name and a type (RFC 4035, section
- * 5.4; RFC 5155, section 8).
+ * What the NSEC or NSEC3 records of a DNS message answer to a question about a name and a type, and
+ * what they prove of one name and one type (RFC 4035, section 5.4; RFC 5155, section 8).
+ *
+ * A validator calls denial_judge_nsec or denial_judge_nsec3: these answer a question as a whole, with
+ * the wildcard, aliases and redirections. denial_check_nsec and denial_check_nsec3 tell of one name
+ * and one type alone.
  *
  * The functions look at no signature. Hand in only records whose signatures you have verified with
  * the keys of the zone at the apex, and take the apex from the signer's name in these signatures.
  * docs/C.md goes through a call.
  *
  * Ownership. Each pointer is borrowed for the time of the call. Nothing that is handed in is kept,
- * written to or freed, but for the number at `labels`, which is written. Nothing is handed out that
- * must be freed.
+ * written to or freed, but for the number at `labels` and the pointer at `text`, which are written.
+ * Nothing is handed out that must be freed.
  *
  * Pointers. No pointer may be null, not even with a length of 0. `labels` points to no octet that
  * another pointer reaches. No length may be over PTRDIFF_MAX.
@@ -26,9 +30,82 @@ extern "C" {
 #endif
 
 /* The version that this header belongs to, as denial_version gives it. */
-#define DENIAL_VERSION 100
+#define DENIAL_VERSION 200
 
-/* What a call answers: a verdict, which is below DENIAL_FAULT, or a fault. */
+/*
+ * What denial_judge_nsec and denial_judge_nsec3 answer: one of these, or a fault of `enum
+ * denial_answer`. Compare it with the names: no answer is 0, so that none can stand for a truth value.
+ * Where an answer comes with labels, they are those of the name that it is about: the last so many
+ * labels of the name that was asked for.
+ */
+enum denial_judgement {
+    /* The records do not prove what the zone says; or the one that matches the name stands at a zone
+     * cut and lists SOA, so that it is of the child zone's apex (RFC 6840, section 4.4). */
+    DENIAL_JUDGED_NOT_PROVEN = 32,
+
+    /* The name is not at or below the apex. */
+    DENIAL_JUDGED_OUTSIDE_ZONE = 33,
+
+    /* The type is DS and the name is the apex: the parent zone has these records (RFC 4035, section
+     * 2.4). Says nothing of the delegation. */
+    DENIAL_JUDGED_AT_PARENT = 34,
+
+    /* The name is strictly below a zone cut, or is one and the type is not DS: the child zone answers
+     * (RFC 1034, section 4.3.2). With the labels of the zone cut. */
+    DENIAL_JUDGED_REFERRAL = 35,
+
+    /* The name is strictly below an owner of a DNAME record, which leads to another name (RFC 6672,
+     * section 3.2). With the labels of that owner. */
+    DENIAL_JUDGED_REDIRECTED = 36,
+
+    /* The name owns records of the type: nothing is denied. */
+    DENIAL_JUDGED_EXISTS = 37,
+
+    /* The type is DS, and the name is a zone cut that owns none: an unsigned delegation (RFC 4035,
+     * section 5.2). */
+    DENIAL_JUDGED_NO_DS = 38,
+
+    /* The name owns a CNAME record, which answers in the place of the type (RFC 1034, section 3.6.2).
+     */
+    DENIAL_JUDGED_ALIAS = 39,
+
+    /* The name exists and owns no records of the type (NODATA; RFC 2308, section 2.2): it owns records
+     * of other types, or is an empty non-terminal. */
+    DENIAL_JUDGED_NO_DATA = 40,
+
+    /* There is no such name, and the wildcard below its closest encloser owns records of the type or
+     * is a zone cut (RFC 4592, section 3.3). With the labels of the closest encloser. */
+    DENIAL_JUDGED_WILDCARD = 41,
+
+    /* There is no such name, and the wildcard below its closest encloser owns a CNAME record. With the
+     * labels of the closest encloser. */
+    DENIAL_JUDGED_WILDCARD_ALIAS = 42,
+
+    /* There is no such name, and the wildcard below its closest encloser exists and owns no records of
+     * the type (RFC 4035, section 3.1.3.4). With the labels of the closest encloser. */
+    DENIAL_JUDGED_WILDCARD_NO_DATA = 43,
+
+    /* There is no such name, and no wildcard below its closest encloser (NXDOMAIN; RFC 2308, section
+     * 2.1). With the labels of the closest encloser. */
+    DENIAL_JUDGED_NAME_ERROR = 44,
+
+    /* The name, or one above it, may be an unsigned delegation that the NSEC3 chain leaves out by
+     * opt-out (RFC 5155, section 6): no name error, and no secure answer either. With the labels of the
+     * closest encloser. NSEC3 alone. */
+    DENIAL_JUDGED_MAY_BE_UNSIGNED = 45,
+
+    /* There is no such name, and the records say nothing of the wildcard below its closest encloser:
+     * no name error. It is what an answer needs that was expanded from that wildcard (RFC 4035, section
+     * 5.3.4). With the labels of the closest encloser, which the field Labels of the answer's
+     * signatures must be. */
+    DENIAL_JUDGED_NO_CLOSER_NAME = 46,
+
+    /* The records have more iterations than are allowed; nothing was hashed (RFC 9276, section 3.2).
+     * NSEC3 alone. */
+    DENIAL_JUDGED_TOO_MANY_ITERATIONS = 47
+};
+
+/* What a call to check answers: a verdict, which is below DENIAL_FAULT; and the faults of all calls. */
 enum denial_answer {
     /* The records do not prove what the zone says. */
     DENIAL_NOT_PROVEN = 0,
@@ -82,7 +159,7 @@ enum denial_answer {
     /* The records have a hash algorithm other than SHA-1. NSEC3 alone. */
     DENIAL_HASHER_REFUSED = 20,
 
-    /* There is not enough memory. NSEC3 alone. */
+    /* There is not enough memory. No answer of denial_check_nsec. */
     DENIAL_OUT_OF_MEMORY = 21
 };
 
@@ -92,8 +169,29 @@ enum denial_answer {
  */
 uint32_t denial_version(void);
 
+/* How many octets each text has, with the octet 0 after it. */
+#define DENIAL_TEXT_ROOM 32
+
 /*
- * What the NSEC records of the class prove of the name and the type. Takes no memory.
+ * Hands out, at `text`, the text of a number of `enum denial_judgement` or `enum denial_answer`, and
+ * of any other number one that says that it is none: DENIAL_TEXT_ROOM octets of ASCII, of which all
+ * after the text are 0. They last as long as the program, and are never written. `text` must point to
+ * a pointer to as many octets, whatever these are. C calls denial_text.
+ */
+void denial_find_text(uint32_t number, const char **text);
+
+/* The text of a number, as "name error" of DENIAL_JUDGED_NAME_ERROR. Lasts as long as the program. */
+static inline const char *denial_text(uint32_t number)
+{
+    static const char none[DENIAL_TEXT_ROOM] = {0};
+    const char *text = none;
+
+    denial_find_text(number, &text);
+    return text;
+}
+
+/*
+ * What the NSEC records of the class answer to the question about the name and the type, as a whole.
  *
  *   apex, name   a name each, as it stands in a message without compression (RFC 1035, section
  *                3.1): its labels, each after an octet with its length, and an octet 0. At most 255
@@ -105,9 +203,53 @@ uint32_t denial_version(void);
  *                data, data. Names in the data of NSEC records are not compressed either. Records
  *                of other types and classes are passed over, whatever their data: all records of a
  *                message may be handed in. There may be none.
- *   labels       where the number of labels of the closest encloser is written, the root not
- *                counted: the closest encloser is the last so many labels of the name. 0 where the
- *                answer has none.
+ *   labels       where the number of labels that the answer comes with is written, the root not
+ *                counted. 0 where the answer comes with none.
+ *
+ * Answers a number of `enum denial_judgement`, or a fault of `enum denial_answer`. Of faults the first
+ * counts, in the order of their numbers.
+ *
+ * NSEC records whose owner or next name is not at or below the apex are passed over. Where several
+ * match a name, the first counts, and where none does, the first that covers it. Where the name does
+ * not exist, the wildcard below its closest encloser is looked for in the same way.
+ *
+ * Takes memory for the NSEC records by malloc and realloc, and frees it by free, all before it
+ * returns; where there is none, DENIAL_OUT_OF_MEMORY may come in place of another answer. Not to be
+ * called from a signal handler, nor from the forked child of a process with threads.
+ */
+uint32_t denial_judge_nsec(const uint8_t *apex, size_t apex_length,
+                           const uint8_t *name, size_t name_length,
+                           uint16_t rtype, uint16_t rclass,
+                           const uint8_t *records, size_t records_length,
+                           size_t *labels);
+
+/*
+ * What the NSEC3 records of the class answer to the question about the name and the type, as a whole.
+ * Parameters and answers are those of denial_judge_nsec, but for these:
+ *
+ *   limit        the most iterations that are allowed. Where the records have more, nothing is hashed,
+ *                and the answer is DENIAL_JUDGED_TOO_MANY_ITERATIONS (RFC 9276, section 3.2).
+ *   records      exactly one NSEC3PARAM record of the apex and the class is among them. A response has
+ *                none: make one of the first NSEC3 record, whose algorithm, iterations and salt it
+ *                repeats (docs/C.md).
+ *
+ * NSEC3 records with another algorithm, iterations or salt than the NSEC3PARAM record, or whose owner
+ * is not one label in Base 32 hex before the apex, are passed over. A hash is computed for the name,
+ * for each name above it up to the first that a record matches, and for the wildcard where it decides;
+ * each hash costs as many digests as the records have iterations, and one more.
+ *
+ * Takes memory as denial_judge_nsec does.
+ */
+uint32_t denial_judge_nsec3(const uint8_t *apex, size_t apex_length,
+                            const uint8_t *name, size_t name_length,
+                            uint16_t rtype, uint16_t rclass, uint16_t limit,
+                            const uint8_t *records, size_t records_length,
+                            size_t *labels);
+
+/*
+ * What the NSEC records of the class prove of the one name and the one type. Takes no memory.
+ * Parameters are those of denial_judge_nsec; with DENIAL_OPT_OUT and DENIAL_NO_NAME come the labels of
+ * the closest encloser.
  *
  * Answers a number of `enum denial_answer`. Of faults the first counts, in the order of their
  * numbers.
@@ -122,20 +264,15 @@ uint32_t denial_check_nsec(const uint8_t *apex, size_t apex_length,
                            size_t *labels);
 
 /*
- * What the NSEC3 records of the class prove of the name and the type. Parameters and answers are
- * those of denial_check_nsec; exactly one NSEC3PARAM record of the apex and the class is among the
- * records. A response has none: make one of the first NSEC3 record, whose algorithm, iterations and
- * salt it repeats (docs/C.md).
+ * What the NSEC3 records of the class prove of the one name and the one type. Parameters and answers
+ * are those of denial_check_nsec; exactly one NSEC3PARAM record of the apex and the class is among the
+ * records, and the same records are passed over as by denial_judge_nsec3.
  *
- * NSEC3 records with another algorithm, iterations or salt than the NSEC3PARAM record, or whose
- * owner is not one label in Base 32 hex before the apex, are passed over. A hash is computed for
- * the name and for each name above it up to the first that a record matches, and each hash costs as
- * many digests as the records have iterations, and one more: refuse records with more iterations
- * than you allow before the call (RFC 9276, section 3.2).
+ * A hash is computed for the name and for each name above it up to the first that a record matches.
+ * There is no limit: refuse records with more iterations than you allow before the call (RFC 9276,
+ * section 3.2).
  *
- * Takes memory by malloc and realloc, and frees it by free, all before it returns; where there is
- * none, DENIAL_OUT_OF_MEMORY may come in place of another answer. Not to be called
- * from a signal handler, nor from the forked child of a process with threads.
+ * Takes memory as denial_judge_nsec does.
  */
 uint32_t denial_check_nsec3(const uint8_t *apex, size_t apex_length,
                             const uint8_t *name, size_t name_length,
