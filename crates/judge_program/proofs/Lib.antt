@@ -1,2 +1,3 @@
 pub mod TextLemmas
 pub mod RunLemmas
+pub mod WhyLemmas
