@@ -8,7 +8,7 @@ ghost use Rattle.judge_program.specs.Why.{nsec_shown, nsec_told, nsec_why, rests
 use crate::answer_text::last_labels;
 use crate::role::Role;
 use denial_program::Question;
-use domain_answer::{Answer, Found, find, wildcard_of};
+use domain_answer::{Answer, NsecFound, find_nsec, wildcard_of};
 use domain_base::{ParsedName, ToName};
 use domain_lent::NsecRr;
 use domain_zone::MAX_NAME;
@@ -42,7 +42,7 @@ pub fn wildcard_count(answer: Answer) -> Option<usize>
 
 /// Writes a line on what one pass over NSEC records found of a name, if it found any.
 fn write_found<W: Write>(
-    found: Found<'_, &[u8], ParsedName<'_>>,
+    found: NsecFound<'_, &[u8], ParsedName<'_>>,
     role: &Role<'_>,
     output: &mut W,
 ) -> io::Result<()>
@@ -51,9 +51,9 @@ fn write_found<W: Write>(
         (found_cover (λ n. n) found.entry))) }
 {
     match found {
-        Found::Match(record) => writeln!(output, "matches {role}: {record}"),
-        Found::Cover(record) => writeln!(output, "covers {role}: {record}"),
-        Found::Neither => Ok(()),
+        NsecFound::Match(record) => writeln!(output, "matches {role}: {record}"),
+        NsecFound::Cover(record) => writeln!(output, "covers {role}: {record}"),
+        NsecFound::Neither => Ok(()),
     }
 }
 
@@ -68,7 +68,7 @@ fn write_told<W: Write, M: ToName>(
     ensures { OnOk result (Appends (W.contents output.old) (W.contents output.new)
         (nsec_told (M.labels apex.now) (links_of (λ n. n) nsecs.now) name.now role.now)) }
 {
-    write_found(find(apex, nsecs, name), role, output)
+    write_found(find_nsec(apex, nsecs, name), role, output)
 }
 
 /// Writes the NSEC records that an answer rests on, one a line, with what each tells.
