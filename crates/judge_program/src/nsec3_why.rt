@@ -139,6 +139,9 @@ fn find_wildcard<'r, 'a, H: Nsec3Hasher>(
     let Some(count) = wildcard_count(answer) else {
         return Ok(None);
     };
+    if count >= question.name.count_labels() {
+        return Ok(None);
+    }
     let mut buffer = [0; MAX_NAME];
     let Some(wildcard) = wildcard_of(&mut buffer, &question.name, count) else {
         return Ok(None);
