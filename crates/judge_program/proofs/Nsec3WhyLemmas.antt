@@ -1,8 +1,10 @@
 -- The lines on NSEC3 records, as they are printed and written.
-use Rattle.std.proofs.Common.{◌≡◌, ℕ, ◌+◌, ◌<◌, true, false, List, [], ◌++◌, codes, length, min, drop, nat_lt, refl, ap, sym, ◌∙◌, Option, Some, None, arith}
+use Rattle.std.proofs.Common.{◌≡◌, ℕ, ◌+◌, ◌<◌, true, false, List, [], ◌++◌, codes, length, min, drop, nat_lt, refl, ap, sym, ◌∙◌, Option, Some, None, Result, Ok, Err, OnOk, arith}
 use Rattle.std.proofs.lemmas.Bool.{cond-false, cond-true, lt-ltb}
 use Rattle.std.proofs.lemmas.List.{append-nil}
+use Rattle.std.specs.Io.KnownBytes.{Appends, Keeps}
 use Rattle.std.specs.List.{find}
+use Rattle.domain_octets.specs.Words.{Octets}
 use Rattle.domain_base.specs.Words.{Name}
 use Rattle.domain_base.specs.Name.{lowered, wire_of}
 use Rattle.domain_nsec3.specs.Chain.{HashedLink}
@@ -66,3 +68,15 @@ wildcard_told a p hash listed x n wildcard matched covered more is looked =
     looked.found.matching looked.found.covering
     ∙ ap (hash_told a p listed role) (sym looked.known ∙ ap (hash_name hash) is)
     ∙ sym (cond-true (nat_lt n (length x)) (hash_told a p listed role (hash_name hash (wildcard_below (last_labels n x)))) [] (lt-ltb n (length x) more))
+
+-- what is known anyway is known where there is no error
+pub on_any : {X E P : Type 0} → (r : Result X E) → P → OnOk r P
+on_any (Ok x) p = p
+on_any (Err e) p = tt
+
+-- bytes that were handed on to the device
+pub appends_kept : (a b c : Option Octets) (t : Octets) → Appends a b t → Keeps b c → Appends a c t
+appends_kept None b c t p q = tt
+appends_kept (Some x) None c t p q = absurd p
+appends_kept (Some x) (Some y) None t p q = absurd q
+appends_kept (Some x) (Some y) (Some z) t p q = q ∙ p

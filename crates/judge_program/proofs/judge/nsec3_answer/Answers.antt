@@ -1,4 +1,4 @@
-use Rattle.std.proofs.Common.{◌≡◌, refl, sym, subst, IfOk, Ok, Err, inr}
+use Rattle.std.proofs.Common.{◌≡◌, refl, sym, subst, IfOk, Err, inr}
 use Rattle.domain_answer.specs.HashedReading.{IsFirstOfRefusals}
 use Rattle.domain_answer.specs.declared.answer.Answer.TheVariants.{OutsideZone, AtParent, TooManyIterations}
 use Rattle.domain_checker.specs.HashedView.{hash_with, links, parameters}
