@@ -121,8 +121,8 @@ pub struct Nsec3Why<'r, 'a> {
     wildcard: Option<(usize, Told<'r, 'a>)>,
 }
 
-/// What they tell of the wildcard that an answer rests on, with how many labels the closest encloser
-/// has. Of one whose hash is refused nothing is told.
+/// What they tell of the wildcard that an answer rests on, with how many labels the closest
+/// encloser has. Of one whose hash is refused nothing is told.
 fn find_wildcard<'r, 'a, H: Nsec3Hasher>(
     alloc: Global,
     question: &Question,
