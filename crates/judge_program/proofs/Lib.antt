@@ -1,2 +1,5 @@
 pub mod TextLemmas
 pub mod RunLemmas
+pub mod WhyLemmas
+pub mod Nsec3WhyLemmas
+pub mod Nsec3RunLemmas

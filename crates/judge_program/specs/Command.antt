@@ -1,5 +1,5 @@
 -- What the words after the program's name ask for.
-use Rattle.std.specs.Prelude.{◌≡◌, ℕ, [], ◌∷◌, codes}
+use Rattle.std.specs.Prelude.{◌≡◌, ℕ, Bool, true, false, [], ◌∷◌, codes}
 use Rattle.domain_base.specs.Scan.{IsNumber}
 use Rattle.domain_base.specs.Words.{Token, Tokens}
 use Rattle.denial_program.specs.Command.{SpellQuestion}
@@ -11,17 +11,23 @@ use Rattle.judge_program.specs.declared.command.Command.{Command}
 abbrev pub usual_limit : ℕ
 usual_limit = 150
 
--- options that ask for a limit of iterations, or none
-abbrev pub LimitText : Tokens → ℕ → Type 0
-LimitText [] limit = limit ≡ usual_limit
-LimitText (option ∷ []) limit = ⊥
-LimitText (option ∷ word ∷ []) limit = (option ≡ codes "--limit") × IsNumber 16 word limit
-LimitText (option ∷ word ∷ other ∷ more) limit = ⊥
+-- options that ask for the records too, or do not
+abbrev pub WhyText : Tokens → Bool → Type 0
+WhyText [] why = why ≡ false
+WhyText (option ∷ []) why = (option ≡ codes "--why") × (why ≡ true)
+WhyText (option ∷ other ∷ more) why = ⊥
+
+-- options that may ask for a limit of iterations first
+abbrev pub LimitText : Tokens → ℕ → Bool → Type 0
+LimitText [] limit why = (limit ≡ usual_limit) × (why ≡ false)
+LimitText (option ∷ []) limit why = (limit ≡ usual_limit) × WhyText (option ∷ []) why
+LimitText (option ∷ word ∷ more) limit why =
+    (option ≡ codes "--limit") × IsNumber 16 word limit × WhyText more why
 
 -- a word names the kind of chain, and these options stand for it
-abbrev pub KindText : Token → Tokens → ChainKind → Type 0
-KindText word options Nsec = (word ≡ codes "nsec") × (options ≡ [])
-KindText word options (Nsec3 limit) = (word ≡ codes "nsec3") × LimitText options limit
+abbrev pub KindText : Token → Tokens → ChainKind → Bool → Type 0
+KindText word options Nsec why = (word ≡ codes "nsec") × WhyText options why
+KindText word options (Nsec3 limit) why = (word ≡ codes "nsec3") × LimitText options limit why
 
 -- the words ask what records of this kind of chain answer to the question
 pub record Asks (words : Tokens) (command : Command) : Type 0 where
@@ -31,7 +37,7 @@ pub record Asks (words : Tokens) (command : Command) : Type 0 where
   pub type_word : Token
   pub options : Tokens
   pub are : words ≡ kind_word ∷ apex_word ∷ name_word ∷ type_word ∷ options
-  pub kind : KindText kind_word options command.kind
+  pub kind : KindText kind_word options command.kind command.why
   pub question : SpellQuestion apex_word name_word type_word command.question
 
 abbrev pub IsCommand : Tokens → Type 0

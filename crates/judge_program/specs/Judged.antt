@@ -1,11 +1,12 @@
 -- What the records of a chain that were read answer to a question.
-use Rattle.std.specs.Prelude.{◌≡◌, ◌<◌, ◌≤◌, ℕ, true, false, List, [], ◌∷◌}
+use Rattle.std.specs.Prelude.{◌≡◌, ◌⊎◌, ◌<◌, ◌≤◌, ℕ, true, false, List, [], ◌∷◌}
 use Rattle.domain_base.specs.Name.{is_at_or_below}
 use Rattle.domain_records.specs.declared.error.Nsec3HashError.TheVariants.{Hasher}
 use Rattle.domain_records.specs.declared.error.SigningError.{SigningError}
 use Rattle.domain_records.specs.declared.error.SigningError.TheVariants.{Nsec3HashingError}
 use Rattle.domain_nsec.specs.Chain.{Link}
 use Rattle.domain_nsec3.specs.Chain.{HashedLink, ParamRecord}
+use Rattle.domain_nsec3.specs.Config.{Hash, Parameters}
 use Rattle.domain_nsec3.specs.View.{HasherAnswer}
 use Rattle.domain_lent.specs.Data.{RawRecord}
 use Rattle.domain_answer.specs.HashedProved.{HashedRestsOn, IsHashedAnswered}
@@ -29,26 +30,29 @@ pub record IsNsecJudged (given : List RawRecord) (q : Question) (answer : Answer
   pub exact : answer ≡ reading q.apex links q.name q.rtype
   pub proof : RestsOn links q.apex q.name answer
 
--- the apex has one NSEC3PARAM record, and the answer is what the NSEC3 records prove with its
--- parameters, as those of NSEC; with more iterations than the limit none is asked of them
+-- the answer is what NSEC3 records prove with these parameters, as those of NSEC; with more
+-- iterations than the limit none is asked of them
+pub record IsNsec3Answer (p : Parameters) (hash : Hash) (links : List HashedLink) (q : Question)
+    (limit : ℕ) (answer : Answer) : Type 0 where
+  pub outside : is_at_or_below q.name q.apex ≡ false → answer ≡ OutsideZone
+  pub parent : is_at_or_below q.name q.apex ≡ true → is_at_parent q.apex q.name q.rtype ≡ true
+      → answer ≡ AtParent
+  pub iterations : needs_no_records q.apex q.name q.rtype ≡ false → limit < p.iterations
+      → answer ≡ TooManyIterations
+  pub zone : p.iterations ≤ limit → IsHashedAnswered links q.apex p hash q.name q.rtype answer
+  pub exact : needs_no_records q.apex q.name q.rtype ≡ false → p.iterations ≤ limit
+      → IsHashedRead links q.apex p hash q.name q.rtype answer
+  pub proof : HashedRestsOn links q.apex p hash q.name answer
+
+-- the apex has one NSEC3PARAM record, and the answer is that of the NSEC3 records with its
+-- parameters
 pub record IsNsec3Judged (hashes : HasherAnswer) (given : List RawRecord) (q : Question)
     (limit : ℕ) (answer : Answer) : Type 0 where
   pub param : ParamRecord
   pub single : AreParams q.apex given (param ∷ [])
   pub links : List HashedLink
   pub are : AreNsec3s given links
-  pub outside : is_at_or_below q.name q.apex ≡ false → answer ≡ OutsideZone
-  pub parent : is_at_or_below q.name q.apex ≡ true → is_at_parent q.apex q.name q.rtype ≡ true
-      → answer ≡ AtParent
-  pub iterations : needs_no_records q.apex q.name q.rtype ≡ false
-      → limit < param.parameters.iterations → answer ≡ TooManyIterations
-  pub zone : param.parameters.iterations ≤ limit
-      → IsHashedAnswered links q.apex param.parameters (hash_with hashes param) q.name q.rtype
-      answer
-  pub exact : needs_no_records q.apex q.name q.rtype ≡ false
-      → param.parameters.iterations ≤ limit
-      → IsHashedRead links q.apex param.parameters (hash_with hashes param) q.name q.rtype answer
-  pub proof : HashedRestsOn links q.apex param.parameters (hash_with hashes param) q.name answer
+  pub is : IsNsec3Answer param.parameters (hash_with hashes param) links q limit answer
 
 -- the hasher refuses a name that is asked for: this is the first
 pub record IsJudgeRefused (hashes : HasherAnswer) (given : List RawRecord) (q : Question)
@@ -61,6 +65,11 @@ pub record IsJudgeRefused (hashes : HasherAnswer) (given : List RawRecord) (q : 
   pub is : error ≡ Nsec3HashingError (Hasher reason)
   pub first : IsFirstOfRefusals links q.apex param.parameters (hash_with hashes param) q.name
       q.rtype reason
+
+-- want of memory, or this refusal of the hasher
+abbrev pub IsRefusedWith : (ℕ → Type 0) → DenialFault → Type 0
+IsRefusedWith is_first fault = (fault ≡ OutOfMemory)
+    ⊎ ((n : ℕ) × (fault ≡ Signing (Nsec3HashingError (Hasher n))) × is_first n)
 
 -- why NSEC3 records have none: the apex has no NSEC3PARAM record, or more than one; or the hasher
 -- refuses

@@ -1,4 +1,5 @@
 pub mod Command
 pub mod Judged
 pub mod Text
+pub mod Why
 pub mod Run

@@ -1,11 +1,12 @@
 -- What a run answers to its words and lines, and when each of its faults comes.
-use Rattle.std.specs.Prelude.{◌≡◌, ◌⊎◌, ℕ, List, ◌++◌, codes, Option}
+use Rattle.std.specs.Prelude.{◌≡◌, ◌⊎◌, ◌&&◌, ℕ, Bool, List, [], ◌++◌, codes, Option, if◌then◌else◌}
 use Rattle.std.specs.Io.KnownBytes.{Appends}
 use Rattle.domain_octets.specs.Words.{Octets}
 use Rattle.domain_base.specs.Words.{Tokens}
 use Rattle.domain_nsec3.specs.View.{HasherAnswer}
 use Rattle.domain_lent.specs.Data.{RawRecord}
 use Rattle.domain_answer.specs.declared.answer.Answer.{Answer}
+use Rattle.denial_program.specs.Check.{hash_with}
 use Rattle.denial_program.specs.Listing.{Give}
 use Rattle.denial_program.specs.declared.command.Question.{Question}
 use Rattle.denial_program.specs.declared.fault.DenialFault.{DenialFault}
@@ -13,27 +14,35 @@ use Rattle.denial_program.specs.declared.fault.DenialFault.TheVariants.{Usage, R
 use Rattle.judge_program.specs.Command.{Asks, IsCommand, IsNoCommand}
 use Rattle.judge_program.specs.Judged.{IsNotNsec3Judged, IsNsec3Judged, IsNsecJudged}
 use Rattle.judge_program.specs.Text.{answer_text}
+use Rattle.judge_program.specs.Why.{nsec_why, rests_on_records, IsNsec3Below}
 use Rattle.judge_program.specs.declared.command.ChainKind.{ChainKind}
 use Rattle.judge_program.specs.declared.command.ChainKind.TheVariants.{Nsec, Nsec3}
 use Rattle.judge_program.specs.declared.command.Command.{Command}
 
--- the text is that of what the NSEC records answer to the question, on one line
-pub record IsNsecText (given : List RawRecord) (q : Question) (text : Octets) : Type 0 where
+-- the text is that of what the NSEC records answer to the question, on one line, and below it, where
+-- they are asked for, of the records that it rests on
+pub record IsNsecText (given : List RawRecord) (q : Question) (why : Bool) (text : Octets)
+    : Type 0 where
   pub answer : Answer
   pub judged : IsNsecJudged given q answer
-  pub is : text ≡ answer_text q.name answer ++ codes "\n"
+  pub is : text ≡ (answer_text q.name answer ++ codes "\n")
+      ++ (if why then nsec_why q.apex judged.links q.name answer else [])
 
 -- of what the NSEC3 records answer
 pub record IsNsec3Text (hashes : HasherAnswer) (given : List RawRecord) (q : Question) (limit : ℕ)
-    (text : Octets) : Type 0 where
+    (why : Bool) (text : Octets) : Type 0 where
   pub answer : Answer
   pub judged : IsNsec3Judged hashes given q limit answer
-  pub is : text ≡ answer_text q.name answer ++ codes "\n"
+  pub below : Octets
+  pub shown : IsNsec3Below (why && rests_on_records answer) q.apex judged.param.parameters
+      (hash_with hashes judged.param) judged.links q.name answer below
+  pub is : text ≡ (answer_text q.name answer ++ codes "\n") ++ below
 
 -- of what records of this kind of chain answer
-abbrev pub IsText : HasherAnswer → ChainKind → List RawRecord → Question → Octets → Type 0
-IsText hashes Nsec given q text = IsNsecText given q text
-IsText hashes (Nsec3 limit) given q text = IsNsec3Text hashes given q limit text
+abbrev pub IsText : HasherAnswer → ChainKind → List RawRecord → Question → Bool → Octets
+    → Type 0
+IsText hashes Nsec given q why text = IsNsecText given q why text
+IsText hashes (Nsec3 limit) given q why text = IsNsec3Text hashes given q limit why text
 
 -- why they have no answer
 abbrev pub HasNoText : HasherAnswer → ChainKind → List RawRecord → Question → DenialFault
@@ -59,7 +68,7 @@ pub record Judges (hashes : HasherAnswer) (words : Tokens) (lines : List Octets)
   pub given : List RawRecord
   pub asks : Asks words command
   pub gives : Give lines given
-  pub is : IsText hashes command.kind given command.question text
+  pub is : IsText hashes command.kind given command.question command.why text
 
 -- they have none, for this reason
 pub record GivesNoJudgement (hashes : HasherAnswer) (words : Tokens) (lines : List Octets)

@@ -59,8 +59,8 @@ answer_text name answers.NotProven = codes "not proven"
 -- a fault as this program prints it
 abbrev pub judge_fault_text : DenialFault → Octets
 judge_fault_text Usage =
-    codes "usage: denial judge nsec APEX NAME TYPE"
-    ++ codes " | denial judge nsec3 APEX NAME TYPE [--limit ITERATIONS]"
+    codes "usage: denial judge nsec APEX NAME TYPE [--why]"
+    ++ codes " | denial judge nsec3 APEX NAME TYPE [--limit ITERATIONS] [--why]"
 judge_fault_text Read = fault_text Read
 judge_fault_text (Line n) = fault_text (Line n)
 judge_fault_text MixedClasses = fault_text MixedClasses

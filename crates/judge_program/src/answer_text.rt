@@ -12,8 +12,9 @@ use std::fmt;
 
 /// The wildcard right below a name, with its last dot.
 #[derive(Clone, Copy)]
-struct WildcardText<'p, 'a> {
-    above: &'p ParsedName<'a>,
+pub struct WildcardText<'p, 'a> {
+    /// The name.
+    pub above: &'p ParsedName<'a>,
 }
 
 impl fmt::Display for WildcardText<'_, '_> {

@@ -1,8 +1,8 @@
 //! What the words after the program's name ask for.
-ghost use Rattle.std.specs.Prelude.{◌≡◌, ◌⊎◌, ℕ, IfErr, IfNone, IfOk, IfSome, map, string_bytes};
+ghost use Rattle.std.specs.Prelude.{◌≡◌, ◌⊎◌, ℕ, Bool, IfErr, IfNone, IfOk, IfSome, map, string_bytes};
 ghost use Rattle.domain_base.specs.Scan.{IsNumber};
 ghost use Rattle.denial_program.specs.declared.fault.DenialFault.TheVariants.{OutOfMemory};
-ghost use Rattle.judge_program.specs.Command.{Asks, IsNoCommand, KindText, LimitText};
+ghost use Rattle.judge_program.specs.Command.{Asks, IsNoCommand, KindText, LimitText, WhyText};
 ghost use Rattle.judge_program.specs.declared.command.ChainKind.{ChainKind};
 
 use denial_program::{DenialFault, Question, question_of};
@@ -29,6 +29,8 @@ pub struct Command {
     pub kind: ChainKind,
     /// What they are asked.
     pub question: Question,
+    /// Whether those that the answer rests on are wanted too.
+    pub why: bool,
 }
 
 /// A number of iterations that a word spells (RFC 5155, section 4.3).
@@ -42,28 +44,48 @@ fn iterations_of(word: &str) -> Option<u16>
     }
 }
 
-/// The limit of iterations that the options ask for.
-fn limit_of(options: &[String]) -> Option<u16>
-    ensures some { IfSome result (LimitText (map string_bytes options.now)) }
+/// Whether the options ask for the records too.
+fn why_of(options: &[String]) -> Option<bool>
+    ensures some { IfSome result (WhyText (map string_bytes options.now)) }
     ensures none { IfNone result
-        ((limit : ℕ) → LimitText (map string_bytes options.now) limit → ⊥) }
+        ((why : Bool) → WhyText (map string_bytes options.now) why → ⊥) }
 {
     match options {
-        [] => Some(USUAL_LIMIT),
-        [option, number] if option.as_str() == "--limit" => iterations_of(number.as_str()),
+        [] => Some(false),
+        [option] if option.as_str() == "--why" => Some(true),
         _ => None,
     }
 }
 
-/// The kind of chain that a first word names, with the options that stand for it.
-fn kind_of(word: &str, options: &[String]) -> Option<ChainKind>
-    ensures some { IfSome result (KindText word.now (map string_bytes options.now)) }
-    ensures none { IfNone result
-        ((kind : ChainKind) → KindText word.now (map string_bytes options.now) kind → ⊥) }
+/// The limit of iterations that the options ask for, and whether they ask for the records too.
+fn limit_of(options: &[String]) -> Option<(u16, bool)>
+    ensures some { IfSome result (λ p. LimitText (map string_bytes options.now) p.0 p.1) }
+    ensures none { IfNone result ((limit : ℕ) (why : Bool)
+        → LimitText (map string_bytes options.now) limit why → ⊥) }
+{
+    let [option, number, more @ ..] = options else {
+        return Some((USUAL_LIMIT, why_of(options)?));
+    };
+    if option.as_str() != "--limit" {
+        return None;
+    }
+    let limit = iterations_of(number.as_str())?;
+    Some((limit, why_of(more)?))
+}
+
+/// The kind of chain that a first word names, with the options that stand for it, and whether they
+/// ask for the records too.
+fn kind_of(word: &str, options: &[String]) -> Option<(ChainKind, bool)>
+    ensures some { IfSome result (λ p. KindText word.now (map string_bytes options.now) p.0 p.1) }
+    ensures none { IfNone result ((kind : ChainKind) (why : Bool)
+        → KindText word.now (map string_bytes options.now) kind why → ⊥) }
 {
     match word {
-        "nsec" if options.is_empty() => Some(ChainKind::Nsec),
-        "nsec3" => Some(ChainKind::Nsec3(limit_of(options)?)),
+        "nsec" => Some((ChainKind::Nsec, why_of(options)?)),
+        "nsec3" => {
+            let (limit, why) = limit_of(options)?;
+            Some((ChainKind::Nsec3(limit), why))
+        }
         _ => None,
     }
 }
@@ -82,9 +104,13 @@ pub fn command_of(alloc: Global, words: &[String]) -> Result<Command, DenialFaul
     let [word, apex, name, rtype, options @ ..] = words else {
         return Err(DenialFault::Usage);
     };
-    let Some(kind) = kind_of(word.as_str(), options) else {
+    let Some((kind, why)) = kind_of(word.as_str(), options) else {
         return Err(DenialFault::Usage);
     };
     let question = question_of(alloc, apex.as_str(), name.as_str(), rtype.as_str())?;
-    Ok(Command { kind, question })
+    Ok(Command {
+        kind,
+        question,
+        why,
+    })
 }

@@ -20,8 +20,8 @@ impl From<DenialFault> for JudgeFault {
     }
 }
 
-const USAGE: &str = "usage: denial judge nsec APEX NAME TYPE \
-     | denial judge nsec3 APEX NAME TYPE [--limit ITERATIONS]";
+const USAGE: &str = "usage: denial judge nsec APEX NAME TYPE [--why] \
+     | denial judge nsec3 APEX NAME TYPE [--limit ITERATIONS] [--why]";
 
 impl fmt::Display for JudgeFault {
     ghost output = { λ e. Some (judge_fault_text e.fault) };

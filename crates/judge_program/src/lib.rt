@@ -9,7 +9,10 @@ mod answer_text;
 mod command;
 mod fault;
 mod judge;
+mod nsec3_why;
 mod program;
+mod role;
+mod why;
 
 pub use fault::JudgeFault;
 pub use program::run_judge;

@@ -1,46 +1,32 @@
-use Rattle.std.proofs.Common.{◌≡◌, refl, sym, subst, IfOk, Err}
+use Rattle.std.proofs.Common.{◌++◌, codes}
 use Rattle.domain_nsec3.specs.View.{as_param_record, hashed_links_of}
-use Rattle.domain_answer.specs.HashedReading.{IsFirstOfRefusals}
-use Rattle.domain_answer.specs.declared.answer.Answer.TheVariants.{OutsideZone, AtParent, TooManyIterations}
-use Rattle.domain_records.specs.declared.error.SigningError.TheVariants.{Nsec3HashingError}
-use Rattle.denial_program.specs.Check.{hash_with}
-use Rattle.denial_program.proofs.CheckLemmas.{hasher_refused}
+use Rattle.judge_program.specs.Text.{answer_text}
+use Rattle.judge_program.specs.Why.{why_text}
+use Rattle.judge_program.proofs.Nsec3RunLemmas.{nsec3_text_is, nsec3_unwritten}
 use Rattle.judge_program.proofs.judge.judge_nsec3s.Goals as goal
 
 pub returns-in-Ok-clause-ok : goal.returns-in-Ok-clause-ok
 returns-in-Ok-clause-ok g c =
-    let param = as_param_record (λ n. n) c.in_ok-chain.chain.nsec3param in
-    let links = hashed_links_of (λ n. n) c.in_ok-chain.chain.nsec3s.items in
+    let hashes = g.H.Nsec3Hasher.answer c.args.hasher.now in
+    let q = c.args.question.now in
+    let answer = c.in_ok-answer.answer in
+    let below = why_text q.name answer c.in_ok-why.why in
     record {
-      param = param;
-      single = c.in_ok-chain.ensures.param;
-      links = links;
-      are = c.in_ok-chain.ensures.nsec3s;
-      outside = λ off. subst (λ r. IfOk r (λ v. v ≡ OutsideZone)) (sym (c.in-Ok.ensures.outside off)) refl;
-      parent = λ low is. subst (λ r. IfOk r (λ v. v ≡ AtParent)) (sym (c.in-Ok.ensures.parent low is)) refl;
-      iterations = λ asks many. subst (λ r. IfOk r (λ v. v ≡ TooManyIterations)) (sym (c.in-Ok.ensures.iterations asks many)) refl;
-      zone = c.in-Ok.ensures.zone;
-      exact = c.in-Ok.ensures.exact;
-      proof = c.in-Ok.ensures.proof;
+      text = (answer_text q.name answer ++ codes "\n") ++ below;
+      is = nsec3_text_is hashes c.args.records.items q c.args.limit c.args.why (as_param_record (λ n. n) c.in_ok-chain.chain.nsec3param)
+          (hashed_links_of (λ n. n) c.in_ok-chain.chain.nsec3s.items) answer below c.in_ok-chain.ensures.param c.in_ok-chain.ensures.nsec3s
+          c.in_ok-answer.ensures.ok c.in_ok-why.ensures.ok;
+      appends = c.in-Ok.ensures;
     }
 
-pub returns : goal.returns
-returns g c =
+pub returns-clause-err : goal.returns-clause-err
+returns-clause-err g c =
+    let hashes = g.H.Nsec3Hasher.answer c.args.hasher.now in
     let q = c.args.question.now in
-    let param = as_param_record (λ n. n) c.in_ok-chain.chain.nsec3param in
-    let links = hashed_links_of (λ n. n) c.in_ok-chain.chain.nsec3s.items in
-    let hash = hash_with (g.H.Nsec3Hasher.answer c.args.hasher.now) param in
-    let refused = hasher_refused {P = λ n. IsFirstOfRefusals links q.apex param.parameters hash q.name q.rtype n}
-    c.in-Err.error c.in_default.not-OutOfMemory c.in-Err.ensures.errors (λ n is. c.in-Err.ensures.refusal n (λ i. Err (is i))) in
-    record {
-      ok = tt;
-      err = record {
-        param = param;
-        single = c.in_ok-chain.ensures.param;
-        links = links;
-        are = c.in_ok-chain.ensures.nsec3s;
-        reason = refused.0;
-        is = λ i. Nsec3HashingError (refused.1.0 i);
-        first = refused.1.1;
-      };
-    }
+    let answer = c.in_ok-answer.answer in
+    let below = why_text q.name answer c.in_ok-why.why in
+    let is = nsec3_text_is hashes c.args.records.items q c.args.limit c.args.why (as_param_record (λ n. n) c.in_ok-chain.chain.nsec3param)
+    (hashed_links_of (λ n. n) c.in_ok-chain.chain.nsec3s.items) answer below c.in_ok-chain.ensures.param c.in_ok-chain.ensures.nsec3s
+    c.in_ok-answer.ensures.ok c.in_ok-why.ensures.ok in
+    nsec3_unwritten hashes c.args.records.items q c.args.limit c.args.why ((answer_text q.name answer ++ codes "\n") ++ below)
+    c.fault_of.result is c.fault_of.ensures.either
