@@ -1,3 +1,4 @@
 pub mod TextLemmas
 pub mod RunLemmas
 pub mod WhyLemmas
+pub mod CommandLemmas
