@@ -17,7 +17,7 @@ use Rattle.domain_answer.specs.ZoneAnswer.{wildcard_below}
 use Rattle.domain_answer.specs.declared.answer.Answer.{Answer}
 use Rattle.domain_answer.specs.declared.answer.Answer.TheVariants as answers
 use Rattle.denial_program.specs.Text.{nsec_line, nsec3_line}
-use Rattle.judge_program.specs.Text.{full_text, last_text, wildcard_text}
+use Rattle.judge_program.specs.Text.{full_text}
 use Rattle.judge_program.specs.declared.nsec3_why.Nsec3Why.{Nsec3Why}
 use Rattle.judge_program.specs.declared.role.Role.{Role}
 use Rattle.judge_program.specs.declared.role.Role.TheVariants.{Asked, Encloser as ClosestEncloser, NextCloser, Wildcard}
