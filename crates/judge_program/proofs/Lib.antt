@@ -1,3 +1,4 @@
+pub mod CommandLemmas
 pub mod TextLemmas
 pub mod RunLemmas
 pub mod WhyLemmas

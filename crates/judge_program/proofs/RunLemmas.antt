@@ -1,12 +1,19 @@
--- Where writing failed there was an answer.
-use Rattle.std.proofs.Common.{◌≡◌, Bool, List, subst, inl, inr, Result, IfErr, IsErrOf}
+-- What a run answers.
+use Rattle.std.proofs.Common.{◌≡◌, ◌⊎◌, Bool, List, [], ◌++◌, codes, if◌then◌else◌, refl, subst, sym, inl, inr, Result, IfErr, IsErrOf}
 use Rattle.domain_octets.specs.Words.{Octets}
 use Rattle.domain_nsec3.specs.View.{HasherAnswer}
 use Rattle.domain_lent.specs.Data.{RawRecord}
+use Rattle.domain_nsec.specs.Chain.{Link}
+use Rattle.domain_answer.specs.Proved.{IsAnswered, RestsOn}
+use Rattle.domain_answer.specs.Reading.{reading}
+use Rattle.domain_answer.specs.declared.answer.Answer.{Answer}
+use Rattle.denial_program.specs.Check.{AreNsecs}
 use Rattle.denial_program.specs.declared.command.Question.{Question}
 use Rattle.denial_program.specs.declared.fault.DenialFault.{DenialFault}
-use Rattle.denial_program.specs.declared.fault.DenialFault.TheVariants.{Write}
-use Rattle.judge_program.specs.Run.{HasNoText, IsText, IsUnwritten}
+use Rattle.denial_program.specs.declared.fault.DenialFault.TheVariants.{Write, OutOfMemory}
+use Rattle.judge_program.specs.Run.{HasNoText, IsNsecText, IsText, IsUnwritten}
+use Rattle.judge_program.specs.Text.{answer_text}
+use Rattle.judge_program.specs.Why.{nsec_why}
 use Rattle.judge_program.specs.declared.command.ChainKind.{ChainKind}
 use Rattle.judge_program.specs.declared.command.ChainKind.TheVariants.{Nsec, Nsec3}
 
@@ -14,6 +21,7 @@ no_text_no_write : (hashes : HasherAnswer) (kind : ChainKind) (given : List RawR
 no_text_no_write hashes Nsec given q none = cc
 no_text_no_write hashes (Nsec3 limit) given q none = none
 
+-- where writing failed there was an answer
 pub text_unwritten : {X : Type 0} (hashes : HasherAnswer) (kind : ChainKind) (given : List RawRecord) (q : Question) (why : Bool) (r : Result X DenialFault)
     → IfErr r (IsUnwritten (IsText hashes kind given q why) (HasNoText hashes kind given q)) → IsErrOf r Write
     → (text : Octets) × IsText hashes kind given q why text
@@ -23,3 +31,27 @@ text_unwritten hashes kind given q why r h is =
     there : IsUnwritten (IsText hashes kind given q why) (HasNoText hashes kind given q) Write → (text : Octets) × IsText hashes kind given q why text
     there (inl h) = h.1
     there (inr none) = absurd (no_text_no_write hashes kind given q none)
+
+-- a text that could not be written, of which there is one
+pub unwritten : (is_such : Octets → Type 0) (has_none : DenialFault → Type 0) (text : Octets) → is_such text → has_none OutOfMemory
+    → (e : DenialFault) → (e ≡ Write) ⊎ (e ≡ OutOfMemory) → IsUnwritten is_such has_none e
+unwritten is_such has_none text is none e (inl w) = inl (w, (text, is))
+unwritten is_such has_none text is none e (inr m) = inr (subst has_none (sym m) none)
+
+-- the text of what the NSEC records answer, which are the same links
+pub nsec_text : (given : List RawRecord) (q : Question) (why : Bool) (answer : Answer) (asked links : List Link) → asked ≡ links
+    → AreNsecs given links → IsAnswered asked q.apex q.name q.rtype answer → answer ≡ reading q.apex asked q.name q.rtype
+    → RestsOn asked q.apex q.name answer
+    → IsNsecText given q why ((answer_text q.name answer ++ codes "\n") ++ (if why then nsec_why q.apex links q.name answer else []))
+nsec_text given q why answer asked links same are zone exact proof =
+    record {
+      answer = answer;
+      judged = record {
+        links = links;
+        are = are;
+        zone = subst (λ ks. IsAnswered ks q.apex q.name q.rtype answer) same zone;
+        exact = subst (λ ks. answer ≡ reading q.apex ks q.name q.rtype) same exact;
+        proof = subst (λ ks. RestsOn ks q.apex q.name answer) same proof;
+      };
+      is = refl;
+    }

@@ -1,7 +1,27 @@
 -- Lines on records as they are printed.
-use Rattle.std.proofs.Common.{◌≡◌, ◌++◌, append_assoc}
+use Rattle.std.proofs.Common.{◌≡◌, ◌<◌, ℕ, true, List, [], ◌++◌, length, nat_lt, ap, ◌∙◌, Some, append_assoc}
+use Rattle.std.proofs.lemmas.Bool.{cond-true, lt-ltb}
 use Rattle.domain_octets.specs.Words.{Octets}
+use Rattle.domain_base.specs.Words.{Name}
+use Rattle.domain_nsec.specs.Chain.{Link}
+use Rattle.domain_answer.specs.Proved.{last_labels}
+use Rattle.domain_answer.specs.ZoneAnswer.{wildcard_below}
+use Rattle.domain_answer.specs.declared.answer.Answer.{Answer}
+use Rattle.judge_program.specs.Why.{nsec_told, nsec_why, nsec_wildcard_told, rests_on_records, wildcard_count}
+use Rattle.judge_program.specs.declared.role.Role.TheVariants.{Asked, Wildcard}
 
 -- the parts of a line in the grouping in which they are written
 pub shown_parts : (how role sep line end : Octets) → how ++ (role ++ (sep ++ (line ++ end))) ≡ how ++ role ++ sep ++ line ++ end
 shown_parts how role sep line end = simp append_assoc
+
+-- what is told of the name and of the wildcard, where the answer rests on both
+pub both_told : (a : Name) (listed : List Link) (x : Name) (answer : Answer) (n : ℕ) → rests_on_records answer ≡ true
+    → wildcard_count answer ≡ Some n → n < length x
+    → nsec_why a listed x answer
+    ≡ nsec_told a listed x Asked ++ nsec_told a listed (wildcard_below (last_labels n x)) (Wildcard (last_labels n x))
+both_told a listed x answer n rests asks more =
+    let asked = nsec_told a listed x Asked in
+    let told = nsec_told a listed (wildcard_below (last_labels n x)) (Wildcard (last_labels n x)) in
+    cond-true (rests_on_records answer) (asked ++ nsec_wildcard_told a listed x (wildcard_count answer)) [] rests
+    ∙ ap (λ o. asked ++ nsec_wildcard_told a listed x o) asks
+    ∙ ap (λ t. asked ++ t) (cond-true (nat_lt n (length x)) told [] (lt-ltb n (length x) more))

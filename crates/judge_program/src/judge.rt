@@ -200,8 +200,9 @@ pub fn write_judged<'a, W: Write, H: Nsec3Hasher>(
         records.entry.items command.now.question command.now.why)
         (W.contents output.old) (W.contents output.new)) }
     ensures err { IfErr result (IsUnwritten (IsText (H.answer hasher.now) command.now.kind
-        records.entry.items command.now.question command.now.why) (HasNoText (H.answer hasher.now) command.now.kind
-        records.entry.items command.now.question)) }
+        records.entry.items command.now.question command.now.why)
+        (HasNoText (H.answer hasher.now) command.now.kind records.entry.items
+        command.now.question)) }
     ensures untouched { IfErr result (λ e. IsBeforeOutput e → output.new ≡ output.old) }
 {
     let Command {

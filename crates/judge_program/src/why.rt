@@ -89,6 +89,9 @@ pub fn write_nsec_why<W: Write>(
     let Some(count) = wildcard_count(answer) else {
         return Ok(());
     };
+    if count >= name.count_labels() {
+        return Ok(());
+    }
     let mut buffer = [0; MAX_NAME];
     let Some(wildcard) = wildcard_of(&mut buffer, name, count) else {
         return Ok(());
