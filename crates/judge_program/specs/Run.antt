@@ -19,8 +19,8 @@ use Rattle.judge_program.specs.declared.command.ChainKind.{ChainKind}
 use Rattle.judge_program.specs.declared.command.ChainKind.TheVariants.{Nsec, Nsec3}
 use Rattle.judge_program.specs.declared.command.Command.{Command}
 
--- the text is that of what the NSEC records answer to the question, on one line, and below it, where
--- they are asked for, of the records that it rests on
+-- the text is that of what the NSEC records answer to the question, on one line, and below it,
+-- where they are asked for, of the records that it rests on
 pub record IsNsecText (given : List RawRecord) (q : Question) (why : Bool) (text : Octets)
     : Type 0 where
   pub answer : Answer

@@ -82,7 +82,8 @@ nsec_shown role None None = []
 
 -- the first match of a name, or else its first cover
 abbrev pub nsec_told : Name → List Link → Name → Role → Octets
-nsec_told a listed x role = nsec_shown role (find (is_match a x) listed) (find (is_cover a x) listed)
+nsec_told a listed x role =
+    nsec_shown role (find (is_match a x) listed) (find (is_cover a x) listed)
 
 -- the same of the wildcard below the last n labels of x, which has more of them
 abbrev pub nsec_wildcard_told : Name → List Link → Name → Option ℕ → Octets

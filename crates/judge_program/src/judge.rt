@@ -46,8 +46,8 @@ fn nsecs_among<'a>(
     Ok(nsecs)
 }
 
-/// Writes what NSEC records answer to a question and, where they are asked for, those that the answer
-/// rests on. Hands all on to the device.
+/// Writes what NSEC records answer to a question and, where they are asked for, those that the
+/// answer rests on. Hands all on to the device.
 fn write_nsec<W: Write>(
     question: &Question,
     why: bool,
