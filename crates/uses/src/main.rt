@@ -1,4 +1,4 @@
-//! Nine uses of the library, each a proved function that calls it, with what it prints.
+//! Ten uses of the library, each a proved function that calls it, with what it prints.
 //!
 //! `docs/GUIDE.md` quotes them. A program names `domain_dnssec` first, which hands on what its own
 //! signatures name.
@@ -11,6 +11,7 @@ mod hashed;
 mod key;
 mod line;
 mod said;
+mod served;
 mod sorted;
 mod verdict;
 mod zone;
@@ -27,6 +28,7 @@ fn report(alloc: Global) -> Result<String, Error> {
     verdict::show(alloc, &mut text)?;
     said::show(alloc, &mut text)?;
     answer::show(alloc, &mut text)?;
+    served::show(alloc, &mut text)?;
     bitmap::show(alloc, &mut text)?;
     line::show(alloc, &mut text)?;
     sorted::show(alloc, &mut text)?;

@@ -1,0 +1,76 @@
+//! Both halves of denial: what a server picks of a chain to answer with, and what that is judged to
+//! prove.
+ghost use Rattle.std.specs.Prelude.{◌≡◌, true, IfOk};
+ghost use Rattle.domain_records.specs.Order.{IsOneClass};
+ghost use Rattle.domain_rdata.specs.Zone.{minimum_of, rtype_of};
+ghost use Rattle.domain_zone.specs.View.{zone_of};
+ghost use Rattle.domain_answer.specs.ZoneAnswer.{zone_answer};
+
+use crate::zone::{Data, ZoneName, records};
+use domain_answer::laws::chains_leave_out_names_below_dname;
+use domain_dnssec::laws::owners_never_descend;
+use domain_dnssec::{
+    Answer, Error, GenerateNsecConfig, NsecChain, Rtype, SortedRecords, deny_nsec,
+};
+use std::alloc::Global;
+use std::fmt::Write;
+
+/// A zone whose records stand in canonical order.
+type Zone = SortedRecords<ZoneName, Data>;
+
+/// Prints the record at a place of a chain, where one is given.
+fn show_record(
+    chain: &NsecChain<'_, ZoneName>,
+    place: Option<usize>,
+    text: &mut String,
+) -> Result<(), Error> {
+    let Some(place) = place else {
+        return Ok(());
+    };
+    let Some(nsec) = chain.lend(place) else {
+        return Ok(());
+    };
+    writeln!(text, "{nsec}")?;
+    Ok(())
+}
+
+/// What a zone of one class answers to a question, after the records of its chain that prove it, one
+/// a line.
+fn serve<'z>(
+    alloc: Global,
+    apex: &'z ZoneName,
+    zone: &'z Zone,
+    config: &GenerateNsecConfig,
+    name: &ZoneName,
+    rtype: Rtype,
+    text: &mut String,
+) -> Result<Answer, Error>
+    requires { IsOneClass zone.now }
+    ensures { config.now.occlude_below_dname ≡ true → IfOk result (λ answer. answer
+        ≡ zone_answer (zone_of (λ name. name) rtype_of minimum_of zone.now) apex.now
+        config.now.assume_dnskeys_will_be_added name.now rtype) }
+{
+    owners_never_descend::<ZoneName, Data>();
+    chains_leave_out_names_below_dname();
+    let chain = NsecChain::generate(alloc, apex, zone.owner_rrs(), config)?;
+    let denial = deny_nsec(apex, &chain, name, rtype);
+    show_record(&chain, denial.of_name, text)?;
+    show_record(&chain, denial.of_wildcard, text)?;
+    Ok(denial.answer)
+}
+
+/// Prints what a server of the small zone answers to two questions.
+pub fn show(alloc: Global, text: &mut String) -> Result<(), Error> {
+    let apex = ZoneName::from_str(alloc, "example.")?;
+    let config = GenerateNsecConfig::new().with_occlude_below_dname();
+    let zone = Zone::from_vec(records(alloc)?)?;
+    if !zone.owner_rrs().is_one_class() {
+        return Err(Error::MixedClasses);
+    }
+    for asked in ["office.example.", "www.example."] {
+        let name = ZoneName::from_str(alloc, asked)?;
+        let answer = serve(alloc, &apex, &zone, &config, &name, Rtype::MX, text)?;
+        writeln!(text, "{asked} MX: {answer:?}")?;
+    }
+    Ok(())
+}
