@@ -8,6 +8,7 @@ ghost use Rattle.domain_nsec3.specs.declared.config.Nsec3ParamTtlMode.TheVariant
 use domain_base::Ttl;
 use domain_chain_rdata::Nsec3param;
 use domain_octets::{EmptyOctets, Octets, OutOfMemory};
+use domain_records::DefaultSorter;
 use domain_zone::ApexSoa;
 use std::alloc::Global;
 use std::marker::PhantomData;
@@ -69,7 +70,7 @@ impl Default for Nsec3ParamTtlMode {
 /// How an NSEC3 chain is made. `Sort` is what sorts the hashes.
 #[derive(Drop)]
 #[derive_where(Debug, PartialEq, Eq)]
-pub struct GenerateNsec3Config<O: Octets, Sort> {
+pub struct GenerateNsec3Config<O: Octets, Sort = DefaultSorter> {
     /// Whether DNSKEY records will be added at the apex once the chain is made, so that its bitmap
     /// lists their type already.
     pub assume_dnskeys_will_be_added: bool,
@@ -181,5 +182,19 @@ impl<O: Octets, Sort> GenerateNsec3Config<O, Sort> {
     {
         self.occlude_below_dname = true;
         self
+    }
+}
+
+/// The same as `new`, for the sorter of the standard library, so that the parameters alone tell the
+/// type.
+impl<O: Octets> From<Nsec3param<O>> for GenerateNsec3Config<O, DefaultSorter> {
+    ghost from_gives = { λ params config. (config.params ≡ params)
+        × (config.assume_dnskeys_will_be_added ≡ true)
+        × (config.opt_out_exclude_owner_names_of_unsigned_delegations ≡ true)
+        × (config.nsec3param_ttl_mode ≡ ttl_mode.Soa)
+        × (config.occlude_below_dname ≡ false) };
+
+    fn from(params: Nsec3param<O>) -> Self {
+        Self::new(params)
     }
 }

@@ -13,7 +13,7 @@ ghost use Rattle.domain_sha1.specs.Iterated.{iterated, sha1_answer};
 use domain_base::Nsec3HashAlgorithm;
 use domain_zone::{HasherError, Nsec3Hasher};
 use sha1::Sha1;
-use std::alloc::{AllocError, Global};
+use std::alloc::Global;
 
 /// The number of the refusal of an algorithm other than SHA-1.
 pub const OTHER_ALGORITHM: u8 = 1;
@@ -64,9 +64,7 @@ impl Nsec3Hasher for Sha1Hasher {
         }
         let digest = hash_name(name, iterations, salt);
         let mut hash = Vec::new(alloc);
-        match hash.extend_from_slice(&digest) {
-            Ok(()) => Ok(hash),
-            Err(AllocError) => Err(HasherError::OutOfMemory),
-        }
+        hash.extend_from_slice(&digest)?;
+        Ok(hash)
     }
 }

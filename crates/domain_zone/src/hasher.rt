@@ -2,10 +2,12 @@
 ghost use Rattle.std.specs.Prelude.{◌≡◌, ◌⊎◌, ℕ, List, Result, Ok, Err, IfErr, IfOk, IsErrOf};
 ghost use Rattle.domain_base.specs.Name.{lowered, wire_of};
 ghost use Rattle.domain_records.specs.declared.error.Nsec3HashError.TheVariants as hash_error;
+ghost use Rattle.domain_zone.specs.declared.hasher.HasherError.TheVariants as hasher_error;
 
 use domain_base::{Nsec3HashAlgorithm, ToName};
+use domain_octets::OutOfMemory;
 use domain_records::Nsec3HashError;
-use std::alloc::Global;
+use std::alloc::{AllocError, AllocFailed, Global};
 use std::error::Error;
 use std::fmt;
 
@@ -33,6 +35,30 @@ impl fmt::Display for HasherError {
 }
 
 impl Error for HasherError {}
+
+impl From<OutOfMemory> for HasherError {
+    ghost from_gives = { λ _ e. e ≡ hasher_error.OutOfMemory };
+
+    fn from(_error: OutOfMemory) -> HasherError {
+        HasherError::OutOfMemory
+    }
+}
+
+impl From<AllocError> for HasherError {
+    ghost from_gives = { λ _ e. e ≡ hasher_error.OutOfMemory };
+
+    fn from(_error: AllocError) -> HasherError {
+        HasherError::OutOfMemory
+    }
+}
+
+impl<T: Drop> From<AllocFailed<T>> for HasherError {
+    ghost from_gives = { λ _ e. e ≡ hasher_error.OutOfMemory };
+
+    fn from(_error: AllocFailed<T>) -> HasherError {
+        HasherError::OutOfMemory
+    }
+}
 
 /// The digest of owner names (RFC 5155, section 5), which the caller of this crate hands in.
 pub trait Nsec3Hasher {

@@ -66,7 +66,7 @@ fn add_chain(alloc: Global, iterations: u16, text: &mut String) -> Result<(), Er
     let apex = ZoneName::from_str(alloc, "example.")?;
     let salt = Nsec3Salt::empty(alloc);
     let params = Nsec3param::new(Nsec3HashAlgorithm::SHA1, 0, iterations, salt);
-    let config = GenerateNsec3Config::new(params);
+    let config = GenerateNsec3Config::from(params);
     let hasher = LimitedHasher { iterations: 100 };
     let made = chain(alloc, &apex, records(alloc)?, &config, &hasher)?;
     for nsec3 in &made.nsec3s {
