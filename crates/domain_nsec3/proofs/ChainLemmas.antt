@@ -1,13 +1,14 @@
 -- A chain over entries is the chain of the zone where the entries are its names with their types.
 use Rattle.std.proofs.Common.{◌≡◌, ℕ, zero, suc, ◌+◌, ◌<◌, ◌≤◌, true, List, [], ◌∷◌, ◌++◌, map, length}
 use Rattle.std.proofs.Common.{get_or, take, Some, None, Ok, refl, sym, ap, ◌∙◌, subst, arith, inl, inr, add-one}
-use Rattle.std.specs.Prelude.{All, IsPermutation, ◌||◌}
+use Rattle.std.specs.Prelude.{All, IsPermutation, ◌||◌, slice_get}
 use Rattle.std.specs.List.{AllByRecursion, list_any}
 use Rattle.std.specs.List.Sorted.{IsStrictlySortedBy}
 use Rattle.std.specs.Ordering.{nat_cmp}
 use Rattle.std.specs.Cmp.Lexicographic.{slice_cmp}
 use Rattle.std.proofs.lemmas.Bool.{cases_lt}
-use Rattle.std.proofs.lemmas.List.{get_or-map, length-map, map-append, take_more}
+use Rattle.std.proofs.lemmas.List.{get_or_default, get_or-map, length-map, map-append, take_more}
+use Rattle.std.proofs.lemmas.Option.{slice_get-get_or}
 use Rattle.std.proofs.lemmas.List.Elements.{recursion_from_All, All-from_recursion}
 use Rattle.std.proofs.lemmas.List.Sorted.{list_any-IsPermutation, IsPermutation-map, All-permutation, length_permutation}
 use Rattle.domain_base.specs.Classes.{in_class}
@@ -28,8 +29,10 @@ use Rattle.domain_nsec3.specs.Faults.{hash_fault}
 use Rattle.domain_nsec3.specs.Owners.{is_chain_name, nsec3_lists}
 use Rattle.domain_nsec3.specs.Steps.{Common, Entry, HashedEntry, HashedTypes, without_hash, without_name}
 use Rattle.domain_nsec3.specs.Steps.{IsHashed, link_to, links_from, chain_links, IsOrderedChain}
+use Rattle.domain_nsec3.specs.Meaning.{IsRecordOf}
 use Rattle.domain_nsec3.specs.StepView.{as_hashed_types, links_in}
 use Rattle.domain_nsec3.specs.declared.chain.HashedChain.{HashedChain}
+use Rattle.domain_nsec3.specs.declared.hash.Hashed.{Hashed}
 use Rattle.domain_nsec3.proofs.TextLemmas.{sound_some, sound_short}
 
 -- ---- a list that was hashed, and then put in order
@@ -151,6 +154,31 @@ module _ (a : Name) (p : Common) where
 -- a link for each hash
 pub links_counted : (a : Name) (chain : HashedChain) (p : Common) → length (links_in a chain p) ≡ length chain.hashed.items
 links_counted a chain p = chain_length a p (map (as_hashed_types chain.types) chain.hashed.items) ∙ length-map chain.hashed.items (as_hashed_types chain.types)
+
+-- the record at a place has the hash at that place
+pub hash_there : (a : Name) (chain : HashedChain) (p : Common) (i : ℕ) (h : Hashed) → i < length chain.hashed.items
+    → h ≡ get_or chain.hashed.items i h → All (λ octet. octet < 256) h.hash
+    → (k : HashedLink) × IsRecordOf a (links_in a chain p) i k h.hash
+hash_there a chain p i h within is octets =
+    (get_or links i (link_to a p (see h) []), record { there = there; spelled = spelled; octets = octets })
+  where
+    see : Hashed → HashedTypes
+    see = as_hashed_types chain.types
+
+    links : List HashedLink
+    links = links_in a chain p
+
+    there : slice_get links i ≡ Some (get_or links i (link_to a p (see h) []))
+    there = let counted = links_counted a chain p in slice_get-get_or links i (link_to a p (see h) []) (omega arith)
+
+    -- the hash after it, whichever that is
+    spelled : (get_or links i (link_to a p (see h) [])).owner ≡ hashed_owner a h.hash
+    spelled = elim (cases_lt (i + 1) (length chain.hashed.items)) [
+      | inl l ↦ sym (ap (λ k. k.owner) (link_is a p see chain.hashed.items h (get_or chain.hashed.items (i + 1) h).hash i
+          (link_to a p (see h) []) within is (λ m x. ap (λ t. t.hash) (get_or_default chain.hashed.items (i + 1) h x m)) (λ m. absurd (omega (arith, l, m)))))
+      | inr l ↦ sym (ap (λ k. k.owner) (link_is a p see chain.hashed.items h (get_or chain.hashed.items 0 h).hash i
+          (link_to a p (see h) []) within is (λ m. absurd (omega (arith, l, m))) (λ m x. ap (λ t. t.hash) (get_or_default chain.hashed.items 0 h x (omega (arith, within))))))
+    ]
 
 -- one more record is made
 pub one_made : {X : Type 0} (see : X → HashedLink) (old new : List X) (item : X) (i : ℕ) (links : List HashedLink)

@@ -1,10 +1,11 @@
 //! NSEC3 chains whose records are made one by one.
-ghost use Rattle.std.specs.Prelude.{◌≡◌, ◌≤◌, ◌↔◌, [], length, slice_index_or, IsTrue, IfErr, IfOk, IfNone, IfSome, OnOk};
+ghost use Rattle.std.specs.Prelude.{◌≡◌, ◌<◌, ◌≤◌, ◌↔◌, [], All, length, slice_index_or, IsTrue, IfErr, IfOk, IfNone, IfSome, OnOk};
 ghost use Rattle.domain_base.specs.Classes.{in_class};
 ghost use Rattle.domain_records.specs.Order.{IsOneClass, IsInOrder};
 ghost use Rattle.domain_zone.specs.View.{zone_of};
 ghost use Rattle.domain_nsec3.specs.Chain.{HashedLink, IsChainParam, IsHashedChain, param_ttl};
 ghost use Rattle.domain_nsec3.specs.Faults.{IsFaultless, IsFirstFault};
+ghost use Rattle.domain_nsec3.specs.Meaning.{IsRecordOf};
 ghost use Rattle.domain_nsec3.specs.StepView.{common_of, links_in, AreUsable};
 ghost use Rattle.domain_nsec3.specs.View.{as_param_record, config_of, hashed_links_of, parameters_of};
 
@@ -69,6 +70,14 @@ fn param_record<'a, S, O: Octets, N: ToName>(
         config.nsec3param_ttl_mode.ttl(soa),
         params,
     ))
+}
+
+/// The octets of a hash, each of which is below 256.
+fn as_octets(hash: &[u8]) -> &[u8]
+    ensures same { result.now ≡ hash.now }
+    ensures octets { All (λ octet. octet < 256) result.now }
+{
+    hash
 }
 
 impl<'a, O: Octets> Nsec3Chain<'a, O> {
@@ -164,6 +173,18 @@ impl<'a, O: Octets> Nsec3Chain<'a, O> {
             return None;
         }
         Some(lend_record(&self.chain, place, self.ttl, &self.nsec3param))
+    }
+
+    /// The hash that the owner of the record at a place spells; None past the last one.
+    pub fn hash_at(&self, place: usize) -> Option<&[u8]>
+        ensures some { IfSome result (λ hash. (k : HashedLink)
+            × IsRecordOf self.now.param.owner self.now.links place k hash.now) }
+        ensures none { IfNone result (length self.now.links ≤ place) }
+    {
+        if place >= self.len() {
+            return None;
+        }
+        Some(as_octets(self.chain.hashed[place].hash.as_slice()))
     }
 }
 

@@ -1,4 +1,4 @@
-use Rattle.std.proofs.Common.{◌≡◌, ◌<◌, List, None, Ok, map, length, refl, sym, ap, ◌∙◌, subst, arith, inl, inr}
+use Rattle.std.proofs.Common.{◌≡◌, ◌<◌, List, None, Ok, map, length, sym, ap, ◌∙◌, subst, arith, inl, inr}
 use Rattle.std.specs.Prelude.{All}
 use Rattle.std.specs.List.Sorted.{IsStrictlySortedBy}
 use Rattle.std.specs.Ordering.{nat_cmp}
@@ -8,7 +8,6 @@ use Rattle.domain_base.specs.Words.{Name}
 use Rattle.domain_nsec3.specs.Steps.{Entry, HasAlikeNeighbours, IsFirstRefused, IsHashingFault, IsOrderedChain, chain_links, entries_of}
 use Rattle.domain_nsec3.specs.Faults.{hash_fault}
 use Rattle.domain_nsec3.specs.StepView.{as_hashed_entry, as_hashed_types}
-use Rattle.domain_records.specs.declared.error.Nsec3HashError.TheVariants.{CollisionDetected}
 use Rattle.domain_nsec3.specs.View.{hash_by, parameters_of}
 use Rattle.domain_nsec3.proofs.ChainLemmas.{moved_entries, hashed_entries, sound_hashes, some_items, hashes_of, ordered_chain}
 use Rattle.domain_nsec3.proofs.EntryLemmas.{entries_names, types_told}

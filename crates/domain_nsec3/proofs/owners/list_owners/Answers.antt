@@ -1,4 +1,4 @@
-use Rattle.std.proofs.Common.{◌≡◌, Bool, ◌∙◌, ◌&&◌, ◌++◌, ◌∷◌, [], true, false, not, sym, ap, map, subst, refl, Err}
+use Rattle.std.proofs.Common.{◌≡◌, Bool, ◌∙◌, ◌&&◌, [], true, false, not, sym, ap, map, subst, refl, Err}
 use Rattle.domain_octets.specs.Words.{Octets}
 use Rattle.domain_bitmap.specs.Bitmap.{bitmap_octets}
 use Rattle.domain_zone.specs.Owners.{OwnerRecords}
