@@ -5,8 +5,8 @@ use Rattle.std.specs.declared.cmp.Ordering.{Ordering}
 use Rattle.domain_base.specs.Words.{Name}
 use Rattle.domain_nsec.specs.declared.config.GenerateNsecConfig.{GenerateNsecConfig}
 use Rattle.domain_nsec3.specs.Config.{ChainConfig}
-use Rattle.domain_dnssec.specs.AnyOrder.{Sorts, HasNoSet, HasNoChain, chain_error_of}
-use Rattle.domain_dnssec.specs.AnyOrderNsec3.{HasNoHashedChain}
+use Rattle.domain_dnssec.specs.AnyOrder.{Sorts, HasNoSet, HasNoChain, HasNoSortedChain, chain_error_of}
+use Rattle.domain_dnssec.specs.AnyOrderNsec3.{HasNoHashedChain, HasNoSortedHashedChain}
 use Rattle.domain_nsec3.specs.Faults.{IsFirstFault as IsFirstHashedFault}
 use Rattle.domain_nsec.specs.Chain.{IsFirstFault}
 use Rattle.domain_records.specs.Order.{IsOneClass}
@@ -26,42 +26,52 @@ pub if_err : {X E : Type 0} (P Q : E → Type 0) → ((e : E) → P e → Q e) �
 if_err P Q f (Ok x) h = tt
 if_err P Q f (Err e) h = f e h
 
-module _ {N D : Type 0} (labels : N → Name) (rtype_of : D → ℕ) (minimum_of : D → Option ℕ) (data_cmp : D → D → Ordering)
-    (given : List (Record N D)) (apex : Name) (config : GenerateNsecConfig) where
-  -- what has no sorted set of one class has no chain
-  pub no_set : (e : ChainError) → HasNoSet given e → HasNoChain labels rtype_of minimum_of data_cmp given apex config e
-  no_set MixedClasses h = h
-  no_set (Signing e) h = absurd h
-  no_set OutOfMemory h = h
+-- a fault of the zone of sorted records of one class is why they have no chain
+module _ {N D : Type 0} (labels : N → Name) (rtype_of : D → ℕ) (minimum_of : D → Option ℕ) (sorted : List (Record N D)) (one : IsOneClass sorted)
+    (apex : Name) where
+  pub no_sorted_chain : (config : GenerateNsecConfig) (e : SigningError) → IsFirstFault (zone_of labels rtype_of minimum_of sorted) apex config e
+      → HasNoSortedChain labels rtype_of minimum_of sorted apex config (chain_error_of e)
+  no_sorted_chain config EmptyRecordSlice h = absurd h
+  no_sorted_chain config MultipleTtlValues h = record { one_class = one; fault = h; told = λ q. cc }
+  no_sorted_chain config SoaRecordCouldNotBeDetermined h = record { one_class = one; fault = h; told = λ q. cc }
+  no_sorted_chain config (Nsec3HashingError n) h = absurd h
+  no_sorted_chain config NoMemory h = h
 
-  -- nor has it where the zone of the sorted set has a fault
-  pub no_chain : (sorted : List (Record N D)) → Sorts labels rtype_of data_cmp given sorted → IsOneClass sorted
-      → (e : SigningError) → IsFirstFault (zone_of labels rtype_of minimum_of sorted) apex config e
-      → HasNoChain labels rtype_of minimum_of data_cmp given apex config (chain_error_of e)
-  no_chain sorted sorts one EmptyRecordSlice h = absurd h
-  no_chain sorted sorts one MultipleTtlValues h =
-      record { sorted = sorted; sorts = sorts; fault = record { one_class = one; fault = h; told = λ q. cc } }
-  no_chain sorted sorts one SoaRecordCouldNotBeDetermined h =
-      record { sorted = sorted; sorts = sorts; fault = record { one_class = one; fault = h; told = λ q. cc } }
-  no_chain sorted sorts one (Nsec3HashingError n) h = absurd h
-  no_chain sorted sorts one NoMemory h = (classes_kept labels rtype_of minimum_of data_cmp given sorted sorts).0 one
-
-module _ {N D : Type 0} (labels : N → Name) (rtype_of : D → ℕ) (minimum_of : D → Option ℕ) (data_cmp : D → D → Ordering)
-    (given : List (Record N D)) (apex : Name) (config : ChainConfig) where
   -- the same of a chain of hashes
-  pub no_hashed_set : (e : ChainError) → HasNoSet given e → HasNoHashedChain labels rtype_of minimum_of data_cmp given apex config e
-  no_hashed_set MixedClasses h = h
-  no_hashed_set (Signing e) h = absurd h
-  no_hashed_set OutOfMemory h = h
+  pub no_sorted_hashed_chain : (config : ChainConfig) (e : SigningError)
+      → IsFirstHashedFault (zone_of labels rtype_of minimum_of sorted) apex config e
+      → HasNoSortedHashedChain labels rtype_of minimum_of sorted apex config (chain_error_of e)
+  no_sorted_hashed_chain config EmptyRecordSlice h = absurd h
+  no_sorted_hashed_chain config MultipleTtlValues h = record { one_class = one; fault = h; told = λ q. cc }
+  no_sorted_hashed_chain config SoaRecordCouldNotBeDetermined h = record { one_class = one; fault = h; told = λ q. cc }
+  no_sorted_hashed_chain config (Nsec3HashingError n) h = record { one_class = one; fault = h; told = λ q. cc }
+  no_sorted_hashed_chain config NoMemory h = h
 
-  pub no_hashed_chain : (sorted : List (Record N D)) → Sorts labels rtype_of data_cmp given sorted → IsOneClass sorted
-      → (e : SigningError) → IsFirstHashedFault (zone_of labels rtype_of minimum_of sorted) apex config e
-      → HasNoHashedChain labels rtype_of minimum_of data_cmp given apex config (chain_error_of e)
-  no_hashed_chain sorted sorts one EmptyRecordSlice h = absurd h
-  no_hashed_chain sorted sorts one MultipleTtlValues h =
-      record { sorted = sorted; sorts = sorts; fault = record { one_class = one; fault = h; told = λ q. cc } }
-  no_hashed_chain sorted sorts one SoaRecordCouldNotBeDetermined h =
-      record { sorted = sorted; sorts = sorts; fault = record { one_class = one; fault = h; told = λ q. cc } }
-  no_hashed_chain sorted sorts one (Nsec3HashingError n) h =
-      record { sorted = sorted; sorts = sorts; fault = record { one_class = one; fault = h; told = λ q. cc } }
-  no_hashed_chain sorted sorts one NoMemory h = (classes_kept labels rtype_of minimum_of data_cmp given sorted sorts).0 one
+module _ {N D : Type 0} (labels : N → Name) (rtype_of : D → ℕ) (minimum_of : D → Option ℕ) (data_cmp : D → D → Ordering)
+    (given : List (Record N D)) (apex : Name) where
+  -- what has no sorted set of one class has no chain
+  pub no_set : (config : GenerateNsecConfig) (e : ChainError) → HasNoSet given e
+      → HasNoChain labels rtype_of minimum_of data_cmp given apex config e
+  no_set config MixedClasses h = h
+  no_set config (Signing e) h = absurd h
+  no_set config OutOfMemory h = h
+
+  pub no_hashed_set : (config : ChainConfig) (e : ChainError) → HasNoSet given e
+      → HasNoHashedChain labels rtype_of minimum_of data_cmp given apex config e
+  no_hashed_set config MixedClasses h = h
+  no_hashed_set config (Signing e) h = absurd h
+  no_hashed_set config OutOfMemory h = h
+
+  -- nor has it where the sorted set has none
+  module _ (sorted : List (Record N D)) (sorts : Sorts labels rtype_of data_cmp given sorted) (one : IsOneClass sorted) where
+    pub no_chain : (config : GenerateNsecConfig) (e : ChainError) → HasNoSortedChain labels rtype_of minimum_of sorted apex config e
+        → HasNoChain labels rtype_of minimum_of data_cmp given apex config e
+    no_chain config MixedClasses h = absurd h
+    no_chain config (Signing e) h = record { sorted = sorted; sorts = sorts; fault = h }
+    no_chain config OutOfMemory h = (classes_kept labels rtype_of minimum_of data_cmp given sorted sorts).0 one
+
+    pub no_hashed_chain : (config : ChainConfig) (e : ChainError) → HasNoSortedHashedChain labels rtype_of minimum_of sorted apex config e
+        → HasNoHashedChain labels rtype_of minimum_of data_cmp given apex config e
+    no_hashed_chain config MixedClasses h = absurd h
+    no_hashed_chain config (Signing e) h = record { sorted = sorted; sorts = sorts; fault = h }
+    no_hashed_chain config OutOfMemory h = (classes_kept labels rtype_of minimum_of data_cmp given sorted sorts).0 one

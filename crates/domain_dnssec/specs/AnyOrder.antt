@@ -8,7 +8,7 @@ use Rattle.domain_records.specs.SortedSet.{IsUnion}
 use Rattle.domain_records.specs.declared.error.SigningError.{SigningError}
 use Rattle.domain_records.specs.declared.error.SigningError.TheVariants as signing_error
 use Rattle.domain_base.specs.Words.{Name}
-use Rattle.domain_nsec.specs.Chain.{Link, IsChain, IsFirstFault}
+use Rattle.domain_nsec.specs.Chain.{Link, IsChain, IsFaultless, IsFirstFault}
 use Rattle.domain_zone.specs.View.{zone_of}
 use Rattle.domain_nsec.specs.declared.config.GenerateNsecConfig.{GenerateNsecConfig}
 use Rattle.domain_dnssec.specs.declared.chain.ChainError.{ChainError}
@@ -47,6 +47,13 @@ module _ {N D : Type 0} (labels : N → Name) (rtype_of : D → ℕ) (minimum_of
     pub one_class : IsOneClass sorted
     pub fault : IsFirstFault (zone_of labels rtype_of minimum_of sorted) apex config error
     pub told : error ≢ signing_error.OutOfMemory
+
+  -- why sorted records of one class have no chain; want of memory says that their zone has no fault
+  abbrev pub HasNoSortedChain : List (Record N D) → Name → GenerateNsecConfig → ChainError → Type 0
+  HasNoSortedChain sorted apex config MixedClasses = ⊥
+  HasNoSortedChain sorted apex config (Signing e) = IsSortedFault sorted apex config e
+  HasNoSortedChain sorted apex config OutOfMemory =
+      IsFaultless (zone_of labels rtype_of minimum_of sorted) apex config
 
 module _ {N D : Type 0} (labels : N → Name) (rtype_of : D → ℕ) (data_cmp : D → D → Ordering) where
   -- sorted is the sorted set of the records that were given, with the earliest of equal ones

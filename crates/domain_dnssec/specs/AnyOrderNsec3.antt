@@ -8,7 +8,7 @@ use Rattle.domain_records.specs.declared.error.SigningError.TheVariants as signi
 use Rattle.domain_base.specs.Words.{Name}
 use Rattle.domain_nsec3.specs.Chain.{HashedLink, IsChainParam, IsHashedChain, ParamRecord}
 use Rattle.domain_nsec3.specs.Config.{ChainConfig}
-use Rattle.domain_nsec3.specs.Faults.{IsFirstFault}
+use Rattle.domain_nsec3.specs.Faults.{IsFirstFault, IsReady}
 use Rattle.domain_zone.specs.View.{zone_of}
 use Rattle.domain_nsec3.specs.declared.config.Nsec3ParamTtlMode.{Nsec3ParamTtlMode}
 use Rattle.domain_dnssec.specs.AnyOrder.{AreMixed, Sorts}
@@ -31,6 +31,14 @@ module _ {N D : Type 0} (labels : N → Name) (rtype_of : D → ℕ) (minimum_of
     pub one_class : IsOneClass sorted
     pub fault : IsFirstFault (zone_of labels rtype_of minimum_of sorted) apex config error
     pub told : error ≢ signing_error.OutOfMemory
+
+  -- why sorted records of one class have no chain; want of memory says that their zone has no fault
+  -- but, where it has one, a fault of hashing
+  abbrev pub HasNoSortedHashedChain : List (Record N D) → Name → ChainConfig → ChainError → Type 0
+  HasNoSortedHashedChain sorted apex config MixedClasses = ⊥
+  HasNoSortedHashedChain sorted apex config (Signing e) = IsSortedHashedFault sorted apex config e
+  HasNoSortedHashedChain sorted apex config OutOfMemory =
+      IsReady (zone_of labels rtype_of minimum_of sorted) apex config
 
 module _ {N D : Type 0} (labels : N → Name) (rtype_of : D → ℕ) (minimum_of : D → Option ℕ)
     (data_cmp : D → D → Ordering) where

@@ -2,7 +2,7 @@
 ghost use Rattle.std.specs.Prelude.{IfErr, IfOk};
 ghost use Rattle.domain_records.specs.Order.{IsOneClass};
 ghost use Rattle.domain_nsec.specs.ChainView.{links_of};
-ghost use Rattle.domain_dnssec.specs.AnyOrder.{HasNoChain, HasNoSet, IsChainOf, Sorts};
+ghost use Rattle.domain_dnssec.specs.AnyOrder.{HasNoChain, HasNoSet, HasNoSortedChain, IsChainOf, IsSortedChain, Sorts};
 
 use crate::chain::ChainError;
 use crate::laws::sorting_keeps_classes_and_records;
@@ -37,6 +37,34 @@ where
     Ok(sorted)
 }
 
+/// The NSEC chain of the zone that sorted records are.
+///
+/// # Errors
+///
+/// `Signing` with the first fault of the zone; and `OutOfMemory`, only where it has none.
+fn nsecs_of_sorted<O, N: MakeName, D: ZoneData + CanonicalOrd>(
+    alloc: Global,
+    apex: &N,
+    sorted: &SortedRecords<N, D>,
+    config: &GenerateNsecConfig,
+) -> Result<Vec<Record<N, Nsec<O, N>>>, ChainError>
+where
+    N: Drop,
+    D: Drop,
+    O: FromBuilder + Drop,
+    O::Builder: GrowingBuilder + EmptyBuilder + Truncate + FreezeBuilder<Frozen = O> + Drop,
+    requires { IsOneClass sorted.now }
+    ensures ok { IfOk result (λ nsecs. IsSortedChain N.labels D.rtype D.minimum sorted.now
+        (N.labels apex.now) config.now (links_of N.labels nsecs.items)) }
+    ensures err { IfErr result (HasNoSortedChain N.labels D.rtype D.minimum sorted.now
+        (N.labels apex.now) config.now) }
+{
+    match generate_nsecs(alloc, apex, sorted.owner_rrs(), config) {
+        Ok(nsecs) => Ok(nsecs),
+        Err(error) => Err(ChainError::from(error)),
+    }
+}
+
 /// The NSEC chain of the zone that records in any order are: they are sorted, and of equal records
 /// the earliest is kept.
 ///
@@ -65,8 +93,5 @@ where
         Ok(sorted) => sorted,
         Err(error) => return Err(error),
     };
-    match generate_nsecs(alloc, apex, sorted.owner_rrs(), config) {
-        Ok(nsecs) => Ok(nsecs),
-        Err(error) => Err(ChainError::from(error)),
-    }
+    nsecs_of_sorted(alloc, apex, &sorted, config)
 }

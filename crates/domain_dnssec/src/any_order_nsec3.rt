@@ -1,7 +1,8 @@
 //! NSEC3 chains of records that are sorted first.
 ghost use Rattle.std.specs.Prelude.{IfErr, IfOk};
+ghost use Rattle.domain_records.specs.Order.{IsOneClass};
 ghost use Rattle.domain_nsec3.specs.View.{as_param_record, config_of, hashed_links_of};
-ghost use Rattle.domain_dnssec.specs.AnyOrderNsec3.{HasNoHashedChain, IsHashedChainOf};
+ghost use Rattle.domain_dnssec.specs.AnyOrderNsec3.{HasNoHashedChain, HasNoSortedHashedChain, IsHashedChainOf, IsSortedHashedChain};
 
 use crate::any_order::sort_one_class;
 use crate::chain::ChainError;
@@ -9,9 +10,41 @@ use domain_base::{CanonicalOrd, MakeName};
 use domain_nsec3::{GenerateNsec3Config, Nsec3Records, generate_nsec3s};
 use domain_octets::{EmptyBuilder, FreezeBuilder, FromBuilder, GrowingBuilder, Truncate};
 use domain_plain::{Record, ZoneData};
-use domain_records::Sorter;
+use domain_records::{SortedRecords, Sorter};
 use domain_zone::Nsec3Hasher;
 use std::alloc::Global;
+
+/// The NSEC3 chain of the zone that sorted records are, with its NSEC3PARAM record.
+///
+/// # Errors
+///
+/// `Signing` with the first fault of the zone; and `OutOfMemory`, only where it has none but, where
+/// it has one, a fault of hashing.
+fn nsec3s_of_sorted<S: Sorter, H: Nsec3Hasher, O, N: MakeName, D: ZoneData + CanonicalOrd>(
+    alloc: Global,
+    apex: &N,
+    sorted: &SortedRecords<N, D>,
+    config: &GenerateNsec3Config<O, S>,
+    hasher: &H,
+) -> Result<Nsec3Records<N, O>, ChainError>
+where
+    N: Drop,
+    D: Drop,
+    O: FromBuilder + Drop,
+    O::Builder: GrowingBuilder + EmptyBuilder + Truncate + FreezeBuilder<Frozen = O> + Drop,
+    requires { IsOneClass sorted.now }
+    ensures ok { IfOk result (λ made. IsSortedHashedChain N.labels D.rtype D.minimum sorted.now
+        (N.labels apex.now) (config_of (H.answer hasher.now) config.now)
+        config.now.nsec3param_ttl_mode (hashed_links_of N.labels made.nsec3s.items)
+        (as_param_record N.labels made.nsec3param)) }
+    ensures err { IfErr result (HasNoSortedHashedChain N.labels D.rtype D.minimum sorted.now
+        (N.labels apex.now) (config_of (H.answer hasher.now) config.now)) }
+{
+    match generate_nsec3s(alloc, apex, sorted.owner_rrs(), config, hasher) {
+        Ok(made) => Ok(made),
+        Err(error) => Err(ChainError::from(error)),
+    }
+}
 
 /// The NSEC3 chain of the zone that records in any order are, with its NSEC3PARAM record: they are
 /// sorted, and of equal records the earliest is kept.
@@ -49,8 +82,5 @@ where
         Ok(sorted) => sorted,
         Err(error) => return Err(error),
     };
-    match generate_nsec3s(alloc, apex, sorted.owner_rrs(), config, hasher) {
-        Ok(made) => Ok(made),
-        Err(error) => Err(ChainError::from(error)),
-    }
+    nsec3s_of_sorted(alloc, apex, &sorted, config, hasher)
 }

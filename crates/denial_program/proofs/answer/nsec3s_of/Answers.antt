@@ -1,7 +1,8 @@
 use Rattle.std.proofs.Common.{List, refl, rules, subst}
 use Rattle.domain_zone.specs.View.{zone_of}
 use Rattle.domain_nsec3.specs.Chain.{IsChainParam, IsHashedChain}
-use Rattle.domain_nsec3.specs.Faults.{IsFirstFault}
+use Rattle.domain_nsec3.specs.Faults.{IsFirstFault, IsReady}
+use Rattle.domain_nsec3.specs.View.{config_of}
 use Rattle.domain_nsec3.specs.declared.config.Nsec3ParamTtlMode.TheVariants.{Soa}
 use Rattle.domain_dnssec.specs.declared.chain.ChainError.TheVariants.{Signing, OutOfMemory}
 use Rattle.domain_lent.specs.Data.{minimum_of, RawRecord}
@@ -62,6 +63,7 @@ returns g c =
           };
         };
       };
+      memory = λ is. cc;
     }
 
 pub returns-in-Err-OutOfMemory-clause-err : goal.returns-in-Err-OutOfMemory-clause-err
@@ -70,3 +72,16 @@ returns-in-Err-OutOfMemory-clause-err g c = λ given sorts. record {
   is = refl;
   none = given_one_class given c.args.sorted.now sorts c.requires.one_class;
 }
+
+pub returns-in-Err-OutOfMemory-clause-memory : goal.returns-in-Err-OutOfMemory-clause-memory
+returns-in-Err-OutOfMemory-clause-memory g c = λ is.
+    let answers = g.H.Nsec3Hasher.answer c.args.hasher.now in
+    let apex = c.args.apex.now in
+    let same = usual_is answers c.new-config.result c.args.parameters c.new-config.ensures.params c.new-config.ensures.dnskeys
+    c.new-config.ensures.excludes c.new-config.ensures.dnames in
+    let zone = zone_of (λ n. n) (λ d. d.rtype) minimum_of c.new_from_owned.result in
+    let first = subst (λ e. IsFirstFault zone apex (config_of answers c.new-config.result) e) c.in-Err-OutOfMemory.field-0-is
+    c.in-Err-OutOfMemory.ensures.fault in
+    subst (λ (xs : List RawRecord). IsReady (zone_of (λ n. n) (λ d. d.rtype) minimum_of xs) apex (usual_nsec3_config answers c.args.parameters))
+    c.new_from_owned.ensures
+    (subst (λ k. IsReady zone apex k) same first)

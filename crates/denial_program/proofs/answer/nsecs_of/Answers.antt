@@ -1,6 +1,6 @@
 use Rattle.std.proofs.Common.{List, refl, rules, subst}
 use Rattle.domain_zone.specs.View.{zone_of}
-use Rattle.domain_nsec.specs.Chain.{usual_config, IsChain, IsFirstFault}
+use Rattle.domain_nsec.specs.Chain.{usual_config, IsChain, IsFaultless, IsFirstFault}
 use Rattle.domain_dnssec.specs.declared.chain.ChainError.TheVariants.{Signing, OutOfMemory}
 use Rattle.domain_lent.specs.Data.{minimum_of, RawRecord}
 use Rattle.denial_program.proofs.AnswerLemmas.{given_one_class}
@@ -42,6 +42,7 @@ returns-in-Err c = record {
       };
     };
   };
+  memory = λ is. cc;
 }
 
 pub returns-in-Err-OutOfMemory-clause-err : goal.returns-in-Err-OutOfMemory-clause-err
@@ -50,3 +51,10 @@ returns-in-Err-OutOfMemory-clause-err c = λ given sorts. record {
   is = refl;
   none = given_one_class given c.args.sorted.now sorts c.requires.one_class;
 }
+
+pub returns-in-Err-OutOfMemory-clause-memory : goal.returns-in-Err-OutOfMemory-clause-memory
+returns-in-Err-OutOfMemory-clause-memory c = λ is.
+    let zone = zone_of (λ n. n) (λ d. d.rtype) minimum_of c.new_from_owned.result in
+    let first = subst (λ e. IsFirstFault zone c.args.apex.now c.new-config.result e) c.in-Err-OutOfMemory.field-0-is c.in-Err-OutOfMemory.ensures.fault in
+    subst (λ (xs : List RawRecord). IsFaultless (zone_of (λ n. n) (λ d. d.rtype) minimum_of xs) c.args.apex.now usual_config) c.new_from_owned.ensures
+    (subst (λ config. IsFaultless zone c.args.apex.now config) c.new-config.ensures first)

@@ -1,5 +1,4 @@
 use Rattle.std.proofs.Common.{refl, ◌∙◌, subst}
-use Rattle.domain_plain.specs.declared.record.Record.{Record}
 use Rattle.domain_records.specs.Order.{IsOneClass}
 use Rattle.domain_dnssec.proofs.any_order.sort_one_class.Goals as goal
 

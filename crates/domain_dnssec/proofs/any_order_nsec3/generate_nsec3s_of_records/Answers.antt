@@ -1,10 +1,6 @@
-use Rattle.std.proofs.Common.{sym, subst}
-use Rattle.domain_zone.specs.View.{zone_of}
-use Rattle.domain_nsec3.specs.Chain.{IsChainParam, IsHashedChain}
-use Rattle.domain_nsec3.specs.Faults.{IsFirstFault}
 use Rattle.domain_nsec3.specs.View.{as_param_record, config_of, hashed_links_of}
-use Rattle.domain_dnssec.specs.AnyOrderNsec3.{HasNoHashedChain}
-use Rattle.domain_dnssec.proofs.AnyOrderLemmas.{no_hashed_set, no_hashed_chain}
+use Rattle.domain_dnssec.specs.AnyOrderNsec3.{HasNoHashedChain, HasNoSortedHashedChain, IsHashedChainOf, IsSortedHashedChain}
+use Rattle.domain_dnssec.proofs.AnyOrderLemmas.{if_ok, if_err, no_hashed_set, no_hashed_chain}
 use Rattle.domain_dnssec.proofs.any_order_nsec3.generate_nsec3s_of_records.Goals as goal
 
 pub returns-in-Err-clause-err : goal.returns-in-Err-clause-err
@@ -18,29 +14,24 @@ returns-clause-err g c =
     let rtype = g.D.RecordData.rtype in
     let minimum = g.D.ZoneData.minimum in
     let compare = g.D.CanonicalOrd.canonical_cmp in
+    let given = c.args.records.items in
     let a = labels c.args.apex.now in
     let config = config_of (g.H.Nsec3Hasher.answer c.args.hasher.now) c.args.config.now in
-    let e = c.in-Err-generate_nsec3s.error in
-    let fault = subst (λ rs. IsFirstFault (zone_of labels rtype minimum rs) a config e) c.owner_rrs.ensures.records c.in-Err-generate_nsec3s.ensures.fault in
-    subst (HasNoHashedChain labels rtype minimum compare c.args.records.items a config) (sym c.from.ensures)
-    (no_hashed_chain labels rtype minimum compare c.args.records.items a config c.in-Ok.sorted c.in-Ok.ensures.sorts c.in-Ok.ensures.one_class e fault)
+    if_err (HasNoSortedHashedChain labels rtype minimum c.in-Ok.sorted a config) (HasNoHashedChain labels rtype minimum compare given a config)
+    (no_hashed_chain labels rtype minimum compare given a c.in-Ok.sorted c.in-Ok.ensures.sorts c.in-Ok.ensures.one_class config)
+    c.nsec3s_of_sorted.result c.nsec3s_of_sorted.ensures.err
 
-pub returns-in-Ok-generate_nsec3s-clause-ok : goal.returns-in-Ok-generate_nsec3s-clause-ok
-returns-in-Ok-generate_nsec3s-clause-ok g c =
+pub returns-clause-ok : goal.returns-clause-ok
+returns-clause-ok g c =
     let labels = g.N.ToName.labels in
+    let rtype = g.D.RecordData.rtype in
+    let minimum = g.D.ZoneData.minimum in
     let a = labels c.args.apex.now in
     let config = config_of (g.H.Nsec3Hasher.answer c.args.hasher.now) c.args.config.now in
-    let made = c.in-Ok-generate_nsec3s.made in
-    let links = hashed_links_of {O = g.row.O.Denot} labels c.in-Ok-generate_nsec3s.made.nsec3s.items in
     let mode = c.args.config.now.nsec3param_ttl_mode in
-    record {
-      sorted = c.in-Ok.sorted;
-      sorts = c.in-Ok.ensures.sorts;
-      chain = record {
-        one_class = c.in-Ok.ensures.one_class;
-        chain = subst (λ rs. IsHashedChain (zone_of labels g.D.RecordData.rtype g.D.ZoneData.minimum rs) a config links)
-            c.owner_rrs.ensures.records c.in-Ok-generate_nsec3s.ensures.chain;
-        told = subst (λ rs. IsChainParam (zone_of labels g.D.RecordData.rtype g.D.ZoneData.minimum rs) a config mode (as_param_record labels made.nsec3param))
-            c.owner_rrs.ensures.records c.in-Ok-generate_nsec3s.ensures.param;
-      };
-    }
+    if_ok (λ made. IsSortedHashedChain labels rtype minimum c.in-Ok.sorted a config mode (hashed_links_of {O = g.row.O.Denot} labels made.nsec3s.items)
+    (as_param_record labels made.nsec3param))
+    (λ made. IsHashedChainOf labels rtype minimum g.D.CanonicalOrd.canonical_cmp c.args.records.items a config mode
+    (hashed_links_of {O = g.row.O.Denot} labels made.nsec3s.items) (as_param_record labels made.nsec3param))
+    (λ made chain. record { sorted = c.in-Ok.sorted; sorts = c.in-Ok.ensures.sorts; chain = chain })
+    c.nsec3s_of_sorted.result c.nsec3s_of_sorted.ensures.ok

@@ -1,6 +1,5 @@
 use Rattle.std.proofs.Common.{◌∙◌, subst}
 use Rattle.domain_checker.specs.Verdict.{IsProved}
-use Rattle.domain_zone.specs.View.{zone_of}
 use Rattle.std.proofs.lemmas.List.Elements.{All-contains_itself}
 use Rattle.domain_dnssec.proofs.laws.verdicts_tell_of_records.Goals as goal
 
