@@ -1,2 +1,7 @@
-pub mod SearchLemmas
+pub mod HashSearchLemmas
+pub mod HashedDenyLemmas
+pub mod HashedPickLemmas
 pub mod PickLemmas
+pub mod PlacedLemmas
+pub mod SearchLemmas
+pub mod SomeLemmas

@@ -1,21 +1,19 @@
 -- Where a search in a chain ends, the record matches or covers the name.
-use Rattle.std.proofs.Common.{◌≡◌, ℕ, zero, suc, ◌+◌, ◌-◌, ◌<◌, ◌≤◌, Bool, true, false, cond, not, ◌&&◌, ◌||◌, List, [], ◌∷◌, map, length}
-use Rattle.std.proofs.Common.{get_or, slice_get, Some, refl, sym, ap, ◌∙◌, subst, arith, inl, inr, ◌⊎◌, add-one}
-use Rattle.std.proofs.lemmas.Bool.{cases_Bool, cases_lt, false≢true, and_parts}
+use Rattle.std.proofs.Common.{◌≡◌, ℕ, zero, suc, ◌-◌, ◌<◌, ◌≤◌, Bool, true, false, cond, not, ◌&&◌, ◌||◌, List, [], ◌∷◌, map, length}
+use Rattle.std.proofs.Common.{get_or, slice_get, Some, refl, sym, ap, ◌∙◌, subst, arith, inl, inr, ◌⊎◌}
+use Rattle.std.proofs.lemmas.Bool.{cases_lt, false≢true, and_parts}
 use Rattle.std.proofs.lemmas.Option.{slice_get-get_or}
-use Rattle.domain_base.specs.Name.{is_at_or_below, same_name}
+use Rattle.domain_base.specs.Name.{is_at_or_below}
 use Rattle.domain_base.specs.Order.{before}
 use Rattle.domain_base.specs.Words.{Name}
 use Rattle.domain_zone.specs.Covering.{matches_or_covers, pairs}
-use Rattle.domain_zone.specs.Zone.{OwnersNeverDescend, ZoneRecord, unoccluded_owners}
+use Rattle.domain_zone.specs.Zone.{ZoneRecord, unoccluded_owners}
 use Rattle.domain_zone.proofs.NameLemmas.{below_from, before_right, one_lowered}
-use Rattle.domain_nsec.specs.Chain.{IsChain, Link}
-use Rattle.domain_nsec.specs.Meaning.{IsCycle}
+use Rattle.domain_nsec.specs.Chain.{Link}
 use Rattle.domain_nsec.specs.declared.config.GenerateNsecConfig.{GenerateNsecConfig}
-use Rattle.domain_checker.specs.Verdict.{is_inside}
-use Rattle.domain_checker.proofs.FindLemmas.{In, in_at}
+use Rattle.domain_checker.proofs.FindLemmas.{in_at}
 use Rattle.domain_checker.proofs.ListLemmas.{ChainLaws}
-use Rattle.domain_answer.proofs.ChainLemmas.{IsMeant, inside, meant_by}
+use Rattle.domain_answer.proofs.ChainLemmas.{inside, meant_by}
 use Rattle.domain_denier.specs.Picked.{IsOf, IsWhole}
 
 abbrev pub ends : Link → Name × Name

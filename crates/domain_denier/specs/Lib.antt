@@ -1,1 +1,3 @@
+pub mod HashedPicked
+pub mod HashedSteps
 pub mod Picked

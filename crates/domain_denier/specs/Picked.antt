@@ -20,11 +20,11 @@ pub record IsOf (links : List Link) (place : ℕ) (x : Name) : Type 0 where
   pub says : matches_or_covers before link.owner link.next x ≡ true
 
 -- the link at a place, where one is given
-abbrev pub listed_option : Option Link → List Link
+abbrev pub listed_option : {X : Type 0} → Option X → List X
 listed_option None = []
 listed_option (Some k) = k ∷ []
 
-abbrev pub at_place : List Link → Option ℕ → List Link
+abbrev pub at_place : {X : Type 0} → List X → Option ℕ → List X
 at_place links None = []
 at_place links (Some place) = listed_option (slice_get links place)
 

@@ -7,9 +7,10 @@
 //! `Nsec3Chain::generate` give the same chains before their records are made: these lend them one
 //! by one, in less memory. `check_nsec` and `check_nsec3` say what records of a chain prove of a
 //! name and a type, `judge_nsec` and `judge_nsec3` what they answer as a whole: a name error, no
-//! data, a delegation, an alias, what a wildcard does; `deny_nsec` picks the records of a chain
-//! that a server answers with. What the contracts cite stands in `specs/` of `domain_zone`,
-//! `domain_nsec`, `domain_nsec3`, `domain_checker`, `domain_answer`, `domain_denier` and this crate.
+//! data, a delegation, an alias, what a wildcard does; `deny_nsec` and `deny_nsec3` pick the records
+//! of a chain that a server answers with. What the contracts cite stands in `specs/` of
+//! `domain_zone`, `domain_nsec`, `domain_nsec3`, `domain_checker`, `domain_answer`, `domain_denier`
+//! and this crate.
 //! What signatures here name is handed on: names, types, classes, TTLs, records and their
 //! data, builders of octets, sorted records, and the errors.
 #![tactic(auto)]
@@ -32,7 +33,7 @@ pub use domain_base::{
 };
 pub use domain_bitmap::{RtypeBitmap, RtypeBitmapBuilder, RtypeBitmaps};
 pub use domain_checker::{NsecCheck, Verdict, check_nsec, check_nsec3};
-pub use domain_denier::{NsecDenial, deny_nsec};
+pub use domain_denier::{Nsec3Denial, NsecDenial, deny_nsec, deny_nsec3};
 pub use domain_nsec::{GenerateNsecConfig, LentNsec, NsecChain, generate_nsecs};
 pub use domain_nsec3::{
     GenerateNsec3Config, HashedOwner, LentNsec3, Nsec3Chain, Nsec3ParamTtlMode, Nsec3Records,

@@ -1,10 +1,8 @@
-use Rattle.std.proofs.Common.{◌≡◌, ◌<◌, ℕ, List, [], ◌∷◌, Some, None, Bool, true, false, cond, not, length, refl, sym, ap, ◌∙◌, subst}
+use Rattle.std.proofs.Common.{◌≡◌, ◌<◌, Some, None, true, length, refl, sym, ap, ◌∙◌, subst}
 use Rattle.std.proofs.lemmas.List.{append-nil}
 use Rattle.domain_base.specs.Name.{is_at_or_below}
 use Rattle.domain_checker.proofs.ListLemmas.{ChainLaws}
-use Rattle.domain_answer.specs.declared.answer.Answer.TheVariants.{AtParent, NoCloserName, NotProven, OutsideZone}
 use Rattle.domain_answer.specs.Reading.{reading}
-use Rattle.domain_answer.specs.ZoneAnswer.{zone_answer}
 use Rattle.domain_denier.specs.Picked.{at_place}
 use Rattle.domain_denier.proofs.PickLemmas.{AnswerLaws, needs_both, needs_one, no_place, none_first, nothing_outside, one_place, one_says, zone_of_both}
 use Rattle.domain_denier.proofs.nsec.deny_nsec.Goals.{then-is_empty-via-then-is_empty, then-is_empty-via-else-is_empty+then-not-ends_with}

@@ -1,0 +1,255 @@
+-- What is picked of the NSEC3 chain of a zone is what its answer rests on, and no more.
+use Rattle.std.proofs.Common.{◌≡◌, ◌≢◌, ℕ, ◌<◌, Bool, true, false, cond, not, ◌&&◌, ◌||◌, List, [], length, Some, None, Option}
+use Rattle.std.proofs.Common.{slice_get, nat_eq, refl, sym, ap, ◌∙◌, subst, inl, inr, ◌⊎◌}
+use Rattle.std.specs.Prelude.{All, Ok}
+use Rattle.std.specs.List.{Contains, list_any}
+use Rattle.std.proofs.lemmas.Bool.{cases_Bool, eq-eqb, eqb-true, false≢true, and_parts, and_from}
+use Rattle.std.proofs.lemmas.List.Elements.{All-contains_itself}
+use Rattle.std.proofs.lemmas.Option.{get_or_from_slice_get, slice_get_within}
+use Rattle.domain_octets.specs.Words.{Octets}
+use Rattle.domain_base.specs.Name.{is_at_or_below, same_name}
+use Rattle.domain_base.specs.Words.{Name}
+use Rattle.domain_zone.specs.Enclosers.{IsClosestEncloser, exists_over}
+use Rattle.domain_zone.specs.Zone.{ZoneRecord, is_zone_cut}
+use Rattle.domain_zone.proofs.NameLemmas.{below_itself, below_longer, below_trans}
+use Rattle.domain_nsec3.specs.Chain.{ChainRecords, HashedLink, IsHashedChain}
+use Rattle.domain_nsec3.specs.Config.{ChainConfig, Hash, Parameters}
+use Rattle.domain_nsec3.specs.Meaning.{IsAlone, MirrorsZone}
+use Rattle.domain_nsec3.specs.Owners.{nsec3_lists, original_owners}
+use Rattle.domain_base.specs.Types.{dname}
+use Rattle.domain_checker.specs.HashedEncloser.{IsOfName}
+use Rattle.domain_checker.specs.HashedList.{is_hash_match}
+use Rattle.domain_checker.specs.HashedVerdict.{is_covered, is_matched, is_ok_with, next_closer}
+use Rattle.domain_checker.specs.Verdict.{closest_encloser}
+use Rattle.domain_checker.proofs.EncloserLemmas.{closest_is}
+use Rattle.domain_checker.proofs.FindLemmas.{any_in, any_none, find_none, in_any}
+use Rattle.domain_checker.proofs.HashedListLemmas.{hash_same}
+use Rattle.domain_answer.specs.declared.answer.Answer.{Answer}
+use Rattle.domain_answer.specs.declared.answer.Answer.TheVariants.{AtParent, NoCloserName, NotProven, OutsideZone}
+use Rattle.domain_answer.specs.HashedProved.{AreAskedAlone, IsHashedAnswered, hashed_proved_answer, needs_wildcard, tells_encloser, tells_wildcard}
+use Rattle.domain_answer.specs.HashedReading.{IsHashedRead}
+use Rattle.domain_answer.specs.HashedZoneAnswer.{HashedLeavesOutBelowDname, hashed_encloser, hashed_inside_answer, hashed_zone_answer}
+use Rattle.domain_answer.specs.Proved.{needs_no_records}
+use Rattle.domain_answer.specs.ZoneAnswer.{is_at_parent}
+use Rattle.domain_denier.specs.HashedPicked.{AreHashedNeeded, IsHashedWhole, hashed_picked, other_place, picked_without, without_records}
+use Rattle.domain_denier.specs.HashedSteps.{IsPickedRead, IsSoleMatch}
+use Rattle.domain_denier.specs.declared.nsec3.Nsec3Denial.{Nsec3Denial}
+use Rattle.domain_denier.proofs.SomeLemmas.{no_match, not_gone, three_contained, three_others}
+
+-- what the laws say
+pub record DenyLaws : Type 0 where
+  pub readings : (listed : List HashedLink) (a : Name) (p : Parameters) (hash : Hash) (x : Name) (t : ℕ) (answer : Answer) → t < 65536
+      → is_at_or_below x a ≡ true → is_at_parent a x t ≡ false → IsHashedRead listed a p hash x t answer
+      → IsHashedAnswered listed a p hash x t answer
+  pub whole : (L : List ZoneRecord) (a : Name) (config : ChainConfig) (links : List HashedLink) (x : Name) (t : ℕ)
+      → HashedLeavesOutBelowDname L a config → IsHashedChain L a config links → AreAskedAlone L a config x
+      → hashed_proved_answer L a config links x t ≡ hashed_zone_answer L a config x t
+  pub definite : (L : List ZoneRecord) (a : Name) (config : ChainConfig) (x : Name) (t : ℕ) → hashed_zone_answer L a config x t ≢ NotProven
+  pub closer : (L : List ZoneRecord) (a : Name) (config : ChainConfig) (x : Name) (t n : ℕ) → hashed_zone_answer L a config x t ≢ NoCloserName n
+  pub matches : (L : List ZoneRecord) (a : Name) (config : ChainConfig) (links : List HashedLink) → IsHashedChain L a config links
+      → (x : Name) (v : Octets) → is_at_or_below x a ≡ true → IsAlone L a config x v
+      → (k : HashedLink) → Contains links k → is_hash_match a config.parameters v k ≡ true → IsOfName L a config x k
+
+none_some : {X : Type 0} (x : X) → None ≡ Some x → ⊥
+none_some x e = absurd (cc)
+
+some_is : {X : Type 0} (x y : X) → Some x ≡ Some y → x ≡ y
+some_is x y e = cc
+
+-- where nothing is needed
+pub none_needed : (L : List ZoneRecord) (a : Name) (config : ChainConfig) (links : List HashedLink) (x : Name) (t : ℕ) (answer : Answer)
+    → AreHashedNeeded L a config links x t (without_records answer)
+none_needed L a config links x t answer = record {
+  name = λ place tells. elim tells [ inl e ↦ absurd (none_some place e) | inr e ↦ absurd (none_some place e) ];
+  wildcard = λ place e apart. absurd (none_some place e);
+}
+
+pub outside_is : (L : List ZoneRecord) (a : Name) (config : ChainConfig) (x : Name) (t : ℕ) → is_at_or_below x a ≡ false
+    → OutsideZone ≡ hashed_zone_answer L a config x t
+outside_is L a config x t e = sym (λ i. cond (not (e i)) OutsideZone (cond (is_at_parent a x t) AtParent (hashed_inside_answer L a config x t)))
+
+pub parent_is : (L : List ZoneRecord) (a : Name) (config : ChainConfig) (x : Name) (t : ℕ) → is_at_or_below x a ≡ true
+    → is_at_parent a x t ≡ true → AtParent ≡ hashed_zone_answer L a config x t
+parent_is L a config x t e f = sym (λ i. cond (not (e i)) OutsideZone (cond (f i) AtParent (hashed_inside_answer L a config x t)))
+
+-- then all lists prove that
+pub needless_proved : (L : List ZoneRecord) (a : Name) (config : ChainConfig) (listed : List HashedLink) (x : Name) (t : ℕ)
+    → needs_no_records a x t ≡ true → hashed_proved_answer L a config listed x t ≡ hashed_zone_answer L a config x t
+needless_proved L a config listed x t e =
+    λ i. cond (e i) (hashed_zone_answer L a config x t) (cond (not (tells_encloser L a config listed x)) NotProven
+    (cond (needs_wildcard L a config x && not (tells_wildcard L a config listed x)) (NoCloserName (length (hashed_encloser L a config x)))
+    (hashed_zone_answer L a config x t)))
+
+pub outside_needless : (a x : Name) (t : ℕ) → is_at_or_below x a ≡ false → needs_no_records a x t ≡ true
+outside_needless a x t e = λ i. not (e i) || is_at_parent a x t
+
+pub parent_needless : (a x : Name) (t : ℕ) → is_at_parent a x t ≡ true → needs_no_records a x t ≡ true
+parent_needless a x t e = (λ i. not (is_at_or_below x a) || e i) ∙ either (not (is_at_or_below x a))
+  where
+    either : (b : Bool) → (b || true) ≡ true
+    either true = refl
+    either false = refl
+
+-- a chain in which no other name has the hash of one at or below the apex has a record
+pub some_links : (L : List ZoneRecord) (a : Name) (config : ChainConfig) (links : List HashedLink) → MirrorsZone L a config links
+    → (x : Name) → is_at_or_below x a ≡ true → AreAskedAlone L a config x → links ≡ [] → ⊥
+some_links L a config links mirrors x low asked none =
+    let alone = asked.ancestors x (below_itself x) low in
+    let one = mirrors.each x alone.0 low alone.1 in
+    let there : slice_get [] one.place ≡ Some one.link = ap (λ ls. slice_get ls one.place) (sym none) ∙ one.is.there in
+    empty one.place one.link there
+  where
+    empty : (j : ℕ) (k : HashedLink) → slice_get [] j ≡ Some k → ⊥
+    empty j k e = absurd (cc)
+
+module _ (laws : DenyLaws) (L : List ZoneRecord) (a : Name) (config : ChainConfig) (links : List HashedLink)
+    (leaves : HashedLeavesOutBelowDname L a config) (chain : IsHashedChain L a config links) (x : Name) (t : ℕ) (small : t < 65536)
+    (low : is_at_or_below x a ≡ true) (parent : is_at_parent a x t ≡ false) (asked : AreAskedAlone L a config x) where
+  abbrev zone : Answer
+  zone = hashed_zone_answer L a config x t
+
+  abbrev en : Name
+  en = hashed_encloser L a config x
+
+  abbrev owners : List Name
+  owners = original_owners L a config
+
+  -- what some links prove is what they say
+  proved_is : (listed : List HashedLink) → All (Contains links) listed → (answer : Answer)
+      → IsHashedRead listed a config.parameters config.hash x t answer → answer ≡ hashed_proved_answer L a config listed x t
+  proved_is listed among answer read =
+      laws.readings listed a config.parameters config.hash x t answer small low parent read L config links refl refl leaves chain asked among
+
+  pub zone_is : (d : Nsec3Denial) → IsPickedRead links a config.parameters config.hash x t d → d.answer ≡ hashed_zone_answer L a config x t
+  zone_is d read = proved_is links (All-contains_itself links) d.answer read.whole ∙ laws.whole L a config links x t leaves chain asked
+
+  pub picked_proves : (d : Nsec3Denial) → IsPickedRead links a config.parameters config.hash x t d
+      → hashed_proved_answer L a config (hashed_picked links d) x t ≡ hashed_zone_answer L a config x t
+  picked_proves d read =
+      sym (proved_is (hashed_picked links d) (three_contained links d.of_encloser d.of_next_closer d.of_wildcard) d.answer read.picked)
+      ∙ zone_is d read
+
+  -- ---- without the record of the closest encloser
+
+  abbrev rest : List HashedLink → Answer
+  rest listed =
+      cond (needs_wildcard L a config x && not (tells_wildcard L a config listed x)) (NoCloserName (length (hashed_encloser L a config x)))
+      (hashed_zone_answer L a config x t)
+
+  inside_proved : (listed : List HashedLink) → hashed_proved_answer L a config listed x t ≡ cond (not (tells_encloser L a config listed x)) NotProven (rest listed)
+  inside_proved listed = λ i. cond (not (low i) || parent i) zone (cond (not (tells_encloser L a config listed x)) NotProven (rest listed))
+
+  untold : (listed : List HashedLink) → tells_encloser L a config listed x ≡ false → hashed_proved_answer L a config listed x t ≡ NotProven
+  untold listed e = inside_proved listed ∙ (λ i. cond (not (e i)) NotProven (rest listed))
+
+  whole_tells : tells_encloser L a config links x ≡ true
+  whole_tells =
+      elim (cases_Bool (tells_encloser L a config links x)) [
+        | inl e ↦ e
+        | inr e ↦ absurd (laws.definite L a config x t (sym (laws.whole L a config links x t leaves chain asked) ∙ untold links e))
+      ]
+
+  abbrev closes : List HashedLink → Bool
+  closes listed =
+      (same_name en x || is_zone_cut L a en || nsec3_lists L a config en dname)
+      || is_covered a config.parameters config.hash listed (next_closer x en)
+
+  encloser_matched : is_matched a config.parameters config.hash links (hashed_encloser L a config x) ≡ true
+  encloser_matched = (and_parts (is_matched a config.parameters config.hash links en) (closes links) whole_tells).0
+
+  module _ (place : ℕ) (sole : IsSoleMatch links a config.parameters config.hash x place) where
+    contained : Contains links sole.of.link
+    contained = (place, slice_get_within links place sole.of.link sole.of.there, get_or_from_slice_get links place sole.of.link sole.of.link sole.of.there)
+
+    alone : IsAlone L a config sole.name sole.value
+    alone =
+        let f = asked.ancestors sole.name sole.above sole.within in
+        let same : f.0 ≡ sole.value = let e : Ok f.0 ≡ Ok sole.value = sym f.1.known ∙ sole.known in cc in
+        subst (IsAlone L a config sole.name) same f.1
+
+    exists : exists_over (original_owners L a config) a sole.name ≡ true
+    exists = (laws.matches L a config links chain sole.name sole.value sole.within alone sole.of.link contained sole.of.matched).exists
+
+    apex_exists : exists_over (original_owners L a config) a a ≡ true
+    apex_exists =
+        let q = and_parts (is_at_or_below sole.name a) (list_any (λ n. is_at_or_below n sole.name) owners) exists in
+        let m = any_in (λ n. is_at_or_below n sole.name) owners q.1 in
+        and_from (is_at_or_below a a) (list_any (λ n. is_at_or_below n a) owners) (below_itself a)
+        (in_any (λ n. is_at_or_below n a) owners m.0 m.1 (below_trans m.0 sole.name a m.2 sole.within))
+
+    closest : IsClosestEncloser (original_owners L a config) a x (closest_encloser (original_owners L a config) a x)
+    closest = closest_is (original_owners L a config) a x apex_exists low
+
+    -- it is the name that is matched first
+    is_first : same_name (hashed_encloser L a config x) sole.name ≡ true
+    is_first =
+        let down = below_longer x en sole.name closest.above sole.above (closest.longest sole.name exists sole.above) in
+        elim (cases_Bool (same_name en sole.name)) [
+          | inl s ↦ s
+          | inr s ↦
+              let under = and_from (is_at_or_below en sole.name) (not (same_name en sole.name)) down (ap not s) in
+              absurd (false≢true (sym (sole.first en closest.above under).2 ∙ encloser_matched))
+        ]
+
+    unmatched_without : (d : Nsec3Denial) → is_matched a config.parameters config.hash (picked_without links place d) (hashed_encloser L a config x) ≡ false
+    unmatched_without d =
+        let listed = picked_without links place d in
+        let others = three_others links (other_place place d.of_encloser) (other_place place d.of_next_closer) (other_place place d.of_wildcard) place
+        (not_gone place d.of_encloser) (not_gone place d.of_next_closer) (not_gone place d.of_wildcard) in
+        ap (is_ok_with (λ v. list_any (is_hash_match a config.parameters v) listed)) (hash_same config.hash en sole.name is_first ∙ sole.known)
+        ∙ any_none (is_hash_match a config.parameters sole.value) listed
+        (find_none (is_hash_match a config.parameters sole.value) listed
+        (no_match links a config.parameters sole.value place true sole.of listed others))
+
+    without_encloser : (d : Nsec3Denial) → hashed_proved_answer L a config (picked_without links place d) x t ≡ NotProven
+    without_encloser d =
+        untold (picked_without links place d) (λ i. unmatched_without d i && closes (picked_without links place d))
+
+  -- ---- each is needed
+
+  without_contained : (place : ℕ) (d : Nsec3Denial) → All (Contains links) (picked_without links place d)
+  without_contained place d = three_contained links (other_place place d.of_encloser) (other_place place d.of_next_closer) (other_place place d.of_wildcard)
+
+  pub needed_is : (d : Nsec3Denial) → IsPickedRead links a config.parameters config.hash x t d → AreHashedNeeded L a config links x t d
+  needed_is d read = record {
+    name = λ place tells. elim tells [
+      | inl e ↦ without_encloser place (read.encloser place e) d
+      | inr e ↦ elim (is_place d.of_encloser place) [
+        | inl f ↦ without_encloser place (read.encloser place f) d
+        | inr f ↦ sym (proved_is (picked_without links place d) (without_contained place d) NotProven (read.next_closer place e f))
+      ]
+    ];
+    wildcard = λ place e apart.
+        let listed = picked_without links place d in
+        let r = read.wildcard place e apart in
+        let says = proved_is listed (without_contained place d) (NoCloserName r.0) r.1 in
+        inside_proved listed
+        ∙ by (tells_encloser L a config listed x) (needs_wildcard L a config x && not (tells_wildcard L a config listed x)) r.0
+        (says ∙ inside_proved listed);
+  }
+    where
+      is_place : (o : Option ℕ) (place : ℕ) → (o ≡ Some place) ⊎ (o ≡ Some place → ⊥)
+      is_place None place = inr (λ e. none_some place e)
+      is_place (Some q) place =
+          elim (cases_Bool (nat_eq q place)) [
+            | inl h ↦ inl (ap Some (eqb-true q place h))
+            | inr h ↦ inr (λ e. false≢true (sym h ∙ eq-eqb q place (some_is q place e)))
+          ]
+
+      by : (tells needs : Bool) (n : ℕ)
+          → NoCloserName n ≡ cond (not tells) NotProven (cond needs (NoCloserName (length (hashed_encloser L a config x))) (hashed_zone_answer L a config x t))
+          → cond (not tells) NotProven (cond needs (NoCloserName (length (hashed_encloser L a config x))) (hashed_zone_answer L a config x t))
+          ≡ NoCloserName (length (hashed_encloser L a config x))
+      by false needs n e = absurd (cc)
+      by true true n e = refl
+      by true false n e = absurd (laws.closer L a config x t n (sym e))
+
+-- what is read with the hash and the parameters of the chain
+pub read_by : (L : List ZoneRecord) (config : ChainConfig) (hash : Hash) (chain : ChainRecords) → IsHashedWhole L config hash chain
+    → (a : Name) → a ≡ chain.param.owner → (x : Name) (t : ℕ) (d : Nsec3Denial)
+    → IsPickedRead chain.links a chain.param.parameters hash x t d
+    → IsPickedRead chain.links chain.param.owner config.parameters config.hash x t d
+read_by L config hash chain whole a apex x t d read =
+    subst (λ h. IsPickedRead chain.links chain.param.owner config.parameters h x t d) (sym whole.hashed)
+    (subst (λ p. IsPickedRead chain.links chain.param.owner p hash x t d) (sym whole.parameters)
+    (subst (λ o. IsPickedRead chain.links o chain.param.parameters hash x t d) apex read))

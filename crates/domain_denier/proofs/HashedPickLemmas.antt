@@ -1,0 +1,399 @@
+-- What is picked of an NSEC3 chain answers as the whole chain does, and less without one of its records.
+use Rattle.std.proofs.Common.{◌≡◌, ℕ, zero, suc, ◌<◌, Bool, true, false, cond, List, [], ◌∷◌, ◌++◌, length, Some, None, Option}
+use Rattle.std.proofs.Common.{slice_get, nat_eq, refl, sym, ap, ◌∙◌, subst, inl, inr, arith}
+use Rattle.std.specs.Prelude.{Ok}
+use Rattle.std.specs.List.{find, list_any}
+use Rattle.std.proofs.lemmas.Bool.{cases_Bool, cases_lt, eq-eqb, false≢true}
+use Rattle.domain_octets.specs.Words.{Octets}
+use Rattle.domain_base.specs.Name.{is_at_or_below}
+use Rattle.domain_base.specs.Types.{dname}
+use Rattle.domain_base.specs.Words.{Name}
+use Rattle.domain_bitmap.specs.Blocks.{contains_type}
+use Rattle.domain_chain_rdata.specs.OptOut.{is_opt_out}
+use Rattle.domain_zone.proofs.NameLemmas.{below_length, below_longer}
+use Rattle.domain_nsec3.specs.Chain.{HashedLink}
+use Rattle.domain_nsec3.specs.Config.{Hash, Parameters, hash_name}
+use Rattle.domain_checker.specs.HashedEncloser.{Encloser, IsEncloser, encloser_is_cut, next_cover}
+use Rattle.domain_checker.specs.HashedList.{is_hash_cover, is_hash_match}
+use Rattle.domain_checker.specs.HashedReading.{IsUnmatched}
+use Rattle.domain_checker.specs.HashedVerdict.{is_matched, is_ok_with}
+use Rattle.domain_checker.proofs.FindLemmas.{In, any_none, in_any, in_at}
+use Rattle.domain_checker.proofs.HashedWalkLemmas.{some_matched}
+use Rattle.domain_answer.specs.declared.answer.Answer.{Answer}
+use Rattle.domain_answer.specs.declared.answer.Answer.TheVariants.{Referral, Redirected}
+use Rattle.domain_answer.specs.declared.answer.Answer.TheVariants.{MayBeUnsigned, NoCloserName, NotProven}
+use Rattle.domain_answer.specs.HashedReading.{IsHashedRead, IsReadOn, IsWildcardRead, encloser_answer, lower_answer, next_answer, own_answer, wildcard_told}
+use Rattle.domain_answer.specs.Proved.{last_labels}
+use Rattle.domain_answer.specs.ZoneAnswer.{wildcard_below}
+use Rattle.domain_answer.proofs.CountLemmas.{last_above, last_count}
+use Rattle.domain_answer.proofs.HashedAnswerLemmas.{own_never}
+use Rattle.domain_denier.specs.Picked.{at_place}
+use Rattle.domain_denier.specs.HashedPicked.{AreHashedThere, TellsOfName, hashed_picked, other_place, picked_without, without_records}
+use Rattle.domain_denier.specs.HashedSteps.{IsCoverAt, IsFirstDenial, IsInside, IsOfHash, IsPickedRead, IsPlaced, IsSoleMatch}
+use Rattle.domain_denier.specs.HashedSteps.{encloser_with, link_at, next_role, wildcard_told_by}
+use Rattle.domain_denier.specs.declared.encloser.PlacedEncloser.{PlacedEncloser}
+use Rattle.domain_denier.specs.declared.nsec3.Nsec3Denial.{Nsec3Denial}
+use Rattle.domain_denier.proofs.SomeLemmas.{AreAmong, AreOthers, covered, in_back, in_front, in_place, kept_place, matched, no_cover, no_match, not_gone, others_among, three_among, three_others, unmatched}
+
+-- a first answer after which the wildcard is not asked for
+plain_on : (listed : List HashedLink) (a : Name) (p : Parameters) (hash : Hash) (x : Name) (t : ℕ) (first : Answer)
+    → ((n : ℕ) → first ≡ NoCloserName n → ⊥) → IsReadOn listed a p hash x t first first
+plain_on listed a p hash x t (NoCloserName n) f = absurd (f n refl)
+plain_on listed a p hash x t first f = refl
+
+some_is : {X : Type 0} (x y : X) → Some x ≡ Some y → x ≡ y
+some_is x y e = cc
+
+none_some : {X : Type 0} (x : X) → None ≡ Some x → ⊥
+none_some x e = absurd (cc)
+
+-- all links stand among themselves
+pub all_among : (links : List HashedLink) → AreAmong links links
+all_among links = λ k i. by links k i
+  where
+    by : (ls : List HashedLink) (k : HashedLink) → In k ls → (j : ℕ) × (slice_get ls j ≡ Some k)
+    by [] k i = absurd i
+    by (l ∷ ls) k (inl e) = (0, ap Some e)
+    by (l ∷ ls) k (inr i) = let r = by ls k i in (suc r.0, r.1)
+
+-- what no link of all matches none of some does
+unmatched_among : (links listed : List HashedLink) → AreAmong links listed → (a : Name) (p : Parameters) (hash : Hash) (y : Name) (v : Octets)
+    → hash_name hash y ≡ Ok v → is_matched a p hash links y ≡ false → is_matched a p hash listed y ≡ false
+unmatched_among links listed among a p hash y v known none =
+    ap (is_ok_with (λ v. list_any (is_hash_match a p v) listed)) known
+    ∙ any_none (is_hash_match a p v) listed (λ k i.
+    let m = among k i in
+    elim (cases_Bool (is_hash_match a p v k)) [
+      | inl e ↦ absurd (false≢true (sym none ∙ ap (is_ok_with (λ v. list_any (is_hash_match a p v) links)) known
+          ∙ in_any (is_hash_match a p v) links k (in_at links m.0 k m.1) e))
+      | inr e ↦ e
+    ])
+
+-- ---- where an encloser is found
+
+module _ (links : List HashedLink) (a : Name) (p : Parameters) (hash : Hash) (x : Name) (f : PlacedEncloser)
+    (placed : IsPlaced links a p hash x f) (t : ℕ) where
+  abbrev k : HashedLink
+  k = placed.of.link
+
+  abbrev whole : Encloser
+  whole = encloser_with f.count placed.of.link (link_at links f.cover)
+
+  abbrev past : Encloser → Answer
+  past e = cond (contains_type e.link.bits dname) (Redirected e.count) (next_answer e.count e.cover)
+
+  -- some of the links, with the record of the encloser, tell it too
+  module _ (listed : List HashedLink) (among : AreAmong links listed) (has : In placed.of.link listed) where
+    abbrev told : Encloser
+    told = encloser_with f.count placed.of.link (next_cover a p listed placed.next)
+
+    encloser_in : IsEncloser listed a p hash x (encloser_with f.count placed.of.link (next_cover a p listed placed.next))
+    encloser_in =
+        let found = matched links a p placed.value f.place true placed.of listed among has refl in
+        record {
+          name = placed.name;
+          counts = placed.counts;
+          first = record {
+            above = placed.above;
+            within = placed.within;
+            found = some_matched listed a p hash placed.name placed.value placed.of.link placed.known found;
+            first = λ y up down. let r = placed.first y up down in (r.0, r.1, unmatched_among links listed among a p hash y r.0 r.1 r.2);
+          };
+          value = placed.value;
+          known = placed.known;
+          found = found;
+          next = placed.next;
+          closes = placed.closes;
+          covers = refl;
+        }
+
+    -- a first answer, and what is read on
+    read_of : (first answer : Answer) → encloser_answer a (encloser_with f.count placed.of.link (next_cover a p listed placed.next)) (length x) t ≡ first
+        → IsReadOn listed a p hash x t first answer → IsHashedRead listed a p hash x t answer
+    read_of first answer e on = record {
+      found = Some told;
+      is = encloser_in;
+      ends = subst (λ g. IsReadOn listed a p hash x t g answer) (sym e) on;
+    }
+
+    -- the cover is found where the answer rests on it
+    first_is : ((q : ℕ) → next_role a (encloser_with f.count placed.of.link (link_at links f.cover)) (length x) f.cover ≡ Some q
+        → (m : HashedLink) → slice_get links q ≡ Some m → In m listed)
+        → encloser_answer a (encloser_with f.count placed.of.link (next_cover a p listed placed.next)) (length x) t
+        ≡ encloser_answer a (encloser_with f.count placed.of.link (link_at links f.cover)) (length x) t
+    first_is covers =
+        elim (cases_Bool (nat_eq f.count (length x))) [
+          | inl n ↦ (λ i. cond (n i) (own_answer a told t) (lower_answer a told)) ∙ sym (λ i. cond (n i) (own_answer a whole t) (lower_answer a whole))
+          | inr n ↦ elim (cases_Bool (encloser_is_cut a told)) [
+            | inl c ↦ (λ i. cond (n i) (own_answer a told t) (cond (c i) (Referral f.count) (past told)))
+                ∙ sym (λ i. cond (n i) (own_answer a whole t) (cond (c i) (Referral f.count) (past whole)))
+            | inr c ↦ elim (cases_Bool (contains_type k.bits dname)) [
+              | inl h ↦ (λ i. cond (n i) (own_answer a told t) (cond (c i) (Referral f.count) (cond (h i) (Redirected f.count) (next_answer f.count told.cover))))
+                  ∙ sym (λ i. cond (n i) (own_answer a whole t) (cond (c i) (Referral f.count) (cond (h i) (Redirected f.count) (next_answer f.count whole.cover))))
+              | inr h ↦ ap (λ o. encloser_answer a (encloser_with f.count placed.of.link o) (length x) t)
+                  (same_cover (λ i. cond (n i) None (cond (c i) None (cond (h i) None f.cover))) placed.next refl placed.cover)
+            ]
+          ]
+        ]
+      where
+        same_cover : next_role a (encloser_with f.count placed.of.link (link_at links f.cover)) (length x) f.cover ≡ f.cover
+            → (next : Option Octets) → placed.next ≡ next → IsCoverAt a p links next f.cover
+            → next_cover a p listed placed.next ≡ link_at links f.cover
+        same_cover role None e none = ap (next_cover a p listed) e ∙ sym (ap (link_at links) none)
+        same_cover role (Some w) e at =
+            ap (next_cover a p listed) e
+            ∙ covered links a p w at.0 false at.2 listed among (covers at.0 (role ∙ at.1) at.2.link at.2.there) refl
+            ∙ sym (ap (link_at links) at.1 ∙ at.2.there)
+
+  -- what is picked first
+  module _ (d : Nsec3Denial) (first : IsFirstDenial a links placed.of.link f (length x) t d) where
+    -- the answer where the wildcard is not asked for
+    read_plain : (listed : List HashedLink) → AreAmong links listed → In placed.of.link listed
+        → ((q : ℕ) → d.of_next_closer ≡ Some q → (m : HashedLink) → slice_get links q ≡ Some m → In m listed)
+        → ((n : ℕ) → d.answer ≡ NoCloserName n → ⊥) → IsHashedRead listed a p hash x t d.answer
+    read_plain listed among has covers other =
+        read_of listed among has d.answer d.answer
+        (first_is listed among has (λ q e. covers q (first.next_closer ∙ e)) ∙ sym first.answer)
+        (plain_on listed a p hash x t d.answer other)
+
+    -- the parts of the answer rest on the next closer name
+    pub record IsBelow (q : ℕ) : Type 0 where
+      pub longer : nat_eq f.count (length x) ≡ false
+      pub uncut : encloser_is_cut a (encloser_with f.count placed.of.link (link_at links f.cover)) ≡ false
+      pub undirected : contains_type placed.of.link.bits dname ≡ false
+      pub cover : f.cover ≡ Some q
+
+    rests_below : (q : ℕ) → d.of_next_closer ≡ Some q → IsBelow q
+    rests_below q e = by (nat_eq f.count (length x)) (encloser_is_cut a (encloser_with f.count placed.of.link (link_at links f.cover)))
+        (contains_type placed.of.link.bits dname) refl refl refl (sym first.next_closer ∙ e)
+      where
+        by : (n c h : Bool) → nat_eq f.count (length x) ≡ n → encloser_is_cut a (encloser_with f.count placed.of.link (link_at links f.cover)) ≡ c
+            → contains_type placed.of.link.bits dname ≡ h → cond n None (cond c None (cond h None f.cover)) ≡ Some q → IsBelow q
+        by true c h e g i m = absurd (none_some q m)
+        by false true h e g i m = absurd (none_some q m)
+        by false false true e g i m = absurd (none_some q m)
+        by false false false e g i m = record { longer = e; uncut = g; undirected = i; cover = m }
+
+    -- without the cover nothing is said
+    read_closer : (q : ℕ) → d.of_next_closer ≡ Some q → (listed : List HashedLink) → AreOthers links q listed → In placed.of.link listed
+        → IsHashedRead listed a p hash x t NotProven
+    read_closer q e listed others has =
+        let below = rests_below q e in
+        let among = others_among links q listed others in
+        let told = encloser_with f.count placed.of.link (next_cover a p listed placed.next) in
+        read_of listed among has NotProven NotProven
+        ((λ i. cond (below.longer i) (own_answer a told t) (cond (below.uncut i) (Referral f.count) (cond (below.undirected i) (Redirected f.count)
+        (next_answer f.count (gone below placed.next refl placed.cover i)))))) refl
+      where
+        gone : IsBelow q → (next : Option Octets) → placed.next ≡ next → IsCoverAt a p links next f.cover → next_cover a p listed placed.next ≡ None
+        gone below None g none = ap (next_cover a p listed) g
+        gone below (Some w) g at =
+            let same : at.0 ≡ q = some_is at.0 q (sym at.1 ∙ below.cover) in
+            ap (next_cover a p listed) g
+            ∙ no_cover links a p w at.0 false at.2 listed (subst (λ m. AreOthers links m listed) (sym same) others)
+
+    sole : (place : ℕ) → d.of_encloser ≡ Some place → IsSoleMatch links a p hash x place
+    sole place e =
+        let same : f.place ≡ place = some_is f.place place (sym first.encloser ∙ e) in
+        record {
+          name = placed.name;
+          above = placed.above;
+          within = placed.within;
+          first = placed.first;
+          value = placed.value;
+          known = placed.known;
+          of = subst (λ m. IsOfHash a p links placed.value m true) same placed.of;
+        }
+
+    -- what is picked but for the record of the next closer name, also where the wildcard is asked for
+    without_closer : (e : Nsec3Denial) → e.of_encloser ≡ Some f.place → ((q : ℕ) → e.of_next_closer ≡ Some q → d.of_next_closer ≡ Some q)
+        → (place : ℕ) → e.of_next_closer ≡ Some place → ¬ (e.of_encloser ≡ Some place)
+        → IsHashedRead (picked_without links place e) a p hash x t NotProven
+    without_closer e role from place is apart =
+        let o = other_place place e.of_encloser in
+        let q = other_place place e.of_next_closer in
+        let r = other_place place e.of_wildcard in
+        read_closer place (from place is) (picked_without links place e)
+        (three_others links o q r place (not_gone place e.of_encloser) (not_gone place e.of_next_closer) (not_gone place e.of_wildcard))
+        (in_front (at_place links o) (at_place links q ++ at_place links r) k
+        (in_place links o f.place k (kept_place place e.of_encloser f.place role (λ same. apart (role ∙ ap Some same))) placed.of.there))
+
+    -- ---- one that the wildcard is not asked for
+
+    pub plain_read : ((n : ℕ) → d.answer ≡ NoCloserName n → ⊥) → IsPickedRead links a p hash x t d
+    plain_read other =
+        let has = in_front (at_place links d.of_encloser) (at_place links d.of_next_closer ++ at_place links d.of_wildcard) k
+        (in_place links d.of_encloser f.place k first.encloser placed.of.there) in
+        record {
+          whole = read_plain links (all_among links) (in_at links f.place k placed.of.there) (λ q e m g. in_at links q m g) other;
+          picked = read_plain (hashed_picked links d) (three_among links d.of_encloser d.of_next_closer d.of_wildcard) has
+              (λ q e m g. in_back (at_place links d.of_encloser) (at_place links d.of_next_closer ++ at_place links d.of_wildcard) m
+              (in_front (at_place links d.of_next_closer) (at_place links d.of_wildcard) m (in_place links d.of_next_closer q m e g))) other;
+          encloser = sole;
+          next_closer = without_closer d first.encloser (λ q e. e);
+          wildcard = λ place e apart. absurd (none_some place (sym first.wildcard ∙ e));
+        }
+
+    -- ---- one that the wildcard is asked for
+
+    module _ (n : ℕ) (closer : d.answer ≡ NoCloserName n) (e : Nsec3Denial) (encloser : e.of_encloser ≡ d.of_encloser)
+        (next_closer : e.of_next_closer ≡ d.of_next_closer) (place : ℕ) (role : e.of_wildcard ≡ Some place) (value : Octets)
+        (known : hash_name hash (wildcard_below (last_labels n x)) ≡ Ok value) (m : Bool) (of : IsOfHash a p links value place m)
+        (says : e.answer ≡ wildcard_told_by n t of.link m) where
+      encloser_is : e.of_encloser ≡ Some f.place
+      encloser_is = encloser ∙ first.encloser
+
+      from_first : (q : ℕ) → e.of_next_closer ≡ Some q → d.of_next_closer ≡ Some q
+      from_first q g = sym next_closer ∙ g
+
+      -- what is read of some of the links, by what they say of the wildcard
+      read_wild : (listed : List HashedLink) → AreAmong links listed → In placed.of.link listed
+          → ((q : ℕ) → d.of_next_closer ≡ Some q → (l : HashedLink) → slice_get links q ≡ Some l → In l listed)
+          → (answer : Answer) → IsWildcardRead listed a p hash x t n answer → IsHashedRead listed a p hash x t answer
+      read_wild listed among has covers answer on =
+          read_of listed among has (NoCloserName n) answer
+          (first_is listed among has (λ q g. covers q (first.next_closer ∙ g)) ∙ sym first.answer ∙ closer) on
+
+      wild_in : (listed : List HashedLink) → AreAmong links listed → In of.link listed → IsWildcardRead listed a p hash x t n e.answer
+      wild_in listed among has = record { value = value; known = known; says = says ∙ by m refl }
+        where
+          by : (b : Bool) → m ≡ b → wildcard_told_by n t of.link m ≡ wildcard_told n t (find (is_hash_match a p value) listed)
+              (find (is_hash_cover a p value) listed)
+          by true g =
+              let found = matched links a p value place m of listed among has g in
+              ap (wildcard_told_by n t of.link) g ∙ (λ i. wildcard_told n t (sym found i) (find (is_hash_cover a p value) listed))
+          by false g =
+              let none = unmatched links a p value place m of listed among g in
+              let found = covered links a p value place m of listed among has g in
+              ap (wildcard_told_by n t of.link) g ∙ (λ i. wildcard_told n t (sym none i) (sym found i))
+
+      wild_gone : (listed : List HashedLink) → AreOthers links place listed → IsWildcardRead listed a p hash x t n (NoCloserName n)
+      wild_gone listed others = record {
+        value = value;
+        known = known;
+        says = λ i. wildcard_told n t (sym (no_match links a p value place m of listed others) i) (sym (no_cover links a p value place m of listed others) i);
+      }
+
+      pub wildcard_read : IsPickedRead links a p hash x t e
+      wildcard_read = record {
+        whole = read_wild links (all_among links) (in_at links f.place k placed.of.there) (λ q g l h. in_at links q l h) e.answer
+            (wild_in links (all_among links) (in_at links place of.link of.there));
+        picked =
+            let o = at_place links e.of_encloser in
+            let q = at_place links e.of_next_closer in
+            let r = at_place links e.of_wildcard in
+            let among = three_among links e.of_encloser e.of_next_closer e.of_wildcard in
+            read_wild (hashed_picked links e) among (in_front o (q ++ r) k (in_place links e.of_encloser f.place k encloser_is placed.of.there))
+            (λ j g l h. in_back o (q ++ r) l (in_front q r l (in_place links e.of_next_closer j l (next_closer ∙ g) h))) e.answer
+            (wild_in (hashed_picked links e) among (in_back o (q ++ r) of.link (in_back q r of.link (in_place links e.of_wildcard place of.link role of.there))));
+        encloser = λ j g. sole j (sym encloser ∙ g);
+        next_closer = without_closer e encloser_is from_first;
+        wildcard = λ j g apart.
+            let same : place ≡ j = some_is place j (sym role ∙ g) in
+            let o = other_place j e.of_encloser in
+            let q = other_place j e.of_next_closer in
+            let r = other_place j e.of_wildcard in
+            let others = three_others links o q r j (not_gone j e.of_encloser) (not_gone j e.of_next_closer) (not_gone j e.of_wildcard) in (
+              n,
+              read_wild (picked_without links j e) (others_among links j (picked_without links j e) others)
+                  (in_front (at_place links o) (at_place links q ++ at_place links r) k
+                  (in_place links o f.place k (kept_place j e.of_encloser f.place encloser_is
+                  (λ s. apart (inl (encloser_is ∙ ap Some s)))) placed.of.there))
+                  (λ i h l u. in_back (at_place links o) (at_place links q ++ at_place links r) l
+                  (in_front (at_place links q) (at_place links r) l (in_place links q i l
+                  (kept_place j e.of_next_closer i (next_closer ∙ h) (λ s. apart (inr (next_closer ∙ h ∙ ap Some s)))) u)))
+                  (NoCloserName n) (wild_gone (picked_without links j e) (subst (λ s. AreOthers links s (picked_without links j e)) (sym same) others)),
+            );
+      }
+
+-- ---- where none is found
+
+pub none_read : (links : List HashedLink) (a : Name) (p : Parameters) (hash : Hash) (x : Name) (t : ℕ) → IsUnmatched links a p hash x
+    → IsPickedRead links a p hash x t (without_records NotProven)
+none_read links a p hash x t none = record {
+  whole = record { found = None; is = none; ends = refl };
+  picked = record {
+    found = None;
+    is = λ y up low. let r = none y up low in (r.0, r.1, unmatched_among links [] (λ k i. absurd i) a p hash y r.0 r.1 r.2);
+    ends = refl;
+  };
+  encloser = λ place e. absurd (none_some place e);
+  next_closer = λ place e apart. absurd (none_some place e);
+  wildcard = λ place e apart. absurd (none_some place e);
+}
+
+-- ---- how many labels the wildcard lies below
+
+lower_counts : (c h : Bool) (count : ℕ) (o : Option HashedLink) (n : ℕ)
+    → cond c (Referral count) (cond h (Redirected count) (next_answer count o)) ≡ NoCloserName n → n ≡ count
+lower_counts true h count o n e = absurd (cc)
+lower_counts false true count o n e = absurd (cc)
+lower_counts false false count None n e = absurd (cc)
+lower_counts false false count (Some k) n e = by (is_opt_out k.flags) e
+  where
+    by : (b : Bool) → cond b (MayBeUnsigned count) (NoCloserName count) ≡ NoCloserName n → n ≡ count
+    by true e = absurd (cc)
+    by false e = cc
+
+closer_counts : (a : Name) (e : Encloser) (m t n : ℕ) → encloser_answer a e m t ≡ NoCloserName n → (n ≡ e.count) × (nat_eq e.count m ≡ false)
+closer_counts a e m t n h =
+    elim (cases_Bool (nat_eq e.count m)) [
+      | inl g ↦ absurd (own_never a e t n (sym (λ i. cond (g i) (own_answer a e t) (lower_answer a e)) ∙ h))
+      | inr g ↦ (
+        lower_counts (encloser_is_cut a e) (contains_type e.link.bits dname) e.count e.cover n (sym (λ i. cond (g i) (own_answer a e t) (lower_answer a e)) ∙ h),
+        g,
+      )
+    ]
+
+-- the closest encloser is an ancestor, so many labels long
+pub record IsAskedBelow (a x : Name) (n : ℕ) : Type 0 where
+  pub less : n < length x
+  pub above : is_at_or_below x (last_labels n x) ≡ true
+  pub within : is_at_or_below (last_labels n x) a ≡ true
+
+pub asked_below : (links : List HashedLink) (a x : Name) (f : PlacedEncloser) → is_at_or_below x a ≡ true → IsInside links a x f
+    → (k : HashedLink) (t n : ℕ) → encloser_answer a (encloser_with f.count k (link_at links f.cover)) (length x) t ≡ NoCloserName n
+    → IsAskedBelow a x n
+asked_below links a x f low inside k t n e =
+    let c = closer_counts a (encloser_with f.count k (link_at links f.cover)) (length x) t n e in
+    let short = below_length x inside.name inside.above in
+    let long = below_length inside.name a inside.within in
+    let other : f.count ≡ length x → ⊥ = λ s. false≢true (sym c.1 ∙ eq-eqb f.count (length x) s) in
+    let less : n < length x = elim (cases_lt n (length x)) [
+      | inl h ↦ h
+      | inr h ↦ absurd (other (omega (arith, h, c.0, inside.counts, short)))
+    ] in
+    let counted = last_count x n (omega (arith, less)) in
+    record {
+      less = less;
+      above = last_above x n;
+      within = below_longer x (last_labels n x) a (last_above x n) low (omega (arith, counted, c.0, inside.counts, long));
+    }
+
+pub record_there : (links : List HashedLink) (place : ℕ) → place < length links → (k : HashedLink) × (slice_get links place ≡ Some k)
+record_there [] place h = absurd (omega (arith, h))
+record_there (l ∷ links) zero h = (l, refl)
+record_there (l ∷ links) (suc place) h = record_there links place (omega (arith, h))
+
+-- ---- the places are places of the chain
+
+role_cover : (a : Name) (e : Encloser) (n : ℕ) (cover : Option ℕ) (q : ℕ) → next_role a e n cover ≡ Some q → cover ≡ Some q
+role_cover a e n cover q h = by (nat_eq e.count n) (encloser_is_cut a e) (contains_type e.link.bits dname) h
+  where
+    by : (s c d : Bool) → cond s None (cond c None (cond d None cover)) ≡ Some q → cover ≡ Some q
+    by true c d h = absurd (none_some q h)
+    by false true d h = absurd (none_some q h)
+    by false false true h = absurd (none_some q h)
+    by false false false h = h
+
+pub name_there : (links : List HashedLink) (a x : Name) (f : PlacedEncloser) → IsInside links a x f → (k : HashedLink) (n t : ℕ) (d : Nsec3Denial)
+    → IsFirstDenial a links k f n t d → (place : ℕ) → TellsOfName d place → place < length links
+name_there links a x f inside k n t d first place (inl e) =
+    subst (λ m. m < length links) (some_is f.place place (sym first.encloser ∙ e)) inside.place
+name_there links a x f inside k n t d first place (inr e) =
+    inside.cover place (role_cover a (encloser_with f.count k (link_at links f.cover)) n f.cover place (sym first.next_closer ∙ e))
+
+pub first_there : (links : List HashedLink) (a x : Name) (f : PlacedEncloser) → IsInside links a x f → (k : HashedLink) (n t : ℕ) (d : Nsec3Denial)
+    → IsFirstDenial a links k f n t d → AreHashedThere links d
+first_there links a x f inside k n t d first place (inl e) = name_there links a x f inside k n t d first place e
+first_there links a x f inside k n t d first place (inr e) = absurd (none_some place (sym first.wildcard ∙ e))

@@ -1,0 +1,159 @@
+-- The names from x up to the apex, by the places of the records that match or cover them.
+use Rattle.std.proofs.Common.{◌≡◌, ℕ, ◌<◌, Bool, true, false, not, List, ◌∷◌, length, Some, None, refl, sym, ap, ◌∙◌, subst, inl}
+use Rattle.std.specs.Prelude.{Ok, Err}
+use Rattle.std.specs.List.{find}
+use Rattle.std.proofs.lemmas.Bool.{and_from}
+use Rattle.domain_octets.specs.Words.{Octets}
+use Rattle.domain_base.specs.Name.{is_at_or_below, is_strictly_below, lowered, same_name, wire_of}
+use Rattle.domain_base.specs.Words.{Label, Name}
+use Rattle.domain_zone.specs.Zone.{ZoneRecord}
+use Rattle.domain_zone.proofs.NameLemmas.{below_itself, below_parent, below_trans, same_itself}
+use Rattle.domain_nsec3.specs.Chain.{ChainRecords, HashedLink}
+use Rattle.domain_nsec3.specs.Config.{ChainConfig, Hash, Parameters, hash_name}
+use Rattle.domain_checker.specs.HashedList.{is_hash_cover}
+use Rattle.domain_checker.specs.HashedReading.{IsUnmatched}
+use Rattle.domain_checker.specs.HashedVerdict.{IsFirst}
+use Rattle.domain_checker.proofs.HashedWalkLemmas.{IsMissed, IsPassed, none_first, none_left, passed_on}
+use Rattle.domain_answer.proofs.CountLemmas.{parent_below}
+use Rattle.domain_denier.specs.HashedPicked.{IsHashedWhole, IsRefusedAbove}
+use Rattle.domain_denier.specs.HashedSteps.{IsFoundHash, IsInside, IsOfHash, IsPlaced}
+use Rattle.domain_denier.specs.declared.hash_search.HashPlace.{HashPlace}
+use Rattle.domain_denier.specs.declared.encloser.PlacedEncloser.{PlacedEncloser}
+use Rattle.domain_denier.proofs.HashedPickLemmas.{all_among}
+use Rattle.domain_denier.proofs.SomeLemmas.{unmatched}
+
+module _ (links : List HashedLink) (a : Name) (p : Parameters) (hash : Hash) (x : Name) where
+  -- no record matches the name that is left, and that at the place covers it
+  pub record IsMissedAt (left : Name) (cover : ℕ) : Type 0 where
+    pub above : is_at_or_below x left ≡ true
+    pub within : is_at_or_below left a ≡ true
+    pub first : IsFirst a p hash links x left
+    pub value : Octets
+    pub known : hash_name hash left ≡ Ok value
+    pub of : IsOfHash a p links value cover false
+
+  abbrev missed_of : (left : Name) (cover : ℕ) (m : IsMissedAt left cover) → IsMissed links a p hash x left (find (is_hash_cover a p m.value) links)
+  missed_of left cover m = record {
+    above = m.above;
+    within = m.within;
+    first = m.first;
+    value = m.value;
+    known = m.known;
+    none = unmatched links a p m.value cover false m.of links (all_among links) refl;
+    covered = refl;
+  }
+
+  -- x itself is covered
+  pub missed_here : is_at_or_below x a ≡ true → (v : Octets) → hash_name hash x ≡ Ok v → (cover : ℕ) → IsOfHash a p links v cover false
+      → IsMissedAt x cover
+  missed_here low v known cover of = record {
+    above = below_itself x;
+    within = low;
+    first = none_first links a p hash x;
+    value = v;
+    known = known;
+    of = of;
+  }
+
+  -- or matched
+  pub placed_here : is_at_or_below x a ≡ true → (v : Octets) → hash_name hash x ≡ Ok v → (f : PlacedEncloser)
+      → IsOfHash a p links v f.place true → f.count ≡ length x → f.cover ≡ None → IsPlaced links a p hash x f
+  placed_here low v known f of counts none = record {
+    name = x;
+    counts = counts;
+    above = below_itself x;
+    within = low;
+    first = none_first links a p hash x;
+    value = v;
+    known = known;
+    of = of;
+    next = None;
+    closes = same_itself x x refl;
+    cover = none;
+  }
+
+  module _ (left : Name) (cover : ℕ) (m : IsMissedAt left cover) where
+    -- where the apex is covered too, none is matched
+    pub none_placed : same_name left a ≡ true → IsUnmatched links a p hash x
+    none_placed s = none_left links a p hash x left (find (is_hash_cover a p m.value) links) (missed_of left cover m) s
+
+    module _ (label : Label) (next : Name) (parts : left ≡ label ∷ next) (other : same_name left a ≡ false) (v : Octets)
+        (known : hash_name hash next ≡ Ok v) where
+      passed : IsPassed links a p hash x next m.value
+      passed = passed_on links a p hash x left (find (is_hash_cover a p m.value) links) (missed_of left cover m) label next parts other
+
+      pub missed_above : (place : ℕ) → IsOfHash a p links v place false → IsMissedAt next place
+      missed_above place of = record {
+        above = passed.above;
+        within = passed.within;
+        first = passed.first;
+        value = v;
+        known = known;
+        of = of;
+      }
+
+      pub placed_above : (f : PlacedEncloser) → IsOfHash a p links v f.place true → f.count ≡ length next → f.cover ≡ Some cover
+          → IsPlaced links a p hash x f
+      placed_above f of counts is = record {
+        name = next;
+        counts = counts;
+        above = passed.above;
+        within = passed.within;
+        first = passed.first;
+        value = v;
+        known = known;
+        of = of;
+        next = Some m.value;
+        closes = passed.closes;
+        cover = (cover, is, m.of);
+      }
+
+-- ---- whatever the records say
+
+-- the name above one that is not the apex is an ancestor at or below it too
+pub record IsAncestor (a x left : Name) : Type 0 where
+  pub above : is_at_or_below x left ≡ true
+  pub within : is_at_or_below left a ≡ true
+
+pub ancestor_above : (a x left : Name) → IsAncestor a x left → (label : Label) (next : Name) → left ≡ label ∷ next → same_name left a ≡ false
+    → IsAncestor a x next
+ancestor_above a x left is label next parts other =
+    let up : is_at_or_below left next ≡ true = ap (λ n. is_at_or_below n next) parts ∙ below_parent label next in
+    let strictly : is_strictly_below (label ∷ next) a ≡ true = ap (λ n. is_strictly_below n a) (sym parts)
+    ∙ and_from (is_at_or_below left a) (not (same_name left a)) is.within (ap not other) in
+    record {
+      above = below_trans x left next is.above up;
+      within = parent_below label next a strictly;
+    }
+
+pub refused_at : (a x left : Name) (hash : Hash) → IsAncestor a x left → (wire : Octets) → wire ≡ wire_of (lowered left) → (n : ℕ)
+    → hash wire ≡ Err n → IsRefusedAbove a hash x n
+refused_at a x left hash is wire e n refused = record {
+  name = left;
+  above = is.above;
+  within = is.within;
+  refused = inl (ap hash (sym e) ∙ refused);
+}
+
+pub inside_at : (links : List HashedLink) (a x left : Name) → IsAncestor a x left → (f : PlacedEncloser) → f.count ≡ length left
+    → f.place < length links → ((place : ℕ) → f.cover ≡ Some place → place < length links) → IsInside links a x f
+inside_at links a x left is f counts place cover = record {
+  name = left;
+  counts = counts;
+  above = is.above;
+  within = is.within;
+  place = place;
+  cover = cover;
+}
+
+-- what is found of a hash, in the chain of a zone
+pub of_found : (hash : Hash) (chain : ChainRecords) (wire : Octets) (found : HashPlace) (is : IsFoundHash hash chain wire found) (a : Name)
+    → a ≡ chain.param.owner → (m : Bool) → found.matches ≡ m → (L : List ZoneRecord) (config : ChainConfig) → IsHashedWhole L config hash chain
+    → IsOfHash a chain.param.parameters chain.links is.value found.place m
+of_found hash chain wire found is a apex m matches L config whole =
+    subst (λ b. IsOfHash a chain.param.parameters chain.links is.value found.place b) matches
+    (subst (λ o. IsOfHash o chain.param.parameters chain.links is.value found.place found.matches) (sym apex) (is.of L config whole))
+
+pub hash_known : (hash : Hash) (chain : ChainRecords) (wire : Octets) (found : HashPlace) (is : IsFoundHash hash chain wire found) (n : Name)
+    → wire ≡ wire_of (lowered n) → hash_name hash n ≡ Ok is.value
+hash_known hash chain wire found is n e = ap hash (sym e) ∙ is.known

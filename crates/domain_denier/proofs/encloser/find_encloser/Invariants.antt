@@ -1,0 +1,23 @@
+use Rattle.std.proofs.Common.{◌≡◌, ◌<◌, List, length}
+use Rattle.domain_base.specs.Name.{lowered, wire_of}
+use Rattle.domain_zone.specs.Zone.{ZoneRecord}
+use Rattle.domain_nsec3.specs.Config.{ChainConfig}
+use Rattle.domain_nsec3.specs.View.{hash_by}
+use Rattle.domain_denier.specs.HashedPicked.{IsHashedWhole}
+use Rattle.domain_denier.proofs.PlacedLemmas.{IsAncestor, IsMissedAt}
+use Rattle.domain_denier.proofs.encloser.find_encloser.Given as goal
+
+-- in the chain of a zone no record matches the name that is left, and the one at the place covers it
+abbrev pub invariant-names : goal.invariant-names
+invariant-names g l = record {
+  wire : l.octets ≡ wire_of (lowered l.left);
+  ancestor : IsAncestor l.fn.apex l.fn.name l.left;
+  inside : l.cover < length l.fn.chain.links;
+  missed : (L : List ZoneRecord) (config : ChainConfig)
+      → IsHashedWhole L config (hash_by (g.H.Nsec3Hasher.answer l.fn.hasher) l.fn.chain.param.parameters) l.fn.chain
+      → IsMissedAt l.fn.chain.links l.fn.apex l.fn.chain.param.parameters
+      (hash_by (g.H.Nsec3Hasher.answer l.fn.hasher) l.fn.chain.param.parameters) l.fn.name l.left l.cover;
+}
+
+abbrev pub decreases-names : goal.decreases-names
+decreases-names g l = length l.left

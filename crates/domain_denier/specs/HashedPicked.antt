@@ -1,0 +1,83 @@
+-- The records of an NSEC3 chain that a server answers a question with (RFC 5155, section 7.2).
+use Rattle.std.specs.Prelude.{ℕ, ◌≡◌, ◌⊎◌, ◌<◌, ◌==◌, ◌++◌, true, List, length, Option, Some, None, Err, slice_get, if◌then◌else◌}
+use Rattle.std.specs.List.{Contains}
+use Rattle.domain_base.specs.Name.{is_at_or_below}
+use Rattle.domain_base.specs.Words.{Name}
+use Rattle.domain_zone.specs.Zone.{ZoneRecord}
+use Rattle.domain_nsec3.specs.Chain.{ChainRecords, HashedLink, IsHashedChain}
+use Rattle.domain_nsec3.specs.Config.{ChainConfig, Hash, hash_name}
+use Rattle.domain_answer.specs.HashedProved.{hashed_proved_answer}
+use Rattle.domain_answer.specs.HashedZoneAnswer.{HashedLeavesOutBelowDname, hashed_encloser}
+use Rattle.domain_answer.specs.ZoneAnswer.{wildcard_below}
+use Rattle.domain_answer.specs.declared.answer.Answer.{Answer}
+use Rattle.domain_answer.specs.declared.answer.Answer.TheVariants.{NoCloserName, NotProven}
+use Rattle.domain_denier.specs.Picked.{at_place}
+use Rattle.domain_denier.specs.declared.nsec3.Nsec3Denial.{Nsec3Denial}
+
+-- the links are the NSEC3 chain of a zone, in which names below a DNAME are left out; they were
+-- made by this hash, and the NSEC3PARAM record stands at the apex and tells its parameters
+pub record IsHashedWhole (L : List ZoneRecord) (config : ChainConfig) (hash : Hash)
+    (chain : ChainRecords) : Type 0 where
+  pub leaves_out : HashedLeavesOutBelowDname L chain.param.owner config
+  pub is : IsHashedChain L chain.param.owner config chain.links
+  pub hashed : config.hash ≡ hash
+  pub parameters : config.parameters ≡ chain.param.parameters
+
+-- an answer that rests on no record
+abbrev pub without_records : Answer → Nsec3Denial
+without_records answer =
+    record { answer = answer; of_encloser = None; of_next_closer = None; of_wildcard = None }
+
+-- a place was picked
+abbrev pub TellsOfName : Nsec3Denial → ℕ → Type 0
+TellsOfName d place = (d.of_encloser ≡ Some place) ⊎ (d.of_next_closer ≡ Some place)
+
+abbrev pub IsPicked : Nsec3Denial → ℕ → Type 0
+IsPicked d place = TellsOfName d place ⊎ (d.of_wildcard ≡ Some place)
+
+-- the links that were picked: that of the closest encloser, that of the next closer name, and that
+-- of the wildcard
+abbrev pub hashed_picked : List HashedLink → Nsec3Denial → List HashedLink
+hashed_picked links d =
+    at_place links d.of_encloser ++ (at_place links d.of_next_closer
+    ++ at_place links d.of_wildcard)
+
+-- a place that is not this one
+abbrev pub other_place : ℕ → Option ℕ → Option ℕ
+other_place gone None = None
+other_place gone (Some place) = if place == gone then None else Some place
+
+-- the links that were picked, but for the one at a place
+abbrev pub picked_without : List HashedLink → ℕ → Nsec3Denial → List HashedLink
+picked_without links gone d =
+    at_place links (other_place gone d.of_encloser)
+    ++ (at_place links (other_place gone d.of_next_closer)
+    ++ at_place links (other_place gone d.of_wildcard))
+
+-- the places that were picked are places of the chain
+abbrev pub AreHashedThere : List HashedLink → Nsec3Denial → Type 0
+AreHashedThere links d = (place : ℕ) → IsPicked d place → place < length links
+
+-- without any picked record of the name nothing is proved, and without one that is the wildcard's
+-- alone no more than that there is no such name
+pub record AreHashedNeeded (L : List ZoneRecord) (a : Name) (config : ChainConfig)
+    (links : List HashedLink) (x : Name) (t : ℕ) (d : Nsec3Denial) : Type 0 where
+  pub name : (place : ℕ) → TellsOfName d place
+      → hashed_proved_answer L a config (picked_without links place d) x t ≡ NotProven
+  pub wildcard : (place : ℕ) → d.of_wildcard ≡ Some place → ¬ (TellsOfName d place)
+      → hashed_proved_answer L a config (picked_without links place d) x t
+      ≡ NoCloserName (length (hashed_encloser L a config x))
+
+-- the hasher refuses x, an ancestor at or below the apex, or the wildcard right below one of these
+pub record IsRefusedAbove (a : Name) (hash : Hash) (x : Name) (n : ℕ) : Type 0 where
+  pub name : Name
+  pub above : is_at_or_below x name ≡ true
+  pub within : is_at_or_below name a ≡ true
+  pub refused : (hash_name hash name ≡ Err n) ⊎ (hash_name hash (wildcard_below name) ≡ Err n)
+
+-- these are the places that were picked, each once
+pub record ArePlaces (d : Nsec3Denial) (places : List (Option ℕ)) : Type 0 where
+  pub all : (place : ℕ) → IsPicked d place → Contains places (Some place)
+  pub only : (place : ℕ) → Contains places (Some place) → IsPicked d place
+  pub once : (i j place : ℕ) → slice_get places i ≡ Some (Some place)
+      → slice_get places j ≡ Some (Some place) → i ≡ j

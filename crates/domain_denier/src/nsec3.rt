@@ -1,0 +1,436 @@
+//! What is picked of an NSEC3 chain.
+ghost use Rattle.std.specs.Prelude.{◌≡◌, ◌<◌, ◌⊎◌, ℕ, List, None, Some, Ok, Err, true, false, length, slice_get, IfOk, IfErr, IsErrOf};
+ghost use Rattle.domain_base.specs.Name.{is_at_or_below};
+ghost use Rattle.domain_nsec3.specs.Chain.{HashedLink};
+ghost use Rattle.domain_nsec3.specs.Config.{ChainConfig, hash_name};
+ghost use Rattle.domain_nsec3.specs.View.{hash_by};
+ghost use Rattle.domain_records.specs.declared.error.Nsec3HashError.TheVariants as hash_error;
+ghost use Rattle.domain_zone.specs.Zone.{ZoneRecord};
+ghost use Rattle.domain_checker.specs.HashedEncloser.{encloser_is_cut};
+ghost use Rattle.domain_answer.specs.HashedProved.{hashed_proved_answer, AreAskedAlone};
+ghost use Rattle.domain_answer.specs.HashedReading.{next_answer, own_answer, IsHashedRead};
+ghost use Rattle.domain_answer.specs.HashedZoneAnswer.{hashed_zone_answer};
+ghost use Rattle.domain_answer.specs.Proved.{last_labels, needs_no_records};
+ghost use Rattle.domain_answer.specs.ZoneAnswer.{is_at_parent, wildcard_below};
+ghost use Rattle.domain_denier.specs.HashedPicked.{hashed_picked, without_records, AreHashedNeeded, AreHashedThere, ArePlaces, IsHashedWhole, IsRefusedAbove};
+ghost use Rattle.domain_denier.specs.HashedSteps.{encloser_with, link_at, wildcard_told_by, with_encloser, IsFirstDenial, IsInside, IsPickedRead, IsPlaced, IsWildcardPlaced};
+
+use crate::encloser::{PlacedEncloser, find_encloser};
+use crate::hash_search::{HashPlace, look_up};
+use domain_answer::{Answer, laws, wildcard_of};
+use domain_base::{ParsedName, Rtype, ToName};
+use domain_checker::laws::hashes_tell_of_names;
+use domain_nsec3::laws::chains_mean_the_zone;
+use domain_nsec3::{LentNsec3, Nsec3Chain};
+use domain_octets::Octets;
+use domain_records::Nsec3HashError;
+use domain_zone::{MAX_NAME, Nsec3Hasher, lower_wire};
+use std::alloc::Global;
+
+/// What a zone answers to a question, and the records of its NSEC3 chain that prove it, by their
+/// places in the chain (`Nsec3Chain::lend`). One record may have several of these parts: `places`
+/// gives each place once.
+#[derive(Clone, Copy, Debug, PartialEq, Eq)]
+pub struct Nsec3Denial {
+    /// What the zone says of the name and the type.
+    pub answer: Answer,
+    /// The record that matches the closest encloser, which may be the name itself. None where the
+    /// name is outside the zone, or the parent zone answers.
+    pub of_encloser: Option<usize>,
+    /// The record that covers the next closer name, which is one label longer, where the answer
+    /// rests on that.
+    pub of_next_closer: Option<usize>,
+    /// The record that matches or covers the wildcard below the closest encloser, where the answer
+    /// rests on that.
+    pub of_wildcard: Option<usize>,
+}
+
+/// The place, unless it is the other one.
+fn other_than(place: Option<usize>, other: Option<usize>) -> Option<usize>
+    ensures same { place ≡ other → result ≡ None }
+    ensures apart { ¬ (place ≡ other) → result ≡ place }
+{
+    if place == other { None } else { place }
+}
+
+impl Nsec3Denial {
+    /// The places of the records, each once: three at most.
+    pub fn places(&self) -> [Option<usize>; 3]
+        ensures { ArePlaces self.now result }
+    {
+        let next_closer = other_than(self.of_next_closer, self.of_encloser);
+        let wildcard = other_than(self.of_wildcard, self.of_encloser);
+        [
+            self.of_encloser,
+            next_closer,
+            other_than(wildcard, self.of_next_closer),
+        ]
+    }
+}
+
+/// An answer that rests on no record.
+fn without_records(answer: Answer) -> Nsec3Denial
+    ensures { result ≡ without_records answer }
+{
+    Nsec3Denial {
+        answer,
+        of_encloser: None,
+        of_next_closer: None,
+        of_wildcard: None,
+    }
+}
+
+/// An answer that rests on the record of the closest encloser alone.
+fn with_encloser(answer: Answer, place: usize) -> Nsec3Denial
+    ensures { result ≡ with_encloser answer place }
+{
+    Nsec3Denial {
+        answer,
+        of_encloser: Some(place),
+        of_next_closer: None,
+        of_wildcard: None,
+    }
+}
+
+/// Whether the parent zone answers: the type is DS and the name is the apex.
+fn is_at_parent<M: ToName>(apex: &ParsedName<'_>, name: &M, rtype: Rtype) -> bool
+    ensures { result ≡ is_at_parent apex.now (M.labels name.now) rtype }
+{
+    rtype == Rtype::DS && name.name_eq(apex)
+}
+
+/// The record at a place of the chain.
+fn lend_at<'c, O: Octets>(chain: &'c Nsec3Chain<'_, O>, place: usize) -> LentNsec3<'c>
+    requires { place < length chain.now.links }
+    ensures { slice_get chain.now.links place ≡ Some result }
+{
+    let Some(listed) = chain.lend(place) else {
+        unreachable!();
+    };
+    listed
+}
+
+/// Whether the record of a name with so many labels says that it is a zone cut: it lists NS, and
+/// the name is not the apex.
+fn is_zone_cut(apex: &ParsedName<'_>, listed: &LentNsec3<'_>, count: usize) -> bool
+    ensures { result ≡ encloser_is_cut apex.now (encloser_with count listed.now None) }
+{
+    (count != apex.count_labels()) & listed.data().types().contains(Rtype::NS)
+}
+
+/// What the record of a name with so many labels says of it: nothing, where it is of the apex of a
+/// child zone.
+fn own_answer(apex: &ParsedName<'_>, listed: &LentNsec3<'_>, count: usize, rtype: Rtype) -> Answer
+    ensures { result ≡ own_answer apex.now (encloser_with count listed.now None) rtype }
+{
+    let types = listed.data().types();
+    let at_cut = is_zone_cut(apex, listed, count);
+    if at_cut && types.contains(Rtype::SOA) {
+        return Answer::NotProven;
+    }
+    if at_cut && rtype != Rtype::DS {
+        return Answer::Referral(count);
+    }
+    if types.contains(rtype) {
+        return Answer::Has;
+    }
+    if at_cut {
+        return Answer::NoDs;
+    }
+    if types.contains(Rtype::CNAME) {
+        return Answer::Alias;
+    }
+    Answer::NoData
+}
+
+/// What the record that covers the next closer name says, where the closest encloser has so many
+/// labels.
+fn next_answer<O: Octets>(chain: &Nsec3Chain<'_, O>, count: usize, cover: Option<usize>) -> Answer
+    requires { (place : ℕ) → cover ≡ Some place → place < length chain.now.links }
+    ensures { result ≡ next_answer count (link_at chain.now.links cover) }
+{
+    let Some(place) = cover else {
+        return Answer::NotProven;
+    };
+    let listed = lend_at(chain, place);
+    if listed.data().opt_out() {
+        return Answer::MayBeUnsigned(count);
+    }
+    Answer::NoCloserName(count)
+}
+
+/// What the records of the closest encloser and of the next closer name say of a name with so many
+/// labels; of one that does not exist no more than that.
+fn first_denial<O: Octets>(
+    apex: &ParsedName<'_>,
+    chain: &Nsec3Chain<'_, O>,
+    encloser: PlacedEncloser,
+    count: usize,
+    rtype: Rtype,
+) -> Nsec3Denial
+    requires place { encloser.place < length chain.now.links }
+    requires cover { (place : ℕ) → encloser.cover ≡ Some place
+        → place < length chain.now.links }
+    ensures { (k : HashedLink) → slice_get chain.now.links encloser.place ≡ Some k
+        → IsFirstDenial apex.now chain.now.links k encloser count rtype result }
+{
+    let listed = lend_at(chain, encloser.place);
+    if encloser.count == count {
+        let answer = own_answer(apex, &listed, encloser.count, rtype);
+        return with_encloser(answer, encloser.place);
+    }
+    if is_zone_cut(apex, &listed, encloser.count) {
+        return with_encloser(Answer::Referral(encloser.count), encloser.place);
+    }
+    if listed.data().types().contains(Rtype::DNAME) {
+        return with_encloser(Answer::Redirected(encloser.count), encloser.place);
+    }
+    Nsec3Denial {
+        answer: next_answer(chain, encloser.count, encloser.cover),
+        of_encloser: Some(encloser.place),
+        of_next_closer: encloser.cover,
+        of_wildcard: None,
+    }
+}
+
+/// What the record says that matches or covers the wildcard below the closest encloser, which has
+/// so many labels.
+fn wildcard_told<O: Octets>(
+    chain: &Nsec3Chain<'_, O>,
+    count: usize,
+    rtype: Rtype,
+    found: HashPlace,
+) -> Answer
+    requires { found.place < length chain.now.links }
+    ensures { (k : HashedLink) → slice_get chain.now.links found.place ≡ Some k
+        → result ≡ wildcard_told_by count rtype k found.matches }
+{
+    if !found.matches {
+        return Answer::NameError(count);
+    }
+    let listed = lend_at(chain, found.place);
+    let types = listed.data().types();
+    if types.contains(rtype) | types.contains(Rtype::NS) {
+        return Answer::Wildcard(count);
+    }
+    if types.contains(Rtype::CNAME) {
+        return Answer::WildcardAlias(count);
+    }
+    Answer::WildcardNoData(count)
+}
+
+/// What is picked where there is no such name, and the closest encloser has so many labels: the
+/// record of the wildcard below that one too.
+fn with_wildcard<O: Octets, M: ToName, H: Nsec3Hasher>(
+    alloc: Global,
+    chain: &Nsec3Chain<'_, O>,
+    name: &M,
+    rtype: Rtype,
+    first: Nsec3Denial,
+    count: usize,
+    hasher: &H,
+) -> Result<Nsec3Denial, Nsec3HashError>
+    requires some { 0 < length chain.now.links }
+    requires counts { count < length (M.labels name.now) }
+    ensures first { IfOk result (λ d. (d.of_encloser ≡ first.of_encloser)
+        × (d.of_next_closer ≡ first.of_next_closer)) }
+    ensures wildcard { IfOk result (IsWildcardPlaced
+        (hash_by (H.answer hasher.now) chain.now.param.parameters) chain.now
+        (M.labels name.now) rtype count) }
+    ensures err { IfErr result (λ e. (e ≡ hash_error.OutOfMemory) ⊎ ((n : ℕ)
+        × (e ≡ hash_error.Hasher n)
+        × (hash_name (hash_by (H.answer hasher.now) chain.now.param.parameters)
+        (wildcard_below (last_labels count (M.labels name.now))) ≡ Err n))) }
+    ensures memory { IsErrOf result hash_error.OutOfMemory → H.takes_memory hasher.now }
+{
+    let mut buffer = [0; MAX_NAME];
+    let Some(wildcard) = wildcard_of(&mut buffer, name, count) else {
+        unreachable!();
+    };
+    let mut lowered = [0; MAX_NAME];
+    let wire = lower_wire(&mut lowered, &wildcard);
+    match look_up(alloc, chain, wire, hasher) {
+        Ok(found) => Ok(Nsec3Denial {
+            answer: wildcard_told(chain, count, rtype, found),
+            of_encloser: first.of_encloser,
+            of_next_closer: first.of_next_closer,
+            of_wildcard: Some(found.place),
+        }),
+        Err(error) => Err(error),
+    }
+}
+
+/// What is picked where the closest encloser of a name is found.
+fn deny_placed<O: Octets, M: ToName, H: Nsec3Hasher>(
+    alloc: Global,
+    apex: &ParsedName<'_>,
+    chain: &Nsec3Chain<'_, O>,
+    name: &M,
+    rtype: Rtype,
+    encloser: PlacedEncloser,
+    hasher: &H,
+) -> Result<Nsec3Denial, Nsec3HashError>
+    requires some { 0 < length chain.now.links }
+    requires apex { apex.now ≡ chain.now.param.owner }
+    requires below { is_at_or_below (M.labels name.now) apex.now ≡ true }
+    requires inside { IsInside chain.now.links apex.now (M.labels name.now) encloser }
+    ensures there { IfOk result (AreHashedThere chain.now.links) }
+    ensures read { IfOk result (λ d. (L : List ZoneRecord) (config : ChainConfig)
+        → IsHashedWhole L config (hash_by (H.answer hasher.now) chain.now.param.parameters)
+        chain.now → IsPlaced chain.now.links apex.now chain.now.param.parameters
+        (hash_by (H.answer hasher.now) chain.now.param.parameters) (M.labels name.now) encloser
+        → IsPickedRead chain.now.links apex.now chain.now.param.parameters
+        (hash_by (H.answer hasher.now) chain.now.param.parameters) (M.labels name.now) rtype d) }
+    ensures err { IfErr result (λ e. (e ≡ hash_error.OutOfMemory) ⊎ ((n : ℕ)
+        × (e ≡ hash_error.Hasher n) × IsRefusedAbove apex.now
+        (hash_by (H.answer hasher.now) chain.now.param.parameters) (M.labels name.now) n)) }
+    ensures memory { IsErrOf result hash_error.OutOfMemory → H.takes_memory hasher.now }
+{
+    let first = first_denial(apex, chain, encloser, name.count_labels(), rtype);
+    let Answer::NoCloserName(count) = first.answer else {
+        return Ok(first);
+    };
+    match with_wildcard(alloc, chain, name, rtype, first, count, hasher) {
+        Ok(denial) => Ok(denial),
+        Err(error) => Err(error),
+    }
+}
+
+/// What is picked for a name at or below the apex.
+fn deny_inside<O: Octets, M: ToName, H: Nsec3Hasher>(
+    alloc: Global,
+    apex: &ParsedName<'_>,
+    chain: &Nsec3Chain<'_, O>,
+    name: &M,
+    rtype: Rtype,
+    hasher: &H,
+) -> Result<Nsec3Denial, Nsec3HashError>
+    requires some { 0 < length chain.now.links }
+    requires apex { apex.now ≡ chain.now.param.owner }
+    requires below { is_at_or_below (M.labels name.now) apex.now ≡ true }
+    ensures there { IfOk result (AreHashedThere chain.now.links) }
+    ensures read { IfOk result (λ d. (L : List ZoneRecord) (config : ChainConfig)
+        → IsHashedWhole L config (hash_by (H.answer hasher.now) chain.now.param.parameters)
+        chain.now → IsPickedRead chain.now.links apex.now chain.now.param.parameters
+        (hash_by (H.answer hasher.now) chain.now.param.parameters) (M.labels name.now) rtype d) }
+    ensures err { IfErr result (λ e. (e ≡ hash_error.OutOfMemory) ⊎ ((n : ℕ)
+        × (e ≡ hash_error.Hasher n) × IsRefusedAbove apex.now
+        (hash_by (H.answer hasher.now) chain.now.param.parameters) (M.labels name.now) n)) }
+    ensures memory { IsErrOf result hash_error.OutOfMemory → H.takes_memory hasher.now }
+{
+    let mut buffer = [0; MAX_NAME];
+    let wire = lower_wire(&mut buffer, name);
+    let found = match find_encloser(alloc, apex, chain, &name.as_parsed(), wire, hasher) {
+        Ok(found) => found,
+        Err(error) => return Err(error),
+    };
+    let Some(encloser) = found else {
+        return Ok(without_records(Answer::NotProven));
+    };
+    match deny_placed(alloc, apex, chain, name, rtype, encloser, hasher) {
+        Ok(denial) => Ok(denial),
+        Err(error) => Err(error),
+    }
+}
+
+/// The records of an NSEC3 chain that a server answers a question about a name and a type with (RFC
+/// 5155, section 7.2), and what they prove: three at most.
+///
+/// The first matches the closest encloser of the name, which may be the name itself. Where the
+/// answer rests on there being no name one label longer, the second covers that one, and where it
+/// rests on the wildcard below the closest encloser, the third matches or covers that. A response
+/// needs all that are given where the answer is a name error or a wildcard without data (sections
+/// 7.2.2 and 7.2.5), no data or an unsigned delegation (`NoDs`; also in a referral, when it is asked
+/// for the zone cut), or where a delegation may have been left out of the chain (`MayBeUnsigned`,
+/// sections 7.2.4 and 7.2.7); the second alone where it was expanded from a wildcard (section
+/// 7.2.6); and none where it is positive or a redirection. A name outside the zone has none.
+///
+/// Where the zone has opt-out and there is no such name, also no unsigned delegation, the response
+/// is to have the record that covers the wildcard too (section 7.2.2), though what it proves does
+/// not rest on that: it is the second record that the wildcard itself is denied with (`wildcard_of`).
+///
+/// The chain is that of a zone, in which the names below an owner of a DNAME record are left out, or
+/// there are none (RFC 6672, section 2.4); the apex and the parameters are those of its NSEC3PARAM
+/// record. Names are hashed from the name towards the apex, up to the first that a record matches,
+/// and then the wildcard where it is asked for: no name twice, and none where the name is outside
+/// the zone or the parent answers. For each some twenty hashes are compared where the chain has a
+/// million. There is no limit of iterations. Takes no memory but for the hasher's answers, one at a
+/// time.
+///
+/// # Errors
+///
+/// `Hasher` with the number of the hasher's refusal of a name that is asked for, and `OutOfMemory`
+/// where the hasher has none.
+pub fn deny_nsec3<O: Octets, M: ToName, H: Nsec3Hasher>(
+    alloc: Global,
+    chain: &Nsec3Chain<'_, O>,
+    name: &M,
+    rtype: Rtype,
+    hasher: &H,
+) -> Result<Nsec3Denial, Nsec3HashError>
+    ensures outside { is_at_or_below (M.labels name.now) chain.now.param.owner ≡ false
+        → result ≡ Ok (without_records Answer.OutsideZone) }
+    ensures parent { is_at_or_below (M.labels name.now) chain.now.param.owner ≡ true
+        → is_at_parent chain.now.param.owner (M.labels name.now) rtype ≡ true
+        → result ≡ Ok (without_records Answer.AtParent) }
+
+    // Of the chain of any zone in which no other name has a hash that is asked for, the answer is
+    // what that zone says, the records prove it, and each of them is needed.
+    ensures zone { IfOk result (λ d. (L : List ZoneRecord) (config : ChainConfig)
+        → IsHashedWhole L config (hash_by (H.answer hasher.now) chain.now.param.parameters)
+        chain.now → AreAskedAlone L chain.now.param.owner config (M.labels name.now)
+        → d.answer ≡ hashed_zone_answer L chain.now.param.owner config (M.labels name.now)
+        rtype) }
+    ensures proved { IfOk result (λ d. (L : List ZoneRecord) (config : ChainConfig)
+        → IsHashedWhole L config (hash_by (H.answer hasher.now) chain.now.param.parameters)
+        chain.now → AreAskedAlone L chain.now.param.owner config (M.labels name.now)
+        → hashed_proved_answer L chain.now.param.owner config
+        (hashed_picked chain.now.links d) (M.labels name.now) rtype
+        ≡ hashed_zone_answer L chain.now.param.owner config (M.labels name.now) rtype) }
+    ensures needed { IfOk result (λ d. (L : List ZoneRecord) (config : ChainConfig)
+        → IsHashedWhole L config (hash_by (H.answer hasher.now) chain.now.param.parameters)
+        chain.now → AreAskedAlone L chain.now.param.owner config (M.labels name.now)
+        → AreHashedNeeded L chain.now.param.owner config chain.now.links (M.labels name.now)
+        rtype d) }
+
+    // Of the chain of any zone, the answer is what `judge_nsec3` says of the records.
+    ensures exact { needs_no_records chain.now.param.owner (M.labels name.now) rtype ≡ false
+        → IfOk result (λ d. (L : List ZoneRecord) (config : ChainConfig)
+        → IsHashedWhole L config (hash_by (H.answer hasher.now) chain.now.param.parameters)
+        chain.now → AreAskedAlone L chain.now.param.owner config (M.labels name.now)
+        → IsHashedRead (hashed_picked chain.now.links d) chain.now.param.owner
+        chain.now.param.parameters (hash_by (H.answer hasher.now) chain.now.param.parameters)
+        (M.labels name.now) rtype d.answer) }
+
+    // Of any chain, the records are there.
+    ensures there { IfOk result (AreHashedThere chain.now.links) }
+
+    // An error is the refusal of a name that is asked for, or want of memory.
+    ensures refusal { (n : ℕ) → IsErrOf result (hash_error.Hasher n)
+        → IsRefusedAbove chain.now.param.owner
+        (hash_by (H.answer hasher.now) chain.now.param.parameters) (M.labels name.now) n }
+    ensures errors { IfErr result (λ e. (e ≡ hash_error.OutOfMemory)
+        ⊎ ((n : ℕ) × (e ≡ hash_error.Hasher n))) }
+    ensures memory { IsErrOf result hash_error.OutOfMemory → H.takes_memory hasher.now }
+{
+    let apex = chain.nsec3param().owner();
+    if !name.ends_with(apex) {
+        return Ok(without_records(Answer::OutsideZone));
+    }
+    if is_at_parent(apex, name, rtype) {
+        return Ok(without_records(Answer::AtParent));
+    }
+    // By these laws what the records say is what the zone says, of a type of 16 bits.
+    laws::hashed_readings_are_proved();
+    laws::hashed_whole_chains_prove_all();
+    hashes_tell_of_names();
+    chains_mean_the_zone();
+    let _number = rtype.to_int();
+    if chain.is_empty() {
+        return Ok(without_records(Answer::NotProven));
+    }
+    match deny_inside(alloc, apex, chain, name, rtype, hasher) {
+        Ok(denial) => Ok(denial),
+        Err(error) => Err(error),
+    }
+}
