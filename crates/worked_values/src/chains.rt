@@ -1,4 +1,5 @@
 //! The chains of zones, and what their records prove.
+mod denials;
 mod hashers;
 pub mod nsec;
 pub mod nsec3;

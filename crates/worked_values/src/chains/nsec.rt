@@ -1,5 +1,5 @@
 //! NSEC chains of small zones (RFC 4034, section 4; RFC 4035, section 2.3; RFC 9077).
-use crate::chains::verdicts;
+use crate::chains::{denials, verdicts};
 use crate::lines::records::{Zone, list, records, zone};
 use crate::lines::{Answers, OwnName, input};
 use domain_base::ScanError;
@@ -89,6 +89,7 @@ pub fn answer(
         "lent" => chain_lent(alloc, &apex, &zone(alloc, words)?, answers),
         "verdict" => verdicts::by_name(alloc, &apex, words, answers)?,
         "judge" => verdicts::judged(alloc, &apex, words, answers)?,
+        "deny" => denials::by_name(alloc, &apex, words, answers)?,
         _ => chain(alloc, &apex, &zone(alloc, words)?, &config(form), answers),
     }
     Ok(())

@@ -1,6 +1,6 @@
 //! NSEC3 chains of small zones (RFC 5155, section 7.1).
 use crate::chains::hashers::table;
-use crate::chains::verdicts;
+use crate::chains::{denials, verdicts};
 use crate::lines::records::{Zone, list, records, zone};
 use crate::lines::{Answers, OwnName, input};
 use crate::zones::RefusingSorter;
@@ -181,6 +181,11 @@ fn with_hasher<H: Nsec3Hasher>(
         }
         "expanded" => {
             verdicts::expanded_by_hash(alloc, apex, &config.params, hasher, words, answers)?;
+        }
+        "deny" => denials::by_hash(alloc, apex, config, hasher, words, answers)?,
+        "denyout" => {
+            let config = config.clone()?.with_opt_out();
+            denials::by_hash(alloc, apex, &config, hasher, words, answers)?;
         }
         "unsorted" => without_sorting(alloc, apex, hasher, &zone(alloc, words)?, answers),
         _ => made(alloc, apex, config, hasher, &zone(alloc, words)?, answers),

@@ -47,7 +47,7 @@ fn nsec3s(
 }
 
 /// The name and the type that two words spell.
-fn question(alloc: Global, words: &[&str]) -> Result<(OwnName, Rtype), ScanError> {
+pub fn question(alloc: Global, words: &[&str]) -> Result<(OwnName, Rtype), ScanError> {
     let mut scanner = Tokens::new(words);
     let name = scanner.scan_name(alloc)?;
     match input::next::<Rtype>(&mut scanner) {
