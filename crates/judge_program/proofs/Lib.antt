@@ -4,3 +4,4 @@ pub mod RunLemmas
 pub mod WhyLemmas
 pub mod Nsec3WhyLemmas
 pub mod Nsec3RunLemmas
+pub mod ExpansionLemmas

@@ -1,5 +1,5 @@
 -- The text of what NSEC3 records answer, and why there is none.
-use Rattle.std.proofs.Common.{◌≡◌, ◌⊎◌, ◌&&◌, ℕ, Bool, List, [], ◌∷◌, ◌++◌, codes, refl, sym, subst, inl, inr}
+use Rattle.std.proofs.Common.{◌≡◌, ◌⊎◌, ◌&&◌, Bool, List, [], ◌∷◌, ◌++◌, codes, refl, sym, subst, inl, inr}
 use Rattle.domain_octets.specs.Words.{Octets}
 use Rattle.domain_nsec3.specs.Chain.{HashedLink, ParamRecord}
 use Rattle.domain_nsec3.specs.View.{HasherAnswer}
@@ -9,17 +9,18 @@ use Rattle.denial_program.specs.Check.{hash_with, AreNsec3s, AreParams}
 use Rattle.denial_program.specs.declared.command.Question.{Question}
 use Rattle.denial_program.specs.declared.fault.DenialFault.{DenialFault}
 use Rattle.denial_program.specs.declared.fault.DenialFault.TheVariants.{Write, OutOfMemory}
-use Rattle.judge_program.specs.Judged.{IsNotNsec3Judged, IsNsec3Answer}
+use Rattle.judge_program.specs.Judged.{IsAnswerAsked, IsNotNsec3Judged}
 use Rattle.judge_program.specs.Run.{IsNsec3Text, IsUnwritten}
 use Rattle.judge_program.specs.Text.{answer_text}
+use Rattle.judge_program.specs.declared.command.Nsec3Options.{Nsec3Options}
 use Rattle.judge_program.specs.Why.{rests_on_records, IsNsec3Below}
 
-pub nsec3_text_is : (hashes : HasherAnswer) (given : List RawRecord) (q : Question) (limit : ℕ) (why : Bool) (param : ParamRecord)
+pub nsec3_text_is : (hashes : HasherAnswer) (given : List RawRecord) (q : Question) (asked : Nsec3Options) (why : Bool) (param : ParamRecord)
     (links : List HashedLink) (answer : Answer) (below : Octets) → AreParams q.apex given (param ∷ []) → AreNsec3s given links
-    → IsNsec3Answer param.parameters (hash_with hashes param) links q limit answer
-    → IsNsec3Below (why && rests_on_records answer) q.apex param.parameters (hash_with hashes param) links q.name answer below
-    → IsNsec3Text hashes given q limit why ((answer_text q.name answer ++ codes "\n") ++ below)
-nsec3_text_is hashes given q limit why param links answer below single are is shown =
+    → IsAnswerAsked asked.labels param.parameters (hash_with hashes param) links q asked.limit answer
+    → IsNsec3Below (why && rests_on_records answer) asked.labels q.apex param.parameters (hash_with hashes param) links q.name answer below
+    → IsNsec3Text hashes given q asked why ((answer_text q.name answer ++ codes "\n") ++ below)
+nsec3_text_is hashes given q asked why param links answer below single are is shown =
     record {
       answer = answer;
       judged = record { param = param; single = single; links = links; are = are; is = is };
@@ -29,8 +30,8 @@ nsec3_text_is hashes given q limit why param links answer below single are is sh
     }
 
 -- a text that could not be written
-pub nsec3_unwritten : (hashes : HasherAnswer) (given : List RawRecord) (q : Question) (limit : ℕ) (why : Bool) (text : Octets)
-    (fault : DenialFault) → IsNsec3Text hashes given q limit why text → (fault ≡ Write) ⊎ (fault ≡ OutOfMemory)
-    → IsUnwritten (IsNsec3Text hashes given q limit why) (IsNotNsec3Judged hashes given q) fault
-nsec3_unwritten hashes given q limit why text fault is (inl write) = inl (write, (text, is))
-nsec3_unwritten hashes given q limit why text fault is (inr memory) = inr (subst (IsNotNsec3Judged hashes given q) (sym memory) tt)
+pub nsec3_unwritten : (hashes : HasherAnswer) (given : List RawRecord) (q : Question) (asked : Nsec3Options) (why : Bool) (text : Octets)
+    (fault : DenialFault) → IsNsec3Text hashes given q asked why text → (fault ≡ Write) ⊎ (fault ≡ OutOfMemory)
+    → IsUnwritten (IsNsec3Text hashes given q asked why) (IsNotNsec3Judged hashes given q asked) fault
+nsec3_unwritten hashes given q asked why text fault is (inl write) = inl (write, (text, is))
+nsec3_unwritten hashes given q asked why text fault is (inr memory) = inr (subst (IsNotNsec3Judged hashes given q asked) (sym memory) tt)

@@ -52,7 +52,7 @@ told_both x answer e needs =
     sym (ap (λ t. shown ++ t) (cond-true (needs_next_closer answer) (nsec3_shown (NextCloser (last_labels (e.count + 1) x)) None e.cover) [] needs))
 
 -- what one pass found, as it is shown: a cover counts where there is no match
-shown_found : (role : Role) (matched covered first cover : Option HashedLink) → matched ≡ first → (matched ≡ None → covered ≡ cover)
+pub shown_found : (role : Role) (matched covered first cover : Option HashedLink) → matched ≡ first → (matched ≡ None → covered ≡ cover)
     → nsec3_shown role matched covered ≡ nsec3_shown role first cover
 shown_found role (Some k) covered first cover is else = ap (λ m. nsec3_shown role m cover) is
 shown_found role None covered first cover is else =
@@ -81,3 +81,8 @@ appends_kept None b c t p q = tt
 appends_kept (Some x) None c t p q = absurd p
 appends_kept (Some x) (Some y) None t p q = absurd q
 appends_kept (Some x) (Some y) (Some z) t p q = q ∙ p
+
+-- where nothing is written, nothing is appended
+pub appends_nothing : (o : Option Octets) (t : Octets) → t ≡ [] → Appends o o t
+appends_nothing None t is = tt
+appends_nothing (Some x) t is = sym (ap (λ u. x ++ u) is ∙ append-nil x)

@@ -19,7 +19,7 @@ use Rattle.judge_program.specs.declared.command.ChainKind.TheVariants.{Nsec, Nse
 
 no_text_no_write : (hashes : HasherAnswer) (kind : ChainKind) (given : List RawRecord) (q : Question) → HasNoText hashes kind given q Write → ⊥
 no_text_no_write hashes Nsec given q none = cc
-no_text_no_write hashes (Nsec3 limit) given q none = none
+no_text_no_write hashes (Nsec3 asked) given q none = none
 
 -- where writing failed there was an answer
 pub text_unwritten : {X : Type 0} (hashes : HasherAnswer) (kind : ChainKind) (given : List RawRecord) (q : Question) (why : Bool) (r : Result X DenialFault)

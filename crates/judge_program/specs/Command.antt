@@ -1,5 +1,5 @@
 -- What the words after the program's name ask for.
-use Rattle.std.specs.Prelude.{◌≡◌, ℕ, Bool, true, false, [], ◌∷◌, codes}
+use Rattle.std.specs.Prelude.{◌≡◌, ℕ, Bool, true, false, [], ◌∷◌, codes, Option, Some, None}
 use Rattle.domain_base.specs.Scan.{IsNumber}
 use Rattle.domain_base.specs.Words.{Token, Tokens}
 use Rattle.denial_program.specs.Command.{SpellQuestion}
@@ -24,10 +24,19 @@ LimitText (option ∷ []) limit why = (limit ≡ usual_limit) × WhyText (option
 LimitText (option ∷ word ∷ more) limit why =
     (option ≡ codes "--limit") × IsNumber 16 word limit × WhyText more why
 
+-- options that may ask for labels before that
+abbrev pub LabelsText : Tokens → Option ℕ → ℕ → Bool → Type 0
+LabelsText options None limit why = LimitText options limit why
+LabelsText [] (Some n) limit why = ⊥
+LabelsText (option ∷ []) (Some n) limit why = ⊥
+LabelsText (option ∷ word ∷ more) (Some n) limit why =
+    (option ≡ codes "--labels") × IsNumber 8 word n × LimitText more limit why
+
 -- a word names the kind of chain, and these options stand for it
 abbrev pub KindText : Token → Tokens → ChainKind → Bool → Type 0
 KindText word options Nsec why = (word ≡ codes "nsec") × WhyText options why
-KindText word options (Nsec3 limit) why = (word ≡ codes "nsec3") × LimitText options limit why
+KindText word options (Nsec3 asked) why =
+    (word ≡ codes "nsec3") × LabelsText options asked.labels asked.limit why
 
 -- the words ask what records of this kind of chain answer to the question
 pub record Asks (words : Tokens) (command : Command) : Type 0 where

@@ -1,25 +1,27 @@
 -- What the records of a chain that were read answer to a question.
-use Rattle.std.specs.Prelude.{◌≡◌, ◌⊎◌, ◌<◌, ◌≤◌, ℕ, true, false, List, [], ◌∷◌}
+use Rattle.std.specs.Prelude.{◌≡◌, ◌⊎◌, ◌<◌, ◌≤◌, ℕ, true, false, List, [], ◌∷◌, Option, Some, None, Err}
 use Rattle.domain_base.specs.Name.{is_at_or_below}
 use Rattle.domain_records.specs.declared.error.Nsec3HashError.TheVariants.{Hasher}
 use Rattle.domain_records.specs.declared.error.SigningError.{SigningError}
 use Rattle.domain_records.specs.declared.error.SigningError.TheVariants.{Nsec3HashingError}
 use Rattle.domain_nsec.specs.Chain.{Link}
 use Rattle.domain_nsec3.specs.Chain.{HashedLink, ParamRecord}
-use Rattle.domain_nsec3.specs.Config.{Hash, Parameters}
+use Rattle.domain_nsec3.specs.Config.{Hash, Parameters, hash_name}
 use Rattle.domain_nsec3.specs.View.{HasherAnswer}
 use Rattle.domain_lent.specs.Data.{RawRecord}
+use Rattle.domain_answer.specs.Expansion.{closer_name, is_expanded, ExpansionRestsOn, IsExpansionAnswered, IsExpansionRead}
 use Rattle.domain_answer.specs.HashedProved.{HashedRestsOn, IsHashedAnswered}
 use Rattle.domain_answer.specs.HashedReading.{IsFirstOfRefusals, IsHashedRead}
 use Rattle.domain_answer.specs.Proved.{needs_no_records, IsAnswered, RestsOn}
 use Rattle.domain_answer.specs.Reading.{reading}
 use Rattle.domain_answer.specs.ZoneAnswer.{is_at_parent}
 use Rattle.domain_answer.specs.declared.answer.Answer.{Answer}
-use Rattle.domain_answer.specs.declared.answer.Answer.TheVariants.{OutsideZone, AtParent, TooManyIterations}
+use Rattle.domain_answer.specs.declared.answer.Answer.TheVariants.{OutsideZone, AtParent, TooManyIterations, NotProven}
 use Rattle.denial_program.specs.Check.{hash_with, AreNsecs, AreNsec3s, AreParams, HasNoParam}
 use Rattle.denial_program.specs.declared.command.Question.{Question}
 use Rattle.denial_program.specs.declared.fault.DenialFault.{DenialFault}
 use Rattle.denial_program.specs.declared.fault.DenialFault.TheVariants.{Usage, Read, Line, MixedClasses, Signing, Param, Write, OutOfMemory}
+use Rattle.judge_program.specs.declared.command.Nsec3Options.{Nsec3Options}
 
 -- the answer is what the NSEC records prove of any zone of whose chain they are; from any records,
 -- what they say by themselves, and those that it rests on are there
@@ -44,27 +46,63 @@ pub record IsNsec3Answer (p : Parameters) (hash : Hash) (links : List HashedLink
       → IsHashedRead links q.apex p hash q.name q.rtype answer
   pub proof : HashedRestsOn links q.apex p hash q.name answer
 
+-- the answer is what they prove of a name whose records were expanded from the wildcard right below
+-- its last n labels, as the signatures of those records tell
+pub record IsExpansionAnswer (p : Parameters) (hash : Hash) (links : List HashedLink) (q : Question)
+    (n limit : ℕ) (answer : Answer) : Type 0 where
+  pub outside : is_at_or_below q.name q.apex ≡ false → answer ≡ OutsideZone
+  pub none : is_at_or_below q.name q.apex ≡ true → is_expanded q.apex q.name n ≡ false
+      → answer ≡ NotProven
+  pub iterations : is_expanded q.apex q.name n ≡ true → limit < p.iterations
+      → answer ≡ TooManyIterations
+  pub zone : is_expanded q.apex q.name n ≡ true → p.iterations ≤ limit
+      → IsExpansionAnswered links q.apex p hash q.name n answer
+  pub exact : is_expanded q.apex q.name n ≡ true → p.iterations ≤ limit
+      → IsExpansionRead links q.apex p hash q.name n answer
+  pub proof : ExpansionRestsOn links q.apex p hash q.name n answer
+
+-- as these options ask for it
+abbrev pub IsAnswerAsked : Option ℕ → Parameters → Hash → List HashedLink → Question → ℕ → Answer
+    → Type 0
+IsAnswerAsked None p hash links q limit answer = IsNsec3Answer p hash links q limit answer
+IsAnswerAsked (Some n) p hash links q limit answer = IsExpansionAnswer p hash links q n limit answer
+
 -- the apex has one NSEC3PARAM record, and the answer is that of the NSEC3 records with its
 -- parameters
 pub record IsNsec3Judged (hashes : HasherAnswer) (given : List RawRecord) (q : Question)
-    (limit : ℕ) (answer : Answer) : Type 0 where
+    (asked : Nsec3Options) (answer : Answer) : Type 0 where
   pub param : ParamRecord
   pub single : AreParams q.apex given (param ∷ [])
   pub links : List HashedLink
   pub are : AreNsec3s given links
-  pub is : IsNsec3Answer param.parameters (hash_with hashes param) links q limit answer
+  pub is : IsAnswerAsked asked.labels param.parameters (hash_with hashes param) links q asked.limit
+      answer
+
+-- the hasher refuses the one name that is hashed where there are labels, the next closer name
+pub record IsCloserRefusal (p : Parameters) (hash : Hash) (q : Question) (n limit reason : ℕ)
+    : Type 0 where
+  pub expanded : is_expanded q.apex q.name n ≡ true
+  pub iterations : p.iterations ≤ limit
+  pub refused : hash_name hash (closer_name n q.name) ≡ Err reason
+
+-- the first refusal among the names that are asked for
+abbrev pub IsRefusalAsked : Option ℕ → Parameters → Hash → List HashedLink → Question → ℕ → ℕ
+    → Type 0
+IsRefusalAsked None p hash links q limit reason =
+    IsFirstOfRefusals links q.apex p hash q.name q.rtype reason
+IsRefusalAsked (Some n) p hash links q limit reason = IsCloserRefusal p hash q n limit reason
 
 -- the hasher refuses a name that is asked for: this is the first
 pub record IsJudgeRefused (hashes : HasherAnswer) (given : List RawRecord) (q : Question)
-    (error : SigningError) : Type 0 where
+    (asked : Nsec3Options) (error : SigningError) : Type 0 where
   pub param : ParamRecord
   pub single : AreParams q.apex given (param ∷ [])
   pub links : List HashedLink
   pub are : AreNsec3s given links
   pub reason : ℕ
   pub is : error ≡ Nsec3HashingError (Hasher reason)
-  pub first : IsFirstOfRefusals links q.apex param.parameters (hash_with hashes param) q.name
-      q.rtype reason
+  pub first : IsRefusalAsked asked.labels param.parameters (hash_with hashes param) links q
+      asked.limit reason
 
 -- want of memory, or this refusal of the hasher
 abbrev pub IsRefusedWith : (ℕ → Type 0) → DenialFault → Type 0
@@ -73,13 +111,13 @@ IsRefusedWith is_first fault = (fault ≡ OutOfMemory)
 
 -- why NSEC3 records have none: the apex has no NSEC3PARAM record, or more than one; or the hasher
 -- refuses
-abbrev pub IsNotNsec3Judged : HasherAnswer → List RawRecord → Question → DenialFault
+abbrev pub IsNotNsec3Judged : HasherAnswer → List RawRecord → Question → Nsec3Options → DenialFault
     → Type 0
-IsNotNsec3Judged hashes given q Usage = ⊥
-IsNotNsec3Judged hashes given q Read = ⊥
-IsNotNsec3Judged hashes given q (Line n) = ⊥
-IsNotNsec3Judged hashes given q MixedClasses = ⊥
-IsNotNsec3Judged hashes given q (Signing e) = IsJudgeRefused hashes given q e
-IsNotNsec3Judged hashes given q Param = HasNoParam q.apex given
-IsNotNsec3Judged hashes given q Write = ⊥
-IsNotNsec3Judged hashes given q OutOfMemory = Unit {0}
+IsNotNsec3Judged hashes given q asked Usage = ⊥
+IsNotNsec3Judged hashes given q asked Read = ⊥
+IsNotNsec3Judged hashes given q asked (Line n) = ⊥
+IsNotNsec3Judged hashes given q asked MixedClasses = ⊥
+IsNotNsec3Judged hashes given q asked (Signing e) = IsJudgeRefused hashes given q asked e
+IsNotNsec3Judged hashes given q asked Param = HasNoParam q.apex given
+IsNotNsec3Judged hashes given q asked Write = ⊥
+IsNotNsec3Judged hashes given q asked OutOfMemory = Unit {0}

@@ -1,5 +1,5 @@
 -- What a run answers to its words and lines, and when each of its faults comes.
-use Rattle.std.specs.Prelude.{◌≡◌, ◌⊎◌, ◌&&◌, ℕ, Bool, List, [], ◌++◌, codes, Option, if◌then◌else◌}
+use Rattle.std.specs.Prelude.{◌≡◌, ◌⊎◌, ◌&&◌, Bool, List, [], ◌++◌, codes, Option, if◌then◌else◌}
 use Rattle.std.specs.Io.KnownBytes.{Appends}
 use Rattle.domain_octets.specs.Words.{Octets}
 use Rattle.domain_base.specs.Words.{Tokens}
@@ -18,6 +18,7 @@ use Rattle.judge_program.specs.Why.{nsec_why, rests_on_records, IsNsec3Below}
 use Rattle.judge_program.specs.declared.command.ChainKind.{ChainKind}
 use Rattle.judge_program.specs.declared.command.ChainKind.TheVariants.{Nsec, Nsec3}
 use Rattle.judge_program.specs.declared.command.Command.{Command}
+use Rattle.judge_program.specs.declared.command.Nsec3Options.{Nsec3Options}
 
 -- the text is that of what the NSEC records answer to the question, on one line, and below it,
 -- where they are asked for, of the records that it rests on
@@ -29,26 +30,26 @@ pub record IsNsecText (given : List RawRecord) (q : Question) (why : Bool) (text
       ++ (if why then nsec_why q.apex judged.links q.name answer else [])
 
 -- of what the NSEC3 records answer
-pub record IsNsec3Text (hashes : HasherAnswer) (given : List RawRecord) (q : Question) (limit : ℕ)
-    (why : Bool) (text : Octets) : Type 0 where
+pub record IsNsec3Text (hashes : HasherAnswer) (given : List RawRecord) (q : Question)
+    (asked : Nsec3Options) (why : Bool) (text : Octets) : Type 0 where
   pub answer : Answer
-  pub judged : IsNsec3Judged hashes given q limit answer
+  pub judged : IsNsec3Judged hashes given q asked answer
   pub below : Octets
-  pub shown : IsNsec3Below (why && rests_on_records answer) q.apex judged.param.parameters
-      (hash_with hashes judged.param) judged.links q.name answer below
+  pub shown : IsNsec3Below (why && rests_on_records answer) asked.labels q.apex
+      judged.param.parameters (hash_with hashes judged.param) judged.links q.name answer below
   pub is : text ≡ (answer_text q.name answer ++ codes "\n") ++ below
 
 -- of what records of this kind of chain answer
 abbrev pub IsText : HasherAnswer → ChainKind → List RawRecord → Question → Bool → Octets
     → Type 0
 IsText hashes Nsec given q why text = IsNsecText given q why text
-IsText hashes (Nsec3 limit) given q why text = IsNsec3Text hashes given q limit why text
+IsText hashes (Nsec3 asked) given q why text = IsNsec3Text hashes given q asked why text
 
 -- why they have no answer
 abbrev pub HasNoText : HasherAnswer → ChainKind → List RawRecord → Question → DenialFault
     → Type 0
 HasNoText hashes Nsec given q fault = fault ≡ OutOfMemory
-HasNoText hashes (Nsec3 limit) given q fault = IsNotNsec3Judged hashes given q fault
+HasNoText hashes (Nsec3 asked) given q fault = IsNotNsec3Judged hashes given q asked fault
 
 -- such a text has been appended
 pub record IsWritten (is_such : Octets → Type 0) (old new : Option Octets) : Type 0 where

@@ -60,7 +60,7 @@ answer_text name answers.NotProven = codes "not proven"
 abbrev pub judge_fault_text : DenialFault → Octets
 judge_fault_text Usage =
     codes "usage: denial judge nsec APEX NAME TYPE [--why]"
-    ++ codes " | denial judge nsec3 APEX NAME TYPE [--limit ITERATIONS] [--why]"
+    ++ codes " | denial judge nsec3 APEX NAME TYPE [--labels N] [--limit ITERATIONS] [--why]"
 judge_fault_text Read = fault_text Read
 judge_fault_text (Line n) = fault_text (Line n)
 judge_fault_text MixedClasses = fault_text MixedClasses

@@ -10,14 +10,18 @@ use Rattle.domain_nsec3.specs.Config.{Hash, Parameters, hash_name}
 use Rattle.domain_checker.specs.HashedEncloser.{Encloser, IsFoundEncloser, encloser_of}
 use Rattle.domain_checker.specs.HashedList.{is_hash_cover, is_hash_match}
 use Rattle.domain_checker.specs.HashedPass.{found_cover, found_match}
+use Rattle.domain_checker.specs.HashedVerdict.{IsFirstRefusal}
 use Rattle.domain_checker.specs.Reading.{is_cover, is_match}
 use Rattle.domain_checker.specs.declared.hashed.Nsec3Found.{Nsec3Found}
+use Rattle.domain_answer.specs.Expansion.{closer_name}
 use Rattle.domain_answer.specs.Proved.{last_labels}
 use Rattle.domain_answer.specs.ZoneAnswer.{wildcard_below}
 use Rattle.domain_answer.specs.declared.answer.Answer.{Answer}
 use Rattle.domain_answer.specs.declared.answer.Answer.TheVariants as answers
 use Rattle.denial_program.specs.Text.{nsec_line, nsec3_line}
 use Rattle.judge_program.specs.Text.{full_text}
+use Rattle.judge_program.specs.declared.nsec3_below.Nsec3Below.{Nsec3Below}
+use Rattle.judge_program.specs.declared.nsec3_below.Nsec3Below.TheVariants.{Nothing, Whole, Closer}
 use Rattle.judge_program.specs.declared.nsec3_why.Nsec3Why.{Nsec3Why}
 use Rattle.judge_program.specs.declared.role.Role.{Role}
 use Rattle.judge_program.specs.declared.role.Role.TheVariants.{Asked, Encloser as ClosestEncloser, NextCloser, Wildcard}
@@ -164,9 +168,22 @@ nsec3_why_text x answer why =
     encloser_told x answer (option_map (encloser_of (λ n. n)) why.encloser)
     ++ wildcard_found_text (λ n. n) x why.wildcard
 
-abbrev pub why_text : Name → Answer → Option Nsec3Why → Octets
-why_text x answer None = []
-why_text x answer (Some why) = nsec3_why_text x answer why
+-- of the name one label longer than the last n labels of x
+abbrev pub closer_told : Name → Parameters → Hash → List HashedLink → Name → ℕ → Octets
+closer_told a p hash listed x n =
+    hash_told a p listed (NextCloser (closer_name n x)) (hash_name hash (closer_name n x))
+
+-- what was found of that name
+abbrev pub closer_found_text : {O N : Type 0} → (N → Name) → Name → ℕ → Option (Nsec3Found O N)
+    → Octets
+closer_found_text labels x n None = []
+closer_found_text labels x n (Some found) =
+    nsec3_shown (NextCloser (closer_name n x)) (found_match labels found) (found_cover labels found)
+
+abbrev pub below_text : Name → Answer → Nsec3Below → Octets
+below_text x answer Nothing = []
+below_text x answer (Whole why) = nsec3_why_text x answer why
+below_text x answer (Closer n found) = closer_found_text (λ n. n) x n found
 
 -- the lines below an answer of NSEC3 records: of x and its ancestors the first that a record matches,
 -- and, where the answer needs them, the next closer name and the wildcard
@@ -177,8 +194,15 @@ pub record IsNsec3Why (a : Name) (p : Parameters) (hash : Hash) (listed : List H
   pub is : text ≡ encloser_told x answer found
       ++ nsec3_wildcard_told a p hash listed x (wildcard_count answer)
 
--- none where they are not asked for, or the answer rests on no record
-abbrev pub IsNsec3Below : Bool → Name → Parameters → Hash → List HashedLink → Name → Answer → Octets
-    → Type 0
-IsNsec3Below false a p hash listed x answer text = text ≡ []
-IsNsec3Below true a p hash listed x answer text = IsNsec3Why a p hash listed x answer text
+-- none where they are not asked for, or the answer rests on no record; where there are labels, those
+-- on the next closer name, which is one label longer
+abbrev pub IsNsec3Below : Bool → Option ℕ → Name → Parameters → Hash → List HashedLink → Name
+    → Answer → Octets → Type 0
+IsNsec3Below false labels a p hash listed x answer text = text ≡ []
+IsNsec3Below true None a p hash listed x answer text = IsNsec3Why a p hash listed x answer text
+IsNsec3Below true (Some n) a p hash listed x answer text = text ≡ closer_told a p hash listed x n
+
+-- a name is refused on the way to the closest encloser; none where there are labels
+abbrev pub IsRefusalBelow : Option ℕ → List HashedLink → Name → Parameters → Hash → Name → ℕ → Type 0
+IsRefusalBelow None listed a p hash x reason = IsFirstRefusal listed a p hash x reason
+IsRefusalBelow (Some n) listed a p hash x reason = ⊥

@@ -1,9 +1,10 @@
 //! What the words after the program's name ask for.
-ghost use Rattle.std.specs.Prelude.{◌≡◌, ◌⊎◌, ℕ, Bool, IfErr, IfNone, IfOk, IfSome, map, string_bytes};
+ghost use Rattle.std.specs.Prelude.{◌≡◌, ◌⊎◌, ℕ, Bool, None, IfErr, IfNone, IfOk, IfSome, map, string_bytes};
 ghost use Rattle.domain_base.specs.Scan.{IsNumber};
 ghost use Rattle.denial_program.specs.declared.fault.DenialFault.TheVariants.{OutOfMemory};
-ghost use Rattle.judge_program.specs.Command.{Asks, IsNoCommand, KindText, LimitText, WhyText};
+ghost use Rattle.judge_program.specs.Command.{Asks, IsNoCommand, KindText, LabelsText, LimitText, WhyText};
 ghost use Rattle.judge_program.specs.declared.command.ChainKind.{ChainKind};
+ghost use Rattle.judge_program.specs.declared.command.Nsec3Options.{Nsec3Options};
 
 use denial_program::{DenialFault, Question, question_of};
 use domain_base::FromToken;
@@ -13,13 +14,23 @@ use std::alloc::Global;
 /// chooses its limit (RFC 9276, section 3.2); common resolvers took 150, before they went lower.
 const USUAL_LIMIT: u16 = 150;
 
+/// How NSEC3 records are judged.
+#[derive(Clone, Copy, Debug, PartialEq, Eq)]
+pub struct Nsec3Options {
+    /// For a name whose records were expanded from a wildcard: how many labels the signatures of
+    /// these tell in their field Labels (RFC 4034, section 3.1.3).
+    pub labels: Option<u8>,
+    /// How many additional iterations a hash may take.
+    pub limit: u16,
+}
+
 /// Of which kind of chain the records are.
 #[derive(Clone, Copy, Debug, PartialEq, Eq)]
 pub enum ChainKind {
     /// NSEC.
     Nsec,
-    /// NSEC3, where a hash may take so many additional iterations.
-    Nsec3(u16),
+    /// NSEC3, judged in this way.
+    Nsec3(Nsec3Options),
 }
 
 /// What the words ask for.
@@ -39,6 +50,17 @@ fn iterations_of(word: &str) -> Option<u16>
     ensures none { IfNone result ((n : ℕ) → IsNumber 16 word.now n → ⊥) }
 {
     match u16::from_token(word) {
+        Ok(number) => Some(number),
+        Err(_) => None,
+    }
+}
+
+/// A number of labels that a word spells, of 8 bits (RFC 4034, section 3.1.3).
+fn labels_of(word: &str) -> Option<u8>
+    ensures some { IfSome result (IsNumber 8 word.now) }
+    ensures none { IfNone result ((n : ℕ) → IsNumber 8 word.now n → ⊥) }
+{
+    match u8::from_token(word) {
         Ok(number) => Some(number),
         Err(_) => None,
     }
@@ -73,6 +95,36 @@ fn limit_of(options: &[String]) -> Option<(u16, bool)>
     Some((limit, why_of(more)?))
 }
 
+/// A limit of iterations, and whether the records are asked for too, without labels.
+fn without_labels(asked: (u16, bool)) -> (Nsec3Options, bool)
+    ensures labels { result.0.labels ≡ None }
+    ensures limit { result.0.limit ≡ asked.0 }
+    ensures why { result.1 ≡ asked.1 }
+{
+    let (limit, why) = asked;
+    let labels = None;
+    (Nsec3Options { labels, limit }, why)
+}
+
+/// How the options ask for NSEC3 records to be judged, and whether they ask for the records too.
+fn nsec3_options_of(options: &[String]) -> Option<(Nsec3Options, bool)>
+    ensures some { IfSome result (λ p.
+        LabelsText (map string_bytes options.now) p.0.labels p.0.limit p.1) }
+    ensures none { IfNone result ((asked : Nsec3Options) (why : Bool)
+        → LabelsText (map string_bytes options.now) asked.labels asked.limit why → ⊥) }
+{
+    let [option, number, more @ ..] = options else {
+        return Some(without_labels(limit_of(options)?));
+    };
+    if option.as_str() != "--labels" {
+        return Some(without_labels(limit_of(options)?));
+    }
+    let labels = labels_of(number.as_str())?;
+    let (limit, why) = limit_of(more)?;
+    let labels = Some(labels);
+    Some((Nsec3Options { labels, limit }, why))
+}
+
 /// The kind of chain that a first word names, with the options that stand for it, and whether they
 /// ask for the records too.
 fn kind_of(word: &str, options: &[String]) -> Option<(ChainKind, bool)>
@@ -83,8 +135,8 @@ fn kind_of(word: &str, options: &[String]) -> Option<(ChainKind, bool)>
     match word {
         "nsec" => Some((ChainKind::Nsec, why_of(options)?)),
         "nsec3" => {
-            let (limit, why) = limit_of(options)?;
-            Some((ChainKind::Nsec3(limit), why))
+            let (asked, why) = nsec3_options_of(options)?;
+            Some((ChainKind::Nsec3(asked), why))
         }
         _ => None,
     }

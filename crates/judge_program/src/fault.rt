@@ -21,7 +21,7 @@ impl From<DenialFault> for JudgeFault {
 }
 
 const USAGE: &str = "usage: denial judge nsec APEX NAME TYPE [--why] \
-     | denial judge nsec3 APEX NAME TYPE [--limit ITERATIONS] [--why]";
+     | denial judge nsec3 APEX NAME TYPE [--labels N] [--limit ITERATIONS] [--why]";
 
 impl fmt::Display for JudgeFault {
     ghost output = { λ e. Some (judge_fault_text e.fault) };

@@ -1,26 +1,26 @@
 //! What records of a chain that were read answer to a question.
-ghost use Rattle.std.specs.Prelude.{◌≡◌, ◌⊎◌, ◌&&◌, ◌++◌, [], codes, IfErr, IfOk, OnOk, if◌then◌else◌};
+ghost use Rattle.std.specs.Prelude.{◌≡◌, ◌⊎◌, ◌++◌, [], codes, IfErr, IfOk, OnOk, if◌then◌else◌};
 ghost use Rattle.std.specs.Io.KnownBytes.{Appends};
 ghost use Rattle.domain_nsec.specs.ChainView.{links_of};
-ghost use Rattle.domain_checker.specs.HashedVerdict.{IsFirstRefusal};
 ghost use Rattle.domain_checker.specs.HashedView.{hash_with, links, parameters};
 ghost use Rattle.domain_answer.specs.HashedReading.{IsFirstOfRefusals};
 ghost use Rattle.denial_program.specs.Check.{AreNsecs};
 ghost use Rattle.denial_program.specs.Fault.{IsBeforeOutput};
 ghost use Rattle.denial_program.specs.declared.fault.DenialFault.TheVariants.{OutOfMemory as Memory};
-ghost use Rattle.judge_program.specs.Judged.{IsNotNsec3Judged, IsNsec3Answer, IsRefusedWith};
+ghost use Rattle.judge_program.specs.Judged.{IsAnswerAsked, IsNotNsec3Judged, IsNsec3Answer, IsRefusalAsked, IsRefusedWith};
 ghost use Rattle.judge_program.specs.Run.{HasNoText, IsNsecText, IsNsec3Text, IsText, IsUnwritten, IsWritten};
 ghost use Rattle.judge_program.specs.Text.{answer_text};
-ghost use Rattle.judge_program.specs.Why.{nsec_why, rests_on_records, why_text, IsNsec3Below};
+ghost use Rattle.judge_program.specs.Why.{below_text, nsec_why};
 
 use crate::answer_text::AnswerText;
-use crate::command::{ChainKind, Command};
-use crate::nsec3_why::Nsec3Why;
-use crate::why::{rests_on_records, write_nsec_why};
+use crate::command::{ChainKind, Command, Nsec3Options};
+use crate::expansion::expansion_answer;
+use crate::nsec3_below::Nsec3Below;
+use crate::nsec3_why::Nsec3s;
+use crate::why::write_nsec_why;
 use denial_program::{DenialFault, Question, ZoneName, chain_of, fault_of};
 use domain_answer::{Answer, judge_nsec, judge_nsec3};
-use domain_base::ParsedName;
-use domain_dnssec::{Nsec3Hasher, Nsec3Records};
+use domain_dnssec::Nsec3Hasher;
 use domain_lent::{LentRecord, NsecRr, into_nsec};
 use domain_octets::OutOfMemory;
 use domain_records::{Nsec3HashError, SigningError};
@@ -89,12 +89,12 @@ fn judge_nsecs<'a, W: Write>(
     }
 }
 
-/// What NSEC3 records answer to a question.
-fn nsec3_answer<'a, H: Nsec3Hasher>(
+/// What NSEC3 records answer to a question, where no labels are told.
+fn whole_answer<H: Nsec3Hasher>(
     alloc: Global,
     question: &Question,
     limit: u16,
-    chain: &Nsec3Records<ParsedName<'a>, &'a [u8]>,
+    chain: &Nsec3s<'_>,
     hasher: &H,
 ) -> Result<Answer, DenialFault>
     ensures ok { IfOk result (IsNsec3Answer (parameters chain.now)
@@ -113,27 +113,26 @@ fn nsec3_answer<'a, H: Nsec3Hasher>(
     }
 }
 
-/// What NSEC3 records tell of the names that an answer rests on, where that is asked for.
-fn nsec3_why<'r, 'a, H: Nsec3Hasher>(
+/// What NSEC3 records answer to a question.
+fn nsec3_answer<H: Nsec3Hasher>(
     alloc: Global,
     question: &Question,
-    why: bool,
-    chain: &'r Nsec3Records<ParsedName<'a>, &'a [u8]>,
-    answer: Answer,
+    asked: Nsec3Options,
+    chain: &Nsec3s<'_>,
     hasher: &H,
-) -> Result<Option<Nsec3Why<'r, 'a>>, DenialFault>
-    ensures ok { IfOk result (λ found. IsNsec3Below (why && rests_on_records answer)
-        question.now.apex (parameters chain.now) (hash_with (H.answer hasher.now) chain.now)
-        (links (λ n. n) chain.now) question.now.name answer
-        (why_text question.now.name answer found)) }
-    ensures err { IfErr result (IsRefusedWith (IsFirstRefusal (links (λ n. n) chain.now)
-        question.now.apex (parameters chain.now) (hash_with (H.answer hasher.now) chain.now)
-        question.now.name)) }
+) -> Result<Answer, DenialFault>
+    ensures ok { IfOk result (IsAnswerAsked asked.labels (parameters chain.now)
+        (hash_with (H.answer hasher.now) chain.now) (links (λ n. n) chain.now) question.now
+        asked.limit) }
+    ensures err { IfErr result (IsRefusedWith (IsRefusalAsked asked.labels (parameters chain.now)
+        (hash_with (H.answer hasher.now) chain.now) (links (λ n. n) chain.now) question.now
+        asked.limit)) }
 {
-    if !(why && rests_on_records(answer)) {
-        return Ok(None);
+    let Nsec3Options { labels, limit } = asked;
+    match labels {
+        Some(labels) => expansion_answer(alloc, question, labels, limit, chain, hasher),
+        None => whole_answer(alloc, question, limit, chain, hasher),
     }
-    Ok(Some(Nsec3Why::find(alloc, question, chain, answer, hasher)?))
 }
 
 /// Writes what NSEC3 records answer to a question and, where they are asked for, those that the
@@ -141,17 +140,14 @@ fn nsec3_why<'r, 'a, H: Nsec3Hasher>(
 fn write_nsec3<W: Write>(
     name: &ZoneName,
     answer: Answer,
-    why: Option<Nsec3Why<'_, '_>>,
+    below: Nsec3Below<'_, '_>,
     output: &mut W,
 ) -> io::Result<()>
     ensures { OnOk result (Appends (W.contents output.old) (W.contents output.new)
-        ((answer_text name.now answer ++ codes "\n") ++ why_text name.now answer why.entry)) }
+        ((answer_text name.now answer ++ codes "\n") ++ below_text name.now answer below.entry)) }
 {
     writeln!(output, "{}", AnswerText::new(name, answer))?;
-    let Some(why) = why else {
-        return output.flush();
-    };
-    why.write(name, answer, output)?;
+    below.write(name, answer, output)?;
     output.flush()
 }
 
@@ -159,24 +155,25 @@ fn write_nsec3<W: Write>(
 fn judge_nsec3s<'a, W: Write, H: Nsec3Hasher>(
     alloc: Global,
     question: &Question,
-    limit: u16,
+    asked: Nsec3Options,
     why: bool,
     records: Vec<LentRecord<'a>>,
     hasher: &H,
     output: &mut W,
 ) -> Result<(), DenialFault>
     ensures ok { OnOk result (IsWritten
-        (IsNsec3Text (H.answer hasher.now) records.entry.items question.now limit why)
+        (IsNsec3Text (H.answer hasher.now) records.entry.items question.now asked why)
         (W.contents output.old) (W.contents output.new)) }
     ensures err { IfErr result (IsUnwritten
-        (IsNsec3Text (H.answer hasher.now) records.entry.items question.now limit why)
-        (IsNotNsec3Judged (H.answer hasher.now) records.entry.items question.now)) }
+        (IsNsec3Text (H.answer hasher.now) records.entry.items question.now asked why)
+        (IsNotNsec3Judged (H.answer hasher.now) records.entry.items question.now asked)) }
     ensures untouched { IfErr result (λ e. IsBeforeOutput e → output.new ≡ output.old) }
 {
     let chain = chain_of(alloc, &question.apex, records)?;
-    let answer = nsec3_answer(alloc, question, limit, &chain, hasher)?;
-    let why = nsec3_why(alloc, question, why, &chain, answer, hasher)?;
-    match write_nsec3(&question.name, answer, why, output) {
+    let answer = nsec3_answer(alloc, question, asked, &chain, hasher)?;
+    let labels = asked.labels;
+    let below = Nsec3Below::find(alloc, question, labels, why, &chain, answer, hasher)?;
+    match write_nsec3(&question.name, answer, below, output) {
         Ok(()) => Ok(()),
         Err(e) => Err(fault_of(&e, DenialFault::Write)),
     }
@@ -212,8 +209,8 @@ pub fn write_judged<'a, W: Write, H: Nsec3Hasher>(
     } = command;
     match *kind {
         ChainKind::Nsec => judge_nsecs(alloc, question, *why, records, output),
-        ChainKind::Nsec3(limit) => {
-            judge_nsec3s(alloc, question, limit, *why, records, hasher, output)
+        ChainKind::Nsec3(asked) => {
+            judge_nsec3s(alloc, question, asked, *why, records, hasher, output)
         }
     }
 }

@@ -7,8 +7,10 @@
 
 mod answer_text;
 mod command;
+mod expansion;
 mod fault;
 mod judge;
+mod nsec3_below;
 mod nsec3_why;
 mod program;
 mod role;

@@ -28,13 +28,13 @@ use std::io;
 use std::io::Write;
 
 /// NSEC3 records, and the record of their parameters.
-type Nsec3s<'a> = Nsec3Records<ParsedName<'a>, &'a [u8]>;
+pub type Nsec3s<'a> = Nsec3Records<ParsedName<'a>, &'a [u8]>;
 
 /// What NSEC3 records tell of the closest encloser of a name.
 type Encloser<'r, 'a> = Nsec3Encloser<'r, &'a [u8], ParsedName<'a>>;
 
 /// What they tell of one name.
-type Told<'r, 'a> = Nsec3Found<'r, &'a [u8], ParsedName<'a>>;
+pub type Told<'r, 'a> = Nsec3Found<'r, &'a [u8], ParsedName<'a>>;
 
 /// Whether an answer rests on a cover of the next closer name.
 fn needs_next_closer(answer: Answer) -> bool
@@ -73,7 +73,7 @@ fn write_cover<W: Write>(
 }
 
 /// Writes a line on what NSEC3 records tell of a name, if they tell anything.
-fn write_told<W: Write>(told: Told<'_, '_>, role: &Role<'_>, output: &mut W) -> io::Result<()>
+pub fn write_told<W: Write>(told: Told<'_, '_>, role: &Role<'_>, output: &mut W) -> io::Result<()>
     ensures { OnOk result (Appends (W.contents output.old) (W.contents output.new)
         (nsec3_shown role.now (found_match (λ n. n) told.entry)
         (found_cover (λ n. n) told.entry))) }

@@ -5,7 +5,7 @@ use Rattle.domain_checker.specs.HashedView.{hash_with, links, parameters}
 use Rattle.domain_records.specs.declared.error.SigningError.TheVariants.{Nsec3HashingError}
 use Rattle.denial_program.specs.declared.fault.DenialFault.TheVariants.{Signing}
 use Rattle.denial_program.proofs.CheckLemmas.{hasher_refused}
-use Rattle.judge_program.proofs.judge.nsec3_answer.Goals as goal
+use Rattle.judge_program.proofs.judge.whole_answer.Goals as goal
 
 pub returns-in-Ok-clause-ok : goal.returns-in-Ok-clause-ok
 returns-in-Ok-clause-ok g c =

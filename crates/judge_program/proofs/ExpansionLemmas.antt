@@ -1,0 +1,33 @@
+-- Answers of names whose records were expanded from a wildcard.
+use Rattle.std.proofs.Common.{◌≡◌, ◌<◌, ◌≤◌, ℕ, Bool, true, false, List, refl, ap, sym, ◌∙◌, Option, Ok, Err, arith}
+use Rattle.std.specs.List.{find}
+use Rattle.domain_base.specs.Words.{Name}
+use Rattle.domain_base.specs.Name.{lowered, wire_of}
+use Rattle.domain_nsec3.specs.Chain.{HashedLink}
+use Rattle.domain_nsec3.specs.Config.{Hash, Parameters, hash_name}
+use Rattle.domain_checker.specs.HashedList.{is_hash_cover, is_hash_match}
+use Rattle.domain_checker.specs.HashedPass.{IsLookedUp}
+use Rattle.domain_answer.specs.Expansion.{closer_name}
+use Rattle.judge_program.specs.Why.{closer_told, hash_told, nsec3_shown}
+use Rattle.judge_program.specs.declared.role.Role.TheVariants.{NextCloser}
+use Rattle.judge_program.proofs.Nsec3WhyLemmas.{shown_found}
+
+pub true_of : (b : Bool) → (b ≡ false → ⊥) → b ≡ true
+true_of true not = refl
+true_of false not = absurd (not refl)
+
+pub no_ok : {X E : Type 0} (e : E) (x : X) → Err e ≡ Ok x → ⊥
+no_ok e x is = cc
+
+pub at_most : (a b : ℕ) → (b < a → ⊥) → a ≤ b
+at_most a b not = omega (arith, not)
+
+-- what one pass found of the next closer name
+pub closer_is_told : (a : Name) (p : Parameters) (hash : Hash) (listed : List HashedLink) (x : Name) (n : ℕ) (closer : Name)
+    (matched covered : Option HashedLink) → closer ≡ closer_name n x → IsLookedUp a p hash listed (wire_of (lowered closer)) matched covered
+    → nsec3_shown (NextCloser (closer_name n x)) matched covered ≡ closer_told a p hash listed x n
+closer_is_told a p hash listed x n closer matched covered is looked =
+    let role = NextCloser (closer_name n x) in
+    shown_found role matched covered (find (is_hash_match a p looked.value) listed) (find (is_hash_cover a p looked.value) listed)
+    looked.found.matching looked.found.covering
+    ∙ ap (hash_told a p listed role) (sym looked.known ∙ ap (hash_name hash) is)
