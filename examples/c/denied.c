@@ -4,13 +4,15 @@
  *     denied [--check] APEX FILE [NAME TYPE]
  *
  * The answer is a whole one: that there is no such name and no wildcard either, that it is delegated,
- * an alias, and so on. With --check it is a verdict on the one name and the one type. Of answers and
- * verdicts that come with labels the name of so many labels is printed too.
+ * an alias, and so on. Where the records that answer were expanded from a wildcard and the chain is
+ * NSEC3, it is what such an answer needs: that there is no closer name than the one right above the
+ * wildcard. With --check it is a verdict on the one name and the one type. Of answers and verdicts
+ * that come with labels the name of so many labels is printed too.
  *
  * The file is an answer as `dig +dnssec` printed it, a chain or a signed zone, one record a line.
  * Without NAME and TYPE the question of the answer is asked. All records are handed on as they
- * stand; the library passes over those that deny nothing. Signatures are not looked at: a validator
- * checks them first.
+ * stand; the library passes over those that deny nothing. Of signatures nothing but the field Labels
+ * is looked at: a validator checks them first.
  */
 #include <stdio.h>
 #include <stdlib.h>
@@ -88,13 +90,16 @@ static uint32_t ask(const struct input *input, const ldns_rdf *apex, int is_chec
     if (!input->is_hashed)
         return denial_judge_nsec(at_apex, apex_length, at_name, name_length, rtype, LDNS_RR_CLASS_IN, records, length,
                                  labels);
+    if (input->is_expanded)
+        return denial_judge_nsec3_expansion(at_apex, apex_length, at_name, name_length, input->rrsig_labels,
+                                            LDNS_RR_CLASS_IN, MOST_ITERATIONS, records, length, labels);
     return denial_judge_nsec3(at_apex, apex_length, at_name, name_length, rtype, LDNS_RR_CLASS_IN, MOST_ITERATIONS,
                               records, length, labels);
 }
 
 int main(int argc, char **argv)
 {
-    struct input input = {NULL, NULL, 0, 0, 0};
+    struct input input = {NULL, NULL, 0, 0, 0, 0, 0};
     int is_check = argc > 1 && strcmp(argv[1], "--check") == 0, status;
     char **words = argv + 1 + is_check;
     ldns_rdf *apex;

@@ -102,6 +102,38 @@ static void put_nsec(struct octets *to, const char *owner, int rclass, const cha
     put_record(to, owner, NSEC, rclass, &data);
 }
 
+/* The salt of the zone of RFC 5155, appendix A. */
+static const char salt[] = "\252\273\314\335";
+
+/* An NSEC3PARAM record with that salt. */
+static void put_salted_param(struct octets *to, const char *owner, int iterations)
+{
+    struct octets data = {{0}, 0};
+
+    put_number(&data, 1, 1);
+    put_number(&data, 0, 1);
+    put_number(&data, (unsigned long)iterations, 2);
+    put_number(&data, 4, 1);
+    put(&data, salt, 4);
+    put_record(to, owner, NSEC3PARAM, IN, &data);
+}
+
+/* An NSEC3 record with that salt and 12 iterations, from the owner's hash to that of another name. */
+static void put_salted_nsec3(struct octets *to, const char *owner, int flags, const char *next, const int *rtypes)
+{
+    struct octets data = {{0}, 0};
+
+    put_number(&data, 1, 1);
+    put_number(&data, (unsigned long)flags, 1);
+    put_number(&data, 12, 2);
+    put_number(&data, 4, 1);
+    put(&data, salt, 4);
+    put_number(&data, 20, 1);
+    put(&data, next, 20);
+    put_types(&data, rtypes);
+    put_record(to, owner, NSEC3, IN, &data);
+}
+
 static void put_param_of(struct octets *to, const char *owner, int algorithm, int iterations)
 {
     struct octets data = {{0}, 0};
@@ -145,13 +177,23 @@ static void expect(const char *what, uint32_t answer, size_t labels, uint32_t wa
 typedef uint32_t check(const uint8_t *, size_t, const uint8_t *, size_t, uint16_t, uint16_t,
                        const uint8_t *, size_t, size_t *);
 
-/* The most iterations that judge_nsec3 allows. */
+/* The most iterations that judge_nsec3 and judge_expansion allow. */
 static uint16_t limit;
 
 static uint32_t judge_nsec3(const uint8_t *apex, size_t apex_length, const uint8_t *name, size_t name_length,
                             uint16_t rtype, uint16_t rclass, const uint8_t *records, size_t length, size_t *labels)
 {
     return denial_judge_nsec3(apex, apex_length, name, name_length, rtype, rclass, limit, records, length, labels);
+}
+
+/* Asks of an answer expanded from a wildcard, whose signatures have the type that is asked for as their
+ * field Labels. */
+static uint32_t judge_expansion(const uint8_t *apex, size_t apex_length, const uint8_t *name, size_t name_length,
+                                uint16_t rtype, uint16_t rclass, const uint8_t *records, size_t length,
+                                size_t *labels)
+{
+    return denial_judge_nsec3_expansion(apex, apex_length, name, name_length, (uint8_t)rtype, rclass, limit, records,
+                                        length, labels);
 }
 
 /* Asks, with octets that lie in blocks of their own length. */
@@ -364,6 +406,48 @@ static void try_nsec3_answers(void)
     limit = 0;
 }
 
+/* Each answer about an expansion, over the record of RFC 5155, appendix B.4, which covers z.w.example,
+ * the next closer name of a.z.w.example, whose signatures have 2 labels. */
+static void try_expansions(void)
+{
+    static const char closer[] = "q04jkcevqvmu85r014c7dkba38o0ji5r.example.";
+    /* The octets of r53bq7cc2uvmubfu5ocmm6pers9tk9en; and the hash of z.w.example as an owner. */
+    static const char next[] = "\331\106\275\035\214\027\277\157\055\376"
+                               "\056\031\153\033\056\337\023\332\045\327";
+    static const char of_closer[] = "qlu7gtfaeh0ek0c05ksfhdpbcgglbe03.example.";
+    struct octets records = {{0}, 0}, opted = {{0}, 0}, both = {{0}, 0}, many = {{0}, 0};
+
+    limit = 12;
+    put_salted_param(&records, "example.", 12);
+    put_salted_nsec3(&records, closer, 0, next, at_host);
+    ask(judge_expansion, "example.", "a.z.w.example.", 2, &records, DENIAL_JUDGED_NO_CLOSER_NAME, 2);
+    ask(judge_expansion, "Example.", "A.z.W.example.", 2, &records, DENIAL_JUDGED_NO_CLOSER_NAME, 2);
+    ask(judge_expansion, "example.", "a.b.z.w.example.", 2, &records, DENIAL_JUDGED_NO_CLOSER_NAME, 2);
+    /* w.example exists, so that no record covers it. */
+    ask(judge_expansion, "example.", "a.z.w.example.", 1, &records, DENIAL_JUDGED_NOT_PROVEN, 0);
+    /* Fewer labels than the apex has, and as many as the name has, and more. */
+    ask(judge_expansion, "example.", "a.z.w.example.", 0, &records, DENIAL_JUDGED_NOT_PROVEN, 0);
+    ask(judge_expansion, "example.", "a.z.w.example.", 4, &records, DENIAL_JUDGED_NOT_PROVEN, 0);
+    ask(judge_expansion, "example.", "a.z.w.example.", 255, &records, DENIAL_JUDGED_NOT_PROVEN, 0);
+    ask(judge_expansion, "example.", "a.z.w.", 2, &records, DENIAL_JUDGED_OUTSIDE_ZONE, 0);
+    /* Without the record of the closest encloser this is what the question gets. */
+    ask(judge_nsec3, "example.", "a.z.w.example.", MX, &records, DENIAL_JUDGED_NOT_PROVEN, 0);
+    put_salted_param(&opted, "example.", 12);
+    put_salted_nsec3(&opted, closer, 1, next, at_host);
+    ask(judge_expansion, "example.", "a.z.w.example.", 2, &opted, DENIAL_JUDGED_MAY_BE_UNSIGNED, 2);
+    /* One that matches the next closer name stands against one that covers it. */
+    both = records;
+    put_salted_nsec3(&both, of_closer, 0, next, at_host);
+    ask(judge_expansion, "example.", "a.z.w.example.", 2, &both, DENIAL_JUDGED_NOT_PROVEN, 0);
+    put_salted_param(&many, "example.", 13);
+    ask(judge_expansion, "example.", "a.z.w.example.", 2, &many, DENIAL_JUDGED_TOO_MANY_ITERATIONS, 0);
+    ask(judge_expansion, "example.", "a.z.w.example.", 4, &many, DENIAL_JUDGED_NOT_PROVEN, 0);
+    ask(judge_expansion, "example.", "a.b.", 2, &many, DENIAL_JUDGED_OUTSIDE_ZONE, 0);
+    limit = 11;
+    ask(judge_expansion, "example.", "a.z.w.example.", 2, &records, DENIAL_JUDGED_TOO_MANY_ITERATIONS, 0);
+    limit = 0;
+}
+
 /* Each number's text; the least number that has none follows the last that has one. */
 static void try_texts(void)
 {
@@ -435,8 +519,9 @@ static void try_nsec_faults(check *call, uint32_t not_proven)
     ask(call, "a.", "a.", A, &foreign, not_proven, 0);
 }
 
-/* The faults of a call for NSEC3. */
-static void try_nsec3_faults(check *call, uint32_t has)
+/* The faults of a call for NSEC3, and what is answered where there is none of the name and the type, or
+ * the field Labels. */
+static void try_nsec3_faults(check *call, const char *asked, int rtype, uint32_t wanted, size_t wanted_labels)
 {
     struct octets apex = {{0}, 0}, name = {{0}, 0}, bad = {{0}, 0}, param = {{0}, 0}, chain = {{0}, 0};
     struct octets no_bitmap = {{1, 'a', 0, 0, 0}, 5}, broken = {{0}, 0};
@@ -450,20 +535,20 @@ static void try_nsec3_faults(check *call, uint32_t has)
     refuse(call, &apex, &bad, &bad, DENIAL_BAD_NAME);
     refuse(call, &apex, &name, &bad, DENIAL_BAD_RECORDS);
     put_record(&broken, "a.", NSEC3, IN, &no_bitmap);
-    ask(call, "a.", "a.", A, &broken, DENIAL_BAD_RECORDS, 0);
-    ask(call, "a.", "a.", A, &chain, DENIAL_NO_PARAM, 0);
+    ask(call, "a.", asked, rtype, &broken, DENIAL_BAD_RECORDS, 0);
+    ask(call, "a.", asked, rtype, &chain, DENIAL_NO_PARAM, 0);
     put_param(&chain, "b.", 1);
-    ask(call, "a.", "a.", A, &chain, DENIAL_NO_PARAM, 0);
+    ask(call, "a.", asked, rtype, &chain, DENIAL_NO_PARAM, 0);
     put_param(&param, "a.", 1);
-    ask(call, "a.", "a.", A, &param, DENIAL_NO_PARAM, 0);
+    ask(call, "a.", asked, rtype, &param, DENIAL_NO_PARAM, 0);
     param.length = 0;
     put_param(&param, "a.", 2);
-    ask(call, "a.", "a.", A, &param, DENIAL_HASHER_REFUSED, 0);
+    ask(call, "a.", asked, rtype, &param, DENIAL_HASHER_REFUSED, 0);
     put_param(&chain, "a.", 1);
     memory_is_refused = 1;
-    ask(call, "a.", "a.", SOA, &chain, DENIAL_OUT_OF_MEMORY, 0);
+    ask(call, "a.", asked, rtype, &chain, DENIAL_OUT_OF_MEMORY, 0);
     memory_is_refused = 0;
-    ask(call, "a.", "a.", SOA, &chain, has, 0);
+    ask(call, "a.", asked, rtype, &chain, wanted, wanted_labels);
 }
 
 /* Without memory the NSEC records prove the same; for a whole answer they are gathered in memory. */
@@ -515,6 +600,7 @@ static void try_short_of_memory(void)
     refuse_each_request(denial_judge_nsec, "NSEC, short of memory", &nsecs);
     refuse_each_request(denial_check_nsec3, "NSEC3 verdicts, short of memory", &nsec3s);
     refuse_each_request(judge_nsec3, "NSEC3, short of memory", &nsec3s);
+    refuse_each_request(judge_expansion, "expansions, short of memory", &nsec3s);
 }
 
 /* Cuts the octets at each place: only between two records are they still records. */
@@ -563,6 +649,8 @@ static void try_cuts(void)
         expect("a cut apex", answer, labels, DENIAL_BAD_APEX, 0);
         answer = ask_octets(judge_nsec3, &cut, &name, A, &chain, &labels);
         expect("a cut apex", answer, labels, DENIAL_BAD_APEX, 0);
+        answer = ask_octets(judge_expansion, &apex, &cut, A, &chain, &labels);
+        expect("a cut name", answer, labels, DENIAL_BAD_NAME, 0);
     }
 }
 
@@ -573,11 +661,13 @@ int main(void)
     try_nsec3_verdicts();
     try_nsec_answers();
     try_nsec3_answers();
+    try_expansions();
     try_texts();
     try_nsec_faults(denial_check_nsec, DENIAL_NOT_PROVEN);
     try_nsec_faults(denial_judge_nsec, DENIAL_JUDGED_NOT_PROVEN);
-    try_nsec3_faults(denial_check_nsec3, DENIAL_HAS);
-    try_nsec3_faults(judge_nsec3, DENIAL_JUDGED_EXISTS);
+    try_nsec3_faults(denial_check_nsec3, "a.", SOA, DENIAL_HAS, 0);
+    try_nsec3_faults(judge_nsec3, "a.", SOA, DENIAL_JUDGED_EXISTS, 0);
+    try_nsec3_faults(judge_expansion, "x.a.", 1, DENIAL_JUDGED_NO_CLOSER_NAME, 1);
     try_without_memory();
     try_short_of_memory();
     try_cuts();

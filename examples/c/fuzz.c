@@ -80,18 +80,36 @@ static size_t count_labels(const struct octets *octets)
     return count;
 }
 
-/* The calls: of each chain that for a verdict, and that for a whole answer. */
-enum { IS_HASHED = 1, IS_JUDGED = 2, CALLS = 4, LIMIT = 20 };
+/* The calls: of each chain that for a verdict, and that for a whole answer; and that for an answer
+ * which was expanded from a wildcard. */
+enum { IS_HASHED = 1, IS_JUDGED = 2, EXPANSION = 4, CALLS = 5, LIMIT = 20 };
 
 static int is_fault(uint32_t answer)
 {
     return answer >= DENIAL_BAD_APEX && answer <= DENIAL_OUT_OF_MEMORY;
 }
 
+/* Whether it is an answer about a name that was expanded from a wildcard. */
+static int is_expansion_answer(uint32_t answer)
+{
+    switch (answer) {
+    case DENIAL_JUDGED_NOT_PROVEN:
+    case DENIAL_JUDGED_OUTSIDE_ZONE:
+    case DENIAL_JUDGED_MAY_BE_UNSIGNED:
+    case DENIAL_JUDGED_NO_CLOSER_NAME:
+    case DENIAL_JUDGED_TOO_MANY_ITERATIONS:
+        return 1;
+    default:
+        return is_fault(answer);
+    }
+}
+
 static int is_answer(uint32_t answer, int call)
 {
     int is_hashed = (call & IS_HASHED) != 0;
 
+    if (call == EXPANSION)
+        return is_expansion_answer(answer);
     if (is_fault(answer))
         return is_hashed || answer <= DENIAL_BAD_RECORDS;
     if (call & IS_JUDGED)
@@ -99,6 +117,12 @@ static int is_answer(uint32_t answer, int call)
                && (is_hashed
                    || (answer != DENIAL_JUDGED_MAY_BE_UNSIGNED && answer != DENIAL_JUDGED_TOO_MANY_ITERATIONS));
     return answer <= DENIAL_NO_NAME && (is_hashed || answer != DENIAL_OPT_OUT);
+}
+
+/* What is handed in for the field Labels, where a type is asked for by other calls. */
+static uint8_t labels_of(uint16_t rtype)
+{
+    return (uint8_t)(rtype % 8);
 }
 
 static uint32_t ask_call(int call, uint16_t rtype, const uint8_t *at[3], size_t *labels)
@@ -110,9 +134,24 @@ static uint32_t ask_call(int call, uint16_t rtype, const uint8_t *at[3], size_t 
         return denial_check_nsec3(at[0], apex.length, at[1], name.length, rtype, 1, at[2], message.length, labels);
     case IS_JUDGED:
         return denial_judge_nsec(at[0], apex.length, at[1], name.length, rtype, 1, at[2], message.length, labels);
+    case EXPANSION:
+        return denial_judge_nsec3_expansion(at[0], apex.length, at[1], name.length, labels_of(rtype), 1, LIMIT,
+                                            at[2], message.length, labels);
     default:
         return denial_judge_nsec3(at[0], apex.length, at[1], name.length, rtype, 1, LIMIT, at[2], message.length,
                                   labels);
+    }
+}
+
+/* Compares a verdict and a whole answer: either both are the same fault or none is one. For a whole
+ * answer other names may be hashed, or none, so that the hasher may refuse or not. */
+static void compare(uint32_t verdict, uint32_t judged)
+{
+    if (verdict == DENIAL_HASHER_REFUSED || judged == DENIAL_HASHER_REFUSED)
+        return;
+    if ((is_fault(verdict) || is_fault(judged)) && verdict != judged) {
+        printf("differs: answers %u and %u\n", (unsigned)verdict, (unsigned)judged);
+        exit(1);
     }
 }
 
@@ -133,20 +172,16 @@ static void ask(uint16_t rtype)
         said[call] = ask_call(call, rtype, at, &labels);
         again = ask_call(call, rtype, at, &again_labels);
         if (!is_answer(said[call], call) || again != said[call] || again_labels != labels
-            || (labels > 0 && labels > count_labels(&name))) {
+            || labels > count_labels(&name) || (call == EXPANSION && labels > 0 && labels != labels_of(rtype))) {
             printf("differs: answer %u with %zu labels, and again %u with %zu\n", (unsigned)said[call], labels,
                    (unsigned)again, again_labels);
             exit(1);
         }
         answers[said[call]]++;
     }
-    for (call = 0; call < IS_JUDGED; call++)
-        /* For a whole answer other names may be hashed, or none, so that the hasher may refuse or not. */
-        if (said[call] != DENIAL_HASHER_REFUSED && said[call + IS_JUDGED] != DENIAL_HASHER_REFUSED
-            && (is_fault(said[call]) || is_fault(said[call + IS_JUDGED])) && said[call] != said[call + IS_JUDGED]) {
-            printf("differs: answers %u and %u\n", (unsigned)said[call], (unsigned)said[call + IS_JUDGED]);
-            exit(1);
-        }
+    compare(said[0], said[IS_JUDGED]);
+    compare(said[IS_HASHED], said[IS_HASHED | IS_JUDGED]);
+    compare(said[IS_HASHED], said[EXPANSION]);
 }
 
 /* Takes the owner of a record of the seed for the name, with a label before it at times. */
@@ -263,7 +298,7 @@ int main(int argc, char **argv)
     apex.length = ldns_rdf_size(apex_name);
     memcpy(apex.at, ldns_rdf_data(apex_name), apex.length);
     for (i = 3; i < argc && seed_count < SEEDS; i++) {
-        struct input input = {ldns_buffer_new(65536), NULL, 0, 0, 0};
+        struct input input = {ldns_buffer_new(65536), NULL, 0, 0, 0, 0, 0};
 
         read_file(&input, apex_name, argv[i]);
         if (ldns_buffer_position(input.records) > 0 && ldns_buffer_position(input.records) <= MOST) {

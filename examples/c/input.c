@@ -50,6 +50,28 @@ static void write_param(struct input *input, const ldns_rdf *apex, const ldns_rr
     free(salt);
 }
 
+/* How many labels a name has as the field Labels counts them: an asterisk as the first is none. */
+static uint8_t count_labels(const ldns_rdf *name)
+{
+    return (uint8_t)(ldns_dname_label_count(name) - (ldns_dname_is_wildcard(name) ? 1 : 0));
+}
+
+/* Takes the field Labels of a signature of records that answer the question, those of its name with
+ * its type or CNAME, where it has fewer labels than they: they were expanded from a wildcard (RFC
+ * 4035, section 5.3.2). */
+static void read_expansion(struct input *input, const ldns_rr *signature)
+{
+    const ldns_rdf *owner = ldns_rr_owner(signature);
+    ldns_rr_type covered = ldns_rdf2rr_type(ldns_rr_rrsig_typecovered(signature));
+    uint8_t labels = ldns_rdf2native_int8(ldns_rr_rrsig_labels(signature));
+
+    if (input->is_expanded || input->name == NULL || ldns_dname_compare(owner, input->name) != 0
+        || (covered != input->rtype && covered != LDNS_RR_TYPE_CNAME) || labels >= count_labels(owner))
+        return;
+    input->is_expanded = 1;
+    input->rrsig_labels = labels;
+}
+
 /* Writes the record of a line, as it stands in a message. */
 static void read_record(struct input *input, const ldns_rdf *apex, const char *line)
 {
@@ -69,6 +91,8 @@ static void read_record(struct input *input, const ldns_rdf *apex, const char *l
     if (rtype != LDNS_RR_TYPE_NSEC3PARAM)
         ldns_rr2buffer_wire(input->records, record, LDNS_SECTION_ANSWER);
     input->is_hashed |= rtype == LDNS_RR_TYPE_NSEC3;
+    if (rtype == LDNS_RR_TYPE_RRSIG)
+        read_expansion(input, record);
     ldns_rr_free(record);
 }
 

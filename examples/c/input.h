@@ -16,6 +16,10 @@ struct input {
     /* Whether there are NSEC3 records; and whether the NSEC3PARAM record was written. */
     int is_hashed;
     int has_param;
+    /* Whether records that answer the question were expanded from a wildcard; and then the field
+     * Labels of their first signature. */
+    int is_expanded;
+    uint8_t rrsig_labels;
 };
 
 /* The name that a text spells. Ends the program where it spells none. */
@@ -24,6 +28,7 @@ ldns_rdf *name_of(const char *text);
 /*
  * Reads an answer as `dig +dnssec` printed it, a chain or a signed zone, one record a line. Ends the
  * program where a line is no record. With NSEC3 records there is one NSEC3PARAM record of the apex.
+ * The question is that of the first line that has one, where there is none yet.
  */
 void read_file(struct input *input, const ldns_rdf *apex, const char *path);
 

@@ -26,6 +26,13 @@ module _ {V E : Type 0} (answered : Result V E) (error : E) (is : answered ≡ E
   needed true false outside parent first second = refl
   needed true true outside parent first second = absurd (refused parent (second refl refl))
 
+  -- of a name whose records were expanded it is, where it is of one
+  pub expanded : (below longer : Bool) (outside none : V) → (below ≡ false → answered ≡ Ok outside)
+      → (below ≡ true → longer ≡ false → answered ≡ Ok none) → longer ≡ true
+  expanded false longer outside none first second = absurd (refused outside (first refl))
+  expanded true false outside none first second = absurd (refused none (second refl refl))
+  expanded true true outside none first second = refl
+
   -- and comes within the limit
   pub allowed : (limit count : ℕ) (over : V) → (limit < count → answered ≡ Ok over) → count ≤ limit
   allowed limit count over third =

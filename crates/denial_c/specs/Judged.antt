@@ -6,13 +6,15 @@ use Rattle.domain_base.specs.Name.{is_at_or_below}
 use Rattle.domain_base.specs.Words.{Name}
 use Rattle.domain_nsec.specs.Chain.{Link}
 use Rattle.domain_nsec3.specs.Chain.{HashedLink, ParamRecord}
+use Rattle.domain_nsec3.specs.Config.{hash_name}
+use Rattle.domain_answer.specs.Expansion.{closer_name, is_expanded, ExpansionRestsOn, IsExpansionAnswered, IsExpansionRead}
 use Rattle.domain_answer.specs.HashedProved.{HashedRestsOn, IsHashedAnswered}
 use Rattle.domain_answer.specs.HashedReading.{IsFirstOfRefusals, IsHashedRead}
 use Rattle.domain_answer.specs.Proved.{needs_no_records, CountsWithin, IsAnswered, RestsOn}
 use Rattle.domain_answer.specs.Reading.{reading}
 use Rattle.domain_answer.specs.ZoneAnswer.{is_at_parent}
 use Rattle.domain_answer.specs.declared.answer.Answer.{Answer}
-use Rattle.domain_answer.specs.declared.answer.Answer.TheVariants.{OutsideZone, AtParent, TooManyIterations}
+use Rattle.domain_answer.specs.declared.answer.Answer.TheVariants.{OutsideZone, AtParent, NotProven, TooManyIterations}
 use Rattle.denial_c.specs.Result.{hash_of, AreAsked, AreNsecsAsked, HasNoNsecs, IsNsecFault, IsNsec3Fault}
 use Rattle.denial_c.specs.declared.fault.Fault.{Fault}
 use Rattle.denial_c.specs.declared.fault.Fault.TheVariants as fault
@@ -86,3 +88,45 @@ IsNsec3Answer apex name t class limit records (Ok answer) =
     HasNsec3Answer apex name t class limit records answer
 IsNsec3Answer apex name t class limit records (Err e) =
     IsNsec3Fault apex name class records (IsAnswerRefused apex name t class limit records) e
+
+-- ---- NSEC3, of a name whose records were expanded from a wildcard
+
+-- the answer, where n is the field Labels of the signatures of those records, with at most so many
+-- iterations
+pub record HasExpansionAnswer (apex name : Octets) (n class limit : ℕ) (records : Octets)
+    (answer : Answer) : Type 0 where
+  pub a : Name
+  pub x : Name
+  pub links : List HashedLink
+  pub param : ParamRecord
+  pub asked : AreAsked apex name class records a x links param
+  pub outside : is_at_or_below x a ≡ false → answer ≡ OutsideZone
+  pub none : is_at_or_below x a ≡ true → is_expanded a x n ≡ false → answer ≡ NotProven
+  pub iterations : is_expanded a x n ≡ true → limit < param.parameters.iterations
+      → answer ≡ TooManyIterations
+  pub zone : is_expanded a x n ≡ true → param.parameters.iterations ≤ limit
+      → IsExpansionAnswered links a param.parameters (hash_of param) x n answer
+  pub exact : is_expanded a x n ≡ true → param.parameters.iterations ≤ limit
+      → IsExpansionRead links a param.parameters (hash_of param) x n answer
+  pub proof : ExpansionRestsOn links a param.parameters (hash_of param) x n answer
+  pub within : CountsWithin (length x) answer
+
+-- the one name that is hashed, the next closer name, is refused by the hasher
+pub record IsExpansionRefused (apex name : Octets) (n class limit : ℕ) (records : Octets)
+    : Type 0 where
+  pub a : Name
+  pub x : Name
+  pub links : List HashedLink
+  pub param : ParamRecord
+  pub reason : ℕ
+  pub asked : AreAsked apex name class records a x links param
+  pub needed : is_expanded a x n ≡ true
+  pub allowed : param.parameters.iterations ≤ limit
+  pub refused : hash_name (hash_of param) (closer_name n x) ≡ Err reason
+
+-- of faults the first that stands is told, but for want of memory, which may come before others
+abbrev pub IsExpansionAnswer : Octets → Octets → ℕ → ℕ → ℕ → Octets → Result Answer Fault → Type 0
+IsExpansionAnswer apex name n class limit records (Ok answer) =
+    HasExpansionAnswer apex name n class limit records answer
+IsExpansionAnswer apex name n class limit records (Err e) =
+    IsNsec3Fault apex name class records (IsExpansionRefused apex name n class limit records) e

@@ -2,13 +2,13 @@
 ghost use Rattle.std.specs.Prelude.{IfErr, IfOk};
 ghost use Rattle.domain_nsec.specs.ChainView.{links_of};
 ghost use Rattle.denial_c.specs.Among.{AreNsecs};
-ghost use Rattle.denial_c.specs.Judged.{IsNsecAnswer, IsNsec3Answer, IsNsecsFault};
+ghost use Rattle.denial_c.specs.Judged.{IsExpansionAnswer, IsNsecAnswer, IsNsec3Answer, IsNsecsFault};
 
 use crate::fault::Fault;
 use crate::nsec::read_name;
 use crate::nsec3::chain_among;
 use crate::wire::{is_of, read_record};
-use domain_answer::{Answer, judge_nsec, judge_nsec3};
+use domain_answer::{Answer, judge_nsec, judge_nsec3, judge_nsec3_expansion};
 use domain_base::{Class, Rtype};
 use domain_lent::{NsecRr, into_nsec};
 use domain_octets::Parser;
@@ -82,6 +82,36 @@ pub(crate) fn nsec3_answer(
     };
     let rtype = Rtype::from_int(rtype);
     match judge_nsec3(alloc, &apex, &chain, &name, rtype, limit, &Sha1Hasher) {
+        Ok(answer) => Ok(answer),
+        Err(error) => match error {
+            Nsec3HashError::OutOfMemory => Err(Fault::OutOfMemory),
+            _ => Err(Fault::Hasher),
+        },
+    }
+}
+
+/// What the NSEC3 records of the class among the records that the octets are answer of the name,
+/// whose records were expanded from a wildcard and have signatures with so many labels, with at
+/// most so many iterations.
+pub(crate) fn expansion_answer(
+    alloc: Global,
+    apex: &[u8],
+    name: &[u8],
+    rrsig_labels: u8,
+    class: u16,
+    limit: u16,
+    records: &[u8],
+) -> Result<Answer, Fault>
+    ensures { IsExpansionAnswer apex.now name.now rrsig_labels class limit records.now result }
+{
+    let apex = read_name(apex, Fault::Apex)?;
+    let name = read_name(name, Fault::Name)?;
+    let chain = match chain_among(alloc, &apex, Class::from_int(class), records) {
+        Ok(chain) => chain,
+        Err(fault) => return Err(fault),
+    };
+    let labels = usize::from(rrsig_labels);
+    match judge_nsec3_expansion(alloc, &apex, &chain, &name, labels, limit, &Sha1Hasher) {
         Ok(answer) => Ok(answer),
         Err(error) => match error {
             Nsec3HashError::OutOfMemory => Err(Fault::OutOfMemory),

@@ -3,13 +3,13 @@
 //! 5155, section 8).
 //!
 //! Names and records are handed in as octets, as a message has them but without compression. Each
-//! function says what `judge_nsec` or `judge_nsec3` of `domain_answer`, or `check_nsec` or
-//! `check_nsec3` of `domain_checker`, says of the records that the octets are, or why there is no
-//! such answer. `include/denial.h` describes the functions and their numbers for C.
+//! function says what `judge_nsec`, `judge_nsec3` or `judge_nsec3_expansion` of `domain_answer`, or
+//! `check_nsec` or `check_nsec3` of `domain_checker`, says of the records that the octets are, or
+//! why there is no such answer. `include/denial.h` describes the functions and their numbers for C.
 #![tactic(auto)]
 
 ghost use Rattle.std.specs.Prelude.{◌≡◌};
-ghost use Rattle.denial_c.specs.Judged.{IsNsecAnswer, IsNsec3Answer};
+ghost use Rattle.denial_c.specs.Judged.{IsExpansionAnswer, IsNsecAnswer, IsNsec3Answer};
 ghost use Rattle.denial_c.specs.Numbers.{answer_labels, answer_number, verdict_labels, verdict_number};
 ghost use Rattle.denial_c.specs.Result.{IsNsecResult, IsNsec3Result, IsTold};
 ghost use Rattle.denial_c.specs.Texts.{text_of, IsText};
@@ -29,9 +29,9 @@ use std::alloc::Global;
 /// patch.
 #[unsafe(no_mangle)]
 pub extern "C" fn denial_version() -> u32
-    ensures { result ≡ 200 }
+    ensures { result ≡ 300 }
 {
-    200
+    300
 }
 
 /// Hands out the text of a number, and octets 0 after it. A number that no function here gives has
@@ -88,6 +88,34 @@ pub extern "C" fn denial_judge_nsec3(
 {
     answer::tell_answer(
         judge::nsec3_answer(alloc, apex, name, rtype, class, limit, records),
+        labels,
+    )
+}
+
+/// What NSEC3 records answer of a name whose records were expanded from a wildcard, with the one
+/// NSEC3PARAM record of the apex among them (RFC 5155, section 8.8). `rrsig_labels` is the field
+/// Labels of the signatures of those records (RFC 4034, section 3.1.3). Where the NSEC3PARAM record
+/// has more iterations than the limit, nothing is hashed.
+///
+/// Gives the number of an answer, and the number of labels that it counts, where it counts any; or
+/// the number of a fault.
+#[unsafe(no_mangle)]
+pub extern "C" fn denial_judge_nsec3_expansion(
+    alloc: Global,
+    apex: &[u8],
+    name: &[u8],
+    rrsig_labels: u8,
+    class: u16,
+    limit: u16,
+    records: &[u8],
+    labels: &mut usize,
+) -> u32
+    ensures { IsTold answer_number answer_labels
+        (IsExpansionAnswer apex.now name.now rrsig_labels class limit records.now)
+        result labels.new }
+{
+    answer::tell_answer(
+        judge::expansion_answer(alloc, apex, name, rrsig_labels, class, limit, records),
         labels,
     )
 }

@@ -1,0 +1,83 @@
+use Rattle.std.proofs.Common.{◌≡◌, ◌∷◌, [], true, false, ap, Err, inl, inr, refl, sym, subst}
+use Rattle.domain_answer.specs.Expansion.{closer_name, is_expanded, ExpansionRestsOn, IsExpansionAnswered, IsExpansionRead}
+use Rattle.domain_answer.specs.declared.answer.Answer.TheVariants.{OutsideZone, NotProven, TooManyIterations}
+use Rattle.domain_base.specs.Name.{is_at_or_below}
+use Rattle.domain_checker.specs.HashedView.{links}
+use Rattle.domain_nsec3.specs.Config.{hash_name}
+use Rattle.domain_nsec3.specs.View.{as_param_record}
+use Rattle.denial_c.specs.Among.{AreNsec3s, AreParams}
+use Rattle.denial_c.specs.Judged.{IsExpansionRefused}
+use Rattle.denial_c.specs.Result.{hash_of, IsChainFault}
+use Rattle.denial_c.proofs.JudgeLemmas.{allowed, expanded}
+use Rattle.denial_c.proofs.Nsec3Lemmas.{chain_fault}
+use Rattle.denial_c.proofs.judge.expansion_answer.Goals as goal
+
+pub returns-in-Err : goal.returns-in-Err
+returns-in-Err c =
+    chain_fault c.args.apex.now c.args.name.now c.args.class c.args.records.now
+    (IsExpansionRefused c.args.apex.now c.args.name.now c.args.rrsig_labels c.args.class c.args.limit c.args.records.now) c.in_ok-apex.apex c.in_ok-apex.ensures.ok
+    (c.in_ok-name.name, c.in_ok-name.ensures.ok) c.in-Err.fault
+    (subst (λ n. IsChainFault c.in_ok-apex.apex n c.args.records.now c.in-Err.fault) c.from_int.ensures c.in-Err.ensures.err)
+
+pub returns-in-Ok-judge_nsec3_expansion : goal.returns-in-Ok-judge_nsec3_expansion
+returns-in-Ok-judge_nsec3_expansion c =
+    let a = c.in_ok-apex.apex in
+    let x = c.in_ok-name.name in
+    let chain = c.in-Ok.chain in
+    let param = as_param_record (λ n. n) chain.nsec3param in
+    let ks = links (λ n. n) chain in
+    let answer = c.in-Ok-judge_nsec3_expansion.answer in
+    let are = c.in-Ok-judge_nsec3_expansion.ensures in
+    let same = c.from-labels.ensures in
+    record {
+      a = a;
+      x = x;
+      links = ks;
+      param = param;
+      asked = record {
+        apex_is = c.in_ok-apex.ensures.ok;
+        name_is = c.in_ok-name.ensures.ok;
+        nsec3s = subst (λ n. AreNsec3s n c.args.records.now ks) c.from_int.ensures c.in-Ok.ensures.nsec3s;
+        single = subst (λ n. AreParams a n c.args.records.now (param ∷ [])) c.from_int.ensures c.in-Ok.ensures.param;
+      };
+      outside = λ off. let e = are.outside off in cc;
+      none = λ low short. let e = are.none low (subst (λ n. is_expanded a x n ≡ false) (sym same) short) in cc;
+      iterations = λ some over. let e = are.iterations (subst (λ n. is_expanded a x n ≡ true) (sym same) some) over in cc;
+      zone = λ some few. subst (λ n. IsExpansionAnswered ks a param.parameters (hash_of param) x n answer) same
+          (are.zone (subst (λ n. is_expanded a x n ≡ true) (sym same) some) few);
+      exact = λ some few. subst (λ n. IsExpansionRead ks a param.parameters (hash_of param) x n answer) same
+          (are.exact (subst (λ n. is_expanded a x n ≡ true) (sym same) some) few);
+      proof = subst (λ n. ExpansionRestsOn ks a param.parameters (hash_of param) x n answer) same are.proof;
+      within = are.within;
+    }
+
+pub returns : goal.returns
+returns c =
+    let a = c.in_ok-apex.apex in
+    let x = c.in_ok-name.name in
+    let chain = c.in-Ok.chain in
+    let param = as_param_record (λ n. n) chain.nsec3param in
+    let ks = links (λ n. n) chain in
+    let error = c.in-Err-judge_nsec3_expansion.error in
+    let are = c.in-Err-judge_nsec3_expansion.ensures in
+    let same = c.from-labels.ensures in
+    let is = expanded (Err error) error refl (is_at_or_below x a) (is_expanded a x c.from-labels.result) OutsideZone NotProven are.outside are.none in
+    elim are.errors [
+      | inl short ↦ absurd (c.in_default.not-OutOfMemory short)
+      | inr one ↦ record {
+        a = a;
+        x = x;
+        links = ks;
+        param = param;
+        reason = one.0;
+        asked = record {
+          apex_is = c.in_ok-apex.ensures.ok;
+          name_is = c.in_ok-name.ensures.ok;
+          nsec3s = subst (λ n. AreNsec3s n c.args.records.now ks) c.from_int.ensures c.in-Ok.ensures.nsec3s;
+          single = subst (λ n. AreParams a n c.args.records.now (param ∷ [])) c.from_int.ensures c.in-Ok.ensures.param;
+        };
+        needed = subst (λ n. is_expanded a x n ≡ true) same is;
+        allowed = allowed (Err error) error refl c.args.limit param.parameters.iterations TooManyIterations (are.iterations is);
+        refused = subst (λ n. hash_name (hash_of param) (closer_name n x) ≡ Err one.0) same (are.refusal one.0 (ap (λ e. Err e) one.1));
+      }
+    ]
