@@ -36,7 +36,8 @@ use Rattle.domain_denier.specs.HashedSteps.{IsOfHash, IsSaid, tells_hash}
 octets_order : IsStrictWeakOrder octets_before
 octets_order = ranks_by nat_list_cmp_total (λ v. v)
 
-all_before : (u : Octets) (us : List Octets) → AllByRecursion (λ v. slice_cmp nat_cmp u v ≡ Less) us → AllByRecursion (λ v. octets_before u v ≡ true) us
+all_before : (u : Octets) (us : List Octets) → AllByRecursion (λ v. slice_cmp nat_cmp u v ≡ Less) us
+    → AllByRecursion (λ v. octets_before u v ≡ true) us
 all_before u [] h = tt
 all_before u (v ∷ us) h = (ap is_lt h.0, all_before u us h.1)
 
@@ -269,7 +270,8 @@ module _ (apart : TellsApart) (L : List ZoneRecord) (a : Name) (config : ChainCo
       tells_is : (i : ℕ) (k : HashedLink) (h : Octets) → IsRecordOf a links i k h
           → tells_hash a p v k ≡ matches_or_covers octets_before h k.next v
       tells_is i k h r =
-          λ j. is_some_with (λ u. matches octets_before u v) (hash_is i k h r j) || is_some_with (λ u. covers octets_before u k.next v) (hash_is i k h r j)
+          λ j. is_some_with (λ u. matches octets_before u v) (hash_is i k h r j)
+          || is_some_with (λ u. covers octets_before u k.next v) (hash_is i k h r j)
 
       -- the one pair of the cycle is that of the record
       pub of_hash : (place : ℕ) → IsSaid a links v place → (k : HashedLink) (h : Octets) → IsRecordOf a links place k h

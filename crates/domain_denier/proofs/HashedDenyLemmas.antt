@@ -1,9 +1,9 @@
 -- What is picked of the NSEC3 chain of a zone is what its answer rests on, and no more.
-use Rattle.std.proofs.Common.{◌≡◌, ◌≢◌, ℕ, ◌<◌, Bool, true, false, cond, not, ◌&&◌, ◌||◌, List, [], length, Some, None, Option}
+use Rattle.std.proofs.Common.{◌≡◌, ◌≢◌, ℕ, ◌+◌, ◌-◌, ◌<◌, Bool, true, false, cond, not, ◌&&◌, ◌||◌, List, [], drop, length, Some, None, Option}
 use Rattle.std.proofs.Common.{slice_get, nat_eq, refl, sym, ap, ◌∙◌, subst, inl, inr, ◌⊎◌}
 use Rattle.std.specs.Prelude.{All, Ok}
 use Rattle.std.specs.List.{Contains, list_any}
-use Rattle.std.proofs.lemmas.Bool.{cases_Bool, eq-eqb, eqb-true, false≢true, and_parts, and_from}
+use Rattle.std.proofs.lemmas.Bool.{cases_Bool, eq-eqb, eqb-true, false≢true, and_parts, and_from, or_cases, or_left, or_right}
 use Rattle.std.proofs.lemmas.List.Elements.{All-contains_itself}
 use Rattle.std.proofs.lemmas.Option.{get_or_from_slice_get, slice_get_within}
 use Rattle.domain_octets.specs.Words.{Octets}
@@ -13,12 +13,12 @@ use Rattle.domain_zone.specs.Enclosers.{IsClosestEncloser, exists_over}
 use Rattle.domain_zone.specs.Zone.{ZoneRecord, is_zone_cut}
 use Rattle.domain_zone.proofs.NameLemmas.{below_itself, below_longer, below_trans}
 use Rattle.domain_nsec3.specs.Chain.{ChainRecords, HashedLink, IsHashedChain}
-use Rattle.domain_nsec3.specs.Config.{ChainConfig, Hash, Parameters}
+use Rattle.domain_nsec3.specs.Config.{ChainConfig, Hash, Parameters, hash_name}
 use Rattle.domain_nsec3.specs.Meaning.{IsAlone, MirrorsZone}
 use Rattle.domain_nsec3.specs.Owners.{nsec3_lists, original_owners}
 use Rattle.domain_base.specs.Types.{dname}
 use Rattle.domain_checker.specs.HashedEncloser.{IsOfName}
-use Rattle.domain_checker.specs.HashedList.{is_hash_match}
+use Rattle.domain_checker.specs.HashedList.{is_hash_cover, is_hash_match}
 use Rattle.domain_checker.specs.HashedVerdict.{is_covered, is_matched, is_ok_with, next_closer}
 use Rattle.domain_checker.specs.Verdict.{closest_encloser}
 use Rattle.domain_checker.proofs.EncloserLemmas.{closest_is}
@@ -29,12 +29,14 @@ use Rattle.domain_answer.specs.declared.answer.Answer.TheVariants.{AtParent, NoC
 use Rattle.domain_answer.specs.HashedProved.{AreAskedAlone, IsHashedAnswered, hashed_proved_answer, needs_wildcard, tells_encloser, tells_wildcard}
 use Rattle.domain_answer.specs.HashedReading.{IsHashedRead}
 use Rattle.domain_answer.specs.HashedZoneAnswer.{HashedLeavesOutBelowDname, hashed_encloser, hashed_inside_answer, hashed_zone_answer}
-use Rattle.domain_answer.specs.Proved.{needs_no_records}
-use Rattle.domain_answer.specs.ZoneAnswer.{is_at_parent}
-use Rattle.domain_denier.specs.HashedPicked.{AreHashedNeeded, IsHashedWhole, hashed_picked, other_place, picked_without, without_records}
-use Rattle.domain_denier.specs.HashedSteps.{IsPickedRead, IsSoleMatch}
+use Rattle.domain_answer.specs.Proved.{last_labels, needs_no_records}
+use Rattle.domain_answer.specs.ZoneAnswer.{is_at_parent, wildcard_below}
+use Rattle.domain_answer.proofs.CountLemmas.{closest_last, same_count}
+use Rattle.domain_denier.specs.Picked.{at_place}
+use Rattle.domain_denier.specs.HashedPicked.{AreHashedNeeded, IsHashedWhole, TellOfTheirParts, hashed_picked, other_place, picked_without, without_records}
+use Rattle.domain_denier.specs.HashedSteps.{IsPickedRead, IsSoleCover, IsSoleMatch, IsSoleWildcard}
 use Rattle.domain_denier.specs.declared.nsec3.Nsec3Denial.{Nsec3Denial}
-use Rattle.domain_denier.proofs.SomeLemmas.{no_match, not_gone, three_contained, three_others}
+use Rattle.domain_denier.proofs.SomeLemmas.{in_place, no_match, not_gone, three_contained, three_others}
 
 -- what the laws say
 pub record DenyLaws : Type 0 where
@@ -136,7 +138,8 @@ module _ (laws : DenyLaws) (L : List ZoneRecord) (a : Name) (config : ChainConfi
       cond (needs_wildcard L a config x && not (tells_wildcard L a config listed x)) (NoCloserName (length (hashed_encloser L a config x)))
       (hashed_zone_answer L a config x t)
 
-  inside_proved : (listed : List HashedLink) → hashed_proved_answer L a config listed x t ≡ cond (not (tells_encloser L a config listed x)) NotProven (rest listed)
+  inside_proved : (listed : List HashedLink)
+      → hashed_proved_answer L a config listed x t ≡ cond (not (tells_encloser L a config listed x)) NotProven (rest listed)
   inside_proved listed = λ i. cond (not (low i) || parent i) zone (cond (not (tells_encloser L a config listed x)) NotProven (rest listed))
 
   untold : (listed : List HashedLink) → tells_encloser L a config listed x ≡ false → hashed_proved_answer L a config listed x t ≡ NotProven
@@ -159,7 +162,11 @@ module _ (laws : DenyLaws) (L : List ZoneRecord) (a : Name) (config : ChainConfi
 
   module _ (place : ℕ) (sole : IsSoleMatch links a config.parameters config.hash x place) where
     contained : Contains links sole.of.link
-    contained = (place, slice_get_within links place sole.of.link sole.of.there, get_or_from_slice_get links place sole.of.link sole.of.link sole.of.there)
+    contained = (
+      place,
+      slice_get_within links place sole.of.link sole.of.there,
+      get_or_from_slice_get links place sole.of.link sole.of.link sole.of.there,
+    )
 
     alone : IsAlone L a config sole.name sole.value
     alone =
@@ -191,7 +198,8 @@ module _ (laws : DenyLaws) (L : List ZoneRecord) (a : Name) (config : ChainConfi
               absurd (false≢true (sym (sole.first en closest.above under).2 ∙ encloser_matched))
         ]
 
-    unmatched_without : (d : Nsec3Denial) → is_matched a config.parameters config.hash (picked_without links place d) (hashed_encloser L a config x) ≡ false
+    unmatched_without : (d : Nsec3Denial)
+        → is_matched a config.parameters config.hash (picked_without links place d) (hashed_encloser L a config x) ≡ false
     unmatched_without d =
         let listed = picked_without links place d in
         let others = three_others links (other_place place d.of_encloser) (other_place place d.of_next_closer) (other_place place d.of_wildcard) place
@@ -208,14 +216,15 @@ module _ (laws : DenyLaws) (L : List ZoneRecord) (a : Name) (config : ChainConfi
   -- ---- each is needed
 
   without_contained : (place : ℕ) (d : Nsec3Denial) → All (Contains links) (picked_without links place d)
-  without_contained place d = three_contained links (other_place place d.of_encloser) (other_place place d.of_next_closer) (other_place place d.of_wildcard)
+  without_contained place d =
+      three_contained links (other_place place d.of_encloser) (other_place place d.of_next_closer) (other_place place d.of_wildcard)
 
   pub needed_is : (d : Nsec3Denial) → IsPickedRead links a config.parameters config.hash x t d → AreHashedNeeded L a config links x t d
   needed_is d read = record {
     name = λ place tells. elim tells [
-      | inl e ↦ without_encloser place (read.encloser place e) d
+      | inl e ↦ without_encloser place (read.matched place e) d
       | inr e ↦ elim (is_place d.of_encloser place) [
-        | inl f ↦ without_encloser place (read.encloser place f) d
+        | inl f ↦ without_encloser place (read.matched place f) d
         | inr f ↦ sym (proved_is (picked_without links place d) (without_contained place d) NotProven (read.next_closer place e f))
       ]
     ];
@@ -237,12 +246,60 @@ module _ (laws : DenyLaws) (L : List ZoneRecord) (a : Name) (config : ChainConfi
           ]
 
       by : (tells needs : Bool) (n : ℕ)
-          → NoCloserName n ≡ cond (not tells) NotProven (cond needs (NoCloserName (length (hashed_encloser L a config x))) (hashed_zone_answer L a config x t))
+          → NoCloserName n
+          ≡ cond (not tells) NotProven (cond needs (NoCloserName (length (hashed_encloser L a config x))) (hashed_zone_answer L a config x t))
           → cond (not tells) NotProven (cond needs (NoCloserName (length (hashed_encloser L a config x))) (hashed_zone_answer L a config x t))
           ≡ NoCloserName (length (hashed_encloser L a config x))
       by false needs n e = absurd (cc)
       by true true n e = refl
       by true false n e = absurd (laws.closer L a config x t n (sym e))
+
+  -- ---- each tells of its part
+
+  one_any : (test : HashedLink → Bool) (place : ℕ) (k : HashedLink) → slice_get links place ≡ Some k → test k ≡ true
+      → list_any test (at_place links (Some place)) ≡ true
+  one_any test place k there e = in_any test (at_place links (Some place)) k (in_place links (Some place) place k refl there) e
+
+  encloser_told : (place : ℕ) → IsSoleMatch links a config.parameters config.hash x place
+      → is_matched a config.parameters config.hash (at_place links (Some place)) (hashed_encloser L a config x) ≡ true
+  encloser_told place sole =
+      ap (is_ok_with (λ v. list_any (is_hash_match a config.parameters v) (at_place links (Some place))))
+      (hash_same config.hash en sole.name (is_first place sole) ∙ sole.known)
+      ∙ one_any (is_hash_match a config.parameters sole.value) place sole.of.link sole.of.there sole.of.matched
+
+  closer_told : (place : ℕ) → IsSoleCover links a config.parameters config.hash x place
+      → is_covered a config.parameters config.hash (at_place links (Some place)) (next_closer x (hashed_encloser L a config x)) ≡ true
+  closer_told place cover =
+      let count = same_count en cover.sole.name (is_first cover.encloser cover.sole) in
+      ap (is_ok_with (λ v. list_any (is_hash_cover a config.parameters v) (at_place links (Some place))))
+      (ap (λ n. hash_name config.hash (drop (length x - (n + 1)) x)) count ∙ cover.known)
+      ∙ one_any (is_hash_cover a config.parameters cover.value) place cover.of.link cover.of.there
+      (sym (λ j. cover.of.matched j || is_hash_cover a config.parameters cover.value cover.of.link) ∙ cover.of.says)
+
+  wildcard_told : (place : ℕ) → IsSoleWildcard links a config.parameters config.hash x place
+      → tells_wildcard L a config (at_place links (Some place)) x ≡ true
+  wildcard_told place told =
+      let listed = at_place links (Some place) in
+      let w = wildcard_below en in
+      let count = same_count en told.sole.name (is_first told.encloser told.sole) in
+      let is : en ≡ last_labels (length told.sole.name) x = sym (closest_last owners a x) ∙ ap (λ n. last_labels n x) count in
+      let known = ap (λ n. hash_name config.hash (wildcard_below n)) is ∙ told.known in
+      let link = told.of.link in
+      elim (or_cases (is_hash_match a config.parameters told.value link) (is_hash_cover a config.parameters told.value link) told.of.says) [
+        | inl e ↦ or_left (is_matched a config.parameters config.hash listed w) (is_covered a config.parameters config.hash listed w)
+            (ap (is_ok_with (λ v. list_any (is_hash_match a config.parameters v) listed)) known
+            ∙ one_any (is_hash_match a config.parameters told.value) place told.of.link told.of.there e)
+        | inr e ↦ or_right (is_matched a config.parameters config.hash listed w) (is_covered a config.parameters config.hash listed w)
+            (ap (is_ok_with (λ v. list_any (is_hash_cover a config.parameters v) listed)) known
+            ∙ one_any (is_hash_cover a config.parameters told.value) place told.of.link told.of.there e)
+      ]
+
+  pub parts_are : (d : Nsec3Denial) → IsPickedRead links a config.parameters config.hash x t d → TellOfTheirParts L a config links x d
+  parts_are d read = record {
+    encloser = λ place e. encloser_told place (read.matched place e);
+    next_closer = λ place e. closer_told place (read.covered place e);
+    wildcard = λ place e. wildcard_told place (read.told place e);
+  }
 
 -- what is read with the hash and the parameters of the chain
 pub read_by : (L : List ZoneRecord) (config : ChainConfig) (hash : Hash) (chain : ChainRecords) → IsHashedWhole L config hash chain

@@ -15,7 +15,7 @@ use Rattle.domain_nsec3.specs.Chain.{HashedLink}
 use Rattle.domain_nsec3.specs.Config.{Hash, Parameters, hash_name}
 use Rattle.domain_checker.specs.HashedEncloser.{Encloser, IsEncloser, encloser_is_cut, next_cover}
 use Rattle.domain_checker.specs.HashedList.{is_hash_cover, is_hash_match}
-use Rattle.domain_checker.specs.HashedReading.{IsUnmatched}
+use Rattle.domain_checker.specs.HashedReading.{IsNextHash, IsUnmatched}
 use Rattle.domain_checker.specs.HashedVerdict.{is_matched, is_ok_with}
 use Rattle.domain_checker.proofs.FindLemmas.{In, any_none, in_any, in_at}
 use Rattle.domain_checker.proofs.HashedWalkLemmas.{some_matched}
@@ -29,7 +29,7 @@ use Rattle.domain_answer.proofs.CountLemmas.{last_above, last_count}
 use Rattle.domain_answer.proofs.HashedAnswerLemmas.{own_never}
 use Rattle.domain_denier.specs.Picked.{at_place}
 use Rattle.domain_denier.specs.HashedPicked.{AreHashedThere, TellsOfName, hashed_picked, other_place, picked_without, without_records}
-use Rattle.domain_denier.specs.HashedSteps.{IsCoverAt, IsFirstDenial, IsInside, IsOfHash, IsPickedRead, IsPlaced, IsSoleMatch}
+use Rattle.domain_denier.specs.HashedSteps.{IsCoverAt, IsFirstDenial, IsInside, IsOfHash, IsPickedRead, IsPlaced, IsSoleCover, IsSoleMatch}
 use Rattle.domain_denier.specs.HashedSteps.{encloser_with, link_at, next_role, wildcard_told_by}
 use Rattle.domain_denier.specs.declared.encloser.PlacedEncloser.{PlacedEncloser}
 use Rattle.domain_denier.specs.declared.nsec3.Nsec3Denial.{Nsec3Denial}
@@ -68,6 +68,30 @@ unmatched_among links listed among a p hash y v known none =
           ∙ in_any (is_hash_match a p v) links k (in_at links m.0 k m.1) e))
       | inr e ↦ e
     ])
+
+-- ---- how many labels the closest encloser has, where the wildcard is asked for
+
+lower_counts : (c h : Bool) (count : ℕ) (o : Option HashedLink) (n : ℕ)
+    → cond c (Referral count) (cond h (Redirected count) (next_answer count o)) ≡ NoCloserName n → n ≡ count
+lower_counts true h count o n e = absurd (cc)
+lower_counts false true count o n e = absurd (cc)
+lower_counts false false count None n e = absurd (cc)
+lower_counts false false count (Some k) n e = by (is_opt_out k.flags) e
+  where
+    by : (b : Bool) → cond b (MayBeUnsigned count) (NoCloserName count) ≡ NoCloserName n → n ≡ count
+    by true e = absurd (cc)
+    by false e = cc
+
+closer_counts : (a : Name) (e : Encloser) (m t n : ℕ) → encloser_answer a e m t ≡ NoCloserName n → (n ≡ e.count) × (nat_eq e.count m ≡ false)
+closer_counts a e m t n h =
+    elim (cases_Bool (nat_eq e.count m)) [
+      | inl g ↦ absurd (own_never a e t n (sym (λ i. cond (g i) (own_answer a e t) (lower_answer a e)) ∙ h))
+      | inr g ↦ (
+        lower_counts (encloser_is_cut a e) (contains_type e.link.bits dname) e.count e.cover n
+            (sym (λ i. cond (g i) (own_answer a e t) (lower_answer a e)) ∙ h),
+        g,
+      )
+    ]
 
 -- ---- where an encloser is found
 
@@ -108,7 +132,8 @@ module _ (links : List HashedLink) (a : Name) (p : Parameters) (hash : Hash) (x 
         }
 
     -- a first answer, and what is read on
-    read_of : (first answer : Answer) → encloser_answer a (encloser_with f.count placed.of.link (next_cover a p listed placed.next)) (length x) t ≡ first
+    read_of : (first answer : Answer)
+        → encloser_answer a (encloser_with f.count placed.of.link (next_cover a p listed placed.next)) (length x) t ≡ first
         → IsReadOn listed a p hash x t first answer → IsHashedRead listed a p hash x t answer
     read_of first answer e on = record {
       found = Some told;
@@ -123,13 +148,16 @@ module _ (links : List HashedLink) (a : Name) (p : Parameters) (hash : Hash) (x 
         ≡ encloser_answer a (encloser_with f.count placed.of.link (link_at links f.cover)) (length x) t
     first_is covers =
         elim (cases_Bool (nat_eq f.count (length x))) [
-          | inl n ↦ (λ i. cond (n i) (own_answer a told t) (lower_answer a told)) ∙ sym (λ i. cond (n i) (own_answer a whole t) (lower_answer a whole))
+          | inl n ↦ (λ i. cond (n i) (own_answer a told t) (lower_answer a told))
+              ∙ sym (λ i. cond (n i) (own_answer a whole t) (lower_answer a whole))
           | inr n ↦ elim (cases_Bool (encloser_is_cut a told)) [
             | inl c ↦ (λ i. cond (n i) (own_answer a told t) (cond (c i) (Referral f.count) (past told)))
                 ∙ sym (λ i. cond (n i) (own_answer a whole t) (cond (c i) (Referral f.count) (past whole)))
             | inr c ↦ elim (cases_Bool (contains_type k.bits dname)) [
-              | inl h ↦ (λ i. cond (n i) (own_answer a told t) (cond (c i) (Referral f.count) (cond (h i) (Redirected f.count) (next_answer f.count told.cover))))
-                  ∙ sym (λ i. cond (n i) (own_answer a whole t) (cond (c i) (Referral f.count) (cond (h i) (Redirected f.count) (next_answer f.count whole.cover))))
+              | inl h ↦ (λ i. cond (n i) (own_answer a told t) (cond (c i) (Referral f.count)
+                  (cond (h i) (Redirected f.count) (next_answer f.count told.cover))))
+                  ∙ sym (λ i. cond (n i) (own_answer a whole t) (cond (c i) (Referral f.count)
+                  (cond (h i) (Redirected f.count) (next_answer f.count whole.cover))))
               | inr h ↦ ap (λ o. encloser_answer a (encloser_with f.count placed.of.link o) (length x) t)
                   (same_cover (λ i. cond (n i) None (cond (c i) None (cond (h i) None f.cover))) placed.next refl placed.cover)
             ]
@@ -192,18 +220,36 @@ module _ (links : List HashedLink) (a : Name) (p : Parameters) (hash : Hash) (x 
             ap (next_cover a p listed) g
             ∙ no_cover links a p w at.0 false at.2 listed (subst (λ m. AreOthers links m listed) (sym same) others)
 
+    abbrev sole_here : IsSoleMatch links a p hash x f.place
+    sole_here = record {
+      name = placed.name;
+      above = placed.above;
+      within = placed.within;
+      first = placed.first;
+      value = placed.value;
+      known = placed.known;
+      of = placed.of;
+    }
+
     sole : (place : ℕ) → d.of_encloser ≡ Some place → IsSoleMatch links a p hash x place
     sole place e =
         let same : f.place ≡ place = some_is f.place place (sym first.encloser ∙ e) in
-        record {
-          name = placed.name;
-          above = placed.above;
-          within = placed.within;
-          first = placed.first;
-          value = placed.value;
-          known = placed.known;
-          of = subst (λ m. IsOfHash a p links placed.value m true) same placed.of;
-        }
+        subst (IsSoleMatch links a p hash x) same sole_here
+
+    sole_cover : (place : ℕ) → d.of_next_closer ≡ Some place → IsSoleCover links a p hash x place
+    sole_cover place e = by placed.next placed.closes placed.cover
+      where
+        by : (next : Option Octets) → IsNextHash hash x placed.name next → IsCoverAt a p links next f.cover → IsSoleCover links a p hash x place
+        by None n none = absurd (none_some place (sym none ∙ (rests_below place e).cover))
+        by (Some w) n at =
+            let same : at.0 ≡ place = some_is at.0 place (sym at.1 ∙ (rests_below place e).cover) in
+            record {
+              encloser = f.place;
+              sole = sole_here;
+              value = w;
+              known = n.1;
+              of = subst (λ m. IsOfHash a p links w m false) same at.2;
+            }
 
     -- what is picked but for the record of the next closer name, also where the wildcard is asked for
     without_closer : (e : Nsec3Denial) → e.of_encloser ≡ Some f.place → ((q : ℕ) → e.of_next_closer ≡ Some q → d.of_next_closer ≡ Some q)
@@ -229,7 +275,9 @@ module _ (links : List HashedLink) (a : Name) (p : Parameters) (hash : Hash) (x 
           picked = read_plain (hashed_picked links d) (three_among links d.of_encloser d.of_next_closer d.of_wildcard) has
               (λ q e m g. in_back (at_place links d.of_encloser) (at_place links d.of_next_closer ++ at_place links d.of_wildcard) m
               (in_front (at_place links d.of_next_closer) (at_place links d.of_wildcard) m (in_place links d.of_next_closer q m e g))) other;
-          encloser = sole;
+          matched = sole;
+          covered = sole_cover;
+          told = λ place e. absurd (none_some place (sym first.wildcard ∙ e));
           next_closer = without_closer d first.encloser (λ q e. e);
           wildcard = λ place e apart. absurd (none_some place (sym first.wildcard ∙ e));
         }
@@ -242,6 +290,9 @@ module _ (links : List HashedLink) (a : Name) (p : Parameters) (hash : Hash) (x 
         (says : e.answer ≡ wildcard_told_by n t of.link m) where
       encloser_is : e.of_encloser ≡ Some f.place
       encloser_is = encloser ∙ first.encloser
+
+      counted : n ≡ length placed.name
+      counted = (closer_counts a whole (length x) t n (sym first.answer ∙ closer)).0 ∙ placed.counts
 
       from_first : (q : ℕ) → e.of_next_closer ≡ Some q → d.of_next_closer ≡ Some q
       from_first q g = sym next_closer ∙ g
@@ -271,7 +322,8 @@ module _ (links : List HashedLink) (a : Name) (p : Parameters) (hash : Hash) (x 
       wild_gone listed others = record {
         value = value;
         known = known;
-        says = λ i. wildcard_told n t (sym (no_match links a p value place m of listed others) i) (sym (no_cover links a p value place m of listed others) i);
+        says = λ i. wildcard_told n t (sym (no_match links a p value place m of listed others) i)
+            (sym (no_cover links a p value place m of listed others) i);
       }
 
       pub wildcard_read : IsPickedRead links a p hash x t e
@@ -285,8 +337,20 @@ module _ (links : List HashedLink) (a : Name) (p : Parameters) (hash : Hash) (x 
             let among = three_among links e.of_encloser e.of_next_closer e.of_wildcard in
             read_wild (hashed_picked links e) among (in_front o (q ++ r) k (in_place links e.of_encloser f.place k encloser_is placed.of.there))
             (λ j g l h. in_back o (q ++ r) l (in_front q r l (in_place links e.of_next_closer j l (next_closer ∙ g) h))) e.answer
-            (wild_in (hashed_picked links e) among (in_back o (q ++ r) of.link (in_back q r of.link (in_place links e.of_wildcard place of.link role of.there))));
-        encloser = λ j g. sole j (sym encloser ∙ g);
+            (wild_in (hashed_picked links e) among (in_back o (q ++ r) of.link
+            (in_back q r of.link (in_place links e.of_wildcard place of.link role of.there))));
+        matched = λ j g. sole j (sym encloser ∙ g);
+        covered = λ j g. sole_cover j (sym next_closer ∙ g);
+        told = λ j g.
+            let same : place ≡ j = some_is place j (sym role ∙ g) in
+            record {
+              encloser = f.place;
+              sole = sole_here;
+              value = value;
+              known = ap (λ i. hash_name hash (wildcard_below (last_labels i x))) (sym counted) ∙ known;
+              is_match = m;
+              of = subst (λ i. IsOfHash a p links value i m) same of;
+            };
         next_closer = without_closer e encloser_is from_first;
         wildcard = λ j g apart.
             let same : place ≡ j = some_is place j (sym role ∙ g) in
@@ -302,7 +366,8 @@ module _ (links : List HashedLink) (a : Name) (p : Parameters) (hash : Hash) (x 
                   (λ i h l u. in_back (at_place links o) (at_place links q ++ at_place links r) l
                   (in_front (at_place links q) (at_place links r) l (in_place links q i l
                   (kept_place j e.of_next_closer i (next_closer ∙ h) (λ s. apart (inr (next_closer ∙ h ∙ ap Some s)))) u)))
-                  (NoCloserName n) (wild_gone (picked_without links j e) (subst (λ s. AreOthers links s (picked_without links j e)) (sym same) others)),
+                  (NoCloserName n) (wild_gone (picked_without links j e)
+                  (subst (λ s. AreOthers links s (picked_without links j e)) (sym same) others)),
             );
       }
 
@@ -317,33 +382,14 @@ none_read links a p hash x t none = record {
     is = λ y up low. let r = none y up low in (r.0, r.1, unmatched_among links [] (λ k i. absurd i) a p hash y r.0 r.1 r.2);
     ends = refl;
   };
-  encloser = λ place e. absurd (none_some place e);
+  matched = λ place e. absurd (none_some place e);
+  covered = λ place e. absurd (none_some place e);
+  told = λ place e. absurd (none_some place e);
   next_closer = λ place e apart. absurd (none_some place e);
   wildcard = λ place e apart. absurd (none_some place e);
 }
 
--- ---- how many labels the wildcard lies below
-
-lower_counts : (c h : Bool) (count : ℕ) (o : Option HashedLink) (n : ℕ)
-    → cond c (Referral count) (cond h (Redirected count) (next_answer count o)) ≡ NoCloserName n → n ≡ count
-lower_counts true h count o n e = absurd (cc)
-lower_counts false true count o n e = absurd (cc)
-lower_counts false false count None n e = absurd (cc)
-lower_counts false false count (Some k) n e = by (is_opt_out k.flags) e
-  where
-    by : (b : Bool) → cond b (MayBeUnsigned count) (NoCloserName count) ≡ NoCloserName n → n ≡ count
-    by true e = absurd (cc)
-    by false e = cc
-
-closer_counts : (a : Name) (e : Encloser) (m t n : ℕ) → encloser_answer a e m t ≡ NoCloserName n → (n ≡ e.count) × (nat_eq e.count m ≡ false)
-closer_counts a e m t n h =
-    elim (cases_Bool (nat_eq e.count m)) [
-      | inl g ↦ absurd (own_never a e t n (sym (λ i. cond (g i) (own_answer a e t) (lower_answer a e)) ∙ h))
-      | inr g ↦ (
-        lower_counts (encloser_is_cut a e) (contains_type e.link.bits dname) e.count e.cover n (sym (λ i. cond (g i) (own_answer a e t) (lower_answer a e)) ∙ h),
-        g,
-      )
-    ]
+-- ---- the wildcard lies below an ancestor
 
 -- the closest encloser is an ancestor, so many labels long
 pub record IsAskedBelow (a x : Name) (n : ℕ) : Type 0 where

@@ -6,7 +6,8 @@ use Rattle.domain_base.specs.Words.{Name}
 use Rattle.domain_zone.specs.Zone.{ZoneRecord}
 use Rattle.domain_nsec3.specs.Chain.{ChainRecords, HashedLink, IsHashedChain}
 use Rattle.domain_nsec3.specs.Config.{ChainConfig, Hash, hash_name}
-use Rattle.domain_answer.specs.HashedProved.{hashed_proved_answer}
+use Rattle.domain_checker.specs.HashedVerdict.{is_covered, is_matched, next_closer}
+use Rattle.domain_answer.specs.HashedProved.{hashed_proved_answer, tells_wildcard}
 use Rattle.domain_answer.specs.HashedZoneAnswer.{HashedLeavesOutBelowDname, hashed_encloser}
 use Rattle.domain_answer.specs.ZoneAnswer.{wildcard_below}
 use Rattle.domain_answer.specs.declared.answer.Answer.{Answer}
@@ -67,6 +68,19 @@ pub record AreHashedNeeded (L : List ZoneRecord) (a : Name) (config : ChainConfi
   pub wildcard : (place : ℕ) → d.of_wildcard ≡ Some place → ¬ (TellsOfName d place)
       → hashed_proved_answer L a config (picked_without links place d) x t
       ≡ NoCloserName (length (hashed_encloser L a config x))
+
+-- each record that was picked tells of its part: one matches the closest encloser, one covers the
+-- next closer name, and one matches or covers the wildcard below the closest encloser
+pub record TellOfTheirParts (L : List ZoneRecord) (a : Name) (config : ChainConfig)
+    (links : List HashedLink) (x : Name) (d : Nsec3Denial) : Type 0 where
+  pub encloser : (place : ℕ) → d.of_encloser ≡ Some place
+      → is_matched a config.parameters config.hash (at_place links (Some place))
+      (hashed_encloser L a config x) ≡ true
+  pub next_closer : (place : ℕ) → d.of_next_closer ≡ Some place
+      → is_covered a config.parameters config.hash (at_place links (Some place))
+      (next_closer x (hashed_encloser L a config x)) ≡ true
+  pub wildcard : (place : ℕ) → d.of_wildcard ≡ Some place
+      → tells_wildcard L a config (at_place links (Some place)) x ≡ true
 
 -- the hasher refuses x, an ancestor at or below the apex, or the wildcard right below one of these
 pub record IsRefusedAbove (a : Name) (hash : Hash) (x : Name) (n : ℕ) : Type 0 where

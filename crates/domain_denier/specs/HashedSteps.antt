@@ -13,7 +13,7 @@ use Rattle.domain_nsec3.specs.Meaning.{IsRecordOf, octets_before}
 use Rattle.domain_checker.specs.HashedEncloser.{Encloser, encloser_is_cut}
 use Rattle.domain_checker.specs.HashedList.{is_hash_cover, is_hash_match}
 use Rattle.domain_checker.specs.HashedReading.{IsNextHash, IsUnmatched}
-use Rattle.domain_checker.specs.HashedVerdict.{IsFirst}
+use Rattle.domain_checker.specs.HashedVerdict.{IsFirst, next_closer}
 use Rattle.domain_answer.specs.HashedReading.{IsHashedRead, encloser_answer, wildcard_told}
 use Rattle.domain_answer.specs.Proved.{last_labels}
 use Rattle.domain_answer.specs.ZoneAnswer.{wildcard_below}
@@ -168,12 +168,34 @@ pub record IsSoleMatch (links : List HashedLink) (a : Name) (p : Parameters) (ha
   pub known : hash_name hash name ≡ Ok value
   pub of : IsOfHash a p links value place true
 
+-- and that at this place the only one that covers the next closer name
+pub record IsSoleCover (links : List HashedLink) (a : Name) (p : Parameters) (hash : Hash)
+    (x : Name) (place : ℕ) : Type 0 where
+  pub encloser : ℕ
+  pub sole : IsSoleMatch links a p hash x encloser
+  pub value : Octets
+  pub known : hash_name hash (next_closer x sole.name) ≡ Ok value
+  pub of : IsOfHash a p links value place false
+
+-- and that at this place the only one that matches or covers the wildcard
+pub record IsSoleWildcard (links : List HashedLink) (a : Name) (p : Parameters) (hash : Hash)
+    (x : Name) (place : ℕ) : Type 0 where
+  pub encloser : ℕ
+  pub sole : IsSoleMatch links a p hash x encloser
+  pub value : Octets
+  pub known : hash_name hash (wildcard_below (last_labels (length sole.name) x)) ≡ Ok value
+  pub is_match : Bool
+  pub of : IsOfHash a p links value place is_match
+
 -- what is picked answers as all links do; without it less is said
 pub record IsPickedRead (links : List HashedLink) (a : Name) (p : Parameters) (hash : Hash)
     (x : Name) (t : ℕ) (d : Nsec3Denial) : Type 0 where
   pub whole : IsHashedRead links a p hash x t d.answer
   pub picked : IsHashedRead (hashed_picked links d) a p hash x t d.answer
-  pub encloser : (place : ℕ) → d.of_encloser ≡ Some place → IsSoleMatch links a p hash x place
+  pub matched : (place : ℕ) → d.of_encloser ≡ Some place → IsSoleMatch links a p hash x place
+  pub covered : (place : ℕ) → d.of_next_closer ≡ Some place
+      → IsSoleCover links a p hash x place
+  pub told : (place : ℕ) → d.of_wildcard ≡ Some place → IsSoleWildcard links a p hash x place
   pub next_closer : (place : ℕ) → d.of_next_closer ≡ Some place
       → ¬ (d.of_encloser ≡ Some place)
       → IsHashedRead (picked_without links place d) a p hash x t NotProven

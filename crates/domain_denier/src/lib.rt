@@ -7,10 +7,11 @@
 //! accepts: its answer is what the zone says. It goes over no list: a question costs some twenty
 //! comparisons of names where the chain has a million.
 //!
-//! `deny_nsec3` picks those of an NSEC3 chain, which `judge_nsec3` accepts: the one that matches the
-//! closest encloser of the name, the one that covers the name one label longer, and the one of the
-//! wildcard, each where the answer rests on it. It hashes the names from the name up to the closest
-//! encloser and, where it is asked for, the wildcard, and searches for each hash in the same way.
+//! `deny_nsec3` picks those of an NSEC3 chain, which `judge_nsec3` accepts: the one that matches
+//! the closest encloser of the name, the one that covers the name one label longer, and the one of
+//! the wildcard, each where the answer rests on it. It hashes the names from the name up to the
+//! closest encloser and, where it is asked for, the wildcard, and searches for each hash in the
+//! same way.
 #![tactic(auto)]
 
 mod encloser;

@@ -12,7 +12,7 @@ ghost use Rattle.domain_answer.specs.HashedReading.{next_answer, own_answer, IsH
 ghost use Rattle.domain_answer.specs.HashedZoneAnswer.{hashed_zone_answer};
 ghost use Rattle.domain_answer.specs.Proved.{last_labels, needs_no_records};
 ghost use Rattle.domain_answer.specs.ZoneAnswer.{is_at_parent, wildcard_below};
-ghost use Rattle.domain_denier.specs.HashedPicked.{hashed_picked, without_records, AreHashedNeeded, AreHashedThere, ArePlaces, IsHashedWhole, IsRefusedAbove};
+ghost use Rattle.domain_denier.specs.HashedPicked.{hashed_picked, without_records, AreHashedNeeded, AreHashedThere, ArePlaces, IsHashedWhole, IsRefusedAbove, TellOfTheirParts};
 ghost use Rattle.domain_denier.specs.HashedSteps.{encloser_with, link_at, wildcard_told_by, with_encloser, IsFirstDenial, IsInside, IsPickedRead, IsPlaced, IsWildcardPlaced};
 
 use crate::encloser::{PlacedEncloser, find_encloser};
@@ -338,24 +338,27 @@ fn deny_inside<O: Octets, M: ToName, H: Nsec3Hasher>(
 ///
 /// The first matches the closest encloser of the name, which may be the name itself. Where the
 /// answer rests on there being no name one label longer, the second covers that one, and where it
-/// rests on the wildcard below the closest encloser, the third matches or covers that. A response
-/// needs all that are given where the answer is a name error or a wildcard without data (sections
-/// 7.2.2 and 7.2.5), no data or an unsigned delegation (`NoDs`; also in a referral, when it is asked
-/// for the zone cut), or where a delegation may have been left out of the chain (`MayBeUnsigned`,
-/// sections 7.2.4 and 7.2.7); the second alone where it was expanded from a wildcard (section
-/// 7.2.6); and none where it is positive or a redirection. A name outside the zone has none.
+/// rests on the wildcard below the closest encloser, the third matches or covers that.
+///
+/// A response needs all that are given where the answer is a name error or a wildcard without data
+/// (sections 7.2.2 and 7.2.5), no data or an unsigned delegation (`NoDs`; also in a referral, when
+/// it is asked for the zone cut), or where a delegation may have been left out of the chain
+/// (`MayBeUnsigned`, sections 7.2.4 and 7.2.7). It needs the second alone where it was expanded
+/// from a wildcard (section 7.2.6), and none where it is positive or a redirection. A name outside
+/// the zone has none.
 ///
 /// Where the zone has opt-out and there is no such name, also no unsigned delegation, the response
 /// is to have the record that covers the wildcard too (section 7.2.2), though what it proves does
-/// not rest on that: it is the second record that the wildcard itself is denied with (`wildcard_of`).
+/// not rest on that: it is the second record that the wildcard itself is denied with
+/// (`wildcard_of`).
 ///
-/// The chain is that of a zone, in which the names below an owner of a DNAME record are left out, or
-/// there are none (RFC 6672, section 2.4); the apex and the parameters are those of its NSEC3PARAM
-/// record. Names are hashed from the name towards the apex, up to the first that a record matches,
-/// and then the wildcard where it is asked for: no name twice, and none where the name is outside
-/// the zone or the parent answers. For each some twenty hashes are compared where the chain has a
-/// million. There is no limit of iterations. Takes no memory but for the hasher's answers, one at a
-/// time.
+/// The chain is that of a zone, in which the names below an owner of a DNAME record are left out,
+/// or there are none (RFC 6672, section 2.4); the apex and the parameters are those of its
+/// NSEC3PARAM record. Names are hashed from the name towards the apex, up to the first that a
+/// record matches, and then the wildcard where it is asked for: no name twice, and none where the
+/// name is outside the zone or the parent answers. For each some twenty hashes are compared where
+/// the chain has a million. There is no limit of iterations. Takes no memory but for the hasher's
+/// answers, one at a time.
 ///
 /// # Errors
 ///
@@ -375,7 +378,7 @@ pub fn deny_nsec3<O: Octets, M: ToName, H: Nsec3Hasher>(
         → result ≡ Ok (without_records Answer.AtParent) }
 
     // Of the chain of any zone in which no other name has a hash that is asked for, the answer is
-    // what that zone says, the records prove it, and each of them is needed.
+    // what that zone says, the records prove it, each tells of its part, and each is needed.
     ensures zone { IfOk result (λ d. (L : List ZoneRecord) (config : ChainConfig)
         → IsHashedWhole L config (hash_by (H.answer hasher.now) chain.now.param.parameters)
         chain.now → AreAskedAlone L chain.now.param.owner config (M.labels name.now)
@@ -387,6 +390,11 @@ pub fn deny_nsec3<O: Octets, M: ToName, H: Nsec3Hasher>(
         → hashed_proved_answer L chain.now.param.owner config
         (hashed_picked chain.now.links d) (M.labels name.now) rtype
         ≡ hashed_zone_answer L chain.now.param.owner config (M.labels name.now) rtype) }
+    ensures parts { IfOk result (λ d. (L : List ZoneRecord) (config : ChainConfig)
+        → IsHashedWhole L config (hash_by (H.answer hasher.now) chain.now.param.parameters)
+        chain.now → AreAskedAlone L chain.now.param.owner config (M.labels name.now)
+        → TellOfTheirParts L chain.now.param.owner config chain.now.links (M.labels name.now)
+        d) }
     ensures needed { IfOk result (λ d. (L : List ZoneRecord) (config : ChainConfig)
         → IsHashedWhole L config (hash_by (H.answer hasher.now) chain.now.param.parameters)
         chain.now → AreAskedAlone L chain.now.param.owner config (M.labels name.now)

@@ -66,7 +66,8 @@ pub skip-octets-requires : goal.skip-octets-requires
 skip-octets-requires g c =
     let label = c.in-Some.label.now in
     let next = c.in-Some.above in
-    subst (λ o. length label + 1 ≤ length o) (sym (c.names.invariant.wire ∙ ap (λ n. wire_of (lowered n)) c.in-Some.ensures.parts)) (wire_shorter label next)
+    subst (λ o. length label + 1 ≤ length o) (sym (c.names.invariant.wire ∙ ap (λ n. wire_of (lowered n)) c.in-Some.ensures.parts))
+    (wire_shorter label next)
 
 pub returns-in_err-found-clause-err : goal.returns-in_err-found-clause-err
 returns-in_err-found-clause-err g c =
@@ -78,7 +79,8 @@ returns-in_err-found-clause-err g c =
     let parts = c.in-Some.ensures.parts in
     let other : same_name c.names.left c.args.apex.now ≡ false = sym c.name_eq.ensures.value ∙ c.names-test.true in
     let up = ancestor_above a x c.names.left c.names.invariant.ancestor label next parts other in
-    let wire = c.skip-octets.ensures ∙ ap (drop (length label + 1)) (c.names.invariant.wire ∙ ap (λ n. wire_of (lowered n)) parts) ∙ wire_above label next in
+    let wire = c.skip-octets.ensures ∙ ap (drop (length label + 1)) (c.names.invariant.wire ∙ ap (λ n. wire_of (lowered n)) parts)
+    ∙ wire_above label next in
     let q = err_from_is_err_and c.from_residual-in_err-found.result c.from_residual-in_err-found.ensures.1 in
     rw (q.1, q.2) (elim c.in_err-found.ensures.err [
       | inl full ↦ inl full
@@ -110,7 +112,8 @@ returns-then-found-clause-placed g c L config whole =
     let parts = c.in-Some.ensures.parts in
     let octets = c.skip-octets.result.now in
     let other : same_name c.names.left c.args.apex.now ≡ false = sym c.name_eq.ensures.value ∙ c.names-test.true in
-    let wire = c.skip-octets.ensures ∙ ap (drop (length label + 1)) (c.names.invariant.wire ∙ ap (λ n. wire_of (lowered n)) parts) ∙ wire_above label next in
+    let wire = c.skip-octets.ensures ∙ ap (drop (length label + 1)) (c.names.invariant.wire ∙ ap (λ n. wire_of (lowered n)) parts)
+    ∙ wire_above label next in
     let found = c.in_ok-found.ensures.ok in
     placed_above chain.links a p hash x c.names.left c.names.cover (c.names.invariant.missed L config whole) label next parts other found.value
     (hash_known hash chain octets c.in_ok-found.found found next wire)
@@ -130,7 +133,8 @@ names-preserved g c =
     let parts = c.in-Some.ensures.parts in
     let octets = c.skip-octets.result.now in
     let other : same_name c.names.left c.args.apex.now ≡ false = sym c.name_eq.ensures.value ∙ c.names-test.true in
-    let wire = c.skip-octets.ensures ∙ ap (drop (length label + 1)) (c.names.invariant.wire ∙ ap (λ n. wire_of (lowered n)) parts) ∙ wire_above label next in
+    let wire = c.skip-octets.ensures ∙ ap (drop (length label + 1)) (c.names.invariant.wire ∙ ap (λ n. wire_of (lowered n)) parts)
+    ∙ wire_above label next in
     let found = c.in_ok-found.ensures.ok in
     record {
       wire = wire;
