@@ -5,3 +5,4 @@ pub mod WhyLemmas
 pub mod Nsec3WhyLemmas
 pub mod Nsec3RunLemmas
 pub mod ExpansionLemmas
+pub mod RecordsLemmas

@@ -1,5 +1,5 @@
 -- The text of what NSEC3 records answer, and why there is none.
-use Rattle.std.proofs.Common.{◌≡◌, ◌⊎◌, ◌&&◌, Bool, List, [], ◌∷◌, ◌++◌, codes, refl, sym, subst, inl, inr}
+use Rattle.std.proofs.Common.{◌≡◌, ◌⊎◌, List, [], ◌∷◌, ◌++◌, refl, sym, subst, inl, inr}
 use Rattle.domain_octets.specs.Words.{Octets}
 use Rattle.domain_nsec3.specs.Chain.{HashedLink, ParamRecord}
 use Rattle.domain_nsec3.specs.View.{HasherAnswer}
@@ -11,27 +11,29 @@ use Rattle.denial_program.specs.declared.fault.DenialFault.{DenialFault}
 use Rattle.denial_program.specs.declared.fault.DenialFault.TheVariants.{Write, OutOfMemory}
 use Rattle.judge_program.specs.Judged.{IsAnswerAsked, IsNotNsec3Judged}
 use Rattle.judge_program.specs.Run.{IsNsec3Text, IsUnwritten}
-use Rattle.judge_program.specs.Text.{answer_text}
+use Rattle.judge_program.specs.Text.{first_line}
 use Rattle.judge_program.specs.declared.command.Nsec3Options.{Nsec3Options}
-use Rattle.judge_program.specs.Why.{rests_on_records, IsNsec3Below}
+use Rattle.judge_program.specs.declared.shown.Shown.{Shown}
+use Rattle.judge_program.specs.Records.{IsNsec3Below}
+use Rattle.judge_program.specs.Why.{rests_on_records}
 
-pub nsec3_text_is : (hashes : HasherAnswer) (given : List RawRecord) (q : Question) (asked : Nsec3Options) (why : Bool) (param : ParamRecord)
+pub nsec3_text_is : (hashes : HasherAnswer) (given : List RawRecord) (q : Question) (asked : Nsec3Options) (shown : Shown) (param : ParamRecord)
     (links : List HashedLink) (answer : Answer) (below : Octets) → AreParams q.apex given (param ∷ []) → AreNsec3s given links
     → IsAnswerAsked asked.labels param.parameters (hash_with hashes param) links q asked.limit answer
-    → IsNsec3Below (why && rests_on_records answer) asked.labels q.apex param.parameters (hash_with hashes param) links q.name answer below
-    → IsNsec3Text hashes given q asked why ((answer_text q.name answer ++ codes "\n") ++ below)
-nsec3_text_is hashes given q asked why param links answer below single are is shown =
+    → IsNsec3Below (rests_on_records answer) shown asked.labels q.apex param (hash_with hashes param) links q.name answer below
+    → IsNsec3Text hashes given q asked shown (first_line shown q.name answer ++ below)
+nsec3_text_is hashes given q asked shown param links answer below single are is follows =
     record {
       answer = answer;
       judged = record { param = param; single = single; links = links; are = are; is = is };
       below = below;
-      shown = shown;
+      follows = follows;
       is = refl;
     }
 
 -- a text that could not be written
-pub nsec3_unwritten : (hashes : HasherAnswer) (given : List RawRecord) (q : Question) (asked : Nsec3Options) (why : Bool) (text : Octets)
-    (fault : DenialFault) → IsNsec3Text hashes given q asked why text → (fault ≡ Write) ⊎ (fault ≡ OutOfMemory)
-    → IsUnwritten (IsNsec3Text hashes given q asked why) (IsNotNsec3Judged hashes given q asked) fault
-nsec3_unwritten hashes given q asked why text fault is (inl write) = inl (write, (text, is))
-nsec3_unwritten hashes given q asked why text fault is (inr memory) = inr (subst (IsNotNsec3Judged hashes given q asked) (sym memory) tt)
+pub nsec3_unwritten : (hashes : HasherAnswer) (given : List RawRecord) (q : Question) (asked : Nsec3Options) (shown : Shown) (text : Octets)
+    (fault : DenialFault) → IsNsec3Text hashes given q asked shown text → (fault ≡ Write) ⊎ (fault ≡ OutOfMemory)
+    → IsUnwritten (IsNsec3Text hashes given q asked shown) (IsNotNsec3Judged hashes given q asked) fault
+nsec3_unwritten hashes given q asked shown text fault is (inl write) = inl (write, (text, is))
+nsec3_unwritten hashes given q asked shown text fault is (inr memory) = inr (subst (IsNotNsec3Judged hashes given q asked) (sym memory) tt)

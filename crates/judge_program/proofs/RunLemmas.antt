@@ -1,5 +1,5 @@
 -- What a run answers.
-use Rattle.std.proofs.Common.{◌≡◌, ◌⊎◌, Bool, List, [], ◌++◌, codes, if◌then◌else◌, refl, subst, sym, inl, inr, Result, IfErr, IsErrOf}
+use Rattle.std.proofs.Common.{◌≡◌, ◌⊎◌, List, ◌++◌, refl, subst, sym, inl, inr, Result, IfErr, IsErrOf}
 use Rattle.domain_octets.specs.Words.{Octets}
 use Rattle.domain_nsec3.specs.View.{HasherAnswer}
 use Rattle.domain_lent.specs.Data.{RawRecord}
@@ -12,8 +12,9 @@ use Rattle.denial_program.specs.declared.command.Question.{Question}
 use Rattle.denial_program.specs.declared.fault.DenialFault.{DenialFault}
 use Rattle.denial_program.specs.declared.fault.DenialFault.TheVariants.{Write, OutOfMemory}
 use Rattle.judge_program.specs.Run.{HasNoText, IsNsecText, IsText, IsUnwritten}
-use Rattle.judge_program.specs.Text.{answer_text}
-use Rattle.judge_program.specs.Why.{nsec_why}
+use Rattle.judge_program.specs.Records.{nsec_below}
+use Rattle.judge_program.specs.Text.{first_line}
+use Rattle.judge_program.specs.declared.shown.Shown.{Shown}
 use Rattle.judge_program.specs.declared.command.ChainKind.{ChainKind}
 use Rattle.judge_program.specs.declared.command.ChainKind.TheVariants.{Nsec, Nsec3}
 
@@ -22,13 +23,13 @@ no_text_no_write hashes Nsec given q none = cc
 no_text_no_write hashes (Nsec3 asked) given q none = none
 
 -- where writing failed there was an answer
-pub text_unwritten : {X : Type 0} (hashes : HasherAnswer) (kind : ChainKind) (given : List RawRecord) (q : Question) (why : Bool) (r : Result X DenialFault)
-    → IfErr r (IsUnwritten (IsText hashes kind given q why) (HasNoText hashes kind given q)) → IsErrOf r Write
-    → (text : Octets) × IsText hashes kind given q why text
-text_unwritten hashes kind given q why r h is =
-    there (subst (λ e. IfErr e (IsUnwritten (IsText hashes kind given q why) (HasNoText hashes kind given q))) is h)
+pub text_unwritten : {X : Type 0} (hashes : HasherAnswer) (kind : ChainKind) (given : List RawRecord) (q : Question) (shown : Shown) (r : Result X DenialFault)
+    → IfErr r (IsUnwritten (IsText hashes kind given q shown) (HasNoText hashes kind given q)) → IsErrOf r Write
+    → (text : Octets) × IsText hashes kind given q shown text
+text_unwritten hashes kind given q shown r h is =
+    there (subst (λ e. IfErr e (IsUnwritten (IsText hashes kind given q shown) (HasNoText hashes kind given q))) is h)
   where
-    there : IsUnwritten (IsText hashes kind given q why) (HasNoText hashes kind given q) Write → (text : Octets) × IsText hashes kind given q why text
+    there : IsUnwritten (IsText hashes kind given q shown) (HasNoText hashes kind given q) Write → (text : Octets) × IsText hashes kind given q shown text
     there (inl h) = h.1
     there (inr none) = absurd (no_text_no_write hashes kind given q none)
 
@@ -39,11 +40,11 @@ unwritten is_such has_none text is none e (inl w) = inl (w, (text, is))
 unwritten is_such has_none text is none e (inr m) = inr (subst has_none (sym m) none)
 
 -- the text of what the NSEC records answer, which are the same links
-pub nsec_text : (given : List RawRecord) (q : Question) (why : Bool) (answer : Answer) (asked links : List Link) → asked ≡ links
+pub nsec_text : (given : List RawRecord) (q : Question) (shown : Shown) (answer : Answer) (asked links : List Link) → asked ≡ links
     → AreNsecs given links → IsAnswered asked q.apex q.name q.rtype answer → answer ≡ reading q.apex asked q.name q.rtype
     → RestsOn asked q.apex q.name answer
-    → IsNsecText given q why ((answer_text q.name answer ++ codes "\n") ++ (if why then nsec_why q.apex links q.name answer else []))
-nsec_text given q why answer asked links same are zone exact proof =
+    → IsNsecText given q shown (first_line shown q.name answer ++ nsec_below shown q.apex links q.name answer)
+nsec_text given q shown answer asked links same are zone exact proof =
     record {
       answer = answer;
       judged = record {

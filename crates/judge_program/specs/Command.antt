@@ -1,42 +1,46 @@
 -- What the words after the program's name ask for.
-use Rattle.std.specs.Prelude.{◌≡◌, ℕ, Bool, true, false, [], ◌∷◌, codes, Option, Some, None}
+use Rattle.std.specs.Prelude.{◌≡◌, ◌⊎◌, ℕ, [], ◌∷◌, codes, Option, Some, None}
 use Rattle.domain_base.specs.Scan.{IsNumber}
 use Rattle.domain_base.specs.Words.{Token, Tokens}
 use Rattle.denial_program.specs.Command.{SpellQuestion}
 use Rattle.judge_program.specs.declared.command.ChainKind.{ChainKind}
 use Rattle.judge_program.specs.declared.command.ChainKind.TheVariants.{Nsec, Nsec3}
 use Rattle.judge_program.specs.declared.command.Command.{Command}
+use Rattle.judge_program.specs.declared.shown.Shown.{Shown}
+use Rattle.judge_program.specs.declared.shown.Shown.TheVariants.{Answer, Why, Records}
 
 -- the limit of iterations where none is asked for
 abbrev pub usual_limit : ℕ
 usual_limit = 150
 
--- options that ask for the records too, or do not
-abbrev pub WhyText : Tokens → Bool → Type 0
-WhyText [] why = why ≡ false
-WhyText (option ∷ []) why = (option ≡ codes "--why") × (why ≡ true)
-WhyText (option ∷ other ∷ more) why = ⊥
+-- options that ask for no more than the answer, for the records that it rests on, or for those that
+-- a server answers with
+abbrev pub ShownText : Tokens → Shown → Type 0
+ShownText [] shown = shown ≡ Answer
+ShownText (option ∷ []) shown =
+    ((option ≡ codes "--why") × (shown ≡ Why)) ⊎ ((option ≡ codes "--records") × (shown ≡ Records))
+ShownText (option ∷ other ∷ more) shown = ⊥
 
 -- options that may ask for a limit of iterations first
-abbrev pub LimitText : Tokens → ℕ → Bool → Type 0
-LimitText [] limit why = (limit ≡ usual_limit) × (why ≡ false)
-LimitText (option ∷ []) limit why = (limit ≡ usual_limit) × WhyText (option ∷ []) why
-LimitText (option ∷ word ∷ more) limit why =
-    (option ≡ codes "--limit") × IsNumber 16 word limit × WhyText more why
+abbrev pub LimitText : Tokens → ℕ → Shown → Type 0
+LimitText [] limit shown = (limit ≡ usual_limit) × (shown ≡ Answer)
+LimitText (option ∷ []) limit shown = (limit ≡ usual_limit) × ShownText (option ∷ []) shown
+LimitText (option ∷ word ∷ more) limit shown =
+    (option ≡ codes "--limit") × IsNumber 16 word limit × ShownText more shown
 
 -- options that may ask for labels before that
-abbrev pub LabelsText : Tokens → Option ℕ → ℕ → Bool → Type 0
-LabelsText options None limit why = LimitText options limit why
-LabelsText [] (Some n) limit why = ⊥
-LabelsText (option ∷ []) (Some n) limit why = ⊥
-LabelsText (option ∷ word ∷ more) (Some n) limit why =
-    (option ≡ codes "--labels") × IsNumber 8 word n × LimitText more limit why
+abbrev pub LabelsText : Tokens → Option ℕ → ℕ → Shown → Type 0
+LabelsText options None limit shown = LimitText options limit shown
+LabelsText [] (Some n) limit shown = ⊥
+LabelsText (option ∷ []) (Some n) limit shown = ⊥
+LabelsText (option ∷ word ∷ more) (Some n) limit shown =
+    (option ≡ codes "--labels") × IsNumber 8 word n × LimitText more limit shown
 
 -- a word names the kind of chain, and these options stand for it
-abbrev pub KindText : Token → Tokens → ChainKind → Bool → Type 0
-KindText word options Nsec why = (word ≡ codes "nsec") × WhyText options why
-KindText word options (Nsec3 asked) why =
-    (word ≡ codes "nsec3") × LabelsText options asked.labels asked.limit why
+abbrev pub KindText : Token → Tokens → ChainKind → Shown → Type 0
+KindText word options Nsec shown = (word ≡ codes "nsec") × ShownText options shown
+KindText word options (Nsec3 asked) shown =
+    (word ≡ codes "nsec3") × LabelsText options asked.labels asked.limit shown
 
 -- the words ask what records of this kind of chain answer to the question
 pub record Asks (words : Tokens) (command : Command) : Type 0 where
@@ -46,7 +50,7 @@ pub record Asks (words : Tokens) (command : Command) : Type 0 where
   pub type_word : Token
   pub options : Tokens
   pub are : words ≡ kind_word ∷ apex_word ∷ name_word ∷ type_word ∷ options
-  pub kind : KindText kind_word options command.kind command.why
+  pub kind : KindText kind_word options command.kind command.shown
   pub question : SpellQuestion apex_word name_word type_word command.question
 
 abbrev pub IsCommand : Tokens → Type 0

@@ -1,5 +1,5 @@
 -- What a run answers to its words and lines, and when each of its faults comes.
-use Rattle.std.specs.Prelude.{◌≡◌, ◌⊎◌, ◌&&◌, Bool, List, [], ◌++◌, codes, Option, if◌then◌else◌}
+use Rattle.std.specs.Prelude.{◌≡◌, ◌⊎◌, List, ◌++◌, Option}
 use Rattle.std.specs.Io.KnownBytes.{Appends}
 use Rattle.domain_octets.specs.Words.{Octets}
 use Rattle.domain_base.specs.Words.{Tokens}
@@ -13,37 +13,39 @@ use Rattle.denial_program.specs.declared.fault.DenialFault.{DenialFault}
 use Rattle.denial_program.specs.declared.fault.DenialFault.TheVariants.{Usage, Read, Line, MixedClasses, Signing, Param, Write, OutOfMemory}
 use Rattle.judge_program.specs.Command.{Asks, IsCommand, IsNoCommand}
 use Rattle.judge_program.specs.Judged.{IsNotNsec3Judged, IsNsec3Judged, IsNsecJudged}
-use Rattle.judge_program.specs.Text.{answer_text}
-use Rattle.judge_program.specs.Why.{nsec_why, rests_on_records, IsNsec3Below}
+use Rattle.judge_program.specs.Records.{nsec_below, IsNsec3Below}
+use Rattle.judge_program.specs.Text.{first_line}
+use Rattle.judge_program.specs.Why.{rests_on_records}
 use Rattle.judge_program.specs.declared.command.ChainKind.{ChainKind}
 use Rattle.judge_program.specs.declared.command.ChainKind.TheVariants.{Nsec, Nsec3}
 use Rattle.judge_program.specs.declared.command.Command.{Command}
 use Rattle.judge_program.specs.declared.command.Nsec3Options.{Nsec3Options}
+use Rattle.judge_program.specs.declared.shown.Shown.{Shown}
 
--- the text is that of what the NSEC records answer to the question, on one line, and below it,
--- where they are asked for, of the records that it rests on
-pub record IsNsecText (given : List RawRecord) (q : Question) (why : Bool) (text : Octets)
+-- the text is that of what the NSEC records answer to the question, on one line, and below it, where
+-- they are asked for, of the records that it rests on, or of those that a server answers with
+pub record IsNsecText (given : List RawRecord) (q : Question) (shown : Shown) (text : Octets)
     : Type 0 where
   pub answer : Answer
   pub judged : IsNsecJudged given q answer
-  pub is : text ≡ (answer_text q.name answer ++ codes "\n")
-      ++ (if why then nsec_why q.apex judged.links q.name answer else [])
+  pub is : text ≡ first_line shown q.name answer
+      ++ nsec_below shown q.apex judged.links q.name answer
 
 -- of what the NSEC3 records answer
 pub record IsNsec3Text (hashes : HasherAnswer) (given : List RawRecord) (q : Question)
-    (asked : Nsec3Options) (why : Bool) (text : Octets) : Type 0 where
+    (asked : Nsec3Options) (shown : Shown) (text : Octets) : Type 0 where
   pub answer : Answer
   pub judged : IsNsec3Judged hashes given q asked answer
   pub below : Octets
-  pub shown : IsNsec3Below (why && rests_on_records answer) asked.labels q.apex
-      judged.param.parameters (hash_with hashes judged.param) judged.links q.name answer below
-  pub is : text ≡ (answer_text q.name answer ++ codes "\n") ++ below
+  pub follows : IsNsec3Below (rests_on_records answer) shown asked.labels q.apex judged.param
+      (hash_with hashes judged.param) judged.links q.name answer below
+  pub is : text ≡ first_line shown q.name answer ++ below
 
 -- of what records of this kind of chain answer
-abbrev pub IsText : HasherAnswer → ChainKind → List RawRecord → Question → Bool → Octets
+abbrev pub IsText : HasherAnswer → ChainKind → List RawRecord → Question → Shown → Octets
     → Type 0
-IsText hashes Nsec given q why text = IsNsecText given q why text
-IsText hashes (Nsec3 asked) given q why text = IsNsec3Text hashes given q asked why text
+IsText hashes Nsec given q shown text = IsNsecText given q shown text
+IsText hashes (Nsec3 asked) given q shown text = IsNsec3Text hashes given q asked shown text
 
 -- why they have no answer
 abbrev pub HasNoText : HasherAnswer → ChainKind → List RawRecord → Question → DenialFault
@@ -69,7 +71,7 @@ pub record Judges (hashes : HasherAnswer) (words : Tokens) (lines : List Octets)
   pub given : List RawRecord
   pub asks : Asks words command
   pub gives : Give lines given
-  pub is : IsText hashes command.kind given command.question command.why text
+  pub is : IsText hashes command.kind given command.question command.shown text
 
 -- they have none, for this reason
 pub record GivesNoJudgement (hashes : HasherAnswer) (words : Tokens) (lines : List Octets)

@@ -10,6 +10,8 @@ use Rattle.domain_answer.specs.declared.answer.Answer.TheVariants as answers
 use Rattle.denial_program.specs.FaultText.{fault_text}
 use Rattle.denial_program.specs.declared.fault.DenialFault.{DenialFault}
 use Rattle.denial_program.specs.declared.fault.DenialFault.TheVariants.{Usage, Read, Line, MixedClasses, Signing, Param, Write, OutOfMemory}
+use Rattle.judge_program.specs.declared.shown.Shown.{Shown}
+use Rattle.judge_program.specs.declared.shown.Shown.TheVariants as shows
 
 -- a name with its last dot
 abbrev pub full_text : Name → Octets
@@ -56,11 +58,17 @@ answer_text name (answers.NoCloserName count) =
 answer_text name answers.TooManyIterations = codes "too many iterations"
 answer_text name answers.NotProven = codes "not proven"
 
+-- the line of an answer, as a comment where the records that a server answers with follow
+abbrev pub first_line : Shown → Name → Answer → Octets
+first_line shows.Answer name answer = answer_text name answer ++ codes "\n"
+first_line shows.Why name answer = answer_text name answer ++ codes "\n"
+first_line shows.Records name answer = codes "; " ++ answer_text name answer ++ codes "\n"
+
 -- a fault as this program prints it
 abbrev pub judge_fault_text : DenialFault → Octets
 judge_fault_text Usage =
-    codes "usage: denial judge nsec APEX NAME TYPE [--why]"
-    ++ codes " | denial judge nsec3 APEX NAME TYPE [--labels N] [--limit ITERATIONS] [--why]"
+    codes "usage: denial judge nsec APEX NAME TYPE [--why | --records] | denial judge nsec3 APEX "
+    ++ codes "NAME TYPE [--labels N] [--limit ITERATIONS] [--why | --records]"
 judge_fault_text Read = fault_text Read
 judge_fault_text (Line n) = fault_text (Line n)
 judge_fault_text MixedClasses = fault_text MixedClasses

@@ -20,8 +20,6 @@ use Rattle.domain_answer.specs.declared.answer.Answer.{Answer}
 use Rattle.domain_answer.specs.declared.answer.Answer.TheVariants as answers
 use Rattle.denial_program.specs.Text.{nsec_line, nsec3_line}
 use Rattle.judge_program.specs.Text.{full_text}
-use Rattle.judge_program.specs.declared.nsec3_below.Nsec3Below.{Nsec3Below}
-use Rattle.judge_program.specs.declared.nsec3_below.Nsec3Below.TheVariants.{Nothing, Whole, Closer}
 use Rattle.judge_program.specs.declared.nsec3_why.Nsec3Why.{Nsec3Why}
 use Rattle.judge_program.specs.declared.role.Role.{Role}
 use Rattle.judge_program.specs.declared.role.Role.TheVariants.{Asked, Encloser as ClosestEncloser, NextCloser, Wildcard}
@@ -180,11 +178,6 @@ closer_found_text labels x n None = []
 closer_found_text labels x n (Some found) =
     nsec3_shown (NextCloser (closer_name n x)) (found_match labels found) (found_cover labels found)
 
-abbrev pub below_text : Name → Answer → Nsec3Below → Octets
-below_text x answer Nothing = []
-below_text x answer (Whole why) = nsec3_why_text x answer why
-below_text x answer (Closer n found) = closer_found_text (λ n. n) x n found
-
 -- the lines below an answer of NSEC3 records: of x and its ancestors the first that a record matches,
 -- and, where the answer needs them, the next closer name and the wildcard
 pub record IsNsec3Why (a : Name) (p : Parameters) (hash : Hash) (listed : List HashedLink) (x : Name)
@@ -193,14 +186,6 @@ pub record IsNsec3Why (a : Name) (p : Parameters) (hash : Hash) (listed : List H
   pub finds : IsFoundEncloser listed a p hash x found
   pub is : text ≡ encloser_told x answer found
       ++ nsec3_wildcard_told a p hash listed x (wildcard_count answer)
-
--- none where they are not asked for, or the answer rests on no record; where there are labels, those
--- on the next closer name, which is one label longer
-abbrev pub IsNsec3Below : Bool → Option ℕ → Name → Parameters → Hash → List HashedLink → Name
-    → Answer → Octets → Type 0
-IsNsec3Below false labels a p hash listed x answer text = text ≡ []
-IsNsec3Below true None a p hash listed x answer text = IsNsec3Why a p hash listed x answer text
-IsNsec3Below true (Some n) a p hash listed x answer text = text ≡ closer_told a p hash listed x n
 
 -- a name is refused on the way to the closest encloser; none where there are labels
 abbrev pub IsRefusalBelow : Option ℕ → List HashedLink → Name → Parameters → Hash → Name → ℕ → Type 0

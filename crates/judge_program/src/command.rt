@@ -1,11 +1,13 @@
 //! What the words after the program's name ask for.
-ghost use Rattle.std.specs.Prelude.{◌≡◌, ◌⊎◌, ℕ, Bool, None, IfErr, IfNone, IfOk, IfSome, map, string_bytes};
+ghost use Rattle.std.specs.Prelude.{◌≡◌, ◌⊎◌, ◌∷◌, [], ℕ, None, IfErr, IfNone, IfOk, IfSome, map, string_bytes};
 ghost use Rattle.domain_base.specs.Scan.{IsNumber};
 ghost use Rattle.denial_program.specs.declared.fault.DenialFault.TheVariants.{OutOfMemory};
-ghost use Rattle.judge_program.specs.Command.{Asks, IsNoCommand, KindText, LabelsText, LimitText, WhyText};
+ghost use Rattle.judge_program.specs.Command.{Asks, IsNoCommand, KindText, LabelsText, LimitText, ShownText};
 ghost use Rattle.judge_program.specs.declared.command.ChainKind.{ChainKind};
 ghost use Rattle.judge_program.specs.declared.command.Nsec3Options.{Nsec3Options};
+ghost use Rattle.judge_program.specs.declared.shown.Shown.{Shown};
 
+use crate::shown::Shown;
 use denial_program::{DenialFault, Question, question_of};
 use domain_base::FromToken;
 use std::alloc::Global;
@@ -40,8 +42,8 @@ pub struct Command {
     pub kind: ChainKind,
     /// What they are asked.
     pub question: Question,
-    /// Whether those that the answer rests on are wanted too.
-    pub why: bool,
+    /// What is printed.
+    pub shown: Shown,
 }
 
 /// A number of iterations that a word spells (RFC 5155, section 4.3).
@@ -66,52 +68,64 @@ fn labels_of(word: &str) -> Option<u8>
     }
 }
 
-/// Whether the options ask for the records too.
-fn why_of(options: &[String]) -> Option<bool>
-    ensures some { IfSome result (WhyText (map string_bytes options.now)) }
-    ensures none { IfNone result
-        ((why : Bool) → WhyText (map string_bytes options.now) why → ⊥) }
+/// What the option asks to be printed.
+fn shown_by(option: &str) -> Option<Shown>
+    ensures some { IfSome result (ShownText (option.now ∷ [])) }
+    ensures none { IfNone result ((shown : Shown) → ShownText (option.now ∷ []) shown → ⊥) }
 {
-    match options {
-        [] => Some(false),
-        [option] if option.as_str() == "--why" => Some(true),
+    match option {
+        "--why" => Some(Shown::Why),
+        "--records" => Some(Shown::Records),
         _ => None,
     }
 }
 
-/// The limit of iterations that the options ask for, and whether they ask for the records too.
-fn limit_of(options: &[String]) -> Option<(u16, bool)>
+/// What the options ask to be printed.
+fn shown_of(options: &[String]) -> Option<Shown>
+    ensures some { IfSome result (ShownText (map string_bytes options.now)) }
+    ensures none { IfNone result
+        ((shown : Shown) → ShownText (map string_bytes options.now) shown → ⊥) }
+{
+    match options {
+        [] => Some(Shown::Answer),
+        [option] => shown_by(option.as_str()),
+        _ => None,
+    }
+}
+
+/// The limit of iterations that the options ask for, and what is printed.
+fn limit_of(options: &[String]) -> Option<(u16, Shown)>
     ensures some { IfSome result (λ p. LimitText (map string_bytes options.now) p.0 p.1) }
-    ensures none { IfNone result ((limit : ℕ) (why : Bool)
-        → LimitText (map string_bytes options.now) limit why → ⊥) }
+    ensures none { IfNone result ((limit : ℕ) (shown : Shown)
+        → LimitText (map string_bytes options.now) limit shown → ⊥) }
 {
     let [option, number, more @ ..] = options else {
-        return Some((USUAL_LIMIT, why_of(options)?));
+        return Some((USUAL_LIMIT, shown_of(options)?));
     };
     if option.as_str() != "--limit" {
         return None;
     }
     let limit = iterations_of(number.as_str())?;
-    Some((limit, why_of(more)?))
+    Some((limit, shown_of(more)?))
 }
 
-/// A limit of iterations, and whether the records are asked for too, without labels.
-fn without_labels(asked: (u16, bool)) -> (Nsec3Options, bool)
+/// A limit of iterations, and what is printed, without labels.
+fn without_labels(asked: (u16, Shown)) -> (Nsec3Options, Shown)
     ensures labels { result.0.labels ≡ None }
     ensures limit { result.0.limit ≡ asked.0 }
-    ensures why { result.1 ≡ asked.1 }
+    ensures shown { result.1 ≡ asked.1 }
 {
-    let (limit, why) = asked;
+    let (limit, shown) = asked;
     let labels = None;
-    (Nsec3Options { labels, limit }, why)
+    (Nsec3Options { labels, limit }, shown)
 }
 
-/// How the options ask for NSEC3 records to be judged, and whether they ask for the records too.
-fn nsec3_options_of(options: &[String]) -> Option<(Nsec3Options, bool)>
+/// How the options ask for NSEC3 records to be judged, and what is printed.
+fn nsec3_options_of(options: &[String]) -> Option<(Nsec3Options, Shown)>
     ensures some { IfSome result (λ p.
         LabelsText (map string_bytes options.now) p.0.labels p.0.limit p.1) }
-    ensures none { IfNone result ((asked : Nsec3Options) (why : Bool)
-        → LabelsText (map string_bytes options.now) asked.labels asked.limit why → ⊥) }
+    ensures none { IfNone result ((asked : Nsec3Options) (shown : Shown)
+        → LabelsText (map string_bytes options.now) asked.labels asked.limit shown → ⊥) }
 {
     let [option, number, more @ ..] = options else {
         return Some(without_labels(limit_of(options)?));
@@ -120,23 +134,23 @@ fn nsec3_options_of(options: &[String]) -> Option<(Nsec3Options, bool)>
         return Some(without_labels(limit_of(options)?));
     }
     let labels = labels_of(number.as_str())?;
-    let (limit, why) = limit_of(more)?;
+    let (limit, shown) = limit_of(more)?;
     let labels = Some(labels);
-    Some((Nsec3Options { labels, limit }, why))
+    Some((Nsec3Options { labels, limit }, shown))
 }
 
-/// The kind of chain that a first word names, with the options that stand for it, and whether they
-/// ask for the records too.
-fn kind_of(word: &str, options: &[String]) -> Option<(ChainKind, bool)>
+/// The kind of chain that a first word names, with the options that stand for it, and what is
+/// printed.
+fn kind_of(word: &str, options: &[String]) -> Option<(ChainKind, Shown)>
     ensures some { IfSome result (λ p. KindText word.now (map string_bytes options.now) p.0 p.1) }
-    ensures none { IfNone result ((kind : ChainKind) (why : Bool)
-        → KindText word.now (map string_bytes options.now) kind why → ⊥) }
+    ensures none { IfNone result ((kind : ChainKind) (shown : Shown)
+        → KindText word.now (map string_bytes options.now) kind shown → ⊥) }
 {
     match word {
-        "nsec" => Some((ChainKind::Nsec, why_of(options)?)),
+        "nsec" => Some((ChainKind::Nsec, shown_of(options)?)),
         "nsec3" => {
-            let (asked, why) = nsec3_options_of(options)?;
-            Some((ChainKind::Nsec3(asked), why))
+            let (asked, shown) = nsec3_options_of(options)?;
+            Some((ChainKind::Nsec3(asked), shown))
         }
         _ => None,
     }
@@ -156,13 +170,13 @@ pub fn command_of(alloc: Global, words: &[String]) -> Result<Command, DenialFaul
     let [word, apex, name, rtype, options @ ..] = words else {
         return Err(DenialFault::Usage);
     };
-    let Some((kind, why)) = kind_of(word.as_str(), options) else {
+    let Some((kind, shown)) = kind_of(word.as_str(), options) else {
         return Err(DenialFault::Usage);
     };
     let question = question_of(alloc, apex.as_str(), name.as_str(), rtype.as_str())?;
     Ok(Command {
         kind,
         question,
-        why,
+        shown,
     })
 }

@@ -1,8 +1,11 @@
 //! What NSEC3 records answer of a name whose records were expanded from a wildcard.
 ghost use Rattle.std.specs.Prelude.{◌≡◌, IfErr, IfOk};
+ghost use Rattle.domain_nsec3.specs.Config.{hash_name};
 ghost use Rattle.domain_checker.specs.HashedView.{hash_with, links, parameters};
+ghost use Rattle.domain_answer.specs.Expansion.{closer_name};
 ghost use Rattle.denial_program.specs.declared.fault.DenialFault.TheVariants.{OutOfMemory as Memory};
 ghost use Rattle.judge_program.specs.Judged.{IsCloserRefusal, IsExpansionAnswer, IsRefusedWith};
+ghost use Rattle.judge_program.specs.Records.{closer_found_link, hash_found};
 ghost use Rattle.judge_program.specs.Why.{closer_found_text, closer_told};
 
 use crate::answer_text::last_labels;
@@ -57,7 +60,11 @@ pub fn find_closer<'r, 'a, H: Nsec3Hasher>(
     chain: &'r Nsec3s<'a>,
     hasher: &H,
 ) -> Result<Option<Told<'r, 'a>>, DenialFault>
-    ensures ok { IfOk result (λ told. closer_found_text (λ n. n) question.now.name labels told
+    ensures found { IfOk result (λ told. closer_found_link (λ n. n) told
+        ≡ hash_found question.now.apex (parameters chain.now) (links (λ n. n) chain.now)
+        (hash_name (hash_with (H.answer hasher.now) chain.now)
+        (closer_name labels question.now.name))) }
+    ensures text { IfOk result (λ told. closer_found_text (λ n. n) question.now.name labels told
         ≡ closer_told question.now.apex (parameters chain.now)
         (hash_with (H.answer hasher.now) chain.now) (links (λ n. n) chain.now) question.now.name
         labels) }

@@ -20,8 +20,9 @@ impl From<DenialFault> for JudgeFault {
     }
 }
 
-const USAGE: &str = "usage: denial judge nsec APEX NAME TYPE [--why] \
-     | denial judge nsec3 APEX NAME TYPE [--labels N] [--limit ITERATIONS] [--why]";
+const USAGE: &str =
+    "usage: denial judge nsec APEX NAME TYPE [--why | --records] | denial judge nsec3 APEX \
+     NAME TYPE [--labels N] [--limit ITERATIONS] [--why | --records]";
 
 impl fmt::Display for JudgeFault {
     ghost output = { λ e. Some (judge_fault_text e.fault) };

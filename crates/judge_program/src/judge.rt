@@ -1,7 +1,8 @@
 //! What records of a chain that were read answer to a question.
-ghost use Rattle.std.specs.Prelude.{◌≡◌, ◌⊎◌, ◌++◌, [], codes, IfErr, IfOk, OnOk, if◌then◌else◌};
+ghost use Rattle.std.specs.Prelude.{◌≡◌, ◌⊎◌, ◌++◌, IfErr, IfOk, OnOk};
 ghost use Rattle.std.specs.Io.KnownBytes.{Appends};
 ghost use Rattle.domain_nsec.specs.ChainView.{links_of};
+ghost use Rattle.domain_nsec3.specs.View.{as_param_record};
 ghost use Rattle.domain_checker.specs.HashedView.{hash_with, links, parameters};
 ghost use Rattle.domain_answer.specs.HashedReading.{IsFirstOfRefusals};
 ghost use Rattle.denial_program.specs.Check.{AreNsecs};
@@ -9,19 +10,20 @@ ghost use Rattle.denial_program.specs.Fault.{IsBeforeOutput};
 ghost use Rattle.denial_program.specs.declared.fault.DenialFault.TheVariants.{OutOfMemory as Memory};
 ghost use Rattle.judge_program.specs.Judged.{IsAnswerAsked, IsNotNsec3Judged, IsNsec3Answer, IsRefusalAsked, IsRefusedWith};
 ghost use Rattle.judge_program.specs.Run.{HasNoText, IsNsecText, IsNsec3Text, IsText, IsUnwritten, IsWritten};
-ghost use Rattle.judge_program.specs.Text.{answer_text};
-ghost use Rattle.judge_program.specs.Why.{below_text, nsec_why};
+ghost use Rattle.judge_program.specs.Records.{below_text, nsec_below};
+ghost use Rattle.judge_program.specs.Text.{first_line};
 
-use crate::answer_text::AnswerText;
 use crate::command::{ChainKind, Command, Nsec3Options};
 use crate::expansion::expansion_answer;
 use crate::nsec3_below::Nsec3Below;
 use crate::nsec3_why::Nsec3s;
+use crate::records::write_nsec_records;
+use crate::shown::{Shown, write_first};
 use crate::why::write_nsec_why;
 use denial_program::{DenialFault, Question, ZoneName, chain_of, fault_of};
 use domain_answer::{Answer, judge_nsec, judge_nsec3};
 use domain_dnssec::Nsec3Hasher;
-use domain_lent::{LentRecord, NsecRr, into_nsec};
+use domain_lent::{LentRecord, Nsec3paramRr, NsecRr, into_nsec};
 use domain_octets::OutOfMemory;
 use domain_records::{Nsec3HashError, SigningError};
 use std::alloc::Global;
@@ -46,24 +48,40 @@ fn nsecs_among<'a>(
     Ok(nsecs)
 }
 
-/// Writes what NSEC records answer to a question and, where they are asked for, those that the
-/// answer rests on. Hands all on to the device.
-fn write_nsec<W: Write>(
+/// Writes what follows the line of an answer of NSEC records, as it is asked for.
+fn write_nsec_below<W: Write>(
     question: &Question,
-    why: bool,
+    shown: Shown,
     nsecs: &[NsecRr<'_>],
     answer: Answer,
     output: &mut W,
 ) -> io::Result<()>
     ensures { OnOk result (Appends (W.contents output.old) (W.contents output.new)
-        ((answer_text question.now.name answer ++ codes "\n") ++ (if why then nsec_why
-        question.now.apex (links_of (λ n. n) nsecs.now) question.now.name answer else []))) }
+        (nsec_below shown question.now.apex (links_of (λ n. n) nsecs.now) question.now.name
+        answer)) }
 {
-    writeln!(output, "{}", AnswerText::new(&question.name, answer))?;
-    if !why {
-        return output.flush();
+    match shown {
+        Shown::Answer => Ok(()),
+        Shown::Why => write_nsec_why(question, nsecs, answer, output),
+        Shown::Records => write_nsec_records(question, nsecs, answer, output),
     }
-    write_nsec_why(question, nsecs, answer, output)?;
+}
+
+/// Writes what NSEC records answer to a question, and what is asked for below it. Hands all on to
+/// the device.
+fn write_nsec<W: Write>(
+    question: &Question,
+    shown: Shown,
+    nsecs: &[NsecRr<'_>],
+    answer: Answer,
+    output: &mut W,
+) -> io::Result<()>
+    ensures { OnOk result (Appends (W.contents output.old) (W.contents output.new)
+        (first_line shown question.now.name answer ++ nsec_below shown question.now.apex
+        (links_of (λ n. n) nsecs.now) question.now.name answer)) }
+{
+    write_first(&question.name, answer, shown, output)?;
+    write_nsec_below(question, shown, nsecs, answer, output)?;
     output.flush()
 }
 
@@ -71,19 +89,19 @@ fn write_nsec<W: Write>(
 fn judge_nsecs<'a, W: Write>(
     alloc: Global,
     question: &Question,
-    why: bool,
+    shown: Shown,
     records: Vec<LentRecord<'a>>,
     output: &mut W,
 ) -> Result<(), DenialFault>
-    ensures ok { OnOk result (IsWritten (IsNsecText records.entry.items question.now why)
+    ensures ok { OnOk result (IsWritten (IsNsecText records.entry.items question.now shown)
         (W.contents output.old) (W.contents output.new)) }
-    ensures err { IfErr result (IsUnwritten (IsNsecText records.entry.items question.now why)
+    ensures err { IfErr result (IsUnwritten (IsNsecText records.entry.items question.now shown)
         (λ e. e ≡ Memory)) }
     ensures untouched { IfErr result (λ e. IsBeforeOutput e → output.new ≡ output.old) }
 {
     let nsecs = nsecs_among(alloc, records)?;
     let answer = judge_nsec(&question.apex, &nsecs, &question.name, question.rtype);
-    match write_nsec(question, why, &nsecs, answer, output) {
+    match write_nsec(question, shown, &nsecs, answer, output) {
         Ok(()) => Ok(()),
         Err(e) => Err(fault_of(&e, DenialFault::Write)),
     }
@@ -135,19 +153,22 @@ fn nsec3_answer<H: Nsec3Hasher>(
     }
 }
 
-/// Writes what NSEC3 records answer to a question and, where they are asked for, those that the
-/// answer rests on. Hands all on to the device.
+/// Writes what NSEC3 records answer to a question, and what is asked for below it. Hands all on to
+/// the device.
 fn write_nsec3<W: Write>(
     name: &ZoneName,
     answer: Answer,
+    shown: Shown,
     below: Nsec3Below<'_, '_>,
+    param: &Nsec3paramRr<'_>,
     output: &mut W,
 ) -> io::Result<()>
     ensures { OnOk result (Appends (W.contents output.old) (W.contents output.new)
-        ((answer_text name.now answer ++ codes "\n") ++ below_text name.now answer below.entry)) }
+        (first_line shown name.now answer ++ below_text shown name.now
+        (as_param_record (λ n. n) param.now) answer below.entry)) }
 {
-    writeln!(output, "{}", AnswerText::new(name, answer))?;
-    below.write(name, answer, output)?;
+    write_first(name, answer, shown, output)?;
+    below.write(shown, name, answer, param, output)?;
     output.flush()
 }
 
@@ -156,24 +177,31 @@ fn judge_nsec3s<'a, W: Write, H: Nsec3Hasher>(
     alloc: Global,
     question: &Question,
     asked: Nsec3Options,
-    why: bool,
+    shown: Shown,
     records: Vec<LentRecord<'a>>,
     hasher: &H,
     output: &mut W,
 ) -> Result<(), DenialFault>
     ensures ok { OnOk result (IsWritten
-        (IsNsec3Text (H.answer hasher.now) records.entry.items question.now asked why)
+        (IsNsec3Text (H.answer hasher.now) records.entry.items question.now asked shown)
         (W.contents output.old) (W.contents output.new)) }
     ensures err { IfErr result (IsUnwritten
-        (IsNsec3Text (H.answer hasher.now) records.entry.items question.now asked why)
+        (IsNsec3Text (H.answer hasher.now) records.entry.items question.now asked shown)
         (IsNotNsec3Judged (H.answer hasher.now) records.entry.items question.now asked)) }
     ensures untouched { IfErr result (λ e. IsBeforeOutput e → output.new ≡ output.old) }
 {
     let chain = chain_of(alloc, &question.apex, records)?;
     let answer = nsec3_answer(alloc, question, asked, &chain, hasher)?;
     let labels = asked.labels;
-    let below = Nsec3Below::find(alloc, question, labels, why, &chain, answer, hasher)?;
-    match write_nsec3(&question.name, answer, below, output) {
+    let below = Nsec3Below::find(alloc, question, labels, shown, &chain, answer, hasher)?;
+    match write_nsec3(
+        &question.name,
+        answer,
+        shown,
+        below,
+        &chain.nsec3param,
+        output,
+    ) {
         Ok(()) => Ok(()),
         Err(e) => Err(fault_of(&e, DenialFault::Write)),
     }
@@ -194,10 +222,10 @@ pub fn write_judged<'a, W: Write, H: Nsec3Hasher>(
     output: &mut W,
 ) -> Result<(), DenialFault>
     ensures ok { OnOk result (IsWritten (IsText (H.answer hasher.now) command.now.kind
-        records.entry.items command.now.question command.now.why)
+        records.entry.items command.now.question command.now.shown)
         (W.contents output.old) (W.contents output.new)) }
     ensures err { IfErr result (IsUnwritten (IsText (H.answer hasher.now) command.now.kind
-        records.entry.items command.now.question command.now.why)
+        records.entry.items command.now.question command.now.shown)
         (HasNoText (H.answer hasher.now) command.now.kind records.entry.items
         command.now.question)) }
     ensures untouched { IfErr result (λ e. IsBeforeOutput e → output.new ≡ output.old) }
@@ -205,12 +233,12 @@ pub fn write_judged<'a, W: Write, H: Nsec3Hasher>(
     let Command {
         kind,
         question,
-        why,
+        shown,
     } = command;
     match *kind {
-        ChainKind::Nsec => judge_nsecs(alloc, question, *why, records, output),
+        ChainKind::Nsec => judge_nsecs(alloc, question, *shown, records, output),
         ChainKind::Nsec3(asked) => {
-            judge_nsec3s(alloc, question, asked, *why, records, hasher, output)
+            judge_nsec3s(alloc, question, asked, *shown, records, hasher, output)
         }
     }
 }

@@ -10,10 +10,14 @@ mod command;
 mod expansion;
 mod fault;
 mod judge;
+mod needs;
 mod nsec3_below;
+mod nsec3_records;
 mod nsec3_why;
 mod program;
+mod records;
 mod role;
+mod shown;
 mod why;
 
 pub use fault::JudgeFault;

@@ -1,19 +1,24 @@
-//! The lines below an answer of NSEC3 records.
-ghost use Rattle.std.specs.Prelude.{◌≡◌, ◌&&◌, IfErr, IfOk, OnOk};
+//! What follows the line of an answer of NSEC3 records.
+ghost use Rattle.std.specs.Prelude.{IfErr, IfOk, OnOk};
 ghost use Rattle.std.specs.Io.KnownBytes.{Appends};
-ghost use Rattle.domain_checker.specs.HashedVerdict.{IsFirstRefusal};
+ghost use Rattle.domain_nsec3.specs.View.{as_param_record};
 ghost use Rattle.domain_checker.specs.HashedView.{hash_with, links, parameters};
 ghost use Rattle.judge_program.specs.Judged.{IsRefusedWith};
-ghost use Rattle.judge_program.specs.Why.{below_text, closer_found_text, rests_on_records, IsNsec3Below, IsRefusalBelow};
+ghost use Rattle.judge_program.specs.Records.{below_text, whole_text, closer_text, IsNsec3Below, IsRestBelow};
+ghost use Rattle.judge_program.specs.Why.{closer_found_text, rests_on_records, IsRefusalBelow};
+ghost use Rattle.judge_program.specs.declared.shown.Shown.TheVariants as shows;
 
 use crate::answer_text::last_labels;
 use crate::expansion::find_closer;
+use crate::nsec3_records::{closer_record, write_parts};
 use crate::nsec3_why::{Nsec3Why, Nsec3s, Told, write_told};
 use crate::role::Role;
+use crate::shown::Shown;
 use crate::why::rests_on_records;
 use denial_program::{DenialFault, Question, ZoneName};
 use domain_answer::Answer;
 use domain_dnssec::Nsec3Hasher;
+use domain_lent::Nsec3paramRr;
 use std::alloc::Global;
 use std::io;
 use std::io::Write;
@@ -29,8 +34,27 @@ pub enum Nsec3Below<'r, 'a> {
     Closer(u8, Option<Told<'r, 'a>>),
 }
 
+/// Writes what was found for a whole answer, as it is asked for.
+fn write_whole<W: Write>(
+    why: Nsec3Why<'_, '_>,
+    shown: Shown,
+    name: &ZoneName,
+    answer: Answer,
+    param: &Nsec3paramRr<'_>,
+    output: &mut W,
+) -> io::Result<()>
+    ensures { OnOk result (Appends (W.contents output.old) (W.contents output.new)
+        (whole_text shown name.now (as_param_record (λ n. n) param.now) answer why.entry)) }
+{
+    match shown {
+        Shown::Answer => Ok(()),
+        Shown::Why => why.write(name, answer, output),
+        Shown::Records => why.write_records(answer, param, output),
+    }
+}
+
 /// Writes a line on what NSEC3 records tell of the next closer name, one label longer than so many.
-fn write_closer<W: Write>(
+fn write_closer_line<W: Write>(
     name: &ZoneName,
     labels: u8,
     found: Option<Told<'_, '_>>,
@@ -46,6 +70,56 @@ fn write_closer<W: Write>(
     write_told(told, &role, output)
 }
 
+/// Writes what was found of the next closer name, as it is asked for.
+fn write_closer<W: Write>(
+    labels: u8,
+    found: Option<Told<'_, '_>>,
+    shown: Shown,
+    name: &ZoneName,
+    param: &Nsec3paramRr<'_>,
+    output: &mut W,
+) -> io::Result<()>
+    ensures { OnOk result (Appends (W.contents output.old) (W.contents output.new)
+        (closer_text (λ n. n) shown name.now (as_param_record (λ n. n) param.now) labels found.entry)) }
+{
+    match shown {
+        Shown::Answer => Ok(()),
+        Shown::Why => write_closer_line(name, labels, found, output),
+        Shown::Records => write_parts(None, closer_record(found), None, param, output),
+    }
+}
+
+/// What NSEC3 records tell of the names that an answer rests on.
+fn find_rest<'r, 'a, H: Nsec3Hasher>(
+    alloc: Global,
+    question: &Question,
+    labels: Option<u8>,
+    chain: &'r Nsec3s<'a>,
+    answer: Answer,
+    hasher: &H,
+) -> Result<Nsec3Below<'r, 'a>, DenialFault>
+    ensures why { IfOk result (λ below. IsRestBelow shows.Why labels question.now.apex
+        (as_param_record (λ n. n) chain.now.nsec3param) (hash_with (H.answer hasher.now) chain.now)
+        (links (λ n. n) chain.now) question.now.name answer (below_text shows.Why question.now.name
+        (as_param_record (λ n. n) chain.now.nsec3param) answer below)) }
+    ensures records { IfOk result (λ below. IsRestBelow shows.Records labels question.now.apex
+        (as_param_record (λ n. n) chain.now.nsec3param) (hash_with (H.answer hasher.now) chain.now)
+        (links (λ n. n) chain.now) question.now.name answer
+        (below_text shows.Records question.now.name (as_param_record (λ n. n) chain.now.nsec3param)
+        answer below)) }
+    ensures err { IfErr result (IsRefusedWith (IsRefusalBelow labels (links (λ n. n) chain.now)
+        question.now.apex (parameters chain.now) (hash_with (H.answer hasher.now) chain.now)
+        question.now.name)) }
+{
+    match labels {
+        Some(count) => Ok(Nsec3Below::Closer(
+            count,
+            find_closer(alloc, question, count, chain, hasher)?,
+        )),
+        None => Ok(Nsec3Below::Whole(Nsec3Why::find(alloc, question, chain, answer, hasher)?)),
+    }
+}
+
 impl<'r, 'a> Nsec3Below<'r, 'a> {
     /// What NSEC3 records tell of the names that an answer to the question rests on, where that is
     /// asked for.
@@ -58,40 +132,48 @@ impl<'r, 'a> Nsec3Below<'r, 'a> {
         alloc: Global,
         question: &Question,
         labels: Option<u8>,
-        why: bool,
+        shown: Shown,
         chain: &'r Nsec3s<'a>,
         answer: Answer,
         hasher: &H,
     ) -> Result<Self, DenialFault>
-        ensures ok { IfOk result (λ below. IsNsec3Below (why && rests_on_records answer) labels
-            question.now.apex (parameters chain.now) (hash_with (H.answer hasher.now) chain.now)
-            (links (λ n. n) chain.now) question.now.name answer
-            (below_text question.now.name answer below)) }
+        ensures ok { IfOk result (λ below. IsNsec3Below (rests_on_records answer) shown labels
+            question.now.apex (as_param_record (λ n. n) chain.now.nsec3param)
+            (hash_with (H.answer hasher.now) chain.now) (links (λ n. n) chain.now)
+            question.now.name answer (below_text shown question.now.name
+            (as_param_record (λ n. n) chain.now.nsec3param) answer below)) }
         ensures err { IfErr result (IsRefusedWith (IsRefusalBelow labels (links (λ n. n) chain.now)
             question.now.apex (parameters chain.now) (hash_with (H.answer hasher.now) chain.now)
             question.now.name)) }
     {
-        if !(why && rests_on_records(answer)) {
+        if !rests_on_records(answer) {
             return Ok(Nsec3Below::Nothing);
         }
-        match labels {
-            Some(count) => Ok(Nsec3Below::Closer(
-                count,
-                find_closer(alloc, question, count, chain, hasher)?,
-            )),
-            None => Ok(Nsec3Below::Whole(Nsec3Why::find(alloc, question, chain, answer, hasher)?)),
+        match shown {
+            Shown::Answer => Ok(Nsec3Below::Nothing),
+            Shown::Why => find_rest(alloc, question, labels, chain, answer, hasher),
+            Shown::Records => find_rest(alloc, question, labels, chain, answer, hasher),
         }
     }
 
-    /// Writes them, one a line, with what each tells.
-    pub fn write<W: Write>(self, name: &ZoneName, answer: Answer, output: &mut W) -> io::Result<()>
+    /// Writes it, as it is asked for.
+    pub fn write<W: Write>(
+        self,
+        shown: Shown,
+        name: &ZoneName,
+        answer: Answer,
+        param: &Nsec3paramRr<'_>,
+        output: &mut W,
+    ) -> io::Result<()>
         ensures { OnOk result (Appends (W.contents output.old) (W.contents output.new)
-            (below_text name.now answer self.entry)) }
+            (below_text shown name.now (as_param_record (λ n. n) param.now) answer self.entry)) }
     {
         match self {
             Nsec3Below::Nothing => Ok(()),
-            Nsec3Below::Whole(why) => why.write(name, answer, output),
-            Nsec3Below::Closer(labels, found) => write_closer(name, labels, found, output),
+            Nsec3Below::Whole(why) => write_whole(why, shown, name, answer, param, output),
+            Nsec3Below::Closer(labels, found) => {
+                write_closer(labels, found, shown, name, param, output)
+            }
         }
     }
 }

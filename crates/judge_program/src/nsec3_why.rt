@@ -2,17 +2,22 @@
 ghost use Rattle.std.specs.Prelude.{◌≡◌, None, IfErr, IfOk, OnOk};
 ghost use Rattle.std.specs.Option.{option_map};
 ghost use Rattle.std.specs.Io.KnownBytes.{Appends};
-ghost use Rattle.domain_nsec3.specs.View.{as_hashed_link};
+ghost use Rattle.domain_nsec3.specs.View.{as_hashed_link, as_param_record};
 ghost use Rattle.domain_checker.specs.HashedEncloser.{encloser_of};
 ghost use Rattle.domain_checker.specs.HashedPass.{found_cover, found_match};
 ghost use Rattle.domain_checker.specs.HashedVerdict.{IsFirstRefusal};
 ghost use Rattle.domain_checker.specs.HashedView.{hash_with, links, parameters};
 ghost use Rattle.denial_program.specs.declared.fault.DenialFault.TheVariants.{OutOfMemory as Memory};
 ghost use Rattle.judge_program.specs.Judged.{IsRefusedWith};
+ghost use Rattle.judge_program.specs.Records.{nsec3_why_records, nsec3_wildcard_found, wildcard_found_link, IsNsec3Records};
 ghost use Rattle.judge_program.specs.Why.{encloser_role, encloser_told, needs_next_closer, nsec3_shown, nsec3_wildcard_told, nsec3_why_text};
 ghost use Rattle.judge_program.specs.Why.{wildcard_count, wildcard_found_text, IsNsec3Why};
 
 use crate::answer_text::last_labels;
+use crate::needs::needs_of;
+use crate::nsec3_records::{
+    closer_part, encloser_part, encloser_records, wildcard_record, write_parts,
+};
 use crate::role::Role;
 use crate::why::wildcard_count;
 use denial_program::{DenialFault, Question, ZoneName};
@@ -20,7 +25,7 @@ use domain_answer::{Answer, wildcard_of};
 use domain_base::{ParsedName, ToName};
 use domain_checker::{Nsec3Encloser, Nsec3Found, find_nsec3, find_nsec3_encloser};
 use domain_dnssec::{Nsec3Hasher, Nsec3Records};
-use domain_lent::Nsec3Rr;
+use domain_lent::{Nsec3Rr, Nsec3paramRr};
 use domain_records::{Nsec3HashError, SigningError};
 use domain_zone::MAX_NAME;
 use std::alloc::Global;
@@ -31,7 +36,7 @@ use std::io::Write;
 pub type Nsec3s<'a> = Nsec3Records<ParsedName<'a>, &'a [u8]>;
 
 /// What NSEC3 records tell of the closest encloser of a name.
-type Encloser<'r, 'a> = Nsec3Encloser<'r, &'a [u8], ParsedName<'a>>;
+pub type Encloser<'r, 'a> = Nsec3Encloser<'r, &'a [u8], ParsedName<'a>>;
 
 /// What they tell of one name.
 pub type Told<'r, 'a> = Nsec3Found<'r, &'a [u8], ParsedName<'a>>;
@@ -130,7 +135,11 @@ fn find_wildcard<'r, 'a, H: Nsec3Hasher>(
     answer: Answer,
     hasher: &H,
 ) -> Result<Option<(usize, Told<'r, 'a>)>, DenialFault>
-    ensures ok { IfOk result (λ found. wildcard_found_text (λ n. n) question.now.name found
+    ensures found { IfOk result (λ found. wildcard_found_link (λ n. n) found
+        ≡ nsec3_wildcard_found question.now.apex (parameters chain.now)
+        (hash_with (H.answer hasher.now) chain.now) (links (λ n. n) chain.now) question.now.name
+        (wildcard_count answer)) }
+    ensures text { IfOk result (λ found. wildcard_found_text (λ n. n) question.now.name found
         ≡ nsec3_wildcard_told question.now.apex (parameters chain.now)
         (hash_with (H.answer hasher.now) chain.now) (links (λ n. n) chain.now) question.now.name
         (wildcard_count answer)) }
@@ -169,7 +178,12 @@ impl<'r, 'a> Nsec3Why<'r, 'a> {
         answer: Answer,
         hasher: &H,
     ) -> Result<Self, DenialFault>
-        ensures ok { IfOk result (λ why. IsNsec3Why question.now.apex (parameters chain.now)
+        ensures records { IfOk result (λ why. IsNsec3Records question.now.apex
+            (as_param_record (λ n. n) chain.now.nsec3param)
+            (hash_with (H.answer hasher.now) chain.now) (links (λ n. n) chain.now)
+            question.now.name answer
+            (nsec3_why_records (as_param_record (λ n. n) chain.now.nsec3param) answer why)) }
+        ensures text { IfOk result (λ why. IsNsec3Why question.now.apex (parameters chain.now)
             (hash_with (H.answer hasher.now) chain.now) (links (λ n. n) chain.now)
             question.now.name answer (nsec3_why_text question.now.name answer why)) }
         ensures err { IfErr result (IsRefusedWith (IsFirstRefusal (links (λ n. n) chain.now)
@@ -199,5 +213,24 @@ impl<'r, 'a> Nsec3Why<'r, 'a> {
         };
         let role = Role::Wildcard(last_labels(name, count));
         write_told(told, &role, output)
+    }
+
+    /// Writes the records that a server answers with, each once, one a line, and the NSEC3PARAM
+    /// record, where there are any.
+    pub fn write_records<W: Write>(
+        self,
+        answer: Answer,
+        param: &Nsec3paramRr<'_>,
+        output: &mut W,
+    ) -> io::Result<()>
+        ensures { OnOk result (Appends (W.contents output.old) (W.contents output.new)
+            (nsec3_why_records (as_param_record (λ n. n) param.now) answer self.entry)) }
+    {
+        let (matching, cover) = encloser_records(self.encloser);
+        let wildcard = wildcard_record(answer, self.wildcard);
+        let needs = needs_of(answer);
+        let encloser = encloser_part(needs, matching);
+        let closer = closer_part(needs, cover);
+        write_parts(encloser, closer, wildcard, param, output)
     }
 }

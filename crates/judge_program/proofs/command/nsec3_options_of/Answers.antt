@@ -10,6 +10,6 @@ pub returns-clause-some : goal.returns-clause-some
 returns-clause-some c =
     let option : string_bytes c.option-item.result ≡ codes "--labels" =
     sym c.as_str.ensures.value ∙ same_text _ _ _ refl (not_false _ (sym c.ne.ensures ∙ c.if-ne.false)) in
-    subst (λ ws. LabelsText ws (Some c.in_ok-labels.labels) c.in_ok-limit.limit c.in_ok-limit.why)
+    subst (λ ws. LabelsText ws (Some c.in_ok-labels.labels) c.in_ok-limit.limit c.in_ok-limit.shown)
     (sym (ap (map string_bytes) (two_and_more _ c.option-item.result c.number-item.result (omega arith) c.option-item.is c.number-item.is)))
     (option, subst (λ w. IsNumber 8 w c.in_ok-labels.labels) c.as_str-2.ensures.value c.in_ok-labels.ensures.some, c.in_ok-limit.ensures.some)

@@ -1,7 +1,7 @@
-use Rattle.std.proofs.Common.{◌++◌, codes}
+use Rattle.std.proofs.Common.{◌++◌}
 use Rattle.domain_nsec3.specs.View.{as_param_record, hashed_links_of}
-use Rattle.judge_program.specs.Text.{answer_text}
-use Rattle.judge_program.specs.Why.{below_text}
+use Rattle.judge_program.specs.Records.{below_text}
+use Rattle.judge_program.specs.Text.{first_line}
 use Rattle.judge_program.proofs.Nsec3RunLemmas.{nsec3_text_is, nsec3_unwritten}
 use Rattle.judge_program.proofs.judge.judge_nsec3s.Goals as goal
 
@@ -10,10 +10,10 @@ returns-in-Ok-clause-ok g c =
     let hashes = g.H.Nsec3Hasher.answer c.args.hasher.now in
     let q = c.args.question.now in
     let answer = c.in_ok-answer.answer in
-    let below = below_text q.name answer c.in_ok-below.below in
+    let below = below_text c.args.shown q.name (as_param_record (λ n. n) c.in_ok-chain.chain.nsec3param) answer c.in_ok-below.below in
     record {
-      text = (answer_text q.name answer ++ codes "\n") ++ below;
-      is = nsec3_text_is hashes c.args.records.items q c.args.asked c.args.why (as_param_record (λ n. n) c.in_ok-chain.chain.nsec3param)
+      text = first_line c.args.shown q.name answer ++ below;
+      is = nsec3_text_is hashes c.args.records.items q c.args.asked c.args.shown (as_param_record (λ n. n) c.in_ok-chain.chain.nsec3param)
           (hashed_links_of (λ n. n) c.in_ok-chain.chain.nsec3s.items) answer below c.in_ok-chain.ensures.param c.in_ok-chain.ensures.nsec3s
           c.in_ok-answer.ensures.ok c.in_ok-below.ensures.ok;
       appends = c.in-Ok.ensures;
@@ -24,9 +24,9 @@ returns-clause-err g c =
     let hashes = g.H.Nsec3Hasher.answer c.args.hasher.now in
     let q = c.args.question.now in
     let answer = c.in_ok-answer.answer in
-    let below = below_text q.name answer c.in_ok-below.below in
-    let is = nsec3_text_is hashes c.args.records.items q c.args.asked c.args.why (as_param_record (λ n. n) c.in_ok-chain.chain.nsec3param)
+    let below = below_text c.args.shown q.name (as_param_record (λ n. n) c.in_ok-chain.chain.nsec3param) answer c.in_ok-below.below in
+    let is = nsec3_text_is hashes c.args.records.items q c.args.asked c.args.shown (as_param_record (λ n. n) c.in_ok-chain.chain.nsec3param)
     (hashed_links_of (λ n. n) c.in_ok-chain.chain.nsec3s.items) answer below c.in_ok-chain.ensures.param c.in_ok-chain.ensures.nsec3s
     c.in_ok-answer.ensures.ok c.in_ok-below.ensures.ok in
-    nsec3_unwritten hashes c.args.records.items q c.args.asked c.args.why ((answer_text q.name answer ++ codes "\n") ++ below)
+    nsec3_unwritten hashes c.args.records.items q c.args.asked c.args.shown (first_line c.args.shown q.name answer ++ below)
     c.fault_of.result is c.fault_of.ensures.either

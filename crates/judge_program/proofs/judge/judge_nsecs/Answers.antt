@@ -11,7 +11,7 @@ returns-in-Ok-clause-ok g c =
     let given = c.args.records.items in
     let q = c.args.question.now in
     let answer = c.judge_nsec-answer.result in
-    let is = nsec_text given q c.args.why answer (links_of (λ n. n) c.deref.result.now) (links_of (λ n. n) c.deref-2.result.now)
+    let is = nsec_text given q c.args.shown answer (links_of (λ n. n) c.deref.result.now) (links_of (λ n. n) c.deref-2.result.now)
     (ap (links_of (λ n. n)) (c.deref.ensures.value ∙ sym c.deref-2.ensures.value))
     (subst (λ ks. AreNsecs given (links_of (λ n. n) ks)) (sym c.deref-2.ensures.value) c.in_ok-nsecs.ensures)
     c.judge_nsec-answer.ensures.zone c.judge_nsec-answer.ensures.exact c.judge_nsec-answer.ensures.proof in
@@ -22,8 +22,8 @@ returns-clause-err g c =
     let given = c.args.records.items in
     let q = c.args.question.now in
     let answer = c.judge_nsec-answer.result in
-    let is = nsec_text given q c.args.why answer (links_of (λ n. n) c.deref.result.now) (links_of (λ n. n) c.deref-2.result.now)
+    let is = nsec_text given q c.args.shown answer (links_of (λ n. n) c.deref.result.now) (links_of (λ n. n) c.deref-2.result.now)
     (ap (links_of (λ n. n)) (c.deref.ensures.value ∙ sym c.deref-2.ensures.value))
     (subst (λ ks. AreNsecs given (links_of (λ n. n) ks)) (sym c.deref-2.ensures.value) c.in_ok-nsecs.ensures)
     c.judge_nsec-answer.ensures.zone c.judge_nsec-answer.ensures.exact c.judge_nsec-answer.ensures.proof in
-    unwritten (IsNsecText given q c.args.why) (λ e. e ≡ OutOfMemory) _ is refl c.fault_of.result c.fault_of.ensures.either
+    unwritten (IsNsecText given q c.args.shown) (λ e. e ≡ OutOfMemory) _ is refl c.fault_of.result c.fault_of.ensures.either

@@ -30,7 +30,7 @@ returns-clause-write g c = λ is.
     let hashes = g.H.Nsec3Hasher.answer c.args.hasher.now in
     let command = c.in_ok-command.command in
     let given = c.in_ok-records.records.items in
-    let there = text_unwritten hashes command.kind given command.question command.why c.write_judged.result c.write_judged.ensures.err is in
+    let there = text_unwritten hashes command.kind given command.question command.shown c.write_judged.result c.write_judged.ensures.err is in
     known_so (λ bytes. Give (lines bytes) given)
     (λ bytes. (text : Octets) × Judges hashes (map string_bytes c.args.words.now) (lines bytes) text)
     (g.R.Read.remaining c.args.input.now)

@@ -1,9 +1,10 @@
 use Rattle.std.proofs.Common.{ap}
-use Rattle.judge_program.specs.Why.{below_text}
+use Rattle.domain_nsec3.specs.View.{as_param_record}
+use Rattle.judge_program.specs.Records.{below_text}
 use Rattle.judge_program.proofs.Nsec3WhyLemmas.{appends_nothing}
 use Rattle.judge_program.proofs.nsec3_below.Nsec3Below.write.Goals as goal
 
 pub returns-in-Nothing : goal.returns-in-Nothing
 returns-in-Nothing g c =
-    appends_nothing (g.W.Write.contents c.args.output.now) (below_text c.args.name.now c.args.answer c.args.self)
-    (ap (below_text c.args.name.now c.args.answer) c.in-Nothing.is)
+    let text = below_text c.args.shown c.args.name.now (as_param_record (λ n. n) c.args.param.now) c.args.answer in
+    appends_nothing (g.W.Write.contents c.args.output.now) (text c.args.self) (ap text c.in-Nothing.is)

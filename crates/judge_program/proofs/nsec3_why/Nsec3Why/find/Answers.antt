@@ -13,6 +13,7 @@ returns-in_default g c =
     let refused = hasher_refused {P = λ n. IsFirstRefusal (links (λ n. n) c.args.chain.now) q.apex (parameters c.args.chain.now) hash q.name n}
     c.in-Err.error c.in_default.not-OutOfMemory c.in-Err.ensures.errors (λ n is. c.in-Err.ensures.refusal n (λ i. Err (is i))) in
     record {
-      ok = tt;
+      records = tt;
+      text = tt;
       err = inr (refused.0, (λ i. Signing (Nsec3HashingError (refused.1.0 i))), refused.1.1);
     }

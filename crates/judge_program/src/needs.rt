@@ -1,0 +1,47 @@
+//! Which records a server answers with.
+ghost use Rattle.std.specs.Prelude.{◌≡◌};
+ghost use Rattle.judge_program.specs.Records.{needs_of, needs_wildcard};
+
+use domain_answer::Answer;
+
+/// Which records of a chain a response needs for a name (RFC 4035, section 3.1.3; RFC 5155, section
+/// 7.2). Beside them it may need that of the wildcard.
+#[derive(Clone, Copy, Debug, PartialEq, Eq)]
+pub enum Needs {
+    /// None: the response has data, or it is none of this zone.
+    Nothing,
+    /// That of the zone cut, where it does not list DS.
+    Cut,
+    /// That of the name.
+    Own,
+    /// That which shows that there is no such name; with NSEC3 that of the next closer name.
+    Closer,
+    /// That which shows it; with NSEC3 those of the closest encloser and of the next closer name.
+    Both,
+}
+
+/// Which records a response with this answer needs.
+pub fn needs_of(answer: Answer) -> Needs
+    ensures { result ≡ needs_of answer }
+{
+    match answer {
+        Answer::OutsideZone | Answer::AtParent => Needs::Nothing,
+        Answer::Referral(_) => Needs::Cut,
+        Answer::Redirected(_) | Answer::Has | Answer::Alias => Needs::Nothing,
+        Answer::NoDs | Answer::NoData => Needs::Own,
+        Answer::Wildcard(_) | Answer::WildcardAlias(_) => Needs::Closer,
+        Answer::WildcardNoData(_) | Answer::NameError(_) => Needs::Both,
+        Answer::MayBeUnsigned(_) | Answer::NoCloserName(_) => Needs::Both,
+        Answer::TooManyIterations | Answer::NotProven => Needs::Nothing,
+    }
+}
+
+/// Whether it needs the record of the wildcard too.
+pub fn needs_wildcard(answer: Answer) -> bool
+    ensures { result ≡ needs_wildcard answer }
+{
+    match answer {
+        Answer::WildcardNoData(_) | Answer::NameError(_) => true,
+        _ => false,
+    }
+}

@@ -1,0 +1,39 @@
+//! What is printed of an answer.
+ghost use Rattle.std.specs.Prelude.{OnOk};
+ghost use Rattle.std.specs.Io.KnownBytes.{Appends};
+ghost use Rattle.judge_program.specs.Text.{first_line};
+
+use crate::answer_text::AnswerText;
+use denial_program::ZoneName;
+use domain_answer::Answer;
+use std::io;
+use std::io::Write;
+
+/// What is printed of an answer.
+#[derive(Clone, Copy, Debug, PartialEq, Eq)]
+pub enum Shown {
+    /// The answer, on one line.
+    Answer,
+    /// Below it the records that it rests on, one a line, with what each tells.
+    Why,
+    /// The answer as a comment, and below it the records that a server answers with, one a line.
+    Records,
+}
+
+/// Writes the line of an answer.
+pub fn write_first<W: Write>(
+    name: &ZoneName,
+    answer: Answer,
+    shown: Shown,
+    output: &mut W,
+) -> io::Result<()>
+    ensures { OnOk result (Appends (W.contents output.old) (W.contents output.new)
+        (first_line shown name.now answer)) }
+{
+    let text = AnswerText::new(name, answer);
+    match shown {
+        Shown::Answer => writeln!(output, "{text}"),
+        Shown::Why => writeln!(output, "{text}"),
+        Shown::Records => writeln!(output, "; {text}"),
+    }
+}
