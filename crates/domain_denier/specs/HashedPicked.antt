@@ -29,10 +29,11 @@ abbrev pub without_records : Answer → Nsec3Denial
 without_records answer =
     record { answer = answer; of_encloser = None; of_next_closer = None; of_wildcard = None }
 
--- a place was picked
+-- the record at a place was picked for the closest encloser or for the next closer name
 abbrev pub TellsOfName : Nsec3Denial → ℕ → Type 0
 TellsOfName d place = (d.of_encloser ≡ Some place) ⊎ (d.of_next_closer ≡ Some place)
 
+-- it was picked
 abbrev pub IsPicked : Nsec3Denial → ℕ → Type 0
 IsPicked d place = TellsOfName d place ⊎ (d.of_wildcard ≡ Some place)
 

@@ -16,6 +16,7 @@
 
 mod encloser;
 mod hash_search;
+pub mod laws;
 mod nsec;
 mod nsec3;
 mod search;

@@ -342,23 +342,24 @@ fn deny_inside<O: Octets, M: ToName, H: Nsec3Hasher>(
 ///
 /// A response needs all that are given where the answer is a name error or a wildcard without data
 /// (sections 7.2.2 and 7.2.5), no data or an unsigned delegation (`NoDs`; also in a referral, when
-/// it is asked for the zone cut), or where a delegation may have been left out of the chain
-/// (`MayBeUnsigned`, sections 7.2.4 and 7.2.7). It needs the second alone where it was expanded
-/// from a wildcard (section 7.2.6), and none where it is positive or a redirection. A name outside
-/// the zone has none.
+/// it is asked for the zone cut), or where a delegation was left out of the chain (`MayBeUnsigned`,
+/// sections 7.2.4 and 7.2.7). It needs the second alone where it was expanded from a wildcard
+/// (section 7.2.6), and none where it is positive or a redirection. A name outside the zone has
+/// none.
 ///
-/// Where the zone has opt-out and there is no such name, also no unsigned delegation, the response
-/// is to have the record that covers the wildcard too (section 7.2.2), though what it proves does
-/// not rest on that: it is the second record that the wildcard itself is denied with
-/// (`wildcard_of`).
+/// Where the chain has the flag of opt-out, each name that does not exist is `MayBeUnsigned`,
+/// whatever the wildcard does, and that is not looked for. A response that says a name error or no
+/// data of a wildcard there needs its record too: asked of the wildcard, `deny_nsec3` gives that as
+/// the record of the closest encloser where the wildcard exists, else as that of the next closer
+/// name.
 ///
 /// The chain is that of a zone, in which the names below an owner of a DNAME record are left out,
 /// or there are none (RFC 6672, section 2.4); the apex and the parameters are those of its
 /// NSEC3PARAM record. Names are hashed from the name towards the apex, up to the first that a
-/// record matches, and then the wildcard where it is asked for: no name twice, and none where the
-/// name is outside the zone or the parent answers. For each some twenty hashes are compared where
-/// the chain has a million. There is no limit of iterations. Takes no memory but for the hasher's
-/// answers, one at a time.
+/// record matches, and then the wildcard where it is asked for: none twice, unless the next closer
+/// name is that wildcard, and none at all where the name is outside the zone or the parent answers.
+/// For each some twenty hashes are compared where the chain has a million. There is no limit of
+/// iterations. Takes no memory but for the hasher's answers, one at a time.
 ///
 /// # Errors
 ///
@@ -401,7 +402,7 @@ pub fn deny_nsec3<O: Octets, M: ToName, H: Nsec3Hasher>(
         → AreHashedNeeded L chain.now.param.owner config chain.now.links (M.labels name.now)
         rtype d) }
 
-    // Of the chain of any zone, the answer is what `judge_nsec3` says of the records.
+    // And it is what `judge_nsec3` says of these records alone.
     ensures exact { needs_no_records chain.now.param.owner (M.labels name.now) rtype ≡ false
         → IfOk result (λ d. (L : List ZoneRecord) (config : ChainConfig)
         → IsHashedWhole L config (hash_by (H.answer hasher.now) chain.now.param.parameters)

@@ -1,0 +1,23 @@
+//! What holds of the NSEC3 chains that records are picked of. A caller calls the law in its body.
+ghost use Rattle.std.specs.Prelude.{◌≡◌, List};
+ghost use Rattle.domain_base.specs.Words.{Name};
+ghost use Rattle.domain_zone.specs.Zone.{ZoneRecord};
+ghost use Rattle.domain_nsec3.specs.Chain.{ChainRecords, IsChainParam, IsHashedChain};
+ghost use Rattle.domain_nsec3.specs.Config.{ChainConfig};
+ghost use Rattle.domain_nsec3.specs.View.{hash_by, HasherAnswer};
+ghost use Rattle.domain_nsec3.specs.declared.config.Nsec3ParamTtlMode.{Nsec3ParamTtlMode};
+ghost use Rattle.domain_answer.specs.HashedZoneAnswer.{HashedLeavesOutBelowDname};
+ghost use Rattle.domain_denier.specs.HashedPicked.{IsHashedWhole};
+
+/// A chain that `Nsec3Chain::generate` gives is one that `deny_nsec3` may be asked of: its
+/// NSEC3PARAM record stands at the apex, and tells the parameters that its names were hashed with.
+pub fn generated_chains_are_whole()
+    ensures owner { (L : List ZoneRecord) (a : Name) (config : ChainConfig)
+        (mode : Nsec3ParamTtlMode) (chain : ChainRecords)
+        → IsChainParam L a config mode chain.param → chain.param.owner ≡ a }
+    ensures whole { (L : List ZoneRecord) (a : Name) (config : ChainConfig)
+        (mode : Nsec3ParamTtlMode) (answer : HasherAnswer) (chain : ChainRecords)
+        → config.hash ≡ hash_by answer config.parameters → HashedLeavesOutBelowDname L a config
+        → IsHashedChain L a config chain.links → IsChainParam L a config mode chain.param
+        → IsHashedWhole L config (hash_by answer chain.param.parameters) chain }
+{}
