@@ -1,7 +1,6 @@
 -- The records that a server answers with, as they are found and written.
 use Rattle.std.proofs.Common.{◌≡◌, ◌<◌, ℕ, Bool, true, false, List, [], ◌++◌, codes, length, nat_lt, refl, ap, sym, ◌∙◌, append_assoc, Option, Some, None}
 use Rattle.std.proofs.lemmas.Bool.{cond-false, cond-true, lt-ltb}
-use Rattle.std.proofs.lemmas.List.{append-nil}
 use Rattle.std.specs.Fmt.{decimal}
 use Rattle.std.specs.List.{find}
 use Rattle.std.specs.Option.{is_some, option_map, option_to_list}
@@ -9,9 +8,8 @@ use Rattle.domain_octets.specs.Words.{Octets}
 use Rattle.domain_base.specs.Name.{lowered, wire_of}
 use Rattle.domain_base.specs.Numbers.{class_text, type_text}
 use Rattle.domain_base.specs.Text.{name_text}
-use Rattle.domain_base.specs.Types.{ds, nsec3param}
+use Rattle.domain_base.specs.Types.{nsec3param}
 use Rattle.domain_base.specs.Words.{Name}
-use Rattle.domain_bitmap.specs.Blocks.{contains_type}
 use Rattle.domain_chain_rdata.specs.Nsec3paramText.{nsec3param_text}
 use Rattle.domain_nsec.specs.Chain.{Link}
 use Rattle.domain_nsec3.specs.Chain.{HashedLink, ParamRecord}
@@ -27,7 +25,7 @@ use Rattle.domain_answer.specs.declared.answer.Answer.{Answer}
 use Rattle.denial_program.specs.Text.{nsec3param_line}
 use Rattle.judge_program.specs.Why.{wildcard_count}
 use Rattle.judge_program.specs.Records.{first_of, hash_found, is_told, line_once, name_part, needs_of, needs_wildcard, nsec_found, nsec_once, nsec_records}
-use Rattle.judge_program.specs.Records.{nsec_wildcard_found, nsec3_wildcard_found, unsigned_cut}
+use Rattle.judge_program.specs.Records.{nsec_wildcard_found, nsec3_wildcard_found}
 
 -- a record that was not told yet
 pub new_once : {K : Type 0} (same : K → K → Bool) (line : K → Octets) (before : List K) (k : K) → is_told same k before ≡ false

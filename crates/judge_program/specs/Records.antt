@@ -1,5 +1,5 @@
 -- The records that a server answers with, as they are printed; a is the apex, x the name.
-use Rattle.std.specs.Prelude.{◌≡◌, ℕ, ◌==◌, ◌&&◌, ◌||◌, Bool, true, false, List, [], ◌∷◌, ◌++◌, codes, length, nat_lt, bytes_eq, Option, Some, None, Result, Ok, Err, if◌then◌else◌}
+use Rattle.std.specs.Prelude.{◌≡◌, ℕ, ◌==◌, ◌&&◌, ◌||◌, Bool, true, false, List, [], ◌++◌, codes, length, nat_lt, bytes_eq, Option, Some, None, Result, Ok, Err, if◌then◌else◌}
 use Rattle.std.specs.List.{find, list_any}
 use Rattle.std.specs.Option.{is_some, option_map, option_to_list}
 use Rattle.domain_octets.specs.Words.{Octets}
@@ -23,7 +23,7 @@ use Rattle.domain_answer.specs.ZoneAnswer.{wildcard_below}
 use Rattle.domain_answer.specs.declared.answer.Answer.{Answer}
 use Rattle.domain_answer.specs.declared.answer.Answer.TheVariants as answers
 use Rattle.denial_program.specs.Text.{link_values, nsec_line, nsec3_line, nsec3param_line}
-use Rattle.judge_program.specs.Why.{closer_found_text, closer_told, nsec_why, nsec3_why_text, rests_on_records, wildcard_count, IsNsec3Why}
+use Rattle.judge_program.specs.Why.{closer_found_text, closer_told, nsec_why, nsec3_why_text, wildcard_count, IsNsec3Why}
 use Rattle.judge_program.specs.declared.needs.Needs.{Needs}
 use Rattle.judge_program.specs.declared.needs.Needs.TheVariants as needs
 use Rattle.judge_program.specs.declared.nsec3_below.Nsec3Below.{Nsec3Below}
@@ -194,7 +194,8 @@ encloser_cover (Some e) = e.cover
 abbrev pub wildcard_found_link : {O N : Type 0} → (N → Name) → Option (ℕ × Nsec3Found O N)
     → Option HashedLink
 wildcard_found_link labels None = None
-wildcard_found_link labels (Some (n, found)) = first_of (found_match labels found) (found_cover labels found)
+wildcard_found_link labels (Some (n, found)) =
+    first_of (found_match labels found) (found_cover labels found)
 
 -- of x and its ancestors the first that a record matches, and, where the response needs them, the
 -- next closer name and the wildcard
@@ -223,7 +224,8 @@ nsec3_why_records param answer why =
 abbrev pub closer_found_link : {O N : Type 0} → (N → Name) → Option (Nsec3Found O N)
     → Option HashedLink
 closer_found_link labels None = None
-closer_found_link labels (Some found) = first_of (found_match labels found) (found_cover labels found)
+closer_found_link labels (Some found) =
+    first_of (found_match labels found) (found_cover labels found)
 
 -- what was found, as it is asked for
 abbrev pub whole_text : Shown → Name → ParamRecord → Answer → Nsec3Why → Octets

@@ -22,8 +22,8 @@ use Rattle.judge_program.specs.declared.command.Command.{Command}
 use Rattle.judge_program.specs.declared.command.Nsec3Options.{Nsec3Options}
 use Rattle.judge_program.specs.declared.shown.Shown.{Shown}
 
--- the text is that of what the NSEC records answer to the question, on one line, and below it, where
--- they are asked for, of the records that it rests on, or of those that a server answers with
+-- the text is that of what the NSEC records answer to the question, on one line, and below it,
+-- where they are asked for, of the records that it rests on, or of those that a server answers with
 pub record IsNsecText (given : List RawRecord) (q : Question) (shown : Shown) (text : Octets)
     : Type 0 where
   pub answer : Answer

@@ -188,6 +188,7 @@ pub record IsNsec3Why (a : Name) (p : Parameters) (hash : Hash) (listed : List H
       ++ nsec3_wildcard_told a p hash listed x (wildcard_count answer)
 
 -- a name is refused on the way to the closest encloser; none where there are labels
-abbrev pub IsRefusalBelow : Option ℕ → List HashedLink → Name → Parameters → Hash → Name → ℕ → Type 0
+abbrev pub IsRefusalBelow : Option ℕ → List HashedLink → Name → Parameters → Hash → Name → ℕ
+    → Type 0
 IsRefusalBelow None listed a p hash x reason = IsFirstRefusal listed a p hash x reason
 IsRefusalBelow (Some n) listed a p hash x reason = ⊥

@@ -80,7 +80,8 @@ fn write_closer<W: Write>(
     output: &mut W,
 ) -> io::Result<()>
     ensures { OnOk result (Appends (W.contents output.old) (W.contents output.new)
-        (closer_text (λ n. n) shown name.now (as_param_record (λ n. n) param.now) labels found.entry)) }
+        (closer_text (λ n. n) shown name.now (as_param_record (λ n. n) param.now) labels
+        found.entry)) }
 {
     match shown {
         Shown::Answer => Ok(()),

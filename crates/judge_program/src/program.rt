@@ -17,7 +17,8 @@ use std::alloc::Global;
 use std::io::{BufRead, Write};
 
 /// Does what the words ask for: reads records of a chain, one a line, and writes what they prove as
-/// a whole answer to a question about a name and a type, on one line.
+/// a whole answer to a question about a name and a type, on one line, and below it the records that
+/// are asked for.
 ///
 /// # Errors
 ///

@@ -1,5 +1,3 @@
-use Rattle.std.proofs.Common.{ap, sym, ◌∙◌}
-use Rattle.domain_answer.specs.Expansion.{closer_name}
 use Rattle.domain_checker.specs.HashedPass.{found_cover, found_match}
 use Rattle.domain_checker.specs.HashedView.{hash_with, links, parameters}
 use Rattle.judge_program.proofs.ExpansionLemmas.{closer_is_told}

@@ -1,4 +1,3 @@
-use Rattle.std.specs.Io.KnownBytes.{Appends}
 use Rattle.std.proofs.Common.{◌++◌}
 use Rattle.domain_nsec.specs.ChainView.{links_of}
 use Rattle.judge_program.specs.Records.{nsec_below}

@@ -1,4 +1,3 @@
-use Rattle.std.specs.Io.KnownBytes.{Appends}
 use Rattle.std.proofs.Common.{◌++◌}
 use Rattle.domain_nsec3.specs.View.{as_param_record}
 use Rattle.judge_program.specs.Records.{below_text}
