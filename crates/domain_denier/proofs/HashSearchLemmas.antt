@@ -87,7 +87,7 @@ pairs_length [] f = refl
 pairs_length (k ∷ []) f = refl
 pairs_length (k ∷ m ∷ ks) f = ap suc (pairs_length (m ∷ ks) f)
 
-cycle_length : (ks : List Octets) → length (cycle ks) ≡ length ks
+pub cycle_length : (ks : List Octets) → length (cycle ks) ≡ length ks
 cycle_length [] = refl
 cycle_length (u ∷ us) = pairs_length (u ∷ us) u
 

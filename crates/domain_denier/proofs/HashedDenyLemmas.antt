@@ -1,9 +1,10 @@
 -- What is picked of the NSEC3 chain of a zone is what its answer rests on, and no more.
-use Rattle.std.proofs.Common.{◌≡◌, ◌≢◌, ℕ, ◌+◌, ◌-◌, ◌<◌, Bool, true, false, cond, not, ◌&&◌, ◌||◌, List, [], drop, length, Some, None, Option}
-use Rattle.std.proofs.Common.{slice_get, nat_eq, refl, sym, ap, ◌∙◌, subst, inl, inr, ◌⊎◌}
+use Rattle.std.proofs.Common.{◌≡◌, ◌≢◌, ℕ, ◌+◌, ◌-◌, ◌<◌, Bool, true, false, cond, not, ◌&&◌, ◌||◌, List, [], ◌∷◌, map, drop, length, Some, None, Option}
+use Rattle.std.proofs.Common.{slice_get, nat_eq, refl, sym, ap, ◌∙◌, subst, inl, inr, ◌⊎◌, arith}
 use Rattle.std.specs.Prelude.{All, Ok}
 use Rattle.std.specs.List.{Contains, list_any}
 use Rattle.std.proofs.lemmas.Bool.{cases_Bool, eq-eqb, eqb-true, false≢true, and_parts, and_from, or_cases, or_left, or_right}
+use Rattle.std.proofs.lemmas.List.{length-map}
 use Rattle.std.proofs.lemmas.List.Elements.{All-contains_itself}
 use Rattle.std.proofs.lemmas.Option.{get_or_from_slice_get, slice_get_within}
 use Rattle.domain_octets.specs.Words.{Octets}
@@ -12,10 +13,10 @@ use Rattle.domain_base.specs.Words.{Name}
 use Rattle.domain_zone.specs.Enclosers.{IsClosestEncloser, exists_over}
 use Rattle.domain_zone.specs.Zone.{ZoneRecord, is_zone_cut}
 use Rattle.domain_zone.proofs.NameLemmas.{below_itself, below_longer, below_trans}
-use Rattle.domain_nsec3.specs.Chain.{ChainRecords, HashedLink, IsHashedChain}
+use Rattle.domain_nsec3.specs.Chain.{ChainRecords, HashedLink, HashedName, IsHashedChain, cycle, ends, ends_of}
 use Rattle.domain_nsec3.specs.Config.{ChainConfig, Hash, Parameters, hash_name}
-use Rattle.domain_nsec3.specs.Meaning.{IsAlone, MirrorsZone}
-use Rattle.domain_nsec3.specs.Owners.{nsec3_lists, original_owners}
+use Rattle.domain_nsec3.specs.Meaning.{IsAlone, TellsEncloser}
+use Rattle.domain_nsec3.specs.Owners.{is_chain_name, nsec3_lists, original_owners}
 use Rattle.domain_base.specs.Types.{dname}
 use Rattle.domain_checker.specs.HashedEncloser.{IsOfName}
 use Rattle.domain_checker.specs.HashedList.{is_hash_cover, is_hash_match}
@@ -36,6 +37,7 @@ use Rattle.domain_denier.specs.Picked.{at_place}
 use Rattle.domain_denier.specs.HashedPicked.{AreHashedNeeded, IsHashedWhole, TellOfTheirParts, hashed_picked, other_place, picked_without, without_records}
 use Rattle.domain_denier.specs.HashedSteps.{IsPickedRead, IsSoleCover, IsSoleMatch, IsSoleWildcard}
 use Rattle.domain_denier.specs.declared.nsec3.Nsec3Denial.{Nsec3Denial}
+use Rattle.domain_denier.proofs.HashSearchLemmas.{cycle_length}
 use Rattle.domain_denier.proofs.SomeLemmas.{in_place, no_match, not_gone, three_contained, three_others}
 
 -- what the laws say
@@ -92,17 +94,22 @@ parent_needless a x t e = (λ i. not (is_at_or_below x a) || e i) ∙ either (no
     either true = refl
     either false = refl
 
--- a chain in which no other name has the hash of one at or below the apex has a record
-pub some_links : (L : List ZoneRecord) (a : Name) (config : ChainConfig) (links : List HashedLink) → MirrorsZone L a config links
-    → (x : Name) → is_at_or_below x a ≡ true → AreAskedAlone L a config x → links ≡ [] → ⊥
-some_links L a config links mirrors x low asked none =
-    let alone = asked.ancestors x (below_itself x) low in
-    let one = mirrors.each x alone.0 low alone.1 in
-    let there : slice_get [] one.place ≡ Some one.link = ap (λ ls. slice_get ls one.place) (sym none) ∙ one.is.there in
-    empty one.place one.link there
+-- the chain of a zone has a record
+pub some_links : (L : List ZoneRecord) (a : Name) (config : ChainConfig) (links : List HashedLink) → IsHashedChain L a config links
+    → TellsEncloser L a config links
+    → ((x : Name) → is_at_or_below x a ≡ true → exists_over (original_owners L a config) a x ≡ is_chain_name L a config x)
+    → links ≡ [] → ⊥
+some_links L a config links chain tells exist none =
+    let hashes = map (λ (n : HashedName). n.hash) chain.names in
+    let e = tells.encloser a (below_itself a) in
+    let low = (and_parts (is_at_or_below e.0 a) (list_any (λ n. is_at_or_below n e.0) (original_owners L a config)) e.1.found).0 in
+    let count : length links ≡ length chain.names = sym (length-map links ends) ∙ ap length chain.linked
+    ∙ length-map (cycle hashes) (ends_of a) ∙ cycle_length hashes ∙ length-map chain.names (λ (n : HashedName). n.hash) in
+    by e.0 chain.names (chain.complete e.0 (sym (exist e.0 low) ∙ e.1.found)) (sym count ∙ ap length none)
   where
-    empty : (j : ℕ) (k : HashedLink) → slice_get [] j ≡ Some k → ⊥
-    empty j k e = absurd (cc)
+    by : (y : Name) (names : List HashedName) → list_any (λ n. same_name n.name y) names ≡ true → length names ≡ 0 → ⊥
+    by y [] h l = false≢true h
+    by y (n ∷ names) h l = absurd (omega (arith, l))
 
 module _ (laws : DenyLaws) (L : List ZoneRecord) (a : Name) (config : ChainConfig) (links : List HashedLink)
     (leaves : HashedLeavesOutBelowDname L a config) (chain : IsHashedChain L a config links) (x : Name) (t : ℕ) (small : t < 65536)

@@ -20,7 +20,7 @@ use crate::hash_search::{HashPlace, look_up};
 use domain_answer::{Answer, laws, wildcard_of};
 use domain_base::{ParsedName, Rtype, ToName};
 use domain_checker::laws::hashes_tell_of_names;
-use domain_nsec3::laws::chains_mean_the_zone;
+use domain_nsec3::laws::{chains_mean_the_zone, names_exist};
 use domain_nsec3::{LentNsec3, Nsec3Chain};
 use domain_octets::Octets;
 use domain_records::Nsec3HashError;
@@ -402,12 +402,11 @@ pub fn deny_nsec3<O: Octets, M: ToName, H: Nsec3Hasher>(
         → AreHashedNeeded L chain.now.param.owner config chain.now.links (M.labels name.now)
         rtype d) }
 
-    // And it is what `judge_nsec3` says of these records alone.
+    // Of the chain of any zone at all, it is what `judge_nsec3` says of these records alone.
     ensures exact { needs_no_records chain.now.param.owner (M.labels name.now) rtype ≡ false
         → IfOk result (λ d. (L : List ZoneRecord) (config : ChainConfig)
         → IsHashedWhole L config (hash_by (H.answer hasher.now) chain.now.param.parameters)
-        chain.now → AreAskedAlone L chain.now.param.owner config (M.labels name.now)
-        → IsHashedRead (hashed_picked chain.now.links d) chain.now.param.owner
+        chain.now → IsHashedRead (hashed_picked chain.now.links d) chain.now.param.owner
         chain.now.param.parameters (hash_by (H.answer hasher.now) chain.now.param.parameters)
         (M.labels name.now) rtype d.answer) }
 
@@ -434,6 +433,7 @@ pub fn deny_nsec3<O: Octets, M: ToName, H: Nsec3Hasher>(
     laws::hashed_whole_chains_prove_all();
     hashes_tell_of_names();
     chains_mean_the_zone();
+    names_exist();
     let _number = rtype.to_int();
     if chain.is_empty() {
         return Ok(without_records(Answer::NotProven));

@@ -8,24 +8,23 @@ use Rattle.domain_denier.proofs.nsec3.deny_nsec3.Goals as goal
 pub returns-then-is_empty-clause-zone : goal.returns-then-is_empty-clause-zone
 returns-then-is_empty-clause-zone g c L config whole asked =
     let a = c.args.chain.now.param.owner in
-    let x = g.M.ToName.labels c.args.name.now in
     let links = c.args.chain.now.links in
-    let apex : c.owner-apex.result.now ≡ c.args.chain.now.param.owner = c.owner-apex.ensures ∙ ap (λ r. r.owner) c.nsec3param.ensures in
-    let low : is_at_or_below (g.M.ToName.labels c.args.name.now) c.args.chain.now.param.owner ≡ true =
-    ap (is_at_or_below x) (sym apex) ∙ sym c.ends_with.ensures.value ∙ c.if-not-ends_with.false in
-    absurd (some_links L a config links (c.chains_mean_the_zone.ensures.denial L a config links whole.is) x low asked
-    (c.is_empty.ensures.0 c.if-is_empty.true))
+    absurd (some_links L a config links whole.is (c.chains_mean_the_zone.ensures.enclosers L a config links whole.is)
+    (c.names_exist.ensures.existing L a config) (c.is_empty.ensures.0 c.if-is_empty.true))
 
 pub returns-then-is_empty-clause-proved : goal.returns-then-is_empty-clause-proved
 returns-then-is_empty-clause-proved g c L config whole asked =
     let a = c.args.chain.now.param.owner in
-    let x = g.M.ToName.labels c.args.name.now in
     let links = c.args.chain.now.links in
-    let apex : c.owner-apex.result.now ≡ c.args.chain.now.param.owner = c.owner-apex.ensures ∙ ap (λ r. r.owner) c.nsec3param.ensures in
-    let low : is_at_or_below (g.M.ToName.labels c.args.name.now) c.args.chain.now.param.owner ≡ true =
-    ap (is_at_or_below x) (sym apex) ∙ sym c.ends_with.ensures.value ∙ c.if-not-ends_with.false in
-    absurd (some_links L a config links (c.chains_mean_the_zone.ensures.denial L a config links whole.is) x low asked
-    (c.is_empty.ensures.0 c.if-is_empty.true))
+    absurd (some_links L a config links whole.is (c.chains_mean_the_zone.ensures.enclosers L a config links whole.is)
+    (c.names_exist.ensures.existing L a config) (c.is_empty.ensures.0 c.if-is_empty.true))
+
+pub returns-then-is_empty-clause-exact : goal.returns-then-is_empty-clause-exact
+returns-then-is_empty-clause-exact g c records L config whole =
+    let a = c.args.chain.now.param.owner in
+    let links = c.args.chain.now.links in
+    absurd (some_links L a config links whole.is (c.chains_mean_the_zone.ensures.enclosers L a config links whole.is)
+    (c.names_exist.ensures.existing L a config) (c.is_empty.ensures.0 c.if-is_empty.true))
 
 pub returns-in-Ok-clause-zone : goal.returns-in-Ok-clause-zone
 returns-in-Ok-clause-zone g c L config whole asked =
