@@ -224,9 +224,9 @@ fn read_nsec3<A: ToName, O: Octets, N: ToName, M: ToName, H: Nsec3Hasher>(
 /// closest encloser is hashed too; with no record of it the answer is `NoCloserName`. Of several
 /// that match or cover a name the first counts. With no match, or no such cover where one is
 /// needed, the answer is `NotProven`; so it is where the record of the name is at a zone cut and
-/// lists SOA, as that of a child's apex does (RFC 5155, section 8.9). No name is hashed twice, and
-/// the records are gone over once for each. Takes no memory but for the hasher's answers, one at a
-/// time.
+/// lists SOA, as that of a child's apex does (RFC 5155, section 8.9). No name is hashed twice but
+/// the wildcard, where that is the next closer name itself; the records are gone over once for
+/// each. Takes no memory but for the hasher's answers, one at a time.
 ///
 /// The chain is one that leaves out the names below an owner of a DNAME record, or there are none:
 /// such names are no names of the zone (RFC 6672, section 2.4). The records' signatures are not
