@@ -1,0 +1,49 @@
+-- The first line of those that are told.
+use Rattle.std.proofs.Common.{◌≡◌, ℕ, ◌+◌, List, [], ◌∷◌, refl, ap, subst, arith, inl, inr}
+use Rattle.std.proofs.lemmas.List.Elements.{All-nil, All-cons}
+use Rattle.domain_lent.specs.Data.{RawRecord}
+use Rattle.denial_program.specs.Listing.{Give, IsBad, IsFirstBad, IsGood}
+use Rattle.lint_program.specs.Lines.{AreLinted}
+
+here : (line : List ℕ) (more : List (List ℕ)) → IsBad line → IsFirstBad (line ∷ more) 1
+here line more bad = record { before = []; line = line; after = more; are = refl; place = refl; good = All-nil IsGood; bad = bad }
+
+later : (line : List ℕ) (more : List (List ℕ)) (k : ℕ) → IsGood line → IsFirstBad more k → IsFirstBad (line ∷ more) (k + 1)
+later line more k good h = record {
+  before = line ∷ h.before;
+  line = h.line;
+  after = h.after;
+  are = ap (λ ls. line ∷ ls) h.are;
+  place = omega (arith, h.place);
+  good = All-cons IsGood line h.before good h.good;
+  bad = h.bad;
+}
+
+-- the lowest bad line, where the first line has the number n
+first_from : (n : ℕ) (lines : List (List ℕ)) (m : ℕ) (more : List ℕ) (records : List RawRecord) → AreLinted n lines (m ∷ more) records
+    → (k : ℕ) × (m + 1 ≡ n + k) × IsFirstBad lines k
+first_from n [] m more records h = absurd (let w = h.0 in cc)
+first_from n (line ∷ rest) m more records (inl h) =
+    let lower = first_from (n + 1) rest m more records h.1 in
+    (lower.0 + 1, omega (arith, lower.1), later line rest lower.0 (inl h.0) lower.2)
+first_from n (line ∷ rest) m more records (inr (inl h)) =
+    let lower = first_from (n + 1) rest m more h.1 h.4 in
+    (lower.0 + 1, omega (arith, lower.1), later line rest lower.0 (inr (h.0, h.3)) lower.2)
+first_from n (line ∷ rest) m more records (inr (inr h)) =
+    let same : m ≡ n = (let w = h.1 in cc) in
+    (1, ap (λ i. i + 1) same, here line rest h.2)
+
+pub first_told : (lines : List (List ℕ)) (m : ℕ) (more : List ℕ) (records : List RawRecord) → AreLinted 1 lines (m ∷ more) records → IsFirstBad lines m
+first_told lines m more records h =
+    let first = first_from 1 lines m more records h in
+    let same : first.0 ≡ m = omega (arith, first.1) in
+    subst (IsFirstBad lines) same first.2
+
+none_from : (n : ℕ) (lines : List (List ℕ)) (records : List RawRecord) → AreLinted n lines [] records → Give lines records
+none_from n [] records h = h.1
+none_from n (line ∷ rest) records (inl h) = inl (h.0, none_from (n + 1) rest records h.1)
+none_from n (line ∷ rest) records (inr (inl h)) = inr (h.0, h.1, h.2, h.3, none_from (n + 1) rest h.1 h.4)
+none_from n (line ∷ rest) records (inr (inr h)) = absurd (let w = h.1 in cc)
+
+pub none_told : (lines : List (List ℕ)) (records : List RawRecord) → AreLinted 1 lines [] records → Give lines records
+none_told lines records h = none_from 1 lines records h

@@ -1,0 +1,149 @@
+-- How far a reader has come, where it tells its octets.
+use Rattle.std.proofs.Common.{◌≡◌, ◌⊎◌, ℕ, ◌+◌, ◌<◌, List, [], ◌∷◌, ◌++◌, length, refl, ap, sym, ◌∙◌, subst, arith, inl, inr}
+use Rattle.std.proofs.Common.{Some, None, IfSome, Option, append-nil, append_assoc}
+use Rattle.std.specs.Str.Lines.{lines}
+use Rattle.std.specs.Io.BufRead.{take_through, drop_through, DropsThrough}
+use Rattle.std.specs.Io.KnownBytes.{IsAtEnd}
+use Rattle.domain_lent.specs.Data.{RawRecord}
+use Rattle.denial_program.specs.Fault.{IsReadingFault}
+use Rattle.denial_program.specs.Listing.{Give, IsBad, IsFirstBad, IsRecord}
+use Rattle.denial_program.specs.Words.{words, IsSkipped}
+use Rattle.denial_program.specs.declared.fault.DenialFault.{DenialFault}
+use Rattle.denial_program.specs.declared.fault.DenialFault.TheVariants.{Usage, Read, Line, MixedClasses, Signing, Param, Write, OutOfMemory}
+use Rattle.denial_program.proofs.Reading.{StaysKnown}
+use Rattle.lint_program.specs.Lines.{AreLinted}
+use Rattle.lint_program.proofs.LineLemmas.{line_once}
+
+-- ---- one line
+
+-- a line that gives these records gives the last of them
+pub given_record : (out : List ℕ) (given before : List RawRecord) (r : RawRecord) → Give (out ∷ []) given → given ≡ before ++ r ∷ [] → IsRecord out r
+given_record out given [] r (inl h) e = absurd (let w = sym h.1 ∙ e in cc)
+given_record out given (b ∷ before) r (inl h) e = absurd (let w = sym h.1 ∙ e in cc)
+given_record out given [] r (inr h) e =
+    let same : h.0 ≡ r = (let w = sym h.2 ∙ e in cc) in
+    subst (IsRecord out) same h.3
+given_record out given (b ∷ []) r (inr h) e =
+    absurd (let w : h.0 ∷ [] ≡ b ∷ r ∷ [] = ap (λ os. h.0 ∷ os) (sym h.4) ∙ sym h.2 ∙ e in let n = ap length w in omega arith)
+given_record out given (b ∷ x ∷ before) r (inr h) e =
+    absurd (let w : h.0 ∷ [] ≡ b ∷ x ∷ before ++ r ∷ [] = ap (λ os. h.0 ∷ os) (sym h.4) ∙ sym h.2 ∙ e in let n = ap length w in omega arith)
+
+-- a line that gives none is skipped
+pub given_none : (out : List ℕ) (given : List RawRecord) → Give (out ∷ []) given → given ≡ [] → IsSkipped (words out)
+given_none out given (inl h) e = h.0
+given_none out given (inr h) e = absurd (let w = sym h.2 ∙ e in cc)
+
+-- the lowest bad line of one line is this line
+pub only_bad : (out : List ℕ) (n : ℕ) → IsFirstBad (out ∷ []) n → IsBad out
+only_bad out n h = here h.before h.are
+  where
+    here : (before : List (List ℕ)) → out ∷ [] ≡ before ++ h.line ∷ h.after → IsBad out
+    here [] e = let same : h.line ≡ out = cc in subst IsBad same h.bad
+    here (b ∷ []) e = absurd (let n = ap length e in omega arith)
+    here (b ∷ x ∷ before) e = absurd (let n = ap length e in omega arith)
+
+-- a fault of reading is of a line, of the reader, or want of memory
+pub no_line : (e : DenialFault) → IsReadingFault e → ((n : ℕ) → e ≡ Line n → ⊥) → (e ≡ Read) ⊎ (e ≡ OutOfMemory)
+no_line Usage h none = absurd h
+no_line Read h none = inl refl
+no_line (Line n) h none = absurd (none n refl)
+no_line MixedClasses h none = absurd h
+no_line (Signing e) h none = absurd h
+no_line Param h none = absurd h
+no_line Write h none = absurd h
+no_line OutOfMemory h none = inr refl
+
+-- ---- all lines
+
+-- what rest is, after these numbers and records, all is; and rest begins with the line of this number
+abbrev pub Continues : List (List ℕ) → List (List ℕ) → List ℕ → List RawRecord → ℕ → Type 0
+Continues all rest bad records number =
+    (more : List ℕ) (others : List RawRecord) → AreLinted number rest more others → AreLinted 1 all (bad ++ more) (records ++ others)
+
+-- of known octets the lines before this number are these, and the reader has the others left
+abbrev pub Follows : Option (List ℕ) → Option (List ℕ) → List ℕ → List RawRecord → ℕ → Type 0
+Follows known now bad records number =
+    IfSome known (λ all. (rest : List ℕ) × (now ≡ Some rest) × Continues (lines all) (lines rest) bad records number)
+
+-- the same where the line of this number was taken
+abbrev pub FollowsAt : Option (List ℕ) → Option (List ℕ) → List ℕ → List ℕ → List RawRecord → ℕ → Type 0
+FollowsAt known now view bad records number =
+    IfSome known (λ all. (rest : List ℕ) × (now ≡ Some rest) × (out : List ℕ) × (lines view ≡ out ∷ [])
+    × Continues (lines all) (out ∷ lines rest) bad records number)
+
+pub follows_start : (known : Option (List ℕ)) (bad : List ℕ) (records : List RawRecord) (number : ℕ) → bad ≡ [] → records ≡ [] → number ≡ 1
+    → Follows known known bad records number
+follows_start None bad records number b r one = tt
+follows_start (Some all) bad records number b r one = (
+  all,
+  refl,
+  λ more others h. subst (λ bs. AreLinted 1 (lines all) (bs ++ more) (records ++ others)) (sym b)
+      (subst (λ rs. AreLinted 1 (lines all) more (rs ++ others)) (sym r) (subst (λ n. AreLinted n (lines all) more others) one h)),
+)
+
+pub follows_end : (known now : Option (List ℕ)) (bad : List ℕ) (records : List RawRecord) (number : ℕ)
+    → Follows known now bad records number → IsAtEnd now → IfSome known (λ all. AreLinted 1 (lines all) bad records)
+follows_end None now bad records number h e = tt
+follows_end (Some all) None bad records number h e = absurd (let w = h.1 in cc)
+follows_end (Some all) (Some xs) bad records number h e =
+    let same : h.0 ≡ [] = (let w = h.1 in cc) in
+    let c : Continues (lines all) [] bad records number = subst (λ (r : List ℕ). Continues (lines all) (lines r) bad records number) same h.2 in
+    subst (AreLinted 1 (lines all) bad) (append-nil records)
+    (subst (λ bs. AreLinted 1 (lines all) bs (records ++ [])) (append-nil bad) (c [] [] (refl, refl)))
+
+taken_some : (bs : List ℕ) → 0 < length (take_through 10 bs) → 0 < length bs
+taken_some [] h = h
+taken_some (x ∷ xs) h = omega arith
+
+-- a line was read into a buffer that was empty
+pub follows_next : (known old new : Option (List ℕ)) (bad : List ℕ) (records : List RawRecord) (number : ℕ) (was buf view : List ℕ)
+    → Follows known old bad records number → DropsThrough old new 10 → was ≡ [] → IfSome old (λ xs. buf ≡ was ++ take_through 10 xs)
+    → 0 < length buf → view ≡ buf → FollowsAt known new view bad records number
+follows_next None old new bad records number was buf view h drops empty filled some same = tt
+follows_next (Some all) old new bad records number was buf view h drops empty filled some same =
+    let rest = h.0 in
+    let dropped : new ≡ Some (drop_through 10 rest) = subst (λ o. DropsThrough o new 10) h.1 drops in
+    let held : buf ≡ was ++ take_through 10 rest = subst (λ o. IfSome o (λ xs. buf ≡ was ++ take_through 10 xs)) h.1 filled in
+    let taken : buf ≡ take_through 10 rest = held ∙ ap (λ (w : List ℕ). w ++ take_through 10 rest) empty in
+    let once = line_once rest (taken_some rest (subst (λ (t : List ℕ). 0 < length t) taken some)) in (
+      drop_through 10 rest,
+      dropped,
+      once.0,
+      ap lines (same ∙ taken) ∙ once.2,
+      subst (λ ls. Continues (lines all) ls bad records number) once.1 h.2,
+    )
+
+pub follows_nothing : (known now : Option (List ℕ)) (view bad : List ℕ) (records : List RawRecord) (number : ℕ)
+    → FollowsAt known now view bad records number → ((out : List ℕ) → lines view ≡ out ∷ [] → IsSkipped (words out))
+    → Follows known now bad records (number + 1)
+follows_nothing None now view bad records number h said = tt
+follows_nothing (Some all) now view bad records number h said = (h.0, h.1, λ more others l. h.4 more others (inl (said h.2 h.3, l)))
+
+pub follows_record : (known now : Option (List ℕ)) (view bad : List ℕ) (old new : List RawRecord) (r : RawRecord) (number : ℕ)
+    → FollowsAt known now view bad old number → new ≡ old ++ r ∷ [] → ((out : List ℕ) → lines view ≡ out ∷ [] → IsRecord out r)
+    → Follows known now bad new (number + 1)
+follows_record None now view bad old new r number h e said = tt
+follows_record (Some all) now view bad old new r number h e said = (
+  h.0,
+  h.1,
+  λ more others l. subst (λ rs. AreLinted 1 (lines all) (bad ++ more) (rs ++ others)) (sym e)
+      (subst (AreLinted 1 (lines all) (bad ++ more)) (sym (append_assoc old (r ∷ []) others))
+      (h.4 more (r ∷ others) (inr (inl (r, others, refl, said h.2 h.3, l))))),
+)
+
+pub follows_bad : (known now : Option (List ℕ)) (view old new : List ℕ) (records : List RawRecord) (number : ℕ)
+    → FollowsAt known now view old records number → new ≡ old ++ number ∷ [] → ((out : List ℕ) → lines view ≡ out ∷ [] → IsBad out)
+    → Follows known now new records (number + 1)
+follows_bad None now view old new records number h e said = tt
+follows_bad (Some all) now view old new records number h e said = (
+  h.0,
+  h.1,
+  λ more others l. subst (λ bs. AreLinted 1 (lines all) (bs ++ more) (records ++ others)) (sym e)
+      (subst (λ bs. AreLinted 1 (lines all) bs (records ++ others)) (sym (append_assoc old (number ∷ []) more))
+      (h.4 (number ∷ more) others (inr (inr (more, refl, said h.2 h.3, l))))),
+)
+
+pub stays_known : (known now : Option (List ℕ)) (bad : List ℕ) (records : List RawRecord) (number : ℕ) → Follows known now bad records number
+    → StaysKnown known now
+stays_known None now bad records number h = tt
+stays_known (Some all) now bad records number h = (h.0, h.1)

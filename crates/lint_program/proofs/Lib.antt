@@ -1,0 +1,4 @@
+pub mod LineLemmas
+pub mod Following
+pub mod ReportLemmas
+pub mod FirstLemmas

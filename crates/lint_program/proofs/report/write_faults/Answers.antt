@@ -1,0 +1,21 @@
+use Rattle.std.proofs.Common.{◌++◌, ap, map, sym, subst, take, ◌∙◌}
+use Rattle.std.proofs.lemmas.List.{map-append, take_more}
+use Rattle.denial_program.proofs.RunLemmas.{appends_more}
+use Rattle.lint_program.specs.Report.{AreFaults}
+use Rattle.lint_program.specs.declared.reading.BadLine.{BadLine}
+use Rattle.lint_program.proofs.ReportLemmas.{faults_more}
+use Rattle.lint_program.proofs.report.write_faults.Goals as goal
+
+pub loop-line-preserved : goal.loop-line-preserved
+loop-line-preserved g c =
+    let so_far = c.loop-line.invariant in
+    let told = c.in_ok-write_bad.ensures.ok in
+    let bad = c.args.bad.now in
+    let i = c.loop-line.line-index in
+    let more = ap (map (λ (b : BadLine). b.number)) (take_more bad i _ c.loop-line-test.true) ∙ map-append (λ (b : BadLine). b.number) (take i bad) _ in (
+      so_far.0 ++ told.0,
+      subst (λ ns. AreFaults ns (so_far.0 ++ told.0)) (sym more)
+          (faults_more (map (λ (b : BadLine). b.number) (take i bad)) _ so_far.0 told.0 so_far.1 told.1),
+      appends_more (g.W.Write.contents c.args.output.now) (g.W.Write.contents c.loop-line.output) (g.W.Write.contents c.write_bad.new.output)
+          so_far.0 told.0 so_far.2 told.2,
+    )

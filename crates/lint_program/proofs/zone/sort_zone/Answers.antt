@@ -1,0 +1,26 @@
+use Rattle.std.proofs.Common.{List, refl, ◌∙◌, sym, subst}
+use Rattle.domain_lent.specs.Data.{RawRecord, data_cmp}
+use Rattle.domain_records.specs.Order.{IsInOrder, IsOneClass}
+use Rattle.domain_records.proofs.OrderLemmas.{in_order_from_sorted}
+use Rattle.denial_program.specs.Answer.{Sorts}
+use Rattle.denial_program.proofs.AnswerLemmas.{sorted_one_class}
+use Rattle.lint_program.proofs.zone.sort_zone.Goals as goal
+
+pub returns-clause-sorts : goal.returns-clause-sorts
+returns-clause-sorts c =
+    subst (λ (xs : List RawRecord). Sorts c.args.records.items xs) (sym c.into_inner.ensures.records) c.in-Ok.ensures
+
+-- of one class before they are sorted, and so after it
+one_class : (c : goal.After-into_inner) → IsOneClass c.in-Ok.sorted
+one_class c =
+    sorted_one_class c.args.records.items c.in-Ok.sorted c.in-Ok.ensures
+    (subst (λ (xs : List RawRecord). IsOneClass xs) (c.new_from_owned.ensures ∙ c.as_slice.ensures.value) (c.if-not-is_one_class.ensures.0 refl))
+
+pub returns-clause-one_class : goal.returns-clause-one_class
+returns-clause-one_class c =
+    subst (λ (xs : List RawRecord). IsOneClass xs) (sym c.into_inner.ensures.records) (one_class c)
+
+pub returns-clause-in_order : goal.returns-clause-in_order
+returns-clause-in_order c =
+    subst (λ (xs : List RawRecord). IsInOrder (λ n. n) (λ d. d.rtype) xs) (sym c.into_inner.ensures.records)
+    (in_order_from_sorted (λ n. n) (λ d. d.rtype) data_cmp c.in-Ok.sorted c.into_inner.ensures.sorted (one_class c))

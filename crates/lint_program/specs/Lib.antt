@@ -1,0 +1,4 @@
+pub mod Lines
+pub mod Outcomes
+pub mod Report
+pub mod Command

@@ -1,0 +1,25 @@
+-- What the lines of an input are.
+use Rattle.std.specs.Prelude.{◌≡◌, ◌⊎◌, ℕ, ◌+◌, List, [], ◌∷◌}
+use Rattle.domain_octets.specs.Words.{Octets}
+use Rattle.domain_lent.specs.Data.{RawRecord}
+use Rattle.denial_program.specs.Listing.{IsBad, IsRecord}
+use Rattle.denial_program.specs.Words.{words, IsSkipped}
+use Rattle.lint_program.specs.declared.reading.Line.{Line}
+use Rattle.lint_program.specs.declared.reading.Line.TheVariants.{Nothing, Record, Bad}
+
+-- each of these lines, of which the first has the number n, is skipped, spells a record, or is bad:
+-- these are the numbers of all that are bad, and the records of all others, in order
+abbrev pub AreLinted : ℕ → List Octets → List ℕ → List RawRecord → Type 0
+AreLinted n [] bad records = (bad ≡ []) × (records ≡ [])
+AreLinted n (line ∷ more) bad records =
+    (IsSkipped (words line) × AreLinted (n + 1) more bad records)
+    ⊎ (((r : RawRecord) × (others : List RawRecord) × (records ≡ r ∷ others) × IsRecord line r
+    × AreLinted (n + 1) more bad others)
+    ⊎ ((others : List ℕ) × (bad ≡ n ∷ others) × IsBad line
+    × AreLinted (n + 1) more others records))
+
+-- what was read of a line is what it is
+abbrev pub Reads : Octets → Line → Type 0
+Reads line Nothing = IsSkipped (words line)
+Reads line (Record r) = IsRecord line r
+Reads line Bad = IsBad line

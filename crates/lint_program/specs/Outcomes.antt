@@ -1,0 +1,9 @@
+-- Outcomes by the exit status of the program.
+use Rattle.std.specs.Prelude.{ℕ}
+use Rattle.lint_program.specs.declared.outcome.Outcome.{Outcome}
+use Rattle.lint_program.specs.declared.outcome.Outcome.TheVariants.{Clean, Warned, Faulty}
+
+abbrev pub exit_status : Outcome → ℕ
+exit_status Clean = 0
+exit_status Warned = 3
+exit_status Faulty = 1

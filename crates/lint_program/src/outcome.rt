@@ -1,0 +1,28 @@
+//! What was found in an input.
+ghost use Rattle.std.specs.Prelude.{◌≡◌};
+ghost use Rattle.lint_program.specs.Outcomes.{exit_status};
+
+/// What was found in an input.
+#[derive(Clone, Copy, Debug, PartialEq, Eq)]
+pub enum Outcome {
+    /// Nothing.
+    Clean,
+    /// No fault, but what is seldom meant.
+    Warned,
+    /// A fault at least.
+    Faulty,
+}
+
+impl Outcome {
+    /// The exit status of the program: 0 where nothing was found, 1 where there is a fault, for
+    /// which `denial nsec` refuses the input, and 3 where there are warnings alone.
+    pub fn status(&self) -> u8
+        ensures { result ≡ exit_status self.now }
+    {
+        match self {
+            Outcome::Clean => 0,
+            Outcome::Warned => 3,
+            Outcome::Faulty => 1,
+        }
+    }
+}

@@ -1,0 +1,136 @@
+//! The lines of an input, each read by itself.
+ghost use Rattle.std.specs.Prelude.{◌≡◌, ◌⊎◌, ◌∷◌, [], IfErr, IfOk, IfSome, OnOk, map};
+ghost use Rattle.std.specs.Str.Lines.{lines};
+ghost use Rattle.domain_octets.specs.Words.{Octets};
+ghost use Rattle.denial_program.specs.Fault.{IsReadToEnd};
+ghost use Rattle.denial_program.specs.declared.fault.DenialFault.TheVariants.{OutOfMemory};
+ghost use Rattle.lint_program.specs.Lines.{AreLinted, Reads};
+
+use bumpalo::Bump;
+use denial_program::{DenialFault, fault_of, read_records};
+use domain_lent::LentRecord;
+use std::alloc::Global;
+use std::io::BufRead;
+
+/// A line that is no record.
+#[derive(Clone, Copy)]
+pub struct BadLine<'a> {
+    /// Its number, counted from 1.
+    pub number: u64,
+    /// Its octets, with its end.
+    pub octets: &'a [u8],
+}
+
+/// Where a record stands.
+#[derive(Clone, Copy)]
+pub struct Place {
+    /// The number of its line, counted from 1.
+    pub number: u64,
+    /// Whether its owner is written with a dot at its end.
+    pub has_dot: bool,
+}
+
+/// What the lines of an input are.
+#[derive(Drop)]
+pub struct Lines<'a> {
+    /// Those that are no records, in order.
+    pub bad: Vec<BadLine<'a>>,
+    /// The records of the others, in order.
+    pub records: Vec<LentRecord<'a>>,
+    /// Where each of these stands.
+    pub places: Vec<Place>,
+}
+
+/// What a line says.
+#[derive(Drop)]
+pub enum Line<'a> {
+    /// It is blank, or a comment.
+    Nothing,
+    /// A record, with its octets in an arena.
+    Record(LentRecord<'a>),
+    /// None of these.
+    Bad,
+}
+
+/// Whether the first word of a line ends with a dot.
+fn has_dot(line: &[u8]) -> bool {
+    let mut last = b' ';
+    for octet in line {
+        if *octet <= b' ' && last > b' ' {
+            return last == b'.';
+        }
+        last = *octet;
+    }
+    last == b'.'
+}
+
+/// What one line says, which stands with its end.
+///
+/// # Errors
+///
+/// `OutOfMemory`, and `Read`, which the octets of a slice never give.
+fn read_line<'a>(alloc: Global, arena: &'a Bump, line: &[u8]) -> Result<Line<'a>, DenialFault>
+    ensures ok { IfOk result (λ said. (out : Octets) → lines line.now ≡ out ∷ [] → Reads out said) }
+    ensures err { IfErr result (λ e. (e ≡ DenialFault.Read) ⊎ (e ≡ OutOfMemory)) }
+{
+    let mut left: &[u8] = line;
+    match read_records(alloc, arena, &mut left) {
+        Ok(mut records) => match records.pop() {
+            Some(record) => Ok(Line::Record(record)),
+            None => Ok(Line::Nothing),
+        },
+        Err(fault) => match fault {
+            DenialFault::Line(_) => Ok(Line::Bad),
+            _ => Err(fault),
+        },
+    }
+}
+
+/// The lines that are no records, and the records of the others, with their octets in the arena.
+///
+/// # Errors
+///
+/// `Read` where the input could not be read, and `OutOfMemory`.
+pub fn read_lines<'a, R: BufRead>(
+    alloc: Global,
+    arena: &'a Bump,
+    input: &mut R,
+) -> Result<Lines<'a>, DenialFault>
+    ensures ok { IfOk result (λ read. IfSome (R.remaining input.old) (λ all.
+        AreLinted 1 (lines all) (map (λ b. b.number) read.bad.items)
+        read.records.items)) }
+    ensures end { OnOk result (IsReadToEnd (R.remaining input.old) (R.remaining input.new)) }
+    ensures err { IfErr result (λ e. (e ≡ DenialFault.Read) ⊎ (e ≡ OutOfMemory)) }
+{
+    let mut bad = Vec::new(alloc);
+    let mut records = Vec::new(alloc);
+    let mut places = Vec::new(alloc);
+    let mut line = Vec::new(alloc);
+    for number in 1..u64::MAX {
+        line.clear();
+        let count = match input.read_until(b'\n', &mut line) {
+            Ok(count) => count,
+            Err(e) => return Err(fault_of(&e, DenialFault::Read)),
+        };
+        if count == 0 {
+            return Ok(Lines {
+                bad,
+                records,
+                places,
+            });
+        }
+        match read_line(alloc, arena, &line)? {
+            Line::Nothing => {}
+            Line::Record(record) => {
+                let has_dot = has_dot(&line);
+                places.push(Place { number, has_dot })?;
+                records.push(record)?;
+            }
+            Line::Bad => {
+                let octets = arena.try_alloc_slice_copy(&line)?;
+                bad.push(BadLine { number, octets })?;
+            }
+        }
+    }
+    Err(DenialFault::Read)
+}
