@@ -3,8 +3,9 @@
  * what they prove of one name and one type (RFC 4035, section 5.4; RFC 5155, section 8).
  *
  * A validator calls denial_judge_nsec or denial_judge_nsec3: these answer a question as a whole, with
- * the wildcard, aliases and redirections. denial_check_nsec and denial_check_nsec3 tell of one name
- * and one type alone.
+ * the wildcard, aliases and redirections; and of records that were expanded from a wildcard, with
+ * NSEC3, denial_judge_nsec3_expansion. denial_check_nsec and denial_check_nsec3 tell of one name and
+ * one type alone.
  *
  * The functions look at no signature. Hand in only records whose signatures you have verified with
  * the keys of the zone at the apex, and take the apex from the signer's name in these signatures.
@@ -30,11 +31,12 @@ extern "C" {
 #endif
 
 /* The version that this header belongs to, as denial_version gives it. */
-#define DENIAL_VERSION 200
+#define DENIAL_VERSION 300
 
 /*
- * What denial_judge_nsec and denial_judge_nsec3 answer: one of these, or a fault of `enum
- * denial_answer`. Compare it with the names: no answer is 0, so that none can stand for a truth value.
+ * What denial_judge_nsec, denial_judge_nsec3 and denial_judge_nsec3_expansion answer: one of these, or
+ * a fault of `enum denial_answer`. Compare it with the names: no answer is 0, so that none can stand
+ * for a truth value.
  * Where an answer comes with labels, they are those of the name that it is about: the last so many
  * labels of the name that was asked for.
  */
@@ -245,6 +247,39 @@ uint32_t denial_judge_nsec3(const uint8_t *apex, size_t apex_length,
                             uint16_t rtype, uint16_t rclass, uint16_t limit,
                             const uint8_t *records, size_t records_length,
                             size_t *labels);
+
+/*
+ * What the NSEC3 records of the class answer of a name whose records were expanded from a wildcard
+ * (RFC 5155, section 8.8; RFC 4035, section 5.3.4). Such a response has no record of the closest
+ * encloser, so that denial_judge_nsec3 answers DENIAL_JUDGED_NOT_PROVEN of it; the signatures of the
+ * expanded records tell it. Parameters are those of denial_judge_nsec3, but that there is no type, and
+ * in its place:
+ *
+ *   rrsig_labels the field Labels of the signatures of the expanded records (RFC 4034, section 3.1.3):
+ *                how many labels the closest encloser has, right below which the wildcard stands. They
+ *                were expanded where this is less than the number of labels of their owner, an
+ *                asterisk as its first label not counted. Verify these signatures first.
+ *
+ * Answers one of these, or a fault of `enum denial_answer`:
+ *
+ *   DENIAL_JUDGED_NO_CLOSER_NAME       a record covers the next closer name, the last rrsig_labels + 1
+ *                                      labels of the name, and none matches it: there is no such name,
+ *                                      and the wildcard answers. With rrsig_labels.
+ *   DENIAL_JUDGED_MAY_BE_UNSIGNED      the same, but the record has the flag of opt-out: the name may
+ *                                      be, or be below, an unsigned delegation. With rrsig_labels.
+ *   DENIAL_JUDGED_NOT_PROVEN           no record covers it, or one matches it; or rrsig_labels are fewer
+ *                                      than the labels of the apex, or not fewer than those of the name.
+ *   DENIAL_JUDGED_OUTSIDE_ZONE         the name is not at or below the apex.
+ *   DENIAL_JUDGED_TOO_MANY_ITERATIONS  the records have more iterations than the limit.
+ *
+ * No name is hashed but the next closer name. The same records are passed over as by
+ * denial_judge_nsec3. Takes memory as denial_judge_nsec does.
+ */
+uint32_t denial_judge_nsec3_expansion(const uint8_t *apex, size_t apex_length,
+                                      const uint8_t *name, size_t name_length,
+                                      uint8_t rrsig_labels, uint16_t rclass, uint16_t limit,
+                                      const uint8_t *records, size_t records_length,
+                                      size_t *labels);
 
 /*
  * What the NSEC records of the class prove of the one name and the one type. Takes no memory.
