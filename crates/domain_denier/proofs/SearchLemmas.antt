@@ -15,6 +15,7 @@ use Rattle.domain_checker.proofs.FindLemmas.{in_at}
 use Rattle.domain_checker.proofs.ListLemmas.{ChainLaws}
 use Rattle.domain_answer.proofs.ChainLemmas.{inside, meant_by}
 use Rattle.domain_denier.specs.Picked.{IsOf, IsWhole}
+use Rattle.domain_denier.specs.Search.{AreEnds, IsAhead, IsBehind}
 
 abbrev pub ends : Link → Name × Name
 ends k = (k.owner, k.next)
@@ -55,14 +56,6 @@ last_at (l ∷ n ∷ ls) (k ∷ m ∷ ks) a e (suc i) h d = last_at (n ∷ ls) (
 
 -- ---- the two ends of the search
 
--- the owner at the low end is not after x
-abbrev pub IsBehind : List Link → Name → ℕ → Type 0
-IsBehind links x low = (low ≡ 0) ⊎ ((d : Link) → before x (get_or links low d).owner ≡ false)
-
--- the owner at the high end is after x, where the list has one there
-abbrev pub IsAhead : List Link → Name → ℕ → Type 0
-IsAhead links x high = (high ≡ length links) ⊎ ((d : Link) → before x (get_or links high d).owner ≡ true)
-
 -- an owner that is not after x, with a next name that is, or with one that is not after the owner
 said : (o n : Name) (x : Name) → before x o ≡ false → (before x n ≡ true) ⊎ (before o n ≡ false) → matches_or_covers before o n x ≡ true
 said o n x low high = told (before o x) (before x o) (before o n) (before x n) low high
@@ -77,8 +70,19 @@ said o n x low high = told (before o x) (before x o) (before o n) (before x n) l
     told false true on xn e h = absurd (false≢true (sym e))
     told false false on xn e h = refl
 
-module _ (laws : ChainLaws) (links : List Link) (x : Name) (low high : ℕ) (within : low < high) (end : high ≤ length links)
-    (near : high - low ≤ 1) (behind : IsBehind links x low) (ahead : IsAhead links x high) where
+module _ (laws : ChainLaws) (links : List Link) (x : Name) (low high : ℕ) (ends : AreEnds links x low high) (near : high - low ≤ 1) where
+  within : low < high
+  within = ends.within
+
+  end : high ≤ length links
+  end = ends.inside
+
+  behind : IsBehind links x low
+  behind = ends.behind
+
+  ahead : IsAhead links x high
+  ahead = ends.ahead
+
   pub found : (L : List ZoneRecord) (a : Name) (config : GenerateNsecConfig) → IsWhole L a config links
       → is_at_or_below x a ≡ true → IsOf links low x
   found L a config whole under =

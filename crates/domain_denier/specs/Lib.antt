@@ -1,3 +1,4 @@
 pub mod HashedPicked
 pub mod HashedSteps
 pub mod Picked
+pub mod Search

@@ -9,7 +9,7 @@ use Rattle.domain_nsec.specs.Chain.{IsChain, Link}
 use Rattle.domain_nsec.specs.declared.config.GenerateNsecConfig.{GenerateNsecConfig}
 use Rattle.domain_answer.specs.Proved.{last_labels, LeavesOutBelowDname}
 use Rattle.domain_answer.specs.Reading.{reading}
-use Rattle.domain_answer.specs.ZoneAnswer.{is_at_parent, wildcard_below}
+use Rattle.domain_answer.specs.ZoneAnswer.{is_at_parent, wildcard_below, zone_answer}
 use Rattle.domain_answer.specs.declared.answer.Answer.TheVariants.{NoCloserName, NotProven}
 use Rattle.domain_denier.specs.declared.nsec.NsecDenial.{NsecDenial}
 
@@ -44,13 +44,17 @@ pub record IsWhole (L : List ZoneRecord) (a : Name) (config : GenerateNsecConfig
   pub order : OwnersNeverDescend L
   pub chain : IsChain L a config links
 
+-- of the chain of any zone that x lies in, the link at this place matches or covers x
+abbrev pub IsFound : List Link → ℕ → Name → Type 0
+IsFound links place x =
+    (L : List ZoneRecord) (a : Name) (config : GenerateNsecConfig) → IsWhole L a config links
+    → is_at_or_below x a ≡ true → IsOf links place x
+
 -- the record of the wildcard below the last labels of x, so many, was picked
 abbrev pub IsWildcardPicked : List Link → Name → ℕ → NsecDenial → Type 0
 IsWildcardPicked links x count d =
     (place : ℕ) × (d.of_wildcard ≡ Some place)
-    × ((L : List ZoneRecord) (a : Name) (config : GenerateNsecConfig) → IsWhole L a config links
-    → is_at_or_below (wildcard_below (last_labels count x)) a ≡ true
-    → IsOf links place (wildcard_below (last_labels count x)))
+    × IsFound links place (wildcard_below (last_labels count x))
 
 -- without the picked record of the name nothing is proved, and without that of the wildcard no more
 -- than that there is no such name
@@ -59,3 +63,15 @@ pub record AreNeeded (links : List Link) (a x : Name) (t : ℕ) (d : NsecDenial)
       → reading a (at_place links d.of_wildcard) x t ≡ NotProven
   pub wildcard : d.of_wildcard ≢ None
       → (n : ℕ) × (reading a (at_place links d.of_name) x t ≡ NoCloserName n)
+
+-- what is picked of links for a question about x and t, and what it proves
+pub record IsDenial (links : List Link) (a x : Name) (t : ℕ) (d : NsecDenial) : Type 0 where
+  -- of the chain of any zone, the answer is what that zone says
+  pub zone : (L : List ZoneRecord) (config : GenerateNsecConfig) → IsWhole L a config links
+      → d.answer ≡ zone_answer L a config.assume_dnskeys_will_be_added x t
+  -- and each record is needed
+  pub needed : (L : List ZoneRecord) (config : GenerateNsecConfig) → IsWhole L a config links
+      → AreNeeded links a x t d
+  -- of any chain, the records are there, and the answer is what `judge_nsec` says of them
+  pub there : AreThere links d
+  pub exact : d.answer ≡ reading a (picked links d) x t

@@ -1,18 +1,19 @@
 //! What is picked of an NSEC chain.
-ghost use Rattle.std.specs.Prelude.{◌≡◌, ◌<◌, ◌++◌, [], ℕ, List, None, Some, length};
-ghost use Rattle.domain_nsec.specs.declared.config.GenerateNsecConfig.{GenerateNsecConfig};
-ghost use Rattle.domain_zone.specs.Zone.{ZoneRecord};
+ghost use Rattle.std.specs.Prelude.{◌≡◌, ◌<◌, ◌++◌, [], None, Some, length, IfOk};
 ghost use Rattle.domain_answer.specs.Reading.{reading};
-ghost use Rattle.domain_answer.specs.ZoneAnswer.{zone_answer};
-ghost use Rattle.domain_denier.specs.Picked.{at_place, picked, AreNeeded, AreThere, IsWhole, IsWildcardPicked};
+ghost use Rattle.domain_denier.specs.Picked.{at_place, picked, AreThere, IsDenial, IsWildcardPicked};
 ghost use Rattle.domain_answer.specs.declared.answer.Answer.TheVariants.{NoCloserName};
 
+use crate::owner_keys::OwnerKeys;
 use crate::search::place_of;
 use domain_answer::{Answer, judge_nsec, laws, wildcard_of};
 use domain_base::{ParsedName, Rtype, ToName};
 use domain_nsec::NsecChain;
 use domain_nsec::laws::chains_mean_the_zone;
+use domain_octets::OutOfMemory;
 use domain_zone::MAX_NAME;
+use std::alloc::Global;
+use std::marker::Model;
 
 /// What a zone answers to a question, and the records of its NSEC chain that prove it, by their
 /// places in the chain (`NsecChain::lend`).
@@ -88,6 +89,7 @@ fn judge_both<A: ToName, N: ToName, M: ToName>(
 fn with_wildcard<A: ToName, N: ToName, M: ToName>(
     apex: &A,
     chain: &NsecChain<'_, N>,
+    keys: Option<&OwnerKeys>,
     name: &M,
     rtype: Rtype,
     place: usize,
@@ -107,11 +109,42 @@ fn with_wildcard<A: ToName, N: ToName, M: ToName>(
     let Some(wildcard) = wildcard_of(&mut buffer, name, count) else {
         unreachable!();
     };
-    let second = place_of(chain, &wildcard);
+    let second = place_of(chain, keys, &wildcard);
     NsecDenial {
         answer: judge_both(apex, chain, name, rtype, place, second),
         of_name: Some(place),
         of_wildcard: Some(second),
+    }
+}
+
+/// What is picked of a chain, by its keys where there are some.
+fn pick<A: ToName, N: ToName, M: ToName>(
+    apex: &A,
+    chain: &NsecChain<'_, N>,
+    keys: Option<&OwnerKeys>,
+    name: &M,
+    rtype: Rtype,
+) -> NsecDenial
+    ensures { IsDenial chain.now (A.labels apex.now) (M.labels name.now) rtype result }
+{
+    // By these laws what the records say is what the zone says, of a type of 16 bits.
+    laws::readings_are_proved();
+    laws::whole_chains_prove_all();
+    chains_mean_the_zone();
+    let _number = rtype.to_int();
+    if chain.is_empty() || !name.ends_with(apex) {
+        return judge_none(apex, name, rtype);
+    }
+    let place = place_of(chain, keys, name);
+    match judge_one(apex, chain, name, rtype, place) {
+        Answer::NoCloserName(count) => {
+            with_wildcard(apex, chain, keys, name, rtype, place, count)
+        }
+        answer => NsecDenial {
+            answer,
+            of_name: Some(place),
+            of_wildcard: None,
+        },
     }
 }
 
@@ -127,42 +160,61 @@ fn with_wildcard<A: ToName, N: ToName, M: ToName>(
 ///
 /// The chain is that of a zone, in which the names below an owner of a DNAME record are left out,
 /// or there are none (RFC 6672, section 2.4). Takes no memory, and compares some twenty names where
-/// the chain has a million.
+/// the chain has a million. Who asks often makes an `NsecDenier`, and asks that.
 pub fn deny_nsec<A: ToName, N: ToName, M: ToName>(
     apex: &A,
     chain: &NsecChain<'_, N>,
     name: &M,
     rtype: Rtype,
 ) -> NsecDenial
-    // Of the chain of any zone, the answer is what that zone says, and each record is needed.
-    ensures zone { (L : List ZoneRecord) (config : GenerateNsecConfig)
-        → IsWhole L (A.labels apex.now) config chain.now → result.answer
-        ≡ zone_answer L (A.labels apex.now) config.assume_dnskeys_will_be_added (M.labels name.now)
-        rtype }
-    ensures needed { (L : List ZoneRecord) (config : GenerateNsecConfig)
-        → IsWhole L (A.labels apex.now) config chain.now
-        → AreNeeded chain.now (A.labels apex.now) (M.labels name.now) rtype result }
-
-    // Of any chain, the records are there, and the answer is what `judge_nsec` says of them.
-    ensures there { AreThere chain.now result }
-    ensures exact { result.answer ≡ reading (A.labels apex.now) (picked chain.now result)
-        (M.labels name.now) rtype }
+    ensures { IsDenial chain.now (A.labels apex.now) (M.labels name.now) rtype result }
 {
-    // By these laws what the records say is what the zone says, of a type of 16 bits.
-    laws::readings_are_proved();
-    laws::whole_chains_prove_all();
-    chains_mean_the_zone();
-    let _number = rtype.to_int();
-    if chain.is_empty() || !name.ends_with(apex) {
-        return judge_none(apex, name, rtype);
+    pick(apex, chain, None, name, rtype)
+}
+
+/// The NSEC chain of a zone, to be asked often. Contracts see the links of the chain. Beside the
+/// chain, which it borrows, it keeps 16 octets for each record: the first letters of its owner as a
+/// number, all in one list, so that a search touches two or three names where it would touch twenty.
+#[derive(Drop)]
+pub struct NsecDenier<'c, 'a, N: ToName> {
+    chain: &'c NsecChain<'a, N>,
+    keys: OwnerKeys,
+}
+
+impl<'c, 'a, N: ToName> Model for NsecDenier<'c, 'a, N> {
+    ghost use Rattle.std.specs.Prelude.{List};
+    ghost use Rattle.domain_nsec.specs.Chain.{Link};
+
+    ghost Value = { List Link };
+
+    ghost view = { λ d. d.chain.now };
+}
+
+impl<'c, 'a, N: ToName> NsecDenier<'c, 'a, N> {
+    /// The chain with a number for each owner.
+    ///
+    /// # Errors
+    ///
+    /// `OutOfMemory` where there was no memory for 16 octets a record.
+    pub fn new(alloc: Global, chain: &'c NsecChain<'a, N>) -> Result<Self, OutOfMemory>
+        ensures { IfOk result (λ denier. denier ≡ chain.now) }
+    {
+        let keys = OwnerKeys::of(alloc, chain)?;
+        Ok(NsecDenier { chain, keys })
     }
-    let place = place_of(chain, name);
-    match judge_one(apex, chain, name, rtype, place) {
-        Answer::NoCloserName(count) => with_wildcard(apex, chain, name, rtype, place, count),
-        answer => NsecDenial {
-            answer,
-            of_name: Some(place),
-            of_wildcard: None,
-        },
+
+    /// The chain.
+    pub fn chain(&self) -> &'c NsecChain<'a, N>
+        ensures { result.now ≡ self.now }
+    {
+        self.chain
+    }
+
+    /// The records of the chain that a server answers a question about a name and a type with, and
+    /// what they prove: those of `deny_nsec`, found by fewer comparisons of names. Takes no memory.
+    pub fn deny<A: ToName, M: ToName>(&self, apex: &A, name: &M, rtype: Rtype) -> NsecDenial
+        ensures { IsDenial self.now (A.labels apex.now) (M.labels name.now) rtype result }
+    {
+        pick(apex, self.chain, Some(&self.keys), name, rtype)
     }
 }

@@ -1,12 +1,10 @@
 //! The record of a chain that says something of a name.
-ghost use Rattle.std.specs.Prelude.{◌≡◌, ◌<◌, List, length, true};
-ghost use Rattle.domain_base.specs.Name.{is_at_or_below};
+ghost use Rattle.std.specs.Prelude.{◌≡◌, ◌<◌, length, IsTrue};
 ghost use Rattle.domain_base.specs.Order.{before};
-ghost use Rattle.domain_base.specs.Words.{Name};
-ghost use Rattle.domain_nsec.specs.declared.config.GenerateNsecConfig.{GenerateNsecConfig};
-ghost use Rattle.domain_zone.specs.Zone.{ZoneRecord};
-ghost use Rattle.domain_denier.specs.Picked.{IsOf, IsWhole};
+ghost use Rattle.domain_denier.specs.Picked.{IsFound};
+ghost use Rattle.domain_denier.specs.Search.{AreEnds, IsAhead, IsBehind};
 
+use crate::owner_keys::OwnerKeys;
 use domain_base::ToName;
 use domain_nsec::{NsecChain, laws};
 
@@ -17,22 +15,103 @@ fn is_before<M: ToName, N: ToName>(name: &M, other: &N) -> bool
     name.name_cmp(other).is_lt()
 }
 
+/// The ends of a search: the record that it looks for stands at `low` or after it, and before
+/// `high`.
+#[derive(Clone, Copy)]
+struct Ends {
+    low: usize,
+    high: usize,
+}
+
+/// Ends that the keys of a chain suggest, or none in particular.
+fn suggested<M: ToName>(keys: Option<&OwnerKeys>, name: &M) -> Ends {
+    match keys {
+        Some(keys) => {
+            let (below, up_to) = keys.places_of(name);
+            Ends {
+                low: below.saturating_sub(1),
+                high: up_to,
+            }
+        }
+        None => Ends {
+            low: 0,
+            high: usize::MAX,
+        },
+    }
+}
+
+/// Whether a search may begin at a place: it is the first, or its owner is not after the name.
+fn is_behind<N: ToName, M: ToName>(chain: &NsecChain<'_, N>, place: usize, name: &M) -> bool
+    ensures { IsTrue result → IsBehind chain.now (M.labels name.now) place }
+{
+    if place == 0 {
+        return true;
+    }
+    match chain.owner(place) {
+        Some(owner) => !is_before(name, owner),
+        None => false,
+    }
+}
+
+/// Whether a search may end before a place: its owner is after the name.
+fn is_ahead<N: ToName, M: ToName>(chain: &NsecChain<'_, N>, place: usize, name: &M) -> bool
+    ensures inside { IsTrue result → place < length chain.now }
+    ensures ahead { IsTrue result → IsAhead chain.now (M.labels name.now) place }
+{
+    if place >= chain.len() {
+        return false;
+    }
+    match chain.owner(place) {
+        Some(owner) => is_before(name, owner),
+        None => false,
+    }
+}
+
+/// The suggested ends where they are right, and else those of the chain.
+fn tested<N: ToName, M: ToName>(chain: &NsecChain<'_, N>, near: Ends, name: &M) -> Ends
+    requires some { 0 < length chain.now }
+    ensures { AreEnds chain.now (M.labels name.now) result.low result.high }
+{
+    let low = if is_behind(chain, near.low, name) {
+        near.low
+    } else {
+        0
+    };
+    let high = if is_ahead(chain, near.high, name) {
+        near.high
+    } else {
+        chain.len()
+    };
+    if low < high {
+        Ends { low, high }
+    } else {
+        Ends {
+            low: 0,
+            high: chain.len(),
+        }
+    }
+}
+
 /// The place of the record that matches or covers a name: the last whose owner is not after it.
-pub(crate) fn place_of<N: ToName, M: ToName>(chain: &NsecChain<'_, N>, name: &M) -> usize
+/// Where there are keys, the search begins where they suggest, and is over after two comparisons of
+/// names where no two owners have one key.
+pub(crate) fn place_of<N: ToName, M: ToName>(
+    chain: &NsecChain<'_, N>,
+    keys: Option<&OwnerKeys>,
+    name: &M,
+) -> usize
     requires some { 0 < length chain.now }
     ensures inside { result < length chain.now }
-    ensures of_name { (L : List ZoneRecord) (a : Name) (config : GenerateNsecConfig)
-        → IsWhole L a config chain.now → is_at_or_below (M.labels name.now) a ≡ true → IsOf chain.now result (M.labels name.now) }
+    ensures of_name { IsFound chain.now result (M.labels name.now) }
 {
     laws::chains_mean_the_zone();
-    let mut low = 0;
-    let mut high = chain.len();
+    let Ends { mut low, mut high } = tested(chain, suggested(keys, name), name);
     'search: while high - low > 1 {
         let middle = low + (high - low) / 2;
-        let Some(listed) = chain.lend(middle) else {
+        let Some(owner) = chain.owner(middle) else {
             unreachable!();
         };
-        if is_before(name, listed.owner()) {
+        if is_before(name, owner) {
             high = middle;
         } else {
             low = middle;

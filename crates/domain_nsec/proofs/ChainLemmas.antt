@@ -65,6 +65,14 @@ pub lent_counted : {X : Type 0} (f : X → Name) (numbers : ApexSoa) (a : Name) 
     → length xs ≡ length bits → length (links_in numbers a (map f xs) bits) ≡ length xs
 lent_counted f numbers a xs bits even = let long = length-map xs f in links_counted numbers a (map f xs) bits (long ∙ even) ∙ long
 
+-- the owner of the link at a place
+pub owner_lent : {X : Type 0} (f : X → Name) (numbers : ApexSoa) (a : Name) (xs : List X) (bits : List (List ℕ)) (i : ℕ) (d : Link) (x : X)
+    → length xs ≡ length bits → i < length xs → x ≡ get_or xs i x → f x ≡ (get_or (links_in numbers a (map f xs) bits) i d).owner
+owner_lent f numbers a xs bits i d x even within owner =
+    let long = length-map xs f in
+    ap f owner ∙ sym (get_or-map f xs i x a within)
+    ∙ ap (λ k. k.owner) (link_at numbers a (map f xs) bits i d (long ∙ even) (omega (arith, long, within)))
+
 -- the link at a place has the names from there on, or the apex for a next one, and the bits there
 pub link_lent : {X : Type 0} (f : X → Name) (numbers : ApexSoa) (a : Name) (xs : List X) (bits : List (List ℕ)) (i : ℕ) (d : Link)
     (x : X) (next : Name) (types : List ℕ)

@@ -115,6 +115,18 @@ impl<'a, N: ToName> NsecChain<'a, N> {
         self.len() == 0
     }
 
+    /// The owner of the record at a place; None past the last one. Takes no memory.
+    pub fn owner(&self, place: usize) -> Option<&'a N>
+        ensures some { IfSome result (λ owner. (d : Link)
+            → N.labels owner.now ≡ (slice_index_or self.now place d).owner) }
+        ensures none { IfNone result (length self.now ≤ place) }
+    {
+        if place >= self.names.len() {
+            return None;
+        }
+        Some(self.names[place])
+    }
+
     /// The record at a place, in canonical order, which borrows from the chain; None past the last
     /// one. Takes no memory.
     pub fn lend(&self, place: usize) -> Option<LentNsec<'_>>

@@ -33,11 +33,11 @@
 mod arrange;
 mod error;
 mod group;
+mod key;
 pub mod laws;
 mod list;
 mod lookup;
 mod owner;
-mod owner_key;
 mod owner_order;
 mod owner_runs;
 mod rrset;
@@ -47,7 +47,8 @@ mod sorted;
 mod sorter;
 mod write;
 
-pub use error::{InsertError, Nsec3HashError, SigningError};
+pub use error::{InsertError, Nsec3HashError, SigningError, SortError};
+pub use key::owner_key;
 pub use owner::{OwnerRrs, RecordsIter};
 pub use rrset::{OwnerRrsIter, Rrset, RrsetIter};
 pub use slice::{RefSlice, SliceRefsOrOwned, SliceRefsOrOwnedIterator};

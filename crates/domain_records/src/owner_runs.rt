@@ -4,7 +4,7 @@ ghost use Rattle.std.specs.Prelude.{◌≡◌};
 ghost use Rattle.domain_plain.specs.Record.{record_cmp};
 ghost use Rattle.domain_records.specs.OwnerOrder.{compared_runs};
 
-use crate::owner_key::owner_key;
+use crate::key::owner_key;
 use crate::owner_order::{is_one_owner, item_at, rest_cmp};
 use crate::sorter::Sorter;
 use domain_base::{CanonicalOrd, ToName};

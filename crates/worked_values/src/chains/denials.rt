@@ -5,7 +5,7 @@ use crate::lines::{Answers, OwnName, input};
 use domain_base::ScanError;
 use domain_dnssec::{
     ChainError, DefaultSorter, GenerateNsec3Config, GenerateNsecConfig, Nsec3Chain, Nsec3Hasher,
-    NsecChain, deny_nsec, deny_nsec3,
+    NsecChain, NsecDenier, deny_nsec, deny_nsec3,
 };
 use std::alloc::Global;
 
@@ -47,9 +47,13 @@ fn deny_by_name(
     asked: &[&str],
     answers: &mut Answers,
 ) -> Result<(), ScanError> {
+    let denier = NsecDenier::new(alloc, chain)?;
     for words in asked.split(|word| *word == "/") {
         let (name, rtype) = question(alloc, words)?;
-        let denial = deny_nsec(apex, chain, &name, rtype);
+        let denial = denier.deny(apex, &name, rtype);
+        if denial != deny_nsec(apex, chain, &name, rtype) {
+            answers.debug("not as without keys", &denial);
+        }
         answers.debug("answer", &denial.answer);
         add_owner("name", chain, denial.of_name, answers);
         add_owner("wildcard", chain, denial.of_wildcard, answers);

@@ -7,5 +7,5 @@ returns-clause-of_name g c =
     let laws = c.chains_mean_the_zone.ensures in
     found
     (record { cycle = laws.cycle; denial = laws.denial; nonterminals = laws.nonterminals; enclosers = laws.enclosers; occluded = laws.occluded })
-    c.args.chain.now (g.M.ToName.labels c.args.name.now) c.search.low c.search.high c.search.invariant.0 c.search.invariant.1
-    (omega (arith, c.search-test.false, c.search.invariant.0)) c.search.invariant.2 c.search.invariant.3
+    c.args.chain.now (g.M.ToName.labels c.args.name.now) c.search.low c.search.high c.search.invariant
+    (omega (arith, c.search-test.false, c.search.invariant.within))

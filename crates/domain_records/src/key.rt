@@ -23,9 +23,11 @@ fn with_label(key: u128, label: &[u8]) -> u128 {
     })
 }
 
-/// The first 21 digits of a name's labels, from the last on, below the first `shared` labels from
-/// the root.
-pub(crate) fn owner_key<N: ToName>(name: &N, shared: usize) -> u128 {
+/// A number for a name: the first 21 digits, of six bits each, of its labels, from the last on, below
+/// the first `shared` labels from the root. Names in canonical order that share these labels have
+/// keys that do not descend. That is a hint, which no clause states: who searches or sorts by keys
+/// tests with the names what they suggest.
+pub fn owner_key<N: ToName>(name: &N, shared: usize) -> u128 {
     let below = name.count_labels().saturating_sub(shared);
     name.labels().take(below).fold(0, with_label)
 }
