@@ -2,12 +2,13 @@
 use Rattle.std.proofs.Common.{◌≡◌, ◌⊎◌, true, false, List, refl, sym, subst, inl, inr, Result, Ok, Err, IfErr, IsErrOf, OnOk}
 use Rattle.std.specs.Result.{IsErrAnd}
 use Rattle.domain_dnssec.specs.declared.chain.ChainError.{ChainError}
-use Rattle.domain_dnssec.specs.declared.chain.ChainError.TheVariants.{MixedClasses, Signing, OutOfMemory}
+use Rattle.domain_dnssec.specs.declared.chain.ChainError.TheVariants.{MixedClasses, Sort, Signing, OutOfMemory}
 use Rattle.domain_octets.specs.Words.{Octets}
 use Rattle.domain_base.specs.Words.{Name}
 use Rattle.domain_nsec3.specs.View.{HasherAnswer, config_of, hash_by, parameters_of}
 use Rattle.domain_nsec3.specs.declared.config.GenerateNsec3Config.{GenerateNsec3Config}
 use Rattle.domain_lent.specs.Data.{RawRecord, data_cmp, minimum_of}
+use Rattle.domain_records.specs.Errors.{sort_error}
 use Rattle.domain_records.specs.Order.{IsOneClass}
 use Rattle.domain_dnssec.proofs.KeptLemmas.{classes_kept}
 use Rattle.denial_program.specs.Answer.{fault_of_chain, usual_nsec3_config, HasNoAnswer, HasNoNsecs, HasNoNsec3s, IsAnswer, IsNsecs, IsNsec3s, IsUnwritten, Sorts}
@@ -34,6 +35,7 @@ usual_is answers config p params assumed excluded kept = λ i. record {
 -- a fault of a chain is none of the device
 chain_no_write : (e : ChainError) → fault_of_chain e ≡ Write → ⊥
 chain_no_write MixedClasses is = cc
+chain_no_write (Sort e) is = cc
 chain_no_write (Signing e) is = cc
 chain_no_write OutOfMemory is = cc
 
@@ -72,7 +74,7 @@ pub nsecs_unwritten : {X : Type 0} (given : List RawRecord) (apex : Name) (x : A
 nsecs_unwritten given apex x is (Ok y) h = tt
 nsecs_unwritten given apex x is (Err e) (inl w) = inl (w, (x, is))
 nsecs_unwritten given apex x is (Err e) (inr m) = inr (record {
-  error = OutOfMemory;
+  error = Sort sort_error;
   is = m;
   none = given_one_class given is.chain.sorted is.chain.sorts is.chain.chain.one_class;
 })
@@ -83,7 +85,7 @@ pub nsec3s_unwritten : {X : Type 0} (answers : HasherAnswer) (given : List RawRe
 nsec3s_unwritten answers given apex p x is (Ok y) h = tt
 nsec3s_unwritten answers given apex p x is (Err e) (inl w) = inl (w, (x, is))
 nsec3s_unwritten answers given apex p x is (Err e) (inr m) = inr (record {
-  error = OutOfMemory;
+  error = Sort sort_error;
   is = m;
   none = given_one_class given is.chain.sorted is.chain.sorts is.chain.chain.one_class;
 })
@@ -98,11 +100,11 @@ pub nsecs_want_memory : {X : Type 0} (given sorted : List RawRecord) (apex : Nam
     → (r : Result X DenialFault) → IsErrAnd r (λ f. f ≡ NoMemory) → IfErr r (IsUnwritten (IsNsecs given apex) (HasNoNsecs given apex))
 nsecs_want_memory given sorted apex sorts one r h =
     if_err_of (IsUnwritten (IsNsecs given apex) (HasNoNsecs given apex)) NoMemory r h
-    (inr (record { error = OutOfMemory; is = refl; none = given_one_class given sorted sorts one }))
+    (inr (record { error = Sort sort_error; is = refl; none = given_one_class given sorted sorts one }))
 
 pub nsec3s_want_memory : {X : Type 0} (answers : HasherAnswer) (given sorted : List RawRecord) (apex : Name) (p : Params)
     → Sorts given sorted → IsOneClass sorted → (r : Result X DenialFault) → IsErrAnd r (λ f. f ≡ NoMemory)
     → IfErr r (IsUnwritten (IsNsec3s answers given apex p) (HasNoNsec3s answers given apex p))
 nsec3s_want_memory answers given sorted apex p sorts one r h =
     if_err_of (IsUnwritten (IsNsec3s answers given apex p) (HasNoNsec3s answers given apex p)) NoMemory r h
-    (inr (record { error = OutOfMemory; is = refl; none = given_one_class given sorted sorts one }))
+    (inr (record { error = Sort sort_error; is = refl; none = given_one_class given sorted sorts one }))

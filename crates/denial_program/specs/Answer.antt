@@ -31,6 +31,7 @@ Sorts = any_order.Sorts (λ n. n) (λ d. d.rtype) data_cmp
 -- what the program says where there is no chain
 abbrev pub fault_of_chain : ChainError → DenialFault
 fault_of_chain chain_error.MixedClasses = MixedClasses
+fault_of_chain (chain_error.Sort e) = OutOfMemory
 fault_of_chain (chain_error.Signing e) = Signing e
 fault_of_chain chain_error.OutOfMemory = OutOfMemory
 

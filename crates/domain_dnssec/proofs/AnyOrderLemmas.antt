@@ -14,9 +14,8 @@ use Rattle.domain_records.specs.declared.error.SigningError.{SigningError}
 use Rattle.domain_records.specs.declared.error.SigningError.TheVariants.{EmptyRecordSlice, MultipleTtlValues, SoaRecordCouldNotBeDetermined}
 use Rattle.domain_records.specs.declared.error.SigningError.TheVariants.{Nsec3HashingError, OutOfMemory as NoMemory}
 use Rattle.domain_zone.specs.View.{zone_of}
-use Rattle.domain_dnssec.proofs.KeptLemmas.{classes_kept}
 use Rattle.domain_dnssec.specs.declared.chain.ChainError.{ChainError}
-use Rattle.domain_dnssec.specs.declared.chain.ChainError.TheVariants.{MixedClasses, Signing, OutOfMemory}
+use Rattle.domain_dnssec.specs.declared.chain.ChainError.TheVariants.{MixedClasses, Sort, Signing, OutOfMemory}
 
 pub if_ok : {X E : Type 0} (P Q : X → Type 0) → ((x : X) → P x → Q x) → (r : Result X E) → IfOk r P → IfOk r Q
 if_ok P Q f (Ok x) h = f x h
@@ -53,25 +52,29 @@ module _ {N D : Type 0} (labels : N → Name) (rtype_of : D → ℕ) (minimum_of
   pub no_set : (config : GenerateNsecConfig) (e : ChainError) → HasNoSet given e
       → HasNoChain labels rtype_of minimum_of data_cmp given apex config e
   no_set config MixedClasses h = h
+  no_set config (Sort e) h = h
   no_set config (Signing e) h = absurd h
-  no_set config OutOfMemory h = h
+  no_set config OutOfMemory h = absurd h
 
   pub no_hashed_set : (config : ChainConfig) (e : ChainError) → HasNoSet given e
       → HasNoHashedChain labels rtype_of minimum_of data_cmp given apex config e
   no_hashed_set config MixedClasses h = h
+  no_hashed_set config (Sort e) h = h
   no_hashed_set config (Signing e) h = absurd h
-  no_hashed_set config OutOfMemory h = h
+  no_hashed_set config OutOfMemory h = absurd h
 
   -- nor has it where the sorted set has none
   module _ (sorted : List (Record N D)) (sorts : Sorts labels rtype_of data_cmp given sorted) (one : IsOneClass sorted) where
     pub no_chain : (config : GenerateNsecConfig) (e : ChainError) → HasNoSortedChain labels rtype_of minimum_of sorted apex config e
         → HasNoChain labels rtype_of minimum_of data_cmp given apex config e
     no_chain config MixedClasses h = absurd h
+    no_chain config (Sort e) h = absurd h
     no_chain config (Signing e) h = record { sorted = sorted; sorts = sorts; fault = h }
-    no_chain config OutOfMemory h = (classes_kept labels rtype_of minimum_of data_cmp given sorted sorts).0 one
+    no_chain config OutOfMemory h = record { sorted = sorted; sorts = sorts; one_class = one; faultless = h }
 
     pub no_hashed_chain : (config : ChainConfig) (e : ChainError) → HasNoSortedHashedChain labels rtype_of minimum_of sorted apex config e
         → HasNoHashedChain labels rtype_of minimum_of data_cmp given apex config e
     no_hashed_chain config MixedClasses h = absurd h
+    no_hashed_chain config (Sort e) h = absurd h
     no_hashed_chain config (Signing e) h = record { sorted = sorted; sorts = sorts; fault = h }
-    no_hashed_chain config OutOfMemory h = (classes_kept labels rtype_of minimum_of data_cmp given sorted sorts).0 one
+    no_hashed_chain config OutOfMemory h = record { sorted = sorted; sorts = sorts; one_class = one; ready = h }

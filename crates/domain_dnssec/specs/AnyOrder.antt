@@ -12,7 +12,7 @@ use Rattle.domain_nsec.specs.Chain.{Link, IsChain, IsFaultless, IsFirstFault}
 use Rattle.domain_zone.specs.View.{zone_of}
 use Rattle.domain_nsec.specs.declared.config.GenerateNsecConfig.{GenerateNsecConfig}
 use Rattle.domain_dnssec.specs.declared.chain.ChainError.{ChainError}
-use Rattle.domain_dnssec.specs.declared.chain.ChainError.TheVariants.{MixedClasses, Signing, OutOfMemory}
+use Rattle.domain_dnssec.specs.declared.chain.ChainError.TheVariants.{MixedClasses, Sort, Signing, OutOfMemory}
 
 -- a fault of a zone as the reason why records have no chain
 abbrev pub chain_error_of : SigningError → ChainError
@@ -27,12 +27,13 @@ chain_error_of signing_error.OutOfMemory = OutOfMemory
 abbrev pub AreMixed : {N D : Type 0} → List (Record N D) → Type 0
 AreMixed given = IsOneClass given → ⊥
 
--- why the given records have no sorted set of one class; want of memory leaves open which fault of
--- their zone stands, since that shows only when they are sorted
+-- why the given records have no sorted set of one class; where there was no memory to sort them, it
+-- is open which fault of their zone stands, since that shows only when they are sorted
 abbrev pub HasNoSet : {N D : Type 0} → List (Record N D) → ChainError → Type 0
 HasNoSet given MixedClasses = AreMixed given
+HasNoSet given (Sort e) = IsOneClass given
 HasNoSet given (Signing e) = ⊥
-HasNoSet given OutOfMemory = IsOneClass given
+HasNoSet given OutOfMemory = ⊥
 
 module _ {N D : Type 0} (labels : N → Name) (rtype_of : D → ℕ) (minimum_of : D → Option ℕ) where
   -- sorted records are of one class, and this is the chain of their zone
@@ -51,6 +52,7 @@ module _ {N D : Type 0} (labels : N → Name) (rtype_of : D → ℕ) (minimum_of
   -- why sorted records of one class have no chain; want of memory says that their zone has no fault
   abbrev pub HasNoSortedChain : List (Record N D) → Name → GenerateNsecConfig → ChainError → Type 0
   HasNoSortedChain sorted apex config MixedClasses = ⊥
+  HasNoSortedChain sorted apex config (Sort e) = ⊥
   HasNoSortedChain sorted apex config (Signing e) = IsSortedFault sorted apex config e
   HasNoSortedChain sorted apex config OutOfMemory =
       IsFaultless (zone_of labels rtype_of minimum_of sorted) apex config
@@ -76,8 +78,17 @@ module _ {N D : Type 0} (labels : N → Name) (rtype_of : D → ℕ) (minimum_of
     pub sorts : Sorts labels rtype_of data_cmp given sorted
     pub fault : IsSortedFault labels rtype_of minimum_of sorted apex config error
 
+  -- the given records are of one class, and their zone has no fault
+  pub record IsFaultlessOf (given : List (Record N D)) (apex : Name) (config : GenerateNsecConfig)
+      : Type 0 where
+    pub sorted : List (Record N D)
+    pub sorts : Sorts labels rtype_of data_cmp given sorted
+    pub one_class : IsOneClass sorted
+    pub faultless : IsFaultless (zone_of labels rtype_of minimum_of sorted) apex config
+
   -- why the given records have no chain
   abbrev pub HasNoChain : List (Record N D) → Name → GenerateNsecConfig → ChainError → Type 0
   HasNoChain given apex config MixedClasses = AreMixed given
+  HasNoChain given apex config (Sort e) = IsOneClass given
   HasNoChain given apex config (Signing e) = IsFaultOf given apex config e
-  HasNoChain given apex config OutOfMemory = IsOneClass given
+  HasNoChain given apex config OutOfMemory = IsFaultlessOf given apex config

@@ -13,7 +13,7 @@ use Rattle.domain_zone.specs.View.{zone_of}
 use Rattle.domain_nsec3.specs.declared.config.Nsec3ParamTtlMode.{Nsec3ParamTtlMode}
 use Rattle.domain_dnssec.specs.AnyOrder.{AreMixed, Sorts}
 use Rattle.domain_dnssec.specs.declared.chain.ChainError.{ChainError}
-use Rattle.domain_dnssec.specs.declared.chain.ChainError.TheVariants.{MixedClasses, Signing, OutOfMemory}
+use Rattle.domain_dnssec.specs.declared.chain.ChainError.TheVariants.{MixedClasses, Sort, Signing, OutOfMemory}
 
 module _ {N D : Type 0} (labels : N → Name) (rtype_of : D → ℕ) (minimum_of : D → Option ℕ) where
   -- sorted records are of one class, and these are the chain and the NSEC3PARAM record of their
@@ -36,6 +36,7 @@ module _ {N D : Type 0} (labels : N → Name) (rtype_of : D → ℕ) (minimum_of
   -- but, where it has one, a fault of hashing
   abbrev pub HasNoSortedHashedChain : List (Record N D) → Name → ChainConfig → ChainError → Type 0
   HasNoSortedHashedChain sorted apex config MixedClasses = ⊥
+  HasNoSortedHashedChain sorted apex config (Sort e) = ⊥
   HasNoSortedHashedChain sorted apex config (Signing e) = IsSortedHashedFault sorted apex config e
   HasNoSortedHashedChain sorted apex config OutOfMemory =
       IsReady (zone_of labels rtype_of minimum_of sorted) apex config
@@ -57,9 +58,19 @@ module _ {N D : Type 0} (labels : N → Name) (rtype_of : D → ℕ) (minimum_of
     pub sorts : Sorts labels rtype_of data_cmp given sorted
     pub fault : IsSortedHashedFault labels rtype_of minimum_of sorted apex config error
 
+  -- the given records are of one class, and their zone has no fault but, where it has one, a fault of
+  -- hashing
+  pub record IsReadyOf (given : List (Record N D)) (apex : Name) (config : ChainConfig) : Type 0
+    where
+      pub sorted : List (Record N D)
+      pub sorts : Sorts labels rtype_of data_cmp given sorted
+      pub one_class : IsOneClass sorted
+      pub ready : IsReady (zone_of labels rtype_of minimum_of sorted) apex config
+
   -- why the given records have no chain
   abbrev pub HasNoHashedChain : List (Record N D) → Name → ChainConfig
       → ChainError → Type 0
   HasNoHashedChain given apex config MixedClasses = AreMixed given
+  HasNoHashedChain given apex config (Sort e) = IsOneClass given
   HasNoHashedChain given apex config (Signing e) = IsHashedFaultOf given apex config e
-  HasNoHashedChain given apex config OutOfMemory = IsOneClass given
+  HasNoHashedChain given apex config OutOfMemory = IsReadyOf given apex config

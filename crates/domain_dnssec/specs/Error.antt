@@ -64,6 +64,7 @@ of_hashing hash_error.OutOfMemory = variant.OutOfMemory
 
 abbrev pub of_chain : ChainError → Error
 of_chain chain_error.MixedClasses = variant.MixedClasses
+of_chain (chain_error.Sort error) = variant.OutOfMemory
 of_chain (chain_error.Signing error) = of_signing error
 of_chain chain_error.OutOfMemory = variant.OutOfMemory
 

@@ -9,6 +9,7 @@ use Rattle.domain_dnssec.specs.declared.error.Error.TheVariants as variant
 
 abbrev pub chain_error_text : ChainError → Octets
 chain_error_text chain_error.MixedClasses = codes "more than one class"
+chain_error_text (chain_error.Sort e) = codes "out of memory"
 chain_error_text (chain_error.Signing e) = signing_error_text e
 chain_error_text chain_error.OutOfMemory = codes "out of memory"
 

@@ -18,7 +18,7 @@ use std::alloc::Global;
 ///
 /// # Errors
 ///
-/// `MixedClasses` where the records are not of one class, and else `OutOfMemory`.
+/// `MixedClasses` where the records are not of one class, and else `Sort`.
 pub(crate) fn sort_one_class<N: ToName, D: ZoneData + CanonicalOrd>(
     records: Vec<Record<N, D>>,
 ) -> Result<SortedRecords<N, D>, ChainError>
@@ -71,8 +71,8 @@ where
 /// # Errors
 ///
 /// The first that stands: `MixedClasses` where the records are not of one class; `Signing` with the
-/// first fault of the zone; and `OutOfMemory`, which leaves open whether there is such a fault: that
-/// shows only when the records are sorted.
+/// first fault of the zone; and `OutOfMemory`, only where it has none. Before a fault of the zone is
+/// known, `Sort` where there was no memory to sort them, which only the sort answers.
 pub fn generate_nsecs_of_records<O, N: MakeName, D: ZoneData + CanonicalOrd>(
     alloc: Global,
     apex: &N,

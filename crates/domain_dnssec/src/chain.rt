@@ -4,8 +4,7 @@ ghost use Rattle.domain_dnssec.specs.AnyOrder.{chain_error_of};
 ghost use Rattle.domain_dnssec.specs.ErrorText.{chain_error_text};
 ghost use Rattle.domain_dnssec.specs.declared.chain.ChainError.TheVariants as chain_error;
 
-use domain_octets::OutOfMemory;
-use domain_records::SigningError;
+use domain_records::{SigningError, SortError};
 use std::error::Error;
 use std::fmt;
 
@@ -15,9 +14,13 @@ use std::fmt;
 pub enum ChainError {
     /// The records are of more than one class.
     MixedClasses,
+    /// There was no memory to sort the records, which are of one class. Whether their zone has a
+    /// fault shows only when they are sorted.
+    Sort(SortError),
     /// The first fault of their zone, which is never want of memory.
     Signing(SigningError),
-    /// There was no memory.
+    /// There was no memory for the chain. The zone of the records has no fault, unless a name of an
+    /// NSEC3 chain can't be hashed.
     OutOfMemory,
 }
 
@@ -27,6 +30,7 @@ impl fmt::Display for ChainError {
     fn fmt<W: fmt::Write>(&self, f: &mut fmt::Formatter<W>) -> fmt::Result {
         match self {
             ChainError::MixedClasses => f.write_str("more than one class"),
+            ChainError::Sort(error) => write!(f, "{error}"),
             ChainError::Signing(error) => write!(f, "{error}"),
             ChainError::OutOfMemory => f.write_str("out of memory"),
         }
@@ -47,10 +51,10 @@ impl From<SigningError> for ChainError {
     }
 }
 
-impl From<OutOfMemory> for ChainError {
-    ghost from_gives = { λ _ e. e ≡ chain_error.OutOfMemory };
+impl From<SortError> for ChainError {
+    ghost from_gives = { λ source e. e ≡ chain_error.Sort source };
 
-    fn from(_error: OutOfMemory) -> ChainError {
-        ChainError::OutOfMemory
+    fn from(error: SortError) -> ChainError {
+        ChainError::Sort(error)
     }
 }

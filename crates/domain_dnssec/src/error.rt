@@ -9,7 +9,7 @@ use domain_base::{NameError, ParseError, ScanError};
 use domain_bitmap::{Nsec3SaltError, Nsec3SaltFromStrError, OwnerHashError, RtypeBitmapError};
 use domain_octets::{AppendError, DecodeError, OutOfMemory};
 use domain_plain::LongRecordData;
-use domain_records::{InsertError, Nsec3HashError, SigningError};
+use domain_records::{InsertError, Nsec3HashError, SigningError, SortError};
 use domain_rrsig::IllegalSignatureTime;
 use domain_zone::HasherError;
 use std::alloc::{AllocError, AllocFailed};
@@ -235,9 +235,18 @@ impl From<ChainError> for Error {
     fn from(error: ChainError) -> Error {
         match error {
             ChainError::MixedClasses => Error::MixedClasses,
+            ChainError::Sort(error) => Error::from(error),
             ChainError::Signing(error) => Error::from(error),
             ChainError::OutOfMemory => Error::OutOfMemory,
         }
+    }
+}
+
+impl From<SortError> for Error {
+    ghost from_gives = { λ _ e. e ≡ variant.OutOfMemory };
+
+    fn from(_error: SortError) -> Error {
+        Error::OutOfMemory
     }
 }
 

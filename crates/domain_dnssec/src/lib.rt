@@ -33,7 +33,7 @@ pub use domain_base::{
 };
 pub use domain_bitmap::{RtypeBitmap, RtypeBitmapBuilder, RtypeBitmaps};
 pub use domain_checker::{NsecCheck, Verdict, check_nsec, check_nsec3};
-pub use domain_denier::{Nsec3Denial, NsecDenial, deny_nsec, deny_nsec3};
+pub use domain_denier::{Nsec3Denial, NsecDenial, NsecDenier, deny_nsec, deny_nsec3};
 pub use domain_nsec::{GenerateNsecConfig, LentNsec, NsecChain, generate_nsecs};
 pub use domain_nsec3::{
     GenerateNsec3Config, HashedOwner, LentNsec3, Nsec3Chain, Nsec3ParamTtlMode, Nsec3Records,
@@ -47,7 +47,7 @@ pub use domain_plain::{LongRecordData, Record, ZoneData};
 pub use domain_rdata::{Nsec, Nsec3, Nsec3param, ZoneRecordData};
 pub use domain_records::{
     DefaultSorter, InPlaceSorter, InsertError, Nsec3HashError, OwnerRrs, RecordsIter, SigningError,
-    SortedRecords, Sorter,
+    SortError, SortedRecords, Sorter,
 };
 pub use domain_zone::{
     ApexSoa, HasherError, Nsec3Hasher, UnoccludedOwner, UnoccludedOwners, find_soa,

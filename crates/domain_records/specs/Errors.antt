@@ -1,6 +1,7 @@
--- What a refusal of hashing is to those who sign.
+-- What a refusal of hashing is to those who sign, and a refusal to sort.
 use Rattle.domain_records.specs.declared.error.SigningError.{SigningError}
 use Rattle.domain_records.specs.declared.error.SigningError.TheVariants as signing_error
+use Rattle.domain_records.specs.declared.error.SortError.{SortError}
 use Rattle.domain_records.specs.declared.error.Nsec3HashError.{Nsec3HashError}
 use Rattle.domain_records.specs.declared.error.Nsec3HashError.TheVariants.{Hasher, AppendError, OwnerHashError}
 use Rattle.domain_records.specs.declared.error.Nsec3HashError.TheVariants.{Nsec3NameTooLong, CollisionDetected, OutOfMemory}
@@ -13,3 +14,7 @@ signing_error_of OwnerHashError = signing_error.Nsec3HashingError OwnerHashError
 signing_error_of Nsec3NameTooLong = signing_error.Nsec3HashingError Nsec3NameTooLong
 signing_error_of CollisionDetected = signing_error.Nsec3HashingError CollisionDetected
 signing_error_of OutOfMemory = signing_error.OutOfMemory
+
+-- the one value of its type
+abbrev pub sort_error : SortError
+sort_error = record { reason = record {} }

@@ -1,5 +1,5 @@
 //! Why records were not put in, signed or hashed.
-ghost use Rattle.std.specs.Prelude.{◌≡◌, Some};
+ghost use Rattle.std.specs.Prelude.{◌≡◌, Some, codes};
 ghost use Rattle.domain_records.specs.declared.error.SigningError.TheVariants as signing_error;
 ghost use Rattle.domain_records.specs.declared.error.Nsec3HashError.TheVariants as nsec3_hash_error;
 ghost use Rattle.domain_records.specs.Edits.{refused};
@@ -11,6 +11,30 @@ use domain_plain::Record;
 use std::alloc::{AllocError, AllocFailed};
 use std::error::Error;
 use std::fmt;
+
+/// Records were not sorted, since there was no memory for it. Only this crate makes it, so that
+/// whoever has one has seen a sort refused.
+#[derive(Clone, Copy, Debug, PartialEq, Eq)]
+pub struct SortError {
+    reason: OutOfMemory,
+}
+
+impl SortError {
+    /// That there was no memory to sort records.
+    pub(crate) fn new(reason: OutOfMemory) -> Self {
+        SortError { reason }
+    }
+}
+
+impl fmt::Display for SortError {
+    ghost output = { λ _. Some (codes "out of memory") };
+
+    fn fmt<W: fmt::Write>(&self, f: &mut fmt::Formatter<W>) -> fmt::Result {
+        f.write_str("out of memory")
+    }
+}
+
+impl Error for SortError {}
 
 /// Why a chain of hashed names was not made (RFC 5155, section 7.1).
 #[derive(Clone, Copy, Debug, PartialEq, Eq)]

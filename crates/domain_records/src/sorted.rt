@@ -17,7 +17,7 @@ ghost use Rattle.domain_records.specs.Runs.{runs};
 ghost use Rattle.domain_records.specs.Order.{IsOneClass, IsInOrder};
 ghost use Rattle.domain_records.specs.SortedSet.{IsUnion, Adds, Holds};
 
-use crate::error::{InsertError, SigningError};
+use crate::error::{InsertError, SigningError, SortError};
 use crate::list::{append, clone_all, first_match, search};
 use crate::lookup::{Wanted, first_of_type, first_place, is_wanted, rrset_at};
 use crate::owner::RecordsIter;
@@ -80,15 +80,15 @@ impl<N: ToName, D: RecordData + CanonicalOrd, Sort: Sorter> SortedRecords<N, D, 
     ///
     /// # Errors
     ///
-    /// `OutOfMemory` where there was no memory, or where the sorter answers it.
-    pub fn from_vec(mut records: Vec<Record<N, D>>) -> Result<Self, OutOfMemory>
+    /// `SortError` where there was no memory, or where the sorter answers that.
+    pub fn from_vec(mut records: Vec<Record<N, D>>) -> Result<Self, SortError>
     where
         N: Drop,
         D: Drop,
         ensures { IfOk result (IsUnion Sort.is_stable (record_cmp N.labels D.rtype D.canonical_cmp)
             records.items) }
     {
-        sort_and_dedup::<N, D, Sort>(&mut records)?;
+        sort_and_dedup::<N, D, Sort>(&mut records).map_err(SortError::new)?;
         Ok(SortedRecords {
             records,
             sorter: PhantomData,

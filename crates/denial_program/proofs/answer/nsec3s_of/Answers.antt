@@ -4,7 +4,8 @@ use Rattle.domain_nsec3.specs.Chain.{IsChainParam, IsHashedChain}
 use Rattle.domain_nsec3.specs.Faults.{IsFirstFault, IsReady}
 use Rattle.domain_nsec3.specs.View.{config_of}
 use Rattle.domain_nsec3.specs.declared.config.Nsec3ParamTtlMode.TheVariants.{Soa}
-use Rattle.domain_dnssec.specs.declared.chain.ChainError.TheVariants.{Signing, OutOfMemory}
+use Rattle.domain_records.specs.Errors.{sort_error}
+use Rattle.domain_dnssec.specs.declared.chain.ChainError.TheVariants.{Signing, Sort}
 use Rattle.domain_lent.specs.Data.{minimum_of, RawRecord}
 use Rattle.denial_program.specs.Answer.{usual_nsec3_config}
 use Rattle.denial_program.proofs.AnswerLemmas.{given_one_class, usual_is}
@@ -68,7 +69,7 @@ returns g c =
 
 pub returns-in-Err-OutOfMemory-clause-err : goal.returns-in-Err-OutOfMemory-clause-err
 returns-in-Err-OutOfMemory-clause-err g c = λ given sorts. record {
-  error = OutOfMemory;
+  error = Sort sort_error;
   is = refl;
   none = given_one_class given c.args.sorted.now sorts c.requires.one_class;
 }

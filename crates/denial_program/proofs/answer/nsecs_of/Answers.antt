@@ -1,7 +1,8 @@
 use Rattle.std.proofs.Common.{List, refl, rules, subst}
 use Rattle.domain_zone.specs.View.{zone_of}
 use Rattle.domain_nsec.specs.Chain.{usual_config, IsChain, IsFaultless, IsFirstFault}
-use Rattle.domain_dnssec.specs.declared.chain.ChainError.TheVariants.{Signing, OutOfMemory}
+use Rattle.domain_records.specs.Errors.{sort_error}
+use Rattle.domain_dnssec.specs.declared.chain.ChainError.TheVariants.{Signing, Sort}
 use Rattle.domain_lent.specs.Data.{minimum_of, RawRecord}
 use Rattle.denial_program.proofs.AnswerLemmas.{given_one_class}
 use Rattle.denial_program.proofs.answer.nsecs_of.Goals as goal
@@ -47,7 +48,7 @@ returns-in-Err c = record {
 
 pub returns-in-Err-OutOfMemory-clause-err : goal.returns-in-Err-OutOfMemory-clause-err
 returns-in-Err-OutOfMemory-clause-err c = λ given sorts. record {
-  error = OutOfMemory;
+  error = Sort sort_error;
   is = refl;
   none = given_one_class given c.args.sorted.now sorts c.requires.one_class;
 }
