@@ -5,35 +5,16 @@
 //! writer. `main` hands in those of the process.
 #![tactic(auto)]
 
-use denial_program::DenialFault;
+use denial_program::{BUFFER, DenialFault, words_of};
 use lint_program::{LintFault, Outcome, run_lint};
-use std::alloc::Global;
-use std::io::{BufReader, BufWriter, ErrorKind};
+use std::io;
+use std::io::{BufReader, BufWriter};
 use std::process::ExitCode;
-use std::{env, io};
-
-/// The octets that are read or written at a time.
-const BUFFER: usize = 65536;
-
-/// Why the process's words were not read: other than for want of memory, one of them is no text,
-/// and so they ask for nothing.
-fn fault_of_words(error: &io::Error) -> DenialFault {
-    match error.kind() {
-        ErrorKind::OutOfMemory => DenialFault::OutOfMemory,
-        _ => DenialFault::Usage,
-    }
-}
 
 /// The run over the words after the program's name, and the process's own input and output.
 fn start(rt: &HostRuntime) -> Result<Outcome, DenialFault> {
     let alloc = rt.alloc();
-    let mut words = Vec::new(alloc);
-    for word in env::args(rt)
-        .map_err(|error| fault_of_words(&error))?
-        .skip(1)
-    {
-        words.push(word)?;
-    }
+    let words = words_of(rt)?;
     let mut input = BufReader::with_capacity(alloc, BUFFER, rt.reader()).map_err(
         |_| DenialFault::OutOfMemory,
     )?;

@@ -13,6 +13,7 @@ mod command;
 mod fault;
 mod last_owner;
 mod line;
+mod process;
 mod program;
 mod verdict_text;
 
@@ -20,4 +21,5 @@ pub use check::chain_of;
 pub use command::{Question, question_of};
 pub use fault::{DenialFault, fault_of};
 pub use line::{ZoneName, ZoneOctets};
+pub use process::{BUFFER, words_of};
 pub use program::{read_records, run_denial};
