@@ -1,0 +1,2 @@
+pub mod NameLemmas
+pub mod OneNameLemmas

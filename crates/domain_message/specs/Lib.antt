@@ -1,0 +1,5 @@
+pub mod Name
+pub mod Fault
+pub mod Steps
+pub mod ErrorText
+pub mod Refusal

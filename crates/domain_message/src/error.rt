@@ -1,0 +1,72 @@
+//! Why no record was read.
+ghost use Rattle.std.specs.Prelude.{◌≡◌, Some};
+ghost use Rattle.domain_message.specs.ErrorText.{message_error_text};
+ghost use Rattle.domain_message.specs.Refusal.{message_error_of};
+ghost use Rattle.domain_message.specs.declared.error.MessageError.TheVariants as message_error;
+
+use crate::NameFault;
+use domain_octets::{AppendError, OutOfMemory};
+use std::alloc::{AllocError, AllocFailed};
+use std::error::Error;
+use std::fmt;
+
+/// Why no name or no record was read at a place of a message.
+#[derive(Clone, Copy, Debug, PartialEq, Eq)]
+pub enum MessageError {
+    /// The message ends within it.
+    ShortInput,
+    /// A label begins with the bits 01 or 10, which are of no type (RFC 1035, section 4.1.4).
+    BadLabelType,
+    /// A pointer is not to a place before the labels that it follows.
+    ForwardPointer,
+    /// A name has over 255 octets.
+    LongName,
+    /// The fields of the data end elsewhere than their length says.
+    DataLength,
+    /// The octets of the data are no data of the type.
+    IllegalData,
+    /// The octets of the data, or a part of them, have no room in their builder.
+    ShortBuf,
+    /// There was no memory.
+    OutOfMemory,
+}
+
+impl fmt::Display for MessageError {
+    ghost output = { λ e. Some (message_error_text e) };
+
+    fn fmt<W: fmt::Write>(&self, f: &mut fmt::Formatter<W>) -> fmt::Result {
+        f.write_str(match self {
+            MessageError::ShortInput => "unexpected end of input",
+            MessageError::BadLabelType => "bad label type",
+            MessageError::ForwardPointer => "compression pointer leads forward",
+            MessageError::LongName => "long domain name",
+            MessageError::DataLength => "wrong length of record data",
+            MessageError::IllegalData => "illegal record data",
+            MessageError::ShortBuf => "buffer size exceeded",
+            MessageError::OutOfMemory => "out of memory",
+        })
+    }
+}
+
+impl Error for MessageError {}
+
+impl From<NameFault> for MessageError {
+    ghost from_gives = { λ fault e. e ≡ message_error_of fault };
+
+    fn from(fault: NameFault) -> MessageError {
+        match fault {
+            NameFault::ShortInput => MessageError::ShortInput,
+            NameFault::BadLabelType => MessageError::BadLabelType,
+            NameFault::ForwardPointer => MessageError::ForwardPointer,
+            NameFault::LongName => MessageError::LongName,
+        }
+    }
+}
+
+impl From<OutOfMemory> for MessageError {
+    ghost from_gives = { λ _ e. e ≡ message_error.OutOfMemory };
+
+    fn from(_error: OutOfMemory) -> MessageError {
+        MessageError::OutOfMemory
+    }
+}
