@@ -1,2 +1,3 @@
 pub mod NameLemmas
 pub mod OneNameLemmas
+pub mod PartLemmas

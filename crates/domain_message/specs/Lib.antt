@@ -3,3 +3,4 @@ pub mod Fault
 pub mod Steps
 pub mod ErrorText
 pub mod Refusal
+pub mod Data

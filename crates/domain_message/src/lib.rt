@@ -4,6 +4,7 @@
 mod error;
 pub mod laws;
 mod name;
+mod parts;
 
 pub use error::MessageError;
 pub use name::{NameFault, read_name};
