@@ -1,3 +1,4 @@
 pub mod NameLemmas
 pub mod OneNameLemmas
 pub mod PartLemmas
+pub mod HeaderLemmas

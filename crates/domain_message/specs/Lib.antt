@@ -4,3 +4,4 @@ pub mod Steps
 pub mod ErrorText
 pub mod Refusal
 pub mod Data
+pub mod Header

@@ -1,5 +1,5 @@
--- why no name is read at a place of a message
-use Rattle.std.specs.Prelude.{ℕ}
+-- why no name or no record is read at a place of a message
+use Rattle.std.specs.Prelude.{◌≡◌, ℕ, ◌+◌, ◌<◌, length}
 use Rattle.domain_octets.specs.Words.{Octets}
 use Rattle.domain_base.specs.Words.{Name}
 use Rattle.domain_message.specs.Name.{NameAt}
@@ -25,3 +25,10 @@ RefusesName message at DataLength = ⊥
 RefusesName message at IllegalData = ⊥
 RefusesName message at ShortBuf = ⊥
 RefusesName message at OutOfMemory = (name : Name) × (end : ℕ) × NameAt message at name end
+
+-- the first fault of the owner, or the message ends within the numbers behind it
+pub data HeaderFault (message : Octets) (at : ℕ) (fault : NameFault) : Type 0 where
+  in_owner : LabelsFault message at 0 fault → HeaderFault message at fault
+  cut_numbers : (owner : Name) (owner_end : ℕ) → NameAt message at owner owner_end
+      → length message < owner_end + 10 → fault ≡ name_fault.ShortInput
+      → HeaderFault message at fault

@@ -2,6 +2,7 @@
 #![tactic(auto)]
 
 mod error;
+mod header;
 pub mod laws;
 mod name;
 mod parts;

@@ -1,0 +1,81 @@
+-- the numbers before the data of a record
+use Rattle.std.proofs.Common.{◌≡◌, ℕ, ◌+◌, ◌<◌, ◌≤◌, List, length, drop, arith, ap, sym, subst, ◌∙◌, refl}
+use Rattle.std.proofs.lemmas.List.{length-drop}
+use Rattle.domain_base.specs.Fault.{Fault}
+use Rattle.domain_base.specs.Words.{Name}
+use Rattle.domain_fields.specs.Field.{short, long, cut_short, cut_long}
+use Rattle.domain_fields.specs.Layout.{one, ◌▸◌, Values, Begins, FirstFault, in_field, in_first, in_later, octets_of}
+use Rattle.domain_fields.proofs.ExactLemmas.{one_reading}
+use Rattle.domain_message.specs.Header.{numbers, HeaderAt}
+use Rattle.domain_message.specs.Name.{NameAt}
+use Rattle.domain_message.specs.Refusal.{HeaderFault, in_owner, cut_numbers}
+use Rattle.domain_message.specs.declared.name.NameFault.{NameFault}
+use Rattle.domain_message.specs.declared.name.NameFault.TheVariants as name_fault
+use Rattle.domain_message.proofs.OneNameLemmas.{one_name, no_fault}
+
+short_count : (octets : List ℕ) (v : ℕ) (after : List ℕ) → Begins (one short) octets v after → length octets ≡ 2 + length after
+unfolding octets_of
+short_count octets v after begins = omega (arith, ap length begins.parts)
+
+long_count : (octets : List ℕ) (v : ℕ) (after : List ℕ) → Begins (one long) octets v after → length octets ≡ 4 + length after
+unfolding octets_of
+long_count octets v after begins = omega (arith, ap length begins.parts)
+
+pub begins_count : (octets : List ℕ) (v : Values numbers) (after : List ℕ) → Begins numbers octets v after → 10 ≤ length octets
+unfolding octets_of
+begins_count octets v after begins = omega (arith, ap length begins.parts)
+
+short_cut : (octets : List ℕ) (fault : Fault) → FirstFault (one short) octets fault → length octets < 2
+short_cut octets fault (in_field _ _ _ (cut_short _ _ cut)) = cut.short
+
+long_cut : (octets : List ℕ) (fault : Fault) → FirstFault (one long) octets fault → length octets < 4
+long_cut octets fault (in_field _ _ _ (cut_long _ _ cut)) = cut.short
+
+last_cut : (octets : List ℕ) (fault : Fault) → FirstFault (one long ▸ one short) octets fault → length octets < 6
+last_cut octets fault (in_first _ _ _ _ why) = omega (arith, long_cut octets fault why)
+last_cut octets fault (in_later _ _ _ v after _ begins why) = omega (arith, long_count octets v after begins, short_cut after fault why)
+
+later_cut : (octets : List ℕ) (fault : Fault) → FirstFault (one short ▸ one long ▸ one short) octets fault → length octets < 8
+later_cut octets fault (in_first _ _ _ _ why) = omega (arith, short_cut octets fault why)
+later_cut octets fault (in_later _ _ _ v after _ begins why) = omega (arith, short_count octets v after begins, last_cut after fault why)
+
+pub numbers_cut : (octets : List ℕ) (fault : Fault) → FirstFault numbers octets fault → length octets < 10
+numbers_cut octets fault (in_first _ _ _ _ why) = omega (arith, short_cut octets fault why)
+numbers_cut octets fault (in_later _ _ _ v after _ begins why) = omega (arith, short_count octets v after begins, later_cut after fault why)
+
+pub cut_behind : (message : List ℕ) (at : ℕ) (owner : Name) (end : ℕ) (fault : NameFault) → NameAt message at owner end → end ≤ length message
+    → fault ≡ name_fault.ShortInput → length (drop end message) < 10 → HeaderFault message at fault
+cut_behind message at owner end fault owned inside said cut =
+    cut_numbers owner end owned (omega (arith, length-drop end message)) said
+
+-- one header stands at a place, and none where it has a fault
+pub record SameHeader (owner other : Name) (rtype class ttl count place rtype' class' ttl' count' place' : ℕ) : Type 0 where
+  pub owners : owner ≡ other
+  pub rtypes : rtype ≡ rtype'
+  pub classes : class ≡ class'
+  pub ttls : ttl ≡ ttl'
+  pub counts : count ≡ count'
+  pub places : place ≡ place'
+
+pub one_header : (message : List ℕ) (at : ℕ) (owner other : Name) (rtype class ttl count place rtype' class' ttl' count' place' : ℕ)
+    → HeaderAt message at owner rtype class ttl count place → HeaderAt message at other rtype' class' ttl' count' place'
+    → SameHeader owner other rtype class ttl count place rtype' class' ttl' count' place'
+one_header message at owner other rtype class ttl count place rtype' class' ttl' count' place' x y =
+    let names = one_name message at owner other x.owner_end y.owner_end x.owned y.owned in
+    let read = one_reading numbers (drop x.owner_end message) (rtype, (class, (ttl, count))) (rtype', (class', (ttl', count'))) x.behind y.behind refl
+    x.numbered (subst (λ e. Begins numbers (drop e message) (rtype', (class', (ttl', count'))) y.behind) (sym names.1) y.numbered) in
+    record {
+      owners = names.0;
+      rtypes = ap (λ v. v.0) read.0;
+      classes = ap (λ v. v.1.0) read.0;
+      ttls = ap (λ v. v.1.1.0) read.0;
+      counts = ap (λ v. v.1.1.1) read.0;
+      places = x.place_is ∙ ap (λ e. e + 10) names.1 ∙ sym y.place_is;
+    }
+
+pub no_header : (message : List ℕ) (at : ℕ) (owner : Name) (rtype class ttl count place : ℕ) (fault : NameFault)
+    → HeaderAt message at owner rtype class ttl count place → HeaderFault message at fault → ⊥
+no_header message at owner rtype class ttl count place fault x (in_owner why) = no_fault message at owner x.owner_end fault x.owned why
+no_header message at owner rtype class ttl count place fault x (cut_numbers other end owned cut said) =
+    let names = one_name message at owner other x.owner_end end x.owned owned in
+    omega (arith, names.1, cut, length-drop x.owner_end message, begins_count (drop x.owner_end message) (rtype, (class, (ttl, count))) x.behind x.numbered)
