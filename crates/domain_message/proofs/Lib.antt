@@ -2,3 +2,5 @@ pub mod NameLemmas
 pub mod OneNameLemmas
 pub mod PartLemmas
 pub mod HeaderLemmas
+pub mod WordLemmas
+pub mod RecordLemmas

@@ -5,3 +5,4 @@ pub mod ErrorText
 pub mod Refusal
 pub mod Data
 pub mod Header
+pub mod Record

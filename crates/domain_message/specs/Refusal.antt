@@ -1,6 +1,9 @@
 -- why no name or no record is read at a place of a message
-use Rattle.std.specs.Prelude.{◌≡◌, ℕ, ◌+◌, ◌<◌, length}
+use Rattle.std.specs.Prelude.{◌≡◌, ℕ, ◌+◌, ◌<◌, length, Option}
+use Rattle.domain_octets.specs.Limit.{IsOver}
 use Rattle.domain_octets.specs.Words.{Octets}
+use Rattle.domain_octets.specs.declared.error.AppendError.{AppendError}
+use Rattle.domain_octets.specs.declared.error.AppendError.TheVariants as append_error
 use Rattle.domain_base.specs.Words.{Name}
 use Rattle.domain_message.specs.Name.{NameAt}
 use Rattle.domain_message.specs.Fault.{LabelsFault}
@@ -14,6 +17,11 @@ message_error_of name_fault.ShortInput = ShortInput
 message_error_of name_fault.BadLabelType = BadLabelType
 message_error_of name_fault.ForwardPointer = ForwardPointer
 message_error_of name_fault.LongName = LongName
+
+-- why a builder did not take octets
+abbrev pub append_refusal_of : AppendError → MessageError
+append_refusal_of append_error.ShortBuf = ShortBuf
+append_refusal_of append_error.OutOfMemory = OutOfMemory
 
 -- its first fault, or a name stands there, and there is no memory for it
 abbrev pub RefusesName : Octets → ℕ → MessageError → Type 0
@@ -32,3 +40,14 @@ pub data HeaderFault (message : Octets) (at : ℕ) (fault : NameFault) : Type 0 
   cut_numbers : (owner : Name) (owner_end : ℕ) → NameAt message at owner owner_end
       → length message < owner_end + 10 → fault ≡ name_fault.ShortInput
       → HeaderFault message at fault
+
+-- why octets are not copied into octets that have this limit
+abbrev pub CopyRefusal : Option ℕ → Octets → MessageError → Type 0
+CopyRefusal limit octets ShortInput = ⊥
+CopyRefusal limit octets BadLabelType = ⊥
+CopyRefusal limit octets ForwardPointer = ⊥
+CopyRefusal limit octets LongName = ⊥
+CopyRefusal limit octets DataLength = ⊥
+CopyRefusal limit octets IllegalData = ⊥
+CopyRefusal limit octets ShortBuf = IsOver limit (length octets)
+CopyRefusal limit octets OutOfMemory = Unit {0}

@@ -1,12 +1,11 @@
 //! Why no record was read.
 ghost use Rattle.std.specs.Prelude.{◌≡◌, Some};
 ghost use Rattle.domain_message.specs.ErrorText.{message_error_text};
-ghost use Rattle.domain_message.specs.Refusal.{message_error_of};
+ghost use Rattle.domain_message.specs.Refusal.{append_refusal_of, message_error_of};
 ghost use Rattle.domain_message.specs.declared.error.MessageError.TheVariants as message_error;
 
 use crate::NameFault;
 use domain_octets::{AppendError, OutOfMemory};
-use std::alloc::{AllocError, AllocFailed};
 use std::error::Error;
 use std::fmt;
 
@@ -59,6 +58,17 @@ impl From<NameFault> for MessageError {
             NameFault::BadLabelType => MessageError::BadLabelType,
             NameFault::ForwardPointer => MessageError::ForwardPointer,
             NameFault::LongName => MessageError::LongName,
+        }
+    }
+}
+
+impl From<AppendError> for MessageError {
+    ghost from_gives = { λ a e. e ≡ append_refusal_of a };
+
+    fn from(error: AppendError) -> MessageError {
+        match error {
+            AppendError::ShortBuf => MessageError::ShortBuf,
+            AppendError::OutOfMemory => MessageError::OutOfMemory,
         }
     }
 }

@@ -6,6 +6,9 @@ mod header;
 pub mod laws;
 mod name;
 mod parts;
+mod record;
+mod words;
 
 pub use error::MessageError;
 pub use name::{NameFault, read_name};
+pub use record::read_record;

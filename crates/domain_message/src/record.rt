@@ -1,0 +1,131 @@
+//! Records in a message.
+ghost use Rattle.std.specs.Prelude.{◌≡◌, ◌≤◌, ◌<◌, ◌+◌, ℕ, Option, length, IfOk, IfErr};
+ghost use Rattle.domain_octets.specs.Limit.{IsOver};
+ghost use Rattle.domain_octets.specs.Words.{Octets};
+ghost use Rattle.domain_base.specs.Scan.{scan_fault_of};
+ghost use Rattle.domain_rdata.specs.Kind.{Kind};
+ghost use Rattle.domain_rdata.specs.Refusal.{OctetsFault};
+ghost use Rattle.domain_message.specs.Data.{DataAt};
+ghost use Rattle.domain_message.specs.Refusal.{CopyRefusal};
+ghost use Rattle.domain_message.specs.Record.{IsDataAt, RecordAt, OctetsRefusal, RefusesData, RefusesRecord};
+
+use crate::MessageError;
+use crate::header::header_at;
+use crate::parts::{expand, parts_of};
+use domain_base::{MakeName, Rtype, ScanError};
+use domain_octets::{ArrayBuilder, EmptyBuilder, FromBuilder, Octets, OctetsBuilder};
+use domain_plain::Record;
+use domain_rdata::ZoneRecordData;
+use std::alloc::Global;
+
+/// A copy of octets.
+fn copied<O: FromBuilder>(alloc: Global, octets: &[u8]) -> Result<O, MessageError>
+where
+    O::Builder: EmptyBuilder + Drop,
+    ensures ok { IfOk result (λ made. O.octets made ≡ octets.now) }
+    ensures err { IfErr result (CopyRefusal O.Builder.limit octets.now) }
+{
+    let mut builder = O::Builder::empty(alloc);
+    builder.append_slice(octets)?;
+    Ok(O::from_builder(builder))
+}
+
+/// The octets of data of a type that stand at a place, without compression.
+fn octets_at<O: FromBuilder>(
+    alloc: Global,
+    message: &[u8],
+    rtype: Rtype,
+    place: usize,
+    count: usize,
+) -> Result<O, MessageError>
+where
+    O::Builder: EmptyBuilder + Drop,
+    requires inside { place + count ≤ length message.now }
+    requires short { count < 65536 }
+    ensures ok { IfOk result (λ o. DataAt message.now rtype place count (O.octets o)) }
+    ensures fits { IfOk result (λ o. length (O.octets o) ≤ 65535) }
+    ensures err { IfErr result (RefusesData O.Builder.limit message.now rtype place count) }
+{
+    let Some(parts) = parts_of(rtype) else {
+        return copied(alloc, &message[place..place + count]);
+    };
+    let mut octets = ArrayBuilder::new();
+    let end = expand(message, parts, place, &mut octets)?;
+    if end != place + count {
+        return Err(MessageError::DataLength);
+    }
+    copied(alloc, octets.as_slice())
+}
+
+/// Why octets are no data, as they were refused.
+fn refusal(error: ScanError) -> MessageError
+    ensures { (limit : Option ℕ) (known : Option Kind) (wire : Octets)
+        → OctetsFault limit known wire (scan_fault_of error)
+        → OctetsRefusal limit known wire result }
+{
+    match error {
+        ScanError::ShortBuf => MessageError::ShortBuf,
+        ScanError::OutOfMemory => MessageError::OutOfMemory,
+        ScanError::Custom(_) => MessageError::IllegalData,
+        ScanError::EndOfEntry => MessageError::IllegalData,
+    }
+}
+
+/// The data of a type that stand at a place, of so many octets.
+fn data_at<O: FromBuilder + Drop, N: MakeName + Drop>(
+    alloc: Global,
+    message: &[u8],
+    rtype: Rtype,
+    place: usize,
+    count: usize,
+) -> Result<ZoneRecordData<O, N>, MessageError>
+where
+    O::Builder: EmptyBuilder + Drop,
+    requires inside { place ≤ length message.now }
+    requires short { count < 65536 }
+    ensures ok { IfOk result (IsDataAt O.octets N.labels message.now rtype place count) }
+    ensures err { IfErr result (RefusesData O.Builder.limit message.now rtype place count) }
+{
+    if count > message.len() - place {
+        return Err(MessageError::ShortInput);
+    }
+    let octets: O = octets_at(alloc, message, rtype, place, count)?;
+    match ZoneRecordData::from_octets(alloc, rtype, octets) {
+        Ok(data) => Ok(data),
+        Err(error) => Err(refusal(error)),
+    }
+}
+
+/// The record that stands at a place of a message (RFC 1035, section 4.1.3), over octets of its own,
+/// and the place after it. Pointers of the owner are followed, and those of names in the data of
+/// the types of RFC 1035, which alone may be compressed (RFC 3597, section 4): NS, SOA, MX, and,
+/// held as octets, MD, MF, CNAME, MB, MG, MR, PTR and MINFO. The octets of data of other types are
+/// taken as they stand.
+///
+/// # Errors
+///
+/// The first fault in the order of the wire: those of `read_name` of the owner, and of the names of
+/// data that may be compressed; `ShortInput` where the message ends within the record; `DataLength`
+/// where such data end elsewhere than their length says; `IllegalData` where the octets are no data
+/// of the type. `ShortBuf` where the octets of the data, or a part that is held by itself, have no
+/// room in their builder, and `OutOfMemory`, once all but whether they are data of the type is
+/// known.
+pub fn read_record<O: FromBuilder + Drop, N: MakeName + Drop>(
+    alloc: Global,
+    message: &[u8],
+    at: usize,
+) -> Result<(Record<N, ZoneRecordData<O, N>>, usize), MessageError>
+where
+    O::Builder: EmptyBuilder + Drop,
+    ensures ok { IfOk result (λ r. RecordAt O.octets N.labels message.now at r.0 r.1) }
+    ensures inside { IfOk result (λ r. r.1 ≤ length message.now) }
+    ensures err { IfErr result (RefusesRecord O.Builder.limit message.now at) }
+{
+    let header = header_at(message, at)?;
+    let data = data_at(alloc, message, header.rtype, header.place, header.count)?;
+    let owner = N::make(alloc, header.owner.as_slice())?;
+    Ok((
+        Record::new(owner, header.class, header.ttl, data),
+        header.place + header.count,
+    ))
+}
