@@ -4,3 +4,4 @@ pub mod PartLemmas
 pub mod HeaderLemmas
 pub mod WordLemmas
 pub mod RecordLemmas
+pub mod LineLemmas

@@ -6,3 +6,4 @@ pub mod Refusal
 pub mod Data
 pub mod Header
 pub mod Record
+pub mod Entry

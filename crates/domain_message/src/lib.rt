@@ -4,11 +4,13 @@
 mod error;
 mod header;
 pub mod laws;
+mod line;
 mod name;
 mod parts;
 mod record;
 mod words;
 
 pub use error::MessageError;
+pub use line::{LineError, OwnedRecord, scan_entry, scan_record};
 pub use name::{NameFault, read_name};
 pub use record::read_record;

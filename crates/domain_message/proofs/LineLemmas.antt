@@ -1,0 +1,20 @@
+-- lines that spell records, and lines that do not
+use Rattle.std.proofs.Common.{ℕ, refl, sym, subst, ◌≡◌, ◌↔◌, IsTrue, false, List, [], ◌∷◌, Result, IfErr}
+use Rattle.std.specs.Prelude.{Bool, Option}
+use Rattle.domain_octets.specs.Line.{words_of}
+use Rattle.domain_octets.specs.Words.{Octets}
+use Rattle.domain_base.specs.Words.{Name}
+use Rattle.domain_message.specs.Entry.{RefusesEntry, RefusesLine, in_entry, IsNoEntry}
+use Rattle.domain_message.specs.declared.line.LineError.{LineError}
+use Rattle.domain_message.proofs.RecordLemmas.{on_err}
+
+pub none_left : (tokens : List (List ℕ)) (more : Bool) → IsTrue more ↔ (tokens ≡ [] → ⊥) → more ≡ false → tokens ≡ []
+none_left [] more test off = refl
+none_left (token ∷ tokens) more test off = absurd (let on = test.1 (λ e. cc) in cc)
+
+pub line_refused : {O N X : Type 0} (octets : O → Octets) (labels : N → Name) (limit : Option ℕ) (line : List ℕ) (seen tokens : List (List ℕ))
+    (skipped : Bool) (r : Result X LineError) → seen ≡ words_of line → tokens ≡ words_of line → IsTrue skipped ↔ IsNoEntry seen → skipped ≡ false
+    → IfErr r (RefusesEntry octets labels limit tokens) → IfErr r (RefusesLine octets labels limit line)
+line_refused octets labels limit line seen tokens skipped r seen_is is test off =
+    on_err (λ e why. in_entry (λ none. let on = test.1 (subst IsNoEntry (sym seen_is) none) in cc)
+    (subst (λ ws. RefusesEntry octets labels limit ws e) is why)) r

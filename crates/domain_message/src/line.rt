@@ -1,0 +1,150 @@
+//! Records in lines of a zone's text.
+ghost use Rattle.std.specs.Prelude.{◌≡◌, ◌↔◌, IsTrue, map, IfOk, IfErr, None};
+ghost use Rattle.domain_octets.specs.Line.{words_of};
+ghost use Rattle.domain_message.specs.Entry.{HeadTaken, RefusesHead, EntryText, RefusesEntry, IsNoEntry, LineText, RefusesLine};
+
+use crate::words::words_of;
+use domain_base::{
+    Class, FromToken, IterScanner, MakeName, Name, Rtype, ScanError, Scanner, ToName, Ttl,
+};
+use domain_octets::{EmptyBuilder, FreezeBuilder, FromBuilder, Octets, Truncate};
+use domain_plain::Record;
+use domain_rdata::ZoneRecordData;
+use std::alloc::Global;
+
+/// A record that has octets of its own.
+pub type OwnedRecord = Record<Name<Vec<u8>>, ZoneRecordData<Vec<u8>, Name<Vec<u8>>>>;
+
+/// Why tokens, or a line, spell no record.
+#[derive(Clone, Copy, Debug, PartialEq, Eq)]
+pub enum LineError {
+    /// The line is blank, or a comment.
+    NoEntry,
+    /// The first token is missing, or no name.
+    Owner(ScanError),
+    /// The second is missing, or no number of 32 bits.
+    Ttl(ScanError),
+    /// The third is missing, or no class.
+    Class(ScanError),
+    /// The fourth is missing, or no type that is known by that name.
+    Rtype(ScanError),
+    /// Those behind it do not begin with data of the type.
+    RecordData(ScanError),
+    /// There are tokens behind the data.
+    Trailing,
+    /// There was no memory for the words of the line.
+    OutOfMemory,
+}
+
+/// What stands before the data of a record.
+#[derive(Drop)]
+struct Head<N> {
+    owner: N,
+    ttl: Ttl,
+    class: Class,
+    rtype: Rtype,
+}
+
+/// The owner, TTL, class and type that the tokens begin with.
+fn scan_head<O: FromBuilder, N: Drop, S: Scanner<Name = N, Octets = O>>(
+    alloc: Global,
+    scanner: &mut S,
+) -> Result<Head<N>, LineError>
+    ensures ok { IfOk result (λ h. HeadTaken (N.labels h.owner) h.ttl h.class h.rtype
+        (S.tokens scanner.old) (S.tokens scanner.new)) }
+    ensures err { IfErr result (RefusesHead O.Builder.limit (S.tokens scanner.old)) }
+{
+    let owner = match scanner.scan_name(alloc) {
+        Ok(owner) => owner,
+        Err(error) => return Err(LineError::Owner(error)),
+    };
+    let ttl = match Ttl::scan(scanner) {
+        Ok(ttl) => ttl,
+        Err(error) => return Err(LineError::Ttl(error)),
+    };
+    let class = match Class::scan(scanner) {
+        Ok(class) => class,
+        Err(error) => return Err(LineError::Class(error)),
+    };
+    match Rtype::scan(scanner) {
+        Ok(rtype) => Ok(Head {
+            owner,
+            ttl,
+            class,
+            rtype,
+        }),
+        Err(error) => Err(LineError::Rtype(error)),
+    }
+}
+
+/// The record that tokens spell: its owner, TTL, class, type and data (RFC 1035, section 5.1), all
+/// that are left. Names are absolute, with or without a last dot.
+///
+/// # Errors
+///
+/// The first of these parts that is missing or refused, with what is said of it; `Trailing` where
+/// tokens are left behind the data.
+pub fn scan_entry<O: FromBuilder + Drop, N: MakeName + Drop, S: Scanner<Name = N, Octets = O>>(
+    alloc: Global,
+    scanner: &mut S,
+) -> Result<Record<N, ZoneRecordData<O, N>>, LineError>
+where
+    O::Builder: EmptyBuilder + Truncate + FreezeBuilder<Frozen = O> + Drop,
+    ensures ok { IfOk result (EntryText O.octets N.labels (S.tokens scanner.old)) }
+    ensures err { IfErr result (RefusesEntry O.octets N.labels O.Builder.limit
+        (S.tokens scanner.old)) }
+{
+    let head = scan_head(alloc, scanner)?;
+    let data = match ZoneRecordData::scan_rdata(alloc, head.rtype, scanner) {
+        Ok(data) => data,
+        Err(error) => return Err(LineError::RecordData(error)),
+    };
+    if scanner.continues() {
+        return Err(LineError::Trailing);
+    }
+    Ok(Record::new(head.owner, head.class, head.ttl, data))
+}
+
+/// Whether a line with these words is blank, or a comment.
+fn is_no_entry(words: &[&str]) -> bool
+    ensures { IsTrue result ↔ IsNoEntry (map (λ w. w.now) words.now) }
+{
+    match words {
+        [] => true,
+        [first, ..] => matches!(first.as_bytes(), [b';', ..]),
+    }
+}
+
+/// The record that words spell.
+fn record_of(alloc: Global, words: &[&str]) -> Result<OwnedRecord, LineError>
+    ensures ok { IfOk result (EntryText (λ o. o.items) (λ n. n) (map (λ w. w.now) words.now)) }
+    ensures err { IfErr result (RefusesEntry ⟦<Vec<u8> as Octets>⟧.octets
+        ⟦<Name<Vec<u8>> as ToName>⟧.labels None (map (λ w. w.now) words.now)) }
+{
+    let mut scanner = IterScanner::<Vec<u8>>::new(words);
+    scan_entry(alloc, &mut scanner)
+}
+
+/// The record that a line of a zone's text spells, in the form that this library prints (RFC 1035,
+/// section 5.1): owner, TTL, class, type and data, and one or more spaces between them. Names are
+/// absolute, with or without a last dot; a tab is no space, and is refused. For other octets, or
+/// tokens from elsewhere, there is `scan_entry`.
+///
+/// # Errors
+///
+/// `NoEntry` where the line is blank or its first word begins with a semicolon; else the first of
+/// its parts that is missing or refused, with what is said of it, and `Trailing` where words are
+/// left behind the data. `OutOfMemory` where there is no memory for the words of the line.
+pub fn scan_record(alloc: Global, line: &str) -> Result<OwnedRecord, LineError>
+    ensures ok { IfOk result (LineText (λ o. o.items) (λ n. n) line.now) }
+    ensures err { IfErr result (RefusesLine ⟦<Vec<u8> as Octets>⟧.octets
+        ⟦<Name<Vec<u8>> as ToName>⟧.labels None line.now) }
+{
+    let Ok(words) = words_of(alloc, line) else {
+        return Err(LineError::OutOfMemory);
+    };
+    if is_no_entry(words.as_slice()) {
+        return Err(LineError::NoEntry);
+    }
+    record_of(alloc, words.as_slice())
+}
