@@ -5,3 +5,4 @@ pub mod HeaderLemmas
 pub mod WordLemmas
 pub mod RecordLemmas
 pub mod LineLemmas
+pub mod ReadBackLemmas

@@ -1,11 +1,22 @@
-//! What holds of names in messages. A caller calls the law in its body.
-ghost use Rattle.std.specs.Prelude.{◌≡◌, ◌+◌, ◌++◌, ℕ, length, drop};
+//! What holds of names and records in messages and in lines. A caller calls the law in its body.
+ghost use Rattle.std.specs.Prelude.{IfSome, ◌≡◌, ◌+◌, ◌++◌, ℕ, length, drop};
 ghost use Rattle.domain_octets.specs.Words.{Octets};
 ghost use Rattle.domain_base.specs.Name.{wire_of, IsName};
 ghost use Rattle.domain_base.specs.Words.{Name};
+ghost use Rattle.domain_plain.specs.RecordText.{record_text};
+ghost use Rattle.domain_rdata.specs.DataText.{data_text};
+ghost use Rattle.domain_rdata.specs.Exact.{HasExactText};
+ghost use Rattle.domain_rdata.specs.Zone.{rtype_of};
+ghost use Rattle.domain_message.specs.Entry.{LineText};
 ghost use Rattle.domain_message.specs.Name.{NameAt};
 ghost use Rattle.domain_message.specs.Fault.{LabelsFault};
 ghost use Rattle.domain_message.specs.declared.name.NameFault.{NameFault};
+
+use domain_base::ToName;
+use domain_octets::Octets;
+use domain_plain::{Record, RecordData};
+use domain_rdata::ZoneRecordData;
+use domain_rdata::laws::data_is_read_back;
 
 /// At a place of a message stands one name at most, and none where labels have a fault (RFC 1035,
 /// section 4.1.4).
@@ -23,3 +34,16 @@ pub fn written_names_are_read_back()
         → drop at message ≡ wire_of name ++ after
         → NameAt message at name (at + length (wire_of name)) }
 {}
+
+/// What a record is written as is a line that spells it, if the text tells all of its data.
+pub fn written_records_are_read_back<O: Octets, N: ToName>(value: &Record<N, ZoneRecordData<O, N>>)
+    ensures { HasExactText O.octets value.now.«data»
+        → IfSome (record_text N.labels rtype_of (data_text O.octets N.labels) value.now) (λ text.
+        LineText O.octets N.labels text value.now) }
+{
+    data_is_read_back(value.data());
+    let _owner = value.owner().as_wire();
+    let _ttl = value.ttl().as_secs();
+    let _class = value.class().to_int();
+    let _rtype = value.data().rtype().to_int();
+}
