@@ -11,6 +11,8 @@
 //! of a chain that a server answers with. What the contracts cite stands in `specs/` of
 //! `domain_zone`, `domain_nsec`, `domain_nsec3`, `domain_checker`, `domain_answer`, `domain_denier`
 //! and this crate.
+//! `read_record` reads a record from a message, with compressed names, and `scan_record` one from a
+//! line of a zone's text.
 //! What signatures here name is handed on: names, types, classes, TTLs, records and their
 //! data, builders of octets, sorted records, and the errors.
 #![tactic(auto)]
@@ -34,6 +36,9 @@ pub use domain_base::{
 pub use domain_bitmap::{RtypeBitmap, RtypeBitmapBuilder, RtypeBitmaps};
 pub use domain_checker::{NsecCheck, Verdict, check_nsec, check_nsec3};
 pub use domain_denier::{Nsec3Denial, NsecDenial, NsecDenier, deny_nsec, deny_nsec3};
+pub use domain_message::{
+    LineError, MessageError, OwnedRecord, read_name, read_record, scan_entry, scan_record,
+};
 pub use domain_nsec::{GenerateNsecConfig, LentNsec, NsecChain, generate_nsecs};
 pub use domain_nsec3::{
     GenerateNsec3Config, HashedOwner, LentNsec3, Nsec3Chain, Nsec3ParamTtlMode, Nsec3Records,

@@ -6,3 +6,4 @@ pub mod WordLemmas
 pub mod RecordLemmas
 pub mod LineLemmas
 pub mod ReadBackLemmas
+pub mod OneRecordLemmas

@@ -7,3 +7,4 @@ pub mod Data
 pub mod Header
 pub mod Record
 pub mod Entry
+pub mod Alike

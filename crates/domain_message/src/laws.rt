@@ -1,5 +1,5 @@
 //! What holds of names and records in messages and in lines. A caller calls the law in its body.
-ghost use Rattle.std.specs.Prelude.{IfSome, ◌≡◌, ◌+◌, ◌++◌, ℕ, length, drop};
+ghost use Rattle.std.specs.Prelude.{IfSome, Option, ◌≡◌, ◌+◌, ◌++◌, ℕ, length, drop};
 ghost use Rattle.domain_octets.specs.Words.{Octets};
 ghost use Rattle.domain_base.specs.Name.{wire_of, IsName};
 ghost use Rattle.domain_base.specs.Words.{Name};
@@ -7,7 +7,12 @@ ghost use Rattle.domain_plain.specs.RecordText.{record_text};
 ghost use Rattle.domain_rdata.specs.DataText.{data_text};
 ghost use Rattle.domain_rdata.specs.Exact.{HasExactText};
 ghost use Rattle.domain_rdata.specs.Zone.{rtype_of};
+ghost use Rattle.domain_plain.specs.declared.record.Record.{Record};
+ghost use Rattle.domain_rdata.specs.declared.zone_record_data.ZoneRecordData.{ZoneRecordData};
+ghost use Rattle.domain_message.specs.Alike.{AreAlike, IsOfMessage};
 ghost use Rattle.domain_message.specs.Entry.{LineText};
+ghost use Rattle.domain_message.specs.Record.{RecordAt, RefusesRecord};
+ghost use Rattle.domain_message.specs.declared.error.MessageError.{MessageError};
 ghost use Rattle.domain_message.specs.Name.{NameAt};
 ghost use Rattle.domain_message.specs.Fault.{LabelsFault};
 ghost use Rattle.domain_message.specs.declared.name.NameFault.{NameFault};
@@ -25,6 +30,17 @@ pub fn one_name_stands_at_a_place()
         → NameAt message at y far → (x ≡ y) × (end ≡ far) }
     ensures none { (message : Octets) (at : ℕ) (name : Name) (end : ℕ) (fault : NameFault)
         → NameAt message at name end → LabelsFault message at 0 fault → ⊥ }
+{}
+
+/// At a place of a message stands one record at most, and none where `read_record` refuses it but
+/// for want of room or of memory.
+pub fn one_record_stands_at_a_place<O: Octets, N: ToName>()
+    ensures one { (message : Octets) (at : ℕ) (r s : Record N (ZoneRecordData O N)) (end far : ℕ)
+        → RecordAt O.octets N.labels message at r end → RecordAt O.octets N.labels message at s far
+        → AreAlike O.octets N.labels r s × (end ≡ far) }
+    ensures none { (limit : Option ℕ) (message : Octets) (at : ℕ) (error : MessageError)
+        (r : Record N (ZoneRecordData O N)) (end : ℕ) → RefusesRecord limit message at error
+        → IsOfMessage error → RecordAt O.octets N.labels message at r end → ⊥ }
 {}
 
 /// A name that is written without compression stands where it was written, up to where its octets

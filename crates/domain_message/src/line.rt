@@ -1,5 +1,6 @@
 //! Records in lines of a zone's text.
-ghost use Rattle.std.specs.Prelude.{◌≡◌, ◌↔◌, IsTrue, map, IfOk, IfErr, None};
+ghost use Rattle.std.specs.Prelude.{◌≡◌, ◌↔◌, IsTrue, map, IfOk, IfErr, None, Some};
+ghost use Rattle.domain_message.specs.ErrorText.{line_error_text};
 ghost use Rattle.domain_octets.specs.Line.{words_of};
 ghost use Rattle.domain_message.specs.Entry.{HeadTaken, RefusesHead, EntryText, RefusesEntry, IsNoEntry, LineText, RefusesLine};
 
@@ -11,6 +12,8 @@ use domain_octets::{EmptyBuilder, FreezeBuilder, FromBuilder, Octets, Truncate};
 use domain_plain::Record;
 use domain_rdata::ZoneRecordData;
 use std::alloc::Global;
+use std::error::Error;
+use std::fmt;
 
 /// A record that has octets of its own.
 pub type OwnedRecord = Record<Name<Vec<u8>>, ZoneRecordData<Vec<u8>, Name<Vec<u8>>>>;
@@ -35,6 +38,25 @@ pub enum LineError {
     /// There was no memory for the words of the line.
     OutOfMemory,
 }
+
+impl fmt::Display for LineError {
+    ghost output = { λ e. Some (line_error_text e) };
+
+    fn fmt<W: fmt::Write>(&self, f: &mut fmt::Formatter<W>) -> fmt::Result {
+        match self {
+            LineError::NoEntry => f.write_str("no entry"),
+            LineError::Owner(error) => write!(f, "owner: {error}"),
+            LineError::Ttl(error) => write!(f, "TTL: {error}"),
+            LineError::Class(error) => write!(f, "class: {error}"),
+            LineError::Rtype(error) => write!(f, "type: {error}"),
+            LineError::RecordData(error) => write!(f, "data: {error}"),
+            LineError::Trailing => f.write_str("trailing tokens"),
+            LineError::OutOfMemory => f.write_str("out of memory"),
+        }
+    }
+}
+
+impl Error for LineError {}
 
 /// What stands before the data of a record.
 #[derive(Drop)]

@@ -1,4 +1,4 @@
-//! Ten uses of the library, each a proved function that calls it, with what it prints.
+//! Eleven uses of the library, each a proved function that calls it, with what it prints.
 //!
 //! `docs/GUIDE.md` quotes them. A program names `domain_dnssec` first, which hands on what its own
 //! signatures name.
@@ -10,6 +10,7 @@ mod chain;
 mod hashed;
 mod key;
 mod line;
+mod message;
 mod said;
 mod served;
 mod sorted;
@@ -31,6 +32,7 @@ fn report(alloc: Global) -> Result<String, Error> {
     served::show(alloc, &mut text)?;
     bitmap::show(alloc, &mut text)?;
     line::show(alloc, &mut text)?;
+    message::show(alloc, &mut text)?;
     sorted::show(alloc, &mut text)?;
     key::show(alloc, &mut text)?;
     Ok(text)
