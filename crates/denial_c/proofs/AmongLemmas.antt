@@ -7,15 +7,15 @@ use Rattle.std.proofs.lemmas.List.{map-append}
 use Rattle.std.proofs.lemmas.List.Concat.{flat_map-append}
 use Rattle.std.proofs.lemmas.List.Elements.{filter-append}
 use Rattle.domain_lent.specs.Data.{RawRecord}
-use Rattle.denial_c.specs.Wire.{record_octets, IsRecord}
+use Rattle.domain_lent.specs.Wire.{record_octets, IsRecord}
 use Rattle.denial_c.specs.Among.{AreAmong}
-use Rattle.denial_c.proofs.WireLemmas.{same_record, some_octets}
+use Rattle.domain_lent.proofs.WireLemmas.{same_record, some_octets}
 
-all_push : {X : Type 0} (P : X → Type 0) (xs : List X) (y : X) → AllByRecursion P xs → P y → AllByRecursion P (xs ++ y ∷ [])
+pub all_push : {X : Type 0} (P : X → Type 0) (xs : List X) (y : X) → AllByRecursion P xs → P y → AllByRecursion P (xs ++ y ∷ [])
 all_push P [] y h p = (p, tt)
 all_push P (x ∷ xs) y h p = (h.0, all_push P xs y h.1 p)
 
-joined_push : (records : List RawRecord) (r : RawRecord) (after : List ℕ)
+pub joined_push : (records : List RawRecord) (r : RawRecord) (after : List ℕ)
     → flat_map record_octets (records ++ r ∷ []) ++ after ≡ flat_map record_octets records ++ (record_octets r ++ after)
 joined_push records r after =
     ap (λ o. o ++ after) (flat_map-append record_octets records (r ∷ []) ∙ ap (λ o. flat_map record_octets records ++ o) (append-nil (record_octets r)))

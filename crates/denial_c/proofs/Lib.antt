@@ -1,4 +1,3 @@
-pub mod WireLemmas
 pub mod AmongLemmas
 pub mod NsecLemmas
 pub mod Nsec3Lemmas

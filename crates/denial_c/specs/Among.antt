@@ -1,6 +1,6 @@
 -- The NSEC, NSEC3 and NSEC3PARAM records of a class among the records that octets are. Records of
 -- other types and classes are passed over, whatever their data.
-use Rattle.std.specs.Prelude.{◌≡◌, ℕ, Bool, ◌&&◌, List, filter, map}
+use Rattle.std.specs.Prelude.{◌≡◌, ℕ, Bool, ◌&&◌, ◌==◌, List, filter, map}
 use Rattle.std.specs.List.{AllByRecursion, flat_map}
 use Rattle.domain_octets.specs.Words.{Octets}
 use Rattle.domain_base.specs.Name.{same_name}
@@ -10,7 +10,11 @@ use Rattle.domain_nsec.specs.Chain.{Link}
 use Rattle.domain_nsec3.specs.Chain.{HashedLink, ParamRecord}
 use Rattle.domain_lent.specs.Data.{RawRecord}
 use Rattle.domain_lent.specs.Links.{nsec_record, nsec3_record, param_record, IsNsec, IsNsec3, IsParam}
-use Rattle.denial_c.specs.Wire.{record_octets, IsRecord, is_of}
+use Rattle.domain_lent.specs.Wire.{record_octets, IsRecord}
+
+-- of the type and the class
+abbrev pub is_of : ℕ → ℕ → RawRecord → Bool
+is_of rtype class r = (r.«data».rtype == rtype) && (r.class == class)
 
 -- the octets are records, one after another; those that are kept are these, in their order
 pub record AreAmong {K : Type 0} (is_kept : RawRecord → Bool) (raw : K → RawRecord)

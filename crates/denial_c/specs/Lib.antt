@@ -1,4 +1,3 @@
-pub mod Wire
 pub mod Among
 pub mod Numbers
 pub mod Result

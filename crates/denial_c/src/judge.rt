@@ -4,13 +4,13 @@ ghost use Rattle.domain_nsec.specs.ChainView.{links_of};
 ghost use Rattle.denial_c.specs.Among.{AreNsecs};
 ghost use Rattle.denial_c.specs.Judged.{IsExpansionAnswer, IsNsecAnswer, IsNsec3Answer, IsNsecsFault};
 
+use crate::among::is_of;
 use crate::fault::Fault;
 use crate::nsec::read_name;
 use crate::nsec3::chain_among;
-use crate::wire::{is_of, read_record};
 use domain_answer::{Answer, judge_nsec, judge_nsec3, judge_nsec3_expansion};
 use domain_base::{Class, Rtype};
-use domain_lent::{NsecRr, into_nsec};
+use domain_lent::{NsecRr, into_nsec, read_record};
 use domain_octets::Parser;
 use domain_records::Nsec3HashError;
 use domain_sha1::Sha1Hasher;

@@ -14,13 +14,13 @@ ghost use Rattle.denial_c.specs.Numbers.{answer_labels, answer_number, verdict_l
 ghost use Rattle.denial_c.specs.Result.{IsNsecResult, IsNsec3Result, IsTold};
 ghost use Rattle.denial_c.specs.Texts.{text_of, IsText};
 
+mod among;
 mod answer;
 mod fault;
 mod judge;
 mod nsec;
 mod nsec3;
 mod text;
-mod wire;
 
 use crate::text::ROOM;
 use std::alloc::Global;

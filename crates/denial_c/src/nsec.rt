@@ -6,12 +6,12 @@ ghost use Rattle.domain_checker.specs.HandedIn.{HasRead};
 ghost use Rattle.denial_c.specs.Among.{AreNsecs};
 ghost use Rattle.denial_c.specs.Result.{IsNsecResult, Spells, IsSpelled};
 
+use crate::among::is_of;
 use crate::fault::Fault;
-use crate::wire::{is_of, read_record};
 use domain_base::laws::octets_begin_with_one_name;
 use domain_base::{Class, ParsedName, Rtype, ToName};
 use domain_checker::{NsecCheck, Verdict};
-use domain_lent::into_nsec;
+use domain_lent::{into_nsec, read_record};
 use domain_octets::Parser;
 
 /// The name that the octets are. Refuses, with the fault, octets that are none.

@@ -5,12 +5,12 @@ ghost use Rattle.denial_c.specs.Among.{AreNsec3s, AreParams};
 ghost use Rattle.domain_checker.specs.HashedView.{links};
 ghost use Rattle.denial_c.specs.Result.{IsChainFault, IsNsec3Result, IsNsec3sFault, IsParamFault};
 
+use crate::among::is_of;
 use crate::fault::Fault;
 use crate::nsec::read_name;
-use crate::wire::{is_of, read_record};
 use domain_base::{Class, ParsedName, Rtype, ToName};
 use domain_checker::{Verdict, check_nsec3};
-use domain_lent::{Nsec3Rr, Nsec3paramRr, into_nsec3, into_nsec3param};
+use domain_lent::{Nsec3Rr, Nsec3paramRr, into_nsec3, into_nsec3param, read_record};
 use domain_nsec3::Nsec3Records;
 use domain_octets::Parser;
 use domain_records::Nsec3HashError;

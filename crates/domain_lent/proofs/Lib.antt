@@ -1,2 +1,3 @@
 pub mod DataLemmas
 pub mod MinimumLemmas
+pub mod WireLemmas

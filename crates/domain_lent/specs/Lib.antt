@@ -1,2 +1,3 @@
 pub mod Data
 pub mod Links
+pub mod Wire

@@ -1,8 +1,10 @@
-//! What holds of data as octets. A caller calls the law in its body.
-ghost use Rattle.std.specs.Prelude.{◌≡◌, ◌<◌, ◌^◌, Some};
+//! What holds of records and data as octets. A caller calls the law in its body.
+ghost use Rattle.std.specs.Prelude.{◌≡◌, ◌<◌, ◌^◌, ◌++◌, Some};
+ghost use Rattle.domain_octets.specs.Words.{Octets};
 ghost use Rattle.domain_base.specs.Types as rtypes;
 ghost use Rattle.domain_fields.specs.Layout.{canonical_of};
-ghost use Rattle.domain_lent.specs.Data.{minimum_of};
+ghost use Rattle.domain_lent.specs.Data.{minimum_of, RawRecord};
+ghost use Rattle.domain_lent.specs.Wire.{record_octets, IsOneRecord, IsRecord};
 ghost use Rattle.domain_plain.specs.Plain.{soa, soa_values};
 ghost use Rattle.domain_plain.specs.declared.soa.Soa.{Soa};
 
@@ -14,4 +16,11 @@ pub fn minimum_is_last<N: ToName>()
       rtype = rtypes.soa;
       octets = canonical_of soa (soa_values N.labels d);
     }) ≡ Some d.minimum }
+{}
+
+/// Octets begin with one record at most: what was composed of a record is read as this record, and
+/// what follows it is left.
+pub fn octets_begin_with_one_record()
+    ensures { (q r : RawRecord) (x y : Octets) → IsRecord q → IsRecord r
+        → record_octets q ++ x ≡ record_octets r ++ y → IsOneRecord q r x y }
 {}

@@ -3,9 +3,9 @@ use Rattle.std.proofs.lemmas.List.{map-append}
 use Rattle.domain_base.specs.Types as rtypes
 use Rattle.domain_nsec.specs.ChainView.{as_link, links_of}
 use Rattle.domain_lent.specs.Links.{nsec_record, IsNsec}
-use Rattle.denial_c.specs.Wire.{is_of}
+use Rattle.denial_c.specs.Among.{is_of}
 use Rattle.denial_c.proofs.AmongLemmas.{IsRead, passed, refused, refused_data, taken}
-use Rattle.denial_c.proofs.WireLemmas.{shorter}
+use Rattle.domain_lent.proofs.WireLemmas.{shorter}
 use Rattle.denial_c.proofs.judge.nsecs_among.Goals as goal
 
 pub returns-in_default-clause-err : goal.returns-in_default-clause-err

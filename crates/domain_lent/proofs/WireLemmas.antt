@@ -7,7 +7,7 @@ use Rattle.domain_fields.specs.Layout.{Values, octets_of, Begins, FirstFault}
 use Rattle.domain_fields.proofs.ExactLemmas.{fault_excludes}
 use Rattle.domain_fields.proofs.OrderLemmas.{same_data, Same}
 use Rattle.domain_lent.specs.Data.{RawRecord}
-use Rattle.denial_c.specs.Wire.{header, header_of, record_octets, IsRecord}
+use Rattle.domain_lent.specs.Wire.{header, header_of, record_octets, IsOneRecord, IsRecord}
 
 -- the header of a record stands before its data
 header_first : (r : RawRecord) (after : List ℕ) → record_octets r ++ after ≡ octets_of header (header_of r) ++ (r.«data».octets ++ after)
@@ -48,11 +48,7 @@ whole_record r v octets left after front cut is =
     front.parts ∙ ap (λ o. octets_of header v ++ o) cut ∙ ap (λ (u : Values header). octets_of header u
     ++ (r.«data».octets ++ after)) is ∙ sym (header_first r after)
 
-pub record OneRecord (q r : RawRecord) (x y : List ℕ) : Type 0 where
-  pub records : q ≡ r
-  pub after : x ≡ y
-
-pub same_record : (q r : RawRecord) (x y : List ℕ) → IsRecord q → IsRecord r → record_octets q ++ x ≡ record_octets r ++ y → OneRecord q r x y
+pub same_record : (q r : RawRecord) (x y : List ℕ) → IsRecord q → IsRecord r → record_octets q ++ x ≡ record_octets r ++ y → IsOneRecord q r x y
 same_record q r x y fits_q fits_r e =
     let s = same_header (header_of q) (record_octets q ++ x) (q.«data».octets ++ x) (begins_header q (record_octets q ++ x) x fits_q refl) r y fits_r e in
     let as_long : length q.«data».octets ≡ length r.«data».octets = ap (λ (u : Values header). u.1.1.1.1) s.values in

@@ -1,6 +1,6 @@
 use Rattle.std.proofs.Common.{◌<◌, length, refl, subst}
-use Rattle.denial_c.proofs.WireLemmas.{faulty_header, cut_data}
-use Rattle.denial_c.proofs.wire.read_record.Goals as goal
+use Rattle.domain_lent.proofs.WireLemmas.{faulty_header, cut_data}
+use Rattle.domain_lent.proofs.wire.read_record.Goals as goal
 
 pub returns-in_default-clause-none : goal.returns-in_default-clause-none
 returns-in_default-clause-none c =

@@ -1,0 +1,13 @@
+//! Which of the records in octets count.
+ghost use Rattle.std.specs.Prelude.{◌≡◌};
+ghost use Rattle.denial_c.specs.Among.{is_of};
+
+use domain_base::{Class, Rtype};
+use domain_lent::LentRecord;
+
+/// Whether the record is of the type and the class.
+pub(crate) fn is_of(lent: &LentRecord<'_>, rtype: Rtype, class: Class) -> bool
+    ensures { result ≡ is_of rtype class lent.now }
+{
+    (lent.rtype() == rtype) & (lent.class() == class)
+}
