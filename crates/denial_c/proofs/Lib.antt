@@ -1,4 +1,6 @@
 pub mod AmongLemmas
+pub mod GivenLemmas
+pub mod ChainLemmas
 pub mod NsecLemmas
 pub mod Nsec3Lemmas
 pub mod JudgeLemmas

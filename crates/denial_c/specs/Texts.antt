@@ -3,10 +3,12 @@ use Rattle.std.specs.Prelude.{◌≡◌, ℕ, ◌-◌, ◌<◌, ◌==◌, Bool, 
 use Rattle.domain_octets.specs.Words.{Octets}
 use Rattle.domain_answer.specs.declared.answer.Answer.TheVariants as answers
 use Rattle.domain_checker.specs.declared.verdict.Verdict.TheVariants as verdicts
+use Rattle.denial_c.specs.ChainNumbers.{chain_fault_number, chain_made}
 use Rattle.denial_c.specs.Numbers.{answer_number, fault_number, verdict_number}
+use Rattle.denial_c.specs.declared.chain_fault.ChainFault.TheVariants as chain_faults
 use Rattle.denial_c.specs.declared.fault.Fault.TheVariants as faults
 
--- of each verdict, each fault and each whole answer, whatever it counts
+-- of each verdict, each fault, each whole answer and a chain, whatever it counts
 abbrev pub texts : List (ℕ × Octets)
 texts =
     (verdict_number verdicts.NotProven, codes "not proven")
@@ -23,6 +25,10 @@ texts =
     ∷ (fault_number faults.Param, codes "no single NSEC3PARAM record")
     ∷ (fault_number faults.Hasher, codes "unknown hash algorithm")
     ∷ (fault_number faults.OutOfMemory, codes "out of memory")
+    ∷ (chain_fault_number (chain_faults.Class 0), codes "record of another class")
+    ∷ (chain_fault_number chain_faults.Soa, codes "no single SOA record")
+    ∷ (chain_fault_number chain_faults.Ttls, codes "unequal TTLs")
+    ∷ (chain_fault_number (chain_faults.ShortBuffer 0), codes "buffer too short")
     ∷ (answer_number answers.NotProven, codes "not proven")
     ∷ (answer_number answers.OutsideZone, codes "outside zone")
     ∷ (answer_number answers.AtParent, codes "at the parent")
@@ -39,6 +45,7 @@ texts =
     ∷ (answer_number (answers.MayBeUnsigned 0), codes "may be unsigned")
     ∷ (answer_number (answers.NoCloserName 0), codes "no closer name")
     ∷ (answer_number answers.TooManyIterations, codes "too many iterations")
+    ∷ (chain_made, codes "chain made")
     ∷ []
 
 -- the text that a list has for a number, or that there is none

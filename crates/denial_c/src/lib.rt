@@ -9,6 +9,7 @@
 #![tactic(auto)]
 
 ghost use Rattle.std.specs.Prelude.{◌≡◌};
+ghost use Rattle.denial_c.specs.Chains.{IsChainTold, IsNsecResult as IsNsecChainResult};
 ghost use Rattle.denial_c.specs.Judged.{IsExpansionAnswer, IsNsecAnswer, IsNsec3Answer};
 ghost use Rattle.denial_c.specs.Numbers.{answer_labels, answer_number, verdict_labels, verdict_number};
 ghost use Rattle.denial_c.specs.Result.{IsNsecResult, IsNsec3Result, IsTold};
@@ -16,13 +17,17 @@ ghost use Rattle.denial_c.specs.Texts.{text_of, IsText};
 
 mod among;
 mod answer;
+mod chain_fault;
 mod fault;
 mod judge;
 mod nsec;
 mod nsec3;
+mod nsec_chain;
 mod text;
+mod zone;
 
 use crate::text::ROOM;
+use domain_nsec::GenerateNsecConfig;
 use std::alloc::Global;
 
 /// The version of the library: 10000 times its major number, 100 times its minor number, and its
@@ -163,5 +168,38 @@ pub extern "C" fn denial_check_nsec3(
     answer::tell_verdict(
         nsec3::nsec3_verdict(alloc, apex, name, rtype, class, records),
         labels,
+    )
+}
+
+/// Writes the NSEC chain of a zone into the buffer, its records one after another in canonical
+/// order, without compression.
+///
+/// Gives 48, and the number of octets of the chain; or the number of a fault, and what it counts:
+/// the offset of the record where it stands, or the octets that there is no room for. The buffer
+/// then stays as it was.
+#[unsafe(no_mangle)]
+pub extern "C" fn denial_nsec_chain(
+    alloc: Global,
+    apex: &[u8],
+    class: u16,
+    assume_dnskey: bool,
+    occlude_below_dname: bool,
+    records: &[u8],
+    chain: &mut [u8],
+    count: &mut usize,
+) -> u32
+    ensures { IsChainTold
+        (IsNsecChainResult apex.now class (record {
+          assume_dnskeys_will_be_added = assume_dnskey;
+          occlude_below_dname = occlude_below_dname;
+        }) records.now) result count.new chain.old chain.new }
+{
+    let config = GenerateNsecConfig {
+        assume_dnskeys_will_be_added: assume_dnskey,
+        occlude_below_dname,
+    };
+    chain_fault::tell_chain(
+        nsec_chain::nsec_chain(alloc, apex, class, &config, records, chain),
+        count,
     )
 }

@@ -23,6 +23,10 @@ pub(crate) fn text_of(number: u32) -> &'static [u8; ROOM]
         19 => b"no single NSEC3PARAM record\0\0\0\0\0",
         20 => b"unknown hash algorithm\0\0\0\0\0\0\0\0\0\0",
         21 => b"out of memory\0\0\0\0\0\0\0\0\0\0\0\0\0\0\0\0\0\0\0",
+        22 => b"record of another class\0\0\0\0\0\0\0\0\0",
+        23 => b"no single SOA record\0\0\0\0\0\0\0\0\0\0\0\0",
+        24 => b"unequal TTLs\0\0\0\0\0\0\0\0\0\0\0\0\0\0\0\0\0\0\0\0",
+        25 => b"buffer too short\0\0\0\0\0\0\0\0\0\0\0\0\0\0\0\0",
         32 => b"not proven\0\0\0\0\0\0\0\0\0\0\0\0\0\0\0\0\0\0\0\0\0\0",
         33 => b"outside zone\0\0\0\0\0\0\0\0\0\0\0\0\0\0\0\0\0\0\0\0",
         34 => b"at the parent\0\0\0\0\0\0\0\0\0\0\0\0\0\0\0\0\0\0\0",
@@ -39,6 +43,7 @@ pub(crate) fn text_of(number: u32) -> &'static [u8; ROOM]
         45 => b"may be unsigned\0\0\0\0\0\0\0\0\0\0\0\0\0\0\0\0\0",
         46 => b"no closer name\0\0\0\0\0\0\0\0\0\0\0\0\0\0\0\0\0\0",
         47 => b"too many iterations\0\0\0\0\0\0\0\0\0\0\0\0\0",
+        48 => b"chain made\0\0\0\0\0\0\0\0\0\0\0\0\0\0\0\0\0\0\0\0\0\0",
         _ => b"no number of this library\0\0\0\0\0\0\0",
     }
 }

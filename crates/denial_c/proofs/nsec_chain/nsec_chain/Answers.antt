@@ -1,0 +1,37 @@
+use Rattle.std.proofs.Common.{◌≡◌, ◌<◌, List, length, refl, subst, IfErr, IfOk}
+use Rattle.domain_lent.specs.Data.{minimum_of, RawRecord}
+use Rattle.domain_nsec.specs.Chain.{IsChain}
+use Rattle.domain_zone.specs.View.{zone_of}
+use Rattle.denial_c.specs.Chains.{IsSortedNsecFault, IsWritten}
+use Rattle.denial_c.specs.declared.chain_fault.ChainFault.TheVariants.{ShortBuffer}
+use Rattle.denial_c.proofs.ChainLemmas.{is_sorted, nsec_fault, nsec_made, nsec_result}
+use Rattle.denial_c.proofs.nsec_chain.nsec_chain.Goals as goal
+
+pub returns-in-Err-sorted_nsecs : goal.returns-in-Err-sorted_nsecs
+returns-in-Err-sorted_nsecs c =
+    let sorted = c.in-Ok-sorted_zone.sorted.items in
+    let zone = is_sorted c.args.apex.now c.args.class c.from_int.result c.args.records.now c.in-Ok.apex sorted c.in-Ok.ensures.ok c.from_int.ensures
+    c.in-Ok-sorted_zone.ensures.sorts c.in-Ok-sorted_zone.ensures.one_class in (
+      nsec_fault c.args.apex.now c.args.class c.args.config.now c.args.records.now c.in-Ok.apex sorted c.args.buffer.now zone c.in-Err-sorted_nsecs.fault
+          (subst (λ (xs : List RawRecord). IsSortedNsecFault xs c.in-Ok.apex c.args.config.now c.in-Err-sorted_nsecs.fault) c.deref.ensures.value
+          c.in-Err-sorted_nsecs.ensures.err),
+      refl,
+    )
+
+pub returns : goal.returns
+returns c =
+    let sorted = c.in-Ok-sorted_zone.sorted.items in
+    let zone = is_sorted c.args.apex.now c.args.class c.from_int.result c.args.records.now c.in-Ok.apex sorted c.in-Ok.ensures.ok c.from_int.ensures
+    c.in-Ok-sorted_zone.ensures.sorts c.in-Ok-sorted_zone.ensures.one_class in
+    let made = c.in-Ok-sorted_nsecs.ensures.ok in
+    let octets = c.in-Ok-sorted_nsecs.octets.items in
+    let old = c.args.buffer.now in
+    let new = c.write_octets.new.buffer in
+    nsec_result c.args.apex.now c.args.class c.args.config.now c.args.records.now octets old new
+    (nsec_made c.args.apex.now c.args.class c.args.config.now c.args.records.now c.in-Ok.apex sorted octets made.0 zone
+    (subst (λ (xs : List RawRecord). IsChain (zone_of (λ n. n) (λ d. d.rtype) minimum_of xs) c.in-Ok.apex c.args.config.now made.0) c.deref.ensures.value made.1)
+    made.2)
+    c.write_octets.result
+    (subst (λ w. IfOk c.write_octets.result (IsWritten w old new)) c.deref-2.ensures.value c.write_octets.ensures.ok)
+    (subst (λ w. IfErr c.write_octets.result (λ e. (e ≡ ShortBuffer (length w)) × (length old < length w) × (new ≡ old))) c.deref-2.ensures.value
+    c.write_octets.ensures.err)

@@ -1,0 +1,37 @@
+-- What is answered where a chain is made, by the numbers that C sees.
+use Rattle.std.specs.Prelude.{ℕ, Result, Ok, Err}
+use Rattle.denial_c.specs.declared.chain_fault.ChainFault.{ChainFault}
+use Rattle.denial_c.specs.declared.chain_fault.ChainFault.TheVariants.{Apex, Records, Class, Soa, Ttls, ShortBuffer, OutOfMemory}
+
+-- the faults that verdicts have too have the same numbers
+abbrev pub chain_fault_number : ChainFault → ℕ
+chain_fault_number Apex = 16
+chain_fault_number (Records offset) = 18
+chain_fault_number (Class offset) = 22
+chain_fault_number Soa = 23
+chain_fault_number Ttls = 24
+chain_fault_number (ShortBuffer count) = 25
+chain_fault_number OutOfMemory = 21
+
+-- the offset where a fault stands, or how many octets there is no room for; 0 where it has neither
+abbrev pub fault_count : ChainFault → ℕ
+fault_count Apex = 0
+fault_count (Records offset) = offset
+fault_count (Class offset) = offset
+fault_count Soa = 0
+fault_count Ttls = 0
+fault_count (ShortBuffer count) = count
+fault_count OutOfMemory = 0
+
+-- a chain was written
+abbrev pub chain_made : ℕ
+chain_made = 48
+
+abbrev pub chain_number : Result ℕ ChainFault → ℕ
+chain_number (Ok count) = chain_made
+chain_number (Err fault) = chain_fault_number fault
+
+-- how many octets the chain has, or what its fault counts
+abbrev pub chain_count : Result ℕ ChainFault → ℕ
+chain_count (Ok count) = count
+chain_count (Err fault) = fault_count fault

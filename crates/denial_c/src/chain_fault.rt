@@ -1,0 +1,66 @@
+//! Why there is no chain, and the numbers of that.
+ghost use Rattle.std.specs.Prelude.{◌≡◌};
+ghost use Rattle.denial_c.specs.ChainNumbers.{chain_count, chain_fault_number, chain_number, fault_count};
+
+/// Why no chain was written.
+#[derive(Clone, Copy, Debug, PartialEq, Eq)]
+pub(crate) enum ChainFault {
+    /// The octets of the apex are no name.
+    Apex,
+    /// From this offset on the octets are no record.
+    Records(usize),
+    /// The record at this offset is of another class.
+    Class(usize),
+    /// The apex does not own exactly one SOA record.
+    Soa,
+    /// Records of one owner and one type differ in their TTLs.
+    Ttls,
+    /// The chain has so many octets, for which there is no room.
+    ShortBuffer(usize),
+    /// There is not enough memory.
+    OutOfMemory,
+}
+
+/// The number of a fault.
+fn chain_fault_number(fault: ChainFault) -> u32
+    ensures { result ≡ chain_fault_number fault }
+{
+    match fault {
+        ChainFault::Apex => 16,
+        ChainFault::Records(_) => 18,
+        ChainFault::OutOfMemory => 21,
+        ChainFault::Class(_) => 22,
+        ChainFault::Soa => 23,
+        ChainFault::Ttls => 24,
+        ChainFault::ShortBuffer(_) => 25,
+    }
+}
+
+/// What a fault counts: the offset where it stands, or the octets that there is no room for. 0 where
+/// it counts nothing.
+fn fault_count(fault: ChainFault) -> usize
+    ensures { result ≡ fault_count fault }
+{
+    match fault {
+        ChainFault::Records(offset) | ChainFault::Class(offset) => offset,
+        ChainFault::ShortBuffer(count) => count,
+        _ => 0,
+    }
+}
+
+/// Writes what is counted, the octets of the chain or what its fault counts, and gives the number.
+pub(crate) fn tell_chain(chain: Result<usize, ChainFault>, count: &mut usize) -> u32
+    ensures number { result ≡ chain_number chain }
+    ensures count { count.new ≡ chain_count chain }
+{
+    match chain {
+        Ok(octets) => {
+            *count = octets;
+            48
+        }
+        Err(fault) => {
+            *count = fault_count(fault);
+            chain_fault_number(fault)
+        }
+    }
+}

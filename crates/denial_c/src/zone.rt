@@ -1,0 +1,101 @@
+//! The records of a zone, as octets have them and sorted.
+ghost use Rattle.std.specs.Prelude.{◌≡◌, List, IfErr, IfOk, OnOk};
+ghost use Rattle.domain_records.specs.Order.{IsInOrder, IsOneClass};
+ghost use Rattle.domain_lent.specs.Data.{RawRecord};
+ghost use Rattle.denial_c.specs.Chains.{IsGivenFault, Sorts};
+ghost use Rattle.denial_c.specs.Given.{AreGiven};
+
+use crate::chain_fault::ChainFault;
+use domain_base::{Class, ParsedName};
+use domain_lent::{LentData, LentRecord, read_record};
+use domain_octets::{OutOfMemory, Parser};
+use domain_records::SortedRecords;
+use std::alloc::Global;
+
+/// Refuses octets that are not records of the class, one after another. Gives their number, by
+/// which room is asked for. Takes no memory.
+fn check_records(class: Class, octets: &[u8]) -> Result<usize, ChainFault>
+    ensures ok { OnOk result ((given : List RawRecord) × AreGiven class octets.now given) }
+    ensures err { IfErr result (IsGivenFault class octets.now) }
+{
+    let mut count: usize = 0;
+    let mut parser = Parser::new(octets);
+    'records: while parser.remaining() > 0 {
+        let offset = octets.len() - parser.remaining();
+        let Some(record) = read_record(&mut parser) else {
+            return Err(ChainFault::Records(offset));
+        };
+        if record.class() != class {
+            return Err(ChainFault::Class(offset));
+        }
+        count = count.saturating_add(1);
+    }
+    Ok(count)
+}
+
+/// The records of the class that the octets are; room is asked for so many at first.
+fn read_records<'a>(
+    alloc: Global,
+    class: Class,
+    octets: &'a [u8],
+    count: usize,
+) -> Result<Vec<LentRecord<'a>>, OutOfMemory>
+    requires { (given : List RawRecord) × AreGiven class octets.now given }
+    ensures { IfOk result (λ records. AreGiven class octets.now records.items) }
+{
+    let mut records = Vec::with_capacity(alloc, count)?;
+    let mut parser = Parser::new(octets);
+    'records: while parser.remaining() > 0 {
+        let Some(lent) = read_record(&mut parser) else {
+            unreachable!();
+        };
+        records.push(lent)?;
+    }
+    Ok(records)
+}
+
+/// The records, sorted; of equal ones the earliest is kept.
+fn sort_records<'a>(records: Vec<LentRecord<'a>>) -> Result<Vec<LentRecord<'a>>, OutOfMemory>
+    requires { IsOneClass records.items }
+    ensures sorts { IfOk result (λ sorted. Sorts records.entry.items sorted.items) }
+    ensures one_class { IfOk result (λ sorted. IsOneClass sorted.items) }
+    ensures in_order { IfOk result (λ sorted. IsInOrder (λ n. n) (λ d. d.rtype) sorted.items) }
+{
+    let sorted: SortedRecords<ParsedName<'a>, LentData<'a>> = match SortedRecords::from_vec(
+        records,
+    ) {
+        Ok(sorted) => sorted,
+        Err(_) => return Err(OutOfMemory),
+    };
+    Ok(sorted.into_inner())
+}
+
+/// The records of the class that the octets are, sorted; of equal ones the earliest is kept.
+///
+/// # Errors
+///
+/// `Records` or `Class`, whichever stands first in the octets; and `OutOfMemory`, which says that
+/// neither does.
+pub(crate) fn sorted_zone<'a>(
+    alloc: Global,
+    class: Class,
+    octets: &'a [u8],
+) -> Result<Vec<LentRecord<'a>>, ChainFault>
+    ensures sorts { IfOk result (λ sorted. (given : List RawRecord)
+        × AreGiven class octets.now given × Sorts given sorted.items) }
+    ensures one_class { IfOk result (λ sorted. IsOneClass sorted.items) }
+    ensures in_order { IfOk result (λ sorted. IsInOrder (λ n. n) (λ d. d.rtype) sorted.items) }
+    ensures err { IfErr result (IsGivenFault class octets.now) }
+{
+    let count = match check_records(class, octets) {
+        Ok(count) => count,
+        Err(fault) => return Err(fault),
+    };
+    let Ok(records) = read_records(alloc, class, octets, count) else {
+        return Err(ChainFault::OutOfMemory);
+    };
+    let Ok(sorted) = sort_records(records) else {
+        return Err(ChainFault::OutOfMemory);
+    };
+    Ok(sorted)
+}
