@@ -20,30 +20,31 @@ later line more k good h = record {
 }
 
 -- the lowest bad line, where the first line has the number n
-first_from : (n : ℕ) (lines : List (List ℕ)) (m : ℕ) (more : List ℕ) (records : List RawRecord) → AreLinted n lines (m ∷ more) records
+first_from : (n : ℕ) (lines : List (List ℕ)) (m : ℕ) (more numbers : List ℕ) (records : List RawRecord) → AreLinted n lines (m ∷ more) numbers records
     → (k : ℕ) × (m + 1 ≡ n + k) × IsFirstBad lines k
-first_from n [] m more records h = absurd (let w = h.0 in cc)
-first_from n (line ∷ rest) m more records (inl h) =
-    let lower = first_from (n + 1) rest m more records h.1 in
+first_from n [] m more numbers records h = absurd (let w = h.0 in cc)
+first_from n (line ∷ rest) m more numbers records (inl h) =
+    let lower = first_from (n + 1) rest m more numbers records h.1 in
     (lower.0 + 1, omega (arith, lower.1), later line rest lower.0 (inl h.0) lower.2)
-first_from n (line ∷ rest) m more records (inr (inl h)) =
-    let lower = first_from (n + 1) rest m more h.1 h.4 in
+first_from n (line ∷ rest) m more numbers records (inr (inl h)) =
+    let lower = first_from (n + 1) rest m more h.4 h.1 h.6 in
     (lower.0 + 1, omega (arith, lower.1), later line rest lower.0 (inr (h.0, h.3)) lower.2)
-first_from n (line ∷ rest) m more records (inr (inr h)) =
+first_from n (line ∷ rest) m more numbers records (inr (inr h)) =
     let same : m ≡ n = (let w = h.1 in cc) in
     (1, ap (λ i. i + 1) same, here line rest h.2)
 
-pub first_told : (lines : List (List ℕ)) (m : ℕ) (more : List ℕ) (records : List RawRecord) → AreLinted 1 lines (m ∷ more) records → IsFirstBad lines m
-first_told lines m more records h =
-    let first = first_from 1 lines m more records h in
+pub first_told : (lines : List (List ℕ)) (m : ℕ) (more numbers : List ℕ) (records : List RawRecord)
+    → AreLinted 1 lines (m ∷ more) numbers records → IsFirstBad lines m
+first_told lines m more numbers records h =
+    let first = first_from 1 lines m more numbers records h in
     let same : first.0 ≡ m = omega (arith, first.1) in
     subst (IsFirstBad lines) same first.2
 
-none_from : (n : ℕ) (lines : List (List ℕ)) (records : List RawRecord) → AreLinted n lines [] records → Give lines records
-none_from n [] records h = h.1
-none_from n (line ∷ rest) records (inl h) = inl (h.0, none_from (n + 1) rest records h.1)
-none_from n (line ∷ rest) records (inr (inl h)) = inr (h.0, h.1, h.2, h.3, none_from (n + 1) rest h.1 h.4)
-none_from n (line ∷ rest) records (inr (inr h)) = absurd (let w = h.1 in cc)
+none_from : (n : ℕ) (lines : List (List ℕ)) (numbers : List ℕ) (records : List RawRecord) → AreLinted n lines [] numbers records → Give lines records
+none_from n [] numbers records h = h.2
+none_from n (line ∷ rest) numbers records (inl h) = inl (h.0, none_from (n + 1) rest numbers records h.1)
+none_from n (line ∷ rest) numbers records (inr (inl h)) = inr (h.0, h.1, h.2, h.3, none_from (n + 1) rest h.4 h.1 h.6)
+none_from n (line ∷ rest) numbers records (inr (inr h)) = absurd (let w = h.1 in cc)
 
-pub none_told : (lines : List (List ℕ)) (records : List RawRecord) → AreLinted 1 lines [] records → Give lines records
-none_told lines records h = none_from 1 lines records h
+pub none_told : (lines : List (List ℕ)) (numbers : List ℕ) (records : List RawRecord) → AreLinted 1 lines [] numbers records → Give lines records
+none_told lines numbers records h = none_from 1 lines numbers records h

@@ -1,6 +1,6 @@
 -- How far a reader has come, where it tells its octets.
 use Rattle.std.proofs.Common.{◌≡◌, ◌⊎◌, ℕ, ◌+◌, ◌<◌, List, [], ◌∷◌, ◌++◌, length, refl, ap, sym, ◌∙◌, subst, arith, inl, inr}
-use Rattle.std.proofs.Common.{Some, None, IfSome, Option, append-nil, append_assoc}
+use Rattle.std.proofs.Common.{Some, None, IfSome, Option, append-nil, append_assoc, length-append}
 use Rattle.std.specs.Str.Lines.{lines}
 use Rattle.std.specs.Io.BufRead.{take_through, drop_through, DropsThrough}
 use Rattle.std.specs.Io.KnownBytes.{IsAtEnd}
@@ -55,52 +55,56 @@ no_line OutOfMemory h none = inr refl
 
 -- ---- all lines
 
--- what rest is, after these numbers and records, all is; and rest begins with the line of this number
-abbrev pub Continues : List (List ℕ) → List (List ℕ) → List ℕ → List RawRecord → ℕ → Type 0
-Continues all rest bad records number =
-    (more : List ℕ) (others : List RawRecord) → AreLinted number rest more others → AreLinted 1 all (bad ++ more) (records ++ others)
+-- what rest is, after these bad lines, and these records with their numbers, all is; and rest begins with the line of this number
+abbrev pub Continues : List (List ℕ) → List (List ℕ) → List ℕ → List ℕ → List RawRecord → ℕ → Type 0
+Continues all rest bad numbers records number =
+    (more left : List ℕ) (others : List RawRecord) → AreLinted number rest more left others
+    → AreLinted 1 all (bad ++ more) (numbers ++ left) (records ++ others)
 
 -- of known octets the lines before this number are these, and the reader has the others left
-abbrev pub Follows : Option (List ℕ) → Option (List ℕ) → List ℕ → List RawRecord → ℕ → Type 0
-Follows known now bad records number =
-    IfSome known (λ all. (rest : List ℕ) × (now ≡ Some rest) × Continues (lines all) (lines rest) bad records number)
+abbrev pub Follows : Option (List ℕ) → Option (List ℕ) → List ℕ → List ℕ → List RawRecord → ℕ → Type 0
+Follows known now bad numbers records number =
+    IfSome known (λ all. (rest : List ℕ) × (now ≡ Some rest) × Continues (lines all) (lines rest) bad numbers records number)
 
 -- the same where the line of this number was taken
-abbrev pub FollowsAt : Option (List ℕ) → Option (List ℕ) → List ℕ → List ℕ → List RawRecord → ℕ → Type 0
-FollowsAt known now view bad records number =
+abbrev pub FollowsAt : Option (List ℕ) → Option (List ℕ) → List ℕ → List ℕ → List ℕ → List RawRecord → ℕ → Type 0
+FollowsAt known now view bad numbers records number =
     IfSome known (λ all. (rest : List ℕ) × (now ≡ Some rest) × (out : List ℕ) × (lines view ≡ out ∷ [])
-    × Continues (lines all) (out ∷ lines rest) bad records number)
+    × Continues (lines all) (out ∷ lines rest) bad numbers records number)
 
-pub follows_start : (known : Option (List ℕ)) (bad : List ℕ) (records : List RawRecord) (number : ℕ) → bad ≡ [] → records ≡ [] → number ≡ 1
-    → Follows known known bad records number
-follows_start None bad records number b r one = tt
-follows_start (Some all) bad records number b r one = (
+pub follows_start : (known : Option (List ℕ)) (bad numbers : List ℕ) (records : List RawRecord) (number : ℕ) → bad ≡ [] → numbers ≡ [] → records ≡ []
+    → number ≡ 1 → Follows known known bad numbers records number
+follows_start None bad numbers records number b p r one = tt
+follows_start (Some all) bad numbers records number b p r one = (
   all,
   refl,
-  λ more others h. subst (λ bs. AreLinted 1 (lines all) (bs ++ more) (records ++ others)) (sym b)
-      (subst (λ rs. AreLinted 1 (lines all) more (rs ++ others)) (sym r) (subst (λ n. AreLinted n (lines all) more others) one h)),
+  λ more left others h. subst (λ bs. AreLinted 1 (lines all) (bs ++ more) (numbers ++ left) (records ++ others)) (sym b)
+      (subst (λ ps. AreLinted 1 (lines all) more (ps ++ left) (records ++ others)) (sym p)
+      (subst (λ rs. AreLinted 1 (lines all) more left (rs ++ others)) (sym r) (subst (λ n. AreLinted n (lines all) more left others) one h))),
 )
 
-pub follows_end : (known now : Option (List ℕ)) (bad : List ℕ) (records : List RawRecord) (number : ℕ)
-    → Follows known now bad records number → IsAtEnd now → IfSome known (λ all. AreLinted 1 (lines all) bad records)
-follows_end None now bad records number h e = tt
-follows_end (Some all) None bad records number h e = absurd (let w = h.1 in cc)
-follows_end (Some all) (Some xs) bad records number h e =
+pub follows_end : (known now : Option (List ℕ)) (bad numbers : List ℕ) (records : List RawRecord) (number : ℕ)
+    → Follows known now bad numbers records number → IsAtEnd now → IfSome known (λ all. AreLinted 1 (lines all) bad numbers records)
+follows_end None now bad numbers records number h e = tt
+follows_end (Some all) None bad numbers records number h e = absurd (let w = h.1 in cc)
+follows_end (Some all) (Some xs) bad numbers records number h e =
     let same : h.0 ≡ [] = (let w = h.1 in cc) in
-    let c : Continues (lines all) [] bad records number = subst (λ (r : List ℕ). Continues (lines all) (lines r) bad records number) same h.2 in
-    subst (AreLinted 1 (lines all) bad) (append-nil records)
-    (subst (λ bs. AreLinted 1 (lines all) bs (records ++ [])) (append-nil bad) (c [] [] (refl, refl)))
+    let c : Continues (lines all) [] bad numbers records number =
+    subst (λ (r : List ℕ). Continues (lines all) (lines r) bad numbers records number) same h.2 in
+    subst (AreLinted 1 (lines all) bad numbers) (append-nil records)
+    (subst (λ ps. AreLinted 1 (lines all) bad ps (records ++ [])) (append-nil numbers)
+    (subst (λ bs. AreLinted 1 (lines all) bs (numbers ++ []) (records ++ [])) (append-nil bad) (c [] [] [] (refl, refl, refl))))
 
 taken_some : (bs : List ℕ) → 0 < length (take_through 10 bs) → 0 < length bs
 taken_some [] h = h
 taken_some (x ∷ xs) h = omega arith
 
 -- a line was read into a buffer that was empty
-pub follows_next : (known old new : Option (List ℕ)) (bad : List ℕ) (records : List RawRecord) (number : ℕ) (was buf view : List ℕ)
-    → Follows known old bad records number → DropsThrough old new 10 → was ≡ [] → IfSome old (λ xs. buf ≡ was ++ take_through 10 xs)
-    → 0 < length buf → view ≡ buf → FollowsAt known new view bad records number
-follows_next None old new bad records number was buf view h drops empty filled some same = tt
-follows_next (Some all) old new bad records number was buf view h drops empty filled some same =
+pub follows_next : (known old new : Option (List ℕ)) (bad numbers : List ℕ) (records : List RawRecord) (number : ℕ) (was buf view : List ℕ)
+    → Follows known old bad numbers records number → DropsThrough old new 10 → was ≡ [] → IfSome old (λ xs. buf ≡ was ++ take_through 10 xs)
+    → 0 < length buf → view ≡ buf → FollowsAt known new view bad numbers records number
+follows_next None old new bad numbers records number was buf view h drops empty filled some same = tt
+follows_next (Some all) old new bad numbers records number was buf view h drops empty filled some same =
     let rest = h.0 in
     let dropped : new ≡ Some (drop_through 10 rest) = subst (λ o. DropsThrough o new 10) h.1 drops in
     let held : buf ≡ was ++ take_through 10 rest = subst (λ o. IfSome o (λ xs. buf ≡ was ++ take_through 10 xs)) h.1 filled in
@@ -110,40 +114,47 @@ follows_next (Some all) old new bad records number was buf view h drops empty fi
       dropped,
       once.0,
       ap lines (same ∙ taken) ∙ once.2,
-      subst (λ ls. Continues (lines all) ls bad records number) once.1 h.2,
+      subst (λ ls. Continues (lines all) ls bad numbers records number) once.1 h.2,
     )
 
-pub follows_nothing : (known now : Option (List ℕ)) (view bad : List ℕ) (records : List RawRecord) (number : ℕ)
-    → FollowsAt known now view bad records number → ((out : List ℕ) → lines view ≡ out ∷ [] → IsSkipped (words out))
-    → Follows known now bad records (number + 1)
-follows_nothing None now view bad records number h said = tt
-follows_nothing (Some all) now view bad records number h said = (h.0, h.1, λ more others l. h.4 more others (inl (said h.2 h.3, l)))
+pub follows_nothing : (known now : Option (List ℕ)) (view bad numbers : List ℕ) (records : List RawRecord) (number : ℕ)
+    → FollowsAt known now view bad numbers records number → ((out : List ℕ) → lines view ≡ out ∷ [] → IsSkipped (words out))
+    → Follows known now bad numbers records (number + 1)
+follows_nothing None now view bad numbers records number h said = tt
+follows_nothing (Some all) now view bad numbers records number h said =
+    (h.0, h.1, λ more left others l. h.4 more left others (inl (said h.2 h.3, l)))
 
-pub follows_record : (known now : Option (List ℕ)) (view bad : List ℕ) (old new : List RawRecord) (r : RawRecord) (number : ℕ)
-    → FollowsAt known now view bad old number → new ≡ old ++ r ∷ [] → ((out : List ℕ) → lines view ≡ out ∷ [] → IsRecord out r)
-    → Follows known now bad new (number + 1)
-follows_record None now view bad old new r number h e said = tt
-follows_record (Some all) now view bad old new r number h e said = (
+pub follows_record : (known now : Option (List ℕ)) (view bad numbers placed : List ℕ) (old new : List RawRecord) (r : RawRecord) (number : ℕ)
+    → FollowsAt known now view bad numbers old number → placed ≡ numbers ++ number ∷ [] → new ≡ old ++ r ∷ []
+    → ((out : List ℕ) → lines view ≡ out ∷ [] → IsRecord out r) → Follows known now bad placed new (number + 1)
+follows_record None now view bad numbers placed old new r number h p e said = tt
+follows_record (Some all) now view bad numbers placed old new r number h p e said = (
   h.0,
   h.1,
-  λ more others l. subst (λ rs. AreLinted 1 (lines all) (bad ++ more) (rs ++ others)) (sym e)
-      (subst (AreLinted 1 (lines all) (bad ++ more)) (sym (append_assoc old (r ∷ []) others))
-      (h.4 more (r ∷ others) (inr (inl (r, others, refl, said h.2 h.3, l))))),
+  λ more left others l. subst (λ rs. AreLinted 1 (lines all) (bad ++ more) (placed ++ left) (rs ++ others)) (sym e)
+      (subst (λ rs. AreLinted 1 (lines all) (bad ++ more) (placed ++ left) rs) (sym (append_assoc old (r ∷ []) others))
+      (subst (λ ps. AreLinted 1 (lines all) (bad ++ more) (ps ++ left) (old ++ r ∷ others)) (sym p)
+      (subst (λ ps. AreLinted 1 (lines all) (bad ++ more) ps (old ++ r ∷ others)) (sym (append_assoc numbers (number ∷ []) left))
+      (h.4 more (number ∷ left) (r ∷ others) (inr (inl (r, others, refl, said h.2 h.3, left, refl, l))))))),
 )
 
-pub follows_bad : (known now : Option (List ℕ)) (view old new : List ℕ) (records : List RawRecord) (number : ℕ)
-    → FollowsAt known now view old records number → new ≡ old ++ number ∷ [] → ((out : List ℕ) → lines view ≡ out ∷ [] → IsBad out)
-    → Follows known now new records (number + 1)
-follows_bad None now view old new records number h e said = tt
-follows_bad (Some all) now view old new records number h e said = (
+pub follows_bad : (known now : Option (List ℕ)) (view old new numbers : List ℕ) (records : List RawRecord) (number : ℕ)
+    → FollowsAt known now view old numbers records number → new ≡ old ++ number ∷ [] → ((out : List ℕ) → lines view ≡ out ∷ [] → IsBad out)
+    → Follows known now new numbers records (number + 1)
+follows_bad None now view old new numbers records number h e said = tt
+follows_bad (Some all) now view old new numbers records number h e said = (
   h.0,
   h.1,
-  λ more others l. subst (λ bs. AreLinted 1 (lines all) (bs ++ more) (records ++ others)) (sym e)
-      (subst (λ bs. AreLinted 1 (lines all) bs (records ++ others)) (sym (append_assoc old (number ∷ []) more))
-      (h.4 (number ∷ more) others (inr (inr (more, refl, said h.2 h.3, l))))),
+  λ more left others l. subst (λ bs. AreLinted 1 (lines all) (bs ++ more) (numbers ++ left) (records ++ others)) (sym e)
+      (subst (λ bs. AreLinted 1 (lines all) bs (numbers ++ left) (records ++ others)) (sym (append_assoc old (number ∷ []) more))
+      (h.4 (number ∷ more) left others (inr (inr (more, refl, said h.2 h.3, l))))),
 )
 
-pub stays_known : (known now : Option (List ℕ)) (bad : List ℕ) (records : List RawRecord) (number : ℕ) → Follows known now bad records number
-    → StaysKnown known now
-stays_known None now bad records number h = tt
-stays_known (Some all) now bad records number h = (h.0, h.1)
+pub stays_known : (known now : Option (List ℕ)) (bad numbers : List ℕ) (records : List RawRecord) (number : ℕ)
+    → Follows known now bad numbers records number → StaysKnown known now
+stays_known None now bad numbers records number h = tt
+stays_known (Some all) now bad numbers records number h = (h.0, h.1)
+
+-- one place and one record more
+pub paired_more : {A B : Type 0} (xs : List A) (ys : List B) (x : A) (y : B) → length xs ≡ length ys → length (xs ++ x ∷ []) ≡ length (ys ++ y ∷ [])
+paired_more xs ys x y h = length-append xs (x ∷ []) ∙ ap (λ n. n + 1) h ∙ sym (length-append ys (y ∷ []))

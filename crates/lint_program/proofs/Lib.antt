@@ -1,4 +1,5 @@
 pub mod LineLemmas
 pub mod Following
 pub mod ReportLemmas
+pub mod NoteLemmas
 pub mod FirstLemmas

@@ -1,6 +1,7 @@
 -- The lines of a report, one after another.
-use Rattle.std.proofs.Common.{◌≡◌, ℕ, zero, suc, List, [], ◌∷◌, ◌++◌, refl, ap, sym, ◌∙◌, append-nil, append_assoc}
+use Rattle.std.proofs.Common.{◌≡◌, ℕ, Bool, List, [], ◌∷◌, ◌++◌, refl, ap, sym, ◌∙◌, append-nil, append_assoc}
 use Rattle.domain_octets.specs.Words.{Octets}
+use Rattle.lint_program.specs.Notes.{Mark}
 use Rattle.lint_program.specs.Report.{AreFaults, AreNotes, IsFault, IsNote}
 
 -- one more line
@@ -16,7 +17,19 @@ pub fault_grouped : (line number between word colon told end : Octets)
 fault_grouped line number between word colon told end = simp append_assoc
 
 -- one more note
-pub notes_more : (count : ℕ) (text line : Octets) → AreNotes count text → IsNote line → AreNotes (suc count) (text ++ line)
-notes_more zero text line h is = (line, [], ap (λ t. t ++ line) h ∙ sym (append-nil line), is, refl)
-notes_more (suc count) text line h is =
-    (h.0, h.1 ++ line, ap (λ t. t ++ line) h.2 ∙ append_assoc h.0 h.1 line, h.3, notes_more count h.1 line h.4 is)
+pub notes_more : (refused : Bool) (marks : List Mark) (mark : Mark) (text line : Octets) → AreNotes refused marks text → IsNote refused mark line
+    → AreNotes refused (marks ++ mark ∷ []) (text ++ line)
+notes_more refused [] mark text line h is = (line, [], ap (λ t. t ++ line) h ∙ sym (append-nil line), is, refl)
+notes_more refused (m ∷ marks) mark text line h is =
+    (h.0, h.1 ++ line, ap (λ t. t ++ line) h.2 ∙ append_assoc h.0 h.1 line, h.3, notes_more refused marks mark h.1 line h.4 is)
+
+note_parts : (kind place opening told closing end : Octets)
+    → ((((kind ++ place) ++ opening) ++ told) ++ closing) ++ end ≡ kind ++ place ++ opening ++ told ++ closing ++ end
+note_parts kind place opening told closing end = simp append_assoc
+
+-- the parts of a note in the grouping in which they are written
+pub note_grouped : (kind place opening told closing end k o c : Octets) → kind ≡ k → opening ≡ o → closing ≡ c
+    → ((((kind ++ place) ++ opening) ++ told) ++ closing) ++ end ≡ k ++ place ++ o ++ told ++ c ++ end
+note_grouped kind place opening told closing end k o c is_kind is_opening is_closing =
+    note_parts kind place opening told closing end ∙ ap (λ x. x ++ place ++ opening ++ told ++ closing ++ end) is_kind
+    ∙ ap (λ x. k ++ place ++ x ++ told ++ closing ++ end) is_opening ∙ ap (λ x. k ++ place ++ o ++ told ++ x ++ end) is_closing

@@ -8,15 +8,16 @@ use Rattle.lint_program.specs.declared.reading.Line.{Line}
 use Rattle.lint_program.specs.declared.reading.Line.TheVariants.{Nothing, Record, Bad}
 
 -- each of these lines, of which the first has the number n, is skipped, spells a record, or is bad:
--- these are the numbers of all that are bad, and the records of all others, in order
-abbrev pub AreLinted : ℕ → List Octets → List ℕ → List RawRecord → Type 0
-AreLinted n [] bad records = (bad ≡ []) × (records ≡ [])
-AreLinted n (line ∷ more) bad records =
-    (IsSkipped (words line) × AreLinted (n + 1) more bad records)
+-- these are the numbers of all that are bad, and the records of all others with their numbers, in
+-- order
+abbrev pub AreLinted : ℕ → List Octets → List ℕ → List ℕ → List RawRecord → Type 0
+AreLinted n [] bad numbers records = (bad ≡ []) × (numbers ≡ []) × (records ≡ [])
+AreLinted n (line ∷ more) bad numbers records =
+    (IsSkipped (words line) × AreLinted (n + 1) more bad numbers records)
     ⊎ (((r : RawRecord) × (others : List RawRecord) × (records ≡ r ∷ others) × IsRecord line r
-    × AreLinted (n + 1) more bad others)
+    × (left : List ℕ) × (numbers ≡ n ∷ left) × AreLinted (n + 1) more bad left others)
     ⊎ ((others : List ℕ) × (bad ≡ n ∷ others) × IsBad line
-    × AreLinted (n + 1) more others records))
+    × AreLinted (n + 1) more others numbers records))
 
 -- what was read of a line is what it is
 abbrev pub Reads : Octets → Line → Type 0

@@ -1,5 +1,5 @@
 -- What is told of an input.
-use Rattle.std.specs.Prelude.{◌≡◌, ◌≢◌, ◌⊎◌, ℕ, ◌≤◌, zero, suc, Bool, true, false, List, [], ◌∷◌, ◌++◌, All, codes}
+use Rattle.std.specs.Prelude.{◌≡◌, ◌≢◌, ◌⊎◌, ℕ, ◌≤◌, ◌==◌, Bool, true, false, ◌&&◌, List, [], ◌∷◌, ◌++◌, All, codes, length, Option, Some, None, if◌then◌else◌}
 use Rattle.std.specs.Fmt.{decimal}
 use Rattle.domain_octets.specs.Words.{Octets}
 use Rattle.domain_octets.specs.Characters.{space, tilde}
@@ -10,6 +10,9 @@ use Rattle.denial_program.specs.declared.answer.Answer.{Answer}
 use Rattle.denial_program.specs.declared.fault.DenialFault.{DenialFault}
 use Rattle.denial_program.specs.declared.fault.DenialFault.TheVariants.{OutOfMemory}
 use Rattle.lint_program.specs.Lines.{AreLinted}
+use Rattle.lint_program.specs.NoteText.{closing, opening}
+use Rattle.lint_program.specs.Notes.{fails, AreNoted, Mark}
+use Rattle.lint_program.specs.Outcomes.{is_faulty}
 use Rattle.lint_program.specs.declared.outcome.Outcome.{Outcome}
 use Rattle.lint_program.specs.declared.outcome.Outcome.TheVariants.{Clean, Warned, Faulty}
 
@@ -33,20 +36,33 @@ AreFaults (n ∷ more) text =
     (first : Octets) × (rest : Octets) × (text ≡ first ++ rest) × IsFault n first
     × AreFaults more rest
 
--- one line of the report that is of no bad line: a fault of the zone, or a warning
-pub record IsNote (text : Octets) : Type 0 where
-  pub kind : Octets
-  pub known : (kind ≡ codes "zone: ") ⊎ (kind ≡ codes "warning: ")
+-- how a line of the report begins that is of no bad line
+abbrev pub kind_of : Bool → Octets
+kind_of is_fault = if is_fault then codes "zone: " else codes "warning: "
+
+-- of which line of the input it is
+abbrev pub place_text : Option ℕ → Octets
+place_text None = []
+place_text (Some n) = codes "line " ++ decimal n ++ codes ": "
+
+-- such a line of the report, which tells a mark: between what each note of its reason begins and
+-- ends with stands printed text
+pub record IsLine (is_fault : Bool) (mark : Mark) (text : Octets) : Type 0 where
   pub told : Octets
   pub printed : All IsPrinted told
-  pub is : text ≡ kind ++ told ++ codes "\n"
+  pub is : text ≡ kind_of is_fault ++ place_text mark.place ++ opening mark.reason ++ told
+      ++ closing mark.reason ++ codes "\n"
 
--- so many of these
-abbrev pub AreNotes : ℕ → Octets → Type 0
-AreNotes zero text = text ≡ []
-AreNotes (suc count) text =
-    (first : Octets) × (rest : Octets) × (text ≡ first ++ rest) × IsNote first
-    × AreNotes count rest
+-- as a fault of the zone where it is one for which the records are refused, and else as a warning
+abbrev pub IsNote : Bool → Mark → Octets → Type 0
+IsNote are_refused mark text = IsLine (fails mark.reason && are_refused) mark text
+
+-- a line for each of these marks, in their order
+abbrev pub AreNotes : Bool → List Mark → Octets → Type 0
+AreNotes are_refused [] text = text ≡ []
+AreNotes are_refused (mark ∷ more) text =
+    (first : Octets) × (rest : Octets) × (text ≡ first ++ rest) × IsNote are_refused mark first
+    × AreNotes are_refused more rest
 
 -- the records have no NSEC chain, for which `denial` refuses them
 abbrev pub AreRefused : List RawRecord → Name → Type 0
@@ -62,23 +78,25 @@ abbrev pub IfRefused : Bool → List RawRecord → Name → Type 0
 IfRefused true records apex = AreRefused records apex
 IfRefused false records apex = HaveChain records apex
 
--- the outcome, where these lines are bad, the others give these records, and there are so many notes
-abbrev pub IsOutcome : List ℕ → List RawRecord → Name → ℕ → Outcome → Type 0
-IsOutcome bad records apex count Clean =
-    (bad ≡ []) × HaveChain records apex × (count ≡ 0)
-IsOutcome bad records apex count Warned = (bad ≡ []) × HaveChain records apex
-IsOutcome bad records apex count Faulty = (bad ≢ []) ⊎ AreRefused records apex
+-- the outcome, where these lines are bad, the others give these records, and these marks are told
+abbrev pub IsOutcome : List ℕ → List RawRecord → Name → List Mark → Outcome → Type 0
+IsOutcome bad records apex marks Clean = (bad ≡ []) × HaveChain records apex × (marks ≡ [])
+IsOutcome bad records apex marks Warned = (bad ≡ []) × HaveChain records apex × (marks ≢ [])
+IsOutcome bad records apex marks Faulty = (bad ≢ []) ⊎ AreRefused records apex
 
--- the report on these lines: each line that is bad, and no other, is told by its number
+-- the report on these lines: each line that is bad, and no other, is told by its number; and then
+-- what the records of the others deserve to be told for, and nothing else
 pub record IsReport (lines : List Octets) (apex : Name) (outcome : Outcome) (text : Octets)
     : Type 0 where
   pub bad : List ℕ
+  pub numbers : List ℕ
   pub records : List RawRecord
-  pub count : ℕ
+  pub marks : List Mark
   pub faults : Octets
   pub notes : Octets
-  pub are : AreLinted 1 lines bad records
+  pub are : AreLinted 1 lines bad numbers records
   pub told : AreFaults bad faults
-  pub noted : AreNotes count notes
+  pub deserved : AreNoted (length bad == 0) apex records numbers marks
+  pub noted : AreNotes (is_faulty outcome) marks notes
   pub is : text ≡ faults ++ notes
-  pub tells : IsOutcome bad records apex count outcome
+  pub tells : IsOutcome bad records apex marks outcome

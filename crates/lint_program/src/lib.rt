@@ -4,21 +4,26 @@
 //!
 //! `run_lint` is generic over its reader and its writer. Which lines are bad is decided by
 //! `read_records` of `denial_program`, each line by itself, and whether the others are refused as a
-//! zone by the generator of their NSEC chain: that is what its contract is about. What is told of a
-//! line or a record is worked out afterwards by `explain` and `notes_of`, of which nothing is
-//! promised but that it is printed text without an end of a line.
+//! zone by the generator of their NSEC chain; which of their records deserve a note, and why, by
+//! `notes_of`: that is what its contract is about. What is wrong in a bad line is worked out
+//! afterwards by `explain`, of which, as of the text of a note between the words of its reason,
+//! nothing is promised but that it is printed text without an end of a line.
 #![tactic(auto)]
 
 mod command;
 mod data_hint;
-mod data_note;
 mod explain;
 mod fault;
+mod firsts;
 mod generic;
 mod hint;
 pub mod laws;
+mod looks;
 mod name_trouble;
+mod note_text;
 mod notes;
+mod odd;
+mod ordered_name;
 mod outcome;
 mod program;
 mod reading;

@@ -1,6 +1,6 @@
 //! What was found in an input.
 ghost use Rattle.std.specs.Prelude.{◌≡◌};
-ghost use Rattle.lint_program.specs.Outcomes.{exit_status};
+ghost use Rattle.lint_program.specs.Outcomes.{exit_status, is_faulty};
 
 /// What was found in an input.
 #[derive(Clone, Copy, Debug, PartialEq, Eq)]
@@ -23,6 +23,16 @@ impl Outcome {
             Outcome::Clean => 0,
             Outcome::Warned => 3,
             Outcome::Faulty => 1,
+        }
+    }
+
+    /// Whether there is a fault.
+    pub fn is_faulty(&self) -> bool
+        ensures { result ≡ is_faulty self.now }
+    {
+        match self {
+            Outcome::Clean | Outcome::Warned => false,
+            Outcome::Faulty => true,
         }
     }
 }

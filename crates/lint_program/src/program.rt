@@ -1,5 +1,5 @@
 //! The run of the program, over any reader and any writer.
-ghost use Rattle.std.specs.Prelude.{◌≡◌, IfErr, IfOk, MatchResult, OnOk, IfSome, length, map, string_bytes};
+ghost use Rattle.std.specs.Prelude.{◌≡◌, IfErr, IfOk, MatchResult, OnOk, IfSome, map, string_bytes};
 ghost use Rattle.std.specs.Str.Lines.{lines};
 ghost use Rattle.std.specs.Io.KnownBytes.{Appends};
 ghost use Rattle.domain_octets.specs.Words.{Octets};
@@ -7,10 +7,11 @@ ghost use Rattle.denial_program.specs.Fault.{IsBeforeOutput, IsReadToEnd};
 ghost use Rattle.denial_program.specs.declared.fault.DenialFault.TheVariants.{OutOfMemory as Memory};
 ghost use Rattle.domain_base.specs.Words.{Name};
 ghost use Rattle.lint_program.specs.Command.{Asks, IsCommand, IsRunFault};
+ghost use Rattle.lint_program.specs.Notes.{mark_of};
 ghost use Rattle.lint_program.specs.Report.{IsOutcome, IsReport};
 
 use crate::command::apex_of;
-use crate::notes::{Note, Zone, notes_of};
+use crate::notes::{Note, notes_of};
 use crate::outcome::Outcome;
 use crate::reading::{BadLine, Lines, read_lines};
 use crate::report::{finish, write_faults, write_notes};
@@ -40,7 +41,7 @@ fn outcome_of<'a>(
     notes: &[Note],
 ) -> Result<Outcome, DenialFault>
     ensures ok { IfOk result (IsOutcome (map (λ b. b.number) bad.now) records.entry.items apex.now
-        (length notes.now)) }
+        (map mark_of notes.now)) }
     ensures err { IfErr result (λ e. e ≡ Memory) }
 {
     if !bad.is_empty() {
@@ -71,7 +72,8 @@ pub fn run_lint<R: BufRead, W: Write>(
     input: &mut R,
     output: &mut W,
 ) -> Result<Outcome, DenialFault>
-    // What is written tells each line that is neither skipped nor a record, and no other.
+    // What is written tells each line that is neither skipped nor a record, and no other; and then
+    // each record of the others that deserves it, by the number of its line and why, and no other.
     ensures ok { IfOk result (λ outcome. IfSome (R.remaining input.old) (λ bytes. (apex : Name)
         × (text : Octets) × Asks (map string_bytes words.now) apex
         × IsReport (lines bytes) apex outcome text
@@ -94,15 +96,10 @@ pub fn run_lint<R: BufRead, W: Write>(
         records,
         places,
     } = read_lines(alloc, &arena, input)?;
-    let zone = Zone {
-        apex: &apex,
-        records: &records,
-        places: &places,
-    };
-    let notes = notes_of(alloc, zone, bad.is_empty())?;
+    let notes = notes_of(alloc, &apex, &records, &places, bad.is_empty())?;
     let outcome = outcome_of(alloc, &apex, records, &bad, &notes)?;
     write_faults(alloc, &bad, output)?;
-    write_notes(alloc, &notes, outcome == Outcome::Faulty, output)?;
+    write_notes(alloc, &notes, outcome.is_faulty(), output)?;
     finish(output)?;
     Ok(outcome)
 }

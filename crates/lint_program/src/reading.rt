@@ -1,5 +1,5 @@
 //! The lines of an input, each read by itself.
-ghost use Rattle.std.specs.Prelude.{◌≡◌, ◌⊎◌, ◌∷◌, [], IfErr, IfOk, IfSome, OnOk, map};
+ghost use Rattle.std.specs.Prelude.{◌≡◌, ◌⊎◌, ◌∷◌, [], IfErr, IfOk, IfSome, OnOk, length, map};
 ghost use Rattle.std.specs.Str.Lines.{lines};
 ghost use Rattle.domain_octets.specs.Words.{Octets};
 ghost use Rattle.denial_program.specs.Fault.{IsReadToEnd};
@@ -98,7 +98,8 @@ pub fn read_lines<'a, R: BufRead>(
 ) -> Result<Lines<'a>, DenialFault>
     ensures ok { IfOk result (λ read. IfSome (R.remaining input.old) (λ all.
         AreLinted 1 (lines all) (map (λ b. b.number) read.bad.items)
-        read.records.items)) }
+        (map (λ p. p.number) read.places.items) read.records.items)) }
+    ensures paired { IfOk result (λ read. length read.places.items ≡ length read.records.items) }
     ensures end { OnOk result (IsReadToEnd (R.remaining input.old) (R.remaining input.new)) }
     ensures err { IfErr result (λ e. (e ≡ DenialFault.Read) ⊎ (e ≡ OutOfMemory)) }
 {

@@ -1,11 +1,13 @@
 //! What is told of an input.
-ghost use Rattle.std.specs.Prelude.{◌≡◌, ◌⊎◌, [], All, codes, IfErr, OnOk, IfOk, length, map};
+ghost use Rattle.std.specs.Prelude.{◌≡◌, ◌⊎◌, [], All, IfErr, OnOk, IfOk, map};
 ghost use Rattle.std.specs.Io.KnownBytes.{Appends};
 ghost use Rattle.domain_octets.specs.Words.{Octets};
 ghost use Rattle.denial_program.specs.declared.fault.DenialFault.TheVariants.{OutOfMemory as Memory};
-ghost use Rattle.lint_program.specs.Report.{AreFaults, AreNotes, IsFault, IsNote, IsPrinted};
+ghost use Rattle.lint_program.specs.Notes.{mark_of};
+ghost use Rattle.lint_program.specs.Report.{kind_of, place_text, AreFaults, AreNotes, IsFault, IsLine, IsNote, IsPrinted};
 
 use crate::explain::explain;
+use crate::looks::Reason;
 use crate::notes::Note;
 use crate::reading::BadLine;
 use denial_program::{DenialFault, fault_of};
@@ -80,20 +82,40 @@ pub fn write_faults<W: Write>(
 
 /// How a line that is of no bad line begins.
 fn kind_of(is_fault: bool) -> &'static [u8]
-    ensures { (result.now ≡ codes "zone: ") ⊎ (result.now ≡ codes "warning: ") }
+    ensures { result.now ≡ kind_of is_fault }
 {
     if is_fault { b"zone: " } else { b"warning: " }
 }
 
+/// Writes of which line a note is.
+fn write_place<W: Write>(place: Option<u64>, output: &mut W) -> io::Result<()>
+    ensures { OnOk result
+        (Appends (W.contents output.old) (W.contents output.new) (place_text place)) }
+{
+    match place {
+        Some(number) => write!(output, "line {number}: "),
+        None => output.write_all(b""),
+    }
+}
+
 /// Writes one line that is of no bad line.
-fn write_line<W: Write>(is_fault: bool, told: &[u8], output: &mut W) -> io::Result<()>
+fn write_line<W: Write>(
+    is_fault: bool,
+    place: Option<u64>,
+    reason: Reason,
+    told: &[u8],
+    output: &mut W,
+) -> io::Result<()>
     requires { All IsPrinted told.now }
-    ensures { OnOk result ((text : Octets) × IsNote text
+    ensures { OnOk result ((text : Octets)
+        × IsLine is_fault (record { reason = reason; place = place }) text
         × Appends (W.contents output.old) (W.contents output.new) text) }
 {
-    let kind = kind_of(is_fault);
-    output.write_all(kind)?;
+    output.write_all(kind_of(is_fault))?;
+    write_place(place, output)?;
+    output.write_all(reason.opening())?;
     output.write_all(told)?;
+    output.write_all(reason.closing())?;
     output.write_all(b"\n")?;
     Ok(())
 }
@@ -105,12 +127,13 @@ fn write_note<W: Write>(
     are_refused: bool,
     output: &mut W,
 ) -> Result<(), DenialFault>
-    ensures ok { OnOk result ((text : Octets) × IsNote text
+    ensures ok { OnOk result ((text : Octets) × IsNote are_refused (mark_of note.now) text
         × Appends (W.contents output.old) (W.contents output.new) text) }
     ensures err { IfErr result (λ e. (e ≡ DenialFault.Write) ⊎ (e ≡ Memory)) }
 {
     let told = printed_text(alloc, note.text.as_str())?;
-    match write_line(note.is_fault && are_refused, &told, output) {
+    let is_fault = note.reason.fails() & are_refused;
+    match write_line(is_fault, note.place, note.reason, &told, output) {
         Ok(()) => Ok(()),
         Err(e) => Err(fault_of(&e, DenialFault::Write)),
     }
@@ -123,7 +146,7 @@ pub fn write_notes<W: Write>(
     are_refused: bool,
     output: &mut W,
 ) -> Result<(), DenialFault>
-    ensures ok { OnOk result ((text : Octets) × AreNotes (length notes.now) text
+    ensures ok { OnOk result ((text : Octets) × AreNotes are_refused (map mark_of notes.now) text
         × Appends (W.contents output.old) (W.contents output.new) text) }
     ensures err { IfErr result (λ e. (e ≡ DenialFault.Write) ⊎ (e ≡ Memory)) }
 {

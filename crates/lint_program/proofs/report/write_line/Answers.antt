@@ -1,16 +1,34 @@
-use Rattle.std.proofs.Common.{◌++◌, codes, refl}
+use Rattle.std.proofs.Common.{◌++◌, codes}
 use Rattle.denial_program.proofs.RunLemmas.{appends_more}
+use Rattle.lint_program.specs.NoteText.{closing, opening}
+use Rattle.lint_program.specs.Report.{kind_of, place_text}
+use Rattle.lint_program.proofs.ReportLemmas.{note_grouped}
 use Rattle.lint_program.proofs.report.write_line.Goals as goal
 
 pub returns : goal.returns
 returns g c =
-    let kind = c.kind_of-kind.result.now in
     let told = c.args.told.now in
-    let begun = appends_more (g.W.Write.contents c.args.output.now) (g.W.Write.contents c.write_all.new.self) (g.W.Write.contents c.write_all-2.new.self)
-    kind told c.in_ok-write_all.ensures.bytes c.in_ok-write_all-2.ensures.bytes in
-    let whole = appends_more (g.W.Write.contents c.args.output.now) (g.W.Write.contents c.write_all-2.new.self) (g.W.Write.contents c.write_all-3.new.self)
-    (kind ++ told) (codes "\n") begun c.in_ok-write_all-3.ensures.bytes in (
-      (kind ++ told) ++ codes "\n",
-      record { kind = kind; known = c.kind_of-kind.ensures; told = told; printed = c.requires; is = refl },
+    let start = g.W.Write.contents c.args.output.now in
+    let kind = c.kind_of.result.now in
+    let place = place_text c.args.place in
+    let front = c.opening.result.now in
+    let back = c.closing.result.now in
+    let placed = appends_more start (g.W.Write.contents c.write_all.new.self) (g.W.Write.contents c.write_place.new.output)
+    kind place c.in_ok-write_all.ensures.bytes c.in_ok-write_place.ensures in
+    let opened = appends_more start (g.W.Write.contents c.write_place.new.output) (g.W.Write.contents c.write_all-2.new.self)
+    (kind ++ place) front placed c.in_ok-write_all-2.ensures.bytes in
+    let said = appends_more start (g.W.Write.contents c.write_all-2.new.self) (g.W.Write.contents c.write_all-3.new.self)
+    ((kind ++ place) ++ front) told opened c.in_ok-write_all-3.ensures.bytes in
+    let closed = appends_more start (g.W.Write.contents c.write_all-3.new.self) (g.W.Write.contents c.write_all-4.new.self)
+    (((kind ++ place) ++ front) ++ told) back said c.in_ok-write_all-4.ensures.bytes in
+    let whole = appends_more start (g.W.Write.contents c.write_all-4.new.self) (g.W.Write.contents c.write_all-5.new.self)
+    ((((kind ++ place) ++ front) ++ told) ++ back) (codes "\n") closed c.in_ok-write_all-5.ensures.bytes in (
+      ((((kind ++ place) ++ front) ++ told) ++ back) ++ codes "\n",
+      record {
+        told = told;
+        printed = c.requires;
+        is = note_grouped kind place front told back (codes "\n") (kind_of c.args.is_fault) (opening c.args.reason) (closing c.args.reason)
+            c.kind_of.ensures c.opening.ensures c.closing.ensures;
+      },
       whole,
     )

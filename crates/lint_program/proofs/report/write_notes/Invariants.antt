@@ -1,9 +1,12 @@
+use Rattle.std.proofs.Common.{map, take}
 use Rattle.std.specs.Io.KnownBytes.{Appends}
 use Rattle.domain_octets.specs.Words.{Octets}
+use Rattle.lint_program.specs.Notes.{mark_of}
 use Rattle.lint_program.specs.Report.{AreNotes}
 use Rattle.lint_program.proofs.report.write_notes.Given as goal
 
 -- the notes so far were told
 abbrev pub invariant-loop-note : goal.invariant-loop-note
 invariant-loop-note g l =
-    (text : Octets) × AreNotes l.note-index text × Appends (g.W.Write.contents l.fn.output) (g.W.Write.contents l.output) text
+    (text : Octets) × AreNotes l.are_refused (map mark_of (take l.note-index l.notes)) text
+    × Appends (g.W.Write.contents l.fn.output) (g.W.Write.contents l.output) text

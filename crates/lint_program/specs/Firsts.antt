@@ -1,0 +1,20 @@
+-- The first record of each group, by a map.
+use Rattle.std.specs.Prelude.{◌≡◌, List, option_map}
+use Rattle.std.specs.BTreeMap as tree
+use Rattle.std.specs.Ordering.{nat_cmp, ordering_then}
+use Rattle.std.specs.declared.cmp.Ordering.{Ordering}
+use Rattle.domain_base.specs.Order.{canonical_cmp}
+use Rattle.domain_base.specs.Words.{Name}
+use Rattle.domain_lent.specs.Data.{RawRecord}
+use Rattle.lint_program.specs.Notes.{first_in, Group}
+use Rattle.lint_program.specs.declared.firsts.Firsts.{Firsts}
+use Rattle.lint_program.specs.declared.looks.Look.{Look}
+
+-- the order of groups in the map
+abbrev pub group_cmp : Group → Group → Ordering
+group_cmp g h = ordering_then (canonical_cmp g.0 h.0) (nat_cmp g.1 h.1)
+
+-- the map has of each group the first of these records
+abbrev pub AreFirsts : Look → Name → List RawRecord → Firsts → Type 0
+AreFirsts l a before firsts =
+    (g : Group) → option_map (λ e. e.lent.now) (tree.get group_cmp firsts.map g) ≡ first_in l a before g

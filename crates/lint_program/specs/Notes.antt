@@ -1,0 +1,155 @@
+-- What is told of the records that were read: each record that deserves it, and no other.
+use Rattle.std.specs.Prelude.{◌≡◌, ◌≢◌, ◌⊎◌, ℕ, ◌==◌, Bool, true, false, not, ◌&&◌, ◌||◌, List, [], ◌∷◌, ◌++◌, Option, Some, None, IsSome, MatchOption, if◌then◌else◌}
+use Rattle.std.specs.List.{find, list_any}
+use Rattle.domain_base.specs.Name.{is_at_or_below, same_name}
+use Rattle.domain_base.specs.Types as rtypes
+use Rattle.domain_base.specs.Words.{Name}
+use Rattle.domain_lent.specs.Data.{RawRecord}
+use Rattle.lint_program.specs.Odd.{has_extras, shape_of, IsSuch}
+use Rattle.lint_program.specs.declared.notes.Note.{Note}
+use Rattle.lint_program.specs.declared.looks.Look.{Look}
+use Rattle.lint_program.specs.declared.looks.Look.TheVariants as look
+use Rattle.lint_program.specs.declared.looks.Reason.{Reason}
+use Rattle.lint_program.specs.declared.looks.Reason.TheVariants.{NoSoa, SecondSoa, StraySoa, OtherClass, OtherTtl, Outside, BesideAlias, OddData, Parameters}
+
+-- what a note tells: why, and of the line of which number; that there is no SOA is told of no line
+pub record Mark : Type 0 where
+  pub reason : Reason
+  pub place : Option ℕ
+
+abbrev pub mark_of : Note → Mark
+mark_of note = record { reason = note.reason; place = note.place }
+
+-- in which look a reason is found
+abbrev pub look_of : Reason → Look
+look_of NoSoa = look.Soas
+look_of SecondSoa = look.Soas
+look_of StraySoa = look.Soas
+look_of OtherClass = look.Classes
+look_of OtherTtl = look.Ttls
+look_of Outside = look.Outside
+look_of BesideAlias = look.Aliases
+look_of OddData = look.Data
+look_of Parameters = look.Data
+
+-- whether it may be a fault, for which `denial` refuses the records
+abbrev pub fails : Reason → Bool
+fails NoSoa = true
+fails SecondSoa = true
+fails StraySoa = false
+fails OtherClass = true
+fails OtherTtl = true
+fails Outside = false
+fails BesideAlias = false
+fails OddData = false
+fails Parameters = false
+
+-- an SOA record of the apex
+abbrev pub is_apex_soa : Name → RawRecord → Bool
+is_apex_soa a r = (r.«data».rtype == rtypes.soa) && same_name r.owner a
+
+-- records of the type may stand beside a CNAME record (RFC 4034, section 2.5; RFC 2181, section
+-- 10.1)
+abbrev pub stands_beside_alias : ℕ → Bool
+stands_beside_alias t = (t == rtypes.rrsig) || (t == rtypes.nsec)
+
+-- what puts records together: a name, and a number
+abbrev pub Group : Type 0
+Group = Name × ℕ
+
+abbrev pub bit : Bool → ℕ
+bit is_so = if is_so then 1 else 0
+
+-- the group of a record. Of SOA records those of the apex are one; of classes all records are; of
+-- TTLs those of one owner and type; of CNAME records those of one owner, without those that may
+-- stand beside it, which are another
+abbrev pub group_of : Look → Name → RawRecord → Group
+group_of look.Soas a r = (a, bit (is_apex_soa a r))
+group_of look.Classes a r = (a, 0)
+group_of look.Ttls a r = (r.owner, r.«data».rtype)
+group_of look.Outside a r = (a, 0)
+group_of look.Aliases a r = (r.owner, bit (stands_beside_alias r.«data».rtype))
+group_of look.Data a r = (a, 0)
+
+-- the groups are one: names are the same without regard to case
+abbrev pub is_group : Group → Group → Bool
+is_group g h = same_name g.0 h.0 && (g.1 == h.1)
+
+-- the first of these records in a group
+abbrev pub first_in : Look → Name → List RawRecord → Group → Option RawRecord
+first_in l a before g = find (λ s. is_group (group_of l a s) g) before
+
+-- the first of the records before it in the group of a record
+abbrev pub earlier : Look → Name → List RawRecord → RawRecord → Option RawRecord
+earlier l a before r = first_in l a before (group_of l a r)
+
+-- there is one, which is such
+abbrev pub HasEarlier : Option RawRecord → (RawRecord → Type 0) → Type 0
+HasEarlier first is_such = MatchOption first ⊥ is_such
+
+-- when a record deserves to be told for a reason, where `first` is the first before it in its group
+abbrev pub Deserves : Reason → Name → Option RawRecord → RawRecord → Type 0
+Deserves NoSoa a first r = ⊥
+Deserves SecondSoa a first r = (is_apex_soa a r ≡ true) × IsSome first
+Deserves StraySoa a first r = (r.«data».rtype ≡ rtypes.soa) × (same_name r.owner a ≡ false)
+Deserves OtherClass a first r = HasEarlier first (λ f. r.class ≢ f.class)
+Deserves OtherTtl a first r =
+    (r.«data».rtype ≢ rtypes.rrsig) × HasEarlier first (λ f. r.ttl ≢ f.ttl)
+Deserves Outside a first r = is_at_or_below r.owner a ≡ false
+Deserves BesideAlias a first r =
+    (stands_beside_alias r.«data».rtype ≡ false)
+    × HasEarlier first (λ f. (r.«data».rtype ≡ rtypes.cname) ⊎ (f.«data».rtype ≡ rtypes.cname))
+Deserves OddData a first r = ¬ (IsSuch (shape_of r.«data».rtype) r.«data».octets)
+Deserves Parameters a first r =
+    (r.«data».rtype ≡ rtypes.nsec3param) × (has_extras r.«data».octets ≡ true)
+
+-- it deserves it for none of the reasons that are found in a look
+abbrev pub FindsNothing : Look → Name → Option RawRecord → RawRecord → Type 0
+FindsNothing look.Soas a first r = ¬ (Deserves SecondSoa a first r) × ¬ (Deserves StraySoa a first r)
+FindsNothing look.Classes a first r = ¬ (Deserves OtherClass a first r)
+FindsNothing look.Ttls a first r = ¬ (Deserves OtherTtl a first r)
+FindsNothing look.Outside a first r = ¬ (Deserves Outside a first r)
+FindsNothing look.Aliases a first r = ¬ (Deserves BesideAlias a first r)
+FindsNothing look.Data a first r = ¬ (Deserves OddData a first r) × ¬ (Deserves Parameters a first r)
+
+-- what a look finds at a record of the line of this number: one reason for which it deserves to be
+-- told, or nothing
+abbrev pub IsToldOf : Look → Name → Option RawRecord → RawRecord → ℕ → List Mark → Type 0
+IsToldOf l a first r n more =
+    ((reason : Reason) × (look_of reason ≡ l) × Deserves reason a first r
+    × (more ≡ record { reason = reason; place = Some n } ∷ []))
+    ⊎ (FindsNothing l a first r × (more ≡ []))
+
+-- what a look finds in these records, which stand in the lines of these numbers: of all of them but
+-- the last, and then of the last
+pub data Found : Look → Name → List RawRecord → List ℕ → List Mark → Type 0 where
+  nothing : (l : Look) (a : Name) → Found l a [] [] []
+  more : (l : Look) (a : Name) (before : List RawRecord) (numbers : List ℕ) (marks : List Mark)
+      (r : RawRecord) (n : ℕ) (last : List Mark) → Found l a before numbers marks
+      → IsToldOf l a (earlier l a before r) r n last
+      → Found l a (before ++ r ∷ []) (numbers ++ n ∷ []) (marks ++ last)
+
+-- that the apex owns no SOA record is told, where no line was bad
+abbrev pub missing_soa : Bool → Name → List RawRecord → List Mark
+missing_soa is_whole a records =
+    if is_whole && not (list_any (is_apex_soa a) records)
+    then record { reason = NoSoa; place = None } ∷ []
+    else []
+
+-- all that is told of these records, look by look
+pub record AreNoted (is_whole : Bool) (a : Name) (records : List RawRecord) (numbers : List ℕ)
+    (marks : List Mark) : Type 0 where
+  pub soas : List Mark
+  pub classes : List Mark
+  pub ttls : List Mark
+  pub outside : List Mark
+  pub aliases : List Mark
+  pub odd : List Mark
+  pub soas_found : Found look.Soas a records numbers soas
+  pub classes_found : Found look.Classes a records numbers classes
+  pub ttls_found : Found look.Ttls a records numbers ttls
+  pub outside_found : Found look.Outside a records numbers outside
+  pub aliases_found : Found look.Aliases a records numbers aliases
+  pub odd_found : Found look.Data a records numbers odd
+  pub are : marks ≡ ((((((soas ++ missing_soa is_whole a records) ++ classes) ++ ttls) ++ outside)
+      ++ aliases) ++ odd)

@@ -1,0 +1,49 @@
+-- Octets that are data of their type, of the types whose data are not read.
+use Rattle.std.specs.Prelude.{◌≡◌, ◌≢◌, ℕ, ◌-◌, ◌<◌, ◌==◌, Bool, not, ◌||◌, [], drop, length, nat_lt, slice_index, if◌then◌else◌}
+use Rattle.std.specs.List.{fold}
+use Rattle.domain_octets.specs.Words.{Octets}
+use Rattle.domain_base.specs.Types as rtypes
+use Rattle.domain_base.specs.Wire.{IsWire}
+use Rattle.lint_program.specs.declared.odd.Shape.{Shape}
+use Rattle.lint_program.specs.declared.odd.Shape.TheVariants.{OneName, Texts, LongAddress, Service, Certificate, Issuers, Whatever}
+
+-- what data of a type are: of CNAME, PTR and DNAME (RFC 1035, sections 3.3.1 and 3.3.12; RFC 6672);
+-- TXT and SPF (RFC 1035, section 3.3.14; RFC 7208); AAAA (RFC 3596); SRV (RFC 2782); TLSA (RFC
+-- 6698); and CAA (RFC 8659)
+abbrev pub shape_of : ℕ → Shape
+shape_of t =
+    if (t == rtypes.cname) || ((t == rtypes.ptr) || (t == rtypes.dname)) then OneName
+    else if (t == rtypes.txt) || (t == 99) then Texts
+    else if t == rtypes.aaaa then LongAddress
+    else if t == rtypes.srv then Service
+    else if t == 52 then Certificate
+    else if t == 257 then Issuers
+    else Whatever
+
+-- how many octets of a text are to come after these, where texts stand one after another, each
+-- after an octet with its length
+abbrev pub to_come : Octets → ℕ
+to_come octets = fold (λ left octet. if left == 0 then octet else left - 1) 0 octets
+
+-- such texts, and at least one
+pub record AreTexts (octets : Octets) : Type 0 where
+  pub whole : to_come octets ≡ 0
+  pub some : 0 < length octets
+
+-- the octets have the shape
+abbrev pub IsSuch : Shape → Octets → Type 0
+IsSuch OneName octets = IsWire octets
+IsSuch Texts octets = AreTexts octets
+IsSuch LongAddress octets = length octets ≡ 16
+IsSuch Service octets = (6 < length octets) × IsWire (drop 6 octets)
+IsSuch Certificate octets = 3 < length octets
+IsSuch Issuers octets = 2 < length octets
+IsSuch Whatever octets = Unit {0}
+
+-- NSEC3PARAM data have further iterations or a salt (RFC 5155, section 4.2): after algorithm and
+-- flags the number of iterations in two octets, and the length of the salt
+abbrev pub has_extras : Octets → Bool
+has_extras octets =
+    nat_lt (length octets) 5
+    || (not (slice_index octets 2 == 0)
+    || (not (slice_index octets 3 == 0) || not (slice_index octets 4 == 0)))

@@ -1,0 +1,64 @@
+//! The first record of each group.
+ghost use Rattle.std.specs.Prelude.{◌≡◌, List, [], ◌∷◌, ◌++◌, IfOk, OnOk, IsSome, option_map};
+ghost use Rattle.domain_base.specs.Words.{Name};
+ghost use Rattle.domain_lent.specs.Data.{RawRecord};
+ghost use Rattle.lint_program.specs.Firsts.{AreFirsts};
+ghost use Rattle.lint_program.specs.Notes.{group_of, first_in};
+ghost use Rattle.lint_program.specs.declared.looks.Look.{Look};
+
+use crate::looks::{Earlier, Group};
+use domain_lent::LentRecord;
+use std::alloc::{AllocError, Global};
+use std::collections::BTreeMap;
+
+/// The first record of each group that came.
+#[derive(Drop)]
+pub struct Firsts<'z, 'a> {
+    map: BTreeMap<Group<'z>, Earlier<'z, 'a>>,
+}
+
+/// The record that came earlier.
+pub fn lent_of<'z, 'a>(first: Option<&Earlier<'z, 'a>>) -> Option<&'z LentRecord<'a>>
+    ensures { option_map (λ f. f.now) result ≡ option_map (λ e. e.now.lent.now) first.entry }
+{
+    match first {
+        Some(earlier) => Some(earlier.lent),
+        None => None,
+    }
+}
+
+impl<'z, 'a> Firsts<'z, 'a> {
+    /// None.
+    pub fn new(alloc: Global) -> Self
+        ensures { (l : Look) (a : Name) → AreFirsts l a [] result }
+    {
+        Firsts {
+            map: BTreeMap::new(alloc),
+        }
+    }
+
+    /// The first of a group.
+    pub fn get(&self, group: &Group<'z>) -> Option<&Earlier<'z, 'a>>
+        ensures { (l : Look) (a : Name) (before : List RawRecord) → AreFirsts l a before self.now
+            → option_map (λ e. e.now.lent.now) result ≡ first_in l a before group.now }
+    {
+        self.map.get(group)
+    }
+    /// Takes in a record with the number of its line, where none of its group came before.
+    pub fn put(
+        &mut self,
+        group: Group<'z>,
+        number: u64,
+        lent: &'z LentRecord<'a>,
+    ) -> Result<(), AllocError>
+        ensures { OnOk result ((l : Look) (a : Name) (before : List RawRecord)
+            → group.entry ≡ group_of l a lent.now → AreFirsts l a before self.old
+            → AreFirsts l a (before ++ lent.now ∷ []) self.new) }
+    {
+        if self.map.get(&group).is_some() {
+            return Ok(());
+        }
+        self.map.insert(group, Earlier { number, lent })?;
+        Ok(())
+    }
+}

@@ -1,0 +1,268 @@
+//! What is looked for in the records of a zone. Each record is looked at beside the first before it
+//! in its group, and found to deserve a note or not.
+ghost use Rattle.std.specs.Prelude.{◌≡◌, IfNone, IfSome, option_map};
+ghost use Rattle.lint_program.specs.Notes.{bit, fails, group_of, is_apex_soa, look_of, stands_beside_alias, Deserves, FindsNothing};
+
+use crate::odd::{has_extras, is_such, shape_of};
+use crate::ordered_name::OrderedName;
+use domain_base::{ParsedName, Rtype, ToName};
+use domain_lent::LentRecord;
+
+/// What the records are looked through for, each time once.
+#[derive(Clone, Copy)]
+pub enum Look {
+    /// SOA records.
+    Soas,
+    /// Classes.
+    Classes,
+    /// TTLs.
+    Ttls,
+    /// Owners outside of the zone.
+    Outside,
+    /// CNAME records.
+    Aliases,
+    /// Data.
+    Data,
+}
+
+/// Why something is told of records.
+#[derive(Clone, Copy)]
+pub enum Reason {
+    /// The apex owns no SOA record.
+    NoSoa,
+    /// It owns another already.
+    SecondSoa,
+    /// An SOA record at another name.
+    StraySoa,
+    /// Another class than that of the first record.
+    OtherClass,
+    /// Another TTL than that of the first record of the owner and the type.
+    OtherTtl,
+    /// An owner outside of the zone.
+    Outside,
+    /// A CNAME record beside another record of its owner.
+    BesideAlias,
+    /// Octets that are no data of the type.
+    OddData,
+    /// NSEC3PARAM data with further iterations or a salt.
+    Parameters,
+}
+
+impl Reason {
+    /// Whether it may be a fault, for which `denial` refuses the records.
+    pub fn fails(&self) -> bool
+        ensures { result ≡ fails self.now }
+    {
+        match self {
+            Reason::NoSoa | Reason::SecondSoa | Reason::OtherClass | Reason::OtherTtl => true,
+            _ => false,
+        }
+    }
+}
+
+/// A record that stands before another in its group.
+#[derive(Clone, Copy)]
+pub struct Earlier<'z, 'a> {
+    /// The number of its line.
+    pub number: u64,
+    /// The record.
+    pub lent: &'z LentRecord<'a>,
+}
+
+/// What puts records together: a name and a number.
+pub type Group<'z> = (OrderedName<'z>, u16);
+
+/// The number that a test is.
+fn bit(is_so: bool) -> u16
+    ensures { result ≡ bit is_so }
+{
+    if is_so { 1 } else { 0 }
+}
+
+/// Whether it is an SOA record of the apex.
+pub fn is_apex_soa(apex: &ParsedName<'_>, lent: &LentRecord<'_>) -> bool
+    ensures { result ≡ is_apex_soa apex.now lent.now }
+{
+    lent.rtype() == Rtype::SOA && lent.owner().name_eq(apex)
+}
+
+/// Whether records of the type may stand beside a CNAME record (RFC 4034, section 2.5 and RFC 2181,
+/// section 10.1).
+fn stands_beside_alias(rtype: Rtype) -> bool
+    ensures { result ≡ stands_beside_alias rtype }
+{
+    rtype == Rtype::RRSIG || rtype == Rtype::NSEC
+}
+
+/// The group of a record.
+pub fn group_of<'z>(look: Look, apex: &'z ParsedName<'_>, lent: &'z LentRecord<'_>) -> Group<'z>
+    ensures { result ≡ group_of look apex.now lent.now }
+{
+    let rtype = lent.rtype();
+    match look {
+        Look::Soas => (OrderedName::over(apex), bit(is_apex_soa(apex, lent))),
+        Look::Ttls => (OrderedName::over(lent.owner()), rtype.to_int()),
+        Look::Aliases => (
+            OrderedName::over(lent.owner()),
+            bit(stands_beside_alias(rtype)),
+        ),
+        Look::Classes | Look::Outside | Look::Data => (OrderedName::over(apex), 0),
+    }
+}
+
+/// Of SOA records.
+fn soa_reason(
+    apex: &ParsedName<'_>,
+    first: Option<&LentRecord<'_>>,
+    lent: &LentRecord<'_>,
+) -> Option<Reason>
+    ensures look { IfSome result (λ reason. look_of reason ≡ Look.Soas) }
+    ensures some { IfSome result (λ reason.
+        Deserves reason apex.now (option_map (λ f. f.now) first.entry) lent.now) }
+    ensures none { IfNone result
+        (FindsNothing Look.Soas apex.now (option_map (λ f. f.now) first.entry) lent.now) }
+{
+    if lent.rtype() != Rtype::SOA {
+        return None;
+    }
+    if !lent.owner().name_eq(apex) {
+        return Some(Reason::StraySoa);
+    }
+    match first {
+        Some(_) => Some(Reason::SecondSoa),
+        None => None,
+    }
+}
+
+/// Of classes.
+fn class_reason(
+    apex: &ParsedName<'_>,
+    first: Option<&LentRecord<'_>>,
+    lent: &LentRecord<'_>,
+) -> Option<Reason>
+    ensures look { IfSome result (λ reason. look_of reason ≡ Look.Classes) }
+    ensures some { IfSome result (λ reason.
+        Deserves reason apex.now (option_map (λ f. f.now) first.entry) lent.now) }
+    ensures none { IfNone result
+        (FindsNothing Look.Classes apex.now (option_map (λ f. f.now) first.entry) lent.now) }
+{
+    let first = first?;
+    if lent.class() != first.class() {
+        Some(Reason::OtherClass)
+    } else {
+        None
+    }
+}
+
+/// Of TTLs (RFC 2181, section 5.2).
+fn ttl_reason(
+    apex: &ParsedName<'_>,
+    first: Option<&LentRecord<'_>>,
+    lent: &LentRecord<'_>,
+) -> Option<Reason>
+    ensures look { IfSome result (λ reason. look_of reason ≡ Look.Ttls) }
+    ensures some { IfSome result (λ reason.
+        Deserves reason apex.now (option_map (λ f. f.now) first.entry) lent.now) }
+    ensures none { IfNone result
+        (FindsNothing Look.Ttls apex.now (option_map (λ f. f.now) first.entry) lent.now) }
+{
+    let first = first?;
+    if lent.rtype() == Rtype::RRSIG {
+        return None;
+    }
+    if lent.ttl() != first.ttl() {
+        Some(Reason::OtherTtl)
+    } else {
+        None
+    }
+}
+
+/// Of owners.
+fn owner_reason(
+    apex: &ParsedName<'_>,
+    first: Option<&LentRecord<'_>>,
+    lent: &LentRecord<'_>,
+) -> Option<Reason>
+    ensures look { IfSome result (λ reason. look_of reason ≡ Look.Outside) }
+    ensures some { IfSome result (λ reason.
+        Deserves reason apex.now (option_map (λ f. f.now) first.entry) lent.now) }
+    ensures none { IfNone result
+        (FindsNothing Look.Outside apex.now (option_map (λ f. f.now) first.entry) lent.now) }
+{
+    let _first = first;
+    if lent.owner().ends_with(apex) {
+        None
+    } else {
+        Some(Reason::Outside)
+    }
+}
+
+/// Of CNAME records (RFC 1034, section 3.6.2).
+fn alias_reason(
+    apex: &ParsedName<'_>,
+    first: Option<&LentRecord<'_>>,
+    lent: &LentRecord<'_>,
+) -> Option<Reason>
+    ensures look { IfSome result (λ reason. look_of reason ≡ Look.Aliases) }
+    ensures some { IfSome result (λ reason.
+        Deserves reason apex.now (option_map (λ f. f.now) first.entry) lent.now) }
+    ensures none { IfNone result
+        (FindsNothing Look.Aliases apex.now (option_map (λ f. f.now) first.entry) lent.now) }
+{
+    let first = first?;
+    let rtype = lent.rtype();
+    if stands_beside_alias(rtype) {
+        return None;
+    }
+    if rtype == Rtype::CNAME || first.rtype() == Rtype::CNAME {
+        Some(Reason::BesideAlias)
+    } else {
+        None
+    }
+}
+
+/// Of data.
+fn data_reason(
+    apex: &ParsedName<'_>,
+    first: Option<&LentRecord<'_>>,
+    lent: &LentRecord<'_>,
+) -> Option<Reason>
+    ensures look { IfSome result (λ reason. look_of reason ≡ Look.Data) }
+    ensures some { IfSome result (λ reason.
+        Deserves reason apex.now (option_map (λ f. f.now) first.entry) lent.now) }
+    ensures none { IfNone result
+        (FindsNothing Look.Data apex.now (option_map (λ f. f.now) first.entry) lent.now) }
+{
+    let _first = first;
+    let octets = lent.data().octets();
+    if !is_such(shape_of(lent.rtype()), octets) {
+        return Some(Reason::OddData);
+    }
+    if lent.rtype() == Rtype::NSEC3PARAM && has_extras(octets) {
+        return Some(Reason::Parameters);
+    }
+    None
+}
+
+/// Why a record deserves a note, where it does; `first` is the first before it in its group.
+pub fn reason_of(
+    look: Look,
+    apex: &ParsedName<'_>,
+    first: Option<&LentRecord<'_>>,
+    lent: &LentRecord<'_>,
+) -> Option<Reason>
+    ensures look { IfSome result (λ reason. look_of reason ≡ look) }
+    ensures some { IfSome result (λ reason.
+        Deserves reason apex.now (option_map (λ f. f.now) first.entry) lent.now) }
+    ensures none { IfNone result
+        (FindsNothing look apex.now (option_map (λ f. f.now) first.entry) lent.now) }
+{
+    match look {
+        Look::Soas => soa_reason(apex, first, lent),
+        Look::Classes => class_reason(apex, first, lent),
+        Look::Ttls => ttl_reason(apex, first, lent),
+        Look::Outside => owner_reason(apex, first, lent),
+        Look::Aliases => alias_reason(apex, first, lent),
+        Look::Data => data_reason(apex, first, lent),
+    }
+}

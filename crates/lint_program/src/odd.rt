@@ -1,0 +1,112 @@
+//! Data that records may have and seldom are meant to.
+ghost use Rattle.std.specs.Prelude.{◌≡◌, ◌↔◌, IsTrue};
+ghost use Rattle.domain_base.specs.Wire.{IsWire};
+ghost use Rattle.lint_program.specs.Odd.{has_extras, shape_of, to_come, AreTexts, IsSuch};
+
+use domain_base::{Name, Rtype};
+
+/// What data of a type are, of the types that are looked at.
+#[derive(Clone, Copy)]
+pub enum Shape {
+    /// One name.
+    OneName,
+    /// Texts, each after an octet with its length, and at least one.
+    Texts,
+    /// An address of IPv6.
+    LongAddress,
+    /// A place of a service (RFC 2782).
+    Service,
+    /// A certificate, or its hash (RFC 6698).
+    Certificate,
+    /// Who may issue certificates (RFC 8659).
+    Issuers,
+    /// Anything.
+    Whatever,
+}
+
+impl Shape {
+    /// What data of the shape are.
+    pub fn text(self) -> &'static str {
+        match self {
+            Shape::OneName => "one name",
+            Shape::Texts => "texts, each after its length",
+            Shape::LongAddress => "the 16 octets of an address",
+            Shape::Service => "three numbers of two octets and a name",
+            Shape::Certificate => "three octets and a certificate's",
+            Shape::Issuers => "an octet of flags, a tag and a value",
+            Shape::Whatever => "",
+        }
+    }
+}
+
+/// The shape of data of a type. Anything for a type that is not looked at: those with data of their
+/// own are read by them.
+pub fn shape_of(rtype: Rtype) -> Shape
+    ensures { result ≡ shape_of rtype }
+{
+    let number = rtype.to_int();
+    if number == 5 || number == 12 || number == 39 {
+        return Shape::OneName;
+    }
+    if number == 16 || number == 99 {
+        return Shape::Texts;
+    }
+    match number {
+        28 => Shape::LongAddress,
+        33 => Shape::Service,
+        52 => Shape::Certificate,
+        257 => Shape::Issuers,
+        _ => Shape::Whatever,
+    }
+}
+
+/// Whether the octets are one name and nothing more.
+fn is_name(octets: &[u8]) -> bool
+    ensures { IsTrue result ↔ IsWire octets.now }
+{
+    Name::from_octets(octets).is_ok()
+}
+
+/// Whether the octets are texts, each after an octet with its length, and at least one.
+fn are_texts(octets: &[u8]) -> bool
+    ensures { IsTrue result ↔ AreTexts octets.now }
+{
+    let mut left: usize = 0;
+    for octet in octets {
+        left = if left == 0 {
+            usize::from(*octet)
+        } else {
+            left - 1
+        };
+    }
+    left == 0 && !octets.is_empty()
+}
+
+/// Whether the octets are three numbers of two octets and a name.
+fn is_service(octets: &[u8]) -> bool
+    ensures { IsTrue result ↔ IsSuch Shape.Service octets.now }
+{
+    octets.len() > 6 && is_name(&octets[6..])
+}
+
+/// Whether octets have the shape.
+pub fn is_such(shape: Shape, octets: &[u8]) -> bool
+    ensures { IsTrue result ↔ IsSuch shape octets.now }
+{
+    match shape {
+        Shape::OneName => is_name(octets),
+        Shape::Texts => are_texts(octets),
+        Shape::LongAddress => octets.len() == 16,
+        Shape::Service => is_service(octets),
+        Shape::Certificate => octets.len() > 3,
+        Shape::Issuers => octets.len() > 2,
+        Shape::Whatever => true,
+    }
+}
+
+/// Whether NSEC3PARAM data have further iterations or a salt (RFC 9276, section 3.1).
+pub fn has_extras(octets: &[u8]) -> bool
+    ensures { result ≡ has_extras octets.now }
+{
+    octets.len() < 5 || octets[2] != 0 || octets[3] != 0 || octets[4] != 0
+}
