@@ -1,12 +1,13 @@
 /*
  * What the NSEC or NSEC3 records of a DNS message answer to a question about a name and a type, and
  * what they prove of one name and one type (RFC 4035, section 5.4; RFC 5155, section 8); and the NSEC
- * chain of a zone (RFC 4034, section 4).
+ * and NSEC3 chains of a zone (RFC 4034, section 4; RFC 5155, section 7.1).
  *
  * A validator calls denial_judge_nsec or denial_judge_nsec3: these answer a question as a whole, with
  * the wildcard, aliases and redirections; and of records that were expanded from a wildcard, with
  * NSEC3, denial_judge_nsec3_expansion. denial_check_nsec and denial_check_nsec3 tell of one name and
- * one type alone. A signer calls denial_nsec_chain.
+ * one type alone. A signer calls denial_nsec_chain or
+ * denial_nsec3_chain.
  *
  * These functions look at no signature. Hand in only records whose signatures you have verified with
  * the keys of the zone at the apex, and take the apex from the signer's name in these signatures.
@@ -109,8 +110,8 @@ enum denial_judgement {
     DENIAL_JUDGED_TOO_MANY_ITERATIONS = 47
 };
 
-/* What denial_nsec_chain answers where there is a chain, with the number of its octets; else it answers a
- * fault of `enum denial_answer`. */
+/* What denial_nsec_chain and denial_nsec3_chain answer where there is a chain, with the number of its
+ * octets; else they answer a fault of `enum denial_answer`. */
 enum denial_chain {
     /* The chain was written. */
     DENIAL_CHAIN_MADE = 48
@@ -186,7 +187,16 @@ enum denial_answer {
     DENIAL_UNEQUAL_TTLS = 24,
 
     /* The buffer is too small. With the number of octets that the chain has. */
-    DENIAL_SHORT_BUFFER = 25
+    DENIAL_SHORT_BUFFER = 25,
+
+    /* The salt has over 255 octets (RFC 5155, section 3.1.4). NSEC3 alone, as both below. */
+    DENIAL_LONG_SALT = 26,
+
+    /* The owner of a hash, 33 octets before the apex, would be longer than a name may be. */
+    DENIAL_LONG_OWNER = 27,
+
+    /* Two names of the chain have one hash (RFC 5155, section 7.1): take another salt. */
+    DENIAL_COLLISION = 28
 };
 
 /*
@@ -381,7 +391,31 @@ uint32_t denial_nsec_chain(const uint8_t *apex, size_t apex_length,
                            size_t *count);
 
 /*
- * Hands the records of a chain, as denial_nsec_chain wrote them, to a function one after another, until
+ * Writes the NSEC3 chain of a zone (RFC 5155, section 7.1), in the order of hashes, and its NSEC3PARAM
+ * record after it: one NSEC3 record for the hash of each owner that denial_nsec_chain has a record for,
+ * and of each empty non-terminal above it, with the types of the owner. Names are hashed by SHA-1. All
+ * records are of the class Internet, and have the TTL of an NSEC chain; the NSEC3PARAM record has that of
+ * the SOA. Parameters and answers are those of denial_nsec_chain, but for these:
+ *
+ *   iterations   how often a hash is taken again. 0 is recommended (RFC 9276, section 3.1).
+ *   salt         the octets of the salt; none are recommended.
+ *   opt_out      whether delegations without DS are left out, and the records say so by their flag (RFC
+ *                5155, section 6).
+ *
+ * Of faults the first that stands is told, in this order: DENIAL_BAD_APEX; DENIAL_LONG_SALT;
+ * DENIAL_BAD_RECORDS and DENIAL_OTHER_CLASS, whichever comes first in the octets; DENIAL_NO_SINGLE_SOA;
+ * DENIAL_UNEQUAL_TTLS; DENIAL_LONG_OWNER; DENIAL_COLLISION; DENIAL_SHORT_BUFFER. DENIAL_OUT_OF_MEMORY may
+ * come in place of the last five. A call with a buffer of length 0 hashes all names as well.
+ */
+uint32_t denial_nsec3_chain(const uint8_t *apex, size_t apex_length,
+                            uint16_t rclass, bool assume_dnskey, bool occlude_below_dname,
+                            uint16_t iterations, const uint8_t *salt, size_t salt_length, bool opt_out,
+                            const uint8_t *records, size_t records_length,
+                            uint8_t *chain, size_t chain_length,
+                            size_t *count);
+
+/*
+ * Hands the records of a chain, as denial_nsec_chain or denial_nsec3_chain wrote them, to a function one after another, until
  * that answers something other than 0; gives what it answered last, and 0 where there are no records.
  * `context` is handed on.
  */

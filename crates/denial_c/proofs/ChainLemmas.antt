@@ -1,23 +1,30 @@
 -- The octets of chains, and what is answered of them.
-use Rattle.std.proofs.Common.{◌≡◌, ℕ, ◌+◌, ◌<◌, ◌≤◌, List, [], ◌∷◌, ◌++◌, length, take, get_or, refl, sym, ap, ◌∙◌, subst, arith, append-nil, length-append, Result, Ok, Err, IfOk, IfErr}
+use Rattle.std.proofs.Common.{◌≡◌, ◌≢◌, ℕ, ◌+◌, ◌<◌, ◌≤◌, List, [], ◌∷◌, ◌++◌, length, take, get_or, refl, sym, ap, ◌∙◌, subst, arith, append-nil, length-append, Result, Ok, Err, IfOk, IfErr}
 use Rattle.std.specs.List.{flat_map}
 use Rattle.std.proofs.lemmas.List.{take_more}
 use Rattle.std.proofs.lemmas.List.Concat.{flat_map-append}
 use Rattle.domain_base.specs.Name.{wire_of}
 use Rattle.domain_base.specs.Words.{Name}
-use Rattle.domain_fields.specs.Layout.{octets_of}
-use Rattle.domain_chain_rdata.specs.Rdata.{nsec}
+use Rattle.domain_fields.specs.Layout.{octets_of, Values}
+use Rattle.domain_chain_rdata.specs.Rdata.{hash_fields, hash_numbers, nsec, nsec3, nsec3param}
 use Rattle.domain_dnssec.proofs.KeptLemmas.{classes_kept}
 use Rattle.domain_lent.specs.Data.{data_cmp, minimum_of, RawRecord}
-use Rattle.domain_nsec.specs.Chain.{Link, IsChain}
+use Rattle.domain_nsec.specs.Chain.{Link, IsChain, IsFirstFault}
+use Rattle.domain_nsec3.specs.Chain.{ChainRecords, IsChainParam, IsHashedChain}
+use Rattle.domain_nsec3.specs.Config.{ChainConfig}
+use Rattle.domain_nsec3.specs.Faults.{IsFirstFault as IsFirstHashedFault}
+use Rattle.domain_nsec3.specs.declared.config.Nsec3ParamTtlMode.TheVariants.{Soa as TtlOfSoa}
+use Rattle.domain_records.specs.declared.error.Nsec3HashError.TheVariants as hash_error
+use Rattle.domain_records.specs.declared.error.SigningError.{SigningError}
+use Rattle.domain_records.specs.declared.error.SigningError.TheVariants as signing_error
 use Rattle.domain_nsec.specs.declared.config.GenerateNsecConfig.{GenerateNsecConfig}
 use Rattle.domain_records.specs.Order.{IsOneClass}
 use Rattle.domain_zone.specs.View.{zone_of}
-use Rattle.denial_c.specs.Chains.{nsecs_octets, AreZone, HasZoneFault, IsChainFault, IsNsecChain, IsNsecResult, IsSortedNsecFault, IsWritten, Sorts}
-use Rattle.denial_c.specs.Given.{AreGiven}
+use Rattle.denial_c.specs.Chains.{nsec_asking, nsec3_asking, nsecs_octets, nsec3s_octets, AreZone, Asking, HasHashedZoneFault, HasZoneFault, IsChainFault, IsChainResult, IsGivenFault, IsNsecChain, IsNsec3Chain, IsSortedNsecFault, IsSortedNsec3Fault, IsWritten, Sorts}
+use Rattle.denial_c.specs.Given.{AreGiven, HasNoRecordAt, HasOtherClassAt}
 use Rattle.denial_c.specs.Result.{Spells}
 use Rattle.denial_c.specs.declared.chain_fault.ChainFault.{ChainFault}
-use Rattle.denial_c.specs.declared.chain_fault.ChainFault.TheVariants.{Apex, Records, Class, Soa, Ttls, ShortBuffer, OutOfMemory}
+use Rattle.denial_c.specs.declared.chain_fault.ChainFault.TheVariants.{Apex, Records, Class, Soa, Ttls, LongSalt, LongOwner, Collision, ShortBuffer, OutOfMemory}
 
 -- one more item
 pub joined_more : {T : Type 0} (octets : T → List ℕ) (items : List T) (i : ℕ) (d : T) → i < length items
@@ -31,6 +38,19 @@ joined_more octets items i d l =
 pub nsec_short : (next : Name) (bits : List ℕ) → length (wire_of next) ≤ 255 → length bits ≤ 8704 → length (octets_of nsec (next, bits)) ≤ 65535
 unfolding octets_of
 nsec_short next bits named few = let long = length-append (wire_of next) bits in omega arith
+
+-- and so are NSEC3 data
+pub nsec3_short : (v : Values nsec3) → length v.0.0.1 ≤ 255 → length v.0.1 ≤ 255 → length v.1 ≤ 8704 → length (octets_of nsec3 v) ≤ 65535
+unfolding octets_of
+nsec3_short v salted hashed few =
+    let a = length-append (octets_of hash_fields v.0) v.1 in
+    let b = length-append (octets_of nsec3param v.0.0) (length v.0.1 ∷ v.0.1) in
+    let c = length-append (octets_of hash_numbers v.0.0.0) (length v.0.0.1 ∷ v.0.0.1) in
+    omega arith
+
+pub param_short : (v : Values nsec3param) → length v.1 ≤ 255 → length (octets_of nsec3param v) ≤ 65535
+unfolding octets_of
+param_short v salted = let c = length-append (octets_of hash_numbers v.0) (length v.1 ∷ v.1) in omega arith
 
 pub sorted_one_class : (given sorted : List RawRecord) → Sorts given sorted → IsOneClass given → IsOneClass sorted
 sorted_one_class given sorted sorts one = (classes_kept (λ n. n) (λ d. d.rtype) minimum_of data_cmp given sorted sorts).1 one
@@ -52,25 +72,27 @@ is_sorted apex class number records a sorted spells same zone one = record {
 }
 
 module _ (apex : List ℕ) (class : ℕ) (config : GenerateNsecConfig) (records : List ℕ) where
-  pub nsec_fault : (a : Name) (sorted : List RawRecord) (buffer : List ℕ) → IsSorted apex class records a sorted → (e : ChainFault) → IsSortedNsecFault sorted a config e
-      → IsChainFault (IsNsecChain apex class config records) (HasZoneFault apex class config records) apex class records buffer e
+  zone_fault : (a : Name) (sorted : List RawRecord) → IsSorted apex class records a sorted → (e : SigningError)
+      → IsFirstFault (zone_of (λ n. n) (λ d. d.rtype) minimum_of sorted) a config e → e ≢ signing_error.OutOfMemory → HasZoneFault apex class config records e
+  zone_fault a sorted s e h told = record {
+    a = a;
+    given = s.given;
+    zone = s.zone;
+    fault = record { sorted = sorted; sorts = s.sorts; fault = record { one_class = s.one_class; fault = h; told = told } };
+  }
+
+  pub nsec_fault : (a : Name) (sorted : List RawRecord) (buffer : List ℕ) → IsSorted apex class records a sorted → (e : ChainFault)
+      → IsSortedNsecFault sorted a config e → IsChainFault (nsec_asking apex class config records) apex class records buffer e
   nsec_fault a sorted buffer s Apex h = absurd h
   nsec_fault a sorted buffer s (Records n) h = absurd h
   nsec_fault a sorted buffer s (Class n) h = absurd h
-  nsec_fault a sorted buffer s Soa h = record {
-    a = a;
-    given = s.given;
-    zone = s.zone;
-    fault = record { sorted = sorted; sorts = s.sorts; fault = record { one_class = s.one_class; fault = h; told = λ q. cc } };
-  }
-  nsec_fault a sorted buffer s Ttls h = record {
-    a = a;
-    given = s.given;
-    zone = s.zone;
-    fault = record { sorted = sorted; sorts = s.sorts; fault = record { one_class = s.one_class; fault = h; told = λ q. cc } };
-  }
+  nsec_fault a sorted buffer s Soa h = (tt, zone_fault a sorted s signing_error.SoaRecordCouldNotBeDetermined h (λ q. cc))
+  nsec_fault a sorted buffer s Ttls h = (tt, zone_fault a sorted s signing_error.MultipleTtlValues h (λ q. cc))
+  nsec_fault a sorted buffer s LongSalt h = absurd h
+  nsec_fault a sorted buffer s LongOwner h = absurd h
+  nsec_fault a sorted buffer s Collision h = absurd h
   nsec_fault a sorted buffer s (ShortBuffer n) h = absurd h
-  nsec_fault a sorted buffer s OutOfMemory h = (a, (s.given, s.zone))
+  nsec_fault a sorted buffer s OutOfMemory h = (tt, (a, (s.given, s.zone)))
 
   pub nsec_made : (a : Name) (sorted : List RawRecord) (written : List ℕ) (links : List Link) → IsSorted apex class records a sorted
       → IsChain (zone_of (λ n. n) (λ d. d.rtype) minimum_of sorted) a config links → written ≡ nsecs_octets links → IsNsecChain apex class config records written
@@ -83,12 +105,68 @@ module _ (apex : List ℕ) (class : ℕ) (config : GenerateNsecConfig) (records 
     is = is;
   }
 
-  pub nsec_result : (written old new : List ℕ) → IsNsecChain apex class config records written → (r : Result ℕ ChainFault)
-      → IfOk r (IsWritten written old new) → IfErr r (λ e. (e ≡ ShortBuffer (length written)) × (length old < length written) × (new ≡ old))
-      → IsNsecResult apex class config records r old new
-  nsec_result written old new is (Ok n) ok err = (written, is, ok)
-  nsec_result written old new is (Err e) ok err = (
-    subst (IsChainFault (IsNsecChain apex class config records) (HasZoneFault apex class config records) apex class records old) (sym err.0)
-        (written, is, record { counts = refl; more = err.1 }),
-    err.2,
-  )
+module _ (apex : List ℕ) (class : ℕ) (config : ChainConfig) (records : List ℕ) (short : length config.parameters.salt ≤ 255) where
+  hashed_zone_fault : (a : Name) (sorted : List RawRecord) → IsSorted apex class records a sorted → (e : SigningError)
+      → IsFirstHashedFault (zone_of (λ n. n) (λ d. d.rtype) minimum_of sorted) a config e → e ≢ signing_error.OutOfMemory
+      → HasHashedZoneFault apex class config records e
+  hashed_zone_fault a sorted s e h told = record {
+    a = a;
+    given = s.given;
+    zone = s.zone;
+    fault = record { sorted = sorted; sorts = s.sorts; fault = record { one_class = s.one_class; fault = h; told = told } };
+  }
+
+  pub nsec3_fault : (a : Name) (sorted : List RawRecord) (buffer : List ℕ) → IsSorted apex class records a sorted → (e : ChainFault)
+      → IsSortedNsec3Fault sorted a config e → IsChainFault (nsec3_asking apex class config records) apex class records buffer e
+  nsec3_fault a sorted buffer s Apex h = absurd h
+  nsec3_fault a sorted buffer s (Records n) h = absurd h
+  nsec3_fault a sorted buffer s (Class n) h = absurd h
+  nsec3_fault a sorted buffer s Soa h = (short, hashed_zone_fault a sorted s signing_error.SoaRecordCouldNotBeDetermined h (λ q. cc))
+  nsec3_fault a sorted buffer s Ttls h = (short, hashed_zone_fault a sorted s signing_error.MultipleTtlValues h (λ q. cc))
+  nsec3_fault a sorted buffer s LongSalt h = absurd h
+  nsec3_fault a sorted buffer s LongOwner h =
+      (short, hashed_zone_fault a sorted s (signing_error.Nsec3HashingError hash_error.Nsec3NameTooLong) h (λ q. cc))
+  nsec3_fault a sorted buffer s Collision h =
+      (short, hashed_zone_fault a sorted s (signing_error.Nsec3HashingError hash_error.CollisionDetected) h (λ q. cc))
+  nsec3_fault a sorted buffer s (ShortBuffer n) h = absurd h
+  nsec3_fault a sorted buffer s OutOfMemory h = (short, (a, (s.given, s.zone)))
+
+  pub nsec3_made : (a : Name) (sorted : List RawRecord) (written : List ℕ) (made : ChainRecords) → IsSorted apex class records a sorted
+      → IsHashedChain (zone_of (λ n. n) (λ d. d.rtype) minimum_of sorted) a config made.links
+      → IsChainParam (zone_of (λ n. n) (λ d. d.rtype) minimum_of sorted) a config TtlOfSoa made.param → written ≡ nsec3s_octets made
+      → IsNsec3Chain apex class config records written
+  nsec3_made a sorted written made s chain param is = record {
+    a = a;
+    given = s.given;
+    made = made;
+    zone = s.zone;
+    chain = record { sorted = sorted; sorts = s.sorts; chain = record { one_class = s.one_class; chain = chain; told = param } };
+    is = is;
+  }
+
+-- octets that are a chain, written or not
+pub chain_result : (asking : Asking) (apex : List ℕ) (class : ℕ) (records written old new : List ℕ) → asking.is_fit → asking.is_chain written
+    → (r : Result ℕ ChainFault) → IfOk r (IsWritten written old new)
+    → IfErr r (λ e. (e ≡ ShortBuffer (length written)) × (length old < length written) × (new ≡ old)) → IsChainResult asking apex class records r old new
+chain_result asking apex class records written old new fit is (Ok n) ok err = (fit, (written, is, ok))
+chain_result asking apex class records written old new fit is (Err e) ok err = (
+  subst (IsChainFault asking apex class records old) (sym err.0) (fit, (written, is, record { counts = refl; more = err.1 })),
+  err.2,
+)
+
+-- octets that are no records, or want of memory before these are sorted
+pub given_fault : (asking : Asking) (apex : List ℕ) (class number : ℕ) (records old : List ℕ) (a : Name) → asking.is_fit → Spells apex a → number ≡ class
+    → (e : ChainFault) → IsGivenFault number records e → IsChainFault asking apex class records old e
+given_fault asking apex class number records old a fit spells same Apex h = absurd h
+given_fault asking apex class number records old a fit spells same (Records n) h =
+    ((a, spells), fit, subst (λ k. HasNoRecordAt k records n) same h)
+given_fault asking apex class number records old a fit spells same (Class n) h =
+    ((a, spells), fit, subst (λ k. HasOtherClassAt k records n) same h)
+given_fault asking apex class number records old a fit spells same Soa h = absurd h
+given_fault asking apex class number records old a fit spells same Ttls h = absurd h
+given_fault asking apex class number records old a fit spells same LongSalt h = absurd h
+given_fault asking apex class number records old a fit spells same LongOwner h = absurd h
+given_fault asking apex class number records old a fit spells same Collision h = absurd h
+given_fault asking apex class number records old a fit spells same (ShortBuffer n) h = absurd h
+given_fault asking apex class number records old a fit spells same OutOfMemory h =
+    (fit, (a, (h.0, record { apex_is = spells; are = subst (λ k. AreGiven k records h.0) same h.1 })))

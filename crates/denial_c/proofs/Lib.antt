@@ -1,6 +1,7 @@
 pub mod AmongLemmas
 pub mod GivenLemmas
 pub mod ChainLemmas
+pub mod HashLemmas
 pub mod NsecLemmas
 pub mod Nsec3Lemmas
 pub mod JudgeLemmas

@@ -1,7 +1,7 @@
 -- What is answered where a chain is made, by the numbers that C sees.
 use Rattle.std.specs.Prelude.{ℕ, Result, Ok, Err}
 use Rattle.denial_c.specs.declared.chain_fault.ChainFault.{ChainFault}
-use Rattle.denial_c.specs.declared.chain_fault.ChainFault.TheVariants.{Apex, Records, Class, Soa, Ttls, ShortBuffer, OutOfMemory}
+use Rattle.denial_c.specs.declared.chain_fault.ChainFault.TheVariants.{Apex, Records, Class, Soa, Ttls, LongSalt, LongOwner, Collision, ShortBuffer, OutOfMemory}
 
 -- the faults that verdicts have too have the same numbers
 abbrev pub chain_fault_number : ChainFault → ℕ
@@ -11,6 +11,9 @@ chain_fault_number (Class offset) = 22
 chain_fault_number Soa = 23
 chain_fault_number Ttls = 24
 chain_fault_number (ShortBuffer count) = 25
+chain_fault_number LongSalt = 26
+chain_fault_number LongOwner = 27
+chain_fault_number Collision = 28
 chain_fault_number OutOfMemory = 21
 
 -- the offset where a fault stands, or how many octets there is no room for; 0 where it has neither
@@ -21,6 +24,9 @@ fault_count (Class offset) = offset
 fault_count Soa = 0
 fault_count Ttls = 0
 fault_count (ShortBuffer count) = count
+fault_count LongSalt = 0
+fault_count LongOwner = 0
+fault_count Collision = 0
 fault_count OutOfMemory = 0
 
 -- a chain was written

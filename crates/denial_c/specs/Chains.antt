@@ -1,17 +1,26 @@
 -- What is answered where a chain is made of octets: the chain of the records that the octets are,
 -- octet for octet, or exactly why there is none.
-use Rattle.std.specs.Prelude.{◌≡◌, ℕ, ◌<◌, List, ◌++◌, length, drop, Result, Ok, Err}
+use Rattle.std.specs.Prelude.{◌≡◌, ℕ, ◌<◌, ◌≤◌, Bool, true, List, ◌++◌, length, drop, Result, Ok, Err, if◌then◌else◌}
 use Rattle.std.specs.List.{flat_map}
 use Rattle.domain_octets.specs.Words.{Octets}
 use Rattle.domain_base.specs.Words.{Name}
 use Rattle.domain_nsec.specs.Chain.{Link, IsFaultless, IsFirstFault}
+use Rattle.domain_nsec3.specs.Chain.{ChainRecords}
+use Rattle.domain_nsec3.specs.Config.{ChainConfig, Parameters}
+use Rattle.domain_nsec3.specs.Faults.{IsReady, IsFirstFault as IsFirstHashedFault}
+use Rattle.domain_nsec3.specs.View.{hash_by}
+use Rattle.domain_nsec3.specs.declared.config.Nsec3ParamTtlMode.TheVariants.{Soa}
 use Rattle.domain_nsec.specs.declared.config.GenerateNsecConfig.{GenerateNsecConfig}
+use Rattle.domain_records.specs.declared.error.Nsec3HashError.{Nsec3HashError}
+use Rattle.domain_records.specs.declared.error.Nsec3HashError.TheVariants as hash_error
 use Rattle.domain_records.specs.declared.error.SigningError.{SigningError}
 use Rattle.domain_records.specs.declared.error.SigningError.TheVariants as signing_error
 use Rattle.domain_zone.specs.View.{zone_of}
+use Rattle.domain_sha1.specs.Iterated.{sha1_answer}
 use Rattle.domain_dnssec.specs.AnyOrder as any_order
+use Rattle.domain_dnssec.specs.AnyOrderNsec3 as any_order_nsec3
 use Rattle.domain_lent.specs.Data.{data_cmp, minimum_of, RawRecord}
-use Rattle.domain_lent.specs.Links.{nsec_record}
+use Rattle.domain_lent.specs.Links.{nsec_record, nsec3_record, param_record}
 use Rattle.domain_lent.specs.Wire.{record_octets}
 use Rattle.denial_c.specs.ChainNumbers.{chain_count, chain_number}
 use Rattle.denial_c.specs.Given.{AreGiven, HasNoRecordAt, HasOtherClassAt}
@@ -40,6 +49,9 @@ IsGivenFault class octets (fault.Records offset) = HasNoRecordAt class octets of
 IsGivenFault class octets (fault.Class offset) = HasOtherClassAt class octets offset
 IsGivenFault class octets fault.Soa = ⊥
 IsGivenFault class octets fault.Ttls = ⊥
+IsGivenFault class octets fault.LongSalt = ⊥
+IsGivenFault class octets fault.LongOwner = ⊥
+IsGivenFault class octets fault.Collision = ⊥
 IsGivenFault class octets (fault.ShortBuffer count) = ⊥
 IsGivenFault class octets fault.OutOfMemory =
     (given : List RawRecord) × AreGiven class octets given
@@ -76,9 +88,91 @@ IsSortedNsecFault sorted a config fault.Soa =
 IsSortedNsecFault sorted a config fault.Ttls =
     IsFirstFault (zone_of (λ n. n) (λ d. d.rtype) minimum_of sorted) a config
     signing_error.MultipleTtlValues
+IsSortedNsecFault sorted a config fault.LongSalt = ⊥
+IsSortedNsecFault sorted a config fault.LongOwner = ⊥
+IsSortedNsecFault sorted a config fault.Collision = ⊥
 IsSortedNsecFault sorted a config (fault.ShortBuffer count) = ⊥
 IsSortedNsecFault sorted a config fault.OutOfMemory =
     IsFaultless (zone_of (λ n. n) (λ d. d.rtype) minimum_of sorted) a config
+
+-- ---- NSEC3
+
+-- the octets of the records of a chain, one after another, and of its NSEC3PARAM record
+abbrev pub nsec3s_octets : ChainRecords → Octets
+nsec3s_octets made =
+    flat_map (λ k. record_octets (nsec3_record k)) made.links
+    ++ record_octets (param_record made.param)
+
+-- SHA-1 (RFC 5155, section 11), with so many iterations and a salt; unsigned delegations are left
+-- out where opt-out is chosen, and the flags of all records are those of opt-out then
+abbrev pub hashed_config : ℕ → Octets → Bool → Bool → Bool → ChainConfig
+hashed_config iterations salt opt_out assume_dnskey occlude_below_dname =
+    let parameters : Parameters = record {
+      algorithm = 1;
+      iterations = iterations;
+      salt = salt;
+    } in
+    record {
+      hash = hash_by sha1_answer parameters;
+      parameters = parameters;
+      flags = if opt_out then 1 else 0;
+      exclude_unsigned = true;
+      assume_dnskeys_will_be_added = assume_dnskey;
+      occlude_below_dname = occlude_below_dname;
+    }
+
+-- what is written is the chain of the records, in whatever order they stand, and its NSEC3PARAM
+-- record, which has the TTL of the SOA record
+pub record IsNsec3Chain (apex : Octets) (class : ℕ) (config : ChainConfig) (records : Octets)
+    (written : Octets) : Type 0 where
+  pub a : Name
+  pub given : List RawRecord
+  pub made : ChainRecords
+  pub zone : AreZone apex class records a given
+  pub chain : any_order_nsec3.IsHashedChainOf (λ n. n) (λ d. d.rtype) minimum_of data_cmp given a
+      config Soa made.links made.param
+  pub is : written ≡ nsec3s_octets made
+
+-- the records have this first fault
+pub record HasHashedZoneFault (apex : Octets) (class : ℕ) (config : ChainConfig) (records : Octets)
+    (error : SigningError) : Type 0 where
+  pub a : Name
+  pub given : List RawRecord
+  pub zone : AreZone apex class records a given
+  pub fault : any_order_nsec3.IsHashedFaultOf (λ n. n) (λ d. d.rtype) minimum_of data_cmp given a
+      config error
+
+-- why names have no hashes of use, where this is the reason: no other stands where SHA-1 hashes
+abbrev pub hashing_fault : Nsec3HashError → ChainFault
+hashing_fault (hash_error.Hasher n) = fault.LongOwner
+hashing_fault hash_error.AppendError = fault.LongOwner
+hashing_fault hash_error.OwnerHashError = fault.LongOwner
+hashing_fault hash_error.Nsec3NameTooLong = fault.LongOwner
+hashing_fault hash_error.CollisionDetected = fault.Collision
+hashing_fault hash_error.OutOfMemory = fault.LongOwner
+
+-- why sorted records of one class have no NSEC3 chain; want of memory says that their zone has no
+-- fault but, where it has one, of hashing
+abbrev pub IsSortedNsec3Fault : List RawRecord → Name → ChainConfig → ChainFault → Type 0
+IsSortedNsec3Fault sorted a config fault.Apex = ⊥
+IsSortedNsec3Fault sorted a config (fault.Records offset) = ⊥
+IsSortedNsec3Fault sorted a config (fault.Class offset) = ⊥
+IsSortedNsec3Fault sorted a config fault.Soa =
+    IsFirstHashedFault (zone_of (λ n. n) (λ d. d.rtype) minimum_of sorted) a config
+    signing_error.SoaRecordCouldNotBeDetermined
+IsSortedNsec3Fault sorted a config fault.Ttls =
+    IsFirstHashedFault (zone_of (λ n. n) (λ d. d.rtype) minimum_of sorted) a config
+    signing_error.MultipleTtlValues
+IsSortedNsec3Fault sorted a config fault.LongSalt = ⊥
+IsSortedNsec3Fault sorted a config fault.LongOwner =
+    IsFirstHashedFault (zone_of (λ n. n) (λ d. d.rtype) minimum_of sorted) a config
+    (signing_error.Nsec3HashingError hash_error.Nsec3NameTooLong)
+IsSortedNsec3Fault sorted a config fault.Collision =
+    IsFirstHashedFault (zone_of (λ n. n) (λ d. d.rtype) minimum_of sorted) a config
+    (signing_error.Nsec3HashingError hash_error.CollisionDetected)
+IsSortedNsec3Fault sorted a config (fault.ShortBuffer count) = ⊥
+IsSortedNsec3Fault sorted a config fault.OutOfMemory =
+    IsReady (zone_of (λ n. n) (λ d. d.rtype) minimum_of sorted) a config
 
 -- ---- what is left in the buffer
 
@@ -92,38 +186,75 @@ pub record IsTooMuch (written old : Octets) (count : ℕ) : Type 0 where
   pub counts : count ≡ length written
   pub more : length old < length written
 
--- why no chain of these octets was written: the first fault that stands, and where none does, want
--- of memory or of room. Want of memory says that the octets are records of the class, and leaves
--- open whether their zone has a fault.
-abbrev pub IsChainFault : (IsChain : Octets → Type 0) → (HasFault : SigningError → Type 0) → Octets
-    → ℕ → Octets → Octets → ChainFault → Type 0
-IsChainFault IsChain HasFault apex class records old fault.Apex = IsSpelled apex → ⊥
-IsChainFault IsChain HasFault apex class records old (fault.Records offset) =
-    IsSpelled apex × HasNoRecordAt class records offset
-IsChainFault IsChain HasFault apex class records old (fault.Class offset) =
-    IsSpelled apex × HasOtherClassAt class records offset
-IsChainFault IsChain HasFault apex class records old fault.Soa =
-    HasFault signing_error.SoaRecordCouldNotBeDetermined
-IsChainFault IsChain HasFault apex class records old fault.Ttls =
-    HasFault signing_error.MultipleTtlValues
-IsChainFault IsChain HasFault apex class records old (fault.ShortBuffer count) =
-    (written : Octets) × IsChain written × IsTooMuch written old count
-IsChainFault IsChain HasFault apex class records old fault.OutOfMemory =
-    (a : Name) × ((given : List RawRecord) × AreZone apex class records a given)
+-- what can be asked of a chain: what is handed in beside the records is fit for one, or its salt is
+-- too long; what octets are the chain; and which fault the zone has first
+pub record Asking : Type 1 where
+  pub is_fit : Type 0
+  pub is_long : Type 0
+  pub is_chain : Octets → Type 0
+  pub has_fault : SigningError → Type 0
+
+-- why no chain was written: the first fault that stands, and where none does, want of memory or of
+-- room. Want of memory says that the octets are an apex and records of the class, and leaves open
+-- whether their zone has a fault.
+abbrev pub IsChainFault : Asking → Octets → ℕ → Octets → Octets → ChainFault → Type 0
+IsChainFault asking apex class records old fault.Apex = IsSpelled apex → ⊥
+IsChainFault asking apex class records old fault.LongSalt = IsSpelled apex × asking.is_long
+IsChainFault asking apex class records old (fault.Records offset) =
+    IsSpelled apex × asking.is_fit × HasNoRecordAt class records offset
+IsChainFault asking apex class records old (fault.Class offset) =
+    IsSpelled apex × asking.is_fit × HasOtherClassAt class records offset
+IsChainFault asking apex class records old fault.Soa =
+    asking.is_fit × asking.has_fault signing_error.SoaRecordCouldNotBeDetermined
+IsChainFault asking apex class records old fault.Ttls =
+    asking.is_fit × asking.has_fault signing_error.MultipleTtlValues
+IsChainFault asking apex class records old fault.LongOwner =
+    asking.is_fit
+    × asking.has_fault (signing_error.Nsec3HashingError hash_error.Nsec3NameTooLong)
+IsChainFault asking apex class records old fault.Collision =
+    asking.is_fit
+    × asking.has_fault (signing_error.Nsec3HashingError hash_error.CollisionDetected)
+IsChainFault asking apex class records old (fault.ShortBuffer count) =
+    asking.is_fit × ((written : Octets) × asking.is_chain written × IsTooMuch written old count)
+IsChainFault asking apex class records old fault.OutOfMemory =
+    asking.is_fit × ((a : Name) × ((given : List RawRecord) × AreZone apex class records a given))
 
 -- what is answered, and what the buffer has then: a fault leaves it as it was
-abbrev pub IsChainResult : (IsChain : Octets → Type 0) → (HasFault : SigningError → Type 0) → Octets
-    → ℕ → Octets → Result ℕ ChainFault → Octets → Octets → Type 0
-IsChainResult IsChain HasFault apex class records (Ok count) old new =
-    (written : Octets) × IsChain written × IsWritten written old new count
-IsChainResult IsChain HasFault apex class records (Err e) old new =
-    IsChainFault IsChain HasFault apex class records old e × (new ≡ old)
+abbrev pub IsChainResult : Asking → Octets → ℕ → Octets → Result ℕ ChainFault → Octets → Octets
+    → Type 0
+IsChainResult asking apex class records (Ok count) old new =
+    asking.is_fit × ((written : Octets) × asking.is_chain written × IsWritten written old new count)
+IsChainResult asking apex class records (Err e) old new =
+    IsChainFault asking apex class records old e × (new ≡ old)
 
-abbrev pub IsNsecResult : Octets → ℕ → GenerateNsecConfig → Octets → Result ℕ ChainFault → Octets
+abbrev pub nsec_asking : Octets → ℕ → GenerateNsecConfig → Octets → Asking
+nsec_asking apex class config records =
+    record {
+      is_fit = Unit {0};
+      is_long = ⊥;
+      is_chain = IsNsecChain apex class config records;
+      has_fault = HasZoneFault apex class config records;
+    }
+
+abbrev pub IsNsecChainResult : Octets → ℕ → GenerateNsecConfig → Octets → Result ℕ ChainFault
+    → Octets → Octets → Type 0
+IsNsecChainResult apex class config records =
+    IsChainResult (nsec_asking apex class config records) apex class records
+
+-- the salt has at most 255 octets (RFC 5155, section 3.1.4)
+abbrev pub nsec3_asking : Octets → ℕ → ChainConfig → Octets → Asking
+nsec3_asking apex class config records =
+    record {
+      is_fit = length config.parameters.salt ≤ 255;
+      is_long = 255 < length config.parameters.salt;
+      is_chain = IsNsec3Chain apex class config records;
+      has_fault = HasHashedZoneFault apex class config records;
+    }
+
+abbrev pub IsNsec3ChainResult : Octets → ℕ → ChainConfig → Octets → Result ℕ ChainFault → Octets
     → Octets → Type 0
-IsNsecResult apex class config records =
-    IsChainResult (IsNsecChain apex class config records)
-    (HasZoneFault apex class config records) apex class records
+IsNsec3ChainResult apex class config records =
+    IsChainResult (nsec3_asking apex class config records) apex class records
 
 -- ---- what C is told
 

@@ -15,6 +15,12 @@ pub(crate) enum ChainFault {
     Soa,
     /// Records of one owner and one type differ in their TTLs.
     Ttls,
+    /// The salt has over 255 octets.
+    LongSalt,
+    /// The owner of a hash would be longer than a name may be.
+    LongOwner,
+    /// Two names have one hash.
+    Collision,
     /// The chain has so many octets, for which there is no room.
     ShortBuffer(usize),
     /// There is not enough memory.
@@ -33,6 +39,9 @@ fn chain_fault_number(fault: ChainFault) -> u32
         ChainFault::Soa => 23,
         ChainFault::Ttls => 24,
         ChainFault::ShortBuffer(_) => 25,
+        ChainFault::LongSalt => 26,
+        ChainFault::LongOwner => 27,
+        ChainFault::Collision => 28,
     }
 }
 

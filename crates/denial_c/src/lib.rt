@@ -9,7 +9,7 @@
 #![tactic(auto)]
 
 ghost use Rattle.std.specs.Prelude.{◌≡◌};
-ghost use Rattle.denial_c.specs.Chains.{IsChainTold, IsNsecResult as IsNsecChainResult};
+ghost use Rattle.denial_c.specs.Chains.{hashed_config, IsChainTold, IsNsecChainResult, IsNsec3ChainResult};
 ghost use Rattle.denial_c.specs.Judged.{IsExpansionAnswer, IsNsecAnswer, IsNsec3Answer};
 ghost use Rattle.denial_c.specs.Numbers.{answer_labels, answer_number, verdict_labels, verdict_number};
 ghost use Rattle.denial_c.specs.Result.{IsNsecResult, IsNsec3Result, IsTold};
@@ -22,10 +22,12 @@ mod fault;
 mod judge;
 mod nsec;
 mod nsec3;
+mod nsec3_chain;
 mod nsec_chain;
 mod text;
 mod zone;
 
+use crate::nsec3_chain::Hashing;
 use crate::text::ROOM;
 use domain_nsec::GenerateNsecConfig;
 use std::alloc::Global;
@@ -200,6 +202,47 @@ pub extern "C" fn denial_nsec_chain(
     };
     chain_fault::tell_chain(
         nsec_chain::nsec_chain(alloc, apex, class, &config, records, chain),
+        count,
+    )
+}
+
+/// Writes the NSEC3 chain of a zone into the buffer, its records one after another in the order of
+/// their hashes, without compression, and its NSEC3PARAM record after them. Names are hashed by
+/// SHA-1.
+///
+/// Gives 48, and the number of octets of the chain; or the number of a fault, and what it counts:
+/// the offset of the record where it stands, or the octets that there is no room for. The buffer
+/// then stays as it was.
+#[unsafe(no_mangle)]
+pub extern "C" fn denial_nsec3_chain(
+    alloc: Global,
+    apex: &[u8],
+    class: u16,
+    assume_dnskey: bool,
+    occlude_below_dname: bool,
+    iterations: u16,
+    salt: &[u8],
+    opt_out: bool,
+    records: &[u8],
+    chain: &mut [u8],
+    count: &mut usize,
+) -> u32
+    ensures { IsChainTold
+        (IsNsec3ChainResult apex.now class
+        (hashed_config iterations salt.now opt_out assume_dnskey occlude_below_dname) records.now)
+        result count.new chain.old chain.new }
+{
+    let hashing = Hashing {
+        iterations,
+        salt,
+        opt_out,
+    };
+    let options = GenerateNsecConfig {
+        assume_dnskeys_will_be_added: assume_dnskey,
+        occlude_below_dname,
+    };
+    chain_fault::tell_chain(
+        nsec3_chain::nsec3_chain(alloc, apex, class, hashing, options, records, chain),
         count,
     )
 }

@@ -7,7 +7,7 @@ ghost use Rattle.domain_zone.specs.View.{zone_of};
 ghost use Rattle.domain_lent.specs.Data.{minimum_of};
 ghost use Rattle.domain_lent.specs.Links.{nsec_record};
 ghost use Rattle.domain_lent.specs.Wire.{record_octets};
-ghost use Rattle.denial_c.specs.Chains.{nsecs_octets, IsNsecResult, IsSortedNsecFault, IsTooMuch, IsWritten};
+ghost use Rattle.denial_c.specs.Chains.{nsecs_octets, IsNsecChainResult, IsSortedNsecFault, IsTooMuch, IsWritten};
 ghost use Rattle.denial_c.specs.declared.chain_fault.ChainFault.TheVariants as fault;
 
 use crate::chain_fault::ChainFault;
@@ -125,7 +125,7 @@ pub(crate) fn nsec_chain(
     records: &[u8],
     buffer: &mut [u8],
 ) -> Result<usize, ChainFault>
-    ensures { IsNsecResult apex.now class config.now records.now result buffer.old buffer.new }
+    ensures { IsNsecChainResult apex.now class config.now records.now result buffer.old buffer.new }
 {
     let Ok(apex) = read_name(apex, Fault::Apex) else {
         return Err(ChainFault::Apex);

@@ -2,9 +2,9 @@ use Rattle.std.proofs.Common.{◌≡◌, ◌<◌, List, length, refl, subst, IfE
 use Rattle.domain_lent.specs.Data.{minimum_of, RawRecord}
 use Rattle.domain_nsec.specs.Chain.{IsChain}
 use Rattle.domain_zone.specs.View.{zone_of}
-use Rattle.denial_c.specs.Chains.{IsSortedNsecFault, IsWritten}
+use Rattle.denial_c.specs.Chains.{nsec_asking, IsSortedNsecFault, IsWritten}
 use Rattle.denial_c.specs.declared.chain_fault.ChainFault.TheVariants.{ShortBuffer}
-use Rattle.denial_c.proofs.ChainLemmas.{is_sorted, nsec_fault, nsec_made, nsec_result}
+use Rattle.denial_c.proofs.ChainLemmas.{chain_result, is_sorted, nsec_fault, nsec_made}
 use Rattle.denial_c.proofs.nsec_chain.nsec_chain.Goals as goal
 
 pub returns-in-Err-sorted_nsecs : goal.returns-in-Err-sorted_nsecs
@@ -27,7 +27,8 @@ returns c =
     let octets = c.in-Ok-sorted_nsecs.octets.items in
     let old = c.args.buffer.now in
     let new = c.write_octets.new.buffer in
-    nsec_result c.args.apex.now c.args.class c.args.config.now c.args.records.now octets old new
+    chain_result (nsec_asking c.args.apex.now c.args.class c.args.config.now c.args.records.now) c.args.apex.now c.args.class c.args.records.now
+    octets old new tt
     (nsec_made c.args.apex.now c.args.class c.args.config.now c.args.records.now c.in-Ok.apex sorted octets made.0 zone
     (subst (λ (xs : List RawRecord). IsChain (zone_of (λ n. n) (λ d. d.rtype) minimum_of xs) c.in-Ok.apex c.args.config.now made.0) c.deref.ensures.value made.1)
     made.2)

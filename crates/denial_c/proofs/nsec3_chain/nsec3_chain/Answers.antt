@@ -1,0 +1,53 @@
+use Rattle.std.proofs.Common.{◌≡◌, ◌<◌, List, length, refl, subst, IfErr, IfOk}
+use Rattle.domain_lent.specs.Data.{minimum_of, RawRecord}
+use Rattle.domain_nsec3.specs.Chain.{IsChainParam, IsHashedChain}
+use Rattle.domain_nsec3.specs.Config.{ChainConfig}
+use Rattle.domain_nsec3.specs.declared.config.Nsec3ParamTtlMode.TheVariants.{Soa}
+use Rattle.domain_zone.specs.View.{zone_of}
+use Rattle.denial_c.specs.Chains.{hashed_config, nsec3_asking, IsSortedNsec3Fault, IsWritten}
+use Rattle.denial_c.specs.declared.chain_fault.ChainFault.TheVariants.{ShortBuffer}
+use Rattle.denial_c.proofs.ChainLemmas.{chain_result, is_sorted, nsec3_fault, nsec3_made}
+use Rattle.denial_c.proofs.nsec3_chain.nsec3_chain.Goals as goal
+
+pub returns-in-Err-sorted_nsec3s : goal.returns-in-Err-sorted_nsec3s
+returns-in-Err-sorted_nsec3s c =
+    let sorted = c.in-Ok-sorted_zone.sorted.items in
+    let config = hashed_config c.args.hashing.iterations c.args.hashing.salt.now c.args.hashing.opt_out c.args.options.assume_dnskeys_will_be_added
+    c.args.options.occlude_below_dname in
+    let made_with = c.in-Ok-config_with in
+    let zone = is_sorted c.args.apex.now c.args.class c.from_int.result c.args.records.now c.in-Ok.apex sorted c.in-Ok.ensures.ok c.from_int.ensures
+    c.in-Ok-sorted_zone.ensures.sorts c.in-Ok-sorted_zone.ensures.one_class in (
+      nsec3_fault c.args.apex.now c.args.class config c.args.records.now made_with.ensures.fits c.in-Ok.apex sorted c.args.buffer.now zone
+          c.in-Err-sorted_nsec3s.fault
+          (subst (λ (xs : List RawRecord). IsSortedNsec3Fault xs c.in-Ok.apex config c.in-Err-sorted_nsec3s.fault) c.deref.ensures.value
+          (subst (λ (k : ChainConfig). IsSortedNsec3Fault c.deref.result.now c.in-Ok.apex k c.in-Err-sorted_nsec3s.fault) made_with.ensures.ok
+          c.in-Err-sorted_nsec3s.ensures.err)),
+      refl,
+    )
+
+pub returns : goal.returns
+returns c =
+    let sorted = c.in-Ok-sorted_zone.sorted.items in
+    let config = hashed_config c.args.hashing.iterations c.args.hashing.salt.now c.args.hashing.opt_out c.args.options.assume_dnskeys_will_be_added
+    c.args.options.occlude_below_dname in
+    let made_with = c.in-Ok-config_with in
+    let a = c.in-Ok.apex in
+    let zone = is_sorted c.args.apex.now c.args.class c.from_int.result c.args.records.now a sorted c.in-Ok.ensures.ok c.from_int.ensures
+    c.in-Ok-sorted_zone.ensures.sorts c.in-Ok-sorted_zone.ensures.one_class in
+    let made = c.in-Ok-sorted_nsec3s.ensures.ok in
+    let octets = c.in-Ok-sorted_nsec3s.octets.items in
+    let old = c.args.buffer.now in
+    let new = c.write_octets.new.buffer in
+    let chain = subst (λ (xs : List RawRecord). IsHashedChain (zone_of (λ n. n) (λ d. d.rtype) minimum_of xs) a config made.0.links) c.deref.ensures.value
+    (subst (λ (k : ChainConfig). IsHashedChain (zone_of (λ n. n) (λ d. d.rtype) minimum_of c.deref.result.now) a k made.0.links) made_with.ensures.ok made.1) in
+    let param = subst (λ (xs : List RawRecord). IsChainParam (zone_of (λ n. n) (λ d. d.rtype) minimum_of xs) a config Soa made.0.param) c.deref.ensures.value
+    (subst (λ mode. IsChainParam (zone_of (λ n. n) (λ d. d.rtype) minimum_of c.deref.result.now) a config mode made.0.param) made_with.ensures.mode
+    (subst (λ (k : ChainConfig). IsChainParam (zone_of (λ n. n) (λ d. d.rtype) minimum_of c.deref.result.now) a k made_with.config.nsec3param_ttl_mode
+    made.0.param) made_with.ensures.ok made.2)) in
+    chain_result (nsec3_asking c.args.apex.now c.args.class config c.args.records.now) c.args.apex.now c.args.class c.args.records.now octets old new
+    made_with.ensures.fits
+    (nsec3_made c.args.apex.now c.args.class config c.args.records.now made_with.ensures.fits a sorted octets made.0 zone chain param made.3)
+    c.write_octets.result
+    (subst (λ w. IfOk c.write_octets.result (IsWritten w old new)) c.deref-2.ensures.value c.write_octets.ensures.ok)
+    (subst (λ w. IfErr c.write_octets.result (λ e. (e ≡ ShortBuffer (length w)) × (length old < length w) × (new ≡ old))) c.deref-2.ensures.value
+    c.write_octets.ensures.err)

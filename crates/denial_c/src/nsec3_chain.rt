@@ -1,0 +1,213 @@
+//! The NSEC3 chain of the records in octets.
+ghost use Rattle.std.specs.Prelude.{◌≡◌, ◌≤◌, ◌<◌, ◌++◌, All, length, IfErr, IfOk, OnOk};
+ghost use Rattle.domain_base.specs.Classes.{in_class};
+ghost use Rattle.domain_lent.specs.Data.{minimum_of};
+ghost use Rattle.domain_lent.specs.Links.{nsec3_record, param_record};
+ghost use Rattle.domain_lent.specs.Wire.{record_octets};
+ghost use Rattle.domain_nsec3.specs.Chain.{ChainRecords, IsChainParam, IsHashedChain};
+ghost use Rattle.domain_nsec3.specs.View.{as_param_record, config_of};
+ghost use Rattle.domain_nsec3.specs.declared.config.Nsec3ParamTtlMode.TheVariants.{Soa};
+ghost use Rattle.domain_records.specs.Order.{IsInOrder, IsOneClass};
+ghost use Rattle.domain_sha1.specs.Iterated.{sha1_answer};
+ghost use Rattle.domain_zone.specs.View.{zone_of};
+ghost use Rattle.denial_c.specs.Chains.{hashed_config, hashing_fault, nsec3s_octets, IsNsec3ChainResult, IsSortedNsec3Fault};
+ghost use Rattle.denial_c.specs.declared.chain_fault.ChainFault.TheVariants as fault;
+
+use crate::chain_fault::ChainFault;
+use crate::fault::Fault;
+use crate::nsec::read_name;
+use crate::nsec_chain::write_octets;
+use crate::zone::sorted_zone;
+use domain_base::{Class, Name, Nsec3HashAlgorithm, ParsedName, ToName};
+use domain_bitmap::Nsec3Salt;
+use domain_bitmap::laws::built_bitmaps_give_their_types;
+use domain_chain_rdata::Nsec3param;
+use domain_lent::{LentRecord, compose_parts, compose_record};
+use domain_nsec::GenerateNsecConfig;
+use domain_nsec3::{GenerateNsec3Config, LentNsec3, Nsec3Chain};
+use domain_octets::OutOfMemory;
+use domain_plain::Record;
+use domain_records::{InPlaceSorter, Nsec3HashError, RecordsIter, SigningError};
+use domain_sha1::Sha1Hasher;
+use std::alloc::Global;
+
+/// How names are hashed, by SHA-1, and whether unsigned delegations are left out.
+#[derive(Clone, Copy)]
+pub(crate) struct Hashing<'a> {
+    /// How often a hash is taken again (RFC 5155, section 3.1.3).
+    pub iterations: u16,
+    /// What is hashed after a name (RFC 5155, section 3.1.5).
+    pub salt: &'a [u8],
+    /// Whether unsigned delegations are left out, and the records say so (RFC 5155, section 6).
+    pub opt_out: bool,
+}
+
+/// Appends an NSEC3 record of a chain, which is of class IN.
+fn add_nsec3(alloc: Global, nsec3: &LentNsec3<'_>, octets: &mut Vec<u8>) -> Result<(), OutOfMemory>
+    requires types { length nsec3.now.bits ≤ 8704 }
+    requires class { nsec3.now.class ≡ in_class }
+    ensures { OnOk result (octets.new.items
+        ≡ octets.old.items ++ record_octets (nsec3_record nsec3.now)) }
+{
+    let owner: Name<Vec<u8>> = nsec3.owner().make(alloc)?;
+    let hashed = nsec3.data();
+    let _salt = hashed.salt().as_slice();
+    let _next_owner = hashed.next_owner().as_slice();
+    match compose_parts(&owner, Class::IN, nsec3.ttl(), hashed, octets) {
+        Ok(()) => Ok(()),
+        Err(_) => Err(OutOfMemory),
+    }
+}
+
+/// Appends the NSEC3PARAM record of a chain.
+fn add_param(
+    param: &Record<ParsedName<'_>, Nsec3param<&[u8]>>,
+    octets: &mut Vec<u8>,
+) -> Result<(), OutOfMemory>
+    ensures { OnOk result (octets.new.items
+        ≡ octets.old.items ++ record_octets (param_record (as_param_record (λ n. n) param.now))) }
+{
+    let _salt = param.data().salt().as_slice();
+    match compose_record(param, octets) {
+        Ok(()) => Ok(()),
+        Err(_) => Err(OutOfMemory),
+    }
+}
+
+/// The octets of the records of a chain, one after another, and of its NSEC3PARAM record.
+fn nsec3s_octets(alloc: Global, chain: &Nsec3Chain<'_, &[u8]>) -> Result<Vec<u8>, OutOfMemory>
+    requires { All (λ k. (length k.bits ≤ 8704) × (k.class ≡ in_class)) chain.now.links }
+    ensures { IfOk result (λ octets. octets.items ≡ nsec3s_octets chain.now) }
+{
+    let mut octets = Vec::new(alloc);
+    for place in 0..chain.len() {
+        let Some(nsec3) = chain.lend(place) else {
+            unreachable!();
+        };
+        add_nsec3(alloc, &nsec3, &mut octets)?;
+    }
+    add_param(chain.nsec3param(), &mut octets)?;
+    Ok(octets)
+}
+
+/// How a chain is made.
+///
+/// # Errors
+///
+/// `LongSalt` exactly where the salt has over 255 octets.
+fn config_with<'a>(
+    hashing: Hashing<'a>,
+    options: GenerateNsecConfig,
+) -> Result<GenerateNsec3Config<&'a [u8], InPlaceSorter>, ChainFault>
+    ensures ok { IfOk result (λ config. config_of sha1_answer config
+        ≡ hashed_config hashing.entry.iterations hashing.entry.salt.now hashing.entry.opt_out
+        options.assume_dnskeys_will_be_added options.occlude_below_dname) }
+    ensures mode { IfOk result (λ config. config.nsec3param_ttl_mode ≡ Soa) }
+    ensures fits { IfOk result (λ _. length hashing.entry.salt.now ≤ 255) }
+    ensures err { IfErr result (λ e. (e ≡ fault.LongSalt) × (255 < length hashing.entry.salt.now)) }
+{
+    let Ok(salt) = Nsec3Salt::from_octets(hashing.salt) else {
+        return Err(ChainFault::LongSalt);
+    };
+    let flags = if hashing.opt_out { 1 } else { 0 };
+    let params = Nsec3param::new(Nsec3HashAlgorithm::SHA1, flags, hashing.iterations, salt);
+    let mut config = GenerateNsec3Config::new(params);
+    config.assume_dnskeys_will_be_added = options.assume_dnskeys_will_be_added;
+    config.occlude_below_dname = options.occlude_below_dname;
+    Ok(config)
+}
+
+/// Why names have no hashes of use. SHA-1 refuses no name, and its hashes have 20 octets, so that
+/// there are no other reasons than these two.
+fn hashing_fault(error: Nsec3HashError) -> ChainFault
+    ensures { result ≡ hashing_fault error }
+{
+    match error {
+        Nsec3HashError::CollisionDetected => ChainFault::Collision,
+        _ => ChainFault::LongOwner,
+    }
+}
+
+/// The octets of the NSEC3 chain of the zone that sorted records of one class are.
+///
+/// # Errors
+///
+/// The first fault of the zone: `Soa`, `Ttls`, `LongOwner` or `Collision`; and `OutOfMemory`, only
+/// where neither of the first two stands.
+fn sorted_nsec3s(
+    alloc: Global,
+    apex: &ParsedName<'_>,
+    sorted: &[LentRecord<'_>],
+    config: &GenerateNsec3Config<&[u8], InPlaceSorter>,
+) -> Result<Vec<u8>, ChainFault>
+    requires one_class { IsOneClass sorted.now }
+    requires in_order { IsInOrder (λ n. n) (λ d. d.rtype) sorted.now }
+    requires sha1 { config.now.params.hash_algorithm ≡ 1 }
+    ensures ok { IfOk result (λ octets. (made : ChainRecords)
+        × IsHashedChain (zone_of (λ n. n) (λ d. d.rtype) minimum_of sorted.now) apex.now
+        (config_of sha1_answer config.now) made.links
+        × IsChainParam (zone_of (λ n. n) (λ d. d.rtype) minimum_of sorted.now) apex.now
+        (config_of sha1_answer config.now) config.now.nsec3param_ttl_mode made.param
+        × (octets.items ≡ nsec3s_octets made)) }
+    ensures err { IfErr result (IsSortedNsec3Fault sorted.now apex.now
+        (config_of sha1_answer config.now)) }
+{
+    built_bitmaps_give_their_types();
+    let chain = match Nsec3Chain::generate(
+        alloc,
+        apex,
+        RecordsIter::new_from_owned(sorted),
+        config,
+        &Sha1Hasher,
+    ) {
+        Ok(chain) => chain,
+        Err(SigningError::MultipleTtlValues) => return Err(ChainFault::Ttls),
+        Err(SigningError::OutOfMemory) => return Err(ChainFault::OutOfMemory),
+        Err(SigningError::Nsec3HashingError(error)) => return Err(hashing_fault(error)),
+        Err(_) => return Err(ChainFault::Soa),
+    };
+    match nsec3s_octets(alloc, &chain) {
+        Ok(octets) => Ok(octets),
+        Err(OutOfMemory) => Err(ChainFault::OutOfMemory),
+    }
+}
+
+/// Writes the NSEC3 chain of the records of the class that the octets are, and its NSEC3PARAM
+/// record, into the buffer, and gives the number of their octets.
+///
+/// # Errors
+///
+/// The first that stands: `Apex`; `LongSalt`; `Records` or `Class`, whichever comes first in the
+/// octets; `Soa`, `Ttls`, `LongOwner` or `Collision`, the first fault of the zone; `OutOfMemory`,
+/// which leaves the last four open; and `ShortBuffer`. The buffer stays as it was.
+pub(crate) fn nsec3_chain(
+    alloc: Global,
+    apex: &[u8],
+    class: u16,
+    hashing: Hashing<'_>,
+    options: GenerateNsecConfig,
+    records: &[u8],
+    buffer: &mut [u8],
+) -> Result<usize, ChainFault>
+    ensures { IsNsec3ChainResult apex.now class
+        (hashed_config hashing.entry.iterations hashing.entry.salt.now hashing.entry.opt_out
+        options.assume_dnskeys_will_be_added options.occlude_below_dname) records.now result
+        buffer.old buffer.new }
+{
+    let Ok(apex) = read_name(apex, Fault::Apex) else {
+        return Err(ChainFault::Apex);
+    };
+    let config = match config_with(hashing, options) {
+        Ok(config) => config,
+        Err(fault) => return Err(fault),
+    };
+    let sorted = match sorted_zone(alloc, Class::from_int(class), records) {
+        Ok(sorted) => sorted,
+        Err(fault) => return Err(fault),
+    };
+    let octets = match sorted_nsec3s(alloc, &apex, &sorted, &config) {
+        Ok(octets) => octets,
+        Err(fault) => return Err(fault),
+    };
+    write_octets(&octets, buffer)
+}
