@@ -2,4 +2,5 @@ pub mod LineLemmas
 pub mod Following
 pub mod ReportLemmas
 pub mod NoteLemmas
+pub mod NoteLaws
 pub mod FirstLemmas

@@ -1,5 +1,5 @@
 -- What is told of the records that were read: each record that deserves it, and no other.
-use Rattle.std.specs.Prelude.{◌≡◌, ◌≢◌, ◌⊎◌, ℕ, ◌==◌, Bool, true, false, not, ◌&&◌, ◌||◌, List, [], ◌∷◌, ◌++◌, Option, Some, None, IsSome, MatchOption, if◌then◌else◌}
+use Rattle.std.specs.Prelude.{◌≡◌, ◌≢◌, ◌⊎◌, ℕ, ◌==◌, Bool, true, false, not, ◌&&◌, ◌||◌, List, [], ◌∷◌, ◌++◌, length, Option, Some, None, IsSome, MatchOption, if◌then◌else◌}
 use Rattle.std.specs.List.{find, list_any}
 use Rattle.domain_base.specs.Name.{is_at_or_below, same_name}
 use Rattle.domain_base.specs.Types as rtypes
@@ -153,3 +153,27 @@ pub record AreNoted (is_whole : Bool) (a : Name) (records : List RawRecord) (num
   pub odd_found : Found look.Data a records numbers odd
   pub are : marks ≡ ((((((soas ++ missing_soa is_whole a records) ++ classes) ++ ttls) ++ outside)
       ++ aliases) ++ odd)
+
+-- a mark of a look that is told of a record which deserves it: of the line where the record stands
+pub record IsDeserved (l : Look) (a : Name) (records : List RawRecord) (numbers : List ℕ) (mark : Mark)
+    : Type 0 where
+  pub before : List RawRecord
+  pub lent : RawRecord
+  pub after : List RawRecord
+  pub left : List ℕ
+  pub number : ℕ
+  pub right : List ℕ
+  pub are : records ≡ before ++ lent ∷ after
+  pub stand : numbers ≡ left ++ number ∷ right
+  pub paired : length left ≡ length before
+  pub place : mark.place ≡ Some number
+  pub look : look_of mark.reason ≡ l
+  pub deserves : Deserves mark.reason a (earlier l a before lent) lent
+
+-- one of these marks is of the line of this number
+pub record HasMark (marks : List Mark) (number : ℕ) : Type 0 where
+  pub front : List Mark
+  pub mark : Mark
+  pub back : List Mark
+  pub are : marks ≡ front ++ mark ∷ back
+  pub place : mark.place ≡ Some number

@@ -1,15 +1,36 @@
-//! What the lines that a report tells are to `denial`. A caller calls the law in its body.
-ghost use Rattle.std.specs.Prelude.{ℕ, List, [], ◌∷◌};
+//! What the lines that a report tells are to `denial`, and what its notes are to the records. A caller
+//! calls a law in its body.
+ghost use Rattle.std.specs.Prelude.{◌≡◌, ℕ, List, [], ◌∷◌, ◌++◌, length};
+ghost use Rattle.std.specs.List.{AllByRecursion};
 ghost use Rattle.domain_octets.specs.Words.{Octets};
+ghost use Rattle.domain_base.specs.Words.{Name};
 ghost use Rattle.domain_lent.specs.Data.{RawRecord};
 ghost use Rattle.denial_program.specs.Listing.{Give, IsFirstBad};
 ghost use Rattle.lint_program.specs.Lines.{AreLinted};
+ghost use Rattle.lint_program.specs.Notes.{earlier, look_of, Deserves, Found, HasMark, IsDeserved, Mark};
+ghost use Rattle.lint_program.specs.declared.looks.Look.{Look};
+ghost use Rattle.lint_program.specs.declared.looks.Reason.{Reason};
 
 /// Where a report tells a line, the first that it tells is the line for which `run_denial` and
 /// `run_judge` refuse the input; and where it tells none, they read records from it.
 pub fn the_first_told_is_refused()
     ensures first { (lines : List Octets) (n : ℕ) (more numbers : List ℕ)
-        (records : List RawRecord) → AreLinted 1 lines (n ∷ more) numbers records → IsFirstBad lines n }
+        (records : List RawRecord) → AreLinted 1 lines (n ∷ more) numbers records
+        → IsFirstBad lines n }
     ensures none { (lines : List Octets) (numbers : List ℕ) (records : List RawRecord)
         → AreLinted 1 lines [] numbers records → Give lines records }
+{}
+
+/// Each note that a look finds is of a record that deserves it, by the number of its line; and of
+/// each record that deserves one there is a note.
+pub fn what_is_noted_is_deserved()
+    ensures told { (l : Look) (a : Name) (records : List RawRecord) (numbers : List ℕ)
+        (marks : List Mark) → Found l a records numbers marks
+        → AllByRecursion (IsDeserved l a records numbers) marks }
+    ensures stands { (l : Look) (a : Name) (records : List RawRecord) (numbers : List ℕ)
+        (marks : List Mark) → Found l a records numbers marks
+        → (before after : List RawRecord) (lent : RawRecord) → records ≡ before ++ lent ∷ after
+        → (left right : List ℕ) (n : ℕ) → numbers ≡ left ++ n ∷ right
+        → length left ≡ length before → (reason : Reason) → look_of reason ≡ l
+        → Deserves reason a (earlier l a before lent) lent → HasMark marks n }
 {}

@@ -34,7 +34,8 @@ fn note_one(
     notes: &mut Vec<Note>,
 ) -> Result<(), AllocError>
     ensures { OnOk result ((more : List Mark)
-        × IsToldOf look apex.now (option_map (λ e. e.now.lent.now) first.entry) lent.now place.number more
+        × IsToldOf look apex.now (option_map (λ e. e.now.lent.now) first.entry) lent.now
+        place.number more
         × (map mark_of notes.new.items ≡ map mark_of notes.old.items ++ more)) }
 {
     let Some(reason) = reason_of(look, apex, lent_of(first), lent) else {
