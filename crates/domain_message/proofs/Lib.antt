@@ -7,3 +7,4 @@ pub mod RecordLemmas
 pub mod LineLemmas
 pub mod ReadBackLemmas
 pub mod OneRecordLemmas
+pub mod WrittenLemmas

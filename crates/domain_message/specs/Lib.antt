@@ -8,3 +8,4 @@ pub mod Header
 pub mod Record
 pub mod Entry
 pub mod Alike
+pub mod Written

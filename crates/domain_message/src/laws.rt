@@ -1,12 +1,14 @@
 //! What holds of names and records in messages and in lines. A caller calls the law in its body.
-ghost use Rattle.std.specs.Prelude.{IfSome, Option, ◌≡◌, ◌+◌, ◌++◌, ℕ, length, drop};
+ghost use Rattle.std.specs.Prelude.{IfSome, Option, ◌≡◌, ◌+◌, ◌++◌, ◌<◌, ℕ, length, drop};
 ghost use Rattle.domain_octets.specs.Words.{Octets};
 ghost use Rattle.domain_base.specs.Name.{wire_of, IsName};
 ghost use Rattle.domain_base.specs.Words.{Name};
 ghost use Rattle.domain_plain.specs.RecordText.{record_text};
 ghost use Rattle.domain_rdata.specs.DataText.{data_text};
 ghost use Rattle.domain_rdata.specs.Exact.{HasExactText};
-ghost use Rattle.domain_rdata.specs.Zone.{rtype_of};
+ghost use Rattle.domain_rdata.specs.Zone.{rtype_of, wire_octets};
+ghost use Rattle.domain_rdata.specs.Scan.{AreData};
+ghost use Rattle.domain_message.specs.Written.{HasExactWire, record_octets};
 ghost use Rattle.domain_plain.specs.declared.record.Record.{Record};
 ghost use Rattle.domain_rdata.specs.declared.zone_record_data.ZoneRecordData.{ZoneRecordData};
 ghost use Rattle.domain_message.specs.Alike.{AreAlike, IsOfMessage};
@@ -18,10 +20,15 @@ ghost use Rattle.domain_message.specs.Fault.{LabelsFault};
 ghost use Rattle.domain_message.specs.declared.name.NameFault.{NameFault};
 
 use domain_base::ToName;
+use domain_chain_rdata::nsec_laws::nsec_parses_back;
+use domain_chain_rdata::nsec3_laws::{nsec3_parses_back, nsec3param_parses_back};
+use domain_keys::data_laws::{dnskey_parses_back, ds_parses_back};
 use domain_octets::Octets;
+use domain_plain::laws::{a_parses_back, mx_parses_back, ns_parses_back, soa_parses_back};
 use domain_plain::{Record, RecordData};
 use domain_rdata::ZoneRecordData;
 use domain_rdata::laws::data_is_read_back;
+use domain_rrsig::laws::rrsig_parses_back;
 
 /// At a place of a message stands one name at most, and none where labels have a fault (RFC 1035,
 /// section 4.1.4).
@@ -58,6 +65,43 @@ pub fn written_records_are_read_back<O: Octets, N: ToName>(value: &Record<N, Zon
         LineText O.octets N.labels text value.now) }
 {
     data_is_read_back(value.data());
+    let _owner = value.owner().as_wire();
+    let _ttl = value.ttl().as_secs();
+    let _class = value.class().to_int();
+    let _rtype = value.data().rtype().to_int();
+}
+
+/// The octets that data are written as are these data, and nothing more.
+pub fn written_data_are_read_back<O: Octets, N: ToName>(value: &ZoneRecordData<O, N>)
+    ensures { HasExactWire value.now → AreData O.octets N.labels (rtype_of value.now)
+        (wire_octets O.octets N.labels value.now) value.now }
+{
+    match value {
+        ZoneRecordData::A(data) => a_parses_back(data),
+        ZoneRecordData::Ns(data) => ns_parses_back(data),
+        ZoneRecordData::Soa(data) => soa_parses_back(data),
+        ZoneRecordData::Mx(data) => mx_parses_back(data),
+        ZoneRecordData::Dnskey(data) => dnskey_parses_back(data),
+        ZoneRecordData::Ds(data) => ds_parses_back(data),
+        ZoneRecordData::Rrsig(data) => rrsig_parses_back(data),
+        ZoneRecordData::Nsec(data) => nsec_parses_back(data),
+        ZoneRecordData::Nsec3(data) => nsec3_parses_back(data),
+        ZoneRecordData::Nsec3param(data) => nsec3param_parses_back(data),
+        ZoneRecordData::Unknown(_) => {}
+    }
+}
+
+/// A record that is written into a message without compression stands where it was written, up to
+/// where its octets end, if its data fit into a record.
+pub fn written_records_stand<O: Octets, N: ToName>(value: &Record<N, ZoneRecordData<O, N>>)
+    ensures { (message after : Octets) (at : ℕ)
+        → length (wire_octets O.octets N.labels value.now.«data») < 65536
+        → HasExactWire value.now.«data»
+        → drop at message ≡ record_octets O.octets N.labels value.now ++ after
+        → RecordAt O.octets N.labels message at value.now
+        (at + length (record_octets O.octets N.labels value.now)) }
+{
+    written_data_are_read_back(value.data());
     let _owner = value.owner().as_wire();
     let _ttl = value.ttl().as_secs();
     let _class = value.class().to_int();

@@ -1,0 +1,160 @@
+-- a record that is written without compression stands where it was written
+use Rattle.std.proofs.Common.{◌≡◌, ℕ, ◌+◌, ◌<◌, ◌≤◌, ◌^◌, List, [], ◌∷◌, ◌++◌, refl, sym, ap, subst, ◌∙◌, arith, length, length-append, take, drop}
+use Rattle.std.specs.Int.{w16, w32, to_be_bytes}
+use Rattle.std.proofs.lemmas.List.{append-nil, append_assoc, drop-drop, drop_at, take_at, length-drop}
+use Rattle.domain_octets.specs.Words.{Octets}
+use Rattle.domain_base.specs.Name.{wire_of, IsName}
+use Rattle.domain_base.specs.Words.{Name}
+use Rattle.domain_fields.specs.Layout.{octets_of}
+use Rattle.domain_plain.specs.Unknown.{UnknownData}
+use Rattle.domain_plain.specs.declared.record.Record.{Record}
+use Rattle.domain_rdata.specs.Scan.{AreData}
+use Rattle.domain_rdata.specs.Zone.{rtype_of, wire_octets}
+use Rattle.domain_rdata.specs.declared.zone_record_data.ZoneRecordData.{ZoneRecordData}
+use Rattle.domain_rdata.specs.declared.zone_record_data.ZoneRecordData.TheVariants.{A, Ns, Soa, Mx, Dnskey, Ds, Rrsig, Nsec, Nsec3, Nsec3param, Unknown}
+use Rattle.domain_message.specs.Data.{PlacedAt, PartsAt, DataAt, OctetsAt}
+use Rattle.domain_message.specs.Header.{numbers}
+use Rattle.domain_message.specs.Record.{RecordAt}
+use Rattle.domain_message.specs.Written.{HasExactWire, record_octets}
+use Rattle.domain_message.specs.declared.parts.Part.TheVariants as part
+use Rattle.domain_message.proofs.OneNameLemmas.{in_full_at}
+
+module _ (message : List ℕ) where
+  -- what stands behind some octets
+  past : (at : ℕ) (front rest : List ℕ) → drop at message ≡ front ++ rest → drop (at + length front) message ≡ rest
+  past at front rest is = sym (drop-drop (length front) at message) ∙ ap (drop (length front)) is ∙ drop_at front rest (length front) refl
+
+  -- octets stand where they are
+  octets_stand : (at count : ℕ) (front rest : List ℕ) → at ≤ length message → length front ≡ count → drop at message ≡ front ++ rest
+      → OctetsAt message at count front (at + count)
+  octets_stand at count front rest within long is = record {
+    inside = omega (arith, within, long, ap length is, length-append front rest, length-drop at message);
+    are = sym (ap (take count) is ∙ take_at front rest count long);
+    end_is = refl;
+  }
+
+  within_past : (at : ℕ) (front rest : List ℕ) → at ≤ length message → drop at message ≡ front ++ rest → at + length front ≤ length message
+  within_past at front rest within is = omega (arith, within, ap length is, length-append front rest, length-drop at message)
+
+  name_parts : (at : ℕ) (name : Name) (rest : List ℕ) (end : ℕ) → IsName name → drop at message ≡ wire_of name ++ rest → end ≡ at + length (wire_of name)
+      → PartsAt message (part.Name ∷ []) at (wire_of name) end
+  name_parts at name rest end valid is end_is =
+      (wire_of name, [], at + length (wire_of name), (name, in_full_at message at name rest valid is, refl), (refl, end_is), sym (append-nil (wire_of name)))
+
+  exchange_parts : (at : ℕ) (preference : List ℕ) (name : Name) (rest : List ℕ) → at ≤ length message → length preference ≡ 2 → IsName name
+      → drop at message ≡ (preference ++ wire_of name) ++ rest
+      → PartsAt message (part.Plain 2 ∷ part.Name ∷ []) at (preference ++ wire_of name) (at + length (preference ++ wire_of name))
+  exchange_parts at preference name rest within two valid is =
+      let joined : drop at message ≡ preference ++ (wire_of name ++ rest) = is ∙ append_assoc preference (wire_of name) rest in
+      let next : drop (at + 2) message ≡ wire_of name ++ rest = subst (λ n. drop (at + n) message ≡ wire_of name ++ rest) two (past at preference (wire_of name ++ rest) joined) in (
+        preference,
+        wire_of name,
+        at + 2,
+        octets_stand at 2 preference (wire_of name ++ rest) within two joined,
+        name_parts (at + 2) name rest (at + length (preference ++ wire_of name)) valid next (omega (arith, two, length-append preference (wire_of name))),
+        refl,
+      )
+
+  start_parts : (at : ℕ) (m r : Name) (numbers rest : List ℕ) → at ≤ length message → length numbers ≡ 20 → IsName m → IsName r
+      → drop at message ≡ ((wire_of m ++ wire_of r) ++ numbers) ++ rest
+      → PartsAt message (part.Name ∷ part.Name ∷ part.Plain 20 ∷ []) at ((wire_of m ++ wire_of r) ++ numbers)
+      (at + length ((wire_of m ++ wire_of r) ++ numbers))
+  start_parts at m r numbers rest within twenty m_is r_is is =
+      let joined : drop at message ≡ wire_of m ++ (wire_of r ++ (numbers ++ rest)) =
+      is ∙ append_assoc (wire_of m ++ wire_of r) numbers rest ∙ append_assoc (wire_of m) (wire_of r) (numbers ++ rest) in
+      let second = past at (wire_of m) (wire_of r ++ (numbers ++ rest)) joined in
+      let third = past (at + length (wire_of m)) (wire_of r) (numbers ++ rest) second in
+      let within_second = within_past at (wire_of m) (wire_of r ++ (numbers ++ rest)) within joined in
+      let within_third = within_past (at + length (wire_of m)) (wire_of r) (numbers ++ rest) within_second second in
+      let end_is : at + length ((wire_of m ++ wire_of r) ++ numbers) ≡ at + length (wire_of m) + length (wire_of r) + 20 =
+      omega (arith, twenty, length-append (wire_of m ++ wire_of r) numbers, length-append (wire_of m) (wire_of r)) in (
+        wire_of m,
+        wire_of r ++ numbers,
+        at + length (wire_of m),
+        (m, in_full_at message at m (wire_of r ++ (numbers ++ rest)) m_is joined, refl),
+        (
+          wire_of r,
+          numbers,
+          at + length (wire_of m) + length (wire_of r),
+          (r, in_full_at message (at + length (wire_of m)) r (numbers ++ rest) r_is second, refl),
+          (
+            numbers,
+            [],
+            at + length (wire_of m) + length (wire_of r) + 20,
+            octets_stand (at + length (wire_of m) + length (wire_of r)) 20 numbers rest within_third twenty third,
+            (refl, end_is),
+            sym (append-nil numbers),
+          ),
+          refl,
+        ),
+        append_assoc (wire_of m) (wire_of r) numbers,
+      )
+
+module _ {O N : Type 0} (octets : O → Octets) (labels : N → Name) (message : List ℕ) (place : ℕ) (after : List ℕ) (within : place ≤ length message) where
+  placed : (d : ZoneRecordData O N) → HasExactWire d → AreData octets labels (rtype_of d) (wire_octets octets labels d) d
+      → drop place message ≡ wire_octets octets labels d ++ after
+      → DataAt message (rtype_of d) place (length (wire_octets octets labels d)) (wire_octets octets labels d)
+  unfolding octets_of
+  placed (A d) exact are is = octets_stand message place (length (wire_octets octets labels (A d))) _ after within refl is
+  placed (Ns d) exact are is = name_parts message place (labels d.nsdname) after _ are.1.fits is refl
+  placed (Soa d) exact are is =
+      start_parts message place (labels d.mname) (labels d.rname)
+      ((to_be_bytes w32 d.serial ++ (to_be_bytes w32 d.refresh ++ to_be_bytes w32 d.retry)) ++ (to_be_bytes w32 d.expire ++ to_be_bytes w32 d.minimum))
+      after within refl are.1.fits.0.0 are.1.fits.0.1 is
+  placed (Mx d) exact are is = exchange_parts message place (to_be_bytes w16 d.preference) (labels d.exchange) after within refl are.1.fits.1 is
+  placed (Dnskey d) exact are is = octets_stand message place (length (wire_octets octets labels (Dnskey d))) _ after within refl is
+  placed (Ds d) exact are is = octets_stand message place (length (wire_octets octets labels (Ds d))) _ after within refl is
+  placed (Rrsig d) exact are is = octets_stand message place (length (wire_octets octets labels (Rrsig d))) _ after within refl is
+  placed (Nsec d) exact are is = octets_stand message place (length (wire_octets octets labels (Nsec d))) _ after within refl is
+  placed (Nsec3 d) exact are is = octets_stand message place (length (wire_octets octets labels (Nsec3 d))) _ after within refl is
+  placed (Nsec3param d) exact are is = octets_stand message place (length (wire_octets octets labels (Nsec3param d))) _ after within refl is
+  placed (Unknown d) exact are is =
+      subst (λ ps. PlacedAt message ps place (length (wire_octets octets labels (Unknown d))) (wire_octets octets labels (Unknown d))) (sym exact.1)
+      (octets_stand message place (length (wire_octets octets labels (Unknown d))) _ after within refl is)
+
+numbers_count : (t c l n : ℕ) → length (octets_of numbers (t, (c, (l, n)))) ≡ 10
+unfolding octets_of
+numbers_count t c l n = refl
+
+module _ {O N : Type 0} (octets : O → Octets) (labels : N → Name) (message after : List ℕ) (at : ℕ) (r : Record N (ZoneRecordData O N)) where
+  pub record_stands : IsName (labels r.owner) → r.ttl < 2 ^ 32 → r.class < 65536 → rtype_of r.«data» < 65536
+      → length (wire_octets octets labels r.«data») < 65536 → HasExactWire r.«data»
+      → AreData octets labels (rtype_of r.«data») (wire_octets octets labels r.«data») r.«data»
+      → drop at message ≡ record_octets octets labels r ++ after
+      → RecordAt octets labels message at r (at + length (record_octets octets labels r))
+  record_stands owned timed classed typed counted exact are is =
+      let wire = wire_octets octets labels r.«data» in
+      let name = wire_of (labels r.owner) in
+      let fields = octets_of numbers (rtype_of r.«data», (r.class, (r.ttl, length wire))) in
+      let ten : length fields ≡ 10 = numbers_count (rtype_of r.«data») r.class r.ttl (length wire) in
+      let joined : drop at message ≡ name ++ (fields ++ (wire ++ after)) =
+      is ∙ append_assoc name (fields ++ wire) after ∙ ap (λ o. name ++ o) (append_assoc fields wire after) in
+      let second = past message at name (fields ++ (wire ++ after)) joined in
+      let third : drop (at + length name + 10) message ≡ wire ++ after =
+      subst (λ n. drop (at + length name + n) message ≡ wire ++ after) ten (past message (at + length name) fields (wire ++ after) second) in
+      let within : at + length name + 10 ≤ length message =
+      omega (arith, ten, ap length second, length-append fields (wire ++ after), length-drop (at + length name) message) in
+      record {
+        rtype = rtype_of r.«data»;
+        count = length wire;
+        place = at + length name + 10;
+        header = record {
+          owner_end = at + length name;
+          behind = wire ++ after;
+          owned = in_full_at message at (labels r.owner) (fields ++ (wire ++ after)) owned joined;
+          numbered = record { parts = second; fits = (typed, (classed, (timed, counted))); ends = (tt, (tt, (tt, tt))) };
+          place_is = refl;
+        };
+        holds = record {
+          wire = wire;
+          inside = omega (arith, within, ap length third, length-append wire after, length-drop (at + length name + 10) message);
+          placed = placed octets labels message (at + length name + 10) after within r.«data» exact are third;
+          read = are;
+        };
+        end_is = omega (arith, ten, length-append name (fields ++ wire), length-append fields wire);
+      }
+
+pub unknown_stands : {O N : Type 0} (octets : O → Octets) (labels : N → Name) (d : UnknownData O) → HasExactWire {O = O} {N = N} (Unknown d)
+    → AreData octets labels (rtype_of {O = O} {N = N} (Unknown d)) (wire_octets octets labels (Unknown d)) (Unknown d)
+unfolding octets_of
+unknown_stands octets labels d exact = (exact.0, refl, refl)

@@ -1,0 +1,29 @@
+-- records as they are written into a message, without compression (RFC 1035, section 4.1.3)
+use Rattle.std.specs.Prelude.{◌≡◌, ◌++◌, length, None}
+use Rattle.domain_octets.specs.Words.{Octets}
+use Rattle.domain_base.specs.Name.{wire_of}
+use Rattle.domain_base.specs.Words.{Name}
+use Rattle.domain_fields.specs.Layout.{octets_of}
+use Rattle.domain_plain.specs.declared.record.Record.{Record}
+use Rattle.domain_rdata.specs.Kind.{kind_of}
+use Rattle.domain_rdata.specs.Zone.{rtype_of, wire_octets}
+use Rattle.domain_rdata.specs.declared.zone_record_data.ZoneRecordData.{ZoneRecordData}
+use Rattle.domain_rdata.specs.declared.zone_record_data.ZoneRecordData.TheVariants.{Unknown}
+use Rattle.domain_message.specs.Data.{parts_of}
+use Rattle.domain_message.specs.Header.{numbers}
+
+-- octets are of a type that has no other form, and whose names are never compressed
+abbrev pub HasExactWire : {O N : Type 0} → ZoneRecordData O N → Type 0
+HasExactWire (Unknown d) = (kind_of d.rtype ≡ None) × (parts_of d.rtype ≡ None)
+HasExactWire _ = Unit {0}
+
+-- the owner, the type, the class, the TTL, the length of the data, and the data
+abbrev pub record_octets : {O N : Type 0} → (O → Octets) → (N → Name)
+    → Record N (ZoneRecordData O N) → Octets
+record_octets octets labels r =
+    wire_of (labels r.owner)
+    ++ (octets_of numbers (
+      rtype_of r.«data»,
+      (r.class, (r.ttl, length (wire_octets octets labels r.«data»))),
+    )
+    ++ wire_octets octets labels r.«data»)
