@@ -1,0 +1,3 @@
+module denial
+
+go 1.19
