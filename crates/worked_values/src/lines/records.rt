@@ -64,7 +64,10 @@ pub fn records(alloc: Global, words: &[&str]) -> Result<Vec<ZoneRecord>, ScanErr
 
 /// The sorted set of the records that words spell.
 pub fn zone(alloc: Global, words: &[&str]) -> Result<Zone, ScanError> {
-    Ok(Zone::from_vec(records(alloc, words)?)?)
+    match Zone::from_vec(records(alloc, words)?) {
+        Ok(zone) => Ok(zone),
+        Err(_) => Err(ScanError::OutOfMemory),
+    }
 }
 
 /// Records, each on a line.
