@@ -43,7 +43,8 @@ pub numbers_cut : (octets : List ℕ) (fault : Fault) → FirstFault numbers oct
 numbers_cut octets fault (in_first _ _ _ _ why) = omega (arith, short_cut octets fault why)
 numbers_cut octets fault (in_later _ _ _ v after _ begins why) = omega (arith, short_count octets v after begins, later_cut after fault why)
 
-pub cut_behind : (message : List ℕ) (at : ℕ) (owner : Name) (end : ℕ) (fault : NameFault) → NameAt message at owner end → end ≤ length message
+pub cut_behind : (message : List ℕ) (at : ℕ) (owner : Name) (end : ℕ) (fault : NameFault) → NameAt message at owner end
+    → end ≤ length message
     → fault ≡ name_fault.ShortInput → length (drop end message) < 10 → HeaderFault message at fault
 cut_behind message at owner end fault owned inside said cut =
     cut_numbers owner end owned (omega (arith, length-drop end message)) said
@@ -62,7 +63,8 @@ pub one_header : (message : List ℕ) (at : ℕ) (owner other : Name) (rtype cla
     → SameHeader owner other rtype class ttl count place rtype' class' ttl' count' place'
 one_header message at owner other rtype class ttl count place rtype' class' ttl' count' place' x y =
     let names = one_name message at owner other x.owner_end y.owner_end x.owned y.owned in
-    let read = one_reading numbers (drop x.owner_end message) (rtype, (class, (ttl, count))) (rtype', (class', (ttl', count'))) x.behind y.behind refl
+    let read =
+    one_reading numbers (drop x.owner_end message) (rtype, (class, (ttl, count))) (rtype', (class', (ttl', count'))) x.behind y.behind refl
     x.numbered (subst (λ e. Begins numbers (drop e message) (rtype', (class', (ttl', count'))) y.behind) (sym names.1) y.numbered) in
     record {
       owners = names.0;
@@ -78,4 +80,16 @@ pub no_header : (message : List ℕ) (at : ℕ) (owner : Name) (rtype class ttl 
 no_header message at owner rtype class ttl count place fault x (in_owner why) = no_fault message at owner x.owner_end fault x.owned why
 no_header message at owner rtype class ttl count place fault x (cut_numbers other end owned cut said) =
     let names = one_name message at owner other x.owner_end end x.owned owned in
-    omega (arith, names.1, cut, length-drop x.owner_end message, begins_count (drop x.owner_end message) (rtype, (class, (ttl, count))) x.behind x.numbered)
+    omega (
+      arith,
+      names.1,
+      cut,
+      length-drop x.owner_end message,
+      begins_count (drop x.owner_end message) (
+        rtype,
+        (
+          class,
+          (ttl, count),
+        ),
+      ) x.behind x.numbered,
+    )

@@ -8,3 +8,4 @@ pub mod LineLemmas
 pub mod ReadBackLemmas
 pub mod OneRecordLemmas
 pub mod WrittenLemmas
+pub mod OneLineLemmas

@@ -12,8 +12,10 @@ pub none_left : (tokens : List (List ℕ)) (more : Bool) → IsTrue more ↔ (to
 none_left [] more test off = refl
 none_left (token ∷ tokens) more test off = absurd (let on = test.1 (λ e. cc) in cc)
 
-pub line_refused : {O N X : Type 0} (octets : O → Octets) (labels : N → Name) (limit : Option ℕ) (line : List ℕ) (seen tokens : List (List ℕ))
-    (skipped : Bool) (r : Result X LineError) → seen ≡ words_of line → tokens ≡ words_of line → IsTrue skipped ↔ IsNoEntry seen → skipped ≡ false
+pub line_refused : {O N X : Type 0} (octets : O → Octets) (labels : N
+    → Name) (limit : Option ℕ) (line : List ℕ) (seen tokens : List (List ℕ))
+    (skipped : Bool) (r : Result X LineError) → seen ≡ words_of line → tokens ≡ words_of line → IsTrue skipped ↔ IsNoEntry seen
+    → skipped ≡ false
     → IfErr r (RefusesEntry octets labels limit tokens) → IfErr r (RefusesLine octets labels limit line)
 line_refused octets labels limit line seen tokens skipped r seen_is is test off =
     on_err (λ e why. in_entry (λ none. let on = test.1 (subst IsNoEntry (sym seen_is) none) in cc)

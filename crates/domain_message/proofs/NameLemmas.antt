@@ -17,16 +17,19 @@ use Rattle.domain_message.specs.declared.name.NameFault.TheVariants as name_faul
 pub octets_of_more : (labels more : Name) → labels_octets (labels ++ more) ≡ labels_octets labels ++ labels_octets more
 octets_of_more [] more = refl
 octets_of_more (label ∷ labels) more =
-    ap (λ r. length label ∷ r) (ap (λ r. label ++ r) (octets_of_more labels more) ∙ sym (append_assoc label (labels_octets labels) (labels_octets more)))
+    ap (λ r. length label ∷ r) (ap (λ r. label ++ r) (octets_of_more labels more)
+    ∙ sym (append_assoc label (labels_octets labels) (labels_octets more)))
 
-pub all_of_more : (labels more : Name) → AllByRecursion IsLabel labels → AllByRecursion IsLabel more → AllByRecursion IsLabel (labels ++ more)
+pub all_of_more : (labels more : Name) → AllByRecursion IsLabel labels → AllByRecursion IsLabel more
+    → AllByRecursion IsLabel (labels ++ more)
 all_of_more [] more all others = others
 all_of_more (label ∷ labels) more all others = (all.0, all_of_more labels more all.1 others)
 
 -- the root behind labels makes them a name
 pub wire_is : (labels : Name) → wire_of labels ≡ labels_octets labels ++ 0 ∷ []
 wire_is [] = refl
-wire_is (label ∷ labels) = ap (λ r. length label ∷ r) (ap (λ r. label ++ r) (wire_is labels) ∙ sym (append_assoc label (labels_octets labels) (0 ∷ [])))
+wire_is (label ∷ labels) =
+    ap (λ r. length label ∷ r) (ap (λ r. label ++ r) (wire_is labels) ∙ sym (append_assoc label (labels_octets labels) (0 ∷ [])))
 
 -- ---- within one run
 
@@ -48,7 +51,8 @@ module _ (message : List ℕ) (start used at len : ℕ) (inside : at < length me
 
   pub type_fault : 63 < len → len < 192 → LabelsFault message start used name_fault.BadLabelType
   type_fault big small =
-      here start used so_far.labels (len ∷ drop (at + 1) message) name_fault.BadLabelType begins so_far.room (bad_type len (drop (at + 1) message) big small)
+      here start used so_far.labels (len ∷ drop (at + 1) message) name_fault.BadLabelType begins so_far.room (bad_type len (drop
+      (at + 1) message) big small)
 
   pub length_fault : 0 < len → len ≤ 63 → 255 ≤ used + (at + 1 + len - start) → LabelsFault message start used name_fault.LongName
   length_fault some small big =
@@ -69,7 +73,8 @@ module _ (message : List ℕ) (start used at len : ℕ) (inside : at < length me
       let long : length label ≡ len = length-take-le len (drop (at + 1) message) (omega (arith, length-drop (at + 1) message)) in
       let tail : drop (at + 1) message ≡ label ++ rest = sym (take-append-drop len (drop (at + 1) message))
       ∙ ap (λ r. label ++ r) (drop-drop len (at + 1) message) in
-      let label_bytes = All-take (λ octet. octet < 256) len (drop (at + 1) message) (All-drop (λ octet. octet < 256) (at + 1) message bytes) in
+      let label_bytes =
+      All-take (λ octet. octet < 256) len (drop (at + 1) message) (All-drop (λ octet. octet < 256) (at + 1) message bytes) in
       let is_label : IsLabel label = record { not_empty = omega arith; fits = omega arith; octets = label_bytes } in
       let one : length label ∷ (label ++ []) ≡ len ∷ label = rw (long, append-nil label) refl in
       let octets : labels_octets (so_far.labels ++ label ∷ []) ≡ labels_octets so_far.labels ++ len ∷ label =
@@ -91,7 +96,8 @@ module _ (message : List ℕ) (start used at len : ℕ) (inside : at < length me
 pub end_fault : (message : List ℕ) (start used at : ℕ) → LabelsBetween message start used at → length message ≤ at
     → LabelsFault message start used name_fault.ShortInput
 end_fault message start used at so_far out =
-    here start used so_far.labels [] name_fault.ShortInput (subst (RunAt message start so_far.labels) (drop_all at message out) so_far.run) so_far.room no_octet
+    here start used so_far.labels [] name_fault.ShortInput (subst (RunAt message start so_far.labels)
+    (drop_all at message out) so_far.run) so_far.room no_octet
 
 -- ---- the end of a run
 
@@ -110,7 +116,8 @@ module _ (message : List ℕ) (start at : ℕ) (high : ℕ) (inside : at < lengt
     pointer_ahead : drop at message ≡ pointer_octets (upper * 256 + low) ++ drop (at + 2) message
     pointer_ahead =
         let two : at + 1 + 1 ≡ at + 2 = omega arith in
-        let low_ahead : drop (at + 1) message ≡ low ∷ drop (at + 2) message = rw (← low_is, ← two) (drop_more message (at + 1) 0 inside_low) in
+        let low_ahead : drop (at + 1) message ≡ low ∷ drop (at + 2) message =
+        rw (← low_is, ← two) (drop_more message (at + 1) 0 inside_low) in
         let first : 192 + (upper * 256 + low) / 256 ≡ high = omega arith in
         let second : (upper * 256 + low) % 256 ≡ low = omega arith in
         rw (first, second) (high_ahead ∙ ap (λ r. high ∷ r) low_ahead)
@@ -134,7 +141,8 @@ abbrev pub to_go : Option ℕ → ℕ
 to_go None = 0
 to_go (Some target) = target + 1
 
-run_labels : (message : List ℕ) (start : ℕ) (labels : Name) (behind : List ℕ) (target : Option ℕ) (end : ℕ) → RunAt message start labels behind
+run_labels : (message : List ℕ) (start : ℕ) (labels : Name) (behind : List ℕ) (target : Option ℕ) (end : ℕ)
+    → RunAt message start labels behind
     → EndsWith start (start + length (labels_octets labels)) behind target end → (more : Name) → Goes message target more
     → LabelsAt message start (labels ++ more) end
 run_labels message start labels behind None end run ends more none =
@@ -180,7 +188,8 @@ pub under_way_next : (message : List ℕ) (at : ℕ) (old wire : List ℕ) (targ
     → IsUnderWay message at old target end → target ≡ Some start → RunRead message start old wire next far
     → IsUnderWay message at wire next end
 under_way_next message at old wire target start next end far so_far is run =
-    let count : length wire ≡ length old + length (labels_octets run.labels) = ap length run.wire ∙ length-append old (labels_octets run.labels) in
+    let count : length wire ≡ length old + length (labels_octets run.labels) =
+    ap length run.wire ∙ length-append old (labels_octets run.labels) in
     record {
       room = run.room;
       labels = λ more goes.
@@ -202,7 +211,8 @@ pub to_go_less : (start at : ℕ) (behind : List ℕ) (next : Option ℕ) (end :
 to_go_less start at behind None end ends = omega arith
 to_go_less start at behind (Some target) end ends = let back : IsBackward start target = ends.2 in omega (arith, back.earlier)
 
-pub all_read : (message : List ℕ) (at : ℕ) (wire : List ℕ) (target : Option ℕ) (end : ℕ) → IsUnderWay message at wire target end → target ≡ None
+pub all_read : (message : List ℕ) (at : ℕ) (wire : List ℕ) (target : Option ℕ) (end : ℕ) → IsUnderWay message at wire target end
+    → target ≡ None
     → LabelsRead message at wire end
 all_read message at wire target end so_far is =
     let whole = so_far.labels [] (subst (λ t. Goes message t []) (sym is) refl) in

@@ -15,7 +15,8 @@ abbrev pub Ends : ℕ → List ℕ → Type 0
 Ends used behind = (label rest : List ℕ) → IsLabel label → behind ≡ length label ∷ (label ++ rest) → used + length label + 2 ≤ 255 → ⊥
 
 rest_of : (label rest l ls : List ℕ) → length label ≡ length l → label ++ rest ≡ l ++ ls → rest ≡ ls
-rest_of label rest l ls long same = sym (drop_at label rest (length label) refl) ∙ ap (drop (length label)) same ∙ drop_at l ls (length label) (sym long)
+rest_of label rest l ls long same =
+    sym (drop_at label rest (length label) refl) ∙ ap (drop (length label)) same ∙ drop_at l ls (length label) (sym long)
 
 -- labels that end are told from their octets
 pub same_run : (used : ℕ) (xs ys : Name) (a b : List ℕ) → AllByRecursion IsLabel xs → AllByRecursion IsLabel ys
@@ -35,8 +36,10 @@ same_run used (x ∷ xs) (y ∷ ys) a b xs_are ys_are xs_fit ys_fit a_ends b_end
     let joined : x ++ (labels_octets xs ++ a) ≡ y ++ (labels_octets ys ++ b) =
     sym (append_assoc x (labels_octets xs) a) ∙ tails ∙ append_assoc y (labels_octets ys) b in
     let heads : x ≡ y =
-    sym (take_at x (labels_octets xs ++ a) (length x) refl) ∙ ap (take (length x)) joined ∙ take_at y (labels_octets ys ++ b) (length x) (sym long) in
-    let x_more : used + length (labels_octets (x ∷ xs)) ≡ used + length x + 1 + length (labels_octets xs) = omega (arith, length-append x (labels_octets xs)) in
+    sym (take_at x (labels_octets xs ++ a) (length x) refl) ∙ ap (take (length x)) joined
+    ∙ take_at y (labels_octets ys ++ b) (length x) (sym long) in
+    let x_more : used + length (labels_octets (x ∷ xs)) ≡ used + length x + 1 + length (labels_octets xs) =
+    omega (arith, length-append x (labels_octets xs)) in
     let y_more : used + length (labels_octets (y ∷ ys)) ≡ used + length x + 1 + length (labels_octets ys) =
     omega (arith, long, length-append y (labels_octets ys)) in
     let rest = same_run (used + length x + 1) xs ys a b xs_are.1 ys_are.1 (omega (arith, xs_fit, x_more)) (omega (arith, ys_fit, y_more))
@@ -54,9 +57,12 @@ pointer_ends used target after label rest is same room = let e : 192 + target / 
 fault_ends : (at used : ℕ) (behind : List ℕ) (fault : NameFault) → EndFault at used behind fault → Ends used behind
 fault_ends at used behind fault no_octet label rest is same room = cc
 fault_ends at used behind fault (half_pointer high big) label rest is same room = let e : high ≡ length label = cc in omega (arith, is.fits)
-fault_ends at used behind fault (bad_type len after big small) label rest is same room = let e : len ≡ length label = cc in omega (arith, is.fits)
-fault_ends at used behind fault (not_backward target after forward) label rest is same room = pointer_ends used target after label rest is same room
-fault_ends at used behind fault (long_name len after some small big) label rest is same room = let e : len ≡ length label = cc in omega arith
+fault_ends at used behind fault (bad_type len after big small) label rest is same room =
+    let e : len ≡ length label = cc in omega (arith, is.fits)
+fault_ends at used behind fault (not_backward target after forward) label rest is same room =
+    pointer_ends used target after label rest is same room
+fault_ends at used behind fault (long_name len after some small big) label rest is same room =
+    let e : len ≡ length label = cc in omega arith
 fault_ends at used behind fault (cut_label len after some small short cut) label rest is same room =
     let e : len ≡ length label = cc in let t : after ≡ label ++ rest = cc in omega (arith, ap length t, length-append label rest)
 
@@ -76,7 +82,8 @@ runs_same : (message : List ℕ) (at used : ℕ) (xs ys : Name) (a b : List ℕ)
 runs_same message at used xs ys a b x y xs_fit ys_fit a_ends b_ends =
     same_run used xs ys a b x.of_labels y.of_labels xs_fit ys_fit a_ends b_ends (sym x.spelled ∙ y.spelled)
 
-count_more : (labels others : Name) → length (labels_octets (labels ++ others)) ≡ length (labels_octets labels) + length (labels_octets others)
+count_more : (labels others : Name) → length (labels_octets (labels ++ others)) ≡ length (labels_octets labels) + length
+    (labels_octets others)
 count_more labels others = ap length (octets_of_more labels others) ∙ length-append (labels_octets labels) (labels_octets others)
 
 -- the same labels stand at a place, up to the same one
@@ -86,19 +93,23 @@ one_reading message at used xs ys e f (in_full _ _ a _ x e_is) (in_full _ _ b _ 
     let same = runs_same message at used xs ys (0 ∷ a) (0 ∷ b) x y xs_fit ys_fit (root_ends _ a) (root_ends _ b) in
     (same.0, e_is ∙ ap (λ l. at + length (labels_octets l) + 1) same.0 ∙ sym f_is)
 one_reading message at used xs ys e f (in_full _ _ a _ x e_is) (pointed _ labels t b _ others far y f_is back on) xs_fit ys_fit =
-    let same = runs_same message at used xs labels (0 ∷ a) (pointer_octets t ++ b) x y xs_fit (omega (arith, ys_fit, count_more labels others))
+    let same =
+    runs_same message at used xs labels (0 ∷ a) (pointer_octets t ++ b) x y xs_fit (omega (arith, ys_fit, count_more labels others))
     (root_ends _ a) (pointer_ends _ t b) in
     absurd (no_root_is_pointer t a b same.1)
 one_reading message at used xs ys e f (pointed _ labels t a _ others far x e_is back on) (in_full _ _ b _ y f_is) xs_fit ys_fit =
-    let same = runs_same message at used labels ys (pointer_octets t ++ a) (0 ∷ b) x y (omega (arith, xs_fit, count_more labels others)) ys_fit
+    let same =
+    runs_same message at used labels ys (pointer_octets t ++ a) (0 ∷ b) x y (omega (arith, xs_fit, count_more labels others)) ys_fit
     (pointer_ends _ t a) (root_ends _ b) in
     absurd (no_root_is_pointer t b a (sym same.1))
-one_reading message at used xs ys e f (pointed _ l t a _ m far x e_is back on) (pointed _ k u b _ n near y f_is forth onward) xs_fit ys_fit =
+one_reading message at used xs ys e f (pointed _ l t a _ m far x e_is back on)
+    (pointed _ k u b _ n near y f_is forth onward) xs_fit ys_fit =
     let same = runs_same message at used l k (pointer_octets t ++ a) (pointer_octets u ++ b) x y (omega (arith, xs_fit, count_more l m))
     (omega (arith, ys_fit, count_more k n)) (pointer_ends _ t a) (pointer_ends _ u b) in
     let target : t ≡ u = same_target t u a b same.1 in
     let count : length (labels_octets l) ≡ length (labels_octets k) = ap (λ q. length (labels_octets q)) same.0 in
-    let more = one_reading message t (used + length (labels_octets l)) m n far near on (subst (λ p. LabelsAt message p n near) (sym target) onward)
+    let more =
+    one_reading message t (used + length (labels_octets l)) m n far near on (subst (λ p. LabelsAt message p n near) (sym target) onward)
     (omega (arith, xs_fit, count_more l m)) (omega (arith, ys_fit, count, count_more k n)) in
     ((λ i. same.0 i ++ more.0 i), e_is ∙ ap (λ q. at + length (labels_octets q) + 2) same.0 ∙ sym f_is)
 
@@ -116,9 +127,11 @@ no_end_fault_of_pointer : (at used t : ℕ) (a : List ℕ) (fault : NameFault) (
 no_end_fault_of_pointer at used t a fault b back no_octet same = cc
 no_end_fault_of_pointer at used t a fault b back (half_pointer high big) same = cc
 no_end_fault_of_pointer at used t a fault b back (bad_type len after big small) same = let e : 192 + t / 256 ≡ len = cc in omega arith
-no_end_fault_of_pointer at used t a fault b back (not_backward target after forward) same = let e = same_target t target a after same in omega arith
+no_end_fault_of_pointer at used t a fault b back (not_backward target after forward) same =
+    let e = same_target t target a after same in omega arith
 no_end_fault_of_pointer at used t a fault b back (long_name len after some small big) same = let e : 192 + t / 256 ≡ len = cc in omega arith
-no_end_fault_of_pointer at used t a fault b back (cut_label len after some small short cut) same = let e : 192 + t / 256 ≡ len = cc in omega arith
+no_end_fault_of_pointer at used t a fault b back (cut_label len after some small short cut) same =
+    let e : 192 + t / 256 ≡ len = cc in omega arith
 
 pub no_labels_fault : (message : List ℕ) (at used : ℕ) (xs : Name) (e : ℕ) (fault : NameFault) → LabelsAt message at xs e
     → used + length (labels_octets xs) + 1 ≤ 255 → LabelsFault message at used fault → ⊥
@@ -133,12 +146,14 @@ no_labels_fault message at used xs e fault (pointed _ l t a _ m far x e_is back 
     (pointer_ends _ t a) (fault_ends at _ b fault found) in
     no_end_fault_of_pointer at _ t a fault b back.earlier found same.1
 no_labels_fault message at used xs e fault (pointed _ l t a _ m far x e_is back on) xs_fit (beyond _ _ ys u b _ y ys_fit forth onward) =
-    let same = runs_same message at used l ys (pointer_octets t ++ a) (pointer_octets u ++ b) x y (omega (arith, xs_fit, count_more l m)) ys_fit
+    let same =
+    runs_same message at used l ys (pointer_octets t ++ a) (pointer_octets u ++ b) x y (omega (arith, xs_fit, count_more l m)) ys_fit
     (pointer_ends _ t a) (pointer_ends _ u b) in
     let target : t ≡ u = same_target t u a b same.1 in
     let count : used + length (labels_octets l) ≡ used + length (labels_octets ys) = ap (λ q. used + length (labels_octets q)) same.0 in
     no_labels_fault message t (used + length (labels_octets l)) m far fault on (omega (arith, xs_fit, count_more l m))
-    (subst (λ n. LabelsFault message t n fault) (sym count) (subst (λ p. LabelsFault message p (used + length (labels_octets ys)) fault) (sym target) onward))
+    (subst (λ n. LabelsFault message t n fault) (sym count) (subst (λ p. LabelsFault message p (used + length (labels_octets ys)) fault)
+    (sym target) onward))
 
 -- ---- of names
 
@@ -148,13 +163,15 @@ room_of name valid = omega (arith, valid.fits, ap length (wire_is name), length-
 pub one_name : (message : List ℕ) (at : ℕ) (x y : Name) (e f : ℕ) → NameAt message at x e → NameAt message at y f → (x ≡ y) × (e ≡ f)
 one_name message at x y e f a b = one_reading message at 0 x y e f a.stands b.stands (room_of x a.valid) (room_of y b.valid)
 
-pub no_fault : (message : List ℕ) (at : ℕ) (x : Name) (e : ℕ) (fault : NameFault) → NameAt message at x e → LabelsFault message at 0 fault → ⊥
+pub no_fault : (message : List ℕ) (at : ℕ) (x : Name) (e : ℕ) (fault : NameFault) → NameAt message at x e
+    → LabelsFault message at 0 fault → ⊥
 no_fault message at x e fault a found = no_labels_fault message at 0 x e fault a.stands (room_of x a.valid) found
 
 -- labels that stand somewhere are labels
 pub labels_valid : (message : List ℕ) (at : ℕ) (labels : Name) (end : ℕ) → LabelsAt message at labels end → AllByRecursion IsLabel labels
 labels_valid message at labels end (in_full _ _ after _ run end_is) = run.of_labels
-labels_valid message at labels end (pointed _ l t after _ more far run end_is back on) = all_of_more l more run.of_labels (labels_valid message t more far on)
+labels_valid message at labels end (pointed _ l t after _ more far run end_is back on) =
+    all_of_more l more run.of_labels (labels_valid message t more far on)
 
 -- and end within the message
 pub ends_inside : (message : List ℕ) (at : ℕ) (labels : Name) (end : ℕ) → LabelsAt message at labels end → end ≤ length message
@@ -167,7 +184,8 @@ ends_inside message at labels end (pointed _ l t after _ more far run end_is bac
 pub in_full_at : (message : List ℕ) (at : ℕ) (name : Name) (after : List ℕ) → IsName name → drop at message ≡ wire_of name ++ after
     → NameAt message at name (at + length (wire_of name))
 in_full_at message at name after valid is =
-    let count : length (wire_of name) ≡ length (labels_octets name) + 1 = ap length (wire_is name) ∙ length-append (labels_octets name) (0 ∷ []) in
+    let count : length (wire_of name) ≡ length (labels_octets name) + 1 =
+    ap length (wire_is name) ∙ length-append (labels_octets name) (0 ∷ []) in
     record {
       stands = in_full at name after (at + length (wire_of name)) (record {
         spelled = is ∙ ap (λ w. w ++ after) (wire_is name) ∙ append_assoc (labels_octets name) (0 ∷ []) after;

@@ -12,13 +12,15 @@ one_plain : (message : List ℕ) (count at : ℕ) (a b : List ℕ) (e f : ℕ) �
     → (a ≡ b) × (e ≡ f)
 one_plain message count at a b e f x y = (x.are ∙ sym y.are, x.end_is ∙ sym y.end_is)
 
-one_part : (message : List ℕ) (p : Part) (at : ℕ) (a b : List ℕ) (e f : ℕ) → PartAt message p at a e → PartAt message p at b f → (a ≡ b) × (e ≡ f)
+one_part : (message : List ℕ) (p : Part) (at : ℕ) (a b : List ℕ) (e f : ℕ) → PartAt message p at a e → PartAt message p at b f
+    → (a ≡ b) × (e ≡ f)
 one_part message (part.Plain count) at a b e f x y = one_plain message count at a b e f x y
 one_part message part.Name at a b e f x y =
     let same = one_name message at x.0 y.0 e f x.1 y.1 in
     (x.2 ∙ ap wire_of same.0 ∙ sym y.2, same.1)
 
-pub one_parts : (message : List ℕ) (ps : List Part) (at : ℕ) (a b : List ℕ) (e f : ℕ) → PartsAt message ps at a e → PartsAt message ps at b f
+pub one_parts : (message : List ℕ) (ps : List Part) (at : ℕ) (a b : List ℕ) (e f : ℕ) → PartsAt message ps at a e
+    → PartsAt message ps at b f
     → (a ≡ b) × (e ≡ f)
 one_parts message [] at a b e f x y = (x.0 ∙ sym y.0, x.1 ∙ sym y.1)
 one_parts message (p ∷ ps) at a b e f x y =
@@ -26,7 +28,8 @@ one_parts message (p ∷ ps) at a b e f x y =
     let more = one_parts message ps x.2 x.1 y.1 e f x.4 (subst (λ q. PartsAt message ps q y.1 f) (sym here.1) y.4) in
     (x.5 ∙ (λ i. here.0 i ++ more.0 i) ∙ sym y.5, more.1)
 
-no_part : (message : List ℕ) (p : Part) (at : ℕ) (a : List ℕ) (e : ℕ) (fault : NameFault) → PartAt message p at a e → PartFault message p at fault → ⊥
+no_part : (message : List ℕ) (p : Part) (at : ℕ) (a : List ℕ) (e : ℕ) (fault : NameFault) → PartAt message p at a e
+    → PartFault message p at fault → ⊥
 no_part message (part.Plain count) at a e fault x why = let is : OctetsAt message at count a e = x in omega (arith, is.inside, why.0)
 no_part message part.Name at a e fault x why = no_fault message at x.0 e fault x.1 why
 

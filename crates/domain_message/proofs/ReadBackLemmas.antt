@@ -89,7 +89,8 @@ module _ {O N : Type 0} (octets : O → Octets) (labels : N → Name) (r : Recor
 
   back_if : (text : Option Octets)
       → IfSome text (λ t. RdataText octets labels (rtype_of r.«data») (words_of t) r.«data» [])
-      → IfSome (Some owner_word ++? Some (32 ∷ []) ++? Some (decimal r.ttl) ++? Some (32 ∷ []) ++? Some (class_text r.class) ++? Some (32 ∷ [])
+      → IfSome (Some owner_word ++? Some (32 ∷ []) ++? Some (decimal r.ttl) ++? Some (32 ∷ []) ++? Some (class_text r.class) ++? Some
+      (32 ∷ [])
       ++? Some (type_text (rtype_of r.«data»)) ++? Some (32 ∷ []) ++? text) (λ line. LineText octets labels line r)
   back_if None spelled = tt
   back_if (Some text) spelled = line_back text spelled

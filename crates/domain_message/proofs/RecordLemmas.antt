@@ -14,7 +14,8 @@ on_err f (Ok x) h = tt
 on_err f (Err e) h = f e h
 
 -- octets that are not copied are refused
-not_copied : (limit : Option ℕ) (known : Option Kind) (wire : List ℕ) (e : MessageError) → CopyRefusal limit wire e → OctetsRefusal limit known wire e
+not_copied : (limit : Option ℕ) (known : Option Kind) (wire : List ℕ) (e : MessageError) → CopyRefusal limit wire e
+    → OctetsRefusal limit known wire e
 not_copied limit known wire ShortInput h = h
 not_copied limit known wire BadLabelType h = h
 not_copied limit known wire ForwardPointer h = h
@@ -35,7 +36,8 @@ module _ (limit : Option ℕ) (message : List ℕ) (rtype place count : ℕ) (in
       subst (λ ps. PlacedAt message ps place count (take (place + count - place) (drop place message))) (sym none)
       (record { inside = inside; are = ap (λ n. take n (drop place message)) same; end_is = refl })
 
-  pub placed_parts : (parts : List Part) (octets wire : List ℕ) (end : ℕ) → parts_of rtype ≡ Some parts → PartsAt message parts place octets end
+  pub placed_parts : (parts : List Part) (octets wire : List ℕ) (end : ℕ) → parts_of rtype ≡ Some parts
+      → PartsAt message parts place octets end
       → end ≡ place + count → wire ≡ octets → DataAt message rtype place count wire
   placed_parts parts octets wire end some are end_is same =
       subst (λ ps. PlacedAt message ps place count wire) (sym some)

@@ -106,7 +106,8 @@ module _ (line rest : List ℕ) (words : List (Bor (List ℕ))) (so_far : HasWor
     (whole : position_or_len (λ b. b == 32) rest ≡ length rest) where
   pub last_found : (w : Bor (List ℕ)) → w.now ≡ rest → 0 < length rest → map (λ x. x.now) (words ++ w ∷ []) ≡ words_of line
   last_found w is some =
-      more_words words w rest is ∙ ap (λ ws. map (λ x. x.now) words ++ ws) (sym (words_whole rest whole ∙ some_word rest some)) ∙ so_far.same
+      more_words words w rest is ∙ ap (λ ws. map (λ x. x.now) words ++ ws) (sym (words_whole rest whole ∙ some_word rest some))
+      ∙ so_far.same
 
   pub last_missing : length rest ≡ 0 → map (λ x. x.now) words ≡ words_of line
   last_missing none =

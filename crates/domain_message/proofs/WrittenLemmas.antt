@@ -36,22 +36,36 @@ module _ (message : List ℕ) where
   within_past : (at : ℕ) (front rest : List ℕ) → at ≤ length message → drop at message ≡ front ++ rest → at + length front ≤ length message
   within_past at front rest within is = omega (arith, within, ap length is, length-append front rest, length-drop at message)
 
-  name_parts : (at : ℕ) (name : Name) (rest : List ℕ) (end : ℕ) → IsName name → drop at message ≡ wire_of name ++ rest → end ≡ at + length (wire_of name)
+  name_parts : (at : ℕ) (name : Name) (rest : List ℕ) (end : ℕ) → IsName name → drop at message ≡ wire_of name ++ rest
+      → end ≡ at + length (wire_of name)
       → PartsAt message (part.Name ∷ []) at (wire_of name) end
-  name_parts at name rest end valid is end_is =
-      (wire_of name, [], at + length (wire_of name), (name, in_full_at message at name rest valid is, refl), (refl, end_is), sym (append-nil (wire_of name)))
+  name_parts at name rest end valid is end_is = (
+    wire_of name,
+    [],
+    at + length (wire_of name),
+    (name, in_full_at message at name rest valid is, refl),
+    (refl, end_is),
+    sym
+        (append-nil (wire_of name)),
+  )
 
   exchange_parts : (at : ℕ) (preference : List ℕ) (name : Name) (rest : List ℕ) → at ≤ length message → length preference ≡ 2 → IsName name
       → drop at message ≡ (preference ++ wire_of name) ++ rest
       → PartsAt message (part.Plain 2 ∷ part.Name ∷ []) at (preference ++ wire_of name) (at + length (preference ++ wire_of name))
   exchange_parts at preference name rest within two valid is =
       let joined : drop at message ≡ preference ++ (wire_of name ++ rest) = is ∙ append_assoc preference (wire_of name) rest in
-      let next : drop (at + 2) message ≡ wire_of name ++ rest = subst (λ n. drop (at + n) message ≡ wire_of name ++ rest) two (past at preference (wire_of name ++ rest) joined) in (
+      let next : drop (at + 2) message ≡ wire_of name ++ rest =
+      subst (λ n. drop (at + n) message ≡ wire_of name ++ rest) two (past at preference (wire_of name ++ rest) joined) in (
         preference,
         wire_of name,
         at + 2,
         octets_stand at 2 preference (wire_of name ++ rest) within two joined,
-        name_parts (at + 2) name rest (at + length (preference ++ wire_of name)) valid next (omega (arith, two, length-append preference (wire_of name))),
+        name_parts (at + 2) name rest (at + length (preference ++ wire_of name)) valid next (omega (
+          arith,
+          two,
+          length-append preference
+              (wire_of name),
+        )),
         refl,
       )
 
@@ -90,7 +104,8 @@ module _ (message : List ℕ) where
         append_assoc (wire_of m) (wire_of r) numbers,
       )
 
-module _ {O N : Type 0} (octets : O → Octets) (labels : N → Name) (message : List ℕ) (place : ℕ) (after : List ℕ) (within : place ≤ length message) where
+module _ {O N : Type 0} (octets : O → Octets) (labels : N → Name) (message : List ℕ) (place : ℕ) (after : List ℕ)
+    (within : place ≤ length message) where
   placed : (d : ZoneRecordData O N) → HasExactWire d → AreData octets labels (rtype_of d) (wire_octets octets labels d) d
       → drop place message ≡ wire_octets octets labels d ++ after
       → DataAt message (rtype_of d) place (length (wire_octets octets labels d)) (wire_octets octets labels d)
@@ -99,9 +114,11 @@ module _ {O N : Type 0} (octets : O → Octets) (labels : N → Name) (message :
   placed (Ns d) exact are is = name_parts message place (labels d.nsdname) after _ are.1.fits is refl
   placed (Soa d) exact are is =
       start_parts message place (labels d.mname) (labels d.rname)
-      ((to_be_bytes w32 d.serial ++ (to_be_bytes w32 d.refresh ++ to_be_bytes w32 d.retry)) ++ (to_be_bytes w32 d.expire ++ to_be_bytes w32 d.minimum))
+      ((to_be_bytes w32 d.serial ++ (to_be_bytes w32 d.refresh ++ to_be_bytes w32 d.retry)) ++
+      (to_be_bytes w32 d.expire ++ to_be_bytes w32 d.minimum))
       after within refl are.1.fits.0.0 are.1.fits.0.1 is
-  placed (Mx d) exact are is = exchange_parts message place (to_be_bytes w16 d.preference) (labels d.exchange) after within refl are.1.fits.1 is
+  placed (Mx d) exact are is =
+      exchange_parts message place (to_be_bytes w16 d.preference) (labels d.exchange) after within refl are.1.fits.1 is
   placed (Dnskey d) exact are is = octets_stand message place (length (wire_octets octets labels (Dnskey d))) _ after within refl is
   placed (Ds d) exact are is = octets_stand message place (length (wire_octets octets labels (Ds d))) _ after within refl is
   placed (Rrsig d) exact are is = octets_stand message place (length (wire_octets octets labels (Rrsig d))) _ after within refl is
@@ -109,14 +126,16 @@ module _ {O N : Type 0} (octets : O → Octets) (labels : N → Name) (message :
   placed (Nsec3 d) exact are is = octets_stand message place (length (wire_octets octets labels (Nsec3 d))) _ after within refl is
   placed (Nsec3param d) exact are is = octets_stand message place (length (wire_octets octets labels (Nsec3param d))) _ after within refl is
   placed (Unknown d) exact are is =
-      subst (λ ps. PlacedAt message ps place (length (wire_octets octets labels (Unknown d))) (wire_octets octets labels (Unknown d))) (sym exact.1)
+      subst (λ ps. PlacedAt message ps place (length (wire_octets octets labels (Unknown d))) (wire_octets octets labels (Unknown d)))
+      (sym exact.1)
       (octets_stand message place (length (wire_octets octets labels (Unknown d))) _ after within refl is)
 
 numbers_count : (t c l n : ℕ) → length (octets_of numbers (t, (c, (l, n)))) ≡ 10
 unfolding octets_of
 numbers_count t c l n = refl
 
-module _ {O N : Type 0} (octets : O → Octets) (labels : N → Name) (message after : List ℕ) (at : ℕ) (r : Record N (ZoneRecordData O N)) where
+module _ {O N : Type 0} (octets : O → Octets) (labels : N → Name) (message after : List ℕ) (at : ℕ) (r : Record N
+    (ZoneRecordData O N)) where
   pub record_stands : IsName (labels r.owner) → r.ttl < 2 ^ 32 → r.class < 65536 → rtype_of r.«data» < 65536
       → length (wire_octets octets labels r.«data») < 65536 → HasExactWire r.«data»
       → AreData octets labels (rtype_of r.«data») (wire_octets octets labels r.«data») r.«data»
@@ -131,7 +150,8 @@ module _ {O N : Type 0} (octets : O → Octets) (labels : N → Name) (message a
       is ∙ append_assoc name (fields ++ wire) after ∙ ap (λ o. name ++ o) (append_assoc fields wire after) in
       let second = past message at name (fields ++ (wire ++ after)) joined in
       let third : drop (at + length name + 10) message ≡ wire ++ after =
-      subst (λ n. drop (at + length name + n) message ≡ wire ++ after) ten (past message (at + length name) fields (wire ++ after) second) in
+      subst (λ n. drop (at + length name + n) message ≡ wire ++ after) ten (past message (at + length name) fields
+      (wire ++ after) second) in
       let within : at + length name + 10 ≤ length message =
       omega (arith, ten, ap length second, length-append fields (wire ++ after), length-drop (at + length name) message) in
       record {

@@ -1,4 +1,5 @@
--- names in a message, where an end of a name may stand at an earlier place (RFC 1035, section 4.1.4)
+-- names in a message, where an end of a name may stand at an earlier place (RFC 1035,
+-- section 4.1.4)
 use Rattle.std.specs.Prelude.{◌≡◌, ℕ, ◌+◌, ◌/◌, ◌%◌, ◌<◌, [], ◌∷◌, ◌++◌, length, drop}
 use Rattle.std.specs.List.{AllByRecursion}
 use Rattle.domain_octets.specs.Words.{Octets}

@@ -50,9 +50,9 @@ OctetsRefusal limit known wire ShortBuf =
     × IsOver limit (length part))
 OctetsRefusal limit known wire OutOfMemory = Unit {0}
 
--- why no data of a type are read at a place, of so many octets: the message ends within them; a part
--- of the data of a type whose names may be compressed has a fault; the parts end elsewhere; or their
--- octets without compression are refused
+-- why no data of a type are read at a place, of so many octets: the message ends within them; a
+-- part of the data of a type whose names may be compressed has a fault; the parts end elsewhere;
+-- or their octets without compression are refused
 pub data RefusesData (limit : Option ℕ) (message : Octets) (rtype place count : ℕ)
     (error : MessageError) : Type 0 where
   cut : length message < place + count → error ≡ ShortInput

@@ -58,6 +58,13 @@ pub fn written_names_are_read_back()
         → NameAt message at name (at + length (wire_of name)) }
 {}
 
+/// A line spells one record at most.
+pub fn one_record_is_spelled_by_a_line<O: Octets, N: ToName>()
+    ensures { (line : Octets) (r s : Record N (ZoneRecordData O N))
+        → LineText O.octets N.labels line r → LineText O.octets N.labels line s
+        → AreAlike O.octets N.labels r s }
+{}
+
 /// What a record is written as is a line that spells it, if the text tells all of its data.
 pub fn written_records_are_read_back<O: Octets, N: ToName>(value: &Record<N, ZoneRecordData<O, N>>)
     ensures { HasExactText O.octets value.now.«data»

@@ -1,5 +1,5 @@
 //! Records in lines of a zone's text.
-ghost use Rattle.std.specs.Prelude.{◌≡◌, ◌↔◌, IsTrue, map, IfOk, IfErr, None, Some};
+ghost use Rattle.std.specs.Prelude.{◌↔◌, IsTrue, map, IfOk, IfErr, None, Some};
 ghost use Rattle.domain_message.specs.ErrorText.{line_error_text};
 ghost use Rattle.domain_octets.specs.Line.{words_of};
 ghost use Rattle.domain_message.specs.Entry.{HeadTaken, RefusesHead, EntryText, RefusesEntry, IsNoEntry, LineText, RefusesLine};

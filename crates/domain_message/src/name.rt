@@ -1,5 +1,5 @@
 //! Names in a message, whose ends may stand at earlier places (RFC 1035, section 4.1.4).
-ghost use Rattle.std.specs.Prelude.{◌≡◌, ◌⊎◌, ℕ, ◌+◌, ◌++◌, ◌<◌, ◌≤◌, ◌∷◌, [], length, drop, slice_index, IfOk, IfErr};
+ghost use Rattle.std.specs.Prelude.{◌≡◌, ℕ, ◌+◌, ◌<◌, ◌≤◌, length, drop, IfOk, IfErr};
 ghost use Rattle.domain_base.specs.Name.{wire_of};
 ghost use Rattle.domain_base.specs.Words.{Name};
 ghost use Rattle.domain_message.specs.Name.{NameAt};
@@ -146,8 +146,8 @@ pub(crate) fn name_at(message: &[u8], at: usize) -> Result<(NameOctets, usize), 
     Ok((wire, end))
 }
 
-/// The name that stands at a place of a message (RFC 1035, section 4.1.4), in octets of its own, and
-/// the place after it. A pointer must be to a place before the labels that it follows, so that
+/// The name that stands at a place of a message (RFC 1035, section 4.1.4), in octets of its own,
+/// and the place after it. A pointer must be to a place before the labels that it follows, so that
 /// pointers lead nowhere twice; of its two octets the place after the name is the one behind the
 /// first pointer. The place may be any, also the end of the message.
 ///
@@ -155,8 +155,8 @@ pub(crate) fn name_at(message: &[u8], at: usize) -> Result<(NameOctets, usize), 
 ///
 /// The first fault on the way along the labels: `ShortInput` where the message ends within a label
 /// or a pointer, or before the root, `BadLabelType`, `ForwardPointer`, and `LongName` where the
-/// labels would be over 255 octets with the root. `OutOfMemory` where a name stands there, and there
-/// is no memory for it.
+/// labels would be over 255 octets with the root. `OutOfMemory` where a name stands there, and
+/// there is no memory for it.
 pub fn read_name<N: MakeName>(
     alloc: Global,
     message: &[u8],

@@ -1,6 +1,5 @@
 //! Records in a message.
 ghost use Rattle.std.specs.Prelude.{◌≡◌, ◌≤◌, ◌<◌, ◌+◌, ℕ, Option, length, IfOk, IfErr};
-ghost use Rattle.domain_octets.specs.Limit.{IsOver};
 ghost use Rattle.domain_octets.specs.Words.{Octets};
 ghost use Rattle.domain_base.specs.Scan.{scan_fault_of};
 ghost use Rattle.domain_rdata.specs.Kind.{Kind};
@@ -96,8 +95,8 @@ where
     }
 }
 
-/// The record that stands at a place of a message (RFC 1035, section 4.1.3), over octets of its own,
-/// and the place after it. Pointers of the owner are followed, and those of names in the data of
+/// The record that stands at a place of a message (RFC 1035, section 4.1.3), over octets of its
+/// own, and the place after it. Pointers of the owner are followed, and those of names in the data of
 /// the types of RFC 1035, which alone may be compressed (RFC 3597, section 4): NS, SOA, MX, and,
 /// held as octets, MD, MF, CNAME, MB, MG, MR, PTR and MINFO. The octets of data of other types are
 /// taken as they stand.

@@ -1,5 +1,5 @@
 //! Records of a message, and of a line.
-ghost use Rattle.std.specs.Prelude.{◌≡◌, IfOk};
+ghost use Rattle.std.specs.Prelude.{IfOk};
 ghost use Rattle.domain_message.specs.Entry.{LineText};
 ghost use Rattle.domain_message.specs.Record.{RecordAt};
 

@@ -19,6 +19,7 @@ returns g c = λ exact.
     let timed : r.ttl < 2 ^ 32 = search rules in
     let classed : r.class < 65536 = search rules in
     let typed : rtype_of r.«data» < 65536 = search rules in
-    let back = subst (λ d. HasExactText octets d → IfSome (data_text octets labels d) (λ t. RdataText octets labels (rtype_of d) (words_of t) d []))
+    let back =
+    subst (λ d. HasExactText octets d → IfSome (data_text octets labels d) (λ t. RdataText octets labels (rtype_of d) (words_of t) d []))
     c.data.ensures c.data_is_read_back.ensures in
     record_back octets labels r owned timed classed typed (back exact)

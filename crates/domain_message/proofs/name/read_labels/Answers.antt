@@ -13,4 +13,5 @@ runs-preserved c =
     c.runs.invariant c.in-Some.is c.in_ok-target-2.ensures.ok
 
 pub returns-clause-ok : goal.returns-clause-ok
-returns-clause-ok c = all_read c.args.message.now c.args.at c.runs.wire c.runs.target c.in_ok-target.field-0.end c.runs.invariant c.in_default.is
+returns-clause-ok c =
+    all_read c.args.message.now c.args.at c.runs.wire c.runs.target c.in_ok-target.field-0.end c.runs.invariant c.in_default.is

@@ -16,8 +16,11 @@ returns-then-target-start-clause-err c = λ used.
     let upper_is : get_or message c.args.at 0 ≡ 192 + c.from.result = grind (arith, common_steps) in
     let inside : c.args.at + 1 < length message = grind (arith, common_steps) in
     let low_is : get_or message (c.args.at + 1) 0 ≡ c.from-2.result = grind (arith, common_steps) in
-    forward_fault message c.args.start c.args.at (get_or message c.args.at 0) c.requires.inside refl c.from.result c.from-2.result inside low_is upper_is
-    (let high_fits = c.type_inv.message c.args.at in omega (arith, high_fits)) (let low_fits = c.type_inv.message (c.args.at + 1) in omega (arith, low_fits)) used (omega arith)
+    forward_fault message c.args.start c.args.at
+    (get_or message c.args.at 0) c.requires.inside refl c.from.result c.from-2.result inside low_is upper_is
+    (let high_fits =
+    c.type_inv.message c.args.at in omega (arith, high_fits)) (let low_fits = c.type_inv.message (c.args.at + 1) in omega
+    (arith, low_fits)) used (omega arith)
 
 pub returns-clause-ok : goal.returns-clause-ok
 returns-clause-ok c =
@@ -25,5 +28,8 @@ returns-clause-ok c =
     let upper_is : get_or message c.args.at 0 ≡ 192 + c.from.result = grind (arith, common_steps) in
     let inside : c.args.at + 1 < length message = grind (arith, common_steps) in
     let low_is : get_or message (c.args.at + 1) 0 ≡ c.from-2.result = grind (arith, common_steps) in
-    ends_pointer message c.args.start c.args.at (get_or message c.args.at 0) c.requires.inside refl c.from.result c.from-2.result inside low_is upper_is
-    (let high_fits = c.type_inv.message c.args.at in omega (arith, high_fits)) (let low_fits = c.type_inv.message (c.args.at + 1) in omega (arith, low_fits)) (omega arith)
+    ends_pointer message c.args.start c.args.at
+    (get_or message c.args.at 0) c.requires.inside refl c.from.result c.from-2.result inside low_is upper_is
+    (let high_fits =
+    c.type_inv.message c.args.at in omega (arith, high_fits)) (let low_fits = c.type_inv.message (c.args.at + 1) in omega
+    (arith, low_fits)) (omega arith)

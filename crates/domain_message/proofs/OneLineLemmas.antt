@@ -1,0 +1,82 @@
+-- a line spells one record at most
+use Rattle.std.proofs.Common.{◌≡◌, ℕ, List, [], ◌∷◌, refl, sym, subst, ◌∙◌}
+use Rattle.domain_octets.specs.Line.{words_of}
+use Rattle.domain_octets.specs.Words.{Octets}
+use Rattle.domain_base.specs.Numbers.{ClassText, TypeText}
+use Rattle.domain_base.specs.Scan.{TakesToken, IsNumber}
+use Rattle.domain_base.specs.Text.{NameText}
+use Rattle.domain_base.specs.Words.{Name, Token, Tokens}
+use Rattle.domain_base.proofs.NamedLemmas.{one_named}
+use Rattle.domain_base.proofs.SpellingLemmas.{one_name}
+use Rattle.domain_plain.specs.declared.record.Record.{Record}
+use Rattle.domain_rdata.proofs.ScanLemmas.{text_once}
+use Rattle.domain_rdata.specs.Scan.{RdataText, own, generic, OwnText}
+use Rattle.domain_rdata.specs.Zone.{rtype_of}
+use Rattle.domain_rdata.specs.declared.zone_record_data.ZoneRecordData.{ZoneRecordData}
+use Rattle.domain_rdata.specs.declared.zone_record_data.ZoneRecordData.TheVariants.{A, Ns, Soa, Mx, Dnskey, Ds, Rrsig, Nsec, Nsec3, Nsec3param, Unknown}
+use Rattle.domain_message.specs.Alike.{AreAlike}
+use Rattle.domain_message.specs.Entry.{EntryText, LineText}
+use Rattle.domain_message.proofs.OneRecordLemmas.{are_type}
+
+-- a token that is taken is told from the tokens
+taken_once : {V : Type 0} (P : Token → V → Type 0) → ((t : Token) (v w : V) → P t v → P t w → v ≡ w) → (v w : V) (old other m n : Tokens)
+    → old ≡ other → TakesToken (λ t. P t v) old m → TakesToken (λ t. P t w) other n → (v ≡ w) × (m ≡ n)
+taken_once P once v w old other m n same x y =
+    let parts : x.token ∷ m ≡ y.token ∷ n = sym x.first ∙ same ∙ y.first in
+    let tokens : x.token ≡ y.token = cc in
+    let rests : m ≡ n = cc in
+    (once y.token v w (subst (λ t. P t v) tokens x.holds) y.holds, rests)
+
+same_number : (text : Token) (m n : ℕ) → IsNumber 32 text m → IsNumber 32 text n → m ≡ n
+same_number text m n p q = p.value ∙ sym q.value
+
+same_class : (text : Token) (m n : ℕ) → ClassText text m → ClassText text n → m ≡ n
+same_class text m n p q = one_named _ _ text m n p q
+
+same_type : (text : Token) (m n : ℕ) → TypeText text m → TypeText text n → m ≡ n
+same_type text m n p q = one_named _ _ text m n p q
+
+module _ {O N : Type 0} (octets : O → Octets) (labels : N → Name) where
+  own_type : (rtype : ℕ) (old new : Tokens) (d : ZoneRecordData O N) → OwnText labels rtype old d new → rtype_of d ≡ rtype
+  own_type rtype old new (A d) h = sym h.0
+  own_type rtype old new (Ns d) h = sym h.0
+  own_type rtype old new (Soa d) h = sym h.0
+  own_type rtype old new (Mx d) h = sym h.0
+  own_type rtype old new (Dnskey d) h = sym h.0
+  own_type rtype old new (Ds d) h = sym h.0
+  own_type rtype old new (Rrsig d) h = sym h.0
+  own_type rtype old new (Nsec d) h = sym h.0
+  own_type rtype old new (Nsec3 d) h = sym h.0
+  own_type rtype old new (Nsec3param d) h = sym h.0
+  own_type rtype old new (Unknown d) h = absurd h
+
+  text_type : (rtype : ℕ) (old new : Tokens) (d : ZoneRecordData O N) → RdataText octets labels rtype old d new → rtype_of d ≡ rtype
+  text_type rtype old new d (own unmarked text) = own_type rtype old new d text
+  text_type rtype old new d (generic wire text are all) = are_type octets labels rtype wire d are
+
+  one_entry : (tokens : Tokens) (r s : Record N (ZoneRecordData O N)) → EntryText octets labels tokens r → EntryText octets labels tokens s
+      → AreAlike octets labels r s
+  one_entry tokens r s x y =
+      let owner = taken_once NameText one_name (labels r.owner) (labels s.owner) tokens tokens x.head.behind_owner y.head.behind_owner refl
+      x.head.owned y.head.owned in
+      let ttl = taken_once (IsNumber 32) same_number r.ttl s.ttl x.head.behind_owner y.head.behind_owner x.head.behind_ttl y.head.behind_ttl
+      owner.1 x.head.timed y.head.timed in
+      let class = taken_once ClassText same_class r.class s.class x.head.behind_ttl y.head.behind_ttl x.head.behind_class
+      y.head.behind_class ttl.1 x.head.classed y.head.classed in
+      let rtype = taken_once TypeText same_type x.rtype y.rtype x.head.behind_class y.head.behind_class x.data_tokens y.data_tokens
+      class.1 x.head.typed y.head.typed in
+      let other = subst (λ t. RdataText octets labels t x.data_tokens s.«data» []) (sym rtype.0)
+      (subst (λ ws. RdataText octets labels y.rtype ws s.«data» []) (sym rtype.1) y.spelled) in
+      record {
+        owners = owner.0;
+        classes = class.0;
+        ttls = ttl.0;
+        types =
+            text_type x.rtype x.data_tokens [] r.«data» x.spelled ∙ rtype.0
+            ∙ sym (text_type y.rtype y.data_tokens [] s.«data» y.spelled);
+        wires = (text_once octets labels x.rtype x.data_tokens [] [] r.«data» s.«data» x.spelled other).1;
+      }
+
+  pub one_line : (line : List ℕ) (r s : Record N (ZoneRecordData O N)) → LineText octets labels line r → LineText octets labels line s
+      → AreAlike octets labels r s
+  one_line line r s x y = one_entry (words_of line) r s x.spelled y.spelled
