@@ -1,5 +1,5 @@
 -- Octets that are data of their type, of the types whose data are not read.
-use Rattle.std.specs.Prelude.{◌≡◌, ◌≢◌, ℕ, ◌-◌, ◌<◌, ◌==◌, Bool, not, ◌||◌, [], drop, length, nat_lt, slice_index, if◌then◌else◌}
+use Rattle.std.specs.Prelude.{◌≡◌, ℕ, ◌-◌, ◌<◌, ◌==◌, Bool, not, ◌||◌, drop, length, nat_lt, slice_index, if◌then◌else◌}
 use Rattle.std.specs.List.{fold}
 use Rattle.domain_octets.specs.Words.{Octets}
 use Rattle.domain_base.specs.Types as rtypes

@@ -1,7 +1,6 @@
-use Rattle.std.proofs.Common.{◌≡◌, ◌∙◌, ◌∷◌, [], ap, inl, map, option_map, refl, subst}
+use Rattle.std.proofs.Common.{◌∙◌, ap, inl, map, refl, subst}
 use Rattle.std.proofs.lemmas.List.{map-append}
 use Rattle.lint_program.specs.Notes.{mark_of, Deserves}
-use Rattle.lint_program.specs.declared.notes.Note.{Note}
 use Rattle.lint_program.proofs.notes.note_one.Goals as goal
 
 pub returns : goal.returns
