@@ -469,6 +469,13 @@ static void try_texts(void)
         {DENIAL_NO_PARAM, "no single NSEC3PARAM record"},
         {DENIAL_HASHER_REFUSED, "unknown hash algorithm"},
         {DENIAL_OUT_OF_MEMORY, "out of memory"},
+        {DENIAL_OTHER_CLASS, "record of another class"},
+        {DENIAL_NO_SINGLE_SOA, "no single SOA record"},
+        {DENIAL_UNEQUAL_TTLS, "unequal TTLs"},
+        {DENIAL_SHORT_BUFFER, "buffer too short"},
+        {DENIAL_LONG_SALT, "salt too long"},
+        {DENIAL_LONG_OWNER, "hashed owner name too long"},
+        {DENIAL_COLLISION, "hash collision"},
         {DENIAL_JUDGED_NOT_PROVEN, "not proven"},
         {DENIAL_JUDGED_OUTSIDE_ZONE, "outside zone"},
         {DENIAL_JUDGED_AT_PARENT, "at the parent"},
@@ -485,9 +492,10 @@ static void try_texts(void)
         {DENIAL_JUDGED_MAY_BE_UNSIGNED, "may be unsigned"},
         {DENIAL_JUDGED_NO_CLOSER_NAME, "no closer name"},
         {DENIAL_JUDGED_TOO_MANY_ITERATIONS, "too many iterations"},
+        {DENIAL_CHAIN_MADE, "chain made"},
         {DENIAL_NO_NAME + 1, "no number of this library"},
-        {DENIAL_OUT_OF_MEMORY + 1, "no number of this library"},
-        {DENIAL_JUDGED_TOO_MANY_ITERATIONS + 1, "no number of this library"},
+        {DENIAL_COLLISION + 1, "no number of this library"},
+        {DENIAL_CHAIN_MADE + 1, "no number of this library"},
         {UINT32_MAX, "no number of this library"},
     };
     size_t i;
@@ -654,6 +662,96 @@ static void try_cuts(void)
     }
 }
 
+/* Makes the NSEC chain of the records, or the NSEC3 chain with a salt of so many octets, in a buffer with
+ * so much room; compares the answer and what it counts. What is no chain's stays in the buffer. */
+static uint32_t try_chain(int is_hashed, const struct octets *apex, const struct octets *records, size_t salt_length,
+                          size_t room, uint32_t wanted, size_t wanted_count)
+{
+    static uint8_t octets[256], chain[2048];
+    size_t count = 999, at;
+    uint32_t answer;
+
+    memset(chain, 0xee, sizeof chain);
+    requests = 0;
+    is_calling = 1;
+    answer = is_hashed ? denial_nsec3_chain(apex->at, apex->length, IN, true, false, 0, octets, salt_length, false,
+                                            records->at, records->length, chain, room, &count)
+                       : denial_nsec_chain(apex->at, apex->length, IN, true, false, records->at, records->length,
+                                           chain, room, &count);
+    is_calling = 0;
+    if (refused_request < 0 || requests > refused_request)
+        expect(is_hashed ? "an NSEC3 chain" : "an NSEC chain", answer, count, wanted, wanted_count);
+    for (at = answer == DENIAL_CHAIN_MADE ? count : 0; at < sizeof chain; at++)
+        if (chain[at] != 0xee) {
+            printf("differs: octet %zu of the buffer is another one\n", at);
+            failures++;
+            break;
+        }
+    return answer;
+}
+
+/* Chains of a. with b.a., whose octets are counted by hand, and each fault but a collision. */
+static void try_chains(void)
+{
+    struct octets apex = {{0}, 0}, zone = {{0}, 0}, soa = {{0}, 0}, host = {{192, 0, 2, 1}, 4}, none = {{0}, 0};
+    struct octets other, cut = {{1, 'a'}, 2}, deep = {{0}, 0};
+    int is_hashed, i;
+
+    put_name(&apex, "a.");
+    put_number(&soa, 0, 20);
+    put_number(&soa, 300, 4);
+    put_record(&zone, "b.a.", A, IN, &host);
+    put_record(&zone, "a.", SOA, IN, &soa);
+    for (is_hashed = 0; is_hashed < 2; is_hashed++) {
+        size_t length = is_hashed ? 179 : 53;
+
+        try_chain(is_hashed, &apex, &zone, 0, length, DENIAL_CHAIN_MADE, length);
+        try_chain(is_hashed, &apex, &zone, 0, 1024, DENIAL_CHAIN_MADE, length);
+        try_chain(is_hashed, &apex, &zone, 0, length - 1, DENIAL_SHORT_BUFFER, length);
+        try_chain(is_hashed, &apex, &zone, 0, 0, DENIAL_SHORT_BUFFER, length);
+        try_chain(is_hashed, &cut, &zone, 0, 1024, DENIAL_BAD_APEX, 0);
+        try_chain(is_hashed, &apex, &none, 0, 1024, DENIAL_NO_SINGLE_SOA, 0);
+        other = zone;
+        put(&other, "a", 1);
+        try_chain(is_hashed, &apex, &other, 0, 1024, DENIAL_BAD_RECORDS, zone.length);
+        other = zone;
+        put_record(&other, "c.a.", A, CH, &host);
+        put(&other, "a", 1);
+        try_chain(is_hashed, &apex, &other, 0, 1024, DENIAL_OTHER_CLASS, zone.length);
+        other = zone;
+        host.at[3]++;
+        put_record(&other, "b.a.", A, IN, &host);
+        other.at[other.length - host.length - 3]++;
+        try_chain(is_hashed, &apex, &other, 0, 1024, DENIAL_UNEQUAL_TTLS, 0);
+        soa.at[0]++;
+        put_record(&other, "a.", SOA, IN, &soa);
+        try_chain(is_hashed, &apex, &other, 0, 1024, DENIAL_NO_SINGLE_SOA, 0);
+        refused_request = 0;
+        while (try_chain(is_hashed, &apex, &zone, 0, 1024, DENIAL_OUT_OF_MEMORY, 0) == DENIAL_OUT_OF_MEMORY)
+            refused_request++;
+        refused_request = -1;
+    }
+    try_chain(1, &apex, &zone, 255, 1024, DENIAL_CHAIN_MADE, 179 + 3 * 255);
+    try_chain(1, &apex, &zone, 256, 1024, DENIAL_LONG_SALT, 0);
+    /* The owner of a hash has 33 octets before those of the apex: before one of 223 that is too many. */
+    for (i = 0; i < 3; i++) {
+        put_number(&deep, 63, 1);
+        memset(deep.at + deep.length, 'a', 63);
+        deep.length += 63;
+    }
+    put_number(&deep, 29, 1);
+    memset(deep.at + deep.length, 'a', 29);
+    deep.length += 29;
+    put_number(&deep, 0, 1);
+    other = deep;
+    put_number(&other, SOA, 2);
+    put_number(&other, IN, 2);
+    put_number(&other, 1800, 4);
+    put_number(&other, soa.length, 2);
+    put(&other, soa.at, soa.length);
+    try_chain(1, &deep, &other, 0, 1024, DENIAL_LONG_OWNER, 0);
+}
+
 int main(void)
 {
     expect("the version", denial_version(), 0, DENIAL_VERSION, 0);
@@ -671,6 +769,7 @@ int main(void)
     try_without_memory();
     try_short_of_memory();
     try_cuts();
-    puts(failures == 0 ? "same: verdicts, answers, texts, faults and cuts" : "differs: see above");
+    try_chains();
+    puts(failures == 0 ? "same: verdicts, answers, chains, texts, faults and cuts" : "differs: see above");
     return failures != 0;
 }
