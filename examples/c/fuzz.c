@@ -7,8 +7,9 @@
  * for. First each seed is cut at each place; then octets are changed, cut, doubled and joined at
  * random. What is handed in ends right before a page that can't be read, so that a read past its end
  * ends the program. Ends with status 1 where an answer is none of `denial.h`, where it differs when
- * the same is asked again, where a closest encloser has more labels than the name, or where a whole
- * answer and a verdict are of octets of which one is refused and the other is not.
+ * the same is asked again, where a closest encloser has more labels than the name, where a whole
+ * answer and a verdict are of octets of which one is refused and the other is not, or where a chain has
+ * not so many octets as it asked room for, or is written with less room.
  */
 #include <stdio.h>
 #include <stdlib.h>
@@ -34,7 +35,7 @@ static struct octets {
 } seeds[SEEDS], message, apex, name;
 
 static size_t seed_count;
-static struct guarded guards[3];
+static struct guarded guards[4];
 static unsigned long answers[64];
 static uint32_t state = 2463534242u;
 
@@ -184,6 +185,75 @@ static void ask(uint16_t rtype)
     compare(said[IS_HASHED], said[EXPANSION]);
 }
 
+/* Makes a chain of the message into so much room, which ends before what can't be written. */
+static uint32_t make(int is_hashed, unsigned options, const uint8_t *at[3], size_t room, size_t *count)
+{
+    uint8_t *chain = guards[3].end - room;
+    bool assume = (options & 1) != 0, occlude = (options & 2) != 0, opt_out = (options & 4) != 0;
+
+    if (is_hashed)
+        return denial_nsec3_chain(at[0], apex.length, 1, assume, occlude, (uint16_t)(options / 8), at[1], name.length, opt_out, at[2],
+                                  message.length, chain, room, count);
+    return denial_nsec_chain(at[0], apex.length, 1, assume, occlude, at[2], message.length, chain, room, count);
+}
+
+/* Whether there may be no chain for this reason. */
+static int is_chain_fault(int is_hashed, uint32_t answer)
+{
+    switch (answer) {
+    case DENIAL_BAD_APEX:
+    case DENIAL_BAD_RECORDS:
+    case DENIAL_OTHER_CLASS:
+    case DENIAL_NO_SINGLE_SOA:
+    case DENIAL_UNEQUAL_TTLS:
+        return 1;
+    default:
+        return is_hashed && (answer == DENIAL_LONG_SALT || answer == DENIAL_LONG_OWNER);
+    }
+}
+
+/* Counts the octets of a record. */
+static int count_octets(void *count, const uint8_t *record, size_t length)
+{
+    (void)record;
+    *(size_t *)count += length;
+    return 0;
+}
+
+/* Asks how much room a chain takes, and makes it with one octet less and with as many. The octets of the
+ * name are the salt. */
+static void make_chain(int is_hashed, const uint8_t *at[3])
+{
+    unsigned options = (unsigned)below(32);
+    size_t wanted = 999, less = 999, count = 999, octets = 0;
+    uint32_t said = make(is_hashed, options, at, 0, &wanted);
+
+    answers[said]++;
+    if (said == DENIAL_SHORT_BUFFER && wanted <= guards[3].room) {
+        if (make(is_hashed, options, at, wanted - 1, &less) == DENIAL_SHORT_BUFFER && less == wanted
+            && make(is_hashed, options, at, wanted, &count) == DENIAL_CHAIN_MADE && count == wanted
+            && denial_each_record(guards[3].end - wanted, wanted, count_octets, &octets) == 0 && octets == wanted)
+            return;
+    } else if (said == DENIAL_SHORT_BUFFER || (is_chain_fault(is_hashed, said) && wanted <= message.length)) {
+        return;
+    }
+    printf("differs: a chain: %u with %zu octets, %zu with one less, %zu written, %zu in records\n", (unsigned)said, wanted, less, count,
+           octets);
+    exit(1);
+}
+
+/* Makes both chains of the message. */
+static void make_chains(void)
+{
+    const uint8_t *at[3];
+
+    at[0] = place(&guards[0], &apex);
+    at[1] = place(&guards[1], &name);
+    at[2] = place(&guards[2], &message);
+    make_chain(0, at);
+    make_chain(IS_HASHED, at);
+}
+
 /* Takes the owner of a record of the seed for the name, with a label before it at times. */
 static void pick_name(const struct octets *seed)
 {
@@ -251,6 +321,7 @@ static void cut_everywhere(void)
         for (length = 0; length <= seeds[seed].length; length++) {
             message.length = length;
             ask(1);
+            make_chains();
         }
     }
 }
@@ -278,6 +349,7 @@ static void run(void)
     if (below(16) == 0)
         mutate(&apex);
     ask((uint16_t)below(70));
+    make_chains();
     apex = kept;
 }
 
@@ -292,7 +364,7 @@ int main(int argc, char **argv)
         fprintf(stderr, "usage: fuzz SECONDS APEX FILE..\n");
         return 2;
     }
-    for (i = 0; i < 3; i++)
+    for (i = 0; i < 4; i++)
         make_guard(&guards[i]);
     apex_name = name_of(argv[2]);
     apex.length = ldns_rdf_size(apex_name);
