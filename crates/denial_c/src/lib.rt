@@ -36,9 +36,9 @@ use std::alloc::Global;
 /// patch.
 #[unsafe(no_mangle)]
 pub extern "C" fn denial_version() -> u32
-    ensures { result ≡ 300 }
+    ensures { result ≡ 400 }
 {
-    300
+    400
 }
 
 /// Hands out the text of a number, and octets 0 after it. A number that no function here gives has
