@@ -61,10 +61,10 @@ fn show_records(alloc: Global, text: &mut String) -> Result<(), Error> {
 
 /// Prints how many beginnings of the message do not hold its first record.
 fn show_beginnings(alloc: Global, text: &mut String) -> Result<(), Error> {
-    let mut short = 0;
+    let mut short: usize = 0;
     for len in 0..MESSAGE.len() {
         if read(alloc, &MESSAGE[..len], 28).is_err() {
-            short += 1;
+            short = short.saturating_add(1);
         }
     }
     writeln!(text, "too short: {short} of {}", MESSAGE.len())?;
