@@ -2,6 +2,8 @@ use Rattle.std.proofs.Common.{List, refl, ◌∙◌, sym, subst}
 use Rattle.domain_lent.specs.Data.{RawRecord, data_cmp}
 use Rattle.domain_records.specs.Order.{IsInOrder, IsOneClass}
 use Rattle.domain_records.proofs.OrderLemmas.{in_order_from_sorted}
+use Rattle.domain_records.specs.Errors.{sort_error}
+use Rattle.domain_dnssec.specs.declared.chain.ChainError.TheVariants.{Sort}
 use Rattle.denial_program.specs.Answer.{Sorts}
 use Rattle.denial_program.proofs.AnswerLemmas.{sorted_one_class}
 use Rattle.lint_program.proofs.zone.sort_zone.Goals as goal
@@ -24,3 +26,11 @@ pub returns-clause-in_order : goal.returns-clause-in_order
 returns-clause-in_order c =
     subst (λ (xs : List RawRecord). IsInOrder (λ n. n) (λ d. d.rtype) xs) (sym c.into_inner.ensures.records)
     (in_order_from_sorted (λ n. n) (λ d. d.rtype) data_cmp c.in-Ok.sorted c.into_inner.ensures.sorted (one_class c))
+
+-- where the sort was refused, what was given is of one class
+pub returns-in-Err-clause-none : goal.returns-in-Err-clause-none
+returns-in-Err-clause-none c = λ apex. record {
+  error = Sort sort_error;
+  is = refl;
+  none = subst (λ (xs : List RawRecord). IsOneClass xs) (c.new_from_owned.ensures ∙ c.as_slice.ensures.value) (c.if-not-is_one_class.ensures.0 refl);
+}
