@@ -1,28 +1,31 @@
 /*
  * What the NSEC or NSEC3 records of a DNS message answer to a question about a name and a type, and
- * what they prove of one name and one type (RFC 4035, section 5.4; RFC 5155, section 8).
+ * what they prove of one name and one type (RFC 4035, section 5.4; RFC 5155, section 8); and the NSEC
+ * and NSEC3 chains of a zone (RFC 4034, section 4; RFC 5155, section 7.1).
  *
  * A validator calls denial_judge_nsec or denial_judge_nsec3: these answer a question as a whole, with
  * the wildcard, aliases and redirections; and of records that were expanded from a wildcard, with
  * NSEC3, denial_judge_nsec3_expansion. denial_check_nsec and denial_check_nsec3 tell of one name and
- * one type alone.
+ * one type alone. A signer calls denial_nsec_chain or
+ * denial_nsec3_chain.
  *
- * The functions look at no signature. Hand in only records whose signatures you have verified with
+ * These functions look at no signature. Hand in only records whose signatures you have verified with
  * the keys of the zone at the apex, and take the apex from the signer's name in these signatures.
  * docs/C.md goes through a call.
  *
  * Ownership. Each pointer is borrowed for the time of the call. Nothing that is handed in is kept,
- * written to or freed, but for the number at `labels` and the pointer at `text`, which are written.
- * Nothing is handed out that must be freed.
+ * written to or freed, but for the numbers at `labels` and `count`, the pointer at `text` and the
+ * octets at `chain`, which are written. Nothing is handed out that must be freed.
  *
- * Pointers. No pointer may be null, not even with a length of 0. `labels` points to no octet that
- * another pointer reaches. No length may be over PTRDIFF_MAX.
+ * Pointers. No pointer may be null, not even with a length of 0. `labels`, `count` and `chain` point to
+ * no octet that another pointer reaches. No length may be over PTRDIFF_MAX.
  *
  * Threads. There is no state: calls may run at the same time in any threads.
  */
 #ifndef DENIAL_H
 #define DENIAL_H
 
+#include <stdbool.h>
 #include <stddef.h>
 #include <stdint.h>
 
@@ -31,7 +34,7 @@ extern "C" {
 #endif
 
 /* The version that this header belongs to, as denial_version gives it. */
-#define DENIAL_VERSION 300
+#define DENIAL_VERSION 400
 
 /*
  * What denial_judge_nsec, denial_judge_nsec3 and denial_judge_nsec3_expansion answer: one of these, or
@@ -107,6 +110,13 @@ enum denial_judgement {
     DENIAL_JUDGED_TOO_MANY_ITERATIONS = 47
 };
 
+/* What denial_nsec_chain and denial_nsec3_chain answer where there is a chain, with the number of its
+ * octets; else they answer a fault of `enum denial_answer`. */
+enum denial_chain {
+    /* The chain was written. */
+    DENIAL_CHAIN_MADE = 48
+};
+
 /* What a call to check answers: a verdict, which is below DENIAL_FAULT; and the faults of all calls. */
 enum denial_answer {
     /* The records do not prove what the zone says. */
@@ -152,7 +162,8 @@ enum denial_answer {
     DENIAL_BAD_NAME = 17,
 
     /* The octets of the records are no records one after another; or a record that counts has data
-     * that are none of its type. */
+     * that are none of its type. Where a chain is made, with the offset of the first octet that is of
+     * no record. */
     DENIAL_BAD_RECORDS = 18,
 
     /* The apex has no NSEC3PARAM record of the class, or several. NSEC3 alone. */
@@ -162,7 +173,30 @@ enum denial_answer {
     DENIAL_HASHER_REFUSED = 20,
 
     /* There is not enough memory. No answer of denial_check_nsec. */
-    DENIAL_OUT_OF_MEMORY = 21
+    DENIAL_OUT_OF_MEMORY = 21,
+
+    /* A record is of another class than the one that is asked for. With the offset of the first such
+     * record. Chains alone, as all that follow. */
+    DENIAL_OTHER_CLASS = 22,
+
+    /* The apex owns no SOA record or several, or the data of the one are shorter than its field MINIMUM. */
+    DENIAL_NO_SINGLE_SOA = 23,
+
+    /* Two records of one owner of the chain and one type other than RRSIG differ in their TTLs (RFC
+     * 2181, section 5.2). */
+    DENIAL_UNEQUAL_TTLS = 24,
+
+    /* The buffer is too small. With the number of octets that the chain has. */
+    DENIAL_SHORT_BUFFER = 25,
+
+    /* The salt has over 255 octets (RFC 5155, section 3.1.4). NSEC3 alone, as both below. */
+    DENIAL_LONG_SALT = 26,
+
+    /* The owner of a hash, 33 octets before the apex, would be longer than a name may be. */
+    DENIAL_LONG_OWNER = 27,
+
+    /* Two names of the chain have one hash (RFC 5155, section 7.1): take another salt. */
+    DENIAL_COLLISION = 28
 };
 
 /*
@@ -175,10 +209,10 @@ uint32_t denial_version(void);
 #define DENIAL_TEXT_ROOM 32
 
 /*
- * Hands out, at `text`, the text of a number of `enum denial_judgement` or `enum denial_answer`, and
- * of any other number one that says that it is none: DENIAL_TEXT_ROOM octets of ASCII, of which all
- * after the text are 0. They last as long as the program, and are never written. `text` must point to
- * a pointer to as many octets, whatever these are. C calls denial_text.
+ * Hands out, at `text`, the text of a number of one of the enums here, and of any other number one that
+ * says that it is none: DENIAL_TEXT_ROOM octets of ASCII, of which all after the text are 0. They last as
+ * long as the program, and are never written. `text` must point to a pointer to as many octets, whatever
+ * these are. C calls denial_text.
  */
 void denial_find_text(uint32_t number, const char **text);
 
@@ -314,6 +348,96 @@ uint32_t denial_check_nsec3(const uint8_t *apex, size_t apex_length,
                             uint16_t rtype, uint16_t rclass,
                             const uint8_t *records, size_t records_length,
                             size_t *labels);
+
+/*
+ * Writes the NSEC chain of a zone (RFC 4034, section 4; RFC 4035, section 2.3): one record for each owner
+ * that is at or below the apex and not strictly below a zone cut, in canonical order, each pointing to
+ * the next owner, the last one to the apex. Its TTL is the lesser of the SOA's MINIMUM and TTL (RFC 9077,
+ * section 3.2). It lists the types of its owner with RRSIG and NSEC, at a zone cut only NS and DS of the
+ * owner's.
+ *
+ *   apex         the apex of the zone, a name as it stands in a message without compression.
+ *   rclass       the number of the class that all records have.
+ *   assume_dnskey
+ *                whether the apex lists DNSKEY in any case, since such records will be added.
+ *   occlude_below_dname
+ *                whether owners strictly below an owner of a DNAME record are left out as well (RFC 6672,
+ *                section 2.4).
+ *   records      the records of the zone one after another, in any order, each as it stands in a message
+ *                without compression (RFC 1035, section 4.1.3). Of equal records, whose data are equal
+ *                octet for octet, the first stays. Of data nothing is looked at but the last four octets of
+ *                an SOA, which are its MINIMUM. Records outside of the zone are passed over, but that they
+ *                count for DENIAL_BAD_RECORDS and DENIAL_OTHER_CLASS too.
+ *   chain        a buffer for the records of the chain. They are written to its beginning, one after
+ *                another in the same form; what follows them stays. denial_each_record goes over them.
+ *   count        where the number is written that the answer comes with; 0 where it comes with none.
+ *
+ * Answers DENIAL_CHAIN_MADE with the number of octets that were written, or a fault, of which the first
+ * that stands is told in this order, and which leaves the buffer as it was:
+ *
+ *   DENIAL_BAD_APEX
+ *   DENIAL_BAD_RECORDS, DENIAL_OTHER_CLASS   whichever comes first in the octets, with its offset.
+ *   DENIAL_NO_SINGLE_SOA, DENIAL_UNEQUAL_TTLS
+ *   DENIAL_SHORT_BUFFER                      the chain has so many octets. A buffer of length 0 asks for
+ *                                            that number.
+ *
+ * DENIAL_OUT_OF_MEMORY may come in place of the last four. Takes memory as denial_judge_nsec does: 48
+ * octets and more for each record, and the octets of the chain.
+ */
+uint32_t denial_nsec_chain(const uint8_t *apex, size_t apex_length,
+                           uint16_t rclass, bool assume_dnskey, bool occlude_below_dname,
+                           const uint8_t *records, size_t records_length,
+                           uint8_t *chain, size_t chain_length,
+                           size_t *count);
+
+/*
+ * Writes the NSEC3 chain of a zone (RFC 5155, section 7.1), in the order of hashes, and its NSEC3PARAM
+ * record after it: one NSEC3 record for the hash of each owner that denial_nsec_chain has a record for,
+ * and of each empty non-terminal above it, with the types of the owner. Names are hashed by SHA-1. All
+ * records are of the class Internet, and have the TTL of an NSEC chain; the NSEC3PARAM record has that of
+ * the SOA. Parameters and answers are those of denial_nsec_chain, but for these:
+ *
+ *   iterations   how often a hash is taken again. 0 is recommended (RFC 9276, section 3.1).
+ *   salt         the octets of the salt; none are recommended.
+ *   opt_out      whether delegations without DS are left out, and the records say so by their flag (RFC
+ *                5155, section 6).
+ *
+ * Of faults the first that stands is told, in this order: DENIAL_BAD_APEX; DENIAL_LONG_SALT;
+ * DENIAL_BAD_RECORDS and DENIAL_OTHER_CLASS, whichever comes first in the octets; DENIAL_NO_SINGLE_SOA;
+ * DENIAL_UNEQUAL_TTLS; DENIAL_LONG_OWNER; DENIAL_COLLISION; DENIAL_SHORT_BUFFER. DENIAL_OUT_OF_MEMORY may
+ * come in place of the last five. A call with a buffer of length 0 hashes all names as well.
+ */
+uint32_t denial_nsec3_chain(const uint8_t *apex, size_t apex_length,
+                            uint16_t rclass, bool assume_dnskey, bool occlude_below_dname,
+                            uint16_t iterations, const uint8_t *salt, size_t salt_length, bool opt_out,
+                            const uint8_t *records, size_t records_length,
+                            uint8_t *chain, size_t chain_length,
+                            size_t *count);
+
+/*
+ * Hands the records of a chain, as denial_nsec_chain or denial_nsec3_chain wrote them, to a function one after another, until
+ * that answers something other than 0; gives what it answered last, and 0 where there are no records.
+ * `context` is handed on.
+ */
+static inline int denial_each_record(const uint8_t *chain, size_t length,
+                                     int (*emit)(void *context, const uint8_t *record, size_t length),
+                                     void *context)
+{
+    size_t at = 0;
+    int answer = 0;
+
+    while (at < length && answer == 0) {
+        size_t end = at;
+
+        while (chain[end] != 0)
+            end += 1 + (size_t)chain[end];
+        end += 1 + 8;
+        end += 2 + (((size_t)chain[end] << 8) | chain[end + 1]);
+        answer = emit(context, chain + at, end - at);
+        at = end;
+    }
+    return answer;
+}
 
 #ifdef __cplusplus
 }
