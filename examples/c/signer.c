@@ -1,11 +1,12 @@
 /*
  * Makes the chain of a zone by this library and by libldns, and compares them.
  *
- *     signer nsec|nsec3|optout APEX FILE
+ *     signer nsec|nsec3 APEX FILE
  *
  * The file has the records of a zone, one a line; what a signer put there is left out. NSEC3 chains have
  * two iterations and the salt abcd. libldns leaves out names below an owner of a DNAME record, so that
- * this library is asked to do the same, and it lists no DNSKEY that is not there. Owners, next names or
+ * this library is asked to do the same, and it lists no DNSKEY that is not there. With opt-out libldns
+ * keeps delegations without DS in the chain, so that such chains are not compared. Owners, next names or
  * hashes, types and parameters are compared; TTLs are not. Prints how many records there are, and how long
  * each took in milliseconds. Ends with status 1 where the chains differ.
  */
@@ -96,7 +97,7 @@ static ldns_rr *parameters(const ldns_rdf *apex)
 }
 
 /* Makes the chain by libldns. */
-static ldns_rr_list *by_ldns(struct zone *zone, const ldns_rdf *apex, bool is_hashed, bool opt_out)
+static ldns_rr_list *by_ldns(struct zone *zone, const ldns_rdf *apex, bool is_hashed)
 {
     ldns_rr_list *made = ldns_rr_list_new();
     ldns_status status;
@@ -106,7 +107,7 @@ static ldns_rr_list *by_ldns(struct zone *zone, const ldns_rdf *apex, bool is_ha
         if (ldns_dnssec_zone_add_rr(zone->ldns, parameters(apex)) != LDNS_STATUS_OK)
             end("the parameters were not added");
         ldns_dnssec_zone_add_empty_nonterminals(zone->ldns);
-        status = ldns_dnssec_zone_create_nsec3s(zone->ldns, made, LDNS_SHA1, opt_out, ITERATIONS, SALT_LENGTH, salt);
+        status = ldns_dnssec_zone_create_nsec3s(zone->ldns, made, LDNS_SHA1, 0, ITERATIONS, SALT_LENGTH, salt);
     } else {
         status = ldns_dnssec_zone_create_nsecs(zone->ldns, made);
     }
@@ -116,7 +117,7 @@ static ldns_rr_list *by_ldns(struct zone *zone, const ldns_rdf *apex, bool is_ha
 }
 
 /* The octets of the chain by this library. */
-static uint8_t *by_denial(struct zone *zone, const ldns_rdf *apex, bool is_hashed, bool opt_out, size_t *count)
+static uint8_t *by_denial(struct zone *zone, const ldns_rdf *apex, bool is_hashed, size_t *count)
 {
     const uint8_t *at = ldns_rdf_data(apex), *records = ldns_buffer_begin(zone->octets);
     size_t length = ldns_rdf_size(apex), records_length = ldns_buffer_position(zone->octets), room = 2 * records_length;
@@ -128,7 +129,7 @@ static uint8_t *by_denial(struct zone *zone, const ldns_rdf *apex, bool is_hashe
         if (chain == NULL)
             end("out of memory");
         if (is_hashed)
-            answer = denial_nsec3_chain(at, length, 1, false, true, ITERATIONS, salt, SALT_LENGTH, opt_out, records, records_length, chain,
+            answer = denial_nsec3_chain(at, length, 1, false, true, ITERATIONS, salt, SALT_LENGTH, false, records, records_length, chain,
                                         room, count);
         else
             answer = denial_nsec_chain(at, length, 1, false, true, records, records_length, chain, room, count);
@@ -190,7 +191,7 @@ static int compare(ldns_rr_list *ours, ldns_rr_list *theirs)
 
 int main(int argc, char **argv)
 {
-    bool is_hashed = argc > 1 && strcmp(argv[1], "nsec") != 0, opt_out = argc > 1 && strcmp(argv[1], "optout") == 0;
+    bool is_hashed = argc > 1 && strcmp(argv[1], "nsec3") == 0;
     struct zone zone;
     ldns_rdf *apex = argc == 4 ? ldns_dname_new_frm_str(argv[2]) : NULL;
     ldns_rr_list *ours = ldns_rr_list_new(), *theirs;
@@ -199,12 +200,12 @@ int main(int argc, char **argv)
     uint8_t *chain;
 
     if (apex == NULL)
-        end("usage: signer nsec|nsec3|optout APEX FILE");
+        end("usage: signer nsec|nsec3 APEX FILE");
     read_zone(&zone, argv[3]);
     begun = now();
-    chain = by_denial(&zone, apex, is_hashed, opt_out, &count);
+    chain = by_denial(&zone, apex, is_hashed, &count);
     between = now();
-    theirs = by_ldns(&zone, apex, is_hashed, opt_out);
+    theirs = by_ldns(&zone, apex, is_hashed);
     ended = now();
     if (denial_each_record(chain, count, add_to_list, ours) != 0)
         end("what was written is no chain");
