@@ -1,13 +1,15 @@
 -- how many labels two names share from the root on: a walk over labels counts since the last two that differ
 use Rattle.std.proofs.Common.{◌≡◌, ℕ, ◌+◌, ◌-◌, Bool, true, false, cond, ◌&&◌, List, [], ◌∷◌, ◌++◌, map}
-use Rattle.std.proofs.Common.{length, reverse, take, drop, refl, sym, ap, ◌∙◌, inl, inr, ◌⊎◌, arith, nat_eq}
+use Rattle.std.proofs.Common.{length, reverse, take, drop, refl, sym, ap, ◌∙◌, inl, inr, ◌⊎◌, arith, nat_eq, Option, None, Some}
 use Rattle.std.specs.List.{common_prefix_len}
-use Rattle.std.specs.Cmp.Lexicographic.{pointwise}
+use Rattle.std.specs.Cmp.Lexicographic.{pointwise, pointwise_decides, bytes_decides}
 use Rattle.std.specs.Char.{to_ascii_lowercase}
 use Rattle.std.proofs.lemmas.Bool.{cases_Bool, true≢false, and_parts, cases_lt}
-use Rattle.std.proofs.lemmas.List.{length-drop, length-reverse, length-map, reverse-append, take-append-drop, drop-map}
+use Rattle.std.proofs.lemmas.List.{append-nil, length-drop, length-reverse, length-map, reverse-append, take-append-drop, drop-map}
 use Rattle.domain_base.specs.Name.{lowered}
-use Rattle.domain_base.specs.Order.{common_labels}
+use Rattle.domain_base.specs.Order.{common_labels, from_root}
+use Rattle.domain_base.specs.Parting.{AreApart, EndsIn, Part}
+use Rattle.domain_base.proofs.PartingLemmas.{from_root-part}
 
 -- ---- common fronts
 
@@ -178,3 +180,49 @@ walk_ends n x y left right counted over = sym (ended left right over) ∙ counte
     ended (l ∷ u) [] h = refl
     ended (l ∷ u) (m ∷ v) (inl e) = absurd (cc)
     ended (l ∷ u) (m ∷ v) (inr e) = absurd (cc)
+
+-- ---- where names part
+
+apart_share : (r x_front y_front : List (List ℕ)) (x y : List ℕ) → pointwise nat_eq x y ≡ false
+    → common_prefix_len same_label (r ++ x ∷ x_front) (r ++ y ∷ y_front) ≡ length r
+apart_share r x_front y_front x y differ =
+    common_whole same_label r r (x ∷ x_front) (y ∷ y_front) refl ((pointwise_decides bytes_decides r r).1 refl)
+    ∙ ap (λ b. length r + cond b (1 + common_prefix_len same_label x_front y_front) 0) differ
+    ∙ omega arith
+
+one_ends : (r ws zs : List (List ℕ)) → (ws ≡ []) ⊎ (zs ≡ []) → common_prefix_len same_label (r ++ ws) (r ++ zs) ≡ length r
+one_ends r ws zs over =
+    common_whole same_label r r ws zs refl ((pointwise_decides bytes_decides r r).1 refl) ∙ ap (λ n. length r + n) (none ws zs over) ∙ omega arith
+  where
+    none : (u v : List (List ℕ)) → (u ≡ []) ⊎ (v ≡ []) → common_prefix_len same_label u v ≡ 0
+    none [] v h = refl
+    none (l ∷ u) [] h = refl
+    none (l ∷ u) (m ∷ v) (inl e) = absurd (cc)
+    none (l ∷ u) (m ∷ v) (inr e) = absurd (cc)
+
+root_count : (shared : List (List ℕ)) → length shared ≡ length (from_root shared)
+root_count shared = omega (arith, length-reverse (lowered shared), length-map shared (map to_ascii_lowercase))
+
+-- names share the end at which they part, unless the labels below it differ in case alone
+pub parted_share : (xs ys : List (List ℕ)) (x y : Option (List ℕ)) (shared : List (List ℕ)) → Part xs ys x y shared → AreApart x y
+    → length shared ≡ common_labels xs ys
+parted_share xs ys x y shared p apart = root_count shared ∙ sym (go x y p.left p.right apart) where
+  ended : (zs : List (List ℕ)) → EndsIn zs None shared → from_root zs ≡ from_root shared ++ []
+  ended zs is = ap from_root is ∙ sym (append-nil (from_root shared))
+
+  onward : (zs : List (List ℕ)) (z : List ℕ) (is : EndsIn zs (Some z) shared)
+      → from_root zs ≡ from_root shared ++ map to_ascii_lowercase z ∷ from_root is.0
+  onward zs z is = ap from_root is.1 ∙ from_root-part is.0 shared z
+
+  go : (x y : Option (List ℕ)) → EndsIn xs x shared → EndsIn ys y shared → AreApart x y → common_labels xs ys ≡ length (from_root shared)
+  go None None left right d =
+      (λ i. common_prefix_len same_label (ended xs left i) (ended ys right i)) ∙ one_ends (from_root shared) [] [] (inl refl)
+  go None (Some y) left right d =
+      (λ i. common_prefix_len same_label (ended xs left i) (onward ys y right i))
+      ∙ one_ends (from_root shared) [] (map to_ascii_lowercase y ∷ from_root right.0) (inl refl)
+  go (Some x) None left right d =
+      (λ i. common_prefix_len same_label (onward xs x left i) (ended ys right i))
+      ∙ one_ends (from_root shared) (map to_ascii_lowercase x ∷ from_root left.0) [] (inr refl)
+  go (Some x) (Some y) left right d =
+      (λ i. common_prefix_len same_label (onward xs x left i) (onward ys y right i))
+      ∙ apart_share (from_root shared) (from_root left.0) (from_root right.0) (map to_ascii_lowercase x) (map to_ascii_lowercase y) d

@@ -40,7 +40,7 @@ module _ {X : Type 0} (R : X → X → Ordering) (tied : (x : X) → R x x ≡ E
   slice_cmp-shared [] xs ys = refl
   slice_cmp-shared (s ∷ shared) xs ys = ap (λ o. ordering_then o (slice_cmp R (shared ++ xs) (shared ++ ys))) (tied s) ∙ slice_cmp-shared shared xs ys
 
-from_root-part : (front shared : List (List ℕ)) (label : List ℕ)
+pub from_root-part : (front shared : List (List ℕ)) (label : List ℕ)
     → from_root (front ++ label ∷ shared) ≡ from_root shared ++ map to_ascii_lowercase label ∷ from_root front
 from_root-part front shared label =
     ap reverse (map-append (map to_ascii_lowercase) front (label ∷ shared))
@@ -52,45 +52,45 @@ octets_tie : (x : List ℕ) → slice_cmp nat_cmp x x ≡ Equal
 octets_tie = tied_itself nat_list_cmp_total
 
 -- names that share all labels
-pub no_part : (xs ys : List (List ℕ)) → Part xs ys None None → Equal ≡ canonical_cmp xs ys
+pub no_part : (xs ys shared : List (List ℕ)) → Part xs ys None None shared → Equal ≡ canonical_cmp xs ys
 unfolding canonical_cmp
-no_part xs ys p =
+no_part xs ys shared p =
     let same : from_root xs ≡ from_root ys = ap from_root (p.left ∙ sym p.right) in
     sym (ap (slice_cmp (slice_cmp nat_cmp) (from_root xs)) (sym same ∙ sym (append-nil (from_root xs)))
     ∙ ap (λ l. slice_cmp (slice_cmp nat_cmp) l (from_root xs ++ [])) (sym (append-nil (from_root xs)))
     ∙ slice_cmp-shared (slice_cmp nat_cmp) octets_tie (from_root xs) [] [])
 
 -- a name below the other
-pub right_below : (xs ys : List (List ℕ)) (y : List ℕ) → Part xs ys None (Some y) → Less ≡ canonical_cmp xs ys
+pub right_below : (xs ys : List (List ℕ)) (y : List ℕ) (shared : List (List ℕ)) → Part xs ys None (Some y) shared → Less ≡ canonical_cmp xs ys
 unfolding canonical_cmp
-right_below xs ys y p =
-    let ys_is = ap from_root p.right.1 ∙ from_root-part p.right.0 p.shared y in
-    let xs_is = ap from_root p.left ∙ sym (append-nil (from_root p.shared)) in
+right_below xs ys y shared p =
+    let ys_is = ap from_root p.right.1 ∙ from_root-part p.right.0 shared y in
+    let xs_is = ap from_root p.left ∙ sym (append-nil (from_root shared)) in
     sym (ap (slice_cmp (slice_cmp nat_cmp) (from_root xs)) ys_is
-    ∙ ap (λ l. slice_cmp (slice_cmp nat_cmp) l (from_root p.shared ++ map to_ascii_lowercase y ∷ from_root p.right.0)) xs_is
-    ∙ slice_cmp-shared (slice_cmp nat_cmp) octets_tie (from_root p.shared) [] (map to_ascii_lowercase y ∷ from_root p.right.0))
+    ∙ ap (λ l. slice_cmp (slice_cmp nat_cmp) l (from_root shared ++ map to_ascii_lowercase y ∷ from_root p.right.0)) xs_is
+    ∙ slice_cmp-shared (slice_cmp nat_cmp) octets_tie (from_root shared) [] (map to_ascii_lowercase y ∷ from_root p.right.0))
 
-pub left_below : (xs ys : List (List ℕ)) (x : List ℕ) → Part xs ys (Some x) None → Greater ≡ canonical_cmp xs ys
+pub left_below : (xs ys : List (List ℕ)) (x : List ℕ) (shared : List (List ℕ)) → Part xs ys (Some x) None shared → Greater ≡ canonical_cmp xs ys
 unfolding canonical_cmp
-left_below xs ys x p =
-    let xs_is = ap from_root p.left.1 ∙ from_root-part p.left.0 p.shared x in
-    let ys_is = ap from_root p.right ∙ sym (append-nil (from_root p.shared)) in
+left_below xs ys x shared p =
+    let xs_is = ap from_root p.left.1 ∙ from_root-part p.left.0 shared x in
+    let ys_is = ap from_root p.right ∙ sym (append-nil (from_root shared)) in
     sym (ap (slice_cmp (slice_cmp nat_cmp) (from_root xs)) ys_is
-    ∙ ap (λ l. slice_cmp (slice_cmp nat_cmp) l (from_root p.shared ++ [])) xs_is
-    ∙ slice_cmp-shared (slice_cmp nat_cmp) octets_tie (from_root p.shared) (map to_ascii_lowercase x ∷ from_root p.left.0) [])
+    ∙ ap (λ l. slice_cmp (slice_cmp nat_cmp) l (from_root shared ++ [])) xs_is
+    ∙ slice_cmp-shared (slice_cmp nat_cmp) octets_tie (from_root shared) (map to_ascii_lowercase x ∷ from_root p.left.0) [])
 
 -- the labels at which names part decide, unless they tie
-pub parted : (xs ys : List (List ℕ)) (x y : List ℕ) → Part xs ys (Some x) (Some y)
+pub parted : (xs ys : List (List ℕ)) (x y : List ℕ) (shared : List (List ℕ)) → Part xs ys (Some x) (Some y) shared
     → slice_cmp nat_cmp (map to_ascii_lowercase x) (map to_ascii_lowercase y) ≢ Equal
     → slice_cmp nat_cmp (map to_ascii_lowercase x) (map to_ascii_lowercase y) ≡ canonical_cmp xs ys
 unfolding canonical_cmp
-parted xs ys x y p differ =
-    let xs_is = ap from_root p.left.1 ∙ from_root-part p.left.0 p.shared x in
-    let ys_is = ap from_root p.right.1 ∙ from_root-part p.right.0 p.shared y in
+parted xs ys x y shared p differ =
+    let xs_is = ap from_root p.left.1 ∙ from_root-part p.left.0 shared x in
+    let ys_is = ap from_root p.right.1 ∙ from_root-part p.right.0 shared y in
     decided _ (slice_cmp (slice_cmp nat_cmp) (from_root p.left.0) (from_root p.right.0)) _
     (ap (slice_cmp (slice_cmp nat_cmp) (from_root xs)) ys_is
-    ∙ ap (λ l. slice_cmp (slice_cmp nat_cmp) l (from_root p.shared ++ map to_ascii_lowercase y ∷ from_root p.right.0)) xs_is
-    ∙ slice_cmp-shared (slice_cmp nat_cmp) octets_tie (from_root p.shared) (map to_ascii_lowercase x ∷ from_root p.left.0)
+    ∙ ap (λ l. slice_cmp (slice_cmp nat_cmp) l (from_root shared ++ map to_ascii_lowercase y ∷ from_root p.right.0)) xs_is
+    ∙ slice_cmp-shared (slice_cmp nat_cmp) octets_tie (from_root shared) (map to_ascii_lowercase x ∷ from_root p.left.0)
     (map to_ascii_lowercase y ∷ from_root p.right.0))
     differ
 
@@ -103,7 +103,7 @@ roots_tie (l ∷ x) (m ∷ y) counts (inl e) = absurd (cc)
 roots_tie (l ∷ x) (m ∷ y) counts (inr e) = absurd (cc)
 
 -- the octets of a name end in those of the labels that it ends in
-wire_of-end : (front above : List (List ℕ)) → (octets : List ℕ) × (wire_of (front ++ above) ≡ octets ++ wire_of above)
+pub wire_of-end : (front above : List (List ℕ)) → (octets : List ℕ) × (wire_of (front ++ above) ≡ octets ++ wire_of above)
 wire_of-end [] above = ([], refl)
 wire_of-end (label ∷ front) above =
     let more = wire_of-end front above in (
@@ -144,11 +144,10 @@ same_ends a b x y count alike x_is y_is size within =
 -- two names part below ends that are as long as each other
 pub part_at : (a b x y : List ℕ) (left right : Option (List ℕ)) (count : ℕ) → IsWire a → IsWire b → IsWire x → IsWire y
     → EndsIn (labels_of a) left (labels_of x) → EndsIn (labels_of b) right (labels_of y) → EndAlike a b count
-    → length x ≡ length y → length x ≤ count → Part (labels_of a) (labels_of b) left right
+    → length x ≡ length y → length x ≤ count → Part (labels_of a) (labels_of b) left right (labels_of x)
 part_at a b x y left right count a_wire b_wire x_wire y_wire a_ends b_ends alike size within =
     let same : x ≡ y = same_ends a b x y count alike (wire_end a x left a_wire x_wire a_ends) (wire_end b y right b_wire y_wire b_ends) size within in
     record {
-      shared = labels_of x;
       left = a_ends;
       right = subst (λ (l : List ℕ). EndsIn (labels_of b) right (labels_of l)) (sym same) b_ends;
     }

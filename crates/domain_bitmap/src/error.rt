@@ -17,6 +17,7 @@ pub enum RtypeBitmapError {
 }
 
 impl fmt::Display for RtypeBitmapError {
+    // These texts stand once more in specs/Fault.antt: both change together.
     ghost output = { λ e. Some (bitmap_error_text e) };
 
     fn fmt<W: fmt::Write>(&self, f: &mut fmt::Formatter<W>) -> fmt::Result {

@@ -25,6 +25,7 @@ pub enum ChainError {
 }
 
 impl fmt::Display for ChainError {
+    // These texts stand once more in specs/ErrorText.antt: both change together.
     ghost output = { λ e. Some (chain_error_text e) };
 
     fn fmt<W: fmt::Write>(&self, f: &mut fmt::Formatter<W>) -> fmt::Result {

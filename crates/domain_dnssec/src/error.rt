@@ -50,6 +50,7 @@ pub enum Error {
 }
 
 impl fmt::Display for Error {
+    // These texts stand once more in specs/ErrorText.antt: both change together.
     ghost output = { λ e. Some (error_text e) };
 
     fn fmt<W: fmt::Write>(&self, f: &mut fmt::Formatter<W>) -> fmt::Result {

@@ -31,6 +31,7 @@ pub enum MessageError {
 }
 
 impl fmt::Display for MessageError {
+    // These texts stand once more in specs/ErrorText.antt: both change together.
     ghost output = { λ e. Some (message_error_text e) };
 
     fn fmt<W: fmt::Write>(&self, f: &mut fmt::Formatter<W>) -> fmt::Result {

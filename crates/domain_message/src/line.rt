@@ -40,6 +40,7 @@ pub enum LineError {
 }
 
 impl fmt::Display for LineError {
+    // These texts stand once more in specs/ErrorText.antt: both change together.
     ghost output = { λ e. Some (line_error_text e) };
 
     fn fmt<W: fmt::Write>(&self, f: &mut fmt::Formatter<W>) -> fmt::Result {

@@ -43,6 +43,7 @@ pub enum AppendError {
 }
 
 impl fmt::Display for AppendError {
+    // These texts stand once more in specs/Texts.antt: both change together.
     ghost output = { λ e. Some (append_error_text e) };
 
     fn fmt<W: fmt::Write>(&self, f: &mut fmt::Formatter<W>) -> fmt::Result {
@@ -89,6 +90,7 @@ pub enum ParseError {
 }
 
 impl fmt::Display for ParseError {
+    // These texts stand once more in specs/Texts.antt: both change together.
     ghost output = { λ e. Some (parse_error_text e) };
 
     fn fmt<W: fmt::Write>(&self, f: &mut fmt::Formatter<W>) -> fmt::Result {

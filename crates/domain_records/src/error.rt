@@ -55,6 +55,7 @@ pub enum Nsec3HashError {
 }
 
 impl fmt::Display for Nsec3HashError {
+    // These texts stand once more in specs/ErrorText.antt: both change together.
     ghost output = { λ e. Some (hash_error_text e) };
 
     fn fmt<W: fmt::Write>(&self, f: &mut fmt::Formatter<W>) -> fmt::Result {
@@ -111,6 +112,7 @@ pub enum SigningError {
 }
 
 impl fmt::Display for SigningError {
+    // These texts stand once more in specs/ErrorText.antt: both change together.
     ghost output = { λ e. Some (signing_error_text e) };
 
     fn fmt<W: fmt::Write>(&self, f: &mut fmt::Formatter<W>) -> fmt::Result {
@@ -186,6 +188,7 @@ impl<N, D> InsertError<N, D> {
 }
 
 impl<N, D> fmt::Display for InsertError<N, D> {
+    // These texts stand once more in specs/ErrorText.antt: both change together.
     ghost output = { λ e. Some (insert_error_text e) };
 
     fn fmt<W: fmt::Write>(&self, f: &mut fmt::Formatter<W>) -> fmt::Result {

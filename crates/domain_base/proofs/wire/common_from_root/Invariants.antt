@@ -2,7 +2,7 @@ use Rattle.std.proofs.Common.{◌≡◌, ◌+◌, ◌≤◌, length}
 use Rattle.domain_base.specs.Name.{lowered}
 use Rattle.domain_base.specs.Wire.{labels_of, IsWire}
 use Rattle.domain_base.proofs.CommonLemmas.{tail_run, same_label}
-use Rattle.domain_base.proofs.wire.common_labels.Given as goal
+use Rattle.domain_base.proofs.wire.common_from_root.Given as goal
 
 abbrev pub invariant-labels : goal.invariant-labels
 invariant-labels l = record {

@@ -1,7 +1,7 @@
 use Rattle.std.proofs.Common.{length, ◌+◌, ◌≤◌, option_map}
 use Rattle.domain_base.specs.Parting.{EndsIn}
 use Rattle.domain_base.specs.Wire.{labels_of, IsWire}
-use Rattle.domain_base.proofs.wire.parting_labels.Given as goal
+use Rattle.domain_base.proofs.wire.part.Given as goal
 
 abbrev pub invariant-parting : goal.invariant-parting
 invariant-parting l = record {

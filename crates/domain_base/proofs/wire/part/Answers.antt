@@ -1,7 +1,7 @@
 use Rattle.std.proofs.Common.{arith}
 use Rattle.domain_base.proofs.PartingLemmas.{next_end, part_at, root_length}
 use Rattle.domain_base.proofs.WireLemmas.{length-wire}
-use Rattle.domain_base.proofs.wire.parting_labels.Goals as goal
+use Rattle.domain_base.proofs.wire.part.Goals as goal
 
 pub unreachable-requires : goal.unreachable-requires
 unreachable-requires c =
@@ -34,6 +34,9 @@ parting-preserved c = record {
 }
 
 pub returns : goal.returns
-returns c = part_at c.args.a.now c.args.b.now c.parting.a_end.now c.parting.b_end.now _ _ c.equal_end-equal.result
-    c.requires.a c.requires.b c.parting.invariant.a_wire c.parting.invariant.b_wire c.parting.invariant.a_ends c.parting.invariant.b_ends
-    c.equal_end-equal.ensures.alike c.parting-test.false c.parting.invariant.a_within
+returns c = record {
+  wire = c.parting.invariant.a_wire;
+  parts = part_at c.args.a.now c.args.b.now c.parting.a_end.now c.parting.b_end.now _ _ c.equal_end-equal.result
+      c.requires.a c.requires.b c.parting.invariant.a_wire c.parting.invariant.b_wire c.parting.invariant.a_ends c.parting.invariant.b_ends
+      c.equal_end-equal.ensures.alike c.parting-test.false c.parting.invariant.a_within;
+}
