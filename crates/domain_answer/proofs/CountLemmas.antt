@@ -83,9 +83,9 @@ pub parent_some : (x above : Name) (n : ℕ) → parent_of x ≡ Some above → 
 parent_some [] above n e h = absurd (cc)
 parent_some (l ∷ x) above n e h = let same : x ≡ above = (cc) in last_more l x n (omega arith) ∙ ap (last_labels n) same
 
-pub parent_shorter : (x above : Name) → parent_of x ≡ Some above → length above < length x
-parent_shorter [] above e = absurd (cc)
-parent_shorter (l ∷ x) above e = let same : x ≡ above = (cc) in subst (λ y. length y < length (l ∷ x)) same (omega arith)
+pub parent_length : (x above : Name) → parent_of x ≡ Some above → length x ≡ suc (length above)
+parent_length [] above e = absurd (cc)
+parent_length (l ∷ x) above e = let same : x ≡ above = (cc) in ap (λ y. suc (length y)) same
 
 pub parent_none : (x : Name) → parent_of x ≡ None → length x ≡ 0
 parent_none [] e = refl

@@ -28,6 +28,6 @@ mod wildcard;
 pub use answer::Answer;
 pub use expansion::judge_nsec3_expansion;
 pub use found::{NsecFound, find_nsec};
-pub use nsec::judge_nsec;
+pub use nsec::{judge_nsec, judge_wildcard};
 pub use nsec3::judge_nsec3;
 pub use wildcard::wildcard_of;

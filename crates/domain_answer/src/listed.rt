@@ -41,10 +41,10 @@ fn covers<N: ToName, M: ToName>(owner: &N, next: &N, name: &M) -> bool
     if order.is_eq() {
         return false;
     }
-    if is_before(owner, next) {
-        return order.is_lt() && is_before(name, next);
+    if order.is_lt() {
+        return is_before(name, next) || !is_before(owner, next);
     }
-    order.is_lt() || is_before(name, next)
+    !is_before(owner, next) && is_before(name, next)
 }
 
 /// Whether the record is not passed over, and its owner is the name.

@@ -97,10 +97,12 @@ fn wildcard_cover_answer<A: ToName, O: Octets, N: ToName>(
     Answer::NameError(count)
 }
 
-/// What the records say of such a name.
-fn wildcard_answer<A: ToName, O: Octets, N: ToName>(
+/// What records of an NSEC chain answer to a question about a type and a name that is known not to
+/// exist, whose closest encloser has so many labels: what they say of the wildcard right below that
+/// one (RFC 4035, section 3.1.3.4), which is handed in. `NoCloserName` where they don't say.
+pub fn judge_wildcard<A: ToName, O: Octets, N: ToName>(
     apex: &A,
-    chain: &[NsecRr<O, N>],
+    chain: &[Record<N, Nsec<O, N>>],
     count: usize,
     wildcard: &ParsedName<'_>,
     rtype: Rtype,
@@ -129,7 +131,7 @@ fn absent_answer<A: ToName, O: Octets, N: ToName, M: ToName>(
 {
     let mut buffer = [0; MAX_NAME];
     let wildcard = wildcard_below(&mut buffer, name, count);
-    wildcard_answer(apex, chain, count, &wildcard, rtype)
+    judge_wildcard(apex, chain, count, &wildcard, rtype)
 }
 
 /// What the records say of a name that this one of them covers.

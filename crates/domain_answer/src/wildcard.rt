@@ -11,11 +11,13 @@ pub(crate) fn last_labels<M: ToName>(name: &M, count: usize) -> ParsedName<'_>
     ensures { result ≡ last_labels count (M.labels name.now) }
 {
     let mut left = name.as_parsed();
-    'labels: while left.count_labels() > count {
+    let mut more = left.count_labels().saturating_sub(count);
+    'labels: while more > 0 {
         let Some(above) = left.parent() else {
             unreachable!();
         };
         left = above;
+        more -= 1;
     }
     left
 }

@@ -1,6 +1,7 @@
 pub mod HashSearchLemmas
 pub mod HashedDenyLemmas
 pub mod HashedPickLemmas
+pub mod JudgedLemmas
 pub mod PickLemmas
 pub mod PlacedLemmas
 pub mod SearchLemmas

@@ -1,4 +1,5 @@
 pub mod HashedPicked
 pub mod HashedSteps
+pub mod Judged
 pub mod Picked
 pub mod Search

@@ -6,7 +6,7 @@
 //! closest encloser, where the name does not exist. What it picks, `judge_nsec` of `domain_answer`
 //! accepts: its answer is what the zone says. It goes over no list: a question costs some twenty
 //! comparisons of names where the chain has a million. `NsecDenier`, made once of a chain, does the
-//! same with two or three.
+//! same with none but those that tell what a record says.
 //!
 //! `deny_nsec3` picks those of an NSEC3 chain, which `judge_nsec3` accepts: the one that matches
 //! the closest encloser of the name, the one that covers the name one label longer, and the one of
@@ -17,6 +17,7 @@
 
 mod encloser;
 mod hash_search;
+mod judged;
 pub mod laws;
 mod nsec;
 mod nsec3;

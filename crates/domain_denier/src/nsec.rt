@@ -1,11 +1,11 @@
 //! What is picked of an NSEC chain.
-ghost use Rattle.std.specs.Prelude.{◌≡◌, ◌<◌, ◌++◌, [], None, Some, length, IfOk};
+ghost use Rattle.std.specs.Prelude.{◌≡◌, ◌<◌, [], None, Some, length, IfOk};
 ghost use Rattle.domain_answer.specs.Reading.{reading};
 ghost use Rattle.domain_denier.specs.Picked.{at_place, picked, AreThere, IsDenial, IsWildcardPicked};
 ghost use Rattle.domain_answer.specs.declared.answer.Answer.TheVariants.{NoCloserName};
 
+use crate::judged::{Said, first_of, second_of};
 use crate::owner_keys::OwnerKeys;
-use crate::search::place_of;
 use domain_answer::{Answer, judge_nsec, laws, wildcard_of};
 use domain_base::{ParsedName, Rtype, ToName};
 use domain_nsec::NsecChain;
@@ -42,48 +42,6 @@ fn judge_none<A: ToName, M: ToName>(apex: &A, name: &M, rtype: Rtype) -> NsecDen
     }
 }
 
-/// What the record at a place of the chain says.
-fn judge_one<A: ToName, N: ToName, M: ToName>(
-    apex: &A,
-    chain: &NsecChain<'_, N>,
-    name: &M,
-    rtype: Rtype,
-    place: usize,
-) -> Answer
-    requires { place < length chain.now }
-    ensures { result ≡ reading (A.labels apex.now) (at_place chain.now (Some place))
-        (M.labels name.now) rtype }
-{
-    let Some(listed) = chain.lend(place) else {
-        unreachable!();
-    };
-    judge_nsec(apex, &[listed], name, rtype)
-}
-
-/// What the records at two places of the chain say.
-fn judge_both<A: ToName, N: ToName, M: ToName>(
-    apex: &A,
-    chain: &NsecChain<'_, N>,
-    name: &M,
-    rtype: Rtype,
-    first: usize,
-    second: usize,
-) -> Answer
-    requires first { first < length chain.now }
-    requires second { second < length chain.now }
-    ensures { result ≡ reading (A.labels apex.now)
-        (at_place chain.now (Some first) ++ at_place chain.now (Some second)) (M.labels name.now)
-        rtype }
-{
-    let Some(first) = chain.lend(first) else {
-        unreachable!();
-    };
-    let Some(second) = chain.lend(second) else {
-        unreachable!();
-    };
-    judge_nsec(apex, &[first, second], name, rtype)
-}
-
 /// What is picked where the record at a place denies the name, and the closest encloser has so many
 /// labels: the record of the wildcard below that one too.
 fn with_wildcard<A: ToName, N: ToName, M: ToName>(
@@ -109,11 +67,11 @@ fn with_wildcard<A: ToName, N: ToName, M: ToName>(
     let Some(wildcard) = wildcard_of(&mut buffer, name, count) else {
         unreachable!();
     };
-    let second = place_of(chain, keys, &wildcard);
+    let second = second_of(apex, chain, keys, name, rtype, &wildcard, count, place);
     NsecDenial {
-        answer: judge_both(apex, chain, name, rtype, place, second),
+        answer: second.answer,
         of_name: Some(place),
-        of_wildcard: Some(second),
+        of_wildcard: Some(second.place),
     }
 }
 
@@ -135,8 +93,8 @@ fn pick<A: ToName, N: ToName, M: ToName>(
     if chain.is_empty() || !name.ends_with(apex) {
         return judge_none(apex, name, rtype);
     }
-    let place = place_of(chain, keys, name);
-    match judge_one(apex, chain, name, rtype, place) {
+    let Said { place, answer } = first_of(apex, chain, keys, name, rtype);
+    match answer {
         Answer::NoCloserName(count) => {
             with_wildcard(apex, chain, keys, name, rtype, place, count)
         }
@@ -173,8 +131,9 @@ pub fn deny_nsec<A: ToName, N: ToName, M: ToName>(
 }
 
 /// The NSEC chain of a zone, to be asked often. Contracts see the links of the chain. Beside the
-/// chain, which it borrows, it keeps 16 octets for each record: the first letters of its owner as a
-/// number, all in one list, so that a search touches two or three names where it would touch twenty.
+/// chain, which it borrows, it keeps 17 octets for each record: the first letters of its owner as a
+/// number, all in one list, so that a search touches no name, and the record that it ends at alone is
+/// compared with the name, where no other begins with as many letters.
 #[derive(Drop)]
 pub struct NsecDenier<'c, 'a, N: ToName> {
     chain: &'c NsecChain<'a, N>,
@@ -195,7 +154,7 @@ impl<'c, 'a, N: ToName> NsecDenier<'c, 'a, N> {
     ///
     /// # Errors
     ///
-    /// `OutOfMemory` where there was no memory for 16 octets a record.
+    /// `OutOfMemory` where there was no memory for 17 octets a record.
     pub fn new(alloc: Global, chain: &'c NsecChain<'a, N>) -> Result<Self, OutOfMemory>
         ensures { IfOk result (λ denier. denier ≡ chain.now) }
     {

@@ -6,44 +6,69 @@ use domain_octets::OutOfMemory;
 use domain_records::owner_key;
 use std::alloc::Global;
 
+/// How many keys stand for one among the samples.
+const RUN: usize = 16;
+
 /// A number for each owner of a chain, in the order of its records. They lie in one list, so that a
 /// search among them touches no name. They are hints: what they suggest is tested.
 #[derive(Drop)]
 pub(crate) struct OwnerKeys {
     keys: Vec<u128>,
+    /// The first of each run of keys. These stay in the caches where the keys do not.
+    samples: Vec<u128>,
     /// How many labels, from the root, all owners share: those of the apex.
     shared: usize,
 }
 
 impl OwnerKeys {
-    /// The keys of the owners of a chain: 16 octets a record.
+    /// The keys of the owners of a chain: 17 octets a record.
     pub(crate) fn of<N: ToName>(
         alloc: Global,
         chain: &NsecChain<'_, N>,
     ) -> Result<Self, OutOfMemory> {
+        let shared = chain.owner(0).map_or(0, |apex| apex.count_labels());
         let mut keys = Vec::with_capacity(alloc, chain.len())?;
-        let Some(apex) = chain.owner(0) else {
-            return Ok(OwnerKeys { keys, shared: 0 });
-        };
-        let shared = apex.count_labels();
+        let mut samples = Vec::with_capacity(alloc, chain.len() / RUN + 1)?;
         for place in 0..chain.len() {
             let Some(owner) = chain.owner(place) else {
                 unreachable!();
             };
-            keys.push(owner_key(owner, shared))?;
+            let key = owner_key(owner, shared);
+            keys.push(key)?;
+            if place % RUN == 0 {
+                samples.push(key)?;
+            }
         }
-        Ok(OwnerKeys { keys, shared })
+        Ok(OwnerKeys {
+            keys,
+            samples,
+            shared,
+        })
+    }
+
+    /// How many keys are below this one, or not above it. The samples tell in which run they end.
+    fn count(&self, key: u128, is_up_to: bool) -> usize {
+        let is_before = |other: &u128| *other < key || is_up_to && *other == key;
+        let runs = self.samples.partition_point(is_before);
+        let start = runs.saturating_sub(1).saturating_mul(RUN);
+        match self.keys.get(start..) {
+            Some(keys) => {
+                let run = &keys[..keys.len().min(RUN)];
+                start.saturating_add(run.partition_point(is_before))
+            }
+            None => start,
+        }
     }
 
     /// How many owners have a key below that of a name, and how many have none above it.
     pub(crate) fn places_of<M: ToName>(&self, name: &M) -> (usize, usize) {
         let key = owner_key(name, self.shared);
-        let below = self.keys.partition_point(|other| *other < key);
-        match self.keys.get(below) {
-            Some(other) if *other == key => {
-                (below, self.keys.partition_point(|other| *other <= key))
-            }
-            _ => (below, below),
-        }
+        (self.count(key, false), self.count(key, true))
+    }
+
+    /// The last place whose key is not above that of a name.
+    pub(crate) fn place_near<M: ToName>(&self, name: &M) -> Option<usize> {
+        self.count(owner_key(name, self.shared), true)
+            .checked_sub(1)
     }
 }

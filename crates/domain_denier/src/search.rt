@@ -1,5 +1,5 @@
 //! The record of a chain that says something of a name.
-ghost use Rattle.std.specs.Prelude.{◌≡◌, ◌<◌, length, IsTrue};
+ghost use Rattle.std.specs.Prelude.{◌≡◌, ◌<◌, length, IfSome, IsTrue};
 ghost use Rattle.domain_base.specs.Order.{before};
 ghost use Rattle.domain_denier.specs.Picked.{IsFound};
 ghost use Rattle.domain_denier.specs.Search.{AreEnds, IsAhead, IsBehind};
@@ -24,7 +24,7 @@ struct Ends {
 }
 
 /// Ends that the keys of a chain suggest, or none in particular.
-fn suggested<M: ToName>(keys: Option<&OwnerKeys>, name: &M) -> Ends {
+fn suggested_ends<M: ToName>(keys: Option<&OwnerKeys>, name: &M) -> Ends {
     match keys {
         Some(keys) => {
             let (below, up_to) = keys.places_of(name);
@@ -37,6 +37,22 @@ fn suggested<M: ToName>(keys: Option<&OwnerKeys>, name: &M) -> Ends {
             low: 0,
             high: usize::MAX,
         },
+    }
+}
+
+/// A place that the keys of a chain suggest for a name.
+pub(crate) fn suggested<N: ToName, M: ToName>(
+    chain: &NsecChain<'_, N>,
+    keys: Option<&OwnerKeys>,
+    name: &M,
+) -> Option<usize>
+    ensures { IfSome result (λ place. place < length chain.now) }
+{
+    let place = keys?.place_near(name)?;
+    if place < chain.len() {
+        Some(place)
+    } else {
+        None
     }
 }
 
@@ -105,7 +121,7 @@ pub(crate) fn place_of<N: ToName, M: ToName>(
     ensures of_name { IsFound chain.now result (M.labels name.now) }
 {
     laws::chains_mean_the_zone();
-    let Ends { mut low, mut high } = tested(chain, suggested(keys, name), name);
+    let Ends { mut low, mut high } = tested(chain, suggested_ends(keys, name), name);
     'search: while high - low > 1 {
         let middle = low + (high - low) / 2;
         let Some(owner) = chain.owner(middle) else {

@@ -7,6 +7,10 @@ use Rattle.domain_bitmap.specs.declared.error.RtypeBitmapError.{RtypeBitmapError
 use Rattle.domain_bitmap.specs.declared.error.RtypeBitmapError.TheVariants as bitmap_error
 use Rattle.domain_bitmap.specs.declared.salt_text.Nsec3SaltFromStrError.{Nsec3SaltFromStrError}
 use Rattle.domain_bitmap.specs.declared.salt_text.Nsec3SaltFromStrError.TheVariants as salt_error
+use Rattle.domain_message.specs.declared.error.MessageError.{MessageError}
+use Rattle.domain_message.specs.declared.error.MessageError.TheVariants as message_error
+use Rattle.domain_message.specs.declared.line.LineError.{LineError}
+use Rattle.domain_message.specs.declared.line.LineError.TheVariants as line_error
 use Rattle.domain_octets.specs.declared.codec.DecodeError.{DecodeError}
 use Rattle.domain_octets.specs.declared.codec.DecodeError.TheVariants as decode_error
 use Rattle.domain_octets.specs.declared.error.AppendError.{AppendError}
@@ -95,3 +99,23 @@ of_hasher hasher_error.OutOfMemory = variant.OutOfMemory
 abbrev pub of_insert : {N D : Type 0} → InsertError N D → Error
 of_insert (insert_error.Present r) = variant.Present
 of_insert (insert_error.OutOfMemory r) = variant.OutOfMemory
+
+abbrev pub of_message : MessageError → Error
+of_message message_error.ShortInput = variant.ShortInput
+of_message message_error.BadLabelType = variant.Form
+of_message message_error.ForwardPointer = variant.Form
+of_message message_error.LongName = variant.Form
+of_message message_error.DataLength = variant.Form
+of_message message_error.IllegalData = variant.Form
+of_message message_error.ShortBuf = variant.ShortBuf
+of_message message_error.OutOfMemory = variant.OutOfMemory
+
+abbrev pub of_line : LineError → Error
+of_line line_error.NoEntry = variant.EndOfEntry
+of_line (line_error.Owner error) = of_scanning error
+of_line (line_error.Ttl error) = of_scanning error
+of_line (line_error.Class error) = of_scanning error
+of_line (line_error.Rtype error) = of_scanning error
+of_line (line_error.RecordData error) = of_scanning error
+of_line line_error.Trailing = variant.Text
+of_line line_error.OutOfMemory = variant.OutOfMemory

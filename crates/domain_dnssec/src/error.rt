@@ -1,12 +1,13 @@
 //! One error for programs that call several of these crates.
 ghost use Rattle.std.specs.Prelude.{◌≡◌, Some};
-ghost use Rattle.domain_dnssec.specs.Error.{of_append, of_bitmap, of_chain, of_decoding, of_hasher, of_hashing, of_insert, of_name, of_parsing, of_salt, of_scanning, of_signing};
+ghost use Rattle.domain_dnssec.specs.Error.{of_append, of_bitmap, of_chain, of_decoding, of_hasher, of_hashing, of_insert, of_line, of_message, of_name, of_parsing, of_salt, of_scanning, of_signing};
 ghost use Rattle.domain_dnssec.specs.ErrorText.{error_text};
 ghost use Rattle.domain_dnssec.specs.declared.error.Error.TheVariants as variant;
 
 use crate::ChainError;
 use domain_base::{NameError, ParseError, ScanError};
 use domain_bitmap::{Nsec3SaltError, Nsec3SaltFromStrError, OwnerHashError, RtypeBitmapError};
+use domain_message::{LineError, MessageError};
 use domain_octets::{AppendError, DecodeError, OutOfMemory};
 use domain_plain::LongRecordData;
 use domain_records::{InsertError, Nsec3HashError, SigningError, SortError};
@@ -21,9 +22,9 @@ use std::fmt;
 /// passed on by `?` from a generic call, for which there is no proof then.
 #[derive(Clone, Copy, Debug, PartialEq, Eq)]
 pub enum Error {
-    /// There is no token where one is needed.
+    /// There is no token where one is needed, or no entry in a line.
     EndOfEntry,
-    /// A text or a token is not of the form that is wanted, or ends too early.
+    /// A text or a token is not of the form that is wanted, or ends too early, or goes on too long.
     Text,
     /// Octets end too early.
     ShortInput,
@@ -248,6 +249,40 @@ impl From<SortError> for Error {
 
     fn from(_error: SortError) -> Error {
         Error::OutOfMemory
+    }
+}
+
+impl From<MessageError> for Error {
+    ghost from_gives = { λ source e. e ≡ of_message source };
+
+    fn from(error: MessageError) -> Error {
+        match error {
+            MessageError::ShortInput => Error::ShortInput,
+            MessageError::BadLabelType
+            | MessageError::ForwardPointer
+            | MessageError::LongName
+            | MessageError::DataLength
+            | MessageError::IllegalData => Error::Form,
+            MessageError::ShortBuf => Error::ShortBuf,
+            MessageError::OutOfMemory => Error::OutOfMemory,
+        }
+    }
+}
+
+impl From<LineError> for Error {
+    ghost from_gives = { λ source e. e ≡ of_line source };
+
+    fn from(error: LineError) -> Error {
+        match error {
+            LineError::NoEntry => Error::EndOfEntry,
+            LineError::Owner(error)
+            | LineError::Ttl(error)
+            | LineError::Class(error)
+            | LineError::Rtype(error)
+            | LineError::RecordData(error) => Error::from(error),
+            LineError::Trailing => Error::Text,
+            LineError::OutOfMemory => Error::OutOfMemory,
+        }
     }
 }
 

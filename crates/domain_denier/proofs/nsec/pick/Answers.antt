@@ -36,18 +36,18 @@ returns-in-NoCloserName g c =
     let x = g.M.ToName.labels c.args.name.now in
     let links = c.args.chain.now in
     let t = c.args.rtype in
-    let p = c.place_of-place.result in
+    let p = c.first_of-place.result.place in
     let small : c.args.rtype < 65536 = subst (λ n. n < 65536) c.to_int-number.ensures c.to_int-number.type_inv in
     let low : is_at_or_below (g.M.ToName.labels c.args.name.now) (g.A.ToName.labels c.args.apex.now) ≡ true =
     sym c.ends_with.ensures.value ∙ c.if-not-ends_with.false in
-    let says : reading (g.A.ToName.labels c.args.apex.now) (at_place c.args.chain.now (Some c.place_of-place.result)) (g.M.ToName.labels c.args.name.now) c.args.rtype
-    ≡ NoCloserName c.in-NoCloserName.count = sym c.judge_one.ensures ∙ c.in-NoCloserName.is in
+    let says : reading (g.A.ToName.labels c.args.apex.now) (at_place c.args.chain.now (Some c.first_of-place.result.place)) (g.M.ToName.labels c.args.name.now) c.args.rtype
+    ≡ NoCloserName c.in-NoCloserName.count = sym c.first_of-place.ensures.exact ∙ c.in-NoCloserName.is in
     record {
       zone = λ L config whole. zone_of_both chain_laws answer_laws links L a config whole x t small low p
-          (c.place_of-place.ensures.of_name L a config whole low) c.in-NoCloserName.count says
+          (c.first_of-place.ensures.found L a config whole low) c.in-NoCloserName.count says
           c.with_wildcard.result c.with_wildcard.ensures.name c.with_wildcard.ensures.wildcard c.with_wildcard.ensures.exact;
       needed = λ L config whole. needs_both chain_laws answer_laws links L a config whole x t small low p
-          (c.place_of-place.ensures.of_name L a config whole low) c.in-NoCloserName.count says
+          (c.first_of-place.ensures.found L a config whole low) c.in-NoCloserName.count says
           c.with_wildcard.result c.with_wildcard.ensures.name c.with_wildcard.ensures.wildcard;
       there = c.with_wildcard.ensures.there;
       exact = c.with_wildcard.ensures.exact;
@@ -62,19 +62,19 @@ returns-in_default g c =
     let x = g.M.ToName.labels c.args.name.now in
     let links = c.args.chain.now in
     let t = c.args.rtype in
-    let p = c.place_of-place.result in
+    let p = c.first_of-place.result.place in
     let small : c.args.rtype < 65536 = subst (λ n. n < 65536) c.to_int-number.ensures c.to_int-number.type_inv in
     let low : is_at_or_below (g.M.ToName.labels c.args.name.now) (g.A.ToName.labels c.args.apex.now) ≡ true =
     sym c.ends_with.ensures.value ∙ c.if-not-ends_with.false in
     record {
-      zone = λ L config whole. c.judge_one.ensures
-          ∙ one_says chain_laws answer_laws links L a config whole x t small low p (c.place_of-place.ensures.of_name L a config whole low)
-          (λ n e. c.in_default.not-NoCloserName n (c.judge_one.ensures ∙ e));
+      zone = λ L config whole. c.first_of-place.ensures.exact
+          ∙ one_says chain_laws answer_laws links L a config whole x t small low p (c.first_of-place.ensures.found L a config whole low)
+          (λ n e. c.in_default.not-NoCloserName n (c.first_of-place.ensures.exact ∙ e));
       needed = λ L config whole. needs_one chain_laws answer_laws links L a config whole x t small low
-          (record { answer = c.judge_one.result; of_name = Some c.place_of-place.result; of_wildcard = None }) refl;
+          (record { answer = c.first_of-place.result.answer; of_name = Some c.first_of-place.result.place; of_wildcard = None }) refl;
       there = record {
-        name = λ place e. one_place p place (length links) e c.place_of-place.ensures.inside;
+        name = λ place e. one_place p place (length links) e c.first_of-place.ensures.inside;
         wildcard = λ place e. absurd (no_place place e);
       };
-      exact = c.judge_one.ensures ∙ sym (ap (λ ls. reading a ls x t) (append-nil (at_place links (Some p))));
+      exact = c.first_of-place.ensures.exact ∙ sym (ap (λ ls. reading a ls x t) (append-nil (at_place links (Some p))));
     }

@@ -1,0 +1,235 @@
+-- What one record, or two of which the first denies a name alone, tell by what they are judged to say.
+use Rattle.std.proofs.Common.{◌≡◌, ◌≢◌, ℕ, ◌<◌, Bool, true, false, cond, not, ◌&&◌, ◌||◌, List, [], ◌∷◌, ◌++◌, length}
+use Rattle.std.proofs.Common.{slice_get, get_or, Some, None, refl, sym, ap, ◌∙◌, subst, arith, inl, inr, ◌⊎◌}
+use Rattle.std.specs.Prelude.{◌==◌}
+use Rattle.std.proofs.lemmas.Option.{slice_get_cases, slice_get-get_or}
+use Rattle.std.proofs.lemmas.Bool.{cases_Bool, false≢true, and_parts, or_left, or_right}
+use Rattle.domain_base.specs.Name.{is_at_or_below, is_strictly_below, same_name}
+use Rattle.domain_base.specs.Order.{before}
+use Rattle.domain_base.specs.Types.{cname, ds}
+use Rattle.domain_base.specs.Words.{Name}
+use Rattle.domain_bitmap.specs.Blocks.{contains_type}
+use Rattle.domain_zone.specs.Covering.{covers, matches, matches_or_covers}
+use Rattle.domain_zone.specs.Enclosers.{longer, shared}
+use Rattle.domain_zone.proofs.NameLemmas.{same_is}
+use Rattle.domain_nsec.specs.Chain.{Link}
+use Rattle.domain_checker.specs.Verdict.{is_inside}
+use Rattle.domain_checker.specs.Reading.{is_at_cut, is_cover, is_match}
+use Rattle.domain_answer.specs.declared.answer.Answer.{Answer}
+use Rattle.domain_answer.specs.declared.answer.Answer.TheVariants.{AtParent, NoCloserName, NoData, NotProven, OutsideZone}
+use Rattle.domain_answer.specs.Proved.{last_labels}
+use Rattle.domain_answer.specs.Reading.{absent_answer, is_of_child, listed_both, match_answer, owner_answer, reading}
+use Rattle.domain_answer.specs.Reading.{tells_occluded, wildcard_answer, wildcard_both, wildcard_match_answer}
+use Rattle.domain_answer.specs.ZoneAnswer.{is_at_parent, wildcard_below}
+use Rattle.domain_denier.specs.Judged.{IsTold}
+use Rattle.domain_denier.specs.Picked.{IsOf, at_place, listed_option}
+
+-- a record that is not passed over, and matches or covers
+from_match : (a x : Name) (k : Link) → is_match a x k ≡ true → matches_or_covers before k.owner k.next x ≡ true
+from_match a x k e = or_left (matches before k.owner x) (covers before k.owner k.next x) (and_parts (matches before k.owner x) (is_inside a k) e).0
+
+from_cover : (a x : Name) (k : Link) → is_cover a x k ≡ true → matches_or_covers before k.owner k.next x ≡ true
+from_cover a x k e =
+    or_right (matches before k.owner x) (covers before k.owner k.next x) (and_parts (covers before k.owner k.next x) (is_inside a k) e).0
+
+-- a record whose owner is another name does not match
+pub unmatched : (a x : Name) (k : Link) → same_name k.owner x ≡ false → is_match a x k ≡ false
+unmatched a x k e = λ i. (sym (same_is k.owner x) ∙ e) i && is_inside a k
+
+-- ---- one record
+
+module _ (a x : Name) (t : ℕ) (k : Link) where
+  -- by whether the name is inside, the type the parent's, and the record matches or covers
+  abbrev chosen : Bool → Bool → Bool → Bool → Answer
+  chosen u p m c =
+      cond (not u) OutsideZone (cond p AtParent (listed_both a (k ∷ []) x t (cond m (Some k) None) (cond c (Some k) None)))
+
+  pub told_by_one : IsTold (reading a (k ∷ []) x t) → matches_or_covers before k.owner k.next x ≡ true
+  told_by_one told = go (is_at_or_below x a) (is_at_parent a x t) (cases_Bool (is_match a x k)) (cases_Bool (is_cover a x k)) told
+    where
+      silent : (u p m c : Bool) → m ≡ false → c ≡ false → IsTold (chosen u p m c) → ⊥
+      silent u p true c e f told = false≢true (sym e)
+      silent u p false true e f told = false≢true (sym f)
+      silent false p false false e f told = told.inside refl
+      silent true true false false e f told = told.here refl
+      silent true false false false e f told = told.proven refl
+
+      go : (u p : Bool) → (is_match a x k ≡ true) ⊎ (is_match a x k ≡ false) → (is_cover a x k ≡ true) ⊎ (is_cover a x k ≡ false)
+          → IsTold (chosen u p (is_match a x k) (is_cover a x k)) → matches_or_covers before k.owner k.next x ≡ true
+      go u p (inl e) c told = from_match a x k e
+      go u p (inr e) (inl f) told = from_cover a x k f
+      go u p (inr e) (inr f) told = absurd (silent u p (is_match a x k) (is_cover a x k) e f told)
+
+  -- ---- a record that denies the name alone
+
+  -- the name is inside and covered, and of the wildcard below its closest encloser, which has n labels, nothing is said
+  pub record Denies (n : ℕ) : Type 0 where
+    under : is_at_or_below x a ≡ true
+    parent : is_at_parent a x t ≡ false
+    unmatching : is_match a x k ≡ false
+    covering : is_cover a x k ≡ true
+    free : tells_occluded a k x ≡ false
+    no_end : is_strictly_below k.next x ≡ false
+    counts : length (longer (shared x k.owner) (shared x k.next)) ≡ n
+    silent : is_match a (wildcard_below (last_labels n x)) k ≡ false
+    occluded : is_cover a (wildcard_below (last_labels n x)) k ≡ true → tells_occluded a k (wildcard_below (last_labels n x)) ≡ true
+
+  match_never : (n : ℕ) → match_answer a k t ≡ NoCloserName n → ⊥
+  match_never n e =
+      never (is_of_child a k) (is_at_cut a k && not (t == ds)) (contains_type k.bits t) (is_at_cut a k) (contains_type k.bits cname) e
+    where
+      never : (b d h c l : Bool)
+          → cond b NotProven (cond d (Answer.Referral (length k.owner)) (cond h Answer.Has (cond c Answer.NoDs (cond l Answer.Alias NoData))))
+          ≡ NoCloserName n → ⊥
+      never true d h c l e = absurd (cc)
+      never false true h c l e = absurd (cc)
+      never false false true c l e = absurd (cc)
+      never false false false true l e = absurd (cc)
+      never false false false false true e = absurd (cc)
+      never false false false false false e = absurd (cc)
+
+  abbrev w_of : ℕ → Name
+  w_of n = wildcard_below (last_labels n x)
+
+  wildcard_match_never : (n m : ℕ) → wildcard_match_answer a n k t ≡ NoCloserName m → ⊥
+  wildcard_match_never n m e = never (contains_type k.bits t || is_at_cut a k) (contains_type k.bits cname) e
+    where
+      never : (b l : Bool) → cond b (Answer.Wildcard n) (cond l (Answer.WildcardAlias n) (Answer.WildcardNoData n)) ≡ NoCloserName m → ⊥
+      never true l e = absurd (cc)
+      never false true e = absurd (cc)
+      never false false e = absurd (cc)
+
+  -- what is said of the wildcard, by whether the record matches or covers it
+  abbrev said : ℕ → Bool → Bool → Answer
+  said n m c = wildcard_both a n (w_of n) t (cond m (Some k) None) (cond c (Some k) None)
+
+  record Silent (n m : ℕ) : Type 0 where
+    same : n ≡ m
+    unmatching : is_match a (w_of n) k ≡ false
+    occluded : is_cover a (w_of n) k ≡ true → tells_occluded a k (w_of n) ≡ true
+
+  silent_by : (n m : ℕ) (mb cb : Bool) → is_match a (w_of n) k ≡ mb → is_cover a (w_of n) k ≡ cb → said n mb cb ≡ NoCloserName m → Silent n m
+  silent_by n m true cb f g e = absurd (wildcard_match_never n m e)
+  silent_by n m false false f g e = record {
+    same = let same : NoCloserName n ≡ NoCloserName m = e in cc;
+    unmatching = f;
+    occluded = λ h. absurd (false≢true (sym g ∙ h));
+  }
+  silent_by n m false true f g e =
+      let by = covered (tells_occluded a k (w_of n)) (is_strictly_below k.next (w_of n)) e in
+      record { same = by.0; unmatching = f; occluded = λ h. by.1 }
+    where
+      covered : (o s : Bool) → cond o (NoCloserName n) (cond s (Answer.WildcardNoData n) (Answer.NameError n)) ≡ NoCloserName m
+          → (n ≡ m) × (o ≡ true)
+      covered true s e = ((cc), refl)
+      covered false true e = absurd (cc)
+      covered false false e = absurd (cc)
+
+  pub denies : (n : ℕ) → reading a (k ∷ []) x t ≡ NoCloserName n → Denies n
+  denies n e = go (is_at_or_below x a) (is_at_parent a x t) (is_match a x k) (is_cover a x k) refl refl refl refl e
+    where
+      cover_by : (o s : Bool) → tells_occluded a k x ≡ o → is_strictly_below k.next x ≡ s
+          → cond o (owner_answer a k) (cond s NoData (absent_answer a (k ∷ []) (length (longer (shared x k.owner) (shared x k.next))) x t)) ≡ NoCloserName n
+          → (tells_occluded a k x ≡ false) × (is_strictly_below k.next x ≡ false)
+          × (absent_answer a (k ∷ []) (length (longer (shared x k.owner) (shared x k.next))) x t ≡ NoCloserName n)
+      cover_by true s f g e = absurd (owner_never (is_at_cut a k) e)
+        where
+          owner_never : (c : Bool) → cond c (Answer.Referral (length k.owner)) (Answer.Redirected (length k.owner)) ≡ NoCloserName n → ⊥
+          owner_never true e = absurd (cc)
+          owner_never false e = absurd (cc)
+      cover_by false true f g e = absurd (cc)
+      cover_by false false f g e = (f, g, e)
+
+      go : (u p m c : Bool) → is_at_or_below x a ≡ u → is_at_parent a x t ≡ p → is_match a x k ≡ m → is_cover a x k ≡ c
+          → chosen u p m c ≡ NoCloserName n → Denies n
+      go false p m c f g h i e = absurd (cc)
+      go true true m c f g h i e = absurd (cc)
+      go true false true c f g h i e = absurd (match_never n e)
+      go true false false false f g h i e = absurd (cc)
+      go true false false true f g h i e =
+          let by = cover_by (tells_occluded a k x) (is_strictly_below k.next x) refl refl e in
+          let N = length (longer (shared x k.owner) (shared x k.next)) in
+          let s = silent_by N n (is_match a (w_of N) k) (is_cover a (w_of N) k) refl refl by.2 in
+          record {
+            under = f;
+            parent = g;
+            unmatching = h;
+            covering = i;
+            free = by.0;
+            no_end = by.1;
+            counts = s.same;
+            silent = subst (λ m. is_match a (w_of m) k ≡ false) s.same s.unmatching;
+            occluded = subst (λ m. is_cover a (w_of m) k ≡ true → tells_occluded a k (w_of m) ≡ true) s.same s.occluded;
+          }
+
+  -- ---- with another record
+
+  module _ (n : ℕ) (d : Denies n) (l : Link) (other : is_match a x l ≡ false) where
+    -- both say of the name what they say of the wildcard
+    pub both_read : reading a (k ∷ l ∷ []) x t ≡ wildcard_answer a (k ∷ l ∷ []) n (w_of n) t
+    both_read =
+        (λ i. cond (not (d.under i)) OutsideZone (cond (d.parent i) AtParent
+        (listed_both a (k ∷ l ∷ []) x t (cond (d.unmatching i) (Some k) (cond (other i) (Some l) None))
+        (cond (d.covering i) (Some k) (cond (is_cover a x l) (Some l) None)))))
+        ∙ (λ i. cond (d.free i) (owner_answer a k) (cond (d.no_end i) NoData (absent_answer a (k ∷ l ∷ []) (d.counts i) x t)))
+
+    -- and where they say something of that, the other record does
+    pub second_tells : ((m : ℕ) → wildcard_answer a (k ∷ l ∷ []) n (w_of n) t ≢ NoCloserName m)
+        → matches_or_covers before l.owner l.next (w_of n) ≡ true
+    second_tells some =
+        go (cases_Bool (is_match a (w_of n) l)) (cases_Bool (is_cover a (w_of n) l)) (cases_Bool (is_cover a (w_of n) k))
+      where
+        go : (is_match a (w_of n) l ≡ true) ⊎ (is_match a (w_of n) l ≡ false) → (is_cover a (w_of n) l ≡ true) ⊎ (is_cover a (w_of n) l ≡ false)
+            → (is_cover a (w_of n) k ≡ true) ⊎ (is_cover a (w_of n) k ≡ false) → matches_or_covers before l.owner l.next (w_of n) ≡ true
+        go (inl e) f g = from_match a (w_of n) l e
+        go (inr e) (inl f) g = from_cover a (w_of n) l f
+        go (inr e) (inr f) (inl g) = absurd (some n (
+            (λ i. wildcard_both a n (w_of n) t (cond (d.silent i) (Some k) (cond (e i) (Some l) None))
+            (cond (g i) (Some k) (cond (f i) (Some l) None)))
+            ∙ (λ i. cond (d.occluded g i) (NoCloserName n) (cond (is_strictly_below k.next (w_of n)) (Answer.WildcardNoData n) (Answer.NameError n)))
+            ))
+        go (inr e) (inr f) (inr g) = absurd (some n
+            (λ i. wildcard_both a n (w_of n) t (cond (d.silent i) (Some k) (cond (e i) (Some l) None))
+            (cond (g i) (Some k) (cond (f i) (Some l) None))))
+
+-- ---- records at places of a chain
+
+there : (links : List Link) (p : ℕ) (k : Link) → p < length links → k ≡ get_or links p k → slice_get links p ≡ Some k
+there links p k inside is = slice_get-get_or links p k inside ∙ ap Some (sym is)
+
+module _ (links : List Link) (a x : Name) (t : ℕ) where
+  pub one_at : (p : ℕ) → p < length links → IsTold (reading a (at_place links (Some p)) x t) → IsOf links p x
+  one_at p inside told = elim (slice_get_cases links p).1 [
+    | inl some ↦ record {
+      link = some.0;
+      there = some.2;
+      says = told_by_one a x t some.0 (subst (λ ls. IsTold (reading a ls x t)) (ap listed_option some.2) told);
+    }
+    | inr none ↦ absurd (omega (arith, inside, none.0))
+  ]
+
+  module _ (p q n : ℕ) (k l : Link) (in_p : p < length links) (in_q : q < length links) (k_is : k ≡ get_or links p k) (l_is : l ≡ get_or links q l)
+      (says : reading a (at_place links (Some p)) x t ≡ NoCloserName n) (apart : same_name l.owner x ≡ false) (w : Name)
+      (w_is : w ≡ wildcard_below (last_labels n x))
+      (some : (m : ℕ) → wildcard_answer a (k ∷ l ∷ []) n w t ≢ NoCloserName m) where
+    at_p : at_place links (Some p) ≡ k ∷ []
+    at_p = ap listed_option (there links p k in_p k_is)
+
+    at_q : at_place links (Some q) ≡ l ∷ []
+    at_q = ap listed_option (there links q l in_q l_is)
+
+    denied : Denies a x t k n
+    denied = denies a x t k n (sym (λ i. reading a (at_p i) x t) ∙ says)
+
+    pub both_at : wildcard_answer a (k ∷ l ∷ []) n w t ≡ reading a (at_place links (Some p) ++ at_place links (Some q)) x t
+    both_at = ap (λ v. wildcard_answer a (k ∷ l ∷ []) n v t) w_is ∙ sym (both_read a x t k n denied l (unmatched a x l apart))
+        ∙ sym (λ i. reading a (at_p i ++ at_q i) x t)
+
+    pub tells_at : IsOf links q w
+    tells_at = record {
+      link = l;
+      there = there links q l in_q l_is;
+      says = subst (λ v. matches_or_covers before l.owner l.next v ≡ true) (sym w_is)
+          (second_tells a x t k n denied l (unmatched a x l apart)
+          (subst (λ v. (m : ℕ) → wildcard_answer a (k ∷ l ∷ []) n v t ≢ NoCloserName m) w_is some));
+    }
