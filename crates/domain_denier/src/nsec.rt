@@ -112,9 +112,9 @@ fn pick<A: ToName, N: ToName, M: ToName>(
 /// The first matches or covers the name. Where it proves that there is no such name, the second
 /// matches or covers the wildcard below the closest encloser, unless the first does that too. A
 /// response needs both where the answer is a name error or a wildcard without data; the first alone
-/// where it is no data, an unsigned delegation (`NoDs`; also in a referral, when it is asked for the
-/// zone cut), or was expanded from a wildcard; and none where it is positive or a redirection. A
-/// name outside the zone has none.
+/// where it is no data, an unsigned delegation (`NoDs`; also in a referral, when it is asked for
+/// the zone cut), or was expanded from a wildcard; and none where it is positive or a redirection.
+/// A name outside the zone has none.
 ///
 /// The chain is that of a zone, in which the names below an owner of a DNAME record are left out,
 /// or there are none (RFC 6672, section 2.4). Takes no memory, and compares some twenty names where
@@ -132,8 +132,8 @@ pub fn deny_nsec<A: ToName, N: ToName, M: ToName>(
 
 /// The NSEC chain of a zone, to be asked often. Contracts see the links of the chain. Beside the
 /// chain, which it borrows, it keeps 17 octets for each record: the first letters of its owner as a
-/// number, all in one list, so that a search touches no name, and the record that it ends at alone is
-/// compared with the name, where no other begins with as many letters.
+/// number, all in one list, so that a search touches no name, and the record that it ends at alone
+/// is compared with the name, where no other begins with as many letters.
 #[derive(Drop)]
 pub struct NsecDenier<'c, 'a, N: ToName> {
     chain: &'c NsecChain<'a, N>,

@@ -1,3 +1,4 @@
 pub mod AmongLemmas
 pub mod AnyOrderLemmas
 pub mod KeptLemmas
+pub mod WireLemmas

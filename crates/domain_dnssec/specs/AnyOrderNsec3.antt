@@ -58,8 +58,8 @@ module _ {N D : Type 0} (labels : N → Name) (rtype_of : D → ℕ) (minimum_of
     pub sorts : Sorts labels rtype_of data_cmp given sorted
     pub fault : IsSortedHashedFault labels rtype_of minimum_of sorted apex config error
 
-  -- the given records are of one class, and their zone has no fault but, where it has one, a fault of
-  -- hashing
+  -- the given records are of one class, and their zone has no fault but, where it has one, a fault
+  -- of hashing
   pub record IsReadyOf (given : List (Record N D)) (apex : Name) (config : ChainConfig) : Type 0
     where
       pub sorted : List (Record N D)

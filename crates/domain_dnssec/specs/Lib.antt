@@ -4,6 +4,9 @@ pub mod Told
 pub mod ZoneRecords
 pub mod Error
 pub mod ErrorText
+pub mod Hashed
+pub mod ZoneData
+pub mod Wire
 pub use Rattle.domain_zone.specs.Covering
 pub use Rattle.domain_zone.specs.Zone
 pub use Rattle.domain_zone.specs.Soa
@@ -12,3 +15,12 @@ pub use Rattle.domain_zone.specs.View
 pub use Rattle.domain_nsec.specs.Chain
 pub use Rattle.domain_nsec.specs.Meaning
 pub use Rattle.domain_nsec.specs.ChainView
+pub use Rattle.domain_bitmap.specs.Blocks
+pub use Rattle.domain_bitmap.specs.Builder
+pub use Rattle.domain_keys.specs.KeyTag
+pub use Rattle.domain_records.specs.Order
+pub use Rattle.domain_message.specs.Entry
+pub use Rattle.domain_message.specs.Record
+pub use Rattle.domain_checker.specs.Verdict
+pub use Rattle.domain_answer.specs.ZoneAnswer
+pub use Rattle.domain_sha1.specs.Iterated

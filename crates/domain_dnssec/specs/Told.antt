@@ -1,5 +1,5 @@
--- What a verdict or an answer tells of the records that were handed in, by the chain that is made of
--- them.
+-- What a verdict or an answer tells of the records that were handed in, by the chain that is made
+-- of them.
 use Rattle.std.specs.Prelude.{◌≡◌, ℕ, List, Option}
 use Rattle.std.specs.declared.cmp.Ordering.{Ordering}
 use Rattle.domain_plain.specs.declared.record.Record.{Record}

@@ -1,4 +1,5 @@
--- The definitions of `AnyOrder`, `AnyOrderNsec3` and `Told` for records whose data are `ZoneRecordData`.
+-- The definitions of `AnyOrder`, `AnyOrderNsec3` and `Told` for records whose data are
+-- `ZoneRecordData`.
 use Rattle.std.specs.Prelude.{ℕ, List}
 use Rattle.domain_octets.specs.Words.{Octets}
 use Rattle.domain_base.specs.Words.{Name}

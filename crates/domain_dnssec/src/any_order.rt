@@ -71,8 +71,8 @@ where
 /// # Errors
 ///
 /// The first that stands: `MixedClasses` where the records are not of one class; `Signing` with the
-/// first fault of the zone; and `OutOfMemory`, only where it has none. Before a fault of the zone is
-/// known, `Sort` where there was no memory to sort them, which only the sort answers.
+/// first fault of the zone; and `OutOfMemory`, only where it has none. Before a fault of the zone
+/// is known, `Sort` where there was no memory to sort them, which only the sort answers.
 pub fn generate_nsecs_of_records<O, N: MakeName, D: ZoneData + CanonicalOrd>(
     alloc: Global,
     apex: &N,

@@ -52,9 +52,9 @@ where
 /// # Errors
 ///
 /// The first that stands: `MixedClasses` where the records are not of one class; `Signing` with the
-/// first fault of the zone; and `OutOfMemory`, only where it has none but, where it has one, a fault of
-/// hashing. Before a fault of the zone is known, `Sort` where there was no memory to sort them, which
-/// only the sort answers.
+/// first fault of the zone; and `OutOfMemory`, only where it has none but, where it has one, a
+/// fault of hashing. Before a fault of the zone is known, `Sort` where there was no memory to sort
+/// them, which only the sort answers.
 pub fn generate_nsec3s_of_records<
     S: Sorter,
     H: Nsec3Hasher,

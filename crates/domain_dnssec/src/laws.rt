@@ -17,7 +17,9 @@ ghost use Rattle.domain_dnssec.specs.AnyOrder.{IsChainOf, Sorts};
 ghost use Rattle.domain_dnssec.specs.Told.{IsAnswerOf, IsProvedAnswerOf, IsProvedOf, IsSaidOf};
 
 use domain_answer::laws as answers;
+pub use domain_answer::laws::chains_leave_out_names_below_dname;
 use domain_base::{CanonicalOrd, ToName};
+pub use domain_bitmap::laws::built_bitmaps_give_their_types;
 use domain_checker::laws::whole_chains_prove_all;
 pub use domain_nsec::laws::{chains_mean_the_zone, types_ignore_case};
 use domain_plain::ZoneData;

@@ -1,20 +1,19 @@
 //! DNSSEC denial of existence: the chains of a zone (RFC 4034, section 4; RFC 4035, section 2.3;
 //! RFC 5155, section 7.1; RFC 9077), and what their records prove, under one name.
 //!
-//! `generate_nsecs_of_records` and `generate_nsec3s_of_records` make the NSEC and the NSEC3 chain of
-//! a zone whose records come in any order. `generate_nsecs` and `generate_nsec3s` take them in
+//! `generate_nsecs_of_records` and `generate_nsec3s_of_records` make the NSEC and the NSEC3 chain
+//! of a zone whose records come in any order. `generate_nsecs` and `generate_nsec3s` take them in
 //! canonical order, as `owner_rrs` of `SortedRecords` hands them out. `NsecChain::generate` and
 //! `Nsec3Chain::generate` give the same chains before their records are made: these lend them one
 //! by one, in less memory. `check_nsec` and `check_nsec3` say what records of a chain prove of a
 //! name and a type, `judge_nsec` and `judge_nsec3` what they answer as a whole: a name error, no
-//! data, a delegation, an alias, what a wildcard does; `deny_nsec` and `deny_nsec3` pick the records
-//! of a chain that a server answers with. What the contracts cite stands in `specs/` of
-//! `domain_zone`, `domain_nsec`, `domain_nsec3`, `domain_checker`, `domain_answer`, `domain_denier`
-//! and this crate.
-//! `read_record` reads a record from a message, with compressed names, and `scan_record` one from a
-//! line of a zone's text.
-//! What signatures here name is handed on: names, types, classes, TTLs, records and their
-//! data, builders of octets, sorted records, and the errors.
+//! data, a delegation, an alias, what a wildcard does; `deny_nsec` and `deny_nsec3` pick the
+//! records of a chain that a server answers with. `compose_nsecs` and `compose_nsec3s` write a chain
+//! as messages have its records; `read_record` reads a record from a message, with compressed
+//! names, and `scan_record` one from a line of a zone's text.
+//!
+//! Nothing else has to be named by a crate that uses these: the types, calls and laws of the crates
+//! below are handed on, and in `specs/` the definitions that their clauses cite.
 #![tactic(auto)]
 
 mod any_order;
@@ -23,6 +22,7 @@ mod chain;
 mod config;
 mod error;
 pub mod laws;
+mod wire;
 
 pub use any_order::generate_nsecs_of_records;
 pub use any_order_nsec3::generate_nsec3s_of_records;
@@ -49,12 +49,17 @@ pub use domain_octets::{
     OutOfMemory, Parser, SmallBuilder, SmallOctets, Truncate, TryClone,
 };
 pub use domain_plain::{LongRecordData, Record, ZoneData};
-pub use domain_rdata::{Nsec, Nsec3, Nsec3param, ZoneRecordData};
+pub use domain_rdata::{
+    A, Dnskey, Ds, Mx, Ns, Nsec, Nsec3, Nsec3Salt, Nsec3param, OwnerHash, Rrsig, Soa,
+    UnknownRecordData, ZoneRecordData,
+};
 pub use domain_records::{
     DefaultSorter, InPlaceSorter, InsertError, Nsec3HashError, OwnerRrs, RecordsIter, SigningError,
     SortError, SortedRecords, Sorter,
 };
+pub use domain_sha1::Sha1Hasher;
 pub use domain_zone::{
     ApexSoa, HasherError, Nsec3Hasher, UnoccludedOwner, UnoccludedOwners, find_soa,
 };
 pub use error::Error;
+pub use wire::{compose_nsec3s, compose_nsecs};

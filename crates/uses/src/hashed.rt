@@ -1,16 +1,14 @@
 //! A chain of hashes, with a hasher of one's own.
 ghost use Rattle.std.specs.Prelude.{nat_le, Err, IfOk, if◌then◌else◌};
-ghost use Rattle.domain_sha1.specs.Iterated.{sha1_answer};
-ghost use Rattle.domain_nsec3.specs.View.{as_param_record, config_of, hashed_links_of};
+ghost use Rattle.domain_dnssec.specs.Iterated.{sha1_answer};
+ghost use Rattle.domain_dnssec.specs.Hashed.{as_param_record, config_of, hashed_links_of};
 ghost use Rattle.domain_dnssec.specs.ZoneRecords.{IsHashedChainOf};
 
 use crate::zone::{ZoneName, ZoneRecord, records};
 use domain_dnssec::{
     DefaultSorter, Error, GenerateNsec3Config, HasherError, Nsec3HashAlgorithm, Nsec3Hasher,
-    Nsec3Records, generate_nsec3s_of_records,
+    Nsec3Records, Nsec3Salt, Nsec3param, Sha1Hasher, generate_nsec3s_of_records,
 };
-use domain_rdata::{Nsec3Salt, Nsec3param};
-use domain_sha1::Sha1Hasher;
 use std::alloc::Global;
 use std::fmt::Write;
 

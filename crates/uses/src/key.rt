@@ -1,9 +1,8 @@
 //! The tag of a key.
 ghost use Rattle.std.specs.Prelude.{◌≡◌, IfOk};
-ghost use Rattle.domain_keys.specs.KeyTag.{key_tag_of};
+ghost use Rattle.domain_dnssec.specs.KeyTag.{key_tag_of};
 
-use domain_dnssec::{Error, IterScanner};
-use domain_rdata::Dnskey;
+use domain_dnssec::{Dnskey, Error, IterScanner};
 use std::alloc::Global;
 use std::fmt::Write;
 

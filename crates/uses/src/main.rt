@@ -1,7 +1,6 @@
-//! Eleven uses of the library, each a proved function that calls it, with what it prints.
+//! Twelve uses of the library, each a proved function that calls it, with what it prints.
 //!
-//! `docs/GUIDE.md` quotes them. A program names `domain_dnssec` first, which hands on what its own
-//! signatures name.
+//! `docs/GUIDE.md` quotes them. A program names `domain_dnssec`, which hands on what it needs.
 #![tactic(auto)]
 
 mod answer;
@@ -15,6 +14,7 @@ mod said;
 mod served;
 mod sorted;
 mod verdict;
+mod wire;
 mod zone;
 
 use domain_dnssec::Error;
@@ -35,6 +35,7 @@ fn report(alloc: Global) -> Result<String, Error> {
     message::show(alloc, &mut text)?;
     sorted::show(alloc, &mut text)?;
     key::show(alloc, &mut text)?;
+    wire::show(alloc, &mut text)?;
     Ok(text)
 }
 

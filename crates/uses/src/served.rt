@@ -1,14 +1,13 @@
 //! Both halves of denial: what a server picks of a chain to answer with, and what that is judged to
 //! prove.
 ghost use Rattle.std.specs.Prelude.{◌≡◌, true, IfOk};
-ghost use Rattle.domain_records.specs.Order.{IsOneClass};
-ghost use Rattle.domain_rdata.specs.Zone.{minimum_of, rtype_of};
-ghost use Rattle.domain_zone.specs.View.{zone_of};
-ghost use Rattle.domain_answer.specs.ZoneAnswer.{zone_answer};
+ghost use Rattle.domain_dnssec.specs.Order.{IsOneClass};
+ghost use Rattle.domain_dnssec.specs.ZoneData.{minimum_of, rtype_of};
+ghost use Rattle.domain_dnssec.specs.View.{zone_of};
+ghost use Rattle.domain_dnssec.specs.ZoneAnswer.{zone_answer};
 
 use crate::zone::{Data, ZoneName, records};
-use domain_answer::laws::chains_leave_out_names_below_dname;
-use domain_dnssec::laws::owners_never_descend;
+use domain_dnssec::laws::{chains_leave_out_names_below_dname, owners_never_descend};
 use domain_dnssec::{
     Answer, Error, GenerateNsecConfig, NsecChain, Rtype, SortedRecords, deny_nsec,
 };

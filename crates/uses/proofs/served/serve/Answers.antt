@@ -1,7 +1,7 @@
 use Rattle.std.proofs.Common.{subst}
-use Rattle.domain_rdata.specs.Zone.{minimum_of, rtype_of}
-use Rattle.domain_zone.specs.View.{zone_of}
-use Rattle.domain_nsec.specs.Chain.{IsChain}
+use Rattle.domain_dnssec.specs.ZoneData.{minimum_of, rtype_of}
+use Rattle.domain_dnssec.specs.View.{zone_of}
+use Rattle.domain_dnssec.specs.Chain.{IsChain}
 use Rattle.uses.proofs.served.serve.Goals as goal
 
 -- the records are in order, and the chain is that of their zone

@@ -1,0 +1,46 @@
+-- Chains as octets, record by record.
+use Rattle.std.proofs.Common.{◌≡◌, ℕ, ◌+◌, ◌<◌, ◌≤◌, List, [], ◌∷◌, ◌++◌, length, take, get_or, sym, ap, ◌∙◌, arith, append-nil, length-append}
+use Rattle.std.proofs.Common.{◌⊎◌, inl, inr}
+use Rattle.std.specs.List.{flat_map}
+use Rattle.std.proofs.lemmas.List.{append_assoc, take_more}
+use Rattle.std.proofs.lemmas.List.Concat.{flat_map-append}
+use Rattle.domain_fields.specs.Layout.{octets_of, Values}
+use Rattle.domain_chain_rdata.specs.Rdata.{hash_numbers, nsec3param}
+use Rattle.domain_nsec.specs.Chain.{Link}
+use Rattle.domain_nsec3.specs.Chain.{HashedLink}
+use Rattle.domain_lent.specs.Links.{nsec_record, nsec3_record}
+use Rattle.domain_dnssec.specs.Wire.{HasLongNsec, HasLongNsec3}
+use Rattle.domain_dnssec.specs.declared.error.Error.{Error}
+use Rattle.domain_dnssec.specs.declared.error.Error.TheVariants.{LongRecordData, OutOfMemory}
+
+-- one more item
+pub joined_more : {T : Type 0} (octets : T → List ℕ) (items : List T) (i : ℕ) (d : T) → i < length items
+    → flat_map octets (take (i + 1) items) ≡ flat_map octets (take i items) ++ octets (get_or items i d)
+joined_more octets items i d l =
+    ap (flat_map octets) (take_more items i d l)
+    ∙ flat_map-append octets (take i items) (get_or items i d ∷ [])
+    ∙ ap (λ t. flat_map octets (take i items) ++ t) (append-nil (octets (get_or items i d)))
+
+-- one more item after what stood
+pub onward : {T : Type 0} (octets : T → List ℕ) (old : List ℕ) (items : List T) (i : ℕ) (d : T) → i < length items
+    → (old ++ flat_map octets (take i items)) ++ octets (get_or items i d) ≡ old ++ flat_map octets (take (i + 1) items)
+onward octets old items i d l =
+    append_assoc old (flat_map octets (take i items)) (octets (get_or items i d)) ∙ ap (λ t. old ++ t) (sym (joined_more octets items i d l))
+
+-- NSEC3PARAM data are short
+pub param_short : (v : Values nsec3param) → length v.1 ≤ 255 → length (octets_of nsec3param v) ≤ 65535
+unfolding octets_of
+param_short v salted = let c = length-append (octets_of hash_numbers v.0) (length v.1 ∷ v.1) in omega arith
+
+-- a record of a chain whose data are too long
+pub long_nsec : (links : List Link) (i : ℕ) (k : Link) → i < length links → k ≡ get_or links i k → (e y : Error) → y ≡ e
+    → (e ≡ OutOfMemory) ⊎ ((e ≡ LongRecordData) × (65535 < length (nsec_record k).«data».octets))
+    → (y ≡ OutOfMemory) ⊎ ((y ≡ LongRecordData) × HasLongNsec links)
+long_nsec links i k l is e y same (inl h) = inl (same ∙ h)
+long_nsec links i k l is e y same (inr h) = inr (same ∙ h.0, (k, (i, l, sym is), h.1))
+
+pub long_nsec3 : (links : List HashedLink) (i : ℕ) (k : HashedLink) → i < length links → k ≡ get_or links i k → (e y : Error) → y ≡ e
+    → (e ≡ OutOfMemory) ⊎ ((e ≡ LongRecordData) × (65535 < length (nsec3_record k).«data».octets))
+    → (y ≡ OutOfMemory) ⊎ ((y ≡ LongRecordData) × HasLongNsec3 links)
+long_nsec3 links i k l is e y same (inl h) = inl (same ∙ h)
+long_nsec3 links i k l is e y same (inr h) = inr (same ∙ h.0, (k, (i, l, sym is), h.1))

@@ -1,0 +1,8 @@
+use Rattle.std.proofs.Common.{◌≡◌, ◌++◌, take}
+use Rattle.std.specs.List.{flat_map}
+use Rattle.domain_lent.specs.Links.{nsec3_record}
+use Rattle.domain_lent.specs.Wire.{record_octets}
+use Rattle.domain_dnssec.proofs.wire.compose_nsec3s.Given as goal
+
+abbrev pub invariant-loop-place : goal.invariant-loop-place
+invariant-loop-place g l = l.octets.items ≡ l.fn.octets.items ++ flat_map (λ k. record_octets (nsec3_record k)) (take l.place l.chain.links)

@@ -1,0 +1,23 @@
+use Rattle.std.proofs.Common.{◌++◌, ◌∙◌, arith}
+use Rattle.std.proofs.lemmas.Result.{err_from_is_err_and}
+use Rattle.domain_lent.specs.Links.{nsec_record}
+use Rattle.domain_lent.specs.Wire.{record_octets}
+use Rattle.domain_nsec.specs.Chain.{Link}
+use Rattle.domain_nsec.specs.ChainView.{as_link}
+use Rattle.domain_dnssec.proofs.WireLemmas.{long_nsec, onward}
+use Rattle.domain_dnssec.proofs.wire.compose_nsecs.Goals as goal
+
+pub returns-in_err-add_nsec-clause-err : goal.returns-in_err-add_nsec-clause-err
+returns-in_err-add_nsec-clause-err g c =
+    let link = as_link (λ n. n) c.in-Some.nsec in
+    let p = err_from_is_err_and c.from_residual.result c.from_residual.ensures.1 in
+    rw (p.1) (long_nsec c.args.chain.now c.loop-place.place link (omega arith) (c.in-Some.ensures.some link) c.in_err-add_nsec.field-0.0 p.0 p.2
+    c.in_err-add_nsec.ensures.err)
+
+pub loop-place-preserved : goal.loop-place-preserved
+loop-place-preserved g c =
+    let link = as_link (λ n. n) c.in-Some.nsec in
+    let octets : Link → _ = λ k. record_octets (nsec_record k) in
+    c.in_ok-add_nsec.ensures.ok
+    ∙ (λ i. c.loop-place.invariant i ++ octets (c.in-Some.ensures.some link i))
+    ∙ onward octets c.args.octets.now.items c.args.chain.now c.loop-place.place link (omega arith)

@@ -1,0 +1,116 @@
+//! Chains as messages have their records.
+ghost use Rattle.std.specs.Prelude.{◌≡◌, ◌⊎◌, ◌<◌, ◌++◌, length, IfErr, OnOk};
+ghost use Rattle.domain_nsec.specs.ChainView.{as_link};
+ghost use Rattle.domain_nsec3.specs.View.{as_param_record};
+ghost use Rattle.domain_lent.specs.Links.{nsec_record, nsec3_record, param_record};
+ghost use Rattle.domain_lent.specs.Wire.{record_octets};
+ghost use Rattle.domain_dnssec.specs.Wire.{nsecs_octets, nsec3s_octets, HasLongNsec, HasLongNsec3};
+ghost use Rattle.domain_dnssec.specs.declared.error.Error.TheVariants as variant;
+
+use crate::Error;
+use domain_base::{Class, Name, ParsedName, ToName};
+use domain_lent::{compose_parts, compose_record};
+use domain_nsec::{LentNsec, NsecChain};
+use domain_nsec3::{LentNsec3, Nsec3Chain};
+use domain_octets::{Octets, OutOfMemory};
+use domain_plain::{ComposeRecordData, Record};
+use domain_rdata::Nsec3param;
+use std::alloc::Global;
+
+/// Appends an NSEC record.
+fn add_nsec(nsec: &LentNsec<'_>, octets: &mut Vec<u8>) -> Result<(), Error>
+    ensures ok { OnOk result (octets.new.items
+        ≡ octets.old.items ++ record_octets (nsec_record (as_link (λ n. n) nsec.now))) }
+    ensures err { IfErr result (λ e. (e ≡ variant.OutOfMemory) ⊎ ((e ≡ variant.LongRecordData)
+        × (65535 < length (nsec_record (as_link (λ n. n) nsec.now)).«data».octets))) }
+{
+    if !nsec.data().fits_rdlen() {
+        return Err(Error::LongRecordData);
+    }
+    match compose_record(nsec, octets) {
+        Ok(()) => Ok(()),
+        Err(_) => Err(Error::OutOfMemory),
+    }
+}
+
+/// Appends the records of an NSEC chain, one after another, as a message has them, without
+/// compression (RFC 1035, section 3.2.1; RFC 4034, section 4.1).
+///
+/// # Errors
+///
+/// `OutOfMemory`; and `LongRecordData` where the data of a record have over 65,535 octets, which no
+/// record of a zone's chain has. Both leave what stood, and some records.
+pub fn compose_nsecs<N: ToName>(chain: &NsecChain<'_, N>, octets: &mut Vec<u8>) -> Result<(), Error>
+    ensures ok { OnOk result (octets.new.items ≡ octets.old.items ++ nsecs_octets chain.now) }
+    ensures err { IfErr result (λ e. (e ≡ variant.OutOfMemory) ⊎ ((e ≡ variant.LongRecordData)
+        × HasLongNsec chain.now)) }
+{
+    for place in 0..chain.len() {
+        let Some(nsec) = chain.lend(place) else {
+            unreachable!();
+        };
+        add_nsec(&nsec, octets)?;
+    }
+    Ok(())
+}
+
+/// Appends an NSEC3 record, which is of class IN.
+fn add_nsec3(alloc: Global, nsec3: &LentNsec3<'_>, octets: &mut Vec<u8>) -> Result<(), Error>
+    ensures ok { OnOk result (octets.new.items
+        ≡ octets.old.items ++ record_octets (nsec3_record nsec3.now)) }
+    ensures err { IfErr result (λ e. (e ≡ variant.OutOfMemory) ⊎ ((e ≡ variant.LongRecordData)
+        × (65535 < length (nsec3_record nsec3.now).«data».octets))) }
+{
+    let hashed = nsec3.data();
+    if !hashed.fits_rdlen() {
+        return Err(Error::LongRecordData);
+    }
+    let owner: Name<Vec<u8>> = nsec3.owner().make(alloc)?;
+    match compose_parts(&owner, Class::IN, nsec3.ttl(), hashed, octets) {
+        Ok(()) => Ok(()),
+        Err(_) => Err(Error::OutOfMemory),
+    }
+}
+
+/// Appends an NSEC3PARAM record.
+fn add_param<O: Octets>(
+    param: &Record<ParsedName<'_>, Nsec3param<O>>,
+    octets: &mut Vec<u8>,
+) -> Result<(), OutOfMemory>
+    ensures { OnOk result (octets.new.items
+        ≡ octets.old.items ++ record_octets (param_record (as_param_record (λ n. n) param.now))) }
+{
+    // Its data have at most 260 octets, since a salt has at most 255.
+    let _salt = param.data().salt().as_slice();
+    match compose_record(param, octets) {
+        Ok(()) => Ok(()),
+        Err(_) => Err(OutOfMemory),
+    }
+}
+
+/// Appends the records of an NSEC3 chain, one after another, and its NSEC3PARAM record, as a
+/// message has them, without compression (RFC 1035, section 3.2.1; RFC 5155, sections 3.2 and 4.2).
+/// An owner is spelled in memory of `alloc`.
+///
+/// # Errors
+///
+/// `OutOfMemory`; and `LongRecordData` where the data of a record have over 65,535 octets, which no
+/// record of a zone's chain has. Both leave what stood, and some records.
+pub fn compose_nsec3s<O: Octets>(
+    alloc: Global,
+    chain: &Nsec3Chain<'_, O>,
+    octets: &mut Vec<u8>,
+) -> Result<(), Error>
+    ensures ok { OnOk result (octets.new.items ≡ octets.old.items ++ nsec3s_octets chain.now) }
+    ensures err { IfErr result (λ e. (e ≡ variant.OutOfMemory) ⊎ ((e ≡ variant.LongRecordData)
+        × HasLongNsec3 chain.now.links)) }
+{
+    for place in 0..chain.len() {
+        let Some(nsec3) = chain.lend(place) else {
+            unreachable!();
+        };
+        add_nsec3(alloc, &nsec3, octets)?;
+    }
+    add_param(chain.nsec3param(), octets)?;
+    Ok(())
+}
