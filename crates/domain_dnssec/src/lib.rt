@@ -13,7 +13,8 @@
 //! names, and `scan_record` one from a line of a zone's text.
 //!
 //! Nothing else has to be named by a crate that uses these: the types, calls and laws of the crates
-//! below are handed on, and in `specs/` the definitions that their clauses cite.
+//! below are handed on, the data of records in `rdata`, and in `specs/` the definitions that their
+//! clauses cite.
 #![tactic(auto)]
 
 mod any_order;
@@ -22,6 +23,7 @@ mod chain;
 mod config;
 mod error;
 pub mod laws;
+pub mod rdata;
 mod wire;
 
 pub use any_order::generate_nsecs_of_records;
@@ -49,10 +51,7 @@ pub use domain_octets::{
     OutOfMemory, Parser, SmallBuilder, SmallOctets, Truncate, TryClone,
 };
 pub use domain_plain::{LongRecordData, Record, ZoneData};
-pub use domain_rdata::{
-    A, Dnskey, Ds, Mx, Ns, Nsec, Nsec3, Nsec3Salt, Nsec3param, OwnerHash, Rrsig, Soa,
-    UnknownRecordData, ZoneRecordData,
-};
+pub use domain_rdata::{Nsec, Nsec3, Nsec3param, ZoneRecordData};
 pub use domain_records::{
     DefaultSorter, InPlaceSorter, InsertError, Nsec3HashError, OwnerRrs, RecordsIter, SigningError,
     SortError, SortedRecords, Sorter,

@@ -5,9 +5,10 @@ ghost use Rattle.domain_dnssec.specs.Hashed.{as_param_record, config_of, hashed_
 ghost use Rattle.domain_dnssec.specs.ZoneRecords.{IsHashedChainOf};
 
 use crate::zone::{ZoneName, ZoneRecord, records};
+use domain_dnssec::rdata::Nsec3Salt;
 use domain_dnssec::{
     DefaultSorter, Error, GenerateNsec3Config, HasherError, Nsec3HashAlgorithm, Nsec3Hasher,
-    Nsec3Records, Nsec3Salt, Nsec3param, Sha1Hasher, generate_nsec3s_of_records,
+    Nsec3Records, Nsec3param, Sha1Hasher, generate_nsec3s_of_records,
 };
 use std::alloc::Global;
 use std::fmt::Write;

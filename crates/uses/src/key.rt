@@ -2,7 +2,8 @@
 ghost use Rattle.std.specs.Prelude.{◌≡◌, IfOk};
 ghost use Rattle.domain_dnssec.specs.KeyTag.{key_tag_of};
 
-use domain_dnssec::{Dnskey, Error, IterScanner};
+use domain_dnssec::rdata::Dnskey;
+use domain_dnssec::{Error, IterScanner};
 use std::alloc::Global;
 use std::fmt::Write;
 

@@ -2,7 +2,8 @@
 ghost use Rattle.std.specs.Prelude.{◌≡◌, OnErr};
 
 use crate::zone::{Data, ZoneName, ZoneRecord, records};
-use domain_dnssec::{A, Class, Error, Record, Rtype, SortedRecords, Ttl};
+use domain_dnssec::rdata::A;
+use domain_dnssec::{Class, Error, Record, Rtype, SortedRecords, Ttl};
 use std::alloc::Global;
 use std::fmt::Write;
 use std::net::Ipv4Addr;

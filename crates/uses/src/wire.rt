@@ -7,9 +7,10 @@ ghost use Rattle.domain_dnssec.specs.Wire.{nsecs_octets};
 ghost use Rattle.domain_dnssec.specs.ZoneData.{minimum_of, rtype_of};
 
 use crate::zone::{Data, ZoneName, records};
+use domain_dnssec::rdata::Nsec3Salt;
 use domain_dnssec::{
     Error, GenerateNsec3Config, GenerateNsecConfig, InPlaceSorter, Nsec3Chain, Nsec3HashAlgorithm,
-    Nsec3Salt, Nsec3param, NsecChain, Sha1Hasher, SortedRecords, compose_nsec3s, compose_nsecs,
+    Nsec3param, NsecChain, Sha1Hasher, SortedRecords, compose_nsec3s, compose_nsecs,
 };
 use std::alloc::Global;
 use std::fmt::Write;

@@ -1,5 +1,6 @@
 //! A small zone, built in code.
-use domain_dnssec::{A, Class, Error, Mx, Name, Ns, Record, Rtype, Soa, Ttl, ZoneRecordData};
+use domain_dnssec::rdata::{A, Mx, Ns, Soa};
+use domain_dnssec::{Class, Error, Name, Record, Rtype, Ttl, ZoneRecordData};
 use std::alloc::Global;
 use std::net::Ipv4Addr;
 
