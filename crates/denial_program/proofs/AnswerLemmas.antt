@@ -1,23 +1,27 @@
 -- How the program makes chains.
-use Rattle.std.proofs.Common.{◌≡◌, ◌⊎◌, true, false, List, refl, sym, subst, inl, inr, Result, Ok, Err, IfErr, IsErrOf, OnOk}
+use Rattle.std.proofs.Common.{◌≡◌, ◌⊎◌, true, false, List, sym, subst, inl, inr, Result, Ok, Err, IfErr, IsErrOf, OnOk}
 use Rattle.std.specs.Result.{IsErrAnd}
 use Rattle.domain_dnssec.specs.declared.chain.ChainError.{ChainError}
 use Rattle.domain_dnssec.specs.declared.chain.ChainError.TheVariants.{MixedClasses, Sort, Signing, OutOfMemory}
 use Rattle.domain_octets.specs.Words.{Octets}
 use Rattle.domain_base.specs.Words.{Name}
+use Rattle.domain_zone.specs.View.{zone_of}
+use Rattle.domain_nsec.specs.Chain.{usual_config, IsFaultless}
+use Rattle.domain_nsec3.specs.Faults.{IsReady}
 use Rattle.domain_nsec3.specs.View.{HasherAnswer, config_of, hash_by, parameters_of}
 use Rattle.domain_nsec3.specs.declared.config.GenerateNsec3Config.{GenerateNsec3Config}
 use Rattle.domain_lent.specs.Data.{RawRecord, data_cmp, minimum_of}
 use Rattle.domain_records.specs.Errors.{sort_error}
 use Rattle.domain_records.specs.Order.{IsOneClass}
 use Rattle.domain_dnssec.proofs.KeptLemmas.{classes_kept}
-use Rattle.denial_program.specs.Answer.{fault_of_chain, usual_nsec3_config, HasNoAnswer, HasNoNsecs, HasNoNsec3s, IsAnswer, IsNsecs, IsNsec3s, IsUnwritten, Sorts}
+use Rattle.denial_program.specs.Answer.{fault_of_chain, usual_nsec3_config, HasNoAnswer, HasNoNsecs, HasNoNsec3s, IsAnswer, IsNsecs, IsNsec3s, IsUnsorted, IsUnwritten, Sorts}
 use Rattle.denial_program.specs.Command.{Params}
 use Rattle.denial_program.specs.declared.answer.Answer.{Answer}
 use Rattle.denial_program.specs.declared.command.Command.{Command}
 use Rattle.denial_program.specs.declared.command.Command.TheVariants.{Nsec, Nsec3, CheckNsec, CheckNsec3}
 use Rattle.denial_program.specs.declared.fault.DenialFault.{DenialFault}
-use Rattle.denial_program.specs.declared.fault.DenialFault.TheVariants.{Write, OutOfMemory as NoMemory}
+use Rattle.denial_program.specs.declared.fault.DenialFault.TheVariants.{Unprepared, Write, OutOfMemory as NoMemory}
+use Rattle.denial_program.specs.Fault.{prepare_error}
 
 -- a configuration with these fields is the usual one
 pub usual_is : {S : Type 0} (answers : HasherAnswer) (config : GenerateNsec3Config Octets S) (p : Params) → config.params ≡ p
@@ -61,6 +65,17 @@ pub on_ok : {X E P Q : Type 0} → (P → Q) → (r : Result X E) → OnOk r P �
 on_ok f (Ok x) h = f h
 on_ok f (Err e) h = tt
 
+-- where there was no memory after the records were read, that is why they have no answer
+pub answer_memory : {X : Type 0} (answers : HasherAnswer) (command : Command) (given : List RawRecord) (r : Result X DenialFault)
+    → IfErr r (IsUnwritten (IsAnswer answers command given) (HasNoAnswer answers command given)) → IsErrOf r NoMemory
+    → HasNoAnswer answers command given NoMemory
+answer_memory answers command given r h is = there (subst
+    (λ q. IfErr q (IsUnwritten (IsAnswer answers command given) (HasNoAnswer answers command given))) is h)
+  where
+    there : IsUnwritten (IsAnswer answers command given) (HasNoAnswer answers command given) NoMemory → HasNoAnswer answers command given NoMemory
+    there (inl h) = absurd (let w = h.0 in cc)
+    there (inr none) = none
+
 -- records are of one class exactly where their sorted set is
 pub given_one_class : (given sorted : List RawRecord) → Sorts given sorted → IsOneClass sorted → IsOneClass given
 given_one_class given sorted sorts one = (classes_kept (λ n. n) (λ d. d.rtype) minimum_of data_cmp given sorted sorts).0 one
@@ -68,26 +83,28 @@ given_one_class given sorted sorts one = (classes_kept (λ n. n) (λ d. d.rtype)
 pub sorted_one_class : (given sorted : List RawRecord) → Sorts given sorted → IsOneClass given → IsOneClass sorted
 sorted_one_class given sorted sorts one = (classes_kept (λ n. n) (λ d. d.rtype) minimum_of data_cmp given sorted sorts).1 one
 
--- a chain that could not be written
-pub nsecs_unwritten : {X : Type 0} (given : List RawRecord) (apex : Name) (x : Answer) → IsNsecs given apex x → (r : Result X DenialFault)
+-- there was memory for a chain, and not for writing it
+pub nsecs_unwritten : {X : Type 0} (given sorted : List RawRecord) (apex : Name) (x : Answer) → IsNsecs given apex x → Sorts given sorted → IsOneClass sorted
+    → IsFaultless (zone_of (λ n. n) (λ d. d.rtype) minimum_of sorted) apex usual_config → (r : Result X DenialFault)
     → IfErr r (λ e. (e ≡ Write) ⊎ (e ≡ NoMemory)) → IfErr r (IsUnwritten (IsNsecs given apex) (HasNoNsecs given apex))
-nsecs_unwritten given apex x is (Ok y) h = tt
-nsecs_unwritten given apex x is (Err e) (inl w) = inl (w, (x, is))
-nsecs_unwritten given apex x is (Err e) (inr m) = inr (record {
-  error = Sort sort_error;
+nsecs_unwritten given sorted apex x is sorts one faultless (Ok y) h = tt
+nsecs_unwritten given sorted apex x is sorts one faultless (Err e) (inl w) = inl (w, (x, is))
+nsecs_unwritten given sorted apex x is sorts one faultless (Err e) (inr m) = inr (record {
+  error = OutOfMemory;
   is = m;
-  none = given_one_class given is.chain.sorted is.chain.sorts is.chain.chain.one_class;
+  none = record { sorted = sorted; sorts = sorts; one_class = one; faultless = faultless };
 })
 
-pub nsec3s_unwritten : {X : Type 0} (answers : HasherAnswer) (given : List RawRecord) (apex : Name) (p : Params) (x : Answer)
-    → IsNsec3s answers given apex p x → (r : Result X DenialFault)
+pub nsec3s_unwritten : {X : Type 0} (answers : HasherAnswer) (given sorted : List RawRecord) (apex : Name) (p : Params) (x : Answer)
+    → IsNsec3s answers given apex p x → Sorts given sorted → IsOneClass sorted
+    → IsReady (zone_of (λ n. n) (λ d. d.rtype) minimum_of sorted) apex (usual_nsec3_config answers p) → (r : Result X DenialFault)
     → IfErr r (λ e. (e ≡ Write) ⊎ (e ≡ NoMemory)) → IfErr r (IsUnwritten (IsNsec3s answers given apex p) (HasNoNsec3s answers given apex p))
-nsec3s_unwritten answers given apex p x is (Ok y) h = tt
-nsec3s_unwritten answers given apex p x is (Err e) (inl w) = inl (w, (x, is))
-nsec3s_unwritten answers given apex p x is (Err e) (inr m) = inr (record {
-  error = Sort sort_error;
+nsec3s_unwritten answers given sorted apex p x is sorts one ready (Ok y) h = tt
+nsec3s_unwritten answers given sorted apex p x is sorts one ready (Err e) (inl w) = inl (w, (x, is))
+nsec3s_unwritten answers given sorted apex p x is sorts one ready (Err e) (inr m) = inr (record {
+  error = OutOfMemory;
   is = m;
-  none = given_one_class given is.chain.sorted is.chain.sorts is.chain.chain.one_class;
+  none = record { sorted = sorted; sorts = sorts; one_class = one; ready = ready };
 })
 
 -- what holds of an error that is handed on
@@ -95,16 +112,25 @@ pub if_err_of : {X : Type 0} (P : DenialFault → Type 0) (e : DenialFault) (r :
 if_err_of P e (Ok x) h p = tt
 if_err_of P e (Err f) h p = subst P (sym h) p
 
--- want of memory for records that were sorted
-pub nsecs_want_memory : {X : Type 0} (given sorted : List RawRecord) (apex : Name) → Sorts given sorted → IsOneClass sorted
-    → (r : Result X DenialFault) → IsErrAnd r (λ f. f ≡ NoMemory) → IfErr r (IsUnwritten (IsNsecs given apex) (HasNoNsecs given apex))
-nsecs_want_memory given sorted apex sorts one r h =
-    if_err_of (IsUnwritten (IsNsecs given apex) (HasNoNsecs given apex)) NoMemory r h
-    (inr (record { error = Sort sort_error; is = refl; none = given_one_class given sorted sorts one }))
+-- records that were sorted, and not laid
+pub unlaid : (given sorted : List RawRecord) → Sorts given sorted → IsOneClass sorted → (e : DenialFault) → e ≡ Unprepared prepare_error → IsUnsorted given e
+unlaid given sorted sorts one e is = inr (is, given_one_class given sorted sorts one)
 
-pub nsec3s_want_memory : {X : Type 0} (answers : HasherAnswer) (given sorted : List RawRecord) (apex : Name) (p : Params)
-    → Sorts given sorted → IsOneClass sorted → (r : Result X DenialFault) → IsErrAnd r (λ f. f ≡ NoMemory)
-    → IfErr r (IsUnwritten (IsNsec3s answers given apex p) (HasNoNsec3s answers given apex p))
-nsec3s_want_memory answers given sorted apex p sorts one r h =
-    if_err_of (IsUnwritten (IsNsec3s answers given apex p) (HasNoNsec3s answers given apex p)) NoMemory r h
-    (inr (record { error = Sort sort_error; is = refl; none = given_one_class given sorted sorts one }))
+-- records that were not made ready have no chain
+nsecs_unsorted : (given : List RawRecord) (apex : Name) (e : DenialFault) → IsUnsorted given e → HasNoNsecs given apex e
+nsecs_unsorted given apex e (inl h) = record { error = MixedClasses; is = h.0; none = h.1 }
+nsecs_unsorted given apex e (inr h) = record { error = Sort sort_error; is = h.0; none = h.1 }
+
+nsec3s_unsorted : (answers : HasherAnswer) (given : List RawRecord) (apex : Name) (p : Params) (e : DenialFault)
+    → IsUnsorted given e → HasNoNsec3s answers given apex p e
+nsec3s_unsorted answers given apex p e (inl h) = record { error = MixedClasses; is = h.0; none = h.1 }
+nsec3s_unsorted answers given apex p e (inr h) = record { error = Sort sort_error; is = h.0; none = h.1 }
+
+pub nsecs_unready : {X : Type 0} (given : List RawRecord) (apex : Name) (e : DenialFault) → IsUnsorted given e
+    → (r : Result X DenialFault) → IsErrAnd r (λ f. f ≡ e) → IfErr r (IsUnwritten (IsNsecs given apex) (HasNoNsecs given apex))
+nsecs_unready given apex e none r h = if_err_of (IsUnwritten (IsNsecs given apex) (HasNoNsecs given apex)) e r h (inr (nsecs_unsorted given apex e none))
+
+pub nsec3s_unready : {X : Type 0} (answers : HasherAnswer) (given : List RawRecord) (apex : Name) (p : Params) (e : DenialFault) → IsUnsorted given e
+    → (r : Result X DenialFault) → IsErrAnd r (λ f. f ≡ e) → IfErr r (IsUnwritten (IsNsec3s answers given apex p) (HasNoNsec3s answers given apex p))
+nsec3s_unready answers given apex p e none r h =
+    if_err_of (IsUnwritten (IsNsec3s answers given apex p) (HasNoNsec3s answers given apex p)) e r h (inr (nsec3s_unsorted answers given apex p e none))

@@ -2,7 +2,7 @@ pub mod LineLemmas
 pub mod WordLemmas
 pub mod LineReading
 pub mod LineSteps
-pub mod Reading
+pub mod ReadingLemmas
 pub mod RunLemmas
 pub mod CommandLemmas
 pub mod AnswerLemmas

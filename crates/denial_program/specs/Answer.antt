@@ -3,6 +3,7 @@ use Rattle.std.specs.Prelude.{◌≡◌, ◌⊎◌, true, false, List, Option}
 use Rattle.std.specs.Io.KnownBytes.{Appends}
 use Rattle.domain_octets.specs.Words.{Octets}
 use Rattle.domain_base.specs.Words.{Name, Tokens}
+use Rattle.domain_records.specs.Order.{IsOneClass}
 use Rattle.domain_nsec.specs.Chain.{Link, usual_config}
 use Rattle.domain_nsec3.specs.Chain.{ChainRecords}
 use Rattle.domain_nsec3.specs.Config.{ChainConfig}
@@ -22,16 +23,24 @@ use Rattle.denial_program.specs.declared.answer.Answer.TheVariants.{Nsecs, Nsec3
 use Rattle.denial_program.specs.declared.command.Command.{Command}
 use Rattle.denial_program.specs.declared.command.Command.TheVariants.{Nsec, Nsec3, CheckNsec, CheckNsec3}
 use Rattle.denial_program.specs.declared.fault.DenialFault.{DenialFault}
-use Rattle.denial_program.specs.declared.fault.DenialFault.TheVariants.{MixedClasses, Signing, Write, OutOfMemory}
+use Rattle.denial_program.specs.declared.fault.DenialFault.TheVariants.{Unprepared, MixedClasses, Signing, Write, OutOfMemory}
+use Rattle.denial_program.specs.Fault.{prepare_error}
 
 -- sorted is the sorted set of the records, by owner, class, type and octets
 abbrev pub Sorts : List RawRecord → List RawRecord → Type 0
 Sorts = any_order.Sorts (λ n. n) (λ d. d.rtype) data_cmp
 
--- what the program says where there is no chain
+-- why the records are not sorted: they are not of one class, or else there was no memory to make
+-- them ready
+abbrev pub IsUnsorted : List RawRecord → DenialFault → Type 0
+IsUnsorted given fault = ((fault ≡ MixedClasses) × any_order.AreMixed given)
+    ⊎ ((fault ≡ Unprepared prepare_error) × IsOneClass given)
+
+-- what the program says where there is no chain: want of memory before the records are sorted, laid
+-- where they are walked over, is one thing, and want of memory for their chain another
 abbrev pub fault_of_chain : ChainError → DenialFault
 fault_of_chain chain_error.MixedClasses = MixedClasses
-fault_of_chain (chain_error.Sort e) = OutOfMemory
+fault_of_chain (chain_error.Sort e) = Unprepared prepare_error
 fault_of_chain (chain_error.Signing e) = Signing e
 fault_of_chain chain_error.OutOfMemory = OutOfMemory
 

@@ -23,7 +23,7 @@ use Rattle.denial_program.specs.declared.answer.Answer.{Answer}
 use Rattle.denial_program.specs.declared.answer.Answer.TheVariants as answers
 use Rattle.denial_program.specs.declared.command.Question.{Question}
 use Rattle.denial_program.specs.declared.fault.DenialFault.{DenialFault}
-use Rattle.denial_program.specs.declared.fault.DenialFault.TheVariants.{Usage, Read, Line, MixedClasses, Signing, Param, Write, OutOfMemory}
+use Rattle.denial_program.specs.declared.fault.DenialFault.TheVariants.{Usage, Read, Line, Unprepared, MixedClasses, Signing, Param, Write, OutOfMemory}
 
 -- what records give, in their order: one thing each that is such, and none those that are not
 abbrev pub AreAmong : {K : Type 0} → (RawRecord → K → Type 0) → List RawRecord → List K → Type 0
@@ -121,6 +121,7 @@ abbrev pub HasNoNsec3Verdict : HasherAnswer → List RawRecord → Question → 
 HasNoNsec3Verdict hashes given q Usage = ⊥
 HasNoNsec3Verdict hashes given q Read = ⊥
 HasNoNsec3Verdict hashes given q (Line n) = ⊥
+HasNoNsec3Verdict hashes given q (Unprepared e) = ⊥
 HasNoNsec3Verdict hashes given q MixedClasses = ⊥
 HasNoNsec3Verdict hashes given q (Signing e) = IsRefused hashes given q e
 HasNoNsec3Verdict hashes given q Param = HasNoParam q.apex given

@@ -4,7 +4,7 @@ use Rattle.std.specs.Fmt.{decimal}
 use Rattle.domain_octets.specs.Words.{Octets}
 use Rattle.domain_records.specs.ErrorText.{signing_error_text}
 use Rattle.denial_program.specs.declared.fault.DenialFault.{DenialFault}
-use Rattle.denial_program.specs.declared.fault.DenialFault.TheVariants.{Usage, Read, Line, MixedClasses, Signing, Param, Write, OutOfMemory}
+use Rattle.denial_program.specs.declared.fault.DenialFault.TheVariants.{Usage, Read, Line, Unprepared, MixedClasses, Signing, Param, Write, OutOfMemory}
 
 -- of any fault
 abbrev pub fault_text : DenialFault → Octets
@@ -13,6 +13,7 @@ fault_text Usage =
     ++ codes " | denial check nsec APEX NAME TYPE | denial check nsec3 APEX NAME TYPE"
 fault_text Read = codes "denial: cannot read input"
 fault_text (Line n) = codes "denial: line " ++ decimal n ++ codes ": bad record"
+fault_text (Unprepared e) = codes "denial: out of memory"
 fault_text MixedClasses = codes "denial: more than one class"
 fault_text (Signing e) = codes "denial: " ++ signing_error_text e
 fault_text Param = codes "denial: no single NSEC3PARAM at the apex"

@@ -1,32 +1,29 @@
 //! What a run answers, and how it is printed.
 ghost use Rattle.std.specs.Prelude.{◌≡◌, ◌⊎◌, List, IfErr, IfOk, IsErrOf, OnOk};
 ghost use Rattle.std.specs.Io.KnownBytes.{Appends};
-ghost use Rattle.domain_base.specs.Words.{Name};
 ghost use Rattle.domain_records.specs.Order.{IsInOrder, IsOneClass};
 ghost use Rattle.domain_zone.specs.View.{zone_of};
 ghost use Rattle.domain_nsec.specs.Chain.{usual_config, IsFaultless};
 ghost use Rattle.domain_nsec3.specs.Faults.{IsReady};
-ghost use Rattle.domain_nsec3.specs.View.{HasherAnswer};
 ghost use Rattle.domain_lent.specs.Data.{minimum_of, RawRecord};
 ghost use Rattle.denial_program.specs.Answer.{usual_nsec3_config, HasNoAnswer, HasNoNsec3s, HasNoNsecs, IsAnswer, IsNsec3s, IsNsecs, IsUnwritten, IsWritten, Sorts};
-ghost use Rattle.denial_program.specs.Command.{Params};
 ghost use Rattle.denial_program.specs.Fault.{IsBeforeOutput};
 ghost use Rattle.denial_program.specs.Text.{answer_text, lines_of, nsec_line, nsec3_line, nsec3s_text};
 ghost use Rattle.denial_program.specs.declared.fault.DenialFault.TheVariants.{OutOfMemory};
 
-use crate::arena::{lay_owners, store_name};
 use crate::check::{nsec_verdict, nsec3_verdict};
 use crate::command::{Command, Nsec3Params};
 use crate::fault::{DenialFault, fault_of};
 use crate::line::{ZoneName, ZoneOctets};
+use crate::prepare::{lay_apex, lay_zone, sort_zone};
 use crate::verdict_text::VerdictText;
 use bumpalo::Bump;
 use domain_base::ParsedName;
 use domain_dnssec::{
     GenerateNsec3Config, GenerateNsecConfig, InPlaceSorter, Nsec3Chain, Nsec3Hasher, NsecChain,
-    RecordsIter, SigningError, SortedRecords, Verdict,
+    RecordsIter, SigningError, Verdict,
 };
-use domain_lent::{LentData, LentRecord};
+use domain_lent::LentRecord;
 use std::alloc::Global;
 use std::io;
 use std::io::Write;
@@ -42,33 +39,6 @@ pub enum Answer<'s, 'a> {
     Verdict(ZoneName, Verdict),
 }
 
-/// The records, sorted.
-///
-/// # Errors
-///
-/// `MixedClasses` where the records are not of one class, and else `OutOfMemory`.
-fn sort_zone<'a>(records: Vec<LentRecord<'a>>) -> Result<Vec<LentRecord<'a>>, DenialFault>
-    ensures sorts { IfOk result
-        (λ sorted. Sorts records.entry.items sorted.items) }
-    ensures one_class { IfOk result (λ sorted. IsOneClass sorted.items) }
-    ensures in_order { IfOk result (λ sorted. IsInOrder (λ n. n) (λ d. d.rtype) sorted.items) }
-    ensures none { IfErr result
-        (λ fault. (apex : Name) → HasNoNsecs records.entry.items apex fault) }
-    ensures none_hashed { IfErr result (λ fault. (answers : HasherAnswer) (apex : Name) (p : Params)
-        → HasNoNsec3s answers records.entry.items apex p fault) }
-{
-    if !RecordsIter::new_from_owned(records.as_slice()).is_one_class() {
-        return Err(DenialFault::MixedClasses);
-    }
-    let sorted: SortedRecords<ParsedName<'a>, LentData<'a>> = match SortedRecords::from_vec(
-        records,
-    ) {
-        Ok(sorted) => sorted,
-        Err(_) => return Err(DenialFault::OutOfMemory),
-    };
-    Ok(sorted.into_inner())
-}
-
 /// The NSEC chain of the zone that the records are, from which it borrows.
 fn nsecs_of<'s, 'a>(
     alloc: Global,
@@ -81,6 +51,8 @@ fn nsecs_of<'s, 'a>(
         → Sorts given sorted.now → IsNsecs given apex.now answer) }
     ensures err { IfErr result (λ fault. (given : List RawRecord)
         → Sorts given sorted.now → HasNoNsecs given apex.now fault) }
+    ensures faultless { OnOk result (IsFaultless
+        (zone_of (λ n. n) (λ d. d.rtype) minimum_of sorted.now) apex.now usual_config) }
     ensures memory { IsErrOf result OutOfMemory → IsFaultless
         (zone_of (λ n. n) (λ d. d.rtype) minimum_of sorted.now) apex.now usual_config }
 {
@@ -109,6 +81,9 @@ fn nsec3s_of<'s, 'a, H: Nsec3Hasher>(
     ensures err { IfErr result (λ fault. (given : List RawRecord)
         → Sorts given sorted.now
         → HasNoNsec3s (H.answer hasher.now) given apex.now parameters fault) }
+    ensures ready { OnOk result (IsReady
+        (zone_of (λ n. n) (λ d. d.rtype) minimum_of sorted.now) apex.now
+        (usual_nsec3_config (H.answer hasher.now) parameters)) }
     ensures memory { IsErrOf result OutOfMemory → IsReady
         (zone_of (λ n. n) (λ d. d.rtype) minimum_of sorted.now) apex.now
         (usual_nsec3_config (H.answer hasher.now) parameters) }
@@ -216,8 +191,8 @@ fn write_nsecs_of<'a, W: Write>(
     ensures untouched { IfErr result (λ e. IsBeforeOutput e → output.new ≡ output.old) }
 {
     let sorted = sort_zone(records)?;
-    let apex = store_name(arena, apex)?;
-    let laid = lay_owners(arena, sorted)?;
+    let apex = lay_apex(arena, apex)?;
+    let laid = lay_zone(arena, sorted)?;
     let answer = nsecs_of(alloc, &apex, &laid)?;
     answer.send(output)
 }
@@ -242,7 +217,7 @@ fn write_nsec3s_of<'a, W: Write, H: Nsec3Hasher>(
     ensures untouched { IfErr result (λ e. IsBeforeOutput e → output.new ≡ output.old) }
 {
     let sorted = sort_zone(records)?;
-    let apex = store_name(arena, apex)?;
+    let apex = lay_apex(arena, apex)?;
     let answer = nsec3s_of(alloc, &apex, parameters, &sorted, hasher)?;
     answer.send(output)
 }
@@ -254,7 +229,9 @@ fn write_nsec3s_of<'a, W: Write, H: Nsec3Hasher>(
 /// The first that stands: of a chain `MixedClasses`, and `Signing` where there is none; of a
 /// verdict of NSEC3 records `Param` where the apex has not exactly one NSEC3PARAM record, and
 /// `Signing` where the hasher refuses; `Write` where the output could not be written; and
-/// `OutOfMemory`. Nothing is written before `Write`.
+/// `OutOfMemory`, of a chain only where the zone has no fault, but for NSEC3 one of hashing. Before
+/// a fault of the zone is known, `Unprepared` where there was no memory to sort the records or to
+/// lay them. Nothing is written before `Write` and `OutOfMemory`.
 pub fn write_answer<'a, W: Write, H: Nsec3Hasher>(
     alloc: Global,
     arena: &'a Bump,

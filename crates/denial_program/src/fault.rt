@@ -4,6 +4,7 @@ ghost use Rattle.std.specs.IoError.{error_kind};
 ghost use Rattle.denial_program.specs.Fault.{exit_status};
 ghost use Rattle.denial_program.specs.declared.fault.DenialFault.TheVariants as denial_fault;
 
+use crate::prepare::PrepareError;
 use domain_octets::OutOfMemory;
 use domain_records::SigningError;
 use std::alloc::{AllocError, AllocFailed};
@@ -19,6 +20,8 @@ pub enum DenialFault {
     Read,
     /// The line of this number, counted from 1, is no record. It is the lowest such line.
     Line(u64),
+    /// There was no memory for the words or the records, before anything was asked of them.
+    Unprepared(PrepareError),
     /// The records have more than one class.
     MixedClasses,
     /// There is no chain, or no hash.
@@ -27,7 +30,7 @@ pub enum DenialFault {
     Param,
     /// The output could not be written.
     Write,
-    /// There was no memory.
+    /// There was no memory for what is asked of the records.
     OutOfMemory,
 }
 
@@ -49,10 +52,12 @@ impl fmt::Display for DenialFault {
     ghost output = { λ e. Some (fault_text e) };
 
     fn fmt<W: fmt::Write>(&self, f: &mut fmt::Formatter<W>) -> fmt::Result {
+        // The other half of each text stands in `fault_text`, `specs/FaultText.antt`.
         match *self {
             DenialFault::Usage => f.write_str(USAGE),
             DenialFault::Read => f.write_str("denial: cannot read input"),
             DenialFault::Line(number) => write!(f, "denial: line {number}: bad record"),
+            DenialFault::Unprepared(_) => f.write_str("denial: out of memory"),
             DenialFault::MixedClasses => f.write_str("denial: more than one class"),
             DenialFault::Signing(error) => write!(f, "denial: {error}"),
             DenialFault::Param => f.write_str("denial: no single NSEC3PARAM at the apex"),

@@ -13,13 +13,16 @@ mod command;
 mod fault;
 mod last_owner;
 mod line;
+mod prepare;
 mod process;
 mod program;
+mod reading;
 mod verdict_text;
 
 pub use check::chain_of;
 pub use command::{Question, question_of};
 pub use fault::{DenialFault, fault_of};
 pub use line::{ZoneName, ZoneOctets};
+pub use prepare::{PrepareError, read_records, sort_zone};
 pub use process::{BUFFER, words_of};
-pub use program::{read_records, run_denial};
+pub use program::run_denial;

@@ -1,132 +1,22 @@
 //! The run of the program, over any reader and any writer.
-ghost use Rattle.std.specs.Prelude.{◌≡◌, ◌≢◌, ◌⊎◌, ℕ, ◌+◌, ◌-◌, [], ◌∷◌, ◌++◌, IfErr, IfOk, MatchResult, OnOk, IsErrOf, IfSome, map, length, slice_index, string_bytes, vec_len};
-ghost use Rattle.std.specs.Str.Lines.{lines, strip_carriage_return};
-ghost use Rattle.std.specs.Io.BufRead.{take_through, DropsThrough};
-ghost use Rattle.std.specs.Io.KnownBytes.{Appends, IsAtEnd};
-ghost use Rattle.std.specs.IoError.{error_kind};
-ghost use Rattle.domain_octets.specs.Words.{Octets};
-ghost use Rattle.domain_octets.specs.Characters.{line_feed};
+ghost use Rattle.std.specs.Prelude.{◌≡◌, ℕ, IfErr, MatchResult, OnOk, IsErrOf, IfSome, map, string_bytes};
+ghost use Rattle.std.specs.Str.Lines.{lines};
+ghost use Rattle.std.specs.Io.KnownBytes.{Appends};
 ghost use Rattle.denial_program.specs.Answer.{Answers, GivesNoAnswer};
 ghost use Rattle.denial_program.specs.Command.{IsCommand};
-ghost use Rattle.denial_program.specs.Fault.{IsAfterInput, IsBeforeOutput, IsOfRecords, IsReadingFault, IsReadToEnd, TellsUsage};
-ghost use Rattle.denial_program.specs.Listing.{Give, IsFirstBad};
+ghost use Rattle.denial_program.specs.Fault.{IsAfterInput, IsBeforeOutput, IsOfRecords, IsReadToEnd, TellsUsage};
+ghost use Rattle.denial_program.specs.Listing.{IsFirstBad};
 ghost use Rattle.denial_program.specs.Text.{answer_text};
 ghost use Rattle.denial_program.specs.declared.answer.Answer.{Answer};
 ghost use Rattle.denial_program.specs.declared.fault.DenialFault.TheVariants.{OutOfMemory};
 
 use crate::answer::write_answer;
-use crate::arena::Store;
-use crate::command::command_of;
-use crate::fault::{DenialFault, fault_of};
-use crate::last_owner::LastOwner;
-use crate::line::{Line, read_line};
+use crate::fault::DenialFault;
+use crate::prepare::{read_command, read_records};
 use bumpalo::Bump;
 use domain_dnssec::Nsec3Hasher;
-use domain_lent::LentRecord;
-use memchr::memchr;
 use std::alloc::Global;
-use std::io;
-use std::io::{BufRead, ErrorKind, Write};
-
-/// A line without its end: a line feed, and a carriage return before it.
-fn without_end(line: &[u8]) -> &[u8]
-    ensures ended { (front : Octets) → line.now ≡ front ++ line_feed ∷ []
-        → result.now ≡ strip_carriage_return front }
-    ensures last { slice_index line.now (length line.now - 1) ≢ line_feed → result.now ≡ line.now }
-{
-    match line {
-        [front @ .., b'\r', b'\n'] => front,
-        [front @ .., b'\n'] => front,
-        _ => line,
-    }
-}
-
-/// Reads to the end, and keeps nothing.
-fn skip_all<R: BufRead>(input: &mut R) -> Result<(), DenialFault>
-    ensures ok { OnOk result (IsReadToEnd (R.remaining input.old) (R.remaining input.new)) }
-    ensures err { IfErr result (λ e. (e ≡ DenialFault.Read) ⊎ (e ≡ OutOfMemory)) }
-{
-    for _ in 0..u64::MAX {
-        let count = match input.skip_until(b'\n') {
-            Ok(count) => count,
-            Err(e) => return Err(fault_of(&e, DenialFault::Read)),
-        };
-        if count == 0 {
-            return Ok(());
-        }
-    }
-    Err(DenialFault::Read)
-}
-
-/// Appends the next line, with its end, and answers how many octets it has: none at the end of the
-/// input alone. A line that the reader holds whole is found by one fast search.
-fn append_line<R: BufRead>(input: &mut R, line: &mut Vec<u8>) -> io::Result<usize>
-    ensures ok { IfOk result (λ n. vec_len line.new ≡ vec_len line.old + n) }
-    ensures bytes { OnOk result (IfSome (R.remaining input.old)
-        (λ all. line.new.items ≡ line.old.items ++ take_through line_feed all)) }
-    ensures rest { OnOk result
-        (DropsThrough (R.remaining input.old) (R.remaining input.new) line_feed) }
-    ensures end { IfOk result (λ n. n ≡ 0 → IsAtEnd (R.remaining input.old)) }
-{
-    let held = match input.fill_buf() {
-        Ok(held) => held,
-        Err(e) if e.kind() == ErrorKind::Interrupted => return input.read_until(b'\n', line),
-        Err(e) => return Err(e),
-    };
-    let Some(place) = memchr(b'\n', held) else {
-        return input.read_until(b'\n', line);
-    };
-    line.extend_from_slice(&held[..place + 1])?;
-    input.consume(place + 1);
-    Ok(place + 1)
-}
-
-/// The records of the lines that are left, with their octets in the arena. A bad line is told only
-/// after the rest has been read, since a fault of the reader is told before it.
-///
-/// # Errors
-///
-/// `Read` where the input could not be read; `Line` of the lowest line that is no record; and
-/// `OutOfMemory`.
-pub fn read_records<'a, R: BufRead>(
-    alloc: Global,
-    arena: &'a Bump,
-    input: &mut R,
-) -> Result<Vec<LentRecord<'a>>, DenialFault>
-    ensures ok { IfOk result (λ v.
-        IfSome (R.remaining input.old) (λ all. Give (lines all) v.items)) }
-    ensures err { IfErr result IsReadingFault }
-    ensures line { (n : ℕ) → IsErrOf result (DenialFault.Line n)
-        → IfSome (R.remaining input.old) (λ all. IsFirstBad (lines all) n) }
-    ensures end { MatchResult result
-        (λ _. IsReadToEnd (R.remaining input.old) (R.remaining input.new))
-        (λ e. IsAfterInput e
-        → IsReadToEnd (R.remaining input.old) (R.remaining input.new)) }
-{
-    let mut records = Vec::new(alloc);
-    let mut line = Vec::new(alloc);
-    let mut store = Store::new(alloc, arena);
-    let mut last = LastOwner::new(alloc);
-    for number in 1..u64::MAX {
-        line.clear();
-        let count = match append_line(input, &mut line) {
-            Ok(count) => count,
-            Err(e) => return Err(fault_of(&e, DenialFault::Read)),
-        };
-        if count == 0 {
-            return Ok(records);
-        }
-        match read_line(alloc, &mut store, &mut last, without_end(&line))? {
-            Line::Nothing => {}
-            Line::Record(record) => records.push(record)?,
-            Line::Bad => {
-                skip_all(input)?;
-                return Err(DenialFault::Line(number));
-            }
-        }
-    }
-    Err(DenialFault::Read)
-}
+use std::io::{BufRead, Write};
 
 /// Does what the words ask for: reads records, one a line, and writes the chain of the zone that
 /// they are, one record a line, or what they, as records of a chain, prove of a name and a type, on
@@ -138,7 +28,9 @@ pub fn read_records<'a, R: BufRead>(
 /// be read; `Line` of the lowest line that is no record; `MixedClasses`; `Signing` where there is
 /// no chain; `Param` where there is not one NSEC3PARAM record for NSEC3 records to be checked with;
 /// `Signing` where the hasher refuses; `Write` where the output could not be written; and
-/// `OutOfMemory` wherever it comes. Nothing is written before `Write`.
+/// `OutOfMemory`, only once the records are read and sorted, and for a chain only where their zone
+/// has none of these faults but those of hashing. `Unprepared` comes before that, wherever there is
+/// no memory for the words or the records. Nothing is written before `Write` and `OutOfMemory`.
 pub fn run_denial<R: BufRead, W: Write, H: Nsec3Hasher>(
     alloc: Global,
     words: &[String],
@@ -175,9 +67,16 @@ pub fn run_denial<R: BufRead, W: Write, H: Nsec3Hasher>(
     ensures write { IsErrOf result DenialFault.Write
         → IfSome (R.remaining input.old) (λ bytes. (answer : Answer)
         × Answers (H.answer hasher.now) (map string_bytes words.now) (lines bytes) answer) }
+
+    // Want of memory, once the records are read, hides no fault of theirs: it has a reason too.
+    ensures memory { IsErrOf result OutOfMemory → IfSome (R.remaining input.old)
+        (λ bytes. GivesNoAnswer (H.answer hasher.now) (map string_bytes words.now)
+        (lines bytes) OutOfMemory) }
+    ensures memory_end { IsErrOf result OutOfMemory
+        → IsReadToEnd (R.remaining input.old) (R.remaining input.new) }
     ensures untouched { IfErr result (λ e. IsBeforeOutput e → output.new ≡ output.old) }
 {
-    let command = command_of(alloc, words)?;
+    let command = read_command(alloc, words)?;
     let arena = Bump::new(alloc);
     let records = read_records(alloc, &arena, input)?;
     write_answer(alloc, &arena, command, records, hasher, output)

@@ -20,7 +20,7 @@ use Rattle.domain_answer.specs.declared.answer.Answer.TheVariants.{OutsideZone, 
 use Rattle.denial_program.specs.Check.{hash_with, AreNsecs, AreNsec3s, AreParams, HasNoParam}
 use Rattle.denial_program.specs.declared.command.Question.{Question}
 use Rattle.denial_program.specs.declared.fault.DenialFault.{DenialFault}
-use Rattle.denial_program.specs.declared.fault.DenialFault.TheVariants.{Usage, Read, Line, MixedClasses, Signing, Param, Write, OutOfMemory}
+use Rattle.denial_program.specs.declared.fault.DenialFault.TheVariants.{Usage, Read, Line, Unprepared, MixedClasses, Signing, Param, Write, OutOfMemory}
 use Rattle.judge_program.specs.declared.command.Nsec3Options.{Nsec3Options}
 
 -- the answer is what the NSEC records prove of any zone of whose chain they are; from any records,
@@ -116,6 +116,7 @@ abbrev pub IsNotNsec3Judged : HasherAnswer → List RawRecord → Question → N
 IsNotNsec3Judged hashes given q asked Usage = ⊥
 IsNotNsec3Judged hashes given q asked Read = ⊥
 IsNotNsec3Judged hashes given q asked (Line n) = ⊥
+IsNotNsec3Judged hashes given q asked (Unprepared e) = ⊥
 IsNotNsec3Judged hashes given q asked MixedClasses = ⊥
 IsNotNsec3Judged hashes given q asked (Signing e) = IsJudgeRefused hashes given q asked e
 IsNotNsec3Judged hashes given q asked Param = HasNoParam q.apex given

@@ -10,7 +10,7 @@ use Rattle.denial_program.specs.Check.{hash_with}
 use Rattle.denial_program.specs.Listing.{Give}
 use Rattle.denial_program.specs.declared.command.Question.{Question}
 use Rattle.denial_program.specs.declared.fault.DenialFault.{DenialFault}
-use Rattle.denial_program.specs.declared.fault.DenialFault.TheVariants.{Usage, Read, Line, MixedClasses, Signing, Param, Write, OutOfMemory}
+use Rattle.denial_program.specs.declared.fault.DenialFault.TheVariants.{Usage, Read, Line, Unprepared, MixedClasses, Signing, Param, Write, OutOfMemory}
 use Rattle.judge_program.specs.Command.{Asks, IsCommand, IsNoCommand}
 use Rattle.judge_program.specs.Judged.{IsNotNsec3Judged, IsNsec3Judged, IsNsecJudged}
 use Rattle.judge_program.specs.Records.{nsec_below, IsNsec3Below}
@@ -88,6 +88,7 @@ abbrev pub TellsUsage : Tokens → DenialFault → Type 0
 TellsUsage words Usage = IsNoCommand words
 TellsUsage words Read = IsCommand words
 TellsUsage words (Line n) = IsCommand words
+TellsUsage words (Unprepared e) = Unit {0}
 TellsUsage words MixedClasses = IsCommand words
 TellsUsage words (Signing e) = IsCommand words
 TellsUsage words Param = IsCommand words

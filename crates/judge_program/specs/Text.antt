@@ -9,7 +9,7 @@ use Rattle.domain_answer.specs.declared.answer.Answer.{Answer}
 use Rattle.domain_answer.specs.declared.answer.Answer.TheVariants as answers
 use Rattle.denial_program.specs.FaultText.{fault_text}
 use Rattle.denial_program.specs.declared.fault.DenialFault.{DenialFault}
-use Rattle.denial_program.specs.declared.fault.DenialFault.TheVariants.{Usage, Read, Line, MixedClasses, Signing, Param, Write, OutOfMemory}
+use Rattle.denial_program.specs.declared.fault.DenialFault.TheVariants.{Usage, Read, Line, Unprepared, MixedClasses, Signing, Param, Write, OutOfMemory}
 use Rattle.judge_program.specs.declared.shown.Shown.{Shown}
 use Rattle.judge_program.specs.declared.shown.Shown.TheVariants as shows
 
@@ -71,6 +71,7 @@ judge_fault_text Usage =
     ++ codes "NAME TYPE [--labels N] [--limit ITERATIONS] [--why | --records]"
 judge_fault_text Read = fault_text Read
 judge_fault_text (Line n) = fault_text (Line n)
+judge_fault_text (Unprepared e) = fault_text (Unprepared e)
 judge_fault_text MixedClasses = fault_text MixedClasses
 judge_fault_text (Signing e) = fault_text (Signing e)
 judge_fault_text Param = fault_text Param

@@ -28,6 +28,7 @@ impl fmt::Display for JudgeFault {
     ghost output = { λ e. Some (judge_fault_text e.fault) };
 
     fn fmt<W: fmt::Write>(&self, f: &mut fmt::Formatter<W>) -> fmt::Result {
+        // The other half of each text stands in `judge_fault_text`, `specs/Text.antt`.
         match self.fault {
             DenialFault::Usage => f.write_str(USAGE),
             fault => write!(f, "{fault}"),

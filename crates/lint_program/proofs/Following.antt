@@ -1,5 +1,5 @@
 -- How far a reader has come, where it tells its octets.
-use Rattle.std.proofs.Common.{◌≡◌, ◌⊎◌, ℕ, ◌+◌, ◌<◌, List, [], ◌∷◌, ◌++◌, length, refl, ap, sym, ◌∙◌, subst, arith, inl, inr}
+use Rattle.std.proofs.Common.{◌≡◌, ℕ, ◌+◌, ◌<◌, List, [], ◌∷◌, ◌++◌, length, refl, ap, sym, ◌∙◌, subst, arith, inl, inr}
 use Rattle.std.proofs.Common.{Some, None, IfSome, Option, append-nil, append_assoc, length-append}
 use Rattle.std.specs.Str.Lines.{lines}
 use Rattle.std.specs.Io.BufRead.{take_through, drop_through, DropsThrough}
@@ -9,8 +9,9 @@ use Rattle.denial_program.specs.Fault.{IsReadingFault}
 use Rattle.denial_program.specs.Listing.{Give, IsBad, IsFirstBad, IsRecord}
 use Rattle.denial_program.specs.Words.{words, IsSkipped}
 use Rattle.denial_program.specs.declared.fault.DenialFault.{DenialFault}
-use Rattle.denial_program.specs.declared.fault.DenialFault.TheVariants.{Usage, Read, Line, MixedClasses, Signing, Param, Write, OutOfMemory}
-use Rattle.denial_program.proofs.Reading.{StaysKnown}
+use Rattle.denial_program.specs.declared.fault.DenialFault.TheVariants.{Usage, Read, Line, Unprepared, MixedClasses, Signing, Param, Write, OutOfMemory}
+use Rattle.denial_program.specs.declared.prepare.PrepareError.{PrepareError}
+use Rattle.denial_program.proofs.ReadingLemmas.{StaysKnown}
 use Rattle.lint_program.specs.Lines.{AreLinted}
 use Rattle.lint_program.proofs.LineLemmas.{line_once}
 
@@ -42,16 +43,17 @@ only_bad out n h = here h.before h.are
     here (b ∷ []) e = absurd (let n = ap length e in omega arith)
     here (b ∷ x ∷ before) e = absurd (let n = ap length e in omega arith)
 
--- a fault of reading is of a line, of the reader, or want of memory
-pub no_line : (e : DenialFault) → IsReadingFault e → ((n : ℕ) → e ≡ Line n → ⊥) → (e ≡ Read) ⊎ (e ≡ OutOfMemory)
-no_line Usage h none = absurd h
-no_line Read h none = inl refl
-no_line (Line n) h none = absurd (none n refl)
-no_line MixedClasses h none = absurd h
-no_line (Signing e) h none = absurd h
-no_line Param h none = absurd h
-no_line Write h none = absurd h
-no_line OutOfMemory h none = inr refl
+-- a fault of reading is of a line, of the reader, or want of memory for the records
+pub no_line : (e : DenialFault) → IsReadingFault e → ((n : ℕ) → e ≡ Line n → ⊥) → ((w : PrepareError) → e ≡ Unprepared w → ⊥) → e ≡ Read
+no_line Usage h none prepared = absurd h
+no_line Read h none prepared = refl
+no_line (Line n) h none prepared = absurd (none n refl)
+no_line (Unprepared w) h none prepared = absurd (prepared w refl)
+no_line MixedClasses h none prepared = absurd h
+no_line (Signing e) h none prepared = absurd h
+no_line Param h none prepared = absurd h
+no_line Write h none prepared = absurd h
+no_line OutOfMemory h none prepared = absurd h
 
 -- ---- all lines
 

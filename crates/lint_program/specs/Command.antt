@@ -3,7 +3,7 @@ use Rattle.std.specs.Prelude.{◌≡◌, ◌∷◌, []}
 use Rattle.domain_base.specs.Text.{NameText}
 use Rattle.domain_base.specs.Words.{Name, Token, Tokens}
 use Rattle.denial_program.specs.declared.fault.DenialFault.{DenialFault}
-use Rattle.denial_program.specs.declared.fault.DenialFault.TheVariants.{Usage, Read, Line, MixedClasses, Signing, Param, Write, OutOfMemory}
+use Rattle.denial_program.specs.declared.fault.DenialFault.TheVariants.{Usage, Read, Line, Unprepared, MixedClasses, Signing, Param, Write, OutOfMemory}
 
 -- the words are one, which spells the apex
 pub record Asks (words : Tokens) (apex : Name) : Type 0 where
@@ -23,6 +23,7 @@ abbrev pub IsRunFault : Tokens → DenialFault → Type 0
 IsRunFault words Usage = IsNoCommand words
 IsRunFault words Read = IsCommand words
 IsRunFault words (Line n) = ⊥
+IsRunFault words (Unprepared e) = ⊥
 IsRunFault words MixedClasses = ⊥
 IsRunFault words (Signing e) = ⊥
 IsRunFault words Param = ⊥

@@ -6,9 +6,9 @@ use Rattle.domain_octets.specs.Characters.{space, tilde}
 use Rattle.domain_base.specs.Words.{Name}
 use Rattle.domain_lent.specs.Data.{RawRecord}
 use Rattle.denial_program.specs.Answer.{HasNoNsecs, IsNsecs}
+use Rattle.denial_program.specs.Fault.{IsOfRecords}
 use Rattle.denial_program.specs.declared.answer.Answer.{Answer}
 use Rattle.denial_program.specs.declared.fault.DenialFault.{DenialFault}
-use Rattle.denial_program.specs.declared.fault.DenialFault.TheVariants.{OutOfMemory}
 use Rattle.lint_program.specs.Lines.{AreLinted}
 use Rattle.lint_program.specs.NoteText.{closing, opening}
 use Rattle.lint_program.specs.Notes.{fails, AreNoted, Mark}
@@ -67,7 +67,7 @@ AreNotes are_refused (mark ∷ more) text =
 -- the records have no NSEC chain, for which `denial` refuses them
 abbrev pub AreRefused : List RawRecord → Name → Type 0
 AreRefused records apex =
-    (fault : DenialFault) × (fault ≢ OutOfMemory) × HasNoNsecs records apex fault
+    (fault : DenialFault) × IsOfRecords fault × HasNoNsecs records apex fault
 
 -- they have one
 abbrev pub HaveChain : List RawRecord → Name → Type 0

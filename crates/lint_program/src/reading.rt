@@ -81,6 +81,7 @@ fn read_line<'a>(alloc: Global, arena: &'a Bump, line: &[u8]) -> Result<Line<'a>
         },
         Err(fault) => match fault {
             DenialFault::Line(_) => Ok(Line::Bad),
+            DenialFault::Unprepared(_) => Err(DenialFault::OutOfMemory),
             _ => Err(fault),
         },
     }

@@ -1,10 +1,8 @@
 use Rattle.std.proofs.Common.{List, refl, rules, subst}
 use Rattle.domain_zone.specs.View.{zone_of}
 use Rattle.domain_nsec.specs.Chain.{usual_config, IsChain, IsFaultless, IsFirstFault}
-use Rattle.domain_records.specs.Errors.{sort_error}
-use Rattle.domain_dnssec.specs.declared.chain.ChainError.TheVariants.{Signing, Sort}
+use Rattle.domain_dnssec.specs.declared.chain.ChainError.TheVariants.{OutOfMemory, Signing}
 use Rattle.domain_lent.specs.Data.{minimum_of, RawRecord}
-use Rattle.denial_program.proofs.AnswerLemmas.{given_one_class}
 use Rattle.denial_program.proofs.answer.nsecs_of.Goals as goal
 
 pub returns-in-Ok-clause-ok : goal.returns-in-Ok-clause-ok
@@ -24,9 +22,16 @@ returns-in-Ok-clause-ok c = λ given sorts. record {
   };
 }
 
+pub returns-in-Ok-clause-faultless : goal.returns-in-Ok-clause-faultless
+returns-in-Ok-clause-faultless c =
+    subst (λ (xs : List RawRecord). IsFaultless (zone_of (λ n. n) (λ d. d.rtype) minimum_of xs) c.args.apex.now usual_config) c.new_from_owned.ensures
+    (subst (λ config. IsFaultless (zone_of (λ n. n) (λ d. d.rtype) minimum_of c.new_from_owned.result) c.args.apex.now config)
+    c.new-config.ensures c.in-Ok.ensures.faultless)
+
 pub returns-in-Err : goal.returns-in-Err
 returns-in-Err c = record {
   ok = tt;
+  faultless = tt;
   err = λ given sorts. record {
     error = Signing c.in-Err.error;
     is = refl;
@@ -46,16 +51,20 @@ returns-in-Err c = record {
   memory = λ is. cc;
 }
 
-pub returns-in-Err-OutOfMemory-clause-err : goal.returns-in-Err-OutOfMemory-clause-err
-returns-in-Err-OutOfMemory-clause-err c = λ given sorts. record {
-  error = Sort sort_error;
-  is = refl;
-  none = given_one_class given c.args.sorted.now sorts c.requires.one_class;
-}
-
-pub returns-in-Err-OutOfMemory-clause-memory : goal.returns-in-Err-OutOfMemory-clause-memory
-returns-in-Err-OutOfMemory-clause-memory c = λ is.
+-- the zone has no fault
+faultless : (c : goal.In-Err-OutOfMemory) → IsFaultless (zone_of (λ n. n) (λ d. d.rtype) minimum_of c.args.sorted.now) c.args.apex.now usual_config
+faultless c =
     let zone = zone_of (λ n. n) (λ d. d.rtype) minimum_of c.new_from_owned.result in
     let first = subst (λ e. IsFirstFault zone c.args.apex.now c.new-config.result e) c.in-Err-OutOfMemory.field-0-is c.in-Err-OutOfMemory.ensures.fault in
     subst (λ (xs : List RawRecord). IsFaultless (zone_of (λ n. n) (λ d. d.rtype) minimum_of xs) c.args.apex.now usual_config) c.new_from_owned.ensures
     (subst (λ config. IsFaultless zone c.args.apex.now config) c.new-config.ensures first)
+
+pub returns-in-Err-OutOfMemory-clause-err : goal.returns-in-Err-OutOfMemory-clause-err
+returns-in-Err-OutOfMemory-clause-err c = λ given sorts. record {
+  error = OutOfMemory;
+  is = refl;
+  none = record { sorted = c.args.sorted.now; sorts = sorts; one_class = c.requires.one_class; faultless = faultless c };
+}
+
+pub returns-in-Err-OutOfMemory-clause-memory : goal.returns-in-Err-OutOfMemory-clause-memory
+returns-in-Err-OutOfMemory-clause-memory c = λ is. faultless c

@@ -1,7 +1,10 @@
-use Rattle.std.proofs.Common.{List, sym, subst, inr}
-use Rattle.domain_lent.specs.Data.{RawRecord}
-use Rattle.denial_program.specs.Answer.{HasNoNsec3s, IsNsec3s, IsUnwritten, Sorts}
-use Rattle.denial_program.proofs.AnswerLemmas.{if_err_of, nsec3s_unwritten, nsec3s_want_memory, on_ok}
+use Rattle.std.proofs.Common.{◌≡◌, List, sym, subst, inr}
+use Rattle.domain_zone.specs.View.{zone_of}
+use Rattle.domain_nsec3.specs.Faults.{IsReady}
+use Rattle.domain_lent.specs.Data.{minimum_of, RawRecord}
+use Rattle.domain_records.specs.Order.{IsOneClass}
+use Rattle.denial_program.specs.Answer.{usual_nsec3_config, HasNoNsec3s, IsNsec3s, IsUnwritten, Sorts}
+use Rattle.denial_program.proofs.AnswerLemmas.{if_err_of, nsec3s_unready, nsec3s_unwritten, on_ok, unlaid}
 use Rattle.denial_program.proofs.answer.write_nsec3s_of.Goals as goal
 
 pub returns-in_err-answer-clause-err : goal.returns-in_err-answer-clause-err
@@ -10,7 +13,7 @@ returns-in_err-answer-clause-err g c =
     let p = c.args.parameters in
     let given = c.args.records.items in
     let sorts = subst (λ (xs : List RawRecord). Sorts given xs) (sym c.deref.ensures.value) c.in_ok-sorted.ensures.sorts in
-    let none = subst (λ apex. HasNoNsec3s answers given apex p c.in_err-answer.field-0.0) c.in_ok-apex.ensures (c.in_err-answer.ensures.err given sorts) in
+    let none = subst (λ apex. HasNoNsec3s answers given apex p c.in_err-answer.field-0.0) c.in_ok-apex.ensures.ok (c.in_err-answer.ensures.err given sorts) in
     if_err_of (IsUnwritten (IsNsec3s answers given c.args.apex.now p) (HasNoNsec3s answers given c.args.apex.now p))
     c.in_err-answer.field-0.0 c.from_residual-in_err-answer.result c.from_residual-in_err-answer.ensures.1 (inr none)
 
@@ -20,7 +23,7 @@ returns-clause-ok g c =
     let p = c.args.parameters in
     let given = c.args.records.items in
     let sorts = subst (λ (xs : List RawRecord). Sorts given xs) (sym c.deref.ensures.value) c.in_ok-sorted.ensures.sorts in
-    let is = subst (λ apex. IsNsec3s answers given apex p c.in_ok-answer.answer) c.in_ok-apex.ensures (c.in_ok-answer.ensures.ok given sorts) in
+    let is = subst (λ apex. IsNsec3s answers given apex p c.in_ok-answer.answer) c.in_ok-apex.ensures.ok (c.in_ok-answer.ensures.ok given sorts) in
     on_ok (λ appends. record { answer = c.in_ok-answer.answer; is = is; appends = appends }) c.send.result c.send.ensures.ok
 
 pub returns-clause-err : goal.returns-clause-err
@@ -28,12 +31,25 @@ returns-clause-err g c =
     let answers = g.H.Nsec3Hasher.answer c.args.hasher.now in
     let p = c.args.parameters in
     let given = c.args.records.items in
-    let sorts = subst (λ (xs : List RawRecord). Sorts given xs) (sym c.deref.ensures.value) c.in_ok-sorted.ensures.sorts in
-    let is = subst (λ apex. IsNsec3s answers given apex p c.in_ok-answer.answer) c.in_ok-apex.ensures (c.in_ok-answer.ensures.ok given sorts) in
-    nsec3s_unwritten answers given c.args.apex.now p c.in_ok-answer.answer is c.send.result c.send.ensures.err
+    let sorted = c.deref.result.now in
+    let same : c.in_ok-sorted.sorted.items ≡ sorted = sym c.deref.ensures.value in
+    let sorts = subst (λ (xs : List RawRecord). Sorts given xs) same c.in_ok-sorted.ensures.sorts in
+    let one = subst (λ (xs : List RawRecord). IsOneClass xs) same c.in_ok-sorted.ensures.one_class in
+    let is = subst (λ apex. IsNsec3s answers given apex p c.in_ok-answer.answer) c.in_ok-apex.ensures.ok (c.in_ok-answer.ensures.ok given sorts) in
+    let ready = subst (λ apex. IsReady (zone_of (λ n. n) (λ d. d.rtype) minimum_of sorted) apex (usual_nsec3_config answers p)) c.in_ok-apex.ensures.ok
+    c.in_ok-answer.ensures.ready in
+    nsec3s_unwritten answers given sorted c.args.apex.now p c.in_ok-answer.answer is sorts one ready c.send.result c.send.ensures.err
+
+pub returns-in_err-sorted-clause-err : goal.returns-in_err-sorted-clause-err
+returns-in_err-sorted-clause-err g c =
+    nsec3s_unready (g.H.Nsec3Hasher.answer c.args.hasher.now) c.args.records.items c.args.apex.now c.args.parameters
+    c.in_err-sorted.field-0.0 c.in_err-sorted.ensures.err
+    c.from_residual.result c.from_residual.ensures.1
 
 pub returns-in_err-apex-clause-err : goal.returns-in_err-apex-clause-err
 returns-in_err-apex-clause-err g c =
-    nsec3s_want_memory (g.H.Nsec3Hasher.answer c.args.hasher.now) c.args.records.items c.in_ok-sorted.sorted.items c.args.apex.now
-    c.args.parameters c.in_ok-sorted.ensures.sorts c.in_ok-sorted.ensures.one_class c.from_residual-in_err-apex.result
-    c.from_residual-in_err-apex.ensures.1
+    nsec3s_unready (g.H.Nsec3Hasher.answer c.args.hasher.now) c.args.records.items c.args.apex.now c.args.parameters
+    c.in_err-apex.field-0.0
+    (unlaid c.args.records.items c.in_ok-sorted.sorted.items c.in_ok-sorted.ensures.sorts c.in_ok-sorted.ensures.one_class
+    c.in_err-apex.field-0.0 c.in_err-apex.ensures.err)
+    c.from_residual-in_err-apex.result c.from_residual-in_err-apex.ensures.1

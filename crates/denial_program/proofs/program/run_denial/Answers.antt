@@ -1,11 +1,12 @@
 use Rattle.std.proofs.Common.{map, string_bytes}
 use Rattle.std.specs.Str.Lines.{lines}
 use Rattle.std.specs.Io.KnownBytes.{Appends}
-use Rattle.denial_program.specs.Answer.{Answers}
+use Rattle.denial_program.specs.Answer.{Answers, GivesNoAnswer}
 use Rattle.denial_program.specs.Listing.{Give}
 use Rattle.denial_program.specs.Text.{answer_text}
 use Rattle.denial_program.specs.declared.answer.Answer.{Answer}
-use Rattle.denial_program.proofs.AnswerLemmas.{answer_unwritten, on_ok}
+use Rattle.denial_program.specs.declared.fault.DenialFault.TheVariants.{OutOfMemory}
+use Rattle.denial_program.proofs.AnswerLemmas.{answer_memory, answer_unwritten, on_ok}
 use Rattle.denial_program.proofs.LineReading.{known_so}
 use Rattle.denial_program.proofs.program.run_denial.Goals as goal
 
@@ -36,4 +37,20 @@ returns-clause-write g c = λ is.
       there.0,
       record { command = c.in_ok-command.command; given = c.in_ok-records.records.items; asks = c.in_ok-command.ensures.ok; gives = gives; is = there.1 },
     ))
+    c.in_ok-records.ensures.ok
+
+pub returns-clause-memory : goal.returns-clause-memory
+returns-clause-memory g c = λ is.
+    let answers = g.H.Nsec3Hasher.answer c.args.hasher.now in
+    let none = answer_memory answers c.in_ok-command.command c.in_ok-records.records.items c.write_answer.result c.write_answer.ensures.err is in
+    known_so (λ bytes. Give (lines bytes) c.in_ok-records.records.items)
+    (λ bytes. GivesNoAnswer answers (map string_bytes c.args.words.now) (lines bytes) OutOfMemory)
+    (g.R.Read.remaining c.args.input.now)
+    (λ bytes gives. record {
+      command = c.in_ok-command.command;
+      given = c.in_ok-records.records.items;
+      asks = c.in_ok-command.ensures.ok;
+      gives = gives;
+      none = none;
+    })
     c.in_ok-records.ensures.ok

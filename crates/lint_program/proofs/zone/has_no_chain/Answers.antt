@@ -30,7 +30,7 @@ returns-in-Ok-clause-ok c = λ given sorts. (
 pub returns-in-Err-clause-ok : goal.returns-in-Err-clause-ok
 returns-in-Err-clause-ok c = λ given sorts. (
   Signing c.in-Err._error,
-  (λ w. cc),
+  tt,
   record {
     error = chain_error.Signing c.in-Err._error;
     is = refl;

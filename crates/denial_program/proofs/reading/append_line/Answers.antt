@@ -2,9 +2,9 @@ use Rattle.std.proofs.Common.{◌≡◌, ◌+◌, ◌<◌, ◌++◌, length, tak
 use Rattle.std.specs.Io.BufRead.{take_through, DropsThrough, FillKeeps}
 use Rattle.std.proofs.BufReadLemmas.{Consumes_shown}
 use Rattle.denial_program.proofs.LineReading.{known_so, line_taken}
-use Rattle.denial_program.proofs.program.append_line.Given.{Over}
-use Rattle.denial_program.proofs.program.append_line.Goals.{After-consume}
-use Rattle.denial_program.proofs.program.append_line.Goals as goal
+use Rattle.denial_program.proofs.reading.append_line.Given.{Over}
+use Rattle.denial_program.proofs.reading.append_line.Goals.{After-consume}
+use Rattle.denial_program.proofs.reading.append_line.Goals as goal
 
 -- the octets that the reader held up to the first line feed were taken
 found : (g : Over) (c : After-consume g) →

@@ -1,5 +1,5 @@
-use Rattle.denial_program.proofs.Reading.{known_start, known_next, known_end}
-use Rattle.denial_program.proofs.program.skip_all.Goals as goal
+use Rattle.denial_program.proofs.ReadingLemmas.{known_start, known_next, known_end}
+use Rattle.denial_program.proofs.reading.skip_all.Goals as goal
 
 pub loop-init : goal.loop-init
 loop-init g c = known_start (g.R.Read.remaining c.args.input.now)

@@ -1,12 +1,10 @@
-use Rattle.std.proofs.Common.{List, refl, ◌∙◌, sym, subst}
+use Rattle.std.proofs.Common.{List, refl, ◌∙◌, sym, subst, inr}
 use Rattle.domain_lent.specs.Data.{RawRecord, data_cmp}
 use Rattle.domain_records.specs.Order.{IsInOrder, IsOneClass}
 use Rattle.domain_records.proofs.OrderLemmas.{in_order_from_sorted}
-use Rattle.domain_records.specs.Errors.{sort_error}
-use Rattle.domain_dnssec.specs.declared.chain.ChainError.TheVariants.{Sort}
 use Rattle.denial_program.specs.Answer.{Sorts}
 use Rattle.denial_program.proofs.AnswerLemmas.{sorted_one_class}
-use Rattle.denial_program.proofs.answer.sort_zone.Goals as goal
+use Rattle.denial_program.proofs.prepare.sort_zone.Goals as goal
 
 pub returns-clause-sorts : goal.returns-clause-sorts
 returns-clause-sorts c =
@@ -28,11 +26,8 @@ returns-clause-in_order c =
     (in_order_from_sorted (λ n. n) (λ d. d.rtype) data_cmp c.in-Ok.sorted c.into_inner.ensures.sorted (one_class c))
 
 -- where the sort was refused, what was given is of one class
-given_one : (c : goal.In-Err) → IsOneClass c.args.records.items
-given_one c = subst (λ (xs : List RawRecord). IsOneClass xs) (c.new_from_owned.ensures ∙ c.as_slice.ensures.value) (c.if-not-is_one_class.ensures.0 refl)
-
-pub returns-in-Err-clause-none : goal.returns-in-Err-clause-none
-returns-in-Err-clause-none c = λ apex. record { error = Sort sort_error; is = refl; none = given_one c }
-
-pub returns-in-Err-clause-none_hashed : goal.returns-in-Err-clause-none_hashed
-returns-in-Err-clause-none_hashed c = λ answers apex p. record { error = Sort sort_error; is = refl; none = given_one c }
+pub returns-in-Err-clause-err : goal.returns-in-Err-clause-err
+returns-in-Err-clause-err c = inr (
+  c.unprepared.ensures,
+  subst (λ (xs : List RawRecord). IsOneClass xs) (c.new_from_owned.ensures ∙ c.as_slice.ensures.value) (c.if-not-is_one_class.ensures.0 refl),
+)

@@ -2,10 +2,10 @@ use Rattle.std.proofs.Common.{◌≡◌, ◌+◌, ◌<◌, [], ◌∷◌, arith,
 use Rattle.std.specs.Str.Lines.{lines}
 use Rattle.denial_program.specs.Listing.{IsFirstBad}
 use Rattle.denial_program.specs.Said.{Says}
-use Rattle.denial_program.proofs.Reading.{follows_end, follows_next, follows_skip, follows_record, follows_bad}
-use Rattle.denial_program.proofs.Reading.{Follows, known_line, known_next, known_end, known_after}
-use Rattle.denial_program.proofs.program.read_records.Goals as goal
-use Rattle.denial_program.proofs.program.read_records.Goals.{in-Nothing, in-Record+in_ok-push-in-Record}
+use Rattle.denial_program.proofs.ReadingLemmas.{follows_end, follows_next, follows_skip, follows_record, follows_bad}
+use Rattle.denial_program.proofs.ReadingLemmas.{Follows, known_line, known_next, known_end, known_after}
+use Rattle.denial_program.proofs.reading.read_lines.Goals as goal
+use Rattle.denial_program.proofs.reading.read_lines.Goals.{in-Nothing, in-Record+in_ok-push-in-Record}
 
 pub returns-then-count-eq0-clause-ok : goal.returns-then-count-eq0-clause-ok
 returns-then-count-eq0-clause-ok g c =

@@ -1,5 +1,5 @@
-use Rattle.denial_program.proofs.Reading.{Follows}
-use Rattle.denial_program.proofs.program.read_records.Given as goal
+use Rattle.denial_program.proofs.ReadingLemmas.{Follows}
+use Rattle.denial_program.proofs.reading.read_lines.Given as goal
 
 abbrev pub invariant-loop-number : goal.invariant-loop-number
 invariant-loop-number g l = Follows (g.R.Read.remaining l.fn.input) (g.R.Read.remaining l.input) l.records.items l.number

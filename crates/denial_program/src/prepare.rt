@@ -1,0 +1,144 @@
+//! What is made ready before anything is asked of the records: the command, and the records, read
+//! and sorted.
+//!
+//! Want of memory for these says nothing of the zone, and is told as `Unprepared`, whose value only
+//! this module makes. So who makes a chain has to answer `OutOfMemory` for the memory that it takes
+//! itself, and that says that the zone has no fault.
+ghost use Rattle.std.specs.Prelude.{◌≡◌, ◌⊎◌, ℕ, IfErr, IfOk, IfSome, IsErrOf, MatchResult, map, string_bytes};
+ghost use Rattle.std.specs.Str.Lines.{lines};
+ghost use Rattle.domain_records.specs.Order.{IsInOrder, IsOneClass};
+ghost use Rattle.denial_program.specs.Answer.{IsUnsorted, Sorts};
+ghost use Rattle.denial_program.specs.Command.{Asks, IsNoCommand};
+ghost use Rattle.denial_program.specs.Fault.{IsAfterInput, IsReadingFault, IsReadToEnd, prepare_error};
+ghost use Rattle.denial_program.specs.Listing.{Give, IsFirstBad};
+
+use crate::arena::{lay_owners, store_name};
+use crate::command::{Command, command_of};
+use crate::fault::DenialFault;
+use crate::line::ZoneName;
+use crate::reading::read_lines;
+use bumpalo::Bump;
+use domain_base::ParsedName;
+use domain_dnssec::{RecordsIter, SortedRecords};
+use domain_lent::{LentData, LentRecord};
+use domain_octets::OutOfMemory;
+use std::alloc::Global;
+use std::io::BufRead;
+
+/// There was no memory to make ready what a run is about. Only this module makes it, so that
+/// whoever has one has seen that refused.
+#[derive(Clone, Copy, Debug, PartialEq, Eq)]
+pub struct PrepareError {
+    reason: OutOfMemory,
+}
+
+/// That there was no memory to make ready what a run is about.
+fn unprepared() -> DenialFault
+    ensures { result ≡ DenialFault.Unprepared prepare_error }
+{
+    DenialFault::Unprepared(PrepareError {
+        reason: OutOfMemory,
+    })
+}
+
+/// What the words after the program's name ask for.
+///
+/// # Errors
+///
+/// `Usage` exactly where they are no command, and `Unprepared`.
+pub fn read_command(alloc: Global, words: &[String]) -> Result<Command, DenialFault>
+    ensures ok { IfOk result (Asks (map string_bytes words.now)) }
+    ensures err { IfErr result (λ e.
+        ((e ≡ DenialFault.Usage) × IsNoCommand (map string_bytes words.now))
+        ⊎ (e ≡ DenialFault.Unprepared prepare_error)) }
+{
+    match command_of(alloc, words) {
+        Ok(command) => Ok(command),
+        Err(DenialFault::OutOfMemory) => Err(unprepared()),
+        Err(fault) => Err(fault),
+    }
+}
+
+/// The records of the lines that are left, with their octets in the arena.
+///
+/// # Errors
+///
+/// `Read` where the input could not be read; `Line` of the lowest line that is no record; and
+/// `Unprepared`.
+pub fn read_records<'a, R: BufRead>(
+    alloc: Global,
+    arena: &'a Bump,
+    input: &mut R,
+) -> Result<Vec<LentRecord<'a>>, DenialFault>
+    ensures ok { IfOk result (λ v.
+        IfSome (R.remaining input.old) (λ all. Give (lines all) v.items)) }
+    ensures err { IfErr result IsReadingFault }
+    ensures line { (n : ℕ) → IsErrOf result (DenialFault.Line n)
+        → IfSome (R.remaining input.old) (λ all. IsFirstBad (lines all) n) }
+    ensures end { MatchResult result
+        (λ _. IsReadToEnd (R.remaining input.old) (R.remaining input.new))
+        (λ e. IsAfterInput e
+        → IsReadToEnd (R.remaining input.old) (R.remaining input.new)) }
+{
+    match read_lines(alloc, arena, input) {
+        Ok(records) => Ok(records),
+        Err(DenialFault::OutOfMemory) => Err(unprepared()),
+        Err(fault) => Err(fault),
+    }
+}
+
+/// The records, sorted.
+///
+/// # Errors
+///
+/// `MixedClasses` where the records are not of one class, and else `Unprepared`.
+pub fn sort_zone<'a>(records: Vec<LentRecord<'a>>) -> Result<Vec<LentRecord<'a>>, DenialFault>
+    ensures sorts { IfOk result (λ sorted. Sorts records.entry.items sorted.items) }
+    ensures one_class { IfOk result (λ sorted. IsOneClass sorted.items) }
+    ensures in_order { IfOk result (λ sorted. IsInOrder (λ n. n) (λ d. d.rtype) sorted.items) }
+    ensures err { IfErr result (IsUnsorted records.entry.items) }
+{
+    if !RecordsIter::new_from_owned(records.as_slice()).is_one_class() {
+        return Err(DenialFault::MixedClasses);
+    }
+    let sorted: SortedRecords<ParsedName<'a>, LentData<'a>> = match SortedRecords::from_vec(
+        records,
+    ) {
+        Ok(sorted) => sorted,
+        Err(_) => return Err(unprepared()),
+    };
+    Ok(sorted.into_inner())
+}
+
+/// A copy of the apex in the arena.
+///
+/// # Errors
+///
+/// `Unprepared`.
+pub fn lay_apex<'a>(arena: &'a Bump, apex: &ZoneName) -> Result<ParsedName<'a>, DenialFault>
+    ensures ok { IfOk result (λ copy. copy ≡ apex.now) }
+    ensures err { IfErr result (λ e. e ≡ DenialFault.Unprepared prepare_error) }
+{
+    match store_name(arena, apex) {
+        Ok(copy) => Ok(copy),
+        Err(_) => Err(unprepared()),
+    }
+}
+
+/// The records, with the octets of their owners laid into the arena once more, in order.
+///
+/// # Errors
+///
+/// `Unprepared`.
+pub fn lay_zone<'a>(
+    arena: &'a Bump,
+    sorted: Vec<LentRecord<'a>>,
+) -> Result<Vec<LentRecord<'a>>, DenialFault>
+    ensures ok { IfOk result (λ laid. laid.items ≡ sorted.entry.items) }
+    ensures err { IfErr result (λ e. e ≡ DenialFault.Unprepared prepare_error) }
+{
+    match lay_owners(arena, sorted) {
+        Ok(laid) => Ok(laid),
+        Err(_) => Err(unprepared()),
+    }
+}
