@@ -17,8 +17,9 @@
  * written to or freed, but for the numbers at `labels` and `count`, the pointer at `text` and the
  * octets at `chain`, which are written. Nothing is handed out that must be freed.
  *
- * Pointers. No pointer may be null, not even with a length of 0. `labels`, `count` and `chain` point to
- * no octet that another pointer reaches. No length may be over PTRDIFF_MAX.
+ * Pointers. Octets of length 0 may be null, and so may `labels` and `count`; no other pointer may. `labels`,
+ * `count` and `chain` point to no octet that another pointer reaches. No length may be over PTRDIFF_MAX. Who
+ * calls what the library exports from another language than C or C++ hands in no null pointer at all.
  *
  * Threads. There is no state: calls may run at the same time in any threads.
  */
@@ -438,6 +439,124 @@ static inline int denial_each_record(const uint8_t *chain, size_t length,
     }
     return answer;
 }
+
+/*
+ * What the library exports takes no null pointer. In C and C++ the calls above go through the functions
+ * below, which hand it a number or an octet of their own in the place of one: so octets of length 0 may be
+ * null, and so may `labels` and `count`, where nothing is written then.
+ */
+static inline const uint8_t *denial_octets(const uint8_t *octets)
+{
+    static const uint8_t none[1] = {0};
+
+    return octets != NULL ? octets : none;
+}
+
+static inline uint32_t denial_judge_nsec_or_null(const uint8_t *apex, size_t apex_length,
+                                                 const uint8_t *name, size_t name_length,
+                                                 uint16_t rtype, uint16_t rclass,
+                                                 const uint8_t *records, size_t records_length,
+                                                 size_t *labels)
+{
+    size_t number = 0;
+
+    return denial_judge_nsec(denial_octets(apex), apex_length, denial_octets(name), name_length, rtype,
+                             rclass, denial_octets(records), records_length,
+                             labels != NULL ? labels : &number);
+}
+
+static inline uint32_t denial_judge_nsec3_or_null(const uint8_t *apex, size_t apex_length,
+                                                  const uint8_t *name, size_t name_length,
+                                                  uint16_t rtype, uint16_t rclass, uint16_t limit,
+                                                  const uint8_t *records, size_t records_length,
+                                                  size_t *labels)
+{
+    size_t number = 0;
+
+    return denial_judge_nsec3(denial_octets(apex), apex_length, denial_octets(name), name_length, rtype,
+                              rclass, limit, denial_octets(records), records_length,
+                              labels != NULL ? labels : &number);
+}
+
+static inline uint32_t denial_judge_nsec3_expansion_or_null(const uint8_t *apex, size_t apex_length,
+                                                            const uint8_t *name, size_t name_length,
+                                                            uint8_t rrsig_labels, uint16_t rclass,
+                                                            uint16_t limit, const uint8_t *records,
+                                                            size_t records_length, size_t *labels)
+{
+    size_t number = 0;
+
+    return denial_judge_nsec3_expansion(denial_octets(apex), apex_length, denial_octets(name),
+                                        name_length, rrsig_labels, rclass, limit,
+                                        denial_octets(records), records_length,
+                                        labels != NULL ? labels : &number);
+}
+
+static inline uint32_t denial_check_nsec_or_null(const uint8_t *apex, size_t apex_length,
+                                                 const uint8_t *name, size_t name_length,
+                                                 uint16_t rtype, uint16_t rclass,
+                                                 const uint8_t *records, size_t records_length,
+                                                 size_t *labels)
+{
+    size_t number = 0;
+
+    return denial_check_nsec(denial_octets(apex), apex_length, denial_octets(name), name_length, rtype,
+                             rclass, denial_octets(records), records_length,
+                             labels != NULL ? labels : &number);
+}
+
+static inline uint32_t denial_check_nsec3_or_null(const uint8_t *apex, size_t apex_length,
+                                                  const uint8_t *name, size_t name_length,
+                                                  uint16_t rtype, uint16_t rclass,
+                                                  const uint8_t *records, size_t records_length,
+                                                  size_t *labels)
+{
+    size_t number = 0;
+
+    return denial_check_nsec3(denial_octets(apex), apex_length, denial_octets(name), name_length, rtype,
+                              rclass, denial_octets(records), records_length,
+                              labels != NULL ? labels : &number);
+}
+
+static inline uint32_t denial_nsec_chain_or_null(const uint8_t *apex, size_t apex_length,
+                                                 uint16_t rclass, bool assume_dnskey,
+                                                 bool occlude_below_dname, const uint8_t *records,
+                                                 size_t records_length, uint8_t *chain,
+                                                 size_t chain_length, size_t *count)
+{
+    uint8_t octet = 0;
+    size_t number = 0;
+
+    return denial_nsec_chain(denial_octets(apex), apex_length, rclass, assume_dnskey,
+                             occlude_below_dname, denial_octets(records), records_length,
+                             chain != NULL ? chain : &octet, chain_length,
+                             count != NULL ? count : &number);
+}
+
+static inline uint32_t denial_nsec3_chain_or_null(const uint8_t *apex, size_t apex_length,
+                                                  uint16_t rclass, bool assume_dnskey,
+                                                  bool occlude_below_dname, uint16_t iterations,
+                                                  const uint8_t *salt, size_t salt_length, bool opt_out,
+                                                  const uint8_t *records, size_t records_length,
+                                                  uint8_t *chain, size_t chain_length, size_t *count)
+{
+    uint8_t octet = 0;
+    size_t number = 0;
+
+    return denial_nsec3_chain(denial_octets(apex), apex_length, rclass, assume_dnskey,
+                              occlude_below_dname, iterations, denial_octets(salt), salt_length,
+                              opt_out, denial_octets(records), records_length,
+                              chain != NULL ? chain : &octet, chain_length,
+                              count != NULL ? count : &number);
+}
+
+#define denial_judge_nsec(...) denial_judge_nsec_or_null(__VA_ARGS__)
+#define denial_judge_nsec3(...) denial_judge_nsec3_or_null(__VA_ARGS__)
+#define denial_judge_nsec3_expansion(...) denial_judge_nsec3_expansion_or_null(__VA_ARGS__)
+#define denial_check_nsec(...) denial_check_nsec_or_null(__VA_ARGS__)
+#define denial_check_nsec3(...) denial_check_nsec3_or_null(__VA_ARGS__)
+#define denial_nsec_chain(...) denial_nsec_chain_or_null(__VA_ARGS__)
+#define denial_nsec3_chain(...) denial_nsec3_chain_or_null(__VA_ARGS__)
 
 #ifdef __cplusplus
 }

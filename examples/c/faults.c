@@ -611,6 +611,43 @@ static void try_short_of_memory(void)
     refuse_each_request(judge_expansion, "expansions, short of memory", &nsec3s);
 }
 
+/* Null in the place of octets of length 0, and of what is written. */
+static void try_null(void)
+{
+    struct octets apex = {{0}, 0}, chain = {{0}, 0}, zone = {{0}, 0}, soa = {{0}, 0};
+    uint8_t made[256];
+    size_t labels = 999, count = 999;
+    uint32_t answer;
+
+    put_name(&apex, "a.");
+    put_chain(&chain);
+    put_number(&soa, 0, 20);
+    put_number(&soa, 300, 4);
+    put_record(&zone, "a.", SOA, IN, &soa);
+    answer = denial_judge_nsec(apex.at, apex.length, apex.at, apex.length, A, IN, NULL, 0, &labels);
+    expect("no records", answer, labels, DENIAL_JUDGED_NOT_PROVEN, 0);
+    expect("no labels", denial_judge_nsec(apex.at, apex.length, apex.at, apex.length, MX, IN, chain.at, chain.length, NULL),
+           0, DENIAL_JUDGED_NO_DATA, 0);
+    expect("no labels", denial_check_nsec(apex.at, apex.length, apex.at, apex.length, SOA, IN, chain.at, chain.length, NULL),
+           0, DENIAL_HAS, 0);
+    expect("no apex", denial_check_nsec(NULL, 0, apex.at, apex.length, A, IN, NULL, 0, NULL), 0, DENIAL_BAD_APEX, 0);
+    expect("no name", denial_check_nsec3(apex.at, apex.length, NULL, 0, A, IN, NULL, 0, NULL), 0, DENIAL_BAD_NAME, 0);
+    expect("no records", denial_judge_nsec3(apex.at, apex.length, apex.at, apex.length, A, IN, 0, NULL, 0, NULL), 0,
+           DENIAL_NO_PARAM, 0);
+    expect("no records", denial_judge_nsec3_expansion(apex.at, apex.length, apex.at, apex.length, 0, IN, 0, NULL, 0, NULL), 0,
+           DENIAL_NO_PARAM, 0);
+    expect("no buffer", denial_nsec_chain(apex.at, apex.length, IN, true, false, zone.at, zone.length, NULL, 0, &count), 0,
+           DENIAL_SHORT_BUFFER, 0);
+    expect("no count", denial_nsec_chain(apex.at, apex.length, IN, true, false, zone.at, zone.length, made, count, NULL), 0,
+           DENIAL_CHAIN_MADE, 0);
+    expect("no salt, no count",
+           denial_nsec3_chain(apex.at, apex.length, IN, true, false, 0, NULL, 0, false, zone.at, zone.length, made,
+                              sizeof made, NULL), 0, DENIAL_CHAIN_MADE, 0);
+    expect("no records of a zone",
+           denial_nsec3_chain(apex.at, apex.length, IN, true, false, 0, NULL, 0, false, NULL, 0, NULL, 0, NULL), 0,
+           DENIAL_NO_SINGLE_SOA, 0);
+}
+
 /* Cuts the octets at each place: only between two records are they still records. */
 static void try_cuts(void)
 {
@@ -768,6 +805,7 @@ int main(void)
     try_nsec3_faults(judge_expansion, "x.a.", 1, DENIAL_JUDGED_NO_CLOSER_NAME, 1);
     try_without_memory();
     try_short_of_memory();
+    try_null();
     try_cuts();
     try_chains();
     puts(failures == 0 ? "same: verdicts, answers, chains, texts, faults and cuts" : "differs: see above");
