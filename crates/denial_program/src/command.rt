@@ -113,7 +113,11 @@ fn nsec_command(alloc: Global, words: &[String]) -> Result<Command, DenialFault>
 }
 
 /// The parameters with these iterations, this salt, and the flags that a last word asks for.
-fn parameters_of(
+///
+/// # Errors
+///
+/// `Usage` where one of the words spells no such thing; and `OutOfMemory`.
+pub fn parameters_of(
     alloc: Global,
     iterations: &str,
     salt: &str,

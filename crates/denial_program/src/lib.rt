@@ -20,7 +20,7 @@ mod reading;
 mod verdict_text;
 
 pub use check::chain_of;
-pub use command::{Question, question_of};
+pub use command::{Nsec3Params, Question, parameters_of, question_of};
 pub use fault::{DenialFault, fault_of};
 pub use line::{ZoneName, ZoneOctets};
 pub use prepare::{PrepareError, read_records, sort_zone};
