@@ -1,14 +1,14 @@
 //! A set of types to its bitmap, and back.
 ghost use Rattle.std.specs.Prelude.{◌≡◌, ◌<◌, ◌==◌, ◌||◌, ℕ, IfOk};
-ghost use Rattle.domain_dnssec.specs.Blocks.{contains_type};
+ghost use Rattle.domain_bitmap.specs.Blocks.{contains_type};
 
-use domain_dnssec::laws::built_bitmaps_give_their_types;
+use domain_bitmap::laws;
 use domain_dnssec::{AppendError, Error, Rtype, RtypeBitmap, RtypeBitmapBuilder};
 use std::alloc::Global;
 use std::fmt::Write;
 
 /// The bitmap of two types.
-#[tactic(auto, unfolding(domain_dnssec::specs::Builder::holds))]
+#[tactic(auto, unfolding(domain_bitmap::specs::Builder::holds))]
 fn pair(alloc: Global, first: Rtype, second: Rtype) -> Result<RtypeBitmap<Vec<u8>>, AppendError>
     ensures { IfOk result (λ bitmap. (t : ℕ) → t < 65536
         → contains_type bitmap t ≡ (t == second || t == first)) }
@@ -16,7 +16,7 @@ fn pair(alloc: Global, first: Rtype, second: Rtype) -> Result<RtypeBitmap<Vec<u8
     let mut builder = RtypeBitmapBuilder::new_vec(alloc);
     builder.add(first)?;
     builder.add(second)?;
-    built_bitmaps_give_their_types();
+    laws::built_bitmaps_give_their_types();
     Ok(builder.finalize())
 }
 

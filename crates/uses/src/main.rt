@@ -1,6 +1,7 @@
 //! Twelve uses of the library, each a proved function that calls it, with what it prints.
 //!
-//! `docs/GUIDE.md` quotes them. A program names `domain_dnssec`, which hands on what it needs.
+//! `docs/GUIDE.md` quotes them. A program names `domain_dnssec`, which hands on what it needs; the
+//! use with a bitmap names `domain_bitmap` too.
 #![tactic(auto)]
 
 mod answer;
