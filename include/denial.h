@@ -184,7 +184,9 @@ enum denial_answer {
     DENIAL_NO_SINGLE_SOA = 23,
 
     /* Two records of one owner of the chain and one type other than RRSIG differ in their TTLs (RFC
-     * 2181, section 5.2). */
+     * 2181, section 5.2). With the offset of a record: of those of its owner and type the first that has
+     * another TTL than the ones before it. Of several owners with such records it is of the first in
+     * canonical order, and of several types of the least. */
     DENIAL_UNEQUAL_TTLS = 24,
 
     /* The buffer is too small. With the number of octets that the chain has. */
@@ -378,7 +380,9 @@ uint32_t denial_check_nsec3(const uint8_t *apex, size_t apex_length,
  *
  *   DENIAL_BAD_APEX
  *   DENIAL_BAD_RECORDS, DENIAL_OTHER_CLASS   whichever comes first in the octets, with its offset.
- *   DENIAL_NO_SINGLE_SOA, DENIAL_UNEQUAL_TTLS
+ *   DENIAL_NO_SINGLE_SOA
+ *   DENIAL_UNEQUAL_TTLS                      with the offset of a record that has another TTL than the ones
+ *                                            before it of its owner and type.
  *   DENIAL_SHORT_BUFFER                      the chain has so many octets. A buffer of length 0 asks for
  *                                            that number.
  *

@@ -740,7 +740,7 @@ static void try_chains(void)
     put_record(&zone, "b.a.", A, IN, &host);
     put_record(&zone, "a.", SOA, IN, &soa);
     for (is_hashed = 0; is_hashed < 2; is_hashed++) {
-        size_t length = is_hashed ? 179 : 53;
+        size_t length = is_hashed ? 179 : 53, later;
 
         try_chain(is_hashed, &apex, &zone, 0, length, DENIAL_CHAIN_MADE, length);
         try_chain(is_hashed, &apex, &zone, 0, 1024, DENIAL_CHAIN_MADE, length);
@@ -759,7 +759,17 @@ static void try_chains(void)
         host.at[3]++;
         put_record(&other, "b.a.", A, IN, &host);
         other.at[other.length - host.length - 3]++;
-        try_chain(is_hashed, &apex, &other, 0, 1024, DENIAL_UNEQUAL_TTLS, 0);
+        try_chain(is_hashed, &apex, &other, 0, 1024, DENIAL_UNEQUAL_TTLS, zone.length);
+        /* Of two owners with unequal TTLs the first in canonical order is told, wherever it stands. */
+        other = zone;
+        put_record(&other, "c.a.", A, IN, &host);
+        host.at[3]++;
+        put_record(&other, "c.a.", A, IN, &host);
+        other.at[other.length - host.length - 3]++;
+        later = other.length;
+        put_record(&other, "b.a.", A, IN, &host);
+        other.at[other.length - host.length - 3]++;
+        try_chain(is_hashed, &apex, &other, 0, 1024, DENIAL_UNEQUAL_TTLS, later);
         soa.at[0]++;
         put_record(&other, "a.", SOA, IN, &soa);
         try_chain(is_hashed, &apex, &other, 0, 1024, DENIAL_NO_SINGLE_SOA, 0);

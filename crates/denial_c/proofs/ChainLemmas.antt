@@ -1,8 +1,5 @@
 -- The octets of chains, and what is answered of them.
-use Rattle.std.proofs.Common.{◌≡◌, ◌≢◌, ℕ, ◌+◌, ◌<◌, ◌≤◌, List, [], ◌∷◌, ◌++◌, length, take, get_or, refl, sym, ap, ◌∙◌, subst, arith, append-nil, length-append, Result, Ok, Err, IfOk, IfErr}
-use Rattle.std.specs.List.{flat_map}
-use Rattle.std.proofs.lemmas.List.{take_more}
-use Rattle.std.proofs.lemmas.List.Concat.{flat_map-append}
+use Rattle.std.proofs.Common.{◌≡◌, ◌≢◌, ℕ, ◌<◌, ◌≤◌, false, List, ◌∷◌, length, refl, sym, subst, arith, length-append, Result, Ok, Err, IfOk, IfErr}
 use Rattle.domain_base.specs.Name.{wire_of}
 use Rattle.domain_base.specs.Words.{Name}
 use Rattle.domain_fields.specs.Layout.{octets_of, Values}
@@ -11,7 +8,7 @@ use Rattle.domain_dnssec.proofs.KeptLemmas.{classes_kept}
 use Rattle.domain_lent.specs.Data.{data_cmp, minimum_of, RawRecord}
 use Rattle.domain_nsec.specs.Chain.{Link, IsChain, IsFirstFault}
 use Rattle.domain_nsec3.specs.Chain.{ChainRecords, IsChainParam, IsHashedChain}
-use Rattle.domain_nsec3.specs.Config.{ChainConfig}
+use Rattle.domain_nsec3.specs.Config.{excludes, ChainConfig}
 use Rattle.domain_nsec3.specs.Faults.{IsFirstFault as IsFirstHashedFault}
 use Rattle.domain_nsec3.specs.declared.config.Nsec3ParamTtlMode.TheVariants.{Soa as TtlOfSoa}
 use Rattle.domain_records.specs.declared.error.Nsec3HashError.TheVariants as hash_error
@@ -20,19 +17,13 @@ use Rattle.domain_records.specs.declared.error.SigningError.TheVariants as signi
 use Rattle.domain_nsec.specs.declared.config.GenerateNsecConfig.{GenerateNsecConfig}
 use Rattle.domain_records.specs.Order.{IsOneClass}
 use Rattle.domain_zone.specs.View.{zone_of}
-use Rattle.denial_c.specs.Chains.{nsec_asking, nsec3_asking, nsecs_octets, nsec3s_octets, AreZone, Asking, HasHashedZoneFault, HasZoneFault, IsChainFault, IsChainResult, IsGivenFault, IsNsecChain, IsNsec3Chain, IsSortedNsecFault, IsSortedNsec3Fault, IsWritten, Sorts}
+use Rattle.domain_zone.specs.Zone.{ZoneRecord}
+use Rattle.denial_c.specs.Chains.{nsec_asking, nsec3_asking, nsecs_octets, nsec3s_octets, AreZone, Asking, HasHashedZoneFault, HasUnevenAt, HasZoneFault, IsChainFault, IsChainResult, IsGivenFault, IsNsecChain, IsNsec3Chain, IsSortedNsecFault, IsSortedNsec3Fault, IsSortedUnevenAt, IsWritten, Sorts}
 use Rattle.denial_c.specs.Given.{AreGiven, HasNoRecordAt, HasOtherClassAt}
 use Rattle.denial_c.specs.Result.{Spells}
+use Rattle.denial_c.specs.Uneven.{covered_names}
 use Rattle.denial_c.specs.declared.chain_fault.ChainFault.{ChainFault}
 use Rattle.denial_c.specs.declared.chain_fault.ChainFault.TheVariants.{Apex, Records, Class, Soa, Ttls, LongSalt, LongOwner, Collision, ShortBuffer, OutOfMemory}
-
--- one more item
-pub joined_more : {T : Type 0} (octets : T → List ℕ) (items : List T) (i : ℕ) (d : T) → i < length items
-    → flat_map octets (take (i + 1) items) ≡ flat_map octets (take i items) ++ octets (get_or items i d)
-joined_more octets items i d l =
-    ap (flat_map octets) (take_more items i d l)
-    ∙ flat_map-append octets (take i items) (get_or items i d ∷ [])
-    ∙ ap (λ t. flat_map octets (take i items) ++ t) (append-nil (octets (get_or items i d)))
 
 -- NSEC data of a bitmap that a builder makes are short
 pub nsec_short : (next : Name) (bits : List ℕ) → length (wire_of next) ≤ 255 → length bits ≤ 8704 → length (octets_of nsec (next, bits)) ≤ 65535
@@ -47,10 +38,6 @@ nsec3_short v salted hashed few =
     let b = length-append (octets_of nsec3param v.0.0) (length v.0.1 ∷ v.0.1) in
     let c = length-append (octets_of hash_numbers v.0.0.0) (length v.0.0.1 ∷ v.0.0.1) in
     omega arith
-
-pub param_short : (v : Values nsec3param) → length v.1 ≤ 255 → length (octets_of nsec3param v) ≤ 65535
-unfolding octets_of
-param_short v salted = let c = length-append (octets_of hash_numbers v.0) (length v.1 ∷ v.1) in omega arith
 
 pub sorted_one_class : (given sorted : List RawRecord) → Sorts given sorted → IsOneClass given → IsOneClass sorted
 sorted_one_class given sorted sorts one = (classes_kept (λ n. n) (λ d. d.rtype) minimum_of data_cmp given sorted sorts).1 one
@@ -71,6 +58,18 @@ is_sorted apex class number records a sorted spells same zone one = record {
   one_class = one;
 }
 
+-- where TTLs are unequal
+uneven_from : (names : List ZoneRecord → Name → List Name) (apex : List ℕ) (class number : ℕ) (records : List ℕ) (a : Name) (sorted : List RawRecord) (n : ℕ)
+    → IsSorted apex class records a sorted → number ≡ class → IsSortedUnevenAt names number records sorted a n → HasUnevenAt names apex class records n
+uneven_from names apex class number records a sorted n s same h = record {
+  a = a;
+  given = s.given;
+  sorted = sorted;
+  zone = s.zone;
+  sorts = s.sorts;
+  uneven = subst (λ k. IsSortedUnevenAt names k records sorted a n) same h;
+}
+
 module _ (apex : List ℕ) (class : ℕ) (config : GenerateNsecConfig) (records : List ℕ) where
   zone_fault : (a : Name) (sorted : List RawRecord) → IsSorted apex class records a sorted → (e : SigningError)
       → IsFirstFault (zone_of (λ n. n) (λ d. d.rtype) minimum_of sorted) a config e → e ≢ signing_error.OutOfMemory → HasZoneFault apex class config records e
@@ -81,18 +80,22 @@ module _ (apex : List ℕ) (class : ℕ) (config : GenerateNsecConfig) (records 
     fault = record { sorted = sorted; sorts = s.sorts; fault = record { one_class = s.one_class; fault = h; told = told } };
   }
 
-  pub nsec_fault : (a : Name) (sorted : List RawRecord) (buffer : List ℕ) → IsSorted apex class records a sorted → (e : ChainFault)
-      → IsSortedNsecFault sorted a config e → IsChainFault (nsec_asking apex class config records) apex class records buffer e
-  nsec_fault a sorted buffer s Apex h = absurd h
-  nsec_fault a sorted buffer s (Records n) h = absurd h
-  nsec_fault a sorted buffer s (Class n) h = absurd h
-  nsec_fault a sorted buffer s Soa h = (tt, zone_fault a sorted s signing_error.SoaRecordCouldNotBeDetermined h (λ q. cc))
-  nsec_fault a sorted buffer s Ttls h = (tt, zone_fault a sorted s signing_error.MultipleTtlValues h (λ q. cc))
-  nsec_fault a sorted buffer s LongSalt h = absurd h
-  nsec_fault a sorted buffer s LongOwner h = absurd h
-  nsec_fault a sorted buffer s Collision h = absurd h
-  nsec_fault a sorted buffer s (ShortBuffer n) h = absurd h
-  nsec_fault a sorted buffer s OutOfMemory h = (tt, (a, (s.given, s.zone)))
+  pub nsec_fault : (a : Name) (sorted : List RawRecord) (buffer : List ℕ) → IsSorted apex class records a sorted → (number : ℕ) → number ≡ class
+      → (e : ChainFault) → IsSortedNsecFault number records sorted a config e → IsChainFault (nsec_asking apex class config records) apex class records buffer e
+  nsec_fault a sorted buffer s number same Apex h = absurd h
+  nsec_fault a sorted buffer s number same (Records n) h = absurd h
+  nsec_fault a sorted buffer s number same (Class n) h = absurd h
+  nsec_fault a sorted buffer s number same Soa h = (tt, zone_fault a sorted s signing_error.SoaRecordCouldNotBeDetermined h (λ q. cc))
+  nsec_fault a sorted buffer s number same (Ttls n) h = (
+    tt,
+    zone_fault a sorted s signing_error.MultipleTtlValues h.0 (λ q. cc),
+    uneven_from (covered_names false config.occlude_below_dname) apex class number records a sorted n s same h.1,
+  )
+  nsec_fault a sorted buffer s number same LongSalt h = absurd h
+  nsec_fault a sorted buffer s number same LongOwner h = absurd h
+  nsec_fault a sorted buffer s number same Collision h = absurd h
+  nsec_fault a sorted buffer s number same (ShortBuffer n) h = absurd h
+  nsec_fault a sorted buffer s number same OutOfMemory h = (tt, (a, (s.given, s.zone)))
 
   pub nsec_made : (a : Name) (sorted : List RawRecord) (written : List ℕ) (links : List Link) → IsSorted apex class records a sorted
       → IsChain (zone_of (λ n. n) (λ d. d.rtype) minimum_of sorted) a config links → written ≡ nsecs_octets links → IsNsecChain apex class config records written
@@ -116,20 +119,24 @@ module _ (apex : List ℕ) (class : ℕ) (config : ChainConfig) (records : List 
     fault = record { sorted = sorted; sorts = s.sorts; fault = record { one_class = s.one_class; fault = h; told = told } };
   }
 
-  pub nsec3_fault : (a : Name) (sorted : List RawRecord) (buffer : List ℕ) → IsSorted apex class records a sorted → (e : ChainFault)
-      → IsSortedNsec3Fault sorted a config e → IsChainFault (nsec3_asking apex class config records) apex class records buffer e
-  nsec3_fault a sorted buffer s Apex h = absurd h
-  nsec3_fault a sorted buffer s (Records n) h = absurd h
-  nsec3_fault a sorted buffer s (Class n) h = absurd h
-  nsec3_fault a sorted buffer s Soa h = (short, hashed_zone_fault a sorted s signing_error.SoaRecordCouldNotBeDetermined h (λ q. cc))
-  nsec3_fault a sorted buffer s Ttls h = (short, hashed_zone_fault a sorted s signing_error.MultipleTtlValues h (λ q. cc))
-  nsec3_fault a sorted buffer s LongSalt h = absurd h
-  nsec3_fault a sorted buffer s LongOwner h =
+  pub nsec3_fault : (a : Name) (sorted : List RawRecord) (buffer : List ℕ) → IsSorted apex class records a sorted → (number : ℕ) → number ≡ class
+      → (e : ChainFault) → IsSortedNsec3Fault number records sorted a config e → IsChainFault (nsec3_asking apex class config records) apex class records buffer e
+  nsec3_fault a sorted buffer s number same Apex h = absurd h
+  nsec3_fault a sorted buffer s number same (Records n) h = absurd h
+  nsec3_fault a sorted buffer s number same (Class n) h = absurd h
+  nsec3_fault a sorted buffer s number same Soa h = (short, hashed_zone_fault a sorted s signing_error.SoaRecordCouldNotBeDetermined h (λ q. cc))
+  nsec3_fault a sorted buffer s number same (Ttls n) h = (
+    short,
+    hashed_zone_fault a sorted s signing_error.MultipleTtlValues h.0 (λ q. cc),
+    uneven_from (covered_names (excludes config) config.occlude_below_dname) apex class number records a sorted n s same h.1,
+  )
+  nsec3_fault a sorted buffer s number same LongSalt h = absurd h
+  nsec3_fault a sorted buffer s number same LongOwner h =
       (short, hashed_zone_fault a sorted s (signing_error.Nsec3HashingError hash_error.Nsec3NameTooLong) h (λ q. cc))
-  nsec3_fault a sorted buffer s Collision h =
+  nsec3_fault a sorted buffer s number same Collision h =
       (short, hashed_zone_fault a sorted s (signing_error.Nsec3HashingError hash_error.CollisionDetected) h (λ q. cc))
-  nsec3_fault a sorted buffer s (ShortBuffer n) h = absurd h
-  nsec3_fault a sorted buffer s OutOfMemory h = (short, (a, (s.given, s.zone)))
+  nsec3_fault a sorted buffer s number same (ShortBuffer n) h = absurd h
+  nsec3_fault a sorted buffer s number same OutOfMemory h = (short, (a, (s.given, s.zone)))
 
   pub nsec3_made : (a : Name) (sorted : List RawRecord) (written : List ℕ) (made : ChainRecords) → IsSorted apex class records a sorted
       → IsHashedChain (zone_of (λ n. n) (λ d. d.rtype) minimum_of sorted) a config made.links
@@ -163,7 +170,7 @@ given_fault asking apex class number records old a fit spells same (Records n) h
 given_fault asking apex class number records old a fit spells same (Class n) h =
     ((a, spells), fit, subst (λ k. HasOtherClassAt k records n) same h)
 given_fault asking apex class number records old a fit spells same Soa h = absurd h
-given_fault asking apex class number records old a fit spells same Ttls h = absurd h
+given_fault asking apex class number records old a fit spells same (Ttls n) h = absurd h
 given_fault asking apex class number records old a fit spells same LongSalt h = absurd h
 given_fault asking apex class number records old a fit spells same LongOwner h = absurd h
 given_fault asking apex class number records old a fit spells same Collision h = absurd h

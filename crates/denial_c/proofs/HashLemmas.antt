@@ -58,17 +58,17 @@ module _ (L : List ZoneRecord) (a : Name) (config : ChainConfig) (p : Parameters
       (sym (ap (hash_fault a) (hashed h.name)) ∙ h.fault)
 
 -- so a fault of hashing is one of two
-pub hashing_faulty : (sorted : List RawRecord) (a : Name) (config : ChainConfig) (p : Parameters) → config.hash ≡ hash_by sha1_answer p → p.algorithm ≡ 1
+pub hashing_faulty : (class : ℕ) (octets : List ℕ) (sorted : List RawRecord) (a : Name) (config : ChainConfig) (p : Parameters) → config.hash ≡ hash_by sha1_answer p → p.algorithm ≡ 1
     → (e : Nsec3HashError) → IsFirstFault (zone_of (λ n. n) (λ d. d.rtype) minimum_of sorted) a config (signing_error.Nsec3HashingError e)
-    → IsSortedNsec3Fault sorted a config (hashing_fault e)
-hashing_faulty sorted a config p by sha1 (Hasher n) h =
+    → IsSortedNsec3Fault class octets sorted a config (hashing_fault e)
+hashing_faulty class octets sorted a config p by sha1 (Hasher n) h =
     let wrong = first_is_long (zone_of (λ n. n) (λ d. d.rtype) minimum_of sorted) a config p by sha1 (Hasher n) h.1 in absurd (cc)
-hashing_faulty sorted a config p by sha1 AppendError h = absurd h.1
-hashing_faulty sorted a config p by sha1 OwnerHashError h =
+hashing_faulty class octets sorted a config p by sha1 AppendError h = absurd h.1
+hashing_faulty class octets sorted a config p by sha1 OwnerHashError h =
     let wrong = first_is_long (zone_of (λ n. n) (λ d. d.rtype) minimum_of sorted) a config p by sha1 OwnerHashError h.1 in absurd (cc)
-hashing_faulty sorted a config p by sha1 Nsec3NameTooLong h = h
-hashing_faulty sorted a config p by sha1 CollisionDetected h = h
-hashing_faulty sorted a config p by sha1 OutOfMemory h = absurd h.1
+hashing_faulty class octets sorted a config p by sha1 Nsec3NameTooLong h = h
+hashing_faulty class octets sorted a config p by sha1 CollisionDetected h = h
+hashing_faulty class octets sorted a config p by sha1 OutOfMemory h = absurd h.1
 
 -- the bitmaps of links are those of names, and short where these are
 pub short_bits : {X : Type 0} (links : List HashedLink) (names : List X) (bits : X → List ℕ) → ((x : X) → length (bits x) ≤ 8704)

@@ -1,12 +1,12 @@
 -- What is answered where a chain is made of octets: the chain of the records that the octets are,
 -- octet for octet, or exactly why there is none.
-use Rattle.std.specs.Prelude.{◌≡◌, ℕ, ◌<◌, ◌≤◌, Bool, true, List, ◌++◌, length, drop, Result, Ok, Err, if◌then◌else◌}
+use Rattle.std.specs.Prelude.{◌≡◌, ℕ, ◌<◌, ◌≤◌, Bool, true, false, List, ◌++◌, length, drop, Result, Ok, Err, if◌then◌else◌}
 use Rattle.std.specs.List.{flat_map}
 use Rattle.domain_octets.specs.Words.{Octets}
 use Rattle.domain_base.specs.Words.{Name}
 use Rattle.domain_nsec.specs.Chain.{Link, IsFaultless, IsFirstFault}
 use Rattle.domain_nsec3.specs.Chain.{ChainRecords}
-use Rattle.domain_nsec3.specs.Config.{ChainConfig, Parameters}
+use Rattle.domain_nsec3.specs.Config.{excludes, ChainConfig, Parameters}
 use Rattle.domain_nsec3.specs.Faults.{IsReady, IsFirstFault as IsFirstHashedFault}
 use Rattle.domain_nsec3.specs.View.{hash_by}
 use Rattle.domain_nsec3.specs.declared.config.Nsec3ParamTtlMode.TheVariants.{Soa}
@@ -16,6 +16,7 @@ use Rattle.domain_records.specs.declared.error.Nsec3HashError.TheVariants as has
 use Rattle.domain_records.specs.declared.error.SigningError.{SigningError}
 use Rattle.domain_records.specs.declared.error.SigningError.TheVariants as signing_error
 use Rattle.domain_zone.specs.View.{zone_of}
+use Rattle.domain_zone.specs.Zone.{records_of, ZoneRecord}
 use Rattle.domain_sha1.specs.Iterated.{sha1_answer}
 use Rattle.domain_dnssec.specs.AnyOrder as any_order
 use Rattle.domain_dnssec.specs.AnyOrderNsec3 as any_order_nsec3
@@ -25,6 +26,7 @@ use Rattle.domain_lent.specs.Wire.{record_octets}
 use Rattle.denial_c.specs.ChainNumbers.{chain_count, chain_number}
 use Rattle.denial_c.specs.Given.{AreGiven, HasNoRecordAt, HasOtherClassAt}
 use Rattle.denial_c.specs.Result.{IsSpelled, Spells}
+use Rattle.denial_c.specs.Uneven.{covered_names, IsFirstClash, IsFirstUneven, IsUnevenAt}
 use Rattle.denial_c.specs.declared.chain_fault.ChainFault.{ChainFault}
 use Rattle.denial_c.specs.declared.chain_fault.ChainFault.TheVariants as fault
 
@@ -48,13 +50,36 @@ IsGivenFault class octets fault.Apex = ⊥
 IsGivenFault class octets (fault.Records offset) = HasNoRecordAt class octets offset
 IsGivenFault class octets (fault.Class offset) = HasOtherClassAt class octets offset
 IsGivenFault class octets fault.Soa = ⊥
-IsGivenFault class octets fault.Ttls = ⊥
+IsGivenFault class octets (fault.Ttls offset) = ⊥
 IsGivenFault class octets fault.LongSalt = ⊥
 IsGivenFault class octets fault.LongOwner = ⊥
 IsGivenFault class octets fault.Collision = ⊥
 IsGivenFault class octets (fault.ShortBuffer count) = ⊥
 IsGivenFault class octets fault.OutOfMemory =
     (given : List RawRecord) × AreGiven class octets given
+
+-- the record at the offset is the first of its owner and type that has another TTL; the owner is the
+-- first of these names of the sorted records that has unequal TTLs, and the type the least of which
+-- it has them
+pub record IsSortedUnevenAt (names : List ZoneRecord → Name → List Name) (class : ℕ)
+    (octets : Octets) (sorted : List RawRecord) (a : Name) (offset : ℕ) : Type 0 where
+  pub owner : Name
+  pub rtype : ℕ
+  pub first : IsFirstUneven (zone_of (λ n. n) (λ d. d.rtype) minimum_of sorted)
+      (names (zone_of (λ n. n) (λ d. d.rtype) minimum_of sorted) a) owner
+  pub clash : IsFirstClash (records_of (zone_of (λ n. n) (λ d. d.rtype) minimum_of sorted) owner)
+      rtype
+  pub at : IsUnevenAt class octets owner rtype offset
+
+-- the same of the records of a zone, in whatever order they stand
+pub record HasUnevenAt (names : List ZoneRecord → Name → List Name) (apex : Octets) (class : ℕ)
+    (records : Octets) (offset : ℕ) : Type 0 where
+  pub a : Name
+  pub given : List RawRecord
+  pub sorted : List RawRecord
+  pub zone : AreZone apex class records a given
+  pub sorts : Sorts given sorted
+  pub uneven : IsSortedUnevenAt names class records sorted a offset
 
 -- ---- NSEC
 
@@ -78,21 +103,23 @@ pub record HasZoneFault (apex : Octets) (class : ℕ) (config : GenerateNsecConf
 
 -- why sorted records of one class have no NSEC chain; want of memory says that their zone has no
 -- fault
-abbrev pub IsSortedNsecFault : List RawRecord → Name → GenerateNsecConfig → ChainFault → Type 0
-IsSortedNsecFault sorted a config fault.Apex = ⊥
-IsSortedNsecFault sorted a config (fault.Records offset) = ⊥
-IsSortedNsecFault sorted a config (fault.Class offset) = ⊥
-IsSortedNsecFault sorted a config fault.Soa =
+abbrev pub IsSortedNsecFault : ℕ → Octets → List RawRecord → Name → GenerateNsecConfig → ChainFault
+    → Type 0
+IsSortedNsecFault class octets sorted a config fault.Apex = ⊥
+IsSortedNsecFault class octets sorted a config (fault.Records offset) = ⊥
+IsSortedNsecFault class octets sorted a config (fault.Class offset) = ⊥
+IsSortedNsecFault class octets sorted a config fault.Soa =
     IsFirstFault (zone_of (λ n. n) (λ d. d.rtype) minimum_of sorted) a config
     signing_error.SoaRecordCouldNotBeDetermined
-IsSortedNsecFault sorted a config fault.Ttls =
+IsSortedNsecFault class octets sorted a config (fault.Ttls offset) =
     IsFirstFault (zone_of (λ n. n) (λ d. d.rtype) minimum_of sorted) a config
     signing_error.MultipleTtlValues
-IsSortedNsecFault sorted a config fault.LongSalt = ⊥
-IsSortedNsecFault sorted a config fault.LongOwner = ⊥
-IsSortedNsecFault sorted a config fault.Collision = ⊥
-IsSortedNsecFault sorted a config (fault.ShortBuffer count) = ⊥
-IsSortedNsecFault sorted a config fault.OutOfMemory =
+    × IsSortedUnevenAt (covered_names false config.occlude_below_dname) class octets sorted a offset
+IsSortedNsecFault class octets sorted a config fault.LongSalt = ⊥
+IsSortedNsecFault class octets sorted a config fault.LongOwner = ⊥
+IsSortedNsecFault class octets sorted a config fault.Collision = ⊥
+IsSortedNsecFault class octets sorted a config (fault.ShortBuffer count) = ⊥
+IsSortedNsecFault class octets sorted a config fault.OutOfMemory =
     IsFaultless (zone_of (λ n. n) (λ d. d.rtype) minimum_of sorted) a config
 
 -- ---- NSEC3
@@ -153,25 +180,28 @@ hashing_fault hash_error.OutOfMemory = fault.LongOwner
 
 -- why sorted records of one class have no NSEC3 chain; want of memory says that their zone has no
 -- fault but, where it has one, of hashing
-abbrev pub IsSortedNsec3Fault : List RawRecord → Name → ChainConfig → ChainFault → Type 0
-IsSortedNsec3Fault sorted a config fault.Apex = ⊥
-IsSortedNsec3Fault sorted a config (fault.Records offset) = ⊥
-IsSortedNsec3Fault sorted a config (fault.Class offset) = ⊥
-IsSortedNsec3Fault sorted a config fault.Soa =
+abbrev pub IsSortedNsec3Fault : ℕ → Octets → List RawRecord → Name → ChainConfig → ChainFault
+    → Type 0
+IsSortedNsec3Fault class octets sorted a config fault.Apex = ⊥
+IsSortedNsec3Fault class octets sorted a config (fault.Records offset) = ⊥
+IsSortedNsec3Fault class octets sorted a config (fault.Class offset) = ⊥
+IsSortedNsec3Fault class octets sorted a config fault.Soa =
     IsFirstHashedFault (zone_of (λ n. n) (λ d. d.rtype) minimum_of sorted) a config
     signing_error.SoaRecordCouldNotBeDetermined
-IsSortedNsec3Fault sorted a config fault.Ttls =
+IsSortedNsec3Fault class octets sorted a config (fault.Ttls offset) =
     IsFirstHashedFault (zone_of (λ n. n) (λ d. d.rtype) minimum_of sorted) a config
     signing_error.MultipleTtlValues
-IsSortedNsec3Fault sorted a config fault.LongSalt = ⊥
-IsSortedNsec3Fault sorted a config fault.LongOwner =
+    × IsSortedUnevenAt (covered_names (excludes config) config.occlude_below_dname) class octets
+    sorted a offset
+IsSortedNsec3Fault class octets sorted a config fault.LongSalt = ⊥
+IsSortedNsec3Fault class octets sorted a config fault.LongOwner =
     IsFirstHashedFault (zone_of (λ n. n) (λ d. d.rtype) minimum_of sorted) a config
     (signing_error.Nsec3HashingError hash_error.Nsec3NameTooLong)
-IsSortedNsec3Fault sorted a config fault.Collision =
+IsSortedNsec3Fault class octets sorted a config fault.Collision =
     IsFirstHashedFault (zone_of (λ n. n) (λ d. d.rtype) minimum_of sorted) a config
     (signing_error.Nsec3HashingError hash_error.CollisionDetected)
-IsSortedNsec3Fault sorted a config (fault.ShortBuffer count) = ⊥
-IsSortedNsec3Fault sorted a config fault.OutOfMemory =
+IsSortedNsec3Fault class octets sorted a config (fault.ShortBuffer count) = ⊥
+IsSortedNsec3Fault class octets sorted a config fault.OutOfMemory =
     IsReady (zone_of (λ n. n) (λ d. d.rtype) minimum_of sorted) a config
 
 -- ---- what is left in the buffer
@@ -187,12 +217,13 @@ pub record IsTooMuch (written old : Octets) (count : ℕ) : Type 0 where
   pub more : length old < length written
 
 -- what can be asked of a chain: what is handed in beside the records is fit for one, or its salt is
--- too long; what octets are the chain; and which fault the zone has first
+-- too long; what octets are the chain; which fault the zone has first; and where it has unequal TTLs
 pub record Asking : Type 1 where
   pub is_fit : Type 0
   pub is_long : Type 0
   pub is_chain : Octets → Type 0
   pub has_fault : SigningError → Type 0
+  pub is_uneven_at : ℕ → Type 0
 
 -- why no chain was written: the first fault that stands, and where none does, want of memory or of
 -- room. Want of memory says that the octets are an apex and records of the class, and leaves open
@@ -206,8 +237,8 @@ IsChainFault asking apex class records old (fault.Class offset) =
     IsSpelled apex × asking.is_fit × HasOtherClassAt class records offset
 IsChainFault asking apex class records old fault.Soa =
     asking.is_fit × asking.has_fault signing_error.SoaRecordCouldNotBeDetermined
-IsChainFault asking apex class records old fault.Ttls =
-    asking.is_fit × asking.has_fault signing_error.MultipleTtlValues
+IsChainFault asking apex class records old (fault.Ttls offset) =
+    asking.is_fit × asking.has_fault signing_error.MultipleTtlValues × asking.is_uneven_at offset
 IsChainFault asking apex class records old fault.LongOwner =
     asking.is_fit
     × asking.has_fault (signing_error.Nsec3HashingError hash_error.Nsec3NameTooLong)
@@ -234,6 +265,7 @@ nsec_asking apex class config records =
       is_long = ⊥;
       is_chain = IsNsecChain apex class config records;
       has_fault = HasZoneFault apex class config records;
+      is_uneven_at = HasUnevenAt (covered_names false config.occlude_below_dname) apex class records;
     }
 
 abbrev pub IsNsecChainResult : Octets → ℕ → GenerateNsecConfig → Octets → Result ℕ ChainFault
@@ -249,6 +281,8 @@ nsec3_asking apex class config records =
       is_long = 255 < length config.parameters.salt;
       is_chain = IsNsec3Chain apex class config records;
       has_fault = HasHashedZoneFault apex class config records;
+      is_uneven_at = HasUnevenAt (covered_names (excludes config) config.occlude_below_dname) apex
+          class records;
     }
 
 abbrev pub IsNsec3ChainResult : Octets → ℕ → ChainConfig → Octets → Result ℕ ChainFault → Octets

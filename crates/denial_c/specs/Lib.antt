@@ -4,5 +4,6 @@ pub mod Result
 pub mod Judged
 pub mod ChainNumbers
 pub mod Given
+pub mod Uneven
 pub mod Chains
 pub mod Texts

@@ -27,7 +27,7 @@ texts =
     ∷ (fault_number faults.OutOfMemory, codes "out of memory")
     ∷ (chain_fault_number (chain_faults.Class 0), codes "record of another class")
     ∷ (chain_fault_number chain_faults.Soa, codes "no single SOA record")
-    ∷ (chain_fault_number chain_faults.Ttls, codes "unequal TTLs")
+    ∷ (chain_fault_number (chain_faults.Ttls 0), codes "unequal TTLs")
     ∷ (chain_fault_number (chain_faults.ShortBuffer 0), codes "buffer too short")
     ∷ (chain_fault_number chain_faults.LongSalt, codes "salt too long")
     ∷ (chain_fault_number chain_faults.LongOwner, codes "hashed owner name too long")

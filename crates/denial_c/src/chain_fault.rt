@@ -13,8 +13,9 @@ pub(crate) enum ChainFault {
     Class(usize),
     /// The apex does not own exactly one SOA record.
     Soa,
-    /// Records of one owner and one type differ in their TTLs.
-    Ttls,
+    /// Records of one owner and one type differ in their TTLs; the one at this offset has another
+    /// than those before it.
+    Ttls(usize),
     /// The salt has over 255 octets.
     LongSalt,
     /// The owner of a hash would be longer than a name may be.
@@ -37,7 +38,7 @@ fn chain_fault_number(fault: ChainFault) -> u32
         ChainFault::OutOfMemory => 21,
         ChainFault::Class(_) => 22,
         ChainFault::Soa => 23,
-        ChainFault::Ttls => 24,
+        ChainFault::Ttls(_) => 24,
         ChainFault::ShortBuffer(_) => 25,
         ChainFault::LongSalt => 26,
         ChainFault::LongOwner => 27,
@@ -51,7 +52,8 @@ fn fault_count(fault: ChainFault) -> usize
     ensures { result ≡ fault_count fault }
 {
     match fault {
-        ChainFault::Records(offset) | ChainFault::Class(offset) => offset,
+        ChainFault::Records(offset) | ChainFault::Class(offset) | ChainFault::Ttls(offset) =>
+            offset,
         ChainFault::ShortBuffer(count) => count,
         _ => 0,
     }

@@ -25,6 +25,7 @@ mod nsec3;
 mod nsec3_chain;
 mod nsec_chain;
 mod text;
+mod uneven;
 mod zone;
 
 use crate::nsec3_chain::Hashing;

@@ -1,7 +1,7 @@
 //! The NSEC3 chain of the records in octets.
-ghost use Rattle.std.specs.Prelude.{◌≡◌, ◌≤◌, ◌<◌, ◌++◌, All, length, IfErr, IfOk, OnOk};
+ghost use Rattle.std.specs.Prelude.{◌≡◌, ◌≤◌, ◌<◌, ◌++◌, All, List, length, IfErr, IfOk, OnOk};
 ghost use Rattle.domain_base.specs.Classes.{in_class};
-ghost use Rattle.domain_lent.specs.Data.{minimum_of};
+ghost use Rattle.domain_lent.specs.Data.{minimum_of, RawRecord};
 ghost use Rattle.domain_lent.specs.Links.{nsec3_record, param_record};
 ghost use Rattle.domain_lent.specs.Wire.{record_octets};
 ghost use Rattle.domain_nsec3.specs.Chain.{ChainRecords, IsChainParam, IsHashedChain};
@@ -10,13 +10,15 @@ ghost use Rattle.domain_nsec3.specs.declared.config.Nsec3ParamTtlMode.TheVariant
 ghost use Rattle.domain_records.specs.Order.{IsInOrder, IsOneClass};
 ghost use Rattle.domain_sha1.specs.Iterated.{sha1_answer};
 ghost use Rattle.domain_zone.specs.View.{zone_of};
-ghost use Rattle.denial_c.specs.Chains.{hashed_config, hashing_fault, nsec3s_octets, IsNsec3ChainResult, IsSortedNsec3Fault};
+ghost use Rattle.denial_c.specs.Chains.{hashed_config, hashing_fault, nsec3s_octets, IsNsec3ChainResult, IsSortedNsec3Fault, Sorts};
+ghost use Rattle.denial_c.specs.Given.{AreGiven};
 ghost use Rattle.denial_c.specs.declared.chain_fault.ChainFault.TheVariants as fault;
 
 use crate::chain_fault::ChainFault;
 use crate::fault::Fault;
 use crate::nsec::read_name;
 use crate::nsec_chain::write_octets;
+use crate::uneven::uneven_at;
 use crate::zone::sorted_zone;
 use domain_base::{Class, Name, Nsec3HashAlgorithm, ParsedName, ToName};
 use domain_bitmap::Nsec3Salt;
@@ -128,7 +130,8 @@ fn hashing_fault(error: Nsec3HashError) -> ChainFault
     }
 }
 
-/// The octets of the NSEC3 chain of the zone that sorted records of one class are.
+/// The octets of the NSEC3 chain of the zone that sorted records of one class are, which the octets
+/// are in another order.
 ///
 /// # Errors
 ///
@@ -137,9 +140,13 @@ fn hashing_fault(error: Nsec3HashError) -> ChainFault
 fn sorted_nsec3s(
     alloc: Global,
     apex: &ParsedName<'_>,
+    class: Class,
+    octets: &[u8],
     sorted: &[LentRecord<'_>],
     config: &GenerateNsec3Config<&[u8], InPlaceSorter>,
 ) -> Result<Vec<u8>, ChainFault>
+    requires given { (given : List RawRecord)
+        × AreGiven class octets.now given × Sorts given sorted.now }
     requires one_class { IsOneClass sorted.now }
     requires in_order { IsInOrder (λ n. n) (λ d. d.rtype) sorted.now }
     requires sha1 { config.now.params.hash_algorithm ≡ 1 }
@@ -149,8 +156,8 @@ fn sorted_nsec3s(
         × IsChainParam (zone_of (λ n. n) (λ d. d.rtype) minimum_of sorted.now) apex.now
         (config_of sha1_answer config.now) config.now.nsec3param_ttl_mode made.param
         × (octets.items ≡ nsec3s_octets made)) }
-    ensures err { IfErr result (IsSortedNsec3Fault sorted.now apex.now
-        (config_of sha1_answer config.now)) }
+    ensures err { IfErr result (IsSortedNsec3Fault class octets.now sorted.now
+        apex.now (config_of sha1_answer config.now)) }
 {
     built_bitmaps_give_their_types();
     let chain = match Nsec3Chain::generate(
@@ -161,7 +168,13 @@ fn sorted_nsec3s(
         &Sha1Hasher,
     ) {
         Ok(chain) => chain,
-        Err(SigningError::MultipleTtlValues) => return Err(ChainFault::Ttls),
+        Err(SigningError::MultipleTtlValues) => {
+            let excludes = config.params.opt_out_flag()
+                & config.opt_out_exclude_owner_names_of_unsigned_delegations;
+            let below_dname = config.occlude_below_dname;
+            let offset = uneven_at(apex, class, octets, sorted, excludes, below_dname);
+            return Err(ChainFault::Ttls(offset));
+        }
         Err(SigningError::OutOfMemory) => return Err(ChainFault::OutOfMemory),
         Err(SigningError::Nsec3HashingError(error)) => return Err(hashing_fault(error)),
         Err(_) => return Err(ChainFault::Soa),
@@ -201,11 +214,12 @@ pub(crate) fn nsec3_chain(
         Ok(config) => config,
         Err(fault) => return Err(fault),
     };
-    let sorted = match sorted_zone(alloc, Class::from_int(class), records) {
+    let class = Class::from_int(class);
+    let sorted = match sorted_zone(alloc, class, records) {
         Ok(sorted) => sorted,
         Err(fault) => return Err(fault),
     };
-    let octets = match sorted_nsec3s(alloc, &apex, &sorted, &config) {
+    let octets = match sorted_nsec3s(alloc, &apex, class, records, &sorted, &config) {
         Ok(octets) => octets,
         Err(fault) => return Err(fault),
     };

@@ -4,15 +4,17 @@ ghost use Rattle.domain_records.specs.Order.{IsInOrder, IsOneClass};
 ghost use Rattle.domain_nsec.specs.Chain.{Link, IsChain, IsFaultless};
 ghost use Rattle.domain_nsec.specs.ChainView.{as_link};
 ghost use Rattle.domain_zone.specs.View.{zone_of};
-ghost use Rattle.domain_lent.specs.Data.{minimum_of};
+ghost use Rattle.domain_lent.specs.Data.{minimum_of, RawRecord};
 ghost use Rattle.domain_lent.specs.Links.{nsec_record};
 ghost use Rattle.domain_lent.specs.Wire.{record_octets};
-ghost use Rattle.denial_c.specs.Chains.{nsecs_octets, IsNsecChainResult, IsSortedNsecFault, IsTooMuch, IsWritten};
+ghost use Rattle.denial_c.specs.Chains.{nsecs_octets, IsNsecChainResult, IsSortedNsecFault, IsTooMuch, IsWritten, Sorts};
+ghost use Rattle.denial_c.specs.Given.{AreGiven};
 ghost use Rattle.denial_c.specs.declared.chain_fault.ChainFault.TheVariants as fault;
 
 use crate::chain_fault::ChainFault;
 use crate::fault::Fault;
 use crate::nsec::read_name;
+use crate::uneven::uneven_at;
 use crate::zone::sorted_zone;
 use domain_base::{Class, ParsedName, ToName};
 use domain_bitmap::laws::built_bitmaps_give_their_types;
@@ -53,7 +55,8 @@ fn nsecs_octets(
     Ok(octets)
 }
 
-/// The octets of the NSEC chain of the zone that sorted records of one class are.
+/// The octets of the NSEC chain of the zone that sorted records of one class are, which the octets
+/// are in another order.
 ///
 /// # Errors
 ///
@@ -61,15 +64,20 @@ fn nsecs_octets(
 fn sorted_nsecs(
     alloc: Global,
     apex: &ParsedName<'_>,
+    class: Class,
+    octets: &[u8],
     sorted: &[LentRecord<'_>],
     config: &GenerateNsecConfig,
 ) -> Result<Vec<u8>, ChainFault>
+    requires given { (given : List RawRecord)
+        × AreGiven class octets.now given × Sorts given sorted.now }
     requires one_class { IsOneClass sorted.now }
     requires in_order { IsInOrder (λ n. n) (λ d. d.rtype) sorted.now }
     ensures ok { IfOk result (λ octets. (links : List Link) × IsChain
         (zone_of (λ n. n) (λ d. d.rtype) minimum_of sorted.now) apex.now config.now links
         × (octets.items ≡ nsecs_octets links)) }
-    ensures err { IfErr result (IsSortedNsecFault sorted.now apex.now config.now) }
+    ensures err { IfErr result (IsSortedNsecFault class octets.now sorted.now apex.now
+        config.now) }
 {
     built_bitmaps_give_their_types();
     let chain = match NsecChain::generate(
@@ -79,7 +87,11 @@ fn sorted_nsecs(
         config,
     ) {
         Ok(chain) => chain,
-        Err(SigningError::MultipleTtlValues) => return Err(ChainFault::Ttls),
+        Err(SigningError::MultipleTtlValues) => {
+            let below_dname = config.occlude_below_dname;
+            let offset = uneven_at(apex, class, octets, sorted, false, below_dname);
+            return Err(ChainFault::Ttls(offset));
+        }
         Err(SigningError::OutOfMemory) => return Err(ChainFault::OutOfMemory),
         Err(_) => return Err(ChainFault::Soa),
     };
@@ -130,11 +142,12 @@ pub(crate) fn nsec_chain(
     let Ok(apex) = read_name(apex, Fault::Apex) else {
         return Err(ChainFault::Apex);
     };
-    let sorted = match sorted_zone(alloc, Class::from_int(class), records) {
+    let class = Class::from_int(class);
+    let sorted = match sorted_zone(alloc, class, records) {
         Ok(sorted) => sorted,
         Err(fault) => return Err(fault),
     };
-    let octets = match sorted_nsecs(alloc, &apex, &sorted, config) {
+    let octets = match sorted_nsecs(alloc, &apex, class, records, &sorted, config) {
         Ok(octets) => octets,
         Err(fault) => return Err(fault),
     };

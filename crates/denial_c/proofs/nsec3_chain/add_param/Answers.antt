@@ -1,6 +1,6 @@
 use Rattle.std.proofs.Common.{◌≤◌, ◌∙◌, length, subst}
 use Rattle.domain_chain_rdata.specs.Rdata.{nsec3param_values}
-use Rattle.denial_c.proofs.ChainLemmas.{param_short}
+use Rattle.domain_dnssec.proofs.WireLemmas.{param_short}
 use Rattle.denial_c.proofs.nsec3_chain.add_param.Goals as goal
 
 pub compose_record-requires : goal.compose_record-requires

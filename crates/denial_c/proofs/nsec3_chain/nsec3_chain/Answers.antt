@@ -15,12 +15,12 @@ returns-in-Err-sorted_nsec3s c =
     let config = hashed_config c.args.hashing.iterations c.args.hashing.salt.now c.args.hashing.opt_out c.args.options.assume_dnskeys_will_be_added
     c.args.options.occlude_below_dname in
     let made_with = c.in-Ok-config_with in
-    let zone = is_sorted c.args.apex.now c.args.class c.from_int.result c.args.records.now c.in-Ok.apex sorted c.in-Ok.ensures.ok c.from_int.ensures
+    let zone = is_sorted c.args.apex.now c.args.class c.from_int-class.result c.args.records.now c.in-Ok.apex sorted c.in-Ok.ensures.ok c.from_int-class.ensures
     c.in-Ok-sorted_zone.ensures.sorts c.in-Ok-sorted_zone.ensures.one_class in (
       nsec3_fault c.args.apex.now c.args.class config c.args.records.now made_with.ensures.fits c.in-Ok.apex sorted c.args.buffer.now zone
-          c.in-Err-sorted_nsec3s.fault
-          (subst (λ (xs : List RawRecord). IsSortedNsec3Fault xs c.in-Ok.apex config c.in-Err-sorted_nsec3s.fault) c.deref.ensures.value
-          (subst (λ (k : ChainConfig). IsSortedNsec3Fault c.deref.result.now c.in-Ok.apex k c.in-Err-sorted_nsec3s.fault) made_with.ensures.ok
+          c.from_int-class.result c.from_int-class.ensures c.in-Err-sorted_nsec3s.fault
+          (subst (λ (xs : List RawRecord). IsSortedNsec3Fault c.from_int-class.result c.args.records.now xs c.in-Ok.apex config c.in-Err-sorted_nsec3s.fault) c.deref.ensures.value
+          (subst (λ (k : ChainConfig). IsSortedNsec3Fault c.from_int-class.result c.args.records.now c.deref.result.now c.in-Ok.apex k c.in-Err-sorted_nsec3s.fault) made_with.ensures.ok
           c.in-Err-sorted_nsec3s.ensures.err)),
       refl,
     )
@@ -32,7 +32,7 @@ returns c =
     c.args.options.occlude_below_dname in
     let made_with = c.in-Ok-config_with in
     let a = c.in-Ok.apex in
-    let zone = is_sorted c.args.apex.now c.args.class c.from_int.result c.args.records.now a sorted c.in-Ok.ensures.ok c.from_int.ensures
+    let zone = is_sorted c.args.apex.now c.args.class c.from_int-class.result c.args.records.now a sorted c.in-Ok.ensures.ok c.from_int-class.ensures
     c.in-Ok-sorted_zone.ensures.sorts c.in-Ok-sorted_zone.ensures.one_class in
     let made = c.in-Ok-sorted_nsec3s.ensures.ok in
     let octets = c.in-Ok-sorted_nsec3s.octets.items in

@@ -2,7 +2,7 @@ use Rattle.std.proofs.Common.{◌≤◌, ◌++◌, ◌∙◌, arith, length, sub
 use Rattle.domain_lent.specs.Links.{nsec3_record}
 use Rattle.domain_lent.specs.Wire.{record_octets}
 use Rattle.domain_nsec3.specs.Chain.{HashedLink}
-use Rattle.denial_c.proofs.ChainLemmas.{joined_more}
+use Rattle.domain_dnssec.proofs.WireLemmas.{joined_more}
 use Rattle.denial_c.proofs.nsec3_chain.nsec3s_octets.Goals as goal
 
 pub add_nsec3-requires-clause-types : goal.add_nsec3-requires-clause-types

@@ -10,10 +10,10 @@ use Rattle.denial_c.proofs.nsec_chain.nsec_chain.Goals as goal
 pub returns-in-Err-sorted_nsecs : goal.returns-in-Err-sorted_nsecs
 returns-in-Err-sorted_nsecs c =
     let sorted = c.in-Ok-sorted_zone.sorted.items in
-    let zone = is_sorted c.args.apex.now c.args.class c.from_int.result c.args.records.now c.in-Ok.apex sorted c.in-Ok.ensures.ok c.from_int.ensures
+    let zone = is_sorted c.args.apex.now c.args.class c.from_int-class.result c.args.records.now c.in-Ok.apex sorted c.in-Ok.ensures.ok c.from_int-class.ensures
     c.in-Ok-sorted_zone.ensures.sorts c.in-Ok-sorted_zone.ensures.one_class in (
-      nsec_fault c.args.apex.now c.args.class c.args.config.now c.args.records.now c.in-Ok.apex sorted c.args.buffer.now zone c.in-Err-sorted_nsecs.fault
-          (subst (λ (xs : List RawRecord). IsSortedNsecFault xs c.in-Ok.apex c.args.config.now c.in-Err-sorted_nsecs.fault) c.deref.ensures.value
+      nsec_fault c.args.apex.now c.args.class c.args.config.now c.args.records.now c.in-Ok.apex sorted c.args.buffer.now zone c.from_int-class.result c.from_int-class.ensures c.in-Err-sorted_nsecs.fault
+          (subst (λ (xs : List RawRecord). IsSortedNsecFault c.from_int-class.result c.args.records.now xs c.in-Ok.apex c.args.config.now c.in-Err-sorted_nsecs.fault) c.deref.ensures.value
           c.in-Err-sorted_nsecs.ensures.err),
       refl,
     )
@@ -21,7 +21,7 @@ returns-in-Err-sorted_nsecs c =
 pub returns : goal.returns
 returns c =
     let sorted = c.in-Ok-sorted_zone.sorted.items in
-    let zone = is_sorted c.args.apex.now c.args.class c.from_int.result c.args.records.now c.in-Ok.apex sorted c.in-Ok.ensures.ok c.from_int.ensures
+    let zone = is_sorted c.args.apex.now c.args.class c.from_int-class.result c.args.records.now c.in-Ok.apex sorted c.in-Ok.ensures.ok c.from_int-class.ensures
     c.in-Ok-sorted_zone.ensures.sorts c.in-Ok-sorted_zone.ensures.one_class in
     let made = c.in-Ok-sorted_nsecs.ensures.ok in
     let octets = c.in-Ok-sorted_nsecs.octets.items in

@@ -3,7 +3,7 @@ use Rattle.domain_lent.specs.Links.{nsec_record}
 use Rattle.domain_lent.specs.Wire.{record_octets}
 use Rattle.domain_nsec.specs.Chain.{Link}
 use Rattle.domain_nsec.specs.ChainView.{as_link}
-use Rattle.denial_c.proofs.ChainLemmas.{joined_more}
+use Rattle.domain_dnssec.proofs.WireLemmas.{joined_more}
 use Rattle.denial_c.proofs.nsec_chain.nsecs_octets.Goals as goal
 
 pub add_nsec-requires : goal.add_nsec-requires

@@ -1,0 +1,54 @@
+-- Where records of one owner and type differ in TTL (RFC 2181, section 5.2).
+use Rattle.std.specs.Prelude.{◌≡◌, ◌≢◌, ℕ, ◌<◌, ◌==◌, ◌&&◌, not, Bool, true, false, List, ◌∷◌, ◌++◌, filter, Option, Some, None}
+use Rattle.std.specs.List.{list_any, AllByRecursion}
+use Rattle.domain_octets.specs.Words.{Octets}
+use Rattle.domain_base.specs.Name.{same_name}
+use Rattle.domain_base.specs.Words.{Name}
+use Rattle.domain_nsec3.specs.Owners.{is_unsigned_cut}
+use Rattle.domain_zone.specs.Zone.{ZoneRecord, has_clash, has_unequal_ttls, records_of, unoccluded_owners}
+use Rattle.domain_lent.specs.Data.{RawRecord}
+use Rattle.domain_lent.specs.Wire.{record_octets, IsRecord}
+use Rattle.denial_c.specs.Given.{IsReadUpTo}
+
+-- of the owner and the type
+abbrev pub is_in_set : Name → ℕ → RawRecord → Bool
+is_in_set n t r = same_name r.owner n && (r.«data».rtype == t)
+
+abbrev pub set_of : List ZoneRecord → Name → ℕ → List ZoneRecord
+set_of L n t = filter (λ z. z.rtype == t) (records_of L n)
+
+-- the owners of a chain: those that are not occluded, without the unsigned delegations where these
+-- are left out
+abbrev pub covered_names : Bool → Bool → List ZoneRecord → Name → List Name
+covered_names excludes below_dname L a =
+    filter (λ n. not (excludes && is_unsigned_cut L a n)) (unoccluded_owners below_dname L a)
+
+-- of these names the owner is the first of which records clash
+pub record IsFirstUneven (L : List ZoneRecord) (names : List Name) (owner : Name) : Type 0 where
+  pub passed : List Name
+  pub rest : List Name
+  pub among : names ≡ passed ++ owner ∷ rest
+  pub even : has_unequal_ttls L passed ≡ false
+
+-- records of this type clash, and none of a lesser one do
+pub record IsFirstClash (records : List ZoneRecord) (t : ℕ) : Type 0 where
+  pub clash : has_clash (filter (λ z. z.rtype == t) records) ≡ true
+  pub lesser : (s : ℕ) → s < t → has_clash (filter (λ z. z.rtype == s) records) ≡ false
+
+-- there is a first TTL, and this is another
+abbrev pub is_other : Option ℕ → ℕ → Bool
+is_other (Some first) ttl = not (first == ttl)
+is_other None ttl = false
+
+-- at the offset stands a record of the owner and the type, after others of these that all have
+-- another TTL, and one
+pub record IsUnevenAt (class : ℕ) (octets : Octets) (n : Name) (t : ℕ) (offset : ℕ) : Type 0 where
+  pub first : RawRecord
+  pub after : Octets
+  pub read : IsReadUpTo class octets offset (record_octets first ++ after)
+  pub fits : IsRecord first
+  pub among : is_in_set n t first ≡ true
+  pub ttl : ℕ
+  pub other : first.ttl ≢ ttl
+  pub some : list_any (is_in_set n t) read.before ≡ true
+  pub one_ttl : AllByRecursion (λ r. is_in_set n t r ≡ true → r.ttl ≡ ttl) read.before

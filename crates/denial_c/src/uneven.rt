@@ -1,0 +1,168 @@
+//! Where records of one owner and type differ in TTL.
+ghost use Rattle.std.specs.Prelude.{◌≡◌, ◌≤◌, ◌&&◌, List, not, true, false, IfNone, IfSome};
+ghost use Rattle.domain_base.specs.Types.{ds};
+ghost use Rattle.domain_lent.specs.Data.{minimum_of, RawRecord};
+ghost use Rattle.domain_records.specs.Order.{HoldsPairwise, IsInOrder};
+ghost use Rattle.domain_zone.specs.View.{as_zone_record, zone_of};
+ghost use Rattle.domain_zone.specs.Zone.{clashes, has_clash, has_type, has_unequal_ttls, records_of};
+ghost use Rattle.denial_c.specs.Chains.{IsSortedUnevenAt, Sorts};
+ghost use Rattle.denial_c.specs.Given.{AreGiven};
+ghost use Rattle.denial_c.specs.Uneven.{covered_names, is_in_set, is_other, set_of, IsFirstClash, IsFirstUneven, IsUnevenAt};
+
+use domain_base::{Class, ParsedName, Rtype, ToName, Ttl};
+use domain_lent::{LentData, LentRecord, read_record};
+use domain_octets::Parser;
+use domain_records::{RecordsIter, SliceRefsOrOwnedIterator};
+use domain_zone::{UnoccludedOwner, UnoccludedOwners, has_type};
+
+/// The records of one owner and one type.
+#[derive(Drop)]
+pub(crate) struct RrsetKey<'a> {
+    /// The owner, in any case.
+    pub owner: ParsedName<'a>,
+    /// The type.
+    pub rtype: Rtype,
+}
+
+/// Whether two records of one type other than RRSIG differ in their TTLs.
+fn clash(first: &LentRecord<'_>, second: &LentRecord<'_>) -> bool
+    ensures { result ≡ clashes (as_zone_record (λ n. n) (λ d. d.rtype) minimum_of first.now)
+        (as_zone_record (λ n. n) (λ d. d.rtype) minimum_of second.now) }
+{
+    let rtype = first.rtype();
+    rtype == second.rtype() && rtype != Rtype::RRSIG && first.ttl() != second.ttl()
+}
+
+/// The first type of which two of these records differ in their TTLs, where their types never
+/// descend; None where there is none.
+fn clashing_type<'a>(mut records: SliceRefsOrOwnedIterator<'a, LentRecord<'a>>) -> Option<Rtype>
+    requires { HoldsPairwise (λ r s. r.«data».rtype ≤ s.«data».rtype) records }
+    ensures some { IfSome result
+        (IsFirstClash (zone_of (λ n. n) (λ d. d.rtype) minimum_of records.entry)) }
+    ensures none { IfNone result
+        (has_clash (zone_of (λ n. n) (λ d. d.rtype) minimum_of records.entry) ≡ false) }
+{
+    let Some(first) = records.next() else {
+        return None;
+    };
+    let mut previous = first;
+    'neighbours: while let Some(record) = records.next() {
+        if clash(previous, record) {
+            return Some(record.rtype());
+        }
+        previous = record;
+    }
+    None
+}
+
+/// Whether the owner is a zone cut without DS records.
+fn is_unsigned_cut<'a>(owner: &UnoccludedOwner<'a, ParsedName<'a>, LentData<'a>>) -> bool
+    ensures { result ≡ (owner.now.is_zone_cut
+        && not (has_type (zone_of (λ n. n) (λ d. d.rtype) minimum_of owner.now.records) ds)) }
+{
+    owner.is_zone_cut && !has_type(owner.records.records(), Rtype::DS)
+}
+
+/// The first owner of a chain, in canonical order, with records of one type other than RRSIG that
+/// differ in TTL, and the first such type; None where there is none. Unsigned delegations are
+/// passed over where `excludes` says so, and names below the owner of a DNAME record where
+/// `below_dname` does.
+fn uneven_set<'a>(
+    apex: &'a ParsedName<'a>,
+    sorted: &'a [LentRecord<'a>],
+    excludes: bool,
+    below_dname: bool,
+) -> Option<RrsetKey<'a>>
+    requires { IsInOrder (λ n. n) (λ d. d.rtype) sorted.now }
+    ensures first { IfSome result (λ set. IsFirstUneven
+        (zone_of (λ n. n) (λ d. d.rtype) minimum_of sorted.now)
+        (covered_names excludes below_dname
+        (zone_of (λ n. n) (λ d. d.rtype) minimum_of sorted.now) apex.now) set.owner) }
+    ensures clash { IfSome result (λ set. IsFirstClash (records_of
+        (zone_of (λ n. n) (λ d. d.rtype) minimum_of sorted.now) set.owner) set.rtype) }
+    ensures none { IfNone result (has_unequal_ttls
+        (zone_of (λ n. n) (λ d. d.rtype) minimum_of sorted.now)
+        (covered_names excludes below_dname
+        (zone_of (λ n. n) (λ d. d.rtype) minimum_of sorted.now) apex.now) ≡ false) }
+{
+    let records = RecordsIter::new_from_owned(sorted);
+    let mut left = UnoccludedOwners::new(apex, records, below_dname);
+    'owners: while let Some(owner) = left.next() {
+        if excludes & is_unsigned_cut(&owner) {
+            continue;
+        }
+        if let Some(rtype) = clashing_type(owner.records.records()) {
+            let name = owner.name.as_parsed();
+            return Some(RrsetKey { owner: name, rtype });
+        }
+    }
+    None
+}
+
+/// Whether the record is of this owner and this type.
+fn is_in_set(record: &LentRecord<'_>, set: &RrsetKey<'_>) -> bool
+    ensures { result ≡ is_in_set set.now.owner set.now.rtype record.now }
+{
+    record.owner().name_eq(&set.owner) & (record.rtype() == set.rtype)
+}
+
+/// Whether there is a first TTL, and this is another.
+fn is_other(first: Option<Ttl>, ttl: Ttl) -> bool
+    ensures { result ≡ is_other first ttl }
+{
+    match first {
+        Some(first) => first != ttl,
+        None => false,
+    }
+}
+
+/// The offset of the first record of this owner and this type that has another TTL than those
+/// before it.
+fn uneven_offset(class: Class, octets: &[u8], set: &RrsetKey<'_>) -> usize
+    requires { (given : List RawRecord) × AreGiven class octets.now given × (has_clash
+        (set_of (zone_of (λ n. n) (λ d. d.rtype) minimum_of given) set.now.owner set.now.rtype)
+        ≡ true) }
+    ensures { IsUnevenAt class octets.now set.now.owner set.now.rtype result }
+{
+    let mut first: Option<Ttl> = None;
+    let mut parser = Parser::new(octets);
+    'records: while parser.remaining() > 0 {
+        let offset = octets.len() - parser.remaining();
+        let Some(record) = read_record(&mut parser) else {
+            unreachable!();
+        };
+        if is_in_set(&record, set) {
+            if is_other(first, record.ttl()) {
+                return offset;
+            }
+            first = Some(record.ttl());
+        }
+    }
+    unreachable!()
+}
+
+/// Where the records that the octets are have unequal TTLs: the offset of the first record that has
+/// another TTL than those before it of its owner and type, which are the first of the chain that
+/// have several.
+pub(crate) fn uneven_at(
+    apex: &ParsedName<'_>,
+    class: Class,
+    octets: &[u8],
+    sorted: &[LentRecord<'_>],
+    excludes: bool,
+    below_dname: bool,
+) -> usize
+    requires in_order { IsInOrder (λ n. n) (λ d. d.rtype) sorted.now }
+    requires given { (given : List RawRecord)
+        × AreGiven class octets.now given × Sorts given sorted.now }
+    requires uneven { has_unequal_ttls (zone_of (λ n. n) (λ d. d.rtype) minimum_of sorted.now)
+        (covered_names excludes below_dname
+        (zone_of (λ n. n) (λ d. d.rtype) minimum_of sorted.now) apex.now) ≡ true }
+    ensures { IsSortedUnevenAt (covered_names excludes below_dname) class octets.now sorted.now
+        apex.now result }
+{
+    let Some(set) = uneven_set(apex, sorted, excludes, below_dname) else {
+        unreachable!();
+    };
+    uneven_offset(class, octets, &set)
+}
