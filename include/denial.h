@@ -3,10 +3,11 @@
  * what they prove of one name and one type (RFC 4035, section 5.4; RFC 5155, section 8); and the NSEC
  * and NSEC3 chains of a zone (RFC 4034, section 4; RFC 5155, section 7.1).
  *
- * A validator calls denial_judge_nsec or denial_judge_nsec3: these answer a question as a whole, with
- * the wildcard, aliases and redirections; and of records that were expanded from a wildcard, with
- * NSEC3, denial_judge_nsec3_expansion. denial_check_nsec and denial_check_nsec3 tell of one name and
- * one type alone. A signer calls denial_nsec_chain or
+ * A validator calls denial_judge_nsec or denial_judge_nsec3_alone: these answer a question as a whole,
+ * with the wildcard, aliases and redirections; and of records that were expanded from a wildcard, with
+ * NSEC3, denial_judge_nsec3_expansion_alone. denial_check_nsec and denial_check_nsec3_alone tell of one
+ * name and one type alone. Who has the zone's NSEC3PARAM record calls denial_judge_nsec3,
+ * denial_judge_nsec3_expansion and denial_check_nsec3. A signer calls denial_nsec_chain or
  * denial_nsec3_chain.
  *
  * These functions look at no signature. Hand in only records whose signatures you have verified with
@@ -167,7 +168,8 @@ enum denial_answer {
      * no record. */
     DENIAL_BAD_RECORDS = 18,
 
-    /* The apex has no NSEC3PARAM record of the class, or several. NSEC3 alone. */
+    /* The apex has no NSEC3PARAM record of the class, or several. NSEC3 alone, and not where the first
+     * NSEC3 record tells the parameters. */
     DENIAL_NO_PARAM = 19,
 
     /* The records have a hash algorithm other than SHA-1. NSEC3 alone. */
@@ -269,8 +271,7 @@ uint32_t denial_judge_nsec(const uint8_t *apex, size_t apex_length,
  *   limit        the most iterations that are allowed. Where the records have more, nothing is hashed,
  *                and the answer is DENIAL_JUDGED_TOO_MANY_ITERATIONS (RFC 9276, section 3.2).
  *   records      exactly one NSEC3PARAM record of the apex and the class is among them. A response has
- *                none: make one of the first NSEC3 record, whose algorithm, iterations and salt it
- *                repeats (docs/C.md).
+ *                none: for its records call denial_judge_nsec3_alone.
  *
  * NSEC3 records with another algorithm, iterations or salt than the NSEC3PARAM record, or whose owner
  * is not one label in Base 32 hex before the apex, are passed over. A hash is computed for the name,
@@ -284,6 +285,25 @@ uint32_t denial_judge_nsec3(const uint8_t *apex, size_t apex_length,
                             uint16_t rtype, uint16_t rclass, uint16_t limit,
                             const uint8_t *records, size_t records_length,
                             size_t *labels);
+
+/*
+ * What the NSEC3 records of the class answer to the question, where no NSEC3PARAM record is among them,
+ * as in a response: the first of them tells algorithm, iterations and salt. Parameters and answers are
+ * those of denial_judge_nsec3, but for these:
+ *
+ *   records      no NSEC3PARAM record is wanted; records of this type are passed over as all others are.
+ *                NSEC3 records whose owner is not at or below the apex, whose algorithm is not SHA-1, or
+ *                that have a flag beside that of opt-out, are passed over, and tell no parameters (RFC 5155,
+ *                sections 8.1 and 8.2). Of those that are left the first tells them, and those with others
+ *                are passed over as well. Where none is left nothing is proved.
+ *
+ * DENIAL_NO_PARAM never comes. Takes memory as denial_judge_nsec does.
+ */
+uint32_t denial_judge_nsec3_alone(const uint8_t *apex, size_t apex_length,
+                                  const uint8_t *name, size_t name_length,
+                                  uint16_t rtype, uint16_t rclass, uint16_t limit,
+                                  const uint8_t *records, size_t records_length,
+                                  size_t *labels);
 
 /*
  * What the NSEC3 records of the class answer of a name whose records were expanded from a wildcard
@@ -319,6 +339,16 @@ uint32_t denial_judge_nsec3_expansion(const uint8_t *apex, size_t apex_length,
                                       size_t *labels);
 
 /*
+ * The same, where no NSEC3PARAM record is among the records: as denial_judge_nsec3_alone is to
+ * denial_judge_nsec3.
+ */
+uint32_t denial_judge_nsec3_expansion_alone(const uint8_t *apex, size_t apex_length,
+                                            const uint8_t *name, size_t name_length,
+                                            uint8_t rrsig_labels, uint16_t rclass, uint16_t limit,
+                                            const uint8_t *records, size_t records_length,
+                                            size_t *labels);
+
+/*
  * What the NSEC records of the class prove of the one name and the one type. Takes no memory.
  * Parameters are those of denial_judge_nsec; with DENIAL_OPT_OUT and DENIAL_NO_NAME come the labels of
  * the closest encloser.
@@ -351,6 +381,16 @@ uint32_t denial_check_nsec3(const uint8_t *apex, size_t apex_length,
                             uint16_t rtype, uint16_t rclass,
                             const uint8_t *records, size_t records_length,
                             size_t *labels);
+
+/*
+ * The same, where no NSEC3PARAM record is among the records: as denial_judge_nsec3_alone is to
+ * denial_judge_nsec3.
+ */
+uint32_t denial_check_nsec3_alone(const uint8_t *apex, size_t apex_length,
+                                  const uint8_t *name, size_t name_length,
+                                  uint16_t rtype, uint16_t rclass,
+                                  const uint8_t *records, size_t records_length,
+                                  size_t *labels);
 
 /*
  * Writes the NSEC chain of a zone (RFC 4034, section 4; RFC 4035, section 2.3): one record for each owner
@@ -482,6 +522,19 @@ static inline uint32_t denial_judge_nsec3_or_null(const uint8_t *apex, size_t ap
                               labels != NULL ? labels : &number);
 }
 
+static inline uint32_t denial_judge_nsec3_alone_or_null(const uint8_t *apex, size_t apex_length,
+                                                        const uint8_t *name, size_t name_length,
+                                                        uint16_t rtype, uint16_t rclass, uint16_t limit,
+                                                        const uint8_t *records, size_t records_length,
+                                                        size_t *labels)
+{
+    size_t number = 0;
+
+    return denial_judge_nsec3_alone(denial_octets(apex), apex_length, denial_octets(name), name_length,
+                                    rtype, rclass, limit, denial_octets(records), records_length,
+                                    labels != NULL ? labels : &number);
+}
+
 static inline uint32_t denial_judge_nsec3_expansion_or_null(const uint8_t *apex, size_t apex_length,
                                                             const uint8_t *name, size_t name_length,
                                                             uint8_t rrsig_labels, uint16_t rclass,
@@ -494,6 +547,23 @@ static inline uint32_t denial_judge_nsec3_expansion_or_null(const uint8_t *apex,
                                         name_length, rrsig_labels, rclass, limit,
                                         denial_octets(records), records_length,
                                         labels != NULL ? labels : &number);
+}
+
+static inline uint32_t denial_judge_nsec3_expansion_alone_or_null(const uint8_t *apex,
+                                                                  size_t apex_length,
+                                                                  const uint8_t *name,
+                                                                  size_t name_length,
+                                                                  uint8_t rrsig_labels, uint16_t rclass,
+                                                                  uint16_t limit,
+                                                                  const uint8_t *records,
+                                                                  size_t records_length, size_t *labels)
+{
+    size_t number = 0;
+
+    return denial_judge_nsec3_expansion_alone(denial_octets(apex), apex_length, denial_octets(name),
+                                              name_length, rrsig_labels, rclass, limit,
+                                              denial_octets(records), records_length,
+                                              labels != NULL ? labels : &number);
 }
 
 static inline uint32_t denial_check_nsec_or_null(const uint8_t *apex, size_t apex_length,
@@ -520,6 +590,19 @@ static inline uint32_t denial_check_nsec3_or_null(const uint8_t *apex, size_t ap
     return denial_check_nsec3(denial_octets(apex), apex_length, denial_octets(name), name_length, rtype,
                               rclass, denial_octets(records), records_length,
                               labels != NULL ? labels : &number);
+}
+
+static inline uint32_t denial_check_nsec3_alone_or_null(const uint8_t *apex, size_t apex_length,
+                                                        const uint8_t *name, size_t name_length,
+                                                        uint16_t rtype, uint16_t rclass,
+                                                        const uint8_t *records, size_t records_length,
+                                                        size_t *labels)
+{
+    size_t number = 0;
+
+    return denial_check_nsec3_alone(denial_octets(apex), apex_length, denial_octets(name), name_length,
+                                    rtype, rclass, denial_octets(records), records_length,
+                                    labels != NULL ? labels : &number);
 }
 
 static inline uint32_t denial_nsec_chain_or_null(const uint8_t *apex, size_t apex_length,
@@ -556,9 +639,12 @@ static inline uint32_t denial_nsec3_chain_or_null(const uint8_t *apex, size_t ap
 
 #define denial_judge_nsec(...) denial_judge_nsec_or_null(__VA_ARGS__)
 #define denial_judge_nsec3(...) denial_judge_nsec3_or_null(__VA_ARGS__)
+#define denial_judge_nsec3_alone(...) denial_judge_nsec3_alone_or_null(__VA_ARGS__)
 #define denial_judge_nsec3_expansion(...) denial_judge_nsec3_expansion_or_null(__VA_ARGS__)
+#define denial_judge_nsec3_expansion_alone(...) denial_judge_nsec3_expansion_alone_or_null(__VA_ARGS__)
 #define denial_check_nsec(...) denial_check_nsec_or_null(__VA_ARGS__)
 #define denial_check_nsec3(...) denial_check_nsec3_or_null(__VA_ARGS__)
+#define denial_check_nsec3_alone(...) denial_check_nsec3_alone_or_null(__VA_ARGS__)
 #define denial_nsec_chain(...) denial_nsec_chain_or_null(__VA_ARGS__)
 #define denial_nsec3_chain(...) denial_nsec3_chain_or_null(__VA_ARGS__)
 

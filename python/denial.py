@@ -66,10 +66,12 @@ class Denial:
         buffer = [ctypes.c_void_p, ctypes.c_size_t]
         self._declare("denial_version", [])
         self._declare("denial_find_text", [ctypes.c_uint32, ctypes.POINTER(ctypes.POINTER(ctypes.c_char * TEXT_ROOM))], None)
-        for call in ("denial_judge_nsec", "denial_check_nsec", "denial_check_nsec3"):
+        for call in ("denial_judge_nsec", "denial_check_nsec", "denial_check_nsec3", "denial_check_nsec3_alone"):
             self._declare(call, [*octets, *octets, number, number, *octets, out])
-        self._declare("denial_judge_nsec3", [*octets, *octets, number, number, number, *octets, out])
-        self._declare("denial_judge_nsec3_expansion", [*octets, *octets, ctypes.c_uint8, number, number, *octets, out])
+        for call in ("denial_judge_nsec3", "denial_judge_nsec3_alone"):
+            self._declare(call, [*octets, *octets, number, number, number, *octets, out])
+        for call in ("denial_judge_nsec3_expansion", "denial_judge_nsec3_expansion_alone"):
+            self._declare(call, [*octets, *octets, ctypes.c_uint8, number, number, *octets, out])
         self._declare("denial_nsec_chain", [*octets, number, ctypes.c_bool, ctypes.c_bool, *octets, *buffer, out])
         self._declare("denial_nsec3_chain", [*octets, number, ctypes.c_bool, ctypes.c_bool, number, *octets, ctypes.c_bool, *octets, *buffer,
                                              out])
@@ -101,22 +103,26 @@ class Denial:
         """What NSEC records answer to a question about a name and a type, as a whole."""
         return self._answer(self._library.denial_judge_nsec, apex, len(apex), name, len(name), rtype, rclass, records, len(records))
 
-    def judge_nsec3(self, apex, name, rtype, records, rclass=IN, limit=150):
-        """What NSEC3 records answer, with the one NSEC3PARAM record of the apex among them."""
-        return self._answer(self._library.denial_judge_nsec3, apex, len(apex), name, len(name), rtype, rclass, limit, records, len(records))
+    def judge_nsec3(self, apex, name, rtype, records, rclass=IN, limit=150, alone=False):
+        """What NSEC3 records answer, with the one NSEC3PARAM record of the apex among them; alone, the first of them tells the parameters,
+        as in a response."""
+        call = self._library.denial_judge_nsec3_alone if alone else self._library.denial_judge_nsec3
+        return self._answer(call, apex, len(apex), name, len(name), rtype, rclass, limit, records, len(records))
 
-    def judge_nsec3_expansion(self, apex, name, rrsig_labels, records, rclass=IN, limit=150):
+    def judge_nsec3_expansion(self, apex, name, rrsig_labels, records, rclass=IN, limit=150, alone=False):
         """What NSEC3 records answer of a name whose records were expanded from a wildcard, with the labels that their signatures tell."""
-        return self._answer(self._library.denial_judge_nsec3_expansion, apex, len(apex), name, len(name), rrsig_labels, rclass, limit,
-                            records, len(records))
+        call = self._library.denial_judge_nsec3_expansion_alone if alone else self._library.denial_judge_nsec3_expansion
+        return self._answer(call, apex, len(apex), name, len(name), rrsig_labels, rclass, limit, records, len(records))
 
     def check_nsec(self, apex, name, rtype, records, rclass=IN):
         """What NSEC records prove of one name and one type."""
         return self._answer(self._library.denial_check_nsec, apex, len(apex), name, len(name), rtype, rclass, records, len(records))
 
-    def check_nsec3(self, apex, name, rtype, records, rclass=IN):
-        """What NSEC3 records prove of one name and one type, with the one NSEC3PARAM record of the apex among them."""
-        return self._answer(self._library.denial_check_nsec3, apex, len(apex), name, len(name), rtype, rclass, records, len(records))
+    def check_nsec3(self, apex, name, rtype, records, rclass=IN, alone=False):
+        """What NSEC3 records prove of one name and one type, with the one NSEC3PARAM record of the apex among them; alone, the first of them
+        tells the parameters."""
+        call = self._library.denial_check_nsec3_alone if alone else self._library.denial_check_nsec3
+        return self._answer(call, apex, len(apex), name, len(name), rtype, rclass, records, len(records))
 
     def _chain(self, call, *words):
         """Calls with a buffer that has room, which the first call asks for, and gives the octets of the chain."""

@@ -46,7 +46,9 @@ fn asked(call: &str, words: &[&str]) -> Result<Result<Answer, Fault>, Box<dyn Er
     Ok(match call {
         "judge_nsec" => denial::judge_nsec(&apex, &name, rtype, class, &records),
         "judge_nsec3" => denial::judge_nsec3(&apex, &name, rtype, class, words[4].parse()?, &records),
+        "judge_nsec3_alone" => denial::judge_nsec3_alone(&apex, &name, rtype, class, words[4].parse()?, &records),
         "check_nsec" => denial::check_nsec(&apex, &name, rtype, class, &records),
+        "check_nsec3_alone" => denial::check_nsec3_alone(&apex, &name, rtype, class, &records),
         _ => denial::check_nsec3(&apex, &name, rtype, class, &records),
     })
 }

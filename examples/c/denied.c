@@ -85,16 +85,16 @@ static uint32_t ask(const struct input *input, const ldns_rdf *apex, int is_chec
     uint16_t rtype = (uint16_t)input->rtype;
 
     if (is_check)
-        return (input->is_hashed ? denial_check_nsec3 : denial_check_nsec)(
+        return (input->is_hashed ? denial_check_nsec3_alone : denial_check_nsec)(
             at_apex, apex_length, at_name, name_length, rtype, LDNS_RR_CLASS_IN, records, length, labels);
     if (!input->is_hashed)
         return denial_judge_nsec(at_apex, apex_length, at_name, name_length, rtype, LDNS_RR_CLASS_IN, records, length,
                                  labels);
     if (input->is_expanded)
-        return denial_judge_nsec3_expansion(at_apex, apex_length, at_name, name_length, input->rrsig_labels,
-                                            LDNS_RR_CLASS_IN, MOST_ITERATIONS, records, length, labels);
-    return denial_judge_nsec3(at_apex, apex_length, at_name, name_length, rtype, LDNS_RR_CLASS_IN, MOST_ITERATIONS,
-                              records, length, labels);
+        return denial_judge_nsec3_expansion_alone(at_apex, apex_length, at_name, name_length, input->rrsig_labels,
+                                                  LDNS_RR_CLASS_IN, MOST_ITERATIONS, records, length, labels);
+    return denial_judge_nsec3_alone(at_apex, apex_length, at_name, name_length, rtype, LDNS_RR_CLASS_IN,
+                                    MOST_ITERATIONS, records, length, labels);
 }
 
 int main(int argc, char **argv)

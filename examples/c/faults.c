@@ -150,11 +150,12 @@ static void put_param(struct octets *to, const char *owner, int algorithm)
     put_param_of(to, owner, algorithm, 0);
 }
 
-static void put_nsec3(struct octets *to, const char *owner, int flags, const char *next, const int *rtypes)
+static void put_nsec3_of(struct octets *to, const char *owner, int algorithm, int flags, const char *next,
+                         const int *rtypes)
 {
     struct octets data = {{0}, 0};
 
-    put_number(&data, 1, 1);
+    put_number(&data, (unsigned long)algorithm, 1);
     put_number(&data, (unsigned long)flags, 1);
     put_number(&data, 0, 2);
     put_number(&data, 0, 1);
@@ -162,6 +163,11 @@ static void put_nsec3(struct octets *to, const char *owner, int flags, const cha
     put(&data, next, 20);
     put_types(&data, rtypes);
     put_record(to, owner, NSEC3, IN, &data);
+}
+
+static void put_nsec3(struct octets *to, const char *owner, int flags, const char *next, const int *rtypes)
+{
+    put_nsec3_of(to, owner, 1, flags, next, rtypes);
 }
 
 /* Compares an answer and its labels with those that must come. */
@@ -194,6 +200,21 @@ static uint32_t judge_expansion(const uint8_t *apex, size_t apex_length, const u
 {
     return denial_judge_nsec3_expansion(apex, apex_length, name, name_length, (uint8_t)rtype, rclass, limit, records,
                                         length, labels);
+}
+
+static uint32_t judge_alone(const uint8_t *apex, size_t apex_length, const uint8_t *name, size_t name_length,
+                            uint16_t rtype, uint16_t rclass, const uint8_t *records, size_t length, size_t *labels)
+{
+    return denial_judge_nsec3_alone(apex, apex_length, name, name_length, rtype, rclass, limit, records, length,
+                                    labels);
+}
+
+static uint32_t expansion_alone(const uint8_t *apex, size_t apex_length, const uint8_t *name, size_t name_length,
+                                uint16_t rtype, uint16_t rclass, const uint8_t *records, size_t length,
+                                size_t *labels)
+{
+    return denial_judge_nsec3_expansion_alone(apex, apex_length, name, name_length, (uint8_t)rtype, rclass, limit,
+                                              records, length, labels);
 }
 
 /* Asks, with octets that lie in blocks of their own length. */
@@ -448,6 +469,55 @@ static void try_expansions(void)
     limit = 0;
 }
 
+/* NSEC3 records without an NSEC3PARAM record: the first that is not passed over tells the parameters. */
+static void try_alone(void)
+{
+    static const char low[20] = {0}, high[20] = "\377\377\377\377\377\377\377\377\377\377"
+                                                "\377\377\377\377\377\377\377\377\377";
+    static const char zero_owner[] = "00000000000000000000000000000000.a.";
+    struct octets chain = {{0}, 0}, other = {{0}, 0}, unknown = {{0}, 0}, none = {{0}, 0}, broken = {{1}, 1};
+    struct octets apex = {{0}, 0}, name = {{0}, 0};
+
+    put_nsec3(&chain, apex_owner, 0, low, at_apex);
+    put_nsec3(&chain, zero_owner, 0, high, nothing);
+    /* Data of an NSEC3PARAM record may be anything. */
+    put_record(&chain, "a.", NSEC3PARAM, IN, &broken);
+    ask(denial_check_nsec3_alone, "a.", "a.", SOA, &chain, DENIAL_HAS, 0);
+    ask(denial_check_nsec3_alone, "A.", "x.y.a.", A, &chain, DENIAL_NO_NAME, 1);
+    ask(judge_alone, "a.", "a.", SOA, &chain, DENIAL_JUDGED_EXISTS, 0);
+    ask(judge_alone, "a.", "x.a.", A, &chain, DENIAL_JUDGED_NAME_ERROR, 1);
+    ask(judge_alone, "a.", "b.", A, &chain, DENIAL_JUDGED_OUTSIDE_ZONE, 0);
+    ask(expansion_alone, "a.", "x.a.", 1, &chain, DENIAL_JUDGED_NO_CLOSER_NAME, 1);
+    /* Records that are passed over tell nothing: of another algorithm, of an unknown flag, of another zone. */
+    put_nsec3_of(&unknown, zero_owner, 2, 0, high, nothing);
+    put_nsec3(&unknown, zero_owner, 2, high, nothing);
+    put_salted_nsec3(&unknown, "00000000000000000000000000000000.b.", 0, high, nothing);
+    ask(judge_alone, "a.", "x.a.", A, &unknown, DENIAL_JUDGED_NOT_PROVEN, 0);
+    put(&unknown, chain.at, chain.length);
+    ask(judge_alone, "a.", "x.a.", A, &unknown, DENIAL_JUDGED_NAME_ERROR, 1);
+    ask(denial_check_nsec3_alone, "a.", "x.a.", A, &unknown, DENIAL_NO_NAME, 1);
+    ask(expansion_alone, "a.", "x.a.", 1, &unknown, DENIAL_JUDGED_NO_CLOSER_NAME, 1);
+    /* The first tells 12 iterations and a salt, so that the others are passed over. */
+    put_salted_nsec3(&other, zero_owner, 0, high, nothing);
+    put(&other, chain.at, chain.length);
+    ask(judge_alone, "a.", "a.", SOA, &other, DENIAL_JUDGED_TOO_MANY_ITERATIONS, 0);
+    limit = 12;
+    ask(judge_alone, "a.", "a.", SOA, &other, DENIAL_JUDGED_NOT_PROVEN, 0);
+    limit = 0;
+    ask(denial_check_nsec3_alone, "a.", "a.", SOA, &other, DENIAL_NOT_PROVEN, 0);
+    ask(judge_alone, "a.", "a.", SOA, &none, DENIAL_JUDGED_NOT_PROVEN, 0);
+    ask(denial_check_nsec3_alone, "a.", "b.", SOA, &none, DENIAL_OUTSIDE_ZONE, 0);
+    put_name(&apex, "a.");
+    put_name(&name, "x.a.");
+    put_record(&chain, zero_owner, NSEC3, IN, &broken);
+    refuse(judge_alone, &apex, &name, &chain, DENIAL_BAD_RECORDS);
+    refuse(expansion_alone, &apex, &name, &chain, DENIAL_BAD_RECORDS);
+    name.length--;
+    refuse(judge_alone, &apex, &name, &chain, DENIAL_BAD_NAME);
+    apex.length--;
+    refuse(denial_check_nsec3_alone, &apex, &name, &chain, DENIAL_BAD_APEX);
+}
+
 /* Each number's text; the least number that has none follows the last that has one. */
 static void try_texts(void)
 {
@@ -609,6 +679,9 @@ static void try_short_of_memory(void)
     refuse_each_request(denial_check_nsec3, "NSEC3 verdicts, short of memory", &nsec3s);
     refuse_each_request(judge_nsec3, "NSEC3, short of memory", &nsec3s);
     refuse_each_request(judge_expansion, "expansions, short of memory", &nsec3s);
+    refuse_each_request(judge_alone, "NSEC3 alone, short of memory", &nsec3s);
+    refuse_each_request(expansion_alone, "expansions alone, short of memory", &nsec3s);
+    refuse_each_request(denial_check_nsec3_alone, "NSEC3 verdicts alone, short of memory", &nsec3s);
 }
 
 /* Null in the place of octets of length 0, and of what is written. */
@@ -634,8 +707,15 @@ static void try_null(void)
     expect("no name", denial_check_nsec3(apex.at, apex.length, NULL, 0, A, IN, NULL, 0, NULL), 0, DENIAL_BAD_NAME, 0);
     expect("no records", denial_judge_nsec3(apex.at, apex.length, apex.at, apex.length, A, IN, 0, NULL, 0, NULL), 0,
            DENIAL_NO_PARAM, 0);
+    expect("no records", denial_judge_nsec3_alone(apex.at, apex.length, apex.at, apex.length, A, IN, 0, NULL, 0, NULL), 0,
+           DENIAL_JUDGED_NOT_PROVEN, 0);
     expect("no records", denial_judge_nsec3_expansion(apex.at, apex.length, apex.at, apex.length, 0, IN, 0, NULL, 0, NULL), 0,
            DENIAL_NO_PARAM, 0);
+    expect("no records",
+           denial_judge_nsec3_expansion_alone(apex.at, apex.length, apex.at, apex.length, 0, IN, 0, NULL, 0, NULL), 0,
+           DENIAL_JUDGED_NOT_PROVEN, 0);
+    expect("no records", denial_check_nsec3_alone(apex.at, apex.length, apex.at, apex.length, A, IN, NULL, 0, NULL), 0,
+           DENIAL_NOT_PROVEN, 0);
     expect("no buffer", denial_nsec_chain(apex.at, apex.length, IN, true, false, zone.at, zone.length, NULL, 0, &count), 0,
            DENIAL_SHORT_BUFFER, 0);
     expect("no count", denial_nsec_chain(apex.at, apex.length, IN, true, false, zone.at, zone.length, made, count, NULL), 0,
@@ -807,6 +887,7 @@ int main(void)
     try_nsec_answers();
     try_nsec3_answers();
     try_expansions();
+    try_alone();
     try_texts();
     try_nsec_faults(denial_check_nsec, DENIAL_NOT_PROVEN);
     try_nsec_faults(denial_judge_nsec, DENIAL_JUDGED_NOT_PROVEN);

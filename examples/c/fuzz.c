@@ -81,9 +81,13 @@ static size_t count_labels(const struct octets *octets)
     return count;
 }
 
-/* The calls: of each chain that for a verdict, and that for a whole answer; and that for an answer
- * which was expanded from a wildcard. */
-enum { IS_HASHED = 1, IS_JUDGED = 2, EXPANSION = 4, CALLS = 5, LIMIT = 20 };
+/* The calls: of each chain that for a verdict, and that for a whole answer; that for an answer which
+ * was expanded from a wildcard; and the three of NSEC3 that want no NSEC3PARAM record, which have the
+ * numbers of those that do and ALONE. */
+enum { IS_HASHED = 1, IS_JUDGED = 2, EXPANSION = 4, ALONE = 8, LIMIT = 20 };
+
+static const int calls[] = {0, IS_HASHED, IS_JUDGED, IS_HASHED | IS_JUDGED, EXPANSION,
+                            ALONE | IS_HASHED, ALONE | IS_HASHED | IS_JUDGED, ALONE | EXPANSION};
 
 static int is_fault(uint32_t answer)
 {
@@ -109,7 +113,9 @@ static int is_answer(uint32_t answer, int call)
 {
     int is_hashed = (call & IS_HASHED) != 0;
 
-    if (call == EXPANSION)
+    if (call & ALONE && answer == DENIAL_NO_PARAM)
+        return 0;
+    if (call & EXPANSION)
         return is_expansion_answer(answer);
     if (is_fault(answer))
         return is_hashed || answer <= DENIAL_BAD_RECORDS;
@@ -138,6 +144,15 @@ static uint32_t ask_call(int call, uint16_t rtype, const uint8_t *at[3], size_t 
     case EXPANSION:
         return denial_judge_nsec3_expansion(at[0], apex.length, at[1], name.length, labels_of(rtype), 1, LIMIT,
                                             at[2], message.length, labels);
+    case ALONE | IS_HASHED:
+        return denial_check_nsec3_alone(at[0], apex.length, at[1], name.length, rtype, 1, at[2], message.length,
+                                        labels);
+    case ALONE | IS_HASHED | IS_JUDGED:
+        return denial_judge_nsec3_alone(at[0], apex.length, at[1], name.length, rtype, 1, LIMIT, at[2],
+                                        message.length, labels);
+    case ALONE | EXPANSION:
+        return denial_judge_nsec3_expansion_alone(at[0], apex.length, at[1], name.length, labels_of(rtype), 1, LIMIT,
+                                                  at[2], message.length, labels);
     default:
         return denial_judge_nsec3(at[0], apex.length, at[1], name.length, rtype, 1, LIMIT, at[2], message.length,
                                   labels);
@@ -160,20 +175,21 @@ static void compare(uint32_t verdict, uint32_t judged)
 static void ask(uint16_t rtype)
 {
     const uint8_t *at[3];
-    uint32_t said[CALLS];
-    int call;
+    uint32_t said[16] = {0};
+    size_t i;
 
     at[0] = place(&guards[0], &apex);
     at[1] = place(&guards[1], &name);
     at[2] = place(&guards[2], &message);
-    for (call = 0; call < CALLS; call++) {
+    for (i = 0; i < sizeof calls / sizeof *calls; i++) {
         size_t labels = 999, again_labels = 999;
+        int call = calls[i];
         uint32_t again;
 
         said[call] = ask_call(call, rtype, at, &labels);
         again = ask_call(call, rtype, at, &again_labels);
         if (!is_answer(said[call], call) || again != said[call] || again_labels != labels
-            || labels > count_labels(&name) || (call == EXPANSION && labels > 0 && labels != labels_of(rtype))) {
+            || labels > count_labels(&name) || (call & EXPANSION && labels > 0 && labels != labels_of(rtype))) {
             printf("differs: answer %u with %zu labels, and again %u with %zu\n", (unsigned)said[call], labels,
                    (unsigned)again, again_labels);
             exit(1);
@@ -183,6 +199,8 @@ static void ask(uint16_t rtype)
     compare(said[0], said[IS_JUDGED]);
     compare(said[IS_HASHED], said[IS_HASHED | IS_JUDGED]);
     compare(said[IS_HASHED], said[EXPANSION]);
+    compare(said[ALONE | IS_HASHED], said[ALONE | IS_HASHED | IS_JUDGED]);
+    compare(said[ALONE | IS_HASHED], said[ALONE | EXPANSION]);
 }
 
 /* Makes a chain of the message into so much room, which ends before what can't be written. */

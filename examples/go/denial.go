@@ -112,6 +112,26 @@ func CheckNsec3(apex, name []byte, rtype, class uint16, records []byte) (Answer,
 	return answer(number, labels)
 }
 
+// JudgeNsec3Alone says what NSEC3 records answer, with no NSEC3PARAM record among them: the first of them tells the parameters.
+func JudgeNsec3Alone(apex, name []byte, rtype, class, limit uint16, records []byte) (Answer, error) {
+	var labels C.size_t
+	a, aLength := octets(apex)
+	n, nLength := octets(name)
+	r, rLength := octets(records)
+	number := C.denial_judge_nsec3_alone(a, aLength, n, nLength, C.uint16_t(rtype), C.uint16_t(class), C.uint16_t(limit), r, rLength, &labels)
+	return answer(number, labels)
+}
+
+// CheckNsec3Alone says what NSEC3 records prove of one name and one type, with no NSEC3PARAM record among them.
+func CheckNsec3Alone(apex, name []byte, rtype, class uint16, records []byte) (Answer, error) {
+	var labels C.size_t
+	a, aLength := octets(apex)
+	n, nLength := octets(name)
+	r, rLength := octets(records)
+	number := C.denial_check_nsec3_alone(a, aLength, n, nLength, C.uint16_t(rtype), C.uint16_t(class), r, rLength, &labels)
+	return answer(number, labels)
+}
+
 // chain asks with no room how much there must be, and then with that.
 func chain(call func(*C.uint8_t, C.size_t, *C.size_t) C.uint32_t) ([]byte, error) {
 	var room []byte
@@ -200,8 +220,12 @@ func said(call string, words []string) (string, error) {
 		answer, err = JudgeNsec(apex, name, rtype, class, records)
 	case "judge_nsec3":
 		answer, err = JudgeNsec3(apex, name, rtype, class, number(words[4]), records)
+	case "judge_nsec3_alone":
+		answer, err = JudgeNsec3Alone(apex, name, rtype, class, number(words[4]), records)
 	case "check_nsec":
 		answer, err = CheckNsec(apex, name, rtype, class, records)
+	case "check_nsec3_alone":
+		answer, err = CheckNsec3Alone(apex, name, rtype, class, records)
 	default:
 		answer, err = CheckNsec3(apex, name, rtype, class, records)
 	}

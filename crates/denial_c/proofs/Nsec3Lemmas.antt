@@ -1,13 +1,16 @@
 -- Faults of NSEC3 records.
-use Rattle.std.proofs.Common.{ℕ, List, inl, inr}
+use Rattle.std.proofs.Common.{◌≡◌, ℕ, Bool, true, false, cond, List, [], ◌∷◌, map, inl, inr, refl, ap}
+use Rattle.std.specs.Prelude.{filter}
 use Rattle.domain_base.specs.Words.{Name}
 use Rattle.domain_nsec3.specs.Chain.{HashedLink}
 use Rattle.denial_c.specs.Among.{AreNsec3s}
-use Rattle.denial_c.specs.Result.{IsChainFault, IsNsec3Fault, IsNsec3sFault, IsParamFault, IsSpelled, Spells}
+use Rattle.denial_c.specs.Result.{source_of, IsChainFault, IsNsec3Fault, IsNsec3sFault, IsParamFault, IsSpelled, Spells}
 use Rattle.denial_c.specs.declared.fault.Fault.{Fault}
+use Rattle.denial_c.specs.declared.nsec3.Telling.{Telling}
+use Rattle.denial_c.specs.declared.nsec3.Telling.TheVariants.{ByRecord, ByFirst}
 use Rattle.denial_c.specs.declared.fault.Fault.TheVariants.{Apex as Apexless, Name as Nameless, Records, Param, Hasher, OutOfMemory}
 
-pub nsec3s_fault : (a : Name) (class : ℕ) (octets : List ℕ) (e : Fault) → IsNsec3sFault class octets e → IsChainFault a class octets e
+pub nsec3s_fault : (a : Name) (class : ℕ) (octets : List ℕ) (e : Fault) → IsNsec3sFault class octets e → IsChainFault class octets a e
 nsec3s_fault a class octets Apexless h = absurd h
 nsec3s_fault a class octets Nameless h = absurd h
 nsec3s_fault a class octets Records h = inl h
@@ -16,7 +19,7 @@ nsec3s_fault a class octets Hasher h = absurd h
 nsec3s_fault a class octets OutOfMemory h = tt
 
 pub param_fault : (a : Name) (class : ℕ) (octets : List ℕ) (links : List HashedLink) → AreNsec3s class octets links → (e : Fault)
-    → IsParamFault a class octets e → IsChainFault a class octets e
+    → IsParamFault a class octets e → IsChainFault class octets a e
 param_fault a class octets links are Apexless h = absurd h
 param_fault a class octets links are Nameless h = absurd h
 param_fault a class octets links are Records h = inr h
@@ -24,11 +27,28 @@ param_fault a class octets links are Param h = (links, are, h)
 param_fault a class octets links are Hasher h = absurd h
 param_fault a class octets links are OutOfMemory h = tt
 
-pub chain_fault : (apex name : List ℕ) (class : ℕ) (octets : List ℕ) (refused : Type 0) (a : Name) → Spells apex a → IsSpelled name → (e : Fault)
-    → IsChainFault a class octets e → IsNsec3Fault apex name class octets refused e
-chain_fault apex name class octets refused a spells spelled Apexless h = absurd h
-chain_fault apex name class octets refused a spells spelled Nameless h = absurd h
-chain_fault apex name class octets refused a spells spelled Records h = (spelled, (a, spells, h))
-chain_fault apex name class octets refused a spells spelled Param h = (spelled, (a, spells, h))
-chain_fault apex name class octets refused a spells spelled Hasher h = absurd h
-chain_fault apex name class octets refused a spells spelled OutOfMemory h = tt
+-- a fault of records is none of names, nor of hashes
+none_else : (telling : Telling) (a : Name) (class : ℕ) (octets : List ℕ) →
+    ((source_of telling class octets).is_fault a Apexless → ⊥) × ((source_of telling class octets).is_fault a Nameless → ⊥)
+    × ((source_of telling class octets).is_fault a Hasher → ⊥)
+none_else ByRecord a class octets = ((λ h. h), (λ h. h), λ h. h)
+none_else ByFirst a class octets = ((λ h. h), (λ h. h), λ h. h)
+
+pub chain_fault : (telling : Telling) (apex name : List ℕ) (class : ℕ) (octets : List ℕ) (refused : Type 0) (a : Name) → Spells apex a → IsSpelled name
+    → (e : Fault) → (source_of telling class octets).is_fault a e → IsNsec3Fault (source_of telling class octets) apex name refused e
+chain_fault telling apex name class octets refused a spells spelled Apexless h = absurd ((none_else telling a class octets).0 h)
+chain_fault telling apex name class octets refused a spells spelled Nameless h = absurd ((none_else telling a class octets).1 h)
+chain_fault telling apex name class octets refused a spells spelled Records h = (spelled, (a, spells, h))
+chain_fault telling apex name class octets refused a spells spelled Param h = (spelled, (a, spells, h))
+chain_fault telling apex name class octets refused a spells spelled Hasher h = absurd ((none_else telling a class octets).2 h)
+chain_fault telling apex name class octets refused a spells spelled OutOfMemory h = tt
+
+-- what is mapped and passes a test, tested before
+pub map_filter : {X Y : Type 0} (f : X → Y) (q : Y → Bool) (xs : List X) → map f (filter (λ x. q (f x)) xs) ≡ filter q (map f xs)
+map_filter f q [] = refl
+map_filter f q (x ∷ xs) =
+    elim (q (f x)) as (λ b. map f (cond b (x ∷ filter (λ y. q (f y)) xs) (filter (λ y. q (f y)) xs))
+    ≡ cond b (f x ∷ filter q (map f xs)) (filter q (map f xs))) [
+      | true ↦ ap (λ t. f x ∷ t) (map_filter f q xs)
+      | false ↦ map_filter f q xs
+    ]

@@ -15,7 +15,7 @@ use Rattle.domain_answer.specs.Reading.{reading}
 use Rattle.domain_answer.specs.ZoneAnswer.{is_at_parent}
 use Rattle.domain_answer.specs.declared.answer.Answer.{Answer}
 use Rattle.domain_answer.specs.declared.answer.Answer.TheVariants.{OutsideZone, AtParent, NotProven, TooManyIterations}
-use Rattle.denial_c.specs.Result.{hash_of, AreAsked, AreNsecsAsked, HasNoNsecs, IsNsecFault, IsNsec3Fault}
+use Rattle.denial_c.specs.Result.{hash_of, AreAsked, AreNsecsAsked, HasNoNsecs, IsNsecFault, IsNsec3Fault, Source}
 use Rattle.denial_c.specs.declared.fault.Fault.{Fault}
 use Rattle.denial_c.specs.declared.fault.Fault.TheVariants as fault
 
@@ -51,13 +51,13 @@ IsNsecAnswer apex name t class records (Err e) = IsNsecFault apex name class rec
 -- ---- NSEC3
 
 -- the answer to the name and the type t, with at most so many iterations
-pub record HasNsec3Answer (apex name : Octets) (t class limit : ℕ) (records : Octets)
-    (answer : Answer) : Type 0 where
+pub record HasNsec3Answer (source : Source) (apex name : Octets) (t limit : ℕ) (answer : Answer)
+    : Type 0 where
   pub a : Name
   pub x : Name
   pub links : List HashedLink
   pub param : ParamRecord
-  pub asked : AreAsked apex name class records a x links param
+  pub asked : AreAsked source apex name a x links param
   pub outside : is_at_or_below x a ≡ false → answer ≡ OutsideZone
   pub parent : is_at_or_below x a ≡ true → is_at_parent a x t ≡ true → answer ≡ AtParent
   pub iterations : needs_no_records a x t ≡ false → limit < param.parameters.iterations
@@ -70,36 +70,35 @@ pub record HasNsec3Answer (apex name : Octets) (t class limit : ℕ) (records : 
   pub within : CountsWithin (length x) answer
 
 -- names are hashed, and the hasher refuses one of these
-pub record IsAnswerRefused (apex name : Octets) (t class limit : ℕ) (records : Octets)
-    : Type 0 where
+pub record IsAnswerRefused (source : Source) (apex name : Octets) (t limit : ℕ) : Type 0 where
   pub a : Name
   pub x : Name
   pub links : List HashedLink
   pub param : ParamRecord
   pub reason : ℕ
-  pub asked : AreAsked apex name class records a x links param
+  pub asked : AreAsked source apex name a x links param
   pub needed : needs_no_records a x t ≡ false
   pub allowed : param.parameters.iterations ≤ limit
   pub first : IsFirstOfRefusals links a param.parameters (hash_of param) x t reason
 
 -- of faults the first that stands is told, but for want of memory, which may come before others
-abbrev pub IsNsec3Answer : Octets → Octets → ℕ → ℕ → ℕ → Octets → Result Answer Fault → Type 0
-IsNsec3Answer apex name t class limit records (Ok answer) =
-    HasNsec3Answer apex name t class limit records answer
-IsNsec3Answer apex name t class limit records (Err e) =
-    IsNsec3Fault apex name class records (IsAnswerRefused apex name t class limit records) e
+abbrev pub IsNsec3Answer : Source → Octets → Octets → ℕ → ℕ → Result Answer Fault → Type 0
+IsNsec3Answer source apex name t limit (Ok answer) =
+    HasNsec3Answer source apex name t limit answer
+IsNsec3Answer source apex name t limit (Err e) =
+    IsNsec3Fault source apex name (IsAnswerRefused source apex name t limit) e
 
 -- ---- NSEC3, of a name whose records were expanded from a wildcard
 
 -- the answer, where n is the field Labels of the signatures of those records, with at most so many
 -- iterations
-pub record HasExpansionAnswer (apex name : Octets) (n class limit : ℕ) (records : Octets)
+pub record HasExpansionAnswer (source : Source) (apex name : Octets) (n limit : ℕ)
     (answer : Answer) : Type 0 where
   pub a : Name
   pub x : Name
   pub links : List HashedLink
   pub param : ParamRecord
-  pub asked : AreAsked apex name class records a x links param
+  pub asked : AreAsked source apex name a x links param
   pub outside : is_at_or_below x a ≡ false → answer ≡ OutsideZone
   pub none : is_at_or_below x a ≡ true → is_expanded a x n ≡ false → answer ≡ NotProven
   pub iterations : is_expanded a x n ≡ true → limit < param.parameters.iterations
@@ -112,21 +111,21 @@ pub record HasExpansionAnswer (apex name : Octets) (n class limit : ℕ) (record
   pub within : CountsWithin (length x) answer
 
 -- the one name that is hashed, the next closer name, is refused by the hasher
-pub record IsExpansionRefused (apex name : Octets) (n class limit : ℕ) (records : Octets)
+pub record IsExpansionRefused (source : Source) (apex name : Octets) (n limit : ℕ)
     : Type 0 where
   pub a : Name
   pub x : Name
   pub links : List HashedLink
   pub param : ParamRecord
   pub reason : ℕ
-  pub asked : AreAsked apex name class records a x links param
+  pub asked : AreAsked source apex name a x links param
   pub needed : is_expanded a x n ≡ true
   pub allowed : param.parameters.iterations ≤ limit
   pub refused : hash_name (hash_of param) (closer_name n x) ≡ Err reason
 
 -- of faults the first that stands is told, but for want of memory, which may come before others
-abbrev pub IsExpansionAnswer : Octets → Octets → ℕ → ℕ → ℕ → Octets → Result Answer Fault → Type 0
-IsExpansionAnswer apex name n class limit records (Ok answer) =
-    HasExpansionAnswer apex name n class limit records answer
-IsExpansionAnswer apex name n class limit records (Err e) =
-    IsNsec3Fault apex name class records (IsExpansionRefused apex name n class limit records) e
+abbrev pub IsExpansionAnswer : Source → Octets → Octets → ℕ → ℕ → Result Answer Fault → Type 0
+IsExpansionAnswer source apex name n limit (Ok answer) =
+    HasExpansionAnswer source apex name n limit answer
+IsExpansionAnswer source apex name n limit (Err e) =
+    IsNsec3Fault source apex name (IsExpansionRefused source apex name n limit) e

@@ -1,12 +1,12 @@
 -- What is answered of octets: a verdict, which is that of the library over the records that the
 -- octets are, or exactly why there is none.
-use Rattle.std.specs.Prelude.{◌≡◌, ◌≢◌, ◌⊎◌, ℕ, true, false, List, [], ◌∷◌, length, Result, Ok, Err}
+use Rattle.std.specs.Prelude.{◌≡◌, ◌≢◌, ◌⊎◌, ◌&&◌, ◌==◌, nat_lt, ℕ, Bool, true, false, List, [], ◌∷◌, filter, length, Result, Ok, Err}
 use Rattle.domain_octets.specs.Words.{Octets}
 use Rattle.domain_base.specs.Name.{is_at_or_below, wire_of, IsName}
 use Rattle.domain_base.specs.Words.{Name}
 use Rattle.domain_nsec.specs.Chain.{Link}
 use Rattle.domain_nsec3.specs.Chain.{HashedLink, ParamRecord}
-use Rattle.domain_nsec3.specs.Config.{Hash}
+use Rattle.domain_nsec3.specs.Config.{Hash, Parameters}
 use Rattle.domain_nsec3.specs.View.{hash_by}
 use Rattle.domain_sha1.specs.Iterated.{sha1_answer}
 use Rattle.domain_checker.specs.HashedReading.{IsWalked}
@@ -19,6 +19,8 @@ use Rattle.denial_c.specs.Among.{AreNsecs, AreNsec3s, AreParams}
 use Rattle.denial_c.specs.Numbers.{number_of, labels_of}
 use Rattle.denial_c.specs.declared.fault.Fault.{Fault}
 use Rattle.denial_c.specs.declared.fault.Fault.TheVariants as fault
+use Rattle.denial_c.specs.declared.nsec3.Telling.{Telling}
+use Rattle.denial_c.specs.declared.nsec3.Telling.TheVariants as telling
 
 -- ---- names
 
@@ -76,23 +78,27 @@ IsNsecResult apex name t class records (Err e) = IsNsecFault apex name class rec
 abbrev pub hash_of : ParamRecord → Hash
 hash_of p = hash_by sha1_answer p.parameters
 
--- the names, the NSEC3 records of a class and the one NSEC3PARAM record of the apex that the octets
--- are
-pub record AreAsked (apex name : Octets) (class : ℕ) (records : Octets) (a x : Name)
+-- where NSEC3 records and their parameters are from: which they are, of an apex, and why there are
+-- none
+pub record Source : Type 1 where
+  pub are : Name → List HashedLink → ParamRecord → Type 0
+  pub is_fault : Name → Fault → Type 0
+
+-- the names, and the NSEC3 records with their parameters
+pub record AreAsked (source : Source) (apex name : Octets) (a x : Name)
     (links : List HashedLink) (param : ParamRecord) : Type 0 where
   pub apex_is : Spells apex a
   pub name_is : Spells name x
-  pub nsec3s : AreNsec3s class records links
-  pub single : AreParams a class records (param ∷ [])
+  pub are : source.are a links param
 
 -- the verdict on the type t
-pub record HasNsec3Verdict (apex name : Octets) (t class : ℕ) (records : Octets)
-    (verdict : Verdict) : Type 0 where
+pub record HasNsec3Verdict (source : Source) (apex name : Octets) (t : ℕ) (verdict : Verdict)
+    : Type 0 where
   pub a : Name
   pub x : Name
   pub links : List HashedLink
   pub param : ParamRecord
-  pub asked : AreAsked apex name class records a x links param
+  pub asked : AreAsked source apex name a x links param
   pub outside : is_at_or_below x a ≡ false → verdict ≡ OutsideZone
   pub zone : IsHashedProved links a param.parameters (hash_of param) x t verdict
   pub exact : is_at_or_below x a ≡ true
@@ -102,13 +108,13 @@ pub record HasNsec3Verdict (apex name : Octets) (t class : ℕ) (records : Octet
   pub within : IsWithin (length x) verdict
 
 -- the hasher refuses a name that is asked for
-pub record IsRefused (apex name : Octets) (class : ℕ) (records : Octets) : Type 0 where
+pub record IsRefused (source : Source) (apex name : Octets) : Type 0 where
   pub a : Name
   pub x : Name
   pub links : List HashedLink
   pub param : ParamRecord
   pub reason : ℕ
-  pub asked : AreAsked apex name class records a x links param
+  pub asked : AreAsked source apex name a x links param
   pub first : IsFirstRefusal links a param.parameters (hash_of param) x reason
 
 -- no records, or NSEC3 records whose data are none
@@ -144,38 +150,80 @@ IsParamFault a class records fault.Hasher = ⊥
 IsParamFault a class records fault.OutOfMemory = Unit {0}
 
 -- why not both are there
-abbrev pub IsChainFault : Name → ℕ → Octets → Fault → Type 0
-IsChainFault a class records fault.Apex = ⊥
-IsChainFault a class records fault.Name = ⊥
-IsChainFault a class records fault.Records =
+abbrev pub IsChainFault : ℕ → Octets → Name → Fault → Type 0
+IsChainFault class records a fault.Apex = ⊥
+IsChainFault class records a fault.Name = ⊥
+IsChainFault class records a fault.Records =
     HasNoNsec3s class records ⊎ HasNoParams a class records
-IsChainFault a class records fault.Param =
+IsChainFault class records a fault.Param =
     (links : List HashedLink) × AreNsec3s class records links × HasNoParam a class records
-IsChainFault a class records fault.Hasher = ⊥
-IsChainFault a class records fault.OutOfMemory = Unit {0}
+IsChainFault class records a fault.Hasher = ⊥
+IsChainFault class records a fault.OutOfMemory = Unit {0}
 
--- the apex is a name, and not both are there
-abbrev pub IsSpelledFault : Octets → ℕ → Octets → Fault → Type 0
-IsSpelledFault apex class records e =
-    (a : Name) × Spells apex a × IsChainFault a class records e
+-- the NSEC3 records of a class, and the one NSEC3PARAM record of the apex
+pub record AreWithParam (class : ℕ) (records : Octets) (a : Name) (links : List HashedLink)
+    (param : ParamRecord) : Type 0 where
+  pub nsec3s : AreNsec3s class records links
+  pub single : AreParams a class records (param ∷ [])
+
+abbrev pub with_param : ℕ → Octets → Source
+with_param class records =
+    record {
+      are = AreWithParam class records;
+      is_fault = IsChainFault class records;
+    }
+
+-- of the zone, with no hash algorithm but SHA-1 and no flag but that of opt-out: records with others
+-- are to be ignored (RFC 5155, sections 8.1 and 8.2)
+abbrev pub is_known : Name → HashedLink → Bool
+is_known a k =
+    (k.parameters.algorithm == 1) && nat_lt k.flags 2 && is_at_or_below k.owner a
+
+-- the parameters of the first record; without a record SHA-1, no iterations and no salt
+abbrev pub first_parameters : List HashedLink → Parameters
+first_parameters [] = record { algorithm = 1; iterations = 0; salt = [] }
+first_parameters (k ∷ links) = k.parameters
+
+-- the NSEC3 records of a class that are not to be ignored, and the parameters of the first of them
+pub record AreAlone (class : ℕ) (records : Octets) (a : Name) (links : List HashedLink)
+    (param : ParamRecord) : Type 0 where
+  pub all : List HashedLink
+  pub nsec3s : AreNsec3s class records all
+  pub known : links ≡ filter (is_known a) all
+  pub first : param.parameters ≡ first_parameters links
+
+abbrev pub alone : ℕ → Octets → Source
+alone class records =
+    record {
+      are = AreAlone class records;
+      is_fault = λ a. IsNsec3sFault class records;
+    }
+
+-- where they are from is chosen
+abbrev pub source_of : Telling → ℕ → Octets → Source
+source_of telling.ByRecord = with_param
+source_of telling.ByFirst = alone
+
+-- the apex is a name, and the records are not there
+abbrev pub IsSpelledFault : Source → Octets → Fault → Type 0
+IsSpelledFault source apex e = (a : Name) × Spells apex a × source.is_fault a e
 
 -- of faults the first that stands is told, but for want of memory, which may come before others;
 -- the hasher's is where a name that is asked for is refused
-abbrev pub IsNsec3Fault : Octets → Octets → ℕ → Octets → Type 0 → Fault → Type 0
-IsNsec3Fault apex name class records refused fault.Apex = IsSpelled apex → ⊥
-IsNsec3Fault apex name class records refused fault.Name = IsSpelled apex × (IsSpelled name → ⊥)
-IsNsec3Fault apex name class records refused fault.Records =
-    IsSpelled name × IsSpelledFault apex class records fault.Records
-IsNsec3Fault apex name class records refused fault.Param =
-    IsSpelled name × IsSpelledFault apex class records fault.Param
-IsNsec3Fault apex name class records refused fault.Hasher = refused
-IsNsec3Fault apex name class records refused fault.OutOfMemory = Unit {0}
+abbrev pub IsNsec3Fault : Source → Octets → Octets → Type 0 → Fault → Type 0
+IsNsec3Fault source apex name refused fault.Apex = IsSpelled apex → ⊥
+IsNsec3Fault source apex name refused fault.Name = IsSpelled apex × (IsSpelled name → ⊥)
+IsNsec3Fault source apex name refused fault.Records =
+    IsSpelled name × IsSpelledFault source apex fault.Records
+IsNsec3Fault source apex name refused fault.Param =
+    IsSpelled name × IsSpelledFault source apex fault.Param
+IsNsec3Fault source apex name refused fault.Hasher = refused
+IsNsec3Fault source apex name refused fault.OutOfMemory = Unit {0}
 
-abbrev pub IsNsec3Result : Octets → Octets → ℕ → ℕ → Octets → Result Verdict Fault → Type 0
-IsNsec3Result apex name t class records (Ok verdict) =
-    HasNsec3Verdict apex name t class records verdict
-IsNsec3Result apex name t class records (Err e) =
-    IsNsec3Fault apex name class records (IsRefused apex name class records) e
+abbrev pub IsNsec3Result : Source → Octets → Octets → ℕ → Result Verdict Fault → Type 0
+IsNsec3Result source apex name t (Ok verdict) = HasNsec3Verdict source apex name t verdict
+IsNsec3Result source apex name t (Err e) =
+    IsNsec3Fault source apex name (IsRefused source apex name) e
 
 -- ---- what C is told
 

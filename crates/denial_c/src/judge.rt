@@ -2,12 +2,13 @@
 ghost use Rattle.std.specs.Prelude.{IfErr, IfOk};
 ghost use Rattle.domain_nsec.specs.ChainView.{links_of};
 ghost use Rattle.denial_c.specs.Among.{AreNsecs};
+ghost use Rattle.denial_c.specs.Result.{source_of};
 ghost use Rattle.denial_c.specs.Judged.{IsExpansionAnswer, IsNsecAnswer, IsNsec3Answer, IsNsecsFault};
 
 use crate::among::is_of;
 use crate::fault::Fault;
 use crate::nsec::read_name;
-use crate::nsec3::chain_among;
+use crate::nsec3::{Telling, chain_told};
 use domain_answer::{Answer, judge_nsec, judge_nsec3, judge_nsec3_expansion};
 use domain_base::{Class, Rtype};
 use domain_lent::{NsecRr, into_nsec, read_record};
@@ -65,6 +66,7 @@ pub(crate) fn nsec_answer(
 /// the type, with at most so many iterations.
 pub(crate) fn nsec3_answer(
     alloc: Global,
+    telling: Telling,
     apex: &[u8],
     name: &[u8],
     rtype: u16,
@@ -72,11 +74,12 @@ pub(crate) fn nsec3_answer(
     limit: u16,
     records: &[u8],
 ) -> Result<Answer, Fault>
-    ensures { IsNsec3Answer apex.now name.now rtype class limit records.now result }
+    ensures { IsNsec3Answer (source_of telling class records.now) apex.now name.now rtype limit
+        result }
 {
     let apex = read_name(apex, Fault::Apex)?;
     let name = read_name(name, Fault::Name)?;
-    let chain = match chain_among(alloc, &apex, Class::from_int(class), records) {
+    let chain = match chain_told(alloc, telling, &apex, Class::from_int(class), records) {
         Ok(chain) => chain,
         Err(fault) => return Err(fault),
     };
@@ -95,6 +98,7 @@ pub(crate) fn nsec3_answer(
 /// most so many iterations.
 pub(crate) fn expansion_answer(
     alloc: Global,
+    telling: Telling,
     apex: &[u8],
     name: &[u8],
     rrsig_labels: u8,
@@ -102,11 +106,12 @@ pub(crate) fn expansion_answer(
     limit: u16,
     records: &[u8],
 ) -> Result<Answer, Fault>
-    ensures { IsExpansionAnswer apex.now name.now rrsig_labels class limit records.now result }
+    ensures { IsExpansionAnswer (source_of telling class records.now) apex.now name.now rrsig_labels
+        limit result }
 {
     let apex = read_name(apex, Fault::Apex)?;
     let name = read_name(name, Fault::Name)?;
-    let chain = match chain_among(alloc, &apex, Class::from_int(class), records) {
+    let chain = match chain_told(alloc, telling, &apex, Class::from_int(class), records) {
         Ok(chain) => chain,
         Err(fault) => return Err(fault),
     };

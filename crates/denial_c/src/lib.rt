@@ -12,7 +12,7 @@ ghost use Rattle.std.specs.Prelude.{◌≡◌};
 ghost use Rattle.denial_c.specs.Chains.{hashed_config, IsChainTold, IsNsecChainResult, IsNsec3ChainResult};
 ghost use Rattle.denial_c.specs.Judged.{IsExpansionAnswer, IsNsecAnswer, IsNsec3Answer};
 ghost use Rattle.denial_c.specs.Numbers.{answer_labels, answer_number, verdict_labels, verdict_number};
-ghost use Rattle.denial_c.specs.Result.{IsNsecResult, IsNsec3Result, IsTold};
+ghost use Rattle.denial_c.specs.Result.{alone, with_param, IsNsecResult, IsNsec3Result, IsTold};
 ghost use Rattle.denial_c.specs.Texts.{text_of, IsText};
 
 mod among;
@@ -28,6 +28,7 @@ mod text;
 mod uneven;
 mod zone;
 
+use crate::nsec3::Telling;
 use crate::nsec3_chain::Hashing;
 use crate::text::ROOM;
 use domain_nsec::GenerateNsecConfig;
@@ -92,10 +93,41 @@ pub extern "C" fn denial_judge_nsec3(
     labels: &mut usize,
 ) -> u32
     ensures { IsTold answer_number answer_labels
-        (IsNsec3Answer apex.now name.now rtype class limit records.now) result labels.new }
+        (IsNsec3Answer (with_param class records.now) apex.now name.now rtype limit)
+        result labels.new }
 {
+    let told = Telling::ByRecord;
     answer::tell_answer(
-        judge::nsec3_answer(alloc, apex, name, rtype, class, limit, records),
+        judge::nsec3_answer(alloc, told, apex, name, rtype, class, limit, records),
+        labels,
+    )
+}
+
+/// What NSEC3 records answer to a question about a name and a type, as a whole, with no NSEC3PARAM
+/// record among them: the first of the NSEC3 records tells the parameters. Those that are of
+/// another zone, or have another hash algorithm than SHA-1 or a flag beside that of opt-out, are
+/// passed over (RFC 5155, sections 8.1 and 8.2). Where the first has more iterations than the
+/// limit, nothing is hashed.
+///
+/// Gives the number of an answer, and the number of labels that it counts, where it counts any; or
+/// the number of a fault.
+#[unsafe(no_mangle)]
+pub extern "C" fn denial_judge_nsec3_alone(
+    alloc: Global,
+    apex: &[u8],
+    name: &[u8],
+    rtype: u16,
+    class: u16,
+    limit: u16,
+    records: &[u8],
+    labels: &mut usize,
+) -> u32
+    ensures { IsTold answer_number answer_labels
+        (IsNsec3Answer (alone class records.now) apex.now name.now rtype limit) result labels.new }
+{
+    let told = Telling::ByFirst;
+    answer::tell_answer(
+        judge::nsec3_answer(alloc, told, apex, name, rtype, class, limit, records),
         labels,
     )
 }
@@ -119,11 +151,40 @@ pub extern "C" fn denial_judge_nsec3_expansion(
     labels: &mut usize,
 ) -> u32
     ensures { IsTold answer_number answer_labels
-        (IsExpansionAnswer apex.now name.now rrsig_labels class limit records.now)
+        (IsExpansionAnswer (with_param class records.now) apex.now name.now rrsig_labels limit)
         result labels.new }
 {
+    let told = Telling::ByRecord;
     answer::tell_answer(
-        judge::expansion_answer(alloc, apex, name, rrsig_labels, class, limit, records),
+        judge::expansion_answer(alloc, told, apex, name, rrsig_labels, class, limit, records),
+        labels,
+    )
+}
+
+/// What NSEC3 records answer of a name whose records were expanded from a wildcard, with no
+/// NSEC3PARAM record among them: the first of the NSEC3 records tells the parameters, and the same
+/// are passed over as by `denial_judge_nsec3_alone`.
+///
+/// Gives the number of an answer, and the number of labels that it counts, where it counts any; or
+/// the number of a fault.
+#[unsafe(no_mangle)]
+pub extern "C" fn denial_judge_nsec3_expansion_alone(
+    alloc: Global,
+    apex: &[u8],
+    name: &[u8],
+    rrsig_labels: u8,
+    class: u16,
+    limit: u16,
+    records: &[u8],
+    labels: &mut usize,
+) -> u32
+    ensures { IsTold answer_number answer_labels
+        (IsExpansionAnswer (alone class records.now) apex.now name.now rrsig_labels limit)
+        result labels.new }
+{
+    let told = Telling::ByFirst;
+    answer::tell_answer(
+        judge::expansion_answer(alloc, told, apex, name, rrsig_labels, class, limit, records),
         labels,
     )
 }
@@ -166,10 +227,35 @@ pub extern "C" fn denial_check_nsec3(
     labels: &mut usize,
 ) -> u32
     ensures { IsTold verdict_number verdict_labels
-        (IsNsec3Result apex.now name.now rtype class records.now) result labels.new }
+        (IsNsec3Result (with_param class records.now) apex.now name.now rtype) result labels.new }
 {
     answer::tell_verdict(
-        nsec3::nsec3_verdict(alloc, apex, name, rtype, class, records),
+        nsec3::nsec3_verdict(alloc, Telling::ByRecord, apex, name, rtype, class, records),
+        labels,
+    )
+}
+
+/// What NSEC3 records prove of a name and a type, with no NSEC3PARAM record among them: the first
+/// of the NSEC3 records tells the parameters, and the same are passed over as by
+/// `denial_judge_nsec3_alone`.
+///
+/// Gives the number of a verdict, and the number of labels of the closest encloser where the
+/// verdict has one; or the number of a fault.
+#[unsafe(no_mangle)]
+pub extern "C" fn denial_check_nsec3_alone(
+    alloc: Global,
+    apex: &[u8],
+    name: &[u8],
+    rtype: u16,
+    class: u16,
+    records: &[u8],
+    labels: &mut usize,
+) -> u32
+    ensures { IsTold verdict_number verdict_labels
+        (IsNsec3Result (alone class records.now) apex.now name.now rtype) result labels.new }
+{
+    answer::tell_verdict(
+        nsec3::nsec3_verdict(alloc, Telling::ByFirst, apex, name, rtype, class, records),
         labels,
     )
 }

@@ -1,21 +1,32 @@
 //! What the NSEC3 records in octets prove.
-ghost use Rattle.std.specs.Prelude.{[], ◌∷◌, map, IfErr, IfOk};
-ghost use Rattle.domain_nsec3.specs.View.{as_param_record, hashed_links_of};
+ghost use Rattle.std.specs.Prelude.{◌≡◌, [], ◌∷◌, filter, map, IfErr, IfOk};
+ghost use Rattle.domain_nsec3.specs.View.{as_hashed_link, as_param_record, hashed_links_of, parameters_of};
 ghost use Rattle.denial_c.specs.Among.{AreNsec3s, AreParams};
 ghost use Rattle.domain_checker.specs.HashedView.{links};
-ghost use Rattle.denial_c.specs.Result.{IsChainFault, IsNsec3Result, IsNsec3sFault, IsParamFault};
+ghost use Rattle.denial_c.specs.Result.{first_parameters, is_known, source_of, AreAlone, AreWithParam, IsChainFault, IsNsec3Result, IsNsec3sFault, IsParamFault};
 
 use crate::among::is_of;
 use crate::fault::Fault;
 use crate::nsec::read_name;
-use domain_base::{Class, ParsedName, Rtype, ToName};
+use domain_base::{Class, Nsec3HashAlgorithm, ParsedName, Rtype, ToName, Ttl};
+use domain_chain_rdata::Nsec3param;
 use domain_checker::{Verdict, check_nsec3};
 use domain_lent::{Nsec3Rr, Nsec3paramRr, into_nsec3, into_nsec3param, read_record};
 use domain_nsec3::Nsec3Records;
-use domain_octets::Parser;
+use domain_octets::{OutOfMemory, Parser};
+use domain_plain::Record;
 use domain_records::Nsec3HashError;
 use domain_sha1::Sha1Hasher;
 use std::alloc::Global;
+
+/// What tells the parameters of hashes.
+#[derive(Clone, Copy)]
+pub(crate) enum Telling {
+    /// The one NSEC3PARAM record of the apex.
+    ByRecord,
+    /// The first of the NSEC3 records.
+    ByFirst,
+}
 
 /// The NSEC3 records of the class among the records that the octets are. Refuses octets that are no
 /// records, and NSEC3 records whose data are none.
@@ -99,16 +110,15 @@ fn param_among<'a>(
 
 /// The NSEC3 records of the class among the records that the octets are, with the one NSEC3PARAM
 /// record of the apex.
-pub(crate) fn chain_among<'a>(
+fn chain_among<'a>(
     alloc: Global,
     apex: &ParsedName<'_>,
     class: Class,
     octets: &'a [u8],
 ) -> Result<Nsec3Records<ParsedName<'a>, &'a [u8]>, Fault>
-    ensures nsec3s { IfOk result (λ chain. AreNsec3s class octets.now (links (λ n. n) chain)) }
-    ensures param { IfOk result (λ chain. AreParams apex.now class octets.now
-        (as_param_record (λ n. n) chain.nsec3param ∷ [])) }
-    ensures err { IfErr result (IsChainFault apex.now class octets.now) }
+    ensures ok { IfOk result (λ chain. AreWithParam class octets.now apex.now
+        (links (λ n. n) chain) (as_param_record (λ n. n) chain.nsec3param)) }
+    ensures err { IfErr result (IsChainFault class octets.now apex.now) }
 {
     let nsec3s = match nsec3s_among(alloc, class, octets) {
         Ok(nsec3s) => nsec3s,
@@ -120,21 +130,102 @@ pub(crate) fn chain_among<'a>(
     }
 }
 
+/// Whether the record is of the zone, its algorithm is SHA-1, and none of its flags is set but that
+/// of opt-out: others are to be ignored (RFC 5155, sections 8.1 and 8.2).
+fn is_known(apex: &ParsedName<'_>, nsec3: &Nsec3Rr<'_>) -> bool
+    ensures { result ≡ is_known apex.now (as_hashed_link (λ n. n) nsec3.now) }
+{
+    let hashed = nsec3.data();
+    (hashed.hash_algorithm() == Nsec3HashAlgorithm::SHA1)
+        & (hashed.flags() < 2)
+        & nsec3.owner().ends_with(apex)
+}
+
+/// These NSEC3 records, without those that are to be ignored. Takes no memory.
+fn known_of<'a>(apex: &ParsedName<'_>, mut nsec3s: Vec<Nsec3Rr<'a>>) -> Vec<Nsec3Rr<'a>>
+    ensures { hashed_links_of (λ n. n) result.items
+        ≡ filter (is_known apex.now) (hashed_links_of (λ n. n) nsec3s.entry.items) }
+{
+    nsec3s.retain(|nsec3| is_known(apex, nsec3));
+    nsec3s
+}
+
+/// The parameters of the first of these records; SHA-1, no iterations and no salt where there is
+/// none.
+fn first_params<'a>(
+    alloc: Global,
+    nsec3s: &[Nsec3Rr<'a>],
+) -> Result<Nsec3param<&'a [u8]>, OutOfMemory>
+    ensures { IfOk result (λ params. parameters_of params
+        ≡ first_parameters (hashed_links_of (λ n. n) nsec3s.now)) }
+{
+    let Some(nsec3) = nsec3s.first() else {
+        return Ok(Nsec3param::default(alloc));
+    };
+    let hashed = nsec3.data();
+    let salt = hashed.salt().clone()?;
+    Ok(Nsec3param::new(hashed.hash_algorithm(), 0, hashed.iterations(), salt))
+}
+
+/// The NSEC3 records of the class among the records that the octets are, but for those that are to
+/// be ignored, with an NSEC3PARAM record of the apex that repeats the parameters of the first.
+fn alone_among<'a>(
+    alloc: Global,
+    apex: &'a ParsedName<'a>,
+    class: Class,
+    octets: &'a [u8],
+) -> Result<Nsec3Records<ParsedName<'a>, &'a [u8]>, Fault>
+    ensures ok { IfOk result (λ chain. AreAlone class octets.now apex.now (links (λ n. n) chain)
+        (as_param_record (λ n. n) chain.nsec3param)) }
+    ensures err { IfErr result (IsNsec3sFault class octets.now) }
+{
+    let all = match nsec3s_among(alloc, class, octets) {
+        Ok(all) => all,
+        Err(fault) => return Err(fault),
+    };
+    let known = known_of(apex, all);
+    let Ok(params) = first_params(alloc, &known) else {
+        return Err(Fault::OutOfMemory);
+    };
+    let owner = apex.as_parsed();
+    let param = Record::new(owner, class, Ttl::from_secs(0), params);
+    Ok(Nsec3Records::new(known, param))
+}
+
+/// The NSEC3 records of the class among the records that the octets are, with their parameters.
+pub(crate) fn chain_told<'a>(
+    alloc: Global,
+    telling: Telling,
+    apex: &'a ParsedName<'a>,
+    class: Class,
+    octets: &'a [u8],
+) -> Result<Nsec3Records<ParsedName<'a>, &'a [u8]>, Fault>
+    ensures ok { IfOk result (λ chain. (source_of telling class octets.now).are apex.now
+        (links (λ n. n) chain) (as_param_record (λ n. n) chain.nsec3param)) }
+    ensures err { IfErr result ((source_of telling class octets.now).is_fault apex.now) }
+{
+    match telling {
+        Telling::ByRecord => chain_among(alloc, apex, class, octets),
+        Telling::ByFirst => alone_among(alloc, apex, class, octets),
+    }
+}
+
 /// What the NSEC3 records of the class among the records that the octets are prove of the name and
 /// the type.
 pub(crate) fn nsec3_verdict(
     alloc: Global,
+    telling: Telling,
     apex: &[u8],
     name: &[u8],
     rtype: u16,
     class: u16,
     records: &[u8],
 ) -> Result<Verdict, Fault>
-    ensures { IsNsec3Result apex.now name.now rtype class records.now result }
+    ensures { IsNsec3Result (source_of telling class records.now) apex.now name.now rtype result }
 {
     let apex = read_name(apex, Fault::Apex)?;
     let name = read_name(name, Fault::Name)?;
-    let chain = match chain_among(alloc, &apex, Class::from_int(class), records) {
+    let chain = match chain_told(alloc, telling, &apex, Class::from_int(class), records) {
         Ok(chain) => chain,
         Err(fault) => return Err(fault),
     };

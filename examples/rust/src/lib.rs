@@ -25,6 +25,12 @@ mod raw {
             records: *const u8, records_length: usize, labels: *mut usize) -> u32;
         pub fn denial_check_nsec3(apex: *const u8, apex_length: usize, name: *const u8, name_length: usize, rtype: u16, rclass: u16,
             records: *const u8, records_length: usize, labels: *mut usize) -> u32;
+        pub fn denial_judge_nsec3_alone(apex: *const u8, apex_length: usize, name: *const u8, name_length: usize, rtype: u16, rclass: u16,
+            limit: u16, records: *const u8, records_length: usize, labels: *mut usize) -> u32;
+        pub fn denial_judge_nsec3_expansion_alone(apex: *const u8, apex_length: usize, name: *const u8, name_length: usize, rrsig_labels: u8,
+            rclass: u16, limit: u16, records: *const u8, records_length: usize, labels: *mut usize) -> u32;
+        pub fn denial_check_nsec3_alone(apex: *const u8, apex_length: usize, name: *const u8, name_length: usize, rtype: u16, rclass: u16,
+            records: *const u8, records_length: usize, labels: *mut usize) -> u32;
         pub fn denial_nsec_chain(apex: *const u8, apex_length: usize, rclass: u16, assume_dnskey: bool, occlude_below_dname: bool,
             records: *const u8, records_length: usize, chain: *mut u8, chain_length: usize, count: *mut usize) -> u32;
         pub fn denial_nsec3_chain(apex: *const u8, apex_length: usize, rclass: u16, assume_dnskey: bool, occlude_below_dname: bool,
@@ -166,6 +172,42 @@ pub fn check_nsec3(apex: &[u8], name: &[u8], rtype: u16, class: u16, records: &[
     // SAFETY: as in `judge_nsec`.
     let number = unsafe {
         raw::denial_check_nsec3(apex.as_ptr(), apex.len(), name.as_ptr(), name.len(), rtype, class, records.as_ptr(), records.len(), &mut labels)
+    };
+    answer(number, labels)
+}
+
+/// What NSEC3 records answer, with no NSEC3PARAM record among them, as in a response: the first of
+/// them tells the parameters. Where it has more iterations than the limit, nothing is hashed.
+pub fn judge_nsec3_alone(apex: &[u8], name: &[u8], rtype: u16, class: u16, limit: u16, records: &[u8]) -> Result<Answer, Fault> {
+    let mut labels = 0;
+    // SAFETY: as in `judge_nsec`.
+    let number = unsafe {
+        raw::denial_judge_nsec3_alone(apex.as_ptr(), apex.len(), name.as_ptr(), name.len(), rtype, class, limit, records.as_ptr(),
+            records.len(), &mut labels)
+    };
+    answer(number, labels)
+}
+
+/// What NSEC3 records answer of a name whose records were expanded from a wildcard, with no
+/// NSEC3PARAM record among them.
+pub fn judge_nsec3_expansion_alone(apex: &[u8], name: &[u8], rrsig_labels: u8, class: u16, limit: u16, records: &[u8])
+    -> Result<Answer, Fault> {
+    let mut labels = 0;
+    // SAFETY: as in `judge_nsec`.
+    let number = unsafe {
+        raw::denial_judge_nsec3_expansion_alone(apex.as_ptr(), apex.len(), name.as_ptr(), name.len(), rrsig_labels, class, limit,
+            records.as_ptr(), records.len(), &mut labels)
+    };
+    answer(number, labels)
+}
+
+/// What NSEC3 records prove of one name and one type, with no NSEC3PARAM record among them.
+pub fn check_nsec3_alone(apex: &[u8], name: &[u8], rtype: u16, class: u16, records: &[u8]) -> Result<Answer, Fault> {
+    let mut labels = 0;
+    // SAFETY: as in `judge_nsec`.
+    let number = unsafe {
+        raw::denial_check_nsec3_alone(apex.as_ptr(), apex.len(), name.as_ptr(), name.len(), rtype, class, records.as_ptr(), records.len(),
+            &mut labels)
     };
     answer(number, labels)
 }

@@ -1,23 +1,22 @@
-use Rattle.std.proofs.Common.{◌≡◌, ◌∷◌, [], true, false, ap, Err, inl, inr, refl, sym, subst}
+use Rattle.std.proofs.Common.{◌≡◌, true, false, ap, Err, inl, inr, refl, sym, subst}
 use Rattle.domain_answer.specs.Expansion.{closer_name, is_expanded, ExpansionRestsOn, IsExpansionAnswered, IsExpansionRead}
 use Rattle.domain_answer.specs.declared.answer.Answer.TheVariants.{OutsideZone, NotProven, TooManyIterations}
 use Rattle.domain_base.specs.Name.{is_at_or_below}
 use Rattle.domain_checker.specs.HashedView.{links}
 use Rattle.domain_nsec3.specs.Config.{hash_name}
 use Rattle.domain_nsec3.specs.View.{as_param_record}
-use Rattle.denial_c.specs.Among.{AreNsec3s, AreParams}
 use Rattle.denial_c.specs.Judged.{IsExpansionRefused}
-use Rattle.denial_c.specs.Result.{hash_of, IsChainFault}
+use Rattle.denial_c.specs.Result.{hash_of, source_of}
 use Rattle.denial_c.proofs.JudgeLemmas.{allowed, expanded}
 use Rattle.denial_c.proofs.Nsec3Lemmas.{chain_fault}
 use Rattle.denial_c.proofs.judge.expansion_answer.Goals as goal
 
 pub returns-in-Err : goal.returns-in-Err
 returns-in-Err c =
-    chain_fault c.args.apex.now c.args.name.now c.args.class c.args.records.now
-    (IsExpansionRefused c.args.apex.now c.args.name.now c.args.rrsig_labels c.args.class c.args.limit c.args.records.now) c.in_ok-apex.apex c.in_ok-apex.ensures.ok
+    chain_fault c.args.telling c.args.apex.now c.args.name.now c.args.class c.args.records.now
+    (IsExpansionRefused (source_of c.args.telling c.args.class c.args.records.now) c.args.apex.now c.args.name.now c.args.rrsig_labels c.args.limit) c.in_ok-apex.apex c.in_ok-apex.ensures.ok
     (c.in_ok-name.name, c.in_ok-name.ensures.ok) c.in-Err.fault
-    (subst (λ n. IsChainFault c.in_ok-apex.apex n c.args.records.now c.in-Err.fault) c.from_int.ensures c.in-Err.ensures.err)
+    (subst (λ n. (source_of c.args.telling n c.args.records.now).is_fault c.in_ok-apex.apex c.in-Err.fault) c.from_int.ensures c.in-Err.ensures.err)
 
 pub returns-in-Ok-judge_nsec3_expansion : goal.returns-in-Ok-judge_nsec3_expansion
 returns-in-Ok-judge_nsec3_expansion c =
@@ -37,8 +36,7 @@ returns-in-Ok-judge_nsec3_expansion c =
       asked = record {
         apex_is = c.in_ok-apex.ensures.ok;
         name_is = c.in_ok-name.ensures.ok;
-        nsec3s = subst (λ n. AreNsec3s n c.args.records.now ks) c.from_int.ensures c.in-Ok.ensures.nsec3s;
-        single = subst (λ n. AreParams a n c.args.records.now (param ∷ [])) c.from_int.ensures c.in-Ok.ensures.param;
+        are = subst (λ n. (source_of c.args.telling n c.args.records.now).are a ks param) c.from_int.ensures c.in-Ok.ensures.ok;
       };
       outside = λ off. let e = are.outside off in cc;
       none = λ low short. let e = are.none low (subst (λ n. is_expanded a x n ≡ false) (sym same) short) in cc;
@@ -73,8 +71,7 @@ returns c =
         asked = record {
           apex_is = c.in_ok-apex.ensures.ok;
           name_is = c.in_ok-name.ensures.ok;
-          nsec3s = subst (λ n. AreNsec3s n c.args.records.now ks) c.from_int.ensures c.in-Ok.ensures.nsec3s;
-          single = subst (λ n. AreParams a n c.args.records.now (param ∷ [])) c.from_int.ensures c.in-Ok.ensures.param;
+          are = subst (λ n. (source_of c.args.telling n c.args.records.now).are a ks param) c.from_int.ensures c.in-Ok.ensures.ok;
         };
         needed = subst (λ n. is_expanded a x n ≡ true) same is;
         allowed = allowed (Err error) error refl c.args.limit param.parameters.iterations TooManyIterations (are.iterations is);

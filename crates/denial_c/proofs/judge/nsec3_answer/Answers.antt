@@ -1,4 +1,4 @@
-use Rattle.std.proofs.Common.{◌≡◌, ◌∷◌, [], true, false, ap, Err, inl, inr, refl, sym, subst}
+use Rattle.std.proofs.Common.{◌≡◌, true, false, ap, Err, inl, inr, refl, sym, subst}
 use Rattle.domain_answer.specs.HashedProved.{IsHashedAnswered}
 use Rattle.domain_answer.specs.HashedReading.{IsFirstOfRefusals, IsHashedRead}
 use Rattle.domain_answer.specs.Proved.{needs_no_records}
@@ -7,19 +7,18 @@ use Rattle.domain_answer.specs.declared.answer.Answer.TheVariants.{OutsideZone, 
 use Rattle.domain_base.specs.Name.{is_at_or_below}
 use Rattle.domain_checker.specs.HashedView.{links}
 use Rattle.domain_nsec3.specs.View.{as_param_record}
-use Rattle.denial_c.specs.Among.{AreNsec3s, AreParams}
 use Rattle.denial_c.specs.Judged.{IsAnswerRefused}
-use Rattle.denial_c.specs.Result.{hash_of, IsChainFault}
+use Rattle.denial_c.specs.Result.{hash_of, source_of}
 use Rattle.denial_c.proofs.JudgeLemmas.{allowed, needed}
 use Rattle.denial_c.proofs.Nsec3Lemmas.{chain_fault}
 use Rattle.denial_c.proofs.judge.nsec3_answer.Goals as goal
 
 pub returns-in-Err : goal.returns-in-Err
 returns-in-Err c =
-    chain_fault c.args.apex.now c.args.name.now c.args.class c.args.records.now
-    (IsAnswerRefused c.args.apex.now c.args.name.now c.args.rtype c.args.class c.args.limit c.args.records.now) c.in_ok-apex.apex c.in_ok-apex.ensures.ok
+    chain_fault c.args.telling c.args.apex.now c.args.name.now c.args.class c.args.records.now
+    (IsAnswerRefused (source_of c.args.telling c.args.class c.args.records.now) c.args.apex.now c.args.name.now c.args.rtype c.args.limit) c.in_ok-apex.apex c.in_ok-apex.ensures.ok
     (c.in_ok-name.name, c.in_ok-name.ensures.ok) c.in-Err.fault
-    (subst (λ n. IsChainFault c.in_ok-apex.apex n c.args.records.now c.in-Err.fault) c.from_int.ensures c.in-Err.ensures.err)
+    (subst (λ n. (source_of c.args.telling n c.args.records.now).is_fault c.in_ok-apex.apex c.in-Err.fault) c.from_int.ensures c.in-Err.ensures.err)
 
 pub returns-in-Ok-judge_nsec3 : goal.returns-in-Ok-judge_nsec3
 returns-in-Ok-judge_nsec3 c =
@@ -37,8 +36,7 @@ returns-in-Ok-judge_nsec3 c =
       asked = record {
         apex_is = c.in_ok-apex.ensures.ok;
         name_is = c.in_ok-name.ensures.ok;
-        nsec3s = subst (λ n. AreNsec3s n c.args.records.now ks) c.from_int.ensures c.in-Ok.ensures.nsec3s;
-        single = subst (λ n. AreParams a n c.args.records.now (param ∷ [])) c.from_int.ensures c.in-Ok.ensures.param;
+        are = subst (λ n. (source_of c.args.telling n c.args.records.now).are a ks param) c.from_int.ensures c.in-Ok.ensures.ok;
       };
       outside = λ off. let e = c.in-Ok-judge_nsec3.ensures.outside off in cc;
       parent = λ low at. let e = c.in-Ok-judge_nsec3.ensures.parent low (subst (λ t. is_at_parent a x t ≡ true) (sym c.from_int-rtype.ensures) at) in cc;
@@ -72,8 +70,7 @@ returns c =
         asked = record {
           apex_is = c.in_ok-apex.ensures.ok;
           name_is = c.in_ok-name.ensures.ok;
-          nsec3s = subst (λ n. AreNsec3s n c.args.records.now ks) c.from_int.ensures c.in-Ok.ensures.nsec3s;
-          single = subst (λ n. AreParams a n c.args.records.now (param ∷ [])) c.from_int.ensures c.in-Ok.ensures.param;
+          are = subst (λ n. (source_of c.args.telling n c.args.records.now).are a ks param) c.from_int.ensures c.in-Ok.ensures.ok;
         };
         needed = subst (λ t. needs_no_records a x t ≡ false) c.from_int-rtype.ensures (needed (Err error) error refl (is_at_or_below x a) (is_at_parent a x t)
             OutsideZone AtParent c.in-Err-judge_nsec3.ensures.outside c.in-Err-judge_nsec3.ensures.parent);

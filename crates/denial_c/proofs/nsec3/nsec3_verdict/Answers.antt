@@ -1,19 +1,18 @@
-use Rattle.std.proofs.Common.{◌∷◌, [], subst}
+use Rattle.std.proofs.Common.{subst}
 use Rattle.domain_checker.specs.HashedReading.{IsWalked}
 use Rattle.domain_checker.specs.HashedVerdict.{IsHashedProved}
 use Rattle.domain_checker.specs.HashedView.{links}
 use Rattle.domain_nsec3.specs.View.{as_param_record}
-use Rattle.denial_c.specs.Among.{AreNsec3s, AreParams}
-use Rattle.denial_c.specs.Result.{hash_of, IsChainFault, IsRefused}
+use Rattle.denial_c.specs.Result.{hash_of, source_of, IsRefused}
 use Rattle.denial_c.proofs.Nsec3Lemmas.{chain_fault}
 use Rattle.denial_c.proofs.nsec3.nsec3_verdict.Goals as goal
 
 pub returns-in-Err : goal.returns-in-Err
 returns-in-Err c =
-    chain_fault c.args.apex.now c.args.name.now c.args.class c.args.records.now
-    (IsRefused c.args.apex.now c.args.name.now c.args.class c.args.records.now) c.in_ok-apex.apex c.in_ok-apex.ensures.ok
+    chain_fault c.args.telling c.args.apex.now c.args.name.now c.args.class c.args.records.now
+    (IsRefused (source_of c.args.telling c.args.class c.args.records.now) c.args.apex.now c.args.name.now) c.in_ok-apex.apex c.in_ok-apex.ensures.ok
     (c.in_ok-name.name, c.in_ok-name.ensures.ok) c.in-Err.fault
-    (subst (λ n. IsChainFault c.in_ok-apex.apex n c.args.records.now c.in-Err.fault) c.from_int.ensures c.in-Err.ensures.err)
+    (subst (λ n. (source_of c.args.telling n c.args.records.now).is_fault c.in_ok-apex.apex c.in-Err.fault) c.from_int.ensures c.in-Err.ensures.err)
 
 pub returns-in-Ok-check_nsec3 : goal.returns-in-Ok-check_nsec3
 returns-in-Ok-check_nsec3 c =
@@ -31,8 +30,7 @@ returns-in-Ok-check_nsec3 c =
       asked = record {
         apex_is = c.in_ok-apex.ensures.ok;
         name_is = c.in_ok-name.ensures.ok;
-        nsec3s = subst (λ n. AreNsec3s n c.args.records.now ks) c.from_int.ensures c.in-Ok.ensures.nsec3s;
-        single = subst (λ n. AreParams a n c.args.records.now (param ∷ [])) c.from_int.ensures c.in-Ok.ensures.param;
+        are = subst (λ n. (source_of c.args.telling n c.args.records.now).are a ks param) c.from_int.ensures c.in-Ok.ensures.ok;
       };
       outside = λ off. let e = c.in-Ok-check_nsec3.ensures.outside off in cc;
       zone = subst (λ t. IsHashedProved ks a param.parameters (hash_of param) x t verdict) c.from_int-rtype.ensures c.in-Ok-check_nsec3.ensures.zone;
