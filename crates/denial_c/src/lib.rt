@@ -38,9 +38,9 @@ use std::alloc::Global;
 /// patch.
 #[unsafe(no_mangle)]
 pub extern "C" fn denial_version() -> u32
-    ensures { result ≡ 400 }
+    ensures { result ≡ 500 }
 {
-    400
+    500
 }
 
 /// Hands out the text of a number, and octets 0 after it. A number that no function here gives has
