@@ -172,7 +172,8 @@ enum denial_answer {
      * NSEC3 record tells the parameters. */
     DENIAL_NO_PARAM = 19,
 
-    /* The records have a hash algorithm other than SHA-1. NSEC3 alone. */
+    /* The records have a hash algorithm other than SHA-1. NSEC3 alone, and not where the first NSEC3
+     * record tells the parameters. */
     DENIAL_HASHER_REFUSED = 20,
 
     /* There is not enough memory. No answer of denial_check_nsec. */
@@ -297,7 +298,7 @@ uint32_t denial_judge_nsec3(const uint8_t *apex, size_t apex_length,
  *                sections 8.1 and 8.2). Of those that are left the first tells them, and those with others
  *                are passed over as well. Where none is left nothing is proved.
  *
- * DENIAL_NO_PARAM never comes. Takes memory as denial_judge_nsec does.
+ * DENIAL_NO_PARAM and DENIAL_HASHER_REFUSED never come. Takes memory as denial_judge_nsec does.
  */
 uint32_t denial_judge_nsec3_alone(const uint8_t *apex, size_t apex_length,
                                   const uint8_t *name, size_t name_length,

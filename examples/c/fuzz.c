@@ -113,7 +113,7 @@ static int is_answer(uint32_t answer, int call)
 {
     int is_hashed = (call & IS_HASHED) != 0;
 
-    if (call & ALONE && answer == DENIAL_NO_PARAM)
+    if (call & ALONE && (answer == DENIAL_NO_PARAM || answer == DENIAL_HASHER_REFUSED))
         return 0;
     if (call & EXPANSION)
         return is_expansion_answer(answer);
