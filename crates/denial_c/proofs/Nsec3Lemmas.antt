@@ -1,10 +1,11 @@
 -- Faults of NSEC3 records.
 use Rattle.std.proofs.Common.{◌≡◌, ℕ, Bool, true, false, cond, List, [], ◌∷◌, map, inl, inr, refl, ap}
-use Rattle.std.specs.Prelude.{filter}
+use Rattle.std.specs.Prelude.{filter, ◌&&◌}
+use Rattle.std.proofs.lemmas.Bool.{eqb-true}
 use Rattle.domain_base.specs.Words.{Name}
 use Rattle.domain_nsec3.specs.Chain.{HashedLink}
 use Rattle.denial_c.specs.Among.{AreNsec3s}
-use Rattle.denial_c.specs.Result.{source_of, IsChainFault, IsNsec3Fault, IsNsec3sFault, IsParamFault, IsSpelled, Spells}
+use Rattle.denial_c.specs.Result.{first_parameters, is_known, source_of, IsChainFault, IsNsec3Fault, IsNsec3sFault, IsParamFault, IsSpelled, Spells}
 use Rattle.denial_c.specs.declared.fault.Fault.{Fault}
 use Rattle.denial_c.specs.declared.nsec3.Telling.{Telling}
 use Rattle.denial_c.specs.declared.nsec3.Telling.TheVariants.{ByRecord, ByFirst}
@@ -52,3 +53,17 @@ map_filter f q (x ∷ xs) =
       | true ↦ ap (λ t. f x ∷ t) (map_filter f q xs)
       | false ↦ map_filter f q xs
     ]
+
+left : (a b : Bool) → (a && b) ≡ true → a ≡ true
+left true b e = refl
+left false b e = e
+
+-- the first of the records that are not to be ignored is by SHA-1, and so is what is taken without one
+pub first_by_sha1 : (a : Name) (ks : List HashedLink) → (first_parameters (filter (is_known a) ks)).algorithm ≡ 1
+first_by_sha1 a [] = refl
+first_by_sha1 a (k ∷ ks) = here (is_known a k) refl (first_by_sha1 a ks)
+  where
+    here : (b : Bool) → is_known a k ≡ b → (first_parameters (filter (is_known a) ks)).algorithm ≡ 1
+        → (first_parameters (cond b (k ∷ filter (is_known a) ks) (filter (is_known a) ks))).algorithm ≡ 1
+    here true known more = eqb-true k.parameters.algorithm 1 (left _ _ (left _ _ known))
+    here false known more = more

@@ -184,13 +184,15 @@ abbrev pub first_parameters : List HashedLink → Parameters
 first_parameters [] = record { algorithm = 1; iterations = 0; salt = [] }
 first_parameters (k ∷ links) = k.parameters
 
--- the NSEC3 records of a class that are not to be ignored, and the parameters of the first of them
+-- the NSEC3 records of a class that are not to be ignored, and the parameters of the first of them:
+-- names are hashed by SHA-1, which refuses none
 pub record AreAlone (class : ℕ) (records : Octets) (a : Name) (links : List HashedLink)
     (param : ParamRecord) : Type 0 where
   pub all : List HashedLink
   pub nsec3s : AreNsec3s class records all
   pub known : links ≡ filter (is_known a) all
   pub first : param.parameters ≡ first_parameters links
+  pub by_sha1 : param.parameters.algorithm ≡ 1
 
 abbrev pub alone : ℕ → Octets → Source
 alone class records =
