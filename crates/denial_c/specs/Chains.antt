@@ -58,9 +58,9 @@ IsGivenFault class octets (fault.ShortBuffer count) = ⊥
 IsGivenFault class octets fault.OutOfMemory =
     (given : List RawRecord) × AreGiven class octets given
 
--- the record at the offset is the first of its owner and type that has another TTL; the owner is the
--- first of these names of the sorted records that has unequal TTLs, and the type the least of which
--- it has them
+-- the record at the offset is the first of its owner and type that has another TTL; the owner is
+-- the first of these names of the sorted records that has unequal TTLs, and the type the least of
+-- which it has them
 pub record IsSortedUnevenAt (names : List ZoneRecord → Name → List Name) (class : ℕ)
     (octets : Octets) (sorted : List RawRecord) (a : Name) (offset : ℕ) : Type 0 where
   pub owner : Name
@@ -217,7 +217,7 @@ pub record IsTooMuch (written old : Octets) (count : ℕ) : Type 0 where
   pub more : length old < length written
 
 -- what can be asked of a chain: what is handed in beside the records is fit for one, or its salt is
--- too long; what octets are the chain; which fault the zone has first; and where it has unequal TTLs
+-- too long; what octets are the chain; which fault the zone has first; and where TTLs are unequal
 pub record Asking : Type 1 where
   pub is_fit : Type 0
   pub is_long : Type 0
@@ -265,7 +265,8 @@ nsec_asking apex class config records =
       is_long = ⊥;
       is_chain = IsNsecChain apex class config records;
       has_fault = HasZoneFault apex class config records;
-      is_uneven_at = HasUnevenAt (covered_names false config.occlude_below_dname) apex class records;
+      is_uneven_at = HasUnevenAt (covered_names false config.occlude_below_dname) apex class
+          records;
     }
 
 abbrev pub IsNsecChainResult : Octets → ℕ → GenerateNsecConfig → Octets → Result ℕ ChainFault
