@@ -1,11 +1,12 @@
 //! The program that `denial lint` is: reads the records of a zone from standard input, one a line,
-//! and prints what is wrong with each line that is no record.
+//! and prints what is wrong with each line that is no record, and with the records as a zone.
 //!
-//! The work is done by `run_lint` of `lint_program`, which is generic over its reader and its
-//! writer. `main` hands in those of the process.
+//! The work is done by `run_lint` of `lint_program`, which is generic over its reader, its writer
+//! and its hasher. `main` hands in those of the process, and SHA-1.
 #![tactic(auto)]
 
 use denial_program::{BUFFER, DenialFault, words_of};
+use domain_sha1::Sha1Hasher;
 use lint_program::{LintFault, Outcome, run_lint};
 use std::io;
 use std::io::{BufReader, BufWriter};
@@ -21,7 +22,13 @@ fn start(rt: &HostRuntime) -> Result<Outcome, DenialFault> {
     let mut output = BufWriter::with_capacity(alloc, BUFFER, io::writer(rt)).map_err(
         |_| DenialFault::OutOfMemory,
     )?;
-    run_lint(alloc, words.as_slice(), &mut input, &mut output)
+    run_lint(
+        alloc,
+        words.as_slice(),
+        &Sha1Hasher,
+        &mut input,
+        &mut output,
+    )
 }
 
 fn main(rt: HostRuntime) -> ExitCode {

@@ -1,10 +1,13 @@
-//! Tests of `denial_program`, over readers and writers that fail.
+//! Tests of `denial_program`, over readers and writers that fail, and of what `lint_program` tells
+//! of names that hash alike.
 //!
-//! They stand apart from it, since a crate with test functions is proved twice: here that is next
+//! They stand apart from them, since a crate with test functions is proved twice: here that is next
 //! to nothing, and there it would be the whole program. What a clause says needs no test, so the
 //! tests are of what no clause says.
 #![tactic(auto)]
 
+#[cfg(test)]
+mod alike;
 #[cfg(test)]
 mod counts;
 #[cfg(test)]

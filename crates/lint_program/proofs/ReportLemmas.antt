@@ -1,5 +1,5 @@
 -- The lines of a report, one after another.
-use Rattle.std.proofs.Common.{◌≡◌, ℕ, Bool, List, [], ◌∷◌, ◌++◌, refl, ap, sym, ◌∙◌, append-nil, append_assoc}
+use Rattle.std.proofs.Common.{◌≡◌, ℕ, Bool, List, [], ◌∷◌, ◌++◌, codes, refl, ap, sym, ◌∙◌, append-nil, append_assoc}
 use Rattle.domain_octets.specs.Words.{Octets}
 use Rattle.lint_program.specs.Notes.{Mark}
 use Rattle.lint_program.specs.Report.{AreFaults, AreNotes, IsFault, IsNote}
@@ -33,3 +33,13 @@ pub note_grouped : (kind place opening told closing end k o c : Octets) → kind
 note_grouped kind place opening told closing end k o c is_kind is_opening is_closing =
     note_parts kind place opening told closing end ∙ ap (λ x. x ++ place ++ opening ++ told ++ closing ++ end) is_kind
     ∙ ap (λ x. k ++ place ++ x ++ told ++ closing ++ end) is_opening ∙ ap (λ x. k ++ place ++ o ++ told ++ x ++ end) is_closing
+
+alike_parts : (kind later between first closing end : Octets)
+    → kind ++ (later ++ (between ++ (first ++ (closing ++ end)))) ≡ (kind ++ later ++ between ++ first ++ closing) ++ end
+alike_parts kind later between first closing end = simp append_assoc
+
+-- the line of two names that hash alike, in the grouping in which it is written
+pub alike_grouped : (later first : Octets)
+    → codes "zone: " ++ (later ++ (codes " and " ++ (first ++ codes " hash alike\n")))
+    ≡ (codes "zone: " ++ later ++ codes " and " ++ first ++ codes " hash alike") ++ codes "\n"
+alike_grouped later first = alike_parts (codes "zone: ") later (codes " and ") first (codes " hash alike") (codes "\n")

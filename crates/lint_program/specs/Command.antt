@@ -1,31 +1,51 @@
 -- What the words after the program's name ask for, and which faults there are.
-use Rattle.std.specs.Prelude.{◌≡◌, ◌∷◌, []}
+use Rattle.std.specs.Prelude.{◌≡◌, ◌∷◌, [], Option, Some, None}
 use Rattle.domain_base.specs.Text.{NameText}
 use Rattle.domain_base.specs.Words.{Name, Token, Tokens}
+use Rattle.denial_program.specs.Command.{Params, Spell}
 use Rattle.denial_program.specs.declared.fault.DenialFault.{DenialFault}
 use Rattle.denial_program.specs.declared.fault.DenialFault.TheVariants.{Usage, Read, Line, Unprepared, MixedClasses, Signing, Param, Write, OutOfMemory}
 
 -- the words are one, which spells the apex
-pub record Asks (words : Tokens) (apex : Name) : Type 0 where
+pub record AsksPlainly (words : Tokens) (apex : Name) : Type 0 where
   pub word : Token
   pub are : words ≡ word ∷ []
   pub names : NameText word apex
 
+-- the words are three, which spell the apex and the parameters of an NSEC3 chain without opt-out
+pub record AsksHashed (words : Tokens) (apex : Name) (p : Params) : Type 0 where
+  pub apex_word : Token
+  pub iterations_word : Token
+  pub salt_word : Token
+  pub are : words ≡ apex_word ∷ iterations_word ∷ salt_word ∷ []
+  pub names : NameText apex_word apex
+  pub parameters : Spell iterations_word salt_word [] p
+
+-- the words ask for this apex, and for these parameters or none
+abbrev pub Asks : Tokens → Name → Option Params → Type 0
+Asks words apex None = AsksPlainly words apex
+Asks words apex (Some p) = AsksHashed words apex p
+
 abbrev pub IsCommand : Tokens → Type 0
-IsCommand words = (apex : Name) × Asks words apex
+IsCommand words = (apex : Name) × (p : Option Params) × Asks words apex p
 
 abbrev pub IsNoCommand : Tokens → Type 0
-IsNoCommand words = (apex : Name) → Asks words apex → ⊥
+IsNoCommand words = (apex : Name) (p : Option Params) → Asks words apex p → ⊥
+
+-- they ask for parameters
+abbrev pub IsHashedCommand : Tokens → Type 0
+IsHashedCommand words = (apex : Name) × (p : Params) × AsksHashed words apex p
 
 -- a fault of a run: of usage exactly where the words are no command, want of memory aside. None is
--- of a line or of the records: what is told of these is the report
+-- of a line or of the records: what is told of these is the report. Of a hash there may be one
+-- where the words ask for parameters
 abbrev pub IsRunFault : Tokens → DenialFault → Type 0
 IsRunFault words Usage = IsNoCommand words
 IsRunFault words Read = IsCommand words
 IsRunFault words (Line n) = ⊥
 IsRunFault words (Unprepared e) = ⊥
 IsRunFault words MixedClasses = ⊥
-IsRunFault words (Signing e) = ⊥
+IsRunFault words (Signing e) = IsHashedCommand words
 IsRunFault words Param = ⊥
 IsRunFault words Write = IsCommand words
 IsRunFault words OutOfMemory = Unit {0}

@@ -4,5 +4,9 @@ pub mod Odd
 pub mod Notes
 pub mod NoteText
 pub mod Firsts
+pub mod Zones
+pub mod Alike
+pub mod AlikeSteps
 pub mod Report
 pub mod Command
+pub mod HashedReport

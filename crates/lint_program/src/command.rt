@@ -1,12 +1,22 @@
 //! What the words after the program's name ask for.
-ghost use Rattle.std.specs.Prelude.{◌≡◌, ◌⊎◌, IfErr, IfOk, map, string_bytes};
+ghost use Rattle.std.specs.Prelude.{◌≡◌, ◌⊎◌, [], IfErr, IfOk, map, string_bytes};
 ghost use Rattle.domain_base.specs.Text.{NameText, IsNoName};
+ghost use Rattle.denial_program.specs.Command.{Params, Spell};
 ghost use Rattle.denial_program.specs.declared.fault.DenialFault.TheVariants.{OutOfMemory};
 ghost use Rattle.lint_program.specs.Command.{Asks, IsNoCommand};
 
-use denial_program::{DenialFault, ZoneName};
+use denial_program::{DenialFault, Nsec3Params, ZoneName, parameters_of};
 use domain_base::ScanError;
 use std::alloc::Global;
+
+/// What the words ask for.
+#[derive(Drop)]
+pub struct Asked {
+    /// The apex of the zone.
+    pub apex: ZoneName,
+    /// The parameters of an NSEC3 chain, where they are given.
+    pub parameters: Option<Nsec3Params>,
+}
 
 /// The apex that a word spells.
 fn name_of(alloc: Global, word: &str) -> Result<ZoneName, DenialFault>
@@ -21,19 +31,45 @@ fn name_of(alloc: Global, word: &str) -> Result<ZoneName, DenialFault>
     }
 }
 
-/// The apex, which is all that the words are.
+/// The parameters that two words spell, without opt-out.
+fn hashed_by(alloc: Global, iterations: &str, salt: &str) -> Result<Nsec3Params, DenialFault>
+    ensures ok { IfOk result (Spell iterations.now salt.now []) }
+    ensures err { IfErr result (λ e. ((e ≡ DenialFault.Usage)
+        × ((p : Params) → Spell iterations.now salt.now [] p → ⊥))
+        ⊎ (e ≡ OutOfMemory)) }
+{
+    parameters_of(alloc, iterations, salt, &[])
+}
+
+/// What the words ask for: an apex, and after it the iterations and the salt of an NSEC3 chain or
+/// nothing.
 ///
 /// # Errors
 ///
-/// `Usage` exactly where they are no apex, and `OutOfMemory`.
-pub fn apex_of(alloc: Global, words: &[String]) -> Result<ZoneName, DenialFault>
-    ensures ok { IfOk result (Asks (map string_bytes words.now)) }
+/// `Usage` exactly where they ask for nothing such, and `OutOfMemory`.
+pub fn asked_of(alloc: Global, words: &[String]) -> Result<Asked, DenialFault>
+    ensures ok { IfOk result (λ asked.
+        Asks (map string_bytes words.now) asked.apex asked.parameters) }
     ensures err { IfErr result (λ e.
         ((e ≡ DenialFault.Usage) × IsNoCommand (map string_bytes words.now))
         ⊎ (e ≡ OutOfMemory)) }
 {
-    let [apex] = words else {
-        return Err(DenialFault::Usage);
-    };
-    name_of(alloc, apex.as_str())
+    match words {
+        [apex] => {
+            let apex = name_of(alloc, apex.as_str())?;
+            Ok(Asked {
+                apex,
+                parameters: None,
+            })
+        }
+        [apex, iterations, salt] => {
+            let apex = name_of(alloc, apex.as_str())?;
+            let parameters = hashed_by(alloc, iterations.as_str(), salt.as_str())?;
+            Ok(Asked {
+                apex,
+                parameters: Some(parameters),
+            })
+        }
+        _ => Err(DenialFault::Usage),
+    }
 }

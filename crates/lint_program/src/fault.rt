@@ -22,7 +22,7 @@ impl From<DenialFault> for LintFault {
 impl fmt::Display for LintFault {
     fn fmt<W: fmt::Write>(&self, f: &mut fmt::Formatter<W>) -> fmt::Result {
         match self.fault {
-            DenialFault::Usage => f.write_str("usage: denial lint APEX"),
+            DenialFault::Usage => f.write_str("usage: denial lint APEX [ITERATIONS SALT]"),
             fault => write!(f, "{fault}"),
         }
     }

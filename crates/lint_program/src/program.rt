@@ -1,25 +1,34 @@
 //! The run of the program, over any reader and any writer.
-ghost use Rattle.std.specs.Prelude.{◌≡◌, IfErr, IfOk, MatchResult, OnOk, IfSome, map, string_bytes};
+ghost use Rattle.std.specs.Prelude.{◌≡◌, ◌⊎◌, ◌++◌, List, Option, IfErr, IfOk, IsErrOf, MatchResult, OnOk, IfSome, map, string_bytes};
 ghost use Rattle.std.specs.Str.Lines.{lines};
 ghost use Rattle.std.specs.Io.KnownBytes.{Appends};
 ghost use Rattle.domain_octets.specs.Words.{Octets};
 ghost use Rattle.denial_program.specs.Fault.{IsBeforeOutput, IsReadToEnd};
 ghost use Rattle.denial_program.specs.declared.fault.DenialFault.TheVariants.{OutOfMemory as Memory};
 ghost use Rattle.domain_base.specs.Words.{Name};
+ghost use Rattle.domain_lent.specs.Data.{RawRecord};
+ghost use Rattle.domain_records.specs.declared.error.SigningError.{SigningError};
+ghost use Rattle.denial_program.specs.Command.{Params};
+ghost use Rattle.lint_program.specs.Alike.{alike_text, pair_of};
 ghost use Rattle.lint_program.specs.Command.{Asks, IsCommand, IsRunFault};
+ghost use Rattle.lint_program.specs.HashedReport.{IsRefused, IsTold};
 ghost use Rattle.lint_program.specs.Notes.{mark_of};
-ghost use Rattle.lint_program.specs.Report.{IsOutcome, IsReport};
+ghost use Rattle.lint_program.specs.Outcomes.{is_faulty};
+ghost use Rattle.lint_program.specs.Report.{AreFaults, AreNotes, IsOutcome};
+ghost use Rattle.lint_program.specs.Zones.{IsUsable, IsZone};
 
-use crate::command::apex_of;
+use crate::alike::{Alike, alike_of};
+use crate::alike_text::{outcome_with, write_alike};
+use crate::command::{Asked, asked_of};
 use crate::notes::{Note, notes_of};
 use crate::outcome::Outcome;
 use crate::reading::{BadLine, Lines, read_lines};
 use crate::report::{finish, write_faults, write_notes};
-use crate::zone::are_refused;
+use crate::zone::{Zone, are_refused, zone_of};
 use bumpalo::Bump;
 use denial_program::{DenialFault, ZoneName};
 use domain_base::{ParsedName, ToName};
-use domain_lent::LentRecord;
+use domain_dnssec::Nsec3Hasher;
 use std::alloc::Global;
 use std::io::{BufRead, Write};
 
@@ -32,22 +41,24 @@ fn lay_apex<'a>(arena: &'a Bump, apex: &ZoneName) -> Result<ParsedName<'a>, Deni
     Ok(ParsedName::over(wire))
 }
 
-/// What was found, where these lines are bad and this is told of the records of the others.
+/// What was found but for names that hash alike, where these lines are bad and this is told of the
+/// records of the others.
 fn outcome_of<'a>(
     alloc: Global,
     apex: &ParsedName<'a>,
-    records: Vec<LentRecord<'a>>,
+    zone: &Zone<'a>,
     bad: &[BadLine<'_>],
     notes: &[Note],
 ) -> Result<Outcome, DenialFault>
-    ensures ok { IfOk result (IsOutcome (map (λ b. b.number) bad.now) records.entry.items apex.now
-        (map mark_of notes.now)) }
+    requires { IsUsable zone.now }
+    ensures ok { IfOk result (λ outcome. (given : List RawRecord) → IsZone given zone.now
+        → IsOutcome (map (λ b. b.number) bad.now) given apex.now (map mark_of notes.now) outcome) }
     ensures err { IfErr result (λ e. e ≡ Memory) }
 {
     if !bad.is_empty() {
         return Ok(Outcome::Faulty);
     }
-    if are_refused(alloc, apex, records)? {
+    if are_refused(alloc, apex, zone)? {
         return Ok(Outcome::Faulty);
     }
     if !notes.is_empty() {
@@ -56,39 +67,76 @@ fn outcome_of<'a>(
     Ok(Outcome::Clean)
 }
 
+/// Writes what is told, and hands it on to the device; the outcome is that without names that hash
+/// alike.
+fn write_report<W: Write>(
+    alloc: Global,
+    bad: &[BadLine<'_>],
+    notes: &[Note],
+    outcome: Outcome,
+    alike: &[Alike<'_>],
+    output: &mut W,
+) -> Result<(), DenialFault>
+    ensures ok { OnOk result ((faults : Octets) × (noted : Octets)
+        × AreFaults (map (λ b. b.number) bad.now) faults
+        × AreNotes (is_faulty outcome) (map mark_of notes.now) noted
+        × Appends (W.contents output.old) (W.contents output.new)
+        ((faults ++ noted) ++ alike_text (map pair_of alike.now))) }
+    ensures err { IfErr result (λ e. (e ≡ DenialFault.Write) ⊎ (e ≡ Memory)) }
+{
+    write_faults(alloc, bad, output)?;
+    write_notes(alloc, notes, outcome.is_faulty(), output)?;
+    write_alike(alike, output)?;
+    finish(output)?;
+    Ok(())
+}
+
 /// Does what the words ask for: reads the records of the zone at the apex, one a line, and writes
-/// what is wrong with each line that is no record, one a line; and then what is wrong with the
-/// records as a zone, and what is no fault but is seldom meant. `denial nsec` refuses an input
-/// exactly where the outcome is `Faulty`.
+/// what is wrong with each line that is no record, one a line; then what is wrong with the records
+/// as a zone, and what is no fault but is seldom meant; and at last, where iterations and a salt
+/// stand behind the apex, which names of its NSEC3 chain hash alike with these. Without them
+/// `denial nsec` refuses an input exactly where the outcome is `Faulty`.
 ///
 /// # Errors
 ///
-/// The first that stands: `Usage` where the words are no apex; `Read` where the input could not be
-/// read; `Write` where the output could not be written; and `OutOfMemory` wherever it comes.
+/// The first that stands: `Usage` where the words are no apex, nor an apex with such parameters;
+/// `Read` where the input could not be read; `Signing` where the hasher refuses a name of the
+/// chain; `Write` where the output could not be written; and `OutOfMemory` wherever it comes.
 /// Nothing is written before `Write`. No line and no record is an error.
-pub fn run_lint<R: BufRead, W: Write>(
+pub fn run_lint<R: BufRead, W: Write, H: Nsec3Hasher>(
     alloc: Global,
     words: &[String],
+    hasher: &H,
     input: &mut R,
     output: &mut W,
 ) -> Result<Outcome, DenialFault>
-    // What is written tells each line that is neither skipped nor a record, and no other; and then
-    // each record of the others that deserves it, by the number of its line and why, and no other.
+    // What is written tells each line that is neither skipped nor a record, and no other; then each
+    // record of the others that deserves it, by the number of its line and why, and no other; and
+    // with parameters each name of the chain that has the hash of one before it, and no other.
     ensures ok { IfOk result (λ outcome. IfSome (R.remaining input.old) (λ bytes. (apex : Name)
-        × (text : Octets) × Asks (map string_bytes words.now) apex
-        × IsReport (lines bytes) apex outcome text
+        × (p : Option Params) × (text : Octets) × Asks (map string_bytes words.now) apex p
+        × IsTold (H.answer hasher.now) (lines bytes) apex p outcome text
         × Appends (W.contents output.old) (W.contents output.new) text)) }
 
-    // Usage is answered exactly where the words are no apex, want of memory aside.
+    // Usage is answered exactly where the words are no such, want of memory aside.
     ensures usage { MatchResult result (λ _. IsCommand (map string_bytes words.now))
         (IsRunFault (map string_bytes words.now)) }
+
+    // A hash is refused only where the words ask for parameters, and the hasher refuses the hash of
+    // a name of the chain and of none before it.
+    ensures refused { (e : SigningError) → IsErrOf result (DenialFault.Signing e)
+        → IfSome (R.remaining input.old) (λ bytes.
+        IsRefused (H.answer hasher.now) (map string_bytes words.now) (lines bytes) e) }
 
     // All of the input has been read.
     ensures end { OnOk result (IsReadToEnd (R.remaining input.old) (R.remaining input.new)) }
 
     ensures untouched { IfErr result (λ e. IsBeforeOutput e → output.new ≡ output.old) }
 {
-    let spelled = apex_of(alloc, words)?;
+    let Asked {
+        apex: spelled,
+        parameters,
+    } = asked_of(alloc, words)?;
     let arena = Bump::new(alloc);
     let apex = lay_apex(&arena, &spelled)?;
     let Lines {
@@ -97,9 +145,9 @@ pub fn run_lint<R: BufRead, W: Write>(
         places,
     } = read_lines(alloc, &arena, input)?;
     let notes = notes_of(alloc, &apex, &records, &places, bad.is_empty())?;
-    let outcome = outcome_of(alloc, &apex, records, &bad, &notes)?;
-    write_faults(alloc, &bad, output)?;
-    write_notes(alloc, &notes, outcome.is_faulty(), output)?;
-    finish(output)?;
-    Ok(outcome)
+    let zone = zone_of(records)?;
+    let outcome = outcome_of(alloc, &apex, &zone, &bad, &notes)?;
+    let alike = alike_of(alloc, &apex, &zone, parameters.as_ref(), hasher)?;
+    write_report(alloc, &bad, &notes, outcome, &alike, output)?;
+    Ok(outcome_with(&alike, outcome))
 }

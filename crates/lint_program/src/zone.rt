@@ -5,12 +5,39 @@ ghost use Rattle.domain_records.specs.Order.{IsInOrder, IsOneClass};
 ghost use Rattle.denial_program.specs.Answer.{Sorts};
 ghost use Rattle.denial_program.specs.declared.fault.DenialFault.TheVariants.{OutOfMemory as Memory};
 ghost use Rattle.lint_program.specs.Report.{IfRefused};
+ghost use Rattle.lint_program.specs.Zones.{IsUsable, IsZone};
 
 use denial_program::{DenialFault, sort_zone};
 use domain_base::ParsedName;
 use domain_dnssec::{GenerateNsecConfig, NsecChain, RecordsIter, SigningError};
 use domain_lent::LentRecord;
 use std::alloc::Global;
+
+/// The records of an input as a zone.
+#[derive(Drop)]
+pub enum Zone<'a> {
+    /// They are of more than one class.
+    Mixed,
+    /// They are of one class, and stand here sorted.
+    Sorted(Vec<LentRecord<'a>>),
+}
+
+/// The zone that records are.
+///
+/// # Errors
+///
+/// `OutOfMemory`.
+pub fn zone_of<'a>(records: Vec<LentRecord<'a>>) -> Result<Zone<'a>, DenialFault>
+    ensures ok { IfOk result (IsZone records.entry.items) }
+    ensures usable { IfOk result IsUsable }
+    ensures err { IfErr result (λ e. e ≡ Memory) }
+{
+    match sort_zone(records) {
+        Ok(sorted) => Ok(Zone::Sorted(sorted)),
+        Err(DenialFault::MixedClasses) => Ok(Zone::Mixed),
+        Err(_fault) => Err(DenialFault::OutOfMemory),
+    }
+}
 
 /// Whether sorted records have no NSEC chain.
 ///
@@ -47,17 +74,15 @@ fn has_no_chain<'a>(
 pub fn are_refused<'a>(
     alloc: Global,
     apex: &ParsedName<'a>,
-    records: Vec<LentRecord<'a>>,
+    zone: &Zone<'a>,
 ) -> Result<bool, DenialFault>
-    ensures ok { IfOk result (λ are. IfRefused are records.entry.items apex.now) }
+    requires { IsUsable zone.now }
+    ensures ok { IfOk result (λ are. (given : List RawRecord) → IsZone given zone.now
+        → IfRefused are given apex.now) }
     ensures err { IfErr result (λ e. e ≡ Memory) }
 {
-    let sorted = match sort_zone(records) {
-        Ok(sorted) => sorted,
-        Err(fault) => match fault {
-            DenialFault::Unprepared(_) => return Err(DenialFault::OutOfMemory),
-            _ => return Ok(true),
-        },
-    };
-    has_no_chain(alloc, apex, &sorted)
+    match zone {
+        Zone::Mixed => Ok(true),
+        Zone::Sorted(sorted) => has_no_chain(alloc, apex, sorted),
+    }
 }

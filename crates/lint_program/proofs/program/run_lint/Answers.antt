@@ -1,12 +1,18 @@
-use Rattle.std.proofs.Common.{◌≡◌, ◌∙◌, ◌++◌, ◌==◌, [], ap, append-nil, arith, length, map, string_bytes, subst, vec_len}
+use Rattle.std.proofs.Common.{◌≡◌, ◌∙◌, ◌++◌, ◌==◌, ap, arith, inl, inr, length, map, option_map, refl, string_bytes, subst, sym, vec_len, Err, IsErrAnd, IsErrOf, MatchResult, Ok, Option, Result}
 use Rattle.std.proofs.lemmas.List.{length-map}
 use Rattle.std.specs.Str.Lines.{lines}
 use Rattle.std.specs.Io.KnownBytes.{Appends}
 use Rattle.domain_base.specs.Words.{Name}
 use Rattle.domain_octets.specs.Words.{Octets}
+use Rattle.domain_records.specs.declared.error.Nsec3HashError.TheVariants as hash_error
+use Rattle.domain_records.specs.declared.error.SigningError.TheVariants as signing_error
+use Rattle.denial_program.specs.Command.{Params}
+use Rattle.denial_program.specs.declared.fault.DenialFault.{DenialFault}
+use Rattle.denial_program.specs.declared.fault.DenialFault.TheVariants.{OutOfMemory as Memory, Signing}
 use Rattle.denial_program.proofs.LineReading.{known_so}
-use Rattle.denial_program.proofs.RunLemmas.{appends_more}
-use Rattle.lint_program.specs.Command.{Asks}
+use Rattle.lint_program.specs.Alike.{alike_text, pair_of, AreTold, IsRefusalBy}
+use Rattle.lint_program.specs.Command.{Asks, IsCommand, IsRunFault}
+use Rattle.lint_program.specs.HashedReport.{outcome_with, IsRefused, IsTold}
 use Rattle.lint_program.specs.Lines.{AreLinted}
 use Rattle.lint_program.specs.Notes.{mark_of}
 use Rattle.lint_program.specs.Outcomes.{is_faulty}
@@ -14,58 +20,124 @@ use Rattle.lint_program.specs.Report.{AreFaults, AreNotes, IsOutcome, IsReport}
 use Rattle.lint_program.specs.declared.reading.BadLine.{BadLine}
 use Rattle.lint_program.specs.declared.reading.Place.{Place}
 use Rattle.lint_program.proofs.NoteLemmas.{noted_of}
+use Rattle.lint_program.proofs.ToldLemmas.{hashed_command, refused_of, told_of}
 use Rattle.lint_program.proofs.program.run_lint.Goals as goal
+
+-- what holds of an error that is handed on
+of_error : {X : Type 0} (P : X → Type 0) (Q : DenialFault → Type 0) (e : DenialFault) (r : Result X DenialFault) → IsErrAnd r (λ f. f ≡ e) → Q e
+    → MatchResult r P Q
+of_error P Q e (Ok x) h q = absurd h
+of_error P Q e (Err f) h q = subst Q (sym h) q
+
+the_error : {X : Type 0} (e f : DenialFault) (r : Result X DenialFault) → IsErrAnd r (λ g. g ≡ e) → IsErrOf r f → f ≡ e
+the_error e f (Ok x) h is = absurd h
+the_error e f (Err g) h is = let same : g ≡ f = cc in sym same ∙ h
 
 pub returns-clause-ok : goal.returns-clause-ok
 returns-clause-ok g c =
+    let answers = g.H.Nsec3Hasher.answer c.args.hasher.now in
+    let asked = c.in_ok-spelled.field-0 in
     let read = c.in_ok-bad.field-0 in
     let outcome = c.in_ok-outcome.outcome in
-    let faults = c.in_ok-write_faults.ensures.ok in
-    let notes = c.in_ok-write_notes.ensures.ok in
+    let written = c.in_ok-write_report.ensures.ok in
     let started = g.W.Write.contents c.args.output.now in
-    let told = g.W.Write.contents c.write_faults.new.output in
-    let noted = g.W.Write.contents c.write_notes.new.output in
-    let ended = g.W.Write.contents c.finish.new.output in
+    let ended = g.W.Write.contents c.write_report.new.output in
     let same_bad : c.deref-3.result.now ≡ read.bad.items = cc c.deref-3.ensures.value in
     let same_told : c.deref-5.result.now ≡ read.bad.items = cc c.deref-5.ensures.value in
     let same_found : c.deref-4.result.now ≡ c.in_ok-notes.notes.items = cc c.deref-4.ensures.value in
     let same_notes : c.deref-6.result.now ≡ c.in_ok-notes.notes.items = cc c.deref-6.ensures.value in
+    let same_pairs : c.deref-7.result.now ≡ c.in_ok-alike.alike.items = cc c.deref-7.ensures.value in
+    let same_last : c.deref-8.result.now ≡ c.in_ok-alike.alike.items = cc c.deref-8.ensures.value in
     let bad = map (λ (b : BadLine). b.number) read.bad.items in
     let numbers = map (λ (p : Place). p.number) read.places.items in
     let marks = map mark_of c.in_ok-notes.notes.items in
+    let pairs = map pair_of c.in_ok-alike.alike.items in
     let counted : vec_len read.bad ≡ length bad = grind (arith, length-map read.bad.items (λ (b : BadLine). b.number), read.bad.ok.0) in
-    let deserved = noted_of c.is_empty.result (length bad == 0) c.in_ok-apex.apex c.in_ok-spelled.spelled c.deref.result.now read.records.items
+    let deserved = noted_of c.is_empty.result (length bad == 0) c.in_ok-apex.apex asked.apex c.deref.result.now read.records.items
     (map (λ (p : Place). p.number) c.deref-2.result.now) numbers marks (c.is_empty.ensures ∙ ap (λ n. n == 0) counted) c.in_ok-apex.ensures.ok
     c.deref.ensures.value (ap (map (λ (p : Place). p.number)) c.deref-2.ensures.value) c.in_ok-notes.ensures in
+    let zone = c.in_ok-zone.ensures.ok in
     let found = subst (λ bs. IsOutcome (map (λ (b : BadLine). b.number) bs) read.records.items c.in_ok-apex.apex (map mark_of c.deref-4.result.now) outcome)
-    same_bad c.in_ok-outcome.ensures.ok in
+    same_bad (c.in_ok-outcome.ensures.ok read.records.items zone) in
     let tells = subst (λ x. IsOutcome bad read.records.items x marks outcome) c.in_ok-apex.ensures.ok
     (subst (λ ns. IsOutcome bad read.records.items c.in_ok-apex.apex (map mark_of ns) outcome) same_found found) in
-    let written = subst (λ ns. AreNotes (is_faulty outcome) (map mark_of ns) notes.0) same_notes
-    (subst (λ b. AreNotes b (map mark_of c.deref-6.result.now) notes.0) c.is_faulty.ensures notes.1) in
+    let faults = subst (λ bs. AreFaults (map (λ (b : BadLine). b.number) bs) written.0) same_told written.2 in
+    let noted = subst (λ ns. AreNotes (is_faulty outcome) (map mark_of ns) written.1) same_notes written.3 in
+    let front = written.0 ++ written.1 in
+    let given : option_map (λ p. p.now) c.as_ref.result ≡ asked.parameters = c.as_ref.ensures.value in
+    let alike = subst (λ x. AreTold answers read.records.items x asked.parameters pairs) c.in_ok-apex.ensures.ok
+    (subst (λ (o : Option Params). AreTold answers read.records.items c.in_ok-apex.apex o pairs) given
+    (c.in_ok-alike.ensures.ok read.records.items zone)) in
+    let last : c.outcome_with.result ≡ outcome_with pairs outcome =
+    c.outcome_with.ensures ∙ ap (λ ps. outcome_with (map pair_of ps) outcome) same_last in
+    let all : Appends started ended (front ++ alike_text pairs) =
+    subst (λ ps. Appends started ended (front ++ alike_text (map pair_of ps))) same_pairs written.4 in
     known_so (λ bytes. AreLinted 1 (lines bytes) bad numbers read.records.items)
-    (λ bytes. (x : Name) × (text : Octets) × Asks (map string_bytes c.args.words.now) x × IsReport (lines bytes) x outcome text
-    × Appends started ended text)
+    (λ bytes. (x : Name) × (o : Option Params) × (text : Octets) × Asks (map string_bytes c.args.words.now) x o
+    × IsTold answers (lines bytes) x o c.outcome_with.result text × Appends started ended text)
     (g.R.Read.remaining c.args.input.now)
-    (λ bytes linted. (
-      c.in_ok-spelled.spelled,
-      (faults.0 ++ notes.0) ++ [],
+    (λ bytes linted.
+    let report : IsReport (lines bytes) asked.apex outcome front = record {
+      bad = bad;
+      numbers = numbers;
+      records = read.records.items;
+      marks = marks;
+      faults = written.0;
+      notes = written.1;
+      are = linted;
+      told = faults;
+      deserved = deserved;
+      noted = noted;
+      is = refl;
+      tells = tells;
+    } in (
+      asked.apex,
+      asked.parameters,
+      front ++ alike_text pairs,
       c.in_ok-spelled.ensures.ok,
-      record {
-        bad = bad;
-        numbers = numbers;
-        records = read.records.items;
-        marks = marks;
-        faults = faults.0;
-        notes = notes.0;
-        are = linted;
-        told = subst (λ bs. AreFaults (map (λ (b : BadLine). b.number) bs) faults.0) same_told faults.1;
-        deserved = deserved;
-        noted = written;
-        is = append-nil (faults.0 ++ notes.0);
-        tells = tells;
-      },
-      appends_more started noted ended (faults.0 ++ notes.0) []
-          (appends_more started told noted faults.0 notes.0 faults.2 notes.2) c.in_ok-finish.ensures.ok,
+      told_of answers (lines bytes) asked.apex asked.parameters outcome c.outcome_with.result front pairs report alike last,
+      all,
     ))
     c.in_ok-bad.ensures.ok
+
+pub returns-in_err-alike-clause-usage : goal.returns-in_err-alike-clause-usage
+returns-in_err-alike-clause-usage g c =
+    let answers = g.H.Nsec3Hasher.answer c.args.hasher.now in
+    let words = map string_bytes c.args.words.now in
+    let asked = c.in_ok-spelled.field-0 in
+    let records = c.in_ok-bad.field-0.records.items in
+    let given : option_map (λ p. p.now) c.as_ref.result ≡ asked.parameters = c.as_ref.ensures.value in
+    of_error (λ _. IsCommand words) (IsRunFault words) c.in_err-alike.field-0.0 c.from_residual-in_err-alike.result c.from_residual-in_err-alike.ensures.1
+    (elim c.in_err-alike.ensures.err [
+      | inl none ↦ subst (IsRunFault words) (sym none) tt
+      | inr r ↦
+          let refusal = subst (λ x. IsRefusalBy answers records x asked.parameters r.0) c.in_ok-apex.ensures.ok
+          (subst (λ (o : Option Params). IsRefusalBy answers records c.in_ok-apex.apex o r.0) given (r.2 records c.in_ok-zone.ensures.ok)) in
+          subst (IsRunFault words) (sym r.1)
+          (hashed_command answers words records asked.apex asked.parameters r.0 c.in_ok-spelled.ensures.ok refusal)
+    ])
+
+pub returns-in_err-alike-clause-refused : goal.returns-in_err-alike-clause-refused
+returns-in_err-alike-clause-refused g c = λ error is.
+    let answers = g.H.Nsec3Hasher.answer c.args.hasher.now in
+    let words = map string_bytes c.args.words.now in
+    let asked = c.in_ok-spelled.field-0 in
+    let read = c.in_ok-bad.field-0 in
+    let bad = map (λ (b : BadLine). b.number) read.bad.items in
+    let numbers = map (λ (p : Place). p.number) read.places.items in
+    let records = read.records.items in
+    let given : option_map (λ p. p.now) c.as_ref.result ≡ asked.parameters = c.as_ref.ensures.value in
+    let same = the_error c.in_err-alike.field-0.0 (Signing error) c.from_residual-in_err-alike.result c.from_residual-in_err-alike.ensures.1 is in
+    elim c.in_err-alike.ensures.err [
+      | inl none ↦ absurd (let other : Signing error ≡ Memory = same ∙ none in cc)
+      | inr r ↦
+          let refusal = subst (λ x. IsRefusalBy answers records x asked.parameters r.0) c.in_ok-apex.ensures.ok
+          (subst (λ (o : Option Params). IsRefusalBy answers records c.in_ok-apex.apex o r.0) given (r.2 records c.in_ok-zone.ensures.ok)) in
+          let told : Signing error ≡ Signing (signing_error.Nsec3HashingError (hash_error.Hasher r.0)) = same ∙ r.1 in
+          let which : error ≡ signing_error.Nsec3HashingError (hash_error.Hasher r.0) = cc in
+          known_so (λ bytes. AreLinted 1 (lines bytes) bad numbers records) (λ bytes. IsRefused answers words (lines bytes) error)
+          (g.R.Read.remaining c.args.input.now)
+          (λ bytes linted.
+          refused_of answers words (lines bytes) bad numbers records asked.apex asked.parameters r.0 error c.in_ok-spelled.ensures.ok linted which refusal)
+          c.in_ok-bad.ensures.ok
+    ]

@@ -1,0 +1,339 @@
+-- Names that have one hash, found in a list of names in canonical order.
+use Rattle.std.proofs.Common.{◌≡◌, ◌⊎◌, ℕ, Bool, true, false, cond, List, [], ◌∷◌, ◌++◌, map, refl, sym, ap, ◌∙◌, inl, inr, subst, append-nil, Option, Some, None, Ok, Err, ◌+◌, ◌<◌, drop, get_or, length, take}
+use Rattle.std.specs.Cmp.Lexicographic.{slice_cmp, bytes_decides, nat_list_cmp_total, texts_ties}
+use Rattle.std.specs.List.{find, list_any, AllByRecursion}
+use Rattle.std.specs.Option.{option_or}
+use Rattle.std.specs.Ordering.{is_eq, nat_cmp}
+use Rattle.std.proofs.lemmas.Bool.{cases_Bool, false≢true, or_left, or_right}
+use Rattle.std.proofs.lemmas.Cmp.{tied_itself}
+use Rattle.std.proofs.lemmas.List.{drop_more, map-append, take-append-drop}
+use Rattle.std.proofs.lemmas.List.Elements.{All-from_recursion}
+use Rattle.std.proofs.lemmas.List.Folds.{find-append, list_any-append}
+use Rattle.domain_octets.specs.Words.{Octets}
+use Rattle.domain_base.specs.Name.{same_name, wire_of}
+use Rattle.domain_base.specs.Order.{before}
+use Rattle.domain_base.specs.Words.{Name}
+use Rattle.domain_zone.specs.Zone.{ZoneRecord}
+use Rattle.domain_zone.proofs.NameLemmas.{before_left, before_order, before_right, one_lowered, same_itself}
+use Rattle.domain_zone.proofs.OwnerLemmas.{any_in, in_any}
+use Rattle.domain_zone.proofs.PairLemmas.{In, IsAscending, all_in, irreflexive}
+use Rattle.domain_zone.proofs.ZoneLemmas.{all_both, all_front, weaker}
+use Rattle.domain_nsec3.specs.Ancestors.{IsListOf}
+use Rattle.domain_nsec3.specs.Config.{ChainConfig, Hash, HashAnswer, hash_name, hash_of}
+use Rattle.domain_nsec3.specs.Owners.{is_chain_name}
+use Rattle.domain_nsec3.proofs.ListLemmas.{sorted}
+use Rattle.domain_records.specs.declared.error.Nsec3HashError.TheVariants as hash_error
+use Rattle.domain_records.specs.declared.error.SigningError.TheVariants as signing_error
+use Rattle.denial_program.specs.declared.fault.DenialFault.{DenialFault}
+use Rattle.denial_program.specs.declared.fault.DenialFault.TheVariants.{OutOfMemory as Memory, Signing}
+use Rattle.lint_program.specs.Alike.{AreAlike, IsAlike, IsFirstRefusal, Pair}
+use Rattle.lint_program.specs.AlikeSteps.{first_with, is_hash, pair_with, IsRefusedAmong, Met}
+use Rattle.lint_program.specs.AlikeSteps.Met.{more, nothing}
+use Rattle.lint_program.proofs.GatherLemmas.{ascending, ascending_both, in_both, in_last, in_left}
+
+-- ---- hashes
+
+is_itself : (h : Octets) → is_hash (Ok h) h ≡ true
+is_itself h = ap is_eq (tied_itself nat_list_cmp_total h)
+
+hash_is : (answer : HashAnswer) (h : Octets) → is_hash answer h ≡ true → answer ≡ Ok h
+hash_is (Ok g) h e = ap Ok ((bytes_decides g h).0 (texts_ties g h ∙ e))
+hash_is (Err n) h e = absurd (false≢true e)
+
+is_hash_so : (answer : HashAnswer) (h : Octets) → answer ≡ Ok h → is_hash answer h ≡ true
+is_hash_so answer h e = ap (λ w. is_hash w h) e ∙ is_itself h
+
+-- ---- the first that passes a test
+
+found_in : (test : Name → Bool) (xs : List Name) (f : Name) → find test xs ≡ Some f → In f xs × (test f ≡ true)
+found_in test [] f e = absurd (cc)
+found_in test (x ∷ xs) f e =
+    elim (test x) as (λ b. test x ≡ b → cond b (Some x) (find test xs) ≡ Some f → In f (x ∷ xs) × (test f ≡ true)) [
+      | true ↦ λ t q. let is : x ≡ f = cc in (inl is, ap test (sym is) ∙ t)
+      | false ↦ λ t q. let r = found_in test xs f q in (inr r.0, r.1)
+    ] refl e
+
+found_none : (test : Name → Bool) (xs : List Name) (y : Name) → find test xs ≡ None → In y xs → test y ≡ false
+found_none test [] y e i = absurd i
+found_none test (x ∷ xs) y e i =
+    elim (test x) as (λ b. test x ≡ b → cond b (Some x) (find test xs) ≡ None → test y ≡ false) [
+      | true ↦ λ t q. absurd (cc)
+      | false ↦ λ t q. elim i [ inl is ↦ ap test (sym is) ∙ t | inr j ↦ found_none test xs y q j ]
+    ] refl e
+
+-- of names in order it comes before all others that pass
+found_first : (test : Name → Bool) (xs : List Name) (f y : Name) → find test xs ≡ Some f → IsAscending before xs → In y xs → test y ≡ true
+    → before y f ≡ false
+found_first test [] f y e up i t = absurd i
+found_first test (x ∷ xs) f y e up i t =
+    elim (test x) as (λ b. test x ≡ b → cond b (Some x) (find test xs) ≡ Some f → before y f ≡ false) [
+      | true ↦ λ s q.
+          let is : x ≡ f = cc in
+          subst (λ k. before y k ≡ false) is
+          (elim i [
+            | inl same ↦ subst (λ k. before k x ≡ false) same (irreflexive before_order x)
+            | inr j ↦ before_order.one_way x y (all_in (λ k. before x k ≡ true) xs y up.0 j)
+          ])
+      | false ↦ λ s q. elim i [
+        | inl same ↦ absurd (false≢true (sym s ∙ ap test same ∙ t))
+        | inr j ↦ found_first test xs f y q up.1 j t
+      ]
+    ] refl e
+
+module _ (test : Name → Bool) (n : Name) (names : List Name) where
+  first_known : (x : Name) → find test names ≡ Some x → find test (names ++ n ∷ []) ≡ Some x
+  first_known x h = find-append test names (n ∷ []) ∙ ap (λ o. option_or o (find test (n ∷ []))) h
+
+  first_passed : test n ≡ false → find test (names ++ n ∷ []) ≡ find test names
+  first_passed e = find-append test names (n ∷ []) ∙ ap (λ b. option_or (find test names) (cond b (Some n) None)) e ∙ or_none (find test names)
+    where
+      or_none : (o : Option Name) → option_or o None ≡ o
+      or_none None = refl
+      or_none (Some x) = refl
+
+  first_new : find test names ≡ None → test n ≡ true → find test (names ++ n ∷ []) ≡ Some n
+  first_new h e = find-append test names (n ∷ []) ∙ ap (λ o. option_or o (find test (n ∷ []))) h ∙ ap (λ b. cond b (Some n) None) e
+
+-- ---- the map of first names, as names are taken in one by one
+
+module _ (hash : Hash) (names : List Name) (n : Name) (k : Octets) (is : hash_name hash n ≡ Ok k) (f : Octets → Option Name)
+    (h : (q : Octets) → f q ≡ first_with hash names q) where
+  same_hash : (q : Octets) → is_hash (hash_name hash n) q ≡ true → first_with hash names q ≡ f k
+  same_hash q e =
+      let same : k ≡ q = (let w = sym is ∙ hash_is (hash_name hash n) q e in cc) in
+      ap (first_with hash names) (sym same) ∙ sym (h k)
+
+  -- a name whose hash has one already
+  pub kept_name : (x : Name) → f k ≡ Some x → (q : Octets) → f q ≡ first_with hash (names ++ n ∷ []) q
+  kept_name x some q =
+      elim (cases_Bool (is_hash (hash_name hash n) q)) [
+        | inl e ↦
+            let known : first_with hash names q ≡ Some x = same_hash q e ∙ some in
+            h q ∙ known ∙ sym (first_known (λ m. is_hash (hash_name hash m) q) n names x known)
+        | inr e ↦ h q ∙ sym (first_passed (λ m. is_hash (hash_name hash m) q) n names e)
+      ]
+
+  -- the first name of its hash
+  pub new_name : (g : Octets → Option Name) → f k ≡ None
+      → ((q : Octets) → g q ≡ cond (is_eq (slice_cmp nat_cmp k q)) (Some n) (f q))
+      → (q : Octets) → g q ≡ first_with hash (names ++ n ∷ []) q
+  new_name g none put q =
+      let at : g q ≡ cond (is_hash (hash_name hash n) q) (Some n) (f q) = put q
+      ∙ ap (λ w. cond (is_hash w q) (Some n) (f q)) (sym is) in
+      elim (cases_Bool (is_hash (hash_name hash n) q)) [
+        | inl e ↦
+            let known : first_with hash names q ≡ None = same_hash q e ∙ none in
+            at ∙ ap (λ b. cond b (Some n) (f q)) e ∙ sym (first_new (λ m. is_hash (hash_name hash m) q) n names known e)
+        | inr e ↦
+            at ∙ ap (λ b. cond b (Some n) (f q)) e ∙ h q
+            ∙ sym (first_passed (λ m. is_hash (hash_name hash m) q) n names e)
+      ]
+
+-- ---- the pairs of a list
+
+abbrev IsHashed : Hash → Name → Type 0
+IsHashed hash n = (h : Octets) × (hash_name hash n ≡ Ok h)
+
+record IsPair (hash : Hash) (names : List Name) (p : Pair) : Type 0 where
+  later : In p.0 names
+  earlier : In p.1 names
+  alike : hash_name hash p.1 ≡ hash_name hash p.0
+  apart : before p.1 p.0 ≡ true
+  first : (y : Name) → In y names → hash_name hash y ≡ hash_name hash p.0 → before y p.1 ≡ false
+
+record ArePairs (hash : Hash) (names : List Name) (pairs : List Pair) : Type 0 where
+  told : AllByRecursion (IsPair hash names) pairs
+  each : (x y : Name) → In x names → In y names → before y x ≡ true → hash_name hash y ≡ hash_name hash x
+      → list_any (λ (p : Pair). same_name p.0 x) pairs ≡ true
+  ascend : IsAscending before (map (λ (p : Pair). p.0) pairs)
+
+pub ascend_front : (xs : List Name) (n : Name) → IsAscending before (xs ++ n ∷ [])
+    → IsAscending before xs × AllByRecursion (λ x. before x n ≡ true) xs
+ascend_front [] n h = (tt, tt)
+ascend_front (x ∷ xs) n h =
+    let k = all_front (λ y. before x y ≡ true) xs (n ∷ []) h.0 in
+    let r = ascend_front xs n h.1 in
+    ((k.0, r.0), (k.1.0, r.1))
+
+module _ (hash : Hash) (names : List Name) (pairs : List Pair) (n : Name) (h : Octets) (is : hash_name hash n ≡ Ok h)
+    (up : IsAscending before names) (last : AllByRecursion (λ x. before x n ≡ true) names) (old : ArePairs hash names pairs) where
+  abbrev test : Name → Bool
+  test m = is_hash (hash_name hash m) h
+
+  before_n : (m : Name) → In m names → before m n ≡ true
+  before_n m i = all_in (λ x. before x n ≡ true) names m last i
+
+  wider : (p : Pair) → IsPair hash names p → IsPair hash (names ++ n ∷ []) p
+  wider p t = record {
+    later = in_left names (n ∷ []) p.0 t.later;
+    earlier = in_left names (n ∷ []) p.1 t.earlier;
+    alike = t.alike;
+    apart = t.apart;
+    first = λ y i e. elim (in_both names (n ∷ []) y i) [
+      | inl j ↦ t.first y j e
+      | inr (inl same) ↦ subst (λ k. before k p.1 ≡ false) same (before_order.one_way p.1 n (before_n p.1 t.earlier))
+      | inr (inr none) ↦ absurd none
+    ];
+  }
+
+  -- a name before the last one that has its hash
+  passes : (y : Name) → hash_name hash y ≡ hash_name hash n → test y ≡ true
+  passes y e = is_hash_so (hash_name hash y) h (e ∙ is)
+
+  each_with : (rest : List Pair)
+      → ((y : Name) → In y names → hash_name hash y ≡ hash_name hash n → list_any (λ (p : Pair). same_name p.0 n) rest ≡ true)
+      → (x y : Name) → In x (names ++ n ∷ []) → In y (names ++ n ∷ []) → before y x ≡ true → hash_name hash y ≡ hash_name hash x
+      → list_any (λ (p : Pair). same_name p.0 x) (pairs ++ rest) ≡ true
+  each_with rest new x y i j b e =
+      list_any-append (λ (p : Pair). same_name p.0 x) pairs rest
+      ∙ elim (in_both names (n ∷ []) x i) [
+        | inr (inr none) ↦ absurd none
+        | inl k ↦ elim (in_both names (n ∷ []) y j) [
+          | inl l ↦ or_left (list_any (λ (p : Pair). same_name p.0 x) pairs) (list_any (λ (p : Pair). same_name p.0 x) rest) (old.each x y k l b e)
+          | inr (inl same) ↦ absurd (false≢true (sym (before_order.one_way x n (before_n x k)) ∙ ap (λ m. before m x) same ∙ b))
+          | inr (inr none) ↦ absurd none
+        ]
+        | inr (inl at) ↦ elim (in_both names (n ∷ []) y j) [
+          | inl l ↦ or_right (list_any (λ (p : Pair). same_name p.0 x) pairs) (list_any (λ (p : Pair). same_name p.0 x) rest)
+              (subst (λ m. list_any (λ (p : Pair). same_name p.0 m) rest ≡ true) at (new y l (e ∙ ap (hash_name hash) (sym at))))
+          | inr (inl same) ↦ absurd (false≢true (sym (irreflexive before_order n) ∙ ap (before n) at ∙ ap (λ m. before m x) same ∙ b))
+          | inr (inr none) ↦ absurd none
+        ]
+      ]
+
+  -- each pair's later name comes before the last name
+  firsts_before : (ps : List Pair) → AllByRecursion (IsPair hash names) ps
+      → AllByRecursion (λ x. AllByRecursion (λ y. before x y ≡ true) (n ∷ [])) (map (λ (p : Pair). p.0) ps)
+  firsts_before [] t = tt
+  firsts_before (p ∷ ps) t = ((before_n p.0 t.0.later, tt), firsts_before ps t.1)
+
+  with_first : (o : Option Name) → first_with hash names h ≡ o → ArePairs hash (names ++ n ∷ []) (pairs ++ pair_with n o)
+  with_first None e = record {
+    told = subst (AllByRecursion (IsPair hash (names ++ n ∷ []))) (sym (append-nil pairs))
+        (weaker (IsPair hash names) (IsPair hash (names ++ n ∷ [])) wider pairs old.told);
+    each = each_with [] (λ y i w. absurd (false≢true (sym (found_none test names y e i) ∙ passes y w)));
+    ascend = subst (λ ps. IsAscending before (map (λ (p : Pair). p.0) ps)) (sym (append-nil pairs)) old.ascend;
+  }
+  with_first (Some f) e =
+      let found = found_in test names f e in
+      let alike = hash_is (hash_name hash f) h found.1 ∙ sym is in
+      let new : IsPair hash (names ++ n ∷ []) (n, f) = record {
+        later = in_last names n;
+        earlier = in_left names (n ∷ []) f found.0;
+        alike = alike;
+        apart = before_n f found.0;
+        first = λ y i w. elim (in_both names (n ∷ []) y i) [
+          | inl j ↦ found_first test names f y e up j (passes y w)
+          | inr (inl same) ↦ subst (λ k. before k f ≡ false) same (before_order.one_way f n (before_n f found.0))
+          | inr (inr none) ↦ absurd none
+        ];
+      } in
+      record {
+        told = all_both (IsPair hash (names ++ n ∷ [])) pairs ((n, f) ∷ [])
+            (weaker (IsPair hash names) (IsPair hash (names ++ n ∷ [])) wider pairs old.told) (new, tt);
+        each = each_with ((n, f) ∷ []) (λ y i w. or_left (same_name n n) false (same_itself n n refl));
+        ascend = subst (IsAscending before) (sym (map-append (λ (p : Pair). p.0) pairs ((n, f) ∷ [])))
+            (ascending_both (map (λ (p : Pair). p.0) pairs) (n ∷ []) old.ascend (tt, tt) (firsts_before pairs old.told));
+      }
+
+pairs_are : (hash : Hash) (names : List Name) (pairs : List Pair) → Met hash names pairs → IsAscending before names → ArePairs hash names pairs
+pairs_are hash names pairs (nothing _) up = record { told = tt; each = λ x y i j b e. absurd i; ascend = tt }
+pairs_are hash names pairs (more _ front old n h met is) up =
+    let parts = ascend_front front n up in
+    with_first hash front old n h is parts.0 parts.1 (pairs_are hash front old met parts.0) (first_with hash front h) refl
+
+-- ---- over the names of a chain
+
+module _ (L : List ZoneRecord) (a : Name) (config : ChainConfig) (names : List Name) (list : IsListOf (is_chain_name L a config) names) where
+  listed : (x : Name) → is_chain_name L a config x ≡ true → (n : Name) × In n names × (same_name n x ≡ true)
+  listed x c = any_in (λ n. same_name n x) names (list.exactly x ∙ c)
+
+  of_chain : (n : Name) → In n names → is_chain_name L a config n ≡ true
+  of_chain n i = sym (list.exactly n) ∙ in_any (λ m. same_name m n) names n i (same_itself n n refl)
+
+  one_hash : (n x : Name) → same_name n x ≡ true → hash_of config n ≡ hash_of config x
+  one_hash n x e = ap (λ l. config.hash (wire_of l)) (one_lowered n x e)
+
+  pub alike_are : (pairs : List Pair) → Met config.hash names pairs → AreAlike L a config pairs
+  alike_are pairs met =
+      let are = pairs_are config.hash names pairs met (ascending names list.ascend) in
+      record {
+        told = All-from_recursion (IsAlike L a config) pairs
+            (weaker (IsPair config.hash names) (IsAlike L a config)
+            (λ p t. record {
+              later = of_chain p.0 t.later;
+              earlier = of_chain p.1 t.earlier;
+              alike = t.alike;
+              apart = t.apart;
+              first = λ y c e.
+                  let m = listed y c in
+                  sym (before_left m.0 y p.1 (one_lowered m.0 y m.2)) ∙ t.first m.0 m.1 (one_hash m.0 y m.2 ∙ e);
+            })
+            pairs are.told);
+        each = λ x y cx cy b e.
+            let m = listed x cx in
+            let k = listed y cy in
+            let found = any_in (λ (p : Pair). same_name p.0 m.0) pairs
+            (are.each m.0 k.0 m.1 k.1
+            (before_left k.0 y m.0 (one_lowered k.0 y k.2) ∙ before_right y m.0 x (one_lowered m.0 x m.2) ∙ b)
+            (one_hash k.0 y k.2 ∙ e ∙ sym (one_hash m.0 x m.2))) in
+            in_any (λ (p : Pair). same_name p.0 x) pairs found.0 found.1
+            (same_itself found.0.0 x (one_lowered found.0.0 m.0 found.2 ∙ one_lowered m.0 x m.2));
+        ascend = sorted (map (λ (p : Pair). p.0) pairs) are.ascend;
+      }
+
+  ascend_back : (xs : List Name) (n : Name) (ys : List Name) → IsAscending before (xs ++ n ∷ ys) → AllByRecursion (λ y. before n y ≡ true) ys
+  ascend_back [] n ys h = h.0
+  ascend_back (x ∷ xs) n ys h = ascend_back xs n ys h.1
+
+  pub first_refusal : (number : ℕ) → IsRefusedAmong config.hash names number → IsFirstRefusal L a config number
+  first_refusal number r =
+      let up = subst (IsAscending before) r.are (ascending names list.ascend) in
+      let there : In r.name names = subst (In r.name) (sym r.are) (in_middle r.front r.name r.back) in
+      record {
+        name = r.name;
+        in_chain = of_chain r.name there;
+        refused = r.refused;
+        first = λ y c b.
+            let m = listed y c in
+            let low : before m.0 r.name ≡ true = before_left m.0 y r.name (one_lowered m.0 y m.2) ∙ b in
+            let known : IsHashed config.hash m.0 = elim (in_both r.front (r.name ∷ r.back) m.0 (subst (In m.0) r.are m.1)) [
+              | inl i ↦ all_in (IsHashed config.hash) r.front m.0 r.hashed i
+              | inr (inl is) ↦ absurd (false≢true (sym (irreflexive before_order r.name) ∙ ap (λ k. before k r.name) is ∙ low))
+              | inr (inr i) ↦ absurd (false≢true (sym (before_order.one_way r.name m.0
+                  (all_in (λ k. before r.name k ≡ true) r.back m.0 (ascend_back r.front r.name r.back up) i)) ∙ low))
+            ] in
+            (known.0, sym (one_hash m.0 y m.2) ∙ known.1);
+      }
+    where
+      in_middle : (xs : List Name) (n : Name) (ys : List Name) → In n (xs ++ n ∷ ys)
+      in_middle [] n ys = inl refl
+      in_middle (x ∷ xs) n ys = inr (in_middle xs n ys)
+
+-- ---- refusals
+
+-- no memory, or the refusal of a number
+abbrev pub IsRefusedBy : (ℕ → Type 0) → DenialFault → Type 0
+IsRefusedBy refused e =
+    (e ≡ Memory) ⊎ ((n : ℕ) × (e ≡ Signing (signing_error.Nsec3HashingError (hash_error.Hasher n))) × refused n)
+
+-- names none of which is refused
+pub met_hashed : (hash : Hash) (names : List Name) (pairs : List Pair) → Met hash names pairs → AllByRecursion (IsHashed hash) names
+met_hashed hash names pairs (nothing _) = tt
+met_hashed hash names pairs (more _ front old n h met is) = all_both (IsHashed hash) front (n ∷ []) (met_hashed hash front old met) ((h, is), tt)
+
+-- the name at a place, between those before it and those after it
+around : (xs : List Name) (i : ℕ) (n : Name) → i < length xs → n ≡ get_or xs i n → xs ≡ take i xs ++ n ∷ drop (i + 1) xs
+around xs i n l is = sym (take-append-drop i xs) ∙ ap (λ ys. take i xs ++ ys) (drop_more xs i n l ∙ ap (λ m. m ∷ drop (i + 1) xs) (sym is))
+
+-- the first name that is refused
+pub refused_at : (hash : Hash) (names : List Name) (i : ℕ) (n : Name) (number : ℕ) (pairs : List Pair) → i < length names
+    → n ≡ get_or names i n → Met hash (take i names) pairs → hash_name hash n ≡ Err number → IsRefusedAmong hash names number
+refused_at hash names i n number pairs l is met e = record {
+  front = take i names;
+  name = n;
+  back = drop (i + 1) names;
+  are = around names i n l is;
+  refused = e;
+  hashed = met_hashed hash (take i names) pairs met;
+}

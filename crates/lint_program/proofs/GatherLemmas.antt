@@ -1,0 +1,335 @@
+-- The owners of a list in order and the names above them, gathered one owner after another.
+use Rattle.std.proofs.Common.{◌≡◌, ◌⊎◌, ℕ, ◌+◌, ◌<◌, ◌≤◌, Bool, true, false, cond, not, ◌&&◌, ◌||◌, List, [], ◌∷◌, ◌++◌, length, refl, sym, ap, ◌∙◌, arith, inl, inr, subst, append-nil, append_assoc}
+use Rattle.std.specs.Prelude.{All, nat_le, nat_lt}
+use Rattle.std.specs.List.{AllByRecursion, list_any}
+use Rattle.std.specs.List.Sorted.{IsStrictlySortedBy}
+use Rattle.std.specs.Ordering.{is_lt}
+use Rattle.std.specs.declared.cmp.Ordering.TheVariants.{Less}
+use Rattle.std.proofs.lemmas.Bool.{cases_Bool, false≢true, leb-true, and_parts, and_from, or_cases, or_left, or_right}
+use Rattle.std.proofs.lemmas.Bool.Decides.{nat_tests}
+use Rattle.std.proofs.lemmas.List.Elements.{recursion_from_All, All-from_recursion}
+use Rattle.std.proofs.lemmas.List.Folds.{list_any-append}
+use Rattle.domain_base.specs.Name.{is_at_or_below, is_strictly_below, lowered, same_name}
+use Rattle.domain_base.specs.Order.{before, canonical_cmp}
+use Rattle.domain_base.specs.Words.{Label, Name}
+use Rattle.domain_zone.specs.Enclosers.{exists_over}
+use Rattle.domain_zone.specs.Zone.{ZoneRecord, OwnersNeverDescend, is_occluded, is_unoccluded, owns, unoccluded_owners}
+use Rattle.domain_zone.proofs.NameLemmas.{before_order, one_lowered, same_itself, below_itself, below_trans, below_from, below_between, below_longer, below_length, below_parent, lowered_below}
+use Rattle.domain_zone.proofs.OwnerLemmas.{any_in, in_any, owners_are, owners_ascend}
+use Rattle.domain_zone.proofs.PairLemmas.{In, IsAscending, all_in, le_lt}
+use Rattle.domain_zone.proofs.SharedLemmas.{either_way}
+use Rattle.domain_zone.proofs.ZoneLemmas.{all_both, after_or, filter_whole, weaker}
+use Rattle.domain_nsec3.specs.Ancestors.{above_with_more, IsListOf}
+use Rattle.domain_nsec3.specs.Config.{ChainConfig, excludes}
+use Rattle.domain_nsec3.specs.Owners.{is_chain_name, is_empty, is_excluded, is_original_owner, is_unsigned_cut, original_owners}
+use Rattle.domain_nsec3.proofs.AncestorLemmas.{are_above, less, not_less, IsAbove}
+use Rattle.domain_nsec3.proofs.ListLemmas.{sorted}
+use Rattle.domain_nsec3.proofs.OwnerLemmas.{existing_are}
+use Rattle.domain_nsec3.proofs.OutcomeLemmas.{original_below}
+use Rattle.domain_nsec3.proofs.SharedLemmas.{Shares, at_length, cons_below}
+use Rattle.lint_program.specs.AlikeSteps.{up_with_more}
+
+-- ---- lists
+
+pub ascending : (ks : List Name) → IsStrictlySortedBy canonical_cmp ks → IsAscending before ks
+unfolding IsStrictlySortedBy
+ascending [] h = tt
+ascending (k ∷ ks) h = (weaker (λ y. canonical_cmp k y ≡ Less) (λ y. before k y ≡ true) (λ y e. ap is_lt e) ks h.0, ascending ks h.1)
+
+pub ascending_both : (xs ys : List Name) → IsAscending before xs → IsAscending before ys
+    → AllByRecursion (λ x. AllByRecursion (λ y. before x y ≡ true) ys) xs → IsAscending before (xs ++ ys)
+ascending_both [] ys h k across = k
+ascending_both (x ∷ xs) ys h k across = (all_both (λ y. before x y ≡ true) xs ys h.0 across.0, ascending_both xs ys h.1 k across.1)
+
+pub in_both : {X : Type 0} (xs ys : List X) (x : X) → In x (xs ++ ys) → In x xs ⊎ In x ys
+in_both [] ys x i = inr i
+in_both (y ∷ xs) ys x (inl e) = inl (inl e)
+in_both (y ∷ xs) ys x (inr i) = elim (in_both xs ys x i) [ inl h ↦ inl (inr h) | inr h ↦ inr h ]
+
+pub in_left : {X : Type 0} (xs ys : List X) (x : X) → In x xs → In x (xs ++ ys)
+in_left [] ys x i = absurd i
+in_left (y ∷ xs) ys x (inl e) = inl e
+in_left (y ∷ xs) ys x (inr i) = inr (in_left xs ys x i)
+
+pub in_last : {X : Type 0} (xs : List X) (x : X) → In x (xs ++ x ∷ [])
+in_last [] x = inl refl
+in_last (y ∷ xs) x = inr (in_last xs x)
+
+-- at or below a name is at or below one that is the same
+below_same : (n m x : Name) → same_name m x ≡ true → is_at_or_below n m ≡ true → is_at_or_below n x ≡ true
+below_same n m x e h = ap (λ k. lowered_below (lowered n) k) (sym (one_lowered m x e)) ∙ h
+
+same_below : (m x a : Name) → same_name m x ≡ true → is_at_or_below m a ≡ true → is_at_or_below x a ≡ true
+same_below m x a e h = ap (λ k. lowered_below k (lowered a)) (sym (one_lowered m x e)) ∙ h
+
+-- ---- a name and those above it
+
+abbrev IsUp : ℕ → Name → Name → Type 0
+IsUp s o m = (is_at_or_below o m ≡ true) × (s < length m)
+
+up_are : (s : ℕ) (o : Name) → AllByRecursion (IsUp s o) (up_with_more s o)
+up_are s o =
+    weaker (IsAbove s ([] ∷ o)) (IsUp s o)
+    (λ m h. (sym (cons_below [] o m (omega (arith, h.1))) ∙ h.0, h.2))
+    (up_with_more s o) (are_above s ([] ∷ o))
+
+up_has : (s : ℕ) (o x : Name) → is_at_or_below o x ≡ true → s < length x → list_any (λ m. same_name m x) (up_with_more s o) ≡ true
+up_has s [] x h more = absurd (let l = below_length [] x h in omega arith)
+up_has s (label ∷ o) x h more =
+    let long = below_length (label ∷ o) x h in
+    let there : list_any (λ m. same_name m x) (up_with_more s o ++ (label ∷ o) ∷ [])
+    ≡ true = list_any-append (λ m. same_name m x) (up_with_more s o) ((label ∷ o) ∷ [])
+    ∙ elim (cases_Bool (nat_le (length (label ∷ o)) (length x))) [
+      | inl l ↦ or_right (list_any (λ m. same_name m x) (up_with_more s o)) (same_name (label ∷ o) x || false)
+          (or_left (same_name (label ∷ o) x) false
+          (same_itself (label ∷ o) x (at_length (label ∷ o) x h (leb-true (length (label ∷ o)) (length x) l))))
+      | inr l ↦
+          let up : length x ≤ length o = grind (arith, nat_tests) in
+          or_left (list_any (λ m. same_name m x) (up_with_more s o)) (same_name (label ∷ o) x || false)
+          (up_has s o x (sym (cons_below label o x up) ∙ h) more)
+    ] in
+    rw (less s (length (label ∷ o)) (omega (arith, long))) there
+
+-- with nothing to add
+pub up_end : (s : ℕ) (x : Name) (names : List Name) → length x ≤ s → names ≡ names ++ up_with_more s x
+up_end s x names l =
+    sym (ap (λ b. names ++ cond b (above_with_more s x ++ x ∷ []) []) (not_less s (length x) l) ∙ append-nil names)
+
+-- the name above a name, with those above it, and then the name
+pub up_step : (s : ℕ) (label : Label) (x name : Name) (old mid new : List Name) → name ≡ label ∷ x → s < length name
+    → mid ≡ old ++ up_with_more s x → new ≡ mid ++ name ∷ [] → new ≡ old ++ up_with_more s name
+up_step s label x name old mid new is more m e =
+    let so : up_with_more s (label ∷ x) ≡ up_with_more s x ++ (label ∷ x) ∷ [] =
+    ap (λ b. cond b (above_with_more s (label ∷ x) ++ (label ∷ x) ∷ []) []) (less s (length (label ∷ x)) (subst (λ k. s < length k) is more)) in
+    e ∙ ap (λ l. l ++ name ∷ []) m ∙ append_assoc old (up_with_more s x) (name ∷ [])
+    ∙ ap (λ k. old ++ (up_with_more s x ++ k ∷ [])) is ∙ ap (λ l. old ++ l) (sym so) ∙ ap (λ k. old ++ up_with_more s k) (sym is)
+
+-- a name above one that is longer comes before it
+shorter_first : (o m : Name) → is_at_or_below o m ≡ true → length m < length o → before m o ≡ true
+shorter_first o m h l =
+    after_or m o (below_from o m h)
+    (elim (cases_Bool (same_name o m)) [
+      | inl e ↦ let q = below_length m o (ap (λ k. lowered_below k (lowered o)) (sym (one_lowered o m e)) ∙ below_itself o) in absurd (omega arith)
+      | inr e ↦ e
+    ])
+
+up_ascend : (s : ℕ) (o : Name) → IsAscending before (up_with_more s o)
+up_ascend s [] =
+    elim (nat_lt s 0) as (λ b. IsAscending before (cond b ([] ∷ []) [])) [ true ↦ (tt, tt) | false ↦ tt ]
+up_ascend s (label ∷ o) =
+    elim (nat_lt s (length (label ∷ o))) as (λ b. IsAscending before (cond b (up_with_more s o ++ (label ∷ o) ∷ []) [])) [
+      | true ↦ ascending_both (up_with_more s o) ((label ∷ o) ∷ []) (up_ascend s o) (tt, tt)
+          (weaker (IsUp s o) (λ m. AllByRecursion (λ y. before m y ≡ true) ((label ∷ o) ∷ []))
+          (λ m h. (
+            shorter_first (label ∷ o) m (below_trans (label ∷ o) o m (below_parent label o) h.0)
+                (let l = below_length o m h.0 in let more : length (label ∷ o) ≡ length o + 1 = omega arith in omega (arith, l, more)),
+            tt,
+          )) (up_with_more s o) (up_are s o))
+      | false ↦ tt
+    ]
+
+-- ---- a list of owners
+
+-- of the owners so far and the names above them, up to the apex, the list has each once, in order; p is the last owner, or the apex
+pub record IsGathered (a : Name) (left passed names : List Name) (p : Name) : Type 0 where
+  pub rising : IsAscending before left
+  pub low : AllByRecursion (λ o. is_at_or_below o a ≡ true) left
+  pub later : AllByRecursion (λ o. before o p ≡ false) left
+  pub in_zone : is_at_or_below p a ≡ true
+  pub ascend : IsAscending before names
+  pub capped : AllByRecursion (λ n. before p n ≡ false) names
+  pub sound : AllByRecursion (λ n. (is_at_or_below n a ≡ true)
+      × ((n ≡ a) ⊎ (list_any (λ o. is_at_or_below o n) passed ≡ true))) names
+  pub held : (e : Name) → is_at_or_below p e ≡ true → is_at_or_below e a ≡ true → list_any (λ n. same_name n e) names ≡ true
+  pub each : (o : Name) → In o passed → (e : Name) → is_at_or_below o e ≡ true → is_at_or_below e a ≡ true
+      → list_any (λ n. same_name n e) names ≡ true
+
+pub gathered_start : (a : Name) (owners : List Name) → IsStrictlySortedBy canonical_cmp owners
+    → All (λ n. is_at_or_below n a ≡ true) owners → IsGathered a owners [] (a ∷ []) a
+gathered_start a owners up low =
+    let below = recursion_from_All (λ n. is_at_or_below n a ≡ true) owners low in
+    record {
+      rising = ascending owners up;
+      low = below;
+      later = weaker (λ n. is_at_or_below n a ≡ true) (λ o. before o a ≡ false) (λ o h. below_from o a h) owners below;
+      in_zone = below_itself a;
+      ascend = (tt, tt);
+      capped = (below_from a a (below_itself a), tt);
+      sound = ((below_itself a, inl refl), tt);
+      held = λ e down up. or_left (same_name a e) false (same_itself a e (at_length a e down (below_length e a up)));
+      each = λ o i. absurd i;
+    }
+
+module _ (a : Name) (left passed names : List Name) (p o : Name) (s : ℕ) (h : IsGathered a (o ∷ left) passed names p) (shares : Shares o p s) where
+  low_o : is_at_or_below o a ≡ true
+  low_o = h.low.0
+
+  apex_short : length a ≤ s
+  apex_short = leb-true (length a) s (sym (shares a low_o) ∙ h.in_zone)
+
+  -- what the owner adds comes after the owner before it
+  after_last : (m : Name) → IsUp s o m → before p m ≡ true
+  after_last m u =
+      elim (cases_Bool (before p m)) [
+        | inl e ↦ e
+        | inr e ↦
+            let few = leb-true (length m) s (sym (shares m u.0) ∙ below_between o m p u.0 e h.later.0) in
+            let many : s < length m = u.1 in
+            absurd (omega arith)
+      ]
+
+  new_below : (m : Name) → IsUp s o m → is_at_or_below m a ≡ true
+  new_below m u =
+      let long : s < length m = u.1 in
+      let short = apex_short in
+      below_longer o m a u.0 low_o (omega arith)
+
+  old_more : (n : Name) → list_any (λ q. is_at_or_below q n) passed ≡ true → list_any (λ q. is_at_or_below q n) (passed ++ o ∷ []) ≡ true
+  old_more n e = list_any-append (λ q. is_at_or_below q n) passed (o ∷ []) ∙ or_left (list_any (λ q. is_at_or_below q n) passed) (is_at_or_below o n || false) e
+
+  kept : (e : Name) → list_any (λ n. same_name n e) names ≡ true → list_any (λ n. same_name n e) (names ++ up_with_more s o) ≡ true
+  kept e t =
+      list_any-append (λ n. same_name n e) names (up_with_more s o)
+      ∙ or_left (list_any (λ n. same_name n e) names) (list_any (λ n. same_name n e) (up_with_more s o)) t
+
+  held_more : (e : Name) → is_at_or_below o e ≡ true → is_at_or_below e a ≡ true → list_any (λ n. same_name n e) (names ++ up_with_more s o) ≡ true
+  held_more e down up =
+      elim (cases_Bool (nat_le (length e) s)) [
+        | inl l ↦ kept e (h.held e (shares e down ∙ l) up)
+        | inr l ↦
+            list_any-append (λ n. same_name n e) names (up_with_more s o)
+            ∙ or_right (list_any (λ n. same_name n e) names) (list_any (λ n. same_name n e) (up_with_more s o))
+            (up_has s o e down (grind (arith, nat_tests)))
+      ]
+
+  pub gathered_more : IsGathered a left (passed ++ o ∷ []) (names ++ up_with_more s o) o
+  gathered_more = record {
+    rising = h.rising.1;
+    low = h.low.1;
+    later = weaker (λ q. before o q ≡ true) (λ q. before q o ≡ false) (λ q e. before_order.one_way o q e) left h.rising.0;
+    in_zone = low_o;
+    ascend = ascending_both names (up_with_more s o) h.ascend (up_ascend s o)
+        (weaker (λ n. before p n ≡ false) (λ n. AllByRecursion (λ m. before n m ≡ true) (up_with_more s o))
+        (λ n e. weaker (IsUp s o) (λ m. before n m ≡ true) (λ m u. le_lt before_order n p m e (after_last m u)) (up_with_more s o) (up_are s o))
+        names h.capped);
+    capped = all_both (λ n. before o n ≡ false) names (up_with_more s o)
+        (weaker (λ n. before p n ≡ false) (λ n. before o n ≡ false) (λ n e. before_order.chain o p n h.later.0 e) names h.capped)
+        (weaker (IsUp s o) (λ m. before o m ≡ false) (λ m u. below_from o m u.0) (up_with_more s o) (up_are s o));
+    sound = all_both (λ n. (is_at_or_below n a ≡ true) × ((n ≡ a) ⊎ (list_any (λ q. is_at_or_below q n) (passed ++ o ∷ []) ≡ true)))
+        names (up_with_more s o)
+        (weaker (λ n. (is_at_or_below n a ≡ true) × ((n ≡ a) ⊎ (list_any (λ q. is_at_or_below q n) passed ≡ true)))
+        (λ n. (is_at_or_below n a ≡ true) × ((n ≡ a) ⊎ (list_any (λ q. is_at_or_below q n) (passed ++ o ∷ []) ≡ true)))
+        (λ n t. (t.0, elim t.1 [ inl e ↦ inl e | inr e ↦ inr (old_more n e) ])) names h.sound)
+        (weaker (IsUp s o) (λ n. (is_at_or_below n a ≡ true) × ((n ≡ a) ⊎ (list_any (λ q. is_at_or_below q n) (passed ++ o ∷ []) ≡ true)))
+        (λ m u. (new_below m u, inr (in_any (λ q. is_at_or_below q m) (passed ++ o ∷ []) o (in_last passed o) u.0)))
+        (up_with_more s o) (up_are s o));
+    held = held_more;
+    each = λ q i e down up. elim (in_both passed (o ∷ []) q i) [
+      | inl j ↦ kept e (h.each q j e down up)
+      | inr (inl is) ↦ held_more e (ap (λ k. is_at_or_below k e) is ∙ down) up
+      | inr (inr none) ↦ absurd none
+    ];
+  }
+
+pub gathered_end : (a : Name) (owners names : List Name) (p : Name) → IsGathered a [] owners names p
+    → All (λ n. is_at_or_below n a ≡ true) owners → 0 < length owners → IsListOf (exists_over owners a) names
+gathered_end a owners names p h low some = record {
+  ascend = sorted names h.ascend;
+  exactly = λ x. either_way (list_any (λ n. same_name n x) names) (exists_over owners a x) (there x) (back x);
+}
+  where
+    apex_there : list_any (λ o. is_at_or_below o a) owners ≡ true
+    apex_there = first owners some (recursion_from_All (λ n. is_at_or_below n a ≡ true) owners low)
+      where
+        first : (os : List Name) → 0 < length os → AllByRecursion (λ n. is_at_or_below n a ≡ true) os → list_any (λ o. is_at_or_below o a) os ≡ true
+        first [] s t = absurd (omega arith)
+        first (o ∷ os) s t = or_left (is_at_or_below o a) (list_any (λ o. is_at_or_below o a) os) t.0
+
+    moved : (n x : Name) → same_name n x ≡ true → list_any (λ o. is_at_or_below o n) owners ≡ true → list_any (λ o. is_at_or_below o x) owners ≡ true
+    moved n x e t = let m = any_in (λ o. is_at_or_below o n) owners t in in_any (λ o. is_at_or_below o x) owners m.0 m.1 (below_same m.0 n x e m.2)
+
+    there : (x : Name) → list_any (λ n. same_name n x) names ≡ true → exists_over owners a x ≡ true
+    there x t =
+        let n = any_in (λ n. same_name n x) names t in
+        let s = all_in (λ n. (is_at_or_below n a ≡ true) × ((n ≡ a) ⊎ (list_any (λ o. is_at_or_below o n) owners ≡ true))) names n.0 h.sound n.1 in
+        and_from (is_at_or_below x a) (list_any (λ o. is_at_or_below o x) owners) (same_below n.0 x a n.2 s.0)
+        (elim s.1 [
+          | inl is ↦ moved n.0 x n.2 (ap (λ k. list_any (λ o. is_at_or_below o k) owners) is ∙ apex_there)
+          | inr e ↦ moved n.0 x n.2 e
+        ])
+
+    back : (x : Name) → exists_over owners a x ≡ true → list_any (λ n. same_name n x) names ≡ true
+    back x t =
+        let q = and_parts (is_at_or_below x a) (list_any (λ o. is_at_or_below o x) owners) t in
+        let m = any_in (λ o. is_at_or_below o x) owners q.1 in
+        h.each m.0 m.1 x m.2 q.0
+
+-- over no owners nothing exists
+pub none_over : (a : Name) (owners : List Name) → length owners ≡ 0 → IsListOf (exists_over owners a) []
+unfolding IsStrictlySortedBy
+none_over a [] none = record { ascend = tt; exactly = λ x. sym (no (is_at_or_below x a)) }
+  where
+    no : (b : Bool) → (b && false) ≡ false
+    no true = refl
+    no false = refl
+none_over a (o ∷ owners) none = absurd (omega (arith, none))
+
+-- ---- the owners that are not occluded
+
+pub unoccluded_sorted : (d : Bool) (L : List ZoneRecord) (a : Name) → OwnersNeverDescend L → IsStrictlySortedBy canonical_cmp (unoccluded_owners d L a)
+unoccluded_sorted d L a order = sorted (unoccluded_owners d L a) (owners_ascend d L a order)
+
+pub unoccluded_below : (d : Bool) (L : List ZoneRecord) (a : Name) → All (λ n. is_at_or_below n a ≡ true) (unoccluded_owners d L a)
+unoccluded_below d L a =
+    All-from_recursion (λ n. is_at_or_below n a ≡ true) (unoccluded_owners d L a)
+    (weaker (λ n. (owns L n ≡ true) × (is_unoccluded d L a n ≡ true)) (λ n. is_at_or_below n a ≡ true)
+    (λ n h. (and_parts (is_at_or_below n a) (not (is_occluded d L a n)) h.1).0)
+    (unoccluded_owners d L a) (owners_are d L a))
+
+-- ---- the names of a chain that leaves nothing out
+
+all_so : (test : Name → Bool) → ((n : Name) → test n ≡ true) → (ks : List Name) → AllByRecursion (λ n. test n ≡ true) ks
+all_so test h [] = tt
+all_so test h (k ∷ ks) = (h k, all_so test h ks)
+
+module _ (L : List ZoneRecord) (a : Name) (config : ChainConfig) (whole : excludes config ≡ false) where
+  pub all_original : original_owners L a config ≡ unoccluded_owners config.occlude_below_dname L a
+  all_original =
+      filter_whole (λ n. not (is_excluded L a config n)) (unoccluded_owners config.occlude_below_dname L a)
+      (all_so (λ n. not (is_excluded L a config n)) (λ n. ap (λ b. not (b && is_unsigned_cut L a n)) whole)
+      (unoccluded_owners config.occlude_below_dname L a))
+
+  -- no name outside of the zone is one
+  outside : (x : Name) → is_at_or_below x a ≡ false → is_chain_name L a config x ≡ false
+  outside x out =
+      elim (cases_Bool (is_chain_name L a config x)) [
+        | inr e ↦ e
+        | inl e ↦ elim (or_cases (is_original_owner L a config x) (is_empty L a config x) e) [
+          | inl f ↦
+              let n = any_in (λ n. same_name n x) (original_owners L a config) f in
+              let low = all_in (λ n. is_at_or_below n a ≡ true) (original_owners L a config) n.0
+              (recursion_from_All (λ n. is_at_or_below n a ≡ true) (original_owners L a config) (original_below L a config)) n.1 in
+              absurd (false≢true (sym out ∙ same_below n.0 x a n.2 low))
+          | inr f ↦
+              let q = and_parts (is_at_or_below x a && not (owned x)) (list_any (λ n. is_strictly_below n x) (original_owners L a config)) f in
+              absurd (false≢true (sym out ∙ (and_parts (is_at_or_below x a) (not (owned x)) q.0).0))
+        ]
+      ]
+    where
+      owned : Name → Bool
+      owned x = list_any (λ r. same_name r.owner x) L
+
+  exists_is : (x : Name) → exists_over (original_owners L a config) a x ≡ is_chain_name L a config x
+  exists_is x =
+      elim (cases_Bool (is_at_or_below x a)) [
+        | inl low ↦ existing_are L a config x low
+        | inr out ↦
+            (λ i. out i && list_any (λ n. is_at_or_below n x) (original_owners L a config)) ∙ sym (outside x out)
+      ]
+
+  pub listed_names : (owners names : List Name) → owners ≡ unoccluded_owners config.occlude_below_dname L a → IsListOf (exists_over owners a) names
+      → IsListOf (is_chain_name L a config) names
+  listed_names owners names are list = record {
+    ascend = list.ascend;
+    exactly = λ x. list.exactly x ∙ ap (λ os. exists_over os a x) (are ∙ sym all_original) ∙ exists_is x;
+  }

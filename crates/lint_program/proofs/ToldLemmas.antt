@@ -1,0 +1,55 @@
+-- What is told with parameters and without.
+use Rattle.std.proofs.Common.{◌≡◌, ℕ, List, ◌++◌, refl, sym, ap, ◌∙◌, subst, append-nil, Option, Some, None}
+use Rattle.domain_octets.specs.Words.{Octets}
+use Rattle.domain_base.specs.Words.{Name, Tokens}
+use Rattle.domain_lent.specs.Data.{RawRecord}
+use Rattle.domain_nsec3.specs.View.{HasherAnswer}
+use Rattle.domain_records.specs.declared.error.Nsec3HashError.TheVariants as hash_error
+use Rattle.domain_records.specs.declared.error.SigningError.{SigningError}
+use Rattle.domain_records.specs.declared.error.SigningError.TheVariants as signing_error
+use Rattle.denial_program.specs.Command.{Params}
+use Rattle.lint_program.specs.Alike.{alike_text, AreTold, IsRefusalBy, Pair}
+use Rattle.lint_program.specs.Command.{Asks, IsHashedCommand}
+use Rattle.lint_program.specs.HashedReport.{outcome_with, IsRefused, IsTold}
+use Rattle.lint_program.specs.Lines.{AreLinted}
+use Rattle.lint_program.specs.Report.{IsReport}
+use Rattle.lint_program.specs.declared.outcome.Outcome.{Outcome}
+
+pub told_of : (answers : HasherAnswer) (lines : List Octets) (apex : Name) (o : Option Params) (plain outcome : Outcome) (front : Octets)
+    (pairs : List Pair) (report : IsReport lines apex plain front) → AreTold answers report.records apex o pairs
+    → outcome ≡ outcome_with pairs plain → IsTold answers lines apex o outcome (front ++ alike_text pairs)
+told_of answers lines apex None plain outcome front pairs report none is =
+    subst (λ t. IsReport lines apex outcome t) (sym (ap (λ ps. front ++ alike_text ps) none ∙ append-nil front))
+    (subst (λ o. IsReport lines apex o front) (sym (is ∙ ap (λ ps. outcome_with ps plain) none)) report)
+told_of answers lines apex (Some p) plain outcome front pairs report alike is = record {
+  plain = plain;
+  front = front;
+  report = report;
+  pairs = pairs;
+  alike = alike;
+  is = refl;
+  tells = is;
+}
+
+-- where a hash is refused the words ask for parameters
+pub hashed_command : (answers : HasherAnswer) (words : Tokens) (given : List RawRecord) (apex : Name) (o : Option Params) (n : ℕ)
+    → Asks words apex o → IsRefusalBy answers given apex o n → IsHashedCommand words
+hashed_command answers words given apex None n asks refusal = absurd refusal
+hashed_command answers words given apex (Some p) n asks refusal = (apex, p, asks)
+
+pub refused_of : (answers : HasherAnswer) (words : Tokens) (lines : List Octets) (bad numbers : List ℕ) (records : List RawRecord) (apex : Name)
+    (o : Option Params) (n : ℕ) (e : SigningError) → Asks words apex o → AreLinted 1 lines bad numbers records
+    → e ≡ signing_error.Nsec3HashingError (hash_error.Hasher n) → IsRefusalBy answers records apex o n → IsRefused answers words lines e
+refused_of answers words lines bad numbers records apex None n e asks are is refusal = absurd refusal
+refused_of answers words lines bad numbers records apex (Some p) n e asks are is refusal = record {
+  apex = apex;
+  p = p;
+  asks = asks;
+  bad = bad;
+  numbers = numbers;
+  records = records;
+  are = are;
+  number = n;
+  is = is;
+  refusal = refusal;
+}

@@ -1,0 +1,11 @@
+use Rattle.std.proofs.Common.{map, take}
+use Rattle.domain_nsec3.specs.View.{hash_by, parameters_of}
+use Rattle.lint_program.specs.Alike.{pair_of}
+use Rattle.lint_program.specs.AlikeSteps.{AreFirstNames, Met}
+use Rattle.lint_program.proofs.alike.pairs_of.Given as goal
+
+-- the pairs of the names so far are told, and the first name of each hash is known
+abbrev pub invariant-loop-name : goal.invariant-loop-name
+invariant-loop-name g l =
+    Met (hash_by (g.H.Nsec3Hasher.answer l.hasher) (parameters_of l.parameters)) (take l.name-index l.names) (map pair_of l.pairs.items)
+    × AreFirstNames (hash_by (g.H.Nsec3Hasher.answer l.hasher) (parameters_of l.parameters)) (take l.name-index l.names) l.firsts
