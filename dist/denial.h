@@ -3,10 +3,11 @@
  * what they prove of one name and one type (RFC 4035, section 5.4; RFC 5155, section 8); and the NSEC
  * and NSEC3 chains of a zone (RFC 4034, section 4; RFC 5155, section 7.1).
  *
- * A validator calls denial_judge_nsec or denial_judge_nsec3: these answer a question as a whole, with
- * the wildcard, aliases and redirections; and of records that were expanded from a wildcard, with
- * NSEC3, denial_judge_nsec3_expansion. denial_check_nsec and denial_check_nsec3 tell of one name and
- * one type alone. A signer calls denial_nsec_chain or
+ * A validator calls denial_judge_nsec or denial_judge_nsec3_alone: these answer a question as a whole,
+ * with the wildcard, aliases and redirections; and of records that were expanded from a wildcard, with
+ * NSEC3, denial_judge_nsec3_expansion_alone. denial_check_nsec and denial_check_nsec3_alone tell of one
+ * name and one type alone. Who has the zone's NSEC3PARAM record calls denial_judge_nsec3,
+ * denial_judge_nsec3_expansion and denial_check_nsec3. A signer calls denial_nsec_chain or
  * denial_nsec3_chain.
  *
  * These functions look at no signature. Hand in only records whose signatures you have verified with
@@ -17,8 +18,9 @@
  * written to or freed, but for the numbers at `labels` and `count`, the pointer at `text` and the
  * octets at `chain`, which are written. Nothing is handed out that must be freed.
  *
- * Pointers. No pointer may be null, not even with a length of 0. `labels`, `count` and `chain` point to
- * no octet that another pointer reaches. No length may be over PTRDIFF_MAX.
+ * Pointers. Octets of length 0 may be null, and so may `labels` and `count`; no other pointer may. `labels`,
+ * `count` and `chain` point to no octet that another pointer reaches. No length may be over PTRDIFF_MAX. Who
+ * calls what the library exports from another language than C or C++ hands in no null pointer at all.
  *
  * Threads. There is no state: calls may run at the same time in any threads.
  */
@@ -34,7 +36,7 @@ extern "C" {
 #endif
 
 /* The version that this header belongs to, as denial_version gives it. */
-#define DENIAL_VERSION 400
+#define DENIAL_VERSION 500
 
 /*
  * What denial_judge_nsec, denial_judge_nsec3 and denial_judge_nsec3_expansion answer: one of these, or
@@ -166,10 +168,12 @@ enum denial_answer {
      * no record. */
     DENIAL_BAD_RECORDS = 18,
 
-    /* The apex has no NSEC3PARAM record of the class, or several. NSEC3 alone. */
+    /* The apex has no NSEC3PARAM record of the class, or several. NSEC3 alone, and not where the first
+     * NSEC3 record tells the parameters. */
     DENIAL_NO_PARAM = 19,
 
-    /* The records have a hash algorithm other than SHA-1. NSEC3 alone. */
+    /* The records have a hash algorithm other than SHA-1. NSEC3 alone, and not where the first NSEC3
+     * record tells the parameters. */
     DENIAL_HASHER_REFUSED = 20,
 
     /* There is not enough memory. No answer of denial_check_nsec. */
@@ -183,7 +187,9 @@ enum denial_answer {
     DENIAL_NO_SINGLE_SOA = 23,
 
     /* Two records of one owner of the chain and one type other than RRSIG differ in their TTLs (RFC
-     * 2181, section 5.2). */
+     * 2181, section 5.2). With the offset of a record: of those of its owner and type the first that has
+     * another TTL than the ones before it. Of several owners with such records it is of the first in
+     * canonical order, and of several types of the least. */
     DENIAL_UNEQUAL_TTLS = 24,
 
     /* The buffer is too small. With the number of octets that the chain has. */
@@ -266,8 +272,7 @@ uint32_t denial_judge_nsec(const uint8_t *apex, size_t apex_length,
  *   limit        the most iterations that are allowed. Where the records have more, nothing is hashed,
  *                and the answer is DENIAL_JUDGED_TOO_MANY_ITERATIONS (RFC 9276, section 3.2).
  *   records      exactly one NSEC3PARAM record of the apex and the class is among them. A response has
- *                none: make one of the first NSEC3 record, whose algorithm, iterations and salt it
- *                repeats (docs/C.md).
+ *                none: for its records call denial_judge_nsec3_alone.
  *
  * NSEC3 records with another algorithm, iterations or salt than the NSEC3PARAM record, or whose owner
  * is not one label in Base 32 hex before the apex, are passed over. A hash is computed for the name,
@@ -281,6 +286,25 @@ uint32_t denial_judge_nsec3(const uint8_t *apex, size_t apex_length,
                             uint16_t rtype, uint16_t rclass, uint16_t limit,
                             const uint8_t *records, size_t records_length,
                             size_t *labels);
+
+/*
+ * What the NSEC3 records of the class answer to the question, where no NSEC3PARAM record is among them,
+ * as in a response: the first of them tells algorithm, iterations and salt. Parameters and answers are
+ * those of denial_judge_nsec3, but for these:
+ *
+ *   records      no NSEC3PARAM record is wanted; records of this type are passed over as all others are.
+ *                NSEC3 records whose owner is not at or below the apex, whose algorithm is not SHA-1, or
+ *                that have a flag beside that of opt-out, are passed over, and tell no parameters (RFC 5155,
+ *                sections 8.1 and 8.2). Of those that are left the first tells them, and those with others
+ *                are passed over as well. Where none is left nothing is proved.
+ *
+ * DENIAL_NO_PARAM and DENIAL_HASHER_REFUSED never come. Takes memory as denial_judge_nsec does.
+ */
+uint32_t denial_judge_nsec3_alone(const uint8_t *apex, size_t apex_length,
+                                  const uint8_t *name, size_t name_length,
+                                  uint16_t rtype, uint16_t rclass, uint16_t limit,
+                                  const uint8_t *records, size_t records_length,
+                                  size_t *labels);
 
 /*
  * What the NSEC3 records of the class answer of a name whose records were expanded from a wildcard
@@ -314,6 +338,16 @@ uint32_t denial_judge_nsec3_expansion(const uint8_t *apex, size_t apex_length,
                                       uint8_t rrsig_labels, uint16_t rclass, uint16_t limit,
                                       const uint8_t *records, size_t records_length,
                                       size_t *labels);
+
+/*
+ * The same, where no NSEC3PARAM record is among the records: as denial_judge_nsec3_alone is to
+ * denial_judge_nsec3.
+ */
+uint32_t denial_judge_nsec3_expansion_alone(const uint8_t *apex, size_t apex_length,
+                                            const uint8_t *name, size_t name_length,
+                                            uint8_t rrsig_labels, uint16_t rclass, uint16_t limit,
+                                            const uint8_t *records, size_t records_length,
+                                            size_t *labels);
 
 /*
  * What the NSEC records of the class prove of the one name and the one type. Takes no memory.
@@ -350,6 +384,16 @@ uint32_t denial_check_nsec3(const uint8_t *apex, size_t apex_length,
                             size_t *labels);
 
 /*
+ * The same, where no NSEC3PARAM record is among the records: as denial_judge_nsec3_alone is to
+ * denial_judge_nsec3.
+ */
+uint32_t denial_check_nsec3_alone(const uint8_t *apex, size_t apex_length,
+                                  const uint8_t *name, size_t name_length,
+                                  uint16_t rtype, uint16_t rclass,
+                                  const uint8_t *records, size_t records_length,
+                                  size_t *labels);
+
+/*
  * Writes the NSEC chain of a zone (RFC 4034, section 4; RFC 4035, section 2.3): one record for each owner
  * that is at or below the apex and not strictly below a zone cut, in canonical order, each pointing to
  * the next owner, the last one to the apex. Its TTL is the lesser of the SOA's MINIMUM and TTL (RFC 9077,
@@ -377,7 +421,9 @@ uint32_t denial_check_nsec3(const uint8_t *apex, size_t apex_length,
  *
  *   DENIAL_BAD_APEX
  *   DENIAL_BAD_RECORDS, DENIAL_OTHER_CLASS   whichever comes first in the octets, with its offset.
- *   DENIAL_NO_SINGLE_SOA, DENIAL_UNEQUAL_TTLS
+ *   DENIAL_NO_SINGLE_SOA
+ *   DENIAL_UNEQUAL_TTLS                      with the offset of a record that has another TTL than the ones
+ *                                            before it of its owner and type.
  *   DENIAL_SHORT_BUFFER                      the chain has so many octets. A buffer of length 0 asks for
  *                                            that number.
  *
@@ -438,6 +484,170 @@ static inline int denial_each_record(const uint8_t *chain, size_t length,
     }
     return answer;
 }
+
+/*
+ * What the library exports takes no null pointer. In C and C++ the calls above go through the functions
+ * below, which hand it a number or an octet of their own in the place of one: so octets of length 0 may be
+ * null, and so may `labels` and `count`, where nothing is written then.
+ */
+static inline const uint8_t *denial_octets(const uint8_t *octets)
+{
+    static const uint8_t none[1] = {0};
+
+    return octets != NULL ? octets : none;
+}
+
+static inline uint32_t denial_judge_nsec_or_null(const uint8_t *apex, size_t apex_length,
+                                                 const uint8_t *name, size_t name_length,
+                                                 uint16_t rtype, uint16_t rclass,
+                                                 const uint8_t *records, size_t records_length,
+                                                 size_t *labels)
+{
+    size_t number = 0;
+
+    return denial_judge_nsec(denial_octets(apex), apex_length, denial_octets(name), name_length, rtype,
+                             rclass, denial_octets(records), records_length,
+                             labels != NULL ? labels : &number);
+}
+
+static inline uint32_t denial_judge_nsec3_or_null(const uint8_t *apex, size_t apex_length,
+                                                  const uint8_t *name, size_t name_length,
+                                                  uint16_t rtype, uint16_t rclass, uint16_t limit,
+                                                  const uint8_t *records, size_t records_length,
+                                                  size_t *labels)
+{
+    size_t number = 0;
+
+    return denial_judge_nsec3(denial_octets(apex), apex_length, denial_octets(name), name_length, rtype,
+                              rclass, limit, denial_octets(records), records_length,
+                              labels != NULL ? labels : &number);
+}
+
+static inline uint32_t denial_judge_nsec3_alone_or_null(const uint8_t *apex, size_t apex_length,
+                                                        const uint8_t *name, size_t name_length,
+                                                        uint16_t rtype, uint16_t rclass, uint16_t limit,
+                                                        const uint8_t *records, size_t records_length,
+                                                        size_t *labels)
+{
+    size_t number = 0;
+
+    return denial_judge_nsec3_alone(denial_octets(apex), apex_length, denial_octets(name), name_length,
+                                    rtype, rclass, limit, denial_octets(records), records_length,
+                                    labels != NULL ? labels : &number);
+}
+
+static inline uint32_t denial_judge_nsec3_expansion_or_null(const uint8_t *apex, size_t apex_length,
+                                                            const uint8_t *name, size_t name_length,
+                                                            uint8_t rrsig_labels, uint16_t rclass,
+                                                            uint16_t limit, const uint8_t *records,
+                                                            size_t records_length, size_t *labels)
+{
+    size_t number = 0;
+
+    return denial_judge_nsec3_expansion(denial_octets(apex), apex_length, denial_octets(name),
+                                        name_length, rrsig_labels, rclass, limit,
+                                        denial_octets(records), records_length,
+                                        labels != NULL ? labels : &number);
+}
+
+static inline uint32_t denial_judge_nsec3_expansion_alone_or_null(const uint8_t *apex,
+                                                                  size_t apex_length,
+                                                                  const uint8_t *name,
+                                                                  size_t name_length,
+                                                                  uint8_t rrsig_labels, uint16_t rclass,
+                                                                  uint16_t limit,
+                                                                  const uint8_t *records,
+                                                                  size_t records_length, size_t *labels)
+{
+    size_t number = 0;
+
+    return denial_judge_nsec3_expansion_alone(denial_octets(apex), apex_length, denial_octets(name),
+                                              name_length, rrsig_labels, rclass, limit,
+                                              denial_octets(records), records_length,
+                                              labels != NULL ? labels : &number);
+}
+
+static inline uint32_t denial_check_nsec_or_null(const uint8_t *apex, size_t apex_length,
+                                                 const uint8_t *name, size_t name_length,
+                                                 uint16_t rtype, uint16_t rclass,
+                                                 const uint8_t *records, size_t records_length,
+                                                 size_t *labels)
+{
+    size_t number = 0;
+
+    return denial_check_nsec(denial_octets(apex), apex_length, denial_octets(name), name_length, rtype,
+                             rclass, denial_octets(records), records_length,
+                             labels != NULL ? labels : &number);
+}
+
+static inline uint32_t denial_check_nsec3_or_null(const uint8_t *apex, size_t apex_length,
+                                                  const uint8_t *name, size_t name_length,
+                                                  uint16_t rtype, uint16_t rclass,
+                                                  const uint8_t *records, size_t records_length,
+                                                  size_t *labels)
+{
+    size_t number = 0;
+
+    return denial_check_nsec3(denial_octets(apex), apex_length, denial_octets(name), name_length, rtype,
+                              rclass, denial_octets(records), records_length,
+                              labels != NULL ? labels : &number);
+}
+
+static inline uint32_t denial_check_nsec3_alone_or_null(const uint8_t *apex, size_t apex_length,
+                                                        const uint8_t *name, size_t name_length,
+                                                        uint16_t rtype, uint16_t rclass,
+                                                        const uint8_t *records, size_t records_length,
+                                                        size_t *labels)
+{
+    size_t number = 0;
+
+    return denial_check_nsec3_alone(denial_octets(apex), apex_length, denial_octets(name), name_length,
+                                    rtype, rclass, denial_octets(records), records_length,
+                                    labels != NULL ? labels : &number);
+}
+
+static inline uint32_t denial_nsec_chain_or_null(const uint8_t *apex, size_t apex_length,
+                                                 uint16_t rclass, bool assume_dnskey,
+                                                 bool occlude_below_dname, const uint8_t *records,
+                                                 size_t records_length, uint8_t *chain,
+                                                 size_t chain_length, size_t *count)
+{
+    uint8_t octet = 0;
+    size_t number = 0;
+
+    return denial_nsec_chain(denial_octets(apex), apex_length, rclass, assume_dnskey,
+                             occlude_below_dname, denial_octets(records), records_length,
+                             chain != NULL ? chain : &octet, chain_length,
+                             count != NULL ? count : &number);
+}
+
+static inline uint32_t denial_nsec3_chain_or_null(const uint8_t *apex, size_t apex_length,
+                                                  uint16_t rclass, bool assume_dnskey,
+                                                  bool occlude_below_dname, uint16_t iterations,
+                                                  const uint8_t *salt, size_t salt_length, bool opt_out,
+                                                  const uint8_t *records, size_t records_length,
+                                                  uint8_t *chain, size_t chain_length, size_t *count)
+{
+    uint8_t octet = 0;
+    size_t number = 0;
+
+    return denial_nsec3_chain(denial_octets(apex), apex_length, rclass, assume_dnskey,
+                              occlude_below_dname, iterations, denial_octets(salt), salt_length,
+                              opt_out, denial_octets(records), records_length,
+                              chain != NULL ? chain : &octet, chain_length,
+                              count != NULL ? count : &number);
+}
+
+#define denial_judge_nsec(...) denial_judge_nsec_or_null(__VA_ARGS__)
+#define denial_judge_nsec3(...) denial_judge_nsec3_or_null(__VA_ARGS__)
+#define denial_judge_nsec3_alone(...) denial_judge_nsec3_alone_or_null(__VA_ARGS__)
+#define denial_judge_nsec3_expansion(...) denial_judge_nsec3_expansion_or_null(__VA_ARGS__)
+#define denial_judge_nsec3_expansion_alone(...) denial_judge_nsec3_expansion_alone_or_null(__VA_ARGS__)
+#define denial_check_nsec(...) denial_check_nsec_or_null(__VA_ARGS__)
+#define denial_check_nsec3(...) denial_check_nsec3_or_null(__VA_ARGS__)
+#define denial_check_nsec3_alone(...) denial_check_nsec3_alone_or_null(__VA_ARGS__)
+#define denial_nsec_chain(...) denial_nsec_chain_or_null(__VA_ARGS__)
+#define denial_nsec3_chain(...) denial_nsec3_chain_or_null(__VA_ARGS__)
 
 #ifdef __cplusplus
 }
