@@ -8,7 +8,7 @@ use Rattle.std.proofs.lemmas.List.Elements.{All-nil, All-cons}
 use Rattle.domain_lent.specs.Data.{RawRecord}
 use Rattle.denial_program.specs.Fault.{IsReadToEnd}
 use Rattle.denial_program.specs.Words.{words, IsSkipped}
-use Rattle.denial_program.specs.Listing.{Give, IsRecord, IsGood, IsBad, IsFirstBad}
+use Rattle.denial_program.specs.Listing.{Give, IsLineRecord, IsGood, IsBad, IsFirstBad}
 use Rattle.denial_program.proofs.LineSteps.{lines_step}
 
 taken_some : (bs : List ℕ) → 0 < length (take_through 10 bs) → 0 < length bs
@@ -94,7 +94,7 @@ follows_skip (Some all) now out records number h s = (
 )
 
 pub follows_record : (known now : Option (List ℕ)) (out : List ℕ) (old new : List RawRecord) (r : RawRecord) (number : ℕ) → FollowsAt known now out old number
-    → new ≡ old ++ r ∷ [] → IsRecord out r → Follows known now new (number + 1)
+    → new ≡ old ++ r ∷ [] → IsLineRecord out r → Follows known now new (number + 1)
 follows_record None now out old new r number h e s = tt
 follows_record (Some all) now out old new r number h e s = (
   h.0,

@@ -5,7 +5,7 @@ use Rattle.domain_lent.specs.Data.{RawRecord}
 use Rattle.denial_program.specs.Words.{words, IsSkipped, ArePlain, LineText}
 
 -- the line is not skipped, holds no octet past `~`, and spells the record
-pub record IsRecord (line : Octets) (r : RawRecord) : Type 0 where
+pub record IsLineRecord (line : Octets) (r : RawRecord) : Type 0 where
   pub seen : IsSkipped (words line) → ⊥
   pub plain : ArePlain (words line)
   pub spelled : LineText (words line) r
@@ -15,17 +15,17 @@ abbrev pub Give : List Octets → List RawRecord → Type 0
 Give [] records = records ≡ []
 Give (line ∷ more) records =
     (IsSkipped (words line) × Give more records)
-    ⊎ ((r : RawRecord) × (others : List RawRecord) × (records ≡ r ∷ others) × IsRecord line r
+    ⊎ ((r : RawRecord) × (others : List RawRecord) × (records ≡ r ∷ others) × IsLineRecord line r
     × Give more others)
 
 -- the line is skipped, or spells a record
 abbrev pub IsGood : Octets → Type 0
-IsGood line = IsSkipped (words line) ⊎ ((r : RawRecord) × IsRecord line r)
+IsGood line = IsSkipped (words line) ⊎ ((r : RawRecord) × IsLineRecord line r)
 
 -- the line is neither skipped nor a record
 pub record IsBad (line : Octets) : Type 0 where
   pub seen : IsSkipped (words line) → ⊥
-  pub none : (r : RawRecord) → IsRecord line r → ⊥
+  pub none : (r : RawRecord) → IsLineRecord line r → ⊥
 
 -- the line of this number, counted from 1, is the lowest that is bad
 pub record IsFirstBad (lines : List Octets) (number : ℕ) : Type 0 where

@@ -7,7 +7,7 @@ use Rattle.domain_base.specs.declared.error.ScanError.TheVariants as scan_error
 use Rattle.domain_base.specs.Words.{Name, Tokens}
 use Rattle.domain_lent.specs.Data.{RawRecord}
 use Rattle.denial_program.specs.Words.{words, IsSkipped, LineText}
-use Rattle.denial_program.specs.Listing.{IsRecord, IsBad}
+use Rattle.denial_program.specs.Listing.{IsLineRecord, IsBad}
 use Rattle.denial_program.specs.declared.line.Line.{Line}
 use Rattle.denial_program.specs.declared.line.Line.TheVariants.{Nothing, Record, Bad}
 use Rattle.denial_program.specs.declared.line.LineError.{LineError}
@@ -15,7 +15,7 @@ use Rattle.denial_program.specs.declared.line.LineError.TheVariants as line_erro
 
 abbrev pub Says : Octets → Line → Type 0
 Says line Nothing = IsSkipped (words line)
-Says line (Record r) = IsRecord line r
+Says line (Record r) = IsLineRecord line r
 Says line Bad = IsBad line
 
 -- why words are no record, where a token was refused

@@ -26,15 +26,15 @@ use Rattle.domain_checker.proofs.EncloserLemmas.{closest_is}
 use Rattle.domain_checker.proofs.FindLemmas.{any_in, any_none, find_none, in_any}
 use Rattle.domain_checker.proofs.HashedListLemmas.{hash_same}
 use Rattle.domain_answer.specs.declared.answer.Answer.{Answer}
-use Rattle.domain_answer.specs.declared.answer.Answer.TheVariants.{AtParent, NoCloserName, NotProven, OutsideZone}
+use Rattle.domain_answer.specs.declared.answer.Answer.TheVariants.{NoCloserName, NotProven}
 use Rattle.domain_answer.specs.HashedProved.{AreAskedAlone, IsHashedAnswered, hashed_proved_answer, needs_wildcard, tells_encloser, tells_wildcard}
 use Rattle.domain_answer.specs.HashedReading.{IsHashedRead}
-use Rattle.domain_answer.specs.HashedZoneAnswer.{HashedLeavesOutBelowDname, hashed_encloser, hashed_inside_answer, hashed_zone_answer}
-use Rattle.domain_answer.specs.Proved.{last_labels, needs_no_records}
+use Rattle.domain_answer.specs.HashedZoneAnswer.{HashedLeavesOutBelowDname, hashed_encloser, hashed_zone_answer}
+use Rattle.domain_answer.specs.Proved.{last_labels}
 use Rattle.domain_answer.specs.ZoneAnswer.{is_at_parent, wildcard_below}
 use Rattle.domain_answer.proofs.CountLemmas.{closest_last, same_count}
 use Rattle.domain_denier.specs.Picked.{at_place}
-use Rattle.domain_denier.specs.HashedPicked.{AreHashedNeeded, IsHashedWhole, TellOfTheirParts, hashed_picked, other_place, picked_without, without_records}
+use Rattle.domain_denier.specs.HashedPicked.{AreHashedNeeded, IsHashedDenial, IsHashedWhole, TellOfTheirParts, hashed_picked, other_place, picked_without}
 use Rattle.domain_denier.specs.HashedSteps.{IsPickedRead, IsSoleCover, IsSoleMatch, IsSoleWildcard}
 use Rattle.domain_denier.specs.declared.nsec3.Nsec3Denial.{Nsec3Denial}
 use Rattle.domain_denier.proofs.HashSearchLemmas.{cycle_length}
@@ -59,40 +59,6 @@ none_some x e = absurd (cc)
 
 some_is : {X : Type 0} (x y : X) → Some x ≡ Some y → x ≡ y
 some_is x y e = cc
-
--- where nothing is needed
-pub none_needed : (L : List ZoneRecord) (a : Name) (config : ChainConfig) (links : List HashedLink) (x : Name) (t : ℕ) (answer : Answer)
-    → AreHashedNeeded L a config links x t (without_records answer)
-none_needed L a config links x t answer = record {
-  name = λ place tells. elim tells [ inl e ↦ absurd (none_some place e) | inr e ↦ absurd (none_some place e) ];
-  wildcard = λ place e apart. absurd (none_some place e);
-}
-
-pub outside_is : (L : List ZoneRecord) (a : Name) (config : ChainConfig) (x : Name) (t : ℕ) → is_at_or_below x a ≡ false
-    → OutsideZone ≡ hashed_zone_answer L a config x t
-outside_is L a config x t e = sym (λ i. cond (not (e i)) OutsideZone (cond (is_at_parent a x t) AtParent (hashed_inside_answer L a config x t)))
-
-pub parent_is : (L : List ZoneRecord) (a : Name) (config : ChainConfig) (x : Name) (t : ℕ) → is_at_or_below x a ≡ true
-    → is_at_parent a x t ≡ true → AtParent ≡ hashed_zone_answer L a config x t
-parent_is L a config x t e f = sym (λ i. cond (not (e i)) OutsideZone (cond (f i) AtParent (hashed_inside_answer L a config x t)))
-
--- then all lists prove that
-pub needless_proved : (L : List ZoneRecord) (a : Name) (config : ChainConfig) (listed : List HashedLink) (x : Name) (t : ℕ)
-    → needs_no_records a x t ≡ true → hashed_proved_answer L a config listed x t ≡ hashed_zone_answer L a config x t
-needless_proved L a config listed x t e =
-    λ i. cond (e i) (hashed_zone_answer L a config x t) (cond (not (tells_encloser L a config listed x)) NotProven
-    (cond (needs_wildcard L a config x && not (tells_wildcard L a config listed x)) (NoCloserName (length (hashed_encloser L a config x)))
-    (hashed_zone_answer L a config x t)))
-
-pub outside_needless : (a x : Name) (t : ℕ) → is_at_or_below x a ≡ false → needs_no_records a x t ≡ true
-outside_needless a x t e = λ i. not (e i) || is_at_parent a x t
-
-pub parent_needless : (a x : Name) (t : ℕ) → is_at_parent a x t ≡ true → needs_no_records a x t ≡ true
-parent_needless a x t e = (λ i. not (is_at_or_below x a) || e i) ∙ either (not (is_at_or_below x a))
-  where
-    either : (b : Bool) → (b || true) ≡ true
-    either true = refl
-    either false = refl
 
 -- the chain of a zone has a record
 pub some_links : (L : List ZoneRecord) (a : Name) (config : ChainConfig) (links : List HashedLink) → IsHashedChain L a config links
@@ -129,10 +95,10 @@ module _ (laws : DenyLaws) (L : List ZoneRecord) (a : Name) (config : ChainConfi
   proved_is listed among answer read =
       laws.readings listed a config.parameters config.hash x t answer small low parent read L config links refl refl leaves chain asked among
 
-  pub zone_is : (d : Nsec3Denial) → IsPickedRead links a config.parameters config.hash x t d → d.answer ≡ hashed_zone_answer L a config x t
+  zone_is : (d : Nsec3Denial) → IsPickedRead links a config.parameters config.hash x t d → d.answer ≡ hashed_zone_answer L a config x t
   zone_is d read = proved_is links (All-contains_itself links) d.answer read.whole ∙ laws.whole L a config links x t leaves chain asked
 
-  pub picked_proves : (d : Nsec3Denial) → IsPickedRead links a config.parameters config.hash x t d
+  picked_proves : (d : Nsec3Denial) → IsPickedRead links a config.parameters config.hash x t d
       → hashed_proved_answer L a config (hashed_picked links d) x t ≡ hashed_zone_answer L a config x t
   picked_proves d read =
       sym (proved_is (hashed_picked links d) (three_contained links d.of_encloser d.of_next_closer d.of_wildcard) d.answer read.picked)
@@ -226,7 +192,7 @@ module _ (laws : DenyLaws) (L : List ZoneRecord) (a : Name) (config : ChainConfi
   without_contained place d =
       three_contained links (other_place place d.of_encloser) (other_place place d.of_next_closer) (other_place place d.of_wildcard)
 
-  pub needed_is : (d : Nsec3Denial) → IsPickedRead links a config.parameters config.hash x t d → AreHashedNeeded L a config links x t d
+  needed_is : (d : Nsec3Denial) → IsPickedRead links a config.parameters config.hash x t d → AreHashedNeeded L a config links x t d
   needed_is d read = record {
     name = λ place tells. elim tells [
       | inl e ↦ without_encloser place (read.matched place e) d
@@ -301,12 +267,24 @@ module _ (laws : DenyLaws) (L : List ZoneRecord) (a : Name) (config : ChainConfi
             ∙ one_any (is_hash_cover a config.parameters told.value) place told.of.link told.of.there e)
       ]
 
-  pub parts_are : (d : Nsec3Denial) → IsPickedRead links a config.parameters config.hash x t d → TellOfTheirParts L a config links x d
+  parts_are : (d : Nsec3Denial) → IsPickedRead links a config.parameters config.hash x t d → TellOfTheirParts L a config links x d
   parts_are d read = record {
     encloser = λ place e. encloser_told place (read.matched place e);
     next_closer = λ place e. closer_told place (read.covered place e);
     wildcard = λ place e. wildcard_told place (read.told place e);
   }
+
+-- what is picked inside the zone
+pub denial_is : DenyLaws → (L : List ZoneRecord) (config : ChainConfig) (chain : ChainRecords)
+    → HashedLeavesOutBelowDname L chain.param.owner config → IsHashedChain L chain.param.owner config chain.links → (x : Name) (t : ℕ) → t < 65536
+    → is_at_or_below x chain.param.owner ≡ true → is_at_parent chain.param.owner x t ≡ false → AreAskedAlone L chain.param.owner config x
+    → (d : Nsec3Denial) → IsPickedRead chain.links chain.param.owner config.parameters config.hash x t d → IsHashedDenial L config chain x t d
+denial_is laws L config chain leaves is x t small low parent asked d read = record {
+  zone = zone_is laws L chain.param.owner config chain.links leaves is x t small low parent asked d read;
+  proved = picked_proves laws L chain.param.owner config chain.links leaves is x t small low parent asked d read;
+  parts = parts_are laws L chain.param.owner config chain.links leaves is x t small low parent asked d read;
+  needed = needed_is laws L chain.param.owner config chain.links leaves is x t small low parent asked d read;
+}
 
 -- what is read with the hash and the parameters of the chain
 pub read_by : (L : List ZoneRecord) (config : ChainConfig) (hash : Hash) (chain : ChainRecords) → IsHashedWhole L config hash chain

@@ -8,7 +8,7 @@ use Rattle.domain_nsec3.specs.Chain.{ChainRecords, HashedLink, IsHashedChain}
 use Rattle.domain_nsec3.specs.Config.{ChainConfig, Hash, hash_name}
 use Rattle.domain_checker.specs.HashedVerdict.{is_covered, is_matched, next_closer}
 use Rattle.domain_answer.specs.HashedProved.{hashed_proved_answer, tells_wildcard}
-use Rattle.domain_answer.specs.HashedZoneAnswer.{HashedLeavesOutBelowDname, hashed_encloser}
+use Rattle.domain_answer.specs.HashedZoneAnswer.{HashedLeavesOutBelowDname, hashed_encloser, hashed_zone_answer}
 use Rattle.domain_answer.specs.ZoneAnswer.{wildcard_below}
 use Rattle.domain_answer.specs.declared.answer.Answer.{Answer}
 use Rattle.domain_answer.specs.declared.answer.Answer.TheVariants.{NoCloserName, NotProven}
@@ -82,6 +82,18 @@ pub record TellOfTheirParts (L : List ZoneRecord) (a : Name) (config : ChainConf
       (next_closer x (hashed_encloser L a config x)) ≡ true
   pub wildcard : (place : ℕ) → d.of_wildcard ≡ Some place
       → tells_wildcard L a config (at_place links (Some place)) x ≡ true
+
+-- what is picked of a chain of the records L for a question about x and t, and what it proves
+pub record IsHashedDenial (L : List ZoneRecord) (config : ChainConfig) (chain : ChainRecords)
+    (x : Name) (t : ℕ) (d : Nsec3Denial) : Type 0 where
+  -- the answer is what the zone says
+  pub zone : d.answer ≡ hashed_zone_answer L chain.param.owner config x t
+  -- the records prove it
+  pub proved : hashed_proved_answer L chain.param.owner config (hashed_picked chain.links d) x t
+      ≡ hashed_zone_answer L chain.param.owner config x t
+  -- each tells of its part, and each is needed
+  pub parts : TellOfTheirParts L chain.param.owner config chain.links x d
+  pub needed : AreHashedNeeded L chain.param.owner config chain.links x t d
 
 -- the hasher refuses x, an ancestor at or below the apex, or the wildcard right below one of these
 pub record IsRefusedAbove (a : Name) (hash : Hash) (x : Name) (n : ℕ) : Type 0 where

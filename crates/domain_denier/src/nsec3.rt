@@ -7,12 +7,11 @@ ghost use Rattle.domain_nsec3.specs.View.{hash_by};
 ghost use Rattle.domain_records.specs.declared.error.Nsec3HashError.TheVariants as hash_error;
 ghost use Rattle.domain_zone.specs.Zone.{ZoneRecord};
 ghost use Rattle.domain_checker.specs.HashedEncloser.{encloser_is_cut};
-ghost use Rattle.domain_answer.specs.HashedProved.{hashed_proved_answer, AreAskedAlone};
+ghost use Rattle.domain_answer.specs.HashedProved.{AreAskedAlone};
 ghost use Rattle.domain_answer.specs.HashedReading.{next_answer, own_answer, IsHashedRead};
-ghost use Rattle.domain_answer.specs.HashedZoneAnswer.{hashed_zone_answer};
 ghost use Rattle.domain_answer.specs.Proved.{last_labels, needs_no_records};
 ghost use Rattle.domain_answer.specs.ZoneAnswer.{is_at_parent, wildcard_below};
-ghost use Rattle.domain_denier.specs.HashedPicked.{hashed_picked, without_records, AreHashedNeeded, AreHashedThere, ArePlaces, IsHashedWhole, IsRefusedAbove, TellOfTheirParts};
+ghost use Rattle.domain_denier.specs.HashedPicked.{hashed_picked, without_records, AreHashedThere, ArePlaces, IsHashedDenial, IsHashedWhole, IsRefusedAbove};
 ghost use Rattle.domain_denier.specs.HashedSteps.{encloser_with, link_at, wildcard_told_by, with_encloser, IsFirstDenial, IsInside, IsPickedRead, IsPlaced, IsWildcardPlaced};
 
 use crate::encloser::{PlacedEncloser, find_encloser};
@@ -380,27 +379,10 @@ pub fn deny_nsec3<O: Octets, M: ToName, H: Nsec3Hasher>(
 
     // Of the chain of any zone in which no other name has a hash that is asked for, the answer is
     // what that zone says, the records prove it, each tells of its part, and each is needed.
-    ensures zone { IfOk result (λ d. (L : List ZoneRecord) (config : ChainConfig)
+    ensures denial { IfOk result (λ d. (L : List ZoneRecord) (config : ChainConfig)
         → IsHashedWhole L config (hash_by (H.answer hasher.now) chain.now.param.parameters)
         chain.now → AreAskedAlone L chain.now.param.owner config (M.labels name.now)
-        → d.answer ≡ hashed_zone_answer L chain.now.param.owner config (M.labels name.now)
-        rtype) }
-    ensures proved { IfOk result (λ d. (L : List ZoneRecord) (config : ChainConfig)
-        → IsHashedWhole L config (hash_by (H.answer hasher.now) chain.now.param.parameters)
-        chain.now → AreAskedAlone L chain.now.param.owner config (M.labels name.now)
-        → hashed_proved_answer L chain.now.param.owner config
-        (hashed_picked chain.now.links d) (M.labels name.now) rtype
-        ≡ hashed_zone_answer L chain.now.param.owner config (M.labels name.now) rtype) }
-    ensures parts { IfOk result (λ d. (L : List ZoneRecord) (config : ChainConfig)
-        → IsHashedWhole L config (hash_by (H.answer hasher.now) chain.now.param.parameters)
-        chain.now → AreAskedAlone L chain.now.param.owner config (M.labels name.now)
-        → TellOfTheirParts L chain.now.param.owner config chain.now.links (M.labels name.now)
-        d) }
-    ensures needed { IfOk result (λ d. (L : List ZoneRecord) (config : ChainConfig)
-        → IsHashedWhole L config (hash_by (H.answer hasher.now) chain.now.param.parameters)
-        chain.now → AreAskedAlone L chain.now.param.owner config (M.labels name.now)
-        → AreHashedNeeded L chain.now.param.owner config chain.now.links (M.labels name.now)
-        rtype d) }
+        → IsHashedDenial L config chain.now (M.labels name.now) rtype d) }
 
     // Of the chain of any zone at all, it is what `judge_nsec3` says of these records alone.
     ensures exact { needs_no_records chain.now.param.owner (M.labels name.now) rtype ≡ false

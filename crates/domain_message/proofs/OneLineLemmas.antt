@@ -10,13 +10,11 @@ use Rattle.domain_base.proofs.NamedLemmas.{one_named}
 use Rattle.domain_base.proofs.SpellingLemmas.{one_name}
 use Rattle.domain_plain.specs.declared.record.Record.{Record}
 use Rattle.domain_rdata.proofs.ScanLemmas.{text_once}
-use Rattle.domain_rdata.specs.Scan.{RdataText, own, generic, OwnText}
+use Rattle.domain_rdata.specs.Scan.{RdataText, own, generic}
 use Rattle.domain_rdata.specs.Zone.{rtype_of}
 use Rattle.domain_rdata.specs.declared.zone_record_data.ZoneRecordData.{ZoneRecordData}
-use Rattle.domain_rdata.specs.declared.zone_record_data.ZoneRecordData.TheVariants.{A, Ns, Soa, Mx, Dnskey, Ds, Rrsig, Nsec, Nsec3, Nsec3param, Unknown}
 use Rattle.domain_message.specs.Alike.{AreAlike}
 use Rattle.domain_message.specs.Entry.{EntryText, LineText}
-use Rattle.domain_message.proofs.OneRecordLemmas.{are_type}
 
 -- a token that is taken is told from the tokens
 taken_once : {V : Type 0} (P : Token → V → Type 0) → ((t : Token) (v w : V) → P t v → P t w → v ≡ w) → (v w : V) (old other m n : Tokens)
@@ -37,22 +35,9 @@ same_type : (text : Token) (m n : ℕ) → TypeText text m → TypeText text n �
 same_type text m n p q = one_named _ _ text m n p q
 
 module _ {O N : Type 0} (octets : O → Octets) (labels : N → Name) where
-  own_type : (rtype : ℕ) (old new : Tokens) (d : ZoneRecordData O N) → OwnText labels rtype old d new → rtype_of d ≡ rtype
-  own_type rtype old new (A d) h = sym h.0
-  own_type rtype old new (Ns d) h = sym h.0
-  own_type rtype old new (Soa d) h = sym h.0
-  own_type rtype old new (Mx d) h = sym h.0
-  own_type rtype old new (Dnskey d) h = sym h.0
-  own_type rtype old new (Ds d) h = sym h.0
-  own_type rtype old new (Rrsig d) h = sym h.0
-  own_type rtype old new (Nsec d) h = sym h.0
-  own_type rtype old new (Nsec3 d) h = sym h.0
-  own_type rtype old new (Nsec3param d) h = sym h.0
-  own_type rtype old new (Unknown d) h = absurd h
-
   text_type : (rtype : ℕ) (old new : Tokens) (d : ZoneRecordData O N) → RdataText octets labels rtype old d new → rtype_of d ≡ rtype
-  text_type rtype old new d (own unmarked text) = own_type rtype old new d text
-  text_type rtype old new d (generic wire text are all) = are_type octets labels rtype wire d are
+  text_type rtype old new d (own unmarked text) = sym text.0
+  text_type rtype old new d (generic wire text are all) = sym are.0
 
   one_entry : (tokens : Tokens) (r s : Record N (ZoneRecordData O N)) → EntryText octets labels tokens r → EntryText octets labels tokens s
       → AreAlike octets labels r s

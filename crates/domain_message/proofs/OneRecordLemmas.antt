@@ -1,21 +1,13 @@
 -- at a place of a message stands one record at most, and none where it is refused
 use Rattle.std.proofs.Common.{◌≡◌, ℕ, ◌+◌, List, refl, sym, ap, subst, ◌∙◌, arith}
 use Rattle.std.specs.Prelude.{Option, Some, None}
-use Rattle.std.proofs.lemmas.List.{append-nil}
 use Rattle.domain_octets.specs.Words.{Octets}
 use Rattle.domain_base.specs.Words.{Name}
-use Rattle.domain_fields.specs.Layout.{octets_of}
-use Rattle.domain_plain.specs.Plain.{a_values, ns_values, soa_values, mx_values}
 use Rattle.domain_plain.specs.declared.record.Record.{Record}
-use Rattle.domain_keys.specs.Data.{dnskey_values, ds_values}
-use Rattle.domain_rrsig.specs.Data.{rrsig_values}
-use Rattle.domain_chain_rdata.specs.Rdata.{nsec_values, nsec3_values, nsec3param_values}
-use Rattle.domain_rdata.specs.Kind.{Kind, kind_of}
-use Rattle.domain_rdata.specs.Refusal.{AreOfKind}
-use Rattle.domain_rdata.specs.Scan.{AreData}
-use Rattle.domain_rdata.specs.Zone.{rtype_of, wire_octets}
+use Rattle.domain_rdata.specs.Kind.{Kind}
+use Rattle.domain_rdata.specs.Zone.{kind_of}
+use Rattle.domain_rdata.proofs.ScanLemmas.{AreOf, are_of, are_wire}
 use Rattle.domain_rdata.specs.declared.zone_record_data.ZoneRecordData.{ZoneRecordData}
-use Rattle.domain_rdata.specs.declared.zone_record_data.ZoneRecordData.TheVariants.{A, Ns, Soa, Mx, Dnskey, Ds, Rrsig, Nsec, Nsec3, Nsec3param, Unknown}
 use Rattle.domain_message.specs.Alike.{AreAlike, IsOfMessage}
 use Rattle.domain_message.specs.Data.{parts_of, PlacedAt, DataAt}
 use Rattle.domain_message.specs.Record.{IsDataAt, RecordAt, OctetsRefusal, RefusesData, cut, in_part, other_end, in_octets, RefusesRecord, in_header, in_data}
@@ -23,52 +15,6 @@ use Rattle.domain_message.specs.declared.error.MessageError.{MessageError}
 use Rattle.domain_message.specs.declared.error.MessageError.TheVariants.{ShortInput, BadLabelType, ForwardPointer, LongName, DataLength, IllegalData, ShortBuf, OutOfMemory}
 use Rattle.domain_message.proofs.HeaderLemmas.{one_header, no_header}
 use Rattle.domain_message.proofs.PartLemmas.{one_parts, no_parts, one_placed}
-
--- octets are data of a type of this kind, or of none
-abbrev AreOf : Option Kind → List ℕ → Type 0
-AreOf None wire = Unit {0}
-AreOf (Some kind) wire = AreOfKind kind wire
-
-module _ {O N : Type 0} (octets : O → Octets) (labels : N → Name) (rtype : ℕ) (wire : List ℕ) where
-  are_wire : (d : ZoneRecordData O N) → AreData octets labels rtype wire d → wire_octets octets labels d ≡ wire
-  unfolding octets_of
-  are_wire (A d) h = sym (h.1.parts ∙ append-nil _)
-  are_wire (Ns d) h = sym (h.1.parts ∙ append-nil _)
-  are_wire (Soa d) h = sym (h.1.parts ∙ append-nil _)
-  are_wire (Mx d) h = sym (h.1.parts ∙ append-nil _)
-  are_wire (Dnskey d) h = sym (h.1.parts ∙ append-nil _)
-  are_wire (Ds d) h = sym (h.1.parts ∙ append-nil _)
-  are_wire (Rrsig d) h = sym (h.1.parts ∙ append-nil _)
-  are_wire (Nsec d) h = sym (h.1.begins.parts ∙ append-nil _)
-  are_wire (Nsec3 d) h = sym (h.1.begins.parts ∙ append-nil _)
-  are_wire (Nsec3param d) h = sym (h.1.parts ∙ append-nil _)
-  are_wire (Unknown d) h = h.2
-
-  pub are_type : (d : ZoneRecordData O N) → AreData octets labels rtype wire d → rtype_of d ≡ rtype
-  are_type (A d) h = sym h.0
-  are_type (Ns d) h = sym h.0
-  are_type (Soa d) h = sym h.0
-  are_type (Mx d) h = sym h.0
-  are_type (Dnskey d) h = sym h.0
-  are_type (Ds d) h = sym h.0
-  are_type (Rrsig d) h = sym h.0
-  are_type (Nsec d) h = sym h.0
-  are_type (Nsec3 d) h = sym h.0
-  are_type (Nsec3param d) h = sym h.0
-  are_type (Unknown d) h = h.1
-
-  are_of : (d : ZoneRecordData O N) → AreData octets labels rtype wire d → AreOf (kind_of rtype) wire
-  are_of (A d) h = subst (λ k. AreOf k wire) (sym (ap kind_of h.0)) (a_values d, h.1)
-  are_of (Ns d) h = subst (λ k. AreOf k wire) (sym (ap kind_of h.0)) (ns_values labels d, h.1)
-  are_of (Soa d) h = subst (λ k. AreOf k wire) (sym (ap kind_of h.0)) (soa_values labels d, h.1)
-  are_of (Mx d) h = subst (λ k. AreOf k wire) (sym (ap kind_of h.0)) (mx_values labels d, h.1)
-  are_of (Dnskey d) h = subst (λ k. AreOf k wire) (sym (ap kind_of h.0)) (dnskey_values d, h.1)
-  are_of (Ds d) h = subst (λ k. AreOf k wire) (sym (ap kind_of h.0)) (ds_values d, h.1)
-  are_of (Rrsig d) h = subst (λ k. AreOf k wire) (sym (ap kind_of h.0)) (rrsig_values d, h.1)
-  are_of (Nsec d) h = subst (λ k. AreOf k wire) (sym (ap kind_of h.0)) (nsec_values labels d, h.1)
-  are_of (Nsec3 d) h = subst (λ k. AreOf k wire) (sym (ap kind_of h.0)) (nsec3_values d, h.1)
-  are_of (Nsec3param d) h = subst (λ k. AreOf k wire) (sym (ap kind_of h.0)) (nsec3param_values d, h.1)
-  are_of (Unknown d) h = subst (λ k. AreOf k wire) (sym h.0) tt
 
 same_wire : (message : List ℕ) (rtype rtype' place place' count count' : ℕ) (a b : List ℕ) → rtype ≡ rtype' → place ≡ place'
     → count ≡ count'
@@ -91,8 +37,8 @@ one_record octets labels message at r s e f x y =
         classes = same.classes;
         ttls = same.ttls;
         types =
-            are_type octets labels x.rtype x.holds.wire r.«data» x.holds.read ∙ same.rtypes
-            ∙ sym (are_type octets labels y.rtype y.holds.wire s.«data» y.holds.read);
+            sym x.holds.read.0 ∙ same.rtypes
+            ∙ y.holds.read.0;
         wires =
             are_wire octets labels x.rtype x.holds.wire r.«data» x.holds.read ∙ wires
             ∙ sym (are_wire octets labels y.rtype y.holds.wire s.«data» y.holds.read);

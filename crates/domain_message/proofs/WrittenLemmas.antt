@@ -6,7 +6,6 @@ use Rattle.domain_octets.specs.Words.{Octets}
 use Rattle.domain_base.specs.Name.{wire_of, IsName}
 use Rattle.domain_base.specs.Words.{Name}
 use Rattle.domain_fields.specs.Layout.{octets_of}
-use Rattle.domain_plain.specs.Unknown.{UnknownData}
 use Rattle.domain_plain.specs.declared.record.Record.{Record}
 use Rattle.domain_rdata.specs.Scan.{AreData}
 use Rattle.domain_rdata.specs.Zone.{rtype_of, wire_octets}
@@ -173,8 +172,3 @@ module _ {O N : Type 0} (octets : O → Octets) (labels : N → Name) (message a
         };
         end_is = omega (arith, ten, length-append name (fields ++ wire), length-append fields wire);
       }
-
-pub unknown_stands : {O N : Type 0} (octets : O → Octets) (labels : N → Name) (d : UnknownData O) → HasExactWire {O = O} {N = N} (Unknown d)
-    → AreData octets labels (rtype_of {O = O} {N = N} (Unknown d)) (wire_octets octets labels (Unknown d)) (Unknown d)
-unfolding octets_of
-unknown_stands octets labels d exact = (exact.0, refl, refl)

@@ -4,9 +4,10 @@ use Rattle.domain_octets.specs.Limit.{IsOver}
 use Rattle.domain_octets.specs.Words.{Octets}
 use Rattle.domain_base.specs.Words.{Name}
 use Rattle.domain_plain.specs.declared.record.Record.{Record}
-use Rattle.domain_rdata.specs.Kind.{Kind, kind_of}
+use Rattle.domain_rdata.specs.Kind.{Kind}
 use Rattle.domain_rdata.specs.Refusal.{AreOfKind, IsPart}
 use Rattle.domain_rdata.specs.Scan.{AreData}
+use Rattle.domain_rdata.specs.Zone.{kind_of}
 use Rattle.domain_rdata.specs.declared.zone_record_data.ZoneRecordData.{ZoneRecordData}
 use Rattle.domain_message.specs.Data.{parts_of, PartsAt, PartsFault, DataAt}
 use Rattle.domain_message.specs.Header.{HeaderAt}

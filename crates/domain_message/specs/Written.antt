@@ -5,17 +5,21 @@ use Rattle.domain_base.specs.Name.{wire_of}
 use Rattle.domain_base.specs.Words.{Name}
 use Rattle.domain_fields.specs.Layout.{octets_of}
 use Rattle.domain_plain.specs.declared.record.Record.{Record}
-use Rattle.domain_rdata.specs.Kind.{kind_of}
+use Rattle.domain_rdata.specs.Exact.{HasExactOctets}
 use Rattle.domain_rdata.specs.Zone.{rtype_of, wire_octets}
 use Rattle.domain_rdata.specs.declared.zone_record_data.ZoneRecordData.{ZoneRecordData}
 use Rattle.domain_rdata.specs.declared.zone_record_data.ZoneRecordData.TheVariants.{Unknown}
 use Rattle.domain_message.specs.Data.{parts_of}
 use Rattle.domain_message.specs.Header.{numbers}
 
+-- octets are of a type whose names are never compressed
+abbrev pub HasNoParts : {O N : Type 0} → ZoneRecordData O N → Type 0
+HasNoParts (Unknown d) = parts_of d.rtype ≡ None
+HasNoParts _ = Unit {0}
+
 -- octets are of a type that has no other form, and whose names are never compressed
 abbrev pub HasExactWire : {O N : Type 0} → ZoneRecordData O N → Type 0
-HasExactWire (Unknown d) = (kind_of d.rtype ≡ None) × (parts_of d.rtype ≡ None)
-HasExactWire _ = Unit {0}
+HasExactWire d = HasExactOctets d × HasNoParts d
 
 -- the owner, the type, the class, the TTL, the length of the data, and the data
 abbrev pub record_octets : {O N : Type 0} → (O → Octets) → (N → Name)

@@ -4,9 +4,8 @@ ghost use Rattle.domain_octets.specs.Words.{Octets};
 ghost use Rattle.domain_base.specs.Name.{wire_of, IsName};
 ghost use Rattle.domain_base.specs.Words.{Name};
 ghost use Rattle.domain_plain.specs.RecordText.{record_text};
-ghost use Rattle.domain_rdata.specs.DataText.{data_text};
 ghost use Rattle.domain_rdata.specs.Exact.{HasExactText};
-ghost use Rattle.domain_rdata.specs.Zone.{rtype_of, wire_octets};
+ghost use Rattle.domain_rdata.specs.Zone.{data_text, rtype_of, wire_octets};
 ghost use Rattle.domain_rdata.specs.Scan.{AreData};
 ghost use Rattle.domain_message.specs.Written.{HasExactWire, record_octets};
 ghost use Rattle.domain_plain.specs.declared.record.Record.{Record};
@@ -20,15 +19,10 @@ ghost use Rattle.domain_message.specs.Fault.{LabelsFault};
 ghost use Rattle.domain_message.specs.declared.name.NameFault.{NameFault};
 
 use domain_base::ToName;
-use domain_chain_rdata::nsec_laws::nsec_parses_back;
-use domain_chain_rdata::nsec3_laws::{nsec3_parses_back, nsec3param_parses_back};
-use domain_keys::data_laws::{dnskey_parses_back, ds_parses_back};
 use domain_octets::Octets;
-use domain_plain::laws::{a_parses_back, mx_parses_back, ns_parses_back, soa_parses_back};
 use domain_plain::{Record, RecordData};
 use domain_rdata::ZoneRecordData;
-use domain_rdata::laws::data_is_read_back;
-use domain_rrsig::laws::rrsig_parses_back;
+use domain_rdata::laws::{data_is_read_back, octets_are_read_back};
 
 /// At a place of a message stands one name at most, and none where labels have a fault (RFC 1035,
 /// section 4.1.4).
@@ -83,19 +77,7 @@ pub fn written_data_are_read_back<O: Octets, N: ToName>(value: &ZoneRecordData<O
     ensures { HasExactWire value.now → AreData O.octets N.labels (rtype_of value.now)
         (wire_octets O.octets N.labels value.now) value.now }
 {
-    match value {
-        ZoneRecordData::A(data) => a_parses_back(data),
-        ZoneRecordData::Ns(data) => ns_parses_back(data),
-        ZoneRecordData::Soa(data) => soa_parses_back(data),
-        ZoneRecordData::Mx(data) => mx_parses_back(data),
-        ZoneRecordData::Dnskey(data) => dnskey_parses_back(data),
-        ZoneRecordData::Ds(data) => ds_parses_back(data),
-        ZoneRecordData::Rrsig(data) => rrsig_parses_back(data),
-        ZoneRecordData::Nsec(data) => nsec_parses_back(data),
-        ZoneRecordData::Nsec3(data) => nsec3_parses_back(data),
-        ZoneRecordData::Nsec3param(data) => nsec3param_parses_back(data),
-        ZoneRecordData::Unknown(_) => {}
-    }
+    octets_are_read_back(value);
 }
 
 /// A record that is written into a message without compression stands where it was written, up to

@@ -15,6 +15,7 @@ use Rattle.domain_base.specs.Scan.{IsNumber, TakesToken}
 use Rattle.domain_base.specs.Text.{name_text}
 use Rattle.domain_base.proofs.ReadBackLemmas.{name_word}
 use Rattle.domain_base.proofs.SpellingLemmas.{name_is_valid}
+use Rattle.domain_fields.specs.Layout.{octets_of}
 use Rattle.domain_fields.specs.Scan.{Scans}
 use Rattle.domain_plain.specs.Generic.{generic_mark, generic_text}
 use Rattle.domain_plain.specs.Plain.{ns, soa, soa_values}
@@ -25,8 +26,9 @@ use Rattle.domain_plain.specs.Unknown.{UnknownData}
 use Rattle.domain_plain.proofs.ReadBackLemmas.{generic_back}
 use Rattle.domain_rrsig.specs.Data.{RrsigData}
 use Rattle.domain_rrsig.specs.Scan.{RrsigText}
-use Rattle.domain_rdata.specs.Exact.{HasExactText}
-use Rattle.domain_rdata.specs.Scan.{IsGeneric, RdataText, own, generic}
+use Rattle.domain_rdata.specs.Exact.{HasExactOctets, HasExactText}
+use Rattle.domain_rdata.specs.Scan.{AreData, IsGeneric, RdataText, own, generic}
+use Rattle.domain_rdata.specs.Zone.{wire_octets}
 use Rattle.domain_rdata.specs.declared.zone_record_data.ZoneRecordData.TheVariants.{Ns, Soa, Unknown}
 
 -- ---- texts that are not the mark
@@ -117,4 +119,10 @@ module _ {O N : Type 0} (octets : O → List ℕ) (labels : N → List (List ℕ
   pub unknown_back : (d : UnknownData O) → All (λ octet. octet < 256) (octets d.«data»)
       → HasExactText {O = O} {N = N} octets (Unknown d) → RdataText octets labels d.rtype
       (words_of (generic_text (octets d.«data»))) (Unknown d) []
-  unknown_back d small exact = generic (octets d.«data») (generic_back (octets d.«data») small exact.1) (exact.0, refl, refl) refl
+  unknown_back d small exact = generic (octets d.«data») (generic_back (octets d.«data») small exact.1) (refl, (exact.0, refl)) refl
+
+  -- mere octets are the data of a type that has no other form
+  pub mere_back : (d : UnknownData O) → HasExactOctets {O = O} {N = N} (Unknown d)
+      → AreData octets labels d.rtype (wire_octets {N = N} octets labels (Unknown d)) (Unknown d)
+  unfolding octets_of
+  mere_back d exact = (refl, (exact, refl))

@@ -10,68 +10,47 @@ use Rattle.domain_base.specs.Scan.{ScanFault, entry_ends, illegal, no_room, no_m
 use Rattle.domain_base.proofs.RefusalLemmas.{over_none}
 use Rattle.domain_plain.specs.Generic.{GenericText, GenericFault}
 use Rattle.domain_fields.specs.Layout.{Values, octets_of}
-use Rattle.domain_plain.specs.Plain.{a, a_values, ns, ns_values, soa, soa_values, mx, mx_values}
-use Rattle.domain_fields.specs.Scan.{Scans}
 use Rattle.domain_plain.proofs.GenericLemmas.{refused_is_no_text}
 use Rattle.domain_fields.proofs.ScanLemmas.{refused_spells_none, scans_left, scans_once}
-use Rattle.domain_keys.specs.Data.{DnskeyData, DsData, dnskey_values, ds_values, dnskey_octets, ds_octets}
-use Rattle.domain_rrsig.specs.Data.{RrsigData, rrsig_values, rrsig_octets}
-use Rattle.domain_keys.specs.Scan.{DnskeyText, DsText}
-use Rattle.domain_rrsig.specs.Scan.{RrsigText}
+use Rattle.domain_keys.specs.Data.{dnskey_values, ds_values}
 use Rattle.domain_keys.proofs.RefusalLemmas.{dnskey_once, ds_once, refused_dnskey, refused_ds}
+use Rattle.domain_rrsig.specs.Data.{rrsig_values}
 use Rattle.domain_rrsig.proofs.RefusalLemmas.{rrsig_once, refused_rrsig}
-use Rattle.domain_chain_rdata.specs.NsecText.{NsecText}
-use Rattle.domain_chain_rdata.specs.Nsec3Text.{Nsec3Text}
-use Rattle.domain_chain_rdata.specs.Nsec3paramText.{Nsec3paramText}
-use Rattle.domain_chain_rdata.specs.Rdata.{nsec, nsec_values, nsec3, nsec3_values, nsec3param, nsec3param_values}
-use Rattle.domain_rdata.specs.Kind.{Kind, plain, key, digest, signature, next_by_name, next_by_hash, params, kind_of}
-use Rattle.domain_rdata.specs.Refusal.{RefusesKind, RefusesOwn, at_field, no_form, AreOfKind, OctetsFault, RefusesRdata, in_own, in_generic, in_octets}
-use Rattle.domain_rdata.specs.Scan.{RdataText, own, generic, OwnText, AreData, IsGeneric}
-use Rattle.domain_rdata.specs.Zone.{wire_octets}
-use Rattle.domain_rdata.specs.declared.zone_record_data.ZoneRecordData.{ZoneRecordData}
-use Rattle.domain_rdata.specs.declared.zone_record_data.ZoneRecordData.TheVariants.{A, Ns, Soa, Mx, Dnskey, Ds, Rrsig, Nsec, Nsec3, Nsec3param, Unknown}
 use Rattle.domain_chain_rdata.proofs.TextLemmas.{nsec_refused, nsec_name_once, nsec_types_once}
 use Rattle.domain_chain_rdata.proofs.Nsec3TextLemmas.{params_once, params_refused, nsec3_once, nsec3_refused}
+use Rattle.domain_rdata.specs.Kind.{Kind, plain, key, digest, signature, next_by_name, next_by_hash, params, layout_of, AreFields, FieldsText, dnskey_of, ds_of, rrsig_of}
+use Rattle.domain_rdata.specs.Refusal.{RefusesKind, RefusesOwn, at_field, no_form, AreOfKind, OctetsFault, RefusesRdata, in_own, in_generic, in_octets}
+use Rattle.domain_rdata.specs.Scan.{RdataText, own, generic, ContentText, OwnText, AreContent, AreData, IsGeneric}
+use Rattle.domain_rdata.specs.Zone.{kind_of, rtype_of, Content, fields, mere, content_of, content_octets, IsOfKind, of_kind, wire_octets}
+use Rattle.domain_rdata.specs.declared.zone_record_data.ZoneRecordData.{ZoneRecordData}
 
--- the tokens begin with data of a kind, which are these octets, and these are left
-abbrev pub Reads : Kind → List (List ℕ) → List ℕ → List (List ℕ) → Type 0
-Reads (plain l) old wire new = (v : Values l) × Scans l old v new × (wire ≡ octets_of l v)
-Reads key old wire new = (d : DnskeyData) × DnskeyText old d × (new ≡ []) × (wire ≡ dnskey_octets d)
-Reads digest old wire new = (d : DsData) × DsText old d × (new ≡ []) × (wire ≡ ds_octets d)
-Reads signature old wire new = (d : RrsigData) × RrsigText old d × (new ≡ []) × (wire ≡ rrsig_octets d)
-Reads next_by_name old wire new = (labels : List (List ℕ)) × (types : List ℕ) × NsecText old labels types new × (wire ≡ octets_of nsec (labels, types))
-Reads next_by_hash old wire new = (v : Values nsec3) × Nsec3Text old v new × (wire ≡ octets_of nsec3 v)
-Reads params old wire new = (v : Values nsec3param) × Nsec3paramText old v new × (wire ≡ octets_of nsec3param v)
-
--- data of a kind are read in one way at most
-kind_once : (k : Kind) (old m n : List (List ℕ)) (x y : List ℕ) → Reads k old x m → Reads k old y n → (m ≡ n) × (x ≡ y)
-kind_once (plain l) old m n x y p q = (scans_left l old m n p.0 q.0 p.1 q.1, p.2 ∙ ap (octets_of l) (scans_once l old m n p.0 q.0 p.1 q.1) ∙ sym q.2)
-kind_once key old m n x y p q = (p.2 ∙ sym q.2, p.3 ∙ ap dnskey_octets (dnskey_once old p.0 q.0 p.1 q.1) ∙ sym q.3)
-kind_once digest old m n x y p q = (p.2 ∙ sym q.2, p.3 ∙ ap ds_octets (ds_once old p.0 q.0 p.1 q.1) ∙ sym q.3)
-kind_once signature old m n x y p q = (p.2 ∙ sym q.2, p.3 ∙ ap rrsig_octets (rrsig_once old p.0 q.0 p.1 q.1) ∙ sym q.3)
-kind_once next_by_name old m n x y p q =
-    let names = nsec_name_once old m n p.0 q.0 p.1 q.1 p.2 q.2 in
-    let types = nsec_types_once old m n p.0 q.0 p.1 q.1 p.2 q.2 in
-    (p.2.all ∙ sym q.2.all, p.3 ∙ (λ i. octets_of nsec (names i, types i)) ∙ sym q.3)
-kind_once next_by_hash old m n x y p q = (
-  nsec3_once.left old m n p.0 q.0 p.1 q.1,
-  p.2 ∙ ap (octets_of nsec3) (nsec3_once.value old m n p.0 q.0 p.1 q.1) ∙ sym q.2,
-)
-kind_once params old m n x y p q = (
-  params_once.left old m n p.0 q.0 p.1 q.1,
-  p.2 ∙ ap (octets_of nsec3param) (params_once.value old m n p.0 q.0 p.1 q.1) ∙ sym q.2,
-)
+-- the values of a kind, and the tokens that are left, are told from the tokens
+kind_once : (k : Kind) (old m n : List (List ℕ)) (v w : Values (layout_of k)) → FieldsText k old v m → FieldsText k old w n → (m ≡ n) × (v ≡ w)
+kind_once (plain l) old m n v w p q = (scans_left l old m n v w p q, scans_once l old m n v w p q)
+kind_once key old m n v w p q = (p.1 ∙ sym q.1, ap dnskey_values (dnskey_once old (dnskey_of v) (dnskey_of w) p.0 q.0))
+kind_once digest old m n v w p q = (p.1 ∙ sym q.1, ap ds_values (ds_once old (ds_of v) (ds_of w) p.0 q.0))
+kind_once signature old m n v w p q = (p.1 ∙ sym q.1, ap rrsig_values (rrsig_once old (rrsig_of v) (rrsig_of w) p.0 q.0))
+kind_once next_by_name old m n v w p q =
+    let names = nsec_name_once old m n v.0 w.0 v.1 w.1 p q in
+    let types = nsec_types_once old m n v.0 w.0 v.1 w.1 p q in
+    (p.all ∙ sym q.all, λ i. (names i, types i))
+kind_once next_by_hash old m n v w p q = (nsec3_once.left old m n v w p q, nsec3_once.value old m n v w p q)
+kind_once params old m n v w p q = (params_once.left old m n v w p q, params_once.value old m n v w p q)
 
 -- what is refused, but for want of room or memory, are no data of the kind
-kind_refused : (k : Kind) (limit : Option ℕ) (old new after : List (List ℕ)) (wire : List ℕ) (fault : ScanFault)
-    → RefusesKind limit k old new fault → Reads k old wire after → IsOfTokens limit fault → ⊥
-kind_refused (plain l) limit old new after wire fault why is alone = refused_spells_none l limit old new after is.0 fault why is.1 alone
-kind_refused key limit old new after wire fault why is alone = refused_dnskey limit old new fault is.0 why alone is.1
-kind_refused digest limit old new after wire fault why is alone = refused_ds limit old new fault is.0 why alone is.1
-kind_refused signature limit old new after wire fault why is alone = refused_rrsig limit old new fault is.0 why alone is.1
-kind_refused next_by_name limit old new after wire fault why is alone = nsec_refused limit limit old new after fault is.0 is.1 why is.2 alone alone
-kind_refused next_by_hash limit old new after wire fault why is alone = nsec3_refused limit old new after is.0 fault why is.1 alone
-kind_refused params limit old new after wire fault why is alone = params_refused limit old new after is.0 fault why is.1 alone
+kind_refused : (k : Kind) (limit : Option ℕ) (old new after : List (List ℕ)) (v : Values (layout_of k)) (fault : ScanFault)
+    → RefusesKind limit k old new fault → FieldsText k old v after → IsOfTokens limit fault → ⊥
+kind_refused (plain l) limit old new after v fault why is alone = refused_spells_none l limit old new after v fault why is alone
+kind_refused key limit old new after v fault why is alone = refused_dnskey limit old new fault (dnskey_of v) why alone is.0
+kind_refused digest limit old new after v fault why is alone = refused_ds limit old new fault (ds_of v) why alone is.0
+kind_refused signature limit old new after v fault why is alone = refused_rrsig limit old new fault (rrsig_of v) why alone is.0
+kind_refused next_by_name limit old new after v fault why is alone = nsec_refused limit limit old new after fault v.0 v.1 why is alone alone
+kind_refused next_by_hash limit old new after v fault why is alone = nsec3_refused limit old new after v fault why is alone
+kind_refused params limit old new after v fault why is alone = params_refused limit old new after v fault why is alone
+
+-- the tokens begin with data of a kind, which are these octets, and these are left
+abbrev Reads : Kind → List (List ℕ) → List ℕ → List (List ℕ) → Type 0
+Reads k old wire new = (v : Values (layout_of k)) × FieldsText k old v new × (wire ≡ octets_of (layout_of k) v)
 
 -- how the text form of a type is read, to these octets
 pub record Way (rtype : ℕ) (old new : List (List ℕ)) (wire : List ℕ) : Type 0 where
@@ -79,19 +58,15 @@ pub record Way (rtype : ℕ) (old new : List (List ℕ)) (wire : List ℕ) : Typ
   pub is : kind_of rtype ≡ Some kind
   pub reads : Reads kind old wire new
 
+way_of : (rtype : ℕ) (old new : List (List ℕ)) (c : Content) → IsOfKind (kind_of rtype) c → ContentText old c new
+    → Way rtype old new (content_octets c)
+way_of rtype old new (fields k v) is h = record { kind = k; is = is; reads = (v, h, refl) }
+way_of rtype old new (mere o) is h = absurd h
+
 module _ {O N : Type 0} (octets : O → List ℕ) (labels : N → List (List ℕ)) (rtype : ℕ) (old new : List (List ℕ)) where
-  pub way : (d : ZoneRecordData O N) → OwnText labels rtype old d new → Way rtype old new (wire_octets octets labels d)
-  way (A d) h = record { kind = plain a; is = ap kind_of h.0; reads = (a_values d, h.1, refl) }
-  way (Ns d) h = record { kind = plain ns; is = ap kind_of h.0; reads = (ns_values labels d, h.1, refl) }
-  way (Soa d) h = record { kind = plain soa; is = ap kind_of h.0; reads = (soa_values labels d, h.1, refl) }
-  way (Mx d) h = record { kind = plain mx; is = ap kind_of h.0; reads = (mx_values labels d, h.1, refl) }
-  way (Dnskey d) h = record { kind = key; is = ap kind_of h.0; reads = (d, h.1, h.2, refl) }
-  way (Ds d) h = record { kind = digest; is = ap kind_of h.0; reads = (d, h.1, h.2, refl) }
-  way (Rrsig d) h = record { kind = signature; is = ap kind_of h.0; reads = (d, h.1, h.2, refl) }
-  way (Nsec d) h = record { kind = next_by_name; is = ap kind_of h.0; reads = (labels d.next_name, d.types, h.1, refl) }
-  way (Nsec3 d) h = record { kind = next_by_hash; is = ap kind_of h.0; reads = (nsec3_values d, h.1, refl) }
-  way (Nsec3param d) h = record { kind = params; is = ap kind_of h.0; reads = (nsec3param_values d, h.1, refl) }
-  way (Unknown d) h = absurd h
+  pub way : (d : ZoneRecordData O N) → OwnText octets labels rtype old d new → Way rtype old new (wire_octets octets labels d)
+  way d h = way_of rtype old new (content_of octets labels d)
+      (subst (λ t. IsOfKind (kind_of t) (content_of octets labels d)) (sym h.0) (of_kind octets labels d)) h.1
 
 -- a type is of one kind
 one_kind : (known : Option Kind) (k j : Kind) → known ≡ Some k → known ≡ Some j → k ≡ j
@@ -101,18 +76,20 @@ one_kind known k j p q = cc
 pub one_way : (rtype : ℕ) (old m n : List (List ℕ)) (x y : List ℕ) → Way rtype old m x → Way rtype old n y → (m ≡ n) × (x ≡ y)
 one_way rtype old m n x y p q =
     let same = one_kind (kind_of rtype) p.kind q.kind p.is q.is in
-    kind_once q.kind old m n x y (subst (λ k. Reads k old x m) same p.reads) q.reads
+    let first = subst (λ k. Reads k old x m) same p.reads in
+    let once = kind_once q.kind old m n first.0 q.reads.0 first.1 q.reads.1 in
+    (once.0, first.2 ∙ ap (octets_of (layout_of q.kind)) once.1 ∙ sym q.reads.2)
 
 -- what is refused as the text form of a type, but for want of room or memory, is not read
 own_refused : (limit : Option ℕ) (rtype : ℕ) (old new after : List (List ℕ)) (wire : List ℕ) (fault : ScanFault)
     → RefusesOwn limit rtype old new fault → IsOfTokens limit fault → Way rtype old after wire → ⊥
 own_refused limit rtype old new after wire fault (at_field kind is why) alone way =
-    let same = one_kind (kind_of rtype) way.kind kind way.is is in
-    kind_refused kind limit old new after wire fault why (subst (λ j. Reads j old wire after) same way.reads) alone
+    let same = one_kind (kind_of rtype) kind way.kind is way.is in
+    kind_refused way.kind limit old new after way.reads.0 fault (subst (λ k. RefusesKind limit k old new fault) same why) way.reads.1 alone
 own_refused limit rtype old new after wire fault (no_form none said all) alone way = let e = sym way.is ∙ none in cc
 
 -- octets are data of a type of this kind, or of none, of which any octets are data
-abbrev AreOf : Option Kind → List ℕ → Type 0
+abbrev pub AreOf : Option Kind → List ℕ → Type 0
 AreOf None wire = Unit {0}
 AreOf (Some kind) wire = AreOfKind kind wire
 
@@ -124,6 +101,36 @@ octets_refused limit (Some kind) wire entry_ends why alone are = why
 octets_refused limit (Some kind) wire (illegal said) why alone are = why.1 are
 octets_refused limit (Some kind) wire no_room why alone are = over_none limit (length why.0) why.2 alone
 octets_refused limit (Some kind) wire no_memory why alone are = alone
+
+-- octets that are values of a kind are their octets
+fields_are : (k : Kind) (wire : List ℕ) (v : Values (layout_of k)) → AreFields k wire v → octets_of (layout_of k) v ≡ wire
+fields_are (plain l) wire v h = sym (h.parts ∙ append-nil _)
+fields_are key wire v h = sym (h.parts ∙ append-nil _)
+fields_are digest wire v h = sym (h.parts ∙ append-nil _)
+fields_are signature wire v h = sym (h.parts ∙ append-nil _)
+fields_are next_by_name wire v h = sym (h.begins.parts ∙ append-nil _)
+fields_are next_by_hash wire v h = sym (h.begins.parts ∙ append-nil _)
+fields_are params wire v h = sym (h.parts ∙ append-nil _)
+
+content_is : (rtype : ℕ) (wire : List ℕ) (c : Content) → AreContent rtype wire c → content_octets c ≡ wire
+unfolding octets_of
+content_is rtype wire (fields k v) h = fields_are k wire v h
+content_is rtype wire (mere o) h = h.1
+
+content_of_kind : (rtype : ℕ) (wire : List ℕ) (c : Content) → IsOfKind (kind_of rtype) c → AreContent rtype wire c → AreOf (kind_of rtype) wire
+content_of_kind rtype wire (fields k v) is h = subst (λ k. AreOf k wire) (sym is) (v, h)
+content_of_kind rtype wire (mere o) is h = subst (λ k. AreOf k wire) (sym h.0) tt
+
+module _ {O N : Type 0} (octets : O → List ℕ) (labels : N → List (List ℕ)) (rtype : ℕ) (wire : List ℕ) (d : ZoneRecordData O N)
+    (are : AreData octets labels rtype wire d) where
+  -- the octets that data are of are those that they are written as
+  pub are_wire : wire_octets octets labels d ≡ wire
+  are_wire = content_is rtype wire (content_of octets labels d) are.1
+
+  -- they are of the kind of the type
+  pub are_of : AreOf (kind_of rtype) wire
+  are_of = content_of_kind rtype wire (content_of octets labels d)
+      (subst (λ t. IsOfKind (kind_of t) (content_of octets labels d)) (sym are.0) (of_kind octets labels d)) are.1
 
 -- generic text
 generic_begins : (tokens : List (List ℕ)) (wire : List ℕ) → GenericText tokens wire → IsGeneric tokens
@@ -137,7 +144,7 @@ generic_once tokens x y p q =
     cc
 
 module _ {O N : Type 0} (octets : O → List ℕ) (labels : N → List (List ℕ)) (rtype : ℕ) (old : List (List ℕ)) where
-  own_excludes : (IsGeneric old → ⊥) → ((d : ZoneRecordData O N) (after : List (List ℕ)) → OwnText labels rtype old d after → ⊥)
+  own_excludes : (IsGeneric old → ⊥) → ((d : ZoneRecordData O N) (after : List (List ℕ)) → OwnText octets labels rtype old d after → ⊥)
       → (d : ZoneRecordData O N) (after : List (List ℕ)) → RdataText octets labels rtype old d after → ⊥
   own_excludes unmarked none d after (own other text) = none d after text
   own_excludes unmarked none d after (generic wire text are all) = unmarked (generic_begins old wire text)
@@ -153,19 +160,6 @@ module _ {O N : Type 0} (octets : O → List ℕ) (labels : N → List (List ℕ
   octets_exclude wire is none d after (generic wire' text are all) =
       none d (subst (λ w. AreData octets labels rtype w d) (generic_once old wire' wire text is) are)
 
-  are_of_type : (wire : List ℕ) (d : ZoneRecordData O N) → AreData octets labels rtype wire d → AreOf (kind_of rtype) wire
-  are_of_type wire (A d) h = subst (λ k. AreOf k wire) (sym (ap kind_of h.0)) (a_values d, h.1)
-  are_of_type wire (Ns d) h = subst (λ k. AreOf k wire) (sym (ap kind_of h.0)) (ns_values labels d, h.1)
-  are_of_type wire (Soa d) h = subst (λ k. AreOf k wire) (sym (ap kind_of h.0)) (soa_values labels d, h.1)
-  are_of_type wire (Mx d) h = subst (λ k. AreOf k wire) (sym (ap kind_of h.0)) (mx_values labels d, h.1)
-  are_of_type wire (Dnskey d) h = subst (λ k. AreOf k wire) (sym (ap kind_of h.0)) (dnskey_values d, h.1)
-  are_of_type wire (Ds d) h = subst (λ k. AreOf k wire) (sym (ap kind_of h.0)) (ds_values d, h.1)
-  are_of_type wire (Rrsig d) h = subst (λ k. AreOf k wire) (sym (ap kind_of h.0)) (rrsig_values d, h.1)
-  are_of_type wire (Nsec d) h = subst (λ k. AreOf k wire) (sym (ap kind_of h.0)) (nsec_values labels d, h.1)
-  are_of_type wire (Nsec3 d) h = subst (λ k. AreOf k wire) (sym (ap kind_of h.0)) (nsec3_values d, h.1)
-  are_of_type wire (Nsec3param d) h = subst (λ k. AreOf k wire) (sym (ap kind_of h.0)) (nsec3param_values d, h.1)
-  are_of_type wire (Unknown d) h = subst (λ k. AreOf k wire) (sym h.0) tt
-
   -- what is refused, but for want of room or memory, spells no data of the type
   pub none_spelled : (limit : Option ℕ) (new : List (List ℕ)) (fault : ScanFault) → RefusesRdata limit rtype old new fault → IsOfTokens limit fault
       → (d : ZoneRecordData O N) (after : List (List ℕ)) → RdataText octets labels rtype old d after → ⊥
@@ -173,7 +167,7 @@ module _ {O N : Type 0} (octets : O → List ℕ) (labels : N → List (List ℕ
       own_excludes unmarked (λ d after text. own_refused limit rtype old new after _ fault why known (way octets labels rtype old after d text)) d after spelled
   none_spelled limit new fault (in_generic marked why) known d after spelled = mark_excludes limit new fault marked why known d after spelled
   none_spelled limit new fault (in_octets wire text all why) known d after spelled =
-      octets_exclude wire text (λ d are. octets_refused limit (kind_of rtype) wire fault why known (are_of_type wire d are)) d after spelled
+      octets_exclude wire text (λ d are. octets_refused limit (kind_of rtype) wire fault why known (are_of octets labels rtype wire d are)) d after spelled
 
   pub refused_none : (limit : Option ℕ) (new : List (List ℕ)) (result : Result (ZoneRecordData O N) ScanError)
       → IfErr result (λ e. RefusesRdata limit rtype old new (scan_fault_of e))
@@ -203,24 +197,9 @@ module _ {O N : Type 0} (octets : O → List ℕ) (labels : N → List (List ℕ
   generic_ok new t wire (Ok d) are same text all = generic wire text (subst (λ n. AreData octets labels n wire d) same are) all
   generic_ok new t wire (Err e) are same text all = tt
 
-  -- the octets of the generic form are those of the data
-  are_wire : (wire : List ℕ) (d : ZoneRecordData O N) → AreData octets labels rtype wire d → wire_octets octets labels d ≡ wire
-  unfolding octets_of
-  are_wire wire (A d) h = sym (h.1.parts ∙ append-nil _)
-  are_wire wire (Ns d) h = sym (h.1.parts ∙ append-nil _)
-  are_wire wire (Soa d) h = sym (h.1.parts ∙ append-nil _)
-  are_wire wire (Mx d) h = sym (h.1.parts ∙ append-nil _)
-  are_wire wire (Dnskey d) h = sym (h.1.parts ∙ append-nil _)
-  are_wire wire (Ds d) h = sym (h.1.parts ∙ append-nil _)
-  are_wire wire (Rrsig d) h = sym (h.1.parts ∙ append-nil _)
-  are_wire wire (Nsec d) h = sym (h.1.begins.parts ∙ append-nil _)
-  are_wire wire (Nsec3 d) h = sym (h.1.begins.parts ∙ append-nil _)
-  are_wire wire (Nsec3param d) h = sym (h.1.parts ∙ append-nil _)
-  are_wire wire (Unknown d) h = h.2
-
   pub text_once : (m n : List (List ℕ)) (d e : ZoneRecordData O N) → RdataText octets labels rtype old d m → RdataText octets labels rtype old e n
       → (m ≡ n) × (wire_octets octets labels d ≡ wire_octets octets labels e)
   text_once m n d e (own p x) (own q y) = one_way rtype old m n _ _ (way octets labels rtype old m d x) (way octets labels rtype old n e y)
   text_once m n d e (own p x) (generic wire text are all) = absurd (p (generic_begins old wire text))
   text_once m n d e (generic wire text are all) (own q y) = absurd (q (generic_begins old wire text))
-  text_once m n d e (generic w x are all) (generic w' x' are' all') = (all ∙ sym all', are_wire w d are ∙ generic_once old w w' x x' ∙ sym (are_wire w' e are'))
+  text_once m n d e (generic w x are all) (generic w' x' are' all') = (all ∙ sym all', are_wire octets labels rtype w d are ∙ generic_once old w w' x x' ∙ sym (are_wire octets labels rtype w' e are'))

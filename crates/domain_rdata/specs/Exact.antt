@@ -1,8 +1,8 @@
--- data whose text tells all of them
+-- data whose text, or whose octets, tell all of them
 use Rattle.std.specs.Prelude.{◌≡◌, ◌≢◌, ◌≤◌, None, [], length}
 use Rattle.domain_octets.specs.Words.{Octets}
 use Rattle.domain_bitmap.specs.Blocks.{IsShortest}
-use Rattle.domain_rdata.specs.Kind.{kind_of}
+use Rattle.domain_rdata.specs.Zone.{kind_of}
 use Rattle.domain_rdata.specs.declared.zone_record_data.ZoneRecordData.{ZoneRecordData}
 use Rattle.domain_rdata.specs.declared.zone_record_data.ZoneRecordData.TheVariants.{Nsec, Nsec3, Unknown}
 
@@ -14,3 +14,8 @@ HasExactText octets (Nsec3 d) = (d.next_owner ≢ []) × IsShortest d.types
 HasExactText octets (Unknown d) =
     (kind_of d.rtype ≡ None) × (length (octets d.«data») ≤ 65535)
 HasExactText octets _ = Unit {0}
+
+-- octets are of a type that has no other form
+abbrev pub HasExactOctets : {O N : Type 0} → ZoneRecordData O N → Type 0
+HasExactOctets (Unknown d) = kind_of d.rtype ≡ None
+HasExactOctets _ = Unit {0}

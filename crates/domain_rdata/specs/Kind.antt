@@ -1,12 +1,21 @@
--- the types that have data of their own, and of what kind these are
-use Rattle.std.specs.Prelude.{ℕ, ◌==◌, Option, Some, None, if◌then◌else◌}
-use Rattle.domain_base.specs.Types as rtypes
-use Rattle.domain_fields.specs.Layout.{Layout}
-use Rattle.domain_plain.specs.Plain.{a, ns, soa, mx}
-use Rattle.domain_rdata.specs.declared.kind.OwnType.{OwnType}
-use Rattle.domain_rdata.specs.declared.kind.OwnType.TheVariants.{A, Ns, Soa, Mx, Dnskey, Ds, Rrsig, Nsec, Nsec3, Nsec3param}
+-- kinds of data: of what fields they are made up, and how these stand in octets and as tokens
+use Rattle.std.specs.Prelude.{◌≡◌, []}
+use Rattle.domain_octets.specs.Words.{Octets}
+use Rattle.domain_base.specs.Scan.{Grammar}
+use Rattle.domain_fields.specs.Layout.{Layout, Values, Begins}
+use Rattle.domain_fields.specs.Scan.{Scans}
+use Rattle.domain_keys.specs.Data.{DnskeyData, dnskey, dnskey_data, DsData, ds, ds_data}
+use Rattle.domain_keys.specs.Scan.{DnskeyText, DsText}
+use Rattle.domain_rrsig.specs.Data.{RrsigData, rrsig, rrsig_data, of_numbers}
+use Rattle.domain_rrsig.specs.Scan.{RrsigText}
+use Rattle.domain_chain_rdata.specs.NsecText.{NsecText}
+use Rattle.domain_chain_rdata.specs.NsecWire.{BeginsNsec}
+use Rattle.domain_chain_rdata.specs.Nsec3Text.{Nsec3Text}
+use Rattle.domain_chain_rdata.specs.Nsec3Wire.{BeginsNsec3}
+use Rattle.domain_chain_rdata.specs.Nsec3paramText.{Nsec3paramText}
+use Rattle.domain_chain_rdata.specs.Rdata.{nsec, nsec3, nsec3param}
 
--- how the data of a type are made up: of fields of one token each, or in a way of their own
+-- of fields of one token each, or in a way of their own
 pub data Kind : Type 0 where
   plain : Layout → Kind
   key : Kind
@@ -16,30 +25,45 @@ pub data Kind : Type 0 where
   next_by_hash : Kind
   params : Kind
 
--- the types that have data of their own, with a text form; those of all others are mere octets
-abbrev pub kind_of : ℕ → Option Kind
-kind_of rtype =
-    if rtype == rtypes.a then Some (plain a)
-    else (if rtype == rtypes.ns then Some (plain ns)
-    else (if rtype == rtypes.soa then Some (plain soa)
-    else (if rtype == rtypes.mx then Some (plain mx)
-    else (if rtype == rtypes.dnskey then Some key
-    else (if rtype == rtypes.ds then Some digest
-    else (if rtype == rtypes.rrsig then Some signature
-    else (if rtype == rtypes.nsec then Some next_by_name
-    else (if rtype == rtypes.nsec3 then Some next_by_hash
-    else (if rtype == rtypes.nsec3param then Some params
-    else None)))))))))
+-- the fields, in the order of the wire
+abbrev pub layout_of : Kind → Layout
+layout_of (plain l) = l
+layout_of key = dnskey
+layout_of digest = ds
+layout_of signature = rrsig
+layout_of next_by_name = nsec
+layout_of next_by_hash = nsec3
+layout_of params = nsec3param
 
--- the numbers of these types, as code names them
-abbrev pub number_of : OwnType → ℕ
-number_of A = rtypes.a
-number_of Ns = rtypes.ns
-number_of Soa = rtypes.soa
-number_of Mx = rtypes.mx
-number_of Dnskey = rtypes.dnskey
-number_of Ds = rtypes.ds
-number_of Rrsig = rtypes.rrsig
-number_of Nsec = rtypes.nsec
-number_of Nsec3 = rtypes.nsec3
-number_of Nsec3param = rtypes.nsec3param
+-- all the octets are these values on the wire
+abbrev pub AreFields : (k : Kind) → Octets → Values (layout_of k) → Type 0
+AreFields (plain l) wire v = Begins l wire v []
+AreFields key wire v = Begins dnskey wire v []
+AreFields digest wire v = Begins ds wire v []
+AreFields signature wire v = Begins rrsig wire v []
+AreFields next_by_name wire v = BeginsNsec wire v []
+AreFields next_by_hash wire v = BeginsNsec3 wire v []
+AreFields params wire v = Begins nsec3param wire v []
+
+-- data with these values
+abbrev pub dnskey_of : Values dnskey → DnskeyData
+dnskey_of v = dnskey_data v.0 v.1.0 v.1.1.0 v.1.1.1.1
+
+abbrev pub ds_of : Values ds → DsData
+ds_of v = ds_data v.0 v.1.0 v.1.1.0 v.1.1.1.1
+
+abbrev pub rrsig_of : Values rrsig → RrsigData
+rrsig_of v =
+    rrsig_data
+    (of_numbers (v.1.0.0, (v.1.0.1.0, v.1.0.1.1.0)) v.1.0.1.1.1)
+    v.1.1
+
+-- the tokens begin with these values in the text form of the kind, and the last are left
+abbrev pub FieldsText : (k : Kind) → Grammar (Values (layout_of k))
+FieldsText (plain l) old v new = Scans l old v new
+FieldsText key old v new = DnskeyText old (dnskey_of v) × (new ≡ [])
+FieldsText digest old v new = DsText old (ds_of v) × (new ≡ [])
+FieldsText signature old v new = RrsigText old (rrsig_of v) × (new ≡ [])
+FieldsText next_by_name old v new = NsecText old v.0 v.1 new
+FieldsText next_by_hash old v new = Nsec3Text old v new
+FieldsText params old v new = Nsec3paramText old v new

@@ -1,6 +1,5 @@
 pub mod Zone
 pub mod Scan
-pub mod DataText
 pub mod Kind
 pub mod Refusal
 pub mod ZoneClone

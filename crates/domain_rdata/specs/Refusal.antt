@@ -19,8 +19,9 @@ use Rattle.domain_chain_rdata.specs.Nsec3Text.{RefusesNsec3}
 use Rattle.domain_chain_rdata.specs.Nsec3Wire.{BeginsNsec3}
 use Rattle.domain_chain_rdata.specs.Nsec3paramText.{RefusesNsec3param}
 use Rattle.domain_chain_rdata.specs.Rdata.{nsec, nsec3, nsec3param}
-use Rattle.domain_rdata.specs.Kind.{Kind, plain, key, digest, signature, next_by_name, next_by_hash, params, kind_of}
+use Rattle.domain_rdata.specs.Kind.{Kind, plain, key, digest, signature, next_by_name, next_by_hash, params, layout_of, AreFields}
 use Rattle.domain_rdata.specs.Scan.{IsGeneric}
+use Rattle.domain_rdata.specs.Zone.{kind_of}
 use Rattle.domain_base.specs.Words.{Tokens}
 
 -- the first field of that form that is refused, where octets have this limit, and the tokens that
@@ -45,13 +46,7 @@ pub data RefusesOwn (limit : Option ℕ) (rtype : ℕ) (old new : Tokens)
 
 -- all the octets are data of a kind on the wire
 abbrev pub AreOfKind : Kind → Octets → Type 0
-AreOfKind (plain l) wire = (v : Values l) × Begins l wire v []
-AreOfKind key wire = (v : Values dnskey) × Begins dnskey wire v []
-AreOfKind digest wire = (v : Values ds) × Begins ds wire v []
-AreOfKind signature wire = (v : Values rrsig) × Begins rrsig wire v []
-AreOfKind next_by_name wire = (v : Values nsec) × BeginsNsec wire v []
-AreOfKind next_by_hash wire = (v : Values nsec3) × BeginsNsec3 wire v []
-AreOfKind params wire = (v : Values nsec3param) × Begins nsec3param wire v []
+AreOfKind kind wire = (v : Values (layout_of kind)) × AreFields kind wire v
 
 -- the parts of those data that are held as octets of their own
 pub data IsPart (wire : Octets) : Kind → Octets → Type 0 where

@@ -1,24 +1,28 @@
 //! What holds of the tokens that spell data. A caller calls the law in its body.
 ghost use Rattle.std.specs.Prelude.{◌≡◌, [], IfSome, ℕ};
 ghost use Rattle.domain_octets.specs.Line.{words_of};
-ghost use Rattle.domain_rdata.specs.DataText.{data_text};
-ghost use Rattle.domain_rdata.specs.Exact.{HasExactText};
+ghost use Rattle.domain_rdata.specs.Exact.{HasExactOctets, HasExactText};
 ghost use Rattle.domain_rdata.specs.declared.zone_record_data.ZoneRecordData.{ZoneRecordData};
-ghost use Rattle.domain_rdata.specs.Scan.{RdataText};
-ghost use Rattle.domain_rdata.specs.Zone.{wire_octets, rtype_of};
+ghost use Rattle.domain_rdata.specs.Scan.{AreData, RdataText};
+ghost use Rattle.domain_rdata.specs.Zone.{data_text, wire_octets, rtype_of};
 ghost use Rattle.domain_base.specs.Words.{Tokens};
 
 use crate::ZoneRecordData;
 use domain_base::ToName;
-use domain_chain_rdata::nsec_laws::nsec_reads_back;
+use domain_chain_rdata::nsec_laws::{nsec_parses_back, nsec_reads_back};
 use domain_chain_rdata::nsec3_laws::{
     nsec3_parses_back, nsec3_reads_back, nsec3param_parses_back, nsec3param_reads_back,
 };
-use domain_keys::data_laws::{dnskey_reads_back, ds_reads_back};
+use domain_keys::data_laws::{
+    dnskey_parses_back, dnskey_reads_back, ds_parses_back, ds_reads_back,
+};
 use domain_octets::Octets;
 use domain_octets::laws::slices_hold_octets;
-use domain_plain::laws::{a_reads_back, mx_reads_back, ns_reads_back, soa_reads_back};
-use domain_rrsig::laws::rrsig_reads_back;
+use domain_plain::laws::{
+    a_parses_back, a_reads_back, mx_parses_back, mx_reads_back, ns_parses_back, ns_reads_back,
+    soa_parses_back, soa_reads_back,
+};
+use domain_rrsig::laws::{rrsig_parses_back, rrsig_reads_back};
 
 /// Tokens begin with data of a type in one way at most: the octets of the data and the tokens that
 /// are left are determined (RFC 1035, section 5.1).
@@ -55,5 +59,25 @@ pub fn data_is_read_back<O: Octets, N: ToName>(value: &ZoneRecordData<O, N>)
             nsec3param_reads_back(data);
         }
         ZoneRecordData::Unknown(data) => slices_hold_octets(data.data().as_slice()),
+    }
+}
+
+/// The octets that data are written as are these data, and nothing more.
+pub fn octets_are_read_back<O: Octets, N: ToName>(value: &ZoneRecordData<O, N>)
+    ensures { HasExactOctets value.now → AreData O.octets N.labels (rtype_of value.now)
+        (wire_octets O.octets N.labels value.now) value.now }
+{
+    match value {
+        ZoneRecordData::A(data) => a_parses_back(data),
+        ZoneRecordData::Ns(data) => ns_parses_back(data),
+        ZoneRecordData::Soa(data) => soa_parses_back(data),
+        ZoneRecordData::Mx(data) => mx_parses_back(data),
+        ZoneRecordData::Dnskey(data) => dnskey_parses_back(data),
+        ZoneRecordData::Ds(data) => ds_parses_back(data),
+        ZoneRecordData::Rrsig(data) => rrsig_parses_back(data),
+        ZoneRecordData::Nsec(data) => nsec_parses_back(data),
+        ZoneRecordData::Nsec3(data) => nsec3_parses_back(data),
+        ZoneRecordData::Nsec3param(data) => nsec3param_parses_back(data),
+        ZoneRecordData::Unknown(_) => {}
     }
 }

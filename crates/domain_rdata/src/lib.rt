@@ -11,9 +11,7 @@
 //! no memory.
 #![tactic(auto)]
 
-mod kind;
 pub mod laws;
-mod zone_clone;
 mod zone_octets;
 mod zone_record_data;
 mod zone_text;

@@ -8,12 +8,13 @@ ghost use Rattle.domain_rrsig.specs.Data.{rrsig, rrsig_values};
 ghost use Rattle.domain_chain_rdata.specs.NsecWire.{BeginsNsec};
 ghost use Rattle.domain_chain_rdata.specs.Nsec3Wire.{BeginsNsec3};
 ghost use Rattle.domain_chain_rdata.specs.Rdata.{nsec_values, nsec3_values, nsec3param, nsec3param_values};
-ghost use Rattle.domain_rdata.specs.Kind.{kind_of, plain, key, digest, signature, next_by_name, next_by_hash, params};
+ghost use Rattle.domain_rdata.specs.Kind.{plain, key, digest, signature, next_by_name, next_by_hash, params};
 ghost use Rattle.domain_rdata.specs.Refusal.{CopyFault, IsNotWhole, OctetsFault};
 ghost use Rattle.domain_rdata.specs.Scan.{AreData};
+ghost use Rattle.domain_rdata.specs.Zone.{kind_of};
 
 use crate::ZoneRecordData;
-use crate::kind::{OwnType, own_type};
+use crate::zone_record_data::{OwnType, own_type};
 use domain_base::{MakeName, ParsedName, Rtype, ScanError, ToName};
 use domain_chain_rdata::{Nsec, Nsec3, Nsec3param};
 use domain_keys::{Dnskey, Ds};

@@ -1,21 +1,17 @@
 //! Data of all types from tokens.
 ghost use Rattle.std.specs.Prelude.{◌↔◌, IsTrue, IfOk, IfErr};
 ghost use Rattle.domain_base.specs.Scan.{IsOfTokens, scan_fault_of};
-ghost use Rattle.domain_rdata.specs.DataText.{data_text};
+ghost use Rattle.domain_rdata.specs.Zone.{data_text};
 ghost use Rattle.domain_rdata.specs.Refusal.{RefusesOwn, RefusesRdata};
 ghost use Rattle.domain_rdata.specs.Scan.{RdataText, OwnText, IsGeneric};
 ghost use Rattle.domain_rdata.specs.declared.zone_record_data.ZoneRecordData.{ZoneRecordData};
 ghost use Rattle.domain_base.specs.Words.{Tokens};
 
 use crate::ZoneRecordData;
-use crate::kind::{OwnType, own_type};
-use crate::zone_record_data::with_data;
+use crate::zone_record_data::{OwnType, made_of_type, own_type, with_data};
 use domain_base::{MakeName, Rtype, ScanError, Scanner, ToName};
-use domain_chain_rdata::{Nsec, Nsec3, Nsec3param};
-use domain_keys::{Dnskey, Ds};
 use domain_octets::{EmptyBuilder, FreezeBuilder, FromBuilder, Octets, Truncate};
-use domain_plain::{A, Mx, Ns, Soa, UnknownRecordData};
-use domain_rrsig::Rrsig;
+use domain_plain::UnknownRecordData;
 use std::alloc::Global;
 use std::fmt;
 
@@ -48,26 +44,16 @@ where
         O: Drop,
         N: Drop,
         ensures ok { IfOk result (λ d.
-            OwnText N.labels rtype (S.tokens scanner.old) d (S.tokens scanner.new)) }
+            OwnText O.octets N.labels rtype (S.tokens scanner.old) d (S.tokens scanner.new)) }
         ensures err { IfErr result (λ e.
             RefusesOwn O.Builder.limit rtype (S.tokens scanner.old) (S.tokens scanner.new)
             (scan_fault_of e)) }
     {
-        Ok(match own_type(rtype) {
-            Some(OwnType::A) => ZoneRecordData::A(A::scan(alloc, scanner)?),
-            Some(OwnType::Ns) => ZoneRecordData::Ns(Ns::scan(alloc, scanner)?),
-            Some(OwnType::Soa) => ZoneRecordData::Soa(Soa::scan(alloc, scanner)?),
-            Some(OwnType::Mx) => ZoneRecordData::Mx(Mx::scan(alloc, scanner)?),
-            Some(OwnType::Dnskey) => ZoneRecordData::Dnskey(Dnskey::scan(alloc, scanner)?),
-            Some(OwnType::Ds) => ZoneRecordData::Ds(Ds::scan(alloc, scanner)?),
-            Some(OwnType::Rrsig) => ZoneRecordData::Rrsig(Rrsig::scan(alloc, scanner)?),
-            Some(OwnType::Nsec) => ZoneRecordData::Nsec(Nsec::scan(alloc, scanner)?),
-            Some(OwnType::Nsec3) => ZoneRecordData::Nsec3(Nsec3::scan(alloc, scanner)?),
-            Some(OwnType::Nsec3param) => ZoneRecordData::Nsec3param(Nsec3param::scan(
-                alloc, scanner,
-            )?),
-            None => return Err(ScanError::Custom("unknown record data")),
-        })
+        Ok(made_of_type!(
+            rtype,
+            scan(alloc, scanner),
+            return Err(ScanError::Custom("unknown record data"))
+        ))
     }
 
     /// The data of a type that the tokens begin with: in the text form of that type, or, where the

@@ -6,7 +6,7 @@ use Rattle.std.specs.Io.BufRead.{take_through, drop_through, DropsThrough}
 use Rattle.std.specs.Io.KnownBytes.{IsAtEnd}
 use Rattle.domain_lent.specs.Data.{RawRecord}
 use Rattle.denial_program.specs.Fault.{IsReadingFault}
-use Rattle.denial_program.specs.Listing.{Give, IsBad, IsFirstBad, IsRecord}
+use Rattle.denial_program.specs.Listing.{Give, IsBad, IsFirstBad, IsLineRecord}
 use Rattle.denial_program.specs.Words.{words, IsSkipped}
 use Rattle.denial_program.specs.declared.fault.DenialFault.{DenialFault}
 use Rattle.denial_program.specs.declared.fault.DenialFault.TheVariants.{Usage, Read, Line, Unprepared, MixedClasses, Signing, Param, Write, OutOfMemory}
@@ -18,12 +18,12 @@ use Rattle.lint_program.proofs.LineLemmas.{line_once}
 -- ---- one line
 
 -- a line that gives these records gives the last of them
-pub given_record : (out : List ℕ) (given before : List RawRecord) (r : RawRecord) → Give (out ∷ []) given → given ≡ before ++ r ∷ [] → IsRecord out r
+pub given_record : (out : List ℕ) (given before : List RawRecord) (r : RawRecord) → Give (out ∷ []) given → given ≡ before ++ r ∷ [] → IsLineRecord out r
 given_record out given [] r (inl h) e = absurd (let w = sym h.1 ∙ e in cc)
 given_record out given (b ∷ before) r (inl h) e = absurd (let w = sym h.1 ∙ e in cc)
 given_record out given [] r (inr h) e =
     let same : h.0 ≡ r = (let w = sym h.2 ∙ e in cc) in
-    subst (IsRecord out) same h.3
+    subst (IsLineRecord out) same h.3
 given_record out given (b ∷ []) r (inr h) e =
     absurd (let w : h.0 ∷ [] ≡ b ∷ r ∷ [] = ap (λ os. h.0 ∷ os) (sym h.4) ∙ sym h.2 ∙ e in let n = ap length w in omega arith)
 given_record out given (b ∷ x ∷ before) r (inr h) e =
@@ -128,7 +128,7 @@ follows_nothing (Some all) now view bad numbers records number h said =
 
 pub follows_record : (known now : Option (List ℕ)) (view bad numbers placed : List ℕ) (old new : List RawRecord) (r : RawRecord) (number : ℕ)
     → FollowsAt known now view bad numbers old number → placed ≡ numbers ++ number ∷ [] → new ≡ old ++ r ∷ []
-    → ((out : List ℕ) → lines view ≡ out ∷ [] → IsRecord out r) → Follows known now bad placed new (number + 1)
+    → ((out : List ℕ) → lines view ≡ out ∷ [] → IsLineRecord out r) → Follows known now bad placed new (number + 1)
 follows_record None now view bad numbers placed old new r number h p e said = tt
 follows_record (Some all) now view bad numbers placed old new r number h p e said = (
   h.0,

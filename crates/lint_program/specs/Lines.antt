@@ -2,7 +2,7 @@
 use Rattle.std.specs.Prelude.{◌≡◌, ◌⊎◌, ℕ, ◌+◌, List, [], ◌∷◌}
 use Rattle.domain_octets.specs.Words.{Octets}
 use Rattle.domain_lent.specs.Data.{RawRecord}
-use Rattle.denial_program.specs.Listing.{IsBad, IsRecord}
+use Rattle.denial_program.specs.Listing.{IsBad, IsLineRecord}
 use Rattle.denial_program.specs.Words.{words, IsSkipped}
 use Rattle.lint_program.specs.declared.reading.Line.{Line}
 use Rattle.lint_program.specs.declared.reading.Line.TheVariants.{Nothing, Record, Bad}
@@ -14,7 +14,7 @@ abbrev pub AreLinted : ℕ → List Octets → List ℕ → List ℕ → List Ra
 AreLinted n [] bad numbers records = (bad ≡ []) × (numbers ≡ []) × (records ≡ [])
 AreLinted n (line ∷ more) bad numbers records =
     (IsSkipped (words line) × AreLinted (n + 1) more bad numbers records)
-    ⊎ (((r : RawRecord) × (others : List RawRecord) × (records ≡ r ∷ others) × IsRecord line r
+    ⊎ (((r : RawRecord) × (others : List RawRecord) × (records ≡ r ∷ others) × IsLineRecord line r
     × (left : List ℕ) × (numbers ≡ n ∷ left) × AreLinted (n + 1) more bad left others)
     ⊎ ((others : List ℕ) × (bad ≡ n ∷ others) × IsBad line
     × AreLinted (n + 1) more others numbers records))
@@ -22,5 +22,5 @@ AreLinted n (line ∷ more) bad numbers records =
 -- what was read of a line is what it is
 abbrev pub Reads : Octets → Line → Type 0
 Reads line Nothing = IsSkipped (words line)
-Reads line (Record r) = IsRecord line r
+Reads line (Record r) = IsLineRecord line r
 Reads line Bad = IsBad line

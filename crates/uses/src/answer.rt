@@ -3,7 +3,7 @@ ghost use Rattle.std.specs.Prelude.{◌≡◌, true, IfOk};
 ghost use Rattle.domain_dnssec.specs.ZoneRecords.{IsAnswerOf};
 
 use crate::chain::chain;
-use crate::zone::{Data, ZoneName, ZoneRecord, records};
+use crate::zone::{Data, OwnedRecord, ZoneName, records};
 use domain_dnssec::laws::answers_tell_of_records;
 use domain_dnssec::{Answer, Error, GenerateNsecConfig, Rtype, judge_nsec};
 use std::alloc::Global;
@@ -14,7 +14,7 @@ use std::fmt::Write;
 fn answer(
     alloc: Global,
     apex: &ZoneName,
-    records: Vec<ZoneRecord>,
+    records: Vec<OwnedRecord>,
     config: &GenerateNsecConfig,
     name: &ZoneName,
     rtype: Rtype,

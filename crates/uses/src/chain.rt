@@ -3,7 +3,7 @@ ghost use Rattle.std.specs.Prelude.{IfOk};
 ghost use Rattle.domain_dnssec.specs.ZoneRecords.{IsChainOf};
 ghost use Rattle.domain_dnssec.specs.ChainView.{links_of};
 
-use crate::zone::{ZoneName, ZoneRecord, records};
+use crate::zone::{OwnedRecord, ZoneName, records};
 use domain_dnssec::{Error, GenerateNsecConfig, Nsec, Record, generate_nsecs_of_records};
 use std::alloc::Global;
 use std::fmt::Write;
@@ -15,7 +15,7 @@ type NsecRecord = Record<ZoneName, Nsec<Vec<u8>, ZoneName>>;
 pub fn chain(
     alloc: Global,
     apex: &ZoneName,
-    records: Vec<ZoneRecord>,
+    records: Vec<OwnedRecord>,
     config: &GenerateNsecConfig,
 ) -> Result<Vec<NsecRecord>, Error>
     ensures { IfOk result (λ nsecs. IsChainOf (λ octets. octets.items) (λ name. name)

@@ -4,7 +4,7 @@ ghost use Rattle.domain_dnssec.specs.Iterated.{sha1_answer};
 ghost use Rattle.domain_dnssec.specs.Hashed.{as_param_record, config_of, hashed_links_of};
 ghost use Rattle.domain_dnssec.specs.ZoneRecords.{IsHashedChainOf};
 
-use crate::zone::{ZoneName, ZoneRecord, records};
+use crate::zone::{OwnedRecord, ZoneName, records};
 use domain_dnssec::rdata::Nsec3Salt;
 use domain_dnssec::{
     DefaultSorter, Error, GenerateNsec3Config, HasherError, Nsec3HashAlgorithm, Nsec3Hasher,
@@ -47,7 +47,7 @@ impl Nsec3Hasher for LimitedHasher {
 fn chain<H: Nsec3Hasher>(
     alloc: Global,
     apex: &ZoneName,
-    records: Vec<ZoneRecord>,
+    records: Vec<OwnedRecord>,
     config: &GenerateNsec3Config<Vec<u8>, DefaultSorter>,
     hasher: &H,
 ) -> Result<Nsec3Records<ZoneName, Vec<u8>>, Error>

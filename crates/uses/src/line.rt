@@ -1,7 +1,7 @@
 //! A record from the words of a line, and back.
 ghost use Rattle.std.specs.Prelude.{◌≡◌, IfOk};
 
-use crate::zone::{Data, ZoneName, ZoneRecord};
+use crate::zone::{Data, OwnedRecord, ZoneName};
 use domain_dnssec::{Class, Error, FromToken, IterScanner, Record, Rtype, Scanner, Ttl};
 use std::alloc::Global;
 use std::fmt::Write;
@@ -32,7 +32,7 @@ fn field<F: FromToken, S: Scanner>(scanner: &mut S) -> Result<F, Error> {
 fn scan<S: Scanner<Name = ZoneName, Octets = Vec<u8>>>(
     alloc: Global,
     scanner: &mut S,
-) -> Result<ZoneRecord, Error> {
+) -> Result<OwnedRecord, Error> {
     let owner = scanner.scan_name(alloc)?;
     let ttl = field::<Ttl, S>(scanner)?;
     let class = field::<Class, S>(scanner)?;
@@ -42,13 +42,13 @@ fn scan<S: Scanner<Name = ZoneName, Octets = Vec<u8>>>(
 }
 
 /// The record that the words of a line spell.
-pub fn read<'a>(alloc: Global, words: &'a [&'a str]) -> Result<ZoneRecord, Error> {
+pub fn read<'a>(alloc: Global, words: &'a [&'a str]) -> Result<OwnedRecord, Error> {
     let mut scanner = IterScanner::<Vec<u8>>::new(words);
     scan(alloc, &mut scanner)
 }
 
 /// The record with a TTL of at most so much.
-fn limited(given: ZoneRecord, most: Ttl) -> ZoneRecord
+fn limited(given: OwnedRecord, most: Ttl) -> OwnedRecord
     ensures { result ≡ record {
       owner = given.owner;
       class = given.class;

@@ -3,7 +3,7 @@ ghost use Rattle.std.specs.Prelude.{◌≡◌, false, IfOk};
 ghost use Rattle.domain_dnssec.specs.ZoneRecords.{IsSaidOf};
 
 use crate::chain::chain;
-use crate::zone::{Data, ZoneName, ZoneRecord, records};
+use crate::zone::{Data, OwnedRecord, ZoneName, records};
 use domain_dnssec::laws::verdicts_tell_of_records;
 use domain_dnssec::{Error, GenerateNsecConfig, Rtype, Verdict, check_nsec};
 use std::alloc::Global;
@@ -14,7 +14,7 @@ use std::fmt::Write;
 fn say(
     alloc: Global,
     apex: &ZoneName,
-    records: Vec<ZoneRecord>,
+    records: Vec<OwnedRecord>,
     config: &GenerateNsecConfig,
     name: &ZoneName,
     rtype: Rtype,

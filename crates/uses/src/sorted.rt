@@ -1,7 +1,7 @@
 //! Sorted records that are kept up to date.
 ghost use Rattle.std.specs.Prelude.{◌≡◌, OnErr};
 
-use crate::zone::{Data, ZoneName, ZoneRecord, records};
+use crate::zone::{Data, OwnedRecord, ZoneName, records};
 use domain_dnssec::rdata::A;
 use domain_dnssec::{Class, Error, Record, Rtype, SortedRecords, Ttl};
 use std::alloc::Global;
@@ -12,7 +12,7 @@ use std::net::Ipv4Addr;
 type Zone = SortedRecords<ZoneName, Data>;
 
 /// Puts a record in. Where an equal one stands there, the zone stays as it was.
-fn put(zone: &mut Zone, record: ZoneRecord) -> Result<(), Error>
+fn put(zone: &mut Zone, record: OwnedRecord) -> Result<(), Error>
     ensures { OnErr result (zone.new ≡ zone.old) }
 {
     zone.insert(record)?;
@@ -20,7 +20,7 @@ fn put(zone: &mut Zone, record: ZoneRecord) -> Result<(), Error>
 }
 
 /// A record of a host.
-fn host(alloc: Global, last: u8) -> Result<ZoneRecord, Error> {
+fn host(alloc: Global, last: u8) -> Result<OwnedRecord, Error> {
     let owner = ZoneName::from_str(alloc, "mail.office.example.")?;
     let data = Data::A(A::new(Ipv4Addr::new(192, 0, 2, last)));
     Ok(Record::new(owner, Class::IN, Ttl::from_hours(1), data))

@@ -11,7 +11,7 @@ pub type ZoneName = Name<Vec<u8>>;
 pub type Data = ZoneRecordData<Vec<u8>, ZoneName>;
 
 /// A record of a zone.
-pub type ZoneRecord = Record<ZoneName, Data>;
+pub type OwnedRecord = Record<ZoneName, Data>;
 
 /// The SOA of the zone.
 fn soa(alloc: Global) -> Result<Data, Error> {
@@ -36,14 +36,19 @@ fn caa(alloc: Global) -> Result<Data, Error> {
 }
 
 /// Adds a record of the owner that a text spells.
-fn add(alloc: Global, owner: &str, data: Data, records: &mut Vec<ZoneRecord>) -> Result<(), Error> {
+fn add(
+    alloc: Global,
+    owner: &str,
+    data: Data,
+    records: &mut Vec<OwnedRecord>,
+) -> Result<(), Error> {
     let owner = ZoneName::from_str(alloc, owner)?;
     records.push(Record::new(owner, Class::IN, Ttl::from_hours(1), data))?;
     Ok(())
 }
 
 /// The records of `example.`, in no order.
-pub fn records(alloc: Global) -> Result<Vec<ZoneRecord>, Error> {
+pub fn records(alloc: Global) -> Result<Vec<OwnedRecord>, Error> {
     let address = A::new(Ipv4Addr::new(192, 0, 2, 1));
     let mail = Mx::new(10, ZoneName::from_str(alloc, "mail.office.example.")?);
     let server = Ns::new(ZoneName::from_str(alloc, "ns.example.")?);

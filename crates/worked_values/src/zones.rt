@@ -4,7 +4,7 @@ mod groups;
 mod sorters;
 mod written;
 
-use crate::lines::records::{Data, Zone, ZoneRecord, data, list, records, zone};
+use crate::lines::records::{Data, OwnedRecord, Zone, data, list, records, zone};
 use crate::lines::{Answers, OwnName, input};
 use domain_base::{Class, Rtype, ScanError, Ttl};
 use domain_records::InsertError;
@@ -12,7 +12,7 @@ pub use sorters::RefusingSorter;
 use std::alloc::Global;
 
 /// What a sorted set answers when a record is put in.
-fn insert_one(zone: &mut Zone, record: ZoneRecord, answers: &mut Answers) {
+fn insert_one(zone: &mut Zone, record: OwnedRecord, answers: &mut Answers) {
     match zone.insert(record) {
         Ok(()) => answers.show("records", &zone.len()),
         Err(InsertError::Present(back)) => answers.show("present", &back),
@@ -21,7 +21,7 @@ fn insert_one(zone: &mut Zone, record: ZoneRecord, answers: &mut Answers) {
 }
 
 /// What stands after each record is put in.
-fn insert(alloc: Global, records: Vec<ZoneRecord>, answers: &mut Answers) {
+fn insert(alloc: Global, records: Vec<OwnedRecord>, answers: &mut Answers) {
     let mut zone = Zone::default(alloc);
     answers.show("empty", &zone.is_empty());
     for record in records {
@@ -73,7 +73,7 @@ fn of_question(
 fn of_records(
     alloc: Global,
     form: &str,
-    given: Vec<ZoneRecord>,
+    given: Vec<OwnedRecord>,
     answers: &mut Answers,
 ) -> Result<(), ScanError> {
     match form {

@@ -12,7 +12,7 @@ use std::fmt::Display;
 pub type Data = ZoneRecordData<Vec<u8>, OwnName>;
 
 /// A record of any type in octets of its own.
-pub type ZoneRecord = Record<OwnName, Data>;
+pub type OwnedRecord = Record<OwnName, Data>;
 
 /// A sorted set of records.
 pub type Zone = SortedRecords<OwnName, Data>;
@@ -41,7 +41,7 @@ fn scan_numbers(scanner: &mut Tokens<'_>) -> Option<(Ttl, Class)> {
 }
 
 /// The record that words spell: its owner, its TTL, its class, its type, and its data.
-pub fn record(alloc: Global, words: &[&str]) -> Result<ZoneRecord, ScanError> {
+pub fn record(alloc: Global, words: &[&str]) -> Result<OwnedRecord, ScanError> {
     let mut scanner = Tokens::new(words);
     let owner = scanner.scan_name(alloc)?;
     match scan_numbers(&mut scanner) {
@@ -51,7 +51,7 @@ pub fn record(alloc: Global, words: &[&str]) -> Result<ZoneRecord, ScanError> {
 }
 
 /// The records that words spell, with `/` between them.
-pub fn records(alloc: Global, words: &[&str]) -> Result<Vec<ZoneRecord>, ScanError> {
+pub fn records(alloc: Global, words: &[&str]) -> Result<Vec<OwnedRecord>, ScanError> {
     let mut records = Vec::new(alloc);
     if words.is_empty() {
         return Ok(records);

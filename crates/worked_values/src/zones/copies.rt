@@ -1,6 +1,6 @@
 //! Copies of records, and records in other holders.
 use crate::lines::holders::{flattened, in_each};
-use crate::lines::records::{ZoneRecord, list};
+use crate::lines::records::{OwnedRecord, list};
 use crate::lines::{Answers, OwnName};
 use bytes::Bytes;
 use domain_base::Name;
@@ -14,7 +14,7 @@ use std::alloc::Global;
 type Address = Record<OwnName, A>;
 
 /// Copies of the records of addresses.
-fn addresses(alloc: Global, records: &[ZoneRecord]) -> Result<Vec<Address>, OutOfMemory> {
+fn addresses(alloc: Global, records: &[OwnedRecord]) -> Result<Vec<Address>, OutOfMemory> {
     let mut addresses = Vec::new(alloc);
     for record in records {
         if let ZoneRecordData::A(data) = record.data() {
@@ -29,7 +29,7 @@ fn addresses(alloc: Global, records: &[ZoneRecord]) -> Result<Vec<Address>, OutO
 /// Copies of sorted records, and of records one by one, each of which may equal the one before it.
 pub fn copy(
     alloc: Global,
-    records: &[ZoneRecord],
+    records: &[OwnedRecord],
     answers: &mut Answers,
 ) -> Result<(), OutOfMemory> {
     let addresses = addresses(alloc, records)?;
@@ -50,7 +50,7 @@ type Start<N> = Record<N, Soa<N>>;
 /// The records of a zone's start in other holders.
 pub fn held(
     alloc: Global,
-    records: &[ZoneRecord],
+    records: &[OwnedRecord],
     answers: &mut Answers,
 ) -> Result<(), OutOfMemory> {
     for record in records {

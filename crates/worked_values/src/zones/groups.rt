@@ -1,5 +1,5 @@
 //! Groups of records: by owner, and by owner and type (RFC 2181, section 5).
-use crate::lines::records::{Data, Zone, ZoneRecord};
+use crate::lines::records::{Data, OwnedRecord, Zone};
 use crate::lines::{Answers, OwnName, input};
 use domain_base::Rtype;
 use domain_octets::OutOfMemory;
@@ -112,7 +112,7 @@ fn references(alloc: Global, zone: &Zone, answers: &mut Answers) -> Result<(), O
 
 /// Records as one set, and what it gives as a copy, one by one, and as the records that it was made
 /// of.
-pub fn set(records: &[ZoneRecord], answers: &mut Answers) {
+pub fn set(records: &[OwnedRecord], answers: &mut Answers) {
     show("owned", Rrset::new_from_owned(records), answers);
     if let Ok(set) = Rrset::new(SliceRefsOrOwned::new_from_owned(records)) {
         answers.show("owner", set.clone().owner());

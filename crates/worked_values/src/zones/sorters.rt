@@ -1,7 +1,7 @@
 //! Sorted sets by each sorter, and by one without memory.
 ghost use Rattle.std.specs.Prelude.{false};
 
-use crate::lines::records::{Data, ZoneRecord, list, record, records};
+use crate::lines::records::{Data, OwnedRecord, list, record, records};
 use crate::lines::{Answers, OwnName, input};
 use domain_base::ScanError;
 use domain_octets::OutOfMemory;
@@ -26,7 +26,7 @@ impl Sorter for RefusingSorter {
 /// A sorted set of one record.
 fn started<S: Sorter>(
     alloc: Global,
-    first: ZoneRecord,
+    first: OwnedRecord,
     answers: &mut Answers,
 ) -> SortedRecords<OwnName, Data, S> {
     let mut zone = SortedRecords::new(alloc);

@@ -1,6 +1,6 @@
 //! Sorted sets as text.
 use crate::lines::Answers;
-use crate::lines::records::{Zone, ZoneRecord};
+use crate::lines::records::{OwnedRecord, Zone};
 use std::alloc::Global;
 use std::fmt;
 use std::fmt::Write;
@@ -26,10 +26,10 @@ impl Write for Narrow {
 /// What is answered where a sorted set has room for 40 characters, and where comments are refused.
 fn write_narrow(zone: &Zone, answers: &mut Answers) {
     answers.debug("in 40 characters", &zone.write(&mut Narrow { left: 40 }));
-    let comment = |_: &ZoneRecord, target: &mut Narrow| target.write_str(" ;x");
+    let comment = |_: &OwnedRecord, target: &mut Narrow| target.write_str(" ;x");
     let written = zone.write_with_comments(&mut Narrow { left: 40 }, comment);
     answers.debug("in 40 characters", &written);
-    let refuse = |_: &ZoneRecord, _: &mut Narrow| Err(fmt::Error);
+    let refuse = |_: &OwnedRecord, _: &mut Narrow| Err(fmt::Error);
     let written = zone.write_with_comments(&mut Narrow { left: 999 }, refuse);
     answers.debug("refused", &written);
 }
@@ -40,7 +40,7 @@ pub fn write(alloc: Global, zone: &Zone, answers: &mut Answers) {
     answers.debug("written", &zone.write(&mut text));
     answers.debug("text", &text);
     let mut text = String::new(alloc);
-    let comment = |_: &ZoneRecord, target: &mut String| target.write_str(" ;x");
+    let comment = |_: &OwnedRecord, target: &mut String| target.write_str(" ;x");
     answers.debug("written", &zone.write_with_comments(&mut text, comment));
     answers.debug("text", &text);
     write_narrow(zone, answers);

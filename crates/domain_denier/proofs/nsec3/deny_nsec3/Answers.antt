@@ -2,18 +2,11 @@ use Rattle.std.proofs.Common.{◌≡◌, ◌<◌, true, false, sym, ap, subst, �
 use Rattle.domain_base.specs.Name.{is_at_or_below}
 use Rattle.domain_nsec3.specs.View.{hash_by}
 use Rattle.domain_answer.specs.ZoneAnswer.{is_at_parent}
-use Rattle.domain_denier.proofs.HashedDenyLemmas.{DenyLaws, needed_is, parts_are, picked_proves, read_by, some_links, zone_is}
+use Rattle.domain_denier.proofs.HashedDenyLemmas.{DenyLaws, denial_is, read_by, some_links}
 use Rattle.domain_denier.proofs.nsec3.deny_nsec3.Goals as goal
 
-pub returns-then-is_empty-clause-zone : goal.returns-then-is_empty-clause-zone
-returns-then-is_empty-clause-zone g c L config whole asked =
-    let a = c.args.chain.now.param.owner in
-    let links = c.args.chain.now.links in
-    absurd (some_links L a config links whole.is (c.chains_mean_the_zone.ensures.enclosers L a config links whole.is)
-    (c.names_exist.ensures.existing L a config) (c.is_empty.ensures.0 c.if-is_empty.true))
-
-pub returns-then-is_empty-clause-proved : goal.returns-then-is_empty-clause-proved
-returns-then-is_empty-clause-proved g c L config whole asked =
+pub returns-then-is_empty-clause-denial : goal.returns-then-is_empty-clause-denial
+returns-then-is_empty-clause-denial g c L config whole asked =
     let a = c.args.chain.now.param.owner in
     let links = c.args.chain.now.links in
     absurd (some_links L a config links whole.is (c.chains_mean_the_zone.ensures.enclosers L a config links whole.is)
@@ -26,8 +19,8 @@ returns-then-is_empty-clause-exact g c records L config whole =
     absurd (some_links L a config links whole.is (c.chains_mean_the_zone.ensures.enclosers L a config links whole.is)
     (c.names_exist.ensures.existing L a config) (c.is_empty.ensures.0 c.if-is_empty.true))
 
-pub returns-in-Ok-clause-zone : goal.returns-in-Ok-clause-zone
-returns-in-Ok-clause-zone g c L config whole asked =
+pub returns-in-Ok-clause-denial : goal.returns-in-Ok-clause-denial
+returns-in-Ok-clause-denial g c L config whole asked =
     let a = c.args.chain.now.param.owner in
     let x = g.M.ToName.labels c.args.name.now in
     let t = c.args.rtype in
@@ -47,77 +40,6 @@ returns-in-Ok-clause-zone g c L config whole asked =
       closer = all.closer;
       matches = c.hashes_tell_of_names.ensures.matches;
     } in
-    zone_is laws L a config chain.links whole.leaves_out whole.is x t small low parent asked c.in-Ok.denial
-    (read_by L config hash chain whole c.owner-apex.result.now apex x t c.in-Ok.denial (c.in-Ok.ensures.read L config whole))
-
-pub returns-in-Ok-clause-proved : goal.returns-in-Ok-clause-proved
-returns-in-Ok-clause-proved g c L config whole asked =
-    let a = c.args.chain.now.param.owner in
-    let x = g.M.ToName.labels c.args.name.now in
-    let t = c.args.rtype in
-    let chain = c.args.chain.now in
-    let hash = hash_by (g.H.Nsec3Hasher.answer c.args.hasher.now) c.args.chain.now.param.parameters in
-    let apex : c.owner-apex.result.now ≡ c.args.chain.now.param.owner = c.owner-apex.ensures ∙ ap (λ r. r.owner) c.nsec3param.ensures in
-    let low : is_at_or_below (g.M.ToName.labels c.args.name.now) c.args.chain.now.param.owner ≡ true =
-    ap (is_at_or_below x) (sym apex) ∙ sym c.ends_with.ensures.value ∙ c.if-not-ends_with.false in
-    let parent : is_at_parent c.args.chain.now.param.owner (g.M.ToName.labels c.args.name.now) c.args.rtype ≡ false =
-    ap (λ o. is_at_parent o x t) (sym apex) ∙ sym c.is_at_parent.ensures ∙ c.if-is_at_parent.false in
-    let small : c.args.rtype < 65536 = subst (λ n. n < 65536) c.to_int-number.ensures c.to_int-number.type_inv in
-    let all = c.hashed_whole_chains_prove_all.ensures in
-    let laws : DenyLaws = record {
-      readings = c.hashed_readings_are_proved.ensures.zone;
-      whole = all.zone;
-      definite = all.definite;
-      closer = all.closer;
-      matches = c.hashes_tell_of_names.ensures.matches;
-    } in
-    picked_proves laws L a config chain.links whole.leaves_out whole.is x t small low parent asked c.in-Ok.denial
-    (read_by L config hash chain whole c.owner-apex.result.now apex x t c.in-Ok.denial (c.in-Ok.ensures.read L config whole))
-
-pub returns-in-Ok-clause-needed : goal.returns-in-Ok-clause-needed
-returns-in-Ok-clause-needed g c L config whole asked =
-    let a = c.args.chain.now.param.owner in
-    let x = g.M.ToName.labels c.args.name.now in
-    let t = c.args.rtype in
-    let chain = c.args.chain.now in
-    let hash = hash_by (g.H.Nsec3Hasher.answer c.args.hasher.now) c.args.chain.now.param.parameters in
-    let apex : c.owner-apex.result.now ≡ c.args.chain.now.param.owner = c.owner-apex.ensures ∙ ap (λ r. r.owner) c.nsec3param.ensures in
-    let low : is_at_or_below (g.M.ToName.labels c.args.name.now) c.args.chain.now.param.owner ≡ true =
-    ap (is_at_or_below x) (sym apex) ∙ sym c.ends_with.ensures.value ∙ c.if-not-ends_with.false in
-    let parent : is_at_parent c.args.chain.now.param.owner (g.M.ToName.labels c.args.name.now) c.args.rtype ≡ false =
-    ap (λ o. is_at_parent o x t) (sym apex) ∙ sym c.is_at_parent.ensures ∙ c.if-is_at_parent.false in
-    let small : c.args.rtype < 65536 = subst (λ n. n < 65536) c.to_int-number.ensures c.to_int-number.type_inv in
-    let all = c.hashed_whole_chains_prove_all.ensures in
-    let laws : DenyLaws = record {
-      readings = c.hashed_readings_are_proved.ensures.zone;
-      whole = all.zone;
-      definite = all.definite;
-      closer = all.closer;
-      matches = c.hashes_tell_of_names.ensures.matches;
-    } in
-    needed_is laws L a config chain.links whole.leaves_out whole.is x t small low parent asked c.in-Ok.denial
-    (read_by L config hash chain whole c.owner-apex.result.now apex x t c.in-Ok.denial (c.in-Ok.ensures.read L config whole))
-
-pub returns-in-Ok-clause-parts : goal.returns-in-Ok-clause-parts
-returns-in-Ok-clause-parts g c L config whole asked =
-    let a = c.args.chain.now.param.owner in
-    let x = g.M.ToName.labels c.args.name.now in
-    let t = c.args.rtype in
-    let chain = c.args.chain.now in
-    let hash = hash_by (g.H.Nsec3Hasher.answer c.args.hasher.now) c.args.chain.now.param.parameters in
-    let apex : c.owner-apex.result.now ≡ c.args.chain.now.param.owner = c.owner-apex.ensures ∙ ap (λ r. r.owner) c.nsec3param.ensures in
-    let low : is_at_or_below (g.M.ToName.labels c.args.name.now) c.args.chain.now.param.owner ≡ true =
-    ap (is_at_or_below x) (sym apex) ∙ sym c.ends_with.ensures.value ∙ c.if-not-ends_with.false in
-    let parent : is_at_parent c.args.chain.now.param.owner (g.M.ToName.labels c.args.name.now) c.args.rtype ≡ false =
-    ap (λ o. is_at_parent o x t) (sym apex) ∙ sym c.is_at_parent.ensures ∙ c.if-is_at_parent.false in
-    let small : c.args.rtype < 65536 = subst (λ n. n < 65536) c.to_int-number.ensures c.to_int-number.type_inv in
-    let all = c.hashed_whole_chains_prove_all.ensures in
-    let laws : DenyLaws = record {
-      readings = c.hashed_readings_are_proved.ensures.zone;
-      whole = all.zone;
-      definite = all.definite;
-      closer = all.closer;
-      matches = c.hashes_tell_of_names.ensures.matches;
-    } in
-    parts_are laws L a config chain.links whole.leaves_out whole.is x t small low parent asked c.in-Ok.denial
-    (read_by L config hash chain whole c.owner-apex.result.now apex x t c.in-Ok.denial (c.in-Ok.ensures.read L config whole))
+    let read =
+    read_by L config hash chain whole c.owner-apex.result.now apex x t c.in-Ok.denial (c.in-Ok.ensures.read L config whole) in
+    denial_is laws L config chain whole.leaves_out whole.is x t small low parent asked c.in-Ok.denial read

@@ -1,5 +1,5 @@
 use Rattle.std.proofs.Common.{arith, inl, inr, ◌≤◌, ◌+◌, length}
-use Rattle.domain_rdata.specs.Kind.{kind_of}
+use Rattle.domain_rdata.specs.Zone.{kind_of}
 use Rattle.domain_message.specs.Record.{in_octets}
 use Rattle.domain_message.proofs.record.data_at.Goals as goal
 

@@ -14,7 +14,7 @@ returns-in-Soa g c = rw c.in-Soa.is (λ exact. soa_back g.O.Octets.octets g.N.To
 pub returns-in-Rrsig : goal.returns-in-Rrsig
 returns-in-Rrsig g c =
     rw c.in-Rrsig.is (λ exact. own (rrsig_back g.O.Octets.octets g.N.ToName.labels c.in-Rrsig.data _ c.rrsig_reads_back.ensures)
-    (refl, c.rrsig_reads_back.ensures, refl))
+    (refl, (c.rrsig_reads_back.ensures, refl)))
 
 pub returns-in-Nsec : goal.returns-in-Nsec
 returns-in-Nsec g c =
