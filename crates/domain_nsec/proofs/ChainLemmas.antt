@@ -4,7 +4,7 @@ use Rattle.std.proofs.Common.{ap, ◌∙◌, subst, inl, inr, ◌⊎◌, Some, z
 use Rattle.std.specs.Prelude.{count_by, All}
 use Rattle.std.specs.List.{AllByRecursion, list_any}
 use Rattle.std.proofs.lemmas.Bool.{cases_Bool, cases_lt, false≢true, true≢false, and_parts, or_cases, not-true}
-use Rattle.std.proofs.lemmas.List.{length-map, get_or-map, get_or_past, map-append as made_more, take_more}
+use Rattle.std.proofs.lemmas.List.{length-map, get_or_read, map-append as made_more, take_more}
 use Rattle.std.proofs.lemmas.List.Elements.{All-from_recursion, recursion_from_All}
 use Rattle.domain_bitmap.specs.Bitmap.{bitmap_octets}
 use Rattle.domain_zone.specs.Covering.{matches, covers, matches_or_covers, pairs}
@@ -47,7 +47,7 @@ links_listed numbers a f [] = tt
 links_listed numbers a f (n ∷ names) = (refl, links_listed numbers a f names)
 
 -- a link for each name
-links_counted : (numbers : ApexSoa) (a : Name) (names : List Name) (bits : List (List ℕ)) → length names ≡ length bits
+pub links_counted : (numbers : ApexSoa) (a : Name) (names : List Name) (bits : List (List ℕ)) → length names ≡ length bits
     → length (links_in numbers a names bits) ≡ length names
 links_counted numbers a [] bits e = refl
 links_counted numbers a (n ∷ names) [] e = absurd (omega (arith, e))
@@ -60,34 +60,20 @@ link_at numbers a (n ∷ names) [] i d e l = absurd (omega (arith, e))
 link_at numbers a (n ∷ names) (b ∷ bits) zero d e l = refl
 link_at numbers a (n ∷ names) (b ∷ bits) (suc i) d e l = link_at numbers a names bits i d (omega (arith, e)) (omega (arith, l))
 
--- a link for each of these
-pub lent_counted : {X : Type 0} (f : X → Name) (numbers : ApexSoa) (a : Name) (xs : List X) (bits : List (List ℕ))
-    → length xs ≡ length bits → length (links_in numbers a (map f xs) bits) ≡ length xs
-lent_counted f numbers a xs bits even = let long = length-map xs f in links_counted numbers a (map f xs) bits (long ∙ even) ∙ long
-
 -- the owner of the link at a place
-pub owner_lent : {X : Type 0} (f : X → Name) (numbers : ApexSoa) (a : Name) (xs : List X) (bits : List (List ℕ)) (i : ℕ) (d : Link) (x : X)
-    → length xs ≡ length bits → i < length xs → x ≡ get_or xs i x → f x ≡ (get_or (links_in numbers a (map f xs) bits) i d).owner
-owner_lent f numbers a xs bits i d x even within owner =
-    let long = length-map xs f in
-    ap f owner ∙ sym (get_or-map f xs i x a within)
-    ∙ ap (λ k. k.owner) (link_at numbers a (map f xs) bits i d (long ∙ even) (omega (arith, long, within)))
+pub owner_lent : (numbers : ApexSoa) (a : Name) (names : List Name) (bits : List (List ℕ)) (i : ℕ) (d : Link) (n : Name)
+    → length names ≡ length bits → i < length names → n ≡ get_or names i n → n ≡ (get_or (links_in numbers a names bits) i d).owner
+owner_lent numbers a names bits i d n even within owner =
+    get_or_read names i n within owner a ∙ ap (λ k. k.owner) (link_at numbers a names bits i d even within)
 
--- the link at a place has the names from there on, or the apex for a next one, and the bits there
-pub link_lent : {X : Type 0} (f : X → Name) (numbers : ApexSoa) (a : Name) (xs : List X) (bits : List (List ℕ)) (i : ℕ) (d : Link)
-    (x : X) (next : Name) (types : List ℕ)
-    → length xs ≡ length bits → i < length xs → x ≡ get_or xs i x → types ≡ get_or bits i []
-    → (i + 1 < length xs → next ≡ f (get_or xs (i + 1) x)) → (length xs ≤ i + 1 → next ≡ a)
-    → link_of (f x) next numbers types ≡ get_or (links_in numbers a (map f xs) bits) i d
-link_lent f numbers a xs bits i d x next types even within owner listed later last =
-    let long = length-map xs f in
-    let here : f x ≡ get_or (map f xs) i a = ap f owner ∙ sym (get_or-map f xs i x a within) in
-    let after : next ≡ get_or (map f xs) (suc i) a =
-    elim (cases_lt (i + 1) (length xs)) [
-      | inl l ↦ later l ∙ sym (get_or-map f xs (i + 1) x a l) ∙ ap (λ n. get_or (map f xs) n a) (add-one i)
-      | inr l ↦ last l ∙ sym (get_or_past (map f xs) (suc i) a (omega (arith, long, l)))
-    ] in
-    (λ j. link_of (here j) (after j) numbers (listed j)) ∙ link_at numbers a (map f xs) bits i d (long ∙ even) (omega (arith, long))
+-- the link at a place has that owner, the owner after it, or the apex, for a next name, and the bits there
+pub link_lent : (numbers : ApexSoa) (a : Name) (names : List Name) (bits : List (List ℕ)) (i : ℕ) (d : Link) (n next : Name) (types : List ℕ)
+    → length names ≡ length bits → i < length names → n ≡ get_or names i n → types ≡ get_or bits i [] → next ≡ get_or names (i + 1) a
+    → link_of n next numbers types ≡ get_or (links_in numbers a names bits) i d
+link_lent numbers a names bits i d n next types even within owner listed later =
+    let here : n ≡ get_or names i a = get_or_read names i n within owner a in
+    let after : next ≡ get_or names (suc i) a = later ∙ ap (λ k. get_or names k a) (add-one i) in
+    (λ j. link_of (here j) (after j) numbers (listed j)) ∙ link_at numbers a names bits i d even within
 
 -- one more record is made
 pub record_made : {X : Type 0} (see : X → Link) (old new : List X) (item : X) (i : ℕ) (links : List Link) → i < length links

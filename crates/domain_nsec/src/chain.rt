@@ -1,5 +1,5 @@
 //! NSEC chains whose records are made one by one.
-ghost use Rattle.std.specs.Prelude.{◌≡◌, ◌≤◌, ◌↔◌, [], length, slice_index_or, IsTrue, IfErr, IfOk, IfNone, IfSome, OnOk, map};
+ghost use Rattle.std.specs.Prelude.{◌≡◌, ◌≤◌, ◌↔◌, [], length, slice_index_or, IsTrue, IfErr, IfOk, IfNone, IfSome, OnOk};
 ghost use Rattle.domain_records.specs.Order.{IsOneClass, IsInOrder};
 ghost use Rattle.domain_zone.specs.View.{zone_of};
 ghost use Rattle.domain_nsec.specs.Chain.{Link, links_in, IsChain, IsFaultless, IsFirstFault};
@@ -21,34 +21,47 @@ use std::marker::Model;
 pub type LentNsec<'a> = Record<ParsedName<'a>, Nsec<&'a [u8], ParsedName<'a>>>;
 
 /// The NSEC chain of a zone before its records are made. Contracts see the links that its records
-/// have. It borrows the names from the records of the zone, and holds 16 octets for each of them
-/// beside the octets of its types: a caller that needs one record at a time needs no list of them.
+/// have. It borrows the octets of the names from the records of the zone, and holds 24 octets for
+/// each of them, where its name lies and where its types end, beside the octets of its types: a
+/// caller that needs one record at a time needs no list of them.
 #[derive(Drop)]
 pub struct NsecChain<'a, N: ToName> {
     apex: &'a N,
     soa: ApexSoa,
-    names: Vec<&'a N>,
+    names: Vec<ParsedName<'a>>,
     types: RtypeBitmaps,
 }
 
 impl<'a, N: ToName> Model for NsecChain<'a, N> {
-    ghost use Rattle.std.specs.Prelude.{◌≡◌, List, length, map};
+    ghost use Rattle.std.specs.Prelude.{◌≡◌, List, length};
     ghost use Rattle.domain_nsec.specs.Chain.{Link, links_in};
 
     ghost Value = { List Link };
 
-    ghost view = { λ c. links_in c.soa (N.labels c.apex.now)
-        (map (λ n. N.labels n.now) c.names.items) c.types };
+    ghost view = { λ c. links_in c.soa (N.labels c.apex.now) c.names.items c.types };
 
     ghost invariant = { λ c. length c.names.items ≡ length c.types };
 }
 
+/// The owner at a place, or the apex past the last one: so the last record points to the apex.
+fn owner_or_apex<'s, N: ToName>(
+    owners: &'s [ParsedName<'s>],
+    place: usize,
+    apex: &'s N,
+) -> ParsedName<'s>
+    ensures { result ≡ slice_index_or owners.now place (N.labels apex.now) }
+{
+    match owners.get(place) {
+        Some(owner) => owner.as_parsed(),
+        None => apex.as_parsed(),
+    }
+}
+
 impl<'a, N: ToName> NsecChain<'a, N> {
     /// The chain of these names and their types.
-    fn new(apex: &'a N, soa: ApexSoa, names: Vec<&'a N>, types: RtypeBitmaps) -> Self
+    fn new(apex: &'a N, soa: ApexSoa, names: Vec<ParsedName<'a>>, types: RtypeBitmaps) -> Self
         requires { length names.items ≡ length types }
-        ensures { result ≡ links_in soa (N.labels apex.now)
-            (map (λ n. N.labels n.now) names.entry.items) types }
+        ensures { result ≡ links_in soa (N.labels apex.now) names.entry.items types }
     {
         NsecChain {
             apex,
@@ -60,7 +73,7 @@ impl<'a, N: ToName> NsecChain<'a, N> {
 
     /// The NSEC chain of a zone (RFC 4034, section 4; RFC 4035, section 2.3): the chain that
     /// `generate_nsecs` gives, with the same refusals, before its records are made. It borrows
-    /// their names from the records of the zone.
+    /// the octets of their names from the records of the zone.
     ///
     /// # Errors
     ///
@@ -116,15 +129,15 @@ impl<'a, N: ToName> NsecChain<'a, N> {
     }
 
     /// The owner of the record at a place; None past the last one. Takes no memory.
-    pub fn owner(&self, place: usize) -> Option<&'a N>
+    pub fn owner(&self, place: usize) -> Option<&ParsedName<'a>>
         ensures some { IfSome result (λ owner. (d : Link)
-            → N.labels owner.now ≡ (slice_index_or self.now place d).owner) }
+            → owner.now ≡ (slice_index_or self.now place d).owner) }
         ensures none { IfNone result (length self.now ≤ place) }
     {
         if place >= self.names.len() {
             return None;
         }
-        Some(self.names[place])
+        Some(&self.names[place])
     }
 
     /// The record at a place, in canonical order, which borrows from the chain; None past the last
@@ -139,11 +152,7 @@ impl<'a, N: ToName> NsecChain<'a, N> {
         }
         let types = self.types.get(place)?;
         let owner = self.names[place].as_parsed();
-        let next = if place + 1 < self.names.len() {
-            self.names[place + 1].as_parsed()
-        } else {
-            self.apex.as_parsed()
-        };
+        let next = owner_or_apex(&self.names, place + 1, self.apex);
         let nsec = Nsec::new(next, types);
         Some(Record::new(owner, self.soa.class, self.soa.chain_ttl(), nsec))
     }

@@ -1,5 +1,4 @@
-use Rattle.std.proofs.Common.{◌≡◌, ◌∙◌, ◌&&◌, ◌++◌, ◌∷◌, [], Bool, List, sym, ap, map, subst, Some, None, ◌≢◌}
-use Rattle.std.proofs.lemmas.List.{map-append}
+use Rattle.std.proofs.Common.{◌≡◌, ◌∙◌, ◌&&◌, Bool, List, sym, ap, map, subst, Some, None, ◌≢◌}
 use Rattle.domain_base.specs.Words.{Name}
 use Rattle.domain_bitmap.specs.Bitmap.{bitmap_octets}
 use Rattle.domain_zone.specs.Owners.{OwnerRecords}
@@ -19,7 +18,7 @@ owners-init g c =
     let L = zone_of labels g.D.RecordData.rtype g.D.ZoneData.minimum c.args.records in
     let a = labels c.args.apex.now in
     subst (λ left. IsAt L a c.args.config.now left c.new-owners.result.is_full
-    (map (λ n. labels n.now) c.new-owners.result.names.items) c.new-owners.result.types) (sym c.new-left.ensures)
+    c.new-owners.result.names.items c.new-owners.result.types) (sym c.new-left.ensures)
     (rw (c.new-owners.ensures.room, c.new-owners.ensures.names, c.new-owners.ensures.types) (at_start L a c.args.config.now))
 
 pub has_unequal_ttls-requires : goal.has_unequal_ttls-requires
@@ -28,7 +27,7 @@ has_unequal_ttls-requires g c =
     let L = zone_of labels g.D.RecordData.rtype g.D.ZoneData.minimum c.args.records in
     let a = labels c.args.apex.now in
     let listed = c.owners.owners in
-    let names = map (λ n. labels n.now) listed.names.items in
+    let names = listed.names.items in
     let o : OwnerRecords = as_owner_records labels g.D.RecordData.rtype g.D.ZoneData.minimum c.in-Some-next.owner in
     let at = subst (λ left. IsAt L a c.args.config.now left listed.is_full names listed.types) c.in-Some-next.ensures.steps
     c.owners.invariant in
@@ -45,7 +44,7 @@ returns-then-has_unequal_ttls-clause-fault g c =
     let L = zone_of labels g.D.RecordData.rtype g.D.ZoneData.minimum c.args.records in
     let a = labels c.args.apex.now in
     let listed = c.owners.owners in
-    let names = map (λ n. labels n.now) listed.names.items in
+    let names = listed.names.items in
     let o : OwnerRecords = as_owner_records labels g.D.RecordData.rtype g.D.ZoneData.minimum c.in-Some-next.owner in
     let at = subst (λ left. IsAt L a c.args.config.now left listed.is_full names listed.types) c.in-Some-next.ensures.steps
     c.owners.invariant in
@@ -64,19 +63,18 @@ owners-preserved g c =
     let a = labels c.args.apex.now in
     let config = c.args.config.now in
     let listed = c.owners.owners in
-    let names = map (λ n. labels n.now) listed.names.items in
+    let names = listed.names.items in
     let o : OwnerRecords = as_owner_records labels g.D.RecordData.rtype g.D.ZoneData.minimum c.in-Some-next.owner in
     let assume : Bool = config.assume_dnskeys_will_be_added in
     let at = subst (λ left. IsAt L a config left listed.is_full names listed.types) c.in-Some-next.ensures.steps c.owners.invariant in
     at_owner L a config o c.next.new.self listed.is_full names listed.types at
     (bitmap_octets (is_listed (assume && c.name_eq.result) o.is_zone_cut o.records))
-    c.add.new.self.is_full (map (λ n. labels n.now) c.add.new.self.names.items) c.add.new.self.types
+    c.add.new.self.is_full c.add.new.self.names.items c.add.new.self.types
     (ap (λ rs. has_clash (zone_of labels g.D.RecordData.rtype g.D.ZoneData.minimum rs)) (sym c.records-in-Some-next.ensures)
     ∙ sym c.has_unequal_ttls.ensures ∙ c.if-has_unequal_ttls.false)
     (ap (λ b. bitmap_octets (is_listed (assume && b) o.is_zone_cut o.records)) c.name_eq.ensures.value)
     c.add.ensures.room
-    (λ h. ap (map (λ n. labels n.now)) (c.add.ensures.names h)
-    ∙ map-append (λ n. labels n.now) listed.names.items (c.in-Some-next.owner.name ∷ []))
+    c.add.ensures.names
     c.add.ensures.types
 
 pub returns-then-owners-clause-fault : goal.returns-then-owners-clause-fault
@@ -85,7 +83,7 @@ returns-then-owners-clause-fault g c =
     let L = zone_of labels g.D.RecordData.rtype g.D.ZoneData.minimum c.args.records in
     let a = labels c.args.apex.now in
     let listed = c.owners.owners in
-    let names = map (λ n. labels n.now) listed.names.items in
+    let names = listed.names.items in
     let soa : soa_of L a ≡ Some c.in-Some.soa = ap (λ rs. soa_of (zone_of labels g.D.RecordData.rtype g.D.ZoneData.minimum rs) a)
     (sym c.records.ensures) ∙ sym c.in-Some.ensures in (
       λ e. cc,
@@ -100,7 +98,7 @@ returns-clause-chain g c =
     let L = zone_of labels g.D.RecordData.rtype g.D.ZoneData.minimum c.args.records in
     let a = labels c.args.apex.now in
     let listed = c.owners.owners in
-    let names = map (λ n. labels n.now) listed.names.items in
+    let names = listed.names.items in
     let soa : soa_of L a ≡ Some c.in-Some.soa = ap (λ rs. soa_of (zone_of labels g.D.RecordData.rtype g.D.ZoneData.minimum rs) a)
     (sym c.records.ensures) ∙ sym c.in-Some.ensures in
     let at = subst (λ left. IsAt L a c.args.config.now left listed.is_full names listed.types) c.in_default-next.ensures.steps.0
@@ -114,7 +112,7 @@ returns-clause-faultless g c =
     let L = zone_of labels g.D.RecordData.rtype g.D.ZoneData.minimum c.args.records in
     let a = labels c.args.apex.now in
     let listed = c.owners.owners in
-    let names = map (λ n. labels n.now) listed.names.items in
+    let names = listed.names.items in
     let soa : soa_of L a ≡ Some c.in-Some.soa = ap (λ rs. soa_of (zone_of labels g.D.RecordData.rtype g.D.ZoneData.minimum rs) a)
     (sym c.records.ensures) ∙ sym c.in-Some.ensures in (
       λ e. cc,

@@ -1,17 +1,15 @@
-use Rattle.std.proofs.Common.{◌≡◌, length, get_or, sym, ap, ◌∙◌, arith}
-use Rattle.domain_nsec.proofs.ChainLemmas.{lent_counted, owner_lent}
+use Rattle.std.proofs.Common.{length, get_or, sym, ap, ◌∙◌, arith}
+use Rattle.domain_nsec.proofs.ChainLemmas.{links_counted, owner_lent}
 use Rattle.domain_nsec.proofs.chain.NsecChain.owner.Goals as goal
 
 pub returns-then-place-len-clause-none : goal.returns-then-place-len-clause-none
 returns-then-place-len-clause-none g c =
-    let labels = g.N.ToName.labels in
-    let counted = ap length (sym c.self.view_is) ∙ lent_counted (λ n. labels n.now) c.self.inside.soa
-    (labels c.self.inside.apex.now) c.self.inside.names.items c.self.inside.types c.self.invariant in
+    let counted = ap length (sym c.self.view_is) ∙ links_counted c.self.inside.soa (g.N.ToName.labels c.self.inside.apex.now)
+    c.self.inside.names.items c.self.inside.types c.self.invariant in
     omega (arith, counted, c.if-place-len.true, c.len.ensures)
 
 pub returns-clause-some : goal.returns-clause-some
 returns-clause-some g c d =
-    let labels = g.N.ToName.labels in
-    owner_lent (λ n. labels n.now) c.self.inside.soa (labels c.self.inside.apex.now) c.self.inside.names.items c.self.inside.types
+    owner_lent c.self.inside.soa (g.N.ToName.labels c.self.inside.apex.now) c.self.inside.names.items c.self.inside.types
     c.args.place d c.index.result.now c.self.invariant (omega arith) c.index.ensures
     ∙ ap (λ links. (get_or links c.args.place d).owner) c.self.view_is
