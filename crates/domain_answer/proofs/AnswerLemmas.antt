@@ -3,22 +3,25 @@ use Rattle.std.proofs.Common.{◌≡◌, ℕ, ◌<◌, Bool, true, false, cond, 
 use Rattle.std.proofs.Common.{refl, sym, ap, ◌∙◌, inl, inr, Option, Some, None, slice_get, arith}
 use Rattle.std.specs.Prelude.{◌==◌}
 use Rattle.std.specs.List.{find, list_any}
-use Rattle.std.proofs.lemmas.Bool.{cases_Bool, false≢true, and_parts, and_from, or_left, or_right, not-true}
+use Rattle.std.proofs.lemmas.Bool.{cases_Bool, false≢true, and_parts, and_from, not-true}
 use Rattle.domain_base.specs.Name.{is_at_or_below, is_strictly_below, same_name}
 use Rattle.domain_base.specs.Order.{before}
 use Rattle.domain_base.specs.Types.{cname, ds}
 use Rattle.domain_base.specs.Words.{Name}
-use Rattle.domain_zone.specs.Covering.{matches, covers, matches_or_covers}
+use Rattle.domain_bitmap.proofs.RangeLemmas.{and_false}
+use Rattle.domain_zone.specs.Covering.{matches, covers}
 use Rattle.domain_zone.specs.Enclosers.{IsClosestEncloser, longer, shared}
 use Rattle.domain_zone.specs.Zone.{ZoneRecord, is_occluded, is_unoccluded, is_zone_cut, owns, unoccluded_owners}
 use Rattle.domain_zone.proofs.NameLemmas.{below_parent, below_trans, one_lowered, same_itself}
+use Rattle.domain_zone.proofs.PairLemmas.{In}
+use Rattle.domain_zone.proofs.OwnerLemmas.{below_occluder}
 use Rattle.domain_nsec.specs.Chain.{Link}
 use Rattle.domain_checker.specs.Reading.{is_cover, is_match}
-use Rattle.domain_checker.specs.Verdict.{has_match_or_cover, is_inside}
-use Rattle.domain_checker.proofs.EncloserLemmas.{closest_is, cut_same, exists_same, top_occluder}
-use Rattle.domain_checker.proofs.FindLemmas.{In, Stands, any_none, find_none, find_some, in_any, in_at, stands_all}
-use Rattle.domain_checker.proofs.ListLemmas.{ChainLaws}
-use Rattle.domain_checker.proofs.VerdictLemmas.{BitmapsAreSets, IgnoresCase}
+use Rattle.domain_checker.specs.Verdict.{has_match_or_cover}
+use Rattle.domain_checker.proofs.EncloserLemmas.{closest_is, cut_same, exists_same, top_occluder, same_count, strictly_trans}
+use Rattle.domain_checker.proofs.FindLemmas.{Stands, stands_all}
+use Rattle.domain_checker.proofs.MeantLemmas.{BitmapsAreSets, ChainLaws, IgnoresCase, IsMeant, apex_exists, cover_of, match_of, silent}
+use Rattle.domain_checker.proofs.MeantLemmas.{covered_encloser, covered_under, covered_unowned, matched_high, matched_same}
 use Rattle.domain_answer.specs.declared.answer.Answer.{Answer}
 use Rattle.domain_answer.specs.declared.answer.Answer.TheVariants.{OutsideZone, AtParent, Referral, Redirected, Has, NoDs, Alias, NoData}
 use Rattle.domain_answer.specs.declared.answer.Answer.TheVariants.{Wildcard, WildcardAlias, WildcardNoData, NameError, NoCloserName, NotProven}
@@ -27,19 +30,10 @@ use Rattle.domain_answer.specs.Reading.{absent_answer, cover_answer, listed_answ
 use Rattle.domain_answer.specs.Reading.{tells_occluded, wildcard_answer, wildcard_both, wildcard_cover_answer, wildcard_match_answer}
 use Rattle.domain_answer.specs.ZoneAnswer.{asterisk, encloser, existing_answer, highest_occluder, inside_answer, is_at_parent}
 use Rattle.domain_answer.specs.ZoneAnswer.{missing_answer, name_exists, owns_type, wildcard_below, zone_answer}
-use Rattle.domain_answer.proofs.ChainLemmas.{IsMeant, meant_by, apex_exists, child_at, inside, no_cut, no_type}
-use Rattle.domain_answer.proofs.ChainLemmas.{matched_cut, matched_exists, matched_high, matched_same, matched_type}
-use Rattle.domain_answer.proofs.ChainLemmas.{covered_cut, covered_encloser, covered_exists, covered_occluded, covered_under, covered_unowned}
-use Rattle.domain_answer.proofs.CountLemmas.{closest_last, parent_below, same_count, strictly_from}
-use Rattle.domain_answer.proofs.OccluderLemmas.{below_occluder, highest_is, none_above}
-
-with_true : (p q : Bool) → q ≡ true → (p && q) ≡ p
-with_true true q e = e
-with_true false q e = refl
-
-and_false : (b : Bool) → (b && false) ≡ false
-and_false true = refl
-and_false false = refl
+use Rattle.domain_answer.proofs.ChainLemmas.{child_at, covered_cut, covered_exists, covered_told, matched_cut, matched_exists, matched_type}
+use Rattle.domain_answer.proofs.ChainLemmas.{meant_leaving, no_cut, no_type}
+use Rattle.domain_answer.proofs.CountLemmas.{closest_last, parent_below}
+use Rattle.domain_answer.proofs.OccluderLemmas.{highest_is, none_above}
 
 turned : (b : Bool) (u v : Answer) → cond b u v ≡ cond (not b) v u
 turned true u v = refl
@@ -51,37 +45,9 @@ existing_none L a assume x t e =
     λ j. cond (no_cut L a x e j && not (t == ds)) (Referral (length x)) (cond (no_type L a assume x t e j) Has
     (cond (no_cut L a x e j) NoDs (cond (no_type L a assume x cname e j) Alias NoData)))
 
-module _ (L : List ZoneRecord) (a : Name) (assume : Bool) (links : List Link) (meant : IsMeant L a assume links)
+module _ (L : List ZoneRecord) (a : Name) (assume : Bool) (links : List Link) (meant : IsMeant true L a assume links)
     (alike : IgnoresCase L a assume) (sets : BitmapsAreSets)
     (listed : List Link) (among : (k : Link) → In k listed → Stands links k) where
-  -- ---- what was found of a name
-
-  in_links : (k : Link) → In k listed → In k links
-  in_links k i = let s = among k i in in_at links s.place k s.there
-
-  heard : (y : Name) (k : Link) → In k listed → matches_or_covers before k.owner k.next y ≡ true → has_match_or_cover listed y ≡ true
-  heard y k i e = in_any (λ k. matches_or_covers before k.owner k.next y) listed k i e
-
-  match_of : (y : Name) (k : Link) → find (is_match a y) listed ≡ Some k → In k links × (matches before k.owner y ≡ true) × (has_match_or_cover listed y ≡ true)
-  match_of y k e =
-      let r = find_some (is_match a y) listed k e in
-      let m = (and_parts (matches before k.owner y) (is_inside a k) r.1).0 in
-      (in_links k r.0, m, heard y k r.0 (or_left (matches before k.owner y) (covers before k.owner k.next y) m))
-
-  cover_of : (y : Name) (k : Link) → find (is_cover a y) listed ≡ Some k
-      → Stands links k × (covers before k.owner k.next y ≡ true) × (has_match_or_cover listed y ≡ true)
-  cover_of y k e =
-      let r = find_some (is_cover a y) listed k e in
-      let c = (and_parts (covers before k.owner k.next y) (is_inside a k) r.1).0 in
-      (among k r.0, c, heard y k r.0 (or_right (matches before k.owner y) (covers before k.owner k.next y) c))
-
-  silent : (y : Name) → find (is_match a y) listed ≡ None → find (is_cover a y) listed ≡ None → has_match_or_cover listed y ≡ false
-  silent y e f =
-      any_none (λ k. matches_or_covers before k.owner k.next y) listed (λ k i.
-      let within = inside L a assume links meant k (in_links k i) in
-      (λ j. (sym (with_true (matches before k.owner y) (is_inside a k) within) ∙ find_none (is_match a y) listed e k i) j
-      || (sym (with_true (covers before k.owner k.next y) (is_inside a k) within) ∙ find_none (is_cover a y) listed f k i) j))
-
   module _ (x : Name) (low : is_at_or_below x a ≡ true) where
     abbrev owners : List Name
     owners = unoccluded_owners true L a
@@ -93,7 +59,7 @@ module _ (L : List ZoneRecord) (a : Name) (assume : Bool) (links : List Link) (m
     wildcard = wildcard_below above
 
     closest : IsClosestEncloser owners a x above
-    closest = closest_is owners a x (apex_exists L a assume links meant) low
+    closest = closest_is owners a x (apex_exists true L a assume links meant) low
 
     -- ---- a name that is not occluded and doesn't exist
 
@@ -115,8 +81,8 @@ module _ (L : List ZoneRecord) (a : Name) (assume : Bool) (links : List Link) (m
           elim (cases_Bool (is_occluded true L a wildcard)) [
             | inl e ↦
                 let top = top_occluder true L a wildcard e in
-                absurd (false≢true (sym high ∙ below_occluder L a top.0.name x top.0.over
-                (strictly_from x above top.0.name strict (parent_below asterisk above top.0.name top.0.under))))
+                absurd (false≢true (sym high ∙ below_occluder true L a top.0.name x top.0.over
+                (strictly_trans x above top.0.name strict (parent_below asterisk above top.0.name top.0.under))))
             | inr e ↦ e
           ]
 
@@ -131,12 +97,14 @@ module _ (L : List ZoneRecord) (a : Name) (assume : Bool) (links : List Link) (m
           by_cover : (o : Option Link) → find (is_match a wildcard) listed ≡ None → find (is_cover a wildcard) listed ≡ o
               → wildcard_both a (length above) wildcard t None o
               ≡ cond (not (has_match_or_cover listed wildcard)) (NoCloserName (length above)) (missing_answer L a assume above wildcard t)
-          by_cover None e f = sym (λ j. cond (not (silent wildcard e f j)) (NoCloserName (length above)) (missing_answer L a assume above wildcard t))
+          by_cover None e f =
+              sym (λ j. cond (not (silent true L a assume links meant listed among wildcard e f j)) (NoCloserName (length above))
+              (missing_answer L a assume above wildcard t))
           by_cover (Some k) e f =
-              let r = cover_of wildcard k f in
-              let free = covered_occluded L a assume links meant alike sets k r.0.place r.0.there wildcard wildcard_low r.1 ∙ wildcard_high in
-              let exists = covered_exists L a assume links meant alike sets k r.0.place r.0.there wildcard wildcard_low r.1 wildcard_high in
-              let unowned = covered_unowned L a assume links meant alike sets k r.0.place r.0.there wildcard wildcard_low r.1 wildcard_high in
+              let r = cover_of true L a assume links meant listed among wildcard k f in
+              let free = covered_told L a assume links meant alike sets k r.0.place r.0.there wildcard wildcard_low r.1 ∙ wildcard_high in
+              let exists = covered_exists L a assume links meant alike sets k r.0.place r.0.there wildcard wildcard_low r.1 in
+              let unowned = covered_unowned true L a assume links meant k r.0.place r.0.there wildcard wildcard_low r.1 wildcard_high in
               told (wildcard_cover_answer a (length above) k wildcard)
               ((λ j. cond (free j) (NoCloserName (length above)) (cond (sym exists j) (WildcardNoData (length above)) (NameError (length above))))
               ∙ turned (name_exists L a wildcard) (WildcardNoData (length above)) (NameError (length above))
@@ -150,7 +118,7 @@ module _ (L : List ZoneRecord) (a : Name) (assume : Bool) (links : List Link) (m
               ≡ cond (not (has_match_or_cover listed wildcard)) (NoCloserName (length above)) (missing_answer L a assume above wildcard t)
           by_match None e = by_cover (find (is_cover a wildcard) listed) e refl
           by_match (Some k) e =
-              let r = match_of wildcard k e in
+              let r = match_of true L a assume links meant listed among wildcard k e in
               let types = matched_type L a assume links meant alike sets k r.0 wildcard r.1 in
               let cut = matched_cut L a assume links meant alike sets k r.0 wildcard r.1 in
               let exists = matched_exists L a assume links meant alike sets k r.0 wildcard r.1 in
@@ -193,11 +161,11 @@ module _ (L : List ZoneRecord) (a : Name) (assume : Bool) (links : List Link) (m
 
       of_match : (k : Link) → In k links → matches before k.owner x ≡ true → match_answer a k t ≡ known
       of_match k i m =
-          let high = matched_high L a assume links meant alike sets k i x m in
+          let high = matched_high true L a assume links meant k i x m in
           let types = matched_type L a assume links meant alike sets k i x m in
           let cut = matched_cut L a assume links meant alike sets k i x m in
           let exists = matched_exists L a assume links meant alike sets k i x m in
-          let labels = same_count k.owner x (matched_same L a assume links meant alike sets k i x m) in
+          let labels = same_count k.owner x (matched_same true L a assume links meant k i x m) in
           let child = child_at L a assume links meant alike sets k i in
           as_zone (match_answer a k t)
           ((λ j. cond (child j) NotProven (cond (cut j && not (t == ds)) (Referral (labels j)) (cond (types t bound j) Has
@@ -207,14 +175,14 @@ module _ (L : List ZoneRecord) (a : Name) (assume : Bool) (links : List Link) (m
 
       module _ (k : Link) (place : ℕ) (stands : slice_get links place ≡ Some k) (c : covers before k.owner k.next x ≡ true) where
         told : tells_occluded a k x ≡ is_occluded true L a x
-        told = covered_occluded L a assume links meant alike sets k place stands x low c
+        told = covered_told L a assume links meant alike sets k place stands x low c
 
         of_occluded : is_occluded true L a x ≡ true → cover_answer a listed k x t ≡ known
         of_occluded e =
             let top = top_occluder true L a x e in
             let free = and_parts (is_at_or_below top.0.name a) (not (is_occluded true L a top.0.name)) top.1 in
             let highest = highest_is L a x top.0.name top.0.over (not-true (is_occluded true L a top.0.name) free.1) top.0.under in
-            let owner = covered_under L a assume links meant alike sets k place stands x low c top.0.name top.0.over top.1 top.0.under in
+            let owner = covered_under true L a assume links meant k place stands x low c top.0.name top.0.over top.1 top.0.under in
             let one = same_itself highest.0 k.owner (one_lowered highest.0 top.0.name highest.2 ∙ sym (one_lowered k.owner top.0.name owner)) in
             let labels = same_count highest.0 k.owner one in
             let cut = cut_same L a highest.0 k.owner one ∙ sym (covered_cut L a assume links meant alike sets k place stands x low c) in
@@ -228,13 +196,13 @@ module _ (L : List ZoneRecord) (a : Name) (assume : Bool) (links : List Link) (m
         tells_exists : is_occluded true L a x ≡ false → cover_answer a listed k x t ≡ cond (name_exists L a x) NoData
             (absent_answer a listed (length (longer (shared x k.owner) (shared x k.next))) x t)
         tells_exists high =
-            let exists = covered_exists L a assume links meant alike sets k place stands x low c high in
+            let exists = covered_exists L a assume links meant alike sets k place stands x low c in
             λ j. cond ((told ∙ high) j) (owner_answer a k) (cond (sym exists j) NoData
             (absent_answer a listed (length (longer (shared x k.owner) (shared x k.next))) x t))
 
         of_empty : is_occluded true L a x ≡ false → name_exists L a x ≡ true → cover_answer a listed k x t ≡ known
         of_empty high e =
-            let unowned = covered_unowned L a assume links meant alike sets k place stands x low c high in
+            let unowned = covered_unowned true L a assume links meant k place stands x low c high in
             as_zone (cover_answer a listed k x t)
             (tells_exists high ∙ (λ j. cond (e j) NoData (absent_answer a listed (length (longer (shared x k.owner) (shared x k.next))) x t))
             ∙ sym (zone_free high ∙ (λ j. cond (e j) (existing_answer L a assume x t) (missing_answer L a assume above wildcard t))
@@ -243,7 +211,7 @@ module _ (L : List ZoneRecord) (a : Name) (assume : Bool) (links : List Link) (m
 
         of_missing : is_occluded true L a x ≡ false → name_exists L a x ≡ false → cover_answer a listed k x t ≡ known
         of_missing high e =
-            let labels = covered_encloser L a assume links meant alike sets k place stands x low c in
+            let labels = covered_encloser true L a assume links meant k place stands x low c in
             tells_exists high
             ∙ (λ j. cond (e j) NoData (absent_answer a listed (labels j) x t))
             ∙ (λ j. wildcard_answer a listed (length above) (wildcard_below (closest_last owners a x j)) t)
@@ -267,16 +235,17 @@ module _ (L : List ZoneRecord) (a : Name) (assume : Bool) (links : List Link) (m
         where
           by_cover : (o : Option Link) → find (is_match a x) listed ≡ None → find (is_cover a x) listed ≡ o
               → listed_both a listed x t None o ≡ proved_answer L a assume listed x t
-          by_cover None e f = sym (λ j. cond (not (low j) || apart j) zone (cond (not (silent x e f j)) NotProven known))
+          by_cover None e f =
+              sym (λ j. cond (not (low j) || apart j) zone (cond (not (silent true L a assume links meant listed among x e f j)) NotProven known))
           by_cover (Some k) e f =
-              let r = cover_of x k f in
+              let r = cover_of true L a assume links meant listed among x k f in
               as_known (cover_answer a listed k x t) (of_cover k r.0.place r.0.there r.1) r.2
 
           by_match : (o : Option Link) → find (is_match a x) listed ≡ o
               → listed_both a listed x t o (find (is_cover a x) listed) ≡ proved_answer L a assume listed x t
           by_match None e = by_cover (find (is_cover a x) listed) e refl
           by_match (Some k) e =
-              let r = match_of x k e in
+              let r = match_of true L a assume links meant listed among x k e in
               as_known (match_answer a k t) (of_match k r.0 r.1) r.2
 
 -- what they answer is what they prove, of every name and type
@@ -300,5 +269,5 @@ reading_proved laws alike sets listed a x t b L config links leaves order chain 
     by false parent e f = sym (λ j. cond (not (e j) || is_at_parent a x t) (cond (not (e j)) OutsideZone (cond (is_at_parent a x t) AtParent inner)) others)
     by true true e f = sym (λ j. cond (not (e j) || f j) (cond (not (e j)) OutsideZone (cond (f j) AtParent inner)) others)
     by true false e f =
-        list_proved L a assume links (meant_by laws L a config links leaves order chain) (alike L a assume) sets listed
+        list_proved L a assume links (meant_leaving laws L a config links leaves order chain) (alike L a assume) sets listed
         (stands_all links listed among) x e t b f

@@ -1,49 +1,26 @@
 -- How many labels names have: the last ones, and those that names share.
 use Rattle.std.proofs.Common.{◌≡◌, ℕ, ◌≤◌, ◌<◌, ◌-◌, suc, Bool, true, false, cond, not, ◌&&◌, ◌||◌, List, [], ◌∷◌}
-use Rattle.std.proofs.Common.{map, drop, length, refl, sym, ap, ◌∙◌, subst, inl, inr, arith, ltb, Some, None}
-use Rattle.std.specs.Char.{to_ascii_lowercase}
+use Rattle.std.proofs.Common.{drop, length, refl, sym, ap, ◌∙◌, subst, inl, inr, arith, ltb, Some, None}
 use Rattle.std.proofs.lemmas.Bool.{cases_Bool, cases_lt, false≢true, and_parts, and_from}
-use Rattle.std.proofs.lemmas.List.{length-map}
 use Rattle.domain_base.specs.Name.{is_at_or_below, is_strictly_below, lowered, parent_of, same_name}
 use Rattle.domain_base.specs.Order.{before}
 use Rattle.domain_base.specs.Words.{Label, Name}
 use Rattle.domain_zone.specs.Covering.{covers, matches}
 use Rattle.domain_zone.specs.Enclosers.{exists_over, longer, shared}
-use Rattle.domain_zone.proofs.NameLemmas.{before_right, before_order, below_between, below_from, below_itself, below_length, below_longer, below_parent}
+use Rattle.domain_zone.proofs.NameLemmas.{before_right, before_order, below_between, below_from, below_itself, below_longer, below_parent}
 use Rattle.domain_zone.proofs.NameLemmas.{below_root, below_trans, lowered_below, one_lowered, same_lowered}
 use Rattle.domain_checker.specs.Verdict.{closest_encloser}
-use Rattle.domain_checker.proofs.EncloserLemmas.{strictly_longer}
+use Rattle.domain_checker.proofs.SharedLemmas.{shared_within}
+use Rattle.domain_checker.proofs.EncloserLemmas.{strictly_from, strictly_longer}
 use Rattle.domain_answer.specs.Proved.{last_labels}
 
 -- ---- names that are the same, and names below each other
 
-pub same_count : (x y : Name) → same_name x y ≡ true → length x ≡ length y
-same_count x y s = omega (arith, ap length (one_lowered x y s), length-map x (map to_ascii_lowercase), length-map y (map to_ascii_lowercase))
-
 pub strictly_same : (x m n : Name) → same_name m n ≡ true → is_strictly_below x m ≡ is_strictly_below x n
 strictly_same x m n s = ap (λ k. lowered_below (lowered x) k && not (same_lowered (lowered x) k)) (one_lowered m n s)
 
--- x is strictly below what a name that it is strictly below is at or below
-pub strictly_from : (x c n : Name) → is_strictly_below x c ≡ true → is_at_or_below c n ≡ true → is_strictly_below x n ≡ true
-strictly_from x c n s q =
-    let p = and_parts (is_at_or_below x c) (not (same_name x c)) s in
-    and_from (is_at_or_below x n) (not (same_name x n)) (below_trans x c n p.0 q)
-    (elim (cases_Bool (same_name x n)) [
-      | inl e ↦
-          let far = strictly_longer x c s in
-          let near = below_length c n q in
-          let same = same_count x n e in
-          absurd (omega arith)
-      | inr e ↦ ap not e
-    ])
-
 pub child_below : (l : Label) (x : Name) → is_strictly_below (l ∷ x) x ≡ true
-child_below l x =
-    and_from (is_at_or_below (l ∷ x) x) (not (same_name (l ∷ x) x)) (below_parent l x)
-    (elim (cases_Bool (same_name (l ∷ x) x)) [
-      | inl e ↦ let same = same_count (l ∷ x) x e in absurd (omega arith)
-      | inr e ↦ ap not e
-    ])
+child_below l x = strictly_from (l ∷ x) x (below_parent l x) (omega arith)
 
 -- what a name is strictly below, its parent is at or below
 pub parent_below : (l : Label) (x c : Name) → is_strictly_below (l ∷ x) c ≡ true → is_at_or_below x c ≡ true
@@ -112,12 +89,6 @@ closest_last names a (l ∷ x) =
     ]
 
 -- ---- names that share less than all labels
-
-shared_within : (x y : Name) → length (shared x y) ≤ length x
-shared_within [] y = omega arith
-shared_within (l ∷ x) y =
-    let up = shared_within x y in
-    elim (is_at_or_below y (l ∷ x)) as (λ b. length (cond b (l ∷ x) (shared x y)) ≤ length (l ∷ x)) [ true ↦ omega arith | false ↦ omega arith ]
 
 shared_less : (x y : Name) → is_at_or_below y x ≡ false → length (shared x y) < length x
 shared_less [] y e = absurd (false≢true (sym e ∙ below_root y))

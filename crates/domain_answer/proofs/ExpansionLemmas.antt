@@ -13,6 +13,8 @@ use Rattle.domain_chain_rdata.specs.OptOut.{is_opt_out}
 use Rattle.domain_zone.specs.Enclosers.{IsClosestEncloser, exists_over}
 use Rattle.domain_zone.specs.Zone.{ZoneRecord}
 use Rattle.domain_zone.proofs.NameLemmas.{below_itself, below_longer, below_parent, below_trans}
+use Rattle.domain_zone.proofs.PairLemmas.{In, all_in}
+use Rattle.domain_zone.proofs.OwnerLemmas.{any_in, in_any}
 use Rattle.domain_nsec3.specs.Chain.{HashedLink, IsHashedChain}
 use Rattle.domain_nsec3.specs.Config.{ChainConfig, Hash, Parameters}
 use Rattle.domain_nsec3.specs.Meaning.{IsAlone}
@@ -21,7 +23,7 @@ use Rattle.domain_checker.specs.HashedEncloser.{IsDenial, IsOfName}
 use Rattle.domain_checker.specs.HashedList.{is_hash_cover, is_hash_match}
 use Rattle.domain_checker.specs.HashedVerdict.{is_covered, is_ok_with}
 use Rattle.domain_checker.proofs.EncloserLemmas.{closest_is}
-use Rattle.domain_checker.proofs.FindLemmas.{In, all_in, any_in, any_none, find_none, find_some, in_any}
+use Rattle.domain_checker.proofs.FindLemmas.{any_none, find_none, find_some}
 use Rattle.domain_answer.specs.declared.answer.Answer.{Answer}
 use Rattle.domain_answer.specs.declared.answer.Answer.TheVariants.{MayBeUnsigned, NoCloserName, NotProven}
 use Rattle.domain_answer.specs.Expansion.{ExpansionRestsOn, IsExpansionAnswered, IsExpansionRead, closer_name, closer_told, is_expanded, proved_expansion}
@@ -29,11 +31,8 @@ use Rattle.domain_answer.specs.HashedReading.{next_answer}
 use Rattle.domain_answer.specs.HashedZoneAnswer.{hashed_encloser, hashed_exists}
 use Rattle.domain_answer.specs.Proved.{CountsWithin, last_labels}
 use Rattle.domain_answer.specs.ZoneAnswer.{asterisk, wildcard_below}
+use Rattle.domain_answer.proofs.DefiniteLemmas.{either}
 use Rattle.domain_answer.proofs.CountLemmas.{closest_last, last_above, last_count}
-
-either : (b : Bool) (v : Answer) → cond b v v ≡ v
-either true v = refl
-either false v = refl
 
 chosen : (P : Answer → Type 0) (b : Bool) (v w : Answer) → P v → P w → P (cond b v w)
 chosen P true v w h k = h

@@ -13,32 +13,36 @@ use Rattle.domain_bitmap.specs.Blocks.{contains_type}
 use Rattle.domain_chain_rdata.specs.OptOut.{is_opt_out}
 use Rattle.domain_zone.specs.Enclosers.{exists_over, IsClosestEncloser}
 use Rattle.domain_zone.specs.Zone.{ZoneRecord, has_type, is_occluded, is_zone_cut, may_list, owns, records_of, unoccluded_owners}
-use Rattle.domain_zone.proofs.NameLemmas.{one_lowered, same_itself, same_lowered, lowered_below, below_itself, below_trans, below_longer, below_length, below_parent}
-use Rattle.domain_nsec3.specs.Chain.{HashedLink, IsHashedChain}
+use Rattle.domain_zone.proofs.NameLemmas.{one_lowered, same_lowered, below_itself, below_trans, below_longer, below_length, below_parent}
+use Rattle.domain_zone.proofs.PairLemmas.{In, all_in}
+use Rattle.domain_zone.proofs.OwnerLemmas.{any_in, in_any, below_occluder}
+use Rattle.domain_zone.proofs.ZoneLemmas.{same_back}
+use Rattle.domain_nsec3.specs.Chain.{HashedLink}
 use Rattle.domain_nsec3.specs.Config.{ChainConfig, Hash, Parameters, hash_name}
-use Rattle.domain_nsec3.specs.Meaning.{CutsEnclose, IsAlone}
-use Rattle.domain_nsec3.specs.Owners.{is_chain_name, is_excluded, is_original_owner, nsec3_lists, original_owners}
+use Rattle.domain_nsec3.specs.Meaning.{IsAlone}
+use Rattle.domain_nsec3.specs.Owners.{is_excluded, is_original_owner, nsec3_lists, original_owners}
 use Rattle.domain_checker.specs.HashedEncloser.{Encloser, IsDenial, IsEncloser, IsFoundEncloser, IsOfName, encloser_is_cut, next_cover}
 use Rattle.domain_checker.specs.HashedList.{is_hash_cover, is_hash_match}
 use Rattle.domain_checker.specs.HashedReading.{IsNextHash}
 use Rattle.domain_checker.specs.HashedVerdict.{is_below_chain_cut, is_covered, is_matched, is_ok_with, next_closer}
-use Rattle.domain_checker.proofs.EncloserLemmas.{closest_is, cut_same, exists_same, owner_unoccluded, same_length, strictly_longer}
-use Rattle.domain_checker.proofs.FindLemmas.{In, all_in, any_in, any_none, in_any, in_filter, find_some, find_none}
+use Rattle.domain_checker.proofs.CutLemmas.{below_cut, cut_above, cut_apart, not_below}
+use Rattle.domain_checker.proofs.EncloserLemmas.{apex_from, closest_is, cut_same, exists_same, owner_unoccluded, same_length, same_count, strictly_longer, strictly_from}
+use Rattle.domain_checker.proofs.FindLemmas.{any_none, in_filter, find_some, find_none}
 use Rattle.domain_checker.proofs.HashedEncloserLemmas.{cut_counted, itself_counted}
+use Rattle.domain_checker.proofs.HashedWalkLemmas.{closer_is}
 use Rattle.domain_checker.proofs.HashedListLemmas.{hash_same}
-use Rattle.domain_checker.proofs.HashedWalkLemmas.{below_strictly, closer_is, same_back}
 use Rattle.domain_answer.specs.declared.answer.Answer.{Answer}
 use Rattle.domain_answer.specs.declared.answer.Answer.TheVariants.{OutsideZone, AtParent, Referral, Redirected, Has, NoDs, Alias, NoData}
 use Rattle.domain_answer.specs.declared.answer.Answer.TheVariants.{Wildcard, WildcardAlias, WildcardNoData, NameError, MayBeUnsigned, NoCloserName, NotProven}
+use Rattle.domain_answer.specs.HashedMeaning.{ChainMeans, ChainsAreMeant}
 use Rattle.domain_answer.specs.HashedProved.{AreAskedAlone, IsHashedAnswered, hashed_proved_answer, needs_wildcard, tells_encloser, tells_wildcard}
 use Rattle.domain_answer.specs.HashedReading.{IsHashedRead, IsReadOn, IsWildcardRead, encloser_answer, encloser_is_of_child, found_answer}
 use Rattle.domain_answer.specs.HashedReading.{lower_answer, next_answer, own_answer, wildcard_told}
-use Rattle.domain_answer.specs.HashedZoneAnswer.{HashedLeavesOutBelowDname, hashed_encloser, hashed_existing_answer, hashed_exists, hashed_inside_answer}
+use Rattle.domain_answer.specs.HashedZoneAnswer.{hashed_encloser, hashed_existing_answer, hashed_exists, hashed_inside_answer}
 use Rattle.domain_answer.specs.HashedZoneAnswer.{hashed_missing_answer, hashed_wildcard_answer, hashed_zone_answer}
 use Rattle.domain_answer.specs.Proved.{last_labels}
 use Rattle.domain_answer.specs.ZoneAnswer.{asterisk, is_at_parent, wildcard_below}
-use Rattle.domain_answer.proofs.CountLemmas.{closest_last, same_count}
-use Rattle.domain_answer.proofs.OccluderLemmas.{below_occluder}
+use Rattle.domain_answer.proofs.CountLemmas.{closest_last}
 
 -- ---- where the wildcard is not asked for
 
@@ -59,21 +63,6 @@ pub own_never : (a : Name) (e : Encloser) (t n : ℕ) → own_answer a e t ≡ N
 own_never a e t n h =
     own_apart (encloser_is_of_child a e) (encloser_is_cut a e && not (nat_eq t ds)) (contains_type e.link.bits t) (encloser_is_cut a e)
     (contains_type e.link.bits cname) e.count n h
-
--- ---- what a chain is known to say
-
--- what the laws say of one chain that leaves out what stands below a DNAME
-pub record ChainMeans (L : List ZoneRecord) (a : Name) (config : ChainConfig) (links : List HashedLink) : Type 0 where
-  pub matches : (x : Name) (v : Octets) → is_at_or_below x a ≡ true → IsAlone L a config x v → (k : HashedLink) → Contains links k
-      → is_hash_match a config.parameters v k ≡ true → IsOfName L a config x k
-  pub covers : (x : Name) (v : Octets) → is_at_or_below x a ≡ true → IsAlone L a config x v → (k : HashedLink) → Contains links k
-      → is_hash_cover a config.parameters v k ≡ true → IsDenial L a config x k
-  pub encloser : (x : Name) → is_at_or_below x a ≡ true → (e : Name) × IsClosestEncloser (original_owners L a config) a x e
-  pub cuts : CutsEnclose L a config
-  pub exist : (x : Name) → is_at_or_below x a ≡ true → exists_over (original_owners L a config) a x ≡ is_chain_name L a config x
-  pub left_out : (c : Name) → is_zone_cut L a c ≡ true → is_original_owner L a config c ≡ false → is_chain_name L a config c ≡ false
-  pub alike : (x y : Name) → same_name x y ≡ true → (t : ℕ) → nsec3_lists L a config x t ≡ nsec3_lists L a config y t
-  pub leaves : HashedLeavesOutBelowDname L a config
 
 -- ---- names below an owner of a DNAME
 
@@ -104,7 +93,7 @@ below_both o y d p s =
     let q = (and_parts (is_at_or_below y d) (not (same_name y d)) s).0 in
     let far = strictly_longer y d s in
     let near = below_length o y p in
-    below_strictly o d (below_trans o y d p q) (omega arith)
+    strictly_from o d (below_trans o y d p q) (omega arith)
 
 module _ (L : List ZoneRecord) (a : Name) (config : ChainConfig) (links : List HashedLink) (means : ChainMeans L a config links) where
   abbrev owners : List Name
@@ -123,15 +112,7 @@ module _ (L : List ZoneRecord) (a : Name) (config : ChainConfig) (links : List H
       let o = any_in (λ n. is_at_or_below n y) owners (and_parts (is_at_or_below y a) (list_any (λ n. is_at_or_below n y) owners) there).1 in
       let over = or_right (is_zone_cut L a d) (is_at_or_below d a && has_type (records_of L d) dname)
       (and_from (is_at_or_below d a) (has_type (records_of L d) dname) low (dname_owned L a config d h)) in
-      false≢true (sym (owner_high o.0 o.1) ∙ below_occluder L a d o.0 over (below_both o.0 y d o.2 s))
-
-  -- nor below a zone cut of the chain
-  none_below_cut : (c y : Name) → is_zone_cut L a c ≡ true → is_original_owner L a config c ≡ true
-      → exists_over (original_owners L a config) a y ≡ true → is_strictly_below y c ≡ true → ⊥
-  none_below_cut c y cut original there s =
-      let l = (means.cuts.each c y cut original s).longest y there (below_itself y) in
-      let m = strictly_longer y c s in
-      omega arith
+      false≢true (sym (owner_high o.0 o.1) ∙ below_occluder true L a d o.0 over (below_both o.0 y d o.2 s))
 
   -- a zone cut that exists is one of the chain
   pub cut_original : (d : Name) → is_at_or_below d a ≡ true → exists_over (original_owners L a config) a d ≡ true → is_zone_cut L a d ≡ true
@@ -142,48 +123,11 @@ module _ (L : List ZoneRecord) (a : Name) (config : ChainConfig) (links : List H
         | inr h ↦ absurd (false≢true (sym (means.left_out d c h) ∙ sym (means.exist d low) ∙ there))
       ]
 
-  pub below_cut : (c y : Name) → is_zone_cut L a c ≡ true → is_original_owner L a config c ≡ true → is_strictly_below y c ≡ true
-      → is_below_chain_cut L a config y ≡ true
-  below_cut c y cut original s =
-      let m = any_in (λ n. same_name n c) owners original in
-      let at : Name → Bool = λ k. lowered_below (lowered y) k && not (same_lowered (lowered y) k) in
-      in_any (λ n. is_zone_cut L a n && is_strictly_below y n) owners m.0 m.1
-      (and_from (is_zone_cut L a m.0) (is_strictly_below y m.0) (cut_same L a m.0 c m.2 ∙ cut) (ap at (one_lowered m.0 c m.2) ∙ s))
-
-  -- a zone cut of the chain that y is strictly below
-  record CutAbove (y : Name) : Type 0 where
-    cut : Name
-    is_cut : is_zone_cut L a cut ≡ true
-    original : is_original_owner L a config cut ≡ true
-    under : is_strictly_below y cut ≡ true
-
-  cut_above : (y : Name) → is_below_chain_cut L a config y ≡ true → CutAbove y
-  cut_above y h =
-      let m = any_in (λ n. is_zone_cut L a n && is_strictly_below y n) owners h in
-      let p = and_parts (is_zone_cut L a m.0) (is_strictly_below y m.0) m.2 in
-      record { cut = m.0; is_cut = p.0; original = in_any (λ n. same_name n m.0) owners m.0 m.1 (same_itself m.0 m.0 refl); under = p.1 }
-
-  -- what exists is not below one
-  high : (y : Name) → exists_over (original_owners L a config) a y ≡ true → is_below_chain_cut L a config y ≡ false
-  high y there =
-      elim (cases_Bool (is_below_chain_cut L a config y)) [
-        | inl f ↦ let c = cut_above y f in absurd (none_below_cut c.cut y c.is_cut c.original there c.under)
-        | inr f ↦ f
-      ]
-
   -- ---- the closest encloser of a name x
 
   module _ (x : Name) (low : is_at_or_below x a ≡ true) where
-    pub apex_exists : exists_over (original_owners L a config) a a ≡ true
-    apex_exists =
-        let e = means.encloser x low in
-        let p = and_parts (is_at_or_below e.0 a) (list_any (λ n. is_at_or_below n e.0) owners) e.1.found in
-        let m = any_in (λ n. is_at_or_below n e.0) owners p.1 in
-        and_from (is_at_or_below a a) (list_any (λ n. is_at_or_below n a) owners) (below_itself a)
-        (in_any (λ n. is_at_or_below n a) owners m.0 m.1 (below_trans m.0 e.0 a m.2 p.0))
-
     pub encloser_is : IsClosestEncloser (original_owners L a config) a x (hashed_encloser L a config x)
-    encloser_is = closest_is owners a x apex_exists low
+    encloser_is = let e = means.encloser x low in closest_is owners a x (apex_from owners a e.0 e.1.found) low
 
     pub encloser_low : is_at_or_below (hashed_encloser L a config x) a ≡ true
     encloser_low =
@@ -289,7 +233,7 @@ module _ (L : List ZoneRecord) (a : Name) (config : ChainConfig) (links : List H
         level : ((is_strictly_below (hashed_encloser L a config x) is.name ≡ true) → ⊥) → same_name (hashed_encloser L a config x) is.name ≡ true
         level f =
             elim (cases_lt (length d) (length en)) [
-              | inl h ↦ absurd (f (below_strictly en d down h))
+              | inl h ↦ absurd (f (strictly_from en d down h))
               | inr h ↦ same_length en d down h
             ]
 
@@ -337,7 +281,7 @@ module _ (L : List ZoneRecord) (a : Name) (config : ChainConfig) (links : List H
             ∙ (λ j. cond (at_cut j && types soa (omega arith) j) NotProven (cond (at_cut j && not (nat_eq t ds)) (Referral (counts j))
             (cond (types t bound j) Has (cond (at_cut j) NoDs (cond (types cname (omega arith) j) Alias NoData)))))
             ∙ (λ j. cond (soa_unlisted L a config x j) NotProven (hashed_existing_answer L a config x t))
-            ∙ sym (λ j. cond (high x there j) (Referral (length en)) (cond (there j) (hashed_existing_answer L a config x t)
+            ∙ sym (λ j. cond (not_below L a config means.cuts x there j) (Referral (length en)) (cond (there j) (hashed_existing_answer L a config x t)
             (hashed_missing_answer L a config en t))))
           where
             own : encloser_answer a e (length x) t ≡ own_answer a e t
@@ -370,8 +314,8 @@ module _ (L : List ZoneRecord) (a : Name) (config : ChainConfig) (links : List H
           at_cut : is_zone_cut L a is.name ≡ true → answer ≡ hashed_proved_answer L a config listed x t
           at_cut c =
               let original = cut_original d is.first.within of_d.exists c in
-              let same = level (λ h. none_below_cut d en c original closest.found h) in
-              let under = below_cut d x c original (below_strictly x d is.first.above long) in
+              let same = level (λ h. cut_apart L a config means.cuts d en c original closest.found h) in
+              let under = below_cut L a config d x c original (strictly_from x d is.first.above long) in
               let told = read (Referral e.count) (λ j. cond ((cut ∙ c) j) (Referral e.count)
               (cond (contains_type e.link.bits dname) (Redirected e.count) (next_answer e.count e.cover))) in
               as_zone answer (tells same ∙ (λ j. ((s j || c j) || nsec3_lists L a config d dname) || covered (next_closer x d)))
@@ -402,7 +346,7 @@ module _ (L : List ZoneRecord) (a : Name) (config : ChainConfig) (links : List H
               uncut =
                   elim (cases_Bool (is_below_chain_cut L a config x)) [
                     | inl f ↦
-                        let r = cut_above x f in
+                        let r = cut_above L a config x f in
                         let above = (and_parts (is_at_or_below x r.cut) (not (same_name x r.cut)) r.under).0 in
                         let top = means.cuts.each r.cut x r.is_cut r.original r.under in
                         let l = closest.longest r.cut top.found above in
@@ -439,7 +383,7 @@ module _ (L : List ZoneRecord) (a : Name) (config : ChainConfig) (links : List H
               at_gap f none =
                   let told : answer ≡ NotProven = read NotProven (passed None f) in
                   told ∙ elim (cases_lt (length d) (length en)) [
-                    | inl g ↦ unmatched (is.first.first en closest.above (below_strictly en d down g)).2
+                    | inl g ↦ unmatched (is.first.first en closest.above (strictly_from en d down g)).2
                     | inr g ↦
                         let nothing = any_none (is_hash_cover a config.parameters v) listed (find_none (is_hash_cover a config.parameters v) listed none) in
                         untold (tells (same_length en d down g) ∙ (λ j. ((s j || c j) || h j) || (covered_is ∙ nothing) j))
@@ -620,13 +564,8 @@ module _ (L : List ZoneRecord) (a : Name) (config : ChainConfig) (links : List H
       found_proved None is answer ends = ends ∙ unmatched (is en closest.above en_low).2
       found_proved (Some e) is answer ends = encloser_proved e is answer ends
 
--- what the laws say of every chain
-abbrev pub KnowsMeaning : Type 0
-KnowsMeaning = (L : List ZoneRecord) (a : Name) (config : ChainConfig) (links : List HashedLink) → HashedLeavesOutBelowDname L a config
-    → IsHashedChain L a config links → ChainMeans L a config links
-
 -- for records of the chain of any zone
-pub read_proved : KnowsMeaning → (listed : List HashedLink) (a : Name) (p : Parameters) (hash : Hash) (x : Name) (t : ℕ) (answer : Answer)
+pub read_proved : ChainsAreMeant → (listed : List HashedLink) (a : Name) (p : Parameters) (hash : Hash) (x : Name) (t : ℕ) (answer : Answer)
     → t < 65536 → is_at_or_below x a ≡ true → is_at_parent a x t ≡ false → IsHashedRead listed a p hash x t answer
     → IsHashedAnswered listed a p hash x t answer
 read_proved knows listed a p hash x t answer b low apart read = λ L config links same_hash same_parameters leaves chain asked among.

@@ -10,6 +10,8 @@ use Rattle.domain_base.specs.Words.{Name}
 use Rattle.domain_bitmap.specs.Blocks.{contains_type}
 use Rattle.domain_chain_rdata.specs.OptOut.{is_opt_out}
 use Rattle.domain_zone.proofs.NameLemmas.{below_length}
+use Rattle.domain_zone.proofs.OwnerLemmas.{in_any}
+use Rattle.domain_zone.proofs.ZoneLemmas.{same_back}
 use Rattle.domain_nsec3.specs.Chain.{HashedLink}
 use Rattle.domain_nsec3.specs.Config.{Hash, Parameters}
 use Rattle.domain_checker.specs.HashedEncloser.{Encloser, IsEncloser, IsFoundEncloser, encloser_is_cut, next_cover}
@@ -17,9 +19,9 @@ use Rattle.domain_checker.specs.HashedList.{is_hash_cover, is_hash_match}
 use Rattle.domain_checker.specs.HashedReading.{IsNextHash}
 use Rattle.domain_checker.specs.HashedVerdict.{is_covered, is_matched, is_ok_with, next_closer}
 use Rattle.domain_checker.proofs.EncloserLemmas.{same_length}
-use Rattle.domain_checker.proofs.FindLemmas.{find_some, in_any}
+use Rattle.domain_checker.proofs.FindLemmas.{find_some}
 use Rattle.domain_checker.proofs.HashedEncloserLemmas.{itself_counted}
-use Rattle.domain_checker.proofs.HashedWalkLemmas.{matched_same, same_back}
+use Rattle.domain_checker.proofs.HashedWalkLemmas.{matched_same}
 use Rattle.domain_answer.specs.declared.answer.Answer.{Answer}
 use Rattle.domain_answer.specs.declared.answer.Answer.TheVariants.{Referral, Redirected, Has, NoDs, Alias, NoData}
 use Rattle.domain_answer.specs.declared.answer.Answer.TheVariants.{Wildcard, WildcardAlias, WildcardNoData, NameError, MayBeUnsigned, NoCloserName, NotProven}

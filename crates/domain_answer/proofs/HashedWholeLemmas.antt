@@ -2,7 +2,7 @@
 use Rattle.std.proofs.Common.{◌≡◌, ◌≢◌, ℕ, ◌+◌, ◌-◌, Bool, true, false, cond, not, ◌&&◌, ◌||◌, List, [], ◌∷◌, drop, length}
 use Rattle.std.proofs.Common.{refl, sym, ap, ◌∙◌, inl, inr, arith}
 use Rattle.std.specs.Prelude.{◌==◌}
-use Rattle.std.proofs.lemmas.Bool.{cases_Bool, true≢false, false≢true, and_parts, and_from, not-true, or_left, or_right}
+use Rattle.std.proofs.lemmas.Bool.{cases_Bool, false≢true, and_parts, and_from, not-true, or_left, or_right}
 use Rattle.domain_octets.specs.Words.{Octets}
 use Rattle.domain_base.specs.Name.{is_at_or_below, is_strictly_below, same_name}
 use Rattle.domain_base.specs.Types.{cname, dname, ds}
@@ -16,23 +16,27 @@ use Rattle.domain_nsec3.specs.Chain.{HashedLink, IsHashedChain}
 use Rattle.domain_nsec3.specs.Config.{ChainConfig}
 use Rattle.domain_nsec3.specs.Meaning.{AreAlone, IsAlone, octets_before}
 use Rattle.domain_nsec3.specs.Owners.{nsec3_lists, original_owners}
+use Rattle.domain_checker.specs.HashedFacts.{ChainFacts}
 use Rattle.domain_checker.specs.HashedVerdict.{hashed_proved_verdict, hashed_zone_verdict, is_below_chain_cut, is_covered, is_matched, next_closer, proves}
 use Rattle.domain_checker.specs.Verdict.{closest_encloser}
 use Rattle.domain_checker.specs.declared.verdict.Verdict.TheVariants as verdict
-use Rattle.domain_checker.proofs.EncloserLemmas.{exists_same}
+use Rattle.domain_checker.proofs.CutLemmas.{below_cut}
+use Rattle.domain_checker.proofs.EncloserLemmas.{exists_same, same_count}
 use Rattle.domain_checker.proofs.FindLemmas.{in_at}
-use Rattle.domain_checker.proofs.HashedListLemmas.{ChainFacts, covered_in, hash_same, told_at}
+use Rattle.domain_checker.proofs.HashedListLemmas.{covered_in, told_at, hash_same}
 use Rattle.domain_answer.specs.declared.answer.Answer.{Answer}
-use Rattle.domain_answer.specs.declared.answer.Answer.TheVariants.{OutsideZone, AtParent, Referral, Redirected, Has, NoDs, Alias, NoData}
-use Rattle.domain_answer.specs.declared.answer.Answer.TheVariants.{Wildcard, WildcardAlias, WildcardNoData, NameError, MayBeUnsigned, NoCloserName, TooManyIterations, NotProven}
+use Rattle.domain_answer.specs.declared.answer.Answer.TheVariants.{OutsideZone, AtParent, Referral, Redirected}
+use Rattle.domain_answer.specs.declared.answer.Answer.TheVariants.{MayBeUnsigned, NoCloserName, TooManyIterations, NotProven}
 use Rattle.domain_answer.specs.Expansion.{closer_name, is_expanded, missing_closer, proved_expansion}
+use Rattle.domain_answer.specs.HashedMeaning.{ChainMeans, ChainsAreMeant}
 use Rattle.domain_answer.specs.HashedProved.{AreAskedAlone, hashed_proved_answer, needs_wildcard, tells_encloser, tells_wildcard}
 use Rattle.domain_answer.specs.HashedZoneAnswer.{HashedLeavesOutBelowDname, hashed_encloser, hashed_existing_answer, hashed_exists, hashed_inside_answer}
 use Rattle.domain_answer.specs.HashedZoneAnswer.{hashed_missing_answer, hashed_wildcard_answer, hashed_zone_answer}
 use Rattle.domain_answer.specs.ZoneAnswer.{asterisk, is_at_parent, wildcard_below}
-use Rattle.domain_answer.proofs.CountLemmas.{parent_below, same_count}
+use Rattle.domain_answer.proofs.CountLemmas.{parent_below}
+use Rattle.domain_answer.proofs.DefiniteLemmas.{choose, either, existing_says, is_of_zone, of_zone_knows, of_zone_limits, of_zone_proves, wildcard_says}
 use Rattle.domain_answer.proofs.ExpansionLemmas.{closer_low}
-use Rattle.domain_answer.proofs.HashedAnswerLemmas.{ChainMeans, KnowsMeaning, below_cut, cut_original, encloser_is, encloser_low}
+use Rattle.domain_answer.proofs.HashedAnswerLemmas.{cut_original, encloser_is, encloser_low}
 
 -- what the law of the checker says of whole chains
 pub record ProvesVerdicts : Type 0 where
@@ -54,14 +58,6 @@ closest_again names a (l ∷ x) =
 -- the next closer name of a child is the child
 next_child : (l : Label) (e : Name) → next_closer (l ∷ e) e ≡ l ∷ e
 next_child l e = let none : length (l ∷ e) - (length e + 1) ≡ 0 = omega arith in ap (λ m. drop m (l ∷ e)) none
-
-either : (b : Bool) (v : Answer) → cond b v v ≡ v
-either true v = refl
-either false v = refl
-
-and_false : (b : Bool) → (b && false) ≡ false
-and_false true = refl
-and_false false = refl
 
 -- of a proof that has a record of m, one of m is left, and what closes it
 closed : (m s c d v : Bool) → (m && ((s || c) || v)) ≡ true → (m && (((s || c) || d) || v)) ≡ true
@@ -124,7 +120,7 @@ module _ (verdicts : ProvesVerdicts) (L : List ZoneRecord) (a : Name) (config : 
           elim (cases_Bool (is_zone_cut L a en)) [
             | inl c ↦
                 let original = cut_original L a config links means en en_low encloser.found c in
-                absurd (false≢true (sym uncut ∙ below_cut L a config links means en x c original x_under))
+                absurd (false≢true (sym uncut ∙ below_cut L a config en x c original x_under))
             | inr c ↦ c
           ]
 
@@ -187,7 +183,7 @@ module _ (verdicts : ProvesVerdicts) (L : List ZoneRecord) (a : Name) (config : 
           | inr n ↦ λ i. n i && not (tells_wildcard L a config links x)
         ]
 
-pub whole_proves : ProvesVerdicts → KnowsMeaning → (L : List ZoneRecord) (a : Name) (config : ChainConfig) (links : List HashedLink)
+pub whole_proves : ProvesVerdicts → ChainsAreMeant → (L : List ZoneRecord) (a : Name) (config : ChainConfig) (links : List HashedLink)
     (x : Name) (t : ℕ) → HashedLeavesOutBelowDname L a config → IsHashedChain L a config links → AreAskedAlone L a config x
     → hashed_proved_answer L a config links x t ≡ hashed_zone_answer L a config x t
 whole_proves verdicts knows L a config links x t leaves chain asked =
@@ -236,53 +232,15 @@ whole_closer L a config links facts x n v e alone gone =
 
 -- ---- a zone says something of each name
 
-is_of_zone : Answer → Bool
-is_of_zone OutsideZone = true
-is_of_zone AtParent = true
-is_of_zone (Referral n) = true
-is_of_zone (Redirected n) = true
-is_of_zone Has = true
-is_of_zone NoDs = true
-is_of_zone Alias = true
-is_of_zone NoData = true
-is_of_zone (Wildcard n) = true
-is_of_zone (WildcardAlias n) = true
-is_of_zone (WildcardNoData n) = true
-is_of_zone (NameError n) = true
-is_of_zone (MayBeUnsigned n) = true
-is_of_zone (NoCloserName n) = false
-is_of_zone TooManyIterations = false
-is_of_zone NotProven = false
-
-choose : (b : Bool) (v w : Answer) → is_of_zone v ≡ true → is_of_zone w ≡ true → is_of_zone (cond b v w) ≡ true
-choose true v w e f = e
-choose false v w e f = f
-
 module _ (L : List ZoneRecord) (a : Name) (config : ChainConfig) (x : Name) (t : ℕ) where
-  existing_says : is_of_zone (hashed_existing_answer L a config x t) ≡ true
-  unfolding is_of_zone
-  existing_says =
-      let last = cond (nsec3_lists L a config x cname) Alias NoData in
-      let later = cond (is_zone_cut L a x) NoDs last in
-      choose (is_zone_cut L a x && not (t == ds)) (Referral (length x)) (cond (nsec3_lists L a config x t) Has later) refl
-      (choose (nsec3_lists L a config x t) Has later refl
-      (choose (is_zone_cut L a x) NoDs last refl
-      (choose (nsec3_lists L a config x cname) Alias NoData refl refl)))
-
-  wildcard_says : (n : ℕ) (w : Name) → is_of_zone (hashed_wildcard_answer L a config n w t) ≡ true
-  unfolding is_of_zone
-  wildcard_says n w =
-      let last = cond (nsec3_lists L a config w cname) (WildcardAlias n) (WildcardNoData n) in
-      choose (not (hashed_exists L a config w)) (NameError n) (cond (nsec3_lists L a config w t || is_zone_cut L a w) (Wildcard n) last) refl
-      (choose (nsec3_lists L a config w t || is_zone_cut L a w) (Wildcard n) last refl
-      (choose (nsec3_lists L a config w cname) (WildcardAlias n) (WildcardNoData n) refl refl))
-
   missing_says : (e : Name) → is_of_zone (hashed_missing_answer L a config e t) ≡ true
   unfolding is_of_zone
   missing_says e =
-      let last = hashed_wildcard_answer L a config (length e) (wildcard_below e) t in
+      let w = wildcard_below e in
+      let last = hashed_wildcard_answer L a config (length e) w t in
       choose (nsec3_lists L a config e dname) (Redirected (length e)) (cond (is_opt_out config.flags) (MayBeUnsigned (length e)) last) refl
-      (choose (is_opt_out config.flags) (MayBeUnsigned (length e)) last refl (wildcard_says (length e) (wildcard_below e)))
+      (choose (is_opt_out config.flags) (MayBeUnsigned (length e)) last refl
+      (wildcard_says (length e) (not (hashed_exists L a config w)) (nsec3_lists L a config w t || is_zone_cut L a w) (nsec3_lists L a config w cname)))
 
   zone_says : is_of_zone (hashed_zone_answer L a config x t) ≡ true
   unfolding is_of_zone
@@ -294,16 +252,14 @@ module _ (L : List ZoneRecord) (a : Name) (config : ChainConfig) (x : Name) (t :
       (choose (is_at_parent a x t) AtParent inside refl
       (choose (is_below_chain_cut L a config x) (Referral (length e)) found refl
       (choose (hashed_exists L a config x) (hashed_existing_answer L a config x t) (hashed_missing_answer L a config e t)
-      existing_says (missing_says e))))
+      (existing_says (length x) (is_zone_cut L a x && not (t == ds)) (nsec3_lists L a config x t) (is_zone_cut L a x) (nsec3_lists L a config x cname))
+      (missing_says e))))
 
   pub zone_proves : hashed_zone_answer L a config x t ≢ NotProven
-  unfolding is_of_zone
-  zone_proves e = true≢false (sym zone_says ∙ ap is_of_zone e)
+  zone_proves = of_zone_proves (hashed_zone_answer L a config x t) zone_says
 
   pub zone_knows : (n : ℕ) → hashed_zone_answer L a config x t ≢ NoCloserName n
-  unfolding is_of_zone
-  zone_knows n e = true≢false (sym zone_says ∙ ap is_of_zone e)
+  zone_knows = of_zone_knows (hashed_zone_answer L a config x t) zone_says
 
   pub zone_limits : hashed_zone_answer L a config x t ≢ TooManyIterations
-  unfolding is_of_zone
-  zone_limits e = true≢false (sym zone_says ∙ ap is_of_zone e)
+  zone_limits = of_zone_limits (hashed_zone_answer L a config x t) zone_says

@@ -3,38 +3,31 @@ use Rattle.std.proofs.Common.{◌≡◌, ℕ, Bool, true, false, cond, not, ◌&
 use Rattle.std.proofs.Common.{refl, sym, ap, ◌∙◌, subst, inl, inr, arith}
 use Rattle.std.specs.Prelude.{◌==◌, filter}
 use Rattle.std.specs.List.{list_any}
-use Rattle.std.proofs.lemmas.Bool.{cases_Bool, cases_lt, eqb-true, false≢true, and_parts, and_from, not-true, or_left, or_right}
+use Rattle.std.proofs.lemmas.Bool.{cases_Bool, cases_lt, eqb-true, false≢true, and_parts, and_from, not-true, or_left, or_parts, or_right}
 use Rattle.domain_base.specs.Name.{is_at_or_below, is_strictly_below, same_name}
 use Rattle.domain_base.specs.Types.{cname, dname, dnskey, ds, nsec, nsec3param, rrsig}
 use Rattle.domain_base.specs.Words.{Name}
 use Rattle.domain_chain_rdata.specs.OptOut.{is_opt_out}
+use Rattle.domain_bitmap.proofs.RangeLemmas.{and_false}
 use Rattle.domain_zone.specs.Enclosers.{IsClosestEncloser, exists_over}
 use Rattle.domain_zone.specs.Zone.{ZoneRecord, has_type, is_occluded, is_zone_cut, lists_type, may_list, occludes, owns, records_of, unoccluded_owners}
-use Rattle.domain_zone.proofs.NameLemmas.{below_itself, below_length, below_longer, below_trans}
+use Rattle.domain_zone.proofs.NameLemmas.{below_length, below_longer, below_trans}
+use Rattle.domain_zone.proofs.PairLemmas.{In}
+use Rattle.domain_zone.proofs.OwnerLemmas.{any_in, in_any, below_occluder, occluder_owns}
 use Rattle.domain_nsec3.specs.Config.{ChainConfig}
 use Rattle.domain_nsec3.specs.Owners.{is_unsigned_cut, nsec3_lists, original_owners}
 use Rattle.domain_checker.specs.Verdict.{closest_encloser}
-use Rattle.domain_checker.proofs.EncloserLemmas.{closest_is, cut_same, exists_same, owner_unoccluded, same_length, strictly_longer}
-use Rattle.domain_checker.proofs.FindLemmas.{In, any_in, in_any}
-use Rattle.domain_checker.proofs.HashedWalkLemmas.{below_strictly}
+use Rattle.domain_checker.proofs.EncloserLemmas.{apex_from, closest_is, cut_same, exists_same, owner_unoccluded, same_length, same_count, strictly_longer, strictly_from}
 use Rattle.domain_answer.specs.declared.answer.Answer.TheVariants.{OutsideZone, AtParent, Referral, Redirected, Has, NoDs, Alias, NoData}
 use Rattle.domain_answer.specs.declared.answer.Answer.TheVariants.{Wildcard, WildcardAlias, WildcardNoData, NameError, MayBeUnsigned}
 use Rattle.domain_answer.specs.HashedZoneAnswer.{HashedLeavesOutBelowDname, hashed_encloser, hashed_existing_answer, hashed_exists}
 use Rattle.domain_answer.specs.HashedZoneAnswer.{hashed_inside_answer, hashed_missing_answer, hashed_wildcard_answer, hashed_zone_answer, is_of_one_chain}
 use Rattle.domain_answer.specs.ZoneAnswer.{asterisk, encloser, existing_answer, highest_occluder, inside_answer, is_at_parent}
 use Rattle.domain_answer.specs.ZoneAnswer.{missing_answer, name_exists, occluded_answer, owns_type, unoccluded_answer, wildcard_below, zone_answer}
-use Rattle.domain_answer.proofs.CountLemmas.{same_count, strictly_same}
+use Rattle.domain_answer.proofs.CountLemmas.{strictly_same}
 use Rattle.domain_answer.proofs.HashedAnswerLemmas.{dname_owned}
-use Rattle.domain_answer.proofs.KindLemmas.{IsHighest, highest_of, occluder_owns, owner_exists}
-use Rattle.domain_answer.proofs.OccluderLemmas.{below_occluder, none_above}
-
-and_false : (b : Bool) → (b && false) ≡ false
-and_false true = refl
-and_false false = refl
-
-or_parts : (p q : Bool) → (p || q) ≡ false → (p ≡ false) × (q ≡ false)
-or_parts true q e = absurd (false≢true (sym e))
-or_parts false q e = (refl, e)
+use Rattle.domain_answer.proofs.KindLemmas.{IsHighest, highest_of, owner_exists}
+use Rattle.domain_answer.proofs.OccluderLemmas.{none_above}
 
 all_kept : {X : Type 0} (xs : List X) → filter (λ x. true) xs ≡ xs
 all_kept [] = refl
@@ -116,12 +109,7 @@ module _ (L : List ZoneRecord) (a : Name) (config : ChainConfig) where
     -- where some name has a closest encloser, the apex exists
     pub apex_of_chain : (e : Name) → IsClosestEncloser (original_owners L a config) a a e → name_exists L a a ≡ true
     apex_of_chain e closest =
-        let names = original_owners L a config in
-        let p = and_parts (is_at_or_below e a) (list_any (λ n. is_at_or_below n e) names) closest.found in
-        let m = any_in (λ n. is_at_or_below n e) names p.1 in
-        sym (exists_alike a)
-        ∙ and_from (is_at_or_below a a) (list_any (λ n. is_at_or_below n a) names) (below_itself a)
-        (in_any (λ n. is_at_or_below n a) names m.0 m.1 (below_trans m.0 e a m.2 p.0))
+        sym (exists_alike a) ∙ apex_from (original_owners L a config) a e closest.found
 
     -- ---- a name of the zone
 
@@ -166,8 +154,8 @@ module _ (L : List ZoneRecord) (a : Name) (config : ChainConfig) where
           let p = and_parts (is_at_or_below y o) (not (same_name y o)) s in
           let far = strictly_longer y o s in
           let near = below_length m.0 y m.2 in
-          let under = below_strictly m.0 o (below_trans m.0 y o m.2 p.0) (omega arith) in
-          false≢true (sym (free_owner m.0 m.1) ∙ below_occluder L a o m.0 over under)
+          let under = strictly_from m.0 o (below_trans m.0 y o m.2 p.0) (omega arith) in
+          false≢true (sym (free_owner m.0 m.1) ∙ below_occluder true L a o m.0 over under)
 
       -- ---- no wildcard but below the closest encloser
 
@@ -212,7 +200,7 @@ module _ (L : List ZoneRecord) (a : Name) (config : ChainConfig) where
               | inl f ↦
                   let m = any_in (λ n. is_zone_cut L a n && is_strictly_below x n) owners f in
                   let p = and_parts (is_zone_cut L a m.0) (is_strictly_below x m.0) m.2 in
-                  absurd (false≢true (sym free ∙ below_occluder L a m.0 x (cut_occludes m.0 p.0) p.1))
+                  absurd (false≢true (sym free ∙ below_occluder true L a m.0 x (cut_occludes m.0 p.0) p.1))
               | inr f ↦ f
             ]
 
@@ -228,7 +216,7 @@ module _ (L : List ZoneRecord) (a : Name) (config : ChainConfig) where
                     | inl s ↦ absurd (false≢true (sym gone ∙ exists_same owners a x en s ∙ closest.found))
                     | inr s ↦ ap not s
                   ]) in
-                  absurd (false≢true (sym free ∙ below_occluder L a en x over under))
+                  absurd (false≢true (sym free ∙ below_occluder true L a en x over under))
               | inr h ↦ h
             ]
 
@@ -268,7 +256,7 @@ module _ (L : List ZoneRecord) (a : Name) (config : ChainConfig) where
         x_below = (and_parts (is_at_or_below x d) (not (same_name x d)) highest.under).0
 
         d_owns : owns L d ≡ true
-        d_owns = occluder_owns L a d highest.over
+        d_owns = occluder_owns true L a d highest.over
 
         d_exists : name_exists L a d ≡ true
         d_exists = owner_exists L a d d_owns highest.free
@@ -279,7 +267,7 @@ module _ (L : List ZoneRecord) (a : Name) (config : ChainConfig) where
             let longest = closest.longest d d_exists x_below in
             let down = below_longer x en d closest.above x_below longest in
             elim (cases_lt (length d) (length en)) [
-              | inl g ↦ absurd (none_below d en highest.over closest.found (below_strictly en d down g))
+              | inl g ↦ absurd (none_below d en highest.over closest.found (strictly_from en d down g))
               | inr g ↦ same_length en d down g
             ]
 
@@ -291,7 +279,7 @@ module _ (L : List ZoneRecord) (a : Name) (config : ChainConfig) where
         at_cut c =
             let m = any_in (λ n. is_at_or_below n d) owners (and_parts (is_at_or_below d a) (list_any (λ n. is_at_or_below n d) owners) d_exists).1 in
             let same : same_name m.0 d ≡ true = elim (cases_lt (length d) (length m.0)) [
-              | inl g ↦ absurd (false≢true (sym (free_owner m.0 m.1) ∙ below_occluder L a d m.0 highest.over (below_strictly m.0 d m.2 g)))
+              | inl g ↦ absurd (false≢true (sym (free_owner m.0 m.1) ∙ below_occluder true L a d m.0 highest.over (strictly_from m.0 d m.2 g)))
               | inr g ↦ same_length m.0 d m.2 g
             ] in
             let under = in_any (λ n. is_zone_cut L a n && is_strictly_below x n) owners m.0 m.1
@@ -311,12 +299,12 @@ module _ (L : List ZoneRecord) (a : Name) (config : ChainConfig) where
               elim (cases_lt (length d) (length n)) [
                 | inl g ↦
                     let down = below_longer x n d x_n x_below (omega arith) in
-                    false≢true (sym (free_owner n i) ∙ below_occluder L a d n highest.over (below_strictly n d down g))
+                    false≢true (sym (free_owner n i) ∙ below_occluder true L a d n highest.over (strictly_from n d down g))
                 | inr g ↦ elim (cases_lt (length n) (length d)) [
                   | inl k ↦
                       let up = below_longer x d n x_below x_n (omega arith) in
                       let free = not-true (is_occluded true L a d) (and_parts (is_at_or_below d a) (not (is_occluded true L a d)) highest.free).1 in
-                      false≢true (sym free ∙ below_occluder L a n d (cut_occludes n cut) (below_strictly d n up k))
+                      false≢true (sym free ∙ below_occluder true L a n d (cut_occludes n cut) (strictly_from d n up k))
                   | inr k ↦
                       let same = same_length n d (below_longer x n d x_n x_below k) g in
                       false≢true (sym c ∙ sym (cut_same L a n d same) ∙ cut)

@@ -3,34 +3,26 @@ use Rattle.std.proofs.Common.{◌≡◌, ℕ, Bool, true, false, cond, not, ◌&
 use Rattle.std.proofs.Common.{refl, sym, ap, ◌∙◌, subst, inl, inr, Option, Some, None}
 use Rattle.std.specs.Prelude.{◌==◌, filter}
 use Rattle.std.specs.List.{list_any}
-use Rattle.std.proofs.lemmas.Bool.{cases_Bool, false≢true, and_parts, and_from, not-true, or_right}
+use Rattle.std.proofs.lemmas.Bool.{cases_Bool, false≢true, and_parts, and_from, not-true, not-false, or_left, or_right}
 use Rattle.domain_base.specs.Name.{is_at_or_below, is_strictly_below, lowered, same_name}
 use Rattle.domain_base.specs.Types.{cname, dname, ds, ns}
 use Rattle.domain_base.specs.Words.{Name}
+use Rattle.domain_bitmap.proofs.RangeLemmas.{and_false}
 use Rattle.domain_zone.specs.Zone.{ZoneRecord, distinct, has_type, is_occluded, is_unoccluded, is_zone_cut, occludes, owns, records_of, unoccluded_owners}
 use Rattle.domain_zone.proofs.NameLemmas.{below_itself, lowered_below, one_lowered, same_itself}
+use Rattle.domain_zone.proofs.PairLemmas.{In}
+use Rattle.domain_zone.proofs.OwnerLemmas.{any_in, in_any, typed_owns}
 use Rattle.domain_nsec.specs.Chain.{nsec_lists}
-use Rattle.domain_checker.proofs.EncloserLemmas.{cut_same, occluded_same, top_occluder}
-use Rattle.domain_checker.proofs.FindLemmas.{In, any_in, in_any, in_map}
+use Rattle.domain_checker.proofs.EncloserLemmas.{cut_same, occluded_same, occludes_same, top_occluder, same_count, strictly_trans}
+use Rattle.domain_checker.proofs.FindLemmas.{in_map}
 use Rattle.domain_answer.specs.declared.answer.Answer.{Answer}
 use Rattle.domain_answer.specs.declared.answer.Answer.TheVariants.{OutsideZone, AtParent, Referral, Redirected, Has, NoDs, Alias, NoData}
 use Rattle.domain_answer.specs.declared.answer.Answer.TheVariants.{Wildcard, WildcardAlias, WildcardNoData, NameError, MayBeUnsigned, NoCloserName, TooManyIterations, NotProven}
 use Rattle.domain_answer.specs.Kinds.{IsAbsent, IsHere, IsRedirected, IsReferred, IsSo, wildcard_of}
 use Rattle.domain_answer.specs.ZoneAnswer.{encloser, existing_answer, highest_occluder, inside_answer, is_at_parent}
 use Rattle.domain_answer.specs.ZoneAnswer.{missing_answer, name_exists, occluded_answer, owns_type, unoccluded_answer, zone_answer}
-use Rattle.domain_answer.proofs.CountLemmas.{same_count, strictly_from, strictly_same}
-use Rattle.domain_answer.proofs.OccluderLemmas.{highest_is, none_above, occluder_record, occludes_same, typed_record}
-
-and_false : (b : Bool) → (b && false) ≡ false
-and_false true = refl
-and_false false = refl
-
-not_false : (b : Bool) → not b ≡ false → b ≡ true
-not_false true e = refl
-not_false false e = absurd (false≢true (sym e))
-
-or_first : (p q : Bool) → p ≡ true → (p || q) ≡ true
-or_first p q e = λ i. e i || q
+use Rattle.domain_answer.proofs.CountLemmas.{strictly_same}
+use Rattle.domain_answer.proofs.OccluderLemmas.{highest_is, none_above}
 
 -- ---- owners
 
@@ -72,14 +64,7 @@ module _ (L : List ZoneRecord) (a : Name) where
       (ap (λ q. lowered_below q (lowered x)) (one_lowered d.0 x same) ∙ below_itself x))
 
   cut_owns : (x : Name) → is_zone_cut L a x ≡ true → owns L x ≡ true
-  cut_owns x cut =
-      let r = typed_record L a x ns (and_parts (is_strictly_below x a) (has_type (records_of L x) ns) cut).1 in
-      in_any (λ r. same_name r.owner x) L r.0 r.1 r.2
-
-  pub occluder_owns : (x : Name) → occludes true L a x ≡ true → owns L x ≡ true
-  occluder_owns x over =
-      let r = occluder_record L a x over in
-      in_any (λ r. same_name r.owner x) L r.0 r.1 r.2
+  cut_owns x cut = typed_owns L x ns (and_parts (is_strictly_below x a) (has_type (records_of L x) ns) cut).1
 
   -- ---- the highest occluder
 
@@ -98,7 +83,7 @@ module _ (L : List ZoneRecord) (a : Name) where
         r.0,
         r.1,
         record {
-          over = occludes_same L a r.0 top.0.name r.2 ∙ top.0.over;
+          over = occludes_same true L a r.0 top.0.name r.2 ∙ top.0.over;
           free = free_same r.0 top.0.name r.2 ∙ top.1;
           under = strictly_same x r.0 top.0.name r.2 ∙ top.0.under;
         },
@@ -164,7 +149,7 @@ module _ (L : List ZoneRecord) (a : Name) where
             (λ c. choose_by (owns_type L a assume x t) Has (cond (is_zone_cut L a x) NoDs (cond (owns_type L a assume x cname) Alias NoData))
             (λ o. (here, o, c))
             (λ o. choose_by (is_zone_cut L a x) NoDs (cond (owns_type L a assume x cname) Alias NoData)
-            (λ d. (here, o, d, not_false (t == ds) (sym (λ j. d j && not (t == ds)) ∙ c)))
+            (λ d. (here, o, d, not-false (t == ds) (sym (λ j. d j && not (t == ds)) ∙ c)))
             (λ d. choose_by (owns_type L a assume x cname) Alias NoData
             (λ n. (here, o, d, n))
             (λ n. (here, o, d, n, there)))))
@@ -182,10 +167,10 @@ module _ (L : List ZoneRecord) (a : Name) where
             (λ c. (absent, not-true (name_exists L a w) c))
             (λ c. choose_by (owns_type L a assume w t || is_zone_cut L a w) (Wildcard n)
             (cond (owns_type L a assume w cname) (WildcardAlias n) (WildcardNoData n))
-            (λ o. (absent, not_false (name_exists L a w) c, o))
+            (λ o. (absent, not-false (name_exists L a w) c, o))
             (λ o. choose_by (owns_type L a assume w cname) (WildcardAlias n) (WildcardNoData n)
-            (λ d. (absent, not_false (name_exists L a w) c, o, d))
-            (λ d. (absent, not_false (name_exists L a w) c, o, d))))
+            (λ d. (absent, not-false (name_exists L a w) c, o, d))
+            (λ d. (absent, not-false (name_exists L a w) c, o, d))))
 
       inside_so : So (inside_answer L a assume x t (highest_occluder L a x))
       inside_so = by (highest_occluder L a x) refl
@@ -201,7 +186,7 @@ module _ (L : List ZoneRecord) (a : Name) where
         choose_by (not (is_at_or_below x a)) OutsideZone (cond (is_at_parent a x t) AtParent (inside_answer L a assume x t (highest_occluder L a x)))
         (λ e. not-true (is_at_or_below x a) e)
         (λ e. choose_by (is_at_parent a x t) AtParent (inside_answer L a assume x t (highest_occluder L a x)) (λ f. f)
-        (λ f. inside_so (not_false (is_at_or_below x a) e) f))
+        (λ f. inside_so (not-false (is_at_or_below x a) e) f))
 
     -- ---- and where it is so, that is the answer
 
@@ -212,13 +197,13 @@ module _ (L : List ZoneRecord) (a : Name) where
     -- below a name of the zone there is no apex
     apart : (o : Name) → is_strictly_below x o ≡ true → is_at_or_below o a ≡ true → is_at_parent a x t ≡ false
     apart o under low =
-        let p = and_parts (is_at_or_below x a) (not (same_name x a)) (strictly_from x o a under low) in
+        let p = and_parts (is_at_or_below x a) (not (same_name x a)) (strictly_trans x o a under low) in
         (λ j. (t == ds) && not-true (same_name x a) p.1 j) ∙ and_false (t == ds)
 
     at_highest : (o : Name) → IsHighest x o → zone_answer L a assume x t ≡ occluded_answer L a o
     at_highest o h =
         let up = and_parts (is_at_or_below o a) (not (is_occluded true L a o)) h.free in
-        let low = (and_parts (is_at_or_below x a) (not (same_name x a)) (strictly_from x o a h.under up.0)).0 in
+        let low = (and_parts (is_at_or_below x a) (not (same_name x a)) (strictly_trans x o a h.under up.0)).0 in
         let r = highest_is L a x o h.over (high o h.free) h.under in
         at_inside low (apart o h.under up.0) ∙ ap (inside_answer L a assume x t) r.1
         ∙ (λ j. cond (cut_same L a r.0 o r.2 j) (Referral (same_count r.0 o r.2 j)) (Redirected (same_count r.0 o r.2 j)))
@@ -255,7 +240,7 @@ module _ (L : List ZoneRecord) (a : Name) where
         elim h.below [
           | inl under ↦
               at_highest h.cut (record {
-                over = or_first (is_zone_cut L a h.cut) (is_at_or_below h.cut a && has_type (records_of L h.cut) dname) h.is_cut;
+                over = or_left (is_zone_cut L a h.cut) (is_at_or_below h.cut a && has_type (records_of L h.cut) dname) h.is_cut;
                 free = h.free;
                 under = under;
               })

@@ -11,10 +11,13 @@ use Rattle.domain_base.specs.Words.{Name}
 use Rattle.domain_zone.specs.Covering.{matches, covers, matches_or_covers}
 use Rattle.domain_zone.specs.Enclosers.{longer, shared}
 use Rattle.domain_zone.proofs.NameLemmas.{below_length, same_is}
+use Rattle.domain_zone.proofs.PairLemmas.{In}
+use Rattle.domain_zone.proofs.OwnerLemmas.{in_any}
 use Rattle.domain_nsec.specs.Chain.{Link}
 use Rattle.domain_checker.specs.Reading.{is_at_cut, is_cover, is_match}
 use Rattle.domain_checker.specs.Verdict.{HasProof, is_inside}
-use Rattle.domain_checker.proofs.FindLemmas.{In, find_some, in_any}
+use Rattle.domain_checker.proofs.FindLemmas.{find_some}
+use Rattle.domain_checker.proofs.EncloserLemmas.{same_count}
 use Rattle.domain_answer.specs.declared.answer.Answer.{Answer}
 use Rattle.domain_answer.specs.declared.answer.Answer.TheVariants.{OutsideZone, AtParent, Referral, Redirected, Has, NoDs, Alias, NoData}
 use Rattle.domain_answer.specs.declared.answer.Answer.TheVariants.{Wildcard, WildcardAlias, WildcardNoData, NameError, NoCloserName, NotProven}
@@ -22,7 +25,7 @@ use Rattle.domain_answer.specs.Proved.{CountsWithin, HasBothProofs, RestsOn, las
 use Rattle.domain_answer.specs.Reading.{absent_answer, cover_answer, listed_answer, listed_both, match_answer, owner_answer, reading}
 use Rattle.domain_answer.specs.Reading.{is_of_child, tells_occluded, tells_occluder, wildcard_both}
 use Rattle.domain_answer.specs.ZoneAnswer.{is_at_parent, wildcard_below}
-use Rattle.domain_answer.proofs.CountLemmas.{encloser_less, same_count}
+use Rattle.domain_answer.proofs.CountLemmas.{encloser_less}
 
 choose : (P : Answer → Type 0) (b : Bool) (v w : Answer) → P v → P w → P (cond b v w)
 choose P true v w p q = p

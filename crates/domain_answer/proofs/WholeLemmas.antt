@@ -8,26 +8,26 @@ use Rattle.std.proofs.lemmas.List.Elements.{recursion_from_All}
 use Rattle.domain_base.specs.Name.{is_at_or_below, is_strictly_below, same_name}
 use Rattle.domain_base.specs.Types.{cname, dname, ds}
 use Rattle.domain_base.specs.Words.{Name}
+use Rattle.domain_bitmap.proofs.RangeLemmas.{and_false}
 use Rattle.domain_zone.specs.Zone.{ZoneRecord, OwnersNeverDescend, distinct, has_type, is_occluded, is_unoccluded}
 use Rattle.domain_zone.specs.Zone.{is_zone_cut, occludes, records_of, unoccluded_owners}
 use Rattle.domain_zone.proofs.NameLemmas.{below_parent, below_trans}
+use Rattle.domain_zone.proofs.PairLemmas.{In, all_in}
+use Rattle.domain_zone.proofs.OwnerLemmas.{in_any}
 use Rattle.domain_nsec.specs.Chain.{IsChain, Link}
 use Rattle.domain_nsec.specs.declared.config.GenerateNsecConfig.{GenerateNsecConfig}
 use Rattle.domain_checker.specs.Verdict.{has_match_or_cover}
-use Rattle.domain_checker.proofs.EncloserLemmas.{closest_is}
-use Rattle.domain_checker.proofs.FindLemmas.{In, all_in, any_none, from_map, in_any, in_filter}
-use Rattle.domain_checker.proofs.ListLemmas.{ChainLaws}
+use Rattle.domain_checker.proofs.EncloserLemmas.{closest_is, in_distinct}
+use Rattle.domain_checker.proofs.FindLemmas.{any_none, from_map, in_filter}
+use Rattle.domain_checker.proofs.MeantLemmas.{ChainLaws, apex_exists, some_link}
 use Rattle.domain_answer.specs.declared.answer.Answer.{Answer}
-use Rattle.domain_answer.specs.declared.answer.Answer.TheVariants.{OutsideZone, AtParent, Referral, Redirected, Has, NoDs, Alias, NoData}
-use Rattle.domain_answer.specs.declared.answer.Answer.TheVariants.{Wildcard, WildcardAlias, WildcardNoData, NameError, MayBeUnsigned, NoCloserName, TooManyIterations, NotProven}
+use Rattle.domain_answer.specs.declared.answer.Answer.TheVariants.{OutsideZone, AtParent, Referral, Redirected}
+use Rattle.domain_answer.specs.declared.answer.Answer.TheVariants.{NoCloserName, NotProven}
 use Rattle.domain_answer.specs.Proved.{LeavesOutBelowDname, is_missing, knows_wildcard, proved_answer}
 use Rattle.domain_answer.specs.ZoneAnswer.{asterisk, encloser, existing_answer, highest_occluder, inside_answer, is_at_parent}
 use Rattle.domain_answer.specs.ZoneAnswer.{missing_answer, name_exists, owns_type, wildcard_below, zone_answer}
-use Rattle.domain_answer.proofs.ChainLemmas.{apex_exists, meant_by, some_link}
-
-and_false : (b : Bool) → (b && false) ≡ false
-and_false true = refl
-and_false false = refl
+use Rattle.domain_answer.proofs.ChainLemmas.{meant_leaving}
+use Rattle.domain_answer.proofs.DefiniteLemmas.{choose, either, existing_says, is_of_zone, of_zone_knows, of_zone_proves, wildcard_says}
 
 pub wildcard_low : (L : List ZoneRecord) (a : Name) (x : Name) → name_exists L a a ≡ true → is_at_or_below x a ≡ true
     → is_at_or_below (wildcard_below (encloser L a x)) a ≡ true
@@ -43,9 +43,9 @@ pub whole_proves : ChainLaws → (L : List ZoneRecord) (a : Name) (config : Gene
 whole_proves laws L a config links x t leaves order chain =
     elim (cases_Bool (is_at_or_below x a)) [
       | inl e ↦
-          let meant = meant_by laws L a config links leaves order chain in
-          let said = some_link L a assume links meant x e in
-          let wild = some_link L a assume links meant (wildcard_below (encloser L a x)) (wildcard_low L a x (apex_exists L a assume links meant) e) in
+          let meant = meant_leaving laws L a config links leaves order chain in
+          let said = some_link true L a assume links meant x e in
+          let wild = some_link true L a assume links meant (wildcard_below (encloser L a x)) (wildcard_low L a x (apex_exists true L a assume links meant) e) in
           (λ i. cond (not (e i) || is_at_parent a x t) zone (cond (not (said i)) NotProven
           (cond (is_missing L a x && not (wild i)) (NoCloserName (length (encloser L a x))) zone)))
           ∙ (λ i. cond (is_at_parent a x t) zone (cond (and_false (is_missing L a x) i) (NoCloserName (length (encloser L a x))) zone))
@@ -60,58 +60,16 @@ whole_proves laws L a config links x t leaves order chain =
     zone : Answer
     zone = zone_answer L a config.assume_dnskeys_will_be_added x t
 
-    either : (b : Bool) (v : Answer) → cond b v v ≡ v
-    either true v = refl
-    either false v = refl
-
 -- ---- a zone says something of each name
 
-is_of_zone : Answer → Bool
-is_of_zone OutsideZone = true
-is_of_zone AtParent = true
-is_of_zone (Referral n) = true
-is_of_zone (Redirected n) = true
-is_of_zone Has = true
-is_of_zone NoDs = true
-is_of_zone Alias = true
-is_of_zone NoData = true
-is_of_zone (Wildcard n) = true
-is_of_zone (WildcardAlias n) = true
-is_of_zone (WildcardNoData n) = true
-is_of_zone (NameError n) = true
-is_of_zone (MayBeUnsigned n) = false
-is_of_zone (NoCloserName n) = false
-is_of_zone TooManyIterations = false
-is_of_zone NotProven = false
-
-choose : (b : Bool) (v w : Answer) → is_of_zone v ≡ true → is_of_zone w ≡ true → is_of_zone (cond b v w) ≡ true
-choose true v w e f = e
-choose false v w e f = f
-
 module _ (L : List ZoneRecord) (a : Name) (assume : Bool) (x : Name) (t : ℕ) where
-  existing_says : is_of_zone (existing_answer L a assume x t) ≡ true
-  unfolding is_of_zone
-  existing_says =
-      let last = cond (owns_type L a assume x cname) Alias NoData in
-      let later = cond (is_zone_cut L a x) NoDs last in
-      choose (is_zone_cut L a x && not (t == ds)) (Referral (length x)) (cond (owns_type L a assume x t) Has later) refl
-      (choose (owns_type L a assume x t) Has later refl
-      (choose (is_zone_cut L a x) NoDs last refl
-      (choose (owns_type L a assume x cname) Alias NoData refl refl)))
-
-  missing_says : (e w : Name) → is_of_zone (missing_answer L a assume e w t) ≡ true
-  unfolding is_of_zone
-  missing_says e w =
-      let last = cond (owns_type L a assume w cname) (WildcardAlias (length e)) (WildcardNoData (length e)) in
-      choose (not (name_exists L a w)) (NameError (length e)) (cond (owns_type L a assume w t || is_zone_cut L a w) (Wildcard (length e)) last) refl
-      (choose (owns_type L a assume w t || is_zone_cut L a w) (Wildcard (length e)) last refl
-      (choose (owns_type L a assume w cname) (WildcardAlias (length e)) (WildcardNoData (length e)) refl refl))
-
   inside_says : (o : Option Name) → is_of_zone (inside_answer L a assume x t o) ≡ true
   unfolding is_of_zone
-  inside_says None = choose (name_exists L a x) (existing_answer L a assume x t)
-      (missing_answer L a assume (encloser L a x) (wildcard_below (encloser L a x)) t) existing_says
-      (missing_says (encloser L a x) (wildcard_below (encloser L a x)))
+  inside_says None =
+      let w = wildcard_below (encloser L a x) in
+      choose (name_exists L a x) (existing_answer L a assume x t) (missing_answer L a assume (encloser L a x) w t)
+      (existing_says (length x) (is_zone_cut L a x && not (t == ds)) (owns_type L a assume x t) (is_zone_cut L a x) (owns_type L a assume x cname))
+      (wildcard_says (length (encloser L a x)) (not (name_exists L a w)) (owns_type L a assume w t || is_zone_cut L a w) (owns_type L a assume w cname))
   inside_says (Some o) = choose (is_zone_cut L a o) (Referral (length o)) (Redirected (length o)) refl refl
 
   zone_says : is_of_zone (zone_answer L a assume x t) ≡ true
@@ -122,23 +80,16 @@ module _ (L : List ZoneRecord) (a : Name) (assume : Bool) (x : Name) (t : ℕ) w
       (choose (is_at_parent a x t) AtParent inside refl (inside_says (highest_occluder L a x)))
 
   pub zone_proves : zone_answer L a assume x t ≢ NotProven
-  unfolding is_of_zone
-  zone_proves e = true≢false (sym zone_says ∙ ap is_of_zone e)
+  zone_proves = of_zone_proves (zone_answer L a assume x t) zone_says
 
   pub zone_knows : (n : ℕ) → zone_answer L a assume x t ≢ NoCloserName n
-  unfolding is_of_zone
-  zone_knows n e = true≢false (sym zone_says ∙ ap is_of_zone e)
+  zone_knows = of_zone_knows (zone_answer L a assume x t) zone_says
 
 -- ---- chains that leave out the names below a DNAME
 
 filter_same : {X : Type 0} (p q : X → Bool) (xs : List X) → ((x : X) → In x xs → p x ≡ q x) → filter p xs ≡ filter q xs
 filter_same p q [] h = refl
 filter_same p q (x ∷ xs) h = λ i. cond (h x (inl refl) i) (x ∷ filter_same p q xs (λ y j. h y (inr j)) i) (filter_same p q xs (λ y j. h y (inr j)) i)
-
-in_distinct : (xs : List Name) (n : Name) → In n (distinct xs) → In n xs
-in_distinct [] n i = i
-in_distinct (x ∷ xs) n (inl e) = inl e
-in_distinct (x ∷ xs) n (inr i) = inr (in_distinct xs n (in_filter (λ y. not (same_name x y)) (distinct xs) n i).0)
 
 pub left_out_by_choice : (L : List ZoneRecord) (a : Name) (b : Bool) → b ≡ true → unoccluded_owners b L a ≡ unoccluded_owners true L a
 left_out_by_choice L a b e = ap (λ b. unoccluded_owners b L a) e
@@ -147,7 +98,7 @@ module _ (L : List ZoneRecord) (a : Name) (none : All (λ r. is_occluded true L 
   same_owners : unoccluded_owners false L a ≡ unoccluded_owners true L a
   same_owners =
       filter_same (is_unoccluded false L a) (is_unoccluded true L a) (distinct (map (λ r. r.owner) L)) (λ n i.
-      let r = from_map (λ r. r.owner) L n (in_distinct (map (λ r. r.owner) L) n i) in
+      let r = from_map (λ r. r.owner) L n (in_distinct false L a (map (λ r. r.owner) L) n i) in
       let same = all_in (λ r. is_occluded true L a r.owner ≡ is_occluded false L a r.owner) L r.0
       (recursion_from_All (λ r. is_occluded true L a r.owner ≡ is_occluded false L a r.owner) L none) r.1 in
       let at : is_occluded true L a n ≡ is_occluded false L a n = sym (ap (is_occluded true L a) r.2) ∙ same ∙ ap (is_occluded false L a) r.2 in

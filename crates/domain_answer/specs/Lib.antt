@@ -4,6 +4,7 @@ pub mod Reading
 pub mod Found
 pub mod Kinds
 pub mod HashedZoneAnswer
+pub mod HashedMeaning
 pub mod HashedProved
 pub mod HashedReading
 pub mod Expansion

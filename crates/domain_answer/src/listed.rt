@@ -1,39 +1,23 @@
 //! What one NSEC record tells.
-ghost use Rattle.std.specs.Prelude.{◌≡◌, length};
-ghost use Rattle.domain_base.specs.Name.{is_strictly_below};
+ghost use Rattle.std.specs.Prelude.{◌≡◌};
 ghost use Rattle.domain_base.specs.Order.{before};
 ghost use Rattle.domain_zone.specs.Covering.{covers};
-ghost use Rattle.domain_zone.specs.Enclosers.{longer, shared};
 ghost use Rattle.domain_nsec.specs.ChainView.{as_link};
-ghost use Rattle.domain_checker.specs.Verdict.{is_inside};
-ghost use Rattle.domain_checker.specs.Reading.{is_at_cut, is_cover, is_match};
+ghost use Rattle.domain_checker.specs.Reading.{is_cover, is_match};
 ghost use Rattle.domain_answer.specs.Reading.{tells_occluded, tells_occluder};
 
 use domain_base::{Rtype, ToName};
 use domain_chain_rdata::Nsec;
+use domain_checker::{is_at_cut, is_before, is_inside};
 use domain_octets::Octets;
 use domain_plain::Record;
 
 /// An NSEC record.
 pub(crate) type NsecRr<O, N> = Record<N, Nsec<O, N>>;
 
-/// Whether the owner and the next name are at or below the apex.
-fn is_inside<A: ToName, O: Octets, N: ToName>(apex: &A, listed: &NsecRr<O, N>) -> bool
-    ensures { result ≡ is_inside (A.labels apex.now) (as_link N.labels listed.now) }
-{
-    listed.owner().ends_with(apex) && listed.data().next_name().ends_with(apex)
-}
-
-/// Whether the name comes before another in canonical order.
-fn is_before<N: ToName, M: ToName>(name: &N, other: &M) -> bool
-    ensures { result ≡ before (N.labels name.now) (M.labels other.now) }
-{
-    name.name_cmp(other).is_lt()
-}
-
 /// Whether the owner and the next name cover the name: it lies between the two, or on either side
 /// of them where the next name is not after the owner.
-#[tactic(auto, using(crate::proofs::FoundLemmas::match_is_tie))]
+#[tactic(auto, using(domain_checker::proofs::FirstLemmas::match_is_tie))]
 fn covers<N: ToName, M: ToName>(owner: &N, next: &N, name: &M) -> bool
     ensures { result ≡ covers before (N.labels owner.now) (N.labels next.now) (M.labels name.now) }
 {
@@ -72,13 +56,6 @@ pub(crate) fn is_cover<A: ToName, O: Octets, N: ToName, M: ToName>(
     covers(listed.owner(), listed.data().next_name(), name) && is_inside(apex, listed)
 }
 
-/// Whether the owner is a zone cut.
-pub(crate) fn is_at_cut<A: ToName, O: Octets, N: ToName>(apex: &A, listed: &NsecRr<O, N>) -> bool
-    ensures { result ≡ is_at_cut (A.labels apex.now) (as_link N.labels listed.now) }
-{
-    listed.data().types().contains(Rtype::NS) && !listed.owner().name_eq(apex)
-}
-
 /// Whether the owner is a zone cut or owns a DNAME record.
 fn tells_occluder<A: ToName, O: Octets, N: ToName>(apex: &A, listed: &NsecRr<O, N>) -> bool
     ensures { result ≡ tells_occluder (A.labels apex.now) (as_link N.labels listed.now) }
@@ -96,19 +73,4 @@ pub(crate) fn tells_occluded<A: ToName, O: Octets, N: ToName, M: ToName>(
         (M.labels name.now) }
 {
     name.ends_with(listed.owner()) && tells_occluder(apex, listed)
-}
-
-/// Whether the name is below another, and not the same.
-pub(crate) fn is_strictly_below<N: ToName, M: ToName>(name: &N, above: &M) -> bool
-    ensures { result ≡ is_strictly_below (N.labels name.now) (M.labels above.now) }
-{
-    name.ends_with(above) && !name.name_eq(above)
-}
-
-/// How many labels the longer of the names has that the name shares with the two others.
-pub(crate) fn longer_shared<N: ToName, M: ToName>(name: &M, owner: &N, next: &N) -> usize
-    ensures { result ≡ length (longer (shared (M.labels name.now) (N.labels owner.now))
-        (shared (M.labels name.now) (N.labels next.now))) }
-{
-    name.common_labels(owner).max(name.common_labels(next))
 }

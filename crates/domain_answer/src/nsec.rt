@@ -8,11 +8,12 @@ ghost use Rattle.domain_answer.specs.Reading.{absent_answer, cover_answer, liste
 ghost use Rattle.domain_answer.specs.Reading.{wildcard_answer, wildcard_cover_answer, wildcard_match_answer};
 
 use crate::found::{NsecFound, find_nsec};
-use crate::listed::{NsecRr, is_at_cut, is_strictly_below, longer_shared, tells_occluded};
+use crate::listed::{NsecRr, tells_occluded};
 use crate::wildcard::wildcard_below;
 use crate::{Answer, laws};
 use domain_base::{ParsedName, Rtype, ToName};
 use domain_chain_rdata::Nsec;
+use domain_checker::{is_at_cut, is_strictly_below, longer_shared};
 use domain_octets::Octets;
 use domain_plain::Record;
 use domain_zone::MAX_NAME;

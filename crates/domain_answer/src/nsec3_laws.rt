@@ -11,6 +11,7 @@ ghost use Rattle.domain_nsec3.specs.Config.{ChainConfig, Hash, Parameters};
 ghost use Rattle.domain_nsec3.specs.Meaning.{IsAlone};
 ghost use Rattle.domain_checker.specs.Alike.{ArePaired, IsHashedAlike, IsPairedIn};
 ghost use Rattle.domain_answer.specs.Expansion.{closer_name, is_expanded, missing_closer, proved_expansion, ExpansionRestsOn, IsExpansionAnswered, IsExpansionRead};
+ghost use Rattle.domain_answer.specs.HashedMeaning.{ChainsAreMeant};
 ghost use Rattle.domain_answer.specs.HashedProved.{hashed_proved_answer, AreAskedAlone, HashedRestsOn, IsHashedAnswered};
 ghost use Rattle.domain_answer.specs.HashedReading.{IsHashedRead};
 ghost use Rattle.domain_answer.specs.HashedZoneAnswer.{hashed_encloser, hashed_exists, hashed_zone_answer, is_of_one_chain, HashedLeavesOutBelowDname};
@@ -19,12 +20,19 @@ ghost use Rattle.domain_answer.specs.ZoneAnswer.{is_at_parent, name_exists, wild
 ghost use Rattle.domain_answer.specs.declared.answer.Answer.{Answer};
 ghost use Rattle.domain_answer.specs.declared.answer.Answer.TheVariants.{NoCloserName, NotProven, TooManyIterations};
 
-use domain_bitmap::laws::built_bitmaps_give_their_types;
-use domain_checker::laws::{hashes_tell_of_names, whole_hashed_chains_prove_all};
-use domain_nsec3::laws::{
-    chains_mean_the_zone, names_end_at_the_encloser, names_exist, types_ignore_case,
+use domain_checker::laws::{
+    hashed_chains_are_known, hashes_tell_of_names, whole_hashed_chains_prove_all,
 };
-use domain_octets::laws::{base32_reads_back, base32_tells_apart};
+use domain_nsec3::laws::{chains_mean_the_zone, types_ignore_case};
+
+/// What is known of the names and the records of each NSEC3 chain that leaves out the names below a
+/// DNAME.
+fn hashed_chains_are_meant()
+    ensures { ChainsAreMeant }
+{
+    hashes_tell_of_names();
+    hashed_chains_are_known();
+}
 
 /// What any NSEC3 records say by themselves is what they prove of the zone; the records that the
 /// answer rests on are among them; and the labels that it counts are labels of the name.
@@ -40,11 +48,7 @@ pub fn hashed_readings_are_proved()
         (x : Name) (t : ℕ) (answer : Answer) → IsHashedRead listed a p hash x t answer
         → CountsWithin (length x) answer }
 {
-    hashes_tell_of_names();
-    chains_mean_the_zone();
-    names_end_at_the_encloser();
-    names_exist();
-    types_ignore_case();
+    hashed_chains_are_meant();
 }
 
 /// What any NSEC3 records say of a name whose records were expanded from a wildcard is what they
@@ -121,11 +125,7 @@ pub fn hashed_whole_chains_prove_all()
         (t : ℕ) → hashed_zone_answer L a config x t ≢ TooManyIterations }
 {
     whole_hashed_chains_prove_all();
-    hashes_tell_of_names();
-    chains_mean_the_zone();
-    names_end_at_the_encloser();
-    names_exist();
-    types_ignore_case();
+    hashed_chains_are_meant();
 }
 
 /// The whole NSEC3 chain of a zone proves of each name that was expanded from a wildcard that the
@@ -138,13 +138,7 @@ pub fn hashed_whole_chains_prove_expansions()
         → hashed_exists L a config (closer_name n x) ≡ false
         → proved_expansion L a config links x n ≡ missing_closer config n }
 {
-    chains_mean_the_zone();
-    names_end_at_the_encloser();
-    names_exist();
-    types_ignore_case();
-    built_bitmaps_give_their_types();
-    base32_reads_back();
-    base32_tells_apart();
+    hashed_chains_are_known();
 }
 
 /// An NSEC3 chain leaves out the names below an owner of a DNAME record where that was chosen,

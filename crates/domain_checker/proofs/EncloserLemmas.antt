@@ -2,19 +2,27 @@
 use Rattle.std.proofs.Common.{◌≡◌, ℕ, ◌≤◌, ◌<◌, Bool, zero, suc, true, false, cond, not, ◌&&◌, ◌||◌}
 use Rattle.std.proofs.Common.{List, [], ◌∷◌, map, length, refl, sym, ap, ◌∙◌, inl, inr, arith}
 use Rattle.std.specs.Prelude.{filter}
+use Rattle.std.specs.Char.{to_ascii_lowercase}
 use Rattle.std.specs.List.{list_any}
-use Rattle.std.proofs.lemmas.Bool.{cases_Bool, false≢true, and_parts, and_from, or_cases, not-true, cases_lt}
+use Rattle.std.proofs.lemmas.Bool.{cases_Bool, false≢true, and_parts, and_from, not-true, cases_lt}
+use Rattle.std.proofs.lemmas.List.{length-map}
 use Rattle.domain_base.specs.Name.{is_at_or_below, is_strictly_below, lowered, same_name}
 use Rattle.domain_base.specs.Types.{ns, dname}
 use Rattle.domain_base.specs.Words.{Name}
 use Rattle.domain_zone.specs.Enclosers.{IsClosestEncloser, exists_over}
-use Rattle.domain_zone.specs.Zone.{ZoneRecord, records_of, has_type, is_zone_cut, occludes, is_occluded, is_unoccluded, distinct, unoccluded_owners, owns}
+use Rattle.domain_zone.specs.Zone.{ZoneRecord, has_type, is_zone_cut, occludes, is_occluded, is_unoccluded, distinct, unoccluded_owners, owns}
 use Rattle.domain_zone.proofs.NameLemmas.{one_lowered, same_itself, same_is, below_itself, below_trans, below_from}
 use Rattle.domain_zone.proofs.NameLemmas.{below_longer, below_length, below_parent, below_root, lowered_below, same_lowered}
+use Rattle.domain_zone.proofs.PairLemmas.{In}
+use Rattle.domain_zone.proofs.OwnerLemmas.{any_in, in_any, occluder_below}
 use Rattle.domain_checker.specs.Verdict.{closest_encloser}
-use Rattle.domain_checker.proofs.FindLemmas.{In, any_in, in_any, in_filter, from_map}
+use Rattle.domain_checker.proofs.FindLemmas.{in_filter, from_map}
 
 -- ---- names at or below each other
+
+-- names that are the same have as many labels
+pub same_count : (x y : Name) → same_name x y ≡ true → length x ≡ length y
+same_count x y e = sym (length-map x (map to_ascii_lowercase)) ∙ ap length (one_lowered x y e) ∙ length-map y (map to_ascii_lowercase)
 
 pub same_both : (x c : Name) → is_at_or_below x c ≡ true → is_at_or_below c x ≡ true → same_name x c ≡ true
 same_both x c p q = same_is x c ∙ (λ i. not (below_from x c p i || below_from c x q i))
@@ -32,26 +40,36 @@ strictly_longer x c s =
       | inr h ↦ absurd (false≢true (sym (not-true (same_name x c) p.1) ∙ same_length x c p.0 h))
     ]
 
--- x is strictly below what its ancestor c is strictly below
-pub strictly_down : (x c d : Name) → is_strictly_below x c ≡ true → is_strictly_below c d ≡ true → is_strictly_below x d ≡ true
-strictly_down x c d s t =
-    let p = and_parts (is_at_or_below x c) (not (same_name x c)) s in
-    let q = and_parts (is_at_or_below c d) (not (same_name c d)) t in
-    and_from (is_at_or_below x d) (not (same_name x d)) (below_trans x c d p.0 q.0)
+-- and what is below it with more labels is strictly below
+pub strictly_from : (x d : Name) → is_at_or_below x d ≡ true → length d < length x → is_strictly_below x d ≡ true
+strictly_from x d p l =
+    and_from (is_at_or_below x d) (not (same_name x d)) p
     (elim (cases_Bool (same_name x d)) [
-      | inl e ↦
-          let m = strictly_longer x c s in
-          let n = strictly_longer c d t in
-          let k = below_length d x (ap (λ k. lowered_below k (lowered x)) (sym (one_lowered x d e)) ∙ below_itself x) in
-          absurd (omega arith)
+      | inl e ↦ let n = same_count x d e in absurd (omega arith)
       | inr e ↦ ap not e
     ])
+
+-- x is strictly below what a name that it is strictly below is at or below
+pub strictly_trans : (x c n : Name) → is_strictly_below x c ≡ true → is_at_or_below c n ≡ true → is_strictly_below x n ≡ true
+strictly_trans x c n s q =
+    let p = and_parts (is_at_or_below x c) (not (same_name x c)) s in
+    let far = strictly_longer x c s in
+    let near = below_length c n q in
+    strictly_from x n (below_trans x c n p.0 q) (omega arith)
 
 -- ---- closest enclosers
 
 module _ (names : List Name) (a : Name) where
   pub exists_same : (x y : Name) → same_name x y ≡ true → exists_over names a x ≡ exists_over names a y
   exists_same x y s = ap (λ k. lowered_below k (lowered a) && list_any (λ n. lowered_below (lowered n) k) names) (one_lowered x y s)
+
+  -- where some name exists, the apex does
+  pub apex_from : (x : Name) → exists_over names a x ≡ true → exists_over names a a ≡ true
+  apex_from x there =
+      let p = and_parts (is_at_or_below x a) (list_any (λ n. is_at_or_below n x) names) there in
+      let m = any_in (λ n. is_at_or_below n x) names p.1 in
+      and_from (is_at_or_below a a) (list_any (λ n. is_at_or_below n a) names) (below_itself a)
+      (in_any (λ n. is_at_or_below n a) names m.0 m.1 (below_trans m.0 x a m.2 p.0))
 
   pub closest_is : (x : Name) → exists_over names a a ≡ true → is_at_or_below x a ≡ true → IsClosestEncloser names a x (closest_encloser names a x)
   closest_is [] e p = record {
@@ -90,13 +108,6 @@ module _ (names : List Name) (a : Name) where
 -- ---- names that occlude
 
 module _ (below_dname : Bool) (L : List ZoneRecord) (a : Name) where
-  pub occluder_low : (c : Name) → occludes below_dname L a c ≡ true → is_at_or_below c a ≡ true
-  occluder_low c h =
-      elim (or_cases (is_zone_cut L a c) (below_dname && is_at_or_below c a && has_type (records_of L c) dname) h) [
-        | inl e ↦ (and_parts (is_at_or_below c a) (not (same_name c a)) (and_parts (is_strictly_below c a) (has_type (records_of L c) ns) e).0).0
-        | inr e ↦ (and_parts below_dname (is_at_or_below c a) (and_parts (below_dname && is_at_or_below c a) (has_type (records_of L c) dname) e).0).1
-      ]
-
   -- a name that occludes, and that x is strictly below
   pub record OccluderAbove (x : Name) : Type 0 where
     pub name : Name
@@ -117,7 +128,8 @@ module _ (below_dname : Bool) (L : List ZoneRecord) (a : Name) where
         | inl e ↦
             let m = strictly_longer x c.name c.under in
             let t = top_within n c.name (omega arith) e in
-            (record { name = t.0.name; over = t.0.over; under = strictly_down x c.name t.0.name c.under t.0.under }, t.1)
+            let above = (and_parts (is_at_or_below c.name t.0.name) (not (same_name c.name t.0.name)) t.0.under).0 in
+            (record { name = t.0.name; over = t.0.over; under = strictly_trans x c.name t.0.name c.under above }, t.1)
         | inr e ↦ (c, e)
       ]
 
@@ -125,16 +137,22 @@ module _ (below_dname : Bool) (L : List ZoneRecord) (a : Name) where
   pub top_occluder : (x : Name) → is_occluded below_dname L a x ≡ true → (c : OccluderAbove x) × (is_unoccluded below_dname L a c.name ≡ true)
   top_occluder x o =
       let t = top_within (length x) x (omega arith) o in
-      (t.0, and_from (is_at_or_below t.0.name a) (not (is_occluded below_dname L a t.0.name)) (occluder_low t.0.name t.0.over) (ap not t.1))
+      (t.0, and_from (is_at_or_below t.0.name a) (not (is_occluded below_dname L a t.0.name)) (occluder_below below_dname L a t.0.name t.0.over) (ap not t.1))
 
   -- a name that is the same is occluded alike
   pub occluded_same : (m n : Name) → same_name m n ≡ true → is_occluded below_dname L a m ≡ is_occluded below_dname L a n
   occluded_same m n s = ap (λ k. list_any (λ r. occludes below_dname L a r.owner
       && (lowered_below k (lowered r.owner) && not (same_lowered k (lowered r.owner)))) L) (one_lowered m n s)
 
+  -- and occludes alike
+  pub occludes_same : (m n : Name) → same_name m n ≡ true → occludes below_dname L a m ≡ occludes below_dname L a n
+  occludes_same m n s = ap (λ k. ((lowered_below k (lowered a) && not (same_lowered k (lowered a)))
+      && has_type (filter (λ r. same_lowered (lowered r.owner) k) L) ns)
+      || (below_dname && lowered_below k (lowered a) && has_type (filter (λ r. same_lowered (lowered r.owner) k) L) dname)) (one_lowered m n s)
+
   -- ---- owners that are not occluded
 
-  in_distinct : (xs : List Name) (n : Name) → In n (distinct xs) → In n xs
+  pub in_distinct : (xs : List Name) (n : Name) → In n (distinct xs) → In n xs
   in_distinct [] n i = i
   in_distinct (x ∷ xs) n (inl e) = inl e
   in_distinct (x ∷ xs) n (inr i) = inr (in_distinct xs n (in_filter (λ y. not (same_name x y)) (distinct xs) n i).0)
@@ -151,14 +169,6 @@ module _ (below_dname : Bool) (L : List ZoneRecord) (a : Name) where
   owner_owns n x i s =
       let r = record_of n i in
       in_any (λ r. same_name r.owner x) L r.0 r.1 (same_itself r.0.owner x (ap lowered r.2 ∙ one_lowered n x s))
-
-  -- what is strictly below such an owner that occludes is occluded
-  pub below_owner : (n x : Name) → In n (unoccluded_owners below_dname L a) → occludes below_dname L a n ≡ true
-      → is_strictly_below x n ≡ true → is_occluded below_dname L a x ≡ true
-  below_owner n x i h s =
-      let r = record_of n i in
-      in_any (λ r. occludes below_dname L a r.owner && is_strictly_below x r.owner) L r.0 r.1
-      (ap (λ m. occludes below_dname L a m && is_strictly_below x m) r.2 ∙ and_from (occludes below_dname L a n) (is_strictly_below x n) h s)
 
 -- ---- zone cuts
 

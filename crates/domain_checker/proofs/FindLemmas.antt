@@ -1,38 +1,17 @@
 -- Elements of lists: which pass a test, the first that does, and where they stand.
 use Rattle.std.proofs.Common.{◌≡◌, ℕ, Bool, true, false, cond, ◌||◌, List, [], ◌∷◌, map, Some}
-use Rattle.std.proofs.Common.{None, refl, sym, ap, ◌∙◌, subst, inl, inr, ◌⊎◌, zero, suc, slice_get}
+use Rattle.std.proofs.Common.{None, refl, sym, ap, ◌∙◌, inl, inr, ◌⊎◌, zero, suc, slice_get}
 use Rattle.std.specs.Prelude.{All, filter}
-use Rattle.std.specs.List.{find, list_any, Contains, AllByRecursion}
-use Rattle.std.proofs.lemmas.Bool.{cases_Bool, false≢true, or_cases, or_right}
+use Rattle.std.specs.List.{find, list_any, Contains}
+use Rattle.std.proofs.lemmas.Bool.{cases_Bool}
 use Rattle.std.proofs.lemmas.List.Elements.{recursion_from_All}
 use Rattle.std.proofs.lemmas.Option.{slice_get-get_or}
 use Rattle.domain_zone.specs.Covering.{pairs}
+use Rattle.domain_zone.proofs.PairLemmas.{In, all_in}
 
 -- ---- elements
 
 module _ {X : Type 0} where
-  abbrev pub In : X → List X → Type 0
-  In y [] = ⊥
-  In y (x ∷ xs) = (x ≡ y) ⊎ In y xs
-
-  pub all_in : (P : X → Type 0) (xs : List X) (y : X) → AllByRecursion P xs → In y xs → P y
-  all_in P [] y h i = absurd i
-  all_in P (x ∷ xs) y h (inl e) = subst P e h.0
-  all_in P (x ∷ xs) y h (inr i) = all_in P xs y h.1 i
-
-  pub any_in : (p : X → Bool) (xs : List X) → list_any p xs ≡ true → (x : X) × In x xs × (p x ≡ true)
-  any_in p [] h = absurd (false≢true h)
-  any_in p (x ∷ xs) h =
-      elim (or_cases (p x) (list_any p xs) h) [
-        | inl e ↦ (x, inl refl, e)
-        | inr e ↦ let r = any_in p xs e in (r.0, inr r.1, r.2)
-      ]
-
-  pub in_any : (p : X → Bool) (xs : List X) (x : X) → In x xs → p x ≡ true → list_any p xs ≡ true
-  in_any p [] x i e = absurd i
-  in_any p (y ∷ xs) x (inl f) e = λ j. (ap p f ∙ e) j || list_any p xs
-  in_any p (y ∷ xs) x (inr i) e = or_right (p y) (list_any p xs) (in_any p xs x i e)
-
   pub any_none : (p : X → Bool) (xs : List X) → ((x : X) → In x xs → p x ≡ false) → list_any p xs ≡ false
   any_none p [] f = refl
   any_none p (x ∷ xs) f = (λ i. f x (inl refl) i || list_any p xs) ∙ any_none p xs (λ y i. f y (inr i))

@@ -9,20 +9,21 @@ use Rattle.domain_base.specs.Words.{Name}
 use Rattle.domain_bitmap.specs.Blocks.{contains_type, types_of}
 use Rattle.domain_zone.specs.Zone.{ZoneRecord, has_type, records_of}
 use Rattle.domain_zone.proofs.NameLemmas.{below_trans}
+use Rattle.domain_zone.proofs.ZoneLemmas.{same_back}
 use Rattle.domain_nsec3.specs.Chain.{HashedLink}
 use Rattle.domain_nsec3.specs.Config.{ChainConfig, Hash, Parameters}
 use Rattle.domain_nsec3.specs.Meaning.{IsAlone}
 use Rattle.domain_nsec3.specs.Owners.{is_chain_name, nsec3_lists}
+use Rattle.domain_checker.specs.HashedFacts.{ChainFacts}
 use Rattle.domain_checker.specs.HashedList.{is_hash_cover, is_hash_match}
 use Rattle.domain_checker.specs.HashedEncloser.{Encloser, IsDenial, IsEncloser, IsFoundEncloser, IsOfName}
 use Rattle.domain_checker.specs.HashedEncloser.{encloser_is_cut, encloser_verdict, found_verdict, lower_verdict, next_cover, own_verdict}
 use Rattle.domain_checker.specs.HashedReading.{IsNextHash, IsTold, IsUnmatched, IsWalked, hash_cover_verdict, is_none, tells_cut, told_verdict}
 use Rattle.domain_checker.specs.declared.verdict.Verdict.TheVariants.{BelowDelegation, Has, NoType, EmptyName}
-use Rattle.domain_checker.proofs.EncloserLemmas.{same_length}
+use Rattle.domain_checker.proofs.EncloserLemmas.{same_length, same_count}
 use Rattle.domain_checker.proofs.FindLemmas.{in_at, stands_from}
-use Rattle.domain_checker.proofs.HashedListLemmas.{ChainFacts, covered_never, matched_once, told_at}
+use Rattle.domain_checker.proofs.HashedListLemmas.{covered_never, matched_once, told_at}
 use Rattle.domain_checker.proofs.HashedVerdictLemmas.{ns_listed}
-use Rattle.domain_checker.proofs.HashedWalkLemmas.{same_back, same_count}
 
 -- a test of numbers
 test_is : (m n : ℕ) (b : Bool) → (m ≡ n → b ≡ true) → (b ≡ true → m ≡ n) → nat_eq m n ≡ b

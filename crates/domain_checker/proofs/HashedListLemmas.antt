@@ -1,5 +1,5 @@
 -- What a record of an NSEC3 chain says of the hash of a name that no other name of the chain has.
-use Rattle.std.proofs.Common.{◌≡◌, ◌<◌, ℕ, Bool, zero, suc, true, false, cond, not, ◌&&◌, ◌||◌, List}
+use Rattle.std.proofs.Common.{◌≡◌, ℕ, Bool, zero, suc, true, cond, not, ◌&&◌, ◌||◌, List}
 use Rattle.std.proofs.Common.{[], ◌∷◌, map, refl, sym, ap, ◌∙◌, inl, inr, eq-eqb, Some, None, slice_get}
 use Rattle.std.specs.List.{AllByRecursion, list_any}
 use Rattle.std.specs.Cmp.Lexicographic.{nat_list_cmp_total, slice_cmp, bytes_decides}
@@ -10,25 +10,26 @@ use Rattle.std.proofs.lemmas.Bool.{false≢true, and_parts, not-true, or_left, o
 use Rattle.std.proofs.lemmas.List.Elements.{recursion_from_All}
 use Rattle.std.proofs.lemmas.List.Sums.{list_all-from_AllPass}
 use Rattle.domain_octets.specs.Base32.{base32_lower}
-use Rattle.domain_octets.specs.Codec.{is_digit, IsBase32}
+use Rattle.domain_octets.specs.Codec.{is_digit}
 use Rattle.domain_octets.specs.Words.{Octets, AreOctets}
 use Rattle.domain_octets.specs.declared.codec.Codec.TheVariants.{Base32Hex}
 use Rattle.domain_base.specs.Name.{is_at_or_below, same_name, wire_of}
 use Rattle.domain_base.specs.Words.{Name}
 use Rattle.domain_bitmap.specs.Bitmap.{bitmap_octets}
-use Rattle.domain_bitmap.specs.Blocks.{contains_type, types_below, types_of}
 use Rattle.domain_zone.specs.Covering.{matches, covers, matches_or_covers}
-use Rattle.domain_zone.specs.Zone.{ZoneRecord, is_zone_cut}
-use Rattle.domain_zone.specs.Enclosers.{exists_over}
+use Rattle.domain_zone.specs.Zone.{ZoneRecord}
 use Rattle.domain_zone.proofs.NameLemmas.{one_lowered, same_itself}
-use Rattle.domain_nsec3.specs.Chain.{HashedLink, HashedName, IsHashedChain, IsOfChain, cycle, ends, ends_of, hashed_owner}
+use Rattle.domain_zone.proofs.PairLemmas.{In, all_in}
+use Rattle.domain_zone.proofs.OwnerLemmas.{in_any}
+use Rattle.domain_nsec3.specs.Chain.{HashedLink, HashedName, IsOfChain, cycle, ends, ends_of, hashed_owner}
 use Rattle.domain_nsec3.specs.Config.{ChainConfig, Hash, Parameters, hash_name}
-use Rattle.domain_nsec3.specs.Meaning.{CutsEnclose, IsAlone, IsCovered, IsMatched, IsMatchedOrCoveredOnce}
-use Rattle.domain_nsec3.specs.Meaning.{IsRecordOf, MirrorsZone, TellsEncloser, octets_before}
-use Rattle.domain_nsec3.specs.Owners.{is_chain_name, is_original_owner, nsec3_lists, original_owners}
+use Rattle.domain_nsec3.specs.Meaning.{IsAlone, IsCovered, IsMatched, IsMatchedOrCoveredOnce}
+use Rattle.domain_nsec3.specs.Meaning.{IsRecordOf, octets_before}
+use Rattle.domain_nsec3.specs.Owners.{is_chain_name, nsec3_lists}
+use Rattle.domain_checker.specs.HashedFacts.{ChainFacts}
 use Rattle.domain_checker.specs.HashedList.{same_parameters, is_spelling, read_label, hash_in, owner_hash, is_some_with, is_hash_match, is_hash_cover}
 use Rattle.domain_checker.specs.HashedVerdict.{is_covered, is_matched, is_ok_with}
-use Rattle.domain_checker.proofs.FindLemmas.{In, all_in, in_any, in_at, in_pairs, Stands}
+use Rattle.domain_checker.proofs.FindLemmas.{in_at, in_pairs, Stands}
 
 -- octets that the order cannot tell apart
 pub tied_is : (u v : Octets) → matches octets_before u v ≡ is_eq (slice_cmp nat_cmp u v)
@@ -42,20 +43,6 @@ tied_is u v = reads (slice_cmp nat_cmp u v) (slice_cmp nat_cmp v u) (nat_list_cm
 -- names that are the same have one hash
 pub hash_same : (hash : Hash) (m n : Name) → same_name m n ≡ true → hash_name hash m ≡ hash_name hash n
 hash_same hash m n s = ap (λ l. hash (wire_of l)) (one_lowered m n s)
-
--- what the laws say of one chain
-pub record ChainFacts (L : List ZoneRecord) (a : Name) (config : ChainConfig) (links : List HashedLink) : Type 0 where
-  pub chain : IsHashedChain L a config links
-  pub mirrors : MirrorsZone L a config links
-  pub tells : TellsEncloser L a config links
-  pub cuts : CutsEnclose L a config
-  pub exist : (x : Name) → is_at_or_below x a ≡ true → exists_over (original_owners L a config) a x ≡ is_chain_name L a config x
-  pub left_out : (c : Name) → is_zone_cut L a c ≡ true → is_original_owner L a config c ≡ false → is_chain_name L a config c ≡ false
-  pub alike : (x y : Name) → same_name x y ≡ true → (t : ℕ) → nsec3_lists L a config x t ≡ nsec3_lists L a config y t
-  pub reads_back : (octets : Octets) → AreOctets octets → IsBase32 (base32_lower octets) octets
-  pub contains : (types : ℕ → Bool) (t : ℕ) → t < 65536 → contains_type (bitmap_octets types) t ≡ types t
-  pub gives : (types : ℕ → Bool) → types_of (bitmap_octets types) ≡ types_below 65536 types
-  pub tells_apart : (u v : Octets) → AreOctets u → AreOctets v → base32_lower u ≡ base32_lower v → u ≡ v
 
 -- the ends of a link at a place are those of a pair
 end_at : (a : Name) (links : List HashedLink) (ps : List (Octets × Octets)) → map ends links ≡ map (ends_of a) ps

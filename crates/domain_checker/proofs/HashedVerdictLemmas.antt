@@ -3,7 +3,7 @@ use Rattle.std.proofs.Common.{◌≡◌, ◌≢◌, ℕ, ◌+◌, ◌-◌, ◌�
 use Rattle.std.proofs.Common.{All, length, drop, refl, sym, ap, ◌∙◌, subst, inl, inr, ◌⊎◌, nat_eq, Option, Some, None, arith}
 use Rattle.std.specs.Prelude.{Ok, filter}
 use Rattle.std.specs.List.{find, list_any, Contains, range_with_len}
-use Rattle.std.proofs.lemmas.Bool.{cases_Bool, cases_lt, false≢true, and_parts, and_from, or_left, or_right}
+use Rattle.std.proofs.lemmas.Bool.{cases_Bool, cases_lt, false≢true, and_parts, and_from, and_right, or_left, or_right}
 use Rattle.std.proofs.lemmas.List.FromFn.{get_or-range_with_len, length-range_with_len}
 use Rattle.std.proofs.lemmas.Option.{slice_get-get_or}
 use Rattle.domain_octets.specs.Words.{Octets}
@@ -15,11 +15,15 @@ use Rattle.domain_bitmap.specs.Blocks.{contains_type, types_of, types_below}
 use Rattle.domain_chain_rdata.specs.OptOut.{is_opt_out}
 use Rattle.domain_zone.specs.Enclosers.{exists_over, IsClosestEncloser}
 use Rattle.domain_zone.specs.Zone.{ZoneRecord, has_type, is_zone_cut, lists_type, owns, records_of, unoccluded_owners}
-use Rattle.domain_zone.proofs.NameLemmas.{one_lowered, same_itself, same_lowered, lowered_below, below_itself, below_trans, below_longer, below_length}
+use Rattle.domain_zone.proofs.NameLemmas.{one_lowered, same_lowered, below_itself, below_trans, below_longer, below_length}
+use Rattle.domain_zone.proofs.PairLemmas.{In}
+use Rattle.domain_zone.proofs.OwnerLemmas.{any_in, in_any, typed_owns}
+use Rattle.domain_zone.proofs.ZoneLemmas.{same_back}
 use Rattle.domain_nsec3.specs.Chain.{HashedLink, IsHashedChain}
 use Rattle.domain_nsec3.specs.Config.{ChainConfig, Hash, Parameters, hash_name}
 use Rattle.domain_nsec3.specs.Meaning.{AreAlone, IsAlone}
 use Rattle.domain_nsec3.specs.Owners.{is_chain_name, is_empty, is_excluded, is_listed, is_original_owner, is_unsigned_cut, nsec3_lists, original_owners}
+use Rattle.domain_checker.specs.HashedFacts.{ChainFacts, ChainsAreKnown}
 use Rattle.domain_checker.specs.HashedList.{is_hash_match, is_hash_cover}
 use Rattle.domain_checker.specs.HashedReading.{is_none, tells_cut, hash_match_verdict, hash_cover_verdict, told_verdict, IsNextHash, IsUnmatched, IsWalked}
 use Rattle.domain_checker.specs.HashedVerdict.{is_below_chain_cut, original_verdict, missing_verdict, hashed_zone_verdict, next_closer}
@@ -28,10 +32,12 @@ use Rattle.domain_checker.specs.HashedVerdict.{IsHashedProved, IsFirstMatched, l
 use Rattle.domain_checker.specs.Verdict.{closest_encloser, IsWithin}
 use Rattle.domain_checker.specs.declared.verdict.Verdict.{Verdict}
 use Rattle.domain_checker.specs.declared.verdict.Verdict.TheVariants.{OutsideZone, BelowDelegation, Has, NoType, EmptyName, OptOut, NoName, NotProven}
-use Rattle.domain_checker.proofs.EncloserLemmas.{closest_is, cut_same, exists_same, owner_owns, same_length, strictly_longer}
-use Rattle.domain_checker.proofs.FindLemmas.{In, any_in, any_none, in_any, in_at, in_filter, find_some, find_none, Stands, stands_all, stands_in}
-use Rattle.domain_checker.proofs.HashedListLemmas.{ChainFacts, covered_in, covered_never, hash_same, matched_in, matched_once, told_at}
-use Rattle.domain_checker.proofs.HashedWalkLemmas.{below_strictly, closer_is, same_back, same_count}
+use Rattle.domain_checker.proofs.CutLemmas.{below_cut, cut_above, cut_apart, not_below}
+use Rattle.domain_checker.proofs.DefiniteLemmas.{choose, definite_proven, is_definite}
+use Rattle.domain_checker.proofs.EncloserLemmas.{apex_from, closest_is, cut_same, exists_same, owner_owns, same_length, same_count, strictly_from}
+use Rattle.domain_checker.proofs.FindLemmas.{any_none, in_at, in_filter, find_some, find_none, Stands, stands_all, stands_in}
+use Rattle.domain_checker.proofs.HashedListLemmas.{covered_in, covered_never, matched_in, matched_once, told_at, hash_same}
+use Rattle.domain_checker.proofs.HashedWalkLemmas.{closer_is}
 
 -- ---- a bitmap without types
 
@@ -65,13 +71,6 @@ nil_some types gives t b e =
     ∙ filter_some types (range_with_len 0 65536) (in_any types (range_with_len 0 65536) t (in_range 65536 t b) e)
 
 -- ---- the types of a name
-
--- a name that owns a record of a type owns records
-typed_owns : (L : List ZoneRecord) (n : Name) (t : ℕ) → has_type (records_of L n) t ≡ true → owns L n ≡ true
-typed_owns L n t h =
-    let r = any_in (λ r. nat_eq r.rtype t) (records_of L n) h in
-    let m = in_filter (λ r. same_name r.owner n) L r.0 r.1 in
-    in_any (λ r. same_name r.owner n) L r.0 m.0 m.1
 
 module _ (L : List ZoneRecord) (a : Name) (config : ChainConfig) where
   -- NS is listed where the name owns NS records
@@ -141,16 +140,8 @@ module _ (L : List ZoneRecord) (a : Name) (config : ChainConfig) (links : List H
   abbrev covered : Name → Bool
   covered = is_covered a config.parameters config.hash listed
 
-  apex_exists : exists_over (original_owners L a config) a a ≡ true
-  apex_exists =
-      let e = facts.tells.encloser x low in
-      let p = and_parts (is_at_or_below e.0 a) (list_any (λ n. is_at_or_below n e.0) owners) e.1.found in
-      let m = any_in (λ n. is_at_or_below n e.0) owners p.1 in
-      and_from (is_at_or_below a a) (list_any (λ n. is_at_or_below n a) owners) (below_itself a)
-      (in_any (λ n. is_at_or_below n a) owners m.0 m.1 (below_trans m.0 e.0 a m.2 p.0))
-
   closest : IsClosestEncloser (original_owners L a config) a x (closest_encloser (original_owners L a config) a x)
-  closest = closest_is (original_owners L a config) a x apex_exists low
+  closest = let e = facts.tells.encloser x low in closest_is (original_owners L a config) a x (apex_from (original_owners L a config) a e.0 e.1.found) low
 
   -- a list that has every record of the chain proves all
   pub whole_proves : ((k : HashedLink) → In k links → In k listed) → proves L a config listed x ≡ true
@@ -187,41 +178,6 @@ module _ (L : List ZoneRecord) (a : Name) (config : ChainConfig) (links : List H
   pub none_proved : (t : ℕ) → IsUnmatched listed a config.parameters config.hash x → NotProven ≡ hashed_proved_verdict L a config listed x t
   none_proved t f =
       untold t (f en closest.above (and_parts (is_at_or_below en a) (list_any (λ n. is_at_or_below n en) owners) closest.found).0).2
-
-  -- what exists is not strictly below a zone cut of the chain
-  cut_apart : (c y : Name) → is_zone_cut L a c ≡ true → is_original_owner L a config c ≡ true
-      → exists_over (original_owners L a config) a y ≡ true → is_strictly_below y c ≡ true → ⊥
-  cut_apart c y cut original there s =
-      let l = (facts.cuts.each c y cut original s).longest y there (below_itself y) in
-      let m = strictly_longer y c s in
-      omega arith
-
-  record CutAbove (y : Name) : Type 0 where
-    cut : Name
-    is_cut : is_zone_cut L a cut ≡ true
-    original : is_original_owner L a config cut ≡ true
-    under : is_strictly_below y cut ≡ true
-
-  cut_above : (y : Name) → is_below_chain_cut L a config y ≡ true → CutAbove y
-  cut_above y h =
-      let m = any_in (λ n. is_zone_cut L a n && is_strictly_below y n) owners h in
-      let p = and_parts (is_zone_cut L a m.0) (is_strictly_below y m.0) m.2 in
-      record { cut = m.0; is_cut = p.0; original = in_any (λ n. same_name n m.0) owners m.0 m.1 (same_itself m.0 m.0 refl); under = p.1 }
-
-  below_cut : (c y : Name) → is_zone_cut L a c ≡ true → is_original_owner L a config c ≡ true → is_strictly_below y c ≡ true
-      → is_below_chain_cut L a config y ≡ true
-  below_cut c y cut original s =
-      let m = any_in (λ n. same_name n c) owners original in
-      let at : Name → Bool = λ k. lowered_below (lowered y) k && not (same_lowered (lowered y) k) in
-      in_any (λ n. is_zone_cut L a n && is_strictly_below y n) owners m.0 m.1
-      (and_from (is_zone_cut L a m.0) (is_strictly_below y m.0) (cut_same L a m.0 c m.2 ∙ cut) (ap at (one_lowered m.0 c m.2) ∙ s))
-
-  not_below : (y : Name) → exists_over (original_owners L a config) a y ≡ true → is_below_chain_cut L a config y ≡ false
-  not_below y there =
-      elim (cases_Bool (is_below_chain_cut L a config y)) [
-        | inl f ↦ let c = cut_above y f in absurd (cut_apart c.cut y c.is_cut c.original there c.under)
-        | inr f ↦ f
-      ]
 
   -- d is the first that is matched, v its hash, and k the first record that matches it
   module _ (d : Name) (first : IsFirstMatched a config.parameters config.hash listed x d) (v : Octets)
@@ -298,7 +254,7 @@ module _ (L : List ZoneRecord) (a : Name) (config : ChainConfig) (links : List H
       at_name s =
           let there : exists_over owners a x ≡ true = sym (exists_same owners a d x s) ∙ exists in
           proved (hash_match_verdict a d k t) (λ j. (s j || is_zone_cut L a d) || covered (next_closer x d))
-          (inside (hash_match_verdict a d k t) (not_below x there)
+          (inside (hash_match_verdict a d k t) (not_below L a config facts.cuts x there)
           (elim (cases_Bool (is_original_owner L a config x)) [
             | inl h ↦
                 (λ j. cond ((type_at t bound ∙ facts.alike d x s t) j) Has
@@ -309,15 +265,11 @@ module _ (L : List ZoneRecord) (a : Name) (config : ChainConfig) (links : List H
             | inr h ↦
                 let no_bit : (u : ℕ) → nsec3_lists L a config d u ≡ false = λ u. facts.alike d x s u
                 ∙ empty_lists L a config x (sym (facts.exist x low) ∙ there) h u in
-                let no_cut : tells_cut a d k ≡ false = (λ j. not (same_name d a) && (type_at ns (omega arith) ∙ no_bit ns) j) ∙ none (not (same_name d a)) in
+                let no_cut : tells_cut a d k ≡ false = and_right (not (same_name d a)) (contains_type k.bits ns) (type_at ns (omega arith) ∙ no_bit ns) in
                 (λ j. cond ((type_at t bound ∙ no_bit t) j) Has (cond (no_cut j && not (nat_eq t ds)) BelowDelegation (cond (empty no_bit j) EmptyName NoType)))
                 ∙ sym (λ j. cond (h j) (original_verdict L a config x t) (cond (there j) EmptyName (missing_verdict (is_opt_out config.flags) (length en))))
           ]))
         where
-          none : (b : Bool) → (b && false) ≡ false
-          none true = refl
-          none false = refl
-
           typed : (nsec3_lists L a config x rrsig ≡ true) ⊎ (nsec3_lists L a config x ns ≡ true) → is_none (types_of k.bits) ≡ false
           typed (inl e) = ap (λ o. is_none (types_of o)) told.1
               ∙ nil_some (nsec3_lists L a config d) (facts.gives (nsec3_lists L a config d)) rrsig (omega arith)
@@ -338,9 +290,9 @@ module _ (L : List ZoneRecord) (a : Name) (config : ChainConfig) (links : List H
       -- a zone cut above
       at_cut : same_name d x ≡ false → is_zone_cut L a d ≡ true → BelowDelegation ≡ hashed_proved_verdict L a config listed x t
       at_cut s c =
-          let under = below_strictly x d first.above (longer s) in
+          let under = strictly_from x d first.above (longer s) in
           proved BelowDelegation (or_left (same_name d x || is_zone_cut L a d) (covered (next_closer x d)) (or_right (same_name d x) (is_zone_cut L a d) c))
-          (sym (λ j. cond (not (low j)) OutsideZone (cond (below_cut d x c (cut_original c) under j) BelowDelegation
+          (sym (λ j. cond (not (low j)) OutsideZone (cond (below_cut L a config d x c (cut_original c) under j) BelowDelegation
           (cond (is_original_owner L a config x) (original_verdict L a config x t)
           (cond (exists_over owners a x) EmptyName (missing_verdict (is_opt_out config.flags) (length en)))))))
 
@@ -371,14 +323,14 @@ module _ (L : List ZoneRecord) (a : Name) (config : ChainConfig) (links : List H
           no_cut_above =
               elim (cases_Bool (is_below_chain_cut L a config x)) [
                 | inl f ↦
-                    let r = cut_above x f in
+                    let r = cut_above L a config x f in
                     let above = (and_parts (is_at_or_below x r.cut) (not (same_name x r.cut)) r.under).0 in
                     let e = facts.cuts.each r.cut x r.is_cut r.original r.under in
                     let l = closest.longest r.cut e.found above in
                     let under = below_longer x d r.cut first.above above (omega (arith, l, level)) in
                     elim (cases_Bool (same_name d r.cut)) [
                       | inl g ↦ absurd (false≢true (sym c ∙ cut_same L a d r.cut g ∙ r.is_cut))
-                      | inr g ↦ absurd (cut_apart r.cut d r.is_cut r.original exists
+                      | inr g ↦ absurd (cut_apart L a config facts.cuts r.cut d r.is_cut r.original exists
                           (and_from (is_at_or_below d r.cut) (not (same_name d r.cut)) under (ap not g)))
                     ]
                 | inr f ↦ f
@@ -417,12 +369,12 @@ module _ (L : List ZoneRecord) (a : Name) (config : ChainConfig) (links : List H
 
     module _ (deeper : length d < length (closest_encloser (original_owners L a config) a x)) (t : ℕ) where
       strictly : is_strictly_below (closest_encloser (original_owners L a config) a x) d ≡ true
-      strictly = below_strictly en d down deeper
+      strictly = strictly_from en d down deeper
 
       no_cut : tells_cut a d k ≡ false
       no_cut =
           told_cut ∙ elim (cases_Bool (is_zone_cut L a d)) [
-            | inl f ↦ absurd (cut_apart d en f (cut_original f) closest.found strictly)
+            | inl f ↦ absurd (cut_apart L a config facts.cuts d en f (cut_original f) closest.found strictly)
             | inr f ↦ f
           ]
 
@@ -527,12 +479,8 @@ module _ (listed : List HashedLink) (a : Name) (p : Parameters) (hash : Hash) (x
   walked_within verdict (inl w) = subst (IsWithin (length x)) (sym w.says) (within_told (length x) w.name w.link w.next (below_length x w.name w.first.above))
   walked_within verdict (inr w) = subst (IsWithin (length x)) (sym w.0) tt
 
--- what the laws say of every chain
-abbrev pub KnowsChains : Type 0
-KnowsChains = (L : List ZoneRecord) (a : Name) (config : ChainConfig) (links : List HashedLink) → IsHashedChain L a config links → ChainFacts L a config links
-
 -- for records of the chain of any zone
-pub walked_proved : KnowsChains → (listed : List HashedLink) (a : Name) (p : Parameters) (hash : Hash) (x : Name) (t : ℕ)
+pub walked_proved : ChainsAreKnown → (listed : List HashedLink) (a : Name) (p : Parameters) (hash : Hash) (x : Name) (t : ℕ)
     (verdict : Verdict) → t < 65536 → is_at_or_below x a ≡ true → IsWalked listed a p hash x t verdict
     → IsHashedProved listed a p hash x t verdict
 walked_proved knows listed a p hash x t verdict b low w = λ L config links same_hash same_parameters chain free among.
@@ -551,7 +499,7 @@ walked_proved knows listed a p hash x t verdict b low w = λ L config links same
 
 -- ---- the whole chain
 
-pub whole_chain_proves : KnowsChains → (L : List ZoneRecord) (a : Name) (config : ChainConfig) (links : List HashedLink)
+pub whole_chain_proves : ChainsAreKnown → (L : List ZoneRecord) (a : Name) (config : ChainConfig) (links : List HashedLink)
     (x : Name) (t : ℕ) → IsHashedChain L a config links → AreAlone L a config x
     → hashed_proved_verdict L a config links x t ≡ hashed_zone_verdict L a config x t
 whole_chain_proves knows L a config links x t chain free =
@@ -562,24 +510,10 @@ whole_chain_proves knows L a config links x t chain free =
       | inr e ↦ (λ i. cond (not (e i) || proves L a config links x) (hashed_zone_verdict L a config x t) NotProven)
     ]
 
-is_told : Verdict → Bool
-is_told OutsideZone = true
-is_told BelowDelegation = true
-is_told Has = true
-is_told NoType = true
-is_told EmptyName = true
-is_told (OptOut n) = true
-is_told (NoName n) = true
-is_told NotProven = false
-
-choose : (b : Bool) (v w : Verdict) → is_told v ≡ true → is_told w ≡ true → is_told (cond b v w) ≡ true
-choose true v w e f = e
-choose false v w e f = f
-
 -- a zone has a verdict on every name and type
 pub hashed_zone_says : (L : List ZoneRecord) (a : Name) (config : ChainConfig) (x : Name) (t : ℕ) → hashed_zone_verdict L a config x t ≢ NotProven
-unfolding is_told
-hashed_zone_says L a config x t none = false≢true (ap is_told (sym none) ∙ says)
+unfolding is_definite
+hashed_zone_says L a config x t = definite_proven (hashed_zone_verdict L a config x t) says
   where
     cut : Verdict
     cut = cond (is_zone_cut L a x && not (nat_eq t ds)) BelowDelegation NoType
@@ -593,7 +527,7 @@ hashed_zone_says L a config x t none = false≢true (ap is_told (sym none) ∙ s
     inner : Verdict
     inner = cond (is_original_owner L a config x) (original_verdict L a config x t) other
 
-    says : is_told (hashed_zone_verdict L a config x t) ≡ true
+    says : is_definite (hashed_zone_verdict L a config x t) ≡ true
     says =
         choose (not (is_at_or_below x a)) OutsideZone (cond (is_below_chain_cut L a config x) BelowDelegation inner) refl
         (choose (is_below_chain_cut L a config x) BelowDelegation inner refl

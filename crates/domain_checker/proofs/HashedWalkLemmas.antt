@@ -10,6 +10,7 @@ use Rattle.domain_octets.specs.Words.{Octets}
 use Rattle.domain_base.specs.Name.{is_at_or_below, is_strictly_below, lowered, same_name, wire_of}
 use Rattle.domain_base.specs.Words.{Label, Name}
 use Rattle.domain_zone.proofs.NameLemmas.{one_lowered, same_itself, lowered_below, below_itself, below_trans, below_longer, below_length, below_parent}
+use Rattle.domain_zone.proofs.OwnerLemmas.{in_any}
 use Rattle.domain_nsec3.specs.Chain.{HashedLink}
 use Rattle.domain_nsec3.specs.Config.{Hash, Parameters, hash_name}
 use Rattle.domain_checker.specs.HashedList.{is_hash_cover, is_hash_match}
@@ -17,25 +18,9 @@ use Rattle.domain_checker.specs.HashedEncloser.{IsEncloser}
 use Rattle.domain_checker.specs.HashedPass.{IsLookedUp}
 use Rattle.domain_checker.specs.HashedReading.{IsNextHash, IsUnmatched}
 use Rattle.domain_checker.specs.HashedVerdict.{IsFirst, IsFirstRefusal, is_matched, is_ok_with, next_closer}
-use Rattle.domain_checker.proofs.EncloserLemmas.{same_length, strictly_longer}
-use Rattle.domain_checker.proofs.FindLemmas.{any_none, find_none, find_some, in_any}
+use Rattle.domain_checker.proofs.EncloserLemmas.{same_count, same_length, strictly_from, strictly_longer}
+use Rattle.domain_checker.proofs.FindLemmas.{any_none, find_none, find_some}
 use Rattle.domain_checker.proofs.HashedListLemmas.{hash_same}
-
-pub same_back : (x y : Name) → same_name x y ≡ true → same_name y x ≡ true
-same_back x y e = same_itself y x (sym (one_lowered x y e))
-
--- names that are the same have as many labels
-pub same_count : (x y : Name) → same_name x y ≡ true → length x ≡ length y
-same_count x y e = sym (length-map x (map to_ascii_lowercase)) ∙ ap length (one_lowered x y e) ∙ length-map y (map to_ascii_lowercase)
-
--- a name at or below another with as many labels is the same; with more it is strictly below
-pub below_strictly : (x d : Name) → is_at_or_below x d ≡ true → length d < length x → is_strictly_below x d ≡ true
-below_strictly x d p l =
-    and_from (is_at_or_below x d) (not (same_name x d)) p
-    (elim (cases_Bool (same_name x d)) [
-      | inl e ↦ let n = same_count x d e in absurd (omega arith)
-      | inr e ↦ ap not e
-    ])
 
 pub below_drop : (n : ℕ) (x : Name) → is_at_or_below x (drop n x) ≡ true
 below_drop zero x = below_itself x
@@ -55,7 +40,7 @@ closer_is x d p l =
     record {
       above = up;
       long = n;
-      below = below_strictly (next_closer x d) d (below_longer x (next_closer x d) d up p (omega (arith, n))) (omega (arith, n));
+      below = strictly_from (next_closer x d) d (below_longer x (next_closer x d) d up p (omega (arith, n))) (omega (arith, n));
     }
 
 -- ---- wire forms

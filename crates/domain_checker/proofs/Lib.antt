@@ -2,12 +2,15 @@ pub mod FindLemmas
 pub mod FirstLemmas
 pub mod EncloserLemmas
 pub mod SharedLemmas
+pub mod MeantLemmas
+pub mod DefiniteLemmas
 pub mod VerdictLemmas
 pub mod ListLemmas
 pub mod SpelledLemmas
 pub mod HashedListLemmas
 pub mod HashedWalkLemmas
 pub mod HashedEncloserLemmas
+pub mod CutLemmas
 pub mod HashedVerdictLemmas
 pub mod HandedInLemmas
 pub mod PairedLemmas

@@ -1,8 +1,8 @@
 -- What a list of records of the chain says by itself is what it proves.
 use Rattle.std.proofs.Common.{◌≡◌, ◌≢◌, ℕ, ◌<◌, ◌≤◌, Bool, true, false, cond, not, ◌&&◌, ◌||◌, nat_eq, ltb, List}
-use Rattle.std.proofs.Common.{[], ◌∷◌, length, refl, sym, ap, ◌∙◌, subst, inl, inr, Option, Some, None, arith}
+use Rattle.std.proofs.Common.{length, refl, sym, ◌∙◌, subst, inl, inr, Option, Some, None}
 use Rattle.std.specs.List.{find, list_any}
-use Rattle.std.proofs.lemmas.Bool.{cases_Bool, true≢false, and_parts, and_from, or_left, or_right}
+use Rattle.std.proofs.lemmas.Bool.{cases_Bool, and_parts, and_from, or_left, or_right}
 use Rattle.domain_bitmap.specs.Blocks.{contains_type}
 use Rattle.domain_base.specs.Name.{is_at_or_below, is_strictly_below, same_name}
 use Rattle.domain_base.specs.Order.{before}
@@ -11,92 +11,55 @@ use Rattle.domain_base.specs.Words.{Name}
 use Rattle.domain_zone.specs.Covering.{matches, covers, matches_or_covers}
 use Rattle.domain_zone.specs.Enclosers.{is_empty_nonterminal, longer, shared}
 use Rattle.domain_zone.specs.Zone.{ZoneRecord, OwnersNeverDescend, is_occluded, is_zone_cut, unoccluded_owners}
+use Rattle.domain_zone.proofs.PairLemmas.{In}
+use Rattle.domain_zone.proofs.OwnerLemmas.{in_any}
 use Rattle.domain_nsec.specs.Chain.{Link, IsChain, nsec_lists}
-use Rattle.domain_nsec.specs.Meaning.{IsCycle, MirrorsZone, TellsEmpty, TellsEncloser, CoversBelowOccluders}
 use Rattle.domain_nsec.specs.declared.config.GenerateNsecConfig.{GenerateNsecConfig}
 use Rattle.domain_checker.specs.declared.verdict.Verdict.{Verdict}
-use Rattle.domain_checker.specs.declared.verdict.Verdict.TheVariants.{OutsideZone, BelowDelegation, Has, NoType, EmptyName, OptOut, NoName, NotProven}
+use Rattle.domain_checker.specs.declared.verdict.Verdict.TheVariants.{OutsideZone, BelowDelegation, Has, NoType, EmptyName, NoName, NotProven}
 use Rattle.domain_checker.specs.Verdict.{closest_encloser, owner_verdict, other_verdict, zone_verdict, has_match_or_cover}
 use Rattle.domain_checker.specs.Verdict.{proved_verdict, IsProved, is_inside, HasProof, IsWithin}
 use Rattle.domain_checker.specs.Reading.{is_at_cut, is_match, is_cover, verdict_of_both, verdict_of_cover, match_verdict, cover_verdict, list_verdict, reading}
-use Rattle.domain_checker.proofs.FindLemmas.{In, in_any, in_at, any_none, find_some, find_none, Stands, stands_all}
-use Rattle.domain_checker.proofs.VerdictLemmas.{config_with, IsMeant, IgnoresCase, BitmapsAreSets, inside, some_link, matched, covers_told}
+use Rattle.domain_checker.proofs.FindLemmas.{find_some, Stands, stands_all}
+use Rattle.domain_checker.proofs.DefiniteLemmas.{choose, definite_proven, is_definite}
+use Rattle.domain_checker.proofs.MeantLemmas.{BitmapsAreSets, ChainLaws, IgnoresCase, IsMeant, config_with, meant_by, some_link}
+use Rattle.domain_checker.proofs.MeantLemmas.{cover_of, match_of, silent}
+use Rattle.domain_checker.proofs.SharedLemmas.{shared_within}
+use Rattle.domain_checker.proofs.VerdictLemmas.{matched, covers_told}
 
--- the public laws of chains
-pub record ChainLaws : Type 0 where
-  pub cycle : (L : List ZoneRecord) (a : Name) (config : GenerateNsecConfig) (links : List Link) → OwnersNeverDescend L
-      → IsChain L a config links → IsCycle a links
-  pub denial : (L : List ZoneRecord) (a : Name) (config : GenerateNsecConfig) (links : List Link) → OwnersNeverDescend L
-      → IsChain L a config links → MirrorsZone L a config links
-  pub nonterminals : (L : List ZoneRecord) (a : Name) (config : GenerateNsecConfig) (links : List Link) → OwnersNeverDescend L
-      → IsChain L a config links → TellsEmpty L a config links
-  pub enclosers : (L : List ZoneRecord) (a : Name) (config : GenerateNsecConfig) (links : List Link) → OwnersNeverDescend L
-      → IsChain L a config links → TellsEncloser L a config links
-  pub occluded : (L : List ZoneRecord) (a : Name) (config : GenerateNsecConfig) (links : List Link) → OwnersNeverDescend L
-      → IsChain L a config links → CoversBelowOccluders L a config links
-
-meant_by : ChainLaws → (L : List ZoneRecord) (a : Name) (config : GenerateNsecConfig) (links : List Link)
+-- a chain that keeps what stands below a DNAME
+meant_keeping : ChainLaws → (L : List ZoneRecord) (a : Name) (config : GenerateNsecConfig) (links : List Link)
     → config.occlude_below_dname ≡ false → OwnersNeverDescend L → IsChain L a config links
-    → IsMeant L a config.assume_dnskeys_will_be_added links
-meant_by laws L a config links keeps order chain =
-    let plain = config_with config.assume_dnskeys_will_be_added in
-    let is : config ≡ plain = λ i. record { assume_dnskeys_will_be_added = config.assume_dnskeys_will_be_added; occlude_below_dname = keeps i } in
-    let such : IsChain L a plain links = subst (λ c. IsChain L a c links) is chain in
-    record {
-      chain = such;
-      cycle = laws.cycle L a plain links order such;
-      denial = laws.denial L a plain links order such;
-      nonterminals = laws.nonterminals L a plain links order such;
-      enclosers = laws.enclosers L a plain links order such;
-      occluded = laws.occluded L a plain links order such;
-    }
+    → IsMeant false L a config.assume_dnskeys_will_be_added links
+meant_keeping laws L a config links keeps order chain =
+    let is : config ≡ config_with false config.assume_dnskeys_will_be_added =
+    λ i. record { assume_dnskeys_will_be_added = config.assume_dnskeys_will_be_added; occlude_below_dname = keeps i } in
+    meant_by laws false L a config.assume_dnskeys_will_be_added links order (subst (λ c. IsChain L a c links) is chain)
 
 -- ---- records of a chain
 
-with_true : (p q : Bool) → q ≡ true → (p && q) ≡ p
-with_true true q e = e
-with_true false q e = refl
-
-module _ (L : List ZoneRecord) (a : Name) (assume : Bool) (links : List Link) (meant : IsMeant L a assume links)
+module _ (L : List ZoneRecord) (a : Name) (assume : Bool) (links : List Link) (meant : IsMeant false L a assume links)
     (alike : IgnoresCase L a assume) (sets : BitmapsAreSets)
     (listed : List Link) (among : (k : Link) → In k listed → Stands links k) (x : Name) (low : is_at_or_below x a ≡ true) where
-  says : (k : Link) → In k listed → matches_or_covers before k.owner k.next x ≡ true → has_match_or_cover listed x ≡ true
-  says k i e = in_any (λ k. matches_or_covers before k.owner k.next x) listed k i e
-
-  in_links : (k : Link) → In k listed → In k links
-  in_links k i = let s = among k i in in_at links s.place k s.there
-
   proved : (t : ℕ) (v : Verdict) → v ≡ zone_verdict L a assume x t → has_match_or_cover listed x ≡ true → v ≡ proved_verdict L a assume listed x t
   proved t v e s = e ∙ sym (λ j. cond (not (low j) || s j) (zone_verdict L a assume x t) NotProven)
-
-  silent : find (is_match a x) listed ≡ None → find (is_cover a x) listed ≡ None → has_match_or_cover listed x ≡ false
-  silent e f =
-      any_none (λ k. matches_or_covers before k.owner k.next x) listed (λ k i.
-      let within = inside L a assume links meant k (in_links k i) in
-      (λ j. (sym (with_true (matches before k.owner x) (is_inside a k) within) ∙ find_none (is_match a x) listed e k i) j
-      || (sym (with_true (covers before k.owner k.next x) (is_inside a k) within) ∙ find_none (is_cover a x) listed f k i) j))
 
   list_proved : (t : ℕ) → t < 65536 → list_verdict a listed x t ≡ proved_verdict L a assume listed x t
   list_proved t b = by_match (find (is_match a x) listed) refl
     where
       by_cover : (o : Option Link) → find (is_match a x) listed ≡ None → find (is_cover a x) listed ≡ o
           → verdict_of_cover a x o ≡ proved_verdict L a assume listed x t
-      by_cover None e f = sym (λ j. cond (not (low j) || silent e f j) (zone_verdict L a assume x t) NotProven)
+      by_cover None e f = sym (λ j. cond (not (low j) || silent false L a assume links meant listed among x e f j) (zone_verdict L a assume x t) NotProven)
       by_cover (Some k) e f =
-          let r = find_some (is_cover a x) listed k f in
-          let s = among k r.0 in
-          let c = (and_parts (covers before k.owner k.next x) (is_inside a k) r.1).0 in
-          proved t (cover_verdict a k x) (covers_told L a assume links meant alike sets k s.place s.there x low c t)
-          (says k r.0 (or_right (matches before k.owner x) (covers before k.owner k.next x) c))
+          let r = cover_of false L a assume links meant listed among x k f in
+          proved t (cover_verdict a k x) (covers_told L a assume links meant alike sets k r.0.place r.0.there x low r.1 t) r.2
 
       by_match : (o : Option Link) → find (is_match a x) listed ≡ o
           → verdict_of_both a x t o (find (is_cover a x) listed) ≡ proved_verdict L a assume listed x t
       by_match None e = by_cover (find (is_cover a x) listed) e refl
       by_match (Some k) e =
-          let r = find_some (is_match a x) listed k e in
-          let m = (and_parts (matches before k.owner x) (is_inside a k) r.1).0 in
-          proved t (match_verdict a k t) (matched L a assume links meant alike sets k (in_links k r.0) x m t b)
-          (says k r.0 (or_left (matches before k.owner x) (covers before k.owner k.next x) m))
+          let r = match_of false L a assume links meant listed among x k e in
+          proved t (match_verdict a k t) (matched L a assume links meant alike sets k r.0 x r.1 t b) r.2
 
 -- what they say is what they prove, of every name and type
 pub reading_proved : ChainLaws → ((L : List ZoneRecord) (a : Name) (assume : Bool) → IgnoresCase L a assume) → BitmapsAreSets
@@ -108,7 +71,7 @@ reading_proved laws alike sets listed a x t b L config links keeps order chain a
     assume = config.assume_dnskeys_will_be_added
 
     by : (low : Bool) → is_at_or_below x a ≡ low → cond low (list_verdict a listed x t) OutsideZone ≡ proved_verdict L a assume listed x t
-    by true e = list_proved L a assume links (meant_by laws L a config links keeps order chain) (alike L a assume) sets listed
+    by true e = list_proved L a assume links (meant_keeping laws L a config links keeps order chain) (alike L a assume) sets listed
         (stands_all links listed among) x e t b
     by false e = sym (outside (is_at_or_below x a) (has_match_or_cover listed x) _ e)
       where
@@ -137,12 +100,6 @@ has_proof a listed x t n = by (find (is_match a x) listed) (find (is_cover a x) 
         told k r.0 p.1 (or_left (matches before k.owner x) (covers before k.owner k.next x) p.0)
 
 -- ---- how many labels a closest encloser has
-
-shared_within : (x y : Name) → length (shared x y) ≤ length x
-shared_within [] y = omega arith
-shared_within (l ∷ x) y =
-    let up = shared_within x y in
-    elim (is_at_or_below y (l ∷ x)) as (λ b. length (cond b (l ∷ x) (shared x y)) ≤ length (l ∷ x)) [ true ↦ omega arith | false ↦ omega arith ]
 
 longer_within : (n : ℕ) (e f : Name) → length e ≤ n → length f ≤ n → length (longer e f) ≤ n
 longer_within n e f p q =
@@ -179,7 +136,7 @@ pub whole_proves : ChainLaws → (L : List ZoneRecord) (a : Name) (config : Gene
     → proved_verdict L a config.assume_dnskeys_will_be_added links x t ≡ zone_verdict L a config.assume_dnskeys_will_be_added x t
 whole_proves laws L a config links x t keeps order chain =
     elim (cases_Bool (is_at_or_below x a)) [
-      | inl e ↦ (λ i. cond (not (e i) || some_link L a assume links (meant_by laws L a config links keeps order chain) x e i)
+      | inl e ↦ (λ i. cond (not (e i) || some_link false L a assume links (meant_keeping laws L a config links keeps order chain) x e i)
           (zone_verdict L a assume x t) NotProven)
       | inr e ↦ (λ i. cond (not (e i) || has_match_or_cover links x) (zone_verdict L a assume x t) NotProven)
     ]
@@ -187,39 +144,25 @@ whole_proves laws L a config links x t keeps order chain =
     assume : Bool
     assume = config.assume_dnskeys_will_be_added
 
-is_proof : Verdict → Bool
-is_proof OutsideZone = true
-is_proof BelowDelegation = true
-is_proof Has = true
-is_proof NoType = true
-is_proof EmptyName = true
-is_proof (OptOut n) = true
-is_proof (NoName n) = true
-is_proof NotProven = false
-
-choose : (b : Bool) (v w : Verdict) → is_proof v ≡ true → is_proof w ≡ true → is_proof (cond b v w) ≡ true
-choose true v w e f = e
-choose false v w e f = f
-
 -- a zone has a verdict on every name and type
 pub zone_says : (L : List ZoneRecord) (a : Name) (assume : Bool) (x : Name) (t : ℕ) → zone_verdict L a assume x t ≢ NotProven
-unfolding is_proof
-zone_says L a assume x t none = true≢false (sym says ∙ ap is_proof none)
+unfolding is_definite
+zone_says L a assume x t = definite_proven (zone_verdict L a assume x t) says
   where
     cut : Verdict
     cut = cond (is_zone_cut L a x && not (nat_eq t ds)) BelowDelegation NoType
 
-    owner : is_proof (owner_verdict L a assume x t) ≡ true
+    owner : is_definite (owner_verdict L a assume x t) ≡ true
     owner = choose (nsec_lists L a assume x t) Has cut refl (choose (is_zone_cut L a x && not (nat_eq t ds)) BelowDelegation NoType refl refl)
 
-    other : is_proof (other_verdict (unoccluded_owners false L a) a x) ≡ true
+    other : is_definite (other_verdict (unoccluded_owners false L a) a x) ≡ true
     other = choose (is_empty_nonterminal (unoccluded_owners false L a) a x) EmptyName
         (NoName (length (closest_encloser (unoccluded_owners false L a) a x))) refl refl
 
     inner : Verdict
     inner = cond (list_any (λ n. same_name n x) (unoccluded_owners false L a)) (owner_verdict L a assume x t) (other_verdict (unoccluded_owners false L a) a x)
 
-    says : is_proof (zone_verdict L a assume x t) ≡ true
+    says : is_definite (zone_verdict L a assume x t) ≡ true
     says =
         choose (not (is_at_or_below x a)) OutsideZone (cond (is_occluded false L a x) BelowDelegation inner) refl
         (choose (is_occluded false L a x) BelowDelegation inner refl

@@ -1,5 +1,5 @@
 -- The name that two names share has as many labels as they share from the root on.
-use Rattle.std.proofs.Common.{◌≡◌, ◌+◌, max, Bool, true, false, cond, [], ◌∷◌, ◌++◌, map, reverse, length, refl, sym, ap, ◌∙◌, inl, inr, arith, ltb, nat_eq}
+use Rattle.std.proofs.Common.{◌≡◌, ◌+◌, ◌≤◌, max, Bool, true, false, cond, [], ◌∷◌, ◌++◌, map, reverse, length, refl, sym, ap, ◌∙◌, inl, inr, arith, ltb, nat_eq}
 use Rattle.std.specs.List.{common_prefix_len}
 use Rattle.std.specs.Cmp.Lexicographic.{pointwise, bytes_decides}
 use Rattle.std.specs.Char.{to_ascii_lowercase}
@@ -59,6 +59,13 @@ shared_length (l ∷ x) y =
   where
     front : from_root (l ∷ x) ≡ from_root x ++ map to_ascii_lowercase l ∷ []
     front = reverse-append (map to_ascii_lowercase l ∷ []) (lowered x)
+
+-- of its own labels a name shares at most all
+pub shared_within : (x y : Name) → length (shared x y) ≤ length x
+shared_within [] y = omega arith
+shared_within (l ∷ x) y =
+    let up = shared_within x y in
+    elim (is_at_or_below y (l ∷ x)) as (λ b. length (cond b (l ∷ x) (shared x y)) ≤ length (l ∷ x)) [ true ↦ omega arith | false ↦ omega arith ]
 
 -- the longer of two
 pub longer_length : (e f : Name) → max (length e) (length f) ≡ length (longer e f)

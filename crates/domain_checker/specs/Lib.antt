@@ -6,5 +6,6 @@ pub mod HashedReading
 pub mod HashedView
 pub mod HashedPass
 pub mod HashedEncloser
+pub mod HashedFacts
 pub mod HandedIn
 pub mod Alike

@@ -17,11 +17,9 @@ ghost use Rattle.domain_checker.specs.Reading.{reading};
 ghost use Rattle.domain_checker.specs.declared.verdict.Verdict.{Verdict};
 ghost use Rattle.domain_checker.specs.declared.verdict.Verdict.TheVariants.{NotProven};
 
-pub use crate::nsec3_laws::{hashes_tell_of_names, walks_are_proved};
+pub use crate::nsec3_laws::{hashed_chains_are_known, hashes_tell_of_names, walks_are_proved};
 use domain_bitmap::laws::built_bitmaps_give_their_types;
 use domain_nsec::laws::{chains_mean_the_zone, types_ignore_case};
-use domain_nsec3::laws as hashed;
-use domain_octets::laws::{base32_reads_back, base32_tells_apart};
 
 /// Where the apex exists, a name at or below it has a closest encloser, which is the first of the
 /// name and its ancestors that exists.
@@ -97,11 +95,5 @@ pub fn whole_hashed_chains_prove_all()
     ensures definite { (L : List ZoneRecord) (a : Name) (config : ChainConfig) (x : Name) (t : ℕ)
         → hashed_zone_verdict L a config x t ≢ NotProven }
 {
-    hashed::chains_mean_the_zone();
-    hashed::names_exist();
-    hashed::names_end_at_the_encloser();
-    hashed::types_ignore_case();
-    built_bitmaps_give_their_types();
-    base32_reads_back();
-    base32_tells_apart();
+    hashed_chains_are_known();
 }

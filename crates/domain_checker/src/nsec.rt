@@ -1,37 +1,21 @@
 //! What records of an NSEC chain prove.
 ghost use Rattle.std.specs.Prelude.{◌≡◌, ◌≢◌, true, length};
-ghost use Rattle.domain_base.specs.Name.{is_at_or_below, is_strictly_below};
+ghost use Rattle.domain_base.specs.Name.{is_at_or_below};
 ghost use Rattle.domain_base.specs.Order.{before, canonical_cmp};
+ghost use Rattle.domain_base.specs.Words.{Name};
 ghost use Rattle.domain_zone.specs.Covering.{covers};
-ghost use Rattle.domain_zone.specs.Enclosers.{longer, shared};
 ghost use Rattle.domain_nsec.specs.ChainView.{as_link, links_of};
-ghost use Rattle.domain_checker.specs.Verdict.{is_inside, HasProof, IsProved, IsWithin};
-ghost use Rattle.domain_checker.specs.Reading.{cover_verdict, is_at_cut, is_cover, match_verdict, reading};
+ghost use Rattle.domain_checker.specs.Verdict.{HasProof, IsProved, IsWithin};
+ghost use Rattle.domain_checker.specs.Reading.{cover_verdict, is_cover, is_match, match_verdict, reading};
 
 use crate::Verdict;
+use crate::listed::{NsecRr, is_at_cut, is_before, is_inside, is_strictly_below, longer_shared};
 use crate::nsec_check::NsecCheck;
 use domain_base::{Rtype, ToName};
 use domain_chain_rdata::Nsec;
 use domain_octets::Octets;
 use domain_plain::Record;
 use std::cmp::Ordering;
-
-/// An NSEC record.
-type NsecRr<O, N> = Record<N, Nsec<O, N>>;
-
-/// Whether the owner and the next name are at or below the apex.
-pub(crate) fn is_inside<A: ToName, O: Octets, N: ToName>(apex: &A, listed: &NsecRr<O, N>) -> bool
-    ensures { result ≡ is_inside (A.labels apex.now) (as_link N.labels listed.now) }
-{
-    listed.owner().ends_with(apex) && listed.data().next_name().ends_with(apex)
-}
-
-/// Whether the name comes before another in canonical order.
-fn is_before<N: ToName, M: ToName>(name: &N, other: &M) -> bool
-    ensures { result ≡ before (N.labels name.now) (M.labels other.now) }
-{
-    name.name_cmp(other).is_lt()
-}
 
 /// Whether the owner and the next name cover the name: it lies between the two, or on either side
 /// of them where the next name is not after the owner. `order` is the canonical order of the owner
@@ -50,6 +34,20 @@ fn covers<N: ToName, M: ToName>(order: Ordering, owner: &N, next: &N, name: &M) 
     order.is_lt() || is_before(name, next)
 }
 
+/// Whether the record is not passed over and its owner is the name, by the canonical order of the
+/// two.
+#[tactic(auto, using(crate::proofs::FirstLemmas::match_is_tie))]
+pub(crate) fn is_match<A: ToName, O: Octets, N: ToName>(
+    apex: &A,
+    order: Ordering,
+    listed: &NsecRr<O, N>,
+) -> bool
+    ensures { (name : Name) → order ≡ canonical_cmp (N.labels listed.now.owner) name
+        → result ≡ is_match (A.labels apex.now) name (as_link N.labels listed.now) }
+{
+    order.is_eq() && is_inside(apex, listed)
+}
+
 /// Whether the record is not passed over and covers the name. `order` is the canonical order of its
 /// owner and the name.
 pub(crate) fn is_cover<A: ToName, O: Octets, N: ToName, M: ToName>(
@@ -63,13 +61,6 @@ pub(crate) fn is_cover<A: ToName, O: Octets, N: ToName, M: ToName>(
         (as_link N.labels listed.now) }
 {
     covers(order, listed.owner(), listed.data().next_name(), name) && is_inside(apex, listed)
-}
-
-/// Whether the owner is a zone cut.
-fn is_at_cut<A: ToName, O: Octets, N: ToName>(apex: &A, listed: &NsecRr<O, N>) -> bool
-    ensures { result ≡ is_at_cut (A.labels apex.now) (as_link N.labels listed.now) }
-{
-    listed.data().types().contains(Rtype::NS) && !listed.owner().name_eq(apex)
 }
 
 /// What a record says of its owner.
@@ -87,21 +78,6 @@ pub(crate) fn match_verdict<A: ToName, O: Octets, N: ToName>(
         return Verdict::BelowDelegation;
     }
     Verdict::NoType
-}
-
-/// Whether the name is below another, and not the same.
-fn is_strictly_below<N: ToName, M: ToName>(name: &N, above: &M) -> bool
-    ensures { result ≡ is_strictly_below (N.labels name.now) (M.labels above.now) }
-{
-    name.ends_with(above) && !name.name_eq(above)
-}
-
-/// How many labels the longer of the names has that the name shares with the two others.
-fn longer_shared<N: ToName, M: ToName>(name: &M, owner: &N, next: &N) -> usize
-    ensures { result ≡ length (longer (shared (M.labels name.now) (N.labels owner.now))
-        (shared (M.labels name.now) (N.labels next.now))) }
-{
-    name.common_labels(owner).max(name.common_labels(next))
 }
 
 /// What a record says of a name that it covers.

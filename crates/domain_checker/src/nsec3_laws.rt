@@ -9,6 +9,7 @@ ghost use Rattle.domain_nsec3.specs.Chain.{HashedLink, IsHashedChain};
 ghost use Rattle.domain_nsec3.specs.Config.{ChainConfig, Hash, Parameters};
 ghost use Rattle.domain_nsec3.specs.Meaning.{IsAlone};
 ghost use Rattle.domain_checker.specs.HashedEncloser.{IsDenial, IsOfName};
+ghost use Rattle.domain_checker.specs.HashedFacts.{ChainsAreKnown};
 ghost use Rattle.domain_checker.specs.HashedList.{is_hash_cover, is_hash_match};
 ghost use Rattle.domain_checker.specs.HashedReading.{IsWalked, WalksAreProved};
 ghost use Rattle.domain_checker.specs.declared.verdict.Verdict.{Verdict};
@@ -19,12 +20,10 @@ use domain_nsec3::laws::{
 };
 use domain_octets::laws::{base32_reads_back, base32_tells_apart};
 
-/// What NSEC3 records say on the way from a name to the apex is what they prove of any zone of
-/// whose chain they are; and of any records at all no verdict comes without a proof.
-pub fn walks_are_proved()
-    ensures { (listed : List HashedLink) (a : Name) (p : Parameters) (hash : Hash) (x : Name)
-        (t : ℕ) (verdict : Verdict) → t < 65536 → is_at_or_below x a ≡ true
-        → IsWalked listed a p hash x t verdict → WalksAreProved listed a p hash x t verdict }
+/// What the laws of NSEC3 chains, of names, of bitmaps and of Base 32 say, put together for each
+/// chain.
+pub fn hashed_chains_are_known()
+    ensures { ChainsAreKnown }
 {
     chains_mean_the_zone();
     names_exist();
@@ -33,6 +32,16 @@ pub fn walks_are_proved()
     built_bitmaps_give_their_types();
     base32_reads_back();
     base32_tells_apart();
+}
+
+/// What NSEC3 records say on the way from a name to the apex is what they prove of any zone of
+/// whose chain they are; and of any records at all no verdict comes without a proof.
+pub fn walks_are_proved()
+    ensures { (listed : List HashedLink) (a : Name) (p : Parameters) (hash : Hash) (x : Name)
+        (t : ℕ) (verdict : Verdict) → t < 65536 → is_at_or_below x a ≡ true
+        → IsWalked listed a p hash x t verdict → WalksAreProved listed a p hash x t verdict }
+{
+    hashed_chains_are_known();
 }
 
 /// A record of a chain that matches the hash of a name says that the name exists, and lists its
@@ -50,11 +59,5 @@ pub fn hashes_tell_of_names()
         → (k : HashedLink) → Contains links k → is_hash_cover a config.parameters v k ≡ true
         → IsDenial L a config x k }
 {
-    chains_mean_the_zone();
-    names_exist();
-    names_end_at_the_encloser();
-    types_ignore_case();
-    built_bitmaps_give_their_types();
-    base32_reads_back();
-    base32_tells_apart();
+    hashed_chains_are_known();
 }

@@ -8,7 +8,7 @@ ghost use Rattle.domain_checker.specs.HandedIn.{HasRead};
 ghost use Rattle.domain_checker.specs.Verdict.{HasProof, IsProved, IsWithin};
 ghost use Rattle.domain_checker.specs.Reading.{reading};
 
-use crate::nsec::{cover_verdict, is_cover, is_inside, match_verdict};
+use crate::nsec::{cover_verdict, is_cover, is_match, match_verdict};
 use crate::{Verdict, laws};
 use domain_base::{ParsedName, Rtype, ToName};
 use domain_chain_rdata::Nsec;
@@ -49,7 +49,7 @@ impl<'a> NsecCheck<'a> {
             return;
         }
         let order = listed.owner().name_cmp(&self.name);
-        if order.is_eq() && is_inside(&self.apex, listed) {
+        if is_match(&self.apex, order, listed) {
             self.matched = Some(match_verdict(&self.apex, listed, self.rtype));
             return;
         }

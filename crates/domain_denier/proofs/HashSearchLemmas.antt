@@ -21,13 +21,13 @@ use Rattle.domain_base.specs.Words.{Name}
 use Rattle.domain_zone.specs.Covering.{covers, matches, matches_or_covers, pairs}
 use Rattle.domain_zone.specs.Zone.{ZoneRecord}
 use Rattle.domain_zone.proofs.NameLemmas.{same_itself}
-use Rattle.domain_zone.proofs.PairLemmas.{IsAscending, irreflexive, one_matches_or_covers}
+use Rattle.domain_zone.proofs.PairLemmas.{IsAscending, irreflexive, one_matches_or_covers, In, all_in}
 use Rattle.domain_zone.proofs.PlaceLemmas.{IsOnly, one_place}
 use Rattle.domain_nsec3.specs.Chain.{HashedLink, HashedName, IsHashedChain, IsOfChain, cycle, ends, ends_of, hashed_owner}
 use Rattle.domain_nsec3.specs.Config.{ChainConfig, Parameters}
 use Rattle.domain_nsec3.specs.Meaning.{IsRecordOf, octets_before}
 use Rattle.domain_checker.specs.HashedList.{hash_in, is_some_with, is_spelling, owner_hash, read_label, same_parameters}
-use Rattle.domain_checker.proofs.FindLemmas.{In, all_in, in_at}
+use Rattle.domain_checker.proofs.FindLemmas.{in_at}
 use Rattle.domain_checker.proofs.HashedListLemmas.{tied_is}
 use Rattle.domain_denier.specs.HashedSteps.{IsOfHash, IsSaid, tells_hash}
 

@@ -12,7 +12,8 @@ use Rattle.domain_base.specs.Name.{is_at_or_below, same_name}
 use Rattle.domain_base.specs.Words.{Name}
 use Rattle.domain_zone.specs.Enclosers.{IsClosestEncloser, exists_over}
 use Rattle.domain_zone.specs.Zone.{ZoneRecord, is_zone_cut}
-use Rattle.domain_zone.proofs.NameLemmas.{below_itself, below_longer, below_trans}
+use Rattle.domain_zone.proofs.NameLemmas.{below_itself, below_longer}
+use Rattle.domain_zone.proofs.OwnerLemmas.{in_any}
 use Rattle.domain_nsec3.specs.Chain.{ChainRecords, HashedLink, HashedName, IsHashedChain, cycle, ends, ends_of}
 use Rattle.domain_nsec3.specs.Config.{ChainConfig, Hash, Parameters, hash_name}
 use Rattle.domain_nsec3.specs.Meaning.{IsAlone, TellsEncloser}
@@ -22,8 +23,8 @@ use Rattle.domain_checker.specs.HashedEncloser.{IsOfName}
 use Rattle.domain_checker.specs.HashedList.{is_hash_cover, is_hash_match}
 use Rattle.domain_checker.specs.HashedVerdict.{is_covered, is_matched, is_ok_with, next_closer}
 use Rattle.domain_checker.specs.Verdict.{closest_encloser}
-use Rattle.domain_checker.proofs.EncloserLemmas.{closest_is}
-use Rattle.domain_checker.proofs.FindLemmas.{any_in, any_none, find_none, in_any}
+use Rattle.domain_checker.proofs.EncloserLemmas.{apex_from, closest_is, same_count}
+use Rattle.domain_checker.proofs.FindLemmas.{any_none, find_none}
 use Rattle.domain_checker.proofs.HashedListLemmas.{hash_same}
 use Rattle.domain_answer.specs.declared.answer.Answer.{Answer}
 use Rattle.domain_answer.specs.declared.answer.Answer.TheVariants.{NoCloserName, NotProven}
@@ -32,7 +33,7 @@ use Rattle.domain_answer.specs.HashedReading.{IsHashedRead}
 use Rattle.domain_answer.specs.HashedZoneAnswer.{HashedLeavesOutBelowDname, hashed_encloser, hashed_zone_answer}
 use Rattle.domain_answer.specs.Proved.{last_labels}
 use Rattle.domain_answer.specs.ZoneAnswer.{is_at_parent, wildcard_below}
-use Rattle.domain_answer.proofs.CountLemmas.{closest_last, same_count}
+use Rattle.domain_answer.proofs.CountLemmas.{closest_last}
 use Rattle.domain_denier.specs.Picked.{at_place}
 use Rattle.domain_denier.specs.HashedPicked.{AreHashedNeeded, IsHashedDenial, IsHashedWhole, TellOfTheirParts, hashed_picked, other_place, picked_without}
 use Rattle.domain_denier.specs.HashedSteps.{IsPickedRead, IsSoleCover, IsSoleMatch, IsSoleWildcard}
@@ -150,15 +151,8 @@ module _ (laws : DenyLaws) (L : List ZoneRecord) (a : Name) (config : ChainConfi
     exists : exists_over (original_owners L a config) a sole.name ≡ true
     exists = (laws.matches L a config links chain sole.name sole.value sole.within alone sole.of.link contained sole.of.matched).exists
 
-    apex_exists : exists_over (original_owners L a config) a a ≡ true
-    apex_exists =
-        let q = and_parts (is_at_or_below sole.name a) (list_any (λ n. is_at_or_below n sole.name) owners) exists in
-        let m = any_in (λ n. is_at_or_below n sole.name) owners q.1 in
-        and_from (is_at_or_below a a) (list_any (λ n. is_at_or_below n a) owners) (below_itself a)
-        (in_any (λ n. is_at_or_below n a) owners m.0 m.1 (below_trans m.0 sole.name a m.2 sole.within))
-
     closest : IsClosestEncloser (original_owners L a config) a x (closest_encloser (original_owners L a config) a x)
-    closest = closest_is (original_owners L a config) a x apex_exists low
+    closest = closest_is (original_owners L a config) a x (apex_from (original_owners L a config) a sole.name exists) low
 
     -- it is the name that is matched first
     is_first : same_name (hashed_encloser L a config x) sole.name ≡ true

@@ -11,13 +11,15 @@ use Rattle.domain_base.specs.Words.{Name}
 use Rattle.domain_bitmap.specs.Blocks.{contains_type}
 use Rattle.domain_chain_rdata.specs.OptOut.{is_opt_out}
 use Rattle.domain_zone.proofs.NameLemmas.{below_length, below_longer}
+use Rattle.domain_zone.proofs.PairLemmas.{In}
+use Rattle.domain_zone.proofs.OwnerLemmas.{in_any}
 use Rattle.domain_nsec3.specs.Chain.{HashedLink}
 use Rattle.domain_nsec3.specs.Config.{Hash, Parameters, hash_name}
 use Rattle.domain_checker.specs.HashedEncloser.{Encloser, IsEncloser, encloser_is_cut, next_cover}
 use Rattle.domain_checker.specs.HashedList.{is_hash_cover, is_hash_match}
 use Rattle.domain_checker.specs.HashedReading.{IsNextHash, IsUnmatched}
 use Rattle.domain_checker.specs.HashedVerdict.{is_matched, is_ok_with}
-use Rattle.domain_checker.proofs.FindLemmas.{In, any_none, in_any, in_at}
+use Rattle.domain_checker.proofs.FindLemmas.{any_none, in_at}
 use Rattle.domain_checker.proofs.HashedWalkLemmas.{some_matched}
 use Rattle.domain_answer.specs.declared.answer.Answer.{Answer}
 use Rattle.domain_answer.specs.declared.answer.Answer.TheVariants.{Referral, Redirected}

@@ -13,13 +13,13 @@ use Rattle.domain_zone.specs.Zone.{ZoneRecord, is_occluded, is_unoccluded, unocc
 use Rattle.domain_nsec.specs.Chain.{Link}
 use Rattle.domain_nsec.specs.declared.config.GenerateNsecConfig.{GenerateNsecConfig}
 use Rattle.domain_checker.specs.Verdict.{has_match_or_cover}
-use Rattle.domain_checker.proofs.ListLemmas.{ChainLaws}
+use Rattle.domain_checker.proofs.MeantLemmas.{ChainLaws, IsMeant, apex_exists}
 use Rattle.domain_answer.specs.declared.answer.Answer.{Answer}
 use Rattle.domain_answer.specs.declared.answer.Answer.TheVariants.{AtParent, NoCloserName, NotProven, OutsideZone}
 use Rattle.domain_answer.specs.Proved.{IsAnswered, is_missing, knows_wildcard, last_labels, needs_no_records, proved_answer}
 use Rattle.domain_answer.specs.Reading.{reading}
 use Rattle.domain_answer.specs.ZoneAnswer.{encloser, highest_occluder, inside_answer, is_at_parent, name_exists, wildcard_below, zone_answer}
-use Rattle.domain_answer.proofs.ChainLemmas.{IsMeant, apex_exists, meant_by}
+use Rattle.domain_answer.proofs.ChainLemmas.{meant_leaving}
 use Rattle.domain_answer.proofs.CountLemmas.{closest_last}
 use Rattle.domain_answer.proofs.WholeLemmas.{wildcard_low}
 use Rattle.domain_denier.specs.Picked.{AreNeeded, IsOf, IsWhole, IsWildcardPicked, at_place, listed_option, picked}
@@ -72,8 +72,8 @@ module _ (laws : ChainLaws) (answers : AnswerLaws) (links : List Link) (L : List
   abbrev zone : Answer
   zone = zone_answer L a config.assume_dnskeys_will_be_added x t
 
-  meant : IsMeant L a config.assume_dnskeys_will_be_added links
-  meant = meant_by laws L a config links whole.leaves_out whole.order whole.chain
+  meant : IsMeant true L a config.assume_dnskeys_will_be_added links
+  meant = meant_leaving laws L a config links whole.leaves_out whole.order whole.chain
 
   proved : (listed : List Link) → All (Contains links) listed → reading a listed x t ≡ proved_answer L a config.assume_dnskeys_will_be_added listed x t
   proved listed among = answers.zone listed a x t small L config links whole.leaves_out whole.order whole.chain among
@@ -145,7 +145,7 @@ module _ (laws : ChainLaws) (answers : AnswerLaws) (links : List Link) (L : List
 
       pub wildcard_under : is_at_or_below (wildcard_below (last_labels count x)) a ≡ true
       wildcard_under = ap (λ w. is_at_or_below w a) wildcard_is
-          ∙ wildcard_low L a x (apex_exists L a config.assume_dnskeys_will_be_added links meant) under
+          ∙ wildcard_low L a x (apex_exists true L a config.assume_dnskeys_will_be_added links meant) under
 
       module _ (q : ℕ) (of_w : IsOf links q (wildcard_below (last_labels count x))) where
         there_w : at_place links (Some q) ≡ of_w.link ∷ []

@@ -12,8 +12,8 @@ use Rattle.domain_zone.proofs.NameLemmas.{below_from, before_right, one_lowered}
 use Rattle.domain_nsec.specs.Chain.{Link}
 use Rattle.domain_nsec.specs.declared.config.GenerateNsecConfig.{GenerateNsecConfig}
 use Rattle.domain_checker.proofs.FindLemmas.{in_at}
-use Rattle.domain_checker.proofs.ListLemmas.{ChainLaws}
-use Rattle.domain_answer.proofs.ChainLemmas.{inside, meant_by}
+use Rattle.domain_checker.proofs.MeantLemmas.{ChainLaws, inside}
+use Rattle.domain_answer.proofs.ChainLemmas.{meant_leaving}
 use Rattle.domain_denier.specs.Picked.{IsOf, IsWhole}
 use Rattle.domain_denier.specs.Search.{AreEnds, IsAhead, IsBehind}
 
@@ -97,9 +97,9 @@ module _ (laws : ChainLaws) (links : List Link) (x : Name) (low high : ℕ) (end
             ∙ before_right x cycle.first.owner a (one_lowered cycle.first.owner a cycle.begins) ∙ below_from x a under
         | inr f ↦ f d
       ] in
-      let meant = meant_by laws L a config links whole.leaves_out whole.order whole.chain in
+      let meant = meant_leaving laws L a config links whole.leaves_out whole.order whole.chain in
       let owner_low : is_at_or_below k.owner a ≡ true = (and_parts (is_at_or_below k.owner a) (is_at_or_below k.next a)
-      (inside L a config.assume_dnskeys_will_be_added links meant k (in_at links low k there))).0 in
+      (inside true L a config.assume_dnskeys_will_be_added links meant k (in_at links low k there))).0 in
       let names = whole.chain.names in
       let is_high : high ≡ suc low = omega (arith, within, near) in
       let is_next : (before x k.next ≡ true) ⊎ (before k.owner k.next ≡ false) = elim (cases_lt (suc low) (length links)) [

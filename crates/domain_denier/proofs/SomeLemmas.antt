@@ -8,10 +8,10 @@ use Rattle.std.proofs.lemmas.List.Elements.{All-nil, All-push, All-append}
 use Rattle.std.proofs.lemmas.Option.{slice_get_within, get_or_from_slice_get}
 use Rattle.domain_octets.specs.Words.{Octets}
 use Rattle.domain_base.specs.Words.{Name}
+use Rattle.domain_zone.proofs.PairLemmas.{In}
 use Rattle.domain_nsec3.specs.Chain.{HashedLink}
 use Rattle.domain_nsec3.specs.Config.{Parameters}
 use Rattle.domain_checker.specs.HashedList.{is_hash_cover, is_hash_match}
-use Rattle.domain_checker.proofs.FindLemmas.{In}
 use Rattle.domain_denier.specs.Picked.{at_place, listed_option}
 use Rattle.domain_denier.specs.HashedPicked.{other_place}
 use Rattle.domain_denier.specs.HashedSteps.{IsOfHash, tells_hash}

@@ -1,19 +1,12 @@
 //! The record of a chain that says something of a name.
 ghost use Rattle.std.specs.Prelude.{◌≡◌, ◌<◌, length, IfSome, IsTrue};
-ghost use Rattle.domain_base.specs.Order.{before};
 ghost use Rattle.domain_denier.specs.Picked.{IsFound};
 ghost use Rattle.domain_denier.specs.Search.{AreEnds, IsAhead, IsBehind};
 
 use crate::owner_keys::OwnerKeys;
 use domain_base::ToName;
+use domain_checker::is_before;
 use domain_nsec::{NsecChain, laws};
-
-/// Whether the name comes before another in canonical order.
-fn is_before<M: ToName, N: ToName>(name: &M, other: &N) -> bool
-    ensures { result ≡ before (M.labels name.now) (N.labels other.now) }
-{
-    name.name_cmp(other).is_lt()
-}
 
 /// The ends of a search: the record that it looks for stands at `low` or after it, and before
 /// `high`.

@@ -1,11 +1,10 @@
-use Rattle.std.proofs.Common.{◌≡◌, ◌+◌, true, false, not, Option, map, drop, sym, ap, ◌∙◌}
+use Rattle.std.proofs.Common.{◌≡◌, ◌+◌, true, false, not, Option, Some, None, map, drop, sym, ap, ◌∙◌}
 use Rattle.std.specs.List.{find}
 use Rattle.std.specs.Option.{is_some, option_map, option_or}
-use Rattle.std.proofs.lemmas.List.{at_drop_all}
 use Rattle.domain_nsec.specs.ChainView.{as_link}
 use Rattle.domain_checker.specs.Reading.{is_cover, is_match}
 use Rattle.domain_checker.proofs.FirstLemmas.{found_here, found_later, met_here, met_later, met_before}
-use Rattle.domain_answer.proofs.FoundLemmas.{or_none}
+use Rattle.domain_answer.proofs.FoundLemmas.{passed_all}
 use Rattle.domain_answer.proofs.found.find_nsec.Goals as goal
 use Rattle.domain_answer.proofs.found.find_nsec.Goals.{then-is_none+then-is_cover, else-is_none}
 use Rattle.domain_answer.proofs.found.find_nsec.Goals.{else-is_none-via-then-is_none+else-is_cover, else-is_none-via-else-is_none}
@@ -64,29 +63,15 @@ loop-listed-preserved g c =
 pub returns-in-Some : goal.returns-in-Some
 returns-in-Some g c =
     let see = as_link g.N.ToName.labels in
-    let at = c.loop-listed.listed-index in
-    let chain = c.args.chain.now in
-    let matched = is_match (g.A.ToName.labels c.args.apex.now) (g.M.ToName.labels c.args.name.now) in
-    let covered = is_cover (g.A.ToName.labels c.args.apex.now) (g.M.ToName.labels c.args.name.now) in
-    let cover = option_map (λ r. see r.now) c.loop-listed.cover in
-    record {
-      matching = sym (c.loop-listed.invariant.matching ∙ at_drop_all (λ ys. find matched (map see ys)) chain at c.loop-listed-test.false);
-      covering = λ none. sym (c.loop-listed.invariant.covering
-          ∙ at_drop_all (λ ys. option_or cover (find covered (map see ys))) chain at c.loop-listed-test.false ∙ or_none cover
-          ∙ ap (option_map (λ r. see r.now)) c.in-Some.is);
-    }
+    let so = c.loop-listed.invariant in
+    passed_all (g.A.ToName.labels c.args.apex.now) (g.M.ToName.labels c.args.name.now) see c.args.chain.now c.loop-listed.listed-index
+    (option_map (λ r. see r.now) c.loop-listed.cover) (Some (see c.in-Some.listed.now)) c.loop-listed-test.false so.matching so.covering
+    (ap (option_map (λ r. see r.now)) c.in-Some.is)
 
 pub returns-in-None : goal.returns-in-None
 returns-in-None g c =
     let see = as_link g.N.ToName.labels in
-    let at = c.loop-listed.listed-index in
-    let chain = c.args.chain.now in
-    let matched = is_match (g.A.ToName.labels c.args.apex.now) (g.M.ToName.labels c.args.name.now) in
-    let covered = is_cover (g.A.ToName.labels c.args.apex.now) (g.M.ToName.labels c.args.name.now) in
-    let cover = option_map (λ r. see r.now) c.loop-listed.cover in
-    record {
-      matching = sym (c.loop-listed.invariant.matching ∙ at_drop_all (λ ys. find matched (map see ys)) chain at c.loop-listed-test.false);
-      covering = λ none. sym (c.loop-listed.invariant.covering
-          ∙ at_drop_all (λ ys. option_or cover (find covered (map see ys))) chain at c.loop-listed-test.false ∙ or_none cover
-          ∙ ap (option_map (λ r. see r.now)) c.in-None.is);
-    }
+    let so = c.loop-listed.invariant in
+    passed_all (g.A.ToName.labels c.args.apex.now) (g.M.ToName.labels c.args.name.now) see c.args.chain.now c.loop-listed.listed-index
+    (option_map (λ r. see r.now) c.loop-listed.cover) None c.loop-listed-test.false so.matching so.covering
+    (ap (option_map (λ r. see r.now)) c.in-None.is)

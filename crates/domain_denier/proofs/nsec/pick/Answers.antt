@@ -1,7 +1,7 @@
 use Rattle.std.proofs.Common.{◌≡◌, ◌<◌, Some, None, true, length, refl, sym, ap, ◌∙◌, subst, rules}
 use Rattle.std.proofs.lemmas.List.{append-nil}
 use Rattle.domain_base.specs.Name.{is_at_or_below}
-use Rattle.domain_checker.proofs.ListLemmas.{ChainLaws}
+use Rattle.domain_checker.proofs.MeantLemmas.{ChainLaws}
 use Rattle.domain_answer.specs.Reading.{reading}
 use Rattle.domain_answer.specs.declared.answer.Answer.TheVariants.{NoCloserName}
 use Rattle.domain_denier.specs.Picked.{at_place}

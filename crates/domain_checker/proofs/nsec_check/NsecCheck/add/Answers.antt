@@ -1,16 +1,11 @@
-use Rattle.std.proofs.Common.{◌≡◌, true, false, not, ◌&&◌, Some, refl, sym, ap, ◌∙◌}
+use Rattle.std.proofs.Common.{◌≡◌, true, false, not, Some, refl, sym, ap, ◌∙◌}
 use Rattle.std.specs.Option.{is_some}
-use Rattle.std.specs.Ordering.{is_eq}
 use Rattle.std.proofs.lemmas.Bool.{false≢true}
-use Rattle.domain_base.specs.Order.{before, canonical_cmp}
-use Rattle.domain_zone.specs.Covering.{matches}
+use Rattle.domain_base.specs.Order.{canonical_cmp}
 use Rattle.domain_nsec.specs.ChainView.{as_link}
-use Rattle.domain_checker.specs.Verdict.{is_inside}
 use Rattle.domain_checker.specs.Reading.{cover_verdict, is_cover, is_match, match_verdict}
-use Rattle.domain_checker.proofs.FirstLemmas.{match_is_tie}
 use Rattle.domain_checker.proofs.HandedInLemmas.{found_stays, found_last, found_before, some_is_none}
 use Rattle.domain_checker.proofs.nsec_check.NsecCheck.add.Goals as goal
-use Rattle.domain_checker.proofs.nsec_check.NsecCheck.add.Goals.{else-is_eq-via-then-is_eq+else-is_inside, else-is_eq-via-else-is_eq}
 use Rattle.domain_checker.proofs.nsec_check.NsecCheck.add.Goals.{else-is_none-via-then-is_none+else-is_cover, else-is_none-via-else-is_none}
 
 pub returns-then-is_some : goal.returns-then-is_some
@@ -26,18 +21,15 @@ returns-then-is_some g c =
       covering = λ none. absurd (false≢true (ap is_some (sym none) ∙ some));
     }
 
-pub returns-then-is_inside : goal.returns-then-is_inside
-returns-then-is_inside g c =
+pub returns-then-is_match : goal.returns-then-is_match
+returns-then-is_match g c =
     λ a x t listed h.
     let check = c.args.self.now in
     let labels = g.N.ToName.labels in
     let k = as_link labels c.args.listed.now in
     let unset : is_some check.matched ≡ false = sym c.is_some.ensures ∙ c.if-is_some.false in
-    let tied : matches before k.owner check.name ≡ true =
-    match_is_tie k.owner check.name ∙ sym (c.is_eq.ensures ∙ ap is_eq c.name_cmp-order.ensures
-    ∙ ap (λ n. is_eq (canonical_cmp (labels n) check.name)) c.owner.ensures) ∙ c.if-is_eq.true in
-    let within : is_inside check.apex k ≡ true = sym c.is_inside.ensures ∙ c.if-is_inside.true in
-    let matched : is_match a x k ≡ true = sym (λ i. is_match (h.apex i) (h.name i) k) ∙ (λ i. tied i && within i) in
+    let order = c.name_cmp-order.ensures ∙ ap (λ n. canonical_cmp (labels n) check.name) c.owner.ensures in
+    let matched : is_match a x k ≡ true = sym (λ i. is_match (h.apex i) (h.name i) k) ∙ sym (c.is_match.ensures check.name order) ∙ c.if-is_match.true in
     record {
       apex = h.apex;
       name = h.name;
@@ -54,15 +46,8 @@ returns-then-is_cover g c =
     let check = c.args.self.now in
     let labels = g.N.ToName.labels in
     let k = as_link labels c.args.listed.now in
-    let tied : matches before k.owner check.name ≡ c.is_eq.result =
-    match_is_tie k.owner check.name ∙ sym (c.is_eq.ensures ∙ ap is_eq c.name_cmp-order.ensures
-    ∙ ap (λ n. is_eq (canonical_cmp (labels n) check.name)) c.owner.ensures) in
-    let apart : is_match check.apex check.name k ≡ false =
-    elim c.else-is_eq.branch [
-      | else-is_eq-via-then-is_eq+else-is_inside w ↦ λ i. (tied ∙ w.if-is_eq.true) i && (sym w.is_inside.ensures ∙ w.if-is_inside.false) i
-      | else-is_eq-via-else-is_eq w ↦ λ i. (tied ∙ w.if-is_eq.false) i && is_inside check.apex k
-    ] in
-    let missed : is_match a x k ≡ false = sym (λ i. is_match (h.apex i) (h.name i) k) ∙ apart in
+    let order = c.name_cmp-order.ensures ∙ ap (λ n. canonical_cmp (labels n) check.name) c.owner.ensures in
+    let missed : is_match a x k ≡ false = sym (λ i. is_match (h.apex i) (h.name i) k) ∙ sym (c.is_match.ensures check.name order) ∙ c.if-is_match.false in
     let unset : is_some check.covered ≡ false = c.is_none.ensures ∙ ap not c.if-is_none.true in
     let covered : is_cover a x k ≡ true = sym (λ i. is_cover (h.apex i) (h.name i) k) ∙ sym c.is_cover.ensures ∙ c.if-is_cover.true in
     record {
@@ -79,17 +64,9 @@ pub returns-else-is_none : goal.returns-else-is_none
 returns-else-is_none g c =
     λ a x t listed h.
     let check = c.args.self.now in
-    let labels = g.N.ToName.labels in
-    let k = as_link labels c.args.listed.now in
-    let tied : matches before k.owner check.name ≡ c.is_eq.result =
-    match_is_tie k.owner check.name ∙ sym (c.is_eq.ensures ∙ ap is_eq c.name_cmp-order.ensures
-    ∙ ap (λ n. is_eq (canonical_cmp (labels n) check.name)) c.owner.ensures) in
-    let apart : is_match check.apex check.name k ≡ false =
-    elim c.else-is_eq.branch [
-      | else-is_eq-via-then-is_eq+else-is_inside w ↦ λ i. (tied ∙ w.if-is_eq.true) i && (sym w.is_inside.ensures ∙ w.if-is_inside.false) i
-      | else-is_eq-via-else-is_eq w ↦ λ i. (tied ∙ w.if-is_eq.false) i && is_inside check.apex k
-    ] in
-    let missed : is_match a x k ≡ false = sym (λ i. is_match (h.apex i) (h.name i) k) ∙ apart in
+    let k = as_link g.N.ToName.labels c.args.listed.now in
+    let order = c.name_cmp-order.ensures ∙ ap (λ n. canonical_cmp (g.N.ToName.labels n) check.name) c.owner.ensures in
+    let missed : is_match a x k ≡ false = sym (λ i. is_match (h.apex i) (h.name i) k) ∙ sym (c.is_match.ensures check.name order) ∙ c.if-is_match.false in
     record {
       apex = h.apex;
       name = h.name;

@@ -1,6 +1,6 @@
 use Rattle.std.proofs.Common.{ap, ◌∙◌}
 use Rattle.std.specs.Ordering.{is_lt}
-use Rattle.domain_checker.proofs.nsec.is_before.Goals as goal
+use Rattle.domain_checker.proofs.listed.is_before.Goals as goal
 
 pub returns : goal.returns
 returns g c = c.is_lt.ensures ∙ ap is_lt c.name_cmp.ensures

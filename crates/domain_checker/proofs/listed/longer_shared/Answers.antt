@@ -1,7 +1,7 @@
 use Rattle.std.proofs.Common.{max, sym, ◌∙◌}
 use Rattle.domain_zone.specs.Enclosers.{shared}
 use Rattle.domain_checker.proofs.SharedLemmas.{shared_length, longer_length}
-use Rattle.domain_answer.proofs.listed.longer_shared.Goals as goal
+use Rattle.domain_checker.proofs.listed.longer_shared.Goals as goal
 
 pub returns : goal.returns
 returns g c =

@@ -1,0 +1,64 @@
+-- A choice between answers that a zone gives is one of them.
+use Rattle.std.proofs.Common.{◌≡◌, ◌≢◌, ℕ, Bool, true, false, cond, refl, sym, ap, ◌∙◌}
+use Rattle.std.proofs.lemmas.Bool.{true≢false}
+use Rattle.domain_answer.specs.declared.answer.Answer.{Answer}
+use Rattle.domain_answer.specs.declared.answer.Answer.TheVariants.{OutsideZone, AtParent, Referral, Redirected, Has, NoDs, Alias, NoData}
+use Rattle.domain_answer.specs.declared.answer.Answer.TheVariants.{Wildcard, WildcardAlias, WildcardNoData, NameError}
+use Rattle.domain_answer.specs.declared.answer.Answer.TheVariants.{MayBeUnsigned, NoCloserName, TooManyIterations, NotProven}
+
+pub either : (b : Bool) (v : Answer) → cond b v v ≡ v
+either true v = refl
+either false v = refl
+
+pub is_of_zone : Answer → Bool
+is_of_zone OutsideZone = true
+is_of_zone AtParent = true
+is_of_zone (Referral n) = true
+is_of_zone (Redirected n) = true
+is_of_zone Has = true
+is_of_zone NoDs = true
+is_of_zone Alias = true
+is_of_zone NoData = true
+is_of_zone (Wildcard n) = true
+is_of_zone (WildcardAlias n) = true
+is_of_zone (WildcardNoData n) = true
+is_of_zone (NameError n) = true
+is_of_zone (MayBeUnsigned n) = true
+is_of_zone (NoCloserName n) = false
+is_of_zone TooManyIterations = false
+is_of_zone NotProven = false
+
+pub choose : (b : Bool) (v w : Answer) → is_of_zone v ≡ true → is_of_zone w ≡ true → is_of_zone (cond b v w) ≡ true
+choose true v w e f = e
+choose false v w e f = f
+
+-- of a name that exists
+pub existing_says : (n : ℕ) (below has cut alias : Bool)
+    → is_of_zone (cond below (Referral n) (cond has Has (cond cut NoDs (cond alias Alias NoData)))) ≡ true
+unfolding is_of_zone
+existing_says n below has cut alias =
+    choose below (Referral n) (cond has Has (cond cut NoDs (cond alias Alias NoData))) refl
+    (choose has Has (cond cut NoDs (cond alias Alias NoData)) refl
+    (choose cut NoDs (cond alias Alias NoData) refl (choose alias Alias NoData refl refl)))
+
+-- of the wildcard above one that does not
+pub wildcard_says : (n : ℕ) (none has alias : Bool)
+    → is_of_zone (cond none (NameError n) (cond has (Wildcard n) (cond alias (WildcardAlias n) (WildcardNoData n)))) ≡ true
+unfolding is_of_zone
+wildcard_says n none has alias =
+    choose none (NameError n) (cond has (Wildcard n) (cond alias (WildcardAlias n) (WildcardNoData n))) refl
+    (choose has (Wildcard n) (cond alias (WildcardAlias n) (WildcardNoData n)) refl
+    (choose alias (WildcardAlias n) (WildcardNoData n) refl refl))
+
+-- records give more answers
+pub of_zone_proves : (v : Answer) → is_of_zone v ≡ true → v ≢ NotProven
+unfolding is_of_zone
+of_zone_proves v e f = true≢false (sym e ∙ ap is_of_zone f)
+
+pub of_zone_knows : (v : Answer) → is_of_zone v ≡ true → (n : ℕ) → v ≢ NoCloserName n
+unfolding is_of_zone
+of_zone_knows v e n f = true≢false (sym e ∙ ap is_of_zone f)
+
+pub of_zone_limits : (v : Answer) → is_of_zone v ≡ true → v ≢ TooManyIterations
+unfolding is_of_zone
+of_zone_limits v e f = true≢false (sym e ∙ ap is_of_zone f)

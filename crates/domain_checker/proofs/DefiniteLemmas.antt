@@ -1,0 +1,23 @@
+-- A zone has a verdict on every name and type: a choice between verdicts is one of them.
+use Rattle.std.proofs.Common.{◌≡◌, ◌≢◌, Bool, true, false, cond, sym, ap, ◌∙◌}
+use Rattle.std.proofs.lemmas.Bool.{true≢false}
+use Rattle.domain_checker.specs.declared.verdict.Verdict.{Verdict}
+use Rattle.domain_checker.specs.declared.verdict.Verdict.TheVariants.{OutsideZone, BelowDelegation, Has, NoType, EmptyName, OptOut, NoName, NotProven}
+
+pub is_definite : Verdict → Bool
+is_definite OutsideZone = true
+is_definite BelowDelegation = true
+is_definite Has = true
+is_definite NoType = true
+is_definite EmptyName = true
+is_definite (OptOut n) = true
+is_definite (NoName n) = true
+is_definite NotProven = false
+
+pub choose : (b : Bool) (v w : Verdict) → is_definite v ≡ true → is_definite w ≡ true → is_definite (cond b v w) ≡ true
+choose true v w e f = e
+choose false v w e f = f
+
+pub definite_proven : (v : Verdict) → is_definite v ≡ true → v ≢ NotProven
+unfolding is_definite
+definite_proven v e none = true≢false (sym e ∙ ap is_definite none)

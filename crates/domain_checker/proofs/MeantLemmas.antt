@@ -1,0 +1,266 @@
+-- What the laws of chains say of the records of one, whether it keeps what stands below a DNAME or not.
+use Rattle.std.proofs.Common.{◌≡◌, ℕ, ◌<◌, Bool, true, false, cond, not, ◌&&◌, ◌||◌, List, length}
+use Rattle.std.proofs.Common.{refl, sym, ap, ◌∙◌, subst, inl, inr, ◌⊎◌, Some, None, slice_get, arith}
+use Rattle.std.specs.List.{find, list_any}
+use Rattle.std.proofs.lemmas.Bool.{cases_Bool, false≢true, and_parts, and_from, or_left, or_right, not-true}
+use Rattle.std.proofs.lemmas.List.Elements.{recursion_from_All}
+use Rattle.domain_base.specs.Name.{is_at_or_below, is_strictly_below, lowered, same_name}
+use Rattle.domain_base.specs.Order.{before}
+use Rattle.domain_base.specs.Types.{ns}
+use Rattle.domain_base.specs.Words.{Name}
+use Rattle.domain_bitmap.specs.Bitmap.{bitmap_octets}
+use Rattle.domain_bitmap.specs.Blocks.{contains_type}
+use Rattle.domain_bitmap.proofs.RangeLemmas.{and_false, or_true}
+use Rattle.domain_zone.specs.Covering.{matches, covers, matches_or_covers}
+use Rattle.domain_zone.specs.Enclosers.{exists_over, longer, shared}
+use Rattle.domain_zone.specs.Zone.{ZoneRecord, OwnersNeverDescend, records_of, has_type, is_zone_cut, occludes, owns}
+use Rattle.domain_zone.specs.Zone.{is_occluded, is_unoccluded, unoccluded_owners}
+use Rattle.domain_zone.proofs.NameLemmas.{one_lowered, same_itself, same_is, below_itself, lowered_below}
+use Rattle.domain_zone.proofs.PairLemmas.{In, all_in}
+use Rattle.domain_zone.proofs.OwnerLemmas.{any_in, in_any, below_occluder}
+use Rattle.domain_nsec.specs.Chain.{Link, IsChain, is_listed, nsec_lists}
+use Rattle.domain_nsec.specs.Meaning.{IsCycle, MirrorsZone, TellsEmpty, TellsEncloser, CoversBelowOccluders}
+use Rattle.domain_nsec.specs.declared.config.GenerateNsecConfig.{GenerateNsecConfig}
+use Rattle.domain_checker.specs.Verdict.{closest_encloser, has_match_or_cover, is_inside}
+use Rattle.domain_checker.specs.Reading.{is_at_cut, is_cover, is_match}
+use Rattle.domain_checker.proofs.FindLemmas.{Stands, any_none, find_none, find_some, in_at, in_map, in_pairs}
+use Rattle.domain_checker.proofs.EncloserLemmas.{closest_is, closest_alike, top_occluder, occluded_same, occludes_same, owner_unoccluded, owner_owns}
+
+-- the public laws of chains
+pub record ChainLaws : Type 0 where
+  pub cycle : (L : List ZoneRecord) (a : Name) (config : GenerateNsecConfig) (links : List Link) → OwnersNeverDescend L
+      → IsChain L a config links → IsCycle a links
+  pub denial : (L : List ZoneRecord) (a : Name) (config : GenerateNsecConfig) (links : List Link) → OwnersNeverDescend L
+      → IsChain L a config links → MirrorsZone L a config links
+  pub nonterminals : (L : List ZoneRecord) (a : Name) (config : GenerateNsecConfig) (links : List Link) → OwnersNeverDescend L
+      → IsChain L a config links → TellsEmpty L a config links
+  pub enclosers : (L : List ZoneRecord) (a : Name) (config : GenerateNsecConfig) (links : List Link) → OwnersNeverDescend L
+      → IsChain L a config links → TellsEncloser L a config links
+  pub occluded : (L : List ZoneRecord) (a : Name) (config : GenerateNsecConfig) (links : List Link) → OwnersNeverDescend L
+      → IsChain L a config links → CoversBelowOccluders L a config links
+
+abbrev pub config_with : (below_dname assume : Bool) → GenerateNsecConfig
+config_with below_dname assume = record { assume_dnskeys_will_be_added = assume; occlude_below_dname = below_dname }
+
+-- what they say of one chain
+pub record IsMeant (below_dname : Bool) (L : List ZoneRecord) (a : Name) (assume : Bool) (links : List Link) : Type 0 where
+  pub chain : IsChain L a (config_with below_dname assume) links
+  pub cycle : IsCycle a links
+  pub denial : MirrorsZone L a (config_with below_dname assume) links
+  pub nonterminals : TellsEmpty L a (config_with below_dname assume) links
+  pub enclosers : TellsEncloser L a (config_with below_dname assume) links
+  pub occluded : CoversBelowOccluders L a (config_with below_dname assume) links
+
+pub meant_by : ChainLaws → (below_dname : Bool) (L : List ZoneRecord) (a : Name) (assume : Bool) (links : List Link) → OwnersNeverDescend L
+    → IsChain L a (config_with below_dname assume) links → IsMeant below_dname L a assume links
+meant_by laws below_dname L a assume links order chain =
+    let config = config_with below_dname assume in
+    record {
+      chain = chain;
+      cycle = laws.cycle L a config links order chain;
+      denial = laws.denial L a config links order chain;
+      nonterminals = laws.nonterminals L a config links order chain;
+      enclosers = laws.enclosers L a config links order chain;
+      occluded = laws.occluded L a config links order chain;
+    }
+
+-- and of the types of names that are the same
+abbrev pub IgnoresCase : List ZoneRecord → Name → Bool → Type 0
+IgnoresCase L a assume = (x y : Name) → same_name x y ≡ true → (t : ℕ) → nsec_lists L a assume x t ≡ nsec_lists L a assume y t
+
+abbrev pub BitmapsAreSets : Type 0
+BitmapsAreSets = (types : ℕ → Bool) (t : ℕ) → t < 65536 → contains_type (bitmap_octets types) t ≡ types t
+
+pub and_true : (b : Bool) → (b && true) ≡ b
+and_true true = refl
+and_true false = refl
+
+-- the bit of NS says whether there are NS records
+ns_bit : (assumed cut : Bool) (rs : List ZoneRecord) → is_listed assumed cut rs ns ≡ has_type rs ns
+ns_bit assumed cut rs =
+    (λ i. ((false || false) || and_false assumed i) || (has_type rs ns && (or_true (not cut) i || false)))
+    ∙ and_true (has_type rs ns)
+
+module _ (below_dname : Bool) (L : List ZoneRecord) (a : Name) (assume : Bool) (links : List Link) (meant : IsMeant below_dname L a assume links) where
+  abbrev owners : List Name
+  owners = unoccluded_owners below_dname L a
+
+  -- ---- the names of a record
+
+  pub ends : (k : Link) → In k links → In k.owner (unoccluded_owners below_dname L a)
+      × (In k.next (unoccluded_owners below_dname L a) ⊎ (a ≡ k.next))
+  ends k i =
+      in_pairs owners a (k.owner, k.next)
+      (subst (λ ps. In (k.owner, k.next) ps) meant.chain.names (in_map (λ k. (k.owner, k.next)) links k i))
+
+  pub owner_low : (n : Name) → In n (unoccluded_owners below_dname L a) → is_at_or_below n a ≡ true
+  owner_low n i = (and_parts (is_at_or_below n a) (not (is_occluded below_dname L a n)) (owner_unoccluded below_dname L a n i)).0
+
+  -- no record of the chain is passed over
+  pub inside : (k : Link) → In k links → is_inside a k ≡ true
+  inside k i =
+      and_from (is_at_or_below k.owner a) (is_at_or_below k.next a) (owner_low k.owner (ends k i).0)
+      (elim (ends k i).1 [
+        | inl n ↦ owner_low k.next n
+        | inr n ↦ subst (λ n. is_at_or_below n a ≡ true) n (below_itself a)
+      ])
+
+  pub apex_exists : exists_over (unoccluded_owners below_dname L a) a a ≡ true
+  apex_exists =
+      let first : In meant.cycle.first links = subst (λ ls. In meant.cycle.first ls) (sym meant.cycle.are) (inl refl) in
+      let owner = (ends meant.cycle.first first).0 in
+      and_from (is_at_or_below a a) (list_any (λ n. is_at_or_below n a) owners) (below_itself a)
+      (in_any (λ n. is_at_or_below n a) owners meant.cycle.first.owner owner (owner_low meant.cycle.first.owner owner))
+
+  -- what stands at one place is one record
+  one_link : (i j : ℕ) (k l : Link) → slice_get links i ≡ Some k → slice_get links j ≡ Some l → i ≡ j → k ≡ l
+  one_link i j k l e f same = let g : slice_get links j ≡ Some k = sym (ap (slice_get links) same) ∙ e in cc
+
+  -- some record of the chain matches or covers each name of the zone
+  pub some_link : (x : Name) → is_at_or_below x a ≡ true → list_any (λ k. matches_or_covers before k.owner k.next x) links ≡ true
+  some_link x low =
+      elim (cases_Bool (is_occluded below_dname L a x)) [
+        | inl e ↦
+            let top = top_occluder below_dname L a x e in
+            let r = meant.occluded.each top.0.name x top.0.over top.1 top.0.under in
+            in_any (λ k. matches_or_covers before k.owner k.next x) links r.link (in_at links r.place r.link r.there)
+            (or_right (matches before r.link.owner x) (covers before r.link.owner r.link.next x) r.covered)
+        | inr e ↦
+            let r = meant.denial.each x low e in
+            in_any (λ k. matches_or_covers before k.owner k.next x) links r.link (in_at links r.place r.link r.there) r.says
+      ]
+
+  module _ (alike : IgnoresCase L a assume) (sets : BitmapsAreSets) where
+    -- the types of a record are those of its owner
+    pub type_at : (k : Link) → In k links → (t : ℕ) → t < 65536 → contains_type k.bits t ≡ nsec_lists L a assume k.owner t
+    type_at k i t b =
+        ap (λ o. contains_type o t) (all_in (λ l. l.bits ≡ bitmap_octets (nsec_lists L a assume l.owner)) links k
+        (recursion_from_All (λ l. l.bits ≡ bitmap_octets (nsec_lists L a assume l.owner)) links meant.chain.bits) i)
+        ∙ sets (nsec_lists L a assume k.owner) t b
+
+    -- its owner is a zone cut exactly where the record says so
+    pub cut_at : (k : Link) → In k links → is_at_cut a k ≡ is_zone_cut L a k.owner
+    cut_at k i =
+        let low = owner_low k.owner (ends k i).0 in
+        (λ j. not (same_name k.owner a) && (type_at k i ns (omega arith)
+        ∙ ns_bit (assume && same_name k.owner a) (is_zone_cut L a k.owner) (records_of L k.owner)) j)
+        ∙ (λ j. (sym low j && not (same_name k.owner a)) && has_type (records_of L k.owner) ns)
+
+  -- ---- a match
+
+  module _ (k : Link) (i : In k links) (x : Name) (m : matches before k.owner x ≡ true) where
+    pub matched_same : same_name k.owner x ≡ true
+    matched_same = same_is k.owner x ∙ m
+
+    pub matched_low : is_at_or_below x a ≡ true
+    matched_low = ap (λ q. lowered_below q (lowered a)) (sym (one_lowered k.owner x matched_same)) ∙ owner_low k.owner (ends k i).0
+
+    pub matched_high : is_occluded below_dname L a x ≡ false
+    matched_high =
+        let free = and_parts (is_at_or_below k.owner a) (not (is_occluded below_dname L a k.owner))
+        (owner_unoccluded below_dname L a k.owner (ends k i).0) in
+        sym (occluded_same below_dname L a k.owner x matched_same) ∙ not-true (is_occluded below_dname L a k.owner) free.1
+
+  -- ---- a cover
+
+  module _ (k : Link) (place : ℕ) (there : slice_get links place ≡ Some k) (x : Name) (low : is_at_or_below x a ≡ true)
+      (c : covers before k.owner k.next x ≡ true) where
+    says : matches_or_covers before k.owner k.next x ≡ true
+    says = or_right (matches before k.owner x) (covers before k.owner k.next x) c
+
+    other : matches before k.owner x ≡ false
+    other = not-true (matches before k.owner x) (and_parts (not (matches before k.owner x))
+        (cond (before k.owner k.next) (before k.owner x && before x k.next) (before k.owner x || before x k.next)) c).0
+
+    -- a name that is not occluded owns nothing
+    pub covered_unowned : is_occluded below_dname L a x ≡ false → owns L x ≡ false
+    covered_unowned high =
+        let one = meant.denial.each x low high in
+        let is : k ≡ one.link = one_link place one.place k one.link there one.there (one.only place k there says) in
+        sym one.matched ∙ ap (λ l. matches before l.owner x) (sym is) ∙ other
+
+    pub covered_no_owner : list_any (λ n. same_name n x) (unoccluded_owners below_dname L a) ≡ false
+    covered_no_owner =
+        elim (cases_Bool (list_any (λ n. same_name n x) owners)) [
+          | inl e ↦
+              let m = any_in (λ n. same_name n x) owners e in
+              let free = and_parts (is_at_or_below m.0 a) (not (is_occluded below_dname L a m.0)) (owner_unoccluded below_dname L a m.0 m.1) in
+              let high = sym (occluded_same below_dname L a m.0 x m.2) ∙ not-true (is_occluded below_dname L a m.0) free.1 in
+              absurd (false≢true (sym (covered_unowned high) ∙ owner_owns below_dname L a m.0 x m.1 m.2))
+          | inr e ↦ e
+        ]
+
+    -- the record of the highest occluder covers all names strictly below it
+    pub covered_under : (o : Name) → occludes below_dname L a o ≡ true → is_unoccluded below_dname L a o ≡ true → is_strictly_below x o ≡ true
+        → same_name k.owner o ≡ true
+    covered_under o over free under =
+        let r = meant.occluded.each o x over free under in
+        let is : k ≡ r.link = one_link place r.place k r.link there r.there (r.only place k there says) in
+        ap (λ l. same_name l.owner o) is ∙ r.owner
+
+    -- x is occluded exactly where the record's owner occludes, as a test tells of it, and x is below it
+    pub covered_occluded : (told : Bool) → told ≡ occludes below_dname L a k.owner
+        → (is_at_or_below x k.owner && told) ≡ is_occluded below_dname L a x
+    covered_occluded told is =
+        elim (cases_Bool (is_occluded below_dname L a x)) [
+          | inl e ↦
+              let top = top_occluder below_dname L a x e in
+              let s = covered_under top.0.name top.0.over top.1 top.0.under in
+              let under = (and_parts (is_at_or_below x top.0.name) (not (same_name x top.0.name)) top.0.under).0 in
+              and_from (is_at_or_below x k.owner) told
+              (ap (lowered_below (lowered x)) (one_lowered k.owner top.0.name s) ∙ under)
+              (is ∙ occludes_same below_dname L a k.owner top.0.name s ∙ top.0.over)
+              ∙ sym e
+          | inr e ↦
+              elim (cases_Bool (is_at_or_below x k.owner && told)) [
+                | inl f ↦
+                    let p = and_parts (is_at_or_below x k.owner) told f in
+                    let strictly = and_from (is_at_or_below x k.owner) (not (same_name x k.owner)) p.0 (elim (cases_Bool (same_name x k.owner)) [
+                      | inl s ↦ absurd (false≢true (sym other ∙ sym (same_is k.owner x) ∙ same_itself k.owner x (sym (one_lowered x k.owner s))))
+                      | inr s ↦ ap not s
+                    ]) in
+                    absurd (false≢true (sym e ∙ below_occluder below_dname L a k.owner x (sym is ∙ p.1) strictly))
+                | inr f ↦ f ∙ sym e
+              ]
+        ]
+
+    -- the closest encloser has as many labels as the longer of the names that x shares with the record's
+    pub covered_encloser : length (longer (shared x k.owner) (shared x k.next)) ≡ length (closest_encloser (unoccluded_owners below_dname L a) a x)
+    covered_encloser =
+        closest_alike owners a x (longer (shared x k.owner) (shared x k.next)) (closest_encloser owners a x)
+        (meant.enclosers.each x low place k there c)
+        (closest_is owners a x apex_exists low)
+
+-- ---- what is found of a name among records of the chain
+
+module _ (below_dname : Bool) (L : List ZoneRecord) (a : Name) (assume : Bool) (links : List Link) (meant : IsMeant below_dname L a assume links)
+    (listed : List Link) (among : (k : Link) → In k listed → Stands links k) (y : Name) where
+  in_links : (k : Link) → In k listed → In k links
+  in_links k i = let s = among k i in in_at links s.place k s.there
+
+  heard : (k : Link) → In k listed → matches_or_covers before k.owner k.next y ≡ true → has_match_or_cover listed y ≡ true
+  heard k i e = in_any (λ k. matches_or_covers before k.owner k.next y) listed k i e
+
+  pub match_of : (k : Link) → find (is_match a y) listed ≡ Some k → In k links × (matches before k.owner y ≡ true) × (has_match_or_cover listed y ≡ true)
+  match_of k e =
+      let r = find_some (is_match a y) listed k e in
+      let m = (and_parts (matches before k.owner y) (is_inside a k) r.1).0 in
+      (in_links k r.0, m, heard k r.0 (or_left (matches before k.owner y) (covers before k.owner k.next y) m))
+
+  pub cover_of : (k : Link) → find (is_cover a y) listed ≡ Some k
+      → Stands links k × (covers before k.owner k.next y ≡ true) × (has_match_or_cover listed y ≡ true)
+  cover_of k e =
+      let r = find_some (is_cover a y) listed k e in
+      let c = (and_parts (covers before k.owner k.next y) (is_inside a k) r.1).0 in
+      (among k r.0, c, heard k r.0 (or_right (matches before k.owner y) (covers before k.owner k.next y) c))
+
+  pub silent : find (is_match a y) listed ≡ None → find (is_cover a y) listed ≡ None → has_match_or_cover listed y ≡ false
+  silent e f =
+      any_none (λ k. matches_or_covers before k.owner k.next y) listed (λ k i.
+      let within = inside below_dname L a assume links meant k (in_links k i) in
+      (λ j. (sym (with_true (matches before k.owner y) (is_inside a k) within) ∙ find_none (is_match a y) listed e k i) j
+      || (sym (with_true (covers before k.owner k.next y) (is_inside a k) within) ∙ find_none (is_cover a y) listed f k i) j))
+    where
+      with_true : (p q : Bool) → q ≡ true → (p && q) ≡ p
+      with_true true q e = e
+      with_true false q e = refl
