@@ -1,5 +1,6 @@
 -- The octets of chains, and what is answered of them.
 use Rattle.std.proofs.Common.{◌≡◌, ◌≢◌, ℕ, ◌<◌, ◌≤◌, false, List, ◌∷◌, length, refl, sym, subst, arith, length-append, Result, Ok, Err, IfOk, IfErr}
+use Rattle.domain_alike.specs.Covered.{covered_names}
 use Rattle.domain_base.specs.Name.{wire_of}
 use Rattle.domain_base.specs.Words.{Name}
 use Rattle.domain_fields.specs.Layout.{octets_of, Values}
@@ -21,7 +22,6 @@ use Rattle.domain_zone.specs.Zone.{ZoneRecord}
 use Rattle.denial_c.specs.Chains.{nsec_asking, nsec3_asking, nsecs_octets, nsec3s_octets, AreZone, Asking, HasHashedZoneFault, HasUnevenAt, HasZoneFault, IsChainFault, IsChainResult, IsGivenFault, IsNsecChain, IsNsec3Chain, IsSortedNsecFault, IsSortedNsec3Fault, IsSortedUnevenAt, IsWritten, Sorts}
 use Rattle.denial_c.specs.Given.{AreGiven, HasNoRecordAt, HasOtherClassAt}
 use Rattle.denial_c.specs.Result.{Spells}
-use Rattle.denial_c.specs.Uneven.{covered_names}
 use Rattle.denial_c.specs.declared.chain_fault.ChainFault.{ChainFault}
 use Rattle.denial_c.specs.declared.chain_fault.ChainFault.TheVariants.{Apex, Records, Class, Soa, Ttls, LongSalt, LongOwner, Collision, ShortBuffer, OutOfMemory}
 

@@ -7,6 +7,8 @@ use Rattle.std.proofs.lemmas.List.{map-append}
 use Rattle.std.proofs.lemmas.List.Concat.{flat_map-append}
 use Rattle.std.proofs.lemmas.List.Elements.{filter-append}
 use Rattle.std.proofs.lemmas.List.Folds.{list_any-append}
+use Rattle.domain_alike.specs.Covered.{covered_names}
+use Rattle.domain_alike.proofs.KeptLemmas.{names_stay, stays}
 use Rattle.domain_base.specs.Name.{same_name}
 use Rattle.domain_base.specs.Types.{ds}
 use Rattle.domain_base.specs.Words.{Name}
@@ -25,7 +27,7 @@ use Rattle.domain_zone.proofs.TtlLemmas.{has_neighbour_clash, neighbours_tell, N
 use Rattle.domain_zone.proofs.ZoneLemmas.{all_front, any_none}
 use Rattle.denial_c.specs.Chains.{Sorts}
 use Rattle.denial_c.specs.Given.{AreGiven, IsOfClass}
-use Rattle.denial_c.specs.Uneven.{covered_names, is_in_set, is_other, set_of, IsFirstClash, IsFirstUneven, IsUnevenAt}
+use Rattle.denial_c.specs.Uneven.{is_in_set, is_other, set_of, IsFirstClash, IsFirstUneven, IsUnevenAt}
 use Rattle.denial_c.proofs.AmongLemmas.{all_push}
 
 abbrev see : RawRecord → ZoneRecord
@@ -128,9 +130,6 @@ between_clash records previous r left s order e =
 
 -- ---- owners
 
-abbrev pub stays : Bool → OwnerRecords → Bool
-stays excludes o = not (excludes && (o.is_zone_cut && not (has_type o.records ds)))
-
 -- the owners given so far and those left are all, and of those that stay none has unequal TTLs
 pub record IsWalked (excludes d : Bool) (L : List ZoneRecord) (a : Name) (left : List OwnerRecords) : Type 0 where
   pub given : List OwnerRecords
@@ -138,18 +137,6 @@ pub record IsWalked (excludes d : Bool) (L : List ZoneRecord) (a : Name) (left :
   pub even : has_unequal_ttls L (map name_of (filter (stays excludes) given)) ≡ false
 
 module _ (excludes d : Bool) (L : List ZoneRecord) (a : Name) where
-  names_stay : (ks : List Name) → map name_of (filter (stays excludes) (map (owner_at L a) ks))
-      ≡ filter (λ n. not (excludes && is_unsigned_cut L a n)) ks
-  names_stay [] = refl
-  names_stay (k ∷ ks) =
-      elim (excludes && is_unsigned_cut L a k) as (λ b. map name_of
-      (cond (not b) (owner_at L a k ∷ filter (stays excludes) (map (owner_at L a) ks)) (filter (stays excludes) (map (owner_at L a) ks)))
-      ≡ cond (not b) (k ∷ filter (λ n. not (excludes && is_unsigned_cut L a n)) ks)
-      (filter (λ n. not (excludes && is_unsigned_cut L a n)) ks)) [
-        | true ↦ names_stay ks
-        | false ↦ ap (λ t. k ∷ t) (names_stay ks)
-      ]
-
   pub walked_none : IsWalked excludes d L a (owners_with_records d L a)
   walked_none = record { given = []; all = refl; even = refl }
 
@@ -184,7 +171,7 @@ module _ (excludes d : Bool) (L : List ZoneRecord) (a : Name) where
     walked_first kept = record {
       passed = map name_of (filter (stays excludes) s.given);
       rest = map name_of (filter (stays excludes) left);
-      among = sym (names_stay (unoccluded_owners d L a)) ∙ ap (λ l. map name_of (filter (stays excludes) l)) (sym s.all)
+      among = sym (names_stay excludes L a (unoccluded_owners d L a)) ∙ ap (λ l. map name_of (filter (stays excludes) l)) (sym s.all)
           ∙ ap (map name_of) (filter-append (stays excludes) s.given (o ∷ left)
           ∙ (λ i. filter (stays excludes) s.given ++ cond (kept i) (o ∷ filter (stays excludes) left) (filter (stays excludes) left)))
           ∙ map-append name_of (filter (stays excludes) s.given) (o ∷ filter (stays excludes) left);
@@ -196,7 +183,7 @@ module _ (excludes d : Bool) (L : List ZoneRecord) (a : Name) where
 
   pub walked_all : IsWalked excludes d L a [] → has_unequal_ttls L (covered_names excludes d L a) ≡ false
   walked_all s =
-      ap (has_unequal_ttls L) (sym (names_stay (unoccluded_owners d L a))
+      ap (has_unequal_ttls L) (sym (names_stay excludes L a (unoccluded_owners d L a))
       ∙ ap (λ l. map name_of (filter (stays excludes) l)) (sym s.all ∙ append-nil s.given)) ∙ s.even
 
 -- none is left out of an NSEC chain

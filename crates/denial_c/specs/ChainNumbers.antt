@@ -1,5 +1,6 @@
--- What is answered where a chain is made, by the numbers that C sees.
-use Rattle.std.specs.Prelude.{ℕ, Result, Ok, Err}
+-- What is answered where a chain is made, and where names of one hash alike, by the numbers that C
+-- sees.
+use Rattle.std.specs.Prelude.{ℕ, Bool, true, false, Result, Ok, Err}
 use Rattle.denial_c.specs.declared.chain_fault.ChainFault.{ChainFault}
 use Rattle.denial_c.specs.declared.chain_fault.ChainFault.TheVariants.{Apex, Records, Class, Soa, Ttls, LongSalt, LongOwner, Collision, ShortBuffer, OutOfMemory}
 
@@ -41,3 +42,12 @@ chain_number (Err fault) = chain_fault_number fault
 abbrev pub chain_count : Result ℕ ChainFault → ℕ
 chain_count (Ok count) = count
 chain_count (Err fault) = fault_count fault
+
+-- no two names hash alike
+abbrev pub no_collision : ℕ
+no_collision = 49
+
+abbrev pub collision_number : Result Bool ChainFault → ℕ
+collision_number (Ok true) = chain_fault_number Collision
+collision_number (Ok false) = no_collision
+collision_number (Err e) = chain_fault_number e

@@ -2,6 +2,7 @@
 -- octet for octet, or exactly why there is none.
 use Rattle.std.specs.Prelude.{◌≡◌, ℕ, ◌<◌, ◌≤◌, Bool, true, false, List, ◌++◌, length, drop, Result, Ok, Err, if◌then◌else◌}
 use Rattle.std.specs.List.{flat_map}
+use Rattle.domain_alike.specs.Covered.{covered_names}
 use Rattle.domain_octets.specs.Words.{Octets}
 use Rattle.domain_base.specs.Words.{Name}
 use Rattle.domain_nsec.specs.Chain.{Link, IsFaultless, IsFirstFault}
@@ -26,7 +27,7 @@ use Rattle.domain_lent.specs.Wire.{record_octets}
 use Rattle.denial_c.specs.ChainNumbers.{chain_count, chain_number}
 use Rattle.denial_c.specs.Given.{AreGiven, HasNoRecordAt, HasOtherClassAt}
 use Rattle.denial_c.specs.Result.{IsSpelled, Spells}
-use Rattle.denial_c.specs.Uneven.{covered_names, IsFirstClash, IsFirstUneven, IsUnevenAt}
+use Rattle.denial_c.specs.Uneven.{IsFirstClash, IsFirstUneven, IsUnevenAt}
 use Rattle.denial_c.specs.declared.chain_fault.ChainFault.{ChainFault}
 use Rattle.denial_c.specs.declared.chain_fault.ChainFault.TheVariants as fault
 

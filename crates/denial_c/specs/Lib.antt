@@ -6,4 +6,5 @@ pub mod ChainNumbers
 pub mod Given
 pub mod Uneven
 pub mod Chains
+pub mod Collisions
 pub mod Texts

@@ -3,12 +3,13 @@ use Rattle.std.specs.Prelude.{◌≡◌, ℕ, ◌-◌, ◌<◌, ◌==◌, Bool, 
 use Rattle.domain_octets.specs.Words.{Octets}
 use Rattle.domain_answer.specs.declared.answer.Answer.TheVariants as answers
 use Rattle.domain_checker.specs.declared.verdict.Verdict.TheVariants as verdicts
-use Rattle.denial_c.specs.ChainNumbers.{chain_fault_number, chain_made}
+use Rattle.denial_c.specs.ChainNumbers.{chain_fault_number, chain_made, no_collision}
 use Rattle.denial_c.specs.Numbers.{answer_number, fault_number, verdict_number}
 use Rattle.denial_c.specs.declared.chain_fault.ChainFault.TheVariants as chain_faults
 use Rattle.denial_c.specs.declared.fault.Fault.TheVariants as faults
 
--- of each verdict, each fault, each whole answer and a chain, whatever it counts
+-- of each verdict, each fault, each whole answer, a chain and one without a collision, whatever it
+-- counts
 abbrev pub texts : List (ℕ × Octets)
 texts =
     (verdict_number verdicts.NotProven, codes "not proven")
@@ -49,6 +50,7 @@ texts =
     ∷ (answer_number (answers.NoCloserName 0), codes "no closer name")
     ∷ (answer_number answers.TooManyIterations, codes "too many iterations")
     ∷ (chain_made, codes "chain made")
+    ∷ (no_collision, codes "no collision")
     ∷ []
 
 -- the text that a list has for a number, or that there is none

@@ -17,12 +17,6 @@ is_in_set n t r = same_name r.owner n && (r.«data».rtype == t)
 abbrev pub set_of : List ZoneRecord → Name → ℕ → List ZoneRecord
 set_of L n t = filter (λ z. z.rtype == t) (records_of L n)
 
--- the owners of a chain: those that are not occluded, without the unsigned delegations where these
--- are left out
-abbrev pub covered_names : Bool → Bool → List ZoneRecord → Name → List Name
-covered_names excludes below_dname L a =
-    filter (λ n. not (excludes && is_unsigned_cut L a n)) (unoccluded_owners below_dname L a)
-
 -- of these names the owner is the first of which records clash
 pub record IsFirstUneven (L : List ZoneRecord) (names : List Name) (owner : Name) : Type 0 where
   pub passed : List Name

@@ -29,7 +29,7 @@ pub(crate) enum ChainFault {
 }
 
 /// The number of a fault.
-fn chain_fault_number(fault: ChainFault) -> u32
+pub(crate) fn chain_fault_number(fault: ChainFault) -> u32
     ensures { result ≡ chain_fault_number fault }
 {
     match fault {

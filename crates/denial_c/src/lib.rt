@@ -8,8 +8,9 @@
 //! why there is no such answer. `include/denial.h` describes the functions and their numbers for C.
 #![tactic(auto)]
 
-ghost use Rattle.std.specs.Prelude.{◌≡◌};
+ghost use Rattle.std.specs.Prelude.{◌≡◌, false};
 ghost use Rattle.denial_c.specs.Chains.{hashed_config, IsChainTold, IsNsecChainResult, IsNsec3ChainResult};
+ghost use Rattle.denial_c.specs.Collisions.{IsCollisionResult, IsCollisionTold};
 ghost use Rattle.denial_c.specs.Judged.{IsExpansionAnswer, IsNsecAnswer, IsNsec3Answer};
 ghost use Rattle.denial_c.specs.Numbers.{answer_labels, answer_number, verdict_labels, verdict_number};
 ghost use Rattle.denial_c.specs.Result.{alone, with_param, IsNsecResult, IsNsec3Result, IsTold};
@@ -18,6 +19,7 @@ ghost use Rattle.denial_c.specs.Texts.{text_of, IsText};
 mod among;
 mod answer;
 mod chain_fault;
+mod collision;
 mod fault;
 mod judge;
 mod nsec;
@@ -32,15 +34,16 @@ use crate::nsec3::Telling;
 use crate::nsec3_chain::Hashing;
 use crate::text::ROOM;
 use domain_nsec::GenerateNsecConfig;
+use domain_zone::MAX_NAME;
 use std::alloc::Global;
 
 /// The version of the library: 10000 times its major number, 100 times its minor number, and its
 /// patch.
 #[unsafe(no_mangle)]
 pub extern "C" fn denial_version() -> u32
-    ensures { result ≡ 500 }
+    ensures { result ≡ 600 }
 {
-    500
+    600
 }
 
 /// Hands out the text of a number, and octets 0 after it. A number that no function here gives has
@@ -332,4 +335,44 @@ pub extern "C" fn denial_nsec3_chain(
         nsec3_chain::nsec3_chain(alloc, apex, class, hashing, options, records, chain),
         count,
     )
+}
+
+/// The two names for which a zone has no NSEC3 chain, since they hash alike: the first name of the
+/// chain, in canonical order, that has the hash of one before it, and the first that has its hash.
+/// Both are written to the beginning of their buffers in wire form and in lower case. Names are
+/// hashed by SHA-1. Other faults of the zone are not looked for.
+///
+/// Gives 28 with both names, or 49 where no two names of the chain hash alike; or the number of a
+/// fault. Without names the buffers stay as they were.
+#[unsafe(no_mangle)]
+pub extern "C" fn denial_nsec3_collision(
+    alloc: Global,
+    apex: &[u8],
+    class: u16,
+    occlude_below_dname: bool,
+    iterations: u16,
+    salt: &[u8],
+    opt_out: bool,
+    records: &[u8],
+    earlier: &mut [u8; MAX_NAME],
+    later: &mut [u8; MAX_NAME],
+) -> u32
+    ensures { IsCollisionTold
+        (λ answer. IsCollisionResult apex.now class
+        (hashed_config iterations salt.now opt_out false occlude_below_dname) records.now answer
+        (record { old = earlier.old; new = earlier.new })
+        (record { old = later.old; new = later.new })) result }
+{
+    let hashing = Hashing {
+        iterations,
+        salt,
+        opt_out,
+    };
+    let options = GenerateNsecConfig {
+        assume_dnskeys_will_be_added: false,
+        occlude_below_dname,
+    };
+    collision::collision_number(collision::collision(
+        alloc, apex, class, hashing, options, records, earlier, later,
+    ))
 }

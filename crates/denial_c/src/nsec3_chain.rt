@@ -97,7 +97,7 @@ fn nsec3s_octets(alloc: Global, chain: &Nsec3Chain<'_, &[u8]>) -> Result<Vec<u8>
 /// # Errors
 ///
 /// `LongSalt` exactly where the salt has over 255 octets.
-fn config_with<'a>(
+pub(crate) fn config_with<'a>(
     hashing: Hashing<'a>,
     options: GenerateNsecConfig,
 ) -> Result<GenerateNsec3Config<&'a [u8], InPlaceSorter>, ChainFault>

@@ -1,19 +1,20 @@
 //! Where records of one owner and type differ in TTL.
-ghost use Rattle.std.specs.Prelude.{◌≡◌, ◌≤◌, ◌&&◌, List, not, true, false, IfNone, IfSome};
-ghost use Rattle.domain_base.specs.Types.{ds};
+ghost use Rattle.std.specs.Prelude.{◌≡◌, ◌≤◌, List, true, false, IfNone, IfSome};
+ghost use Rattle.domain_alike.specs.Covered.{covered_names};
 ghost use Rattle.domain_lent.specs.Data.{minimum_of, RawRecord};
 ghost use Rattle.domain_records.specs.Order.{HoldsPairwise, IsInOrder};
 ghost use Rattle.domain_zone.specs.View.{as_zone_record, zone_of};
-ghost use Rattle.domain_zone.specs.Zone.{clashes, has_clash, has_type, has_unequal_ttls, records_of};
+ghost use Rattle.domain_zone.specs.Zone.{clashes, has_clash, has_unequal_ttls, records_of};
 ghost use Rattle.denial_c.specs.Chains.{IsSortedUnevenAt, Sorts};
 ghost use Rattle.denial_c.specs.Given.{AreGiven};
-ghost use Rattle.denial_c.specs.Uneven.{covered_names, is_in_set, is_other, set_of, IsFirstClash, IsFirstUneven, IsUnevenAt};
+ghost use Rattle.denial_c.specs.Uneven.{is_in_set, is_other, set_of, IsFirstClash, IsFirstUneven, IsUnevenAt};
 
+use domain_alike::is_unsigned_cut;
 use domain_base::{Class, ParsedName, Rtype, ToName, Ttl};
-use domain_lent::{LentData, LentRecord, read_record};
+use domain_lent::{LentRecord, read_record};
 use domain_octets::Parser;
 use domain_records::{RecordsIter, SliceRefsOrOwnedIterator};
-use domain_zone::{UnoccludedOwner, UnoccludedOwners, has_type};
+use domain_zone::UnoccludedOwners;
 
 /// The records of one owner and one type.
 #[derive(Drop)]
@@ -53,14 +54,6 @@ fn clashing_type<'a>(mut records: SliceRefsOrOwnedIterator<'a, LentRecord<'a>>) 
         previous = record;
     }
     None
-}
-
-/// Whether the owner is a zone cut without DS records.
-fn is_unsigned_cut<'a>(owner: &UnoccludedOwner<'a, ParsedName<'a>, LentData<'a>>) -> bool
-    ensures { result ≡ (owner.now.is_zone_cut
-        && not (has_type (zone_of (λ n. n) (λ d. d.rtype) minimum_of owner.now.records) ds)) }
-{
-    owner.is_zone_cut && !has_type(owner.records.records(), Rtype::DS)
 }
 
 /// The first owner of a chain, in canonical order, with records of one type other than RRSIG that

@@ -1,4 +1,5 @@
 use Rattle.std.proofs.Common.{◌≡◌, ◌&&◌, true, List, refl, subst, sym}
+use Rattle.domain_alike.specs.Covered.{covered_names}
 use Rattle.domain_bitmap.specs.Bitmap.{bitmap_octets}
 use Rattle.domain_lent.specs.Data.{minimum_of, RawRecord}
 use Rattle.domain_nsec3.specs.Faults.{IsFirstFault}
@@ -9,7 +10,6 @@ use Rattle.domain_sha1.specs.Iterated.{sha1_answer}
 use Rattle.domain_zone.specs.View.{zone_of}
 use Rattle.domain_zone.specs.Zone.{has_unequal_ttls}
 use Rattle.denial_c.specs.Chains.{hashing_fault, IsSortedNsec3Fault, IsSortedUnevenAt}
-use Rattle.denial_c.specs.Uneven.{covered_names}
 use Rattle.denial_c.proofs.HashLemmas.{hashing_faulty, short_bits}
 use Rattle.denial_c.proofs.nsec3_chain.sorted_nsec3s.Goals as goal
 

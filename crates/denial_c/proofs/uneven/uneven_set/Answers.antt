@@ -1,4 +1,6 @@
 use Rattle.std.proofs.Common.{◌≡◌, ◌&&◌, true, false, not, ap, map, subst, sym, ◌∙◌}
+use Rattle.domain_alike.specs.Covered.{covered_names}
+use Rattle.domain_alike.proofs.KeptLemmas.{stays}
 use Rattle.domain_lent.specs.Data.{minimum_of}
 use Rattle.domain_zone.specs.Owners.{OwnerRecords}
 use Rattle.domain_zone.specs.OwnerView.{as_owner_records}
@@ -6,8 +8,8 @@ use Rattle.domain_zone.specs.View.{as_zone_record, zone_of}
 use Rattle.domain_zone.specs.Zone.{has_clash, records_of}
 use Rattle.domain_zone.proofs.GivenLemmas.{raw_types, types_at}
 use Rattle.domain_zone.proofs.TtlLemmas.{NeverDescend}
-use Rattle.denial_c.specs.Uneven.{covered_names, IsFirstClash, IsFirstUneven}
-use Rattle.denial_c.proofs.UnevenLemmas.{IsWalked, stays, walked_all, walked_clash, walked_even, walked_first, walked_known, walked_past}
+use Rattle.denial_c.specs.Uneven.{IsFirstClash, IsFirstUneven}
+use Rattle.denial_c.proofs.UnevenLemmas.{IsWalked, walked_all, walked_clash, walked_even, walked_first, walked_known, walked_past}
 use Rattle.denial_c.proofs.uneven.uneven_set.Goals as goal
 
 pub owners-preserved-then-excludes-is_unsigned_cut : goal.owners-preserved-then-excludes-is_unsigned_cut

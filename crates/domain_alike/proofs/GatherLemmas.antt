@@ -1,6 +1,6 @@
 -- The owners of a list in order and the names above them, gathered one owner after another.
 use Rattle.std.proofs.Common.{◌≡◌, ◌⊎◌, ℕ, ◌+◌, ◌<◌, ◌≤◌, Bool, true, false, cond, not, ◌&&◌, ◌||◌, List, [], ◌∷◌, ◌++◌, length, refl, sym, ap, ◌∙◌, arith, inl, inr, subst, append-nil, append_assoc}
-use Rattle.std.specs.Prelude.{All, nat_le, nat_lt}
+use Rattle.std.specs.Prelude.{All, filter, nat_le, nat_lt}
 use Rattle.std.specs.List.{AllByRecursion, list_any}
 use Rattle.std.specs.List.Sorted.{IsStrictlySortedBy}
 use Rattle.std.specs.Ordering.{is_lt}
@@ -18,16 +18,17 @@ use Rattle.domain_zone.proofs.NameLemmas.{before_order, one_lowered, same_itself
 use Rattle.domain_zone.proofs.OwnerLemmas.{any_in, in_any, owners_are, owners_ascend}
 use Rattle.domain_zone.proofs.PairLemmas.{In, IsAscending, all_in, le_lt}
 use Rattle.domain_zone.proofs.SharedLemmas.{either_way}
-use Rattle.domain_zone.proofs.ZoneLemmas.{all_both, after_or, filter_whole, weaker}
+use Rattle.domain_zone.proofs.ZoneLemmas.{all_both, all_filter, after_or, weaker}
 use Rattle.domain_nsec3.specs.Ancestors.{above_with_more, IsListOf}
 use Rattle.domain_nsec3.specs.Config.{ChainConfig, excludes}
-use Rattle.domain_nsec3.specs.Owners.{is_chain_name, is_empty, is_excluded, is_original_owner, is_unsigned_cut, original_owners}
+use Rattle.domain_nsec3.specs.Owners.{is_chain_name, is_empty, is_original_owner, is_unsigned_cut, original_owners}
 use Rattle.domain_nsec3.proofs.AncestorLemmas.{are_above, less, not_less, IsAbove}
 use Rattle.domain_nsec3.proofs.ListLemmas.{sorted}
 use Rattle.domain_nsec3.proofs.OwnerLemmas.{existing_are}
 use Rattle.domain_nsec3.proofs.OutcomeLemmas.{original_below}
 use Rattle.domain_nsec3.proofs.SharedLemmas.{Shares, at_length, cons_below}
-use Rattle.lint_program.specs.AlikeSteps.{up_with_more}
+use Rattle.domain_alike.specs.AlikeSteps.{up_with_more}
+use Rattle.domain_alike.specs.Covered.{covered_names}
 
 -- ---- lists
 
@@ -274,31 +275,33 @@ none_over a [] none = record { ascend = tt; exactly = λ x. sym (no (is_at_or_be
     no false = refl
 none_over a (o ∷ owners) none = absurd (omega (arith, none))
 
--- ---- the owners that are not occluded
+-- ---- the owners of a chain
 
-pub unoccluded_sorted : (d : Bool) (L : List ZoneRecord) (a : Name) → OwnersNeverDescend L → IsStrictlySortedBy canonical_cmp (unoccluded_owners d L a)
-unoccluded_sorted d L a order = sorted (unoccluded_owners d L a) (owners_ascend d L a order)
+-- of names in order some are in order
+ascending_some : (keep : Name → Bool) (ks : List Name) → IsAscending before ks → IsAscending before (filter keep ks)
+ascending_some keep [] h = tt
+ascending_some keep (k ∷ ks) h =
+    elim (keep k) as (λ b. IsAscending before (cond b (k ∷ filter keep ks) (filter keep ks))) [
+      | true ↦ (all_filter (λ y. before k y ≡ true) keep ks h.0, ascending_some keep ks h.1)
+      | false ↦ ascending_some keep ks h.1
+    ]
 
-pub unoccluded_below : (d : Bool) (L : List ZoneRecord) (a : Name) → All (λ n. is_at_or_below n a ≡ true) (unoccluded_owners d L a)
-unoccluded_below d L a =
-    All-from_recursion (λ n. is_at_or_below n a ≡ true) (unoccluded_owners d L a)
+pub covered_sorted : (w d : Bool) (L : List ZoneRecord) (a : Name) → OwnersNeverDescend L → IsStrictlySortedBy canonical_cmp (covered_names w d L a)
+covered_sorted w d L a order =
+    sorted (covered_names w d L a)
+    (ascending_some (λ n. not (w && is_unsigned_cut L a n)) (unoccluded_owners d L a) (owners_ascend d L a order))
+
+pub covered_below : (w d : Bool) (L : List ZoneRecord) (a : Name) → All (λ n. is_at_or_below n a ≡ true) (covered_names w d L a)
+covered_below w d L a =
+    All-from_recursion (λ n. is_at_or_below n a ≡ true) (covered_names w d L a)
+    (all_filter (λ n. is_at_or_below n a ≡ true) (λ n. not (w && is_unsigned_cut L a n)) (unoccluded_owners d L a)
     (weaker (λ n. (owns L n ≡ true) × (is_unoccluded d L a n ≡ true)) (λ n. is_at_or_below n a ≡ true)
     (λ n h. (and_parts (is_at_or_below n a) (not (is_occluded d L a n)) h.1).0)
-    (unoccluded_owners d L a) (owners_are d L a))
+    (unoccluded_owners d L a) (owners_are d L a)))
 
--- ---- the names of a chain that leaves nothing out
+-- ---- the names of a chain
 
-all_so : (test : Name → Bool) → ((n : Name) → test n ≡ true) → (ks : List Name) → AllByRecursion (λ n. test n ≡ true) ks
-all_so test h [] = tt
-all_so test h (k ∷ ks) = (h k, all_so test h ks)
-
-module _ (L : List ZoneRecord) (a : Name) (config : ChainConfig) (whole : excludes config ≡ false) where
-  pub all_original : original_owners L a config ≡ unoccluded_owners config.occlude_below_dname L a
-  all_original =
-      filter_whole (λ n. not (is_excluded L a config n)) (unoccluded_owners config.occlude_below_dname L a)
-      (all_so (λ n. not (is_excluded L a config n)) (λ n. ap (λ b. not (b && is_unsigned_cut L a n)) whole)
-      (unoccluded_owners config.occlude_below_dname L a))
-
+module _ (L : List ZoneRecord) (a : Name) (config : ChainConfig) where
   -- no name outside of the zone is one
   outside : (x : Name) → is_at_or_below x a ≡ false → is_chain_name L a config x ≡ false
   outside x out =
@@ -327,9 +330,10 @@ module _ (L : List ZoneRecord) (a : Name) (config : ChainConfig) (whole : exclud
             (λ i. out i && list_any (λ n. is_at_or_below n x) (original_owners L a config)) ∙ sym (outside x out)
       ]
 
-  pub listed_names : (owners names : List Name) → owners ≡ unoccluded_owners config.occlude_below_dname L a → IsListOf (exists_over owners a) names
-      → IsListOf (is_chain_name L a config) names
-  listed_names owners names are list = record {
-    ascend = list.ascend;
-    exactly = λ x. list.exactly x ∙ ap (λ os. exists_over os a x) (are ∙ sym all_original) ∙ exists_is x;
-  }
+  pub listed_names : (w d : Bool) → excludes config ≡ w → config.occlude_below_dname ≡ d → (owners names : List Name)
+      → owners ≡ covered_names w d L a → IsListOf (exists_over owners a) names → IsListOf (is_chain_name L a config) names
+  listed_names w d left_out below owners names are list =
+      let original : original_owners L a config ≡ covered_names w d L a = (λ i. covered_names (left_out i) (below i) L a) in record {
+        ascend = list.ascend;
+        exactly = λ x. list.exactly x ∙ ap (λ os. exists_over os a x) (are ∙ sym original) ∙ exists_is x;
+      }

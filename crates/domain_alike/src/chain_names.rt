@@ -1,40 +1,56 @@
 //! The names of the NSEC3 chain of a zone.
-ghost use Rattle.std.specs.Prelude.{◌≡◌, ◌++◌, true, false, length, All, IfOk, OnOk};
+ghost use Rattle.std.specs.Prelude.{◌≡◌, ◌++◌, ◌&&◌, not, true, length, All, IfOk, OnOk};
 ghost use Rattle.std.specs.List.Sorted.{IsStrictlySortedBy};
 ghost use Rattle.domain_base.specs.Name.{is_at_or_below};
 ghost use Rattle.domain_base.specs.Order.{canonical_cmp};
+ghost use Rattle.domain_base.specs.Types.{ds};
 ghost use Rattle.domain_lent.specs.Data.{minimum_of};
 ghost use Rattle.domain_nsec3.specs.Ancestors.{IsListOf};
+ghost use Rattle.domain_nsec3.specs.Config.{excludes, ChainConfig};
 ghost use Rattle.domain_nsec3.specs.Owners.{is_chain_name};
-ghost use Rattle.domain_nsec3.specs.View.{HasherAnswer};
 ghost use Rattle.domain_records.specs.Order.{IsInOrder};
 ghost use Rattle.domain_zone.specs.Enclosers.{exists_over};
 ghost use Rattle.domain_zone.specs.View.{zone_of};
-ghost use Rattle.domain_zone.specs.Zone.{unoccluded_owners};
-ghost use Rattle.denial_program.specs.Answer.{usual_nsec3_config};
-ghost use Rattle.denial_program.specs.Command.{Params};
-ghost use Rattle.lint_program.specs.AlikeSteps.{up_with_more};
+ghost use Rattle.domain_zone.specs.Zone.{has_type};
+ghost use Rattle.domain_alike.specs.AlikeSteps.{up_with_more};
+ghost use Rattle.domain_alike.specs.Covered.{covered_names};
 
-use domain_base::{ParsedName, ToName};
-use domain_dnssec::RecordsIter;
-use domain_lent::LentRecord;
+use domain_base::{ParsedName, Rtype, ToName};
+use domain_lent::{LentData, LentRecord};
 use domain_octets::{OutOfMemory, TryClone};
-use domain_zone::UnoccludedOwners;
+use domain_records::RecordsIter;
+use domain_zone::{UnoccludedOwner, UnoccludedOwners, has_type};
 use std::alloc::Global;
 
-/// The owners at or below the apex that are not occluded, in canonical order.
+/// Whether the owner is a zone cut without DS records, an unsigned delegation.
+pub fn is_unsigned_cut<'a>(owner: &UnoccludedOwner<'a, ParsedName<'a>, LentData<'a>>) -> bool
+    ensures { result ≡ (owner.now.is_zone_cut
+        && not (has_type (zone_of (λ n. n) (λ d. d.rtype) minimum_of owner.now.records) ds)) }
+{
+    owner.is_zone_cut && !has_type(owner.records.records(), Rtype::DS)
+}
+
+/// The owners at or below the apex that are not occluded, in canonical order. Unsigned delegations
+/// are left out where `without_unsigned` says so, and names below the owner of a DNAME record where
+/// `below_dname` does.
 fn owners_of<'a>(
     alloc: Global,
     apex: &ParsedName<'a>,
     sorted: &[LentRecord<'a>],
+    without_unsigned: bool,
+    below_dname: bool,
 ) -> Result<Vec<ParsedName<'a>>, OutOfMemory>
     requires { IsInOrder (λ n. n) (λ d. d.rtype) sorted.now }
-    ensures { IfOk result (λ owners. owners.items ≡ unoccluded_owners false
+    ensures { IfOk result (λ owners. owners.items
+        ≡ covered_names without_unsigned below_dname
         (zone_of (λ n. n) (λ d. d.rtype) minimum_of sorted.now) apex.now) }
 {
-    let mut left = UnoccludedOwners::new(apex, RecordsIter::new_from_owned(sorted), false);
+    let mut left = UnoccludedOwners::new(apex, RecordsIter::new_from_owned(sorted), below_dname);
     let mut owners = Vec::new(alloc);
     'owners: while let Some(owner) = left.next() {
+        if without_unsigned & is_unsigned_cut(&owner) {
+            continue;
+        }
         owners.push(owner.name.try_clone()?)?;
     }
     Ok(owners)
@@ -91,19 +107,23 @@ fn names_over<'a>(
     Ok(names)
 }
 
-/// The names of the NSEC3 chain without opt-out of sorted records, in canonical order: the owners
-/// that are not occluded, and the empty non-terminals over them.
+/// The names of the NSEC3 chain of sorted records, in canonical order: the owners that are not
+/// occluded, and the empty non-terminals over them. Unsigned delegations are left out where
+/// `without_unsigned` says so, and names below the owner of a DNAME record where `below_dname` does.
 pub fn chain_names<'a>(
     alloc: Global,
     apex: &ParsedName<'a>,
     sorted: &[LentRecord<'a>],
+    without_unsigned: bool,
+    below_dname: bool,
 ) -> Result<Vec<ParsedName<'a>>, OutOfMemory>
     requires { IsInOrder (λ n. n) (λ d. d.rtype) sorted.now }
-    ensures { IfOk result (λ names. (answers : HasherAnswer) (p : Params) → p.flags ≡ 0
+    ensures { IfOk result (λ names. (config : ChainConfig) → excludes config ≡ without_unsigned
+        → config.occlude_below_dname ≡ below_dname
         → IsListOf (is_chain_name (zone_of (λ n. n) (λ d. d.rtype) minimum_of sorted.now) apex.now
-        (usual_nsec3_config answers p)) names.items) }
+        config) names.items) }
 {
-    let owners = owners_of(alloc, apex, sorted)?;
+    let owners = owners_of(alloc, apex, sorted, without_unsigned, below_dname)?;
     let names = names_over(alloc, apex, &owners)?;
     Ok(names)
 }

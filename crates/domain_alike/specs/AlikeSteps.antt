@@ -8,8 +8,8 @@ use Rattle.domain_octets.specs.Words.{Octets}
 use Rattle.domain_base.specs.Words.{Name}
 use Rattle.domain_nsec3.specs.Ancestors.{above_with_more}
 use Rattle.domain_nsec3.specs.Config.{Hash, HashAnswer, hash_name}
-use Rattle.lint_program.specs.Alike.{Pair}
-use Rattle.lint_program.specs.declared.alike.FirstNames.{FirstNames}
+use Rattle.domain_alike.specs.Alike.{Pair}
+use Rattle.domain_alike.specs.declared.alike.FirstNames.{FirstNames}
 
 -- a name and those above it that have more than so many labels, the shortest first
 abbrev pub up_with_more : ℕ → Name → List Name

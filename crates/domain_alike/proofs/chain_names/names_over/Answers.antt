@@ -4,9 +4,9 @@ use Rattle.std.proofs.lemmas.List.{take_more, take_all, drop_more, drop_all}
 use Rattle.domain_zone.specs.Enclosers.{exists_over}
 use Rattle.domain_nsec3.specs.Ancestors.{IsListOf}
 use Rattle.domain_nsec3.proofs.SharedLemmas.{common_shares}
-use Rattle.lint_program.specs.AlikeSteps.{up_with_more}
-use Rattle.lint_program.proofs.GatherLemmas.{gathered_end, gathered_more, gathered_start, none_over, IsGathered}
-use Rattle.lint_program.proofs.chain_names.names_over.Goals as goal
+use Rattle.domain_alike.specs.AlikeSteps.{up_with_more}
+use Rattle.domain_alike.proofs.GatherLemmas.{gathered_end, gathered_more, gathered_start, none_over, IsGathered}
+use Rattle.domain_alike.proofs.chain_names.names_over.Goals as goal
 
 pub loop-owner-init : goal.loop-owner-init
 loop-owner-init c =

@@ -1,5 +1,5 @@
 use Rattle.std.proofs.Common.{length}
-use Rattle.lint_program.proofs.chain_names.+push_up.Given as goal
+use Rattle.domain_alike.proofs.chain_names.+push_up.Given as goal
 
 abbrev pub decreases-push_up : goal.decreases-push_up
 decreases-push_up l = length l.name.now

@@ -1,5 +1,5 @@
 -- Names that have one hash, found in a list of names in canonical order.
-use Rattle.std.proofs.Common.{◌≡◌, ◌⊎◌, ℕ, Bool, true, false, cond, List, [], ◌∷◌, ◌++◌, map, refl, sym, ap, ◌∙◌, inl, inr, subst, append-nil, Option, Some, None, Ok, Err, ◌+◌, ◌<◌, drop, get_or, length, take}
+use Rattle.std.proofs.Common.{◌≡◌, ◌⊎◌, ℕ, Bool, true, false, cond, List, [], ◌∷◌, ◌++◌, map, refl, sym, ap, ◌∙◌, inl, inr, subst, append-nil, Option, Some, None, Result, Ok, Err, IfErr, IsErrAnd, ◌+◌, ◌<◌, drop, get_or, length, take}
 use Rattle.std.specs.Cmp.Lexicographic.{slice_cmp, bytes_decides, nat_list_cmp_total, texts_ties}
 use Rattle.std.specs.List.{find, list_any, AllByRecursion}
 use Rattle.std.specs.Option.{option_or}
@@ -23,13 +23,11 @@ use Rattle.domain_nsec3.specs.Config.{ChainConfig, Hash, HashAnswer, hash_name, 
 use Rattle.domain_nsec3.specs.Owners.{is_chain_name}
 use Rattle.domain_nsec3.proofs.ListLemmas.{sorted}
 use Rattle.domain_records.specs.declared.error.Nsec3HashError.TheVariants as hash_error
-use Rattle.domain_records.specs.declared.error.SigningError.TheVariants as signing_error
-use Rattle.denial_program.specs.declared.fault.DenialFault.{DenialFault}
-use Rattle.denial_program.specs.declared.fault.DenialFault.TheVariants.{OutOfMemory as Memory, Signing}
-use Rattle.lint_program.specs.Alike.{AreAlike, IsAlike, IsFirstRefusal, Pair}
-use Rattle.lint_program.specs.AlikeSteps.{first_with, is_hash, pair_with, IsRefusedAmong, Met}
-use Rattle.lint_program.specs.AlikeSteps.Met.{more, nothing}
-use Rattle.lint_program.proofs.GatherLemmas.{ascending, ascending_both, in_both, in_last, in_left}
+use Rattle.domain_records.specs.declared.error.Nsec3HashError.{Nsec3HashError}
+use Rattle.domain_alike.specs.Alike.{AreAlike, IsAlike, IsFirstPair, IsFirstRefusal, Pair}
+use Rattle.domain_alike.specs.AlikeSteps.{first_with, is_hash, pair_with, IsRefusedAmong, Met}
+use Rattle.domain_alike.specs.AlikeSteps.Met.{more, nothing}
+use Rattle.domain_alike.proofs.GatherLemmas.{ascending, ascending_both, in_both, in_last, in_left}
 
 -- ---- hashes
 
@@ -313,9 +311,13 @@ module _ (L : List ZoneRecord) (a : Name) (config : ChainConfig) (names : List N
 -- ---- refusals
 
 -- no memory, or the refusal of a number
-abbrev pub IsRefusedBy : (ℕ → Type 0) → DenialFault → Type 0
-IsRefusedBy refused e =
-    (e ≡ Memory) ⊎ ((n : ℕ) × (e ≡ Signing (signing_error.Nsec3HashingError (hash_error.Hasher n))) × refused n)
+abbrev pub IsRefusedBy : (ℕ → Type 0) → Nsec3HashError → Type 0
+IsRefusedBy refused e = (e ≡ hash_error.OutOfMemory) ⊎ ((n : ℕ) × (e ≡ hash_error.Hasher n) × refused n)
+
+-- an error that was passed on
+pub if_err_of : {X : Type 0} (P : Nsec3HashError → Type 0) (e : Nsec3HashError) (r : Result X Nsec3HashError) → IsErrAnd r (λ f. f ≡ e) → P e → IfErr r P
+if_err_of P e (Ok x) h p = tt
+if_err_of P e (Err f) h p = subst P (sym h) p
 
 -- names none of which is refused
 pub met_hashed : (hash : Hash) (names : List Name) (pairs : List Pair) → Met hash names pairs → AllByRecursion (IsHashed hash) names

@@ -1,12 +1,11 @@
 use Rattle.std.proofs.Common.{◌≡◌, ◌∙◌, ◌+◌, ◌++◌, ◌∷◌, [], ap, inl, inr, map, subst, sym, take}
 use Rattle.std.proofs.lemmas.List.{take_more}
 use Rattle.domain_nsec3.specs.View.{hash_by, parameters_of}
-use Rattle.denial_program.proofs.AnswerLemmas.{if_err_of}
-use Rattle.lint_program.specs.Alike.{pair_of}
-use Rattle.lint_program.specs.AlikeSteps.{first_with, pair_with, AreFirstNames, IsRefusedAmong, Met}
-use Rattle.lint_program.specs.AlikeSteps.Met.{more, nothing}
-use Rattle.lint_program.proofs.AlikeLemmas.{refused_at, IsRefusedBy}
-use Rattle.lint_program.proofs.alike.pairs_of.Goals as goal
+use Rattle.domain_alike.specs.Alike.{pair_of}
+use Rattle.domain_alike.specs.AlikeSteps.{first_with, pair_with, AreFirstNames, IsRefusedAmong, Met}
+use Rattle.domain_alike.specs.AlikeSteps.Met.{more, nothing}
+use Rattle.domain_alike.proofs.AlikeLemmas.{if_err_of, refused_at, IsRefusedBy}
+use Rattle.domain_alike.proofs.alike.pairs_of.Goals as goal
 
 pub loop-name-init : goal.loop-name-init
 loop-name-init g c =

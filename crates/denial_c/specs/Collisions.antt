@@ -1,0 +1,70 @@
+-- What is answered where two names of an NSEC3 chain hash alike: both names, or exactly why there
+-- is no such answer.
+use Rattle.std.specs.Prelude.{◌≡◌, ℕ, ◌<◌, ◌≤◌, Bool, true, false, ◌++◌, List, length, drop, Option, Some, None, Result, Ok, Err}
+use Rattle.domain_octets.specs.Words.{Octets}
+use Rattle.domain_base.specs.Name.{lowered, wire_of}
+use Rattle.domain_base.specs.Words.{Name}
+use Rattle.domain_alike.specs.Alike.{IsFirstPair, Pair}
+use Rattle.domain_lent.specs.Data.{minimum_of, RawRecord}
+use Rattle.domain_nsec3.specs.Config.{ChainConfig}
+use Rattle.domain_zone.specs.View.{zone_of}
+use Rattle.denial_c.specs.ChainNumbers.{collision_number}
+use Rattle.denial_c.specs.Chains.{AreZone, Asking, IsChainFault, Sorts}
+use Rattle.denial_c.specs.declared.chain_fault.ChainFault.{ChainFault}
+
+-- of the chain of the records, in whatever order they stand, this is the first pair of names that
+-- hash alike, or it has none
+pub record HasFirstPair (apex : Octets) (class : ℕ) (config : ChainConfig) (records : Octets)
+    (pair : Option Pair) : Type 0 where
+  pub a : Name
+  pub given : List RawRecord
+  pub sorted : List RawRecord
+  pub zone : AreZone apex class records a given
+  pub sorts : Sorts given sorted
+  pub first : IsFirstPair (zone_of (λ n. n) (λ d. d.rtype) minimum_of sorted) a config pair
+
+-- a buffer, before and after a call
+pub record Written : Type 0 where
+  pub old : Octets
+  pub new : Octets
+
+-- the wire form of the name, in lower case, was written to the beginning of the buffer
+abbrev pub IsNamed : Name → Written → Type 0
+IsNamed n buffer = buffer.new ≡ wire_of (lowered n) ++ drop (length (wire_of n)) buffer.old
+
+abbrev pub IsKept : Written → Type 0
+IsKept buffer = buffer.new ≡ buffer.old
+
+-- what is asked is fit for a chain or its salt is too long, and no other fault of a chain counts
+abbrev pub pair_asking : ChainConfig → Asking
+pair_asking config =
+    record {
+      is_fit = length config.parameters.salt ≤ 255;
+      is_long = 255 < length config.parameters.salt;
+      is_chain = λ written. ⊥;
+      has_fault = λ error. ⊥;
+      is_uneven_at = λ offset. ⊥;
+    }
+
+-- what is answered, and what both buffers have then: the earlier name of the pair and the later one,
+-- or what they had
+abbrev pub IsCollisionResult : Octets → ℕ → ChainConfig → Octets → Result Bool ChainFault → Written
+    → Written → Type 0
+IsCollisionResult apex class config records (Ok true) earlier later =
+    (length config.parameters.salt ≤ 255)
+    × ((pair : Pair) × HasFirstPair apex class config records (Some pair) × IsNamed pair.1 earlier
+    × IsNamed pair.0 later)
+IsCollisionResult apex class config records (Ok false) earlier later =
+    (length config.parameters.salt ≤ 255) × HasFirstPair apex class config records None
+    × IsKept earlier × IsKept later
+IsCollisionResult apex class config records (Err e) earlier later =
+    IsChainFault (pair_asking config) apex class records earlier.old e × IsKept earlier
+    × IsKept later
+
+-- ---- what C is told
+
+-- the number is that of a result with this property
+pub record IsCollisionTold (IsResult : Result Bool ChainFault → Type 0) (number : ℕ) : Type 0 where
+  pub answer : Result Bool ChainFault
+  pub is : IsResult answer
+  pub tells : number ≡ collision_number answer

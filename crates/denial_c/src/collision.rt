@@ -1,0 +1,120 @@
+//! The names of an NSEC3 chain of the records in octets that hash alike.
+ghost use Rattle.std.specs.Prelude.{◌≡◌, ◌++◌, drop, length, IfErr, IfOk, option_map};
+ghost use Rattle.domain_base.specs.Name.{lowered, wire_of};
+ghost use Rattle.domain_alike.specs.Alike.{pair_of, IsFirstPair};
+ghost use Rattle.domain_lent.specs.Data.{minimum_of};
+ghost use Rattle.domain_nsec3.specs.View.{config_of};
+ghost use Rattle.domain_records.specs.Order.{IsInOrder};
+ghost use Rattle.domain_sha1.specs.Iterated.{sha1_answer};
+ghost use Rattle.domain_zone.specs.View.{zone_of};
+ghost use Rattle.denial_c.specs.ChainNumbers.{collision_number};
+ghost use Rattle.denial_c.specs.Chains.{hashed_config};
+ghost use Rattle.denial_c.specs.Collisions.{IsCollisionResult};
+ghost use Rattle.denial_c.specs.declared.chain_fault.ChainFault.TheVariants as fault;
+
+use crate::chain_fault::{ChainFault, chain_fault_number};
+use crate::fault::Fault;
+use crate::nsec::read_name;
+use crate::nsec3_chain::{Hashing, config_with};
+use crate::zone::sorted_zone;
+use domain_alike::{Alike, first_alike};
+use domain_base::{Class, ParsedName, ToName};
+use domain_lent::LentRecord;
+use domain_nsec::GenerateNsecConfig;
+use domain_nsec3::GenerateNsec3Config;
+use domain_records::InPlaceSorter;
+use domain_sha1::Sha1Hasher;
+use domain_zone::MAX_NAME;
+use std::alloc::Global;
+
+/// The first pair of names of the chain of sorted records that hash alike. SHA-1 refuses no name, so
+/// that there is no other error than want of memory.
+fn first_pair<'a>(
+    alloc: Global,
+    apex: &ParsedName<'a>,
+    sorted: &[LentRecord<'a>],
+    config: &GenerateNsec3Config<&[u8], InPlaceSorter>,
+) -> Result<Option<Alike<'a>>, ChainFault>
+    requires in_order { IsInOrder (λ n. n) (λ d. d.rtype) sorted.now }
+    requires sha1 { config.now.params.hash_algorithm ≡ 1 }
+    ensures ok { IfOk result (λ alike. IsFirstPair
+        (zone_of (λ n. n) (λ d. d.rtype) minimum_of sorted.now) apex.now
+        (config_of sha1_answer config.now) (option_map pair_of alike)) }
+    ensures err { IfErr result (λ e. e ≡ fault.OutOfMemory) }
+{
+    match first_alike(alloc, apex, sorted, config, &Sha1Hasher) {
+        Ok(alike) => Ok(alike),
+        Err(_) => Err(ChainFault::OutOfMemory),
+    }
+}
+
+/// Writes the wire form of a name, in lower case, to the beginning of a buffer.
+fn write_name(name: &ParsedName<'_>, buffer: &mut [u8; MAX_NAME])
+    ensures { buffer.new
+        ≡ wire_of (lowered name.now) ++ drop (length (wire_of name.now)) buffer.old }
+{
+    let wire = name.as_wire();
+    let front = &mut buffer[..wire.len()];
+    front.copy_from_slice(wire);
+    front.make_ascii_lowercase();
+}
+
+/// Whether two names of the NSEC3 chain of the records of the class that the octets are hash alike.
+/// Where some do, the first in canonical order that has the hash of one before it is written to the
+/// buffer of the later name, and the first that has its hash to that of the earlier one, both in
+/// lower case.
+///
+/// # Errors
+///
+/// The first that stands: `Apex`; `LongSalt`; `Records` or `Class`, whichever comes first in the
+/// octets; and `OutOfMemory`. Other faults of the zone are not looked for. Without an answer both
+/// buffers stay as they were.
+pub(crate) fn collision(
+    alloc: Global,
+    apex: &[u8],
+    class: u16,
+    hashing: Hashing<'_>,
+    options: GenerateNsecConfig,
+    records: &[u8],
+    earlier: &mut [u8; MAX_NAME],
+    later: &mut [u8; MAX_NAME],
+) -> Result<bool, ChainFault>
+    ensures { IsCollisionResult apex.now class
+        (hashed_config hashing.entry.iterations hashing.entry.salt.now hashing.entry.opt_out
+        options.assume_dnskeys_will_be_added options.occlude_below_dname) records.now result
+        (record { old = earlier.old; new = earlier.new })
+        (record { old = later.old; new = later.new }) }
+{
+    let Ok(apex) = read_name(apex, Fault::Apex) else {
+        return Err(ChainFault::Apex);
+    };
+    let config = match config_with(hashing, options) {
+        Ok(config) => config,
+        Err(fault) => return Err(fault),
+    };
+    let class = Class::from_int(class);
+    let sorted = match sorted_zone(alloc, class, records) {
+        Ok(sorted) => sorted,
+        Err(fault) => return Err(fault),
+    };
+    match first_pair(alloc, &apex, &sorted, &config) {
+        Ok(Some(alike)) => {
+            write_name(&alike.first, earlier);
+            write_name(&alike.later, later);
+            Ok(true)
+        }
+        Ok(None) => Ok(false),
+        Err(fault) => Err(fault),
+    }
+}
+
+/// The number of an answer.
+pub(crate) fn collision_number(answer: Result<bool, ChainFault>) -> u32
+    ensures { result ≡ collision_number answer }
+{
+    match answer {
+        Ok(true) => chain_fault_number(ChainFault::Collision),
+        Ok(false) => 49,
+        Err(fault) => chain_fault_number(fault),
+    }
+}

@@ -1,0 +1,70 @@
+-- The owners of a chain, as a walk over the owners that are not occluded keeps them.
+use Rattle.std.proofs.Common.{◌≡◌, Bool, true, false, cond, not, ◌&&◌, List, [], ◌∷◌, ◌++◌, map, refl, sym, ap, ◌∙◌, subst, append_assoc, append-nil}
+use Rattle.std.specs.Prelude.{filter}
+use Rattle.std.proofs.lemmas.List.{map-append}
+use Rattle.std.proofs.lemmas.List.Elements.{filter-append}
+use Rattle.domain_base.specs.Types.{ds}
+use Rattle.domain_base.specs.Words.{Name}
+use Rattle.domain_nsec3.specs.Owners.{is_unsigned_cut}
+use Rattle.domain_zone.specs.Owners.{OwnerRecords, owner_at, owners_with_records}
+use Rattle.domain_zone.specs.Zone.{ZoneRecord, has_type, unoccluded_owners}
+use Rattle.domain_zone.proofs.GivenLemmas.{name_of}
+use Rattle.domain_alike.specs.Covered.{covered_names}
+
+abbrev pub stays : Bool → OwnerRecords → Bool
+stays excludes o = not (excludes && (o.is_zone_cut && not (has_type o.records ds)))
+
+pub names_stay : (excludes : Bool) (L : List ZoneRecord) (a : Name) (ks : List Name) → map name_of (filter (stays excludes) (map (owner_at L a) ks))
+    ≡ filter (λ n. not (excludes && is_unsigned_cut L a n)) ks
+names_stay excludes L a [] = refl
+names_stay excludes L a (k ∷ ks) =
+    elim (excludes && is_unsigned_cut L a k) as (λ b. map name_of
+    (cond (not b) (owner_at L a k ∷ filter (stays excludes) (map (owner_at L a) ks)) (filter (stays excludes) (map (owner_at L a) ks)))
+    ≡ cond (not b) (k ∷ filter (λ n. not (excludes && is_unsigned_cut L a n)) ks)
+    (filter (λ n. not (excludes && is_unsigned_cut L a n)) ks)) [
+      | true ↦ names_stay excludes L a ks
+      | false ↦ ap (λ t. k ∷ t) (names_stay excludes L a ks)
+    ]
+
+-- the owners given so far and those left are all, and these are the names of those that stay
+pub record AreKept (excludes d : Bool) (L : List ZoneRecord) (a : Name) (left : List OwnerRecords) (names : List Name) : Type 0 where
+  pub given : List OwnerRecords
+  pub all : given ++ left ≡ owners_with_records d L a
+  pub are : names ≡ map name_of (filter (stays excludes) given)
+
+module _ (excludes d : Bool) (L : List ZoneRecord) (a : Name) where
+  pub kept_none : (left : List OwnerRecords) (names : List Name) → left ≡ owners_with_records d L a → names ≡ [] → AreKept excludes d L a left names
+  kept_none left names all none = record { given = []; all = all; are = none }
+
+  one_more : (given : List OwnerRecords) (o : OwnerRecords) (b : Bool) → stays excludes o ≡ b
+      → map name_of (filter (stays excludes) (given ++ o ∷ [])) ≡ map name_of (filter (stays excludes) given) ++ cond b (o.name ∷ []) []
+  one_more given o b e =
+      ap (map name_of) (filter-append (stays excludes) given (o ∷ []))
+      ∙ map-append name_of (filter (stays excludes) given) (filter (stays excludes) (o ∷ []))
+      ∙ ap (λ ks. map name_of (filter (stays excludes) given) ++ ks)
+      (ap (λ c. map name_of (cond c (o ∷ []) [])) e ∙ named b)
+    where
+      named : (c : Bool) → map name_of (cond c (o ∷ []) []) ≡ cond c (o.name ∷ []) []
+      named true = refl
+      named false = refl
+
+  pub kept_past : (o : OwnerRecords) (left : List OwnerRecords) (names : List Name) → AreKept excludes d L a (o ∷ left) names
+      → stays excludes o ≡ false → AreKept excludes d L a left names
+  kept_past o left names h out = record {
+    given = h.given ++ o ∷ [];
+    all = append_assoc h.given (o ∷ []) left ∙ h.all;
+    are = h.are ∙ sym (one_more h.given o false out ∙ append-nil (map name_of (filter (stays excludes) h.given)));
+  }
+
+  pub kept_more : (o : OwnerRecords) (left : List OwnerRecords) (names : List Name) → AreKept excludes d L a (o ∷ left) names
+      → stays excludes o ≡ true → AreKept excludes d L a left (names ++ o.name ∷ [])
+  kept_more o left names h kept = record {
+    given = h.given ++ o ∷ [];
+    all = append_assoc h.given (o ∷ []) left ∙ h.all;
+    are = ap (λ ks. ks ++ o.name ∷ []) h.are ∙ sym (one_more h.given o true kept);
+  }
+
+  pub kept_all : (names : List Name) → AreKept excludes d L a [] names → names ≡ covered_names excludes d L a
+  kept_all names h =
+      h.are ∙ ap (λ os. map name_of (filter (stays excludes) os)) (sym (append-nil h.given) ∙ h.all)
+      ∙ names_stay excludes L a (unoccluded_owners d L a)

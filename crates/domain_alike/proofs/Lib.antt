@@ -1,0 +1,3 @@
+pub mod KeptLemmas
+pub mod GatherLemmas
+pub mod AlikeLemmas

@@ -1,0 +1,36 @@
+use Rattle.std.proofs.Common.{◌≡◌, ◌∙◌, true, sym, subst}
+use Rattle.std.specs.Prelude.{All}
+use Rattle.std.specs.List.Sorted.{IsStrictlySortedBy}
+use Rattle.domain_base.specs.Name.{is_at_or_below}
+use Rattle.domain_base.specs.Order.{canonical_cmp}
+use Rattle.domain_lent.specs.Data.{minimum_of}
+use Rattle.domain_zone.specs.View.{zone_of}
+use Rattle.domain_zone.proofs.GroupLemmas.{owners_in_order}
+use Rattle.domain_alike.specs.Covered.{covered_names}
+use Rattle.domain_alike.proofs.GatherLemmas.{covered_below, covered_sorted, listed_names}
+use Rattle.domain_alike.proofs.chain_names.chain_names.Goals as goal
+
+pub names_over-requires-clause-ascend : goal.names_over-requires-clause-ascend
+names_over-requires-clause-ascend c =
+    let L = zone_of (λ n. n) (λ d. d.rtype) minimum_of c.args.sorted.now in
+    let are : c.deref.result.now ≡ covered_names c.args.without_unsigned c.args.below_dname L c.args.apex.now =
+    c.deref.ensures.value ∙ c.in_ok-owners.ensures in
+    subst (IsStrictlySortedBy canonical_cmp) (sym are)
+    (covered_sorted c.args.without_unsigned c.args.below_dname L c.args.apex.now
+    (owners_in_order (λ n. n) (λ d. d.rtype) minimum_of c.args.sorted.now c.requires))
+
+pub names_over-requires-clause-in_zone : goal.names_over-requires-clause-in_zone
+names_over-requires-clause-in_zone c =
+    let L = zone_of (λ n. n) (λ d. d.rtype) minimum_of c.args.sorted.now in
+    let are : c.deref.result.now ≡ covered_names c.args.without_unsigned c.args.below_dname L c.args.apex.now =
+    c.deref.ensures.value ∙ c.in_ok-owners.ensures in
+    subst (All (λ n. is_at_or_below n c.args.apex.now ≡ true)) (sym are)
+    (covered_below c.args.without_unsigned c.args.below_dname L c.args.apex.now)
+
+pub returns : goal.returns
+returns c = λ config left_out below.
+    let L = zone_of (λ n. n) (λ d. d.rtype) minimum_of c.args.sorted.now in
+    let are : c.deref.result.now ≡ covered_names c.args.without_unsigned c.args.below_dname L c.args.apex.now =
+    c.deref.ensures.value ∙ c.in_ok-owners.ensures in
+    listed_names L c.args.apex.now config c.args.without_unsigned c.args.below_dname left_out below c.deref.result.now c.in_ok-names.names.items are
+    c.in_ok-names.ensures

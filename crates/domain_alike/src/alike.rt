@@ -1,0 +1,207 @@
+//! Which names of a chain hash alike.
+ghost use Rattle.std.specs.Prelude.{◌≡◌, ◌⊎◌, ℕ, ◌++◌, ◌∷◌, [], List, Ok, Err, IfErr, IfOk, OnOk, map, option_map};
+ghost use Rattle.domain_base.specs.Words.{Name};
+ghost use Rattle.domain_lent.specs.Data.{minimum_of};
+ghost use Rattle.domain_nsec3.specs.Config.{Hash, hash_name};
+ghost use Rattle.domain_nsec3.specs.View.{config_of, hash_by, parameters_of};
+ghost use Rattle.domain_records.specs.Order.{IsInOrder};
+ghost use Rattle.domain_records.specs.declared.error.Nsec3HashError.TheVariants as hash_error;
+ghost use Rattle.domain_zone.specs.View.{zone_of};
+ghost use Rattle.domain_alike.specs.Alike.{pair_of, AreAlike, IsFirstPair, IsFirstRefusal};
+ghost use Rattle.domain_alike.specs.AlikeSteps.{first_with, pair_with, AreFirstNames, IsRefusedAmong, Met};
+
+use crate::chain_names::chain_names;
+use crate::hash_key::HashKey;
+use domain_base::ParsedName;
+use domain_chain_rdata::Nsec3param;
+use domain_lent::LentRecord;
+use domain_nsec3::GenerateNsec3Config;
+use domain_octets::{Octets, OutOfMemory, TryClone};
+use domain_records::Nsec3HashError;
+use domain_zone::{MAX_NAME, Nsec3Hasher, hash_wire, lower_wire};
+use std::alloc::Global;
+use std::collections::BTreeMap;
+
+/// A name, and the first in canonical order that has its hash, which is another.
+#[derive(Drop)]
+pub struct Alike<'a> {
+    /// The name.
+    pub later: ParsedName<'a>,
+    /// The first that has its hash.
+    pub first: ParsedName<'a>,
+}
+
+/// The first name of each hash that came.
+#[derive(Drop)]
+struct FirstNames<'a> {
+    map: BTreeMap<HashKey, ParsedName<'a>>,
+}
+
+impl<'a> FirstNames<'a> {
+    /// None.
+    fn new(alloc: Global) -> Self
+        ensures { (hash : Hash) → AreFirstNames hash [] result }
+    {
+        FirstNames {
+            map: BTreeMap::new(alloc),
+        }
+    }
+
+    /// The first name of a hash.
+    fn get(&self, hash: &HashKey) -> Option<&ParsedName<'a>>
+        ensures { (h : Hash) (names : List Name) → AreFirstNames h names self.now
+            → option_map (λ n. n.now) result ≡ first_with h names hash.now }
+    {
+        self.map.get(hash)
+    }
+
+    /// Takes in a name with its hash, where none of its hash came before.
+    fn put(&mut self, hash: HashKey, name: &ParsedName<'a>) -> Result<(), OutOfMemory>
+        ensures { OnOk result ((h : Hash) (names : List Name)
+            → hash_name h name.now ≡ Ok hash → AreFirstNames h names self.old
+            → AreFirstNames h (names ++ name.now ∷ []) self.new) }
+    {
+        if self.map.get(&hash).is_some() {
+            return Ok(());
+        }
+        self.map.insert(hash, name.try_clone()?)?;
+        Ok(())
+    }
+}
+
+/// The hash of a name.
+///
+/// # Errors
+///
+/// `Hasher` with what the hasher refuses, and `OutOfMemory`.
+fn hash_of<O: Octets, H: Nsec3Hasher>(
+    alloc: Global,
+    name: &ParsedName<'_>,
+    parameters: &Nsec3param<O>,
+    hasher: &H,
+) -> Result<HashKey, Nsec3HashError>
+    ensures ok { IfOk result (λ hash. hash_name (hash_by (H.answer hasher.now)
+        (parameters_of parameters.now)) name.now ≡ Ok hash) }
+    ensures err { IfErr result (λ e. (e ≡ hash_error.OutOfMemory) ⊎ ((n : ℕ)
+        × (e ≡ hash_error.Hasher n)
+        × (hash_name (hash_by (H.answer hasher.now) (parameters_of parameters.now)) name.now
+        ≡ Err n))) }
+{
+    let algorithm = parameters.hash_algorithm();
+    let iterations = parameters.iterations();
+    let salt = parameters.salt().as_slice();
+    let mut buffer = [0; MAX_NAME];
+    let lowered = lower_wire(&mut buffer, name);
+    match hash_wire(alloc, hasher, algorithm, iterations, salt, lowered) {
+        Ok(hash) => Ok(HashKey::new(hash)),
+        Err(error) => Err(error),
+    }
+}
+
+/// Adds a name with the first that has its hash, where there is one.
+fn push_pair<'a>(
+    pairs: &mut Vec<Alike<'a>>,
+    name: &ParsedName<'a>,
+    first: Option<&ParsedName<'a>>,
+) -> Result<(), OutOfMemory>
+    ensures { OnOk result (map pair_of pairs.new.items ≡ map pair_of pairs.old.items
+        ++ pair_with name.now (option_map (λ n. n.now) first.entry)) }
+{
+    let Some(first) = first else {
+        return Ok(());
+    };
+    let later = name.try_clone()?;
+    let first = first.try_clone()?;
+    pairs.push(Alike { later, first })?;
+    Ok(())
+}
+
+/// Of these names each that has the hash of one before it, with the first that has it.
+///
+/// # Errors
+///
+/// `Hasher` with what the hasher refuses of the first name that it refuses, and `OutOfMemory`.
+fn pairs_of<'a, O: Octets, H: Nsec3Hasher>(
+    alloc: Global,
+    names: &[ParsedName<'a>],
+    parameters: &Nsec3param<O>,
+    hasher: &H,
+) -> Result<Vec<Alike<'a>>, Nsec3HashError>
+    ensures ok { IfOk result (λ pairs. Met (hash_by (H.answer hasher.now)
+        (parameters_of parameters.now)) names.now (map pair_of pairs.items)) }
+    ensures err { IfErr result (λ e. (e ≡ hash_error.OutOfMemory) ⊎ ((n : ℕ)
+        × (e ≡ hash_error.Hasher n)
+        × IsRefusedAmong (hash_by (H.answer hasher.now) (parameters_of parameters.now)) names.now
+        n)) }
+{
+    let mut firsts = FirstNames::new(alloc);
+    let mut pairs = Vec::new(alloc);
+    for name in names {
+        let hash = hash_of(alloc, name, parameters, hasher)?;
+        push_pair(&mut pairs, name, firsts.get(&hash))?;
+        firsts.put(hash, name)?;
+    }
+    Ok(pairs)
+}
+
+/// Of the names of the NSEC3 chain of sorted records each that has the hash of one before it in
+/// canonical order, with the first that has it; they stand in canonical order. What else the zone
+/// lacks for a chain, as an SOA record, is not asked.
+///
+/// Takes memory for each name: its hash is looked for in a map.
+///
+/// # Errors
+///
+/// `Hasher` with what the hasher refuses of the first name that it refuses, and `OutOfMemory`.
+pub fn alike_names<'a, O: Octets, S, H: Nsec3Hasher>(
+    alloc: Global,
+    apex: &ParsedName<'a>,
+    sorted: &[LentRecord<'a>],
+    config: &GenerateNsec3Config<O, S>,
+    hasher: &H,
+) -> Result<Vec<Alike<'a>>, Nsec3HashError>
+    requires { IsInOrder (λ n. n) (λ d. d.rtype) sorted.now }
+    ensures ok { IfOk result (λ pairs. AreAlike
+        (zone_of (λ n. n) (λ d. d.rtype) minimum_of sorted.now) apex.now
+        (config_of (H.answer hasher.now) config.now) (map pair_of pairs.items)) }
+    ensures err { IfErr result (λ e. (e ≡ hash_error.OutOfMemory) ⊎ ((n : ℕ)
+        × (e ≡ hash_error.Hasher n)
+        × IsFirstRefusal (zone_of (λ n. n) (λ d. d.rtype) minimum_of sorted.now) apex.now
+        (config_of (H.answer hasher.now) config.now) n)) }
+{
+    let without_unsigned = config.params.opt_out_flag()
+        & config.opt_out_exclude_owner_names_of_unsigned_delegations;
+    let names = chain_names(alloc, apex, sorted, without_unsigned, config.occlude_below_dname)?;
+    let pairs = pairs_of(alloc, &names, &config.params, hasher)?;
+    Ok(pairs)
+}
+
+/// The first name in canonical order of the NSEC3 chain of sorted records that has the hash of one
+/// before it, with the first that has it. None where no two names have one hash.
+///
+/// Takes memory as [`alike_names`] does.
+///
+/// # Errors
+///
+/// Those of [`alike_names`].
+pub fn first_alike<'a, O: Octets, S, H: Nsec3Hasher>(
+    alloc: Global,
+    apex: &ParsedName<'a>,
+    sorted: &[LentRecord<'a>],
+    config: &GenerateNsec3Config<O, S>,
+    hasher: &H,
+) -> Result<Option<Alike<'a>>, Nsec3HashError>
+    requires { IsInOrder (λ n. n) (λ d. d.rtype) sorted.now }
+    ensures ok { IfOk result (λ alike. IsFirstPair
+        (zone_of (λ n. n) (λ d. d.rtype) minimum_of sorted.now) apex.now
+        (config_of (H.answer hasher.now) config.now) (option_map pair_of alike)) }
+    ensures err { IfErr result (λ e. (e ≡ hash_error.OutOfMemory) ⊎ ((n : ℕ)
+        × (e ≡ hash_error.Hasher n)
+        × IsFirstRefusal (zone_of (λ n. n) (λ d. d.rtype) minimum_of sorted.now) apex.now
+        (config_of (H.answer hasher.now) config.now) n)) }
+{
+    match alike_names(alloc, apex, sorted, config, hasher) {
+        Ok(pairs) => Ok(pairs.into_iter().next()),
+        Err(error) => Err(error),
+    }
+}
