@@ -16,8 +16,11 @@ IN = 1
 JUDGED_NO_CLOSER_NAME = 46
 FIRST_FAULT, LAST_FAULT = 16, 31
 CHAIN_MADE = 48
+NO_COLLISION = 49
 SHORT_BUFFER = 25
+COLLISION = 28
 TEXT_ROOM = 32
+NAME_ROOM = 255
 
 
 class Answer(typing.NamedTuple):
@@ -56,6 +59,14 @@ def wire_name(text):
     return octets
 
 
+def first_name(octets):
+    """The name that octets begin with, as a message has it without compression."""
+    at = 0
+    while octets[at]:
+        at += 1 + octets[at]
+    return octets[:at + 1]
+
+
 class Denial:
     """The library."""
 
@@ -75,6 +86,8 @@ class Denial:
         self._declare("denial_nsec_chain", [*octets, number, ctypes.c_bool, ctypes.c_bool, *octets, *buffer, out])
         self._declare("denial_nsec3_chain", [*octets, number, ctypes.c_bool, ctypes.c_bool, number, *octets, ctypes.c_bool, *octets, *buffer,
                                              out])
+        self._declare("denial_nsec3_collision", [*octets, number, ctypes.c_bool, number, *octets, ctypes.c_bool, *octets, ctypes.c_void_p,
+                                                 ctypes.c_void_p])
 
     def _declare(self, name, takes, gives=ctypes.c_uint32):
         """Tells ctypes what a function takes and gives."""
@@ -145,3 +158,15 @@ class Denial:
         """The NSEC3 chain of a zone by SHA-1, and its NSEC3PARAM record after it."""
         return self._chain(self._library.denial_nsec3_chain, apex, len(apex), rclass, assume_dnskey, occlude_below_dname, iterations,
                            salt, len(salt), opt_out, records, len(records))
+
+    def collision_nsec3(self, apex, records, rclass=IN, iterations=0, salt=b"", opt_out=False, occlude_below_dname=False):
+        """The two names for which a zone has no NSEC3 chain, since they have one hash, the earlier in canonical order first; None where
+        no two names of the chain have. Names are octets, in lower case."""
+        earlier, later = ctypes.create_string_buffer(NAME_ROOM), ctypes.create_string_buffer(NAME_ROOM)
+        number = self._library.denial_nsec3_collision(apex, len(apex), rclass, occlude_below_dname, iterations, salt, len(salt), opt_out,
+                                                      records, len(records), earlier, later)
+        if number == NO_COLLISION:
+            return None
+        if number != COLLISION:
+            raise Fault(number, self.text(number), 0)
+        return first_name(earlier.raw), first_name(later.raw)

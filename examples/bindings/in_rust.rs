@@ -38,6 +38,15 @@ fn chain(call: &str, words: &[&str]) -> Result<Result<Vec<u8>, Fault>, Box<dyn E
     Ok(denial::nsec3_chain(&zone, &hashing, &octets(words[7])?))
 }
 
+/// What the call that looks for names that hash alike answers.
+fn collision(words: &[&str]) -> Result<Result<String, Fault>, Box<dyn Error>> {
+    let (apex, salt) = (octets(words[0])?, octets(words[4])?);
+    let zone = Zone { apex: &apex, class: words[1].parse()?, assume_dnskey: false, occlude_below_dname: words[2] == "1" };
+    let hashing = Hashing { iterations: words[3].parse()?, salt: &salt, opt_out: words[5] == "1" };
+    let pair = denial::nsec3_collision(&zone, &hashing, &octets(words[6])?);
+    Ok(pair.map(|pair| pair.map_or("49 0".to_string(), |(earlier, later)| format!("28 {}{}", hexed(&earlier), hexed(&later)))))
+}
+
 /// What a call that asks answers.
 fn asked(call: &str, words: &[&str]) -> Result<Result<Answer, Fault>, Box<dyn Error>> {
     let (apex, name) = (octets(words[0])?, octets(words[1])?);
@@ -61,6 +70,9 @@ fn said(call: &str, words: &[&str], more: &str) -> Result<String, Box<dyn Error>
     };
     if call.ends_with("_chain") {
         return Ok(chain(call, words)?.map_or_else(fault, |chain| format!("48 {}", hexed(&chain))));
+    }
+    if call == "nsec3_collision" {
+        return Ok(collision(words)?.unwrap_or_else(fault));
     }
     Ok(asked(call, words)?.map_or_else(fault, |answer| format!("{} {}", answer.number, answer.labels)))
 }

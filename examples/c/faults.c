@@ -563,9 +563,10 @@ static void try_texts(void)
         {DENIAL_JUDGED_NO_CLOSER_NAME, "no closer name"},
         {DENIAL_JUDGED_TOO_MANY_ITERATIONS, "too many iterations"},
         {DENIAL_CHAIN_MADE, "chain made"},
+        {DENIAL_NO_COLLISION, "no collision"},
         {DENIAL_NO_NAME + 1, "no number of this library"},
         {DENIAL_COLLISION + 1, "no number of this library"},
-        {DENIAL_CHAIN_MADE + 1, "no number of this library"},
+        {DENIAL_NO_COLLISION + 1, "no number of this library"},
         {UINT32_MAX, "no number of this library"},
     };
     size_t i;
@@ -879,6 +880,59 @@ static void try_chains(void)
     try_chain(1, &deep, &other, 0, 1024, DENIAL_LONG_OWNER, 0);
 }
 
+/* Looks for names of the NSEC3 chain of the records that hash alike, with a salt of so many octets. SHA-1
+ * has no such names to be written by hand, so that both buffers stay. */
+static uint32_t try_collision(const struct octets *apex, const struct octets *records, size_t salt_length, uint32_t wanted)
+{
+    static uint8_t octets[256], earlier[DENIAL_NAME_ROOM], later[DENIAL_NAME_ROOM], kept[DENIAL_NAME_ROOM];
+    uint32_t answer;
+
+    memset(kept, 0xee, sizeof kept);
+    memcpy(earlier, kept, sizeof kept);
+    memcpy(later, kept, sizeof kept);
+    requests = 0;
+    is_calling = 1;
+    answer = denial_nsec3_collision(apex->at, apex->length, IN, false, 0, octets, salt_length, false, records->at,
+                                    records->length, earlier, later);
+    is_calling = 0;
+    if (refused_request < 0 || requests > refused_request)
+        expect("names that hash alike", answer, 0, wanted, 0);
+    if (memcmp(earlier, kept, sizeof kept) != 0 || memcmp(later, kept, sizeof kept) != 0) {
+        printf("differs: names were written\n");
+        failures++;
+    }
+    return answer;
+}
+
+/* No names of a. with b.a. hash alike; and each fault. */
+static void try_collisions(void)
+{
+    struct octets apex = {{0}, 0}, zone = {{0}, 0}, host = {{192, 0, 2, 1}, 4}, none = {{0}, 0}, other, cut = {{1, 'a'}, 2};
+
+    put_name(&apex, "a.");
+    put_record(&zone, "b.a.", A, IN, &host);
+    put_record(&zone, "y.x.a.", A, IN, &host);
+    try_collision(&apex, &zone, 0, DENIAL_NO_COLLISION);
+    try_collision(&apex, &none, 0, DENIAL_NO_COLLISION);
+    try_collision(&apex, &zone, 255, DENIAL_NO_COLLISION);
+    try_collision(&apex, &zone, 256, DENIAL_LONG_SALT);
+    try_collision(&cut, &zone, 256, DENIAL_BAD_APEX);
+    other = zone;
+    put(&other, "a", 1);
+    try_collision(&apex, &other, 0, DENIAL_BAD_RECORDS);
+    other = zone;
+    put_record(&other, "c.a.", A, CH, &host);
+    put(&other, "a", 1);
+    try_collision(&apex, &other, 0, DENIAL_OTHER_CLASS);
+    refused_request = 0;
+    while (try_collision(&apex, &zone, 0, DENIAL_OUT_OF_MEMORY) == DENIAL_OUT_OF_MEMORY)
+        refused_request++;
+    refused_request = -1;
+    expect("no buffers for names", denial_nsec3_collision(apex.at, apex.length, IN, false, 0, NULL, 0, false, NULL, 0, NULL, NULL), 0,
+           DENIAL_NO_COLLISION, 0);
+    expect("the length of a name", 0, denial_name_length(apex.at), 0, apex.length);
+}
+
 int main(void)
 {
     expect("the version", denial_version(), 0, DENIAL_VERSION, 0);
@@ -899,6 +953,7 @@ int main(void)
     try_null();
     try_cuts();
     try_chains();
+    try_collisions();
     puts(failures == 0 ? "same: verdicts, answers, chains, texts, faults and cuts" : "differs: see above");
     return failures != 0;
 }

@@ -170,6 +170,26 @@ func Nsec3Chain(zone Zone, hashing Hashing, records []byte) ([]byte, error) {
 	})
 }
 
+// Nsec3Collision is the two names for which a zone has no NSEC3 chain, since they have one hash, the earlier in canonical order first and in
+// lower case; nil where no two names of the chain have.
+func Nsec3Collision(zone Zone, hashing Hashing, records []byte) ([][]byte, error) {
+	a, aLength := octets(zone.Apex)
+	s, sLength := octets(hashing.Salt)
+	r, rLength := octets(records)
+	earlier, later := make([]byte, C.DENIAL_NAME_ROOM), make([]byte, C.DENIAL_NAME_ROOM)
+	first, _ := octets(earlier)
+	second, _ := octets(later)
+	switch number := C.denial_nsec3_collision(a, aLength, C.uint16_t(zone.Class), C.bool(zone.OccludeBelowDname),
+		C.uint16_t(hashing.Iterations), s, sLength, C.bool(hashing.OptOut), r, rLength, first, second); number {
+	case C.DENIAL_COLLISION:
+		return [][]byte{earlier[:C.denial_name_length(first)], later[:C.denial_name_length(second)]}, nil
+	case C.DENIAL_NO_COLLISION:
+		return nil, nil
+	default:
+		return nil, Fault{uint32(number), 0}
+	}
+}
+
 // read is the octets that a word is.
 func read(word string) []byte {
 	if word == "-" {
@@ -210,6 +230,14 @@ func said(call string, words []string) (string, error) {
 			return told(NsecChain(zone, read(words[4])))
 		}
 		return told(Nsec3Chain(zone, Hashing{number(words[4]), read(words[5]), words[6] == "1"}, read(words[7])))
+	}
+	if call == "nsec3_collision" {
+		zone := Zone{read(words[0]), number(words[1]), false, words[2] == "1"}
+		pair, err := Nsec3Collision(zone, Hashing{number(words[3]), read(words[4]), words[5] == "1"}, read(words[6]))
+		if err != nil || pair == nil {
+			return "49 0", err
+		}
+		return "28 " + hex.EncodeToString(append(pair[0], pair[1]...)), nil
 	}
 	apex, name, rtype, class := read(words[0]), read(words[1]), number(words[2]), number(words[3])
 	records := read(words[len(words)-1])

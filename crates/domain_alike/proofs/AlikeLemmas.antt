@@ -1,5 +1,5 @@
 -- Names that have one hash, found in a list of names in canonical order.
-use Rattle.std.proofs.Common.{◌≡◌, ◌⊎◌, ℕ, Bool, true, false, cond, List, [], ◌∷◌, ◌++◌, map, refl, sym, ap, ◌∙◌, inl, inr, subst, append-nil, Option, Some, None, Result, Ok, Err, IfErr, IsErrAnd, ◌+◌, ◌<◌, drop, get_or, length, take}
+use Rattle.std.proofs.Common.{◌≡◌, ◌⊎◌, ¬, ℕ, Bool, true, false, cond, List, [], ◌∷◌, ◌++◌, map, refl, sym, ap, ◌∙◌, inl, inr, subst, append-nil, Option, Some, None, Result, Ok, Err, IfErr, IsErrAnd, ◌+◌, ◌<◌, drop, get_or, length, take}
 use Rattle.std.specs.Cmp.Lexicographic.{slice_cmp, bytes_decides, nat_list_cmp_total, texts_ties}
 use Rattle.std.specs.List.{find, list_any, AllByRecursion}
 use Rattle.std.specs.Option.{option_or}
@@ -7,7 +7,7 @@ use Rattle.std.specs.Ordering.{is_eq, nat_cmp}
 use Rattle.std.proofs.lemmas.Bool.{cases_Bool, false≢true, or_left, or_right}
 use Rattle.std.proofs.lemmas.Cmp.{tied_itself}
 use Rattle.std.proofs.lemmas.List.{drop_more, map-append, take-append-drop}
-use Rattle.std.proofs.lemmas.List.Elements.{All-from_recursion}
+use Rattle.std.proofs.lemmas.List.Elements.{All-from_recursion, recursion_from_All}
 use Rattle.std.proofs.lemmas.List.Folds.{find-append, list_any-append}
 use Rattle.domain_octets.specs.Words.{Octets}
 use Rattle.domain_base.specs.Name.{same_name, wire_of}
@@ -17,14 +17,15 @@ use Rattle.domain_zone.specs.Zone.{ZoneRecord}
 use Rattle.domain_zone.proofs.NameLemmas.{before_left, before_order, before_right, one_lowered, same_itself}
 use Rattle.domain_zone.proofs.OwnerLemmas.{any_in, in_any}
 use Rattle.domain_zone.proofs.PairLemmas.{In, IsAscending, all_in, irreflexive}
-use Rattle.domain_zone.proofs.ZoneLemmas.{all_both, all_front, weaker}
+use Rattle.domain_zone.proofs.ZoneLemmas.{after_or, all_both, all_front, weaker}
 use Rattle.domain_nsec3.specs.Ancestors.{IsListOf}
 use Rattle.domain_nsec3.specs.Config.{ChainConfig, Hash, HashAnswer, hash_name, hash_of}
+use Rattle.domain_nsec3.specs.Faults.{HasCollision}
 use Rattle.domain_nsec3.specs.Owners.{is_chain_name}
 use Rattle.domain_nsec3.proofs.ListLemmas.{sorted}
 use Rattle.domain_records.specs.declared.error.Nsec3HashError.TheVariants as hash_error
 use Rattle.domain_records.specs.declared.error.Nsec3HashError.{Nsec3HashError}
-use Rattle.domain_alike.specs.Alike.{AreAlike, IsAlike, IsFirstPair, IsFirstRefusal, Pair}
+use Rattle.domain_alike.specs.Alike.{AreAlike, IsAlike, IsFirstAlike, IsFirstRefusal, Pair}
 use Rattle.domain_alike.specs.AlikeSteps.{first_with, is_hash, pair_with, IsRefusedAmong, Met}
 use Rattle.domain_alike.specs.AlikeSteps.Met.{more, nothing}
 use Rattle.domain_alike.proofs.GatherLemmas.{ascending, ascending_both, in_both, in_last, in_left}
@@ -307,6 +308,39 @@ module _ (L : List ZoneRecord) (a : Name) (config : ChainConfig) (names : List N
       in_middle : (xs : List Name) (n : Name) (ys : List Name) → In n (xs ++ n ∷ ys)
       in_middle [] n ys = inl refl
       in_middle (x ∷ xs) n ys = inr (in_middle xs n ys)
+
+-- ---- the first pair
+
+module _ (L : List ZoneRecord) (a : Name) (config : ChainConfig) where
+  -- without a pair no two names of the chain have one hash
+  pub no_pair : AreAlike L a config [] → ¬ (HasCollision L a config)
+  no_pair are c =
+      elim (cases_Bool (before c.x c.y)) [
+        | inl e ↦ false≢true (are.each c.y c.x c.second c.first e c.alike)
+        | inr e ↦ false≢true (are.each c.x c.y c.first c.second (after_or c.y c.x e c.apart) (sym c.alike))
+      ]
+
+  above_all : (n : Name) (ps : List Pair) (q : Pair) → AllByRecursion (λ y. before n y ≡ true) (map (λ (p : Pair). p.0) ps) → In q ps
+      → before n q.0 ≡ true
+  above_all n [] q h i = absurd i
+  above_all n (p ∷ ps) q h (inl same) = subst (λ (k : Pair). before n k.0 ≡ true) same h.0
+  above_all n (p ∷ ps) q h (inr i) = above_all n ps q h.1 i
+
+  none_before : (p : Pair) (ps : List Pair) (q : Pair) → AllByRecursion (λ y. before p.0 y ≡ true) (map (λ (k : Pair). k.0) ps) → In q (p ∷ ps)
+      → before q.0 p.0 ≡ false
+  none_before p ps q h (inl same) = subst (λ (k : Pair). before k.0 p.0 ≡ false) same (irreflexive before_order p.0)
+  none_before p ps q h (inr i) = before_order.one_way p.0 q.0 (above_all p.0 ps q h i)
+
+  -- else the first of them is the first of all
+  pub one_pair : (p : Pair) (ps : List Pair) → AreAlike L a config (p ∷ ps) → IsFirstAlike L a config p
+  one_pair p ps are =
+      let up = ascending (map (λ (q : Pair). q.0) (p ∷ ps)) are.ascend in
+      record {
+        alike = (recursion_from_All (IsAlike L a config) (p ∷ ps) are.told).0;
+        least = λ x y cx cy b e.
+            let found = any_in (λ (q : Pair). same_name q.0 x) (p ∷ ps) (are.each x y cx cy b e) in
+            sym (before_left found.0.0 x p.0 (one_lowered found.0.0 x found.2)) ∙ none_before p ps found.0 up.0 found.1;
+      }
 
 -- ---- refusals
 

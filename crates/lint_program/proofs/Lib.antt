@@ -4,6 +4,4 @@ pub mod ReportLemmas
 pub mod NoteLemmas
 pub mod NoteLaws
 pub mod FirstLemmas
-pub mod GatherLemmas
-pub mod AlikeLemmas
 pub mod ToldLemmas

@@ -8,7 +8,8 @@ use Rattle.domain_records.specs.declared.error.Nsec3HashError.TheVariants as has
 use Rattle.domain_records.specs.declared.error.SigningError.{SigningError}
 use Rattle.domain_records.specs.declared.error.SigningError.TheVariants as signing_error
 use Rattle.denial_program.specs.Command.{Params}
-use Rattle.lint_program.specs.Alike.{alike_text, AreTold, IsRefusalBy, Pair}
+use Rattle.domain_alike.specs.Alike.{Pair}
+use Rattle.lint_program.specs.Alike.{alike_text, AreTold, IsRefusalBy}
 use Rattle.lint_program.specs.Command.{Asks, IsHashedCommand}
 use Rattle.lint_program.specs.HashedReport.{outcome_with, IsRefused, IsTold}
 use Rattle.lint_program.specs.Lines.{AreLinted}

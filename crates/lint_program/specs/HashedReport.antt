@@ -2,13 +2,14 @@
 use Rattle.std.specs.Prelude.{◌≡◌, ℕ, List, [], ◌∷◌, ◌++◌, Option, Some, None}
 use Rattle.domain_octets.specs.Words.{Octets}
 use Rattle.domain_base.specs.Words.{Name, Tokens}
+use Rattle.domain_alike.specs.Alike.{Pair}
 use Rattle.domain_lent.specs.Data.{RawRecord}
 use Rattle.domain_nsec3.specs.View.{HasherAnswer}
 use Rattle.domain_records.specs.declared.error.Nsec3HashError.TheVariants as hash_error
 use Rattle.domain_records.specs.declared.error.SigningError.{SigningError}
 use Rattle.domain_records.specs.declared.error.SigningError.TheVariants as signing_error
 use Rattle.denial_program.specs.Command.{Params}
-use Rattle.lint_program.specs.Alike.{alike_text, AreToldAlike, IsRefusalIn, Pair}
+use Rattle.lint_program.specs.Alike.{alike_text, AreToldAlike, IsRefusalIn}
 use Rattle.lint_program.specs.Command.{AsksHashed}
 use Rattle.lint_program.specs.Lines.{AreLinted}
 use Rattle.lint_program.specs.Report.{IsReport}

@@ -6,7 +6,6 @@ pub mod NoteText
 pub mod Firsts
 pub mod Zones
 pub mod Alike
-pub mod AlikeSteps
 pub mod Report
 pub mod Command
 pub mod HashedReport

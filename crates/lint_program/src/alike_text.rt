@@ -2,12 +2,13 @@
 ghost use Rattle.std.specs.Prelude.{◌≡◌, ◌⊎◌, IfErr, OnOk, map};
 ghost use Rattle.std.specs.Io.KnownBytes.{Appends};
 ghost use Rattle.denial_program.specs.declared.fault.DenialFault.TheVariants.{OutOfMemory as Memory};
-ghost use Rattle.lint_program.specs.Alike.{alike_text, pair_of};
+ghost use Rattle.domain_alike.specs.Alike.{pair_of};
+ghost use Rattle.lint_program.specs.Alike.{alike_text};
 ghost use Rattle.lint_program.specs.HashedReport.{outcome_with};
 
-use crate::alike::Alike;
 use crate::outcome::Outcome;
 use denial_program::{DenialFault, fault_of};
+use domain_alike::Alike;
 use domain_base::ToName;
 use std::io;
 use std::io::Write;

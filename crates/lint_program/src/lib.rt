@@ -13,14 +13,12 @@
 
 mod alike;
 mod alike_text;
-mod chain_names;
 mod command;
 mod data_hint;
 mod explain;
 mod fault;
 mod firsts;
 mod generic;
-mod hash_key;
 mod hint;
 pub mod laws;
 mod looks;

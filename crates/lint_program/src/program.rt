@@ -9,7 +9,8 @@ ghost use Rattle.domain_base.specs.Words.{Name};
 ghost use Rattle.domain_lent.specs.Data.{RawRecord};
 ghost use Rattle.domain_records.specs.declared.error.SigningError.{SigningError};
 ghost use Rattle.denial_program.specs.Command.{Params};
-ghost use Rattle.lint_program.specs.Alike.{alike_text, pair_of};
+ghost use Rattle.domain_alike.specs.Alike.{pair_of};
+ghost use Rattle.lint_program.specs.Alike.{alike_text};
 ghost use Rattle.lint_program.specs.Command.{Asks, IsCommand, IsRunFault};
 ghost use Rattle.lint_program.specs.HashedReport.{IsRefused, IsTold};
 ghost use Rattle.lint_program.specs.Notes.{mark_of};
@@ -17,7 +18,7 @@ ghost use Rattle.lint_program.specs.Outcomes.{is_faulty};
 ghost use Rattle.lint_program.specs.Report.{AreFaults, AreNotes, IsOutcome};
 ghost use Rattle.lint_program.specs.Zones.{IsUsable, IsZone};
 
-use crate::alike::{Alike, alike_of};
+use crate::alike::alike_of;
 use crate::alike_text::{outcome_with, write_alike};
 use crate::command::{Asked, asked_of};
 use crate::notes::{Note, notes_of};
@@ -27,6 +28,7 @@ use crate::report::{finish, write_faults, write_notes};
 use crate::zone::{Zone, are_refused, zone_of};
 use bumpalo::Bump;
 use denial_program::{DenialFault, ZoneName};
+use domain_alike::Alike;
 use domain_base::{ParsedName, ToName};
 use domain_dnssec::Nsec3Hasher;
 use std::alloc::Global;
@@ -147,7 +149,7 @@ pub fn run_lint<R: BufRead, W: Write, H: Nsec3Hasher>(
     let notes = notes_of(alloc, &apex, &records, &places, bad.is_empty())?;
     let zone = zone_of(records)?;
     let outcome = outcome_of(alloc, &apex, &zone, &bad, &notes)?;
-    let alike = alike_of(alloc, &apex, &zone, parameters.as_ref(), hasher)?;
+    let alike = alike_of(alloc, &apex, &zone, parameters, hasher)?;
     write_report(alloc, &bad, &notes, outcome, &alike, output)?;
     Ok(outcome_with(&alike, outcome))
 }

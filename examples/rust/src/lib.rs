@@ -36,13 +36,19 @@ mod raw {
         pub fn denial_nsec3_chain(apex: *const u8, apex_length: usize, rclass: u16, assume_dnskey: bool, occlude_below_dname: bool,
             iterations: u16, salt: *const u8, salt_length: usize, opt_out: bool, records: *const u8, records_length: usize,
             chain: *mut u8, chain_length: usize, count: *mut usize) -> u32;
+        pub fn denial_nsec3_collision(apex: *const u8, apex_length: usize, rclass: u16, occlude_below_dname: bool, iterations: u16,
+            salt: *const u8, salt_length: usize, opt_out: bool, records: *const u8, records_length: usize, earlier: *mut u8,
+            later: *mut u8) -> u32;
     }
 }
 
 const FIRST_FAULT: u32 = 16;
 const LAST_FAULT: u32 = 31;
 const CHAIN_MADE: u32 = 48;
+const NO_COLLISION: u32 = 49;
 const SHORT_BUFFER: u32 = 25;
+const COLLISION: u32 = 28;
+const NAME_ROOM: usize = 255;
 
 /// What records prove.
 #[derive(Clone, Copy, Debug, PartialEq, Eq)]
@@ -249,4 +255,31 @@ pub fn nsec3_chain(zone: &Zone<'_>, hashing: &Hashing<'_>, records: &[u8]) -> Re
                 chain.as_mut_ptr(), chain.len(), count)
         }
     })
+}
+
+/// The two names for which a zone has no NSEC3 chain, since they have one hash, the earlier in
+/// canonical order first, in lower case; None where no two names of the chain have. That DNSKEY is
+/// assumed is of no matter.
+pub fn nsec3_collision(zone: &Zone<'_>, hashing: &Hashing<'_>, records: &[u8]) -> Result<Option<(Vec<u8>, Vec<u8>)>, Fault> {
+    let (mut earlier, mut later) = ([0; NAME_ROOM], [0; NAME_ROOM]);
+    // SAFETY: as in `nsec_chain`; both buffers have room for a name.
+    let number = unsafe {
+        raw::denial_nsec3_collision(zone.apex.as_ptr(), zone.apex.len(), zone.class, zone.occlude_below_dname, hashing.iterations,
+            hashing.salt.as_ptr(), hashing.salt.len(), hashing.opt_out, records.as_ptr(), records.len(), earlier.as_mut_ptr(),
+            later.as_mut_ptr())
+    };
+    match number {
+        COLLISION => Ok(Some((first_name(&earlier), first_name(&later)))),
+        NO_COLLISION => Ok(None),
+        number => Err(Fault { number, count: 0 }),
+    }
+}
+
+/// The name that octets begin with.
+fn first_name(octets: &[u8]) -> Vec<u8> {
+    let mut end = 0;
+    while octets[end] != 0 {
+        end += 1 + usize::from(octets[end]);
+    }
+    octets[..=end].to_vec()
 }

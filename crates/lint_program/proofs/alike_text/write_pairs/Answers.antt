@@ -4,7 +4,8 @@ use Rattle.std.proofs.lemmas.List.{map-append, take_more}
 use Rattle.std.specs.Io.KnownBytes.{Appends}
 use Rattle.domain_base.specs.Text.{name_text}
 use Rattle.denial_program.proofs.RunLemmas.{appends_more}
-use Rattle.lint_program.specs.Alike.{alike_line, alike_text, pair_of, Pair}
+use Rattle.domain_alike.specs.Alike.{pair_of, Pair}
+use Rattle.lint_program.specs.Alike.{alike_line, alike_text}
 use Rattle.lint_program.proofs.ReportLemmas.{alike_grouped}
 use Rattle.lint_program.proofs.alike_text.write_pairs.Goals as goal
 

@@ -1,6 +1,7 @@
 use Rattle.std.proofs.Common.{map, take}
 use Rattle.std.specs.Io.KnownBytes.{Appends}
-use Rattle.lint_program.specs.Alike.{alike_text, pair_of}
+use Rattle.domain_alike.specs.Alike.{pair_of}
+use Rattle.lint_program.specs.Alike.{alike_text}
 use Rattle.lint_program.proofs.alike_text.write_pairs.Given as goal
 
 -- the pairs so far were told

@@ -10,7 +10,8 @@ use Rattle.denial_program.specs.Command.{Params}
 use Rattle.denial_program.specs.declared.fault.DenialFault.{DenialFault}
 use Rattle.denial_program.specs.declared.fault.DenialFault.TheVariants.{OutOfMemory as Memory, Signing}
 use Rattle.denial_program.proofs.LineReading.{known_so}
-use Rattle.lint_program.specs.Alike.{alike_text, pair_of, AreTold, IsRefusalBy}
+use Rattle.domain_alike.specs.Alike.{pair_of}
+use Rattle.lint_program.specs.Alike.{alike_text, AreTold, IsRefusalBy}
 use Rattle.lint_program.specs.Command.{Asks, IsCommand, IsRunFault}
 use Rattle.lint_program.specs.HashedReport.{outcome_with, IsRefused, IsTold}
 use Rattle.lint_program.specs.Lines.{AreLinted}
@@ -64,10 +65,8 @@ returns-clause-ok g c =
     let faults = subst (λ bs. AreFaults (map (λ (b : BadLine). b.number) bs) written.0) same_told written.2 in
     let noted = subst (λ ns. AreNotes (is_faulty outcome) (map mark_of ns) written.1) same_notes written.3 in
     let front = written.0 ++ written.1 in
-    let given : option_map (λ p. p.now) c.as_ref.result ≡ asked.parameters = c.as_ref.ensures.value in
     let alike = subst (λ x. AreTold answers read.records.items x asked.parameters pairs) c.in_ok-apex.ensures.ok
-    (subst (λ (o : Option Params). AreTold answers read.records.items c.in_ok-apex.apex o pairs) given
-    (c.in_ok-alike.ensures.ok read.records.items zone)) in
+    (c.in_ok-alike.ensures.ok read.records.items zone) in
     let last : c.outcome_with.result ≡ outcome_with pairs outcome =
     c.outcome_with.ensures ∙ ap (λ ps. outcome_with (map pair_of ps) outcome) same_last in
     let all : Appends started ended (front ++ alike_text pairs) =
@@ -106,13 +105,12 @@ returns-in_err-alike-clause-usage g c =
     let words = map string_bytes c.args.words.now in
     let asked = c.in_ok-spelled.field-0 in
     let records = c.in_ok-bad.field-0.records.items in
-    let given : option_map (λ p. p.now) c.as_ref.result ≡ asked.parameters = c.as_ref.ensures.value in
     of_error (λ _. IsCommand words) (IsRunFault words) c.in_err-alike.field-0.0 c.from_residual-in_err-alike.result c.from_residual-in_err-alike.ensures.1
     (elim c.in_err-alike.ensures.err [
       | inl none ↦ subst (IsRunFault words) (sym none) tt
       | inr r ↦
           let refusal = subst (λ x. IsRefusalBy answers records x asked.parameters r.0) c.in_ok-apex.ensures.ok
-          (subst (λ (o : Option Params). IsRefusalBy answers records c.in_ok-apex.apex o r.0) given (r.2 records c.in_ok-zone.ensures.ok)) in
+          (r.2 records c.in_ok-zone.ensures.ok) in
           subst (IsRunFault words) (sym r.1)
           (hashed_command answers words records asked.apex asked.parameters r.0 c.in_ok-spelled.ensures.ok refusal)
     ])
@@ -126,13 +124,12 @@ returns-in_err-alike-clause-refused g c = λ error is.
     let bad = map (λ (b : BadLine). b.number) read.bad.items in
     let numbers = map (λ (p : Place). p.number) read.places.items in
     let records = read.records.items in
-    let given : option_map (λ p. p.now) c.as_ref.result ≡ asked.parameters = c.as_ref.ensures.value in
     let same = the_error c.in_err-alike.field-0.0 (Signing error) c.from_residual-in_err-alike.result c.from_residual-in_err-alike.ensures.1 is in
     elim c.in_err-alike.ensures.err [
       | inl none ↦ absurd (let other : Signing error ≡ Memory = same ∙ none in cc)
       | inr r ↦
           let refusal = subst (λ x. IsRefusalBy answers records x asked.parameters r.0) c.in_ok-apex.ensures.ok
-          (subst (λ (o : Option Params). IsRefusalBy answers records c.in_ok-apex.apex o r.0) given (r.2 records c.in_ok-zone.ensures.ok)) in
+          (r.2 records c.in_ok-zone.ensures.ok) in
           let told : Signing error ≡ Signing (signing_error.Nsec3HashingError (hash_error.Hasher r.0)) = same ∙ r.1 in
           let which : error ≡ signing_error.Nsec3HashingError (hash_error.Hasher r.0) = cc in
           known_so (λ bytes. AreLinted 1 (lines bytes) bad numbers records) (λ bytes. IsRefused answers words (lines bytes) error)

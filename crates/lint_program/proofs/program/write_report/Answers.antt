@@ -1,7 +1,8 @@
 use Rattle.std.proofs.Common.{◌++◌, [], append-nil, map, subst}
 use Rattle.std.specs.Io.KnownBytes.{Appends}
 use Rattle.denial_program.proofs.RunLemmas.{appends_more}
-use Rattle.lint_program.specs.Alike.{alike_text, pair_of}
+use Rattle.domain_alike.specs.Alike.{pair_of}
+use Rattle.lint_program.specs.Alike.{alike_text}
 use Rattle.lint_program.specs.Notes.{mark_of}
 use Rattle.lint_program.specs.Report.{AreNotes}
 use Rattle.lint_program.proofs.program.write_report.Goals as goal
