@@ -1,6 +1,5 @@
 //! The names of an NSEC3 chain of the records in octets that hash alike.
-ghost use Rattle.std.specs.Prelude.{◌≡◌, ◌++◌, drop, length, IfErr, IfOk, option_map};
-ghost use Rattle.domain_base.specs.Name.{lowered, wire_of};
+ghost use Rattle.std.specs.Prelude.{◌≡◌, IfErr, IfOk, option_map};
 ghost use Rattle.domain_alike.specs.Alike.{pair_of, IsFirstPair};
 ghost use Rattle.domain_lent.specs.Data.{minimum_of};
 ghost use Rattle.domain_nsec3.specs.View.{config_of};
@@ -17,8 +16,8 @@ use crate::fault::Fault;
 use crate::nsec::read_name;
 use crate::nsec3_chain::{Hashing, config_with};
 use crate::zone::sorted_zone;
-use domain_alike::{Alike, first_alike};
-use domain_base::{Class, ParsedName, ToName};
+use domain_alike::{Alike, first_alike, write_lowered};
+use domain_base::{Class, ParsedName};
 use domain_lent::LentRecord;
 use domain_nsec::GenerateNsecConfig;
 use domain_nsec3::GenerateNsec3Config;
@@ -46,17 +45,6 @@ fn first_pair<'a>(
         Ok(alike) => Ok(alike),
         Err(_) => Err(ChainFault::OutOfMemory),
     }
-}
-
-/// Writes the wire form of a name, in lower case, to the beginning of a buffer.
-fn write_name(name: &ParsedName<'_>, buffer: &mut [u8; MAX_NAME])
-    ensures { buffer.new
-        ≡ wire_of (lowered name.now) ++ drop (length (wire_of name.now)) buffer.old }
-{
-    let wire = name.as_wire();
-    let front = &mut buffer[..wire.len()];
-    front.copy_from_slice(wire);
-    front.make_ascii_lowercase();
 }
 
 /// Whether two names of the NSEC3 chain of the records of the class that the octets are hash alike.
@@ -99,8 +87,8 @@ pub(crate) fn collision(
     };
     match first_pair(alloc, &apex, &sorted, &config) {
         Ok(Some(alike)) => {
-            write_name(&alike.first, earlier);
-            write_name(&alike.later, later);
+            write_lowered(&alike.first, earlier);
+            write_lowered(&alike.later, later);
             Ok(true)
         }
         Ok(None) => Ok(false),

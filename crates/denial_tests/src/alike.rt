@@ -9,7 +9,7 @@ use std::alloc::Global;
 use std::test::Fail;
 
 /// By it names hash alike whose wire forms have one length.
-struct LengthHasher;
+pub struct LengthHasher;
 
 impl Nsec3Hasher for LengthHasher {
     ghost answer = { λ hasher name algorithm iterations salt. Ok (to_be_bytes w64 (length name)) };

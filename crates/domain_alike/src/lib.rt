@@ -9,6 +9,8 @@
 mod alike;
 mod chain_names;
 mod hash_key;
+mod lowered;
 
 pub use alike::{Alike, alike_names, first_alike};
 pub use chain_names::is_unsigned_cut;
+pub use lowered::write_lowered;

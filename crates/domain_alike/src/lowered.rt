@@ -1,0 +1,18 @@
+//! Names in lower case.
+ghost use Rattle.std.specs.Prelude.{◌≡◌, ◌++◌, drop, length};
+ghost use Rattle.domain_base.specs.Name.{lowered, wire_of};
+
+use domain_base::{ParsedName, ToName};
+use domain_zone::MAX_NAME;
+
+/// Writes the wire form of a name in lower case, as it is hashed, to the beginning of a buffer. What
+/// follows it stays.
+pub fn write_lowered(name: &ParsedName<'_>, buffer: &mut [u8; MAX_NAME])
+    ensures { buffer.new
+        ≡ wire_of (lowered name.now) ++ drop (length (wire_of name.now)) buffer.old }
+{
+    let wire = name.as_wire();
+    let front = &mut buffer[..wire.len()];
+    front.copy_from_slice(wire);
+    front.make_ascii_lowercase();
+}
