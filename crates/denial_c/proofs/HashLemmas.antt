@@ -3,6 +3,7 @@ use Rattle.std.proofs.Common.{◌≡◌, ℕ, zero, suc, ◌*◌, ◌<◌, ◌�
 use Rattle.std.specs.Prelude.{◌==◌, ◌||◌, nat_lt, slice_index, if◌then◌else◌}
 use Rattle.std.specs.Int.{w32, to_be_bytes}
 use Rattle.sha1.specs.Sha1.{digest_bytes, sha1}
+use Rattle.domain_alike.specs.Alike.{IsFirstRefusal}
 use Rattle.domain_base.specs.Name.{lowered, wire_of}
 use Rattle.domain_base.specs.Words.{Name}
 use Rattle.domain_lent.specs.Data.{minimum_of, RawRecord}
@@ -56,6 +57,11 @@ module _ (L : List ZoneRecord) (a : Name) (config : ChainConfig) (p : Parameters
   first_is_long e h =
       only_long a (iterated p.salt (wire_of (lowered h.name)) p.iterations) (iterated_long p.salt (wire_of (lowered h.name)) p.iterations) e
       (sym (ap (hash_fault a) (hashed h.name)) ∙ h.fault)
+
+-- no name is refused
+pub never_refused : (L : List ZoneRecord) (a : Name) (config : ChainConfig) (p : Parameters) → config.hash ≡ hash_by sha1_answer p → p.algorithm ≡ 1
+    → (number : ℕ) → IsFirstRefusal L a config number → ⊥
+never_refused L a config p by sha1 number r = let told = sym (hashed L a config p by sha1 r.name) ∙ r.refused in cc
 
 -- so a fault of hashing is one of two
 pub hashing_faulty : (class : ℕ) (octets : List ℕ) (sorted : List RawRecord) (a : Name) (config : ChainConfig) (p : Parameters) → config.hash ≡ hash_by sha1_answer p → p.algorithm ≡ 1

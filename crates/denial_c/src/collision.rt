@@ -21,7 +21,7 @@ use domain_base::{Class, ParsedName};
 use domain_lent::LentRecord;
 use domain_nsec::GenerateNsecConfig;
 use domain_nsec3::GenerateNsec3Config;
-use domain_records::InPlaceSorter;
+use domain_records::{InPlaceSorter, Nsec3HashError};
 use domain_sha1::Sha1Hasher;
 use domain_zone::MAX_NAME;
 use std::alloc::Global;
@@ -43,7 +43,8 @@ fn first_pair<'a>(
 {
     match first_alike(alloc, apex, sorted, config, &Sha1Hasher) {
         Ok(alike) => Ok(alike),
-        Err(_) => Err(ChainFault::OutOfMemory),
+        Err(Nsec3HashError::OutOfMemory) => Err(ChainFault::OutOfMemory),
+        Err(_) => unreachable!(),
     }
 }
 

@@ -12,7 +12,9 @@ use std::test::Fail;
 type Row = (&'static [u8], u8, &'static [u8]);
 
 const A: u8 = 1;
+
 const NS: u8 = 2;
+
 const DNAME: u8 = 39;
 
 const ADDRESS: &[u8] = &[192, 0, 2, 1];
@@ -108,7 +110,10 @@ fn empty_nonterminal(rt: HostRuntime) -> Result<(), Fail> {
 #[test]
 fn left_out(rt: HostRuntime) -> Result<(), Fail> {
     let alloc = rt.alloc();
-    let rows: &[Row] = &[(b"\x03cut\x01a\0", NS, ROOT), (b"\x03abc\x01a\0", A, ADDRESS)];
+    let rows: &[Row] = &[
+        (b"\x03cut\x01a\0", NS, ROOT),
+        (b"\x03abc\x01a\0", A, ADDRESS),
+    ];
     let names = told(alloc, rows, false, false, &LengthHasher)?;
     assert!(rt; names.as_slice() == b"\x03abc\x01a\0\xee\x03cut\x01a\0\xee".as_slice());
     let names = told(alloc, rows, true, false, &LengthHasher)?;

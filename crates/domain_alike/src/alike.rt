@@ -171,7 +171,8 @@ pub fn alike_names<'a, O: Octets, S, H: Nsec3Hasher>(
 {
     let without_unsigned = config.params.opt_out_flag()
         & config.opt_out_exclude_owner_names_of_unsigned_delegations;
-    let names = chain_names(alloc, apex, sorted, without_unsigned, config.occlude_below_dname)?;
+    let below_dname = config.occlude_below_dname;
+    let names = chain_names(alloc, apex, sorted, without_unsigned, below_dname)?;
     let pairs = pairs_of(alloc, &names, &config.params, hasher)?;
     Ok(pairs)
 }
