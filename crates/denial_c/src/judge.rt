@@ -11,7 +11,7 @@ use crate::nsec::read_name;
 use crate::nsec3::{Telling, chain_told};
 use domain_answer::{Answer, judge_nsec, judge_nsec3, judge_nsec3_expansion};
 use domain_base::{Class, Rtype};
-use domain_lent::{NsecRr, into_nsec, read_record};
+use domain_lent::{ReadNsec, into_nsec, read_record};
 use domain_octets::Parser;
 use domain_records::Nsec3HashError;
 use domain_sha1::Sha1Hasher;
@@ -19,7 +19,11 @@ use std::alloc::Global;
 
 /// The NSEC records of the class among the records that the octets are. Refuses octets that are no
 /// records, and NSEC records whose data are none.
-fn nsecs_among<'a>(alloc: Global, class: Class, octets: &'a [u8]) -> Result<Vec<NsecRr<'a>>, Fault>
+fn nsecs_among<'a>(
+    alloc: Global,
+    class: Class,
+    octets: &'a [u8],
+) -> Result<Vec<ReadNsec<'a>>, Fault>
     ensures ok { IfOk result (λ nsecs. AreNsecs class octets.now (links_of (λ n. n) nsecs.items)) }
     ensures err { IfErr result (IsNsecsFault class octets.now) }
 {

@@ -11,7 +11,7 @@ use crate::nsec::read_name;
 use domain_base::{Class, Nsec3HashAlgorithm, ParsedName, Rtype, ToName, Ttl};
 use domain_chain_rdata::Nsec3param;
 use domain_checker::{Verdict, check_nsec3};
-use domain_lent::{Nsec3Rr, Nsec3paramRr, into_nsec3, into_nsec3param, read_record};
+use domain_lent::{ReadNsec3, ReadNsec3param, into_nsec3, into_nsec3param, read_record};
 use domain_nsec3::Nsec3Records;
 use domain_octets::{OutOfMemory, Parser};
 use domain_plain::Record;
@@ -34,7 +34,7 @@ fn nsec3s_among<'a>(
     alloc: Global,
     class: Class,
     octets: &'a [u8],
-) -> Result<Vec<Nsec3Rr<'a>>, Fault>
+) -> Result<Vec<ReadNsec3<'a>>, Fault>
     ensures ok { IfOk result (λ nsec3s. AreNsec3s class octets.now
         (hashed_links_of (λ n. n) nsec3s.items)) }
     ensures err { IfErr result (IsNsec3sFault class octets.now) }
@@ -64,7 +64,7 @@ fn params_among<'a>(
     apex: &ParsedName<'_>,
     class: Class,
     octets: &'a [u8],
-) -> Result<Vec<Nsec3paramRr<'a>>, Fault>
+) -> Result<Vec<ReadNsec3param<'a>>, Fault>
     ensures ok { IfOk result (λ params. AreParams apex.now class octets.now
         (map (as_param_record (λ n. n)) params.items)) }
     ensures err { IfErr result (IsParamFault apex.now class octets.now) }
@@ -93,7 +93,7 @@ fn param_among<'a>(
     apex: &ParsedName<'_>,
     class: Class,
     octets: &'a [u8],
-) -> Result<Nsec3paramRr<'a>, Fault>
+) -> Result<ReadNsec3param<'a>, Fault>
     ensures ok { IfOk result (λ param. AreParams apex.now class octets.now
         (as_param_record (λ n. n) param ∷ [])) }
     ensures err { IfErr result (IsParamFault apex.now class octets.now) }
@@ -132,7 +132,7 @@ fn chain_among<'a>(
 
 /// Whether the record is of the zone, its algorithm is SHA-1, and none of its flags is set but that
 /// of opt-out: others are to be ignored (RFC 5155, sections 8.1 and 8.2).
-fn is_known(apex: &ParsedName<'_>, nsec3: &Nsec3Rr<'_>) -> bool
+fn is_known(apex: &ParsedName<'_>, nsec3: &ReadNsec3<'_>) -> bool
     ensures { result ≡ is_known apex.now (as_hashed_link (λ n. n) nsec3.now) }
 {
     let hashed = nsec3.data();
@@ -142,7 +142,7 @@ fn is_known(apex: &ParsedName<'_>, nsec3: &Nsec3Rr<'_>) -> bool
 }
 
 /// These NSEC3 records, without those that are to be ignored. Takes no memory.
-fn known_of<'a>(apex: &ParsedName<'_>, mut nsec3s: Vec<Nsec3Rr<'a>>) -> Vec<Nsec3Rr<'a>>
+fn known_of<'a>(apex: &ParsedName<'_>, mut nsec3s: Vec<ReadNsec3<'a>>) -> Vec<ReadNsec3<'a>>
     ensures { hashed_links_of (λ n. n) result.items
         ≡ filter (is_known apex.now) (hashed_links_of (λ n. n) nsec3s.entry.items) }
 {
@@ -154,7 +154,7 @@ fn known_of<'a>(apex: &ParsedName<'_>, mut nsec3s: Vec<Nsec3Rr<'a>>) -> Vec<Nsec
 /// none.
 fn first_params<'a>(
     alloc: Global,
-    nsec3s: &[Nsec3Rr<'a>],
+    nsec3s: &[ReadNsec3<'a>],
 ) -> Result<Nsec3param<&'a [u8]>, OutOfMemory>
     ensures { IfOk result (λ params. parameters_of params
         ≡ first_parameters (hashed_links_of (λ n. n) nsec3s.now)) }

@@ -16,7 +16,7 @@ use Rattle.domain_records.specs.Order.{IsOneClass}
 use Rattle.domain_dnssec.proofs.KeptLemmas.{classes_kept}
 use Rattle.denial_program.specs.Answer.{fault_of_chain, usual_nsec3_config, HasNoAnswer, HasNoNsecs, HasNoNsec3s, IsAnswer, IsNsecs, IsNsec3s, IsUnsorted, IsUnwritten, Sorts}
 use Rattle.denial_program.specs.Command.{Params}
-use Rattle.denial_program.specs.declared.answer.Answer.{Answer}
+use Rattle.denial_program.specs.declared.answer.Reply.{Reply}
 use Rattle.denial_program.specs.declared.command.Command.{Command}
 use Rattle.denial_program.specs.declared.command.Command.TheVariants.{Nsec, Nsec3, CheckNsec, CheckNsec3}
 use Rattle.denial_program.specs.declared.fault.DenialFault.{DenialFault}
@@ -53,11 +53,11 @@ no_answer_no_write answers (CheckNsec3 q) given none = none
 -- where writing failed there was an answer
 pub answer_unwritten : {X : Type 0} (answers : HasherAnswer) (command : Command) (given : List RawRecord) (r : Result X DenialFault)
     → IfErr r (IsUnwritten (IsAnswer answers command given) (HasNoAnswer answers command given)) → IsErrOf r Write
-    → (x : Answer) × IsAnswer answers command given x
+    → (x : Reply) × IsAnswer answers command given x
 answer_unwritten answers command given r h is = there (subst
     (λ q. IfErr q (IsUnwritten (IsAnswer answers command given) (HasNoAnswer answers command given))) is h)
   where
-    there : IsUnwritten (IsAnswer answers command given) (HasNoAnswer answers command given) Write → (x : Answer) × IsAnswer answers command given x
+    there : IsUnwritten (IsAnswer answers command given) (HasNoAnswer answers command given) Write → (x : Reply) × IsAnswer answers command given x
     there (inl h) = h.1
     there (inr none) = absurd (no_answer_no_write answers command given none)
 
@@ -84,7 +84,7 @@ pub sorted_one_class : (given sorted : List RawRecord) → Sorts given sorted �
 sorted_one_class given sorted sorts one = (classes_kept (λ n. n) (λ d. d.rtype) minimum_of data_cmp given sorted sorts).1 one
 
 -- there was memory for a chain, and not for writing it
-pub nsecs_unwritten : {X : Type 0} (given sorted : List RawRecord) (apex : Name) (x : Answer) → IsNsecs given apex x → Sorts given sorted → IsOneClass sorted
+pub nsecs_unwritten : {X : Type 0} (given sorted : List RawRecord) (apex : Name) (x : Reply) → IsNsecs given apex x → Sorts given sorted → IsOneClass sorted
     → IsFaultless (zone_of (λ n. n) (λ d. d.rtype) minimum_of sorted) apex usual_config → (r : Result X DenialFault)
     → IfErr r (λ e. (e ≡ Write) ⊎ (e ≡ NoMemory)) → IfErr r (IsUnwritten (IsNsecs given apex) (HasNoNsecs given apex))
 nsecs_unwritten given sorted apex x is sorts one faultless (Ok y) h = tt
@@ -95,7 +95,7 @@ nsecs_unwritten given sorted apex x is sorts one faultless (Err e) (inr m) = inr
   none = record { sorted = sorted; sorts = sorts; one_class = one; faultless = faultless };
 })
 
-pub nsec3s_unwritten : {X : Type 0} (answers : HasherAnswer) (given sorted : List RawRecord) (apex : Name) (p : Params) (x : Answer)
+pub nsec3s_unwritten : {X : Type 0} (answers : HasherAnswer) (given sorted : List RawRecord) (apex : Name) (p : Params) (x : Reply)
     → IsNsec3s answers given apex p x → Sorts given sorted → IsOneClass sorted
     → IsReady (zone_of (λ n. n) (λ d. d.rtype) minimum_of sorted) apex (usual_nsec3_config answers p) → (r : Result X DenialFault)
     → IfErr r (λ e. (e ≡ Write) ⊎ (e ≡ NoMemory)) → IfErr r (IsUnwritten (IsNsec3s answers given apex p) (HasNoNsec3s answers given apex p))

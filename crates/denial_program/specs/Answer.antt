@@ -18,8 +18,8 @@ use Rattle.denial_program.specs.Check.{HasNoNsec3Verdict, IsNsec3Verdict, IsNsec
 use Rattle.denial_program.specs.Command.{Asks, Params}
 use Rattle.denial_program.specs.Listing.{Give}
 use Rattle.denial_program.specs.Text.{answer_text}
-use Rattle.denial_program.specs.declared.answer.Answer.{Answer}
-use Rattle.denial_program.specs.declared.answer.Answer.TheVariants.{Nsecs, Nsec3s}
+use Rattle.denial_program.specs.declared.answer.Reply.{Reply}
+use Rattle.denial_program.specs.declared.answer.Reply.TheVariants.{Nsecs, Nsec3s}
 use Rattle.denial_program.specs.declared.command.Command.{Command}
 use Rattle.denial_program.specs.declared.command.Command.TheVariants.{Nsec, Nsec3, CheckNsec, CheckNsec3}
 use Rattle.denial_program.specs.declared.fault.DenialFault.{DenialFault}
@@ -45,7 +45,7 @@ fault_of_chain (chain_error.Signing e) = Signing e
 fault_of_chain chain_error.OutOfMemory = OutOfMemory
 
 -- the answer is the NSEC chain of the records, as `GenerateNsecConfig::new` has it
-pub record IsNsecs (given : List RawRecord) (apex : Name) (answer : Answer) : Type 0 where
+pub record IsNsecs (given : List RawRecord) (apex : Name) (answer : Reply) : Type 0 where
   pub links : List Link
   pub is : answer ≡ Nsecs links
   pub chain : any_order.IsChainOf (λ n. n) (λ d. d.rtype) minimum_of data_cmp given apex usual_config links
@@ -71,7 +71,7 @@ usual_nsec3_config answer p =
 
 -- the answer is the NSEC3 chain of the records by this hasher, and its NSEC3PARAM record
 pub record IsNsec3s (answers : HasherAnswer) (given : List RawRecord) (apex : Name) (p : Params)
-    (answer : Answer) : Type 0 where
+    (answer : Reply) : Type 0 where
   pub made : ChainRecords
   pub is : answer ≡ Nsec3s made
   pub chain : any_order_nsec3.IsHashedChainOf (λ n. n) (λ d. d.rtype) minimum_of data_cmp given apex
@@ -85,22 +85,22 @@ pub record HasNoNsec3s (answers : HasherAnswer) (given : List RawRecord) (apex :
   pub none : any_order_nsec3.HasNoHashedChain (λ n. n) (λ d. d.rtype) minimum_of data_cmp given apex (usual_nsec3_config answers p)
       error
 
-abbrev pub IsAnswer : HasherAnswer → Command → List RawRecord → Answer → Type 0
+abbrev pub IsAnswer : HasherAnswer → Command → List RawRecord → Reply → Type 0
 IsAnswer answers (Nsec apex) given answer = IsNsecs given apex answer
 IsAnswer answers (Nsec3 apex p) given answer = IsNsec3s answers given apex p answer
 IsAnswer answers (CheckNsec q) given answer = IsNsecVerdict given q answer
 IsAnswer answers (CheckNsec3 q) given answer = IsNsec3Verdict answers given q answer
 
 -- the text of an answer that is such has been appended
-pub record IsWritten (is_such : Answer → Type 0) (old new : Option Octets) : Type 0 where
-  pub answer : Answer
+pub record IsWritten (is_such : Reply → Type 0) (old new : Option Octets) : Type 0 where
+  pub answer : Reply
   pub is : is_such answer
   pub appends : Appends old new (answer_text answer)
 
 -- there is such an answer, and the device failed, or there is none for this reason
-abbrev pub IsUnwritten : (Answer → Type 0) → (DenialFault → Type 0) → DenialFault → Type 0
+abbrev pub IsUnwritten : (Reply → Type 0) → (DenialFault → Type 0) → DenialFault → Type 0
 IsUnwritten is_such has_none fault =
-    ((fault ≡ Write) × ((answer : Answer) × is_such answer)) ⊎ has_none fault
+    ((fault ≡ Write) × ((answer : Reply) × is_such answer)) ⊎ has_none fault
 
 -- why there is no answer
 abbrev pub HasNoAnswer : HasherAnswer → Command → List RawRecord → DenialFault → Type 0
@@ -110,7 +110,7 @@ HasNoAnswer answers (CheckNsec q) given fault = fault ≡ OutOfMemory
 HasNoAnswer answers (CheckNsec3 q) given fault = HasNoNsec3Verdict answers given q fault
 
 -- the words are a command, the lines give records, and this is its answer over them
-pub record Answers (answers : HasherAnswer) (words : Tokens) (lines : List Octets) (answer : Answer)
+pub record Answers (answers : HasherAnswer) (words : Tokens) (lines : List Octets) (answer : Reply)
     : Type 0 where
   pub command : Command
   pub given : List RawRecord

@@ -19,8 +19,8 @@ use Rattle.domain_checker.specs.HashedVerdict.{HasHashedProof, IsFirstRefusal, I
 use Rattle.domain_checker.specs.HashedReading.{IsWalked}
 use Rattle.domain_checker.specs.declared.verdict.Verdict.{Verdict}
 use Rattle.domain_checker.specs.declared.verdict.Verdict.TheVariants as verdicts
-use Rattle.denial_program.specs.declared.answer.Answer.{Answer}
-use Rattle.denial_program.specs.declared.answer.Answer.TheVariants as answers
+use Rattle.denial_program.specs.declared.answer.Reply.{Reply}
+use Rattle.denial_program.specs.declared.answer.Reply.TheVariants as answers
 use Rattle.denial_program.specs.declared.command.Question.{Question}
 use Rattle.denial_program.specs.declared.fault.DenialFault.{DenialFault}
 use Rattle.denial_program.specs.declared.fault.DenialFault.TheVariants.{Usage, Read, Line, Unprepared, MixedClasses, Signing, Param, Write, OutOfMemory}
@@ -62,7 +62,7 @@ AreParams apex = AreAmong (IsParamOf apex)
 -- the answer is what the NSEC records prove of the question: what is proved of any zone of whose
 -- chain they are, and, from any records, what the first match says, or else the first cover, and
 -- nothing without a proof
-pub record IsNsecVerdict (given : List RawRecord) (q : Question) (answer : Answer) : Type 0 where
+pub record IsNsecVerdict (given : List RawRecord) (q : Question) (answer : Reply) : Type 0 where
   pub links : List Link
   pub are : AreNsecs given links
   pub verdict : Verdict
@@ -81,7 +81,7 @@ hash_with hashes param = hash_by hashes param.parameters
 -- question with its parameters: of any zone of whose chain they are, and, from any records, what
 -- they say on the way from the name to the apex
 pub record IsNsec3Verdict (hashes : HasherAnswer) (given : List RawRecord) (q : Question)
-    (answer : Answer) : Type 0 where
+    (answer : Reply) : Type 0 where
   pub param : ParamRecord
   pub single : AreParams q.apex given (param ∷ [])
   pub links : List HashedLink

@@ -17,8 +17,8 @@ use Rattle.domain_fields.specs.Layout.{Values}
 use Rattle.domain_nsec.specs.Chain.{Link}
 use Rattle.domain_nsec3.specs.Chain.{ChainRecords, HashedLink, ParamRecord}
 use Rattle.denial_program.specs.Check.{verdict_text}
-use Rattle.denial_program.specs.declared.answer.Answer.{Answer}
-use Rattle.denial_program.specs.declared.answer.Answer.TheVariants.{Nsecs, Nsec3s, Verdict}
+use Rattle.denial_program.specs.declared.answer.Reply.{Reply}
+use Rattle.denial_program.specs.declared.answer.Reply.TheVariants.{Nsecs, Nsec3s, Verdict}
 
 -- the owner with its last dot, the TTL, the class, the type and the text of the data
 abbrev pub record_line : {D : Type 0} → ℕ → (D → Octets) → Record Name D → Octets
@@ -65,7 +65,7 @@ nsec3s_text made =
     lines_of nsec3_line made.links ++ (nsec3param_line made.param ++ codes "\n")
 
 -- a line for each record of a chain, or one line with a verdict
-abbrev pub answer_text : Answer → Octets
+abbrev pub answer_text : Reply → Octets
 answer_text (Nsecs links) = lines_of nsec_line links
 answer_text (Nsec3s made) = nsec3s_text made
 answer_text (Verdict name verdict) = verdict_text name verdict ++ codes "\n"

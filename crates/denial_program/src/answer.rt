@@ -30,7 +30,7 @@ use std::io::Write;
 
 /// What a run answers. An NSEC chain borrows from the records of its zone, an NSEC3 chain its apex.
 #[derive(Drop)]
-pub enum Answer<'s, 'a> {
+pub enum Reply<'s, 'a> {
     /// An NSEC chain before its records are made.
     Nsecs(NsecChain<'s, ParsedName<'a>>),
     /// An NSEC3 chain before its records are made, with the record of its parameters.
@@ -44,7 +44,7 @@ fn nsecs_of<'s, 'a>(
     alloc: Global,
     apex: &'s ParsedName<'a>,
     sorted: &'s [LentRecord<'a>],
-) -> Result<Answer<'s, 'a>, DenialFault>
+) -> Result<Reply<'s, 'a>, DenialFault>
     requires one_class { IsOneClass sorted.now }
     requires in_order { IsInOrder (λ n. n) (λ d. d.rtype) sorted.now }
     ensures ok { IfOk result (λ answer. (given : List RawRecord)
@@ -58,7 +58,7 @@ fn nsecs_of<'s, 'a>(
 {
     let config = GenerateNsecConfig::new();
     match NsecChain::generate(alloc, apex, RecordsIter::new_from_owned(sorted), &config) {
-        Ok(nsecs) => Ok(Answer::Nsecs(nsecs)),
+        Ok(nsecs) => Ok(Reply::Nsecs(nsecs)),
         Err(SigningError::OutOfMemory) => Err(DenialFault::OutOfMemory),
         Err(error) => Err(DenialFault::Signing(error)),
     }
@@ -72,7 +72,7 @@ fn nsec3s_of<'s, 'a, H: Nsec3Hasher>(
     parameters: Nsec3Params,
     sorted: &[LentRecord<'a>],
     hasher: &H,
-) -> Result<Answer<'s, 'a>, DenialFault>
+) -> Result<Reply<'s, 'a>, DenialFault>
     requires one_class { IsOneClass sorted.now }
     requires in_order { IsInOrder (λ n. n) (λ d. d.rtype) sorted.now }
     ensures ok { IfOk result (λ answer. (given : List RawRecord)
@@ -98,7 +98,7 @@ fn nsec3s_of<'s, 'a, H: Nsec3Hasher>(
         &config,
         hasher,
     ) {
-        Ok(made) => Ok(Answer::Nsec3s(made)),
+        Ok(made) => Ok(Reply::Nsec3s(made)),
         Err(SigningError::OutOfMemory) => Err(DenialFault::OutOfMemory),
         Err(error) => Err(DenialFault::Signing(error)),
     }
@@ -144,16 +144,16 @@ fn write_nsec3s<W: Write>(chain: &Nsec3Chain<'_, ZoneOctets>, output: &mut W) ->
     Ok(())
 }
 
-impl<'s, 'a> Answer<'s, 'a> {
+impl<'s, 'a> Reply<'s, 'a> {
     /// Writes the answer, and hands it on to the device.
     fn write<W: Write>(&self, output: &mut W) -> io::Result<()>
         ensures { OnOk result
             (Appends (W.contents output.old) (W.contents output.new) (answer_text self.now)) }
     {
         match self {
-            Answer::Nsecs(chain) => write_nsecs(chain, output)?,
-            Answer::Nsec3s(chain) => write_nsec3s(chain, output)?,
-            Answer::Verdict(name, verdict) => {
+            Reply::Nsecs(chain) => write_nsecs(chain, output)?,
+            Reply::Nsec3s(chain) => write_nsec3s(chain, output)?,
+            Reply::Verdict(name, verdict) => {
                 writeln!(output, "{}", VerdictText::new(name, *verdict))?;
             }
         }

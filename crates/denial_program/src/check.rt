@@ -8,13 +8,13 @@ ghost use Rattle.domain_checker.specs.HandedIn.{HasRead};
 ghost use Rattle.denial_program.specs.Check.{AreNsecs, AreNsec3s, AreParams, HasNoNsec3Verdict, HasNoParam, IsNsec3Verdict, IsNsecVerdict};
 ghost use Rattle.denial_program.specs.declared.fault.DenialFault.TheVariants.{OutOfMemory as Memory};
 
-use crate::answer::Answer;
+use crate::answer::Reply;
 use crate::command::Question;
 use crate::fault::DenialFault;
 use crate::line::ZoneName;
 use domain_base::{ParsedName, ToName};
 use domain_dnssec::{Nsec3Hasher, Nsec3Records, NsecCheck, check_nsec3};
-use domain_lent::{LentRecord, Nsec3Rr, Nsec3paramRr, into_nsec, into_nsec3, into_nsec3param};
+use domain_lent::{LentRecord, ReadNsec3, ReadNsec3param, into_nsec, into_nsec3, into_nsec3param};
 use domain_octets::OutOfMemory;
 use domain_records::{Nsec3HashError, SigningError};
 use std::alloc::Global;
@@ -37,7 +37,7 @@ fn hand_in<'a>(check: &mut NsecCheck<'_>, records: Vec<LentRecord<'a>>)
 fn nsec3s_among<'a>(
     alloc: Global,
     records: Vec<LentRecord<'a>>,
-) -> Result<Vec<Nsec3Rr<'a>>, OutOfMemory>
+) -> Result<Vec<ReadNsec3<'a>>, OutOfMemory>
     ensures { IfOk result (λ nsec3s.
         AreNsec3s records.entry.items (hashed_links_of (λ n. n) nsec3s.items)) }
 {
@@ -56,7 +56,7 @@ fn params_at<'a>(
     alloc: Global,
     apex: &ZoneName,
     records: &[LentRecord<'a>],
-) -> Result<Vec<Nsec3paramRr<'a>>, OutOfMemory>
+) -> Result<Vec<ReadNsec3param<'a>>, OutOfMemory>
     ensures { IfOk result (λ params.
         AreParams apex.now records.now (map (as_param_record (λ n. n)) params.items)) }
 {
@@ -73,14 +73,14 @@ fn params_at<'a>(
 }
 
 /// What the NSEC records among these prove.
-pub fn nsec_verdict<'s, 'a>(question: Question, records: Vec<LentRecord<'a>>) -> Answer<'s, 'a>
+pub fn nsec_verdict<'s, 'a>(question: Question, records: Vec<LentRecord<'a>>) -> Reply<'s, 'a>
     ensures { IsNsecVerdict records.entry.items question result }
 {
     let Question { apex, name, rtype } = question;
     let mut check = NsecCheck::new(&apex, &name, rtype);
     hand_in(&mut check, records);
     let verdict = check.verdict();
-    Answer::Verdict(name, verdict)
+    Reply::Verdict(name, verdict)
 }
 
 /// The NSEC3 records among these, with the one NSEC3PARAM record of the apex.
@@ -116,7 +116,7 @@ pub fn nsec3_verdict<'s, 'a, H: Nsec3Hasher>(
     question: Question,
     records: Vec<LentRecord<'a>>,
     hasher: &H,
-) -> Result<Answer<'s, 'a>, DenialFault>
+) -> Result<Reply<'s, 'a>, DenialFault>
     ensures ok { IfOk result (IsNsec3Verdict (H.answer hasher.now) records.entry.items question) }
     ensures err { IfErr result
         (HasNoNsec3Verdict (H.answer hasher.now) records.entry.items question) }
@@ -124,7 +124,7 @@ pub fn nsec3_verdict<'s, 'a, H: Nsec3Hasher>(
     let Question { apex, name, rtype } = question;
     let chain = chain_of(alloc, &apex, records)?;
     match check_nsec3(alloc, &apex, &chain, &name, rtype, hasher) {
-        Ok(verdict) => Ok(Answer::Verdict(name, verdict)),
+        Ok(verdict) => Ok(Reply::Verdict(name, verdict)),
         Err(error) => match error {
             Nsec3HashError::OutOfMemory => Err(DenialFault::OutOfMemory),
             _ => Err(DenialFault::Signing(SigningError::Nsec3HashingError(error))),

@@ -7,7 +7,7 @@ ghost use Rattle.denial_program.specs.Command.{IsCommand};
 ghost use Rattle.denial_program.specs.Fault.{IsAfterInput, IsBeforeOutput, IsOfRecords, IsReadToEnd, TellsUsage};
 ghost use Rattle.denial_program.specs.Listing.{IsFirstBad};
 ghost use Rattle.denial_program.specs.Text.{answer_text};
-ghost use Rattle.denial_program.specs.declared.answer.Answer.{Answer};
+ghost use Rattle.denial_program.specs.declared.answer.Reply.{Reply};
 ghost use Rattle.denial_program.specs.declared.fault.DenialFault.TheVariants.{OutOfMemory};
 
 use crate::answer::write_answer;
@@ -39,7 +39,7 @@ pub fn run_denial<R: BufRead, W: Write, H: Nsec3Hasher>(
     output: &mut W,
 ) -> Result<(), DenialFault>
     // The text of the answer to the command, over the records that the lines give, and no more.
-    ensures ok { OnOk result (IfSome (R.remaining input.old) (λ bytes. (answer : Answer)
+    ensures ok { OnOk result (IfSome (R.remaining input.old) (λ bytes. (answer : Reply)
         × Answers (H.answer hasher.now) (map string_bytes words.now) (lines bytes) answer
         × Appends (W.contents output.old) (W.contents output.new) (answer_text answer))) }
 
@@ -65,7 +65,7 @@ pub fn run_denial<R: BufRead, W: Write, H: Nsec3Hasher>(
 
     // Only where there is an answer is anything written.
     ensures write { IsErrOf result DenialFault.Write
-        → IfSome (R.remaining input.old) (λ bytes. (answer : Answer)
+        → IfSome (R.remaining input.old) (λ bytes. (answer : Reply)
         × Answers (H.answer hasher.now) (map string_bytes words.now) (lines bytes) answer) }
 
     // Want of memory, once the records are read, hides no fault of theirs: it has a reason too.

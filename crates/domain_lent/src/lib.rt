@@ -15,6 +15,6 @@ mod wire;
 
 pub use data::LentData;
 pub use record::{
-    LentRecord, Nsec3Rr, Nsec3paramRr, NsecRr, into_nsec, into_nsec3, into_nsec3param,
+    LentRecord, ReadNsec, ReadNsec3, ReadNsec3param, into_nsec, into_nsec3, into_nsec3param,
 };
 pub use wire::{compose_parts, compose_record, read_record};

@@ -16,17 +16,17 @@ use domain_plain::{Record, RecordData};
 pub type LentRecord<'a> = Record<ParsedName<'a>, LentData<'a>>;
 
 /// An NSEC record that lies in octets.
-pub type NsecRr<'a> = Record<ParsedName<'a>, Nsec<&'a [u8], ParsedName<'a>>>;
+pub type ReadNsec<'a> = Record<ParsedName<'a>, Nsec<&'a [u8], ParsedName<'a>>>;
 
 /// An NSEC3 record that lies in octets.
-pub type Nsec3Rr<'a> = Record<ParsedName<'a>, Nsec3<&'a [u8]>>;
+pub type ReadNsec3<'a> = Record<ParsedName<'a>, Nsec3<&'a [u8]>>;
 
 /// An NSEC3PARAM record that lies in octets.
-pub type Nsec3paramRr<'a> = Record<ParsedName<'a>, Nsec3param<&'a [u8]>>;
+pub type ReadNsec3param<'a> = Record<ParsedName<'a>, Nsec3param<&'a [u8]>>;
 
 /// The record with its data read as NSEC data (RFC 4034, section 4.1). None where it is of another
 /// type, or the octets are no such data.
-pub fn into_nsec<'a>(lent: LentRecord<'a>) -> Option<NsecRr<'a>>
+pub fn into_nsec<'a>(lent: LentRecord<'a>) -> Option<ReadNsec<'a>>
     ensures some { IfSome result (λ r. (lent.entry ≡ nsec_record (as_link (λ n. n) r))
         × IsNsec (as_link (λ n. n) r)) }
     ensures none { IfNone result ((k : Link) → lent.entry ≡ nsec_record k → IsNsec k → ⊥) }
@@ -44,7 +44,7 @@ pub fn into_nsec<'a>(lent: LentRecord<'a>) -> Option<NsecRr<'a>>
 
 /// The record with its data read as NSEC3 data (RFC 5155, section 3.2). None where it is of another
 /// type, or the octets are no such data.
-pub fn into_nsec3<'a>(lent: LentRecord<'a>) -> Option<Nsec3Rr<'a>>
+pub fn into_nsec3<'a>(lent: LentRecord<'a>) -> Option<ReadNsec3<'a>>
     ensures some { IfSome result (λ r. (lent.entry ≡ nsec3_record (as_hashed_link (λ n. n) r))
         × IsNsec3 (as_hashed_link (λ n. n) r)) }
     ensures none { IfNone result ((k : HashedLink) → lent.entry ≡ nsec3_record k → IsNsec3 k → ⊥) }
@@ -62,7 +62,7 @@ pub fn into_nsec3<'a>(lent: LentRecord<'a>) -> Option<Nsec3Rr<'a>>
 
 /// The record with its data read as NSEC3PARAM data (RFC 5155, section 4.2). None where it is of
 /// another type, or the octets are no such data, or more than these.
-pub fn into_nsec3param<'a>(lent: LentRecord<'a>) -> Option<Nsec3paramRr<'a>>
+pub fn into_nsec3param<'a>(lent: LentRecord<'a>) -> Option<ReadNsec3param<'a>>
     ensures some { IfSome result (λ r. (lent.entry ≡ param_record (as_param_record (λ n. n) r))
         × IsParam (as_param_record (λ n. n) r)) }
     ensures none { IfNone result ((k : ParamRecord) → lent.entry ≡ param_record k → IsParam k → ⊥) }

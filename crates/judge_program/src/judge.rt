@@ -23,7 +23,7 @@ use crate::why::write_nsec_why;
 use denial_program::{DenialFault, Question, ZoneName, chain_of, fault_of};
 use domain_answer::{Answer, judge_nsec, judge_nsec3};
 use domain_dnssec::Nsec3Hasher;
-use domain_lent::{LentRecord, Nsec3paramRr, NsecRr, into_nsec};
+use domain_lent::{LentRecord, ReadNsec, ReadNsec3param, into_nsec};
 use domain_octets::OutOfMemory;
 use domain_records::{Nsec3HashError, SigningError};
 use std::alloc::Global;
@@ -34,7 +34,7 @@ use std::io::Write;
 fn nsecs_among<'a>(
     alloc: Global,
     records: Vec<LentRecord<'a>>,
-) -> Result<Vec<NsecRr<'a>>, OutOfMemory>
+) -> Result<Vec<ReadNsec<'a>>, OutOfMemory>
     ensures { IfOk result (λ nsecs.
         AreNsecs records.entry.items (links_of (λ n. n) nsecs.items)) }
 {
@@ -52,7 +52,7 @@ fn nsecs_among<'a>(
 fn write_nsec_below<W: Write>(
     question: &Question,
     shown: Shown,
-    nsecs: &[NsecRr<'_>],
+    nsecs: &[ReadNsec<'_>],
     answer: Answer,
     output: &mut W,
 ) -> io::Result<()>
@@ -72,7 +72,7 @@ fn write_nsec_below<W: Write>(
 fn write_nsec<W: Write>(
     question: &Question,
     shown: Shown,
-    nsecs: &[NsecRr<'_>],
+    nsecs: &[ReadNsec<'_>],
     answer: Answer,
     output: &mut W,
 ) -> io::Result<()>
@@ -160,7 +160,7 @@ fn write_nsec3<W: Write>(
     answer: Answer,
     shown: Shown,
     below: Nsec3Below<'_, '_>,
-    param: &Nsec3paramRr<'_>,
+    param: &ReadNsec3param<'_>,
     output: &mut W,
 ) -> io::Result<()>
     ensures { OnOk result (Appends (W.contents output.old) (W.contents output.new)

@@ -18,7 +18,7 @@ use crate::why::rests_on_records;
 use denial_program::{DenialFault, Question, ZoneName};
 use domain_answer::Answer;
 use domain_dnssec::Nsec3Hasher;
-use domain_lent::Nsec3paramRr;
+use domain_lent::ReadNsec3param;
 use std::alloc::Global;
 use std::io;
 use std::io::Write;
@@ -40,7 +40,7 @@ fn write_whole<W: Write>(
     shown: Shown,
     name: &ZoneName,
     answer: Answer,
-    param: &Nsec3paramRr<'_>,
+    param: &ReadNsec3param<'_>,
     output: &mut W,
 ) -> io::Result<()>
     ensures { OnOk result (Appends (W.contents output.old) (W.contents output.new)
@@ -76,7 +76,7 @@ fn write_closer<W: Write>(
     found: Option<Told<'_, '_>>,
     shown: Shown,
     name: &ZoneName,
-    param: &Nsec3paramRr<'_>,
+    param: &ReadNsec3param<'_>,
     output: &mut W,
 ) -> io::Result<()>
     ensures { OnOk result (Appends (W.contents output.old) (W.contents output.new)
@@ -163,7 +163,7 @@ impl<'r, 'a> Nsec3Below<'r, 'a> {
         shown: Shown,
         name: &ZoneName,
         answer: Answer,
-        param: &Nsec3paramRr<'_>,
+        param: &ReadNsec3param<'_>,
         output: &mut W,
     ) -> io::Result<()>
         ensures { OnOk result (Appends (W.contents output.old) (W.contents output.new)

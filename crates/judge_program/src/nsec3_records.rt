@@ -12,12 +12,12 @@ use crate::nsec3_why::{Encloser, Told};
 use domain_answer::Answer;
 use domain_base::Rtype;
 use domain_checker::Nsec3Found;
-use domain_lent::{Nsec3Rr, Nsec3paramRr};
+use domain_lent::{ReadNsec3, ReadNsec3param};
 use std::io;
 use std::io::Write;
 
 /// The record that tells of a name, a match or else a cover.
-fn told_record<'r, 'a>(told: Told<'r, 'a>) -> Option<&'r Nsec3Rr<'a>>
+fn told_record<'r, 'a>(told: Told<'r, 'a>) -> Option<&'r ReadNsec3<'a>>
     ensures { option_map (λ k. as_hashed_link (λ n. n) k.now) result
         ≡ first_of (found_match (λ n. n) told.entry) (found_cover (λ n. n) told.entry) }
 {
@@ -28,7 +28,7 @@ fn told_record<'r, 'a>(told: Told<'r, 'a>) -> Option<&'r Nsec3Rr<'a>>
 }
 
 /// The record that tells of the next closer name, if one was found.
-pub fn closer_record<'r, 'a>(found: Option<Told<'r, 'a>>) -> Option<&'r Nsec3Rr<'a>>
+pub fn closer_record<'r, 'a>(found: Option<Told<'r, 'a>>) -> Option<&'r ReadNsec3<'a>>
     ensures { option_map (λ k. as_hashed_link (λ n. n) k.now) result
         ≡ closer_found_link (λ n. n) found.entry }
 {
@@ -39,7 +39,7 @@ pub fn closer_record<'r, 'a>(found: Option<Told<'r, 'a>>) -> Option<&'r Nsec3Rr<
 pub fn wildcard_record<'r, 'a>(
     answer: Answer,
     found: Option<(usize, Told<'r, 'a>)>,
-) -> Option<&'r Nsec3Rr<'a>>
+) -> Option<&'r ReadNsec3<'a>>
     ensures { option_map (λ k. as_hashed_link (λ n. n) k.now) result
         ≡ wildcard_part answer (wildcard_found_link (λ n. n) found.entry) }
 {
@@ -53,7 +53,7 @@ pub fn wildcard_record<'r, 'a>(
 /// The records of a closest encloser and of the next closer name.
 pub fn encloser_records<'r, 'a>(
     found: Option<Encloser<'r, 'a>>,
-) -> (Option<&'r Nsec3Rr<'a>>, Option<&'r Nsec3Rr<'a>>)
+) -> (Option<&'r ReadNsec3<'a>>, Option<&'r ReadNsec3<'a>>)
     ensures encloser { option_map (λ k. as_hashed_link (λ n. n) k.now) result.0
         ≡ encloser_link (option_map (encloser_of (λ n. n)) found.entry) }
     ensures closer { option_map (λ k. as_hashed_link (λ n. n) k.now) result.1
@@ -71,7 +71,7 @@ pub fn encloser_records<'r, 'a>(
 }
 
 /// The record of a zone cut, unless it lists DS.
-fn unsigned_cut<'r, 'a>(found: Option<&'r Nsec3Rr<'a>>) -> Option<&'r Nsec3Rr<'a>>
+fn unsigned_cut<'r, 'a>(found: Option<&'r ReadNsec3<'a>>) -> Option<&'r ReadNsec3<'a>>
     ensures { option_map (λ k. as_hashed_link (λ n. n) k.now) result
         ≡ unsigned_cut (λ k. k.bits) (option_map (λ k. as_hashed_link (λ n. n) k.now) found.entry) }
 {
@@ -85,8 +85,8 @@ fn unsigned_cut<'r, 'a>(found: Option<&'r Nsec3Rr<'a>>) -> Option<&'r Nsec3Rr<'a
 /// The record of the closest encloser, where the response needs it.
 pub fn encloser_part<'r, 'a>(
     needs: Needs,
-    found: Option<&'r Nsec3Rr<'a>>,
-) -> Option<&'r Nsec3Rr<'a>>
+    found: Option<&'r ReadNsec3<'a>>,
+) -> Option<&'r ReadNsec3<'a>>
     ensures { option_map (λ k. as_hashed_link (λ n. n) k.now) result
         ≡ encloser_part needs (option_map (λ k. as_hashed_link (λ n. n) k.now) found.entry) }
 {
@@ -100,7 +100,10 @@ pub fn encloser_part<'r, 'a>(
 }
 
 /// The record that covers the next closer name, where the response needs it.
-pub fn closer_part<'r, 'a>(needs: Needs, found: Option<&'r Nsec3Rr<'a>>) -> Option<&'r Nsec3Rr<'a>>
+pub fn closer_part<'r, 'a>(
+    needs: Needs,
+    found: Option<&'r ReadNsec3<'a>>,
+) -> Option<&'r ReadNsec3<'a>>
     ensures { option_map (λ k. as_hashed_link (λ n. n) k.now) result
         ≡ closer_part needs (option_map (λ k. as_hashed_link (λ n. n) k.now) found.entry) }
 {
@@ -114,7 +117,7 @@ pub fn closer_part<'r, 'a>(needs: Needs, found: Option<&'r Nsec3Rr<'a>>) -> Opti
 }
 
 /// Whether the record is the same as another.
-fn is_told(record: &Nsec3Rr<'_>, other: Option<&Nsec3Rr<'_>>) -> bool
+fn is_told(record: &ReadNsec3<'_>, other: Option<&ReadNsec3<'_>>) -> bool
     ensures { result ≡ is_told same_hashed_link (as_hashed_link (λ n. n) record.now)
         (option_to_list (option_map (λ k. as_hashed_link (λ n. n) k.now) other.entry)) }
 {
@@ -126,9 +129,9 @@ fn is_told(record: &Nsec3Rr<'_>, other: Option<&Nsec3Rr<'_>>) -> bool
 
 /// Writes the line of a record, if there is one and it is not the same as one of two before it.
 fn write_once<W: Write>(
-    first: Option<&Nsec3Rr<'_>>,
-    second: Option<&Nsec3Rr<'_>>,
-    found: Option<&Nsec3Rr<'_>>,
+    first: Option<&ReadNsec3<'_>>,
+    second: Option<&ReadNsec3<'_>>,
+    found: Option<&ReadNsec3<'_>>,
     output: &mut W,
 ) -> io::Result<()>
     ensures { OnOk result (Appends (W.contents output.old) (W.contents output.new) (nsec3_once
@@ -147,10 +150,10 @@ fn write_once<W: Write>(
 
 /// Writes the records of three names, each once, and then the NSEC3PARAM record, if there are any.
 pub fn write_parts<W: Write>(
-    encloser: Option<&Nsec3Rr<'_>>,
-    closer: Option<&Nsec3Rr<'_>>,
-    wildcard: Option<&Nsec3Rr<'_>>,
-    param: &Nsec3paramRr<'_>,
+    encloser: Option<&ReadNsec3<'_>>,
+    closer: Option<&ReadNsec3<'_>>,
+    wildcard: Option<&ReadNsec3<'_>>,
+    param: &ReadNsec3param<'_>,
     output: &mut W,
 ) -> io::Result<()>
     ensures { OnOk result (Appends (W.contents output.old) (W.contents output.new)

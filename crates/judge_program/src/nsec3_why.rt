@@ -25,7 +25,7 @@ use domain_answer::{Answer, wildcard_of};
 use domain_base::{ParsedName, ToName};
 use domain_checker::{Nsec3Encloser, Nsec3Found, find_nsec3, find_nsec3_encloser};
 use domain_dnssec::{Nsec3Hasher, Nsec3Records};
-use domain_lent::{Nsec3Rr, Nsec3paramRr};
+use domain_lent::{ReadNsec3, ReadNsec3param};
 use domain_records::{Nsec3HashError, SigningError};
 use domain_zone::MAX_NAME;
 use std::alloc::Global;
@@ -64,7 +64,7 @@ fn encloser_role(name: &ZoneName, count: usize) -> Role<'_>
 
 /// Writes a line on a record that covers a name, if one does.
 fn write_cover<W: Write>(
-    cover: Option<&Nsec3Rr<'_>>,
+    cover: Option<&ReadNsec3<'_>>,
     role: &Role<'_>,
     output: &mut W,
 ) -> io::Result<()>
@@ -220,7 +220,7 @@ impl<'r, 'a> Nsec3Why<'r, 'a> {
     pub fn write_records<W: Write>(
         self,
         answer: Answer,
-        param: &Nsec3paramRr<'_>,
+        param: &ReadNsec3param<'_>,
         output: &mut W,
     ) -> io::Result<()>
         ensures { OnOk result (Appends (W.contents output.old) (W.contents output.new)

@@ -12,13 +12,13 @@ use crate::why::wildcard_count;
 use denial_program::Question;
 use domain_answer::{Answer, NsecFound, find_nsec, wildcard_of};
 use domain_base::{ParsedName, Rtype, ToName};
-use domain_lent::NsecRr;
+use domain_lent::ReadNsec;
 use domain_zone::MAX_NAME;
 use std::io;
 use std::io::Write;
 
 /// The record that one pass found, a match or else a cover.
-fn found_record<'r, 'a>(found: NsecFound<'r, &'a [u8], ParsedName<'a>>) -> Option<&'r NsecRr<'a>>
+fn found_record<'r, 'a>(found: NsecFound<'r, &'a [u8], ParsedName<'a>>) -> Option<&'r ReadNsec<'a>>
     ensures { option_map (λ k. as_link (λ n. n) k.now) result
         ≡ first_of (found_match (λ n. n) found.entry) (found_cover (λ n. n) found.entry) }
 {
@@ -30,7 +30,7 @@ fn found_record<'r, 'a>(found: NsecFound<'r, &'a [u8], ParsedName<'a>>) -> Optio
 }
 
 /// The record of a zone cut, unless it lists DS.
-fn unsigned_cut<'r, 'a>(found: Option<&'r NsecRr<'a>>) -> Option<&'r NsecRr<'a>>
+fn unsigned_cut<'r, 'a>(found: Option<&'r ReadNsec<'a>>) -> Option<&'r ReadNsec<'a>>
     ensures { option_map (λ k. as_link (λ n. n) k.now) result
         ≡ unsigned_cut (λ k. k.bits) (option_map (λ k. as_link (λ n. n) k.now) found.entry) }
 {
@@ -42,7 +42,7 @@ fn unsigned_cut<'r, 'a>(found: Option<&'r NsecRr<'a>>) -> Option<&'r NsecRr<'a>>
 }
 
 /// The record that was found of the name, where the response needs it.
-fn name_part<'r, 'a>(needs: Needs, found: Option<&'r NsecRr<'a>>) -> Option<&'r NsecRr<'a>>
+fn name_part<'r, 'a>(needs: Needs, found: Option<&'r ReadNsec<'a>>) -> Option<&'r ReadNsec<'a>>
     ensures { option_map (λ k. as_link (λ n. n) k.now) result
         ≡ name_part needs (option_map (λ k. as_link (λ n. n) k.now) found.entry) }
 {
@@ -58,9 +58,9 @@ fn name_part<'r, 'a>(needs: Needs, found: Option<&'r NsecRr<'a>>) -> Option<&'r 
 /// The record of the wildcard below the closest encloser, where that was asked for.
 fn find_wildcard<'r, 'a>(
     question: &Question,
-    nsecs: &'r [NsecRr<'a>],
+    nsecs: &'r [ReadNsec<'a>],
     answer: Answer,
-) -> Option<&'r NsecRr<'a>>
+) -> Option<&'r ReadNsec<'a>>
     ensures { option_map (λ k. as_link (λ n. n) k.now) result
         ≡ nsec_wildcard_found question.now.apex (links_of (λ n. n) nsecs.now) question.now.name
         (wildcard_count answer) }
@@ -76,7 +76,7 @@ fn find_wildcard<'r, 'a>(
 }
 
 /// Whether the record is the same as another.
-fn is_told(record: &NsecRr<'_>, other: Option<&NsecRr<'_>>) -> bool
+fn is_told(record: &ReadNsec<'_>, other: Option<&ReadNsec<'_>>) -> bool
     ensures { result ≡ is_told same_link (as_link (λ n. n) record.now)
         (option_to_list (option_map (λ k. as_link (λ n. n) k.now) other.entry)) }
 {
@@ -88,8 +88,8 @@ fn is_told(record: &NsecRr<'_>, other: Option<&NsecRr<'_>>) -> bool
 
 /// Writes the line of a record, if there is one and it is not the same as the one before it.
 fn write_once<W: Write>(
-    before: Option<&NsecRr<'_>>,
-    found: Option<&NsecRr<'_>>,
+    before: Option<&ReadNsec<'_>>,
+    found: Option<&ReadNsec<'_>>,
     output: &mut W,
 ) -> io::Result<()>
     ensures { OnOk result (Appends (W.contents output.old) (W.contents output.new) (nsec_once
@@ -108,7 +108,7 @@ fn write_once<W: Write>(
 /// Writes the NSEC records that a server answers with, one a line.
 pub fn write_nsec_records<W: Write>(
     question: &Question,
-    nsecs: &[NsecRr<'_>],
+    nsecs: &[ReadNsec<'_>],
     answer: Answer,
     output: &mut W,
 ) -> io::Result<()>

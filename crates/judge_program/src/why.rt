@@ -10,7 +10,7 @@ use crate::role::Role;
 use denial_program::Question;
 use domain_answer::{Answer, NsecFound, find_nsec, wildcard_of};
 use domain_base::{ParsedName, ToName};
-use domain_lent::NsecRr;
+use domain_lent::ReadNsec;
 use domain_zone::MAX_NAME;
 use std::io;
 use std::io::Write;
@@ -60,7 +60,7 @@ fn write_found<W: Write>(
 /// Writes a line on what NSEC records tell of a name, if they tell anything.
 fn write_told<W: Write, M: ToName>(
     apex: &M,
-    nsecs: &[NsecRr<'_>],
+    nsecs: &[ReadNsec<'_>],
     name: &ParsedName<'_>,
     role: &Role<'_>,
     output: &mut W,
@@ -74,7 +74,7 @@ fn write_told<W: Write, M: ToName>(
 /// Writes the NSEC records that an answer rests on, one a line, with what each tells.
 pub fn write_nsec_why<W: Write>(
     question: &Question,
-    nsecs: &[NsecRr<'_>],
+    nsecs: &[ReadNsec<'_>],
     answer: Answer,
     output: &mut W,
 ) -> io::Result<()>

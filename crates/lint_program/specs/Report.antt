@@ -7,7 +7,7 @@ use Rattle.domain_base.specs.Words.{Name}
 use Rattle.domain_lent.specs.Data.{RawRecord}
 use Rattle.denial_program.specs.Answer.{HasNoNsecs, IsNsecs}
 use Rattle.denial_program.specs.Fault.{IsOfRecords}
-use Rattle.denial_program.specs.declared.answer.Answer.{Answer}
+use Rattle.denial_program.specs.declared.answer.Reply.{Reply}
 use Rattle.denial_program.specs.declared.fault.DenialFault.{DenialFault}
 use Rattle.lint_program.specs.Lines.{AreLinted}
 use Rattle.lint_program.specs.NoteText.{closing, opening}
@@ -71,7 +71,7 @@ AreRefused records apex =
 
 -- they have one
 abbrev pub HaveChain : List RawRecord → Name → Type 0
-HaveChain records apex = (answer : Answer) × IsNsecs records apex answer
+HaveChain records apex = (answer : Reply) × IsNsecs records apex answer
 
 -- whether they are refused
 abbrev pub IfRefused : Bool → List RawRecord → Name → Type 0

@@ -4,7 +4,7 @@ use Rattle.std.specs.Io.KnownBytes.{Appends}
 use Rattle.denial_program.specs.Answer.{Answers, GivesNoAnswer}
 use Rattle.denial_program.specs.Listing.{Give}
 use Rattle.denial_program.specs.Text.{answer_text}
-use Rattle.denial_program.specs.declared.answer.Answer.{Answer}
+use Rattle.denial_program.specs.declared.answer.Reply.{Reply}
 use Rattle.denial_program.specs.declared.fault.DenialFault.TheVariants.{OutOfMemory}
 use Rattle.denial_program.proofs.AnswerLemmas.{answer_memory, answer_unwritten, on_ok}
 use Rattle.denial_program.proofs.LineReading.{known_so}
@@ -15,7 +15,7 @@ returns-clause-ok g c =
     let answers = g.H.Nsec3Hasher.answer c.args.hasher.now in
     on_ok (λ written.
     known_so (λ bytes. Give (lines bytes) c.in_ok-records.records.items)
-    (λ bytes. (x : Answer) × Answers answers (map string_bytes c.args.words.now) (lines bytes) x
+    (λ bytes. (x : Reply) × Answers answers (map string_bytes c.args.words.now) (lines bytes) x
     × Appends (g.W.Write.contents c.args.output.now) (g.W.Write.contents c.write_answer.new.output) (answer_text x))
     (g.R.Read.remaining c.args.input.now)
     (λ bytes gives. (
@@ -31,7 +31,7 @@ returns-clause-write g c = λ is.
     let answers = g.H.Nsec3Hasher.answer c.args.hasher.now in
     let there = answer_unwritten answers c.in_ok-command.command c.in_ok-records.records.items c.write_answer.result c.write_answer.ensures.err is in
     known_so (λ bytes. Give (lines bytes) c.in_ok-records.records.items)
-    (λ bytes. (x : Answer) × Answers answers (map string_bytes c.args.words.now) (lines bytes) x)
+    (λ bytes. (x : Reply) × Answers answers (map string_bytes c.args.words.now) (lines bytes) x)
     (g.R.Read.remaining c.args.input.now)
     (λ bytes gives. (
       there.0,

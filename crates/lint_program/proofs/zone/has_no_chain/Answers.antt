@@ -3,7 +3,7 @@ use Rattle.domain_zone.specs.View.{zone_of}
 use Rattle.domain_nsec.specs.Chain.{usual_config, IsChain, IsFirstFault}
 use Rattle.domain_dnssec.specs.declared.chain.ChainError.TheVariants as chain_error
 use Rattle.domain_lent.specs.Data.{minimum_of, RawRecord}
-use Rattle.denial_program.specs.declared.answer.Answer.TheVariants.{Nsecs}
+use Rattle.denial_program.specs.declared.answer.Reply.TheVariants.{Nsecs}
 use Rattle.denial_program.specs.declared.fault.DenialFault.TheVariants.{Signing}
 use Rattle.lint_program.proofs.zone.has_no_chain.Goals as goal
 
