@@ -40,7 +40,11 @@ pub enum Reply<'s, 'a> {
 }
 
 /// The NSEC chain of the zone that the records are, from which it borrows.
-fn nsecs_of<'s, 'a>(
+///
+/// # Errors
+///
+/// `Signing` with the first fault of the zone, and `OutOfMemory`.
+pub fn nsecs_of<'s, 'a>(
     alloc: Global,
     apex: &'s ParsedName<'a>,
     sorted: &'s [LentRecord<'a>],

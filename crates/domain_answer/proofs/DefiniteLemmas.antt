@@ -10,7 +10,7 @@ pub either : (b : Bool) (v : Answer) → cond b v v ≡ v
 either true v = refl
 either false v = refl
 
-pub is_of_zone : Answer → Bool
+unfoldable pub is_of_zone : Answer → Bool
 is_of_zone OutsideZone = true
 is_of_zone AtParent = true
 is_of_zone (Referral n) = true

@@ -98,7 +98,7 @@ module _ (L : List ZoneRecord) (a : Name) (none : All (λ r. is_occluded true L 
   same_owners : unoccluded_owners false L a ≡ unoccluded_owners true L a
   same_owners =
       filter_same (is_unoccluded false L a) (is_unoccluded true L a) (distinct (map (λ r. r.owner) L)) (λ n i.
-      let r = from_map (λ r. r.owner) L n (in_distinct false L a (map (λ r. r.owner) L) n i) in
+      let r = from_map (λ r. r.owner) L n (in_distinct (map (λ r. r.owner) L) n i) in
       let same = all_in (λ r. is_occluded true L a r.owner ≡ is_occluded false L a r.owner) L r.0
       (recursion_from_All (λ r. is_occluded true L a r.owner ≡ is_occluded false L a r.owner) L none) r.1 in
       let at : is_occluded true L a n ≡ is_occluded false L a n = sym (ap (is_occluded true L a) r.2) ∙ same ∙ ap (is_occluded false L a) r.2 in

@@ -4,7 +4,7 @@ use Rattle.std.proofs.lemmas.Bool.{true≢false}
 use Rattle.domain_checker.specs.declared.verdict.Verdict.{Verdict}
 use Rattle.domain_checker.specs.declared.verdict.Verdict.TheVariants.{OutsideZone, BelowDelegation, Has, NoType, EmptyName, OptOut, NoName, NotProven}
 
-pub is_definite : Verdict → Bool
+unfoldable pub is_definite : Verdict → Bool
 is_definite OutsideZone = true
 is_definite BelowDelegation = true
 is_definite Has = true

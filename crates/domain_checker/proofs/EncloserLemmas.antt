@@ -107,6 +107,11 @@ module _ (names : List Name) (a : Name) where
 
 -- ---- names that occlude
 
+pub in_distinct : (xs : List Name) (n : Name) → In n (distinct xs) → In n xs
+in_distinct [] n i = i
+in_distinct (x ∷ xs) n (inl e) = inl e
+in_distinct (x ∷ xs) n (inr i) = inr (in_distinct xs n (in_filter (λ y. not (same_name x y)) (distinct xs) n i).0)
+
 module _ (below_dname : Bool) (L : List ZoneRecord) (a : Name) where
   -- a name that occludes, and that x is strictly below
   pub record OccluderAbove (x : Name) : Type 0 where
@@ -151,11 +156,6 @@ module _ (below_dname : Bool) (L : List ZoneRecord) (a : Name) where
       || (below_dname && lowered_below k (lowered a) && has_type (filter (λ r. same_lowered (lowered r.owner) k) L) dname)) (one_lowered m n s)
 
   -- ---- owners that are not occluded
-
-  pub in_distinct : (xs : List Name) (n : Name) → In n (distinct xs) → In n xs
-  in_distinct [] n i = i
-  in_distinct (x ∷ xs) n (inl e) = inl e
-  in_distinct (x ∷ xs) n (inr i) = inr (in_distinct xs n (in_filter (λ y. not (same_name x y)) (distinct xs) n i).0)
 
   pub owner_unoccluded : (n : Name) → In n (unoccluded_owners below_dname L a) → is_unoccluded below_dname L a n ≡ true
   owner_unoccluded n i = (in_filter (is_unoccluded below_dname L a) (distinct (map (λ r. r.owner) L)) n i).1

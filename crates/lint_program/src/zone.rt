@@ -7,9 +7,8 @@ ghost use Rattle.denial_program.specs.declared.fault.DenialFault.TheVariants.{Ou
 ghost use Rattle.lint_program.specs.Report.{IfRefused};
 ghost use Rattle.lint_program.specs.Zones.{IsUsable, IsZone};
 
-use denial_program::{DenialFault, sort_zone};
+use denial_program::{DenialFault, nsecs_of, sort_zone};
 use domain_base::ParsedName;
-use domain_dnssec::{GenerateNsecConfig, NsecChain, RecordsIter, SigningError};
 use domain_lent::LentRecord;
 use std::alloc::Global;
 
@@ -55,14 +54,10 @@ fn has_no_chain<'a>(
         → IfRefused is_none given apex.now) }
     ensures err { IfErr result (λ e. e ≡ Memory) }
 {
-    let config = GenerateNsecConfig::new();
-    match NsecChain::generate(alloc, apex, RecordsIter::new_from_owned(sorted), &config) {
-        Ok(nsecs) => {
-            let _count = nsecs.len();
-            Ok(false)
-        }
-        Err(SigningError::OutOfMemory) => Err(DenialFault::OutOfMemory),
-        Err(_error) => Ok(true),
+    match nsecs_of(alloc, apex, sorted) {
+        Ok(_answer) => Ok(false),
+        Err(DenialFault::Signing(_error)) => Ok(true),
+        Err(_fault) => Err(DenialFault::OutOfMemory),
     }
 }
 
