@@ -1,14 +1,5 @@
-<<<<<<< HEAD
-use Rattle.std.proofs.Common.{List, refl, rules, subst}
-use Rattle.domain_zone.specs.View.{zone_of}
-use Rattle.domain_nsec.specs.Chain.{usual_config, IsChain, IsFirstFault}
-use Rattle.domain_dnssec.specs.declared.chain.ChainError.TheVariants as chain_error
-use Rattle.domain_lent.specs.Data.{minimum_of, RawRecord}
-use Rattle.denial_program.specs.declared.answer.Reply.TheVariants.{Nsecs}
-=======
 use Rattle.std.proofs.Common.{subst}
 use Rattle.denial_program.specs.Answer.{HasNoNsecs}
->>>>>>> 189658e (Whether records have no chain is asked of the function that makes it)
 use Rattle.denial_program.specs.declared.fault.DenialFault.TheVariants.{Signing}
 use Rattle.lint_program.proofs.zone.has_no_chain.Goals as goal
 
