@@ -19,7 +19,7 @@ mod program;
 mod reading;
 mod verdict_text;
 
-pub use answer::{Answer, nsecs_of};
+pub use answer::{Reply, nsecs_of};
 pub use check::chain_of;
 pub use command::{Nsec3Params, Question, parameters_of, question_of};
 pub use fault::{DenialFault, fault_of};
