@@ -195,7 +195,7 @@ pub record IsAsked (listed : List HashedLink) (a : Name) (p : Parameters) (hash 
   pub counts : n ≡ encloser.count
   pub less : n < length x
 
-asked_below : (listed : List HashedLink) (a : Name) (p : Parameters) (hash : Hash) (x : Name) (t n : ℕ) (found : Option Encloser)
+pub asked_below : (listed : List HashedLink) (a : Name) (p : Parameters) (hash : Hash) (x : Name) (t n : ℕ) (found : Option Encloser)
     → IsFoundEncloser listed a p hash x found → found_answer a found (length x) t ≡ NoCloserName n → IsAsked listed a p hash x t n
 asked_below listed a p hash x t n None is e = absurd (cc)
 asked_below listed a p hash x t n (Some f) is e =
@@ -227,9 +227,3 @@ asked_below listed a p hash x t n (Some f) is e =
     of_cover None g h = absurd (asks_none (encloser_is_cut a f) (contains_type f.link.bits dname) f.count n (sym (lower None g) ∙ h))
     of_cover (Some k) g h =
         asks_lower (encloser_is_cut a f) (contains_type f.link.bits dname) (is_opt_out k.flags) f.count n (sym (lower (Some k) g) ∙ h)
-
-pub asked_by : (listed : List HashedLink) (a : Name) (p : Parameters) (hash : Hash) (x : Name) (t n : ℕ) (found : Option Encloser) (labels : ℕ)
-    (answer : Answer) → IsFoundEncloser listed a p hash x found → labels ≡ length x → answer ≡ found_answer a found labels t
-    → answer ≡ NoCloserName n → IsAsked listed a p hash x t n
-asked_by listed a p hash x t n found labels answer is counts says asks =
-    asked_below listed a p hash x t n found is (sym (says ∙ ap (λ n. found_answer a found n t) counts) ∙ asks)

@@ -1,6 +1,5 @@
 -- What the closest encloser tells of a name is what the way from the name to the apex gives.
-use Rattle.std.proofs.Common.{◌≡◌, ℕ, Bool, true, false, cond, not, ◌&&◌, List, length, refl, sym, ap, ◌∙◌, subst, inl, inr, nat_eq}
-use Rattle.std.proofs.Common.{Option, Some, None, arith}
+use Rattle.std.proofs.Common.{◌≡◌, ℕ, Bool, true, false, cond, not, ◌&&◌, List, length, refl, sym, ap, ◌∙◌, inl, inr, nat_eq, Option, Some, None, arith}
 use Rattle.std.proofs.lemmas.Bool.{cases_Bool, eq-eqb, ne_eqb, false≢true}
 use Rattle.std.specs.List.{Contains}
 use Rattle.domain_octets.specs.Words.{Octets}
@@ -20,7 +19,6 @@ use Rattle.domain_checker.specs.HashedList.{is_hash_cover, is_hash_match}
 use Rattle.domain_checker.specs.HashedEncloser.{Encloser, IsDenial, IsEncloser, IsFoundEncloser, IsOfName}
 use Rattle.domain_checker.specs.HashedEncloser.{encloser_is_cut, encloser_verdict, found_verdict, lower_verdict, next_cover, own_verdict}
 use Rattle.domain_checker.specs.HashedReading.{IsNextHash, IsTold, IsUnmatched, IsWalked, hash_cover_verdict, is_none, tells_cut, told_verdict}
-use Rattle.domain_checker.specs.declared.verdict.Verdict.{Verdict}
 use Rattle.domain_checker.specs.declared.verdict.Verdict.TheVariants.{BelowDelegation, Has, NoType, EmptyName}
 use Rattle.domain_checker.proofs.EncloserLemmas.{same_length, same_count}
 use Rattle.domain_checker.proofs.FindLemmas.{in_at, stands_from}
@@ -76,15 +74,10 @@ module _ (listed : List HashedLink) (a : Name) (p : Parameters) (hash : Hash) (x
           ∙ (λ i. cond (cut_counted i) BelowDelegation (hash_cover_verdict (is.counts i) (c i)))
 
 -- what is found gives what the way gives
-found_walked : (listed : List HashedLink) (a : Name) (p : Parameters) (hash : Hash) (x : Name) (t : ℕ) (o : Option Encloser)
+pub found_walked : (listed : List HashedLink) (a : Name) (p : Parameters) (hash : Hash) (x : Name) (t : ℕ) (o : Option Encloser)
     → IsFoundEncloser listed a p hash x o → IsWalked listed a p hash x t (found_verdict a o (length x) t)
 found_walked listed a p hash x t None none = inr (refl, none)
 found_walked listed a p hash x t (Some e) is = inl (encloser_told listed a p hash x e is t)
-
-pub walked_as : (listed : List HashedLink) (a : Name) (p : Parameters) (hash : Hash) (x : Name) (t : ℕ) (o : Option Encloser) (n : ℕ) (verdict : Verdict)
-    → IsFoundEncloser listed a p hash x o → n ≡ length x → verdict ≡ found_verdict a o n t → IsWalked listed a p hash x t verdict
-walked_as listed a p hash x t o n verdict is counts says =
-    subst (IsWalked listed a p hash x t) (sym (says ∙ ap (λ n. found_verdict a o n t) counts)) (found_walked listed a p hash x t o is)
 
 -- a name that is not at or below the apex has no ancestor there
 pub outside_unmatched : (listed : List HashedLink) (a : Name) (p : Parameters) (hash : Hash) (x : Name)

@@ -58,15 +58,10 @@ drop_front zero (o ∷ u) v e = absurd (omega arith)
 drop_front (suc n) [] v e = absurd (omega arith)
 drop_front (suc n) (o ∷ u) v e = drop_front n u v (omega arith)
 
-wire_above : (l : Label) (x : Name) → drop (length l + 1) (wire_of (lowered (l ∷ x))) ≡ wire_of (lowered x)
+pub wire_above : (l : Label) (x : Name) → drop (length l + 1) (wire_of (lowered (l ∷ x))) ≡ wire_of (lowered x)
 wire_above l x =
     let n : length (length (map to_ascii_lowercase l) ∷ map to_ascii_lowercase l) ≡ length l + 1 = omega (arith, length-map l to_ascii_lowercase) in
     drop_front (length l + 1) (length (map to_ascii_lowercase l) ∷ map to_ascii_lowercase l) (wire_of (lowered x)) n
-
--- from a wire form on to that of the name above
-pub wire_on : (left : Name) (l : Label) (x : Name) (old new : Octets) → left ≡ l ∷ x → old ≡ wire_of (lowered left) → new ≡ drop (length l + 1) old
-    → new ≡ wire_of (lowered x)
-wire_on left l x old new parts is rest = rest ∙ ap (drop (length l + 1)) (is ∙ ap (λ n. wire_of (lowered n)) parts) ∙ wire_above l x
 
 -- ---- names that are passed
 

@@ -1,9 +1,9 @@
-use Rattle.std.proofs.Common.{◌≡◌, ◌+◌, ◌≤◌, ◌<◌, true, false, length, refl, sym, ap, subst, ◌∙◌, inl, inr, None, Some}
+use Rattle.std.proofs.Common.{◌≡◌, ◌+◌, ◌≤◌, ◌<◌, true, false, length, drop, refl, sym, ap, subst, ◌∙◌, inl, inr, None, Some}
 use Rattle.std.proofs.lemmas.Result.{err_from_is_err_and}
 use Rattle.domain_base.specs.Name.{lowered, same_name, wire_of}
 use Rattle.domain_zone.proofs.NameLemmas.{below_itself}
 use Rattle.domain_nsec3.specs.View.{hash_by}
-use Rattle.domain_checker.proofs.HashedWalkLemmas.{wire_on, wire_shorter}
+use Rattle.domain_checker.proofs.HashedWalkLemmas.{wire_above, wire_shorter}
 use Rattle.domain_denier.proofs.PlacedLemmas.{IsAncestor, IsMissedAt, ancestor_above, hash_known, inside_at, missed_above, missed_here}
 use Rattle.domain_denier.proofs.PlacedLemmas.{none_placed, of_found, placed_above, placed_here, refused_at}
 use Rattle.domain_denier.proofs.encloser.find_encloser.Goals as goal
@@ -73,15 +73,18 @@ pub returns-in_err-found-clause-err : goal.returns-in_err-found-clause-err
 returns-in_err-found-clause-err g c =
     let a = c.args.apex.now in
     let x = c.args.name.now in
+    let hash = hash_by (g.H.Nsec3Hasher.answer c.args.hasher.now) c.args.chain.now.param.parameters in
     let label = c.in-Some.label.now in
     let next = c.in-Some.above in
     let parts = c.in-Some.ensures.parts in
-    let up = ancestor_above a x c.names.left c.names.invariant.ancestor label next parts (sym c.name_eq.ensures.value ∙ c.names-test.true) in
-    let wire = wire_on c.names.left label next _ _ parts c.names.invariant.wire c.skip-octets.ensures in
+    let other : same_name c.names.left c.args.apex.now ≡ false = sym c.name_eq.ensures.value ∙ c.names-test.true in
+    let up = ancestor_above a x c.names.left c.names.invariant.ancestor label next parts other in
+    let wire = c.skip-octets.ensures ∙ ap (drop (length label + 1)) (c.names.invariant.wire ∙ ap (λ n. wire_of (lowered n)) parts)
+    ∙ wire_above label next in
     let q = err_from_is_err_and c.from_residual-in_err-found.result c.from_residual-in_err-found.ensures.1 in
     rw (q.1, q.2) (elim c.in_err-found.ensures.err [
       | inl full ↦ inl full
-      | inr r ↦ inr (r.0, r.1, refused_at a x next _ up c.skip-octets.result.now wire r.0 r.2)
+      | inr r ↦ inr (r.0, r.1, refused_at a x next hash up c.skip-octets.result.now wire r.0 r.2)
     ])
 
 pub returns-then-found-clause-inside : goal.returns-then-found-clause-inside
@@ -99,36 +102,48 @@ returns-then-found-clause-inside g c =
 
 pub returns-then-found-clause-placed : goal.returns-then-found-clause-placed
 returns-then-found-clause-placed g c L config whole =
+    let a = c.args.apex.now in
+    let x = c.args.name.now in
+    let chain = c.args.chain.now in
+    let p = c.args.chain.now.param.parameters in
+    let hash = hash_by (g.H.Nsec3Hasher.answer c.args.hasher.now) c.args.chain.now.param.parameters in
     let label = c.in-Some.label.now in
     let next = c.in-Some.above in
     let parts = c.in-Some.ensures.parts in
-    let other = sym c.name_eq.ensures.value ∙ c.names-test.true in
-    let wire = wire_on c.names.left label next _ _ parts c.names.invariant.wire c.skip-octets.ensures in
+    let octets = c.skip-octets.result.now in
+    let other : same_name c.names.left c.args.apex.now ≡ false = sym c.name_eq.ensures.value ∙ c.names-test.true in
+    let wire = c.skip-octets.ensures ∙ ap (drop (length label + 1)) (c.names.invariant.wire ∙ ap (λ n. wire_of (lowered n)) parts)
+    ∙ wire_above label next in
     let found = c.in_ok-found.ensures.ok in
-    placed_above _ _ _ _ c.args.name.now c.names.left c.names.cover (c.names.invariant.missed L config whole) label next parts other found.value
-    (hash_known _ _ _ _ found next wire)
+    placed_above chain.links a p hash x c.names.left c.names.cover (c.names.invariant.missed L config whole) label next parts other found.value
+    (hash_known hash chain octets c.in_ok-found.found found next wire)
     (record { count = c.count_labels-then-found.result; place = c.in_ok-found.found.place; cover = Some c.names.cover })
-    (of_found _ _ _ _ found c.args.apex.now c.requires.apex true c.if-found.true L config whole)
+    (of_found hash chain octets c.in_ok-found.found found a c.requires.apex true c.if-found.true L config whole)
     c.count_labels-then-found.ensures.count refl
 
 pub names-preserved : goal.names-preserved
 names-preserved g c =
     let a = c.args.apex.now in
     let x = c.args.name.now in
+    let chain = c.args.chain.now in
+    let p = c.args.chain.now.param.parameters in
+    let hash = hash_by (g.H.Nsec3Hasher.answer c.args.hasher.now) c.args.chain.now.param.parameters in
     let label = c.in-Some.label.now in
     let next = c.in-Some.above in
     let parts = c.in-Some.ensures.parts in
-    let other = sym c.name_eq.ensures.value ∙ c.names-test.true in
-    let wire = wire_on c.names.left label next _ _ parts c.names.invariant.wire c.skip-octets.ensures in
+    let octets = c.skip-octets.result.now in
+    let other : same_name c.names.left c.args.apex.now ≡ false = sym c.name_eq.ensures.value ∙ c.names-test.true in
+    let wire = c.skip-octets.ensures ∙ ap (drop (length label + 1)) (c.names.invariant.wire ∙ ap (λ n. wire_of (lowered n)) parts)
+    ∙ wire_above label next in
     let found = c.in_ok-found.ensures.ok in
     record {
       wire = wire;
       ancestor = ancestor_above a x c.names.left c.names.invariant.ancestor label next parts other;
       inside = found.inside;
       missed = λ L config whole.
-          missed_above _ _ _ _ x c.names.left c.names.cover (c.names.invariant.missed L config whole) label next parts other found.value
-          (hash_known _ _ _ _ found next wire) c.in_ok-found.found.place
-          (of_found _ _ _ _ found a c.requires.apex false c.if-found.false L config whole);
+          missed_above chain.links a p hash x c.names.left c.names.cover (c.names.invariant.missed L config whole) label next parts other found.value
+          (hash_known hash chain octets c.in_ok-found.found found next wire) c.in_ok-found.found.place
+          (of_found hash chain octets c.in_ok-found.found found a c.requires.apex false c.if-found.false L config whole);
     }
 
 pub returns-clause-placed : goal.returns-clause-placed
