@@ -1,8 +1,9 @@
 -- Names that have one hash, found in a list of names in canonical order.
-use Rattle.std.proofs.Common.{◌≡◌, ◌⊎◌, ¬, ℕ, Bool, true, false, cond, List, [], ◌∷◌, ◌++◌, map, refl, sym, ap, ◌∙◌, inl, inr, subst, append-nil, Option, Some, None, Result, Ok, Err, IfErr, IsErrAnd, ◌+◌, ◌<◌, drop, get_or, length, take}
+use Rattle.std.proofs.Common.{◌≡◌, ◌⊎◌, ℕ, Bool, true, false, cond, List, [], ◌∷◌, ◌++◌, map, refl, sym, ap, ◌∙◌, inl, inr, subst, append-nil, Option, Some, None, Bor, is_some, option_map, Result, Ok, Err, IfErr, IsErrAnd, ◌+◌, ◌<◌, drop, get_or, length, take}
 use Rattle.std.specs.Cmp.Lexicographic.{slice_cmp, bytes_decides, nat_list_cmp_total, texts_ties}
 use Rattle.std.specs.List.{find, list_any, AllByRecursion}
-use Rattle.std.specs.Option.{option_or}
+use Rattle.std.specs.Option.{option_copied, option_or}
+use Rattle.std.specs.Prelude.{slice_get}
 use Rattle.std.specs.Ordering.{is_eq, nat_cmp}
 use Rattle.std.proofs.lemmas.Bool.{cases_Bool, false≢true, or_left, or_right}
 use Rattle.std.proofs.lemmas.Cmp.{tied_itself}
@@ -25,7 +26,8 @@ use Rattle.domain_nsec3.specs.Owners.{is_chain_name}
 use Rattle.domain_nsec3.proofs.ListLemmas.{sorted}
 use Rattle.domain_records.specs.declared.error.Nsec3HashError.TheVariants as hash_error
 use Rattle.domain_records.specs.declared.error.Nsec3HashError.{Nsec3HashError}
-use Rattle.domain_alike.specs.Alike.{AreAlike, IsAlike, IsFirstAlike, IsFirstRefusal, Pair}
+use Rattle.domain_alike.specs.Alike.{pair_of, AreAlike, IsAlike, IsFirstAlike, IsFirstPair, IsFirstRefusal, Pair}
+use Rattle.domain_alike.specs.declared.alike.Alike.{Alike}
 use Rattle.domain_alike.specs.AlikeSteps.{first_with, is_hash, pair_with, IsRefusedAmong, Met}
 use Rattle.domain_alike.specs.AlikeSteps.Met.{more, nothing}
 use Rattle.domain_alike.proofs.GatherLemmas.{ascending, ascending_both, in_both, in_last, in_left}
@@ -41,6 +43,16 @@ hash_is (Err n) h e = absurd (false≢true e)
 
 is_hash_so : (answer : HashAnswer) (h : Octets) → answer ≡ Ok h → is_hash answer h ≡ true
 is_hash_so answer h e = ap (λ w. is_hash w h) e ∙ is_itself h
+
+-- ---- what a map has
+
+pub some_of : {A : Type 0} (o : Option (Bor A)) (p : Option A) → is_some o ≡ true → option_copied o ≡ p → (x : A) × (p ≡ Some x)
+some_of None p e h = absurd (cc)
+some_of (Some b) p e h = (b.now, sym h)
+
+pub none_of : {A : Type 0} (o : Option (Bor A)) (p : Option A) → is_some o ≡ false → option_copied o ≡ p → p ≡ None
+none_of None p e h = sym h
+none_of (Some b) p e h = absurd (cc)
 
 -- ---- the first that passes a test
 
@@ -341,6 +353,12 @@ module _ (L : List ZoneRecord) (a : Name) (config : ChainConfig) where
             let found = any_in (λ (q : Pair). same_name q.0 x) (p ∷ ps) (are.each x y cx cy b e) in
             sym (before_left found.0.0 x p.0 (one_lowered found.0.0 x found.2)) ∙ none_before p ps found.0 up.0 found.1;
       }
+
+  pub first_of_pairs : (alikes : List Alike) (first : Option Alike) → first ≡ slice_get alikes 0 → AreAlike L a config (map pair_of alikes)
+      → IsFirstPair L a config (option_map pair_of first)
+  first_of_pairs [] first is are = subst (λ (o : Option Alike). IsFirstPair L a config (option_map pair_of o)) (sym is) (no_pair are)
+  first_of_pairs (x ∷ xs) first is are =
+      subst (λ (o : Option Alike). IsFirstPair L a config (option_map pair_of o)) (sym is) (one_pair (pair_of x) (map pair_of xs) are)
 
 -- ---- refusals
 

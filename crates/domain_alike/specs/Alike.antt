@@ -1,5 +1,5 @@
 -- Names of an NSEC3 chain that hash alike (RFC 5155, section 7.1).
-use Rattle.std.specs.Prelude.{◌≡◌, ¬, ℕ, true, false, All, List, Ok, Err, Option, Some, None, map}
+use Rattle.std.specs.Prelude.{◌≡◌, ℕ, true, false, All, List, Ok, Err, Option, Some, None, map}
 use Rattle.std.specs.List.{list_any}
 use Rattle.std.specs.List.Sorted.{IsStrictlySortedBy}
 use Rattle.domain_octets.specs.Words.{Octets}

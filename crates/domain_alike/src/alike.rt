@@ -1,5 +1,5 @@
 //! Which names of a chain hash alike.
-ghost use Rattle.std.specs.Prelude.{◌≡◌, ◌⊎◌, ℕ, ◌++◌, ◌∷◌, [], List, Ok, Err, IfErr, IfOk, OnOk, map, option_map};
+ghost use Rattle.std.specs.Prelude.{◌≡◌, ◌⊎◌, ℕ, ◌++◌, ◌∷◌, [], List, Ok, Err, IfErr, IfOk, OnOk, map, option_map, slice_get};
 ghost use Rattle.domain_base.specs.Words.{Name};
 ghost use Rattle.domain_lent.specs.Data.{minimum_of};
 ghost use Rattle.domain_nsec3.specs.Config.{Hash, hash_name};
@@ -177,6 +177,13 @@ pub fn alike_names<'a, O: Octets, S, H: Nsec3Hasher>(
     Ok(pairs)
 }
 
+/// The first of these pairs.
+fn first_of<'a>(pairs: Vec<Alike<'a>>) -> Option<Alike<'a>>
+    ensures { result ≡ slice_get pairs.entry.items 0 }
+{
+    pairs.into_iter().next()
+}
+
 /// The first name in canonical order of the NSEC3 chain of sorted records that has the hash of one
 /// before it, with the first that has it. None where no two names have one hash.
 ///
@@ -202,7 +209,7 @@ pub fn first_alike<'a, O: Octets, S, H: Nsec3Hasher>(
         (config_of (H.answer hasher.now) config.now) n)) }
 {
     match alike_names(alloc, apex, sorted, config, hasher) {
-        Ok(pairs) => Ok(pairs.into_iter().next()),
+        Ok(pairs) => Ok(first_of(pairs)),
         Err(error) => Err(error),
     }
 }
