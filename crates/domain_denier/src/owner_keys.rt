@@ -46,15 +46,15 @@ impl OwnerKeys {
         })
     }
 
-    /// How many keys are below this one, or not above it. The samples tell in which run they end.
-    fn count(&self, key: u128, is_up_to: bool) -> usize {
-        let is_before = |other: &u128| *other < key || is_up_to && *other == key;
-        let runs = self.samples.partition_point(is_before);
+    /// How many keys are not above this one. The samples tell in which run they end.
+    fn count_up_to(&self, key: u128) -> usize {
+        let is_in = |other: &u128| *other <= key;
+        let runs = self.samples.partition_point(is_in);
         let start = runs.saturating_sub(1).saturating_mul(RUN);
         match self.keys.get(start..) {
             Some(keys) => {
                 let run = &keys[..keys.len().min(RUN)];
-                start.saturating_add(run.partition_point(is_before))
+                start.saturating_add(run.partition_point(is_in))
             }
             None => start,
         }
@@ -63,12 +63,15 @@ impl OwnerKeys {
     /// How many owners have a key below that of a name, and how many have none above it.
     pub(crate) fn places_of<M: ToName>(&self, name: &M) -> (usize, usize) {
         let key = owner_key(name, self.shared);
-        (self.count(key, false), self.count(key, true))
+        let below = key
+            .checked_sub(1)
+            .map_or(0, |before| self.count_up_to(before));
+        (below, self.count_up_to(key))
     }
 
     /// The last place whose key is not above that of a name.
     pub(crate) fn place_near<M: ToName>(&self, name: &M) -> Option<usize> {
-        self.count(owner_key(name, self.shared), true)
+        self.count_up_to(owner_key(name, self.shared))
             .checked_sub(1)
     }
 }
