@@ -1,5 +1,5 @@
 -- What is answered of names that hash alike.
-use Rattle.std.proofs.Common.{◌≡◌, ℕ, ◌≤◌, List, length, refl, sym, subst, Option}
+use Rattle.std.proofs.Common.{◌≡◌, ℕ, ◌≤◌, List, length, sym, subst, Option}
 use Rattle.domain_alike.specs.Alike.{IsFirstPair, Pair}
 use Rattle.domain_base.specs.Words.{Name}
 use Rattle.domain_lent.specs.Data.{minimum_of, RawRecord}

@@ -10,7 +10,6 @@ use Rattle.std.proofs.lemmas.List.Folds.{list_any-append}
 use Rattle.domain_alike.specs.Covered.{covered_names}
 use Rattle.domain_alike.proofs.KeptLemmas.{names_stay, stays}
 use Rattle.domain_base.specs.Name.{same_name}
-use Rattle.domain_base.specs.Types.{ds}
 use Rattle.domain_base.specs.Words.{Name}
 use Rattle.domain_dnssec.proofs.AmongLemmas.{any_two, contains_in, in_contains, in_filter, in_filtered, in_map, map_in}
 use Rattle.domain_lent.specs.Data.{minimum_of, RawRecord}
@@ -19,7 +18,7 @@ use Rattle.domain_lent.proofs.WireLemmas.{same_record, some_octets}
 use Rattle.domain_nsec3.specs.Owners.{is_unsigned_cut}
 use Rattle.domain_zone.specs.Owners.{OwnerRecords, owner_at, owners_with_records}
 use Rattle.domain_zone.specs.View.{as_zone_record, zone_of}
-use Rattle.domain_zone.specs.Zone.{ZoneRecord, clashes, has_clash, has_type, has_unequal_ttls, records_of, unoccluded_owners}
+use Rattle.domain_zone.specs.Zone.{ZoneRecord, clashes, has_clash, has_unequal_ttls, records_of, unoccluded_owners}
 use Rattle.domain_zone.proofs.GivenLemmas.{name_of, next_is_owner}
 use Rattle.domain_zone.proofs.OwnerLemmas.{in_any}
 use Rattle.domain_zone.proofs.PairLemmas.{In, all_in, all_from_in}

@@ -1,5 +1,5 @@
 -- What is told with parameters and without.
-use Rattle.std.proofs.Common.{◌≡◌, ℕ, List, ◌++◌, refl, sym, ap, ◌∙◌, subst, append-nil, Option, Some, None}
+use Rattle.std.proofs.Common.{◌≡◌, ◌⊎◌, ℕ, List, ◌++◌, refl, sym, ap, ◌∙◌, subst, append-nil, Option, Some, None}
 use Rattle.domain_octets.specs.Words.{Octets}
 use Rattle.domain_base.specs.Words.{Name, Tokens}
 use Rattle.domain_lent.specs.Data.{RawRecord}
@@ -8,6 +8,8 @@ use Rattle.domain_records.specs.declared.error.Nsec3HashError.TheVariants as has
 use Rattle.domain_records.specs.declared.error.SigningError.{SigningError}
 use Rattle.domain_records.specs.declared.error.SigningError.TheVariants as signing_error
 use Rattle.denial_program.specs.Command.{Params}
+use Rattle.denial_program.specs.declared.fault.DenialFault.{DenialFault}
+use Rattle.denial_program.specs.declared.fault.DenialFault.TheVariants.{OutOfMemory as Memory, Signing}
 use Rattle.domain_alike.specs.Alike.{Pair}
 use Rattle.lint_program.specs.Alike.{alike_text, AreTold, IsRefusalBy}
 use Rattle.lint_program.specs.Command.{Asks, IsHashedCommand}
@@ -54,3 +56,8 @@ refused_of answers words lines bad numbers records apex (Some p) n e asks are is
   is = is;
   refusal = refusal;
 }
+
+-- no memory, or the refusal of a number
+abbrev pub IsRefusedBy : (ℕ → Type 0) → DenialFault → Type 0
+IsRefusedBy refused e =
+    (e ≡ Memory) ⊎ ((n : ℕ) × (e ≡ Signing (signing_error.Nsec3HashingError (hash_error.Hasher n))) × refused n)

@@ -1,9 +1,7 @@
 use Rattle.std.proofs.Common.{◌≡◌, ◌&&◌, List, inl, inr, map, refl, sym, ap, subst}
 use Rattle.domain_base.specs.Words.{Name}
 use Rattle.domain_lent.specs.Data.{minimum_of}
-use Rattle.domain_nsec3.specs.Ancestors.{IsListOf}
 use Rattle.domain_nsec3.specs.Config.{excludes}
-use Rattle.domain_nsec3.specs.Owners.{is_chain_name}
 use Rattle.domain_nsec3.specs.View.{config_of}
 use Rattle.domain_zone.specs.View.{zone_of}
 use Rattle.domain_alike.specs.Alike.{pair_of, IsFirstRefusal}

@@ -1,4 +1,4 @@
-use Rattle.std.proofs.Common.{◌≡◌, ◌∙◌, ◌++◌, ◌==◌, ap, arith, inl, inr, length, map, option_map, refl, string_bytes, subst, sym, vec_len, Err, IsErrAnd, IsErrOf, MatchResult, Ok, Option, Result}
+use Rattle.std.proofs.Common.{◌≡◌, ◌∙◌, ◌++◌, ◌==◌, ap, arith, inl, inr, length, map, refl, string_bytes, subst, sym, vec_len, Err, IsErrAnd, IsErrOf, MatchResult, Ok, Option, Result}
 use Rattle.std.proofs.lemmas.List.{length-map}
 use Rattle.std.specs.Str.Lines.{lines}
 use Rattle.std.specs.Io.KnownBytes.{Appends}

@@ -1,0 +1,15 @@
+use Rattle.std.proofs.Common.{List, inl, inr, map, refl, subst, sym}
+use Rattle.domain_alike.specs.Alike.{pair_of, AreAlike, IsFirstRefusal}
+use Rattle.domain_lent.specs.Data.{minimum_of}
+use Rattle.domain_nsec3.specs.Config.{ChainConfig}
+use Rattle.domain_zone.specs.View.{zone_of}
+use Rattle.denial_program.proofs.AnswerLemmas.{usual_is}
+use Rattle.lint_program.proofs.alike.alike_in.Goals as goal
+
+pub returns-in-Ok-clause-ok : goal.returns-in-Ok-clause-ok
+returns-in-Ok-clause-ok g c =
+    let answers = g.H.Nsec3Hasher.answer c.args.hasher.now in
+    subst (λ (k : ChainConfig). AreAlike (zone_of (λ n. n) (λ d. d.rtype) minimum_of c.args.sorted.now) c.args.apex.now k
+    (map pair_of c.in-Ok.pairs.items))
+    (usual_is answers c.new-config.result c.args.parameters c.new-config.ensures.params c.new-config.ensures.dnskeys
+    c.new-config.ensures.excludes c.new-config.ensures.dnames) c.in-Ok.ensures.ok
