@@ -71,12 +71,12 @@ pub fn alike_of<'a, H: Nsec3Hasher>(
 ) -> Result<Vec<Alike<'a>>, DenialFault>
     requires { IsUsable zone.now }
     ensures ok { IfOk result (λ pairs. (given : List RawRecord) → IsZone given zone.now
-        → AreTold (H.answer hasher.now) given apex.now parameters.entry
+        → AreTold (H.answer hasher.now) given apex.now parameters
         (map pair_of pairs.items)) }
     ensures err { IfErr result (λ e. (e ≡ Memory) ⊎ ((n : ℕ)
         × (e ≡ Signing (signing_error.Nsec3HashingError (hash_error.Hasher n)))
         × ((given : List RawRecord) → IsZone given zone.now
-        → IsRefusalBy (H.answer hasher.now) given apex.now parameters.entry n))) }
+        → IsRefusalBy (H.answer hasher.now) given apex.now parameters n))) }
 {
     let Some(parameters) = parameters else {
         return Ok(Vec::new(alloc));
