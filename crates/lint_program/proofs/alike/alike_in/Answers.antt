@@ -1,5 +1,5 @@
-use Rattle.std.proofs.Common.{List, inl, inr, map, refl, subst, sym}
-use Rattle.domain_alike.specs.Alike.{pair_of, AreAlike, IsFirstRefusal}
+use Rattle.std.proofs.Common.{map, subst}
+use Rattle.domain_alike.specs.Alike.{pair_of, AreAlike}
 use Rattle.domain_lent.specs.Data.{minimum_of}
 use Rattle.domain_nsec3.specs.Config.{ChainConfig}
 use Rattle.domain_zone.specs.View.{zone_of}

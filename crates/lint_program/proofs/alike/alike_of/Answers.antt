@@ -42,7 +42,7 @@ returns-in_err-pairs-in-Sorted-clause-err g c =
     let p : Params = c.in-Some.parameters in
     if_err_of
     (IsRefusedBy (λ n. (given : List RawRecord) → IsZone given c.args.zone.now → IsRefusalBy answers given apex c.args.parameters n))
-    c.in_err-pairs-in-Sorted.field-0.0 c.from_residual-in_err-pairs-in-Sorted.result c.from_residual-in_err-pairs-in-Sorted.ensures.1
+    c.in_err-pairs-in-Sorted.field-0.0 c.from_residual.result c.from_residual.ensures.1
     (elim c.in_err-pairs-in-Sorted.ensures.err [
       | inl none ↦ inl none
       | inr r ↦ inr (
