@@ -8,7 +8,7 @@
  * NSEC3, denial_judge_nsec3_expansion_alone. denial_check_nsec and denial_check_nsec3_alone tell of one
  * name and one type alone. Who has the zone's NSEC3PARAM record calls denial_judge_nsec3,
  * denial_judge_nsec3_expansion and denial_check_nsec3. A signer calls denial_nsec_chain or
- * denial_nsec3_chain.
+ * denial_nsec3_chain, and where the latter answers DENIAL_COLLISION, denial_nsec3_collision.
  *
  * These functions look at no signature. Hand in only records whose signatures you have verified with
  * the keys of the zone at the apex, and take the apex from the signer's name in these signatures.
@@ -16,11 +16,12 @@
  *
  * Ownership. Each pointer is borrowed for the time of the call. Nothing that is handed in is kept,
  * written to or freed, but for the numbers at `labels` and `count`, the pointer at `text` and the
- * octets at `chain`, which are written. Nothing is handed out that must be freed.
+ * octets at `chain`, `earlier` and `later`, which are written. Nothing is handed out that must be freed.
  *
- * Pointers. Octets of length 0 may be null, and so may `labels` and `count`; no other pointer may. `labels`,
- * `count` and `chain` point to no octet that another pointer reaches. No length may be over PTRDIFF_MAX. Who
- * calls what the library exports from another language than C or C++ hands in no null pointer at all.
+ * Pointers. Octets of length 0 may be null, and so may `labels`, `count`, `earlier` and `later`; no other
+ * pointer may. `labels`, `count`, `chain`, `earlier` and `later` point to no octet that another pointer
+ * reaches. No length may be over PTRDIFF_MAX. Who calls what the library exports from another language than
+ * C or C++ hands in no null pointer at all.
  *
  * Threads. There is no state: calls may run at the same time in any threads.
  */
@@ -36,7 +37,7 @@ extern "C" {
 #endif
 
 /* The version that this header belongs to, as denial_version gives it. */
-#define DENIAL_VERSION 500
+#define DENIAL_VERSION 600
 
 /*
  * What denial_judge_nsec, denial_judge_nsec3 and denial_judge_nsec3_expansion answer: one of these, or
@@ -117,6 +118,13 @@ enum denial_judgement {
 enum denial_chain {
     /* The chain was written. */
     DENIAL_CHAIN_MADE = 48
+};
+
+/* What denial_nsec3_collision answers where no two names of a chain have one hash; where two have, it
+ * answers DENIAL_COLLISION with their names, else another fault of `enum denial_answer`. */
+enum denial_collision {
+    /* No two names of the chain hash alike. */
+    DENIAL_NO_COLLISION = 49
 };
 
 /* What a call to check answers: a verdict, which is below DENIAL_FAULT; and the faults of all calls. */
@@ -201,7 +209,8 @@ enum denial_answer {
     /* The owner of a hash, 33 octets before the apex, would be longer than a name may be. */
     DENIAL_LONG_OWNER = 27,
 
-    /* Two names of the chain have one hash (RFC 5155, section 7.1): take another salt. */
+    /* Two names of the chain have one hash (RFC 5155, section 7.1): take another salt.
+     * denial_nsec3_collision says which. */
     DENIAL_COLLISION = 28
 };
 
@@ -460,6 +469,46 @@ uint32_t denial_nsec3_chain(const uint8_t *apex, size_t apex_length,
                             uint8_t *chain, size_t chain_length,
                             size_t *count);
 
+/* How many octets a name has at most (RFC 1035, section 2.3.4). */
+#define DENIAL_NAME_ROOM 255
+
+/*
+ * Which two names of the NSEC3 chain of a zone hash alike, so that denial_nsec3_chain has no chain and
+ * answers DENIAL_COLLISION. Of the names of the chain, which are its owners and the empty non-terminals
+ * above them, it is the first in canonical order that has the hash of one before it, and the first that has
+ * this hash. Parameters are those of denial_nsec3_chain, but for these:
+ *
+ *   earlier, later
+ *                a buffer of DENIAL_NAME_ROOM octets for each of the two names; `earlier` comes first in
+ *                canonical order (RFC 4034, section 6.1). A name is written to the beginning, as it stands
+ *                in a message without compression and in lower case; what follows it stays. Its last octet
+ *                is the 0 of the root: denial_name_length gives its length. Either may be null.
+ *
+ * Whether DNSKEY is assumed tells nothing of names, and is not asked. Answers DENIAL_COLLISION with the
+ * names, or DENIAL_NO_COLLISION, or a fault, of which the first that stands is told in this order:
+ * DENIAL_BAD_APEX; DENIAL_LONG_SALT; DENIAL_BAD_RECORDS or DENIAL_OTHER_CLASS, whichever comes first in the
+ * octets. SOA records, TTLs and the length of hashed owners are not looked at. DENIAL_OUT_OF_MEMORY may come
+ * in place of the last two and of an answer. Without names the buffers stay as they were.
+ *
+ * Takes memory as denial_judge_nsec does: 48 octets and more for each record, and more for each name and its
+ * hash.
+ */
+uint32_t denial_nsec3_collision(const uint8_t *apex, size_t apex_length,
+                                uint16_t rclass, bool occlude_below_dname,
+                                uint16_t iterations, const uint8_t *salt, size_t salt_length, bool opt_out,
+                                const uint8_t *records, size_t records_length,
+                                uint8_t *earlier, uint8_t *later);
+
+/* How many octets a name has, from the octet at `name` to the 0 of the root. */
+static inline size_t denial_name_length(const uint8_t *name)
+{
+    size_t at = 0;
+
+    while (name[at] != 0)
+        at += 1 + (size_t)name[at];
+    return at + 1;
+}
+
 /*
  * Hands the records of a chain, as denial_nsec_chain or denial_nsec3_chain wrote them, to a function one after another, until
  * that answers something other than 0; gives what it answered last, and 0 where there are no records.
@@ -487,8 +536,8 @@ static inline int denial_each_record(const uint8_t *chain, size_t length,
 
 /*
  * What the library exports takes no null pointer. In C and C++ the calls above go through the functions
- * below, which hand it a number or an octet of their own in the place of one: so octets of length 0 may be
- * null, and so may `labels` and `count`, where nothing is written then.
+ * below, which hand it a number or octets of their own in the place of one: so octets of length 0 may be
+ * null, and so may `labels`, `count`, `earlier` and `later`, where nothing is written then.
  */
 static inline const uint8_t *denial_octets(const uint8_t *octets)
 {
@@ -638,6 +687,22 @@ static inline uint32_t denial_nsec3_chain_or_null(const uint8_t *apex, size_t ap
                               count != NULL ? count : &number);
 }
 
+static inline uint32_t denial_nsec3_collision_or_null(const uint8_t *apex, size_t apex_length,
+                                                      uint16_t rclass, bool occlude_below_dname,
+                                                      uint16_t iterations, const uint8_t *salt,
+                                                      size_t salt_length, bool opt_out,
+                                                      const uint8_t *records, size_t records_length,
+                                                      uint8_t *earlier, uint8_t *later)
+{
+    uint8_t first[DENIAL_NAME_ROOM] = {0};
+    uint8_t second[DENIAL_NAME_ROOM] = {0};
+
+    return denial_nsec3_collision(denial_octets(apex), apex_length, rclass, occlude_below_dname, iterations,
+                                  denial_octets(salt), salt_length, opt_out, denial_octets(records),
+                                  records_length, earlier != NULL ? earlier : first,
+                                  later != NULL ? later : second);
+}
+
 #define denial_judge_nsec(...) denial_judge_nsec_or_null(__VA_ARGS__)
 #define denial_judge_nsec3(...) denial_judge_nsec3_or_null(__VA_ARGS__)
 #define denial_judge_nsec3_alone(...) denial_judge_nsec3_alone_or_null(__VA_ARGS__)
@@ -648,6 +713,7 @@ static inline uint32_t denial_nsec3_chain_or_null(const uint8_t *apex, size_t ap
 #define denial_check_nsec3_alone(...) denial_check_nsec3_alone_or_null(__VA_ARGS__)
 #define denial_nsec_chain(...) denial_nsec_chain_or_null(__VA_ARGS__)
 #define denial_nsec3_chain(...) denial_nsec3_chain_or_null(__VA_ARGS__)
+#define denial_nsec3_collision(...) denial_nsec3_collision_or_null(__VA_ARGS__)
 
 #ifdef __cplusplus
 }
