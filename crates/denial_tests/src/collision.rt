@@ -4,7 +4,7 @@ use denial_program::sort_zone;
 use domain_alike::{first_alike, write_lowered};
 use domain_base::{ParsedName, ToName};
 use domain_dnssec::{GenerateNsec3Config, InPlaceSorter, Nsec3Hasher, Parser, Sha1Hasher};
-use domain_lent::read_record;
+use domain_lent::{LentRecord, read_record};
 use std::alloc::Global;
 use std::test::Fail;
 
@@ -33,8 +33,51 @@ fn octets_of(alloc: Global, rows: &[Row]) -> Result<Vec<u8>, Fail> {
     Ok(octets)
 }
 
-/// What is written of two names that hash alike, the earlier one first, each with the octet after
-/// it; nothing where there are none.
+/// The records that the octets are, so many.
+fn records_in<'a>(
+    alloc: Global,
+    octets: &'a [u8],
+    count: usize,
+) -> Result<Vec<LentRecord<'a>>, Fail> {
+    let mut parser = Parser::new(octets);
+    let mut records = Vec::new(alloc);
+    for _place in 0..count {
+        match read_record(&mut parser) {
+            Some(record) => records.push(record)?,
+            None => Err("no record")?,
+        }
+    }
+    Ok(records)
+}
+
+/// Writes a name as it is hashed, with the octet after it in the buffer.
+fn put_name(name: &ParsedName<'_>, written: &mut Vec<u8>) -> Result<(), Fail> {
+    let mut buffer = [0xee; 255];
+    write_lowered(name, &mut buffer);
+    let count = name.as_wire().len().saturating_add(1);
+    match buffer.get(..count) {
+        Some(octets) => written.extend_from_slice(octets)?,
+        None => Err("no octet after it")?,
+    }
+    Ok(())
+}
+
+/// The parameters of a chain.
+fn config_with(
+    alloc: Global,
+    opt_out: bool,
+    below_dname: bool,
+) -> GenerateNsec3Config<Vec<u8>, InPlaceSorter> {
+    let mut config = GenerateNsec3Config::default(alloc);
+    config.occlude_below_dname = below_dname;
+    if opt_out {
+        config.params.set_opt_out_flag();
+    }
+    config
+}
+
+/// What is written of two names that hash alike, the earlier one first; nothing where there are
+/// none.
 fn told<H: Nsec3Hasher>(
     alloc: Global,
     rows: &[Row],
@@ -43,31 +86,15 @@ fn told<H: Nsec3Hasher>(
     hasher: &H,
 ) -> Result<Vec<u8>, Fail> {
     let octets = octets_of(alloc, rows)?;
-    let mut parser = Parser::new(octets.as_slice());
-    let mut records = Vec::new(alloc);
-    for _row in rows {
-        match read_record(&mut parser) {
-            Some(record) => records.push(record)?,
-            None => Err("no record")?,
-        }
-    }
+    let records = records_in(alloc, &octets, rows.len())?;
     let sorted = sort_zone(records).map_err(|_| "no zone")?;
     let apex = ParsedName::from_slice(b"\x01A\0").map_err(|_| "no name")?;
-    let mut config: GenerateNsec3Config<Vec<u8>, InPlaceSorter> = GenerateNsec3Config::default(
-        alloc,
-    );
-    config.occlude_below_dname = below_dname;
-    if opt_out {
-        config.params.set_opt_out_flag();
-    }
+    let config = config_with(alloc, opt_out, below_dname);
     let mut written = Vec::new(alloc);
     match first_alike(alloc, &apex, &sorted, &config, hasher) {
         Ok(Some(alike)) => {
-            for name in [&alike.first, &alike.later] {
-                let mut buffer = [0xee; 255];
-                write_lowered(name, &mut buffer);
-                written.extend_from_slice(&buffer[..name.as_wire().len() + 1])?;
-            }
+            put_name(&alike.first, &mut written)?;
+            put_name(&alike.later, &mut written)?;
         }
         Ok(None) => {}
         Err(_) => Err("a fault")?,
