@@ -260,7 +260,22 @@ static void make_chain(int is_hashed, const uint8_t *at[3])
     exit(1);
 }
 
-/* Makes both chains of the message. */
+/* Asks which names of the NSEC3 chain hash alike: by SHA-1 none do, or what is handed in has a fault that the
+ * chain has too. The octets of the name are the salt. */
+static void ask_collision(const uint8_t *at[3])
+{
+    uint8_t earlier[DENIAL_NAME_ROOM] = {0}, later[DENIAL_NAME_ROOM] = {0};
+    uint32_t said = denial_nsec3_collision(at[0], apex.length, 1, below(2) == 0, (uint16_t)below(4), at[1], name.length, below(2) == 0,
+                                           at[2], message.length, earlier, later);
+
+    answers[said]++;
+    if ((said == DENIAL_NO_COLLISION || is_chain_fault(IS_HASHED, said)) && earlier[0] == 0 && later[0] == 0)
+        return;
+    printf("differs: a collision: %u\n", (unsigned)said);
+    exit(1);
+}
+
+/* Makes both chains of the message, and asks for names that hash alike. */
 static void make_chains(void)
 {
     const uint8_t *at[3];
@@ -270,6 +285,7 @@ static void make_chains(void)
     at[2] = place(&guards[2], &message);
     make_chain(0, at);
     make_chain(IS_HASHED, at);
+    ask_collision(at);
 }
 
 /* Takes the owner of a record of the seed for the name, with a label before it at times. */
