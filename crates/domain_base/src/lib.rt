@@ -46,5 +46,5 @@ pub use parsed::ParsedName;
 pub use rtype::Rtype;
 pub use scanner::{FromToken, IterScanner, Scanner};
 pub use serial::Serial;
-pub use to_name::{MakeName, ToName};
+pub use to_name::{Comparison, MakeName, ToName};
 pub use ttl::Ttl;
