@@ -19,11 +19,20 @@ use Rattle.domain_nsec.specs.declared.config.GenerateNsecConfig.{GenerateNsecCon
 use Rattle.domain_records.specs.Order.{IsOneClass}
 use Rattle.domain_zone.specs.View.{zone_of}
 use Rattle.domain_zone.specs.Zone.{ZoneRecord}
-use Rattle.denial_c.specs.Chains.{nsec_asking, nsec3_asking, nsecs_octets, nsec3s_octets, AreZone, Asking, HasHashedZoneFault, HasUnevenAt, HasZoneFault, IsChainFault, IsChainResult, IsGivenFault, IsNsecChain, IsNsec3Chain, IsSortedNsecFault, IsSortedNsec3Fault, IsSortedUnevenAt, IsWritten, Sorts}
+use Rattle.denial_c.specs.Chains.{nsec_asking, nsec3_asking, nsecs_octets, nsec3s_octets, AreZone}
+use Rattle.denial_c.specs.Chains.{Asking, HasHashedZoneFault, HasUnevenAt, HasZoneFault, IsChainFault}
+use Rattle.denial_c.specs.Chains.{IsChainResult, IsGivenFault, IsNsecChain, IsNsec3Chain, IsSortedNsecFault}
+use Rattle.denial_c.specs.Chains.{IsSortedNsec3Fault, IsSortedUnevenAt, IsWritten, Sorts}
 use Rattle.denial_c.specs.Given.{AreGiven, HasNoRecordAt, HasOtherClassAt}
 use Rattle.denial_c.specs.Result.{Spells}
 use Rattle.denial_c.specs.declared.chain_fault.ChainFault.{ChainFault}
-use Rattle.denial_c.specs.declared.chain_fault.ChainFault.TheVariants.{Apex, Records, Class, Soa, Ttls, LongSalt, LongOwner, Collision, ShortBuffer, OutOfMemory}
+use Rattle.denial_c.specs.declared.chain_fault.ChainFault.TheVariants.{Apex, Records}
+use Rattle.denial_c.specs.declared.chain_fault.ChainFault.TheVariants.{Class, Soa}
+use Rattle.denial_c.specs.declared.chain_fault.ChainFault.TheVariants.{Ttls, LongSalt}
+use Rattle.denial_c.specs.declared.chain_fault.ChainFault.TheVariants.{LongOwner}
+use Rattle.denial_c.specs.declared.chain_fault.ChainFault.TheVariants.{Collision}
+use Rattle.denial_c.specs.declared.chain_fault.ChainFault.TheVariants.{ShortBuffer}
+use Rattle.denial_c.specs.declared.chain_fault.ChainFault.TheVariants.{OutOfMemory}
 
 -- NSEC data of a bitmap that a builder makes are short
 pub nsec_short : (next : Name) (bits : List ℕ) → length (wire_of next) ≤ 255 → length bits ≤ 8704 → length (octets_of nsec (next, bits)) ≤ 65535
@@ -98,7 +107,8 @@ module _ (apex : List ℕ) (class : ℕ) (config : GenerateNsecConfig) (records 
   nsec_fault a sorted buffer s number same OutOfMemory h = (tt, (a, (s.given, s.zone)))
 
   pub nsec_made : (a : Name) (sorted : List RawRecord) (written : List ℕ) (links : List Link) → IsSorted apex class records a sorted
-      → IsChain (zone_of (λ n. n) (λ d. d.rtype) minimum_of sorted) a config links → written ≡ nsecs_octets links → IsNsecChain apex class config records written
+      → IsChain (zone_of (λ n. n) (λ d. d.rtype) minimum_of sorted) a config links → written ≡ nsecs_octets links
+      → IsNsecChain apex class config records written
   nsec_made a sorted written links s chain is = record {
     a = a;
     given = s.given;
@@ -120,7 +130,8 @@ module _ (apex : List ℕ) (class : ℕ) (config : ChainConfig) (records : List 
   }
 
   pub nsec3_fault : (a : Name) (sorted : List RawRecord) (buffer : List ℕ) → IsSorted apex class records a sorted → (number : ℕ) → number ≡ class
-      → (e : ChainFault) → IsSortedNsec3Fault number records sorted a config e → IsChainFault (nsec3_asking apex class config records) apex class records buffer e
+      → (e : ChainFault) → IsSortedNsec3Fault number records sorted a config e → IsChainFault
+      (nsec3_asking apex class config records) apex class records buffer e
   nsec3_fault a sorted buffer s number same Apex h = absurd h
   nsec3_fault a sorted buffer s number same (Records n) h = absurd h
   nsec3_fault a sorted buffer s number same (Class n) h = absurd h

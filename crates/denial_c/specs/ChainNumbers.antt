@@ -2,7 +2,13 @@
 -- sees.
 use Rattle.std.specs.Prelude.{ℕ, Bool, true, false, Result, Ok, Err}
 use Rattle.denial_c.specs.declared.chain_fault.ChainFault.{ChainFault}
-use Rattle.denial_c.specs.declared.chain_fault.ChainFault.TheVariants.{Apex, Records, Class, Soa, Ttls, LongSalt, LongOwner, Collision, ShortBuffer, OutOfMemory}
+use Rattle.denial_c.specs.declared.chain_fault.ChainFault.TheVariants.{Apex, Records}
+use Rattle.denial_c.specs.declared.chain_fault.ChainFault.TheVariants.{Class, Soa}
+use Rattle.denial_c.specs.declared.chain_fault.ChainFault.TheVariants.{Ttls, LongSalt}
+use Rattle.denial_c.specs.declared.chain_fault.ChainFault.TheVariants.{LongOwner}
+use Rattle.denial_c.specs.declared.chain_fault.ChainFault.TheVariants.{Collision}
+use Rattle.denial_c.specs.declared.chain_fault.ChainFault.TheVariants.{ShortBuffer}
+use Rattle.denial_c.specs.declared.chain_fault.ChainFault.TheVariants.{OutOfMemory}
 
 -- the faults that verdicts have too have the same numbers
 abbrev pub chain_fault_number : ChainFault → ℕ

@@ -14,7 +14,9 @@ use Rattle.domain_lent.specs.Data.{RawRecord, data_cmp, minimum_of}
 use Rattle.domain_records.specs.Errors.{sort_error}
 use Rattle.domain_records.specs.Order.{IsOneClass}
 use Rattle.domain_dnssec.proofs.KeptLemmas.{classes_kept}
-use Rattle.denial_program.specs.Answer.{fault_of_chain, usual_nsec3_config, HasNoAnswer, HasNoNsecs, HasNoNsec3s, IsAnswer, IsNsecs, IsNsec3s, IsUnsorted, IsUnwritten, Sorts}
+use Rattle.denial_program.specs.Answer.{fault_of_chain, usual_nsec3_config, HasNoAnswer}
+use Rattle.denial_program.specs.Answer.{HasNoNsecs, HasNoNsec3s, IsAnswer, IsNsecs, IsNsec3s}
+use Rattle.denial_program.specs.Answer.{IsUnsorted, IsUnwritten, Sorts}
 use Rattle.denial_program.specs.Command.{Params}
 use Rattle.denial_program.specs.declared.answer.Reply.{Reply}
 use Rattle.denial_program.specs.declared.command.Command.{Command}

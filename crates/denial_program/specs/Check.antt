@@ -23,7 +23,15 @@ use Rattle.denial_program.specs.declared.answer.Reply.{Reply}
 use Rattle.denial_program.specs.declared.answer.Reply.TheVariants as answers
 use Rattle.denial_program.specs.declared.command.Question.{Question}
 use Rattle.denial_program.specs.declared.fault.DenialFault.{DenialFault}
-use Rattle.denial_program.specs.declared.fault.DenialFault.TheVariants.{Usage, Read, Line, Unprepared, MixedClasses, Signing, Param, Write, OutOfMemory}
+use Rattle.denial_program.specs.declared.fault.DenialFault.TheVariants.{Usage}
+use Rattle.denial_program.specs.declared.fault.DenialFault.TheVariants.{Read}
+use Rattle.denial_program.specs.declared.fault.DenialFault.TheVariants.{Line}
+use Rattle.denial_program.specs.declared.fault.DenialFault.TheVariants.{Unprepared}
+use Rattle.denial_program.specs.declared.fault.DenialFault.TheVariants.{MixedClasses}
+use Rattle.denial_program.specs.declared.fault.DenialFault.TheVariants.{Signing}
+use Rattle.denial_program.specs.declared.fault.DenialFault.TheVariants.{Param}
+use Rattle.denial_program.specs.declared.fault.DenialFault.TheVariants.{Write}
+use Rattle.denial_program.specs.declared.fault.DenialFault.TheVariants.{OutOfMemory}
 
 -- what records give, in their order: one thing each that is such, and none those that are not
 abbrev pub AreAmong : {K : Type 0} → (RawRecord → K → Type 0) → List RawRecord → List K → Type 0

@@ -1,5 +1,7 @@
 -- The owners of a list in order and the names above them, gathered one owner after another.
-use Rattle.std.proofs.Common.{◌≡◌, ◌⊎◌, ℕ, ◌+◌, ◌<◌, ◌≤◌, Bool, true, false, cond, not, ◌&&◌, ◌||◌, List, [], ◌∷◌, ◌++◌, length, refl, sym, ap, ◌∙◌, arith, inl, inr, subst, append-nil, append_assoc}
+use Rattle.std.proofs.Common.{◌≡◌, ◌⊎◌, ℕ, ◌+◌, ◌<◌, ◌≤◌, Bool, true, false, cond, not, ◌&&◌, ◌||◌}
+use Rattle.std.proofs.Common.{List, [], ◌∷◌, ◌++◌, length, refl, sym, ap, ◌∙◌, arith, inl, inr, subst}
+use Rattle.std.proofs.Common.{append-nil, append_assoc}
 use Rattle.std.specs.Prelude.{All, filter, nat_le, nat_lt}
 use Rattle.std.specs.List.{AllByRecursion, list_any}
 use Rattle.std.specs.List.Sorted.{IsStrictlySortedBy}
@@ -14,7 +16,9 @@ use Rattle.domain_base.specs.Order.{before, canonical_cmp}
 use Rattle.domain_base.specs.Words.{Label, Name}
 use Rattle.domain_zone.specs.Enclosers.{exists_over}
 use Rattle.domain_zone.specs.Zone.{ZoneRecord, OwnersNeverDescend, is_occluded, is_unoccluded, owns, unoccluded_owners}
-use Rattle.domain_zone.proofs.NameLemmas.{before_order, one_lowered, same_itself, below_itself, below_trans, below_from, below_between, below_longer, below_length, below_parent, lowered_below}
+use Rattle.domain_zone.proofs.NameLemmas.{before_order, one_lowered, same_itself, below_itself}
+use Rattle.domain_zone.proofs.NameLemmas.{below_trans, below_from, below_between, below_longer}
+use Rattle.domain_zone.proofs.NameLemmas.{below_length, below_parent, lowered_below}
 use Rattle.domain_zone.proofs.OwnerLemmas.{any_in, in_any, owners_are, owners_ascend}
 use Rattle.domain_zone.proofs.PairLemmas.{In, IsAscending, all_in, le_lt}
 use Rattle.domain_zone.proofs.SharedLemmas.{either_way}

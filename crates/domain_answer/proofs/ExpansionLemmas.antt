@@ -26,7 +26,9 @@ use Rattle.domain_checker.proofs.EncloserLemmas.{closest_is}
 use Rattle.domain_checker.proofs.FindLemmas.{any_none, find_none, find_some}
 use Rattle.domain_answer.specs.declared.answer.Answer.{Answer}
 use Rattle.domain_answer.specs.declared.answer.Answer.TheVariants.{MayBeUnsigned, NoCloserName, NotProven}
-use Rattle.domain_answer.specs.Expansion.{ExpansionRestsOn, IsExpansionAnswered, IsExpansionRead, closer_name, closer_told, is_expanded, proved_expansion}
+use Rattle.domain_answer.specs.Expansion.{ExpansionRestsOn, IsExpansionAnswered}
+use Rattle.domain_answer.specs.Expansion.{IsExpansionRead, closer_name, closer_told}
+use Rattle.domain_answer.specs.Expansion.{is_expanded, proved_expansion}
 use Rattle.domain_answer.specs.HashedReading.{next_answer}
 use Rattle.domain_answer.specs.HashedZoneAnswer.{hashed_encloser, hashed_exists}
 use Rattle.domain_answer.specs.Proved.{CountsWithin, last_labels}

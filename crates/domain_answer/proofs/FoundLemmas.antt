@@ -1,11 +1,14 @@
 -- Tests of one NSEC record, and what was found of a name.
-use Rattle.std.proofs.Common.{◌≡◌, ℕ, ◌≤◌, true, List, map, drop, length, Option, Some, None, sym, refl, ◌∙◌}
+use Rattle.std.proofs.Common.{◌≡◌, ℕ, ◌≤◌, Bool, true, false, cond, not, ◌&&◌, ◌||◌, List, map, drop, length, Option, Some, None, sym, ap, refl, ◌∙◌}
 use Rattle.std.specs.List.{find}
-use Rattle.std.specs.Option.{option_or}
-use Rattle.std.proofs.lemmas.Bool.{and_parts}
+use Rattle.std.specs.Option.{is_some, option_map, option_or}
+use Rattle.std.specs.Ordering.{is_eq, is_gt, is_lt, ordering_reverse}
+use Rattle.std.specs.declared.cmp.Ordering.{Ordering}
+use Rattle.std.specs.declared.cmp.Ordering.TheVariants.{Less, Equal, Greater}
+use Rattle.std.proofs.lemmas.Bool.{and_parts, false≢true}
 use Rattle.std.proofs.lemmas.List.{at_drop_all}
 use Rattle.domain_base.specs.Name.{same_name}
-use Rattle.domain_base.specs.Order.{before}
+use Rattle.domain_base.specs.Order.{before, canonical_cmp, canonical_cmp_total}
 use Rattle.domain_base.specs.Words.{Name}
 use Rattle.domain_zone.specs.Covering.{covers, matches}
 use Rattle.domain_zone.proofs.NameLemmas.{same_is}
@@ -13,11 +16,94 @@ use Rattle.domain_nsec.specs.Chain.{Link}
 use Rattle.domain_checker.specs.Reading.{is_cover, is_match}
 use Rattle.domain_checker.specs.Verdict.{is_inside}
 use Rattle.domain_checker.proofs.FindLemmas.{find_some}
+use Rattle.domain_checker.proofs.FirstLemmas.{match_is_tie}
 use Rattle.domain_checker.proofs.HandedInLemmas.{or_none}
 use Rattle.domain_answer.specs.Found.{IsFound}
 
 pub match_is_same : (x y : Name) → matches before x y ≡ same_name x y
 match_is_same x y = sym (same_is x y)
+
+-- ---- whether a name is covered, by its orders to the owner and to the next name
+
+pub not_true : (b : Bool) → not b ≡ true → b ≡ false
+not_true true e = absurd (false≢true e)
+not_true false e = refl
+
+pub not_false : (b : Bool) → not b ≡ false → b ≡ true
+not_false true e = refl
+not_false false e = absurd (false≢true (sym e))
+
+module _ (o n x : Name) where
+  tie_is : matches before o x ≡ is_eq (canonical_cmp x o)
+  tie_is = match_is_tie o x ∙ ap is_eq (canonical_cmp_total.antisymm o x) ∙ reads (canonical_cmp x o)
+    where
+      reads : (r : Ordering) → is_eq (ordering_reverse r) ≡ is_eq r
+      reads Less = refl
+      reads Equal = refl
+      reads Greater = refl
+
+  after_is : before o x ≡ is_gt (canonical_cmp x o)
+  after_is = ap is_lt (canonical_cmp_total.antisymm o x) ∙ reads (canonical_cmp x o)
+    where
+      reads : (r : Ordering) → is_lt (ordering_reverse r) ≡ is_gt r
+      reads Less = refl
+      reads Equal = refl
+      reads Greater = refl
+
+  abbrev pub covered_by : Bool → Bool → Bool → Bool → Bool
+  covered_by tie after next behind = not tie && cond behind (after && next) (after || next)
+
+  covers_is : covers before o n x ≡ covered_by (is_eq (canonical_cmp x o)) (is_gt (canonical_cmp x o)) (is_lt (canonical_cmp x n)) (before o n)
+  covers_is = λ i. not (tie_is i) && cond (before o n) (after_is i && before x n) (after_is i || before x n)
+
+  pub at_owner : is_eq (canonical_cmp x o) ≡ true → false ≡ covers before o n x
+  at_owner e = sym (covers_is
+      ∙ (λ i. covered_by (e i) (is_gt (canonical_cmp x o)) (is_lt (canonical_cmp x n)) (before o n)))
+
+  pub ahead_of_both : is_gt (canonical_cmp x o) ≡ false → before o n ≡ true → false ≡ covers before o n x
+  ahead_of_both e f = sym (covers_is
+      ∙ (λ i. covered_by (is_eq (canonical_cmp x o)) (e i) (is_lt (canonical_cmp x n)) (f i)) ∙ none (is_eq (canonical_cmp x o)))
+    where
+      none : (b : Bool) → (not b && false) ≡ false
+      none true = refl
+      none false = refl
+
+  pub ahead_of_next : is_eq (canonical_cmp x o) ≡ false → (is_gt (canonical_cmp x o) ≡ false → before o n ≡ false)
+      → is_lt (canonical_cmp x n) ≡ true → true ≡ covers before o n x
+  ahead_of_next e g f = sym (covers_is
+      ∙ (λ i. covered_by (e i) (is_gt (canonical_cmp x o)) (f i) (before o n))
+      ∙ go (is_gt (canonical_cmp x o)) (before o n) g)
+    where
+      go : (u v : Bool) → (u ≡ false → v ≡ false) → cond v (u && true) (u || true) ≡ true
+      go true true h = refl
+      go true false h = refl
+      go false true h = sym (h refl)
+      go false false h = refl
+
+  pub after_both : is_eq (canonical_cmp x o) ≡ false → is_gt (canonical_cmp x o) ≡ true → before o n ≡ false → true ≡ covers before o n x
+  after_both e f g = sym (covers_is ∙ (λ i. covered_by (e i) (f i) (is_lt (canonical_cmp x n)) (g i)))
+
+  pub uncovered : is_lt (canonical_cmp x n) ≡ false → (is_gt (canonical_cmp x o) ≡ true → before o n ≡ true) → false ≡ covers before o n x
+  uncovered f g = sym (covers_is
+      ∙ (λ i. covered_by (is_eq (canonical_cmp x o)) (is_gt (canonical_cmp x o)) (f i) (before o n))
+      ∙ go (is_eq (canonical_cmp x o)) (is_gt (canonical_cmp x o)) (before o n) g)
+    where
+      go : (t u v : Bool) → (u ≡ true → v ≡ true) → (not t && cond v (u && false) (u || false)) ≡ false
+      go true u v h = refl
+      go false true true h = refl
+      go false true false h = sym (h refl)
+      go false false true h = refl
+      go false false false h = refl
+
+-- ---- one pass
+
+-- where no cover was met, the record here is one or is passed over
+pub met_now : {W : Type 0} (v : W → Link) (met found : Option W) (here : Bool) (k : Link) (whole rest : Option Link) → is_some met ≡ false
+    → (here ≡ true → whole ≡ option_or (Some k) rest) → (here ≡ false → whole ≡ option_or (option_map v met) rest)
+    → option_map v found ≡ cond here (Some k) None → whole ≡ option_or (option_map v found) rest
+met_now v None found true k whole rest none hit past is = hit refl ∙ sym (ap (λ q. option_or q rest) is)
+met_now v None found false k whole rest none hit past is = past refl ∙ sym (ap (λ q. option_or q rest) is)
+met_now v (Some m) found here k whole rest none hit past is = absurd (false≢true (sym none))
 
 -- after the last record what was met is what was found
 pub passed_all : {X : Type 0} (a x : Name) (see : X → Link) (listed : List X) (at : ℕ) (cover found : Option Link) → length listed ≤ at

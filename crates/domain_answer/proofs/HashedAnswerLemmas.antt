@@ -26,14 +26,20 @@ use Rattle.domain_checker.specs.HashedList.{is_hash_cover, is_hash_match}
 use Rattle.domain_checker.specs.HashedReading.{IsNextHash}
 use Rattle.domain_checker.specs.HashedVerdict.{is_below_chain_cut, is_covered, is_matched, is_ok_with, next_closer}
 use Rattle.domain_checker.proofs.CutLemmas.{below_cut, cut_above, cut_apart, not_below}
-use Rattle.domain_checker.proofs.EncloserLemmas.{apex_from, closest_is, cut_same, exists_same, owner_unoccluded, same_length, same_count, strictly_longer, strictly_from}
+use Rattle.domain_checker.proofs.EncloserLemmas.{apex_from, closest_is, cut_same, exists_same}
+use Rattle.domain_checker.proofs.EncloserLemmas.{owner_unoccluded, same_length, same_count}
+use Rattle.domain_checker.proofs.EncloserLemmas.{strictly_longer, strictly_from}
 use Rattle.domain_checker.proofs.FindLemmas.{any_none, in_filter, find_some, find_none}
 use Rattle.domain_checker.proofs.HashedEncloserLemmas.{cut_counted, itself_counted}
 use Rattle.domain_checker.proofs.HashedWalkLemmas.{closer_is}
 use Rattle.domain_checker.proofs.HashedListLemmas.{hash_same}
 use Rattle.domain_answer.specs.declared.answer.Answer.{Answer}
 use Rattle.domain_answer.specs.declared.answer.Answer.TheVariants.{OutsideZone, AtParent, Referral, Redirected, Has, NoDs, Alias, NoData}
-use Rattle.domain_answer.specs.declared.answer.Answer.TheVariants.{Wildcard, WildcardAlias, WildcardNoData, NameError, MayBeUnsigned, NoCloserName, NotProven}
+use Rattle.domain_answer.specs.declared.answer.Answer.TheVariants.{Wildcard, WildcardAlias}
+use Rattle.domain_answer.specs.declared.answer.Answer.TheVariants.{WildcardNoData}
+use Rattle.domain_answer.specs.declared.answer.Answer.TheVariants.{NameError, MayBeUnsigned}
+use Rattle.domain_answer.specs.declared.answer.Answer.TheVariants.{NoCloserName}
+use Rattle.domain_answer.specs.declared.answer.Answer.TheVariants.{NotProven}
 use Rattle.domain_answer.specs.HashedMeaning.{ChainMeans, ChainsAreMeant}
 use Rattle.domain_answer.specs.HashedProved.{AreAskedAlone, IsHashedAnswered, hashed_proved_answer, needs_wildcard, tells_encloser, tells_wildcard}
 use Rattle.domain_answer.specs.HashedReading.{IsHashedRead, IsReadOn, IsWildcardRead, encloser_answer, encloser_is_of_child, found_answer}

@@ -17,7 +17,9 @@ use Rattle.domain_nsec3.specs.Config.{ChainConfig}
 use Rattle.domain_nsec3.specs.Meaning.{AreAlone, IsAlone, octets_before}
 use Rattle.domain_nsec3.specs.Owners.{nsec3_lists, original_owners}
 use Rattle.domain_checker.specs.HashedFacts.{ChainFacts}
-use Rattle.domain_checker.specs.HashedVerdict.{hashed_proved_verdict, hashed_zone_verdict, is_below_chain_cut, is_covered, is_matched, next_closer, proves}
+use Rattle.domain_checker.specs.HashedVerdict.{hashed_proved_verdict, hashed_zone_verdict}
+use Rattle.domain_checker.specs.HashedVerdict.{is_below_chain_cut, is_covered}
+use Rattle.domain_checker.specs.HashedVerdict.{is_matched, next_closer, proves}
 use Rattle.domain_checker.specs.Verdict.{closest_encloser}
 use Rattle.domain_checker.specs.declared.verdict.Verdict.TheVariants as verdict
 use Rattle.domain_checker.proofs.CutLemmas.{below_cut}
@@ -30,11 +32,15 @@ use Rattle.domain_answer.specs.declared.answer.Answer.TheVariants.{MayBeUnsigned
 use Rattle.domain_answer.specs.Expansion.{closer_name, is_expanded, missing_closer, proved_expansion}
 use Rattle.domain_answer.specs.HashedMeaning.{ChainMeans, ChainsAreMeant}
 use Rattle.domain_answer.specs.HashedProved.{AreAskedAlone, hashed_proved_answer, needs_wildcard, tells_encloser, tells_wildcard}
-use Rattle.domain_answer.specs.HashedZoneAnswer.{HashedLeavesOutBelowDname, hashed_encloser, hashed_existing_answer, hashed_exists, hashed_inside_answer}
+use Rattle.domain_answer.specs.HashedZoneAnswer.{HashedLeavesOutBelowDname}
+use Rattle.domain_answer.specs.HashedZoneAnswer.{hashed_encloser, hashed_existing_answer}
+use Rattle.domain_answer.specs.HashedZoneAnswer.{hashed_exists, hashed_inside_answer}
 use Rattle.domain_answer.specs.HashedZoneAnswer.{hashed_missing_answer, hashed_wildcard_answer, hashed_zone_answer}
 use Rattle.domain_answer.specs.ZoneAnswer.{asterisk, is_at_parent, wildcard_below}
 use Rattle.domain_answer.proofs.CountLemmas.{parent_below}
-use Rattle.domain_answer.proofs.DefiniteLemmas.{choose, either, existing_says, is_of_zone, of_zone_knows, of_zone_limits, of_zone_proves, wildcard_says}
+use Rattle.domain_answer.proofs.DefiniteLemmas.{choose, either, existing_says}
+use Rattle.domain_answer.proofs.DefiniteLemmas.{is_of_zone, of_zone_knows, of_zone_limits}
+use Rattle.domain_answer.proofs.DefiniteLemmas.{of_zone_proves, wildcard_says}
 use Rattle.domain_answer.proofs.ExpansionLemmas.{closer_low}
 use Rattle.domain_answer.proofs.HashedAnswerLemmas.{cut_original, encloser_is, encloser_low}
 

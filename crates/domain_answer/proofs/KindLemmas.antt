@@ -8,7 +8,9 @@ use Rattle.domain_base.specs.Name.{is_at_or_below, is_strictly_below, lowered, s
 use Rattle.domain_base.specs.Types.{cname, dname, ds, ns}
 use Rattle.domain_base.specs.Words.{Name}
 use Rattle.domain_bitmap.proofs.RangeLemmas.{and_false}
-use Rattle.domain_zone.specs.Zone.{ZoneRecord, distinct, has_type, is_occluded, is_unoccluded, is_zone_cut, occludes, owns, records_of, unoccluded_owners}
+use Rattle.domain_zone.specs.Zone.{ZoneRecord, distinct, has_type, is_occluded}
+use Rattle.domain_zone.specs.Zone.{is_unoccluded, is_zone_cut, occludes, owns}
+use Rattle.domain_zone.specs.Zone.{records_of, unoccluded_owners}
 use Rattle.domain_zone.proofs.NameLemmas.{below_itself, lowered_below, one_lowered, same_itself}
 use Rattle.domain_zone.proofs.PairLemmas.{In}
 use Rattle.domain_zone.proofs.OwnerLemmas.{any_in, in_any, typed_owns}
@@ -17,7 +19,10 @@ use Rattle.domain_checker.proofs.EncloserLemmas.{cut_same, occluded_same, occlud
 use Rattle.domain_checker.proofs.FindLemmas.{in_map}
 use Rattle.domain_answer.specs.declared.answer.Answer.{Answer}
 use Rattle.domain_answer.specs.declared.answer.Answer.TheVariants.{OutsideZone, AtParent, Referral, Redirected, Has, NoDs, Alias, NoData}
-use Rattle.domain_answer.specs.declared.answer.Answer.TheVariants.{Wildcard, WildcardAlias, WildcardNoData, NameError, MayBeUnsigned, NoCloserName, TooManyIterations, NotProven}
+use Rattle.domain_answer.specs.declared.answer.Answer.TheVariants.{Wildcard, WildcardAlias}
+use Rattle.domain_answer.specs.declared.answer.Answer.TheVariants.{WildcardNoData, NameError}
+use Rattle.domain_answer.specs.declared.answer.Answer.TheVariants.{MayBeUnsigned, NoCloserName}
+use Rattle.domain_answer.specs.declared.answer.Answer.TheVariants.{TooManyIterations, NotProven}
 use Rattle.domain_answer.specs.Kinds.{IsAbsent, IsHere, IsRedirected, IsReferred, IsSo, wildcard_of}
 use Rattle.domain_answer.specs.ZoneAnswer.{encloser, existing_answer, highest_occluder, inside_answer, is_at_parent}
 use Rattle.domain_answer.specs.ZoneAnswer.{missing_answer, name_exists, occluded_answer, owns_type, unoccluded_answer, zone_answer}

@@ -1,4 +1,5 @@
 pub mod FoundLemmas
+pub mod ToldLemmas
 pub mod DefiniteLemmas
 pub mod CountLemmas
 pub mod WildcardLemmas

@@ -1,23 +1,42 @@
 -- What one pass over NSEC records finds of a name; a is the apex.
-use Rattle.std.specs.Prelude.{◌≡◌, List, Option, Some, None}
+use Rattle.std.specs.Prelude.{◌≡◌, List, Option, Some, None, length}
 use Rattle.std.specs.List.{find}
 use Rattle.domain_base.specs.Words.{Name}
+use Rattle.domain_zone.specs.Enclosers.{longer, shared}
 use Rattle.domain_nsec.specs.Chain.{Link}
 use Rattle.domain_nsec.specs.ChainView.{as_link}
 use Rattle.domain_checker.specs.Reading.{is_cover, is_match}
+use Rattle.domain_answer.specs.declared.found.NsecCover.{NsecCover}
 use Rattle.domain_answer.specs.declared.found.NsecFound.{NsecFound}
 use Rattle.domain_answer.specs.declared.found.NsecFound.TheVariants.{Match, Cover, Neither}
+
+-- the record that covers
+abbrev pub cover_link : {O N : Type 0} → (N → Name) → NsecCover O N → Link
+cover_link labels c = as_link labels c.record.now
+
+-- the longer of the names that x shares with the owner and the next name
+abbrev pub longer_shared : Link → Name → Name
+longer_shared k x = longer (shared x k.owner) (shared x k.next)
+
+-- it has so many labels
+abbrev pub IsSharing : {O N : Type 0} → (N → Name) → Name → NsecCover O N → Type 0
+IsSharing labels x c = c.shared ≡ length (longer_shared (cover_link labels c) x)
 
 -- the match that was found; the cover, which is looked for where there is no match
 abbrev pub found_match : {O N : Type 0} → (N → Name) → NsecFound O N → Option Link
 found_match labels (Match k) = Some (as_link labels k.now)
-found_match labels (Cover k) = None
+found_match labels (Cover c) = None
 found_match labels Neither = None
 
 abbrev pub found_cover : {O N : Type 0} → (N → Name) → NsecFound O N → Option Link
 found_cover labels (Match k) = None
-found_cover labels (Cover k) = Some (as_link labels k.now)
+found_cover labels (Cover c) = Some (cover_link labels c)
 found_cover labels Neither = None
+
+abbrev pub IsCovered : {O N : Type 0} → (N → Name) → Name → NsecFound O N → Type 0
+IsCovered labels x (Match k) = Unit {0}
+IsCovered labels x (Cover c) = IsSharing labels x c
+IsCovered labels x Neither = Unit {0}
 
 -- the first match of x and, where there is none, the first cover
 pub record IsFound (a : Name) (listed : List Link) (x : Name) (matched covered : Option Link)

@@ -17,7 +17,10 @@ use Rattle.domain_answer.specs.Proved.{last_labels, needs_no_records}
 use Rattle.domain_answer.specs.ZoneAnswer.{wildcard_below}
 use Rattle.domain_answer.specs.declared.answer.Answer.{Answer}
 use Rattle.domain_answer.specs.declared.answer.Answer.TheVariants.{OutsideZone, AtParent, Referral, Redirected, Has, NoDs, Alias, NoData}
-use Rattle.domain_answer.specs.declared.answer.Answer.TheVariants.{Wildcard, WildcardAlias, WildcardNoData, NameError, MayBeUnsigned, NoCloserName, TooManyIterations, NotProven}
+use Rattle.domain_answer.specs.declared.answer.Answer.TheVariants.{Wildcard, WildcardAlias}
+use Rattle.domain_answer.specs.declared.answer.Answer.TheVariants.{WildcardNoData, NameError}
+use Rattle.domain_answer.specs.declared.answer.Answer.TheVariants.{MayBeUnsigned, NoCloserName}
+use Rattle.domain_answer.specs.declared.answer.Answer.TheVariants.{TooManyIterations, NotProven}
 
 -- a record matches the closest encloser of x and, unless that is x, a zone cut or an owner of a
 -- DNAME record, one covers the next closer name

@@ -16,7 +16,11 @@ use Rattle.domain_answer.specs.Proved.{last_labels}
 use Rattle.domain_answer.specs.ZoneAnswer.{wildcard_below}
 use Rattle.domain_answer.specs.declared.answer.Answer.{Answer}
 use Rattle.domain_answer.specs.declared.answer.Answer.TheVariants.{Referral, Redirected, Has, NoDs, Alias, NoData}
-use Rattle.domain_answer.specs.declared.answer.Answer.TheVariants.{Wildcard, WildcardAlias, WildcardNoData, NameError, MayBeUnsigned, NoCloserName, NotProven}
+use Rattle.domain_answer.specs.declared.answer.Answer.TheVariants.{Wildcard, WildcardAlias}
+use Rattle.domain_answer.specs.declared.answer.Answer.TheVariants.{WildcardNoData}
+use Rattle.domain_answer.specs.declared.answer.Answer.TheVariants.{NameError, MayBeUnsigned}
+use Rattle.domain_answer.specs.declared.answer.Answer.TheVariants.{NoCloserName}
+use Rattle.domain_answer.specs.declared.answer.Answer.TheVariants.{NotProven}
 
 -- the record of the closest encloser is the child zone's, of its apex: that name is a zone cut, and
 -- the record lists SOA, which the parent's does not (RFC 5155, section 8.9)

@@ -1,6 +1,7 @@
 pub mod ZoneAnswer
 pub mod Proved
 pub mod Reading
+pub mod NameAnswer
 pub mod Found
 pub mod Kinds
 pub mod HashedZoneAnswer

@@ -10,7 +10,10 @@ use Rattle.domain_checker.specs.Verdict.{has_match_or_cover, HasProof}
 use Rattle.domain_answer.specs.ZoneAnswer.{encloser, is_at_parent, name_exists, wildcard_below, zone_answer}
 use Rattle.domain_answer.specs.declared.answer.Answer.{Answer}
 use Rattle.domain_answer.specs.declared.answer.Answer.TheVariants.{OutsideZone, AtParent, Referral, Redirected, Has, NoDs, Alias, NoData}
-use Rattle.domain_answer.specs.declared.answer.Answer.TheVariants.{Wildcard, WildcardAlias, WildcardNoData, NameError, MayBeUnsigned, NoCloserName, TooManyIterations, NotProven}
+use Rattle.domain_answer.specs.declared.answer.Answer.TheVariants.{Wildcard, WildcardAlias}
+use Rattle.domain_answer.specs.declared.answer.Answer.TheVariants.{WildcardNoData, NameError}
+use Rattle.domain_answer.specs.declared.answer.Answer.TheVariants.{MayBeUnsigned, NoCloserName}
+use Rattle.domain_answer.specs.declared.answer.Answer.TheVariants.{TooManyIterations, NotProven}
 
 -- the zone's answer follows from the name and the type alone
 abbrev pub needs_no_records : Name → Name → ℕ → Bool

@@ -56,3 +56,13 @@ pub enum Answer {
     /// The records do not prove what the zone says.
     NotProven,
 }
+
+/// What records of an NSEC chain answer of a name before they are asked of a wildcard.
+#[derive(Clone, Copy, Debug, PartialEq, Eq)]
+pub enum NameAnswer {
+    /// The answer, which rests on no wildcard.
+    Given(Answer),
+    /// There is no such name: the wildcard right below its closest encloser decides, which has so
+    /// many labels.
+    Absent(usize),
+}

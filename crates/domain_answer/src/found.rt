@@ -1,17 +1,28 @@
 //! What one pass over NSEC records finds of a name.
+ghost use Rattle.std.specs.Prelude.{◌≡◌, IfSome};
 ghost use Rattle.domain_nsec.specs.ChainView.{links_of};
-ghost use Rattle.domain_answer.specs.Found.{found_cover, found_match, IsFound};
+ghost use Rattle.domain_answer.specs.Found.{found_cover, found_match, IsCovered, IsFound};
 
-use crate::listed::{NsecRr, is_cover, is_match};
+use crate::listed::{NsecRr, cover_of, is_match};
 use domain_base::ToName;
 use domain_octets::Octets;
+
+/// A record that covers a name.
+#[derive(Drop)]
+pub struct NsecCover<'a, O: Octets, N: ToName> {
+    /// The record.
+    pub record: &'a NsecRr<O, N>,
+    /// How many labels the longer has of the names that the name shares with the owner and with the
+    /// next name: the closest encloser, where there is no such name.
+    pub shared: usize,
+}
 
 /// What one pass over records finds of a name.
 pub enum NsecFound<'a, O: Octets, N: ToName> {
     /// The first record that matches it.
     Match(&'a NsecRr<O, N>),
     /// No record matches it, and this is the first that covers it.
-    Cover(&'a NsecRr<O, N>),
+    Cover(NsecCover<'a, O, N>),
     /// No record matches or covers it.
     Neither,
 }
@@ -23,20 +34,21 @@ pub fn find_nsec<'a, A: ToName, O: Octets, N: ToName, M: ToName>(
     chain: &'a [NsecRr<O, N>],
     name: &M,
 ) -> NsecFound<'a, O, N>
-    ensures { IsFound (A.labels apex.now) (links_of N.labels chain.now) (M.labels name.now)
+    ensures found { IsFound (A.labels apex.now) (links_of N.labels chain.now) (M.labels name.now)
         (found_match N.labels result) (found_cover N.labels result) }
+    ensures shared { IsCovered N.labels (M.labels name.now) result }
 {
     let mut cover = None;
     for listed in chain {
         if is_match(apex, listed, name) {
             return NsecFound::Match(listed);
         }
-        if cover.is_none() && is_cover(apex, listed, name) {
-            cover = Some(listed);
+        if cover.is_none() {
+            cover = cover_of(apex, listed, name);
         }
     }
     match cover {
-        Some(listed) => NsecFound::Cover(listed),
+        Some(cover) => NsecFound::Cover(cover),
         None => NsecFound::Neither,
     }
 }

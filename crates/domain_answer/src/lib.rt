@@ -25,9 +25,9 @@ mod nsec3;
 mod nsec3_laws;
 mod wildcard;
 
-pub use answer::Answer;
+pub use answer::{Answer, NameAnswer};
 pub use expansion::judge_nsec3_expansion;
-pub use found::{NsecFound, find_nsec};
-pub use nsec::{judge_nsec, judge_wildcard};
+pub use found::{NsecCover, NsecFound, find_nsec};
+pub use nsec::{judge_name, judge_nsec, judge_wildcard};
 pub use nsec3::judge_nsec3;
 pub use wildcard::wildcard_of;

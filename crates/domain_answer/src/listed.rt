@@ -1,11 +1,15 @@
 //! What one NSEC record tells.
-ghost use Rattle.std.specs.Prelude.{◌≡◌};
+ghost use Rattle.std.specs.Prelude.{◌≡◌, Some, None, IfSome, cond, length};
+ghost use Rattle.std.specs.Option.{is_some, option_map};
 ghost use Rattle.domain_base.specs.Order.{before};
 ghost use Rattle.domain_zone.specs.Covering.{covers};
+ghost use Rattle.domain_zone.specs.Enclosers.{longer, shared};
 ghost use Rattle.domain_nsec.specs.ChainView.{as_link};
 ghost use Rattle.domain_checker.specs.Reading.{is_cover, is_match};
+ghost use Rattle.domain_answer.specs.Found.{cover_link, IsSharing};
 ghost use Rattle.domain_answer.specs.Reading.{tells_occluded, tells_occluder};
 
+use crate::found::NsecCover;
 use domain_base::{Rtype, ToName};
 use domain_chain_rdata::Nsec;
 use domain_checker::{is_at_cut, is_before, is_inside};
@@ -16,19 +20,25 @@ use domain_plain::Record;
 pub(crate) type NsecRr<O, N> = Record<N, Nsec<O, N>>;
 
 /// Whether the owner and the next name cover the name: it lies between the two, or on either side
-/// of them where the next name is not after the owner.
-#[tactic(auto, using(domain_checker::proofs::FirstLemmas::match_is_tie))]
-fn covers<N: ToName, M: ToName>(owner: &N, next: &N, name: &M) -> bool
-    ensures { result ≡ covers before (N.labels owner.now) (N.labels next.now) (M.labels name.now) }
+/// of them where the next name is not after the owner. If so, how many labels the longer has of the
+/// names that it shares with the two.
+fn covered<N: ToName, M: ToName>(owner: &N, next: &N, name: &M) -> Option<usize>
+    ensures covers { is_some result
+        ≡ covers before (N.labels owner.now) (N.labels next.now) (M.labels name.now) }
+    ensures shared { IfSome result (λ count. count ≡ length (longer
+        (shared (M.labels name.now) (N.labels owner.now))
+        (shared (M.labels name.now) (N.labels next.now)))) }
 {
-    let order = owner.name_cmp(name);
-    if order.is_eq() {
-        return false;
+    let from_owner = name.compare(owner);
+    let is_after = from_owner.order.is_gt();
+    if from_owner.order.is_eq() || (!is_after && is_before(owner, next)) {
+        return None;
     }
-    if order.is_lt() {
-        return is_before(name, next) || !is_before(owner, next);
+    let from_next = name.compare(next);
+    if from_next.order.is_lt() || (is_after && !is_before(owner, next)) {
+        return Some(from_owner.common.max(from_next.common));
     }
-    !is_before(owner, next) && is_before(name, next)
+    None
 }
 
 /// Whether the record is not passed over, and its owner is the name.
@@ -44,16 +54,25 @@ pub(crate) fn is_match<A: ToName, O: Octets, N: ToName, M: ToName>(
     listed.owner().name_eq(name) && is_inside(apex, listed)
 }
 
-/// Whether the record is not passed over, and covers the name.
-pub(crate) fn is_cover<A: ToName, O: Octets, N: ToName, M: ToName>(
+/// The record with what it shares with the name, where it is not passed over and covers the name.
+pub(crate) fn cover_of<'a, A: ToName, O: Octets, N: ToName, M: ToName>(
     apex: &A,
-    listed: &NsecRr<O, N>,
+    listed: &'a NsecRr<O, N>,
     name: &M,
-) -> bool
-    ensures { result ≡ is_cover (A.labels apex.now) (M.labels name.now)
-        (as_link N.labels listed.now) }
+) -> Option<NsecCover<'a, O, N>>
+    ensures cover { option_map (cover_link N.labels) result
+        ≡ cond (is_cover (A.labels apex.now) (M.labels name.now) (as_link N.labels listed.now))
+        (Some (as_link N.labels listed.now)) None }
+    ensures shared { IfSome result (IsSharing N.labels (M.labels name.now)) }
 {
-    covers(listed.owner(), listed.data().next_name(), name) && is_inside(apex, listed)
+    let shared = covered(listed.owner(), listed.data().next_name(), name)?;
+    if !is_inside(apex, listed) {
+        return None;
+    }
+    Some(NsecCover {
+        record: listed,
+        shared,
+    })
 }
 
 /// Whether the owner is a zone cut or owns a DNAME record.

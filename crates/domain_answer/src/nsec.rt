@@ -1,19 +1,22 @@
 //! What records of an NSEC chain answer.
-ghost use Rattle.std.specs.Prelude.{◌≡◌, ◌<◌, true, length};
+ghost use Rattle.std.specs.Prelude.{◌≡◌, ◌<◌, ℕ, List, true, length};
 ghost use Rattle.domain_base.specs.Order.{before};
 ghost use Rattle.domain_zone.specs.Covering.{covers};
+ghost use Rattle.domain_nsec.specs.Chain.{Link};
 ghost use Rattle.domain_nsec.specs.ChainView.{as_link, links_of};
+ghost use Rattle.domain_answer.specs.Found.{cover_link, IsSharing};
+ghost use Rattle.domain_answer.specs.NameAnswer.{IsNameAnswer};
 ghost use Rattle.domain_answer.specs.Proved.{CountsWithin, IsAnswered, RestsOn};
 ghost use Rattle.domain_answer.specs.Reading.{absent_answer, cover_answer, listed_answer, match_answer, owner_answer, reading};
 ghost use Rattle.domain_answer.specs.Reading.{wildcard_answer, wildcard_cover_answer, wildcard_match_answer};
 
-use crate::found::{NsecFound, find_nsec};
+use crate::found::{NsecCover, NsecFound, find_nsec};
 use crate::listed::{NsecRr, tells_occluded};
 use crate::wildcard::wildcard_below;
-use crate::{Answer, laws};
+use crate::{Answer, NameAnswer, laws};
 use domain_base::{ParsedName, Rtype, ToName};
 use domain_chain_rdata::Nsec;
-use domain_checker::{is_at_cut, is_strictly_below, longer_shared};
+use domain_checker::{is_at_cut, is_strictly_below};
 use domain_octets::Octets;
 use domain_plain::Record;
 use domain_zone::MAX_NAME;
@@ -113,7 +116,7 @@ pub fn judge_wildcard<A: ToName, O: Octets, N: ToName>(
 {
     match find_nsec(apex, chain, wildcard) {
         NsecFound::Match(listed) => wildcard_match_answer(apex, count, listed, rtype),
-        NsecFound::Cover(listed) => wildcard_cover_answer(apex, count, listed, wildcard),
+        NsecFound::Cover(cover) => wildcard_cover_answer(apex, count, cover.record, wildcard),
         NsecFound::Neither => Answer::NoCloserName(count),
     }
 }
@@ -135,29 +138,28 @@ fn absent_answer<A: ToName, O: Octets, N: ToName, M: ToName>(
     judge_wildcard(apex, chain, count, &wildcard, rtype)
 }
 
-/// What the records say of a name that this one of them covers.
+/// What a record says of a name that it covers.
 #[tactic(auto, using(crate::proofs::CountLemmas::encloser_less))]
 fn cover_answer<A: ToName, O: Octets, N: ToName, M: ToName>(
     apex: &A,
-    chain: &[NsecRr<O, N>],
-    listed: &NsecRr<O, N>,
+    cover: NsecCover<'_, O, N>,
     name: &M,
-    rtype: Rtype,
-) -> Answer
-    requires { covers before (N.labels listed.now.owner) (N.labels listed.now.«data».next_name)
-        (M.labels name.now) ≡ true }
-    ensures { result ≡ cover_answer (A.labels apex.now) (links_of N.labels chain.now)
-        (as_link N.labels listed.now) (M.labels name.now) rtype }
+) -> NameAnswer
+    requires covers { covers before (cover_link N.labels cover).owner
+        (cover_link N.labels cover).next (M.labels name.now) ≡ true }
+    requires shared { IsSharing N.labels (M.labels name.now) cover }
+    ensures { (listed : List Link) (t : ℕ) → IsNameAnswer (cover_answer (A.labels apex.now) listed
+        (cover_link N.labels cover.entry) (M.labels name.now) t) (A.labels apex.now) listed
+        (M.labels name.now) t result }
 {
-    let next = listed.data().next_name();
+    let listed = cover.record;
     if tells_occluded(apex, listed, name) {
-        return owner_answer(apex, listed);
+        return NameAnswer::Given(owner_answer(apex, listed));
     }
-    if is_strictly_below(next, name) {
-        return Answer::NoData;
+    if is_strictly_below(listed.data().next_name(), name) {
+        return NameAnswer::Given(Answer::NoData);
     }
-    let count = longer_shared(name, listed.owner(), next);
-    absent_answer(apex, chain, count, name, rtype)
+    NameAnswer::Absent(cover.shared)
 }
 
 /// What the records say of a name at or below the apex.
@@ -166,18 +168,41 @@ fn listed_answer<A: ToName, O: Octets, N: ToName, M: ToName>(
     chain: &[NsecRr<O, N>],
     name: &M,
     rtype: Rtype,
-) -> Answer
-    ensures { result ≡ listed_answer (A.labels apex.now) (links_of N.labels chain.now)
-        (M.labels name.now) rtype }
+) -> NameAnswer
+    ensures { IsNameAnswer (listed_answer (A.labels apex.now) (links_of N.labels chain.now)
+        (M.labels name.now) rtype) (A.labels apex.now) (links_of N.labels chain.now)
+        (M.labels name.now) rtype result }
 {
     match find_nsec(apex, chain, name) {
-        NsecFound::Match(listed) => match_answer(apex, listed, rtype),
-        NsecFound::Cover(listed) => cover_answer(apex, chain, listed, name, rtype),
-        NsecFound::Neither => Answer::NotProven,
+        NsecFound::Match(listed) => NameAnswer::Given(match_answer(apex, listed, rtype)),
+        NsecFound::Cover(cover) => cover_answer(apex, cover, name),
+        NsecFound::Neither => NameAnswer::Given(Answer::NotProven),
     }
 }
 
-/// What the records say of a name.
+/// What records of an NSEC chain answer to a question about a name and a type, but for what they
+/// say of the wildcard below the closest encloser of a name that does not exist: `judge_wildcard`
+/// has that (RFC 4035, section 3.1.3.4).
+pub fn judge_name<A: ToName, O: Octets, N: ToName, M: ToName>(
+    apex: &A,
+    chain: &[Record<N, Nsec<O, N>>],
+    name: &M,
+    rtype: Rtype,
+) -> NameAnswer
+    ensures { IsNameAnswer (reading (A.labels apex.now) (links_of N.labels chain.now)
+        (M.labels name.now) rtype) (A.labels apex.now) (links_of N.labels chain.now)
+        (M.labels name.now) rtype result }
+{
+    if !name.ends_with(apex) {
+        return NameAnswer::Given(Answer::OutsideZone);
+    }
+    if rtype == Rtype::DS && name.name_eq(apex) {
+        return NameAnswer::Given(Answer::AtParent);
+    }
+    listed_answer(apex, chain, name, rtype)
+}
+
+/// What the records say of a name, with what they say of the wildcard where that decides.
 fn read<A: ToName, O: Octets, N: ToName, M: ToName>(
     apex: &A,
     chain: &[NsecRr<O, N>],
@@ -187,13 +212,10 @@ fn read<A: ToName, O: Octets, N: ToName, M: ToName>(
     ensures { result ≡ reading (A.labels apex.now) (links_of N.labels chain.now)
         (M.labels name.now) rtype }
 {
-    if !name.ends_with(apex) {
-        return Answer::OutsideZone;
+    match judge_name(apex, chain, name, rtype) {
+        NameAnswer::Given(answer) => answer,
+        NameAnswer::Absent(count) => absent_answer(apex, chain, count, name, rtype),
     }
-    if rtype == Rtype::DS && name.name_eq(apex) {
-        return Answer::AtParent;
-    }
-    listed_answer(apex, chain, name, rtype)
 }
 
 /// What records of an NSEC chain answer to a question about a name and a type (RFC 4035, section

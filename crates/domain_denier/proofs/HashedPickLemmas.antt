@@ -24,7 +24,9 @@ use Rattle.domain_checker.proofs.HashedWalkLemmas.{some_matched}
 use Rattle.domain_answer.specs.declared.answer.Answer.{Answer}
 use Rattle.domain_answer.specs.declared.answer.Answer.TheVariants.{Referral, Redirected}
 use Rattle.domain_answer.specs.declared.answer.Answer.TheVariants.{MayBeUnsigned, NoCloserName, NotProven}
-use Rattle.domain_answer.specs.HashedReading.{IsHashedRead, IsReadOn, IsWildcardRead, encloser_answer, lower_answer, next_answer, own_answer, wildcard_told}
+use Rattle.domain_answer.specs.HashedReading.{IsHashedRead, IsReadOn, IsWildcardRead}
+use Rattle.domain_answer.specs.HashedReading.{encloser_answer, lower_answer, next_answer}
+use Rattle.domain_answer.specs.HashedReading.{own_answer, wildcard_told}
 use Rattle.domain_answer.specs.Proved.{last_labels}
 use Rattle.domain_answer.specs.ZoneAnswer.{wildcard_below}
 use Rattle.domain_answer.proofs.CountLemmas.{last_above, last_count}
@@ -35,7 +37,9 @@ use Rattle.domain_denier.specs.HashedSteps.{IsCoverAt, IsFirstDenial, IsInside, 
 use Rattle.domain_denier.specs.HashedSteps.{encloser_with, link_at, next_role, wildcard_told_by}
 use Rattle.domain_denier.specs.declared.encloser.PlacedEncloser.{PlacedEncloser}
 use Rattle.domain_denier.specs.declared.nsec3.Nsec3Denial.{Nsec3Denial}
-use Rattle.domain_denier.proofs.SomeLemmas.{AreAmong, AreOthers, covered, in_back, in_front, in_place, kept_place, matched, no_cover, no_match, not_gone, others_among, three_among, three_others, unmatched}
+use Rattle.domain_denier.proofs.SomeLemmas.{AreAmong, AreOthers, covered, in_back, in_front, in_place}
+use Rattle.domain_denier.proofs.SomeLemmas.{kept_place, matched, no_cover, no_match, not_gone, others_among}
+use Rattle.domain_denier.proofs.SomeLemmas.{three_among, three_others, unmatched}
 
 -- a first answer after which the wildcard is not asked for
 plain_on : (listed : List HashedLink) (a : Name) (p : Parameters) (hash : Hash) (x : Name) (t : ℕ) (first : Answer)

@@ -1,12 +1,12 @@
 -- What one record, or two of which the first denies a name alone, tell by what they are judged to say.
 use Rattle.std.proofs.Common.{◌≡◌, ◌≢◌, ℕ, ◌<◌, Bool, true, false, cond, not, ◌&&◌, ◌||◌, List, [], ◌∷◌, ◌++◌, length}
-use Rattle.std.proofs.Common.{slice_get, get_or, Some, None, refl, sym, ap, ◌∙◌, subst, arith, inl, inr, ◌⊎◌}
-use Rattle.std.specs.Prelude.{◌==◌}
+use Rattle.std.proofs.Common.{slice_get, get_or, Option, Some, None, refl, sym, ap, ◌∙◌, subst, arith, inl, inr, ◌⊎◌}
+use Rattle.std.specs.List.{find}
 use Rattle.std.proofs.lemmas.Option.{slice_get_cases, slice_get-get_or}
 use Rattle.std.proofs.lemmas.Bool.{cases_Bool, false≢true, and_parts, or_left, or_right}
 use Rattle.domain_base.specs.Name.{is_at_or_below, is_strictly_below, same_name}
 use Rattle.domain_base.specs.Order.{before}
-use Rattle.domain_base.specs.Types.{cname, ds}
+use Rattle.domain_base.specs.Types.{cname}
 use Rattle.domain_base.specs.Words.{Name}
 use Rattle.domain_bitmap.specs.Blocks.{contains_type}
 use Rattle.domain_zone.specs.Covering.{covers, matches, matches_or_covers}
@@ -16,12 +16,16 @@ use Rattle.domain_nsec.specs.Chain.{Link}
 use Rattle.domain_checker.specs.Verdict.{is_inside}
 use Rattle.domain_checker.specs.Reading.{is_at_cut, is_cover, is_match}
 use Rattle.domain_answer.specs.declared.answer.Answer.{Answer}
-use Rattle.domain_answer.specs.declared.answer.Answer.TheVariants.{AtParent, NoCloserName, NoData, NotProven, OutsideZone}
+use Rattle.domain_answer.specs.declared.answer.Answer.TheVariants.{AtParent, NoCloserName, NoData, OutsideZone}
+use Rattle.domain_answer.specs.declared.answer.NameAnswer.{NameAnswer}
+use Rattle.domain_answer.specs.declared.answer.NameAnswer.TheVariants.{Given, Absent}
+use Rattle.domain_answer.specs.NameAnswer.{IsNameAnswer}
 use Rattle.domain_answer.specs.Proved.{last_labels}
-use Rattle.domain_answer.specs.Reading.{absent_answer, is_of_child, listed_both, match_answer, owner_answer, reading}
-use Rattle.domain_answer.specs.Reading.{tells_occluded, wildcard_answer, wildcard_both, wildcard_match_answer}
+use Rattle.domain_answer.specs.Reading.{absent_answer, listed_both, owner_answer, reading}
+use Rattle.domain_answer.specs.Reading.{tells_occluded, wildcard_answer, wildcard_both, wildcard_cover_answer, wildcard_match_answer}
 use Rattle.domain_answer.specs.ZoneAnswer.{is_at_parent, wildcard_below}
-use Rattle.domain_denier.specs.Judged.{IsTold}
+use Rattle.domain_answer.proofs.ToldLemmas.{match_never, owner_never}
+use Rattle.domain_denier.specs.Judged.{IsSilent, IsTold, Tells}
 use Rattle.domain_denier.specs.Picked.{IsOf, at_place, listed_option}
 
 -- a record that is not passed over, and matches or covers
@@ -35,6 +39,39 @@ from_cover a x k e =
 -- a record whose owner is another name does not match
 pub unmatched : (a x : Name) (k : Link) → same_name k.owner x ≡ false → is_match a x k ≡ false
 unmatched a x k e = λ i. (sym (same_is k.owner x) ∙ e) i && is_inside a k
+
+-- ---- what is said of a wildcard tells that the name is denied
+
+module _ (a w : Name) (n t : ℕ) where
+  told_match : (k : Link) → IsTold (wildcard_match_answer a n k t)
+  told_match k = go (contains_type k.bits t || is_at_cut a k) (contains_type k.bits cname)
+    where
+      go : (b l : Bool) → IsTold (cond b (Answer.Wildcard n) (cond l (Answer.WildcardAlias n) (Answer.WildcardNoData n)))
+      go true l = record { inside = λ e. cc; here = λ e. cc; proven = λ e. cc }
+      go false true = record { inside = λ e. cc; here = λ e. cc; proven = λ e. cc }
+      go false false = record { inside = λ e. cc; here = λ e. cc; proven = λ e. cc }
+
+  told_cover : (k : Link) → IsTold (wildcard_cover_answer a n k w)
+  told_cover k = go (tells_occluded a k w) (is_strictly_below k.next w)
+    where
+      go : (o s : Bool) → IsTold (cond o (NoCloserName n) (cond s (Answer.WildcardNoData n) (Answer.NameError n)))
+      go true s = record { inside = λ e. cc; here = λ e. cc; proven = λ e. cc }
+      go false true = record { inside = λ e. cc; here = λ e. cc; proven = λ e. cc }
+      go false false = record { inside = λ e. cc; here = λ e. cc; proven = λ e. cc }
+
+  told_both : (m c : Option Link) → IsTold (wildcard_both a n w t m c)
+  told_both (Some k) c = told_match k
+  told_both None (Some k) = told_cover k
+  told_both None None = record { inside = λ e. cc; here = λ e. cc; proven = λ e. cc }
+
+  pub told_wildcard : (listed : List Link) → IsTold (wildcard_answer a listed n w t)
+  told_wildcard listed = told_both (find (is_match a w) listed) (find (is_cover a w) listed)
+
+-- so both forms of an answer of the name tell it
+pub told_whole : (a : Name) (listed : List Link) (x : Name) (t : ℕ) (whole : Answer) (told : NameAnswer) → IsNameAnswer whole a listed x t told
+    → Tells told → IsTold whole
+told_whole a listed x t whole (Given answer) is tells = subst IsTold (sym is.exact) tells
+told_whole a listed x t whole (Absent n) is tells = subst IsTold (sym is.exact) (told_wildcard a (wildcard_below (last_labels n x)) n t listed)
 
 -- ---- one record
 
@@ -73,20 +110,6 @@ module _ (a x : Name) (t : ℕ) (k : Link) where
     counts : length (longer (shared x k.owner) (shared x k.next)) ≡ n
     silent : is_match a (wildcard_below (last_labels n x)) k ≡ false
     occluded : is_cover a (wildcard_below (last_labels n x)) k ≡ true → tells_occluded a k (wildcard_below (last_labels n x)) ≡ true
-
-  match_never : (n : ℕ) → match_answer a k t ≡ NoCloserName n → ⊥
-  match_never n e =
-      never (is_of_child a k) (is_at_cut a k && not (t == ds)) (contains_type k.bits t) (is_at_cut a k) (contains_type k.bits cname) e
-    where
-      never : (b d h c l : Bool)
-          → cond b NotProven (cond d (Answer.Referral (length k.owner)) (cond h Answer.Has (cond c Answer.NoDs (cond l Answer.Alias NoData))))
-          ≡ NoCloserName n → ⊥
-      never true d h c l e = absurd (cc)
-      never false true h c l e = absurd (cc)
-      never false false true c l e = absurd (cc)
-      never false false false true l e = absurd (cc)
-      never false false false false true e = absurd (cc)
-      never false false false false false e = absurd (cc)
 
   abbrev w_of : ℕ → Name
   w_of n = wildcard_below (last_labels n x)
@@ -132,11 +155,7 @@ module _ (a x : Name) (t : ℕ) (k : Link) where
           → cond o (owner_answer a k) (cond s NoData (absent_answer a (k ∷ []) (length (longer (shared x k.owner) (shared x k.next))) x t)) ≡ NoCloserName n
           → (tells_occluded a k x ≡ false) × (is_strictly_below k.next x ≡ false)
           × (absent_answer a (k ∷ []) (length (longer (shared x k.owner) (shared x k.next))) x t ≡ NoCloserName n)
-      cover_by true s f g e = absurd (owner_never (is_at_cut a k) e)
-        where
-          owner_never : (c : Bool) → cond c (Answer.Referral (length k.owner)) (Answer.Redirected (length k.owner)) ≡ NoCloserName n → ⊥
-          owner_never true e = absurd (cc)
-          owner_never false e = absurd (cc)
+      cover_by true s f g e = absurd (owner_never a k n e)
       cover_by false true f g e = absurd (cc)
       cover_by false false f g e = (f, g, e)
 
@@ -144,7 +163,7 @@ module _ (a x : Name) (t : ℕ) (k : Link) where
           → chosen u p m c ≡ NoCloserName n → Denies n
       go false p m c f g h i e = absurd (cc)
       go true true m c f g h i e = absurd (cc)
-      go true false true c f g h i e = absurd (match_never n e)
+      go true false true c f g h i e = absurd (match_never a k t n e)
       go true false false false f g h i e = absurd (cc)
       go true false false true f g h i e =
           let by = cover_by (tells_occluded a k x) (is_strictly_below k.next x) refl refl e in
@@ -208,28 +227,83 @@ module _ (links : List Link) (a x : Name) (t : ℕ) where
     | inr none ↦ absurd (omega (arith, inside, none.0))
   ]
 
-  module _ (p q n : ℕ) (k l : Link) (in_p : p < length links) (in_q : q < length links) (k_is : k ≡ get_or links p k) (l_is : l ≡ get_or links q l)
+  -- where the first record denies the name and says nothing of the wildcard, the second alone says of that what both do
+  module _ (p q n : ℕ) (l : Link) (in_q : q < length links) (l_is : l ≡ get_or links q l)
       (says : reading a (at_place links (Some p)) x t ≡ NoCloserName n) (apart : same_name l.owner x ≡ false) (w : Name)
-      (w_is : w ≡ wildcard_below (last_labels n x))
-      (some : (m : ℕ) → wildcard_answer a (k ∷ l ∷ []) n w t ≢ NoCloserName m) where
-    at_p : at_place links (Some p) ≡ k ∷ []
-    at_p = ap listed_option (there links p k in_p k_is)
-
+      (w_is : w ≡ wildcard_below (last_labels n x)) (silent : IsSilent a (at_place links (Some p)) w)
+      (some : (m : ℕ) → wildcard_answer a (l ∷ []) n w t ≢ NoCloserName m) where
     at_q : at_place links (Some q) ≡ l ∷ []
     at_q = ap listed_option (there links q l in_q l_is)
 
-    denied : Denies a x t k n
-    denied = denies a x t k n (sym (λ i. reading a (at_p i) x t) ∙ says)
+    pub record IsBoth : Type 0 where
+      pub reads : wildcard_answer a (l ∷ []) n w t ≡ reading a (at_place links (Some p) ++ at_place links (Some q)) x t
+      pub tells : IsOf links q w
 
-    pub both_at : wildcard_answer a (k ∷ l ∷ []) n w t ≡ reading a (at_place links (Some p) ++ at_place links (Some q)) x t
-    both_at = ap (λ v. wildcard_answer a (k ∷ l ∷ []) n v t) w_is ∙ sym (both_read a x t k n denied l (unmatched a x l apart))
-        ∙ sym (λ i. reading a (at_p i ++ at_q i) x t)
+    module _ (k : Link) (k_is : slice_get links p ≡ Some k) where
+      at_p : at_place links (Some p) ≡ k ∷ []
+      at_p = ap listed_option k_is
 
-    pub tells_at : IsOf links q w
-    tells_at = record {
-      link = l;
-      there = there links q l in_q l_is;
-      says = subst (λ v. matches_or_covers before l.owner l.next v ≡ true) (sym w_is)
-          (second_tells a x t k n denied l (unmatched a x l apart)
-          (subst (λ v. (m : ℕ) → wildcard_answer a (k ∷ l ∷ []) n v t ≢ NoCloserName m) w_is some));
-    }
+      denied : Denies a x t k n
+      denied = denies a x t k n (sym (λ i. reading a (at_p i) x t) ∙ says)
+
+      apart_by : (b : Bool) → cond b (Some k) None ≡ None → b ≡ false
+      apart_by true e = absurd (cc)
+      apart_by false e = refl
+
+      unmatching : is_match a w k ≡ false
+      unmatching = apart_by (is_match a w k) (sym (ap (find (is_match a w)) at_p) ∙ silent.matching)
+
+      uncovering : is_cover a w k ≡ false
+      uncovering = apart_by (is_cover a w k) (sym (ap (find (is_cover a w)) at_p) ∙ silent.covering)
+
+      second_alone : wildcard_answer a (l ∷ []) n w t ≡ wildcard_answer a (k ∷ l ∷ []) n w t
+      second_alone = sym (λ i. wildcard_both a n w t (cond (unmatching i) (Some k) (find (is_match a w) (l ∷ [])))
+          (cond (uncovering i) (Some k) (find (is_cover a w) (l ∷ []))))
+
+      both : IsBoth
+      both = record {
+        reads = second_alone ∙ ap (λ v. wildcard_answer a (k ∷ l ∷ []) n v t) w_is ∙ sym (both_read a x t k n denied l (unmatched a x l apart))
+            ∙ sym (λ i. reading a (at_p i ++ at_q i) x t);
+        tells = record {
+          link = l;
+          there = there links q l in_q l_is;
+          says = subst (λ v. matches_or_covers before l.owner l.next v ≡ true) (sym w_is)
+              (second_tells a x t k n denied l (unmatched a x l apart)
+              (subst (λ v. (m : ℕ) → wildcard_answer a (k ∷ l ∷ []) n v t ≢ NoCloserName m) w_is (λ m e. some m (second_alone ∙ e))));
+        };
+      }
+
+    pub both_at : p < length links → IsBoth
+    both_at in_p = elim (slice_get_cases links p).1 [
+      | inl some_k ↦ both some_k.0 some_k.2
+      | inr none ↦ absurd (omega (arith, in_p, none.0))
+    ]
+
+-- where it says nothing, the count is the one that was handed in
+pub count_kept : (a : Name) (listed : List Link) (n m : ℕ) (w : Name) (t : ℕ) → wildcard_answer a listed n w t ≡ NoCloserName m
+    → wildcard_answer a listed n w t ≡ NoCloserName n
+count_kept a listed n m w t e = e ∙ ap NoCloserName (sym (both (find (is_match a w) listed) (find (is_cover a w) listed) e))
+  where
+    of_match : (k : Link) → wildcard_match_answer a n k t ≡ NoCloserName m → n ≡ m
+    of_match k e = absurd (wildcard_match_never a w t k n m e)
+
+    of_cover : (o s : Bool) → cond o (NoCloserName n) (cond s (Answer.WildcardNoData n) (Answer.NameError n)) ≡ NoCloserName m → n ≡ m
+    of_cover true s e = cc
+    of_cover false true e = absurd (cc)
+    of_cover false false e = absurd (cc)
+
+    both : (o c : Option Link) → wildcard_both a n w t o c ≡ NoCloserName m → n ≡ m
+    both (Some k) c e = of_match k e
+    both None (Some k) e = of_cover (tells_occluded a k w) (is_strictly_below k.next w) e
+    both None None e = cc
+
+-- a name whose wildcard nothing is said of, is denied alone
+module _ (a : Name) (listed : List Link) (n : ℕ) (w v : Name) (t : ℕ) (whole : Answer) (absent : whole ≡ wildcard_answer a listed n v t) (w_is : w ≡ v) where
+  pub said_of : whole ≡ wildcard_answer a listed n w t
+  said_of = absent ∙ sym (ap (λ y. wildcard_answer a listed n y t) w_is)
+
+  pub untold_denies : (m : ℕ) × (wildcard_answer a listed n w t ≡ NoCloserName m) → whole ≡ NoCloserName n
+  untold_denies said = said_of ∙ count_kept a listed n said.0 w t said.1
+
+  pub silent_denies : IsSilent a listed w → whole ≡ NoCloserName n
+  silent_denies silent = said_of ∙ (λ i. wildcard_both a n w t (silent.matching i) (silent.covering i))

@@ -4,6 +4,7 @@ use Rattle.std.proofs.Common.{slice_get, Some, None, refl, sym, ap, ◌∙◌, s
 use Rattle.std.specs.Prelude.{All}
 use Rattle.std.specs.List.{Contains}
 use Rattle.std.proofs.lemmas.Bool.{cases_Bool, false≢true, and_parts, or_right}
+use Rattle.std.proofs.lemmas.List.{append-nil}
 use Rattle.std.proofs.lemmas.List.Elements.{All-nil, All-push}
 use Rattle.domain_base.specs.Name.{is_at_or_below}
 use Rattle.domain_base.specs.Order.{before}
@@ -22,7 +23,7 @@ use Rattle.domain_answer.specs.ZoneAnswer.{encloser, highest_occluder, inside_an
 use Rattle.domain_answer.proofs.ChainLemmas.{meant_leaving}
 use Rattle.domain_answer.proofs.CountLemmas.{closest_last}
 use Rattle.domain_answer.proofs.WholeLemmas.{wildcard_low}
-use Rattle.domain_denier.specs.Picked.{AreNeeded, IsOf, IsWhole, IsWildcardPicked, at_place, listed_option, picked}
+use Rattle.domain_denier.specs.Picked.{AreNeeded, AreThere, IsDenial, IsFound, IsOf, IsWhole, IsWildcardPicked, at_place, listed_option, picked}
 use Rattle.domain_denier.specs.declared.nsec.NsecDenial.{NsecDenial}
 
 -- what lists say is what they prove, and no zone says that there is no closer name
@@ -219,4 +220,33 @@ module _ (laws : ChainLaws) (answers : AnswerLaws) (links : List Link) (L : List
   needs_one d none = record {
     name = λ low parent. (λ i. reading a (at_place links (none i)) x t) ∙ none_says parent;
     wildcard = λ some. absurd (some none);
+  }
+
+-- what is picked, as it is promised
+module _ (laws : ChainLaws) (answers : AnswerLaws) (links : List Link) (a x : Name) (t : ℕ) (small : t < 65536)
+    (under : is_at_or_below x a ≡ true) (p : ℕ) where
+  pub denied_by_one : p < length links → IsFound links p x → (answer : Answer) → reading a (at_place links (Some p)) x t ≡ answer
+      → ((n : ℕ) → answer ≢ NoCloserName n) → IsDenial links a x t (record { answer = answer; of_name = Some p; of_wildcard = None })
+  denied_by_one inside found answer is never = record {
+    zone = λ L config whole. sym is
+        ∙ one_says laws answers links L a config whole x t small under p (found L a config whole under) (λ n e. never n (sym is ∙ e));
+    needed = λ L config whole. needs_one laws answers links L a config whole x t small under
+        (record { answer = answer; of_name = Some p; of_wildcard = None }) refl;
+    there = record {
+      name = λ place e. one_place p place (length links) e inside;
+      wildcard = λ place e. absurd (no_place place e);
+    };
+    exact = sym is ∙ sym (ap (λ ls. reading a ls x t) (append-nil (at_place links (Some p))));
+  }
+
+  pub denied_by_both : IsFound links p x → (count : ℕ) → reading a (at_place links (Some p)) x t ≡ NoCloserName count
+      → (d : NsecDenial) → AreThere links d → d.of_name ≡ Some p → IsWildcardPicked links x count d
+      → d.answer ≡ reading a (picked links d) x t → IsDenial links a x t d
+  denied_by_both found count says d there name wildcard exact = record {
+    zone = λ L config whole. zone_of_both laws answers links L a config whole x t small under p
+        (found L a config whole under) count says d name wildcard exact;
+    needed = λ L config whole. needs_both laws answers links L a config whole x t small under p
+        (found L a config whole under) count says d name wildcard;
+    there = there;
+    exact = exact;
   }

@@ -1,50 +1,54 @@
 //! What records at places of an NSEC chain say.
 ghost use Rattle.std.specs.Prelude.{◌≡◌, ◌<◌, ◌++◌, Some, length, IfSome, IsTrue};
+ghost use Rattle.domain_answer.specs.NameAnswer.{IsNameAnswer};
 ghost use Rattle.domain_answer.specs.Proved.{last_labels};
-ghost use Rattle.domain_answer.specs.Reading.{reading};
+ghost use Rattle.domain_answer.specs.Reading.{reading, wildcard_answer};
 ghost use Rattle.domain_answer.specs.ZoneAnswer.{wildcard_below};
-ghost use Rattle.domain_denier.specs.Judged.{IsTold};
+ghost use Rattle.domain_denier.specs.Judged.{IsOfWildcard, IsSilent, Tells};
 ghost use Rattle.domain_denier.specs.Picked.{at_place, IsFound, IsOf};
 ghost use Rattle.domain_answer.specs.declared.answer.Answer.TheVariants.{NoCloserName};
 
 use crate::owner_keys::OwnerKeys;
 use crate::search::{place_of, suggested};
-use domain_answer::{Answer, judge_nsec, judge_wildcard};
+use domain_answer::{
+    Answer, NameAnswer, NsecFound, find_nsec, judge_name, judge_nsec, judge_wildcard,
+};
 use domain_base::{ParsedName, Rtype, ToName};
 use domain_nsec::NsecChain;
 
-/// A record of a chain, by its place, and what it says, by itself or with another.
+/// The record that matches or covers a name, by its place, and what it answers of the name.
 #[derive(Clone, Copy)]
-pub(crate) struct Said {
+pub(crate) struct OfName {
     pub(crate) place: usize,
-    pub(crate) answer: Answer,
+    pub(crate) answer: NameAnswer,
 }
 
-/// What the record at a place of the chain says.
+/// What the record at a place of the chain answers of a name.
 fn judge_one<A: ToName, N: ToName, M: ToName>(
     apex: &A,
     chain: &NsecChain<'_, N>,
     name: &M,
     rtype: Rtype,
     place: usize,
-) -> Answer
+) -> NameAnswer
     requires { place < length chain.now }
-    ensures { result ≡ reading (A.labels apex.now) (at_place chain.now (Some place))
-        (M.labels name.now) rtype }
+    ensures { IsNameAnswer (reading (A.labels apex.now) (at_place chain.now (Some place))
+        (M.labels name.now) rtype) (A.labels apex.now) (at_place chain.now (Some place))
+        (M.labels name.now) rtype result }
 {
     let Some(listed) = chain.lend(place) else {
         unreachable!();
     };
-    judge_nsec(apex, &[listed], name, rtype)
+    judge_name(apex, &[listed], name, rtype)
 }
 
 /// Whether an answer comes of a record that matches or covers the name.
-fn is_told(answer: Answer) -> bool
-    ensures { IsTrue result → IsTold answer }
+fn is_told(answer: NameAnswer) -> bool
+    ensures { IsTrue result → Tells answer }
 {
     !matches!(
         answer,
-        Answer::OutsideZone | Answer::AtParent | Answer::NotProven
+        NameAnswer::Given(Answer::OutsideZone | Answer::AtParent | Answer::NotProven)
     )
 }
 
@@ -56,29 +60,70 @@ pub(crate) fn first_of<A: ToName, N: ToName, M: ToName>(
     keys: Option<&OwnerKeys>,
     name: &M,
     rtype: Rtype,
-) -> Said
+) -> OfName
     requires some { 0 < length chain.now }
     ensures inside { result.place < length chain.now }
     ensures found { IsFound chain.now result.place (M.labels name.now) }
-    ensures exact { result.answer ≡ reading (A.labels apex.now)
-        (at_place chain.now (Some result.place)) (M.labels name.now) rtype }
+    ensures exact { IsNameAnswer (reading (A.labels apex.now)
+        (at_place chain.now (Some result.place)) (M.labels name.now) rtype) (A.labels apex.now)
+        (at_place chain.now (Some result.place)) (M.labels name.now) rtype result.answer }
 {
     if let Some(place) = suggested(chain, keys, name) {
         let answer = judge_one(apex, chain, name, rtype, place);
         if is_told(answer) {
-            return Said { place, answer };
+            return OfName { place, answer };
         }
     }
     let place = place_of(chain, keys, name);
-    Said {
+    OfName {
         place,
         answer: judge_one(apex, chain, name, rtype, place),
     }
 }
 
-/// What the records at two places say, where the first of them denies the name alone, and the
-/// second matches or covers the wildcard below its closest encloser, which has so many labels.
-fn told_of_both<A: ToName, N: ToName, M: ToName>(
+/// What a record that denies a name says of the wildcard below the closest encloser of the name.
+#[derive(Clone, Copy)]
+pub(crate) enum OfWildcard {
+    /// It matches or covers the wildcard too, and this is the answer.
+    Told(Answer),
+    /// It covers the wildcard, and says nothing of it.
+    Untold,
+    /// It neither matches nor covers the wildcard.
+    Silent,
+}
+
+/// What the record at a place says of the wildcard below the closest encloser of a name, which has
+/// so many labels.
+pub(crate) fn of_wildcard<A: ToName, N: ToName>(
+    apex: &A,
+    chain: &NsecChain<'_, N>,
+    rtype: Rtype,
+    wildcard: &ParsedName<'_>,
+    count: usize,
+    place: usize,
+) -> OfWildcard
+    requires { place < length chain.now }
+    ensures { IsOfWildcard (A.labels apex.now) (at_place chain.now (Some place)) count wildcard.now
+        rtype result }
+{
+    let Some(listed) = chain.lend(place) else {
+        unreachable!();
+    };
+    let records = [listed];
+    match find_nsec(apex, &records, wildcard) {
+        NsecFound::Neither => return OfWildcard::Silent,
+        NsecFound::Match(_) | NsecFound::Cover(_) => {}
+    }
+    match judge_wildcard(apex, &records, count, wildcard, rtype) {
+        Answer::NoCloserName(_) => OfWildcard::Untold,
+        answer => OfWildcard::Told(answer),
+    }
+}
+
+/// What the record at the second place says of the wildcard below the closest encloser of a name,
+/// which has so many labels, where that at the first denies the name and says nothing of the
+/// wildcard.
+fn told_of_second<A: ToName, N: ToName, M: ToName>(
     apex: &A,
     chain: &NsecChain<'_, N>,
     name: &M,
@@ -92,22 +137,20 @@ fn told_of_both<A: ToName, N: ToName, M: ToName>(
     requires second { second < length chain.now }
     requires denies { reading (A.labels apex.now) (at_place chain.now (Some first))
         (M.labels name.now) rtype ≡ NoCloserName count }
+    requires silent { IsSilent (A.labels apex.now) (at_place chain.now (Some first)) wildcard.now }
     requires wildcard { wildcard.now ≡ wildcard_below (last_labels count (M.labels name.now)) }
     ensures tells { IfSome result (λ answer. IsOf chain.now second wildcard.now) }
     ensures exact { IfSome result (λ answer. answer ≡ reading (A.labels apex.now)
         (at_place chain.now (Some first) ++ at_place chain.now (Some second)) (M.labels name.now)
         rtype) }
 {
-    let Some(denial) = chain.lend(first) else {
-        unreachable!();
-    };
     let Some(listed) = chain.lend(second) else {
         unreachable!();
     };
     if listed.owner().name_eq(name) {
         return None;
     }
-    match judge_wildcard(apex, &[denial, listed], count, wildcard, rtype) {
+    match judge_wildcard(apex, &[listed], count, wildcard, rtype) {
         Answer::NoCloserName(_) => None,
         answer => Some(answer),
     }
@@ -137,8 +180,17 @@ fn judge_both<A: ToName, N: ToName, M: ToName>(
     judge_nsec(apex, &[first, second], name, rtype)
 }
 
+/// A record that matches or covers the wildcard below the closest encloser of a name, by its place,
+/// and what it answers with the one that denies the name.
+#[derive(Clone, Copy)]
+pub(crate) struct OfBoth {
+    pub(crate) place: usize,
+    pub(crate) answer: Answer,
+}
+
 /// The record that matches or covers the wildcard below the closest encloser of a name, which has
-/// so many labels, and what it says with the one at a place that denies the name alone.
+/// so many labels, and what it says with the one at a place that denies the name alone. `is_silent`
+/// where that one neither matches nor covers the wildcard.
 pub(crate) fn second_of<A: ToName, N: ToName, M: ToName>(
     apex: &A,
     chain: &NsecChain<'_, N>,
@@ -148,10 +200,13 @@ pub(crate) fn second_of<A: ToName, N: ToName, M: ToName>(
     wildcard: &ParsedName<'_>,
     count: usize,
     first: usize,
-) -> Said
+    is_silent: bool,
+) -> OfBoth
     requires first { first < length chain.now }
     requires denies { reading (A.labels apex.now) (at_place chain.now (Some first))
         (M.labels name.now) rtype ≡ NoCloserName count }
+    requires silent { IsTrue is_silent
+        → IsSilent (A.labels apex.now) (at_place chain.now (Some first)) wildcard.now }
     requires wildcard { wildcard.now ≡ wildcard_below (last_labels count (M.labels name.now)) }
     ensures inside { result.place < length chain.now }
     ensures found { IsFound chain.now result.place wildcard.now }
@@ -159,15 +214,17 @@ pub(crate) fn second_of<A: ToName, N: ToName, M: ToName>(
         (at_place chain.now (Some first) ++ at_place chain.now (Some result.place))
         (M.labels name.now) rtype }
 {
-    if let Some(place) = suggested(chain, keys, wildcard) {
-        if let Some(answer) = told_of_both(
-            apex, chain, name, rtype, wildcard, count, first, place,
-        ) {
-            return Said { place, answer };
+    if is_silent {
+        if let Some(place) = suggested(chain, keys, wildcard) {
+            if let Some(answer) = told_of_second(
+                apex, chain, name, rtype, wildcard, count, first, place,
+            ) {
+                return OfBoth { place, answer };
+            }
         }
     }
     let place = place_of(chain, keys, wildcard);
-    Said {
+    OfBoth {
         place,
         answer: judge_both(apex, chain, name, rtype, first, place),
     }

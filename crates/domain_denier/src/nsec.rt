@@ -1,12 +1,16 @@
 //! What is picked of an NSEC chain.
-ghost use Rattle.std.specs.Prelude.{◌≡◌, ◌<◌, [], None, Some, length, IfOk};
-ghost use Rattle.domain_answer.specs.Reading.{reading};
-ghost use Rattle.domain_denier.specs.Picked.{at_place, picked, AreThere, IsDenial, IsWildcardPicked};
+ghost use Rattle.std.specs.Prelude.{◌≡◌, ◌<◌, [], None, Some, true, length, IfOk, IsTrue};
+ghost use Rattle.domain_base.specs.Name.{is_at_or_below};
+ghost use Rattle.domain_answer.specs.Proved.{last_labels};
+ghost use Rattle.domain_answer.specs.Reading.{absent_answer, reading};
+ghost use Rattle.domain_answer.specs.ZoneAnswer.{wildcard_below};
+ghost use Rattle.domain_denier.specs.Judged.{IsSilent};
+ghost use Rattle.domain_denier.specs.Picked.{at_place, picked, AreThere, IsDenial, IsFound, IsWildcardPicked};
 ghost use Rattle.domain_answer.specs.declared.answer.Answer.TheVariants.{NoCloserName};
 
-use crate::judged::{Said, first_of, second_of};
+use crate::judged::{OfName, OfWildcard, first_of, of_wildcard, second_of};
 use crate::owner_keys::OwnerKeys;
-use domain_answer::{Answer, judge_nsec, laws, wildcard_of};
+use domain_answer::{Answer, NameAnswer, judge_nsec, laws, wildcard_of};
 use domain_base::{ParsedName, Rtype, ToName};
 use domain_nsec::NsecChain;
 use domain_nsec::laws::chains_mean_the_zone;
@@ -42,8 +46,44 @@ fn judge_none<A: ToName, M: ToName>(apex: &A, name: &M, rtype: Rtype) -> NsecDen
     }
 }
 
-/// What is picked where the record at a place denies the name, and the closest encloser has so many
-/// labels: the record of the wildcard below that one too.
+/// What is picked where the record at a place denies the name, whose closest encloser has so many
+/// labels, and says nothing of the wildcard below that one: the record of the wildcard too.
+/// `is_silent` where the record neither matches nor covers the wildcard.
+fn with_second<A: ToName, N: ToName, M: ToName>(
+    apex: &A,
+    chain: &NsecChain<'_, N>,
+    keys: Option<&OwnerKeys>,
+    name: &M,
+    rtype: Rtype,
+    wildcard: &ParsedName<'_>,
+    count: usize,
+    place: usize,
+    is_silent: bool,
+) -> NsecDenial
+    requires inside { place < length chain.now }
+    requires denies { reading (A.labels apex.now) (at_place chain.now (Some place))
+        (M.labels name.now) rtype ≡ NoCloserName count }
+    requires silent { IsTrue is_silent
+        → IsSilent (A.labels apex.now) (at_place chain.now (Some place)) wildcard.now }
+    requires wildcard { wildcard.now ≡ wildcard_below (last_labels count (M.labels name.now)) }
+    ensures there { AreThere chain.now result }
+    ensures name { result.of_name ≡ Some place }
+    ensures wildcard { IsWildcardPicked chain.now (M.labels name.now) count result }
+    ensures exact { result.answer ≡ reading (A.labels apex.now) (picked chain.now result)
+        (M.labels name.now) rtype }
+{
+    let second = second_of(
+        apex, chain, keys, name, rtype, wildcard, count, place, is_silent,
+    );
+    NsecDenial {
+        answer: second.answer,
+        of_name: Some(place),
+        of_wildcard: Some(second.place),
+    }
+}
+
+/// What is picked where the record at a place denies the name, whose closest encloser has so many
+/// labels: the record of the wildcard below that one too, unless it is the same.
 fn with_wildcard<A: ToName, N: ToName, M: ToName>(
     apex: &A,
     chain: &NsecChain<'_, N>,
@@ -54,24 +94,35 @@ fn with_wildcard<A: ToName, N: ToName, M: ToName>(
     count: usize,
 ) -> NsecDenial
     requires inside { place < length chain.now }
-    requires first { reading (A.labels apex.now) (at_place chain.now (Some place))
-        (M.labels name.now) rtype ≡ NoCloserName count }
+    requires below { is_at_or_below (M.labels name.now) (A.labels apex.now) ≡ true }
+    requires found { IsFound chain.now place (M.labels name.now) }
+    requires absent { reading (A.labels apex.now) (at_place chain.now (Some place))
+        (M.labels name.now) rtype ≡ absent_answer (A.labels apex.now)
+        (at_place chain.now (Some place)) count (M.labels name.now) rtype }
     requires counts { count < length (M.labels name.now) }
-    ensures there { AreThere chain.now result }
-    ensures name { result.of_name ≡ Some place }
-    ensures wildcard { IsWildcardPicked chain.now (M.labels name.now) count result }
-    ensures exact { result.answer ≡ reading (A.labels apex.now) (picked chain.now result)
-        (M.labels name.now) rtype }
+    ensures { IsDenial chain.now (A.labels apex.now) (M.labels name.now) rtype result }
 {
+    // By these laws what the records say is what the zone says, of a type of 16 bits.
+    laws::readings_are_proved();
+    laws::whole_chains_prove_all();
+    chains_mean_the_zone();
+    let _number = rtype.to_int();
     let mut buffer = [0; MAX_NAME];
     let Some(wildcard) = wildcard_of(&mut buffer, name, count) else {
         unreachable!();
     };
-    let second = second_of(apex, chain, keys, name, rtype, &wildcard, count, place);
-    NsecDenial {
-        answer: second.answer,
-        of_name: Some(place),
-        of_wildcard: Some(second.place),
+    match of_wildcard(apex, chain, rtype, &wildcard, count, place) {
+        OfWildcard::Told(answer) => NsecDenial {
+            answer,
+            of_name: Some(place),
+            of_wildcard: None,
+        },
+        OfWildcard::Untold => with_second(
+            apex, chain, keys, name, rtype, &wildcard, count, place, false,
+        ),
+        OfWildcard::Silent => with_second(
+            apex, chain, keys, name, rtype, &wildcard, count, place, true,
+        ),
     }
 }
 
@@ -93,16 +144,14 @@ fn pick<A: ToName, N: ToName, M: ToName>(
     if chain.is_empty() || !name.ends_with(apex) {
         return judge_none(apex, name, rtype);
     }
-    let Said { place, answer } = first_of(apex, chain, keys, name, rtype);
+    let OfName { place, answer } = first_of(apex, chain, keys, name, rtype);
     match answer {
-        Answer::NoCloserName(count) => {
-            with_wildcard(apex, chain, keys, name, rtype, place, count)
-        }
-        answer => NsecDenial {
+        NameAnswer::Given(answer) => NsecDenial {
             answer,
             of_name: Some(place),
             of_wildcard: None,
         },
+        NameAnswer::Absent(count) => { with_wildcard(apex, chain, keys, name, rtype, place, count) }
     }
 }
 

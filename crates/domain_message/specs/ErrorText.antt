@@ -3,7 +3,11 @@ use Rattle.std.specs.Prelude.{codes, ◌++◌}
 use Rattle.domain_octets.specs.Words.{Octets}
 use Rattle.domain_base.specs.ErrorText.{scan_error_text}
 use Rattle.domain_message.specs.declared.error.MessageError.{MessageError}
-use Rattle.domain_message.specs.declared.error.MessageError.TheVariants.{ShortInput, BadLabelType, ForwardPointer, LongName, DataLength, IllegalData, ShortBuf, OutOfMemory}
+use Rattle.domain_message.specs.declared.error.MessageError.TheVariants.{ShortInput, BadLabelType}
+use Rattle.domain_message.specs.declared.error.MessageError.TheVariants.{ForwardPointer}
+use Rattle.domain_message.specs.declared.error.MessageError.TheVariants.{LongName, DataLength}
+use Rattle.domain_message.specs.declared.error.MessageError.TheVariants.{IllegalData}
+use Rattle.domain_message.specs.declared.error.MessageError.TheVariants.{ShortBuf, OutOfMemory}
 use Rattle.domain_message.specs.declared.line.LineError.{LineError}
 use Rattle.domain_message.specs.declared.line.LineError.TheVariants as line_error
 

@@ -10,7 +10,11 @@ use Rattle.domain_message.specs.Fault.{LabelsFault}
 use Rattle.domain_message.specs.declared.name.NameFault.{NameFault}
 use Rattle.domain_message.specs.declared.name.NameFault.TheVariants as name_fault
 use Rattle.domain_message.specs.declared.error.MessageError.{MessageError}
-use Rattle.domain_message.specs.declared.error.MessageError.TheVariants.{ShortInput, BadLabelType, ForwardPointer, LongName, DataLength, IllegalData, ShortBuf, OutOfMemory}
+use Rattle.domain_message.specs.declared.error.MessageError.TheVariants.{ShortInput, BadLabelType}
+use Rattle.domain_message.specs.declared.error.MessageError.TheVariants.{ForwardPointer}
+use Rattle.domain_message.specs.declared.error.MessageError.TheVariants.{LongName, DataLength}
+use Rattle.domain_message.specs.declared.error.MessageError.TheVariants.{IllegalData}
+use Rattle.domain_message.specs.declared.error.MessageError.TheVariants.{ShortBuf, OutOfMemory}
 
 abbrev pub message_error_of : NameFault → MessageError
 message_error_of name_fault.ShortInput = ShortInput

@@ -1,5 +1,7 @@
 -- The options of a command.
-use Rattle.std.proofs.Common.{◌≡◌, ◌<◌, ◌≤◌, ℕ, Bool, true, false, not, List, [], ◌∷◌, length, drop, take, ◌-◌, get_or, refl, ap, sym, ◌∙◌, arith, Option, Some, None, IfNone}
+use Rattle.std.proofs.Common.{◌≡◌, ◌<◌, ◌≤◌, ℕ, Bool, true, false, not, List, [], ◌∷◌}
+use Rattle.std.proofs.Common.{length, drop, take, ◌-◌, get_or, refl, ap, sym, ◌∙◌, arith}
+use Rattle.std.proofs.Common.{Option, Some, None, IfNone}
 use Rattle.std.proofs.lemmas.List.{take_all}
 use Rattle.domain_base.specs.Words.{Tokens}
 use Rattle.judge_program.specs.declared.shown.Shown.{Shown}

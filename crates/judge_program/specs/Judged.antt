@@ -20,7 +20,15 @@ use Rattle.domain_answer.specs.declared.answer.Answer.TheVariants.{OutsideZone, 
 use Rattle.denial_program.specs.Check.{hash_with, AreNsecs, AreNsec3s, AreParams, HasNoParam}
 use Rattle.denial_program.specs.declared.command.Question.{Question}
 use Rattle.denial_program.specs.declared.fault.DenialFault.{DenialFault}
-use Rattle.denial_program.specs.declared.fault.DenialFault.TheVariants.{Usage, Read, Line, Unprepared, MixedClasses, Signing, Param, Write, OutOfMemory}
+use Rattle.denial_program.specs.declared.fault.DenialFault.TheVariants.{Usage}
+use Rattle.denial_program.specs.declared.fault.DenialFault.TheVariants.{Read}
+use Rattle.denial_program.specs.declared.fault.DenialFault.TheVariants.{Line}
+use Rattle.denial_program.specs.declared.fault.DenialFault.TheVariants.{Unprepared}
+use Rattle.denial_program.specs.declared.fault.DenialFault.TheVariants.{MixedClasses}
+use Rattle.denial_program.specs.declared.fault.DenialFault.TheVariants.{Signing}
+use Rattle.denial_program.specs.declared.fault.DenialFault.TheVariants.{Param}
+use Rattle.denial_program.specs.declared.fault.DenialFault.TheVariants.{Write}
+use Rattle.denial_program.specs.declared.fault.DenialFault.TheVariants.{OutOfMemory}
 use Rattle.judge_program.specs.declared.command.Nsec3Options.{Nsec3Options}
 
 -- the answer is what the NSEC records prove of any zone of whose chain they are; from any records,

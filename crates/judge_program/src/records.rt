@@ -24,7 +24,7 @@ fn found_record<'r, 'a>(found: NsecFound<'r, &'a [u8], ParsedName<'a>>) -> Optio
 {
     match found {
         NsecFound::Match(record) => Some(record),
-        NsecFound::Cover(record) => Some(record),
+        NsecFound::Cover(cover) => Some(cover.record),
         NsecFound::Neither => None,
     }
 }

@@ -52,7 +52,7 @@ fn write_found<W: Write>(
 {
     match found {
         NsecFound::Match(record) => writeln!(output, "matches {role}: {record}"),
-        NsecFound::Cover(record) => writeln!(output, "covers {role}: {record}"),
+        NsecFound::Cover(cover) => writeln!(output, "covers {role}: {}", cover.record),
         NsecFound::Neither => Ok(()),
     }
 }

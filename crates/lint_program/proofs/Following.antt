@@ -9,7 +9,15 @@ use Rattle.denial_program.specs.Fault.{IsReadingFault}
 use Rattle.denial_program.specs.Listing.{Give, IsBad, IsFirstBad, IsLineRecord}
 use Rattle.denial_program.specs.Words.{words, IsSkipped}
 use Rattle.denial_program.specs.declared.fault.DenialFault.{DenialFault}
-use Rattle.denial_program.specs.declared.fault.DenialFault.TheVariants.{Usage, Read, Line, Unprepared, MixedClasses, Signing, Param, Write, OutOfMemory}
+use Rattle.denial_program.specs.declared.fault.DenialFault.TheVariants.{Usage}
+use Rattle.denial_program.specs.declared.fault.DenialFault.TheVariants.{Read}
+use Rattle.denial_program.specs.declared.fault.DenialFault.TheVariants.{Line}
+use Rattle.denial_program.specs.declared.fault.DenialFault.TheVariants.{Unprepared}
+use Rattle.denial_program.specs.declared.fault.DenialFault.TheVariants.{MixedClasses}
+use Rattle.denial_program.specs.declared.fault.DenialFault.TheVariants.{Signing}
+use Rattle.denial_program.specs.declared.fault.DenialFault.TheVariants.{Param}
+use Rattle.denial_program.specs.declared.fault.DenialFault.TheVariants.{Write}
+use Rattle.denial_program.specs.declared.fault.DenialFault.TheVariants.{OutOfMemory}
 use Rattle.denial_program.specs.declared.prepare.PrepareError.{PrepareError}
 use Rattle.denial_program.proofs.ReadingLemmas.{StaysKnown}
 use Rattle.lint_program.specs.Lines.{AreLinted}

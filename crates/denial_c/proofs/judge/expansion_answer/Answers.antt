@@ -14,7 +14,8 @@ use Rattle.denial_c.proofs.judge.expansion_answer.Goals as goal
 pub returns-in-Err : goal.returns-in-Err
 returns-in-Err c =
     chain_fault c.args.telling c.args.apex.now c.args.name.now c.args.class c.args.records.now
-    (IsExpansionRefused (source_of c.args.telling c.args.class c.args.records.now) c.args.apex.now c.args.name.now c.args.rrsig_labels c.args.limit) c.in_ok-apex.apex c.in_ok-apex.ensures.ok
+    (IsExpansionRefused (source_of c.args.telling c.args.class c.args.records.now) c.args.apex.now c.args.name.now c.args.rrsig_labels
+    c.args.limit) c.in_ok-apex.apex c.in_ok-apex.ensures.ok
     (c.in_ok-name.name, c.in_ok-name.ensures.ok) c.in-Err.fault
     (subst (λ n. (source_of c.args.telling n c.args.records.now).is_fault c.in_ok-apex.apex c.in-Err.fault) c.from_int.ensures c.in-Err.ensures.err)
 

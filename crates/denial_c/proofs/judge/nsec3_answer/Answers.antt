@@ -16,7 +16,8 @@ use Rattle.denial_c.proofs.judge.nsec3_answer.Goals as goal
 pub returns-in-Err : goal.returns-in-Err
 returns-in-Err c =
     chain_fault c.args.telling c.args.apex.now c.args.name.now c.args.class c.args.records.now
-    (IsAnswerRefused (source_of c.args.telling c.args.class c.args.records.now) c.args.apex.now c.args.name.now c.args.rtype c.args.limit) c.in_ok-apex.apex c.in_ok-apex.ensures.ok
+    (IsAnswerRefused (source_of c.args.telling c.args.class c.args.records.now) c.args.apex.now c.args.name.now c.args.rtype c.args.limit)
+    c.in_ok-apex.apex c.in_ok-apex.ensures.ok
     (c.in_ok-name.name, c.in_ok-name.ensures.ok) c.in-Err.fault
     (subst (λ n. (source_of c.args.telling n c.args.records.now).is_fault c.in_ok-apex.apex c.in-Err.fault) c.from_int.ensures c.in-Err.ensures.err)
 

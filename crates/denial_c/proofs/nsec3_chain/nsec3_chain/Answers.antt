@@ -19,8 +19,10 @@ returns-in-Err-sorted_nsec3s c =
     c.in-Ok-sorted_zone.ensures.sorts c.in-Ok-sorted_zone.ensures.one_class in (
       nsec3_fault c.args.apex.now c.args.class config c.args.records.now made_with.ensures.fits c.in-Ok.apex sorted c.args.buffer.now zone
           c.from_int-class.result c.from_int-class.ensures c.in-Err-sorted_nsec3s.fault
-          (subst (λ (xs : List RawRecord). IsSortedNsec3Fault c.from_int-class.result c.args.records.now xs c.in-Ok.apex config c.in-Err-sorted_nsec3s.fault) c.deref.ensures.value
-          (subst (λ (k : ChainConfig). IsSortedNsec3Fault c.from_int-class.result c.args.records.now c.deref.result.now c.in-Ok.apex k c.in-Err-sorted_nsec3s.fault) made_with.ensures.ok
+          (subst (λ (xs : List RawRecord). IsSortedNsec3Fault c.from_int-class.result c.args.records.now xs c.in-Ok.apex config
+          c.in-Err-sorted_nsec3s.fault) c.deref.ensures.value
+          (subst (λ (k : ChainConfig). IsSortedNsec3Fault c.from_int-class.result c.args.records.now c.deref.result.now c.in-Ok.apex k
+          c.in-Err-sorted_nsec3s.fault) made_with.ensures.ok
           c.in-Err-sorted_nsec3s.ensures.err)),
       refl,
     )

@@ -12,8 +12,10 @@ returns-in-Err-sorted_nsecs c =
     let sorted = c.in-Ok-sorted_zone.sorted.items in
     let zone = is_sorted c.args.apex.now c.args.class c.from_int-class.result c.args.records.now c.in-Ok.apex sorted c.in-Ok.ensures.ok c.from_int-class.ensures
     c.in-Ok-sorted_zone.ensures.sorts c.in-Ok-sorted_zone.ensures.one_class in (
-      nsec_fault c.args.apex.now c.args.class c.args.config.now c.args.records.now c.in-Ok.apex sorted c.args.buffer.now zone c.from_int-class.result c.from_int-class.ensures c.in-Err-sorted_nsecs.fault
-          (subst (λ (xs : List RawRecord). IsSortedNsecFault c.from_int-class.result c.args.records.now xs c.in-Ok.apex c.args.config.now c.in-Err-sorted_nsecs.fault) c.deref.ensures.value
+      nsec_fault c.args.apex.now c.args.class c.args.config.now c.args.records.now c.in-Ok.apex sorted c.args.buffer.now zone
+          c.from_int-class.result c.from_int-class.ensures c.in-Err-sorted_nsecs.fault
+          (subst (λ (xs : List RawRecord). IsSortedNsecFault c.from_int-class.result c.args.records.now xs c.in-Ok.apex c.args.config.now
+          c.in-Err-sorted_nsecs.fault) c.deref.ensures.value
           c.in-Err-sorted_nsecs.ensures.err),
       refl,
     )
@@ -30,7 +32,8 @@ returns c =
     chain_result (nsec_asking c.args.apex.now c.args.class c.args.config.now c.args.records.now) c.args.apex.now c.args.class c.args.records.now
     octets old new tt
     (nsec_made c.args.apex.now c.args.class c.args.config.now c.args.records.now c.in-Ok.apex sorted octets made.0 zone
-    (subst (λ (xs : List RawRecord). IsChain (zone_of (λ n. n) (λ d. d.rtype) minimum_of xs) c.in-Ok.apex c.args.config.now made.0) c.deref.ensures.value made.1)
+    (subst (λ (xs : List RawRecord). IsChain (zone_of (λ n. n) (λ d. d.rtype) minimum_of xs) c.in-Ok.apex c.args.config.now made.0)
+    c.deref.ensures.value made.1)
     made.2)
     c.write_octets.result
     (subst (λ w. IfOk c.write_octets.result (IsWritten w old new)) c.deref-2.ensures.value c.write_octets.ensures.ok)

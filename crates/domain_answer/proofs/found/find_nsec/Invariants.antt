@@ -1,17 +1,21 @@
 use Rattle.std.proofs.Common.{◌≡◌, map, drop}
 use Rattle.std.specs.List.{find}
 use Rattle.std.specs.Option.{option_map, option_or}
+use Rattle.std.specs.Prelude.{IfSome}
 use Rattle.domain_nsec.specs.ChainView.{as_link}
 use Rattle.domain_checker.specs.Reading.{is_cover, is_match}
+use Rattle.domain_answer.specs.Found.{IsSharing, cover_link}
 use Rattle.domain_answer.proofs.found.find_nsec.Given as goal
 
 -- what is found in the whole list is found in the rest, unless a cover was met already
 abbrev pub invariant-loop-listed : goal.invariant-loop-listed
 invariant-loop-listed g l =
-    let see = as_link g.N.ToName.labels in
+    let labels = g.N.ToName.labels in
+    let see = as_link labels in
     let matched = is_match (g.A.ToName.labels l.apex) (g.M.ToName.labels l.name) in
     let covered = is_cover (g.A.ToName.labels l.apex) (g.M.ToName.labels l.name) in
     record {
       matching : find matched (map see l.chain) ≡ find matched (map see (drop l.listed-index l.chain));
-      covering : find covered (map see l.chain) ≡ option_or (option_map (λ r. see r.now) l.cover) (find covered (map see (drop l.listed-index l.chain)));
+      covering : find covered (map see l.chain) ≡ option_or (option_map (cover_link labels) l.cover) (find covered (map see (drop l.listed-index l.chain)));
+      sharing : IfSome l.cover (IsSharing labels (g.M.ToName.labels l.name));
     }

@@ -12,7 +12,7 @@ returns-in-Match g c =
     let a = g.A.ToName.labels c.args.apex.now in
     let w = c.args.wildcard.now in
     let listed = links_of labels c.args.chain.now in
-    let found = subst (λ f. IsFound a listed w (found_match labels f) (found_cover labels f)) c.in-Match.is c.find_nsec.ensures in
+    let found = subst (λ f. IsFound a listed w (found_match labels f) (found_cover labels f)) c.in-Match.is c.find_nsec.ensures.found in
     c.wildcard_match_answer.ensures ∙ ap (λ o. wildcard_both a c.args.count w c.args.rtype o (find (is_cover a w) listed)) found.matching
 
 pub returns-in-Cover : goal.returns-in-Cover
@@ -21,7 +21,7 @@ returns-in-Cover g c =
     let a = g.A.ToName.labels c.args.apex.now in
     let w = c.args.wildcard.now in
     let listed = links_of labels c.args.chain.now in
-    let found = subst (λ f. IsFound a listed w (found_match labels f) (found_cover labels f)) c.in-Cover.is c.find_nsec.ensures in
+    let found = subst (λ f. IsFound a listed w (found_match labels f) (found_cover labels f)) c.in-Cover.is c.find_nsec.ensures.found in
     c.wildcard_cover_answer.ensures ∙ (λ i. wildcard_both a c.args.count w c.args.rtype (found.matching i) (found.covering refl i))
 
 pub returns-in-Neither : goal.returns-in-Neither
@@ -30,5 +30,5 @@ returns-in-Neither g c =
     let a = g.A.ToName.labels c.args.apex.now in
     let w = c.args.wildcard.now in
     let listed = links_of labels c.args.chain.now in
-    let found = subst (λ f. IsFound a listed w (found_match labels f) (found_cover labels f)) c.in-Neither.is c.find_nsec.ensures in
+    let found = subst (λ f. IsFound a listed w (found_match labels f) (found_cover labels f)) c.in-Neither.is c.find_nsec.ensures.found in
     λ i. wildcard_both a c.args.count w c.args.rtype (found.matching i) (found.covering refl i)

@@ -24,7 +24,7 @@ returns g c =
     let mid = g.W.Write.contents c.write_once.new.output in
     let new = g.W.Write.contents c.write_once-2.new.output in
     let found_link = c.found_record-found.ensures
-    ∙ found_is a listed x (found_match (λ n. n) c.find_nsec.result) (found_cover (λ n. n) c.find_nsec.result) c.find_nsec.ensures in
+    ∙ found_is a listed x (found_match (λ n. n) c.find_nsec.result) (found_cover (λ n. n) c.find_nsec.result) c.find_nsec.ensures.found in
     let is : of_name ≡ part = c.name_part-of_name.ensures ∙ ap (λ n. name_part n found) c.needs_of.ensures ∙ ap (name_part (needs_of answer)) found_link in
     let first = subst (λ o. Appends old mid (nsec_once [] o)) is c.in_ok-write_once.ensures in
     on_ok (λ h. subst (Appends old new) (two_records a listed x answer (sym c.needs_wildcard.ensures ∙ c.if-not-needs_wildcard.false))

@@ -22,7 +22,7 @@ returns-in-Match g c =
 
 pub returns-in-Cover : goal.returns-in-Cover
 returns-in-Cover g c =
-    let r = c.in-Cover.record.now in
+    let r = c.in-Cover.cover.record.now in
     let role = role_text c.args.role.now in
     let old = g.W.Write.contents c.args.output.now in
     let new = g.W.Write.contents c.writeln-in-Cover.new.self in

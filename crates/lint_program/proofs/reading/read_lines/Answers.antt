@@ -6,7 +6,8 @@ use Rattle.lint_program.specs.declared.reading.BadLine.{BadLine}
 use Rattle.lint_program.specs.declared.reading.Place.{Place}
 use Rattle.lint_program.proofs.Following.{follows_bad, follows_end, follows_next, follows_nothing, follows_record, paired_more}
 use Rattle.lint_program.proofs.reading.read_lines.Goals as goal
-use Rattle.lint_program.proofs.reading.read_lines.Goals.{in-Nothing, in-Record+in_ok-push-in-Record+in_ok-push-in-Record-2, in-Bad+in_ok-octets-in-Bad+in_ok-push-in-Bad}
+use Rattle.lint_program.proofs.reading.read_lines.Goals.{in-Nothing, in-Record+in_ok-push-in-Record+in_ok-push-in-Record-2}
+use Rattle.lint_program.proofs.reading.read_lines.Goals.{in-Bad+in_ok-octets-in-Bad+in_ok-push-in-Bad}
 
 pub returns-then-count-eq0-clause-ok : goal.returns-then-count-eq0-clause-ok
 returns-then-count-eq0-clause-ok g c =
@@ -40,7 +41,8 @@ loop-number-preserved g c =
           rw (w.bad-is, w.records-is, w.places-is)
           (record {
             follows = follows_record known now view bad numbers _ records _ w.in-Record.record number here numbered more says;
-            paired = ap length placed ∙ paired_more c.loop-number.places.items records _ w.in-Record.record c.loop-number.invariant.paired ∙ sym (ap length more);
+            paired = ap length placed ∙ paired_more c.loop-number.places.items records _ w.in-Record.record c.loop-number.invariant.paired
+                ∙ sym (ap length more);
           })
       | in-Bad+in_ok-octets-in-Bad+in_ok-push-in-Bad w ↦
           let says = subst (λ s. (out : List ℕ) → lines view ≡ out ∷ [] → Reads out s) w.in-Bad.is c.in_ok-read_line.ensures.ok in
