@@ -180,7 +180,7 @@ pub fn deny_nsec<A: ToName, N: ToName, M: ToName>(
 }
 
 /// The NSEC chain of a zone, to be asked often. Contracts see the links of the chain. Beside the
-/// chain, which it borrows, it keeps 17 octets for each record: the first letters of its owner as a
+/// chain, which it borrows, it keeps 9 octets for each record: the first letters of its owner as a
 /// number, all in one list, so that a search touches no name, and the record that it ends at alone
 /// is compared with the name, where no other begins with as many letters.
 #[derive(Drop)]
@@ -203,7 +203,7 @@ impl<'c, 'a, N: ToName> NsecDenier<'c, 'a, N> {
     ///
     /// # Errors
     ///
-    /// `OutOfMemory` where there was no memory for 17 octets a record.
+    /// `OutOfMemory` where there was no memory for 9 octets a record.
     pub fn new(alloc: Global, chain: &'c NsecChain<'a, N>) -> Result<Self, OutOfMemory>
         ensures { IfOk result (λ denier. denier ≡ chain.now) }
     {

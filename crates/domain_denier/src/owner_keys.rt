@@ -9,60 +9,129 @@ use std::alloc::Global;
 /// How many keys stand for one among the samples.
 const RUN: usize = 16;
 
+/// How a long key becomes a short one: what all keys below the apex begin with is left out, so that
+/// the 64 bits after that tell owners apart.
+#[derive(Clone, Copy)]
+struct KeyScale {
+    /// How many labels, from the root, all owners share: those of the apex.
+    shared: usize,
+    /// The least key of an owner below the apex.
+    first: u128,
+    /// The greatest.
+    last: u128,
+    /// How many bits the two begin with alike.
+    alike: u32,
+}
+
+impl KeyScale {
+    /// That of a chain.
+    fn of<N: ToName>(chain: &NsecChain<'_, N>) -> Self {
+        let shared = chain.owner(0).map_or(0, |apex| apex.count_labels());
+        let key_at = |place| chain
+            .owner(place)
+            .map_or(0, |owner| owner_key(owner, shared));
+        let first = key_at(1);
+        let last = key_at(chain.len().saturating_sub(1));
+        KeyScale {
+            shared,
+            first,
+            last,
+            alike: (first ^ last).leading_zeros(),
+        }
+    }
+
+    /// The short key of a name: 0 before all owners but the apex, and the greatest number after
+    /// them.
+    fn short<M: ToName>(&self, name: &M) -> u64 {
+        let key = owner_key(name, self.shared);
+        if key < self.first {
+            return 0;
+        }
+        if key > self.last {
+            return u64::MAX;
+        }
+        let rest = key.checked_shl(self.alike).unwrap_or(0);
+        ((rest >> 64) as u64).max(1)
+    }
+}
+
+/// How many keys of a run are not above one. The run is gone over whole, so that its lines are
+/// waited for at once.
+fn count_in(run: &[u64], key: u64) -> usize {
+    let mut count = 0usize;
+    for other in run {
+        count = count.wrapping_add(usize::from(*other <= key));
+    }
+    count
+}
+
+/// How many keys are not above one, where so many runs begin with one that is not.
+fn count_from(keys: &[u64], runs: usize, key: u64) -> usize {
+    let start = runs.saturating_sub(1).saturating_mul(RUN);
+    match keys.get(start..) {
+        Some(rest) => {
+            let run = &rest[..rest.len().min(RUN)];
+            start.saturating_add(count_in(run, key))
+        }
+        None => start,
+    }
+}
+
+/// The first of each run.
+fn samples_of(alloc: Global, keys: &[u64]) -> Result<Vec<u64>, OutOfMemory> {
+    let mut samples = Vec::with_capacity(alloc, keys.len() / RUN + 1)?;
+    for run in keys.chunks(RUN) {
+        samples.push(run[0])?;
+    }
+    Ok(samples)
+}
+
 /// A number for each owner of a chain, in the order of its records. They lie in one list, so that a
 /// search among them touches no name. They are hints: what they suggest is tested.
 #[derive(Drop)]
 pub(crate) struct OwnerKeys {
-    keys: Vec<u128>,
-    /// The first of each run of keys. These stay in the caches where the keys do not.
-    samples: Vec<u128>,
-    /// How many labels, from the root, all owners share: those of the apex.
-    shared: usize,
+    scale: KeyScale,
+    keys: Vec<u64>,
+    /// The first of each run of keys, and the first of each run of these. They stay in the caches
+    /// where the keys do not.
+    samples: Vec<u64>,
+    heads: Vec<u64>,
 }
 
 impl OwnerKeys {
-    /// The keys of the owners of a chain: 17 octets a record.
+    /// The keys of the owners of a chain: 9 octets a record.
     pub(crate) fn of<N: ToName>(
         alloc: Global,
         chain: &NsecChain<'_, N>,
     ) -> Result<Self, OutOfMemory> {
-        let shared = chain.owner(0).map_or(0, |apex| apex.count_labels());
+        let scale = KeyScale::of(chain);
         let mut keys = Vec::with_capacity(alloc, chain.len())?;
-        let mut samples = Vec::with_capacity(alloc, chain.len() / RUN + 1)?;
         for place in 0..chain.len() {
             let Some(owner) = chain.owner(place) else {
                 unreachable!();
             };
-            let key = owner_key(owner, shared);
-            keys.push(key)?;
-            if place % RUN == 0 {
-                samples.push(key)?;
-            }
+            keys.push(scale.short(owner))?;
         }
+        let samples = samples_of(alloc, &keys)?;
+        let heads = samples_of(alloc, &samples)?;
         Ok(OwnerKeys {
+            scale,
             keys,
             samples,
-            shared,
+            heads,
         })
     }
 
     /// How many keys are not above this one. The samples tell in which run they end.
-    fn count_up_to(&self, key: u128) -> usize {
-        let is_in = |other: &u128| *other <= key;
-        let runs = self.samples.partition_point(is_in);
-        let start = runs.saturating_sub(1).saturating_mul(RUN);
-        match self.keys.get(start..) {
-            Some(keys) => {
-                let run = &keys[..keys.len().min(RUN)];
-                start.saturating_add(run.partition_point(is_in))
-            }
-            None => start,
-        }
+    fn count_up_to(&self, key: u64) -> usize {
+        let heads = self.heads.partition_point(|other| *other <= key);
+        let samples = count_from(&self.samples, heads, key);
+        count_from(&self.keys, samples, key)
     }
 
     /// How many owners have a key below that of a name, and how many have none above it.
     pub(crate) fn places_of<M: ToName>(&self, name: &M) -> (usize, usize) {
-        let key = owner_key(name, self.shared);
+        let key = self.scale.short(name);
         let below = key
             .checked_sub(1)
             .map_or(0, |before| self.count_up_to(before));
@@ -71,7 +140,6 @@ impl OwnerKeys {
 
     /// The last place whose key is not above that of a name.
     pub(crate) fn place_near<M: ToName>(&self, name: &M) -> Option<usize> {
-        self.count_up_to(owner_key(name, self.shared))
-            .checked_sub(1)
+        self.count_up_to(self.scale.short(name)).checked_sub(1)
     }
 }
