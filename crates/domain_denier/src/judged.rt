@@ -9,7 +9,7 @@ ghost use Rattle.domain_denier.specs.Picked.{at_place, IsFound, IsOf};
 ghost use Rattle.domain_answer.specs.declared.answer.Answer.TheVariants.{NoCloserName};
 
 use crate::owner_keys::OwnerKeys;
-use crate::search::{place_of, suggested};
+use crate::search::{place_of, suggested, suggested_wildcard};
 use domain_answer::{
     Answer, NameAnswer, NsecFound, find_nsec, judge_name, judge_nsec, judge_wildcard,
 };
@@ -215,7 +215,7 @@ pub(crate) fn second_of<A: ToName, N: ToName, M: ToName>(
         (M.labels name.now) rtype }
 {
     if is_silent {
-        if let Some(place) = suggested(chain, keys, wildcard) {
+        if let Some(place) = suggested_wildcard(chain, keys, wildcard, count) {
             if let Some(answer) = told_of_second(
                 apex, chain, name, rtype, wildcard, count, first, place,
             ) {

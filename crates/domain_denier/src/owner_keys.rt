@@ -1,9 +1,11 @@
 //! Keys of the owners of a chain, by which a search for a name begins near its end.
 
-use domain_base::ToName;
+use domain_answer::wildcard_of;
+use domain_base::{ParsedName, ToName};
 use domain_nsec::NsecChain;
 use domain_octets::OutOfMemory;
 use domain_records::owner_key;
+use domain_zone::MAX_NAME;
 use std::alloc::Global;
 
 /// How many keys stand for one among the samples.
@@ -96,6 +98,8 @@ pub(crate) struct OwnerKeys {
     /// where the keys do not.
     samples: Vec<u64>,
     heads: Vec<u64>,
+    /// The place of the wildcard right below the apex, which most names that do not exist need.
+    below_apex: Option<usize>,
 }
 
 impl OwnerKeys {
@@ -114,12 +118,20 @@ impl OwnerKeys {
         }
         let samples = samples_of(alloc, &keys)?;
         let heads = samples_of(alloc, &samples)?;
-        Ok(OwnerKeys {
+        let mut made = OwnerKeys {
             scale,
             keys,
             samples,
             heads,
-        })
+            below_apex: None,
+        };
+        if let Some(owner) = chain.owner(1) {
+            let mut buffer = [0; MAX_NAME];
+            if let Some(wildcard) = wildcard_of(&mut buffer, owner, scale.shared) {
+                made.below_apex = made.place_near(&wildcard);
+            }
+        }
+        Ok(made)
     }
 
     /// How many keys are not above this one. The samples tell in which run they end.
@@ -136,6 +148,19 @@ impl OwnerKeys {
             .checked_sub(1)
             .map_or(0, |before| self.count_up_to(before));
         (below, self.count_up_to(key))
+    }
+
+    /// The last place whose key is not above that of the wildcard below an ancestor of a name, which
+    /// has so many labels.
+    pub(crate) fn place_near_wildcard(
+        &self,
+        wildcard: &ParsedName<'_>,
+        count: usize,
+    ) -> Option<usize> {
+        if count == self.scale.shared {
+            return self.below_apex;
+        }
+        self.place_near(wildcard)
     }
 
     /// The last place whose key is not above that of a name.

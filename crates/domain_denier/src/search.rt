@@ -4,7 +4,7 @@ ghost use Rattle.domain_denier.specs.Picked.{IsFound};
 ghost use Rattle.domain_denier.specs.Search.{AreEnds, IsAhead, IsBehind};
 
 use crate::owner_keys::OwnerKeys;
-use domain_base::ToName;
+use domain_base::{ParsedName, ToName};
 use domain_checker::is_before;
 use domain_nsec::{NsecChain, laws};
 
@@ -42,6 +42,24 @@ pub(crate) fn suggested<N: ToName, M: ToName>(
     ensures { IfSome result (λ place. place < length chain.now) }
 {
     let place = keys?.place_near(name)?;
+    if place < chain.len() {
+        Some(place)
+    } else {
+        None
+    }
+}
+
+/// A place that the keys of a chain suggest for the wildcard below the closest encloser of a name,
+/// which has so many labels.
+pub(crate) fn suggested_wildcard<N: ToName>(
+    chain: &NsecChain<'_, N>,
+    keys: Option<&OwnerKeys>,
+    wildcard: &ParsedName<'_>,
+    count: usize,
+) -> Option<usize>
+    ensures { IfSome result (λ place. place < length chain.now) }
+{
+    let place = keys?.place_near_wildcard(wildcard, count)?;
     if place < chain.len() {
         Some(place)
     } else {
