@@ -2,8 +2,8 @@
 ghost use Rattle.domain_sha1.specs.Iterated.{sha1_answer};
 
 use domain_base::Nsec3HashAlgorithm;
+use domain_hasher::{HasherError, Nsec3Hasher};
 use domain_sha1::Sha1Hasher;
-use domain_zone::{HasherError, Nsec3Hasher};
 use std::alloc::Global;
 use std::cell::Cell;
 use std::io::IsTerminal;

@@ -12,7 +12,7 @@ use Rattle.domain_nsec3.specs.Chain.{ChainRecords, IsChainParam, IsHashedChain}
 use Rattle.domain_nsec3.specs.Config.{excludes, ChainConfig}
 use Rattle.domain_nsec3.specs.Faults.{IsFirstFault as IsFirstHashedFault}
 use Rattle.domain_nsec3.specs.declared.config.Nsec3ParamTtlMode.TheVariants.{Soa as TtlOfSoa}
-use Rattle.domain_records.specs.declared.error.Nsec3HashError.TheVariants as hash_error
+use Rattle.domain_hasher.specs.declared.error.Nsec3HashError.TheVariants as hash_error
 use Rattle.domain_records.specs.declared.error.SigningError.{SigningError}
 use Rattle.domain_records.specs.declared.error.SigningError.TheVariants as signing_error
 use Rattle.domain_nsec.specs.declared.config.GenerateNsecConfig.{GenerateNsecConfig}

@@ -13,13 +13,13 @@ use Rattle.domain_nsec3.specs.Chain.{HashedLink, hashed_owner}
 use Rattle.domain_nsec3.specs.Config.{ChainConfig, Parameters, hash_of}
 use Rattle.domain_nsec3.specs.Faults.{hash_fault, IsFirstHashFault, IsFirstFault}
 use Rattle.domain_nsec3.specs.View.{hash_by}
-use Rattle.domain_records.specs.declared.error.Nsec3HashError.{Nsec3HashError}
-use Rattle.domain_records.specs.declared.error.Nsec3HashError.TheVariants.{Hasher}
-use Rattle.domain_records.specs.declared.error.Nsec3HashError.TheVariants.{AppendError}
-use Rattle.domain_records.specs.declared.error.Nsec3HashError.TheVariants.{OwnerHashError}
-use Rattle.domain_records.specs.declared.error.Nsec3HashError.TheVariants.{Nsec3NameTooLong}
-use Rattle.domain_records.specs.declared.error.Nsec3HashError.TheVariants.{CollisionDetected}
-use Rattle.domain_records.specs.declared.error.Nsec3HashError.TheVariants.{OutOfMemory}
+use Rattle.domain_hasher.specs.declared.error.Nsec3HashError.{Nsec3HashError}
+use Rattle.domain_hasher.specs.declared.error.Nsec3HashError.TheVariants.{Hasher}
+use Rattle.domain_hasher.specs.declared.error.Nsec3HashError.TheVariants.{AppendError}
+use Rattle.domain_hasher.specs.declared.error.Nsec3HashError.TheVariants.{OwnerHashError}
+use Rattle.domain_hasher.specs.declared.error.Nsec3HashError.TheVariants.{Nsec3NameTooLong}
+use Rattle.domain_hasher.specs.declared.error.Nsec3HashError.TheVariants.{CollisionDetected}
+use Rattle.domain_hasher.specs.declared.error.Nsec3HashError.TheVariants.{OutOfMemory}
 use Rattle.domain_records.specs.declared.error.SigningError.TheVariants as signing_error
 use Rattle.domain_sha1.specs.Iterated.{iterated, sha1_answer}
 use Rattle.domain_zone.specs.View.{zone_of}

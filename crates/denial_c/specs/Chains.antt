@@ -12,8 +12,8 @@ use Rattle.domain_nsec3.specs.Faults.{IsReady, IsFirstFault as IsFirstHashedFaul
 use Rattle.domain_nsec3.specs.View.{hash_by}
 use Rattle.domain_nsec3.specs.declared.config.Nsec3ParamTtlMode.TheVariants.{Soa}
 use Rattle.domain_nsec.specs.declared.config.GenerateNsecConfig.{GenerateNsecConfig}
-use Rattle.domain_records.specs.declared.error.Nsec3HashError.{Nsec3HashError}
-use Rattle.domain_records.specs.declared.error.Nsec3HashError.TheVariants as hash_error
+use Rattle.domain_hasher.specs.declared.error.Nsec3HashError.{Nsec3HashError}
+use Rattle.domain_hasher.specs.declared.error.Nsec3HashError.TheVariants as hash_error
 use Rattle.domain_records.specs.declared.error.SigningError.{SigningError}
 use Rattle.domain_records.specs.declared.error.SigningError.TheVariants as signing_error
 use Rattle.domain_zone.specs.View.{zone_of}

@@ -17,13 +17,13 @@ use crate::nsec::read_name;
 use crate::nsec3_chain::{Hashing, config_with};
 use crate::zone::sorted_zone;
 use domain_alike::{Alike, first_alike, write_lowered};
-use domain_base::{Class, ParsedName};
+use domain_base::{Class, MAX_NAME, ParsedName};
+use domain_hasher::Nsec3HashError;
 use domain_lent::LentRecord;
 use domain_nsec::GenerateNsecConfig;
 use domain_nsec3::GenerateNsec3Config;
-use domain_records::{InPlaceSorter, Nsec3HashError};
+use domain_records::InPlaceSorter;
 use domain_sha1::Sha1Hasher;
-use domain_zone::MAX_NAME;
 use std::alloc::Global;
 
 /// The first pair of names of the chain of sorted records that hash alike. SHA-1 refuses no name, so

@@ -11,9 +11,9 @@ use crate::nsec::read_name;
 use crate::nsec3::{Telling, chain_told};
 use domain_answer::{Answer, judge_nsec, judge_nsec3, judge_nsec3_expansion};
 use domain_base::{Class, Rtype};
+use domain_hasher::Nsec3HashError;
 use domain_lent::{ReadNsec, into_nsec, read_record};
 use domain_octets::Parser;
-use domain_records::Nsec3HashError;
 use domain_sha1::Sha1Hasher;
 use std::alloc::Global;
 

@@ -33,8 +33,8 @@ mod zone;
 use crate::nsec3::Telling;
 use crate::nsec3_chain::Hashing;
 use crate::text::ROOM;
+use domain_base::MAX_NAME;
 use domain_nsec::GenerateNsecConfig;
-use domain_zone::MAX_NAME;
 use std::alloc::Global;
 
 /// The version of the library: 10000 times its major number, 100 times its minor number, and its

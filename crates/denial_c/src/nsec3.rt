@@ -11,11 +11,11 @@ use crate::nsec::read_name;
 use domain_base::{Class, Nsec3HashAlgorithm, ParsedName, Rtype, ToName, Ttl};
 use domain_chain_rdata::Nsec3param;
 use domain_checker::{Verdict, check_nsec3};
+use domain_hasher::Nsec3HashError;
 use domain_lent::{ReadNsec3, ReadNsec3param, into_nsec3, into_nsec3param, read_record};
 use domain_nsec3::Nsec3Records;
 use domain_octets::{OutOfMemory, Parser};
-use domain_plain::Record;
-use domain_records::Nsec3HashError;
+use domain_record::Record;
 use domain_sha1::Sha1Hasher;
 use std::alloc::Global;
 

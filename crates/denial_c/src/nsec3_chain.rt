@@ -24,12 +24,13 @@ use domain_base::{Class, Name, Nsec3HashAlgorithm, ParsedName, ToName};
 use domain_bitmap::Nsec3Salt;
 use domain_bitmap::laws::built_bitmaps_give_their_types;
 use domain_chain_rdata::Nsec3param;
+use domain_hasher::Nsec3HashError;
 use domain_lent::{LentRecord, compose_parts, compose_record};
 use domain_nsec::GenerateNsecConfig;
 use domain_nsec3::{GenerateNsec3Config, LentNsec3, Nsec3Chain};
 use domain_octets::OutOfMemory;
-use domain_plain::Record;
-use domain_records::{InPlaceSorter, Nsec3HashError, RecordsIter, SigningError};
+use domain_record::Record;
+use domain_records::{InPlaceSorter, RecordsIter, SigningError};
 use domain_sha1::Sha1Hasher;
 use std::alloc::Global;
 

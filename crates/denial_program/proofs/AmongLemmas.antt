@@ -2,7 +2,7 @@
 use Rattle.std.proofs.Common.{◌≡◌, ℕ, List, [], ◌∷◌, ◌++◌, arith, length, refl, sym, subst, inl, inr, append_assoc, append-nil}
 use Rattle.domain_base.specs.Words.{Name}
 use Rattle.domain_nsec.specs.Chain.{Link}
-use Rattle.domain_plain.specs.RecordClone.{IsRecordClone}
+use Rattle.domain_record.specs.RecordClone.{IsRecordClone}
 use Rattle.domain_lent.specs.Data.{RawRecord}
 use Rattle.domain_checker.specs.HandedIn.{HasRead}
 use Rattle.domain_checker.specs.declared.nsec_check.NsecCheck.{NsecCheck}

@@ -7,8 +7,8 @@ use Rattle.domain_base.specs.Words.{Name}
 use Rattle.domain_nsec.specs.Chain.{Link}
 use Rattle.domain_checker.specs.Reading.{list_verdict, reading}
 use Rattle.domain_checker.specs.declared.verdict.Verdict.TheVariants.{OutsideZone}
-use Rattle.domain_records.specs.declared.error.Nsec3HashError.{Nsec3HashError}
-use Rattle.domain_records.specs.declared.error.Nsec3HashError.TheVariants.{Hasher, OutOfMemory}
+use Rattle.domain_hasher.specs.declared.error.Nsec3HashError.{Nsec3HashError}
+use Rattle.domain_hasher.specs.declared.error.Nsec3HashError.TheVariants.{Hasher, OutOfMemory}
 
 -- what lies above a part of a name is a part one label shorter
 parent_is : (left parent : Name) → Some parent ≡ parent_of left → parent ≡ drop 1 left

@@ -4,7 +4,7 @@ use Rattle.domain_octets.specs.Words.{Octets}
 use Rattle.domain_base.specs.Name.{is_at_or_below, same_name}
 use Rattle.domain_base.specs.Text.{name_text}
 use Rattle.domain_base.specs.Words.{Name}
-use Rattle.domain_records.specs.declared.error.Nsec3HashError.TheVariants.{Hasher}
+use Rattle.domain_hasher.specs.declared.error.Nsec3HashError.TheVariants.{Hasher}
 use Rattle.domain_records.specs.declared.error.SigningError.{SigningError}
 use Rattle.domain_records.specs.declared.error.SigningError.TheVariants.{Nsec3HashingError}
 use Rattle.domain_nsec.specs.Chain.{Link}

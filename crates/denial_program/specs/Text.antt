@@ -9,7 +9,7 @@ use Rattle.domain_base.specs.Types.{nsec, nsec3, nsec3param}
 use Rattle.domain_base.specs.Words.{Name}
 use Rattle.domain_bitmap.specs.Blocks.{types_of}
 use Rattle.domain_bitmap.specs.Text.{types_text}
-use Rattle.domain_plain.specs.declared.record.Record.{Record}
+use Rattle.domain_record.specs.declared.record.Record.{Record}
 use Rattle.domain_chain_rdata.specs.Nsec3Text.{nsec3_text}
 use Rattle.domain_chain_rdata.specs.Nsec3paramText.{nsec3param_text}
 use Rattle.domain_chain_rdata.specs.Rdata.{nsec3 as nsec3_fields}

@@ -7,7 +7,7 @@ use bumpalo::Bump;
 use domain_base::{ParsedName, Rtype, ToName};
 use domain_lent::{LentData, LentRecord};
 use domain_octets::OutOfMemory;
-use domain_plain::{ComposeRecordData, Record, RecordData};
+use domain_record::{ComposeRecordData, Record, RecordData};
 use std::alloc::Global;
 
 /// A copy of a name.

@@ -14,9 +14,10 @@ use crate::fault::DenialFault;
 use crate::line::ZoneName;
 use domain_base::{ParsedName, ToName};
 use domain_dnssec::{Nsec3Hasher, Nsec3Records, NsecCheck, check_nsec3};
+use domain_hasher::Nsec3HashError;
 use domain_lent::{LentRecord, ReadNsec3, ReadNsec3param, into_nsec, into_nsec3, into_nsec3param};
 use domain_octets::OutOfMemory;
-use domain_records::{Nsec3HashError, SigningError};
+use domain_records::SigningError;
 use std::alloc::Global;
 
 /// Hands in the NSEC records among these, in their order.

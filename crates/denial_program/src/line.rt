@@ -10,8 +10,8 @@ use crate::last_owner::LastOwner;
 use domain_base::{Class, FromToken, IterScanner, Name, Rtype, ScanError, Scanner, Ttl};
 use domain_lent::LentRecord;
 use domain_octets::{OutOfMemory, SmallOctets};
-use domain_plain::Record;
 use domain_rdata::ZoneRecordData;
+use domain_record::Record;
 use smallvec::SmallVec;
 use std::alloc::{AllocError, Global};
 

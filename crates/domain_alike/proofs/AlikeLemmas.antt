@@ -26,8 +26,8 @@ use Rattle.domain_nsec3.specs.Config.{ChainConfig, Hash, HashAnswer, hash_name, 
 use Rattle.domain_nsec3.specs.Faults.{HasCollision}
 use Rattle.domain_nsec3.specs.Owners.{is_chain_name}
 use Rattle.domain_nsec3.proofs.ListLemmas.{sorted}
-use Rattle.domain_records.specs.declared.error.Nsec3HashError.TheVariants as hash_error
-use Rattle.domain_records.specs.declared.error.Nsec3HashError.{Nsec3HashError}
+use Rattle.domain_hasher.specs.declared.error.Nsec3HashError.TheVariants as hash_error
+use Rattle.domain_hasher.specs.declared.error.Nsec3HashError.{Nsec3HashError}
 use Rattle.domain_alike.specs.Alike.{pair_of, AreAlike, IsAlike, IsFirstAlike, IsFirstPair, IsFirstRefusal, Pair}
 use Rattle.domain_alike.specs.declared.alike.Alike.{Alike}
 use Rattle.domain_alike.specs.AlikeSteps.{first_with, is_hash, pair_with, IsRefusedAmong, Met}

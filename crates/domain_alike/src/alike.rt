@@ -5,20 +5,19 @@ ghost use Rattle.domain_lent.specs.Data.{minimum_of};
 ghost use Rattle.domain_nsec3.specs.Config.{Hash, hash_name};
 ghost use Rattle.domain_nsec3.specs.View.{config_of, hash_by, parameters_of};
 ghost use Rattle.domain_records.specs.Order.{IsInOrder};
-ghost use Rattle.domain_records.specs.declared.error.Nsec3HashError.TheVariants as hash_error;
+ghost use Rattle.domain_hasher.specs.declared.error.Nsec3HashError.TheVariants as hash_error;
 ghost use Rattle.domain_zone.specs.View.{zone_of};
 ghost use Rattle.domain_alike.specs.Alike.{pair_of, AreAlike, IsFirstPair, IsFirstRefusal};
 ghost use Rattle.domain_alike.specs.AlikeSteps.{first_with, pair_with, AreFirstNames, IsRefusedAmong, Met};
 
 use crate::chain_names::chain_names;
 use crate::hash_key::HashKey;
-use domain_base::ParsedName;
+use domain_base::{MAX_NAME, ParsedName};
 use domain_chain_rdata::Nsec3param;
+use domain_hasher::{Nsec3HashError, Nsec3Hasher, hash_wire, lower_wire};
 use domain_lent::LentRecord;
 use domain_nsec3::GenerateNsec3Config;
 use domain_octets::{Octets, OutOfMemory, TryClone};
-use domain_records::Nsec3HashError;
-use domain_zone::{MAX_NAME, Nsec3Hasher, hash_wire, lower_wire};
 use std::alloc::Global;
 use std::collections::BTreeMap;
 

@@ -2,8 +2,7 @@
 ghost use Rattle.std.specs.Prelude.{◌≡◌, ◌++◌, drop, length};
 ghost use Rattle.domain_base.specs.Name.{lowered, wire_of};
 
-use domain_base::{ParsedName, ToName};
-use domain_zone::MAX_NAME;
+use domain_base::{MAX_NAME, ParsedName, ToName};
 
 /// Writes the wire form of a name in lower case, as it is hashed, to the beginning of a buffer. What
 /// follows it stays.

@@ -1,17 +1,20 @@
 -- Tests of one NSEC record, and what was found of a name.
-use Rattle.std.proofs.Common.{◌≡◌, ℕ, ◌≤◌, Bool, true, false, cond, not, ◌&&◌, ◌||◌, List, map, drop, length, Option, Some, None, sym, ap, refl, ◌∙◌}
+use Rattle.std.proofs.Common.{◌≡◌, ℕ, ◌≤◌, Bool, true, false, cond, not, ◌&&◌, ◌||◌, List, map, drop, length, Option, Some, None, sym, ap, refl, ◌∙◌, arith, leb, max}
 use Rattle.std.specs.List.{find}
 use Rattle.std.specs.Option.{is_some, option_map, option_or}
 use Rattle.std.specs.Ordering.{is_eq, is_gt, is_lt, ordering_reverse}
 use Rattle.std.specs.declared.cmp.Ordering.{Ordering}
 use Rattle.std.specs.declared.cmp.Ordering.TheVariants.{Less, Equal, Greater}
-use Rattle.std.proofs.lemmas.Bool.{and_parts, false≢true}
+use Rattle.std.proofs.lemmas.Bool.{and_parts, false≢true, le-leb, leb-true}
 use Rattle.std.proofs.lemmas.List.{at_drop_all}
-use Rattle.domain_base.specs.Name.{same_name}
-use Rattle.domain_base.specs.Order.{before, canonical_cmp, canonical_cmp_total}
+use Rattle.domain_base.specs.Name.{is_at_or_below, same_name}
+use Rattle.domain_base.specs.Order.{before, canonical_cmp, canonical_cmp_total, common_labels}
 use Rattle.domain_base.specs.Words.{Name}
 use Rattle.domain_zone.specs.Covering.{covers, matches}
-use Rattle.domain_zone.proofs.NameLemmas.{same_is}
+use Rattle.domain_zone.specs.Enclosers.{longer, shared}
+use Rattle.domain_zone.proofs.NameLemmas.{below_longer, below_trans, same_is}
+use Rattle.domain_zone.proofs.SharedLemmas.{either_way, shared_is}
+use Rattle.domain_checker.proofs.SharedLemmas.{longer_length, shared_length}
 use Rattle.domain_nsec.specs.Chain.{Link}
 use Rattle.domain_checker.specs.Reading.{is_cover, is_match}
 use Rattle.domain_checker.specs.Verdict.{is_inside}
@@ -122,3 +125,26 @@ pub found_covers : (a : Name) (listed : List Link) (x : Name) (k : Link) → IsF
 found_covers a listed x k found =
     (and_parts (covers before k.owner k.next x) (is_inside a k)
     (find_some (is_cover a x) listed k (sym (found.covering refl))).1).0
+
+-- ---- what is at or below the apex, by the labels that a name at or below it shares
+
+pub shares_apex : (a x y : Name) → is_at_or_below x a ≡ true → is_at_or_below y a ≡ true → length a ≤ common_labels x y
+shares_apex a x y under low = let long = (shared_is x y).longest a under low in omega (arith, long, shared_length x y)
+
+pub below_by_shared : (a x y : Name) → is_at_or_below x a ≡ true → length a ≤ common_labels x y → is_at_or_below y a ≡ true
+below_by_shared a x y under many =
+    let both = shared_is x y in
+    below_trans y (shared x y) a both.second (below_longer x (shared x y) a both.first under (omega (arith, many, shared_length x y)))
+
+-- so the number of shared labels tests it
+pub below_is : (a x y : Name) (n s : ℕ) → is_at_or_below x a ≡ true → n ≡ length a → s ≡ common_labels x y → leb n s ≡ is_at_or_below y a
+below_is a x y n s under n_is s_is = either_way (leb n s) (is_at_or_below y a)
+    (λ e. let many = leb-true n s e in below_by_shared a x y under (omega (arith, many, n_is, s_is)))
+    (λ e. let many = shares_apex a x y under e in le-leb n s (omega (arith, many, n_is, s_is)))
+
+-- ---- the longer of what a name shares with two others has the greater number of labels
+
+pub longer_is : (x o n : Name) (so sn m : ℕ) → so ≡ common_labels x o → sn ≡ common_labels x n → m ≡ max so sn
+    → m ≡ length (longer (shared x o) (shared x n))
+longer_is x o n so sn m so_is sn_is m_is =
+    m_is ∙ (λ i. max ((so_is ∙ sym (shared_length x o)) i) ((sn_is ∙ sym (shared_length x n)) i)) ∙ longer_length (shared x o) (shared x n)

@@ -2,7 +2,7 @@
 ghost use Rattle.std.specs.Prelude.{◌≡◌, ◌<◌, ◌≤◌, ◌⊎◌, ℕ, Ok, Err, true, false, length, IfOk, IfErr, IsErrOf};
 ghost use Rattle.domain_base.specs.Name.{is_at_or_below};
 ghost use Rattle.domain_nsec3.specs.Config.{hash_name};
-ghost use Rattle.domain_records.specs.declared.error.Nsec3HashError.TheVariants as hash_error;
+ghost use Rattle.domain_hasher.specs.declared.error.Nsec3HashError.TheVariants as hash_error;
 ghost use Rattle.domain_checker.specs.HashedPass.{found_cover, found_match};
 ghost use Rattle.domain_checker.specs.HashedView.{hash_with, links, parameters};
 ghost use Rattle.domain_answer.specs.Expansion.{closer_name, closer_told, is_expanded};
@@ -14,10 +14,9 @@ use crate::wildcard::last_labels;
 use crate::{Answer, laws};
 use domain_base::{ParsedName, ToName};
 use domain_checker::{Nsec3Found, find_nsec3};
+use domain_hasher::{Nsec3HashError, Nsec3Hasher};
 use domain_nsec3::Nsec3Records;
 use domain_octets::Octets;
-use domain_records::Nsec3HashError;
-use domain_zone::Nsec3Hasher;
 use std::alloc::Global;
 
 /// Whether the name is in the zone, longer than its last labels, so many, and these no fewer than

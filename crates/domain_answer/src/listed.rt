@@ -1,11 +1,11 @@
 //! What one NSEC record tells.
-ghost use Rattle.std.specs.Prelude.{◌≡◌, Some, None, IfSome, cond, length};
+ghost use Rattle.std.specs.Prelude.{◌≡◌, Some, None, IfSome, cond};
 ghost use Rattle.std.specs.Option.{is_some, option_map};
-ghost use Rattle.domain_base.specs.Order.{before};
+ghost use Rattle.domain_base.specs.Order.{before, common_labels};
 ghost use Rattle.domain_zone.specs.Covering.{covers};
-ghost use Rattle.domain_zone.specs.Enclosers.{longer, shared};
 ghost use Rattle.domain_nsec.specs.ChainView.{as_link};
 ghost use Rattle.domain_checker.specs.Reading.{is_cover, is_match};
+ghost use Rattle.domain_checker.specs.Verdict.{is_inside};
 ghost use Rattle.domain_answer.specs.Found.{cover_link, IsSharing};
 ghost use Rattle.domain_answer.specs.Reading.{tells_occluded, tells_occluder};
 
@@ -14,20 +14,27 @@ use domain_base::{Rtype, ToName};
 use domain_chain_rdata::Nsec;
 use domain_checker::{is_at_cut, is_before, is_inside};
 use domain_octets::Octets;
-use domain_plain::Record;
+use domain_record::Record;
 
 /// An NSEC record.
 pub(crate) type NsecRr<O, N> = Record<N, Nsec<O, N>>;
 
+/// How many labels a name shares with the owner and with the next name of a record.
+#[derive(Clone, Copy)]
+struct Shares {
+    owner: usize,
+    next: usize,
+}
+
 /// Whether the owner and the next name cover the name: it lies between the two, or on either side
-/// of them where the next name is not after the owner. If so, how many labels the longer has of the
-/// names that it shares with the two.
-fn covered<N: ToName, M: ToName>(owner: &N, next: &N, name: &M) -> Option<usize>
+/// of them where the next name is not after the owner. If so, how many labels it shares with them.
+fn covered<N: ToName, M: ToName>(owner: &N, next: &N, name: &M) -> Option<Shares>
     ensures covers { is_some result
         ≡ covers before (N.labels owner.now) (N.labels next.now) (M.labels name.now) }
-    ensures shared { IfSome result (λ count. count ≡ length (longer
-        (shared (M.labels name.now) (N.labels owner.now))
-        (shared (M.labels name.now) (N.labels next.now)))) }
+    ensures owner { IfSome result
+        (λ shares. shares.owner ≡ common_labels (M.labels name.now) (N.labels owner.now)) }
+    ensures next { IfSome result
+        (λ shares. shares.next ≡ common_labels (M.labels name.now) (N.labels next.now)) }
 {
     let from_owner = name.compare(owner);
     let is_after = from_owner.order.is_gt();
@@ -36,9 +43,33 @@ fn covered<N: ToName, M: ToName>(owner: &N, next: &N, name: &M) -> Option<usize>
     }
     let from_next = name.compare(next);
     if from_next.order.is_lt() || (is_after && !is_before(owner, next)) {
-        return Some(from_owner.common.max(from_next.common));
+        return Some(Shares {
+            owner: from_owner.common,
+            next: from_next.common,
+        });
     }
     None
+}
+
+/// Whether the owner and the next name are at or below the apex, by what a name shares with them:
+/// where it is at or below the apex, as many labels as that has.
+fn shares_apex<A: ToName, O: Octets, N: ToName, M: ToName>(
+    apex: &A,
+    listed: &NsecRr<O, N>,
+    name: &M,
+    shares: Shares,
+) -> bool
+    requires owner { shares.owner
+        ≡ common_labels (M.labels name.now) (as_link N.labels listed.now).owner }
+    requires next { shares.next
+        ≡ common_labels (M.labels name.now) (as_link N.labels listed.now).next }
+    ensures { result ≡ is_inside (A.labels apex.now) (as_link N.labels listed.now) }
+{
+    if !name.ends_with(apex) {
+        return is_inside(apex, listed);
+    }
+    let count = apex.count_labels();
+    shares.owner >= count && shares.next >= count
 }
 
 /// Whether the record is not passed over, and its owner is the name.
@@ -65,13 +96,13 @@ pub(crate) fn cover_of<'a, A: ToName, O: Octets, N: ToName, M: ToName>(
         (Some (as_link N.labels listed.now)) None }
     ensures shared { IfSome result (IsSharing N.labels (M.labels name.now)) }
 {
-    let shared = covered(listed.owner(), listed.data().next_name(), name)?;
-    if !is_inside(apex, listed) {
+    let shares = covered(listed.owner(), listed.data().next_name(), name)?;
+    if !shares_apex(apex, listed, name, shares) {
         return None;
     }
     Some(NsecCover {
         record: listed,
-        shared,
+        shared: shares.owner.max(shares.next),
     })
 }
 

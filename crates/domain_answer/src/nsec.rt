@@ -14,12 +14,11 @@ use crate::found::{NsecCover, NsecFound, find_nsec};
 use crate::listed::{NsecRr, tells_occluded};
 use crate::wildcard::wildcard_below;
 use crate::{Answer, NameAnswer, laws};
-use domain_base::{ParsedName, Rtype, ToName};
+use domain_base::{MAX_NAME, ParsedName, Rtype, ToName};
 use domain_chain_rdata::Nsec;
 use domain_checker::{is_at_cut, is_strictly_below};
 use domain_octets::Octets;
-use domain_plain::Record;
-use domain_zone::MAX_NAME;
+use domain_record::Record;
 
 /// What a record whose owner is a zone cut or owns a DNAME record says of the names strictly below
 /// the owner.
@@ -139,7 +138,7 @@ fn absent_answer<A: ToName, O: Octets, N: ToName, M: ToName>(
 }
 
 /// What a record says of a name that it covers.
-#[tactic(auto, using(crate::proofs::CountLemmas::encloser_less))]
+#[tactic(auto, using(crate::proofs::ToldLemmas::given_told, crate::proofs::ToldLemmas::owner_own))]
 fn cover_answer<A: ToName, O: Octets, N: ToName, M: ToName>(
     apex: &A,
     cover: NsecCover<'_, O, N>,

@@ -4,7 +4,7 @@ ghost use Rattle.std.specs.Option.{option_map};
 ghost use Rattle.domain_base.specs.Name.{is_at_or_below};
 ghost use Rattle.domain_nsec3.specs.Config.{hash_name};
 ghost use Rattle.domain_nsec3.specs.View.{as_hashed_link};
-ghost use Rattle.domain_records.specs.declared.error.Nsec3HashError.TheVariants as hash_error;
+ghost use Rattle.domain_hasher.specs.declared.error.Nsec3HashError.TheVariants as hash_error;
 ghost use Rattle.domain_checker.specs.HashedEncloser.{encloser_of};
 ghost use Rattle.domain_checker.specs.HashedPass.{found_cover, found_match};
 ghost use Rattle.domain_checker.specs.HashedView.{hash_with, links, parameters};
@@ -16,14 +16,13 @@ ghost use Rattle.domain_answer.specs.ZoneAnswer.{is_at_parent, wildcard_below};
 
 use crate::wildcard::wildcard_below;
 use crate::{Answer, laws};
-use domain_base::{Rtype, ToName};
+use domain_base::{MAX_NAME, Rtype, ToName};
 use domain_chain_rdata::Nsec3;
 use domain_checker::{Nsec3Encloser, Nsec3Found, find_nsec3, find_nsec3_encloser};
+use domain_hasher::{Nsec3HashError, Nsec3Hasher};
 use domain_nsec3::Nsec3Records;
 use domain_octets::Octets;
-use domain_plain::Record;
-use domain_records::Nsec3HashError;
-use domain_zone::{MAX_NAME, Nsec3Hasher};
+use domain_record::Record;
 use std::alloc::Global;
 
 /// An NSEC3 record.

@@ -3,8 +3,7 @@ ghost use Rattle.std.specs.Prelude.{◌≡◌, ◌+◌, ◌<◌, ◌≤◌, ◌�
 ghost use Rattle.domain_answer.specs.Proved.{last_labels};
 ghost use Rattle.domain_answer.specs.ZoneAnswer.{wildcard_below};
 
-use domain_base::{ParsedName, ToName};
-use domain_zone::MAX_NAME;
+use domain_base::{MAX_NAME, ParsedName, ToName};
 
 /// The last labels of a name, so many, or all of them where there are no more.
 pub(crate) fn last_labels<M: ToName>(name: &M, count: usize) -> ParsedName<'_>

@@ -2,14 +2,16 @@
 use Rattle.std.proofs.Common.{◌≡◌, ℕ, ◌+◌, ◌-◌, Bool, true, false, cond, ◌&&◌, List, [], ◌∷◌, ◌++◌, map}
 use Rattle.std.proofs.Common.{length, reverse, take, drop, refl, sym, ap, ◌∙◌, inl, inr, ◌⊎◌, arith, nat_eq, Option, None, Some}
 use Rattle.std.specs.List.{common_prefix_len}
-use Rattle.std.specs.Cmp.Lexicographic.{pointwise, pointwise_decides, bytes_decides}
+use Rattle.std.specs.declared.cmp.Ordering.{Ordering}
+use Rattle.std.specs.Ordering.{nat_cmp}
+use Rattle.std.specs.Cmp.Lexicographic.{slice_cmp, pointwise, pointwise_decides, bytes_decides}
 use Rattle.std.specs.Char.{to_ascii_lowercase}
 use Rattle.std.proofs.lemmas.Bool.{cases_Bool, true≢false, and_parts, cases_lt}
 use Rattle.std.proofs.lemmas.List.{append-nil, length-drop, length-reverse, length-map, reverse-append, take-append-drop, drop-map}
 use Rattle.domain_base.specs.Name.{lowered}
 use Rattle.domain_base.specs.Order.{common_labels, from_root}
-use Rattle.domain_base.specs.Parting.{AreApart, EndsIn, Part}
-use Rattle.domain_base.proofs.PartingLemmas.{from_root-part}
+use Rattle.domain_base.specs.Parting.{EndsIn, Part, order_below}
+use Rattle.domain_base.proofs.PartingLemmas.{from_root-part, octets_tie, untied}
 
 -- ---- common fronts
 
@@ -203,10 +205,21 @@ one_ends r ws zs over =
 root_count : (shared : List (List ℕ)) → length shared ≡ length (from_root shared)
 root_count shared = omega (arith, length-reverse (lowered shared), length-map shared (map to_ascii_lowercase))
 
+labels_differ : (x y : List ℕ) (o : Ordering) → order_below (Some x) (Some y) ≡ Some o
+    → same_label (map to_ascii_lowercase x) (map to_ascii_lowercase y) ≡ false
+labels_differ x y o is =
+    elim (cases_Bool (same_label (map to_ascii_lowercase x) (map to_ascii_lowercase y))) [
+      | inl t ↦
+          let same = (bytes_decides (map to_ascii_lowercase x) (map to_ascii_lowercase y)).0 t in
+          absurd ((untied (slice_cmp nat_cmp (map to_ascii_lowercase x) (map to_ascii_lowercase y)) o is).1
+          (ap (slice_cmp nat_cmp (map to_ascii_lowercase x)) (sym same) ∙ octets_tie (map to_ascii_lowercase x)))
+      | inr f ↦ f
+    ]
+
 -- names share the end at which they part, unless the labels below it differ in case alone
-pub parted_share : (xs ys : List (List ℕ)) (x y : Option (List ℕ)) (shared : List (List ℕ)) → Part xs ys x y shared → AreApart x y
-    → length shared ≡ common_labels xs ys
-parted_share xs ys x y shared p apart = root_count shared ∙ sym (go x y p.left p.right apart) where
+pub parted_share : (xs ys : List (List ℕ)) (x y : Option (List ℕ)) (shared : List (List ℕ)) (o : Ordering) → Part xs ys x y shared
+    → order_below x y ≡ Some o → length shared ≡ common_labels xs ys
+parted_share xs ys x y shared o p apart = root_count shared ∙ sym (go x y p.left p.right apart) where
   ended : (zs : List (List ℕ)) → EndsIn zs None shared → from_root zs ≡ from_root shared ++ []
   ended zs is = ap from_root is ∙ sym (append-nil (from_root shared))
 
@@ -214,7 +227,7 @@ parted_share xs ys x y shared p apart = root_count shared ∙ sym (go x y p.left
       → from_root zs ≡ from_root shared ++ map to_ascii_lowercase z ∷ from_root is.0
   onward zs z is = ap from_root is.1 ∙ from_root-part is.0 shared z
 
-  go : (x y : Option (List ℕ)) → EndsIn xs x shared → EndsIn ys y shared → AreApart x y → common_labels xs ys ≡ length (from_root shared)
+  go : (x y : Option (List ℕ)) → EndsIn xs x shared → EndsIn ys y shared → order_below x y ≡ Some o → common_labels xs ys ≡ length (from_root shared)
   go None None left right d =
       (λ i. common_prefix_len same_label (ended xs left i) (ended ys right i)) ∙ one_ends (from_root shared) [] [] (inl refl)
   go None (Some y) left right d =
@@ -225,4 +238,4 @@ parted_share xs ys x y shared p apart = root_count shared ∙ sym (go x y p.left
       ∙ one_ends (from_root shared) (map to_ascii_lowercase x ∷ from_root left.0) [] (inr refl)
   go (Some x) (Some y) left right d =
       (λ i. common_prefix_len same_label (onward xs x left i) (onward ys y right i))
-      ∙ apart_share (from_root shared) (from_root left.0) (from_root right.0) (map to_ascii_lowercase x) (map to_ascii_lowercase y) d
+      ∙ apart_share (from_root shared) (from_root left.0) (from_root right.0) (map to_ascii_lowercase x) (map to_ascii_lowercase y) (labels_differ x y o d)

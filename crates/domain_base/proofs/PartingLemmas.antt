@@ -18,7 +18,7 @@ use Rattle.domain_base.specs.Name.{wire_of, lowered}
 use Rattle.domain_base.specs.Wire.{labels_of, IsWire}
 use Rattle.domain_base.specs.Order.{canonical_cmp, from_root}
 use Rattle.domain_base.specs.Laws.{same_tied}
-use Rattle.domain_base.specs.Parting.{EndAlike, EndsIn, Part}
+use Rattle.domain_base.specs.Parting.{EndAlike, EndsIn, Part, order_below, unless_tied}
 use Rattle.domain_base.proofs.OrderLemmas.{decided, from_root-cons}
 use Rattle.domain_base.proofs.WireLemmas.{wire_is, length-wire}
 
@@ -48,11 +48,11 @@ from_root-part front shared label =
     ∙ ap (λ l. l ++ from_root front) (from_root-cons label shared)
     ∙ append_assoc (from_root shared) (map to_ascii_lowercase label ∷ []) (from_root front)
 
-octets_tie : (x : List ℕ) → slice_cmp nat_cmp x x ≡ Equal
+pub octets_tie : (x : List ℕ) → slice_cmp nat_cmp x x ≡ Equal
 octets_tie = tied_itself nat_list_cmp_total
 
 -- names that share all labels
-pub no_part : (xs ys shared : List (List ℕ)) → Part xs ys None None shared → Equal ≡ canonical_cmp xs ys
+no_part : (xs ys shared : List (List ℕ)) → Part xs ys None None shared → Equal ≡ canonical_cmp xs ys
 unfolding canonical_cmp
 no_part xs ys shared p =
     let same : from_root xs ≡ from_root ys = ap from_root (p.left ∙ sym p.right) in
@@ -61,7 +61,7 @@ no_part xs ys shared p =
     ∙ slice_cmp-shared (slice_cmp nat_cmp) octets_tie (from_root xs) [] [])
 
 -- a name below the other
-pub right_below : (xs ys : List (List ℕ)) (y : List ℕ) (shared : List (List ℕ)) → Part xs ys None (Some y) shared → Less ≡ canonical_cmp xs ys
+right_below : (xs ys : List (List ℕ)) (y : List ℕ) (shared : List (List ℕ)) → Part xs ys None (Some y) shared → Less ≡ canonical_cmp xs ys
 unfolding canonical_cmp
 right_below xs ys y shared p =
     let ys_is = ap from_root p.right.1 ∙ from_root-part p.right.0 shared y in
@@ -70,7 +70,7 @@ right_below xs ys y shared p =
     ∙ ap (λ l. slice_cmp (slice_cmp nat_cmp) l (from_root shared ++ map to_ascii_lowercase y ∷ from_root p.right.0)) xs_is
     ∙ slice_cmp-shared (slice_cmp nat_cmp) octets_tie (from_root shared) [] (map to_ascii_lowercase y ∷ from_root p.right.0))
 
-pub left_below : (xs ys : List (List ℕ)) (x : List ℕ) (shared : List (List ℕ)) → Part xs ys (Some x) None shared → Greater ≡ canonical_cmp xs ys
+left_below : (xs ys : List (List ℕ)) (x : List ℕ) (shared : List (List ℕ)) → Part xs ys (Some x) None shared → Greater ≡ canonical_cmp xs ys
 unfolding canonical_cmp
 left_below xs ys x shared p =
     let xs_is = ap from_root p.left.1 ∙ from_root-part p.left.0 shared x in
@@ -80,7 +80,7 @@ left_below xs ys x shared p =
     ∙ slice_cmp-shared (slice_cmp nat_cmp) octets_tie (from_root shared) (map to_ascii_lowercase x ∷ from_root p.left.0) [])
 
 -- the labels at which names part decide, unless they tie
-pub parted : (xs ys : List (List ℕ)) (x y : List ℕ) (shared : List (List ℕ)) → Part xs ys (Some x) (Some y) shared
+parted : (xs ys : List (List ℕ)) (x y : List ℕ) (shared : List (List ℕ)) → Part xs ys (Some x) (Some y) shared
     → slice_cmp nat_cmp (map to_ascii_lowercase x) (map to_ascii_lowercase y) ≢ Equal
     → slice_cmp nat_cmp (map to_ascii_lowercase x) (map to_ascii_lowercase y) ≡ canonical_cmp xs ys
 unfolding canonical_cmp
@@ -93,6 +93,21 @@ parted xs ys x y shared p differ =
     ∙ slice_cmp-shared (slice_cmp nat_cmp) octets_tie (from_root shared) (map to_ascii_lowercase x ∷ from_root p.left.0)
     (map to_ascii_lowercase y ∷ from_root p.right.0))
     differ
+
+pub untied : (c o : Ordering) → unless_tied c ≡ Some o → (o ≡ c) × (c ≢ Equal)
+untied Less o is = (cc, λ e. absurd cc)
+untied Equal o is = absurd cc
+untied Greater o is = (cc, λ e. absurd cc)
+
+-- what the labels below the shared ones decide is the order of the names
+pub decided_below : (xs ys : List (List ℕ)) (x y : Option (List ℕ)) (shared : List (List ℕ)) (o : Ordering) → Part xs ys x y shared
+    → order_below x y ≡ Some o → o ≡ canonical_cmp xs ys
+decided_below xs ys None None shared o p is = let e : o ≡ Equal = cc in e ∙ no_part xs ys shared p
+decided_below xs ys None (Some y) shared o p is = let e : o ≡ Less = cc in e ∙ right_below xs ys y shared p
+decided_below xs ys (Some x) None shared o p is = let e : o ≡ Greater = cc in e ∙ left_below xs ys x shared p
+decided_below xs ys (Some x) (Some y) shared o p is =
+    let e = untied (slice_cmp nat_cmp (map to_ascii_lowercase x) (map to_ascii_lowercase y)) o is in
+    e.0 ∙ parted xs ys x y shared p e.1
 
 -- two names with as many labels, of which one is the root
 pub roots_tie : (x y : List (List ℕ)) → length x ≡ length y → (x ≡ []) ⊎ (y ≡ []) → Equal ≡ canonical_cmp x y

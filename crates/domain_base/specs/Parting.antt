@@ -1,7 +1,10 @@
 -- where two names part
-use Rattle.std.specs.Prelude.{◌≡◌, ◌≤◌, ◌-◌, ℕ, ◌∷◌, ◌++◌, length, drop, map, ⊤, Option, None, Some, false, nat_eq}
+use Rattle.std.specs.Prelude.{◌≡◌, ◌≤◌, ◌-◌, ℕ, ◌∷◌, ◌++◌, length, drop, map, Option, None, Some}
+use Rattle.std.specs.declared.cmp.Ordering.{Ordering}
+use Rattle.std.specs.declared.cmp.Ordering.TheVariants.{Less, Equal, Greater}
 use Rattle.std.specs.Char.{to_ascii_lowercase}
-use Rattle.std.specs.Cmp.Lexicographic.{pointwise}
+use Rattle.std.specs.Cmp.Lexicographic.{slice_cmp}
+use Rattle.std.specs.Ordering.{nat_cmp}
 use Rattle.domain_octets.specs.Words.{Octets}
 use Rattle.domain_base.specs.Words.{Name, Label}
 
@@ -15,12 +18,20 @@ pub record Part (xs ys : Name) (x y : Option Label) (shared : Name) : Type 0 whe
   pub left : EndsIn xs x shared
   pub right : EndsIn ys y shared
 
--- one of the two has no such label, or the labels differ in more than the case of letters
-abbrev pub AreApart : Option Label → Option Label → Type 0
-AreApart None y = ⊤
-AreApart (Some x) None = ⊤
-AreApart (Some x) (Some y) = pointwise nat_eq (map to_ascii_lowercase x) (map to_ascii_lowercase y)
-    ≡ false
+-- an order that is one, and none for a tie
+abbrev pub unless_tied : Ordering → Option Ordering
+unless_tied Less = Some Less
+unless_tied Equal = None
+unless_tied Greater = Some Greater
+
+-- what the labels right below the shared ones decide, unless they differ in case alone; a name
+-- without such a label comes first
+abbrev pub order_below : Option Label → Option Label → Option Ordering
+order_below None None = Some Equal
+order_below None (Some y) = Some Less
+order_below (Some x) None = Some Greater
+order_below (Some x) (Some y) =
+    unless_tied (slice_cmp nat_cmp (map to_ascii_lowercase x) (map to_ascii_lowercase y))
 
 -- both have so many octets, and the last so many of both are the same
 pub record EndAlike (a b : Octets) (count : ℕ) : Type 0 where

@@ -48,3 +48,4 @@ pub use scanner::{FromToken, IterScanner, Scanner};
 pub use serial::Serial;
 pub use to_name::{Comparison, MakeName, ToName};
 pub use ttl::Ttl;
+pub use wire::MAX_NAME;

@@ -10,7 +10,7 @@ use domain_base::{CanonicalOrd, ParsedName, Rtype, ToName};
 use domain_bitmap::RtypeBitmap;
 use domain_fields::{Fields, MAX_RDLEN, Rest, Spelled};
 use domain_octets::{AppendError, Octets, OctetsBuilder};
-use domain_plain::{ComposeRecordData, RecordData};
+use domain_record::{ComposeRecordData, RecordData};
 use std::cmp::Ordering;
 
 /// The next owner of a zone's chain, and the types at this one (RFC 4034, section 4).

@@ -13,7 +13,7 @@ use domain_base::{CanonicalOrd, Nsec3HashAlgorithm, Rtype};
 use domain_bitmap::{Nsec3Salt, OwnerHash, RtypeBitmap};
 use domain_fields::{Counted, Fields, MAX_RDLEN, Rest};
 use domain_octets::{AppendError, Octets, OctetsBuilder, laws};
-use domain_plain::{ComposeRecordData, RecordData};
+use domain_record::{ComposeRecordData, RecordData};
 use std::cmp::Ordering;
 
 /// The next hash of a zone's chain, how names are hashed, and the types at the name that this one

@@ -7,7 +7,7 @@ ghost use Rattle.domain_chain_rdata.specs.Rdata.{nsec3_values, nsec3_octets};
 use crate::{Nsec3, Nsec3param};
 use domain_bitmap::{OwnerHash, RtypeBitmap};
 use domain_octets::{AppendError, CopyOctets, Octets, OctetsFrom, OutOfMemory, TryClone};
-use domain_plain::{CloneRecordData, both};
+use domain_record::{CloneRecordData, both};
 use std::alloc::Global;
 
 impl<O: Octets + Drop> Nsec3<O> {

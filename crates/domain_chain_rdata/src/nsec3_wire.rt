@@ -12,7 +12,7 @@ use domain_base::Rtype;
 use domain_bitmap::{OwnerHash, RtypeBitmap};
 use domain_fields::{Counted, ReadFields};
 use domain_octets::{ParseError, Parser, laws};
-use domain_plain::ParseRecordData;
+use domain_record::ParseRecordData;
 
 /// The parameters and the hash that the octets begin with.
 fn parse_hash<'a>(

@@ -21,7 +21,7 @@ use domain_octets::{
     AppendError, CopyOctets, EmptyOctets, Octets, OctetsBuilder, OctetsFrom, OutOfMemory,
     ParseError, Parser, TryClone, laws,
 };
-use domain_plain::{CloneRecordData, ComposeRecordData, ParseRecordData, RecordData};
+use domain_record::{CloneRecordData, ComposeRecordData, ParseRecordData, RecordData};
 use std::alloc::Global;
 use std::cmp::Ordering;
 use std::hash::{Hash, Hasher};

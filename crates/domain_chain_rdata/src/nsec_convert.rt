@@ -11,7 +11,7 @@ use domain_bitmap::RtypeBitmap;
 use domain_octets::{
     AppendError, CopyOctets, FlattenInto, Octets, OctetsFrom, OutOfMemory, TryClone,
 };
-use domain_plain::{CloneRecordData, both};
+use domain_record::{CloneRecordData, both};
 use std::alloc::Global;
 
 impl<O: Octets, N: TryClone + Drop> Nsec<O, N> {

@@ -12,7 +12,7 @@ use domain_base::{ParsedName, Rtype};
 use domain_bitmap::RtypeBitmap;
 use domain_fields::{ReadFields, Spelled};
 use domain_octets::{ParseError, Parser, laws};
-use domain_plain::ParseRecordData;
+use domain_record::ParseRecordData;
 
 /// The name that the octets begin with.
 fn parse_name<'a>(parser: &mut Parser<'a>) -> Result<ParsedName<'a>, ParseError>

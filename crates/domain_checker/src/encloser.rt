@@ -3,7 +3,7 @@ ghost use Rattle.std.specs.Prelude.{◌≡◌, ◌⊎◌, ℕ, Ok, Err, None, fa
 ghost use Rattle.std.specs.Option.{option_map};
 ghost use Rattle.domain_base.specs.Name.{is_at_or_below, lowered, wire_of};
 ghost use Rattle.domain_nsec3.specs.Config.{hash_name};
-ghost use Rattle.domain_records.specs.declared.error.Nsec3HashError.TheVariants as hash_error;
+ghost use Rattle.domain_hasher.specs.declared.error.Nsec3HashError.TheVariants as hash_error;
 ghost use Rattle.domain_checker.specs.HashedEncloser.{encloser_is_cut, encloser_of, IsFoundEncloser};
 ghost use Rattle.domain_checker.specs.HashedPass.{found_cover, found_match, IsLookedUp};
 ghost use Rattle.domain_checker.specs.HashedVerdict.{IsFirstRefusal};
@@ -12,13 +12,12 @@ ghost use Rattle.domain_checker.specs.HashedView.{hash_with, links, parameters};
 use crate::Nsec3Found;
 use crate::hashed::Nsec3Rr;
 use crate::walk::{look_up, walk};
-use domain_base::{Rtype, ToName};
+use domain_base::{MAX_NAME, Rtype, ToName};
 use domain_chain_rdata::Nsec3;
+use domain_hasher::{Nsec3HashError, Nsec3Hasher, lower_wire};
 use domain_nsec3::Nsec3Records;
 use domain_octets::Octets;
-use domain_plain::Record;
-use domain_records::Nsec3HashError;
-use domain_zone::{MAX_NAME, Nsec3Hasher, lower_wire};
+use domain_record::Record;
 use std::alloc::Global;
 
 /// What NSEC3 records tell of the closest encloser of a name (RFC 5155, section 8.3): of the name

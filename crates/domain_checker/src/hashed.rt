@@ -11,7 +11,7 @@ use crate::spelled::{is_spelling, spelled_cmp};
 use domain_base::ToName;
 use domain_chain_rdata::{Nsec3, Nsec3param};
 use domain_octets::Octets;
-use domain_plain::Record;
+use domain_record::Record;
 
 /// An NSEC3 record.
 pub(crate) type Nsec3Rr<O, N> = Record<N, Nsec3<O>>;

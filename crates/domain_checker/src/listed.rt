@@ -10,7 +10,7 @@ ghost use Rattle.domain_checker.specs.Reading.{is_at_cut};
 use domain_base::{Rtype, ToName};
 use domain_chain_rdata::Nsec;
 use domain_octets::Octets;
-use domain_plain::Record;
+use domain_record::Record;
 
 /// An NSEC record.
 pub(crate) type NsecRr<O, N> = Record<N, Nsec<O, N>>;

@@ -14,7 +14,7 @@ use crate::nsec_check::NsecCheck;
 use domain_base::{Rtype, ToName};
 use domain_chain_rdata::Nsec;
 use domain_octets::Octets;
-use domain_plain::Record;
+use domain_record::Record;
 use std::cmp::Ordering;
 
 /// Whether the owner and the next name cover the name: it lies between the two, or on either side

@@ -3,7 +3,7 @@ ghost use Rattle.std.specs.Prelude.{◌≡◌, ◌≢◌, ◌⊎◌, ℕ, Ok, tr
 ghost use Rattle.std.specs.Option.{option_map};
 ghost use Rattle.domain_base.specs.Name.{is_at_or_below};
 ghost use Rattle.domain_nsec3.specs.View.{as_hashed_link};
-ghost use Rattle.domain_records.specs.declared.error.Nsec3HashError.TheVariants as hash_error;
+ghost use Rattle.domain_hasher.specs.declared.error.Nsec3HashError.TheVariants as hash_error;
 ghost use Rattle.domain_checker.specs.HashedEncloser.{encloser_of, found_verdict, lower_verdict, own_verdict};
 ghost use Rattle.domain_checker.specs.HashedReading.{hash_cover_verdict, IsWalked};
 ghost use Rattle.domain_checker.specs.HashedVerdict.{HasHashedProof, IsFirstRefusal, IsHashedProved};
@@ -14,10 +14,9 @@ use crate::hashed::Nsec3Rr;
 use crate::nsec3_laws::walks_are_proved;
 use crate::{Nsec3Encloser, Verdict, find_nsec3_encloser};
 use domain_base::{Rtype, ToName};
+use domain_hasher::{Nsec3HashError, Nsec3Hasher};
 use domain_nsec3::Nsec3Records;
 use domain_octets::Octets;
-use domain_records::Nsec3HashError;
-use domain_zone::Nsec3Hasher;
 use std::alloc::Global;
 
 /// What the record that matches a name says of it.

@@ -13,7 +13,7 @@ use crate::{Verdict, laws};
 use domain_base::{ParsedName, Rtype, ToName};
 use domain_chain_rdata::Nsec;
 use domain_octets::Octets;
-use domain_plain::Record;
+use domain_record::Record;
 
 /// A question about a name and a type, for NSEC records that are handed in one after another, as
 /// they are read from a message (RFC 4035, section 5.4). Keeps none of them, and takes no memory.

@@ -2,7 +2,7 @@
 ghost use Rattle.std.specs.Prelude.{◌≡◌, ◌≤◌, ◌⊎◌, ℕ, Err, true, length, drop, IfOk, IfErr, IsErrOf};
 ghost use Rattle.std.specs.Option.{option_map};
 ghost use Rattle.domain_base.specs.Name.{is_at_or_below, lowered, wire_of};
-ghost use Rattle.domain_records.specs.declared.error.Nsec3HashError.TheVariants as hash_error;
+ghost use Rattle.domain_hasher.specs.declared.error.Nsec3HashError.TheVariants as hash_error;
 ghost use Rattle.domain_checker.specs.HashedEncloser.{encloser_of, IsFoundEncloser};
 ghost use Rattle.domain_checker.specs.HashedPass.{found_match, found_cover, IsLookedUp};
 ghost use Rattle.domain_checker.specs.HashedVerdict.{IsFirstRefusal};
@@ -11,10 +11,9 @@ ghost use Rattle.domain_checker.specs.HashedView.{hash_with, links, parameters};
 use crate::hashed::find_hash;
 use crate::{Nsec3Encloser, Nsec3Found};
 use domain_base::{ParsedName, ToName};
+use domain_hasher::{Nsec3HashError, Nsec3Hasher, hash_wire};
 use domain_nsec3::Nsec3Records;
 use domain_octets::Octets;
-use domain_records::Nsec3HashError;
-use domain_zone::{Nsec3Hasher, hash_wire};
 use std::alloc::Global;
 
 /// What the records say of the name with this wire form in lower case. Hashes it, and goes over the

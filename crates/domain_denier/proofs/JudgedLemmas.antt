@@ -6,7 +6,8 @@ use Rattle.std.proofs.lemmas.Option.{slice_get_cases, slice_get-get_or}
 use Rattle.std.proofs.lemmas.Bool.{cases_Bool, false≢true, and_parts, or_left, or_right}
 use Rattle.domain_base.specs.Name.{is_at_or_below, is_strictly_below, same_name}
 use Rattle.domain_base.specs.Order.{before}
-use Rattle.domain_base.specs.Types.{cname}
+use Rattle.std.specs.Prelude.{◌==◌}
+use Rattle.domain_base.specs.Types.{cname, ds}
 use Rattle.domain_base.specs.Words.{Name}
 use Rattle.domain_bitmap.specs.Blocks.{contains_type}
 use Rattle.domain_zone.specs.Covering.{covers, matches, matches_or_covers}
@@ -19,12 +20,12 @@ use Rattle.domain_answer.specs.declared.answer.Answer.{Answer}
 use Rattle.domain_answer.specs.declared.answer.Answer.TheVariants.{AtParent, NoCloserName, NoData, OutsideZone}
 use Rattle.domain_answer.specs.declared.answer.NameAnswer.{NameAnswer}
 use Rattle.domain_answer.specs.declared.answer.NameAnswer.TheVariants.{Given, Absent}
-use Rattle.domain_answer.specs.NameAnswer.{IsNameAnswer}
+use Rattle.domain_answer.specs.NameAnswer.{IsNameAnswer, name_answer}
 use Rattle.domain_answer.specs.Proved.{last_labels}
-use Rattle.domain_answer.specs.Reading.{absent_answer, listed_both, owner_answer, reading}
+use Rattle.domain_answer.specs.Reading.{absent_answer, is_of_child, listed_answer, listed_both, match_answer, owner_answer, reading}
 use Rattle.domain_answer.specs.Reading.{tells_occluded, wildcard_answer, wildcard_both, wildcard_cover_answer, wildcard_match_answer}
 use Rattle.domain_answer.specs.ZoneAnswer.{is_at_parent, wildcard_below}
-use Rattle.domain_answer.proofs.ToldLemmas.{match_never, owner_never}
+use Rattle.domain_answer.proofs.ToldLemmas.{given_is, given_never, match_own, owner_own}
 use Rattle.domain_denier.specs.Judged.{IsSilent, IsTold, Tells}
 use Rattle.domain_denier.specs.Picked.{IsOf, at_place, listed_option}
 
@@ -70,10 +71,64 @@ module _ (a w : Name) (n t : ℕ) where
 -- so both forms of an answer of the name tell it
 pub told_whole : (a : Name) (listed : List Link) (x : Name) (t : ℕ) (whole : Answer) (told : NameAnswer) → IsNameAnswer whole a listed x t told
     → Tells told → IsTold whole
-told_whole a listed x t whole (Given answer) is tells = subst IsTold (sym is.exact) tells
-told_whole a listed x t whole (Absent n) is tells = subst IsTold (sym is.exact) (told_wildcard a (wildcard_below (last_labels n x)) n t listed)
+told_whole a listed x t whole (Given answer) is tells = subst IsTold (sym (given_is whole answer is.exact)) tells
+told_whole a listed x t whole (Absent n) is tells = subst IsTold (sym (is.absent n refl).0) (told_wildcard a (wildcard_below (last_labels n x)) n t listed)
+
+-- ---- only of a name outside the zone is it said that it is
+
+-- what is given for it would be no wildcard's, nor a record's
+listed_inside : (a : Name) (listed : List Link) (x : Name) (t : ℕ) (m c : Option Link) → listed_both a listed x t m c ≢ OutsideZone
+listed_inside a listed x t (Some k) c e =
+    never (is_of_child a k) (is_at_cut a k && not (t == ds)) (contains_type k.bits t) (is_at_cut a k) (contains_type k.bits cname) e
+  where
+    never : (b d h s l : Bool)
+        → cond b Answer.NotProven (cond d (Answer.Referral (length k.owner)) (cond h Answer.Has (cond s Answer.NoDs (cond l Answer.Alias NoData))))
+        ≡ OutsideZone → ⊥
+    never true d h s l e = absurd (cc)
+    never false true h s l e = absurd (cc)
+    never false false true s l e = absurd (cc)
+    never false false false true l e = absurd (cc)
+    never false false false false true e = absurd (cc)
+    never false false false false false e = absurd (cc)
+listed_inside a listed x t None (Some k) e =
+    never (tells_occluded a k x) (is_at_cut a k) (is_strictly_below k.next x) e
+  where
+    n : ℕ
+    n = length (longer (shared x k.owner) (shared x k.next))
+
+    never : (o c s : Bool)
+        → cond o (cond c (Answer.Referral (length k.owner)) (Answer.Redirected (length k.owner))) (cond s NoData (absent_answer a listed n x t))
+        ≡ OutsideZone → ⊥
+    never true true s e = absurd (cc)
+    never true false s e = absurd (cc)
+    never false c true e = absurd (cc)
+    never false c false e = (told_wildcard a (wildcard_below (last_labels n x)) n t listed).inside e
+listed_inside a listed x t None None e = absurd (cc)
+
+pub outside_only : (a : Name) (listed : List Link) (x : Name) (t : ℕ) → reading a listed x t ≡ OutsideZone → is_at_or_below x a ≡ false
+outside_only a listed x t e = go (is_at_or_below x a) (is_at_parent a x t) e
+  where
+    go : (u p : Bool) → cond (not u) OutsideZone (cond p AtParent (listed_answer a listed x t)) ≡ OutsideZone → u ≡ false
+    go false p e = refl
+    go true true e = absurd (cc)
+    go true false e = absurd (listed_inside a listed x t (find (is_match a x) listed) (find (is_cover a x) listed) e)
+
+-- of every other name something else is said
+pub said_inside : (a : Name) (listed : List Link) (x : Name) (t : ℕ) (told : NameAnswer) → told ≡ name_answer (reading a listed x t)
+    → told ≢ Given OutsideZone → is_at_or_below x a ≡ true
+said_inside a listed x t told is some = elim (cases_Bool (is_at_or_below x a)) [
+  | inl under ↦ under
+  | inr out ↦ absurd (some (is ∙ ap (λ u. name_answer (cond (not u) OutsideZone (cond (is_at_parent a x t) AtParent (listed_answer a listed x t)))) out))
+]
 
 -- ---- one record
+
+-- what a record says of its owner, or of what is below it, is no denial
+match_never : (a : Name) (k : Link) (t n : ℕ) → match_answer a k t ≢ NoCloserName n
+match_never a k t n = given_never (match_answer a k t) (match_answer a k t) (sym (match_own a k t)) n
+
+owner_never : (a : Name) (k : Link) (n : ℕ) → owner_answer a k ≢ NoCloserName n
+owner_never a k n = given_never (owner_answer a k) (owner_answer a k) (sym (owner_own a k)) n
 
 module _ (a x : Name) (t : ℕ) (k : Link) where
   -- by whether the name is inside, the type the parent's, and the record matches or covers

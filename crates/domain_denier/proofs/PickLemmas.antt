@@ -237,6 +237,7 @@ module _ (laws : ChainLaws) (answers : AnswerLaws) (links : List Link) (a x : Na
       wildcard = λ place e. absurd (no_place place e);
     };
     exact = sym is ∙ sym (ap (λ ls. reading a ls x t) (append-nil (at_place links (Some p))));
+    outside = λ e. absurd (false≢true (sym e ∙ under));
   }
 
   pub denied_by_both : IsFound links p x → (count : ℕ) → reading a (at_place links (Some p)) x t ≡ NoCloserName count
@@ -249,4 +250,5 @@ module _ (laws : ChainLaws) (answers : AnswerLaws) (links : List Link) (a x : Na
         (found L a config whole under) count says d name wildcard;
     there = there;
     exact = exact;
+    outside = λ e. absurd (false≢true (sym e ∙ under));
   }

@@ -75,3 +75,5 @@ pub record IsDenial (links : List Link) (a x : Name) (t : ℕ) (d : NsecDenial) 
   -- of any chain, the records are there, and the answer is what `judge_nsec` says of them
   pub there : AreThere links d
   pub exact : d.answer ≡ reading a (picked links d) x t
+  -- of a name outside the zone there are none
+  pub outside : is_at_or_below x a ≡ false → (d.of_name ≡ None) × (d.of_wildcard ≡ None)

@@ -3,17 +3,16 @@ ghost use Rattle.std.specs.Prelude.{◌≡◌, ◌<◌, ◌≤◌, ◌⊎◌, �
 ghost use Rattle.domain_base.specs.Name.{is_at_or_below, lowered, wire_of};
 ghost use Rattle.domain_nsec3.specs.Config.{ChainConfig};
 ghost use Rattle.domain_nsec3.specs.View.{hash_by};
-ghost use Rattle.domain_records.specs.declared.error.Nsec3HashError.TheVariants as hash_error;
+ghost use Rattle.domain_hasher.specs.declared.error.Nsec3HashError.TheVariants as hash_error;
 ghost use Rattle.domain_zone.specs.Zone.{ZoneRecord};
 ghost use Rattle.domain_denier.specs.HashedPicked.{IsHashedWhole, IsRefusedAbove};
 ghost use Rattle.domain_denier.specs.HashedSteps.{IsFoundInside, IsFoundPlaced};
 
 use crate::hash_search::look_up;
 use domain_base::{ParsedName, ToName};
+use domain_hasher::{Nsec3HashError, Nsec3Hasher};
 use domain_nsec3::Nsec3Chain;
 use domain_octets::Octets;
-use domain_records::Nsec3HashError;
-use domain_zone::Nsec3Hasher;
 use std::alloc::Global;
 
 /// The closest encloser of a name: how many labels it has, and the places of the record that

@@ -4,15 +4,14 @@ ghost use Rattle.domain_nsec3.specs.Chain.{IsHashedChain};
 ghost use Rattle.domain_nsec3.specs.Config.{ChainConfig};
 ghost use Rattle.domain_nsec3.specs.Meaning.{octets_before};
 ghost use Rattle.domain_nsec3.specs.View.{hash_by};
-ghost use Rattle.domain_records.specs.declared.error.Nsec3HashError.TheVariants as hash_error;
+ghost use Rattle.domain_hasher.specs.declared.error.Nsec3HashError.TheVariants as hash_error;
 ghost use Rattle.domain_zone.specs.Zone.{ZoneRecord};
 ghost use Rattle.domain_denier.specs.HashedSteps.{IsFoundHash, IsOfHash, IsSaid};
 
+use domain_hasher::{Nsec3HashError, Nsec3Hasher, hash_wire};
 use domain_nsec3::Nsec3Chain;
 use domain_octets::Octets;
 use domain_octets::laws::{base32_reads_back, base32_tells_apart};
-use domain_records::Nsec3HashError;
-use domain_zone::{Nsec3Hasher, hash_wire};
 use std::alloc::Global;
 
 /// The record of a chain that a hash falls to, by its place.

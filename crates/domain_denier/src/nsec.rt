@@ -1,21 +1,21 @@
 //! What is picked of an NSEC chain.
-ghost use Rattle.std.specs.Prelude.{◌≡◌, ◌<◌, [], None, Some, true, length, IfOk, IsTrue};
+ghost use Rattle.std.specs.Prelude.{◌≡◌, ◌<◌, ◌↔◌, [], None, Some, true, length, IfOk, IsTrue};
 ghost use Rattle.domain_base.specs.Name.{is_at_or_below};
 ghost use Rattle.domain_answer.specs.Proved.{last_labels};
 ghost use Rattle.domain_answer.specs.Reading.{absent_answer, reading};
 ghost use Rattle.domain_answer.specs.ZoneAnswer.{wildcard_below};
 ghost use Rattle.domain_denier.specs.Judged.{IsSilent};
 ghost use Rattle.domain_denier.specs.Picked.{at_place, picked, AreThere, IsDenial, IsFound, IsWildcardPicked};
-ghost use Rattle.domain_answer.specs.declared.answer.Answer.TheVariants.{NoCloserName};
+ghost use Rattle.domain_answer.specs.declared.answer.Answer.TheVariants.{NoCloserName, OutsideZone};
+ghost use Rattle.domain_answer.specs.declared.answer.NameAnswer.TheVariants.{Given};
 
 use crate::judged::{OfName, OfWildcard, first_of, of_wildcard, second_of};
 use crate::owner_keys::OwnerKeys;
 use domain_answer::{Answer, NameAnswer, judge_nsec, laws, wildcard_of};
-use domain_base::{ParsedName, Rtype, ToName};
+use domain_base::{MAX_NAME, ParsedName, Rtype, ToName};
 use domain_nsec::NsecChain;
 use domain_nsec::laws::chains_mean_the_zone;
 use domain_octets::OutOfMemory;
-use domain_zone::MAX_NAME;
 use std::alloc::Global;
 use std::marker::Model;
 
@@ -126,6 +126,13 @@ fn with_wildcard<A: ToName, N: ToName, M: ToName>(
     }
 }
 
+/// Whether it is said that a name is outside the zone.
+fn is_outside(answer: NameAnswer) -> bool
+    ensures { IsTrue result ↔ (answer ≡ Given OutsideZone) }
+{
+    matches!(answer, NameAnswer::Given(Answer::OutsideZone))
+}
+
 /// What is picked of a chain, by its keys where there are some.
 fn pick<A: ToName, N: ToName, M: ToName>(
     apex: &A,
@@ -141,10 +148,13 @@ fn pick<A: ToName, N: ToName, M: ToName>(
     laws::whole_chains_prove_all();
     chains_mean_the_zone();
     let _number = rtype.to_int();
-    if chain.is_empty() || !name.ends_with(apex) {
+    if chain.is_empty() {
         return judge_none(apex, name, rtype);
     }
     let OfName { place, answer } = first_of(apex, chain, keys, name, rtype);
+    if is_outside(answer) {
+        return judge_none(apex, name, rtype);
+    }
     match answer {
         NameAnswer::Given(answer) => NsecDenial {
             answer,

@@ -4,7 +4,7 @@ ghost use Rattle.domain_base.specs.Name.{is_at_or_below};
 ghost use Rattle.domain_nsec3.specs.Chain.{HashedLink};
 ghost use Rattle.domain_nsec3.specs.Config.{ChainConfig, hash_name};
 ghost use Rattle.domain_nsec3.specs.View.{hash_by};
-ghost use Rattle.domain_records.specs.declared.error.Nsec3HashError.TheVariants as hash_error;
+ghost use Rattle.domain_hasher.specs.declared.error.Nsec3HashError.TheVariants as hash_error;
 ghost use Rattle.domain_zone.specs.Zone.{ZoneRecord};
 ghost use Rattle.domain_checker.specs.HashedEncloser.{encloser_is_cut};
 ghost use Rattle.domain_answer.specs.HashedProved.{AreAskedAlone};
@@ -17,13 +17,12 @@ ghost use Rattle.domain_denier.specs.HashedSteps.{encloser_with, link_at, wildca
 use crate::encloser::{PlacedEncloser, find_encloser};
 use crate::hash_search::{HashPlace, look_up};
 use domain_answer::{Answer, laws, wildcard_of};
-use domain_base::{ParsedName, Rtype, ToName};
+use domain_base::{MAX_NAME, ParsedName, Rtype, ToName};
 use domain_checker::laws::hashes_tell_of_names;
+use domain_hasher::{Nsec3HashError, Nsec3Hasher, lower_wire};
 use domain_nsec3::laws::{chains_mean_the_zone, names_exist};
 use domain_nsec3::{LentNsec3, Nsec3Chain};
 use domain_octets::Octets;
-use domain_records::Nsec3HashError;
-use domain_zone::{MAX_NAME, Nsec3Hasher, lower_wire};
 use std::alloc::Global;
 
 /// What a zone answers to a question, and the records of its NSEC3 chain that prove it, by their

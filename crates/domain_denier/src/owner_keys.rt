@@ -1,11 +1,10 @@
 //! Keys of the owners of a chain, by which a search for a name begins near its end.
 
 use domain_answer::wildcard_of;
-use domain_base::{ParsedName, ToName};
+use domain_base::{MAX_NAME, ParsedName, ToName};
 use domain_nsec::NsecChain;
 use domain_octets::OutOfMemory;
 use domain_records::owner_key;
-use domain_zone::MAX_NAME;
 use std::alloc::Global;
 
 /// How many keys stand for one among the samples.

@@ -1,6 +1,6 @@
 -- What sorted records tell of the records that were given.
 use Rattle.std.proofs.Common.{List, ℕ, Option, Result, Ok, Err, IfOk, IfErr}
-use Rattle.domain_plain.specs.declared.record.Record.{Record}
+use Rattle.domain_record.specs.declared.record.Record.{Record}
 use Rattle.std.specs.declared.cmp.Ordering.{Ordering}
 use Rattle.domain_base.specs.Words.{Name}
 use Rattle.domain_nsec.specs.declared.config.GenerateNsecConfig.{GenerateNsecConfig}

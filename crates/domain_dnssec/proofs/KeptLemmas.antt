@@ -9,8 +9,8 @@ use Rattle.std.specs.declared.cmp.Ordering.TheVariants.{Less, Equal, Greater}
 use Rattle.std.proofs.lemmas.List.Folds.{Any-from_list_any, list_any-from_Any}
 use Rattle.domain_base.specs.Laws.{same_name_ties}
 use Rattle.domain_base.specs.Order.{canonical_cmp}
-use Rattle.domain_plain.specs.Record.{record_cmp}
-use Rattle.domain_plain.specs.declared.record.Record.{Record}
+use Rattle.domain_record.specs.Record.{record_cmp}
+use Rattle.domain_record.specs.declared.record.Record.{Record}
 use Rattle.domain_records.specs.Order.{IsOneClass}
 use Rattle.domain_base.specs.Name.{is_at_or_below, lowered, same_name}
 use Rattle.domain_base.specs.Words.{Name}

@@ -1,8 +1,8 @@
 -- The chain of a zone whose records are given in any order, and when there is none.
 use Rattle.std.specs.Prelude.{◌≢◌, ℕ, List, Option, true}
 use Rattle.std.specs.declared.cmp.Ordering.{Ordering}
-use Rattle.domain_plain.specs.Record.{record_cmp}
-use Rattle.domain_plain.specs.declared.record.Record.{Record}
+use Rattle.domain_record.specs.Record.{record_cmp}
+use Rattle.domain_record.specs.declared.record.Record.{Record}
 use Rattle.domain_records.specs.Order.{IsOneClass}
 use Rattle.domain_records.specs.SortedSet.{IsUnion}
 use Rattle.domain_records.specs.declared.error.SigningError.{SigningError}

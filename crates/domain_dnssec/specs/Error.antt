@@ -19,12 +19,12 @@ use Rattle.domain_octets.specs.declared.error.ParseError.{ParseError}
 use Rattle.domain_octets.specs.declared.error.ParseError.TheVariants as parse_error
 use Rattle.domain_records.specs.declared.error.InsertError.{InsertError}
 use Rattle.domain_records.specs.declared.error.InsertError.TheVariants as insert_error
-use Rattle.domain_records.specs.declared.error.Nsec3HashError.{Nsec3HashError}
-use Rattle.domain_records.specs.declared.error.Nsec3HashError.TheVariants as hash_error
+use Rattle.domain_hasher.specs.declared.error.Nsec3HashError.{Nsec3HashError}
+use Rattle.domain_hasher.specs.declared.error.Nsec3HashError.TheVariants as hash_error
 use Rattle.domain_records.specs.declared.error.SigningError.{SigningError}
 use Rattle.domain_records.specs.declared.error.SigningError.TheVariants as signing_error
-use Rattle.domain_zone.specs.declared.hasher.HasherError.{HasherError}
-use Rattle.domain_zone.specs.declared.hasher.HasherError.TheVariants as hasher_error
+use Rattle.domain_hasher.specs.declared.hasher.HasherError.{HasherError}
+use Rattle.domain_hasher.specs.declared.hasher.HasherError.TheVariants as hasher_error
 use Rattle.domain_dnssec.specs.declared.chain.ChainError.{ChainError}
 use Rattle.domain_dnssec.specs.declared.chain.ChainError.TheVariants as chain_error
 use Rattle.domain_dnssec.specs.declared.error.Error.{Error}

@@ -9,8 +9,8 @@ use crate::laws::sorting_keeps_classes_and_records;
 use domain_base::{CanonicalOrd, MakeName, ToName};
 use domain_nsec::{GenerateNsecConfig, generate_nsecs};
 use domain_octets::{EmptyBuilder, FreezeBuilder, FromBuilder, GrowingBuilder, Truncate};
-use domain_plain::{Record, ZoneData};
 use domain_rdata::Nsec;
+use domain_record::{Record, ZoneData};
 use domain_records::{RecordsIter, SortedRecords};
 use std::alloc::Global;
 

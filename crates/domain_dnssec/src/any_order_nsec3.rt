@@ -7,11 +7,11 @@ ghost use Rattle.domain_dnssec.specs.AnyOrderNsec3.{HasNoHashedChain, HasNoSorte
 use crate::any_order::sort_one_class;
 use crate::chain::ChainError;
 use domain_base::{CanonicalOrd, MakeName};
+use domain_hasher::Nsec3Hasher;
 use domain_nsec3::{GenerateNsec3Config, Nsec3Records, generate_nsec3s};
 use domain_octets::{EmptyBuilder, FreezeBuilder, FromBuilder, GrowingBuilder, Truncate};
-use domain_plain::{Record, ZoneData};
+use domain_record::{Record, ZoneData};
 use domain_records::{SortedRecords, Sorter};
-use domain_zone::Nsec3Hasher;
 use std::alloc::Global;
 
 /// The NSEC3 chain of the zone that sorted records are, with its NSEC3PARAM record.

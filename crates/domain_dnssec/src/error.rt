@@ -7,12 +7,12 @@ ghost use Rattle.domain_dnssec.specs.declared.error.Error.TheVariants as variant
 use crate::ChainError;
 use domain_base::{NameError, ParseError, ScanError};
 use domain_bitmap::{Nsec3SaltError, Nsec3SaltFromStrError, OwnerHashError, RtypeBitmapError};
+use domain_hasher::{HasherError, Nsec3HashError};
 use domain_message::{LineError, MessageError};
 use domain_octets::{AppendError, DecodeError, OutOfMemory};
-use domain_plain::LongRecordData;
-use domain_records::{InsertError, Nsec3HashError, SigningError, SortError};
+use domain_record::LongRecordData;
+use domain_records::{InsertError, SigningError, SortError};
 use domain_rrsig::IllegalSignatureTime;
-use domain_zone::HasherError;
 use std::alloc::{AllocError, AllocFailed};
 use std::fmt;
 

@@ -1,6 +1,6 @@
 //! What callers may take from names, chains and sorting. A caller calls the law in its body.
 ghost use Rattle.std.specs.Prelude.{◌≡◌, ◌↔◌, ℕ, ◌<◌, All, Bool, false, true, Contains, List, Some};
-ghost use Rattle.domain_plain.specs.declared.record.Record.{Record};
+ghost use Rattle.domain_record.specs.declared.record.Record.{Record};
 ghost use Rattle.domain_base.specs.Words.{Name};
 ghost use Rattle.domain_records.specs.Order.{IsOneClass};
 ghost use Rattle.domain_checker.specs.Verdict.{IsProved};
@@ -22,7 +22,7 @@ use domain_base::{CanonicalOrd, ToName};
 pub use domain_bitmap::laws::built_bitmaps_give_their_types;
 use domain_checker::laws::whole_chains_prove_all;
 pub use domain_nsec::laws::{chains_mean_the_zone, types_ignore_case};
-use domain_plain::ZoneData;
+use domain_record::ZoneData;
 use domain_records::laws::sorted_records_are_in_order;
 pub use domain_zone::laws::{covering_ignores_case, owners_never_descend};
 

@@ -38,6 +38,7 @@ pub use domain_base::{
 pub use domain_bitmap::{RtypeBitmap, RtypeBitmapBuilder, RtypeBitmaps};
 pub use domain_checker::{NsecCheck, Verdict, check_nsec, check_nsec3};
 pub use domain_denier::{Nsec3Denial, NsecDenial, NsecDenier, deny_nsec, deny_nsec3};
+pub use domain_hasher::{HasherError, Nsec3HashError, Nsec3Hasher};
 pub use domain_message::{
     LineError, MessageError, OwnedRecord, read_name, read_record, scan_entry, scan_record,
 };
@@ -50,15 +51,13 @@ pub use domain_octets::{
     AppendError, ArrayBuilder, EmptyBuilder, FreezeBuilder, FromBuilder, GrowingBuilder, Octets,
     OutOfMemory, Parser, SmallBuilder, SmallOctets, Truncate, TryClone,
 };
-pub use domain_plain::{LongRecordData, Record, ZoneData};
 pub use domain_rdata::{Nsec, Nsec3, Nsec3param, ZoneRecordData};
+pub use domain_record::{LongRecordData, Record, ZoneData};
 pub use domain_records::{
-    DefaultSorter, InPlaceSorter, InsertError, Nsec3HashError, OwnerRrs, RecordsIter, SigningError,
-    SortError, SortedRecords, Sorter,
+    DefaultSorter, InPlaceSorter, InsertError, OwnerRrs, RecordsIter, SigningError, SortError,
+    SortedRecords, Sorter,
 };
 pub use domain_sha1::Sha1Hasher;
-pub use domain_zone::{
-    ApexSoa, HasherError, Nsec3Hasher, UnoccludedOwner, UnoccludedOwners, find_soa,
-};
+pub use domain_zone::{ApexSoa, UnoccludedOwner, UnoccludedOwners, find_soa};
 pub use error::Error;
 pub use wire::{compose_nsec3s, compose_nsecs};

@@ -13,8 +13,8 @@ use domain_lent::{compose_parts, compose_record};
 use domain_nsec::{LentNsec, NsecChain};
 use domain_nsec3::{LentNsec3, Nsec3Chain};
 use domain_octets::{Octets, OutOfMemory};
-use domain_plain::{ComposeRecordData, Record};
 use domain_rdata::Nsec3param;
+use domain_record::{ComposeRecordData, Record};
 use std::alloc::Global;
 
 /// Appends an NSEC record.

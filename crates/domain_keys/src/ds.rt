@@ -20,7 +20,7 @@ use domain_octets::{
     AppendError, CopyOctets, Octets, OctetsBuilder, OctetsFrom, OutOfMemory, ParseError, Parser,
     TryClone, laws,
 };
-use domain_plain::{
+use domain_record::{
     CloneRecordData, ComposeRecordData, LongRecordData, ParseRecordData, RecordData,
 };
 use std::alloc::Global;

@@ -8,7 +8,7 @@ use Rattle.std.specs.Cmp.Lexicographic.{slice_cmp, on_texts}
 use Rattle.domain_octets.specs.Words.{Octets}
 use Rattle.domain_base.specs.Types as rtypes
 use Rattle.domain_base.specs.Words.{Name}
-use Rattle.domain_plain.specs.declared.record.Record.{Record}
+use Rattle.domain_record.specs.declared.record.Record.{Record}
 
 -- data of a type as octets
 pub record RawData : Type 0 where

@@ -4,7 +4,7 @@ ghost use Rattle.domain_lent.specs.Data.{last_long};
 
 use domain_base::{CanonicalOrd, Rtype, Ttl};
 use domain_octets::{OutOfMemory, TryClone};
-use domain_plain::{RecordData, ZoneData};
+use domain_record::{RecordData, ZoneData};
 use std::cmp::Ordering;
 use std::marker::Model;
 

@@ -10,7 +10,7 @@ use crate::LentData;
 use domain_base::{ParsedName, Rtype};
 use domain_chain_rdata::{Nsec, Nsec3, Nsec3param};
 use domain_octets::Parser;
-use domain_plain::{Record, RecordData};
+use domain_record::{Record, RecordData};
 
 /// A record that lies in octets, with its data unread.
 pub type LentRecord<'a> = Record<ParsedName<'a>, LentData<'a>>;

@@ -9,7 +9,7 @@ use crate::{LentData, LentRecord};
 use domain_base::{Class, ParsedName, Rtype, ToName, Ttl};
 use domain_fields::{Fields, ReadFields};
 use domain_octets::{AppendError, OctetsBuilder, Parser};
-use domain_plain::{ComposeRecordData, Record};
+use domain_record::{ComposeRecordData, Record};
 
 /// Owner, type, class, TTL and the length of the data.
 type Header<'a> = (ParsedName<'a>, (u16, (u16, (u32, u16))));

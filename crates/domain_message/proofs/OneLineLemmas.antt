@@ -8,7 +8,7 @@ use Rattle.domain_base.specs.Text.{NameText}
 use Rattle.domain_base.specs.Words.{Name, Token, Tokens}
 use Rattle.domain_base.proofs.NamedLemmas.{one_named}
 use Rattle.domain_base.proofs.SpellingLemmas.{one_name}
-use Rattle.domain_plain.specs.declared.record.Record.{Record}
+use Rattle.domain_record.specs.declared.record.Record.{Record}
 use Rattle.domain_rdata.proofs.ScanLemmas.{text_once}
 use Rattle.domain_rdata.specs.Scan.{RdataText, own, generic}
 use Rattle.domain_rdata.specs.Zone.{rtype_of}

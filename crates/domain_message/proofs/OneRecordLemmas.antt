@@ -3,7 +3,7 @@ use Rattle.std.proofs.Common.{◌≡◌, ℕ, ◌+◌, List, refl, sym, ap, subs
 use Rattle.std.specs.Prelude.{Option, Some, None}
 use Rattle.domain_octets.specs.Words.{Octets}
 use Rattle.domain_base.specs.Words.{Name}
-use Rattle.domain_plain.specs.declared.record.Record.{Record}
+use Rattle.domain_record.specs.declared.record.Record.{Record}
 use Rattle.domain_rdata.specs.Kind.{Kind}
 use Rattle.domain_rdata.specs.Zone.{kind_of}
 use Rattle.domain_rdata.proofs.ScanLemmas.{AreOf, are_of, are_wire}

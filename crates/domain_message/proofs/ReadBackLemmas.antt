@@ -13,8 +13,8 @@ use Rattle.domain_base.specs.Numbers.{class_text, type_text}
 use Rattle.domain_base.specs.Text.{name_text, label_text, dotted_text, octet_text, is_special}
 use Rattle.domain_base.specs.Words.{Name}
 use Rattle.domain_base.proofs.ReadBackLemmas.{number_back, type_back, class_back, dotted_name_back, name_word, type_word, class_word}
-use Rattle.domain_plain.specs.RecordText.{record_text}
-use Rattle.domain_plain.specs.declared.record.Record.{Record}
+use Rattle.domain_record.specs.RecordText.{record_text}
+use Rattle.domain_record.specs.declared.record.Record.{Record}
 use Rattle.domain_rdata.specs.Scan.{RdataText}
 use Rattle.domain_rdata.specs.Zone.{data_text, rtype_of}
 use Rattle.domain_rdata.specs.declared.zone_record_data.ZoneRecordData.{ZoneRecordData}

@@ -6,7 +6,7 @@ use Rattle.domain_octets.specs.Words.{Octets}
 use Rattle.domain_base.specs.Name.{wire_of, IsName}
 use Rattle.domain_base.specs.Words.{Name}
 use Rattle.domain_fields.specs.Layout.{octets_of}
-use Rattle.domain_plain.specs.declared.record.Record.{Record}
+use Rattle.domain_record.specs.declared.record.Record.{Record}
 use Rattle.domain_rdata.specs.Scan.{AreData}
 use Rattle.domain_rdata.specs.Zone.{rtype_of, wire_octets}
 use Rattle.domain_rdata.specs.declared.zone_record_data.ZoneRecordData.{ZoneRecordData}

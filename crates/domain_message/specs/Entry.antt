@@ -9,7 +9,7 @@ use Rattle.domain_base.specs.Scan.{TakesToken, RefusesToken, IsNumber, IsNoNumbe
 use Rattle.domain_base.specs.Text.{NameText}
 use Rattle.domain_base.specs.Words.{Name, Tokens}
 use Rattle.domain_base.specs.declared.error.ScanError.{ScanError}
-use Rattle.domain_plain.specs.declared.record.Record.{Record}
+use Rattle.domain_record.specs.declared.record.Record.{Record}
 use Rattle.domain_rdata.specs.Refusal.{RefusesRdata}
 use Rattle.domain_rdata.specs.Scan.{RdataText}
 use Rattle.domain_rdata.specs.declared.zone_record_data.ZoneRecordData.{ZoneRecordData}

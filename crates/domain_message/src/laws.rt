@@ -3,12 +3,12 @@ ghost use Rattle.std.specs.Prelude.{IfSome, Option, ◌≡◌, ◌+◌, ◌++◌
 ghost use Rattle.domain_octets.specs.Words.{Octets};
 ghost use Rattle.domain_base.specs.Name.{wire_of, IsName};
 ghost use Rattle.domain_base.specs.Words.{Name};
-ghost use Rattle.domain_plain.specs.RecordText.{record_text};
+ghost use Rattle.domain_record.specs.RecordText.{record_text};
 ghost use Rattle.domain_rdata.specs.Exact.{HasExactText};
 ghost use Rattle.domain_rdata.specs.Zone.{data_text, rtype_of, wire_octets};
 ghost use Rattle.domain_rdata.specs.Scan.{AreData};
 ghost use Rattle.domain_message.specs.Written.{HasExactWire, record_octets};
-ghost use Rattle.domain_plain.specs.declared.record.Record.{Record};
+ghost use Rattle.domain_record.specs.declared.record.Record.{Record};
 ghost use Rattle.domain_rdata.specs.declared.zone_record_data.ZoneRecordData.{ZoneRecordData};
 ghost use Rattle.domain_message.specs.Alike.{AreAlike, IsOfMessage};
 ghost use Rattle.domain_message.specs.Entry.{LineText};
@@ -20,9 +20,9 @@ ghost use Rattle.domain_message.specs.declared.name.NameFault.{NameFault};
 
 use domain_base::ToName;
 use domain_octets::Octets;
-use domain_plain::{Record, RecordData};
 use domain_rdata::ZoneRecordData;
 use domain_rdata::laws::{data_is_read_back, octets_are_read_back};
+use domain_record::{Record, RecordData};
 
 /// At a place of a message stands one name at most, and none where labels have a fault (RFC 1035,
 /// section 4.1.4).

@@ -9,8 +9,8 @@ use domain_base::{
     Class, FromToken, IterScanner, MakeName, Name, Rtype, ScanError, Scanner, ToName, Ttl,
 };
 use domain_octets::{EmptyBuilder, FreezeBuilder, FromBuilder, Octets, Truncate};
-use domain_plain::Record;
 use domain_rdata::ZoneRecordData;
+use domain_record::Record;
 use std::alloc::Global;
 use std::error::Error;
 use std::fmt;

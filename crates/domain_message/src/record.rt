@@ -13,8 +13,8 @@ use crate::header::header_at;
 use crate::parts::{expand, parts_of};
 use domain_base::{MakeName, Rtype, ScanError};
 use domain_octets::{ArrayBuilder, EmptyBuilder, FromBuilder, Octets, OctetsBuilder};
-use domain_plain::Record;
 use domain_rdata::ZoneRecordData;
+use domain_record::Record;
 use std::alloc::Global;
 
 /// A copy of octets.

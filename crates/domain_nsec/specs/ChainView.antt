@@ -1,6 +1,6 @@
 -- How NSEC records are seen.
 use Rattle.std.specs.Prelude.{List, map}
-use Rattle.domain_plain.specs.declared.record.Record.{Record}
+use Rattle.domain_record.specs.declared.record.Record.{Record}
 use Rattle.domain_chain_rdata.specs.declared.nsec.Nsec.{Nsec}
 use Rattle.domain_base.specs.Words.{Name}
 use Rattle.domain_nsec.specs.Chain.{Link}

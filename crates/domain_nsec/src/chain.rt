@@ -11,7 +11,7 @@ use domain_base::{MakeName, ParsedName, ToName};
 use domain_bitmap::{RtypeBitmap, RtypeBitmaps};
 use domain_chain_rdata::Nsec;
 use domain_octets::{EmptyBuilder, FromBuilder, GrowingBuilder, OctetsBuilder, OutOfMemory};
-use domain_plain::{Record, ZoneData};
+use domain_record::{Record, ZoneData};
 use domain_records::{RecordsIter, SigningError};
 use domain_zone::{ApexSoa, UnoccludedOwners, find_soa, has_unequal_ttls};
 use std::alloc::Global;

@@ -10,7 +10,7 @@ use crate::{GenerateNsecConfig, NsecChain};
 use domain_base::MakeName;
 use domain_chain_rdata::Nsec;
 use domain_octets::{EmptyBuilder, FreezeBuilder, FromBuilder, GrowingBuilder, Truncate};
-use domain_plain::{Record, ZoneData};
+use domain_record::{Record, ZoneData};
 use domain_records::{RecordsIter, SigningError};
 use std::alloc::Global;
 

@@ -7,7 +7,7 @@ ghost use Rattle.domain_zone.specs.View.{zone_of};
 use crate::types::push_types;
 use domain_base::{ParsedName, ToName};
 use domain_bitmap::RtypeBitmaps;
-use domain_plain::ZoneData;
+use domain_record::ZoneData;
 use domain_zone::UnoccludedOwner;
 use std::alloc::Global;
 

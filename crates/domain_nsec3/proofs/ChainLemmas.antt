@@ -177,7 +177,8 @@ hash_there a chain p i h within is octets =
       | inl l ↦ sym (ap (λ k. k.owner) (link_is a p see chain.hashed.items h (get_or chain.hashed.items (i + 1) h).hash i
           (link_to a p (see h) []) within is (λ m x. ap (λ t. t.hash) (get_or_default chain.hashed.items (i + 1) h x m)) (λ m. absurd (omega (arith, l, m)))))
       | inr l ↦ sym (ap (λ k. k.owner) (link_is a p see chain.hashed.items h (get_or chain.hashed.items 0 h).hash i
-          (link_to a p (see h) []) within is (λ m. absurd (omega (arith, l, m))) (λ m x. ap (λ t. t.hash) (get_or_default chain.hashed.items 0 h x (omega (arith, within))))))
+          (link_to a p (see h) []) within is (λ m. absurd (omega (arith, l, m)))
+          (λ m x. ap (λ t. t.hash) (get_or_default chain.hashed.items 0 h x (omega (arith, within))))))
     ]
 
 -- one more record is made

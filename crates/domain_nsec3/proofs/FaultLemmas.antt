@@ -16,9 +16,9 @@ use Rattle.std.proofs.lemmas.List.Elements.{recursion_from_All}
 use Rattle.std.proofs.lemmas.List.Sorted.{IsPermutation-keeps, IsPermutation-map, list_any-IsPermutation}
 use Rattle.domain_base.specs.Name.{lowered, wire_of, same_name}
 use Rattle.domain_base.specs.Order.{canonical_cmp, before}
-use Rattle.domain_records.specs.declared.error.Nsec3HashError.{Nsec3HashError}
-use Rattle.domain_records.specs.declared.error.Nsec3HashError.TheVariants.{Hasher, AppendError, OwnerHashError}
-use Rattle.domain_records.specs.declared.error.Nsec3HashError.TheVariants.{Nsec3NameTooLong, CollisionDetected, OutOfMemory}
+use Rattle.domain_hasher.specs.declared.error.Nsec3HashError.{Nsec3HashError}
+use Rattle.domain_hasher.specs.declared.error.Nsec3HashError.TheVariants.{Hasher, AppendError, OwnerHashError}
+use Rattle.domain_hasher.specs.declared.error.Nsec3HashError.TheVariants.{Nsec3NameTooLong, CollisionDetected, OutOfMemory}
 use Rattle.domain_base.specs.Words.{Name}
 use Rattle.domain_zone.specs.Zone.{ZoneRecord}
 use Rattle.domain_zone.proofs.NameLemmas.{before_order, before_left, one_lowered, same_itself, same_lowered}

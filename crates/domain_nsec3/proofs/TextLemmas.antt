@@ -17,7 +17,7 @@ use Rattle.std.specs.Str.{IsAscii}
 use Rattle.std.proofs.lemmas.List.{append-nil}
 use Rattle.domain_base.proofs.WireLemmas.{IsWire-wire_of, labels_of-wire_of, wire_is}
 use Rattle.domain_base.specs.Words.{Name}
-use Rattle.domain_records.specs.declared.error.Nsec3HashError.TheVariants.{OwnerHashError, Nsec3NameTooLong}
+use Rattle.domain_hasher.specs.declared.error.Nsec3HashError.TheVariants.{OwnerHashError, Nsec3NameTooLong}
 use Rattle.domain_nsec3.specs.Chain.{hashed_owner}
 use Rattle.domain_nsec3.specs.Faults.{hash_fault}
 use Rattle.domain_nsec3.proofs.AncestorLemmas.{less, not_less}

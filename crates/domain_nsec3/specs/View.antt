@@ -1,7 +1,7 @@
 -- How configurations, and records of NSEC3 and NSEC3PARAM data, are seen.
 use Rattle.std.specs.Prelude.{ℕ, List, map}
 use Rattle.domain_octets.specs.Words.{Octets}
-use Rattle.domain_plain.specs.declared.record.Record.{Record}
+use Rattle.domain_record.specs.declared.record.Record.{Record}
 use Rattle.domain_chain_rdata.specs.declared.nsec3.Nsec3.{Nsec3}
 use Rattle.domain_chain_rdata.specs.declared.nsec3param.Nsec3param.{Nsec3param}
 use Rattle.domain_base.specs.Words.{Name}

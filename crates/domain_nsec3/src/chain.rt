@@ -7,7 +7,7 @@ ghost use Rattle.std.specs.Cmp.Lexicographic.{slice_cmp};
 ghost use Rattle.domain_base.specs.Name.{is_at_or_below, same_name};
 ghost use Rattle.domain_base.specs.Order.{canonical_cmp};
 ghost use Rattle.domain_records.specs.Order.{IsInOrder};
-ghost use Rattle.domain_records.specs.declared.error.Nsec3HashError.TheVariants as hash_error;
+ghost use Rattle.domain_hasher.specs.declared.error.Nsec3HashError.TheVariants as hash_error;
 ghost use Rattle.domain_zone.specs.Soa.{chain_ttl, soa_of};
 ghost use Rattle.domain_zone.specs.View.{zone_of};
 ghost use Rattle.domain_zone.specs.Zone.{ZoneRecord};
@@ -26,10 +26,11 @@ use crate::owners::{Owners, list_owners};
 use domain_base::{ParsedName, ToName};
 use domain_bitmap::RtypeBitmaps;
 use domain_chain_rdata::Nsec3param;
+use domain_hasher::{Nsec3HashError, Nsec3Hasher};
 use domain_octets::{Octets, OutOfMemory};
-use domain_plain::ZoneData;
-use domain_records::{Nsec3HashError, RecordsIter, SigningError, Sorter};
-use domain_zone::{ApexSoa, Nsec3Hasher};
+use domain_record::ZoneData;
+use domain_records::{RecordsIter, SigningError, Sorter};
+use domain_zone::ApexSoa;
 use std::alloc::Global;
 
 /// A chain before its records are made: the hashes of its names, and the types of those names that

@@ -8,7 +8,7 @@ use domain_chain_rdata::{Nsec3, Nsec3param};
 use domain_octets::{
     EmptyBuilder, FromBuilder, GrowingBuilder, Octets, OctetsBuilder, OutOfMemory,
 };
-use domain_plain::Record;
+use domain_record::Record;
 use std::alloc::Global;
 
 /// A copy of octets.

@@ -1,7 +1,7 @@
 //! The hashes of names, and the owners of their records.
 ghost use Rattle.std.specs.Prelude.{◌≡◌, ◌+◌, ◌<◌, ◌≤◌, ◌++◌, ◌∷◌, ◌⊎◌, [], List, Ok, Some, None, length, map, take, All, IfOk, IfErr, IsErrOf, OnOk, vec_capacity, vec_len};
 ghost use Rattle.domain_octets.specs.Words.{Octets};
-ghost use Rattle.domain_records.specs.declared.error.Nsec3HashError.TheVariants as hash_error;
+ghost use Rattle.domain_hasher.specs.declared.error.Nsec3HashError.TheVariants as hash_error;
 ghost use Rattle.domain_base.specs.Wire.{labels_of, IsWire};
 ghost use Rattle.domain_base.specs.Words.{Name};
 ghost use Rattle.domain_nsec3.specs.Chain.{hashed_owner};
@@ -13,12 +13,11 @@ ghost use Rattle.domain_nsec3.specs.View.{hash_by, parameters_of};
 
 use crate::hash_text::write_hash;
 use crate::name_hash::{MAX_HASH, NameHash};
-use domain_base::{MakeName, Nsec3HashAlgorithm, ParsedName, ToName};
+use domain_base::{MAX_NAME, MakeName, Nsec3HashAlgorithm, ParsedName, ToName};
 use domain_bitmap::Nsec3Salt;
 use domain_chain_rdata::Nsec3param;
+use domain_hasher::{Nsec3HashError, Nsec3Hasher, hash_wire, lower_wire};
 use domain_octets::{Octets, OutOfMemory};
-use domain_records::Nsec3HashError;
-use domain_zone::{MAX_NAME, Nsec3Hasher, hash_wire, lower_wire};
 use std::alloc::Global;
 
 /// The greatest length of a label.

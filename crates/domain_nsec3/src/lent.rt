@@ -15,7 +15,7 @@ use domain_base::{ParsedName, ToName, Ttl};
 use domain_bitmap::{OwnerHash, RtypeBitmap, RtypeBitmaps};
 use domain_chain_rdata::{Nsec3, Nsec3param};
 use domain_octets::Octets;
-use domain_plain::Record;
+use domain_record::Record;
 use std::fmt;
 use std::marker::Model;
 

@@ -12,12 +12,12 @@ use crate::copy::copy_param;
 use crate::nsec3_chain::Nsec3Chain;
 use domain_base::MakeName;
 use domain_chain_rdata::{Nsec3, Nsec3param};
+use domain_hasher::Nsec3Hasher;
 use domain_octets::{
     EmptyBuilder, FreezeBuilder, FromBuilder, GrowingBuilder, Octets, OutOfMemory, Truncate,
 };
-use domain_plain::{Record, ZoneData};
+use domain_record::{Record, ZoneData};
 use domain_records::{RecordsIter, SigningError, Sorter};
-use domain_zone::Nsec3Hasher;
 use std::alloc::Global;
 
 /// The NSEC3 chain of a zone, and the record that tells its parameters (RFC 5155, section 7.1).

@@ -15,10 +15,11 @@ use crate::copy::copy_record;
 use crate::lent::{LentNsec3, lend_record};
 use domain_base::{Class, MakeName, ParsedName, ToName, Ttl};
 use domain_chain_rdata::{Nsec3, Nsec3param};
+use domain_hasher::Nsec3Hasher;
 use domain_octets::{EmptyBuilder, FromBuilder, GrowingBuilder, Octets, OutOfMemory};
-use domain_plain::{Record, ZoneData};
+use domain_record::{Record, ZoneData};
 use domain_records::{RecordsIter, SigningError, Sorter};
-use domain_zone::{ApexSoa, Nsec3Hasher, find_soa};
+use domain_zone::{ApexSoa, find_soa};
 use std::alloc::Global;
 use std::marker::Model;
 

@@ -17,7 +17,7 @@ use crate::types::{OwnerKind, push_types};
 use domain_base::{ParsedName, Rtype, ToName};
 use domain_bitmap::RtypeBitmaps;
 use domain_octets::Octets;
-use domain_plain::ZoneData;
+use domain_record::ZoneData;
 use domain_records::{RecordsIter, SigningError};
 use domain_zone::{UnoccludedOwner, UnoccludedOwners, has_type, has_unequal_ttls};
 use std::alloc::Global;

@@ -8,7 +8,7 @@ ghost use Rattle.domain_zone.specs.View.{zone_of};
 use domain_base::{Rtype, ToName};
 use domain_bitmap::{RtypeBitmap, RtypeBitmapBuilder, RtypeBitmaps};
 use domain_octets::{EmptyBuilder, GrowingBuilder, OutOfMemory, SmallBuilder, SmallOctets};
-use domain_plain::{Record, ZoneData};
+use domain_record::{Record, ZoneData};
 use domain_records::SliceRefsOrOwnedIterator;
 use domain_zone::{add_type, add_types};
 use std::alloc::Global;

@@ -1,4 +1,3 @@
 pub mod GenericLemmas
 pub mod ReadBackLemmas
-pub mod RecordLemmas
 pub mod WireLemmas

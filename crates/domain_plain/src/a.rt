@@ -12,12 +12,12 @@ ghost use Rattle.domain_fields.specs.Layout.{Begins, FirstFault, GoesOn, octets_
 ghost use Rattle.domain_fields.specs.DataClone.{same_values_tie};
 ghost use Rattle.domain_plain.specs.Plain.{a, a_values};
 
-use crate::{CloneRecordData, ComposeRecordData, ParseRecordData, RecordData};
 use domain_base::{CanonicalOrd, Rtype, ScanError, Scanner};
 use domain_fields::{Address, Exactly, Fields, MAX_RDLEN, ReadFields, ScanFields};
 use domain_octets::{
     AppendError, FlattenInto, OctetsBuilder, OctetsFrom, OutOfMemory, ParseError, Parser, TryClone,
 };
+use domain_record::{CloneRecordData, ComposeRecordData, ParseRecordData, RecordData};
 use std::alloc::Global;
 use std::cmp::Ordering;
 use std::fmt;

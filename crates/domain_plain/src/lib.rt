@@ -1,7 +1,6 @@
-//! Records and plain data.
+//! Plain data of records.
 //!
-//! What a record is (RFC 1035, section 3.2) and its canonical order (RFC 4034, section 6), and the
-//! data of the types A, NS, SOA and MX (RFC 1035, section 3) and of types that are not known
+//! The data of the types A, NS, SOA and MX (RFC 1035, section 3) and of types that are not known
 //! (RFC 3597).
 //!
 //! The data of a type is a list of fields (`domain_fields`), from which its octets, its canonical
@@ -16,19 +15,11 @@ mod generic;
 pub mod laws;
 mod mx;
 mod ns;
-mod pairs;
-mod record;
-mod record_clone;
-mod record_data;
 mod soa;
 mod unknown;
 
 pub use a::A;
 pub use mx::Mx;
 pub use ns::Ns;
-pub use pairs::both;
-pub use record::Record;
-pub use record_clone::CloneRecordData;
-pub use record_data::{ComposeRecordData, LongRecordData, ParseRecordData, RecordData, ZoneData};
 pub use soa::Soa;
 pub use unknown::UnknownRecordData;

@@ -11,12 +11,14 @@ ghost use Rattle.domain_fields.specs.DataClone.{same_values_tie};
 ghost use Rattle.domain_plain.specs.Plain.{unknown, unknown_values};
 
 use crate::generic::GenericMark;
-use crate::{CloneRecordData, ComposeRecordData, LongRecordData, ParseRecordData, RecordData};
 use domain_base::{CanonicalOrd, FromToken, Rtype, ScanError, Scanner};
 use domain_fields::{AtMost, Fields, MAX_RDLEN, ReadFields, Rest};
 use domain_octets::{
     AppendError, Codec, CopyOctets, FlattenInto, FromBuilder, Octets, OctetsBuilder, OctetsFrom,
     OutOfMemory, ParseError, Parser, TryClone,
+};
+use domain_record::{
+    CloneRecordData, ComposeRecordData, LongRecordData, ParseRecordData, RecordData,
 };
 use std::alloc::Global;
 use std::cmp::Ordering;

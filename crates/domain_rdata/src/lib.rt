@@ -22,9 +22,10 @@ pub use domain_bitmap::{
 };
 pub use domain_chain_rdata::{Nsec, Nsec3, Nsec3param, nsec_laws, nsec3_laws};
 pub use domain_keys::{Dnskey, Ds};
-pub use domain_plain::{
-    A, CloneRecordData, ComposeRecordData, LongRecordData, Mx, Ns, ParseRecordData, Record,
-    RecordData, Soa, UnknownRecordData, ZoneData,
+pub use domain_plain::{A, Mx, Ns, Soa, UnknownRecordData};
+pub use domain_record::{
+    CloneRecordData, ComposeRecordData, LongRecordData, ParseRecordData, Record, RecordData,
+    ZoneData,
 };
 pub use domain_rrsig::{IllegalSignatureTime, ProtoRrsig, Rrsig, Timestamp};
 pub use zone_record_data::ZoneRecordData;

@@ -19,7 +19,8 @@ use domain_base::{MakeName, ParsedName, Rtype, ScanError, ToName};
 use domain_chain_rdata::{Nsec, Nsec3, Nsec3param};
 use domain_keys::{Dnskey, Ds};
 use domain_octets::{EmptyBuilder, FromBuilder, Octets, OctetsBuilder, OutOfMemory, Parser};
-use domain_plain::{A, Mx, Ns, ParseRecordData, Soa, UnknownRecordData};
+use domain_plain::{A, Mx, Ns, Soa, UnknownRecordData};
+use domain_record::ParseRecordData;
 use domain_rrsig::Rrsig;
 use std::alloc::Global;
 

@@ -10,9 +10,8 @@ use domain_base::{CanonicalOrd, Rtype, ToName, Ttl};
 use domain_chain_rdata::{Nsec, Nsec3, Nsec3param};
 use domain_keys::{Dnskey, Ds};
 use domain_octets::{AppendError, Octets, OctetsBuilder, OutOfMemory, TryClone};
-use domain_plain::{
-    A, CloneRecordData, ComposeRecordData, Mx, Ns, RecordData, Soa, UnknownRecordData, ZoneData,
-};
+use domain_plain::{A, Mx, Ns, Soa, UnknownRecordData};
+use domain_record::{CloneRecordData, ComposeRecordData, RecordData, ZoneData};
 use domain_rrsig::Rrsig;
 use std::cmp::Ordering;
 

@@ -7,9 +7,9 @@ use Rattle.std.specs.Ordering.{ordering_then, nat_cmp}
 use Rattle.std.specs.declared.cmp.Ordering.{Ordering}
 use Rattle.std.specs.declared.cmp.Ordering.TheVariants.{Less, Equal}
 use Rattle.domain_base.specs.Order.{canonical_cmp, canonical_cmp_total}
-use Rattle.domain_plain.specs.declared.record.Record.{Record}
-use Rattle.domain_plain.specs.Record.{record_cmp}
-use Rattle.domain_plain.specs.RecordClone.{IsRecordClone}
+use Rattle.domain_record.specs.declared.record.Record.{Record}
+use Rattle.domain_record.specs.Record.{record_cmp}
+use Rattle.domain_record.specs.RecordClone.{IsRecordClone}
 
 module _ {X : Type 0} {R : X → X → Ordering} (o : IsTotalOrder R) (P : X → X → Type 0) (tied : (x y : X) → P x y → R x y ≡ Equal) where
   less_too : (x y x' y' : X) → P x x' → P y y' → R x y ≡ Less → R x' y' ≡ Less

@@ -5,7 +5,7 @@ use Rattle.std.specs.Option.{option_transpose}
 use Rattle.std.proofs.lemmas.Bool.{eqb-true}
 use Rattle.domain_base.specs.Name.{same_name}
 use Rattle.domain_base.specs.Laws.{same_name_equiv}
-use Rattle.domain_plain.specs.declared.record.Record.{Record}
+use Rattle.domain_record.specs.declared.record.Record.{Record}
 use Rattle.domain_records.specs.declared.error.SigningError.{SigningError}
 use Rattle.domain_records.specs.Groups.{same_owner, same_type, same_rrset}
 use Rattle.domain_records.specs.Lookup.{IsFirstPlace, matches, is_asked}

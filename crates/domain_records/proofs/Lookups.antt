@@ -11,8 +11,8 @@ use Rattle.std.proofs.lemmas.List.{get_or_default}
 use Rattle.domain_base.specs.Name.{same_name}
 use Rattle.domain_base.specs.Order.{canonical_cmp, canonical_cmp_total}
 use Rattle.domain_base.specs.Laws.{same_name_ties}
-use Rattle.domain_plain.specs.declared.record.Record.{Record}
-use Rattle.domain_plain.specs.Record.{record_cmp}
+use Rattle.domain_record.specs.declared.record.Record.{Record}
+use Rattle.domain_record.specs.Record.{record_cmp}
 use Rattle.domain_records.specs.Lookup.{Key, key_cmp, key_of, wanted_key, where_asked, number_asked}
 use Rattle.domain_records.specs.Lookup.{is_asked, is_before, matches, HasAt, IsParted, IsFirstPlace}
 

@@ -9,8 +9,8 @@ use Rattle.std.specs.declared.cmp.Ordering.TheVariants.{Less, Equal, Greater}
 use Rattle.domain_base.specs.Name.{IsSame}
 use Rattle.domain_base.specs.Order.{canonical_cmp, canonical_cmp_total}
 use Rattle.domain_base.specs.Laws.{same_tied, tied_same}
-use Rattle.domain_plain.specs.declared.record.Record.{Record}
-use Rattle.domain_plain.specs.Record.{record_cmp}
+use Rattle.domain_record.specs.declared.record.Record.{Record}
+use Rattle.domain_record.specs.Record.{record_cmp}
 use Rattle.domain_records.specs.Groups.{may_follow}
 use Rattle.domain_records.specs.Runs.{HoldsOfNeighbours}
 use Rattle.domain_records.specs.Order.{HoldsPairwise, IsOneClass, MayFollow, IsInOrder}

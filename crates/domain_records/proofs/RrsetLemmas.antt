@@ -1,6 +1,6 @@
 -- What `Rrset::new` says of a group.
 use Rattle.std.proofs.Common.{◌≡◌, ℕ, ◌<◌, List, length, Result, Ok, Err, IfOk, IfErr, refl, ap, arith}
-use Rattle.domain_plain.specs.declared.record.Record.{Record}
+use Rattle.domain_record.specs.declared.record.Record.{Record}
 use Rattle.domain_records.specs.declared.error.SigningError.{SigningError}
 use Rattle.domain_records.specs.declared.error.SigningError.TheVariants.{EmptyRecordSlice, MultipleTtlValues}
 use Rattle.domain_records.specs.declared.error.SigningError.TheVariants.{SoaRecordCouldNotBeDetermined, Nsec3HashingError, OutOfMemory}

@@ -3,7 +3,7 @@ use Rattle.std.specs.Prelude.{◌≡◌, ℕ, ◌<◌, Bool, true, false, List, 
 use Rattle.std.specs.Fn.{Shared, FnReturnsAt}
 use Rattle.std.specs.Iterator.{Drains}
 use Rattle.std.specs.declared.cmp.Ordering.{Ordering}
-use Rattle.domain_plain.specs.declared.record.Record.{Record}
+use Rattle.domain_record.specs.declared.record.Record.{Record}
 use Rattle.domain_records.specs.declared.error.InsertError.{InsertError}
 use Rattle.domain_records.specs.declared.error.InsertError.TheVariants.{Present, OutOfMemory}
 use Rattle.domain_records.specs.SortedSet.{Holds, Adds}

@@ -3,7 +3,7 @@ use Rattle.std.specs.Prelude.{◌≡◌, ℕ, ◌≤◌, List, [], ◌∷◌}
 use Rattle.std.specs.List.{AllByRecursion}
 use Rattle.domain_base.specs.Name.{IsSame}
 use Rattle.domain_base.specs.Order.{IsUpTo}
-use Rattle.domain_plain.specs.declared.record.Record.{Record}
+use Rattle.domain_record.specs.declared.record.Record.{Record}
 use Rattle.domain_base.specs.Words.{Name}
 
 -- P holds of each element and each one after it

@@ -6,7 +6,7 @@ use Rattle.std.specs.declared.fmt.Error.{Error}
 use Rattle.domain_octets.specs.Words.{Octets}
 use Rattle.domain_octets.specs.Characters.{line_feed}
 use Rattle.domain_base.specs.Types.{soa}
-use Rattle.domain_plain.specs.declared.record.Record.{Record}
+use Rattle.domain_record.specs.declared.record.Record.{Record}
 use denote.Ref.{Bor, MutBor}
 
 -- the texts of the elements, one after another, or `None` where the text of one isn't known

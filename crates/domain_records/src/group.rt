@@ -6,7 +6,7 @@ ghost use Rattle.domain_records.specs.Runs.{IsFirstRun, HoldsOfNeighbours};
 
 use crate::slice::SliceRefsOrOwned;
 use domain_base::ToName;
-use domain_plain::{Record, RecordData};
+use domain_record::{Record, RecordData};
 
 /// What tells whether two neighbours belong to one group.
 pub trait Grouping<T> {

@@ -1,14 +1,14 @@
 //! What holds of groups and of sorted records. A caller calls the law in its body.
 ghost use Rattle.std.specs.Prelude.{List};
-ghost use Rattle.domain_plain.specs.declared.record.Record.{Record};
+ghost use Rattle.domain_record.specs.declared.record.Record.{Record};
 ghost use Rattle.std.specs.List.Sorted.{IsStrictlySortedBy};
-ghost use Rattle.domain_plain.specs.Record.{record_cmp};
+ghost use Rattle.domain_record.specs.Record.{record_cmp};
 ghost use Rattle.domain_records.specs.Groups.{same_owner, same_type, same_rrset};
 ghost use Rattle.domain_records.specs.Order.{IsOneClass, IsInOrder};
 ghost use Rattle.domain_records.specs.Runs.{AreGroups, runs};
 
 use domain_base::{CanonicalOrd, ToName};
-use domain_plain::RecordData;
+use domain_record::RecordData;
 
 /// The groups of records of one owner joined are the list; in each the neighbours share their
 /// owner; and where one ends and the next begins the owners differ.

@@ -47,7 +47,7 @@ mod sorted;
 mod sorter;
 mod write;
 
-pub use error::{InsertError, Nsec3HashError, SigningError, SortError};
+pub use error::{InsertError, SigningError, SortError};
 pub use key::owner_key;
 pub use owner::{OwnerRrs, RecordsIter};
 pub use rrset::{OwnerRrsIter, Rrset, RrsetIter};

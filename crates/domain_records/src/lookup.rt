@@ -2,7 +2,7 @@
 ghost use Rattle.std.specs.Prelude.{◌≡◌, ◌≤◌, ◌↔◌, ◌==◌, nat_le, length, IsTrue};
 ghost use Rattle.std.specs.Option.{ForSome};
 ghost use Rattle.std.specs.List.Sorted.{IsStrictlySortedBy};
-ghost use Rattle.domain_plain.specs.Record.{record_cmp};
+ghost use Rattle.domain_record.specs.Record.{record_cmp};
 ghost use Rattle.domain_records.specs.Lookup.{matches, HasAt, IsFirstPlace, IsParted, is_before, key_of, wanted_key, key_cmp};
 ghost use Rattle.domain_records.specs.Groups.{same_rrset};
 ghost use Rattle.domain_records.specs.Rrsets.{IsFound, group_at};
@@ -11,7 +11,7 @@ use crate::error::SigningError;
 use crate::rrset::{Rrset, RrsetIter};
 use crate::slice::SliceRefsOrOwned;
 use domain_base::{CanonicalOrd, Class, Rtype, ToName};
-use domain_plain::{Record, RecordData};
+use domain_record::{Record, RecordData};
 use std::cmp::Ordering;
 
 /// What a look-up asks of a record: its owner, and where given its class and its type.

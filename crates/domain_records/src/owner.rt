@@ -11,7 +11,7 @@ use crate::group::{ByClass, ByOwner, InOrder, first_run, is_one_run};
 use crate::rrset::OwnerRrsIter;
 use crate::slice::{SliceRefsOrOwned, SliceRefsOrOwnedIterator};
 use domain_base::{Class, Rtype, ToName};
-use domain_plain::{Record, RecordData};
+use domain_record::{Record, RecordData};
 use std::marker::Model;
 
 /// The records of one owner, borrowed from a longer list: a maximal run of records whose owners
@@ -23,7 +23,7 @@ pub struct OwnerRrs<'a, N: ToName, D> {
 
 impl<'a, N: ToName, D> Model for OwnerRrs<'a, N, D> {
     ghost use Rattle.std.specs.Prelude.{List};
-    ghost use Rattle.domain_plain.specs.declared.record.Record.{Record};
+    ghost use Rattle.domain_record.specs.declared.record.Record.{Record};
     ghost use Rattle.domain_records.specs.Slices.{items_of};
     ghost use Rattle.domain_records.specs.Groups.{same_owner};
     ghost use Rattle.domain_records.specs.Runs.{IsRun};
@@ -131,7 +131,7 @@ pub struct RecordsIter<'a, N: ToName, D> {
 
 impl<'a, N: ToName, D> Model for RecordsIter<'a, N, D> {
     ghost use Rattle.std.specs.Prelude.{List};
-    ghost use Rattle.domain_plain.specs.declared.record.Record.{Record};
+    ghost use Rattle.domain_record.specs.declared.record.Record.{Record};
     ghost use Rattle.domain_records.specs.Slices.{items_of};
 
     ghost Value = { List (Record N D) };

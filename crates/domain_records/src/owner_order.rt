@@ -1,11 +1,11 @@
 //! Records compared by owner, and by the rest.
 ghost use Rattle.std.specs.Prelude.{◌≡◌, slice_index_or};
 ghost use Rattle.std.specs.Ordering.{is_eq};
-ghost use Rattle.domain_plain.specs.Record.{record_cmp};
+ghost use Rattle.domain_record.specs.Record.{record_cmp};
 ghost use Rattle.domain_records.specs.OwnerOrder.{owner_cmp, rest_cmp};
 
 use domain_base::{CanonicalOrd, ToName};
-use domain_plain::{Record, RecordData};
+use domain_record::{Record, RecordData};
 use std::cmp::Ordering;
 
 /// The item at a place. Past the end `other` stands.

@@ -1,7 +1,7 @@
 //! Runs: neighbours of one owner, and the order of records that they lead to. It is a hint, which
 //! `sort` checks: nothing is promised of it.
 ghost use Rattle.std.specs.Prelude.{◌≡◌};
-ghost use Rattle.domain_plain.specs.Record.{record_cmp};
+ghost use Rattle.domain_record.specs.Record.{record_cmp};
 ghost use Rattle.domain_records.specs.OwnerOrder.{compared_runs};
 
 use crate::key::owner_key;
@@ -9,7 +9,7 @@ use crate::owner_order::{is_one_owner, item_at, rest_cmp};
 use crate::sorter::Sorter;
 use domain_base::{CanonicalOrd, ToName};
 use domain_octets::OutOfMemory;
-use domain_plain::{Record, RecordData};
+use domain_record::{Record, RecordData};
 use std::alloc::Global;
 use std::cmp::Ordering;
 

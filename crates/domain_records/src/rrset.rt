@@ -9,7 +9,7 @@ use crate::error::SigningError;
 use crate::group::{ByRrset, ByTtl, ByType, Grouping, first_run, is_one_run};
 use crate::slice::{SliceRefsOrOwned, SliceRefsOrOwnedIterator};
 use domain_base::{Class, Rtype, ToName, Ttl};
-use domain_plain::{Record, RecordData};
+use domain_record::{Record, RecordData};
 use std::marker::Model;
 
 /// Records that are taken for an RRset: at least one, and all with one TTL unless the first is an
@@ -23,7 +23,7 @@ pub struct Rrset<'a, N, D: RecordData> {
 
 impl<'a, N, D: RecordData> Model for Rrset<'a, N, D> {
     ghost use Rattle.std.specs.Prelude.{List};
-    ghost use Rattle.domain_plain.specs.declared.record.Record.{Record};
+    ghost use Rattle.domain_record.specs.declared.record.Record.{Record};
     ghost use Rattle.domain_records.specs.Slices.{items_of};
     ghost use Rattle.domain_records.specs.Rrsets.{IsRrset};
 
@@ -174,7 +174,7 @@ pub struct RrsetIter<'a, N: ToName, D: RecordData> {
 
 impl<'a, N: ToName, D: RecordData> Model for RrsetIter<'a, N, D> {
     ghost use Rattle.std.specs.Prelude.{List};
-    ghost use Rattle.domain_plain.specs.declared.record.Record.{Record};
+    ghost use Rattle.domain_record.specs.declared.record.Record.{Record};
     ghost use Rattle.domain_records.specs.Slices.{items_of};
 
     ghost Value = { List (Record N D) };
@@ -228,7 +228,7 @@ pub struct OwnerRrsIter<'a, N, D: RecordData> {
 
 impl<'a, N, D: RecordData> Model for OwnerRrsIter<'a, N, D> {
     ghost use Rattle.std.specs.Prelude.{List};
-    ghost use Rattle.domain_plain.specs.declared.record.Record.{Record};
+    ghost use Rattle.domain_record.specs.declared.record.Record.{Record};
     ghost use Rattle.domain_records.specs.Slices.{items_of};
 
     ghost Value = { List (Record N D) };

@@ -1,6 +1,6 @@
 //! Sorting, by owner first where that is right.
 ghost use Rattle.std.specs.Prelude.{◌≡◌, IsTrue, OnOk, OnErr};
-ghost use Rattle.domain_plain.specs.Record.{record_cmp};
+ghost use Rattle.domain_record.specs.Record.{record_cmp};
 ghost use Rattle.domain_records.specs.Places.{AreInOrder, compared_places};
 ghost use Rattle.domain_records.specs.SortedSet.{IsSortOf, IsUnion};
 
@@ -10,7 +10,7 @@ use crate::owner_runs::likely_places;
 use crate::sorter::Sorter;
 use domain_base::{CanonicalOrd, ToName};
 use domain_octets::OutOfMemory;
-use domain_plain::{Record, RecordData};
+use domain_record::{Record, RecordData};
 use std::cmp::Ordering;
 
 /// Compares the records at two places, and then the places.

@@ -7,8 +7,8 @@ ghost use Rattle.std.specs.Slice.Iter.{iter_rest};
 ghost use Rattle.std.specs.Iterator.{IsFiniteIterable};
 ghost use Rattle.std.specs.List.Sorted.{IsStrictlySortedBy};
 ghost use Rattle.domain_base.specs.Types.{soa};
-ghost use Rattle.domain_plain.specs.Record.{record_cmp};
-ghost use Rattle.domain_plain.specs.RecordClone.{IsRecordClone};
+ghost use Rattle.domain_record.specs.Record.{record_cmp};
+ghost use Rattle.domain_record.specs.RecordClone.{IsRecordClone};
 ghost use Rattle.domain_records.specs.Edits.{Gives, refused, without_first, IsFirstMatch, Updates};
 ghost use Rattle.domain_records.specs.Lookup.{matches};
 ghost use Rattle.domain_records.specs.Groups.{same_rrset};
@@ -27,7 +27,7 @@ use crate::sorter::{DefaultSorter, Sorter};
 use crate::write::{SoaRecords, write_part, write_part_with_comments};
 use domain_base::{CanonicalOrd, Class, Rtype, ToName};
 use domain_octets::OutOfMemory;
-use domain_plain::{CloneRecordData, Record, RecordData};
+use domain_record::{CloneRecordData, Record, RecordData};
 use std::alloc::Global;
 use std::marker::{Model, PhantomData};
 use std::{fmt, slice};
@@ -43,8 +43,8 @@ pub struct SortedRecords<N: ToName, D: RecordData + CanonicalOrd, Sort: Sorter =
 impl<N: ToName, D: RecordData + CanonicalOrd, Sort: Sorter> Model for SortedRecords<N, D, Sort> {
     ghost use Rattle.std.specs.Prelude.{List};
     ghost use Rattle.std.specs.List.Sorted.{IsStrictlySortedBy};
-    ghost use Rattle.domain_plain.specs.declared.record.Record.{Record};
-    ghost use Rattle.domain_plain.specs.Record.{record_cmp};
+    ghost use Rattle.domain_record.specs.declared.record.Record.{Record};
+    ghost use Rattle.domain_record.specs.Record.{record_cmp};
 
     ghost Value = { List (Record N D) };
 

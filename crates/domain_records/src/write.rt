@@ -5,7 +5,7 @@ ghost use Rattle.std.specs.Fmt.{WritesText};
 ghost use Rattle.domain_records.specs.Text.{texts, is_soa, WritesLine, WritesWithComments};
 
 use domain_base::Rtype;
-use domain_plain::{Record, RecordData};
+use domain_record::{Record, RecordData};
 use std::fmt;
 
 /// A kind of elements.

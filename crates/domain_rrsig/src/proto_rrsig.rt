@@ -8,7 +8,7 @@ use crate::{Rrsig, Timestamp};
 use domain_base::{ParsedName, Rtype, SecurityAlgorithm, ToName, Ttl};
 use domain_fields::Fields;
 use domain_octets::{AppendError, Octets, OctetsBuilder, OutOfMemory, TryClone};
-use domain_plain::LongRecordData;
+use domain_record::LongRecordData;
 use std::marker::Model;
 
 /// The fields of a signature's data before there is a signature (RFC 4034, section 3.1). A signer

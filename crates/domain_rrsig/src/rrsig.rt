@@ -19,7 +19,7 @@ use domain_fields::{AtMost, Fields, MAX_RDLEN, ReadFields, Rest};
 use domain_octets::{
     AppendError, Octets, OctetsBuilder, OutOfMemory, ParseError, Parser, TryClone, laws,
 };
-use domain_plain::{
+use domain_record::{
     CloneRecordData, ComposeRecordData, LongRecordData, ParseRecordData, RecordData,
 };
 use std::cmp::Ordering;

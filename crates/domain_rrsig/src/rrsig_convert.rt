@@ -6,7 +6,7 @@ ghost use Rattle.domain_base.specs.Name.{wire_of};
 use crate::{ProtoRrsig, Rrsig};
 use domain_base::{Name, ToName};
 use domain_octets::{AppendError, CopyOctets, FlattenInto, Octets, OctetsFrom};
-use domain_plain::both;
+use domain_record::both;
 use std::alloc::Global;
 
 impl<N: ToName + Drop, O: CopyOctets> OctetsFrom<ProtoRrsig<N>> for ProtoRrsig<Name<O>> {

@@ -11,7 +11,7 @@ ghost use Rattle.sha1.specs.Sha1.{sha1};
 ghost use Rattle.domain_sha1.specs.Iterated.{iterated, sha1_answer};
 
 use domain_base::Nsec3HashAlgorithm;
-use domain_zone::{HasherError, Nsec3Hasher};
+use domain_hasher::{HasherError, Nsec3Hasher};
 use sha1::Sha1;
 use std::alloc::Global;
 

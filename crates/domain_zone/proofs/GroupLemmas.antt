@@ -12,7 +12,7 @@ use Rattle.std.proofs.lemmas.List.Folds.{Any-from_list_any, list_any-from_Any}
 use Rattle.domain_base.specs.Name.{IsSame, lowered, same_name}
 use Rattle.domain_base.specs.Laws.{same_name_same}
 use Rattle.domain_base.specs.Order.{canonical_cmp, canonical_cmp_total, before}
-use Rattle.domain_plain.specs.declared.record.Record.{Record}
+use Rattle.domain_record.specs.declared.record.Record.{Record}
 use Rattle.domain_records.specs.Runs.{runs, add_to}
 use Rattle.domain_records.specs.Groups.{same_owner, HasFirst, IsZoneCut}
 use Rattle.domain_records.specs.Order.{MayFollow, IsInOrder}

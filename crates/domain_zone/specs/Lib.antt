@@ -1,5 +1,4 @@
 pub mod Covering
-pub mod HasherText
 pub mod Zone
 pub mod Soa
 pub mod Enclosers

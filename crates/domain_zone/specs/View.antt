@@ -1,6 +1,6 @@
 -- How records are seen as a zone.
 use Rattle.std.specs.Prelude.{ℕ, List, map, Option}
-use Rattle.domain_plain.specs.declared.record.Record.{Record}
+use Rattle.domain_record.specs.declared.record.Record.{Record}
 use Rattle.domain_base.specs.Words.{Name}
 use Rattle.domain_zone.specs.Zone.{ZoneRecord}
 

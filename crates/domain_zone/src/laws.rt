@@ -3,14 +3,14 @@ ghost use Rattle.std.specs.Prelude.{◌≡◌, List, true};
 ghost use Rattle.domain_base.specs.Name.{same_name};
 ghost use Rattle.domain_base.specs.Order.{before};
 ghost use Rattle.domain_base.specs.Words.{Name};
-ghost use Rattle.domain_plain.specs.declared.record.Record.{Record};
+ghost use Rattle.domain_record.specs.declared.record.Record.{Record};
 ghost use Rattle.domain_records.specs.Order.{IsInOrder};
 ghost use Rattle.domain_zone.specs.Covering.{matches, covers};
 ghost use Rattle.domain_zone.specs.View.{zone_of};
 ghost use Rattle.domain_zone.specs.Zone.{OwnersNeverDescend};
 
 use domain_base::ToName;
-use domain_plain::ZoneData;
+use domain_record::ZoneData;
 
 /// A pair of names matches and covers a name in each of its spellings alike.
 pub fn covering_ignores_case()

@@ -3,19 +3,17 @@
 //!
 //! The definitions stand in `specs/`, each a filter over the whole list of records. The code is
 //! what the generators of chains share: the SOA of the apex, the test on TTLs, the
-//! types of an owner, the hasher, and `UnoccludedOwners`, the one walk over the records of a zone.
+//! types of an owner, and `UnoccludedOwners`, the one walk over the records of a zone.
 //! The crates above may rely on this: `UnoccludedOwners` gives exactly the owners that the
 //! definitions say are not occluded, each with its records and whether it is a zone cut.
 #![tactic(auto)]
 
-mod hasher;
 pub mod laws;
 mod owners;
 mod soa;
 mod ttl;
 mod types;
 
-pub use hasher::{HasherError, MAX_NAME, Nsec3Hasher, hash_wire, lower_wire};
 pub use owners::{UnoccludedOwner, UnoccludedOwners, has_type};
 pub use soa::{ApexSoa, find_soa};
 pub use ttl::has_unequal_ttls;

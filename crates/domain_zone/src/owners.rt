@@ -6,7 +6,7 @@ ghost use Rattle.domain_zone.specs.Walk.{is_passed_over};
 ghost use Rattle.domain_zone.specs.Zone.{has_type};
 
 use domain_base::{Rtype, ToName};
-use domain_plain::{Record, ZoneData};
+use domain_record::{Record, ZoneData};
 use domain_records::{OwnerRrs, RecordsIter, SliceRefsOrOwnedIterator};
 use std::marker::Model;
 

@@ -4,7 +4,7 @@ ghost use Rattle.domain_zone.specs.Soa.{chain_ttl, is_soa, soa_of};
 ghost use Rattle.domain_zone.specs.View.{as_zone_record, zone_of};
 
 use domain_base::{Class, Rtype, ToName, Ttl};
-use domain_plain::{Record, ZoneData};
+use domain_record::{Record, ZoneData};
 use domain_records::SliceRefsOrOwnedIterator;
 
 /// What the SOA record of an apex gives to a chain.

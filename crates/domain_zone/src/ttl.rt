@@ -5,7 +5,7 @@ ghost use Rattle.domain_zone.specs.View.{as_zone_record, zone_of};
 ghost use Rattle.domain_zone.specs.Zone.{clashes, has_clash};
 
 use domain_base::{Rtype, ToName};
-use domain_plain::{Record, ZoneData};
+use domain_record::{Record, ZoneData};
 use domain_records::SliceRefsOrOwnedIterator;
 
 /// Whether two records of one type other than RRSIG differ in their TTLs.

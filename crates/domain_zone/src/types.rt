@@ -7,7 +7,7 @@ ghost use Rattle.domain_zone.specs.Zone.{may_list, lists_type};
 use domain_base::{Rtype, ToName};
 use domain_bitmap::RtypeBitmapBuilder;
 use domain_octets::{GrowingBuilder, OutOfMemory};
-use domain_plain::{Record, ZoneData};
+use domain_record::{Record, ZoneData};
 use domain_records::SliceRefsOrOwnedIterator;
 
 /// Whether a chain may list a type of an owner: at a zone cut those of NS and DS alone.

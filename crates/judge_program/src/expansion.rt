@@ -14,7 +14,8 @@ use denial_program::{DenialFault, Question};
 use domain_answer::{Answer, judge_nsec3_expansion};
 use domain_checker::find_nsec3;
 use domain_dnssec::Nsec3Hasher;
-use domain_records::{Nsec3HashError, SigningError};
+use domain_hasher::Nsec3HashError;
+use domain_records::SigningError;
 use std::alloc::Global;
 
 /// What NSEC3 records answer to a question about such a name, with the labels that the signatures

@@ -11,9 +11,8 @@ use crate::needs::{Needs, needs_of, needs_wildcard};
 use crate::why::wildcard_count;
 use denial_program::Question;
 use domain_answer::{Answer, NsecFound, find_nsec, wildcard_of};
-use domain_base::{ParsedName, Rtype, ToName};
+use domain_base::{MAX_NAME, ParsedName, Rtype, ToName};
 use domain_lent::ReadNsec;
-use domain_zone::MAX_NAME;
 use std::io;
 use std::io::Write;
 

@@ -9,9 +9,8 @@ use crate::answer_text::last_labels;
 use crate::role::Role;
 use denial_program::Question;
 use domain_answer::{Answer, NsecFound, find_nsec, wildcard_of};
-use domain_base::{ParsedName, ToName};
+use domain_base::{MAX_NAME, ParsedName, ToName};
 use domain_lent::ReadNsec;
-use domain_zone::MAX_NAME;
 use std::io;
 use std::io::Write;
 

@@ -3,7 +3,7 @@ ghost use Rattle.std.specs.Prelude.{◌≡◌, ◌⊎◌, ℕ, List, IfErr, IfOk
 ghost use Rattle.domain_alike.specs.Alike.{pair_of, AreAlike, IsFirstRefusal};
 ghost use Rattle.domain_lent.specs.Data.{minimum_of, RawRecord};
 ghost use Rattle.domain_records.specs.Order.{IsInOrder};
-ghost use Rattle.domain_records.specs.declared.error.Nsec3HashError.TheVariants as hash_error;
+ghost use Rattle.domain_hasher.specs.declared.error.Nsec3HashError.TheVariants as hash_error;
 ghost use Rattle.domain_records.specs.declared.error.SigningError.TheVariants as signing_error;
 ghost use Rattle.domain_zone.specs.View.{zone_of};
 ghost use Rattle.denial_program.specs.Answer.{usual_nsec3_config};

@@ -6,8 +6,8 @@ use crate::lines::{Answers, OwnName, input};
 use domain_answer::{judge_nsec, judge_nsec3, judge_nsec3_expansion};
 use domain_base::{Class, Rtype, ScanError, Scanner, Ttl};
 use domain_dnssec::{Nsec3Hasher, Nsec3Records, check_nsec, check_nsec3};
-use domain_plain::Record;
 use domain_rdata::{Nsec, Nsec3, Nsec3param, ZoneRecordData};
+use domain_record::Record;
 use std::alloc::Global;
 
 /// The parameters of an NSEC3 chain.

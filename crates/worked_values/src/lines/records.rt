@@ -2,8 +2,8 @@
 use crate::lines::input::Tokens;
 use crate::lines::{Answers, OwnName, input};
 use domain_base::{Class, Rtype, ScanError, Scanner, Ttl};
-use domain_plain::Record;
 use domain_rdata::ZoneRecordData;
+use domain_record::Record;
 use domain_records::SortedRecords;
 use std::alloc::Global;
 use std::fmt::Display;

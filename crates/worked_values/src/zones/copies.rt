@@ -5,8 +5,9 @@ use crate::lines::{Answers, OwnName};
 use bytes::Bytes;
 use domain_base::Name;
 use domain_octets::{ArrayBuilder, OutOfMemory, TryClone};
-use domain_plain::{A, Record, Soa};
+use domain_plain::{A, Soa};
 use domain_rdata::ZoneRecordData;
+use domain_record::Record;
 use domain_records::SortedRecords;
 use std::alloc::Global;
 

@@ -1,9 +1,7 @@
-use Rattle.std.proofs.Common.{◌≡◌, false, not, max, sym, ap, ◌∙◌}
+use Rattle.std.proofs.Common.{◌≡◌, false, not, sym, ap, ◌∙◌}
 use Rattle.std.specs.Ordering.{is_eq, is_gt, is_lt}
 use Rattle.std.proofs.lemmas.Bool.{false≢true}
 use Rattle.domain_base.specs.Order.{before, canonical_cmp}
-use Rattle.domain_zone.specs.Enclosers.{shared}
-use Rattle.domain_checker.proofs.SharedLemmas.{longer_length, shared_length}
 use Rattle.domain_answer.proofs.FoundLemmas.{after_both, ahead_of_both, ahead_of_next, at_owner, not_false, not_true, uncovered}
 use Rattle.domain_answer.proofs.listed.covered.Goals as goal
 use Rattle.domain_answer.proofs.listed.covered.Goals.{then-is_eq-via-then-is_eq, then-is_eq-via-else-is_eq+then-is_before, then-not-is_after, else-not-is_after}
@@ -47,15 +45,6 @@ returns-then-is_lt-clause-covers g c =
         | else-is_after u ↦ absurd (false≢true (sym u.if-is_after.false ∙ sym u.value-is ∙ w.if-not-is_before.true))
       ]
     ]
-
-pub returns-then-is_lt-clause-shared : goal.returns-then-is_lt-clause-shared
-returns-then-is_lt-clause-shared g c =
-    let o = g.N.ToName.labels c.args.owner.now in
-    let n = g.N.ToName.labels c.args.next.now in
-    let x = g.M.ToName.labels c.args.name.now in
-    c.max.ensures
-    ∙ (λ i. max ((c.compare-from_owner.ensures.common ∙ sym (shared_length x o)) i) ((c.compare-from_next.ensures.common ∙ sym (shared_length x n)) i))
-    ∙ longer_length (shared x o) (shared x n)
 
 pub returns-clause-covers : goal.returns-clause-covers
 returns-clause-covers g c =

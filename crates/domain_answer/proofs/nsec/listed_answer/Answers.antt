@@ -1,12 +1,13 @@
-use Rattle.std.proofs.Common.{refl, ap, ◌∙◌, subst, sym}
+use Rattle.std.proofs.Common.{◌≡◌, refl, ap, ◌∙◌, subst, sym}
 use Rattle.std.specs.List.{find}
 use Rattle.domain_nsec.specs.ChainView.{as_link, links_of}
 use Rattle.domain_checker.specs.Reading.{is_cover}
 use Rattle.domain_answer.specs.Found.{IsCovered, IsFound, cover_link, found_cover, found_match}
-use Rattle.domain_answer.specs.NameAnswer.{IsNameAnswer}
+use Rattle.domain_answer.specs.NameAnswer.{IsNameAnswer, name_answer}
+use Rattle.domain_answer.specs.declared.answer.NameAnswer.TheVariants.{Given}
 use Rattle.domain_answer.specs.Reading.{listed_both}
 use Rattle.domain_answer.proofs.FoundLemmas.{found_covers}
-use Rattle.domain_answer.proofs.ToldLemmas.{given_told, match_never, not_proven_never}
+use Rattle.domain_answer.proofs.ToldLemmas.{given_told, match_own}
 use Rattle.domain_answer.proofs.nsec.listed_answer.Goals as goal
 
 pub returns-in-Match : goal.returns-in-Match
@@ -19,7 +20,7 @@ returns-in-Match g c =
     let found = subst (λ f. IsFound a listed x (found_match labels f) (found_cover labels f)) c.in-Match.is c.find_nsec.ensures.found in
     given_told a listed x t _ c.match_answer.result
     (sym (c.match_answer.ensures ∙ ap (λ o. listed_both a listed x t o (find (is_cover a x) listed)) found.matching))
-    (λ n e. match_never a (as_link labels c.in-Match.listed.now) t n (sym c.match_answer.ensures ∙ e))
+    (subst (λ r. name_answer r ≡ Given r) (sym c.match_answer.ensures) (match_own a (as_link labels c.in-Match.listed.now) t))
 
 pub cover_answer-requires-clause-covers : goal.cover_answer-requires-clause-covers
 cover_answer-requires-clause-covers g c =
@@ -54,4 +55,4 @@ returns-in-Neither g c =
     let t = c.args.rtype in
     let listed = links_of labels c.args.chain.now in
     let found = subst (λ f. IsFound a listed x (found_match labels f) (found_cover labels f)) c.in-Neither.is c.find_nsec.ensures.found in
-    given_told a listed x t _ _ (sym (λ i. listed_both a listed x t (found.matching i) (found.covering refl i))) not_proven_never
+    given_told a listed x t _ _ (sym (λ i. listed_both a listed x t (found.matching i) (found.covering refl i))) refl

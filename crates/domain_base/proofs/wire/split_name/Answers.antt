@@ -11,8 +11,8 @@ returns-then-from-gt-MAX_LABEL_LEN-clause-err c =
     let is : get_or octets c.loop-len.at 0 ≡ c.in-Some.field-0.now = grind (arith, common_steps) in
     label_fault octets c.loop-len.at c.in-Some.field-0.now below is c.loop-len.invariant (omega arith)
 
-pub returns-then-end-ge-MAX_LEN-clause-err : goal.returns-then-end-ge-MAX_LEN-clause-err
-returns-then-end-ge-MAX_LEN-clause-err c =
+pub returns-then-end-ge-MAX_NAME-clause-err : goal.returns-then-end-ge-MAX_NAME-clause-err
+returns-then-end-ge-MAX_NAME-clause-err c =
     let octets = c.args.octets.now in
     let below : c.loop-len.at < length octets = grind (arith, common_steps) in
     let is : get_or octets c.loop-len.at 0 ≡ c.in-Some.field-0.now = grind (arith, common_steps) in

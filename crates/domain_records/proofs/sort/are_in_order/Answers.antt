@@ -4,7 +4,7 @@ use Rattle.std.specs.declared.cmp.Ordering.{Ordering}
 use Rattle.std.specs.declared.cmp.Ordering.TheVariants.{Less, Equal, Greater}
 use Rattle.std.proofs.lemmas.Bool.{false≢true}
 use Rattle.std.proofs.lemmas.Fn.{always_returns_same}
-use Rattle.domain_plain.specs.Record.{record_cmp}
+use Rattle.domain_record.specs.Record.{record_cmp}
 use Rattle.domain_records.specs.Places.{compared_places}
 use Rattle.domain_records.proofs.sort.are_in_order.Goals as goal
 

@@ -3,7 +3,7 @@ use Rattle.std.specs.List.{slice_get}
 use Rattle.std.specs.List.Sorted.{IsPermutation}
 use Rattle.std.specs.Option.{option_copied}
 use Rattle.std.proofs.lemmas.List.{take_at}
-use Rattle.domain_plain.specs.Record.{record_cmp, record_cmp_total}
+use Rattle.domain_record.specs.Record.{record_cmp, record_cmp_total}
 use Rattle.domain_records.specs.Places.{AreInOrder, IsArranged}
 use Rattle.domain_records.proofs.SortedLists.{no_sort}
 use Rattle.domain_records.proofs.Placing.{arranged_sort}

@@ -22,4 +22,5 @@ returns-clause-some g c =
     c.index.result.now (omega arith) c.index.ensures octets in
     subst (λ (v : ChainRecords). (k : HashedLink) × IsRecordOf v.param.owner v.links c.args.place k c.as_octets.result.now) c.self.view_is
     (subst (λ (h : List ℕ). (k : HashedLink) × IsRecordOf c.self.inside.nsec3param.owner
-    (links_in c.self.inside.nsec3param.owner c.self.inside.chain (common_of c.self.inside.nsec3param.«data» c.self.inside.ttl)) c.args.place k h) (sym is) there)
+    (links_in c.self.inside.nsec3param.owner c.self.inside.chain (common_of c.self.inside.nsec3param.«data» c.self.inside.ttl))
+    c.args.place k h) (sym is) there)

@@ -1,5 +1,5 @@
 use Rattle.std.proofs.Common.{eqb}
-use Rattle.domain_plain.specs.declared.record.Record.{Record}
+use Rattle.domain_record.specs.declared.record.Record.{Record}
 use Rattle.domain_records.specs.Groups.{same_rrset}
 use Rattle.domain_records.proofs.FoundGroups.{found_by, types_alike}
 use Rattle.domain_records.proofs.sorted.SortedRecords.find_soa.Goals as goal

@@ -1,5 +1,5 @@
 use Rattle.std.proofs.Common.{refl}
-use Rattle.domain_plain.specs.Record.{record_cmp_total}
+use Rattle.domain_record.specs.Record.{record_cmp_total}
 use Rattle.domain_records.proofs.SortedLists.{sorted_insert, holds_at, none_in_gap}
 use Rattle.domain_records.proofs.sorted.SortedRecords.insert.Goals as goal
 

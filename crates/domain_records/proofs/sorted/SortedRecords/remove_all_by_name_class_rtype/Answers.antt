@@ -1,7 +1,7 @@
 use Rattle.std.proofs.Common.{sym, not, rules}
 use Rattle.std.proofs.lemmas.Fn.{filter_same}
 use Rattle.std.proofs.lemmas.List.Kept.{IsStrictlySortedBy-filter}
-use Rattle.domain_plain.specs.declared.record.Record.{Record}
+use Rattle.domain_record.specs.declared.record.Record.{Record}
 use Rattle.domain_records.specs.Lookup.{matches}
 use Rattle.domain_records.proofs.Removals.{all_kept, none_any, no_place, some_any}
 use Rattle.domain_records.proofs.sorted.SortedRecords.remove_all_by_name_class_rtype.Goals as goal

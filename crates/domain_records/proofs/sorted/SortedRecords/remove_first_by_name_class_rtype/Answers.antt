@@ -1,5 +1,5 @@
 use Rattle.std.proofs.Common.{sym}
-use Rattle.domain_plain.specs.Record.{record_cmp_total}
+use Rattle.domain_record.specs.Record.{record_cmp_total}
 use Rattle.domain_records.proofs.SortedLists.{sorted_remove}
 use Rattle.domain_records.proofs.Removals.{first_without, first_any, none_without, none_any}
 use Rattle.domain_records.proofs.sorted.SortedRecords.remove_first_by_name_class_rtype.Goals as goal

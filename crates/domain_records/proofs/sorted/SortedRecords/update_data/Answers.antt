@@ -1,6 +1,6 @@
 use Rattle.std.proofs.Common.{refl, Some, None, inl, inr, arith}
 use Rattle.std.specs.Result.{IsOk}
-use Rattle.domain_plain.specs.Record.{record_cmp_total}
+use Rattle.domain_record.specs.Record.{record_cmp_total}
 use Rattle.domain_records.proofs.SortedLists.{sorted_remove, sorted_insert, holds_at, none_in_gap, read_is}
 use Rattle.domain_records.proofs.sorted.SortedRecords.update_data.Goals as goal
 

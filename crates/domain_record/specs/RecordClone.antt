@@ -1,6 +1,6 @@
 -- Records that stand for others: copies, and records over other names and data.
 use Rattle.std.specs.Prelude.{◌≡◌}
-use Rattle.domain_plain.specs.declared.record.Record.{Record}
+use Rattle.domain_record.specs.declared.record.Record.{Record}
 
 -- the owner and the data stand for the others, and the class and the TTL are the same
 pub record IsRecordClone {M E N D : Type 0} (is_owner_clone : M → N → Type 0)

@@ -7,7 +7,7 @@ use Rattle.std.specs.Cmp.{on_per, and_per, on_equiv, and_equiv, nat_eq_equiv, pa
 use Rattle.domain_base.specs.Name.{same_name}
 use Rattle.domain_base.specs.Laws.{same_name_equiv}
 use Rattle.domain_base.specs.Order.{canonical_cmp, canonical_cmp_total}
-use Rattle.domain_plain.specs.declared.record.Record.{Record}
+use Rattle.domain_record.specs.declared.record.Record.{Record}
 use Rattle.domain_base.specs.Words.{Name}
 
 -- by class, then owner in the order of names, then type, then the canonical order of the data

@@ -1,12 +1,12 @@
 //! Hashes of owner names.
 ghost use Rattle.std.specs.Prelude.{◌≡◌, ◌⊎◌, ℕ, List, Result, Ok, Err, IfErr, IfOk, IsErrOf};
 ghost use Rattle.domain_base.specs.Name.{lowered, wire_of};
-ghost use Rattle.domain_records.specs.declared.error.Nsec3HashError.TheVariants as hash_error;
-ghost use Rattle.domain_zone.specs.declared.hasher.HasherError.TheVariants as hasher_error;
+ghost use Rattle.domain_hasher.specs.declared.error.Nsec3HashError.TheVariants as hash_error;
+ghost use Rattle.domain_hasher.specs.declared.hasher.HasherError.TheVariants as hasher_error;
 
-use domain_base::{Nsec3HashAlgorithm, ToName};
+use crate::Nsec3HashError;
+use domain_base::{MAX_NAME, Nsec3HashAlgorithm, ToName};
 use domain_octets::OutOfMemory;
-use domain_records::Nsec3HashError;
 use std::alloc::{AllocError, AllocFailed, Global};
 use std::error::Error;
 use std::fmt;
@@ -22,7 +22,7 @@ pub enum HasherError {
 
 impl fmt::Display for HasherError {
     ghost use Rattle.std.specs.Prelude.{Some};
-    ghost use Rattle.domain_zone.specs.HasherText.{hasher_error_text};
+    ghost use Rattle.domain_hasher.specs.ErrorText.{hasher_error_text};
 
     // These texts stand once more in specs/HasherText.antt: both change together.
     ghost output = { λ e. Some (hasher_error_text e) };
@@ -87,9 +87,6 @@ pub trait Nsec3Hasher {
             → answer self.now name.now algorithm iterations salt.now ≡ Err n }
         ensures memory { IsErrOf result HasherError.OutOfMemory → takes_memory self.now };
 }
-
-/// The greatest length of a name.
-pub const MAX_NAME: usize = 255;
 
 /// Writes the wire form of a name in lower case, as hashers take it, to the front of a buffer.
 pub fn lower_wire<'b, N: ToName>(buffer: &'b mut [u8; MAX_NAME], name: &N) -> &'b [u8]

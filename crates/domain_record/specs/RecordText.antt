@@ -5,7 +5,7 @@ use Rattle.domain_octets.specs.Words.{Octets}
 use Rattle.domain_octets.specs.Characters.{space, dot}
 use Rattle.domain_base.specs.Text.{name_text}
 use Rattle.domain_base.specs.Numbers.{class_text, type_text}
-use Rattle.domain_plain.specs.declared.record.Record.{Record}
+use Rattle.domain_record.specs.declared.record.Record.{Record}
 use Rattle.domain_base.specs.Words.{Name}
 
 -- a class with a space before and after it

@@ -1,8 +1,8 @@
 //! Records.
 ghost use Rattle.std.specs.Prelude.{◌≡◌, ◌⊎◌, Some};
-ghost use Rattle.domain_plain.specs.RecordClone.{IsRecordClone};
+ghost use Rattle.domain_record.specs.RecordClone.{IsRecordClone};
 ghost use Rattle.std.specs.Borrow.{sem};
-ghost use Rattle.domain_plain.specs.RecordLends.{LendsData};
+ghost use Rattle.domain_record.specs.RecordLends.{LendsData};
 
 use crate::{RecordData, both};
 use domain_base::{CanonicalOrd, Class, Rtype, ToName, Ttl};
@@ -111,7 +111,7 @@ impl<N, D: RecordData> Record<N, D> {
 
 // By owner, class and data. The TTL is not compared.
 impl<N: ToName, D: PartialEq> PartialEq for Record<N, D> {
-    ghost use Rattle.domain_plain.specs.Record.{record_eq, record_eq_partial};
+    ghost use Rattle.domain_record.specs.Record.{record_eq, record_eq_partial};
 
     ghost eq = { record_eq N.labels D.eq };
 
@@ -123,7 +123,7 @@ impl<N: ToName, D: PartialEq> PartialEq for Record<N, D> {
 }
 
 impl<N: ToName, D: Eq> Eq for Record<N, D> {
-    ghost use Rattle.domain_plain.specs.Record.{record_eq_equiv};
+    ghost use Rattle.domain_record.specs.Record.{record_eq_equiv};
 
     ghost laws = { record_eq_equiv N.labels D.eq D.Eq.laws };
 }
@@ -185,7 +185,7 @@ impl<M: Drop, E: Drop, N: FlattenInto<M>, D: FlattenInto<E>> FlattenInto<Record<
 
 // By class, owner, type and data. The TTL is not compared.
 impl<N: ToName, D: RecordData + CanonicalOrd> CanonicalOrd for Record<N, D> {
-    ghost use Rattle.domain_plain.specs.Record.{record_cmp, record_cmp_total};
+    ghost use Rattle.domain_record.specs.Record.{record_cmp, record_cmp_total};
 
     ghost canonical_cmp = { record_cmp N.labels D.rtype D.canonical_cmp };
 
@@ -205,7 +205,7 @@ impl<N: ToName, D: RecordData + CanonicalOrd> CanonicalOrd for Record<N, D> {
 struct Spaced(Class);
 
 impl fmt::Display for Spaced {
-    ghost use Rattle.domain_plain.specs.RecordText.{spaced_class};
+    ghost use Rattle.domain_record.specs.RecordText.{spaced_class};
 
     ghost output = { λ c. Some (spaced_class c.0) };
 
@@ -220,7 +220,7 @@ impl fmt::Display for Spaced {
 /// The owner with its last dot, the TTL, the class, the type and the data, with single spaces
 /// between them.
 impl<N: ToName, D: RecordData + fmt::Display> fmt::Display for Record<N, D> {
-    ghost use Rattle.domain_plain.specs.RecordText.{record_text};
+    ghost use Rattle.domain_record.specs.RecordText.{record_text};
 
     ghost output = { record_text N.labels D.rtype D.output };
 

@@ -2,7 +2,7 @@ use Rattle.std.proofs.Common.{map, sym, ap, ◌∙◌}
 use Rattle.std.specs.Char.{to_ascii_lowercase}
 use Rattle.domain_base.specs.Name.{wire_of, lowered}
 use Rattle.domain_base.proofs.CaseLemmas.{lowered_wire}
-use Rattle.domain_zone.proofs.hasher.lower_wire.Goals as goal
+use Rattle.domain_hasher.proofs.hasher.lower_wire.Goals as goal
 
 pub returns : goal.returns
 returns g c =

@@ -5,7 +5,7 @@ use Rattle.std.specs.Fmt.{◌++?◌}
 use Rattle.domain_octets.specs.Words.{Octets}
 use Rattle.domain_octets.specs.Characters.{space}
 use Rattle.domain_base.specs.Numbers.{class_text}
-use Rattle.domain_plain.specs.RecordText.{spaced_class}
+use Rattle.domain_record.specs.RecordText.{spaced_class}
 
 -- a class and the spaces beside it are one text
 pub class_in_spaces : (class : ℕ) (rest : Option Octets) → Some (spaced_class class) ++? rest

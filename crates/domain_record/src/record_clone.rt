@@ -1,7 +1,7 @@
 //! Copies of records.
 ghost use Rattle.std.specs.Prelude.{◌≡◌, IfOk};
 ghost use Rattle.std.specs.declared.cmp.Ordering.TheVariants.{Equal};
-ghost use Rattle.domain_plain.specs.RecordClone.{IsRecordClone};
+ghost use Rattle.domain_record.specs.RecordClone.{IsRecordClone};
 
 use crate::{Record, RecordData};
 use domain_base::CanonicalOrd;

@@ -1,0 +1,4 @@
+pub mod Record
+pub mod RecordLends
+pub mod RecordText
+pub mod RecordClone
