@@ -23,8 +23,9 @@ use Rattle.domain_checker.proofs.EncloserLemmas.{cut_same, owner_owns}
 use Rattle.domain_checker.proofs.FindLemmas.{in_at}
 use Rattle.domain_checker.proofs.MeantLemmas.{BitmapsAreSets, ChainLaws, IgnoresCase, IsMeant, and_true, cut_at, ends, meant_by, owner_low, type_at}
 use Rattle.domain_checker.proofs.MeantLemmas.{covered_no_owner, covered_occluded, matched_low, matched_same}
+use Rattle.domain_answer.specs.TypesAnswer.{is_of_child}
 use Rattle.domain_answer.specs.Proved.{LeavesOutBelowDname}
-use Rattle.domain_answer.specs.Reading.{is_of_child, tells_occluded, tells_occluder}
+use Rattle.domain_answer.specs.Reading.{tells_occluded, tells_occluder}
 use Rattle.domain_answer.specs.ZoneAnswer.{name_exists, owns_type}
 
 -- a chain that leaves out what stands below a DNAME
@@ -86,7 +87,7 @@ module _ (L : List ZoneRecord) (a : Name) (assume : Bool) (links : List Link) (m
   owners = unoccluded_owners true L a
 
   -- a record of the chain is no record of a child's apex
-  pub child_at : (k : Link) → In k links → is_of_child a k ≡ false
+  pub child_at : (k : Link) → In k links → is_of_child (is_at_cut a k) k.bits ≡ false
   child_at k i =
       (λ j. cut_at true L a assume links meant alike sets k i j && type_at true L a assume links meant alike sets k i soa (omega arith) j)
       ∙ soa_bit (assume && same_name k.owner a) (is_zone_cut L a k.owner) (records_of L k.owner)

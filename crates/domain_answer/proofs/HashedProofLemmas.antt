@@ -22,6 +22,7 @@ use Rattle.domain_checker.proofs.EncloserLemmas.{same_length}
 use Rattle.domain_checker.proofs.FindLemmas.{find_some}
 use Rattle.domain_checker.proofs.HashedEncloserLemmas.{itself_counted}
 use Rattle.domain_checker.proofs.HashedWalkLemmas.{matched_same}
+use Rattle.domain_answer.specs.TypesAnswer.{is_of_child}
 use Rattle.domain_answer.specs.declared.answer.Answer.{Answer}
 use Rattle.domain_answer.specs.declared.answer.Answer.TheVariants.{Referral, Redirected, Has, NoDs, Alias, NoData}
 use Rattle.domain_answer.specs.declared.answer.Answer.TheVariants.{Wildcard, WildcardAlias}
@@ -30,7 +31,7 @@ use Rattle.domain_answer.specs.declared.answer.Answer.TheVariants.{NameError, Ma
 use Rattle.domain_answer.specs.declared.answer.Answer.TheVariants.{NoCloserName}
 use Rattle.domain_answer.specs.declared.answer.Answer.TheVariants.{NotProven}
 use Rattle.domain_answer.specs.HashedProved.{HasCloserProof, HasEncloserProof, HashedRestsOn}
-use Rattle.domain_answer.specs.HashedReading.{IsHashedRead, IsReadOn, IsWildcardRead, encloser_answer, encloser_is_of_child, found_answer}
+use Rattle.domain_answer.specs.HashedReading.{IsHashedRead, IsReadOn, IsWildcardRead, encloser_answer, found_answer}
 use Rattle.domain_answer.specs.HashedReading.{lower_answer, next_answer, own_answer, wildcard_told}
 use Rattle.domain_answer.specs.Proved.{CountsWithin, last_labels}
 use Rattle.domain_answer.specs.ZoneAnswer.{wildcard_below}
@@ -62,7 +63,7 @@ module _ (P : Answer → Type 0) (listed : List HashedLink) (a : Name) (p : Para
   of_own s =
       let own = allows.own s in
       let later = cond (contains_type e.link.bits t) Has (cond (encloser_is_cut a e) NoDs (cond (contains_type e.link.bits cname) Alias NoData)) in
-      chosen P (encloser_is_of_child a e) NotProven (cond (encloser_is_cut a e && not (nat_eq t ds)) (Referral e.count) later) allows.none
+      chosen P (is_of_child (encloser_is_cut a e) e.link.bits) NotProven (cond (encloser_is_cut a e && not (nat_eq t ds)) (Referral e.count) later) allows.none
       (chosen P (encloser_is_cut a e && not (nat_eq t ds)) (Referral e.count) later allows.referral
       (chosen P (contains_type e.link.bits t) Has (cond (encloser_is_cut a e) NoDs (cond (contains_type e.link.bits cname) Alias NoData)) own.0
       (chosen P (encloser_is_cut a e) NoDs (cond (contains_type e.link.bits cname) Alias NoData) own.1

@@ -18,12 +18,13 @@ use Rattle.domain_checker.specs.Reading.{is_at_cut, is_cover, is_match}
 use Rattle.domain_checker.specs.Verdict.{HasProof, is_inside}
 use Rattle.domain_checker.proofs.FindLemmas.{find_some}
 use Rattle.domain_checker.proofs.EncloserLemmas.{same_count}
+use Rattle.domain_answer.specs.TypesAnswer.{is_of_child}
 use Rattle.domain_answer.specs.declared.answer.Answer.{Answer}
 use Rattle.domain_answer.specs.declared.answer.Answer.TheVariants.{OutsideZone, AtParent, Referral, Redirected, Has, NoDs, Alias, NoData}
 use Rattle.domain_answer.specs.declared.answer.Answer.TheVariants.{Wildcard, WildcardAlias, WildcardNoData, NameError, NoCloserName, NotProven}
 use Rattle.domain_answer.specs.Proved.{CountsWithin, HasBothProofs, RestsOn, last_labels}
 use Rattle.domain_answer.specs.Reading.{absent_answer, cover_answer, listed_answer, listed_both, match_answer, owner_answer, reading}
-use Rattle.domain_answer.specs.Reading.{is_of_child, tells_occluded, tells_occluder, wildcard_both}
+use Rattle.domain_answer.specs.Reading.{tells_occluded, tells_occluder, wildcard_both}
 use Rattle.domain_answer.specs.ZoneAnswer.{is_at_parent, wildcard_below}
 use Rattle.domain_answer.proofs.CountLemmas.{encloser_less}
 
@@ -74,7 +75,7 @@ module _ (a : Name) (listed : List Link) where
         let last = cond (contains_type k.bits cname) Alias NoData in
         let later = cond (is_at_cut a k) NoDs last in
         let own = cond (is_at_cut a k && not (t == ds)) (Referral (length k.owner)) (cond (contains_type k.bits t) Has later) in
-        choose Rests (is_of_child a k) NotProven own tt
+        choose Rests (is_of_child (is_at_cut a k) k.bits) NotProven own tt
         (choose Rests (is_at_cut a k && not (t == ds)) (Referral (length k.owner)) (cond (contains_type k.bits t) Has later) h
         (choose Rests (contains_type k.bits t) Has later h
         (choose Rests (is_at_cut a k) NoDs last h
@@ -131,7 +132,7 @@ module _ (a : Name) (listed : List Link) where
         let labels = same_count k.owner x (same_is k.owner x ∙ m) in
         let within : length k.owner ≤ length x = omega arith in
         let own = cond (is_at_cut a k && not (t == ds)) (Referral (length k.owner)) (cond (contains_type k.bits t) Has later) in
-        choose Counts (is_of_child a k) NotProven own tt
+        choose Counts (is_of_child (is_at_cut a k) k.bits) NotProven own tt
         (choose Counts (is_at_cut a k && not (t == ds)) (Referral (length k.owner)) (cond (contains_type k.bits t) Has later) within
         (choose Counts (contains_type k.bits t) Has later tt
         (choose Counts (is_at_cut a k) NoDs last tt

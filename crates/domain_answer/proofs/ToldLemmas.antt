@@ -8,12 +8,13 @@ use Rattle.domain_base.specs.Words.{Name}
 use Rattle.domain_bitmap.specs.Blocks.{contains_type}
 use Rattle.domain_nsec.specs.Chain.{Link}
 use Rattle.domain_checker.specs.Reading.{is_at_cut, is_cover, is_match}
+use Rattle.domain_answer.specs.TypesAnswer.{is_of_child}
 use Rattle.domain_answer.specs.declared.answer.Answer.{Answer}
 use Rattle.domain_answer.specs.declared.answer.Answer.TheVariants as answer
 use Rattle.domain_answer.specs.declared.answer.NameAnswer.TheVariants.{Given, Absent}
 use Rattle.domain_answer.specs.NameAnswer.{IsNameAnswer, name_answer}
 use Rattle.domain_answer.specs.Proved.{last_labels}
-use Rattle.domain_answer.specs.Reading.{absent_answer, is_of_child, match_answer, owner_answer}
+use Rattle.domain_answer.specs.Reading.{absent_answer, match_answer, owner_answer}
 use Rattle.domain_answer.specs.Reading.{tells_occluded, wildcard_answer, wildcard_both, wildcard_cover_answer, wildcard_match_answer}
 use Rattle.domain_answer.specs.ZoneAnswer.{wildcard_below}
 
@@ -26,7 +27,7 @@ abbrev chosen_below : ℕ → Bool → Answer
 chosen_below n c = cond c (answer.Referral n) (answer.Redirected n)
 
 pub match_own : (a : Name) (k : Link) (t : ℕ) → name_answer (match_answer a k t) ≡ Given (match_answer a k t)
-match_own a k t = go (is_of_child a k) (is_at_cut a k && not (t == ds)) (contains_type k.bits t) (is_at_cut a k) (contains_type k.bits cname)
+match_own a k t = go (is_of_child (is_at_cut a k) k.bits) (is_at_cut a k && not (t == ds)) (contains_type k.bits t) (is_at_cut a k) (contains_type k.bits cname)
   where
     go : (b d h c l : Bool) → name_answer (chosen (length k.owner) b d h c l) ≡ Given (chosen (length k.owner) b d h c l)
     go true d h c l = refl

@@ -1,9 +1,9 @@
 -- What NSEC3 records answer by themselves (RFC 5155, section 8; RFC 6840, sections 4.1, 4.3 and
 -- 4.4).
-use Rattle.std.specs.Prelude.{ℕ, Bool, not, ◌&&◌, ◌||◌, ◌==◌, List, ◌≡◌, ◌⊎◌, Option, Some, None, Ok, Err, length, if◌then◌else◌}
+use Rattle.std.specs.Prelude.{ℕ, ◌==◌, List, ◌≡◌, ◌⊎◌, Option, Some, None, Ok, Err, length, if◌then◌else◌}
 use Rattle.std.specs.List.{find}
 use Rattle.domain_octets.specs.Words.{Octets}
-use Rattle.domain_base.specs.Types.{cname, dname, ds, ns, soa}
+use Rattle.domain_base.specs.Types.{dname, ns}
 use Rattle.domain_base.specs.Words.{Name}
 use Rattle.domain_bitmap.specs.Blocks.{contains_type}
 use Rattle.domain_chain_rdata.specs.OptOut.{is_opt_out}
@@ -13,28 +13,14 @@ use Rattle.domain_checker.specs.HashedEncloser.{Encloser, encloser_is_cut, IsEnc
 use Rattle.domain_checker.specs.HashedList.{is_hash_cover, is_hash_match}
 use Rattle.domain_checker.specs.HashedVerdict.{IsFirstRefusal}
 use Rattle.domain_answer.specs.Proved.{last_labels}
+use Rattle.domain_answer.specs.TypesAnswer.{types_answer, wildcard_types_answer}
 use Rattle.domain_answer.specs.ZoneAnswer.{wildcard_below}
 use Rattle.domain_answer.specs.declared.answer.Answer.{Answer}
-use Rattle.domain_answer.specs.declared.answer.Answer.TheVariants.{Referral, Redirected, Has, NoDs, Alias, NoData}
-use Rattle.domain_answer.specs.declared.answer.Answer.TheVariants.{Wildcard, WildcardAlias}
-use Rattle.domain_answer.specs.declared.answer.Answer.TheVariants.{WildcardNoData}
-use Rattle.domain_answer.specs.declared.answer.Answer.TheVariants.{NameError, MayBeUnsigned}
-use Rattle.domain_answer.specs.declared.answer.Answer.TheVariants.{NoCloserName}
-use Rattle.domain_answer.specs.declared.answer.Answer.TheVariants.{NotProven}
-
--- the record of the closest encloser is the child zone's, of its apex: that name is a zone cut, and
--- the record lists SOA, which the parent's does not (RFC 5155, section 8.9)
-abbrev pub encloser_is_of_child : Name → Encloser → Bool
-encloser_is_of_child a e = encloser_is_cut a e && contains_type e.link.bits soa
+use Rattle.domain_answer.specs.declared.answer.Answer.TheVariants.{Referral, Redirected, NameError, MayBeUnsigned, NoCloserName, NotProven}
 
 -- the record of the closest encloser says of its own name
 abbrev pub own_answer : Name → Encloser → ℕ → Answer
-own_answer a e t =
-    if encloser_is_of_child a e then NotProven else
-    (if encloser_is_cut a e && not (t == ds) then Referral e.count else
-    (if contains_type e.link.bits t then Has else
-    (if encloser_is_cut a e then NoDs else
-    (if contains_type e.link.bits cname then Alias else NoData))))
+own_answer a e t = types_answer (encloser_is_cut a e) e.link.bits e.count t
 
 -- a cover of the next closer name says, where the closest encloser has n labels
 abbrev pub next_answer : ℕ → Option HashedLink → Answer
@@ -58,9 +44,7 @@ found_answer a (Some e) n t = encloser_answer a e n t
 -- what is said of a name whose closest encloser, right above the wildcard, has n labels, by the
 -- first match of the wildcard, or else its first cover
 abbrev pub wildcard_told : ℕ → ℕ → Option HashedLink → Option HashedLink → Answer
-wildcard_told n t (Some k) covering =
-    if contains_type k.bits t || contains_type k.bits ns then Wildcard n else
-    (if contains_type k.bits cname then WildcardAlias n else WildcardNoData n)
+wildcard_told n t (Some k) covering = wildcard_types_answer (contains_type k.bits ns) k.bits n t
 wildcard_told n t None (Some k) = NameError n
 wildcard_told n t None None = NoCloserName n
 

@@ -9,3 +9,4 @@ pub mod HashedMeaning
 pub mod HashedProved
 pub mod HashedReading
 pub mod Expansion
+pub mod TypesAnswer

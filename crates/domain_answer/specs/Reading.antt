@@ -1,19 +1,20 @@
 -- What NSEC records answer by themselves (RFC 4035, section 5.4; RFC 6840, sections 4.1, 4.3 and
 -- 4.4).
-use Rattle.std.specs.Prelude.{ℕ, Bool, not, ◌&&◌, ◌||◌, ◌==◌, List, Option, Some, None, length, if◌then◌else◌}
+use Rattle.std.specs.Prelude.{ℕ, Bool, not, ◌&&◌, ◌||◌, List, Option, Some, None, length, if◌then◌else◌}
 use Rattle.std.specs.List.{find}
 use Rattle.domain_bitmap.specs.Blocks.{contains_type}
 use Rattle.domain_base.specs.Name.{is_at_or_below, is_strictly_below}
-use Rattle.domain_base.specs.Types.{cname, dname, ds, soa}
+use Rattle.domain_base.specs.Types.{dname}
 use Rattle.domain_base.specs.Words.{Name}
 use Rattle.domain_zone.specs.Enclosers.{longer, shared}
 use Rattle.domain_nsec.specs.Chain.{Link}
 use Rattle.domain_checker.specs.Reading.{is_at_cut, is_cover, is_match}
 use Rattle.domain_answer.specs.ZoneAnswer.{is_at_parent, wildcard_below}
 use Rattle.domain_answer.specs.Proved.{last_labels}
+use Rattle.domain_answer.specs.TypesAnswer.{types_answer, wildcard_types_answer}
 use Rattle.domain_answer.specs.declared.answer.Answer.{Answer}
-use Rattle.domain_answer.specs.declared.answer.Answer.TheVariants.{OutsideZone, AtParent, Referral, Redirected, Has, NoDs, Alias, NoData}
-use Rattle.domain_answer.specs.declared.answer.Answer.TheVariants.{Wildcard, WildcardAlias, WildcardNoData, NameError, NoCloserName, NotProven}
+use Rattle.domain_answer.specs.declared.answer.Answer.TheVariants.{OutsideZone, AtParent, Referral, Redirected, NoData}
+use Rattle.domain_answer.specs.declared.answer.Answer.TheVariants.{WildcardNoData, NameError, NoCloserName, NotProven}
 
 -- the record's owner is a zone cut or owns a DNAME record
 abbrev pub tells_occluder : Name → Link → Bool
@@ -28,26 +29,14 @@ abbrev pub owner_answer : Name → Link → Answer
 owner_answer a k =
     if is_at_cut a k then Referral (length k.owner) else Redirected (length k.owner)
 
--- the record is the child zone's, of its apex: the owner is a zone cut, and the record lists SOA,
--- which the parent's does not (RFC 6840, section 4.4)
-abbrev pub is_of_child : Name → Link → Bool
-is_of_child a k = is_at_cut a k && contains_type k.bits soa
-
 -- what a record says of its owner
 abbrev pub match_answer : Name → Link → ℕ → Answer
-match_answer a k t =
-    if is_of_child a k then NotProven else
-    (if is_at_cut a k && not (t == ds) then Referral (length k.owner) else
-    (if contains_type k.bits t then Has else
-    (if is_at_cut a k then NoDs else
-    (if contains_type k.bits cname then Alias else NoData))))
+match_answer a k t = types_answer (is_at_cut a k) k.bits (length k.owner) t
 
 -- what the record of a wildcard says of a name whose closest encloser, right above the wildcard,
 -- has n labels
 abbrev pub wildcard_match_answer : Name → ℕ → Link → ℕ → Answer
-wildcard_match_answer a n k t =
-    if contains_type k.bits t || is_at_cut a k then Wildcard n else
-    (if contains_type k.bits cname then WildcardAlias n else WildcardNoData n)
+wildcard_match_answer a n k t = wildcard_types_answer (is_at_cut a k) k.bits n t
 
 -- what a record that covers the wildcard w says of such a name
 abbrev pub wildcard_cover_answer : Name → ℕ → Link → Name → Answer

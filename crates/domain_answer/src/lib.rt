@@ -23,6 +23,7 @@ mod listed;
 mod nsec;
 mod nsec3;
 mod nsec3_laws;
+mod of_types;
 mod wildcard;
 
 pub use answer::{Answer, NameAnswer};
@@ -30,4 +31,5 @@ pub use expansion::judge_nsec3_expansion;
 pub use found::{NsecCover, NsecFound, find_nsec};
 pub use nsec::{judge_name, judge_nsec, judge_wildcard};
 pub use nsec3::judge_nsec3;
+pub use of_types::{types_answer, wildcard_types_answer};
 pub use wildcard::wildcard_of;

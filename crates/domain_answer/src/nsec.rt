@@ -12,6 +12,7 @@ ghost use Rattle.domain_answer.specs.Reading.{wildcard_answer, wildcard_cover_an
 
 use crate::found::{NsecCover, NsecFound, find_nsec};
 use crate::listed::{NsecRr, tells_occluded};
+use crate::of_types::{types_answer, wildcard_types_answer};
 use crate::wildcard::wildcard_below;
 use crate::{Answer, NameAnswer, laws};
 use domain_base::{MAX_NAME, ParsedName, Rtype, ToName};
@@ -40,24 +41,8 @@ fn match_answer<A: ToName, O: Octets, N: ToName>(
 ) -> Answer
     ensures { result ≡ match_answer (A.labels apex.now) (as_link N.labels listed.now) rtype }
 {
-    let types = listed.data().types();
-    let at_cut = is_at_cut(apex, listed);
-    if at_cut && types.contains(Rtype::SOA) {
-        return Answer::NotProven;
-    }
-    if at_cut && rtype != Rtype::DS {
-        return Answer::Referral(listed.owner().count_labels());
-    }
-    if types.contains(rtype) {
-        return Answer::Has;
-    }
-    if at_cut {
-        return Answer::NoDs;
-    }
-    if types.contains(Rtype::CNAME) {
-        return Answer::Alias;
-    }
-    Answer::NoData
+    let count = listed.owner().count_labels();
+    types_answer(listed.data().types(), is_at_cut(apex, listed), count, rtype)
 }
 
 /// What the record of a wildcard says of a name whose closest encloser, right above the wildcard,
@@ -71,14 +56,7 @@ fn wildcard_match_answer<A: ToName, O: Octets, N: ToName>(
     ensures { result ≡ wildcard_match_answer (A.labels apex.now) count
         (as_link N.labels listed.now) rtype }
 {
-    let types = listed.data().types();
-    if types.contains(rtype) || is_at_cut(apex, listed) {
-        return Answer::Wildcard(count);
-    }
-    if types.contains(Rtype::CNAME) {
-        return Answer::WildcardAlias(count);
-    }
-    Answer::WildcardNoData(count)
+    wildcard_types_answer(listed.data().types(), is_at_cut(apex, listed), count, rtype)
 }
 
 /// What a record that covers that wildcard says of such a name.

@@ -14,6 +14,7 @@ ghost use Rattle.domain_answer.specs.HashedReading.{IsFirstOfRefusals, IsHashedR
 ghost use Rattle.domain_answer.specs.Proved.{last_labels, needs_no_records, CountsWithin};
 ghost use Rattle.domain_answer.specs.ZoneAnswer.{is_at_parent, wildcard_below};
 
+use crate::of_types::{types_answer, wildcard_types_answer};
 use crate::wildcard::wildcard_below;
 use crate::{Answer, laws};
 use domain_base::{MAX_NAME, Rtype, ToName};
@@ -44,24 +45,13 @@ fn own_answer<A: ToName, O: Octets, N: ToName>(
 ) -> Answer
     ensures { result ≡ own_answer (A.labels apex.now) (encloser_of N.labels encloser.now) rtype }
 {
-    let types = encloser.matching.data().types();
     let at_cut = encloser.is_zone_cut(apex);
-    if at_cut && types.contains(Rtype::SOA) {
-        return Answer::NotProven;
-    }
-    if at_cut && rtype != Rtype::DS {
-        return Answer::Referral(encloser.count);
-    }
-    if types.contains(rtype) {
-        return Answer::Has;
-    }
-    if at_cut {
-        return Answer::NoDs;
-    }
-    if types.contains(Rtype::CNAME) {
-        return Answer::Alias;
-    }
-    Answer::NoData
+    types_answer(
+        encloser.matching.data().types(),
+        at_cut,
+        encloser.count,
+        rtype,
+    )
 }
 
 /// What the first cover of the next closer name says, where the closest encloser has so many
@@ -134,13 +124,7 @@ fn wildcard_told<O: Octets, N: ToName>(
     match found {
         Nsec3Found::Match(listed) => {
             let types = listed.data().types();
-            if types.contains(rtype) | types.contains(Rtype::NS) {
-                Answer::Wildcard(count)
-            } else if types.contains(Rtype::CNAME) {
-                Answer::WildcardAlias(count)
-            } else {
-                Answer::WildcardNoData(count)
-            }
+            wildcard_types_answer(types, types.contains(Rtype::NS), count, rtype)
         }
         Nsec3Found::NoMatch(Some(_)) => Answer::NameError(count),
         Nsec3Found::NoMatch(None) => Answer::NoCloserName(count),

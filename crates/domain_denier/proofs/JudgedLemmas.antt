@@ -16,17 +16,20 @@ use Rattle.domain_zone.proofs.NameLemmas.{same_is}
 use Rattle.domain_nsec.specs.Chain.{Link}
 use Rattle.domain_checker.specs.Verdict.{is_inside}
 use Rattle.domain_checker.specs.Reading.{is_at_cut, is_cover, is_match}
+use Rattle.domain_answer.specs.TypesAnswer.{is_of_child}
 use Rattle.domain_answer.specs.declared.answer.Answer.{Answer}
 use Rattle.domain_answer.specs.declared.answer.Answer.TheVariants.{AtParent, NoCloserName, NoData, OutsideZone}
 use Rattle.domain_answer.specs.declared.answer.NameAnswer.{NameAnswer}
 use Rattle.domain_answer.specs.declared.answer.NameAnswer.TheVariants.{Given, Absent}
 use Rattle.domain_answer.specs.NameAnswer.{IsNameAnswer, name_answer}
 use Rattle.domain_answer.specs.Proved.{last_labels}
-use Rattle.domain_answer.specs.Reading.{absent_answer, is_of_child, listed_answer, listed_both, match_answer, owner_answer, reading}
+use Rattle.domain_answer.specs.Reading.{absent_answer, listed_answer, listed_both, match_answer, owner_answer, reading}
 use Rattle.domain_answer.specs.Reading.{tells_occluded, wildcard_answer, wildcard_both, wildcard_cover_answer, wildcard_match_answer}
 use Rattle.domain_answer.specs.ZoneAnswer.{is_at_parent, wildcard_below}
 use Rattle.domain_answer.proofs.ToldLemmas.{given_is, given_never, match_own, owner_own}
-use Rattle.domain_denier.specs.Judged.{IsSilent, IsTold, Tells}
+use Rattle.domain_denier.specs.Judged.{IsOfWildcard, IsSilent, IsTold, Tells}
+use Rattle.domain_denier.specs.declared.judged.OfWildcard.{OfWildcard}
+use Rattle.domain_denier.specs.declared.judged.OfWildcard.TheVariants.{Told, Untold}
 use Rattle.domain_denier.specs.Picked.{IsOf, at_place, listed_option}
 
 -- a record that is not passed over, and matches or covers
@@ -79,7 +82,7 @@ told_whole a listed x t whole (Absent n) is tells = subst IsTold (sym (is.absent
 -- what is given for it would be no wildcard's, nor a record's
 listed_inside : (a : Name) (listed : List Link) (x : Name) (t : ℕ) (m c : Option Link) → listed_both a listed x t m c ≢ OutsideZone
 listed_inside a listed x t (Some k) c e =
-    never (is_of_child a k) (is_at_cut a k && not (t == ds)) (contains_type k.bits t) (is_at_cut a k) (contains_type k.bits cname) e
+    never (is_of_child (is_at_cut a k) k.bits) (is_at_cut a k && not (t == ds)) (contains_type k.bits t) (is_at_cut a k) (contains_type k.bits cname) e
   where
     never : (b d h s l : Bool)
         → cond b Answer.NotProven (cond d (Answer.Referral (length k.owner)) (cond h Answer.Has (cond s Answer.NoDs (cond l Answer.Alias NoData))))
@@ -271,6 +274,9 @@ module _ (a x : Name) (t : ℕ) (k : Link) where
 there : (links : List Link) (p : ℕ) (k : Link) → p < length links → k ≡ get_or links p k → slice_get links p ≡ Some k
 there links p k inside is = slice_get-get_or links p k inside ∙ ap Some (sym is)
 
+pub placed : (links : List Link) (p : ℕ) (k : Link) → p < length links → k ≡ get_or links p k → at_place links (Some p) ≡ k ∷ []
+placed links p k inside is = ap listed_option (there links p k inside is)
+
 module _ (links : List Link) (a x : Name) (t : ℕ) where
   pub one_at : (p : ℕ) → p < length links → IsTold (reading a (at_place links (Some p)) x t) → IsOf links p x
   one_at p inside told = elim (slice_get_cases links p).1 [
@@ -354,11 +360,16 @@ count_kept a listed n m w t e = e ∙ ap NoCloserName (sym (both (find (is_match
 
 -- a name whose wildcard nothing is said of, is denied alone
 module _ (a : Name) (listed : List Link) (n : ℕ) (w v : Name) (t : ℕ) (whole : Answer) (absent : whole ≡ wildcard_answer a listed n v t) (w_is : w ≡ v) where
-  pub said_of : whole ≡ wildcard_answer a listed n w t
+  said_of : whole ≡ wildcard_answer a listed n w t
   said_of = absent ∙ sym (ap (λ y. wildcard_answer a listed n y t) w_is)
 
-  pub untold_denies : (m : ℕ) × (wildcard_answer a listed n w t ≡ NoCloserName m) → whole ≡ NoCloserName n
+  untold_denies : (m : ℕ) × (wildcard_answer a listed n w t ≡ NoCloserName m) → whole ≡ NoCloserName n
   untold_denies said = said_of ∙ count_kept a listed n said.0 w t said.1
 
-  pub silent_denies : IsSilent a listed w → whole ≡ NoCloserName n
-  silent_denies silent = said_of ∙ (λ i. wildcard_both a n w t (silent.matching i) (silent.covering i))
+  -- what is told of the wildcard is the whole answer, and else the name is denied alone
+  module _ (o : OfWildcard) (says : IsOfWildcard a listed n w t o) where
+    pub told_of : (answer : Answer) → o ≡ Told answer → (whole ≡ answer) × ((m : ℕ) → answer ≢ NoCloserName m)
+    told_of answer e = let said = subst (IsOfWildcard a listed n w t) e says in (said_of ∙ sym said.0, said.1)
+
+    pub untold_of : (is_silent : Bool) → o ≡ Untold is_silent → (whole ≡ NoCloserName n) × (is_silent ≡ true → IsSilent a listed w)
+    untold_of is_silent e = let said = subst (IsOfWildcard a listed n w t) e says in (untold_denies said.0, said.1)

@@ -1,5 +1,5 @@
 -- What an answer tells of the records that it comes of.
-use Rattle.std.specs.Prelude.{◌≡◌, ◌≢◌, ⊤, ℕ, List, None}
+use Rattle.std.specs.Prelude.{◌≡◌, ◌≢◌, ⊤, ℕ, IsTrue, List, None}
 use Rattle.std.specs.List.{find}
 use Rattle.domain_base.specs.Words.{Name}
 use Rattle.domain_nsec.specs.Chain.{Link}
@@ -10,7 +10,7 @@ use Rattle.domain_answer.specs.declared.answer.Answer.TheVariants.{AtParent, NoC
 use Rattle.domain_answer.specs.declared.answer.NameAnswer.{NameAnswer}
 use Rattle.domain_answer.specs.declared.answer.NameAnswer.TheVariants.{Given, Absent}
 use Rattle.domain_denier.specs.declared.judged.OfWildcard.{OfWildcard}
-use Rattle.domain_denier.specs.declared.judged.OfWildcard.TheVariants.{Told, Untold, Silent}
+use Rattle.domain_denier.specs.declared.judged.OfWildcard.TheVariants.{Told, Untold}
 
 -- one of them matches or covers the name, which is inside the zone
 pub record IsTold (answer : Answer) : Type 0 where
@@ -32,5 +32,6 @@ pub record IsSilent (a : Name) (listed : List Link) (w : Name) : Type 0 where
 abbrev pub IsOfWildcard : Name → List Link → ℕ → Name → ℕ → OfWildcard → Type 0
 IsOfWildcard a listed n w t (Told answer) =
     (answer ≡ wildcard_answer a listed n w t) × ((m : ℕ) → answer ≢ NoCloserName m)
-IsOfWildcard a listed n w t Untold = (m : ℕ) × (wildcard_answer a listed n w t ≡ NoCloserName m)
-IsOfWildcard a listed n w t Silent = IsSilent a listed w
+IsOfWildcard a listed n w t (Untold is_silent) =
+    ((m : ℕ) × (wildcard_answer a listed n w t ≡ NoCloserName m))
+    × (IsTrue is_silent → IsSilent a listed w)

@@ -86,10 +86,8 @@ pub(crate) fn first_of<A: ToName, N: ToName, M: ToName>(
 pub(crate) enum OfWildcard {
     /// It matches or covers the wildcard too, and this is the answer.
     Told(Answer),
-    /// It covers the wildcard, and says nothing of it.
-    Untold,
-    /// It neither matches nor covers the wildcard.
-    Silent,
+    /// It says nothing of the wildcard; true where it neither matches nor covers it.
+    Untold(bool),
 }
 
 /// What the record at a place says of the wildcard below the closest encloser of a name, which has
@@ -111,11 +109,11 @@ pub(crate) fn of_wildcard<A: ToName, N: ToName>(
     };
     let records = [listed];
     match find_nsec(apex, &records, wildcard) {
-        NsecFound::Neither => return OfWildcard::Silent,
+        NsecFound::Neither => return OfWildcard::Untold(true),
         NsecFound::Match(_) | NsecFound::Cover(_) => {}
     }
     match judge_wildcard(apex, &records, count, wildcard, rtype) {
-        Answer::NoCloserName(_) => OfWildcard::Untold,
+        Answer::NoCloserName(_) => OfWildcard::Untold(false),
         answer => OfWildcard::Told(answer),
     }
 }

@@ -117,11 +117,8 @@ fn with_wildcard<A: ToName, N: ToName, M: ToName>(
             of_name: Some(place),
             of_wildcard: None,
         },
-        OfWildcard::Untold => with_second(
-            apex, chain, keys, name, rtype, &wildcard, count, place, false,
-        ),
-        OfWildcard::Silent => with_second(
-            apex, chain, keys, name, rtype, &wildcard, count, place, true,
+        OfWildcard::Untold(is_silent) => with_second(
+            apex, chain, keys, name, rtype, &wildcard, count, place, is_silent,
         ),
     }
 }

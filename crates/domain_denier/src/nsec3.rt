@@ -16,7 +16,7 @@ ghost use Rattle.domain_denier.specs.HashedSteps.{encloser_with, link_at, wildca
 
 use crate::encloser::{PlacedEncloser, find_encloser};
 use crate::hash_search::{HashPlace, look_up};
-use domain_answer::{Answer, laws, wildcard_of};
+use domain_answer::{Answer, laws, types_answer, wildcard_of, wildcard_types_answer};
 use domain_base::{MAX_NAME, ParsedName, Rtype, ToName};
 use domain_checker::laws::hashes_tell_of_names;
 use domain_hasher::{Nsec3HashError, Nsec3Hasher, lower_wire};
@@ -121,24 +121,12 @@ fn is_zone_cut(apex: &ParsedName<'_>, listed: &LentNsec3<'_>, count: usize) -> b
 fn own_answer(apex: &ParsedName<'_>, listed: &LentNsec3<'_>, count: usize, rtype: Rtype) -> Answer
     ensures { result ≡ own_answer apex.now (encloser_with count listed.now None) rtype }
 {
-    let types = listed.data().types();
-    let at_cut = is_zone_cut(apex, listed, count);
-    if at_cut && types.contains(Rtype::SOA) {
-        return Answer::NotProven;
-    }
-    if at_cut && rtype != Rtype::DS {
-        return Answer::Referral(count);
-    }
-    if types.contains(rtype) {
-        return Answer::Has;
-    }
-    if at_cut {
-        return Answer::NoDs;
-    }
-    if types.contains(Rtype::CNAME) {
-        return Answer::Alias;
-    }
-    Answer::NoData
+    types_answer(
+        listed.data().types(),
+        is_zone_cut(apex, listed, count),
+        count,
+        rtype,
+    )
 }
 
 /// What the record that covers the next closer name says, where the closest encloser has so many
@@ -208,13 +196,7 @@ fn wildcard_told<O: Octets>(
     }
     let listed = lend_at(chain, found.place);
     let types = listed.data().types();
-    if types.contains(rtype) | types.contains(Rtype::NS) {
-        return Answer::Wildcard(count);
-    }
-    if types.contains(Rtype::CNAME) {
-        return Answer::WildcardAlias(count);
-    }
-    Answer::WildcardNoData(count)
+    wildcard_types_answer(types, types.contains(Rtype::NS), count, rtype)
 }
 
 /// What is picked where there is no such name, and the closest encloser has so many labels: the

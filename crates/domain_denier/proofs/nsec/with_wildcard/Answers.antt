@@ -1,38 +1,27 @@
-use Rattle.std.proofs.Common.{◌<◌, Some, sym, ◌∙◌, subst}
+use Rattle.std.proofs.Common.{◌<◌, Some, subst}
 use Rattle.domain_checker.proofs.MeantLemmas.{ChainLaws}
 use Rattle.domain_answer.specs.Proved.{last_labels}
 use Rattle.domain_answer.specs.ZoneAnswer.{wildcard_below}
-use Rattle.domain_denier.specs.Judged.{IsOfWildcard}
 use Rattle.domain_denier.specs.Picked.{at_place}
-use Rattle.domain_denier.proofs.JudgedLemmas.{said_of, silent_denies, untold_denies}
+use Rattle.domain_denier.proofs.JudgedLemmas.{told_of, untold_of}
 use Rattle.domain_denier.proofs.PickLemmas.{AnswerLaws, denied_by_both, denied_by_one}
 use Rattle.domain_denier.proofs.nsec.with_wildcard.Goals as goal
 
 pub with_second-requires-clause-denies : goal.with_second-requires-clause-denies
 with_second-requires-clause-denies g c =
     let a = g.A.ToName.labels c.args.apex.now in
-    let x = g.M.ToName.labels c.args.name.now in
-    let t = c.args.rtype in
     let listed = at_place c.args.chain.now (Some c.args.place) in
-    let w = c.in-Some.wildcard in
     let v = wildcard_below (last_labels c.args.count (g.M.ToName.labels c.args.name.now)) in
-    untold_denies a listed c.args.count w v t _ c.requires.absent c.in-Some.ensures.some (subst (IsOfWildcard a listed c.args.count w t) c.in-Untold.is c.of_wildcard.ensures)
+    (untold_of a listed c.args.count c.in-Some.wildcard v c.args.rtype _ c.requires.absent c.in-Some.ensures.some
+    c.of_wildcard.result c.of_wildcard.ensures c.in-Untold.is_silent c.in-Untold.is).0
 
-pub with_second-requires-in-Silent-clause-denies : goal.with_second-requires-in-Silent-clause-denies
-with_second-requires-in-Silent-clause-denies g c =
-    let a = g.A.ToName.labels c.args.apex.now in
-    let x = g.M.ToName.labels c.args.name.now in
-    let t = c.args.rtype in
-    let listed = at_place c.args.chain.now (Some c.args.place) in
-    let w = c.in-Some.wildcard in
-    let v = wildcard_below (last_labels c.args.count (g.M.ToName.labels c.args.name.now)) in
-    silent_denies a listed c.args.count w v t _ c.requires.absent c.in-Some.ensures.some (subst (IsOfWildcard a listed c.args.count w t) c.in-Silent.is c.of_wildcard.ensures)
-
-pub with_second-requires-in-Silent-clause-silent : goal.with_second-requires-in-Silent-clause-silent
-with_second-requires-in-Silent-clause-silent g c =
+pub with_second-requires-clause-silent : goal.with_second-requires-clause-silent
+with_second-requires-clause-silent g c =
     let a = g.A.ToName.labels c.args.apex.now in
     let listed = at_place c.args.chain.now (Some c.args.place) in
-    λ so. subst (IsOfWildcard a listed c.args.count c.in-Some.wildcard c.args.rtype) c.in-Silent.is c.of_wildcard.ensures
+    let v = wildcard_below (last_labels c.args.count (g.M.ToName.labels c.args.name.now)) in
+    (untold_of a listed c.args.count c.in-Some.wildcard v c.args.rtype _ c.requires.absent c.in-Some.ensures.some
+    c.of_wildcard.result c.of_wildcard.ensures c.in-Untold.is_silent c.in-Untold.is).1
 
 pub returns-in-Told : goal.returns-in-Told
 returns-in-Told g c =
@@ -47,14 +36,13 @@ returns-in-Told g c =
     let answer_laws : AnswerLaws = record { zone = c.readings_are_proved.ensures.zone; closer = c.whole_chains_prove_all.ensures.closer } in
     let a = g.A.ToName.labels c.args.apex.now in
     let x = g.M.ToName.labels c.args.name.now in
-    let t = c.args.rtype in
     let listed = at_place c.args.chain.now (Some c.args.place) in
-    let w = c.in-Some.wildcard in
     let v = wildcard_below (last_labels c.args.count (g.M.ToName.labels c.args.name.now)) in
     let small : c.args.rtype < 65536 = subst (λ n. n < 65536) c.to_int-number.ensures c.to_int-number.type_inv in
-    let said = subst (IsOfWildcard a listed c.args.count w t) c.in-Told.is c.of_wildcard.ensures in
-    denied_by_one chain_laws answer_laws c.args.chain.now a x t small c.requires.below c.args.place c.requires.inside c.requires.found c.in-Told.answer
-    (said_of a listed c.args.count w v t _ c.requires.absent c.in-Some.ensures.some ∙ sym said.0) said.1
+    let told = told_of a listed c.args.count c.in-Some.wildcard v c.args.rtype _ c.requires.absent c.in-Some.ensures.some
+    c.of_wildcard.result c.of_wildcard.ensures c.in-Told.answer c.in-Told.is in
+    denied_by_one chain_laws answer_laws c.args.chain.now a x c.args.rtype small c.requires.below c.args.place c.requires.inside c.requires.found
+    c.in-Told.answer told.0 told.1
 
 pub returns-in-Untold : goal.returns-in-Untold
 returns-in-Untold g c =
@@ -69,34 +57,10 @@ returns-in-Untold g c =
     let answer_laws : AnswerLaws = record { zone = c.readings_are_proved.ensures.zone; closer = c.whole_chains_prove_all.ensures.closer } in
     let a = g.A.ToName.labels c.args.apex.now in
     let x = g.M.ToName.labels c.args.name.now in
-    let t = c.args.rtype in
     let listed = at_place c.args.chain.now (Some c.args.place) in
-    let w = c.in-Some.wildcard in
     let v = wildcard_below (last_labels c.args.count (g.M.ToName.labels c.args.name.now)) in
     let small : c.args.rtype < 65536 = subst (λ n. n < 65536) c.to_int-number.ensures c.to_int-number.type_inv in
-    denied_by_both chain_laws answer_laws c.args.chain.now a x t small c.requires.below c.args.place c.requires.found c.args.count
-    (untold_denies a listed c.args.count w v t _ c.requires.absent c.in-Some.ensures.some (subst (IsOfWildcard a listed c.args.count w t) c.in-Untold.is c.of_wildcard.ensures))
+    let denies = untold_of a listed c.args.count c.in-Some.wildcard v c.args.rtype _ c.requires.absent c.in-Some.ensures.some
+    c.of_wildcard.result c.of_wildcard.ensures c.in-Untold.is_silent c.in-Untold.is in
+    denied_by_both chain_laws answer_laws c.args.chain.now a x c.args.rtype small c.requires.below c.args.place c.requires.found c.args.count denies.0
     c.with_second.result c.with_second.ensures.there c.with_second.ensures.name c.with_second.ensures.wildcard c.with_second.ensures.exact
-
-pub returns-in-Silent : goal.returns-in-Silent
-returns-in-Silent g c =
-    let laws = c.chains_mean_the_zone.ensures in
-    let chain_laws : ChainLaws = record {
-      cycle = laws.cycle;
-      denial = laws.denial;
-      nonterminals = laws.nonterminals;
-      enclosers = laws.enclosers;
-      occluded = laws.occluded;
-    } in
-    let answer_laws : AnswerLaws = record { zone = c.readings_are_proved.ensures.zone; closer = c.whole_chains_prove_all.ensures.closer } in
-    let a = g.A.ToName.labels c.args.apex.now in
-    let x = g.M.ToName.labels c.args.name.now in
-    let t = c.args.rtype in
-    let listed = at_place c.args.chain.now (Some c.args.place) in
-    let w = c.in-Some.wildcard in
-    let v = wildcard_below (last_labels c.args.count (g.M.ToName.labels c.args.name.now)) in
-    let small : c.args.rtype < 65536 = subst (λ n. n < 65536) c.to_int-number.ensures c.to_int-number.type_inv in
-    let both = c.with_second-in-Silent in
-    denied_by_both chain_laws answer_laws c.args.chain.now a x t small c.requires.below c.args.place c.requires.found c.args.count
-    (silent_denies a listed c.args.count w v t _ c.requires.absent c.in-Some.ensures.some (subst (IsOfWildcard a listed c.args.count w t) c.in-Silent.is c.of_wildcard.ensures))
-    both.result both.ensures.there both.ensures.name both.ensures.wildcard both.ensures.exact

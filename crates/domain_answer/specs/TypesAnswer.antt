@@ -1,0 +1,29 @@
+-- What the types that a record lists say of the name that owns them.
+use Rattle.std.specs.Prelude.{ℕ, Bool, not, ◌&&◌, ◌||◌, ◌==◌, if◌then◌else◌}
+use Rattle.domain_octets.specs.Words.{Octets}
+use Rattle.domain_base.specs.Types.{cname, ds, soa}
+use Rattle.domain_bitmap.specs.Blocks.{contains_type}
+use Rattle.domain_answer.specs.declared.answer.Answer.{Answer}
+use Rattle.domain_answer.specs.declared.answer.Answer.TheVariants.{Referral, Has, NoDs, Alias, NoData, NotProven}
+use Rattle.domain_answer.specs.declared.answer.Answer.TheVariants.{Wildcard, WildcardAlias, WildcardNoData}
+
+-- a zone cut whose record lists SOA is the apex of a child zone, and the record that zone's: the
+-- parent's does not list it (RFC 5155, section 8.9; RFC 6840, section 4.4)
+abbrev pub is_of_child : Bool → Octets → Bool
+is_of_child at_cut bits = at_cut && contains_type bits soa
+
+-- of a question for t at that name, which has n labels, and is a zone cut or not
+abbrev pub types_answer : Bool → Octets → ℕ → ℕ → Answer
+types_answer at_cut bits n t =
+    if is_of_child at_cut bits then NotProven else
+    (if at_cut && not (t == ds) then Referral n else
+    (if contains_type bits t then Has else
+    (if at_cut then NoDs else
+    (if contains_type bits cname then Alias else NoData))))
+
+-- where that name is a wildcard: of a name whose closest encloser, right above the wildcard, has n
+-- labels
+abbrev pub wildcard_types_answer : Bool → Octets → ℕ → ℕ → Answer
+wildcard_types_answer at_cut bits n t =
+    if contains_type bits t || at_cut then Wildcard n else
+    (if contains_type bits cname then WildcardAlias n else WildcardNoData n)

@@ -1,0 +1,56 @@
+//! What the types that a record lists say of the name that owns them.
+ghost use Rattle.std.specs.Prelude.{◌≡◌};
+ghost use Rattle.domain_answer.specs.TypesAnswer.{types_answer, wildcard_types_answer};
+
+use crate::Answer;
+use domain_base::Rtype;
+use domain_bitmap::RtypeBitmap;
+use domain_octets::Octets;
+
+/// What types say of a question for a type at the name that owns them, which has so many labels,
+/// and is a zone cut or not: nothing, where they are those of the apex of a child zone (RFC 6840,
+/// section 4.4).
+pub fn types_answer<O: Octets>(
+    types: &RtypeBitmap<O>,
+    at_cut: bool,
+    count: usize,
+    rtype: Rtype,
+) -> Answer
+    ensures { result ≡ types_answer at_cut types.now count rtype }
+{
+    if at_cut && types.contains(Rtype::SOA) {
+        return Answer::NotProven;
+    }
+    if at_cut && rtype != Rtype::DS {
+        return Answer::Referral(count);
+    }
+    if types.contains(rtype) {
+        return Answer::Has;
+    }
+    if at_cut {
+        return Answer::NoDs;
+    }
+    if types.contains(Rtype::CNAME) {
+        return Answer::Alias;
+    }
+    Answer::NoData
+}
+
+/// What the types of a wildcard, which is a zone cut or not, say of a name whose closest encloser,
+/// right above the wildcard, has so many labels (RFC 4592, section 3.3).
+pub fn wildcard_types_answer<O: Octets>(
+    types: &RtypeBitmap<O>,
+    at_cut: bool,
+    count: usize,
+    rtype: Rtype,
+) -> Answer
+    ensures { result ≡ wildcard_types_answer at_cut types.now count rtype }
+{
+    if types.contains(rtype) || at_cut {
+        return Answer::Wildcard(count);
+    }
+    if types.contains(Rtype::CNAME) {
+        return Answer::WildcardAlias(count);
+    }
+    Answer::WildcardNoData(count)
+}
