@@ -6,10 +6,10 @@ use Rattle.std.proofs.lemmas.Bool.{false≢true}
 use Rattle.std.proofs.lemmas.List.{map-append}
 use Rattle.std.proofs.lemmas.List.Concat.{flat_map-append}
 use Rattle.std.proofs.lemmas.List.Elements.{filter-append}
-use Rattle.domain_lent.specs.Data.{RawRecord}
-use Rattle.domain_lent.specs.Wire.{record_octets, IsRecord}
+use Rattle.domain_borrowed.specs.Data.{RawRecord}
+use Rattle.domain_borrowed.specs.Wire.{record_octets, IsRecord}
 use Rattle.denial_c.specs.Among.{AreAmong}
-use Rattle.domain_lent.proofs.WireLemmas.{same_record, some_octets}
+use Rattle.domain_borrowed.proofs.WireLemmas.{same_record, some_octets}
 
 pub all_push : {X : Type 0} (P : X → Type 0) (xs : List X) (y : X) → AllByRecursion P xs → P y → AllByRecursion P (xs ++ y ∷ [])
 all_push P [] y h p = (p, tt)

@@ -1,12 +1,9 @@
 -- The octets of chains, and what is answered of them.
-use Rattle.std.proofs.Common.{◌≡◌, ◌≢◌, ℕ, ◌<◌, ◌≤◌, false, List, ◌∷◌, length, refl, sym, subst, arith, length-append, Result, Ok, Err, IfOk, IfErr}
+use Rattle.std.proofs.Common.{◌≡◌, ◌≢◌, ℕ, ◌<◌, ◌≤◌, false, List, length, refl, sym, subst, Result, Ok, Err, IfOk, IfErr}
 use Rattle.domain_alike.specs.Covered.{covered_names}
-use Rattle.domain_base.specs.Name.{wire_of}
 use Rattle.domain_base.specs.Words.{Name}
-use Rattle.domain_fields.specs.Layout.{octets_of, Values}
-use Rattle.domain_chain_rdata.specs.Rdata.{hash_fields, hash_numbers, nsec, nsec3, nsec3param}
 use Rattle.domain_dnssec.proofs.KeptLemmas.{classes_kept}
-use Rattle.domain_lent.specs.Data.{data_cmp, minimum_of, RawRecord}
+use Rattle.domain_borrowed.specs.Data.{data_cmp, minimum_of, RawRecord}
 use Rattle.domain_nsec.specs.Chain.{Link, IsChain, IsFirstFault}
 use Rattle.domain_nsec3.specs.Chain.{ChainRecords, IsChainParam, IsHashedChain}
 use Rattle.domain_nsec3.specs.Config.{excludes, ChainConfig}
@@ -19,11 +16,12 @@ use Rattle.domain_nsec.specs.declared.config.GenerateNsecConfig.{GenerateNsecCon
 use Rattle.domain_records.specs.Order.{IsOneClass}
 use Rattle.domain_zone.specs.View.{zone_of}
 use Rattle.domain_zone.specs.Zone.{ZoneRecord}
-use Rattle.denial_c.specs.Chains.{nsec_asking, nsec3_asking, nsecs_octets, nsec3s_octets, AreZone}
+use Rattle.denial_c.specs.Chains.{nsec_asking, nsec3_asking, AreZone}
+use Rattle.domain_dnssec.specs.Wire.{nsecs_octets, nsec3s_octets}
 use Rattle.denial_c.specs.Chains.{Asking, HasHashedZoneFault, HasUnevenAt, HasZoneFault, IsChainFault}
-use Rattle.denial_c.specs.Chains.{IsChainResult, IsGivenFault, IsNsecChain, IsNsec3Chain, IsSortedNsecFault}
+use Rattle.denial_c.specs.Chains.{IsChainResult, IsNsecChain, IsNsec3Chain, IsSortedNsecFault}
 use Rattle.denial_c.specs.Chains.{IsSortedNsec3Fault, IsSortedUnevenAt, IsWritten, Sorts}
-use Rattle.denial_c.specs.Given.{AreGiven, HasNoRecordAt, HasOtherClassAt}
+use Rattle.denial_c.specs.Given.{AreGiven}
 use Rattle.denial_c.specs.Result.{Spells}
 use Rattle.denial_c.specs.declared.chain_fault.ChainFault.{ChainFault}
 use Rattle.denial_c.specs.declared.chain_fault.ChainFault.TheVariants.{Apex, Records}
@@ -33,20 +31,6 @@ use Rattle.denial_c.specs.declared.chain_fault.ChainFault.TheVariants.{LongOwner
 use Rattle.denial_c.specs.declared.chain_fault.ChainFault.TheVariants.{Collision}
 use Rattle.denial_c.specs.declared.chain_fault.ChainFault.TheVariants.{ShortBuffer}
 use Rattle.denial_c.specs.declared.chain_fault.ChainFault.TheVariants.{OutOfMemory}
-
--- NSEC data of a bitmap that a builder makes are short
-pub nsec_short : (next : Name) (bits : List ℕ) → length (wire_of next) ≤ 255 → length bits ≤ 8704 → length (octets_of nsec (next, bits)) ≤ 65535
-unfolding octets_of
-nsec_short next bits named few = let long = length-append (wire_of next) bits in omega arith
-
--- and so are NSEC3 data
-pub nsec3_short : (v : Values nsec3) → length v.0.0.1 ≤ 255 → length v.0.1 ≤ 255 → length v.1 ≤ 8704 → length (octets_of nsec3 v) ≤ 65535
-unfolding octets_of
-nsec3_short v salted hashed few =
-    let a = length-append (octets_of hash_fields v.0) v.1 in
-    let b = length-append (octets_of nsec3param v.0.0) (length v.0.1 ∷ v.0.1) in
-    let c = length-append (octets_of hash_numbers v.0.0.0) (length v.0.0.1 ∷ v.0.0.1) in
-    omega arith
 
 pub sorted_one_class : (given sorted : List RawRecord) → Sorts given sorted → IsOneClass given → IsOneClass sorted
 sorted_one_class given sorted sorts one = (classes_kept (λ n. n) (λ d. d.rtype) minimum_of data_cmp given sorted sorts).1 one
@@ -171,20 +155,3 @@ chain_result asking apex class records written old new fit is (Err e) ok err = (
   subst (IsChainFault asking apex class records old) (sym err.0) (fit, (written, is, record { counts = refl; more = err.1 })),
   err.2,
 )
-
--- octets that are no records, or want of memory before these are sorted
-pub given_fault : (asking : Asking) (apex : List ℕ) (class number : ℕ) (records old : List ℕ) (a : Name) → asking.is_fit → Spells apex a → number ≡ class
-    → (e : ChainFault) → IsGivenFault number records e → IsChainFault asking apex class records old e
-given_fault asking apex class number records old a fit spells same Apex h = absurd h
-given_fault asking apex class number records old a fit spells same (Records n) h =
-    ((a, spells), fit, subst (λ k. HasNoRecordAt k records n) same h)
-given_fault asking apex class number records old a fit spells same (Class n) h =
-    ((a, spells), fit, subst (λ k. HasOtherClassAt k records n) same h)
-given_fault asking apex class number records old a fit spells same Soa h = absurd h
-given_fault asking apex class number records old a fit spells same (Ttls n) h = absurd h
-given_fault asking apex class number records old a fit spells same LongSalt h = absurd h
-given_fault asking apex class number records old a fit spells same LongOwner h = absurd h
-given_fault asking apex class number records old a fit spells same Collision h = absurd h
-given_fault asking apex class number records old a fit spells same (ShortBuffer n) h = absurd h
-given_fault asking apex class number records old a fit spells same OutOfMemory h =
-    (fit, (a, (h.0, record { apex_is = spells; are = subst (λ k. AreGiven k records h.0) same h.1 })))

@@ -1,14 +1,11 @@
 -- What is answered of names that hash alike.
-use Rattle.std.proofs.Common.{◌≡◌, ℕ, ◌≤◌, List, length, sym, subst, Option}
+use Rattle.std.proofs.Common.{ℕ, List, Option}
 use Rattle.domain_alike.specs.Alike.{IsFirstPair, Pair}
 use Rattle.domain_base.specs.Words.{Name}
-use Rattle.domain_lent.specs.Data.{minimum_of, RawRecord}
+use Rattle.domain_borrowed.specs.Data.{minimum_of, RawRecord}
 use Rattle.domain_nsec3.specs.Config.{ChainConfig}
 use Rattle.domain_zone.specs.View.{zone_of}
-use Rattle.denial_c.specs.Collisions.{pair_asking, HasFirstPair}
-use Rattle.denial_c.specs.Chains.{IsChainFault}
-use Rattle.denial_c.specs.declared.chain_fault.ChainFault.{ChainFault}
-use Rattle.denial_c.specs.declared.chain_fault.ChainFault.TheVariants.{OutOfMemory}
+use Rattle.denial_c.specs.Collisions.{HasFirstPair}
 use Rattle.denial_c.proofs.ChainLemmas.{IsSorted}
 
 module _ (apex : List ℕ) (class : ℕ) (config : ChainConfig) (records : List ℕ) (a : Name) (sorted : List RawRecord)
@@ -16,7 +13,3 @@ module _ (apex : List ℕ) (class : ℕ) (config : ChainConfig) (records : List 
   pub first_pair_of : (pair : Option Pair) → IsFirstPair (zone_of (λ n. n) (λ d. d.rtype) minimum_of sorted) a config pair
       → HasFirstPair apex class config records pair
   first_pair_of pair first = record { a = a; given = s.given; sorted = sorted; zone = s.zone; sorts = s.sorts; first = first }
-
-  pub pair_unremembered : length config.parameters.salt ≤ 255 → (old : List ℕ) (e : ChainFault) → e ≡ OutOfMemory
-      → IsChainFault (pair_asking config) apex class records old e
-  pair_unremembered short old e is = subst (IsChainFault (pair_asking config) apex class records old) (sym is) (short, (a, (s.given, s.zone)))

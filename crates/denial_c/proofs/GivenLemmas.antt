@@ -3,9 +3,9 @@ use Rattle.std.proofs.Common.{◌≡◌, ℕ, ◌-◌, ◌≤◌, List, [], ◌�
 use Rattle.std.proofs.Common.{refl, sym, ap, ◌∙◌, subst, arith, append_assoc}
 use Rattle.std.proofs.Common.{append-nil, length-append}
 use Rattle.std.specs.List.{AllByRecursion, flat_map}
-use Rattle.domain_lent.specs.Data.{RawRecord}
-use Rattle.domain_lent.specs.Wire.{record_octets, IsRecord}
-use Rattle.domain_lent.proofs.WireLemmas.{same_record, some_octets}
+use Rattle.domain_borrowed.specs.Data.{RawRecord}
+use Rattle.domain_borrowed.specs.Wire.{record_octets, IsRecord}
+use Rattle.domain_borrowed.proofs.WireLemmas.{same_record, some_octets}
 use Rattle.domain_records.specs.Order.{IsOneClass}
 use Rattle.denial_c.specs.Given.{AreGiven, IsOfClass, IsReadUpTo}
 use Rattle.denial_c.proofs.AmongLemmas.{all_push, joined_push}
@@ -22,24 +22,12 @@ module _ (class : ℕ) (octets : List ℕ) where
     pub are : octets ≡ flat_map record_octets before ++ left
     pub whole : AllByRecursion (IsOfClass class) before
 
-  pub past_none : IsPast octets
-  past_none = record { before = []; are = refl; whole = tt }
-
   pub past_more : (left after : List ℕ) (r : RawRecord) → IsPast left → left ≡ record_octets r ++ after → IsRecord r → r.class ≡ class → IsPast after
   past_more left after r s begins fits same = record {
     before = s.before ++ r ∷ [];
     are = s.are ∙ ap (λ o. flat_map record_octets s.before ++ o) begins ∙ sym (joined_push s.before r after);
     whole = all_push (IsOfClass class) s.before r s.whole (fits, same);
   }
-
-  pub past_all : (left : List ℕ) → IsPast left → left ≡ [] → (given : List RawRecord) × AreGiven class octets given
-  past_all left s none = (
-    s.before,
-    record {
-      are = s.are ∙ ap (λ o. flat_map record_octets s.before ++ o) none ∙ append-nil (flat_map record_octets s.before);
-      whole = s.whole;
-    },
-  )
 
   -- they end where what is left begins
   pub up_to : (left : List ℕ) (offset : ℕ) → IsPast left → offset ≡ length octets - length left → IsReadUpTo class octets offset left

@@ -1,15 +1,14 @@
 -- Hashes by SHA-1: no name is refused, and each hash has 20 octets.
-use Rattle.std.proofs.Common.{◌≡◌, ℕ, zero, suc, ◌*◌, ◌<◌, ◌≤◌, Bool, true, false, List, [], ◌∷◌}
-use Rattle.std.proofs.Common.{◌++◌, length, map, get_or, refl, sym, ap, ◌∙◌, subst, arith, length-append}
+use Rattle.std.proofs.Common.{◌≡◌, ℕ, zero, suc, ◌*◌, Bool, true, false, List}
+use Rattle.std.proofs.Common.{◌++◌, length, refl, sym, ap, ◌∙◌, arith, length-append}
 use Rattle.std.proofs.Common.{Some, None, Ok, Err}
 use Rattle.std.specs.Prelude.{◌==◌, ◌||◌, nat_lt, slice_index, if◌then◌else◌}
 use Rattle.std.specs.Int.{w32, to_be_bytes}
 use Rattle.sha1.specs.Sha1.{digest_bytes, sha1}
-use Rattle.domain_alike.specs.Alike.{IsFirstRefusal}
 use Rattle.domain_base.specs.Name.{lowered, wire_of}
 use Rattle.domain_base.specs.Words.{Name}
-use Rattle.domain_lent.specs.Data.{minimum_of, RawRecord}
-use Rattle.domain_nsec3.specs.Chain.{HashedLink, hashed_owner}
+use Rattle.domain_borrowed.specs.Data.{minimum_of, RawRecord}
+use Rattle.domain_nsec3.specs.Chain.{hashed_owner}
 use Rattle.domain_nsec3.specs.Config.{ChainConfig, Parameters, hash_of}
 use Rattle.domain_nsec3.specs.Faults.{hash_fault, IsFirstHashFault, IsFirstFault}
 use Rattle.domain_nsec3.specs.View.{hash_by}
@@ -65,11 +64,6 @@ module _ (L : List ZoneRecord) (a : Name) (config : ChainConfig) (p : Parameters
       only_long a (iterated p.salt (wire_of (lowered h.name)) p.iterations) (iterated_long p.salt (wire_of (lowered h.name)) p.iterations) e
       (sym (ap (hash_fault a) (hashed h.name)) ∙ h.fault)
 
--- no name is refused
-pub never_refused : (L : List ZoneRecord) (a : Name) (config : ChainConfig) (p : Parameters) → config.hash ≡ hash_by sha1_answer p → p.algorithm ≡ 1
-    → (number : ℕ) → IsFirstRefusal L a config number → ⊥
-never_refused L a config p by sha1 number r = let told = sym (hashed L a config p by sha1 r.name) ∙ r.refused in cc
-
 -- so a fault of hashing is one of two
 pub hashing_faulty : (class : ℕ) (octets : List ℕ) (sorted : List RawRecord) (a : Name) (config : ChainConfig) (p : Parameters)
     → config.hash ≡ hash_by sha1_answer p → p.algorithm ≡ 1
@@ -83,12 +77,3 @@ hashing_faulty class octets sorted a config p by sha1 OwnerHashError h =
 hashing_faulty class octets sorted a config p by sha1 Nsec3NameTooLong h = h
 hashing_faulty class octets sorted a config p by sha1 CollisionDetected h = h
 hashing_faulty class octets sorted a config p by sha1 OutOfMemory h = absurd h.1
-
--- the bitmaps of links are those of names, and short where these are
-pub short_bits : {X : Type 0} (links : List HashedLink) (names : List X) (bits : X → List ℕ) → ((x : X) → length (bits x) ≤ 8704)
-    → map (λ k. k.bits) links ≡ map bits names → (i : ℕ) (d : HashedLink) → i < length links → length (get_or links i d).bits ≤ 8704
-short_bits [] names bits few e i d lt = absurd (omega arith)
-short_bits (k ∷ ks) [] bits few e i d lt = absurd (cc)
-short_bits (k ∷ ks) (n ∷ ns) bits few e zero d lt = let head : k.bits ≡ bits n = cc in subst (λ o. length o ≤ 8704) (sym head) (few n)
-short_bits (k ∷ ks) (n ∷ ns) bits few e (suc i) d lt =
-    let tail : map (λ k. k.bits) ks ≡ map bits ns = cc in short_bits ks ns bits few tail i d (omega arith)

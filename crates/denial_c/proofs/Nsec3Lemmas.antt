@@ -1,32 +1,14 @@
 -- Faults of NSEC3 records.
-use Rattle.std.proofs.Common.{◌≡◌, ℕ, Bool, true, false, cond, List, [], ◌∷◌, map, inl, inr, refl, ap}
+use Rattle.std.proofs.Common.{◌≡◌, ℕ, Bool, true, false, cond, List, [], ◌∷◌, map, refl, ap}
 use Rattle.std.specs.Prelude.{filter, ◌&&◌}
 use Rattle.std.proofs.lemmas.Bool.{eqb-true}
 use Rattle.domain_base.specs.Words.{Name}
 use Rattle.domain_nsec3.specs.Chain.{HashedLink}
-use Rattle.denial_c.specs.Among.{AreNsec3s}
-use Rattle.denial_c.specs.Result.{first_parameters, is_known, source_of, IsChainFault, IsNsec3Fault, IsNsec3sFault, IsParamFault, IsSpelled, Spells}
+use Rattle.denial_c.specs.Result.{first_parameters, is_known, source_of, IsNsec3Fault, IsSpelled, Spells}
 use Rattle.denial_c.specs.declared.fault.Fault.{Fault}
 use Rattle.denial_c.specs.declared.nsec3.Telling.{Telling}
 use Rattle.denial_c.specs.declared.nsec3.Telling.TheVariants.{ByRecord, ByFirst}
 use Rattle.denial_c.specs.declared.fault.Fault.TheVariants.{Apex as Apexless, Name as Nameless, Records, Param, Hasher, OutOfMemory}
-
-pub nsec3s_fault : (a : Name) (class : ℕ) (octets : List ℕ) (e : Fault) → IsNsec3sFault class octets e → IsChainFault class octets a e
-nsec3s_fault a class octets Apexless h = absurd h
-nsec3s_fault a class octets Nameless h = absurd h
-nsec3s_fault a class octets Records h = inl h
-nsec3s_fault a class octets Param h = absurd h
-nsec3s_fault a class octets Hasher h = absurd h
-nsec3s_fault a class octets OutOfMemory h = tt
-
-pub param_fault : (a : Name) (class : ℕ) (octets : List ℕ) (links : List HashedLink) → AreNsec3s class octets links → (e : Fault)
-    → IsParamFault a class octets e → IsChainFault class octets a e
-param_fault a class octets links are Apexless h = absurd h
-param_fault a class octets links are Nameless h = absurd h
-param_fault a class octets links are Records h = inr h
-param_fault a class octets links are Param h = (links, are, h)
-param_fault a class octets links are Hasher h = absurd h
-param_fault a class octets links are OutOfMemory h = tt
 
 -- a fault of records is none of names, nor of hashes
 none_else : (telling : Telling) (a : Name) (class : ℕ) (octets : List ℕ) →

@@ -5,9 +5,9 @@ use Rattle.domain_base.specs.Words.{Name}
 use Rattle.domain_nsec.specs.Chain.{Link}
 use Rattle.domain_checker.specs.HandedIn.{HasRead}
 use Rattle.domain_checker.specs.declared.nsec_check.NsecCheck.{NsecCheck}
-use Rattle.domain_lent.specs.Data.{RawRecord}
-use Rattle.domain_lent.specs.Wire.{record_octets, IsRecord}
-use Rattle.domain_lent.specs.Links.{nsec_record, IsNsec}
+use Rattle.domain_borrowed.specs.Data.{RawRecord}
+use Rattle.domain_borrowed.specs.Wire.{record_octets, IsRecord}
+use Rattle.domain_borrowed.specs.Links.{nsec_record, IsNsec}
 use Rattle.denial_c.specs.Among.{is_of}
 use Rattle.denial_c.proofs.AmongLemmas.{IsRead, read_none, passed, taken}
 

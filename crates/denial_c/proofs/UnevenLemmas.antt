@@ -16,9 +16,9 @@ use Rattle.domain_alike.proofs.KeptLemmas.{names_stay, stays}
 use Rattle.domain_base.specs.Name.{same_name}
 use Rattle.domain_base.specs.Words.{Name}
 use Rattle.domain_dnssec.proofs.AmongLemmas.{any_two, contains_in, in_contains, in_filter, in_filtered, in_map, map_in}
-use Rattle.domain_lent.specs.Data.{minimum_of, RawRecord}
-use Rattle.domain_lent.specs.Wire.{record_octets, IsRecord}
-use Rattle.domain_lent.proofs.WireLemmas.{same_record, some_octets}
+use Rattle.domain_borrowed.specs.Data.{minimum_of, RawRecord}
+use Rattle.domain_borrowed.specs.Wire.{record_octets, IsRecord}
+use Rattle.domain_borrowed.proofs.WireLemmas.{same_record, some_octets}
 use Rattle.domain_nsec3.specs.Owners.{is_unsigned_cut}
 use Rattle.domain_zone.specs.Owners.{OwnerRecords, owner_at, owners_with_records}
 use Rattle.domain_zone.specs.View.{as_zone_record, zone_of}
@@ -102,9 +102,6 @@ pub record IsBetween (records : List RawRecord) (previous : RawRecord) (left : L
   pub quiet : has_neighbour_clash (map see (passed ++ previous ∷ [])) ≡ false
   pub even : has_neighbour_clash (map see records) ≡ has_neighbour_clash (map see (previous ∷ left))
 
-pub between_first : (first : RawRecord) (left : List RawRecord) → IsBetween (first ∷ left) first left
-between_first first left = record { passed = []; all = refl; quiet = refl; even = refl }
-
 pub between_next : (records : List RawRecord) (previous r : RawRecord) (left : List RawRecord) → IsBetween records previous (r ∷ left)
     → clashes (see previous) (see r) ≡ false → IsBetween records r left
 between_next records previous r left s e = record {
@@ -140,9 +137,6 @@ pub record IsWalked (excludes d : Bool) (L : List ZoneRecord) (a : Name) (left :
   pub even : has_unequal_ttls L (map name_of (filter (stays excludes) given)) ≡ false
 
 module _ (excludes d : Bool) (L : List ZoneRecord) (a : Name) where
-  pub walked_none : IsWalked excludes d L a (owners_with_records d L a)
-  walked_none = record { given = []; all = refl; even = refl }
-
   module _ (o : OwnerRecords) (left : List OwnerRecords) (s : IsWalked excludes d L a (o ∷ left)) where
     pub walked_known : o ≡ owner_at L a o.name
     walked_known = next_is_owner d L a s.given o left s.all
@@ -267,19 +261,6 @@ pub record IsScanned (class : ℕ) (octets : List ℕ) (n : Name) (t : ℕ) (lef
   pub known : IsKnown n t first before
 
 module _ (class : ℕ) (octets : List ℕ) (n : Name) (t : ℕ) where
-  pub scanned_none : (given : List RawRecord) → AreGiven class octets given → has_clash (set_of (zone given) n t) ≡ true
-      → IsScanned class octets n t octets None
-  scanned_none given are clash = record {
-    given = given;
-    are = are;
-    clash = clash;
-    before = [];
-    rest = given;
-    all = refl;
-    left_is = are.are;
-    known = tt;
-  }
-
   weaker : (w : ℕ) (rs : List RawRecord) → AllByRecursion (λ r. is_in_set n t r ≡ false) rs
       → AllByRecursion (λ r. is_in_set n t r ≡ true → r.ttl ≡ w) rs
   weaker w [] h = tt

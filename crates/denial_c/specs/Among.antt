@@ -8,9 +8,9 @@ use Rattle.domain_base.specs.Types as rtypes
 use Rattle.domain_base.specs.Words.{Name}
 use Rattle.domain_nsec.specs.Chain.{Link}
 use Rattle.domain_nsec3.specs.Chain.{HashedLink, ParamRecord}
-use Rattle.domain_lent.specs.Data.{RawRecord}
-use Rattle.domain_lent.specs.Links.{nsec_record, nsec3_record, param_record, IsNsec, IsNsec3, IsParam}
-use Rattle.domain_lent.specs.Wire.{record_octets, IsRecord}
+use Rattle.domain_borrowed.specs.Data.{RawRecord}
+use Rattle.domain_borrowed.specs.Links.{nsec_record, nsec3_record, param_record, IsNsec, IsNsec3, IsParam}
+use Rattle.domain_borrowed.specs.Wire.{record_octets, IsRecord}
 
 -- of the type and the class
 abbrev pub is_of : ℕ → ℕ → RawRecord → Bool

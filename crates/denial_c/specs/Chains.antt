@@ -1,7 +1,6 @@
 -- What is answered where a chain is made of octets: the chain of the records that the octets are,
 -- octet for octet, or exactly why there is none.
 use Rattle.std.specs.Prelude.{◌≡◌, ℕ, ◌<◌, ◌≤◌, Bool, true, false, List, ◌++◌, length, drop, Result, Ok, Err, if◌then◌else◌}
-use Rattle.std.specs.List.{flat_map}
 use Rattle.domain_alike.specs.Covered.{covered_names}
 use Rattle.domain_octets.specs.Words.{Octets}
 use Rattle.domain_base.specs.Words.{Name}
@@ -21,9 +20,8 @@ use Rattle.domain_zone.specs.Zone.{records_of, ZoneRecord}
 use Rattle.domain_sha1.specs.Iterated.{sha1_answer}
 use Rattle.domain_dnssec.specs.AnyOrder as any_order
 use Rattle.domain_dnssec.specs.AnyOrderNsec3 as any_order_nsec3
-use Rattle.domain_lent.specs.Data.{data_cmp, minimum_of, RawRecord}
-use Rattle.domain_lent.specs.Links.{nsec_record, nsec3_record, param_record}
-use Rattle.domain_lent.specs.Wire.{record_octets}
+use Rattle.domain_dnssec.specs.Wire.{nsecs_octets, nsec3s_octets}
+use Rattle.domain_borrowed.specs.Data.{data_cmp, minimum_of, RawRecord}
 use Rattle.denial_c.specs.ChainNumbers.{chain_count, chain_number}
 use Rattle.denial_c.specs.Given.{AreGiven, HasNoRecordAt, HasOtherClassAt}
 use Rattle.denial_c.specs.Result.{IsSpelled, Spells}
@@ -34,10 +32,6 @@ use Rattle.denial_c.specs.declared.chain_fault.ChainFault.TheVariants as fault
 -- sorted is the sorted set of the records, by owner, class, type and the octets of the data
 abbrev pub Sorts : List RawRecord → List RawRecord → Type 0
 Sorts = any_order.Sorts (λ n. n) (λ d. d.rtype) data_cmp
-
--- the octets of the records of a chain, one after another
-abbrev pub nsecs_octets : List Link → Octets
-nsecs_octets = flat_map (λ k. record_octets (nsec_record k))
 
 -- the octets are an apex and the records of a zone, of one class
 pub record AreZone (apex : Octets) (class : ℕ) (records : Octets) (a : Name)
@@ -124,12 +118,6 @@ IsSortedNsecFault class octets sorted a config fault.OutOfMemory =
     IsFaultless (zone_of (λ n. n) (λ d. d.rtype) minimum_of sorted) a config
 
 -- ---- NSEC3
-
--- the octets of the records of a chain, one after another, and of its NSEC3PARAM record
-abbrev pub nsec3s_octets : ChainRecords → Octets
-nsec3s_octets made =
-    flat_map (λ k. record_octets (nsec3_record k)) made.links
-    ++ record_octets (param_record made.param)
 
 -- SHA-1 (RFC 5155, section 11), with so many iterations and a salt; unsigned delegations are left
 -- out where opt-out is chosen, and the flags of all records are those of opt-out then

@@ -5,7 +5,7 @@ use Rattle.domain_octets.specs.Words.{Octets}
 use Rattle.domain_base.specs.Name.{lowered, wire_of}
 use Rattle.domain_base.specs.Words.{Name}
 use Rattle.domain_alike.specs.Alike.{IsFirstPair, Pair}
-use Rattle.domain_lent.specs.Data.{minimum_of, RawRecord}
+use Rattle.domain_borrowed.specs.Data.{minimum_of, RawRecord}
 use Rattle.domain_nsec3.specs.Config.{ChainConfig}
 use Rattle.domain_zone.specs.View.{zone_of}
 use Rattle.denial_c.specs.ChainNumbers.{collision_number}
@@ -46,8 +46,8 @@ pair_asking config =
       is_uneven_at = λ offset. ⊥;
     }
 
--- what is answered, and what both buffers have then: the earlier name of the pair and the later one,
--- or what they had
+-- what is answered, and what both buffers have then: the earlier name of the pair and the later
+-- one, or what they had
 abbrev pub IsCollisionResult : Octets → ℕ → ChainConfig → Octets → Result Bool ChainFault → Written
     → Written → Type 0
 IsCollisionResult apex class config records (Ok true) earlier later =

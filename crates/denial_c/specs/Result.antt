@@ -173,8 +173,8 @@ with_param class records =
       is_fault = IsChainFault class records;
     }
 
--- of the zone, with no hash algorithm but SHA-1 and no flag but that of opt-out: records with others
--- are to be ignored (RFC 5155, sections 8.1 and 8.2)
+-- of the zone, with no hash algorithm but SHA-1 and no flag but that of opt-out: records with
+-- others are to be ignored (RFC 5155, sections 8.1 and 8.2)
 abbrev pub is_known : Name → HashedLink → Bool
 is_known a k =
     (k.parameters.algorithm == 1) && nat_lt k.flags 2 && is_at_or_below k.owner a

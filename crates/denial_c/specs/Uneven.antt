@@ -5,8 +5,8 @@ use Rattle.domain_octets.specs.Words.{Octets}
 use Rattle.domain_base.specs.Name.{same_name}
 use Rattle.domain_base.specs.Words.{Name}
 use Rattle.domain_zone.specs.Zone.{ZoneRecord, has_clash, has_unequal_ttls, records_of}
-use Rattle.domain_lent.specs.Data.{RawRecord}
-use Rattle.domain_lent.specs.Wire.{record_octets, IsRecord}
+use Rattle.domain_borrowed.specs.Data.{RawRecord}
+use Rattle.domain_borrowed.specs.Wire.{record_octets, IsRecord}
 use Rattle.denial_c.specs.Given.{IsReadUpTo}
 
 -- of the owner and the type

@@ -3,11 +3,11 @@ ghost use Rattle.std.specs.Prelude.{◌≡◌};
 ghost use Rattle.denial_c.specs.Among.{is_of};
 
 use domain_base::{Class, Rtype};
-use domain_lent::LentRecord;
+use domain_borrowed::BorrowedRecord;
 
 /// Whether the record is of the type and the class.
-pub(crate) fn is_of(lent: &LentRecord<'_>, rtype: Rtype, class: Class) -> bool
-    ensures { result ≡ is_of rtype class lent.now }
+pub(crate) fn is_of(borrowed: &BorrowedRecord<'_>, rtype: Rtype, class: Class) -> bool
+    ensures { result ≡ is_of rtype class borrowed.now }
 {
-    (lent.rtype() == rtype) & (lent.class() == class)
+    (borrowed.rtype() == rtype) & (borrowed.class() == class)
 }

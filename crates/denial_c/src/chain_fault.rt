@@ -46,8 +46,8 @@ pub(crate) fn chain_fault_number(fault: ChainFault) -> u32
     }
 }
 
-/// What a fault counts: the offset where it stands, or the octets that there is no room for. 0 where
-/// it counts nothing.
+/// What a fault counts: the offset where it stands, or the octets that there is no room for. 0
+/// where it counts nothing.
 fn fault_count(fault: ChainFault) -> usize
     ensures { result ≡ fault_count fault }
 {

@@ -1,7 +1,7 @@
 //! The names of an NSEC3 chain of the records in octets that hash alike.
 ghost use Rattle.std.specs.Prelude.{◌≡◌, IfErr, IfOk, option_map};
 ghost use Rattle.domain_alike.specs.Alike.{pair_of, IsFirstPair};
-ghost use Rattle.domain_lent.specs.Data.{minimum_of};
+ghost use Rattle.domain_borrowed.specs.Data.{minimum_of};
 ghost use Rattle.domain_nsec3.specs.View.{config_of};
 ghost use Rattle.domain_records.specs.Order.{IsInOrder};
 ghost use Rattle.domain_sha1.specs.Iterated.{sha1_answer};
@@ -18,20 +18,20 @@ use crate::nsec3_chain::{Hashing, config_with};
 use crate::zone::sorted_zone;
 use domain_alike::{Alike, first_alike, write_lowered};
 use domain_base::{Class, MAX_NAME, ParsedName};
+use domain_borrowed::BorrowedRecord;
 use domain_hasher::Nsec3HashError;
-use domain_lent::LentRecord;
 use domain_nsec::GenerateNsecConfig;
 use domain_nsec3::GenerateNsec3Config;
 use domain_records::InPlaceSorter;
 use domain_sha1::Sha1Hasher;
 use std::alloc::Global;
 
-/// The first pair of names of the chain of sorted records that hash alike. SHA-1 refuses no name, so
-/// that there is no other error than want of memory.
+/// The first pair of names of the chain of sorted records that hash alike. SHA-1 refuses no name,
+/// so that there is no other error than want of memory.
 fn first_pair<'a>(
     alloc: Global,
     apex: &ParsedName<'a>,
-    sorted: &[LentRecord<'a>],
+    sorted: &[BorrowedRecord<'a>],
     config: &GenerateNsec3Config<&[u8], InPlaceSorter>,
 ) -> Result<Option<Alike<'a>>, ChainFault>
     requires in_order { IsInOrder (λ n. n) (λ d. d.rtype) sorted.now }

@@ -10,8 +10,8 @@ use crate::among::is_of;
 use crate::fault::Fault;
 use domain_base::laws::octets_begin_with_one_name;
 use domain_base::{Class, ParsedName, Rtype, ToName};
+use domain_borrowed::{into_nsec, read_record};
 use domain_checker::{NsecCheck, Verdict};
-use domain_lent::{into_nsec, read_record};
 use domain_octets::Parser;
 
 /// The name that the octets are. Refuses, with the fault, octets that are none.

@@ -1,16 +1,14 @@
 //! The NSEC3 chain of the records in octets.
-ghost use Rattle.std.specs.Prelude.{◌≡◌, ◌≤◌, ◌<◌, ◌++◌, All, List, length, IfErr, IfOk, OnOk};
-ghost use Rattle.domain_base.specs.Classes.{in_class};
-ghost use Rattle.domain_lent.specs.Data.{minimum_of, RawRecord};
-ghost use Rattle.domain_lent.specs.Links.{nsec3_record, param_record};
-ghost use Rattle.domain_lent.specs.Wire.{record_octets};
+ghost use Rattle.std.specs.Prelude.{◌≡◌, ◌≤◌, ◌<◌, List, length, IfErr, IfOk};
+ghost use Rattle.domain_borrowed.specs.Data.{minimum_of, RawRecord};
 ghost use Rattle.domain_nsec3.specs.Chain.{ChainRecords, IsChainParam, IsHashedChain};
-ghost use Rattle.domain_nsec3.specs.View.{as_param_record, config_of};
+ghost use Rattle.domain_nsec3.specs.View.{config_of};
 ghost use Rattle.domain_nsec3.specs.declared.config.Nsec3ParamTtlMode.TheVariants.{Soa};
 ghost use Rattle.domain_records.specs.Order.{IsInOrder, IsOneClass};
 ghost use Rattle.domain_sha1.specs.Iterated.{sha1_answer};
 ghost use Rattle.domain_zone.specs.View.{zone_of};
-ghost use Rattle.denial_c.specs.Chains.{hashed_config, hashing_fault, nsec3s_octets, IsNsec3ChainResult, IsSortedNsec3Fault, Sorts};
+ghost use Rattle.domain_dnssec.specs.Wire.{nsec3s_octets};
+ghost use Rattle.denial_c.specs.Chains.{hashed_config, hashing_fault, IsNsec3ChainResult, IsSortedNsec3Fault, Sorts};
 ghost use Rattle.denial_c.specs.Given.{AreGiven};
 ghost use Rattle.denial_c.specs.declared.chain_fault.ChainFault.TheVariants as fault;
 
@@ -20,16 +18,14 @@ use crate::nsec::read_name;
 use crate::nsec_chain::write_octets;
 use crate::uneven::uneven_at;
 use crate::zone::sorted_zone;
-use domain_base::{Class, Name, Nsec3HashAlgorithm, ParsedName, ToName};
+use domain_base::{Class, Nsec3HashAlgorithm, ParsedName};
 use domain_bitmap::Nsec3Salt;
-use domain_bitmap::laws::built_bitmaps_give_their_types;
+use domain_borrowed::BorrowedRecord;
 use domain_chain_rdata::Nsec3param;
+use domain_dnssec::compose_nsec3s;
 use domain_hasher::Nsec3HashError;
-use domain_lent::{LentRecord, compose_parts, compose_record};
 use domain_nsec::GenerateNsecConfig;
-use domain_nsec3::{GenerateNsec3Config, LentNsec3, Nsec3Chain};
-use domain_octets::OutOfMemory;
-use domain_record::Record;
+use domain_nsec3::{GenerateNsec3Config, Nsec3Chain};
 use domain_records::{InPlaceSorter, RecordsIter, SigningError};
 use domain_sha1::Sha1Hasher;
 use std::alloc::Global;
@@ -43,54 +39,6 @@ pub(crate) struct Hashing<'a> {
     pub salt: &'a [u8],
     /// Whether unsigned delegations are left out, and the records say so (RFC 5155, section 6).
     pub opt_out: bool,
-}
-
-/// Appends an NSEC3 record of a chain, which is of class IN.
-fn add_nsec3(alloc: Global, nsec3: &LentNsec3<'_>, octets: &mut Vec<u8>) -> Result<(), OutOfMemory>
-    requires types { length nsec3.now.bits ≤ 8704 }
-    requires class { nsec3.now.class ≡ in_class }
-    ensures { OnOk result (octets.new.items
-        ≡ octets.old.items ++ record_octets (nsec3_record nsec3.now)) }
-{
-    let owner: Name<Vec<u8>> = nsec3.owner().make(alloc)?;
-    let hashed = nsec3.data();
-    let _salt = hashed.salt().as_slice();
-    let _next_owner = hashed.next_owner().as_slice();
-    match compose_parts(&owner, Class::IN, nsec3.ttl(), hashed, octets) {
-        Ok(()) => Ok(()),
-        Err(_) => Err(OutOfMemory),
-    }
-}
-
-/// Appends the NSEC3PARAM record of a chain.
-fn add_param(
-    param: &Record<ParsedName<'_>, Nsec3param<&[u8]>>,
-    octets: &mut Vec<u8>,
-) -> Result<(), OutOfMemory>
-    ensures { OnOk result (octets.new.items
-        ≡ octets.old.items ++ record_octets (param_record (as_param_record (λ n. n) param.now))) }
-{
-    let _salt = param.data().salt().as_slice();
-    match compose_record(param, octets) {
-        Ok(()) => Ok(()),
-        Err(_) => Err(OutOfMemory),
-    }
-}
-
-/// The octets of the records of a chain, one after another, and of its NSEC3PARAM record.
-fn nsec3s_octets(alloc: Global, chain: &Nsec3Chain<'_, &[u8]>) -> Result<Vec<u8>, OutOfMemory>
-    requires { All (λ k. (length k.bits ≤ 8704) × (k.class ≡ in_class)) chain.now.links }
-    ensures { IfOk result (λ octets. octets.items ≡ nsec3s_octets chain.now) }
-{
-    let mut octets = Vec::new(alloc);
-    for place in 0..chain.len() {
-        let Some(nsec3) = chain.lend(place) else {
-            unreachable!();
-        };
-        add_nsec3(alloc, &nsec3, &mut octets)?;
-    }
-    add_param(chain.nsec3param(), &mut octets)?;
-    Ok(octets)
 }
 
 /// How a chain is made.
@@ -143,7 +91,7 @@ fn sorted_nsec3s(
     apex: &ParsedName<'_>,
     class: Class,
     octets: &[u8],
-    sorted: &[LentRecord<'_>],
+    sorted: &[BorrowedRecord<'_>],
     config: &GenerateNsec3Config<&[u8], InPlaceSorter>,
 ) -> Result<Vec<u8>, ChainFault>
     requires given { (given : List RawRecord)
@@ -160,7 +108,6 @@ fn sorted_nsec3s(
     ensures err { IfErr result (IsSortedNsec3Fault class octets.now sorted.now
         apex.now (config_of sha1_answer config.now)) }
 {
-    built_bitmaps_give_their_types();
     let chain = match Nsec3Chain::generate(
         alloc,
         apex,
@@ -180,9 +127,11 @@ fn sorted_nsec3s(
         Err(SigningError::Nsec3HashingError(error)) => return Err(hashing_fault(error)),
         Err(_) => return Err(ChainFault::Soa),
     };
-    match nsec3s_octets(alloc, &chain) {
-        Ok(octets) => Ok(octets),
-        Err(OutOfMemory) => Err(ChainFault::OutOfMemory),
+    let mut octets = Vec::new(alloc);
+    match compose_nsec3s(alloc, &chain, &mut octets) {
+        Ok(()) => Ok(octets),
+        // No record of a zone's chain has data of over 65,535 octets.
+        Err(_) => Err(ChainFault::OutOfMemory),
     }
 }
 

@@ -1,13 +1,11 @@
 //! The NSEC chain of the records in octets.
-ghost use Rattle.std.specs.Prelude.{◌≡◌, ◌≤◌, ◌<◌, ◌++◌, List, All, length, drop, IfErr, IfOk, IsErrOf, OnOk};
+ghost use Rattle.std.specs.Prelude.{◌≡◌, ◌<◌, List, length, IfErr, IfOk};
 ghost use Rattle.domain_records.specs.Order.{IsInOrder, IsOneClass};
-ghost use Rattle.domain_nsec.specs.Chain.{Link, IsChain, IsFaultless};
-ghost use Rattle.domain_nsec.specs.ChainView.{as_link};
+ghost use Rattle.domain_nsec.specs.Chain.{Link, IsChain};
 ghost use Rattle.domain_zone.specs.View.{zone_of};
-ghost use Rattle.domain_lent.specs.Data.{minimum_of, RawRecord};
-ghost use Rattle.domain_lent.specs.Links.{nsec_record};
-ghost use Rattle.domain_lent.specs.Wire.{record_octets};
-ghost use Rattle.denial_c.specs.Chains.{nsecs_octets, IsNsecChainResult, IsSortedNsecFault, IsTooMuch, IsWritten, Sorts};
+ghost use Rattle.domain_borrowed.specs.Data.{minimum_of, RawRecord};
+ghost use Rattle.domain_dnssec.specs.Wire.{nsecs_octets};
+ghost use Rattle.denial_c.specs.Chains.{IsNsecChainResult, IsSortedNsecFault, IsWritten, Sorts};
 ghost use Rattle.denial_c.specs.Given.{AreGiven};
 ghost use Rattle.denial_c.specs.declared.chain_fault.ChainFault.TheVariants as fault;
 
@@ -16,44 +14,12 @@ use crate::fault::Fault;
 use crate::nsec::read_name;
 use crate::uneven::uneven_at;
 use crate::zone::sorted_zone;
-use domain_base::{Class, ParsedName, ToName};
-use domain_bitmap::laws::built_bitmaps_give_their_types;
-use domain_lent::{LentRecord, compose_record};
-use domain_nsec::{GenerateNsecConfig, LentNsec, NsecChain};
-use domain_octets::OutOfMemory;
+use domain_base::{Class, ParsedName};
+use domain_borrowed::BorrowedRecord;
+use domain_dnssec::compose_nsecs;
+use domain_nsec::{GenerateNsecConfig, NsecChain};
 use domain_records::{RecordsIter, SigningError};
 use std::alloc::Global;
-
-/// Appends an NSEC record of a chain.
-fn add_nsec(nsec: &LentNsec<'_>, octets: &mut Vec<u8>) -> Result<(), OutOfMemory>
-    requires { length nsec.now.«data».types ≤ 8704 }
-    ensures { OnOk result (octets.new.items
-        ≡ octets.old.items ++ record_octets (nsec_record (as_link (λ n. n) nsec.now))) }
-{
-    let _next_name = nsec.data().next_name().as_wire();
-    match compose_record(nsec, octets) {
-        Ok(()) => Ok(()),
-        Err(_) => Err(OutOfMemory),
-    }
-}
-
-/// The octets of the records of a chain, one after another.
-fn nsecs_octets(
-    alloc: Global,
-    chain: &NsecChain<'_, ParsedName<'_>>,
-) -> Result<Vec<u8>, OutOfMemory>
-    requires { All (λ k. length k.bits ≤ 8704) chain.now }
-    ensures { IfOk result (λ octets. octets.items ≡ nsecs_octets chain.now) }
-{
-    let mut octets = Vec::new(alloc);
-    for place in 0..chain.len() {
-        let Some(nsec) = chain.lend(place) else {
-            unreachable!();
-        };
-        add_nsec(&nsec, &mut octets)?;
-    }
-    Ok(octets)
-}
 
 /// The octets of the NSEC chain of the zone that sorted records of one class are, which the octets
 /// are in another order.
@@ -66,7 +32,7 @@ fn sorted_nsecs(
     apex: &ParsedName<'_>,
     class: Class,
     octets: &[u8],
-    sorted: &[LentRecord<'_>],
+    sorted: &[BorrowedRecord<'_>],
     config: &GenerateNsecConfig,
 ) -> Result<Vec<u8>, ChainFault>
     requires given { (given : List RawRecord)
@@ -79,7 +45,6 @@ fn sorted_nsecs(
     ensures err { IfErr result (IsSortedNsecFault class octets.now sorted.now apex.now
         config.now) }
 {
-    built_bitmaps_give_their_types();
     let chain = match NsecChain::generate(
         alloc,
         apex,
@@ -95,9 +60,11 @@ fn sorted_nsecs(
         Err(SigningError::OutOfMemory) => return Err(ChainFault::OutOfMemory),
         Err(_) => return Err(ChainFault::Soa),
     };
-    match nsecs_octets(alloc, &chain) {
-        Ok(octets) => Ok(octets),
-        Err(OutOfMemory) => Err(ChainFault::OutOfMemory),
+    let mut octets = Vec::new(alloc);
+    match compose_nsecs(&chain, &mut octets) {
+        Ok(()) => Ok(octets),
+        // No record of a zone's chain has data of over 65,535 octets.
+        Err(_) => Err(ChainFault::OutOfMemory),
     }
 }
 

@@ -1,7 +1,7 @@
 //! Where records of one owner and type differ in TTL.
 ghost use Rattle.std.specs.Prelude.{◌≡◌, ◌≤◌, List, true, false, IfNone, IfSome};
 ghost use Rattle.domain_alike.specs.Covered.{covered_names};
-ghost use Rattle.domain_lent.specs.Data.{minimum_of, RawRecord};
+ghost use Rattle.domain_borrowed.specs.Data.{minimum_of, RawRecord};
 ghost use Rattle.domain_records.specs.Order.{HoldsPairwise, IsInOrder};
 ghost use Rattle.domain_zone.specs.View.{as_zone_record, zone_of};
 ghost use Rattle.domain_zone.specs.Zone.{clashes, has_clash, has_unequal_ttls, records_of};
@@ -9,9 +9,8 @@ ghost use Rattle.denial_c.specs.Chains.{IsSortedUnevenAt, Sorts};
 ghost use Rattle.denial_c.specs.Given.{AreGiven};
 ghost use Rattle.denial_c.specs.Uneven.{is_in_set, is_other, set_of, IsFirstClash, IsFirstUneven, IsUnevenAt};
 
-use domain_alike::is_unsigned_cut;
 use domain_base::{Class, ParsedName, Rtype, ToName, Ttl};
-use domain_lent::{LentRecord, read_record};
+use domain_borrowed::{BorrowedRecord, read_record};
 use domain_octets::Parser;
 use domain_records::{RecordsIter, SliceRefsOrOwnedIterator};
 use domain_zone::UnoccludedOwners;
@@ -26,7 +25,7 @@ pub(crate) struct RrsetKey<'a> {
 }
 
 /// Whether two records of one type other than RRSIG differ in their TTLs.
-fn clash(first: &LentRecord<'_>, second: &LentRecord<'_>) -> bool
+fn clash(first: &BorrowedRecord<'_>, second: &BorrowedRecord<'_>) -> bool
     ensures { result ≡ clashes (as_zone_record (λ n. n) (λ d. d.rtype) minimum_of first.now)
         (as_zone_record (λ n. n) (λ d. d.rtype) minimum_of second.now) }
 {
@@ -36,7 +35,7 @@ fn clash(first: &LentRecord<'_>, second: &LentRecord<'_>) -> bool
 
 /// The first type of which two of these records differ in their TTLs, where their types never
 /// descend; None where there is none.
-fn clashing_type<'a>(mut records: SliceRefsOrOwnedIterator<'a, LentRecord<'a>>) -> Option<Rtype>
+fn clashing_type<'a>(mut records: SliceRefsOrOwnedIterator<'a, BorrowedRecord<'a>>) -> Option<Rtype>
     requires { HoldsPairwise (λ r s. r.«data».rtype ≤ s.«data».rtype) records }
     ensures some { IfSome result
         (IsFirstClash (zone_of (λ n. n) (λ d. d.rtype) minimum_of records.entry)) }
@@ -62,7 +61,7 @@ fn clashing_type<'a>(mut records: SliceRefsOrOwnedIterator<'a, LentRecord<'a>>) 
 /// `below_dname` does.
 fn uneven_set<'a>(
     apex: &'a ParsedName<'a>,
-    sorted: &'a [LentRecord<'a>],
+    sorted: &'a [BorrowedRecord<'a>],
     excludes: bool,
     below_dname: bool,
 ) -> Option<RrsetKey<'a>>
@@ -81,7 +80,7 @@ fn uneven_set<'a>(
     let records = RecordsIter::new_from_owned(sorted);
     let mut left = UnoccludedOwners::new(apex, records, below_dname);
     'owners: while let Some(owner) = left.next() {
-        if excludes & is_unsigned_cut(&owner) {
+        if excludes & owner.is_unsigned_cut() {
             continue;
         }
         if let Some(rtype) = clashing_type(owner.records.records()) {
@@ -93,7 +92,7 @@ fn uneven_set<'a>(
 }
 
 /// Whether the record is of this owner and this type.
-fn is_in_set(record: &LentRecord<'_>, set: &RrsetKey<'_>) -> bool
+fn is_in_set(record: &BorrowedRecord<'_>, set: &RrsetKey<'_>) -> bool
     ensures { result ≡ is_in_set set.now.owner set.now.rtype record.now }
 {
     record.owner().name_eq(&set.owner) & (record.rtype() == set.rtype)
@@ -141,7 +140,7 @@ pub(crate) fn uneven_at(
     apex: &ParsedName<'_>,
     class: Class,
     octets: &[u8],
-    sorted: &[LentRecord<'_>],
+    sorted: &[BorrowedRecord<'_>],
     excludes: bool,
     below_dname: bool,
 ) -> usize

@@ -1,13 +1,13 @@
 //! The records of a zone, as octets have them and sorted.
 ghost use Rattle.std.specs.Prelude.{◌≡◌, List, IfErr, IfOk, OnOk};
 ghost use Rattle.domain_records.specs.Order.{IsInOrder, IsOneClass};
-ghost use Rattle.domain_lent.specs.Data.{RawRecord};
+ghost use Rattle.domain_borrowed.specs.Data.{RawRecord};
 ghost use Rattle.denial_c.specs.Chains.{IsGivenFault, Sorts};
 ghost use Rattle.denial_c.specs.Given.{AreGiven};
 
 use crate::chain_fault::ChainFault;
 use domain_base::{Class, ParsedName};
-use domain_lent::{LentData, LentRecord, read_record};
+use domain_borrowed::{BorrowedData, BorrowedRecord, read_record};
 use domain_octets::{OutOfMemory, Parser};
 use domain_records::SortedRecords;
 use std::alloc::Global;
@@ -39,29 +39,31 @@ fn read_records<'a>(
     class: Class,
     octets: &'a [u8],
     count: usize,
-) -> Result<Vec<LentRecord<'a>>, OutOfMemory>
+) -> Result<Vec<BorrowedRecord<'a>>, OutOfMemory>
     requires { (given : List RawRecord) × AreGiven class octets.now given }
     ensures { IfOk result (λ records. AreGiven class octets.now records.items) }
 {
     let mut records = Vec::with_capacity(alloc, count)?;
     let mut parser = Parser::new(octets);
     'records: while parser.remaining() > 0 {
-        let Some(lent) = read_record(&mut parser) else {
+        let Some(borrowed) = read_record(&mut parser) else {
             unreachable!();
         };
-        records.push(lent)?;
+        records.push(borrowed)?;
     }
     Ok(records)
 }
 
 /// The records, sorted; of equal ones the earliest is kept.
-fn sort_records<'a>(records: Vec<LentRecord<'a>>) -> Result<Vec<LentRecord<'a>>, OutOfMemory>
+fn sort_records<'a>(
+    records: Vec<BorrowedRecord<'a>>,
+) -> Result<Vec<BorrowedRecord<'a>>, OutOfMemory>
     requires { IsOneClass records.items }
     ensures sorts { IfOk result (λ sorted. Sorts records.entry.items sorted.items) }
     ensures one_class { IfOk result (λ sorted. IsOneClass sorted.items) }
     ensures in_order { IfOk result (λ sorted. IsInOrder (λ n. n) (λ d. d.rtype) sorted.items) }
 {
-    let sorted: SortedRecords<ParsedName<'a>, LentData<'a>> = match SortedRecords::from_vec(
+    let sorted: SortedRecords<ParsedName<'a>, BorrowedData<'a>> = match SortedRecords::from_vec(
         records,
     ) {
         Ok(sorted) => sorted,
@@ -80,7 +82,7 @@ pub(crate) fn sorted_zone<'a>(
     alloc: Global,
     class: Class,
     octets: &'a [u8],
-) -> Result<Vec<LentRecord<'a>>, ChainFault>
+) -> Result<Vec<BorrowedRecord<'a>>, ChainFault>
     ensures sorts { IfOk result (λ sorted. (given : List RawRecord)
         × AreGiven class octets.now given × Sorts given sorted.items) }
     ensures one_class { IfOk result (λ sorted. IsOneClass sorted.items) }

@@ -1,6 +1,6 @@
 //! The program that `denial judge` and `denial answer` are: reads records of an NSEC or NSEC3 chain
-//! from standard input, one a line, and prints what they prove as a whole answer to a question about
-//! a name and a type, and the records that are asked for.
+//! from standard input, one a line, and prints what they prove as a whole answer to a question
+//! about a name and a type, and the records that are asked for.
 //!
 //! The work is done by `run_judge` of `judge_program`, which is generic over its reader, its writer
 //! and its hasher. `main` hands in those of the process.

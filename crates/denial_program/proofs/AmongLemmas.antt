@@ -3,7 +3,7 @@ use Rattle.std.proofs.Common.{◌≡◌, ℕ, List, [], ◌∷◌, ◌++◌, ari
 use Rattle.domain_base.specs.Words.{Name}
 use Rattle.domain_nsec.specs.Chain.{Link}
 use Rattle.domain_record.specs.RecordClone.{IsRecordClone}
-use Rattle.domain_lent.specs.Data.{RawRecord}
+use Rattle.domain_borrowed.specs.Data.{RawRecord}
 use Rattle.domain_checker.specs.HandedIn.{HasRead}
 use Rattle.domain_checker.specs.declared.nsec_check.NsecCheck.{NsecCheck}
 use Rattle.denial_program.specs.Check.{AreAmong, IsNsecOf}

@@ -4,13 +4,14 @@ use Rattle.std.specs.Result.{IsErrAnd}
 use Rattle.domain_dnssec.specs.declared.chain.ChainError.{ChainError}
 use Rattle.domain_dnssec.specs.declared.chain.ChainError.TheVariants.{MixedClasses, Sort, Signing, OutOfMemory}
 use Rattle.domain_octets.specs.Words.{Octets}
+use Rattle.domain_octets.proofs.StdLemmas.{if_err_of}
 use Rattle.domain_base.specs.Words.{Name}
 use Rattle.domain_zone.specs.View.{zone_of}
 use Rattle.domain_nsec.specs.Chain.{usual_config, IsFaultless}
 use Rattle.domain_nsec3.specs.Faults.{IsReady}
 use Rattle.domain_nsec3.specs.View.{HasherAnswer, config_of, hash_by, parameters_of}
 use Rattle.domain_nsec3.specs.declared.config.GenerateNsec3Config.{GenerateNsec3Config}
-use Rattle.domain_lent.specs.Data.{RawRecord, data_cmp, minimum_of}
+use Rattle.domain_borrowed.specs.Data.{RawRecord, data_cmp, minimum_of}
 use Rattle.domain_records.specs.Errors.{sort_error}
 use Rattle.domain_records.specs.Order.{IsOneClass}
 use Rattle.domain_dnssec.proofs.KeptLemmas.{classes_kept}
@@ -109,14 +110,10 @@ nsec3s_unwritten answers given sorted apex p x is sorts one ready (Err e) (inr m
   none = record { sorted = sorted; sorts = sorts; one_class = one; ready = ready };
 })
 
--- what holds of an error that is handed on
-pub if_err_of : {X : Type 0} (P : DenialFault → Type 0) (e : DenialFault) (r : Result X DenialFault) → IsErrAnd r (λ f. f ≡ e) → P e → IfErr r P
-if_err_of P e (Ok x) h p = tt
-if_err_of P e (Err f) h p = subst P (sym h) p
-
--- records that were sorted, and not laid
-pub unlaid : (given sorted : List RawRecord) → Sorts given sorted → IsOneClass sorted → (e : DenialFault) → e ≡ Unprepared prepare_error → IsUnsorted given e
-unlaid given sorted sorts one e is = inr (is, given_one_class given sorted sorts one)
+-- records that were sorted, and not compacted
+pub uncompacted : (given sorted : List RawRecord) → Sorts given sorted → IsOneClass sorted → (e : DenialFault)
+    → e ≡ Unprepared prepare_error → IsUnsorted given e
+uncompacted given sorted sorts one e is = inr (is, given_one_class given sorted sorts one)
 
 -- records that were not made ready have no chain
 nsecs_unsorted : (given : List RawRecord) (apex : Name) (e : DenialFault) → IsUnsorted given e → HasNoNsecs given apex e

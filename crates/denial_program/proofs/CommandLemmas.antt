@@ -6,12 +6,6 @@ use Rattle.domain_base.specs.Scan.{IsOfTokens, scan_fault_of}
 use Rattle.domain_base.specs.declared.error.ScanError.{ScanError}
 use Rattle.domain_base.specs.declared.error.ScanError.TheVariants as scan_error
 
-pub two_items : {X : Type 0} (xs : List X) (a b : X) → length xs ≡ 2 → a ≡ get_or xs 0 a → b ≡ get_or xs 1 b → xs ≡ a ∷ b ∷ []
-two_items [] a b n p q = absurd (omega arith)
-two_items (x ∷ []) a b n p q = absurd (omega arith)
-two_items (x ∷ y ∷ []) a b n p q = ap (λ l. l ∷ y ∷ []) (sym p) ∙ ap (λ l. a ∷ l ∷ []) (sym q)
-two_items (x ∷ y ∷ z ∷ xs) a b n p q = absurd (omega arith)
-
 pub one_item : {X : Type 0} (xs : List X) (a : X) → length xs ≡ 1 → a ≡ get_or xs 0 a → xs ≡ a ∷ []
 one_item [] a n p = absurd (omega arith)
 one_item (x ∷ []) a n p = ap (λ l. l ∷ []) (sym p)

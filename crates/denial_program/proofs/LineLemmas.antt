@@ -15,7 +15,7 @@ use Rattle.domain_rdata.specs.Scan.{RdataText}
 use Rattle.domain_rdata.specs.Zone.{canonical_octets}
 use Rattle.domain_rdata.specs.declared.zone_record_data.ZoneRecordData.{ZoneRecordData}
 use Rattle.domain_rdata.proofs.ScanLemmas.{text_once}
-use Rattle.domain_lent.specs.Data.{RawData, RawRecord}
+use Rattle.domain_borrowed.specs.Data.{RawData, RawRecord}
 use Rattle.denial_program.specs.Said.{line_error_of, SpellsNoName, SpellsNone}
 use Rattle.denial_program.specs.Words.{LineText}
 use Rattle.denial_program.specs.declared.line.LineError.{LineError}

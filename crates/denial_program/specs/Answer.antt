@@ -9,7 +9,7 @@ use Rattle.domain_nsec3.specs.Chain.{ChainRecords}
 use Rattle.domain_nsec3.specs.Config.{ChainConfig}
 use Rattle.domain_nsec3.specs.View.{HasherAnswer, hash_by, parameters_of}
 use Rattle.domain_nsec3.specs.declared.config.Nsec3ParamTtlMode.TheVariants.{Soa}
-use Rattle.domain_lent.specs.Data.{data_cmp, minimum_of, RawRecord}
+use Rattle.domain_borrowed.specs.Data.{data_cmp, minimum_of, RawRecord}
 use Rattle.domain_dnssec.specs.AnyOrder as any_order
 use Rattle.domain_dnssec.specs.AnyOrderNsec3 as any_order_nsec3
 use Rattle.domain_dnssec.specs.declared.chain.ChainError.{ChainError}
@@ -36,8 +36,8 @@ abbrev pub IsUnsorted : List RawRecord → DenialFault → Type 0
 IsUnsorted given fault = ((fault ≡ MixedClasses) × any_order.AreMixed given)
     ⊎ ((fault ≡ Unprepared prepare_error) × IsOneClass given)
 
--- what the program says where there is no chain: want of memory before the records are sorted, laid
--- where they are walked over, is one thing, and want of memory for their chain another
+-- what the program says where there is no chain: want of memory before the records are sorted,
+-- compacted where they are walked over, is one thing, and want of memory for their chain another
 abbrev pub fault_of_chain : ChainError → DenialFault
 fault_of_chain chain_error.MixedClasses = MixedClasses
 fault_of_chain (chain_error.Sort e) = Unprepared prepare_error

@@ -1,7 +1,7 @@
 -- What the records of a chain that were read prove of a name and a type.
-use Rattle.std.specs.Prelude.{ℕ, ◌≡◌, ◌≢◌, ◌⊎◌, true, false, ◌-◌, List, [], ◌∷◌, ◌++◌, codes, drop, length}
+use Rattle.std.specs.Prelude.{ℕ, ◌≡◌, ◌≢◌, ◌⊎◌, true, false, List, [], ◌∷◌, ◌++◌, codes, length}
 use Rattle.domain_octets.specs.Words.{Octets}
-use Rattle.domain_base.specs.Name.{is_at_or_below, same_name}
+use Rattle.domain_base.specs.Name.{is_at_or_below, last_labels, same_name}
 use Rattle.domain_base.specs.Text.{name_text}
 use Rattle.domain_base.specs.Words.{Name}
 use Rattle.domain_hasher.specs.declared.error.Nsec3HashError.TheVariants.{Hasher}
@@ -11,8 +11,8 @@ use Rattle.domain_nsec.specs.Chain.{Link}
 use Rattle.domain_nsec3.specs.Chain.{HashedLink, ParamRecord}
 use Rattle.domain_nsec3.specs.Config.{Hash}
 use Rattle.domain_nsec3.specs.View.{HasherAnswer, hash_by}
-use Rattle.domain_lent.specs.Data.{RawRecord}
-use Rattle.domain_lent.specs.Links.{nsec_record, nsec3_record, param_record, IsNsec, IsNsec3, IsParam}
+use Rattle.domain_borrowed.specs.Data.{RawRecord}
+use Rattle.domain_borrowed.specs.Links.{nsec_record, nsec3_record, param_record, IsNsec, IsNsec3, IsParam}
 use Rattle.domain_checker.specs.Verdict.{HasProof, IsProved}
 use Rattle.domain_checker.specs.Reading.{reading}
 use Rattle.domain_checker.specs.HashedVerdict.{HasHashedProof, IsFirstRefusal, IsHashedProved}
@@ -138,7 +138,7 @@ HasNoNsec3Verdict hashes given q OutOfMemory = Unit {0}
 
 -- the closest encloser that a count of labels tells, with its last dot
 abbrev pub encloser_text : Name → ℕ → Octets
-encloser_text name count = name_text (drop (length name - count) name) ++ codes "."
+encloser_text name count = name_text (last_labels count name) ++ codes "."
 
 -- what is printed
 abbrev pub verdict_text : Name → Verdict → Octets

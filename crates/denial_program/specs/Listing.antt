@@ -1,7 +1,7 @@
 -- What the lines of a text give.
 use Rattle.std.specs.Prelude.{◌≡◌, ◌⊎◌, ℕ, ◌+◌, List, [], ◌∷◌, ◌++◌, All, length}
 use Rattle.domain_octets.specs.Words.{Octets}
-use Rattle.domain_lent.specs.Data.{RawRecord}
+use Rattle.domain_borrowed.specs.Data.{RawRecord}
 use Rattle.denial_program.specs.Words.{words, IsSkipped, ArePlain, LineText}
 
 -- the line is not skipped, holds no octet past `~`, and spells the record

@@ -5,7 +5,7 @@ use Rattle.domain_base.specs.Text.{NameText}
 use Rattle.domain_base.specs.declared.error.ScanError.{ScanError}
 use Rattle.domain_base.specs.declared.error.ScanError.TheVariants as scan_error
 use Rattle.domain_base.specs.Words.{Name, Tokens}
-use Rattle.domain_lent.specs.Data.{RawRecord}
+use Rattle.domain_borrowed.specs.Data.{RawRecord}
 use Rattle.denial_program.specs.Words.{words, IsSkipped, LineText}
 use Rattle.denial_program.specs.Listing.{IsLineRecord, IsBad}
 use Rattle.denial_program.specs.declared.line.Line.{Line}

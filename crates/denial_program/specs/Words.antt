@@ -10,7 +10,7 @@ use Rattle.domain_base.specs.Words.{Name, Token, Tokens}
 use Rattle.domain_rdata.specs.Scan.{RdataText}
 use Rattle.domain_rdata.specs.Zone.{canonical_octets}
 use Rattle.domain_rdata.specs.declared.zone_record_data.ZoneRecordData.{ZoneRecordData}
-use Rattle.domain_lent.specs.Data.{RawRecord}
+use Rattle.domain_borrowed.specs.Data.{RawRecord}
 
 abbrev pub is_blank : ℕ → Bool
 is_blank b = (b == space) || (b == tab)

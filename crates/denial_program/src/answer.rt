@@ -5,25 +5,25 @@ ghost use Rattle.domain_records.specs.Order.{IsInOrder, IsOneClass};
 ghost use Rattle.domain_zone.specs.View.{zone_of};
 ghost use Rattle.domain_nsec.specs.Chain.{usual_config, IsFaultless};
 ghost use Rattle.domain_nsec3.specs.Faults.{IsReady};
-ghost use Rattle.domain_lent.specs.Data.{minimum_of, RawRecord};
+ghost use Rattle.domain_borrowed.specs.Data.{minimum_of, RawRecord};
 ghost use Rattle.denial_program.specs.Answer.{usual_nsec3_config, HasNoAnswer, HasNoNsec3s, HasNoNsecs, IsAnswer, IsNsec3s, IsNsecs, IsUnwritten, IsWritten, Sorts};
 ghost use Rattle.denial_program.specs.Fault.{IsBeforeOutput};
 ghost use Rattle.denial_program.specs.Text.{answer_text, lines_of, nsec_line, nsec3_line, nsec3s_text};
 ghost use Rattle.denial_program.specs.declared.fault.DenialFault.TheVariants.{OutOfMemory};
 
-use crate::check::{nsec_verdict, nsec3_verdict};
+use crate::check::{nsec_reply, nsec3_reply};
 use crate::command::{Command, Nsec3Params};
 use crate::fault::{DenialFault, fault_of};
 use crate::line::{ZoneName, ZoneOctets};
-use crate::prepare::{lay_apex, lay_zone, sort_zone};
+use crate::prepare::{compact_zone, sort_zone, store_apex};
 use crate::verdict_text::VerdictText;
 use bumpalo::Bump;
 use domain_base::ParsedName;
+use domain_borrowed::BorrowedRecord;
 use domain_dnssec::{
     GenerateNsec3Config, GenerateNsecConfig, InPlaceSorter, Nsec3Chain, Nsec3Hasher, NsecChain,
     RecordsIter, SigningError, Verdict,
 };
-use domain_lent::LentRecord;
 use std::alloc::Global;
 use std::io;
 use std::io::Write;
@@ -47,7 +47,7 @@ pub enum Reply<'s, 'a> {
 pub fn nsecs_of<'s, 'a>(
     alloc: Global,
     apex: &'s ParsedName<'a>,
-    sorted: &'s [LentRecord<'a>],
+    sorted: &'s [BorrowedRecord<'a>],
 ) -> Result<Reply<'s, 'a>, DenialFault>
     requires one_class { IsOneClass sorted.now }
     requires in_order { IsInOrder (λ n. n) (λ d. d.rtype) sorted.now }
@@ -74,7 +74,7 @@ fn nsec3s_of<'s, 'a, H: Nsec3Hasher>(
     alloc: Global,
     apex: &'s ParsedName<'a>,
     parameters: Nsec3Params,
-    sorted: &[LentRecord<'a>],
+    sorted: &[BorrowedRecord<'a>],
     hasher: &H,
 ) -> Result<Reply<'s, 'a>, DenialFault>
     requires one_class { IsOneClass sorted.now }
@@ -178,13 +178,13 @@ impl<'s, 'a> Reply<'s, 'a> {
 }
 
 /// Writes the NSEC chain of the zone that the records are. They are sorted first, and the octets of
-/// their owners laid into the arena once more, in order: the walk over them, and the chain that
-/// borrows them, go over these from one end to the other.
+/// their owners compacted into the arena once more, in order: the walk over them, and the chain
+/// that borrows them, go over these from one end to the other.
 fn write_nsecs_of<'a, W: Write>(
     alloc: Global,
     arena: &'a Bump,
     apex: &ZoneName,
-    records: Vec<LentRecord<'a>>,
+    records: Vec<BorrowedRecord<'a>>,
     output: &mut W,
 ) -> Result<(), DenialFault>
     ensures ok { OnOk result (IsWritten (IsNsecs records.entry.items apex.now)
@@ -195,9 +195,9 @@ fn write_nsecs_of<'a, W: Write>(
     ensures untouched { IfErr result (λ e. IsBeforeOutput e → output.new ≡ output.old) }
 {
     let sorted = sort_zone(records)?;
-    let apex = lay_apex(arena, apex)?;
-    let laid = lay_zone(arena, sorted)?;
-    let answer = nsecs_of(alloc, &apex, &laid)?;
+    let apex = store_apex(arena, apex)?;
+    let compacted = compact_zone(arena, sorted)?;
+    let answer = nsecs_of(alloc, &apex, &compacted)?;
     answer.send(output)
 }
 
@@ -208,7 +208,7 @@ fn write_nsec3s_of<'a, W: Write, H: Nsec3Hasher>(
     arena: &'a Bump,
     apex: &ZoneName,
     parameters: Nsec3Params,
-    records: Vec<LentRecord<'a>>,
+    records: Vec<BorrowedRecord<'a>>,
     hasher: &H,
     output: &mut W,
 ) -> Result<(), DenialFault>
@@ -221,7 +221,7 @@ fn write_nsec3s_of<'a, W: Write, H: Nsec3Hasher>(
     ensures untouched { IfErr result (λ e. IsBeforeOutput e → output.new ≡ output.old) }
 {
     let sorted = sort_zone(records)?;
-    let apex = lay_apex(arena, apex)?;
+    let apex = store_apex(arena, apex)?;
     let answer = nsec3s_of(alloc, &apex, parameters, &sorted, hasher)?;
     answer.send(output)
 }
@@ -240,7 +240,7 @@ pub fn write_answer<'a, W: Write, H: Nsec3Hasher>(
     alloc: Global,
     arena: &'a Bump,
     command: Command,
-    records: Vec<LentRecord<'a>>,
+    records: Vec<BorrowedRecord<'a>>,
     hasher: &H,
     output: &mut W,
 ) -> Result<(), DenialFault>
@@ -257,11 +257,11 @@ pub fn write_answer<'a, W: Write, H: Nsec3Hasher>(
             write_nsec3s_of(alloc, arena, &apex, parameters, records, hasher, output)
         }
         Command::CheckNsec(question) => {
-            let answer = nsec_verdict(question, records);
+            let answer = nsec_reply(question, records);
             answer.send(output)
         }
         Command::CheckNsec3(question) => {
-            let answer = nsec3_verdict(alloc, question, records, hasher)?;
+            let answer = nsec3_reply(alloc, question, records, hasher)?;
             answer.send(output)
         }
     }

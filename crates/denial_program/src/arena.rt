@@ -5,7 +5,7 @@ ghost use Rattle.domain_rdata.specs.Zone.{canonical_octets};
 use crate::line::{ZoneData, ZoneName};
 use bumpalo::Bump;
 use domain_base::{ParsedName, Rtype, ToName};
-use domain_lent::{LentData, LentRecord};
+use domain_borrowed::{BorrowedData, BorrowedRecord};
 use domain_octets::OutOfMemory;
 use domain_record::{ComposeRecordData, Record, RecordData};
 use std::alloc::Global;
@@ -40,7 +40,7 @@ impl<'a> Store<'a> {
     }
 
     /// A copy of the octets of data in canonical form (RFC 4034, section 6.2), as data of a type.
-    pub fn data(&mut self, rtype: Rtype, data: &ZoneData) -> Result<LentData<'a>, OutOfMemory>
+    pub fn data(&mut self, rtype: Rtype, data: &ZoneData) -> Result<BorrowedData<'a>, OutOfMemory>
         ensures { IfOk result (λ stored. stored ≡ record {
           rtype = rtype;
           octets = canonical_octets (λ o. o) (λ n. n) «data».now;
@@ -51,13 +51,13 @@ impl<'a> Store<'a> {
             return Err(OutOfMemory);
         };
         let octets = self.arena.try_alloc_slice_copy(&self.octets)?;
-        Ok(LentData::new(rtype, octets))
+        Ok(BorrowedData::new(rtype, octets))
     }
 }
 
 /// The wire form of a name in the arena: `last`, where it is spelled like that, or a copy.
-fn lay_wire<'a>(arena: &'a Bump, last: &'a [u8], wire: &[u8]) -> Result<&'a [u8], OutOfMemory>
-    ensures { IfOk result (λ laid. laid.now ≡ wire.now) }
+fn compact_wire<'a>(arena: &'a Bump, last: &'a [u8], wire: &[u8]) -> Result<&'a [u8], OutOfMemory>
+    ensures { IfOk result (λ compacted. compacted.now ≡ wire.now) }
 {
     if last == wire {
         return Ok(last);
@@ -68,19 +68,19 @@ fn lay_wire<'a>(arena: &'a Bump, last: &'a [u8], wire: &[u8]) -> Result<&'a [u8]
 
 /// Lays the owners of records into the arena once more, in the order of the records, so that who
 /// goes over them goes over the arena from one end to the other.
-pub fn lay_owners<'a>(
+pub fn compact_owners<'a>(
     arena: &'a Bump,
-    mut records: Vec<LentRecord<'a>>,
-) -> Result<Vec<LentRecord<'a>>, OutOfMemory>
-    ensures { IfOk result (λ laid. laid.items ≡ records.entry.items) }
+    mut records: Vec<BorrowedRecord<'a>>,
+) -> Result<Vec<BorrowedRecord<'a>>, OutOfMemory>
+    ensures { IfOk result (λ compacted. compacted.items ≡ records.entry.items) }
 {
     let mut last: &'a [u8] = &[];
     for i in 0..records.len() {
         let stored = &records[i];
-        last = lay_wire(arena, last, stored.owner().as_wire())?;
-        let data = LentData::new(stored.rtype(), stored.data().octets());
-        let laid = Record::new(ParsedName::over(last), stored.class(), stored.ttl(), data);
-        records[i] = laid;
+        last = compact_wire(arena, last, stored.owner().as_wire())?;
+        let data = BorrowedData::new(stored.rtype(), stored.data().octets());
+        let compacted = Record::new(ParsedName::over(last), stored.class(), stored.ttl(), data);
+        records[i] = compacted;
     }
     Ok(records)
 }

@@ -13,15 +13,17 @@ use crate::command::Question;
 use crate::fault::DenialFault;
 use crate::line::ZoneName;
 use domain_base::{ParsedName, ToName};
+use domain_borrowed::{
+    BorrowedRecord, ReadNsec3, ReadNsec3param, into_nsec, into_nsec3, into_nsec3param,
+};
 use domain_dnssec::{Nsec3Hasher, Nsec3Records, NsecCheck, check_nsec3};
 use domain_hasher::Nsec3HashError;
-use domain_lent::{LentRecord, ReadNsec3, ReadNsec3param, into_nsec, into_nsec3, into_nsec3param};
 use domain_octets::OutOfMemory;
 use domain_records::SigningError;
 use std::alloc::Global;
 
 /// Hands in the NSEC records among these, in their order.
-fn hand_in<'a>(check: &mut NsecCheck<'_>, records: Vec<LentRecord<'a>>)
+fn hand_in<'a>(check: &mut NsecCheck<'_>, records: Vec<BorrowedRecord<'a>>)
     ensures { (links : List Link) × AreNsecs records.entry.items links
         × ((a x : Name) (t : ℕ) (before : List Link) → HasRead a x t before check.old
         → HasRead a x t (before ++ links) check.new) }
@@ -37,7 +39,7 @@ fn hand_in<'a>(check: &mut NsecCheck<'_>, records: Vec<LentRecord<'a>>)
 /// The NSEC3 records among these, in their order.
 fn nsec3s_among<'a>(
     alloc: Global,
-    records: Vec<LentRecord<'a>>,
+    records: Vec<BorrowedRecord<'a>>,
 ) -> Result<Vec<ReadNsec3<'a>>, OutOfMemory>
     ensures { IfOk result (λ nsec3s.
         AreNsec3s records.entry.items (hashed_links_of (λ n. n) nsec3s.items)) }
@@ -56,7 +58,7 @@ fn nsec3s_among<'a>(
 fn params_at<'a>(
     alloc: Global,
     apex: &ZoneName,
-    records: &[LentRecord<'a>],
+    records: &[BorrowedRecord<'a>],
 ) -> Result<Vec<ReadNsec3param<'a>>, OutOfMemory>
     ensures { IfOk result (λ params.
         AreParams apex.now records.now (map (as_param_record (λ n. n)) params.items)) }
@@ -74,7 +76,7 @@ fn params_at<'a>(
 }
 
 /// What the NSEC records among these prove.
-pub fn nsec_verdict<'s, 'a>(question: Question, records: Vec<LentRecord<'a>>) -> Reply<'s, 'a>
+pub fn nsec_reply<'s, 'a>(question: Question, records: Vec<BorrowedRecord<'a>>) -> Reply<'s, 'a>
     ensures { IsNsecVerdict records.entry.items question result }
 {
     let Question { apex, name, rtype } = question;
@@ -92,7 +94,7 @@ pub fn nsec_verdict<'s, 'a>(question: Question, records: Vec<LentRecord<'a>>) ->
 pub fn chain_of<'a>(
     alloc: Global,
     apex: &ZoneName,
-    records: Vec<LentRecord<'a>>,
+    records: Vec<BorrowedRecord<'a>>,
 ) -> Result<Nsec3Records<ParsedName<'a>, &'a [u8]>, DenialFault>
     ensures param { IfOk result (λ chain. AreParams apex.now records.entry.items
         (as_param_record (λ n. n) chain.nsec3param ∷ [])) }
@@ -112,10 +114,10 @@ pub fn chain_of<'a>(
 }
 
 /// What the NSEC3 records among these prove.
-pub fn nsec3_verdict<'s, 'a, H: Nsec3Hasher>(
+pub fn nsec3_reply<'s, 'a, H: Nsec3Hasher>(
     alloc: Global,
     question: Question,
-    records: Vec<LentRecord<'a>>,
+    records: Vec<BorrowedRecord<'a>>,
     hasher: &H,
 ) -> Result<Reply<'s, 'a>, DenialFault>
     ensures ok { IfOk result (IsNsec3Verdict (H.answer hasher.now) records.entry.items question) }

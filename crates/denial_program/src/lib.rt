@@ -27,3 +27,4 @@ pub use line::{ZoneName, ZoneOctets};
 pub use prepare::{PrepareError, read_records, sort_zone};
 pub use process::{BUFFER, words_of};
 pub use program::run_denial;
+pub use reading::without_end;

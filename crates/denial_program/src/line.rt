@@ -8,7 +8,7 @@ ghost use Rattle.denial_program.specs.declared.line.LineError.TheVariants.{OutOf
 use crate::arena::Store;
 use crate::last_owner::LastOwner;
 use domain_base::{Class, FromToken, IterScanner, Name, Rtype, ScanError, Scanner, Ttl};
-use domain_lent::LentRecord;
+use domain_borrowed::BorrowedRecord;
 use domain_octets::{OutOfMemory, SmallOctets};
 use domain_rdata::ZoneRecordData;
 use domain_record::Record;
@@ -24,7 +24,7 @@ pub type ZoneName = Name<ZoneOctets>;
 /// The words of a line. Those of most records, up to eight, take no memory.
 type LineWords<'a> = SmallVec<&'a str, 8>;
 
-/// Data as they are read, before they are laid into an arena.
+/// Data as they are read, before they are compacted into an arena.
 pub type ZoneData = ZoneRecordData<ZoneOctets, ZoneName>;
 
 /// What a line says.
@@ -33,7 +33,7 @@ pub enum Line<'a> {
     /// It is blank, or a comment.
     Nothing,
     /// A record, with its owner and the canonical form of its data in an arena.
-    Record(LentRecord<'a>),
+    Record(BorrowedRecord<'a>),
     /// None of these.
     Bad,
 }
@@ -147,7 +147,7 @@ fn scan_record<'a, S: Scanner<Name = ZoneName, Octets = ZoneOctets>>(
     store: &mut Store<'a>,
     last: &mut LastOwner<'a>,
     scanner: &mut S,
-) -> Result<LentRecord<'a>, LineError>
+) -> Result<BorrowedRecord<'a>, LineError>
     ensures ok { IfOk result (LineText (S.tokens scanner.old)) }
     ensures err { IfErr result (SpellsNone (S.tokens scanner.old)) }
 {
@@ -169,7 +169,7 @@ fn record_of<'a, 'w>(
     store: &mut Store<'a>,
     last: &mut LastOwner<'a>,
     words: &'w [&'w str],
-) -> Result<LentRecord<'a>, LineError>
+) -> Result<BorrowedRecord<'a>, LineError>
     ensures ok { IfOk result (LineText (map (λ w. w.now) words.now)) }
     ensures err { IfErr result (SpellsNone (map (λ w. w.now) words.now)) }
 {

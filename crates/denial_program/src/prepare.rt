@@ -12,15 +12,15 @@ ghost use Rattle.denial_program.specs.Command.{Asks, IsNoCommand};
 ghost use Rattle.denial_program.specs.Fault.{IsAfterInput, IsReadingFault, IsReadToEnd, prepare_error};
 ghost use Rattle.denial_program.specs.Listing.{Give, IsFirstBad};
 
-use crate::arena::{lay_owners, store_name};
+use crate::arena::{compact_owners, store_name};
 use crate::command::{Command, command_of};
 use crate::fault::DenialFault;
 use crate::line::ZoneName;
 use crate::reading::read_lines;
 use bumpalo::Bump;
 use domain_base::ParsedName;
+use domain_borrowed::{BorrowedData, BorrowedRecord};
 use domain_dnssec::{RecordsIter, SortedRecords};
-use domain_lent::{LentData, LentRecord};
 use domain_octets::OutOfMemory;
 use std::alloc::Global;
 use std::io::BufRead;
@@ -69,7 +69,7 @@ pub fn read_records<'a, R: BufRead>(
     alloc: Global,
     arena: &'a Bump,
     input: &mut R,
-) -> Result<Vec<LentRecord<'a>>, DenialFault>
+) -> Result<Vec<BorrowedRecord<'a>>, DenialFault>
     ensures ok { IfOk result (λ v.
         IfSome (R.remaining input.old) (λ all. Give (lines all) v.items)) }
     ensures err { IfErr result IsReadingFault }
@@ -92,7 +92,9 @@ pub fn read_records<'a, R: BufRead>(
 /// # Errors
 ///
 /// `MixedClasses` where the records are not of one class, and else `Unprepared`.
-pub fn sort_zone<'a>(records: Vec<LentRecord<'a>>) -> Result<Vec<LentRecord<'a>>, DenialFault>
+pub fn sort_zone<'a>(
+    records: Vec<BorrowedRecord<'a>>,
+) -> Result<Vec<BorrowedRecord<'a>>, DenialFault>
     ensures sorts { IfOk result (λ sorted. Sorts records.entry.items sorted.items) }
     ensures one_class { IfOk result (λ sorted. IsOneClass sorted.items) }
     ensures in_order { IfOk result (λ sorted. IsInOrder (λ n. n) (λ d. d.rtype) sorted.items) }
@@ -101,7 +103,7 @@ pub fn sort_zone<'a>(records: Vec<LentRecord<'a>>) -> Result<Vec<LentRecord<'a>>
     if !RecordsIter::new_from_owned(records.as_slice()).is_one_class() {
         return Err(DenialFault::MixedClasses);
     }
-    let sorted: SortedRecords<ParsedName<'a>, LentData<'a>> = match SortedRecords::from_vec(
+    let sorted: SortedRecords<ParsedName<'a>, BorrowedData<'a>> = match SortedRecords::from_vec(
         records,
     ) {
         Ok(sorted) => sorted,
@@ -115,7 +117,7 @@ pub fn sort_zone<'a>(records: Vec<LentRecord<'a>>) -> Result<Vec<LentRecord<'a>>
 /// # Errors
 ///
 /// `Unprepared`.
-pub fn lay_apex<'a>(arena: &'a Bump, apex: &ZoneName) -> Result<ParsedName<'a>, DenialFault>
+pub fn store_apex<'a>(arena: &'a Bump, apex: &ZoneName) -> Result<ParsedName<'a>, DenialFault>
     ensures ok { IfOk result (λ copy. copy ≡ apex.now) }
     ensures err { IfErr result (λ e. e ≡ DenialFault.Unprepared prepare_error) }
 {
@@ -125,20 +127,20 @@ pub fn lay_apex<'a>(arena: &'a Bump, apex: &ZoneName) -> Result<ParsedName<'a>, 
     }
 }
 
-/// The records, with the octets of their owners laid into the arena once more, in order.
+/// The records, with the octets of their owners compacted into the arena once more, in order.
 ///
 /// # Errors
 ///
 /// `Unprepared`.
-pub fn lay_zone<'a>(
+pub fn compact_zone<'a>(
     arena: &'a Bump,
-    sorted: Vec<LentRecord<'a>>,
-) -> Result<Vec<LentRecord<'a>>, DenialFault>
-    ensures ok { IfOk result (λ laid. laid.items ≡ sorted.entry.items) }
+    sorted: Vec<BorrowedRecord<'a>>,
+) -> Result<Vec<BorrowedRecord<'a>>, DenialFault>
+    ensures ok { IfOk result (λ compacted. compacted.items ≡ sorted.entry.items) }
     ensures err { IfErr result (λ e. e ≡ DenialFault.Unprepared prepare_error) }
 {
-    match lay_owners(arena, sorted) {
-        Ok(laid) => Ok(laid),
+    match compact_owners(arena, sorted) {
+        Ok(compacted) => Ok(compacted),
         Err(_) => Err(unprepared()),
     }
 }

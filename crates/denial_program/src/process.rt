@@ -12,7 +12,8 @@ pub const BUFFER: usize = 65536;
 ///
 /// # Errors
 ///
-/// `OutOfMemory` where there was no memory; `Usage` where a word is no text, and so asks for nothing.
+/// `OutOfMemory` where there was no memory; `Usage` where a word is no text, and so asks for
+/// nothing.
 pub fn words_of(rt: &HostRuntime) -> Result<Vec<String>, DenialFault>
     ensures { IfErr result (λ e. (e ≡ denial_fault.Usage) ⊎ (e ≡ denial_fault.OutOfMemory)) }
 {

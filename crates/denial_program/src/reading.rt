@@ -14,14 +14,14 @@ use crate::fault::{DenialFault, fault_of};
 use crate::last_owner::LastOwner;
 use crate::line::{Line, read_line};
 use bumpalo::Bump;
-use domain_lent::LentRecord;
+use domain_borrowed::BorrowedRecord;
 use memchr::memchr;
 use std::alloc::Global;
 use std::io;
 use std::io::{BufRead, ErrorKind};
 
 /// A line without its end: a line feed, and a carriage return before it.
-fn without_end(line: &[u8]) -> &[u8]
+pub fn without_end(line: &[u8]) -> &[u8]
     ensures ended { (front : Octets) → line.now ≡ front ++ line_feed ∷ []
         → result.now ≡ strip_carriage_return front }
     ensures last { slice_index line.now (length line.now - 1) ≢ line_feed → result.now ≡ line.now }
@@ -84,7 +84,7 @@ pub fn read_lines<'a, R: BufRead>(
     alloc: Global,
     arena: &'a Bump,
     input: &mut R,
-) -> Result<Vec<LentRecord<'a>>, DenialFault>
+) -> Result<Vec<BorrowedRecord<'a>>, DenialFault>
     ensures ok { IfOk result (λ v.
         IfSome (R.remaining input.old) (λ all. Give (lines all) v.items)) }
     ensures err { IfErr result (λ e. (e ≡ OutOfMemory) ⊎ IsReadingFault e) }

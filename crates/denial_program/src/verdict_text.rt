@@ -1,9 +1,9 @@
 //! Verdicts as they are printed.
-ghost use Rattle.std.specs.Prelude.{◌≡◌, ◌-◌, Some, drop, length};
+ghost use Rattle.std.specs.Prelude.{◌≡◌, Some};
 ghost use Rattle.denial_program.specs.Check.{verdict_text};
 
 use crate::line::ZoneName;
-use domain_base::{ParsedName, ToName};
+use domain_base::ToName;
 use domain_dnssec::Verdict;
 use std::fmt;
 
@@ -24,33 +24,6 @@ impl<'a> VerdictText<'a> {
     }
 }
 
-/// How many labels the name has.
-fn count_labels(name: &ZoneName) -> usize
-    ensures { result ≡ length name.now }
-{
-    let mut count = 0;
-    let mut left = name.labels();
-    'labels: while left.next().is_some() {
-        count += 1;
-    }
-    count
-}
-
-/// The last so many labels of a name.
-fn last_labels(name: &ZoneName, count: usize) -> ParsedName<'_>
-    ensures { result ≡ drop (length name.now - count) name.now }
-{
-    let above = count_labels(name).saturating_sub(count);
-    let mut left = name.as_parsed();
-    'ancestors: for _passed in 0..above {
-        let Some(parent) = left.parent() else {
-            return left;
-        };
-        left = parent;
-    }
-    left
-}
-
 impl fmt::Display for VerdictText<'_> {
     ghost output = { λ t. Some (verdict_text t.name.now t.verdict) };
 
@@ -62,18 +35,10 @@ impl fmt::Display for VerdictText<'_> {
             Verdict::NoType => f.write_str("no type"),
             Verdict::EmptyName => f.write_str("empty name"),
             Verdict::OptOut(count) => {
-                write!(
-                    f,
-                    "opt-out {}",
-                    last_labels(self.name, count).fmt_with_dot()
-                )
+                write!(f, "opt-out {}", self.name.last_labels(count).fmt_with_dot())
             }
             Verdict::NoName(count) => {
-                write!(
-                    f,
-                    "no name {}",
-                    last_labels(self.name, count).fmt_with_dot()
-                )
+                write!(f, "no name {}", self.name.last_labels(count).fmt_with_dot())
             }
             Verdict::NotProven => f.write_str("not proven"),
         }

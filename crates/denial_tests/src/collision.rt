@@ -1,10 +1,11 @@
-//! The first two names of a chain that hash alike, as C is told them, over a hasher by which many do.
+//! The first two names of a chain that hash alike, as C is told them, over a hasher by which many
+//! do.
 use crate::alike::LengthHasher;
 use denial_program::sort_zone;
 use domain_alike::{first_alike, write_lowered};
 use domain_base::{ParsedName, ToName};
+use domain_borrowed::{BorrowedRecord, read_record};
 use domain_dnssec::{GenerateNsec3Config, InPlaceSorter, Nsec3Hasher, Parser, Sha1Hasher};
-use domain_lent::{LentRecord, read_record};
 use std::alloc::Global;
 use std::test::Fail;
 
@@ -38,7 +39,7 @@ fn records_in<'a>(
     alloc: Global,
     octets: &'a [u8],
     count: usize,
-) -> Result<Vec<LentRecord<'a>>, Fail> {
+) -> Result<Vec<BorrowedRecord<'a>>, Fail> {
     let mut parser = Parser::new(octets);
     let mut records = Vec::new(alloc);
     for _place in 0..count {

@@ -1,6 +1,6 @@
 -- Names that have one hash, found in a list of names in canonical order.
 use Rattle.std.proofs.Common.{◌≡◌, ◌⊎◌, ℕ, Bool, true, false, cond, List, [], ◌∷◌, ◌++◌, map, refl, sym, ap, ◌∙◌, inl, inr, subst}
-use Rattle.std.proofs.Common.{append-nil, Option, Some, None, Bor, is_some, option_map, Result, Ok, Err, IfErr, IsErrAnd, ◌+◌, ◌<◌}
+use Rattle.std.proofs.Common.{append-nil, Option, Some, None, Bor, is_some, option_map, Ok, Err, ◌+◌, ◌<◌}
 use Rattle.std.proofs.Common.{drop, get_or, length, take}
 use Rattle.std.specs.Cmp.Lexicographic.{slice_cmp, bytes_decides, nat_list_cmp_total, texts_ties}
 use Rattle.std.specs.List.{find, list_any, AllByRecursion}
@@ -13,6 +13,7 @@ use Rattle.std.proofs.lemmas.List.{drop_more, map-append, take-append-drop}
 use Rattle.std.proofs.lemmas.List.Elements.{All-from_recursion, recursion_from_All}
 use Rattle.std.proofs.lemmas.List.Folds.{find-append, list_any-append}
 use Rattle.domain_octets.specs.Words.{Octets}
+use Rattle.domain_octets.proofs.StdLemmas.{or_none}
 use Rattle.domain_base.specs.Name.{same_name, wire_of}
 use Rattle.domain_base.specs.Order.{before}
 use Rattle.domain_base.specs.Words.{Name}
@@ -99,10 +100,6 @@ module _ (test : Name → Bool) (n : Name) (names : List Name) where
 
   first_passed : test n ≡ false → find test (names ++ n ∷ []) ≡ find test names
   first_passed e = find-append test names (n ∷ []) ∙ ap (λ b. option_or (find test names) (cond b (Some n) None)) e ∙ or_none (find test names)
-    where
-      or_none : (o : Option Name) → option_or o None ≡ o
-      or_none None = refl
-      or_none (Some x) = refl
 
   first_new : find test names ≡ None → test n ≡ true → find test (names ++ n ∷ []) ≡ Some n
   first_new h e = find-append test names (n ∷ []) ∙ ap (λ o. option_or o (find test (n ∷ []))) h ∙ ap (λ b. cond b (Some n) None) e
@@ -367,11 +364,6 @@ module _ (L : List ZoneRecord) (a : Name) (config : ChainConfig) where
 -- no memory, or the refusal of a number
 abbrev pub IsRefusedBy : (ℕ → Type 0) → Nsec3HashError → Type 0
 IsRefusedBy refused e = (e ≡ hash_error.OutOfMemory) ⊎ ((n : ℕ) × (e ≡ hash_error.Hasher n) × refused n)
-
--- an error that was passed on
-pub if_err_of : {X : Type 0} (P : Nsec3HashError → Type 0) (e : Nsec3HashError) (r : Result X Nsec3HashError) → IsErrAnd r (λ f. f ≡ e) → P e → IfErr r P
-if_err_of P e (Ok x) h p = tt
-if_err_of P e (Err f) h p = subst P (sym h) p
 
 -- names none of which is refused
 pub met_hashed : (hash : Hash) (names : List Name) (pairs : List Pair) → Met hash names pairs → AllByRecursion (IsHashed hash) names

@@ -1,7 +1,7 @@
 -- The owners of a list in order and the names above them, gathered one owner after another.
 use Rattle.std.proofs.Common.{◌≡◌, ◌⊎◌, ℕ, ◌+◌, ◌<◌, ◌≤◌, Bool, true, false, cond, not, ◌&&◌, ◌||◌}
-use Rattle.std.proofs.Common.{List, [], ◌∷◌, ◌++◌, length, refl, sym, ap, ◌∙◌, arith, inl, inr, subst}
-use Rattle.std.proofs.Common.{append-nil, append_assoc}
+use Rattle.std.proofs.Common.{List, [], ◌∷◌, ◌++◌, length, refl, sym, ap, ◌∙◌, arith, inl, inr}
+use Rattle.std.proofs.Common.{append-nil}
 use Rattle.std.specs.Prelude.{All, filter, nat_le, nat_lt}
 use Rattle.std.specs.List.{AllByRecursion, list_any}
 use Rattle.std.specs.List.Sorted.{IsStrictlySortedBy}
@@ -11,9 +11,10 @@ use Rattle.std.proofs.lemmas.Bool.{cases_Bool, false≢true, leb-true, and_parts
 use Rattle.std.proofs.lemmas.Bool.Decides.{nat_tests}
 use Rattle.std.proofs.lemmas.List.Elements.{recursion_from_All, All-from_recursion}
 use Rattle.std.proofs.lemmas.List.Folds.{list_any-append}
+use Rattle.domain_octets.proofs.StdLemmas.{and_false}
 use Rattle.domain_base.specs.Name.{is_at_or_below, is_strictly_below, lowered, same_name}
 use Rattle.domain_base.specs.Order.{before, canonical_cmp}
-use Rattle.domain_base.specs.Words.{Label, Name}
+use Rattle.domain_base.specs.Words.{Name}
 use Rattle.domain_zone.specs.Enclosers.{exists_over}
 use Rattle.domain_zone.specs.Zone.{ZoneRecord, OwnersNeverDescend, is_occluded, is_unoccluded, owns, unoccluded_owners}
 use Rattle.domain_zone.proofs.NameLemmas.{before_order, one_lowered, same_itself, below_itself}
@@ -99,15 +100,6 @@ up_has s (label ∷ o) x h more =
 pub up_end : (s : ℕ) (x : Name) (names : List Name) → length x ≤ s → names ≡ names ++ up_with_more s x
 up_end s x names l =
     sym (ap (λ b. names ++ cond b (above_with_more s x ++ x ∷ []) []) (not_less s (length x) l) ∙ append-nil names)
-
--- the name above a name, with those above it, and then the name
-pub up_step : (s : ℕ) (label : Label) (x name : Name) (old mid new : List Name) → name ≡ label ∷ x → s < length name
-    → mid ≡ old ++ up_with_more s x → new ≡ mid ++ name ∷ [] → new ≡ old ++ up_with_more s name
-up_step s label x name old mid new is more m e =
-    let so : up_with_more s (label ∷ x) ≡ up_with_more s x ++ (label ∷ x) ∷ [] =
-    ap (λ b. cond b (above_with_more s (label ∷ x) ++ (label ∷ x) ∷ []) []) (less s (length (label ∷ x)) (subst (λ k. s < length k) is more)) in
-    e ∙ ap (λ l. l ++ name ∷ []) m ∙ append_assoc old (up_with_more s x) (name ∷ [])
-    ∙ ap (λ k. old ++ (up_with_more s x ++ k ∷ [])) is ∙ ap (λ l. old ++ l) (sym so) ∙ ap (λ k. old ++ up_with_more s k) (sym is)
 
 -- a name above one that is longer comes before it
 shorter_first : (o m : Name) → is_at_or_below o m ≡ true → length m < length o → before m o ≡ true
@@ -272,11 +264,7 @@ gathered_end a owners names p h low some = record {
 -- over no owners nothing exists
 pub none_over : (a : Name) (owners : List Name) → length owners ≡ 0 → IsListOf (exists_over owners a) []
 unfolding IsStrictlySortedBy
-none_over a [] none = record { ascend = tt; exactly = λ x. sym (no (is_at_or_below x a)) }
-  where
-    no : (b : Bool) → (b && false) ≡ false
-    no true = refl
-    no false = refl
+none_over a [] none = record { ascend = tt; exactly = λ x. sym (and_false (is_at_or_below x a)) }
 none_over a (o ∷ owners) none = absurd (omega (arith, none))
 
 -- ---- the owners of a chain

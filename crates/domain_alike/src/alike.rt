@@ -1,7 +1,7 @@
 //! Which names of a chain hash alike.
 ghost use Rattle.std.specs.Prelude.{◌≡◌, ◌⊎◌, ℕ, ◌++◌, ◌∷◌, [], List, Ok, Err, IfErr, IfOk, OnOk, map, option_map, slice_get};
 ghost use Rattle.domain_base.specs.Words.{Name};
-ghost use Rattle.domain_lent.specs.Data.{minimum_of};
+ghost use Rattle.domain_borrowed.specs.Data.{minimum_of};
 ghost use Rattle.domain_nsec3.specs.Config.{Hash, hash_name};
 ghost use Rattle.domain_nsec3.specs.View.{config_of, hash_by, parameters_of};
 ghost use Rattle.domain_records.specs.Order.{IsInOrder};
@@ -12,10 +12,10 @@ ghost use Rattle.domain_alike.specs.AlikeSteps.{first_with, pair_with, AreFirstN
 
 use crate::chain_names::chain_names;
 use crate::hash_key::HashKey;
-use domain_base::{MAX_NAME, ParsedName};
+use domain_base::{MAX_NAME, ParsedName, ToName};
+use domain_borrowed::BorrowedRecord;
 use domain_chain_rdata::Nsec3param;
-use domain_hasher::{Nsec3HashError, Nsec3Hasher, hash_wire, lower_wire};
-use domain_lent::LentRecord;
+use domain_hasher::{Nsec3HashError, Nsec3Hasher, hash_wire};
 use domain_nsec3::GenerateNsec3Config;
 use domain_octets::{Octets, OutOfMemory, TryClone};
 use std::alloc::Global;
@@ -90,7 +90,7 @@ fn hash_of<O: Octets, H: Nsec3Hasher>(
     let iterations = parameters.iterations();
     let salt = parameters.salt().as_slice();
     let mut buffer = [0; MAX_NAME];
-    let lowered = lower_wire(&mut buffer, name);
+    let lowered = name.lower_wire(&mut buffer);
     match hash_wire(alloc, hasher, algorithm, iterations, salt, lowered) {
         Ok(hash) => Ok(HashKey::new(hash)),
         Err(error) => Err(error),
@@ -155,7 +155,7 @@ fn pairs_of<'a, O: Octets, H: Nsec3Hasher>(
 pub fn alike_names<'a, O: Octets, S, H: Nsec3Hasher>(
     alloc: Global,
     apex: &ParsedName<'a>,
-    sorted: &[LentRecord<'a>],
+    sorted: &[BorrowedRecord<'a>],
     config: &GenerateNsec3Config<O, S>,
     hasher: &H,
 ) -> Result<Vec<Alike<'a>>, Nsec3HashError>
@@ -194,7 +194,7 @@ fn first_of<'a>(pairs: Vec<Alike<'a>>) -> Option<Alike<'a>>
 pub fn first_alike<'a, O: Octets, S, H: Nsec3Hasher>(
     alloc: Global,
     apex: &ParsedName<'a>,
-    sorted: &[LentRecord<'a>],
+    sorted: &[BorrowedRecord<'a>],
     config: &GenerateNsec3Config<O, S>,
     hasher: &H,
 ) -> Result<Option<Alike<'a>>, Nsec3HashError>

@@ -1,34 +1,24 @@
 //! The names of the NSEC3 chain of a zone.
-ghost use Rattle.std.specs.Prelude.{◌≡◌, ◌++◌, ◌&&◌, not, true, length, All, IfOk, OnOk};
+ghost use Rattle.std.specs.Prelude.{◌≡◌, ◌++◌, not, true, length, All, IfOk, OnOk};
 ghost use Rattle.std.specs.List.Sorted.{IsStrictlySortedBy};
 ghost use Rattle.domain_base.specs.Name.{is_at_or_below};
 ghost use Rattle.domain_base.specs.Order.{canonical_cmp};
-ghost use Rattle.domain_base.specs.Types.{ds};
-ghost use Rattle.domain_lent.specs.Data.{minimum_of};
+ghost use Rattle.domain_borrowed.specs.Data.{minimum_of};
 ghost use Rattle.domain_nsec3.specs.Ancestors.{IsListOf};
 ghost use Rattle.domain_nsec3.specs.Config.{excludes, ChainConfig};
 ghost use Rattle.domain_nsec3.specs.Owners.{is_chain_name};
 ghost use Rattle.domain_records.specs.Order.{IsInOrder};
 ghost use Rattle.domain_zone.specs.Enclosers.{exists_over};
 ghost use Rattle.domain_zone.specs.View.{zone_of};
-ghost use Rattle.domain_zone.specs.Zone.{has_type};
 ghost use Rattle.domain_alike.specs.AlikeSteps.{up_with_more};
 ghost use Rattle.domain_alike.specs.Covered.{covered_names};
 
-use domain_base::{ParsedName, Rtype, ToName};
-use domain_lent::{LentData, LentRecord};
+use domain_base::{ParsedName, ToName};
+use domain_borrowed::BorrowedRecord;
 use domain_octets::{OutOfMemory, TryClone};
 use domain_records::RecordsIter;
-use domain_zone::{UnoccludedOwner, UnoccludedOwners, has_type};
+use domain_zone::UnoccludedOwners;
 use std::alloc::Global;
-
-/// Whether the owner is a zone cut without DS records, an unsigned delegation.
-pub fn is_unsigned_cut<'a>(owner: &UnoccludedOwner<'a, ParsedName<'a>, LentData<'a>>) -> bool
-    ensures { result ≡ (owner.now.is_zone_cut
-        && not (has_type (zone_of (λ n. n) (λ d. d.rtype) minimum_of owner.now.records) ds)) }
-{
-    owner.is_zone_cut && !has_type(owner.records.records(), Rtype::DS)
-}
 
 /// The owners at or below the apex that are not occluded, in canonical order. Unsigned delegations
 /// are left out where `without_unsigned` says so, and names below the owner of a DNAME record where
@@ -36,7 +26,7 @@ pub fn is_unsigned_cut<'a>(owner: &UnoccludedOwner<'a, ParsedName<'a>, LentData<
 fn owners_of<'a>(
     alloc: Global,
     apex: &ParsedName<'a>,
-    sorted: &[LentRecord<'a>],
+    sorted: &[BorrowedRecord<'a>],
     without_unsigned: bool,
     below_dname: bool,
 ) -> Result<Vec<ParsedName<'a>>, OutOfMemory>
@@ -48,7 +38,7 @@ fn owners_of<'a>(
     let mut left = UnoccludedOwners::new(apex, RecordsIter::new_from_owned(sorted), below_dname);
     let mut owners = Vec::new(alloc);
     'owners: while let Some(owner) = left.next() {
-        if without_unsigned & is_unsigned_cut(&owner) {
+        if without_unsigned & owner.is_unsigned_cut() {
             continue;
         }
         owners.push(owner.name.try_clone()?)?;
@@ -109,11 +99,12 @@ fn names_over<'a>(
 
 /// The names of the NSEC3 chain of sorted records, in canonical order: the owners that are not
 /// occluded, and the empty non-terminals over them. Unsigned delegations are left out where
-/// `without_unsigned` says so, and names below the owner of a DNAME record where `below_dname` does.
+/// `without_unsigned` says so, and names below the owner of a DNAME record where `below_dname`
+/// does.
 pub fn chain_names<'a>(
     alloc: Global,
     apex: &ParsedName<'a>,
-    sorted: &[LentRecord<'a>],
+    sorted: &[BorrowedRecord<'a>],
     without_unsigned: bool,
     below_dname: bool,
 ) -> Result<Vec<ParsedName<'a>>, OutOfMemory>

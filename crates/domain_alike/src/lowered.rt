@@ -4,14 +4,15 @@ ghost use Rattle.domain_base.specs.Name.{lowered, wire_of};
 
 use domain_base::{MAX_NAME, ParsedName, ToName};
 
-/// Writes the wire form of a name in lower case, as it is hashed, to the beginning of a buffer. What
-/// follows it stays.
+/// Writes the wire form of a name in lower case, as it is hashed, to the beginning of a buffer.
+/// What follows it stays.
 pub fn write_lowered(name: &ParsedName<'_>, buffer: &mut [u8; MAX_NAME])
     ensures { buffer.new
         ≡ wire_of (lowered name.now) ++ drop (length (wire_of name.now)) buffer.old }
 {
-    let wire = name.as_wire();
-    let front = &mut buffer[..wire.len()];
-    front.copy_from_slice(wire);
-    front.make_ascii_lowercase();
+    // The wire form of a name has at most 255 octets.
+    let _wire = name.as_wire();
+    let mut octets = [0; MAX_NAME];
+    let lowered = name.lower_wire(&mut octets);
+    buffer[..lowered.len()].copy_from_slice(lowered);
 }

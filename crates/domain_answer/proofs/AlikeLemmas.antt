@@ -2,7 +2,7 @@
 use Rattle.std.proofs.Common.{◌≡◌, ℕ, Bool, cond, not, ◌&&◌, ◌||◌, List, [], ◌∷◌, length, refl, ◌∙◌, Option, Some, None}
 use Rattle.std.specs.Prelude.{◌==◌}
 use Rattle.std.specs.List.{find}
-use Rattle.domain_base.specs.Name.{is_at_or_below, is_strictly_below, lowered}
+use Rattle.domain_base.specs.Name.{is_at_or_below, is_strictly_below, lowered, last_labels}
 use Rattle.domain_base.specs.Order.{before}
 use Rattle.domain_base.specs.Types.{cname, dname, ds, ns, soa}
 use Rattle.domain_base.specs.Words.{Name}
@@ -19,7 +19,7 @@ use Rattle.domain_checker.proofs.PairedLemmas.{OptionsPaired, any_alike, find_al
 use Rattle.domain_checker.proofs.EncloserLemmas.{same_count}
 use Rattle.domain_answer.specs.declared.answer.Answer.TheVariants.{OutsideZone, AtParent, Referral, Redirected, Has, NoDs, Alias, NoData}
 use Rattle.domain_answer.specs.declared.answer.Answer.TheVariants.{Wildcard, WildcardAlias, WildcardNoData, NameError, NoCloserName, NotProven}
-use Rattle.domain_answer.specs.Proved.{is_missing, last_labels, needs_no_records, proved_answer}
+use Rattle.domain_answer.specs.Proved.{is_missing, needs_no_records, proved_answer}
 use Rattle.domain_answer.specs.Reading.{absent_answer, cover_answer, listed_answer, listed_both, match_answer, owner_answer, reading}
 use Rattle.domain_answer.specs.Reading.{tells_occluded, wildcard_both, wildcard_cover_answer, wildcard_match_answer}
 use Rattle.domain_answer.specs.ZoneAnswer.{encloser, is_at_parent, wildcard_below, zone_answer}

@@ -4,12 +4,12 @@ use Rattle.std.proofs.Common.{refl, sym, ap, ◌∙◌, Some, slice_get, arith}
 use Rattle.std.specs.Prelude.{filter}
 use Rattle.std.specs.List.{list_any}
 use Rattle.std.proofs.lemmas.Bool.{or_parts, and_from}
+use Rattle.domain_octets.proofs.StdLemmas.{and_false, and_true}
 use Rattle.domain_bitmap.specs.Blocks.{contains_type}
 use Rattle.domain_base.specs.Name.{is_at_or_below, is_strictly_below, lowered, same_name}
 use Rattle.domain_base.specs.Order.{before}
 use Rattle.domain_base.specs.Types.{dname, ns, soa}
 use Rattle.domain_base.specs.Words.{Name}
-use Rattle.domain_bitmap.proofs.RangeLemmas.{and_false}
 use Rattle.domain_zone.specs.Covering.{matches, covers, pairs}
 use Rattle.domain_zone.specs.Zone.{ZoneRecord, OwnersNeverDescend, has_type, is_occluded, is_zone_cut}
 use Rattle.domain_zone.specs.Zone.{occludes, owns, records_of, unoccluded_owners}
@@ -21,7 +21,7 @@ use Rattle.domain_nsec.specs.declared.config.GenerateNsecConfig.{GenerateNsecCon
 use Rattle.domain_checker.specs.Reading.{is_at_cut}
 use Rattle.domain_checker.proofs.EncloserLemmas.{cut_same, owner_owns}
 use Rattle.domain_checker.proofs.FindLemmas.{in_at}
-use Rattle.domain_checker.proofs.MeantLemmas.{BitmapsAreSets, ChainLaws, IgnoresCase, IsMeant, and_true, cut_at, ends, meant_by, owner_low, type_at}
+use Rattle.domain_checker.proofs.MeantLemmas.{BitmapsAreSets, ChainLaws, IgnoresCase, IsMeant, cut_at, ends, meant_by, owner_low, type_at}
 use Rattle.domain_checker.proofs.MeantLemmas.{covered_no_owner, covered_occluded, matched_low, matched_same}
 use Rattle.domain_answer.specs.TypesAnswer.{is_of_child}
 use Rattle.domain_answer.specs.Proved.{LeavesOutBelowDname}

@@ -1,8 +1,8 @@
 -- How many labels names have: the last ones, and those that names share.
 use Rattle.std.proofs.Common.{◌≡◌, ℕ, ◌≤◌, ◌<◌, ◌-◌, suc, Bool, true, false, cond, not, ◌&&◌, ◌||◌, List, [], ◌∷◌}
-use Rattle.std.proofs.Common.{drop, length, refl, sym, ap, ◌∙◌, subst, inl, inr, arith, ltb, Some, None}
+use Rattle.std.proofs.Common.{drop, length, refl, sym, ap, ◌∙◌, subst, inl, inr, arith, ltb}
 use Rattle.std.proofs.lemmas.Bool.{cases_Bool, cases_lt, false≢true, and_parts, and_from}
-use Rattle.domain_base.specs.Name.{is_at_or_below, is_strictly_below, lowered, parent_of, same_name}
+use Rattle.domain_base.specs.Name.{is_at_or_below, is_strictly_below, lowered, same_name, last_labels}
 use Rattle.domain_base.specs.Order.{before}
 use Rattle.domain_base.specs.Words.{Label, Name}
 use Rattle.domain_zone.specs.Covering.{covers, matches}
@@ -12,7 +12,6 @@ use Rattle.domain_zone.proofs.NameLemmas.{below_root, below_trans, lowered_below
 use Rattle.domain_checker.specs.Verdict.{closest_encloser}
 use Rattle.domain_checker.proofs.SharedLemmas.{shared_within}
 use Rattle.domain_checker.proofs.EncloserLemmas.{strictly_from, strictly_longer}
-use Rattle.domain_answer.specs.Proved.{last_labels}
 
 -- ---- names that are the same, and names below each other
 
@@ -55,18 +54,6 @@ last_count (l ∷ x) n h =
       | inl g ↦ ap length (last_more l x n (omega arith)) ∙ last_count x n (omega arith)
       | inr g ↦ let all : length (l ∷ x) ≡ n = omega arith in ap length (last_all (l ∷ x) n g) ∙ all
     ]
-
-pub parent_some : (x above : Name) (n : ℕ) → parent_of x ≡ Some above → n < length x → last_labels n x ≡ last_labels n above
-parent_some [] above n e h = absurd (cc)
-parent_some (l ∷ x) above n e h = let same : x ≡ above = (cc) in last_more l x n (omega arith) ∙ ap (last_labels n) same
-
-pub parent_length : (x above : Name) → parent_of x ≡ Some above → length x ≡ suc (length above)
-parent_length [] above e = absurd (cc)
-parent_length (l ∷ x) above e = let same : x ≡ above = (cc) in ap (λ y. suc (length y)) same
-
-pub parent_none : (x : Name) → parent_of x ≡ None → length x ≡ 0
-parent_none [] e = refl
-parent_none (l ∷ x) e = absurd (cc)
 
 -- ---- the closest encloser is the last labels of the name
 

@@ -7,7 +7,7 @@ use Rattle.std.proofs.lemmas.Bool.{and_parts, and_from, cases_lt, false≢true}
 use Rattle.std.proofs.lemmas.Bool.Decides.{nat_tests}
 use Rattle.std.proofs.lemmas.List.Elements.{recursion_from_All}
 use Rattle.domain_octets.specs.Words.{Octets}
-use Rattle.domain_base.specs.Name.{is_at_or_below}
+use Rattle.domain_base.specs.Name.{is_at_or_below, last_labels}
 use Rattle.domain_base.specs.Words.{Name}
 use Rattle.domain_chain_rdata.specs.OptOut.{is_opt_out}
 use Rattle.domain_zone.specs.Enclosers.{IsClosestEncloser, exists_over}
@@ -31,7 +31,7 @@ use Rattle.domain_answer.specs.Expansion.{IsExpansionRead, closer_name, closer_t
 use Rattle.domain_answer.specs.Expansion.{is_expanded, proved_expansion}
 use Rattle.domain_answer.specs.HashedReading.{next_answer}
 use Rattle.domain_answer.specs.HashedZoneAnswer.{hashed_encloser, hashed_exists}
-use Rattle.domain_answer.specs.Proved.{CountsWithin, last_labels}
+use Rattle.domain_answer.specs.Proved.{CountsWithin}
 use Rattle.domain_answer.specs.ZoneAnswer.{asterisk, wildcard_below}
 use Rattle.domain_answer.proofs.DefiniteLemmas.{either}
 use Rattle.domain_answer.proofs.CountLemmas.{closest_last, last_above, last_count}

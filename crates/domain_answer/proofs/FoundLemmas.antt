@@ -8,6 +8,7 @@ use Rattle.std.specs.declared.cmp.Ordering.{Ordering}
 use Rattle.std.specs.declared.cmp.Ordering.TheVariants.{Less, Equal, Greater}
 use Rattle.std.proofs.lemmas.Bool.{and_parts, false≢true, le-leb, leb-true}
 use Rattle.std.proofs.lemmas.List.{at_drop_all}
+use Rattle.domain_octets.proofs.StdLemmas.{or_none}
 use Rattle.domain_base.specs.Name.{is_at_or_below, same_name}
 use Rattle.domain_base.specs.Order.{before, canonical_cmp, canonical_cmp_total, common_labels}
 use Rattle.domain_base.specs.Words.{Name}
@@ -21,21 +22,12 @@ use Rattle.domain_checker.specs.Reading.{is_cover, is_match}
 use Rattle.domain_checker.specs.Verdict.{is_inside}
 use Rattle.domain_checker.proofs.FindLemmas.{find_some}
 use Rattle.domain_checker.proofs.FirstLemmas.{match_is_tie}
-use Rattle.domain_checker.proofs.HandedInLemmas.{or_none}
 use Rattle.domain_answer.specs.Found.{IsFound}
 
 pub match_is_same : (x y : Name) → matches before x y ≡ same_name x y
 match_is_same x y = sym (same_is x y)
 
 -- ---- whether a name is covered, by its orders to the owner and to the next name
-
-pub not_true : (b : Bool) → not b ≡ true → b ≡ false
-not_true true e = absurd (false≢true e)
-not_true false e = refl
-
-pub not_false : (b : Bool) → not b ≡ false → b ≡ true
-not_false true e = refl
-not_false false e = absurd (false≢true (sym e))
 
 module _ (o n x : Name) where
   tie_is : matches before o x ≡ is_eq (canonical_cmp x o)

@@ -4,7 +4,7 @@ use Rattle.std.proofs.Common.{nat_eq, Option, Some, None, arith}
 use Rattle.std.specs.List.{find, list_any}
 use Rattle.std.proofs.lemmas.Bool.{cases_Bool, cases_lt, eq-eqb, false≢true}
 use Rattle.domain_octets.specs.Words.{Octets}
-use Rattle.domain_base.specs.Name.{same_name}
+use Rattle.domain_base.specs.Name.{same_name, last_labels}
 use Rattle.domain_base.specs.Types.{cname, dname, ds, ns}
 use Rattle.domain_base.specs.Words.{Name}
 use Rattle.domain_bitmap.specs.Blocks.{contains_type}
@@ -33,7 +33,7 @@ use Rattle.domain_answer.specs.declared.answer.Answer.TheVariants.{NotProven}
 use Rattle.domain_answer.specs.HashedProved.{HasCloserProof, HasEncloserProof, HashedRestsOn}
 use Rattle.domain_answer.specs.HashedReading.{IsHashedRead, IsReadOn, IsWildcardRead, encloser_answer, found_answer}
 use Rattle.domain_answer.specs.HashedReading.{lower_answer, next_answer, own_answer, wildcard_told}
-use Rattle.domain_answer.specs.Proved.{CountsWithin, last_labels}
+use Rattle.domain_answer.specs.Proved.{CountsWithin}
 use Rattle.domain_answer.specs.ZoneAnswer.{wildcard_below}
 use Rattle.domain_answer.proofs.HashedAnswerLemmas.{own_never, read_plain}
 

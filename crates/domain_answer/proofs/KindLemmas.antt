@@ -4,10 +4,10 @@ use Rattle.std.proofs.Common.{refl, sym, ap, ◌∙◌, subst, inl, inr, Option,
 use Rattle.std.specs.Prelude.{◌==◌, filter}
 use Rattle.std.specs.List.{list_any}
 use Rattle.std.proofs.lemmas.Bool.{cases_Bool, false≢true, and_parts, and_from, not-true, not-false, or_left, or_right}
+use Rattle.domain_octets.proofs.StdLemmas.{and_false}
 use Rattle.domain_base.specs.Name.{is_at_or_below, is_strictly_below, lowered, same_name}
 use Rattle.domain_base.specs.Types.{cname, dname, ds, ns}
 use Rattle.domain_base.specs.Words.{Name}
-use Rattle.domain_bitmap.proofs.RangeLemmas.{and_false}
 use Rattle.domain_zone.specs.Zone.{ZoneRecord, distinct, has_type, is_occluded}
 use Rattle.domain_zone.specs.Zone.{is_unoccluded, is_zone_cut, occludes, owns}
 use Rattle.domain_zone.specs.Zone.{records_of, unoccluded_owners}

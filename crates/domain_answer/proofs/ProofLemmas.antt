@@ -4,7 +4,7 @@ use Rattle.std.specs.Prelude.{◌==◌}
 use Rattle.std.specs.List.{find}
 use Rattle.std.proofs.lemmas.Bool.{and_parts, and_from, or_left, or_right}
 use Rattle.domain_bitmap.specs.Blocks.{contains_type}
-use Rattle.domain_base.specs.Name.{is_at_or_below, is_strictly_below}
+use Rattle.domain_base.specs.Name.{is_at_or_below, is_strictly_below, last_labels}
 use Rattle.domain_base.specs.Order.{before}
 use Rattle.domain_base.specs.Types.{cname, ds}
 use Rattle.domain_base.specs.Words.{Name}
@@ -22,7 +22,7 @@ use Rattle.domain_answer.specs.TypesAnswer.{is_of_child}
 use Rattle.domain_answer.specs.declared.answer.Answer.{Answer}
 use Rattle.domain_answer.specs.declared.answer.Answer.TheVariants.{OutsideZone, AtParent, Referral, Redirected, Has, NoDs, Alias, NoData}
 use Rattle.domain_answer.specs.declared.answer.Answer.TheVariants.{Wildcard, WildcardAlias, WildcardNoData, NameError, NoCloserName, NotProven}
-use Rattle.domain_answer.specs.Proved.{CountsWithin, HasBothProofs, RestsOn, last_labels}
+use Rattle.domain_answer.specs.Proved.{CountsWithin, HasBothProofs, RestsOn}
 use Rattle.domain_answer.specs.Reading.{absent_answer, cover_answer, listed_answer, listed_both, match_answer, owner_answer, reading}
 use Rattle.domain_answer.specs.Reading.{tells_occluded, tells_occluder, wildcard_both}
 use Rattle.domain_answer.specs.ZoneAnswer.{is_at_parent, wildcard_below}

@@ -2,7 +2,7 @@
 use Rattle.std.proofs.Common.{◌≡◌, ◌≢◌, ℕ, ◌<◌, Bool, true, false, cond, not, ◌&&◌, ◌||◌, List, length, Option, Some, None, refl, sym, ap, ◌∙◌, subst}
 use Rattle.std.specs.Prelude.{◌==◌}
 use Rattle.std.specs.List.{find}
-use Rattle.domain_base.specs.Name.{is_strictly_below}
+use Rattle.domain_base.specs.Name.{is_strictly_below, last_labels}
 use Rattle.domain_base.specs.Types.{cname, ds}
 use Rattle.domain_base.specs.Words.{Name}
 use Rattle.domain_bitmap.specs.Blocks.{contains_type}
@@ -13,7 +13,6 @@ use Rattle.domain_answer.specs.declared.answer.Answer.{Answer}
 use Rattle.domain_answer.specs.declared.answer.Answer.TheVariants as answer
 use Rattle.domain_answer.specs.declared.answer.NameAnswer.TheVariants.{Given, Absent}
 use Rattle.domain_answer.specs.NameAnswer.{IsNameAnswer, name_answer}
-use Rattle.domain_answer.specs.Proved.{last_labels}
 use Rattle.domain_answer.specs.Reading.{absent_answer, match_answer, owner_answer}
 use Rattle.domain_answer.specs.Reading.{tells_occluded, wildcard_answer, wildcard_both, wildcard_cover_answer, wildcard_match_answer}
 use Rattle.domain_answer.specs.ZoneAnswer.{wildcard_below}

@@ -2,7 +2,7 @@
 use Rattle.std.specs.Prelude.{ℕ, Bool, true, false, not, ◌&&◌, ◌||◌, List, ◌≡◌, All, length, if◌then◌else◌}
 use Rattle.std.specs.List.{Contains}
 use Rattle.domain_octets.specs.Words.{Octets}
-use Rattle.domain_base.specs.Name.{same_name}
+use Rattle.domain_base.specs.Name.{same_name, last_labels}
 use Rattle.domain_base.specs.Types.{dname}
 use Rattle.domain_base.specs.Words.{Name}
 use Rattle.domain_chain_rdata.specs.OptOut.{is_opt_out}
@@ -13,7 +13,7 @@ use Rattle.domain_nsec3.specs.Meaning.{AreAlone, IsAlone}
 use Rattle.domain_nsec3.specs.Owners.{nsec3_lists}
 use Rattle.domain_checker.specs.HashedVerdict.{is_below_chain_cut, is_covered, is_matched, next_closer, IsFirstMatched}
 use Rattle.domain_answer.specs.HashedZoneAnswer.{hashed_encloser, hashed_exists, hashed_zone_answer, HashedLeavesOutBelowDname}
-use Rattle.domain_answer.specs.Proved.{last_labels, needs_no_records}
+use Rattle.domain_answer.specs.Proved.{needs_no_records}
 use Rattle.domain_answer.specs.ZoneAnswer.{wildcard_below}
 use Rattle.domain_answer.specs.declared.answer.Answer.{Answer}
 use Rattle.domain_answer.specs.declared.answer.Answer.TheVariants.{OutsideZone, AtParent, Referral, Redirected, Has, NoDs, Alias, NoData}

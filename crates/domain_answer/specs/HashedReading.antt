@@ -12,7 +12,7 @@ use Rattle.domain_nsec3.specs.Config.{Hash, Parameters, hash_name}
 use Rattle.domain_checker.specs.HashedEncloser.{Encloser, encloser_is_cut, IsEncloser, IsFoundEncloser}
 use Rattle.domain_checker.specs.HashedList.{is_hash_cover, is_hash_match}
 use Rattle.domain_checker.specs.HashedVerdict.{IsFirstRefusal}
-use Rattle.domain_answer.specs.Proved.{last_labels}
+use Rattle.domain_base.specs.Name.{last_labels}
 use Rattle.domain_answer.specs.TypesAnswer.{types_answer, wildcard_types_answer}
 use Rattle.domain_answer.specs.ZoneAnswer.{wildcard_below}
 use Rattle.domain_answer.specs.declared.answer.Answer.{Answer}

@@ -1,7 +1,7 @@
 -- What a list of records of a zone's NSEC chain proves of what the zone says.
-use Rattle.std.specs.Prelude.{ℕ, Bool, true, not, ◌&&◌, ◌||◌, ◌-◌, ◌<◌, ◌≤◌, List, ◌≡◌, All, drop, length, if◌then◌else◌}
+use Rattle.std.specs.Prelude.{ℕ, Bool, true, not, ◌&&◌, ◌||◌, ◌<◌, ◌≤◌, List, ◌≡◌, All, length, if◌then◌else◌}
 use Rattle.std.specs.List.{Contains}
-use Rattle.domain_base.specs.Name.{is_at_or_below}
+use Rattle.domain_base.specs.Name.{is_at_or_below, last_labels}
 use Rattle.domain_base.specs.Words.{Name}
 use Rattle.domain_zone.specs.Zone.{ZoneRecord, OwnersNeverDescend, is_unoccluded, unoccluded_owners}
 use Rattle.domain_nsec.specs.Chain.{IsChain, Link}
@@ -49,10 +49,6 @@ IsAnswered listed a x t answer =
     → LeavesOutBelowDname L a config → OwnersNeverDescend L → IsChain L a config links
     → All (Contains links) listed
     → answer ≡ proved_answer L a config.assume_dnskeys_will_be_added listed x t
-
--- the last n labels of a name that has as many
-abbrev pub last_labels : ℕ → Name → Name
-last_labels n x = drop (length x - n) x
 
 -- a record that is not passed over matches or covers x, and one the wildcard below the last n
 -- labels of x

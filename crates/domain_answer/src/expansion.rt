@@ -10,7 +10,6 @@ ghost use Rattle.domain_answer.specs.Expansion.{ExpansionRestsOn, IsExpansionAns
 ghost use Rattle.domain_answer.specs.Proved.{CountsWithin};
 
 use crate::nsec3::next_answer;
-use crate::wildcard::last_labels;
 use crate::{Answer, laws};
 use domain_base::{ParsedName, ToName};
 use domain_checker::{Nsec3Found, find_nsec3};
@@ -34,7 +33,7 @@ fn closer_name<M: ToName>(name: &M, labels: usize) -> ParsedName<'_>
 {
     // The count of labels is a usize, so that one more than fewer is.
     let _count = name.count_labels();
-    last_labels(name, labels + 1)
+    name.last_labels(labels + 1)
 }
 
 /// What the records say of the name, by what they tell of the next closer name.

@@ -3,8 +3,9 @@ ghost use Rattle.std.specs.Prelude.{◌≡◌, IfSome};
 ghost use Rattle.domain_nsec.specs.ChainView.{links_of};
 ghost use Rattle.domain_answer.specs.Found.{found_cover, found_match, IsCovered, IsFound};
 
-use crate::listed::{NsecRr, cover_of, is_match};
+use crate::listed::{cover_of, is_match};
 use domain_base::ToName;
+use domain_checker::NsecRr;
 use domain_octets::Octets;
 
 /// A record that covers a name.

@@ -11,13 +11,8 @@ ghost use Rattle.domain_answer.specs.Reading.{tells_occluded, tells_occluder};
 
 use crate::found::NsecCover;
 use domain_base::{Rtype, ToName};
-use domain_chain_rdata::Nsec;
-use domain_checker::{is_at_cut, is_before, is_inside};
+use domain_checker::{NsecRr, is_at_cut, is_before, is_inside};
 use domain_octets::Octets;
-use domain_record::Record;
-
-/// An NSEC record.
-pub(crate) type NsecRr<O, N> = Record<N, Nsec<O, N>>;
 
 /// How many labels a name shares with the owner and with the next name of a record.
 #[derive(Clone, Copy)]

@@ -11,13 +11,13 @@ ghost use Rattle.domain_answer.specs.Reading.{absent_answer, cover_answer, liste
 ghost use Rattle.domain_answer.specs.Reading.{wildcard_answer, wildcard_cover_answer, wildcard_match_answer};
 
 use crate::found::{NsecCover, NsecFound, find_nsec};
-use crate::listed::{NsecRr, tells_occluded};
+use crate::listed::tells_occluded;
 use crate::of_types::{types_answer, wildcard_types_answer};
 use crate::wildcard::wildcard_below;
 use crate::{Answer, NameAnswer, laws};
 use domain_base::{MAX_NAME, ParsedName, Rtype, ToName};
 use domain_chain_rdata::Nsec;
-use domain_checker::{is_at_cut, is_strictly_below};
+use domain_checker::{NsecRr, is_at_cut, is_strictly_below};
 use domain_octets::Octets;
 use domain_record::Record;
 

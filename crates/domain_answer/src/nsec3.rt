@@ -1,7 +1,7 @@
 //! What records of an NSEC3 chain answer.
 ghost use Rattle.std.specs.Prelude.{◌≡◌, ◌<◌, ◌≤◌, ◌⊎◌, ℕ, Ok, Err, true, false, length, IfOk, IfErr, IsErrOf};
 ghost use Rattle.std.specs.Option.{option_map};
-ghost use Rattle.domain_base.specs.Name.{is_at_or_below};
+ghost use Rattle.domain_base.specs.Name.{is_at_or_below, last_labels};
 ghost use Rattle.domain_nsec3.specs.Config.{hash_name};
 ghost use Rattle.domain_nsec3.specs.View.{as_hashed_link};
 ghost use Rattle.domain_hasher.specs.declared.error.Nsec3HashError.TheVariants as hash_error;
@@ -11,23 +11,18 @@ ghost use Rattle.domain_checker.specs.HashedView.{hash_with, links, parameters};
 ghost use Rattle.domain_answer.specs.HashedProved.{HashedRestsOn, IsHashedAnswered};
 ghost use Rattle.domain_answer.specs.HashedReading.{found_answer, lower_answer, next_answer, own_answer, wildcard_told};
 ghost use Rattle.domain_answer.specs.HashedReading.{IsFirstOfRefusals, IsHashedRead, IsWildcardRead};
-ghost use Rattle.domain_answer.specs.Proved.{last_labels, needs_no_records, CountsWithin};
+ghost use Rattle.domain_answer.specs.Proved.{needs_no_records, CountsWithin};
 ghost use Rattle.domain_answer.specs.ZoneAnswer.{is_at_parent, wildcard_below};
 
 use crate::of_types::{types_answer, wildcard_types_answer};
 use crate::wildcard::wildcard_below;
 use crate::{Answer, laws};
 use domain_base::{MAX_NAME, Rtype, ToName};
-use domain_chain_rdata::Nsec3;
-use domain_checker::{Nsec3Encloser, Nsec3Found, find_nsec3, find_nsec3_encloser};
+use domain_checker::{Nsec3Encloser, Nsec3Found, Nsec3Rr, find_nsec3, find_nsec3_encloser};
 use domain_hasher::{Nsec3HashError, Nsec3Hasher};
 use domain_nsec3::Nsec3Records;
 use domain_octets::Octets;
-use domain_record::Record;
 use std::alloc::Global;
-
-/// An NSEC3 record.
-type Nsec3Rr<O, N> = Record<N, Nsec3<O>>;
 
 /// Whether the parent zone answers: the type is DS and the name is the apex.
 fn is_at_parent<A: ToName, M: ToName>(apex: &A, name: &M, rtype: Rtype) -> bool

@@ -1,7 +1,7 @@
 //! What NSEC3 records prove by what they say. A caller calls the law in its body.
 ghost use Rattle.std.specs.Prelude.{◌≡◌, ◌≢◌, ◌<◌, ℕ, All, List, length, true, false};
 ghost use Rattle.domain_octets.specs.Words.{Octets};
-ghost use Rattle.domain_base.specs.Name.{is_at_or_below};
+ghost use Rattle.domain_base.specs.Name.{is_at_or_below, last_labels};
 ghost use Rattle.domain_base.specs.Types.{dname};
 ghost use Rattle.domain_base.specs.Words.{Name};
 ghost use Rattle.domain_chain_rdata.specs.OptOut.{is_opt_out};
@@ -15,7 +15,7 @@ ghost use Rattle.domain_answer.specs.HashedMeaning.{ChainsAreMeant};
 ghost use Rattle.domain_answer.specs.HashedProved.{hashed_proved_answer, AreAskedAlone, HashedRestsOn, IsHashedAnswered};
 ghost use Rattle.domain_answer.specs.HashedReading.{IsHashedRead};
 ghost use Rattle.domain_answer.specs.HashedZoneAnswer.{hashed_encloser, hashed_exists, hashed_zone_answer, is_of_one_chain, HashedLeavesOutBelowDname};
-ghost use Rattle.domain_answer.specs.Proved.{last_labels, CountsWithin};
+ghost use Rattle.domain_answer.specs.Proved.{CountsWithin};
 ghost use Rattle.domain_answer.specs.ZoneAnswer.{is_at_parent, name_exists, wildcard_below, zone_answer};
 ghost use Rattle.domain_answer.specs.declared.answer.Answer.{Answer};
 ghost use Rattle.domain_answer.specs.declared.answer.Answer.TheVariants.{NoCloserName, NotProven, TooManyIterations};

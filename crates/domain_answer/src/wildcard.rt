@@ -1,37 +1,9 @@
 //! The wildcard right below an ancestor of a name.
-ghost use Rattle.std.specs.Prelude.{◌≡◌, ◌+◌, ◌<◌, ◌≤◌, ◌∷◌, ◌++◌, IfNone, IfSome, length, take};
-ghost use Rattle.domain_answer.specs.Proved.{last_labels};
+ghost use Rattle.std.specs.Prelude.{◌≡◌, ◌+◌, ◌<◌, ◌≤◌, ◌∷◌, IfNone, IfSome, length};
+ghost use Rattle.domain_base.specs.Name.{last_labels};
 ghost use Rattle.domain_answer.specs.ZoneAnswer.{wildcard_below};
 
 use domain_base::{MAX_NAME, ParsedName, ToName};
-
-/// The last labels of a name, so many, or all of them where there are no more.
-pub(crate) fn last_labels<M: ToName>(name: &M, count: usize) -> ParsedName<'_>
-    ensures { result ≡ last_labels count (M.labels name.now) }
-{
-    let mut left = name.as_parsed();
-    let mut more = left.count_labels().saturating_sub(count);
-    'labels: while more > 0 {
-        let Some(above) = left.parent() else {
-            unreachable!();
-        };
-        left = above;
-        more -= 1;
-    }
-    left
-}
-
-/// Writes octets from a place in a buffer on, and gives the place after them.
-fn put_octets(buffer: &mut [u8], at: usize, octets: &[u8]) -> usize
-    requires { at + length octets.now ≤ length buffer.old }
-    ensures end { result ≡ at + length octets.now }
-    ensures front { take result buffer.new ≡ take at buffer.old ++ octets.now }
-    ensures room { length buffer.new ≡ length buffer.old }
-{
-    let end = at + octets.len();
-    buffer[at..end].copy_from_slice(octets);
-    end
-}
 
 /// Writes the wire form of the wildcard below a name, which is given by its own, to the front of a
 /// buffer.
@@ -39,9 +11,11 @@ fn write_wildcard<'b>(buffer: &'b mut [u8], above: &[u8]) -> &'b [u8]
     requires { 2 + length above.now ≤ length buffer.old }
     ensures { result.now ≡ 1 ∷ 42 ∷ above.now }
 {
-    let start = put_octets(buffer, 0, &[1, b'*']);
-    let end = put_octets(buffer, start, above);
-    &buffer[..end]
+    let wildcard = &mut buffer[..2 + above.len()];
+    wildcard[0] = 1;
+    wildcard[1] = b'*';
+    wildcard[2..].copy_from_slice(above);
+    wildcard
 }
 
 /// The wildcard right below the last labels of a name, so many (RFC 4592, section 2.1.1). Its
@@ -57,7 +31,7 @@ pub(crate) fn wildcard_below<'b, M: ToName>(
 {
     // The wildcard has no more octets than the name, which has at most 255.
     let _whole = name.as_wire();
-    let above = last_labels(name, count);
+    let above = name.last_labels(count);
     ParsedName::over(write_wildcard(buffer, above.as_wire()))
 }
 

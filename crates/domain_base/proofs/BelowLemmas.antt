@@ -4,15 +4,12 @@ use Rattle.std.specs.Char.{to_ascii_lowercase}
 use Rattle.std.proofs.lemmas.List.{length-map}
 use Rattle.domain_base.specs.Name.{wire_of, lowered, IsSame, IsAtOrBelow}
 use Rattle.domain_base.specs.Wire.{labels_of, IsWire}
-use Rattle.domain_base.proofs.CaseLemmas.{lowered_wire, octets_from_same}
+use Rattle.domain_base.proofs.CaseLemmas.{lowered_size, octets_from_same}
 use Rattle.domain_base.proofs.PartingLemmas.{wire_of-end}
 
 same_size : (a b : List ℕ) → IsWire a → IsWire b → IsSame (labels_of a) (labels_of b) → length a ≡ length b
 same_size a b a_wire b_wire same =
     omega (arith, ap length (octets_from_same a b a_wire b_wire same), length-map a to_ascii_lowercase, length-map b to_ascii_lowercase)
-
-lowered_size : (a : List ℕ) → IsWire a → length (wire_of (lowered (labels_of a))) ≡ length a
-lowered_size a wire = ap length (lowered_wire a wire) ∙ length-map a to_ascii_lowercase
 
 -- a name with more octets than the other is at or below it where the name above it is
 pub above_is_below : (end above label : List ℕ) (rest : List (List ℕ)) → IsWire end → IsWire above → labels_of end ≡ label ∷ rest

@@ -8,6 +8,7 @@ use Rattle.std.specs.Cmp.Lexicographic.{slice_cmp, pointwise, pointwise_decides,
 use Rattle.std.specs.Char.{to_ascii_lowercase}
 use Rattle.std.proofs.lemmas.Bool.{cases_Bool, true≢false, and_parts, cases_lt}
 use Rattle.std.proofs.lemmas.List.{append-nil, length-drop, length-reverse, length-map, reverse-append, take-append-drop, drop-map}
+use Rattle.domain_octets.proofs.StdLemmas.{and_true}
 use Rattle.domain_base.specs.Name.{lowered}
 use Rattle.domain_base.specs.Order.{common_labels, from_root}
 use Rattle.domain_base.specs.Parting.{EndsIn, Part, order_below}
@@ -54,10 +55,6 @@ module _ {X : Type 0} (e : X → X → Bool) where
 
   pointwise-snoc : (us ws : List X) (u w : X) → length us ≡ length ws → pointwise e (us ++ u ∷ []) (ws ++ w ∷ []) ≡ (pointwise e us ws && e u w)
   pointwise-snoc [] [] u w l = and_true (e u w)
-    where
-      and_true : (b : Bool) → (b && true) ≡ b
-      and_true true = refl
-      and_true false = refl
   pointwise-snoc [] (y ∷ ws) u w l = absurd (omega arith)
   pointwise-snoc (x ∷ us) [] u w l = absurd (omega arith)
   pointwise-snoc (x ∷ us) (y ∷ ws) u w l =
@@ -117,14 +114,10 @@ module _ {X : Type 0} (e : X → X → Bool) where
             let same_length : length (reverse xs) ≡ length (reverse ys) = omega (arith, length-reverse xs, length-reverse ys) in
             let all = common_whole (reverse xs) (reverse ys) [] [] same_length t in
             let out : common (reverse xs ++ []) (reverse ys ++ [])
-            ≡ common (reverse xs) (reverse ys) = λ i. common (append_nil (reverse xs) i) (append_nil (reverse ys) i) in
+            ≡ common (reverse xs) (reverse ys) = λ i. common (append-nil (reverse xs) i) (append-nil (reverse ys) i) in
             omega (arith, length-reverse xs, whole, all, out)
         | inr f ↦ (runs 0 xs ys l).part f
       ]
-    where
-      append_nil : (zs : List X) → zs ++ [] ≡ zs
-      append_nil [] = refl
-      append_nil (z ∷ zs) = ap (λ t. z ∷ t) (append_nil zs)
 
   -- the walk begins where both have as many left
   pub run_is : (xs ys : List X) → tail_run 0 (drop (length xs - length ys) xs) (drop (length ys - length xs) ys) ≡ common (reverse xs) (reverse ys)

@@ -9,7 +9,7 @@ use Rattle.std.proofs.lemmas.Fmt.{decimal_is_IsNumeral}
 use Rattle.std.proofs.lemmas.List.{append_assoc, append-nil}
 use Rattle.std.proofs.lemmas.List.Elements.{recursion_from_All}
 use Rattle.std.proofs.lemmas.List.Sums.{AllPass-from_list_all}
-use Rattle.std.proofs.lemmas.Bool.{cases_Bool}
+use Rattle.std.proofs.lemmas.Bool.{cases_Bool, not-true, and_parts}
 use Rattle.std.proofs.lemmas.Bool.Decides.{nat_tests}
 use Rattle.domain_octets.specs.Line.{HasNoSpace, IsWord}
 use Rattle.domain_octets.proofs.WordLemmas.{no_space-append, decimal_word}
@@ -272,25 +272,17 @@ number_word_by table prefix n words word fits (Some name) is = named_word table 
 -- a word that a test finds
 plain_test : (text : List ℕ) → list_all (λ c. not (c == 32)) text ≡ true → HasNoSpace text
 plain_test text all = recursion_from_All (λ c. (c == 32) ≡ false) text
-    (λ k d inside. not_true (get_or text k d == 32) (AllPass-from_list_all (λ c. not (c == 32)) text all k d inside))
-  where
-    not_true : (b : Bool) → not b ≡ true → b ≡ false
-    not_true b h = grind (arith, nat_tests)
+    (λ k d inside. not-true (get_or text k d == 32) (AllPass-from_list_all (λ c. not (c == 32)) text all k d inside))
 
 words_test : (entries : List Named) → list_all (λ entry. list_all (λ c. not (c == 32)) entry.name
     && not (length entry.name == 0)) entries ≡ true → AreWords entries
 words_test [] all = tt
 words_test (entry ∷ entries) all =
-    let parts = both (list_all (λ c. not (c == 32)) entry.name && not (length entry.name == 0))
+    let parts = and_parts (list_all (λ c. not (c == 32)) entry.name && not (length entry.name == 0))
     (list_all (λ entry. list_all (λ c. not (c == 32)) entry.name && not (length entry.name == 0)) entries) all in
-    let here = both (list_all (λ c. not (c == 32)) entry.name) (not (length entry.name == 0)) parts.0 in
+    let here = and_parts (list_all (λ c. not (c == 32)) entry.name) (not (length entry.name == 0)) parts.0 in
     (record { some = λ none. some entry.name here.1 none; unbroken = plain_test entry.name here.0 }, words_test entries parts.1)
   where
-    both : (a b : Bool) → a && b ≡ true → (a ≡ true) × (b ≡ true)
-    both true true e = (refl, refl)
-    both true false e = absurd (let h = e in cc)
-    both false b e = absurd (let h = e in cc)
-
     some : (text : List ℕ) → not (length text == 0) ≡ true → text ≢ []
     some [] test = absurd (let h = test in cc)
     some (c ∷ text) test = λ none. cc

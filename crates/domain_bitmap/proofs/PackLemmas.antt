@@ -8,10 +8,11 @@ use Rattle.std.specs.List.{range_with_len, list_any}
 use Rattle.std.proofs.lemmas.Nat.Bits.{bit_at_or, bit_at-lt}
 use Rattle.std.proofs.lemmas.List.{get_or-take, get_or-drop, length-take, length-drop, take_at}
 use Rattle.std.proofs.lemmas.Bool.Decides.{nat_tests, eqb_tells}
+use Rattle.domain_octets.proofs.StdLemmas.{or_false, or_true}
 use Rattle.domain_bitmap.specs.Bits.{bit_of}
 use Rattle.domain_bitmap.specs.Bitmap.{window_octets, window_block, block_with, trimmed, bitmap_octets}
 use Rattle.domain_bitmap.specs.Builder.{is_of_window, block_holds, has_window, holds}
-use Rattle.domain_bitmap.proofs.RangeLemmas.{any_more, any_suc, any_none, any_at, or_false, or_true}
+use Rattle.domain_bitmap.proofs.RangeLemmas.{any_more, any_suc, any_none, any_at}
 use Rattle.domain_bitmap.proofs.BitmapLemmas.{window_octets-is, window_block-none}
 use Rattle.domain_bitmap.proofs.RangeLemmas.{flat_none, flat_single}
 use Rattle.domain_bitmap.proofs.SlotLemmas.{window_absent}
@@ -121,46 +122,10 @@ pub block_with-some : (w : ℕ) (xs : List ℕ) → 0 < length xs → block_with
 block_with-some w [] some = absurd (omega (arith, some))
 block_with-some w (x ∷ xs) some = refl
 
--- a step of the merge of a block into its window's octets
-test_here : (p w i : ℕ) → p ≡ w * 32 + i → i < 32 → ((p / 32 == w) && nat_lt (p % 32) (i + 1)) ≡ true
-test_here p w i is small = grind (arith, nat_tests)
-
-test_before : (p w i : ℕ) → p ≡ w * 32 + i → i < 32 → ((p / 32 == w) && nat_lt (p % 32) i) ≡ false
-test_before p w i is small = grind (arith, nat_tests)
-
-test_other : (p w i : ℕ) → p ≢ w * 32 + i → i < 32 → ((p / 32 == w) && nat_lt (p % 32) (i + 1)) ≡ ((p / 32 == w) && nat_lt (p % 32) i)
-test_other p w i other small = grind (arith, nat_tests)
-
-place_in : (p w i : ℕ) → p ≡ w * 32 + i → i < 32 → p % 32 ≡ i
-place_in p w i is small = omega arith
-
 -- the octets after the first i of a block are merged
 abbrev pub merged_at : List ℕ → List ℕ → ℕ → ℕ → ℕ → ℕ
 merged_at initial slots j i p =
     if (p / 32 == get_or slots (34 * j) 0) && nat_lt (p % 32) i then bit_or (get_or initial p 0) (get_or slots (34 * j + 2 + p % 32) 0) else get_or initial p 0
-
-pub merge_more : (initial now slots : List ℕ) (j i : ℕ) → i < 32 → get_or slots (34 * j) 0 * 32 + i < length now
-    → ((p : ℕ) → get_or now p 0 ≡ merged_at initial slots j i p)
-    → (p : ℕ) → get_or (set now (get_or slots (34 * j) 0 * 32 + i)
-    (bit_or (get_or now (get_or slots (34 * j) 0 * 32 + i) 0) (get_or slots (34 * j + 2 + i) 0))) p 0
-    ≡ merged_at initial slots j (i + 1) p
-merge_more initial now slots j i small inside same p =
-    let w = get_or slots (34 * j) 0 in
-    let at = w * 32 + i in
-    elim (eqb_tells p at) [
-      | inl h ↦
-          let is : p ≡ w * 32 + i = h.1 in
-          let before : get_or now p 0 ≡ get_or initial p 0 = same p ∙ rw (test_before p w i is small) refl in
-          rw (
-            test_here p w i is small,
-            place_in p w i is small,
-            ← is,
-          ) (get_or-set_same now p (bit_or (get_or now p 0) (get_or slots (34 * j + 2 + i) 0)) 0 (omega arith)
-          ∙ ap (λ o. bit_or o (get_or slots (34 * j + 2 + i) 0)) before)
-      | inr h ↦
-          let other : p ≢ w * 32 + i = h.1 in
-          rw (test_other p w i other small) (get_or-set_other now at p (bit_or (get_or now at 0) (get_or slots (34 * j + 2 + i) 0)) 0 other ∙ same p)
-    ]
 
 -- the octet of a type among those of all windows
 octet_place : (t : ℕ) → t / 8 / 32 ≡ t / 256

@@ -12,6 +12,7 @@ use Rattle.domain_octets.specs.declared.codec.Codec.TheVariants.{Base16}
 use Rattle.domain_octets.specs.Line.{words_of, words_after, IsWord}
 use Rattle.domain_octets.proofs.CodecBackLemmas.{upper_back, decodes_once}
 use Rattle.domain_octets.proofs.WordLemmas.{one_word, next_word, last_space, upper_hex_word}
+use Rattle.domain_octets.proofs.StdLemmas.{and_true}
 use Rattle.domain_base.specs.Numbers.{type_text}
 use Rattle.domain_base.proofs.NamedLemmas.{one_named}
 use Rattle.domain_base.proofs.ReadBackLemmas.{type_back, type_word}
@@ -109,10 +110,6 @@ number_at test t u same = let e : u ≡ t = grind (arith, nat_tests) in ap test 
 
 itself : (t : ℕ) → (t == t) ≡ true
 itself t = grind (arith, nat_tests)
-
-and_true : (b : Bool) → (b && true) ≡ b
-and_true true = refl
-and_true false = refl
 
 among_below : (types : ℕ → Bool) (n t : ℕ) → t < n → is_among (types_below n types) t ≡ types t
 unfolding is_among types_below

@@ -13,9 +13,10 @@ use Rattle.domain_base.specs.declared.error.ScanError.{ScanError}
 use Rattle.domain_octets.specs.Limit.{IsOver}
 use Rattle.domain_octets.specs.declared.error.AppendError.{AppendError}
 use Rattle.domain_octets.specs.declared.error.AppendError.TheVariants.{ShortBuf, OutOfMemory}
+use Rattle.domain_octets.proofs.StdLemmas.{or_false, or_turn}
 use Rattle.domain_bitmap.specs.Builder.{holds, has_window}
 use Rattle.domain_bitmap.specs.Scan.{TypeTexts, no_types, one_more, is_among, has_type_in, room_for, not_a_type, without_room, without_memory, RefusesTypes}
-use Rattle.domain_bitmap.proofs.RangeLemmas.{or_false, or_turn, filter_same, filter_more}
+use Rattle.domain_bitmap.proofs.RangeLemmas.{filter_same, filter_more}
 
 texts-more : {taken : List (List ℕ)} {types : List ℕ} (token : List ℕ) (t : ℕ) → TypeTexts taken types → TypeText token t
     → TypeTexts (taken ++ token ∷ []) (types ++ t ∷ [])

@@ -6,9 +6,10 @@ use Rattle.std.specs.Prelude.{◌||◌, ◌==◌, bit_or, replicate}
 use Rattle.std.proofs.lemmas.Bool.Decides.{nat_tests, eqb_tells}
 use Rattle.std.proofs.lemmas.List.{take-set, drop-set, take-append-drop, get_or-append-add, get_or_append_left}
 use Rattle.std.proofs.Math.Seq.{get_or-append_seam}
+use Rattle.domain_octets.proofs.StdLemmas.{or_false, or_turn, and_false}
 use Rattle.domain_bitmap.specs.Bits.{bit_of}
 use Rattle.domain_bitmap.specs.Builder.{is_of_window, block_holds, has_window, holds}
-use Rattle.domain_bitmap.proofs.RangeLemmas.{any_more, any_same, any_at, any_none, any_with, or_false, or_turn, and_false}
+use Rattle.domain_bitmap.proofs.RangeLemmas.{any_more, any_same, any_at, any_none, any_with}
 use Rattle.domain_bitmap.proofs.BitLemmas.{bit_of-set, bit_of-zero}
 
 -- a block is found

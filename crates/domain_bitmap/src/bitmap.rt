@@ -55,7 +55,7 @@ impl<O: Octets> RtypeBitmap<O> {
     }
 
     /// The same bitmap over other octets, which are the same. Takes no memory.
-    pub fn remade<P: Octets>(&self, octets: P) -> RtypeBitmap<P>
+    pub fn with_octets<P: Octets>(&self, octets: P) -> RtypeBitmap<P>
         requires { P.octets octets ≡ self.now }
         ensures { result ≡ self.now }
     {

@@ -83,6 +83,6 @@ impl<S: Octets + Drop, O: CopyOctets> OctetsFrom<RtypeBitmap<S>> for RtypeBitmap
 
     fn try_octets_from(alloc: Global, source: RtypeBitmap<S>) -> Result<Self, AppendError> {
         let octets = O::copy_octets(alloc, source.as_slice())?;
-        Ok(source.remade(octets))
+        Ok(source.with_octets(octets))
     }
 }

@@ -71,7 +71,7 @@ impl<O: Octets, E> CountedOctets<O, E> {
     }
 
     /// The same over other octets, which are the same. Takes no memory.
-    pub fn remade<P: Octets>(&self, octets: P) -> CountedOctets<P, E>
+    pub fn with_octets<P: Octets>(&self, octets: P) -> CountedOctets<P, E>
         requires { P.octets octets ≡ self.now }
         ensures { result ≡ self.now }
     {
@@ -99,7 +99,7 @@ impl<O: Octets, E> CountedOctets<O, E> {
     pub fn clone(&self) -> Result<Self, OutOfMemory>
         ensures { IfOk result (λ copy. copy ≡ self.now) }
     {
-        Ok(self.remade(self.octets.try_clone()?))
+        Ok(self.with_octets(self.octets.try_clone()?))
     }
 
     /// Whether other octets are the same.
@@ -272,6 +272,6 @@ impl<S: Octets + Drop, O: CopyOctets, E> OctetsFrom<CountedOctets<S, E>> for Cou
 
     fn try_octets_from(alloc: Global, source: CountedOctets<S, E>) -> Result<Self, AppendError> {
         let octets = O::copy_octets(alloc, source.as_slice())?;
-        Ok(source.remade(octets))
+        Ok(source.with_octets(octets))
     }
 }

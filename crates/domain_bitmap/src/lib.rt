@@ -19,8 +19,9 @@
 //!   was added (`laws`).
 //! - Equality, both orders and `Hash` are those of the octets; of two bitmaps that builders made,
 //!   equality is that of the sets.
-//! - `RtypeBitmaps` is a list of bitmaps in two vectors, in which each takes 8 octets beside its own.
-//!   `push` copies one or changes nothing, and `get` lends one in constant time, without memory.
+//! - `RtypeBitmaps` is a list of bitmaps in two vectors, in which each takes 8 octets beside its
+//!   own. `push` copies one or changes nothing, and `get` lends one in constant time, without
+//!   memory.
 //! - An `Nsec3Salt` and an `OwnerHash` have at most 255 octets, and are these octets in clauses.
 //!   `Ord` is lexicographic; the canonical order, that of the wire form, looks at the length first.
 #![tactic(auto)]

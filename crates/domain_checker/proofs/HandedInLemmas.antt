@@ -4,6 +4,7 @@ use Rattle.std.specs.List.{find}
 use Rattle.std.specs.Option.{is_some, option_map, option_or, unwrap_or}
 use Rattle.std.proofs.lemmas.Bool.{false≢true}
 use Rattle.std.proofs.lemmas.List.Folds.{find-append}
+use Rattle.domain_octets.proofs.StdLemmas.{or_none}
 use Rattle.domain_base.specs.Words.{Name}
 use Rattle.domain_nsec.specs.Chain.{Link}
 use Rattle.domain_checker.specs.HandedIn.{HasRead}
@@ -11,10 +12,6 @@ use Rattle.domain_checker.specs.Reading.{cover_verdict, is_cover, is_match, list
 use Rattle.domain_checker.specs.declared.nsec_check.NsecCheck.{NsecCheck}
 use Rattle.domain_checker.specs.declared.verdict.Verdict.{Verdict}
 use Rattle.domain_checker.specs.declared.verdict.Verdict.TheVariants.{NotProven}
-
-pub or_none : {X : Type 0} (o : Option X) → option_or o None ≡ o
-or_none None = refl
-or_none (Some x) = refl
 
 module _ {X V : Type 0} (p : X → Bool) (f : X → V) (xs : List X) (x : X) where
   found_with : (b : Bool) → p x ≡ b → find p (xs ++ x ∷ []) ≡ option_or (find p xs) (cond b (Some x) None)

@@ -4,13 +4,13 @@ use Rattle.std.proofs.Common.{refl, sym, ap, ◌∙◌, subst, inl, inr, ◌⊎�
 use Rattle.std.specs.List.{find, list_any}
 use Rattle.std.proofs.lemmas.Bool.{cases_Bool, false≢true, and_parts, and_from, or_left, or_right, not-true}
 use Rattle.std.proofs.lemmas.List.Elements.{recursion_from_All}
+use Rattle.domain_octets.proofs.StdLemmas.{and_false, or_true, and_true}
 use Rattle.domain_base.specs.Name.{is_at_or_below, is_strictly_below, lowered, same_name}
 use Rattle.domain_base.specs.Order.{before}
 use Rattle.domain_base.specs.Types.{ns}
 use Rattle.domain_base.specs.Words.{Name}
 use Rattle.domain_bitmap.specs.Bitmap.{bitmap_octets}
 use Rattle.domain_bitmap.specs.Blocks.{contains_type}
-use Rattle.domain_bitmap.proofs.RangeLemmas.{and_false, or_true}
 use Rattle.domain_zone.specs.Covering.{matches, covers, matches_or_covers}
 use Rattle.domain_zone.specs.Enclosers.{exists_over, longer, shared}
 use Rattle.domain_zone.specs.Zone.{ZoneRecord, OwnersNeverDescend, records_of, has_type, is_zone_cut, occludes, owns}
@@ -70,10 +70,6 @@ IgnoresCase L a assume = (x y : Name) → same_name x y ≡ true → (t : ℕ) �
 
 abbrev pub BitmapsAreSets : Type 0
 BitmapsAreSets = (types : ℕ → Bool) (t : ℕ) → t < 65536 → contains_type (bitmap_octets types) t ≡ types t
-
-pub and_true : (b : Bool) → (b && true) ≡ b
-and_true true = refl
-and_true false = refl
 
 -- the bit of NS says whether there are NS records
 ns_bit : (assumed cut : Bool) (rs : List ZoneRecord) → is_listed assumed cut rs ns ≡ has_type rs ns

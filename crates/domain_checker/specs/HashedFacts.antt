@@ -1,4 +1,5 @@
--- What is known of each NSEC3 chain: the laws of chains, of their names and of Base 32, put together.
+-- What is known of each NSEC3 chain: the laws of chains, of their names and of Base 32, put
+-- together.
 use Rattle.std.specs.Prelude.{◌≡◌, ◌<◌, ℕ, Bool, true, false, List}
 use Rattle.domain_octets.specs.Base32.{base32_lower}
 use Rattle.domain_octets.specs.Codec.{IsBase32}

@@ -63,8 +63,8 @@ pub record IsTold (listed : List HashedLink) (a : Name) (p : Parameters) (hash :
   pub closes : IsNextHash hash x name next
   pub says : verdict ≡ told_verdict a p listed name link t next
 
--- neither x nor an ancestor at or below the apex is refused by the hasher, and no record matches one
--- of them
+-- neither x nor an ancestor at or below the apex is refused by the hasher, and no record matches
+-- one of them
 abbrev pub IsUnmatched : List HashedLink → Name → Parameters → Hash → Name → Type 0
 IsUnmatched listed a p hash x =
     (y : Name) → is_at_or_below x y ≡ true → is_at_or_below y a ≡ true

@@ -1,9 +1,9 @@
 -- What a zone with an NSEC3 chain says of a name and a type, and what a list of records proves of
 -- it (RFC 5155, section 8); a is the apex, x the name and t the type.
-use Rattle.std.specs.Prelude.{ℕ, Bool, true, false, not, ◌&&◌, ◌||◌, ◌==◌, ◌+◌, ◌-◌, List, ◌≡◌, All, length, drop, Option, Some, None, Ok, Err, if◌then◌else◌}
+use Rattle.std.specs.Prelude.{ℕ, Bool, true, false, not, ◌&&◌, ◌||◌, ◌==◌, ◌+◌, List, ◌≡◌, All, length, Option, Some, None, Ok, Err, if◌then◌else◌}
 use Rattle.std.specs.List.{find, list_any, Contains}
 use Rattle.domain_octets.specs.Words.{Octets}
-use Rattle.domain_base.specs.Name.{is_at_or_below, is_strictly_below, same_name}
+use Rattle.domain_base.specs.Name.{is_at_or_below, is_strictly_below, last_labels, same_name}
 use Rattle.domain_base.specs.Types.{ds, ns}
 use Rattle.domain_base.specs.Words.{Name}
 use Rattle.domain_bitmap.specs.Blocks.{contains_type}
@@ -47,7 +47,7 @@ hashed_zone_verdict L a config x t =
 
 -- the name one label longer than e, an ancestor of x, towards x (RFC 5155, section 1.3)
 abbrev pub next_closer : Name → Name → Name
-next_closer x e = drop (length x - (length e + 1)) x
+next_closer x e = last_labels (length e + 1) x
 
 abbrev pub is_ok_with : (Octets → Bool) → HashAnswer → Bool
 is_ok_with test (Ok v) = test v

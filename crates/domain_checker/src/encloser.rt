@@ -14,7 +14,7 @@ use crate::hashed::Nsec3Rr;
 use crate::walk::{look_up, walk};
 use domain_base::{MAX_NAME, Rtype, ToName};
 use domain_chain_rdata::Nsec3;
-use domain_hasher::{Nsec3HashError, Nsec3Hasher, lower_wire};
+use domain_hasher::{Nsec3HashError, Nsec3Hasher};
 use domain_nsec3::Nsec3Records;
 use domain_octets::Octets;
 use domain_record::Record;
@@ -85,7 +85,7 @@ pub fn find_nsec3_encloser<'a, A: ToName, O: Octets, N: ToName, M: ToName, H: Ns
         return Ok(None);
     }
     let mut buffer = [0; MAX_NAME];
-    let lowered = lower_wire(&mut buffer, name);
+    let lowered = name.lower_wire(&mut buffer);
     match walk(alloc, apex, records, &name.as_parsed(), lowered, hasher) {
         Ok(found) => Ok(found),
         Err(error) => Err(error),
@@ -117,7 +117,7 @@ pub fn find_nsec3<'a, A: ToName, O: Octets, N: ToName, M: ToName, H: Nsec3Hasher
     ensures memory { IsErrOf result hash_error.OutOfMemory → H.takes_memory hasher.now }
 {
     let mut buffer = [0; MAX_NAME];
-    let lowered = lower_wire(&mut buffer, name);
+    let lowered = name.lower_wire(&mut buffer);
     match look_up(alloc, apex, records, lowered, hasher) {
         Ok(found) => Ok(found),
         Err(error) => Err(error),

@@ -13,8 +13,8 @@ use domain_chain_rdata::{Nsec3, Nsec3param};
 use domain_octets::Octets;
 use domain_record::Record;
 
-/// An NSEC3 record.
-pub(crate) type Nsec3Rr<O, N> = Record<N, Nsec3<O>>;
+/// An NSEC3 record (RFC 5155, section 3).
+pub type Nsec3Rr<O, N> = Record<N, Nsec3<O>>;
 
 /// What NSEC3 records tell of a hash (RFC 5155, section 1.3).
 #[derive(Drop)]

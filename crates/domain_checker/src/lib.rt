@@ -27,8 +27,8 @@ mod verdict;
 mod walk;
 
 pub use encloser::{Nsec3Encloser, find_nsec3, find_nsec3_encloser};
-pub use hashed::Nsec3Found;
-pub use listed::{is_at_cut, is_before, is_inside, is_strictly_below, longer_shared};
+pub use hashed::{Nsec3Found, Nsec3Rr};
+pub use listed::{NsecRr, is_at_cut, is_before, is_inside, is_strictly_below, longer_shared};
 pub use nsec::check_nsec;
 pub use nsec_check::NsecCheck;
 pub use nsec3::check_nsec3;

@@ -12,8 +12,8 @@ use domain_chain_rdata::Nsec;
 use domain_octets::Octets;
 use domain_record::Record;
 
-/// An NSEC record.
-pub(crate) type NsecRr<O, N> = Record<N, Nsec<O, N>>;
+/// An NSEC record (RFC 4034, section 4).
+pub type NsecRr<O, N> = Record<N, Nsec<O, N>>;
 
 /// Whether the owner and the next name are at or below the apex.
 pub fn is_inside<A: ToName, O: Octets, N: ToName>(apex: &A, listed: &NsecRr<O, N>) -> bool

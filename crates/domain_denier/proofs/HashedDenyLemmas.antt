@@ -10,7 +10,7 @@ use Rattle.std.proofs.lemmas.List.{length-map}
 use Rattle.std.proofs.lemmas.List.Elements.{All-contains_itself}
 use Rattle.std.proofs.lemmas.Option.{get_or_from_slice_get, slice_get_within}
 use Rattle.domain_octets.specs.Words.{Octets}
-use Rattle.domain_base.specs.Name.{is_at_or_below, same_name}
+use Rattle.domain_base.specs.Name.{is_at_or_below, same_name, last_labels}
 use Rattle.domain_base.specs.Words.{Name}
 use Rattle.domain_zone.specs.Enclosers.{IsClosestEncloser, exists_over}
 use Rattle.domain_zone.specs.Zone.{ZoneRecord, is_zone_cut}
@@ -33,7 +33,6 @@ use Rattle.domain_answer.specs.declared.answer.Answer.TheVariants.{NoCloserName,
 use Rattle.domain_answer.specs.HashedProved.{AreAskedAlone, IsHashedAnswered, hashed_proved_answer, needs_wildcard, tells_encloser, tells_wildcard}
 use Rattle.domain_answer.specs.HashedReading.{IsHashedRead}
 use Rattle.domain_answer.specs.HashedZoneAnswer.{HashedLeavesOutBelowDname, hashed_encloser, hashed_zone_answer}
-use Rattle.domain_answer.specs.Proved.{last_labels}
 use Rattle.domain_answer.specs.ZoneAnswer.{is_at_parent, wildcard_below}
 use Rattle.domain_answer.proofs.CountLemmas.{closest_last}
 use Rattle.domain_denier.specs.Picked.{at_place}

@@ -5,7 +5,7 @@ use Rattle.std.specs.Prelude.{Ok}
 use Rattle.std.specs.List.{find, list_any}
 use Rattle.std.proofs.lemmas.Bool.{cases_Bool, cases_lt, eq-eqb, false≢true}
 use Rattle.domain_octets.specs.Words.{Octets}
-use Rattle.domain_base.specs.Name.{is_at_or_below}
+use Rattle.domain_base.specs.Name.{is_at_or_below, last_labels}
 use Rattle.domain_base.specs.Types.{dname}
 use Rattle.domain_base.specs.Words.{Name}
 use Rattle.domain_bitmap.specs.Blocks.{contains_type}
@@ -27,7 +27,6 @@ use Rattle.domain_answer.specs.declared.answer.Answer.TheVariants.{MayBeUnsigned
 use Rattle.domain_answer.specs.HashedReading.{IsHashedRead, IsReadOn, IsWildcardRead}
 use Rattle.domain_answer.specs.HashedReading.{encloser_answer, lower_answer, next_answer}
 use Rattle.domain_answer.specs.HashedReading.{own_answer, wildcard_told}
-use Rattle.domain_answer.specs.Proved.{last_labels}
 use Rattle.domain_answer.specs.ZoneAnswer.{wildcard_below}
 use Rattle.domain_answer.proofs.CountLemmas.{last_above, last_count}
 use Rattle.domain_answer.proofs.HashedAnswerLemmas.{own_never}

@@ -4,7 +4,7 @@ use Rattle.std.proofs.Common.{slice_get, get_or, Option, Some, None, refl, sym, 
 use Rattle.std.specs.List.{find}
 use Rattle.std.proofs.lemmas.Option.{slice_get_cases, slice_get-get_or}
 use Rattle.std.proofs.lemmas.Bool.{cases_Bool, false≢true, and_parts, or_left, or_right}
-use Rattle.domain_base.specs.Name.{is_at_or_below, is_strictly_below, same_name}
+use Rattle.domain_base.specs.Name.{is_at_or_below, is_strictly_below, same_name, last_labels}
 use Rattle.domain_base.specs.Order.{before}
 use Rattle.std.specs.Prelude.{◌==◌}
 use Rattle.domain_base.specs.Types.{cname, ds}
@@ -22,7 +22,6 @@ use Rattle.domain_answer.specs.declared.answer.Answer.TheVariants.{AtParent, NoC
 use Rattle.domain_answer.specs.declared.answer.NameAnswer.{NameAnswer}
 use Rattle.domain_answer.specs.declared.answer.NameAnswer.TheVariants.{Given, Absent}
 use Rattle.domain_answer.specs.NameAnswer.{IsNameAnswer, name_answer}
-use Rattle.domain_answer.specs.Proved.{last_labels}
 use Rattle.domain_answer.specs.Reading.{absent_answer, listed_answer, listed_both, match_answer, owner_answer, reading}
 use Rattle.domain_answer.specs.Reading.{tells_occluded, wildcard_answer, wildcard_both, wildcard_cover_answer, wildcard_match_answer}
 use Rattle.domain_answer.specs.ZoneAnswer.{is_at_parent, wildcard_below}

@@ -3,10 +3,10 @@ use Rattle.std.proofs.Common.{◌≡◌, ◌≢◌, ℕ, zero, suc, ◌<◌, ari
 use Rattle.std.proofs.Common.{slice_get, Some, None, refl, sym, ap, ◌∙◌, subst, inl, inr, ◌⊎◌}
 use Rattle.std.specs.Prelude.{All}
 use Rattle.std.specs.List.{Contains}
-use Rattle.std.proofs.lemmas.Bool.{cases_Bool, false≢true, and_parts, or_right}
+use Rattle.std.proofs.lemmas.Bool.{cases_Bool, false≢true, and_parts, or_right, not-true}
 use Rattle.std.proofs.lemmas.List.{append-nil}
 use Rattle.std.proofs.lemmas.List.Elements.{All-nil, All-push}
-use Rattle.domain_base.specs.Name.{is_at_or_below}
+use Rattle.domain_base.specs.Name.{is_at_or_below, last_labels}
 use Rattle.domain_base.specs.Order.{before}
 use Rattle.domain_base.specs.Words.{Name}
 use Rattle.domain_zone.specs.Covering.{matches_or_covers}
@@ -17,7 +17,7 @@ use Rattle.domain_checker.specs.Verdict.{has_match_or_cover}
 use Rattle.domain_checker.proofs.MeantLemmas.{ChainLaws, IsMeant, apex_exists}
 use Rattle.domain_answer.specs.declared.answer.Answer.{Answer}
 use Rattle.domain_answer.specs.declared.answer.Answer.TheVariants.{AtParent, NoCloserName, NotProven, OutsideZone}
-use Rattle.domain_answer.specs.Proved.{IsAnswered, is_missing, knows_wildcard, last_labels, needs_no_records, proved_answer}
+use Rattle.domain_answer.specs.Proved.{IsAnswered, is_missing, knows_wildcard, needs_no_records, proved_answer}
 use Rattle.domain_answer.specs.Reading.{reading}
 use Rattle.domain_answer.specs.ZoneAnswer.{encloser, highest_occluder, inside_answer, is_at_parent, name_exists, wildcard_below, zone_answer}
 use Rattle.domain_answer.proofs.ChainLemmas.{meant_leaving}
@@ -183,14 +183,10 @@ module _ (laws : ChainLaws) (answers : AnswerLaws) (links : List Link) (L : List
               absurd (false≢true (sym only_half.unknown ∙ knows))
         ]
           where
-            not_false : (b : Bool) → not b ≡ true → b ≡ false
-            not_false true e = absurd (false≢true e)
-            not_false false e = refl
-
             unoccluded : is_missing L a x ≡ true → is_occluded true L a x ≡ false
             unoccluded e =
                 let parts = and_parts (is_unoccluded true L a x) (not (name_exists L a x)) e in
-                not_false (is_occluded true L a x) (and_parts (is_at_or_below x a) (not (is_occluded true L a x)) parts.0).1
+                not-true (is_occluded true L a x) (and_parts (is_at_or_below x a) (not (is_occluded true L a x)) parts.0).1
 
         pub wildcard_alone : is_at_parent a x t ≡ false → reading a (at_place links (Some q)) x t ≡ NotProven
         wildcard_alone parent =

@@ -1,7 +1,7 @@
 -- How the records of an NSEC3 chain that tell of a name are found; a is the apex.
 use Rattle.std.specs.Prelude.{ℕ, ◌≡◌, ◌<◌, ◌==◌, ◌||◌, Bool, true, false, List, length, Option, Some, None, Ok, slice_get, if◌then◌else◌}
 use Rattle.domain_octets.specs.Words.{Octets}
-use Rattle.domain_base.specs.Name.{is_at_or_below}
+use Rattle.domain_base.specs.Name.{is_at_or_below, last_labels}
 use Rattle.domain_base.specs.Types.{dname}
 use Rattle.domain_base.specs.Words.{Name}
 use Rattle.domain_bitmap.specs.Blocks.{contains_type}
@@ -15,7 +15,6 @@ use Rattle.domain_checker.specs.HashedList.{is_hash_cover, is_hash_match}
 use Rattle.domain_checker.specs.HashedReading.{IsNextHash, IsUnmatched}
 use Rattle.domain_checker.specs.HashedVerdict.{IsFirst, next_closer}
 use Rattle.domain_answer.specs.HashedReading.{IsHashedRead, encloser_answer, wildcard_told}
-use Rattle.domain_answer.specs.Proved.{last_labels}
 use Rattle.domain_answer.specs.ZoneAnswer.{wildcard_below}
 use Rattle.domain_answer.specs.declared.answer.Answer.{Answer}
 use Rattle.domain_answer.specs.declared.answer.Answer.TheVariants.{NoCloserName, NotProven}

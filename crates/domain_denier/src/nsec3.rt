@@ -1,6 +1,6 @@
 //! What is picked of an NSEC3 chain.
 ghost use Rattle.std.specs.Prelude.{◌≡◌, ◌<◌, ◌⊎◌, ℕ, List, None, Some, Ok, Err, true, false, length, slice_get, IfOk, IfErr, IsErrOf};
-ghost use Rattle.domain_base.specs.Name.{is_at_or_below};
+ghost use Rattle.domain_base.specs.Name.{is_at_or_below, last_labels};
 ghost use Rattle.domain_nsec3.specs.Chain.{HashedLink};
 ghost use Rattle.domain_nsec3.specs.Config.{ChainConfig, hash_name};
 ghost use Rattle.domain_nsec3.specs.View.{hash_by};
@@ -9,7 +9,7 @@ ghost use Rattle.domain_zone.specs.Zone.{ZoneRecord};
 ghost use Rattle.domain_checker.specs.HashedEncloser.{encloser_is_cut};
 ghost use Rattle.domain_answer.specs.HashedProved.{AreAskedAlone};
 ghost use Rattle.domain_answer.specs.HashedReading.{next_answer, own_answer, IsHashedRead};
-ghost use Rattle.domain_answer.specs.Proved.{last_labels, needs_no_records};
+ghost use Rattle.domain_answer.specs.Proved.{needs_no_records};
 ghost use Rattle.domain_answer.specs.ZoneAnswer.{is_at_parent, wildcard_below};
 ghost use Rattle.domain_denier.specs.HashedPicked.{hashed_picked, without_records, AreHashedThere, ArePlaces, IsHashedDenial, IsHashedWhole, IsRefusedAbove};
 ghost use Rattle.domain_denier.specs.HashedSteps.{encloser_with, link_at, wildcard_told_by, with_encloser, IsFirstDenial, IsInside, IsPickedRead, IsPlaced, IsWildcardPlaced};
@@ -19,9 +19,9 @@ use crate::hash_search::{HashPlace, look_up};
 use domain_answer::{Answer, laws, types_answer, wildcard_of, wildcard_types_answer};
 use domain_base::{MAX_NAME, ParsedName, Rtype, ToName};
 use domain_checker::laws::hashes_tell_of_names;
-use domain_hasher::{Nsec3HashError, Nsec3Hasher, lower_wire};
+use domain_hasher::{Nsec3HashError, Nsec3Hasher};
 use domain_nsec3::laws::{chains_mean_the_zone, names_exist};
-use domain_nsec3::{LentNsec3, Nsec3Chain};
+use domain_nsec3::{BorrowedNsec3, Nsec3Chain};
 use domain_octets::Octets;
 use std::alloc::Global;
 
@@ -98,7 +98,7 @@ fn is_at_parent<M: ToName>(apex: &ParsedName<'_>, name: &M, rtype: Rtype) -> boo
 }
 
 /// The record at a place of the chain.
-fn lend_at<'c, O: Octets>(chain: &'c Nsec3Chain<'_, O>, place: usize) -> LentNsec3<'c>
+fn lend_at<'c, O: Octets>(chain: &'c Nsec3Chain<'_, O>, place: usize) -> BorrowedNsec3<'c>
     requires { place < length chain.now.links }
     ensures { slice_get chain.now.links place ≡ Some result }
 {
@@ -110,7 +110,7 @@ fn lend_at<'c, O: Octets>(chain: &'c Nsec3Chain<'_, O>, place: usize) -> LentNse
 
 /// Whether the record of a name with so many labels says that it is a zone cut: it lists NS, and
 /// the name is not the apex.
-fn is_zone_cut(apex: &ParsedName<'_>, listed: &LentNsec3<'_>, count: usize) -> bool
+fn is_zone_cut(apex: &ParsedName<'_>, listed: &BorrowedNsec3<'_>, count: usize) -> bool
     ensures { result ≡ encloser_is_cut apex.now (encloser_with count listed.now None) }
 {
     (count != apex.count_labels()) & listed.data().types().contains(Rtype::NS)
@@ -118,7 +118,12 @@ fn is_zone_cut(apex: &ParsedName<'_>, listed: &LentNsec3<'_>, count: usize) -> b
 
 /// What the record of a name with so many labels says of it: nothing, where it is of the apex of a
 /// child zone.
-fn own_answer(apex: &ParsedName<'_>, listed: &LentNsec3<'_>, count: usize, rtype: Rtype) -> Answer
+fn own_answer(
+    apex: &ParsedName<'_>,
+    listed: &BorrowedNsec3<'_>,
+    count: usize,
+    rtype: Rtype,
+) -> Answer
     ensures { result ≡ own_answer apex.now (encloser_with count listed.now None) rtype }
 {
     types_answer(
@@ -228,7 +233,7 @@ fn with_wildcard<O: Octets, M: ToName, H: Nsec3Hasher>(
         unreachable!();
     };
     let mut lowered = [0; MAX_NAME];
-    let wire = lower_wire(&mut lowered, &wildcard);
+    let wire = wildcard.lower_wire(&mut lowered);
     match look_up(alloc, chain, wire, hasher) {
         Ok(found) => Ok(Nsec3Denial {
             answer: wildcard_told(chain, count, rtype, found),
@@ -299,7 +304,7 @@ fn deny_inside<O: Octets, M: ToName, H: Nsec3Hasher>(
     ensures memory { IsErrOf result hash_error.OutOfMemory → H.takes_memory hasher.now }
 {
     let mut buffer = [0; MAX_NAME];
-    let wire = lower_wire(&mut buffer, name);
+    let wire = name.lower_wire(&mut buffer);
     let found = match find_encloser(alloc, apex, chain, &name.as_parsed(), wire, hasher) {
         Ok(found) => found,
         Err(error) => return Err(error),

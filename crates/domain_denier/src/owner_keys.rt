@@ -149,8 +149,8 @@ impl OwnerKeys {
         (below, self.count_up_to(key))
     }
 
-    /// The last place whose key is not above that of the wildcard below an ancestor of a name, which
-    /// has so many labels.
+    /// The last place whose key is not above that of the wildcard below an ancestor of a name,
+    /// which has so many labels.
     pub(crate) fn place_near_wildcard(
         &self,
         wildcard: &ParsedName<'_>,

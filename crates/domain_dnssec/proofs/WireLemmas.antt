@@ -8,7 +8,7 @@ use Rattle.domain_fields.specs.Layout.{octets_of, Values}
 use Rattle.domain_chain_rdata.specs.Rdata.{hash_numbers, nsec3param}
 use Rattle.domain_nsec.specs.Chain.{Link}
 use Rattle.domain_nsec3.specs.Chain.{HashedLink}
-use Rattle.domain_lent.specs.Links.{nsec_record, nsec3_record}
+use Rattle.domain_borrowed.specs.Links.{nsec_record, nsec3_record}
 use Rattle.domain_dnssec.specs.Wire.{HasLongNsec, HasLongNsec3}
 use Rattle.domain_dnssec.specs.declared.error.Error.{Error}
 use Rattle.domain_dnssec.specs.declared.error.Error.TheVariants.{LongRecordData, OutOfMemory}

@@ -77,7 +77,7 @@ pub fn sorted_owners_never_descend<N: ToName, D: ZoneData + CanonicalOrd>()
 
 /// What a verdict over records of a chain tells of the records that the chain was made of, in
 /// whatever order they were handed in: what is proved of their zone, and of the whole chain, as it
-/// was made or lent, what the zone says.
+/// was made or borrowed, what the zone says.
 pub fn verdicts_tell_of_records<N: ToName, D: ZoneData + CanonicalOrd>()
     ensures some { (given : List (Record N D)) (apex : Name) (config : GenerateNsecConfig)
         (links listed : List Link) (x : Name) (t : ℕ) (verdict : Verdict)
@@ -99,8 +99,8 @@ pub fn verdicts_tell_of_records<N: ToName, D: ZoneData + CanonicalOrd>()
 
 /// What a whole answer over records of a chain tells of the records that the chain was made of, in
 /// whatever order they were handed in: what is proved of their zone, and of the whole chain, as it
-/// was made or lent, what the zone says. The chain leaves out the names below an owner of a DNAME
-/// record.
+/// was made or borrowed, what the zone says. The chain leaves out the names below an owner of a
+/// DNAME record.
 pub fn answers_tell_of_records<N: ToName, D: ZoneData + CanonicalOrd>()
     ensures some { (given : List (Record N D)) (apex : Name) (config : GenerateNsecConfig)
         (links listed : List Link) (x : Name) (t : ℕ) (answer : Answer)

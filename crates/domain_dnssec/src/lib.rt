@@ -8,8 +8,8 @@
 //! by one, in less memory. `check_nsec` and `check_nsec3` say what records of a chain prove of a
 //! name and a type, `judge_nsec` and `judge_nsec3` what they answer as a whole: a name error, no
 //! data, a delegation, an alias, what a wildcard does; `deny_nsec` and `deny_nsec3` pick the
-//! records of a chain that a server answers with. `compose_nsecs` and `compose_nsec3s` write a chain
-//! as messages have its records; `read_record` reads a record from a message, with compressed
+//! records of a chain that a server answers with. `compose_nsecs` and `compose_nsec3s` write a
+//! chain as messages have its records; `read_record` reads a record from a message, with compressed
 //! names, and `scan_record` one from a line of a zone's text.
 //!
 //! Nothing else has to be named by a crate that uses these: the types, calls and laws of the crates
@@ -42,9 +42,9 @@ pub use domain_hasher::{HasherError, Nsec3HashError, Nsec3Hasher};
 pub use domain_message::{
     LineError, MessageError, OwnedRecord, read_name, read_record, scan_entry, scan_record,
 };
-pub use domain_nsec::{GenerateNsecConfig, LentNsec, NsecChain, generate_nsecs};
+pub use domain_nsec::{BorrowedNsec, GenerateNsecConfig, NsecChain, generate_nsecs};
 pub use domain_nsec3::{
-    GenerateNsec3Config, HashedOwner, LentNsec3, Nsec3Chain, Nsec3ParamTtlMode, Nsec3Records,
+    BorrowedNsec3, GenerateNsec3Config, HashedOwner, Nsec3Chain, Nsec3ParamTtlMode, Nsec3Records,
     generate_nsec3s, mk_hashed_nsec3_owner_name,
 };
 pub use domain_octets::{

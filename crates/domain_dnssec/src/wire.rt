@@ -2,23 +2,23 @@
 ghost use Rattle.std.specs.Prelude.{◌≡◌, ◌⊎◌, ◌<◌, ◌++◌, length, IfErr, OnOk};
 ghost use Rattle.domain_nsec.specs.ChainView.{as_link};
 ghost use Rattle.domain_nsec3.specs.View.{as_param_record};
-ghost use Rattle.domain_lent.specs.Links.{nsec_record, nsec3_record, param_record};
-ghost use Rattle.domain_lent.specs.Wire.{record_octets};
+ghost use Rattle.domain_borrowed.specs.Links.{nsec_record, nsec3_record, param_record};
+ghost use Rattle.domain_borrowed.specs.Wire.{record_octets};
 ghost use Rattle.domain_dnssec.specs.Wire.{nsecs_octets, nsec3s_octets, HasLongNsec, HasLongNsec3};
 ghost use Rattle.domain_dnssec.specs.declared.error.Error.TheVariants as variant;
 
 use crate::Error;
 use domain_base::{Class, Name, ParsedName, ToName};
-use domain_lent::{compose_parts, compose_record};
-use domain_nsec::{LentNsec, NsecChain};
-use domain_nsec3::{LentNsec3, Nsec3Chain};
+use domain_borrowed::{compose_parts, compose_record};
+use domain_nsec::{BorrowedNsec, NsecChain};
+use domain_nsec3::{BorrowedNsec3, Nsec3Chain};
 use domain_octets::{Octets, OutOfMemory};
 use domain_rdata::Nsec3param;
 use domain_record::{ComposeRecordData, Record};
 use std::alloc::Global;
 
 /// Appends an NSEC record.
-fn add_nsec(nsec: &LentNsec<'_>, octets: &mut Vec<u8>) -> Result<(), Error>
+fn add_nsec(nsec: &BorrowedNsec<'_>, octets: &mut Vec<u8>) -> Result<(), Error>
     ensures ok { OnOk result (octets.new.items
         ≡ octets.old.items ++ record_octets (nsec_record (as_link (λ n. n) nsec.now))) }
     ensures err { IfErr result (λ e. (e ≡ variant.OutOfMemory) ⊎ ((e ≡ variant.LongRecordData)
@@ -55,7 +55,7 @@ pub fn compose_nsecs<N: ToName>(chain: &NsecChain<'_, N>, octets: &mut Vec<u8>) 
 }
 
 /// Appends an NSEC3 record, which is of class IN.
-fn add_nsec3(alloc: Global, nsec3: &LentNsec3<'_>, octets: &mut Vec<u8>) -> Result<(), Error>
+fn add_nsec3(alloc: Global, nsec3: &BorrowedNsec3<'_>, octets: &mut Vec<u8>) -> Result<(), Error>
     ensures ok { OnOk result (octets.new.items
         ≡ octets.old.items ++ record_octets (nsec3_record nsec3.now)) }
     ensures err { IfErr result (λ e. (e ≡ variant.OutOfMemory) ⊎ ((e ≡ variant.LongRecordData)

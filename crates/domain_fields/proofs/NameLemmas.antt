@@ -6,19 +6,10 @@ use Rattle.std.specs.Ordering.{nat_cmp}
 use Rattle.std.specs.Cmp.Lexicographic.{slice_cmp}
 use Rattle.domain_base.specs.Name.{wire_of, lowered, IsName}
 use Rattle.domain_base.specs.Wire.{labels_of, IsWire}
-use Rattle.domain_base.proofs.CaseLemmas.{lowered_wire as base_lowered_wire}
-
-pub lowered_wire : (octets : List ℕ) → IsWire octets → wire_of (lowered (labels_of octets)) ≡ map to_ascii_lowercase octets
-lowered_wire = base_lowered_wire
-
-pub wire_is : (octets : List ℕ) → IsWire octets → wire_of (labels_of octets) ≡ octets
-wire_is octets wire = sym wire.spelled
+use Rattle.domain_base.proofs.CaseLemmas.{lowered_wire}
 
 pub name_fits : (octets : List ℕ) → IsWire octets → IsName (labels_of octets)
 name_fits octets wire = wire.valid
-
-pub lowered_length : (octets : List ℕ) → IsWire octets → length (wire_of (lowered (labels_of octets))) ≡ length (wire_of (labels_of octets))
-lowered_length octets wire = rw (lowered_wire octets wire, length-map, wire_is octets wire) refl
 
 -- the lowered octets of a name, compared with as many others
 pub lowered_order_from : (wire o : List ℕ) → IsWire wire → slice_cmp nat_cmp (map to_ascii_lowercase wire) (take (length wire) o)

@@ -7,6 +7,7 @@ use Rattle.domain_octets.specs.Codec.{Decodes}
 use Rattle.domain_octets.specs.declared.codec.Codec.{Codec}
 use Rattle.domain_octets.specs.Line.{IsWord, word_if_any}
 use Rattle.domain_octets.proofs.WordLemmas.{decimal_word, concat_any}
+use Rattle.std.proofs.lemmas.Bool.{and_parts}
 use Rattle.domain_base.proofs.ReadBackLemmas.{number_back, dotted_name_back, name_word}
 use Rattle.domain_base.specs.Scan.{Grammar}
 use Rattle.domain_fields.specs.Entry.{Spells}
@@ -26,15 +27,10 @@ field_back (exactly count) v is fits = absurd (let e = is in cc)
 field_back (at_most limit) v is fits = absurd (let e = is in cc)
 field_back rest v is fits = absurd (let e = is in cc)
 
-both : (a b : Bool) → a && b ≡ true → (a ≡ true) × (b ≡ true)
-both true true is = (refl, refl)
-both true false is = absurd (let e = is in cc)
-both false b is = absurd (let e = is in cc)
-
 pub fields_back : (l : Layout) (v : Values l) (after : List (List ℕ)) → is_printed l ≡ true → Fits l v → Scans l (printed l v ++ after) v after
 fields_back (one f) v after is fits = record { token = printed_field f v; first = refl; holds = field_back f v is fits }
 fields_back (a ▸ b) v after is fits =
-    let parts = both (is_printed a) (is_printed b) is in (
+    let parts = and_parts (is_printed a) (is_printed b) is in (
       printed b v.1 ++ after,
       subst (λ tokens. Scans a tokens v.0 (printed b v.1 ++ after))
           (sym (append_assoc (printed a v.0) (printed b v.1) after)) (fields_back a v.0 (printed b v.1 ++ after) parts.0 fits.0),
@@ -64,7 +60,7 @@ words-append (word ∷ a) b words more = (words.0, words-append a b words.1 more
 pub fields_words : (l : Layout) (v : Values l) → is_printed l ≡ true → Fits l v → AllByRecursion IsWord (printed l v)
 fields_words (one f) v is fits = (field_word f v is fits, tt)
 fields_words (a ▸ b) v is fits =
-    let parts = both (is_printed a) (is_printed b) is in
+    let parts = and_parts (is_printed a) (is_printed b) is in
     words-append (printed a v.0) (printed b v.1) (fields_words a v.0 parts.0 fits.0) (fields_words b v.1 parts.1 fits.1)
 
 -- fields, and then octets in one word or none

@@ -1,11 +1,10 @@
 //! Hashes of owner names.
 ghost use Rattle.std.specs.Prelude.{◌≡◌, ◌⊎◌, ℕ, List, Result, Ok, Err, IfErr, IfOk, IsErrOf};
-ghost use Rattle.domain_base.specs.Name.{lowered, wire_of};
 ghost use Rattle.domain_hasher.specs.declared.error.Nsec3HashError.TheVariants as hash_error;
 ghost use Rattle.domain_hasher.specs.declared.hasher.HasherError.TheVariants as hasher_error;
 
 use crate::Nsec3HashError;
-use domain_base::{MAX_NAME, Nsec3HashAlgorithm, ToName};
+use domain_base::Nsec3HashAlgorithm;
 use domain_octets::OutOfMemory;
 use std::alloc::{AllocError, AllocFailed, Global};
 use std::error::Error;
@@ -86,17 +85,6 @@ pub trait Nsec3Hasher {
         ensures refused { (n : ℕ) → IsErrOf result (HasherError.Refused n)
             → answer self.now name.now algorithm iterations salt.now ≡ Err n }
         ensures memory { IsErrOf result HasherError.OutOfMemory → takes_memory self.now };
-}
-
-/// Writes the wire form of a name in lower case, as hashers take it, to the front of a buffer.
-pub fn lower_wire<'b, N: ToName>(buffer: &'b mut [u8; MAX_NAME], name: &N) -> &'b [u8]
-    ensures { result.now ≡ wire_of (lowered (N.labels name.now)) }
-{
-    let wire = name.as_wire();
-    let lowered = &mut buffer[..wire.len()];
-    lowered.copy_from_slice(wire);
-    lowered.make_ascii_lowercase();
-    lowered
 }
 
 /// The hash of a name, which is given by the octets of its wire form in lower case; a refusal of the

@@ -8,4 +8,4 @@ mod error;
 mod hasher;
 
 pub use error::Nsec3HashError;
-pub use hasher::{HasherError, Nsec3Hasher, hash_wire, lower_wire};
+pub use hasher::{HasherError, Nsec3Hasher, hash_wire};

@@ -109,7 +109,7 @@ impl<O: Octets> Dnskey<O> {
     }
 
     /// The same key over other octets, which are the same. Takes no memory.
-    pub fn remade<P: Octets>(&self, public_key: P) -> Dnskey<P>
+    pub fn with_octets<P: Octets>(&self, public_key: P) -> Dnskey<P>
         requires { P.octets public_key ≡ self.now.public_key }
         ensures { result ≡ self.now }
     {
@@ -125,7 +125,7 @@ impl<O: Octets> Dnskey<O> {
     pub fn clone(&self) -> Result<Self, OutOfMemory>
         ensures { IfOk result (λ copy. copy ≡ self.now) }
     {
-        Ok(self.remade(self.public_key.try_clone()?))
+        Ok(self.with_octets(self.public_key.try_clone()?))
     }
 
     /// The flags (RFC 4034, section 2.1.1).
@@ -432,6 +432,6 @@ impl<S: Octets + Drop, O: CopyOctets> OctetsFrom<Dnskey<S>> for Dnskey<O> {
 
     fn try_octets_from(alloc: Global, source: Dnskey<S>) -> Result<Self, AppendError> {
         let key = O::copy_octets(alloc, source.public_key.as_slice())?;
-        Ok(source.remade(key))
+        Ok(source.with_octets(key))
     }
 }

@@ -106,7 +106,7 @@ impl<O: Octets> Ds<O> {
     }
 
     /// The same digest over other octets, which are the same. Takes no memory.
-    pub fn remade<P: Octets>(&self, digest: P) -> Ds<P>
+    pub fn with_octets<P: Octets>(&self, digest: P) -> Ds<P>
         requires { P.octets digest ≡ self.now.digest }
         ensures { result ≡ self.now }
     {
@@ -122,7 +122,7 @@ impl<O: Octets> Ds<O> {
     pub fn clone(&self) -> Result<Self, OutOfMemory>
         ensures { IfOk result (λ copy. copy ≡ self.now) }
     {
-        Ok(self.remade(self.digest.try_clone()?))
+        Ok(self.with_octets(self.digest.try_clone()?))
     }
 
     /// The tag of the key (RFC 4034, section 5.1.1).
@@ -367,6 +367,6 @@ impl<S: Octets + Drop, O: CopyOctets> OctetsFrom<Ds<S>> for Ds<O> {
 
     fn try_octets_from(alloc: Global, source: Ds<S>) -> Result<Self, AppendError> {
         let digest = O::copy_octets(alloc, source.digest.as_slice())?;
-        Ok(source.remade(digest))
+        Ok(source.with_octets(digest))
     }
 }

@@ -35,14 +35,6 @@ wire_is (label ∷ labels) =
 
 -- ---- within one run
 
-pub between_none : (message : List ℕ) (start used : ℕ) → used < 255 → LabelsBetween message start used start
-between_none message start used short = record {
-  labels = [];
-  run = record { spelled = refl; of_labels = tt };
-  place = omega arith;
-  room = omega arith;
-}
-
 module _ (message : List ℕ) (start used at len : ℕ) (inside : at < length message) (is : get_or message at 0 ≡ len)
     (so_far : LabelsBetween message start used at) where
   pub ahead : drop at message ≡ len ∷ drop (at + 1) message
@@ -109,9 +101,6 @@ module _ (message : List ℕ) (start at : ℕ) (high : ℕ) (inside : at < lengt
 
   pub half_fault : (used : ℕ) → 192 ≤ high → length message ≤ at + 1 → EndFault start used (drop at message) name_fault.ShortInput
   half_fault used big out = rw (high_ahead, drop_all (at + 1) message out) (half_pointer high big)
-
-  pub ends_root : high ≡ 0 → EndsWith start at (drop at message) None (at + 1)
-  ends_root root = (drop (at + 1) message, high_ahead ∙ ap (λ n. n ∷ drop (at + 1) message) root, refl)
 
   module _ (upper low : ℕ) (inside_low : at + 1 < length message) (low_is : get_or message (at + 1) 0 ≡ low) (upper_is : high ≡ 192 + upper)
       (high_fits : high < 256) (low_fits : low < 256) where
@@ -208,10 +197,6 @@ under_way_next message at old wire target start next end far so_far is run =
           (subst (λ t. EndsWith start (start + length (labels_octets run.labels)) run.behind t far) further_is run.ends) f
           (subst (λ n. LabelsFault message further n f) count h));
     }
-
-pub to_go_less : (start at : ℕ) (behind : List ℕ) (next : Option ℕ) (end : ℕ) → EndsWith start at behind next end → to_go next < start + 1
-to_go_less start at behind None end ends = omega arith
-to_go_less start at behind (Some target) end ends = let back : IsBackward start target = ends.2 in omega (arith, back.earlier)
 
 pub all_read : (message : List ℕ) (at : ℕ) (wire : List ℕ) (target : Option ℕ) (end : ℕ) → IsUnderWay message at wire target end
     → target ≡ None

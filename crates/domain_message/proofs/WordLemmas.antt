@@ -16,9 +16,6 @@ pub record HasWords (line rest : List ℕ) (words : List (Bor (List ℕ))) : Typ
   pub text : IsUtf8 rest
   pub same : map (λ w. w.now) words ++ words_of rest ≡ words_of line
 
-pub words_begin : (line : List ℕ) → IsUtf8 line → HasWords line line []
-words_begin line text = record { text = text; same = refl }
-
 no_words : words_of [] ≡ []
 unfolding words_after
 no_words = refl

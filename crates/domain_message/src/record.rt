@@ -96,8 +96,8 @@ where
 }
 
 /// The record that stands at a place of a message (RFC 1035, section 4.1.3), over octets of its
-/// own, and the place after it. Pointers of the owner are followed, and those of names in the data of
-/// the types of RFC 1035, which alone may be compressed (RFC 3597, section 4): NS, SOA, MX, and,
+/// own, and the place after it. Pointers of the owner are followed, and those of names in the data
+/// of the types of RFC 1035, which alone may be compressed (RFC 3597, section 4): NS, SOA, MX, and,
 /// held as octets, MD, MF, CNAME, MB, MG, MR, PTR and MINFO. The octets of data of other types are
 /// taken as they stand.
 ///

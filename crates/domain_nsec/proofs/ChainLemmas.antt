@@ -61,16 +61,16 @@ link_at numbers a (n ∷ names) (b ∷ bits) zero d e l = refl
 link_at numbers a (n ∷ names) (b ∷ bits) (suc i) d e l = link_at numbers a names bits i d (omega (arith, e)) (omega (arith, l))
 
 -- the owner of the link at a place
-pub owner_lent : (numbers : ApexSoa) (a : Name) (names : List Name) (bits : List (List ℕ)) (i : ℕ) (d : Link) (n : Name)
+pub owner_borrowed : (numbers : ApexSoa) (a : Name) (names : List Name) (bits : List (List ℕ)) (i : ℕ) (d : Link) (n : Name)
     → length names ≡ length bits → i < length names → n ≡ get_or names i n → n ≡ (get_or (links_in numbers a names bits) i d).owner
-owner_lent numbers a names bits i d n even within owner =
+owner_borrowed numbers a names bits i d n even within owner =
     get_or_read names i n within owner a ∙ ap (λ k. k.owner) (link_at numbers a names bits i d even within)
 
 -- the link at a place has that owner, the owner after it, or the apex, for a next name, and the bits there
-pub link_lent : (numbers : ApexSoa) (a : Name) (names : List Name) (bits : List (List ℕ)) (i : ℕ) (d : Link) (n next : Name) (types : List ℕ)
+pub link_borrowed : (numbers : ApexSoa) (a : Name) (names : List Name) (bits : List (List ℕ)) (i : ℕ) (d : Link) (n next : Name) (types : List ℕ)
     → length names ≡ length bits → i < length names → n ≡ get_or names i n → types ≡ get_or bits i [] → next ≡ get_or names (i + 1) a
     → link_of n next numbers types ≡ get_or (links_in numbers a names bits) i d
-link_lent numbers a names bits i d n next types even within owner listed later =
+link_borrowed numbers a names bits i d n next types even within owner listed later =
     let here : n ≡ get_or names i a = get_or_read names i n within owner a in
     let after : next ≡ get_or names (suc i) a = later ∙ ap (λ k. get_or names k a) (add-one i) in
     (λ j. link_of (here j) (after j) numbers (listed j)) ∙ link_at numbers a names bits i d even within

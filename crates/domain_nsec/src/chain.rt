@@ -18,7 +18,7 @@ use std::alloc::Global;
 use std::marker::Model;
 
 /// A record of a chain whose names and types lie in the records of the zone and in the chain.
-pub type LentNsec<'a> = Record<ParsedName<'a>, Nsec<&'a [u8], ParsedName<'a>>>;
+pub type BorrowedNsec<'a> = Record<ParsedName<'a>, Nsec<&'a [u8], ParsedName<'a>>>;
 
 /// The NSEC chain of a zone before its records are made. Contracts see the links that its records
 /// have. It borrows the octets of the names from the records of the zone, and holds 24 octets for
@@ -142,7 +142,7 @@ impl<'a, N: ToName> NsecChain<'a, N> {
 
     /// The record at a place, in canonical order, which borrows from the chain; None past the last
     /// one. Takes no memory.
-    pub fn lend(&self, place: usize) -> Option<LentNsec<'_>>
+    pub fn lend(&self, place: usize) -> Option<BorrowedNsec<'_>>
         ensures some { IfSome result (λ made. (d : Link)
             → as_link (λ n. n) made ≡ slice_index_or self.now place d) }
         ensures none { IfNone result (length self.now ≤ place) }
@@ -171,24 +171,29 @@ where
     builder
         .append_slice(types.as_slice())
         .map_err(|_| OutOfMemory)?;
-    Ok(types.remade(O::from_builder(builder)))
+    Ok(types.with_octets(O::from_builder(builder)))
 }
 
 /// The record in octets of its own.
 fn copy_record<O: FromBuilder, N: MakeName>(
     alloc: Global,
-    lent: &LentNsec<'_>,
+    borrowed: &BorrowedNsec<'_>,
 ) -> Result<Record<N, Nsec<O, N>>, OutOfMemory>
 where
     N: Drop,
     O: Drop,
     O::Builder: GrowingBuilder + EmptyBuilder + Drop,
-    ensures { IfOk result (λ made. as_link N.labels made ≡ as_link (λ n. n) lent.now) }
+    ensures { IfOk result (λ made. as_link N.labels made ≡ as_link (λ n. n) borrowed.now) }
 {
-    let owner = N::make(alloc, lent.owner().as_wire())?;
-    let next = N::make(alloc, lent.data().next_name().as_wire())?;
-    let types = copy_types(alloc, lent.data().types())?;
-    Ok(Record::new(owner, lent.class(), lent.ttl(), Nsec::new(next, types)))
+    let owner = N::make(alloc, borrowed.owner().as_wire())?;
+    let next = N::make(alloc, borrowed.data().next_name().as_wire())?;
+    let types = copy_types(alloc, borrowed.data().types())?;
+    Ok(Record::new(
+        owner,
+        borrowed.class(),
+        borrowed.ttl(),
+        Nsec::new(next, types),
+    ))
 }
 
 impl<'a, N: MakeName> NsecChain<'a, N> {
@@ -205,10 +210,10 @@ impl<'a, N: MakeName> NsecChain<'a, N> {
     {
         let mut nsecs = Vec::with_capacity(alloc, self.len())?;
         for place in 0..self.len() {
-            let Some(lent) = self.lend(place) else {
+            let Some(borrowed) = self.lend(place) else {
                 unreachable!();
             };
-            let nsec = copy_record(alloc, &lent)?;
+            let nsec = copy_record(alloc, &borrowed)?;
             nsecs.push(nsec)?;
         }
         Ok(nsecs)

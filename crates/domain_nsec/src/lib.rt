@@ -15,6 +15,6 @@ mod nsec;
 mod owners;
 mod types;
 
-pub use chain::{LentNsec, NsecChain};
+pub use chain::{BorrowedNsec, NsecChain};
 pub use config::GenerateNsecConfig;
 pub use nsec::generate_nsecs;

@@ -15,6 +15,7 @@ use Rattle.std.proofs.lemmas.List.Elements.{recursion_from_All}
 use Rattle.std.proofs.lemmas.List.Sorted.{ranks_by}
 use Rattle.domain_octets.specs.Base32.{base32_lower}
 use Rattle.domain_octets.proofs.OrderLemmas.{lower_apart}
+use Rattle.domain_octets.proofs.StdLemmas.{and_false}
 use Rattle.domain_bitmap.specs.Bitmap.{bitmap_octets}
 use Rattle.domain_bitmap.proofs.BitmapLemmas.{bitmap_octets-same}
 use Rattle.domain_chain_rdata.specs.OptOut.{is_opt_out}
@@ -247,12 +248,8 @@ module _ (L : List ZoneRecord) (a : Name) (config : ChainConfig) where
       ∙ any_owner config.occlude_below_dname L a a at o (apex_unoccluded config.occlude_below_dname L a)
       (and_from (not (is_excluded L a config a)) (same_name a a)
       (ap not ((λ i. excludes config && (((below_itself a i && not (same_itself a a refl i)) && has_type (records_of L a) ns)
-      && not (has_type (records_of L a) ds))) ∙ none (excludes config)))
+      && not (has_type (records_of L a) ds))) ∙ and_false (excludes config)))
       (same_itself a a refl)))
-    where
-      none : (b : Bool) → (b && false) ≡ false
-      none true = refl
-      none false = refl
 
   module _ (links : List HashedLink) (chain : IsHashedChain L a config links) where
     name_sound : (n : HashedName) → In n chain.names → IsOfChain L a config n

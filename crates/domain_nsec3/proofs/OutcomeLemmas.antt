@@ -5,6 +5,7 @@ use Rattle.std.specs.List.{AllByRecursion, list_any}
 use Rattle.std.specs.List.Sorted.{IsStrictlySortedBy}
 use Rattle.std.proofs.lemmas.Bool.{and_parts, and_from, not-true}
 use Rattle.std.proofs.lemmas.List.Elements.{All-from_recursion}
+use Rattle.domain_octets.proofs.StdLemmas.{and_false}
 use Rattle.domain_base.specs.Order.{canonical_cmp, before}
 use Rattle.domain_records.specs.Errors.{signing_error_of}
 use Rattle.domain_hasher.specs.declared.error.Nsec3HashError.{Nsec3HashError}
@@ -59,12 +60,8 @@ module _ (L : List ZoneRecord) (a : Name) (config : ChainConfig) where
       ∙ any_owner config.occlude_below_dname L a a at o (apex_unoccluded config.occlude_below_dname L a)
       (and_from (not (is_excluded L a config a)) (same_name a a)
       (ap not ((λ i. excludes config && (((below_itself a i && not (same_itself a a refl i)) && has_type (records_of L a) ns)
-      && not (has_type (records_of L a) ds))) ∙ none (excludes config)))
+      && not (has_type (records_of L a) ds))) ∙ and_false (excludes config)))
       (same_itself a a refl))
-    where
-      none : (b : Bool) → (b && false) ≡ false
-      none true = refl
-      none false = refl
 
   -- ---- what hashing comes to
 

@@ -4,6 +4,7 @@ use Rattle.std.specs.Prelude.{filter}
 use Rattle.std.specs.List.{list_any}
 use Rattle.std.proofs.lemmas.Bool.{cases_Bool, false≢true, true≢false, and_parts, and_from, or_cases, or_right, or_left, not-true, cases_lt}
 use Rattle.std.proofs.lemmas.List.Folds.{list_any-append}
+use Rattle.domain_octets.proofs.StdLemmas.{and_false}
 use Rattle.domain_base.specs.Name.{is_at_or_below, is_strictly_below, lowered, same_name}
 use Rattle.domain_base.specs.Words.{Name}
 use Rattle.domain_base.specs.Types.{ns, ds, dname}
@@ -75,12 +76,8 @@ module _ (L : List ZoneRecord) (a : Name) (config : ChainConfig) where
       any_filter (λ n. same_name n x) (λ n. not (is_excluded L a config n)) (unoccluded_owners config.occlude_below_dname L a)
       ∙ any_owner config.occlude_below_dname L a x at o (λ i. low i && not (x_high i))
       (and_from (not (is_excluded L a config x)) (same_name x x)
-      (ap not ((λ i. excludes config && (no_cut i && not (has_type (records_of L x) ds))) ∙ none (excludes config)))
+      (ap not ((λ i. excludes config && (no_cut i && not (has_type (records_of L x) ds))) ∙ and_false (excludes config)))
       (same_itself x x refl))
-    where
-      none : (b : Bool) → (b && false) ≡ false
-      none true = refl
-      none false = refl
 
   -- what exists over the chain owners
   pub existing_are : (x : Name) → is_at_or_below x a ≡ true → exists_over (original_owners L a config) a x ≡ is_chain_name L a config x

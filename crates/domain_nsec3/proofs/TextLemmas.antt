@@ -1,5 +1,5 @@
 -- The text of a hash as a label.
-use Rattle.std.proofs.Common.{◌≡◌, ℕ, ◌+◌, ◌*◌, ◌/◌, ◌%◌, ◌<◌, ◌≤◌, List, [], ◌∷◌, ◌++◌, map, length, refl, inl}
+use Rattle.std.proofs.Common.{◌≡◌, ℕ, ◌+◌, ◌*◌, ◌/◌, ◌<◌, ◌≤◌, List, [], ◌∷◌, ◌++◌, map, length, refl, inl}
 use Rattle.std.proofs.Common.{inr, sym, ap, ◌∙◌, subst, arith, length-append, get_or, set, take, Fits, w8, zero, suc, append_assoc}
 use Rattle.std.specs.Prelude.{All, Some, None, Ok, nat_lt, ◌==◌, ◌||◌, true, false, if◌then◌else◌}
 use Rattle.std.specs.Char.{to_ascii_lowercase}
@@ -7,8 +7,11 @@ use Rattle.std.specs.List.{AllByRecursion}
 use Rattle.std.proofs.lemmas.Bool.{cases_Bool, cases_lt, or_right}
 use Rattle.std.proofs.lemmas.Bool.Decides.{nat_tests}
 use Rattle.std.proofs.lemmas.List.Elements.{recursion_from_All, All-from_recursion}
-use Rattle.std.proofs.lemmas.List.{length-map, get_or_default}
+use Rattle.std.proofs.lemmas.List.{length-map}
 use Rattle.domain_octets.specs.Base32.{base32_from, base32_lower, lower_digit}
+use Rattle.domain_octets.proofs.Base32Lemmas.{many_digits}
+use Rattle.domain_octets.proofs.OctetLemmas.{octets_from_type}
+use Rattle.domain_octets.proofs.ReadBackLemmas.{are_small}
 use Rattle.domain_base.specs.Name.{wire_of, IsName}
 use Rattle.domain_base.specs.Text.{is_ordinary, label_text, name_text}
 use Rattle.domain_base.specs.Wire.{labels_of, IsWire}
@@ -22,80 +25,15 @@ use Rattle.domain_nsec3.specs.Chain.{hashed_owner}
 use Rattle.domain_nsec3.specs.Faults.{hash_fault}
 use Rattle.domain_nsec3.proofs.AncestorLemmas.{less, not_less}
 
--- five bits a digit, after bits that are left over
-mutual
-  unfolding base32_from
-
-  digits_1 : (rest : ℕ) (h : List ℕ) → 5 * length (base32_from 1 rest h) ≤ 8 * length h + 4
-  digits_1 rest [] = omega arith
-  digits_1 rest (o ∷ h) = let more = digits_8 ((256 * rest + o) % 8) h in omega arith
-
-  digits_2 : (rest : ℕ) (h : List ℕ) → 5 * length (base32_from 2 rest h) ≤ 8 * length h + 5
-  digits_2 rest [] = omega arith
-  digits_2 rest (o ∷ h) = let more = digits_16 ((256 * rest + o) % 16) h in omega arith
-
-  digits_4 : (rest : ℕ) (h : List ℕ) → 5 * length (base32_from 4 rest h) ≤ 8 * length h + 6
-  digits_4 rest [] = omega arith
-  digits_4 rest (o ∷ h) = let more = digits_1 ((256 * rest + o) % 32 % 1) h in omega arith
-
-  digits_8 : (rest : ℕ) (h : List ℕ) → 5 * length (base32_from 8 rest h) ≤ 8 * length h + 7
-  digits_8 rest [] = omega arith
-  digits_8 rest (o ∷ h) = let more = digits_2 ((256 * rest + o) % 64 % 2) h in omega arith
-
-  digits_16 : (rest : ℕ) (h : List ℕ) → 5 * length (base32_from 16 rest h) ≤ 8 * length h + 8
-  digits_16 rest [] = omega arith
-  digits_16 rest (o ∷ h) = let more = digits_4 ((256 * rest + o) % 128 % 4) h in omega arith
-
-mutual
-  unfolding base32_from
-
-  least_1 : (rest : ℕ) (h : List ℕ) → 8 * length h ≤ 5 * length (base32_from 1 rest h)
-  least_1 rest [] = omega arith
-  least_1 rest (o ∷ h) = let more = least_8 ((256 * rest + o) % 8) h in omega arith
-
-  least_2 : (rest : ℕ) (h : List ℕ) → 8 * length h + 1 ≤ 5 * length (base32_from 2 rest h)
-  least_2 rest [] = omega arith
-  least_2 rest (o ∷ h) = let more = least_16 ((256 * rest + o) % 16) h in omega arith
-
-  least_4 : (rest : ℕ) (h : List ℕ) → 8 * length h + 2 ≤ 5 * length (base32_from 4 rest h)
-  least_4 rest [] = omega arith
-  least_4 rest (o ∷ h) = let more = least_1 ((256 * rest + o) % 32 % 1) h in omega arith
-
-  least_8 : (rest : ℕ) (h : List ℕ) → 8 * length h + 3 ≤ 5 * length (base32_from 8 rest h)
-  least_8 rest [] = omega arith
-  least_8 rest (o ∷ h) = let more = least_2 ((256 * rest + o) % 64 % 2) h in omega arith
-
-  least_16 : (rest : ℕ) (h : List ℕ) → 8 * length h + 4 ≤ 5 * length (base32_from 16 rest h)
-  least_16 rest [] = omega arith
-  least_16 rest (o ∷ h) = let more = least_4 ((256 * rest + o) % 128 % 4) h in omega arith
-
 -- how many digits a hash has
 pub text_length : (h : List ℕ) → length (base32_lower h) ≡ (8 * length h + 4) / 5
-text_length h = omega (arith, length-map (base32_from 1 0 h) lower_digit, least_1 0 h, digits_1 0 h)
+text_length h = length-map (base32_from 1 0 h) lower_digit ∙ many_digits h
 
--- each digit has five bits
-mutual
-  unfolding base32_from
+abbrev AreOctets : List ℕ → Type 0
+AreOctets h = All (λ o. o < 256) h
 
-  small_1 : (rest : ℕ) (h : List ℕ) → rest < 1 → AllByRecursion (λ o. o < 256) h → AllByRecursion (λ d. d < 32) (base32_from 1 rest h)
-  small_1 rest [] b all = tt
-  small_1 rest (o ∷ h) b all = let octet : o < 256 = all.0 in (omega arith, small_8 ((256 * rest + o) % 8) h (omega arith) all.1)
-
-  small_2 : (rest : ℕ) (h : List ℕ) → rest < 2 → AllByRecursion (λ o. o < 256) h → AllByRecursion (λ d. d < 32) (base32_from 2 rest h)
-  small_2 rest [] b all = (omega arith, tt)
-  small_2 rest (o ∷ h) b all = let octet : o < 256 = all.0 in (omega arith, small_16 ((256 * rest + o) % 16) h (omega arith) all.1)
-
-  small_4 : (rest : ℕ) (h : List ℕ) → rest < 4 → AllByRecursion (λ o. o < 256) h → AllByRecursion (λ d. d < 32) (base32_from 4 rest h)
-  small_4 rest [] b all = (omega arith, tt)
-  small_4 rest (o ∷ h) b all = let octet : o < 256 = all.0 in (omega arith, (omega arith, small_1 ((256 * rest + o) % 32 % 1) h (omega arith) all.1))
-
-  small_8 : (rest : ℕ) (h : List ℕ) → rest < 8 → AllByRecursion (λ o. o < 256) h → AllByRecursion (λ d. d < 32) (base32_from 8 rest h)
-  small_8 rest [] b all = (omega arith, tt)
-  small_8 rest (o ∷ h) b all = let octet : o < 256 = all.0 in (omega arith, (omega arith, small_2 ((256 * rest + o) % 64 % 2) h (omega arith) all.1))
-
-  small_16 : (rest : ℕ) (h : List ℕ) → rest < 16 → AllByRecursion (λ o. o < 256) h → AllByRecursion (λ d. d < 32) (base32_from 16 rest h)
-  small_16 rest [] b all = (omega arith, tt)
-  small_16 rest (o ∷ h) b all = let octet : o < 256 = all.0 in (omega arith, (omega arith, small_4 ((256 * rest + o) % 128 % 4) h (omega arith) all.1))
+small : (h : List ℕ) → AreOctets h → AllByRecursion (λ d. d < 32) (base32_from 1 0 h)
+small h all = recursion_from_All (λ d. d < 32) (base32_from 1 0 h) (are_small h all)
 
 digit_small : (d : ℕ) → d < 32 → lower_digit d < 256
 digit_small d b = elim (nat_lt d 10) as (λ t. (if t then 48 + d else 87 + d) < 256) [ true ↦ omega arith | false ↦ omega arith ]
@@ -116,12 +54,12 @@ digits_small : (ds : List ℕ) → AllByRecursion (λ d. d < 32) ds → AllByRec
 digits_small [] all = tt
 digits_small (d ∷ ds) all = (digit_small d all.0, digits_small ds all.1)
 
-pub text_octets : (h : List ℕ) → All (λ o. o < 256) h → All (λ o. o < 256) (base32_lower h)
+pub text_octets : (h : List ℕ) → AreOctets h → All (λ o. o < 256) (base32_lower h)
 text_octets h all = All-from_recursion (λ o. o < 256) (base32_lower h)
-    (digits_small (base32_from 1 0 h) (small_1 0 h (omega arith) (recursion_from_All (λ o. o < 256) h all)))
+    (digits_small (base32_from 1 0 h) (small h all))
 
-pub lower_text : (h : List ℕ) → All (λ o. o < 256) h → map to_ascii_lowercase (base32_lower h) ≡ base32_lower h
-lower_text h all = digits_lower (base32_from 1 0 h) (small_1 0 h (omega arith) (recursion_from_All (λ o. o < 256) h all))
+pub lower_text : (h : List ℕ) → AreOctets h → map to_ascii_lowercase (base32_lower h) ≡ base32_lower h
+lower_text h all = digits_lower (base32_from 1 0 h) (small h all)
 
 -- ---- the text of a hash within that of a name
 
@@ -139,8 +77,8 @@ digits_text (d ∷ ds) all =
     ap (λ l. l ++ label_text (map lower_digit ds)) (ordinary_octet (lower_digit d) (digit_ordinary d all.0))
     ∙ ap (λ l. lower_digit d ∷ l) (digits_text ds all.1)
 
-hash_text : (h : List ℕ) → All (λ o. o < 256) h → label_text (base32_lower h) ≡ base32_lower h
-hash_text h all = digits_text (base32_from 1 0 h) (small_1 0 h (omega arith) (recursion_from_All (λ o. o < 256) h all))
+hash_text : (h : List ℕ) → AreOctets h → label_text (base32_lower h) ≡ base32_lower h
+hash_text h all = digits_text (base32_from 1 0 h) (small h all)
 
 digit_ascii : (d : ℕ) → d < 32 → lower_digit d < 128
 digit_ascii d b = elim (nat_lt d 10) as (λ t. (if t then 48 + d else 87 + d) < 128) [ true ↦ omega arith | false ↦ omega arith ]
@@ -150,16 +88,16 @@ digits_ascii [] all i = omega arith
 digits_ascii (d ∷ ds) all zero = digit_ascii d all.0
 digits_ascii (d ∷ ds) all (suc i) = digits_ascii ds all.1 i
 
-pub ascii_text : (h : List ℕ) → All (λ o. o < 256) h → IsAscii (base32_lower h)
-ascii_text h all = digits_ascii (base32_from 1 0 h) (small_1 0 h (omega arith) (recursion_from_All (λ o. o < 256) h all))
+pub ascii_text : (h : List ℕ) → AreOctets h → IsAscii (base32_lower h)
+ascii_text h all = digits_ascii (base32_from 1 0 h) (small h all)
 
 -- the text of the owner of a record, with its last dot: right below the root, and elsewhere
-pub owner_at_root : (a : Name) (h : List ℕ) → All (λ o. o < 256) h → a ≡ [] → base32_lower h ++ 46 ∷ [] ≡ name_text (hashed_owner a h) ++ 46 ∷ []
+pub owner_at_root : (a : Name) (h : List ℕ) → AreOctets h → a ≡ [] → base32_lower h ++ 46 ∷ [] ≡ name_text (hashed_owner a h) ++ 46 ∷ []
 owner_at_root a h all root =
     subst (λ (n : Name). base32_lower h ++ 46 ∷ [] ≡ name_text (hashed_owner n h) ++ 46 ∷ []) (sym root)
     (ap (λ t. t ++ 46 ∷ []) (sym (append-nil (label_text (base32_lower h)) ∙ hash_text h all)))
 
-pub owner_below : (a : Name) (h : List ℕ) → All (λ o. o < 256) h → (a ≡ [] → ⊥)
+pub owner_below : (a : Name) (h : List ℕ) → AreOctets h → (a ≡ [] → ⊥)
     → base32_lower h ++ 46 ∷ (name_text a ++ 46 ∷ []) ≡ name_text (hashed_owner a h) ++ 46 ∷ []
 owner_below [] h all some = absurd (some refl)
 owner_below (l ∷ ls) h all some =
@@ -223,9 +161,6 @@ module _ (a : Name) (h : List ℕ) where
 
 -- ---- a hash as a label before a name
 
-pub octets_below : (h : List ℕ) → ((i : ℕ) → Fits w8 (get_or h i 0)) → All (λ o. o < 256) h
-octets_below h f k d l = subst (λ (o : ℕ). o < 256) (get_or_default h k 0 d l) (let fits = f k in omega arith)
-
 -- a label with its length, and a name after it, in a buffer
 pub first_set : (xs : List ℕ) (n : ℕ) → 0 < length xs → take 1 (set xs 0 n) ≡ n ∷ []
 first_set [] n h = absurd (omega arith)
@@ -257,7 +192,7 @@ owner_made a hash label above wire w l sound octets is made =
     let fits : length (wire_of (base32_lower hash ∷ labels_of above)) ≤ 255 =
     subst (λ (x : Name). length (wire_of (base32_lower hash ∷ x)) ≤ 255) (sym l) (sound_fits a hash sound) in
     let valid : IsName (base32_lower hash ∷ labels_of above) = record {
-      of_labels = (record { not_empty = omega arith; fits = omega arith; octets = text_octets hash (octets_below hash octets) }, w.valid.of_labels);
+      of_labels = (record { not_empty = omega arith; fits = omega arith; octets = text_octets hash (octets_from_type hash octets) }, w.valid.of_labels);
       fits = fits;
     } in
     let same : wire ≡ wire_of (base32_lower hash ∷ labels_of above) = made ∙ (λ i. length (is i) ∷ (is i ++ sym long i)) in

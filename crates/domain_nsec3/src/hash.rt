@@ -11,17 +11,14 @@ ghost use Rattle.domain_nsec3.specs.Steps.{Entry, without_hash, IsHashed, IsRefu
 ghost use Rattle.domain_nsec3.specs.StepView.{as_hashed_entry};
 ghost use Rattle.domain_nsec3.specs.View.{hash_by, parameters_of};
 
-use crate::hash_text::write_hash;
+use crate::hash_text::{MAX_TEXT, write_hash};
 use crate::name_hash::{MAX_HASH, NameHash};
 use domain_base::{MAX_NAME, MakeName, Nsec3HashAlgorithm, ParsedName, ToName};
 use domain_bitmap::Nsec3Salt;
 use domain_chain_rdata::Nsec3param;
-use domain_hasher::{Nsec3HashError, Nsec3Hasher, hash_wire, lower_wire};
+use domain_hasher::{Nsec3HashError, Nsec3Hasher, hash_wire};
 use domain_octets::{Octets, OutOfMemory};
 use std::alloc::Global;
-
-/// The greatest length of a label.
-pub(crate) const MAX_LABEL: usize = 63;
 
 /// A name of a chain: its hash, and its place among the names as they were hashed.
 #[derive(Drop)]
@@ -50,7 +47,7 @@ fn hash_octets<H: Nsec3Hasher>(
     ensures memory { IsErrOf result hash_error.OutOfMemory → H.takes_memory hasher.now }
 {
     let mut buffer = [0; MAX_NAME];
-    let lowered = lower_wire(&mut buffer, name);
+    let lowered = name.lower_wire(&mut buffer);
     match hash_wire(alloc, hasher, algorithm, iterations, salt, lowered) {
         Ok(octets) => Ok(octets),
         Err(error) => Err(error),
@@ -101,7 +98,7 @@ fn hash_checked<H: Nsec3Hasher>(
 }
 
 /// Writes octets from a place in a buffer on, and gives the place after them.
-pub(crate) fn put_octets(buffer: &mut [u8], at: usize, octets: &[u8]) -> usize
+fn put_octets(buffer: &mut [u8], at: usize, octets: &[u8]) -> usize
     requires { at + length octets.now ≤ length buffer.old }
     ensures end { result ≡ at + length octets.now }
     ensures front { take result buffer.new ≡ take at buffer.old ++ octets.now }
@@ -133,7 +130,7 @@ pub(crate) fn write_owner<'a>(buffer: &'a mut [u8], apex: &ParsedName<'_>, hash:
     ensures labels { labels_of result.now ≡ hashed_owner apex.now hash.now }
 {
     let above = apex.as_wire();
-    let mut label = [0; MAX_LABEL];
+    let mut label = [0; MAX_TEXT];
     let label = write_hash(&mut label, hash);
     join_label(buffer, label, above)
 }
@@ -235,8 +232,8 @@ fn hash_at<H: Nsec3Hasher, O: Octets>(
     }
 }
 
-/// The hashes of names, each with the place of its name, in their order, in a list that has room for
-/// them; else the first refusal. Takes no memory but the hasher's.
+/// The hashes of names, each with the place of its name, in their order, in a list that has room
+/// for them; else the first refusal. Takes no memory but the hasher's.
 fn hash_into<H: Nsec3Hasher, O: Octets>(
     alloc: Global,
     hasher: &H,

@@ -1,22 +1,21 @@
 //! The text of a hash, written without memory.
-ghost use Rattle.std.specs.Prelude.{◌≡◌, ◌≤◌, length};
+ghost use Rattle.std.specs.Prelude.{◌≡◌, ◌+◌, ◌≤◌, length};
 ghost use Rattle.std.specs.Fmt.{WritesOnOk};
 ghost use Rattle.domain_octets.specs.Base32.{base32_lower};
 
-use crate::hash::{MAX_LABEL, put_octets};
 use domain_octets::base32::Digits;
 use std::fmt;
 
+/// Room for the text of a hash that is a label, of at most 63 octets, and seven octets more: digits
+/// are written eight at a time.
+pub(crate) const MAX_TEXT: usize = 70;
+
 /// Writes the text of a hash in lower case to the front of a buffer.
 pub(crate) fn write_hash<'a>(buffer: &'a mut [u8], hash: &[u8]) -> &'a [u8]
-    requires { length (base32_lower hash.now) ≤ length buffer.old }
+    requires { length (base32_lower hash.now) + 7 ≤ length buffer.old }
     ensures { result.now ≡ base32_lower hash.now }
 {
-    let mut digits = Digits::new(hash);
-    let mut end = digits.put_lower(buffer);
-    while let Some(digit) = digits.next_lower() {
-        end = put_octets(buffer, end, &[digit]);
-    }
+    let end = Digits::new(hash).put_lower(buffer);
     &buffer[..end]
 }
 
@@ -25,7 +24,7 @@ pub(crate) fn display_hash<W: fmt::Write>(hash: &[u8], f: &mut fmt::Formatter<W>
     requires { length hash.now ≤ 39 }
     ensures { WritesOnOk W.write_str_gives f.old result (base32_lower hash.now) f.new }
 {
-    let mut buffer = [0; MAX_LABEL];
+    let mut buffer = [0; MAX_TEXT];
     let text = write_hash(&mut buffer, hash);
     f.write_str(unsafe { str::from_utf8_unchecked(text) })
 }

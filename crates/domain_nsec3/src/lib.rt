@@ -1,13 +1,14 @@
 //! The NSEC3 chain of a zone (RFC 5155, section 7.1).
 //!
 //! `Nsec3Chain::generate` gathers the original owner names of a zone and their empty non-terminals,
-//! hashes them, and gives exactly the defined chain, or the first fault that stands. The chain lends
-//! its records one by one, and hands all of them out; `generate_nsec3s` is both at once, under the
-//! name of the ported crate. The definitions stand in `specs/`, over those of `domain_zone`. The
-//! crates above may rely on this: exactly one record of the chain matches or covers the hash of each
-//! name of the zone.
+//! hashes them, and gives exactly the defined chain, or the first fault that stands. The chain
+//! lends its records one by one, and hands all of them out; `generate_nsec3s` is both at once,
+//! under the name of the ported crate. The definitions stand in `specs/`, over those of
+//! `domain_zone`. The crates above may rely on this: exactly one record of the chain matches or
+//! covers the hash of each name of the zone.
 #![tactic(auto)]
 
+mod borrowed;
 mod chain;
 mod config;
 mod copy;
@@ -16,16 +17,15 @@ mod hash;
 mod hash_text;
 mod hashed_owner;
 pub mod laws;
-mod lent;
 mod name_hash;
 mod nsec3;
 mod nsec3_chain;
 mod owners;
 mod types;
 
+pub use borrowed::BorrowedNsec3;
 pub use config::{GenerateNsec3Config, Nsec3ParamTtlMode};
 pub use hash::mk_hashed_nsec3_owner_name;
 pub use hashed_owner::HashedOwner;
-pub use lent::LentNsec3;
 pub use nsec3::{Nsec3Records, generate_nsec3s};
 pub use nsec3_chain::Nsec3Chain;

@@ -10,9 +10,9 @@ ghost use Rattle.domain_nsec3.specs.StepView.{common_of, links_in, AreUsable};
 ghost use Rattle.domain_nsec3.specs.View.{as_param_record, config_of, hashed_links_of, parameters_of};
 
 use crate::GenerateNsec3Config;
+use crate::borrowed::{BorrowedNsec3, lend_record};
 use crate::chain::{HashedChain, chain_of_zone};
 use crate::copy::copy_record;
-use crate::lent::{LentNsec3, lend_record};
 use domain_base::{Class, MakeName, ParsedName, ToName, Ttl};
 use domain_chain_rdata::{Nsec3, Nsec3param};
 use domain_hasher::Nsec3Hasher;
@@ -165,7 +165,7 @@ impl<'a, O: Octets> Nsec3Chain<'a, O> {
 
     /// The record at a place, in the order of hashes, which borrows from the chain; None past the
     /// last one. Takes no memory.
-    pub fn lend(&self, place: usize) -> Option<LentNsec3<'_>>
+    pub fn lend(&self, place: usize) -> Option<BorrowedNsec3<'_>>
         ensures some { IfSome result (λ made. (d : HashedLink)
             → made ≡ slice_index_or self.now.links place d) }
         ensures none { IfNone result (length self.now.links ≤ place) }
@@ -204,10 +204,10 @@ impl<'a, O: FromBuilder> Nsec3Chain<'a, O> {
     {
         let mut nsec3s = Vec::with_capacity(alloc, self.len())?;
         for place in 0..self.len() {
-            let Some(lent) = self.lend(place) else {
+            let Some(borrowed) = self.lend(place) else {
                 unreachable!();
             };
-            let nsec3 = copy_record(alloc, &lent)?;
+            let nsec3 = copy_record(alloc, &borrowed)?;
             nsec3s.push(nsec3)?;
         }
         Ok(nsec3s)

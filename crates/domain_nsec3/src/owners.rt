@@ -1,10 +1,9 @@
 //! The owners of a zone that its NSEC3 chain holds.
-ghost use Rattle.std.specs.Prelude.{◌≡◌, ◌≢◌, ◌&&◌, ◌∷◌, ◌++◌, [], false, not, length, None, IfOk, IfErr, OnOk};
+ghost use Rattle.std.specs.Prelude.{◌≡◌, ◌≢◌, ◌∷◌, ◌++◌, [], false, not, length, None, IfOk, IfErr, OnOk};
 ghost use Rattle.domain_records.specs.Order.{IsInOrder};
-ghost use Rattle.domain_base.specs.Types.{ds};
 ghost use Rattle.domain_bitmap.specs.Bitmap.{bitmap_octets};
 ghost use Rattle.domain_zone.specs.Soa.{soa_of};
-ghost use Rattle.domain_zone.specs.Zone.{has_type, has_unequal_ttls};
+ghost use Rattle.domain_zone.specs.Zone.{has_unequal_ttls};
 ghost use Rattle.domain_nsec3.specs.Faults.{IsFirstFault};
 ghost use Rattle.domain_nsec3.specs.Owners.{is_listed, original_owners};
 ghost use Rattle.domain_nsec3.specs.Steps.{AreOriginalOwners};
@@ -14,12 +13,12 @@ ghost use Rattle.domain_nsec3.specs.View.{HasherAnswer, config_of};
 
 use crate::GenerateNsec3Config;
 use crate::types::{OwnerKind, push_types};
-use domain_base::{ParsedName, Rtype, ToName};
+use domain_base::{ParsedName, ToName};
 use domain_bitmap::RtypeBitmaps;
 use domain_octets::Octets;
 use domain_record::ZoneData;
 use domain_records::{RecordsIter, SigningError};
-use domain_zone::{UnoccludedOwner, UnoccludedOwners, has_type, has_unequal_ttls};
+use domain_zone::{UnoccludedOwner, UnoccludedOwners, has_unequal_ttls};
 use std::alloc::Global;
 
 /// Names of a chain that own records, and the types of each. Once memory was wanting for one it is
@@ -76,14 +75,6 @@ impl<'a> Owners<'a> {
     }
 }
 
-/// Whether the owner is a zone cut without DS records.
-fn is_unsigned_cut<N: ToName, D: ZoneData>(owner: &UnoccludedOwner<'_, N, D>) -> bool
-    ensures { result ≡ (owner.now.is_zone_cut
-        && not (has_type (zone_of N.labels D.rtype D.minimum owner.now.records) ds)) }
-{
-    owner.is_zone_cut && !has_type(owner.records.records(), Rtype::DS)
-}
-
 /// The original owner names of a chain that own records, with their types: the owners that are not
 /// occluded, but for unsigned delegations where these are left out (RFC 5155, section 7.1). They
 /// stand in canonical order.
@@ -118,7 +109,7 @@ pub(crate) fn list_owners<'a, S, O: Octets, N: ToName, D: ZoneData>(
     let mut left = UnoccludedOwners::new(apex, records, config.occlude_below_dname);
     let mut owners = Owners::new(alloc);
     'owners: while let Some(owner) = left.next() {
-        let is_unsigned_cut = is_unsigned_cut(&owner);
+        let is_unsigned_cut = owner.is_unsigned_cut();
         if excludes & is_unsigned_cut {
             continue;
         }

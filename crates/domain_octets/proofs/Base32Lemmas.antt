@@ -1,95 +1,12 @@
 -- digits of five bits, one after another
-use Rattle.std.proofs.Common.{◌≡◌, ◌≢◌, ℕ, zero, suc, ◌+◌, ◌*◌, ◌/◌, ◌%◌, ◌<◌, ◌≤◌, zero-add, Bool, true, false, nat_lt, if◌then◌else◌}
-use Rattle.std.proofs.Common.{List, [], ◌∷◌, ◌++◌, length, get_or, map, take, drop, refl, sym, ap, subst, ◌∙◌, arith, lit<}
+use Rattle.std.proofs.Common.{◌≡◌, ℕ, min, zero, suc, ◌+◌, ◌*◌, ◌/◌, ◌%◌, ◌<◌, ◌≤◌, zero-add, Bool, true, false, nat_lt, if◌then◌else◌}
+use Rattle.std.proofs.Common.{List, [], ◌∷◌, ◌++◌, length, get_or, map, take, drop, refl, sym, ap, ◌∙◌, arith, lit<}
 use Rattle.std.specs.List.{AllByRecursion as ByRecursion, range_with_len}
 use Rattle.std.specs.Str.{IsAscii}
-use Rattle.std.proofs.lemmas.List.{get_or-map, length-map, length-take-le}
-use Rattle.std.proofs.lemmas.List.Elements.{All-from_recursion, recursion_from_All}
+use Rattle.std.proofs.lemmas.List.{append-nil, take_all, drop_all, take-map, get_or-map, length-map, length-take-le}
+use Rattle.std.proofs.lemmas.List.Elements.{recursion_from_All}
 use Rattle.std.proofs.lemmas.List.FromFn.{length-range_with_len, get_or-range_with_len}
-use Rattle.domain_octets.specs.Scale.{IsScale, no_bits, one_bit, two_bits, three_bits, four_bits, five_bits, six_bits, seven_bits}
-use Rattle.domain_octets.specs.Base32.{base32_from, digits_left, lower_digit, upper_digit, AreDigits}
-
--- one digit is taken, and then these bits are left over
-pub record TakesDigit (scale rest : ℕ) : Type 0 where
-  pub scale_is : IsScale (scale / 32)
-  pub below : rest % (scale / 32) < scale / 32
-  pub digit : rest / (scale / 32) < 32
-  pub some : 0 < scale / 32
-
-pub held_digit : (scale rest : ℕ) → IsScale scale → 32 ≤ scale → rest < scale → TakesDigit scale rest
-held_digit scale rest no_bits wide below = absurd (omega arith)
-held_digit scale rest one_bit wide below = absurd (omega arith)
-held_digit scale rest two_bits wide below = absurd (omega arith)
-held_digit scale rest three_bits wide below = absurd (omega arith)
-held_digit scale rest four_bits wide below = absurd (omega arith)
-held_digit scale rest five_bits wide below = record { scale_is = no_bits; below = omega arith; digit = omega arith; some = lit< tt }
-held_digit scale rest six_bits wide below = record { scale_is = one_bit; below = omega arith; digit = omega arith; some = lit< tt }
-held_digit scale rest seven_bits wide below = record { scale_is = two_bits; below = omega arith; digit = omega arith; some = lit< tt }
-
-pub held_left : (scale rest : ℕ) (octets : List ℕ) → IsScale scale → 32 ≤ scale
-    → digits_left scale rest octets ≡ (rest / (scale / 32)) ∷ digits_left (scale / 32) (rest % (scale / 32)) octets
-held_left scale rest octets no_bits wide = absurd (omega arith)
-held_left scale rest octets one_bit wide = absurd (omega arith)
-held_left scale rest octets two_bits wide = absurd (omega arith)
-held_left scale rest octets three_bits wide = absurd (omega arith)
-held_left scale rest octets four_bits wide = absurd (omega arith)
-held_left scale rest octets five_bits wide = refl
-held_left scale rest octets six_bits wide = refl
-held_left scale rest octets seven_bits wide = refl
-
-pub pulled_digit : (scale rest octet : ℕ) → IsScale scale → scale < 32 → rest < scale → octet < 256 → TakesDigit (256 * scale) (256 * rest + octet)
-pulled_digit scale rest octet no_bits narrow below small = record { scale_is = three_bits; below = omega arith; digit = omega arith; some = lit< tt }
-pulled_digit scale rest octet one_bit narrow below small = record { scale_is = four_bits; below = omega arith; digit = omega arith; some = lit< tt }
-pulled_digit scale rest octet two_bits narrow below small = record { scale_is = five_bits; below = omega arith; digit = omega arith; some = lit< tt }
-pulled_digit scale rest octet three_bits narrow below small = record { scale_is = six_bits; below = omega arith; digit = omega arith; some = lit< tt }
-pulled_digit scale rest octet four_bits narrow below small = record { scale_is = seven_bits; below = omega arith; digit = omega arith; some = lit< tt }
-pulled_digit scale rest octet five_bits narrow below small = absurd (omega arith)
-pulled_digit scale rest octet six_bits narrow below small = absurd (omega arith)
-pulled_digit scale rest octet seven_bits narrow below small = absurd (omega arith)
-
-pub pulled_left : (scale rest octet : ℕ) (octets : List ℕ) → IsScale scale → scale < 32
-    → digits_left scale rest (octet ∷ octets) ≡ ((256 * rest + octet) / (256 * scale / 32)) ∷ digits_left (256 * scale / 32)
-    ((256 * rest + octet) % (256 * scale / 32)) octets
-unfolding base32_from
-pulled_left scale rest octet octets no_bits narrow = refl
-pulled_left scale rest octet octets one_bit narrow = refl
-pulled_left scale rest octet octets two_bits narrow = refl
-pulled_left scale rest octet octets three_bits narrow = refl
-pulled_left scale rest octet octets four_bits narrow = refl
-pulled_left scale rest octet octets five_bits narrow = absurd (omega arith)
-pulled_left scale rest octet octets six_bits narrow = absurd (omega arith)
-pulled_left scale rest octet octets seven_bits narrow = absurd (omega arith)
-
--- the last digit
-pub last_left : (scale rest : ℕ) → IsScale scale → scale < 32 → scale ≢ 1 → digits_left scale rest [] ≡ ((32 / scale) * rest) ∷ []
-unfolding base32_from
-last_left scale rest no_bits narrow other = absurd (other refl)
-last_left scale rest one_bit narrow other = refl
-last_left scale rest two_bits narrow other = refl
-last_left scale rest three_bits narrow other = refl
-last_left scale rest four_bits narrow other = refl
-last_left scale rest five_bits narrow other = absurd (omega arith)
-last_left scale rest six_bits narrow other = absurd (omega arith)
-last_left scale rest seven_bits narrow other = absurd (omega arith)
-
-pub last_digit : (scale rest : ℕ) → IsScale scale → scale < 32 → rest < scale → (32 / scale) * rest < 32
-last_digit scale rest no_bits narrow below = omega arith
-last_digit scale rest one_bit narrow below = omega arith
-last_digit scale rest two_bits narrow below = omega arith
-last_digit scale rest three_bits narrow below = omega arith
-last_digit scale rest four_bits narrow below = omega arith
-last_digit scale rest five_bits narrow below = absurd (omega arith)
-last_digit scale rest six_bits narrow below = absurd (omega arith)
-last_digit scale rest seven_bits narrow below = absurd (omega arith)
-
-pub none_left : (scale rest : ℕ) (octets : List ℕ) → octets ≡ [] → scale ≡ 1 → digits_left scale rest octets ≡ []
-unfolding base32_from
-none_left scale rest octets none one = rw (none, one) refl
-
-pub ends_left : (scale rest : ℕ) (octets : List ℕ) → octets ≡ [] → IsScale scale → scale < 32 → scale ≢ 1
-    → digits_left scale rest octets ≡ ((32 / scale) * rest) ∷ base32_from 1 0 octets
-unfolding base32_from
-ends_left scale rest octets none scale_is narrow other = rw none (last_left scale rest scale_is narrow other)
+use Rattle.domain_octets.specs.Base32.{base32_from, lower_digit, upper_digit, AreDigits}
 
 -- eight digits of five octets, step by step: v is what an octet makes of the bits before it
 first_of_five : (a : ℕ) (octets : List ℕ) → base32_from 1 0 (a ∷ octets) ≡ (a / 8) ∷ base32_from 8 (a % 8) octets
@@ -141,78 +58,97 @@ five_octets a b c d e octets =
     ∙ ap (λ l. (third / 16) ∷ l) (fourth_of_five (third % 16) d fourth (e ∷ octets) refl
     ∙ ap (λ l. (fourth / 128) ∷ (fourth % 128 / 4) ∷ l) (fifth_of_five (fourth % 4) e fifth octets refl))))
 
-no_digits : base32_from 1 0 [] ≡ []
+pub no_digits : base32_from 1 0 [] ≡ []
 unfolding base32_from
 no_digits = refl
 
-pub five_alone : (a b c d e : ℕ) →
-    let second = 256 * (a % 8) + b in
-    let third = 256 * (second % 2) + c in
-    let fourth = 256 * (third % 16) + d in
-    let fifth = 256 * (fourth % 4) + e in
-    base32_from 1 0 (a ∷ b ∷ c ∷ d ∷ e ∷ [])
-    ≡ (a / 8) ∷ (second / 64) ∷ (second % 64 / 2) ∷ (third / 16) ∷ (fourth / 128) ∷ (fourth % 128 / 4) ∷ (fifth / 32) ∷ (fifth % 32) ∷ []
-five_alone a b c d e =
-    let second = 256 * (a % 8) + b in
-    let third = 256 * (second % 2) + c in
-    let fourth = 256 * (third % 16) + d in
-    let fifth = 256 * (fourth % 4) + e in
-    five_octets a b c d e [] ∙ ap (λ l. (a / 8) ∷ (second / 64) ∷ (second % 64 / 2) ∷ (third / 16) ∷ (fourth / 128) ∷
-    (fourth % 128 / 4) ∷ (fifth / 32) ∷ (fifth % 32) ∷ l) no_digits
-
--- five octets, where no bits are left over, and those after them
-pub five_left : (xs : List ℕ) (scale rest : ℕ) → scale ≡ 1 → rest < scale → 5 ≤ length xs
-    → digits_left scale rest xs ≡ base32_from 1 0 (take 5 xs) ++ digits_left scale rest (drop 5 xs)
-five_left (a ∷ b ∷ c ∷ d ∷ e ∷ octets) scale rest one below long =
-    let none : rest ≡ 0 = omega (arith, one) in
-    rw (one, none, five_alone a b c d e) (five_octets a b c d e octets)
-five_left [] scale rest one below long = absurd (omega arith)
-five_left (a ∷ []) scale rest one below long = absurd (omega arith)
-five_left (a ∷ b ∷ []) scale rest one below long = absurd (omega arith)
-five_left (a ∷ b ∷ c ∷ []) scale rest one below long = absurd (omega arith)
-five_left (a ∷ b ∷ c ∷ d ∷ []) scale rest one below long = absurd (omega arith)
-
--- a list of five
-are_five : (xs : List ℕ) → length xs ≡ 5 → xs ≡ get_or xs 0 0 ∷ get_or xs 1 0 ∷ get_or xs 2 0 ∷ get_or xs 3 0 ∷ get_or xs 4 0 ∷ []
-are_five (a ∷ b ∷ c ∷ d ∷ e ∷ []) is = refl
-are_five [] is = absurd (omega arith)
-are_five (a ∷ []) is = absurd (omega arith)
-are_five (a ∷ b ∷ []) is = absurd (omega arith)
-are_five (a ∷ b ∷ c ∷ []) is = absurd (omega arith)
-are_five (a ∷ b ∷ c ∷ d ∷ []) is = absurd (omega arith)
-are_five (a ∷ b ∷ c ∷ d ∷ e ∷ f ∷ xs) is = absurd (omega arith)
-
--- their digits
-pub digits_of_five : (xs : List ℕ) → length xs ≡ 5 →
+-- the digits of five octets as they are computed, and so those of fewer, with zeros after them
+abbrev eight : List ℕ → List ℕ
+eight xs =
     let second = 256 * (get_or xs 0 0 % 8) + get_or xs 1 0 in
     let third = 256 * (second % 2) + get_or xs 2 0 in
     let fourth = 256 * (third % 16) + get_or xs 3 0 in
     let fifth = 256 * (fourth % 4) + get_or xs 4 0 in
-    base32_from 1 0 xs
-    ≡ (get_or xs 0 0 / 8) ∷ (second / 64) ∷ (second % 64 / 2) ∷ (third / 16) ∷ (fourth / 128) ∷ (fourth % 128 / 4) ∷ (fifth / 32) ∷ (fifth % 32) ∷ []
-digits_of_five xs long = ap (base32_from 1 0) (are_five xs long) ∙ five_alone (get_or xs 0 0) (get_or xs 1 0) (get_or xs 2 0) (get_or xs 3 0) (get_or xs 4 0)
+    (get_or xs 0 0 / 8) ∷ (second / 64) ∷ (second % 64 / 2) ∷ (third / 16) ∷ (fourth / 128) ∷ (fourth % 128 / 4) ∷ (fifth / 32) ∷ (fifth % 32) ∷ []
 
-eight_digits : (a b c d e f g h : ℕ) → a < 32 → b < 32 → c < 32 → d < 32 → e < 32 → f < 32 → g < 32 → h < 32 → AreDigits (a ∷ b ∷ c ∷ d ∷ e ∷ f ∷ g ∷ h ∷ [])
-eight_digits a b c d e f g h p q r s t u v w = All-from_recursion (λ digit. digit < 32) (a ∷ b ∷ c ∷ d ∷ e ∷ f ∷ g ∷ h ∷ []) (
-  p,
-  (q, (r, (s, (t, (u, (v, (w, tt))))))),
-)
+-- five octets that begin with these, and then are zeros
+abbrev padded : List ℕ → List ℕ
+padded xs = xs ++ drop (length xs) (0 ∷ 0 ∷ 0 ∷ 0 ∷ 0 ∷ [])
 
-pub five_are_digits : (xs : List ℕ) → length xs ≡ 5 → ((i : ℕ) → get_or xs i 0 < 256) → AreDigits (base32_from 1 0 xs)
-five_are_digits xs long small =
-    let a = small 0 in
-    let b = small 1 in
-    let c = small 2 in
-    let d = small 3 in
-    let e = small 4 in
-    let second = 256 * (get_or xs 0 0 % 8) + get_or xs 1 0 in
-    let third = 256 * (second % 2) + get_or xs 2 0 in
-    let fourth = 256 * (third % 16) + get_or xs 3 0 in
-    let fifth = 256 * (fourth % 4) + get_or xs 4 0 in
-    subst AreDigits (sym (digits_of_five xs long))
-    (eight_digits (get_or xs 0 0 / 8) (second / 64) (second % 64 / 2) (third / 16) (fourth / 128) (fourth % 128 / 4) (fifth / 32)
-    (fifth % 32) (omega arith) (omega arith) (omega arith) (omega arith) (omega arith) (omega arith) (omega arith)
-    (omega arith))
+abbrev many : ℕ → ℕ
+many count = (8 * count + 4) / 5
+
+-- the last digit is filled with zero bits
+filled_8 : (r : ℕ) → base32_from 8 r [] ≡ ((256 * r + 0) / 64) ∷ []
+unfolding base32_from
+filled_8 r = let same : 4 * r ≡ (256 * r + 0) / 64 = omega arith in ap (λ n. n ∷ []) same
+
+filled_2 : (r : ℕ) → base32_from 2 r [] ≡ ((256 * r + 0) / 16) ∷ []
+unfolding base32_from
+filled_2 r = let same : 16 * r ≡ (256 * r + 0) / 16 = omega arith in ap (λ n. n ∷ []) same
+
+filled_16 : (r : ℕ) → base32_from 16 r [] ≡ ((256 * r + 0) / 128) ∷ []
+unfolding base32_from
+filled_16 r = let same : 2 * r ≡ (256 * r + 0) / 128 = omega arith in ap (λ n. n ∷ []) same
+
+filled_4 : (r : ℕ) → base32_from 4 r [] ≡ ((256 * r + 0) / 32) ∷ []
+unfolding base32_from
+filled_4 r = let same : 8 * r ≡ (256 * r + 0) / 32 = omega arith in ap (λ n. n ∷ []) same
+
+digits_of_group : (xs : List ℕ) → length xs ≤ 5 → base32_from 1 0 xs ≡ take (many (length xs)) (eight (padded xs))
+digits_of_group [] short = no_digits
+digits_of_group (a ∷ []) short = first_of_five a [] ∙ ap (λ l. (a / 8) ∷ l) (filled_8 (a % 8))
+digits_of_group (a ∷ b ∷ []) short =
+    let second = 256 * (a % 8) + b in
+    first_of_five a (b ∷ [])
+    ∙ ap (λ l. (a / 8) ∷ l) (second_of_five (a % 8) b second [] refl
+    ∙ ap (λ l. (second / 64) ∷ (second % 64 / 2) ∷ l) (filled_2 (second % 2)))
+digits_of_group (a ∷ b ∷ c ∷ []) short =
+    let second = 256 * (a % 8) + b in
+    let third = 256 * (second % 2) + c in
+    first_of_five a (b ∷ c ∷ [])
+    ∙ ap (λ l. (a / 8) ∷ l) (second_of_five (a % 8) b second (c ∷ []) refl
+    ∙ ap (λ l. (second / 64) ∷ (second % 64 / 2) ∷ l) (third_of_five (second % 2) c third [] refl
+    ∙ ap (λ l. (third / 16) ∷ l) (filled_16 (third % 16))))
+digits_of_group (a ∷ b ∷ c ∷ d ∷ []) short =
+    let second = 256 * (a % 8) + b in
+    let third = 256 * (second % 2) + c in
+    let fourth = 256 * (third % 16) + d in
+    first_of_five a (b ∷ c ∷ d ∷ [])
+    ∙ ap (λ l. (a / 8) ∷ l) (second_of_five (a % 8) b second (c ∷ d ∷ []) refl
+    ∙ ap (λ l. (second / 64) ∷ (second % 64 / 2) ∷ l) (third_of_five (second % 2) c third (d ∷ []) refl
+    ∙ ap (λ l. (third / 16) ∷ l) (fourth_of_five (third % 16) d fourth [] refl
+    ∙ ap (λ l. (fourth / 128) ∷ (fourth % 128 / 4) ∷ l) (filled_4 (fourth % 4)))))
+digits_of_group (a ∷ b ∷ c ∷ d ∷ e ∷ []) short = five_octets a b c d e [] ∙ ap (λ l. eight (a ∷ b ∷ c ∷ d ∷ e ∷ []) ++ l) no_digits
+digits_of_group (a ∷ b ∷ c ∷ d ∷ e ∷ f ∷ xs) short = absurd (omega arith)
+
+-- the characters of the digits of at most five octets
+pub spelled_five : (f : ℕ → ℕ) (xs : List ℕ) → length xs ≤ 5 → take (many (length xs)) (map f (eight (padded xs))) ≡ map f (base32_from 1 0 xs)
+spelled_five f xs short = take-map f (many (length xs)) (eight (padded xs)) ∙ ap (map f) (sym (digits_of_group xs short))
+
+alone : (xs : List ℕ) (count : ℕ) → count ≡ length xs → base32_from 1 0 xs ≡ base32_from 1 0 (take count xs) ++ base32_from 1 0 (drop count xs)
+alone xs count is = rw (is, take_all (length xs) xs (omega arith), drop_all (length xs) xs (omega arith), no_digits) (sym (append-nil (base32_from 1 0 xs)))
+
+-- the next five octets, or all where these are fewer, and those after them
+pub next_left : (xs : List ℕ) (count : ℕ) → count ≡ min (length xs) 5
+    → base32_from 1 0 xs ≡ base32_from 1 0 (take count xs) ++ base32_from 1 0 (drop count xs)
+next_left (a ∷ b ∷ c ∷ d ∷ e ∷ xs) count is =
+    let five : count ≡ 5 = omega (arith, is) in
+    rw five (five_octets a b c d e xs ∙ ap (λ l. l ++ base32_from 1 0 xs) (sym (digits_of_group (a ∷ b ∷ c ∷ d ∷ e ∷ []) (lit< tt))))
+next_left [] count is = alone [] count (omega (arith, is))
+next_left (a ∷ []) count is = alone (a ∷ []) count (omega (arith, is))
+next_left (a ∷ b ∷ []) count is = alone (a ∷ b ∷ []) count (omega (arith, is))
+next_left (a ∷ b ∷ c ∷ []) count is = alone (a ∷ b ∷ c ∷ []) count (omega (arith, is))
+next_left (a ∷ b ∷ c ∷ d ∷ []) count is = alone (a ∷ b ∷ c ∷ d ∷ []) count (omega (arith, is))
+
+-- how many digits octets have
+pub many_digits : (xs : List ℕ) → length (base32_from 1 0 xs) ≡ many (length xs)
+many_digits (a ∷ b ∷ c ∷ d ∷ e ∷ xs) = omega (arith, ap length (five_octets a b c d e xs), many_digits xs)
+many_digits [] = ap length no_digits
+many_digits (a ∷ []) = ap length (digits_of_group (a ∷ []) (lit< tt))
+many_digits (a ∷ b ∷ []) = ap length (digits_of_group (a ∷ b ∷ []) (lit< tt))
+many_digits (a ∷ b ∷ c ∷ []) = ap length (digits_of_group (a ∷ b ∷ c ∷ []) (lit< tt))
+many_digits (a ∷ b ∷ c ∷ d ∷ []) = ap length (digits_of_group (a ∷ b ∷ c ∷ d ∷ []) (lit< tt))
 
 -- the alphabets
 abbrev lower_alphabet : List ℕ
@@ -237,9 +173,6 @@ spelled_upper = spelled upper_digit upper_alphabet refl
 small_digit : (b : Bool) (n k : ℕ) → n < 32 → k < 96 → (if b then 48 + n else (k + n)) < 128
 small_digit true n k lt below = omega arith
 small_digit false n k lt below = omega arith
-
-pub lower_is_ascii : (n : ℕ) → n < 32 → lower_digit n < 128
-lower_is_ascii n lt = small_digit (nat_lt n 10) n 87 lt (lit< tt)
 
 pub upper_is_ascii : (n : ℕ) → n < 32 → upper_digit n < 128
 upper_is_ascii n lt = small_digit (nat_lt n 10) n 55 lt (lit< tt)

@@ -5,7 +5,7 @@ use Rattle.std.proofs.lemmas.List.{take_more, drop_more, append_assoc, append-ni
 use Rattle.std.proofs.lemmas.Bool.Decides.{nat_tests}
 use Rattle.std.proofs.Common.{lit<, lit≤}
 use Rattle.hex.specs.Hex.{encode_with}
-use Rattle.domain_octets.specs.Scale.{IsScale, no_bits, one_bit, two_bits, three_bits, four_bits, five_bits, six_bits, seven_bits}
+use Rattle.domain_octets.proofs.Scale.{IsScale, no_bits, one_bit, two_bits, three_bits, four_bits, five_bits, six_bits, seven_bits}
 use Rattle.domain_octets.specs.Codec.{base32_value, base32_octets, base32_digits, IsBase32}
 
 -- what a digit of five bits makes of it

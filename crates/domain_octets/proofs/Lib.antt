@@ -1,4 +1,7 @@
 pub mod CodecLemmas
+pub mod StdLemmas
+pub mod OctetLemmas
+pub mod Scale
 pub mod Base32Lemmas
 pub mod RefusalLemmas
 pub mod PieceLemmas

@@ -1,6 +1,6 @@
 -- Base 32 hex keeps the order of octets
-use Rattle.std.proofs.Common.{◌≡◌, ◌≢◌, ℕ, ◌+◌, ◌*◌, ◌/◌, ◌%◌, ◌<◌, ◌≤◌, List, [], ◌∷◌, map, refl, sym, ap, ◌∙◌, arith, lit<, inl, inr}
-use Rattle.std.specs.Prelude.{All}
+use Rattle.std.proofs.Common.{◌≡◌, ◌≢◌, if◌then◌else◌, ℕ, ◌+◌, ◌*◌, ◌/◌, ◌%◌, ◌<◌, ◌≤◌, List, [], ◌∷◌, map, refl, sym, ap, ◌∙◌, arith, lit<, inl, inr}
+use Rattle.std.specs.Prelude.{All, nat_le}
 use Rattle.std.specs.declared.cmp.Ordering.TheVariants.{Less, Equal, Greater}
 use Rattle.std.specs.Ordering.{nat_cmp, ordering_then, ordering_reverse}
 use Rattle.std.specs.Cmp.{nat_cmp_is, tied_itself}
@@ -9,11 +9,74 @@ use Rattle.std.proofs.lemmas.Cmp.{by_ranked, ranked}
 use Rattle.std.proofs.lemmas.Bool.{cases_eq, cases_lt}
 use Rattle.std.proofs.Math.Nat.{mul-le-mul_left}
 use Rattle.std.proofs.lemmas.List.Elements.{All-head, All-tail}
-use Rattle.domain_octets.specs.Scale.{IsScale, no_bits, one_bit, two_bits, three_bits, four_bits, five_bits, six_bits, seven_bits}
-use Rattle.domain_octets.specs.Base32.{base32_from, digits_left, lower_digit, upper_digit, base32_lower, base32_upper}
+use Rattle.domain_octets.proofs.Scale.{IsScale, no_bits, one_bit, two_bits, three_bits, four_bits, five_bits, six_bits, seven_bits}
+use Rattle.domain_octets.specs.Base32.{base32_from, lower_digit, upper_digit, base32_lower, base32_upper}
 use Rattle.std.specs.FinMap.{nat_cmp-IsAntisymmetric, slice_cmp-IsAntisymmetric}
 use Rattle.std.proofs.lemmas.Bool.Decides.{nat_tests}
-use Rattle.domain_octets.proofs.Base32Lemmas.{held_left, pulled_digit, pulled_left, last_left, none_left}
+
+-- the digits that are left, where one of the last octet may be among them
+abbrev digits_left : ℕ → ℕ → List ℕ → List ℕ
+digits_left scale rest octets =
+    if nat_le 32 scale
+    then ((rest / (scale / 32)) ∷ base32_from (scale / 32) (rest % (scale / 32)) octets)
+    else base32_from scale rest octets
+
+-- one digit is taken, and then these bits are left over
+record TakesDigit (scale rest : ℕ) : Type 0 where
+  scale_is : IsScale (scale / 32)
+  below : rest % (scale / 32) < scale / 32
+  digit : rest / (scale / 32) < 32
+  some : 0 < scale / 32
+
+held_left : (scale rest : ℕ) (octets : List ℕ) → IsScale scale → 32 ≤ scale
+    → digits_left scale rest octets ≡ (rest / (scale / 32)) ∷ digits_left (scale / 32) (rest % (scale / 32)) octets
+held_left scale rest octets no_bits wide = absurd (omega arith)
+held_left scale rest octets one_bit wide = absurd (omega arith)
+held_left scale rest octets two_bits wide = absurd (omega arith)
+held_left scale rest octets three_bits wide = absurd (omega arith)
+held_left scale rest octets four_bits wide = absurd (omega arith)
+held_left scale rest octets five_bits wide = refl
+held_left scale rest octets six_bits wide = refl
+held_left scale rest octets seven_bits wide = refl
+
+pulled_digit : (scale rest octet : ℕ) → IsScale scale → scale < 32 → rest < scale → octet < 256 → TakesDigit (256 * scale) (256 * rest + octet)
+pulled_digit scale rest octet no_bits narrow below small = record { scale_is = three_bits; below = omega arith; digit = omega arith; some = lit< tt }
+pulled_digit scale rest octet one_bit narrow below small = record { scale_is = four_bits; below = omega arith; digit = omega arith; some = lit< tt }
+pulled_digit scale rest octet two_bits narrow below small = record { scale_is = five_bits; below = omega arith; digit = omega arith; some = lit< tt }
+pulled_digit scale rest octet three_bits narrow below small = record { scale_is = six_bits; below = omega arith; digit = omega arith; some = lit< tt }
+pulled_digit scale rest octet four_bits narrow below small = record { scale_is = seven_bits; below = omega arith; digit = omega arith; some = lit< tt }
+pulled_digit scale rest octet five_bits narrow below small = absurd (omega arith)
+pulled_digit scale rest octet six_bits narrow below small = absurd (omega arith)
+pulled_digit scale rest octet seven_bits narrow below small = absurd (omega arith)
+
+pulled_left : (scale rest octet : ℕ) (octets : List ℕ) → IsScale scale → scale < 32
+    → digits_left scale rest (octet ∷ octets) ≡ ((256 * rest + octet) / (256 * scale / 32)) ∷ digits_left (256 * scale / 32)
+    ((256 * rest + octet) % (256 * scale / 32)) octets
+unfolding base32_from
+pulled_left scale rest octet octets no_bits narrow = refl
+pulled_left scale rest octet octets one_bit narrow = refl
+pulled_left scale rest octet octets two_bits narrow = refl
+pulled_left scale rest octet octets three_bits narrow = refl
+pulled_left scale rest octet octets four_bits narrow = refl
+pulled_left scale rest octet octets five_bits narrow = absurd (omega arith)
+pulled_left scale rest octet octets six_bits narrow = absurd (omega arith)
+pulled_left scale rest octet octets seven_bits narrow = absurd (omega arith)
+
+-- the last digit
+last_left : (scale rest : ℕ) → IsScale scale → scale < 32 → scale ≢ 1 → digits_left scale rest [] ≡ ((32 / scale) * rest) ∷ []
+unfolding base32_from
+last_left scale rest no_bits narrow other = absurd (other refl)
+last_left scale rest one_bit narrow other = refl
+last_left scale rest two_bits narrow other = refl
+last_left scale rest three_bits narrow other = refl
+last_left scale rest four_bits narrow other = refl
+last_left scale rest five_bits narrow other = absurd (omega arith)
+last_left scale rest six_bits narrow other = absurd (omega arith)
+last_left scale rest seven_bits narrow other = absurd (omega arith)
+
+none_left : (scale rest : ℕ) (octets : List ℕ) → octets ≡ [] → scale ≡ 1 → digits_left scale rest octets ≡ []
+unfolding base32_from
+none_left scale rest octets none one = rw (none, one) refl
 
 less : (a b : ℕ) → a < b → nat_cmp a b ≡ Less
 less a b below = sym (nat_cmp_is a b Less below)

@@ -1,12 +1,13 @@
 -- what octets are written as in Base 32 hex, in either case, is read back
-use Rattle.std.proofs.Common.{◌≡◌, ℕ, ◌+◌, ◌*◌, ◌/◌, ◌%◌, ◌<◌, true, All, not, ◌&&◌, ◌||◌, List, [], ◌∷◌, map, length, refl, ap, sym, ◌∙◌, arith, nat_eq, Some}
+use Rattle.std.proofs.Common.{◌≡◌, ℕ, ◌+◌, ◌*◌, ◌/◌, ◌%◌, ◌<◌, true, All, not, ◌&&◌, ◌||◌, List, [], ◌∷◌, map, length}
+use Rattle.std.proofs.Common.{refl, ap, sym, ◌∙◌, arith, lit<, nat_eq, Some}
 use Rattle.std.specs.Prelude.{is_some}
 use Rattle.std.specs.Option.{unwrap_or}
 use Rattle.std.proofs.lemmas.Bool.Decides.{nat_tests}
 use Rattle.std.proofs.lemmas.List.{length-map}
 use Rattle.std.specs.List.{list_all, AllByRecursion}
 use Rattle.std.proofs.lemmas.List.Sums.{AllPass-from_list_all}
-use Rattle.std.proofs.lemmas.List.Elements.{recursion_from_All}
+use Rattle.std.proofs.lemmas.List.Elements.{recursion_from_All, All-from_recursion}
 use Rattle.domain_octets.specs.declared.codec.Codec.TheVariants.{Base32Hex}
 use Rattle.domain_octets.specs.Base32.{base32_from, base32_lower, base32_upper, lower_digit, upper_digit}
 use Rattle.domain_octets.specs.Codec.{base32_value, is_digit, is_base32_length, base32_octets, base32_digits, IsBase32}
@@ -148,6 +149,10 @@ digits_more y ys b up = record {
 digits : (xs : List ℕ) → AllByRecursion (λ octet. octet < 256) xs → Digits xs
 digits [] h = digits_none
 digits (y ∷ ys) h = digits_more y ys h.0 (digits ys h.1)
+
+pub are_small : (octets : List ℕ) → All (λ octet. octet < 256) octets → All (λ digit. digit < 32) (base32_from 1 0 octets)
+are_small octets h = All-from_recursion (λ digit. digit < 32) (base32_from 1 0 octets)
+    ((digits octets (recursion_from_All (λ octet. octet < 256) octets h)).whole 0 0 (lit< tt) refl).0
 
 value_of_digit : (n : ℕ) → n < 32 → base32_value (lower_digit n) ≡ Some n
 value_of_digit n l = grind (arith, nat_tests)

@@ -1,6 +1,6 @@
 -- the words of a text, and texts of octets that are one word
 use Rattle.std.proofs.Common.{◌≡◌, ◌≢◌, ℕ, ◌+◌, ◌*◌, ◌/◌, ◌%◌, ◌<◌, true, false, List, [], ◌∷◌, ◌++◌, length, map, get_or, refl, ap, sym, ◌∙◌, arith, inl, inr}
-use Rattle.std.specs.Prelude.{◌^◌, ◌==◌, replicate, not, Bool, zero, suc}
+use Rattle.std.specs.Prelude.{◌^◌, ◌==◌, replicate, not, zero, suc}
 use Rattle.std.specs.List.{AllByRecursion, join_with_byte, list_all, concat}
 use Rattle.std.proofs.lemmas.List.Sums.{AllPass-from_list_all}
 use Rattle.std.specs.Fmt.{decimal}
@@ -9,7 +9,7 @@ use Rattle.std.specs.Str.Parse.{AllDigits}
 use Rattle.std.proofs.lemmas.Fmt.{decimal_is_IsNumeral}
 use Rattle.std.proofs.lemmas.List.{append_assoc, append-nil}
 use Rattle.std.proofs.lemmas.List.Elements.{All-get_or}
-use Rattle.std.proofs.lemmas.Bool.{cases_Bool, cases_lt}
+use Rattle.std.proofs.lemmas.Bool.{cases_Bool, cases_lt, not-true}
 use Rattle.std.proofs.lemmas.Bool.Decides.{nat_tests}
 use Rattle.std.proofs.Math.ListN.{get_or-eq_default}
 use Rattle.hex.specs.Hex.{encode_with, encode_lower, encode_upper, lower_digits, upper_digits}
@@ -99,13 +99,10 @@ decimal_word n small =
 abbrev NoSpaceIn : List ℕ → Type 0
 NoSpaceIn table = (i : ℕ) → (get_or table i 0 == 32) ≡ false
 
-not_true : (b : Bool) → not b ≡ true → b ≡ false
-not_true b h = grind (arith, nat_tests)
-
 -- which a test finds
 table_plain : (table : List ℕ) → list_all (λ c. not (c == 32)) table ≡ true → NoSpaceIn table
 table_plain table all i = elim (cases_lt i (length table)) [
-  | inl inside ↦ not_true (get_or table i 0 == 32) (All-get_or (λ c. not (c == 32) ≡ true) table i 0 inside
+  | inl inside ↦ not-true (get_or table i 0 == 32) (All-get_or (λ c. not (c == 32) ≡ true) table i 0 inside
       (AllPass-from_list_all (λ c. not (c == 32)) table all))
   | inr past ↦ let e : get_or table i 0 ≡ 0 = get_or-eq_default table 0 (omega arith) in rw e refl
 ]

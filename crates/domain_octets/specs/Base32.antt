@@ -32,10 +32,3 @@ base32_lower octets = map lower_digit (base32_from 1 0 octets)
 -- these are digits
 abbrev pub AreDigits : Octets → Type 0
 AreDigits digits = All (λ digit. digit < 32) digits
-
--- the digits that are left, where one of the last octet may be among them
-abbrev pub digits_left : ℕ → ℕ → Octets → Octets
-digits_left scale rest octets =
-    if nat_le 32 scale
-    then ((rest / (scale / 32)) ∷ base32_from (scale / 32) (rest % (scale / 32)) octets)
-    else base32_from scale rest octets

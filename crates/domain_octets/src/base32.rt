@@ -1,7 +1,6 @@
 //! Base 32 with the extended hex alphabet, without padding (RFC 4648, section 7).
-ghost use Rattle.std.specs.Prelude.{◌≡◌, ◌+◌, ◌<◌, ◌≤◌, ◌∷◌, ◌++◌, [], ℕ, map, length, slice_index, take, IfOk, IfErr, IfSome, IfNone, IsErrOf, OnOk, ◌↔◌, MatchOption, string_bytes};
-ghost use Rattle.std.specs.Str.{IsAscii};
-ghost use Rattle.std.specs.Fmt.{HasWritten, IsPlainFormatter, WritesOnOk};
+ghost use Rattle.std.specs.Prelude.{◌≡◌, ◌+◌, ◌*◌, ◌/◌, ◌<◌, ◌≤◌, ◌++◌, [], ℕ, map, length, slice_index, take, IfOk, IfErr, IfSome, IfNone, IsErrOf, ◌↔◌, string_bytes};
+ghost use Rattle.std.specs.Fmt.{WritesOnOk};
 ghost use Rattle.domain_octets.specs.Base32.{AreDigits, base32_from, base32_upper, base32_lower, upper_digit, lower_digit};
 ghost use Rattle.domain_octets.specs.declared.codec.Codec.TheVariants as codec;
 ghost use Rattle.domain_octets.specs.Codec.{Decodes, DecodeFault, HasNoRoom};
@@ -33,21 +32,23 @@ const LOWER: &[u8; 32] = b"0123456789abcdefghijklmnopqrstuv";
 /// The digits in upper case.
 const UPPER: &[u8; 32] = b"0123456789ABCDEFGHIJKLMNOPQRSTUV";
 
-/// The eight digits of five octets, as characters of an alphabet.
-fn spell_five(alphabet: &[u8; 32], five: &[u8]) -> [u8; 8]
-    requires { length five.now ≡ 5 }
-    ensures value { result ≡ map (slice_index alphabet.now) (base32_from 1 0 five.now) }
-    ensures small { AreDigits (base32_from 1 0 five.now) }
+/// The digits of at most five octets, as characters of an alphabet, and how many these are. Zero
+/// bits fill the last of them; what stands after it is no digit.
+fn spell(alphabet: &[u8; 32], octets: &[u8]) -> ([u8; 8], usize)
+    requires { length octets.now ≤ 5 }
+    ensures value { take result.1 result.0 ≡ map (slice_index alphabet.now) (base32_from 1 0 octets.now) }
+    ensures small { AreDigits (base32_from 1 0 octets.now) }
+    ensures count { result.1 ≡ (8 * length octets.now + 4) / 5 }
 {
-    let [a, b, c, d, e] = five else {
-        unreachable!();
-    };
-    let second = 256 * u32::from(*a % 8) + u32::from(*b);
-    let third = 256 * (second % 2) + u32::from(*c);
-    let fourth = 256 * (third % 16) + u32::from(*d);
-    let fifth = 256 * (fourth % 4) + u32::from(*e);
-    [
-        alphabet[usize::from(*a / 8)],
+    let mut five = [0; 5];
+    five[..octets.len()].copy_from_slice(octets);
+    let [a, b, c, d, e] = five;
+    let second = 256 * u32::from(a % 8) + u32::from(b);
+    let third = 256 * (second % 2) + u32::from(c);
+    let fourth = 256 * (third % 16) + u32::from(d);
+    let fifth = 256 * (fourth % 4) + u32::from(e);
+    let digits = [
+        alphabet[usize::from(a / 8)],
         alphabet[(second / 64) as usize],
         alphabet[(second % 64 / 2) as usize],
         alphabet[(third / 16) as usize],
@@ -55,39 +56,33 @@ fn spell_five(alphabet: &[u8; 32], five: &[u8]) -> [u8; 8]
         alphabet[(fourth % 128 / 4) as usize],
         alphabet[(fifth / 32) as usize],
         alphabet[(fifth % 32) as usize],
-    ]
+    ];
+    (digits, (8 * octets.len() + 4) / 5)
 }
 
-/// Writes eight octets from a place in a buffer on, and gives the place after them.
-fn put_eight(buffer: &mut [u8], at: usize, eight: &[u8; 8]) -> usize
+/// Writes eight octets from a place in a buffer on.
+fn put_eight(buffer: &mut [u8], at: usize, eight: &[u8; 8])
     requires { at + 8 ≤ length buffer.old }
-    ensures end { result ≡ at + 8 }
-    ensures front { take result buffer.new ≡ take at buffer.old ++ eight.now }
+    ensures front { (count : ℕ) → count ≤ 8
+        → take (at + count) buffer.new ≡ take at buffer.old ++ take count eight.now }
     ensures room { length buffer.new ≡ length buffer.old }
 {
     buffer[at..at + 8].copy_from_slice(eight);
-    at + 8
 }
 
 /// The digits of octets that are left, each a number below 32. Takes no memory.
 #[derive(Drop)]
 pub struct Digits<'a> {
     octets: &'a [u8],
-    scale: u32,
-    rest: u32,
 }
 
 impl<'a> Model for Digits<'a> {
-    ghost use Rattle.std.specs.Prelude.{◌<◌};
-    ghost use Rattle.domain_octets.specs.Base32.{digits_left};
-    ghost use Rattle.domain_octets.specs.Scale.{IsScale};
+    ghost use Rattle.domain_octets.specs.Base32.{base32_from};
     ghost use Rattle.domain_octets.specs.Words.{Octets};
 
     ghost Value = { Octets };
 
-    ghost view = { λ d. digits_left d.scale d.rest d.octets.now };
-
-    ghost invariant = { λ d. IsScale d.scale × (d.rest < d.scale) };
+    ghost view = { λ d. base32_from 1 0 d.octets.now };
 }
 
 impl<'a> Digits<'a> {
@@ -95,123 +90,88 @@ impl<'a> Digits<'a> {
     pub fn new(octets: &'a [u8]) -> Self
         ensures { result ≡ base32_from 1 0 octets.now }
     {
-        Digits {
-            octets,
-            scale: 1,
-            rest: 0,
-        }
+        Digits { octets }
     }
 
-    /// The next digit.
-    fn next(&mut self) -> Option<u8>
-        ensures { MatchOption result ((self.old ≡ []) × (self.new ≡ [])) (λ digit.
-            (self.old ≡ digit ∷ self.new) × (digit < 32)) }
-    {
-        let scale = self.scale;
-        let rest = self.rest;
-        if scale >= 32 {
-            self.scale = scale / 32;
-            self.rest = rest % (scale / 32);
-            return Some((rest / (scale / 32)) as u8);
-        }
-        let Some((octet, after)) = self.octets.split_first() else {
-            if scale == 1 {
-                return None;
-            }
-            self.scale = 1;
-            self.rest = 0;
-            return Some((32 / scale * rest) as u8);
-        };
-        let wide = 256 * scale;
-        let value = 256 * rest + u32::from(*octet);
-        self.octets = after;
-        self.scale = wide / 32;
-        self.rest = value % (wide / 32);
-        Some((value / (wide / 32)) as u8)
-    }
-
-    /// The next five octets, where so many are left and no bits are.
+    /// The next five octets, fewer at the end; None where none are left.
     fn next_five(&mut self) -> Option<&'a [u8]>
-        ensures some { IfSome result (λ five. self.old ≡ base32_from 1 0 five.now ++ self.new) }
-        ensures five { IfSome result (λ five. length five.now ≡ 5) }
-        ensures none { IfNone result (self.new ≡ self.old) }
+        ensures some { IfSome result (λ octets. self.old ≡ base32_from 1 0 octets.now ++ self.new) }
+        ensures count { IfSome result (λ octets. (0 < length octets.now) × (length octets.now ≤ 5)) }
+        ensures none { IfNone result ((self.old ≡ []) × (self.new ≡ [])) }
     {
-        if self.scale != 1 || self.octets.len() < 5 {
+        let count = self.octets.len().min(5);
+        if count == 0 {
             return None;
         }
-        let (five, after) = self.octets.split_at(5);
+        let (octets, after) = self.octets.split_at(count);
         self.octets = after;
-        Some(five)
+        Some(octets)
     }
 
-    /// Writes the next digits, eight of five octets each, as characters of an alphabet to the front
-    /// of a buffer, as far as there are any and there is room, and gives the place after them.
-    fn put_eights(&mut self, alphabet: &[u8; 32], buffer: &mut [u8]) -> usize
+    /// Writes the next digits as characters of an alphabet to the front of a buffer, as far as
+    /// there are any and there is room for eight, and gives the place after them.
+    fn put(&mut self, alphabet: &[u8; 32], buffer: &mut [u8]) -> usize
         ensures written { (digits : Octets) × AreDigits digits × (self.old ≡ digits ++ self.new)
             × (take result buffer.new ≡ map (slice_index alphabet.now) digits) }
+        ensures all { result + 8 ≤ length buffer.new → self.new ≡ [] }
         ensures end { result ≤ length buffer.new }
         ensures room { length buffer.new ≡ length buffer.old }
     {
         let mut end = 0;
         while buffer.len() - end >= 8 {
-            let Some(five) = self.next_five() else {
+            let Some(octets) = self.next_five() else {
                 return end;
             };
-            end = put_eight(buffer, end, &spell_five(alphabet, five));
+            let (digits, count) = spell(alphabet, octets);
+            put_eight(buffer, end, &digits);
+            end += count;
         }
         end
     }
 
-    /// Writes the next digits in lower case, eight of five octets each, to the front of a buffer, as
-    /// far as there are any and there is room, and gives the place after them.
+    /// Writes the next digits in lower case to the front of a buffer, as far as there are any and
+    /// there is room for eight, and gives the place after them.
     pub fn put_lower(&mut self, buffer: &mut [u8]) -> usize
         ensures written { (digits : Octets) × (self.old ≡ digits ++ self.new)
             × (take result buffer.new ≡ map lower_digit digits) }
+        ensures all { result + 8 ≤ length buffer.new → self.new ≡ [] }
         ensures end { result ≤ length buffer.new }
         ensures room { length buffer.new ≡ length buffer.old }
     {
-        self.put_eights(LOWER, buffer)
+        self.put(LOWER, buffer)
     }
 
-    /// The text of the next digits in upper case, eight of five octets each, as many as there are and
-    /// a buffer has room for; None where these are none.
-    fn next_upper<'b>(&mut self, buffer: &'b mut [u8]) -> Option<&'b str>
-        ensures some { IfSome result (λ text. (digits : Octets) × (self.old ≡ digits ++ self.new)
-            × (text.now ≡ map upper_digit digits) × (0 < length digits)) }
-        ensures none { IfNone result (self.new ≡ self.old) }
+    /// The next digits as characters of an alphabet, as many as there are and a buffer has room
+    /// for; None where none are left.
+    fn next_text<'b>(&mut self, alphabet: &[u8; 32], buffer: &'b mut [u8]) -> Option<&'b [u8]>
+        requires { 8 ≤ length buffer.old }
+        ensures some { IfSome result (λ text. (digits : Octets) × AreDigits digits
+            × (self.old ≡ digits ++ self.new) × (text.now ≡ map (slice_index alphabet.now) digits)
+            × (0 < length digits)) }
+        ensures none { IfNone result ((self.old ≡ []) × (self.new ≡ [])) }
     {
-        let end = self.put_eights(UPPER, buffer);
+        let end = self.put(alphabet, buffer);
         if end == 0 {
             return None;
         }
-        Some(unsafe { str::from_utf8_unchecked(&buffer[..end]) })
+        Some(&buffer[..end])
     }
 
-    /// The next digit, in lower case.
-    pub fn next_lower(&mut self) -> Option<u8>
-        ensures { MatchOption result ((self.old ≡ []) × (self.new ≡ [])) (λ octet.
-            (digit : ℕ) × (self.old ≡ digit ∷ self.new) × (octet ≡ lower_digit digit)) }
+    /// The text of the next digits in upper case, as many as there are and a buffer has room for;
+    /// None where none are left.
+    fn next_upper<'b>(&mut self, buffer: &'b mut [u8]) -> Option<&'b str>
+        requires { 8 ≤ length buffer.old }
+        ensures some { IfSome result (λ text. (digits : Octets) × (self.old ≡ digits ++ self.new)
+            × (text.now ≡ map upper_digit digits) × (0 < length digits)) }
+        ensures none { IfNone result ((self.old ≡ []) × (self.new ≡ [])) }
     {
-        let digit = self.next()?;
-        Some(lower_digit(digit))
+        let text = self.next_text(UPPER, buffer)?;
+        Some(unsafe { str::from_utf8_unchecked(text) })
     }
 }
 
-fn lower_digit(value: u8) -> u8
-    requires { value < 32 }
-    ensures value { result ≡ lower_digit value }
-    ensures ascii { result < 128 }
-{
-    LOWER[usize::from(value)]
-}
-
-fn upper_digit(value: u8) -> u8
-    requires { value < 32 }
-    ensures value { result ≡ upper_digit value }
-    ensures ascii { result < 128 }
-{
-    UPPER[usize::from(value)]
-}
+/// How many octets of text are written at a time.
+const ROOM: usize = 64;
 
 /// The text of octets in lower case, as octets: what the first label of an NSEC3 owner holds
 /// (RFC 5155, section 3).
@@ -220,8 +180,9 @@ pub fn encode_hex_lower(alloc: Global, octets: &[u8]) -> Result<Vec<u8>, OutOfMe
 {
     let mut text = Vec::with_capacity(alloc, octets.len() / 5 * 8 + 8)?;
     let mut digits = Digits::new(octets);
-    while let Some(digit) = digits.next() {
-        text.push(lower_digit(digit))?;
+    let mut buffer = [0; ROOM];
+    while let Some(part) = digits.next_text(LOWER, &mut buffer) {
+        text.extend_from_slice(part)?;
     }
     Ok(text)
 }
@@ -232,24 +193,11 @@ pub fn encode_string(alloc: Global, octets: &[u8]) -> Result<String, OutOfMemory
 {
     let mut text = String::new(alloc);
     let mut digits = Digits::new(octets);
-    while let Some(digit) = digits.next() {
-        text.push(char::from(upper_digit(digit)))?;
+    let mut buffer = [0; ROOM];
+    while let Some(part) = digits.next_upper(&mut buffer) {
+        text.push_str(part)?;
     }
     Ok(text)
-}
-
-/// Writes the digits that are those of five octets each, in upper case, 64 at a time, and leaves
-/// the others.
-fn display_eights<W: fmt::Write>(digits: &mut Digits<'_>, f: &mut fmt::Formatter<W>) -> fmt::Result
-    ensures { OnOk result (IsPlainFormatter f.old
-        → (written : Octets) × (digits.old ≡ written ++ digits.new)
-        × HasWritten W.write_str_gives f.old (map upper_digit written) f.new) }
-{
-    let mut buffer = [0; 64];
-    while let Some(text) = digits.next_upper(&mut buffer) {
-        f.write_str(text)?;
-    }
-    Ok(())
 }
 
 /// Writes the text of octets, in upper case.
@@ -257,9 +205,9 @@ pub fn display<W: fmt::Write>(octets: &[u8], f: &mut fmt::Formatter<W>) -> fmt::
     ensures { WritesOnOk W.write_str_gives f.old result (base32_upper octets.now) f.new }
 {
     let mut digits = Digits::new(octets);
-    display_eights(&mut digits, f)?;
-    while let Some(digit) = digits.next() {
-        write!(f, "{}", char::from(upper_digit(digit)))?;
+    let mut buffer = [0; ROOM];
+    while let Some(part) = digits.next_upper(&mut buffer) {
+        f.write_str(part)?;
     }
     Ok(())
 }

@@ -103,8 +103,8 @@ impl<O: FromBuilder> UnknownRecordData<O> {
     /// `EndOfEntry` where the mark or the number is missing; `Custom("illegal data")` for another
     /// token in place of the mark; `Custom("decimal number expected")` for what is no number of at
     /// most 65,535; `Custom("illegal data")` for what is no Base 16; `ShortBuf` and `OutOfMemory`
-    /// where the octets have no room or no memory; and `Custom("illegal data")` where they have, but
-    /// are another number of octets. A refusal leaves an end of the tokens.
+    /// where the octets have no room or no memory; and `Custom("illegal data")` where they have,
+    /// but are another number of octets. A refusal leaves an end of the tokens.
     #[tactic(auto, using(crate::proofs::GenericLemmas::generic))]
     pub fn scan<S: Scanner<Octets = O>>(
         alloc: Global,

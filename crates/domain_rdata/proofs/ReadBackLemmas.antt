@@ -41,23 +41,6 @@ no_type n (by_name text m is) = let e = is in cc
 no_type n (by_number text digits m none has number) =
     omega (arith, ap length has.parts, length-append has.front digits, ap length has.same, length-map has.front to_ascii_lowercase)
 
-no_address : (octets : List ℕ) → IsDotted generic_mark octets → ⊥
-no_address octets is =
-    let w = decimal is.a in
-    let x = decimal is.b in
-    let y = decimal is.c in
-    let z = decimal is.d in
-    omega (
-      arith,
-      ap length is.spelled,
-      length-append (w ++ codes "." ++ x ++ codes "." ++ y ++ codes ".") z,
-      length-append (w ++ codes "." ++ x ++ codes "." ++ y) (codes "."),
-      length-append (w ++ codes "." ++ x ++ codes ".") y,
-      length-append (w ++ codes "." ++ x) (codes "."),
-      length-append (w ++ codes ".") x,
-      length-append w (codes "."),
-    )
-
 no_dotted : (text : List ℕ) → text ++ 46 ∷ [] ≡ generic_mark → ⊥
 no_dotted [] same = omega (arith, ap length same)
 no_dotted (c ∷ []) same = let last : 46 ≡ 35 = ap (λ l. slice_index l 1) same in omega (arith, last)
@@ -75,14 +58,8 @@ mark_first {P} old new takes marked =
     let same : takes.token ≡ generic_mark = ap first_of both in
     subst P same takes.holds
 
-pub number_first : (bits n : ℕ) (old new : List (List ℕ)) → TakesToken (λ text. IsNumber bits text n) old new → IsGeneric old → ⊥
-number_first bits n old new takes marked = no_number bits n (mark_first old new takes marked)
-
 pub type_first : (n : ℕ) (old new : List (List ℕ)) → TakesToken (λ text. TypeText text n) old new → IsGeneric old → ⊥
 type_first n old new takes marked = no_type n (mark_first old new takes marked)
-
-pub address_first : (octets : List ℕ) (old new : List (List ℕ)) → TakesToken (λ text. IsDotted text octets) old new → IsGeneric old → ⊥
-address_first octets old new takes marked = no_address octets (mark_first old new takes marked)
 
 pub name_alone : (labels : List (List ℕ)) → IsName labels → IsGeneric (words_of (name_text labels ++ 46 ∷ [])) → ⊥
 name_alone labels valid marked =

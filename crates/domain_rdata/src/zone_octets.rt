@@ -137,7 +137,7 @@ where
 {
     let data: Dnskey<&[u8]> = whole(Rtype::DNSKEY, octets)?;
     let key = octets_like(alloc, data.public_key())?;
-    Ok(data.remade(key))
+    Ok(data.with_octets(key))
 }
 
 /// The digest of a key that octets are.
@@ -150,7 +150,7 @@ where
 {
     let data: Ds<&[u8]> = whole(Rtype::DS, octets)?;
     let digest = octets_like(alloc, data.digest())?;
-    Ok(data.remade(digest))
+    Ok(data.with_octets(digest))
 }
 
 /// The next name and the types that octets are.
@@ -167,7 +167,7 @@ where
     let data: Nsec<&[u8], ParsedName<'_>> = whole(Rtype::NSEC, octets)?;
     let next_name = name_like(alloc, data.next_name())?;
     let types = octets_like(alloc, data.types().as_slice())?;
-    Ok(Nsec::new(next_name, data.types().remade(types)))
+    Ok(Nsec::new(next_name, data.types().with_octets(types)))
 }
 
 /// The signature that octets are.
@@ -214,7 +214,7 @@ where
         data.hash_algorithm(),
         data.flags(),
         data.iterations(),
-        data.salt().remade(salt),
+        data.salt().with_octets(salt),
     ))
 }
 
@@ -234,9 +234,9 @@ where
         data.hash_algorithm(),
         data.flags(),
         data.iterations(),
-        data.salt().remade(salt),
-        data.next_owner().remade(next_owner),
-        data.types().remade(types),
+        data.salt().with_octets(salt),
+        data.next_owner().with_octets(next_owner),
+        data.types().with_octets(types),
     ))
 }
 

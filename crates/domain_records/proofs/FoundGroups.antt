@@ -2,7 +2,7 @@
 use Rattle.std.proofs.Common.{◌≡◌, ℕ, zero, suc, Bool, true, false, cond, ◌&&◌, eqb, List, [], ◌∷◌}
 use Rattle.std.proofs.Common.{find, Option, Some, None, Result, Ok, Err, refl, sym, ◌∙◌, ap, subst, arith}
 use Rattle.std.specs.Option.{option_transpose}
-use Rattle.std.proofs.lemmas.Bool.{eqb-true}
+use Rattle.std.proofs.lemmas.Bool.{eqb-true, and_parts}
 use Rattle.domain_base.specs.Name.{same_name}
 use Rattle.domain_base.specs.Laws.{same_name_equiv}
 use Rattle.domain_record.specs.declared.record.Record.{Record}
@@ -62,19 +62,15 @@ module _ {N D : Type 0} (same : Record N D → Record N D → Bool) (rtype : D �
       (taken_some item h.0 h.3)
 
 module _ {N D : Type 0} (labels : N → List (List ℕ)) (rtype : D → ℕ) where
-  both : (a b : Bool) → a && b ≡ true → (a ≡ true) × (b ≡ true)
-  both true b h = (refl, h)
-  both false b h = absurd (cc)
-
   -- records of one owner and one type are of a type alike
   pub types_alike : (t : ℕ) (r s : Record N D) → same_rrset labels rtype r s ≡ true → eqb (rtype r.«data») t ≡ eqb (rtype s.«data») t
-  types_alike t r s h = ap (λ n. eqb n t) (eqb-true (rtype r.«data») (rtype s.«data») (both (same_owner labels r s) (same_type rtype r s) h).1)
+  types_alike t r s h = ap (λ n. eqb n t) (eqb-true (rtype r.«data») (rtype s.«data») (and_parts (same_owner labels r s) (same_type rtype r s) h).1)
 
   -- and match alike, where no class is asked
   pub matches_alike : (owner : List (List ℕ)) (type : Option ℕ) (r s : Record N D) → same_rrset labels rtype r s ≡ true
       → matches labels rtype owner None type r ≡ matches labels rtype owner None type s
   matches_alike owner type r s h =
-      let p = both (same_owner labels r s) (same_type rtype r s) h in
+      let p = and_parts (same_owner labels r s) (same_type rtype r s) h in
       let a = same_name_equiv.congr (labels r.owner) (labels s.owner) owner p.0 in
       let b = ap (is_asked type) (eqb-true (rtype r.«data») (rtype s.«data») p.1) in
       ap (λ c. c && is_asked type (rtype r.«data»)) a ∙ ap (λ c. same_name (labels s.owner) owner && c) b

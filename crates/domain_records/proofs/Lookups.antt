@@ -6,7 +6,7 @@ use Rattle.std.specs.Ordering.{ordering_then, nat_cmp, is_gt, is_lt, is_eq, Matc
 use Rattle.std.specs.declared.cmp.Ordering.{Ordering}
 use Rattle.std.specs.declared.cmp.Ordering.TheVariants.{Less, Equal, Greater}
 use Rattle.std.proofs.lemmas.Map.Keys.{Less-from_sorted}
-use Rattle.std.proofs.lemmas.Bool.{eqb-true, eq-eqb, leb-true, le-leb, cases_lt, false≢true}
+use Rattle.std.proofs.lemmas.Bool.{eqb-true, eq-eqb, leb-true, le-leb, cases_lt, false≢true, and_parts, false_from_ne_true}
 use Rattle.std.proofs.lemmas.List.{get_or_default}
 use Rattle.domain_base.specs.Name.{same_name}
 use Rattle.domain_base.specs.Order.{canonical_cmp, canonical_cmp_total}
@@ -49,14 +49,6 @@ class_by x y Greater is h k = absurd (cc)
 class_upto : (x y : Key) → is_gt (key_cmp x y) ≡ false → x.class ≤ y.class
 class_upto x y h = class_by x y (nat_cmp x.class y.class) refl (ranks x.class y.class) h
 
-both : (a b : Bool) → a && b ≡ true → (a ≡ true) × (b ≡ true)
-both true b h = (refl, h)
-both false b h = absurd (cc)
-
-unless_true : (b : Bool) → (b ≡ true → ⊥) → b ≡ false
-unless_true true h = absurd (h refl)
-unless_true false h = refl
-
 number_tied : (m n : ℕ) → m ≡ n → nat_cmp m n ≡ Equal
 number_tied m n is = rw is (tied_itself nat_cmp_total n)
 
@@ -96,8 +88,8 @@ module _ {N D : Type 0} (labels : N → List (List ℕ)) (rtype : D → ℕ) (ow
   -- a record that matches has the wanted key of its class
   matched_key : (r : Record N D) → matches labels rtype owner asked type r ≡ true → key_cmp (key_of labels rtype type r) (wanted_key r.class owner type) ≡ Equal
   matched_key r h =
-      let p = both (same_name (labels r.owner) owner) _ h in
-      let q = both (is_asked asked r.class) (is_asked type (rtype r.«data»)) p.1 in
+      let p = and_parts (same_name (labels r.owner) owner) _ h in
+      let q = and_parts (is_asked asked r.class) (is_asked type (rtype r.«data»)) p.1 in
       all_tied (nat_cmp r.class r.class) (canonical_cmp (labels r.owner) owner) (nat_cmp (where_asked type (rtype r.«data»)) (number_asked type))
       (number_tied r.class r.class refl)
       ((Equal-is (canonical_cmp (labels r.owner) owner)).0 (sym (same_name_ties (labels r.owner) owner) ∙ p.0))
@@ -106,7 +98,7 @@ module _ {N D : Type 0} (labels : N → List (List ℕ)) (rtype : D → ℕ) (ow
   unmatched_before : (r : Record N D) (class : ℕ) → r.class ≡ class → is_before labels rtype class owner type r ≡ true
       → matches labels rtype owner asked type r ≡ false
   unmatched_before r class one h =
-      unless_true _ (λ m.
+      false_from_ne_true _ (λ m.
       let level : key_cmp (key_of labels rtype type r) (wanted_key class owner type) ≡ Equal = rw (← one) (matched_key r m) in
       let less = is_less (key_cmp (key_of labels rtype type r) (wanted_key class owner type)) h in
       absurd (cc))
@@ -119,8 +111,8 @@ module _ {N D : Type 0} (labels : N → List (List ℕ)) (rtype : D → ℕ) (ow
       let same = alike_right key_cmp_total (key_of labels rtype type s) (wanted_key class owner type) (key_of labels rtype type r) tied in
       let all = tied_parts (nat_cmp r.class class) (canonical_cmp (labels r.owner) owner)
       (nat_cmp (where_asked type (rtype r.«data»)) (number_asked type)) (level _ before (ap is_gt (sym same) ∙ up)) in
-      let of_s = both (same_name (labels s.owner) owner) _ m in
-      let asks = both (is_asked asked s.class) (is_asked type (rtype s.«data»)) of_s.1 in
+      let of_s = and_parts (same_name (labels s.owner) owner) _ m in
+      let asks = and_parts (is_asked asked s.class) (is_asked type (rtype s.«data»)) of_s.1 in
       let r_class : r.class ≡ s.class = tied_number r.class class all.0 ∙ sym one in
       let a : same_name (labels r.owner) owner ≡ true = same_name_ties (labels r.owner) owner ∙ ap is_eq all.1 in
       let b : is_asked asked r.class ≡ true = rw r_class asks.0 in
@@ -202,7 +194,7 @@ module _ {N D : Type 0} (labels : N → List (List ℕ)) (rtype : D → ℕ) (da
           let up = classes_rise start k d from within in
           let first = is d in
           let one : (get_or rs k d).class ≡ class = omega arith in
-          unless_true _ (λ m. not_at (
+          false_from_ne_true _ (λ m. not_at (
             omega arith,
             λ e. matched_too labels rtype owner asked type (get_or rs at e) (get_or rs k e) class
                 (rw (get_or_default rs k e d within) one) (rises_along type at k e ge within) (parted.1 at e (omega arith) (omega arith))
@@ -210,8 +202,3 @@ module _ {N D : Type 0} (labels : N → List (List ℕ)) (rtype : D → ℕ) (da
           )))
           (cases_lt k start))
           (cases_lt k at)
-
-    pub class_ends_after : (start class end : ℕ) → start < length rs → (d : Record N D) → (get_or rs start d).class ≡ class
-        → IsParted (λ r. leb r.class class) rs end → start < end
-    class_ends_after start class end here d is ends =
-        ⊎_elim (λ lt. lt) (λ ge. absurd (false≢true (sym (ends.1 start d ge here) ∙ le-leb (get_or rs start d).class class (omega arith)))) (cases_lt start end)

@@ -33,7 +33,7 @@ not_after Greater b h = absurd (cc)
 second_less : (a b : Ordering) → a ≡ Equal → ordering_then a b ≡ Less → b ≡ Less
 second_less a b tie h = ap (λ r. ordering_then r b) (sym tie) ∙ h
 
-module _ {X : Type 0} {R : X → X → Ordering} (o : IsTotalOrder R) (xs : List X) (d : X) (places seats : List ℕ) (h : AreInOrder R xs d places seats) where
+module _ {X : Type 0} {R : X → X → Ordering} (o : IsTotalOrder R) (xs : List X) (d : X) (places inverse : List ℕ) (h : AreInOrder R xs d places inverse) where
   abbrev key : ℕ → X
   key k = get_or xs (get_or places k 0) d
 
@@ -67,7 +67,7 @@ module _ {X : Type 0} {R : X → X → Ordering} (o : IsTotalOrder R) (xs : List
       abbrev first : ℕ
       first = position_or_len passes xs
 
-      -- the first of xs that is equal to x has seat k, and none before it in ys is equal
+      -- the first of xs that is equal to x has rank k, and none before it in ys is equal
       found_at : (k : ℕ) → k < length ys → get_or places k 0 ≡ first → find passes ys ≡ find passes xs
       found_at k lt is =
           let n = h.all in let m = put.many in
@@ -95,10 +95,10 @@ module _ {X : Type 0} {R : X → X → Ordering} (o : IsTotalOrder R) (xs : List
       same_first : first_equal R x ys ≡ first_equal R x xs
       same_first =
           let n = h.all in let m = put.many in
-          let seated : first < length xs → find passes ys ≡ find passes xs = λ lt.
-          let s = h.inverse.seat first (omega arith) in
-          found_at (get_or seats first 0) (omega (arith, s.0)) s.1 in
-          elim (cases_order first (length xs)) [ inl e ↦ found_past (omega arith) | inr w ↦ elim w [ inl lt ↦ seated lt | inr gt ↦ found_past (omega arith) ] ]
+          let placed : first < length xs → find passes ys ≡ find passes xs = λ lt.
+          let s = h.inverse.rank first (omega arith) in
+          found_at (get_or inverse first 0) (omega (arith, s.0)) s.1 in
+          elim (cases_order first (length xs)) [ inl e ↦ found_past (omega arith) | inr w ↦ elim w [ inl lt ↦ placed lt | inr gt ↦ found_past (omega arith) ] ]
 
     pub arranged_sort : (stable : Bool) → IsPermutation xs ys → IsSortOf stable R xs ys
     arranged_sort stable moved = record {

@@ -52,10 +52,6 @@ pub runs_nil : {X : Type 0} (same : X → X → Bool) (xs : List X) → xs ≡ [
 unfolding runs
 runs_nil same xs e = ap (runs same) e
 
--- once nothing is left, all are taken
-pub all_taken : {X : Type 0} (same : X → X → Bool) (gs all : List (List X)) (xs : List X) → gs ++ runs same xs ≡ all → xs ≡ [] → gs ≡ all
-all_taken same gs all xs h e = sym (append-nil gs) ∙ ap (λ l. gs ++ l) (sym (runs_nil same xs e)) ∙ h
-
 module _ {X : Type 0} (same : X → X → Bool) where
   join_step : (x y : X) (ys : List X) (gs : List (List X)) (b : Bool)
       → joined (cond b ((x ∷ y ∷ ys) ∷ gs) ((x ∷ []) ∷ (y ∷ ys) ∷ gs)) ≡ x ∷ joined ((y ∷ ys) ∷ gs)

@@ -3,8 +3,8 @@
 
 use domain_base::ToName;
 
-/// A digit of six bits for an octet, in the order of octets, 0 left out. Those of usual names, `*` to
-/// `9` and, lowered, `_` to `z`, have one of their own.
+/// A digit of six bits for an octet, in the order of octets, 0 left out. Those of usual names, `*`
+/// to `9` and, lowered, `_` to `z`, have one of their own.
 fn digit_of(octet: u8) -> u8 {
     let low = octet.clamp(b')', b':') - 40;
     let high = octet.to_ascii_lowercase().clamp(b'^', b'{') - b'^';
@@ -23,10 +23,10 @@ fn with_label(key: u128, label: &[u8]) -> u128 {
     })
 }
 
-/// A number for a name: the first 21 digits, of six bits each, of its labels, from the last on, below
-/// the first `shared` labels from the root. Names in canonical order that share these labels have
-/// keys that do not descend. That is a hint, which no clause states: who searches or sorts by keys
-/// tests with the names what they suggest.
+/// A number for a name: the first 21 digits, of six bits each, of its labels, from the last on,
+/// below the first `shared` labels from the root. Names in canonical order that share these labels
+/// have keys that do not descend. That is a hint, which no clause states: who searches or sorts by
+/// keys tests with the names what they suggest.
 pub fn owner_key<N: ToName>(name: &N, shared: usize) -> u128 {
     let below = name.count_labels().saturating_sub(shared);
     name.labels().take(below).fold(0, with_label)

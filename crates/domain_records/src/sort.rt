@@ -4,7 +4,7 @@ ghost use Rattle.domain_record.specs.Record.{record_cmp};
 ghost use Rattle.domain_records.specs.Places.{AreInOrder, compared_places};
 ghost use Rattle.domain_records.specs.SortedSet.{IsSortOf, IsUnion};
 
-use crate::arrange::{are_seats, arrange, seats_of};
+use crate::arrange::{are_ranks, arrange, ranks_of};
 use crate::owner_order::{is_equal, item_at, neighbour_cmp};
 use crate::owner_runs::likely_places;
 use crate::sorter::Sorter;
@@ -27,20 +27,20 @@ fn compare_places<N: ToName, D: RecordData + CanonicalOrd>(
 }
 
 /// Whether these are the places of the records in canonical order, of equal ones the earliest
-/// first, and their seats.
+/// first, and their ranks.
 fn are_in_order<N: ToName, D: RecordData + CanonicalOrd>(
     records: &[Record<N, D>],
     first: &Record<N, D>,
     places: &[usize],
-    seats: &[usize],
+    ranks: &[usize],
 ) -> bool
     ensures { IsTrue result → AreInOrder (record_cmp N.labels D.rtype D.canonical_cmp) records.now
-        first.now places.now seats.now }
+        first.now places.now ranks.now }
 {
     if places.len() != records.len() {
         return false;
     }
-    if !are_seats(places, seats) {
+    if !are_ranks(places, ranks) {
         return false;
     }
     places.is_sorted_by(|a, b| compare_places(records, first, *a, *b).is_lt())
@@ -69,9 +69,9 @@ fn sort<N: ToName, D: RecordData + CanonicalOrd, S: Sorter>(
         return Ok(());
     };
     let mut places = likely_places::<N, D, S>(alloc, records, first)?;
-    let mut seats = seats_of(alloc, &places)?;
-    if are_in_order(records, first, &places, &seats) {
-        arrange(records, &mut places, &mut seats);
+    let mut ranks = ranks_of(alloc, &places)?;
+    if are_in_order(records, first, &places, &ranks) {
+        arrange(records, &mut places, &mut ranks);
         return Ok(());
     }
     sort_whole::<Record<N, D>, S>(records)

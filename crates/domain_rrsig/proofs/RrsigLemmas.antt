@@ -14,13 +14,6 @@ use Rattle.domain_rrsig.specs.Data.{rrsig_octets, rrsig_canonical, rrsig_numbers
 abbrev grouped : Layout
 grouped = rrsig_numbers ▸ one name ▸ one rest
 
-abbrev grouped_values : RrsigData → Values grouped
-grouped_values d = (rrsig_numbers_values d.fields, (d.fields.signer_name, d.signature))
-
-regrouped : (d : RrsigData) → rrsig_canonical d ≡ canonical_of grouped (grouped_values d)
-unfolding octets_of
-regrouped d = refl
-
 numbers_fit : (d : ProtoRrsigData) → Fits proto_rrsig (proto_rrsig_values d) → Fits rrsig_numbers (rrsig_numbers_values d)
 numbers_fit d fits = (fits.0, (fits.1.0, fits.1.1.0))
 

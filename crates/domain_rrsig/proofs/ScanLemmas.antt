@@ -36,9 +36,6 @@ abbrev FieldsAre : List (List ℕ) → ProtoRrsigData → List (List ℕ) → Ty
 FieldsAre old d entry =
     rrsig_fields_text old ((d.type_covered, (d.algorithm, (d.labels, d.original_ttl))), ((d.expiration, d.inception), (d.key_tag, d.signer_name))) entry
 
-pub refused_field : (limit : Option ℕ) (old new : List (List ℕ)) (fault : ScanFault) → RefusesRrsigFields limit old new fault → RefusesRrsig limit old new fault
-refused_field limit old new fault why = in_field why
-
 pub refused_entry : (limit : Option ℕ) (old entry new : List (List ℕ)) (fault : ScanFault) (d : ProtoRrsigData)
     → FieldsAre old d entry → IsEnd new entry → EntryFault Base64 limit fault entry
     → RefusesRrsig limit old new fault

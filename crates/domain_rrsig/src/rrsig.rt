@@ -237,7 +237,7 @@ impl<O: Octets, N: ToName> Rrsig<O, N> {
     }
 
     /// The same data over another name and other octets, which spell those of this.
-    pub fn remade<P: Octets, M: ToName>(&self, signer_name: M, signature: P) -> Rrsig<P, M>
+    pub fn with_octets<P: Octets, M: ToName>(&self, signer_name: M, signature: P) -> Rrsig<P, M>
         requires signer { M.labels signer_name ≡ self.now.fields.signer_name }
         requires signature { P.octets signature ≡ self.now.signature }
         ensures { result ≡ self.now }

@@ -180,41 +180,6 @@ module _ {N D : Type 0} (labels : N → Name) (rtype_of : D → ℕ) (minimum_of
   owners_in_order [] h = tt
   owners_in_order (r ∷ rs) h = (all_follow r rs h.0, owners_in_order rs h.1)
 
-  -- the records of a list in order that come after a group are in order
-  pub order_after : (group after : List (Record N D)) → IsInOrder labels rtype_of (group ++ after) → IsInOrder labels rtype_of after
-  order_after [] after h = h
-  order_after (g ∷ group) after h = order_after group after h.1
-
-  alike_types : (r : Record N D) (more after : List (Record N D)) → AllByRecursion (λ s. same_owner labels r s ≡ true) more
-      → AllByRecursion (MayFollow labels rtype_of r) (more ++ after)
-      → AllByRecursion (λ s. rtype_of r.«data» ≤ s.rtype) (map see more)
-  alike_types r [] after all h = tt
-  alike_types r (s ∷ more) after all h =
-      let follow : MayFollow labels rtype_of r s = h.0 in
-      (follow.type ((same_name_same (labels r.owner) (labels s.owner)).0 all.0), alike_types r more after all.1 h.1)
-
-  -- the types of a group never descend
-  types_of_group : (r : Record N D) (more after : List (Record N D)) → AllByRecursion (λ s. same_owner labels r s ≡ true) more
-      → IsInOrder labels rtype_of ((r ∷ more) ++ after) → NeverDescend (map see (r ∷ more))
-  types_of_group r [] after all h = (tt, tt)
-  types_of_group r (s ∷ more) after all h =
-      (alike_types r (s ∷ more) after all h.0, types_of_group s more after (moved more all.0 all.1) h.1)
-    where
-      moved : (us : List (Record N D)) → same_owner labels r s ≡ true → AllByRecursion (λ t. same_owner labels r t ≡ true) us
-          → AllByRecursion (λ t. same_owner labels s t ≡ true) us
-      moved [] e k = tt
-      moved (u ∷ us) e k = (sym (owner_onward r s u e) ∙ k.0, moved us e k.1)
-
-  pub group_types : (rest group after : List (Record N D)) → rest ≡ group ++ after
-      → runs (same_owner labels) rest ≡ group ∷ runs (same_owner labels) after → IsInOrder labels rtype_of rest
-      → NeverDescend (map see group)
-  group_types [] [] after e f h = tt
-  group_types [] (g ∷ group) after e f h = cc
-  group_types (r ∷ rest) group after e f h =
-      let run = first_run (same_owner labels) owner_onward r rest group after e f in
-      subst (λ t. NeverDescend (map see t)) (sym run.are)
-      (types_of_group r run.more after run.all (subst (λ t. IsInOrder labels rtype_of t) (e ∙ ap (λ t. t ++ after) run.are) h))
-
   -- ---- zone cuts
 
   pub cut_test : (b : Bool) (a : Name) (owner : N) (group : List (Record N D)) → HasFirst (λ r. r.owner ≡ owner) group

@@ -17,10 +17,6 @@ use Rattle.domain_base.specs.Words.{Label, Name}
 use Rattle.domain_base.proofs.CaseLemmas.{at_or_below_test, one_line}
 use Rattle.domain_zone.specs.Covering.{matches}
 
-pub or_false : (b : Bool) → (b || false) ≡ b
-or_false true = refl
-or_false false = refl
-
 -- the tests on names are tests on their lowered labels
 abbrev pub same_lowered : Name → Name → Bool
 same_lowered = pointwise (pointwise nat_eq)

@@ -5,6 +5,7 @@ use Rattle.std.specs.List.{AllByRecursion}
 use Rattle.std.specs.Cmp.{IsStrictWeakOrder}
 use Rattle.std.proofs.lemmas.Bool.{cases_Bool, false≢true, true≢false}
 use Rattle.std.proofs.lemmas.List.Sums.{sum_by-cons}
+use Rattle.domain_octets.proofs.StdLemmas.{or_true}
 use Rattle.domain_zone.specs.Covering.{matches_or_covers, pairs}
 
 module _ {X : Type 0} where
@@ -110,10 +111,6 @@ module _ {X : Type 0} {lt : X → X → Bool} (o : IsStrictWeakOrder lt) where
   pub one_before : (k : X) (ks : List X) (a x : X) → IsAscending lt (k ∷ ks) → AllByRecursion (λ y. lt y a ≡ false) (k ∷ ks)
       → lt x a ≡ true → count_of (k ∷ ks) a x ≡ 1
   one_before k [] a x up low f = step k a x [] true 0 (falling_answer k a x low.0 ∙ (λ i. not (lt x k) || f i) ∙ or_true (not (lt x k))) refl
-    where
-      or_true : (b : Bool) → (b || true) ≡ true
-      or_true true = refl
-      or_true false = refl
   one_before k (l ∷ ks) a x up low f =
       step k l x (pairs (l ∷ ks) a) false 1 (rising_answer k l x up.0.0 ∙ (λ i. not (lt_le x a k f low.0 i) && lt x l))
       (one_before l ks a x up.1 low.1 f)

@@ -40,9 +40,6 @@ some_of_map f None = refl
 some_of_map f (Some x) = refl
 
 module _ (a : Name) (L : List ZoneRecord) where
-  pub scan_start : IsScanned a L L None
-  scan_start = record { passed = []; whole = refl; is_found = refl }
-
   module _ (r : ZoneRecord) (rest : List ZoneRecord) (f : Option ZoneRecord) (s : IsScanned a L (r ∷ rest) f) where
     onward : (s.passed ++ r ∷ []) ++ rest ≡ L
     onward = append_assoc s.passed (r ∷ []) rest ∙ s.whole
@@ -60,12 +57,6 @@ module _ (a : Name) (L : List ZoneRecord) where
         second None n h = absurd (true≢false (sym n))
         second (Some t) n h = ap of_only (filter-append (is_soa a) s.passed (r ∷ rest)
             ∙ (λ i. h i ++ cond (e i) (r ∷ filter (is_soa a) rest) (filter (is_soa a) rest)))
-
-  pub scan_none : IsScanned a L [] None → soa_of L a ≡ None
-  scan_none s = ap (λ K. soa_of K a) (sym s.whole) ∙ ap of_only (ap (filter (is_soa a)) (append-nil s.passed) ∙ s.is_found)
-
-  pub scan_one : (r : ZoneRecord) → IsScanned a L [] (Some r) → soa_of L a ≡ numbers_of r r.minimum
-  scan_one r s = ap (λ K. soa_of K a) (sym s.whole) ∙ ap of_only (ap (filter (is_soa a)) (append-nil s.passed) ∙ s.is_found)
 
 -- an apex with an SOA owns records
 pub soa_owned : (L : List ZoneRecord) (a : Name) (numbers : ApexSoa) → soa_of L a ≡ Some numbers → owns L a ≡ true

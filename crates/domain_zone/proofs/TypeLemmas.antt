@@ -3,9 +3,9 @@ use Rattle.std.proofs.Common.{◌≡◌, ℕ, ◌<◌, Bool, true, false, ◌&&�
 use Rattle.std.proofs.lemmas.List.{append-nil}
 use Rattle.std.proofs.lemmas.Bool.{cases_Bool, eqb-true, and_left, and_right}
 use Rattle.std.proofs.lemmas.List.Folds.{list_any-append}
+use Rattle.domain_octets.proofs.StdLemmas.{or_turn, or_false}
 use Rattle.domain_bitmap.specs.Builder.{holds}
 use Rattle.domain_zone.specs.Zone.{ZoneRecord, has_type, lists_type, may_list}
-use Rattle.domain_zone.proofs.NameLemmas.{or_false}
 
 -- a builder that held what `old` holds has the listed types of the records passed so far as well
 pub record Lists (old : List ℕ) (cut : Bool) (G rest : List ZoneRecord) (value : List ℕ) : Type 0 where
@@ -44,12 +44,6 @@ is_listed cut k t e =
       | inr h ↦ and_left (nat_eq k t) (may_list cut t) h ∙ sym h
     ]
 
-or_turned : (b c : Bool) → (b || c) ≡ (c || b)
-or_turned true true = refl
-or_turned true false = refl
-or_turned false true = refl
-or_turned false false = refl
-
 eq_turned : (m n : ℕ) → nat_eq m n ≡ nat_eq n m
 eq_turned m n =
     elim (cases_Bool (nat_eq m n)) [
@@ -64,9 +58,6 @@ eq_turned m n =
     itself k = eq-eqb k k refl
 
 module _ (old : List ℕ) (cut : Bool) (G : List ZoneRecord) where
-  pub list_start : Lists old cut G G old
-  list_start = record { passed = []; whole = refl; types = λ t b. sym (or_false (holds old t)) }
-
   module _ (r : ZoneRecord) (rest : List ZoneRecord) (value : List ℕ) (s : Lists old cut G (r ∷ rest) value) where
     pub list_not : may_list cut r.rtype ≡ false → Lists old cut G rest value
     list_not e = record {
@@ -82,10 +73,7 @@ module _ (old : List ℕ) (cut : Bool) (G : List ZoneRecord) where
     list_more new e h = record {
       passed = s.passed ++ r ∷ [];
       whole = append_assoc s.passed (r ∷ []) rest ∙ s.whole;
-      types = λ t b. h t b ∙ or_turned (nat_eq t r.rtype) (holds value t)
+      types = λ t b. h t b ∙ or_turn (nat_eq t r.rtype) (holds value t)
           ∙ (λ i. s.types t b i || (eq_turned t r.rtype ∙ sym (is_listed cut r.rtype t e)) i)
           ∙ sym (listed_more (holds old t) cut s.passed r t);
     }
-
-  pub list_end : (value : List ℕ) → Lists old cut G [] value → (t : ℕ) → t < 65536 → holds value t ≡ (holds old t || lists_type cut G t)
-  list_end value s t b = s.types t b ∙ ap (λ K. holds old t || lists_type cut K t) (sym (append-nil s.passed) ∙ s.whole)

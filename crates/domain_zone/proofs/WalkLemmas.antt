@@ -7,6 +7,7 @@ use Rattle.std.specs.List.{AllByRecursion, list_any}
 use Rattle.std.proofs.lemmas.Bool.{cases_Bool, false≢true, true≢false, and_right}
 use Rattle.std.proofs.lemmas.List.Elements.{filter-append}
 use Rattle.std.proofs.lemmas.List.Folds.{list_any-append}
+use Rattle.domain_octets.proofs.StdLemmas.{or_false}
 use Rattle.domain_base.specs.Name.{is_at_or_below, is_strictly_below, lowered, same_name}
 use Rattle.domain_base.specs.Order.{before}
 use Rattle.domain_base.specs.Words.{Name}
@@ -15,7 +16,7 @@ use Rattle.domain_zone.specs.Walk.{is_under}
 use Rattle.domain_zone.specs.Zone.{ZoneRecord, OwnersNeverDescend, records_of, has_type, occludes, is_occluded, is_unoccluded, distinct, unoccluded_owners}
 use Rattle.domain_zone.proofs.PairLemmas.{lt_le}
 use Rattle.domain_zone.proofs.NameLemmas.{before_left, before_order, one_lowered, below_itself, below_trans}
-use Rattle.domain_zone.proofs.NameLemmas.{below_from, below_between, lowered_below, same_lowered, or_false}
+use Rattle.domain_zone.proofs.NameLemmas.{below_from, below_between, lowered_below, same_lowered}
 use Rattle.domain_zone.proofs.ZoneLemmas.{weaker, all_both, all_front, any_none, BeginsElsewhere, IsGroup, AreAt}
 use Rattle.domain_zone.proofs.ZoneLemmas.{AllBefore, AllAfter, records_at, distinct_more, after_or, not_strictly, strictly_after}
 
@@ -154,11 +155,7 @@ walk_on d L a rest cut ks w g gs R e x cut' since' below' =
 
     any_at : (y : Name) (rs : List ZoneRecord) → AllByRecursion (λ r. lowered r.owner ≡ lowered g.owner) rs
         → list_any (λ r. occludes d L a r.owner && is_strictly_below y r.owner) (g ∷ rs) ≡ (occludes d L a g.owner && is_strictly_below y g.owner)
-    any_at y [] h = or_none (occludes d L a g.owner && is_strictly_below y g.owner)
-      where
-        or_none : (b : Bool) → (b || false) ≡ b
-        or_none true = refl
-        or_none false = refl
+    any_at y [] h = or_false (occludes d L a g.owner && is_strictly_below y g.owner)
     any_at y (r ∷ rs) h =
         let types : Name → ℕ → Bool = λ k. has_type (filter (λ s. same_lowered (lowered s.owner) k) L) in
         let over : Name → Bool = λ k. (lowered_below k (lowered a) && not (same_lowered k (lowered a)) && types k ns)

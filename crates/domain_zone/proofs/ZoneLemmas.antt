@@ -5,6 +5,7 @@ use Rattle.std.specs.Prelude.{filter}
 use Rattle.std.specs.List.{AllByRecursion, list_any}
 use Rattle.std.proofs.lemmas.Bool.{cases_Bool, true≢false}
 use Rattle.std.proofs.lemmas.List.Elements.{filter-append}
+use Rattle.domain_octets.proofs.StdLemmas.{and_true}
 use Rattle.domain_base.specs.Name.{is_at_or_below, is_strictly_below, lowered, same_name}
 use Rattle.domain_base.specs.Order.{before}
 use Rattle.domain_base.specs.Words.{Name}
@@ -78,10 +79,6 @@ not_strictly y r e =
 -- after a name, at or below it is strictly below it
 pub strictly_after : (y c : Name) → before c y ≡ true → is_strictly_below y c ≡ is_at_or_below y c
 strictly_after y c e = (λ i. is_at_or_below y c && not (apart_right c y e i)) ∙ and_true (is_at_or_below y c)
-  where
-    and_true : (b : Bool) → (b && true) ≡ b
-    and_true true = refl
-    and_true false = refl
 
 -- ---- groups
 

@@ -1,6 +1,7 @@
 //! The owners of a zone that are not occluded.
-ghost use Rattle.std.specs.Prelude.{◌≡◌, map};
+ghost use Rattle.std.specs.Prelude.{◌≡◌, ◌&&◌, map, not};
 ghost use Rattle.std.specs.Option.{option_map};
+ghost use Rattle.domain_base.specs.Types.{ds};
 ghost use Rattle.domain_zone.specs.View.{zone_of};
 ghost use Rattle.domain_zone.specs.Walk.{is_passed_over};
 ghost use Rattle.domain_zone.specs.Zone.{has_type};
@@ -48,6 +49,16 @@ pub struct UnoccludedOwner<'a, N: ToName, D> {
     pub records: OwnerRrs<'a, N, D>,
     /// Whether it is strictly below the apex and owns an NS record.
     pub is_zone_cut: bool,
+}
+
+impl<N: ToName, D: ZoneData> UnoccludedOwner<'_, N, D> {
+    /// Whether it is a zone cut without DS records (RFC 5155, section 6).
+    pub fn is_unsigned_cut(&self) -> bool
+        ensures { result ≡ (self.now.is_zone_cut
+            && not (has_type (zone_of N.labels D.rtype D.minimum self.now.records) ds)) }
+    {
+        self.is_zone_cut && !has_type(self.records.records(), Rtype::DS)
+    }
 }
 
 /// An iterator over the owners at or below an apex that are not occluded, in canonical order. The

@@ -1,6 +1,6 @@
 -- The options of a command.
-use Rattle.std.proofs.Common.{◌≡◌, ◌<◌, ◌≤◌, ℕ, Bool, true, false, not, List, [], ◌∷◌}
-use Rattle.std.proofs.Common.{length, drop, take, ◌-◌, get_or, refl, ap, sym, ◌∙◌, arith}
+use Rattle.std.proofs.Common.{◌≡◌, ◌<◌, ◌≤◌, ℕ, List, [], ◌∷◌}
+use Rattle.std.proofs.Common.{length, drop, take, ◌-◌, get_or, ap, sym, ◌∙◌, arith}
 use Rattle.std.proofs.Common.{Option, Some, None, IfNone}
 use Rattle.std.proofs.lemmas.List.{take_all}
 use Rattle.domain_base.specs.Words.{Tokens}
@@ -25,7 +25,3 @@ no_limit (option ∷ word ∷ more) limit shown n h = absurd (omega arith)
 pub if_none : {X : Type 0} {P : Type 0} (o : Option X) → P → IfNone o P
 if_none None p = p
 if_none (Some x) p = tt
-
-pub not_false : (b : Bool) → not b ≡ false → b ≡ true
-not_false true h = refl
-not_false false h = cc

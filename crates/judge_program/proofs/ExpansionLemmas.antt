@@ -1,5 +1,5 @@
 -- Answers of names whose records were expanded from a wildcard.
-use Rattle.std.proofs.Common.{◌≡◌, ◌<◌, ◌≤◌, ℕ, Bool, true, false, List, refl, ap, sym, ◌∙◌, Option, Ok, Err, arith}
+use Rattle.std.proofs.Common.{◌≡◌, ◌<◌, ◌≤◌, ℕ, List, ap, sym, ◌∙◌, Option, Ok, Err, arith}
 use Rattle.std.specs.List.{find}
 use Rattle.domain_base.specs.Words.{Name}
 use Rattle.domain_base.specs.Name.{lowered, wire_of}
@@ -11,10 +11,6 @@ use Rattle.domain_answer.specs.Expansion.{closer_name}
 use Rattle.judge_program.specs.Why.{closer_told, hash_told, nsec3_shown}
 use Rattle.judge_program.specs.declared.role.Role.TheVariants.{NextCloser}
 use Rattle.judge_program.proofs.Nsec3WhyLemmas.{shown_found}
-
-pub true_of : (b : Bool) → (b ≡ false → ⊥) → b ≡ true
-true_of true not = refl
-true_of false not = absurd (not refl)
 
 pub no_ok : {X E : Type 0} (e : E) (x : X) → Err e ≡ Ok x → ⊥
 no_ok e x is = cc

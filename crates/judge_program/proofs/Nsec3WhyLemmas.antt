@@ -7,14 +7,13 @@ use Rattle.std.specs.Io.KnownBytes.{Appends, Keeps}
 use Rattle.std.specs.List.{find}
 use Rattle.domain_octets.specs.Words.{Octets}
 use Rattle.domain_base.specs.Words.{Name}
-use Rattle.domain_base.specs.Name.{lowered, wire_of}
+use Rattle.domain_base.specs.Name.{lowered, wire_of, last_labels}
 use Rattle.domain_nsec3.specs.Chain.{HashedLink}
 use Rattle.domain_nsec3.specs.Config.{Hash, Parameters, hash_name}
 use Rattle.domain_nsec3.specs.Text.{link_text}
 use Rattle.domain_checker.specs.HashedEncloser.{Encloser}
 use Rattle.domain_checker.specs.HashedList.{is_hash_cover, is_hash_match}
 use Rattle.domain_checker.specs.HashedPass.{IsLookedUp}
-use Rattle.domain_answer.specs.Proved.{last_labels}
 use Rattle.domain_answer.specs.ZoneAnswer.{wildcard_below}
 use Rattle.domain_answer.specs.declared.answer.Answer.{Answer}
 use Rattle.denial_program.specs.Text.{nsec3_line}

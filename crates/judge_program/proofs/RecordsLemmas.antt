@@ -7,7 +7,7 @@ use Rattle.std.specs.Fmt.{decimal}
 use Rattle.std.specs.List.{find}
 use Rattle.std.specs.Option.{is_some, option_map, option_to_list}
 use Rattle.domain_octets.specs.Words.{Octets}
-use Rattle.domain_base.specs.Name.{lowered, wire_of}
+use Rattle.domain_base.specs.Name.{lowered, wire_of, last_labels}
 use Rattle.domain_base.specs.Numbers.{class_text, type_text}
 use Rattle.domain_base.specs.Text.{name_text}
 use Rattle.domain_base.specs.Types.{nsec3param}
@@ -21,7 +21,6 @@ use Rattle.domain_checker.specs.HashedPass.{IsLookedUp}
 use Rattle.domain_checker.specs.Reading.{is_cover, is_match}
 use Rattle.domain_answer.specs.Expansion.{closer_name}
 use Rattle.domain_answer.specs.Found.{IsFound}
-use Rattle.domain_answer.specs.Proved.{last_labels}
 use Rattle.domain_answer.specs.ZoneAnswer.{wildcard_below}
 use Rattle.domain_answer.specs.declared.answer.Answer.{Answer}
 use Rattle.denial_program.specs.Text.{nsec3param_line}

@@ -2,7 +2,7 @@
 use Rattle.std.proofs.Common.{◌≡◌, ◌⊎◌, List, ◌++◌, refl, subst, sym, inl, inr, Result, IfErr, IsErrOf}
 use Rattle.domain_octets.specs.Words.{Octets}
 use Rattle.domain_nsec3.specs.View.{HasherAnswer}
-use Rattle.domain_lent.specs.Data.{RawRecord}
+use Rattle.domain_borrowed.specs.Data.{RawRecord}
 use Rattle.domain_nsec.specs.Chain.{Link}
 use Rattle.domain_answer.specs.Proved.{IsAnswered, RestsOn}
 use Rattle.domain_answer.specs.Reading.{reading}

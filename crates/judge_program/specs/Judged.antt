@@ -8,7 +8,7 @@ use Rattle.domain_nsec.specs.Chain.{Link}
 use Rattle.domain_nsec3.specs.Chain.{HashedLink, ParamRecord}
 use Rattle.domain_nsec3.specs.Config.{Hash, Parameters, hash_name}
 use Rattle.domain_nsec3.specs.View.{HasherAnswer}
-use Rattle.domain_lent.specs.Data.{RawRecord}
+use Rattle.domain_borrowed.specs.Data.{RawRecord}
 use Rattle.domain_answer.specs.Expansion.{closer_name, is_expanded, ExpansionRestsOn, IsExpansionAnswered, IsExpansionRead}
 use Rattle.domain_answer.specs.HashedProved.{HashedRestsOn, IsHashedAnswered}
 use Rattle.domain_answer.specs.HashedReading.{IsFirstOfRefusals, IsHashedRead}

@@ -5,7 +5,7 @@ use Rattle.std.specs.Prelude.{Ok, Err, if◌then◌else◌}
 use Rattle.std.specs.List.{find, list_any}
 use Rattle.std.specs.Option.{is_some, option_map, option_to_list}
 use Rattle.domain_octets.specs.Words.{Octets}
-use Rattle.domain_base.specs.Name.{same_name}
+use Rattle.domain_base.specs.Name.{same_name, last_labels}
 use Rattle.domain_base.specs.Types.{ds}
 use Rattle.domain_base.specs.Words.{Name}
 use Rattle.domain_bitmap.specs.Blocks.{contains_type}
@@ -20,7 +20,6 @@ use Rattle.domain_checker.specs.HashedPass.{found_cover, found_match}
 use Rattle.domain_checker.specs.Reading.{is_cover, is_match}
 use Rattle.domain_checker.specs.declared.hashed.Nsec3Found.{Nsec3Found}
 use Rattle.domain_answer.specs.Expansion.{closer_name}
-use Rattle.domain_answer.specs.Proved.{last_labels}
 use Rattle.domain_answer.specs.ZoneAnswer.{wildcard_below}
 use Rattle.domain_answer.specs.declared.answer.Answer.{Answer}
 use Rattle.domain_answer.specs.declared.answer.Answer.TheVariants as answers

@@ -4,7 +4,7 @@ use Rattle.std.specs.Io.KnownBytes.{Appends}
 use Rattle.domain_octets.specs.Words.{Octets}
 use Rattle.domain_base.specs.Words.{Tokens}
 use Rattle.domain_nsec3.specs.View.{HasherAnswer}
-use Rattle.domain_lent.specs.Data.{RawRecord}
+use Rattle.domain_borrowed.specs.Data.{RawRecord}
 use Rattle.domain_answer.specs.declared.answer.Answer.{Answer}
 use Rattle.denial_program.specs.Check.{hash_with}
 use Rattle.denial_program.specs.Listing.{Give}

@@ -16,7 +16,7 @@ use Rattle.domain_checker.specs.HashedVerdict.{IsFirstRefusal}
 use Rattle.domain_checker.specs.Reading.{is_cover, is_match}
 use Rattle.domain_checker.specs.declared.hashed.Nsec3Found.{Nsec3Found}
 use Rattle.domain_answer.specs.Expansion.{closer_name}
-use Rattle.domain_answer.specs.Proved.{last_labels}
+use Rattle.domain_base.specs.Name.{last_labels}
 use Rattle.domain_answer.specs.ZoneAnswer.{wildcard_below}
 use Rattle.domain_answer.specs.declared.answer.Answer.{Answer}
 use Rattle.domain_answer.specs.declared.answer.Answer.TheVariants as answers
@@ -180,8 +180,8 @@ closer_found_text labels x n None = []
 closer_found_text labels x n (Some found) =
     nsec3_shown (NextCloser (closer_name n x)) (found_match labels found) (found_cover labels found)
 
--- the lines below an answer of NSEC3 records: of x and its ancestors the first that a record matches,
--- and, where the answer needs them, the next closer name and the wildcard
+-- the lines below an answer of NSEC3 records: of x and its ancestors the first that a record
+-- matches, and, where the answer needs them, the next closer name and the wildcard
 pub record IsNsec3Why (a : Name) (p : Parameters) (hash : Hash) (listed : List HashedLink) (x : Name)
     (answer : Answer) (text : Octets) : Type 0 where
   pub found : Option Encloser

@@ -1,7 +1,7 @@
 //! Answers as they are printed.
 ghost use Rattle.std.specs.Prelude.{◌≡◌, ◌++◌, Some, codes};
 ghost use Rattle.domain_base.specs.Text.{name_text};
-ghost use Rattle.domain_answer.specs.Proved.{last_labels};
+ghost use Rattle.domain_base.specs.Name.{last_labels};
 ghost use Rattle.domain_answer.specs.ZoneAnswer.{wildcard_below};
 ghost use Rattle.judge_program.specs.Text.{answer_text, full_text};
 
@@ -26,21 +26,6 @@ impl fmt::Display for WildcardText<'_, '_> {
         }
         write!(f, "*.{}.", self.above)
     }
-}
-
-/// The last labels of a name, so many, or all of them where there are no more.
-pub fn last_labels(name: &ZoneName, count: usize) -> ParsedName<'_>
-    ensures { result ≡ last_labels count name.now }
-{
-    let above = name.count_labels().saturating_sub(count);
-    let mut left = name.as_parsed();
-    'ancestors: for _passed in 0..above {
-        let Some(parent) = left.parent() else {
-            return left;
-        };
-        left = parent;
-    }
-    left
 }
 
 /// What is told of a name that does not exist.
@@ -90,7 +75,7 @@ impl<'a> AnswerText<'a> {
     fn last(&self, count: usize) -> ParsedName<'a>
         ensures { result ≡ last_labels count self.now.name.now }
     {
-        last_labels(self.name, count)
+        self.name.last_labels(count)
     }
 
     /// What is told of the name, which does not exist; its closest encloser has so many labels.
@@ -101,7 +86,7 @@ impl<'a> AnswerText<'a> {
     {
         MissingText {
             kind,
-            encloser: last_labels(self.name, count),
+            encloser: self.name.last_labels(count),
             told,
         }
     }

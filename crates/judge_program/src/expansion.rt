@@ -8,10 +8,10 @@ ghost use Rattle.judge_program.specs.Judged.{IsCloserRefusal, IsExpansionAnswer,
 ghost use Rattle.judge_program.specs.Records.{closer_found_link, hash_found};
 ghost use Rattle.judge_program.specs.Why.{closer_found_text, closer_told};
 
-use crate::answer_text::last_labels;
 use crate::nsec3_why::{Nsec3s, Told};
 use denial_program::{DenialFault, Question};
 use domain_answer::{Answer, judge_nsec3_expansion};
+use domain_base::ToName;
 use domain_checker::find_nsec3;
 use domain_dnssec::Nsec3Hasher;
 use domain_hasher::Nsec3HashError;
@@ -71,7 +71,7 @@ pub fn find_closer<'r, 'a, H: Nsec3Hasher>(
         labels) }
     ensures err { IfErr result (λ e. e ≡ Memory) }
 {
-    let closer = last_labels(&question.name, labels as usize + 1);
+    let closer = question.name.last_labels(labels as usize + 1);
     match find_nsec3(alloc, &question.apex, chain, &closer, hasher) {
         Ok(told) => Ok(Some(told)),
         Err(error) => match error {

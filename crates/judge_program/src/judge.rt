@@ -22,9 +22,9 @@ use crate::shown::{Shown, write_first};
 use crate::why::write_nsec_why;
 use denial_program::{DenialFault, Question, ZoneName, chain_of, fault_of};
 use domain_answer::{Answer, judge_nsec, judge_nsec3};
+use domain_borrowed::{BorrowedRecord, ReadNsec, ReadNsec3param, into_nsec};
 use domain_dnssec::Nsec3Hasher;
 use domain_hasher::Nsec3HashError;
-use domain_lent::{LentRecord, ReadNsec, ReadNsec3param, into_nsec};
 use domain_octets::OutOfMemory;
 use domain_records::SigningError;
 use std::alloc::Global;
@@ -34,7 +34,7 @@ use std::io::Write;
 /// The NSEC records among these, in their order.
 fn nsecs_among<'a>(
     alloc: Global,
-    records: Vec<LentRecord<'a>>,
+    records: Vec<BorrowedRecord<'a>>,
 ) -> Result<Vec<ReadNsec<'a>>, OutOfMemory>
     ensures { IfOk result (λ nsecs.
         AreNsecs records.entry.items (links_of (λ n. n) nsecs.items)) }
@@ -91,7 +91,7 @@ fn judge_nsecs<'a, W: Write>(
     alloc: Global,
     question: &Question,
     shown: Shown,
-    records: Vec<LentRecord<'a>>,
+    records: Vec<BorrowedRecord<'a>>,
     output: &mut W,
 ) -> Result<(), DenialFault>
     ensures ok { OnOk result (IsWritten (IsNsecText records.entry.items question.now shown)
@@ -179,7 +179,7 @@ fn judge_nsec3s<'a, W: Write, H: Nsec3Hasher>(
     question: &Question,
     asked: Nsec3Options,
     shown: Shown,
-    records: Vec<LentRecord<'a>>,
+    records: Vec<BorrowedRecord<'a>>,
     hasher: &H,
     output: &mut W,
 ) -> Result<(), DenialFault>
@@ -218,7 +218,7 @@ fn judge_nsec3s<'a, W: Write, H: Nsec3Hasher>(
 pub fn write_judged<'a, W: Write, H: Nsec3Hasher>(
     alloc: Global,
     command: &Command,
-    records: Vec<LentRecord<'a>>,
+    records: Vec<BorrowedRecord<'a>>,
     hasher: &H,
     output: &mut W,
 ) -> Result<(), DenialFault>

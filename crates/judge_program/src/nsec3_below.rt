@@ -8,7 +8,6 @@ ghost use Rattle.judge_program.specs.Records.{below_text, whole_text, closer_tex
 ghost use Rattle.judge_program.specs.Why.{closer_found_text, rests_on_records, IsRefusalBelow};
 ghost use Rattle.judge_program.specs.declared.shown.Shown.TheVariants as shows;
 
-use crate::answer_text::last_labels;
 use crate::expansion::find_closer;
 use crate::nsec3_records::{closer_record, write_parts};
 use crate::nsec3_why::{Nsec3Why, Nsec3s, Told, write_told};
@@ -17,8 +16,9 @@ use crate::shown::Shown;
 use crate::why::rests_on_records;
 use denial_program::{DenialFault, Question, ZoneName};
 use domain_answer::Answer;
+use domain_base::ToName;
+use domain_borrowed::ReadNsec3param;
 use domain_dnssec::Nsec3Hasher;
-use domain_lent::ReadNsec3param;
 use std::alloc::Global;
 use std::io;
 use std::io::Write;
@@ -66,7 +66,7 @@ fn write_closer_line<W: Write>(
     let Some(told) = found else {
         return Ok(());
     };
-    let role = Role::NextCloser(last_labels(name, labels as usize + 1));
+    let role = Role::NextCloser(name.last_labels(labels as usize + 1));
     write_told(told, &role, output)
 }
 

@@ -11,8 +11,8 @@ use crate::needs::{Needs, needs_wildcard};
 use crate::nsec3_why::{Encloser, Told};
 use domain_answer::Answer;
 use domain_base::Rtype;
+use domain_borrowed::{ReadNsec3, ReadNsec3param};
 use domain_checker::Nsec3Found;
-use domain_lent::{ReadNsec3, ReadNsec3param};
 use std::io;
 use std::io::Write;
 

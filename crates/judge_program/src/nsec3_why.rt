@@ -13,7 +13,6 @@ ghost use Rattle.judge_program.specs.Records.{nsec3_why_records, nsec3_wildcard_
 ghost use Rattle.judge_program.specs.Why.{encloser_role, encloser_told, needs_next_closer, nsec3_shown, nsec3_wildcard_told, nsec3_why_text};
 ghost use Rattle.judge_program.specs.Why.{wildcard_count, wildcard_found_text, IsNsec3Why};
 
-use crate::answer_text::last_labels;
 use crate::needs::needs_of;
 use crate::nsec3_records::{
     closer_part, encloser_part, encloser_records, wildcard_record, write_parts,
@@ -23,10 +22,10 @@ use crate::why::wildcard_count;
 use denial_program::{DenialFault, Question, ZoneName};
 use domain_answer::{Answer, wildcard_of};
 use domain_base::{MAX_NAME, ParsedName, ToName};
+use domain_borrowed::{ReadNsec3, ReadNsec3param};
 use domain_checker::{Nsec3Encloser, Nsec3Found, find_nsec3, find_nsec3_encloser};
 use domain_dnssec::{Nsec3Hasher, Nsec3Records};
 use domain_hasher::Nsec3HashError;
-use domain_lent::{ReadNsec3, ReadNsec3param};
 use domain_records::SigningError;
 use std::alloc::Global;
 use std::io;
@@ -59,7 +58,7 @@ fn encloser_role(name: &ZoneName, count: usize) -> Role<'_>
     if count == name.count_labels() {
         return Role::Asked;
     }
-    Role::Encloser(last_labels(name, count))
+    Role::Encloser(name.last_labels(count))
 }
 
 /// Writes a line on a record that covers a name, if one does.
@@ -113,7 +112,7 @@ fn write_encloser<W: Write>(
         return Ok(());
     }
     let closer = count.min(name.count_labels()) + 1;
-    let next_closer = Role::NextCloser(last_labels(name, closer));
+    let next_closer = Role::NextCloser(name.last_labels(closer));
     write_cover(cover, &next_closer, output)
 }
 
@@ -211,7 +210,7 @@ impl<'r, 'a> Nsec3Why<'r, 'a> {
         let Some((count, told)) = self.wildcard else {
             return Ok(());
         };
-        let role = Role::Wildcard(last_labels(name, count));
+        let role = Role::Wildcard(name.last_labels(count));
         write_told(told, &role, output)
     }
 

@@ -25,8 +25,8 @@ use std::io::{BufRead, Write};
 /// The first that stands: `Usage` where the words are no command; `Read` where the input could not
 /// be read; `Line` of the lowest line that is no record; for NSEC3 `Param` where the apex has not
 /// exactly one NSEC3PARAM record, and `Signing` where the hasher refuses; `Write` where the output
-/// could not be written; and want of memory wherever it comes, which is `Unprepared` for the records
-/// and else `OutOfMemory`. Nothing is written before `Write` and `OutOfMemory`.
+/// could not be written; and want of memory wherever it comes, which is `Unprepared` for the
+/// records and else `OutOfMemory`. Nothing is written before `Write` and `OutOfMemory`.
 pub fn run_judge<R: BufRead, W: Write, H: Nsec3Hasher>(
     alloc: Global,
     words: &[String],

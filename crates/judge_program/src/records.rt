@@ -12,7 +12,7 @@ use crate::why::wildcard_count;
 use denial_program::Question;
 use domain_answer::{Answer, NsecFound, find_nsec, wildcard_of};
 use domain_base::{MAX_NAME, ParsedName, Rtype, ToName};
-use domain_lent::ReadNsec;
+use domain_borrowed::ReadNsec;
 use std::io;
 use std::io::Write;
 

@@ -5,12 +5,11 @@ ghost use Rattle.domain_nsec.specs.ChainView.{links_of};
 ghost use Rattle.domain_answer.specs.Found.{found_cover, found_match};
 ghost use Rattle.judge_program.specs.Why.{nsec_shown, nsec_told, nsec_why, rests_on_records, wildcard_count};
 
-use crate::answer_text::last_labels;
 use crate::role::Role;
 use denial_program::Question;
 use domain_answer::{Answer, NsecFound, find_nsec, wildcard_of};
 use domain_base::{MAX_NAME, ParsedName, ToName};
-use domain_lent::ReadNsec;
+use domain_borrowed::ReadNsec;
 use std::io;
 use std::io::Write;
 
@@ -95,6 +94,6 @@ pub fn write_nsec_why<W: Write>(
     let Some(wildcard) = wildcard_of(&mut buffer, name, count) else {
         return Ok(());
     };
-    let role = Role::Wildcard(last_labels(name, count));
+    let role = Role::Wildcard(name.last_labels(count));
     write_told(apex, nsecs, &wildcard, &role, output)
 }

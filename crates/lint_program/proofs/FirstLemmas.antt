@@ -1,7 +1,7 @@
 -- The first line of those that are told.
 use Rattle.std.proofs.Common.{◌≡◌, ℕ, ◌+◌, List, [], ◌∷◌, refl, ap, subst, arith, inl, inr}
 use Rattle.std.proofs.lemmas.List.Elements.{All-nil, All-cons}
-use Rattle.domain_lent.specs.Data.{RawRecord}
+use Rattle.domain_borrowed.specs.Data.{RawRecord}
 use Rattle.denial_program.specs.Listing.{Give, IsBad, IsFirstBad, IsGood}
 use Rattle.lint_program.specs.Lines.{AreLinted}
 

@@ -4,43 +4,13 @@ use Rattle.std.proofs.Common.{Some, None, IfSome, Option, append-nil, append_ass
 use Rattle.std.specs.Str.Lines.{lines}
 use Rattle.std.specs.Io.BufRead.{take_through, drop_through, DropsThrough}
 use Rattle.std.specs.Io.KnownBytes.{IsAtEnd}
-use Rattle.domain_lent.specs.Data.{RawRecord}
-use Rattle.denial_program.specs.Fault.{IsReadingFault}
-use Rattle.denial_program.specs.Listing.{Give, IsBad, IsFirstBad, IsLineRecord}
+use Rattle.domain_borrowed.specs.Data.{RawRecord}
+use Rattle.denial_program.specs.Listing.{IsBad, IsFirstBad, IsLineRecord}
 use Rattle.denial_program.specs.Words.{words, IsSkipped}
-use Rattle.denial_program.specs.declared.fault.DenialFault.{DenialFault}
-use Rattle.denial_program.specs.declared.fault.DenialFault.TheVariants.{Usage}
-use Rattle.denial_program.specs.declared.fault.DenialFault.TheVariants.{Read}
-use Rattle.denial_program.specs.declared.fault.DenialFault.TheVariants.{Line}
-use Rattle.denial_program.specs.declared.fault.DenialFault.TheVariants.{Unprepared}
-use Rattle.denial_program.specs.declared.fault.DenialFault.TheVariants.{MixedClasses}
-use Rattle.denial_program.specs.declared.fault.DenialFault.TheVariants.{Signing}
-use Rattle.denial_program.specs.declared.fault.DenialFault.TheVariants.{Param}
-use Rattle.denial_program.specs.declared.fault.DenialFault.TheVariants.{Write}
-use Rattle.denial_program.specs.declared.fault.DenialFault.TheVariants.{OutOfMemory}
-use Rattle.denial_program.specs.declared.prepare.PrepareError.{PrepareError}
-use Rattle.denial_program.proofs.ReadingLemmas.{StaysKnown}
 use Rattle.lint_program.specs.Lines.{AreLinted}
 use Rattle.lint_program.proofs.LineLemmas.{line_once}
 
 -- ---- one line
-
--- a line that gives these records gives the last of them
-pub given_record : (out : List ℕ) (given before : List RawRecord) (r : RawRecord) → Give (out ∷ []) given → given ≡ before ++ r ∷ [] → IsLineRecord out r
-given_record out given [] r (inl h) e = absurd (let w = sym h.1 ∙ e in cc)
-given_record out given (b ∷ before) r (inl h) e = absurd (let w = sym h.1 ∙ e in cc)
-given_record out given [] r (inr h) e =
-    let same : h.0 ≡ r = (let w = sym h.2 ∙ e in cc) in
-    subst (IsLineRecord out) same h.3
-given_record out given (b ∷ []) r (inr h) e =
-    absurd (let w : h.0 ∷ [] ≡ b ∷ r ∷ [] = ap (λ os. h.0 ∷ os) (sym h.4) ∙ sym h.2 ∙ e in let n = ap length w in omega arith)
-given_record out given (b ∷ x ∷ before) r (inr h) e =
-    absurd (let w : h.0 ∷ [] ≡ b ∷ x ∷ before ++ r ∷ [] = ap (λ os. h.0 ∷ os) (sym h.4) ∙ sym h.2 ∙ e in let n = ap length w in omega arith)
-
--- a line that gives none is skipped
-pub given_none : (out : List ℕ) (given : List RawRecord) → Give (out ∷ []) given → given ≡ [] → IsSkipped (words out)
-given_none out given (inl h) e = h.0
-given_none out given (inr h) e = absurd (let w = sym h.2 ∙ e in cc)
 
 -- the lowest bad line of one line is this line
 pub only_bad : (out : List ℕ) (n : ℕ) → IsFirstBad (out ∷ []) n → IsBad out
@@ -50,18 +20,6 @@ only_bad out n h = here h.before h.are
     here [] e = let same : h.line ≡ out = cc in subst IsBad same h.bad
     here (b ∷ []) e = absurd (let n = ap length e in omega arith)
     here (b ∷ x ∷ before) e = absurd (let n = ap length e in omega arith)
-
--- a fault of reading is of a line, of the reader, or want of memory for the records
-pub no_line : (e : DenialFault) → IsReadingFault e → ((n : ℕ) → e ≡ Line n → ⊥) → ((w : PrepareError) → e ≡ Unprepared w → ⊥) → e ≡ Read
-no_line Usage h none prepared = absurd h
-no_line Read h none prepared = refl
-no_line (Line n) h none prepared = absurd (none n refl)
-no_line (Unprepared w) h none prepared = absurd (prepared w refl)
-no_line MixedClasses h none prepared = absurd h
-no_line (Signing e) h none prepared = absurd h
-no_line Param h none prepared = absurd h
-no_line Write h none prepared = absurd h
-no_line OutOfMemory h none prepared = absurd h
 
 -- ---- all lines
 
@@ -159,11 +117,6 @@ follows_bad (Some all) now view old new numbers records number h e said = (
       (subst (λ bs. AreLinted 1 (lines all) bs (numbers ++ left) (records ++ others)) (sym (append_assoc old (number ∷ []) more))
       (h.4 (number ∷ more) left others (inr (inr (more, refl, said h.2 h.3, l))))),
 )
-
-pub stays_known : (known now : Option (List ℕ)) (bad numbers : List ℕ) (records : List RawRecord) (number : ℕ)
-    → Follows known now bad numbers records number → StaysKnown known now
-stays_known None now bad numbers records number h = tt
-stays_known (Some all) now bad numbers records number h = (h.0, h.1)
 
 -- one place and one record more
 pub paired_more : {A B : Type 0} (xs : List A) (ys : List B) (x : A) (y : B) → length xs ≡ length ys → length (xs ++ x ∷ []) ≡ length (ys ++ y ∷ [])

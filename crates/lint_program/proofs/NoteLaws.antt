@@ -4,7 +4,7 @@ use Rattle.std.proofs.Common.{refl, ap, sym, ◌∙◌, subst, arith, inl, inr, 
 use Rattle.std.proofs.Common.{length-append, append_assoc}
 use Rattle.std.specs.List.{AllByRecursion}
 use Rattle.domain_base.specs.Words.{Name}
-use Rattle.domain_lent.specs.Data.{RawRecord}
+use Rattle.domain_borrowed.specs.Data.{RawRecord}
 use Rattle.lint_program.specs.Notes.{earlier, look_of, Deserves, FindsNothing, Found, HasMark, IsDeserved, IsToldOf, Mark}
 use Rattle.lint_program.specs.Notes.Found.{more, nothing}
 use Rattle.lint_program.specs.declared.looks.Look.{Look}
@@ -51,12 +51,12 @@ module _ (l : Look) (a : Name) where
       → IsDeserved l a (rs ++ r ∷ []) (ns ++ n ∷ []) m
   longer rs ns r n m h = record {
     before = h.before;
-    lent = h.lent;
+    borrowed = h.borrowed;
     after = h.after ++ r ∷ [];
     left = h.left;
     number = h.number;
     right = h.right ++ n ∷ [];
-    are = ap (λ xs. xs ++ r ∷ []) h.are ∙ append_assoc h.before (h.lent ∷ h.after) (r ∷ []);
+    are = ap (λ xs. xs ++ r ∷ []) h.are ∙ append_assoc h.before (h.borrowed ∷ h.after) (r ∷ []);
     stand = ap (λ xs. xs ++ n ∷ []) h.stand ∙ append_assoc h.left (h.number ∷ h.right) (n ∷ []);
     paired = h.paired;
     place = h.place;
@@ -70,7 +70,7 @@ module _ (l : Look) (a : Name) where
       subst (AllByRecursion (IsDeserved l a (before ++ r ∷ []) (numbers ++ n ∷ []))) (sym t.3) (
         record {
           before = before;
-          lent = r;
+          borrowed = r;
           after = [];
           left = numbers;
           number = n;

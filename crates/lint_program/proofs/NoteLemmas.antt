@@ -10,11 +10,13 @@ use Rattle.std.proofs.lemmas.List.{map-append, take_more}
 use Rattle.std.proofs.lemmas.List.Folds.{find-append}
 use Rattle.std.specs.declared.cmp.Ordering.{Ordering}
 use Rattle.std.specs.declared.cmp.Ordering.TheVariants.{Less, Equal, Greater}
+use Rattle.domain_octets.proofs.StdLemmas.{or_none}
+use Rattle.std.proofs.lemmas.Bool.{and_parts}
 use Rattle.domain_base.specs.Laws.{same_name_equiv, same_name_ties}
 use Rattle.domain_base.specs.Name.{same_name}
 use Rattle.domain_base.specs.Order.{canonical_cmp}
 use Rattle.domain_base.specs.Words.{Name}
-use Rattle.domain_lent.specs.Data.{RawRecord}
+use Rattle.domain_borrowed.specs.Data.{RawRecord}
 use Rattle.lint_program.specs.Firsts.{group_cmp}
 use Rattle.lint_program.specs.Notes.{earlier, first_in, group_of, is_group, AreNoted, Found, Group, IsToldOf, Mark}
 use Rattle.lint_program.specs.Notes.Found.{more}
@@ -34,10 +36,6 @@ group_tied g h =
     both_eq (canonical_cmp g.0 h.0) (nat_cmp g.1 h.1)
     ∙ ap (λ b. b && is_eq (nat_cmp g.1 h.1)) (sym (same_name_ties g.0 h.0)) ∙ ap (λ b. same_name g.0 h.0 && b) (unsigned_tied g.1 h.1)
 
-and_parts : (a b : Bool) → (a && b) ≡ true → (a ≡ true) × (b ≡ true)
-and_parts true b h = (refl, h)
-and_parts false b h = absurd (cc)
-
 -- one group is another where it is one that is
 pub group_congr : (g k q : Group) → is_group k q ≡ true → is_group g k ≡ is_group g q
 group_congr g k q h =
@@ -49,10 +47,6 @@ group_congr g k q h =
     ap (λ b. b && (g.1 == k.1)) names ∙ ap (λ b. same_name g.0 q.0 && b) numbers
 
 -- ---- the first that passes a test
-
-or_none : {A : Type 0} (o : Option A) → option_or o None ≡ o
-or_none None = refl
-or_none (Some x) = refl
 
 module _ (test : RawRecord → Bool) (r : RawRecord) where
   pub first_known : (x : RawRecord) (rs : List RawRecord) → find test rs ≡ Some x → find test (rs ++ r ∷ []) ≡ Some x

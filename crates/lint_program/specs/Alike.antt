@@ -5,7 +5,7 @@ use Rattle.domain_base.specs.Text.{name_text}
 use Rattle.domain_base.specs.Words.{Name}
 use Rattle.domain_alike.specs.Alike.{AreAlike, IsFirstRefusal, Pair}
 use Rattle.domain_dnssec.specs.AnyOrder.{AreMixed}
-use Rattle.domain_lent.specs.Data.{minimum_of, RawRecord}
+use Rattle.domain_borrowed.specs.Data.{minimum_of, RawRecord}
 use Rattle.domain_nsec3.specs.View.{HasherAnswer}
 use Rattle.domain_records.specs.Order.{IsOneClass}
 use Rattle.domain_zone.specs.View.{zone_of}

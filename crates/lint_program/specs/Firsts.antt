@@ -5,7 +5,7 @@ use Rattle.std.specs.Ordering.{nat_cmp, ordering_then}
 use Rattle.std.specs.declared.cmp.Ordering.{Ordering}
 use Rattle.domain_base.specs.Order.{canonical_cmp}
 use Rattle.domain_base.specs.Words.{Name}
-use Rattle.domain_lent.specs.Data.{RawRecord}
+use Rattle.domain_borrowed.specs.Data.{RawRecord}
 use Rattle.lint_program.specs.Notes.{first_in, Group}
 use Rattle.lint_program.specs.declared.firsts.Firsts.{Firsts}
 use Rattle.lint_program.specs.declared.looks.Look.{Look}
@@ -17,4 +17,5 @@ group_cmp g h = ordering_then (canonical_cmp g.0 h.0) (nat_cmp g.1 h.1)
 -- the map has of each group the first of these records
 abbrev pub AreFirsts : Look → Name → List RawRecord → Firsts → Type 0
 AreFirsts l a before firsts =
-    (g : Group) → option_map (λ e. e.lent.now) (tree.get group_cmp firsts.map g) ≡ first_in l a before g
+    (g : Group) → option_map (λ e. e.borrowed.now) (tree.get group_cmp firsts.map g)
+    ≡ first_in l a before g

@@ -1,7 +1,7 @@
 -- What the lines of an input are.
 use Rattle.std.specs.Prelude.{◌≡◌, ◌⊎◌, ℕ, ◌+◌, List, [], ◌∷◌}
 use Rattle.domain_octets.specs.Words.{Octets}
-use Rattle.domain_lent.specs.Data.{RawRecord}
+use Rattle.domain_borrowed.specs.Data.{RawRecord}
 use Rattle.denial_program.specs.Listing.{IsBad, IsLineRecord}
 use Rattle.denial_program.specs.Words.{words, IsSkipped}
 use Rattle.lint_program.specs.declared.reading.Line.{Line}

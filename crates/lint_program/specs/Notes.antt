@@ -6,7 +6,7 @@ use Rattle.std.specs.List.{find, list_any}
 use Rattle.domain_base.specs.Name.{is_at_or_below, same_name}
 use Rattle.domain_base.specs.Types as rtypes
 use Rattle.domain_base.specs.Words.{Name}
-use Rattle.domain_lent.specs.Data.{RawRecord}
+use Rattle.domain_borrowed.specs.Data.{RawRecord}
 use Rattle.lint_program.specs.Odd.{has_extras, shape_of, IsSuch}
 use Rattle.lint_program.specs.declared.notes.Note.{Note}
 use Rattle.lint_program.specs.declared.looks.Look.{Look}
@@ -164,17 +164,17 @@ pub record AreNoted (is_whole : Bool) (a : Name) (records : List RawRecord) (num
 pub record IsDeserved (l : Look) (a : Name) (records : List RawRecord) (numbers : List ℕ) (mark : Mark)
     : Type 0 where
   pub before : List RawRecord
-  pub lent : RawRecord
+  pub borrowed : RawRecord
   pub after : List RawRecord
   pub left : List ℕ
   pub number : ℕ
   pub right : List ℕ
-  pub are : records ≡ before ++ lent ∷ after
+  pub are : records ≡ before ++ borrowed ∷ after
   pub stand : numbers ≡ left ++ number ∷ right
   pub paired : length left ≡ length before
   pub place : mark.place ≡ Some number
   pub look : look_of mark.reason ≡ l
-  pub deserves : Deserves mark.reason a (earlier l a before lent) lent
+  pub deserves : Deserves mark.reason a (earlier l a before borrowed) borrowed
 
 -- one of these marks is of the line of this number
 pub record HasMark (marks : List Mark) (number : ℕ) : Type 0 where

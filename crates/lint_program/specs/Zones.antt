@@ -1,7 +1,7 @@
 -- The records of an input as a zone.
 use Rattle.std.specs.Prelude.{List}
 use Rattle.domain_dnssec.specs.AnyOrder.{AreMixed}
-use Rattle.domain_lent.specs.Data.{RawRecord}
+use Rattle.domain_borrowed.specs.Data.{RawRecord}
 use Rattle.domain_records.specs.Order.{IsInOrder, IsOneClass}
 use Rattle.denial_program.specs.Answer.{Sorts}
 use Rattle.lint_program.specs.declared.zone.Zone.{Zone}

@@ -1,7 +1,7 @@
 //! Which names of a zone hash alike.
 ghost use Rattle.std.specs.Prelude.{◌≡◌, ◌⊎◌, ℕ, List, IfErr, IfOk, map};
 ghost use Rattle.domain_alike.specs.Alike.{pair_of, AreAlike, IsFirstRefusal};
-ghost use Rattle.domain_lent.specs.Data.{minimum_of, RawRecord};
+ghost use Rattle.domain_borrowed.specs.Data.{minimum_of, RawRecord};
 ghost use Rattle.domain_records.specs.Order.{IsInOrder};
 ghost use Rattle.domain_hasher.specs.declared.error.Nsec3HashError.TheVariants as hash_error;
 ghost use Rattle.domain_records.specs.declared.error.SigningError.TheVariants as signing_error;
@@ -15,10 +15,10 @@ use crate::zone::Zone;
 use denial_program::{DenialFault, Nsec3Params, ZoneOctets};
 use domain_alike::{Alike, alike_names};
 use domain_base::ParsedName;
+use domain_borrowed::BorrowedRecord;
 use domain_dnssec::{
     GenerateNsec3Config, InPlaceSorter, Nsec3HashError, Nsec3Hasher, SigningError,
 };
-use domain_lent::LentRecord;
 use std::alloc::Global;
 
 /// Of the names of the NSEC3 chain that sorted records have with these parameters, each that has
@@ -30,7 +30,7 @@ use std::alloc::Global;
 fn alike_in<'a, H: Nsec3Hasher>(
     alloc: Global,
     apex: &ParsedName<'a>,
-    sorted: &[LentRecord<'a>],
+    sorted: &[BorrowedRecord<'a>],
     parameters: Nsec3Params,
     hasher: &H,
 ) -> Result<Vec<Alike<'a>>, DenialFault>

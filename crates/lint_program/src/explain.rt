@@ -7,7 +7,8 @@ use crate::hint::{
 };
 use crate::refusal::{Refusal, refusal_of};
 use crate::wanted::Part;
-use crate::words::{quoted, without_end, words_of};
+use crate::words::{quoted, words_of};
+use denial_program::without_end;
 use domain_base::Rtype;
 use std::alloc::{AllocError, Global};
 use std::str;

@@ -1,13 +1,13 @@
 //! The first record of each group.
 ghost use Rattle.std.specs.Prelude.{◌≡◌, List, [], ◌∷◌, ◌++◌, IfOk, OnOk, IsSome, option_map};
 ghost use Rattle.domain_base.specs.Words.{Name};
-ghost use Rattle.domain_lent.specs.Data.{RawRecord};
+ghost use Rattle.domain_borrowed.specs.Data.{RawRecord};
 ghost use Rattle.lint_program.specs.Firsts.{AreFirsts};
 ghost use Rattle.lint_program.specs.Notes.{group_of, first_in};
 ghost use Rattle.lint_program.specs.declared.looks.Look.{Look};
 
 use crate::looks::{Earlier, Group};
-use domain_lent::LentRecord;
+use domain_borrowed::BorrowedRecord;
 use std::alloc::{AllocError, Global};
 use std::collections::BTreeMap;
 
@@ -18,11 +18,11 @@ pub struct Firsts<'z, 'a> {
 }
 
 /// The record that came earlier.
-pub fn lent_of<'z, 'a>(first: Option<&Earlier<'z, 'a>>) -> Option<&'z LentRecord<'a>>
-    ensures { option_map (λ f. f.now) result ≡ option_map (λ e. e.now.lent.now) first.entry }
+pub fn borrowed_of<'z, 'a>(first: Option<&Earlier<'z, 'a>>) -> Option<&'z BorrowedRecord<'a>>
+    ensures { option_map (λ f. f.now) result ≡ option_map (λ e. e.now.borrowed.now) first.entry }
 {
     match first {
-        Some(earlier) => Some(earlier.lent),
+        Some(earlier) => Some(earlier.borrowed),
         None => None,
     }
 }
@@ -40,7 +40,7 @@ impl<'z, 'a> Firsts<'z, 'a> {
     /// The first of a group.
     pub fn get(&self, group: &Group<'z>) -> Option<&Earlier<'z, 'a>>
         ensures { (l : Look) (a : Name) (before : List RawRecord) → AreFirsts l a before self.now
-            → option_map (λ e. e.now.lent.now) result ≡ first_in l a before group.now }
+            → option_map (λ e. e.now.borrowed.now) result ≡ first_in l a before group.now }
     {
         self.map.get(group)
     }
@@ -49,16 +49,16 @@ impl<'z, 'a> Firsts<'z, 'a> {
         &mut self,
         group: Group<'z>,
         number: u64,
-        lent: &'z LentRecord<'a>,
+        borrowed: &'z BorrowedRecord<'a>,
     ) -> Result<(), AllocError>
         ensures { OnOk result ((l : Look) (a : Name) (before : List RawRecord)
-            → group.entry ≡ group_of l a lent.now → AreFirsts l a before self.old
-            → AreFirsts l a (before ++ lent.now ∷ []) self.new) }
+            → group.entry ≡ group_of l a borrowed.now → AreFirsts l a before self.old
+            → AreFirsts l a (before ++ borrowed.now ∷ []) self.new) }
     {
         if self.map.get(&group).is_some() {
             return Ok(());
         }
-        self.map.insert(group, Earlier { number, lent })?;
+        self.map.insert(group, Earlier { number, borrowed })?;
         Ok(())
     }
 }

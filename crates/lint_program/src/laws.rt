@@ -1,10 +1,10 @@
-//! What the lines that a report tells are to `denial`, and what its notes are to the records. A caller
-//! calls a law in its body.
+//! What the lines that a report tells are to `denial`, and what its notes are to the records. A
+//! caller calls a law in its body.
 ghost use Rattle.std.specs.Prelude.{◌≡◌, ℕ, List, [], ◌∷◌, ◌++◌, length};
 ghost use Rattle.std.specs.List.{AllByRecursion};
 ghost use Rattle.domain_octets.specs.Words.{Octets};
 ghost use Rattle.domain_base.specs.Words.{Name};
-ghost use Rattle.domain_lent.specs.Data.{RawRecord};
+ghost use Rattle.domain_borrowed.specs.Data.{RawRecord};
 ghost use Rattle.denial_program.specs.Listing.{Give, IsFirstBad};
 ghost use Rattle.lint_program.specs.Lines.{AreLinted};
 ghost use Rattle.lint_program.specs.Notes.{earlier, look_of, Deserves, Found, HasMark, IsDeserved, Mark};
@@ -29,8 +29,8 @@ pub fn what_is_noted_is_deserved()
         → AllByRecursion (IsDeserved l a records numbers) marks }
     ensures stands { (l : Look) (a : Name) (records : List RawRecord) (numbers : List ℕ)
         (marks : List Mark) → Found l a records numbers marks
-        → (before after : List RawRecord) (lent : RawRecord) → records ≡ before ++ lent ∷ after
+        → (before after : List RawRecord) (borrowed : RawRecord) → records ≡ before ++ borrowed ∷ after
         → (left right : List ℕ) (n : ℕ) → numbers ≡ left ++ n ∷ right
         → length left ≡ length before → (reason : Reason) → look_of reason ≡ l
-        → Deserves reason a (earlier l a before lent) lent → HasMark marks n }
+        → Deserves reason a (earlier l a before borrowed) borrowed → HasMark marks n }
 {}

@@ -6,7 +6,7 @@ ghost use Rattle.lint_program.specs.Notes.{bit, fails, group_of, is_apex_soa, lo
 use crate::odd::{has_extras, is_such, shape_of};
 use crate::ordered_name::OrderedName;
 use domain_base::{ParsedName, Rtype, ToName};
-use domain_lent::LentRecord;
+use domain_borrowed::BorrowedRecord;
 
 /// What the records are looked through for, each time once.
 #[derive(Clone, Copy)]
@@ -66,7 +66,7 @@ pub struct Earlier<'z, 'a> {
     /// The number of its line.
     pub number: u64,
     /// The record.
-    pub lent: &'z LentRecord<'a>,
+    pub borrowed: &'z BorrowedRecord<'a>,
 }
 
 /// What puts records together: a name and a number.
@@ -80,10 +80,10 @@ fn bit(is_so: bool) -> u16
 }
 
 /// Whether it is an SOA record of the apex.
-pub fn is_apex_soa(apex: &ParsedName<'_>, lent: &LentRecord<'_>) -> bool
-    ensures { result ≡ is_apex_soa apex.now lent.now }
+pub fn is_apex_soa(apex: &ParsedName<'_>, borrowed: &BorrowedRecord<'_>) -> bool
+    ensures { result ≡ is_apex_soa apex.now borrowed.now }
 {
-    lent.rtype() == Rtype::SOA && lent.owner().name_eq(apex)
+    borrowed.rtype() == Rtype::SOA && borrowed.owner().name_eq(apex)
 }
 
 /// Whether records of the type may stand beside a CNAME record (RFC 4034, section 2.5 and RFC 2181,
@@ -95,15 +95,19 @@ fn stands_beside_alias(rtype: Rtype) -> bool
 }
 
 /// The group of a record.
-pub fn group_of<'z>(look: Look, apex: &'z ParsedName<'_>, lent: &'z LentRecord<'_>) -> Group<'z>
-    ensures { result ≡ group_of look apex.now lent.now }
+pub fn group_of<'z>(
+    look: Look,
+    apex: &'z ParsedName<'_>,
+    borrowed: &'z BorrowedRecord<'_>,
+) -> Group<'z>
+    ensures { result ≡ group_of look apex.now borrowed.now }
 {
-    let rtype = lent.rtype();
+    let rtype = borrowed.rtype();
     match look {
-        Look::Soas => (OrderedName::over(apex), bit(is_apex_soa(apex, lent))),
-        Look::Ttls => (OrderedName::over(lent.owner()), rtype.to_int()),
+        Look::Soas => (OrderedName::over(apex), bit(is_apex_soa(apex, borrowed))),
+        Look::Ttls => (OrderedName::over(borrowed.owner()), rtype.to_int()),
         Look::Aliases => (
-            OrderedName::over(lent.owner()),
+            OrderedName::over(borrowed.owner()),
             bit(stands_beside_alias(rtype)),
         ),
         Look::Classes | Look::Outside | Look::Data => (OrderedName::over(apex), 0),
@@ -113,19 +117,19 @@ pub fn group_of<'z>(look: Look, apex: &'z ParsedName<'_>, lent: &'z LentRecord<'
 /// Of SOA records.
 fn soa_reason(
     apex: &ParsedName<'_>,
-    first: Option<&LentRecord<'_>>,
-    lent: &LentRecord<'_>,
+    first: Option<&BorrowedRecord<'_>>,
+    borrowed: &BorrowedRecord<'_>,
 ) -> Option<Reason>
     ensures look { IfSome result (λ reason. look_of reason ≡ Look.Soas) }
     ensures some { IfSome result (λ reason.
-        Deserves reason apex.now (option_map (λ f. f.now) first.entry) lent.now) }
+        Deserves reason apex.now (option_map (λ f. f.now) first.entry) borrowed.now) }
     ensures none { IfNone result
-        (FindsNothing Look.Soas apex.now (option_map (λ f. f.now) first.entry) lent.now) }
+        (FindsNothing Look.Soas apex.now (option_map (λ f. f.now) first.entry) borrowed.now) }
 {
-    if lent.rtype() != Rtype::SOA {
+    if borrowed.rtype() != Rtype::SOA {
         return None;
     }
-    if !lent.owner().name_eq(apex) {
+    if !borrowed.owner().name_eq(apex) {
         return Some(Reason::StraySoa);
     }
     match first {
@@ -137,17 +141,17 @@ fn soa_reason(
 /// Of classes.
 fn class_reason(
     apex: &ParsedName<'_>,
-    first: Option<&LentRecord<'_>>,
-    lent: &LentRecord<'_>,
+    first: Option<&BorrowedRecord<'_>>,
+    borrowed: &BorrowedRecord<'_>,
 ) -> Option<Reason>
     ensures look { IfSome result (λ reason. look_of reason ≡ Look.Classes) }
     ensures some { IfSome result (λ reason.
-        Deserves reason apex.now (option_map (λ f. f.now) first.entry) lent.now) }
+        Deserves reason apex.now (option_map (λ f. f.now) first.entry) borrowed.now) }
     ensures none { IfNone result
-        (FindsNothing Look.Classes apex.now (option_map (λ f. f.now) first.entry) lent.now) }
+        (FindsNothing Look.Classes apex.now (option_map (λ f. f.now) first.entry) borrowed.now) }
 {
     let first = first?;
-    if lent.class() != first.class() {
+    if borrowed.class() != first.class() {
         Some(Reason::OtherClass)
     } else {
         None
@@ -157,20 +161,20 @@ fn class_reason(
 /// Of TTLs (RFC 2181, section 5.2).
 fn ttl_reason(
     apex: &ParsedName<'_>,
-    first: Option<&LentRecord<'_>>,
-    lent: &LentRecord<'_>,
+    first: Option<&BorrowedRecord<'_>>,
+    borrowed: &BorrowedRecord<'_>,
 ) -> Option<Reason>
     ensures look { IfSome result (λ reason. look_of reason ≡ Look.Ttls) }
     ensures some { IfSome result (λ reason.
-        Deserves reason apex.now (option_map (λ f. f.now) first.entry) lent.now) }
+        Deserves reason apex.now (option_map (λ f. f.now) first.entry) borrowed.now) }
     ensures none { IfNone result
-        (FindsNothing Look.Ttls apex.now (option_map (λ f. f.now) first.entry) lent.now) }
+        (FindsNothing Look.Ttls apex.now (option_map (λ f. f.now) first.entry) borrowed.now) }
 {
     let first = first?;
-    if lent.rtype() == Rtype::RRSIG {
+    if borrowed.rtype() == Rtype::RRSIG {
         return None;
     }
-    if lent.ttl() != first.ttl() {
+    if borrowed.ttl() != first.ttl() {
         Some(Reason::OtherTtl)
     } else {
         None
@@ -180,17 +184,17 @@ fn ttl_reason(
 /// Of owners.
 fn owner_reason(
     apex: &ParsedName<'_>,
-    first: Option<&LentRecord<'_>>,
-    lent: &LentRecord<'_>,
+    first: Option<&BorrowedRecord<'_>>,
+    borrowed: &BorrowedRecord<'_>,
 ) -> Option<Reason>
     ensures look { IfSome result (λ reason. look_of reason ≡ Look.Outside) }
     ensures some { IfSome result (λ reason.
-        Deserves reason apex.now (option_map (λ f. f.now) first.entry) lent.now) }
+        Deserves reason apex.now (option_map (λ f. f.now) first.entry) borrowed.now) }
     ensures none { IfNone result
-        (FindsNothing Look.Outside apex.now (option_map (λ f. f.now) first.entry) lent.now) }
+        (FindsNothing Look.Outside apex.now (option_map (λ f. f.now) first.entry) borrowed.now) }
 {
     let _first = first;
-    if lent.owner().ends_with(apex) {
+    if borrowed.owner().ends_with(apex) {
         None
     } else {
         Some(Reason::Outside)
@@ -200,17 +204,17 @@ fn owner_reason(
 /// Of CNAME records (RFC 1034, section 3.6.2).
 fn alias_reason(
     apex: &ParsedName<'_>,
-    first: Option<&LentRecord<'_>>,
-    lent: &LentRecord<'_>,
+    first: Option<&BorrowedRecord<'_>>,
+    borrowed: &BorrowedRecord<'_>,
 ) -> Option<Reason>
     ensures look { IfSome result (λ reason. look_of reason ≡ Look.Aliases) }
     ensures some { IfSome result (λ reason.
-        Deserves reason apex.now (option_map (λ f. f.now) first.entry) lent.now) }
+        Deserves reason apex.now (option_map (λ f. f.now) first.entry) borrowed.now) }
     ensures none { IfNone result
-        (FindsNothing Look.Aliases apex.now (option_map (λ f. f.now) first.entry) lent.now) }
+        (FindsNothing Look.Aliases apex.now (option_map (λ f. f.now) first.entry) borrowed.now) }
 {
     let first = first?;
-    let rtype = lent.rtype();
+    let rtype = borrowed.rtype();
     if stands_beside_alias(rtype) {
         return None;
     }
@@ -224,21 +228,21 @@ fn alias_reason(
 /// Of data.
 fn data_reason(
     apex: &ParsedName<'_>,
-    first: Option<&LentRecord<'_>>,
-    lent: &LentRecord<'_>,
+    first: Option<&BorrowedRecord<'_>>,
+    borrowed: &BorrowedRecord<'_>,
 ) -> Option<Reason>
     ensures look { IfSome result (λ reason. look_of reason ≡ Look.Data) }
     ensures some { IfSome result (λ reason.
-        Deserves reason apex.now (option_map (λ f. f.now) first.entry) lent.now) }
+        Deserves reason apex.now (option_map (λ f. f.now) first.entry) borrowed.now) }
     ensures none { IfNone result
-        (FindsNothing Look.Data apex.now (option_map (λ f. f.now) first.entry) lent.now) }
+        (FindsNothing Look.Data apex.now (option_map (λ f. f.now) first.entry) borrowed.now) }
 {
     let _first = first;
-    let octets = lent.data().octets();
-    if !is_such(shape_of(lent.rtype()), octets) {
+    let octets = borrowed.data().octets();
+    if !is_such(shape_of(borrowed.rtype()), octets) {
         return Some(Reason::OddData);
     }
-    if lent.rtype() == Rtype::NSEC3PARAM && has_extras(octets) {
+    if borrowed.rtype() == Rtype::NSEC3PARAM && has_extras(octets) {
         return Some(Reason::Parameters);
     }
     None
@@ -248,21 +252,21 @@ fn data_reason(
 pub fn reason_of(
     look: Look,
     apex: &ParsedName<'_>,
-    first: Option<&LentRecord<'_>>,
-    lent: &LentRecord<'_>,
+    first: Option<&BorrowedRecord<'_>>,
+    borrowed: &BorrowedRecord<'_>,
 ) -> Option<Reason>
     ensures look { IfSome result (λ reason. look_of reason ≡ look) }
     ensures some { IfSome result (λ reason.
-        Deserves reason apex.now (option_map (λ f. f.now) first.entry) lent.now) }
+        Deserves reason apex.now (option_map (λ f. f.now) first.entry) borrowed.now) }
     ensures none { IfNone result
-        (FindsNothing look apex.now (option_map (λ f. f.now) first.entry) lent.now) }
+        (FindsNothing look apex.now (option_map (λ f. f.now) first.entry) borrowed.now) }
 {
     match look {
-        Look::Soas => soa_reason(apex, first, lent),
-        Look::Classes => class_reason(apex, first, lent),
-        Look::Ttls => ttl_reason(apex, first, lent),
-        Look::Outside => owner_reason(apex, first, lent),
-        Look::Aliases => alias_reason(apex, first, lent),
-        Look::Data => data_reason(apex, first, lent),
+        Look::Soas => soa_reason(apex, first, borrowed),
+        Look::Classes => class_reason(apex, first, borrowed),
+        Look::Ttls => ttl_reason(apex, first, borrowed),
+        Look::Outside => owner_reason(apex, first, borrowed),
+        Look::Aliases => alias_reason(apex, first, borrowed),
+        Look::Data => data_reason(apex, first, borrowed),
     }
 }

@@ -6,7 +6,7 @@ use crate::looks::{Earlier, Reason};
 use crate::odd::shape_of;
 use crate::reading::Place;
 use domain_base::{ParsedName, ToName};
-use domain_lent::LentRecord;
+use domain_borrowed::BorrowedRecord;
 use std::alloc::{AllocError, Global};
 
 impl Reason {
@@ -52,11 +52,11 @@ pub fn no_soa_text(alloc: Global, apex: &ParsedName<'_>) -> Result<String, Alloc
 fn outside_text(
     alloc: Global,
     apex: &ParsedName<'_>,
-    lent: &LentRecord<'_>,
+    borrowed: &BorrowedRecord<'_>,
     place: Place,
 ) -> Result<String, AllocError> {
     let apex = apex.fmt_with_dot();
-    let name = lent.owner().fmt_with_dot();
+    let name = borrowed.owner().fmt_with_dot();
     if place.has_dot {
         return format!(in alloc; "{name} is outside of the zone {apex}");
     }
@@ -70,24 +70,24 @@ fn pair_text(
     alloc: Global,
     reason: Reason,
     first: &Earlier<'_, '_>,
-    lent: &LentRecord<'_>,
+    borrowed: &BorrowedRecord<'_>,
 ) -> Result<String, AllocError> {
     let line = first.number;
     match reason {
         Reason::OtherClass => {
-            let class = lent.class();
-            let other = first.lent.class();
+            let class = borrowed.class();
+            let other = first.borrowed.class();
             format!(in alloc; "{class}, and that of line {line} {other}")
         }
         Reason::OtherTtl => {
-            let ttl = lent.ttl().as_secs();
-            let other = first.lent.ttl().as_secs();
+            let ttl = borrowed.ttl().as_secs();
+            let other = first.borrowed.ttl().as_secs();
             format!(in alloc;
                 "{ttl}, and that of line {line}, with the same owner and type, {other}"
             )
         }
         Reason::BesideAlias => {
-            let rtype = lent.rtype();
+            let rtype = borrowed.rtype();
             format!(in alloc; "{rtype} stands beside the record of line {line}")
         }
         _ => format!(in alloc; "{line}"),
@@ -101,23 +101,23 @@ pub fn text_of(
     apex: &ParsedName<'_>,
     reason: Reason,
     first: Option<&Earlier<'_, '_>>,
-    lent: &LentRecord<'_>,
+    borrowed: &BorrowedRecord<'_>,
     place: Place,
 ) -> Result<String, AllocError> {
-    let rtype = lent.rtype();
+    let rtype = borrowed.rtype();
     match reason {
         Reason::StraySoa => {
-            let name = lent.owner().fmt_with_dot();
+            let name = borrowed.owner().fmt_with_dot();
             format!(in alloc; "{name}")
         }
-        Reason::Outside => outside_text(alloc, apex, lent, place),
+        Reason::Outside => outside_text(alloc, apex, borrowed, place),
         Reason::OddData => {
             let wanted = shape_of(rtype).text();
             format!(in alloc; "{rtype}, which are {wanted}")
         }
         Reason::Parameters => format!(in alloc; "RFC 9276, section 3.1,"),
         _ => match first {
-            Some(first) => pair_text(alloc, reason, first, lent),
+            Some(first) => pair_text(alloc, reason, first, borrowed),
             None => format!(in alloc; ""),
         },
     }

@@ -4,12 +4,12 @@ ghost use Rattle.std.specs.Prelude.{◌≡◌, ◌++◌, ◌&&◌, List, not, On
 ghost use Rattle.std.specs.List.{list_any};
 ghost use Rattle.lint_program.specs.Notes.{is_apex_soa, mark_of, missing_soa, AreNoted, Found, IsToldOf, Mark};
 
-use crate::firsts::{Firsts, lent_of};
+use crate::firsts::{Firsts, borrowed_of};
 use crate::looks::{Earlier, Look, Reason, group_of, is_apex_soa, reason_of};
 use crate::note_text::{no_soa_text, text_of};
 use crate::reading::Place;
 use domain_base::ParsedName;
-use domain_lent::LentRecord;
+use domain_borrowed::BorrowedRecord;
 use std::alloc::{AllocError, Global};
 
 /// What is told of a record, or of all.
@@ -29,19 +29,19 @@ fn note_one(
     look: Look,
     apex: &ParsedName<'_>,
     first: Option<&Earlier<'_, '_>>,
-    lent: &LentRecord<'_>,
+    borrowed: &BorrowedRecord<'_>,
     place: Place,
     notes: &mut Vec<Note>,
 ) -> Result<(), AllocError>
     ensures { OnOk result ((more : List Mark)
-        × IsToldOf look apex.now (option_map (λ e. e.now.lent.now) first.entry) lent.now
+        × IsToldOf look apex.now (option_map (λ e. e.now.borrowed.now) first.entry) borrowed.now
         place.number more
         × (map mark_of notes.new.items ≡ map mark_of notes.old.items ++ more)) }
 {
-    let Some(reason) = reason_of(look, apex, lent_of(first), lent) else {
+    let Some(reason) = reason_of(look, apex, borrowed_of(first), borrowed) else {
         return Ok(());
     };
-    let text = text_of(alloc, apex, reason, first, lent, place)?;
+    let text = text_of(alloc, apex, reason, first, borrowed, place)?;
     notes.push(Note {
         reason,
         place: Some(place.number),
@@ -55,7 +55,7 @@ fn note_each<'z, 'a>(
     alloc: Global,
     look: Look,
     apex: &'z ParsedName<'a>,
-    records: &'z [LentRecord<'a>],
+    records: &'z [BorrowedRecord<'a>],
     places: &[Place],
     notes: &mut Vec<Note>,
 ) -> Result<(), AllocError>
@@ -65,22 +65,22 @@ fn note_each<'z, 'a>(
         × (map mark_of notes.new.items ≡ map mark_of notes.old.items ++ more)) }
 {
     let mut firsts = Firsts::new(alloc);
-    for (i, lent) in records.iter().enumerate() {
+    for (i, borrowed) in records.iter().enumerate() {
         let place = places[i];
-        let group = group_of(look, apex, lent);
+        let group = group_of(look, apex, borrowed);
         let first = firsts.get(&group);
-        note_one(alloc, look, apex, first, lent, place, notes)?;
-        firsts.put(group, place.number, lent)?;
+        note_one(alloc, look, apex, first, borrowed, place, notes)?;
+        firsts.put(group, place.number, borrowed)?;
     }
     Ok(())
 }
 
 /// Whether the apex owns an SOA record.
-fn has_soa(apex: &ParsedName<'_>, records: &[LentRecord<'_>]) -> bool
+fn has_soa(apex: &ParsedName<'_>, records: &[BorrowedRecord<'_>]) -> bool
     ensures { result ≡ list_any (is_apex_soa apex.now) records.now }
 {
-    for lent in records {
-        if is_apex_soa(apex, lent) {
+    for borrowed in records {
+        if is_apex_soa(apex, borrowed) {
             return true;
         }
     }
@@ -91,7 +91,7 @@ fn has_soa(apex: &ParsedName<'_>, records: &[LentRecord<'_>]) -> bool
 fn note_no_soa(
     alloc: Global,
     apex: &ParsedName<'_>,
-    records: &[LentRecord<'_>],
+    records: &[BorrowedRecord<'_>],
     are_whole: bool,
     notes: &mut Vec<Note>,
 ) -> Result<(), AllocError>
@@ -114,7 +114,7 @@ fn note_no_soa(
 pub fn notes_of(
     alloc: Global,
     apex: &ParsedName<'_>,
-    records: &[LentRecord<'_>],
+    records: &[BorrowedRecord<'_>],
     places: &[Place],
     are_whole: bool,
 ) -> Result<Vec<Note>, AllocError>

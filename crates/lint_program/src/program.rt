@@ -6,7 +6,7 @@ ghost use Rattle.domain_octets.specs.Words.{Octets};
 ghost use Rattle.denial_program.specs.Fault.{IsBeforeOutput, IsReadToEnd};
 ghost use Rattle.denial_program.specs.declared.fault.DenialFault.TheVariants.{OutOfMemory as Memory};
 ghost use Rattle.domain_base.specs.Words.{Name};
-ghost use Rattle.domain_lent.specs.Data.{RawRecord};
+ghost use Rattle.domain_borrowed.specs.Data.{RawRecord};
 ghost use Rattle.domain_records.specs.declared.error.SigningError.{SigningError};
 ghost use Rattle.denial_program.specs.Command.{Params};
 ghost use Rattle.domain_alike.specs.Alike.{pair_of};
@@ -35,7 +35,7 @@ use std::alloc::Global;
 use std::io::{BufRead, Write};
 
 /// A copy of the apex in the arena.
-fn lay_apex<'a>(arena: &'a Bump, apex: &ZoneName) -> Result<ParsedName<'a>, DenialFault>
+fn store_apex<'a>(arena: &'a Bump, apex: &ZoneName) -> Result<ParsedName<'a>, DenialFault>
     ensures ok { IfOk result (λ copy. copy ≡ apex.now) }
     ensures err { IfErr result (λ e. e ≡ Memory) }
 {
@@ -140,7 +140,7 @@ pub fn run_lint<R: BufRead, W: Write, H: Nsec3Hasher>(
         parameters,
     } = asked_of(alloc, words)?;
     let arena = Bump::new(alloc);
-    let apex = lay_apex(&arena, &spelled)?;
+    let apex = store_apex(&arena, &spelled)?;
     let Lines {
         bad,
         records,

@@ -8,7 +8,7 @@ ghost use Rattle.lint_program.specs.Lines.{AreLinted, Reads};
 
 use bumpalo::Bump;
 use denial_program::{DenialFault, fault_of, read_records};
-use domain_lent::LentRecord;
+use domain_borrowed::BorrowedRecord;
 use std::alloc::Global;
 use std::io::BufRead;
 
@@ -36,7 +36,7 @@ pub struct Lines<'a> {
     /// Those that are no records, in order.
     pub bad: Vec<BadLine<'a>>,
     /// The records of the others, in order.
-    pub records: Vec<LentRecord<'a>>,
+    pub records: Vec<BorrowedRecord<'a>>,
     /// Where each of these stands.
     pub places: Vec<Place>,
 }
@@ -47,7 +47,7 @@ pub enum Line<'a> {
     /// It is blank, or a comment.
     Nothing,
     /// A record, with its octets in an arena.
-    Record(LentRecord<'a>),
+    Record(BorrowedRecord<'a>),
     /// None of these.
     Bad,
 }

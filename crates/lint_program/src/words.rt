@@ -2,15 +2,6 @@
 
 use std::alloc::{AllocError, Global};
 
-/// A line without its end.
-pub fn without_end(line: &[u8]) -> &[u8] {
-    match line {
-        [front @ .., b'\r', b'\n'] => front,
-        [front @ .., b'\n'] => front,
-        _ => line,
-    }
-}
-
 /// The words of a line, which spaces and tabs separate.
 pub fn words_of(alloc: Global, line: &[u8]) -> Result<Vec<&[u8]>, AllocError> {
     let mut words = Vec::new(alloc);

@@ -1,6 +1,6 @@
 //! Whether records have a chain.
 ghost use Rattle.std.specs.Prelude.{◌≡◌, List, IfErr, IfOk};
-ghost use Rattle.domain_lent.specs.Data.{RawRecord};
+ghost use Rattle.domain_borrowed.specs.Data.{RawRecord};
 ghost use Rattle.domain_records.specs.Order.{IsInOrder, IsOneClass};
 ghost use Rattle.denial_program.specs.Answer.{Sorts};
 ghost use Rattle.denial_program.specs.declared.fault.DenialFault.TheVariants.{OutOfMemory as Memory};
@@ -9,7 +9,7 @@ ghost use Rattle.lint_program.specs.Zones.{IsUsable, IsZone};
 
 use denial_program::{DenialFault, nsecs_of, sort_zone};
 use domain_base::ParsedName;
-use domain_lent::LentRecord;
+use domain_borrowed::BorrowedRecord;
 use std::alloc::Global;
 
 /// The records of an input as a zone.
@@ -18,7 +18,7 @@ pub enum Zone<'a> {
     /// They are of more than one class.
     Mixed,
     /// They are of one class, and stand here sorted.
-    Sorted(Vec<LentRecord<'a>>),
+    Sorted(Vec<BorrowedRecord<'a>>),
 }
 
 /// The zone that records are.
@@ -26,7 +26,7 @@ pub enum Zone<'a> {
 /// # Errors
 ///
 /// `OutOfMemory`.
-pub fn zone_of<'a>(records: Vec<LentRecord<'a>>) -> Result<Zone<'a>, DenialFault>
+pub fn zone_of<'a>(records: Vec<BorrowedRecord<'a>>) -> Result<Zone<'a>, DenialFault>
     ensures ok { IfOk result (IsZone records.entry.items) }
     ensures usable { IfOk result IsUsable }
     ensures err { IfErr result (λ e. e ≡ Memory) }
@@ -46,7 +46,7 @@ pub fn zone_of<'a>(records: Vec<LentRecord<'a>>) -> Result<Zone<'a>, DenialFault
 fn has_no_chain<'a>(
     alloc: Global,
     apex: &ParsedName<'a>,
-    sorted: &[LentRecord<'a>],
+    sorted: &[BorrowedRecord<'a>],
 ) -> Result<bool, DenialFault>
     requires one_class { IsOneClass sorted.now }
     requires in_order { IsInOrder (λ n. n) (λ d. d.rtype) sorted.now }

@@ -33,8 +33,8 @@ fn show_record(
     Ok(())
 }
 
-/// What a zone of one class answers to a question, after the records of its chain that prove it, one
-/// a line.
+/// What a zone of one class answers to a question, after the records of its chain that prove it,
+/// one a line.
 fn serve<'z>(
     alloc: Global,
     apex: &'z ZoneName,

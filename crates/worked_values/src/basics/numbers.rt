@@ -67,8 +67,8 @@ fn measure(tokens: &[&str], answers: &mut Answers) {
     answers.debug("continues", &scanner.continues());
 }
 
-/// Answers a vector on numbers: each of some types or classes, tokens as octets, one value that is a
-/// token, or a serial number or a time.
+/// Answers a vector on numbers: each of some types or classes, tokens as octets, one value that is
+/// a token, or a serial number or a time.
 pub fn answer(
     alloc: Global,
     form: &str,

@@ -84,8 +84,8 @@ fn deny_by_hash<H: Nsec3Hasher>(
     Ok(())
 }
 
-/// Answers what is picked of an NSEC chain: after the apex and a colon stand the records of the zone,
-/// and after another colon names with types, with `/` between them.
+/// Answers what is picked of an NSEC chain: after the apex and a colon stand the records of the
+/// zone, and after another colon names with types, with `/` between them.
 pub fn by_name(
     alloc: Global,
     apex: &OwnName,

@@ -37,7 +37,7 @@ fn chain(
 
 /// The records of the chain of sorted records as it lends them, each on a line, and none past the
 /// last one; or why they have none.
-fn chain_lent(alloc: Global, apex: &OwnName, zone: &Zone, answers: &mut Answers) {
+fn chain_borrowed(alloc: Global, apex: &OwnName, zone: &Zone, answers: &mut Answers) {
     let groups = zone.owner_rrs();
     if !groups.is_one_class() {
         return answers.refused(&ChainError::MixedClasses);
@@ -86,7 +86,7 @@ pub fn answer(
                 answers,
             );
         }
-        "lent" => chain_lent(alloc, &apex, &zone(alloc, words)?, answers),
+        "borrowed" => chain_borrowed(alloc, &apex, &zone(alloc, words)?, answers),
         "verdict" => verdicts::by_name(alloc, &apex, words, answers)?,
         "judge" => verdicts::judged(alloc, &apex, words, answers)?,
         "deny" => denials::by_name(alloc, &apex, words, answers)?,

@@ -87,9 +87,9 @@ fn owner<H: Nsec3Hasher>(
     Ok(())
 }
 
-/// The records of the chain of sorted records as it lends them, and its NSEC3PARAM record, each on a
-/// line.
-fn lent<H: Nsec3Hasher>(
+/// The records of the chain of sorted records as it lends them, and its NSEC3PARAM record, each on
+/// a line.
+fn borrowed<H: Nsec3Hasher>(
     alloc: Global,
     apex: &OwnName,
     config: &Config,
@@ -174,7 +174,7 @@ fn with_hasher<H: Nsec3Hasher>(
                 answers,
             );
         }
-        "lent" => lent(alloc, apex, config, hasher, &zone(alloc, words)?, answers),
+        "borrowed" => borrowed(alloc, apex, config, hasher, &zone(alloc, words)?, answers),
         "verdict" => verdicts::by_hash(alloc, apex, &config.params, hasher, words, answers)?,
         "judge" => {
             verdicts::judged_by_hash(alloc, apex, &config.params, hasher, words, answers)?;

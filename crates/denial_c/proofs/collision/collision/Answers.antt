@@ -1,7 +1,7 @@
 use Rattle.std.proofs.Common.{List, Option, Some, option_map, subst}
 use Rattle.domain_alike.specs.Alike.{pair_of, IsFirstPair}
 use Rattle.domain_alike.specs.declared.alike.Alike.{Alike}
-use Rattle.domain_lent.specs.Data.{minimum_of, RawRecord}
+use Rattle.domain_borrowed.specs.Data.{minimum_of, RawRecord}
 use Rattle.domain_nsec3.specs.Config.{ChainConfig}
 use Rattle.domain_nsec3.specs.View.{config_of}
 use Rattle.domain_sha1.specs.Iterated.{sha1_answer}

@@ -2,10 +2,10 @@ use Rattle.std.proofs.Common.{[], ap, length, sym, ◌∙◌, subst, ◌∷◌, 
 use Rattle.std.proofs.lemmas.List.{map-append}
 use Rattle.domain_base.specs.Types as rtypes
 use Rattle.domain_nsec.specs.ChainView.{as_link, links_of}
-use Rattle.domain_lent.specs.Links.{nsec_record, IsNsec}
+use Rattle.domain_borrowed.specs.Links.{nsec_record, IsNsec}
 use Rattle.denial_c.specs.Among.{is_of}
 use Rattle.denial_c.proofs.AmongLemmas.{IsRead, passed, refused, refused_data, taken}
-use Rattle.domain_lent.proofs.WireLemmas.{shorter}
+use Rattle.domain_borrowed.proofs.WireLemmas.{shorter}
 use Rattle.denial_c.proofs.judge.nsecs_among.Goals as goal
 
 pub returns-in_default-clause-err : goal.returns-in_default-clause-err

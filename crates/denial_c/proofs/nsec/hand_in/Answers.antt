@@ -1,11 +1,11 @@
 use Rattle.std.proofs.Common.{ap, length, refl, sym, ◌∙◌, arith}
 use Rattle.domain_base.specs.Types as rtypes
 use Rattle.domain_nsec.specs.ChainView.{as_link}
-use Rattle.domain_lent.specs.Links.{nsec_record, IsNsec}
+use Rattle.domain_borrowed.specs.Links.{nsec_record, IsNsec}
 use Rattle.denial_c.specs.Among.{is_of}
 use Rattle.denial_c.proofs.AmongLemmas.{refused, refused_data}
 use Rattle.denial_c.proofs.NsecLemmas.{handing_one, handing_other}
-use Rattle.domain_lent.proofs.WireLemmas.{shorter}
+use Rattle.domain_borrowed.proofs.WireLemmas.{shorter}
 use Rattle.denial_c.proofs.nsec.hand_in.Goals as goal
 
 pub returns-in_default-clause-err : goal.returns-in_default-clause-err

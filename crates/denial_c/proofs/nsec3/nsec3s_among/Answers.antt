@@ -2,10 +2,10 @@ use Rattle.std.proofs.Common.{[], ap, length, sym, ◌∙◌, subst, ◌∷◌, 
 use Rattle.std.proofs.lemmas.List.{map-append}
 use Rattle.domain_base.specs.Types as rtypes
 use Rattle.domain_nsec3.specs.View.{as_hashed_link, hashed_links_of}
-use Rattle.domain_lent.specs.Links.{nsec3_record, IsNsec3}
+use Rattle.domain_borrowed.specs.Links.{nsec3_record, IsNsec3}
 use Rattle.denial_c.specs.Among.{is_of}
 use Rattle.denial_c.proofs.AmongLemmas.{IsRead, passed, refused, refused_data, taken}
-use Rattle.domain_lent.proofs.WireLemmas.{shorter}
+use Rattle.domain_borrowed.proofs.WireLemmas.{shorter}
 use Rattle.denial_c.proofs.nsec3.nsec3s_among.Goals as goal
 
 pub returns-in_default-clause-err : goal.returns-in_default-clause-err

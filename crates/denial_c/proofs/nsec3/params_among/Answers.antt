@@ -3,10 +3,10 @@ use Rattle.std.proofs.lemmas.List.{map-append}
 use Rattle.domain_base.specs.Name.{same_name}
 use Rattle.domain_base.specs.Types as rtypes
 use Rattle.domain_nsec3.specs.View.{as_param_record}
-use Rattle.domain_lent.specs.Links.{param_record, IsParam}
+use Rattle.domain_borrowed.specs.Links.{param_record, IsParam}
 use Rattle.denial_c.specs.Among.{is_of}
 use Rattle.denial_c.proofs.AmongLemmas.{IsRead, passed, refused, refused_data, taken}
-use Rattle.domain_lent.proofs.WireLemmas.{shorter}
+use Rattle.domain_borrowed.proofs.WireLemmas.{shorter}
 use Rattle.denial_c.proofs.nsec3.params_among.Goals as goal
 
 pub returns-in_default-clause-err : goal.returns-in_default-clause-err

@@ -2,7 +2,7 @@ use Rattle.std.proofs.Common.{length, map, ◌&&◌}
 use Rattle.domain_base.specs.Name.{same_name}
 use Rattle.domain_base.specs.Types as rtypes
 use Rattle.domain_nsec3.specs.View.{as_param_record}
-use Rattle.domain_lent.specs.Links.{param_record, IsParam}
+use Rattle.domain_borrowed.specs.Links.{param_record, IsParam}
 use Rattle.denial_c.specs.Among.{is_of}
 use Rattle.denial_c.proofs.AmongLemmas.{IsRead}
 use Rattle.denial_c.proofs.nsec3.params_among.Given as goal

@@ -1,5 +1,5 @@
 use Rattle.std.proofs.Common.{◌≡◌, ◌<◌, List, length, refl, subst, IfErr, IfOk}
-use Rattle.domain_lent.specs.Data.{minimum_of, RawRecord}
+use Rattle.domain_borrowed.specs.Data.{minimum_of, RawRecord}
 use Rattle.domain_nsec3.specs.Chain.{IsChainParam, IsHashedChain}
 use Rattle.domain_nsec3.specs.Config.{ChainConfig}
 use Rattle.domain_nsec3.specs.declared.config.Nsec3ParamTtlMode.TheVariants.{Soa}

@@ -1,16 +1,14 @@
 use Rattle.std.proofs.Common.{◌≡◌, ◌&&◌, true, List, refl, subst, sym}
 use Rattle.domain_alike.specs.Covered.{covered_names}
-use Rattle.domain_bitmap.specs.Bitmap.{bitmap_octets}
-use Rattle.domain_lent.specs.Data.{minimum_of, RawRecord}
+use Rattle.domain_borrowed.specs.Data.{minimum_of, RawRecord}
 use Rattle.domain_nsec3.specs.Faults.{IsFirstFault}
-use Rattle.domain_nsec3.specs.Owners.{nsec3_lists}
 use Rattle.domain_nsec3.specs.View.{config_of, parameters_of}
 use Rattle.domain_records.specs.declared.error.SigningError.TheVariants as signing_error
 use Rattle.domain_sha1.specs.Iterated.{sha1_answer}
 use Rattle.domain_zone.specs.View.{zone_of}
 use Rattle.domain_zone.specs.Zone.{has_unequal_ttls}
 use Rattle.denial_c.specs.Chains.{hashing_fault, IsSortedNsec3Fault, IsSortedUnevenAt}
-use Rattle.denial_c.proofs.HashLemmas.{hashing_faulty, short_bits}
+use Rattle.denial_c.proofs.HashLemmas.{hashing_faulty}
 use Rattle.denial_c.proofs.nsec3_chain.sorted_nsec3s.Goals as goal
 
 pub uneven_at-offset-requires-clause-uneven : goal.uneven_at-offset-requires-clause-uneven
@@ -49,13 +47,3 @@ returns-in-Err-Nsec3HashingError-clause-err c =
     (hashing_faulty c.args.class c.args.octets.now c.args.sorted.now a config (parameters_of c.args.config.now.params) refl c.requires.sha1 w.error
     (subst (λ (xs : List RawRecord). IsFirstFault (zone_of (λ n. n) (λ d. d.rtype) minimum_of xs) a config (signing_error.Nsec3HashingError w.error))
     c.new_from_owned.ensures fault))
-
-pub nsec3s_octets-requires : goal.nsec3s_octets-requires
-nsec3s_octets-requires c = λ k d lt.
-    let L = zone_of (λ n. n) (λ d. d.rtype) minimum_of c.new_from_owned.result in
-    let config = config_of sha1_answer c.args.config.now in
-    let chain = c.in-Ok.ensures.chain in (
-      short_bits c.in-Ok.chain.links chain.names (λ n. bitmap_octets (nsec3_lists L c.args.apex.now config n.name))
-          (λ n. c.built_bitmaps_give_their_types.ensures.fits (nsec3_lists L c.args.apex.now config n.name)) chain.bits k d lt,
-      (chain.numbered k d lt).0,
-    )

@@ -1,5 +1,5 @@
 use Rattle.std.proofs.Common.{◌≡◌, ◌<◌, List, length, refl, subst, IfErr, IfOk}
-use Rattle.domain_lent.specs.Data.{minimum_of, RawRecord}
+use Rattle.domain_borrowed.specs.Data.{minimum_of, RawRecord}
 use Rattle.domain_nsec.specs.Chain.{IsChain}
 use Rattle.domain_zone.specs.View.{zone_of}
 use Rattle.denial_c.specs.Chains.{nsec_asking, IsSortedNsecFault, IsWritten}

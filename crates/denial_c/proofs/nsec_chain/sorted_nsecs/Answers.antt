@@ -1,5 +1,5 @@
 use Rattle.std.proofs.Common.{List, ap, subst, ◌∙◌}
-use Rattle.domain_lent.specs.Data.{minimum_of, RawRecord}
+use Rattle.domain_borrowed.specs.Data.{minimum_of, RawRecord}
 use Rattle.domain_nsec.specs.Chain.{IsFirstFault}
 use Rattle.domain_records.specs.declared.error.SigningError.TheVariants.{MultipleTtlValues}
 use Rattle.domain_zone.specs.View.{zone_of}

@@ -1,5 +1,5 @@
 use Rattle.std.proofs.Common.{◌∷◌, ap, map, subst, sym, ◌∙◌}
-use Rattle.domain_lent.specs.Data.{minimum_of}
+use Rattle.domain_borrowed.specs.Data.{minimum_of}
 use Rattle.domain_zone.specs.View.{as_zone_record, zone_of}
 use Rattle.domain_zone.proofs.TtlLemmas.{has_neighbour_clash, neighbours_tell, seen_never_descend}
 use Rattle.denial_c.specs.Uneven.{IsFirstClash}

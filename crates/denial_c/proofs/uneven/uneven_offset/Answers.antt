@@ -1,5 +1,5 @@
 use Rattle.std.proofs.Common.{◌-◌, Some, ap, arith, length, subst, sym, ◌∙◌}
-use Rattle.domain_lent.proofs.WireLemmas.{shorter}
+use Rattle.domain_borrowed.proofs.WireLemmas.{shorter}
 use Rattle.denial_c.specs.Uneven.{is_other}
 use Rattle.denial_c.proofs.GivenLemmas.{no_octets}
 use Rattle.denial_c.proofs.UnevenLemmas.{IsScanned, scanned_all, scanned_found, scanned_next, scanned_other, scanned_same}

@@ -1,7 +1,7 @@
 use Rattle.std.proofs.Common.{◌≡◌, ◌&&◌, true, false, not, ap, map, subst, sym, ◌∙◌}
 use Rattle.domain_alike.specs.Covered.{covered_names}
 use Rattle.domain_alike.proofs.KeptLemmas.{stays}
-use Rattle.domain_lent.specs.Data.{minimum_of}
+use Rattle.domain_borrowed.specs.Data.{minimum_of}
 use Rattle.domain_zone.specs.Owners.{OwnerRecords}
 use Rattle.domain_zone.specs.OwnerView.{as_owner_records}
 use Rattle.domain_zone.specs.View.{as_zone_record, zone_of}

@@ -1,5 +1,5 @@
 use Rattle.std.proofs.Common.{length}
-use Rattle.domain_lent.specs.Data.{minimum_of}
+use Rattle.domain_borrowed.specs.Data.{minimum_of}
 use Rattle.domain_zone.specs.View.{zone_of}
 use Rattle.denial_c.proofs.UnevenLemmas.{IsWalked}
 use Rattle.denial_c.proofs.uneven.uneven_set.Given as goal

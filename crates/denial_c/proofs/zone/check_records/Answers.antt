@@ -1,7 +1,7 @@
 use Rattle.std.proofs.Common.{◌≡◌, ◌∙◌, sym}
 use Rattle.std.proofs.lemmas.Bool.{eqb-true, not-false}
 use Rattle.denial_c.proofs.GivenLemmas.{past_more}
-use Rattle.domain_lent.proofs.WireLemmas.{shorter}
+use Rattle.domain_borrowed.proofs.WireLemmas.{shorter}
 use Rattle.denial_c.proofs.zone.check_records.Goals as goal
 
 pub records-smaller : goal.records-smaller

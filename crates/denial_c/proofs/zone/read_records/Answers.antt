@@ -1,6 +1,6 @@
 use Rattle.std.proofs.Common.{List, ap, arith, length, subst, sym}
-use Rattle.domain_lent.proofs.WireLemmas.{shorter}
-use Rattle.domain_lent.specs.Data.{RawRecord}
+use Rattle.domain_borrowed.proofs.WireLemmas.{shorter}
+use Rattle.domain_borrowed.specs.Data.{RawRecord}
 use Rattle.domain_octets.specs.Place.{Place}
 use Rattle.denial_c.proofs.GivenLemmas.{IsHalfRead, half_all, half_more, half_next, half_none, no_octets}
 use Rattle.denial_c.proofs.zone.read_records.Goals as goal
@@ -17,12 +17,12 @@ unreachable-requires c =
     (λ none. let n = ap length none in omega arith) c.in_default.ensures.none
 
 pub records-smaller : goal.records-smaller
-records-smaller c = shorter c.in-Some.lent c.records.parser.left c.read_record.new.parser.left c.in-Some.ensures.some.0
+records-smaller c = shorter c.in-Some.borrowed c.records.parser.left c.read_record.new.parser.left c.in-Some.ensures.some.0
 
 pub records-preserved : goal.records-preserved
 records-preserved c =
     subst (λ (xs : List RawRecord). IsHalfRead c.args.class c.args.octets.now c.read_record.new.parser.left xs) (sym c.in_ok-push.ensures.items)
-    (half_more c.args.class c.args.octets.now c.records.parser.left c.read_record.new.parser.left c.records.records.items c.in-Some.lent
+    (half_more c.args.class c.args.octets.now c.records.parser.left c.read_record.new.parser.left c.records.records.items c.in-Some.borrowed
     c.records.invariant c.in-Some.ensures.some.0 c.in-Some.ensures.some.1)
 
 pub returns : goal.returns

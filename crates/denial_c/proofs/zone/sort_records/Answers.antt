@@ -1,5 +1,5 @@
 use Rattle.std.proofs.Common.{List, sym, subst}
-use Rattle.domain_lent.specs.Data.{RawRecord, data_cmp}
+use Rattle.domain_borrowed.specs.Data.{RawRecord, data_cmp}
 use Rattle.domain_records.specs.Order.{IsInOrder, IsOneClass}
 use Rattle.domain_records.proofs.OrderLemmas.{in_order_from_sorted}
 use Rattle.denial_c.specs.Chains.{Sorts}

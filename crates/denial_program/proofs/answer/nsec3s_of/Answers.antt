@@ -5,7 +5,7 @@ use Rattle.domain_nsec3.specs.Faults.{IsFirstFault, IsReady}
 use Rattle.domain_nsec3.specs.View.{config_of}
 use Rattle.domain_nsec3.specs.declared.config.Nsec3ParamTtlMode.TheVariants.{Soa}
 use Rattle.domain_dnssec.specs.declared.chain.ChainError.TheVariants.{OutOfMemory, Signing}
-use Rattle.domain_lent.specs.Data.{minimum_of, RawRecord}
+use Rattle.domain_borrowed.specs.Data.{minimum_of, RawRecord}
 use Rattle.denial_program.specs.Answer.{usual_nsec3_config}
 use Rattle.denial_program.proofs.AnswerLemmas.{usual_is}
 use Rattle.denial_program.proofs.answer.nsec3s_of.Goals as goal

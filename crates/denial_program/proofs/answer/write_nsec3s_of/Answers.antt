@@ -1,10 +1,11 @@
 use Rattle.std.proofs.Common.{◌≡◌, List, sym, subst, inr}
+use Rattle.domain_octets.proofs.StdLemmas.{if_err_of}
 use Rattle.domain_zone.specs.View.{zone_of}
 use Rattle.domain_nsec3.specs.Faults.{IsReady}
-use Rattle.domain_lent.specs.Data.{minimum_of, RawRecord}
+use Rattle.domain_borrowed.specs.Data.{minimum_of, RawRecord}
 use Rattle.domain_records.specs.Order.{IsOneClass}
 use Rattle.denial_program.specs.Answer.{usual_nsec3_config, HasNoNsec3s, IsNsec3s, IsUnwritten, Sorts}
-use Rattle.denial_program.proofs.AnswerLemmas.{if_err_of, nsec3s_unready, nsec3s_unwritten, on_ok, unlaid}
+use Rattle.denial_program.proofs.AnswerLemmas.{nsec3s_unready, nsec3s_unwritten, on_ok, uncompacted}
 use Rattle.denial_program.proofs.answer.write_nsec3s_of.Goals as goal
 
 pub returns-in_err-answer-clause-err : goal.returns-in_err-answer-clause-err
@@ -50,6 +51,6 @@ pub returns-in_err-apex-clause-err : goal.returns-in_err-apex-clause-err
 returns-in_err-apex-clause-err g c =
     nsec3s_unready (g.H.Nsec3Hasher.answer c.args.hasher.now) c.args.records.items c.args.apex.now c.args.parameters
     c.in_err-apex.field-0.0
-    (unlaid c.args.records.items c.in_ok-sorted.sorted.items c.in_ok-sorted.ensures.sorts c.in_ok-sorted.ensures.one_class
+    (uncompacted c.args.records.items c.in_ok-sorted.sorted.items c.in_ok-sorted.ensures.sorts c.in_ok-sorted.ensures.one_class
     c.in_err-apex.field-0.0 c.in_err-apex.ensures.err)
     c.from_residual-in_err-apex.result c.from_residual-in_err-apex.ensures.1

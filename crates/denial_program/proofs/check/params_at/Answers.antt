@@ -3,7 +3,7 @@ use Rattle.std.proofs.lemmas.List.{drop_all, drop_more, map-append}
 use Rattle.std.proofs.lemmas.Bool.{false≢true}
 use Rattle.domain_base.specs.Name.{same_name}
 use Rattle.domain_nsec3.specs.View.{as_param_record}
-use Rattle.domain_lent.specs.Data.{RawRecord}
+use Rattle.domain_borrowed.specs.Data.{RawRecord}
 use Rattle.denial_program.specs.Check.{IsParamOf}
 use Rattle.denial_program.proofs.AmongLemmas.{cloned, goes_end, goes_kept, goes_past, Goes}
 use Rattle.denial_program.proofs.check.params_at.Goals as goal

@@ -1,12 +1,13 @@
 use Rattle.std.proofs.Common.{◌≡◌, ◌&&◌, List, inl, inr, map, refl, sym, ap, subst}
+use Rattle.domain_octets.proofs.StdLemmas.{if_err_of}
 use Rattle.domain_base.specs.Words.{Name}
-use Rattle.domain_lent.specs.Data.{minimum_of}
+use Rattle.domain_borrowed.specs.Data.{minimum_of}
 use Rattle.domain_nsec3.specs.Config.{excludes}
 use Rattle.domain_nsec3.specs.View.{config_of}
 use Rattle.domain_zone.specs.View.{zone_of}
 use Rattle.domain_alike.specs.Alike.{pair_of, IsFirstRefusal}
 use Rattle.domain_alike.specs.AlikeSteps.{IsRefusedAmong, Met}
-use Rattle.domain_alike.proofs.AlikeLemmas.{alike_are, first_refusal, if_err_of, IsRefusedBy}
+use Rattle.domain_alike.proofs.AlikeLemmas.{alike_are, first_refusal, IsRefusedBy}
 use Rattle.domain_alike.proofs.alike.alike_names.Goals as goal
 
 pub returns-clause-ok : goal.returns-clause-ok

@@ -1,4 +1,4 @@
-use Rattle.domain_lent.specs.Data.{minimum_of}
+use Rattle.domain_borrowed.specs.Data.{minimum_of}
 use Rattle.domain_nsec3.specs.View.{config_of}
 use Rattle.domain_zone.specs.View.{zone_of}
 use Rattle.domain_alike.proofs.AlikeLemmas.{first_of_pairs}

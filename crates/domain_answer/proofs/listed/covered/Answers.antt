@@ -1,8 +1,8 @@
 use Rattle.std.proofs.Common.{◌≡◌, false, not, sym, ap, ◌∙◌}
 use Rattle.std.specs.Ordering.{is_eq, is_gt, is_lt}
-use Rattle.std.proofs.lemmas.Bool.{false≢true}
+use Rattle.std.proofs.lemmas.Bool.{false≢true, not-true, not-false}
 use Rattle.domain_base.specs.Order.{before, canonical_cmp}
-use Rattle.domain_answer.proofs.FoundLemmas.{after_both, ahead_of_both, ahead_of_next, at_owner, not_false, not_true, uncovered}
+use Rattle.domain_answer.proofs.FoundLemmas.{after_both, ahead_of_both, ahead_of_next, at_owner, uncovered}
 use Rattle.domain_answer.proofs.listed.covered.Goals as goal
 use Rattle.domain_answer.proofs.listed.covered.Goals.{then-is_eq-via-then-is_eq, then-is_eq-via-else-is_eq+then-is_before, then-not-is_after, else-not-is_after}
 use Rattle.domain_answer.proofs.listed.covered.Goals.{then-is_lt-via-then-is_lt, then-is_lt-via-else-is_lt+then-not-is_before, then-is_after, else-is_after}
@@ -41,7 +41,7 @@ returns-then-is_lt-clause-covers g c =
       | then-is_lt-via-then-is_lt w ↦ ahead_of_next o n x untied guard (sym (c.is_lt.ensures ∙ ap is_lt c.compare-from_next.ensures.order) ∙ w.if-is_lt.true)
       | then-is_lt-via-else-is_lt+then-not-is_before w ↦ elim w.if-is_after.branch [
         | then-is_after u ↦ after_both o n x untied (sym after ∙ u.if-is_after.true)
-            (sym u.is_before-then-is_after.ensures ∙ not_true u.is_before-then-is_after.result (sym u.value-is ∙ w.if-not-is_before.true))
+            (sym u.is_before-then-is_after.ensures ∙ not-true u.is_before-then-is_after.result (sym u.value-is ∙ w.if-not-is_before.true))
         | else-is_after u ↦ absurd (false≢true (sym u.if-is_after.false ∙ sym u.value-is ∙ w.if-not-is_before.true))
       ]
     ]
@@ -55,6 +55,6 @@ returns-clause-covers g c =
     c.is_gt-is_after.ensures ∙ ap is_gt c.compare-from_owner.ensures.order in
     uncovered o n x (sym (c.is_lt.ensures ∙ ap is_lt c.compare-from_next.ensures.order) ∙ c.if-is_lt.false)
     (λ e. elim c.if-is_after.branch [
-      | then-is_after u ↦ sym u.is_before-then-is_after.ensures ∙ not_false u.is_before-then-is_after.result (sym u.value-is ∙ c.if-not-is_before.false)
+      | then-is_after u ↦ sym u.is_before-then-is_after.ensures ∙ not-false u.is_before-then-is_after.result (sym u.value-is ∙ c.if-not-is_before.false)
       | else-is_after u ↦ absurd (false≢true (sym u.if-is_after.false ∙ after ∙ e))
     ])

@@ -1,6 +1,6 @@
 use Rattle.std.proofs.Common.{◌<◌, length, sym, subst}
-use Rattle.domain_nsec.specs.ChainView.{links_of}
 use Rattle.domain_answer.specs.Proved.{CountsWithin, IsAnswered, RestsOn}
+use Rattle.domain_nsec.specs.ChainView.{links_of}
 use Rattle.domain_answer.proofs.nsec.judge_nsec.Goals as goal
 
 pub returns-clause-zone : goal.returns-clause-zone

@@ -1,9 +1,9 @@
 use Rattle.std.proofs.Common.{refl, ap, ◌∙◌, subst}
 use Rattle.std.specs.List.{find}
-use Rattle.domain_nsec.specs.ChainView.{links_of}
 use Rattle.domain_checker.specs.Reading.{is_cover}
 use Rattle.domain_answer.specs.Found.{IsFound, found_cover, found_match}
 use Rattle.domain_answer.specs.Reading.{wildcard_both}
+use Rattle.domain_nsec.specs.ChainView.{links_of}
 use Rattle.domain_answer.proofs.nsec.judge_wildcard.Goals as goal
 
 pub returns-in-Match : goal.returns-in-Match

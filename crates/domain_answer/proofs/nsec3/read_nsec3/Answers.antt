@@ -1,13 +1,13 @@
 use Rattle.std.proofs.Common.{◌≡◌, length, sym, ap, ◌∙◌, inr}
-use Rattle.std.specs.Option.{option_map}
 use Rattle.domain_nsec3.specs.Config.{hash_name}
-use Rattle.domain_checker.specs.HashedEncloser.{encloser_of}
-use Rattle.domain_checker.specs.HashedView.{hash_with, links, parameters}
 use Rattle.domain_answer.specs.declared.answer.Answer.TheVariants.{NoCloserName}
 use Rattle.domain_answer.specs.HashedReading.{found_answer}
-use Rattle.domain_answer.specs.Proved.{last_labels}
+use Rattle.domain_base.specs.Name.{last_labels}
 use Rattle.domain_answer.specs.ZoneAnswer.{wildcard_below}
 use Rattle.domain_answer.proofs.HashedProofLemmas.{asked_below}
+use Rattle.std.specs.Option.{option_map}
+use Rattle.domain_checker.specs.HashedEncloser.{encloser_of}
+use Rattle.domain_checker.specs.HashedView.{hash_with, links, parameters}
 use Rattle.domain_answer.proofs.nsec3.read_nsec3.Goals as goal
 
 pub read_wildcard-requires : goal.read_wildcard-requires

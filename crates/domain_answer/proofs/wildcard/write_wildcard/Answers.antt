@@ -1,5 +1,6 @@
-use Rattle.std.proofs.Common.{◌++◌, ap, ◌∙◌}
+use Rattle.std.proofs.Common.{arith}
+use Rattle.std.proofs.lemmas.List.{places, same_lists}
 use Rattle.domain_answer.proofs.wildcard.write_wildcard.Goals as goal
 
 pub returns : goal.returns
-returns c = c.put_octets-end.ensures.front ∙ ap (λ l. l ++ c.args.above.now) c.put_octets-start.ensures.front
+returns c = same_lists _ _ (grind (arith, places)) (λ k d h. grind (arith, places))

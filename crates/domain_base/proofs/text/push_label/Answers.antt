@@ -1,7 +1,7 @@
 use Rattle.std.proofs.Common.{arith}
 use Rattle.std.proofs.lemmas.Grind.{common_steps}
 use Rattle.std.proofs.lemmas.Bool.Decides.{nat_tests}
-use Rattle.domain_base.proofs.OctetLemmas.{octets_from_type}
+use Rattle.domain_octets.proofs.OctetLemmas.{octets_from_type}
 use Rattle.domain_base.proofs.text.push_label.Goals as goal
 
 pub returns-clause-valid : goal.returns-clause-valid

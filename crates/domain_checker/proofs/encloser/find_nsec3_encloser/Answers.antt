@@ -3,8 +3,8 @@ use Rattle.std.specs.Option.{option_map}
 use Rattle.domain_base.specs.Name.{lowered, wire_of}
 use Rattle.domain_checker.specs.HashedEncloser.{IsFoundEncloser, encloser_of}
 use Rattle.domain_checker.specs.HashedVerdict.{IsFirstRefusal}
-use Rattle.domain_checker.specs.HashedView.{hash_with, links, parameters}
 use Rattle.domain_checker.proofs.HashedEncloserLemmas.{outside_unmatched}
+use Rattle.domain_checker.specs.HashedView.{hash_with, links, parameters}
 use Rattle.domain_checker.proofs.encloser.find_nsec3_encloser.Goals as goal
 
 pub returns-then-not-ends_with-clause-found : goal.returns-then-not-ends_with-clause-found
@@ -17,7 +17,7 @@ returns-then-not-ends_with-clause-found g c =
     outside_unmatched listed a p hash x (sym c.ends_with.ensures.value ∙ c.if-not-ends_with.true)
 
 pub walk-requires-clause-wire : goal.walk-requires-clause-wire
-walk-requires-clause-wire g c = c.lower_wire-lowered.ensures ∙ ap (λ l. wire_of (lowered l)) (sym c.as_parsed.ensures)
+walk-requires-clause-wire g c = c.lower_wire-lowered.ensures.octets ∙ ap (λ l. wire_of (lowered l)) (sym c.as_parsed.ensures)
 
 pub returns-in-Ok-clause-found : goal.returns-in-Ok-clause-found
 returns-in-Ok-clause-found g c =

@@ -6,7 +6,7 @@ use Rattle.domain_octets.specs.Words.{Octets}
 use Rattle.domain_zone.specs.Covering.{covers, matches}
 use Rattle.domain_nsec3.specs.Meaning.{octets_before}
 use Rattle.domain_nsec3.specs.View.{as_hashed_link, parameters_of}
-use Rattle.domain_checker.specs.HashedList.{is_hash_cover, is_hash_match, is_some_with, read_label}
+use Rattle.domain_checker.specs.HashedList.{is_hash_match, is_some_with, read_label, is_hash_cover}
 use Rattle.domain_checker.proofs.FirstLemmas.{found_here, found_later, met_here, met_later, met_before}
 use Rattle.domain_checker.proofs.hashed.find_hash.Goals as goal
 use Rattle.domain_checker.proofs.hashed.find_hash.Goals.{then-is_none+then-is_cover, else-is_none}

@@ -1,10 +1,10 @@
 use Rattle.std.proofs.Common.{◌≡◌, ◌<◌, ◌∙◌, true, sym, ap, subst}
-use Rattle.std.specs.Option.{option_map}
 use Rattle.domain_base.specs.Name.{is_at_or_below}
-use Rattle.domain_checker.specs.HashedEncloser.{encloser_of, found_verdict}
+use Rattle.domain_checker.specs.HashedEncloser.{found_verdict, encloser_of}
 use Rattle.domain_checker.specs.HashedReading.{IsWalked}
-use Rattle.domain_checker.specs.HashedView.{hash_with, links, parameters}
 use Rattle.domain_checker.proofs.HashedEncloserLemmas.{found_walked}
+use Rattle.std.specs.Option.{option_map}
+use Rattle.domain_checker.specs.HashedView.{hash_with, links, parameters}
 use Rattle.domain_checker.proofs.nsec3.check_nsec3.Goals as goal
 
 pub returns-in-Ok-clause-zone : goal.returns-in-Ok-clause-zone

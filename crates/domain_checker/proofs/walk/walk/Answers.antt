@@ -5,7 +5,7 @@ use Rattle.domain_base.specs.Name.{lowered, wire_of}
 use Rattle.domain_zone.proofs.NameLemmas.{below_itself}
 use Rattle.domain_nsec3.specs.View.{as_hashed_link}
 use Rattle.domain_checker.specs.HashedPass.{IsLookedUp, found_cover, found_match}
-use Rattle.domain_checker.specs.HashedView.{hash_with, links, parameters}
+use Rattle.domain_checker.specs.HashedView.{links, hash_with, parameters}
 use Rattle.domain_checker.proofs.HashedWalkLemmas.{IsMissed, missed_here, none_first, none_left, passed_on}
 use Rattle.domain_checker.proofs.HashedWalkLemmas.{encloser_above, encloser_here, refused_here, wire_above, wire_shorter}
 use Rattle.domain_checker.proofs.walk.walk.Goals as goal

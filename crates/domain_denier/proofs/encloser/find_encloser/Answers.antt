@@ -2,10 +2,10 @@ use Rattle.std.proofs.Common.{◌≡◌, ◌+◌, ◌≤◌, ◌<◌, true, fals
 use Rattle.std.proofs.lemmas.Result.{err_from_is_err_and}
 use Rattle.domain_base.specs.Name.{lowered, same_name, wire_of}
 use Rattle.domain_zone.proofs.NameLemmas.{below_itself}
-use Rattle.domain_nsec3.specs.View.{hash_by}
 use Rattle.domain_checker.proofs.HashedWalkLemmas.{wire_above, wire_shorter}
 use Rattle.domain_denier.proofs.PlacedLemmas.{IsAncestor, IsMissedAt, ancestor_above, hash_known, inside_at, missed_above, missed_here}
 use Rattle.domain_denier.proofs.PlacedLemmas.{none_placed, of_found, placed_above, placed_here, refused_at}
+use Rattle.domain_nsec3.specs.View.{hash_by}
 use Rattle.domain_denier.proofs.encloser.find_encloser.Goals as goal
 
 pub returns-in_err-own-clause-err : goal.returns-in_err-own-clause-err

@@ -1,10 +1,10 @@
-use Rattle.std.proofs.Common.{◌<◌, Some, sym, ◌∙◌, subst, rules}
+use Rattle.std.proofs.Common.{◌<◌, sym, ◌∙◌, subst, rules, Some}
 use Rattle.std.proofs.lemmas.Bool.{false≢true}
 use Rattle.domain_checker.proofs.MeantLemmas.{ChainLaws}
 use Rattle.domain_answer.proofs.ToldLemmas.{given_is, given_never}
-use Rattle.domain_denier.specs.Picked.{at_place}
 use Rattle.domain_denier.proofs.JudgedLemmas.{outside_only, said_inside}
 use Rattle.domain_denier.proofs.PickLemmas.{AnswerLaws, denied_by_one, none_first, nothing_outside}
+use Rattle.domain_denier.specs.Picked.{at_place}
 use Rattle.domain_denier.proofs.nsec.pick.Goals as goal
 
 pub returns-then-is_empty : goal.returns-then-is_empty

@@ -1,10 +1,10 @@
-use Rattle.std.proofs.Common.{◌<◌, Some, subst}
+use Rattle.std.proofs.Common.{◌<◌, subst, Some}
 use Rattle.domain_checker.proofs.MeantLemmas.{ChainLaws}
-use Rattle.domain_answer.specs.Proved.{last_labels}
-use Rattle.domain_answer.specs.ZoneAnswer.{wildcard_below}
-use Rattle.domain_denier.specs.Picked.{at_place}
 use Rattle.domain_denier.proofs.JudgedLemmas.{told_of, untold_of}
 use Rattle.domain_denier.proofs.PickLemmas.{AnswerLaws, denied_by_both, denied_by_one}
+use Rattle.domain_base.specs.Name.{last_labels}
+use Rattle.domain_answer.specs.ZoneAnswer.{wildcard_below}
+use Rattle.domain_denier.specs.Picked.{at_place}
 use Rattle.domain_denier.proofs.nsec.with_wildcard.Goals as goal
 
 pub with_second-requires-clause-denies : goal.with_second-requires-clause-denies

@@ -1,9 +1,9 @@
 use Rattle.std.proofs.Common.{◌≡◌, ◌<◌, length, Some, sym, subst, ◌∙◌, inl, inr}
-use Rattle.domain_nsec3.specs.View.{hash_by}
-use Rattle.domain_answer.specs.Proved.{last_labels}
+use Rattle.domain_base.specs.Name.{last_labels}
 use Rattle.domain_denier.specs.HashedPicked.{TellsOfName}
 use Rattle.domain_denier.specs.HashedSteps.{IsFirstDenial, IsOfHash}
 use Rattle.domain_denier.proofs.HashedPickLemmas.{asked_below, first_there, name_there, plain_read, record_there, wildcard_read}
+use Rattle.domain_nsec3.specs.View.{hash_by}
 use Rattle.domain_denier.proofs.nsec3.deny_placed.Goals as goal
 
 pub returns-in_default : goal.returns-in_default

@@ -1,8 +1,7 @@
 use Rattle.std.proofs.Common.{refl, ap, ◌∙◌}
-use Rattle.domain_base.specs.Name.{lowered, wire_of}
+use Rattle.domain_base.specs.Name.{lowered, wire_of, last_labels}
 use Rattle.domain_nsec3.specs.View.{hash_by}
 use Rattle.domain_denier.proofs.PlacedLemmas.{hash_known}
-use Rattle.domain_answer.specs.Proved.{last_labels}
 use Rattle.domain_answer.specs.ZoneAnswer.{wildcard_below}
 use Rattle.domain_denier.proofs.nsec3.with_wildcard.Goals as goal
 
@@ -18,7 +17,7 @@ returns-in-Ok-clause-wildcard g c =
       inside = found.inside;
       value = found.value;
       known = hash_known hash chain c.lower_wire-wire.result.now c.in-Ok.found found (wildcard_below (last_labels c.args.count x))
-          (c.lower_wire-wire.ensures ∙ ap (λ n. wire_of (lowered n)) c.in-Some.ensures.some);
+          (c.lower_wire-wire.ensures.octets ∙ ap (λ n. wire_of (lowered n)) c.in-Some.ensures.some);
       is_match = c.in-Ok.found.matches;
       answer = c.wildcard_told.ensures;
       of = found.of;

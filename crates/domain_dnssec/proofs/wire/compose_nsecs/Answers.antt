@@ -1,7 +1,7 @@
 use Rattle.std.proofs.Common.{◌++◌, ◌∙◌, arith}
 use Rattle.std.proofs.lemmas.Result.{err_from_is_err_and}
-use Rattle.domain_lent.specs.Links.{nsec_record}
-use Rattle.domain_lent.specs.Wire.{record_octets}
+use Rattle.domain_borrowed.specs.Links.{nsec_record}
+use Rattle.domain_borrowed.specs.Wire.{record_octets}
 use Rattle.domain_nsec.specs.Chain.{Link}
 use Rattle.domain_nsec.specs.ChainView.{as_link}
 use Rattle.domain_dnssec.proofs.WireLemmas.{long_nsec, onward}

@@ -11,10 +11,10 @@ use Rattle.domain_nsec3.specs.Faults.{IsFirstFault}
 use Rattle.domain_nsec3.specs.Owners.{original_owners}
 use Rattle.domain_nsec3.specs.StepView.{common_of, links_in}
 use Rattle.domain_zone.specs.View.{zone_of}
-use Rattle.domain_nsec3.specs.View.{config_of}
 use Rattle.domain_nsec3.proofs.EntryLemmas.{entries_names}
 use Rattle.domain_nsec3.proofs.FaultLemmas.{apart_hashes}
 use Rattle.domain_nsec3.proofs.OutcomeLemmas.{original_ascend, original_below, apex_original, signing_fault}
+use Rattle.domain_nsec3.specs.View.{config_of}
 use Rattle.domain_nsec3.proofs.chain.chain_of_zone.Goals as goal
 
 pub chain_of_owners-requires-clause-ascend : goal.chain_of_owners-requires-clause-ascend

@@ -7,7 +7,7 @@ use Rattle.std.proofs.lemmas.List.{length-map}
 use Rattle.domain_base.specs.Words.{Name}
 use Rattle.domain_nsec3.specs.Steps.{Entry, HasAlikeNeighbours, IsFirstRefused, IsHashingFault, IsOrderedChain, chain_links, entries_of}
 use Rattle.domain_nsec3.specs.Faults.{hash_fault}
-use Rattle.domain_nsec3.specs.StepView.{as_hashed_entry, as_hashed_types}
+use Rattle.domain_nsec3.specs.StepView.{as_hashed_types, as_hashed_entry}
 use Rattle.domain_nsec3.specs.View.{hash_by, parameters_of}
 use Rattle.domain_nsec3.proofs.ChainLemmas.{moved_entries, hashed_entries, sound_hashes, some_items, hashes_of, ordered_chain}
 use Rattle.domain_nsec3.proofs.EntryLemmas.{entries_names, types_told}

@@ -1,5 +1,6 @@
 use Rattle.std.proofs.Common.{◌<◌, length, sym, ◌∙◌, arith}
-use Rattle.domain_nsec3.proofs.TextLemmas.{octets_below, owner_length, fault_free, fault_name, more_than_none}
+use Rattle.domain_octets.proofs.OctetLemmas.{octets_from_type}
+use Rattle.domain_nsec3.proofs.TextLemmas.{owner_length, fault_free, fault_name, more_than_none}
 use Rattle.domain_nsec3.proofs.hash.check_hash.Goals as goal
 
 pub returns-then-digits-as_wire-gt-MAX_NAME-clause-err : goal.returns-then-digits-as_wire-gt-MAX_NAME-clause-err
@@ -15,4 +16,4 @@ returns-clause-ok c =
     fault_free c.args.apex.now c.args.hash.now some (omega arith) (omega arith)
 
 pub returns-clause-octets : goal.returns-clause-octets
-returns-clause-octets c = octets_below c.args.hash.now c.type_inv.hash
+returns-clause-octets c = octets_from_type c.args.hash.now c.type_inv.hash

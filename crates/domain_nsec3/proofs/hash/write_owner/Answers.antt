@@ -7,7 +7,7 @@ pub write_hash-label-requires : goal.write_hash-label-requires
 write_hash-label-requires c =
     let room = owner_room c.args.apex.now c.args.hash.now (base32_lower c.args.hash.now) c.as_wire-above.result.now
     c.as_wire-above.ensures.wire c.as_wire-above.ensures.labels c.requires.sound refl in
-    room.1
+    omega (arith, room.1)
 
 pub join_label-requires-clause-label : goal.join_label-requires-clause-label
 join_label-requires-clause-label c =

@@ -1,7 +1,8 @@
 use Rattle.std.proofs.Common.{arith, sym, subst}
 use Rattle.std.specs.Str.{IsAscii}
 use Rattle.std.proofs.lemmas.Str.{IsUtf8-from_ascii}
-use Rattle.domain_nsec3.proofs.TextLemmas.{ascii_text, octets_below, text_length}
+use Rattle.domain_octets.proofs.OctetLemmas.{octets_from_type}
+use Rattle.domain_nsec3.proofs.TextLemmas.{ascii_text, text_length}
 use Rattle.domain_nsec3.proofs.hash_text.display_hash.Goals as goal
 
 pub write_hash-text-requires : goal.write_hash-text-requires
@@ -10,4 +11,4 @@ write_hash-text-requires g c = omega (arith, text_length c.args.hash.now, c.requ
 pub from_utf8_unchecked-requires : goal.from_utf8_unchecked-requires
 from_utf8_unchecked-requires g c =
     IsUtf8-from_ascii c.write_hash-text.result.now
-    (subst IsAscii (sym c.write_hash-text.ensures) (ascii_text c.args.hash.now (octets_below c.args.hash.now c.type_inv.hash)))
+    (subst IsAscii (sym c.write_hash-text.ensures) (ascii_text c.args.hash.now (octets_from_type c.args.hash.now c.type_inv.hash)))

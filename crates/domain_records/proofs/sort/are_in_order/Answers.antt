@@ -23,6 +23,6 @@ returns g c = λ on.
     let R = compared_places (record_cmp g.N.ToName.labels g.D.RecordData.rtype g.D.CanonicalOrd.canonical_cmp) c.args.records.now c.args.first.now in
     let answer = c.is_sorted_by.ensures.cases (λ a b. is_lt (R a b)) (always_returns_same _ _ _ (λ a r h called. search rules)) in record {
       all = c.if-places-records.false;
-      inverse = c.if-not-are_seats.ensures refl;
+      inverse = c.if-not-are_ranks.ensures refl;
       ascend = λ k d lt. is_less (R _ _) (each_next (λ a b. is_lt (R a b)) c.args.places.now c.is_sorted_by.result on answer k d lt);
     }

@@ -9,8 +9,8 @@ use Rattle.domain_records.proofs.SortedLists.{no_sort}
 use Rattle.domain_records.proofs.Placing.{arranged_sort}
 use Rattle.domain_records.proofs.sort.sort.Goals as goal
 
-pub arrange-requires-clause-seats : goal.arrange-requires-clause-seats
-arrange-requires-clause-seats g c =
+pub arrange-requires-clause-ranks : goal.arrange-requires-clause-ranks
+arrange-requires-clause-ranks g c =
     let up = c.if-are_in_order.ensures refl in
     rw (
       c.deref_mut-then-are_in_order.ensures.value,
@@ -31,14 +31,14 @@ returns-then-are_in_order-clause-ok g c =
     let o = record_cmp_total g.N.ToName.labels g.D.RecordData.rtype g.D.CanonicalOrd.canonical_cmp g.met.D.CanonicalOrd.total in
     let xs = c.args.records.now.items in
     let places = c.in_ok-places.places.items in
-    let seats = c.in_ok-seats.seats.items in
+    let ranks = c.in_ok-ranks.ranks.items in
     let ys = c.arrange.new.items in
-    let up : AreInOrder R xs c.in-Some.first.now places seats = rw (c.deref-4.ensures.value, c.deref-5.ensures.value, c.deref-6.ensures.value)
+    let up : AreInOrder R xs c.in-Some.first.now places ranks = rw (c.deref-4.ensures.value, c.deref-5.ensures.value, c.deref-6.ensures.value)
     at (c.if-are_in_order.ensures refl) in
     let put : IsArranged xs places ys = rw (c.deref_mut.ensures.value, c.deref_mut-then-are_in_order.ensures.value) at c.arrange.ensures.arranged in
     let moved : IsPermutation xs ys = rw c.deref_mut.ensures.value at c.arrange.ensures.moved in
     let m : length ys ≡ c.args.records.now.len = put.many ∙ (rw c.deref_mut.ensures.value at c.deref_mut.ensures.len) in
-    rw (take_at ys _ c.args.records.now.len m) (arranged_sort o xs c.in-Some.first.now places seats up ys put g.S.Sorter.is_stable moved)
+    rw (take_at ys _ c.args.records.now.len m) (arranged_sort o xs c.in-Some.first.now places ranks up ys put g.S.Sorter.is_stable moved)
 
 pub returns-in_default-clause-ok : goal.returns-in_default-clause-ok
 returns-in_default-clause-ok g c =

@@ -1,6 +1,6 @@
 use Rattle.std.proofs.Common.{map, subst}
 use Rattle.domain_alike.specs.Alike.{pair_of, AreAlike}
-use Rattle.domain_lent.specs.Data.{minimum_of}
+use Rattle.domain_borrowed.specs.Data.{minimum_of}
 use Rattle.domain_nsec3.specs.Config.{ChainConfig}
 use Rattle.domain_zone.specs.View.{zone_of}
 use Rattle.denial_program.proofs.AnswerLemmas.{usual_is}

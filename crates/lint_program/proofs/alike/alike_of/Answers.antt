@@ -1,13 +1,13 @@
 use Rattle.std.proofs.Common.{ℕ, List, Option, inl, inr, map, subst, sym}
+use Rattle.domain_octets.proofs.StdLemmas.{if_err_of}
 use Rattle.domain_alike.specs.Alike.{pair_of, AreAlike, IsFirstRefusal, Pair}
 use Rattle.domain_base.specs.Words.{Name}
-use Rattle.domain_lent.specs.Data.{minimum_of, RawRecord}
+use Rattle.domain_borrowed.specs.Data.{minimum_of, RawRecord}
 use Rattle.domain_nsec3.specs.View.{HasherAnswer}
 use Rattle.domain_records.specs.Order.{IsOneClass}
 use Rattle.domain_zone.specs.View.{zone_of}
 use Rattle.denial_program.specs.Answer.{usual_nsec3_config, Sorts}
 use Rattle.denial_program.specs.Command.{Params}
-use Rattle.denial_program.proofs.AnswerLemmas.{if_err_of}
 use Rattle.lint_program.specs.Alike.{AreTold, AreToldAlike, IsRefusalBy, IsRefusalIn}
 use Rattle.lint_program.specs.Zones.{IsZone}
 use Rattle.lint_program.proofs.ToldLemmas.{IsRefusedBy}

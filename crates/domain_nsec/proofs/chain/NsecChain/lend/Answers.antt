@@ -1,6 +1,6 @@
 use Rattle.std.proofs.Common.{◌+◌, [], length, get_or, sym, ap, ◌∙◌, arith}
 use Rattle.domain_nsec.specs.ChainView.{as_link}
-use Rattle.domain_nsec.proofs.ChainLemmas.{links_counted, link_lent}
+use Rattle.domain_nsec.proofs.ChainLemmas.{links_counted, link_borrowed}
 use Rattle.domain_nsec.proofs.chain.NsecChain.lend.Goals as goal
 
 pub returns-then-place-len-clause-none : goal.returns-then-place-len-clause-none
@@ -19,7 +19,7 @@ returns-clause-some g c d =
       ttl = c.chain_ttl.ensures i;
       bits = (c.new-nsec.ensures i).types;
     })
-    ∙ link_lent c.self.inside.soa (g.N.ToName.labels c.self.inside.apex.now) c.self.inside.names.items c.self.inside.types
+    ∙ link_borrowed c.self.inside.soa (g.N.ToName.labels c.self.inside.apex.now) c.self.inside.names.items c.self.inside.types
     c.args.place d c.index.result.now c.owner_or_apex-next.result c.in_ok-types.types
     c.self.invariant (omega arith) c.index.ensures (c.in_ok-types.ensures.some [])
     (c.owner_or_apex-next.ensures ∙ ap (λ ns. get_or ns (c.args.place + 1) (g.N.ToName.labels c.self.inside.apex.now)) c.deref.ensures.value)

@@ -1,5 +1,5 @@
 use Rattle.std.proofs.Common.{length, get_or, sym, ap, ◌∙◌, arith}
-use Rattle.domain_nsec.proofs.ChainLemmas.{links_counted, owner_lent}
+use Rattle.domain_nsec.proofs.ChainLemmas.{links_counted, owner_borrowed}
 use Rattle.domain_nsec.proofs.chain.NsecChain.owner.Goals as goal
 
 pub returns-then-place-len-clause-none : goal.returns-then-place-len-clause-none
@@ -10,6 +10,6 @@ returns-then-place-len-clause-none g c =
 
 pub returns-clause-some : goal.returns-clause-some
 returns-clause-some g c d =
-    owner_lent c.self.inside.soa (g.N.ToName.labels c.self.inside.apex.now) c.self.inside.names.items c.self.inside.types
+    owner_borrowed c.self.inside.soa (g.N.ToName.labels c.self.inside.apex.now) c.self.inside.names.items c.self.inside.types
     c.args.place d c.index.result.now c.self.invariant (omega arith) c.index.ensures
     ∙ ap (λ links. (get_or links c.args.place d).owner) c.self.view_is

@@ -4,4 +4,4 @@ use Rattle.domain_octets.proofs.base32.Digits.put_lower.Goals as goal
 
 pub returns-clause-written : goal.returns-clause-written
 returns-clause-written c =
-    let written = c.put_eights.ensures.written in (written.0, written.2, written.3 ∙ lower_digits written.0 written.1)
+    let written = c.put.ensures.written in (written.0, written.2, written.3 ∙ lower_digits written.0 written.1)

@@ -1,0 +1,26 @@
+//! What holds of records and data as octets. A caller calls the law in its body.
+ghost use Rattle.std.specs.Prelude.{◌≡◌, ◌<◌, ◌^◌, ◌++◌, Some};
+ghost use Rattle.domain_octets.specs.Words.{Octets};
+ghost use Rattle.domain_base.specs.Types as rtypes;
+ghost use Rattle.domain_fields.specs.Layout.{canonical_of};
+ghost use Rattle.domain_borrowed.specs.Data.{minimum_of, RawRecord};
+ghost use Rattle.domain_borrowed.specs.Wire.{record_octets, IsOneRecord, IsRecord};
+ghost use Rattle.domain_plain.specs.Plain.{soa, soa_values};
+ghost use Rattle.domain_plain.specs.declared.soa.Soa.{Soa};
+
+use domain_base::ToName;
+
+/// Of the canonical octets of an SOA the MINIMUM is what `soa_minimum` reads: the last four.
+pub fn minimum_is_last<N: ToName>()
+    ensures { (d : Soa N) → d.minimum < 2 ^ 32 → minimum_of (record {
+      rtype = rtypes.soa;
+      octets = canonical_of soa (soa_values N.labels d);
+    }) ≡ Some d.minimum }
+{}
+
+/// Octets begin with one record at most: what was composed of a record is read as this record, and
+/// what follows it is left.
+pub fn octets_begin_with_one_record()
+    ensures { (q r : RawRecord) (x y : Octets) → IsRecord q → IsRecord r
+        → record_octets q ++ x ≡ record_octets r ++ y → IsOneRecord q r x y }
+{}

@@ -1,0 +1,129 @@
+//! Records of a chain that take no memory: they borrow what the chain holds.
+ghost use Rattle.std.specs.Prelude.{◌≡◌, ◌<◌, ◌≤◌, Ok, None, Some, length, slice_index_or};
+ghost use Rattle.domain_base.specs.Classes.{in_class};
+ghost use Rattle.domain_nsec3.specs.Chain.{HashedLink};
+ghost use Rattle.domain_nsec3.specs.Faults.{hash_fault};
+ghost use Rattle.domain_nsec3.specs.Steps.{link_to, no_types};
+ghost use Rattle.domain_nsec3.specs.StepView.{as_hashed_types, common_of, links_in, AreUsable};
+ghost use Rattle.domain_nsec3.specs.Text.{link_text};
+ghost use Rattle.domain_nsec3.specs.View.{link_with};
+
+use crate::HashedOwner;
+use crate::chain::{HashedChain, hash_after};
+use crate::hash::Hashed;
+use domain_base::{ParsedName, ToName, Ttl};
+use domain_bitmap::{OwnerHash, RtypeBitmap, RtypeBitmaps};
+use domain_chain_rdata::{Nsec3, Nsec3param};
+use domain_octets::Octets;
+use domain_record::Record;
+use std::fmt;
+use std::marker::Model;
+
+/// A record of a chain, whose octets lie in the chain. Contracts see its link. It is of class IN.
+#[derive(Drop)]
+pub struct BorrowedNsec3<'a> {
+    owner: HashedOwner<'a>,
+    ttl: Ttl,
+    data: Nsec3<&'a [u8]>,
+}
+
+impl<'a> Model for BorrowedNsec3<'a> {
+    ghost use Rattle.domain_base.specs.Classes.{in_class};
+    ghost use Rattle.domain_nsec3.specs.Chain.{HashedLink};
+    ghost use Rattle.domain_nsec3.specs.View.{link_with};
+
+    ghost Value = { HashedLink };
+
+    ghost view = { λ r. link_with r.owner in_class r.ttl r.«data» };
+}
+
+impl<'a> BorrowedNsec3<'a> {
+    /// The owner: the text of a hash as a label before the apex.
+    pub fn owner(&self) -> &HashedOwner<'a>
+        ensures { result.now ≡ self.now.owner }
+    {
+        &self.owner
+    }
+
+    /// How long the record may be cached.
+    pub fn ttl(&self) -> Ttl
+        ensures { result ≡ self.now.ttl }
+    {
+        self.ttl
+    }
+
+    /// The data.
+    pub fn data(&self) -> &Nsec3<&'a [u8]>
+        ensures { self.now ≡ link_with self.now.owner in_class self.now.ttl result.now }
+    {
+        &self.data
+    }
+}
+
+/// The owner with its last dot, the TTL, the class, the type and the data, with single spaces
+/// between them.
+impl fmt::Display for BorrowedNsec3<'_> {
+    ghost output = { λ k. Some (link_text k) };
+
+    fn fmt<W: fmt::Write>(&self, f: &mut fmt::Formatter<W>) -> fmt::Result {
+        write!(f, "{} {} IN NSEC3 {}", self.owner, self.ttl, self.data)
+    }
+}
+
+/// The types at a place; past the end there are none.
+fn lend_types<'a>(types: &'a RtypeBitmaps, place: usize) -> RtypeBitmap<&'a [u8]>
+    ensures { result ≡ slice_index_or types.now place no_types }
+{
+    if let Some(own) = types.get(place) {
+        return own;
+    }
+    let none: &'a [u8] = &[];
+    let Ok(types) = RtypeBitmap::from_octets(none) else {
+        unreachable!();
+    };
+    types
+}
+
+/// The record of a name of a chain, which points to a hash, by the record of its parameters.
+fn lend_link<'a, O: Octets>(
+    types: &'a RtypeBitmaps,
+    hashed: &'a Hashed,
+    next: &'a [u8],
+    ttl: Ttl,
+    nsec3param: &'a Record<ParsedName<'_>, Nsec3param<O>>,
+) -> BorrowedNsec3<'a>
+    requires sound { hash_fault nsec3param.now.owner (Ok hashed.now.hash) ≡ None }
+    requires short { length next.now ≤ 39 }
+    ensures { result ≡ link_to nsec3param.now.owner (common_of nsec3param.now.«data» ttl)
+        (as_hashed_types types.now hashed.now) next.now }
+{
+    let owner = HashedOwner::new(nsec3param.owner().as_parsed(), hashed.hash.as_slice());
+    let params = nsec3param.data();
+    let salt = params.salt();
+    let data = Nsec3::new(
+        params.hash_algorithm(),
+        params.flags(),
+        params.iterations(),
+        salt.with_octets(salt.as_slice()),
+        OwnerHash::from_octets_unchecked(next),
+        lend_types(types, hashed.place),
+    );
+    BorrowedNsec3 { owner, ttl, data }
+}
+
+/// The record at a place of a chain, by the record of its parameters, whose owner is the apex. It
+/// points to the hash after its own, the last one to the first.
+pub(crate) fn lend_record<'a, O: Octets>(
+    chain: &'a HashedChain,
+    at: usize,
+    ttl: Ttl,
+    nsec3param: &'a Record<ParsedName<'_>, Nsec3param<O>>,
+) -> BorrowedNsec3<'a>
+    requires inside { at < length chain.now.hashed.items }
+    requires sound { AreUsable nsec3param.now.owner chain.now }
+    ensures { (d : HashedLink) → result ≡ slice_index_or
+        (links_in nsec3param.now.owner chain.now (common_of nsec3param.now.«data» ttl)) at d }
+{
+    let next = hash_after(chain.hashed.as_slice(), at);
+    lend_link(&chain.types, &chain.hashed[at], next, ttl, nsec3param)
+}

@@ -1,0 +1,39 @@
+-- tests, options and results, where std has no such law
+use Rattle.std.proofs.Common.{◌≡◌, Bool, true, false, refl, subst, sym, Option, Some, None, Result, Ok, Err, IfErr}
+use Rattle.std.specs.Prelude.{◌||◌, ◌&&◌, IsErrAnd}
+use Rattle.std.specs.Option.{option_or}
+
+pub or_false : (b : Bool) → (b || false) ≡ b
+or_false true = refl
+or_false false = refl
+
+pub or_true : (b : Bool) → (b || true) ≡ true
+or_true true = refl
+or_true false = refl
+
+pub or_turn : (a b : Bool) → (a || b) ≡ (b || a)
+or_turn true true = refl
+or_turn true false = refl
+or_turn false true = refl
+or_turn false false = refl
+
+pub or_next : (a b c : Bool) → ((a || b) || c) ≡ (a || (b || c))
+or_next true b c = refl
+or_next false b c = refl
+
+pub and_true : (b : Bool) → (b && true) ≡ b
+and_true true = refl
+and_true false = refl
+
+pub and_false : (b : Bool) → (b && false) ≡ false
+and_false true = refl
+and_false false = refl
+
+pub or_none : {X : Type 0} (o : Option X) → option_or o None ≡ o
+or_none None = refl
+or_none (Some x) = refl
+
+-- what holds of an error that is handed on
+pub if_err_of : {X E : Type 0} (P : E → Type 0) (e : E) (r : Result X E) → IsErrAnd r (λ f. f ≡ e) → P e → IfErr r P
+if_err_of P e (Ok x) h p = tt
+if_err_of P e (Err f) h p = subst P (sym h) p
