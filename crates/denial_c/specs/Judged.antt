@@ -15,7 +15,7 @@ use Rattle.domain_answer.specs.Reading.{reading}
 use Rattle.domain_answer.specs.ZoneAnswer.{is_at_parent}
 use Rattle.domain_answer.specs.declared.answer.Answer.{Answer}
 use Rattle.domain_answer.specs.declared.answer.Answer.TheVariants.{OutsideZone, AtParent, NotProven, TooManyIterations}
-use Rattle.denial_c.specs.Result.{hash_of, AreAsked, AreNsecsAsked, HasNoNsecs, IsNsecFault, IsNsec3Fault, Source}
+use Rattle.denial_c.specs.Result.{sha1_records, AreAsked, AreNsecsAsked, HasNoNsecs, IsNsecFault, IsNsec3Fault, Source}
 use Rattle.denial_c.specs.declared.fault.Fault.{Fault}
 use Rattle.denial_c.specs.declared.fault.Fault.TheVariants as fault
 
@@ -63,10 +63,10 @@ pub record HasNsec3Answer (source : Source) (apex name : Octets) (t limit : ℕ)
   pub iterations : needs_no_records a x t ≡ false → limit < param.parameters.iterations
       → answer ≡ TooManyIterations
   pub zone : param.parameters.iterations ≤ limit
-      → IsHashedAnswered links a param.parameters (hash_of param) x t answer
+      → IsHashedAnswered (sha1_records a param links) x t answer
   pub exact : needs_no_records a x t ≡ false → param.parameters.iterations ≤ limit
-      → IsHashedRead links a param.parameters (hash_of param) x t answer
-  pub proof : HashedRestsOn links a param.parameters (hash_of param) x answer
+      → IsHashedRead (sha1_records a param links) x t answer
+  pub proof : HashedRestsOn (sha1_records a param links) x answer
   pub within : CountsWithin (length x) answer
 
 -- names are hashed, and the hasher refuses one of these
@@ -79,7 +79,7 @@ pub record IsAnswerRefused (source : Source) (apex name : Octets) (t limit : ℕ
   pub asked : AreAsked source apex name a x links param
   pub needed : needs_no_records a x t ≡ false
   pub allowed : param.parameters.iterations ≤ limit
-  pub first : IsFirstOfRefusals links a param.parameters (hash_of param) x t reason
+  pub first : IsFirstOfRefusals (sha1_records a param links) x t reason
 
 -- of faults the first that stands is told, but for want of memory, which may come before others
 abbrev pub IsNsec3Answer : Source → Octets → Octets → ℕ → ℕ → Result Answer Fault → Type 0
@@ -104,10 +104,10 @@ pub record HasExpansionAnswer (source : Source) (apex name : Octets) (n limit : 
   pub iterations : is_expanded a x n ≡ true → limit < param.parameters.iterations
       → answer ≡ TooManyIterations
   pub zone : is_expanded a x n ≡ true → param.parameters.iterations ≤ limit
-      → IsExpansionAnswered links a param.parameters (hash_of param) x n answer
+      → IsExpansionAnswered (sha1_records a param links) x n answer
   pub exact : is_expanded a x n ≡ true → param.parameters.iterations ≤ limit
-      → IsExpansionRead links a param.parameters (hash_of param) x n answer
-  pub proof : ExpansionRestsOn links a param.parameters (hash_of param) x n answer
+      → IsExpansionRead (sha1_records a param links) x n answer
+  pub proof : ExpansionRestsOn (sha1_records a param links) x n answer
   pub within : CountsWithin (length x) answer
 
 -- the one name that is hashed, the next closer name, is refused by the hasher
@@ -121,7 +121,7 @@ pub record IsExpansionRefused (source : Source) (apex name : Octets) (n limit : 
   pub asked : AreAsked source apex name a x links param
   pub needed : is_expanded a x n ≡ true
   pub allowed : param.parameters.iterations ≤ limit
-  pub refused : hash_name (hash_of param) (closer_name n x) ≡ Err reason
+  pub refused : hash_name (sha1_records a param links).hash (closer_name n x) ≡ Err reason
 
 -- of faults the first that stands is told, but for want of memory, which may come before others
 abbrev pub IsExpansionAnswer : Source → Octets → Octets → ℕ → ℕ → Result Answer Fault → Type 0

@@ -6,11 +6,11 @@ use Rattle.domain_base.specs.Name.{is_at_or_below, wire_of, IsName}
 use Rattle.domain_base.specs.Words.{Name}
 use Rattle.domain_nsec.specs.Chain.{Link}
 use Rattle.domain_nsec3.specs.Chain.{HashedLink, ParamRecord}
-use Rattle.domain_nsec3.specs.Config.{Hash, Parameters}
-use Rattle.domain_nsec3.specs.View.{hash_by}
+use Rattle.domain_nsec3.specs.Config.{Parameters}
 use Rattle.domain_sha1.specs.Iterated.{sha1_answer}
 use Rattle.domain_checker.specs.HashedReading.{IsWalked}
 use Rattle.domain_checker.specs.HashedVerdict.{HasHashedProof, IsFirstRefusal, IsHashedProved}
+use Rattle.domain_checker.specs.HashedView.{HashedRecords, links_with}
 use Rattle.domain_checker.specs.Reading.{reading}
 use Rattle.domain_checker.specs.Verdict.{HasProof, IsProved, IsWithin}
 use Rattle.domain_checker.specs.declared.verdict.Verdict.{Verdict}
@@ -74,9 +74,9 @@ IsNsecResult apex name t class records (Err e) = IsNsecFault apex name class rec
 
 -- ---- NSEC3
 
--- hashes by SHA-1, with the parameters of the record
-abbrev pub hash_of : ParamRecord → Hash
-hash_of p = hash_by sha1_answer p.parameters
+-- links that are read with hashes by SHA-1, with the parameters of the record
+abbrev pub sha1_records : Name → ParamRecord → List HashedLink → HashedRecords
+sha1_records a param links = links_with a param.parameters sha1_answer links
 
 -- where NSEC3 records and their parameters are from: which they are, of an apex, and why there are
 -- none
@@ -100,11 +100,10 @@ pub record HasNsec3Verdict (source : Source) (apex name : Octets) (t : ℕ) (ver
   pub param : ParamRecord
   pub asked : AreAsked source apex name a x links param
   pub outside : is_at_or_below x a ≡ false → verdict ≡ OutsideZone
-  pub zone : IsHashedProved links a param.parameters (hash_of param) x t verdict
-  pub exact : is_at_or_below x a ≡ true
-      → IsWalked links a param.parameters (hash_of param) x t verdict
+  pub zone : IsHashedProved (sha1_records a param links) x t verdict
+  pub exact : is_at_or_below x a ≡ true → IsWalked (sha1_records a param links) x t verdict
   pub proof : is_at_or_below x a ≡ true → verdict ≢ NotProven
-      → HasHashedProof links a param.parameters (hash_of param) x
+      → HasHashedProof (sha1_records a param links) x
   pub within : IsWithin (length x) verdict
 
 -- the hasher refuses a name that is asked for
@@ -115,7 +114,7 @@ pub record IsRefused (source : Source) (apex name : Octets) : Type 0 where
   pub param : ParamRecord
   pub reason : ℕ
   pub asked : AreAsked source apex name a x links param
-  pub first : IsFirstRefusal links a param.parameters (hash_of param) x reason
+  pub first : IsFirstRefusal (sha1_records a param links) x reason
 
 -- no records, or NSEC3 records whose data are none
 abbrev pub HasNoNsec3s : ℕ → Octets → Type 0

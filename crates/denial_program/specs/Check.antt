@@ -9,7 +9,7 @@ use Rattle.domain_records.specs.declared.error.SigningError.{SigningError}
 use Rattle.domain_records.specs.declared.error.SigningError.TheVariants.{Nsec3HashingError}
 use Rattle.domain_nsec.specs.Chain.{Link}
 use Rattle.domain_nsec3.specs.Chain.{HashedLink, ParamRecord}
-use Rattle.domain_nsec3.specs.Config.{Hash}
+use Rattle.domain_checker.specs.HashedView.{links_with}
 use Rattle.domain_nsec3.specs.View.{HasherAnswer, hash_by}
 use Rattle.domain_borrowed.specs.Data.{RawRecord}
 use Rattle.domain_borrowed.specs.Links.{nsec_record, nsec3_record, param_record, IsNsec, IsNsec3, IsParam}
@@ -81,10 +81,6 @@ pub record IsNsecVerdict (given : List RawRecord) (q : Question) (answer : Reply
   pub proof : is_at_or_below q.name q.apex ≡ true → verdict ≢ verdicts.NotProven
       → HasProof links q.apex q.name
 
--- a hasher with the parameters of a record
-abbrev pub hash_with : HasherAnswer → ParamRecord → Hash
-hash_with hashes param = hash_by hashes param.parameters
-
 -- the apex has one NSEC3PARAM record, and the answer is what the NSEC3 records prove of the
 -- question with its parameters: of any zone of whose chain they are, and, from any records, what
 -- they say on the way from the name to the apex
@@ -97,14 +93,12 @@ pub record IsNsec3Verdict (hashes : HasherAnswer) (given : List RawRecord) (q : 
   pub verdict : Verdict
   pub is : answer ≡ answers.Verdict q.name verdict
   pub outside : is_at_or_below q.name q.apex ≡ false → verdict ≡ verdicts.OutsideZone
-  pub zone : IsHashedProved links q.apex param.parameters
-      (hash_with hashes param) q.name q.rtype verdict
+  pub zone : IsHashedProved (links_with q.apex param.parameters hashes links) q.name
+      q.rtype verdict
   pub exact : is_at_or_below q.name q.apex ≡ true
-      → IsWalked links q.apex param.parameters
-      (hash_with hashes param) q.name q.rtype verdict
+      → IsWalked (links_with q.apex param.parameters hashes links) q.name q.rtype verdict
   pub proof : is_at_or_below q.name q.apex ≡ true → verdict ≢ verdicts.NotProven
-      → HasHashedProof links q.apex param.parameters
-      (hash_with hashes param) q.name
+      → HasHashedProof (links_with q.apex param.parameters hashes links) q.name
 
 -- the apex has none or several NSEC3PARAM records
 pub record HasNoParam (apex : Name) (given : List RawRecord) : Type 0 where
@@ -121,8 +115,7 @@ pub record IsRefused (hashes : HasherAnswer) (given : List RawRecord) (q : Quest
   pub are : AreNsec3s given links
   pub reason : ℕ
   pub is : error ≡ Nsec3HashingError (Hasher reason)
-  pub first : IsFirstRefusal links q.apex param.parameters
-      (hash_with hashes param) q.name reason
+  pub first : IsFirstRefusal (links_with q.apex param.parameters hashes links) q.name reason
 
 -- why there is none: the apex has no NSEC3PARAM record, or more than one; or the hasher refuses
 abbrev pub HasNoNsec3Verdict : HasherAnswer → List RawRecord → Question → DenialFault → Type 0

@@ -16,12 +16,14 @@ use Rattle.domain_zone.proofs.NameLemmas.{below_itself, below_longer, below_pare
 use Rattle.domain_zone.proofs.PairLemmas.{In, all_in}
 use Rattle.domain_zone.proofs.OwnerLemmas.{any_in, in_any}
 use Rattle.domain_nsec3.specs.Chain.{HashedLink, IsHashedChain}
-use Rattle.domain_nsec3.specs.Config.{ChainConfig, Hash, Parameters}
+use Rattle.domain_nsec3.specs.Config.{ChainConfig}
 use Rattle.domain_nsec3.specs.Meaning.{IsAlone}
 use Rattle.domain_nsec3.specs.Owners.{original_owners}
 use Rattle.domain_checker.specs.HashedEncloser.{IsDenial, IsOfName}
 use Rattle.domain_checker.specs.HashedList.{is_hash_cover, is_hash_match}
+use Rattle.domain_checker.specs.HashedView.{HashedRecords, chain_records, first_cover, first_match}
 use Rattle.domain_checker.specs.HashedVerdict.{is_covered, is_ok_with}
+use Rattle.domain_checker.proofs.HashedVerdictLemmas.{as_chain}
 use Rattle.domain_checker.proofs.EncloserLemmas.{closest_is}
 use Rattle.domain_checker.proofs.FindLemmas.{any_none, find_none, find_some}
 use Rattle.domain_answer.specs.declared.answer.Answer.{Answer}
@@ -146,7 +148,7 @@ module _ (tells : TellsNames) (L : List ZoneRecord) (a : Name) (config : ChainCo
   abbrev known : Answer
   known = cond (is_opt_out config.flags) (MayBeUnsigned n) (NoCloserName n)
 
-  covered_is : is_covered a config.parameters config.hash listed (closer_name n x) ≡ list_any (is_hash_cover a config.parameters v) listed
+  covered_is : is_covered (chain_records a config listed) (closer_name n x) ≡ list_any (is_hash_cover a config.parameters v) listed
   covered_is = ap (is_ok_with (λ v. list_any (is_hash_cover a config.parameters v) listed)) alone.known
 
   by_cover : (o : Option HashedLink) → find (is_hash_cover a config.parameters v) listed ≡ o
@@ -168,53 +170,51 @@ module _ (tells : TellsNames) (L : List ZoneRecord) (a : Name) (config : ChainCo
   by_match (Some k) f =
       let i = find_some (is_hash_match a config.parameters v) listed k f in
       let of = tells.matches L a config links chain closer v low alone k (among k i.0) i.1 in
-      sym (λ j. cond (of.exists j) NotProven (cond (not (is_covered a config.parameters config.hash listed closer)) NotProven known))
+      sym (λ j. cond (of.exists j) NotProven (cond (not (is_covered (chain_records a config listed) closer)) NotProven known))
 
   told_proved : closer_told n (find (is_hash_match a config.parameters v) listed) (find (is_hash_cover a config.parameters v) listed)
       ≡ proved_expansion L a config listed x n
   told_proved = by_match (find (is_hash_match a config.parameters v) listed) refl
 
-pub expansion_proved : TellsNames → (listed : List HashedLink) (a : Name) (p : Parameters) (hash : Hash) (x : Name) (n : ℕ) (answer : Answer)
-    → is_expanded a x n ≡ true → IsExpansionRead listed a p hash x n answer → IsExpansionAnswered listed a p hash x n answer
-expansion_proved tells listed a p hash x n answer e read = λ L config links value same_hash same_parameters chain alone among.
-    by L config links value chain alone among
-    (subst (λ h. IsExpansionRead listed a config.parameters h x n answer) (sym same_hash)
-    (subst (λ q. IsExpansionRead listed a q hash x n answer) (sym same_parameters) read))
+pub expansion_proved : TellsNames → (R : HashedRecords) (x : Name) (n : ℕ) (answer : Answer)
+    → is_expanded R.apex x n ≡ true → IsExpansionRead R x n answer → IsExpansionAnswered R x n answer
+expansion_proved tells R x n answer e read = λ L config links value hash parameters chain alone among.
+    by L config links value chain alone among (subst (λ S. IsExpansionRead S x n answer) (as_chain R config hash parameters) read)
   where
-    by : (L : List ZoneRecord) (config : ChainConfig) (links : List HashedLink) (value : Octets) → IsHashedChain L a config links
-        → IsAlone L a config (closer_name n x) value → All (Contains links) listed
-        → IsExpansionRead listed a config.parameters config.hash x n answer → answer ≡ proved_expansion L a config listed x n
+    by : (L : List ZoneRecord) (config : ChainConfig) (links : List HashedLink) (value : Octets) → IsHashedChain L R.apex config links
+        → IsAlone L R.apex config (closer_name n x) value → All (Contains links) R.links
+        → IsExpansionRead (chain_records R.apex config R.links) x n answer → answer ≡ proved_expansion L R.apex config R.links x n
     by L config links value chain alone among read =
         let one : value ≡ read.value = let q : Ok value ≡ Ok read.value = sym alone.known ∙ read.known in cc in
         read.says
-        ∙ told_proved tells L a config links chain listed (λ k i. all_in (Contains links) listed k (recursion_from_All (Contains links) listed among) i)
-        x n (closer_low a x n e) read.value (subst (IsAlone L a config (closer_name n x)) one alone)
+        ∙ told_proved tells L R.apex config links chain R.links
+        (λ k i. all_in (Contains links) R.links k (recursion_from_All (Contains links) R.links among) i)
+        x n (closer_low R.apex x n e) read.value (subst (IsAlone L R.apex config (closer_name n x)) one alone)
 
 -- ---- of any records
 
-module _ (listed : List HashedLink) (a : Name) (p : Parameters) (hash : Hash) (x : Name) (n : ℕ) (answer : Answer)
-    (read : IsExpansionRead listed a p hash x n answer) where
+module _ (R : HashedRecords) (x : Name) (n : ℕ) (answer : Answer) (read : IsExpansionRead R x n answer) where
   -- where P holds of what may be answered it holds of the answer
   allowed : (P : Answer → Type 0) → P NotProven
-      → (is_covered a p hash listed (closer_name n x) ≡ true → P (MayBeUnsigned n) × P (NoCloserName n)) → P answer
-  allowed P none covered = subst P (sym read.says) (by_match (find (is_hash_match a p read.value) listed))
+      → (is_covered R (closer_name n x) ≡ true → P (MayBeUnsigned n) × P (NoCloserName n)) → P answer
+  allowed P none covered = subst P (sym read.says) (by_match (first_match R read.value))
     where
-      by_cover : (o : Option HashedLink) → find (is_hash_cover a p read.value) listed ≡ o → P (next_answer n o)
+      by_cover : (o : Option HashedLink) → first_cover R read.value ≡ o → P (next_answer n o)
       by_cover None f = none
       by_cover (Some k) f =
-          let i = find_some (is_hash_cover a p read.value) listed k f in
-          let c = covered (ap (is_ok_with (λ v. list_any (is_hash_cover a p v) listed)) read.known
-          ∙ in_any (is_hash_cover a p read.value) listed k i.0 i.1) in
+          let i = find_some (is_hash_cover R.apex R.parameters read.value) R.links k f in
+          let c = covered (ap (is_ok_with (λ v. list_any (is_hash_cover R.apex R.parameters v) R.links)) read.known
+          ∙ in_any (is_hash_cover R.apex R.parameters read.value) R.links k i.0 i.1) in
           chosen P (is_opt_out k.flags) (MayBeUnsigned n) (NoCloserName n) c.0 c.1
 
-      by_match : (o : Option HashedLink) → P (closer_told n o (find (is_hash_cover a p read.value) listed))
-      by_match None = by_cover (find (is_hash_cover a p read.value) listed) refl
+      by_match : (o : Option HashedLink) → P (closer_told n o (first_cover R read.value))
+      by_match None = by_cover (first_cover R read.value) refl
       by_match (Some k) = none
 
-  pub expansion_rests : ExpansionRestsOn listed a p hash x n answer
-  expansion_rests = allowed (ExpansionRestsOn listed a p hash x n) tt (λ c. ((refl, c), (refl, c)))
+  pub expansion_rests : ExpansionRestsOn R x n answer
+  expansion_rests = allowed (ExpansionRestsOn R x n) tt (λ c. ((refl, c), (refl, c)))
 
-  pub expansion_counts : is_expanded a x n ≡ true → CountsWithin (length x) answer
+  pub expansion_counts : is_expanded R.apex x n ≡ true → CountsWithin (length x) answer
   expansion_counts e =
-      let fewer = (longer a x n e).fewer in
+      let fewer = (longer R.apex x n e).fewer in
       allowed (CountsWithin (length x)) tt (λ c. (fewer, fewer))

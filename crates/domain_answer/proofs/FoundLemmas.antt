@@ -112,6 +112,16 @@ passed_all a x see listed at cover found end matching covering is = record {
       sym (covering ∙ at_drop_all (λ ys. option_or cover (find (is_cover a x) (map see ys))) listed at end ∙ or_none cover ∙ is);
 }
 
+-- what a match, or what a cover without one, makes of the whole list
+module _ {T : Type 0} (a : Name) (listed : List Link) (x : Name) (read : Option Link → Option Link → T) where
+  pub match_reads : (k : Link) (covered : Option Link) → IsFound a listed x (Some k) covered
+      → read (Some k) (find (is_cover a x) listed) ≡ read (find (is_match a x) listed) (find (is_cover a x) listed)
+  match_reads k covered found = ap (λ o. read o (find (is_cover a x) listed)) found.matching
+
+  pub cover_reads : (covered : Option Link) → IsFound a listed x None covered
+      → read None covered ≡ read (find (is_match a x) listed) (find (is_cover a x) listed)
+  cover_reads covered found = λ i. read (found.matching i) (found.covering refl i)
+
 -- a cover that was found covers the name
 pub found_covers : (a : Name) (listed : List Link) (x : Name) (k : Link) → IsFound a listed x None (Some k)
     → covers before k.owner k.next x ≡ true

@@ -9,11 +9,12 @@ use Rattle.domain_bitmap.specs.Blocks.{contains_type}
 use Rattle.domain_chain_rdata.specs.OptOut.{is_opt_out}
 use Rattle.domain_zone.specs.Zone.{ZoneRecord, is_zone_cut}
 use Rattle.domain_nsec3.specs.Chain.{HashedLink}
-use Rattle.domain_nsec3.specs.Config.{ChainConfig, Hash, Parameters}
+use Rattle.domain_nsec3.specs.Config.{ChainConfig}
 use Rattle.domain_nsec3.specs.Owners.{nsec3_lists}
 use Rattle.domain_checker.specs.Alike.{ArePaired, IsHashedAlike}
 use Rattle.domain_checker.specs.HashedEncloser.{Encloser, IsFoundEncloser, encloser_is_cut, next_cover}
 use Rattle.domain_checker.specs.HashedList.{is_hash_cover, is_hash_match}
+use Rattle.domain_checker.specs.HashedView.{HashedRecords, chain_records, first_cover, first_match, with_links}
 use Rattle.domain_checker.specs.HashedVerdict.{IsFirst, next_closer}
 use Rattle.domain_checker.proofs.HashedAlikeLemmas.{covered_alike, hash_cover_alike, hash_match_alike, matched_alike}
 use Rattle.domain_checker.proofs.PairedLemmas.{OptionsPaired, find_alike}
@@ -72,64 +73,68 @@ module _ (a : Name) (n t count : ℕ) (k l : HashedLink) (alike : IsHashedAlike 
 
 -- ---- lists
 
-module _ (a : Name) (p : Parameters) (hash : Hash) (ks ls : List HashedLink) (alike : ArePaired IsHashedAlike ks ls) where
-  matching : (v : Octets) → BothAlike (find (is_hash_match a p v) ks) (find (is_hash_match a p v) ls)
-  matching v = find_alike IsHashedAlike (is_hash_match a p v) (λ k l h. hash_match_alike a p k l h v) ks ls alike
+-- other records, each like the one at its place
+module _ (R : HashedRecords) (ls : List HashedLink) (alike : ArePaired IsHashedAlike R.links ls) where
+  abbrev S : HashedRecords
+  S = with_links R ls
 
-  covering : (v : Octets) → BothAlike (find (is_hash_cover a p v) ks) (find (is_hash_cover a p v) ls)
-  covering v = find_alike IsHashedAlike (is_hash_cover a p v) (λ k l h. hash_cover_alike a p k l h v) ks ls alike
+  matching : (v : Octets) → BothAlike (first_match R v) (first_match S v)
+  matching v = find_alike IsHashedAlike (is_hash_match R.apex R.parameters v) (λ k l h. hash_match_alike R.apex R.parameters k l h v) R.links ls alike
 
-  next_cover_alike : (next : Option Octets) → BothAlike (next_cover a p ks next) (next_cover a p ls next)
+  covering : (v : Octets) → BothAlike (first_cover R v) (first_cover S v)
+  covering v = find_alike IsHashedAlike (is_hash_cover R.apex R.parameters v) (λ k l h. hash_cover_alike R.apex R.parameters k l h v) R.links ls alike
+
+  next_cover_alike : (next : Option Octets) → BothAlike (next_cover R next) (next_cover S next)
   next_cover_alike None = tt
   next_cover_alike (Some v) = covering v
 
   -- the first match in the one list, and in the other
-  found_alike : (v : Octets) (k : HashedLink) → find (is_hash_match a p v) ks ≡ Some k
-      → (l : HashedLink) × IsHashedAlike k l × (find (is_hash_match a p v) ls ≡ Some l)
+  found_alike : (v : Octets) (k : HashedLink) → first_match R v ≡ Some k
+      → (l : HashedLink) × IsHashedAlike k l × (first_match S v ≡ Some l)
   found_alike v k e =
-      by (find (is_hash_match a p v) ls) refl (subst (λ o. BothAlike o (find (is_hash_match a p v) ls)) e (matching v))
+      by (first_match S v) refl (subst (λ o. BothAlike o (first_match S v)) e (matching v))
     where
-      by : (o : Option HashedLink) → find (is_hash_match a p v) ls ≡ o → BothAlike (Some k) (find (is_hash_match a p v) ls)
-          → (l : HashedLink) × IsHashedAlike k l × (find (is_hash_match a p v) ls ≡ Some l)
+      by : (o : Option HashedLink) → first_match S v ≡ o → BothAlike (Some k) (first_match S v)
+          → (l : HashedLink) × IsHashedAlike k l × (first_match S v ≡ Some l)
       by None f h = absurd (subst (BothAlike (Some k)) f h)
       by (Some l) f h = (l, subst (BothAlike (Some k)) f h, f)
 
-  pub expansion_alike : (x : Name) (n : ℕ) (answer : Answer) → IsExpansionRead ks a p hash x n answer → IsExpansionRead ls a p hash x n answer
+  pub expansion_alike : (x : Name) (n : ℕ) (answer : Answer) → IsExpansionRead R x n answer → IsExpansionRead S x n answer
   expansion_alike x n answer r =
       record {
         value = r.value;
         known = r.known;
-        says = r.says ∙ closer_alike n (find (is_hash_match a p r.value) ks) (find (is_hash_match a p r.value) ls)
-            (find (is_hash_cover a p r.value) ks) (find (is_hash_cover a p r.value) ls) (matching r.value) (covering r.value);
+        says = r.says ∙ closer_alike n (first_match R r.value) (first_match S r.value)
+            (first_cover R r.value) (first_cover S r.value) (matching r.value) (covering r.value);
       }
 
   module _ (x : Name) (t : ℕ) where
-    first_alike : (d : Name) → IsFirst a p hash ks x d → IsFirst a p hash ls x d
-    first_alike d first = λ y up below. let f = first y up below in (f.0, f.1, sym (matched_alike a p hash ks ls alike y) ∙ f.2)
+    first_alike : (d : Name) → IsFirst R x d → IsFirst S x d
+    first_alike d first = λ y up below. let f = first y up below in (f.0, f.1, sym (matched_alike R ls alike y) ∙ f.2)
 
-    read_on : (first answer : Answer) → IsReadOn ks a p hash x t first answer → IsReadOn ls a p hash x t first answer
+    read_on : (first answer : Answer) → IsReadOn R x t first answer → IsReadOn S x t first answer
     read_on (NoCloserName n) answer r =
         record {
           value = r.value;
           known = r.known;
-          says = r.says ∙ wildcard_alike n t (find (is_hash_match a p r.value) ks) (find (is_hash_match a p r.value) ls)
-              (find (is_hash_cover a p r.value) ks) (find (is_hash_cover a p r.value) ls) (matching r.value) (covering r.value);
+          says = r.says ∙ wildcard_alike n t (first_match R r.value) (first_match S r.value)
+              (first_cover R r.value) (first_cover S r.value) (matching r.value) (covering r.value);
         }
     read_on first answer r = r
 
-    read_found : (answer : Answer) (found : Option Encloser) → IsFoundEncloser ks a p hash x found
-        → IsReadOn ks a p hash x t (found_answer a found (length x) t) answer → IsHashedRead ls a p hash x t answer
+    read_found : (answer : Answer) (found : Option Encloser) → IsFoundEncloser R x found
+        → IsReadOn R x t (found_answer R.apex found (length x) t) answer → IsHashedRead S x t answer
     read_found answer None is ends =
         record {
           found = None;
-          is = λ y up low. let f = is y up low in (f.0, f.1, sym (matched_alike a p hash ks ls alike y) ∙ f.2);
+          is = λ y up low. let f = is y up low in (f.0, f.1, sym (matched_alike R ls alike y) ∙ f.2);
           ends = ends;
         }
     read_found answer (Some e) is ends =
         let other = found_alike is.value e.link is.found in
-        let cover = next_cover a p ls is.next in
-        let same = encloser_answer_alike a (length x) t e.count e.link other.0 other.1 e.cover cover
-        (subst (λ o. BothAlike o (next_cover a p ls is.next)) (sym is.covers) (next_cover_alike is.next)) in
+        let cover = next_cover S is.next in
+        let same = encloser_answer_alike R.apex (length x) t e.count e.link other.0 other.1 e.cover cover
+        (subst (λ o. BothAlike o (next_cover S is.next)) (sym is.covers) (next_cover_alike is.next)) in
         record {
           found = Some (encloser_with e.count other.0 cover);
           is = record {
@@ -138,7 +143,7 @@ module _ (a : Name) (p : Parameters) (hash : Hash) (ks ls : List HashedLink) (al
             first = record {
               above = is.first.above;
               within = is.first.within;
-              found = sym (matched_alike a p hash ks ls alike is.name) ∙ is.first.found;
+              found = sym (matched_alike R ls alike is.name) ∙ is.first.found;
               first = first_alike is.name is.first.first;
             };
             value = is.value;
@@ -148,10 +153,10 @@ module _ (a : Name) (p : Parameters) (hash : Hash) (ks ls : List HashedLink) (al
             closes = is.closes;
             covers = refl;
           };
-          ends = subst (λ f. IsReadOn ls a p hash x t f answer) same (read_on (encloser_answer a e (length x) t) answer ends);
+          ends = subst (λ f. IsReadOn S x t f answer) same (read_on (encloser_answer R.apex e (length x) t) answer ends);
         }
 
-    pub read_alike : (answer : Answer) → IsHashedRead ks a p hash x t answer → IsHashedRead ls a p hash x t answer
+    pub read_alike : (answer : Answer) → IsHashedRead R x t answer → IsHashedRead S x t answer
     read_alike answer read = read_found answer read.found read.is read.ends
 
 module _ (L : List ZoneRecord) (a : Name) (config : ChainConfig) (x : Name) (t : ℕ) (ks ls : List HashedLink)
@@ -164,14 +169,14 @@ module _ (L : List ZoneRecord) (a : Name) (config : ChainConfig) (x : Name) (t :
 
   encloser_told : tells_encloser L a config ks x ≡ tells_encloser L a config ls x
   encloser_told =
-      λ i. matched_alike a config.parameters config.hash ks ls alike en i
+      λ i. matched_alike (chain_records a config ks) ls alike en i
       && (((same_name en x || is_zone_cut L a en) || nsec3_lists L a config en dname)
-      || covered_alike a config.parameters config.hash ks ls alike (next_closer x en) i)
+      || covered_alike (chain_records a config ks) ls alike (next_closer x en) i)
 
   wildcard_said : tells_wildcard L a config ks x ≡ tells_wildcard L a config ls x
   wildcard_said =
-      λ i. matched_alike a config.parameters config.hash ks ls alike (wildcard_below en) i
-      || covered_alike a config.parameters config.hash ks ls alike (wildcard_below en) i
+      λ i. matched_alike (chain_records a config ks) ls alike (wildcard_below en) i
+      || covered_alike (chain_records a config ks) ls alike (wildcard_below en) i
 
   pub proved_alike : hashed_proved_answer L a config ks x t ≡ hashed_proved_answer L a config ls x t
   proved_alike =
@@ -181,5 +186,5 @@ module _ (L : List ZoneRecord) (a : Name) (config : ChainConfig) (x : Name) (t :
   pub proved_expansion_alike : (n : ℕ) → proved_expansion L a config ks x n ≡ proved_expansion L a config ls x n
   proved_expansion_alike n =
       λ i. cond (hashed_exists L a config (closer_name n x)) NotProven
-      (cond (not (covered_alike a config.parameters config.hash ks ls alike (closer_name n x) i)) NotProven
+      (cond (not (covered_alike (chain_records a config ks) ls alike (closer_name n x) i)) NotProven
       (cond (is_opt_out config.flags) (MayBeUnsigned n) (NoCloserName n)))

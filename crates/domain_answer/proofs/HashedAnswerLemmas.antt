@@ -18,18 +18,20 @@ use Rattle.domain_zone.proofs.PairLemmas.{In, all_in}
 use Rattle.domain_zone.proofs.OwnerLemmas.{any_in, in_any, below_occluder}
 use Rattle.domain_zone.proofs.ZoneLemmas.{same_back}
 use Rattle.domain_nsec3.specs.Chain.{HashedLink}
-use Rattle.domain_nsec3.specs.Config.{ChainConfig, Hash, Parameters, hash_name}
+use Rattle.domain_nsec3.specs.Config.{ChainConfig, hash_name}
 use Rattle.domain_nsec3.specs.Meaning.{IsAlone}
 use Rattle.domain_nsec3.specs.Owners.{is_excluded, is_original_owner, nsec3_lists, original_owners}
 use Rattle.domain_checker.specs.HashedEncloser.{Encloser, IsDenial, IsEncloser, IsFoundEncloser, IsOfName, encloser_is_cut, next_cover}
 use Rattle.domain_checker.specs.HashedList.{is_hash_cover, is_hash_match}
 use Rattle.domain_checker.specs.HashedReading.{IsNextHash}
+use Rattle.domain_checker.specs.HashedView.{HashedRecords, chain_records}
 use Rattle.domain_checker.specs.HashedVerdict.{is_below_chain_cut, is_covered, is_matched, is_ok_with, next_closer}
 use Rattle.domain_checker.proofs.CutLemmas.{below_cut, cut_above, cut_apart, not_below}
 use Rattle.domain_checker.proofs.EncloserLemmas.{apex_from, closest_is, cut_same, exists_same}
 use Rattle.domain_checker.proofs.EncloserLemmas.{owner_unoccluded, same_length, same_count}
 use Rattle.domain_checker.proofs.EncloserLemmas.{strictly_longer, strictly_from}
 use Rattle.domain_checker.proofs.FindLemmas.{any_none, in_filter, find_some, find_none}
+use Rattle.domain_checker.proofs.HashedVerdictLemmas.{as_chain}
 use Rattle.domain_checker.proofs.HashedEncloserLemmas.{cut_counted, itself_counted}
 use Rattle.domain_checker.proofs.HashedWalkLemmas.{closer_is}
 use Rattle.domain_checker.proofs.HashedListLemmas.{hash_same}
@@ -52,10 +54,10 @@ use Rattle.domain_answer.proofs.CountLemmas.{closest_last}
 
 -- ---- where the wildcard is not asked for
 
-pub read_plain : (listed : List HashedLink) (a : Name) (p : Parameters) (hash : Hash) (x : Name) (t : ℕ) (first answer : Answer)
-    → ((n : ℕ) → first ≡ NoCloserName n → ⊥) → IsReadOn listed a p hash x t first answer → answer ≡ first
-read_plain listed a p hash x t (NoCloserName n) answer f r = absurd (f n refl)
-read_plain listed a p hash x t first answer f r = r
+pub read_plain : (R : HashedRecords) (x : Name) (t : ℕ) (first answer : Answer)
+    → ((n : ℕ) → first ≡ NoCloserName n → ⊥) → IsReadOn R x t first answer → answer ≡ first
+read_plain R x t (NoCloserName n) answer f r = absurd (f n refl)
+read_plain R x t first answer f r = r
 
 own_apart : (z b c d e : Bool) (m n : ℕ) → cond z NotProven (cond b (Referral m) (cond c Has (cond d NoDs (cond e Alias NoData)))) ≡ NoCloserName n → ⊥
 own_apart true b c d e m n h = absurd (cc)
@@ -148,10 +150,10 @@ module _ (L : List ZoneRecord) (a : Name) (config : ChainConfig) (links : List H
     en = hashed_encloser L a config x
 
     abbrev matched : Name → Bool
-    matched = is_matched a config.parameters config.hash listed
+    matched = is_matched (chain_records a config listed)
 
     abbrev covered : Name → Bool
-    covered = is_covered a config.parameters config.hash listed
+    covered = is_covered (chain_records a config listed)
 
     closest : IsClosestEncloser (original_owners L a config) a x (hashed_encloser L a config x)
     closest = encloser_is x low
@@ -173,7 +175,7 @@ module _ (L : List ZoneRecord) (a : Name) (config : ChainConfig) (links : List H
       untold : tells_encloser L a config listed x ≡ false → NotProven ≡ hashed_proved_answer L a config listed x t
       untold f = sym (λ j. cond (not (low j) || apart j) zone (cond (not (f j)) NotProven known))
 
-      unmatched : is_matched a config.parameters config.hash listed (hashed_encloser L a config x) ≡ false
+      unmatched : is_matched (chain_records a config listed) (hashed_encloser L a config x) ≡ false
           → NotProven ≡ hashed_proved_answer L a config listed x t
       unmatched f = untold (λ j. f j && (((same_name en x || is_zone_cut L a en) || nsec3_lists L a config en dname) || covered (next_closer x en)))
 
@@ -211,7 +213,7 @@ module _ (L : List ZoneRecord) (a : Name) (config : ChainConfig) (links : List H
 
       -- ---- where a record matches x or an ancestor, and k is the first that matches that one
 
-      module _ (e : Encloser) (is : IsEncloser listed a config.parameters config.hash x e) where
+      module _ (e : Encloser) (is : IsEncloser (chain_records a config listed) x e) where
         abbrev d : Name
         d = is.name
 
@@ -233,7 +235,7 @@ module _ (L : List ZoneRecord) (a : Name) (config : ChainConfig) (links : List H
         down = below_longer x en d closest.above is.first.above shorter
 
         cut : encloser_is_cut a e ≡ is_zone_cut L a is.name
-        cut = cut_counted listed a config.parameters config.hash x e is ∙ of_d.cut
+        cut = cut_counted (chain_records a config listed) x e is ∙ of_d.cut
 
         -- a name that is not the closest encloser is above it, and a record of that one is not in the list
         level : ((is_strictly_below (hashed_encloser L a config x) is.name ≡ true) → ⊥) → same_name (hashed_encloser L a config x) is.name ≡ true
@@ -244,7 +246,7 @@ module _ (L : List ZoneRecord) (a : Name) (config : ChainConfig) (links : List H
             ]
 
         module _ (same : same_name (hashed_encloser L a config x) is.name ≡ true) where
-          en_matched : is_matched a config.parameters config.hash listed (hashed_encloser L a config x) ≡ true
+          en_matched : is_matched (chain_records a config listed) (hashed_encloser L a config x) ≡ true
           en_matched = ap (is_ok_with (λ v. list_any (is_hash_match a config.parameters v) listed)) (hash_same config.hash en d same) ∙ is.first.found
 
           labels : e.count ≡ length (hashed_encloser L a config x)
@@ -259,19 +261,19 @@ module _ (L : List ZoneRecord) (a : Name) (config : ChainConfig) (links : List H
           en_types : (u : ℕ) → nsec3_lists L a config (hashed_encloser L a config x) u ≡ nsec3_lists L a config is.name u
           en_types = means.alike en d same
 
-          en_next : is_covered a config.parameters config.hash listed (next_closer x (hashed_encloser L a config x))
-              ≡ is_covered a config.parameters config.hash listed (next_closer x is.name)
+          en_next : is_covered (chain_records a config listed) (next_closer x (hashed_encloser L a config x))
+              ≡ is_covered (chain_records a config listed) (next_closer x is.name)
           en_next = λ j. covered (drop (length x - (same_count en d same j + 1)) x)
 
           tells : tells_encloser L a config listed x
               ≡ (((same_name is.name x || is_zone_cut L a is.name) || nsec3_lists L a config is.name dname)
-              || is_covered a config.parameters config.hash listed (next_closer x is.name))
+              || is_covered (chain_records a config listed) (next_closer x is.name))
           tells = λ j. en_matched j && (((en_x j || en_cut j) || en_types dname j) || en_next j)
 
         -- ---- x itself
 
         at_name : (answer : Answer) → same_name is.name x ≡ true
-            → IsReadOn listed a config.parameters config.hash x t (encloser_answer a e (length x) t) answer
+            → IsReadOn (chain_records a config listed) x t (encloser_answer a e (length x) t) answer
             → answer ≡ hashed_proved_answer L a config listed x t
         at_name answer s ends =
             let there : exists_over owners a x ≡ true = sym (exists_same owners a d x s) ∙ of_d.exists in
@@ -281,9 +283,9 @@ module _ (L : List ZoneRecord) (a : Name) (config : ChainConfig) (links : List H
             let same = level flat in
             as_zone answer (tells same ∙ (λ j. ((s j || is_zone_cut L a d) || nsec3_lists L a config d dname) || covered (next_closer x d)))
             (not_needed_there there)
-            (read_plain listed a config.parameters config.hash x t (own_answer a e t) answer
+            (read_plain (chain_records a config listed) x t (own_answer a e t) answer
             (own_never a e t)
-            (subst (λ f. IsReadOn listed a config.parameters config.hash x t f answer) own ends)
+            (subst (λ f. IsReadOn (chain_records a config listed) x t f answer) own ends)
             ∙ (λ j. cond (at_cut j && types soa (omega arith) j) NotProven (cond (at_cut j && not (nat_eq t ds)) (Referral (counts j))
             (cond (types t bound j) Has (cond (at_cut j) NoDs (cond (types cname (omega arith) j) Alias NoData)))))
             ∙ (λ j. cond (soa_unlisted L a config x j) NotProven (hashed_existing_answer L a config x t))
@@ -291,7 +293,7 @@ module _ (L : List ZoneRecord) (a : Name) (config : ChainConfig) (links : List H
             (hashed_missing_answer L a config en t))))
           where
             own : encloser_answer a e (length x) t ≡ own_answer a e t
-            own = λ j. cond ((itself_counted listed a config.parameters config.hash x e is ∙ s) j) (own_answer a e t) (lower_answer a e)
+            own = λ j. cond ((itself_counted (chain_records a config listed) x e is ∙ s) j) (own_answer a e t) (lower_answer a e)
 
             flat : is_strictly_below (hashed_encloser L a config x) is.name ≡ true → ⊥
             flat h =
@@ -303,7 +305,7 @@ module _ (L : List ZoneRecord) (a : Name) (config : ChainConfig) (links : List H
         -- ---- a name below it
 
         module _ (s : same_name is.name x ≡ false) (answer : Answer)
-            (ends : IsReadOn listed a config.parameters config.hash x t (encloser_answer a e (length x) t) answer) where
+            (ends : IsReadOn (chain_records a config listed) x t (encloser_answer a e (length x) t) answer) where
           long : length is.name < length x
           long = elim (cases_lt (length d) (length x)) [
             | inl h ↦ h
@@ -311,10 +313,10 @@ module _ (L : List ZoneRecord) (a : Name) (config : ChainConfig) (links : List H
           ]
 
           lower : encloser_answer a e (length x) t ≡ lower_answer a e
-          lower = λ j. cond ((itself_counted listed a config.parameters config.hash x e is ∙ s) j) (own_answer a e t) (lower_answer a e)
+          lower = λ j. cond ((itself_counted (chain_records a config listed) x e is ∙ s) j) (own_answer a e t) (lower_answer a e)
 
-          read : (first : Answer) → lower_answer a e ≡ first → IsReadOn listed a config.parameters config.hash x t first answer
-          read first f = subst (λ f. IsReadOn listed a config.parameters config.hash x t f answer) (lower ∙ f) ends
+          read : (first : Answer) → lower_answer a e ≡ first → IsReadOn (chain_records a config listed) x t first answer
+          read first f = subst (λ f. IsReadOn (chain_records a config listed) x t f answer) (lower ∙ f) ends
 
           -- below a zone cut
           at_cut : is_zone_cut L a is.name ≡ true → answer ≡ hashed_proved_answer L a config listed x t
@@ -381,7 +383,7 @@ module _ (L : List ZoneRecord) (a : Name) (config : ChainConfig) (links : List H
               passed : (o : Option HashedLink) → e.cover ≡ o → lower_answer a e ≡ next_answer e.count o
               passed o f = past ∙ (λ j. cond (h j) (Redirected e.count) (next_answer e.count (f j)))
 
-              covered_is : is_covered a config.parameters config.hash listed (next_closer x is.name) ≡ list_any (is_hash_cover a config.parameters v) listed
+              covered_is : is_covered (chain_records a config listed) (next_closer x is.name) ≡ list_any (is_hash_cover a config.parameters v) listed
               covered_is = ap (is_ok_with (λ v. list_any (is_hash_cover a config.parameters v) listed)) next
 
               -- no cover
@@ -444,7 +446,7 @@ module _ (L : List ZoneRecord) (a : Name) (config : ChainConfig) (links : List H
                   abbrev w : Name
                   w = wildcard_below (hashed_encloser L a config x)
 
-                  asked_on : IsWildcardRead listed a config.parameters config.hash x t e.count answer
+                  asked_on : IsWildcardRead (chain_records a config listed) x t e.count answer
                   asked_on = read (NoCloserName e.count) (passed (Some r) f
                       ∙ (λ j. cond ((ap is_opt_out denied.flags ∙ out) j) (MayBeUnsigned e.count) (NoCloserName e.count)))
 
@@ -466,11 +468,11 @@ module _ (L : List ZoneRecord) (a : Name) (config : ChainConfig) (links : List H
                       let one : g.0 ≡ asked_on.value = let q : Ok g.0 ≡ Ok asked_on.value = sym g.1.known ∙ known_w in cc in
                       subst (IsAlone L a config w) one g.1
 
-                  matched_w : is_matched a config.parameters config.hash listed (wildcard_below (hashed_encloser L a config x))
+                  matched_w : is_matched (chain_records a config listed) (wildcard_below (hashed_encloser L a config x))
                       ≡ list_any (is_hash_match a config.parameters asked_on.value) listed
                   matched_w = ap (is_ok_with (λ v. list_any (is_hash_match a config.parameters v) listed)) known_w
 
-                  covered_w : is_covered a config.parameters config.hash listed (wildcard_below (hashed_encloser L a config x))
+                  covered_w : is_covered (chain_records a config listed) (wildcard_below (hashed_encloser L a config x))
                       ≡ list_any (is_hash_cover a config.parameters asked_on.value) listed
                   covered_w = ap (is_ok_with (λ v. list_any (is_hash_cover a config.parameters v) listed)) known_w
 
@@ -534,7 +536,7 @@ module _ (L : List ZoneRecord) (a : Name) (config : ChainConfig) (links : List H
                       (find (is_hash_cover a config.parameters asked_on.value) listed))
                       ∙ by_match (find (is_hash_match a config.parameters asked_on.value) listed) refl
 
-          below_it : (next : Option Octets) → IsNextHash config.hash x is.name next → e.cover ≡ next_cover a config.parameters listed next
+          below_it : (next : Option Octets) → IsNextHash config.hash x is.name next → e.cover ≡ next_cover (chain_records a config listed) next
               → answer ≡ hashed_proved_answer L a config listed x t
           below_it None n f = absurd (false≢true (sym s ∙ n))
           below_it (Some v) n f =
@@ -556,7 +558,7 @@ module _ (L : List ZoneRecord) (a : Name) (config : ChainConfig) (links : List H
                     | inr out ↦ at_wildcard c h v n.1 r (f ∙ g) g out
                   ]
 
-        encloser_proved : (answer : Answer) → IsReadOn listed a config.parameters config.hash x t (encloser_answer a e (length x) t) answer
+        encloser_proved : (answer : Answer) → IsReadOn (chain_records a config listed) x t (encloser_answer a e (length x) t) answer
             → answer ≡ hashed_proved_answer L a config listed x t
         encloser_proved answer ends =
             elim (cases_Bool (same_name d x)) [
@@ -564,24 +566,23 @@ module _ (L : List ZoneRecord) (a : Name) (config : ChainConfig) (links : List H
               | inr s ↦ below_it s answer ends is.next is.closes is.covers
             ]
 
-      pub found_proved : (found : Option Encloser) → IsFoundEncloser listed a config.parameters config.hash x found → (answer : Answer)
-          → IsReadOn listed a config.parameters config.hash x t (found_answer a found (length x) t) answer
+      pub found_proved : (found : Option Encloser) → IsFoundEncloser (chain_records a config listed) x found → (answer : Answer)
+          → IsReadOn (chain_records a config listed) x t (found_answer a found (length x) t) answer
           → answer ≡ hashed_proved_answer L a config listed x t
       found_proved None is answer ends = ends ∙ unmatched (is en closest.above en_low).2
       found_proved (Some e) is answer ends = encloser_proved e is answer ends
 
 -- for records of the chain of any zone
-pub read_proved : ChainsAreMeant → (listed : List HashedLink) (a : Name) (p : Parameters) (hash : Hash) (x : Name) (t : ℕ) (answer : Answer)
-    → t < 65536 → is_at_or_below x a ≡ true → is_at_parent a x t ≡ false → IsHashedRead listed a p hash x t answer
-    → IsHashedAnswered listed a p hash x t answer
-read_proved knows listed a p hash x t answer b low apart read = λ L config links same_hash same_parameters leaves chain asked among.
-    by L config links (knows L a config links leaves chain) asked among
-    (subst (λ h. IsHashedRead listed a config.parameters h x t answer) (sym same_hash)
-    (subst (λ q. IsHashedRead listed a q hash x t answer) (sym same_parameters) read))
+pub read_proved : ChainsAreMeant → (R : HashedRecords) (x : Name) (t : ℕ) (answer : Answer) → t < 65536
+    → is_at_or_below x R.apex ≡ true → is_at_parent R.apex x t ≡ false → IsHashedRead R x t answer → IsHashedAnswered R x t answer
+read_proved knows R x t answer b low apart read = λ L config links hash parameters leaves chain asked among.
+    by L config links (knows L R.apex config links leaves chain) asked among
+    (subst (λ S. IsHashedRead S x t answer) (as_chain R config hash parameters) read)
   where
-    by : (L : List ZoneRecord) (config : ChainConfig) (links : List HashedLink) → ChainMeans L a config links
-        → AreAskedAlone L a config x → All (Contains links) listed → IsHashedRead listed a config.parameters config.hash x t answer
-        → answer ≡ hashed_proved_answer L a config listed x t
+    by : (L : List ZoneRecord) (config : ChainConfig) (links : List HashedLink) → ChainMeans L R.apex config links
+        → AreAskedAlone L R.apex config x → All (Contains links) R.links → IsHashedRead (chain_records R.apex config R.links) x t answer
+        → answer ≡ hashed_proved_answer L R.apex config R.links x t
     by L config links means asked among read =
-        found_proved L a config links means listed (λ k i. all_in (Contains links) listed k (recursion_from_All (Contains links) listed among) i)
+        found_proved L R.apex config links means R.links
+        (λ k i. all_in (Contains links) R.links k (recursion_from_All (Contains links) R.links among) i)
         x low asked t b apart read.found read.is answer read.ends

@@ -13,7 +13,7 @@ use Rattle.domain_zone.proofs.NameLemmas.{below_length}
 use Rattle.domain_zone.proofs.OwnerLemmas.{in_any}
 use Rattle.domain_zone.proofs.ZoneLemmas.{same_back}
 use Rattle.domain_nsec3.specs.Chain.{HashedLink}
-use Rattle.domain_nsec3.specs.Config.{Hash, Parameters}
+use Rattle.domain_checker.specs.HashedView.{HashedRecords, first_cover, first_match}
 use Rattle.domain_checker.specs.HashedEncloser.{Encloser, IsEncloser, IsFoundEncloser, encloser_is_cut, next_cover}
 use Rattle.domain_checker.specs.HashedList.{is_hash_cover, is_hash_match}
 use Rattle.domain_checker.specs.HashedReading.{IsNextHash}
@@ -44,103 +44,105 @@ chosen P false v w h k = k
 -- ---- what an answer may be
 
 -- P holds of each answer that a list gives of x, where the closest encloser is told so
-record Allows (P : Answer → Type 0) (listed : List HashedLink) (a : Name) (p : Parameters) (hash : Hash) (x : Name) (e : Encloser)
-    (d : Name) : Type 0 where
+record Allows (P : Answer → Type 0) (R : HashedRecords) (x : Name) (e : Encloser) (d : Name) : Type 0 where
   referral : P (Referral e.count)
   redirected : P (Redirected e.count)
   none : P NotProven
   own : same_name d x ≡ true → P Has × P NoDs × P Alias × P NoData
-  closer : same_name d x ≡ false → is_covered a p hash listed (next_closer x d) ≡ true → P (MayBeUnsigned e.count) × P (NoCloserName e.count)
-  wildcard : same_name d x ≡ false → is_covered a p hash listed (next_closer x d) ≡ true
-      → is_matched a p hash listed (wildcard_below (last_labels e.count x)) ≡ true
+  closer : same_name d x ≡ false → is_covered R (next_closer x d) ≡ true → P (MayBeUnsigned e.count) × P (NoCloserName e.count)
+  wildcard : same_name d x ≡ false → is_covered R (next_closer x d) ≡ true
+      → is_matched R (wildcard_below (last_labels e.count x)) ≡ true
       → P (Wildcard e.count) × P (WildcardAlias e.count) × P (WildcardNoData e.count)
-  denied : same_name d x ≡ false → is_covered a p hash listed (next_closer x d) ≡ true
-      → is_covered a p hash listed (wildcard_below (last_labels e.count x)) ≡ true → P (NameError e.count)
+  denied : same_name d x ≡ false → is_covered R (next_closer x d) ≡ true
+      → is_covered R (wildcard_below (last_labels e.count x)) ≡ true → P (NameError e.count)
 
-module _ (P : Answer → Type 0) (listed : List HashedLink) (a : Name) (p : Parameters) (hash : Hash) (x : Name) (t : ℕ) (answer : Answer)
-    (e : Encloser) (is : IsEncloser listed a p hash x e) (allows : Allows P listed a p hash x e is.name) where
-  of_own : same_name is.name x ≡ true → P (own_answer a e t)
+module _ (P : Answer → Type 0) (R : HashedRecords) (x : Name) (t : ℕ) (answer : Answer)
+    (e : Encloser) (is : IsEncloser R x e) (allows : Allows P R x e is.name) where
+  of_own : same_name is.name x ≡ true → P (own_answer R.apex e t)
   of_own s =
       let own = allows.own s in
-      let later = cond (contains_type e.link.bits t) Has (cond (encloser_is_cut a e) NoDs (cond (contains_type e.link.bits cname) Alias NoData)) in
-      chosen P (is_of_child (encloser_is_cut a e) e.link.bits) NotProven (cond (encloser_is_cut a e && not (nat_eq t ds)) (Referral e.count) later) allows.none
-      (chosen P (encloser_is_cut a e && not (nat_eq t ds)) (Referral e.count) later allows.referral
-      (chosen P (contains_type e.link.bits t) Has (cond (encloser_is_cut a e) NoDs (cond (contains_type e.link.bits cname) Alias NoData)) own.0
-      (chosen P (encloser_is_cut a e) NoDs (cond (contains_type e.link.bits cname) Alias NoData) own.1
+      let later = cond (contains_type e.link.bits t) Has (cond (encloser_is_cut R.apex e) NoDs (cond (contains_type e.link.bits cname) Alias NoData)) in
+      chosen P (is_of_child (encloser_is_cut R.apex e) e.link.bits) NotProven
+      (cond (encloser_is_cut R.apex e && not (nat_eq t ds)) (Referral e.count) later) allows.none
+      (chosen P (encloser_is_cut R.apex e && not (nat_eq t ds)) (Referral e.count) later allows.referral
+      (chosen P (contains_type e.link.bits t) Has (cond (encloser_is_cut R.apex e) NoDs (cond (contains_type e.link.bits cname) Alias NoData)) own.0
+      (chosen P (encloser_is_cut R.apex e) NoDs (cond (contains_type e.link.bits cname) Alias NoData) own.1
       (chosen P (contains_type e.link.bits cname) Alias NoData own.2 own.3))))
 
-  of_wildcard : same_name is.name x ≡ false → is_covered a p hash listed (next_closer x is.name) ≡ true
-      → IsWildcardRead listed a p hash x t e.count answer → P answer
-  of_wildcard s c r = subst P (sym r.says) (by_match (find (is_hash_match a p r.value) listed) refl)
+  of_wildcard : same_name is.name x ≡ false → is_covered R (next_closer x is.name) ≡ true
+      → IsWildcardRead R x t e.count answer → P answer
+  of_wildcard s c r = subst P (sym r.says) (by_match (first_match R r.value) refl)
     where
-      by_cover : (o : Option HashedLink) → find (is_hash_cover a p r.value) listed ≡ o → P (wildcard_told e.count t None o)
+      by_cover : (o : Option HashedLink) → first_cover R r.value ≡ o → P (wildcard_told e.count t None o)
       by_cover None g = (allows.closer s c).1
       by_cover (Some k) g =
-          let f = find_some (is_hash_cover a p r.value) listed k g in
-          allows.denied s c (ap (is_ok_with (λ v. list_any (is_hash_cover a p v) listed)) r.known ∙ in_any (is_hash_cover a p r.value) listed k f.0 f.1)
+          let f = find_some (is_hash_cover R.apex R.parameters r.value) R.links k g in
+          allows.denied s c (ap (is_ok_with (λ v. list_any (is_hash_cover R.apex R.parameters v) R.links)) r.known
+          ∙ in_any (is_hash_cover R.apex R.parameters r.value) R.links k f.0 f.1)
 
-      by_match : (o : Option HashedLink) → find (is_hash_match a p r.value) listed ≡ o
-          → P (wildcard_told e.count t o (find (is_hash_cover a p r.value) listed))
-      by_match None g = by_cover (find (is_hash_cover a p r.value) listed) refl
+      by_match : (o : Option HashedLink) → first_match R r.value ≡ o
+          → P (wildcard_told e.count t o (first_cover R r.value))
+      by_match None g = by_cover (first_cover R r.value) refl
       by_match (Some k) g =
-          let f = find_some (is_hash_match a p r.value) listed k g in
-          let w = allows.wildcard s c (ap (is_ok_with (λ v. list_any (is_hash_match a p v) listed)) r.known
-          ∙ in_any (is_hash_match a p r.value) listed k f.0 f.1) in
+          let f = find_some (is_hash_match R.apex R.parameters r.value) R.links k g in
+          let w = allows.wildcard s c (ap (is_ok_with (λ v. list_any (is_hash_match R.apex R.parameters v) R.links)) r.known
+          ∙ in_any (is_hash_match R.apex R.parameters r.value) R.links k f.0 f.1) in
           chosen P (contains_type k.bits t || contains_type k.bits ns) (Wildcard e.count)
           (cond (contains_type k.bits cname) (WildcardAlias e.count) (WildcardNoData e.count)) w.0
           (chosen P (contains_type k.bits cname) (WildcardAlias e.count) (WildcardNoData e.count) w.1 w.2)
 
-  allowed : IsReadOn listed a p hash x t (encloser_answer a e (length x) t) answer → P answer
+  allowed : IsReadOn R x t (encloser_answer R.apex e (length x) t) answer → P answer
   allowed ends = by is.next is.closes is.covers
     where
-      read : (b : Bool) (first : Answer) → nat_eq e.count (length x) ≡ b → cond b (own_answer a e t) (lower_answer a e) ≡ first
-          → IsReadOn listed a p hash x t first answer
-      read b first f g = subst (λ h. IsReadOn listed a p hash x t h answer) ((λ i. cond (f i) (own_answer a e t) (lower_answer a e)) ∙ g) ends
+      read : (b : Bool) (first : Answer) → nat_eq e.count (length x) ≡ b → cond b (own_answer R.apex e t) (lower_answer R.apex e) ≡ first
+          → IsReadOn R x t first answer
+      read b first f g = subst (λ h. IsReadOn R x t h answer) ((λ i. cond (f i) (own_answer R.apex e t) (lower_answer R.apex e)) ∙ g) ends
 
-      by : (next : Option Octets) → IsNextHash hash x is.name next → e.cover ≡ next_cover a p listed next → P answer
+      by : (next : Option Octets) → IsNextHash R.hash x is.name next → e.cover ≡ next_cover R next → P answer
       by None s f =
-          subst P (sym (read_plain listed a p hash x t (own_answer a e t) answer (own_never a e t)
-          (read true (own_answer a e t) (itself_counted listed a p hash x e is ∙ s) refl))) (of_own s)
-      by (Some v) n f = elim (cases_Bool (encloser_is_cut a e)) [
-        | inl c ↦ subst P (sym (read false (Referral e.count) (itself_counted listed a p hash x e is ∙ n.0)
+          subst P (sym (read_plain R x t (own_answer R.apex e t) answer (own_never R.apex e t)
+          (read true (own_answer R.apex e t) (itself_counted R x e is ∙ s) refl))) (of_own s)
+      by (Some v) n f = elim (cases_Bool (encloser_is_cut R.apex e)) [
+        | inl c ↦ subst P (sym (read false (Referral e.count) (itself_counted R x e is ∙ n.0)
             (λ i. cond (c i) (Referral e.count) (cond (contains_type e.link.bits dname) (Redirected e.count) (next_answer e.count e.cover))))) allows.referral
         | inr c ↦ elim (cases_Bool (contains_type e.link.bits dname)) [
-          | inl h ↦ subst P (sym (read false (Redirected e.count) (itself_counted listed a p hash x e is ∙ n.0)
+          | inl h ↦ subst P (sym (read false (Redirected e.count) (itself_counted R x e is ∙ n.0)
               (λ i. cond (c i) (Referral e.count) (cond (h i) (Redirected e.count) (next_answer e.count e.cover))))) allows.redirected
-          | inr h ↦ of_next c h (find (is_hash_cover a p v) listed) refl
+          | inr h ↦ of_next c h (first_cover R v) refl
         ]
       ]
         where
-          of_next : encloser_is_cut a e ≡ false → contains_type e.link.bits dname ≡ false → (o : Option HashedLink)
-              → find (is_hash_cover a p v) listed ≡ o → P answer
+          of_next : encloser_is_cut R.apex e ≡ false → contains_type e.link.bits dname ≡ false → (o : Option HashedLink)
+              → first_cover R v ≡ o → P answer
           of_next c h None g =
-              subst P (sym (read false NotProven (itself_counted listed a p hash x e is ∙ n.0)
+              subst P (sym (read false NotProven (itself_counted R x e is ∙ n.0)
               (λ i. cond (c i) (Referral e.count) (cond (h i) (Redirected e.count) (next_answer e.count ((f ∙ g) i)))))) allows.none
           of_next c h (Some k) g =
-              let r = find_some (is_hash_cover a p v) listed k g in
-              let covered = ap (is_ok_with (λ v. list_any (is_hash_cover a p v) listed)) n.1 ∙ in_any (is_hash_cover a p v) listed k r.0 r.1 in
-              let past : lower_answer a e ≡ cond (is_opt_out k.flags) (MayBeUnsigned e.count) (NoCloserName e.count) =
+              let r = find_some (is_hash_cover R.apex R.parameters v) R.links k g in
+              let covered = ap (is_ok_with (λ v. list_any (is_hash_cover R.apex R.parameters v) R.links)) n.1
+              ∙ in_any (is_hash_cover R.apex R.parameters v) R.links k r.0 r.1 in
+              let past : lower_answer R.apex e ≡ cond (is_opt_out k.flags) (MayBeUnsigned e.count) (NoCloserName e.count) =
               (λ i. cond (c i) (Referral e.count) (cond (h i) (Redirected e.count) (next_answer e.count ((f ∙ g) i)))) in
               elim (cases_Bool (is_opt_out k.flags)) [
-                | inl out ↦ subst P (sym (read false (MayBeUnsigned e.count) (itself_counted listed a p hash x e is ∙ n.0)
+                | inl out ↦ subst P (sym (read false (MayBeUnsigned e.count) (itself_counted R x e is ∙ n.0)
                     (past ∙ (λ i. cond (out i) (MayBeUnsigned e.count) (NoCloserName e.count))))) (allows.closer n.0 covered).0
-                | inr out ↦ of_wildcard n.0 covered (read false (NoCloserName e.count) (itself_counted listed a p hash x e is ∙ n.0)
+                | inr out ↦ of_wildcard n.0 covered (read false (NoCloserName e.count) (itself_counted R x e is ∙ n.0)
                     (past ∙ (λ i. cond (out i) (MayBeUnsigned e.count) (NoCloserName e.count))))
               ]
 
 -- ---- the two properties
 
-module _ (listed : List HashedLink) (a : Name) (p : Parameters) (hash : Hash) (x : Name) (t : ℕ) (answer : Answer) where
-  rests : (found : Option Encloser) → IsFoundEncloser listed a p hash x found
-      → IsReadOn listed a p hash x t (found_answer a found (length x) t) answer → HashedRestsOn listed a p hash x answer
-  rests None is ends = subst (HashedRestsOn listed a p hash x) (sym ends) tt
+module _ (R : HashedRecords) (x : Name) (t : ℕ) (answer : Answer) where
+  rests : (found : Option Encloser) → IsFoundEncloser R x found
+      → IsReadOn R x t (found_answer R.apex found (length x) t) answer → HashedRestsOn R x answer
+  rests None is ends = subst (HashedRestsOn R x) (sym ends) tt
   rests (Some e) is ends =
-      let encloser : HasEncloserProof listed a p hash x e.count = record { longest = is.name; first = is.first; counts = is.counts } in
-      let closer : is_covered a p hash listed (next_closer x is.name) ≡ true → HasCloserProof listed a p hash x e.count =
+      let encloser : HasEncloserProof R x e.count = record { longest = is.name; first = is.first; counts = is.counts } in
+      let closer : is_covered R (next_closer x is.name) ≡ true → HasCloserProof R x e.count =
       λ c. record { longest = is.name; first = is.first; counts = is.counts; covered = c } in
-      let itself : same_name is.name x ≡ true → is_matched a p hash listed x ≡ true =
-      λ s. sym (matched_same listed a p hash is.name x s) ∙ is.first.found in
-      allowed (HashedRestsOn listed a p hash x) listed a p hash x t answer e is
+      let itself : same_name is.name x ≡ true → is_matched R x ≡ true =
+      λ s. sym (matched_same R is.name x s) ∙ is.first.found in
+      allowed (HashedRestsOn R x) R x t answer e is
       (record {
         referral = encloser;
         redirected = encloser;
@@ -151,11 +153,11 @@ module _ (listed : List HashedLink) (a : Name) (p : Parameters) (hash : Hash) (x
         denied = λ s c m. (closer c, m);
       }) ends
 
-  pub read_rests : IsHashedRead listed a p hash x t answer → HashedRestsOn listed a p hash x answer
+  pub read_rests : IsHashedRead R x t answer → HashedRestsOn R x answer
   read_rests read = rests read.found read.is read.ends
 
-  counts : (found : Option Encloser) → IsFoundEncloser listed a p hash x found
-      → IsReadOn listed a p hash x t (found_answer a found (length x) t) answer → CountsWithin (length x) answer
+  counts : (found : Option Encloser) → IsFoundEncloser R x found
+      → IsReadOn R x t (found_answer R.apex found (length x) t) answer → CountsWithin (length x) answer
   counts None is ends = subst (CountsWithin (length x)) (sym ends) tt
   counts (Some e) is ends =
       let within : e.count ≤ length x = let l = below_length x is.name is.first.above in let n = is.counts in omega arith in
@@ -165,7 +167,7 @@ module _ (listed : List HashedLink) (a : Name) (p : Parameters) (hash : Hash) (x
             let n = is.counts in
             absurd (false≢true (sym s ∙ same_back x is.name (same_length x is.name is.first.above (omega arith))))
       ] in
-      allowed (CountsWithin (length x)) listed a p hash x t answer e is
+      allowed (CountsWithin (length x)) R x t answer e is
       (record {
         referral = within;
         redirected = within;
@@ -176,7 +178,7 @@ module _ (listed : List HashedLink) (a : Name) (p : Parameters) (hash : Hash) (x
         denied = λ s c m. less s;
       }) ends
 
-  pub read_counts : IsHashedRead listed a p hash x t answer → CountsWithin (length x) answer
+  pub read_counts : IsHashedRead R x t answer → CountsWithin (length x) answer
   read_counts read = counts read.found read.is read.ends
 
 -- ---- which labels the wildcard is asked below
@@ -193,21 +195,21 @@ asks_none false true m n h = absurd (cc)
 asks_none false false m n h = absurd (cc)
 
 -- what leaves no more to ask than the wildcard is told below the closest encloser
-pub record IsAsked (listed : List HashedLink) (a : Name) (p : Parameters) (hash : Hash) (x : Name) (t n : ℕ) : Type 0 where
+pub record IsAsked (R : HashedRecords) (x : Name) (t n : ℕ) : Type 0 where
   pub encloser : Encloser
-  pub is : IsEncloser listed a p hash x encloser
-  pub asks : encloser_answer a encloser (length x) t ≡ NoCloserName encloser.count
+  pub is : IsEncloser R x encloser
+  pub asks : encloser_answer R.apex encloser (length x) t ≡ NoCloserName encloser.count
   pub counts : n ≡ encloser.count
   pub less : n < length x
 
-pub asked_below : (listed : List HashedLink) (a : Name) (p : Parameters) (hash : Hash) (x : Name) (t n : ℕ) (found : Option Encloser)
-    → IsFoundEncloser listed a p hash x found → found_answer a found (length x) t ≡ NoCloserName n → IsAsked listed a p hash x t n
-asked_below listed a p hash x t n None is e = absurd (cc)
-asked_below listed a p hash x t n (Some f) is e =
+pub asked_below : (R : HashedRecords) (x : Name) (t n : ℕ) (found : Option Encloser)
+    → IsFoundEncloser R x found → found_answer R.apex found (length x) t ≡ NoCloserName n → IsAsked R x t n
+asked_below R x t n None is e = absurd (cc)
+asked_below R x t n (Some f) is e =
     elim (cases_Bool (nat_eq f.count (length x))) [
-      | inl s ↦ absurd (own_never a f t n (sym (λ i. cond (s i) (own_answer a f t) (lower_answer a f)) ∙ e))
+      | inl s ↦ absurd (own_never R.apex f t n (sym (λ i. cond (s i) (own_answer R.apex f t) (lower_answer R.apex f)) ∙ e))
       | inr s ↦
-          let same : n ≡ f.count = of_cover f.cover refl (sym (λ i. cond (s i) (own_answer a f t) (lower_answer a f)) ∙ e) in
+          let same : n ≡ f.count = of_cover f.cover refl (sym (λ i. cond (s i) (own_answer R.apex f t) (lower_answer R.apex f)) ∙ e) in
           record {
             encloser = f;
             is = is;
@@ -223,12 +225,12 @@ asked_below listed a p hash x t n (Some f) is e =
           }
     ]
   where
-    lower : (o : Option HashedLink) → f.cover ≡ o → lower_answer a f
-        ≡ cond (encloser_is_cut a f) (Referral f.count) (cond (contains_type f.link.bits dname) (Redirected f.count) (next_answer f.count o))
-    lower o g = λ i. cond (encloser_is_cut a f) (Referral f.count)
+    lower : (o : Option HashedLink) → f.cover ≡ o → lower_answer R.apex f
+        ≡ cond (encloser_is_cut R.apex f) (Referral f.count) (cond (contains_type f.link.bits dname) (Redirected f.count) (next_answer f.count o))
+    lower o g = λ i. cond (encloser_is_cut R.apex f) (Referral f.count)
         (cond (contains_type f.link.bits dname) (Redirected f.count) (next_answer f.count (g i)))
 
-    of_cover : (o : Option HashedLink) → f.cover ≡ o → lower_answer a f ≡ NoCloserName n → n ≡ f.count
-    of_cover None g h = absurd (asks_none (encloser_is_cut a f) (contains_type f.link.bits dname) f.count n (sym (lower None g) ∙ h))
+    of_cover : (o : Option HashedLink) → f.cover ≡ o → lower_answer R.apex f ≡ NoCloserName n → n ≡ f.count
+    of_cover None g h = absurd (asks_none (encloser_is_cut R.apex f) (contains_type f.link.bits dname) f.count n (sym (lower None g) ∙ h))
     of_cover (Some k) g h =
-        asks_lower (encloser_is_cut a f) (contains_type f.link.bits dname) (is_opt_out k.flags) f.count n (sym (lower (Some k) g) ∙ h)
+        asks_lower (encloser_is_cut R.apex f) (contains_type f.link.bits dname) (is_opt_out k.flags) f.count n (sym (lower (Some k) g) ∙ h)

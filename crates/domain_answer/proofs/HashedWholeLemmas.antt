@@ -17,6 +17,7 @@ use Rattle.domain_nsec3.specs.Config.{ChainConfig}
 use Rattle.domain_nsec3.specs.Meaning.{AreAlone, IsAlone, octets_before}
 use Rattle.domain_nsec3.specs.Owners.{nsec3_lists, original_owners}
 use Rattle.domain_checker.specs.HashedFacts.{ChainFacts}
+use Rattle.domain_checker.specs.HashedView.{chain_records}
 use Rattle.domain_checker.specs.HashedVerdict.{hashed_proved_verdict, hashed_zone_verdict}
 use Rattle.domain_checker.specs.HashedVerdict.{is_below_chain_cut, is_covered}
 use Rattle.domain_checker.specs.HashedVerdict.{is_matched, next_closer, proves}
@@ -94,10 +95,10 @@ module _ (verdicts : ProvesVerdicts) (L : List ZoneRecord) (a : Name) (config : 
     w = wildcard_below (hashed_encloser L a config x)
 
     abbrev matched : Name → Bool
-    matched = is_matched a config.parameters config.hash links
+    matched = is_matched (chain_records a config links)
 
     abbrev covered : Name → Bool
-    covered = is_covered a config.parameters config.hash links
+    covered = is_covered (chain_records a config links)
 
     encloser_told : tells_encloser L a config links x ≡ true
     encloser_told =
@@ -221,7 +222,7 @@ whole_closer L a config links facts x n v e alone gone =
     low : is_at_or_below (closer_name n x) a ≡ true
     low = closer_low a x n e
 
-    covered : is_covered a config.parameters config.hash links (closer_name n x) ≡ true
+    covered : is_covered (chain_records a config links) (closer_name n x) ≡ true
     covered =
         let one = facts.mirrors.each (closer_name n x) v low alone in
         let other : matches octets_before one.hash v ≡ false = one.matched ∙ sym (facts.exist (closer_name n x) low) ∙ gone in

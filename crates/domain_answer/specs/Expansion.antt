@@ -2,17 +2,17 @@
 -- its last n labels (RFC 5155, section 8.8; RFC 4035, section 5.3.4); a is the apex. As many labels
 -- as that the signatures of those records tell in their field Labels.
 use Rattle.std.specs.Prelude.{ℕ, ◌≡◌, ◌+◌, Bool, true, false, not, ◌&&◌, nat_le, nat_lt, List, All, length, Option, Some, None, Ok, if◌then◌else◌}
-use Rattle.std.specs.List.{find, Contains}
+use Rattle.std.specs.List.{Contains}
 use Rattle.domain_octets.specs.Words.{Octets}
 use Rattle.domain_base.specs.Name.{is_at_or_below, last_labels}
 use Rattle.domain_base.specs.Words.{Name}
 use Rattle.domain_chain_rdata.specs.OptOut.{is_opt_out}
 use Rattle.domain_zone.specs.Zone.{ZoneRecord}
 use Rattle.domain_nsec3.specs.Chain.{HashedLink, IsHashedChain}
-use Rattle.domain_nsec3.specs.Config.{ChainConfig, Hash, Parameters, hash_name}
+use Rattle.domain_nsec3.specs.Config.{ChainConfig, hash_name}
 use Rattle.domain_nsec3.specs.Meaning.{IsAlone}
-use Rattle.domain_checker.specs.HashedList.{is_hash_cover, is_hash_match}
 use Rattle.domain_checker.specs.HashedVerdict.{is_covered}
+use Rattle.domain_checker.specs.HashedView.{HashedRecords, chain_records, first_cover, first_match}
 use Rattle.domain_answer.specs.HashedReading.{next_answer}
 use Rattle.domain_answer.specs.HashedZoneAnswer.{hashed_exists}
 use Rattle.domain_answer.specs.declared.answer.Answer.{Answer}
@@ -36,12 +36,10 @@ closer_told n (Some k) covering = NotProven
 closer_told n None covering = next_answer n covering
 
 -- that name is not refused by the hasher, and the list says so of it
-pub record IsExpansionRead (listed : List HashedLink) (a : Name) (p : Parameters) (hash : Hash)
-    (x : Name) (n : ℕ) (answer : Answer) : Type 0 where
+pub record IsExpansionRead (R : HashedRecords) (x : Name) (n : ℕ) (answer : Answer) : Type 0 where
   pub value : Octets
-  pub known : hash_name hash (closer_name n x) ≡ Ok value
-  pub says : answer ≡ closer_told n (find (is_hash_match a p value) listed)
-      (find (is_hash_cover a p value) listed)
+  pub known : hash_name R.hash (closer_name n x) ≡ Ok value
+  pub says : answer ≡ closer_told n (first_match R value) (first_cover R value)
 
 -- of a name that the zone does not have: where the chain has the flag of opt-out, it may be an
 -- unsigned delegation
@@ -54,42 +52,37 @@ abbrev pub proved_expansion : List ZoneRecord → Name → ChainConfig → List 
 proved_expansion L a config listed x n =
     let closer = closer_name n x in
     if hashed_exists L a config closer then NotProven else
-    (if not (is_covered a config.parameters config.hash listed closer) then NotProven else
+    (if not (is_covered (chain_records a config listed) closer) then NotProven else
     missing_closer config n)
 
 -- the answer is what is proved of any zone of whose chain these are records, in any order, with
 -- repeats, where no other name of the chain has the hash of the next closer name
-abbrev pub IsExpansionAnswered : List HashedLink → Name → Parameters → Hash → Name → ℕ → Answer
-    → Type 0
-IsExpansionAnswered listed a p hash x n answer =
+abbrev pub IsExpansionAnswered : HashedRecords → Name → ℕ → Answer → Type 0
+IsExpansionAnswered R x n answer =
     (L : List ZoneRecord) (config : ChainConfig) (links : List HashedLink) (value : Octets)
-    → config.hash ≡ hash → config.parameters ≡ p → IsHashedChain L a config links
-    → IsAlone L a config (closer_name n x) value → All (Contains links) listed
-    → answer ≡ proved_expansion L a config listed x n
+    → config.hash ≡ R.hash → config.parameters ≡ R.parameters → IsHashedChain L R.apex config links
+    → IsAlone L R.apex config (closer_name n x) value → All (Contains links) R.links
+    → answer ≡ proved_expansion L R.apex config R.links x n
 
 -- it is about the last n labels of x, and a record covers the next closer name
-abbrev pub HasCoveredCloser : List HashedLink → Name → Parameters → Hash → Name → ℕ → ℕ → Type 0
-HasCoveredCloser listed a p hash x n count =
-    (count ≡ n) × (is_covered a p hash listed (closer_name n x) ≡ true)
+abbrev pub HasCoveredCloser : HashedRecords → Name → ℕ → ℕ → Type 0
+HasCoveredCloser R x n count = (count ≡ n) × (is_covered R (closer_name n x) ≡ true)
 
 -- the records that an answer rests on are there, whatever else the list has
-abbrev pub ExpansionRestsOn : List HashedLink → Name → Parameters → Hash → Name → ℕ → Answer
-    → Type 0
-ExpansionRestsOn listed a p hash x n OutsideZone = is_at_or_below x a ≡ false
-ExpansionRestsOn listed a p hash x n AtParent = ⊥
-ExpansionRestsOn listed a p hash x n (Referral count) = ⊥
-ExpansionRestsOn listed a p hash x n (Redirected count) = ⊥
-ExpansionRestsOn listed a p hash x n Has = ⊥
-ExpansionRestsOn listed a p hash x n NoDs = ⊥
-ExpansionRestsOn listed a p hash x n Alias = ⊥
-ExpansionRestsOn listed a p hash x n NoData = ⊥
-ExpansionRestsOn listed a p hash x n (Wildcard count) = ⊥
-ExpansionRestsOn listed a p hash x n (WildcardAlias count) = ⊥
-ExpansionRestsOn listed a p hash x n (WildcardNoData count) = ⊥
-ExpansionRestsOn listed a p hash x n (NameError count) = ⊥
-ExpansionRestsOn listed a p hash x n (MayBeUnsigned count) =
-    HasCoveredCloser listed a p hash x n count
-ExpansionRestsOn listed a p hash x n (NoCloserName count) =
-    HasCoveredCloser listed a p hash x n count
-ExpansionRestsOn listed a p hash x n TooManyIterations = Unit {0}
-ExpansionRestsOn listed a p hash x n NotProven = Unit {0}
+abbrev pub ExpansionRestsOn : HashedRecords → Name → ℕ → Answer → Type 0
+ExpansionRestsOn R x n OutsideZone = is_at_or_below x R.apex ≡ false
+ExpansionRestsOn R x n AtParent = ⊥
+ExpansionRestsOn R x n (Referral count) = ⊥
+ExpansionRestsOn R x n (Redirected count) = ⊥
+ExpansionRestsOn R x n Has = ⊥
+ExpansionRestsOn R x n NoDs = ⊥
+ExpansionRestsOn R x n Alias = ⊥
+ExpansionRestsOn R x n NoData = ⊥
+ExpansionRestsOn R x n (Wildcard count) = ⊥
+ExpansionRestsOn R x n (WildcardAlias count) = ⊥
+ExpansionRestsOn R x n (WildcardNoData count) = ⊥
+ExpansionRestsOn R x n (NameError count) = ⊥
+ExpansionRestsOn R x n (MayBeUnsigned count) = HasCoveredCloser R x n count
+ExpansionRestsOn R x n (NoCloserName count) = HasCoveredCloser R x n count
+ExpansionRestsOn R x n TooManyIterations = Unit {0}
+ExpansionRestsOn R x n NotProven = Unit {0}

@@ -8,9 +8,10 @@ use Rattle.domain_base.specs.Words.{Name}
 use Rattle.domain_chain_rdata.specs.OptOut.{is_opt_out}
 use Rattle.domain_zone.specs.Zone.{ZoneRecord, is_zone_cut}
 use Rattle.domain_nsec3.specs.Chain.{HashedLink, IsHashedChain}
-use Rattle.domain_nsec3.specs.Config.{ChainConfig, Hash, Parameters}
+use Rattle.domain_nsec3.specs.Config.{ChainConfig}
 use Rattle.domain_nsec3.specs.Meaning.{AreAlone, IsAlone}
 use Rattle.domain_nsec3.specs.Owners.{nsec3_lists}
+use Rattle.domain_checker.specs.HashedView.{HashedRecords, chain_records}
 use Rattle.domain_checker.specs.HashedVerdict.{is_below_chain_cut, is_covered, is_matched, next_closer, IsFirstMatched}
 use Rattle.domain_answer.specs.HashedZoneAnswer.{hashed_encloser, hashed_exists, hashed_zone_answer, HashedLeavesOutBelowDname}
 use Rattle.domain_answer.specs.Proved.{needs_no_records}
@@ -27,9 +28,9 @@ use Rattle.domain_answer.specs.declared.answer.Answer.TheVariants.{TooManyIterat
 abbrev pub tells_encloser : List ZoneRecord → Name → ChainConfig → List HashedLink → Name → Bool
 tells_encloser L a config listed x =
     let e = hashed_encloser L a config x in
-    is_matched a config.parameters config.hash listed e
+    is_matched (chain_records a config listed) e
     && (same_name e x || is_zone_cut L a e || nsec3_lists L a config e dname
-    || is_covered a config.parameters config.hash listed (next_closer x e))
+    || is_covered (chain_records a config listed) (next_closer x e))
 
 -- the wildcard below the closest encloser of x decides
 abbrev pub needs_wildcard : List ZoneRecord → Name → ChainConfig → Name → Bool
@@ -42,8 +43,7 @@ needs_wildcard L a config x =
 abbrev pub tells_wildcard : List ZoneRecord → Name → ChainConfig → List HashedLink → Name → Bool
 tells_wildcard L a config listed x =
     let w = wildcard_below (hashed_encloser L a config x) in
-    is_matched a config.parameters config.hash listed w
-    || is_covered a config.parameters config.hash listed w
+    is_matched (chain_records a config listed) w || is_covered (chain_records a config listed) w
 
 -- the answer of the zone, where records tell of the closest encloser and, if the wildcard decides,
 -- of that; without the second no more than that there is no x
@@ -66,58 +66,54 @@ pub record AreAskedAlone (L : List ZoneRecord) (a : Name) (config : ChainConfig)
 
 -- the answer is what is proved of any zone of whose chain these are records, in any order, with
 -- repeats
-abbrev pub IsHashedAnswered : List HashedLink → Name → Parameters → Hash → Name → ℕ → Answer
-    → Type 0
-IsHashedAnswered listed a p hash x t answer =
+abbrev pub IsHashedAnswered : HashedRecords → Name → ℕ → Answer → Type 0
+IsHashedAnswered R x t answer =
     (L : List ZoneRecord) (config : ChainConfig) (links : List HashedLink)
-    → config.hash ≡ hash → config.parameters ≡ p → HashedLeavesOutBelowDname L a config
-    → IsHashedChain L a config links → AreAskedAlone L a config x → All (Contains links) listed
-    → answer ≡ hashed_proved_answer L a config listed x t
+    → config.hash ≡ R.hash → config.parameters ≡ R.parameters
+    → HashedLeavesOutBelowDname L R.apex config → IsHashedChain L R.apex config links
+    → AreAskedAlone L R.apex config x → All (Contains links) R.links
+    → answer ≡ hashed_proved_answer L R.apex config R.links x t
 
 -- ---- lists from anywhere
 
 -- of x and its ancestors at or below the apex the first that a record matches has n labels
-pub record HasEncloserProof (listed : List HashedLink) (a : Name) (p : Parameters) (hash : Hash)
-    (x : Name) (n : ℕ) : Type 0 where
+pub record HasEncloserProof (R : HashedRecords) (x : Name) (n : ℕ) : Type 0 where
   pub longest : Name
-  pub first : IsFirstMatched a p hash listed x longest
+  pub first : IsFirstMatched R x longest
   pub counts : n ≡ length longest
 
 -- and a record covers the name one label longer
-pub record HasCloserProof (listed : List HashedLink) (a : Name) (p : Parameters) (hash : Hash)
-    (x : Name) (n : ℕ) : Type 0 where
+pub record HasCloserProof (R : HashedRecords) (x : Name) (n : ℕ) : Type 0 where
   pub longest : Name
-  pub first : IsFirstMatched a p hash listed x longest
+  pub first : IsFirstMatched R x longest
   pub counts : n ≡ length longest
-  pub covered : is_covered a p hash listed (next_closer x longest) ≡ true
+  pub covered : is_covered R (next_closer x longest) ≡ true
 
 -- and a record matches the wildcard below the last n labels of x
-abbrev pub HasWildcardProof : List HashedLink → Name → Parameters → Hash → Name → ℕ → Type 0
-HasWildcardProof listed a p hash x n =
-    HasCloserProof listed a p hash x n
-    × (is_matched a p hash listed (wildcard_below (last_labels n x)) ≡ true)
+abbrev pub HasWildcardProof : HashedRecords → Name → ℕ → Type 0
+HasWildcardProof R x n =
+    HasCloserProof R x n × (is_matched R (wildcard_below (last_labels n x)) ≡ true)
 
 -- or covers it
-abbrev pub HasDenialProof : List HashedLink → Name → Parameters → Hash → Name → ℕ → Type 0
-HasDenialProof listed a p hash x n =
-    HasCloserProof listed a p hash x n
-    × (is_covered a p hash listed (wildcard_below (last_labels n x)) ≡ true)
+abbrev pub HasDenialProof : HashedRecords → Name → ℕ → Type 0
+HasDenialProof R x n =
+    HasCloserProof R x n × (is_covered R (wildcard_below (last_labels n x)) ≡ true)
 
 -- the records that an answer rests on are there, whatever else the list has
-abbrev pub HashedRestsOn : List HashedLink → Name → Parameters → Hash → Name → Answer → Type 0
-HashedRestsOn listed a p hash x OutsideZone = Unit {0}
-HashedRestsOn listed a p hash x AtParent = Unit {0}
-HashedRestsOn listed a p hash x (Referral n) = HasEncloserProof listed a p hash x n
-HashedRestsOn listed a p hash x (Redirected n) = HasEncloserProof listed a p hash x n
-HashedRestsOn listed a p hash x Has = is_matched a p hash listed x ≡ true
-HashedRestsOn listed a p hash x NoDs = is_matched a p hash listed x ≡ true
-HashedRestsOn listed a p hash x Alias = is_matched a p hash listed x ≡ true
-HashedRestsOn listed a p hash x NoData = is_matched a p hash listed x ≡ true
-HashedRestsOn listed a p hash x (Wildcard n) = HasWildcardProof listed a p hash x n
-HashedRestsOn listed a p hash x (WildcardAlias n) = HasWildcardProof listed a p hash x n
-HashedRestsOn listed a p hash x (WildcardNoData n) = HasWildcardProof listed a p hash x n
-HashedRestsOn listed a p hash x (NameError n) = HasDenialProof listed a p hash x n
-HashedRestsOn listed a p hash x (MayBeUnsigned n) = HasCloserProof listed a p hash x n
-HashedRestsOn listed a p hash x (NoCloserName n) = HasCloserProof listed a p hash x n
-HashedRestsOn listed a p hash x TooManyIterations = Unit {0}
-HashedRestsOn listed a p hash x NotProven = Unit {0}
+abbrev pub HashedRestsOn : HashedRecords → Name → Answer → Type 0
+HashedRestsOn R x OutsideZone = Unit {0}
+HashedRestsOn R x AtParent = Unit {0}
+HashedRestsOn R x (Referral n) = HasEncloserProof R x n
+HashedRestsOn R x (Redirected n) = HasEncloserProof R x n
+HashedRestsOn R x Has = is_matched R x ≡ true
+HashedRestsOn R x NoDs = is_matched R x ≡ true
+HashedRestsOn R x Alias = is_matched R x ≡ true
+HashedRestsOn R x NoData = is_matched R x ≡ true
+HashedRestsOn R x (Wildcard n) = HasWildcardProof R x n
+HashedRestsOn R x (WildcardAlias n) = HasWildcardProof R x n
+HashedRestsOn R x (WildcardNoData n) = HasWildcardProof R x n
+HashedRestsOn R x (NameError n) = HasDenialProof R x n
+HashedRestsOn R x (MayBeUnsigned n) = HasCloserProof R x n
+HashedRestsOn R x (NoCloserName n) = HasCloserProof R x n
+HashedRestsOn R x TooManyIterations = Unit {0}
+HashedRestsOn R x NotProven = Unit {0}

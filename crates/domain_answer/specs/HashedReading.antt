@@ -1,17 +1,16 @@
 -- What NSEC3 records answer by themselves (RFC 5155, section 8; RFC 6840, sections 4.1, 4.3 and
 -- 4.4).
-use Rattle.std.specs.Prelude.{ℕ, ◌==◌, List, ◌≡◌, ◌⊎◌, Option, Some, None, Ok, Err, length, if◌then◌else◌}
-use Rattle.std.specs.List.{find}
+use Rattle.std.specs.Prelude.{ℕ, ◌==◌, ◌≡◌, ◌⊎◌, Option, Some, None, Ok, Err, length, if◌then◌else◌}
 use Rattle.domain_octets.specs.Words.{Octets}
 use Rattle.domain_base.specs.Types.{dname, ns}
 use Rattle.domain_base.specs.Words.{Name}
 use Rattle.domain_bitmap.specs.Blocks.{contains_type}
 use Rattle.domain_chain_rdata.specs.OptOut.{is_opt_out}
 use Rattle.domain_nsec3.specs.Chain.{HashedLink}
-use Rattle.domain_nsec3.specs.Config.{Hash, Parameters, hash_name}
+use Rattle.domain_nsec3.specs.Config.{hash_name}
 use Rattle.domain_checker.specs.HashedEncloser.{Encloser, encloser_is_cut, IsEncloser, IsFoundEncloser}
-use Rattle.domain_checker.specs.HashedList.{is_hash_cover, is_hash_match}
 use Rattle.domain_checker.specs.HashedVerdict.{IsFirstRefusal}
+use Rattle.domain_checker.specs.HashedView.{HashedRecords, first_cover, first_match}
 use Rattle.domain_base.specs.Name.{last_labels}
 use Rattle.domain_answer.specs.TypesAnswer.{types_answer, wildcard_types_answer}
 use Rattle.domain_answer.specs.ZoneAnswer.{wildcard_below}
@@ -49,35 +48,29 @@ wildcard_told n t None (Some k) = NameError n
 wildcard_told n t None None = NoCloserName n
 
 -- the wildcard below the last n labels of x is not refused by the hasher, and the list says so of x
-pub record IsWildcardRead (listed : List HashedLink) (a : Name) (p : Parameters) (hash : Hash)
-    (x : Name) (t n : ℕ) (answer : Answer) : Type 0 where
+pub record IsWildcardRead (R : HashedRecords) (x : Name) (t n : ℕ) (answer : Answer) : Type 0 where
   pub value : Octets
-  pub known : hash_name hash (wildcard_below (last_labels n x)) ≡ Ok value
-  pub says : answer ≡ wildcard_told n t (find (is_hash_match a p value) listed)
-      (find (is_hash_cover a p value) listed)
+  pub known : hash_name R.hash (wildcard_below (last_labels n x)) ≡ Ok value
+  pub says : answer ≡ wildcard_told n t (first_match R value) (first_cover R value)
 
 -- where the closest encloser leaves no more to ask than the wildcard, that is asked for
-abbrev pub IsReadOn : List HashedLink → Name → Parameters → Hash → Name → ℕ → Answer → Answer
-    → Type 0
-IsReadOn listed a p hash x t (NoCloserName n) answer = IsWildcardRead listed a p hash x t n answer
-IsReadOn listed a p hash x t first answer = answer ≡ first
+abbrev pub IsReadOn : HashedRecords → Name → ℕ → Answer → Answer → Type 0
+IsReadOn R x t (NoCloserName n) answer = IsWildcardRead R x t n answer
+IsReadOn R x t first answer = answer ≡ first
 
 -- what the list says of a name at or below the apex
-pub record IsHashedRead (listed : List HashedLink) (a : Name) (p : Parameters) (hash : Hash)
-    (x : Name) (t : ℕ) (answer : Answer) : Type 0 where
+pub record IsHashedRead (R : HashedRecords) (x : Name) (t : ℕ) (answer : Answer) : Type 0 where
   pub found : Option Encloser
-  pub is : IsFoundEncloser listed a p hash x found
-  pub ends : IsReadOn listed a p hash x t (found_answer a found (length x) t) answer
+  pub is : IsFoundEncloser R x found
+  pub ends : IsReadOn R x t (found_answer R.apex found (length x) t) answer
 
 -- the hasher refuses the wildcard below the closest encloser, which is asked for
-pub record IsWildcardRefusal (listed : List HashedLink) (a : Name) (p : Parameters) (hash : Hash)
-    (x : Name) (t reason : ℕ) : Type 0 where
+pub record IsWildcardRefusal (R : HashedRecords) (x : Name) (t reason : ℕ) : Type 0 where
   pub encloser : Encloser
-  pub is : IsEncloser listed a p hash x encloser
-  pub asks : encloser_answer a encloser (length x) t ≡ NoCloserName encloser.count
-  pub refused : hash_name hash (wildcard_below (last_labels encloser.count x)) ≡ Err reason
+  pub is : IsEncloser R x encloser
+  pub asks : encloser_answer R.apex encloser (length x) t ≡ NoCloserName encloser.count
+  pub refused : hash_name R.hash (wildcard_below (last_labels encloser.count x)) ≡ Err reason
 
 -- it is the first refusal among the names that are asked for
-abbrev pub IsFirstOfRefusals : List HashedLink → Name → Parameters → Hash → Name → ℕ → ℕ → Type 0
-IsFirstOfRefusals listed a p hash x t reason =
-    IsFirstRefusal listed a p hash x reason ⊎ IsWildcardRefusal listed a p hash x t reason
+abbrev pub IsFirstOfRefusals : HashedRecords → Name → ℕ → ℕ → Type 0
+IsFirstOfRefusals R x t reason = IsFirstRefusal R x reason ⊎ IsWildcardRefusal R x t reason

@@ -4,7 +4,7 @@ ghost use Rattle.domain_base.specs.Name.{is_at_or_below};
 ghost use Rattle.domain_nsec3.specs.Config.{hash_name};
 ghost use Rattle.domain_hasher.specs.declared.error.Nsec3HashError.TheVariants as hash_error;
 ghost use Rattle.domain_checker.specs.HashedPass.{found_cover, found_match};
-ghost use Rattle.domain_checker.specs.HashedView.{hash_with, links, parameters};
+ghost use Rattle.domain_checker.specs.HashedView.{hash_with, hashed_records, parameters};
 ghost use Rattle.domain_answer.specs.Expansion.{closer_name, closer_told, is_expanded};
 ghost use Rattle.domain_answer.specs.Expansion.{ExpansionRestsOn, IsExpansionAnswered, IsExpansionRead};
 ghost use Rattle.domain_answer.specs.Proved.{CountsWithin};
@@ -57,8 +57,8 @@ fn read_expansion<A: ToName, O: Octets, N: ToName, M: ToName, H: Nsec3Hasher>(
     hasher: &H,
 ) -> Result<Answer, Nsec3HashError>
     requires { labels < length (M.labels name.now) }
-    ensures ok { IfOk result (IsExpansionRead (links N.labels records.now) (A.labels apex.now)
-        (parameters records.now) (hash_with (H.answer hasher.now) records.now)
+    ensures ok { IfOk result (IsExpansionRead
+        (hashed_records (A.labels apex.now) N.labels (H.answer hasher.now) records.now)
         (M.labels name.now) labels) }
     ensures refusal { (n : ℕ) → IsErrOf result (hash_error.Hasher n)
         → hash_name (hash_with (H.answer hasher.now) records.now)
@@ -117,19 +117,19 @@ pub fn judge_nsec3_expansion<A: ToName, O: Octets, N: ToName, M: ToName, H: Nsec
     // name.
     ensures zone { is_expanded (A.labels apex.now) (M.labels name.now) labels ≡ true
         → (parameters records.now).iterations ≤ limit
-        → IfOk result (IsExpansionAnswered (links N.labels records.now) (A.labels apex.now)
-        (parameters records.now) (hash_with (H.answer hasher.now) records.now)
+        → IfOk result (IsExpansionAnswered
+        (hashed_records (A.labels apex.now) N.labels (H.answer hasher.now) records.now)
         (M.labels name.now) labels) }
 
     // For any list at all, the answer is what the records say by themselves, and those that it
     // rests on are there.
     ensures exact { is_expanded (A.labels apex.now) (M.labels name.now) labels ≡ true
         → (parameters records.now).iterations ≤ limit
-        → IfOk result (IsExpansionRead (links N.labels records.now) (A.labels apex.now)
-        (parameters records.now) (hash_with (H.answer hasher.now) records.now)
+        → IfOk result (IsExpansionRead
+        (hashed_records (A.labels apex.now) N.labels (H.answer hasher.now) records.now)
         (M.labels name.now) labels) }
-    ensures proof { IfOk result (ExpansionRestsOn (links N.labels records.now) (A.labels apex.now)
-        (parameters records.now) (hash_with (H.answer hasher.now) records.now)
+    ensures proof { IfOk result (ExpansionRestsOn
+        (hashed_records (A.labels apex.now) N.labels (H.answer hasher.now) records.now)
         (M.labels name.now) labels) }
     ensures within { IfOk result (CountsWithin (length (M.labels name.now))) }
 

@@ -7,7 +7,7 @@ ghost use Rattle.domain_nsec3.specs.View.{as_hashed_link};
 ghost use Rattle.domain_hasher.specs.declared.error.Nsec3HashError.TheVariants as hash_error;
 ghost use Rattle.domain_checker.specs.HashedEncloser.{encloser_of};
 ghost use Rattle.domain_checker.specs.HashedPass.{found_cover, found_match};
-ghost use Rattle.domain_checker.specs.HashedView.{hash_with, links, parameters};
+ghost use Rattle.domain_checker.specs.HashedView.{hash_with, hashed_records, parameters};
 ghost use Rattle.domain_answer.specs.HashedProved.{HashedRestsOn, IsHashedAnswered};
 ghost use Rattle.domain_answer.specs.HashedReading.{found_answer, lower_answer, next_answer, own_answer, wildcard_told};
 ghost use Rattle.domain_answer.specs.HashedReading.{IsFirstOfRefusals, IsHashedRead, IsWildcardRead};
@@ -138,8 +138,8 @@ fn read_wildcard<A: ToName, O: Octets, N: ToName, M: ToName, H: Nsec3Hasher>(
     hasher: &H,
 ) -> Result<Answer, Nsec3HashError>
     requires { count < length (M.labels name.now) }
-    ensures ok { IfOk result (IsWildcardRead (links N.labels records.now) (A.labels apex.now)
-        (parameters records.now) (hash_with (H.answer hasher.now) records.now)
+    ensures ok { IfOk result (IsWildcardRead
+        (hashed_records (A.labels apex.now) N.labels (H.answer hasher.now) records.now)
         (M.labels name.now) rtype count) }
     ensures refusal { (n : ℕ) → IsErrOf result (hash_error.Hasher n)
         → hash_name (hash_with (H.answer hasher.now) records.now)
@@ -165,12 +165,12 @@ fn read_nsec3<A: ToName, O: Octets, N: ToName, M: ToName, H: Nsec3Hasher>(
     rtype: Rtype,
     hasher: &H,
 ) -> Result<Answer, Nsec3HashError>
-    ensures ok { IfOk result (IsHashedRead (links N.labels records.now) (A.labels apex.now)
-        (parameters records.now) (hash_with (H.answer hasher.now) records.now)
+    ensures ok { IfOk result (IsHashedRead
+        (hashed_records (A.labels apex.now) N.labels (H.answer hasher.now) records.now)
         (M.labels name.now) rtype) }
     ensures refusal { (n : ℕ) → IsErrOf result (hash_error.Hasher n)
-        → IsFirstOfRefusals (links N.labels records.now) (A.labels apex.now)
-        (parameters records.now) (hash_with (H.answer hasher.now) records.now)
+        → IsFirstOfRefusals
+        (hashed_records (A.labels apex.now) N.labels (H.answer hasher.now) records.now)
         (M.labels name.now) rtype n }
     ensures errors { IfErr result (λ e. (e ≡ hash_error.OutOfMemory)
         ⊎ ((n : ℕ) × (e ≡ hash_error.Hasher n))) }
@@ -235,27 +235,27 @@ pub fn judge_nsec3<A: ToName, O: Octets, N: ToName, M: ToName, H: Nsec3Hasher>(
     // For records of the chain of any zone, within the limit, the answer of that zone, as far as
     // they prove it.
     ensures zone { (parameters records.now).iterations ≤ limit
-        → IfOk result (IsHashedAnswered (links N.labels records.now) (A.labels apex.now)
-        (parameters records.now) (hash_with (H.answer hasher.now) records.now)
+        → IfOk result (IsHashedAnswered
+        (hashed_records (A.labels apex.now) N.labels (H.answer hasher.now) records.now)
         (M.labels name.now) rtype) }
 
     // For any list at all, the answer is what the records say by themselves, those that it rests on
     // are there, and the labels that it counts are labels of the name.
     ensures exact { needs_no_records (A.labels apex.now) (M.labels name.now) rtype ≡ false
         → (parameters records.now).iterations ≤ limit
-        → IfOk result (IsHashedRead (links N.labels records.now) (A.labels apex.now)
-        (parameters records.now) (hash_with (H.answer hasher.now) records.now)
+        → IfOk result (IsHashedRead
+        (hashed_records (A.labels apex.now) N.labels (H.answer hasher.now) records.now)
         (M.labels name.now) rtype) }
-    ensures proof { IfOk result (HashedRestsOn (links N.labels records.now) (A.labels apex.now)
-        (parameters records.now) (hash_with (H.answer hasher.now) records.now)
+    ensures proof { IfOk result (HashedRestsOn
+        (hashed_records (A.labels apex.now) N.labels (H.answer hasher.now) records.now)
         (M.labels name.now)) }
     ensures within { IfOk result (CountsWithin (length (M.labels name.now))) }
 
     // An error is the first refusal, or want of memory; and an answer comes only where no name that
     // is asked for is refused (`exact`).
     ensures refusal { (n : ℕ) → IsErrOf result (hash_error.Hasher n)
-        → IsFirstOfRefusals (links N.labels records.now) (A.labels apex.now)
-        (parameters records.now) (hash_with (H.answer hasher.now) records.now)
+        → IsFirstOfRefusals
+        (hashed_records (A.labels apex.now) N.labels (H.answer hasher.now) records.now)
         (M.labels name.now) rtype n }
     ensures errors { IfErr result (λ e. (e ≡ hash_error.OutOfMemory)
         ⊎ ((n : ℕ) × (e ≡ hash_error.Hasher n))) }

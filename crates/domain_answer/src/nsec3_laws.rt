@@ -7,9 +7,10 @@ ghost use Rattle.domain_base.specs.Words.{Name};
 ghost use Rattle.domain_chain_rdata.specs.OptOut.{is_opt_out};
 ghost use Rattle.domain_zone.specs.Zone.{has_type, is_occluded, ZoneRecord};
 ghost use Rattle.domain_nsec3.specs.Chain.{HashedLink, IsHashedChain};
-ghost use Rattle.domain_nsec3.specs.Config.{ChainConfig, Hash, Parameters};
+ghost use Rattle.domain_nsec3.specs.Config.{ChainConfig};
 ghost use Rattle.domain_nsec3.specs.Meaning.{IsAlone};
 ghost use Rattle.domain_checker.specs.Alike.{ArePaired, IsHashedAlike, IsPairedIn};
+ghost use Rattle.domain_checker.specs.HashedView.{HashedRecords, chain_records, with_links};
 ghost use Rattle.domain_answer.specs.Expansion.{closer_name, is_expanded, missing_closer, proved_expansion, ExpansionRestsOn, IsExpansionAnswered, IsExpansionRead};
 ghost use Rattle.domain_answer.specs.HashedMeaning.{ChainsAreMeant};
 ghost use Rattle.domain_answer.specs.HashedProved.{hashed_proved_answer, AreAskedAlone, HashedRestsOn, IsHashedAnswered};
@@ -37,16 +38,13 @@ fn hashed_chains_are_meant()
 /// What any NSEC3 records say by themselves is what they prove of the zone; the records that the
 /// answer rests on are among them; and the labels that it counts are labels of the name.
 pub fn hashed_readings_are_proved()
-    ensures zone { (listed : List HashedLink) (a : Name) (p : Parameters) (hash : Hash) (x : Name)
-        (t : ℕ) (answer : Answer) → t < 65536 → is_at_or_below x a ≡ true
-        → is_at_parent a x t ≡ false → IsHashedRead listed a p hash x t answer
-        → IsHashedAnswered listed a p hash x t answer }
-    ensures proof { (listed : List HashedLink) (a : Name) (p : Parameters) (hash : Hash) (x : Name)
-        (t : ℕ) (answer : Answer) → IsHashedRead listed a p hash x t answer
-        → HashedRestsOn listed a p hash x answer }
-    ensures within { (listed : List HashedLink) (a : Name) (p : Parameters) (hash : Hash)
-        (x : Name) (t : ℕ) (answer : Answer) → IsHashedRead listed a p hash x t answer
-        → CountsWithin (length x) answer }
+    ensures zone { (R : HashedRecords) (x : Name) (t : ℕ) (answer : Answer) → t < 65536
+        → is_at_or_below x R.apex ≡ true → is_at_parent R.apex x t ≡ false
+        → IsHashedRead R x t answer → IsHashedAnswered R x t answer }
+    ensures proof { (R : HashedRecords) (x : Name) (t : ℕ) (answer : Answer)
+        → IsHashedRead R x t answer → HashedRestsOn R x answer }
+    ensures within { (R : HashedRecords) (x : Name) (t : ℕ) (answer : Answer)
+        → IsHashedRead R x t answer → CountsWithin (length x) answer }
 {
     hashed_chains_are_meant();
 }
@@ -56,16 +54,14 @@ pub fn hashed_readings_are_proved()
 /// counts are fewer than those of the name. In a zone that has the wildcard, and no next closer
 /// name, the wildcard is the one right below the closest encloser.
 pub fn expansions_are_proved()
-    ensures zone { (listed : List HashedLink) (a : Name) (p : Parameters) (hash : Hash) (x : Name)
-        (n : ℕ) (answer : Answer) → is_expanded a x n ≡ true
-        → IsExpansionRead listed a p hash x n answer
-        → IsExpansionAnswered listed a p hash x n answer }
-    ensures proof { (listed : List HashedLink) (a : Name) (p : Parameters) (hash : Hash) (x : Name)
-        (n : ℕ) (answer : Answer) → IsExpansionRead listed a p hash x n answer
-        → ExpansionRestsOn listed a p hash x n answer }
-    ensures within { (listed : List HashedLink) (a : Name) (p : Parameters) (hash : Hash)
-        (x : Name) (n : ℕ) (answer : Answer) → is_expanded a x n ≡ true
-        → IsExpansionRead listed a p hash x n answer → CountsWithin (length x) answer }
+    ensures zone { (R : HashedRecords) (x : Name) (n : ℕ) (answer : Answer)
+        → is_expanded R.apex x n ≡ true → IsExpansionRead R x n answer
+        → IsExpansionAnswered R x n answer }
+    ensures proof { (R : HashedRecords) (x : Name) (n : ℕ) (answer : Answer)
+        → IsExpansionRead R x n answer → ExpansionRestsOn R x n answer }
+    ensures within { (R : HashedRecords) (x : Name) (n : ℕ) (answer : Answer)
+        → is_expanded R.apex x n ≡ true → IsExpansionRead R x n answer
+        → CountsWithin (length x) answer }
     ensures encloser { (L : List ZoneRecord) (a : Name) (config : ChainConfig) (x : Name) (n : ℕ)
         → is_expanded a x n ≡ true
         → hashed_exists L a config (wildcard_below (last_labels n x)) ≡ true
@@ -79,15 +75,15 @@ pub fn expansions_are_proved()
 /// it is what the zone says, as far as they prove it, also where they are records of its chain but
 /// for these.
 pub fn hashed_readings_ignore_case_and_ttl()
-    ensures alike { (listed other : List HashedLink) (a : Name) (p : Parameters) (hash : Hash)
-        (x : Name) (t : ℕ) (answer : Answer) → ArePaired IsHashedAlike listed other
-        → IsHashedRead listed a p hash x t answer → IsHashedRead other a p hash x t answer }
+    ensures alike { (R : HashedRecords) (other : List HashedLink) (x : Name) (t : ℕ)
+        (answer : Answer) → ArePaired IsHashedAlike R.links other → IsHashedRead R x t answer
+        → IsHashedRead (with_links R other) x t answer }
     ensures proved { (listed : List HashedLink) (a x : Name) (t : ℕ) (answer : Answer) → t < 65536
         → is_at_or_below x a ≡ true → is_at_parent a x t ≡ false
         → (L : List ZoneRecord) (config : ChainConfig) (links : List HashedLink)
         → HashedLeavesOutBelowDname L a config → IsHashedChain L a config links
         → AreAskedAlone L a config x → All (IsPairedIn IsHashedAlike links) listed
-        → IsHashedRead listed a config.parameters config.hash x t answer
+        → IsHashedRead (chain_records a config listed) x t answer
         → answer ≡ hashed_proved_answer L a config listed x t }
 {
     hashed_readings_are_proved();
@@ -95,16 +91,15 @@ pub fn hashed_readings_ignore_case_and_ttl()
 
 /// The same of a name whose records were expanded from a wildcard.
 pub fn expansions_ignore_case_and_ttl()
-    ensures alike { (listed other : List HashedLink) (a : Name) (p : Parameters) (hash : Hash)
-        (x : Name) (n : ℕ) (answer : Answer) → ArePaired IsHashedAlike listed other
-        → IsExpansionRead listed a p hash x n answer
-        → IsExpansionRead other a p hash x n answer }
+    ensures alike { (R : HashedRecords) (other : List HashedLink) (x : Name) (n : ℕ)
+        (answer : Answer) → ArePaired IsHashedAlike R.links other → IsExpansionRead R x n answer
+        → IsExpansionRead (with_links R other) x n answer }
     ensures proved { (listed : List HashedLink) (a x : Name) (n : ℕ) (answer : Answer)
         → is_expanded a x n ≡ true
         → (L : List ZoneRecord) (config : ChainConfig) (links : List HashedLink) (value : Octets)
         → IsHashedChain L a config links → IsAlone L a config (closer_name n x) value
         → All (IsPairedIn IsHashedAlike links) listed
-        → IsExpansionRead listed a config.parameters config.hash x n answer
+        → IsExpansionRead (chain_records a config listed) x n answer
         → answer ≡ proved_expansion L a config listed x n }
 {
     expansions_are_proved();

@@ -19,11 +19,12 @@ use Rattle.domain_zone.specs.Covering.{covers, matches}
 use Rattle.domain_zone.specs.Zone.{ZoneRecord, is_zone_cut}
 use Rattle.domain_zone.proofs.NameLemmas.{one_lowered, same_lowered}
 use Rattle.domain_nsec3.specs.Chain.{HashedLink}
-use Rattle.domain_nsec3.specs.Config.{ChainConfig, Hash, Parameters, hash_name}
+use Rattle.domain_nsec3.specs.Config.{ChainConfig, Parameters, hash_name}
 use Rattle.domain_nsec3.specs.Meaning.{octets_before}
 use Rattle.domain_nsec3.specs.Owners.{original_owners}
 use Rattle.domain_checker.specs.Alike.{ArePaired, IsHashedAlike}
 use Rattle.domain_checker.specs.HashedList.{hash_in, is_hash_cover, is_hash_match, is_some_with, is_spelling, owner_hash, read_label, same_parameters}
+use Rattle.domain_checker.specs.HashedView.{HashedRecords, chain_records, first_cover, first_match, with_links}
 use Rattle.domain_checker.specs.HashedReading.{IsWalked, hash_cover_verdict, hash_match_verdict, is_none, tells_cut, told_verdict}
 use Rattle.domain_checker.specs.HashedVerdict.{IsFirst, hashed_proved_verdict, hashed_zone_verdict, is_covered, is_matched}
 use Rattle.domain_checker.specs.HashedVerdict.{is_ok_with, missing_verdict, next_closer, proves}
@@ -102,14 +103,18 @@ module _ (a : Name) (p : Parameters) (k l : HashedLink) (alike : IsHashedAlike k
 
 -- ---- lists
 
-module _ (a : Name) (p : Parameters) (hash : Hash) (ks ls : List HashedLink) (alike : ArePaired IsHashedAlike ks ls) where
-  pub matched_alike : (n : Name) → is_matched a p hash ks n ≡ is_matched a p hash ls n
-  matched_alike n = λ i. is_ok_with (λ v. any_alike IsHashedAlike (is_hash_match a p v)
-      (λ k l h. hash_match_alike a p k l h v) ks ls alike i) (hash_name hash n)
+-- other records, each like the one at its place
+module _ (R : HashedRecords) (ls : List HashedLink) (alike : ArePaired IsHashedAlike R.links ls) where
+  abbrev S : HashedRecords
+  S = with_links R ls
 
-  pub covered_alike : (n : Name) → is_covered a p hash ks n ≡ is_covered a p hash ls n
-  covered_alike n = λ i. is_ok_with (λ v. any_alike IsHashedAlike (is_hash_cover a p v)
-      (λ k l h. hash_cover_alike a p k l h v) ks ls alike i) (hash_name hash n)
+  pub matched_alike : (n : Name) → is_matched R n ≡ is_matched S n
+  matched_alike n = λ i. is_ok_with (λ v. any_alike IsHashedAlike (is_hash_match R.apex R.parameters v)
+      (λ k l h. hash_match_alike R.apex R.parameters k l h v) R.links ls alike i) (hash_name R.hash n)
+
+  pub covered_alike : (n : Name) → is_covered R n ≡ is_covered S n
+  covered_alike n = λ i. is_ok_with (λ v. any_alike IsHashedAlike (is_hash_cover R.apex R.parameters v)
+      (λ k l h. hash_cover_alike R.apex R.parameters k l h v) R.links ls alike i) (hash_name R.hash n)
 
   cover_says_alike : (count : ℕ) (m n : Option HashedLink) → OptionsPaired IsHashedAlike m n → hash_cover_verdict count m ≡ hash_cover_verdict count n
   cover_says_alike count None None h = refl
@@ -118,32 +123,32 @@ module _ (a : Name) (p : Parameters) (hash : Hash) (ks ls : List HashedLink) (al
   cover_says_alike count (Some k) (Some l) h = ap (λ f. missing_verdict (is_opt_out f) count) h.flags
 
   told_alike : (d : Name) (k l : HashedLink) → IsHashedAlike k l → (t : ℕ) (next : Option Octets)
-      → told_verdict a p ks d k t next ≡ told_verdict a p ls d l t next
-  told_alike d k l h t None = match_says_alike a p k l h d t
+      → told_verdict R d k t next ≡ told_verdict S d l t next
+  told_alike d k l h t None = match_says_alike R.apex R.parameters k l h d t
   told_alike d k l h t (Some v) =
-      let covering = find_alike IsHashedAlike (is_hash_cover a p v) (λ k l h. hash_cover_alike a p k l h v) ks ls alike in
-      λ i. cond (cut_alike a p k l h d i) BelowDelegation (cover_says_alike (length d) (find (is_hash_cover a p v) ks)
-      (find (is_hash_cover a p v) ls) covering i)
+      let covering = find_alike IsHashedAlike (is_hash_cover R.apex R.parameters v) (λ k l h. hash_cover_alike R.apex R.parameters k l h v) R.links ls alike in
+      λ i. cond (cut_alike R.apex R.parameters k l h d i) BelowDelegation (cover_says_alike (length d) (first_cover R v)
+      (first_cover S v) covering i)
 
   module _ (x : Name) (t : ℕ) (verdict : Verdict) where
-    first_alike : (d : Name) → IsFirst a p hash ks x d → IsFirst a p hash ls x d
+    first_alike : (d : Name) → IsFirst R x d → IsFirst S x d
     first_alike d first = λ y up below. let f = first y up below in (f.0, f.1, sym (matched_alike y) ∙ f.2)
 
     -- the first match in the one list, and in the other
-    found_alike : (v : Octets) (k : HashedLink) → find (is_hash_match a p v) ks ≡ Some k
-        → (l : HashedLink) × IsHashedAlike k l × (find (is_hash_match a p v) ls ≡ Some l)
+    found_alike : (v : Octets) (k : HashedLink) → first_match R v ≡ Some k
+        → (l : HashedLink) × IsHashedAlike k l × (first_match S v ≡ Some l)
     found_alike v k e =
-        by (find (is_hash_match a p v) ls) refl
-        (subst (λ o. OptionsPaired IsHashedAlike o (find (is_hash_match a p v) ls)) e
-        (find_alike IsHashedAlike (is_hash_match a p v) (λ k l h. hash_match_alike a p k l h v) ks ls alike))
+        by (first_match S v) refl
+        (subst (λ o. OptionsPaired IsHashedAlike o (first_match S v)) e
+        (find_alike IsHashedAlike (is_hash_match R.apex R.parameters v) (λ k l h. hash_match_alike R.apex R.parameters k l h v) R.links ls alike))
       where
-        by : (o : Option HashedLink) → find (is_hash_match a p v) ls ≡ o
-            → OptionsPaired IsHashedAlike (Some k) (find (is_hash_match a p v) ls)
-            → (l : HashedLink) × IsHashedAlike k l × (find (is_hash_match a p v) ls ≡ Some l)
+        by : (o : Option HashedLink) → first_match S v ≡ o
+            → OptionsPaired IsHashedAlike (Some k) (first_match S v)
+            → (l : HashedLink) × IsHashedAlike k l × (first_match S v ≡ Some l)
         by None f h = absurd (subst (OptionsPaired IsHashedAlike (Some k)) f h)
         by (Some l) f h = (l, subst (OptionsPaired IsHashedAlike (Some k)) f h, f)
 
-    pub walked_alike : IsWalked ks a p hash x t verdict → IsWalked ls a p hash x t verdict
+    pub walked_alike : IsWalked R x t verdict → IsWalked S x t verdict
     walked_alike (inl w) =
         let other = found_alike w.value w.link w.found in
         inl (record {
@@ -170,8 +175,8 @@ module _ (L : List ZoneRecord) (a : Name) (config : ChainConfig) (x : Name) (t :
 
   proves_alike : proves L a config ks x ≡ proves L a config ls x
   proves_alike =
-      λ i. matched_alike a config.parameters config.hash ks ls alike en i
-      && ((same_name en x || is_zone_cut L a en) || covered_alike a config.parameters config.hash ks ls alike (next_closer x en) i)
+      λ i. matched_alike (chain_records a config ks) ls alike en i
+      && ((same_name en x || is_zone_cut L a en) || covered_alike (chain_records a config ks) ls alike (next_closer x en) i)
 
   pub proved_alike : hashed_proved_verdict L a config ks x t ≡ hashed_proved_verdict L a config ls x t
   proved_alike = λ i. cond (not (is_at_or_below x a) || proves_alike i) (hashed_zone_verdict L a config x t) NotProven

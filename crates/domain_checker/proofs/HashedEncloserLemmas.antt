@@ -11,11 +11,12 @@ use Rattle.domain_zone.specs.Zone.{ZoneRecord, has_type, records_of}
 use Rattle.domain_zone.proofs.NameLemmas.{below_trans}
 use Rattle.domain_zone.proofs.ZoneLemmas.{same_back}
 use Rattle.domain_nsec3.specs.Chain.{HashedLink}
-use Rattle.domain_nsec3.specs.Config.{ChainConfig, Hash, Parameters}
+use Rattle.domain_nsec3.specs.Config.{ChainConfig}
 use Rattle.domain_nsec3.specs.Meaning.{IsAlone}
 use Rattle.domain_nsec3.specs.Owners.{is_chain_name, nsec3_lists}
 use Rattle.domain_checker.specs.HashedFacts.{ChainFacts}
 use Rattle.domain_checker.specs.HashedList.{is_hash_cover, is_hash_match}
+use Rattle.domain_checker.specs.HashedView.{HashedRecords}
 use Rattle.domain_checker.specs.HashedEncloser.{Encloser, IsDenial, IsEncloser, IsFoundEncloser, IsOfName}
 use Rattle.domain_checker.specs.HashedEncloser.{encloser_is_cut, encloser_verdict, found_verdict, lower_verdict, next_cover, own_verdict}
 use Rattle.domain_checker.specs.HashedReading.{IsNextHash, IsTold, IsUnmatched, IsWalked, hash_cover_verdict, is_none, tells_cut, told_verdict}
@@ -33,8 +34,8 @@ test_is m n b f g =
       | inr e ↦ ne_eqb m n (λ q. false≢true (sym e ∙ f q)) ∙ sym e
     ]
 
-module _ (listed : List HashedLink) (a : Name) (p : Parameters) (hash : Hash) (x : Name) (e : Encloser)
-    (is : IsEncloser listed a p hash x e) where
+module _ (R : HashedRecords) (x : Name) (e : Encloser)
+    (is : IsEncloser R x e) where
   -- whether it is x itself
   pub itself_counted : nat_eq e.count (length x) ≡ same_name is.name x
   itself_counted =
@@ -43,14 +44,14 @@ module _ (listed : List HashedLink) (a : Name) (p : Parameters) (hash : Hash) (x
       (λ q. same_back x is.name (same_length x is.name is.first.above (omega arith))) (same_count is.name x)
 
   -- whether it is a zone cut
-  pub cut_counted : encloser_is_cut a e ≡ tells_cut a is.name e.link
+  pub cut_counted : encloser_is_cut R.apex e ≡ tells_cut R.apex is.name e.link
   cut_counted =
-      ap (λ n. not (nat_eq n (length a)) && contains_type e.link.bits ns) is.counts
-      ∙ ap (λ b. not b && contains_type e.link.bits ns) (test_is (length is.name) (length a) (same_name is.name a)
-      (λ q. same_length is.name a is.first.within (omega arith)) (same_count is.name a))
+      ap (λ n. not (nat_eq n (length R.apex)) && contains_type e.link.bits ns) is.counts
+      ∙ ap (λ b. not b && contains_type e.link.bits ns) (test_is (length is.name) (length R.apex) (same_name is.name R.apex)
+      (λ q. same_length is.name R.apex is.first.within (omega arith)) (same_count is.name R.apex))
 
   -- what is told of x by how many labels there are
-  pub encloser_told : (t : ℕ) → IsTold listed a p hash x t (encloser_verdict a e (length x) t)
+  pub encloser_told : (t : ℕ) → IsTold R x t (encloser_verdict R.apex e (length x) t)
   encloser_told t = record {
     name = is.name;
     link = e.link;
@@ -63,26 +64,26 @@ module _ (listed : List HashedLink) (a : Name) (p : Parameters) (hash : Hash) (x
     says = by is.next is.closes is.covers;
   }
     where
-      by : (next : Option Octets) → IsNextHash hash x is.name next → e.cover ≡ next_cover a p listed next
-          → encloser_verdict a e (length x) t ≡ told_verdict a p listed is.name e.link t next
+      by : (next : Option Octets) → IsNextHash R.hash x is.name next → e.cover ≡ next_cover R next
+          → encloser_verdict R.apex e (length x) t ≡ told_verdict R is.name e.link t next
       by None s c =
-          (λ i. cond ((itself_counted ∙ s) i) (own_verdict a e t) (lower_verdict a e))
+          (λ i. cond ((itself_counted ∙ s) i) (own_verdict R.apex e t) (lower_verdict R.apex e))
           ∙ (λ i. cond (contains_type e.link.bits t) Has (cond (cut_counted i && not (nat_eq t ds)) BelowDelegation
           (cond (is_none (types_of e.link.bits)) EmptyName NoType)))
       by (Some v) s c =
-          (λ i. cond ((itself_counted ∙ s.0) i) (own_verdict a e t) (lower_verdict a e))
+          (λ i. cond ((itself_counted ∙ s.0) i) (own_verdict R.apex e t) (lower_verdict R.apex e))
           ∙ (λ i. cond (cut_counted i) BelowDelegation (hash_cover_verdict (is.counts i) (c i)))
 
 -- what is found gives what the way gives
-pub found_walked : (listed : List HashedLink) (a : Name) (p : Parameters) (hash : Hash) (x : Name) (t : ℕ) (o : Option Encloser)
-    → IsFoundEncloser listed a p hash x o → IsWalked listed a p hash x t (found_verdict a o (length x) t)
-found_walked listed a p hash x t None none = inr (refl, none)
-found_walked listed a p hash x t (Some e) is = inl (encloser_told listed a p hash x e is t)
+pub found_walked : (R : HashedRecords) (x : Name) (t : ℕ) (o : Option Encloser)
+    → IsFoundEncloser R x o → IsWalked R x t (found_verdict R.apex o (length x) t)
+found_walked R x t None none = inr (refl, none)
+found_walked R x t (Some e) is = inl (encloser_told R x e is t)
 
 -- a name that is not at or below the apex has no ancestor there
-pub outside_unmatched : (listed : List HashedLink) (a : Name) (p : Parameters) (hash : Hash) (x : Name)
-    → is_at_or_below x a ≡ false → IsUnmatched listed a p hash x
-outside_unmatched listed a p hash x out = λ y up low. absurd (false≢true (sym out ∙ below_trans x y a up low))
+pub outside_unmatched : (R : HashedRecords) (x : Name)
+    → is_at_or_below x R.apex ≡ false → IsUnmatched R x
+outside_unmatched R x out = λ y up low. absurd (false≢true (sym out ∙ below_trans x y R.apex up low))
 
 -- ---- one record of a zone's chain
 

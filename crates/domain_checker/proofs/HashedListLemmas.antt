@@ -28,6 +28,7 @@ use Rattle.domain_nsec3.specs.Meaning.{IsRecordOf, octets_before}
 use Rattle.domain_nsec3.specs.Owners.{is_chain_name, nsec3_lists}
 use Rattle.domain_checker.specs.HashedFacts.{ChainFacts}
 use Rattle.domain_checker.specs.HashedList.{same_parameters, is_spelling, read_label, hash_in, owner_hash, is_some_with, is_hash_match, is_hash_cover}
+use Rattle.domain_checker.specs.HashedView.{chain_records}
 use Rattle.domain_checker.specs.HashedVerdict.{is_covered, is_matched, is_ok_with}
 use Rattle.domain_checker.proofs.FindLemmas.{in_at, in_pairs, Stands}
 
@@ -104,14 +105,14 @@ module _ (L : List ZoneRecord) (a : Name) (config : ChainConfig) (links : List H
 
   -- what a record of the chain says of the hash of a name, a list says that has the record
   module _ (listed : List HashedLink) (has : (k : HashedLink) → In k links → In k listed) (d : Name) where
-    pub matched_in : IsMatched a config links d → is_matched a config.parameters config.hash listed d ≡ true
+    pub matched_in : IsMatched a config links d → is_matched (chain_records a config listed) d ≡ true
     matched_in m =
         let i = in_at links m.place m.link m.is.there in
         ap (is_ok_with (λ v. list_any (is_hash_match a config.parameters v) listed)) m.known
         ∙ in_any (is_hash_match a config.parameters m.value) listed m.link (has m.link i)
         (ap (is_some_with (λ h. matches octets_before h m.value)) (hash_at m.link i m.hash m.is.octets m.is.spelled) ∙ m.says)
 
-    pub covered_in : IsCovered a config links d → is_covered a config.parameters config.hash listed d ≡ true
+    pub covered_in : IsCovered a config links d → is_covered (chain_records a config listed) d ≡ true
     covered_in m =
         let i = in_at links m.place m.link m.is.there in
         ap (is_ok_with (λ v. list_any (is_hash_cover a config.parameters v) listed)) m.known

@@ -20,12 +20,13 @@ use Rattle.domain_zone.proofs.PairLemmas.{In}
 use Rattle.domain_zone.proofs.OwnerLemmas.{any_in, in_any, typed_owns}
 use Rattle.domain_zone.proofs.ZoneLemmas.{same_back}
 use Rattle.domain_nsec3.specs.Chain.{HashedLink, IsHashedChain}
-use Rattle.domain_nsec3.specs.Config.{ChainConfig, Hash, Parameters, hash_name}
+use Rattle.domain_nsec3.specs.Config.{ChainConfig, hash_name}
 use Rattle.domain_nsec3.specs.Meaning.{AreAlone, IsAlone}
 use Rattle.domain_nsec3.specs.Owners.{is_chain_name, is_empty, is_excluded, is_listed, is_original_owner, is_unsigned_cut, nsec3_lists, original_owners}
 use Rattle.domain_checker.specs.HashedFacts.{ChainFacts, ChainsAreKnown}
 use Rattle.domain_checker.specs.HashedList.{is_hash_match, is_hash_cover}
 use Rattle.domain_checker.specs.HashedReading.{is_none, tells_cut, hash_match_verdict, hash_cover_verdict, told_verdict, IsNextHash, IsUnmatched, IsWalked}
+use Rattle.domain_checker.specs.HashedView.{HashedRecords, chain_records, first_cover, first_match}
 use Rattle.domain_checker.specs.HashedVerdict.{is_below_chain_cut, original_verdict, missing_verdict, hashed_zone_verdict, next_closer}
 use Rattle.domain_checker.specs.HashedVerdict.{is_ok_with, is_matched, is_covered, proves, hashed_proved_verdict}
 use Rattle.domain_checker.specs.HashedVerdict.{IsHashedProved, IsFirstMatched, lists_ns, is_told_cut, HasHashedProof}
@@ -135,10 +136,10 @@ module _ (L : List ZoneRecord) (a : Name) (config : ChainConfig) (links : List H
   en = closest_encloser (original_owners L a config) a x
 
   abbrev matched : Name → Bool
-  matched = is_matched a config.parameters config.hash listed
+  matched = is_matched (chain_records a config listed)
 
   abbrev covered : Name → Bool
-  covered = is_covered a config.parameters config.hash listed
+  covered = is_covered (chain_records a config listed)
 
   closest : IsClosestEncloser (original_owners L a config) a x (closest_encloser (original_owners L a config) a x)
   closest = let e = facts.tells.encloser x low in closest_is (original_owners L a config) a x (apex_from (original_owners L a config) a e.0 e.1.found) low
@@ -169,18 +170,18 @@ module _ (L : List ZoneRecord) (a : Name) (config : ChainConfig) (links : List H
   within_links k i = let s = among k i in in_at links s.place k s.there
 
   -- without the record of the closest encloser nothing is proved
-  untold : (t : ℕ) → is_matched a config.parameters config.hash listed (closest_encloser (original_owners L a config) a x) ≡ false
+  untold : (t : ℕ) → is_matched (chain_records a config listed) (closest_encloser (original_owners L a config) a x) ≡ false
       → NotProven ≡ hashed_proved_verdict L a config listed x t
   untold t f =
       sym (λ j. cond (not (low j) || (f j && ((same_name en x || is_zone_cut L a en) || covered (next_closer x en))))
       (hashed_zone_verdict L a config x t) NotProven)
 
-  pub none_proved : (t : ℕ) → IsUnmatched listed a config.parameters config.hash x → NotProven ≡ hashed_proved_verdict L a config listed x t
+  pub none_proved : (t : ℕ) → IsUnmatched (chain_records a config listed) x → NotProven ≡ hashed_proved_verdict L a config listed x t
   none_proved t f =
       untold t (f en closest.above (and_parts (is_at_or_below en a) (list_any (λ n. is_at_or_below n en) owners) closest.found).0).2
 
   -- d is the first that is matched, v its hash, and k the first record that matches it
-  module _ (d : Name) (first : IsFirstMatched a config.parameters config.hash listed x d) (v : Octets)
+  module _ (d : Name) (first : IsFirstMatched (chain_records a config listed) x d) (v : Octets)
       (known : hash_name config.hash d ≡ Ok v) (k : HashedLink) (found : find (is_hash_match a config.parameters v) listed
       ≡ Some k) where
     alone_at : (y : Name) → is_at_or_below x y ≡ true → is_at_or_below y a ≡ true → (w : Octets) → hash_name config.hash y ≡ Ok w → IsAlone L a config y w
@@ -228,14 +229,14 @@ module _ (L : List ZoneRecord) (a : Name) (config : ChainConfig) (links : List H
       is_d : same_name (closest_encloser (original_owners L a config) a x) d ≡ true
       is_d = same_length en d down level
 
-      proves_is : proves L a config listed x ≡ ((same_name d x || is_zone_cut L a d) || is_covered a config.parameters config.hash listed (next_closer x d))
+      proves_is : proves L a config listed x ≡ ((same_name d x || is_zone_cut L a d) || is_covered (chain_records a config listed) (next_closer x d))
       proves_is =
           let long : length en ≡ length d = omega (arith, shorter, level) in
           λ j. (ap (is_ok_with (λ v. list_any (is_hash_match a config.parameters v) listed)) (hash_same config.hash en d is_d) ∙ first.found) j
           && ((same_lowered (one_lowered en d is_d j) (lowered x) || cut_same L a en d is_d j) || covered (drop (length x - (long j + 1)) x))
 
       proved : (w : Verdict) → ((same_name d x || is_zone_cut L a d)
-          || is_covered a config.parameters config.hash listed (next_closer x d)) ≡ true → w ≡ hashed_zone_verdict L a config x t
+          || is_covered (chain_records a config listed) (next_closer x d)) ≡ true → w ≡ hashed_zone_verdict L a config x t
           → w ≡ hashed_proved_verdict L a config listed x t
       proved w h f = f ∙ sym (λ j. cond (not (low j) || (proves_is ∙ h) j) (hashed_zone_verdict L a config x t) NotProven)
 
@@ -302,7 +303,7 @@ module _ (L : List ZoneRecord) (a : Name) (config : ChainConfig) (links : List H
           ≡ hashed_proved_verdict L a config listed x t
       at_gap s c w asked = by (find (is_hash_cover a config.parameters w) listed) refl
         where
-          covered_is : is_covered a config.parameters config.hash listed (next_closer x d) ≡ list_any (is_hash_cover a config.parameters w) listed
+          covered_is : is_covered (chain_records a config listed) (next_closer x d) ≡ list_any (is_hash_cover a config.parameters w) listed
           covered_is = ap (is_ok_with (λ v. list_any (is_hash_cover a config.parameters v) listed)) asked
 
           not_there : exists_over (original_owners L a config) a x ≡ false
@@ -356,7 +357,7 @@ module _ (L : List ZoneRecord) (a : Name) (config : ChainConfig) (links : List H
               (cond (not_there j) EmptyName (missing_verdict (is_opt_out config.flags) (length en))))))
 
       at_level : (next : Option Octets) → IsNextHash config.hash x d next
-          → told_verdict a config.parameters listed d k t next ≡ hashed_proved_verdict L a config listed x t
+          → told_verdict (chain_records a config listed) d k t next ≡ hashed_proved_verdict L a config listed x t
       at_level None s = at_name s
       at_level (Some w) n =
           (λ j. cond (told_cut j) BelowDelegation (hash_cover_verdict (length d) (find (is_hash_cover a config.parameters w) listed)))
@@ -396,7 +397,7 @@ module _ (L : List ZoneRecord) (a : Name) (config : ChainConfig) (links : List H
           (sym (facts.exist q in_zone) ∙ there) r (within_links r i) (among r i) h)
 
       at_higher : (next : Option Octets) → IsNextHash config.hash x d next
-          → told_verdict a config.parameters listed d k t next ≡ hashed_proved_verdict L a config listed x t
+          → told_verdict (chain_records a config listed) d k t next ≡ hashed_proved_verdict L a config listed x t
       at_higher None s =
           let n = same_count d x s in
           let m = below_length x en closest.above in
@@ -406,7 +407,7 @@ module _ (L : List ZoneRecord) (a : Name) (config : ChainConfig) (links : List H
           ∙ untold t (first.first en closest.above strictly).2
 
     pub told_proved : (t : ℕ) → t < 65536 → (next : Option Octets) → IsNextHash config.hash x d next
-        → told_verdict a config.parameters listed d k t next ≡ hashed_proved_verdict L a config listed x t
+        → told_verdict (chain_records a config listed) d k t next ≡ hashed_proved_verdict L a config listed x t
     told_proved t b next n =
         elim (cases_lt (length d) (length (closest_encloser (original_owners L a config) a x))) [
           | inl h ↦ at_higher h t next n
@@ -415,39 +416,39 @@ module _ (L : List ZoneRecord) (a : Name) (config : ChainConfig) (links : List H
 
 -- ---- lists from anywhere
 
-module _ (listed : List HashedLink) (a : Name) (p : Parameters) (hash : Hash) (x : Name) (t : ℕ) where
-  told_has_proof : (d : Name) (k : HashedLink) (v : Octets) (next : Option Octets) → IsFirstMatched a p hash listed x d
-      → hash_name hash d ≡ Ok v → find (is_hash_match a p v) listed ≡ Some k → IsNextHash hash x d next
-      → told_verdict a p listed d k t next ≢ NotProven → HasHashedProof listed a p hash x
+module _ (R : HashedRecords) (x : Name) (t : ℕ) where
+  told_has_proof : (d : Name) (k : HashedLink) (v : Octets) (next : Option Octets) → IsFirstMatched R x d
+      → hash_name R.hash d ≡ Ok v → first_match R v ≡ Some k → IsNextHash R.hash x d next
+      → told_verdict R d k t next ≢ NotProven → HasHashedProof R x
   told_has_proof d k v None first known found s n = record {
     longest = d;
     first = first;
-    closes = or_left (same_name d x || is_told_cut a p hash listed d) (is_covered a p hash listed (next_closer x d))
-        (or_left (same_name d x) (is_told_cut a p hash listed d) s);
+    closes = or_left (same_name d x || is_told_cut R d) (is_covered R (next_closer x d))
+        (or_left (same_name d x) (is_told_cut R d) s);
   }
   told_has_proof d k v (Some w) first known found s n = record {
     longest = d;
     first = first;
-    closes = elim (cases_Bool (tells_cut a d k)) [
-      | inl c ↦ or_left (same_name d x || is_told_cut a p hash listed d) (is_covered a p hash listed (next_closer x d))
-          (or_right (same_name d x) (is_told_cut a p hash listed d) (cut_told ∙ c))
-      | inr c ↦ or_right (same_name d x || is_told_cut a p hash listed d) (is_covered a p hash listed (next_closer x d))
-          (by (find (is_hash_cover a p w) listed) refl c)
+    closes = elim (cases_Bool (tells_cut R.apex d k)) [
+      | inl c ↦ or_left (same_name d x || is_told_cut R d) (is_covered R (next_closer x d))
+          (or_right (same_name d x) (is_told_cut R d) (cut_told ∙ c))
+      | inr c ↦ or_right (same_name d x || is_told_cut R d) (is_covered R (next_closer x d))
+          (by (first_cover R w) refl c)
     ];
   }
     where
-      cut_told : is_told_cut a p hash listed d ≡ tells_cut a d k
+      cut_told : is_told_cut R d ≡ tells_cut R.apex d k
       cut_told =
-          (λ i. not (same_name d a) && is_ok_with (λ v. lists_ns (find (is_hash_match a p v) listed)) (known i))
-          ∙ (λ i. not (same_name d a) && lists_ns (found i))
+          (λ i. not (same_name d R.apex) && is_ok_with (λ v. lists_ns (first_match R v)) (known i))
+          ∙ (λ i. not (same_name d R.apex) && lists_ns (found i))
 
-      by : (o : Option HashedLink) → find (is_hash_cover a p w) listed ≡ o → tells_cut a d k ≡ false → is_covered a p hash listed (next_closer x d) ≡ true
+      by : (o : Option HashedLink) → first_cover R w ≡ o → tells_cut R.apex d k ≡ false → is_covered R (next_closer x d) ≡ true
       by None e c = absurd (n (λ i. cond (c i) BelowDelegation (hash_cover_verdict (length d) (e i))))
       by (Some r) e c =
-          let g = find_some (is_hash_cover a p w) listed r e in
-          ap (is_ok_with (λ v. list_any (is_hash_cover a p v) listed)) s.1 ∙ in_any (is_hash_cover a p w) listed r g.0 g.1
+          let g = find_some (is_hash_cover R.apex R.parameters w) R.links r e in
+          ap (is_ok_with (λ v. list_any (is_hash_cover R.apex R.parameters v) R.links)) s.1 ∙ in_any (is_hash_cover R.apex R.parameters w) R.links r g.0 g.1
 
-  pub walked_has_proof : (verdict : Verdict) → IsWalked listed a p hash x t verdict → verdict ≢ NotProven → HasHashedProof listed a p hash x
+  pub walked_has_proof : (verdict : Verdict) → IsWalked R x t verdict → verdict ≢ NotProven → HasHashedProof R x
   walked_has_proof verdict (inl w) n = told_has_proof w.name w.link w.value w.next w.first w.known w.found w.closes (λ e. n (w.says ∙ e))
   walked_has_proof verdict (inr w) n = absurd (n w.0)
 
@@ -467,35 +468,39 @@ module _ (listed : List HashedLink) (a : Name) (p : Parameters) (hash : Hash) (x
   within_cover n count None l = tt
   within_cover n count (Some k) l = within_missing n count (is_opt_out k.flags) l
 
-  within_told : (n : ℕ) (d : Name) (k : HashedLink) (next : Option Octets) → length d ≤ n → IsWithin n (told_verdict a p listed d k t next)
-  within_told n d k None l = within_match n (contains_type k.bits t) (tells_cut a d k && not (nat_eq t ds)) (is_none (types_of k.bits))
+  within_told : (n : ℕ) (d : Name) (k : HashedLink) (next : Option Octets) → length d ≤ n → IsWithin n (told_verdict R d k t next)
+  within_told n d k None l = within_match n (contains_type k.bits t) (tells_cut R.apex d k && not (nat_eq t ds)) (is_none (types_of k.bits))
   within_told n d k (Some w) l =
-      elim (tells_cut a d k) as (λ b. IsWithin n (cond b BelowDelegation (hash_cover_verdict (length d) (find (is_hash_cover a p w) listed)))) [
+      elim (tells_cut R.apex d k) as (λ b. IsWithin n (cond b BelowDelegation (hash_cover_verdict (length d) (first_cover R w)))) [
         | true ↦ tt
-        | false ↦ within_cover n (length d) (find (is_hash_cover a p w) listed) l
+        | false ↦ within_cover n (length d) (first_cover R w) l
       ]
 
-  pub walked_within : (verdict : Verdict) → IsWalked listed a p hash x t verdict → IsWithin (length x) verdict
+  pub walked_within : (verdict : Verdict) → IsWalked R x t verdict → IsWithin (length x) verdict
   walked_within verdict (inl w) = subst (IsWithin (length x)) (sym w.says) (within_told (length x) w.name w.link w.next (below_length x w.name w.first.above))
   walked_within verdict (inr w) = subst (IsWithin (length x)) (sym w.0) tt
 
+-- records with the hasher and the parameters of a chain
+pub as_chain : (R : HashedRecords) (config : ChainConfig) → config.hash ≡ R.hash → config.parameters ≡ R.parameters
+    → R ≡ chain_records R.apex config R.links
+as_chain R config hash parameters =
+    λ i. record { links = R.links; apex = R.apex; parameters = sym parameters i; hash = sym hash i }
+
 -- for records of the chain of any zone
-pub walked_proved : ChainsAreKnown → (listed : List HashedLink) (a : Name) (p : Parameters) (hash : Hash) (x : Name) (t : ℕ)
-    (verdict : Verdict) → t < 65536 → is_at_or_below x a ≡ true → IsWalked listed a p hash x t verdict
-    → IsHashedProved listed a p hash x t verdict
-walked_proved knows listed a p hash x t verdict b low w = λ L config links same_hash same_parameters chain free among.
-    by L config links (knows L a config links chain) free among
-    (subst (λ h. IsWalked listed a config.parameters h x t verdict) (sym same_hash) (subst (λ q. IsWalked listed a q hash x t verdict) (sym same_parameters) w))
+pub walked_proved : ChainsAreKnown → (R : HashedRecords) (x : Name) (t : ℕ) (verdict : Verdict) → t < 65536
+    → is_at_or_below x R.apex ≡ true → IsWalked R x t verdict → IsHashedProved R x t verdict
+walked_proved knows R x t verdict b low w = λ L config links hash parameters chain free among.
+    by L config links (knows L R.apex config links chain) free among
+    (subst (λ S. IsWalked S x t verdict) (as_chain R config hash parameters) w)
   where
-    by : (L : List ZoneRecord) (config : ChainConfig) (links : List HashedLink) → ChainFacts L a config links
-        → AreAlone L a config x → All (Contains links) listed → IsWalked listed a config.parameters config.hash x t verdict
-        → verdict ≡ hashed_proved_verdict L a config listed x t
+    by : (L : List ZoneRecord) (config : ChainConfig) (links : List HashedLink) → ChainFacts L R.apex config links
+        → AreAlone L R.apex config x → All (Contains links) R.links → IsWalked (chain_records R.apex config R.links) x t verdict
+        → verdict ≡ hashed_proved_verdict L R.apex config R.links x t
     by L config links facts free among (inl told) =
-        told.says ∙ told_proved L a config links facts listed
-        (stands_all links listed among) x low free told.name told.first told.value told.known told.link told.found t b
-        told.next told.closes
+        told.says ∙ told_proved L R.apex config links facts R.links (stands_all links R.links among) x low free told.name
+        told.first told.value told.known told.link told.found t b told.next told.closes
     by L config links facts free among (inr none) =
-        none.0 ∙ none_proved L a config links facts listed (stands_all links listed among) x low free t none.1
+        none.0 ∙ none_proved L R.apex config links facts R.links (stands_all links R.links among) x low free t none.1
 
 -- ---- the whole chain
 

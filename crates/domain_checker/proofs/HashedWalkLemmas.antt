@@ -12,8 +12,9 @@ use Rattle.domain_base.specs.Words.{Label, Name}
 use Rattle.domain_zone.proofs.NameLemmas.{one_lowered, same_itself, lowered_below, below_itself, below_trans, below_longer, below_length, below_parent}
 use Rattle.domain_zone.proofs.OwnerLemmas.{in_any}
 use Rattle.domain_nsec3.specs.Chain.{HashedLink}
-use Rattle.domain_nsec3.specs.Config.{Hash, Parameters, hash_name}
+use Rattle.domain_nsec3.specs.Config.{hash_name}
 use Rattle.domain_checker.specs.HashedList.{is_hash_cover, is_hash_match}
+use Rattle.domain_checker.specs.HashedView.{HashedRecords, first_cover, first_match}
 use Rattle.domain_checker.specs.HashedEncloser.{IsEncloser}
 use Rattle.domain_checker.specs.HashedPass.{IsLookedUp}
 use Rattle.domain_checker.specs.HashedReading.{IsNextHash, IsUnmatched}
@@ -65,89 +66,91 @@ wire_above l x =
 
 -- ---- names that are passed
 
-module _ (listed : List HashedLink) (a : Name) (p : Parameters) (hash : Hash) where
-  pub none_matched : (d : Name) (v : Octets) → hash_name hash d ≡ Ok v → find (is_hash_match a p v) listed ≡ None → is_matched a p hash listed d ≡ false
+module _ (R : HashedRecords) where
+  pub none_matched : (d : Name) (v : Octets) → hash_name R.hash d ≡ Ok v → first_match R v ≡ None → is_matched R d ≡ false
   none_matched d v known none =
-      ap (is_ok_with (λ v. list_any (is_hash_match a p v) listed)) known ∙ any_none (is_hash_match a p v) listed (find_none (is_hash_match a p v) listed none)
+      ap (is_ok_with (λ v. list_any (is_hash_match R.apex R.parameters v) R.links)) known
+      ∙ any_none (is_hash_match R.apex R.parameters v) R.links (find_none (is_hash_match R.apex R.parameters v) R.links none)
 
-  pub some_matched : (d : Name) (v : Octets) (k : HashedLink) → hash_name hash d ≡ Ok v
-      → find (is_hash_match a p v) listed ≡ Some k → is_matched a p hash listed d ≡ true
+  pub some_matched : (d : Name) (v : Octets) (k : HashedLink) → hash_name R.hash d ≡ Ok v
+      → first_match R v ≡ Some k → is_matched R d ≡ true
   some_matched d v k known found =
-      let f = find_some (is_hash_match a p v) listed k found in
-      ap (is_ok_with (λ v. list_any (is_hash_match a p v) listed)) known ∙ in_any (is_hash_match a p v) listed k f.0 f.1
+      let f = find_some (is_hash_match R.apex R.parameters v) R.links k found in
+      ap (is_ok_with (λ v. list_any (is_hash_match R.apex R.parameters v) R.links)) known
+      ∙ in_any (is_hash_match R.apex R.parameters v) R.links k f.0 f.1
 
-  pub matched_same : (m n : Name) → same_name m n ≡ true → is_matched a p hash listed m ≡ is_matched a p hash listed n
-  matched_same m n s = ap (is_ok_with (λ v. list_any (is_hash_match a p v) listed)) (hash_same hash m n s)
+  pub matched_same : (m n : Name) → same_name m n ≡ true → is_matched R m ≡ is_matched R n
+  matched_same m n s = ap (is_ok_with (λ v. list_any (is_hash_match R.apex R.parameters v) R.links)) (hash_same R.hash m n s)
 
   module _ (x : Name) where
     -- at the name itself none is passed
-    pub none_first : IsFirst a p hash listed x x
+    pub none_first : IsFirst R x x
     none_first y above below = let l = strictly_longer y x below in let m = below_length x y above in absurd (omega arith)
 
     -- what is known at a name, where the hash of the one right below it is v
     pub record IsPassed (left : Name) (v : Octets) : Type 0 where
       pub above : is_at_or_below x left ≡ true
-      pub within : is_at_or_below left a ≡ true
-      pub first : IsFirst a p hash listed x left
-      pub closes : IsNextHash hash x left (Some v)
+      pub within : is_at_or_below left R.apex ≡ true
+      pub first : IsFirst R x left
+      pub closes : IsNextHash R.hash x left (Some v)
 
     -- what is known of a name that no record matches, with the first cover of its hash
     pub record IsMissed (left : Name) (cover : Option HashedLink) : Type 0 where
       pub above : is_at_or_below x left ≡ true
-      pub within : is_at_or_below left a ≡ true
-      pub first : IsFirst a p hash listed x left
+      pub within : is_at_or_below left R.apex ≡ true
+      pub first : IsFirst R x left
       pub value : Octets
-      pub known : hash_name hash left ≡ Ok value
-      pub none : find (is_hash_match a p value) listed ≡ None
-      pub covered : cover ≡ find (is_hash_cover a p value) listed
+      pub known : hash_name R.hash left ≡ Ok value
+      pub none : first_match R value ≡ None
+      pub covered : cover ≡ first_cover R value
 
     module _ (left : Name) (cover : Option HashedLink) (missed : IsMissed left cover) where
       -- with the last one none is left
-      pub none_left : same_name left a ≡ true → IsUnmatched listed a p hash x
+      pub none_left : same_name left R.apex ≡ true → IsUnmatched R x
       none_left s y up low =
           elim (cases_Bool (same_name y left)) [
-            | inl e ↦ (missed.value, hash_same hash y left e ∙ missed.known, matched_same y left e ∙ none_matched left missed.value missed.known missed.none)
+            | inl e ↦ (missed.value, hash_same R.hash y left e ∙ missed.known, matched_same y left e ∙ none_matched left missed.value missed.known missed.none)
             | inr e ↦
-                let down : is_at_or_below y left ≡ true = ap (λ k. lowered_below (lowered y) k) (one_lowered left a s) ∙ low in
+                let down : is_at_or_below y left ≡ true = ap (λ k. lowered_below (lowered y) k) (one_lowered left R.apex s) ∙ low in
                 missed.first y up (and_from (is_at_or_below y left) (not (same_name y left)) down (ap not e))
           ]
 
-      pub passed_on : (l : Label) (next : Name) → left ≡ l ∷ next → same_name left a ≡ false → IsPassed next missed.value
+      pub passed_on : (l : Label) (next : Name) → left ≡ l ∷ next → same_name left R.apex ≡ false → IsPassed next missed.value
       passed_on l next e other =
           let parent : is_at_or_below left next ≡ true = ap (λ n. is_at_or_below n next) e ∙ below_parent l next in
           let count : length left ≡ length next + 1 = ap length e ∙ omega arith in
           let up : is_at_or_below x next ≡ true = below_trans x left next missed.above parent in
           let long : length left ≤ length x = below_length x left missed.above in
-          let short : length a ≤ length next = elim (cases_lt (length next) (length a)) [
-            | inl h ↦ absurd (false≢true (sym other ∙ same_length left a missed.within (omega arith)))
+          let short : length R.apex ≤ length next = elim (cases_lt (length next) (length R.apex)) [
+            | inl h ↦ absurd (false≢true (sym other ∙ same_length left R.apex missed.within (omega arith)))
             | inr h ↦ h
           ] in
           let closer = closer_is x next up (omega arith) in
           record {
             above = up;
-            within = below_longer left next a parent missed.within short;
+            within = below_longer left next R.apex parent missed.within short;
             first = λ y g h. on y g h count parent;
             closes = (
               elim (cases_Bool (same_name next x)) [
                 | inl s ↦ let n = same_count next x s in absurd (omega arith)
                 | inr s ↦ s
               ],
-              hash_same hash (next_closer x next) left (same_length (next_closer x next) left
+              hash_same R.hash (next_closer x next) left (same_length (next_closer x next) left
                   (below_longer x (next_closer x next) left closer.above missed.above (omega (arith, closer.long)))
                   (omega (arith, closer.long))) ∙ missed.known,
             );
           }
         where
           on : (y : Name) → is_at_or_below x y ≡ true → is_strictly_below y next ≡ true → length left ≡ length next + 1
-              → is_at_or_below left next ≡ true → (w : Octets) × (hash_name hash y ≡ Ok w)
-              × (is_matched a p hash listed y ≡ false)
+              → is_at_or_below left next ≡ true → (w : Octets) × (hash_name R.hash y ≡ Ok w)
+              × (is_matched R y ≡ false)
           on y g h count parent =
               let longer = strictly_longer y next h in
               let down = below_longer x y left g missed.above (omega arith) in
               elim (cases_Bool (same_name y left)) [
                 | inl s ↦ (
                   missed.value,
-                  hash_same hash y left s ∙ missed.known,
+                  hash_same R.hash y left s ∙ missed.known,
                   matched_same y left s ∙ none_matched left missed.value missed.known missed.none,
                 )
                 | inr s ↦ missed.first y g (and_from (is_at_or_below y left) (not (same_name y left)) down (ap not s))
@@ -156,10 +159,10 @@ module _ (listed : List HashedLink) (a : Name) (p : Parameters) (hash : Hash) wh
       -- at the name above, a match is that of the closest encloser
       pub encloser_above : (next : Name) → IsPassed next missed.value
           → (k : HashedLink) (wire : Octets) (covering : Option HashedLink) → wire ≡ wire_of (lowered next)
-          → IsLookedUp a p hash listed wire (Some k) covering → (n : ℕ) → n ≡ length next
-          → IsEncloser listed a p hash x (record { count = n; link = k; cover = cover })
+          → IsLookedUp R wire (Some k) covering → (n : ℕ) → n ≡ length next
+          → IsEncloser R x (record { count = n; link = k; cover = cover })
       encloser_above next passed k wire covering e looked n counts =
-          let known = ap hash (sym e) ∙ looked.known in
+          let known = ap R.hash (sym e) ∙ looked.known in
           record {
             name = next;
             counts = counts;
@@ -178,34 +181,34 @@ module _ (listed : List HashedLink) (a : Name) (p : Parameters) (hash : Hash) wh
           }
 
     -- a name whose names before it were passed
-    module _ (left : Name) (above : is_at_or_below x left ≡ true) (within : is_at_or_below left a ≡ true)
-        (first : IsFirst a p hash listed x left) (wire : Octets) (e : wire ≡ wire_of (lowered left)) where
-      pub missed_here : (covering : Option HashedLink) → IsLookedUp a p hash listed wire None covering → IsMissed left covering
+    module _ (left : Name) (above : is_at_or_below x left ≡ true) (within : is_at_or_below left R.apex ≡ true)
+        (first : IsFirst R x left) (wire : Octets) (e : wire ≡ wire_of (lowered left)) where
+      pub missed_here : (covering : Option HashedLink) → IsLookedUp R wire None covering → IsMissed left covering
       missed_here covering looked = record {
         above = above;
         within = within;
         first = first;
         value = looked.value;
-        known = ap hash (sym e) ∙ looked.known;
+        known = ap R.hash (sym e) ∙ looked.known;
         none = sym looked.found.matching;
         covered = looked.found.covering refl;
       }
 
-      pub refused_here : (n : ℕ) → hash wire ≡ Err n → IsFirstRefusal listed a p hash x n
+      pub refused_here : (n : ℕ) → R.hash wire ≡ Err n → IsFirstRefusal R x n
       refused_here n refused = record {
         name = left;
         above = above;
         within = within;
-        refused = ap hash (sym e) ∙ refused;
+        refused = ap R.hash (sym e) ∙ refused;
         first = first;
       }
 
     -- a match of x itself is that of its closest encloser
-    pub encloser_here : is_at_or_below x a ≡ true → (k : HashedLink) (wire : Octets) (covering : Option HashedLink)
-        → wire ≡ wire_of (lowered x) → IsLookedUp a p hash listed wire (Some k) covering → (n : ℕ) → n ≡ length x
-        → IsEncloser listed a p hash x (record { count = n; link = k; cover = None })
+    pub encloser_here : is_at_or_below x R.apex ≡ true → (k : HashedLink) (wire : Octets) (covering : Option HashedLink)
+        → wire ≡ wire_of (lowered x) → IsLookedUp R wire (Some k) covering → (n : ℕ) → n ≡ length x
+        → IsEncloser R x (record { count = n; link = k; cover = None })
     encloser_here low k wire covering e looked n counts =
-        let known = ap hash (sym e) ∙ looked.known in
+        let known = ap R.hash (sym e) ∙ looked.known in
         record {
           name = x;
           counts = counts;

@@ -1,7 +1,6 @@
 -- What NSEC3 records tell of the closest encloser of a name x (RFC 5155, section 8.3); a is the
 -- apex.
 use Rattle.std.specs.Prelude.{ℕ, ◌≡◌, ◌<◌, Bool, true, false, not, ◌&&◌, ◌==◌, List, length, Option, Some, None, Ok, if◌then◌else◌}
-use Rattle.std.specs.List.{find}
 use Rattle.std.specs.Option.{option_map}
 use Rattle.domain_octets.specs.Words.{Octets}
 use Rattle.domain_base.specs.Types.{ds, ns}
@@ -10,12 +9,12 @@ use Rattle.domain_bitmap.specs.Blocks.{contains_type, types_of}
 use Rattle.domain_zone.specs.Enclosers.{exists_over}
 use Rattle.domain_zone.specs.Zone.{ZoneRecord, is_zone_cut}
 use Rattle.domain_nsec3.specs.Chain.{HashedLink}
-use Rattle.domain_nsec3.specs.Config.{ChainConfig, Hash, Parameters, hash_name}
+use Rattle.domain_nsec3.specs.Config.{ChainConfig, hash_name}
 use Rattle.domain_nsec3.specs.Owners.{nsec3_lists, original_owners}
 use Rattle.domain_nsec3.specs.View.{as_hashed_link}
-use Rattle.domain_checker.specs.HashedList.{is_hash_match, is_hash_cover}
 use Rattle.domain_checker.specs.HashedReading.{is_none, tells_cut, hash_cover_verdict, IsNextHash, IsUnmatched}
 use Rattle.domain_checker.specs.HashedVerdict.{IsFirstMatched}
+use Rattle.domain_checker.specs.HashedView.{HashedRecords, first_cover, first_match}
 use Rattle.domain_checker.specs.declared.encloser.Nsec3Encloser.{Nsec3Encloser}
 use Rattle.domain_checker.specs.declared.verdict.Verdict.{Verdict}
 use Rattle.domain_checker.specs.declared.verdict.Verdict.TheVariants.{BelowDelegation, Has, NoType, EmptyName, NotProven}
@@ -36,30 +35,28 @@ encloser_of labels e =
     }
 
 -- the first cover of the hash of the next closer name
-abbrev pub next_cover : Name → Parameters → List HashedLink → Option Octets → Option HashedLink
-next_cover a p listed None = None
-next_cover a p listed (Some v) = find (is_hash_cover a p v) listed
+abbrev pub next_cover : HashedRecords → Option Octets → Option HashedLink
+next_cover R None = None
+next_cover R (Some v) = first_cover R v
 
 -- of x and its ancestors at or below the apex the first that a record matches has so many labels,
 -- and no name before it is refused by the hasher; of its matches and of the covers of the next
 -- closer name the first count
-pub record IsEncloser (listed : List HashedLink) (a : Name) (p : Parameters) (hash : Hash)
-    (x : Name) (e : Encloser) : Type 0 where
+pub record IsEncloser (R : HashedRecords) (x : Name) (e : Encloser) : Type 0 where
   pub name : Name
   pub counts : e.count ≡ length name
-  pub first : IsFirstMatched a p hash listed x name
+  pub first : IsFirstMatched R x name
   pub value : Octets
-  pub known : hash_name hash name ≡ Ok value
-  pub found : find (is_hash_match a p value) listed ≡ Some e.link
+  pub known : hash_name R.hash name ≡ Ok value
+  pub found : first_match R value ≡ Some e.link
   pub next : Option Octets
-  pub closes : IsNextHash hash x name next
-  pub covers : e.cover ≡ next_cover a p listed next
+  pub closes : IsNextHash R.hash x name next
+  pub covers : e.cover ≡ next_cover R next
 
 -- what the way from x to the apex ends at: None where no name of it is refused or matched
-abbrev pub IsFoundEncloser : List HashedLink → Name → Parameters → Hash → Name → Option Encloser
-    → Type 0
-IsFoundEncloser listed a p hash x None = IsUnmatched listed a p hash x
-IsFoundEncloser listed a p hash x (Some e) = IsEncloser listed a p hash x e
+abbrev pub IsFoundEncloser : HashedRecords → Name → Option Encloser → Type 0
+IsFoundEncloser R x None = IsUnmatched R x
+IsFoundEncloser R x (Some e) = IsEncloser R x e
 
 -- the name that is matched is a zone cut: its record lists NS, and it is longer than the apex
 abbrev pub encloser_is_cut : Name → Encloser → Bool

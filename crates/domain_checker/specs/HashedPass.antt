@@ -5,9 +5,10 @@ use Rattle.std.specs.Option.{option_map}
 use Rattle.domain_octets.specs.Words.{Octets}
 use Rattle.domain_base.specs.Words.{Name}
 use Rattle.domain_nsec3.specs.Chain.{HashedLink}
-use Rattle.domain_nsec3.specs.Config.{Hash, Parameters}
+use Rattle.domain_nsec3.specs.Config.{Parameters}
 use Rattle.domain_nsec3.specs.View.{as_hashed_link}
 use Rattle.domain_checker.specs.HashedList.{is_hash_match, is_hash_cover}
+use Rattle.domain_checker.specs.HashedView.{HashedRecords}
 use Rattle.domain_checker.specs.declared.hashed.Nsec3Found.{Nsec3Found}
 use Rattle.domain_checker.specs.declared.hashed.Nsec3Found.TheVariants.{Match, NoMatch}
 
@@ -27,8 +28,8 @@ pub record IsFound (a : Name) (p : Parameters) (listed : List HashedLink) (v : O
   pub covering : matched ≡ None → covered ≡ find (is_hash_cover a p v) listed
 
 -- the same of the name with this wire form in lower case
-pub record IsLookedUp (a : Name) (p : Parameters) (hash : Hash) (listed : List HashedLink)
-    (wire : Octets) (matched covered : Option HashedLink) : Type 0 where
+pub record IsLookedUp (R : HashedRecords) (wire : Octets) (matched covered : Option HashedLink)
+    : Type 0 where
   pub value : Octets
-  pub known : hash wire ≡ Ok value
-  pub found : IsFound a p listed value matched covered
+  pub known : R.hash wire ≡ Ok value
+  pub found : IsFound R.apex R.parameters R.links value matched covered

@@ -1,7 +1,7 @@
 -- What a zone with an NSEC3 chain says of a name and a type, and what a list of records proves of
 -- it (RFC 5155, section 8); a is the apex, x the name and t the type.
 use Rattle.std.specs.Prelude.{ℕ, Bool, true, false, not, ◌&&◌, ◌||◌, ◌==◌, ◌+◌, List, ◌≡◌, All, length, Option, Some, None, Ok, Err, if◌then◌else◌}
-use Rattle.std.specs.List.{find, list_any, Contains}
+use Rattle.std.specs.List.{list_any, Contains}
 use Rattle.domain_octets.specs.Words.{Octets}
 use Rattle.domain_base.specs.Name.{is_at_or_below, is_strictly_below, last_labels, same_name}
 use Rattle.domain_base.specs.Types.{ds, ns}
@@ -11,10 +11,11 @@ use Rattle.domain_chain_rdata.specs.OptOut.{is_opt_out}
 use Rattle.domain_zone.specs.Enclosers.{exists_over}
 use Rattle.domain_zone.specs.Zone.{ZoneRecord, is_zone_cut}
 use Rattle.domain_nsec3.specs.Chain.{HashedLink, IsHashedChain}
-use Rattle.domain_nsec3.specs.Config.{ChainConfig, Hash, HashAnswer, Parameters, hash_name}
+use Rattle.domain_nsec3.specs.Config.{ChainConfig, HashAnswer, hash_name}
 use Rattle.domain_nsec3.specs.Meaning.{AreAlone}
 use Rattle.domain_nsec3.specs.Owners.{is_original_owner, nsec3_lists, original_owners}
 use Rattle.domain_checker.specs.HashedList.{is_hash_match, is_hash_cover}
+use Rattle.domain_checker.specs.HashedView.{HashedRecords, chain_records, first_match}
 use Rattle.domain_checker.specs.Verdict.{closest_encloser}
 use Rattle.domain_checker.specs.declared.verdict.Verdict.{Verdict}
 use Rattle.domain_checker.specs.declared.verdict.Verdict.TheVariants.{OutsideZone, BelowDelegation, Has, NoType, EmptyName, OptOut, NoName, NotProven}
@@ -54,22 +55,22 @@ is_ok_with test (Ok v) = test v
 is_ok_with test (Err n) = false
 
 -- some record of the list matches the hash of the name n; covers it
-abbrev pub is_matched : Name → Parameters → Hash → List HashedLink → Name → Bool
-is_matched a p hash listed n =
-    is_ok_with (λ v. list_any (is_hash_match a p v) listed) (hash_name hash n)
+abbrev pub is_matched : HashedRecords → Name → Bool
+is_matched R n =
+    is_ok_with (λ v. list_any (is_hash_match R.apex R.parameters v) R.links) (hash_name R.hash n)
 
-abbrev pub is_covered : Name → Parameters → Hash → List HashedLink → Name → Bool
-is_covered a p hash listed n =
-    is_ok_with (λ v. list_any (is_hash_cover a p v) listed) (hash_name hash n)
+abbrev pub is_covered : HashedRecords → Name → Bool
+is_covered R n =
+    is_ok_with (λ v. list_any (is_hash_cover R.apex R.parameters v) R.links) (hash_name R.hash n)
 
 -- the list proves what the zone says of x: a record matches the closest encloser and, unless that
 -- is x or a zone cut, one covers the next closer name
 abbrev pub proves : List ZoneRecord → Name → ChainConfig → List HashedLink → Name → Bool
 proves L a config listed x =
     let e = closest_encloser (original_owners L a config) a x in
-    is_matched a config.parameters config.hash listed e
+    is_matched (chain_records a config listed) e
     && (same_name e x || is_zone_cut L a e
-    || is_covered a config.parameters config.hash listed (next_closer x e))
+    || is_covered (chain_records a config listed) (next_closer x e))
 
 abbrev pub hashed_proved_verdict : List ZoneRecord → Name → ChainConfig → List HashedLink → Name → ℕ
     → Verdict
@@ -80,54 +81,51 @@ hashed_proved_verdict L a config listed x t =
 -- the verdict is what these records, in any order, with repeats, prove of any zone of whose chain
 -- they are, where no other name of the chain has the hash of x or of an ancestor at or below the
 -- apex
-abbrev pub IsHashedProved : List HashedLink → Name → Parameters → Hash → Name → ℕ → Verdict → Type 0
-IsHashedProved listed a p hash x t verdict =
+abbrev pub IsHashedProved : HashedRecords → Name → ℕ → Verdict → Type 0
+IsHashedProved R x t verdict =
     (L : List ZoneRecord) (config : ChainConfig) (links : List HashedLink)
-    → config.hash ≡ hash → config.parameters ≡ p
-    → IsHashedChain L a config links → AreAlone L a config x → All (Contains links) listed
-    → verdict ≡ hashed_proved_verdict L a config listed x t
+    → config.hash ≡ R.hash → config.parameters ≡ R.parameters
+    → IsHashedChain L R.apex config links → AreAlone L R.apex config x
+    → All (Contains links) R.links
+    → verdict ≡ hashed_proved_verdict L R.apex config R.links x t
 
 -- ---- lists from anywhere
 
 -- no name from x up to d, d left out, is refused by the hasher or matched
-abbrev pub IsFirst : Name → Parameters → Hash → List HashedLink → Name → Name → Type 0
-IsFirst a p hash listed x d =
+abbrev pub IsFirst : HashedRecords → Name → Name → Type 0
+IsFirst R x d =
     (y : Name) → is_at_or_below x y ≡ true → is_strictly_below y d ≡ true
-    → (v : Octets) × (hash_name hash y ≡ Ok v) × (is_matched a p hash listed y ≡ false)
+    → (v : Octets) × (hash_name R.hash y ≡ Ok v) × (is_matched R y ≡ false)
 
 -- d is the first of x and its ancestors at or below the apex that a record matches
-pub record IsFirstMatched (a : Name) (p : Parameters) (hash : Hash) (listed : List HashedLink)
-    (x d : Name) : Type 0 where
+pub record IsFirstMatched (R : HashedRecords) (x d : Name) : Type 0 where
   pub above : is_at_or_below x d ≡ true
-  pub within : is_at_or_below d a ≡ true
-  pub found : is_matched a p hash listed d ≡ true
-  pub first : IsFirst a p hash listed x d
+  pub within : is_at_or_below d R.apex ≡ true
+  pub found : is_matched R d ≡ true
+  pub first : IsFirst R x d
 
 abbrev pub lists_ns : Option HashedLink → Bool
 lists_ns None = false
 lists_ns (Some k) = contains_type k.bits ns
 
 -- d is not the apex, and the first record that matches it lists NS
-abbrev pub is_told_cut : Name → Parameters → Hash → List HashedLink → Name → Bool
-is_told_cut a p hash listed d =
-    not (same_name d a)
-    && is_ok_with (λ v. lists_ns (find (is_hash_match a p v) listed)) (hash_name hash d)
+abbrev pub is_told_cut : HashedRecords → Name → Bool
+is_told_cut R d =
+    not (same_name d R.apex) && is_ok_with (λ v. lists_ns (first_match R v)) (hash_name R.hash d)
 
 -- a record matches x or an ancestor at or below the apex and, unless the first such name is x or is
 -- told to be a zone cut, one covers the name one label longer
-pub record HasHashedProof (listed : List HashedLink) (a : Name) (p : Parameters) (hash : Hash)
-    (x : Name) : Type 0 where
+pub record HasHashedProof (R : HashedRecords) (x : Name) : Type 0 where
   pub longest : Name
-  pub first : IsFirstMatched a p hash listed x longest
-  pub closes : (same_name longest x || is_told_cut a p hash listed longest
-      || is_covered a p hash listed (next_closer x longest)) ≡ true
+  pub first : IsFirstMatched R x longest
+  pub closes : (same_name longest x || is_told_cut R longest
+      || is_covered R (next_closer x longest)) ≡ true
 
 -- the hasher refuses x or an ancestor at or below the apex, and no name before it is refused or
 -- matched
-pub record IsFirstRefusal (listed : List HashedLink) (a : Name) (p : Parameters) (hash : Hash)
-    (x : Name) (reason : ℕ) : Type 0 where
+pub record IsFirstRefusal (R : HashedRecords) (x : Name) (reason : ℕ) : Type 0 where
   pub name : Name
   pub above : is_at_or_below x name ≡ true
-  pub within : is_at_or_below name a ≡ true
-  pub refused : hash_name hash name ≡ Err reason
-  pub first : IsFirst a p hash listed x name
+  pub within : is_at_or_below name R.apex ≡ true
+  pub refused : hash_name R.hash name ≡ Err reason
+  pub first : IsFirst R x name

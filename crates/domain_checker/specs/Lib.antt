@@ -1,9 +1,9 @@
 pub mod Verdict
 pub mod Reading
 pub mod HashedList
+pub mod HashedView
 pub mod HashedVerdict
 pub mod HashedReading
-pub mod HashedView
 pub mod HashedPass
 pub mod HashedEncloser
 pub mod HashedFacts

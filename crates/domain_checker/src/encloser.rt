@@ -7,7 +7,7 @@ ghost use Rattle.domain_hasher.specs.declared.error.Nsec3HashError.TheVariants a
 ghost use Rattle.domain_checker.specs.HashedEncloser.{encloser_is_cut, encloser_of, IsFoundEncloser};
 ghost use Rattle.domain_checker.specs.HashedPass.{found_cover, found_match, IsLookedUp};
 ghost use Rattle.domain_checker.specs.HashedVerdict.{IsFirstRefusal};
-ghost use Rattle.domain_checker.specs.HashedView.{hash_with, links, parameters};
+ghost use Rattle.domain_checker.specs.HashedView.{hash_with, hashed_records, parameters};
 
 use crate::Nsec3Found;
 use crate::hashed::Nsec3Rr;
@@ -68,14 +68,14 @@ pub fn find_nsec3_encloser<'a, A: ToName, O: Octets, N: ToName, M: ToName, H: Ns
 ) -> Result<Option<Nsec3Encloser<'a, O, N>>, Nsec3HashError>
     ensures outside { is_at_or_below (M.labels name.now) (A.labels apex.now) ≡ false
         → result ≡ Ok None }
-    ensures found { IfOk result (λ found. IsFoundEncloser (links N.labels records.now)
-        (A.labels apex.now) (parameters records.now) (hash_with (H.answer hasher.now) records.now)
+    ensures found { IfOk result (λ found. IsFoundEncloser
+        (hashed_records (A.labels apex.now) N.labels (H.answer hasher.now) records.now)
         (M.labels name.now) (option_map (encloser_of N.labels) found)) }
 
     // An error is the first refusal, or want of memory.
     ensures refusal { (n : ℕ) → IsErrOf result (hash_error.Hasher n)
-        → IsFirstRefusal (links N.labels records.now) (A.labels apex.now)
-        (parameters records.now) (hash_with (H.answer hasher.now) records.now)
+        → IsFirstRefusal
+        (hashed_records (A.labels apex.now) N.labels (H.answer hasher.now) records.now)
         (M.labels name.now) n }
     ensures errors { IfErr result (λ e. (e ≡ hash_error.OutOfMemory)
         ⊎ ((n : ℕ) × (e ≡ hash_error.Hasher n))) }
@@ -106,8 +106,8 @@ pub fn find_nsec3<'a, A: ToName, O: Octets, N: ToName, M: ToName, H: Nsec3Hasher
     name: &M,
     hasher: &H,
 ) -> Result<Nsec3Found<'a, O, N>, Nsec3HashError>
-    ensures found { IfOk result (λ found. IsLookedUp (A.labels apex.now) (parameters records.now)
-        (hash_with (H.answer hasher.now) records.now) (links N.labels records.now)
+    ensures found { IfOk result (λ found. IsLookedUp
+        (hashed_records (A.labels apex.now) N.labels (H.answer hasher.now) records.now)
         (wire_of (lowered (M.labels name.now)))
         (found_match N.labels found) (found_cover N.labels found)) }
     ensures refusal { (n : ℕ) → IsErrOf result (hash_error.Hasher n)

@@ -6,13 +6,14 @@ ghost use Rattle.domain_zone.specs.Enclosers.{exists_over, IsClosestEncloser};
 ghost use Rattle.domain_zone.specs.Zone.{OwnersNeverDescend, ZoneRecord};
 ghost use Rattle.domain_nsec.specs.Chain.{IsChain, Link};
 ghost use Rattle.domain_nsec3.specs.Chain.{HashedLink, IsHashedChain};
-ghost use Rattle.domain_nsec3.specs.Config.{ChainConfig, Hash, Parameters};
+ghost use Rattle.domain_nsec3.specs.Config.{ChainConfig};
 ghost use Rattle.domain_nsec3.specs.Meaning.{AreAlone};
 ghost use Rattle.domain_nsec.specs.declared.config.GenerateNsecConfig.{GenerateNsecConfig};
 ghost use Rattle.domain_checker.specs.Verdict.{closest_encloser, proved_verdict, zone_verdict, IsProved};
 ghost use Rattle.domain_checker.specs.Alike.{ArePaired, IsAlike, IsHashedAlike, IsPairedIn};
 ghost use Rattle.domain_checker.specs.HashedVerdict.{hashed_proved_verdict, hashed_zone_verdict};
 ghost use Rattle.domain_checker.specs.HashedReading.{IsWalked};
+ghost use Rattle.domain_checker.specs.HashedView.{HashedRecords, chain_records, with_links};
 ghost use Rattle.domain_checker.specs.Reading.{reading};
 ghost use Rattle.domain_checker.specs.declared.verdict.Verdict.{Verdict};
 ghost use Rattle.domain_checker.specs.declared.verdict.Verdict.TheVariants.{NotProven};
@@ -56,15 +57,15 @@ pub fn readings_ignore_case_and_ttl()
 
 /// The same of NSEC3 records.
 pub fn walks_ignore_case_and_ttl()
-    ensures alike { (listed other : List HashedLink) (a : Name) (p : Parameters) (hash : Hash)
-        (x : Name) (t : ℕ) (verdict : Verdict) → ArePaired IsHashedAlike listed other
-        → IsWalked listed a p hash x t verdict → IsWalked other a p hash x t verdict }
+    ensures alike { (R : HashedRecords) (other : List HashedLink) (x : Name) (t : ℕ)
+        (verdict : Verdict) → ArePaired IsHashedAlike R.links other → IsWalked R x t verdict
+        → IsWalked (with_links R other) x t verdict }
     ensures proved { (listed : List HashedLink) (a : Name) (x : Name) (t : ℕ) (verdict : Verdict)
         → t < 65536 → is_at_or_below x a ≡ true
         → (L : List ZoneRecord) (config : ChainConfig) (links : List HashedLink)
         → IsHashedChain L a config links
         → AreAlone L a config x → All (IsPairedIn IsHashedAlike links) listed
-        → IsWalked listed a config.parameters config.hash x t verdict
+        → IsWalked (chain_records a config listed) x t verdict
         → verdict ≡ hashed_proved_verdict L a config listed x t }
 {
     walks_are_proved();

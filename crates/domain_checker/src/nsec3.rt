@@ -8,7 +8,7 @@ ghost use Rattle.domain_checker.specs.HashedEncloser.{encloser_of, found_verdict
 ghost use Rattle.domain_checker.specs.HashedReading.{hash_cover_verdict, IsWalked};
 ghost use Rattle.domain_checker.specs.HashedVerdict.{HasHashedProof, IsFirstRefusal, IsHashedProved};
 ghost use Rattle.domain_checker.specs.Verdict.{IsWithin};
-ghost use Rattle.domain_checker.specs.HashedView.{hash_with, links, parameters};
+ghost use Rattle.domain_checker.specs.HashedView.{hash_with, hashed_records, parameters};
 
 use crate::hashed::Nsec3Rr;
 use crate::nsec3_laws::walks_are_proved;
@@ -128,28 +128,28 @@ pub fn check_nsec3<A: ToName, O: Octets, N: ToName, M: ToName, H: Nsec3Hasher>(
 
     // For records of the chain of any zone, the verdict of that zone where they prove it, and else
     // `NotProven`.
-    ensures zone { IfOk result (IsHashedProved (links N.labels records.now) (A.labels apex.now)
-        (parameters records.now) (hash_with (H.answer hasher.now) records.now)
+    ensures zone { IfOk result (IsHashedProved
+        (hashed_records (A.labels apex.now) N.labels (H.answer hasher.now) records.now)
         (M.labels name.now) rtype) }
 
     // For any list at all, the verdict is what the records say by themselves, there is none without
     // a proof, and a closest encloser has no more labels than the name.
     ensures exact { is_at_or_below (M.labels name.now) (A.labels apex.now) ≡ true
-        → IfOk result (IsWalked (links N.labels records.now) (A.labels apex.now)
-        (parameters records.now) (hash_with (H.answer hasher.now) records.now)
+        → IfOk result (IsWalked
+        (hashed_records (A.labels apex.now) N.labels (H.answer hasher.now) records.now)
         (M.labels name.now) rtype) }
     ensures proof { is_at_or_below (M.labels name.now) (A.labels apex.now) ≡ true
         → IfOk result (λ verdict. verdict ≢ Verdict.NotProven
-        → HasHashedProof (links N.labels records.now) (A.labels apex.now)
-        (parameters records.now) (hash_with (H.answer hasher.now) records.now)
+        → HasHashedProof
+        (hashed_records (A.labels apex.now) N.labels (H.answer hasher.now) records.now)
         (M.labels name.now)) }
     ensures within { IfOk result (IsWithin (length (M.labels name.now))) }
 
     // An error is the first refusal, or want of memory; and a verdict comes only where no name that
     // is asked for is refused (`exact`).
     ensures refusal { (n : ℕ) → IsErrOf result (hash_error.Hasher n)
-        → IsFirstRefusal (links N.labels records.now) (A.labels apex.now)
-        (parameters records.now) (hash_with (H.answer hasher.now) records.now)
+        → IsFirstRefusal
+        (hashed_records (A.labels apex.now) N.labels (H.answer hasher.now) records.now)
         (M.labels name.now) n }
     ensures errors { IfErr result (λ e. (e ≡ hash_error.OutOfMemory)
         ⊎ ((n : ℕ) × (e ≡ hash_error.Hasher n))) }

@@ -6,12 +6,13 @@ ghost use Rattle.domain_base.specs.Name.{is_at_or_below};
 ghost use Rattle.domain_base.specs.Words.{Name};
 ghost use Rattle.domain_zone.specs.Zone.{ZoneRecord};
 ghost use Rattle.domain_nsec3.specs.Chain.{HashedLink, IsHashedChain};
-ghost use Rattle.domain_nsec3.specs.Config.{ChainConfig, Hash, Parameters};
+ghost use Rattle.domain_nsec3.specs.Config.{ChainConfig};
 ghost use Rattle.domain_nsec3.specs.Meaning.{IsAlone};
 ghost use Rattle.domain_checker.specs.HashedEncloser.{IsDenial, IsOfName};
 ghost use Rattle.domain_checker.specs.HashedFacts.{ChainsAreKnown};
 ghost use Rattle.domain_checker.specs.HashedList.{is_hash_cover, is_hash_match};
 ghost use Rattle.domain_checker.specs.HashedReading.{IsWalked, WalksAreProved};
+ghost use Rattle.domain_checker.specs.HashedView.{HashedRecords};
 ghost use Rattle.domain_checker.specs.declared.verdict.Verdict.{Verdict};
 
 use domain_bitmap::laws::built_bitmaps_give_their_types;
@@ -37,9 +38,9 @@ pub fn hashed_chains_are_known()
 /// What NSEC3 records say on the way from a name to the apex is what they prove of any zone of
 /// whose chain they are; and of any records at all no verdict comes without a proof.
 pub fn walks_are_proved()
-    ensures { (listed : List HashedLink) (a : Name) (p : Parameters) (hash : Hash) (x : Name)
-        (t : ℕ) (verdict : Verdict) → t < 65536 → is_at_or_below x a ≡ true
-        → IsWalked listed a p hash x t verdict → WalksAreProved listed a p hash x t verdict }
+    ensures { (R : HashedRecords) (x : Name) (t : ℕ) (verdict : Verdict)
+        → t < 65536 → is_at_or_below x R.apex ≡ true
+        → IsWalked R x t verdict → WalksAreProved R x t verdict }
 {
     hashed_chains_are_known();
 }

@@ -6,7 +6,7 @@ ghost use Rattle.domain_hasher.specs.declared.error.Nsec3HashError.TheVariants a
 ghost use Rattle.domain_checker.specs.HashedEncloser.{encloser_of, IsFoundEncloser};
 ghost use Rattle.domain_checker.specs.HashedPass.{found_match, found_cover, IsLookedUp};
 ghost use Rattle.domain_checker.specs.HashedVerdict.{IsFirstRefusal};
-ghost use Rattle.domain_checker.specs.HashedView.{hash_with, links, parameters};
+ghost use Rattle.domain_checker.specs.HashedView.{hash_with, hashed_records, parameters};
 
 use crate::hashed::find_hash;
 use crate::{Nsec3Encloser, Nsec3Found};
@@ -25,8 +25,8 @@ pub(crate) fn look_up<'a, A: ToName, O: Octets, N: ToName, H: Nsec3Hasher>(
     wire: &[u8],
     hasher: &H,
 ) -> Result<Nsec3Found<'a, O, N>, Nsec3HashError>
-    ensures ok { IfOk result (λ found. IsLookedUp (A.labels apex.now) (parameters records.now)
-        (hash_with (H.answer hasher.now) records.now) (links N.labels records.now) wire.now
+    ensures ok { IfOk result (λ found. IsLookedUp
+        (hashed_records (A.labels apex.now) N.labels (H.answer hasher.now) records.now) wire.now
         (found_match N.labels found) (found_cover N.labels found)) }
     ensures err { IfErr result (λ e. (e ≡ hash_error.OutOfMemory) ⊎ ((n : ℕ)
         × (e ≡ hash_error.Hasher n)
@@ -63,13 +63,14 @@ pub(crate) fn walk<'a, A: ToName, O: Octets, N: ToName, H: Nsec3Hasher>(
 ) -> Result<Option<Nsec3Encloser<'a, O, N>>, Nsec3HashError>
     requires below { is_at_or_below name.now (A.labels apex.now) ≡ true }
     requires wire { wire.now ≡ wire_of (lowered name.now) }
-    ensures ok { IfOk result (λ found. IsFoundEncloser (links N.labels records.now)
-        (A.labels apex.now) (parameters records.now) (hash_with (H.answer hasher.now) records.now)
+    ensures ok { IfOk result (λ found. IsFoundEncloser
+        (hashed_records (A.labels apex.now) N.labels (H.answer hasher.now) records.now)
         name.now (option_map (encloser_of N.labels) found)) }
     ensures err { IfErr result (λ e. (e ≡ hash_error.OutOfMemory) ⊎ ((n : ℕ)
         × (e ≡ hash_error.Hasher n)
-        × IsFirstRefusal (links N.labels records.now) (A.labels apex.now)
-        (parameters records.now) (hash_with (H.answer hasher.now) records.now) name.now n)) }
+        × IsFirstRefusal
+        (hashed_records (A.labels apex.now) N.labels (H.answer hasher.now) records.now)
+        name.now n)) }
     ensures memory { IsErrOf result hash_error.OutOfMemory → H.takes_memory hasher.now }
 {
     let mut cover = match look_up(alloc, apex, records, wire, hasher)? {

@@ -17,12 +17,13 @@ use Rattle.domain_zone.specs.Zone.{ZoneRecord, is_zone_cut}
 use Rattle.domain_zone.proofs.NameLemmas.{below_itself, below_longer}
 use Rattle.domain_zone.proofs.OwnerLemmas.{in_any}
 use Rattle.domain_nsec3.specs.Chain.{ChainRecords, HashedLink, HashedName, IsHashedChain, cycle, ends, ends_of}
-use Rattle.domain_nsec3.specs.Config.{ChainConfig, Hash, Parameters, hash_name}
+use Rattle.domain_nsec3.specs.Config.{ChainConfig, Hash, hash_name}
 use Rattle.domain_nsec3.specs.Meaning.{IsAlone, TellsEncloser}
 use Rattle.domain_nsec3.specs.Owners.{is_chain_name, nsec3_lists, original_owners}
 use Rattle.domain_base.specs.Types.{dname}
 use Rattle.domain_checker.specs.HashedEncloser.{IsOfName}
 use Rattle.domain_checker.specs.HashedList.{is_hash_cover, is_hash_match}
+use Rattle.domain_checker.specs.HashedView.{HashedRecords, chain_records}
 use Rattle.domain_checker.specs.HashedVerdict.{is_covered, is_matched, is_ok_with, next_closer}
 use Rattle.domain_checker.specs.Verdict.{closest_encloser}
 use Rattle.domain_checker.proofs.EncloserLemmas.{apex_from, closest_is, same_count}
@@ -46,9 +47,8 @@ use Rattle.domain_denier.proofs.SomeLemmas.{in_place, no_match, not_gone, three_
 
 -- what the laws say
 pub record DenyLaws : Type 0 where
-  pub readings : (listed : List HashedLink) (a : Name) (p : Parameters) (hash : Hash) (x : Name) (t : ℕ) (answer : Answer) → t < 65536
-      → is_at_or_below x a ≡ true → is_at_parent a x t ≡ false → IsHashedRead listed a p hash x t answer
-      → IsHashedAnswered listed a p hash x t answer
+  pub readings : (R : HashedRecords) (x : Name) (t : ℕ) (answer : Answer) → t < 65536
+      → is_at_or_below x R.apex ≡ true → is_at_parent R.apex x t ≡ false → IsHashedRead R x t answer → IsHashedAnswered R x t answer
   pub whole : (L : List ZoneRecord) (a : Name) (config : ChainConfig) (links : List HashedLink) (x : Name) (t : ℕ)
       → HashedLeavesOutBelowDname L a config → IsHashedChain L a config links → AreAskedAlone L a config x
       → hashed_proved_answer L a config links x t ≡ hashed_zone_answer L a config x t
@@ -95,14 +95,14 @@ module _ (laws : DenyLaws) (L : List ZoneRecord) (a : Name) (config : ChainConfi
 
   -- what some links prove is what they say
   proved_is : (listed : List HashedLink) → All (Contains links) listed → (answer : Answer)
-      → IsHashedRead listed a config.parameters config.hash x t answer → answer ≡ hashed_proved_answer L a config listed x t
+      → IsHashedRead (chain_records a config listed) x t answer → answer ≡ hashed_proved_answer L a config listed x t
   proved_is listed among answer read =
-      laws.readings listed a config.parameters config.hash x t answer small low parent read L config links refl refl leaves chain asked among
+      laws.readings (chain_records a config listed) x t answer small low parent read L config links refl refl leaves chain asked among
 
-  zone_is : (d : Nsec3Denial) → IsPickedRead links a config.parameters config.hash x t d → d.answer ≡ hashed_zone_answer L a config x t
+  zone_is : (d : Nsec3Denial) → IsPickedRead (chain_records a config links) x t d → d.answer ≡ hashed_zone_answer L a config x t
   zone_is d read = proved_is links (All-contains_itself links) d.answer read.whole ∙ laws.whole L a config links x t leaves chain asked
 
-  picked_proves : (d : Nsec3Denial) → IsPickedRead links a config.parameters config.hash x t d
+  picked_proves : (d : Nsec3Denial) → IsPickedRead (chain_records a config links) x t d
       → hashed_proved_answer L a config (hashed_picked links d) x t ≡ hashed_zone_answer L a config x t
   picked_proves d read =
       sym (proved_is (hashed_picked links d) (three_contained links d.of_encloser d.of_next_closer d.of_wildcard) d.answer read.picked)
@@ -132,12 +132,12 @@ module _ (laws : DenyLaws) (L : List ZoneRecord) (a : Name) (config : ChainConfi
   abbrev closes : List HashedLink → Bool
   closes listed =
       (same_name en x || is_zone_cut L a en || nsec3_lists L a config en dname)
-      || is_covered a config.parameters config.hash listed (next_closer x en)
+      || is_covered (chain_records a config listed) (next_closer x en)
 
-  encloser_matched : is_matched a config.parameters config.hash links (hashed_encloser L a config x) ≡ true
-  encloser_matched = (and_parts (is_matched a config.parameters config.hash links en) (closes links) whole_tells).0
+  encloser_matched : is_matched (chain_records a config links) (hashed_encloser L a config x) ≡ true
+  encloser_matched = (and_parts (is_matched (chain_records a config links) en) (closes links) whole_tells).0
 
-  module _ (place : ℕ) (sole : IsSoleMatch links a config.parameters config.hash x place) where
+  module _ (place : ℕ) (sole : IsSoleMatch (chain_records a config links) x place) where
     contained : Contains links sole.of.link
     contained = (
       place,
@@ -169,7 +169,7 @@ module _ (laws : DenyLaws) (L : List ZoneRecord) (a : Name) (config : ChainConfi
         ]
 
     unmatched_without : (d : Nsec3Denial)
-        → is_matched a config.parameters config.hash (picked_without links place d) (hashed_encloser L a config x) ≡ false
+        → is_matched (chain_records a config (picked_without links place d)) (hashed_encloser L a config x) ≡ false
     unmatched_without d =
         let listed = picked_without links place d in
         let others = three_others links (other_place place d.of_encloser) (other_place place d.of_next_closer) (other_place place d.of_wildcard) place
@@ -189,7 +189,7 @@ module _ (laws : DenyLaws) (L : List ZoneRecord) (a : Name) (config : ChainConfi
   without_contained place d =
       three_contained links (other_place place d.of_encloser) (other_place place d.of_next_closer) (other_place place d.of_wildcard)
 
-  needed_is : (d : Nsec3Denial) → IsPickedRead links a config.parameters config.hash x t d → AreHashedNeeded L a config links x t d
+  needed_is : (d : Nsec3Denial) → IsPickedRead (chain_records a config links) x t d → AreHashedNeeded L a config links x t d
   needed_is d read = record {
     name = λ place tells. elim tells [
       | inl e ↦ without_encloser place (read.matched place e) d
@@ -230,15 +230,15 @@ module _ (laws : DenyLaws) (L : List ZoneRecord) (a : Name) (config : ChainConfi
       → list_any test (at_place links (Some place)) ≡ true
   one_any test place k there e = in_any test (at_place links (Some place)) k (in_place links (Some place) place k refl there) e
 
-  encloser_told : (place : ℕ) → IsSoleMatch links a config.parameters config.hash x place
-      → is_matched a config.parameters config.hash (at_place links (Some place)) (hashed_encloser L a config x) ≡ true
+  encloser_told : (place : ℕ) → IsSoleMatch (chain_records a config links) x place
+      → is_matched (chain_records a config (at_place links (Some place))) (hashed_encloser L a config x) ≡ true
   encloser_told place sole =
       ap (is_ok_with (λ v. list_any (is_hash_match a config.parameters v) (at_place links (Some place))))
       (hash_same config.hash en sole.name (is_first place sole) ∙ sole.known)
       ∙ one_any (is_hash_match a config.parameters sole.value) place sole.of.link sole.of.there sole.of.matched
 
-  closer_told : (place : ℕ) → IsSoleCover links a config.parameters config.hash x place
-      → is_covered a config.parameters config.hash (at_place links (Some place)) (next_closer x (hashed_encloser L a config x)) ≡ true
+  closer_told : (place : ℕ) → IsSoleCover (chain_records a config links) x place
+      → is_covered (chain_records a config (at_place links (Some place))) (next_closer x (hashed_encloser L a config x)) ≡ true
   closer_told place cover =
       let count = same_count en cover.sole.name (is_first cover.encloser cover.sole) in
       ap (is_ok_with (λ v. list_any (is_hash_cover a config.parameters v) (at_place links (Some place))))
@@ -246,7 +246,7 @@ module _ (laws : DenyLaws) (L : List ZoneRecord) (a : Name) (config : ChainConfi
       ∙ one_any (is_hash_cover a config.parameters cover.value) place cover.of.link cover.of.there
       (sym (λ j. cover.of.matched j || is_hash_cover a config.parameters cover.value cover.of.link) ∙ cover.of.says)
 
-  wildcard_told : (place : ℕ) → IsSoleWildcard links a config.parameters config.hash x place
+  wildcard_told : (place : ℕ) → IsSoleWildcard (chain_records a config links) x place
       → tells_wildcard L a config (at_place links (Some place)) x ≡ true
   wildcard_told place told =
       let listed = at_place links (Some place) in
@@ -256,15 +256,15 @@ module _ (laws : DenyLaws) (L : List ZoneRecord) (a : Name) (config : ChainConfi
       let known = ap (λ n. hash_name config.hash (wildcard_below n)) is ∙ told.known in
       let link = told.of.link in
       elim (or_cases (is_hash_match a config.parameters told.value link) (is_hash_cover a config.parameters told.value link) told.of.says) [
-        | inl e ↦ or_left (is_matched a config.parameters config.hash listed w) (is_covered a config.parameters config.hash listed w)
+        | inl e ↦ or_left (is_matched (chain_records a config listed) w) (is_covered (chain_records a config listed) w)
             (ap (is_ok_with (λ v. list_any (is_hash_match a config.parameters v) listed)) known
             ∙ one_any (is_hash_match a config.parameters told.value) place told.of.link told.of.there e)
-        | inr e ↦ or_right (is_matched a config.parameters config.hash listed w) (is_covered a config.parameters config.hash listed w)
+        | inr e ↦ or_right (is_matched (chain_records a config listed) w) (is_covered (chain_records a config listed) w)
             (ap (is_ok_with (λ v. list_any (is_hash_cover a config.parameters v) listed)) known
             ∙ one_any (is_hash_cover a config.parameters told.value) place told.of.link told.of.there e)
       ]
 
-  parts_are : (d : Nsec3Denial) → IsPickedRead links a config.parameters config.hash x t d → TellOfTheirParts L a config links x d
+  parts_are : (d : Nsec3Denial) → IsPickedRead (chain_records a config links) x t d → TellOfTheirParts L a config links x d
   parts_are d read = record {
     encloser = λ place e. encloser_told place (read.matched place e);
     next_closer = λ place e. closer_told place (read.covered place e);
@@ -275,7 +275,7 @@ module _ (laws : DenyLaws) (L : List ZoneRecord) (a : Name) (config : ChainConfi
 pub denial_is : DenyLaws → (L : List ZoneRecord) (config : ChainConfig) (chain : ChainRecords)
     → HashedLeavesOutBelowDname L chain.param.owner config → IsHashedChain L chain.param.owner config chain.links → (x : Name) (t : ℕ) → t < 65536
     → is_at_or_below x chain.param.owner ≡ true → is_at_parent chain.param.owner x t ≡ false → AreAskedAlone L chain.param.owner config x
-    → (d : Nsec3Denial) → IsPickedRead chain.links chain.param.owner config.parameters config.hash x t d → IsHashedDenial L config chain x t d
+    → (d : Nsec3Denial) → IsPickedRead (chain_records chain.param.owner config chain.links) x t d → IsHashedDenial L config chain x t d
 denial_is laws L config chain leaves is x t small low parent asked d read = record {
   zone = zone_is laws L chain.param.owner config chain.links leaves is x t small low parent asked d read;
   proved = picked_proves laws L chain.param.owner config chain.links leaves is x t small low parent asked d read;
@@ -286,9 +286,8 @@ denial_is laws L config chain leaves is x t small low parent asked d read = reco
 -- what is read with the hash and the parameters of the chain
 pub read_by : (L : List ZoneRecord) (config : ChainConfig) (hash : Hash) (chain : ChainRecords) → IsHashedWhole L config hash chain
     → (a : Name) → a ≡ chain.param.owner → (x : Name) (t : ℕ) (d : Nsec3Denial)
-    → IsPickedRead chain.links a chain.param.parameters hash x t d
-    → IsPickedRead chain.links chain.param.owner config.parameters config.hash x t d
+    → IsPickedRead (record { links = chain.links; apex = a; parameters = chain.param.parameters; hash = hash }) x t d
+    → IsPickedRead (chain_records chain.param.owner config chain.links) x t d
 read_by L config hash chain whole a apex x t d read =
-    subst (λ h. IsPickedRead chain.links chain.param.owner config.parameters h x t d) (sym whole.hashed)
-    (subst (λ p. IsPickedRead chain.links chain.param.owner p hash x t d) (sym whole.parameters)
-    (subst (λ o. IsPickedRead chain.links o chain.param.parameters hash x t d) apex read))
+    subst (λ R. IsPickedRead R x t d)
+    (λ i. record { links = chain.links; apex = apex i; parameters = sym whole.parameters i; hash = sym whole.hashed i }) read

@@ -14,10 +14,11 @@ use Rattle.domain_zone.proofs.NameLemmas.{below_length, below_longer}
 use Rattle.domain_zone.proofs.PairLemmas.{In}
 use Rattle.domain_zone.proofs.OwnerLemmas.{in_any}
 use Rattle.domain_nsec3.specs.Chain.{HashedLink}
-use Rattle.domain_nsec3.specs.Config.{Hash, Parameters, hash_name}
+use Rattle.domain_nsec3.specs.Config.{hash_name}
 use Rattle.domain_checker.specs.HashedEncloser.{Encloser, IsEncloser, encloser_is_cut, next_cover}
 use Rattle.domain_checker.specs.HashedList.{is_hash_cover, is_hash_match}
 use Rattle.domain_checker.specs.HashedReading.{IsNextHash, IsUnmatched}
+use Rattle.domain_checker.specs.HashedView.{HashedRecords, first_cover, first_match, with_links}
 use Rattle.domain_checker.specs.HashedVerdict.{is_matched, is_ok_with}
 use Rattle.domain_checker.proofs.FindLemmas.{any_none, in_at}
 use Rattle.domain_checker.proofs.HashedWalkLemmas.{some_matched}
@@ -41,10 +42,10 @@ use Rattle.domain_denier.proofs.SomeLemmas.{kept_place, matched, no_cover, no_ma
 use Rattle.domain_denier.proofs.SomeLemmas.{three_among, three_others, unmatched}
 
 -- a first answer after which the wildcard is not asked for
-plain_on : (listed : List HashedLink) (a : Name) (p : Parameters) (hash : Hash) (x : Name) (t : ℕ) (first : Answer)
-    → ((n : ℕ) → first ≡ NoCloserName n → ⊥) → IsReadOn listed a p hash x t first first
-plain_on listed a p hash x t (NoCloserName n) f = absurd (f n refl)
-plain_on listed a p hash x t first f = refl
+plain_on : (R : HashedRecords) (x : Name) (t : ℕ) (first : Answer)
+    → ((n : ℕ) → first ≡ NoCloserName n → ⊥) → IsReadOn R x t first first
+plain_on R x t (NoCloserName n) f = absurd (f n refl)
+plain_on R x t first f = refl
 
 some_is : {X : Type 0} (x y : X) → Some x ≡ Some y → x ≡ y
 some_is x y e = cc
@@ -62,15 +63,15 @@ all_among links = λ k i. by links k i
     by (l ∷ ls) k (inr i) = let r = by ls k i in (suc r.0, r.1)
 
 -- what no link of all matches none of some does
-unmatched_among : (links listed : List HashedLink) → AreAmong links listed → (a : Name) (p : Parameters) (hash : Hash) (y : Name) (v : Octets)
-    → hash_name hash y ≡ Ok v → is_matched a p hash links y ≡ false → is_matched a p hash listed y ≡ false
-unmatched_among links listed among a p hash y v known none =
-    ap (is_ok_with (λ v. list_any (is_hash_match a p v) listed)) known
-    ∙ any_none (is_hash_match a p v) listed (λ k i.
+unmatched_among : (R : HashedRecords) (listed : List HashedLink) → AreAmong R.links listed → (y : Name) (v : Octets)
+    → hash_name R.hash y ≡ Ok v → is_matched R y ≡ false → is_matched (with_links R listed) y ≡ false
+unmatched_among R listed among y v known none =
+    ap (is_ok_with (λ v. list_any (is_hash_match R.apex R.parameters v) listed)) known
+    ∙ any_none (is_hash_match R.apex R.parameters v) listed (λ k i.
     let m = among k i in
-    elim (cases_Bool (is_hash_match a p v k)) [
-      | inl e ↦ absurd (false≢true (sym none ∙ ap (is_ok_with (λ v. list_any (is_hash_match a p v) links)) known
-          ∙ in_any (is_hash_match a p v) links k (in_at links m.0 k m.1) e))
+    elim (cases_Bool (is_hash_match R.apex R.parameters v k)) [
+      | inl e ↦ absurd (false≢true (sym none ∙ ap (is_ok_with (λ v. list_any (is_hash_match R.apex R.parameters v) R.links)) known
+          ∙ in_any (is_hash_match R.apex R.parameters v) R.links k (in_at R.links m.0 k m.1) e))
       | inr e ↦ e
     ])
 
@@ -100,33 +101,32 @@ closer_counts a e m t n h =
 
 -- ---- where an encloser is found
 
-module _ (links : List HashedLink) (a : Name) (p : Parameters) (hash : Hash) (x : Name) (f : PlacedEncloser)
-    (placed : IsPlaced links a p hash x f) (t : ℕ) where
+module _ (R : HashedRecords) (x : Name) (f : PlacedEncloser) (placed : IsPlaced R x f) (t : ℕ) where
   abbrev k : HashedLink
   k = placed.of.link
 
   abbrev whole : Encloser
-  whole = encloser_with f.count placed.of.link (link_at links f.cover)
+  whole = encloser_with f.count placed.of.link (link_at R.links f.cover)
 
   abbrev past : Encloser → Answer
   past e = cond (contains_type e.link.bits dname) (Redirected e.count) (next_answer e.count e.cover)
 
   -- some of the links, with the record of the encloser, tell it too
-  module _ (listed : List HashedLink) (among : AreAmong links listed) (has : In placed.of.link listed) where
+  module _ (listed : List HashedLink) (among : AreAmong R.links listed) (has : In placed.of.link listed) where
     abbrev told : Encloser
-    told = encloser_with f.count placed.of.link (next_cover a p listed placed.next)
+    told = encloser_with f.count placed.of.link (next_cover (with_links R listed) placed.next)
 
-    encloser_in : IsEncloser listed a p hash x (encloser_with f.count placed.of.link (next_cover a p listed placed.next))
+    encloser_in : IsEncloser (with_links R listed) x (encloser_with f.count placed.of.link (next_cover (with_links R listed) placed.next))
     encloser_in =
-        let found = matched links a p placed.value f.place true placed.of listed among has refl in
+        let found = matched R.links R.apex R.parameters placed.value f.place true placed.of listed among has refl in
         record {
           name = placed.name;
           counts = placed.counts;
           first = record {
             above = placed.above;
             within = placed.within;
-            found = some_matched listed a p hash placed.name placed.value placed.of.link placed.known found;
-            first = λ y up down. let r = placed.first y up down in (r.0, r.1, unmatched_among links listed among a p hash y r.0 r.1 r.2);
+            found = some_matched (with_links R listed) placed.name placed.value placed.of.link placed.known found;
+            first = λ y up down. let r = placed.first y up down in (r.0, r.1, unmatched_among R listed among y r.0 r.1 r.2);
           };
           value = placed.value;
           known = placed.known;
@@ -138,69 +138,69 @@ module _ (links : List HashedLink) (a : Name) (p : Parameters) (hash : Hash) (x 
 
     -- a first answer, and what is read on
     read_of : (first answer : Answer)
-        → encloser_answer a (encloser_with f.count placed.of.link (next_cover a p listed placed.next)) (length x) t ≡ first
-        → IsReadOn listed a p hash x t first answer → IsHashedRead listed a p hash x t answer
+        → encloser_answer R.apex (encloser_with f.count placed.of.link (next_cover (with_links R listed) placed.next)) (length x) t ≡ first
+        → IsReadOn (with_links R listed) x t first answer → IsHashedRead (with_links R listed) x t answer
     read_of first answer e on = record {
       found = Some told;
       is = encloser_in;
-      ends = subst (λ g. IsReadOn listed a p hash x t g answer) (sym e) on;
+      ends = subst (λ g. IsReadOn (with_links R listed) x t g answer) (sym e) on;
     }
 
     -- the cover is found where the answer rests on it
-    first_is : ((q : ℕ) → next_role a (encloser_with f.count placed.of.link (link_at links f.cover)) (length x) f.cover ≡ Some q
-        → (m : HashedLink) → slice_get links q ≡ Some m → In m listed)
-        → encloser_answer a (encloser_with f.count placed.of.link (next_cover a p listed placed.next)) (length x) t
-        ≡ encloser_answer a (encloser_with f.count placed.of.link (link_at links f.cover)) (length x) t
+    first_is : ((q : ℕ) → next_role R.apex (encloser_with f.count placed.of.link (link_at R.links f.cover)) (length x) f.cover ≡ Some q
+        → (m : HashedLink) → slice_get R.links q ≡ Some m → In m listed)
+        → encloser_answer R.apex (encloser_with f.count placed.of.link (next_cover (with_links R listed) placed.next)) (length x) t
+        ≡ encloser_answer R.apex (encloser_with f.count placed.of.link (link_at R.links f.cover)) (length x) t
     first_is covers =
         elim (cases_Bool (nat_eq f.count (length x))) [
-          | inl n ↦ (λ i. cond (n i) (own_answer a told t) (lower_answer a told))
-              ∙ sym (λ i. cond (n i) (own_answer a whole t) (lower_answer a whole))
-          | inr n ↦ elim (cases_Bool (encloser_is_cut a told)) [
-            | inl c ↦ (λ i. cond (n i) (own_answer a told t) (cond (c i) (Referral f.count) (past told)))
-                ∙ sym (λ i. cond (n i) (own_answer a whole t) (cond (c i) (Referral f.count) (past whole)))
+          | inl n ↦ (λ i. cond (n i) (own_answer R.apex told t) (lower_answer R.apex told))
+              ∙ sym (λ i. cond (n i) (own_answer R.apex whole t) (lower_answer R.apex whole))
+          | inr n ↦ elim (cases_Bool (encloser_is_cut R.apex told)) [
+            | inl c ↦ (λ i. cond (n i) (own_answer R.apex told t) (cond (c i) (Referral f.count) (past told)))
+                ∙ sym (λ i. cond (n i) (own_answer R.apex whole t) (cond (c i) (Referral f.count) (past whole)))
             | inr c ↦ elim (cases_Bool (contains_type k.bits dname)) [
-              | inl h ↦ (λ i. cond (n i) (own_answer a told t) (cond (c i) (Referral f.count)
+              | inl h ↦ (λ i. cond (n i) (own_answer R.apex told t) (cond (c i) (Referral f.count)
                   (cond (h i) (Redirected f.count) (next_answer f.count told.cover))))
-                  ∙ sym (λ i. cond (n i) (own_answer a whole t) (cond (c i) (Referral f.count)
+                  ∙ sym (λ i. cond (n i) (own_answer R.apex whole t) (cond (c i) (Referral f.count)
                   (cond (h i) (Redirected f.count) (next_answer f.count whole.cover))))
-              | inr h ↦ ap (λ o. encloser_answer a (encloser_with f.count placed.of.link o) (length x) t)
+              | inr h ↦ ap (λ o. encloser_answer R.apex (encloser_with f.count placed.of.link o) (length x) t)
                   (same_cover (λ i. cond (n i) None (cond (c i) None (cond (h i) None f.cover))) placed.next refl placed.cover)
             ]
           ]
         ]
       where
-        same_cover : next_role a (encloser_with f.count placed.of.link (link_at links f.cover)) (length x) f.cover ≡ f.cover
-            → (next : Option Octets) → placed.next ≡ next → IsCoverAt a p links next f.cover
-            → next_cover a p listed placed.next ≡ link_at links f.cover
-        same_cover role None e none = ap (next_cover a p listed) e ∙ sym (ap (link_at links) none)
+        same_cover : next_role R.apex (encloser_with f.count placed.of.link (link_at R.links f.cover)) (length x) f.cover ≡ f.cover
+            → (next : Option Octets) → placed.next ≡ next → IsCoverAt R next f.cover
+            → next_cover (with_links R listed) placed.next ≡ link_at R.links f.cover
+        same_cover role None e none = ap (next_cover (with_links R listed)) e ∙ sym (ap (link_at R.links) none)
         same_cover role (Some w) e at =
-            ap (next_cover a p listed) e
-            ∙ covered links a p w at.0 false at.2 listed among (covers at.0 (role ∙ at.1) at.2.link at.2.there) refl
-            ∙ sym (ap (link_at links) at.1 ∙ at.2.there)
+            ap (next_cover (with_links R listed)) e
+            ∙ covered R.links R.apex R.parameters w at.0 false at.2 listed among (covers at.0 (role ∙ at.1) at.2.link at.2.there) refl
+            ∙ sym (ap (link_at R.links) at.1 ∙ at.2.there)
 
   -- what is picked first
-  module _ (d : Nsec3Denial) (first : IsFirstDenial a links placed.of.link f (length x) t d) where
+  module _ (d : Nsec3Denial) (first : IsFirstDenial R.apex R.links placed.of.link f (length x) t d) where
     -- the answer where the wildcard is not asked for
-    read_plain : (listed : List HashedLink) → AreAmong links listed → In placed.of.link listed
-        → ((q : ℕ) → d.of_next_closer ≡ Some q → (m : HashedLink) → slice_get links q ≡ Some m → In m listed)
-        → ((n : ℕ) → d.answer ≡ NoCloserName n → ⊥) → IsHashedRead listed a p hash x t d.answer
+    read_plain : (listed : List HashedLink) → AreAmong R.links listed → In placed.of.link listed
+        → ((q : ℕ) → d.of_next_closer ≡ Some q → (m : HashedLink) → slice_get R.links q ≡ Some m → In m listed)
+        → ((n : ℕ) → d.answer ≡ NoCloserName n → ⊥) → IsHashedRead (with_links R listed) x t d.answer
     read_plain listed among has covers other =
         read_of listed among has d.answer d.answer
         (first_is listed among has (λ q e. covers q (first.next_closer ∙ e)) ∙ sym first.answer)
-        (plain_on listed a p hash x t d.answer other)
+        (plain_on (with_links R listed) x t d.answer other)
 
     -- the parts of the answer rest on the next closer name
     pub record IsBelow (q : ℕ) : Type 0 where
       pub longer : nat_eq f.count (length x) ≡ false
-      pub uncut : encloser_is_cut a (encloser_with f.count placed.of.link (link_at links f.cover)) ≡ false
+      pub uncut : encloser_is_cut R.apex (encloser_with f.count placed.of.link (link_at R.links f.cover)) ≡ false
       pub undirected : contains_type placed.of.link.bits dname ≡ false
       pub cover : f.cover ≡ Some q
 
     rests_below : (q : ℕ) → d.of_next_closer ≡ Some q → IsBelow q
-    rests_below q e = by (nat_eq f.count (length x)) (encloser_is_cut a (encloser_with f.count placed.of.link (link_at links f.cover)))
+    rests_below q e = by (nat_eq f.count (length x)) (encloser_is_cut R.apex (encloser_with f.count placed.of.link (link_at R.links f.cover)))
         (contains_type placed.of.link.bits dname) refl refl refl (sym first.next_closer ∙ e)
       where
-        by : (n c h : Bool) → nat_eq f.count (length x) ≡ n → encloser_is_cut a (encloser_with f.count placed.of.link (link_at links f.cover)) ≡ c
+        by : (n c h : Bool) → nat_eq f.count (length x) ≡ n → encloser_is_cut R.apex (encloser_with f.count placed.of.link (link_at R.links f.cover)) ≡ c
             → contains_type placed.of.link.bits dname ≡ h → cond n None (cond c None (cond h None f.cover)) ≡ Some q → IsBelow q
         by true c h e g i m = absurd (none_some q m)
         by false true h e g i m = absurd (none_some q m)
@@ -208,24 +208,24 @@ module _ (links : List HashedLink) (a : Name) (p : Parameters) (hash : Hash) (x 
         by false false false e g i m = record { longer = e; uncut = g; undirected = i; cover = m }
 
     -- without the cover nothing is said
-    read_closer : (q : ℕ) → d.of_next_closer ≡ Some q → (listed : List HashedLink) → AreOthers links q listed → In placed.of.link listed
-        → IsHashedRead listed a p hash x t NotProven
+    read_closer : (q : ℕ) → d.of_next_closer ≡ Some q → (listed : List HashedLink) → AreOthers R.links q listed → In placed.of.link listed
+        → IsHashedRead (with_links R listed) x t NotProven
     read_closer q e listed others has =
         let below = rests_below q e in
-        let among = others_among links q listed others in
-        let told = encloser_with f.count placed.of.link (next_cover a p listed placed.next) in
+        let among = others_among R.links q listed others in
+        let told = encloser_with f.count placed.of.link (next_cover (with_links R listed) placed.next) in
         read_of listed among has NotProven NotProven
-        ((λ i. cond (below.longer i) (own_answer a told t) (cond (below.uncut i) (Referral f.count) (cond (below.undirected i) (Redirected f.count)
+        ((λ i. cond (below.longer i) (own_answer R.apex told t) (cond (below.uncut i) (Referral f.count) (cond (below.undirected i) (Redirected f.count)
         (next_answer f.count (gone below placed.next refl placed.cover i)))))) refl
       where
-        gone : IsBelow q → (next : Option Octets) → placed.next ≡ next → IsCoverAt a p links next f.cover → next_cover a p listed placed.next ≡ None
-        gone below None g none = ap (next_cover a p listed) g
+        gone : IsBelow q → (next : Option Octets) → placed.next ≡ next → IsCoverAt R next f.cover → next_cover (with_links R listed) placed.next ≡ None
+        gone below None g none = ap (next_cover (with_links R listed)) g
         gone below (Some w) g at =
             let same : at.0 ≡ q = some_is at.0 q (sym at.1 ∙ below.cover) in
-            ap (next_cover a p listed) g
-            ∙ no_cover links a p w at.0 false at.2 listed (subst (λ m. AreOthers links m listed) (sym same) others)
+            ap (next_cover (with_links R listed)) g
+            ∙ no_cover R.links R.apex R.parameters w at.0 false at.2 listed (subst (λ m. AreOthers R.links m listed) (sym same) others)
 
-    abbrev sole_here : IsSoleMatch links a p hash x f.place
+    abbrev sole_here : IsSoleMatch R x f.place
     sole_here = record {
       name = placed.name;
       above = placed.above;
@@ -236,15 +236,15 @@ module _ (links : List HashedLink) (a : Name) (p : Parameters) (hash : Hash) (x 
       of = placed.of;
     }
 
-    sole : (place : ℕ) → d.of_encloser ≡ Some place → IsSoleMatch links a p hash x place
+    sole : (place : ℕ) → d.of_encloser ≡ Some place → IsSoleMatch R x place
     sole place e =
         let same : f.place ≡ place = some_is f.place place (sym first.encloser ∙ e) in
-        subst (IsSoleMatch links a p hash x) same sole_here
+        subst (IsSoleMatch R x) same sole_here
 
-    sole_cover : (place : ℕ) → d.of_next_closer ≡ Some place → IsSoleCover links a p hash x place
+    sole_cover : (place : ℕ) → d.of_next_closer ≡ Some place → IsSoleCover R x place
     sole_cover place e = by placed.next placed.closes placed.cover
       where
-        by : (next : Option Octets) → IsNextHash hash x placed.name next → IsCoverAt a p links next f.cover → IsSoleCover links a p hash x place
+        by : (next : Option Octets) → IsNextHash R.hash x placed.name next → IsCoverAt R next f.cover → IsSoleCover R x place
         by None n none = absurd (none_some place (sym none ∙ (rests_below place e).cover))
         by (Some w) n at =
             let same : at.0 ≡ place = some_is at.0 place (sym at.1 ∙ (rests_below place e).cover) in
@@ -253,33 +253,33 @@ module _ (links : List HashedLink) (a : Name) (p : Parameters) (hash : Hash) (x 
               sole = sole_here;
               value = w;
               known = n.1;
-              of = subst (λ m. IsOfHash a p links w m false) same at.2;
+              of = subst (λ m. IsOfHash R.apex R.parameters R.links w m false) same at.2;
             }
 
     -- what is picked but for the record of the next closer name, also where the wildcard is asked for
     without_closer : (e : Nsec3Denial) → e.of_encloser ≡ Some f.place → ((q : ℕ) → e.of_next_closer ≡ Some q → d.of_next_closer ≡ Some q)
         → (place : ℕ) → e.of_next_closer ≡ Some place → ¬ (e.of_encloser ≡ Some place)
-        → IsHashedRead (picked_without links place e) a p hash x t NotProven
+        → IsHashedRead (with_links R (picked_without R.links place e)) x t NotProven
     without_closer e role from place is apart =
         let o = other_place place e.of_encloser in
         let q = other_place place e.of_next_closer in
         let r = other_place place e.of_wildcard in
-        read_closer place (from place is) (picked_without links place e)
-        (three_others links o q r place (not_gone place e.of_encloser) (not_gone place e.of_next_closer) (not_gone place e.of_wildcard))
-        (in_front (at_place links o) (at_place links q ++ at_place links r) k
-        (in_place links o f.place k (kept_place place e.of_encloser f.place role (λ same. apart (role ∙ ap Some same))) placed.of.there))
+        read_closer place (from place is) (picked_without R.links place e)
+        (three_others R.links o q r place (not_gone place e.of_encloser) (not_gone place e.of_next_closer) (not_gone place e.of_wildcard))
+        (in_front (at_place R.links o) (at_place R.links q ++ at_place R.links r) k
+        (in_place R.links o f.place k (kept_place place e.of_encloser f.place role (λ same. apart (role ∙ ap Some same))) placed.of.there))
 
     -- ---- one that the wildcard is not asked for
 
-    pub plain_read : ((n : ℕ) → d.answer ≡ NoCloserName n → ⊥) → IsPickedRead links a p hash x t d
+    pub plain_read : ((n : ℕ) → d.answer ≡ NoCloserName n → ⊥) → IsPickedRead R x t d
     plain_read other =
-        let has = in_front (at_place links d.of_encloser) (at_place links d.of_next_closer ++ at_place links d.of_wildcard) k
-        (in_place links d.of_encloser f.place k first.encloser placed.of.there) in
+        let has = in_front (at_place R.links d.of_encloser) (at_place R.links d.of_next_closer ++ at_place R.links d.of_wildcard) k
+        (in_place R.links d.of_encloser f.place k first.encloser placed.of.there) in
         record {
-          whole = read_plain links (all_among links) (in_at links f.place k placed.of.there) (λ q e m g. in_at links q m g) other;
-          picked = read_plain (hashed_picked links d) (three_among links d.of_encloser d.of_next_closer d.of_wildcard) has
-              (λ q e m g. in_back (at_place links d.of_encloser) (at_place links d.of_next_closer ++ at_place links d.of_wildcard) m
-              (in_front (at_place links d.of_next_closer) (at_place links d.of_wildcard) m (in_place links d.of_next_closer q m e g))) other;
+          whole = read_plain R.links (all_among R.links) (in_at R.links f.place k placed.of.there) (λ q e m g. in_at R.links q m g) other;
+          picked = read_plain (hashed_picked R.links d) (three_among R.links d.of_encloser d.of_next_closer d.of_wildcard) has
+              (λ q e m g. in_back (at_place R.links d.of_encloser) (at_place R.links d.of_next_closer ++ at_place R.links d.of_wildcard) m
+              (in_front (at_place R.links d.of_next_closer) (at_place R.links d.of_wildcard) m (in_place R.links d.of_next_closer q m e g))) other;
           matched = sole;
           covered = sole_cover;
           told = λ place e. absurd (none_some place (sym first.wildcard ∙ e));
@@ -291,59 +291,59 @@ module _ (links : List HashedLink) (a : Name) (p : Parameters) (hash : Hash) (x 
 
     module _ (n : ℕ) (closer : d.answer ≡ NoCloserName n) (e : Nsec3Denial) (encloser : e.of_encloser ≡ d.of_encloser)
         (next_closer : e.of_next_closer ≡ d.of_next_closer) (place : ℕ) (role : e.of_wildcard ≡ Some place) (value : Octets)
-        (known : hash_name hash (wildcard_below (last_labels n x)) ≡ Ok value) (m : Bool) (of : IsOfHash a p links value place m)
+        (known : hash_name R.hash (wildcard_below (last_labels n x)) ≡ Ok value) (m : Bool) (of : IsOfHash R.apex R.parameters R.links value place m)
         (says : e.answer ≡ wildcard_told_by n t of.link m) where
       encloser_is : e.of_encloser ≡ Some f.place
       encloser_is = encloser ∙ first.encloser
 
       counted : n ≡ length placed.name
-      counted = (closer_counts a whole (length x) t n (sym first.answer ∙ closer)).0 ∙ placed.counts
+      counted = (closer_counts R.apex whole (length x) t n (sym first.answer ∙ closer)).0 ∙ placed.counts
 
       from_first : (q : ℕ) → e.of_next_closer ≡ Some q → d.of_next_closer ≡ Some q
       from_first q g = sym next_closer ∙ g
 
       -- what is read of some of the links, by what they say of the wildcard
-      read_wild : (listed : List HashedLink) → AreAmong links listed → In placed.of.link listed
-          → ((q : ℕ) → d.of_next_closer ≡ Some q → (l : HashedLink) → slice_get links q ≡ Some l → In l listed)
-          → (answer : Answer) → IsWildcardRead listed a p hash x t n answer → IsHashedRead listed a p hash x t answer
+      read_wild : (listed : List HashedLink) → AreAmong R.links listed → In placed.of.link listed
+          → ((q : ℕ) → d.of_next_closer ≡ Some q → (l : HashedLink) → slice_get R.links q ≡ Some l → In l listed)
+          → (answer : Answer) → IsWildcardRead (with_links R listed) x t n answer → IsHashedRead (with_links R listed) x t answer
       read_wild listed among has covers answer on =
           read_of listed among has (NoCloserName n) answer
           (first_is listed among has (λ q g. covers q (first.next_closer ∙ g)) ∙ sym first.answer ∙ closer) on
 
-      wild_in : (listed : List HashedLink) → AreAmong links listed → In of.link listed → IsWildcardRead listed a p hash x t n e.answer
+      wild_in : (listed : List HashedLink) → AreAmong R.links listed → In of.link listed → IsWildcardRead (with_links R listed) x t n e.answer
       wild_in listed among has = record { value = value; known = known; says = says ∙ by m refl }
         where
-          by : (b : Bool) → m ≡ b → wildcard_told_by n t of.link m ≡ wildcard_told n t (find (is_hash_match a p value) listed)
-              (find (is_hash_cover a p value) listed)
+          by : (b : Bool) → m ≡ b → wildcard_told_by n t of.link m ≡ wildcard_told n t (first_match (with_links R listed) value)
+              (first_cover (with_links R listed) value)
           by true g =
-              let found = matched links a p value place m of listed among has g in
-              ap (wildcard_told_by n t of.link) g ∙ (λ i. wildcard_told n t (sym found i) (find (is_hash_cover a p value) listed))
+              let found = matched R.links R.apex R.parameters value place m of listed among has g in
+              ap (wildcard_told_by n t of.link) g ∙ (λ i. wildcard_told n t (sym found i) (first_cover (with_links R listed) value))
           by false g =
-              let none = unmatched links a p value place m of listed among g in
-              let found = covered links a p value place m of listed among has g in
+              let none = unmatched R.links R.apex R.parameters value place m of listed among g in
+              let found = covered R.links R.apex R.parameters value place m of listed among has g in
               ap (wildcard_told_by n t of.link) g ∙ (λ i. wildcard_told n t (sym none i) (sym found i))
 
-      wild_gone : (listed : List HashedLink) → AreOthers links place listed → IsWildcardRead listed a p hash x t n (NoCloserName n)
+      wild_gone : (listed : List HashedLink) → AreOthers R.links place listed → IsWildcardRead (with_links R listed) x t n (NoCloserName n)
       wild_gone listed others = record {
         value = value;
         known = known;
-        says = λ i. wildcard_told n t (sym (no_match links a p value place m of listed others) i)
-            (sym (no_cover links a p value place m of listed others) i);
+        says = λ i. wildcard_told n t (sym (no_match R.links R.apex R.parameters value place m of listed others) i)
+            (sym (no_cover R.links R.apex R.parameters value place m of listed others) i);
       }
 
-      pub wildcard_read : IsPickedRead links a p hash x t e
+      pub wildcard_read : IsPickedRead R x t e
       wildcard_read = record {
-        whole = read_wild links (all_among links) (in_at links f.place k placed.of.there) (λ q g l h. in_at links q l h) e.answer
-            (wild_in links (all_among links) (in_at links place of.link of.there));
+        whole = read_wild R.links (all_among R.links) (in_at R.links f.place k placed.of.there) (λ q g l h. in_at R.links q l h) e.answer
+            (wild_in R.links (all_among R.links) (in_at R.links place of.link of.there));
         picked =
-            let o = at_place links e.of_encloser in
-            let q = at_place links e.of_next_closer in
-            let r = at_place links e.of_wildcard in
-            let among = three_among links e.of_encloser e.of_next_closer e.of_wildcard in
-            read_wild (hashed_picked links e) among (in_front o (q ++ r) k (in_place links e.of_encloser f.place k encloser_is placed.of.there))
-            (λ j g l h. in_back o (q ++ r) l (in_front q r l (in_place links e.of_next_closer j l (next_closer ∙ g) h))) e.answer
-            (wild_in (hashed_picked links e) among (in_back o (q ++ r) of.link
-            (in_back q r of.link (in_place links e.of_wildcard place of.link role of.there))));
+            let o = at_place R.links e.of_encloser in
+            let q = at_place R.links e.of_next_closer in
+            let r = at_place R.links e.of_wildcard in
+            let among = three_among R.links e.of_encloser e.of_next_closer e.of_wildcard in
+            read_wild (hashed_picked R.links e) among (in_front o (q ++ r) k (in_place R.links e.of_encloser f.place k encloser_is placed.of.there))
+            (λ j g l h. in_back o (q ++ r) l (in_front q r l (in_place R.links e.of_next_closer j l (next_closer ∙ g) h))) e.answer
+            (wild_in (hashed_picked R.links e) among (in_back o (q ++ r) of.link
+            (in_back q r of.link (in_place R.links e.of_wildcard place of.link role of.there))));
         matched = λ j g. sole j (sym encloser ∙ g);
         covered = λ j g. sole_cover j (sym next_closer ∙ g);
         told = λ j g.
@@ -352,9 +352,9 @@ module _ (links : List HashedLink) (a : Name) (p : Parameters) (hash : Hash) (x 
               encloser = f.place;
               sole = sole_here;
               value = value;
-              known = ap (λ i. hash_name hash (wildcard_below (last_labels i x))) (sym counted) ∙ known;
+              known = ap (λ i. hash_name R.hash (wildcard_below (last_labels i x))) (sym counted) ∙ known;
               is_match = m;
-              of = subst (λ i. IsOfHash a p links value i m) same of;
+              of = subst (λ i. IsOfHash R.apex R.parameters R.links value i m) same of;
             };
         next_closer = without_closer e encloser_is from_first;
         wildcard = λ j g apart.
@@ -362,29 +362,28 @@ module _ (links : List HashedLink) (a : Name) (p : Parameters) (hash : Hash) (x 
             let o = other_place j e.of_encloser in
             let q = other_place j e.of_next_closer in
             let r = other_place j e.of_wildcard in
-            let others = three_others links o q r j (not_gone j e.of_encloser) (not_gone j e.of_next_closer) (not_gone j e.of_wildcard) in (
+            let others = three_others R.links o q r j (not_gone j e.of_encloser) (not_gone j e.of_next_closer) (not_gone j e.of_wildcard) in (
               n,
-              read_wild (picked_without links j e) (others_among links j (picked_without links j e) others)
-                  (in_front (at_place links o) (at_place links q ++ at_place links r) k
-                  (in_place links o f.place k (kept_place j e.of_encloser f.place encloser_is
+              read_wild (picked_without R.links j e) (others_among R.links j (picked_without R.links j e) others)
+                  (in_front (at_place R.links o) (at_place R.links q ++ at_place R.links r) k
+                  (in_place R.links o f.place k (kept_place j e.of_encloser f.place encloser_is
                   (λ s. apart (inl (encloser_is ∙ ap Some s)))) placed.of.there))
-                  (λ i h l u. in_back (at_place links o) (at_place links q ++ at_place links r) l
-                  (in_front (at_place links q) (at_place links r) l (in_place links q i l
+                  (λ i h l u. in_back (at_place R.links o) (at_place R.links q ++ at_place R.links r) l
+                  (in_front (at_place R.links q) (at_place R.links r) l (in_place R.links q i l
                   (kept_place j e.of_next_closer i (next_closer ∙ h) (λ s. apart (inr (next_closer ∙ h ∙ ap Some s)))) u)))
-                  (NoCloserName n) (wild_gone (picked_without links j e)
-                  (subst (λ s. AreOthers links s (picked_without links j e)) (sym same) others)),
+                  (NoCloserName n) (wild_gone (picked_without R.links j e)
+                  (subst (λ s. AreOthers R.links s (picked_without R.links j e)) (sym same) others)),
             );
       }
 
 -- ---- where none is found
 
-pub none_read : (links : List HashedLink) (a : Name) (p : Parameters) (hash : Hash) (x : Name) (t : ℕ) → IsUnmatched links a p hash x
-    → IsPickedRead links a p hash x t (without_records NotProven)
-none_read links a p hash x t none = record {
+pub none_read : (R : HashedRecords) (x : Name) (t : ℕ) → IsUnmatched R x → IsPickedRead R x t (without_records NotProven)
+none_read R x t none = record {
   whole = record { found = None; is = none; ends = refl };
   picked = record {
     found = None;
-    is = λ y up low. let r = none y up low in (r.0, r.1, unmatched_among links [] (λ k i. absurd i) a p hash y r.0 r.1 r.2);
+    is = λ y up low. let r = none y up low in (r.0, r.1, unmatched_among R [] (λ k i. absurd i) y r.0 r.1 r.2);
     ends = refl;
   };
   matched = λ place e. absurd (none_some place e);

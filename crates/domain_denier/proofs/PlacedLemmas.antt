@@ -12,6 +12,7 @@ use Rattle.domain_nsec3.specs.Chain.{ChainRecords, HashedLink}
 use Rattle.domain_nsec3.specs.Config.{ChainConfig, Hash, Parameters, hash_name}
 use Rattle.domain_checker.specs.HashedList.{is_hash_cover}
 use Rattle.domain_checker.specs.HashedReading.{IsUnmatched}
+use Rattle.domain_checker.specs.HashedView.{HashedRecords, first_cover}
 use Rattle.domain_checker.specs.HashedVerdict.{IsFirst}
 use Rattle.domain_checker.proofs.HashedWalkLemmas.{IsMissed, IsPassed, none_first, none_left, passed_on}
 use Rattle.domain_answer.proofs.CountLemmas.{parent_below}
@@ -22,48 +23,48 @@ use Rattle.domain_denier.specs.declared.encloser.PlacedEncloser.{PlacedEncloser}
 use Rattle.domain_denier.proofs.HashedPickLemmas.{all_among}
 use Rattle.domain_denier.proofs.SomeLemmas.{unmatched}
 
-module _ (links : List HashedLink) (a : Name) (p : Parameters) (hash : Hash) (x : Name) where
+module _ (R : HashedRecords) (x : Name) where
   -- no record matches the name that is left, and that at the place covers it
   pub record IsMissedAt (left : Name) (cover : ℕ) : Type 0 where
     pub above : is_at_or_below x left ≡ true
-    pub within : is_at_or_below left a ≡ true
-    pub first : IsFirst a p hash links x left
+    pub within : is_at_or_below left R.apex ≡ true
+    pub first : IsFirst R x left
     pub value : Octets
-    pub known : hash_name hash left ≡ Ok value
-    pub of : IsOfHash a p links value cover false
+    pub known : hash_name R.hash left ≡ Ok value
+    pub of : IsOfHash R.apex R.parameters R.links value cover false
 
-  abbrev missed_of : (left : Name) (cover : ℕ) (m : IsMissedAt left cover) → IsMissed links a p hash x left (find (is_hash_cover a p m.value) links)
+  abbrev missed_of : (left : Name) (cover : ℕ) (m : IsMissedAt left cover) → IsMissed R x left (first_cover R m.value)
   missed_of left cover m = record {
     above = m.above;
     within = m.within;
     first = m.first;
     value = m.value;
     known = m.known;
-    none = unmatched links a p m.value cover false m.of links (all_among links) refl;
+    none = unmatched R.links R.apex R.parameters m.value cover false m.of R.links (all_among R.links) refl;
     covered = refl;
   }
 
   -- x itself is covered
-  pub missed_here : is_at_or_below x a ≡ true → (v : Octets) → hash_name hash x ≡ Ok v → (cover : ℕ) → IsOfHash a p links v cover false
+  pub missed_here : is_at_or_below x R.apex ≡ true → (v : Octets) → hash_name R.hash x ≡ Ok v → (cover : ℕ) → IsOfHash R.apex R.parameters R.links v cover false
       → IsMissedAt x cover
   missed_here low v known cover of = record {
     above = below_itself x;
     within = low;
-    first = none_first links a p hash x;
+    first = none_first R x;
     value = v;
     known = known;
     of = of;
   }
 
   -- or matched
-  pub placed_here : is_at_or_below x a ≡ true → (v : Octets) → hash_name hash x ≡ Ok v → (f : PlacedEncloser)
-      → IsOfHash a p links v f.place true → f.count ≡ length x → f.cover ≡ None → IsPlaced links a p hash x f
+  pub placed_here : is_at_or_below x R.apex ≡ true → (v : Octets) → hash_name R.hash x ≡ Ok v → (f : PlacedEncloser)
+      → IsOfHash R.apex R.parameters R.links v f.place true → f.count ≡ length x → f.cover ≡ None → IsPlaced R x f
   placed_here low v known f of counts none = record {
     name = x;
     counts = counts;
     above = below_itself x;
     within = low;
-    first = none_first links a p hash x;
+    first = none_first R x;
     value = v;
     known = known;
     of = of;
@@ -74,15 +75,15 @@ module _ (links : List HashedLink) (a : Name) (p : Parameters) (hash : Hash) (x 
 
   module _ (left : Name) (cover : ℕ) (m : IsMissedAt left cover) where
     -- where the apex is covered too, none is matched
-    pub none_placed : same_name left a ≡ true → IsUnmatched links a p hash x
-    none_placed s = none_left links a p hash x left (find (is_hash_cover a p m.value) links) (missed_of left cover m) s
+    pub none_placed : same_name left R.apex ≡ true → IsUnmatched R x
+    none_placed s = none_left R x left (first_cover R m.value) (missed_of left cover m) s
 
-    module _ (label : Label) (next : Name) (parts : left ≡ label ∷ next) (other : same_name left a ≡ false) (v : Octets)
-        (known : hash_name hash next ≡ Ok v) where
-      passed : IsPassed links a p hash x next m.value
-      passed = passed_on links a p hash x left (find (is_hash_cover a p m.value) links) (missed_of left cover m) label next parts other
+    module _ (label : Label) (next : Name) (parts : left ≡ label ∷ next) (other : same_name left R.apex ≡ false) (v : Octets)
+        (known : hash_name R.hash next ≡ Ok v) where
+      passed : IsPassed R x next m.value
+      passed = passed_on R x left (first_cover R m.value) (missed_of left cover m) label next parts other
 
-      pub missed_above : (place : ℕ) → IsOfHash a p links v place false → IsMissedAt next place
+      pub missed_above : (place : ℕ) → IsOfHash R.apex R.parameters R.links v place false → IsMissedAt next place
       missed_above place of = record {
         above = passed.above;
         within = passed.within;
@@ -92,8 +93,8 @@ module _ (links : List HashedLink) (a : Name) (p : Parameters) (hash : Hash) (x 
         of = of;
       }
 
-      pub placed_above : (f : PlacedEncloser) → IsOfHash a p links v f.place true → f.count ≡ length next → f.cover ≡ Some cover
-          → IsPlaced links a p hash x f
+      pub placed_above : (f : PlacedEncloser) → IsOfHash R.apex R.parameters R.links v f.place true → f.count ≡ length next → f.cover ≡ Some cover
+          → IsPlaced R x f
       placed_above f of counts is = record {
         name = next;
         counts = counts;
@@ -114,6 +115,9 @@ module _ (links : List HashedLink) (a : Name) (p : Parameters) (hash : Hash) (x 
 pub record IsAncestor (a x left : Name) : Type 0 where
   pub above : is_at_or_below x left ≡ true
   pub within : is_at_or_below left a ≡ true
+
+pub ancestor_itself : (a x : Name) → is_at_or_below x a ≡ true → IsAncestor a x x
+ancestor_itself a x low = record { above = below_itself x; within = low }
 
 pub ancestor_above : (a x left : Name) → IsAncestor a x left → (label : Label) (next : Name) → left ≡ label ∷ next → same_name left a ≡ false
     → IsAncestor a x next

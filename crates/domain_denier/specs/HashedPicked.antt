@@ -7,6 +7,7 @@ use Rattle.domain_zone.specs.Zone.{ZoneRecord}
 use Rattle.domain_nsec3.specs.Chain.{ChainRecords, HashedLink, IsHashedChain}
 use Rattle.domain_nsec3.specs.Config.{ChainConfig, Hash, hash_name}
 use Rattle.domain_checker.specs.HashedVerdict.{is_covered, is_matched, next_closer}
+use Rattle.domain_checker.specs.HashedView.{chain_records}
 use Rattle.domain_answer.specs.HashedProved.{hashed_proved_answer, tells_wildcard}
 use Rattle.domain_answer.specs.HashedZoneAnswer.{HashedLeavesOutBelowDname, hashed_encloser, hashed_zone_answer}
 use Rattle.domain_answer.specs.ZoneAnswer.{wildcard_below}
@@ -75,10 +76,10 @@ pub record AreHashedNeeded (L : List ZoneRecord) (a : Name) (config : ChainConfi
 pub record TellOfTheirParts (L : List ZoneRecord) (a : Name) (config : ChainConfig)
     (links : List HashedLink) (x : Name) (d : Nsec3Denial) : Type 0 where
   pub encloser : (place : ℕ) → d.of_encloser ≡ Some place
-      → is_matched a config.parameters config.hash (at_place links (Some place))
+      → is_matched (chain_records a config (at_place links (Some place)))
       (hashed_encloser L a config x) ≡ true
   pub next_closer : (place : ℕ) → d.of_next_closer ≡ Some place
-      → is_covered a config.parameters config.hash (at_place links (Some place))
+      → is_covered (chain_records a config (at_place links (Some place)))
       (next_closer x (hashed_encloser L a config x)) ≡ true
   pub wildcard : (place : ℕ) → d.of_wildcard ≡ Some place
       → tells_wildcard L a config (at_place links (Some place)) x ≡ true

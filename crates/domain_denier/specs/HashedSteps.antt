@@ -14,6 +14,7 @@ use Rattle.domain_checker.specs.HashedEncloser.{Encloser, encloser_is_cut}
 use Rattle.domain_checker.specs.HashedList.{is_hash_cover, is_hash_match}
 use Rattle.domain_checker.specs.HashedReading.{IsNextHash, IsUnmatched}
 use Rattle.domain_checker.specs.HashedVerdict.{IsFirst, next_closer}
+use Rattle.domain_checker.specs.HashedView.{HashedRecords, with_links}
 use Rattle.domain_answer.specs.HashedReading.{IsHashedRead, encloser_answer, wildcard_told}
 use Rattle.domain_answer.specs.ZoneAnswer.{wildcard_below}
 use Rattle.domain_answer.specs.declared.answer.Answer.{Answer}
@@ -58,26 +59,25 @@ pub record IsFoundHash (hash : Hash) (chain : ChainRecords) (wire : Octets) (fou
 -- ---- the closest encloser
 
 -- the record at the place of a cover is that of the next closer name, where there is one
-abbrev pub IsCoverAt : Name → Parameters → List HashedLink → Option Octets → Option ℕ → Type 0
-IsCoverAt a p links None cover = cover ≡ None
-IsCoverAt a p links (Some v) cover =
-    (place : ℕ) × (cover ≡ Some place) × IsOfHash a p links v place false
+abbrev pub IsCoverAt : HashedRecords → Option Octets → Option ℕ → Type 0
+IsCoverAt R None cover = cover ≡ None
+IsCoverAt R (Some v) cover =
+    (place : ℕ) × (cover ≡ Some place) × IsOfHash R.apex R.parameters R.links v place false
 
 -- of x and its ancestors at or below the apex the first that is matched has so many labels, and
 -- these are the records of it and of the next closer name
-pub record IsPlaced (links : List HashedLink) (a : Name) (p : Parameters) (hash : Hash) (x : Name)
-    (f : PlacedEncloser) : Type 0 where
+pub record IsPlaced (R : HashedRecords) (x : Name) (f : PlacedEncloser) : Type 0 where
   pub name : Name
   pub counts : f.count ≡ length name
   pub above : is_at_or_below x name ≡ true
-  pub within : is_at_or_below name a ≡ true
-  pub first : IsFirst a p hash links x name
+  pub within : is_at_or_below name R.apex ≡ true
+  pub first : IsFirst R x name
   pub value : Octets
-  pub known : hash_name hash name ≡ Ok value
-  pub of : IsOfHash a p links value f.place true
+  pub known : hash_name R.hash name ≡ Ok value
+  pub of : IsOfHash R.apex R.parameters R.links value f.place true
   pub next : Option Octets
-  pub closes : IsNextHash hash x name next
-  pub cover : IsCoverAt a p links next f.cover
+  pub closes : IsNextHash R.hash x name next
+  pub cover : IsCoverAt R next f.cover
 
 -- it is an ancestor of x at or below the apex, and the places are places of the chain
 pub record IsInside (links : List HashedLink) (a : Name) (x : Name) (f : PlacedEncloser)
@@ -94,10 +94,9 @@ abbrev pub IsFoundInside : List HashedLink → Name → Name → Option PlacedEn
 IsFoundInside links a x None = Unit {0}
 IsFoundInside links a x (Some f) = IsInside links a x f
 
-abbrev pub IsFoundPlaced : List HashedLink → Name → Parameters → Hash → Name
-    → Option PlacedEncloser → Type 0
-IsFoundPlaced links a p hash x None = IsUnmatched links a p hash x
-IsFoundPlaced links a p hash x (Some f) = IsPlaced links a p hash x f
+abbrev pub IsFoundPlaced : HashedRecords → Name → Option PlacedEncloser → Type 0
+IsFoundPlaced R x None = IsUnmatched R x
+IsFoundPlaced R x (Some f) = IsPlaced R x f
 
 -- ---- what is picked
 
@@ -157,46 +156,41 @@ pub record IsWildcardPlaced (hash : Hash) (chain : ChainRecords) (x : Name) (t n
       → IsOfHash chain.param.owner chain.param.parameters chain.links value place is_match
 
 -- the record at this place is the only one of the links that matches the closest encloser
-pub record IsSoleMatch (links : List HashedLink) (a : Name) (p : Parameters) (hash : Hash)
-    (x : Name) (place : ℕ) : Type 0 where
+pub record IsSoleMatch (R : HashedRecords) (x : Name) (place : ℕ) : Type 0 where
   pub name : Name
   pub above : is_at_or_below x name ≡ true
-  pub within : is_at_or_below name a ≡ true
-  pub first : IsFirst a p hash links x name
+  pub within : is_at_or_below name R.apex ≡ true
+  pub first : IsFirst R x name
   pub value : Octets
-  pub known : hash_name hash name ≡ Ok value
-  pub of : IsOfHash a p links value place true
+  pub known : hash_name R.hash name ≡ Ok value
+  pub of : IsOfHash R.apex R.parameters R.links value place true
 
 -- and that at this place the only one that covers the next closer name
-pub record IsSoleCover (links : List HashedLink) (a : Name) (p : Parameters) (hash : Hash)
-    (x : Name) (place : ℕ) : Type 0 where
+pub record IsSoleCover (R : HashedRecords) (x : Name) (place : ℕ) : Type 0 where
   pub encloser : ℕ
-  pub sole : IsSoleMatch links a p hash x encloser
+  pub sole : IsSoleMatch R x encloser
   pub value : Octets
-  pub known : hash_name hash (next_closer x sole.name) ≡ Ok value
-  pub of : IsOfHash a p links value place false
+  pub known : hash_name R.hash (next_closer x sole.name) ≡ Ok value
+  pub of : IsOfHash R.apex R.parameters R.links value place false
 
 -- and that at this place the only one that matches or covers the wildcard
-pub record IsSoleWildcard (links : List HashedLink) (a : Name) (p : Parameters) (hash : Hash)
-    (x : Name) (place : ℕ) : Type 0 where
+pub record IsSoleWildcard (R : HashedRecords) (x : Name) (place : ℕ) : Type 0 where
   pub encloser : ℕ
-  pub sole : IsSoleMatch links a p hash x encloser
+  pub sole : IsSoleMatch R x encloser
   pub value : Octets
-  pub known : hash_name hash (wildcard_below (last_labels (length sole.name) x)) ≡ Ok value
+  pub known : hash_name R.hash (wildcard_below (last_labels (length sole.name) x)) ≡ Ok value
   pub is_match : Bool
-  pub of : IsOfHash a p links value place is_match
+  pub of : IsOfHash R.apex R.parameters R.links value place is_match
 
 -- what is picked answers as all links do; without it less is said
-pub record IsPickedRead (links : List HashedLink) (a : Name) (p : Parameters) (hash : Hash)
-    (x : Name) (t : ℕ) (d : Nsec3Denial) : Type 0 where
-  pub whole : IsHashedRead links a p hash x t d.answer
-  pub picked : IsHashedRead (hashed_picked links d) a p hash x t d.answer
-  pub matched : (place : ℕ) → d.of_encloser ≡ Some place → IsSoleMatch links a p hash x place
-  pub covered : (place : ℕ) → d.of_next_closer ≡ Some place
-      → IsSoleCover links a p hash x place
-  pub told : (place : ℕ) → d.of_wildcard ≡ Some place → IsSoleWildcard links a p hash x place
+pub record IsPickedRead (R : HashedRecords) (x : Name) (t : ℕ) (d : Nsec3Denial) : Type 0 where
+  pub whole : IsHashedRead R x t d.answer
+  pub picked : IsHashedRead (with_links R (hashed_picked R.links d)) x t d.answer
+  pub matched : (place : ℕ) → d.of_encloser ≡ Some place → IsSoleMatch R x place
+  pub covered : (place : ℕ) → d.of_next_closer ≡ Some place → IsSoleCover R x place
+  pub told : (place : ℕ) → d.of_wildcard ≡ Some place → IsSoleWildcard R x place
   pub next_closer : (place : ℕ) → d.of_next_closer ≡ Some place
       → ¬ (d.of_encloser ≡ Some place)
-      → IsHashedRead (picked_without links place d) a p hash x t NotProven
+      → IsHashedRead (with_links R (picked_without R.links place d)) x t NotProven
   pub wildcard : (place : ℕ) → d.of_wildcard ≡ Some place → ¬ (TellsOfName d place)
-      → (n : ℕ) × IsHashedRead (picked_without links place d) a p hash x t (NoCloserName n)
+      → (n : ℕ) × IsHashedRead (with_links R (picked_without R.links place d)) x t (NoCloserName n)

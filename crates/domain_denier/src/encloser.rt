@@ -5,6 +5,7 @@ ghost use Rattle.domain_nsec3.specs.Config.{ChainConfig};
 ghost use Rattle.domain_nsec3.specs.View.{hash_by};
 ghost use Rattle.domain_hasher.specs.declared.error.Nsec3HashError.TheVariants as hash_error;
 ghost use Rattle.domain_zone.specs.Zone.{ZoneRecord};
+ghost use Rattle.domain_checker.specs.HashedView.{links_with};
 ghost use Rattle.domain_denier.specs.HashedPicked.{IsHashedWhole, IsRefusedAbove};
 ghost use Rattle.domain_denier.specs.HashedSteps.{IsFoundInside, IsFoundPlaced};
 
@@ -52,8 +53,9 @@ pub(crate) fn find_encloser<O: Octets, H: Nsec3Hasher>(
     ensures inside { IfOk result (IsFoundInside chain.now.links apex.now name.now) }
     ensures placed { IfOk result (λ found. (L : List ZoneRecord) (config : ChainConfig)
         → IsHashedWhole L config (hash_by (H.answer hasher.now) chain.now.param.parameters)
-        chain.now → IsFoundPlaced chain.now.links apex.now chain.now.param.parameters
-        (hash_by (H.answer hasher.now) chain.now.param.parameters) name.now found) }
+        chain.now → IsFoundPlaced
+        (links_with apex.now chain.now.param.parameters (H.answer hasher.now) chain.now.links)
+        name.now found) }
     ensures err { IfErr result (λ e. (e ≡ hash_error.OutOfMemory) ⊎ ((n : ℕ)
         × (e ≡ hash_error.Hasher n) × IsRefusedAbove apex.now
         (hash_by (H.answer hasher.now) chain.now.param.parameters) name.now n)) }

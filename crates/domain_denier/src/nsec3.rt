@@ -7,6 +7,7 @@ ghost use Rattle.domain_nsec3.specs.View.{hash_by};
 ghost use Rattle.domain_hasher.specs.declared.error.Nsec3HashError.TheVariants as hash_error;
 ghost use Rattle.domain_zone.specs.Zone.{ZoneRecord};
 ghost use Rattle.domain_checker.specs.HashedEncloser.{encloser_is_cut};
+ghost use Rattle.domain_checker.specs.HashedView.{links_with};
 ghost use Rattle.domain_answer.specs.HashedProved.{AreAskedAlone};
 ghost use Rattle.domain_answer.specs.HashedReading.{next_answer, own_answer, IsHashedRead};
 ghost use Rattle.domain_answer.specs.Proved.{needs_no_records};
@@ -262,10 +263,11 @@ fn deny_placed<O: Octets, M: ToName, H: Nsec3Hasher>(
     ensures there { IfOk result (AreHashedThere chain.now.links) }
     ensures read { IfOk result (λ d. (L : List ZoneRecord) (config : ChainConfig)
         → IsHashedWhole L config (hash_by (H.answer hasher.now) chain.now.param.parameters)
-        chain.now → IsPlaced chain.now.links apex.now chain.now.param.parameters
-        (hash_by (H.answer hasher.now) chain.now.param.parameters) (M.labels name.now) encloser
-        → IsPickedRead chain.now.links apex.now chain.now.param.parameters
-        (hash_by (H.answer hasher.now) chain.now.param.parameters) (M.labels name.now) rtype d) }
+        chain.now → IsPlaced
+        (links_with apex.now chain.now.param.parameters (H.answer hasher.now) chain.now.links)
+        (M.labels name.now) encloser → IsPickedRead
+        (links_with apex.now chain.now.param.parameters (H.answer hasher.now) chain.now.links)
+        (M.labels name.now) rtype d) }
     ensures err { IfErr result (λ e. (e ≡ hash_error.OutOfMemory) ⊎ ((n : ℕ)
         × (e ≡ hash_error.Hasher n) × IsRefusedAbove apex.now
         (hash_by (H.answer hasher.now) chain.now.param.parameters) (M.labels name.now) n)) }
@@ -296,8 +298,9 @@ fn deny_inside<O: Octets, M: ToName, H: Nsec3Hasher>(
     ensures there { IfOk result (AreHashedThere chain.now.links) }
     ensures read { IfOk result (λ d. (L : List ZoneRecord) (config : ChainConfig)
         → IsHashedWhole L config (hash_by (H.answer hasher.now) chain.now.param.parameters)
-        chain.now → IsPickedRead chain.now.links apex.now chain.now.param.parameters
-        (hash_by (H.answer hasher.now) chain.now.param.parameters) (M.labels name.now) rtype d) }
+        chain.now → IsPickedRead
+        (links_with apex.now chain.now.param.parameters (H.answer hasher.now) chain.now.links)
+        (M.labels name.now) rtype d) }
     ensures err { IfErr result (λ e. (e ≡ hash_error.OutOfMemory) ⊎ ((n : ℕ)
         × (e ≡ hash_error.Hasher n) × IsRefusedAbove apex.now
         (hash_by (H.answer hasher.now) chain.now.param.parameters) (M.labels name.now) n)) }

@@ -4,8 +4,8 @@ use Rattle.std.specs.List.{find}
 use Rattle.domain_base.specs.Words.{Name}
 use Rattle.domain_base.specs.Name.{lowered, wire_of}
 use Rattle.domain_nsec3.specs.Chain.{HashedLink}
-use Rattle.domain_nsec3.specs.Config.{Hash, Parameters, hash_name}
-use Rattle.domain_checker.specs.HashedList.{is_hash_cover, is_hash_match}
+use Rattle.domain_nsec3.specs.Config.{hash_name}
+use Rattle.domain_checker.specs.HashedView.{HashedRecords, first_cover, first_match}
 use Rattle.domain_checker.specs.HashedPass.{IsLookedUp}
 use Rattle.domain_answer.specs.Expansion.{closer_name}
 use Rattle.judge_program.specs.Why.{closer_told, hash_told, nsec3_shown}
@@ -19,11 +19,11 @@ pub at_most : (a b : ℕ) → (b < a → ⊥) → a ≤ b
 at_most a b not = omega (arith, not)
 
 -- what one pass found of the next closer name
-pub closer_is_told : (a : Name) (p : Parameters) (hash : Hash) (listed : List HashedLink) (x : Name) (n : ℕ) (closer : Name)
-    (matched covered : Option HashedLink) → closer ≡ closer_name n x → IsLookedUp a p hash listed (wire_of (lowered closer)) matched covered
-    → nsec3_shown (NextCloser (closer_name n x)) matched covered ≡ closer_told a p hash listed x n
-closer_is_told a p hash listed x n closer matched covered is looked =
+pub closer_is_told : (R : HashedRecords) (x : Name) (n : ℕ) (closer : Name)
+    (matched covered : Option HashedLink) → closer ≡ closer_name n x → IsLookedUp R (wire_of (lowered closer)) matched covered
+    → nsec3_shown (NextCloser (closer_name n x)) matched covered ≡ closer_told R x n
+closer_is_told R x n closer matched covered is looked =
     let role = NextCloser (closer_name n x) in
-    shown_found role matched covered (find (is_hash_match a p looked.value) listed) (find (is_hash_cover a p looked.value) listed)
+    shown_found role matched covered (first_match R looked.value) (first_cover R looked.value)
     looked.found.matching looked.found.covering
-    ∙ ap (hash_told a p listed role) (sym looked.known ∙ ap (hash_name hash) is)
+    ∙ ap (hash_told R role) (sym looked.known ∙ ap (hash_name R.hash) is)

@@ -4,8 +4,9 @@ use Rattle.domain_octets.specs.Words.{Octets}
 use Rattle.domain_nsec3.specs.Chain.{HashedLink, ParamRecord}
 use Rattle.domain_nsec3.specs.View.{HasherAnswer}
 use Rattle.domain_borrowed.specs.Data.{RawRecord}
+use Rattle.domain_checker.specs.HashedView.{links_with}
 use Rattle.domain_answer.specs.declared.answer.Answer.{Answer}
-use Rattle.denial_program.specs.Check.{hash_with, AreNsec3s, AreParams}
+use Rattle.denial_program.specs.Check.{AreNsec3s, AreParams}
 use Rattle.denial_program.specs.declared.command.Question.{Question}
 use Rattle.denial_program.specs.declared.fault.DenialFault.{DenialFault}
 use Rattle.denial_program.specs.declared.fault.DenialFault.TheVariants.{Write, OutOfMemory}
@@ -19,8 +20,8 @@ use Rattle.judge_program.specs.Why.{rests_on_records}
 
 pub nsec3_text_is : (hashes : HasherAnswer) (given : List RawRecord) (q : Question) (asked : Nsec3Options) (shown : Shown) (param : ParamRecord)
     (links : List HashedLink) (answer : Answer) (below : Octets) → AreParams q.apex given (param ∷ []) → AreNsec3s given links
-    → IsAnswerAsked asked.labels param.parameters (hash_with hashes param) links q asked.limit answer
-    → IsNsec3Below (rests_on_records answer) shown asked.labels q.apex param (hash_with hashes param) links q.name answer below
+    → IsAnswerAsked asked.labels (links_with q.apex param.parameters hashes links) q asked.limit answer
+    → IsNsec3Below (rests_on_records answer) shown asked.labels param (links_with q.apex param.parameters hashes links) q.name answer below
     → IsNsec3Text hashes given q asked shown (first_line shown q.name answer ++ below)
 nsec3_text_is hashes given q asked shown param links answer below single are is follows =
     record {

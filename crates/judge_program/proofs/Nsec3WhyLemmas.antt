@@ -9,10 +9,10 @@ use Rattle.domain_octets.specs.Words.{Octets}
 use Rattle.domain_base.specs.Words.{Name}
 use Rattle.domain_base.specs.Name.{lowered, wire_of, last_labels}
 use Rattle.domain_nsec3.specs.Chain.{HashedLink}
-use Rattle.domain_nsec3.specs.Config.{Hash, Parameters, hash_name}
+use Rattle.domain_nsec3.specs.Config.{hash_name}
+use Rattle.domain_checker.specs.HashedView.{HashedRecords, first_cover, first_match}
 use Rattle.domain_nsec3.specs.Text.{link_text}
 use Rattle.domain_checker.specs.HashedEncloser.{Encloser}
-use Rattle.domain_checker.specs.HashedList.{is_hash_cover, is_hash_match}
 use Rattle.domain_checker.specs.HashedPass.{IsLookedUp}
 use Rattle.domain_answer.specs.ZoneAnswer.{wildcard_below}
 use Rattle.domain_answer.specs.declared.answer.Answer.{Answer}
@@ -58,16 +58,16 @@ shown_found role None covered first cover is else =
     ap (λ l. nsec3_shown role None l) (else refl) ∙ ap (λ m. nsec3_shown role m cover) is
 
 -- and of a wildcard below a name
-pub wildcard_told : (a : Name) (p : Parameters) (hash : Hash) (listed : List HashedLink) (x : Name) (n : ℕ) (wildcard : Name)
+pub wildcard_told : (R : HashedRecords) (x : Name) (n : ℕ) (wildcard : Name)
     (matched covered : Option HashedLink) → n < length x → wildcard ≡ wildcard_below (last_labels n x)
-    → IsLookedUp a p hash listed (wire_of (lowered wildcard)) matched covered
-    → nsec3_shown (Wildcard (last_labels n x)) matched covered ≡ nsec3_wildcard_told a p hash listed x (Some n)
-wildcard_told a p hash listed x n wildcard matched covered more is looked =
+    → IsLookedUp R (wire_of (lowered wildcard)) matched covered
+    → nsec3_shown (Wildcard (last_labels n x)) matched covered ≡ nsec3_wildcard_told R x (Some n)
+wildcard_told R x n wildcard matched covered more is looked =
     let role = Wildcard (last_labels n x) in
-    shown_found role matched covered (find (is_hash_match a p looked.value) listed) (find (is_hash_cover a p looked.value) listed)
+    shown_found role matched covered (first_match R looked.value) (first_cover R looked.value)
     looked.found.matching looked.found.covering
-    ∙ ap (hash_told a p listed role) (sym looked.known ∙ ap (hash_name hash) is)
-    ∙ sym (cond-true (nat_lt n (length x)) (hash_told a p listed role (hash_name hash (wildcard_below (last_labels n x)))) [] (lt-ltb n (length x) more))
+    ∙ ap (hash_told R role) (sym looked.known ∙ ap (hash_name R.hash) is)
+    ∙ sym (cond-true (nat_lt n (length x)) (hash_told R role (hash_name R.hash (wildcard_below (last_labels n x)))) [] (lt-ltb n (length x) more))
 
 -- what is known anyway is known where there is no error
 pub on_any : {X E P : Type 0} → (r : Result X E) → P → OnOk r P

@@ -15,8 +15,8 @@ use Rattle.domain_base.specs.Words.{Name}
 use Rattle.domain_chain_rdata.specs.Nsec3paramText.{nsec3param_text}
 use Rattle.domain_nsec.specs.Chain.{Link}
 use Rattle.domain_nsec3.specs.Chain.{HashedLink, ParamRecord}
-use Rattle.domain_nsec3.specs.Config.{Hash, Parameters, hash_name}
-use Rattle.domain_checker.specs.HashedList.{is_hash_cover, is_hash_match}
+use Rattle.domain_nsec3.specs.Config.{hash_name}
+use Rattle.domain_checker.specs.HashedView.{HashedRecords, first_cover, first_match}
 use Rattle.domain_checker.specs.HashedPass.{IsLookedUp}
 use Rattle.domain_checker.specs.Reading.{is_cover, is_match}
 use Rattle.domain_answer.specs.Expansion.{closer_name}
@@ -59,26 +59,26 @@ two_records a listed x answer needs =
 
 -- ---- NSEC3
 
-looked_up_is : (a : Name) (p : Parameters) (hash : Hash) (listed : List HashedLink) (name other : Name) (matched covered : Option HashedLink)
-    → name ≡ other → IsLookedUp a p hash listed (wire_of (lowered name)) matched covered
-    → first_of matched covered ≡ hash_found a p listed (hash_name hash other)
-looked_up_is a p hash listed name other matched covered is looked =
-    first_is matched covered (find (is_hash_match a p looked.value) listed) (find (is_hash_cover a p looked.value) listed)
+looked_up_is : (R : HashedRecords) (name other : Name) (matched covered : Option HashedLink)
+    → name ≡ other → IsLookedUp R (wire_of (lowered name)) matched covered
+    → first_of matched covered ≡ hash_found R (hash_name R.hash other)
+looked_up_is R name other matched covered is looked =
+    first_is matched covered (first_match R looked.value) (first_cover R looked.value)
     looked.found.matching looked.found.covering
-    ∙ ap (hash_found a p listed) (sym looked.known ∙ ap (hash_name hash) is)
+    ∙ ap (hash_found R) (sym looked.known ∙ ap (hash_name R.hash) is)
 
-pub hashed_wildcard_is : (a : Name) (p : Parameters) (hash : Hash) (listed : List HashedLink) (x : Name) (n : ℕ) (wildcard : Name)
+pub hashed_wildcard_is : (R : HashedRecords) (x : Name) (n : ℕ) (wildcard : Name)
     (matched covered : Option HashedLink) → n < length x → wildcard ≡ wildcard_below (last_labels n x)
-    → IsLookedUp a p hash listed (wire_of (lowered wildcard)) matched covered
-    → first_of matched covered ≡ nsec3_wildcard_found a p hash listed x (Some n)
-hashed_wildcard_is a p hash listed x n wildcard matched covered more is looked =
-    looked_up_is a p hash listed wildcard (wildcard_below (last_labels n x)) matched covered is looked
-    ∙ sym (cond-true (nat_lt n (length x)) (hash_found a p listed (hash_name hash (wildcard_below (last_labels n x)))) None (lt-ltb n (length x) more))
+    → IsLookedUp R (wire_of (lowered wildcard)) matched covered
+    → first_of matched covered ≡ nsec3_wildcard_found R x (Some n)
+hashed_wildcard_is R x n wildcard matched covered more is looked =
+    looked_up_is R wildcard (wildcard_below (last_labels n x)) matched covered is looked
+    ∙ sym (cond-true (nat_lt n (length x)) (hash_found R (hash_name R.hash (wildcard_below (last_labels n x)))) None (lt-ltb n (length x) more))
 
-pub closer_is : (a : Name) (p : Parameters) (hash : Hash) (listed : List HashedLink) (x : Name) (n : ℕ) (closer : Name)
-    (matched covered : Option HashedLink) → closer ≡ closer_name n x → IsLookedUp a p hash listed (wire_of (lowered closer)) matched covered
-    → first_of matched covered ≡ hash_found a p listed (hash_name hash (closer_name n x))
-closer_is a p hash listed x n closer matched covered is looked = looked_up_is a p hash listed closer (closer_name n x) matched covered is looked
+pub closer_is : (R : HashedRecords) (x : Name) (n : ℕ) (closer : Name)
+    (matched covered : Option HashedLink) → closer ≡ closer_name n x → IsLookedUp R (wire_of (lowered closer)) matched covered
+    → first_of matched covered ≡ hash_found R (hash_name R.hash (closer_name n x))
+closer_is R x n closer matched covered is looked = looked_up_is R closer (closer_name n x) matched covered is looked
 
 -- the parts of a line in the grouping in which they are written
 parts_of_line : (owner ttl class kind text : Octets)

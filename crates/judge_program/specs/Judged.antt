@@ -6,7 +6,8 @@ use Rattle.domain_records.specs.declared.error.SigningError.{SigningError}
 use Rattle.domain_records.specs.declared.error.SigningError.TheVariants.{Nsec3HashingError}
 use Rattle.domain_nsec.specs.Chain.{Link}
 use Rattle.domain_nsec3.specs.Chain.{HashedLink, ParamRecord}
-use Rattle.domain_nsec3.specs.Config.{Hash, Parameters, hash_name}
+use Rattle.domain_nsec3.specs.Config.{hash_name}
+use Rattle.domain_checker.specs.HashedView.{HashedRecords, links_with}
 use Rattle.domain_nsec3.specs.View.{HasherAnswer}
 use Rattle.domain_borrowed.specs.Data.{RawRecord}
 use Rattle.domain_answer.specs.Expansion.{closer_name, is_expanded, ExpansionRestsOn, IsExpansionAnswered, IsExpansionRead}
@@ -17,7 +18,7 @@ use Rattle.domain_answer.specs.Reading.{reading}
 use Rattle.domain_answer.specs.ZoneAnswer.{is_at_parent}
 use Rattle.domain_answer.specs.declared.answer.Answer.{Answer}
 use Rattle.domain_answer.specs.declared.answer.Answer.TheVariants.{OutsideZone, AtParent, TooManyIterations, NotProven}
-use Rattle.denial_program.specs.Check.{hash_with, AreNsecs, AreNsec3s, AreParams, HasNoParam}
+use Rattle.denial_program.specs.Check.{AreNsecs, AreNsec3s, AreParams, HasNoParam}
 use Rattle.denial_program.specs.declared.command.Question.{Question}
 use Rattle.denial_program.specs.declared.fault.DenialFault.{DenialFault}
 use Rattle.denial_program.specs.declared.fault.DenialFault.TheVariants.{Usage}
@@ -42,38 +43,37 @@ pub record IsNsecJudged (given : List RawRecord) (q : Question) (answer : Answer
 
 -- the answer is what NSEC3 records prove with these parameters, as those of NSEC; with more
 -- iterations than the limit none is asked of them
-pub record IsNsec3Answer (p : Parameters) (hash : Hash) (links : List HashedLink) (q : Question)
-    (limit : ℕ) (answer : Answer) : Type 0 where
+pub record IsNsec3Answer (R : HashedRecords) (q : Question) (limit : ℕ) (answer : Answer)
+    : Type 0 where
   pub outside : is_at_or_below q.name q.apex ≡ false → answer ≡ OutsideZone
   pub parent : is_at_or_below q.name q.apex ≡ true → is_at_parent q.apex q.name q.rtype ≡ true
       → answer ≡ AtParent
-  pub iterations : needs_no_records q.apex q.name q.rtype ≡ false → limit < p.iterations
+  pub iterations : needs_no_records q.apex q.name q.rtype ≡ false → limit < R.parameters.iterations
       → answer ≡ TooManyIterations
-  pub zone : p.iterations ≤ limit → IsHashedAnswered links q.apex p hash q.name q.rtype answer
-  pub exact : needs_no_records q.apex q.name q.rtype ≡ false → p.iterations ≤ limit
-      → IsHashedRead links q.apex p hash q.name q.rtype answer
-  pub proof : HashedRestsOn links q.apex p hash q.name answer
+  pub zone : R.parameters.iterations ≤ limit → IsHashedAnswered R q.name q.rtype answer
+  pub exact : needs_no_records q.apex q.name q.rtype ≡ false → R.parameters.iterations ≤ limit
+      → IsHashedRead R q.name q.rtype answer
+  pub proof : HashedRestsOn R q.name answer
 
 -- the answer is what they prove of a name whose records were expanded from the wildcard right below
 -- its last n labels, as the signatures of those records tell
-pub record IsExpansionAnswer (p : Parameters) (hash : Hash) (links : List HashedLink) (q : Question)
-    (n limit : ℕ) (answer : Answer) : Type 0 where
+pub record IsExpansionAnswer (R : HashedRecords) (q : Question) (n limit : ℕ) (answer : Answer)
+    : Type 0 where
   pub outside : is_at_or_below q.name q.apex ≡ false → answer ≡ OutsideZone
   pub none : is_at_or_below q.name q.apex ≡ true → is_expanded q.apex q.name n ≡ false
       → answer ≡ NotProven
-  pub iterations : is_expanded q.apex q.name n ≡ true → limit < p.iterations
+  pub iterations : is_expanded q.apex q.name n ≡ true → limit < R.parameters.iterations
       → answer ≡ TooManyIterations
-  pub zone : is_expanded q.apex q.name n ≡ true → p.iterations ≤ limit
-      → IsExpansionAnswered links q.apex p hash q.name n answer
-  pub exact : is_expanded q.apex q.name n ≡ true → p.iterations ≤ limit
-      → IsExpansionRead links q.apex p hash q.name n answer
-  pub proof : ExpansionRestsOn links q.apex p hash q.name n answer
+  pub zone : is_expanded q.apex q.name n ≡ true → R.parameters.iterations ≤ limit
+      → IsExpansionAnswered R q.name n answer
+  pub exact : is_expanded q.apex q.name n ≡ true → R.parameters.iterations ≤ limit
+      → IsExpansionRead R q.name n answer
+  pub proof : ExpansionRestsOn R q.name n answer
 
 -- as these options ask for it
-abbrev pub IsAnswerAsked : Option ℕ → Parameters → Hash → List HashedLink → Question → ℕ → Answer
-    → Type 0
-IsAnswerAsked None p hash links q limit answer = IsNsec3Answer p hash links q limit answer
-IsAnswerAsked (Some n) p hash links q limit answer = IsExpansionAnswer p hash links q n limit answer
+abbrev pub IsAnswerAsked : Option ℕ → HashedRecords → Question → ℕ → Answer → Type 0
+IsAnswerAsked None R q limit answer = IsNsec3Answer R q limit answer
+IsAnswerAsked (Some n) R q limit answer = IsExpansionAnswer R q n limit answer
 
 -- the apex has one NSEC3PARAM record, and the answer is that of the NSEC3 records with its
 -- parameters
@@ -83,22 +83,19 @@ pub record IsNsec3Judged (hashes : HasherAnswer) (given : List RawRecord) (q : Q
   pub single : AreParams q.apex given (param ∷ [])
   pub links : List HashedLink
   pub are : AreNsec3s given links
-  pub is : IsAnswerAsked asked.labels param.parameters (hash_with hashes param) links q asked.limit
-      answer
+  pub is : IsAnswerAsked asked.labels (links_with q.apex param.parameters hashes links) q
+      asked.limit answer
 
 -- the hasher refuses the one name that is hashed where there are labels, the next closer name
-pub record IsCloserRefusal (p : Parameters) (hash : Hash) (q : Question) (n limit reason : ℕ)
-    : Type 0 where
+pub record IsCloserRefusal (R : HashedRecords) (q : Question) (n limit reason : ℕ) : Type 0 where
   pub expanded : is_expanded q.apex q.name n ≡ true
-  pub iterations : p.iterations ≤ limit
-  pub refused : hash_name hash (closer_name n q.name) ≡ Err reason
+  pub iterations : R.parameters.iterations ≤ limit
+  pub refused : hash_name R.hash (closer_name n q.name) ≡ Err reason
 
 -- the first refusal among the names that are asked for
-abbrev pub IsRefusalAsked : Option ℕ → Parameters → Hash → List HashedLink → Question → ℕ → ℕ
-    → Type 0
-IsRefusalAsked None p hash links q limit reason =
-    IsFirstOfRefusals links q.apex p hash q.name q.rtype reason
-IsRefusalAsked (Some n) p hash links q limit reason = IsCloserRefusal p hash q n limit reason
+abbrev pub IsRefusalAsked : Option ℕ → HashedRecords → Question → ℕ → ℕ → Type 0
+IsRefusalAsked None R q limit reason = IsFirstOfRefusals R q.name q.rtype reason
+IsRefusalAsked (Some n) R q limit reason = IsCloserRefusal R q n limit reason
 
 -- the hasher refuses a name that is asked for: this is the first
 pub record IsJudgeRefused (hashes : HasherAnswer) (given : List RawRecord) (q : Question)
@@ -109,7 +106,7 @@ pub record IsJudgeRefused (hashes : HasherAnswer) (given : List RawRecord) (q : 
   pub are : AreNsec3s given links
   pub reason : ℕ
   pub is : error ≡ Nsec3HashingError (Hasher reason)
-  pub first : IsRefusalAsked asked.labels param.parameters (hash_with hashes param) links q
+  pub first : IsRefusalAsked asked.labels (links_with q.apex param.parameters hashes links) q
       asked.limit reason
 
 -- want of memory, or this refusal of the hasher

@@ -13,9 +13,9 @@ use Rattle.domain_fields.specs.Layout.{octets_of}
 use Rattle.domain_chain_rdata.specs.Rdata.{nsec3 as nsec3_fields}
 use Rattle.domain_nsec.specs.Chain.{Link}
 use Rattle.domain_nsec3.specs.Chain.{HashedLink, ParamRecord}
-use Rattle.domain_nsec3.specs.Config.{Hash, Parameters, hash_name}
+use Rattle.domain_nsec3.specs.Config.{hash_name}
 use Rattle.domain_checker.specs.HashedEncloser.{Encloser, IsFoundEncloser, encloser_of}
-use Rattle.domain_checker.specs.HashedList.{is_hash_cover, is_hash_match}
+use Rattle.domain_checker.specs.HashedView.{HashedRecords, first_cover, first_match}
 use Rattle.domain_checker.specs.HashedPass.{found_cover, found_match}
 use Rattle.domain_checker.specs.Reading.{is_cover, is_match}
 use Rattle.domain_checker.specs.declared.hashed.Nsec3Found.{Nsec3Found}
@@ -145,18 +145,16 @@ abbrev pub nsec3_once : List HashedLink → Option HashedLink → Octets
 nsec3_once = line_once same_hashed_link nsec3_line
 
 -- the record that tells of a name with this hash; none of one whose hash is refused
-abbrev pub hash_found : Name → Parameters → List HashedLink → Result Octets ℕ → Option HashedLink
-hash_found a p listed (Ok v) =
-    first_of (find (is_hash_match a p v) listed) (find (is_hash_cover a p v) listed)
-hash_found a p listed (Err n) = None
+abbrev pub hash_found : HashedRecords → Result Octets ℕ → Option HashedLink
+hash_found R (Ok v) = first_of (first_match R v) (first_cover R v)
+hash_found R (Err n) = None
 
 -- that of the wildcard below the last n labels of x, which has more of them
-abbrev pub nsec3_wildcard_found : Name → Parameters → Hash → List HashedLink → Name → Option ℕ
-    → Option HashedLink
-nsec3_wildcard_found a p hash listed x None = None
-nsec3_wildcard_found a p hash listed x (Some n) =
+abbrev pub nsec3_wildcard_found : HashedRecords → Name → Option ℕ → Option HashedLink
+nsec3_wildcard_found R x None = None
+nsec3_wildcard_found R x (Some n) =
     if nat_lt n (length x)
-    then hash_found a p listed (hash_name hash (wildcard_below (last_labels n x))) else None
+    then hash_found R (hash_name R.hash (wildcard_below (last_labels n x))) else None
 
 -- the record of the closest encloser, and that of the next closer name, where the response needs it
 abbrev pub encloser_part : Needs → Option HashedLink → Option HashedLink
@@ -200,19 +198,18 @@ wildcard_found_link labels (Some (n, found)) =
 
 -- of x and its ancestors the first that a record matches, and, where the response needs them, the
 -- next closer name and the wildcard
-pub record IsNsec3Records (a : Name) (param : ParamRecord) (hash : Hash) (listed : List HashedLink)
-    (x : Name) (answer : Answer) (text : Octets) : Type 0 where
+pub record IsNsec3Records (param : ParamRecord) (R : HashedRecords) (x : Name) (answer : Answer)
+    (text : Octets) : Type 0 where
   pub found : Option Encloser
-  pub finds : IsFoundEncloser listed a param.parameters hash x found
+  pub finds : IsFoundEncloser R x found
   pub is : text ≡ nsec3_records_text param (encloser_part (needs_of answer) (encloser_link found))
       (closer_part (needs_of answer) (encloser_cover found)) (wildcard_part answer
-      (nsec3_wildcard_found a param.parameters hash listed x (wildcard_count answer)))
+      (nsec3_wildcard_found R x (wildcard_count answer)))
 
 -- where there are labels, that of the next closer name alone
-abbrev pub closer_records : Name → ParamRecord → Hash → List HashedLink → Name → ℕ → Octets
-closer_records a param hash listed x n =
-    nsec3_records_text param None
-    (hash_found a param.parameters listed (hash_name hash (closer_name n x))) None
+abbrev pub closer_records : ParamRecord → HashedRecords → Name → ℕ → Octets
+closer_records param R x n =
+    nsec3_records_text param None (hash_found R (hash_name R.hash (closer_name n x))) None
 
 -- what was found, as it is printed
 abbrev pub nsec3_why_records : ParamRecord → Answer → Nsec3Why → Octets
@@ -248,21 +245,17 @@ below_text shown x param answer (Closer n found) = closer_text (λ n. n) shown x
 
 -- what follows the line of an answer that rests on NSEC3 records; where there are labels, it is of
 -- the next closer name alone, which is one label longer
-abbrev pub IsRestBelow : Shown → Option ℕ → Name → ParamRecord → Hash → List HashedLink → Name
-    → Answer → Octets → Type 0
-IsRestBelow shows.Answer labels a param hash listed x answer text = text ≡ []
-IsRestBelow shows.Why None a param hash listed x answer text =
-    IsNsec3Why a param.parameters hash listed x answer text
-IsRestBelow shows.Why (Some n) a param hash listed x answer text =
-    text ≡ closer_told a param.parameters hash listed x n
-IsRestBelow shows.Records None a param hash listed x answer text =
-    IsNsec3Records a param hash listed x answer text
-IsRestBelow shows.Records (Some n) a param hash listed x answer text =
-    text ≡ closer_records a param hash listed x n
+abbrev pub IsRestBelow : Shown → Option ℕ → ParamRecord → HashedRecords → Name → Answer → Octets
+    → Type 0
+IsRestBelow shows.Answer labels param R x answer text = text ≡ []
+IsRestBelow shows.Why None param R x answer text = IsNsec3Why R x answer text
+IsRestBelow shows.Why (Some n) param R x answer text = text ≡ closer_told R x n
+IsRestBelow shows.Records None param R x answer text = IsNsec3Records param R x answer text
+IsRestBelow shows.Records (Some n) param R x answer text = text ≡ closer_records param R x n
 
 -- nothing does where it rests on none
-abbrev pub IsNsec3Below : Bool → Shown → Option ℕ → Name → ParamRecord → Hash → List HashedLink
-    → Name → Answer → Octets → Type 0
-IsNsec3Below false shown labels a param hash listed x answer text = text ≡ []
-IsNsec3Below true shown labels a param hash listed x answer text =
-    IsRestBelow shown labels a param hash listed x answer text
+abbrev pub IsNsec3Below : Bool → Shown → Option ℕ → ParamRecord → HashedRecords → Name → Answer
+    → Octets → Type 0
+IsNsec3Below false shown labels param R x answer text = text ≡ []
+IsNsec3Below true shown labels param R x answer text =
+    IsRestBelow shown labels param R x answer text

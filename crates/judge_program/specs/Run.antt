@@ -6,7 +6,7 @@ use Rattle.domain_base.specs.Words.{Tokens}
 use Rattle.domain_nsec3.specs.View.{HasherAnswer}
 use Rattle.domain_borrowed.specs.Data.{RawRecord}
 use Rattle.domain_answer.specs.declared.answer.Answer.{Answer}
-use Rattle.denial_program.specs.Check.{hash_with}
+use Rattle.domain_checker.specs.HashedView.{links_with}
 use Rattle.denial_program.specs.Listing.{Give}
 use Rattle.denial_program.specs.declared.command.Question.{Question}
 use Rattle.denial_program.specs.declared.fault.DenialFault.{DenialFault}
@@ -45,8 +45,8 @@ pub record IsNsec3Text (hashes : HasherAnswer) (given : List RawRecord) (q : Que
   pub answer : Answer
   pub judged : IsNsec3Judged hashes given q asked answer
   pub below : Octets
-  pub follows : IsNsec3Below (rests_on_records answer) shown asked.labels q.apex judged.param
-      (hash_with hashes judged.param) judged.links q.name answer below
+  pub follows : IsNsec3Below (rests_on_records answer) shown asked.labels judged.param
+      (links_with q.apex judged.param.parameters hashes judged.links) q.name answer below
   pub is : text ≡ first_line shown q.name answer ++ below
 
 -- of what records of this kind of chain answer

@@ -8,9 +8,9 @@ use Rattle.domain_octets.specs.Words.{Octets}
 use Rattle.domain_base.specs.Words.{Name}
 use Rattle.domain_nsec.specs.Chain.{Link}
 use Rattle.domain_nsec3.specs.Chain.{HashedLink}
-use Rattle.domain_nsec3.specs.Config.{Hash, Parameters, hash_name}
+use Rattle.domain_nsec3.specs.Config.{hash_name}
 use Rattle.domain_checker.specs.HashedEncloser.{Encloser, IsFoundEncloser, encloser_of}
-use Rattle.domain_checker.specs.HashedList.{is_hash_cover, is_hash_match}
+use Rattle.domain_checker.specs.HashedView.{HashedRecords, first_cover, first_match}
 use Rattle.domain_checker.specs.HashedPass.{found_cover, found_match}
 use Rattle.domain_checker.specs.HashedVerdict.{IsFirstRefusal}
 use Rattle.domain_checker.specs.Reading.{is_cover, is_match}
@@ -141,19 +141,17 @@ encloser_told x answer (Some e) =
     then nsec3_shown (NextCloser (last_labels (e.count + 1) x)) None e.cover else [])
 
 -- of a name with this hash; of one whose hash is refused nothing is told
-abbrev pub hash_told : Name → Parameters → List HashedLink → Role → Result Octets ℕ → Octets
-hash_told a p listed role (Ok v) =
-    nsec3_shown role (find (is_hash_match a p v) listed) (find (is_hash_cover a p v) listed)
-hash_told a p listed role (Err n) = []
+abbrev pub hash_told : HashedRecords → Role → Result Octets ℕ → Octets
+hash_told R role (Ok v) = nsec3_shown role (first_match R v) (first_cover R v)
+hash_told R role (Err n) = []
 
 -- the wildcard below the last n labels of x, which has more of them
-abbrev pub nsec3_wildcard_told : Name → Parameters → Hash → List HashedLink → Name → Option ℕ
-    → Octets
-nsec3_wildcard_told a p hash listed x None = []
-nsec3_wildcard_told a p hash listed x (Some n) =
+abbrev pub nsec3_wildcard_told : HashedRecords → Name → Option ℕ → Octets
+nsec3_wildcard_told R x None = []
+nsec3_wildcard_told R x (Some n) =
     if nat_lt n (length x)
-    then hash_told a p listed (Wildcard (last_labels n x))
-    (hash_name hash (wildcard_below (last_labels n x))) else []
+    then hash_told R (Wildcard (last_labels n x))
+    (hash_name R.hash (wildcard_below (last_labels n x))) else []
 
 -- what was found of that wildcard
 abbrev pub wildcard_found_text : {O N : Type 0} → (N → Name) → Name → Option (ℕ × Nsec3Found O N)
@@ -169,9 +167,9 @@ nsec3_why_text x answer why =
     ++ wildcard_found_text (λ n. n) x why.wildcard
 
 -- of the name one label longer than the last n labels of x
-abbrev pub closer_told : Name → Parameters → Hash → List HashedLink → Name → ℕ → Octets
-closer_told a p hash listed x n =
-    hash_told a p listed (NextCloser (closer_name n x)) (hash_name hash (closer_name n x))
+abbrev pub closer_told : HashedRecords → Name → ℕ → Octets
+closer_told R x n =
+    hash_told R (NextCloser (closer_name n x)) (hash_name R.hash (closer_name n x))
 
 -- what was found of that name
 abbrev pub closer_found_text : {O N : Type 0} → (N → Name) → Name → ℕ → Option (Nsec3Found O N)
@@ -182,15 +180,14 @@ closer_found_text labels x n (Some found) =
 
 -- the lines below an answer of NSEC3 records: of x and its ancestors the first that a record
 -- matches, and, where the answer needs them, the next closer name and the wildcard
-pub record IsNsec3Why (a : Name) (p : Parameters) (hash : Hash) (listed : List HashedLink) (x : Name)
-    (answer : Answer) (text : Octets) : Type 0 where
+pub record IsNsec3Why (R : HashedRecords) (x : Name) (answer : Answer) (text : Octets)
+    : Type 0 where
   pub found : Option Encloser
-  pub finds : IsFoundEncloser listed a p hash x found
+  pub finds : IsFoundEncloser R x found
   pub is : text ≡ encloser_told x answer found
-      ++ nsec3_wildcard_told a p hash listed x (wildcard_count answer)
+      ++ nsec3_wildcard_told R x (wildcard_count answer)
 
 -- a name is refused on the way to the closest encloser; none where there are labels
-abbrev pub IsRefusalBelow : Option ℕ → List HashedLink → Name → Parameters → Hash → Name → ℕ
-    → Type 0
-IsRefusalBelow None listed a p hash x reason = IsFirstRefusal listed a p hash x reason
-IsRefusalBelow (Some n) listed a p hash x reason = ⊥
+abbrev pub IsRefusalBelow : Option ℕ → HashedRecords → Name → ℕ → Type 0
+IsRefusalBelow None R x reason = IsFirstRefusal R x reason
+IsRefusalBelow (Some n) R x reason = ⊥

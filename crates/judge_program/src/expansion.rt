@@ -1,7 +1,7 @@
 //! What NSEC3 records answer of a name whose records were expanded from a wildcard.
 ghost use Rattle.std.specs.Prelude.{◌≡◌, IfErr, IfOk};
 ghost use Rattle.domain_nsec3.specs.Config.{hash_name};
-ghost use Rattle.domain_checker.specs.HashedView.{hash_with, links, parameters};
+ghost use Rattle.domain_checker.specs.HashedView.{hash_with, hashed_records};
 ghost use Rattle.domain_answer.specs.Expansion.{closer_name};
 ghost use Rattle.denial_program.specs.declared.fault.DenialFault.TheVariants.{OutOfMemory as Memory};
 ghost use Rattle.judge_program.specs.Judged.{IsCloserRefusal, IsExpansionAnswer, IsRefusedWith};
@@ -33,11 +33,12 @@ pub fn expansion_answer<H: Nsec3Hasher>(
     chain: &Nsec3s<'_>,
     hasher: &H,
 ) -> Result<Answer, DenialFault>
-    ensures ok { IfOk result (IsExpansionAnswer (parameters chain.now)
-        (hash_with (H.answer hasher.now) chain.now) (links (λ n. n) chain.now) question.now labels
-        limit) }
-    ensures err { IfErr result (IsRefusedWith (IsCloserRefusal (parameters chain.now)
-        (hash_with (H.answer hasher.now) chain.now) question.now labels limit)) }
+    ensures ok { IfOk result (IsExpansionAnswer
+        (hashed_records question.now.apex (λ n. n) (H.answer hasher.now) chain.now) question.now
+        labels limit) }
+    ensures err { IfErr result (IsRefusedWith (IsCloserRefusal
+        (hashed_records question.now.apex (λ n. n) (H.answer hasher.now) chain.now) question.now
+        labels limit)) }
 {
     let Question { apex, name, .. } = question;
     match judge_nsec3_expansion(alloc, apex, chain, name, labels as usize, limit, hasher) {
@@ -62,13 +63,12 @@ pub fn find_closer<'r, 'a, H: Nsec3Hasher>(
     hasher: &H,
 ) -> Result<Option<Told<'r, 'a>>, DenialFault>
     ensures found { IfOk result (λ told. closer_found_link (λ n. n) told
-        ≡ hash_found question.now.apex (parameters chain.now) (links (λ n. n) chain.now)
+        ≡ hash_found (hashed_records question.now.apex (λ n. n) (H.answer hasher.now) chain.now)
         (hash_name (hash_with (H.answer hasher.now) chain.now)
         (closer_name labels question.now.name))) }
     ensures text { IfOk result (λ told. closer_found_text (λ n. n) question.now.name labels told
-        ≡ closer_told question.now.apex (parameters chain.now)
-        (hash_with (H.answer hasher.now) chain.now) (links (λ n. n) chain.now) question.now.name
-        labels) }
+        ≡ closer_told (hashed_records question.now.apex (λ n. n) (H.answer hasher.now) chain.now)
+        question.now.name labels) }
     ensures err { IfErr result (λ e. e ≡ Memory) }
 {
     let closer = question.name.last_labels(labels as usize + 1);

@@ -3,7 +3,7 @@ ghost use Rattle.std.specs.Prelude.{◌≡◌, ◌⊎◌, ◌++◌, IfErr, IfOk,
 ghost use Rattle.std.specs.Io.KnownBytes.{Appends};
 ghost use Rattle.domain_nsec.specs.ChainView.{links_of};
 ghost use Rattle.domain_nsec3.specs.View.{as_param_record};
-ghost use Rattle.domain_checker.specs.HashedView.{hash_with, links, parameters};
+ghost use Rattle.domain_checker.specs.HashedView.{hashed_records};
 ghost use Rattle.domain_answer.specs.HashedReading.{IsFirstOfRefusals};
 ghost use Rattle.denial_program.specs.Check.{AreNsecs};
 ghost use Rattle.denial_program.specs.Fault.{IsBeforeOutput};
@@ -116,10 +116,11 @@ fn whole_answer<H: Nsec3Hasher>(
     chain: &Nsec3s<'_>,
     hasher: &H,
 ) -> Result<Answer, DenialFault>
-    ensures ok { IfOk result (IsNsec3Answer (parameters chain.now)
-        (hash_with (H.answer hasher.now) chain.now) (links (λ n. n) chain.now) question.now limit) }
-    ensures err { IfErr result (IsRefusedWith (IsFirstOfRefusals (links (λ n. n) chain.now)
-        question.now.apex (parameters chain.now) (hash_with (H.answer hasher.now) chain.now)
+    ensures ok { IfOk result (IsNsec3Answer
+        (hashed_records question.now.apex (λ n. n) (H.answer hasher.now) chain.now)
+        question.now limit) }
+    ensures err { IfErr result (IsRefusedWith (IsFirstOfRefusals
+        (hashed_records question.now.apex (λ n. n) (H.answer hasher.now) chain.now)
         question.now.name question.now.rtype)) }
 {
     let Question { apex, name, rtype } = question;
@@ -140,11 +141,11 @@ fn nsec3_answer<H: Nsec3Hasher>(
     chain: &Nsec3s<'_>,
     hasher: &H,
 ) -> Result<Answer, DenialFault>
-    ensures ok { IfOk result (IsAnswerAsked asked.labels (parameters chain.now)
-        (hash_with (H.answer hasher.now) chain.now) (links (λ n. n) chain.now) question.now
+    ensures ok { IfOk result (IsAnswerAsked asked.labels
+        (hashed_records question.now.apex (λ n. n) (H.answer hasher.now) chain.now) question.now
         asked.limit) }
-    ensures err { IfErr result (IsRefusedWith (IsRefusalAsked asked.labels (parameters chain.now)
-        (hash_with (H.answer hasher.now) chain.now) (links (λ n. n) chain.now) question.now
+    ensures err { IfErr result (IsRefusedWith (IsRefusalAsked asked.labels
+        (hashed_records question.now.apex (λ n. n) (H.answer hasher.now) chain.now) question.now
         asked.limit)) }
 {
     let Nsec3Options { labels, limit } = asked;

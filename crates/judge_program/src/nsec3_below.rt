@@ -2,7 +2,7 @@
 ghost use Rattle.std.specs.Prelude.{IfErr, IfOk, OnOk};
 ghost use Rattle.std.specs.Io.KnownBytes.{Appends};
 ghost use Rattle.domain_nsec3.specs.View.{as_param_record};
-ghost use Rattle.domain_checker.specs.HashedView.{hash_with, links, parameters};
+ghost use Rattle.domain_checker.specs.HashedView.{hashed_records};
 ghost use Rattle.judge_program.specs.Judged.{IsRefusedWith};
 ghost use Rattle.judge_program.specs.Records.{below_text, whole_text, closer_text, IsNsec3Below, IsRestBelow};
 ghost use Rattle.judge_program.specs.Why.{closer_found_text, rests_on_records, IsRefusalBelow};
@@ -99,17 +99,19 @@ fn find_rest<'r, 'a, H: Nsec3Hasher>(
     answer: Answer,
     hasher: &H,
 ) -> Result<Nsec3Below<'r, 'a>, DenialFault>
-    ensures why { IfOk result (λ below. IsRestBelow shows.Why labels question.now.apex
-        (as_param_record (λ n. n) chain.now.nsec3param) (hash_with (H.answer hasher.now) chain.now)
-        (links (λ n. n) chain.now) question.now.name answer (below_text shows.Why question.now.name
+    ensures why { IfOk result (λ below. IsRestBelow shows.Why labels
+        (as_param_record (λ n. n) chain.now.nsec3param)
+        (hashed_records question.now.apex (λ n. n) (H.answer hasher.now) chain.now)
+        question.now.name answer (below_text shows.Why question.now.name
         (as_param_record (λ n. n) chain.now.nsec3param) answer below)) }
-    ensures records { IfOk result (λ below. IsRestBelow shows.Records labels question.now.apex
-        (as_param_record (λ n. n) chain.now.nsec3param) (hash_with (H.answer hasher.now) chain.now)
-        (links (λ n. n) chain.now) question.now.name answer
+    ensures records { IfOk result (λ below. IsRestBelow shows.Records labels
+        (as_param_record (λ n. n) chain.now.nsec3param)
+        (hashed_records question.now.apex (λ n. n) (H.answer hasher.now) chain.now)
+        question.now.name answer
         (below_text shows.Records question.now.name (as_param_record (λ n. n) chain.now.nsec3param)
         answer below)) }
-    ensures err { IfErr result (IsRefusedWith (IsRefusalBelow labels (links (λ n. n) chain.now)
-        question.now.apex (parameters chain.now) (hash_with (H.answer hasher.now) chain.now)
+    ensures err { IfErr result (IsRefusedWith (IsRefusalBelow labels
+        (hashed_records question.now.apex (λ n. n) (H.answer hasher.now) chain.now)
         question.now.name)) }
 {
     match labels {
@@ -139,12 +141,12 @@ impl<'r, 'a> Nsec3Below<'r, 'a> {
         hasher: &H,
     ) -> Result<Self, DenialFault>
         ensures ok { IfOk result (λ below. IsNsec3Below (rests_on_records answer) shown labels
-            question.now.apex (as_param_record (λ n. n) chain.now.nsec3param)
-            (hash_with (H.answer hasher.now) chain.now) (links (λ n. n) chain.now)
+            (as_param_record (λ n. n) chain.now.nsec3param)
+            (hashed_records question.now.apex (λ n. n) (H.answer hasher.now) chain.now)
             question.now.name answer (below_text shown question.now.name
             (as_param_record (λ n. n) chain.now.nsec3param) answer below)) }
-        ensures err { IfErr result (IsRefusedWith (IsRefusalBelow labels (links (λ n. n) chain.now)
-            question.now.apex (parameters chain.now) (hash_with (H.answer hasher.now) chain.now)
+        ensures err { IfErr result (IsRefusedWith (IsRefusalBelow labels
+            (hashed_records question.now.apex (λ n. n) (H.answer hasher.now) chain.now)
             question.now.name)) }
     {
         if !rests_on_records(answer) {

@@ -6,7 +6,7 @@ ghost use Rattle.domain_nsec3.specs.View.{as_hashed_link, as_param_record};
 ghost use Rattle.domain_checker.specs.HashedEncloser.{encloser_of};
 ghost use Rattle.domain_checker.specs.HashedPass.{found_cover, found_match};
 ghost use Rattle.domain_checker.specs.HashedVerdict.{IsFirstRefusal};
-ghost use Rattle.domain_checker.specs.HashedView.{hash_with, links, parameters};
+ghost use Rattle.domain_checker.specs.HashedView.{hashed_records};
 ghost use Rattle.denial_program.specs.declared.fault.DenialFault.TheVariants.{OutOfMemory as Memory};
 ghost use Rattle.judge_program.specs.Judged.{IsRefusedWith};
 ghost use Rattle.judge_program.specs.Records.{nsec3_why_records, nsec3_wildcard_found, wildcard_found_link, IsNsec3Records};
@@ -135,12 +135,14 @@ fn find_wildcard<'r, 'a, H: Nsec3Hasher>(
     hasher: &H,
 ) -> Result<Option<(usize, Told<'r, 'a>)>, DenialFault>
     ensures found { IfOk result (λ found. wildcard_found_link (λ n. n) found
-        ≡ nsec3_wildcard_found question.now.apex (parameters chain.now)
-        (hash_with (H.answer hasher.now) chain.now) (links (λ n. n) chain.now) question.now.name
+        ≡ nsec3_wildcard_found
+        (hashed_records question.now.apex (λ n. n) (H.answer hasher.now) chain.now)
+        question.now.name
         (wildcard_count answer)) }
     ensures text { IfOk result (λ found. wildcard_found_text (λ n. n) question.now.name found
-        ≡ nsec3_wildcard_told question.now.apex (parameters chain.now)
-        (hash_with (H.answer hasher.now) chain.now) (links (λ n. n) chain.now) question.now.name
+        ≡ nsec3_wildcard_told
+        (hashed_records question.now.apex (λ n. n) (H.answer hasher.now) chain.now)
+        question.now.name
         (wildcard_count answer)) }
     ensures err { IfErr result (λ e. e ≡ Memory) }
 {
@@ -177,16 +179,16 @@ impl<'r, 'a> Nsec3Why<'r, 'a> {
         answer: Answer,
         hasher: &H,
     ) -> Result<Self, DenialFault>
-        ensures records { IfOk result (λ why. IsNsec3Records question.now.apex
+        ensures records { IfOk result (λ why. IsNsec3Records
             (as_param_record (λ n. n) chain.now.nsec3param)
-            (hash_with (H.answer hasher.now) chain.now) (links (λ n. n) chain.now)
+            (hashed_records question.now.apex (λ n. n) (H.answer hasher.now) chain.now)
             question.now.name answer
             (nsec3_why_records (as_param_record (λ n. n) chain.now.nsec3param) answer why)) }
-        ensures text { IfOk result (λ why. IsNsec3Why question.now.apex (parameters chain.now)
-            (hash_with (H.answer hasher.now) chain.now) (links (λ n. n) chain.now)
+        ensures text { IfOk result (λ why. IsNsec3Why
+            (hashed_records question.now.apex (λ n. n) (H.answer hasher.now) chain.now)
             question.now.name answer (nsec3_why_text question.now.name answer why)) }
-        ensures err { IfErr result (IsRefusedWith (IsFirstRefusal (links (λ n. n) chain.now)
-            question.now.apex (parameters chain.now) (hash_with (H.answer hasher.now) chain.now)
+        ensures err { IfErr result (IsRefusedWith (IsFirstRefusal
+            (hashed_records question.now.apex (λ n. n) (H.answer hasher.now) chain.now)
             question.now.name)) }
     {
         let Question { apex, name, .. } = question;

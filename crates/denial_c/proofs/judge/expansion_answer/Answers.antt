@@ -6,7 +6,7 @@ use Rattle.domain_checker.specs.HashedView.{links}
 use Rattle.domain_nsec3.specs.Config.{hash_name}
 use Rattle.domain_nsec3.specs.View.{as_param_record}
 use Rattle.denial_c.specs.Judged.{IsExpansionRefused}
-use Rattle.denial_c.specs.Result.{hash_of, source_of}
+use Rattle.denial_c.specs.Result.{sha1_records, source_of}
 use Rattle.denial_c.proofs.JudgeLemmas.{allowed, expanded}
 use Rattle.denial_c.proofs.Nsec3Lemmas.{chain_fault}
 use Rattle.denial_c.proofs.judge.expansion_answer.Goals as goal
@@ -42,11 +42,11 @@ returns-in-Ok-judge_nsec3_expansion c =
       outside = λ off. let e = are.outside off in cc;
       none = λ low short. let e = are.none low (subst (λ n. is_expanded a x n ≡ false) (sym same) short) in cc;
       iterations = λ some over. let e = are.iterations (subst (λ n. is_expanded a x n ≡ true) (sym same) some) over in cc;
-      zone = λ some few. subst (λ n. IsExpansionAnswered ks a param.parameters (hash_of param) x n answer) same
+      zone = λ some few. subst (λ n. IsExpansionAnswered (sha1_records a param ks) x n answer) same
           (are.zone (subst (λ n. is_expanded a x n ≡ true) (sym same) some) few);
-      exact = λ some few. subst (λ n. IsExpansionRead ks a param.parameters (hash_of param) x n answer) same
+      exact = λ some few. subst (λ n. IsExpansionRead (sha1_records a param ks) x n answer) same
           (are.exact (subst (λ n. is_expanded a x n ≡ true) (sym same) some) few);
-      proof = subst (λ n. ExpansionRestsOn ks a param.parameters (hash_of param) x n answer) same are.proof;
+      proof = subst (λ n. ExpansionRestsOn (sha1_records a param ks) x n answer) same are.proof;
       within = are.within;
     }
 
@@ -76,6 +76,6 @@ returns c =
         };
         needed = subst (λ n. is_expanded a x n ≡ true) same is;
         allowed = allowed (Err error) error refl c.args.limit param.parameters.iterations TooManyIterations (are.iterations is);
-        refused = subst (λ n. hash_name (hash_of param) (closer_name n x) ≡ Err one.0) same (are.refusal one.0 (ap (λ e. Err e) one.1));
+        refused = subst (λ n. hash_name (sha1_records a param ks).hash (closer_name n x) ≡ Err one.0) same (are.refusal one.0 (ap (λ e. Err e) one.1));
       }
     ]

@@ -8,7 +8,7 @@ use Rattle.domain_base.specs.Name.{is_at_or_below}
 use Rattle.domain_checker.specs.HashedView.{links}
 use Rattle.domain_nsec3.specs.View.{as_param_record}
 use Rattle.denial_c.specs.Judged.{IsAnswerRefused}
-use Rattle.denial_c.specs.Result.{hash_of, source_of}
+use Rattle.denial_c.specs.Result.{sha1_records, source_of}
 use Rattle.denial_c.proofs.JudgeLemmas.{allowed, needed}
 use Rattle.denial_c.proofs.Nsec3Lemmas.{chain_fault}
 use Rattle.denial_c.proofs.judge.nsec3_answer.Goals as goal
@@ -43,9 +43,9 @@ returns-in-Ok-judge_nsec3 c =
       parent = λ low at. let e = c.in-Ok-judge_nsec3.ensures.parent low (subst (λ t. is_at_parent a x t ≡ true) (sym c.from_int-rtype.ensures) at) in cc;
       iterations = λ some over.
           let e = c.in-Ok-judge_nsec3.ensures.iterations (subst (λ t. needs_no_records a x t ≡ false) (sym c.from_int-rtype.ensures) some) over in cc;
-      zone = λ few. subst (λ t. IsHashedAnswered ks a param.parameters (hash_of param) x t answer) c.from_int-rtype.ensures
+      zone = λ few. subst (λ t. IsHashedAnswered (sha1_records a param ks) x t answer) c.from_int-rtype.ensures
           (c.in-Ok-judge_nsec3.ensures.zone few);
-      exact = λ some few. subst (λ t. IsHashedRead ks a param.parameters (hash_of param) x t answer) c.from_int-rtype.ensures
+      exact = λ some few. subst (λ t. IsHashedRead (sha1_records a param ks) x t answer) c.from_int-rtype.ensures
           (c.in-Ok-judge_nsec3.ensures.exact (subst (λ t. needs_no_records a x t ≡ false) (sym c.from_int-rtype.ensures) some) few);
       proof = c.in-Ok-judge_nsec3.ensures.proof;
       within = c.in-Ok-judge_nsec3.ensures.within;
@@ -78,7 +78,7 @@ returns c =
         allowed = allowed (Err error) error refl c.args.limit param.parameters.iterations TooManyIterations
             (c.in-Err-judge_nsec3.ensures.iterations (needed (Err error) error refl (is_at_or_below x a) (is_at_parent a x t)
             OutsideZone AtParent c.in-Err-judge_nsec3.ensures.outside c.in-Err-judge_nsec3.ensures.parent));
-        first = subst (λ t. IsFirstOfRefusals ks a param.parameters (hash_of param) x t one.0) c.from_int-rtype.ensures
+        first = subst (λ t. IsFirstOfRefusals (sha1_records a param ks) x t one.0) c.from_int-rtype.ensures
             (c.in-Err-judge_nsec3.ensures.refusal one.0 (ap (λ e. Err e) one.1));
       }
     ]

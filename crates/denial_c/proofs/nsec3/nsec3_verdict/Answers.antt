@@ -3,7 +3,7 @@ use Rattle.domain_checker.specs.HashedReading.{IsWalked}
 use Rattle.domain_checker.specs.HashedVerdict.{IsHashedProved}
 use Rattle.domain_checker.specs.HashedView.{links}
 use Rattle.domain_nsec3.specs.View.{as_param_record}
-use Rattle.denial_c.specs.Result.{hash_of, source_of, IsRefused}
+use Rattle.denial_c.specs.Result.{sha1_records, source_of, IsRefused}
 use Rattle.denial_c.proofs.Nsec3Lemmas.{chain_fault}
 use Rattle.denial_c.proofs.nsec3.nsec3_verdict.Goals as goal
 
@@ -33,8 +33,8 @@ returns-in-Ok-check_nsec3 c =
         are = subst (λ n. (source_of c.args.telling n c.args.records.now).are a ks param) c.from_int.ensures c.in-Ok.ensures.ok;
       };
       outside = λ off. let e = c.in-Ok-check_nsec3.ensures.outside off in cc;
-      zone = subst (λ t. IsHashedProved ks a param.parameters (hash_of param) x t verdict) c.from_int-rtype.ensures c.in-Ok-check_nsec3.ensures.zone;
-      exact = λ low. subst (λ t. IsWalked ks a param.parameters (hash_of param) x t verdict) c.from_int-rtype.ensures (c.in-Ok-check_nsec3.ensures.exact low);
+      zone = subst (λ t. IsHashedProved (sha1_records a param ks) x t verdict) c.from_int-rtype.ensures c.in-Ok-check_nsec3.ensures.zone;
+      exact = λ low. subst (λ t. IsWalked (sha1_records a param ks) x t verdict) c.from_int-rtype.ensures (c.in-Ok-check_nsec3.ensures.exact low);
       proof = λ low some. c.in-Ok-check_nsec3.ensures.proof low some;
       within = c.in-Ok-check_nsec3.ensures.within;
     }

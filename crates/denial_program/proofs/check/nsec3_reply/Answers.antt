@@ -1,9 +1,9 @@
 use Rattle.std.proofs.Common.{◌≡◌, refl, sym, subst, IfOk, Err}
 use Rattle.domain_nsec3.specs.View.{as_param_record, hashed_links_of}
 use Rattle.domain_checker.specs.HashedVerdict.{IsFirstRefusal}
+use Rattle.domain_checker.specs.HashedView.{links_with}
 use Rattle.domain_checker.specs.declared.verdict.Verdict.TheVariants.{OutsideZone}
 use Rattle.domain_records.specs.declared.error.SigningError.TheVariants.{Nsec3HashingError}
-use Rattle.denial_program.specs.Check.{hash_with}
 use Rattle.denial_program.proofs.CheckLemmas.{hasher_refused}
 use Rattle.denial_program.proofs.check.nsec3_reply.Goals as goal
 
@@ -12,8 +12,6 @@ returns-in-Ok-clause-ok g c =
     let q = c.args.question in
     let param = as_param_record (λ n. n) c.in_ok-chain.chain.nsec3param in
     let links = hashed_links_of (λ n. n) c.in_ok-chain.chain.nsec3s.items in
-    let p = param.parameters in
-    let hash = hash_with (g.H.Nsec3Hasher.answer c.args.hasher.now) param in
     let verdict = c.in-Ok.verdict in
     record {
       param = param;
@@ -33,9 +31,8 @@ returns g c =
     let q = c.args.question in
     let param = as_param_record (λ n. n) c.in_ok-chain.chain.nsec3param in
     let links = hashed_links_of (λ n. n) c.in_ok-chain.chain.nsec3s.items in
-    let p = param.parameters in
-    let hash = hash_with (g.H.Nsec3Hasher.answer c.args.hasher.now) param in
-    let refused = hasher_refused {P = λ n. IsFirstRefusal links q.apex p hash q.name n}
+    let R = links_with q.apex param.parameters (g.H.Nsec3Hasher.answer c.args.hasher.now) links in
+    let refused = hasher_refused {P = λ n. IsFirstRefusal R q.name n}
     c.in-Err.error c.in_default.not-OutOfMemory c.in-Err.ensures.errors (λ n is. c.in-Err.ensures.refusal n (λ i. Err (is i))) in
     record {
       ok = tt;

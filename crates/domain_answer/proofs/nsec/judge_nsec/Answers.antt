@@ -20,7 +20,5 @@ returns-clause-proof g c =
 
 pub returns-clause-within : goal.returns-clause-within
 returns-clause-within g c =
-    let a = g.A.ToName.labels c.args.apex.now in
-    let x = g.M.ToName.labels c.args.name.now in
-    let listed = links_of g.N.ToName.labels c.args.chain.now in
-    subst (CountsWithin (length x)) (sym c.read.ensures) (c.readings_are_proved.ensures.within listed a x c.args.rtype)
+    subst (CountsWithin (length (g.M.ToName.labels c.args.name.now))) (sym c.read.ensures)
+    (c.readings_are_proved.ensures.within _ _ _ c.args.rtype)

@@ -9,7 +9,7 @@ pub returns-clause-proof : goal.returns-clause-proof
 returns-clause-proof c = expansion_rests
 
 pub returns-clause-within : goal.returns-clause-within
-returns-clause-within c = λ listed a p hash x n answer e read. expansion_counts listed a p hash x n answer read e
+returns-clause-within c = λ R x n answer e read. expansion_counts R x n answer read e
 
 pub returns-clause-encloser : goal.returns-clause-encloser
 returns-clause-encloser c = expansion_encloser

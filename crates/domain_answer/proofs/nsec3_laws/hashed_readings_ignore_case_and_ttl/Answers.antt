@@ -2,17 +2,18 @@ use Rattle.std.proofs.Common.{◌∙◌, refl, sym}
 use Rattle.std.proofs.lemmas.List.Elements.{All-from_recursion, recursion_from_All}
 use Rattle.std.specs.List.{Contains}
 use Rattle.domain_checker.specs.Alike.{IsHashedAlike, IsPairedIn}
+use Rattle.domain_checker.specs.HashedView.{chain_records}
 use Rattle.domain_checker.proofs.PairedLemmas.{paired_with_some}
 use Rattle.domain_answer.proofs.HashedAlikeLemmas.{proved_alike, read_alike}
 use Rattle.domain_answer.proofs.nsec3_laws.hashed_readings_ignore_case_and_ttl.Goals as goal
 
 pub returns-clause-alike : goal.returns-clause-alike
-returns-clause-alike c = λ listed other a p hash x t answer h read. read_alike a p hash listed other h x t answer read
+returns-clause-alike c = λ R other x t answer h read. read_alike R other h x t answer read
 
 pub returns-clause-proved : goal.returns-clause-proved
 returns-clause-proved c = λ listed a x t answer bound low apart L config links leaves chain asked h read.
     let some = paired_with_some IsHashedAlike links listed (recursion_from_All (IsPairedIn IsHashedAlike links) listed h) in
-    let told = read_alike a config.parameters config.hash listed some.some some.alike x t answer read in
-    c.hashed_readings_are_proved.ensures.zone some.some a config.parameters config.hash x t answer bound low apart told L config links
+    let told = read_alike (chain_records a config listed) some.some some.alike x t answer read in
+    c.hashed_readings_are_proved.ensures.zone (chain_records a config some.some) x t answer bound low apart told L config links
     refl refl leaves chain asked (All-from_recursion (Contains links) some.some some.among)
     ∙ sym (proved_alike L a config x t listed some.some some.alike)

@@ -4,15 +4,19 @@ use Rattle.domain_octets.proofs.CodecLemmas.{digit_at}
 use Rattle.domain_checker.proofs.SpelledLemmas.{nothing_left, ends_alike, ends_before, equal_by, apart_by, compared_first}
 use Rattle.domain_checker.proofs.SpelledLemmas.{compared_narrow, compared_wide, compared_none, compared_apart, compared_end}
 use Rattle.domain_checker.proofs.spelled.spelled_cmp.Goals as goal
+use Rattle.domain_checker.proofs.spelled.spelled_cmp.Goals.{After-digit_or_zero}
 use Rattle.domain_checker.proofs.spelled.spelled_cmp.Goals.{then-wider-lt256, else-wider-lt256+in-Some+else-ne}
 
 pub loop-c-init : goal.loop-c-init
 loop-c-init c = compared_first c.args.label.now c.args.hash.now
 
+-- the digit has five bits
+small_digit : (c : After-digit_or_zero) → digit_at c.args.label.now c.loop-c.c-index < 32
+small_digit c = rw (← c.digit_or_zero.ensures.value) c.digit_or_zero.ensures.small
+
 pub returns-in_default : goal.returns-in_default
 returns-in_default c =
-    let digit : c.digit_or_zero.result ≡ digit_at c.args.label.now c.loop-c.c-index = c.digit_or_zero.ensures.value in
-    let small : digit_at c.args.label.now c.loop-c.c-index < 32 = rw (← digit) c.digit_or_zero.ensures.small in
+    let small = small_digit (goal.at.returns-in_default c).After-digit_or_zero in
     compared_none c.args.label.now c.args.hash.now c.loop-c.left.now c.loop-c.scale c.loop-c.rest c.loop-c.c-index
     c.loop-c-test.true small c.loop-c.invariant c.if-wider-lt256.false
     (nothing_left c.loop-c.left.now c.in_default.ensures.cases)
@@ -23,10 +27,9 @@ returns-then-ne c =
     let scale = c.loop-c.scale in
     let rest = c.loop-c.rest in
     let octet = c.in-Some.octet.now in
-    let digit : c.digit_or_zero.result ≡ digit_at c.args.label.now c.loop-c.c-index = c.digit_or_zero.ensures.value in
-    let small : digit_at c.args.label.now c.loop-c.c-index < 32 = rw (← digit) c.digit_or_zero.ensures.small in
+    let small = small_digit (goal.at.returns-then-ne c).After-digit_or_zero in
     let order : c.cmp-order.result ≡ nat_cmp ((32 * rest + digit_at c.args.label.now at) / (32 * scale / 256)) octet =
-    c.cmp-order.ensures ∙ (λ j. nat_cmp ((32 * rest + digit j) / (32 * scale / 256)) (c.from.ensures j)) in
+    c.cmp-order.ensures ∙ (λ j. nat_cmp ((32 * rest + c.digit_or_zero.ensures.value j) / (32 * scale / 256)) (c.from.ensures j)) in
     order
     ∙ compared_apart c.args.label.now c.args.hash.now c.loop-c.left.now scale rest at c.loop-c-test.true small c.loop-c.invariant
     octet c.in-Some.after.now c.in-Some.ensures.cases.0 c.if-wider-lt256.false
@@ -34,22 +37,19 @@ returns-then-ne c =
 
 pub loop-c-preserved : goal.loop-c-preserved
 loop-c-preserved c =
+    let small = small_digit (goal.at.loop-c-preserved c).After-digit_or_zero in
     elim c.if-wider-lt256.branch [
       | then-wider-lt256 w ↦
-          let digit : c.digit_or_zero.result ≡ digit_at c.args.label.now c.loop-c.c-index = c.digit_or_zero.ensures.value in
-          let small : digit_at c.args.label.now c.loop-c.c-index < 32 = rw (← digit) c.digit_or_zero.ensures.small in
-          rw (w.left-is, w.scale-is, w.rest-is, digit) (compared_narrow c.args.label.now c.args.hash.now c.loop-c.left.now
+          rw (w.left-is, w.scale-is, w.rest-is, c.digit_or_zero.ensures.value) (compared_narrow c.args.label.now c.args.hash.now c.loop-c.left.now
           c.loop-c.scale c.loop-c.rest c.loop-c.c-index c.loop-c-test.true small c.loop-c.invariant w.if-wider-lt256.true)
       | else-wider-lt256+in-Some+else-ne w ↦
           let at = c.loop-c.c-index in
           let scale = c.loop-c.scale in
           let rest = c.loop-c.rest in
           let octet = w.in-Some.octet.now in
-          let digit : c.digit_or_zero.result ≡ digit_at c.args.label.now c.loop-c.c-index = c.digit_or_zero.ensures.value in
-          let small : digit_at c.args.label.now c.loop-c.c-index < 32 = rw (← digit) c.digit_or_zero.ensures.small in
           let order : w.cmp-order.result ≡ nat_cmp ((32 * rest + digit_at c.args.label.now at) / (32 * scale / 256)) octet =
-          w.cmp-order.ensures ∙ (λ j. nat_cmp ((32 * rest + digit j) / (32 * scale / 256)) (w.from.ensures j)) in
-          rw (w.left-is, w.scale-is, w.rest-is, digit)
+          w.cmp-order.ensures ∙ (λ j. nat_cmp ((32 * rest + c.digit_or_zero.ensures.value j) / (32 * scale / 256)) (w.from.ensures j)) in
+          rw (w.left-is, w.scale-is, w.rest-is, c.digit_or_zero.ensures.value)
           (compared_wide c.args.label.now c.args.hash.now c.loop-c.left.now scale rest at c.loop-c-test.true small
           c.loop-c.invariant octet w.in-Some.after.now w.in-Some.ensures.cases.0 w.if-wider-lt256.false
           (sym order ∙ equal_by w.cmp-order.result (sym w.ne.ensures ∙ w.if-ne.false)))

@@ -1,64 +1,55 @@
-use Rattle.std.proofs.Common.{◌∙◌, ◌+◌, ◌≤◌, length, drop, sym, ap, subst, inl, inr, None}
+use Rattle.std.proofs.Common.{◌≡◌, ◌∙◌, ◌+◌, ◌≤◌, length, drop, sym, ap, subst, inl, inr, None}
 use Rattle.std.specs.Option.{option_map}
 use Rattle.std.proofs.lemmas.Result.{err_from_is_err_and}
 use Rattle.domain_base.specs.Name.{lowered, wire_of}
 use Rattle.domain_zone.proofs.NameLemmas.{below_itself}
 use Rattle.domain_nsec3.specs.View.{as_hashed_link}
-use Rattle.domain_checker.specs.HashedPass.{IsLookedUp, found_cover, found_match}
-use Rattle.domain_checker.specs.HashedView.{links, hash_with, parameters}
-use Rattle.domain_checker.proofs.HashedWalkLemmas.{IsMissed, missed_here, none_first, none_left, passed_on}
+use Rattle.domain_checker.specs.HashedView.{HashedRecords, hashed_records}
+use Rattle.domain_checker.proofs.HashedWalkLemmas.{IsMissed, IsPassed, missed_here, none_first, none_left, passed_on}
 use Rattle.domain_checker.proofs.HashedWalkLemmas.{encloser_above, encloser_here, refused_here, wire_above, wire_shorter}
+use Rattle.domain_checker.proofs.walk.walk.Given.{Over}
 use Rattle.domain_checker.proofs.walk.walk.Goals as goal
+use Rattle.domain_checker.proofs.walk.walk.Goals.{Start, After-skip-octets}
+
+-- the records as they are seen
+abbrev seen : (g : Over) (c : Start g) → HashedRecords
+seen g c =
+    hashed_records (g.A.ToName.labels c.args.apex.now) g.N.ToName.labels (g.H.Nsec3Hasher.answer c.args.hasher.now) c.args.records.now
+
+-- ---- at the name itself
 
 pub returns-in_err-matching-clause-err : goal.returns-in_err-matching-clause-err
 returns-in_err-matching-clause-err g c =
-    let a = g.A.ToName.labels c.args.apex.now in
+    let R = seen g (goal.at.returns-in_err-matching-clause-err g c).Start in
     let x = c.args.name.now in
-    let listed = links g.N.ToName.labels c.args.records.now in
-    let p = parameters c.args.records.now in
-    let hash = hash_with (g.H.Nsec3Hasher.answer c.args.hasher.now) c.args.records.now in
     let q = err_from_is_err_and c.from_residual.result c.from_residual.ensures.1 in
     rw (q.1, q.2) (elim c.in_err-matching.ensures.err [
       | inl full ↦ inl full
       | inr r ↦ inr (
         r.0,
         r.1,
-        refused_here listed a p hash x x (below_itself x) c.requires.below
-            (none_first listed a p hash x) c.args.wire.now c.requires.wire r.0 r.2,
+        refused_here R x x (below_itself x) c.requires.below (none_first R x) c.args.wire.now c.requires.wire r.0 r.2,
       )
     ])
 
 pub returns-in-Match-clause-ok : goal.returns-in-Match-clause-ok
 returns-in-Match-clause-ok g c =
-    let labels = g.N.ToName.labels in
-    let a = g.A.ToName.labels c.args.apex.now in
-    let x = c.args.name.now in
-    let listed = links labels c.args.records.now in
-    let p = parameters c.args.records.now in
-    let hash = hash_with (g.H.Nsec3Hasher.answer c.args.hasher.now) c.args.records.now in
-    let wire = c.args.wire.now in
-    let looked = subst (λ f. IsLookedUp a p hash listed wire (found_match labels f) (found_cover labels f)) c.in-Match.is c.in_ok-matching.ensures.ok in
-    encloser_here listed a p hash x c.requires.below (as_hashed_link labels c.in-Match.matching.now) wire None c.requires.wire
-    looked c.count_labels.result c.count_labels.ensures.count
+    encloser_here _ c.args.name.now c.requires.below _ c.args.wire.now None c.requires.wire
+    (rw c.in-Match.is at c.in_ok-matching.ensures.ok) c.count_labels.result c.count_labels.ensures.count
 
 pub names-init : goal.names-init
 names-init g c =
-    let labels = g.N.ToName.labels in
-    let a = g.A.ToName.labels c.args.apex.now in
     let x = c.args.name.now in
-    let listed = links labels c.args.records.now in
-    let p = parameters c.args.records.now in
-    let hash = hash_with (g.H.Nsec3Hasher.answer c.args.hasher.now) c.args.records.now in
-    let wire = c.args.wire.now in
-    let e = c.as_parsed-left.ensures in
-    let cover = option_map (λ k. as_hashed_link labels k.now) c.in-NoMatch.cover in
-    let looked = subst (λ f. IsLookedUp a p hash listed wire (found_match labels f) (found_cover labels f)) c.in-NoMatch.is c.in_ok-matching.ensures.ok in
+    let R = seen g (goal.at.names-init g c).Start in
+    let cover = option_map (λ k. as_hashed_link g.N.ToName.labels k.now) c.in-NoMatch.cover in
+    let same = c.as_parsed-left.ensures in
     record {
-      wire = c.requires.wire ∙ ap (λ n. wire_of (lowered n)) (sym e);
-      missed = subst (λ n. IsMissed listed a p hash x n cover) (sym e)
-          (missed_here listed a p hash x x (below_itself x) c.requires.below
-          (none_first listed a p hash x) wire c.requires.wire cover looked);
+      wire = c.requires.wire ∙ ap (λ n. wire_of (lowered n)) (sym same);
+      missed = subst (λ n. IsMissed R x n cover) (sym same) (missed_here R x x (below_itself x) c.requires.below
+          (none_first R x) c.args.wire.now c.requires.wire cover (rw c.in-NoMatch.is at c.in_ok-matching.ensures.ok));
     }
+
+-- ---- at a name above
 
 pub skip-octets-requires : goal.skip-octets-requires
 skip-octets-requires g c =
@@ -66,74 +57,52 @@ skip-octets-requires g c =
     let next = c.in-Some.above in
     subst (λ o. length label + 1 ≤ length o) (sym (c.names.invariant.wire ∙ ap (λ n. wire_of (lowered n)) c.in-Some.ensures.parts)) (wire_shorter label next)
 
+-- no record matched the name that was left
+passed : (g : Over) (c : After-skip-octets g) → IsPassed
+    (hashed_records (g.A.ToName.labels c.args.apex.now) g.N.ToName.labels (g.H.Nsec3Hasher.answer c.args.hasher.now) c.args.records.now)
+    c.args.name.now c.in-Some.above c.names.invariant.missed.value
+passed g c =
+    passed_on _ _ _ _ c.names.invariant.missed c.in-Some.label.now c.in-Some.above c.in-Some.ensures.parts
+    (sym c.name_eq.ensures.value ∙ c.names-test.true)
+
+-- what is left of the wire form is that of the name above
+left_wire : (g : Over) (c : After-skip-octets g) → c.skip-octets.result.now ≡ wire_of (lowered c.in-Some.above)
+left_wire g c =
+    c.skip-octets.ensures
+    ∙ ap (drop (length c.in-Some.label.now + 1)) (c.names.invariant.wire ∙ ap (λ n. wire_of (lowered n)) c.in-Some.ensures.parts)
+    ∙ wire_above c.in-Some.label.now c.in-Some.above
+
 pub returns-in_err-matching-2-clause-err : goal.returns-in_err-matching-2-clause-err
 returns-in_err-matching-2-clause-err g c =
-    let labels = g.N.ToName.labels in
-    let a = g.A.ToName.labels c.args.apex.now in
-    let x = c.args.name.now in
-    let listed = links labels c.args.records.now in
-    let p = parameters c.args.records.now in
-    let hash = hash_with (g.H.Nsec3Hasher.answer c.args.hasher.now) c.args.records.now in
-    let cover = option_map (λ k. as_hashed_link labels k.now) c.names.cover in
-    let label = c.in-Some.label.now in
-    let next = c.in-Some.above in
-    let parts = c.in-Some.ensures.parts in
-    let on = passed_on listed a p hash x c.names.left cover c.names.invariant.missed label next parts (sym c.name_eq.ensures.value ∙ c.names-test.true) in
-    let wire = c.skip-octets.ensures ∙ ap (drop (length label + 1)) (c.names.invariant.wire ∙ ap (λ n. wire_of (lowered n)) parts) ∙ wire_above label next in
+    let here = (goal.at.returns-in_err-matching-2-clause-err g c).After-skip-octets in
+    let on = passed g here in
     let q = err_from_is_err_and c.from_residual-in_err-matching-2.result c.from_residual-in_err-matching-2.ensures.1 in
     rw (q.1, q.2) (elim c.in_err-matching-2.ensures.err [
       | inl full ↦ inl full
-      | inr r ↦ inr (r.0, r.1, refused_here listed a p hash x next on.above on.within on.first c.skip-octets.result.now wire r.0 r.2)
+      | inr r ↦ inr (
+        r.0,
+        r.1,
+        refused_here _ _ c.in-Some.above on.above on.within on.first c.skip-octets.result.now (left_wire g here) r.0 r.2,
+      )
     ])
 
 pub returns-in-Match-2-clause-ok : goal.returns-in-Match-2-clause-ok
 returns-in-Match-2-clause-ok g c =
-    let labels = g.N.ToName.labels in
-    let a = g.A.ToName.labels c.args.apex.now in
-    let x = c.args.name.now in
-    let listed = links labels c.args.records.now in
-    let p = parameters c.args.records.now in
-    let hash = hash_with (g.H.Nsec3Hasher.answer c.args.hasher.now) c.args.records.now in
-    let cover = option_map (λ k. as_hashed_link labels k.now) c.names.cover in
-    let label = c.in-Some.label.now in
-    let next = c.in-Some.above in
-    let parts = c.in-Some.ensures.parts in
-    let octets = c.skip-octets.result.now in
-    let on = passed_on listed a p hash x c.names.left cover c.names.invariant.missed label next parts (sym c.name_eq.ensures.value ∙ c.names-test.true) in
-    let wire = c.skip-octets.ensures ∙ ap (drop (length label + 1)) (c.names.invariant.wire ∙ ap (λ n. wire_of (lowered n)) parts) ∙ wire_above label next in
-    let looked = subst (λ f. IsLookedUp a p hash listed octets (found_match labels f) (found_cover labels f)) c.in-Match-2.is c.in_ok-matching-2.ensures.ok in
-    encloser_above listed a p hash x c.names.left cover c.names.invariant.missed next on
-    (as_hashed_link labels c.in-Match-2.matching.now) octets None wire looked c.count_labels-in-Match-2.result
+    let here = (goal.at.returns-in-Match-2-clause-ok g c).After-skip-octets in
+    encloser_above _ _ _ _ c.names.invariant.missed c.in-Some.above (passed g here) _ c.skip-octets.result.now None
+    (left_wire g here) (rw c.in-Match-2.is at c.in_ok-matching-2.ensures.ok) c.count_labels-in-Match-2.result
     c.count_labels-in-Match-2.ensures.count
 
 pub names-preserved : goal.names-preserved
 names-preserved g c =
-    let labels = g.N.ToName.labels in
-    let a = g.A.ToName.labels c.args.apex.now in
-    let x = c.args.name.now in
-    let listed = links labels c.args.records.now in
-    let p = parameters c.args.records.now in
-    let hash = hash_with (g.H.Nsec3Hasher.answer c.args.hasher.now) c.args.records.now in
-    let cover = option_map (λ k. as_hashed_link labels k.now) c.names.cover in
-    let label = c.in-Some.label.now in
-    let next = c.in-Some.above in
-    let parts = c.in-Some.ensures.parts in
-    let octets = c.skip-octets.result.now in
-    let on = passed_on listed a p hash x c.names.left cover c.names.invariant.missed label next parts (sym c.name_eq.ensures.value ∙ c.names-test.true) in
-    let wire = c.skip-octets.ensures ∙ ap (drop (length label + 1)) (c.names.invariant.wire ∙ ap (λ n. wire_of (lowered n)) parts) ∙ wire_above label next in
-    let looked = subst (λ f. IsLookedUp a p hash listed octets (found_match labels f) (found_cover labels f)) c.in-NoMatch-2.is c.in_ok-matching-2.ensures.ok in
+    let here = (goal.at.names-preserved g c).After-skip-octets in
+    let on = passed g here in
+    let cover = option_map (λ k. as_hashed_link g.N.ToName.labels k.now) c.in-NoMatch-2.next in
     record {
-      wire = wire;
-      missed = missed_here listed a p hash x next on.above on.within on.first octets wire
-          (option_map (λ k. as_hashed_link labels k.now) c.in-NoMatch-2.next) looked;
+      wire = left_wire g here;
+      missed = missed_here _ _ c.in-Some.above on.above on.within on.first c.skip-octets.result.now (left_wire g here) cover
+          (rw c.in-NoMatch-2.is at c.in_ok-matching-2.ensures.ok);
     }
 
 pub returns-clause-ok : goal.returns-clause-ok
-returns-clause-ok g c =
-    let labels = g.N.ToName.labels in
-    let a = g.A.ToName.labels c.args.apex.now in
-    let listed = links labels c.args.records.now in
-    let p = parameters c.args.records.now in
-    let hash = hash_with (g.H.Nsec3Hasher.answer c.args.hasher.now) c.args.records.now in
-    let cover = option_map (λ k. as_hashed_link labels k.now) c.names.cover in
-    none_left listed a p hash c.args.name.now c.names.left cover c.names.invariant.missed (sym c.name_eq.ensures.value ∙ c.names-test.false)
+returns-clause-ok g c = none_left _ _ _ _ c.names.invariant.missed (sym c.name_eq.ensures.value ∙ c.names-test.false)

@@ -2,7 +2,7 @@ use Rattle.std.proofs.Common.{◌≡◌, length}
 use Rattle.std.specs.Option.{option_map}
 use Rattle.domain_base.specs.Name.{lowered, wire_of}
 use Rattle.domain_nsec3.specs.View.{as_hashed_link}
-use Rattle.domain_checker.specs.HashedView.{hash_with, links, parameters}
+use Rattle.domain_checker.specs.HashedView.{hashed_records}
 use Rattle.domain_checker.proofs.HashedWalkLemmas.{IsMissed}
 use Rattle.domain_checker.proofs.walk.walk.Given as goal
 
@@ -10,9 +10,9 @@ use Rattle.domain_checker.proofs.walk.walk.Given as goal
 abbrev pub invariant-names : goal.invariant-names
 invariant-names g l = record {
   wire : l.octets ≡ wire_of (lowered l.left);
-  missed : IsMissed (links g.N.ToName.labels l.fn.records) (g.A.ToName.labels l.fn.apex) (parameters l.fn.records)
-      (hash_with (g.H.Nsec3Hasher.answer l.fn.hasher) l.fn.records) l.fn.name l.left
-      (option_map (λ k. as_hashed_link g.N.ToName.labels k.now) l.cover);
+  missed : IsMissed
+      (hashed_records (g.A.ToName.labels l.fn.apex) g.N.ToName.labels (g.H.Nsec3Hasher.answer l.fn.hasher) l.fn.records)
+      l.fn.name l.left (option_map (λ k. as_hashed_link g.N.ToName.labels k.now) l.cover);
 }
 
 abbrev pub decreases-names : goal.decreases-names

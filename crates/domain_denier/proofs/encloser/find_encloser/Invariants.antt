@@ -3,6 +3,7 @@ use Rattle.domain_base.specs.Name.{lowered, wire_of}
 use Rattle.domain_zone.specs.Zone.{ZoneRecord}
 use Rattle.domain_nsec3.specs.Config.{ChainConfig}
 use Rattle.domain_nsec3.specs.View.{hash_by}
+use Rattle.domain_checker.specs.HashedView.{links_with}
 use Rattle.domain_denier.specs.HashedPicked.{IsHashedWhole}
 use Rattle.domain_denier.proofs.PlacedLemmas.{IsAncestor, IsMissedAt}
 use Rattle.domain_denier.proofs.encloser.find_encloser.Given as goal
@@ -15,8 +16,8 @@ invariant-names g l = record {
   inside : l.cover < length l.fn.chain.links;
   missed : (L : List ZoneRecord) (config : ChainConfig)
       → IsHashedWhole L config (hash_by (g.H.Nsec3Hasher.answer l.fn.hasher) l.fn.chain.param.parameters) l.fn.chain
-      → IsMissedAt l.fn.chain.links l.fn.apex l.fn.chain.param.parameters
-      (hash_by (g.H.Nsec3Hasher.answer l.fn.hasher) l.fn.chain.param.parameters) l.fn.name l.left l.cover;
+      → IsMissedAt (links_with l.fn.apex l.fn.chain.param.parameters (g.H.Nsec3Hasher.answer l.fn.hasher) l.fn.chain.links)
+      l.fn.name l.left l.cover;
 }
 
 abbrev pub decreases-names : goal.decreases-names

@@ -1,7 +1,7 @@
 use Rattle.std.proofs.Common.{◌≡◌, refl, sym, subst, IfOk, Err, inr}
 use Rattle.domain_answer.specs.HashedReading.{IsFirstOfRefusals}
 use Rattle.domain_answer.specs.declared.answer.Answer.TheVariants.{OutsideZone, AtParent, TooManyIterations}
-use Rattle.domain_checker.specs.HashedView.{hash_with, links, parameters}
+use Rattle.domain_checker.specs.HashedView.{hashed_records}
 use Rattle.domain_records.specs.declared.error.SigningError.TheVariants.{Nsec3HashingError}
 use Rattle.denial_program.specs.declared.fault.DenialFault.TheVariants.{Signing}
 use Rattle.denial_program.proofs.CheckLemmas.{hasher_refused}
@@ -21,8 +21,8 @@ returns-in-Ok-clause-ok g c =
 pub returns-in_default : goal.returns-in_default
 returns-in_default g c =
     let q = c.args.question.now in
-    let hash = hash_with (g.H.Nsec3Hasher.answer c.args.hasher.now) c.args.chain.now in
-    let refused = hasher_refused {P = λ n. IsFirstOfRefusals (links (λ n. n) c.args.chain.now) q.apex (parameters c.args.chain.now) hash q.name q.rtype n}
+    let R = hashed_records q.apex (λ n. n) (g.H.Nsec3Hasher.answer c.args.hasher.now) c.args.chain.now in
+    let refused = hasher_refused {P = λ n. IsFirstOfRefusals R q.name q.rtype n}
     c.in-Err.error c.in_default.not-OutOfMemory c.in-Err.ensures.errors (λ n is. c.in-Err.ensures.refusal n (λ i. Err (is i))) in
     record {
       ok = tt;

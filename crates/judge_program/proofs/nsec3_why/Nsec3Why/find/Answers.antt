@@ -1,6 +1,6 @@
 use Rattle.std.proofs.Common.{Err, inr}
 use Rattle.domain_checker.specs.HashedVerdict.{IsFirstRefusal}
-use Rattle.domain_checker.specs.HashedView.{hash_with, links, parameters}
+use Rattle.domain_checker.specs.HashedView.{hashed_records}
 use Rattle.domain_records.specs.declared.error.SigningError.TheVariants.{Nsec3HashingError}
 use Rattle.denial_program.specs.declared.fault.DenialFault.TheVariants.{Signing}
 use Rattle.denial_program.proofs.CheckLemmas.{hasher_refused}
@@ -9,8 +9,8 @@ use Rattle.judge_program.proofs.nsec3_why.Nsec3Why.find.Goals as goal
 pub returns-in_default : goal.returns-in_default
 returns-in_default g c =
     let q = c.args.question.now in
-    let hash = hash_with (g.H.Nsec3Hasher.answer c.args.hasher.now) c.args.chain.now in
-    let refused = hasher_refused {P = λ n. IsFirstRefusal (links (λ n. n) c.args.chain.now) q.apex (parameters c.args.chain.now) hash q.name n}
+    let R = hashed_records q.apex (λ n. n) (g.H.Nsec3Hasher.answer c.args.hasher.now) c.args.chain.now in
+    let refused = hasher_refused {P = λ n. IsFirstRefusal R q.name n}
     c.in-Err.error c.in_default.not-OutOfMemory c.in-Err.ensures.errors (λ n is. c.in-Err.ensures.refusal n (λ i. Err (is i))) in
     record {
       records = tt;
