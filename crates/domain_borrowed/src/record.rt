@@ -47,7 +47,8 @@ pub fn into_nsec<'a>(borrowed: BorrowedRecord<'a>) -> Option<ReadNsec<'a>>
 pub fn into_nsec3<'a>(borrowed: BorrowedRecord<'a>) -> Option<ReadNsec3<'a>>
     ensures some { IfSome result (λ r. (borrowed.entry ≡ nsec3_record (as_hashed_link (λ n. n) r))
         × IsNsec3 (as_hashed_link (λ n. n) r)) }
-    ensures none { IfNone result ((k : HashedLink) → borrowed.entry ≡ nsec3_record k → IsNsec3 k → ⊥) }
+    ensures none { IfNone result ((k : HashedLink) → borrowed.entry ≡ nsec3_record k
+        → IsNsec3 k → ⊥) }
 {
     let (owner, class, ttl, data) = borrowed.into_parts();
     if data.rtype() != Rtype::NSEC3 {
@@ -65,7 +66,8 @@ pub fn into_nsec3<'a>(borrowed: BorrowedRecord<'a>) -> Option<ReadNsec3<'a>>
 pub fn into_nsec3param<'a>(borrowed: BorrowedRecord<'a>) -> Option<ReadNsec3param<'a>>
     ensures some { IfSome result (λ r. (borrowed.entry ≡ param_record (as_param_record (λ n. n) r))
         × IsParam (as_param_record (λ n. n) r)) }
-    ensures none { IfNone result ((k : ParamRecord) → borrowed.entry ≡ param_record k → IsParam k → ⊥) }
+    ensures none { IfNone result ((k : ParamRecord) → borrowed.entry ≡ param_record k
+        → IsParam k → ⊥) }
 {
     let (owner, class, ttl, data) = borrowed.into_parts();
     if data.rtype() != Rtype::NSEC3PARAM {
