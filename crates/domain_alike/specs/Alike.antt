@@ -21,7 +21,8 @@ pair_of alike = (alike.later, alike.first)
 
 -- a name of the chain, and the first of those that have its hash, which comes before it in
 -- canonical order
-pub record IsAlike (L : List ZoneRecord) (a : Name) (config : ChainConfig) (pair : Pair) : Type 0 where
+pub record IsAlike (L : List ZoneRecord) (a : Name) (config : ChainConfig) (pair : Pair)
+    : Type 0 where
   pub later : is_chain_name L a config pair.0 ≡ true
   pub earlier : is_chain_name L a config pair.1 ≡ true
   pub alike : hash_of config pair.1 ≡ hash_of config pair.0

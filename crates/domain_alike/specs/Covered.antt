@@ -7,4 +7,5 @@ use Rattle.domain_zone.specs.Zone.{ZoneRecord, unoccluded_owners}
 -- those that are not occluded, without the unsigned delegations where these are left out
 abbrev pub covered_names : Bool → Bool → List ZoneRecord → Name → List Name
 covered_names without_unsigned below_dname L a =
-    filter (λ n. not (without_unsigned && is_unsigned_cut L a n)) (unoccluded_owners below_dname L a)
+    filter (λ n. not (without_unsigned && is_unsigned_cut L a n))
+    (unoccluded_owners below_dname L a)
