@@ -11,8 +11,15 @@ use Rattle.domain_zone.specs.Zone.{ZoneRecord, has_type, unoccluded_owners}
 use Rattle.domain_zone.proofs.GivenLemmas.{name_of}
 use Rattle.domain_alike.specs.Covered.{covered_names}
 
+-- an unsigned delegation
+abbrev pub is_unsigned : OwnerRecords → Bool
+is_unsigned o = o.is_zone_cut && not (has_type o.records ds)
+
 abbrev pub stays : Bool → OwnerRecords → Bool
-stays excludes o = not (excludes && (o.is_zone_cut && not (has_type o.records ds)))
+stays excludes o = not (excludes && is_unsigned o)
+
+pub stays_by : (excludes : Bool) (o : OwnerRecords) {cut b : Bool} → cut ≡ is_unsigned o → (excludes && cut) ≡ b → stays excludes o ≡ not b
+stays_by excludes o is tested = ap not (sym (λ i. excludes && is i) ∙ tested)
 
 pub names_stay : (excludes : Bool) (L : List ZoneRecord) (a : Name) (ks : List Name) → map name_of (filter (stays excludes) (map (owner_at L a) ks))
     ≡ filter (λ n. not (excludes && is_unsigned_cut L a n)) ks
@@ -32,39 +39,43 @@ pub record AreKept (excludes d : Bool) (L : List ZoneRecord) (a : Name) (left : 
   pub all : given ++ left ≡ owners_with_records d L a
   pub are : names ≡ map name_of (filter (stays excludes) given)
 
-module _ (excludes d : Bool) (L : List ZoneRecord) (a : Name) where
-  pub kept_none : (left : List OwnerRecords) (names : List Name) → left ≡ owners_with_records d L a → names ≡ [] → AreKept excludes d L a left names
-  kept_none left names all none = record { given = []; all = all; are = none }
+module _ {excludes d : Bool} {L : List ZoneRecord} {a : Name} where
+  pub kept_none : {left : List OwnerRecords} {names : List Name} → left ≡ owners_with_records d L a → names ≡ [] → AreKept excludes d L a left names
+  kept_none all none = record { given = []; all = all; are = none }
 
-  one_more : (given : List OwnerRecords) (o : OwnerRecords) (b : Bool) → stays excludes o ≡ b
-      → map name_of (filter (stays excludes) (given ++ o ∷ [])) ≡ map name_of (filter (stays excludes) given) ++ cond b (o.name ∷ []) []
-  one_more given o b e =
-      ap (map name_of) (filter-append (stays excludes) given (o ∷ []))
-      ∙ map-append name_of (filter (stays excludes) given) (filter (stays excludes) (o ∷ []))
-      ∙ ap (λ ks. map name_of (filter (stays excludes) given) ++ ks)
-      (ap (λ c. map name_of (cond c (o ∷ []) [])) e ∙ named b)
-    where
-      named : (c : Bool) → map name_of (cond c (o ∷ []) []) ≡ cond c (o.name ∷ []) []
-      named true = refl
-      named false = refl
+  -- where an owner is next, and it was asked whether it is an unsigned delegation
+  module _ {ahead left : List OwnerRecords} {o : OwnerRecords} {names : List Name} {cut : Bool} (h : AreKept excludes d L a ahead names)
+      (next : ahead ≡ o ∷ left) (is : cut ≡ is_unsigned o) where
+    all : (h.given ++ o ∷ []) ++ left ≡ owners_with_records d L a
+    all = append_assoc h.given (o ∷ []) left ∙ ap (λ os. h.given ++ os) (sym next) ∙ h.all
 
-  pub kept_past : (o : OwnerRecords) (left : List OwnerRecords) (names : List Name) → AreKept excludes d L a (o ∷ left) names
-      → stays excludes o ≡ false → AreKept excludes d L a left names
-  kept_past o left names h out = record {
-    given = h.given ++ o ∷ [];
-    all = append_assoc h.given (o ∷ []) left ∙ h.all;
-    are = h.are ∙ sym (one_more h.given o false out ∙ append-nil (map name_of (filter (stays excludes) h.given)));
-  }
+    one_more : (b : Bool) → stays excludes o ≡ b
+        → map name_of (filter (stays excludes) (h.given ++ o ∷ [])) ≡ map name_of (filter (stays excludes) h.given) ++ cond b (o.name ∷ []) []
+    one_more b e =
+        ap (map name_of) (filter-append (stays excludes) h.given (o ∷ []))
+        ∙ map-append name_of (filter (stays excludes) h.given) (filter (stays excludes) (o ∷ []))
+        ∙ ap (λ ks. map name_of (filter (stays excludes) h.given) ++ ks)
+        (ap (λ c. map name_of (cond c (o ∷ []) [])) e ∙ named b)
+      where
+        named : (c : Bool) → map name_of (cond c (o ∷ []) []) ≡ cond c (o.name ∷ []) []
+        named true = refl
+        named false = refl
 
-  pub kept_more : (o : OwnerRecords) (left : List OwnerRecords) (names : List Name) → AreKept excludes d L a (o ∷ left) names
-      → stays excludes o ≡ true → AreKept excludes d L a left (names ++ o.name ∷ [])
-  kept_more o left names h kept = record {
-    given = h.given ++ o ∷ [];
-    all = append_assoc h.given (o ∷ []) left ∙ h.all;
-    are = ap (λ ks. ks ++ o.name ∷ []) h.are ∙ sym (one_more h.given o true kept);
-  }
+    pub kept_past : (excludes && cut) ≡ true → AreKept excludes d L a left names
+    kept_past out = record {
+      given = h.given ++ o ∷ [];
+      all = all;
+      are = h.are ∙ sym (one_more false (stays_by excludes o is out) ∙ append-nil (map name_of (filter (stays excludes) h.given)));
+    }
 
-  pub kept_all : (names : List Name) → AreKept excludes d L a [] names → names ≡ covered_names excludes d L a
-  kept_all names h =
-      h.are ∙ ap (λ os. map name_of (filter (stays excludes) os)) (sym (append-nil h.given) ∙ h.all)
+    pub kept_more : {more : List Name} → (excludes && cut) ≡ false → more ≡ names ++ o.name ∷ [] → AreKept excludes d L a left more
+    kept_more kept pushed = record {
+      given = h.given ++ o ∷ [];
+      all = all;
+      are = pushed ∙ ap (λ ks. ks ++ o.name ∷ []) h.are ∙ sym (one_more true (stays_by excludes o is kept));
+    }
+
+  pub kept_all : {left : List OwnerRecords} {names : List Name} → AreKept excludes d L a left names → left ≡ [] → names ≡ covered_names excludes d L a
+  kept_all h none =
+      h.are ∙ ap (λ os. map name_of (filter (stays excludes) os)) (sym (append-nil h.given) ∙ ap (λ os. h.given ++ os) (sym none) ∙ h.all)
       ∙ names_stay excludes L a (unoccluded_owners d L a)
