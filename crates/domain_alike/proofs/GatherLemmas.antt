@@ -157,7 +157,7 @@ gathered_start a owners up low =
       each = λ o i. absurd i;
     }
 
-module _ (a : Name) (left passed names : List Name) (p o : Name) (s : ℕ) (h : IsGathered a (o ∷ left) passed names p) (shares : Shares o p s) where
+module _ {a : Name} {left passed names : List Name} {p o : Name} (s : ℕ) (h : IsGathered a (o ∷ left) passed names p) (shares : Shares o p s) where
   low_o : is_at_or_below o a ≡ true
   low_o = h.low.0
 
@@ -228,9 +228,9 @@ module _ (a : Name) (left passed names : List Name) (p o : Name) (s : ℕ) (h : 
     ];
   }
 
-pub gathered_end : (a : Name) (owners names : List Name) (p : Name) → IsGathered a [] owners names p
+pub gathered_end : {a : Name} {owners names : List Name} {p : Name} → IsGathered a [] owners names p
     → All (λ n. is_at_or_below n a ≡ true) owners → 0 < length owners → IsListOf (exists_over owners a) names
-gathered_end a owners names p h low some = record {
+gathered_end {a = a} {owners = owners} {names = names} h low some = record {
   ascend = sorted names h.ascend;
   exactly = λ x. either_way (list_any (λ n. same_name n x) names) (exists_over owners a x) (there x) (back x);
 }

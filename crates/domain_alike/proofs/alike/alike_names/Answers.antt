@@ -1,8 +1,7 @@
-use Rattle.std.proofs.Common.{◌≡◌, ◌&&◌, List, inl, inr, map, refl, sym, ap, subst}
+use Rattle.std.proofs.Common.{◌&&◌, List, inl, inr, map, refl, sym, ap, subst}
 use Rattle.domain_octets.proofs.StdLemmas.{if_err_of}
 use Rattle.domain_base.specs.Words.{Name}
 use Rattle.domain_borrowed.specs.Data.{minimum_of}
-use Rattle.domain_nsec3.specs.Config.{excludes}
 use Rattle.domain_nsec3.specs.View.{config_of}
 use Rattle.domain_zone.specs.View.{zone_of}
 use Rattle.domain_alike.specs.Alike.{pair_of, IsFirstRefusal}
@@ -13,28 +12,24 @@ use Rattle.domain_alike.proofs.alike.alike_names.Goals as goal
 pub returns-clause-ok : goal.returns-clause-ok
 returns-clause-ok g c =
     let L = zone_of (λ n. n) (λ d. d.rtype) minimum_of c.args.sorted.now in
-    let a = c.args.apex.now in
     let config = config_of (g.H.Nsec3Hasher.answer c.args.hasher.now) c.args.config.now in
-    let left_out : excludes config ≡ (c.opt_out_flag.result && config.exclude_unsigned) = ap (λ b. b && config.exclude_unsigned) (sym c.opt_out_flag.ensures) in
-    let list = c.in_ok-names.ensures config left_out refl in
-    alike_are L a config c.in_ok-names.names.items list (map pair_of c.in_ok-pairs.pairs.items)
+    let list = c.in_ok-names.ensures config (ap (λ b. b && config.exclude_unsigned) (sym c.opt_out_flag.ensures)) refl in
+    alike_are L c.args.apex.now config c.in_ok-names.names.items list (map pair_of c.in_ok-pairs.pairs.items)
     (subst (λ (ns : List Name). Met config.hash ns (map pair_of c.in_ok-pairs.pairs.items)) c.deref.ensures.value c.in_ok-pairs.ensures.ok)
 
 pub returns-in_err-pairs-clause-err : goal.returns-in_err-pairs-clause-err
 returns-in_err-pairs-clause-err g c =
     let L = zone_of (λ n. n) (λ d. d.rtype) minimum_of c.args.sorted.now in
-    let a = c.args.apex.now in
     let config = config_of (g.H.Nsec3Hasher.answer c.args.hasher.now) c.args.config.now in
-    let left_out : excludes config ≡ (c.opt_out_flag.result && config.exclude_unsigned) = ap (λ b. b && config.exclude_unsigned) (sym c.opt_out_flag.ensures) in
-    let list = c.in_ok-names.ensures config left_out refl in
-    if_err_of (IsRefusedBy (IsFirstRefusal L a config)) c.in_err-pairs.field-0.0 c.from_residual-in_err-pairs.result
+    let list = c.in_ok-names.ensures config (ap (λ b. b && config.exclude_unsigned) (sym c.opt_out_flag.ensures)) refl in
+    if_err_of (IsRefusedBy (IsFirstRefusal L c.args.apex.now config)) c.in_err-pairs.field-0.0 c.from_residual-in_err-pairs.result
     c.from_residual-in_err-pairs.ensures.1
     (elim c.in_err-pairs.ensures.err [
       | inl none ↦ inl none
       | inr r ↦ inr (
         r.0,
         r.1,
-        first_refusal L a config c.in_ok-names.names.items list r.0
+        first_refusal L c.args.apex.now config c.in_ok-names.names.items list r.0
             (subst (λ (ns : List Name). IsRefusedAmong config.hash ns r.0) c.deref.ensures.value r.2),
       )
     ])

@@ -17,21 +17,19 @@ loop-owner-init c =
 
 pub loop-owner-preserved : goal.loop-owner-preserved
 loop-owner-preserved c =
-    let a = c.args.apex.now in
     let owners = c.args.owners.now in
     let i = c.loop-owner.owner-index in
     let o = c.owner-item.result in
-    let p = c.loop-owner.previous.now in
     let s = c.common_labels-shared.result in
     let names = c.loop-owner.names.items in
     let more : take (i + 1) owners ≡ take i owners ++ o ∷ [] =
     take_more owners i o c.loop-owner-test.true ∙ ap (λ n. take i owners ++ n ∷ []) (sym c.owner-item.is) in
     let rest : drop i owners ≡ o ∷ drop (i + 1) owners =
     drop_more owners i o c.loop-owner-test.true ∙ ap (λ n. n ∷ drop (i + 1) owners) (sym c.owner-item.is) in
-    let so_far = subst (λ left. IsGathered a left (take i owners) names p) rest c.loop-owner.invariant in
-    let made = gathered_more a (drop (i + 1) owners) (take i owners) names p o s so_far (common_shares o p s c.common_labels-shared.ensures) in
-    subst (λ ns. IsGathered a (drop (i + 1) owners) (take (i + 1) owners) ns o) (sym c.in_ok-push_up.ensures)
-    (subst (λ passed. IsGathered a (drop (i + 1) owners) passed (names ++ up_with_more s o) o) (sym more) made)
+    let so_far = subst (λ left. IsGathered c.args.apex.now left (take i owners) names c.loop-owner.previous.now) rest c.loop-owner.invariant in
+    subst (λ ns. IsGathered c.args.apex.now (drop (i + 1) owners) (take (i + 1) owners) ns o) (sym c.in_ok-push_up.ensures)
+    (subst (λ passed. IsGathered c.args.apex.now (drop (i + 1) owners) passed (names ++ up_with_more s o) o) (sym more)
+    (gathered_more s so_far (common_shares o c.loop-owner.previous.now s c.common_labels-shared.ensures)))
 
 pub returns-then-is_empty : goal.returns-then-is_empty
 returns-then-is_empty c =
@@ -40,13 +38,10 @@ returns-then-is_empty c =
 
 pub returns : goal.returns
 returns c =
-    let a = c.args.apex.now in
     let owners = c.args.owners.now in
     let i = c.loop-owner.owner-index in
-    let names = c.loop-owner.names.items in
-    let p = c.loop-owner.previous.now in
     let whole : take i owners ≡ owners = take_all i owners c.loop-owner-test.false in
     let none : drop i owners ≡ [] = drop_all i owners c.loop-owner-test.false in
-    gathered_end a owners names p
-    (subst (λ passed. IsGathered a [] passed names p) whole (subst (λ left. IsGathered a left (take i owners) names p) none c.loop-owner.invariant))
+    gathered_end (subst (λ passed. IsGathered c.args.apex.now [] passed c.loop-owner.names.items c.loop-owner.previous.now) whole
+    (subst (λ left. IsGathered c.args.apex.now left (take i owners) c.loop-owner.names.items c.loop-owner.previous.now) none c.loop-owner.invariant))
     c.requires.in_zone (grind (arith, nat_tests, sym c.is_empty.ensures ∙ c.if-is_empty.false))
