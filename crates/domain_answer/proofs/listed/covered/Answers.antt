@@ -5,11 +5,12 @@ use Rattle.domain_base.specs.Order.{before, canonical_cmp}
 use Rattle.domain_answer.proofs.FoundLemmas.{after_both, ahead_of_both, ahead_of_next, at_owner, uncovered}
 use Rattle.domain_answer.proofs.listed.covered.Given.{Over}
 use Rattle.domain_answer.proofs.listed.covered.Goals as goal
+use Rattle.domain_answer.proofs.listed.covered.Goals.{After-is_gt-is_after}
 use Rattle.domain_answer.proofs.listed.covered.Goals.{then-is_eq-via-then-is_eq, then-is_eq-via-else-is_eq+then-is_before, then-not-is_after, else-not-is_after}
 use Rattle.domain_answer.proofs.listed.covered.Goals.{then-is_lt-via-then-is_lt, then-is_lt-via-else-is_lt+then-not-is_before, then-is_after, else-is_after}
 
 -- whether the name comes after the owner
-is_after : (g : Over) (c : goal.After-is_gt-is_after g)
+is_after : (g : Over) (c : After-is_gt-is_after g)
     → c.is_gt-is_after.result ≡ is_gt (canonical_cmp (g.M.ToName.labels c.args.name.now) (g.N.ToName.labels c.args.owner.now))
 is_after g c = c.is_gt-is_after.ensures ∙ ap is_gt c.compare-from_owner.ensures.order
 

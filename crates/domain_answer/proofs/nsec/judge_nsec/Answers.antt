@@ -20,5 +20,6 @@ returns-clause-proof g c =
 
 pub returns-clause-within : goal.returns-clause-within
 returns-clause-within g c =
-    subst (CountsWithin (length (g.M.ToName.labels c.args.name.now))) (sym c.read.ensures)
-    (c.readings_are_proved.ensures.within _ _ _ c.args.rtype)
+    let x = g.M.ToName.labels c.args.name.now in
+    subst (CountsWithin (length x)) (sym c.read.ensures)
+    (c.readings_are_proved.ensures.within (links_of g.N.ToName.labels c.args.chain.now) (g.A.ToName.labels c.args.apex.now) x c.args.rtype)

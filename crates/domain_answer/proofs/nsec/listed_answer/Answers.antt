@@ -10,6 +10,7 @@ use Rattle.domain_answer.proofs.FoundLemmas.{cover_reads, found_covers, match_re
 use Rattle.domain_answer.proofs.ToldLemmas.{given_told, match_own}
 use Rattle.domain_answer.proofs.nsec.listed_answer.Given.{Over}
 use Rattle.domain_answer.proofs.nsec.listed_answer.Goals as goal
+use Rattle.domain_answer.proofs.nsec.listed_answer.Goals.{After-find_nsec}
 
 -- the records as links, the apex, and the name that is asked for
 record Asked : Type 0 where
@@ -17,7 +18,7 @@ record Asked : Type 0 where
   apex : Name
   name : Name
 
-asked : (g : Over) (c : goal.After-find_nsec g) → Asked
+abbrev asked : (g : Over) (c : After-find_nsec g) → Asked
 asked g c = record {
   links = links_of g.N.ToName.labels c.args.chain.now;
   apex = g.A.ToName.labels c.args.apex.now;

@@ -10,9 +10,10 @@ use Rattle.domain_answer.specs.declared.answer.Answer.TheVariants.{NoCloserName}
 use Rattle.domain_answer.proofs.HashedProofLemmas.{IsAsked, asked_below}
 use Rattle.domain_answer.proofs.nsec3.read_nsec3.Given.{Over}
 use Rattle.domain_answer.proofs.nsec3.read_nsec3.Goals as goal
+use Rattle.domain_answer.proofs.nsec3.read_nsec3.Goals.{In-NoCloserName}
 
 -- the wildcard below the closest encloser is asked for
-asked : (g : Over) (c : goal.In-NoCloserName g) → IsAsked
+asked : (g : Over) (c : In-NoCloserName g) → IsAsked
     (hashed_records (g.A.ToName.labels c.args.apex.now) g.N.ToName.labels (g.H.Nsec3Hasher.answer c.args.hasher.now) c.args.records.now)
     (g.M.ToName.labels c.args.name.now) c.args.rtype c.in-NoCloserName.count
 asked g c =

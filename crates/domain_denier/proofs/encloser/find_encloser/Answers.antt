@@ -7,6 +7,7 @@ use Rattle.domain_denier.proofs.PlacedLemmas.{IsAncestor, IsMissedAt, ancestor_a
 use Rattle.domain_denier.proofs.PlacedLemmas.{missed_here, none_placed, of_found, placed_above, placed_here, refused_at}
 use Rattle.domain_denier.proofs.encloser.find_encloser.Given.{Over}
 use Rattle.domain_denier.proofs.encloser.find_encloser.Goals as goal
+use Rattle.domain_denier.proofs.encloser.find_encloser.Goals.{After-skip-octets}
 
 -- ---- at the name itself
 
@@ -57,15 +58,15 @@ skip-octets-requires g c =
     (wire_shorter label next)
 
 -- the name that is left is not the apex
-other : (g : Over) (c : goal.After-skip-octets g) → same_name c.names.left c.args.apex.now ≡ false
+other : (g : Over) (c : After-skip-octets g) → same_name c.names.left c.args.apex.now ≡ false
 other g c = sym c.name_eq.ensures.value ∙ c.names-test.true
 
 -- so the name above it is an ancestor too
-ancestor : (g : Over) (c : goal.After-skip-octets g) → IsAncestor c.args.apex.now c.args.name.now c.in-Some.above
+ancestor : (g : Over) (c : After-skip-octets g) → IsAncestor c.args.apex.now c.args.name.now c.in-Some.above
 ancestor g c = ancestor_above _ _ _ c.names.invariant.ancestor c.in-Some.label.now c.in-Some.above c.in-Some.ensures.parts (other g c)
 
 -- what is left of the wire form is that of the name above
-left_wire : (g : Over) (c : goal.After-skip-octets g) → c.skip-octets.result.now ≡ wire_of (lowered c.in-Some.above)
+left_wire : (g : Over) (c : After-skip-octets g) → c.skip-octets.result.now ≡ wire_of (lowered c.in-Some.above)
 left_wire g c =
     c.skip-octets.ensures
     ∙ ap (drop (length c.in-Some.label.now + 1)) (c.names.invariant.wire ∙ ap (λ n. wire_of (lowered n)) c.in-Some.ensures.parts)

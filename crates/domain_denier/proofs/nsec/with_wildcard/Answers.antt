@@ -8,9 +8,10 @@ use Rattle.domain_denier.proofs.JudgedLemmas.{told_of, untold_of}
 use Rattle.domain_denier.proofs.PickLemmas.{AnswerLaws, denied_by_both, denied_by_one}
 use Rattle.domain_denier.proofs.nsec.with_wildcard.Given.{Over}
 use Rattle.domain_denier.proofs.nsec.with_wildcard.Goals as goal
+use Rattle.domain_denier.proofs.nsec.with_wildcard.Goals.{After-of_wildcard, In-Untold}
 
 -- the first record denies the name alone, and it is known whether it is silent of the wildcard
-untold : (g : Over) (c : goal.In-Untold g)
+untold : (g : Over) (c : In-Untold g)
     → (reading (g.A.ToName.labels c.args.apex.now) (at_place c.args.chain.now (Some c.args.place)) (g.M.ToName.labels c.args.name.now) c.args.rtype
     ≡ NoCloserName c.args.count)
     × (c.in-Untold.is_silent ≡ true
@@ -25,7 +26,7 @@ pub with_second-requires-clause-silent : goal.with_second-requires-clause-silent
 with_second-requires-clause-silent g c = (untold g (goal.at.with_second-requires-clause-silent g c).In-Untold).1
 
 -- what the laws say
-chain_laws : (g : Over) (c : goal.After-of_wildcard g) → ChainLaws
+chain_laws : (g : Over) (c : After-of_wildcard g) → ChainLaws
 chain_laws g c =
     let laws = c.chains_mean_the_zone.ensures in
     record {
@@ -36,10 +37,10 @@ chain_laws g c =
       occluded = laws.occluded;
     }
 
-answer_laws : (g : Over) (c : goal.After-of_wildcard g) → AnswerLaws
+answer_laws : (g : Over) (c : After-of_wildcard g) → AnswerLaws
 answer_laws g c = record { zone = c.readings_are_proved.ensures.zone; closer = c.whole_chains_prove_all.ensures.closer }
 
-small : (g : Over) (c : goal.After-of_wildcard g) → c.args.rtype < 65536
+small : (g : Over) (c : After-of_wildcard g) → c.args.rtype < 65536
 small g c = subst (λ n. n < 65536) c.to_int-number.ensures c.to_int-number.type_inv
 
 pub returns-in-Told : goal.returns-in-Told

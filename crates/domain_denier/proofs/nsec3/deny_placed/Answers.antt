@@ -5,6 +5,7 @@ use Rattle.domain_denier.specs.HashedSteps.{IsFirstDenial, IsOfHash}
 use Rattle.domain_denier.proofs.HashedPickLemmas.{IsAskedBelow, asked_below, first_there, name_there, plain_read, record_there, wildcard_read}
 use Rattle.domain_denier.proofs.nsec3.deny_placed.Given.{Over}
 use Rattle.domain_denier.proofs.nsec3.deny_placed.Goals as goal
+use Rattle.domain_denier.proofs.nsec3.deny_placed.Goals.{In-NoCloserName}
 
 pub returns-in_default : goal.returns-in_default
 returns-in_default g c =
@@ -25,7 +26,7 @@ returns-in_default g c =
     }
 
 -- the wildcard lies below the closest encloser
-asked : (g : Over) (c : goal.In-NoCloserName g)
+asked : (g : Over) (c : In-NoCloserName g)
     → IsAskedBelow c.args.apex.now (g.M.ToName.labels c.args.name.now) c.in-NoCloserName.count
 asked g c =
     let links = c.args.chain.now.links in
