@@ -10,7 +10,7 @@ use Rattle.domain_records.specs.declared.error.SigningError.TheVariants.{Nsec3Ha
 use Rattle.domain_nsec.specs.Chain.{Link}
 use Rattle.domain_nsec3.specs.Chain.{HashedLink, ParamRecord}
 use Rattle.domain_checker.specs.HashedView.{links_with}
-use Rattle.domain_nsec3.specs.View.{HasherAnswer, hash_by}
+use Rattle.domain_nsec3.specs.View.{HasherAnswer}
 use Rattle.domain_borrowed.specs.Data.{RawRecord}
 use Rattle.domain_borrowed.specs.Links.{nsec_record, nsec3_record, param_record, IsNsec, IsNsec3, IsParam}
 use Rattle.domain_checker.specs.Verdict.{HasProof, IsProved}

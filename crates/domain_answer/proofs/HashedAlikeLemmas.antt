@@ -1,6 +1,5 @@
 -- What NSEC3 records answer does not depend on TTLs, classes and the case of letters.
 use Rattle.std.proofs.Common.{◌≡◌, ℕ, cond, not, ◌&&◌, ◌||◌, List, length, refl, sym, ◌∙◌, subst, nat_eq, Option, Some, None}
-use Rattle.std.specs.List.{find}
 use Rattle.domain_octets.specs.Words.{Octets}
 use Rattle.domain_base.specs.Name.{same_name}
 use Rattle.domain_base.specs.Types.{cname, dname, ds, ns, soa}

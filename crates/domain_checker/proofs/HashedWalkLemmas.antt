@@ -1,9 +1,9 @@
 -- The names from x up to the apex: which of them are passed, and the hash of the next closer name.
-use Rattle.std.proofs.Common.{◌≡◌, ℕ, ◌+◌, ◌-◌, ◌≤◌, ◌<◌, zero, suc, true, false, not, List, [], ◌∷◌}
+use Rattle.std.proofs.Common.{◌≡◌, ℕ, ◌+◌, ◌-◌, ◌≤◌, ◌<◌, zero, suc, true, false, not, [], ◌∷◌}
 use Rattle.std.proofs.Common.{◌++◌, map, length, drop, refl, sym, ap, ◌∙◌, inl, inr, Option, Some, None, arith}
 use Rattle.std.specs.Prelude.{Ok, Err}
 use Rattle.std.specs.Char.{to_ascii_lowercase}
-use Rattle.std.specs.List.{find, list_any}
+use Rattle.std.specs.List.{list_any}
 use Rattle.std.proofs.lemmas.Bool.{cases_Bool, cases_lt, false≢true, and_from}
 use Rattle.std.proofs.lemmas.List.{length-drop, length-map}
 use Rattle.domain_octets.specs.Words.{Octets}
@@ -13,7 +13,7 @@ use Rattle.domain_zone.proofs.NameLemmas.{one_lowered, same_itself, lowered_belo
 use Rattle.domain_zone.proofs.OwnerLemmas.{in_any}
 use Rattle.domain_nsec3.specs.Chain.{HashedLink}
 use Rattle.domain_nsec3.specs.Config.{hash_name}
-use Rattle.domain_checker.specs.HashedList.{is_hash_cover, is_hash_match}
+use Rattle.domain_checker.specs.HashedList.{is_hash_match}
 use Rattle.domain_checker.specs.HashedView.{HashedRecords, first_cover, first_match}
 use Rattle.domain_checker.specs.HashedEncloser.{IsEncloser}
 use Rattle.domain_checker.specs.HashedPass.{IsLookedUp}

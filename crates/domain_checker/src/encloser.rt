@@ -7,7 +7,7 @@ ghost use Rattle.domain_hasher.specs.declared.error.Nsec3HashError.TheVariants a
 ghost use Rattle.domain_checker.specs.HashedEncloser.{encloser_is_cut, encloser_of, IsFoundEncloser};
 ghost use Rattle.domain_checker.specs.HashedPass.{found_cover, found_match, IsLookedUp};
 ghost use Rattle.domain_checker.specs.HashedVerdict.{IsFirstRefusal};
-ghost use Rattle.domain_checker.specs.HashedView.{hash_with, hashed_records, parameters};
+ghost use Rattle.domain_checker.specs.HashedView.{hash_with, hashed_records};
 
 use crate::Nsec3Found;
 use crate::hashed::Nsec3Rr;

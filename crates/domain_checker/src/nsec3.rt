@@ -8,7 +8,7 @@ ghost use Rattle.domain_checker.specs.HashedEncloser.{encloser_of, found_verdict
 ghost use Rattle.domain_checker.specs.HashedReading.{hash_cover_verdict, IsWalked};
 ghost use Rattle.domain_checker.specs.HashedVerdict.{HasHashedProof, IsFirstRefusal, IsHashedProved};
 ghost use Rattle.domain_checker.specs.Verdict.{IsWithin};
-ghost use Rattle.domain_checker.specs.HashedView.{hash_with, hashed_records, parameters};
+ghost use Rattle.domain_checker.specs.HashedView.{hashed_records};
 
 use crate::hashed::Nsec3Rr;
 use crate::nsec3_laws::walks_are_proved;

@@ -6,7 +6,7 @@ ghost use Rattle.domain_hasher.specs.declared.error.Nsec3HashError.TheVariants a
 ghost use Rattle.domain_checker.specs.HashedEncloser.{encloser_of, IsFoundEncloser};
 ghost use Rattle.domain_checker.specs.HashedPass.{found_match, found_cover, IsLookedUp};
 ghost use Rattle.domain_checker.specs.HashedVerdict.{IsFirstRefusal};
-ghost use Rattle.domain_checker.specs.HashedView.{hash_with, hashed_records, parameters};
+ghost use Rattle.domain_checker.specs.HashedView.{hash_with, hashed_records};
 
 use crate::hashed::find_hash;
 use crate::{Nsec3Encloser, Nsec3Found};

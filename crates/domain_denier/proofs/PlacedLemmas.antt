@@ -1,7 +1,6 @@
 -- The names from x up to the apex, by the places of the records that match or cover them.
 use Rattle.std.proofs.Common.{◌≡◌, ℕ, ◌<◌, Bool, true, false, not, List, ◌∷◌, length, Some, None, refl, sym, ap, ◌∙◌, subst, inl}
 use Rattle.std.specs.Prelude.{Ok, Err}
-use Rattle.std.specs.List.{find}
 use Rattle.std.proofs.lemmas.Bool.{and_from}
 use Rattle.domain_octets.specs.Words.{Octets}
 use Rattle.domain_base.specs.Name.{is_at_or_below, is_strictly_below, lowered, same_name, wire_of}
@@ -9,8 +8,7 @@ use Rattle.domain_base.specs.Words.{Label, Name}
 use Rattle.domain_zone.specs.Zone.{ZoneRecord}
 use Rattle.domain_zone.proofs.NameLemmas.{below_itself, below_parent, below_trans, same_itself}
 use Rattle.domain_nsec3.specs.Chain.{ChainRecords, HashedLink}
-use Rattle.domain_nsec3.specs.Config.{ChainConfig, Hash, Parameters, hash_name}
-use Rattle.domain_checker.specs.HashedList.{is_hash_cover}
+use Rattle.domain_nsec3.specs.Config.{ChainConfig, Hash, hash_name}
 use Rattle.domain_checker.specs.HashedReading.{IsUnmatched}
 use Rattle.domain_checker.specs.HashedView.{HashedRecords, first_cover}
 use Rattle.domain_checker.specs.HashedVerdict.{IsFirst}

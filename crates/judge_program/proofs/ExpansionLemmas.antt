@@ -1,6 +1,5 @@
 -- Answers of names whose records were expanded from a wildcard.
-use Rattle.std.proofs.Common.{◌≡◌, ◌<◌, ◌≤◌, ℕ, List, ap, sym, ◌∙◌, Option, Ok, Err, arith}
-use Rattle.std.specs.List.{find}
+use Rattle.std.proofs.Common.{◌≡◌, ◌<◌, ◌≤◌, ℕ, ap, sym, ◌∙◌, Option, Ok, Err, arith}
 use Rattle.domain_base.specs.Words.{Name}
 use Rattle.domain_base.specs.Name.{lowered, wire_of}
 use Rattle.domain_nsec3.specs.Chain.{HashedLink}

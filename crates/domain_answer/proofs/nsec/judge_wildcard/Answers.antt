@@ -1,7 +1,5 @@
 use Rattle.std.proofs.Common.{◌∙◌}
-use Rattle.domain_nsec.specs.ChainView.{links_of}
 use Rattle.domain_answer.specs.Reading.{wildcard_both}
-use Rattle.domain_answer.specs.declared.answer.Answer.{Answer}
 use Rattle.domain_answer.proofs.FoundLemmas.{cover_reads, match_reads}
 use Rattle.domain_answer.proofs.nsec.judge_wildcard.Goals as goal
 

@@ -1,4 +1,4 @@
-use Rattle.std.proofs.Common.{◌≡◌, ◌∙◌, sym, ap, subst, inl, inr}
+use Rattle.std.proofs.Common.{◌≡◌, ◌∙◌, sym, ap, inl, inr}
 use Rattle.domain_base.specs.Name.{lowered, wire_of}
 use Rattle.domain_checker.specs.HashedView.{hashed_records}
 use Rattle.domain_checker.proofs.HashedEncloserLemmas.{outside_unmatched}

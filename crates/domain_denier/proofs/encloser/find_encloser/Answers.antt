@@ -1,4 +1,4 @@
-use Rattle.std.proofs.Common.{◌≡◌, ◌+◌, ◌≤◌, ◌<◌, false, true, length, drop, refl, sym, ap, subst, ◌∙◌, inl, inr, None, Some}
+use Rattle.std.proofs.Common.{◌≡◌, ◌+◌, ◌≤◌, ◌<◌, false, true, length, drop, refl, sym, ap, subst, ◌∙◌, inl, inr}
 use Rattle.std.proofs.lemmas.Result.{err_from_is_err_and}
 use Rattle.domain_base.specs.Name.{lowered, same_name, wire_of}
 use Rattle.domain_checker.proofs.HashedWalkLemmas.{wire_above, wire_shorter}
