@@ -138,10 +138,6 @@ pub encode_more : (table octets : List ℕ) (i : ℕ) → i < length octets
     ++ (get_or table (get_or octets i 0 / 16) 0 ∷ get_or table (get_or octets i 0 % 16) 0 ∷ [])
 encode_more table octets i inside = ap (encode_with table) (take_more octets i 0 inside) ∙ encode_push table (take i octets) (get_or octets i 0)
 
-pub encode_none : (table : List ℕ) → encode_with table [] ≡ []
-unfolding encode_with
-encode_none table = refl
-
 -- the octets so far and those of the digits that are left are what the text stands for
 pub digits_stand : (text octets : List ℕ) (scale rest at : ℕ) (whole : List ℕ) → IsBase32 text whole
     → Digits text octets scale rest at → IsBase32 text (octets ++ base32_octets scale rest (base32_digits (drop at text)))

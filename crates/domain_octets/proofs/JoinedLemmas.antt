@@ -8,7 +8,7 @@ use Rattle.std.proofs.Math.Seq.{get_or-append_seam}
 use Rattle.std.proofs.lemmas.Bool.{cases_Bool, cases_lt}
 use Rattle.std.proofs.lemmas.List.{take_at, drop_at, append-nil, append_assoc, map-append, length-map, get_or-append-add, take-append-drop}
 use Rattle.std.proofs.lemmas.List.Elements.{All-append, All-cons, All-nil}
-use Rattle.base64.specs.GeneralPurpose.{IsBytes, encode_of}
+use Rattle.base64.specs.GeneralPurpose.{IsBytes}
 use Rattle.base64.specs.Engines.{standard}
 use Rattle.base64.proofs.EngineFacts.{decode_of-encode_of, encode_of-nil}
 use Rattle.hex.specs.Hex.{decode_of, decode_pairs, pair_value}
@@ -43,9 +43,6 @@ pub record Searched (codec : Codec) (text left : List ℕ) : Type 0 where
   pub parts : text ≡ front ++ left
   pub pass : AllPass (is_digit codec) front
 
-pub searched_none : (codec : Codec) (text : List ℕ) → Searched codec text text
-searched_none codec text = record { front = []; parts = refl; pass = λ i d below. absurd (omega arith) }
-
 pass-append : (codec : Codec) (front back : List ℕ) → AllPass (is_digit codec) front → AllPass (is_digit codec) back → AllPass (is_digit codec) (front ++ back)
 pass-append codec front back first second = All-append (λ c. is_digit codec c ≡ true) front back first second
 
@@ -70,10 +67,6 @@ searched_other codec text left after c so_far is other =
       other = other;
       before = subst (AllPass (is_digit codec)) (sym before) so_far.pass;
     }
-
-pub searched_all : (codec : Codec) (text left : List ℕ) → Searched codec text left → left ≡ [] → AllPass (is_digit codec) text
-searched_all codec text left so_far none =
-    subst (AllPass (is_digit codec)) (sym (so_far.parts ∙ ap (λ l. so_far.front ++ l) none ∙ append-nil so_far.front)) so_far.pass
 
 pass_front : (codec : Codec) (front back : List ℕ) → AllPass (is_digit codec) (front ++ back) → AllPass (is_digit codec) front
 pass_front codec front back all = λ i d below. let here = all i d (omega (arith, length-append front back)) in rw (get_or-append front back d i below) at here

@@ -12,9 +12,6 @@ pub record Line (tokens : List (List ℕ)) (first : Bool) (line : List ℕ) : Ty
   pub none : first ≡ true → tokens ≡ []
   pub some : first ≡ false → tokens ≢ []
 
-pub line_begins : Line [] true []
-line_begins = record { joined = refl; none = λ _. refl; some = λ e. cc }
-
 tokens_of-append : (xs ys : List PieceText) → tokens_of (xs ++ ys) ≡ tokens_of xs ++ tokens_of ys
 tokens_of-append [] ys = refl
 tokens_of-append (token text ∷ xs) ys = ap (λ l. text ∷ l) (tokens_of-append xs ys)

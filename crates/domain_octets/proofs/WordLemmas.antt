@@ -189,9 +189,6 @@ base64_plain octets = no_space-append (encode_symbols standard.encode_table octe
     (symbols_plain standard.encode_table octets (table_plain standard.encode_table refl))
     (padding_plain (padding_len (length octets)))
 
-pub upper_hex_plain : (octets : List ℕ) → HasNoSpace (encode_upper octets)
-upper_hex_plain octets = hex_plain upper_digits octets (table_plain upper_digits refl)
-
 pub lower_hex_plain : (octets : List ℕ) → HasNoSpace (encode_lower octets)
 lower_hex_plain octets = hex_plain lower_digits octets (table_plain lower_digits refl)
 
