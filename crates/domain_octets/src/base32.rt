@@ -36,7 +36,8 @@ const UPPER: &[u8; 32] = b"0123456789ABCDEFGHIJKLMNOPQRSTUV";
 /// bits fill the last of them; what stands after it is no digit.
 fn spell(alphabet: &[u8; 32], octets: &[u8]) -> ([u8; 8], usize)
     requires { length octets.now ≤ 5 }
-    ensures value { take result.1 result.0 ≡ map (slice_index alphabet.now) (base32_from 1 0 octets.now) }
+    ensures value { take result.1 result.0
+        ≡ map (slice_index alphabet.now) (base32_from 1 0 octets.now) }
     ensures small { AreDigits (base32_from 1 0 octets.now) }
     ensures count { result.1 ≡ (8 * length octets.now + 4) / 5 }
 {
@@ -96,7 +97,8 @@ impl<'a> Digits<'a> {
     /// The next five octets, fewer at the end; None where none are left.
     fn next_five(&mut self) -> Option<&'a [u8]>
         ensures some { IfSome result (λ octets. self.old ≡ base32_from 1 0 octets.now ++ self.new) }
-        ensures count { IfSome result (λ octets. (0 < length octets.now) × (length octets.now ≤ 5)) }
+        ensures count { IfSome result (λ octets.
+            (0 < length octets.now) × (length octets.now ≤ 5)) }
         ensures none { IfNone result ((self.old ≡ []) × (self.new ≡ [])) }
     {
         let count = self.octets.len().min(5);

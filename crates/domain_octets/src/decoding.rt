@@ -148,8 +148,8 @@ impl Codec {
         Ok(O::from_builder(builder))
     }
 
-    /// The octets that texts stand for when they are joined: what `decode` answers of the joined text.
-    /// Nothing is joined in memory.
+    /// The octets that texts stand for when they are joined: what `decode` answers of the joined
+    /// text. Nothing is joined in memory.
     pub fn decode_joined<O: FromBuilder>(
         self,
         alloc: Global,

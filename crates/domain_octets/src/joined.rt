@@ -92,8 +92,8 @@ pub(crate) fn first_other(codec: Codec, texts: &[&str]) -> Option<u8>
     None
 }
 
-/// Whether texts stand for octets in Base 64 when they are joined: every 64 characters for 48 octets,
-/// and the last for at most as many.
+/// Whether texts stand for octets in Base 64 when they are joined: every 64 characters for 48
+/// octets, and the last for at most as many.
 pub(crate) fn is_base64(texts: &[&str]) -> bool
     ensures { IsTrue result ↔ IsText Codec.Base64 (concat (map (λ text. text.now) texts.now)) }
 {

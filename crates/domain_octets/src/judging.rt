@@ -138,8 +138,8 @@ impl Text for &[&str] {
     }
 }
 
-/// Refuses what is no text in Base 16: an odd number of digits, and then what is no digit. It has so
-/// many characters over a multiple of 8.
+/// Refuses what is no text in Base 16: an odd number of digits, and then what is no digit. It has
+/// so many characters over a multiple of 8.
 fn judge_base16<T: Text>(over: usize, text: &T) -> Result<(), DecodeError>
     requires { over ≡ length (T.characters text.now) % 8 }
     ensures ok { OnOk result (IsText Codec.Base16 (T.characters text.now)) }

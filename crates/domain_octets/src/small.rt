@@ -45,8 +45,8 @@ impl Model for SmallOctets {
 }
 
 impl SmallOctets {
-    /// A copy of these octets. Takes no memory where there are at most 30, and answers `OutOfMemory`
-    /// where there is none for more.
+    /// A copy of these octets. Takes no memory where there are at most 30, and answers
+    /// `OutOfMemory` where there is none for more.
     #[inline]
     pub fn from_slice(alloc: Global, octets: &[u8]) -> Result<Self, OutOfMemory>
         ensures ok { IfOk result (λ copy. copy ≡ octets.now) }
