@@ -8,36 +8,41 @@ use Rattle.std.proofs.lemmas.List.Elements.{recursion_from_All}
 use Rattle.std.proofs.lemmas.List.FromFn.{length-range_with_len, get_or-range_with_len}
 use Rattle.domain_octets.specs.Base32.{base32_from, lower_digit, upper_digit, AreDigits}
 
--- eight digits of five octets, step by step: v is what an octet makes of the bits before it
-first_of_five : (a : ℕ) (octets : List ℕ) → base32_from 1 0 (a ∷ octets) ≡ (a / 8) ∷ base32_from 8 (a % 8) octets
+-- eight digits of five octets, step by step: v is what an octet makes of the bits before it, and others follow its digits
+first_of_five : (a : ℕ) (octets digits : List ℕ) → base32_from 8 (a % 8) octets ≡ digits → base32_from 1 0 (a ∷ octets) ≡ (a / 8) ∷ digits
 unfolding base32_from
-first_of_five a octets = let same : 256 * 0 + a ≡ a = omega arith in ap (λ v. (v / 8) ∷ base32_from 8 (v % 8) octets) same
+first_of_five a octets digits others =
+    let same : 256 * 0 + a ≡ a = omega arith in
+    ap (λ v. (v / 8) ∷ base32_from 8 (v % 8) octets) same ∙ ap (λ l. (a / 8) ∷ l) others
 
-second_of_five : (rest b v : ℕ) (octets : List ℕ) → v ≡ 256 * rest + b
-    → base32_from 8 rest (b ∷ octets) ≡ (v / 64) ∷ (v % 64 / 2) ∷ base32_from 2 (v % 2) octets
+second_of_five : (rest b : ℕ) (octets digits : List ℕ) → let v = 256 * rest + b in base32_from 2 (v % 2) octets ≡ digits
+    → base32_from 8 rest (b ∷ octets) ≡ (v / 64) ∷ (v % 64 / 2) ∷ digits
 unfolding base32_from
-second_of_five rest b v octets e =
+second_of_five rest b octets digits others =
+    let v = 256 * rest + b in
     let left : v % 64 % 2 ≡ v % 2 = omega arith in
-    ap (λ w. (w / 64) ∷ (w % 64 / 2) ∷ base32_from 2 (w % 64 % 2) octets) (sym e) ∙ ap (λ r. (v / 64) ∷ (v % 64 / 2) ∷ base32_from 2 r octets) left
+    ap (λ r. (v / 64) ∷ (v % 64 / 2) ∷ base32_from 2 r octets) left ∙ ap (λ l. (v / 64) ∷ (v % 64 / 2) ∷ l) others
 
-third_of_five : (rest c v : ℕ) (octets : List ℕ) → v ≡ 256 * rest + c → base32_from 2 rest (c ∷ octets) ≡ (v / 16) ∷ base32_from 16 (v % 16) octets
+third_of_five : (rest c : ℕ) (octets digits : List ℕ) → let v = 256 * rest + c in base32_from 16 (v % 16) octets ≡ digits
+    → base32_from 2 rest (c ∷ octets) ≡ (v / 16) ∷ digits
 unfolding base32_from
-third_of_five rest c v octets e = ap (λ w. (w / 16) ∷ base32_from 16 (w % 16) octets) (sym e)
+third_of_five rest c octets digits others = ap (λ l. ((256 * rest + c) / 16) ∷ l) others
 
-fourth_of_five : (rest d v : ℕ) (octets : List ℕ) → v ≡ 256 * rest + d
-    → base32_from 16 rest (d ∷ octets) ≡ (v / 128) ∷ (v % 128 / 4) ∷ base32_from 4 (v % 4) octets
+fourth_of_five : (rest d : ℕ) (octets digits : List ℕ) → let v = 256 * rest + d in base32_from 4 (v % 4) octets ≡ digits
+    → base32_from 16 rest (d ∷ octets) ≡ (v / 128) ∷ (v % 128 / 4) ∷ digits
 unfolding base32_from
-fourth_of_five rest d v octets e =
+fourth_of_five rest d octets digits others =
+    let v = 256 * rest + d in
     let left : v % 128 % 4 ≡ v % 4 = omega arith in
-    ap (λ w. (w / 128) ∷ (w % 128 / 4) ∷ base32_from 4 (w % 128 % 4) octets) (sym e) ∙ ap (λ r. (v / 128) ∷ (v % 128 / 4) ∷ base32_from 4 r octets) left
+    ap (λ r. (v / 128) ∷ (v % 128 / 4) ∷ base32_from 4 r octets) left ∙ ap (λ l. (v / 128) ∷ (v % 128 / 4) ∷ l) others
 
-fifth_of_five : (rest e v : ℕ) (octets : List ℕ) → v ≡ 256 * rest + e → base32_from 4 rest (e ∷ octets) ≡ (v / 32) ∷ (v % 32) ∷ base32_from 1 0 octets
+fifth_of_five : (rest e : ℕ) (octets : List ℕ) → let v = 256 * rest + e in base32_from 4 rest (e ∷ octets) ≡ (v / 32) ∷ (v % 32) ∷ base32_from 1 0 octets
 unfolding base32_from
-fifth_of_five rest e v octets is =
+fifth_of_five rest e octets =
+    let v = 256 * rest + e in
     let whole : v % 32 / 1 ≡ v % 32 = omega arith in
     let none : v % 32 % 1 ≡ 0 = omega arith in
-    ap (λ w. (w / 32) ∷ (w % 32 / 1) ∷ base32_from 1 (w % 32 % 1) octets) (sym is) ∙ ap (λ w. (v / 32) ∷ w ∷ base32_from 1 (v % 32 % 1) octets) whole
-    ∙ ap (λ r. (v / 32) ∷ (v % 32) ∷ base32_from 1 r octets) none
+    ap (λ w. (v / 32) ∷ w ∷ base32_from 1 (v % 32 % 1) octets) whole ∙ ap (λ r. (v / 32) ∷ (v % 32) ∷ base32_from 1 r octets) none
 
 -- the digits of five octets, and then those of the octets after them
 pub five_octets : (a b c d e : ℕ) (octets : List ℕ) →
@@ -48,15 +53,7 @@ pub five_octets : (a b c d e : ℕ) (octets : List ℕ) →
     base32_from 1 0 (a ∷ b ∷ c ∷ d ∷ e ∷ octets)
     ≡ (a / 8) ∷ (second / 64) ∷ (second % 64 / 2) ∷ (third / 16) ∷ (fourth / 128) ∷ (fourth % 128 / 4) ∷ (fifth / 32) ∷ (fifth % 32) ∷ base32_from 1 0 octets
 five_octets a b c d e octets =
-    let second = 256 * (a % 8) + b in
-    let third = 256 * (second % 2) + c in
-    let fourth = 256 * (third % 16) + d in
-    let fifth = 256 * (fourth % 4) + e in
-    first_of_five a (b ∷ c ∷ d ∷ e ∷ octets)
-    ∙ ap (λ l. (a / 8) ∷ l) (second_of_five (a % 8) b second (c ∷ d ∷ e ∷ octets) refl
-    ∙ ap (λ l. (second / 64) ∷ (second % 64 / 2) ∷ l) (third_of_five (second % 2) c third (d ∷ e ∷ octets) refl
-    ∙ ap (λ l. (third / 16) ∷ l) (fourth_of_five (third % 16) d fourth (e ∷ octets) refl
-    ∙ ap (λ l. (fourth / 128) ∷ (fourth % 128 / 4) ∷ l) (fifth_of_five (fourth % 4) e fifth octets refl))))
+    first_of_five a _ _ (second_of_five _ b _ _ (third_of_five _ c _ _ (fourth_of_five _ d _ _ (fifth_of_five _ e octets))))
 
 pub no_digits : base32_from 1 0 [] ≡ []
 unfolding base32_from
@@ -97,28 +94,11 @@ filled_4 r = let same : 8 * r ≡ (256 * r + 0) / 32 = omega arith in ap (λ n. 
 
 digits_of_group : (xs : List ℕ) → length xs ≤ 5 → base32_from 1 0 xs ≡ take (many (length xs)) (eight (padded xs))
 digits_of_group [] short = no_digits
-digits_of_group (a ∷ []) short = first_of_five a [] ∙ ap (λ l. (a / 8) ∷ l) (filled_8 (a % 8))
-digits_of_group (a ∷ b ∷ []) short =
-    let second = 256 * (a % 8) + b in
-    first_of_five a (b ∷ [])
-    ∙ ap (λ l. (a / 8) ∷ l) (second_of_five (a % 8) b second [] refl
-    ∙ ap (λ l. (second / 64) ∷ (second % 64 / 2) ∷ l) (filled_2 (second % 2)))
-digits_of_group (a ∷ b ∷ c ∷ []) short =
-    let second = 256 * (a % 8) + b in
-    let third = 256 * (second % 2) + c in
-    first_of_five a (b ∷ c ∷ [])
-    ∙ ap (λ l. (a / 8) ∷ l) (second_of_five (a % 8) b second (c ∷ []) refl
-    ∙ ap (λ l. (second / 64) ∷ (second % 64 / 2) ∷ l) (third_of_five (second % 2) c third [] refl
-    ∙ ap (λ l. (third / 16) ∷ l) (filled_16 (third % 16))))
+digits_of_group (a ∷ []) short = first_of_five a _ _ (filled_8 _)
+digits_of_group (a ∷ b ∷ []) short = first_of_five a _ _ (second_of_five _ b _ _ (filled_2 _))
+digits_of_group (a ∷ b ∷ c ∷ []) short = first_of_five a _ _ (second_of_five _ b _ _ (third_of_five _ c _ _ (filled_16 _)))
 digits_of_group (a ∷ b ∷ c ∷ d ∷ []) short =
-    let second = 256 * (a % 8) + b in
-    let third = 256 * (second % 2) + c in
-    let fourth = 256 * (third % 16) + d in
-    first_of_five a (b ∷ c ∷ d ∷ [])
-    ∙ ap (λ l. (a / 8) ∷ l) (second_of_five (a % 8) b second (c ∷ d ∷ []) refl
-    ∙ ap (λ l. (second / 64) ∷ (second % 64 / 2) ∷ l) (third_of_five (second % 2) c third (d ∷ []) refl
-    ∙ ap (λ l. (third / 16) ∷ l) (fourth_of_five (third % 16) d fourth [] refl
-    ∙ ap (λ l. (fourth / 128) ∷ (fourth % 128 / 4) ∷ l) (filled_4 (fourth % 4)))))
+    first_of_five a _ _ (second_of_five _ b _ _ (third_of_five _ c _ _ (fourth_of_five _ d _ _ (filled_4 _))))
 digits_of_group (a ∷ b ∷ c ∷ d ∷ e ∷ []) short = five_octets a b c d e [] ∙ ap (λ l. eight (a ∷ b ∷ c ∷ d ∷ e ∷ []) ++ l) no_digits
 digits_of_group (a ∷ b ∷ c ∷ d ∷ e ∷ f ∷ xs) short = absurd (omega arith)
 

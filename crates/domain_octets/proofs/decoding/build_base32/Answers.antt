@@ -1,8 +1,10 @@
-use Rattle.std.proofs.Common.{◌≡◌, ℕ, List, ◌<◌, ◌*◌, ◌+◌, ◌/◌, ◌%◌, ◌∷◌, [], arith, drop}
-use Rattle.domain_octets.specs.Codec.{BuildFault, base32_octets, base32_digits}
+use Rattle.std.proofs.Common.{ℕ, List, ◌<◌, ◌*◌, ◌+◌, ◌/◌, ◌%◌, ◌∷◌, [], arith, drop}
+use Rattle.domain_octets.specs.Codec.{base32_octets, base32_digits}
 use Rattle.domain_octets.specs.declared.codec.Codec.TheVariants.{Base32Hex}
 use Rattle.domain_octets.proofs.RoomLemmas.{build_stops, room_for_part, handed_on, empty_has_room}
 use Rattle.domain_octets.proofs.CodecLemmas.{digits_begin, digits_narrow, digits_wide, digits_stand, digits_all, digit_at, widens}
+use Rattle.domain_octets.proofs.decoding.build_base32.Given.{Over}
+use Rattle.domain_octets.proofs.decoding.build_base32.Goals.{After-base32_digit}
 use Rattle.domain_octets.proofs.decoding.build_base32.Goals as goal
 use Rattle.domain_octets.proofs.decoding.build_base32.Goals.{then-wider-lt256, else-wider-lt256+in_ok-append_slice}
 
@@ -24,35 +26,29 @@ overflow_cast-value g c =
     let octet = w.octet (32 * c.loop-c.rest + c.base32_digit.result) c.if-wider-lt256.false below in
     omega (arith, octet)
 
+-- the character is a digit
+digit_small : (g : Over) (c : After-base32_digit g) → digit_at c.args.text.now c.loop-c.c-index < 32
+digit_small g c = rw (← c.base32_digit.ensures.value) c.base32_digit.ensures.small
+
 pub returns-in_err-append_slice-clause-err : goal.returns-in_err-append_slice-clause-err
 returns-in_err-append_slice-clause-err g c =
-    let text = c.args.text.now in
-    let at = c.loop-c.c-index in
-    let built = g.B.Octets.octets c.loop-c.octets in
     let scale : ℕ = 32 * c.loop-c.scale / 256 in
     let value : ℕ = 32 * c.loop-c.rest + c.base32_digit.result in
-    let digit : c.base32_digit.result ≡ digit_at text at = c.base32_digit.ensures.value in
-    let small : digit_at text at < 32 = rw (← digit) c.base32_digit.ensures.small in
-    let next = digits_wide text built c.loop-c.scale c.loop-c.rest at c.loop-c-test.true small c.loop-c.invariant.digits c.if-wider-lt256.false in
-    let after : List ℕ = base32_octets scale (value % scale) (base32_digits (drop (at + 1) text)) in
-    let stands = rw (← digit) at (digits_stand text _ _ _ (at + 1) c.requires.0 c.requires.1 next) in
-    handed_on (BuildFault Base32Hex g.B.OctetsBuilder.limit text) c.in_err-append_slice.field-0.0 c.from_residual.result c.from_residual.ensures.1
-    (build_stops Base32Hex g.B.OctetsBuilder.limit text built
-    ((value / scale) ∷ []) after c.append_slice.result c.in_err-append_slice.field-0.0 c.in_err-append_slice.was stands
+    let small = digit_small g (goal.at.returns-in_err-append_slice-clause-err g c).After-base32_digit in
+    let next = digits_wide _ _ _ _ _ c.loop-c-test.true small c.loop-c.invariant.digits c.if-wider-lt256.false in
+    let after : List ℕ = base32_octets scale (value % scale) (base32_digits (drop (c.loop-c.c-index + 1) c.args.text.now)) in
+    let stands = rw (← c.base32_digit.ensures.value) at (digits_stand _ _ _ _ _ c.requires.0 c.requires.1 next) in
+    handed_on _ _ _ c.from_residual.ensures.1
+    (build_stops Base32Hex _ _ _ ((value / scale) ∷ []) after _ _ c.in_err-append_slice.was stands
     c.append_slice.ensures.short c.append_slice.ensures.memory)
 
 pub loop-c-preserved : goal.loop-c-preserved
 loop-c-preserved g c =
-    let text = c.args.text.now in
-    let at = c.loop-c.c-index in
-    let built = g.B.Octets.octets c.loop-c.octets in
-    let digit : c.base32_digit.result ≡ digit_at text at = c.base32_digit.ensures.value in
-    let small : digit_at text at < 32 = rw (← digit) c.base32_digit.ensures.small in
+    let small = digit_small g (goal.at.loop-c-preserved g c).After-base32_digit in
     elim c.if-wider-lt256.branch [
       | then-wider-lt256 w ↦ record {
-        digits = rw (w.octets-is, w.scale-is, w.rest-is, digit)
-            (digits_narrow text built c.loop-c.scale c.loop-c.rest at c.loop-c-test.true small c.loop-c.invariant.digits
-            w.if-wider-lt256.true);
+        digits = rw (w.octets-is, w.scale-is, w.rest-is, c.base32_digit.ensures.value)
+            (digits_narrow _ _ _ _ _ c.loop-c-test.true small c.loop-c.invariant.digits w.if-wider-lt256.true);
         room = rw w.octets-is c.loop-c.invariant.room;
       }
       | else-wider-lt256+in_ok-append_slice w ↦ record {
@@ -61,14 +57,11 @@ loop-c-preserved g c =
           w.scale-is,
           w.rest-is,
           w.in_ok-append_slice.ensures.ok,
-          digit,
-        ) (digits_wide text built c.loop-c.scale c.loop-c.rest at c.loop-c-test.true small c.loop-c.invariant.digits
-            w.if-wider-lt256.false);
+          c.base32_digit.ensures.value,
+        ) (digits_wide _ _ _ _ _ c.loop-c-test.true small c.loop-c.invariant.digits w.if-wider-lt256.false);
         room =
             rw w.octets-is
-            (room_for_part g.B.OctetsBuilder.limit w.in_ok-append_slice.field-0 w.append_slice.result built _
-            (g.B.Octets.octets w.append_slice.new.self) w.in_ok-append_slice.was w.in_ok-append_slice.ensures.ok
-            w.append_slice.ensures.short);
+            (room_for_part _ _ _ _ _ _ w.in_ok-append_slice.was w.in_ok-append_slice.ensures.ok w.append_slice.ensures.short);
       }
     ]
 

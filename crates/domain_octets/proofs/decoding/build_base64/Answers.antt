@@ -1,10 +1,11 @@
-use Rattle.std.proofs.Common.{◌≡◌, ℕ, List, ◌++◌, length, take, sym, ◌∙◌, arith}
+use Rattle.std.proofs.Common.{◌≡◌, ◌++◌, length, take, drop, sym, ◌∙◌, arith}
 use Rattle.std.proofs.lemmas.Bool.{eqb-true}
 use Rattle.std.proofs.lemmas.List.{nil_from_length}
-use Rattle.domain_octets.specs.Codec.{BuildFault}
 use Rattle.domain_octets.specs.declared.codec.Codec.TheVariants.{Base64}
 use Rattle.domain_octets.proofs.RoomLemmas.{build_stops, room_for_part, handed_on, empty_has_room}
-use Rattle.domain_octets.proofs.Base64Lemmas.{read_none, next_piece, read_all}
+use Rattle.domain_octets.proofs.Base64Lemmas.{Read, read_none, next_piece, read_all}
+use Rattle.domain_octets.proofs.decoding.build_base64.Given.{Over}
+use Rattle.domain_octets.proofs.decoding.build_base64.Goals.{In-Ok}
 use Rattle.domain_octets.proofs.decoding.build_base64.Goals as goal
 
 pub loop-left-init : goal.loop-left-init
@@ -20,36 +21,29 @@ unreachable-requires g c =
     let first = next.first in
     cc
 
+-- the octets of the piece follow those that were built
+piece_read : (g : Over) (c : In-Ok g)
+    → Read c.args.text.now (drop c.min.result c.loop-left.left.now)
+    (g.B.Octets.octets c.loop-left.octets ++ take c.in-Ok.count c.decode_slice_unchecked.new.output)
+piece_read g c =
+    let next = next_piece c.args.text.now c.loop-left.left.now _ c.min.result c.loop-left.invariant.read c.min.ensures in
+    let read = rw c.split_at.ensures.front at c.in-Ok.ensures.ok.0 in
+    let first = next.first in
+    let same : next.piece ≡ take c.in-Ok.count c.decode_slice_unchecked.new.output = cc in
+    rw same at next.more
+
 pub returns-in_err-append_slice-clause-err : goal.returns-in_err-append_slice-clause-err
 returns-in_err-append_slice-clause-err g c =
-    let text = c.args.text.now in
-    let built = g.B.Octets.octets c.loop-left.octets in
-    let next = next_piece text c.loop-left.left.now built c.min.result c.loop-left.invariant.read c.min.ensures in
-    let piece : List ℕ = take c.in-Ok.count c.decode_slice_unchecked.new.output in
-    let read = rw c.split_at.ensures.front at c.in-Ok.ensures.ok.0 in
-    let first = next.first in
-    let same : next.piece ≡ piece = cc in
-    let whole = rw same at next.more.whole in
-    handed_on (BuildFault Base64 g.B.OctetsBuilder.limit text) c.in_err-append_slice.field-0.0 c.from_residual.result c.from_residual.ensures.1
-    (build_stops Base64 g.B.OctetsBuilder.limit text built piece next.more.rest c.append_slice.result
-    c.in_err-append_slice.field-0.0 c.in_err-append_slice.was whole c.append_slice.ensures.short
-    c.append_slice.ensures.memory)
+    let read = piece_read g (goal.at.returns-in_err-append_slice-clause-err g c).In-Ok in
+    handed_on _ _ _ c.from_residual.ensures.1
+    (build_stops Base64 _ c.args.text.now _ _ read.rest _ _ c.in_err-append_slice.was read.whole
+    c.append_slice.ensures.short c.append_slice.ensures.memory)
 
 pub loop-left-preserved : goal.loop-left-preserved
-loop-left-preserved g c =
-    let text = c.args.text.now in
-    let built = g.B.Octets.octets c.loop-left.octets in
-    let next = next_piece text c.loop-left.left.now built c.min.result c.loop-left.invariant.read c.min.ensures in
-    let piece : List ℕ = take c.in-Ok.count c.decode_slice_unchecked.new.output in
-    let read = rw c.split_at.ensures.front at c.in-Ok.ensures.ok.0 in
-    let first = next.first in
-    let same : next.piece ≡ piece = cc in
-    let grown : g.B.Octets.octets c.append_slice.new.self ≡ built ++ piece = c.in_ok-append_slice.ensures.ok in
-    record {
-      read = rw (grown, c.split_at.ensures.back) (rw same at next.more);
-      room = room_for_part g.B.OctetsBuilder.limit c.in_ok-append_slice.field-0 c.append_slice.result built piece
-          (g.B.Octets.octets c.append_slice.new.self) c.in_ok-append_slice.was grown c.append_slice.ensures.short;
-    }
+loop-left-preserved g c = record {
+  read = rw (c.in_ok-append_slice.ensures.ok, c.split_at.ensures.back) (piece_read g (goal.at.loop-left-preserved g c).In-Ok);
+  room = room_for_part _ _ _ _ _ _ c.in_ok-append_slice.was c.in_ok-append_slice.ensures.ok c.append_slice.ensures.short;
+}
 
 pub returns-clause-ok : goal.returns-clause-ok
 returns-clause-ok g c =
