@@ -1,6 +1,6 @@
 -- tables of numbers and names, entry by entry
 use Rattle.std.proofs.Common.{◌≡◌, ◌≢◌, ℕ, ◌+◌, ◌-◌, ◌<◌, List, [], Bool, true, false, Some, None}
-use Rattle.std.proofs.Common.{map, length, get_or, take, drop, sym, ap, subst, ◌∙◌, arith, ◌↔◌, IsTrue, length-append}
+use Rattle.std.proofs.Common.{map, length, get_or, drop, sym, ap, subst, ◌∙◌, arith, ◌↔◌, IsTrue, length-append}
 use Rattle.std.specs.Prelude.{◌==◌, ◌^◌, Option, IsSome, IfSome, IfNone}
 use Rattle.std.specs.Option.{SomeIff}
 use Rattle.std.specs.Str.Parse.{IsNumeral, digits_value}
@@ -10,7 +10,7 @@ use Rattle.std.specs.Str.{IsAscii, IsUtf8, IsCharBoundary}
 use Rattle.std.proofs.lemmas.Str.{IsCharBoundary-after_ascii}
 use Rattle.std.specs.Char.{to_ascii_lowercase}
 use Rattle.std.specs.Cmp.Lexicographic.{bytes_decides}
-use Rattle.std.proofs.lemmas.List.{drop_more, length-map, get_or-map, get_or_append_left, take_at, drop_at}
+use Rattle.std.proofs.lemmas.List.{drop_more, length-map, get_or-map, get_or_append_left, drop_at}
 use Rattle.std.proofs.lemmas.Bool.Decides.{nat_tests, same_from_decides}
 use Rattle.domain_base.specs.Named.{Named, same_text, number_named, name_of, HasPrefix, IsWithoutPrefix, NumberText, by_name, by_number}
 use Rattle.domain_base.specs.Named.{entries}
@@ -65,11 +65,6 @@ cut_behind prefix text rest utf8 ascii some has =
     let low : get_or text i 0 < 128 = rw read (low_at has.front prefix i has.same ascii (omega arith)) in
     let inside : i < length text = omega (arith, ap length has.parts, length-append has.front rest) in
     subst (IsCharBoundary text) (let e : i + 1 ≡ length prefix = omega arith in e) (IsCharBoundary-after_ascii text i utf8 inside low)
-
-pub prefix_front : (prefix text rest : List ℕ) → HasPrefix prefix text rest → map to_ascii_lowercase (take (length prefix) text) ≡ map to_ascii_lowercase prefix
-prefix_front prefix text rest has =
-    let long = same_length has.front prefix has.same in
-    ap (λ t. map to_ascii_lowercase (take (length prefix) t)) has.parts ∙ ap (map to_ascii_lowercase) (take_at has.front rest (length prefix) long) ∙ has.same
 
 pub prefix_rest : (prefix text rest : List ℕ) → HasPrefix prefix text rest → drop (length prefix) text ≡ rest
 prefix_rest prefix text rest has = ap (drop (length prefix)) has.parts ∙ drop_at has.front rest (length prefix) (same_length has.front prefix has.same)

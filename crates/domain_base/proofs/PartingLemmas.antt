@@ -9,7 +9,6 @@ use Rattle.std.specs.Cmp.{tied_itself, nat_cmp_is}
 use Rattle.std.specs.Cmp.Lexicographic.{slice_cmp, nat_list_cmp_total}
 use Rattle.std.specs.Array.{IsWholeChunk}
 use Rattle.std.specs.Int.{from_le_bytes}
-use Rattle.std.proofs.Math.ListN.{drop_of_length-le}
 use Rattle.std.proofs.Math.Seq.{drop-append_seam}
 use Rattle.std.proofs.lemmas.List.{append-nil, append_assoc, drop-append-le, drop-drop, drop_more, get_or-drop}
 use Rattle.std.proofs.lemmas.List.{length-drop, length-take-le, take-take, map-append, reverse-append, take-append-drop}
@@ -183,14 +182,6 @@ alike_root a b a_wire b_wire = record {
   in_left = omega (arith, length-wire a a_wire);
   in_right = omega (arith, length-wire b b_wire);
   same = last_octet a a_wire ∙ sym (last_octet b b_wire);
-}
-
--- nothing is compared yet
-pub alike_nothing : (a b : List ℕ) → EndAlike a b 0
-alike_nothing a b = record {
-  in_left = omega arith;
-  in_right = omega arith;
-  same = drop_of_length-le a (omega arith) ∙ sym (drop_of_length-le b (omega arith));
 }
 
 -- eight octets that are the same number

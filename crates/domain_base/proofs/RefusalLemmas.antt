@@ -10,13 +10,6 @@ use Rattle.domain_base.specs.Scan.{ScanFault, entry_ends, illegal, no_room, no_m
 use Rattle.domain_base.specs.Scan.{RefusesToken, ended, refused, NameTextFault, CodecFault, EntryFault}
 use Rattle.domain_base.specs.Text.{NameText}
 
--- over octets that grow
-pub of_tokens : (fault : ScanFault) → fault ≢ no_memory → IsOfTokens None fault
-of_tokens entry_ends known = tt
-of_tokens (illegal said) known = tt
-of_tokens no_room known = refl
-of_tokens no_memory known = known refl
-
 -- what has a limit takes no memory
 pub over_limit : (limit : Option ℕ) (count : ℕ) → IsOver limit count → IsNone limit → ⊥
 over_limit None count over none = over
