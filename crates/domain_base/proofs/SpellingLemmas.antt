@@ -110,18 +110,6 @@ pub no_plain_label : (text label : List ℕ) (n : ℕ) → n ≤ length text
 no_plain_label text label n within plain front long =
     no_label_by_front text (drop n text) (take n text) (spelling_plain text n within plain) (subst (λ (l : List ℕ). 63 < length l) front long)
 
--- a text within a label that begins with no octet
-stuck : (rest label after : List ℕ) → rest ≢ [] → ((end : List ℕ) → rest ≢ 46 ∷ end) → symbol_at rest ≡ None → LabelText rest label after → ⊥
-stuck rest label after some no_dot none at_end = some refl
-stuck rest label after some no_dot none (at_dot end) = no_dot end refl
-stuck rest label after some no_dot none (octet t l a c used is spelled) = cc
-
-pub no_label_by_symbol : (text rest done : List ℕ) (c : ℕ) (end : List ℕ) → Spelling text rest done → rest ≡ c ∷ end → c ≢ 46
-    → symbol_at rest ≡ None → HasNoLabel text
-no_label_by_symbol text rest done c end so_far is other none = λ label after spelled.
-    let here = so_far.back label after spelled in
-    absurd (stuck rest here.0 after (λ e. cc) (λ end' e. other (cc)) none here.2)
-
 pub no_label_by_length : (text rest done : List ℕ) (c used : ℕ) → Spelling text rest done → symbol_at rest ≡ Some (c, used)
     → 63 < length done + 1 → HasNoLabel text
 no_label_by_length text rest done c used so_far is long = λ label after spelled.
@@ -152,9 +140,6 @@ pub record Naming (text rest wire : List ℕ) : Type 0 where
       → (all : List (List ℕ)) × LabelTexts text all × AllByRecursion IsLabel all × (wire ++ wire_of labels ≡ wire_of all)
   pub back : (all : List (List ℕ)) → LabelTexts text all → AllByRecursion IsLabel all
       → (labels : List (List ℕ)) × LabelTexts rest labels × AllByRecursion IsLabel labels × (wire ++ wire_of labels ≡ wire_of all)
-
-pub naming_begins : (text : List ℕ) → Naming text text []
-naming_begins text = record { onward = λ labels spelled valid. (labels, spelled, valid, refl); back = λ all spelled valid. (all, spelled, valid, refl) }
 
 -- the labels that a text spells begin with the one that it begins with
 record Headed (rest label after : List ℕ) (labels : List (List ℕ)) : Type 0 where
@@ -231,19 +216,18 @@ dot_after text label after c end (octet t l a c' used s spelled) is = dot_after 
 abbrev pub IsNoLabels : List ℕ → Type 0
 IsNoLabels text = (labels : List (List ℕ)) → LabelTexts text labels → IsName labels → ⊥
 
-first_label : (rest : List ℕ) (labels : List (List ℕ)) → LabelTexts rest labels
-    → (label : List ℕ) × (after : List ℕ) × (more : List (List ℕ)) × LabelText rest label after × (labels ≡ label ∷ more)
-first_label rest labels (last text l spelled) = (l, [], [], spelled, refl)
-first_label rest labels (last_with_dot text l spelled) = (l, 46 ∷ [], [], spelled, refl)
-first_label rest labels (dotted text l end more spelled others) = (l, 46 ∷ end, more, spelled, refl)
+-- a text that spells labels begins with the first of them
+first_label : (rest : List ℕ) (labels : List (List ℕ)) → LabelTexts rest labels → AllByRecursion IsLabel labels
+    → (label : List ℕ) × (after : List ℕ) × LabelText rest label after × IsLabel label
+first_label rest labels (last text l spelled) valid = (l, [], spelled, valid.0)
+first_label rest labels (last_with_dot text l spelled) valid = (l, 46 ∷ [], spelled, valid.0)
+first_label rest labels (dotted text l end more spelled others) valid = (l, 46 ∷ end, spelled, valid.0)
 
 pub no_label_left : (text rest wire : List ℕ) → Naming text rest wire → HasNoLabel rest → IsNoLabels text
 no_label_left text rest wire so_far none = λ all spelled valid.
     let here = so_far.back all spelled valid.of_labels in
-    let first = first_label rest here.0 here.1 in
-    let valid_all : AllByRecursion IsLabel (first.0 ∷ first.2) = subst (AllByRecursion IsLabel) first.4 here.2 in
-    let one : IsLabel first.0 = valid_all.0 in
-    omega (arith, none first.0 first.1 first.3, one.fits)
+    let first = first_label rest here.0 here.1 here.2 in
+    omega (arith, none first.0 first.1 first.2, first.3.fits)
 
 pub bad_label_left : (text rest wire label after : List ℕ) → Naming text rest wire → LabelText rest label after
     → (length label ≡ 0) ⊎ (255 ≤ length wire + length label) → IsNoLabels text
@@ -271,12 +255,9 @@ no_name text other none labels (of_labels t l spelled valid) = none labels spell
 
 no_empty_text : (after : List ℕ) (labels : List (List ℕ)) → after ≡ [] → LabelTexts after labels → AllByRecursion IsLabel labels → ⊥
 no_empty_text after labels none spelled valid =
-    let first = first_label after labels spelled in
-    let valid_all : AllByRecursion IsLabel (first.0 ∷ first.2) = subst (AllByRecursion IsLabel) first.4 valid in
-    let one : IsLabel first.0 = valid_all.0 in
-    let at_once : LabelText [] first.0 first.1 = subst (λ t. LabelText t first.0 first.1) none first.3 in
-    let same = one_label [] [] [] first.0 first.1 at_end at_once in
-    omega (arith, one.not_empty, ap length same.0)
+    let first = first_label after labels spelled valid in
+    let same = one_label [] [] [] first.0 first.1 at_end (subst (λ t. LabelText t first.0 first.1) none first.2) in
+    omega (arith, first.3.not_empty, ap length same.0)
 
 -- a text spells one list of labels at most
 same_labels : (text : List ℕ) (xs ys : List (List ℕ)) → LabelTexts text xs → LabelTexts text ys → AllByRecursion IsLabel xs
@@ -302,11 +283,9 @@ same_labels text xs ys (dotted t l end more s others) (dotted t' l' end' more' s
 
 no_labels_at_dot : (labels : List (List ℕ)) → LabelTexts (46 ∷ []) labels → AllByRecursion IsLabel labels → ⊥
 no_labels_at_dot labels spelled valid =
-    let first = first_label (46 ∷ []) labels spelled in
-    let valid_all : AllByRecursion IsLabel (first.0 ∷ first.2) = subst (AllByRecursion IsLabel) first.4 valid in
-    let one : IsLabel first.0 = valid_all.0 in
-    let same = one_label (46 ∷ []) [] (46 ∷ []) first.0 first.1 (at_dot []) first.3 in
-    omega (arith, one.not_empty, ap length same.0)
+    let first = first_label (46 ∷ []) labels spelled valid in
+    let same = one_label (46 ∷ []) [] (46 ∷ []) first.0 first.1 (at_dot []) first.2 in
+    omega (arith, first.3.not_empty, ap length same.0)
 
 -- a text spells one name at most
 pub one_name : (text : List ℕ) (xs ys : List (List ℕ)) → NameText text xs → NameText text ys → xs ≡ ys

@@ -2,33 +2,30 @@ use Rattle.std.proofs.Common.{◌≡◌, ◌<◌, length, get_or, arith}
 use Rattle.std.proofs.lemmas.Grind.{common_steps}
 use Rattle.domain_octets.proofs.OctetLemmas.{octets_from_type}
 use Rattle.domain_base.proofs.FaultLemmas.{reading_goes, label_fault, length_fault, cut_fault}
+use Rattle.domain_base.proofs.wire.split_name.Goals.{In-Some}
 use Rattle.domain_base.proofs.wire.split_name.Goals as goal
+
+-- the octet that was read stands at the place
+octet_at : (c : In-Some) → (c.loop-len.at < length c.args.octets.now) × (get_or c.args.octets.now c.loop-len.at 0 ≡ c.in-Some.field-0.now)
+octet_at c = (grind (arith, common_steps), grind (arith, common_steps))
 
 pub returns-then-from-gt-MAX_LABEL_LEN-clause-err : goal.returns-then-from-gt-MAX_LABEL_LEN-clause-err
 returns-then-from-gt-MAX_LABEL_LEN-clause-err c =
-    let octets = c.args.octets.now in
-    let below : c.loop-len.at < length octets = grind (arith, common_steps) in
-    let is : get_or octets c.loop-len.at 0 ≡ c.in-Some.field-0.now = grind (arith, common_steps) in
-    label_fault octets c.loop-len.at c.in-Some.field-0.now below is c.loop-len.invariant (omega arith)
+    let here = octet_at (goal.at.returns-then-from-gt-MAX_LABEL_LEN-clause-err c).In-Some in
+    label_fault _ _ _ here.0 here.1 c.loop-len.invariant (omega arith)
 
 pub returns-then-end-ge-MAX_NAME-clause-err : goal.returns-then-end-ge-MAX_NAME-clause-err
 returns-then-end-ge-MAX_NAME-clause-err c =
-    let octets = c.args.octets.now in
-    let below : c.loop-len.at < length octets = grind (arith, common_steps) in
-    let is : get_or octets c.loop-len.at 0 ≡ c.in-Some.field-0.now = grind (arith, common_steps) in
-    length_fault octets c.loop-len.at c.in-Some.field-0.now below is c.loop-len.invariant (omega arith) (omega arith) (omega arith)
+    let here = octet_at (goal.at.returns-then-end-ge-MAX_NAME-clause-err c).In-Some in
+    length_fault _ _ _ here.0 here.1 c.loop-len.invariant (omega arith) (omega arith) (omega arith)
 
 pub returns-then-end-octets-clause-err : goal.returns-then-end-octets-clause-err
 returns-then-end-octets-clause-err c =
-    let octets = c.args.octets.now in
-    let below : c.loop-len.at < length octets = grind (arith, common_steps) in
-    let is : get_or octets c.loop-len.at 0 ≡ c.in-Some.field-0.now = grind (arith, common_steps) in
-    cut_fault octets c.loop-len.at c.in-Some.field-0.now below is c.loop-len.invariant (omega arith) (omega arith) (omega arith) (omega arith)
+    let here = octet_at (goal.at.returns-then-end-octets-clause-err c).In-Some in
+    cut_fault _ _ _ here.0 here.1 c.loop-len.invariant (omega arith) (omega arith) (omega arith) (omega arith)
 
 pub loop-len-preserved : goal.loop-len-preserved
 loop-len-preserved c =
-    let octets = c.args.octets.now in
-    let below : c.loop-len.at < length octets = grind (arith, common_steps) in
-    let is : get_or octets c.loop-len.at 0 ≡ c.in-Some.field-0.now = grind (arith, common_steps) in
-    reading_goes octets c.loop-len.at c.in-Some.field-0.now below is
-    (octets_from_type octets c.type_inv.octets) c.loop-len.invariant (omega arith) (omega arith) (omega arith) (omega arith)
+    let here = octet_at (goal.at.loop-len-preserved c).In-Some in
+    reading_goes _ _ _ here.0 here.1 (octets_from_type c.args.octets.now c.type_inv.octets) c.loop-len.invariant
+    (omega arith) (omega arith) (omega arith) (omega arith)
