@@ -95,30 +95,37 @@ end_fault message start used at so_far out =
 
 -- ---- the end of a run
 
-module _ (message : List ℕ) (start at : ℕ) (high : ℕ) (inside : at < length message) (is : get_or message at 0 ≡ high) where
-  high_ahead : drop at message ≡ high ∷ drop (at + 1) message
-  high_ahead = rw (← is) (drop_more message at 0 inside)
+pub half_fault : (message : List ℕ) (start at : ℕ) → at < length message → (used : ℕ) → 192 ≤ get_or message at 0 → length message ≤ at + 1
+    → EndFault start used (drop at message) name_fault.ShortInput
+half_fault message start at inside used big out =
+    rw (drop_more message at 0 inside, drop_all (at + 1) message out) (half_pointer (get_or message at 0) big)
 
-  pub half_fault : (used : ℕ) → 192 ≤ high → length message ≤ at + 1 → EndFault start used (drop at message) name_fault.ShortInput
-  half_fault used big out = rw (high_ahead, drop_all (at + 1) message out) (half_pointer high big)
+-- two octets at the place are a pointer's
+pub record Pointer (message : List ℕ) (at upper low : ℕ) : Type 0 where
+  pub inside : at + 1 < length message
+  pub high_is : get_or message at 0 ≡ 192 + upper
+  pub low_is : get_or message (at + 1) 0 ≡ low
+  pub high_fits : upper < 64
+  pub low_fits : low < 256
 
-  module _ (upper low : ℕ) (inside_low : at + 1 < length message) (low_is : get_or message (at + 1) 0 ≡ low) (upper_is : high ≡ 192 + upper)
-      (high_fits : high < 256) (low_fits : low < 256) where
-    pointer_ahead : drop at message ≡ pointer_octets (upper * 256 + low) ++ drop (at + 2) message
-    pointer_ahead =
-        let two : at + 1 + 1 ≡ at + 2 = omega arith in
-        let low_ahead : drop (at + 1) message ≡ low ∷ drop (at + 2) message =
-        rw (← low_is, ← two) (drop_more message (at + 1) 0 inside_low) in
-        let first : 192 + (upper * 256 + low) / 256 ≡ high = omega arith in
-        let second : (upper * 256 + low) % 256 ≡ low = omega arith in
-        rw (first, second) (high_ahead ∙ ap (λ r. high ∷ r) low_ahead)
+module _ (message : List ℕ) (start at upper low : ℕ) (here : Pointer message at upper low) where
+  pointer_ahead : drop at message ≡ pointer_octets (upper * 256 + low) ++ drop (at + 2) message
+  pointer_ahead =
+      let two : at + 1 + 1 ≡ at + 2 = omega arith in
+      let high_ahead : drop at message ≡ (192 + upper) ∷ drop (at + 1) message =
+      rw (← here.high_is) (drop_more message at 0 (omega (arith, here.inside))) in
+      let low_ahead : drop (at + 1) message ≡ low ∷ drop (at + 2) message =
+      rw (← here.low_is, ← two) (drop_more message (at + 1) 0 here.inside) in
+      let first : 192 + (upper * 256 + low) / 256 ≡ 192 + upper = omega (arith, here.low_fits) in
+      let second : (upper * 256 + low) % 256 ≡ low = omega (arith, here.low_fits) in
+      rw (first, second) (high_ahead ∙ ap (λ r. (192 + upper) ∷ r) low_ahead)
 
-    pub forward_fault : (used : ℕ) → start ≤ upper * 256 + low → EndFault start used (drop at message) name_fault.ForwardPointer
-    forward_fault used forward = rw pointer_ahead (not_backward (upper * 256 + low) (drop (at + 2) message) forward)
+  pub forward_fault : (used : ℕ) → start ≤ upper * 256 + low → EndFault start used (drop at message) name_fault.ForwardPointer
+  forward_fault used forward = rw pointer_ahead (not_backward (upper * 256 + low) (drop (at + 2) message) forward)
 
-    pub ends_pointer : upper * 256 + low < start → EndsWith start at (drop at message) (Some (upper * 256 + low)) (at + 2)
-    ends_pointer earlier =
-        (drop (at + 2) message, pointer_ahead, record { earlier = earlier; fits = omega arith }, refl)
+  pub ends_pointer : upper * 256 + low < start → EndsWith start at (drop at message) (Some (upper * 256 + low)) (at + 2)
+  ends_pointer earlier =
+      (drop (at + 2) message, pointer_ahead, record { earlier = earlier; fits = omega (arith, here.high_fits, here.low_fits) }, refl)
 
 -- ---- one run after another
 

@@ -1,35 +1,31 @@
-use Rattle.std.proofs.Common.{◌≡◌, ◌<◌, ◌≤◌, ◌+◌, length, get_or, arith, refl}
+use Rattle.std.proofs.Common.{◌≡◌, ℕ, ◌+◌, get_or, Fits, w8, arith}
 use Rattle.std.proofs.lemmas.Grind.{common_steps}
-use Rattle.domain_message.proofs.NameLemmas.{half_fault, forward_fault, ends_pointer}
+use Rattle.domain_message.proofs.NameLemmas.{Pointer, half_fault, forward_fault, ends_pointer}
+use Rattle.domain_message.proofs.name.run_end.Goals.{After-from-2}
 use Rattle.domain_message.proofs.name.run_end.Goals as goal
 
 pub returns-in_default-clause-err : goal.returns-in_default-clause-err
-returns-in_default-clause-err c = λ used.
-    let message = c.args.message.now in
-    let big : 192 ≤ get_or message c.args.at 0 = grind (arith, common_steps) in
-    let out : length message ≤ c.args.at + 1 = grind (arith, common_steps) in
-    half_fault message c.args.start c.args.at (get_or message c.args.at 0) c.requires.inside refl used big out
+returns-in_default-clause-err c = λ used. half_fault _ _ _ c.requires.inside used (grind (arith, common_steps)) (grind (arith, common_steps))
+
+-- the two octets that were read are a pointer's
+pointer_read : (c : After-from-2) → ((i : ℕ) → Fits w8 (get_or c.args.message.now i 0))
+    → Pointer c.args.message.now c.args.at c.from.result c.from-2.result
+pointer_read c fits =
+    let high = fits c.args.at in
+    let low = fits (c.args.at + 1) in
+    let high_is : get_or c.args.message.now c.args.at 0 ≡ 192 + c.from.result = grind (arith, common_steps) in
+    let low_is : get_or c.args.message.now (c.args.at + 1) 0 ≡ c.from-2.result = grind (arith, common_steps) in
+    record {
+      inside = grind (arith, common_steps);
+      high_is = high_is;
+      low_is = low_is;
+      high_fits = omega (arith, high);
+      low_fits = omega (arith, low);
+    }
 
 pub returns-then-target-start-clause-err : goal.returns-then-target-start-clause-err
 returns-then-target-start-clause-err c = λ used.
-    let message = c.args.message.now in
-    let upper_is : get_or message c.args.at 0 ≡ 192 + c.from.result = grind (arith, common_steps) in
-    let inside : c.args.at + 1 < length message = grind (arith, common_steps) in
-    let low_is : get_or message (c.args.at + 1) 0 ≡ c.from-2.result = grind (arith, common_steps) in
-    forward_fault message c.args.start c.args.at
-    (get_or message c.args.at 0) c.requires.inside refl c.from.result c.from-2.result inside low_is upper_is
-    (let high_fits =
-    c.type_inv.message c.args.at in omega (arith, high_fits)) (let low_fits = c.type_inv.message (c.args.at + 1) in omega
-    (arith, low_fits)) used (omega arith)
+    forward_fault _ _ _ _ _ (pointer_read (goal.at.returns-then-target-start-clause-err c).After-from-2 c.type_inv.message) used (omega arith)
 
 pub returns-clause-ok : goal.returns-clause-ok
-returns-clause-ok c =
-    let message = c.args.message.now in
-    let upper_is : get_or message c.args.at 0 ≡ 192 + c.from.result = grind (arith, common_steps) in
-    let inside : c.args.at + 1 < length message = grind (arith, common_steps) in
-    let low_is : get_or message (c.args.at + 1) 0 ≡ c.from-2.result = grind (arith, common_steps) in
-    ends_pointer message c.args.start c.args.at
-    (get_or message c.args.at 0) c.requires.inside refl c.from.result c.from-2.result inside low_is upper_is
-    (let high_fits =
-    c.type_inv.message c.args.at in omega (arith, high_fits)) (let low_fits = c.type_inv.message (c.args.at + 1) in omega
-    (arith, low_fits)) (omega arith)
+returns-clause-ok c = ends_pointer _ _ _ _ _ (pointer_read (goal.at.returns-clause-ok c).After-from-2 c.type_inv.message) (omega arith)

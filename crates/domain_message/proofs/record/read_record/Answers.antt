@@ -15,10 +15,7 @@ returns-in_err-header-clause-err g c =
 pub returns-in_err-data-clause-err : goal.returns-in_err-data-clause-err
 returns-in_err-data-clause-err g c =
     let p = err_from_is_err_and c.from_residual-in_err-data.result c.from_residual-in_err-data.ensures.1 in
-    let h = c.in_ok-header.header in
-    let ok = c.in_ok-header.ensures.ok in
-    rw (p.1) (in_data ok.0 h.rtype h.class h.ttl h.count h.place ok.1
-    (subst (RefusesData _ c.args.message.now h.rtype h.place h.count) (sym p.2) c.in_err-data.ensures.err))
+    rw (p.1) (in_data _ _ _ _ _ _ c.in_ok-header.ensures.ok.1 (subst (RefusesData _ _ _ _ _) (sym p.2) c.in_err-data.ensures.err))
 
 pub make-requires : goal.make-requires
 make-requires g c =
@@ -28,11 +25,9 @@ make-requires g c =
 pub returns-in_err-owner-clause-err : goal.returns-in_err-owner-clause-err
 returns-in_err-owner-clause-err g c =
     let p = err_from_is_err_and c.from_residual-in_err-owner.result c.from_residual-in_err-owner.ensures.1 in
-    let h = c.in_ok-header.header in
-    let ok = c.in_ok-header.ensures.ok in
     let holds = c.in_ok-data.ensures.ok in
-    rw (p.1) (in_data ok.0 h.rtype h.class h.ttl h.count h.place ok.1
-    (in_octets holds.inside holds.wire holds.placed (subst (OctetsRefusal _ (kind_of h.rtype) holds.wire) (sym p.2) tt)))
+    let refused = subst (OctetsRefusal _ (kind_of c.in_ok-header.header.rtype) holds.wire) (sym p.2) tt in
+    rw (p.1) (in_data _ _ _ _ _ _ c.in_ok-header.ensures.ok.1 (in_octets holds.inside holds.wire holds.placed refused))
 
 pub returns-clause-ok : goal.returns-clause-ok
 returns-clause-ok g c =
