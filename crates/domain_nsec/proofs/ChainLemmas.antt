@@ -1,9 +1,9 @@
 -- How the records of a chain are gathered, and what the finished chain means.
 use Rattle.std.proofs.Common.{◌≡◌, ℕ, ◌+◌, Bool, true, false, cond, not, ◌&&◌, ◌||◌, List, [], ◌∷◌, ◌++◌, map, refl, sym}
-use Rattle.std.proofs.Common.{ap, ◌∙◌, subst, inl, inr, ◌⊎◌, Some, zero, suc, ◌<◌, ◌≤◌, length, get_or, take, arith, add-one}
+use Rattle.std.proofs.Common.{ap, ◌∙◌, subst, inl, inr, ◌⊎◌, Some, zero, suc, ◌<◌, length, get_or, take, arith, add-one}
 use Rattle.std.specs.Prelude.{count_by, All}
 use Rattle.std.specs.List.{AllByRecursion, list_any}
-use Rattle.std.proofs.lemmas.Bool.{cases_Bool, cases_lt, false≢true, true≢false, and_parts, or_cases, not-true}
+use Rattle.std.proofs.lemmas.Bool.{cases_Bool, false≢true, true≢false, and_parts, or_cases, not-true}
 use Rattle.std.proofs.lemmas.List.{length-map, get_or_read, map-append as made_more, take_more}
 use Rattle.std.proofs.lemmas.List.Elements.{All-from_recursion, recursion_from_All}
 use Rattle.domain_bitmap.specs.Bitmap.{bitmap_octets}

@@ -17,36 +17,17 @@ chain_made g c =
     (g.N.ToName.labels c.args.apex.now) c.args.config.now) (sym c.in_ok-records.ensures) c.in_ok-chain.ensures.chain
 
 pub returns-clause-cycle : goal.returns-clause-cycle
-returns-clause-cycle g c =
-    let labels = g.N.ToName.labels in
-    chain_cycle (zone_of labels g.D.RecordData.rtype g.D.ZoneData.minimum c.args.records) (labels c.args.apex.now)
-    (owners_in_order labels g.D.RecordData.rtype g.D.ZoneData.minimum c.args.records c.requires.in_order) c.args.config.now
-    (links_of labels c.in_ok-records.field-0.items) (chain_made g c)
+returns-clause-cycle g c = chain_cycle _ _ (owners_in_order _ _ g.D.ZoneData.minimum _ c.requires.in_order) _ _ (chain_made g c)
 
 pub returns-clause-denial : goal.returns-clause-denial
-returns-clause-denial g c =
-    let labels = g.N.ToName.labels in
-    mirrors_zone (zone_of labels g.D.RecordData.rtype g.D.ZoneData.minimum c.args.records) (labels c.args.apex.now)
-    (owners_in_order labels g.D.RecordData.rtype g.D.ZoneData.minimum c.args.records c.requires.in_order) c.args.config.now
-    (links_of labels c.in_ok-records.field-0.items) (chain_made g c)
+returns-clause-denial g c = mirrors_zone _ _ (owners_in_order _ _ g.D.ZoneData.minimum _ c.requires.in_order) _ _ (chain_made g c)
 
 pub returns-clause-nonterminals : goal.returns-clause-nonterminals
-returns-clause-nonterminals g c =
-    let labels = g.N.ToName.labels in
-    tells_empty (zone_of labels g.D.RecordData.rtype g.D.ZoneData.minimum c.args.records) (labels c.args.apex.now)
-    (owners_in_order labels g.D.RecordData.rtype g.D.ZoneData.minimum c.args.records c.requires.in_order) c.args.config.now
-    (links_of labels c.in_ok-records.field-0.items) (chain_made g c)
+returns-clause-nonterminals g c = tells_empty _ _ (owners_in_order _ _ g.D.ZoneData.minimum _ c.requires.in_order) _ _ (chain_made g c)
 
 pub returns-clause-enclosers : goal.returns-clause-enclosers
-returns-clause-enclosers g c =
-    let labels = g.N.ToName.labels in
-    tells_encloser (zone_of labels g.D.RecordData.rtype g.D.ZoneData.minimum c.args.records) (labels c.args.apex.now)
-    (owners_in_order labels g.D.RecordData.rtype g.D.ZoneData.minimum c.args.records c.requires.in_order) c.args.config.now
-    (links_of labels c.in_ok-records.field-0.items) (chain_made g c)
+returns-clause-enclosers g c = tells_encloser _ _ (owners_in_order _ _ g.D.ZoneData.minimum _ c.requires.in_order) _ _ (chain_made g c)
 
 pub returns-clause-occluded : goal.returns-clause-occluded
 returns-clause-occluded g c =
-    let labels = g.N.ToName.labels in
-    covers_below_occluders (zone_of labels g.D.RecordData.rtype g.D.ZoneData.minimum c.args.records) (labels c.args.apex.now)
-    (owners_in_order labels g.D.RecordData.rtype g.D.ZoneData.minimum c.args.records c.requires.in_order) c.args.config.now
-    (links_of labels c.in_ok-records.field-0.items) (chain_made g c)
+    covers_below_occluders _ _ (owners_in_order _ _ g.D.ZoneData.minimum _ c.requires.in_order) _ _ (chain_made g c)
