@@ -37,41 +37,44 @@ use Rattle.domain_nsec3.proofs.TextLemmas.{sound_some, sound_short}
 
 -- ---- a list that was hashed, and then put in order
 
-module _ {X : Type 0} (see : X → HashedEntry) (a : Name) (hash : Hash) (entries : List Entry) (items ordered : List X)
-    (moved : IsPermutation items ordered) (same : map without_hash (map see items) ≡ entries)
-    (ok : All (IsHashed a hash) (map see items)) where
-  pub moved_entries : IsPermutation entries (map without_hash (map see ordered))
-  moved_entries = subst (λ (es : List Entry). IsPermutation es (map without_hash (map see ordered))) same
-      (IsPermutation-map without_hash (map see items) (map see ordered) (IsPermutation-map see items ordered moved))
+-- these are the entries with their hashes, in any order
+pub record AreHashesOf (a : Name) (hash : Hash) (entries : List Entry) (es : List HashedEntry) : Type 0 where
+  pub moved : IsPermutation entries (map without_hash es)
+  pub hashed : All (IsHashed a hash) es
 
-  pub hashed_entries : All (IsHashed a hash) (map see ordered)
-  hashed_entries = All-permutation (IsHashed a hash) (map see items) (map see ordered) (IsPermutation-map see items ordered moved) ok
+pub moved_hashes : {X : Type 0} (see : X → HashedEntry) {a : Name} {hash : Hash} {entries : List Entry} {items ordered : List X}
+    → IsPermutation items ordered → map without_hash (map see items) ≡ entries → All (IsHashed a hash) (map see items)
+    → AreHashesOf a hash entries (map see ordered)
+moved_hashes see {a = a} {hash = hash} {items = items} {ordered = ordered} moved same ok =
+    let seen = IsPermutation-map see items ordered moved in
+    record {
+      moved = subst (λ (es : List Entry). IsPermutation es (map without_hash (map see ordered))) same
+          (IsPermutation-map without_hash (map see items) (map see ordered) seen);
+      hashed = All-permutation (IsHashed a hash) (map see items) (map see ordered) seen ok;
+    }
 
-  pub sound_hashes : All (λ x. hash_fault a (Ok (see x).hash) ≡ None) ordered
-  sound_hashes = All-from_recursion (λ x. hash_fault a (Ok (see x).hash) ≡ None) ordered
-      (each ordered (recursion_from_All (IsHashed a hash) (map see ordered) hashed_entries))
-    where
-      each : (xs : List X) → AllByRecursion (IsHashed a hash) (map see xs) → AllByRecursion (λ x. hash_fault a (Ok (see x).hash) ≡ None) xs
-      each [] h = tt
-      each (x ∷ xs) h = (ap (hash_fault a) (sym h.0.known) ∙ h.0.sound, each xs h.1)
-
-  pub some_items : 0 < length entries → 0 < length ordered
-  some_items some = omega (arith, some, ap length same, length-map (map see items) without_hash, length-map items see, length_permutation items ordered moved)
+pub sound_hashes : {X : Type 0} (see : X → HashedEntry) {a : Name} {hash : Hash} (xs : List X)
+    → All (IsHashed a hash) (map see xs) → All (λ x. hash_fault a (Ok (see x).hash) ≡ None) xs
+sound_hashes {X = X} see {a = a} {hash = hash} xs h =
+    All-from_recursion (λ x. hash_fault a (Ok (see x).hash) ≡ None) xs (each xs (recursion_from_All (IsHashed a hash) (map see xs) h))
+  where
+    each : (xs : List X) → AllByRecursion (IsHashed a hash) (map see xs) → AllByRecursion (λ x. hash_fault a (Ok (see x).hash) ≡ None) xs
+    each [] h = tt
+    each (x ∷ xs) h = (ap (hash_fault a) (sym h.0.known) ∙ h.0.sound, each xs h.1)
 
 pub hashes_of : {X : Type 0} (see : X → HashedEntry) (xs : List X) → map (λ x. (see x).hash) xs ≡ map (λ e. e.hash) (map see xs)
 hashes_of see [] = refl
 hashes_of see (x ∷ xs) = ap (λ l. (see x).hash ∷ l) (hashes_of see xs)
 
-pub ordered_chain : (a : Name) (hash : Hash) (p : Common) (entries : List Entry) (es : List HashedEntry) (links : List HashedLink)
-    → 0 < length es → IsPermutation entries (map without_hash es) → All (IsHashed a hash) es
-    → IsStrictlySortedBy (slice_cmp nat_cmp) (map (λ e. e.hash) es)
+pub ordered_chain : {a : Name} {hash : Hash} {p : Common} {entries : List Entry} (es : List HashedEntry) {links : List HashedLink}
+    → 0 < length entries → AreHashesOf a hash entries es → IsStrictlySortedBy (slice_cmp nat_cmp) (map (λ e. e.hash) es)
     → links ≡ chain_links a p (map without_name es) → IsOrderedChain a hash p entries links
-ordered_chain a hash p entries [] links some moved hashed ascend are = absurd (omega arith)
-ordered_chain a hash p entries (first ∷ later) links some moved hashed ascend are = record {
+ordered_chain {entries = entries} [] some h ascend are = absurd (omega (arith, length_permutation entries [] h.moved))
+ordered_chain (first ∷ later) some h ascend are = record {
   first = first;
   later = later;
-  moved = moved;
-  hashed = hashed;
+  moved = h.moved;
+  hashed = h.hashed;
   ascend = ascend;
   are = are;
 }
@@ -213,7 +216,7 @@ any_named x (e ∷ es) = ap (λ b. same_name e.name x || b) (any_named x es)
 sound_hash : (a : Name) (h : List ℕ) → hash_fault a (Ok h) ≡ None → All (λ o. o < 256) h → IsHash h
 sound_hash a h e octets = (sound_some a h e, (let short = sound_short a h e in omega arith), octets)
 
-module _ (L : List ZoneRecord) (a : Name) (config : ChainConfig) (p : Common) (entries : List Entry) (links : List HashedLink) where
+module _ (L : List ZoneRecord) (a : Name) (config : ChainConfig) (entries : List Entry) where
   -- the entries are the names of the chain, with their types
   pub record AreChainNames : Type 0 where
     pub names : (x : Name) → list_any (λ n. same_name n x) (map (λ n. n.name) entries) ≡ is_chain_name L a config x
@@ -245,15 +248,16 @@ module _ (L : List ZoneRecord) (a : Name) (config : ChainConfig) (p : Common) (e
         )
 
   -- what the chain has in common is that of the zone
-  pub record IsCommon : Type 0 where
+  pub record IsCommon (p : Common) : Type 0 where
     pub numbers : ApexSoa
     pub soa : soa_of L a ≡ Some numbers
     pub ttl : p.ttl ≡ chain_ttl numbers
     pub parameters : p.parameters ≡ config.parameters
     pub flags : p.flags ≡ config.flags
 
-  pub chain_of_zone : IsCommon → AreChainNames → IsOrderedChain a config.hash p entries links → IsHashedChain L a config links
-  chain_of_zone common entry c =
+  pub chain_of_zone : {p : Common} {links : List HashedLink} → IsCommon p → AreChainNames → IsOrderedChain a config.hash p entries links
+      → IsHashedChain L a config links
+  chain_of_zone {p = p} common entry c =
       let listed : AllByRecursion (λ n. n.bits ≡ bitmap_octets (nsec3_lists L a config n.name)) (map without_hash (c.first ∷ c.later)) =
       recursion_from_All (λ n. n.bits ≡ bitmap_octets (nsec3_lists L a config n.name)) (map without_hash (c.first ∷ c.later))
       (All-permutation (λ n. n.bits ≡ bitmap_octets (nsec3_lists L a config n.name)) entries

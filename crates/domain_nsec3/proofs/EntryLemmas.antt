@@ -2,14 +2,16 @@
 use Rattle.std.proofs.Common.{◌≡◌, ℕ, zero, suc, ◌≤◌, true, false, not, ◌&&◌, List, [], ◌∷◌, ◌++◌, map, length, get_or, refl, sym, ap, ◌∙◌, subst, arith}
 use Rattle.std.specs.Prelude.{All}
 use Rattle.std.specs.List.{AllByRecursion, list_any}
+use Rattle.std.specs.List.Sorted.{IsStrictlySortedBy}
 use Rattle.std.proofs.lemmas.Bool.{and_parts, not-true}
-use Rattle.std.proofs.lemmas.List.{length-append, map-append}
+use Rattle.std.proofs.lemmas.List.{map-append}
 use Rattle.std.proofs.lemmas.List.Elements.{recursion_from_All, All-from_recursion}
 use Rattle.domain_bitmap.specs.Bitmap.{bitmap_octets}
 use Rattle.domain_bitmap.specs.Builder.{holds}
 use Rattle.domain_bitmap.proofs.BitmapLemmas.{bitmap_octets-same}
 use Rattle.domain_zone.specs.Enclosers.{is_empty_nonterminal}
 use Rattle.domain_base.specs.Name.{is_at_or_below, is_strictly_below, same_name}
+use Rattle.domain_base.specs.Order.{canonical_cmp}
 use Rattle.domain_base.specs.Words.{Name}
 use Rattle.domain_zone.specs.Zone.{ZoneRecord, owns, is_zone_cut, records_of}
 use Rattle.domain_zone.proofs.NameLemmas.{same_itself}
@@ -17,10 +19,9 @@ use Rattle.domain_zone.proofs.OwnerLemmas.{in_any}
 use Rattle.domain_zone.proofs.PairLemmas.{all_from_in}
 use Rattle.domain_zone.proofs.ZoneLemmas.{all_both}
 use Rattle.domain_nsec3.specs.Ancestors.{IsListOf}
-use Rattle.domain_nsec3.specs.Chain.{HashedLink}
 use Rattle.domain_nsec3.specs.Config.{ChainConfig}
 use Rattle.domain_nsec3.specs.Owners.{original_owners, nsec3_lists, is_empty, is_listed, is_unsigned_cut}
-use Rattle.domain_nsec3.specs.Steps.{Common, Entry, entries_of, no_types, without_name, without_types, AreOriginalOwners}
+use Rattle.domain_nsec3.specs.Steps.{Entry, entries_of, no_types, without_name, without_types, AreOriginalOwners}
 use Rattle.domain_nsec3.specs.StepView.{as_hashed_entry, as_hashed_types}
 use Rattle.domain_nsec3.specs.declared.hash.Hashed.{Hashed}
 use Rattle.domain_nsec3.proofs.ChainLemmas.{AreChainNames}
@@ -33,17 +34,6 @@ pub entries_names : (names : List Name) (types : List (List ℕ)) → map (λ n.
 entries_names [] types = refl
 entries_names (n ∷ names) [] = ap (λ l. n ∷ l) (entries_names names [])
 entries_names (n ∷ names) (b ∷ types) = ap (λ l. n ∷ l) (entries_names names types)
-
-pub entries_push : (names : List Name) (types : List (List ℕ)) (n : Name) (b : List ℕ) → length names ≡ length types
-    → entries_of (names ++ n ∷ []) (types ++ b ∷ []) ≡ entries_of names types ++ record { name = n; bits = b } ∷ []
-entries_push [] [] n b h = refl
-entries_push [] (c ∷ types) n b h = absurd (omega arith)
-entries_push (m ∷ names) [] n b h = absurd (omega arith)
-entries_push (m ∷ names) (c ∷ types) n b h = ap (λ l. record { name = m; bits = c } ∷ l) (entries_push names types n b (omega arith))
-
-pub paired_push : {X Y : Type 0} (xs xs' : List X) (ys ys' : List Y) (x : X) (y : Y) → xs' ≡ xs ++ x ∷ [] → ys' ≡ ys ++ y ∷ []
-    → length xs ≡ length ys → length xs' ≡ length ys'
-paired_push xs xs' ys ys' x y more_xs more_ys h = omega (arith, ap length more_xs, ap length more_ys, length-append xs (x ∷ []), length-append ys (y ∷ []), h)
 
 entries_none : (empty : List Name) → entries_of empty [] ≡ map without_types empty
 entries_none [] = refl
@@ -81,9 +71,15 @@ names_without : (empty : List Name) → map (λ n. n.name) (map without_types em
 names_without [] = refl
 names_without (n ∷ empty) = ap (λ l. n ∷ l) (names_without empty)
 
-module _ (L : List ZoneRecord) (a : Name) (config : ChainConfig) (p : Common) (owners entries : List Entry) (empty : List Name)
-    (links : List HashedLink) (os : AreOriginalOwners L a config owners)
-    (es : IsListOf (is_empty_nonterminal (map (λ n. n.name) owners) a) empty) (are : entries ≡ owners ++ map without_types empty) where
+-- owners in order, and then the empty non-terminals that they make, without types
+pub record AreJoined (a : Name) (owners entries : List Entry) : Type 0 where
+  pub ascend : IsStrictlySortedBy canonical_cmp (map (λ n. n.name) owners)
+  pub empty : List Name
+  pub listed : IsListOf (is_empty_nonterminal (map (λ n. n.name) owners) a) empty
+  pub are : entries ≡ owners ++ map without_types empty
+
+module _ {L : List ZoneRecord} {a : Name} {config : ChainConfig} {owners entries : List Entry} (os : AreOriginalOwners L a config owners)
+    (joined : AreJoined a owners entries) where
   -- no name that is empty has a bit
   unowned_bits : (x : Name) → is_empty L a config x ≡ true → bitmap_octets (λ t. false) ≡ bitmap_octets (nsec3_lists L a config x)
   unowned_bits x e =
@@ -93,23 +89,25 @@ module _ (L : List ZoneRecord) (a : Name) (config : ChainConfig) (p : Common) (o
       (λ t b. ap (λ o. o && is_listed (is_unsigned_cut L a x) (same_name x a) (config.assume_dnskeys_will_be_added
       && same_name x a) (is_zone_cut L a x) (records_of L x) t) none))
 
-  pub names_joined : map (λ n. n.name) entries ≡ original_owners L a config ++ empty
-  names_joined = ap (map (λ n. n.name)) are ∙ map-append (λ n. n.name) owners (map without_types empty) ∙ (λ i. os.names i ++ names_without empty i)
+  pub names_joined : map (λ n. n.name) entries ≡ original_owners L a config ++ joined.empty
+  names_joined =
+      ap (map (λ n. n.name)) joined.are ∙ map-append (λ n. n.name) owners (map without_types joined.empty)
+      ∙ (λ i. os.names i ++ names_without joined.empty i)
 
   -- which names are empty
-  pub empty_names : (x : Name) → list_any (λ n. same_name n x) empty ≡ is_empty L a config x
-  empty_names x = es.exactly x ∙ ap (λ l. is_empty_nonterminal l a x) os.names ∙ empty_are L a config x
+  pub empty_names : (x : Name) → list_any (λ n. same_name n x) joined.empty ≡ is_empty L a config x
+  empty_names x = joined.listed.exactly x ∙ ap (λ l. is_empty_nonterminal l a x) os.names ∙ empty_are L a config x
 
-  pub are_chain_names : AreChainNames L a config p entries links
+  pub are_chain_names : AreChainNames L a config entries
   are_chain_names = record {
     names = λ x. ap (list_any (λ n. same_name n x)) names_joined
-        ∙ names_are L a config empty (λ y. es.exactly y ∙ ap (λ l. is_empty_nonterminal l a y) os.names) x;
-    bits = subst (All (λ n. n.bits ≡ bitmap_octets (nsec3_lists L a config n.name))) (sym are)
-        (All-from_recursion (λ n. n.bits ≡ bitmap_octets (nsec3_lists L a config n.name)) (owners ++ map without_types empty)
-        (all_both (λ n. n.bits ≡ bitmap_octets (nsec3_lists L a config n.name)) owners (map without_types empty)
+        ∙ names_are L a config joined.empty (λ y. joined.listed.exactly y ∙ ap (λ l. is_empty_nonterminal l a y) os.names) x;
+    bits = subst (All (λ n. n.bits ≡ bitmap_octets (nsec3_lists L a config n.name))) (sym joined.are)
+        (All-from_recursion (λ n. n.bits ≡ bitmap_octets (nsec3_lists L a config n.name)) (owners ++ map without_types joined.empty)
+        (all_both (λ n. n.bits ≡ bitmap_octets (nsec3_lists L a config n.name)) owners (map without_types joined.empty)
         (recursion_from_All (λ n. n.bits ≡ bitmap_octets (nsec3_lists L a config n.name)) owners os.bits)
-        (each empty (all_from_in (λ x. is_empty L a config x ≡ true) empty (λ x i. sym (empty_names x)
-        ∙ in_any (λ n. same_name n x) empty x i (same_itself x x refl))))));
+        (each joined.empty (all_from_in (λ x. is_empty L a config x ≡ true) joined.empty (λ x i. sym (empty_names x)
+        ∙ in_any (λ n. same_name n x) joined.empty x i (same_itself x x refl))))));
   }
     where
       each : (xs : List Name) → AllByRecursion (λ x. is_empty L a config x ≡ true) xs

@@ -1,6 +1,6 @@
 -- What hashing the names of a chain comes to: the chain of the zone, or its first fault.
-use Rattle.std.proofs.Common.{◌≡◌, Bool, true, false, not, ◌&&◌, List, [], ◌∷◌, ◌++◌, map, refl, sym, ap, ◌∙◌, subst, inl, inr, ◌⊎◌, Some}
-use Rattle.std.specs.Prelude.{All, filter}
+use Rattle.std.proofs.Common.{◌≡◌, Bool, true, false, not, ◌&&◌, List, ◌∷◌, map, refl, sym, ap, ◌∙◌, subst, inl, inr, ◌⊎◌, Some}
+use Rattle.std.specs.Prelude.{All, IsPermutation, filter}
 use Rattle.std.specs.List.{AllByRecursion, list_any}
 use Rattle.std.specs.List.Sorted.{IsStrictlySortedBy}
 use Rattle.std.proofs.lemmas.Bool.{and_parts, and_from, not-true}
@@ -22,14 +22,13 @@ use Rattle.domain_zone.proofs.NameLemmas.{same_itself, below_itself, lowered_bel
 use Rattle.domain_zone.proofs.OwnerLemmas.{any_filter, any_owner, apex_unoccluded, ascending_filter, in_any, owners_are, owners_ascend}
 use Rattle.domain_zone.proofs.PairLemmas.{all_from_in}
 use Rattle.domain_zone.proofs.ZoneLemmas.{all_filter, weaker}
-use Rattle.domain_nsec3.specs.Ancestors.{IsListOf}
 use Rattle.domain_nsec3.specs.Chain.{HashedLink, IsHashedChain}
 use Rattle.domain_nsec3.specs.Config.{ChainConfig, excludes}
 use Rattle.domain_nsec3.specs.Faults.{AreAllHashed, IsFirstFault, IsFirstHashingFault, IsReady, is_hashed_before}
 use Rattle.domain_nsec3.specs.Owners.{original_owners, is_original_owner, is_excluded}
-use Rattle.domain_nsec3.specs.Steps.{Common, Entry, without_types, AreOriginalOwners, IsHashingFault, IsOrderedChain}
+use Rattle.domain_nsec3.specs.Steps.{Common, Entry, HashedEntry, without_hash, AreOriginalOwners, IsHashed, IsHashingFault, IsOrderedChain}
 use Rattle.domain_nsec3.proofs.ChainLemmas.{chain_of_zone}
-use Rattle.domain_nsec3.proofs.EntryLemmas.{are_chain_names, names_joined}
+use Rattle.domain_nsec3.proofs.EntryLemmas.{AreJoined, are_chain_names, names_joined}
 use Rattle.domain_nsec3.proofs.FaultLemmas.{Pairwise, hashed_in_order, first_fault, hashing_fault, all_hashed, collides}
 use Rattle.domain_nsec3.proofs.ListLemmas.{sorted}
 
@@ -63,64 +62,6 @@ module _ (L : List ZoneRecord) (a : Name) (config : ChainConfig) where
       && not (has_type (records_of L a) ds))) ∙ and_false (excludes config)))
       (same_itself a a refl))
 
-  -- ---- what hashing comes to
-
-  module _ (p : Common) (owners entries : List Entry) (empty : List Name) (os : AreOriginalOwners L a config owners)
-      (es : IsListOf (is_empty_nonterminal (map (λ n. n.name) owners) a) empty)
-      (are : entries ≡ owners ++ map without_types empty) where
-    pub outcome_chain : (numbers : ApexSoa) → soa_of L a ≡ Some numbers → p.ttl ≡ chain_ttl numbers
-        → p.parameters ≡ config.parameters → p.flags ≡ config.flags → (links : List HashedLink)
-        → IsOrderedChain a config.hash p entries links → IsHashedChain L a config links
-    outcome_chain numbers soa ttl parameters flags links c =
-        chain_of_zone L a config p entries links (record {
-          numbers = numbers;
-          soa = soa;
-          ttl = ttl;
-          parameters = parameters;
-          flags = flags;
-        }) (are_chain_names L a config p owners entries empty links os es are) c
-
-    module _ (up : IsStrictlySortedBy canonical_cmp (map (λ n. n.name) owners)) where
-      up_owners : IsStrictlySortedBy canonical_cmp (original_owners L a config)
-      up_owners = subst (IsStrictlySortedBy canonical_cmp) os.names up
-
-      own : AllByRecursion (λ n. is_original_owner L a config n ≡ true) (original_owners L a config)
-      own = all_from_in (λ n. is_original_owner L a config n ≡ true) (original_owners L a config)
-          (λ x i. in_any (λ n. same_name n x) (original_owners L a config) x i (same_itself x x refl))
-
-      not_own : AllByRecursion (λ n. is_original_owner L a config n ≡ false) empty
-      not_own = all_from_in (λ n. is_original_owner L a config n ≡ false) empty (λ x i.
-          let e : is_empty_nonterminal (original_owners L a config) a x
-          ≡ true = ap (λ l. is_empty_nonterminal l a x) (sym os.names) ∙ sym (es.exactly x)
-          ∙ in_any (λ n. same_name n x) empty x i (same_itself x x refl) in
-          let q = and_parts (is_at_or_below x a && not (is_original_owner L a config x))
-          (list_any (λ n. is_strictly_below n x) (original_owners L a config)) e in
-          not-true (is_original_owner L a config x) (and_parts (is_at_or_below x a) (not (is_original_owner L a config x)) q.0).1)
-
-      pub outcome_hashed : (links : List HashedLink) → IsOrderedChain a config.hash p entries links → AreAllHashed L a config
-      outcome_hashed links c =
-          all_hashed L a config (original_owners L a config) empty up_owners es.ascend own not_own entries
-          (names_joined L a config p owners entries empty links os es are)
-          (are_chain_names L a config p owners entries empty links os es are).names
-          (c.first ∷ c.later) c.moved c.hashed
-
-      pub outcome_fault : (e : Nsec3HashError) → IsHashingFault a config.hash entries e → (e ≡ OutOfMemory) ⊎ IsFirstHashingFault L a config e
-      outcome_fault e (inl m) = inl m
-      outcome_fault e (inr (inl r)) =
-          inr (hashing_fault L a config e (first_fault L a config (map (λ n. n.name) entries) e
-          (are_chain_names L a config p owners entries empty [] os es are).names
-          (subst (Pairwise (λ x y. is_hashed_before L a config y x ≡ false))
-          (sym (names_joined L a config p owners entries empty [] os es are))
-          (hashed_in_order L a config (original_owners L a config) empty up_owners es.ascend own not_own)) r))
-      outcome_fault e (inr (inr k)) =
-          let are_names = (are_chain_names L a config p owners entries empty [] os es are).names in
-          let joined = names_joined L a config p owners entries empty [] os es are in
-          inr (subst (IsFirstHashingFault L a config) (sym k.0)
-          ((
-            all_hashed L a config (original_owners L a config) empty up_owners es.ascend own not_own entries joined are_names k.1.ordered k.1.moved k.1.hashed,
-            collides L a config (original_owners L a config) empty up_owners es.ascend own not_own entries joined are_names k.1,
-          )))
-
   -- what it is to those who sign
   pub signing_fault : (e : Nsec3HashError) → IsReady L a config → (e ≡ OutOfMemory) ⊎ IsFirstHashingFault L a config e
       → IsFirstFault L a config (signing_error_of e)
@@ -135,3 +76,58 @@ module _ (L : List ZoneRecord) (a : Name) (config : ChainConfig) where
   signing_fault Nsec3NameTooLong ready (inr f) = (ready, f)
   signing_fault CollisionDetected ready (inl m) = absurd (cc)
   signing_fault CollisionDetected ready (inr f) = (ready, f)
+
+-- ---- what hashing comes to
+
+module _ {L : List ZoneRecord} {a : Name} {config : ChainConfig} {owners entries : List Entry} (os : AreOriginalOwners L a config owners)
+    (joined : AreJoined a owners entries) where
+  pub outcome_chain : (p : Common) {numbers : ApexSoa} {links : List HashedLink} → soa_of L a ≡ Some numbers → p.ttl ≡ chain_ttl numbers
+      → p.parameters ≡ config.parameters → p.flags ≡ config.flags → IsOrderedChain a config.hash p entries links
+      → IsHashedChain L a config links
+  outcome_chain p {numbers = numbers} soa ttl parameters flags c =
+      chain_of_zone L a config entries (record {
+        numbers = numbers;
+        soa = soa;
+        ttl = ttl;
+        parameters = parameters;
+        flags = flags;
+      }) (are_chain_names os joined) c
+
+  up_owners : IsStrictlySortedBy canonical_cmp (original_owners L a config)
+  up_owners = subst (IsStrictlySortedBy canonical_cmp) os.names joined.ascend
+
+  own : AllByRecursion (λ n. is_original_owner L a config n ≡ true) (original_owners L a config)
+  own = all_from_in (λ n. is_original_owner L a config n ≡ true) (original_owners L a config)
+      (λ x i. in_any (λ n. same_name n x) (original_owners L a config) x i (same_itself x x refl))
+
+  not_own : AllByRecursion (λ n. is_original_owner L a config n ≡ false) joined.empty
+  not_own = all_from_in (λ n. is_original_owner L a config n ≡ false) joined.empty (λ x i.
+      let e : is_empty_nonterminal (original_owners L a config) a x
+      ≡ true = ap (λ l. is_empty_nonterminal l a x) (sym os.names) ∙ sym (joined.listed.exactly x)
+      ∙ in_any (λ n. same_name n x) joined.empty x i (same_itself x x refl) in
+      let q = and_parts (is_at_or_below x a && not (is_original_owner L a config x))
+      (list_any (λ n. is_strictly_below n x) (original_owners L a config)) e in
+      not-true (is_original_owner L a config x) (and_parts (is_at_or_below x a) (not (is_original_owner L a config x)) q.0).1)
+
+  every_hashed : (es : List HashedEntry) → IsPermutation entries (map without_hash es) → All (IsHashed a config.hash) es
+      → AreAllHashed L a config
+  every_hashed =
+      all_hashed L a config (original_owners L a config) joined.empty up_owners joined.listed.ascend own not_own entries
+      (names_joined os joined) (are_chain_names os joined).names
+
+  pub outcome_hashed : {p : Common} {links : List HashedLink} → IsOrderedChain a config.hash p entries links → AreAllHashed L a config
+  outcome_hashed c = every_hashed (c.first ∷ c.later) c.moved c.hashed
+
+  pub outcome_fault : (e : Nsec3HashError) → IsHashingFault a config.hash entries e → (e ≡ OutOfMemory) ⊎ IsFirstHashingFault L a config e
+  outcome_fault e (inl m) = inl m
+  outcome_fault e (inr (inl r)) =
+      inr (hashing_fault L a config e (first_fault L a config (map (λ n. n.name) entries) e (are_chain_names os joined).names
+      (subst (Pairwise (λ x y. is_hashed_before L a config y x ≡ false)) (sym (names_joined os joined))
+      (hashed_in_order L a config (original_owners L a config) joined.empty up_owners joined.listed.ascend own not_own)) r))
+  outcome_fault e (inr (inr k)) =
+      inr (subst (IsFirstHashingFault L a config) (sym k.0)
+      ((
+        every_hashed k.1.ordered k.1.moved k.1.hashed,
+        collides L a config (original_owners L a config) joined.empty up_owners joined.listed.ascend own not_own entries
+            (names_joined os joined) (are_chain_names os joined).names k.1,
+      )))

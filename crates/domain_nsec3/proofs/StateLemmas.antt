@@ -1,9 +1,9 @@
 -- The state of the walk over the owners, and what it has gathered.
-use Rattle.std.proofs.Common.{◌≡◌, ℕ, Bool, true, false, cond, not, ◌&&◌, ◌||◌, List, [], ◌∷◌, ◌++◌, map, refl, sym, ap, ◌∙◌, subst, append_assoc}
+use Rattle.std.proofs.Common.{◌≡◌, ℕ, Bool, true, false, cond, not, ◌&&◌, ◌||◌, List, [], ◌∷◌, ◌++◌, length, map, refl, sym, ap, ◌∙◌, subst, append_assoc}
 use Rattle.std.specs.Prelude.{All, filter}
 use Rattle.std.specs.List.{AllByRecursion, list_any}
-use Rattle.std.proofs.lemmas.List.{map-append, append-nil}
-use Rattle.std.proofs.lemmas.List.Elements.{All-push, All-nil, filter-append}
+use Rattle.std.proofs.lemmas.List.{length-map, map-append, append-nil}
+use Rattle.std.proofs.lemmas.List.Elements.{All-from_recursion, filter-append}
 use Rattle.std.proofs.lemmas.List.Folds.{list_any-append}
 use Rattle.std.proofs.lemmas.Bool.{or_right}
 use Rattle.domain_bitmap.specs.Bitmap.{bitmap_octets}
@@ -12,146 +12,191 @@ use Rattle.domain_base.specs.Name.{same_name}
 use Rattle.domain_base.specs.Words.{Name}
 use Rattle.domain_zone.specs.Owners.{OwnerRecords, owner_at, owners_with_records}
 use Rattle.domain_base.specs.Types.{ds}
-use Rattle.domain_zone.specs.Zone.{ZoneRecord, has_clash, has_type, has_unequal_ttls, owns, is_unoccluded, unoccluded_owners, records_of, is_zone_cut}
+use Rattle.domain_zone.specs.Zone.{ZoneRecord, has_clash, has_type, has_unequal_ttls, owns, is_unoccluded, unoccluded_owners, records_of}
 use Rattle.domain_zone.proofs.GivenLemmas.{name_of, clashes_in, next_is_owner}
 use Rattle.domain_zone.proofs.OwnerLemmas.{owners_are}
 use Rattle.domain_zone.proofs.ZoneLemmas.{all_front}
 use Rattle.domain_nsec3.specs.Config.{ChainConfig, excludes}
 use Rattle.domain_nsec3.specs.Owners.{original_owners, is_excluded, is_unsigned_cut, is_listed, nsec3_lists}
-use Rattle.domain_nsec3.specs.Steps.{Entry, AreOriginalOwners}
+use Rattle.domain_nsec3.specs.Steps.{AreOriginalOwners, entries_of}
+use Rattle.domain_nsec3.specs.StepView.{as_entries}
+use Rattle.domain_nsec3.specs.declared.owners.Owners.{Owners}
+use Rattle.domain_nsec3.proofs.EntryLemmas.{entries_names}
+
+-- a zone to sign: its records, its apex and how its chain is made
+pub record ZoneToSign : Type 0 where
+  pub records : List ZoneRecord
+  pub apex : Name
+  pub config : ChainConfig
+
+-- the names that own records and are not occluded
+abbrev unoccluded : ZoneToSign → List Name
+unoccluded zone = unoccluded_owners zone.config.occlude_below_dname zone.records zone.apex
+
+-- these names with their records
+abbrev with_records : ZoneToSign → List Name → List OwnerRecords
+with_records zone = map (owner_at zone.records zone.apex)
+
+-- whether an original owner has unequal TTLs
+abbrev pub is_uneven : ZoneToSign → Bool
+is_uneven zone = has_unequal_ttls zone.records (original_owners zone.records zone.apex zone.config)
+
+-- the types that the record of a name lists
+abbrev types_of : ZoneToSign → Name → List ℕ
+types_of zone n = bitmap_octets (nsec3_lists zone.records zone.apex zone.config n)
 
 -- an owner is no zone cut without DS that is left out
 abbrev pub stays : ChainConfig → OwnerRecords → Bool
 stays config o = not (excludes config && (o.is_zone_cut && not (has_type o.records ds)))
 
+-- those that stay
+abbrev staying : ZoneToSign → List OwnerRecords → List OwnerRecords
+staying zone = filter (stays zone.config)
+
+-- and their names
+abbrev staying_names : ZoneToSign → List Name → List Name
+staying_names zone = filter (λ n. not (is_excluded zone.records zone.apex zone.config n))
+
 -- the owners given so far and those left are all, and those that stay have equal TTLs; unless memory was wanting, those that stay
 -- are listed with their types
-pub record IsAt (L : List ZoneRecord) (a : Name) (config : ChainConfig) (left : List OwnerRecords) (full : Bool) (entries : List Entry)
-    : Type 0 where
+pub record IsAt (zone : ZoneToSign) (left : List OwnerRecords) (listed : Owners) : Type 0 where
   pub given : List OwnerRecords
-  pub all : given ++ left ≡ owners_with_records config.occlude_below_dname L a
-  pub even : list_any clashes_in (filter (stays config) given) ≡ false
-  pub names : full ≡ false → map (λ n. n.name) entries ≡ map name_of (filter (stays config) given)
-  pub bits : full ≡ false → All (λ n. n.bits ≡ bitmap_octets (nsec3_lists L a config n.name)) entries
+  pub all : given ++ left ≡ with_records zone (unoccluded zone)
+  pub even : list_any clashes_in (staying zone given) ≡ false
+  pub named : listed.is_full ≡ false → listed.names.items ≡ map name_of (staying zone given)
+  pub typed : listed.is_full ≡ false → listed.types ≡ map (types_of zone) listed.names.items
 
 -- which of the owners stay
-names_stay : (config : ChainConfig) (L : List ZoneRecord) (a : Name) (ks : List Name)
-    → map name_of (filter (stays config) (map (owner_at L a) ks)) ≡ filter (λ n. not (is_excluded L a config n)) ks
-names_stay config L a [] = refl
-names_stay config L a (k ∷ ks) =
-    elim (is_excluded L a config k) as (λ b. map name_of (cond (not b)
-    (owner_at L a k ∷ filter (stays config) (map (owner_at L a) ks)) (filter (stays config) (map (owner_at L a) ks)))
-    ≡ cond (not b) (k ∷ filter (λ n. not (is_excluded L a config n)) ks) (filter (λ n. not (is_excluded L a config n)) ks)) [
-      | true ↦ names_stay config L a ks
-      | false ↦ ap (λ t. k ∷ t) (names_stay config L a ks)
+names_stay : (zone : ZoneToSign) (ks : List Name) → map name_of (staying zone (with_records zone ks)) ≡ staying_names zone ks
+names_stay zone [] = refl
+names_stay zone (k ∷ ks) =
+    elim (is_excluded zone.records zone.apex zone.config k) as (λ b. map name_of
+    (cond (not b) (owner_at zone.records zone.apex k ∷ staying zone (with_records zone ks)) (staying zone (with_records zone ks)))
+    ≡ cond (not b) (k ∷ staying_names zone ks) (staying_names zone ks)) [
+      | true ↦ names_stay zone ks
+      | false ↦ ap (λ t. k ∷ t) (names_stay zone ks)
     ]
 
-clashes_stay : (config : ChainConfig) (L : List ZoneRecord) (a : Name) (ks : List Name)
-    → list_any clashes_in (filter (stays config) (map (owner_at L a) ks))
-    ≡ has_unequal_ttls L (filter (λ n. not (is_excluded L a config n)) ks)
-clashes_stay config L a [] = refl
-clashes_stay config L a (k ∷ ks) =
-    elim (is_excluded L a config k) as (λ b. list_any clashes_in
-    (cond (not b) (owner_at L a k ∷ filter (stays config) (map (owner_at L a) ks))
-    (filter (stays config) (map (owner_at L a) ks))) ≡ has_unequal_ttls L
-    (cond (not b) (k ∷ filter (λ n. not (is_excluded L a config n)) ks) (filter (λ n. not (is_excluded L a config n)) ks))) [
-      | true ↦ clashes_stay config L a ks
-      | false ↦ ap (λ t. has_clash (records_of L k) || t) (clashes_stay config L a ks)
+clashes_stay : (zone : ZoneToSign) (ks : List Name)
+    → list_any clashes_in (staying zone (with_records zone ks)) ≡ has_unequal_ttls zone.records (staying_names zone ks)
+clashes_stay zone [] = refl
+clashes_stay zone (k ∷ ks) =
+    elim (is_excluded zone.records zone.apex zone.config k) as (λ b. list_any clashes_in
+    (cond (not b) (owner_at zone.records zone.apex k ∷ staying zone (with_records zone ks)) (staying zone (with_records zone ks)))
+    ≡ has_unequal_ttls zone.records (cond (not b) (k ∷ staying_names zone ks) (staying_names zone ks))) [
+      | true ↦ clashes_stay zone ks
+      | false ↦ ap (λ t. has_clash (records_of zone.records k) || t) (clashes_stay zone ks)
     ]
 
-all_own : (d : Bool) (L : List ZoneRecord) (a : Name) (ks : List Name)
-    → AllByRecursion (λ n. (owns L n ≡ true) × (is_unoccluded d L a n ≡ true)) ks
-    → AllByRecursion (λ o. owns L o.name ≡ true) (map (owner_at L a) ks)
-all_own d L a [] h = tt
-all_own d L a (k ∷ ks) h = (h.0.0, all_own d L a ks h.1)
+all_own : (zone : ZoneToSign) (ks : List Name)
+    → AllByRecursion (λ n. (owns zone.records n ≡ true)
+    × (is_unoccluded zone.config.occlude_below_dname zone.records zone.apex n ≡ true)) ks
+    → AllByRecursion (λ o. owns zone.records o.name ≡ true) (with_records zone ks)
+all_own zone [] h = tt
+all_own zone (k ∷ ks) h = (h.0.0, all_own zone ks h.1)
 
-module _ (L : List ZoneRecord) (a : Name) (config : ChainConfig) where
-  pub at_start : IsAt L a config (owners_with_records config.occlude_below_dname L a) false []
-  at_start = record {
-    given = [];
-    all = refl;
-    even = refl;
-    names = λ room. refl;
-    bits = λ room. All-nil (λ n. n.bits ≡ bitmap_octets (nsec3_lists L a config n.name));
-  }
+-- names with the types that are told of each
+all_typed : (types : Name → List ℕ) (ns : List Name) → All (λ n. n.bits ≡ types n.name) (entries_of ns (map types ns))
+all_typed types ns = All-from_recursion (λ n. n.bits ≡ types n.name) (entries_of ns (map types ns)) (each ns)
+  where
+    each : (ns : List Name) → AllByRecursion (λ n. n.bits ≡ types n.name) (entries_of ns (map types ns))
+    each [] = tt
+    each (n ∷ ns) = (refl, each ns)
 
-  module _ (o : OwnerRecords) (left : List OwnerRecords) (full : Bool) (entries : List Entry)
-      (s : IsAt L a config (o ∷ left) full entries) where
-    pub at_known : o ≡ owner_at L a o.name
-    at_known = next_is_owner config.occlude_below_dname L a s.given o left s.all
+pub at_start : {zone : ZoneToSign} {left : List OwnerRecords} {listed : Owners}
+    → left ≡ owners_with_records zone.config.occlude_below_dname zone.records zone.apex
+    → listed.names.items ≡ [] → listed.types ≡ [] → IsAt zone left listed
+at_start {zone = zone} all named typed = record {
+  given = [];
+  all = all;
+  even = refl;
+  named = λ room. named;
+  typed = λ room. typed ∙ ap (map (types_of zone)) (sym named);
+}
 
-    at_owns : owns L o.name ≡ true
+module _ {zone : ZoneToSign} {left : List OwnerRecords} {listed : Owners} (s : IsAt zone left listed) where
+  pub paired : listed.is_full ≡ false → length listed.names.items ≡ length listed.types
+  paired room = sym (ap length (s.typed room) ∙ length-map listed.names.items (types_of zone))
+
+  module _ {o : OwnerRecords} {rest : List OwnerRecords} (next : left ≡ o ∷ rest) where
+    all_with_next : s.given ++ o ∷ rest ≡ with_records zone (unoccluded zone)
+    all_with_next = ap (λ os. s.given ++ os) (sym next) ∙ s.all
+
+    pub at_known : o ≡ owner_at zone.records zone.apex o.name
+    at_known = next_is_owner zone.config.occlude_below_dname zone.records zone.apex s.given o rest all_with_next
+
+    at_owns : owns zone.records o.name ≡ true
     at_owns =
-        (all_front (λ o. owns L o.name ≡ true) s.given (o ∷ left)
-        (subst (AllByRecursion (λ o. owns L o.name ≡ true)) (sym s.all)
-        (all_own config.occlude_below_dname L a (unoccluded_owners config.occlude_below_dname L a)
-        (owners_are config.occlude_below_dname L a)))).1.0
+        (all_front (λ o. owns zone.records o.name ≡ true) s.given (o ∷ rest)
+        (subst (AllByRecursion (λ o. owns zone.records o.name ≡ true)) (sym all_with_next) (all_own zone (unoccluded zone)
+        (owners_are zone.config.occlude_below_dname zone.records zone.apex)))).1.0
 
-    one_more : (b : Bool) → stays config o ≡ b → filter (stays config) (s.given ++ o ∷ []) ≡ filter (stays config) s.given ++ cond b (o ∷ []) []
-    one_more b e = filter-append (stays config) s.given (o ∷ []) ∙ (λ i. filter (stays config) s.given ++ cond (e i) (o ∷ []) [])
+    one_more : (b : Bool) → stays zone.config o ≡ b → staying zone (s.given ++ o ∷ []) ≡ staying zone s.given ++ cond b (o ∷ []) []
+    one_more b e = filter-append (stays zone.config) s.given (o ∷ []) ∙ (λ i. staying zone s.given ++ cond (e i) (o ∷ []) [])
 
     -- one that is left out
-    pub at_excluded : stays config o ≡ false → IsAt L a config left full entries
+    pub at_excluded : stays zone.config o ≡ false → IsAt zone rest listed
     at_excluded out =
-        let same_list : filter (stays config) (s.given ++ o ∷ []) ≡ filter (stays config) s.given = one_more false out
-        ∙ append-nil (filter (stays config) s.given) in
+        let same_list : staying zone (s.given ++ o ∷ []) ≡ staying zone s.given = one_more false out ∙ append-nil (staying zone s.given) in
         record {
           given = s.given ++ o ∷ [];
-          all = append_assoc s.given (o ∷ []) left ∙ s.all;
+          all = append_assoc s.given (o ∷ []) rest ∙ all_with_next;
           even = ap (list_any clashes_in) same_list ∙ s.even;
-          names = λ room. s.names room ∙ ap (map name_of) (sym same_list);
-          bits = s.bits;
+          named = λ room. s.named room ∙ ap (map name_of) (sym same_list);
+          typed = s.typed;
         }
 
     -- one that stays is listed with its types, where there is memory
-    pub at_owner : (bits : List ℕ) (full' : Bool) (entries' : List Entry) → stays config o ≡ true → has_clash o.records ≡ false
-        → bits ≡ bitmap_octets (is_listed (o.is_zone_cut && not (has_type o.records ds)) (same_name o.name a)
-        (config.assume_dnskeys_will_be_added && same_name o.name a) o.is_zone_cut o.records)
-        → (full' ≡ false → full ≡ false)
-        → (full' ≡ false → entries' ≡ entries ++ record { name = o.name; bits = bits } ∷ []) → IsAt L a config left full' entries'
-    at_owner bits full' entries' kept even b room is =
-        let more = one_more true kept in
-        let listed : bits ≡ bitmap_octets (nsec3_lists L a config o.name) =
-        b ∙ ap (λ p. bitmap_octets (is_listed (p.is_zone_cut && not (has_type p.records ds)) (same_name o.name a)
-        (config.assume_dnskeys_will_be_added && same_name o.name a) p.is_zone_cut p.records)) at_known
-        ∙ bitmap_octets-same (is_listed (is_unsigned_cut L a o.name) (same_name o.name a) (config.assume_dnskeys_will_be_added
-        && same_name o.name a) (is_zone_cut L a o.name) (records_of L o.name)) (nsec3_lists L a config o.name)
-        (λ t k. sym (λ i. at_owns i && is_listed (is_unsigned_cut L a o.name) (same_name o.name a)
-        (config.assume_dnskeys_will_be_added && same_name o.name a) (is_zone_cut L a o.name) (records_of L o.name) t)) in
+    pub at_owner : {is_cut is_apex : Bool} {more : Owners} → stays zone.config o ≡ true → has_clash o.records ≡ false
+        → is_cut ≡ (o.is_zone_cut && not (has_type o.records ds)) → is_apex ≡ same_name o.name zone.apex
+        → (more.is_full ≡ false → listed.is_full ≡ false)
+        → (more.is_full ≡ false → more.names.items ≡ listed.names.items ++ o.name ∷ [])
+        → (more.is_full ≡ false → more.types ≡ listed.types ++ bitmap_octets
+        (is_listed is_cut is_apex (zone.config.assume_dnskeys_will_be_added && is_apex) o.is_zone_cut o.records) ∷ [])
+        → IsAt zone rest more
+    at_owner {is_cut = is_cut} {is_apex = is_apex} kept even cut apex room added typed =
+        let assume : Bool = zone.config.assume_dnskeys_will_be_added in
+        let lists : Bool → Bool → OwnerRecords → ℕ → Bool = λ cut apex p. is_listed cut apex (assume && apex) p.is_zone_cut p.records in
+        let types : bitmap_octets (lists is_cut is_apex o) ≡ types_of zone o.name =
+        (λ i. bitmap_octets (lists (cut i) (apex i) o))
+        ∙ ap (λ p. bitmap_octets (lists (p.is_zone_cut && not (has_type p.records ds)) (same_name o.name zone.apex) p)) at_known
+        ∙ bitmap_octets-same (lists (is_unsigned_cut zone.records zone.apex o.name) (same_name o.name zone.apex)
+        (owner_at zone.records zone.apex o.name)) (nsec3_lists zone.records zone.apex zone.config o.name)
+        (λ t k. sym (λ i. at_owns i && lists (is_unsigned_cut zone.records zone.apex o.name) (same_name o.name zone.apex)
+        (owner_at zone.records zone.apex o.name) t)) in
+        let longer = one_more true kept in
         record {
           given = s.given ++ o ∷ [];
-          all = append_assoc s.given (o ∷ []) left ∙ s.all;
-          even = ap (list_any clashes_in) more ∙ list_any-append clashes_in (filter (stays config) s.given) (o ∷ []) ∙ (λ i. s.even i || (even i || false));
-          names = λ h.
-              ap (map (λ n. n.name)) (is h) ∙ map-append (λ n. n.name) entries (record { name = o.name; bits = bits } ∷ [])
-              ∙ ap (λ l. l ++ o.name ∷ []) (s.names (room h)) ∙ sym (map-append name_of (filter (stays config) s.given) (o ∷ []))
-              ∙ ap (map name_of) (sym more);
-          bits = λ h.
-              subst (All (λ n. n.bits ≡ bitmap_octets (nsec3_lists L a config n.name))) (sym (is h))
-              (All-push (λ n. n.bits ≡ bitmap_octets (nsec3_lists L a config n.name)) entries (record { name = o.name; bits = bits })
-              (s.bits (room h)) listed);
+          all = append_assoc s.given (o ∷ []) rest ∙ all_with_next;
+          even = ap (list_any clashes_in) longer ∙ list_any-append clashes_in (staying zone s.given) (o ∷ []) ∙ (λ i. s.even i || (even i || false));
+          named = λ h.
+              added h ∙ ap (λ ns. ns ++ o.name ∷ []) (s.named (room h)) ∙ sym (map-append name_of (staying zone s.given) (o ∷ []))
+              ∙ ap (map name_of) (sym longer);
+          typed = λ h.
+              typed h ∙ (λ i. s.typed (room h) i ++ types i ∷ []) ∙ sym (map-append (types_of zone) listed.names.items (o.name ∷ []))
+              ∙ ap (map (types_of zone)) (sym (added h));
         }
 
-    pub at_fault : stays config o ≡ true → has_clash o.records ≡ true → has_unequal_ttls L (original_owners L a config) ≡ true
+    pub at_fault : stays zone.config o ≡ true → has_clash o.records ≡ true → is_uneven zone ≡ true
     at_fault kept h =
-        sym (clashes_stay config L a (unoccluded_owners config.occlude_below_dname L a)) ∙ ap (λ l. list_any clashes_in (filter (stays config) l)) (sym s.all)
-        ∙ ap (list_any clashes_in) (filter-append (stays config) s.given (o ∷ left))
-        ∙ list_any-append clashes_in (filter (stays config) s.given) (filter (stays config) (o ∷ left))
-        ∙ or_right (list_any clashes_in (filter (stays config) s.given)) (list_any clashes_in (filter (stays config) (o ∷ left)))
-        ((λ i. list_any clashes_in (cond (kept i) (o ∷ filter (stays config) left) (filter (stays config) left)))
-        ∙ (λ i. h i || list_any clashes_in (filter (stays config) left)))
+        sym (clashes_stay zone (unoccluded zone)) ∙ ap (λ os. list_any clashes_in (staying zone os)) (sym all_with_next)
+        ∙ ap (list_any clashes_in) (filter-append (stays zone.config) s.given (o ∷ rest))
+        ∙ list_any-append clashes_in (staying zone s.given) (staying zone (o ∷ rest))
+        ∙ or_right (list_any clashes_in (staying zone s.given)) (list_any clashes_in (staying zone (o ∷ rest)))
+        ((λ i. list_any clashes_in (cond (kept i) (o ∷ staying zone rest) (staying zone rest)))
+        ∙ (λ i. h i || list_any clashes_in (staying zone rest)))
 
-  -- with nothing left
-  pub at_end : (full : Bool) (entries : List Entry) → IsAt L a config [] full entries → full ≡ false
-      → AreOriginalOwners L a config entries
-  at_end full entries s room = record {
-    names = s.names room ∙ ap (λ l. map name_of (filter (stays config) l)) (sym (append-nil s.given) ∙ s.all)
-        ∙ names_stay config L a (unoccluded_owners config.occlude_below_dname L a);
-    bits = s.bits room;
-  }
+  module _ (none : left ≡ []) where
+    all_given : s.given ≡ with_records zone (unoccluded zone)
+    all_given = sym (append-nil s.given) ∙ ap (λ os. s.given ++ os) (sym none) ∙ s.all
 
-  pub even_end : (full : Bool) (entries : List Entry) → IsAt L a config [] full entries
-      → has_unequal_ttls L (original_owners L a config) ≡ false
-  even_end full entries s =
-      sym (clashes_stay config L a (unoccluded_owners config.occlude_below_dname L a))
-      ∙ ap (λ l. list_any clashes_in (filter (stays config) l)) (sym s.all ∙ append-nil s.given) ∙ s.even
+    pub at_end : listed.is_full ≡ false → AreOriginalOwners zone.records zone.apex zone.config (as_entries listed)
+    at_end room = record {
+      names = entries_names listed.names.items listed.types ∙ s.named room ∙ ap (λ os. map name_of (staying zone os)) all_given
+          ∙ names_stay zone (unoccluded zone);
+      bits = subst (λ types. All (λ n. n.bits ≡ types_of zone n.name) (entries_of listed.names.items types)) (sym (s.typed room))
+          (all_typed (types_of zone) listed.names.items);
+    }
+
+    pub even_end : is_uneven zone ≡ false
+    even_end = sym (clashes_stay zone (unoccluded zone)) ∙ ap (λ os. list_any clashes_in (staying zone os)) (sym all_given) ∙ s.even
