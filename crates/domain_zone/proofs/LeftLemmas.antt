@@ -148,7 +148,7 @@ module _ {N D : Type 0} (labels : N → Name) (rtype_of : D → ℕ) (minimum_of
       → map (owner_at L a) ks ++ left_owners d a o (map (map see) gs) ≡ owners_with_records d L a
   left_all [] rest o ks e w =
       append-nil (map (owner_at L a) ks)
-      ∙ sym (ap (map (owner_at L a)) (walk_end d L a o ks (subst (λ t. IsWalked d L a (map see t) o ks) (runs_none (same_owner labels) rest e) w)))
+      ∙ sym (ap (map (owner_at L a)) (walk_end (subst (λ t. IsWalked d L a (map see t) o ks) (runs_none (same_owner labels) rest e) w)))
   left_all (group ∷ gs) [] o ks e w = absurd (no_runs (same_owner labels) group gs e)
   left_all (group ∷ gs) (r ∷ rest) o ks e w =
       let more = runs_rest (same_owner labels) (r ∷ rest) group gs e in
@@ -175,11 +175,11 @@ module _ {N D : Type 0} (labels : N → Name) (rtype_of : D → ℕ) (minimum_of
                       ap (λ t. map (owner_at L a) ks ++ t) (left_passed labels rtype_of minimum_of d a o group r.owner
                       (map (map see) gs) first (λ i. not (zone i) || under i))
                       ∙ ih t o ks runs_t
-                      (walk_under d L a (map see (r ∷ rest)) o ks w g f.gs (map see t) f.split f.group
+                      (walk_under w g f.gs (map see t) f.split f.group
                       (ap (λ m. is_at_or_below m a) at ∙ zone) (ap (is_under o) at ∙ under))
                   | inr over ↦
                       let records_are : records_of L (labels r.owner) ≡ map see group =
-                      ap (records_of L) (sym at) ∙ next_records d L a (map see (r ∷ rest)) o ks w g f.gs (map see t) f.split f.group ∙ sym f.are in
+                      ap (records_of L) (sym at) ∙ next_records w g f.gs (map see t) f.split f.group ∙ sym f.are in
                       let cut_is : is_zone_cut L a (labels r.owner) ≡ is_cut_group a (labels r.owner) (map see group) =
                       λ i. (zone i && not (same_name (labels r.owner) a)) && has_type (records_are i) ns in
                       let occludes_is : occludes d L a (labels r.owner)
@@ -195,7 +195,7 @@ module _ {N D : Type 0} (labels : N → Name) (rtype_of : D → ℕ) (minimum_of
                         is_zone_cut = is_cut_group a (labels r.owner) (map see group);
                       } ≡ owner_at L a (labels r.owner) =
                       λ i. record { name = labels r.owner; records = sym records_are i; is_zone_cut = sym cut_is i } in
-                      let walked = walk_onto d L a (map see (r ∷ rest)) o ks w g f.gs (map see t) f.split f.group
+                      let walked = walk_onto w g f.gs (map see t) f.split f.group
                       (ap (λ m. is_at_or_below m a) at ∙ zone) (ap (is_under o) at ∙ over) in
                       let walked' = subst (λ m. IsWalked d L a (map see t) (occluder_from d a (labels r.owner) (map see group)) (ks ++ m ∷ [])) at
                       (subst (λ c. IsWalked d L a (map see t) c (ks ++ g.owner ∷ [])) next walked) in
@@ -211,7 +211,7 @@ module _ {N D : Type 0} (labels : N → Name) (rtype_of : D → ℕ) (minimum_of
                 ap (λ t. map (owner_at L a) ks ++ t) (left_passed labels rtype_of minimum_of d a o group r.owner
                 (map (map see) gs) first (λ i. not (out i) || is_under o (labels r.owner)))
                 ∙ ih t o ks runs_t
-                (walk_outside d L a (map see (r ∷ rest)) o ks w g f.gs (map see t) f.split f.group (ap (λ m. is_at_or_below m a) at ∙ out))
+                (walk_outside w g f.gs (map see t) f.split f.group (ap (λ m. is_at_or_below m a) at ∙ out))
           ]
         where
           and_true : (b c : Bool) → (b && true && c) ≡ (b && c)

@@ -8,7 +8,7 @@ use Rattle.std.proofs.lemmas.List.Elements.{filter-append}
 use Rattle.domain_base.specs.Name.{same_name}
 use Rattle.domain_base.specs.Words.{Name}
 use Rattle.domain_base.specs.Types.{soa}
-use Rattle.domain_zone.specs.Soa.{numbers_of, of_only, is_soa, soa_of}
+use Rattle.domain_zone.specs.Soa.{of_only, is_soa, soa_of}
 use Rattle.domain_zone.specs.Zone.{ZoneRecord, owns}
 use Rattle.domain_zone.specs.declared.soa.ApexSoa.{ApexSoa}
 
@@ -39,24 +39,27 @@ pub some_of_map : {X Y : Type 0} (f : X → Y) (o : Option X) → is_some (optio
 some_of_map f None = refl
 some_of_map f (Some x) = refl
 
-module _ (a : Name) (L : List ZoneRecord) where
-  module _ (r : ZoneRecord) (rest : List ZoneRecord) (f : Option ZoneRecord) (s : IsScanned a L (r ∷ rest) f) where
-    onward : (s.passed ++ r ∷ []) ++ rest ≡ L
-    onward = append_assoc s.passed (r ∷ []) rest ∙ s.whole
+module _ {a : Name} {L left rest : List ZoneRecord} {r : ZoneRecord} {f : Option ZoneRecord} (s : IsScanned a L left f)
+    (next : left ≡ r ∷ rest) where
+  with_next : s.passed ++ r ∷ rest ≡ L
+  with_next = ap (λ rs. s.passed ++ rs) (sym next) ∙ s.whole
 
-    pub scan_other : is_soa a r ≡ false → IsScanned a L rest f
-    scan_other e = record { passed = s.passed ++ r ∷ []; whole = onward; is_found = still_found a s.passed r f e s.is_found }
+  onward : (s.passed ++ r ∷ []) ++ rest ≡ L
+  onward = append_assoc s.passed (r ∷ []) rest ∙ with_next
 
-    pub scan_soa : is_soa a r ≡ true → is_some f ≡ false → IsScanned a L rest (Some r)
-    scan_soa e n = record { passed = s.passed ++ r ∷ []; whole = onward; is_found = found_now a s.passed r f e n s.is_found }
+  pub scan_other : is_soa a r ≡ false → IsScanned a L rest f
+  scan_other e = record { passed = s.passed ++ r ∷ []; whole = onward; is_found = still_found a s.passed r f e s.is_found }
 
-    pub scan_second : is_soa a r ≡ true → is_some f ≡ true → soa_of L a ≡ None
-    scan_second e n = ap (λ K. soa_of K a) (sym s.whole) ∙ second f n s.is_found
-      where
-        second : (g : Option ZoneRecord) → is_some g ≡ true → IsFoundIn a s.passed g → soa_of (s.passed ++ r ∷ rest) a ≡ None
-        second None n h = absurd (true≢false (sym n))
-        second (Some t) n h = ap of_only (filter-append (is_soa a) s.passed (r ∷ rest)
-            ∙ (λ i. h i ++ cond (e i) (r ∷ filter (is_soa a) rest) (filter (is_soa a) rest)))
+  pub scan_soa : is_soa a r ≡ true → is_some f ≡ false → IsScanned a L rest (Some r)
+  scan_soa e n = record { passed = s.passed ++ r ∷ []; whole = onward; is_found = found_now a s.passed r f e n s.is_found }
+
+  pub scan_second : is_soa a r ≡ true → is_some f ≡ true → soa_of L a ≡ None
+  scan_second e n = ap (λ K. soa_of K a) (sym with_next) ∙ second f n s.is_found
+    where
+      second : (g : Option ZoneRecord) → is_some g ≡ true → IsFoundIn a s.passed g → soa_of (s.passed ++ r ∷ rest) a ≡ None
+      second None n h = absurd (true≢false (sym n))
+      second (Some t) n h = ap of_only (filter-append (is_soa a) s.passed (r ∷ rest)
+          ∙ (λ i. h i ++ cond (e i) (r ∷ filter (is_soa a) rest) (filter (is_soa a) rest)))
 
 -- an apex with an SOA owns records
 pub soa_owned : (L : List ZoneRecord) (a : Name) (numbers : ApexSoa) → soa_of L a ≡ Some numbers → owns L a ≡ true

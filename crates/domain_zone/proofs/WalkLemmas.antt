@@ -72,179 +72,163 @@ pub record IsNext (d : Bool) (L : List ZoneRecord) (a : Name) (cut : Option Name
   pub under : is_occluded d L a n ≡ is_under cut n
   pub since : IsSince cut n
 
-pub next_known : (d : Bool) (L : List ZoneRecord) (a : Name) (rest : List ZoneRecord) (cut : Option Name) (ks : List Name)
-    (w : IsWalked d L a rest cut ks) (g : ZoneRecord) (gs R : List ZoneRecord) → rest ≡ (g ∷ gs) ++ R → IsGroup (g ∷ gs) R
-    → IsNext d L a cut w.passed g.owner (g ∷ gs) R
-next_known d L a rest cut ks w g gs R e i =
-    let n = g.owner in
-    let at : AreAt n (g ∷ gs) = (refl, weaker (λ r. same_name r.owner n ≡ true) (λ r. lowered r.owner ≡ lowered n) (λ r h. one_lowered r.owner n h) gs i.0) in
-    let in_order = subst OwnersNeverDescend e w.in_order in
-    let after = all_after n R (all_front (λ s. before s.owner n ≡ false) gs R in_order.0).1 (in_order_after gs R in_order.1) i.1 in
-    let apart = subst (AllByRecursion (λ r. AllBefore w.passed r.owner)) e w.apart in
-    let since = subst (AllByRecursion (λ r. IsSince cut r.owner)) e w.since in
-    let test : ZoneRecord → Bool = λ r. occludes d L a r.owner && is_strictly_below n r.owner in
-    let rest_false : (r : ZoneRecord) → before r.owner n ≡ false → test r ≡ false =
-    λ r h. ap (λ b. occludes d L a r.owner && b) (not_strictly n r.owner h) ∙ and_right (occludes d L a r.owner) false refl in
-    record {
-      at = at;
-      after = after;
-      earlier = apart.0;
-      records = ap (λ K. records_of K n) (sym w.whole ∙ ap (λ t. w.passed ++ t) e) ∙ records_at n w.passed (g ∷ gs) R apart.0 at after;
-      under =
-          ap (list_any test) (sym w.whole)
-          ∙ list_any-append test w.passed rest
-          ∙ ap (λ b. list_any test w.passed || b) (ap (list_any test) e ∙ any_none test ((g ∷ gs) ++ R)
-          (all_both (λ r. test r ≡ false) (g ∷ gs) R
-          (weaker (λ r. lowered r.owner ≡ lowered n) (λ r. test r ≡ false) (λ r k. rest_false r (before_left r.owner n n k ∙ lt_irreflexive n)) (g ∷ gs) at)
-          (weaker (λ r. before n r.owner ≡ true) (λ r. test r ≡ false) (λ r h. rest_false r (before_order.one_way n r.owner h)) R after)))
-          ∙ or_false (list_any test w.passed)
-          ∙ w.below n apart.0;
-      since = since.0;
-    }
-  where
-    lt_irreflexive : (m : Name) → before m m ≡ false
-    lt_irreflexive m = below_from m m (below_itself m)
+module _ {d : Bool} {L : List ZoneRecord} {a : Name} {rest : List ZoneRecord} {cut : Option Name} {ks : List Name}
+    (w : IsWalked d L a rest cut ks) (g : ZoneRecord) (gs R : List ZoneRecord) (e : rest ≡ (g ∷ gs) ++ R) where
+  pub next_known : IsGroup (g ∷ gs) R → IsNext d L a cut w.passed g.owner (g ∷ gs) R
+  next_known i =
+      let n = g.owner in
+      let at : AreAt n (g ∷ gs) = (refl, weaker (λ r. same_name r.owner n ≡ true) (λ r. lowered r.owner ≡ lowered n) (λ r h. one_lowered r.owner n h) gs i.0) in
+      let in_order = subst OwnersNeverDescend e w.in_order in
+      let after = all_after n R (all_front (λ s. before s.owner n ≡ false) gs R in_order.0).1 (in_order_after gs R in_order.1) i.1 in
+      let apart = subst (AllByRecursion (λ r. AllBefore w.passed r.owner)) e w.apart in
+      let since = subst (AllByRecursion (λ r. IsSince cut r.owner)) e w.since in
+      let test : ZoneRecord → Bool = λ r. occludes d L a r.owner && is_strictly_below n r.owner in
+      let rest_false : (r : ZoneRecord) → before r.owner n ≡ false → test r ≡ false =
+      λ r h. ap (λ b. occludes d L a r.owner && b) (not_strictly n r.owner h) ∙ and_right (occludes d L a r.owner) false refl in
+      record {
+        at = at;
+        after = after;
+        earlier = apart.0;
+        records = ap (λ K. records_of K n) (sym w.whole ∙ ap (λ t. w.passed ++ t) e) ∙ records_at n w.passed (g ∷ gs) R apart.0 at after;
+        under =
+            ap (list_any test) (sym w.whole)
+            ∙ list_any-append test w.passed rest
+            ∙ ap (λ b. list_any test w.passed || b) (ap (list_any test) e ∙ any_none test ((g ∷ gs) ++ R)
+            (all_both (λ r. test r ≡ false) (g ∷ gs) R
+            (weaker (λ r. lowered r.owner ≡ lowered n) (λ r. test r ≡ false) (λ r k. rest_false r (before_left r.owner n n k ∙ lt_irreflexive n)) (g ∷ gs) at)
+            (weaker (λ r. before n r.owner ≡ true) (λ r. test r ≡ false) (λ r h. rest_false r (before_order.one_way n r.owner h)) R after)))
+            ∙ or_false (list_any test w.passed)
+            ∙ w.below n apart.0;
+        since = since.0;
+      }
+    where
+      lt_irreflexive : (m : Name) → before m m ≡ false
+      lt_irreflexive m = below_from m m (below_itself m)
 
--- past the group, where the new occluder is known
-pub walk_on : (d : Bool) (L : List ZoneRecord) (a : Name) (rest : List ZoneRecord) (cut : Option Name) (ks : List Name)
-    (w : IsWalked d L a rest cut ks) (g : ZoneRecord) (gs R : List ZoneRecord) → rest ≡ (g ∷ gs) ++ R
-    → IsNext d L a cut w.passed g.owner (g ∷ gs) R
-    → (cut' : Option Name) → ((y : Name) → before g.owner y ≡ true → IsSince cut y → IsSince cut' y)
-    → ((y : Name) → before g.owner y ≡ true → (is_under cut y || (occludes d L a g.owner && is_strictly_below y g.owner)) ≡ is_under cut' y)
-    → IsWalked d L a R cut' (ks ++ cond (is_unoccluded d L a g.owner) (g.owner ∷ []) [])
-walk_on d L a rest cut ks w g gs R e x cut' since' below' =
-    let n = g.owner in
-    let group = g ∷ gs in
-    let apart = (all_front (λ r. AllBefore w.passed r.owner) group R (subst (AllByRecursion (λ r. AllBefore w.passed r.owner)) e w.apart)).1 in
-    let since = (all_front (λ r. IsSince cut r.owner) group R (subst (AllByRecursion (λ r. IsSince cut r.owner)) e w.since)).1 in
-    let group_before : (y : Name) → before n y ≡ true → AllBefore group y =
-    λ y h. weaker (λ r. lowered r.owner ≡ lowered n) (λ r. before r.owner y ≡ true) (λ r k. before_left r.owner n y k ∙ h) group x.at in
-    record {
-      passed = w.passed ++ group;
-      whole = append_assoc w.passed group R ∙ ap (λ t. w.passed ++ t) (sym e) ∙ w.whole;
-      apart = both (λ r. AllBefore w.passed r.owner) (λ r. before n r.owner ≡ true) (λ r. AllBefore (w.passed ++ group) r.owner)
-          (λ r p q. all_both (λ s. before s.owner r.owner ≡ true) w.passed group p (group_before r.owner q)) R apart x.after;
-      in_order = in_order_after group R (subst OwnersNeverDescend e w.in_order);
-      unoccluded =
-          ap (filter (is_unoccluded d L a)) (ap distinct (owners_append w.passed group)
-          ∙ distinct_more (owners w.passed) n (owners gs) (owners_all (λ m. before m n ≡ true) w.passed x.earlier)
-          (owners_all (λ m. lowered m ≡ lowered n) gs x.at.1))
-          ∙ filter-append (is_unoccluded d L a) (distinct (owners w.passed)) (n ∷ [])
-          ∙ ap (λ t. t ++ cond (is_unoccluded d L a n) (n ∷ []) []) w.unoccluded;
-      since = both (λ r. IsSince cut r.owner) (λ r. before n r.owner ≡ true) (λ r. IsSince cut' r.owner) (λ r p q. since' r.owner q p) R since x.after;
-      below = λ y h.
-          let test : ZoneRecord → Bool = λ r. occludes d L a r.owner && is_strictly_below y r.owner in
-          let parts = all_front (λ s. before s.owner y ≡ true) w.passed group h in
-          list_any-append test w.passed group
-          ∙ (λ i. w.below y parts.0 i || any_at y gs x.at.1 i)
-          ∙ below' y parts.1.0;
-    }
-  where
-    both : (P Q S : ZoneRecord → Type 0) → ((r : ZoneRecord) → P r → Q r → S r) → (rs : List ZoneRecord) → AllByRecursion P rs
-        → AllByRecursion Q rs → AllByRecursion S rs
-    both P Q S f [] p q = tt
-    both P Q S f (r ∷ rs) p q = (f r p.0 q.0, both P Q S f rs p.1 q.1)
+  -- past the group, where the new occluder is known
+  pub walk_on : IsNext d L a cut w.passed g.owner (g ∷ gs) R
+      → (cut' : Option Name) → ((y : Name) → before g.owner y ≡ true → IsSince cut y → IsSince cut' y)
+      → ((y : Name) → before g.owner y ≡ true → (is_under cut y || (occludes d L a g.owner && is_strictly_below y g.owner)) ≡ is_under cut' y)
+      → IsWalked d L a R cut' (ks ++ cond (is_unoccluded d L a g.owner) (g.owner ∷ []) [])
+  walk_on x cut' since' below' =
+      let n = g.owner in
+      let group = g ∷ gs in
+      let apart = (all_front (λ r. AllBefore w.passed r.owner) group R (subst (AllByRecursion (λ r. AllBefore w.passed r.owner)) e w.apart)).1 in
+      let since = (all_front (λ r. IsSince cut r.owner) group R (subst (AllByRecursion (λ r. IsSince cut r.owner)) e w.since)).1 in
+      let group_before : (y : Name) → before n y ≡ true → AllBefore group y =
+      λ y h. weaker (λ r. lowered r.owner ≡ lowered n) (λ r. before r.owner y ≡ true) (λ r k. before_left r.owner n y k ∙ h) group x.at in
+      record {
+        passed = w.passed ++ group;
+        whole = append_assoc w.passed group R ∙ ap (λ t. w.passed ++ t) (sym e) ∙ w.whole;
+        apart = both (λ r. AllBefore w.passed r.owner) (λ r. before n r.owner ≡ true) (λ r. AllBefore (w.passed ++ group) r.owner)
+            (λ r p q. all_both (λ s. before s.owner r.owner ≡ true) w.passed group p (group_before r.owner q)) R apart x.after;
+        in_order = in_order_after group R (subst OwnersNeverDescend e w.in_order);
+        unoccluded =
+            ap (filter (is_unoccluded d L a)) (ap distinct (owners_append w.passed group)
+            ∙ distinct_more (owners w.passed) n (owners gs) (owners_all (λ m. before m n ≡ true) w.passed x.earlier)
+            (owners_all (λ m. lowered m ≡ lowered n) gs x.at.1))
+            ∙ filter-append (is_unoccluded d L a) (distinct (owners w.passed)) (n ∷ [])
+            ∙ ap (λ t. t ++ cond (is_unoccluded d L a n) (n ∷ []) []) w.unoccluded;
+        since = both (λ r. IsSince cut r.owner) (λ r. before n r.owner ≡ true) (λ r. IsSince cut' r.owner) (λ r p q. since' r.owner q p) R since x.after;
+        below = λ y h.
+            let test : ZoneRecord → Bool = λ r. occludes d L a r.owner && is_strictly_below y r.owner in
+            let parts = all_front (λ s. before s.owner y ≡ true) w.passed group h in
+            list_any-append test w.passed group
+            ∙ (λ i. w.below y parts.0 i || any_at y gs x.at.1 i)
+            ∙ below' y parts.1.0;
+      }
+    where
+      both : (P Q S : ZoneRecord → Type 0) → ((r : ZoneRecord) → P r → Q r → S r) → (rs : List ZoneRecord) → AllByRecursion P rs
+          → AllByRecursion Q rs → AllByRecursion S rs
+      both P Q S f [] p q = tt
+      both P Q S f (r ∷ rs) p q = (f r p.0 q.0, both P Q S f rs p.1 q.1)
 
-    owners_append : (xs ys : List ZoneRecord) → owners (xs ++ ys) ≡ owners xs ++ owners ys
-    owners_append [] ys = refl
-    owners_append (z ∷ xs) ys = ap (λ t. z.owner ∷ t) (owners_append xs ys)
+      owners_append : (xs ys : List ZoneRecord) → owners (xs ++ ys) ≡ owners xs ++ owners ys
+      owners_append [] ys = refl
+      owners_append (z ∷ xs) ys = ap (λ t. z.owner ∷ t) (owners_append xs ys)
 
-    owners_all : (P : Name → Type 0) (rs : List ZoneRecord) → AllByRecursion (λ r. P r.owner) rs → AllByRecursion P (owners rs)
-    owners_all P [] h = tt
-    owners_all P (r ∷ rs) h = (h.0, owners_all P rs h.1)
+      owners_all : (P : Name → Type 0) (rs : List ZoneRecord) → AllByRecursion (λ r. P r.owner) rs → AllByRecursion P (owners rs)
+      owners_all P [] h = tt
+      owners_all P (r ∷ rs) h = (h.0, owners_all P rs h.1)
 
-    any_at : (y : Name) (rs : List ZoneRecord) → AllByRecursion (λ r. lowered r.owner ≡ lowered g.owner) rs
-        → list_any (λ r. occludes d L a r.owner && is_strictly_below y r.owner) (g ∷ rs) ≡ (occludes d L a g.owner && is_strictly_below y g.owner)
-    any_at y [] h = or_false (occludes d L a g.owner && is_strictly_below y g.owner)
-    any_at y (r ∷ rs) h =
-        let types : Name → ℕ → Bool = λ k. has_type (filter (λ s. same_lowered (lowered s.owner) k) L) in
-        let over : Name → Bool = λ k. (lowered_below k (lowered a) && not (same_lowered k (lowered a)) && types k ns)
-        || (d && lowered_below k (lowered a) && types k dname) in
-        let at : Name → Bool = λ k. over k && (lowered_below (lowered y) k && not (same_lowered (lowered y) k)) in
-        ap (λ b. at (lowered g.owner) || (b || list_any (λ s. at (lowered s.owner)) rs)) (ap at h.0)
-        ∙ or_twice (at (lowered g.owner)) (list_any (λ s. at (lowered s.owner)) rs)
-        ∙ any_at y rs h.1
-      where
-        or_twice : (b c : Bool) → (b || (b || c)) ≡ (b || c)
-        or_twice true c = refl
-        or_twice false c = refl
+      any_at : (y : Name) (rs : List ZoneRecord) → AllByRecursion (λ r. lowered r.owner ≡ lowered g.owner) rs
+          → list_any (λ r. occludes d L a r.owner && is_strictly_below y r.owner) (g ∷ rs) ≡ (occludes d L a g.owner && is_strictly_below y g.owner)
+      any_at y [] h = or_false (occludes d L a g.owner && is_strictly_below y g.owner)
+      any_at y (r ∷ rs) h =
+          let types : Name → ℕ → Bool = λ k. has_type (filter (λ s. same_lowered (lowered s.owner) k) L) in
+          let over : Name → Bool = λ k. (lowered_below k (lowered a) && not (same_lowered k (lowered a)) && types k ns)
+          || (d && lowered_below k (lowered a) && types k dname) in
+          let at : Name → Bool = λ k. over k && (lowered_below (lowered y) k && not (same_lowered (lowered y) k)) in
+          ap (λ b. at (lowered g.owner) || (b || list_any (λ s. at (lowered s.owner)) rs)) (ap at h.0)
+          ∙ or_twice (at (lowered g.owner)) (list_any (λ s. at (lowered s.owner)) rs)
+          ∙ any_at y rs h.1
+        where
+          or_twice : (b c : Bool) → (b || (b || c)) ≡ (b || c)
+          or_twice true c = refl
+          or_twice false c = refl
 
--- the group is out of the zone
-pub walk_outside : (d : Bool) (L : List ZoneRecord) (a : Name) (rest : List ZoneRecord) (cut : Option Name) (ks : List Name)
-    → IsWalked d L a rest cut ks → (g : ZoneRecord) (gs R : List ZoneRecord) → rest ≡ (g ∷ gs) ++ R → IsGroup (g ∷ gs) R
-    → is_at_or_below g.owner a ≡ false → IsWalked d L a R cut ks
-walk_outside d L a rest cut ks w g gs R e i out =
-    let n = g.owner in
-    subst (IsWalked d L a R cut) ((λ i. ks ++ cond (out i && not (is_occluded d L a n)) (n ∷ []) []) ∙ append-nil ks)
-    (walk_on d L a rest cut ks w g gs R e (next_known d L a rest cut ks w g gs R e i) cut (λ y h s. s)
-    (λ y h.
-    (λ i. is_under cut y || ((out i && not (same_name n a) && has_type (records_of L n) ns
-    || (d && out i && has_type (records_of L n) dname)) && is_strictly_below y n))
-    ∙ (λ i. is_under cut y || (not_there d (has_type (records_of L n) dname) i && is_strictly_below y n))
-    ∙ or_false (is_under cut y)))
-  where
-    not_there : (b c : Bool) → (b && false && c) ≡ false
-    not_there true c = refl
-    not_there false c = refl
+  -- the group is out of the zone
+  pub walk_outside : IsGroup (g ∷ gs) R → is_at_or_below g.owner a ≡ false → IsWalked d L a R cut ks
+  walk_outside i out =
+      let n = g.owner in
+      subst (IsWalked d L a R cut) ((λ i. ks ++ cond (out i && not (is_occluded d L a n)) (n ∷ []) []) ∙ append-nil ks)
+      (walk_on (next_known i) cut (λ y h s. s)
+      (λ y h.
+      (λ i. is_under cut y || ((out i && not (same_name n a) && has_type (records_of L n) ns
+      || (d && out i && has_type (records_of L n) dname)) && is_strictly_below y n))
+      ∙ (λ i. is_under cut y || (not_there d (has_type (records_of L n) dname) i && is_strictly_below y n))
+      ∙ or_false (is_under cut y)))
+    where
+      not_there : (b c : Bool) → (b && false && c) ≡ false
+      not_there true c = refl
+      not_there false c = refl
 
--- the group is below the last occluder
-pub walk_under : (d : Bool) (L : List ZoneRecord) (a : Name) (rest : List ZoneRecord) (cut : Option Name) (ks : List Name)
-    → IsWalked d L a rest cut ks → (g : ZoneRecord) (gs R : List ZoneRecord) → rest ≡ (g ∷ gs) ++ R → IsGroup (g ∷ gs) R
-    → is_at_or_below g.owner a ≡ true → is_under cut g.owner ≡ true → IsWalked d L a R cut ks
-walk_under d L a rest cut ks w g gs R e i zone under =
-    let n = g.owner in
-    let x = next_known d L a rest cut ks w g gs R e i in
-    subst (IsWalked d L a R cut) ((λ i. ks ++ cond (zone i && not ((x.under ∙ under) i)) (n ∷ []) []) ∙ append-nil ks)
-    (walk_on d L a rest cut ks w g gs R e x cut (λ y h s. s)
-    (λ y h. absorbed (is_under cut y) (occludes d L a n) (is_at_or_below y n) (not (same_name y n))
-    (λ b. lower cut n y under b)))
-  where
-    lower : (c : Option Name) (n y : Name) → is_under c n ≡ true → is_at_or_below y n ≡ true → is_under c y ≡ true
-    lower None n y u b = absurd (false≢true u)
-    lower (Some c) n y u b = below_trans y n c b u
+  -- the group is below the last occluder
+  pub walk_under : IsGroup (g ∷ gs) R → is_at_or_below g.owner a ≡ true → is_under cut g.owner ≡ true → IsWalked d L a R cut ks
+  walk_under i zone under =
+      let n = g.owner in
+      let x = next_known i in
+      subst (IsWalked d L a R cut) ((λ i. ks ++ cond (zone i && not ((x.under ∙ under) i)) (n ∷ []) []) ∙ append-nil ks)
+      (walk_on x cut (λ y h s. s)
+      (λ y h. absorbed (is_under cut y) (occludes d L a n) (is_at_or_below y n) (not (same_name y n))
+      (λ b. lower cut n y under b)))
+    where
+      lower : (c : Option Name) (n y : Name) → is_under c n ≡ true → is_at_or_below y n ≡ true → is_under c y ≡ true
+      lower None n y u b = absurd (false≢true u)
+      lower (Some c) n y u b = below_trans y n c b u
 
-    absorbed : (u c b d : Bool) → (b ≡ true → u ≡ true) → (u || (c && (b && d))) ≡ u
-    absorbed true c b d f = refl
-    absorbed false true true d f = absurd (false≢true (f refl))
-    absorbed false true false d f = refl
-    absorbed false false b d f = refl
+      absorbed : (u c b d : Bool) → (b ≡ true → u ≡ true) → (u || (c && (b && d))) ≡ u
+      absorbed true c b d f = refl
+      absorbed false true true d f = absurd (false≢true (f refl))
+      absorbed false true false d f = refl
+      absorbed false false b d f = refl
 
--- the group's name is not occluded
-pub walk_onto : (d : Bool) (L : List ZoneRecord) (a : Name) (rest : List ZoneRecord) (cut : Option Name) (ks : List Name)
-    → IsWalked d L a rest cut ks → (g : ZoneRecord) (gs R : List ZoneRecord) → rest ≡ (g ∷ gs) ++ R → IsGroup (g ∷ gs) R
-    → is_at_or_below g.owner a ≡ true → is_under cut g.owner ≡ false
-    → IsWalked d L a R (cond (occludes d L a g.owner) (Some g.owner) None) (ks ++ g.owner ∷ [])
-walk_onto d L a rest cut ks w g gs R e i zone under =
-    let n = g.owner in
-    let x = next_known d L a rest cut ks w g gs R e i in
-    subst (IsWalked d L a R (cond (occludes d L a n) (Some n) None)) (λ i. ks ++ cond (zone i && not ((x.under ∙ under) i)) (n ∷ []) [])
-    (walk_on d L a rest cut ks w g gs R e x (cond (occludes d L a n) (Some n) None)
-    (λ y h s. elim (occludes d L a n) as (λ b. IsSince (cond b (Some n) None) y) [ true ↦ h | false ↦ tt ])
-    (λ y h.
-    let left = gone cut n y x.since under h in
-    (λ i. left i || (occludes d L a n && strictly_after y n h i))
-    ∙ elim (occludes d L a n) as (λ b. (b && is_at_or_below y n) ≡ is_under (cond b (Some n) None) y) [ true ↦ refl | false ↦ refl ]))
-  where
-    gone : (c : Option Name) (n y : Name) → IsSince c n → is_under c n ≡ false → before n y ≡ true → is_under c y ≡ false
-    gone None n y s u h = refl
-    gone (Some c) n y s u h =
-        elim (cases_Bool (is_at_or_below y c)) [
-          | inl b ↦ absurd (true≢false (sym (below_between y c n b (before_order.one_way c n s) (before_order.one_way n y h)) ∙ u))
-          | inr b ↦ b
-        ]
+  -- the group's name is not occluded
+  pub walk_onto : IsGroup (g ∷ gs) R → is_at_or_below g.owner a ≡ true → is_under cut g.owner ≡ false
+      → IsWalked d L a R (cond (occludes d L a g.owner) (Some g.owner) None) (ks ++ g.owner ∷ [])
+  walk_onto i zone under =
+      let n = g.owner in
+      let x = next_known i in
+      subst (IsWalked d L a R (cond (occludes d L a n) (Some n) None)) (λ i. ks ++ cond (zone i && not ((x.under ∙ under) i)) (n ∷ []) [])
+      (walk_on x (cond (occludes d L a n) (Some n) None)
+      (λ y h s. elim (occludes d L a n) as (λ b. IsSince (cond b (Some n) None) y) [ true ↦ h | false ↦ tt ])
+      (λ y h.
+      let left = gone cut n y x.since under h in
+      (λ i. left i || (occludes d L a n && strictly_after y n h i))
+      ∙ elim (occludes d L a n) as (λ b. (b && is_at_or_below y n) ≡ is_under (cond b (Some n) None) y) [ true ↦ refl | false ↦ refl ]))
+    where
+      gone : (c : Option Name) (n y : Name) → IsSince c n → is_under c n ≡ false → before n y ≡ true → is_under c y ≡ false
+      gone None n y s u h = refl
+      gone (Some c) n y s u h =
+          elim (cases_Bool (is_at_or_below y c)) [
+            | inl b ↦ absurd (true≢false (sym (below_between y c n b (before_order.one_way c n s) (before_order.one_way n y h)) ∙ u))
+            | inr b ↦ b
+          ]
+
+  pub next_records : IsGroup (g ∷ gs) R → records_of L g.owner ≡ g ∷ gs
+  next_records i = (next_known i).records
 
 -- at the end the names found so far are all
-pub walk_end : (d : Bool) (L : List ZoneRecord) (a : Name) (cut : Option Name) (ks : List Name) → IsWalked d L a [] cut ks → unoccluded_owners d L a ≡ ks
-walk_end d L a cut ks w = ap (λ K. filter (is_unoccluded d L a) (distinct (owners K))) (sym w.whole ∙ append-nil w.passed) ∙ w.unoccluded
-
--- what the walk's tests say of a name that comes next
-pub next_unoccluded : (d : Bool) (L : List ZoneRecord) (a : Name) (rest : List ZoneRecord) (cut : Option Name) (ks : List Name)
-    → IsWalked d L a rest cut ks → (g : ZoneRecord) (gs R : List ZoneRecord) → rest ≡ (g ∷ gs) ++ R → IsGroup (g ∷ gs) R
-    → is_at_or_below g.owner a ≡ true → is_under cut g.owner ≡ false → is_unoccluded d L a g.owner ≡ true
-next_unoccluded d L a rest cut ks w g gs R e i zone under =
-    λ j. zone j && not (((next_known d L a rest cut ks w g gs R e i).under ∙ under) j)
-
-pub next_records : (d : Bool) (L : List ZoneRecord) (a : Name) (rest : List ZoneRecord) (cut : Option Name) (ks : List Name)
-    → IsWalked d L a rest cut ks → (g : ZoneRecord) (gs R : List ZoneRecord) → rest ≡ (g ∷ gs) ++ R → IsGroup (g ∷ gs) R
-    → records_of L g.owner ≡ g ∷ gs
-next_records d L a rest cut ks w g gs R e i = (next_known d L a rest cut ks w g gs R e i).records
+pub walk_end : {d : Bool} {L : List ZoneRecord} {a : Name} {cut : Option Name} {ks : List Name} → IsWalked d L a [] cut ks
+    → unoccluded_owners d L a ≡ ks
+walk_end {d = d} {L = L} {a = a} w = ap (λ K. filter (is_unoccluded d L a) (distinct (owners K))) (sym w.whole ∙ append-nil w.passed) ∙ w.unoccluded
