@@ -48,7 +48,8 @@ fn are_in_order<N: ToName, D: RecordData + CanonicalOrd>(
 
 /// Puts items into canonical order by the sorter. A refusal leaves the list as it was.
 fn sort_whole<T: CanonicalOrd, S: Sorter>(items: &mut Vec<T>) -> Result<(), OutOfMemory>
-    ensures ok { OnOk result (IsSortOf S.is_stable T.canonical_cmp items.old.items items.new.items) }
+    ensures ok { OnOk result
+        (IsSortOf S.is_stable T.canonical_cmp items.old.items items.new.items) }
     ensures err { OnErr result (items.new.items ≡ items.old.items) }
 {
     S::sort_by(items, |a, b| a.canonical_cmp(b))
