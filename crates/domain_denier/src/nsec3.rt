@@ -377,9 +377,9 @@ pub fn deny_nsec3<O: Octets, M: ToName, H: Nsec3Hasher>(
     ensures exact { needs_no_records chain.now.param.owner (M.labels name.now) rtype ≡ false
         → IfOk result (λ d. (L : List ZoneRecord) (config : ChainConfig)
         → IsHashedWhole L config (hash_by (H.answer hasher.now) chain.now.param.parameters)
-        chain.now → IsHashedRead (hashed_picked chain.now.links d) chain.now.param.owner
-        chain.now.param.parameters (hash_by (H.answer hasher.now) chain.now.param.parameters)
-        (M.labels name.now) rtype d.answer) }
+        chain.now → IsHashedRead (links_with chain.now.param.owner chain.now.param.parameters
+        (H.answer hasher.now) (hashed_picked chain.now.links d)) (M.labels name.now) rtype
+        d.answer) }
 
     // Of any chain, the records are there.
     ensures there { IfOk result (AreHashedThere chain.now.links) }
