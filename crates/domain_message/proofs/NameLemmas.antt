@@ -8,7 +8,7 @@ use Rattle.std.proofs.lemmas.List.{append-nil, append_assoc, take-append-drop, d
 use Rattle.std.proofs.lemmas.List.Elements.{All-take, All-drop}
 use Rattle.domain_base.specs.Name.{wire_of, IsLabel}
 use Rattle.domain_base.specs.Words.{Name}
-use Rattle.domain_message.specs.Name.{labels_octets, pointer_octets, RunAt, IsBackward, LabelsAt, in_full, pointed}
+use Rattle.domain_message.specs.Name.{labels_octets, pointer_octets, RunAt, LabelsAt, in_full, pointed}
 use Rattle.domain_message.specs.Fault.{EndFault, no_octet, half_pointer, bad_type, not_backward, long_name, cut_label, LabelsFault, here, beyond}
 use Rattle.domain_message.specs.Steps.{LabelsBetween, EndsWith, RunRead, LabelsRead}
 use Rattle.domain_message.specs.declared.name.NameFault.{NameFault}

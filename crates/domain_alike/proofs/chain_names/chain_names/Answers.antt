@@ -13,7 +13,8 @@ use Rattle.domain_alike.proofs.chain_names.chain_names.Goals as goal
 
 -- the owners that were found are those that the chain covers
 owners_are : (c : After-deref)
-    → c.deref.result.now ≡ covered_names c.args.without_unsigned c.args.below_dname (zone_of (λ n. n) (λ d. d.rtype) minimum_of c.args.sorted.now) c.args.apex.now
+    → c.deref.result.now ≡ covered_names c.args.without_unsigned c.args.below_dname
+    (zone_of (λ n. n) (λ d. d.rtype) minimum_of c.args.sorted.now) c.args.apex.now
 owners_are c = c.deref.ensures.value ∙ c.in_ok-owners.ensures
 
 pub names_over-requires-clause-ascend : goal.names_over-requires-clause-ascend
