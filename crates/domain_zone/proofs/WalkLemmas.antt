@@ -77,7 +77,8 @@ module _ {d : Bool} {L : List ZoneRecord} {a : Name} {rest : List ZoneRecord} {c
   pub next_known : IsGroup (g ∷ gs) R → IsNext d L a cut w.passed g.owner (g ∷ gs) R
   next_known i =
       let n = g.owner in
-      let at : AreAt n (g ∷ gs) = (refl, weaker (λ r. same_name r.owner n ≡ true) (λ r. lowered r.owner ≡ lowered n) (λ r h. one_lowered r.owner n h) gs i.0) in
+      let at : AreAt n (g ∷ gs) =
+      (refl, weaker (λ r. same_name r.owner n ≡ true) (λ r. lowered r.owner ≡ lowered n) (λ r h. one_lowered r.owner n h) gs i.0) in
       let in_order = subst OwnersNeverDescend e w.in_order in
       let after = all_after n R (all_front (λ s. before s.owner n ≡ false) gs R in_order.0).1 (in_order_after gs R in_order.1) i.1 in
       let apart = subst (AllByRecursion (λ r. AllBefore w.passed r.owner)) e w.apart in
@@ -95,7 +96,8 @@ module _ {d : Bool} {L : List ZoneRecord} {a : Name} {rest : List ZoneRecord} {c
             ∙ list_any-append test w.passed rest
             ∙ ap (λ b. list_any test w.passed || b) (ap (list_any test) e ∙ any_none test ((g ∷ gs) ++ R)
             (all_both (λ r. test r ≡ false) (g ∷ gs) R
-            (weaker (λ r. lowered r.owner ≡ lowered n) (λ r. test r ≡ false) (λ r k. rest_false r (before_left r.owner n n k ∙ lt_irreflexive n)) (g ∷ gs) at)
+            (weaker (λ r. lowered r.owner ≡ lowered n) (λ r. test r ≡ false)
+            (λ r k. rest_false r (before_left r.owner n n k ∙ lt_irreflexive n)) (g ∷ gs) at)
             (weaker (λ r. before n r.owner ≡ true) (λ r. test r ≡ false) (λ r h. rest_false r (before_order.one_way n r.owner h)) R after)))
             ∙ or_false (list_any test w.passed)
             ∙ w.below n apart.0;
@@ -129,7 +131,8 @@ module _ {d : Bool} {L : List ZoneRecord} {a : Name} {rest : List ZoneRecord} {c
             (owners_all (λ m. lowered m ≡ lowered n) gs x.at.1))
             ∙ filter-append (is_unoccluded d L a) (distinct (owners w.passed)) (n ∷ [])
             ∙ ap (λ t. t ++ cond (is_unoccluded d L a n) (n ∷ []) []) w.unoccluded;
-        since = both (λ r. IsSince cut r.owner) (λ r. before n r.owner ≡ true) (λ r. IsSince cut' r.owner) (λ r p q. since' r.owner q p) R since x.after;
+        since = both (λ r. IsSince cut r.owner) (λ r. before n r.owner ≡ true) (λ r. IsSince cut' r.owner) (λ r p q. since' r.owner q p)
+            R since x.after;
         below = λ y h.
             let test : ZoneRecord → Bool = λ r. occludes d L a r.owner && is_strictly_below y r.owner in
             let parts = all_front (λ s. before s.owner y ≡ true) w.passed group h in
