@@ -48,14 +48,16 @@ fault_of_chain chain_error.OutOfMemory = OutOfMemory
 pub record IsNsecs (given : List RawRecord) (apex : Name) (answer : Reply) : Type 0 where
   pub links : List Link
   pub is : answer ≡ Nsecs links
-  pub chain : any_order.IsChainOf (λ n. n) (λ d. d.rtype) minimum_of data_cmp given apex usual_config links
+  pub chain : any_order.IsChainOf (λ n. n) (λ d. d.rtype) minimum_of data_cmp given apex
+      usual_config links
 
 -- there is none, for this reason
 pub record HasNoNsecs (given : List RawRecord) (apex : Name) (fault : DenialFault)
     : Type 0 where
   pub error : ChainError
   pub is : fault ≡ fault_of_chain error
-  pub none : any_order.HasNoChain (λ n. n) (λ d. d.rtype) minimum_of data_cmp given apex usual_config error
+  pub none : any_order.HasNoChain (λ n. n) (λ d. d.rtype) minimum_of data_cmp given apex
+      usual_config error
 
 -- how the program makes an NSEC3 chain with these parameters: as `GenerateNsec3Config::new` has it
 abbrev pub usual_nsec3_config : HasherAnswer → Params → ChainConfig
@@ -82,8 +84,8 @@ pub record HasNoNsec3s (answers : HasherAnswer) (given : List RawRecord) (apex :
     (p : Params) (fault : DenialFault) : Type 0 where
   pub error : ChainError
   pub is : fault ≡ fault_of_chain error
-  pub none : any_order_nsec3.HasNoHashedChain (λ n. n) (λ d. d.rtype) minimum_of data_cmp given apex (usual_nsec3_config answers p)
-      error
+  pub none : any_order_nsec3.HasNoHashedChain (λ n. n) (λ d. d.rtype) minimum_of data_cmp given
+      apex (usual_nsec3_config answers p) error
 
 abbrev pub IsAnswer : HasherAnswer → Command → List RawRecord → Reply → Type 0
 IsAnswer answers (Nsec apex) given answer = IsNsecs given apex answer
