@@ -5,7 +5,7 @@ use Rattle.std.specs.Prelude.{nat_lt}
 use Rattle.std.specs.List.{All, AllByRecursion as ByRecursion, filter, slice_split, onto_first}
 use Rattle.std.specs.Str.{IsUtf8}
 use Rattle.std.proofs.lemmas.Bool.{cases_Bool, cases_eq, cond-true, eqb-true, lt-ltb, or_cases}
-use Rattle.std.proofs.lemmas.List.{take-append-drop, drop-drop, drop_more, drop_all, get_or-take, get_or-drop, length-take-le, map_push}
+use Rattle.std.proofs.lemmas.List.{take-append-drop, drop-drop, drop_more, drop_all, get_or-take, get_or-drop, length-take-le, map_push, take_rest}
 use Rattle.std.proofs.lemmas.List.Elements.{All-nil, All-head, All-tail, All-get_or, All-from_get_or}
 use Rattle.std.proofs.lemmas.List.Elements.{All-from_recursion, recursion_from_All, All-push, All-weaker}
 use Rattle.std.proofs.lemmas.List.Splits.{slice_split-cons_yes, slice_split-cons_no, slice_split_at, slice_split_none}
@@ -46,11 +46,11 @@ module _ (line : List ℕ) (start : ℕ) where
       (omega arith, get_or-take (i - start) (drop start line) k 0 n ∙ get_or-drop start line k 0)
 
   -- what holds of the octets up to i holds of the part
-  pub part_all : (P : ℕ → Type 0) (i : ℕ) → start ≤ i → i ≤ length line → ((k : ℕ) → start ≤ k → k < i → P (get_or line k 0)) → All P (part i)
+  part_all : (P : ℕ → Type 0) (i : ℕ) → start ≤ i → i ≤ length line → ((k : ℕ) → start ≤ k → k < i → P (get_or line k 0)) → All P (part i)
   part_all P i le within h =
       All-from_get_or P (part i) 0 (λ k lt. let a = at_part i k le within lt in subst P (sym a.1) (h (start + k) (omega arith) a.0))
 
-  pub length_part : (i : ℕ) → start ≤ i → i ≤ length line → length (part i) ≡ i - start
+  length_part : (i : ℕ) → start ≤ i → i ≤ length line → length (part i) ≡ i - start
   length_part i le within = length-take-le (i - start) (drop start line) (omega (arith, length-drop start line))
 
   cut_at : (i : ℕ) → start ≤ i → i < length line → drop start line ≡ part i ++ get_or line i 0 ∷ drop (i + 1) line
@@ -60,7 +60,7 @@ module _ (line : List ℕ) (start : ℕ) where
       ap (λ l. part i ++ l) (drop-drop (i - start) start line ∙ ap (λ n. drop n line) e ∙ drop_more line i 0 lt)
 
   -- a word ends at i
-  pub word_ends : (ws : List (List ℕ)) (i : ℕ) → start < i → i < length line → ws ++ words (drop start line) ≡ words line
+  word_ends : (ws : List (List ℕ)) (i : ℕ) → start < i → i < length line → ws ++ words (drop start line) ≡ words line
       → ((k : ℕ) → start ≤ k → k < i → is_blank (get_or line k 0) ≡ false) → is_blank (get_or line i 0) ≡ true
       → (ws ++ part i ∷ []) ++ words (drop (i + 1) line) ≡ words line
   word_ends ws i begun lt h whole e =
@@ -71,7 +71,7 @@ module _ (line : List ℕ) (start : ℕ) where
       ∙ ap words (sym (cut_at i (omega arith) lt))) ∙ h
 
   -- the last word ends with the line
-  pub word_last : (ws : List (List ℕ)) → start < length line → ws ++ words (drop start line) ≡ words line
+  word_last : (ws : List (List ℕ)) → start < length line → ws ++ words (drop start line) ≡ words line
       → ((k : ℕ) → start ≤ k → k < length line → is_blank (get_or line k 0) ≡ false) → ws ++ drop start line ∷ [] ≡ words line
   word_last ws lt h whole =
       let all : All (λ c. is_blank c ≡ false) (drop start line) =
@@ -80,27 +80,82 @@ module _ (line : List ℕ) (start : ℕ) where
       (whole (start + k) (omega arith) (omega (arith, length-drop start line)))) in
       ap (λ l. ws ++ l) (sym (words_last (drop start line) all (omega (arith, length-drop start line)))) ∙ h
 
-  pub word_none : (ws : List (List ℕ)) → length line ≤ start → ws ++ words (drop start line) ≡ words line → ws ≡ words line
+  word_none : (ws : List (List ℕ)) → length line ≤ start → ws ++ words (drop start line) ≡ words line → ws ≡ words line
   word_none ws past h = sym (append-nil ws) ∙ ap (λ l. ws ++ words l) (sym (drop_all start line past)) ∙ h
 
 -- one more text
-pub pushed : (ts : List (Bor (List ℕ))) (t : Bor (List ℕ)) (w : List ℕ) → t.now ≡ w → map (λ x. x.now) (ts ++ t ∷ []) ≡ map (λ x. x.now) ts ++ w ∷ []
+pushed : (ts : List (Bor (List ℕ))) (t : Bor (List ℕ)) (w : List ℕ) → t.now ≡ w → map (λ x. x.now) (ts ++ t ∷ []) ≡ map (λ x. x.now) ts ++ w ∷ []
 pushed ts t w e = map_push (λ x. x.now) ts t ∙ ap (λ q. map (λ x. x.now) ts ++ q ∷ []) e
 
-pub pushed_plain : (ts : List (Bor (List ℕ))) (t : Bor (List ℕ)) (w : List ℕ) → t.now ≡ w → ArePlain (map (λ x. x.now) ts)
+pushed_plain : (ts : List (Bor (List ℕ))) (t : Bor (List ℕ)) (w : List ℕ) → t.now ≡ w → ArePlain (map (λ x. x.now) ts)
     → IsPlain w → ArePlain (map (λ x. x.now) (ts ++ t ∷ []))
 pushed_plain ts t w e all one = subst ArePlain (sym (pushed ts t w e)) (All-push IsPlain (map (λ x. x.now) ts) w all one)
-
-pub low_more : (line : List ℕ) (i : ℕ) → ((k : ℕ) → k < i → get_or line k 0 ≤ 126) → get_or line i 0 ≤ 126 → (k : ℕ) → k < i + 1 → get_or line k 0 ≤ 126
-low_more line i h here = below_more (λ k. get_or line k 0 ≤ 126) i h here
-
-pub whole_more : (line : List ℕ) (start i : ℕ) → ((k : ℕ) → start ≤ k → k < i → is_blank (get_or line k 0) ≡ false)
-    → is_blank (get_or line i 0) ≡ false → (k : ℕ) → start ≤ k → k < i + 1 → is_blank (get_or line k 0) ≡ false
-whole_more line start i h here k le lt = elim (cases_eq k i) [ inl e ↦ ap (λ q. is_blank (get_or line q 0)) e ∙ here | inr other ↦ h k le (omega arith) ]
 
 -- no word begins at a blank
 pub blank_passed : (line : List ℕ) (i : ℕ) → i < length line → is_blank (get_or line i 0) ≡ true → words (drop (i + 1) line) ≡ words (drop i line)
 blank_passed line i lt e = sym (ap words (drop_more line i 0 lt) ∙ words_blank (get_or line i 0) (drop (i + 1) line) e)
+
+-- the words that ended before i, as texts, and the octets up to i of one that may have begun
+pub record IsSplit (line : List ℕ) (start i : ℕ) (ts : List (Bor (List ℕ))) : Type 0 where
+  pub begun : start ≤ i
+  pub same : map (λ t. t.now) ts ++ words (drop start line) ≡ words line
+  pub plain : ArePlain (map (λ t. t.now) ts)
+  pub whole : (k : ℕ) → start ≤ k → k < i → is_blank (get_or line k 0) ≡ false
+  pub low : (k : ℕ) → k < i → get_or line k 0 ≤ 126
+
+module _ {line : List ℕ} {start i : ℕ} {ts : List (Bor (List ℕ))} (split : IsSplit line start i ts) where
+  low_more : get_or line i 0 ≤ 126 → (k : ℕ) → k < i + 1 → get_or line k 0 ≤ 126
+  low_more = below_more (λ k. get_or line k 0 ≤ 126) i split.low
+
+  -- the octets of the word, all or some
+  pub plain_part : (n : ℕ) → start ≤ n → n ≤ i → n ≤ length line → IsPlain (part line start n)
+  plain_part n le up within = part_all line start (λ octet. octet ≤ 126) n le within (λ k begun lt. split.low k (omega arith))
+
+  -- at i stands an octet of a word, or a blank where none has begun, or one where a word ends
+  pub split_more : is_blank (get_or line i 0) ≡ false → get_or line i 0 ≤ 126 → IsSplit line start (i + 1) ts
+  split_more of_word low = record {
+    begun = omega arith;
+    same = split.same;
+    plain = split.plain;
+    whole = λ k le lt. elim (cases_eq k i) [ inl e ↦ ap (λ q. is_blank (get_or line q 0)) e ∙ of_word | inr other ↦ split.whole k le (omega arith) ];
+    low = low_more low;
+  }
+
+  pub split_blank : i ≤ start → i < length line → is_blank (get_or line i 0) ≡ true → get_or line i 0 ≤ 126 → IsSplit line (i + 1) (i + 1) ts
+  split_blank none lt blank low =
+      let here : i ≡ start = omega (arith, split.begun) in
+      record {
+        begun = omega arith;
+        same = ap (λ ws. map (λ t. t.now) ts ++ ws) (blank_passed line i lt blank ∙ ap (λ q. words (drop q line)) here) ∙ split.same;
+        plain = split.plain;
+        whole = λ k le below. absurd (omega arith);
+        low = low_more low;
+      }
+
+  pub split_ends : (t : Bor (List ℕ)) → t.now ≡ part line start i → start < i → i < length line → is_blank (get_or line i 0) ≡ true
+      → get_or line i 0 ≤ 126 → IsSplit line (i + 1) (i + 1) (ts ++ t ∷ [])
+  split_ends t is more lt blank low = record {
+    begun = omega arith;
+    same = ap (λ ws. ws ++ words (drop (i + 1) line)) (pushed ts t (part line start i) is)
+        ∙ word_ends line start (map (λ x. x.now) ts) i more lt split.same split.whole blank;
+    plain = pushed_plain ts t (part line start i) is split.plain (plain_part i split.begun (omega arith) (omega arith));
+    whole = λ k le below. absurd (omega arith);
+    low = low_more low;
+  }
+
+  -- the line has ended, in a word or after one
+  pub split_last : (t : Bor (List ℕ)) → t.now ≡ part line start (length line) → start < length line → length line ≤ i
+      → (map (λ x. x.now) (ts ++ t ∷ []) ≡ words line) × ArePlain (words line)
+  split_last t is lt past =
+      let same = pushed ts t (drop start line) (is ∙ take_rest line start)
+      ∙ word_last line start (map (λ x. x.now) ts) lt split.same (λ k le below. split.whole k le (omega arith)) in (
+        same,
+        subst ArePlain same
+            (pushed_plain ts t (part line start (length line)) is split.plain (plain_part (length line) (omega arith) past (omega arith))),
+      )
+
+  pub split_end : length line ≤ start → (map (λ t. t.now) ts ≡ words line) × ArePlain (words line)
+  split_end past = let same = word_none line start (map (λ t. t.now) ts) past split.same in (same, subst ArePlain same split.plain)
 
 begins : (x : ℕ) (parts : List (List ℕ)) → (w : List ℕ) × (ws : List (List ℕ)) × (filter some (onto_first x parts) ≡ (x ∷ w) ∷ ws)
 begins x [] = ([], [], cond-true (some (x ∷ [])) ((x ∷ []) ∷ []) [] (lt-ltb 0 (length (x ∷ [])) (omega arith)))

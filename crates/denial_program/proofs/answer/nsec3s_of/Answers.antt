@@ -1,6 +1,8 @@
 use Rattle.std.proofs.Common.{List, refl, rules, subst}
 use Rattle.domain_zone.specs.View.{zone_of}
+use Rattle.domain_zone.specs.Zone.{ZoneRecord}
 use Rattle.domain_nsec3.specs.Chain.{IsChainParam, IsHashedChain}
+use Rattle.domain_nsec3.specs.Config.{ChainConfig}
 use Rattle.domain_nsec3.specs.Faults.{IsFirstFault, IsReady}
 use Rattle.domain_nsec3.specs.View.{config_of}
 use Rattle.domain_nsec3.specs.declared.config.Nsec3ParamTtlMode.TheVariants.{Soa}
@@ -8,52 +10,58 @@ use Rattle.domain_dnssec.specs.declared.chain.ChainError.TheVariants.{OutOfMemor
 use Rattle.domain_borrowed.specs.Data.{minimum_of, RawRecord}
 use Rattle.denial_program.specs.Answer.{usual_nsec3_config}
 use Rattle.denial_program.proofs.AnswerLemmas.{usual_is}
+use Rattle.denial_program.proofs.answer.nsec3s_of.Given.{Over}
+use Rattle.denial_program.proofs.answer.nsec3s_of.Goals.{After-new_from_owned, In-Err-OutOfMemory}
 use Rattle.denial_program.proofs.answer.nsec3s_of.Goals as goal
+
+-- what holds of the zone and the configuration that were handed on holds of the sorted records and the usual configuration
+usual : (g : Over) (c : After-new_from_owned g) (P : List ZoneRecord → ChainConfig → Type 0)
+    → P (zone_of (λ n. n) (λ d. d.rtype) minimum_of c.new_from_owned.result) (config_of (g.H.Nsec3Hasher.answer c.args.hasher.now) c.new-config.result)
+    → P (zone_of (λ n. n) (λ d. d.rtype) minimum_of c.args.sorted.now)
+    (usual_nsec3_config (g.H.Nsec3Hasher.answer c.args.hasher.now) c.args.parameters)
+usual g c P h =
+    let answers = g.H.Nsec3Hasher.answer c.args.hasher.now in
+    let made = c.new-config.ensures in
+    subst (λ (xs : List RawRecord). P (zone_of (λ n. n) (λ d. d.rtype) minimum_of xs) (usual_nsec3_config answers c.args.parameters))
+    c.new_from_owned.ensures
+    (subst (P (zone_of (λ n. n) (λ d. d.rtype) minimum_of c.new_from_owned.result))
+    (usual_is answers c.new-config.result c.args.parameters made.params made.dnskeys made.excludes made.dnames) h)
+
+-- where there was no memory that zone has no fault but for hashing
+ready : (g : Over) (c : In-Err-OutOfMemory g) → IsReady (zone_of (λ n. n) (λ d. d.rtype) minimum_of c.new_from_owned.result) c.args.apex.now
+    (config_of (g.H.Nsec3Hasher.answer c.args.hasher.now) c.new-config.result)
+ready g c =
+    subst (IsFirstFault (zone_of (λ n. n) (λ d. d.rtype) minimum_of c.new_from_owned.result) c.args.apex.now
+    (config_of (g.H.Nsec3Hasher.answer c.args.hasher.now) c.new-config.result)) c.in-Err-OutOfMemory.field-0-is c.in-Err-OutOfMemory.ensures.fault
 
 pub returns-in-Ok-clause-ok : goal.returns-in-Ok-clause-ok
 returns-in-Ok-clause-ok g c = λ given sorts.
-    let answers = g.H.Nsec3Hasher.answer c.args.hasher.now in
-    let links = c.in-Ok.made.links in
-    let param = c.in-Ok.made.param in
-    let apex = c.args.apex.now in
-    let config = usual_nsec3_config answers c.args.parameters in
-    let same = usual_is answers c.new-config.result c.args.parameters c.new-config.ensures.params c.new-config.ensures.dnskeys
-    c.new-config.ensures.excludes c.new-config.ensures.dnames in
+    let made = c.in-Ok.made in
+    let at = (goal.at.returns-in-Ok-clause-ok g c).After-new_from_owned in
     record {
-      made = c.in-Ok.made;
+      made = made;
       is = refl;
       chain = record {
         sorted = c.args.sorted.now;
         sorts = sorts;
         chain = record {
           one_class = c.requires.one_class;
-          chain = subst (λ (xs : List RawRecord). IsHashedChain (zone_of (λ n. n) (λ d. d.rtype) minimum_of xs) apex config links) c.new_from_owned.ensures
-              (subst (λ k. IsHashedChain (zone_of (λ n. n) (λ d. d.rtype) minimum_of c.new_from_owned.result) apex k links) same c.in-Ok.ensures.chain);
-          told = subst (λ (xs : List RawRecord). IsChainParam (zone_of (λ n. n) (λ d. d.rtype) minimum_of xs) apex config Soa param) c.new_from_owned.ensures
-              (subst (λ mode. IsChainParam (zone_of (λ n. n) (λ d. d.rtype) minimum_of c.new_from_owned.result) apex config mode param)
-              c.new-config.ensures.mode
-              (subst (λ k. IsChainParam (zone_of (λ n. n) (λ d. d.rtype) minimum_of c.new_from_owned.result) apex k
-              c.new-config.result.nsec3param_ttl_mode param) same c.in-Ok.ensures.param));
+          chain = usual g at (λ zone config. IsHashedChain zone c.args.apex.now config made.links) c.in-Ok.ensures.chain;
+          told = subst (λ mode. IsChainParam (zone_of (λ n. n) (λ d. d.rtype) minimum_of c.args.sorted.now) c.args.apex.now
+              (usual_nsec3_config (g.H.Nsec3Hasher.answer c.args.hasher.now) c.args.parameters) mode made.param) c.new-config.ensures.mode
+              (usual g at (λ zone config. IsChainParam zone c.args.apex.now config c.new-config.result.nsec3param_ttl_mode made.param)
+              c.in-Ok.ensures.param);
         };
       };
     }
 
 pub returns-in-Ok-clause-ready : goal.returns-in-Ok-clause-ready
 returns-in-Ok-clause-ready g c =
-    let answers = g.H.Nsec3Hasher.answer c.args.hasher.now in
-    let same = usual_is answers c.new-config.result c.args.parameters c.new-config.ensures.params c.new-config.ensures.dnskeys
-    c.new-config.ensures.excludes c.new-config.ensures.dnames in
-    subst (λ (xs : List RawRecord). IsReady (zone_of (λ n. n) (λ d. d.rtype) minimum_of xs) c.args.apex.now (usual_nsec3_config answers c.args.parameters))
-    c.new_from_owned.ensures
-    (subst (λ k. IsReady (zone_of (λ n. n) (λ d. d.rtype) minimum_of c.new_from_owned.result) c.args.apex.now k) same c.in-Ok.ensures.faultless.ready)
+    usual g (goal.at.returns-in-Ok-clause-ready g c).After-new_from_owned (λ zone config. IsReady zone c.args.apex.now config)
+    c.in-Ok.ensures.faultless.ready
 
 pub returns : goal.returns
 returns g c =
-    let answers = g.H.Nsec3Hasher.answer c.args.hasher.now in
-    let apex = c.args.apex.now in
-    let config = usual_nsec3_config answers c.args.parameters in
-    let same = usual_is answers c.new-config.result c.args.parameters c.new-config.ensures.params c.new-config.ensures.dnskeys
-    c.new-config.ensures.excludes c.new-config.ensures.dnames in
     record {
       ok = tt;
       ready = tt;
@@ -65,10 +73,8 @@ returns g c =
           sorts = sorts;
           fault = record {
             one_class = c.requires.one_class;
-            fault = subst (λ (xs : List RawRecord). IsFirstFault (zone_of (λ n. n) (λ d. d.rtype) minimum_of xs) apex config c.in-Err.error)
-                c.new_from_owned.ensures
-                (subst (λ k. IsFirstFault (zone_of (λ n. n) (λ d. d.rtype) minimum_of c.new_from_owned.result) apex k c.in-Err.error)
-                same c.in-Err.ensures.fault);
+            fault = usual g (goal.at.returns g c).After-new_from_owned (λ zone config. IsFirstFault zone c.args.apex.now config c.in-Err.error)
+                c.in-Err.ensures.fault;
             told = search rules;
           };
         };
@@ -78,16 +84,8 @@ returns g c =
 
 pub returns-in-Err-OutOfMemory-clause-err : goal.returns-in-Err-OutOfMemory-clause-err
 returns-in-Err-OutOfMemory-clause-err g c = λ given sorts.
-    let answers = g.H.Nsec3Hasher.answer c.args.hasher.now in
-    let apex = c.args.apex.now in
-    let same = usual_is answers c.new-config.result c.args.parameters c.new-config.ensures.params c.new-config.ensures.dnskeys
-    c.new-config.ensures.excludes c.new-config.ensures.dnames in
-    let zone = zone_of (λ n. n) (λ d. d.rtype) minimum_of c.new_from_owned.result in
-    let first = subst (λ e. IsFirstFault zone apex (config_of answers c.new-config.result) e) c.in-Err-OutOfMemory.field-0-is
-    c.in-Err-OutOfMemory.ensures.fault in
-    let ready = subst (λ (xs : List RawRecord). IsReady (zone_of (λ n. n) (λ d. d.rtype) minimum_of xs) apex (usual_nsec3_config answers c.args.parameters))
-    c.new_from_owned.ensures
-    (subst (λ k. IsReady zone apex k) same first) in
+    let at = goal.at.returns-in-Err-OutOfMemory-clause-err g c in
+    let ready = usual g at.After-new_from_owned (λ zone config. IsReady zone c.args.apex.now config) (ready g at.In-Err-OutOfMemory) in
     record {
       error = OutOfMemory;
       is = refl;
@@ -96,13 +94,5 @@ returns-in-Err-OutOfMemory-clause-err g c = λ given sorts.
 
 pub returns-in-Err-OutOfMemory-clause-memory : goal.returns-in-Err-OutOfMemory-clause-memory
 returns-in-Err-OutOfMemory-clause-memory g c = λ is.
-    let answers = g.H.Nsec3Hasher.answer c.args.hasher.now in
-    let apex = c.args.apex.now in
-    let same = usual_is answers c.new-config.result c.args.parameters c.new-config.ensures.params c.new-config.ensures.dnskeys
-    c.new-config.ensures.excludes c.new-config.ensures.dnames in
-    let zone = zone_of (λ n. n) (λ d. d.rtype) minimum_of c.new_from_owned.result in
-    let first = subst (λ e. IsFirstFault zone apex (config_of answers c.new-config.result) e) c.in-Err-OutOfMemory.field-0-is
-    c.in-Err-OutOfMemory.ensures.fault in
-    subst (λ (xs : List RawRecord). IsReady (zone_of (λ n. n) (λ d. d.rtype) minimum_of xs) apex (usual_nsec3_config answers c.args.parameters))
-    c.new_from_owned.ensures
-    (subst (λ k. IsReady zone apex k) same first)
+    let at = goal.at.returns-in-Err-OutOfMemory-clause-memory g c in
+    usual g at.After-new_from_owned (λ zone config. IsReady zone c.args.apex.now config) (ready g at.In-Err-OutOfMemory)
