@@ -12,7 +12,7 @@ use Rattle.std.proofs.lemmas.List.Concat.{flat_map-append}
 use Rattle.std.proofs.lemmas.List.Elements.{filter-append}
 use Rattle.std.proofs.lemmas.List.Folds.{list_any-append}
 use Rattle.domain_alike.specs.Covered.{covered_names}
-use Rattle.domain_alike.proofs.KeptLemmas.{names_stay, stays}
+use Rattle.domain_alike.proofs.KeptLemmas.{is_unsigned, names_stay, stays, stays_by}
 use Rattle.domain_base.specs.Name.{same_name}
 use Rattle.domain_base.specs.Words.{Name}
 use Rattle.domain_dnssec.proofs.AmongLemmas.{any_two, contains_in, in_contains, in_filter, in_filtered, in_map, map_in}
@@ -136,52 +136,61 @@ pub record IsWalked (excludes d : Bool) (L : List ZoneRecord) (a : Name) (left :
   pub all : given ++ left ≡ owners_with_records d L a
   pub even : has_unequal_ttls L (map name_of (filter (stays excludes) given)) ≡ false
 
-module _ (excludes d : Bool) (L : List ZoneRecord) (a : Name) where
-  module _ (o : OwnerRecords) (left : List OwnerRecords) (s : IsWalked excludes d L a (o ∷ left)) where
+module _ {excludes d : Bool} {L : List ZoneRecord} {a : Name} where
+  -- where an owner is next
+  module _ {ahead left : List OwnerRecords} {o : OwnerRecords} (s : IsWalked excludes d L a ahead) (next : ahead ≡ o ∷ left) where
+    all : s.given ++ o ∷ left ≡ owners_with_records d L a
+    all = ap (λ os. s.given ++ os) (sym next) ∙ s.all
+
     pub walked_known : o ≡ owner_at L a o.name
-    walked_known = next_is_owner d L a s.given o left s.all
-
-    one_more : (b : Bool) → stays excludes o ≡ b → filter (stays excludes) (s.given ++ o ∷ [])
-        ≡ filter (stays excludes) s.given ++ cond b (o ∷ []) []
-    one_more b e = filter-append (stays excludes) s.given (o ∷ []) ∙ (λ i. filter (stays excludes) s.given ++ cond (e i) (o ∷ []) [])
-
-    pub walked_past : stays excludes o ≡ false → IsWalked excludes d L a left
-    walked_past out = record {
-      given = s.given ++ o ∷ [];
-      all = append_assoc s.given (o ∷ []) left ∙ s.all;
-      even = ap (λ l. has_unequal_ttls L (map name_of l)) (one_more false out ∙ append-nil (filter (stays excludes) s.given)) ∙ s.even;
-    }
-
-    pub walked_even : stays excludes o ≡ true → has_clash o.records ≡ false → IsWalked excludes d L a left
-    walked_even kept even =
-        let is : has_clash (records_of L o.name) ≡ false = ap (λ p. has_clash p.records) (sym walked_known) ∙ even in
-        record {
-          given = s.given ++ o ∷ [];
-          all = append_assoc s.given (o ∷ []) left ∙ s.all;
-          even = ap (λ l. has_unequal_ttls L (map name_of l)) (one_more true kept)
-              ∙ ap (has_unequal_ttls L) (map-append name_of (filter (stays excludes) s.given) (o ∷ []))
-              ∙ list_any-append (λ n. has_clash (records_of L n)) (map name_of (filter (stays excludes) s.given)) (o.name ∷ [])
-              ∙ (λ i. s.even i || (is i || false));
-        }
-
-    pub walked_first : stays excludes o ≡ true → IsFirstUneven L (covered_names excludes d L a) o.name
-    walked_first kept = record {
-      passed = map name_of (filter (stays excludes) s.given);
-      rest = map name_of (filter (stays excludes) left);
-      among = sym (names_stay excludes L a (unoccluded_owners d L a)) ∙ ap (λ l. map name_of (filter (stays excludes) l)) (sym s.all)
-          ∙ ap (map name_of) (filter-append (stays excludes) s.given (o ∷ left)
-          ∙ (λ i. filter (stays excludes) s.given ++ cond (kept i) (o ∷ filter (stays excludes) left) (filter (stays excludes) left)))
-          ∙ map-append name_of (filter (stays excludes) s.given) (o ∷ filter (stays excludes) left);
-      even = s.even;
-    }
+    walked_known = next_is_owner d L a s.given o left all
 
     pub walked_clash : (t : ℕ) → IsFirstClash o.records t → IsFirstClash (records_of L o.name) t
     walked_clash t h = subst (λ p. IsFirstClash p.records t) walked_known h
 
-  pub walked_all : IsWalked excludes d L a [] → has_unequal_ttls L (covered_names excludes d L a) ≡ false
-  walked_all s =
+    -- and it was asked whether it is an unsigned delegation
+    module _ {cut : Bool} (is : cut ≡ is_unsigned o) where
+      one_more : (b : Bool) → stays excludes o ≡ b → filter (stays excludes) (s.given ++ o ∷ [])
+          ≡ filter (stays excludes) s.given ++ cond b (o ∷ []) []
+      one_more b e = filter-append (stays excludes) s.given (o ∷ []) ∙ (λ i. filter (stays excludes) s.given ++ cond (e i) (o ∷ []) [])
+
+      pub walked_past : (excludes && cut) ≡ true → IsWalked excludes d L a left
+      walked_past out = record {
+        given = s.given ++ o ∷ [];
+        all = append_assoc s.given (o ∷ []) left ∙ all;
+        even = ap (λ l. has_unequal_ttls L (map name_of l))
+            (one_more false (stays_by excludes o is out) ∙ append-nil (filter (stays excludes) s.given)) ∙ s.even;
+      }
+
+      pub walked_even : (excludes && cut) ≡ false → has_clash o.records ≡ false → IsWalked excludes d L a left
+      walked_even kept even =
+          let none : has_clash (records_of L o.name) ≡ false = ap (λ p. has_clash p.records) (sym walked_known) ∙ even in
+          record {
+            given = s.given ++ o ∷ [];
+            all = append_assoc s.given (o ∷ []) left ∙ all;
+            even = ap (λ l. has_unequal_ttls L (map name_of l)) (one_more true (stays_by excludes o is kept))
+                ∙ ap (has_unequal_ttls L) (map-append name_of (filter (stays excludes) s.given) (o ∷ []))
+                ∙ list_any-append (λ n. has_clash (records_of L n)) (map name_of (filter (stays excludes) s.given)) (o.name ∷ [])
+                ∙ (λ i. s.even i || (none i || false));
+          }
+
+      pub walked_first : (excludes && cut) ≡ false → IsFirstUneven L (covered_names excludes d L a) o.name
+      walked_first kept =
+          let stay = stays_by excludes o is kept in
+          record {
+            passed = map name_of (filter (stays excludes) s.given);
+            rest = map name_of (filter (stays excludes) left);
+            among = sym (names_stay excludes L a (unoccluded_owners d L a)) ∙ ap (λ l. map name_of (filter (stays excludes) l)) (sym all)
+                ∙ ap (map name_of) (filter-append (stays excludes) s.given (o ∷ left)
+                ∙ (λ i. filter (stays excludes) s.given ++ cond (stay i) (o ∷ filter (stays excludes) left) (filter (stays excludes) left)))
+                ∙ map-append name_of (filter (stays excludes) s.given) (o ∷ filter (stays excludes) left);
+            even = s.even;
+          }
+
+  pub walked_all : {left : List OwnerRecords} → IsWalked excludes d L a left → left ≡ [] → has_unequal_ttls L (covered_names excludes d L a) ≡ false
+  walked_all s none =
       ap (has_unequal_ttls L) (sym (names_stay excludes L a (unoccluded_owners d L a))
-      ∙ ap (λ l. map name_of (filter (stays excludes) l)) (sym s.all ∙ append-nil s.given)) ∙ s.even
+      ∙ ap (λ l. map name_of (filter (stays excludes) l)) (sym s.all ∙ ap (λ os. s.given ++ os) none ∙ append-nil s.given)) ∙ s.even
 
 -- none is left out of an NSEC chain
 pub none_left_out : (d : Bool) (L : List ZoneRecord) (a : Name) → covered_names false d L a ≡ unoccluded_owners d L a
