@@ -75,7 +75,8 @@ module _ {excludes d : Bool} {L : List ZoneRecord} {a : Name} where
       are = pushed ∙ ap (λ ks. ks ++ o.name ∷ []) h.are ∙ sym (one_more true (stays_by excludes o is kept));
     }
 
-  pub kept_all : {left : List OwnerRecords} {names : List Name} → AreKept excludes d L a left names → left ≡ [] → names ≡ covered_names excludes d L a
+  pub kept_all : {left : List OwnerRecords} {names : List Name} → AreKept excludes d L a left names → left ≡ []
+      → names ≡ covered_names excludes d L a
   kept_all h none =
       h.are ∙ ap (λ os. map name_of (filter (stays excludes) os)) (sym (append-nil h.given) ∙ ap (λ os. h.given ++ os) (sym none) ∙ h.all)
       ∙ names_stay excludes L a (unoccluded_owners d L a)

@@ -15,7 +15,8 @@ use Rattle.denial_program.proofs.answer.nsec3s_of.Goals as goal
 
 -- what holds of the zone and the configuration that were handed on holds of the sorted records and the usual configuration
 usual : (g : Over) (c : After-new_from_owned g) (P : List ZoneRecord → ChainConfig → Type 0)
-    → P (zone_of (λ n. n) (λ d. d.rtype) minimum_of c.new_from_owned.result) (config_of (g.H.Nsec3Hasher.answer c.args.hasher.now) c.new-config.result)
+    → P (zone_of (λ n. n) (λ d. d.rtype) minimum_of c.new_from_owned.result)
+    (config_of (g.H.Nsec3Hasher.answer c.args.hasher.now) c.new-config.result)
     → P (zone_of (λ n. n) (λ d. d.rtype) minimum_of c.args.sorted.now)
     (usual_nsec3_config (g.H.Nsec3Hasher.answer c.args.hasher.now) c.args.parameters)
 usual g c P h =
