@@ -111,12 +111,14 @@ Deserves Parameters a first r =
 
 -- it deserves it for none of the reasons that are found in a look
 abbrev pub FindsNothing : Look → Name → Option RawRecord → RawRecord → Type 0
-FindsNothing look.Soas a first r = ¬ (Deserves SecondSoa a first r) × ¬ (Deserves StraySoa a first r)
+FindsNothing look.Soas a first r =
+    ¬ (Deserves SecondSoa a first r) × ¬ (Deserves StraySoa a first r)
 FindsNothing look.Classes a first r = ¬ (Deserves OtherClass a first r)
 FindsNothing look.Ttls a first r = ¬ (Deserves OtherTtl a first r)
 FindsNothing look.Outside a first r = ¬ (Deserves Outside a first r)
 FindsNothing look.Aliases a first r = ¬ (Deserves BesideAlias a first r)
-FindsNothing look.Data a first r = ¬ (Deserves OddData a first r) × ¬ (Deserves Parameters a first r)
+FindsNothing look.Data a first r =
+    ¬ (Deserves OddData a first r) × ¬ (Deserves Parameters a first r)
 
 -- what a look finds at a record of the line of this number: one reason for which it deserves to be
 -- told, or nothing
@@ -161,8 +163,8 @@ pub record AreNoted (is_whole : Bool) (a : Name) (records : List RawRecord) (num
       ++ aliases) ++ odd)
 
 -- a mark of a look that is told of a record which deserves it: of the line where the record stands
-pub record IsDeserved (l : Look) (a : Name) (records : List RawRecord) (numbers : List ℕ) (mark : Mark)
-    : Type 0 where
+pub record IsDeserved (l : Look) (a : Name) (records : List RawRecord) (numbers : List ℕ)
+    (mark : Mark) : Type 0 where
   pub before : List RawRecord
   pub borrowed : RawRecord
   pub after : List RawRecord

@@ -29,7 +29,8 @@ pub fn what_is_noted_is_deserved()
         → AllByRecursion (IsDeserved l a records numbers) marks }
     ensures stands { (l : Look) (a : Name) (records : List RawRecord) (numbers : List ℕ)
         (marks : List Mark) → Found l a records numbers marks
-        → (before after : List RawRecord) (borrowed : RawRecord) → records ≡ before ++ borrowed ∷ after
+        → (before after : List RawRecord) (borrowed : RawRecord)
+        → records ≡ before ++ borrowed ∷ after
         → (left right : List ℕ) (n : ℕ) → numbers ≡ left ++ n ∷ right
         → length left ≡ length before → (reason : Reason) → look_of reason ≡ l
         → Deserves reason a (earlier l a before borrowed) borrowed → HasMark marks n }
