@@ -3,7 +3,7 @@ use Rattle.std.proofs.Common.{◌≡◌, ◌≢◌, ℕ, ◌<◌, ◌≤◌, fal
 use Rattle.domain_alike.specs.Covered.{covered_names}
 use Rattle.domain_base.specs.Words.{Name}
 use Rattle.domain_dnssec.proofs.KeptLemmas.{classes_kept}
-use Rattle.domain_borrowed.specs.Data.{data_cmp, minimum_of, RawRecord}
+use Rattle.domain_borrowed.specs.Data.{data_cmp, minimum_of, RawRecord, zone_of_raw}
 use Rattle.domain_nsec.specs.Chain.{Link, IsChain, IsFirstFault}
 use Rattle.domain_nsec3.specs.Chain.{ChainRecords, IsChainParam, IsHashedChain}
 use Rattle.domain_nsec3.specs.Config.{excludes, ChainConfig}
@@ -14,22 +14,14 @@ use Rattle.domain_records.specs.declared.error.SigningError.{SigningError}
 use Rattle.domain_records.specs.declared.error.SigningError.TheVariants as signing_error
 use Rattle.domain_nsec.specs.declared.config.GenerateNsecConfig.{GenerateNsecConfig}
 use Rattle.domain_records.specs.Order.{IsOneClass}
-use Rattle.domain_zone.specs.View.{zone_of}
 use Rattle.domain_zone.specs.Zone.{ZoneRecord}
-use Rattle.denial_c.specs.Chains.{nsec_asking, nsec3_asking, AreZone}
+use Rattle.denial_c.specs.Chains.{nsec_asking, nsec3_asking, AreZone, Asking, HasHashedZoneFault, HasUnevenAt, HasZoneFault, IsChainFault, IsChainResult}
+use Rattle.denial_c.specs.Chains.{IsNsecChain, IsNsec3Chain, IsSortedNsecFault, IsSortedNsec3Fault, IsSortedUnevenAt, IsWritten, Sorts}
 use Rattle.domain_dnssec.specs.Wire.{nsecs_octets, nsec3s_octets}
-use Rattle.denial_c.specs.Chains.{Asking, HasHashedZoneFault, HasUnevenAt, HasZoneFault, IsChainFault}
-use Rattle.denial_c.specs.Chains.{IsChainResult, IsNsecChain, IsNsec3Chain, IsSortedNsecFault}
-use Rattle.denial_c.specs.Chains.{IsSortedNsec3Fault, IsSortedUnevenAt, IsWritten, Sorts}
 use Rattle.denial_c.specs.Given.{AreGiven}
 use Rattle.denial_c.specs.Result.{Spells}
 use Rattle.denial_c.specs.declared.chain_fault.ChainFault.{ChainFault}
-use Rattle.denial_c.specs.declared.chain_fault.ChainFault.TheVariants.{Apex, Records}
-use Rattle.denial_c.specs.declared.chain_fault.ChainFault.TheVariants.{Class, Soa}
-use Rattle.denial_c.specs.declared.chain_fault.ChainFault.TheVariants.{Ttls, LongSalt}
-use Rattle.denial_c.specs.declared.chain_fault.ChainFault.TheVariants.{LongOwner}
-use Rattle.denial_c.specs.declared.chain_fault.ChainFault.TheVariants.{Collision}
-use Rattle.denial_c.specs.declared.chain_fault.ChainFault.TheVariants.{ShortBuffer}
+use Rattle.denial_c.specs.declared.chain_fault.ChainFault.TheVariants.{Apex, Records, Class, Soa, Ttls, LongSalt, LongOwner, Collision, ShortBuffer}
 use Rattle.denial_c.specs.declared.chain_fault.ChainFault.TheVariants.{OutOfMemory}
 
 pub sorted_one_class : (given sorted : List RawRecord) → Sorts given sorted → IsOneClass given → IsOneClass sorted
@@ -65,7 +57,7 @@ uneven_from names apex class number records a sorted n s same h = record {
 
 module _ (apex : List ℕ) (class : ℕ) (config : GenerateNsecConfig) (records : List ℕ) where
   zone_fault : (a : Name) (sorted : List RawRecord) → IsSorted apex class records a sorted → (e : SigningError)
-      → IsFirstFault (zone_of (λ n. n) (λ d. d.rtype) minimum_of sorted) a config e → e ≢ signing_error.OutOfMemory → HasZoneFault apex class config records e
+      → IsFirstFault (zone_of_raw sorted) a config e → e ≢ signing_error.OutOfMemory → HasZoneFault apex class config records e
   zone_fault a sorted s e h told = record {
     a = a;
     given = s.given;
@@ -91,7 +83,7 @@ module _ (apex : List ℕ) (class : ℕ) (config : GenerateNsecConfig) (records 
   nsec_fault a sorted buffer s number same OutOfMemory h = (tt, (a, (s.given, s.zone)))
 
   pub nsec_made : (a : Name) (sorted : List RawRecord) (written : List ℕ) (links : List Link) → IsSorted apex class records a sorted
-      → IsChain (zone_of (λ n. n) (λ d. d.rtype) minimum_of sorted) a config links → written ≡ nsecs_octets links
+      → IsChain (zone_of_raw sorted) a config links → written ≡ nsecs_octets links
       → IsNsecChain apex class config records written
   nsec_made a sorted written links s chain is = record {
     a = a;
@@ -104,7 +96,7 @@ module _ (apex : List ℕ) (class : ℕ) (config : GenerateNsecConfig) (records 
 
 module _ (apex : List ℕ) (class : ℕ) (config : ChainConfig) (records : List ℕ) (short : length config.parameters.salt ≤ 255) where
   hashed_zone_fault : (a : Name) (sorted : List RawRecord) → IsSorted apex class records a sorted → (e : SigningError)
-      → IsFirstHashedFault (zone_of (λ n. n) (λ d. d.rtype) minimum_of sorted) a config e → e ≢ signing_error.OutOfMemory
+      → IsFirstHashedFault (zone_of_raw sorted) a config e → e ≢ signing_error.OutOfMemory
       → HasHashedZoneFault apex class config records e
   hashed_zone_fault a sorted s e h told = record {
     a = a;
@@ -134,8 +126,8 @@ module _ (apex : List ℕ) (class : ℕ) (config : ChainConfig) (records : List 
   nsec3_fault a sorted buffer s number same OutOfMemory h = (short, (a, (s.given, s.zone)))
 
   pub nsec3_made : (a : Name) (sorted : List RawRecord) (written : List ℕ) (made : ChainRecords) → IsSorted apex class records a sorted
-      → IsHashedChain (zone_of (λ n. n) (λ d. d.rtype) minimum_of sorted) a config made.links
-      → IsChainParam (zone_of (λ n. n) (λ d. d.rtype) minimum_of sorted) a config TtlOfSoa made.param → written ≡ nsec3s_octets made
+      → IsHashedChain (zone_of_raw sorted) a config made.links
+      → IsChainParam (zone_of_raw sorted) a config TtlOfSoa made.param → written ≡ nsec3s_octets made
       → IsNsec3Chain apex class config records written
   nsec3_made a sorted written made s chain param is = record {
     a = a;

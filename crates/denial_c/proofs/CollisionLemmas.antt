@@ -2,14 +2,13 @@
 use Rattle.std.proofs.Common.{ℕ, List, Option}
 use Rattle.domain_alike.specs.Alike.{IsFirstPair, Pair}
 use Rattle.domain_base.specs.Words.{Name}
-use Rattle.domain_borrowed.specs.Data.{minimum_of, RawRecord}
+use Rattle.domain_borrowed.specs.Data.{RawRecord, zone_of_raw}
 use Rattle.domain_nsec3.specs.Config.{ChainConfig}
-use Rattle.domain_zone.specs.View.{zone_of}
 use Rattle.denial_c.specs.Collisions.{HasFirstPair}
 use Rattle.denial_c.proofs.ChainLemmas.{IsSorted}
 
 module _ (apex : List ℕ) (class : ℕ) (config : ChainConfig) (records : List ℕ) (a : Name) (sorted : List RawRecord)
     (s : IsSorted apex class records a sorted) where
-  pub first_pair_of : (pair : Option Pair) → IsFirstPair (zone_of (λ n. n) (λ d. d.rtype) minimum_of sorted) a config pair
+  pub first_pair_of : (pair : Option Pair) → IsFirstPair (zone_of_raw sorted) a config pair
       → HasFirstPair apex class config records pair
   first_pair_of pair first = record { a = a; given = s.given; sorted = sorted; zone = s.zone; sorts = s.sorts; first = first }

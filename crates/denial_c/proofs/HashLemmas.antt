@@ -1,27 +1,19 @@
 -- Hashes by SHA-1: no name is refused, and each hash has 20 octets.
-use Rattle.std.proofs.Common.{◌≡◌, ℕ, zero, suc, ◌*◌, Bool, true, false, List}
-use Rattle.std.proofs.Common.{◌++◌, length, refl, sym, ap, ◌∙◌, arith, length-append}
-use Rattle.std.proofs.Common.{Some, None, Ok, Err}
+use Rattle.std.proofs.Common.{◌≡◌, ℕ, zero, suc, ◌*◌, Bool, true, false, List, ◌++◌, length, refl, sym, ap, ◌∙◌, arith, length-append, Some, None, Ok, Err}
 use Rattle.std.specs.Prelude.{◌==◌, ◌||◌, nat_lt, slice_index, if◌then◌else◌}
 use Rattle.std.specs.Int.{w32, to_be_bytes}
 use Rattle.sha1.specs.Sha1.{digest_bytes, sha1}
 use Rattle.domain_base.specs.Name.{lowered, wire_of}
 use Rattle.domain_base.specs.Words.{Name}
-use Rattle.domain_borrowed.specs.Data.{minimum_of, RawRecord}
+use Rattle.domain_borrowed.specs.Data.{RawRecord, zone_of_raw}
 use Rattle.domain_nsec3.specs.Chain.{hashed_owner}
 use Rattle.domain_nsec3.specs.Config.{ChainConfig, Parameters, hash_of}
 use Rattle.domain_nsec3.specs.Faults.{hash_fault, IsFirstHashFault, IsFirstFault}
 use Rattle.domain_nsec3.specs.View.{hash_by}
 use Rattle.domain_hasher.specs.declared.error.Nsec3HashError.{Nsec3HashError}
-use Rattle.domain_hasher.specs.declared.error.Nsec3HashError.TheVariants.{Hasher}
-use Rattle.domain_hasher.specs.declared.error.Nsec3HashError.TheVariants.{AppendError}
-use Rattle.domain_hasher.specs.declared.error.Nsec3HashError.TheVariants.{OwnerHashError}
-use Rattle.domain_hasher.specs.declared.error.Nsec3HashError.TheVariants.{Nsec3NameTooLong}
-use Rattle.domain_hasher.specs.declared.error.Nsec3HashError.TheVariants.{CollisionDetected}
-use Rattle.domain_hasher.specs.declared.error.Nsec3HashError.TheVariants.{OutOfMemory}
+use Rattle.domain_hasher.specs.declared.error.Nsec3HashError.TheVariants.{Hasher, AppendError, OwnerHashError, Nsec3NameTooLong, CollisionDetected, OutOfMemory}
 use Rattle.domain_records.specs.declared.error.SigningError.TheVariants as signing_error
 use Rattle.domain_sha1.specs.Iterated.{iterated, sha1_answer}
-use Rattle.domain_zone.specs.View.{zone_of}
 use Rattle.domain_zone.specs.Zone.{ZoneRecord}
 use Rattle.denial_c.specs.Chains.{hashing_fault, IsSortedNsec3Fault}
 
@@ -67,13 +59,13 @@ module _ (L : List ZoneRecord) (a : Name) (config : ChainConfig) (p : Parameters
 -- so a fault of hashing is one of two
 pub hashing_faulty : (class : ℕ) (octets : List ℕ) (sorted : List RawRecord) (a : Name) (config : ChainConfig) (p : Parameters)
     → config.hash ≡ hash_by sha1_answer p → p.algorithm ≡ 1
-    → (e : Nsec3HashError) → IsFirstFault (zone_of (λ n. n) (λ d. d.rtype) minimum_of sorted) a config (signing_error.Nsec3HashingError e)
+    → (e : Nsec3HashError) → IsFirstFault (zone_of_raw sorted) a config (signing_error.Nsec3HashingError e)
     → IsSortedNsec3Fault class octets sorted a config (hashing_fault e)
 hashing_faulty class octets sorted a config p by sha1 (Hasher n) h =
-    let wrong = first_is_long (zone_of (λ n. n) (λ d. d.rtype) minimum_of sorted) a config p by sha1 (Hasher n) h.1 in absurd (cc)
+    let wrong = first_is_long (zone_of_raw sorted) a config p by sha1 (Hasher n) h.1 in absurd (cc)
 hashing_faulty class octets sorted a config p by sha1 AppendError h = absurd h.1
 hashing_faulty class octets sorted a config p by sha1 OwnerHashError h =
-    let wrong = first_is_long (zone_of (λ n. n) (λ d. d.rtype) minimum_of sorted) a config p by sha1 OwnerHashError h.1 in absurd (cc)
+    let wrong = first_is_long (zone_of_raw sorted) a config p by sha1 OwnerHashError h.1 in absurd (cc)
 hashing_faulty class octets sorted a config p by sha1 Nsec3NameTooLong h = h
 hashing_faulty class octets sorted a config p by sha1 CollisionDetected h = h
 hashing_faulty class octets sorted a config p by sha1 OutOfMemory h = absurd h.1

@@ -1,10 +1,12 @@
 -- Faults of NSEC3 records.
-use Rattle.std.proofs.Common.{◌≡◌, ℕ, Bool, true, false, cond, List, [], ◌∷◌, map, refl, ap}
+use Rattle.std.proofs.Common.{◌≡◌, ◌⊎◌, inl, inr, ℕ, Bool, true, false, cond, List, [], ◌∷◌, map, refl, sym, subst, ap}
 use Rattle.std.specs.Prelude.{filter, ◌&&◌}
 use Rattle.std.proofs.lemmas.Bool.{eqb-true}
 use Rattle.domain_base.specs.Words.{Name}
 use Rattle.domain_nsec3.specs.Chain.{HashedLink}
-use Rattle.denial_c.specs.Result.{first_parameters, is_known, source_of, IsNsec3Fault, IsSpelled, Spells}
+use Rattle.domain_hasher.specs.declared.error.Nsec3HashError.{Nsec3HashError}
+use Rattle.domain_hasher.specs.declared.error.Nsec3HashError.TheVariants as hash_error
+use Rattle.denial_c.specs.Result.{fault_of, first_parameters, is_known, source_of, IsNsec3Fault, IsSpelled, Source, Spells}
 use Rattle.denial_c.specs.declared.fault.Fault.{Fault}
 use Rattle.denial_c.specs.declared.nsec3.Telling.{Telling}
 use Rattle.denial_c.specs.declared.nsec3.Telling.TheVariants.{ByRecord, ByFirst}
@@ -25,6 +27,23 @@ chain_fault telling apex name class octets refused a spells spelled Records h = 
 chain_fault telling apex name class octets refused a spells spelled Param h = (spelled, (a, spells, h))
 chain_fault telling apex name class octets refused a spells spelled Hasher h = absurd ((none_else telling a class octets).2 h)
 chain_fault telling apex name class octets refused a spells spelled OutOfMemory h = tt
+
+-- a fault of names and of records stands, whatever else may be refused
+pub asked_fault : (source : Source) (apex name : List ℕ) (refused : Type 0) (e : Fault) → IsNsec3Fault source apex name ⊥ e
+    → IsNsec3Fault source apex name refused e
+asked_fault source apex name refused Apexless h = h
+asked_fault source apex name refused Nameless h = h
+asked_fault source apex name refused Records h = h
+asked_fault source apex name refused Param h = h
+asked_fault source apex name refused Hasher h = absurd h
+asked_fault source apex name refused OutOfMemory h = h
+
+-- an error of a check is want of memory, or of a name that is refused
+pub hash_fault : (source : Source) (apex name : List ℕ) (refused : Type 0) (e : Nsec3HashError) → (e ≡ hash_error.OutOfMemory)
+    ⊎ ((n : ℕ) × (e ≡ hash_error.Hasher n)) → ((n : ℕ) → e ≡ hash_error.Hasher n → refused) → IsNsec3Fault source apex name refused (fault_of e)
+hash_fault source apex name refused e (inl short) told = subst (λ d. IsNsec3Fault source apex name refused (fault_of d)) (sym short) tt
+hash_fault source apex name refused e (inr one) told =
+    subst (λ d. IsNsec3Fault source apex name refused (fault_of d)) (sym one.1) (told one.0 one.1)
 
 -- what is mapped and passes a test, tested before
 pub map_filter : {X Y : Type 0} (f : X → Y) (q : Y → Bool) (xs : List X) → map f (filter (λ x. q (f x)) xs) ≡ filter q (map f xs)

@@ -1,12 +1,10 @@
 -- Records of one owner and type that differ in TTL.
-use Rattle.std.proofs.Common.{◌≡◌, ◌⊎◌, ℕ, ◌-◌, ◌<◌, ◌≤◌, Bool, true, false, cond, not, ◌&&◌, ◌||◌, List, [], ◌∷◌, ◌++◌}
-use Rattle.std.proofs.Common.{map, length, refl, sym, ap, ◌∙◌, subst, inl, inr, arith, nat_eq, append_assoc, append-nil, length-append}
-use Rattle.std.proofs.Common.{Some, None, Option}
+use Rattle.std.proofs.Common.{◌≡◌, ◌⊎◌, ℕ, ◌-◌, ◌<◌, ◌≤◌, Bool, true, false, cond, not, ◌&&◌, ◌||◌, List, [], ◌∷◌, ◌++◌, map, length, refl, sym, ap, ◌∙◌, subst}
+use Rattle.std.proofs.Common.{inl, inr, arith, nat_eq, append_assoc, append-nil, length-append, Some, None, Option}
 use Rattle.std.specs.Prelude.{filter, Contains}
 use Rattle.std.specs.List.{AllByRecursion, flat_map, list_any}
-use Rattle.std.proofs.lemmas.Bool.{and_from, and_parts, and_right, cases_Bool, eq-eqb}
-use Rattle.std.proofs.lemmas.Bool.{eqb-false, eqb-true, false≢true, not-false, not-true}
-use Rattle.std.proofs.lemmas.Bool.{or_left, or_parts, or_right}
+use Rattle.std.proofs.lemmas.Bool.{and_from, and_parts, and_right, cases_Bool, eq-eqb, eqb-false, eqb-true, false≢true, not-false, not-true, or_left, or_parts}
+use Rattle.std.proofs.lemmas.Bool.{or_right}
 use Rattle.std.proofs.lemmas.List.{map-append}
 use Rattle.std.proofs.lemmas.List.Concat.{flat_map-append}
 use Rattle.std.proofs.lemmas.List.Elements.{filter-append}
@@ -16,12 +14,12 @@ use Rattle.domain_alike.proofs.KeptLemmas.{is_unsigned, names_stay, stays, stays
 use Rattle.domain_base.specs.Name.{same_name}
 use Rattle.domain_base.specs.Words.{Name}
 use Rattle.domain_dnssec.proofs.AmongLemmas.{any_two, contains_in, in_contains, in_filter, in_filtered, in_map, map_in}
-use Rattle.domain_borrowed.specs.Data.{minimum_of, RawRecord}
+use Rattle.domain_borrowed.specs.Data.{minimum_of, RawRecord, zone_of_raw}
 use Rattle.domain_borrowed.specs.Wire.{record_octets, IsRecord}
 use Rattle.domain_borrowed.proofs.WireLemmas.{same_record, some_octets}
 use Rattle.domain_nsec3.specs.Owners.{is_unsigned_cut}
 use Rattle.domain_zone.specs.Owners.{OwnerRecords, owner_at, owners_with_records}
-use Rattle.domain_zone.specs.View.{as_zone_record, zone_of}
+use Rattle.domain_zone.specs.View.{as_zone_record}
 use Rattle.domain_zone.specs.Zone.{ZoneRecord, clashes, has_clash, has_unequal_ttls, records_of, unoccluded_owners}
 use Rattle.domain_zone.proofs.GivenLemmas.{name_of, next_is_owner}
 use Rattle.domain_zone.proofs.OwnerLemmas.{in_any}
@@ -113,7 +111,7 @@ between_next records previous r left s e = record {
 
 pub between_clash : (records : List RawRecord) (previous r : RawRecord) (left : List RawRecord) → IsBetween records previous (r ∷ left)
     → NeverDescend (map see records) → clashes (see previous) (see r) ≡ true
-    → IsFirstClash (zone_of (λ n. n) (λ d. d.rtype) minimum_of records) r.«data».rtype
+    → IsFirstClash (zone_of_raw records) r.«data».rtype
 between_clash records previous r left s order e =
     let front = map see (s.passed ++ previous ∷ []) in
     let all : map see records ≡ front ++ see r ∷ map see left =
@@ -203,7 +201,7 @@ none_left_out d L a = all_pass (unoccluded_owners d L a)
 -- ---- the records that were given
 
 abbrev zone : List RawRecord → List ZoneRecord
-zone = zone_of (λ n. n) (λ d. d.rtype) minimum_of
+zone = zone_of_raw
 
 record IsSeen (given : List RawRecord) (n : Name) (t : ℕ) (z : ZoneRecord) : Type 0 where
   raw : RawRecord

@@ -16,6 +16,10 @@ use Rattle.domain_borrowed.specs.Wire.{record_octets, IsRecord}
 abbrev pub is_of : ℕ → ℕ → RawRecord → Bool
 is_of rtype class r = (r.«data».rtype == rtype) && (r.class == class)
 
+-- an NSEC3PARAM record of the apex and the class
+abbrev pub is_param : Name → ℕ → RawRecord → Bool
+is_param a class r = is_of rtypes.nsec3param class r && same_name r.owner a
+
 -- the octets are records, one after another; those that are kept are these, in their order
 pub record AreAmong {K : Type 0} (is_kept : RawRecord → Bool) (raw : K → RawRecord)
     (IsKept : K → Type 0) (octets : Octets) (kept : List K) : Type 0 where
@@ -33,5 +37,4 @@ AreNsec3s class = AreAmong (is_of rtypes.nsec3 class) nsec3_record IsNsec3
 
 -- those of the apex alone
 abbrev pub AreParams : Name → ℕ → Octets → List ParamRecord → Type 0
-AreParams a class =
-    AreAmong (λ r. is_of rtypes.nsec3param class r && same_name r.owner a) param_record IsParam
+AreParams a class = AreAmong (is_param a class) param_record IsParam

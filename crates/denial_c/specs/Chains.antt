@@ -15,13 +15,12 @@ use Rattle.domain_hasher.specs.declared.error.Nsec3HashError.{Nsec3HashError}
 use Rattle.domain_hasher.specs.declared.error.Nsec3HashError.TheVariants as hash_error
 use Rattle.domain_records.specs.declared.error.SigningError.{SigningError}
 use Rattle.domain_records.specs.declared.error.SigningError.TheVariants as signing_error
-use Rattle.domain_zone.specs.View.{zone_of}
 use Rattle.domain_zone.specs.Zone.{records_of, ZoneRecord}
 use Rattle.domain_sha1.specs.Iterated.{sha1_answer}
 use Rattle.domain_dnssec.specs.AnyOrder as any_order
 use Rattle.domain_dnssec.specs.AnyOrderNsec3 as any_order_nsec3
 use Rattle.domain_dnssec.specs.Wire.{nsecs_octets, nsec3s_octets}
-use Rattle.domain_borrowed.specs.Data.{data_cmp, minimum_of, RawRecord}
+use Rattle.domain_borrowed.specs.Data.{data_cmp, minimum_of, RawRecord, zone_of_raw}
 use Rattle.denial_c.specs.ChainNumbers.{chain_count, chain_number}
 use Rattle.denial_c.specs.Given.{AreGiven, HasNoRecordAt, HasOtherClassAt}
 use Rattle.denial_c.specs.Result.{IsSpelled, Spells}
@@ -60,9 +59,9 @@ pub record IsSortedUnevenAt (names : List ZoneRecord → Name → List Name) (cl
     (octets : Octets) (sorted : List RawRecord) (a : Name) (offset : ℕ) : Type 0 where
   pub owner : Name
   pub rtype : ℕ
-  pub first : IsFirstUneven (zone_of (λ n. n) (λ d. d.rtype) minimum_of sorted)
-      (names (zone_of (λ n. n) (λ d. d.rtype) minimum_of sorted) a) owner
-  pub clash : IsFirstClash (records_of (zone_of (λ n. n) (λ d. d.rtype) minimum_of sorted) owner)
+  pub first : IsFirstUneven (zone_of_raw sorted)
+      (names (zone_of_raw sorted) a) owner
+  pub clash : IsFirstClash (records_of (zone_of_raw sorted) owner)
       rtype
   pub at : IsUnevenAt class octets owner rtype offset
 
@@ -104,10 +103,10 @@ IsSortedNsecFault class octets sorted a config fault.Apex = ⊥
 IsSortedNsecFault class octets sorted a config (fault.Records offset) = ⊥
 IsSortedNsecFault class octets sorted a config (fault.Class offset) = ⊥
 IsSortedNsecFault class octets sorted a config fault.Soa =
-    IsFirstFault (zone_of (λ n. n) (λ d. d.rtype) minimum_of sorted) a config
+    IsFirstFault (zone_of_raw sorted) a config
     signing_error.SoaRecordCouldNotBeDetermined
 IsSortedNsecFault class octets sorted a config (fault.Ttls offset) =
-    IsFirstFault (zone_of (λ n. n) (λ d. d.rtype) minimum_of sorted) a config
+    IsFirstFault (zone_of_raw sorted) a config
     signing_error.MultipleTtlValues
     × IsSortedUnevenAt (covered_names false config.occlude_below_dname) class octets sorted a offset
 IsSortedNsecFault class octets sorted a config fault.LongSalt = ⊥
@@ -115,7 +114,7 @@ IsSortedNsecFault class octets sorted a config fault.LongOwner = ⊥
 IsSortedNsecFault class octets sorted a config fault.Collision = ⊥
 IsSortedNsecFault class octets sorted a config (fault.ShortBuffer count) = ⊥
 IsSortedNsecFault class octets sorted a config fault.OutOfMemory =
-    IsFaultless (zone_of (λ n. n) (λ d. d.rtype) minimum_of sorted) a config
+    IsFaultless (zone_of_raw sorted) a config
 
 -- ---- NSEC3
 
@@ -175,23 +174,23 @@ IsSortedNsec3Fault class octets sorted a config fault.Apex = ⊥
 IsSortedNsec3Fault class octets sorted a config (fault.Records offset) = ⊥
 IsSortedNsec3Fault class octets sorted a config (fault.Class offset) = ⊥
 IsSortedNsec3Fault class octets sorted a config fault.Soa =
-    IsFirstHashedFault (zone_of (λ n. n) (λ d. d.rtype) minimum_of sorted) a config
+    IsFirstHashedFault (zone_of_raw sorted) a config
     signing_error.SoaRecordCouldNotBeDetermined
 IsSortedNsec3Fault class octets sorted a config (fault.Ttls offset) =
-    IsFirstHashedFault (zone_of (λ n. n) (λ d. d.rtype) minimum_of sorted) a config
+    IsFirstHashedFault (zone_of_raw sorted) a config
     signing_error.MultipleTtlValues
     × IsSortedUnevenAt (covered_names (excludes config) config.occlude_below_dname) class octets
     sorted a offset
 IsSortedNsec3Fault class octets sorted a config fault.LongSalt = ⊥
 IsSortedNsec3Fault class octets sorted a config fault.LongOwner =
-    IsFirstHashedFault (zone_of (λ n. n) (λ d. d.rtype) minimum_of sorted) a config
+    IsFirstHashedFault (zone_of_raw sorted) a config
     (signing_error.Nsec3HashingError hash_error.Nsec3NameTooLong)
 IsSortedNsec3Fault class octets sorted a config fault.Collision =
-    IsFirstHashedFault (zone_of (λ n. n) (λ d. d.rtype) minimum_of sorted) a config
+    IsFirstHashedFault (zone_of_raw sorted) a config
     (signing_error.Nsec3HashingError hash_error.CollisionDetected)
 IsSortedNsec3Fault class octets sorted a config (fault.ShortBuffer count) = ⊥
 IsSortedNsec3Fault class octets sorted a config fault.OutOfMemory =
-    IsReady (zone_of (λ n. n) (λ d. d.rtype) minimum_of sorted) a config
+    IsReady (zone_of_raw sorted) a config
 
 -- ---- what is left in the buffer
 

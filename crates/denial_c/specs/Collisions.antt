@@ -5,9 +5,8 @@ use Rattle.domain_octets.specs.Words.{Octets}
 use Rattle.domain_base.specs.Name.{lowered, wire_of}
 use Rattle.domain_base.specs.Words.{Name}
 use Rattle.domain_alike.specs.Alike.{IsFirstPair, Pair}
-use Rattle.domain_borrowed.specs.Data.{minimum_of, RawRecord}
+use Rattle.domain_borrowed.specs.Data.{RawRecord, zone_of_raw}
 use Rattle.domain_nsec3.specs.Config.{ChainConfig}
-use Rattle.domain_zone.specs.View.{zone_of}
 use Rattle.denial_c.specs.ChainNumbers.{collision_number}
 use Rattle.denial_c.specs.Chains.{AreZone, Asking, IsChainFault, Sorts}
 use Rattle.denial_c.specs.declared.chain_fault.ChainFault.{ChainFault}
@@ -21,7 +20,7 @@ pub record HasFirstPair (apex : Octets) (class : ℕ) (config : ChainConfig) (re
   pub sorted : List RawRecord
   pub zone : AreZone apex class records a given
   pub sorts : Sorts given sorted
-  pub first : IsFirstPair (zone_of (λ n. n) (λ d. d.rtype) minimum_of sorted) a config pair
+  pub first : IsFirstPair (zone_of_raw sorted) a config pair
 
 -- a buffer, before and after a call
 pub record Written : Type 0 where

@@ -5,7 +5,6 @@ use Rattle.domain_octets.specs.Words.{Octets}
 use Rattle.domain_base.specs.Name.{is_at_or_below}
 use Rattle.domain_base.specs.Words.{Name}
 use Rattle.domain_nsec.specs.Chain.{Link}
-use Rattle.domain_nsec3.specs.Chain.{HashedLink, ParamRecord}
 use Rattle.domain_nsec3.specs.Config.{hash_name}
 use Rattle.domain_answer.specs.Expansion.{closer_name, is_expanded, ExpansionRestsOn, IsExpansionAnswered, IsExpansionRead}
 use Rattle.domain_answer.specs.HashedProved.{HashedRestsOn, IsHashedAnswered}
@@ -15,7 +14,8 @@ use Rattle.domain_answer.specs.Reading.{reading}
 use Rattle.domain_answer.specs.ZoneAnswer.{is_at_parent}
 use Rattle.domain_answer.specs.declared.answer.Answer.{Answer}
 use Rattle.domain_answer.specs.declared.answer.Answer.TheVariants.{OutsideZone, AtParent, NotProven, TooManyIterations}
-use Rattle.denial_c.specs.Result.{sha1_records, AreAsked, AreNsecsAsked, HasNoNsecs, IsNsecFault, IsNsec3Fault, Source}
+use Rattle.denial_c.specs.Result.{sha1_records, AreAsked, AreNsecsAsked, HasNoNsecs, HashedQuestion, IsNsecFault, IsNsec3Fault}
+use Rattle.denial_c.specs.Result.{Source}
 use Rattle.denial_c.specs.declared.fault.Fault.{Fault}
 use Rattle.denial_c.specs.declared.fault.Fault.TheVariants as fault
 
@@ -53,33 +53,28 @@ IsNsecAnswer apex name t class records (Err e) = IsNsecFault apex name class rec
 -- the answer to the name and the type t, with at most so many iterations
 pub record HasNsec3Answer (source : Source) (apex name : Octets) (t limit : ℕ) (answer : Answer)
     : Type 0 where
-  pub a : Name
-  pub x : Name
-  pub links : List HashedLink
-  pub param : ParamRecord
-  pub asked : AreAsked source apex name a x links param
-  pub outside : is_at_or_below x a ≡ false → answer ≡ OutsideZone
-  pub parent : is_at_or_below x a ≡ true → is_at_parent a x t ≡ true → answer ≡ AtParent
-  pub iterations : needs_no_records a x t ≡ false → limit < param.parameters.iterations
+  pub q : HashedQuestion
+  pub asked : AreAsked source apex name q
+  pub outside : is_at_or_below q.name q.apex ≡ false → answer ≡ OutsideZone
+  pub parent : is_at_or_below q.name q.apex ≡ true → is_at_parent q.apex q.name t ≡ true
+      → answer ≡ AtParent
+  pub iterations : needs_no_records q.apex q.name t ≡ false → limit < q.param.parameters.iterations
       → answer ≡ TooManyIterations
-  pub zone : param.parameters.iterations ≤ limit
-      → IsHashedAnswered (sha1_records a param links) x t answer
-  pub exact : needs_no_records a x t ≡ false → param.parameters.iterations ≤ limit
-      → IsHashedRead (sha1_records a param links) x t answer
-  pub proof : HashedRestsOn (sha1_records a param links) x answer
-  pub within : CountsWithin (length x) answer
+  pub zone : q.param.parameters.iterations ≤ limit
+      → IsHashedAnswered (sha1_records q) q.name t answer
+  pub exact : needs_no_records q.apex q.name t ≡ false → q.param.parameters.iterations ≤ limit
+      → IsHashedRead (sha1_records q) q.name t answer
+  pub proof : HashedRestsOn (sha1_records q) q.name answer
+  pub within : CountsWithin (length q.name) answer
 
 -- names are hashed, and the hasher refuses one of these
 pub record IsAnswerRefused (source : Source) (apex name : Octets) (t limit : ℕ) : Type 0 where
-  pub a : Name
-  pub x : Name
-  pub links : List HashedLink
-  pub param : ParamRecord
+  pub q : HashedQuestion
   pub reason : ℕ
-  pub asked : AreAsked source apex name a x links param
-  pub needed : needs_no_records a x t ≡ false
-  pub allowed : param.parameters.iterations ≤ limit
-  pub first : IsFirstOfRefusals (sha1_records a param links) x t reason
+  pub asked : AreAsked source apex name q
+  pub needed : needs_no_records q.apex q.name t ≡ false
+  pub allowed : q.param.parameters.iterations ≤ limit
+  pub first : IsFirstOfRefusals (sha1_records q) q.name t reason
 
 -- of faults the first that stands is told, but for want of memory, which may come before others
 abbrev pub IsNsec3Answer : Source → Octets → Octets → ℕ → ℕ → Result Answer Fault → Type 0
@@ -94,34 +89,29 @@ IsNsec3Answer source apex name t limit (Err e) =
 -- iterations
 pub record HasExpansionAnswer (source : Source) (apex name : Octets) (n limit : ℕ)
     (answer : Answer) : Type 0 where
-  pub a : Name
-  pub x : Name
-  pub links : List HashedLink
-  pub param : ParamRecord
-  pub asked : AreAsked source apex name a x links param
-  pub outside : is_at_or_below x a ≡ false → answer ≡ OutsideZone
-  pub none : is_at_or_below x a ≡ true → is_expanded a x n ≡ false → answer ≡ NotProven
-  pub iterations : is_expanded a x n ≡ true → limit < param.parameters.iterations
+  pub q : HashedQuestion
+  pub asked : AreAsked source apex name q
+  pub outside : is_at_or_below q.name q.apex ≡ false → answer ≡ OutsideZone
+  pub none : is_at_or_below q.name q.apex ≡ true → is_expanded q.apex q.name n ≡ false
+      → answer ≡ NotProven
+  pub iterations : is_expanded q.apex q.name n ≡ true → limit < q.param.parameters.iterations
       → answer ≡ TooManyIterations
-  pub zone : is_expanded a x n ≡ true → param.parameters.iterations ≤ limit
-      → IsExpansionAnswered (sha1_records a param links) x n answer
-  pub exact : is_expanded a x n ≡ true → param.parameters.iterations ≤ limit
-      → IsExpansionRead (sha1_records a param links) x n answer
-  pub proof : ExpansionRestsOn (sha1_records a param links) x n answer
-  pub within : CountsWithin (length x) answer
+  pub zone : is_expanded q.apex q.name n ≡ true → q.param.parameters.iterations ≤ limit
+      → IsExpansionAnswered (sha1_records q) q.name n answer
+  pub exact : is_expanded q.apex q.name n ≡ true → q.param.parameters.iterations ≤ limit
+      → IsExpansionRead (sha1_records q) q.name n answer
+  pub proof : ExpansionRestsOn (sha1_records q) q.name n answer
+  pub within : CountsWithin (length q.name) answer
 
 -- the one name that is hashed, the next closer name, is refused by the hasher
 pub record IsExpansionRefused (source : Source) (apex name : Octets) (n limit : ℕ)
     : Type 0 where
-  pub a : Name
-  pub x : Name
-  pub links : List HashedLink
-  pub param : ParamRecord
+  pub q : HashedQuestion
   pub reason : ℕ
-  pub asked : AreAsked source apex name a x links param
-  pub needed : is_expanded a x n ≡ true
-  pub allowed : param.parameters.iterations ≤ limit
-  pub refused : hash_name (sha1_records a param links).hash (closer_name n x) ≡ Err reason
+  pub asked : AreAsked source apex name q
+  pub needed : is_expanded q.apex q.name n ≡ true
+  pub allowed : q.param.parameters.iterations ≤ limit
+  pub refused : hash_name (sha1_records q).hash (closer_name n q.name) ≡ Err reason
 
 -- of faults the first that stands is told, but for want of memory, which may come before others
 abbrev pub IsExpansionAnswer : Source → Octets → Octets → ℕ → ℕ → Result Answer Fault → Type 0

@@ -8,6 +8,8 @@ use Rattle.domain_nsec.specs.Chain.{Link}
 use Rattle.domain_nsec3.specs.Chain.{HashedLink, ParamRecord}
 use Rattle.domain_nsec3.specs.Config.{Parameters}
 use Rattle.domain_sha1.specs.Iterated.{sha1_answer}
+use Rattle.domain_hasher.specs.declared.error.Nsec3HashError.{Nsec3HashError}
+use Rattle.domain_hasher.specs.declared.error.Nsec3HashError.TheVariants as hash_error
 use Rattle.domain_checker.specs.HashedReading.{IsWalked}
 use Rattle.domain_checker.specs.HashedVerdict.{HasHashedProof, IsFirstRefusal, IsHashedProved}
 use Rattle.domain_checker.specs.HashedView.{HashedRecords, links_with}
@@ -74,9 +76,16 @@ IsNsecResult apex name t class records (Err e) = IsNsecFault apex name class rec
 
 -- ---- NSEC3
 
--- links that are read with hashes by SHA-1, with the parameters of the record
-abbrev pub sha1_records : Name → ParamRecord → List HashedLink → HashedRecords
-sha1_records a param links = links_with a param.parameters sha1_answer links
+-- a question to NSEC3 records: the names, and the records with their parameters
+pub record HashedQuestion : Type 0 where
+  pub apex : Name
+  pub name : Name
+  pub links : List HashedLink
+  pub param : ParamRecord
+
+-- the records, read with hashes by SHA-1
+abbrev pub sha1_records : HashedQuestion → HashedRecords
+sha1_records q = links_with q.apex q.param.parameters sha1_answer q.links
 
 -- where NSEC3 records and their parameters are from: which they are, of an apex, and why there are
 -- none
@@ -84,37 +93,30 @@ pub record Source : Type 1 where
   pub are : Name → List HashedLink → ParamRecord → Type 0
   pub is_fault : Name → Fault → Type 0
 
--- the names, and the NSEC3 records with their parameters
-pub record AreAsked (source : Source) (apex name : Octets) (a x : Name)
-    (links : List HashedLink) (param : ParamRecord) : Type 0 where
-  pub apex_is : Spells apex a
-  pub name_is : Spells name x
-  pub are : source.are a links param
+-- the octets are the question
+pub record AreAsked (source : Source) (apex name : Octets) (q : HashedQuestion) : Type 0 where
+  pub apex_is : Spells apex q.apex
+  pub name_is : Spells name q.name
+  pub are : source.are q.apex q.links q.param
 
 -- the verdict on the type t
 pub record HasNsec3Verdict (source : Source) (apex name : Octets) (t : ℕ) (verdict : Verdict)
     : Type 0 where
-  pub a : Name
-  pub x : Name
-  pub links : List HashedLink
-  pub param : ParamRecord
-  pub asked : AreAsked source apex name a x links param
-  pub outside : is_at_or_below x a ≡ false → verdict ≡ OutsideZone
-  pub zone : IsHashedProved (sha1_records a param links) x t verdict
-  pub exact : is_at_or_below x a ≡ true → IsWalked (sha1_records a param links) x t verdict
-  pub proof : is_at_or_below x a ≡ true → verdict ≢ NotProven
-      → HasHashedProof (sha1_records a param links) x
-  pub within : IsWithin (length x) verdict
+  pub q : HashedQuestion
+  pub asked : AreAsked source apex name q
+  pub outside : is_at_or_below q.name q.apex ≡ false → verdict ≡ OutsideZone
+  pub zone : IsHashedProved (sha1_records q) q.name t verdict
+  pub exact : is_at_or_below q.name q.apex ≡ true → IsWalked (sha1_records q) q.name t verdict
+  pub proof : is_at_or_below q.name q.apex ≡ true → verdict ≢ NotProven
+      → HasHashedProof (sha1_records q) q.name
+  pub within : IsWithin (length q.name) verdict
 
 -- the hasher refuses a name that is asked for
 pub record IsRefused (source : Source) (apex name : Octets) : Type 0 where
-  pub a : Name
-  pub x : Name
-  pub links : List HashedLink
-  pub param : ParamRecord
+  pub q : HashedQuestion
   pub reason : ℕ
-  pub asked : AreAsked source apex name a x links param
-  pub first : IsFirstRefusal (sha1_records a param links) x reason
+  pub asked : AreAsked source apex name q
+  pub first : IsFirstRefusal (sha1_records q) q.name reason
 
 -- no records, or NSEC3 records whose data are none
 abbrev pub HasNoNsec3s : ℕ → Octets → Type 0
@@ -220,6 +222,11 @@ IsNsec3Fault source apex name refused fault.Param =
     IsSpelled name × IsSpelledFault source apex fault.Param
 IsNsec3Fault source apex name refused fault.Hasher = refused
 IsNsec3Fault source apex name refused fault.OutOfMemory = Unit {0}
+
+-- the fault that an error of a check is
+abbrev pub fault_of : Nsec3HashError → Fault
+fault_of hash_error.OutOfMemory = fault.OutOfMemory
+fault_of e = fault.Hasher
 
 abbrev pub IsNsec3Result : Source → Octets → Octets → ℕ → Result Verdict Fault → Type 0
 IsNsec3Result source apex name t (Ok verdict) = HasNsec3Verdict source apex name t verdict

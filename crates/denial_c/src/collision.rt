@@ -1,11 +1,10 @@
 //! The names of an NSEC3 chain of the records in octets that hash alike.
 ghost use Rattle.std.specs.Prelude.{◌≡◌, IfErr, IfOk, option_map};
 ghost use Rattle.domain_alike.specs.Alike.{pair_of, IsFirstPair};
-ghost use Rattle.domain_borrowed.specs.Data.{minimum_of};
 ghost use Rattle.domain_nsec3.specs.View.{config_of};
 ghost use Rattle.domain_records.specs.Order.{IsInOrder};
+ghost use Rattle.domain_borrowed.specs.Data.{zone_of_raw};
 ghost use Rattle.domain_sha1.specs.Iterated.{sha1_answer};
-ghost use Rattle.domain_zone.specs.View.{zone_of};
 ghost use Rattle.denial_c.specs.ChainNumbers.{collision_number};
 ghost use Rattle.denial_c.specs.Chains.{hashed_config};
 ghost use Rattle.denial_c.specs.Collisions.{IsCollisionResult};
@@ -36,8 +35,7 @@ fn first_pair<'a>(
 ) -> Result<Option<Alike<'a>>, ChainFault>
     requires in_order { IsInOrder (λ n. n) (λ d. d.rtype) sorted.now }
     requires sha1 { config.now.params.hash_algorithm ≡ 1 }
-    ensures ok { IfOk result (λ alike. IsFirstPair
-        (zone_of (λ n. n) (λ d. d.rtype) minimum_of sorted.now) apex.now
+    ensures ok { IfOk result (λ alike. IsFirstPair (zone_of_raw sorted.now) apex.now
         (config_of sha1_answer config.now) (option_map pair_of alike)) }
     ensures err { IfErr result (λ e. e ≡ fault.OutOfMemory) }
 {

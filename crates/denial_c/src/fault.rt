@@ -1,4 +1,8 @@
 //! Why there is no verdict.
+ghost use Rattle.std.specs.Prelude.{◌≡◌};
+ghost use Rattle.denial_c.specs.Result.{fault_of};
+
+use domain_hasher::Nsec3HashError;
 
 /// Why there is no verdict.
 #[derive(Clone, Copy, Debug, PartialEq, Eq)]
@@ -16,4 +20,16 @@ pub(crate) enum Fault {
     Hasher,
     /// There is not enough memory.
     OutOfMemory,
+}
+
+/// Names that the hasher refuses, and want of memory; a verdict has no other error.
+impl From<Nsec3HashError> for Fault {
+    ghost from_gives = { λ error fault. fault ≡ fault_of error };
+
+    fn from(error: Nsec3HashError) -> Fault {
+        match error {
+            Nsec3HashError::OutOfMemory => Fault::OutOfMemory,
+            _ => Fault::Hasher,
+        }
+    }
 }

@@ -8,11 +8,11 @@ ghost use Rattle.denial_c.specs.Judged.{IsExpansionAnswer, IsNsecAnswer, IsNsec3
 use crate::among::is_of;
 use crate::fault::Fault;
 use crate::nsec::read_name;
-use crate::nsec3::{Telling, chain_told};
+use crate::nsec3::Telling;
+use crate::question::{Question, read_question};
 use domain_answer::{Answer, judge_nsec, judge_nsec3, judge_nsec3_expansion};
 use domain_base::{Class, Rtype};
 use domain_borrowed::{ReadNsec, into_nsec, read_record};
-use domain_hasher::Nsec3HashError;
 use domain_octets::Parser;
 use domain_sha1::Sha1Hasher;
 use std::alloc::Global;
@@ -81,20 +81,10 @@ pub(crate) fn nsec3_answer(
     ensures { IsNsec3Answer (source_of telling class records.now) apex.now name.now rtype limit
         result }
 {
-    let apex = read_name(apex, Fault::Apex)?;
-    let name = read_name(name, Fault::Name)?;
-    let chain = match chain_told(alloc, telling, &apex, Class::from_int(class), records) {
-        Ok(chain) => chain,
-        Err(fault) => return Err(fault),
-    };
+    let Question { apex, name, chain } = read_question(alloc, telling, apex, name, class, records)?;
     let rtype = Rtype::from_int(rtype);
-    match judge_nsec3(alloc, &apex, &chain, &name, rtype, limit, &Sha1Hasher) {
-        Ok(answer) => Ok(answer),
-        Err(error) => match error {
-            Nsec3HashError::OutOfMemory => Err(Fault::OutOfMemory),
-            _ => Err(Fault::Hasher),
-        },
-    }
+    let answer = judge_nsec3(alloc, &apex, &chain, &name, rtype, limit, &Sha1Hasher)?;
+    Ok(answer)
 }
 
 /// What the NSEC3 records of the class among the records that the octets are answer of the name,
@@ -113,18 +103,8 @@ pub(crate) fn expansion_answer(
     ensures { IsExpansionAnswer (source_of telling class records.now) apex.now name.now rrsig_labels
         limit result }
 {
-    let apex = read_name(apex, Fault::Apex)?;
-    let name = read_name(name, Fault::Name)?;
-    let chain = match chain_told(alloc, telling, &apex, Class::from_int(class), records) {
-        Ok(chain) => chain,
-        Err(fault) => return Err(fault),
-    };
+    let Question { apex, name, chain } = read_question(alloc, telling, apex, name, class, records)?;
     let labels = usize::from(rrsig_labels);
-    match judge_nsec3_expansion(alloc, &apex, &chain, &name, labels, limit, &Sha1Hasher) {
-        Ok(answer) => Ok(answer),
-        Err(error) => match error {
-            Nsec3HashError::OutOfMemory => Err(Fault::OutOfMemory),
-            _ => Err(Fault::Hasher),
-        },
-    }
+    let answer = judge_nsec3_expansion(alloc, &apex, &chain, &name, labels, limit, &Sha1Hasher)?;
+    Ok(answer)
 }

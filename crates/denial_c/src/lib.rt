@@ -26,6 +26,7 @@ mod nsec;
 mod nsec3;
 mod nsec3_chain;
 mod nsec_chain;
+mod question;
 mod text;
 mod uneven;
 mod zone;

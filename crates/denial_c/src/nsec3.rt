@@ -7,14 +7,13 @@ ghost use Rattle.denial_c.specs.Result.{first_parameters, is_known, source_of, A
 
 use crate::among::is_of;
 use crate::fault::Fault;
-use crate::nsec::read_name;
+use crate::question::{Question, read_question};
 use domain_base::{Class, Nsec3HashAlgorithm, ParsedName, Rtype, ToName, Ttl};
 use domain_borrowed::{ReadNsec3, ReadNsec3param, into_nsec3, into_nsec3param, read_record};
 use domain_chain_rdata::Nsec3param;
 use domain_checker::{Verdict, check_nsec3};
-use domain_hasher::Nsec3HashError;
 use domain_nsec3::Nsec3Records;
-use domain_octets::{OutOfMemory, Parser};
+use domain_octets::{OutOfMemory, Parser, TryClone};
 use domain_record::Record;
 use domain_sha1::Sha1Hasher;
 use std::alloc::Global;
@@ -171,7 +170,7 @@ fn first_params<'a>(
 /// be ignored, with an NSEC3PARAM record of the apex that repeats the parameters of the first.
 fn alone_among<'a>(
     alloc: Global,
-    apex: &'a ParsedName<'a>,
+    apex: &ParsedName<'a>,
     class: Class,
     octets: &'a [u8],
 ) -> Result<Nsec3Records<ParsedName<'a>, &'a [u8]>, Fault>
@@ -187,7 +186,9 @@ fn alone_among<'a>(
     let Ok(params) = first_params(alloc, &known) else {
         return Err(Fault::OutOfMemory);
     };
-    let owner = apex.as_parsed();
+    let Ok(owner) = apex.try_clone() else {
+        unreachable!();
+    };
     let param = Record::new(owner, class, Ttl::from_secs(0), params);
     Ok(Nsec3Records::new(known, param))
 }
@@ -196,7 +197,7 @@ fn alone_among<'a>(
 pub(crate) fn chain_told<'a>(
     alloc: Global,
     telling: Telling,
-    apex: &'a ParsedName<'a>,
+    apex: &ParsedName<'a>,
     class: Class,
     octets: &'a [u8],
 ) -> Result<Nsec3Records<ParsedName<'a>, &'a [u8]>, Fault>
@@ -223,18 +224,8 @@ pub(crate) fn nsec3_verdict(
 ) -> Result<Verdict, Fault>
     ensures { IsNsec3Result (source_of telling class records.now) apex.now name.now rtype result }
 {
-    let apex = read_name(apex, Fault::Apex)?;
-    let name = read_name(name, Fault::Name)?;
-    let chain = match chain_told(alloc, telling, &apex, Class::from_int(class), records) {
-        Ok(chain) => chain,
-        Err(fault) => return Err(fault),
-    };
+    let Question { apex, name, chain } = read_question(alloc, telling, apex, name, class, records)?;
     let rtype = Rtype::from_int(rtype);
-    match check_nsec3(alloc, &apex, &chain, &name, rtype, &Sha1Hasher) {
-        Ok(verdict) => Ok(verdict),
-        Err(error) => match error {
-            Nsec3HashError::OutOfMemory => Err(Fault::OutOfMemory),
-            _ => Err(Fault::Hasher),
-        },
-    }
+    let verdict = check_nsec3(alloc, &apex, &chain, &name, rtype, &Sha1Hasher)?;
+    Ok(verdict)
 }

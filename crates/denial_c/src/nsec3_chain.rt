@@ -1,12 +1,11 @@
 //! The NSEC3 chain of the records in octets.
 ghost use Rattle.std.specs.Prelude.{◌≡◌, ◌≤◌, ◌<◌, List, length, IfErr, IfOk};
-ghost use Rattle.domain_borrowed.specs.Data.{minimum_of, RawRecord};
+ghost use Rattle.domain_borrowed.specs.Data.{RawRecord, zone_of_raw};
 ghost use Rattle.domain_nsec3.specs.Chain.{ChainRecords, IsChainParam, IsHashedChain};
 ghost use Rattle.domain_nsec3.specs.View.{config_of};
 ghost use Rattle.domain_nsec3.specs.declared.config.Nsec3ParamTtlMode.TheVariants.{Soa};
 ghost use Rattle.domain_records.specs.Order.{IsInOrder, IsOneClass};
 ghost use Rattle.domain_sha1.specs.Iterated.{sha1_answer};
-ghost use Rattle.domain_zone.specs.View.{zone_of};
 ghost use Rattle.domain_dnssec.specs.Wire.{nsec3s_octets};
 ghost use Rattle.denial_c.specs.Chains.{hashed_config, hashing_fault, IsNsec3ChainResult, IsSortedNsec3Fault, Sorts};
 ghost use Rattle.denial_c.specs.Given.{AreGiven};
@@ -99,12 +98,10 @@ fn sorted_nsec3s(
     requires one_class { IsOneClass sorted.now }
     requires in_order { IsInOrder (λ n. n) (λ d. d.rtype) sorted.now }
     requires sha1 { config.now.params.hash_algorithm ≡ 1 }
-    ensures ok { IfOk result (λ octets. (made : ChainRecords)
-        × IsHashedChain (zone_of (λ n. n) (λ d. d.rtype) minimum_of sorted.now) apex.now
-        (config_of sha1_answer config.now) made.links
-        × IsChainParam (zone_of (λ n. n) (λ d. d.rtype) minimum_of sorted.now) apex.now
-        (config_of sha1_answer config.now) config.now.nsec3param_ttl_mode made.param
-        × (octets.items ≡ nsec3s_octets made)) }
+    ensures ok { IfOk result (λ octets. (made : ChainRecords) × IsHashedChain
+        (zone_of_raw sorted.now) apex.now (config_of sha1_answer config.now) made.links
+        × IsChainParam (zone_of_raw sorted.now) apex.now (config_of sha1_answer config.now)
+        config.now.nsec3param_ttl_mode made.param × (octets.items ≡ nsec3s_octets made)) }
     ensures err { IfErr result (IsSortedNsec3Fault class octets.now sorted.now
         apex.now (config_of sha1_answer config.now)) }
 {

@@ -2,8 +2,7 @@
 ghost use Rattle.std.specs.Prelude.{◌≡◌, ◌<◌, List, length, IfErr, IfOk};
 ghost use Rattle.domain_records.specs.Order.{IsInOrder, IsOneClass};
 ghost use Rattle.domain_nsec.specs.Chain.{Link, IsChain};
-ghost use Rattle.domain_zone.specs.View.{zone_of};
-ghost use Rattle.domain_borrowed.specs.Data.{minimum_of, RawRecord};
+ghost use Rattle.domain_borrowed.specs.Data.{RawRecord, zone_of_raw};
 ghost use Rattle.domain_dnssec.specs.Wire.{nsecs_octets};
 ghost use Rattle.denial_c.specs.Chains.{IsNsecChainResult, IsSortedNsecFault, IsWritten, Sorts};
 ghost use Rattle.denial_c.specs.Given.{AreGiven};
@@ -40,8 +39,7 @@ fn sorted_nsecs(
     requires one_class { IsOneClass sorted.now }
     requires in_order { IsInOrder (λ n. n) (λ d. d.rtype) sorted.now }
     ensures ok { IfOk result (λ octets. (links : List Link) × IsChain
-        (zone_of (λ n. n) (λ d. d.rtype) minimum_of sorted.now) apex.now config.now links
-        × (octets.items ≡ nsecs_octets links)) }
+        (zone_of_raw sorted.now) apex.now config.now links × (octets.items ≡ nsecs_octets links)) }
     ensures err { IfErr result (IsSortedNsecFault class octets.now sorted.now apex.now
         config.now) }
 {

@@ -1,9 +1,9 @@
 //! Where records of one owner and type differ in TTL.
 ghost use Rattle.std.specs.Prelude.{◌≡◌, ◌≤◌, List, true, false, IfNone, IfSome};
 ghost use Rattle.domain_alike.specs.Covered.{covered_names};
-ghost use Rattle.domain_borrowed.specs.Data.{minimum_of, RawRecord};
+ghost use Rattle.domain_borrowed.specs.Data.{minimum_of, RawRecord, zone_of_raw};
 ghost use Rattle.domain_records.specs.Order.{HoldsPairwise, IsInOrder};
-ghost use Rattle.domain_zone.specs.View.{as_zone_record, zone_of};
+ghost use Rattle.domain_zone.specs.View.{as_zone_record};
 ghost use Rattle.domain_zone.specs.Zone.{clashes, has_clash, has_unequal_ttls, records_of};
 ghost use Rattle.denial_c.specs.Chains.{IsSortedUnevenAt, Sorts};
 ghost use Rattle.denial_c.specs.Given.{AreGiven};
@@ -37,10 +37,8 @@ fn clash(first: &BorrowedRecord<'_>, second: &BorrowedRecord<'_>) -> bool
 /// descend; None where there is none.
 fn clashing_type<'a>(mut records: SliceRefsOrOwnedIterator<'a, BorrowedRecord<'a>>) -> Option<Rtype>
     requires { HoldsPairwise (λ r s. r.«data».rtype ≤ s.«data».rtype) records }
-    ensures some { IfSome result
-        (IsFirstClash (zone_of (λ n. n) (λ d. d.rtype) minimum_of records.entry)) }
-    ensures none { IfNone result
-        (has_clash (zone_of (λ n. n) (λ d. d.rtype) minimum_of records.entry) ≡ false) }
+    ensures some { IfSome result (IsFirstClash (zone_of_raw records.entry)) }
+    ensures none { IfNone result (has_clash (zone_of_raw records.entry) ≡ false) }
 {
     let Some(first) = records.next() else {
         return None;
@@ -66,16 +64,12 @@ fn uneven_set<'a>(
     below_dname: bool,
 ) -> Option<RrsetKey<'a>>
     requires { IsInOrder (λ n. n) (λ d. d.rtype) sorted.now }
-    ensures first { IfSome result (λ set. IsFirstUneven
-        (zone_of (λ n. n) (λ d. d.rtype) minimum_of sorted.now)
-        (covered_names excludes below_dname
-        (zone_of (λ n. n) (λ d. d.rtype) minimum_of sorted.now) apex.now) set.owner) }
+    ensures first { IfSome result (λ set. IsFirstUneven (zone_of_raw sorted.now)
+        (covered_names excludes below_dname (zone_of_raw sorted.now) apex.now) set.owner) }
     ensures clash { IfSome result (λ set. IsFirstClash (records_of
-        (zone_of (λ n. n) (λ d. d.rtype) minimum_of sorted.now) set.owner) set.rtype) }
-    ensures none { IfNone result (has_unequal_ttls
-        (zone_of (λ n. n) (λ d. d.rtype) minimum_of sorted.now)
-        (covered_names excludes below_dname
-        (zone_of (λ n. n) (λ d. d.rtype) minimum_of sorted.now) apex.now) ≡ false) }
+        (zone_of_raw sorted.now) set.owner) set.rtype) }
+    ensures none { IfNone result (has_unequal_ttls (zone_of_raw sorted.now)
+        (covered_names excludes below_dname (zone_of_raw sorted.now) apex.now) ≡ false) }
 {
     let records = RecordsIter::new_from_owned(sorted);
     let mut left = UnoccludedOwners::new(apex, records, below_dname);
@@ -92,10 +86,10 @@ fn uneven_set<'a>(
 }
 
 /// Whether the record is of this owner and this type.
-fn is_in_set(record: &BorrowedRecord<'_>, set: &RrsetKey<'_>) -> bool
-    ensures { result ≡ is_in_set set.now.owner set.now.rtype record.now }
+fn is_in_set(borrowed: &BorrowedRecord<'_>, set: &RrsetKey<'_>) -> bool
+    ensures { result ≡ is_in_set set.now.owner set.now.rtype borrowed.now }
 {
-    record.owner().name_eq(&set.owner) & (record.rtype() == set.rtype)
+    borrowed.owner().name_eq(&set.owner) & (borrowed.rtype() == set.rtype)
 }
 
 /// Whether there is a first TTL, and this is another.
@@ -111,9 +105,8 @@ fn is_other(first: Option<Ttl>, ttl: Ttl) -> bool
 /// The offset of the first record of this owner and this type that has another TTL than those
 /// before it.
 fn uneven_offset(class: Class, octets: &[u8], set: &RrsetKey<'_>) -> usize
-    requires { (given : List RawRecord) × AreGiven class octets.now given × (has_clash
-        (set_of (zone_of (λ n. n) (λ d. d.rtype) minimum_of given) set.now.owner set.now.rtype)
-        ≡ true) }
+    requires { (given : List RawRecord) × AreGiven class octets.now given × (has_clash (set_of
+        (zone_of_raw given) set.now.owner set.now.rtype) ≡ true) }
     ensures { IsUnevenAt class octets.now set.now.owner set.now.rtype result }
 {
     let mut first: Option<Ttl> = None;
@@ -147,9 +140,8 @@ pub(crate) fn uneven_at(
     requires in_order { IsInOrder (λ n. n) (λ d. d.rtype) sorted.now }
     requires given { (given : List RawRecord)
         × AreGiven class octets.now given × Sorts given sorted.now }
-    requires uneven { has_unequal_ttls (zone_of (λ n. n) (λ d. d.rtype) minimum_of sorted.now)
-        (covered_names excludes below_dname
-        (zone_of (λ n. n) (λ d. d.rtype) minimum_of sorted.now) apex.now) ≡ true }
+    requires uneven { has_unequal_ttls (zone_of_raw sorted.now) (covered_names excludes below_dname
+        (zone_of_raw sorted.now) apex.now) ≡ true }
     ensures { IsSortedUnevenAt (covered_names excludes below_dname) class octets.now sorted.now
         apex.now result }
 {

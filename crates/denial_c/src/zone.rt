@@ -1,5 +1,5 @@
 //! The records of a zone, as octets have them and sorted.
-ghost use Rattle.std.specs.Prelude.{◌≡◌, List, IfErr, IfOk, OnOk};
+ghost use Rattle.std.specs.Prelude.{List, IfErr, IfOk, OnOk};
 ghost use Rattle.domain_records.specs.Order.{IsInOrder, IsOneClass};
 ghost use Rattle.domain_borrowed.specs.Data.{RawRecord};
 ghost use Rattle.denial_c.specs.Chains.{IsGivenFault, Sorts};

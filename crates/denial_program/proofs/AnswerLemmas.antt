@@ -6,18 +6,16 @@ use Rattle.domain_dnssec.specs.declared.chain.ChainError.TheVariants.{MixedClass
 use Rattle.domain_octets.specs.Words.{Octets}
 use Rattle.domain_octets.proofs.StdLemmas.{if_err_of}
 use Rattle.domain_base.specs.Words.{Name}
-use Rattle.domain_zone.specs.View.{zone_of}
 use Rattle.domain_nsec.specs.Chain.{usual_config, IsFaultless}
 use Rattle.domain_nsec3.specs.Faults.{IsReady}
 use Rattle.domain_nsec3.specs.View.{HasherAnswer, config_of, hash_by, parameters_of}
 use Rattle.domain_nsec3.specs.declared.config.GenerateNsec3Config.{GenerateNsec3Config}
-use Rattle.domain_borrowed.specs.Data.{RawRecord, data_cmp, minimum_of}
+use Rattle.domain_borrowed.specs.Data.{RawRecord, data_cmp, minimum_of, zone_of_raw}
 use Rattle.domain_records.specs.Errors.{sort_error}
 use Rattle.domain_records.specs.Order.{IsOneClass}
 use Rattle.domain_dnssec.proofs.KeptLemmas.{classes_kept}
-use Rattle.denial_program.specs.Answer.{fault_of_chain, usual_nsec3_config, HasNoAnswer}
-use Rattle.denial_program.specs.Answer.{HasNoNsecs, HasNoNsec3s, IsAnswer, IsNsecs, IsNsec3s}
-use Rattle.denial_program.specs.Answer.{IsUnsorted, IsUnwritten, Sorts}
+use Rattle.denial_program.specs.Answer.{fault_of_chain, usual_nsec3_config, HasNoAnswer, HasNoNsecs, HasNoNsec3s, IsAnswer, IsNsecs, IsNsec3s, IsUnsorted}
+use Rattle.denial_program.specs.Answer.{IsUnwritten, Sorts}
 use Rattle.denial_program.specs.Command.{Params}
 use Rattle.denial_program.specs.declared.answer.Reply.{Reply}
 use Rattle.denial_program.specs.declared.command.Command.{Command}
@@ -88,7 +86,7 @@ sorted_one_class given sorted sorts one = (classes_kept (λ n. n) (λ d. d.rtype
 
 -- there was memory for a chain, and not for writing it
 pub nsecs_unwritten : {X : Type 0} (given sorted : List RawRecord) (apex : Name) (x : Reply) → IsNsecs given apex x → Sorts given sorted → IsOneClass sorted
-    → IsFaultless (zone_of (λ n. n) (λ d. d.rtype) minimum_of sorted) apex usual_config → (r : Result X DenialFault)
+    → IsFaultless (zone_of_raw sorted) apex usual_config → (r : Result X DenialFault)
     → IfErr r (λ e. (e ≡ Write) ⊎ (e ≡ NoMemory)) → IfErr r (IsUnwritten (IsNsecs given apex) (HasNoNsecs given apex))
 nsecs_unwritten given sorted apex x is sorts one faultless (Ok y) h = tt
 nsecs_unwritten given sorted apex x is sorts one faultless (Err e) (inl w) = inl (w, (x, is))
@@ -100,7 +98,7 @@ nsecs_unwritten given sorted apex x is sorts one faultless (Err e) (inr m) = inr
 
 pub nsec3s_unwritten : {X : Type 0} (answers : HasherAnswer) (given sorted : List RawRecord) (apex : Name) (p : Params) (x : Reply)
     → IsNsec3s answers given apex p x → Sorts given sorted → IsOneClass sorted
-    → IsReady (zone_of (λ n. n) (λ d. d.rtype) minimum_of sorted) apex (usual_nsec3_config answers p) → (r : Result X DenialFault)
+    → IsReady (zone_of_raw sorted) apex (usual_nsec3_config answers p) → (r : Result X DenialFault)
     → IfErr r (λ e. (e ≡ Write) ⊎ (e ≡ NoMemory)) → IfErr r (IsUnwritten (IsNsec3s answers given apex p) (HasNoNsec3s answers given apex p))
 nsec3s_unwritten answers given sorted apex p x is sorts one ready (Ok y) h = tt
 nsec3s_unwritten answers given sorted apex p x is sorts one ready (Err e) (inl w) = inl (w, (x, is))

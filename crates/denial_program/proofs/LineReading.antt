@@ -1,6 +1,6 @@
 -- A line that was found in what the reader holds, and one that the reader found.
-use Rattle.std.proofs.Common.{◌≡◌, ◌≢◌, ℕ, ◌+◌, ◌-◌, ◌<◌, List, [], length, take, get_or}
-use Rattle.std.proofs.Common.{sym, ap, ◌∙◌, subst, arith, Some, None, IfSome, Option, length-take-le}
+use Rattle.std.proofs.Common.{◌≡◌, ◌≢◌, ℕ, ◌+◌, ◌-◌, ◌<◌, List, [], length, take, get_or, sym, ap, ◌∙◌, subst, arith, Some, None, IfSome, Option}
+use Rattle.std.proofs.Common.{length-take-le}
 use Rattle.std.specs.Io.BufRead.{take_through, DropsThrough}
 use Rattle.std.specs.Io.KnownBytes.{Consumes}
 use Rattle.std.proofs.KnownBytes.{Consumes-nil}

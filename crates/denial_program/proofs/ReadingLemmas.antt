@@ -1,6 +1,6 @@
 -- How far a reader has come, where it tells its octets.
-use Rattle.std.proofs.Common.{◌≡◌, ◌≢◌, ℕ, ◌+◌, ◌-◌, ◌<◌, List, [], ◌∷◌, ◌++◌, length, get_or, refl}
-use Rattle.std.proofs.Common.{ap, sym, ◌∙◌, subst, arith, inl, inr, Some, None, IfSome, Option, append-nil, append_assoc}
+use Rattle.std.proofs.Common.{◌≡◌, ◌≢◌, ℕ, ◌+◌, ◌-◌, ◌<◌, List, [], ◌∷◌, ◌++◌, length, get_or, refl, ap, sym, ◌∙◌, subst, arith, inl, inr, Some, None, IfSome}
+use Rattle.std.proofs.Common.{Option, append-nil, append_assoc}
 use Rattle.std.specs.Str.Lines.{lines, strip_carriage_return}
 use Rattle.std.specs.Io.BufRead.{take_through, drop_through, DropsThrough}
 use Rattle.std.specs.Io.KnownBytes.{IsAtEnd}
@@ -20,10 +20,10 @@ pub record Continues (all rest : List (List ℕ)) (records : List RawRecord) (nu
   pub gives : (more : List RawRecord) → Give rest more → Give all (records ++ more)
   pub bad : (k n : ℕ) → n + 1 ≡ k + number → IsFirstBad rest k → IsFirstBad all n
 
-first_bad_here : (line : List ℕ) (more : List (List ℕ)) → IsBad line → IsFirstBad (line ∷ more) 1
+pub first_bad_here : (line : List ℕ) (more : List (List ℕ)) → IsBad line → IsFirstBad (line ∷ more) 1
 first_bad_here line more bad = record { before = []; line = line; after = more; are = refl; place = refl; good = All-nil IsGood; bad = bad }
 
-first_bad_later : (line : List ℕ) (more : List (List ℕ)) (k : ℕ) → IsGood line → IsFirstBad more k → IsFirstBad (line ∷ more) (k + 1)
+pub first_bad_later : (line : List ℕ) (more : List (List ℕ)) (k : ℕ) → IsGood line → IsFirstBad more k → IsFirstBad (line ∷ more) (k + 1)
 first_bad_later line more k good h = record {
   before = line ∷ h.before;
   line = h.line;

@@ -9,10 +9,11 @@ use Rattle.domain_records.specs.declared.error.SigningError.{SigningError}
 use Rattle.domain_records.specs.declared.error.SigningError.TheVariants.{Nsec3HashingError}
 use Rattle.domain_nsec.specs.Chain.{Link}
 use Rattle.domain_nsec3.specs.Chain.{HashedLink, ParamRecord}
-use Rattle.domain_checker.specs.HashedView.{links_with}
+use Rattle.domain_checker.specs.HashedView.{links_with, HashedRecords}
 use Rattle.domain_nsec3.specs.View.{HasherAnswer}
 use Rattle.domain_borrowed.specs.Data.{RawRecord}
-use Rattle.domain_borrowed.specs.Links.{nsec_record, nsec3_record, param_record, IsNsec, IsNsec3, IsParam}
+use Rattle.domain_borrowed.specs.Links.{nsec_record, nsec3_record, param_record, IsNsec, IsNsec3}
+use Rattle.domain_borrowed.specs.Links.{IsParam}
 use Rattle.domain_checker.specs.Verdict.{HasProof, IsProved}
 use Rattle.domain_checker.specs.Reading.{reading}
 use Rattle.domain_checker.specs.HashedVerdict.{HasHashedProof, IsFirstRefusal, IsHashedProved}
@@ -23,14 +24,9 @@ use Rattle.denial_program.specs.declared.answer.Reply.{Reply}
 use Rattle.denial_program.specs.declared.answer.Reply.TheVariants as answers
 use Rattle.denial_program.specs.declared.command.Question.{Question}
 use Rattle.denial_program.specs.declared.fault.DenialFault.{DenialFault}
-use Rattle.denial_program.specs.declared.fault.DenialFault.TheVariants.{Usage}
-use Rattle.denial_program.specs.declared.fault.DenialFault.TheVariants.{Read}
-use Rattle.denial_program.specs.declared.fault.DenialFault.TheVariants.{Line}
-use Rattle.denial_program.specs.declared.fault.DenialFault.TheVariants.{Unprepared}
-use Rattle.denial_program.specs.declared.fault.DenialFault.TheVariants.{MixedClasses}
-use Rattle.denial_program.specs.declared.fault.DenialFault.TheVariants.{Signing}
-use Rattle.denial_program.specs.declared.fault.DenialFault.TheVariants.{Param}
-use Rattle.denial_program.specs.declared.fault.DenialFault.TheVariants.{Write}
+use Rattle.denial_program.specs.declared.fault.DenialFault.TheVariants.{Usage, Read, Line}
+use Rattle.denial_program.specs.declared.fault.DenialFault.TheVariants.{Unprepared, MixedClasses}
+use Rattle.denial_program.specs.declared.fault.DenialFault.TheVariants.{Signing, Param, Write}
 use Rattle.denial_program.specs.declared.fault.DenialFault.TheVariants.{OutOfMemory}
 
 -- what records give, in their order: one thing each that is such, and none those that are not
@@ -106,16 +102,20 @@ pub record HasNoParam (apex : Name) (given : List RawRecord) : Type 0 where
   pub are : AreParams apex given params
   pub others : length params ≢ 1
 
--- the hasher refuses a name that is asked for: this is the first
-pub record IsRefused (hashes : HasherAnswer) (given : List RawRecord) (q : Question)
-    (error : SigningError) : Type 0 where
+-- the hasher refuses a name, for the first reason of those that the records of the apex lead to
+pub record IsRefusedBy (IsFirst : HashedRecords → ℕ → Type 0) (hashes : HasherAnswer)
+    (given : List RawRecord) (apex : Name) (error : SigningError) : Type 0 where
   pub param : ParamRecord
-  pub single : AreParams q.apex given (param ∷ [])
+  pub single : AreParams apex given (param ∷ [])
   pub links : List HashedLink
   pub are : AreNsec3s given links
   pub reason : ℕ
   pub is : error ≡ Nsec3HashingError (Hasher reason)
-  pub first : IsFirstRefusal (links_with q.apex param.parameters hashes links) q.name reason
+  pub first : IsFirst (links_with apex param.parameters hashes links) reason
+
+-- a name that is asked for
+abbrev pub IsRefused : HasherAnswer → List RawRecord → Question → SigningError → Type 0
+IsRefused hashes given q = IsRefusedBy (λ R. IsFirstRefusal R q.name) hashes given q.apex
 
 -- why there is none: the apex has no NSEC3PARAM record, or more than one; or the hasher refuses
 abbrev pub HasNoNsec3Verdict : HasherAnswer → List RawRecord → Question → DenialFault → Type 0

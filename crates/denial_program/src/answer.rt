@@ -2,10 +2,9 @@
 ghost use Rattle.std.specs.Prelude.{◌≡◌, ◌⊎◌, List, IfErr, IfOk, IsErrOf, OnOk};
 ghost use Rattle.std.specs.Io.KnownBytes.{Appends};
 ghost use Rattle.domain_records.specs.Order.{IsInOrder, IsOneClass};
-ghost use Rattle.domain_zone.specs.View.{zone_of};
 ghost use Rattle.domain_nsec.specs.Chain.{usual_config, IsFaultless};
 ghost use Rattle.domain_nsec3.specs.Faults.{IsReady};
-ghost use Rattle.domain_borrowed.specs.Data.{minimum_of, RawRecord};
+ghost use Rattle.domain_borrowed.specs.Data.{RawRecord, zone_of_raw};
 ghost use Rattle.denial_program.specs.Answer.{usual_nsec3_config, HasNoAnswer, HasNoNsec3s, HasNoNsecs, IsAnswer, IsNsec3s, IsNsecs, IsUnwritten, IsWritten, Sorts};
 ghost use Rattle.denial_program.specs.Fault.{IsBeforeOutput};
 ghost use Rattle.denial_program.specs.Text.{answer_text, lines_of, nsec_line, nsec3_line, nsec3s_text};
@@ -55,10 +54,9 @@ pub fn nsecs_of<'s, 'a>(
         → Sorts given sorted.now → IsNsecs given apex.now answer) }
     ensures err { IfErr result (λ fault. (given : List RawRecord)
         → Sorts given sorted.now → HasNoNsecs given apex.now fault) }
-    ensures faultless { OnOk result (IsFaultless
-        (zone_of (λ n. n) (λ d. d.rtype) minimum_of sorted.now) apex.now usual_config) }
+    ensures faultless { OnOk result (IsFaultless (zone_of_raw sorted.now) apex.now usual_config) }
     ensures memory { IsErrOf result OutOfMemory → IsFaultless
-        (zone_of (λ n. n) (λ d. d.rtype) minimum_of sorted.now) apex.now usual_config }
+        (zone_of_raw sorted.now) apex.now usual_config }
 {
     let config = GenerateNsecConfig::new();
     match NsecChain::generate(alloc, apex, RecordsIter::new_from_owned(sorted), &config) {
@@ -85,11 +83,9 @@ fn nsec3s_of<'s, 'a, H: Nsec3Hasher>(
     ensures err { IfErr result (λ fault. (given : List RawRecord)
         → Sorts given sorted.now
         → HasNoNsec3s (H.answer hasher.now) given apex.now parameters fault) }
-    ensures ready { OnOk result (IsReady
-        (zone_of (λ n. n) (λ d. d.rtype) minimum_of sorted.now) apex.now
-        (usual_nsec3_config (H.answer hasher.now) parameters)) }
-    ensures memory { IsErrOf result OutOfMemory → IsReady
-        (zone_of (λ n. n) (λ d. d.rtype) minimum_of sorted.now) apex.now
+    ensures ready { OnOk result (IsReady (zone_of_raw sorted.now) apex.now (usual_nsec3_config
+        (H.answer hasher.now) parameters)) }
+    ensures memory { IsErrOf result OutOfMemory → IsReady (zone_of_raw sorted.now) apex.now
         (usual_nsec3_config (H.answer hasher.now) parameters) }
 {
     let config: GenerateNsec3Config<ZoneOctets, InPlaceSorter> = GenerateNsec3Config::new(

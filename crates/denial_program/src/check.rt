@@ -1,8 +1,7 @@
 //! What a chain that was read proves of a name and a type.
-ghost use Rattle.std.specs.Prelude.{◌≡◌, ◌⊎◌, ◌≢◌, ℕ, List, [], ◌∷◌, ◌++◌, map, length, IfErr, IfOk};
+ghost use Rattle.std.specs.Prelude.{◌≡◌, ◌⊎◌, ℕ, List, [], ◌∷◌, ◌++◌, map, IfErr, IfOk};
 ghost use Rattle.domain_base.specs.Words.{Name};
 ghost use Rattle.domain_nsec.specs.Chain.{Link};
-ghost use Rattle.domain_nsec3.specs.Chain.{ParamRecord};
 ghost use Rattle.domain_nsec3.specs.View.{as_param_record, hashed_links_of};
 ghost use Rattle.domain_checker.specs.HandedIn.{HasRead};
 ghost use Rattle.denial_program.specs.Check.{AreNsecs, AreNsec3s, AreParams, HasNoNsec3Verdict, HasNoParam, IsNsec3Verdict, IsNsecVerdict};

@@ -44,7 +44,11 @@ pub enum Command {
 }
 
 /// A name that a word spells.
-fn name_of(alloc: Global, word: &str) -> Result<ZoneName, DenialFault>
+///
+/// # Errors
+///
+/// `Usage` where it spells none, and `OutOfMemory`.
+pub fn name_of(alloc: Global, word: &str) -> Result<ZoneName, DenialFault>
     ensures ok { IfOk result (NameText word.now) }
     ensures err { IfErr result (λ e. ((e ≡ DenialFault.Usage) × IsNoName word.now)
         ⊎ (e ≡ OutOfMemory)) }

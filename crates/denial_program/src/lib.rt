@@ -21,7 +21,7 @@ mod verdict_text;
 
 pub use answer::{Reply, nsecs_of};
 pub use check::chain_of;
-pub use command::{Nsec3Params, Question, parameters_of, question_of};
+pub use command::{Nsec3Params, Question, name_of, parameters_of, question_of};
 pub use fault::{DenialFault, fault_of};
 pub use line::{ZoneName, ZoneOctets};
 pub use prepare::{PrepareError, read_records, sort_zone};

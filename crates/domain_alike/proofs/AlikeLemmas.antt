@@ -1,7 +1,6 @@
 -- Names that have one hash, found in a list of names in canonical order.
-use Rattle.std.proofs.Common.{◌≡◌, ◌⊎◌, ℕ, Bool, true, false, cond, List, [], ◌∷◌, ◌++◌, map, refl, sym, ap, ◌∙◌, inl, inr, subst}
-use Rattle.std.proofs.Common.{append-nil, Option, Some, None, Bor, is_some, option_map, Ok, Err, ◌+◌, ◌<◌}
-use Rattle.std.proofs.Common.{drop, get_or, length, take}
+use Rattle.std.proofs.Common.{◌≡◌, ◌⊎◌, ℕ, Bool, true, false, cond, List, [], ◌∷◌, ◌++◌, map, refl, sym, ap, ◌∙◌, inl, inr, subst, append-nil, Option, Some}
+use Rattle.std.proofs.Common.{None, Bor, is_some, option_map, Ok, Err, ◌+◌, ◌<◌, drop, get_or, length, take}
 use Rattle.std.specs.Cmp.Lexicographic.{slice_cmp, bytes_decides, nat_list_cmp_total, texts_ties}
 use Rattle.std.specs.List.{find, list_any, AllByRecursion}
 use Rattle.std.specs.Option.{option_copied, option_or}

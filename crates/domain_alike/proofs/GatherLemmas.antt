@@ -1,7 +1,6 @@
 -- The owners of a list in order and the names above them, gathered one owner after another.
-use Rattle.std.proofs.Common.{◌≡◌, ◌⊎◌, ℕ, ◌+◌, ◌<◌, ◌≤◌, Bool, true, false, cond, not, ◌&&◌, ◌||◌}
-use Rattle.std.proofs.Common.{List, [], ◌∷◌, ◌++◌, length, refl, sym, ap, ◌∙◌, arith, inl, inr}
-use Rattle.std.proofs.Common.{append-nil}
+use Rattle.std.proofs.Common.{◌≡◌, ◌⊎◌, ℕ, ◌+◌, ◌<◌, ◌≤◌, Bool, true, false, cond, not, ◌&&◌, ◌||◌, List, [], ◌∷◌, ◌++◌, length, refl, sym, ap, ◌∙◌, arith, inl}
+use Rattle.std.proofs.Common.{inr, append-nil}
 use Rattle.std.specs.Prelude.{All, filter, nat_le, nat_lt}
 use Rattle.std.specs.List.{AllByRecursion, list_any}
 use Rattle.std.specs.List.Sorted.{IsStrictlySortedBy}
@@ -17,8 +16,7 @@ use Rattle.domain_base.specs.Order.{before, canonical_cmp}
 use Rattle.domain_base.specs.Words.{Name}
 use Rattle.domain_zone.specs.Enclosers.{exists_over}
 use Rattle.domain_zone.specs.Zone.{ZoneRecord, OwnersNeverDescend, is_occluded, is_unoccluded, owns, unoccluded_owners}
-use Rattle.domain_zone.proofs.NameLemmas.{before_order, one_lowered, same_itself, below_itself}
-use Rattle.domain_zone.proofs.NameLemmas.{below_trans, below_from, below_between, below_longer}
+use Rattle.domain_zone.proofs.NameLemmas.{before_order, one_lowered, same_itself, below_itself, below_trans, below_from, below_between, below_longer}
 use Rattle.domain_zone.proofs.NameLemmas.{below_length, below_parent, lowered_below}
 use Rattle.domain_zone.proofs.OwnerLemmas.{any_in, in_any, owners_are, owners_ascend}
 use Rattle.domain_zone.proofs.PairLemmas.{In, IsAscending, all_in, le_lt}

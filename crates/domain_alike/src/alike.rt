@@ -1,12 +1,11 @@
 //! Which names of a chain hash alike.
 ghost use Rattle.std.specs.Prelude.{◌≡◌, ◌⊎◌, ℕ, ◌++◌, ◌∷◌, [], List, Ok, Err, IfErr, IfOk, OnOk, map, option_map, slice_get};
 ghost use Rattle.domain_base.specs.Words.{Name};
-ghost use Rattle.domain_borrowed.specs.Data.{minimum_of};
 ghost use Rattle.domain_nsec3.specs.Config.{Hash, hash_name};
 ghost use Rattle.domain_nsec3.specs.View.{config_of, hash_by, parameters_of};
 ghost use Rattle.domain_records.specs.Order.{IsInOrder};
 ghost use Rattle.domain_hasher.specs.declared.error.Nsec3HashError.TheVariants as hash_error;
-ghost use Rattle.domain_zone.specs.View.{zone_of};
+ghost use Rattle.domain_borrowed.specs.Data.{zone_of_raw};
 ghost use Rattle.domain_alike.specs.Alike.{pair_of, AreAlike, IsFirstPair, IsFirstRefusal};
 ghost use Rattle.domain_alike.specs.AlikeSteps.{first_with, pair_with, AreFirstNames, IsRefusedAmong, Met};
 
@@ -160,13 +159,11 @@ pub fn alike_names<'a, O: Octets, S, H: Nsec3Hasher>(
     hasher: &H,
 ) -> Result<Vec<Alike<'a>>, Nsec3HashError>
     requires { IsInOrder (λ n. n) (λ d. d.rtype) sorted.now }
-    ensures ok { IfOk result (λ pairs. AreAlike
-        (zone_of (λ n. n) (λ d. d.rtype) minimum_of sorted.now) apex.now
-        (config_of (H.answer hasher.now) config.now) (map pair_of pairs.items)) }
-    ensures err { IfErr result (λ e. (e ≡ hash_error.OutOfMemory) ⊎ ((n : ℕ)
-        × (e ≡ hash_error.Hasher n)
-        × IsFirstRefusal (zone_of (λ n. n) (λ d. d.rtype) minimum_of sorted.now) apex.now
-        (config_of (H.answer hasher.now) config.now) n)) }
+    ensures ok { IfOk result (λ pairs. AreAlike (zone_of_raw sorted.now) apex.now (config_of
+        (H.answer hasher.now) config.now) (map pair_of pairs.items)) }
+    ensures err { IfErr result (λ e. (e ≡ hash_error.OutOfMemory) ⊎ ((n : ℕ) × (e
+        ≡ hash_error.Hasher n) × IsFirstRefusal (zone_of_raw sorted.now) apex.now (config_of
+        (H.answer hasher.now) config.now) n)) }
 {
     let without_unsigned = config.params.opt_out_flag()
         & config.opt_out_exclude_owner_names_of_unsigned_delegations;
@@ -199,13 +196,11 @@ pub fn first_alike<'a, O: Octets, S, H: Nsec3Hasher>(
     hasher: &H,
 ) -> Result<Option<Alike<'a>>, Nsec3HashError>
     requires { IsInOrder (λ n. n) (λ d. d.rtype) sorted.now }
-    ensures ok { IfOk result (λ alike. IsFirstPair
-        (zone_of (λ n. n) (λ d. d.rtype) minimum_of sorted.now) apex.now
-        (config_of (H.answer hasher.now) config.now) (option_map pair_of alike)) }
-    ensures err { IfErr result (λ e. (e ≡ hash_error.OutOfMemory) ⊎ ((n : ℕ)
-        × (e ≡ hash_error.Hasher n)
-        × IsFirstRefusal (zone_of (λ n. n) (λ d. d.rtype) minimum_of sorted.now) apex.now
-        (config_of (H.answer hasher.now) config.now) n)) }
+    ensures ok { IfOk result (λ alike. IsFirstPair (zone_of_raw sorted.now) apex.now (config_of
+        (H.answer hasher.now) config.now) (option_map pair_of alike)) }
+    ensures err { IfErr result (λ e. (e ≡ hash_error.OutOfMemory) ⊎ ((n : ℕ) × (e
+        ≡ hash_error.Hasher n) × IsFirstRefusal (zone_of_raw sorted.now) apex.now (config_of
+        (H.answer hasher.now) config.now) n)) }
 {
     match alike_names(alloc, apex, sorted, config, hasher) {
         Ok(pairs) => Ok(first_of(pairs)),

@@ -1,15 +1,14 @@
 //! The names of the NSEC3 chain of a zone.
-ghost use Rattle.std.specs.Prelude.{◌≡◌, ◌++◌, not, true, length, All, IfOk, OnOk};
+ghost use Rattle.std.specs.Prelude.{◌≡◌, ◌++◌, true, length, All, IfOk, OnOk};
 ghost use Rattle.std.specs.List.Sorted.{IsStrictlySortedBy};
 ghost use Rattle.domain_base.specs.Name.{is_at_or_below};
 ghost use Rattle.domain_base.specs.Order.{canonical_cmp};
-ghost use Rattle.domain_borrowed.specs.Data.{minimum_of};
 ghost use Rattle.domain_nsec3.specs.Ancestors.{IsListOf};
 ghost use Rattle.domain_nsec3.specs.Config.{excludes, ChainConfig};
 ghost use Rattle.domain_nsec3.specs.Owners.{is_chain_name};
 ghost use Rattle.domain_records.specs.Order.{IsInOrder};
 ghost use Rattle.domain_zone.specs.Enclosers.{exists_over};
-ghost use Rattle.domain_zone.specs.View.{zone_of};
+ghost use Rattle.domain_borrowed.specs.Data.{zone_of_raw};
 ghost use Rattle.domain_alike.specs.AlikeSteps.{up_with_more};
 ghost use Rattle.domain_alike.specs.Covered.{covered_names};
 
@@ -31,9 +30,8 @@ fn owners_of<'a>(
     below_dname: bool,
 ) -> Result<Vec<ParsedName<'a>>, OutOfMemory>
     requires { IsInOrder (λ n. n) (λ d. d.rtype) sorted.now }
-    ensures { IfOk result (λ owners. owners.items
-        ≡ covered_names without_unsigned below_dname
-        (zone_of (λ n. n) (λ d. d.rtype) minimum_of sorted.now) apex.now) }
+    ensures { IfOk result (λ owners. owners.items ≡ covered_names without_unsigned below_dname
+        (zone_of_raw sorted.now) apex.now) }
 {
     let mut left = UnoccludedOwners::new(apex, RecordsIter::new_from_owned(sorted), below_dname);
     let mut owners = Vec::new(alloc);
@@ -110,9 +108,8 @@ pub fn chain_names<'a>(
 ) -> Result<Vec<ParsedName<'a>>, OutOfMemory>
     requires { IsInOrder (λ n. n) (λ d. d.rtype) sorted.now }
     ensures { IfOk result (λ names. (config : ChainConfig) → excludes config ≡ without_unsigned
-        → config.occlude_below_dname ≡ below_dname
-        → IsListOf (is_chain_name (zone_of (λ n. n) (λ d. d.rtype) minimum_of sorted.now) apex.now
-        config) names.items) }
+        → config.occlude_below_dname ≡ below_dname → IsListOf (is_chain_name
+        (zone_of_raw sorted.now) apex.now config) names.items) }
 {
     let owners = owners_of(alloc, apex, sorted, without_unsigned, below_dname)?;
     let names = names_over(alloc, apex, &owners)?;

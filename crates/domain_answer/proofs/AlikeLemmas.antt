@@ -17,11 +17,11 @@ use Rattle.domain_checker.specs.Reading.{is_at_cut, is_cover, is_match}
 use Rattle.domain_checker.proofs.AlikeLemmas.{is_cover_alike, is_match_alike, says_alike}
 use Rattle.domain_checker.proofs.PairedLemmas.{OptionsPaired, any_alike, find_alike}
 use Rattle.domain_checker.proofs.EncloserLemmas.{same_count}
-use Rattle.domain_answer.specs.declared.answer.Answer.TheVariants.{OutsideZone, AtParent, Referral, Redirected, Has, NoDs, Alias, NoData}
-use Rattle.domain_answer.specs.declared.answer.Answer.TheVariants.{Wildcard, WildcardAlias, WildcardNoData, NameError, NoCloserName, NotProven}
+use Rattle.domain_answer.specs.declared.answer.Answer.TheVariants.{OutsideZone, AtParent, Referral, Redirected, Has, NoDs, Alias, NoData, Wildcard}
+use Rattle.domain_answer.specs.declared.answer.Answer.TheVariants.{WildcardAlias, WildcardNoData, NameError, NoCloserName, NotProven}
 use Rattle.domain_answer.specs.Proved.{is_missing, needs_no_records, proved_answer}
-use Rattle.domain_answer.specs.Reading.{absent_answer, cover_answer, listed_answer, listed_both, match_answer, owner_answer, reading}
-use Rattle.domain_answer.specs.Reading.{tells_occluded, wildcard_both, wildcard_cover_answer, wildcard_match_answer}
+use Rattle.domain_answer.specs.Reading.{absent_answer, cover_answer, listed_answer, listed_both, match_answer, owner_answer, reading, tells_occluded}
+use Rattle.domain_answer.specs.Reading.{wildcard_both, wildcard_cover_answer, wildcard_match_answer}
 use Rattle.domain_answer.specs.ZoneAnswer.{encloser, is_at_parent, wildcard_below, zone_answer}
 
 shared_alike : (x y z : Name) → lowered y ≡ lowered z → shared x y ≡ shared x z

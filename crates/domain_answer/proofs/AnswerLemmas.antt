@@ -1,6 +1,6 @@
 -- What the records of a chain answer by themselves is what they prove of the zone.
-use Rattle.std.proofs.Common.{◌≡◌, ℕ, ◌<◌, Bool, true, false, cond, not, ◌&&◌, ◌||◌, List, length}
-use Rattle.std.proofs.Common.{refl, sym, ap, ◌∙◌, inl, inr, Option, Some, None, slice_get, arith}
+use Rattle.std.proofs.Common.{◌≡◌, ℕ, ◌<◌, Bool, true, false, cond, not, ◌&&◌, ◌||◌, List, length, refl, sym, ap, ◌∙◌, inl, inr, Option, Some, None, slice_get}
+use Rattle.std.proofs.Common.{arith}
 use Rattle.std.specs.Prelude.{◌==◌}
 use Rattle.std.specs.List.{find, list_any}
 use Rattle.std.proofs.lemmas.Bool.{cases_Bool, false≢true, and_parts, and_from, not-true}
@@ -20,18 +20,18 @@ use Rattle.domain_checker.specs.Reading.{is_cover, is_match}
 use Rattle.domain_checker.specs.Verdict.{has_match_or_cover}
 use Rattle.domain_checker.proofs.EncloserLemmas.{closest_is, cut_same, exists_same, top_occluder, same_count, strictly_trans}
 use Rattle.domain_checker.proofs.FindLemmas.{Stands, stands_all}
-use Rattle.domain_checker.proofs.MeantLemmas.{BitmapsAreSets, ChainLaws, IgnoresCase, IsMeant, apex_exists, cover_of, match_of, silent}
-use Rattle.domain_checker.proofs.MeantLemmas.{covered_encloser, covered_under, covered_unowned, matched_high, matched_same}
+use Rattle.domain_checker.proofs.MeantLemmas.{BitmapsAreSets, ChainLaws, IgnoresCase, IsMeant, apex_exists, cover_of, match_of, silent, covered_encloser}
+use Rattle.domain_checker.proofs.MeantLemmas.{covered_under, covered_unowned, matched_high, matched_same}
 use Rattle.domain_answer.specs.declared.answer.Answer.{Answer}
-use Rattle.domain_answer.specs.declared.answer.Answer.TheVariants.{OutsideZone, AtParent, Referral, Redirected, Has, NoDs, Alias, NoData}
-use Rattle.domain_answer.specs.declared.answer.Answer.TheVariants.{Wildcard, WildcardAlias, WildcardNoData, NameError, NoCloserName, NotProven}
+use Rattle.domain_answer.specs.declared.answer.Answer.TheVariants.{OutsideZone, AtParent, Referral, Redirected, Has, NoDs, Alias, NoData, Wildcard}
+use Rattle.domain_answer.specs.declared.answer.Answer.TheVariants.{WildcardAlias, WildcardNoData, NameError, NoCloserName, NotProven}
 use Rattle.domain_answer.specs.Proved.{IsAnswered, is_missing, knows_wildcard, proved_answer}
-use Rattle.domain_answer.specs.Reading.{absent_answer, cover_answer, listed_answer, listed_both, match_answer, owner_answer, reading}
-use Rattle.domain_answer.specs.Reading.{tells_occluded, wildcard_answer, wildcard_both, wildcard_cover_answer, wildcard_match_answer}
-use Rattle.domain_answer.specs.ZoneAnswer.{asterisk, encloser, existing_answer, highest_occluder, inside_answer, is_at_parent}
-use Rattle.domain_answer.specs.ZoneAnswer.{missing_answer, name_exists, owns_type, wildcard_below, zone_answer}
-use Rattle.domain_answer.proofs.ChainLemmas.{child_at, covered_cut, covered_exists, covered_told, matched_cut, matched_exists, matched_type}
-use Rattle.domain_answer.proofs.ChainLemmas.{meant_leaving, no_cut, no_type}
+use Rattle.domain_answer.specs.Reading.{absent_answer, cover_answer, listed_answer, listed_both, match_answer, owner_answer, reading, tells_occluded}
+use Rattle.domain_answer.specs.Reading.{wildcard_answer, wildcard_both, wildcard_cover_answer, wildcard_match_answer}
+use Rattle.domain_answer.specs.ZoneAnswer.{asterisk, encloser, existing_answer, highest_occluder, inside_answer, is_at_parent, missing_answer, name_exists}
+use Rattle.domain_answer.specs.ZoneAnswer.{owns_type, wildcard_below, zone_answer}
+use Rattle.domain_answer.proofs.ChainLemmas.{child_at, covered_cut, covered_exists, covered_told, matched_cut, matched_exists, matched_type, meant_leaving}
+use Rattle.domain_answer.proofs.ChainLemmas.{no_cut, no_type}
 use Rattle.domain_answer.proofs.CountLemmas.{closest_last, parent_below}
 use Rattle.domain_answer.proofs.OccluderLemmas.{highest_is, none_above}
 

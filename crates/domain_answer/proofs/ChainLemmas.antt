@@ -1,6 +1,5 @@
 -- What a record of a chain that leaves out the names below a DNAME tells of the zone.
-use Rattle.std.proofs.Common.{◌≡◌, ℕ, ◌<◌, Bool, true, false, cond, not, ◌&&◌, ◌||◌, List, [], ◌∷◌}
-use Rattle.std.proofs.Common.{refl, sym, ap, ◌∙◌, Some, slice_get, arith}
+use Rattle.std.proofs.Common.{◌≡◌, ℕ, ◌<◌, Bool, true, false, cond, not, ◌&&◌, ◌||◌, List, [], ◌∷◌, refl, sym, ap, ◌∙◌, Some, slice_get, arith}
 use Rattle.std.specs.Prelude.{filter}
 use Rattle.std.specs.List.{list_any}
 use Rattle.std.proofs.lemmas.Bool.{or_parts, and_from}
@@ -11,8 +10,7 @@ use Rattle.domain_base.specs.Order.{before}
 use Rattle.domain_base.specs.Types.{dname, ns, soa}
 use Rattle.domain_base.specs.Words.{Name}
 use Rattle.domain_zone.specs.Covering.{matches, covers, pairs}
-use Rattle.domain_zone.specs.Zone.{ZoneRecord, OwnersNeverDescend, has_type, is_occluded, is_zone_cut}
-use Rattle.domain_zone.specs.Zone.{occludes, owns, records_of, unoccluded_owners}
+use Rattle.domain_zone.specs.Zone.{ZoneRecord, OwnersNeverDescend, has_type, is_occluded, is_zone_cut, occludes, owns, records_of, unoccluded_owners}
 use Rattle.domain_zone.proofs.NameLemmas.{one_lowered, below_itself, lowered_below}
 use Rattle.domain_zone.proofs.PairLemmas.{In}
 use Rattle.domain_zone.proofs.OwnerLemmas.{in_any}
@@ -21,8 +19,8 @@ use Rattle.domain_nsec.specs.declared.config.GenerateNsecConfig.{GenerateNsecCon
 use Rattle.domain_checker.specs.Reading.{is_at_cut}
 use Rattle.domain_checker.proofs.EncloserLemmas.{cut_same, owner_owns}
 use Rattle.domain_checker.proofs.FindLemmas.{in_at}
-use Rattle.domain_checker.proofs.MeantLemmas.{BitmapsAreSets, ChainLaws, IgnoresCase, IsMeant, cut_at, ends, meant_by, owner_low, type_at}
-use Rattle.domain_checker.proofs.MeantLemmas.{covered_no_owner, covered_occluded, matched_low, matched_same}
+use Rattle.domain_checker.proofs.MeantLemmas.{BitmapsAreSets, ChainLaws, IgnoresCase, IsMeant, cut_at, ends, meant_by, owner_low, type_at, covered_no_owner}
+use Rattle.domain_checker.proofs.MeantLemmas.{covered_occluded, matched_low, matched_same}
 use Rattle.domain_answer.specs.TypesAnswer.{is_of_child}
 use Rattle.domain_answer.specs.Proved.{LeavesOutBelowDname}
 use Rattle.domain_answer.specs.Reading.{tells_occluded, tells_occluder}

@@ -1,14 +1,14 @@
 -- How many labels names have: the last ones, and those that names share.
-use Rattle.std.proofs.Common.{◌≡◌, ℕ, ◌≤◌, ◌<◌, ◌-◌, suc, Bool, true, false, cond, not, ◌&&◌, ◌||◌, List, [], ◌∷◌}
-use Rattle.std.proofs.Common.{drop, length, refl, sym, ap, ◌∙◌, subst, inl, inr, arith, ltb}
+use Rattle.std.proofs.Common.{◌≡◌, ℕ, ◌≤◌, ◌<◌, ◌-◌, suc, Bool, true, false, cond, not, ◌&&◌, ◌||◌, List, [], ◌∷◌, drop, length, refl, sym, ap, ◌∙◌, subst, inl}
+use Rattle.std.proofs.Common.{inr, arith, ltb}
 use Rattle.std.proofs.lemmas.Bool.{cases_Bool, cases_lt, false≢true, and_parts, and_from}
 use Rattle.domain_base.specs.Name.{is_at_or_below, is_strictly_below, lowered, same_name, last_labels}
 use Rattle.domain_base.specs.Order.{before}
 use Rattle.domain_base.specs.Words.{Label, Name}
 use Rattle.domain_zone.specs.Covering.{covers, matches}
 use Rattle.domain_zone.specs.Enclosers.{exists_over, longer, shared}
-use Rattle.domain_zone.proofs.NameLemmas.{before_right, before_order, below_between, below_from, below_itself, below_longer, below_parent}
-use Rattle.domain_zone.proofs.NameLemmas.{below_root, below_trans, lowered_below, one_lowered, same_lowered}
+use Rattle.domain_zone.proofs.NameLemmas.{before_right, before_order, below_between, below_from, below_itself, below_longer, below_parent, below_root}
+use Rattle.domain_zone.proofs.NameLemmas.{below_trans, lowered_below, one_lowered, same_lowered}
 use Rattle.domain_checker.specs.Verdict.{closest_encloser}
 use Rattle.domain_checker.proofs.SharedLemmas.{shared_within}
 use Rattle.domain_checker.proofs.EncloserLemmas.{strictly_from, strictly_longer}

@@ -1,6 +1,6 @@
 -- What NSEC3 records answer of a name whose records were expanded from a wildcard is what they prove of the zone.
-use Rattle.std.proofs.Common.{◌≡◌, ℕ, ◌+◌, ◌≤◌, ◌<◌, Bool, true, false, cond, not, ◌&&◌, List, All, length}
-use Rattle.std.proofs.Common.{refl, sym, ap, ◌∙◌, subst, inl, inr, Option, Some, None, arith}
+use Rattle.std.proofs.Common.{◌≡◌, ℕ, ◌+◌, ◌≤◌, ◌<◌, Bool, true, false, cond, not, ◌&&◌, List, All, length, refl, sym, ap, ◌∙◌, subst, inl, inr, Option, Some}
+use Rattle.std.proofs.Common.{None, arith}
 use Rattle.std.specs.Prelude.{Ok, nat_le, nat_lt}
 use Rattle.std.specs.List.{find, list_any, Contains}
 use Rattle.std.proofs.lemmas.Bool.{and_parts, and_from, cases_lt, false≢true}
@@ -28,9 +28,7 @@ use Rattle.domain_checker.proofs.EncloserLemmas.{closest_is}
 use Rattle.domain_checker.proofs.FindLemmas.{any_none, find_none, find_some}
 use Rattle.domain_answer.specs.declared.answer.Answer.{Answer}
 use Rattle.domain_answer.specs.declared.answer.Answer.TheVariants.{MayBeUnsigned, NoCloserName, NotProven}
-use Rattle.domain_answer.specs.Expansion.{ExpansionRestsOn, IsExpansionAnswered}
-use Rattle.domain_answer.specs.Expansion.{IsExpansionRead, closer_name, closer_told}
-use Rattle.domain_answer.specs.Expansion.{is_expanded, proved_expansion}
+use Rattle.domain_answer.specs.Expansion.{ExpansionRestsOn, IsExpansionAnswered, IsExpansionRead, closer_name, closer_told, is_expanded, proved_expansion}
 use Rattle.domain_answer.specs.HashedReading.{next_answer}
 use Rattle.domain_answer.specs.HashedZoneAnswer.{hashed_encloser, hashed_exists}
 use Rattle.domain_answer.specs.Proved.{CountsWithin}

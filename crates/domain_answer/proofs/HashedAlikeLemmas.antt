@@ -18,12 +18,11 @@ use Rattle.domain_checker.specs.HashedVerdict.{IsFirst, next_closer}
 use Rattle.domain_checker.proofs.HashedAlikeLemmas.{covered_alike, hash_cover_alike, hash_match_alike, matched_alike}
 use Rattle.domain_checker.proofs.PairedLemmas.{OptionsPaired, find_alike}
 use Rattle.domain_answer.specs.declared.answer.Answer.{Answer}
-use Rattle.domain_answer.specs.declared.answer.Answer.TheVariants.{Referral, Redirected, Has, NoDs, Alias, NoData}
-use Rattle.domain_answer.specs.declared.answer.Answer.TheVariants.{Wildcard, WildcardAlias, WildcardNoData, MayBeUnsigned, NoCloserName, NotProven}
+use Rattle.domain_answer.specs.declared.answer.Answer.TheVariants.{Referral, Redirected, Has, NoDs, Alias, NoData, Wildcard, WildcardAlias, WildcardNoData}
+use Rattle.domain_answer.specs.declared.answer.Answer.TheVariants.{MayBeUnsigned, NoCloserName, NotProven}
 use Rattle.domain_answer.specs.Expansion.{IsExpansionRead, closer_name, closer_told, proved_expansion}
 use Rattle.domain_answer.specs.HashedProved.{hashed_proved_answer, needs_wildcard, tells_encloser, tells_wildcard}
-use Rattle.domain_answer.specs.HashedReading.{IsHashedRead, IsReadOn, encloser_answer}
-use Rattle.domain_answer.specs.HashedReading.{found_answer, next_answer, wildcard_told}
+use Rattle.domain_answer.specs.HashedReading.{IsHashedRead, IsReadOn, encloser_answer, found_answer, next_answer, wildcard_told}
 use Rattle.domain_answer.specs.HashedZoneAnswer.{hashed_encloser, hashed_exists, hashed_zone_answer}
 use Rattle.domain_answer.specs.Proved.{needs_no_records}
 use Rattle.domain_answer.specs.ZoneAnswer.{wildcard_below}

@@ -1,6 +1,6 @@
 -- What the records of an NSEC3 chain answer by themselves is what they prove of the zone.
-use Rattle.std.proofs.Common.{◌≡◌, ℕ, ◌+◌, ◌-◌, ◌≤◌, ◌<◌, Bool, true, false, cond, not, ◌&&◌, ◌||◌, List}
-use Rattle.std.proofs.Common.{All, length, drop, refl, sym, ap, ◌∙◌, subst, inl, inr, nat_eq, Option, Some, None, arith}
+use Rattle.std.proofs.Common.{◌≡◌, ℕ, ◌+◌, ◌-◌, ◌≤◌, ◌<◌, Bool, true, false, cond, not, ◌&&◌, ◌||◌, List, All, length, drop, refl, sym, ap, ◌∙◌, subst, inl}
+use Rattle.std.proofs.Common.{inr, nat_eq, Option, Some, None, arith}
 use Rattle.std.specs.Prelude.{Ok}
 use Rattle.std.specs.List.{find, list_any, Contains}
 use Rattle.std.proofs.lemmas.Bool.{cases_Bool, cases_lt, false≢true, and_parts, and_from, and_left, and_right, or_left, or_right, not-true}
@@ -27,9 +27,8 @@ use Rattle.domain_checker.specs.HashedReading.{IsNextHash}
 use Rattle.domain_checker.specs.HashedView.{HashedRecords, chain_records}
 use Rattle.domain_checker.specs.HashedVerdict.{is_below_chain_cut, is_covered, is_matched, is_ok_with, next_closer}
 use Rattle.domain_checker.proofs.CutLemmas.{below_cut, cut_above, cut_apart, not_below}
-use Rattle.domain_checker.proofs.EncloserLemmas.{apex_from, closest_is, cut_same, exists_same}
-use Rattle.domain_checker.proofs.EncloserLemmas.{owner_unoccluded, same_length, same_count}
-use Rattle.domain_checker.proofs.EncloserLemmas.{strictly_longer, strictly_from}
+use Rattle.domain_checker.proofs.EncloserLemmas.{apex_from, closest_is, cut_same, exists_same, owner_unoccluded, same_length, same_count, strictly_longer}
+use Rattle.domain_checker.proofs.EncloserLemmas.{strictly_from}
 use Rattle.domain_checker.proofs.FindLemmas.{any_none, in_filter, find_some, find_none}
 use Rattle.domain_checker.proofs.HashedVerdictLemmas.{as_chain}
 use Rattle.domain_checker.proofs.HashedEncloserLemmas.{cut_counted, itself_counted}
@@ -37,18 +36,14 @@ use Rattle.domain_checker.proofs.HashedWalkLemmas.{closer_is}
 use Rattle.domain_checker.proofs.HashedListLemmas.{hash_same}
 use Rattle.domain_answer.specs.TypesAnswer.{is_of_child}
 use Rattle.domain_answer.specs.declared.answer.Answer.{Answer}
-use Rattle.domain_answer.specs.declared.answer.Answer.TheVariants.{OutsideZone, AtParent, Referral, Redirected, Has, NoDs, Alias, NoData}
-use Rattle.domain_answer.specs.declared.answer.Answer.TheVariants.{Wildcard, WildcardAlias}
-use Rattle.domain_answer.specs.declared.answer.Answer.TheVariants.{WildcardNoData}
-use Rattle.domain_answer.specs.declared.answer.Answer.TheVariants.{NameError, MayBeUnsigned}
-use Rattle.domain_answer.specs.declared.answer.Answer.TheVariants.{NoCloserName}
-use Rattle.domain_answer.specs.declared.answer.Answer.TheVariants.{NotProven}
+use Rattle.domain_answer.specs.declared.answer.Answer.TheVariants.{OutsideZone, AtParent, Referral, Redirected, Has, NoDs, Alias, NoData, Wildcard}
+use Rattle.domain_answer.specs.declared.answer.Answer.TheVariants.{WildcardAlias, WildcardNoData, NameError, MayBeUnsigned, NoCloserName, NotProven}
 use Rattle.domain_answer.specs.HashedMeaning.{ChainMeans, ChainsAreMeant}
 use Rattle.domain_answer.specs.HashedProved.{AreAskedAlone, IsHashedAnswered, hashed_proved_answer, needs_wildcard, tells_encloser, tells_wildcard}
-use Rattle.domain_answer.specs.HashedReading.{IsHashedRead, IsReadOn, IsWildcardRead, encloser_answer, found_answer}
-use Rattle.domain_answer.specs.HashedReading.{lower_answer, next_answer, own_answer, wildcard_told}
-use Rattle.domain_answer.specs.HashedZoneAnswer.{hashed_encloser, hashed_existing_answer, hashed_exists, hashed_inside_answer}
-use Rattle.domain_answer.specs.HashedZoneAnswer.{hashed_missing_answer, hashed_wildcard_answer, hashed_zone_answer}
+use Rattle.domain_answer.specs.HashedReading.{IsHashedRead, IsReadOn, IsWildcardRead, encloser_answer, found_answer, lower_answer, next_answer, own_answer}
+use Rattle.domain_answer.specs.HashedReading.{wildcard_told}
+use Rattle.domain_answer.specs.HashedZoneAnswer.{hashed_encloser, hashed_existing_answer, hashed_exists, hashed_inside_answer, hashed_missing_answer}
+use Rattle.domain_answer.specs.HashedZoneAnswer.{hashed_wildcard_answer, hashed_zone_answer}
 use Rattle.domain_answer.specs.ZoneAnswer.{asterisk, is_at_parent, wildcard_below}
 use Rattle.domain_answer.proofs.CountLemmas.{closest_last}
 

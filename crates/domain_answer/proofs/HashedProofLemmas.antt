@@ -1,6 +1,6 @@
 -- The records that an answer of NSEC3 records rests on are there, and what it counts are labels of the name.
-use Rattle.std.proofs.Common.{◌≡◌, ℕ, ◌≤◌, ◌<◌, Bool, true, false, cond, not, ◌&&◌, ◌||◌, length, refl, sym, ap, ◌∙◌, subst, inl, inr}
-use Rattle.std.proofs.Common.{nat_eq, Option, Some, None, arith}
+use Rattle.std.proofs.Common.{◌≡◌, ℕ, ◌≤◌, ◌<◌, Bool, true, false, cond, not, ◌&&◌, ◌||◌, length, refl, sym, ap, ◌∙◌, subst, inl, inr, nat_eq, Option, Some}
+use Rattle.std.proofs.Common.{None, arith}
 use Rattle.std.specs.List.{list_any}
 use Rattle.std.proofs.lemmas.Bool.{cases_Bool, cases_lt, eq-eqb, false≢true}
 use Rattle.domain_octets.specs.Words.{Octets}
@@ -24,15 +24,11 @@ use Rattle.domain_checker.proofs.HashedEncloserLemmas.{itself_counted}
 use Rattle.domain_checker.proofs.HashedWalkLemmas.{matched_same}
 use Rattle.domain_answer.specs.TypesAnswer.{is_of_child}
 use Rattle.domain_answer.specs.declared.answer.Answer.{Answer}
-use Rattle.domain_answer.specs.declared.answer.Answer.TheVariants.{Referral, Redirected, Has, NoDs, Alias, NoData}
-use Rattle.domain_answer.specs.declared.answer.Answer.TheVariants.{Wildcard, WildcardAlias}
-use Rattle.domain_answer.specs.declared.answer.Answer.TheVariants.{WildcardNoData}
-use Rattle.domain_answer.specs.declared.answer.Answer.TheVariants.{NameError, MayBeUnsigned}
-use Rattle.domain_answer.specs.declared.answer.Answer.TheVariants.{NoCloserName}
-use Rattle.domain_answer.specs.declared.answer.Answer.TheVariants.{NotProven}
+use Rattle.domain_answer.specs.declared.answer.Answer.TheVariants.{Referral, Redirected, Has, NoDs, Alias, NoData, Wildcard, WildcardAlias, WildcardNoData}
+use Rattle.domain_answer.specs.declared.answer.Answer.TheVariants.{NameError, MayBeUnsigned, NoCloserName, NotProven}
 use Rattle.domain_answer.specs.HashedProved.{HasCloserProof, HasEncloserProof, HashedRestsOn}
-use Rattle.domain_answer.specs.HashedReading.{IsHashedRead, IsReadOn, IsWildcardRead, encloser_answer, found_answer}
-use Rattle.domain_answer.specs.HashedReading.{lower_answer, next_answer, own_answer, wildcard_told}
+use Rattle.domain_answer.specs.HashedReading.{IsHashedRead, IsReadOn, IsWildcardRead, encloser_answer, found_answer, lower_answer, next_answer, own_answer}
+use Rattle.domain_answer.specs.HashedReading.{wildcard_told}
 use Rattle.domain_answer.specs.Proved.{CountsWithin}
 use Rattle.domain_answer.specs.ZoneAnswer.{wildcard_below}
 use Rattle.domain_answer.proofs.HashedAnswerLemmas.{own_never, read_plain}

@@ -1,6 +1,5 @@
 -- The whole NSEC3 chain proves all that the zone says.
-use Rattle.std.proofs.Common.{◌≡◌, ◌≢◌, ℕ, ◌+◌, ◌-◌, Bool, true, false, cond, not, ◌&&◌, ◌||◌, List, [], ◌∷◌, drop, length}
-use Rattle.std.proofs.Common.{refl, sym, ap, ◌∙◌, inl, inr, arith}
+use Rattle.std.proofs.Common.{◌≡◌, ◌≢◌, ℕ, ◌+◌, ◌-◌, Bool, true, false, cond, not, ◌&&◌, ◌||◌, List, [], ◌∷◌, drop, length, refl, sym, ap, ◌∙◌, inl, inr, arith}
 use Rattle.std.specs.Prelude.{◌==◌}
 use Rattle.std.proofs.lemmas.Bool.{cases_Bool, false≢true, and_parts, and_from, not-true, or_left, or_right}
 use Rattle.domain_octets.specs.Words.{Octets}
@@ -18,9 +17,7 @@ use Rattle.domain_nsec3.specs.Meaning.{AreAlone, IsAlone, octets_before}
 use Rattle.domain_nsec3.specs.Owners.{nsec3_lists, original_owners}
 use Rattle.domain_checker.specs.HashedFacts.{ChainFacts}
 use Rattle.domain_checker.specs.HashedView.{chain_records}
-use Rattle.domain_checker.specs.HashedVerdict.{hashed_proved_verdict, hashed_zone_verdict}
-use Rattle.domain_checker.specs.HashedVerdict.{is_below_chain_cut, is_covered}
-use Rattle.domain_checker.specs.HashedVerdict.{is_matched, next_closer, proves}
+use Rattle.domain_checker.specs.HashedVerdict.{hashed_proved_verdict, hashed_zone_verdict, is_below_chain_cut, is_covered, is_matched, next_closer, proves}
 use Rattle.domain_checker.specs.Verdict.{closest_encloser}
 use Rattle.domain_checker.specs.declared.verdict.Verdict.TheVariants as verdict
 use Rattle.domain_checker.proofs.CutLemmas.{below_cut}
@@ -28,20 +25,16 @@ use Rattle.domain_checker.proofs.EncloserLemmas.{exists_same, same_count}
 use Rattle.domain_checker.proofs.FindLemmas.{in_at}
 use Rattle.domain_checker.proofs.HashedListLemmas.{covered_in, told_at, hash_same}
 use Rattle.domain_answer.specs.declared.answer.Answer.{Answer}
-use Rattle.domain_answer.specs.declared.answer.Answer.TheVariants.{OutsideZone, AtParent, Referral, Redirected}
-use Rattle.domain_answer.specs.declared.answer.Answer.TheVariants.{MayBeUnsigned, NoCloserName, TooManyIterations, NotProven}
+use Rattle.domain_answer.specs.declared.answer.Answer.TheVariants.{OutsideZone, AtParent, Referral, Redirected, MayBeUnsigned, NoCloserName, TooManyIterations}
+use Rattle.domain_answer.specs.declared.answer.Answer.TheVariants.{NotProven}
 use Rattle.domain_answer.specs.Expansion.{closer_name, is_expanded, missing_closer, proved_expansion}
 use Rattle.domain_answer.specs.HashedMeaning.{ChainMeans, ChainsAreMeant}
 use Rattle.domain_answer.specs.HashedProved.{AreAskedAlone, hashed_proved_answer, needs_wildcard, tells_encloser, tells_wildcard}
-use Rattle.domain_answer.specs.HashedZoneAnswer.{HashedLeavesOutBelowDname}
-use Rattle.domain_answer.specs.HashedZoneAnswer.{hashed_encloser, hashed_existing_answer}
-use Rattle.domain_answer.specs.HashedZoneAnswer.{hashed_exists, hashed_inside_answer}
+use Rattle.domain_answer.specs.HashedZoneAnswer.{HashedLeavesOutBelowDname, hashed_encloser, hashed_existing_answer, hashed_exists, hashed_inside_answer}
 use Rattle.domain_answer.specs.HashedZoneAnswer.{hashed_missing_answer, hashed_wildcard_answer, hashed_zone_answer}
 use Rattle.domain_answer.specs.ZoneAnswer.{asterisk, is_at_parent, wildcard_below}
 use Rattle.domain_answer.proofs.CountLemmas.{parent_below}
-use Rattle.domain_answer.proofs.DefiniteLemmas.{choose, either, existing_says}
-use Rattle.domain_answer.proofs.DefiniteLemmas.{is_of_zone, of_zone_knows, of_zone_limits}
-use Rattle.domain_answer.proofs.DefiniteLemmas.{of_zone_proves, wildcard_says}
+use Rattle.domain_answer.proofs.DefiniteLemmas.{choose, either, existing_says, is_of_zone, of_zone_knows, of_zone_limits, of_zone_proves, wildcard_says}
 use Rattle.domain_answer.proofs.ExpansionLemmas.{closer_low}
 use Rattle.domain_answer.proofs.HashedAnswerLemmas.{cut_original, encloser_is, encloser_low}
 

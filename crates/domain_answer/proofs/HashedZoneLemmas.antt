@@ -1,6 +1,5 @@
 -- A zone whose NSEC3 chain leaves out nothing answers as it does with an NSEC chain.
-use Rattle.std.proofs.Common.{◌≡◌, ℕ, Bool, true, false, cond, not, ◌&&◌, ◌||◌, List, [], ◌∷◌, length}
-use Rattle.std.proofs.Common.{refl, sym, ap, ◌∙◌, subst, inl, inr, arith}
+use Rattle.std.proofs.Common.{◌≡◌, ℕ, Bool, true, false, cond, not, ◌&&◌, ◌||◌, List, [], ◌∷◌, length, refl, sym, ap, ◌∙◌, subst, inl, inr, arith}
 use Rattle.std.specs.Prelude.{◌==◌, filter}
 use Rattle.std.specs.List.{list_any}
 use Rattle.std.proofs.lemmas.Bool.{cases_Bool, cases_lt, eqb-true, false≢true, and_parts, and_from, not-true, or_left, or_parts, or_right}
@@ -10,26 +9,21 @@ use Rattle.domain_base.specs.Types.{cname, dname, dnskey, ds, nsec, nsec3param, 
 use Rattle.domain_base.specs.Words.{Name}
 use Rattle.domain_chain_rdata.specs.OptOut.{is_opt_out}
 use Rattle.domain_zone.specs.Enclosers.{IsClosestEncloser, exists_over}
-use Rattle.domain_zone.specs.Zone.{ZoneRecord, has_type, is_occluded, is_zone_cut}
-use Rattle.domain_zone.specs.Zone.{lists_type, may_list, occludes, owns, records_of}
-use Rattle.domain_zone.specs.Zone.{unoccluded_owners}
+use Rattle.domain_zone.specs.Zone.{ZoneRecord, has_type, is_occluded, is_zone_cut, lists_type, may_list, occludes, owns, records_of, unoccluded_owners}
 use Rattle.domain_zone.proofs.NameLemmas.{below_length, below_longer, below_trans}
 use Rattle.domain_zone.proofs.PairLemmas.{In}
 use Rattle.domain_zone.proofs.OwnerLemmas.{any_in, in_any, below_occluder, occluder_owns}
 use Rattle.domain_nsec3.specs.Config.{ChainConfig}
 use Rattle.domain_nsec3.specs.Owners.{is_unsigned_cut, nsec3_lists, original_owners}
 use Rattle.domain_checker.specs.Verdict.{closest_encloser}
-use Rattle.domain_checker.proofs.EncloserLemmas.{apex_from, closest_is, cut_same, exists_same}
-use Rattle.domain_checker.proofs.EncloserLemmas.{owner_unoccluded, same_length, same_count}
-use Rattle.domain_checker.proofs.EncloserLemmas.{strictly_longer, strictly_from}
-use Rattle.domain_answer.specs.declared.answer.Answer.TheVariants.{OutsideZone, AtParent, Referral, Redirected, Has, NoDs, Alias, NoData}
-use Rattle.domain_answer.specs.declared.answer.Answer.TheVariants.{Wildcard, WildcardAlias, WildcardNoData, NameError, MayBeUnsigned}
-use Rattle.domain_answer.specs.HashedZoneAnswer.{HashedLeavesOutBelowDname, hashed_encloser, hashed_existing_answer, hashed_exists}
-use Rattle.domain_answer.specs.HashedZoneAnswer.{hashed_inside_answer, hashed_missing_answer}
-use Rattle.domain_answer.specs.HashedZoneAnswer.{hashed_wildcard_answer, hashed_zone_answer}
-use Rattle.domain_answer.specs.HashedZoneAnswer.{is_of_one_chain}
-use Rattle.domain_answer.specs.ZoneAnswer.{asterisk, encloser, existing_answer, highest_occluder, inside_answer, is_at_parent}
-use Rattle.domain_answer.specs.ZoneAnswer.{missing_answer, name_exists, occluded_answer, owns_type, unoccluded_answer, wildcard_below, zone_answer}
+use Rattle.domain_checker.proofs.EncloserLemmas.{apex_from, closest_is, cut_same, exists_same, owner_unoccluded, same_length, same_count, strictly_longer}
+use Rattle.domain_checker.proofs.EncloserLemmas.{strictly_from}
+use Rattle.domain_answer.specs.declared.answer.Answer.TheVariants.{OutsideZone, AtParent, Referral, Redirected, Has, NoDs, Alias, NoData, Wildcard}
+use Rattle.domain_answer.specs.declared.answer.Answer.TheVariants.{WildcardAlias, WildcardNoData, NameError, MayBeUnsigned}
+use Rattle.domain_answer.specs.HashedZoneAnswer.{HashedLeavesOutBelowDname, hashed_encloser, hashed_existing_answer, hashed_exists, hashed_inside_answer}
+use Rattle.domain_answer.specs.HashedZoneAnswer.{hashed_missing_answer, hashed_wildcard_answer, hashed_zone_answer, is_of_one_chain}
+use Rattle.domain_answer.specs.ZoneAnswer.{asterisk, encloser, existing_answer, highest_occluder, inside_answer, is_at_parent, missing_answer, name_exists}
+use Rattle.domain_answer.specs.ZoneAnswer.{occluded_answer, owns_type, unoccluded_answer, wildcard_below, zone_answer}
 use Rattle.domain_answer.proofs.CountLemmas.{strictly_same}
 use Rattle.domain_answer.proofs.HashedAnswerLemmas.{dname_owned}
 use Rattle.domain_answer.proofs.KindLemmas.{IsHighest, highest_of, owner_exists}

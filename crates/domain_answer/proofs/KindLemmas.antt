@@ -1,6 +1,6 @@
 -- Each kind of answer is the zone's exactly where what it says is so.
-use Rattle.std.proofs.Common.{◌≡◌, ℕ, Bool, true, false, cond, not, ◌&&◌, ◌||◌, List, [], ◌∷◌, map, length}
-use Rattle.std.proofs.Common.{refl, sym, ap, ◌∙◌, subst, inl, inr, Option, Some, None}
+use Rattle.std.proofs.Common.{◌≡◌, ℕ, Bool, true, false, cond, not, ◌&&◌, ◌||◌, List, [], ◌∷◌, map, length, refl, sym, ap, ◌∙◌, subst, inl, inr, Option, Some}
+use Rattle.std.proofs.Common.{None}
 use Rattle.std.specs.Prelude.{◌==◌, filter}
 use Rattle.std.specs.List.{list_any}
 use Rattle.std.proofs.lemmas.Bool.{cases_Bool, false≢true, and_parts, and_from, not-true, not-false, or_left, or_right}
@@ -8,9 +8,7 @@ use Rattle.domain_octets.proofs.StdLemmas.{and_false}
 use Rattle.domain_base.specs.Name.{is_at_or_below, is_strictly_below, lowered, same_name}
 use Rattle.domain_base.specs.Types.{cname, dname, ds, ns}
 use Rattle.domain_base.specs.Words.{Name}
-use Rattle.domain_zone.specs.Zone.{ZoneRecord, distinct, has_type, is_occluded}
-use Rattle.domain_zone.specs.Zone.{is_unoccluded, is_zone_cut, occludes, owns}
-use Rattle.domain_zone.specs.Zone.{records_of, unoccluded_owners}
+use Rattle.domain_zone.specs.Zone.{ZoneRecord, distinct, has_type, is_occluded, is_unoccluded, is_zone_cut, occludes, owns, records_of, unoccluded_owners}
 use Rattle.domain_zone.proofs.NameLemmas.{below_itself, lowered_below, one_lowered, same_itself}
 use Rattle.domain_zone.proofs.PairLemmas.{In}
 use Rattle.domain_zone.proofs.OwnerLemmas.{any_in, in_any, typed_owns}
@@ -18,14 +16,12 @@ use Rattle.domain_nsec.specs.Chain.{nsec_lists}
 use Rattle.domain_checker.proofs.EncloserLemmas.{cut_same, occluded_same, occludes_same, top_occluder, same_count, strictly_trans}
 use Rattle.domain_checker.proofs.FindLemmas.{in_map}
 use Rattle.domain_answer.specs.declared.answer.Answer.{Answer}
-use Rattle.domain_answer.specs.declared.answer.Answer.TheVariants.{OutsideZone, AtParent, Referral, Redirected, Has, NoDs, Alias, NoData}
-use Rattle.domain_answer.specs.declared.answer.Answer.TheVariants.{Wildcard, WildcardAlias}
-use Rattle.domain_answer.specs.declared.answer.Answer.TheVariants.{WildcardNoData, NameError}
-use Rattle.domain_answer.specs.declared.answer.Answer.TheVariants.{MayBeUnsigned, NoCloserName}
-use Rattle.domain_answer.specs.declared.answer.Answer.TheVariants.{TooManyIterations, NotProven}
+use Rattle.domain_answer.specs.declared.answer.Answer.TheVariants.{OutsideZone, AtParent, Referral, Redirected, Has, NoDs, Alias, NoData, Wildcard}
+use Rattle.domain_answer.specs.declared.answer.Answer.TheVariants.{WildcardAlias, WildcardNoData, NameError, MayBeUnsigned, NoCloserName, TooManyIterations}
+use Rattle.domain_answer.specs.declared.answer.Answer.TheVariants.{NotProven}
 use Rattle.domain_answer.specs.Kinds.{IsAbsent, IsHere, IsRedirected, IsReferred, IsSo, wildcard_of}
-use Rattle.domain_answer.specs.ZoneAnswer.{encloser, existing_answer, highest_occluder, inside_answer, is_at_parent}
-use Rattle.domain_answer.specs.ZoneAnswer.{missing_answer, name_exists, occluded_answer, owns_type, unoccluded_answer, zone_answer}
+use Rattle.domain_answer.specs.ZoneAnswer.{encloser, existing_answer, highest_occluder, inside_answer, is_at_parent, missing_answer, name_exists}
+use Rattle.domain_answer.specs.ZoneAnswer.{occluded_answer, owns_type, unoccluded_answer, zone_answer}
 use Rattle.domain_answer.proofs.CountLemmas.{strictly_same}
 use Rattle.domain_answer.proofs.OccluderLemmas.{highest_is, none_above}
 

@@ -13,8 +13,8 @@ use Rattle.domain_answer.specs.declared.answer.Answer.{Answer}
 use Rattle.domain_answer.specs.declared.answer.Answer.TheVariants as answer
 use Rattle.domain_answer.specs.declared.answer.NameAnswer.TheVariants.{Given, Absent}
 use Rattle.domain_answer.specs.NameAnswer.{IsNameAnswer, name_answer}
-use Rattle.domain_answer.specs.Reading.{absent_answer, match_answer, owner_answer}
-use Rattle.domain_answer.specs.Reading.{tells_occluded, wildcard_answer, wildcard_both, wildcard_cover_answer, wildcard_match_answer}
+use Rattle.domain_answer.specs.Reading.{absent_answer, match_answer, owner_answer, tells_occluded, wildcard_answer, wildcard_both, wildcard_cover_answer}
+use Rattle.domain_answer.specs.Reading.{wildcard_match_answer}
 use Rattle.domain_answer.specs.ZoneAnswer.{wildcard_below}
 
 -- ---- what a record says of its owner, or of what is below it, rests on no wildcard

@@ -1,5 +1,4 @@
 //! What one pass over NSEC records finds of a name.
-ghost use Rattle.std.specs.Prelude.{◌≡◌, IfSome};
 ghost use Rattle.domain_nsec.specs.ChainView.{links_of};
 ghost use Rattle.domain_answer.specs.Found.{found_cover, found_match, IsCovered, IsFound};
 

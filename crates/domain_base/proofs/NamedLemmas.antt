@@ -1,6 +1,6 @@
 -- tables of numbers and names, entry by entry
-use Rattle.std.proofs.Common.{◌≡◌, ◌≢◌, ℕ, ◌+◌, ◌-◌, ◌<◌, List, [], Bool, true, false, Some, None}
-use Rattle.std.proofs.Common.{map, length, get_or, drop, sym, ap, subst, ◌∙◌, arith, ◌↔◌, IsTrue, length-append}
+use Rattle.std.proofs.Common.{◌≡◌, ◌≢◌, ℕ, ◌+◌, ◌-◌, ◌<◌, List, [], Bool, true, false, Some, None, map, length, get_or, drop, sym, ap, subst, ◌∙◌, arith, ◌↔◌}
+use Rattle.std.proofs.Common.{IsTrue, length-append}
 use Rattle.std.specs.Prelude.{◌==◌, ◌^◌, Option, IsSome, IfSome, IfNone}
 use Rattle.std.specs.Option.{SomeIff}
 use Rattle.std.specs.Str.Parse.{IsNumeral, digits_value}
@@ -12,8 +12,7 @@ use Rattle.std.specs.Char.{to_ascii_lowercase}
 use Rattle.std.specs.Cmp.Lexicographic.{bytes_decides}
 use Rattle.std.proofs.lemmas.List.{drop_more, length-map, get_or-map, get_or_append_left, drop_at}
 use Rattle.std.proofs.lemmas.Bool.Decides.{nat_tests, same_from_decides}
-use Rattle.domain_base.specs.Named.{Named, same_text, number_named, name_of, HasPrefix, IsWithoutPrefix, NumberText, by_name, by_number}
-use Rattle.domain_base.specs.Named.{entries}
+use Rattle.domain_base.specs.Named.{Named, same_text, number_named, name_of, HasPrefix, IsWithoutPrefix, NumberText, by_name, by_number, entries}
 
 abbrev pub Row : Type 0
 Row = ℕ × Bor (List ℕ)

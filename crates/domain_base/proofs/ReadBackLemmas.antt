@@ -1,6 +1,6 @@
 -- what numbers, types, classes and names are written as is read back
-use Rattle.std.proofs.Common.{◌≡◌, ◌≢◌, ℕ, ◌+◌, ◌-◌, ◌*◌, ◌/◌, ◌%◌, ◌<◌, true, false, List, [], ◌∷◌, ◌++◌}
-use Rattle.std.proofs.Common.{Some, None, get_or, length, drop, codes, refl, ap, sym, subst, ◌∙◌, arith, inl, inr}
+use Rattle.std.proofs.Common.{◌≡◌, ◌≢◌, ℕ, ◌+◌, ◌-◌, ◌*◌, ◌/◌, ◌%◌, ◌<◌, true, false, List, [], ◌∷◌, ◌++◌, Some, None, get_or, length, drop, codes, refl, ap}
+use Rattle.std.proofs.Common.{sym, subst, ◌∙◌, arith, inl, inr}
 use Rattle.std.specs.Prelude.{◌^◌, ◌==◌, ◌&&◌, not, nat_le, Option, unwrap_or}
 use Rattle.std.specs.List.{AllByRecursion, list_all}
 use Rattle.std.specs.Fmt.{decimal}
@@ -17,8 +17,8 @@ use Rattle.domain_base.specs.Named.{Named, number_named, name_of, NumberText, by
 use Rattle.domain_base.specs.Numbers.{type_names, TypeText, type_text, class_names, ClassText, class_text}
 use Rattle.domain_base.specs.Scan.{IsNumber}
 use Rattle.domain_base.specs.Name.{IsLabel, IsName}
-use Rattle.domain_base.specs.Text.{symbol_at, is_printable, is_special, octet_text, label_text, dotted_text, name_text, LabelText, at_end}
-use Rattle.domain_base.specs.Text.{at_dot, octet, LabelTexts, last, last_with_dot, dotted, NameText, root, of_labels}
+use Rattle.domain_base.specs.Text.{symbol_at, is_printable, is_special, octet_text, label_text, dotted_text, name_text, LabelText, at_end, at_dot, octet}
+use Rattle.domain_base.specs.Text.{LabelTexts, last, last_with_dot, dotted, NameText, root, of_labels}
 
 -- ---- numbers
 

@@ -6,8 +6,8 @@ use Rattle.domain_octets.specs.Limit.{IsOver}
 use Rattle.domain_octets.specs.Codec.{Decodes}
 use Rattle.domain_octets.specs.declared.codec.Codec.{Codec}
 use Rattle.domain_octets.specs.declared.codec.Codec.TheVariants.{Base16, Base32Hex, Base64}
-use Rattle.domain_base.specs.Scan.{ScanFault, entry_ends, illegal, no_room, no_memory, IsOfTokens, TakesToken}
-use Rattle.domain_base.specs.Scan.{RefusesToken, ended, refused, NameTextFault, CodecFault, EntryFault}
+use Rattle.domain_base.specs.Scan.{ScanFault, entry_ends, illegal, no_room, no_memory, IsOfTokens, TakesToken, RefusesToken, ended, refused, NameTextFault}
+use Rattle.domain_base.specs.Scan.{CodecFault, EntryFault}
 use Rattle.domain_base.specs.Text.{NameText}
 
 -- what has a limit takes no memory

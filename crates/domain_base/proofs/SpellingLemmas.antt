@@ -1,14 +1,14 @@
 -- names spelled by texts
-use Rattle.std.proofs.Common.{◌≡◌, ◌≢◌, ℕ, zero, suc, take, get_or, ◌+◌, ◌<◌, ◌≤◌, List, [], ◌∷◌, ◌++◌, Option}
-use Rattle.std.proofs.Common.{Some, None, length, drop, refl, sym, ap, subst, ◌∙◌, arith, length-append, inl, inr, ◌⊎◌}
+use Rattle.std.proofs.Common.{◌≡◌, ◌≢◌, ℕ, zero, suc, take, get_or, ◌+◌, ◌<◌, ◌≤◌, List, [], ◌∷◌, ◌++◌, Option, Some, None, length, drop, refl, sym, ap, subst}
+use Rattle.std.proofs.Common.{◌∙◌, arith, length-append, inl, inr, ◌⊎◌}
 use Rattle.std.specs.Prelude.{unwrap_or, IsSome, IfSome, IfNone, ◌↔◌}
 use Rattle.std.specs.List.{AllByRecursion}
 use Rattle.std.proofs.lemmas.Bool.{ne_eqb, le-leb}
 use Rattle.std.proofs.lemmas.List.{append-nil, append_assoc, drop-drop, length-drop, take_more}
 use Rattle.domain_base.specs.Name.{wire_of, IsLabel, IsName}
 use Rattle.domain_base.proofs.WireLemmas.{length-wire_of}
-use Rattle.domain_base.specs.Text.{symbol_at, LabelText, at_end, at_dot, octet, HasNoLabel, HasNoLabelAfter, LabelTexts}
-use Rattle.domain_base.specs.Text.{last, last_with_dot, dotted, NameText, root, of_labels, IsNoName}
+use Rattle.domain_base.specs.Text.{symbol_at, LabelText, at_end, at_dot, octet, HasNoLabel, HasNoLabelAfter, LabelTexts, last, last_with_dot, dotted, NameText}
+use Rattle.domain_base.specs.Text.{root, of_labels, IsNoName}
 
 -- a label's text ends where no octet stands
 no_symbol_at_dot : (after : List ℕ) → symbol_at (46 ∷ after) ≡ None

@@ -93,12 +93,12 @@ nothing_left (x ∷ rest) none = absurd (omega (arith, none))
 -- a list of blocks has no fault
 pub no_fault : {octets : List ℕ} {e : RtypeBitmapError} → FirstBlockFault octets e → IsBitmap octets → ⊥
 no_fault (no_length window) bitmap = let has = block_at (window ∷ []) bitmap (omega arith) in omega (arith, has.headed)
-no_fault (bad_length window len rest (inl zero_len)) bitmap =
+no_fault (bad_length window len rest bad) bitmap =
     let has = block_at (window ∷ len ∷ rest) bitmap (omega arith) in
-    omega (arith, has.first.not_empty, length-take len rest, zero_len)
-no_fault (bad_length window len rest (inr long)) bitmap =
-    let has = block_at (window ∷ len ∷ rest) bitmap (omega arith) in
-    omega (arith, has.first.fits, has.inside, length-take len rest, long)
+    elim bad [
+      | inl zero_len ↦ omega (arith, has.first.not_empty, length-take len rest, zero_len)
+      | inr long ↦ omega (arith, has.first.fits, has.inside, length-take len rest, long)
+    ]
 no_fault (cut_block window len rest some small cut) bitmap =
     let has = block_at (window ∷ len ∷ rest) bitmap (omega arith) in
     omega (arith, has.inside, cut)

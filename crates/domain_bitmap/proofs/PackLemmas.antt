@@ -1,7 +1,6 @@
 -- blocks put in order
-use Rattle.std.proofs.Common.{◌≡◌, ℕ, zero, suc, ◌+◌, ◌-◌, ◌*◌, ◌/◌, ◌%◌, ◌<◌, ◌≤◌, ◌≢◌, max}
-use Rattle.std.proofs.Common.{Bool, true, false, List, [], ◌∷◌, ◌++◌, length, get_or, take, drop, refl, sym}
-use Rattle.std.proofs.Common.{ap, ◌∙◌, inl, inr, arith, add-one, add-zero, append_assoc, set, get_or-set_same, get_or-set_other, length-append}
+use Rattle.std.proofs.Common.{◌≡◌, ℕ, zero, suc, ◌+◌, ◌-◌, ◌*◌, ◌/◌, ◌%◌, ◌<◌, ◌≤◌, ◌≢◌, max, Bool, true, false, List, [], ◌∷◌, ◌++◌, length, get_or, take}
+use Rattle.std.proofs.Common.{drop, refl, sym, ap, ◌∙◌, inl, inr, arith, add-one, add-zero, append_assoc, set, get_or-set_same, get_or-set_other, length-append}
 use Rattle.std.specs.Prelude.{◌||◌, ◌==◌, ◌&&◌, bit_or, nat_lt, if◌then◌else◌}
 use Rattle.std.specs.Int.{bit_at}
 use Rattle.std.specs.List.{range_with_len, list_any}
@@ -12,9 +11,8 @@ use Rattle.domain_octets.proofs.StdLemmas.{or_false, or_true}
 use Rattle.domain_bitmap.specs.Bits.{bit_of}
 use Rattle.domain_bitmap.specs.Bitmap.{window_octets, window_block, block_with, trimmed, bitmap_octets}
 use Rattle.domain_bitmap.specs.Builder.{is_of_window, block_holds, has_window, holds}
-use Rattle.domain_bitmap.proofs.RangeLemmas.{any_more, any_suc, any_none, any_at}
+use Rattle.domain_bitmap.proofs.RangeLemmas.{any_more, any_suc, any_none, any_at, flat_none, flat_single}
 use Rattle.domain_bitmap.proofs.BitmapLemmas.{window_octets-is, window_block-none}
-use Rattle.domain_bitmap.proofs.RangeLemmas.{flat_none, flat_single}
 use Rattle.domain_bitmap.proofs.SlotLemmas.{window_absent}
 
 or_bits : (m n : ℕ) → m < 2 → n < 2 → (max m n == 1) ≡ ((m == 1) || (n == 1))

@@ -1,6 +1,6 @@
 -- what sets of types and salts are written as is read back
-use Rattle.std.proofs.Common.{◌≡◌, ◌≢◌, ℕ, ◌+◌, ◌-◌, ◌*◌, ◌<◌, ◌≤◌, Bool, true, false, List, [], ◌∷◌, ◌++◌}
-use Rattle.std.proofs.Common.{zero, suc, map, codes, refl, sym, ap, subst, ◌∙◌, arith, inl, inr, append_assoc, length}
+use Rattle.std.proofs.Common.{◌≡◌, ◌≢◌, ℕ, ◌+◌, ◌-◌, ◌*◌, ◌<◌, ◌≤◌, Bool, true, List, [], ◌∷◌, ◌++◌, zero, suc, map, codes, refl, sym, ap, subst, ◌∙◌, arith}
+use Rattle.std.proofs.Common.{inl, inr, append_assoc, length}
 use Rattle.std.specs.Prelude.{◌==◌, ◌&&◌, filter}
 use Rattle.std.specs.List.{AllByRecursion, All, range_with_len, flat_map}
 use Rattle.std.proofs.lemmas.Bool.{cases_Bool}
@@ -8,9 +8,8 @@ use Rattle.std.proofs.lemmas.Bool.Decides.{nat_tests}
 use Rattle.std.proofs.lemmas.List.{append-nil}
 use Rattle.std.proofs.lemmas.Map.Views.{any-filter_same}
 use Rattle.hex.specs.Hex.{encode_upper, encode_with}
-use Rattle.domain_octets.specs.declared.codec.Codec.TheVariants.{Base16}
 use Rattle.domain_octets.specs.Line.{words_of, words_after, IsWord}
-use Rattle.domain_octets.proofs.CodecBackLemmas.{upper_back, decodes_once}
+use Rattle.domain_octets.proofs.CodecBackLemmas.{upper_back}
 use Rattle.domain_octets.proofs.WordLemmas.{one_word, next_word, last_space, upper_hex_word}
 use Rattle.domain_octets.proofs.StdLemmas.{and_true}
 use Rattle.domain_base.specs.Numbers.{type_text}

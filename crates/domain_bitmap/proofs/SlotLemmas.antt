@@ -1,7 +1,6 @@
 -- the blocks of 34 octets that a builder holds
-use Rattle.std.proofs.Common.{◌≡◌, ℕ, zero, suc, ◌+◌, ◌-◌, ◌*◌, ◌/◌, ◌%◌, ◌^◌, ◌<◌, ◌≢◌}
-use Rattle.std.proofs.Common.{true, false, List, ◌∷◌, ◌++◌, length, get_or, take, drop, refl, sym, ap}
-use Rattle.std.proofs.Common.{◌∙◌, inl, inr, arith, add-one, length-append, set, get_or-set_same, get_or-set_other, length-set}
+use Rattle.std.proofs.Common.{◌≡◌, ℕ, zero, suc, ◌+◌, ◌-◌, ◌*◌, ◌/◌, ◌%◌, ◌^◌, ◌<◌, ◌≢◌, true, false, List, ◌∷◌, ◌++◌, length, get_or, take, drop, refl, sym}
+use Rattle.std.proofs.Common.{ap, ◌∙◌, inl, inr, arith, add-one, length-append, set, get_or-set_same, get_or-set_other, length-set}
 use Rattle.std.specs.Prelude.{◌||◌, ◌==◌, bit_or, replicate}
 use Rattle.std.proofs.lemmas.Bool.Decides.{nat_tests, eqb_tells}
 use Rattle.std.proofs.lemmas.List.{take-set, drop-set, take-append-drop, get_or-append-add, get_or_append_left}

@@ -1,14 +1,14 @@
 -- the one form of the octets of a set of types
-use Rattle.std.proofs.Common.{◌≡◌, ◌≢◌, ℕ, zero, suc, ◌+◌, ◌*◌, ◌/◌, ◌%◌, ◌<◌, ◌≤◌, Bool, true, false}
-use Rattle.std.proofs.Common.{List, [], ◌∷◌, ◌++◌, length, get_or, refl, sym, ap, ◌∙◌, subst, inl, inr, arith}
+use Rattle.std.proofs.Common.{◌≡◌, ◌≢◌, ℕ, zero, suc, ◌+◌, ◌*◌, ◌/◌, ◌%◌, ◌<◌, ◌≤◌, Bool, true, false, List, [], ◌∷◌, ◌++◌, length, get_or, refl, sym, ap, ◌∙◌}
+use Rattle.std.proofs.Common.{subst, inl, inr, arith}
 use Rattle.std.specs.Prelude.{◌==◌}
 use Rattle.std.specs.List.{AllByRecursion}
 use Rattle.std.proofs.lemmas.Bool.Decides.{nat_tests, eqb_tells, leb_tells}
 use Rattle.std.proofs.lemmas.List.{get_or_past}
 use Rattle.domain_bitmap.specs.Bits.{bit_of, has_bit}
 use Rattle.domain_bitmap.specs.Bitmap.{window_octets, trimmed, before_trimmed, bitmap_octets}
-use Rattle.domain_bitmap.specs.Blocks.{Block, IsBlock, IsBitmap, IsShortest, WindowsAscendFrom}
-use Rattle.domain_bitmap.specs.Blocks.{last_octet, blocks_of, octets_of_blocks, in_first_block, contains_type}
+use Rattle.domain_bitmap.specs.Blocks.{Block, IsBlock, IsBitmap, IsShortest, WindowsAscendFrom, last_octet, blocks_of, octets_of_blocks, in_first_block}
+use Rattle.domain_bitmap.specs.Blocks.{contains_type}
 use Rattle.domain_bitmap.proofs.BitLemmas.{octet_with-same, octet_with-bit_of}
 use Rattle.domain_bitmap.proofs.TrimLemmas.{before_trimmed-cons, before_trimmed-last, trimmed-zeros}
 use Rattle.domain_bitmap.proofs.BlockLemmas.{blocks_of-octets_of_blocks}

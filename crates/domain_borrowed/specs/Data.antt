@@ -1,5 +1,5 @@
 -- Records whose data are octets.
-use Rattle.std.specs.Prelude.{ℕ, ◌==◌, ◌-◌, length, drop, nat_lt, Option, Some, None, if◌then◌else◌}
+use Rattle.std.specs.Prelude.{ℕ, ◌==◌, ◌-◌, List, length, drop, nat_lt, Option, Some, None, if◌then◌else◌}
 use Rattle.std.specs.Int.{w32, from_be_bytes}
 use Rattle.std.specs.declared.cmp.Ordering.{Ordering}
 use Rattle.std.specs.Ordering.{nat_cmp, on, then_cmp}
@@ -9,6 +9,8 @@ use Rattle.domain_octets.specs.Words.{Octets}
 use Rattle.domain_base.specs.Types as rtypes
 use Rattle.domain_base.specs.Words.{Name}
 use Rattle.domain_record.specs.declared.record.Record.{Record}
+use Rattle.domain_zone.specs.Zone.{ZoneRecord}
+use Rattle.domain_zone.specs.View.{zone_of}
 
 -- data of a type as octets
 pub record RawData : Type 0 where
@@ -27,6 +29,10 @@ last_long octets =
 -- the MINIMUM field, the last one of an SOA (RFC 1035, section 3.3.13)
 abbrev pub minimum_of : RawData → Option ℕ
 minimum_of d = if d.rtype == rtypes.soa then last_long d.octets else None
+
+-- what records say of a zone
+abbrev pub zone_of_raw : List RawRecord → List ZoneRecord
+zone_of_raw = zone_of (λ n. n) (λ d. d.rtype) minimum_of
 
 -- by the number of the type, and then by octets: where these are in canonical form the canonical
 -- order (RFC 4034, section 6.3)

@@ -12,13 +12,13 @@ use Rattle.domain_bitmap.specs.HashScan.{CountedFault, SaltTokenFault}
 use Rattle.domain_bitmap.specs.HashText.{SaltText, OwnerHashText}
 use Rattle.domain_bitmap.specs.Scan.{is_among, RefusesTypes}
 use Rattle.domain_bitmap.proofs.ReadBackLemmas.{spelled_once}
-use Rattle.domain_bitmap.proofs.RefusalLemmas.{types_refused, types_one_fault, salt_once, salt_excludes}
-use Rattle.domain_bitmap.proofs.RefusalLemmas.{salt_one_fault, hash_once, hash_excludes, counted_one_fault}
+use Rattle.domain_bitmap.proofs.RefusalLemmas.{types_refused, types_one_fault, salt_once, salt_excludes, salt_one_fault, hash_once, hash_excludes}
+use Rattle.domain_bitmap.proofs.RefusalLemmas.{counted_one_fault}
 use Rattle.domain_fields.specs.Layout.{Values}
 use Rattle.domain_fields.specs.Scan.{Scans, Refuses}
 use Rattle.domain_fields.specs.Sequence.{OneToken}
-use Rattle.domain_fields.proofs.GrammarLemmas.{ReadsOnce, Excludes, OneFault, fields_once, fields_refused, fields_one_fault}
-use Rattle.domain_fields.proofs.GrammarLemmas.{one_token, token_refused, both_once, both_refused, both_one_fault}
+use Rattle.domain_fields.proofs.GrammarLemmas.{ReadsOnce, Excludes, OneFault, fields_once, fields_refused, fields_one_fault, one_token, token_refused}
+use Rattle.domain_fields.proofs.GrammarLemmas.{both_once, both_refused, both_one_fault}
 use Rattle.domain_chain_rdata.specs.Rdata.{hash_numbers}
 use Rattle.domain_chain_rdata.specs.Nsec3paramText.{Nsec3paramText, RefusesNsec3param, hash_numbers_text}
 use Rattle.domain_chain_rdata.specs.Nsec3Text.{BitmapText, HashText, RefusesHash, Nsec3Text, RefusesNsec3, params_before_hash}

@@ -1,6 +1,6 @@
 -- The first of a name and its ancestors that exists is its closest encloser, and an occluded name is below a name that occludes and is not occluded itself.
-use Rattle.std.proofs.Common.{◌≡◌, ℕ, ◌≤◌, ◌<◌, Bool, zero, suc, true, false, cond, not, ◌&&◌, ◌||◌}
-use Rattle.std.proofs.Common.{List, [], ◌∷◌, map, length, refl, sym, ap, ◌∙◌, inl, inr, arith}
+use Rattle.std.proofs.Common.{◌≡◌, ℕ, ◌≤◌, ◌<◌, Bool, zero, suc, true, false, cond, not, ◌&&◌, ◌||◌, List, [], ◌∷◌, map, length, refl, sym, ap, ◌∙◌, inl, inr}
+use Rattle.std.proofs.Common.{arith}
 use Rattle.std.specs.Prelude.{filter}
 use Rattle.std.specs.Char.{to_ascii_lowercase}
 use Rattle.std.specs.List.{list_any}
@@ -11,8 +11,8 @@ use Rattle.domain_base.specs.Types.{ns, dname}
 use Rattle.domain_base.specs.Words.{Name}
 use Rattle.domain_zone.specs.Enclosers.{IsClosestEncloser, exists_over}
 use Rattle.domain_zone.specs.Zone.{ZoneRecord, has_type, is_zone_cut, occludes, is_occluded, is_unoccluded, distinct, unoccluded_owners, owns}
-use Rattle.domain_zone.proofs.NameLemmas.{one_lowered, same_itself, same_is, below_itself, below_trans, below_from}
-use Rattle.domain_zone.proofs.NameLemmas.{below_longer, below_length, below_parent, below_root, lowered_below, same_lowered}
+use Rattle.domain_zone.proofs.NameLemmas.{one_lowered, same_itself, same_is, below_itself, below_trans, below_from, below_longer, below_length, below_parent}
+use Rattle.domain_zone.proofs.NameLemmas.{below_root, lowered_below, same_lowered}
 use Rattle.domain_zone.proofs.PairLemmas.{In}
 use Rattle.domain_zone.proofs.OwnerLemmas.{any_in, in_any, occluder_below}
 use Rattle.domain_checker.specs.Verdict.{closest_encloser}

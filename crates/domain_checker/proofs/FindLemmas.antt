@@ -1,6 +1,5 @@
 -- Elements of lists: which pass a test, the first that does, and where they stand.
-use Rattle.std.proofs.Common.{◌≡◌, ℕ, Bool, true, false, cond, ◌||◌, List, [], ◌∷◌, map, Some}
-use Rattle.std.proofs.Common.{None, refl, sym, ap, ◌∙◌, inl, inr, ◌⊎◌, zero, suc, slice_get}
+use Rattle.std.proofs.Common.{◌≡◌, ℕ, Bool, true, false, cond, ◌||◌, List, [], ◌∷◌, map, Some, None, refl, sym, ap, ◌∙◌, inl, inr, ◌⊎◌, zero, suc, slice_get}
 use Rattle.std.specs.Prelude.{All, filter}
 use Rattle.std.specs.List.{find, list_any, Contains}
 use Rattle.std.proofs.lemmas.Bool.{cases_Bool}

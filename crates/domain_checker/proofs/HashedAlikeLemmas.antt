@@ -1,6 +1,6 @@
 -- What NSEC3 records say does not depend on TTLs, classes and the case of letters.
-use Rattle.std.proofs.Common.{◌≡◌, ℕ, ◌<◌, ◌≤◌, cond, not, ◌&&◌, ◌||◌, List, [], ◌∷◌, map, length}
-use Rattle.std.proofs.Common.{refl, sym, ap, ◌∙◌, subst, inl, inr, nat_eq, Option, Some, None, arith}
+use Rattle.std.proofs.Common.{◌≡◌, ℕ, ◌<◌, ◌≤◌, cond, not, ◌&&◌, ◌||◌, List, [], ◌∷◌, map, length, refl, sym, ap, ◌∙◌, subst, inl, inr, nat_eq, Option, Some}
+use Rattle.std.proofs.Common.{None, arith}
 use Rattle.std.specs.Prelude.{is_some, unwrap_or}
 use Rattle.std.specs.Char.{to_ascii_lowercase}
 use Rattle.std.specs.List.{list_all}
@@ -26,8 +26,8 @@ use Rattle.domain_checker.specs.Alike.{ArePaired, IsHashedAlike}
 use Rattle.domain_checker.specs.HashedList.{hash_in, is_hash_cover, is_hash_match, is_some_with, is_spelling, owner_hash, read_label, same_parameters}
 use Rattle.domain_checker.specs.HashedView.{HashedRecords, chain_records, first_cover, first_match, with_links}
 use Rattle.domain_checker.specs.HashedReading.{IsWalked, hash_cover_verdict, hash_match_verdict, is_none, tells_cut, told_verdict}
-use Rattle.domain_checker.specs.HashedVerdict.{IsFirst, hashed_proved_verdict, hashed_zone_verdict, is_covered, is_matched}
-use Rattle.domain_checker.specs.HashedVerdict.{is_ok_with, missing_verdict, next_closer, proves}
+use Rattle.domain_checker.specs.HashedVerdict.{IsFirst, hashed_proved_verdict, hashed_zone_verdict, is_covered, is_matched, is_ok_with, missing_verdict}
+use Rattle.domain_checker.specs.HashedVerdict.{next_closer, proves}
 use Rattle.domain_checker.specs.Verdict.{closest_encloser}
 use Rattle.domain_checker.specs.declared.verdict.Verdict.{Verdict}
 use Rattle.domain_checker.specs.declared.verdict.Verdict.TheVariants.{BelowDelegation, Has, NoType, EmptyName, NotProven}

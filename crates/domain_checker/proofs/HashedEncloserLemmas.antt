@@ -17,8 +17,8 @@ use Rattle.domain_nsec3.specs.Owners.{is_chain_name, nsec3_lists}
 use Rattle.domain_checker.specs.HashedFacts.{ChainFacts}
 use Rattle.domain_checker.specs.HashedList.{is_hash_cover, is_hash_match}
 use Rattle.domain_checker.specs.HashedView.{HashedRecords}
-use Rattle.domain_checker.specs.HashedEncloser.{Encloser, IsDenial, IsEncloser, IsFoundEncloser, IsOfName}
-use Rattle.domain_checker.specs.HashedEncloser.{encloser_is_cut, encloser_verdict, found_verdict, lower_verdict, next_cover, own_verdict}
+use Rattle.domain_checker.specs.HashedEncloser.{Encloser, IsDenial, IsEncloser, IsFoundEncloser, IsOfName, encloser_is_cut, encloser_verdict, found_verdict}
+use Rattle.domain_checker.specs.HashedEncloser.{lower_verdict, next_cover, own_verdict}
 use Rattle.domain_checker.specs.HashedReading.{IsNextHash, IsTold, IsUnmatched, IsWalked, hash_cover_verdict, is_none, tells_cut, told_verdict}
 use Rattle.domain_checker.specs.declared.verdict.Verdict.TheVariants.{BelowDelegation, Has, NoType, EmptyName}
 use Rattle.domain_checker.proofs.EncloserLemmas.{same_length, same_count}

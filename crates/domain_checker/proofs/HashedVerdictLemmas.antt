@@ -1,6 +1,6 @@
 -- What a list of records of an NSEC3 chain says is what it proves.
-use Rattle.std.proofs.Common.{◌≡◌, ◌≢◌, ℕ, ◌+◌, ◌-◌, ◌≤◌, ◌<◌, Bool, true, false, cond, not, ◌&&◌, ◌||◌, List, [], ◌∷◌}
-use Rattle.std.proofs.Common.{All, length, drop, refl, sym, ap, ◌∙◌, subst, inl, inr, ◌⊎◌, nat_eq, Option, Some, None, arith}
+use Rattle.std.proofs.Common.{◌≡◌, ◌≢◌, ℕ, ◌+◌, ◌-◌, ◌≤◌, ◌<◌, Bool, true, false, cond, not, ◌&&◌, ◌||◌, List, [], ◌∷◌, All, length, drop, refl, sym, ap, ◌∙◌}
+use Rattle.std.proofs.Common.{subst, inl, inr, ◌⊎◌, nat_eq, Option, Some, None, arith}
 use Rattle.std.specs.Prelude.{Ok, filter}
 use Rattle.std.specs.List.{find, list_any, Contains, range_with_len}
 use Rattle.std.proofs.lemmas.Bool.{cases_Bool, cases_lt, false≢true, and_parts, and_from, and_right, or_left, or_right}
@@ -27,9 +27,8 @@ use Rattle.domain_checker.specs.HashedFacts.{ChainFacts, ChainsAreKnown}
 use Rattle.domain_checker.specs.HashedList.{is_hash_match, is_hash_cover}
 use Rattle.domain_checker.specs.HashedReading.{is_none, tells_cut, hash_match_verdict, hash_cover_verdict, told_verdict, IsNextHash, IsUnmatched, IsWalked}
 use Rattle.domain_checker.specs.HashedView.{HashedRecords, chain_records, first_cover, first_match}
-use Rattle.domain_checker.specs.HashedVerdict.{is_below_chain_cut, original_verdict, missing_verdict, hashed_zone_verdict, next_closer}
-use Rattle.domain_checker.specs.HashedVerdict.{is_ok_with, is_matched, is_covered, proves, hashed_proved_verdict}
-use Rattle.domain_checker.specs.HashedVerdict.{IsHashedProved, IsFirstMatched, lists_ns, is_told_cut, HasHashedProof}
+use Rattle.domain_checker.specs.HashedVerdict.{is_below_chain_cut, original_verdict, missing_verdict, hashed_zone_verdict, next_closer, is_ok_with, is_matched}
+use Rattle.domain_checker.specs.HashedVerdict.{is_covered, proves, hashed_proved_verdict, IsHashedProved, IsFirstMatched, lists_ns, is_told_cut, HasHashedProof}
 use Rattle.domain_checker.specs.Verdict.{closest_encloser, IsWithin}
 use Rattle.domain_checker.specs.declared.verdict.Verdict.{Verdict}
 use Rattle.domain_checker.specs.declared.verdict.Verdict.TheVariants.{OutsideZone, BelowDelegation, Has, NoType, EmptyName, OptOut, NoName, NotProven}

@@ -1,6 +1,6 @@
 -- The names from x up to the apex: which of them are passed, and the hash of the next closer name.
-use Rattle.std.proofs.Common.{◌≡◌, ℕ, ◌+◌, ◌-◌, ◌≤◌, ◌<◌, zero, suc, true, false, not, [], ◌∷◌}
-use Rattle.std.proofs.Common.{◌++◌, map, length, drop, refl, sym, ap, ◌∙◌, inl, inr, Option, Some, None, arith}
+use Rattle.std.proofs.Common.{◌≡◌, ℕ, ◌+◌, ◌-◌, ◌≤◌, ◌<◌, zero, suc, true, false, not, [], ◌∷◌, ◌++◌, map, length, drop, refl, sym, ap, ◌∙◌, inl, inr, Option}
+use Rattle.std.proofs.Common.{Some, None, arith}
 use Rattle.std.specs.Prelude.{Ok, Err}
 use Rattle.std.specs.Char.{to_ascii_lowercase}
 use Rattle.std.specs.List.{list_any}

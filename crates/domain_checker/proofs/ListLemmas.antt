@@ -1,6 +1,6 @@
 -- What a list of records of the chain says by itself is what it proves.
-use Rattle.std.proofs.Common.{◌≡◌, ◌≢◌, ℕ, ◌<◌, ◌≤◌, Bool, true, false, cond, not, ◌&&◌, ◌||◌, nat_eq, ltb, List}
-use Rattle.std.proofs.Common.{length, refl, sym, ◌∙◌, subst, inl, inr, Option, Some, None}
+use Rattle.std.proofs.Common.{◌≡◌, ◌≢◌, ℕ, ◌<◌, ◌≤◌, Bool, true, false, cond, not, ◌&&◌, ◌||◌, nat_eq, ltb, List, length, refl, sym, ◌∙◌, subst, inl, inr}
+use Rattle.std.proofs.Common.{Option, Some, None}
 use Rattle.std.specs.List.{find, list_any}
 use Rattle.std.proofs.lemmas.Bool.{cases_Bool, and_parts, and_from, or_left, or_right}
 use Rattle.domain_bitmap.specs.Blocks.{contains_type}
@@ -17,13 +17,12 @@ use Rattle.domain_nsec.specs.Chain.{Link, IsChain, nsec_lists}
 use Rattle.domain_nsec.specs.declared.config.GenerateNsecConfig.{GenerateNsecConfig}
 use Rattle.domain_checker.specs.declared.verdict.Verdict.{Verdict}
 use Rattle.domain_checker.specs.declared.verdict.Verdict.TheVariants.{OutsideZone, BelowDelegation, Has, NoType, EmptyName, NoName, NotProven}
-use Rattle.domain_checker.specs.Verdict.{closest_encloser, owner_verdict, other_verdict, zone_verdict, has_match_or_cover}
-use Rattle.domain_checker.specs.Verdict.{proved_verdict, IsProved, is_inside, HasProof, IsWithin}
+use Rattle.domain_checker.specs.Verdict.{closest_encloser, owner_verdict, other_verdict, zone_verdict, has_match_or_cover, proved_verdict, IsProved, is_inside}
+use Rattle.domain_checker.specs.Verdict.{HasProof, IsWithin}
 use Rattle.domain_checker.specs.Reading.{is_at_cut, is_match, is_cover, verdict_of_both, verdict_of_cover, match_verdict, cover_verdict, list_verdict, reading}
 use Rattle.domain_checker.proofs.FindLemmas.{find_some, Stands, stands_all}
 use Rattle.domain_checker.proofs.DefiniteLemmas.{choose, definite_proven, is_definite}
-use Rattle.domain_checker.proofs.MeantLemmas.{BitmapsAreSets, ChainLaws, IgnoresCase, IsMeant, config_with, meant_by, some_link}
-use Rattle.domain_checker.proofs.MeantLemmas.{cover_of, match_of, silent}
+use Rattle.domain_checker.proofs.MeantLemmas.{BitmapsAreSets, ChainLaws, IgnoresCase, IsMeant, config_with, meant_by, some_link, cover_of, match_of, silent}
 use Rattle.domain_checker.proofs.SharedLemmas.{shared_within}
 use Rattle.domain_checker.proofs.VerdictLemmas.{matched, covers_told}
 

@@ -1,6 +1,6 @@
 -- What the laws of chains say of the records of one, whether it keeps what stands below a DNAME or not.
-use Rattle.std.proofs.Common.{◌≡◌, ℕ, ◌<◌, Bool, true, false, cond, not, ◌&&◌, ◌||◌, List, length}
-use Rattle.std.proofs.Common.{refl, sym, ap, ◌∙◌, subst, inl, inr, ◌⊎◌, Some, None, slice_get, arith}
+use Rattle.std.proofs.Common.{◌≡◌, ℕ, ◌<◌, Bool, true, false, cond, not, ◌&&◌, ◌||◌, List, length, refl, sym, ap, ◌∙◌, subst, inl, inr, ◌⊎◌, Some, None}
+use Rattle.std.proofs.Common.{slice_get, arith}
 use Rattle.std.specs.List.{find, list_any}
 use Rattle.std.proofs.lemmas.Bool.{cases_Bool, false≢true, and_parts, and_from, or_left, or_right, not-true}
 use Rattle.std.proofs.lemmas.List.Elements.{recursion_from_All}
@@ -13,8 +13,8 @@ use Rattle.domain_bitmap.specs.Bitmap.{bitmap_octets}
 use Rattle.domain_bitmap.specs.Blocks.{contains_type}
 use Rattle.domain_zone.specs.Covering.{matches, covers, matches_or_covers}
 use Rattle.domain_zone.specs.Enclosers.{exists_over, longer, shared}
-use Rattle.domain_zone.specs.Zone.{ZoneRecord, OwnersNeverDescend, records_of, has_type, is_zone_cut, occludes, owns}
-use Rattle.domain_zone.specs.Zone.{is_occluded, is_unoccluded, unoccluded_owners}
+use Rattle.domain_zone.specs.Zone.{ZoneRecord, OwnersNeverDescend, records_of, has_type, is_zone_cut, occludes, owns, is_occluded, is_unoccluded}
+use Rattle.domain_zone.specs.Zone.{unoccluded_owners}
 use Rattle.domain_zone.proofs.NameLemmas.{one_lowered, same_itself, same_is, below_itself, lowered_below}
 use Rattle.domain_zone.proofs.PairLemmas.{In, all_in}
 use Rattle.domain_zone.proofs.OwnerLemmas.{any_in, in_any, below_occluder}

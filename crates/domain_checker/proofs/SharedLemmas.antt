@@ -1,6 +1,6 @@
 -- The name that two names share has as many labels as they share from the root on.
-use Rattle.std.proofs.Common.{◌≡◌, ◌+◌, ◌≤◌, max, Bool, true, false, cond, [], ◌∷◌, ◌++◌, map, reverse, length}
-use Rattle.std.proofs.Common.{refl, sym, ap, ◌∙◌, inl, inr, arith, ltb, nat_eq}
+use Rattle.std.proofs.Common.{◌≡◌, ◌+◌, ◌≤◌, max, Bool, true, false, cond, [], ◌∷◌, ◌++◌, map, reverse, length, refl, sym, ap, ◌∙◌, inl, inr, arith, ltb}
+use Rattle.std.proofs.Common.{nat_eq}
 use Rattle.std.specs.List.{common_prefix_len}
 use Rattle.std.specs.Cmp.Lexicographic.{pointwise, bytes_decides}
 use Rattle.std.specs.Char.{to_ascii_lowercase}

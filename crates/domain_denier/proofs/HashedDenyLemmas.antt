@@ -1,7 +1,5 @@
 -- What is picked of the NSEC3 chain of a zone is what its answer rests on, and no more.
-use Rattle.std.proofs.Common.{◌≡◌, ◌≢◌, ℕ, ◌+◌, ◌-◌, ◌<◌, Bool, true, false}
-use Rattle.std.proofs.Common.{cond, not, ◌&&◌, ◌||◌, List, [], ◌∷◌, map, drop}
-use Rattle.std.proofs.Common.{length, Some, None, Option}
+use Rattle.std.proofs.Common.{◌≡◌, ◌≢◌, ℕ, ◌+◌, ◌-◌, ◌<◌, Bool, true, false, cond, not, ◌&&◌, ◌||◌, List, [], ◌∷◌, map, drop, length, Some, None, Option}
 use Rattle.std.proofs.Common.{slice_get, nat_eq, refl, sym, ap, ◌∙◌, subst, inl, inr, ◌⊎◌, arith}
 use Rattle.std.specs.Prelude.{All, Ok}
 use Rattle.std.specs.List.{Contains, list_any}
@@ -37,9 +35,7 @@ use Rattle.domain_answer.specs.HashedZoneAnswer.{HashedLeavesOutBelowDname, hash
 use Rattle.domain_answer.specs.ZoneAnswer.{is_at_parent, wildcard_below}
 use Rattle.domain_answer.proofs.CountLemmas.{closest_last}
 use Rattle.domain_denier.specs.Picked.{at_place}
-use Rattle.domain_denier.specs.HashedPicked.{AreHashedNeeded, IsHashedDenial}
-use Rattle.domain_denier.specs.HashedPicked.{IsHashedWhole, TellOfTheirParts}
-use Rattle.domain_denier.specs.HashedPicked.{hashed_picked, other_place, picked_without}
+use Rattle.domain_denier.specs.HashedPicked.{AreHashedNeeded, IsHashedDenial, IsHashedWhole, TellOfTheirParts, hashed_picked, other_place, picked_without}
 use Rattle.domain_denier.specs.HashedSteps.{IsPickedRead, IsSoleCover, IsSoleMatch, IsSoleWildcard}
 use Rattle.domain_denier.specs.declared.nsec3.Nsec3Denial.{Nsec3Denial}
 use Rattle.domain_denier.proofs.HashSearchLemmas.{cycle_length}

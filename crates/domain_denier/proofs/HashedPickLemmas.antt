@@ -1,6 +1,6 @@
 -- What is picked of an NSEC3 chain answers as the whole chain does, and less without one of its records.
-use Rattle.std.proofs.Common.{◌≡◌, ℕ, zero, suc, ◌<◌, Bool, true, false, cond, List, [], ◌∷◌, ◌++◌, length, Some, None, Option}
-use Rattle.std.proofs.Common.{slice_get, nat_eq, refl, sym, ap, ◌∙◌, subst, inl, inr, arith}
+use Rattle.std.proofs.Common.{◌≡◌, ℕ, zero, suc, ◌<◌, Bool, true, false, cond, List, [], ◌∷◌, ◌++◌, length, Some, None, Option, slice_get, nat_eq, refl, sym}
+use Rattle.std.proofs.Common.{ap, ◌∙◌, subst, inl, inr, arith}
 use Rattle.std.specs.Prelude.{Ok}
 use Rattle.std.specs.List.{list_any}
 use Rattle.std.proofs.lemmas.Bool.{cases_Bool, cases_lt, eq-eqb, false≢true}
@@ -23,23 +23,19 @@ use Rattle.domain_checker.specs.HashedVerdict.{is_matched, is_ok_with}
 use Rattle.domain_checker.proofs.FindLemmas.{any_none, in_at}
 use Rattle.domain_checker.proofs.HashedWalkLemmas.{some_matched}
 use Rattle.domain_answer.specs.declared.answer.Answer.{Answer}
-use Rattle.domain_answer.specs.declared.answer.Answer.TheVariants.{Referral, Redirected}
-use Rattle.domain_answer.specs.declared.answer.Answer.TheVariants.{MayBeUnsigned, NoCloserName, NotProven}
-use Rattle.domain_answer.specs.HashedReading.{IsHashedRead, IsReadOn, IsWildcardRead}
-use Rattle.domain_answer.specs.HashedReading.{encloser_answer, lower_answer, next_answer}
-use Rattle.domain_answer.specs.HashedReading.{own_answer, wildcard_told}
+use Rattle.domain_answer.specs.declared.answer.Answer.TheVariants.{Referral, Redirected, MayBeUnsigned, NoCloserName, NotProven}
+use Rattle.domain_answer.specs.HashedReading.{IsHashedRead, IsReadOn, IsWildcardRead, encloser_answer, lower_answer, next_answer, own_answer, wildcard_told}
 use Rattle.domain_answer.specs.ZoneAnswer.{wildcard_below}
 use Rattle.domain_answer.proofs.CountLemmas.{last_above, last_count}
 use Rattle.domain_answer.proofs.HashedAnswerLemmas.{own_never}
 use Rattle.domain_denier.specs.Picked.{at_place}
 use Rattle.domain_denier.specs.HashedPicked.{AreHashedThere, TellsOfName, hashed_picked, other_place, picked_without, without_records}
-use Rattle.domain_denier.specs.HashedSteps.{IsCoverAt, IsFirstDenial, IsInside, IsOfHash, IsPickedRead, IsPlaced, IsSoleCover, IsSoleMatch}
-use Rattle.domain_denier.specs.HashedSteps.{encloser_with, link_at, next_role, wildcard_told_by}
+use Rattle.domain_denier.specs.HashedSteps.{IsCoverAt, IsFirstDenial, IsInside, IsOfHash, IsPickedRead, IsPlaced, IsSoleCover, IsSoleMatch, encloser_with}
+use Rattle.domain_denier.specs.HashedSteps.{link_at, next_role, wildcard_told_by}
 use Rattle.domain_denier.specs.declared.encloser.PlacedEncloser.{PlacedEncloser}
 use Rattle.domain_denier.specs.declared.nsec3.Nsec3Denial.{Nsec3Denial}
-use Rattle.domain_denier.proofs.SomeLemmas.{AreAmong, AreOthers, covered, in_back, in_front, in_place}
-use Rattle.domain_denier.proofs.SomeLemmas.{kept_place, matched, no_cover, no_match, not_gone, others_among}
-use Rattle.domain_denier.proofs.SomeLemmas.{three_among, three_others, unmatched}
+use Rattle.domain_denier.proofs.SomeLemmas.{AreAmong, AreOthers, covered, in_back, in_front, in_place, kept_place, matched, no_cover, no_match, not_gone}
+use Rattle.domain_denier.proofs.SomeLemmas.{others_among, three_among, three_others, unmatched}
 
 -- a first answer after which the wildcard is not asked for
 plain_on : (R : HashedRecords) (x : Name) (t : ℕ) (first : Answer)

@@ -2,7 +2,7 @@
 ghost use Rattle.std.specs.Prelude.{◌≡◌, ◌<◌, ◌++◌, Some, length, IfSome, IsTrue};
 ghost use Rattle.domain_answer.specs.NameAnswer.{IsNameAnswer};
 ghost use Rattle.domain_base.specs.Name.{last_labels};
-ghost use Rattle.domain_answer.specs.Reading.{reading, wildcard_answer};
+ghost use Rattle.domain_answer.specs.Reading.{reading};
 ghost use Rattle.domain_answer.specs.ZoneAnswer.{wildcard_below};
 ghost use Rattle.domain_denier.specs.Judged.{IsOfWildcard, IsSilent, Tells};
 ghost use Rattle.domain_denier.specs.Picked.{at_place, IsFound, IsOf};

@@ -1,5 +1,5 @@
 //! The record of a chain that says something of a name.
-ghost use Rattle.std.specs.Prelude.{◌≡◌, ◌<◌, length, IfSome, IsTrue};
+ghost use Rattle.std.specs.Prelude.{◌<◌, length, IfSome, IsTrue};
 ghost use Rattle.domain_denier.specs.Picked.{IsFound};
 ghost use Rattle.domain_denier.specs.Search.{AreEnds, IsAhead, IsBehind};
 

@@ -11,8 +11,8 @@ use Rattle.domain_nsec3.specs.Faults.{IsFirstFault as IsFirstHashedFault}
 use Rattle.domain_nsec.specs.Chain.{IsFirstFault}
 use Rattle.domain_records.specs.Order.{IsOneClass}
 use Rattle.domain_records.specs.declared.error.SigningError.{SigningError}
-use Rattle.domain_records.specs.declared.error.SigningError.TheVariants.{EmptyRecordSlice, MultipleTtlValues, SoaRecordCouldNotBeDetermined}
-use Rattle.domain_records.specs.declared.error.SigningError.TheVariants.{Nsec3HashingError, OutOfMemory as NoMemory}
+use Rattle.domain_records.specs.declared.error.SigningError.TheVariants.{EmptyRecordSlice, MultipleTtlValues, SoaRecordCouldNotBeDetermined, Nsec3HashingError}
+use Rattle.domain_records.specs.declared.error.SigningError.TheVariants.{OutOfMemory as NoMemory}
 use Rattle.domain_zone.specs.View.{zone_of}
 use Rattle.domain_dnssec.specs.declared.chain.ChainError.{ChainError}
 use Rattle.domain_dnssec.specs.declared.chain.ChainError.TheVariants.{MixedClasses, Sort, Signing, OutOfMemory}

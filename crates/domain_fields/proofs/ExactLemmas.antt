@@ -4,11 +4,10 @@ use Rattle.std.specs.Prelude.{◌&&◌}
 use Rattle.std.specs.Cmp.{first_so, second_so}
 use Rattle.domain_base.specs.Fault.{Fault}
 use Rattle.domain_base.proofs.FaultLemmas.{no_name_fault}
-use Rattle.domain_fields.specs.Field.{Field, octet, short, long, name, spelled_name, counted, exactly}
-use Rattle.domain_fields.specs.Field.{at_most, rest, Value, field_octets, FieldFits, FieldEnds, FieldFault, cut_octet}
-use Rattle.domain_fields.specs.Field.{cut_short, cut_long, no_name, no_spelled_name, no_count, cut_counted, cut_exactly, too_long}
-use Rattle.domain_fields.specs.Layout.{Layout, one, ◌▸◌, Values, octets_of, Fits, Ends, Begins}
-use Rattle.domain_fields.specs.Layout.{ParsesBack, is_delimited, splits, FirstFault, in_field, in_first, in_later}
+use Rattle.domain_fields.specs.Field.{Field, octet, short, long, name, spelled_name, counted, exactly, at_most, rest, Value, field_octets, FieldFits, FieldEnds}
+use Rattle.domain_fields.specs.Field.{FieldFault, cut_octet, cut_short, cut_long, no_name, no_spelled_name, no_count, cut_counted, cut_exactly, too_long}
+use Rattle.domain_fields.specs.Layout.{Layout, one, ◌▸◌, Values, octets_of, Fits, Ends, Begins, ParsesBack, is_delimited, splits, FirstFault, in_field}
+use Rattle.domain_fields.specs.Layout.{in_first, in_later}
 use Rattle.domain_fields.proofs.OrderLemmas.{Same, same_field, same_data}
 
 last_field : (f : Field) (v w : Value f) (r s : List ℕ) → FieldFits f v → FieldFits f w → FieldEnds f r → FieldEnds f s

@@ -1,5 +1,5 @@
 -- names as fields
-use Rattle.std.proofs.Common.{◌≡◌, ℕ, List, length, take, drop, map, refl, sym}
+use Rattle.std.proofs.Common.{◌≡◌, ℕ, List, length, take, drop, map, refl}
 use Rattle.std.proofs.lemmas.List.{length-map}
 use Rattle.std.specs.Char.{to_ascii_lowercase}
 use Rattle.std.specs.Ordering.{nat_cmp}

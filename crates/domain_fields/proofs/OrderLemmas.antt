@@ -1,12 +1,11 @@
 -- the lexicographic order of octets, field by field
 use Rattle.std.specs.declared.cmp.Ordering.{Ordering}
-use Rattle.std.proofs.Common.{◌≡◌, ℕ, zero, suc, ◌+◌, true, List, [], ◌∷◌, ◌++◌, length}
-use Rattle.std.proofs.Common.{take, drop, refl, sym, ap, subst, ◌∙◌, arith, length-append, append_assoc, append-nil}
+use Rattle.std.proofs.Common.{◌≡◌, ℕ, zero, suc, ◌+◌, true, List, [], ◌∷◌, ◌++◌, length, take, drop, refl, sym, ap, subst, ◌∙◌, arith, length-append}
+use Rattle.std.proofs.Common.{append_assoc, append-nil}
 use Rattle.std.specs.declared.cmp.Ordering.TheVariants.{Less, Equal, Greater}
-use Rattle.std.specs.Ordering.{ordering_then, nat_cmp}
+use Rattle.std.specs.Ordering.{ordering_then, nat_cmp, is_eq}
 use Rattle.std.specs.Cmp.{first_so, second_so}
 use Rattle.std.specs.Cmp.Lexicographic.{slice_cmp, texts_ties}
-use Rattle.std.specs.Ordering.{is_eq}
 use Rattle.std.specs.Prelude.{bytes_eq}
 use Rattle.std.specs.FinMap.{nat_cmp-IsAntisymmetric}
 use Rattle.std.specs.Int.{w16, w32, to_be_bytes, from_be_bytes}
@@ -17,10 +16,10 @@ use Rattle.std.proofs.lemmas.List.{take_at, drop_at}
 use Rattle.std.proofs.lemmas.Nat.{from_be_bytes-to_be_bytes_2, from_be_bytes-to_be_bytes_4}
 use Rattle.domain_base.specs.Name.{wire_of, IsLabel, IsName}
 use Rattle.domain_base.proofs.CaseLemmas.{IsName-lowered}
-use Rattle.domain_fields.specs.Field.{Field, octet, short, long, name, spelled_name, counted}
-use Rattle.domain_fields.specs.Field.{exactly, at_most, rest, Value, field_octets, FieldFits, lower_field}
-use Rattle.domain_fields.specs.Layout.{Layout, one, ◌▸◌, Values, octets_of, Fits}
-use Rattle.domain_fields.specs.Layout.{lower, canonical_of, canonical_order, is_delimited, is_delimited_field, Begins}
+use Rattle.domain_fields.specs.Field.{Field, octet, short, long, name, spelled_name, counted, exactly, at_most, rest, Value, field_octets, FieldFits}
+use Rattle.domain_fields.specs.Field.{lower_field}
+use Rattle.domain_fields.specs.Layout.{Layout, one, ◌▸◌, Values, octets_of, Fits, lower, canonical_of, canonical_order, is_delimited, is_delimited_field}
+use Rattle.domain_fields.specs.Layout.{Begins}
 
 -- two values, and what stands after them, are the same
 pub record Same {V : Type 0} (v w : V) (r s : List ℕ) : Type 0 where

@@ -87,8 +87,8 @@ pub trait Nsec3Hasher {
         ensures memory { IsErrOf result HasherError.OutOfMemory → takes_memory self.now };
 }
 
-/// The hash of a name, which is given by the octets of its wire form in lower case; a refusal of the
-/// hasher is one of the chain.
+/// The hash of a name, which is given by the octets of its wire form in lower case; a refusal of
+/// the hasher is one of the chain.
 ///
 /// # Errors
 ///

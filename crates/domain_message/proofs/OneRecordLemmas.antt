@@ -1,6 +1,6 @@
 -- at a place of a message stands one record at most, and none where it is refused
-use Rattle.std.proofs.Common.{◌≡◌, ℕ, ◌+◌, List, refl, sym, ap, subst, ◌∙◌, arith}
-use Rattle.std.specs.Prelude.{Option, Some, None}
+use Rattle.std.proofs.Common.{◌≡◌, ℕ, ◌+◌, List, refl, sym, subst, ◌∙◌, arith}
+use Rattle.std.specs.Prelude.{Option}
 use Rattle.domain_octets.specs.Words.{Octets}
 use Rattle.domain_base.specs.Words.{Name}
 use Rattle.domain_record.specs.declared.record.Record.{Record}
@@ -10,15 +10,10 @@ use Rattle.domain_rdata.proofs.ScanLemmas.{AreOf, are_of, are_wire}
 use Rattle.domain_rdata.specs.declared.zone_record_data.ZoneRecordData.{ZoneRecordData}
 use Rattle.domain_message.specs.Alike.{AreAlike, IsOfMessage}
 use Rattle.domain_message.specs.Data.{parts_of, PlacedAt, DataAt}
-use Rattle.domain_message.specs.Record.{IsDataAt, RecordAt, OctetsRefusal, RefusesData}
-use Rattle.domain_message.specs.Record.{cut, in_part, other_end, in_octets, RefusesRecord}
-use Rattle.domain_message.specs.Record.{in_header, in_data}
+use Rattle.domain_message.specs.Record.{IsDataAt, RecordAt, OctetsRefusal, RefusesData, cut, in_part, other_end, in_octets, RefusesRecord, in_header, in_data}
 use Rattle.domain_message.specs.declared.error.MessageError.{MessageError}
-use Rattle.domain_message.specs.declared.error.MessageError.TheVariants.{ShortInput, BadLabelType}
-use Rattle.domain_message.specs.declared.error.MessageError.TheVariants.{ForwardPointer}
-use Rattle.domain_message.specs.declared.error.MessageError.TheVariants.{LongName, DataLength}
-use Rattle.domain_message.specs.declared.error.MessageError.TheVariants.{IllegalData}
-use Rattle.domain_message.specs.declared.error.MessageError.TheVariants.{ShortBuf, OutOfMemory}
+use Rattle.domain_message.specs.declared.error.MessageError.TheVariants.{ShortInput, BadLabelType, ForwardPointer, LongName, DataLength, IllegalData, ShortBuf}
+use Rattle.domain_message.specs.declared.error.MessageError.TheVariants.{OutOfMemory}
 use Rattle.domain_message.proofs.HeaderLemmas.{one_header, no_header}
 use Rattle.domain_message.proofs.PartLemmas.{one_parts, no_parts, one_placed}
 

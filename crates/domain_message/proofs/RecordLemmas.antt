@@ -7,11 +7,8 @@ use Rattle.domain_message.specs.Refusal.{CopyRefusal}
 use Rattle.domain_message.specs.Record.{OctetsRefusal, RefusesData, in_octets}
 use Rattle.domain_message.specs.declared.parts.Part.{Part}
 use Rattle.domain_message.specs.declared.error.MessageError.{MessageError}
-use Rattle.domain_message.specs.declared.error.MessageError.TheVariants.{ShortInput, BadLabelType}
-use Rattle.domain_message.specs.declared.error.MessageError.TheVariants.{ForwardPointer}
-use Rattle.domain_message.specs.declared.error.MessageError.TheVariants.{LongName, DataLength}
-use Rattle.domain_message.specs.declared.error.MessageError.TheVariants.{IllegalData}
-use Rattle.domain_message.specs.declared.error.MessageError.TheVariants.{ShortBuf, OutOfMemory}
+use Rattle.domain_message.specs.declared.error.MessageError.TheVariants.{ShortInput, BadLabelType, ForwardPointer, LongName, DataLength, IllegalData, ShortBuf}
+use Rattle.domain_message.specs.declared.error.MessageError.TheVariants.{OutOfMemory}
 
 pub on_err : {X E : Type 0} {P Q : E → Type 0} → ((e : E) → P e → Q e) → (r : Result X E) → IfErr r P → IfErr r Q
 on_err f (Ok x) h = tt

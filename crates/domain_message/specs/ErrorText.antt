@@ -4,9 +4,8 @@ use Rattle.domain_octets.specs.Words.{Octets}
 use Rattle.domain_base.specs.ErrorText.{scan_error_text}
 use Rattle.domain_message.specs.declared.error.MessageError.{MessageError}
 use Rattle.domain_message.specs.declared.error.MessageError.TheVariants.{ShortInput, BadLabelType}
-use Rattle.domain_message.specs.declared.error.MessageError.TheVariants.{ForwardPointer}
-use Rattle.domain_message.specs.declared.error.MessageError.TheVariants.{LongName, DataLength}
-use Rattle.domain_message.specs.declared.error.MessageError.TheVariants.{IllegalData}
+use Rattle.domain_message.specs.declared.error.MessageError.TheVariants.{ForwardPointer, LongName}
+use Rattle.domain_message.specs.declared.error.MessageError.TheVariants.{DataLength, IllegalData}
 use Rattle.domain_message.specs.declared.error.MessageError.TheVariants.{ShortBuf, OutOfMemory}
 use Rattle.domain_message.specs.declared.line.LineError.{LineError}
 use Rattle.domain_message.specs.declared.line.LineError.TheVariants as line_error

@@ -16,9 +16,8 @@ use Rattle.domain_message.specs.declared.parts.Part.{Part}
 use Rattle.domain_message.specs.declared.name.NameFault.{NameFault}
 use Rattle.domain_message.specs.declared.error.MessageError.{MessageError}
 use Rattle.domain_message.specs.declared.error.MessageError.TheVariants.{ShortInput, BadLabelType}
-use Rattle.domain_message.specs.declared.error.MessageError.TheVariants.{ForwardPointer}
-use Rattle.domain_message.specs.declared.error.MessageError.TheVariants.{LongName, DataLength}
-use Rattle.domain_message.specs.declared.error.MessageError.TheVariants.{IllegalData}
+use Rattle.domain_message.specs.declared.error.MessageError.TheVariants.{ForwardPointer, LongName}
+use Rattle.domain_message.specs.declared.error.MessageError.TheVariants.{DataLength, IllegalData}
 use Rattle.domain_message.specs.declared.error.MessageError.TheVariants.{ShortBuf, OutOfMemory}
 
 -- so many octets at a place are these data, and have these octets without compression

@@ -11,9 +11,8 @@ use Rattle.domain_message.specs.declared.name.NameFault.{NameFault}
 use Rattle.domain_message.specs.declared.name.NameFault.TheVariants as name_fault
 use Rattle.domain_message.specs.declared.error.MessageError.{MessageError}
 use Rattle.domain_message.specs.declared.error.MessageError.TheVariants.{ShortInput, BadLabelType}
-use Rattle.domain_message.specs.declared.error.MessageError.TheVariants.{ForwardPointer}
-use Rattle.domain_message.specs.declared.error.MessageError.TheVariants.{LongName, DataLength}
-use Rattle.domain_message.specs.declared.error.MessageError.TheVariants.{IllegalData}
+use Rattle.domain_message.specs.declared.error.MessageError.TheVariants.{ForwardPointer, LongName}
+use Rattle.domain_message.specs.declared.error.MessageError.TheVariants.{DataLength, IllegalData}
 use Rattle.domain_message.specs.declared.error.MessageError.TheVariants.{ShortBuf, OutOfMemory}
 
 abbrev pub message_error_of : NameFault → MessageError

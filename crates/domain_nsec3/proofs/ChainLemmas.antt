@@ -1,6 +1,6 @@
 -- A chain over entries is the chain of the zone where the entries are its names with their types.
-use Rattle.std.proofs.Common.{◌≡◌, ℕ, zero, suc, ◌+◌, ◌<◌, ◌≤◌, true, List, [], ◌∷◌, ◌++◌, map, length}
-use Rattle.std.proofs.Common.{get_or, take, Some, None, Ok, refl, sym, ap, ◌∙◌, subst, arith, inl, inr, add-one}
+use Rattle.std.proofs.Common.{◌≡◌, ℕ, zero, suc, ◌+◌, ◌<◌, ◌≤◌, true, List, [], ◌∷◌, ◌++◌, map, length, get_or, take, Some, None, Ok, refl, sym, ap, ◌∙◌, subst}
+use Rattle.std.proofs.Common.{arith, inl, inr, add-one}
 use Rattle.std.specs.Prelude.{All, IsPermutation, ◌||◌, slice_get}
 use Rattle.std.specs.List.{AllByRecursion, list_any}
 use Rattle.std.specs.List.Sorted.{IsStrictlySortedBy}
@@ -27,8 +27,8 @@ use Rattle.domain_nsec3.specs.Chain.{HashedLink, HashedName, IsHash, IsHashedCha
 use Rattle.domain_nsec3.specs.Config.{ChainConfig, Hash}
 use Rattle.domain_nsec3.specs.Faults.{hash_fault}
 use Rattle.domain_nsec3.specs.Owners.{is_chain_name, nsec3_lists}
-use Rattle.domain_nsec3.specs.Steps.{Common, Entry, HashedEntry, HashedTypes, without_hash, without_name}
-use Rattle.domain_nsec3.specs.Steps.{IsHashed, link_to, links_from, chain_links, IsOrderedChain}
+use Rattle.domain_nsec3.specs.Steps.{Common, Entry, HashedEntry, HashedTypes, without_hash, without_name, IsHashed, link_to, links_from, chain_links}
+use Rattle.domain_nsec3.specs.Steps.{IsOrderedChain}
 use Rattle.domain_nsec3.specs.Meaning.{IsRecordOf}
 use Rattle.domain_nsec3.specs.StepView.{as_hashed_types, links_in}
 use Rattle.domain_nsec3.specs.declared.chain.HashedChain.{HashedChain}

@@ -1,6 +1,6 @@
 -- What the records of an NSEC3 chain say of every name, from the chain alone.
-use Rattle.std.proofs.Common.{length, ◌≤◌, arith, ◌≡◌, ℕ, zero, suc, Bool, true, false, cond, not, ◌&&◌, ◌||◌}
-use Rattle.std.proofs.Common.{List, [], ◌∷◌, map, Some, Ok, refl, sym, ap, ◌∙◌, subst, inl, inr, ◌⊎◌}
+use Rattle.std.proofs.Common.{length, ◌≤◌, arith, ◌≡◌, ℕ, zero, suc, Bool, true, false, cond, not, ◌&&◌, ◌||◌, List, [], ◌∷◌, map, Some, Ok, refl, sym, ap, ◌∙◌}
+use Rattle.std.proofs.Common.{subst, inl, inr, ◌⊎◌}
 use Rattle.std.specs.Prelude.{filter, slice_get}
 use Rattle.std.specs.List.{AllByRecursion, list_any}
 use Rattle.std.specs.List.Sorted.{IsStrictlySortedBy}
@@ -25,8 +25,8 @@ use Rattle.domain_base.specs.Name.{is_at_or_below, is_strictly_below, lowered, s
 use Rattle.domain_base.specs.Words.{Name}
 use Rattle.domain_base.specs.Types.{ns, ds}
 use Rattle.domain_zone.specs.Zone.{ZoneRecord, records_of, owns, has_type, is_zone_cut, is_unoccluded, unoccluded_owners}
-use Rattle.domain_zone.proofs.NameLemmas.{one_lowered, same_itself, below_itself, below_trans, below_length}
-use Rattle.domain_zone.proofs.NameLemmas.{below_longer, below_parent, lowered_below, same_lowered}
+use Rattle.domain_zone.proofs.NameLemmas.{one_lowered, same_itself, below_itself, below_trans, below_length, below_longer, below_parent, lowered_below}
+use Rattle.domain_zone.proofs.NameLemmas.{same_lowered}
 use Rattle.domain_zone.proofs.OwnerLemmas.{any_filter, any_in, any_owner, apex_unoccluded, typed_owns}
 use Rattle.domain_zone.proofs.PairLemmas.{In, all_in, IsAscending, IsApart, gap, next_is, irreflexive, one_matches_or_covers}
 use Rattle.domain_zone.proofs.PlaceLemmas.{IsOnly, one_place, in_at}
@@ -34,8 +34,8 @@ use Rattle.domain_zone.proofs.SharedLemmas.{either_way}
 use Rattle.domain_zone.proofs.SoaLemmas.{soa_owned}
 use Rattle.domain_nsec3.specs.Chain.{HashedLink, HashedName, IsHashedChain, IsOfChain, cycle, ends, ends_of, hashed_owner}
 use Rattle.domain_nsec3.specs.Config.{ChainConfig, HashAnswer, excludes, hash_of}
-use Rattle.domain_nsec3.specs.Meaning.{octets_before, IsAlone, AreAlone, IsRecordOf, IsMatchedOrCoveredOnce}
-use Rattle.domain_nsec3.specs.Meaning.{MirrorsZone, TellsEncloserOf, TellsEncloser, CoversExcluded}
+use Rattle.domain_nsec3.specs.Meaning.{octets_before, IsAlone, AreAlone, IsRecordOf, IsMatchedOrCoveredOnce, MirrorsZone, TellsEncloserOf, TellsEncloser}
+use Rattle.domain_nsec3.specs.Meaning.{CoversExcluded}
 use Rattle.domain_nsec3.specs.Owners.{original_owners, is_original_owner, is_excluded, is_unsigned_cut, is_empty, is_chain_name, is_listed, nsec3_lists}
 use Rattle.domain_nsec3.proofs.FaultLemmas.{hash_same}
 use Rattle.domain_nsec3.proofs.OwnerLemmas.{existing_are, runs_to_encloser}

@@ -9,8 +9,7 @@ use Rattle.domain_octets.proofs.StdLemmas.{and_false}
 use Rattle.domain_base.specs.Order.{canonical_cmp, before}
 use Rattle.domain_records.specs.Errors.{signing_error_of}
 use Rattle.domain_hasher.specs.declared.error.Nsec3HashError.{Nsec3HashError}
-use Rattle.domain_hasher.specs.declared.error.Nsec3HashError.TheVariants.{Hasher, AppendError, OwnerHashError}
-use Rattle.domain_hasher.specs.declared.error.Nsec3HashError.TheVariants.{Nsec3NameTooLong, CollisionDetected, OutOfMemory}
+use Rattle.domain_hasher.specs.declared.error.Nsec3HashError.TheVariants.{Hasher, AppendError, OwnerHashError, Nsec3NameTooLong, CollisionDetected, OutOfMemory}
 use Rattle.domain_zone.specs.Enclosers.{is_empty_nonterminal}
 use Rattle.domain_base.specs.Name.{is_at_or_below, is_strictly_below, lowered, same_name}
 use Rattle.domain_base.specs.Words.{Name}

@@ -1,13 +1,13 @@
 -- The text of a hash as a label.
-use Rattle.std.proofs.Common.{◌≡◌, ℕ, ◌+◌, ◌*◌, ◌/◌, ◌<◌, ◌≤◌, List, [], ◌∷◌, ◌++◌, map, length, refl, inl}
-use Rattle.std.proofs.Common.{inr, sym, ap, ◌∙◌, subst, arith, length-append, get_or, set, take, Fits, w8, zero, suc, append_assoc}
+use Rattle.std.proofs.Common.{◌≡◌, ℕ, ◌+◌, ◌*◌, ◌/◌, ◌<◌, ◌≤◌, List, [], ◌∷◌, ◌++◌, map, length, refl, inl, inr, sym, ap, ◌∙◌, subst, arith, length-append}
+use Rattle.std.proofs.Common.{get_or, set, take, Fits, w8, zero, suc, append_assoc}
 use Rattle.std.specs.Prelude.{All, Some, None, Ok, nat_lt, ◌==◌, ◌||◌, true, false, if◌then◌else◌}
 use Rattle.std.specs.Char.{to_ascii_lowercase}
 use Rattle.std.specs.List.{AllByRecursion}
 use Rattle.std.proofs.lemmas.Bool.{cases_Bool, cases_lt, or_right}
 use Rattle.std.proofs.lemmas.Bool.Decides.{nat_tests}
 use Rattle.std.proofs.lemmas.List.Elements.{recursion_from_All, All-from_recursion}
-use Rattle.std.proofs.lemmas.List.{length-map}
+use Rattle.std.proofs.lemmas.List.{length-map, append-nil}
 use Rattle.domain_octets.specs.Base32.{base32_from, base32_lower, lower_digit}
 use Rattle.domain_octets.proofs.Base32Lemmas.{many_digits}
 use Rattle.domain_octets.proofs.OctetLemmas.{octets_from_type}
@@ -17,7 +17,6 @@ use Rattle.domain_base.specs.Text.{is_ordinary, label_text, name_text}
 use Rattle.domain_base.specs.Wire.{labels_of, IsWire}
 use Rattle.domain_base.proofs.TextLemmas.{ordinary_octet}
 use Rattle.std.specs.Str.{IsAscii}
-use Rattle.std.proofs.lemmas.List.{append-nil}
 use Rattle.domain_base.proofs.WireLemmas.{IsWire-wire_of, labels_of-wire_of, wire_is}
 use Rattle.domain_base.specs.Words.{Name}
 use Rattle.domain_hasher.specs.declared.error.Nsec3HashError.TheVariants.{OwnerHashError, Nsec3NameTooLong}

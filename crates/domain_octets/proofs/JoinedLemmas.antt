@@ -1,6 +1,6 @@
 -- texts that are gone through in pieces of 64 characters, and what each piece stands for
-use Rattle.std.proofs.Common.{◌≡◌, ◌≢◌, ℕ, zero, suc, ◌+◌, ◌*◌, ◌/◌, ◌%◌, ◌<◌, ◌≤◌, true, false, List, [], ◌∷◌, ◌++◌, length}
-use Rattle.std.proofs.Common.{take, drop, get_or, length-append, length-take, refl, sym, ap, subst, ◌∙◌, arith, inl, inr, Option, None, Some, Ok, Err}
+use Rattle.std.proofs.Common.{◌≡◌, ◌≢◌, ℕ, zero, suc, ◌+◌, ◌*◌, ◌/◌, ◌%◌, ◌<◌, ◌≤◌, true, false, List, [], ◌∷◌, ◌++◌, length, take, drop, get_or, length-append}
+use Rattle.std.proofs.Common.{length-take, refl, sym, ap, subst, ◌∙◌, arith, inl, inr, Option, None, Some, Ok, Err}
 use Rattle.std.specs.Prelude.{◌↔◌, Bool, not, nat_le, is_some, unwrap_or, IsTrue, MatchOption}
 use Rattle.std.specs.List.{AllPass}
 use Rattle.std.proofs.Math.ListN.{get_or-append, get_or-eq_default}
@@ -21,8 +21,8 @@ use Rattle.domain_octets.specs.Cut.{Cut}
 use Rattle.domain_octets.specs.Words.{AreOctets}
 use Rattle.domain_octets.proofs.CodecBackLemmas.{decodes_once}
 use Rattle.domain_octets.proofs.Base16Lemmas.{First, pairs_first}
-use Rattle.domain_octets.proofs.Base64Lemmas.{DecodesTo, split_pieces, nothing_decodes, bytes-drop, Passed}
-use Rattle.domain_octets.proofs.Base64Lemmas.{passed_none, passed_more, short_piece, decoded_length}
+use Rattle.domain_octets.proofs.Base64Lemmas.{DecodesTo, split_pieces, nothing_decodes, bytes-drop, Passed, passed_none, passed_more, short_piece}
+use Rattle.domain_octets.proofs.Base64Lemmas.{decoded_length}
 use Rattle.domain_octets.specs.declared.error.AppendError.{AppendError}
 use Rattle.domain_octets.specs.declared.error.AppendError.TheVariants.{ShortBuf, OutOfMemory}
 use Rattle.base64.specs.declared.decode.DecodeError.{DecodeError}

@@ -1,6 +1,6 @@
 -- what octets are written as in Base 32 hex, in either case, is read back
-use Rattle.std.proofs.Common.{◌≡◌, ℕ, ◌+◌, ◌*◌, ◌/◌, ◌%◌, ◌<◌, true, All, not, ◌&&◌, ◌||◌, List, [], ◌∷◌, map, length}
-use Rattle.std.proofs.Common.{refl, ap, sym, ◌∙◌, arith, lit<, nat_eq, Some}
+use Rattle.std.proofs.Common.{◌≡◌, ℕ, ◌+◌, ◌*◌, ◌/◌, ◌%◌, ◌<◌, true, All, not, ◌&&◌, ◌||◌, List, [], ◌∷◌, map, length, refl, ap, sym, ◌∙◌, arith, lit<, nat_eq}
+use Rattle.std.proofs.Common.{Some}
 use Rattle.std.specs.Prelude.{is_some}
 use Rattle.std.specs.Option.{unwrap_or}
 use Rattle.std.proofs.lemmas.Bool.Decides.{nat_tests}

@@ -1,7 +1,6 @@
 //! Octets read from text.
-ghost use Rattle.std.specs.Prelude.{◌≡◌, ◌≤◌, ◌↔◌, ℕ, [], ◌∷◌, length, map, Ok, IfOk, IfErr, IsErrOf};
+ghost use Rattle.std.specs.Prelude.{◌≤◌, ◌↔◌, length, map, Ok, IfOk, IfErr, IsErrOf};
 ghost use Rattle.std.specs.List.{concat};
-ghost use Rattle.hex.specs.Hex.{decode_pairs};
 ghost use Rattle.domain_octets.specs.Codec.{Decodes, IsText, HasNoRoom, BuildFault, DecodeFault};
 ghost use Rattle.domain_octets.specs.Limit.{HasRoom};
 ghost use Rattle.domain_octets.specs.Words.{AreOctets};

@@ -8,8 +8,8 @@ use Rattle.domain_base.specs.Scan.{ScanFault, illegal, IsOfTokens, IsNumber, IsN
 use Rattle.domain_base.proofs.RefusalLemmas.{entry_one_fault}
 use Rattle.domain_fields.specs.Entry.{Spells, RefusesEntry}
 use Rattle.domain_fields.specs.Sequence.{OneToken, Both, RefusesBoth}
-use Rattle.domain_fields.proofs.GrammarLemmas.{ReadsOnce, Excludes, OneFault, one_token, token_refused, token_once_refused}
-use Rattle.domain_fields.proofs.GrammarLemmas.{both_once, both_refused, both_one_fault, same_fields, same_octets, entry_apart}
+use Rattle.domain_fields.proofs.GrammarLemmas.{ReadsOnce, Excludes, OneFault, one_token, token_refused, token_once_refused, both_once, both_refused}
+use Rattle.domain_fields.proofs.GrammarLemmas.{both_one_fault, same_fields, same_octets, entry_apart}
 use Rattle.domain_plain.specs.Generic.{GenericText, GenericFault, IsNoMark, generic_mark, no_mark, no_count, no_data, other_count}
 
 after_mark : (old between : List (List ℕ)) → TakesToken (λ text. text ≡ generic_mark) old between → old ≡ generic_mark ∷ between

@@ -13,8 +13,8 @@ use Rattle.domain_chain_rdata.specs.NsecWire.{BeginsNsec, NsecFault, in_name, in
 use Rattle.domain_chain_rdata.specs.Nsec3Wire.{BeginsNsec3, Nsec3Fault, in_fields, in_types as in_bitmap}
 use Rattle.domain_chain_rdata.specs.Rdata.{nsec, hash_fields, nsec3}
 use Rattle.domain_rdata.specs.Kind.{Kind, next_by_name, next_by_hash}
-use Rattle.domain_rdata.specs.Refusal.{AreOfKind, IsPart, of_key, of_digest, of_signature, types_by_name, salt_by_hash, next_hash}
-use Rattle.domain_rdata.specs.Refusal.{types_by_hash, salt, CopyFault, IsNotWhole, at_fault, goes_on, OctetsFault, TakesMemory}
+use Rattle.domain_rdata.specs.Refusal.{AreOfKind, IsPart, of_key, of_digest, of_signature, types_by_name, salt_by_hash, next_hash, types_by_hash, salt}
+use Rattle.domain_rdata.specs.Refusal.{CopyFault, IsNotWhole, at_fault, goes_on, OctetsFault, TakesMemory}
 use Rattle.std.specs.Prelude.{IsNone}
 
 clash : false ≡ true → ⊥

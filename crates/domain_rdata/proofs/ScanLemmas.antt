@@ -18,14 +18,11 @@ use Rattle.domain_rrsig.specs.Data.{rrsig_values}
 use Rattle.domain_rrsig.proofs.RefusalLemmas.{rrsig_once, refused_rrsig}
 use Rattle.domain_chain_rdata.proofs.TextLemmas.{nsec_refused, nsec_name_once, nsec_types_once}
 use Rattle.domain_chain_rdata.proofs.Nsec3TextLemmas.{params_once, params_refused, nsec3_once, nsec3_refused}
-use Rattle.domain_rdata.specs.Kind.{Kind, plain, key, digest, signature, next_by_name}
-use Rattle.domain_rdata.specs.Kind.{next_by_hash, params, layout_of, AreFields, FieldsText}
-use Rattle.domain_rdata.specs.Kind.{dnskey_of, ds_of, rrsig_of}
-use Rattle.domain_rdata.specs.Refusal.{RefusesKind, RefusesOwn, at_field, no_form}
-use Rattle.domain_rdata.specs.Refusal.{AreOfKind, OctetsFault, RefusesRdata}
-use Rattle.domain_rdata.specs.Refusal.{in_own, in_generic, in_octets}
+use Rattle.domain_rdata.specs.Kind.{Kind, plain, key, digest, signature, next_by_name, next_by_hash, params, layout_of, AreFields, FieldsText, dnskey_of, ds_of}
+use Rattle.domain_rdata.specs.Kind.{rrsig_of}
+use Rattle.domain_rdata.specs.Refusal.{RefusesKind, RefusesOwn, at_field, no_form, AreOfKind, OctetsFault, RefusesRdata, in_own, in_generic, in_octets}
 use Rattle.domain_rdata.specs.Scan.{RdataText, own, generic, ContentText, OwnText, AreContent, AreData, IsGeneric}
-use Rattle.domain_rdata.specs.Zone.{kind_of, rtype_of, Content, fields, mere, content_of, content_octets, IsOfKind, of_kind, wire_octets}
+use Rattle.domain_rdata.specs.Zone.{kind_of, Content, fields, mere, content_of, content_octets, IsOfKind, of_kind, wire_octets}
 use Rattle.domain_rdata.specs.declared.zone_record_data.ZoneRecordData.{ZoneRecordData}
 
 -- the values of a kind, and the tokens that are left, are told from the tokens

@@ -2,8 +2,8 @@
 use Rattle.std.proofs.Common.{◌≡◌, ℕ, ◌<◌, List, length, Result, Ok, Err, IfOk, IfErr, refl, ap, arith}
 use Rattle.domain_record.specs.declared.record.Record.{Record}
 use Rattle.domain_records.specs.declared.error.SigningError.{SigningError}
-use Rattle.domain_records.specs.declared.error.SigningError.TheVariants.{EmptyRecordSlice, MultipleTtlValues}
-use Rattle.domain_records.specs.declared.error.SigningError.TheVariants.{SoaRecordCouldNotBeDetermined, Nsec3HashingError, OutOfMemory}
+use Rattle.domain_records.specs.declared.error.SigningError.TheVariants.{EmptyRecordSlice, MultipleTtlValues, SoaRecordCouldNotBeDetermined, Nsec3HashingError}
+use Rattle.domain_records.specs.declared.error.SigningError.TheVariants.{OutOfMemory}
 use Rattle.domain_records.specs.Rrsets.{HasOneTtl, IsRrset, IsRrsetOf, IsNoRrset}
 
 module _ {N D : Type 0} (rtype : D → ℕ) (group : List (Record N D)) (some : 0 < length group) where

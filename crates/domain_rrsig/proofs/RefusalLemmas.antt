@@ -9,9 +9,9 @@ use Rattle.domain_fields.specs.Field.{octet, short, long, name}
 use Rattle.domain_fields.specs.Layout.{Layout, one, ◌▸◌}
 use Rattle.domain_fields.specs.Scan.{Scans, Refuses}
 use Rattle.domain_fields.specs.Sequence.{OneToken, Both, RefusesBoth}
-use Rattle.domain_fields.proofs.GrammarLemmas.{ReadsOnce, Excludes, OneFault, fields_once, fields_refused, fields_one_fault}
-use Rattle.domain_fields.proofs.GrammarLemmas.{one_token, token_refused, token_once_refused, both_once, both_refused, both_one_fault}
-use Rattle.domain_fields.proofs.GrammarLemmas.{same_fields, same_octets, entry_refused, entry_refused_once}
+use Rattle.domain_fields.proofs.GrammarLemmas.{ReadsOnce, Excludes, OneFault, fields_once, fields_refused, fields_one_fault, one_token, token_refused}
+use Rattle.domain_fields.proofs.GrammarLemmas.{token_once_refused, both_once, both_refused, both_one_fault, same_fields, same_octets, entry_refused}
+use Rattle.domain_fields.proofs.GrammarLemmas.{entry_refused_once}
 use Rattle.domain_rrsig.specs.Data.{proto_rrsig_data, RrsigData}
 use Rattle.domain_rrsig.specs.Time.{TimeToken, IsNoTime}
 use Rattle.domain_rrsig.specs.Scan.{numbers_text, RefusesNumbers, times_text, RefusesTimes, rrsig_fields_text, RefusesRrsigFields, RrsigText, RefusesRrsig}

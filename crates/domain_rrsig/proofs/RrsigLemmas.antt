@@ -5,10 +5,10 @@ use Rattle.std.specs.Cmp.Lexicographic.{bytes_decides}
 use Rattle.domain_base.specs.Name.{lowered}
 use Rattle.domain_base.proofs.CaseLemmas.{IsName-lowered}
 use Rattle.domain_fields.specs.Field.{name, rest}
-use Rattle.domain_fields.specs.Layout.{Layout, one, ◌▸◌, Values, octets_of, canonical_of, Fits, Begins, ParsesBack}
+use Rattle.domain_fields.specs.Layout.{Layout, one, ◌▸◌, Values, octets_of, Fits, Begins, ParsesBack}
 use Rattle.domain_fields.proofs.ExactLemmas.{parses_back, same_values}
-use Rattle.domain_rrsig.specs.Data.{ProtoRrsigData, proto_rrsig, proto_rrsig_values, RrsigData, rrsig, rrsig_values}
-use Rattle.domain_rrsig.specs.Data.{rrsig_octets, rrsig_canonical, rrsig_numbers, rrsig_numbers_values, IsSameRrsig}
+use Rattle.domain_rrsig.specs.Data.{ProtoRrsigData, proto_rrsig, proto_rrsig_values, RrsigData, rrsig, rrsig_values, rrsig_octets, rrsig_canonical}
+use Rattle.domain_rrsig.specs.Data.{rrsig_numbers, rrsig_numbers_values, IsSameRrsig}
 
 -- the numbers, then the name and the signature
 abbrev grouped : Layout

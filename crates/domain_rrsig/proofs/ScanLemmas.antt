@@ -11,7 +11,7 @@ use Rattle.domain_fields.specs.Layout.{one, ◌▸◌, octets_of}
 use Rattle.domain_fields.specs.Scan.{Scans, Refuses}
 use Rattle.domain_rrsig.specs.Data.{ProtoRrsigData, proto_rrsig_data, RrsigData, rrsig_data, rrsig_octets}
 use Rattle.domain_rrsig.specs.Scan.{numbers_text, times_text, rrsig_fields_text, RefusesRrsigFields, RefusesRrsig}
-use Rattle.domain_fields.specs.Entry.{in_field, in_entry, too_long}
+use Rattle.domain_fields.specs.Entry.{in_entry, too_long}
 
 module _ (old first second new : List (List ℕ)) (numbers : ℕ × (ℕ × (ℕ × ℕ))) (times : ℕ × ℕ)
     (start : numbers_text old numbers first) (middle : times_text first times second) where

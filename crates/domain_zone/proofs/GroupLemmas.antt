@@ -1,6 +1,5 @@
 -- Groups of records, as the walk sees them.
-use Rattle.std.proofs.Common.{◌≡◌, ◌≤◌, ℕ, Bool, true, false, not, ◌&&◌, ◌↔◌, IsTrue, List, []}
-use Rattle.std.proofs.Common.{◌∷◌, ◌++◌, map, refl, sym, ap, ◌∙◌, subst, inl, inr, nat_eq, Option}
+use Rattle.std.proofs.Common.{◌≡◌, ℕ, Bool, true, false, not, ◌&&◌, ◌↔◌, IsTrue, List, [], ◌∷◌, ◌++◌, map, refl, sym, ap, ◌∙◌, subst, inl, inr, nat_eq, Option}
 use Rattle.std.specs.Prelude.{if◌then◌else◌}
 use Rattle.std.specs.declared.cmp.Ordering.{Ordering}
 use Rattle.std.specs.declared.cmp.Ordering.TheVariants.{Less, Equal, Greater}
@@ -21,7 +20,6 @@ use Rattle.domain_zone.specs.Zone.{ZoneRecord, OwnersNeverDescend, has_type}
 use Rattle.domain_zone.specs.View.{as_zone_record}
 use Rattle.domain_zone.proofs.NameLemmas.{one_lowered, same_itself, same_lowered}
 use Rattle.domain_zone.proofs.ZoneLemmas.{any_map, BeginsElsewhere, IsFront}
-use Rattle.domain_zone.proofs.TtlLemmas.{NeverDescend}
 
 -- ---- runs
 

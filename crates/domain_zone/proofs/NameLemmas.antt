@@ -1,5 +1,5 @@
 -- All that the chains need of names: the order is strict and weak, what is below a name is an interval from it on, and below is a partial order.
-use Rattle.std.proofs.Common.{ℕ, ◌≡◌, Bool, true, false, not, ◌||◌, List, [], ◌∷◌, ◌++◌, map, length, refl, sym, ap, ◌∙◌, ◌≤◌, arith, inl, inr, ◌⊎◌, nat_eq}
+use Rattle.std.proofs.Common.{◌≡◌, Bool, true, false, not, ◌||◌, [], ◌∷◌, ◌++◌, map, length, refl, sym, ap, ◌∙◌, ◌≤◌, arith, nat_eq}
 use Rattle.std.specs.declared.cmp.Ordering.{Ordering}
 use Rattle.std.specs.declared.cmp.Ordering.TheVariants.{Less, Equal, Greater}
 use Rattle.std.specs.Char.{to_ascii_lowercase}
@@ -9,7 +9,7 @@ use Rattle.std.specs.Cmp.Lexicographic.{pointwise}
 use Rattle.std.specs.List.{ends_with}
 use Rattle.std.proofs.lemmas.List.{length-append, length-map, append_assoc, append-nil}
 use Rattle.std.proofs.lemmas.List.Sorted.{ranks_by}
-use Rattle.std.proofs.lemmas.Bool.{false≢true, true≢false, cases_Bool}
+use Rattle.std.proofs.lemmas.Bool.{true≢false}
 use Rattle.domain_base.specs.Laws.{ancestor_first, between_names, same_name_same, same_name_ties, same_tied}
 use Rattle.domain_base.specs.Name.{lowered, IsAtOrBelow, same_name, is_at_or_below}
 use Rattle.domain_base.specs.Order.{canonical_cmp, canonical_cmp_total, before, IsUpTo}

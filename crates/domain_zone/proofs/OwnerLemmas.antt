@@ -7,8 +7,8 @@ use Rattle.domain_base.specs.Name.{is_at_or_below, is_strictly_below, lowered, s
 use Rattle.domain_base.specs.Order.{before}
 use Rattle.domain_base.specs.Words.{Name}
 use Rattle.domain_base.specs.Types.{ns, dname}
-use Rattle.domain_zone.specs.Zone.{ZoneRecord, OwnersNeverDescend, records_of, owns, has_type, is_zone_cut}
-use Rattle.domain_zone.specs.Zone.{occludes, is_occluded, is_unoccluded, distinct, unoccluded_owners}
+use Rattle.domain_zone.specs.Zone.{ZoneRecord, OwnersNeverDescend, records_of, owns, has_type, is_zone_cut, occludes, is_occluded, is_unoccluded, distinct}
+use Rattle.domain_zone.specs.Zone.{unoccluded_owners}
 use Rattle.domain_zone.proofs.PairLemmas.{IsAscending, In}
 use Rattle.domain_zone.proofs.NameLemmas.{one_lowered, same_itself, below_itself, below_from, lowered_below, same_lowered}
 use Rattle.domain_zone.proofs.ZoneLemmas.{all_filter, all_distinct, any_none, any_map, same_back, after_or, not_strictly}

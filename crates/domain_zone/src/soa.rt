@@ -1,5 +1,5 @@
 //! The SOA record of a zone.
-ghost use Rattle.std.specs.Prelude.{◌≡◌, map};
+ghost use Rattle.std.specs.Prelude.{◌≡◌};
 ghost use Rattle.domain_zone.specs.Soa.{chain_ttl, is_soa, soa_of};
 ghost use Rattle.domain_zone.specs.View.{as_zone_record, zone_of};
 

@@ -1,5 +1,5 @@
 //! Unequal TTLs.
-ghost use Rattle.std.specs.Prelude.{◌≡◌, ◌≤◌, map};
+ghost use Rattle.std.specs.Prelude.{◌≡◌, ◌≤◌};
 ghost use Rattle.domain_records.specs.Order.{HoldsPairwise};
 ghost use Rattle.domain_zone.specs.View.{as_zone_record, zone_of};
 ghost use Rattle.domain_zone.specs.Zone.{clashes, has_clash};

@@ -1,6 +1,6 @@
 -- The lines on NSEC3 records, as they are printed and written.
-use Rattle.std.proofs.Common.{◌≡◌, ℕ, ◌+◌, ◌<◌, true, false, [], ◌++◌, codes, length, min, drop, nat_lt, refl, ap, sym, ◌∙◌, arith}
-use Rattle.std.proofs.Common.{Option, Some, None, Result, Ok, Err, OnOk}
+use Rattle.std.proofs.Common.{◌≡◌, ℕ, ◌+◌, ◌<◌, true, false, [], ◌++◌, codes, length, min, drop, nat_lt, refl, ap, sym, ◌∙◌, arith, Option, Some, None, Result}
+use Rattle.std.proofs.Common.{Ok, Err, OnOk}
 use Rattle.std.proofs.lemmas.Bool.{cond-false, cond-true, lt-ltb}
 use Rattle.std.proofs.lemmas.List.{append-nil}
 use Rattle.std.specs.Io.KnownBytes.{Appends, Keeps}

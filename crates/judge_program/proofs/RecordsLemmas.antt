@@ -1,7 +1,5 @@
 -- The records that a server answers with, as they are found and written.
-use Rattle.std.proofs.Common.{◌≡◌, ◌<◌, ℕ, Bool, true, false, List, [], ◌++◌}
-use Rattle.std.proofs.Common.{codes, length, nat_lt, refl, ap, sym, ◌∙◌, append_assoc}
-use Rattle.std.proofs.Common.{Option, Some, None}
+use Rattle.std.proofs.Common.{◌≡◌, ◌<◌, ℕ, Bool, true, false, List, [], ◌++◌, codes, length, nat_lt, refl, ap, sym, ◌∙◌, append_assoc, Option, Some, None}
 use Rattle.std.proofs.lemmas.Bool.{cond-false, cond-true, lt-ltb}
 use Rattle.std.specs.Fmt.{decimal}
 use Rattle.std.specs.List.{find}
@@ -25,9 +23,7 @@ use Rattle.domain_answer.specs.ZoneAnswer.{wildcard_below}
 use Rattle.domain_answer.specs.declared.answer.Answer.{Answer}
 use Rattle.denial_program.specs.Text.{nsec3param_line}
 use Rattle.judge_program.specs.Why.{wildcard_count}
-use Rattle.judge_program.specs.Records.{first_of, hash_found, is_told, line_once}
-use Rattle.judge_program.specs.Records.{name_part, needs_of, needs_wildcard}
-use Rattle.judge_program.specs.Records.{nsec_found, nsec_once, nsec_records}
+use Rattle.judge_program.specs.Records.{first_of, hash_found, is_told, line_once, name_part, needs_of, needs_wildcard, nsec_found, nsec_once, nsec_records}
 use Rattle.judge_program.specs.Records.{nsec_wildcard_found, nsec3_wildcard_found}
 
 -- a record that was not told yet

@@ -1,5 +1,6 @@
 -- What the records of a chain that were read answer to a question.
-use Rattle.std.specs.Prelude.{◌≡◌, ◌⊎◌, ◌<◌, ◌≤◌, ℕ, true, false, List, [], ◌∷◌, Option, Some, None, Err}
+use Rattle.std.specs.Prelude.{◌≡◌, ◌⊎◌, ◌<◌, ◌≤◌, ℕ, true, false, List, [], ◌∷◌, Option, Some, None}
+use Rattle.std.specs.Prelude.{Err}
 use Rattle.domain_base.specs.Name.{is_at_or_below}
 use Rattle.domain_hasher.specs.declared.error.Nsec3HashError.TheVariants.{Hasher}
 use Rattle.domain_records.specs.declared.error.SigningError.{SigningError}
@@ -10,25 +11,22 @@ use Rattle.domain_nsec3.specs.Config.{hash_name}
 use Rattle.domain_checker.specs.HashedView.{HashedRecords, links_with}
 use Rattle.domain_nsec3.specs.View.{HasherAnswer}
 use Rattle.domain_borrowed.specs.Data.{RawRecord}
-use Rattle.domain_answer.specs.Expansion.{closer_name, is_expanded, ExpansionRestsOn, IsExpansionAnswered, IsExpansionRead}
+use Rattle.domain_answer.specs.Expansion.{closer_name, is_expanded, ExpansionRestsOn}
+use Rattle.domain_answer.specs.Expansion.{IsExpansionAnswered, IsExpansionRead}
 use Rattle.domain_answer.specs.HashedProved.{HashedRestsOn, IsHashedAnswered}
 use Rattle.domain_answer.specs.HashedReading.{IsFirstOfRefusals, IsHashedRead}
 use Rattle.domain_answer.specs.Proved.{needs_no_records, IsAnswered, RestsOn}
 use Rattle.domain_answer.specs.Reading.{reading}
 use Rattle.domain_answer.specs.ZoneAnswer.{is_at_parent}
 use Rattle.domain_answer.specs.declared.answer.Answer.{Answer}
-use Rattle.domain_answer.specs.declared.answer.Answer.TheVariants.{OutsideZone, AtParent, TooManyIterations, NotProven}
-use Rattle.denial_program.specs.Check.{AreNsecs, AreNsec3s, AreParams, HasNoParam}
+use Rattle.domain_answer.specs.declared.answer.Answer.TheVariants.{OutsideZone, AtParent}
+use Rattle.domain_answer.specs.declared.answer.Answer.TheVariants.{TooManyIterations, NotProven}
+use Rattle.denial_program.specs.Check.{AreNsecs, AreNsec3s, AreParams, HasNoParam, IsRefusedBy}
 use Rattle.denial_program.specs.declared.command.Question.{Question}
 use Rattle.denial_program.specs.declared.fault.DenialFault.{DenialFault}
-use Rattle.denial_program.specs.declared.fault.DenialFault.TheVariants.{Usage}
-use Rattle.denial_program.specs.declared.fault.DenialFault.TheVariants.{Read}
-use Rattle.denial_program.specs.declared.fault.DenialFault.TheVariants.{Line}
-use Rattle.denial_program.specs.declared.fault.DenialFault.TheVariants.{Unprepared}
-use Rattle.denial_program.specs.declared.fault.DenialFault.TheVariants.{MixedClasses}
-use Rattle.denial_program.specs.declared.fault.DenialFault.TheVariants.{Signing}
-use Rattle.denial_program.specs.declared.fault.DenialFault.TheVariants.{Param}
-use Rattle.denial_program.specs.declared.fault.DenialFault.TheVariants.{Write}
+use Rattle.denial_program.specs.declared.fault.DenialFault.TheVariants.{Usage, Read, Line}
+use Rattle.denial_program.specs.declared.fault.DenialFault.TheVariants.{Unprepared, MixedClasses}
+use Rattle.denial_program.specs.declared.fault.DenialFault.TheVariants.{Signing, Param, Write}
 use Rattle.denial_program.specs.declared.fault.DenialFault.TheVariants.{OutOfMemory}
 use Rattle.judge_program.specs.declared.command.Nsec3Options.{Nsec3Options}
 
@@ -98,16 +96,10 @@ IsRefusalAsked None R q limit reason = IsFirstOfRefusals R q.name q.rtype reason
 IsRefusalAsked (Some n) R q limit reason = IsCloserRefusal R q n limit reason
 
 -- the hasher refuses a name that is asked for: this is the first
-pub record IsJudgeRefused (hashes : HasherAnswer) (given : List RawRecord) (q : Question)
-    (asked : Nsec3Options) (error : SigningError) : Type 0 where
-  pub param : ParamRecord
-  pub single : AreParams q.apex given (param ∷ [])
-  pub links : List HashedLink
-  pub are : AreNsec3s given links
-  pub reason : ℕ
-  pub is : error ≡ Nsec3HashingError (Hasher reason)
-  pub first : IsRefusalAsked asked.labels (links_with q.apex param.parameters hashes links) q
-      asked.limit reason
+abbrev pub IsJudgeRefused : HasherAnswer → List RawRecord → Question → Nsec3Options → SigningError
+    → Type 0
+IsJudgeRefused hashes given q asked =
+    IsRefusedBy (λ R. IsRefusalAsked asked.labels R q asked.limit) hashes given q.apex
 
 -- want of memory, or this refusal of the hasher
 abbrev pub IsRefusedWith : (ℕ → Type 0) → DenialFault → Type 0

@@ -10,14 +10,9 @@ use Rattle.domain_checker.specs.HashedView.{links_with}
 use Rattle.denial_program.specs.Listing.{Give}
 use Rattle.denial_program.specs.declared.command.Question.{Question}
 use Rattle.denial_program.specs.declared.fault.DenialFault.{DenialFault}
-use Rattle.denial_program.specs.declared.fault.DenialFault.TheVariants.{Usage}
-use Rattle.denial_program.specs.declared.fault.DenialFault.TheVariants.{Read}
-use Rattle.denial_program.specs.declared.fault.DenialFault.TheVariants.{Line}
-use Rattle.denial_program.specs.declared.fault.DenialFault.TheVariants.{Unprepared}
-use Rattle.denial_program.specs.declared.fault.DenialFault.TheVariants.{MixedClasses}
-use Rattle.denial_program.specs.declared.fault.DenialFault.TheVariants.{Signing}
-use Rattle.denial_program.specs.declared.fault.DenialFault.TheVariants.{Param}
-use Rattle.denial_program.specs.declared.fault.DenialFault.TheVariants.{Write}
+use Rattle.denial_program.specs.declared.fault.DenialFault.TheVariants.{Usage, Read, Line}
+use Rattle.denial_program.specs.declared.fault.DenialFault.TheVariants.{Unprepared, MixedClasses}
+use Rattle.denial_program.specs.declared.fault.DenialFault.TheVariants.{Signing, Param, Write}
 use Rattle.denial_program.specs.declared.fault.DenialFault.TheVariants.{OutOfMemory}
 use Rattle.judge_program.specs.Command.{Asks, IsCommand, IsNoCommand}
 use Rattle.judge_program.specs.Judged.{IsNotNsec3Judged, IsNsec3Judged, IsNsecJudged}

@@ -9,14 +9,9 @@ use Rattle.domain_answer.specs.declared.answer.Answer.{Answer}
 use Rattle.domain_answer.specs.declared.answer.Answer.TheVariants as answers
 use Rattle.denial_program.specs.FaultText.{fault_text}
 use Rattle.denial_program.specs.declared.fault.DenialFault.{DenialFault}
-use Rattle.denial_program.specs.declared.fault.DenialFault.TheVariants.{Usage}
-use Rattle.denial_program.specs.declared.fault.DenialFault.TheVariants.{Read}
-use Rattle.denial_program.specs.declared.fault.DenialFault.TheVariants.{Line}
-use Rattle.denial_program.specs.declared.fault.DenialFault.TheVariants.{Unprepared}
-use Rattle.denial_program.specs.declared.fault.DenialFault.TheVariants.{MixedClasses}
-use Rattle.denial_program.specs.declared.fault.DenialFault.TheVariants.{Signing}
-use Rattle.denial_program.specs.declared.fault.DenialFault.TheVariants.{Param}
-use Rattle.denial_program.specs.declared.fault.DenialFault.TheVariants.{Write}
+use Rattle.denial_program.specs.declared.fault.DenialFault.TheVariants.{Usage, Read, Line}
+use Rattle.denial_program.specs.declared.fault.DenialFault.TheVariants.{Unprepared, MixedClasses}
+use Rattle.denial_program.specs.declared.fault.DenialFault.TheVariants.{Signing, Param, Write}
 use Rattle.denial_program.specs.declared.fault.DenialFault.TheVariants.{OutOfMemory}
 use Rattle.judge_program.specs.declared.shown.Shown.{Shown}
 use Rattle.judge_program.specs.declared.shown.Shown.TheVariants as shows

@@ -117,12 +117,12 @@ pub fn closer_part<'r, 'a>(
 }
 
 /// Whether the record is the same as another.
-fn is_told(record: &ReadNsec3<'_>, other: Option<&ReadNsec3<'_>>) -> bool
-    ensures { result ≡ is_told same_hashed_link (as_hashed_link (λ n. n) record.now)
+fn is_told(nsec3: &ReadNsec3<'_>, other: Option<&ReadNsec3<'_>>) -> bool
+    ensures { result ≡ is_told same_hashed_link (as_hashed_link (λ n. n) nsec3.now)
         (option_to_list (option_map (λ k. as_hashed_link (λ n. n) k.now) other.entry)) }
 {
     match other {
-        Some(other) => record == other,
+        Some(other) => nsec3 == other,
         None => false,
     }
 }

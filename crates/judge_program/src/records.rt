@@ -75,12 +75,12 @@ fn find_wildcard<'r, 'a>(
 }
 
 /// Whether the record is the same as another.
-fn is_told(record: &ReadNsec<'_>, other: Option<&ReadNsec<'_>>) -> bool
-    ensures { result ≡ is_told same_link (as_link (λ n. n) record.now)
+fn is_told(nsec: &ReadNsec<'_>, other: Option<&ReadNsec<'_>>) -> bool
+    ensures { result ≡ is_told same_link (as_link (λ n. n) nsec.now)
         (option_to_list (option_map (λ k. as_link (λ n. n) k.now) other.entry)) }
 {
     match other {
-        Some(other) => record == other,
+        Some(other) => nsec == other,
         None => false,
     }
 }

@@ -1,23 +1,9 @@
 -- The first line of those that are told.
-use Rattle.std.proofs.Common.{◌≡◌, ℕ, ◌+◌, List, [], ◌∷◌, refl, ap, subst, arith, inl, inr}
-use Rattle.std.proofs.lemmas.List.Elements.{All-nil, All-cons}
+use Rattle.std.proofs.Common.{◌≡◌, ℕ, ◌+◌, List, [], ◌∷◌, ap, subst, arith, inl, inr}
 use Rattle.domain_borrowed.specs.Data.{RawRecord}
-use Rattle.denial_program.specs.Listing.{Give, IsBad, IsFirstBad, IsGood}
+use Rattle.denial_program.specs.Listing.{Give, IsFirstBad}
+use Rattle.denial_program.proofs.ReadingLemmas.{first_bad_here, first_bad_later}
 use Rattle.lint_program.specs.Lines.{AreLinted}
-
-here : (line : List ℕ) (more : List (List ℕ)) → IsBad line → IsFirstBad (line ∷ more) 1
-here line more bad = record { before = []; line = line; after = more; are = refl; place = refl; good = All-nil IsGood; bad = bad }
-
-later : (line : List ℕ) (more : List (List ℕ)) (k : ℕ) → IsGood line → IsFirstBad more k → IsFirstBad (line ∷ more) (k + 1)
-later line more k good h = record {
-  before = line ∷ h.before;
-  line = h.line;
-  after = h.after;
-  are = ap (λ ls. line ∷ ls) h.are;
-  place = omega (arith, h.place);
-  good = All-cons IsGood line h.before good h.good;
-  bad = h.bad;
-}
 
 -- the lowest bad line, where the first line has the number n
 first_from : (n : ℕ) (lines : List (List ℕ)) (m : ℕ) (more numbers : List ℕ) (records : List RawRecord) → AreLinted n lines (m ∷ more) numbers records
@@ -25,13 +11,13 @@ first_from : (n : ℕ) (lines : List (List ℕ)) (m : ℕ) (more numbers : List 
 first_from n [] m more numbers records h = absurd (let w = h.0 in cc)
 first_from n (line ∷ rest) m more numbers records (inl h) =
     let lower = first_from (n + 1) rest m more numbers records h.1 in
-    (lower.0 + 1, omega (arith, lower.1), later line rest lower.0 (inl h.0) lower.2)
+    (lower.0 + 1, omega (arith, lower.1), first_bad_later line rest lower.0 (inl h.0) lower.2)
 first_from n (line ∷ rest) m more numbers records (inr (inl h)) =
     let lower = first_from (n + 1) rest m more h.4 h.1 h.6 in
-    (lower.0 + 1, omega (arith, lower.1), later line rest lower.0 (inr (h.0, h.3)) lower.2)
+    (lower.0 + 1, omega (arith, lower.1), first_bad_later line rest lower.0 (inr (h.0, h.3)) lower.2)
 first_from n (line ∷ rest) m more numbers records (inr (inr h)) =
     let same : m ≡ n = (let w = h.1 in cc) in
-    (1, ap (λ i. i + 1) same, here line rest h.2)
+    (1, ap (λ i. i + 1) same, first_bad_here line rest h.2)
 
 pub first_told : (lines : List (List ℕ)) (m : ℕ) (more numbers : List ℕ) (records : List RawRecord)
     → AreLinted 1 lines (m ∷ more) numbers records → IsFirstBad lines m

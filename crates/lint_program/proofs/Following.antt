@@ -1,6 +1,6 @@
 -- How far a reader has come, where it tells its octets.
-use Rattle.std.proofs.Common.{◌≡◌, ℕ, ◌+◌, ◌<◌, List, [], ◌∷◌, ◌++◌, length, refl, ap, sym, ◌∙◌, subst, arith, inl, inr}
-use Rattle.std.proofs.Common.{Some, None, IfSome, Option, append-nil, append_assoc, length-append}
+use Rattle.std.proofs.Common.{◌≡◌, ℕ, ◌+◌, ◌<◌, List, [], ◌∷◌, ◌++◌, length, refl, ap, sym, ◌∙◌, subst, arith, inl, inr, Some, None, IfSome, Option, append-nil}
+use Rattle.std.proofs.Common.{append_assoc, length-append}
 use Rattle.std.specs.Str.Lines.{lines}
 use Rattle.std.specs.Io.BufRead.{take_through, drop_through, DropsThrough}
 use Rattle.std.specs.Io.KnownBytes.{IsAtEnd}
@@ -8,7 +8,7 @@ use Rattle.domain_borrowed.specs.Data.{RawRecord}
 use Rattle.denial_program.specs.Listing.{IsBad, IsFirstBad, IsLineRecord}
 use Rattle.denial_program.specs.Words.{words, IsSkipped}
 use Rattle.lint_program.specs.Lines.{AreLinted}
-use Rattle.lint_program.proofs.LineLemmas.{line_once}
+use Rattle.denial_program.proofs.LineSteps.{line_once}
 
 -- ---- one line
 

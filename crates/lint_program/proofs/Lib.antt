@@ -1,4 +1,3 @@
-pub mod LineLemmas
 pub mod Following
 pub mod ReportLemmas
 pub mod NoteLemmas

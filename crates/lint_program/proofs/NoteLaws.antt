@@ -1,7 +1,6 @@
 -- What is told is deserved, and what is deserved is told.
-use Rattle.std.proofs.Common.{◌≡◌, ◌⊎◌, ℕ, ◌+◌, Option, List, [], ◌∷◌, ◌++◌, Some}
-use Rattle.std.proofs.Common.{refl, ap, sym, ◌∙◌, subst, arith, inl, inr, length}
-use Rattle.std.proofs.Common.{length-append, append_assoc}
+use Rattle.std.proofs.Common.{◌≡◌, ◌⊎◌, ℕ, ◌+◌, Option, List, [], ◌∷◌, ◌++◌, Some, refl, ap, sym, ◌∙◌, subst, arith, inl, inr, length, length-append}
+use Rattle.std.proofs.Common.{append_assoc}
 use Rattle.std.specs.List.{AllByRecursion}
 use Rattle.domain_base.specs.Words.{Name}
 use Rattle.domain_borrowed.specs.Data.{RawRecord}
@@ -9,11 +8,7 @@ use Rattle.lint_program.specs.Notes.{earlier, look_of, Deserves, FindsNothing, F
 use Rattle.lint_program.specs.Notes.Found.{more, nothing}
 use Rattle.lint_program.specs.declared.looks.Look.{Look}
 use Rattle.lint_program.specs.declared.looks.Reason.{Reason}
-use Rattle.lint_program.specs.declared.looks.Reason.TheVariants.{NoSoa, SecondSoa}
-use Rattle.lint_program.specs.declared.looks.Reason.TheVariants.{StraySoa, OtherClass}
-use Rattle.lint_program.specs.declared.looks.Reason.TheVariants.{OtherTtl, Outside}
-use Rattle.lint_program.specs.declared.looks.Reason.TheVariants.{BesideAlias}
-use Rattle.lint_program.specs.declared.looks.Reason.TheVariants.{OddData, Parameters}
+use Rattle.lint_program.specs.declared.looks.Reason.TheVariants.{NoSoa, SecondSoa, StraySoa, OtherClass, OtherTtl, Outside, BesideAlias, OddData, Parameters}
 
 -- ---- lists
 

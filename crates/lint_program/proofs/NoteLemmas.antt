@@ -1,11 +1,10 @@
 -- The first record of each group, as records are taken in one by one.
-use Rattle.std.proofs.Common.{◌≡◌, ℕ, Bool, true, false, cond, ◌&&◌, ◌==◌, ◌+◌, ◌<◌, List, [], ◌∷◌, ◌++◌}
-use Rattle.std.proofs.Common.{refl, ap, sym, ◌∙◌, get_or, length, map, subst, take, Some, None, Option}
-use Rattle.std.proofs.Common.{Bor, option_map, is_some}
+use Rattle.std.proofs.Common.{◌≡◌, ℕ, Bool, true, false, cond, ◌&&◌, ◌==◌, ◌+◌, ◌<◌, List, [], ◌∷◌, ◌++◌, refl, ap, sym, ◌∙◌, get_or, length, map, subst, take}
+use Rattle.std.proofs.Common.{Some, None, Option, option_map}
 use Rattle.std.specs.Ordering.{is_eq, nat_cmp, ordering_then}
 use Rattle.std.specs.Cmp.{nat_eq_equiv, unsigned_tied}
 use Rattle.std.specs.List.{find}
-use Rattle.std.specs.Option.{option_copied, option_or}
+use Rattle.std.specs.Option.{option_or}
 use Rattle.std.proofs.lemmas.List.{map-append, take_more}
 use Rattle.std.proofs.lemmas.List.Folds.{find-append}
 use Rattle.std.specs.declared.cmp.Ordering.{Ordering}
@@ -94,14 +93,6 @@ module _ (l : Look) (a : Name) (before : List RawRecord) (r : RawRecord) (k : Gr
           ∙ sym (first_passed (λ s. is_group (group_of l a s) q) r before (ap (λ g. is_group g q) (sym k_is) ∙ e))
 
 -- ---- what a map has
-
-pub some_of : {A : Type 0} (o : Option (Bor A)) (p : Option A) → is_some o ≡ true → option_copied o ≡ p → (x : A) × (p ≡ Some x)
-some_of None p e h = absurd (cc)
-some_of (Some b) p e h = (b.now, sym h)
-
-pub none_of : {A : Type 0} (o : Option (Bor A)) (p : Option A) → is_some o ≡ false → option_copied o ≡ p → p ≡ None
-none_of None p e h = sym h
-none_of (Some b) p e h = absurd (cc)
 
 pub mapped : {A B : Type 0} (f : A → B) (b : Bool) (x : A) (o : Option A) → option_map f (cond b (Some x) o) ≡ cond b (Some (f x)) (option_map f o)
 mapped f true x o = refl

@@ -5,10 +5,9 @@ use Rattle.domain_base.specs.Text.{name_text}
 use Rattle.domain_base.specs.Words.{Name}
 use Rattle.domain_alike.specs.Alike.{AreAlike, IsFirstRefusal, Pair}
 use Rattle.domain_dnssec.specs.AnyOrder.{AreMixed}
-use Rattle.domain_borrowed.specs.Data.{minimum_of, RawRecord}
+use Rattle.domain_borrowed.specs.Data.{RawRecord, zone_of_raw}
 use Rattle.domain_nsec3.specs.View.{HasherAnswer}
 use Rattle.domain_records.specs.Order.{IsOneClass}
-use Rattle.domain_zone.specs.View.{zone_of}
 use Rattle.denial_program.specs.Answer.{usual_nsec3_config, Sorts}
 use Rattle.denial_program.specs.Command.{Params}
 use Rattle.denial_program.specs.Text.{lines_of}
@@ -20,7 +19,7 @@ pub record AreAlikeIn (answers : HasherAnswer) (given : List RawRecord) (apex : 
   pub sorted : List RawRecord
   pub sorts : Sorts given sorted
   pub one_class : IsOneClass sorted
-  pub alike : AreAlike (zone_of (λ n. n) (λ d. d.rtype) minimum_of sorted) apex
+  pub alike : AreAlike (zone_of_raw sorted) apex
       (usual_nsec3_config answers p) pairs
 
 -- these are told of records; nothing where they are of more than one class
@@ -34,7 +33,7 @@ pub record IsRefusalIn (answers : HasherAnswer) (given : List RawRecord) (apex :
   pub sorted : List RawRecord
   pub sorts : Sorts given sorted
   pub one_class : IsOneClass sorted
-  pub refusal : IsFirstRefusal (zone_of (λ n. n) (λ d. d.rtype) minimum_of sorted) apex
+  pub refusal : IsFirstRefusal (zone_of_raw sorted) apex
       (usual_nsec3_config answers p) number
 
 -- without parameters nothing is told, and nothing refused

@@ -2,11 +2,9 @@
 use Rattle.std.specs.Prelude.{[], codes}
 use Rattle.domain_octets.specs.Words.{Octets}
 use Rattle.lint_program.specs.declared.looks.Reason.{Reason}
-use Rattle.lint_program.specs.declared.looks.Reason.TheVariants.{NoSoa, SecondSoa}
-use Rattle.lint_program.specs.declared.looks.Reason.TheVariants.{StraySoa, OtherClass}
-use Rattle.lint_program.specs.declared.looks.Reason.TheVariants.{OtherTtl, Outside}
-use Rattle.lint_program.specs.declared.looks.Reason.TheVariants.{BesideAlias}
-use Rattle.lint_program.specs.declared.looks.Reason.TheVariants.{OddData, Parameters}
+use Rattle.lint_program.specs.declared.looks.Reason.TheVariants.{NoSoa, SecondSoa, StraySoa}
+use Rattle.lint_program.specs.declared.looks.Reason.TheVariants.{OtherClass, OtherTtl, Outside}
+use Rattle.lint_program.specs.declared.looks.Reason.TheVariants.{BesideAlias, OddData, Parameters}
 
 abbrev pub opening : Reason → Octets
 opening NoSoa = codes "the apex "

@@ -1,7 +1,7 @@
 -- What is told of the records that were read: each record that deserves it, and no other.
-use Rattle.std.specs.Prelude.{◌≡◌, ◌≢◌, ◌⊎◌, ℕ, ◌==◌, Bool, true, false, not, ◌&&◌, ◌||◌}
-use Rattle.std.specs.Prelude.{List, [], ◌∷◌, ◌++◌, length, Option, Some, None, IsSome}
-use Rattle.std.specs.Prelude.{MatchOption, if◌then◌else◌}
+use Rattle.std.specs.Prelude.{◌≡◌, ◌≢◌, ◌⊎◌, ℕ, ◌==◌, Bool, true, false, not, ◌&&◌, ◌||◌, List, []}
+use Rattle.std.specs.Prelude.{◌∷◌, ◌++◌, length, Option, Some, None, IsSome, MatchOption}
+use Rattle.std.specs.Prelude.{if◌then◌else◌}
 use Rattle.std.specs.List.{find, list_any}
 use Rattle.domain_base.specs.Name.{is_at_or_below, same_name}
 use Rattle.domain_base.specs.Types as rtypes
@@ -12,11 +12,9 @@ use Rattle.lint_program.specs.declared.notes.Note.{Note}
 use Rattle.lint_program.specs.declared.looks.Look.{Look}
 use Rattle.lint_program.specs.declared.looks.Look.TheVariants as look
 use Rattle.lint_program.specs.declared.looks.Reason.{Reason}
-use Rattle.lint_program.specs.declared.looks.Reason.TheVariants.{NoSoa, SecondSoa}
-use Rattle.lint_program.specs.declared.looks.Reason.TheVariants.{StraySoa, OtherClass}
-use Rattle.lint_program.specs.declared.looks.Reason.TheVariants.{OtherTtl, Outside}
-use Rattle.lint_program.specs.declared.looks.Reason.TheVariants.{BesideAlias}
-use Rattle.lint_program.specs.declared.looks.Reason.TheVariants.{OddData, Parameters}
+use Rattle.lint_program.specs.declared.looks.Reason.TheVariants.{NoSoa, SecondSoa, StraySoa}
+use Rattle.lint_program.specs.declared.looks.Reason.TheVariants.{OtherClass, OtherTtl, Outside}
+use Rattle.lint_program.specs.declared.looks.Reason.TheVariants.{BesideAlias, OddData, Parameters}
 
 -- what a note tells: why, and of the line of which number; that there is no SOA is told of no line
 pub record Mark : Type 0 where

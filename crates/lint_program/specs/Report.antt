@@ -1,7 +1,6 @@
 -- What is told of an input.
-use Rattle.std.specs.Prelude.{◌≡◌, ◌≢◌, ◌⊎◌, ℕ, ◌≤◌, ◌==◌, Bool, true, false, ◌&&◌}
-use Rattle.std.specs.Prelude.{List, [], ◌∷◌, ◌++◌, All, codes, length, Option}
-use Rattle.std.specs.Prelude.{Some, None, if◌then◌else◌}
+use Rattle.std.specs.Prelude.{◌≡◌, ◌≢◌, ◌⊎◌, ℕ, ◌≤◌, ◌==◌, Bool, true, false, ◌&&◌, List, [], ◌∷◌}
+use Rattle.std.specs.Prelude.{◌++◌, All, codes, length, Option, Some, None, if◌then◌else◌}
 use Rattle.std.specs.Fmt.{decimal}
 use Rattle.domain_octets.specs.Words.{Octets}
 use Rattle.domain_octets.specs.Characters.{space, tilde}

@@ -1,11 +1,10 @@
 //! Which names of a zone hash alike.
 ghost use Rattle.std.specs.Prelude.{◌≡◌, ◌⊎◌, ℕ, List, IfErr, IfOk, map};
 ghost use Rattle.domain_alike.specs.Alike.{pair_of, AreAlike, IsFirstRefusal};
-ghost use Rattle.domain_borrowed.specs.Data.{minimum_of, RawRecord};
+ghost use Rattle.domain_borrowed.specs.Data.{RawRecord, zone_of_raw};
 ghost use Rattle.domain_records.specs.Order.{IsInOrder};
 ghost use Rattle.domain_hasher.specs.declared.error.Nsec3HashError.TheVariants as hash_error;
 ghost use Rattle.domain_records.specs.declared.error.SigningError.TheVariants as signing_error;
-ghost use Rattle.domain_zone.specs.View.{zone_of};
 ghost use Rattle.denial_program.specs.Answer.{usual_nsec3_config};
 ghost use Rattle.denial_program.specs.declared.fault.DenialFault.TheVariants.{OutOfMemory as Memory, Signing};
 ghost use Rattle.lint_program.specs.Alike.{AreTold, IsRefusalBy};
@@ -35,13 +34,11 @@ fn alike_in<'a, H: Nsec3Hasher>(
     hasher: &H,
 ) -> Result<Vec<Alike<'a>>, DenialFault>
     requires { IsInOrder (λ n. n) (λ d. d.rtype) sorted.now }
-    ensures ok { IfOk result (λ pairs. AreAlike
-        (zone_of (λ n. n) (λ d. d.rtype) minimum_of sorted.now) apex.now
+    ensures ok { IfOk result (λ pairs. AreAlike (zone_of_raw sorted.now) apex.now
         (usual_nsec3_config (H.answer hasher.now) parameters) (map pair_of pairs.items)) }
-    ensures err { IfErr result (λ e. (e ≡ Memory) ⊎ ((n : ℕ)
-        × (e ≡ Signing (signing_error.Nsec3HashingError (hash_error.Hasher n)))
-        × IsFirstRefusal (zone_of (λ n. n) (λ d. d.rtype) minimum_of sorted.now) apex.now
-        (usual_nsec3_config (H.answer hasher.now) parameters) n)) }
+    ensures err { IfErr result (λ e. (e ≡ Memory) ⊎ ((n : ℕ) × (e ≡ Signing
+        (signing_error.Nsec3HashingError (hash_error.Hasher n))) × IsFirstRefusal (zone_of_raw
+        sorted.now) apex.now (usual_nsec3_config (H.answer hasher.now) parameters) n)) }
 {
     let config: GenerateNsec3Config<ZoneOctets, InPlaceSorter> = GenerateNsec3Config::new(
         parameters,

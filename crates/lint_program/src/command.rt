@@ -1,12 +1,10 @@
 //! What the words after the program's name ask for.
 ghost use Rattle.std.specs.Prelude.{◌≡◌, ◌⊎◌, [], IfErr, IfOk, map, string_bytes};
-ghost use Rattle.domain_base.specs.Text.{NameText, IsNoName};
 ghost use Rattle.denial_program.specs.Command.{Params, Spell};
 ghost use Rattle.denial_program.specs.declared.fault.DenialFault.TheVariants.{OutOfMemory};
 ghost use Rattle.lint_program.specs.Command.{Asks, IsNoCommand};
 
-use denial_program::{DenialFault, Nsec3Params, ZoneName, parameters_of};
-use domain_base::ScanError;
+use denial_program::{DenialFault, Nsec3Params, ZoneName, name_of, parameters_of};
 use std::alloc::Global;
 
 /// What the words ask for.
@@ -16,19 +14,6 @@ pub struct Asked {
     pub apex: ZoneName,
     /// The parameters of an NSEC3 chain, where they are given.
     pub parameters: Option<Nsec3Params>,
-}
-
-/// The apex that a word spells.
-fn name_of(alloc: Global, word: &str) -> Result<ZoneName, DenialFault>
-    ensures ok { IfOk result (NameText word.now) }
-    ensures err { IfErr result (λ e. ((e ≡ DenialFault.Usage) × IsNoName word.now)
-        ⊎ (e ≡ OutOfMemory)) }
-{
-    match ZoneName::from_str(alloc, word) {
-        Ok(name) => Ok(name),
-        Err(ScanError::OutOfMemory) => Err(DenialFault::OutOfMemory),
-        Err(_) => Err(DenialFault::Usage),
-    }
 }
 
 /// The parameters that two words spell, without opt-out.

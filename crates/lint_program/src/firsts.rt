@@ -1,5 +1,5 @@
 //! The first record of each group.
-ghost use Rattle.std.specs.Prelude.{◌≡◌, List, [], ◌∷◌, ◌++◌, IfOk, OnOk, IsSome, option_map};
+ghost use Rattle.std.specs.Prelude.{◌≡◌, List, [], ◌∷◌, ◌++◌, OnOk, option_map};
 ghost use Rattle.domain_base.specs.Words.{Name};
 ghost use Rattle.domain_borrowed.specs.Data.{RawRecord};
 ghost use Rattle.lint_program.specs.Firsts.{AreFirsts};

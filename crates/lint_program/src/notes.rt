@@ -1,6 +1,6 @@
 //! What is told of records that were read: what makes a zone of them that has no chain, and what is
 //! no fault but is seldom meant. Nothing here decides whether there is a chain.
-ghost use Rattle.std.specs.Prelude.{◌≡◌, ◌++◌, ◌&&◌, List, not, OnOk, IfOk, length, map, option_map};
+ghost use Rattle.std.specs.Prelude.{◌≡◌, ◌++◌, List, OnOk, IfOk, length, map, option_map};
 ghost use Rattle.std.specs.List.{list_any};
 ghost use Rattle.lint_program.specs.Notes.{is_apex_soa, mark_of, missing_soa, AreNoted, Found, IsToldOf, Mark};
 

@@ -1,6 +1,4 @@
 //! The tag of a key.
-ghost use Rattle.std.specs.Prelude.{◌≡◌, IfOk};
-ghost use Rattle.domain_dnssec.specs.KeyTag.{key_tag_of};
 
 use domain_dnssec::rdata::Dnskey;
 use domain_dnssec::{Error, IterScanner};

@@ -1,5 +1,5 @@
 //! A record from the words of a line, and back.
-ghost use Rattle.std.specs.Prelude.{◌≡◌, IfOk};
+ghost use Rattle.std.specs.Prelude.{◌≡◌};
 
 use crate::zone::{Data, OwnedRecord, ZoneName};
 use domain_dnssec::{Class, Error, FromToken, IterScanner, Record, Rtype, Scanner, Ttl};

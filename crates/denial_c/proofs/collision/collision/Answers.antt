@@ -1,11 +1,10 @@
 use Rattle.std.proofs.Common.{List, Option, Some, option_map, subst}
 use Rattle.domain_alike.specs.Alike.{pair_of, IsFirstPair}
 use Rattle.domain_alike.specs.declared.alike.Alike.{Alike}
-use Rattle.domain_borrowed.specs.Data.{minimum_of, RawRecord}
+use Rattle.domain_borrowed.specs.Data.{RawRecord, zone_of_raw}
 use Rattle.domain_nsec3.specs.Config.{ChainConfig}
 use Rattle.domain_nsec3.specs.View.{config_of}
 use Rattle.domain_sha1.specs.Iterated.{sha1_answer}
-use Rattle.domain_zone.specs.View.{zone_of}
 use Rattle.denial_c.specs.Chains.{hashed_config}
 use Rattle.denial_c.proofs.ChainLemmas.{is_sorted}
 use Rattle.denial_c.proofs.CollisionLemmas.{first_pair_of}
@@ -21,9 +20,9 @@ returns-in-Ok-Some c =
     let zone = is_sorted c.args.apex.now c.args.class c.from_int-class.result c.args.records.now a sorted c.in-Ok.ensures.ok c.from_int-class.ensures
     c.in-Ok-sorted_zone.ensures.sorts c.in-Ok-sorted_zone.ensures.one_class in
     let pair = pair_of c.in-Ok-Some.alike in
-    let first = subst (λ (xs : List RawRecord). IsFirstPair (zone_of (λ n. n) (λ d. d.rtype) minimum_of xs) a config (Some pair)) c.deref.ensures.value
-    (subst (λ (k : ChainConfig). IsFirstPair (zone_of (λ n. n) (λ d. d.rtype) minimum_of c.deref.result.now) a k (Some pair)) made_with.ensures.ok
-    (subst (λ (o : Option Alike). IsFirstPair (zone_of (λ n. n) (λ d. d.rtype) minimum_of c.deref.result.now) a (config_of sha1_answer made_with.config)
+    let first = subst (λ (xs : List RawRecord). IsFirstPair (zone_of_raw xs) a config (Some pair)) c.deref.ensures.value
+    (subst (λ (k : ChainConfig). IsFirstPair (zone_of_raw c.deref.result.now) a k (Some pair)) made_with.ensures.ok
+    (subst (λ (o : Option Alike). IsFirstPair (zone_of_raw c.deref.result.now) a (config_of sha1_answer made_with.config)
     (option_map pair_of o)) c.in-Ok-Some.field-0-is c.in-Ok-Some.ensures.ok)) in (
       made_with.ensures.fits,
       (

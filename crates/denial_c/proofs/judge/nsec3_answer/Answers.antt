@@ -1,84 +1,60 @@
-use Rattle.std.proofs.Common.{◌≡◌, true, false, ap, Err, inl, inr, refl, sym, subst}
+use Rattle.std.proofs.Common.{◌≡◌, true, false, ap, Err, refl, sym, subst}
+use Rattle.std.proofs.lemmas.Result.{err_from_is_err_and}
 use Rattle.domain_answer.specs.HashedProved.{IsHashedAnswered}
 use Rattle.domain_answer.specs.HashedReading.{IsFirstOfRefusals, IsHashedRead}
 use Rattle.domain_answer.specs.Proved.{needs_no_records}
 use Rattle.domain_answer.specs.ZoneAnswer.{is_at_parent}
 use Rattle.domain_answer.specs.declared.answer.Answer.TheVariants.{OutsideZone, AtParent, TooManyIterations}
 use Rattle.domain_base.specs.Name.{is_at_or_below}
-use Rattle.domain_checker.specs.HashedView.{links}
-use Rattle.domain_nsec3.specs.View.{as_param_record}
 use Rattle.denial_c.specs.Judged.{IsAnswerRefused}
+use Rattle.denial_c.specs.Question.{as_question}
 use Rattle.denial_c.specs.Result.{sha1_records, source_of}
 use Rattle.denial_c.proofs.JudgeLemmas.{allowed, needed}
-use Rattle.denial_c.proofs.Nsec3Lemmas.{chain_fault}
+use Rattle.denial_c.proofs.Nsec3Lemmas.{asked_fault, hash_fault}
 use Rattle.denial_c.proofs.judge.nsec3_answer.Goals as goal
 
-pub returns-in-Err : goal.returns-in-Err
-returns-in-Err c =
-    chain_fault c.args.telling c.args.apex.now c.args.name.now c.args.class c.args.records.now
+pub returns-in_err-asked : goal.returns-in_err-asked
+returns-in_err-asked c =
+    let q = err_from_is_err_and c.from_residual.result c.from_residual.ensures.1 in
+    rw (q.1, q.2) (asked_fault (source_of c.args.telling c.args.class c.args.records.now) c.args.apex.now c.args.name.now
     (IsAnswerRefused (source_of c.args.telling c.args.class c.args.records.now) c.args.apex.now c.args.name.now c.args.rtype c.args.limit)
-    c.in_ok-apex.apex c.in_ok-apex.ensures.ok
-    (c.in_ok-name.name, c.in_ok-name.ensures.ok) c.in-Err.fault
-    (subst (λ n. (source_of c.args.telling n c.args.records.now).is_fault c.in_ok-apex.apex c.in-Err.fault) c.from_int.ensures c.in-Err.ensures.err)
+    _ c.in_err-asked.ensures.err)
 
-pub returns-in-Ok-judge_nsec3 : goal.returns-in-Ok-judge_nsec3
-returns-in-Ok-judge_nsec3 c =
-    let a = c.in_ok-apex.apex in
-    let x = c.in_ok-name.name in
-    let chain = c.in-Ok.chain in
-    let param = as_param_record (λ n. n) chain.nsec3param in
-    let ks = links (λ n. n) chain in
-    let answer = c.in-Ok-judge_nsec3.answer in
+pub returns-in_ok-answer : goal.returns-in_ok-answer
+returns-in_ok-answer c =
+    let q = as_question c.in_ok-asked.question in
+    let answer = c.in_ok-answer.answer in
+    let are = c.in_ok-answer.ensures in
+    let same = c.from_int.ensures in
     record {
-      a = a;
-      x = x;
-      links = ks;
-      param = param;
-      asked = record {
-        apex_is = c.in_ok-apex.ensures.ok;
-        name_is = c.in_ok-name.ensures.ok;
-        are = subst (λ n. (source_of c.args.telling n c.args.records.now).are a ks param) c.from_int.ensures c.in-Ok.ensures.ok;
-      };
-      outside = λ off. let e = c.in-Ok-judge_nsec3.ensures.outside off in cc;
-      parent = λ low at. let e = c.in-Ok-judge_nsec3.ensures.parent low (subst (λ t. is_at_parent a x t ≡ true) (sym c.from_int-rtype.ensures) at) in cc;
-      iterations = λ some over.
-          let e = c.in-Ok-judge_nsec3.ensures.iterations (subst (λ t. needs_no_records a x t ≡ false) (sym c.from_int-rtype.ensures) some) over in cc;
-      zone = λ few. subst (λ t. IsHashedAnswered (sha1_records a param ks) x t answer) c.from_int-rtype.ensures
-          (c.in-Ok-judge_nsec3.ensures.zone few);
-      exact = λ some few. subst (λ t. IsHashedRead (sha1_records a param ks) x t answer) c.from_int-rtype.ensures
-          (c.in-Ok-judge_nsec3.ensures.exact (subst (λ t. needs_no_records a x t ≡ false) (sym c.from_int-rtype.ensures) some) few);
-      proof = c.in-Ok-judge_nsec3.ensures.proof;
-      within = c.in-Ok-judge_nsec3.ensures.within;
+      q = q;
+      asked = c.in_ok-asked.ensures.ok;
+      outside = λ off. let e = are.outside off in cc;
+      parent = λ low at. let e = are.parent low (subst (λ t. is_at_parent q.apex q.name t ≡ true) (sym same) at) in cc;
+      iterations = λ some over. let e = are.iterations (subst (λ t. needs_no_records q.apex q.name t ≡ false) (sym same) some) over in cc;
+      zone = λ few. subst (λ t. IsHashedAnswered (sha1_records q) q.name t answer) same (are.zone few);
+      exact = λ some few. subst (λ t. IsHashedRead (sha1_records q) q.name t answer) same
+          (are.exact (subst (λ t. needs_no_records q.apex q.name t ≡ false) (sym same) some) few);
+      proof = are.proof;
+      within = are.within;
     }
 
-pub returns : goal.returns
-returns c =
-    let a = c.in_ok-apex.apex in
-    let x = c.in_ok-name.name in
-    let chain = c.in-Ok.chain in
-    let param = as_param_record (λ n. n) chain.nsec3param in
-    let ks = links (λ n. n) chain in
-    let t = c.from_int-rtype.result in
-    let error = c.in-Err-judge_nsec3.error in
-    elim c.in-Err-judge_nsec3.ensures.errors [
-      | inl short ↦ absurd (c.in_default.not-OutOfMemory short)
-      | inr one ↦ record {
-        a = a;
-        x = x;
-        links = ks;
-        param = param;
-        reason = one.0;
-        asked = record {
-          apex_is = c.in_ok-apex.ensures.ok;
-          name_is = c.in_ok-name.ensures.ok;
-          are = subst (λ n. (source_of c.args.telling n c.args.records.now).are a ks param) c.from_int.ensures c.in-Ok.ensures.ok;
-        };
-        needed = subst (λ t. needs_no_records a x t ≡ false) c.from_int-rtype.ensures (needed (Err error) error refl (is_at_or_below x a) (is_at_parent a x t)
-            OutsideZone AtParent c.in-Err-judge_nsec3.ensures.outside c.in-Err-judge_nsec3.ensures.parent);
-        allowed = allowed (Err error) error refl c.args.limit param.parameters.iterations TooManyIterations
-            (c.in-Err-judge_nsec3.ensures.iterations (needed (Err error) error refl (is_at_or_below x a) (is_at_parent a x t)
-            OutsideZone AtParent c.in-Err-judge_nsec3.ensures.outside c.in-Err-judge_nsec3.ensures.parent));
-        first = subst (λ t. IsFirstOfRefusals (sha1_records a param ks) x t one.0) c.from_int-rtype.ensures
-            (c.in-Err-judge_nsec3.ensures.refusal one.0 (ap (λ e. Err e) one.1));
-      }
-    ]
+pub returns-in_err-answer : goal.returns-in_err-answer
+returns-in_err-answer c =
+    let source = source_of c.args.telling c.args.class c.args.records.now in
+    let q = as_question c.in_ok-asked.question in
+    let error = c.in_err-answer.error in
+    let are = c.in_err-answer.ensures in
+    let same = c.from_int.ensures in
+    let some = needed (Err error) error refl (is_at_or_below q.name q.apex) (is_at_parent q.apex q.name c.from_int.result) OutsideZone AtParent
+    are.outside are.parent in
+    let r = err_from_is_err_and c.from_residual-in_err-answer.result c.from_residual-in_err-answer.ensures.1 in
+    rw (r.1, r.2) (hash_fault source c.args.apex.now c.args.name.now (IsAnswerRefused source c.args.apex.now c.args.name.now c.args.rtype c.args.limit)
+    error are.errors (λ n is. record {
+      q = q;
+      reason = n;
+      asked = c.in_ok-asked.ensures.ok;
+      needed = subst (λ t. needs_no_records q.apex q.name t ≡ false) same some;
+      allowed = allowed (Err error) error refl c.args.limit q.param.parameters.iterations TooManyIterations (are.iterations some);
+      first = subst (λ t. IsFirstOfRefusals (sha1_records q) q.name t n) same (are.refusal n (ap (λ e. Err e) is));
+    }))

@@ -1,9 +1,8 @@
 use Rattle.std.proofs.Common.{◌≡◌, ◌<◌, List, length, refl, subst, IfErr, IfOk}
-use Rattle.domain_borrowed.specs.Data.{minimum_of, RawRecord}
+use Rattle.domain_borrowed.specs.Data.{RawRecord, zone_of_raw}
 use Rattle.domain_nsec3.specs.Chain.{IsChainParam, IsHashedChain}
 use Rattle.domain_nsec3.specs.Config.{ChainConfig}
 use Rattle.domain_nsec3.specs.declared.config.Nsec3ParamTtlMode.TheVariants.{Soa}
-use Rattle.domain_zone.specs.View.{zone_of}
 use Rattle.denial_c.specs.Chains.{hashed_config, nsec3_asking, IsSortedNsec3Fault, IsWritten}
 use Rattle.denial_c.specs.declared.chain_fault.ChainFault.TheVariants.{ShortBuffer}
 use Rattle.denial_c.proofs.ChainLemmas.{chain_result, is_sorted, nsec3_fault, nsec3_made}
@@ -40,11 +39,11 @@ returns c =
     let octets = c.in-Ok-sorted_nsec3s.octets.items in
     let old = c.args.buffer.now in
     let new = c.write_octets.new.buffer in
-    let chain = subst (λ (xs : List RawRecord). IsHashedChain (zone_of (λ n. n) (λ d. d.rtype) minimum_of xs) a config made.0.links) c.deref.ensures.value
-    (subst (λ (k : ChainConfig). IsHashedChain (zone_of (λ n. n) (λ d. d.rtype) minimum_of c.deref.result.now) a k made.0.links) made_with.ensures.ok made.1) in
-    let param = subst (λ (xs : List RawRecord). IsChainParam (zone_of (λ n. n) (λ d. d.rtype) minimum_of xs) a config Soa made.0.param) c.deref.ensures.value
-    (subst (λ mode. IsChainParam (zone_of (λ n. n) (λ d. d.rtype) minimum_of c.deref.result.now) a config mode made.0.param) made_with.ensures.mode
-    (subst (λ (k : ChainConfig). IsChainParam (zone_of (λ n. n) (λ d. d.rtype) minimum_of c.deref.result.now) a k made_with.config.nsec3param_ttl_mode
+    let chain = subst (λ (xs : List RawRecord). IsHashedChain (zone_of_raw xs) a config made.0.links) c.deref.ensures.value
+    (subst (λ (k : ChainConfig). IsHashedChain (zone_of_raw c.deref.result.now) a k made.0.links) made_with.ensures.ok made.1) in
+    let param = subst (λ (xs : List RawRecord). IsChainParam (zone_of_raw xs) a config Soa made.0.param) c.deref.ensures.value
+    (subst (λ mode. IsChainParam (zone_of_raw c.deref.result.now) a config mode made.0.param) made_with.ensures.mode
+    (subst (λ (k : ChainConfig). IsChainParam (zone_of_raw c.deref.result.now) a k made_with.config.nsec3param_ttl_mode
     made.0.param) made_with.ensures.ok made.2)) in
     chain_result (nsec3_asking c.args.apex.now c.args.class config c.args.records.now) c.args.apex.now c.args.class c.args.records.now octets old new
     made_with.ensures.fits

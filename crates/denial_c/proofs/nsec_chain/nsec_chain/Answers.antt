@@ -1,7 +1,6 @@
 use Rattle.std.proofs.Common.{◌≡◌, ◌<◌, List, length, refl, subst, IfErr, IfOk}
-use Rattle.domain_borrowed.specs.Data.{minimum_of, RawRecord}
+use Rattle.domain_borrowed.specs.Data.{RawRecord, zone_of_raw}
 use Rattle.domain_nsec.specs.Chain.{IsChain}
-use Rattle.domain_zone.specs.View.{zone_of}
 use Rattle.denial_c.specs.Chains.{nsec_asking, IsSortedNsecFault, IsWritten}
 use Rattle.denial_c.specs.declared.chain_fault.ChainFault.TheVariants.{ShortBuffer}
 use Rattle.denial_c.proofs.ChainLemmas.{chain_result, is_sorted, nsec_fault, nsec_made}
@@ -32,7 +31,7 @@ returns c =
     chain_result (nsec_asking c.args.apex.now c.args.class c.args.config.now c.args.records.now) c.args.apex.now c.args.class c.args.records.now
     octets old new tt
     (nsec_made c.args.apex.now c.args.class c.args.config.now c.args.records.now c.in-Ok.apex sorted octets made.0 zone
-    (subst (λ (xs : List RawRecord). IsChain (zone_of (λ n. n) (λ d. d.rtype) minimum_of xs) c.in-Ok.apex c.args.config.now made.0)
+    (subst (λ (xs : List RawRecord). IsChain (zone_of_raw xs) c.in-Ok.apex c.args.config.now made.0)
     c.deref.ensures.value made.1)
     made.2)
     c.write_octets.result

@@ -1,6 +1,6 @@
 use Rattle.std.proofs.Common.{◌∷◌, ap, map, subst, sym, ◌∙◌}
-use Rattle.domain_borrowed.specs.Data.{minimum_of}
-use Rattle.domain_zone.specs.View.{as_zone_record, zone_of}
+use Rattle.domain_borrowed.specs.Data.{minimum_of, zone_of_raw}
+use Rattle.domain_zone.specs.View.{as_zone_record}
 use Rattle.domain_zone.proofs.TtlLemmas.{has_neighbour_clash, neighbours_tell, seen_never_descend}
 use Rattle.denial_c.specs.Uneven.{IsFirstClash}
 use Rattle.denial_c.proofs.UnevenLemmas.{IsBetween, between_clash, between_next}
@@ -8,7 +8,7 @@ use Rattle.denial_c.proofs.uneven.clashing_type.Goals as goal
 
 pub returns-then-clash-clause-some : goal.returns-then-clash-clause-some
 returns-then-clash-clause-some c =
-    subst (IsFirstClash (zone_of (λ n. n) (λ d. d.rtype) minimum_of c.args.records)) (sym c.rtype.ensures)
+    subst (IsFirstClash (zone_of_raw c.args.records)) (sym c.rtype.ensures)
     (between_clash c.args.records c.neighbours.previous.now c.in-Some-next.record.now c.next-in-neighbours.new.self
     (subst (λ l. IsBetween c.args.records c.neighbours.previous.now l) c.in-Some-next.ensures.steps c.neighbours.invariant)
     (seen_never_descend (λ n. n) (λ d. d.rtype) minimum_of c.args.records c.requires)

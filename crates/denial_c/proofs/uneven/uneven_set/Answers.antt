@@ -1,7 +1,7 @@
 use Rattle.std.proofs.Common.{ap, map, subst, sym, ◌∙◌}
 use Rattle.domain_alike.specs.Covered.{covered_names}
-use Rattle.domain_borrowed.specs.Data.{minimum_of}
-use Rattle.domain_zone.specs.View.{as_zone_record, zone_of}
+use Rattle.domain_borrowed.specs.Data.{minimum_of, zone_of_raw}
+use Rattle.domain_zone.specs.View.{as_zone_record}
 use Rattle.domain_zone.specs.Zone.{has_clash, records_of}
 use Rattle.domain_zone.proofs.GivenLemmas.{raw_types, types_at}
 use Rattle.domain_zone.proofs.TtlLemmas.{NeverDescend}
@@ -22,21 +22,21 @@ clashing_type-requires c =
 
 pub returns-in-Some-clashing_type-clause-first : goal.returns-in-Some-clashing_type-clause-first
 returns-in-Some-clashing_type-clause-first c =
-    let L = zone_of (λ n. n) (λ d. d.rtype) minimum_of c.args.sorted.now in
+    let L = zone_of_raw c.args.sorted.now in
     subst (IsFirstUneven L (covered_names c.args.excludes c.args.below_dname L c.args.apex.now)) (sym c.as_parsed-name.ensures)
     (walked_first c.owners.invariant c.in-Some.ensures.steps c.is_unsigned_cut.ensures c.if-excludes-is_unsigned_cut.false)
 
 pub returns-in-Some-clashing_type-clause-clash : goal.returns-in-Some-clashing_type-clause-clash
 returns-in-Some-clashing_type-clause-clash c =
     let t = c.in-Some-clashing_type.rtype in
-    subst (λ n. IsFirstClash (records_of (zone_of (λ n. n) (λ d. d.rtype) minimum_of c.args.sorted.now) n) t) (sym c.as_parsed-name.ensures)
+    subst (λ n. IsFirstClash (records_of (zone_of_raw c.args.sorted.now) n) t) (sym c.as_parsed-name.ensures)
     (walked_clash c.owners.invariant c.in-Some.ensures.steps t
-    (subst (λ rs. IsFirstClash (zone_of (λ n. n) (λ d. d.rtype) minimum_of rs) t) c.records.ensures c.in-Some-clashing_type.ensures.some))
+    (subst (λ rs. IsFirstClash (zone_of_raw rs) t) c.records.ensures c.in-Some-clashing_type.ensures.some))
 
 pub owners-preserved : goal.owners-preserved
 owners-preserved c =
     walked_even c.owners.invariant c.in-Some.ensures.steps c.is_unsigned_cut.ensures c.if-excludes-is_unsigned_cut.false
-    (ap (λ rs. has_clash (zone_of (λ n. n) (λ d. d.rtype) minimum_of rs)) (sym c.records.ensures) ∙ c.in_default-clashing_type.ensures.none)
+    (ap (λ rs. has_clash (zone_of_raw rs)) (sym c.records.ensures) ∙ c.in_default-clashing_type.ensures.none)
 
 pub returns-clause-none : goal.returns-clause-none
 returns-clause-none c = walked_all c.owners.invariant c.in_default.ensures.steps.0

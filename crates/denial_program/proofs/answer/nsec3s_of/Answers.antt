@@ -1,12 +1,11 @@
 use Rattle.std.proofs.Common.{List, refl, rules, subst}
-use Rattle.domain_zone.specs.View.{zone_of}
 use Rattle.domain_zone.specs.Zone.{ZoneRecord}
 use Rattle.domain_nsec3.specs.Chain.{IsChainParam, IsHashedChain}
 use Rattle.domain_nsec3.specs.Config.{ChainConfig}
 use Rattle.domain_nsec3.specs.Faults.{IsFirstFault, IsReady}
 use Rattle.domain_nsec3.specs.View.{config_of}
 use Rattle.domain_dnssec.specs.declared.chain.ChainError.TheVariants.{OutOfMemory, Signing}
-use Rattle.domain_borrowed.specs.Data.{minimum_of, RawRecord}
+use Rattle.domain_borrowed.specs.Data.{RawRecord, zone_of_raw}
 use Rattle.denial_program.specs.Answer.{usual_nsec3_config}
 use Rattle.denial_program.proofs.AnswerLemmas.{usual_is}
 use Rattle.denial_program.proofs.answer.nsec3s_of.Given.{Over}
@@ -15,23 +14,23 @@ use Rattle.denial_program.proofs.answer.nsec3s_of.Goals as goal
 
 -- what holds of the zone and the configuration that were handed on holds of the sorted records and the usual configuration
 usual : (g : Over) (c : After-new_from_owned g) (P : List ZoneRecord → ChainConfig → Type 0)
-    → P (zone_of (λ n. n) (λ d. d.rtype) minimum_of c.new_from_owned.result)
+    → P (zone_of_raw c.new_from_owned.result)
     (config_of (g.H.Nsec3Hasher.answer c.args.hasher.now) c.new-config.result)
-    → P (zone_of (λ n. n) (λ d. d.rtype) minimum_of c.args.sorted.now)
+    → P (zone_of_raw c.args.sorted.now)
     (usual_nsec3_config (g.H.Nsec3Hasher.answer c.args.hasher.now) c.args.parameters)
 usual g c P h =
     let answers = g.H.Nsec3Hasher.answer c.args.hasher.now in
     let made = c.new-config.ensures in
-    subst (λ (xs : List RawRecord). P (zone_of (λ n. n) (λ d. d.rtype) minimum_of xs) (usual_nsec3_config answers c.args.parameters))
+    subst (λ (xs : List RawRecord). P (zone_of_raw xs) (usual_nsec3_config answers c.args.parameters))
     c.new_from_owned.ensures
-    (subst (P (zone_of (λ n. n) (λ d. d.rtype) minimum_of c.new_from_owned.result))
+    (subst (P (zone_of_raw c.new_from_owned.result))
     (usual_is answers c.new-config.result c.args.parameters made.params made.dnskeys made.excludes made.dnames) h)
 
 -- where there was no memory that zone has no fault but for hashing
-ready : (g : Over) (c : In-Err-OutOfMemory g) → IsReady (zone_of (λ n. n) (λ d. d.rtype) minimum_of c.new_from_owned.result) c.args.apex.now
+ready : (g : Over) (c : In-Err-OutOfMemory g) → IsReady (zone_of_raw c.new_from_owned.result) c.args.apex.now
     (config_of (g.H.Nsec3Hasher.answer c.args.hasher.now) c.new-config.result)
 ready g c =
-    subst (IsFirstFault (zone_of (λ n. n) (λ d. d.rtype) minimum_of c.new_from_owned.result) c.args.apex.now
+    subst (IsFirstFault (zone_of_raw c.new_from_owned.result) c.args.apex.now
     (config_of (g.H.Nsec3Hasher.answer c.args.hasher.now) c.new-config.result)) c.in-Err-OutOfMemory.field-0-is c.in-Err-OutOfMemory.ensures.fault
 
 pub returns-in-Ok-clause-ok : goal.returns-in-Ok-clause-ok
@@ -47,7 +46,7 @@ returns-in-Ok-clause-ok g c = λ given sorts.
         chain = record {
           one_class = c.requires.one_class;
           chain = usual g at (λ zone config. IsHashedChain zone c.args.apex.now config made.links) c.in-Ok.ensures.chain;
-          told = subst (λ mode. IsChainParam (zone_of (λ n. n) (λ d. d.rtype) minimum_of c.args.sorted.now) c.args.apex.now
+          told = subst (λ mode. IsChainParam (zone_of_raw c.args.sorted.now) c.args.apex.now
               (usual_nsec3_config (g.H.Nsec3Hasher.answer c.args.hasher.now) c.args.parameters) mode made.param) c.new-config.ensures.mode
               (usual g at (λ zone config. IsChainParam zone c.args.apex.now config c.new-config.result.nsec3param_ttl_mode made.param)
               c.in-Ok.ensures.param);

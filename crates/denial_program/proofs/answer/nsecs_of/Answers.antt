@@ -1,8 +1,7 @@
 use Rattle.std.proofs.Common.{List, refl, rules, subst}
-use Rattle.domain_zone.specs.View.{zone_of}
 use Rattle.domain_nsec.specs.Chain.{usual_config, IsChain, IsFaultless, IsFirstFault}
 use Rattle.domain_dnssec.specs.declared.chain.ChainError.TheVariants.{OutOfMemory, Signing}
-use Rattle.domain_borrowed.specs.Data.{minimum_of, RawRecord}
+use Rattle.domain_borrowed.specs.Data.{RawRecord, zone_of_raw}
 use Rattle.denial_program.proofs.answer.nsecs_of.Goals as goal
 
 pub returns-in-Ok-clause-ok : goal.returns-in-Ok-clause-ok
@@ -14,9 +13,9 @@ returns-in-Ok-clause-ok c = λ given sorts. record {
     sorts = sorts;
     chain = record {
       one_class = c.requires.one_class;
-      chain = subst (λ (xs : List RawRecord). IsChain (zone_of (λ n. n) (λ d. d.rtype) minimum_of xs) c.args.apex.now usual_config c.in-Ok.nsecs)
+      chain = subst (λ (xs : List RawRecord). IsChain (zone_of_raw xs) c.args.apex.now usual_config c.in-Ok.nsecs)
           c.new_from_owned.ensures
-          (subst (λ config. IsChain (zone_of (λ n. n) (λ d. d.rtype) minimum_of c.new_from_owned.result) c.args.apex.now config c.in-Ok.nsecs)
+          (subst (λ config. IsChain (zone_of_raw c.new_from_owned.result) c.args.apex.now config c.in-Ok.nsecs)
           c.new-config.ensures c.in-Ok.ensures.chain);
     };
   };
@@ -24,8 +23,8 @@ returns-in-Ok-clause-ok c = λ given sorts. record {
 
 pub returns-in-Ok-clause-faultless : goal.returns-in-Ok-clause-faultless
 returns-in-Ok-clause-faultless c =
-    subst (λ (xs : List RawRecord). IsFaultless (zone_of (λ n. n) (λ d. d.rtype) minimum_of xs) c.args.apex.now usual_config) c.new_from_owned.ensures
-    (subst (λ config. IsFaultless (zone_of (λ n. n) (λ d. d.rtype) minimum_of c.new_from_owned.result) c.args.apex.now config)
+    subst (λ (xs : List RawRecord). IsFaultless (zone_of_raw xs) c.args.apex.now usual_config) c.new_from_owned.ensures
+    (subst (λ config. IsFaultless (zone_of_raw c.new_from_owned.result) c.args.apex.now config)
     c.new-config.ensures c.in-Ok.ensures.faultless)
 
 pub returns-in-Err : goal.returns-in-Err
@@ -40,9 +39,9 @@ returns-in-Err c = record {
       sorts = sorts;
       fault = record {
         one_class = c.requires.one_class;
-        fault = subst (λ (xs : List RawRecord). IsFirstFault (zone_of (λ n. n) (λ d. d.rtype) minimum_of xs) c.args.apex.now usual_config c.in-Err.error)
+        fault = subst (λ (xs : List RawRecord). IsFirstFault (zone_of_raw xs) c.args.apex.now usual_config c.in-Err.error)
             c.new_from_owned.ensures
-            (subst (λ config. IsFirstFault (zone_of (λ n. n) (λ d. d.rtype) minimum_of c.new_from_owned.result) c.args.apex.now config c.in-Err.error)
+            (subst (λ config. IsFirstFault (zone_of_raw c.new_from_owned.result) c.args.apex.now config c.in-Err.error)
             c.new-config.ensures c.in-Err.ensures.fault);
         told = search rules;
       };
@@ -52,11 +51,11 @@ returns-in-Err c = record {
 }
 
 -- the zone has no fault
-faultless : (c : goal.In-Err-OutOfMemory) → IsFaultless (zone_of (λ n. n) (λ d. d.rtype) minimum_of c.args.sorted.now) c.args.apex.now usual_config
+faultless : (c : goal.In-Err-OutOfMemory) → IsFaultless (zone_of_raw c.args.sorted.now) c.args.apex.now usual_config
 faultless c =
-    let zone = zone_of (λ n. n) (λ d. d.rtype) minimum_of c.new_from_owned.result in
+    let zone = zone_of_raw c.new_from_owned.result in
     let first = subst (λ e. IsFirstFault zone c.args.apex.now c.new-config.result e) c.in-Err-OutOfMemory.field-0-is c.in-Err-OutOfMemory.ensures.fault in
-    subst (λ (xs : List RawRecord). IsFaultless (zone_of (λ n. n) (λ d. d.rtype) minimum_of xs) c.args.apex.now usual_config) c.new_from_owned.ensures
+    subst (λ (xs : List RawRecord). IsFaultless (zone_of_raw xs) c.args.apex.now usual_config) c.new_from_owned.ensures
     (subst (λ config. IsFaultless zone c.args.apex.now config) c.new-config.ensures first)
 
 pub returns-in-Err-OutOfMemory-clause-err : goal.returns-in-Err-OutOfMemory-clause-err

@@ -1,8 +1,7 @@
 use Rattle.std.proofs.Common.{◌≡◌, List, sym, subst, inr}
 use Rattle.domain_octets.proofs.StdLemmas.{if_err_of}
-use Rattle.domain_zone.specs.View.{zone_of}
 use Rattle.domain_nsec3.specs.Faults.{IsReady}
-use Rattle.domain_borrowed.specs.Data.{minimum_of, RawRecord}
+use Rattle.domain_borrowed.specs.Data.{RawRecord, zone_of_raw}
 use Rattle.domain_records.specs.Order.{IsOneClass}
 use Rattle.denial_program.specs.Answer.{usual_nsec3_config, HasNoNsec3s, IsNsec3s, IsUnwritten, Sorts}
 use Rattle.denial_program.proofs.AnswerLemmas.{nsec3s_unready, nsec3s_unwritten, on_ok, uncompacted}
@@ -37,7 +36,7 @@ returns-clause-err g c =
     let sorts = subst (λ (xs : List RawRecord). Sorts given xs) same c.in_ok-sorted.ensures.sorts in
     let one = subst (λ (xs : List RawRecord). IsOneClass xs) same c.in_ok-sorted.ensures.one_class in
     let is = subst (λ apex. IsNsec3s answers given apex p c.in_ok-answer.answer) c.in_ok-apex.ensures.ok (c.in_ok-answer.ensures.ok given sorts) in
-    let ready = subst (λ apex. IsReady (zone_of (λ n. n) (λ d. d.rtype) minimum_of sorted) apex (usual_nsec3_config answers p)) c.in_ok-apex.ensures.ok
+    let ready = subst (λ apex. IsReady (zone_of_raw sorted) apex (usual_nsec3_config answers p)) c.in_ok-apex.ensures.ok
     c.in_ok-answer.ensures.ready in
     nsec3s_unwritten answers given sorted c.args.apex.now p c.in_ok-answer.answer is sorts one ready c.send.result c.send.ensures.err
 

@@ -1,8 +1,7 @@
 use Rattle.std.proofs.Common.{◌≡◌, ◌∙◌, List, sym, subst, inr}
 use Rattle.domain_octets.proofs.StdLemmas.{if_err_of}
-use Rattle.domain_zone.specs.View.{zone_of}
 use Rattle.domain_nsec.specs.Chain.{usual_config, IsFaultless}
-use Rattle.domain_borrowed.specs.Data.{minimum_of, RawRecord}
+use Rattle.domain_borrowed.specs.Data.{RawRecord, zone_of_raw}
 use Rattle.domain_records.specs.Order.{IsOneClass}
 use Rattle.denial_program.specs.Answer.{HasNoNsecs, IsNsecs, IsUnwritten, Sorts}
 use Rattle.denial_program.proofs.AnswerLemmas.{nsecs_unready, nsecs_unwritten, on_ok, uncompacted}
@@ -31,7 +30,7 @@ returns-clause-err g c =
     let sorts = subst (λ (xs : List RawRecord). Sorts given xs) same c.in_ok-sorted.ensures.sorts in
     let one = subst (λ (xs : List RawRecord). IsOneClass xs) same c.in_ok-sorted.ensures.one_class in
     let is = subst (λ apex. IsNsecs given apex c.in_ok-answer.answer) c.in_ok-apex.ensures.ok (c.in_ok-answer.ensures.ok given sorts) in
-    let faultless = subst (λ apex. IsFaultless (zone_of (λ n. n) (λ d. d.rtype) minimum_of compacted) apex usual_config) c.in_ok-apex.ensures.ok
+    let faultless = subst (λ apex. IsFaultless (zone_of_raw compacted) apex usual_config) c.in_ok-apex.ensures.ok
     c.in_ok-answer.ensures.faultless in
     nsecs_unwritten given compacted c.args.apex.now c.in_ok-answer.answer is sorts one faultless c.send.result c.send.ensures.err
 

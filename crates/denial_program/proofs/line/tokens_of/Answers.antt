@@ -2,8 +2,8 @@ use Rattle.std.proofs.Common.{◌≡◌, ◌≤◌, length, get_or, false, rules
 use Rattle.denial_program.specs.Words.{is_blank}
 use Rattle.denial_program.proofs.WordLemmas.{not_plain_at, plain_part, split_blank, split_end, split_ends, split_last, split_more}
 use Rattle.denial_program.proofs.line.tokens_of.Goals as goal
-use Rattle.denial_program.proofs.line.tokens_of.Goals.{then-separates, then-start-i+in_ok-push, else-start-i}
-use Rattle.denial_program.proofs.line.tokens_of.Goals.{else-separates, then-start-line+in_ok-push-2, else-start-line}
+use Rattle.denial_program.proofs.line.tokens_of.Goals.{then-separates, then-start-i+in_ok-push, else-start-i, else-separates, then-start-line+in_ok-push-2}
+use Rattle.denial_program.proofs.line.tokens_of.Goals.{else-start-line}
 
 pub loop-i-preserved : goal.loop-i-preserved
 loop-i-preserved c =

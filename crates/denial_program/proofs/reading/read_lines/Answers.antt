@@ -2,8 +2,8 @@ use Rattle.std.proofs.Common.{◌≡◌, ◌+◌, ◌<◌, [], ◌∷◌, arith,
 use Rattle.std.specs.Str.Lines.{lines}
 use Rattle.denial_program.specs.Listing.{IsFirstBad}
 use Rattle.denial_program.specs.Said.{Says}
-use Rattle.denial_program.proofs.ReadingLemmas.{follows_end, follows_next, follows_skip, follows_record, follows_bad}
-use Rattle.denial_program.proofs.ReadingLemmas.{Follows, known_line, known_next, known_end, known_after}
+use Rattle.denial_program.proofs.ReadingLemmas.{follows_end, follows_next, follows_skip, follows_record, follows_bad, Follows, known_line, known_next}
+use Rattle.denial_program.proofs.ReadingLemmas.{known_end, known_after}
 use Rattle.denial_program.proofs.reading.read_lines.Goals as goal
 use Rattle.denial_program.proofs.reading.read_lines.Goals.{in-Nothing, in-Record+in_ok-push-in-Record}
 

@@ -1,9 +1,8 @@
 use Rattle.std.proofs.Common.{◌&&◌, List, inl, inr, map, refl, sym, ap, subst}
 use Rattle.domain_octets.proofs.StdLemmas.{if_err_of}
 use Rattle.domain_base.specs.Words.{Name}
-use Rattle.domain_borrowed.specs.Data.{minimum_of}
 use Rattle.domain_nsec3.specs.View.{config_of}
-use Rattle.domain_zone.specs.View.{zone_of}
+use Rattle.domain_borrowed.specs.Data.{zone_of_raw}
 use Rattle.domain_alike.specs.Alike.{pair_of, IsFirstRefusal}
 use Rattle.domain_alike.specs.AlikeSteps.{IsRefusedAmong, Met}
 use Rattle.domain_alike.proofs.AlikeLemmas.{alike_are, first_refusal, IsRefusedBy}
@@ -11,7 +10,7 @@ use Rattle.domain_alike.proofs.alike.alike_names.Goals as goal
 
 pub returns-clause-ok : goal.returns-clause-ok
 returns-clause-ok g c =
-    let L = zone_of (λ n. n) (λ d. d.rtype) minimum_of c.args.sorted.now in
+    let L = zone_of_raw c.args.sorted.now in
     let config = config_of (g.H.Nsec3Hasher.answer c.args.hasher.now) c.args.config.now in
     let list = c.in_ok-names.ensures config (ap (λ b. b && config.exclude_unsigned) (sym c.opt_out_flag.ensures)) refl in
     alike_are L c.args.apex.now config c.in_ok-names.names.items list (map pair_of c.in_ok-pairs.pairs.items)
@@ -19,7 +18,7 @@ returns-clause-ok g c =
 
 pub returns-in_err-pairs-clause-err : goal.returns-in_err-pairs-clause-err
 returns-in_err-pairs-clause-err g c =
-    let L = zone_of (λ n. n) (λ d. d.rtype) minimum_of c.args.sorted.now in
+    let L = zone_of_raw c.args.sorted.now in
     let config = config_of (g.H.Nsec3Hasher.answer c.args.hasher.now) c.args.config.now in
     let list = c.in_ok-names.ensures config (ap (λ b. b && config.exclude_unsigned) (sym c.opt_out_flag.ensures)) refl in
     if_err_of (IsRefusedBy (IsFirstRefusal L c.args.apex.now config)) c.in_err-pairs.field-0.0 c.from_residual-in_err-pairs.result

@@ -1,11 +1,10 @@
-use Rattle.domain_borrowed.specs.Data.{minimum_of}
 use Rattle.domain_nsec3.specs.View.{config_of}
-use Rattle.domain_zone.specs.View.{zone_of}
+use Rattle.domain_borrowed.specs.Data.{zone_of_raw}
 use Rattle.domain_alike.proofs.AlikeLemmas.{first_of_pairs}
 use Rattle.domain_alike.proofs.alike.first_alike.Goals as goal
 
 pub returns-in-Ok-clause-ok : goal.returns-in-Ok-clause-ok
 returns-in-Ok-clause-ok g c =
-    first_of_pairs (zone_of (λ n. n) (λ d. d.rtype) minimum_of c.args.sorted.now) c.args.apex.now
+    first_of_pairs (zone_of_raw c.args.sorted.now) c.args.apex.now
     (config_of (g.H.Nsec3Hasher.answer c.args.hasher.now) c.args.config.now) c.in-Ok.pairs.items c.first_of.result c.first_of.ensures
     c.in-Ok.ensures.ok

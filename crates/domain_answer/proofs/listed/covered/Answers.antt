@@ -5,9 +5,9 @@ use Rattle.domain_base.specs.Order.{before, canonical_cmp}
 use Rattle.domain_answer.proofs.FoundLemmas.{after_both, ahead_of_both, ahead_of_next, at_owner, uncovered}
 use Rattle.domain_answer.proofs.listed.covered.Given.{Over}
 use Rattle.domain_answer.proofs.listed.covered.Goals as goal
-use Rattle.domain_answer.proofs.listed.covered.Goals.{After-is_gt-is_after}
-use Rattle.domain_answer.proofs.listed.covered.Goals.{then-is_eq-via-then-is_eq, then-is_eq-via-else-is_eq+then-is_before, then-not-is_after, else-not-is_after}
-use Rattle.domain_answer.proofs.listed.covered.Goals.{then-is_lt-via-then-is_lt, then-is_lt-via-else-is_lt+then-not-is_before, then-is_after, else-is_after}
+use Rattle.domain_answer.proofs.listed.covered.Goals.{After-is_gt-is_after, then-is_eq-via-then-is_eq, then-is_eq-via-else-is_eq+then-is_before}
+use Rattle.domain_answer.proofs.listed.covered.Goals.{then-not-is_after, else-not-is_after, then-is_lt-via-then-is_lt}
+use Rattle.domain_answer.proofs.listed.covered.Goals.{then-is_lt-via-else-is_lt+then-not-is_before, then-is_after, else-is_after}
 
 -- whether the name comes after the owner
 is_after : (g : Over) (c : After-is_gt-is_after g)

@@ -1,25 +1,21 @@
 use Rattle.std.proofs.Common.{sym, subst, ap, ◌∙◌, arith}
 use Rattle.domain_base.specs.Wire.{labels_of, IsWire}
-use Rattle.domain_answer.proofs.WildcardLemmas.{wildcard_wire}
+use Rattle.domain_answer.proofs.WildcardLemmas.{IsWildcardWire, wildcard_wire}
+use Rattle.domain_answer.proofs.wildcard.wildcard_below.Given.{Over}
 use Rattle.domain_answer.proofs.wildcard.wildcard_below.Goals as goal
+use Rattle.domain_answer.proofs.wildcard.wildcard_below.Goals.{After-as_wire}
+
+-- the octets that are written are those of a name
+made : (g : Over) (c : After-as_wire g) → IsWildcardWire (g.M.ToName.labels c.args.name.now) c.args.count c.as_wire.result.now
+made g c =
+    wildcard_wire _ _ c.as_wire-whole.result.now _ c.as_wire-whole.ensures.wire c.as_wire-whole.ensures.labels c.as_wire.ensures.wire
+    (c.as_wire.ensures.labels ∙ c.last_labels-above.ensures) c.requires.above
 
 pub write_wildcard-requires : goal.write_wildcard-requires
-write_wildcard-requires g c =
-    let made = wildcard_wire (g.M.ToName.labels c.args.name.now) c.args.count c.as_wire-whole.result.now c.as_wire.result.now
-    c.as_wire-whole.ensures.wire c.as_wire-whole.ensures.labels c.as_wire.ensures.wire
-    (c.as_wire.ensures.labels ∙ c.last_labels-above.ensures) c.requires.above in
-    omega (arith, made.fits, c.requires.room)
+write_wildcard-requires g c = omega (arith, (made g (goal.at.write_wildcard-requires g c).After-as_wire).fits, c.requires.room)
 
 pub over-requires : goal.over-requires
-over-requires g c =
-    let made = wildcard_wire (g.M.ToName.labels c.args.name.now) c.args.count c.as_wire-whole.result.now c.as_wire.result.now
-    c.as_wire-whole.ensures.wire c.as_wire-whole.ensures.labels c.as_wire.ensures.wire
-    (c.as_wire.ensures.labels ∙ c.last_labels-above.ensures) c.requires.above in
-    subst IsWire (sym c.write_wildcard.ensures) made.wire
+over-requires g c = subst IsWire (sym c.write_wildcard.ensures) (made g (goal.at.over-requires g c).After-as_wire).wire
 
 pub returns : goal.returns
-returns g c =
-    let made = wildcard_wire (g.M.ToName.labels c.args.name.now) c.args.count c.as_wire-whole.result.now c.as_wire.result.now
-    c.as_wire-whole.ensures.wire c.as_wire-whole.ensures.labels c.as_wire.ensures.wire
-    (c.as_wire.ensures.labels ∙ c.last_labels-above.ensures) c.requires.above in
-    c.over.ensures ∙ ap labels_of c.write_wildcard.ensures ∙ made.labels
+returns g c = c.over.ensures ∙ ap labels_of c.write_wildcard.ensures ∙ (made g (goal.at.returns g c).After-as_wire).labels

@@ -1,16 +1,30 @@
-use Rattle.std.proofs.Common.{◌≡◌, ◌+◌, true, false, not, Option, Some, None, map, drop, refl, sym, ap, ◌∙◌}
+use Rattle.std.proofs.Common.{◌≡◌, ◌+◌, Bool, true, false, not, Option, Some, None, map, drop, refl, sym, ap, ◌∙◌}
 use Rattle.std.specs.List.{find}
 use Rattle.std.specs.Option.{is_some, option_map, option_or}
 use Rattle.std.proofs.lemmas.List.{at_drop_all}
 use Rattle.domain_octets.specs.Words.{Octets}
 use Rattle.domain_zone.specs.Covering.{covers, matches}
 use Rattle.domain_nsec3.specs.Meaning.{octets_before}
+use Rattle.domain_nsec3.specs.Chain.{HashedLink}
 use Rattle.domain_nsec3.specs.View.{as_hashed_link, parameters_of}
 use Rattle.domain_checker.specs.HashedList.{is_hash_match, is_some_with, read_label, is_hash_cover}
 use Rattle.domain_checker.proofs.FirstLemmas.{found_here, found_later, met_here, met_later, met_before}
+use Rattle.domain_checker.proofs.hashed.find_hash.Given.{Over}
 use Rattle.domain_checker.proofs.hashed.find_hash.Goals as goal
-use Rattle.domain_checker.proofs.hashed.find_hash.Goals.{then-is_none+then-is_cover, else-is_none}
-use Rattle.domain_checker.proofs.hashed.find_hash.Goals.{else-is_none-via-then-is_none+else-is_cover, else-is_none-via-else-is_none}
+use Rattle.domain_checker.proofs.hashed.find_hash.Goals.{Start}
+use Rattle.domain_checker.proofs.hashed.find_hash.Goals.{then-is_none+then-is_cover, else-is_none, else-is_none-via-then-is_none+else-is_cover}
+use Rattle.domain_checker.proofs.hashed.find_hash.Goals.{else-is_none-via-else-is_none}
+
+-- what is looked for, a match and else the first cover
+record Tests : Type 0 where
+  matched : HashedLink → Bool
+  covered : HashedLink → Bool
+
+abbrev tests : (g : Over) (c : Start g) → Tests
+tests g c =
+    let apex = g.A.ToName.labels c.args.apex.now in
+    let parameters = parameters_of c.args.param.now in
+    record { matched = is_hash_match apex parameters c.args.hash.now; covered = is_hash_cover apex parameters c.args.hash.now }
 
 pub returns-then-is_match : goal.returns-then-is_match
 returns-then-is_match g c =
@@ -18,10 +32,10 @@ returns-then-is_match g c =
     let listed = c.listed-item.result in
     let nsec3s = c.args.nsec3s.now in
     let hash = c.args.hash.now in
-    let matched = is_hash_match (g.A.ToName.labels c.args.apex.now) (parameters_of c.args.param.now) hash in
-    let hit : matched (as_hashed_link labels listed) ≡ true =
+    let t = tests g (goal.at.returns-then-is_match g c).Start in
+    let hit : t.matched (as_hashed_link labels listed) ≡ true =
     ap (is_some_with (λ h. matches octets_before h hash)) (sym c.hash_label-label.ensures) ∙ sym c.is_match.ensures ∙ c.if-is_match.true in
-    let found = c.loop-listed.invariant.matching ∙ found_here matched
+    let found = c.loop-listed.invariant.matching ∙ found_here t.matched
     (as_hashed_link labels) nsec3s c.loop-listed.listed-index listed c.loop-listed-test.true c.listed-item.is hit in
     record {
       matching = sym found;
@@ -36,23 +50,22 @@ loop-listed-preserved g c =
     let listed = c.listed-item.result in
     let nsec3s = c.args.nsec3s.now in
     let hash = c.args.hash.now in
-    let matched = is_hash_match (g.A.ToName.labels c.args.apex.now) (parameters_of c.args.param.now) hash in
-    let covered = is_hash_cover (g.A.ToName.labels c.args.apex.now) (parameters_of c.args.param.now) hash in
+    let t = tests g (goal.at.loop-listed-preserved g c).Start in
     let label = option_map (λ l. read_label l.now) c.hash_label-label.result in
     let around = λ (next : Octets). is_some_with (λ h. covers octets_before h next hash) in
-    let rest = find covered (map see (drop (at + 1) nsec3s)) in
-    let whole = find covered (map see nsec3s) in
-    let apart : matched (see listed) ≡ false =
+    let rest = find t.covered (map see (drop (at + 1) nsec3s)) in
+    let whole = find t.covered (map see nsec3s) in
+    let apart : t.matched (see listed) ≡ false =
     ap (is_some_with (λ h. matches octets_before h hash)) (sym c.hash_label-label.ensures) ∙ sym c.is_match.ensures ∙ c.if-is_match.false in
     let none : is_some c.loop-listed.cover ≡ not c.is_none.result = c.is_none.ensures in
     let kept : (o : Option _) → o ≡ c.loop-listed.cover → whole ≡ option_or (option_map (λ r. see r.now) c.loop-listed.cover) rest
     → whole ≡ option_or (option_map (λ r. see r.now) o) rest =
     λ o e so. so ∙ sym (ap (λ q. option_or (option_map (λ r. see r.now) q) rest) e) in
     record {
-      matching = c.loop-listed.invariant.matching ∙ found_later matched see nsec3s at listed c.loop-listed-test.true c.listed-item.is apart;
+      matching = c.loop-listed.invariant.matching ∙ found_later t.matched see nsec3s at listed c.loop-listed-test.true c.listed-item.is apart;
       covering = elim c.if-is_none.branch [
         | then-is_none+then-is_cover w ↦
-            met_here covered see nsec3s at listed c.loop-listed-test.true c.listed-item.is
+            met_here t.covered see nsec3s at listed c.loop-listed-test.true c.listed-item.is
             (λ r. see r.now) c.loop-listed.cover whole c.loop-listed.invariant.covering
             (none ∙ ap not w.if-is_none.true) (ap (around listed.«data».next_owner) (sym c.hash_label-label.ensures)
             ∙ ap (λ next. around next label) (sym (w.as_slice.ensures.octets ∙ w.next_owner.ensures
@@ -60,13 +73,13 @@ loop-listed-preserved g c =
             ∙ sym (ap (λ q. option_or (option_map (λ r. see r.now) q) rest) w.cover-is)
         | else-is_none w ↦ kept c.if-is_none.cover w.cover-is (elim w.else-is_none.branch [
           | else-is_none-via-then-is_none+else-is_cover u ↦
-              met_later covered see nsec3s at listed c.loop-listed-test.true c.listed-item.is
+              met_later t.covered see nsec3s at listed c.loop-listed-test.true c.listed-item.is
               (λ r. see r.now) c.loop-listed.cover whole c.loop-listed.invariant.covering
               (ap (around listed.«data».next_owner) (sym c.hash_label-label.ensures)
               ∙ ap (λ next. around next label) (sym (u.as_slice.ensures.octets ∙ u.next_owner.ensures
               ∙ ap (λ d. d.next_owner) u.data.ensures)) ∙ sym u.is_cover.ensures ∙ u.if-is_cover.false)
           | else-is_none-via-else-is_none u ↦
-              met_before covered see nsec3s at listed c.loop-listed-test.true c.listed-item.is
+              met_before t.covered see nsec3s at listed c.loop-listed-test.true c.listed-item.is
               (λ r. see r.now) c.loop-listed.cover whole c.loop-listed.invariant.covering
               (none ∙ ap not u.if-is_none.false)
         ])
@@ -84,11 +97,10 @@ returns g c =
     let at = c.loop-listed.listed-index in
     let nsec3s = c.args.nsec3s.now in
     let hash = c.args.hash.now in
-    let matched = is_hash_match (g.A.ToName.labels c.args.apex.now) (parameters_of c.args.param.now) hash in
-    let covered = is_hash_cover (g.A.ToName.labels c.args.apex.now) (parameters_of c.args.param.now) hash in
+    let t = tests g (goal.at.returns g c).Start in
     let cover = option_map (λ r. see r.now) c.loop-listed.cover in
     record {
-      matching = sym (c.loop-listed.invariant.matching ∙ at_drop_all (λ ys. find matched (map see ys)) nsec3s at c.loop-listed-test.false);
+      matching = sym (c.loop-listed.invariant.matching ∙ at_drop_all (λ ys. find t.matched (map see ys)) nsec3s at c.loop-listed-test.false);
       covering = λ none. sym (c.loop-listed.invariant.covering
-          ∙ at_drop_all (λ ys. option_or cover (find covered (map see ys))) nsec3s at c.loop-listed-test.false ∙ or_none cover);
+          ∙ at_drop_all (λ ys. option_or cover (find t.covered (map see ys))) nsec3s at c.loop-listed-test.false ∙ or_none cover);
     }

@@ -1,11 +1,10 @@
 use Rattle.std.proofs.Common.{◌≡◌, ◌<◌, ◌*◌, ◌+◌, ◌/◌, ◌∙◌, sym}
 use Rattle.std.specs.Ordering.{nat_cmp}
 use Rattle.domain_octets.proofs.CodecLemmas.{digit_at}
-use Rattle.domain_checker.proofs.SpelledLemmas.{nothing_left, ends_alike, ends_before, equal_by, apart_by, compared_first}
-use Rattle.domain_checker.proofs.SpelledLemmas.{compared_narrow, compared_wide, compared_none, compared_apart, compared_end}
+use Rattle.domain_checker.proofs.SpelledLemmas.{nothing_left, ends_alike, ends_before, equal_by, apart_by, compared_first, compared_narrow, compared_wide}
+use Rattle.domain_checker.proofs.SpelledLemmas.{compared_none, compared_apart, compared_end}
 use Rattle.domain_checker.proofs.spelled.spelled_cmp.Goals as goal
-use Rattle.domain_checker.proofs.spelled.spelled_cmp.Goals.{After-digit_or_zero}
-use Rattle.domain_checker.proofs.spelled.spelled_cmp.Goals.{then-wider-lt256, else-wider-lt256+in-Some+else-ne}
+use Rattle.domain_checker.proofs.spelled.spelled_cmp.Goals.{After-digit_or_zero, then-wider-lt256, else-wider-lt256+in-Some+else-ne}
 
 pub loop-c-init : goal.loop-c-init
 loop-c-init c = compared_first c.args.label.now c.args.hash.now

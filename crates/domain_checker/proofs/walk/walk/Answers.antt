@@ -5,8 +5,8 @@ use Rattle.domain_base.specs.Name.{lowered, wire_of}
 use Rattle.domain_zone.proofs.NameLemmas.{below_itself}
 use Rattle.domain_nsec3.specs.View.{as_hashed_link}
 use Rattle.domain_checker.specs.HashedView.{HashedRecords, hashed_records}
-use Rattle.domain_checker.proofs.HashedWalkLemmas.{IsMissed, IsPassed, missed_here, none_first, none_left, passed_on}
-use Rattle.domain_checker.proofs.HashedWalkLemmas.{encloser_above, encloser_here, refused_here, wire_above, wire_shorter}
+use Rattle.domain_checker.proofs.HashedWalkLemmas.{IsMissed, IsPassed, missed_here, none_first, none_left, passed_on, encloser_above, encloser_here}
+use Rattle.domain_checker.proofs.HashedWalkLemmas.{refused_here, wire_above, wire_shorter}
 use Rattle.domain_checker.proofs.walk.walk.Given.{Over}
 use Rattle.domain_checker.proofs.walk.walk.Goals as goal
 use Rattle.domain_checker.proofs.walk.walk.Goals.{Start, After-skip-octets}

@@ -3,8 +3,8 @@ use Rattle.std.proofs.lemmas.Result.{err_from_is_err_and}
 use Rattle.domain_base.specs.Name.{lowered, same_name, wire_of}
 use Rattle.domain_checker.proofs.HashedWalkLemmas.{wire_above, wire_shorter}
 use Rattle.domain_checker.specs.HashedView.{links_with}
-use Rattle.domain_denier.proofs.PlacedLemmas.{IsAncestor, IsMissedAt, ancestor_above, ancestor_itself, hash_known, inside_at, missed_above}
-use Rattle.domain_denier.proofs.PlacedLemmas.{missed_here, none_placed, of_found, placed_above, placed_here, refused_at}
+use Rattle.domain_denier.proofs.PlacedLemmas.{IsAncestor, IsMissedAt, ancestor_above, ancestor_itself, hash_known, inside_at, missed_above, missed_here}
+use Rattle.domain_denier.proofs.PlacedLemmas.{none_placed, of_found, placed_above, placed_here, refused_at}
 use Rattle.domain_denier.proofs.encloser.find_encloser.Given.{Over}
 use Rattle.domain_denier.proofs.encloser.find_encloser.Goals as goal
 use Rattle.domain_denier.proofs.encloser.find_encloser.Goals.{After-skip-octets}

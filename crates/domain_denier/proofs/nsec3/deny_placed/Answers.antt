@@ -1,57 +1,62 @@
-use Rattle.std.proofs.Common.{◌≡◌, ◌<◌, length, Some, sym, subst, ◌∙◌, inl, inr}
+use Rattle.std.proofs.Common.{◌≡◌, ◌<◌, ℕ, length, slice_get, Some, sym, subst, ◌∙◌, inl, inr}
 use Rattle.domain_base.specs.Name.{last_labels}
+use Rattle.domain_nsec3.specs.Chain.{HashedLink}
+use Rattle.domain_answer.specs.declared.answer.Answer.TheVariants.{NoCloserName}
 use Rattle.domain_denier.specs.HashedPicked.{TellsOfName}
 use Rattle.domain_denier.specs.HashedSteps.{IsFirstDenial, IsOfHash}
 use Rattle.domain_denier.proofs.HashedPickLemmas.{IsAskedBelow, asked_below, first_there, name_there, plain_read, record_there, wildcard_read}
 use Rattle.domain_denier.proofs.nsec3.deny_placed.Given.{Over}
 use Rattle.domain_denier.proofs.nsec3.deny_placed.Goals as goal
-use Rattle.domain_denier.proofs.nsec3.deny_placed.Goals.{In-NoCloserName}
+use Rattle.domain_denier.proofs.nsec3.deny_placed.Goals.{Start, After-first_denial-first}
+
+-- what the record of the encloser and the cover say of the name, by its labels
+first : (g : Over) (c : After-first_denial-first g) (k : HashedLink) → slice_get c.args.chain.now.links c.args.encloser.place ≡ Some k
+    → IsFirstDenial c.args.apex.now c.args.chain.now.links k c.args.encloser (length (g.M.ToName.labels c.args.name.now)) c.args.rtype
+    c.first_denial-first.result
+first g c k there = rw c.count_labels.ensures.count at (c.first_denial-first.ensures k there)
+
+-- there is such a record
+known : (g : Over) (c : Start g) → (k : HashedLink) × (slice_get c.args.chain.now.links c.args.encloser.place ≡ Some k)
+known g c = record_there c.args.chain.now.links c.args.encloser.place c.requires.inside.place
 
 pub returns-in_default : goal.returns-in_default
 returns-in_default g c =
-    let links = c.args.chain.now.links in
-    let a = c.args.apex.now in
-    let f = c.args.encloser in
+    let here = (goal.at.returns-in_default g c).After-first_denial-first in
+    let k = known g (goal.at.returns-in_default g c).Start in
     let d = c.first_denial-first.result in
-    let k = record_there links c.args.encloser.place c.requires.inside.place in
     record {
-      there = first_there links a _ f c.requires.inside k.0 c.count_labels.result c.args.rtype d (c.first_denial-first.ensures k.0 k.1);
+      there = first_there c.args.chain.now.links c.args.apex.now _ c.args.encloser c.requires.inside k.0 _ c.args.rtype d (first g here k.0 k.1);
       read = λ L config whole placed.
-          plain_read _ _ f placed c.args.rtype d
-          (subst (λ n. IsFirstDenial a links placed.of.link f n c.args.rtype d) c.count_labels.ensures.count
-          (c.first_denial-first.ensures placed.of.link placed.of.there))
-          c.in_default.not-NoCloserName;
+          plain_read _ _ c.args.encloser placed c.args.rtype d (first g here placed.of.link placed.of.there) c.in_default.not-NoCloserName;
       err = tt;
       memory = λ e. absurd (cc);
     }
 
 -- the wildcard lies below the closest encloser
-asked : (g : Over) (c : In-NoCloserName g)
-    → IsAskedBelow c.args.apex.now (g.M.ToName.labels c.args.name.now) c.in-NoCloserName.count
-asked g c =
-    let links = c.args.chain.now.links in
-    let a = c.args.apex.now in
-    let f = c.args.encloser in
-    let d = c.first_denial-first.result in
-    let k = record_there links c.args.encloser.place c.requires.inside.place in
-    let first = subst (λ n. IsFirstDenial a links k.0 f n c.args.rtype d) c.count_labels.ensures.count (c.first_denial-first.ensures k.0 k.1) in
-    asked_below links a _ f c.requires.below c.requires.inside k.0 c.args.rtype c.in-NoCloserName.count (sym first.answer ∙ c.in-NoCloserName.is)
+asked : (g : Over) (c : After-first_denial-first g) (k : HashedLink) → slice_get c.args.chain.now.links c.args.encloser.place ≡ Some k
+    → (n : ℕ) → c.first_denial-first.result.answer ≡ NoCloserName n
+    → IsAskedBelow c.args.apex.now (g.M.ToName.labels c.args.name.now) n
+asked g c k there n is =
+    asked_below c.args.chain.now.links c.args.apex.now _ c.args.encloser c.requires.below c.requires.inside k c.args.rtype n
+    (sym (first g c k there).answer ∙ is)
 
 pub with_wildcard-requires-clause-counts : goal.with_wildcard-requires-clause-counts
-with_wildcard-requires-clause-counts g c = (asked g (goal.at.with_wildcard-requires-clause-counts g c).In-NoCloserName).less
+with_wildcard-requires-clause-counts g c =
+    let at = goal.at.with_wildcard-requires-clause-counts g c in
+    let k = known g at.Start in
+    (asked g at.After-first_denial-first k.0 k.1 c.in-NoCloserName.count c.in-NoCloserName.is).less
 
 pub returns-in-Ok-clause-there : goal.returns-in-Ok-clause-there
 returns-in-Ok-clause-there g c place (inl e) =
-    let links = c.args.chain.now.links in
-    let d = c.first_denial-first.result in
+    let at = goal.at.returns-in-Ok-clause-there g c in
+    let k = known g at.Start in
     let same = c.in-Ok.ensures.first in
-    let k = record_there links c.args.encloser.place c.requires.inside.place in
     let told : TellsOfName c.first_denial-first.result place = elim e [
       | inl h ↦ inl (sym same.0 ∙ h)
       | inr h ↦ inr (sym same.1 ∙ h)
     ] in
-    name_there links c.args.apex.now _ c.args.encloser c.requires.inside k.0 c.count_labels.result c.args.rtype d
-    (c.first_denial-first.ensures k.0 k.1) place told
+    name_there c.args.chain.now.links c.args.apex.now _ c.args.encloser c.requires.inside k.0 _ c.args.rtype c.first_denial-first.result
+    (first g at.After-first_denial-first k.0 k.1) place told
 returns-in-Ok-clause-there g c place (inr e) =
     let w = c.in-Ok.ensures.wildcard in
     let same : w.place ≡ place = let both : Some w.place ≡ Some place = sym w.role ∙ e in cc in
@@ -59,21 +64,19 @@ returns-in-Ok-clause-there g c place (inr e) =
 
 pub returns-in-Ok-clause-read : goal.returns-in-Ok-clause-read
 returns-in-Ok-clause-read g c L config whole placed =
-    let links = c.args.chain.now.links in
-    let a = c.args.apex.now in
-    let f = c.args.encloser in
     let d = c.first_denial-first.result in
-    let first = subst (λ n. IsFirstDenial a links placed.of.link f n c.args.rtype d) c.count_labels.ensures.count
-    (c.first_denial-first.ensures placed.of.link placed.of.there) in
+    let said = first g (goal.at.returns-in-Ok-clause-read g c).After-first_denial-first placed.of.link placed.of.there in
     let w = c.in-Ok.ensures.wildcard in
     let p = c.args.chain.now.param.parameters in
-    let of = subst (λ o. IsOfHash o p links w.value w.place w.is_match) (sym c.requires.apex) (w.of L config whole) in
-    wildcard_read _ _ f placed c.args.rtype d first c.in-NoCloserName.count c.in-NoCloserName.is c.in-Ok.denial
+    let of = subst (λ o. IsOfHash o p c.args.chain.now.links w.value w.place w.is_match) (sym c.requires.apex) (w.of L config whole) in
+    wildcard_read _ _ c.args.encloser placed c.args.rtype d said c.in-NoCloserName.count c.in-NoCloserName.is c.in-Ok.denial
     c.in-Ok.ensures.first.0 c.in-Ok.ensures.first.1 w.place w.role w.value w.known w.is_match of (w.answer of.link of.there)
 
 pub returns-in-Err-clause-err : goal.returns-in-Err-clause-err
 returns-in-Err-clause-err g c =
-    let below = asked g (goal.at.returns-in-Err-clause-err g c).In-NoCloserName in
+    let at = goal.at.returns-in-Err-clause-err g c in
+    let k = known g at.Start in
+    let below = asked g at.After-first_denial-first k.0 k.1 c.in-NoCloserName.count c.in-NoCloserName.is in
     elim c.in-Err.ensures.err [
       | inl full ↦ inl full
       | inr r ↦ inr (

@@ -4,9 +4,8 @@ use Rattle.domain_octets.specs.declared.codec.Codec.TheVariants.{Base32Hex}
 use Rattle.domain_octets.proofs.RoomLemmas.{build_stops, room_for_part, handed_on, empty_has_room}
 use Rattle.domain_octets.proofs.CodecLemmas.{digits_begin, digits_narrow, digits_wide, digits_stand, digits_all, digit_at, widens}
 use Rattle.domain_octets.proofs.decoding.build_base32.Given.{Over}
-use Rattle.domain_octets.proofs.decoding.build_base32.Goals.{After-base32_digit}
+use Rattle.domain_octets.proofs.decoding.build_base32.Goals.{After-base32_digit, then-wider-lt256, else-wider-lt256+in_ok-append_slice}
 use Rattle.domain_octets.proofs.decoding.build_base32.Goals as goal
-use Rattle.domain_octets.proofs.decoding.build_base32.Goals.{then-wider-lt256, else-wider-lt256+in_ok-append_slice}
 
 pub loop-c-init : goal.loop-c-init
 loop-c-init g c = record {

@@ -1,6 +1,5 @@
-use Rattle.std.proofs.Common.{◌≡◌, ◌∙◌, ◌++◌, ◌==◌, ap, arith, inl, inr, length, map, refl}
-use Rattle.std.proofs.Common.{string_bytes, subst, sym, vec_len, Err, IsErrAnd, IsErrOf, MatchResult}
-use Rattle.std.proofs.Common.{Ok, Option, Result}
+use Rattle.std.proofs.Common.{◌≡◌, ◌∙◌, ◌++◌, ◌==◌, ap, arith, inl, inr, length, map, refl, string_bytes, subst, sym, vec_len, Err, IsErrAnd, IsErrOf}
+use Rattle.std.proofs.Common.{MatchResult, Ok, Option, Result}
 use Rattle.std.proofs.lemmas.List.{length-map}
 use Rattle.std.specs.Str.Lines.{lines}
 use Rattle.std.specs.Io.KnownBytes.{Appends}
