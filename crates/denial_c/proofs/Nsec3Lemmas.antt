@@ -1,7 +1,7 @@
 -- Faults of NSEC3 records.
 use Rattle.std.proofs.Common.{◌≡◌, ◌⊎◌, inl, inr, ℕ, Bool, true, false, cond, List, [], ◌∷◌, map, refl, sym, subst, ap}
-use Rattle.std.specs.Prelude.{filter, ◌&&◌}
-use Rattle.std.proofs.lemmas.Bool.{eqb-true}
+use Rattle.std.specs.Prelude.{filter}
+use Rattle.std.proofs.lemmas.Bool.{eqb-true, and_parts}
 use Rattle.domain_base.specs.Words.{Name}
 use Rattle.domain_nsec3.specs.Chain.{HashedLink}
 use Rattle.domain_hasher.specs.declared.error.Nsec3HashError.{Nsec3HashError}
@@ -55,10 +55,6 @@ map_filter f q (x ∷ xs) =
       | false ↦ map_filter f q xs
     ]
 
-left : (a b : Bool) → (a && b) ≡ true → a ≡ true
-left true b e = refl
-left false b e = e
-
 -- the first of the records that are not to be ignored is by SHA-1, and so is what is taken without one
 pub first_by_sha1 : (a : Name) (ks : List HashedLink) → (first_parameters (filter (is_known a) ks)).algorithm ≡ 1
 first_by_sha1 a [] = refl
@@ -66,5 +62,5 @@ first_by_sha1 a (k ∷ ks) = here (is_known a k) refl (first_by_sha1 a ks)
   where
     here : (b : Bool) → is_known a k ≡ b → (first_parameters (filter (is_known a) ks)).algorithm ≡ 1
         → (first_parameters (cond b (k ∷ filter (is_known a) ks) (filter (is_known a) ks))).algorithm ≡ 1
-    here true known more = eqb-true k.parameters.algorithm 1 (left _ _ (left _ _ known))
+    here true known more = eqb-true k.parameters.algorithm 1 (and_parts _ _ (and_parts _ _ known).0).0
     here false known more = more

@@ -1,6 +1,6 @@
 -- Records of one owner and type that differ in TTL.
-use Rattle.std.proofs.Common.{◌≡◌, ◌⊎◌, ℕ, ◌-◌, ◌<◌, ◌≤◌, Bool, true, false, cond, not, ◌&&◌, ◌||◌, List, [], ◌∷◌, ◌++◌, map, length, refl, sym, ap, ◌∙◌, subst}
-use Rattle.std.proofs.Common.{inl, inr, arith, nat_eq, append_assoc, append-nil, length-append, Some, None, Option}
+use Rattle.std.proofs.Common.{◌≡◌, ℕ, ◌-◌, ◌<◌, ◌≤◌, Bool, true, false, cond, not, ◌&&◌, ◌||◌, List, [], ◌∷◌, ◌++◌, map, length, refl, sym, ap, ◌∙◌, subst, inl}
+use Rattle.std.proofs.Common.{inr, arith, nat_eq, append_assoc, append-nil, length-append, Some, None, Option}
 use Rattle.std.specs.Prelude.{filter, Contains}
 use Rattle.std.specs.List.{AllByRecursion, flat_map, list_any}
 use Rattle.std.proofs.lemmas.Bool.{and_from, and_parts, and_right, cases_Bool, eq-eqb, eqb-false, eqb-true, false≢true, not-false, not-true, or_left, or_parts}
@@ -13,7 +13,7 @@ use Rattle.domain_alike.specs.Covered.{covered_names}
 use Rattle.domain_alike.proofs.KeptLemmas.{is_unsigned, names_stay, stays, stays_by}
 use Rattle.domain_base.specs.Name.{same_name}
 use Rattle.domain_base.specs.Words.{Name}
-use Rattle.domain_dnssec.proofs.AmongLemmas.{any_two, contains_in, in_contains, in_filter, in_filtered, in_map, map_in}
+use Rattle.domain_dnssec.proofs.AmongLemmas.{any_two, contains_in, in_contains}
 use Rattle.domain_borrowed.specs.Data.{minimum_of, RawRecord, zone_of_raw}
 use Rattle.domain_borrowed.specs.Wire.{record_octets, IsRecord}
 use Rattle.domain_borrowed.proofs.WireLemmas.{same_record, some_octets}
@@ -26,6 +26,7 @@ use Rattle.domain_zone.proofs.OwnerLemmas.{in_any}
 use Rattle.domain_zone.proofs.PairLemmas.{In, all_in, all_from_in}
 use Rattle.domain_zone.proofs.TtlLemmas.{has_neighbour_clash, neighbours_tell, NeverDescend}
 use Rattle.domain_zone.proofs.ZoneLemmas.{all_front, any_none}
+use Rattle.domain_zone.proofs.FindLemmas.{in_filter, in_filtered, in_map, from_map, in_either}
 use Rattle.denial_c.specs.Chains.{Sorts}
 use Rattle.denial_c.specs.Given.{AreGiven, IsOfClass}
 use Rattle.denial_c.specs.Uneven.{is_in_set, is_other, set_of, IsFirstClash, IsFirstUneven, IsUnevenAt}
@@ -41,11 +42,6 @@ in_middle (z ∷ xs) x ys = inr (in_middle xs x ys)
 in_next : {X : Type 0} (xs : List X) (w x : X) (ys : List X) → In x (xs ++ w ∷ x ∷ ys)
 in_next [] w x ys = inr (inl refl)
 in_next (z ∷ xs) w x ys = inr (in_next xs w x ys)
-
-in_either : {X : Type 0} (xs ys : List X) (x : X) → In x (xs ++ ys) → In x xs ⊎ In x ys
-in_either [] ys x i = inr i
-in_either (z ∷ xs) ys x (inl e) = inl (inl e)
-in_either (z ∷ xs) ys x (inr i) = elim (in_either xs ys x i) [ inl j ↦ inl (inr j) | inr j ↦ inr j ]
 
 -- ---- neighbours
 
@@ -214,7 +210,7 @@ seen_of : (given : List RawRecord) (n : Name) (t : ℕ) (z : ZoneRecord) → In 
 seen_of given n t z i =
     let f = in_filter (λ y. nat_eq y.rtype t) (records_of (zone given) n) z i in
     let g = in_filter (λ r. same_name r.owner n) (zone given) z f.0 in
-    let m = map_in see given z g.0 in
+    let m = from_map see given z g.0 in
     record { raw = m.0; is = m.1; sees = m.2; owner = g.1; type = f.1 }
 
 -- those of the sorted set are among those that were given

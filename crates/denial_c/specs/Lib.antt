@@ -1,6 +1,7 @@
 pub mod Among
 pub mod Numbers
 pub mod Result
+pub mod Question
 pub mod Judged
 pub mod ChainNumbers
 pub mod Given

@@ -11,7 +11,7 @@ use Rattle.denial_program.specs.Words.{words, IsSkipped}
 use Rattle.denial_program.specs.Listing.{Give, IsLineRecord, IsGood, IsBad, IsFirstBad}
 use Rattle.denial_program.proofs.LineSteps.{lines_step}
 
-taken_some : (bs : List ℕ) → 0 < length (take_through 10 bs) → 0 < length bs
+pub taken_some : (bs : List ℕ) → 0 < length (take_through 10 bs) → 0 < length bs
 taken_some [] h = h
 taken_some (x ∷ xs) h = omega arith
 

@@ -30,7 +30,7 @@ appends_more (Some x) (Some y) None t u h k = absurd k
 appends_more (Some x) (Some y) (Some z) t u h k = k ∙ ap (λ l. l ++ u) h ∙ append_assoc x t u
 
 -- the parts of a line in the grouping in which they are written
-parts_of_line : (owner ttl class kind text : Octets)
+pub parts_of_line : (owner ttl class kind text : Octets)
     → (owner ++ codes ".") ++ (codes " " ++ (ttl ++ (codes " " ++ (class ++ (codes " " ++ (kind ++ (codes " " ++ text)))))))
     ≡ (owner ++ codes ".") ++ codes " " ++ ttl ++ codes " " ++ class ++ codes " " ++ kind ++ codes " " ++ text
 parts_of_line owner ttl class kind text = simp append_assoc

@@ -25,14 +25,14 @@ use Rattle.domain_nsec3.specs.Ancestors.{IsListOf}
 use Rattle.domain_nsec3.specs.Config.{ChainConfig, Hash, HashAnswer, hash_name, hash_of}
 use Rattle.domain_nsec3.specs.Faults.{HasCollision}
 use Rattle.domain_nsec3.specs.Owners.{is_chain_name}
-use Rattle.domain_nsec3.proofs.ListLemmas.{sorted}
+use Rattle.domain_nsec3.proofs.ListLemmas.{sorted, ascending, ascending_both}
 use Rattle.domain_hasher.specs.declared.error.Nsec3HashError.TheVariants as hash_error
 use Rattle.domain_hasher.specs.declared.error.Nsec3HashError.{Nsec3HashError}
+use Rattle.domain_zone.proofs.FindLemmas.{in_middle, in_either, in_front}
 use Rattle.domain_alike.specs.Alike.{pair_of, AreAlike, IsAlike, IsFirstAlike, IsFirstPair, IsFirstRefusal, Pair}
 use Rattle.domain_alike.specs.declared.alike.Alike.{Alike}
 use Rattle.domain_alike.specs.AlikeSteps.{first_with, is_hash, pair_with, IsRefusedAmong, Met}
 use Rattle.domain_alike.specs.AlikeSteps.Met.{more, nothing}
-use Rattle.domain_alike.proofs.GatherLemmas.{ascending, ascending_both, in_both, in_last, in_left}
 
 -- ---- hashes
 
@@ -174,11 +174,11 @@ module _ (hash : Hash) (names : List Name) (pairs : List Pair) (n : Name) (h : O
 
   wider : (p : Pair) → IsPair hash names p → IsPair hash (names ++ n ∷ []) p
   wider p t = record {
-    later = in_left names (n ∷ []) p.0 t.later;
-    earlier = in_left names (n ∷ []) p.1 t.earlier;
+    later = in_front names (n ∷ []) p.0 t.later;
+    earlier = in_front names (n ∷ []) p.1 t.earlier;
     alike = t.alike;
     apart = t.apart;
-    first = λ y i e. elim (in_both names (n ∷ []) y i) [
+    first = λ y i e. elim (in_either names (n ∷ []) y i) [
       | inl j ↦ t.first y j e
       | inr (inl same) ↦ subst (λ k. before k p.1 ≡ false) same (before_order.one_way p.1 n (before_n p.1 t.earlier))
       | inr (inr none) ↦ absurd none
@@ -195,14 +195,14 @@ module _ (hash : Hash) (names : List Name) (pairs : List Pair) (n : Name) (h : O
       → list_any (λ (p : Pair). same_name p.0 x) (pairs ++ rest) ≡ true
   each_with rest new x y i j b e =
       list_any-append (λ (p : Pair). same_name p.0 x) pairs rest
-      ∙ elim (in_both names (n ∷ []) x i) [
+      ∙ elim (in_either names (n ∷ []) x i) [
         | inr (inr none) ↦ absurd none
-        | inl k ↦ elim (in_both names (n ∷ []) y j) [
+        | inl k ↦ elim (in_either names (n ∷ []) y j) [
           | inl l ↦ or_left (list_any (λ (p : Pair). same_name p.0 x) pairs) (list_any (λ (p : Pair). same_name p.0 x) rest) (old.each x y k l b e)
           | inr (inl same) ↦ absurd (false≢true (sym (before_order.one_way x n (before_n x k)) ∙ ap (λ m. before m x) same ∙ b))
           | inr (inr none) ↦ absurd none
         ]
-        | inr (inl at) ↦ elim (in_both names (n ∷ []) y j) [
+        | inr (inl at) ↦ elim (in_either names (n ∷ []) y j) [
           | inl l ↦ or_right (list_any (λ (p : Pair). same_name p.0 x) pairs) (list_any (λ (p : Pair). same_name p.0 x) rest)
               (subst (λ m. list_any (λ (p : Pair). same_name p.0 m) rest ≡ true) at (new y l (e ∙ ap (hash_name hash) (sym at))))
           | inr (inl same) ↦ absurd (false≢true (sym (irreflexive before_order n) ∙ ap (before n) at ∙ ap (λ m. before m x) same ∙ b))
@@ -227,11 +227,11 @@ module _ (hash : Hash) (names : List Name) (pairs : List Pair) (n : Name) (h : O
       let found = found_in test names f e in
       let alike = hash_is (hash_name hash f) h found.1 ∙ sym is in
       let new : IsPair hash (names ++ n ∷ []) (n, f) = record {
-        later = in_last names n;
-        earlier = in_left names (n ∷ []) f found.0;
+        later = in_middle names n [];
+        earlier = in_front names (n ∷ []) f found.0;
         alike = alike;
         apart = before_n f found.0;
-        first = λ y i w. elim (in_both names (n ∷ []) y i) [
+        first = λ y i w. elim (in_either names (n ∷ []) y i) [
           | inl j ↦ found_first test names f y e up j (passes y w)
           | inr (inl same) ↦ subst (λ k. before k f ≡ false) same (before_order.one_way f n (before_n f found.0))
           | inr (inr none) ↦ absurd none
@@ -306,7 +306,7 @@ module _ (L : List ZoneRecord) (a : Name) (config : ChainConfig) (names : List N
         first = λ y c b.
             let m = listed y c in
             let low : before m.0 r.name ≡ true = before_left m.0 y r.name (one_lowered m.0 y m.2) ∙ b in
-            let known : IsHashed config.hash m.0 = elim (in_both r.front (r.name ∷ r.back) m.0 (subst (In m.0) r.are m.1)) [
+            let known : IsHashed config.hash m.0 = elim (in_either r.front (r.name ∷ r.back) m.0 (subst (In m.0) r.are m.1)) [
               | inl i ↦ all_in (IsHashed config.hash) r.front m.0 r.hashed i
               | inr (inl is) ↦ absurd (false≢true (sym (irreflexive before_order r.name) ∙ ap (λ k. before k r.name) is ∙ low))
               | inr (inr i) ↦ absurd (false≢true (sym (before_order.one_way r.name m.0
@@ -314,10 +314,6 @@ module _ (L : List ZoneRecord) (a : Name) (config : ChainConfig) (names : List N
             ] in
             (known.0, sym (one_hash m.0 y m.2) ∙ known.1);
       }
-    where
-      in_middle : (xs : List Name) (n : Name) (ys : List Name) → In n (xs ++ n ∷ ys)
-      in_middle [] n ys = inl refl
-      in_middle (x ∷ xs) n ys = inr (in_middle xs n ys)
 
 -- ---- the first pair
 

@@ -4,8 +4,6 @@ use Rattle.std.proofs.Common.{inr, append-nil}
 use Rattle.std.specs.Prelude.{All, filter, nat_le, nat_lt}
 use Rattle.std.specs.List.{AllByRecursion, list_any}
 use Rattle.std.specs.List.Sorted.{IsStrictlySortedBy}
-use Rattle.std.specs.Ordering.{is_lt}
-use Rattle.std.specs.declared.cmp.Ordering.TheVariants.{Less}
 use Rattle.std.proofs.lemmas.Bool.{cases_Bool, false≢true, leb-true, and_parts, and_from, or_cases, or_left, or_right}
 use Rattle.std.proofs.lemmas.Bool.Decides.{nat_tests}
 use Rattle.std.proofs.lemmas.List.Elements.{recursion_from_All, All-from_recursion}
@@ -22,11 +20,12 @@ use Rattle.domain_zone.proofs.OwnerLemmas.{any_in, in_any, owners_are, owners_as
 use Rattle.domain_zone.proofs.PairLemmas.{In, IsAscending, all_in, le_lt}
 use Rattle.domain_zone.proofs.SharedLemmas.{either_way}
 use Rattle.domain_zone.proofs.ZoneLemmas.{all_both, all_filter, after_or, weaker}
+use Rattle.domain_zone.proofs.FindLemmas.{in_either, in_middle}
 use Rattle.domain_nsec3.specs.Ancestors.{above_with_more, IsListOf}
 use Rattle.domain_nsec3.specs.Config.{ChainConfig, excludes}
 use Rattle.domain_nsec3.specs.Owners.{is_chain_name, is_empty, is_original_owner, is_unsigned_cut, original_owners}
 use Rattle.domain_nsec3.proofs.AncestorLemmas.{are_above, less, not_less, IsAbove}
-use Rattle.domain_nsec3.proofs.ListLemmas.{sorted}
+use Rattle.domain_nsec3.proofs.ListLemmas.{sorted, ascending, ascending_both}
 use Rattle.domain_nsec3.proofs.OwnerLemmas.{existing_are}
 use Rattle.domain_nsec3.proofs.OutcomeLemmas.{original_below}
 use Rattle.domain_nsec3.proofs.SharedLemmas.{Shares, at_length, cons_below}
@@ -34,30 +33,6 @@ use Rattle.domain_alike.specs.AlikeSteps.{up_with_more}
 use Rattle.domain_alike.specs.Covered.{covered_names}
 
 -- ---- lists
-
-pub ascending : (ks : List Name) → IsStrictlySortedBy canonical_cmp ks → IsAscending before ks
-unfolding IsStrictlySortedBy
-ascending [] h = tt
-ascending (k ∷ ks) h = (weaker (λ y. canonical_cmp k y ≡ Less) (λ y. before k y ≡ true) (λ y e. ap is_lt e) ks h.0, ascending ks h.1)
-
-pub ascending_both : (xs ys : List Name) → IsAscending before xs → IsAscending before ys
-    → AllByRecursion (λ x. AllByRecursion (λ y. before x y ≡ true) ys) xs → IsAscending before (xs ++ ys)
-ascending_both [] ys h k across = k
-ascending_both (x ∷ xs) ys h k across = (all_both (λ y. before x y ≡ true) xs ys h.0 across.0, ascending_both xs ys h.1 k across.1)
-
-pub in_both : {X : Type 0} (xs ys : List X) (x : X) → In x (xs ++ ys) → In x xs ⊎ In x ys
-in_both [] ys x i = inr i
-in_both (y ∷ xs) ys x (inl e) = inl (inl e)
-in_both (y ∷ xs) ys x (inr i) = elim (in_both xs ys x i) [ inl h ↦ inl (inr h) | inr h ↦ inr h ]
-
-pub in_left : {X : Type 0} (xs ys : List X) (x : X) → In x xs → In x (xs ++ ys)
-in_left [] ys x i = absurd i
-in_left (y ∷ xs) ys x (inl e) = inl e
-in_left (y ∷ xs) ys x (inr i) = inr (in_left xs ys x i)
-
-pub in_last : {X : Type 0} (xs : List X) (x : X) → In x (xs ++ x ∷ [])
-in_last [] x = inl refl
-in_last (y ∷ xs) x = inr (in_last xs x)
 
 -- at or below a name is at or below one that is the same
 below_same : (n m x : Name) → same_name m x ≡ true → is_at_or_below n m ≡ true → is_at_or_below n x ≡ true
@@ -216,10 +191,10 @@ module _ {a : Name} {left passed names : List Name} {p o : Name} (s : ℕ) (h : 
         (λ n. (is_at_or_below n a ≡ true) × ((n ≡ a) ⊎ (list_any (λ q. is_at_or_below q n) (passed ++ o ∷ []) ≡ true)))
         (λ n t. (t.0, elim t.1 [ inl e ↦ inl e | inr e ↦ inr (old_more n e) ])) names h.sound)
         (weaker (IsUp s o) (λ n. (is_at_or_below n a ≡ true) × ((n ≡ a) ⊎ (list_any (λ q. is_at_or_below q n) (passed ++ o ∷ []) ≡ true)))
-        (λ m u. (new_below m u, inr (in_any (λ q. is_at_or_below q m) (passed ++ o ∷ []) o (in_last passed o) u.0)))
+        (λ m u. (new_below m u, inr (in_any (λ q. is_at_or_below q m) (passed ++ o ∷ []) o (in_middle passed o []) u.0)))
         (up_with_more s o) (up_are s o));
     held = held_more;
-    each = λ q i e down up. elim (in_both passed (o ∷ []) q i) [
+    each = λ q i e down up. elim (in_either passed (o ∷ []) q i) [
       | inl j ↦ kept e (h.each q j e down up)
       | inr (inl is) ↦ held_more e (ap (λ k. is_at_or_below k e) is ∙ down) up
       | inr (inr none) ↦ absurd none

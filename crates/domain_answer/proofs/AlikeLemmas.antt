@@ -1,5 +1,5 @@
 -- What NSEC records answer does not depend on TTLs, classes and the case of letters.
-use Rattle.std.proofs.Common.{◌≡◌, ℕ, Bool, cond, not, ◌&&◌, ◌||◌, List, [], ◌∷◌, length, refl, ◌∙◌, Option, Some, None}
+use Rattle.std.proofs.Common.{◌≡◌, ℕ, Bool, cond, not, ◌&&◌, ◌||◌, List, length, refl, ◌∙◌, Option, Some, None}
 use Rattle.std.specs.Prelude.{◌==◌}
 use Rattle.std.specs.List.{find}
 use Rattle.domain_base.specs.Name.{is_at_or_below, is_strictly_below, lowered, last_labels}
@@ -14,7 +14,7 @@ use Rattle.domain_zone.proofs.NameLemmas.{lowered_below, one_lowered, same_lower
 use Rattle.domain_nsec.specs.Chain.{Link}
 use Rattle.domain_checker.specs.Alike.{ArePaired, IsAlike}
 use Rattle.domain_checker.specs.Reading.{is_at_cut, is_cover, is_match}
-use Rattle.domain_checker.proofs.AlikeLemmas.{is_cover_alike, is_match_alike, says_alike}
+use Rattle.domain_checker.proofs.AlikeLemmas.{is_cover_alike, is_match_alike, says_alike, shared_alike}
 use Rattle.domain_checker.proofs.PairedLemmas.{OptionsPaired, any_alike, find_alike}
 use Rattle.domain_checker.proofs.EncloserLemmas.{same_count}
 use Rattle.domain_answer.specs.declared.answer.Answer.TheVariants.{OutsideZone, AtParent, Referral, Redirected, Has, NoDs, Alias, NoData, Wildcard}
@@ -23,10 +23,6 @@ use Rattle.domain_answer.specs.Proved.{is_missing, needs_no_records, proved_answ
 use Rattle.domain_answer.specs.Reading.{absent_answer, cover_answer, listed_answer, listed_both, match_answer, owner_answer, reading, tells_occluded}
 use Rattle.domain_answer.specs.Reading.{wildcard_both, wildcard_cover_answer, wildcard_match_answer}
 use Rattle.domain_answer.specs.ZoneAnswer.{encloser, is_at_parent, wildcard_below, zone_answer}
-
-shared_alike : (x y z : Name) → lowered y ≡ lowered z → shared x y ≡ shared x z
-shared_alike [] y z e = refl
-shared_alike (l ∷ x) y z e = λ i. cond (lowered_below (e i) (lowered (l ∷ x))) (l ∷ x) (shared_alike x y z e i)
 
 -- ---- one record
 

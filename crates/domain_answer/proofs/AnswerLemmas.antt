@@ -15,11 +15,11 @@ use Rattle.domain_zone.specs.Zone.{ZoneRecord, is_occluded, is_unoccluded, is_zo
 use Rattle.domain_zone.proofs.NameLemmas.{below_parent, below_trans, one_lowered, same_itself}
 use Rattle.domain_zone.proofs.PairLemmas.{In}
 use Rattle.domain_zone.proofs.OwnerLemmas.{below_occluder}
+use Rattle.domain_zone.proofs.FindLemmas.{Stands, stands_all}
 use Rattle.domain_nsec.specs.Chain.{Link}
 use Rattle.domain_checker.specs.Reading.{is_cover, is_match}
 use Rattle.domain_checker.specs.Verdict.{has_match_or_cover}
 use Rattle.domain_checker.proofs.EncloserLemmas.{closest_is, cut_same, exists_same, top_occluder, same_count, strictly_trans}
-use Rattle.domain_checker.proofs.FindLemmas.{Stands, stands_all}
 use Rattle.domain_checker.proofs.MeantLemmas.{BitmapsAreSets, ChainLaws, IgnoresCase, IsMeant, apex_exists, cover_of, match_of, silent, covered_encloser}
 use Rattle.domain_checker.proofs.MeantLemmas.{covered_under, covered_unowned, matched_high, matched_same}
 use Rattle.domain_answer.specs.declared.answer.Answer.{Answer}

@@ -14,11 +14,11 @@ use Rattle.domain_zone.specs.Zone.{ZoneRecord, OwnersNeverDescend, has_type, is_
 use Rattle.domain_zone.proofs.NameLemmas.{one_lowered, below_itself, lowered_below}
 use Rattle.domain_zone.proofs.PairLemmas.{In}
 use Rattle.domain_zone.proofs.OwnerLemmas.{in_any}
+use Rattle.domain_zone.proofs.FindLemmas.{in_at}
 use Rattle.domain_nsec.specs.Chain.{Link, IsChain, is_listed, nsec_lists}
 use Rattle.domain_nsec.specs.declared.config.GenerateNsecConfig.{GenerateNsecConfig}
 use Rattle.domain_checker.specs.Reading.{is_at_cut}
 use Rattle.domain_checker.proofs.EncloserLemmas.{cut_same, owner_owns}
-use Rattle.domain_checker.proofs.FindLemmas.{in_at}
 use Rattle.domain_checker.proofs.MeantLemmas.{BitmapsAreSets, ChainLaws, IgnoresCase, IsMeant, cut_at, ends, meant_by, owner_low, type_at, covered_no_owner}
 use Rattle.domain_checker.proofs.MeantLemmas.{covered_occluded, matched_low, matched_same}
 use Rattle.domain_answer.specs.TypesAnswer.{is_of_child}

@@ -8,10 +8,9 @@ use Rattle.domain_base.specs.Words.{Label, Name}
 use Rattle.domain_zone.specs.Covering.{covers, matches}
 use Rattle.domain_zone.specs.Enclosers.{exists_over, longer, shared}
 use Rattle.domain_zone.proofs.NameLemmas.{before_right, before_order, below_between, below_from, below_itself, below_longer, below_parent, below_root}
-use Rattle.domain_zone.proofs.NameLemmas.{below_trans, lowered_below, one_lowered, same_lowered}
+use Rattle.domain_zone.proofs.NameLemmas.{strictly_longer, strictly_from, below_trans, lowered_below, one_lowered, same_lowered}
 use Rattle.domain_checker.specs.Verdict.{closest_encloser}
 use Rattle.domain_checker.proofs.SharedLemmas.{shared_within}
-use Rattle.domain_checker.proofs.EncloserLemmas.{strictly_from, strictly_longer}
 
 -- ---- names that are the same, and names below each other
 

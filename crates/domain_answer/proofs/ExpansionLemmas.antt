@@ -15,6 +15,7 @@ use Rattle.domain_zone.specs.Zone.{ZoneRecord}
 use Rattle.domain_zone.proofs.NameLemmas.{below_itself, below_longer, below_parent, below_trans}
 use Rattle.domain_zone.proofs.PairLemmas.{In, all_in}
 use Rattle.domain_zone.proofs.OwnerLemmas.{any_in, in_any}
+use Rattle.domain_zone.proofs.FindLemmas.{any_none, find_none, find_some}
 use Rattle.domain_nsec3.specs.Chain.{HashedLink, IsHashedChain}
 use Rattle.domain_nsec3.specs.Config.{ChainConfig}
 use Rattle.domain_nsec3.specs.Meaning.{IsAlone}
@@ -25,7 +26,6 @@ use Rattle.domain_checker.specs.HashedView.{HashedRecords, chain_records, first_
 use Rattle.domain_checker.specs.HashedVerdict.{is_covered, is_ok_with}
 use Rattle.domain_checker.proofs.HashedVerdictLemmas.{as_chain}
 use Rattle.domain_checker.proofs.EncloserLemmas.{closest_is}
-use Rattle.domain_checker.proofs.FindLemmas.{any_none, find_none, find_some}
 use Rattle.domain_answer.specs.declared.answer.Answer.{Answer}
 use Rattle.domain_answer.specs.declared.answer.Answer.TheVariants.{MayBeUnsigned, NoCloserName, NotProven}
 use Rattle.domain_answer.specs.Expansion.{ExpansionRestsOn, IsExpansionAnswered, IsExpansionRead, closer_name, closer_told, is_expanded, proved_expansion}

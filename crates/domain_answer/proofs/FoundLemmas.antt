@@ -16,11 +16,11 @@ use Rattle.domain_zone.specs.Covering.{covers, matches}
 use Rattle.domain_zone.specs.Enclosers.{longer, shared}
 use Rattle.domain_zone.proofs.NameLemmas.{below_longer, below_trans, same_is}
 use Rattle.domain_zone.proofs.SharedLemmas.{either_way, shared_is}
+use Rattle.domain_zone.proofs.FindLemmas.{find_some}
 use Rattle.domain_checker.proofs.SharedLemmas.{longer_length, shared_length}
 use Rattle.domain_nsec.specs.Chain.{Link}
 use Rattle.domain_checker.specs.Reading.{is_cover, is_match}
 use Rattle.domain_checker.specs.Verdict.{is_inside}
-use Rattle.domain_checker.proofs.FindLemmas.{find_some}
 use Rattle.domain_checker.proofs.FirstLemmas.{match_is_tie}
 use Rattle.domain_answer.specs.Found.{IsFound}
 

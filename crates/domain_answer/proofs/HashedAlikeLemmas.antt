@@ -12,11 +12,10 @@ use Rattle.domain_nsec3.specs.Config.{ChainConfig}
 use Rattle.domain_nsec3.specs.Owners.{nsec3_lists}
 use Rattle.domain_checker.specs.Alike.{ArePaired, IsHashedAlike}
 use Rattle.domain_checker.specs.HashedEncloser.{Encloser, IsFoundEncloser, encloser_is_cut, next_cover}
-use Rattle.domain_checker.specs.HashedList.{is_hash_cover, is_hash_match}
 use Rattle.domain_checker.specs.HashedView.{HashedRecords, chain_records, first_cover, first_match, with_links}
-use Rattle.domain_checker.specs.HashedVerdict.{IsFirst, next_closer}
-use Rattle.domain_checker.proofs.HashedAlikeLemmas.{covered_alike, hash_cover_alike, hash_match_alike, matched_alike}
-use Rattle.domain_checker.proofs.PairedLemmas.{OptionsPaired, find_alike}
+use Rattle.domain_checker.specs.HashedVerdict.{next_closer}
+use Rattle.domain_checker.proofs.HashedAlikeLemmas.{covered_alike, matched_alike, matching, covering, found_alike, first_alike}
+use Rattle.domain_checker.proofs.PairedLemmas.{OptionsPaired}
 use Rattle.domain_answer.specs.declared.answer.Answer.{Answer}
 use Rattle.domain_answer.specs.declared.answer.Answer.TheVariants.{Referral, Redirected, Has, NoDs, Alias, NoData, Wildcard, WildcardAlias, WildcardNoData}
 use Rattle.domain_answer.specs.declared.answer.Answer.TheVariants.{MayBeUnsigned, NoCloserName, NotProven}
@@ -76,26 +75,9 @@ module _ (R : HashedRecords) (ls : List HashedLink) (alike : ArePaired IsHashedA
   abbrev S : HashedRecords
   S = with_links R ls
 
-  matching : (v : Octets) → BothAlike (first_match R v) (first_match S v)
-  matching v = find_alike IsHashedAlike (is_hash_match R.apex R.parameters v) (λ k l h. hash_match_alike R.apex R.parameters k l h v) R.links ls alike
-
-  covering : (v : Octets) → BothAlike (first_cover R v) (first_cover S v)
-  covering v = find_alike IsHashedAlike (is_hash_cover R.apex R.parameters v) (λ k l h. hash_cover_alike R.apex R.parameters k l h v) R.links ls alike
-
   next_cover_alike : (next : Option Octets) → BothAlike (next_cover R next) (next_cover S next)
   next_cover_alike None = tt
-  next_cover_alike (Some v) = covering v
-
-  -- the first match in the one list, and in the other
-  found_alike : (v : Octets) (k : HashedLink) → first_match R v ≡ Some k
-      → (l : HashedLink) × IsHashedAlike k l × (first_match S v ≡ Some l)
-  found_alike v k e =
-      by (first_match S v) refl (subst (λ o. BothAlike o (first_match S v)) e (matching v))
-    where
-      by : (o : Option HashedLink) → first_match S v ≡ o → BothAlike (Some k) (first_match S v)
-          → (l : HashedLink) × IsHashedAlike k l × (first_match S v ≡ Some l)
-      by None f h = absurd (subst (BothAlike (Some k)) f h)
-      by (Some l) f h = (l, subst (BothAlike (Some k)) f h, f)
+  next_cover_alike (Some v) = covering R ls alike v
 
   pub expansion_alike : (x : Name) (n : ℕ) (answer : Answer) → IsExpansionRead R x n answer → IsExpansionRead S x n answer
   expansion_alike x n answer r =
@@ -103,20 +85,17 @@ module _ (R : HashedRecords) (ls : List HashedLink) (alike : ArePaired IsHashedA
         value = r.value;
         known = r.known;
         says = r.says ∙ closer_alike n (first_match R r.value) (first_match S r.value)
-            (first_cover R r.value) (first_cover S r.value) (matching r.value) (covering r.value);
+            (first_cover R r.value) (first_cover S r.value) (matching R ls alike r.value) (covering R ls alike r.value);
       }
 
   module _ (x : Name) (t : ℕ) where
-    first_alike : (d : Name) → IsFirst R x d → IsFirst S x d
-    first_alike d first = λ y up below. let f = first y up below in (f.0, f.1, sym (matched_alike R ls alike y) ∙ f.2)
-
     read_on : (first answer : Answer) → IsReadOn R x t first answer → IsReadOn S x t first answer
     read_on (NoCloserName n) answer r =
         record {
           value = r.value;
           known = r.known;
           says = r.says ∙ wildcard_alike n t (first_match R r.value) (first_match S r.value)
-              (first_cover R r.value) (first_cover S r.value) (matching r.value) (covering r.value);
+              (first_cover R r.value) (first_cover S r.value) (matching R ls alike r.value) (covering R ls alike r.value);
         }
     read_on first answer r = r
 
@@ -129,7 +108,7 @@ module _ (R : HashedRecords) (ls : List HashedLink) (alike : ArePaired IsHashedA
           ends = ends;
         }
     read_found answer (Some e) is ends =
-        let other = found_alike is.value e.link is.found in
+        let other = found_alike R ls alike is.value e.link is.found in
         let cover = next_cover S is.next in
         let same = encloser_answer_alike R.apex (length x) t e.count e.link other.0 other.1 e.cover cover
         (subst (λ o. BothAlike o (next_cover S is.next)) (sym is.covers) (next_cover_alike is.next)) in
@@ -142,7 +121,7 @@ module _ (R : HashedRecords) (ls : List HashedLink) (alike : ArePaired IsHashedA
               above = is.first.above;
               within = is.first.within;
               found = sym (matched_alike R ls alike is.name) ∙ is.first.found;
-              first = first_alike is.name is.first.first;
+              first = first_alike R ls alike x is.name is.first.first;
             };
             value = is.value;
             known = is.known;

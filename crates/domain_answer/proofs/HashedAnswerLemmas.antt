@@ -13,10 +13,12 @@ use Rattle.domain_bitmap.specs.Blocks.{contains_type}
 use Rattle.domain_chain_rdata.specs.OptOut.{is_opt_out}
 use Rattle.domain_zone.specs.Enclosers.{exists_over, IsClosestEncloser}
 use Rattle.domain_zone.specs.Zone.{ZoneRecord, has_type, is_occluded, is_zone_cut, may_list, owns, records_of, unoccluded_owners}
-use Rattle.domain_zone.proofs.NameLemmas.{one_lowered, same_lowered, below_itself, below_trans, below_longer, below_length, below_parent}
+use Rattle.domain_zone.proofs.NameLemmas.{one_lowered, same_lowered, below_itself, below_trans, below_longer, below_length, below_parent, strictly_longer}
+use Rattle.domain_zone.proofs.NameLemmas.{strictly_from, same_length}
 use Rattle.domain_zone.proofs.PairLemmas.{In, all_in}
 use Rattle.domain_zone.proofs.OwnerLemmas.{any_in, in_any, below_occluder}
 use Rattle.domain_zone.proofs.ZoneLemmas.{same_back}
+use Rattle.domain_zone.proofs.FindLemmas.{any_none, in_filter, find_some, find_none}
 use Rattle.domain_nsec3.specs.Chain.{HashedLink}
 use Rattle.domain_nsec3.specs.Config.{ChainConfig, hash_name}
 use Rattle.domain_nsec3.specs.Meaning.{IsAlone}
@@ -27,9 +29,7 @@ use Rattle.domain_checker.specs.HashedReading.{IsNextHash}
 use Rattle.domain_checker.specs.HashedView.{HashedRecords, chain_records}
 use Rattle.domain_checker.specs.HashedVerdict.{is_below_chain_cut, is_covered, is_matched, is_ok_with, next_closer}
 use Rattle.domain_checker.proofs.CutLemmas.{below_cut, cut_above, cut_apart, not_below}
-use Rattle.domain_checker.proofs.EncloserLemmas.{apex_from, closest_is, cut_same, exists_same, owner_unoccluded, same_length, same_count, strictly_longer}
-use Rattle.domain_checker.proofs.EncloserLemmas.{strictly_from}
-use Rattle.domain_checker.proofs.FindLemmas.{any_none, in_filter, find_some, find_none}
+use Rattle.domain_checker.proofs.EncloserLemmas.{apex_from, closest_is, cut_same, exists_same, owner_unoccluded, same_count}
 use Rattle.domain_checker.proofs.HashedVerdictLemmas.{as_chain}
 use Rattle.domain_checker.proofs.HashedEncloserLemmas.{cut_counted, itself_counted}
 use Rattle.domain_checker.proofs.HashedWalkLemmas.{closer_is}
@@ -154,7 +154,7 @@ module _ (L : List ZoneRecord) (a : Name) (config : ChainConfig) (links : List H
     closest = encloser_is x low
 
     en_low : is_at_or_below (hashed_encloser L a config x) a ≡ true
-    en_low = (and_parts (is_at_or_below en a) (list_any (λ n. is_at_or_below n en) owners) closest.found).0
+    en_low = encloser_low x low
 
     module _ (t : ℕ) (bound : t < 65536) (apart : is_at_parent a x t ≡ false) where
       abbrev zone : Answer

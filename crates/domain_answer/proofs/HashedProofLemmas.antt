@@ -9,17 +9,16 @@ use Rattle.domain_base.specs.Types.{cname, dname, ds, ns}
 use Rattle.domain_base.specs.Words.{Name}
 use Rattle.domain_bitmap.specs.Blocks.{contains_type}
 use Rattle.domain_chain_rdata.specs.OptOut.{is_opt_out}
-use Rattle.domain_zone.proofs.NameLemmas.{below_length}
+use Rattle.domain_zone.proofs.NameLemmas.{below_length, same_length}
 use Rattle.domain_zone.proofs.OwnerLemmas.{in_any}
 use Rattle.domain_zone.proofs.ZoneLemmas.{same_back}
+use Rattle.domain_zone.proofs.FindLemmas.{find_some}
 use Rattle.domain_nsec3.specs.Chain.{HashedLink}
 use Rattle.domain_checker.specs.HashedView.{HashedRecords, first_cover, first_match}
 use Rattle.domain_checker.specs.HashedEncloser.{Encloser, IsEncloser, IsFoundEncloser, encloser_is_cut, next_cover}
 use Rattle.domain_checker.specs.HashedList.{is_hash_cover, is_hash_match}
 use Rattle.domain_checker.specs.HashedReading.{IsNextHash}
 use Rattle.domain_checker.specs.HashedVerdict.{is_covered, is_matched, is_ok_with, next_closer}
-use Rattle.domain_checker.proofs.EncloserLemmas.{same_length}
-use Rattle.domain_checker.proofs.FindLemmas.{find_some}
 use Rattle.domain_checker.proofs.HashedEncloserLemmas.{itself_counted}
 use Rattle.domain_checker.proofs.HashedWalkLemmas.{matched_same}
 use Rattle.domain_answer.specs.TypesAnswer.{is_of_child}

@@ -11,6 +11,7 @@ use Rattle.domain_zone.specs.Covering.{covers, matches}
 use Rattle.domain_zone.specs.Enclosers.{IsClosestEncloser, exists_over}
 use Rattle.domain_zone.specs.Zone.{ZoneRecord, is_zone_cut}
 use Rattle.domain_zone.proofs.NameLemmas.{below_parent, below_trans, one_lowered, same_itself}
+use Rattle.domain_zone.proofs.FindLemmas.{in_at}
 use Rattle.domain_nsec3.specs.Chain.{HashedLink, IsHashedChain}
 use Rattle.domain_nsec3.specs.Config.{ChainConfig}
 use Rattle.domain_nsec3.specs.Meaning.{AreAlone, IsAlone, octets_before}
@@ -22,7 +23,6 @@ use Rattle.domain_checker.specs.Verdict.{closest_encloser}
 use Rattle.domain_checker.specs.declared.verdict.Verdict.TheVariants as verdict
 use Rattle.domain_checker.proofs.CutLemmas.{below_cut}
 use Rattle.domain_checker.proofs.EncloserLemmas.{exists_same, same_count}
-use Rattle.domain_checker.proofs.FindLemmas.{in_at}
 use Rattle.domain_checker.proofs.HashedListLemmas.{covered_in, told_at, hash_same}
 use Rattle.domain_answer.specs.declared.answer.Answer.{Answer}
 use Rattle.domain_answer.specs.declared.answer.Answer.TheVariants.{OutsideZone, AtParent, Referral, Redirected, MayBeUnsigned, NoCloserName, TooManyIterations}

@@ -12,9 +12,9 @@ use Rattle.domain_zone.specs.Zone.{ZoneRecord, distinct, has_type, is_occluded, 
 use Rattle.domain_zone.proofs.NameLemmas.{below_itself, lowered_below, one_lowered, same_itself}
 use Rattle.domain_zone.proofs.PairLemmas.{In}
 use Rattle.domain_zone.proofs.OwnerLemmas.{any_in, in_any, typed_owns}
+use Rattle.domain_zone.proofs.FindLemmas.{in_map}
 use Rattle.domain_nsec.specs.Chain.{nsec_lists}
 use Rattle.domain_checker.proofs.EncloserLemmas.{cut_same, occluded_same, occludes_same, top_occluder, same_count, strictly_trans}
-use Rattle.domain_checker.proofs.FindLemmas.{in_map}
 use Rattle.domain_answer.specs.declared.answer.Answer.{Answer}
 use Rattle.domain_answer.specs.declared.answer.Answer.TheVariants.{OutsideZone, AtParent, Referral, Redirected, Has, NoDs, Alias, NoData, Wildcard}
 use Rattle.domain_answer.specs.declared.answer.Answer.TheVariants.{WildcardAlias, WildcardNoData, NameError, MayBeUnsigned, NoCloserName, TooManyIterations}

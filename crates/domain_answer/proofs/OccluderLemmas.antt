@@ -6,7 +6,8 @@ use Rattle.domain_base.specs.Name.{is_at_or_below, is_strictly_below, same_name}
 use Rattle.domain_base.specs.Words.{Name}
 use Rattle.domain_zone.specs.Zone.{ZoneRecord, is_occluded, occludes}
 use Rattle.domain_zone.proofs.OwnerLemmas.{below_occluder}
-use Rattle.domain_checker.proofs.EncloserLemmas.{occluded_same, occludes_same, strictly_longer, strictly_trans, top_occluder}
+use Rattle.domain_zone.proofs.NameLemmas.{strictly_longer}
+use Rattle.domain_checker.proofs.EncloserLemmas.{occluded_same, occludes_same, strictly_trans, top_occluder}
 use Rattle.domain_answer.specs.ZoneAnswer.{highest_occluder}
 use Rattle.domain_answer.proofs.CountLemmas.{child_below, parent_below}
 

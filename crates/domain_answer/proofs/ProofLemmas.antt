@@ -13,10 +13,10 @@ use Rattle.domain_zone.specs.Enclosers.{longer, shared}
 use Rattle.domain_zone.proofs.NameLemmas.{below_length, same_is}
 use Rattle.domain_zone.proofs.PairLemmas.{In}
 use Rattle.domain_zone.proofs.OwnerLemmas.{in_any}
+use Rattle.domain_zone.proofs.FindLemmas.{find_some}
 use Rattle.domain_nsec.specs.Chain.{Link}
 use Rattle.domain_checker.specs.Reading.{is_at_cut, is_cover, is_match}
 use Rattle.domain_checker.specs.Verdict.{HasProof, is_inside}
-use Rattle.domain_checker.proofs.FindLemmas.{find_some}
 use Rattle.domain_checker.proofs.EncloserLemmas.{same_count}
 use Rattle.domain_answer.specs.TypesAnswer.{is_of_child}
 use Rattle.domain_answer.specs.declared.answer.Answer.{Answer}

@@ -14,11 +14,11 @@ use Rattle.domain_zone.specs.Zone.{unoccluded_owners}
 use Rattle.domain_zone.proofs.NameLemmas.{below_parent, below_trans}
 use Rattle.domain_zone.proofs.PairLemmas.{In, all_in}
 use Rattle.domain_zone.proofs.OwnerLemmas.{in_any}
+use Rattle.domain_zone.proofs.FindLemmas.{any_none, from_map, in_filter}
 use Rattle.domain_nsec.specs.Chain.{IsChain, Link}
 use Rattle.domain_nsec.specs.declared.config.GenerateNsecConfig.{GenerateNsecConfig}
 use Rattle.domain_checker.specs.Verdict.{has_match_or_cover}
 use Rattle.domain_checker.proofs.EncloserLemmas.{closest_is, in_distinct}
-use Rattle.domain_checker.proofs.FindLemmas.{any_none, from_map, in_filter}
 use Rattle.domain_checker.proofs.MeantLemmas.{ChainLaws, apex_exists, some_link}
 use Rattle.domain_answer.specs.declared.answer.Answer.{Answer}
 use Rattle.domain_answer.specs.declared.answer.Answer.TheVariants.{OutsideZone, AtParent, Referral, Redirected, NoCloserName, NotProven}

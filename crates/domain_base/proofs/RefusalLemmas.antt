@@ -5,7 +5,6 @@ use Rattle.std.specs.List.{concat}
 use Rattle.domain_octets.specs.Limit.{IsOver}
 use Rattle.domain_octets.specs.Codec.{Decodes}
 use Rattle.domain_octets.specs.declared.codec.Codec.{Codec}
-use Rattle.domain_octets.specs.declared.codec.Codec.TheVariants.{Base16, Base32Hex, Base64}
 use Rattle.domain_base.specs.Scan.{ScanFault, entry_ends, illegal, no_room, no_memory, IsOfTokens, TakesToken, RefusesToken, ended, refused, NameTextFault}
 use Rattle.domain_base.specs.Scan.{CodecFault, EntryFault}
 use Rattle.domain_base.specs.Text.{NameText}
@@ -84,12 +83,6 @@ name_one_fault limit no_memory no_room text p q = absurd (over_limit limit _ q.2
 name_one_fault limit no_memory no_memory text p q = refl
 
 -- ---- octets
-
--- a text stands for the same octets however it is read
-pub decodes_once : (codec : Codec) (text a b : List ℕ) → Decodes codec text a → Decodes codec text b → a ≡ b
-decodes_once Base16 text a b x y = cc
-decodes_once Base32Hex text a b x y = x.value ∙ sym y.value
-decodes_once Base64 text a b x y = cc
 
 pub codec_excludes : (codec : Codec) (limit : Option ℕ) (fault : ScanFault) (text octets : List ℕ)
     → CodecFault codec limit fault text → Decodes codec text octets → IsOfTokens limit fault → ⊥

@@ -116,14 +116,14 @@ types_of_blocks types m a (suc n) all =
     ≡ filter types (range_with_len (m * a + m) (m * n)) = rw (← next) (types_of_blocks types m (a + 1) n all) in
     flat_map-append (λ b. block_types_from b 0) (block_list a xs) (blocks_from types (a + 1) n) ∙ rw (list, rest, count) (filter_append types (m * a) m (m * n))
 
-blocks_of-built : (types : ℕ → Bool) → blocks_of (bitmap_octets types) ≡ blocks_from types 0 256
+pub blocks_of-bitmap_octets : (types : ℕ → Bool) → blocks_of (bitmap_octets types) ≡ blocks_from types 0 256
 unfolding bitmap_octets
-blocks_of-built types = ap blocks_of (sym (octets_of_blocks-blocks_from types 0 256)) ∙ blocks_of-octets_of_blocks (blocks_from types 0 256)
+blocks_of-bitmap_octets types = ap blocks_of (sym (octets_of_blocks-blocks_from types 0 256)) ∙ blocks_of-octets_of_blocks (blocks_from types 0 256)
 
 -- the bits of a built bitmap are its types in ascending order
 pub types_of-bitmap_octets : (types : ℕ → Bool) (m n : ℕ) → m ≡ 256 → n ≡ m * m → types_of (bitmap_octets types) ≡ types_below n types
 unfolding types_of types_below
 types_of-bitmap_octets types m n all whole =
     let none : m * 0 ≡ 0 = omega arith in
-    ap (λ blocks. flat_map (λ b. block_types_from b 0) blocks) (blocks_of-built types ∙ ap (blocks_from types 0) (sym all))
+    ap (λ blocks. flat_map (λ b. block_types_from b 0) blocks) (blocks_of-bitmap_octets types ∙ ap (blocks_from types 0) (sym all))
     ∙ types_of_blocks types m 0 m all ∙ rw (none, whole) refl

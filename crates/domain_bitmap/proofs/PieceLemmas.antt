@@ -1,7 +1,6 @@
 -- pieces written one after another
 use Rattle.std.proofs.Common.{◌≡◌, ℕ, List, [], ◌∷◌, ◌++◌, length, sym, ap, ◌∙◌, append_assoc}
 use Rattle.std.proofs.lemmas.List.{append-nil}
-use Rattle.std.specs.Prelude.{Result, Ok, Err, OnOk}
 use Rattle.domain_octets.specs.Piece.{PieceText, token, comment, opens, closes}
 use Rattle.domain_base.specs.Numbers.{type_text}
 use Rattle.domain_bitmap.specs.HashText.{salt_text}
@@ -16,10 +15,6 @@ type_written old new all types rest t before is written =
 pub all_types_written : (old all : List PieceText) (types : List ℕ) → old ++ type_pieces types ≡ all → types ≡ [] → old ≡ all
 unfolding type_pieces
 all_types_written old all types before none = sym (append-nil old) ∙ ap (λ l. old ++ type_pieces l) (sym none) ∙ before
-
-pub on_ok_gives : {T E P Q : Type 0} (r : Result T E) → (P → Q) → OnOk r P → OnOk r Q
-on_ok_gives (Ok x) gives holds = gives holds
-on_ok_gives (Err e) gives holds = tt
 
 pub salt_written : (a b c d e : List PieceText) (octets : List ℕ) (n : ℕ) → b ≡ a ++ opens ∷ []
     → c ≡ b ++ token (salt_text octets) ∷ [] → d ≡ c ++ comment (salt_comment n) ∷ [] → n ≡ length octets → e ≡ d ++ closes ∷ []

@@ -1,6 +1,6 @@
 -- what sets of types and salts are written as is read back
 use Rattle.std.proofs.Common.{◌≡◌, ◌≢◌, ℕ, ◌+◌, ◌-◌, ◌*◌, ◌<◌, ◌≤◌, Bool, true, List, [], ◌∷◌, ◌++◌, zero, suc, map, codes, refl, sym, ap, subst, ◌∙◌, arith}
-use Rattle.std.proofs.Common.{inl, inr, append_assoc, length}
+use Rattle.std.proofs.Common.{eq-eqb, inl, inr, append_assoc, length}
 use Rattle.std.specs.Prelude.{◌==◌, ◌&&◌, filter}
 use Rattle.std.specs.List.{AllByRecursion, All, range_with_len, flat_map}
 use Rattle.std.proofs.lemmas.Bool.{cases_Bool}
@@ -107,14 +107,11 @@ types_back octets bitmap =
 number_at : (test : ℕ → Bool) (t u : ℕ) → (t == u) ≡ true → test u ≡ test t
 number_at test t u same = let e : u ≡ t = grind (arith, nat_tests) in ap test e
 
-itself : (t : ℕ) → (t == t) ≡ true
-itself t = grind (arith, nat_tests)
-
 among_below : (types : ℕ → Bool) (n t : ℕ) → t < n → is_among (types_below n types) t ≡ types t
 unfolding is_among types_below
 among_below types n t below =
     any-filter_same (λ u. t == u) types (types t) (λ u same. number_at types t u same) (range_with_len 0 n)
-    ∙ ap (λ b. types t && b) (any_at (λ u. t == u) n t below (itself t)) ∙ and_true (types t)
+    ∙ ap (λ b. types t && b) (any_at (λ u. t == u) n t below (eq-eqb t t refl)) ∙ and_true (types t)
 
 among_built : (types : ℕ → Bool) (n t : ℕ) → n ≡ 65536 → t < 65536 → is_among (types_of (bitmap_octets types)) t ≡ types t
 among_built types n t all small =

@@ -1,6 +1,6 @@
 -- types read from tokens
 use Rattle.std.proofs.Common.{◌≡◌, ◌≢◌, ℕ, ◌+◌, ◌*◌, ◌/◌, ◌<◌, Bool, true, false, List, [], ◌∷◌, ◌++◌, length, refl, sym, ap, ◌∙◌, subst, inl, inr, arith}
-use Rattle.std.proofs.Common.{append_assoc}
+use Rattle.std.proofs.Common.{eq-eqb, append_assoc}
 use Rattle.std.specs.Prelude.{◌||◌, ◌==◌, Option, if◌then◌else◌, IsNone, Result, Ok, Err, IsErrAnd, IfErr}
 use Rattle.std.specs.List.{list_any}
 use Rattle.std.proofs.lemmas.List.Folds.{list_any-append}
@@ -33,9 +33,6 @@ unfolding has_type_in
 type_in-more types t w =
     list_any-append (λ v. w == v / 256) types (t ∷ []) ∙ rw (or_false (w == t / 256)) (or_turn (list_any (λ v. w == v / 256) types) (w == t / 256))
 
-same_number : (n : ℕ) → (n == n) ≡ true
-same_number n = grind (arith, nat_tests)
-
 room-same : (types : List ℕ) (t : ℕ) → has_type_in types (t / 256) ≡ true → room_for (types ++ t ∷ []) ≡ room_for types
 unfolding room_for
 room-same types t known =
@@ -50,7 +47,7 @@ unfolding room_for
 room-more types t small new =
     let more = filter_more (has_type_in types) (has_type_in (types ++ t ∷ [])) (t / 256) 256 (omega arith)
     (λ w other. type_in-more types t w ∙ (let test : (w == t / 256) ≡ false = grind (arith, nat_tests) in rw test refl)) new
-    (type_in-more types t (t / 256) ∙ rw (same_number (t / 256)) refl) in
+    (type_in-more types t (t / 256) ∙ rw (eq-eqb (t / 256) (t / 256) refl) refl) in
     omega (arith, more)
 
 room-none : 0 ≡ room_for []

@@ -11,8 +11,8 @@ use Rattle.domain_bitmap.specs.Blocks.{Block, IsBlock, IsBitmap, IsShortest, Win
 use Rattle.domain_bitmap.specs.Blocks.{contains_type}
 use Rattle.domain_bitmap.proofs.BitLemmas.{octet_with-same, octet_with-bit_of}
 use Rattle.domain_bitmap.proofs.TrimLemmas.{before_trimmed-cons, before_trimmed-last, trimmed-zeros}
-use Rattle.domain_bitmap.proofs.BlockLemmas.{blocks_of-octets_of_blocks}
 use Rattle.domain_bitmap.proofs.BitmapLemmas.{block_list, blocks_from, octets_of_blocks-blocks_from, length-window_octets, get_or-window_octets, zero_octets}
+use Rattle.domain_bitmap.proofs.MeaningLemmas.{blocks_of-bitmap_octets}
 
 -- octets that read alike are cut to the same
 trimmed-same : (xs ys : List ℕ) → ((i : ℕ) → get_or xs i 0 ≡ get_or ys i 0) → trimmed xs ≡ trimmed ys
@@ -75,10 +75,6 @@ unfolding blocks_from
 cut-blocks_from types a zero = tt
 cut-blocks_from types a (suc n) = cut-list a (trimmed (window_octets types a)) (blocks_from types (a + 1) n)
     (cut-trimmed (window_octets types a)) (cut-blocks_from types (a + 1) n)
-
-blocks_of-bitmap_octets : (types : ℕ → Bool) → blocks_of (bitmap_octets types) ≡ blocks_from types 0 256
-unfolding bitmap_octets
-blocks_of-bitmap_octets types = ap blocks_of (sym (octets_of_blocks-blocks_from types 0 256)) ∙ blocks_of-octets_of_blocks (blocks_from types 0 256)
 
 pub IsShortest-bitmap_octets : (types : ℕ → Bool) → IsShortest (bitmap_octets types)
 IsShortest-bitmap_octets types =

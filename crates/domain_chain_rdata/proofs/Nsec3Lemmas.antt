@@ -15,6 +15,7 @@ use Rattle.domain_bitmap.specs.Pieces.{type_pieces, salt_pieces}
 use Rattle.domain_bitmap.specs.Text.{types_text, spaced_types}
 use Rattle.domain_fields.specs.Layout.{Layout, Values, octets_of, Fits, Ends, Begins, ParsesBack, splits}
 use Rattle.domain_fields.proofs.ExactLemmas.{parses_back, same_values}
+use Rattle.domain_fields.proofs.PieceLemmas.{pieces_before}
 use Rattle.domain_chain_rdata.specs.OptOut.{opt_out_comment}
 use Rattle.domain_chain_rdata.specs.Rdata.{hash_numbers, nsec3param, uncounted, hash_fields, nsec3}
 use Rattle.domain_chain_rdata.specs.Nsec3paramText.{number_pieces, nsec3param_pieces}
@@ -75,7 +76,7 @@ pub fields_then_fault : (old start between : Place) (v : Values hash_fields) (fa
     → BitmapFault between.left fault → Nsec3Fault old.left fault
 fields_then_fault old start between v fault from read why = in_types v between.left (subst (λ p. Begins hash_fields p.left v between.left) from read) why
 
--- types with a space before each
+-- types with a space pieces_before each
 pub no_types : (types : List ℕ) → types ≡ [] → spaced_types types ≡ []
 unfolding spaced_types
 no_types types none = ap spaced_types none
@@ -85,22 +86,18 @@ unfolding types_text spaced_types
 after_a_space [] some = absurd (some refl)
 after_a_space (t ∷ types) some = refl
 
--- pieces, and those after them
-before : (old mid new front back : List PieceText) → mid ≡ old ++ front → new ≡ mid ++ back → new ≡ old ++ (front ++ back)
-before old mid new front back first later = later ∙ ap (λ l. l ++ back) first ∙ append_assoc old front back
-
 pub numbers_written : (a b c d e f : List PieceText) (said : List ℕ) (x y z : ℕ)
     → b ≡ a ++ token (decimal x) ∷ [] → c ≡ b ++ token (decimal y) ∷ [] → d ≡ c ++ comment said ∷ [] → e ≡ d ++ token (decimal z) ∷ []
     → f ≡ e ++ comment (codes "iterations") ∷ [] → f ≡ a ++ number_pieces said (x, (y, z))
 numbers_written a b c d e f said x y z ab bc cd de ef =
-    before a b f (token (decimal x) ∷ []) _ ab (before b c f (token (decimal y) ∷ []) _ bc
-    (before c d f (comment said ∷ []) _ cd (before d e f (token (decimal z) ∷ []) _ de ef)))
+    pieces_before a b f (token (decimal x) ∷ []) _ ab (pieces_before b c f (token (decimal y) ∷ []) _ bc
+    (pieces_before c d f (comment said ∷ []) _ cd (pieces_before d e f (token (decimal z) ∷ []) _ de ef)))
 
 pub params_written : (a b c d e : List PieceText) (v : Values nsec3param) (numbers : Values hash_numbers) (salt : List ℕ) → numbers ≡ v.0 → salt ≡ v.1
     → b ≡ a ++ opens ∷ [] → c ≡ b ++ number_pieces (codes "flags") numbers → d ≡ c ++ salt_pieces salt → e ≡ d ++ closes ∷ []
     → e ≡ a ++ nsec3param_pieces v
 params_written a b c d e v numbers salt same_numbers same_salt ab bc cd de =
-    before a b e (opens ∷ []) _ ab (before b c e (number_pieces (codes "flags") numbers) _ bc (before c d e (salt_pieces salt) _ cd de))
+    pieces_before a b e (opens ∷ []) _ ab (pieces_before b c e (number_pieces (codes "flags") numbers) _ bc (pieces_before c d e (salt_pieces salt) _ cd de))
     ∙ (λ i. a ++ (opens ∷ (number_pieces (codes "flags") (same_numbers i) ++ (salt_pieces (same_salt i) ++ closes ∷ []))))
 
 pub nsec3_written : (a b c d e f g : List PieceText) (v : Values nsec3) (said : List ℕ) (numbers : Values hash_numbers) (salt hash types : List ℕ)
@@ -109,7 +106,7 @@ pub nsec3_written : (a b c d e f g : List PieceText) (v : Values nsec3) (said : 
     → f ≡ e ++ type_pieces (types_of types) → g ≡ f ++ closes ∷ []
     → g ≡ a ++ nsec3_pieces v
 nsec3_written a b c d e f g v said numbers salt hash types same_said same_numbers same_salt same_hash same_types ab bc cd de ef fg =
-    before a b g (opens ∷ []) _ ab (before b c g (number_pieces said numbers) _ bc (before c d g (salt_pieces salt) _ cd
-    (before d e g (token (base32_upper hash) ∷ []) _ de (before e f g (type_pieces (types_of types)) _ ef fg))))
+    pieces_before a b g (opens ∷ []) _ ab (pieces_before b c g (number_pieces said numbers) _ bc (pieces_before c d g (salt_pieces salt) _ cd
+    (pieces_before d e g (token (base32_upper hash) ∷ []) _ de (pieces_before e f g (type_pieces (types_of types)) _ ef fg))))
     ∙ (λ i. a ++ (opens ∷ (number_pieces (same_said i) (same_numbers i) ++ (salt_pieces (same_salt i)
     ++ (token (base32_upper (same_hash i)) ∷ (type_pieces (types_of (same_types i)) ++ closes ∷ []))))))

@@ -29,7 +29,7 @@ covers_alike o p n m x e f =
     (before_left o p x e i && before_right x n m f i)
     (before_left o p x e i || before_right x n m f i)
 
-shared_alike : (x y z : Name) → lowered y ≡ lowered z → shared x y ≡ shared x z
+pub shared_alike : (x y z : Name) → lowered y ≡ lowered z → shared x y ≡ shared x z
 shared_alike [] y z e = refl
 shared_alike (l ∷ x) y z e = λ i. cond (lowered_below (e i) (lowered (l ∷ x))) (l ∷ x) (shared_alike x y z e i)
 

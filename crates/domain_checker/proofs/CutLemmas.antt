@@ -5,13 +5,13 @@ use Rattle.domain_base.specs.Name.{is_strictly_below, lowered, same_name}
 use Rattle.domain_base.specs.Words.{Name}
 use Rattle.domain_zone.specs.Enclosers.{exists_over}
 use Rattle.domain_zone.specs.Zone.{ZoneRecord, is_zone_cut}
-use Rattle.domain_zone.proofs.NameLemmas.{one_lowered, same_itself, same_lowered, lowered_below, below_itself}
+use Rattle.domain_zone.proofs.NameLemmas.{one_lowered, same_itself, same_lowered, lowered_below, below_itself, strictly_longer}
 use Rattle.domain_zone.proofs.OwnerLemmas.{any_in, in_any}
 use Rattle.domain_nsec3.specs.Config.{ChainConfig}
 use Rattle.domain_nsec3.specs.Meaning.{CutsEnclose}
 use Rattle.domain_nsec3.specs.Owners.{is_original_owner, original_owners}
 use Rattle.domain_checker.specs.HashedVerdict.{is_below_chain_cut}
-use Rattle.domain_checker.proofs.EncloserLemmas.{cut_same, strictly_longer}
+use Rattle.domain_checker.proofs.EncloserLemmas.{cut_same}
 
 module _ (L : List ZoneRecord) (a : Name) (config : ChainConfig) where
   -- a zone cut of the chain that y is strictly below

@@ -1,53 +1,27 @@
 -- The first of a name and its ancestors that exists is its closest encloser, and an occluded name is below a name that occludes and is not occluded itself.
-use Rattle.std.proofs.Common.{◌≡◌, ℕ, ◌≤◌, ◌<◌, Bool, zero, suc, true, false, cond, not, ◌&&◌, ◌||◌, List, [], ◌∷◌, map, length, refl, sym, ap, ◌∙◌, inl, inr}
-use Rattle.std.proofs.Common.{arith}
+use Rattle.std.proofs.Common.{◌≡◌, ℕ, ◌≤◌, Bool, zero, suc, true, false, cond, not, ◌&&◌, ◌||◌, List, [], ◌∷◌, map, length, refl, sym, ap, ◌∙◌, inl, inr, arith}
 use Rattle.std.specs.Prelude.{filter}
 use Rattle.std.specs.Char.{to_ascii_lowercase}
 use Rattle.std.specs.List.{list_any}
-use Rattle.std.proofs.lemmas.Bool.{cases_Bool, false≢true, and_parts, and_from, not-true, cases_lt}
+use Rattle.std.proofs.lemmas.Bool.{cases_Bool, false≢true, and_parts, and_from, cases_lt}
 use Rattle.std.proofs.lemmas.List.{length-map}
 use Rattle.domain_base.specs.Name.{is_at_or_below, is_strictly_below, lowered, same_name}
 use Rattle.domain_base.specs.Types.{ns, dname}
 use Rattle.domain_base.specs.Words.{Name}
 use Rattle.domain_zone.specs.Enclosers.{IsClosestEncloser, exists_over}
 use Rattle.domain_zone.specs.Zone.{ZoneRecord, has_type, is_zone_cut, occludes, is_occluded, is_unoccluded, distinct, unoccluded_owners, owns}
-use Rattle.domain_zone.proofs.NameLemmas.{one_lowered, same_itself, same_is, below_itself, below_trans, below_from, below_longer, below_length, below_parent}
-use Rattle.domain_zone.proofs.NameLemmas.{below_root, lowered_below, same_lowered}
+use Rattle.domain_zone.proofs.NameLemmas.{one_lowered, same_itself, below_itself, below_trans, below_longer, below_length, below_parent, below_root, same_both}
+use Rattle.domain_zone.proofs.NameLemmas.{strictly_longer, strictly_from, same_length, lowered_below, same_lowered}
 use Rattle.domain_zone.proofs.PairLemmas.{In}
 use Rattle.domain_zone.proofs.OwnerLemmas.{any_in, in_any, occluder_below}
+use Rattle.domain_zone.proofs.FindLemmas.{in_filter, from_map}
 use Rattle.domain_checker.specs.Verdict.{closest_encloser}
-use Rattle.domain_checker.proofs.FindLemmas.{in_filter, from_map}
 
 -- ---- names at or below each other
 
 -- names that are the same have as many labels
 pub same_count : (x y : Name) → same_name x y ≡ true → length x ≡ length y
 same_count x y e = sym (length-map x (map to_ascii_lowercase)) ∙ ap length (one_lowered x y e) ∙ length-map y (map to_ascii_lowercase)
-
-pub same_both : (x c : Name) → is_at_or_below x c ≡ true → is_at_or_below c x ≡ true → same_name x c ≡ true
-same_both x c p q = same_is x c ∙ (λ i. not (below_from x c p i || below_from c x q i))
-
--- an ancestor with as many labels is the name itself
-pub same_length : (x d : Name) → is_at_or_below x d ≡ true → length x ≤ length d → same_name x d ≡ true
-same_length x d p l = same_both x d p (below_longer x d x p (below_itself x) l)
-
--- what is strictly below a name has more labels
-pub strictly_longer : (x c : Name) → is_strictly_below x c ≡ true → length c < length x
-strictly_longer x c s =
-    let p = and_parts (is_at_or_below x c) (not (same_name x c)) s in
-    elim (cases_lt (length c) (length x)) [
-      | inl h ↦ h
-      | inr h ↦ absurd (false≢true (sym (not-true (same_name x c) p.1) ∙ same_length x c p.0 h))
-    ]
-
--- and what is below it with more labels is strictly below
-pub strictly_from : (x d : Name) → is_at_or_below x d ≡ true → length d < length x → is_strictly_below x d ≡ true
-strictly_from x d p l =
-    and_from (is_at_or_below x d) (not (same_name x d)) p
-    (elim (cases_Bool (same_name x d)) [
-      | inl e ↦ let n = same_count x d e in absurd (omega arith)
-      | inr e ↦ ap not e
-    ])
 
 -- x is strictly below what a name that it is strictly below is at or below
 pub strictly_trans : (x c n : Name) → is_strictly_below x c ≡ true → is_at_or_below c n ≡ true → is_strictly_below x n ≡ true

@@ -116,6 +116,26 @@ module _ (R : HashedRecords) (ls : List HashedLink) (alike : ArePaired IsHashedA
   covered_alike n = λ i. is_ok_with (λ v. any_alike IsHashedAlike (is_hash_cover R.apex R.parameters v)
       (λ k l h. hash_cover_alike R.apex R.parameters k l h v) R.links ls alike i) (hash_name R.hash n)
 
+  pub matching : (v : Octets) → OptionsPaired IsHashedAlike (first_match R v) (first_match S v)
+  matching v = find_alike IsHashedAlike (is_hash_match R.apex R.parameters v) (λ k l h. hash_match_alike R.apex R.parameters k l h v) R.links ls alike
+
+  pub covering : (v : Octets) → OptionsPaired IsHashedAlike (first_cover R v) (first_cover S v)
+  covering v = find_alike IsHashedAlike (is_hash_cover R.apex R.parameters v) (λ k l h. hash_cover_alike R.apex R.parameters k l h v) R.links ls alike
+
+  pub first_alike : (x d : Name) → IsFirst R x d → IsFirst S x d
+  first_alike x d first = λ y up below. let f = first y up below in (f.0, f.1, sym (matched_alike y) ∙ f.2)
+
+  -- the first match in the one list, and in the other
+  pub found_alike : (v : Octets) (k : HashedLink) → first_match R v ≡ Some k
+      → (l : HashedLink) × IsHashedAlike k l × (first_match S v ≡ Some l)
+  found_alike v k e =
+      by (first_match S v) refl (subst (λ o. OptionsPaired IsHashedAlike o (first_match S v)) e (matching v))
+    where
+      by : (o : Option HashedLink) → first_match S v ≡ o → OptionsPaired IsHashedAlike (Some k) (first_match S v)
+          → (l : HashedLink) × IsHashedAlike k l × (first_match S v ≡ Some l)
+      by None f h = absurd (subst (OptionsPaired IsHashedAlike (Some k)) f h)
+      by (Some l) f h = (l, subst (OptionsPaired IsHashedAlike (Some k)) f h, f)
+
   cover_says_alike : (count : ℕ) (m n : Option HashedLink) → OptionsPaired IsHashedAlike m n → hash_cover_verdict count m ≡ hash_cover_verdict count n
   cover_says_alike count None None h = refl
   cover_says_alike count None (Some l) h = absurd h
@@ -126,28 +146,10 @@ module _ (R : HashedRecords) (ls : List HashedLink) (alike : ArePaired IsHashedA
       → told_verdict R d k t next ≡ told_verdict S d l t next
   told_alike d k l h t None = match_says_alike R.apex R.parameters k l h d t
   told_alike d k l h t (Some v) =
-      let covering = find_alike IsHashedAlike (is_hash_cover R.apex R.parameters v) (λ k l h. hash_cover_alike R.apex R.parameters k l h v) R.links ls alike in
       λ i. cond (cut_alike R.apex R.parameters k l h d i) BelowDelegation (cover_says_alike (length d) (first_cover R v)
-      (first_cover S v) covering i)
+      (first_cover S v) (covering v) i)
 
   module _ (x : Name) (t : ℕ) (verdict : Verdict) where
-    first_alike : (d : Name) → IsFirst R x d → IsFirst S x d
-    first_alike d first = λ y up below. let f = first y up below in (f.0, f.1, sym (matched_alike y) ∙ f.2)
-
-    -- the first match in the one list, and in the other
-    found_alike : (v : Octets) (k : HashedLink) → first_match R v ≡ Some k
-        → (l : HashedLink) × IsHashedAlike k l × (first_match S v ≡ Some l)
-    found_alike v k e =
-        by (first_match S v) refl
-        (subst (λ o. OptionsPaired IsHashedAlike o (first_match S v)) e
-        (find_alike IsHashedAlike (is_hash_match R.apex R.parameters v) (λ k l h. hash_match_alike R.apex R.parameters k l h v) R.links ls alike))
-      where
-        by : (o : Option HashedLink) → first_match S v ≡ o
-            → OptionsPaired IsHashedAlike (Some k) (first_match S v)
-            → (l : HashedLink) × IsHashedAlike k l × (first_match S v ≡ Some l)
-        by None f h = absurd (subst (OptionsPaired IsHashedAlike (Some k)) f h)
-        by (Some l) f h = (l, subst (OptionsPaired IsHashedAlike (Some k)) f h, f)
-
     pub walked_alike : IsWalked R x t verdict → IsWalked S x t verdict
     walked_alike (inl w) =
         let other = found_alike w.value w.link w.found in
@@ -160,7 +162,7 @@ module _ (R : HashedRecords) (ls : List HashedLink) (alike : ArePaired IsHashedA
             above = w.first.above;
             within = w.first.within;
             found = sym (matched_alike w.name) ∙ w.first.found;
-            first = first_alike w.name w.first.first;
+            first = first_alike x w.name w.first.first;
           };
           known = w.known;
           found = other.2;

@@ -8,8 +8,9 @@ use Rattle.domain_base.specs.Types.{ds, ns}
 use Rattle.domain_base.specs.Words.{Name}
 use Rattle.domain_bitmap.specs.Blocks.{contains_type, types_of}
 use Rattle.domain_zone.specs.Zone.{ZoneRecord, has_type, records_of}
-use Rattle.domain_zone.proofs.NameLemmas.{below_trans}
+use Rattle.domain_zone.proofs.NameLemmas.{below_trans, same_length}
 use Rattle.domain_zone.proofs.ZoneLemmas.{same_back}
+use Rattle.domain_zone.proofs.FindLemmas.{in_at, stands_from}
 use Rattle.domain_nsec3.specs.Chain.{HashedLink}
 use Rattle.domain_nsec3.specs.Config.{ChainConfig}
 use Rattle.domain_nsec3.specs.Meaning.{IsAlone}
@@ -21,8 +22,7 @@ use Rattle.domain_checker.specs.HashedEncloser.{Encloser, IsDenial, IsEncloser, 
 use Rattle.domain_checker.specs.HashedEncloser.{lower_verdict, next_cover, own_verdict}
 use Rattle.domain_checker.specs.HashedReading.{IsNextHash, IsTold, IsUnmatched, IsWalked, hash_cover_verdict, is_none, tells_cut, told_verdict}
 use Rattle.domain_checker.specs.declared.verdict.Verdict.TheVariants.{BelowDelegation, Has, NoType, EmptyName}
-use Rattle.domain_checker.proofs.EncloserLemmas.{same_length, same_count}
-use Rattle.domain_checker.proofs.FindLemmas.{in_at, stands_from}
+use Rattle.domain_checker.proofs.EncloserLemmas.{same_count}
 use Rattle.domain_checker.proofs.HashedListLemmas.{covered_never, matched_once, told_at}
 use Rattle.domain_checker.proofs.HashedVerdictLemmas.{ns_listed}
 

@@ -10,7 +10,7 @@ use Rattle.std.proofs.lemmas.Bool.{false≢true, and_parts, not-true, or_left, o
 use Rattle.std.proofs.lemmas.List.Elements.{recursion_from_All}
 use Rattle.std.proofs.lemmas.List.Sums.{list_all-from_AllPass}
 use Rattle.domain_octets.specs.Base32.{base32_lower}
-use Rattle.domain_octets.specs.Codec.{is_digit}
+use Rattle.domain_octets.specs.Codec.{is_digit, IsBase32}
 use Rattle.domain_octets.specs.Words.{Octets, AreOctets}
 use Rattle.domain_octets.specs.declared.codec.Codec.TheVariants.{Base32Hex}
 use Rattle.domain_base.specs.Name.{is_at_or_below, same_name, wire_of}
@@ -18,18 +18,18 @@ use Rattle.domain_base.specs.Words.{Name}
 use Rattle.domain_bitmap.specs.Bitmap.{bitmap_octets}
 use Rattle.domain_zone.specs.Covering.{matches, covers, matches_or_covers}
 use Rattle.domain_zone.specs.Zone.{ZoneRecord}
-use Rattle.domain_zone.proofs.NameLemmas.{one_lowered, same_itself}
+use Rattle.domain_zone.proofs.NameLemmas.{same_itself, one_lowered}
 use Rattle.domain_zone.proofs.PairLemmas.{In, all_in}
 use Rattle.domain_zone.proofs.OwnerLemmas.{in_any}
+use Rattle.domain_zone.proofs.FindLemmas.{in_at, in_pairs, Stands}
 use Rattle.domain_nsec3.specs.Chain.{HashedLink, HashedName, IsOfChain, cycle, ends, ends_of, hashed_owner}
-use Rattle.domain_nsec3.specs.Config.{ChainConfig, Hash, Parameters, hash_name}
+use Rattle.domain_nsec3.specs.Config.{ChainConfig, Parameters, Hash, hash_name}
 use Rattle.domain_nsec3.specs.Meaning.{IsAlone, IsCovered, IsMatched, IsMatchedOrCoveredOnce, IsRecordOf, octets_before}
 use Rattle.domain_nsec3.specs.Owners.{is_chain_name, nsec3_lists}
 use Rattle.domain_checker.specs.HashedFacts.{ChainFacts}
 use Rattle.domain_checker.specs.HashedList.{same_parameters, is_spelling, read_label, hash_in, owner_hash, is_some_with, is_hash_match, is_hash_cover}
 use Rattle.domain_checker.specs.HashedView.{chain_records}
 use Rattle.domain_checker.specs.HashedVerdict.{is_covered, is_matched, is_ok_with}
-use Rattle.domain_checker.proofs.FindLemmas.{in_at, in_pairs, Stands}
 
 -- octets that the order cannot tell apart
 pub tied_is : (u v : Octets) → matches octets_before u v ≡ is_eq (slice_cmp nat_cmp u v)
@@ -62,7 +62,17 @@ in_cycle : (hashes : List Octets) (p : Octets × Octets) → In p (cycle hashes)
 in_cycle [] p i = i
 in_cycle (u ∷ us) p i = (in_pairs (u ∷ us) u p i).0
 
-hashes_octets : (L : List ZoneRecord) (a : Name) (config : ChainConfig) (names : List HashedName)
+-- Base 32 that is read back is a spelling
+pub spelled_back : ((h : Octets) → AreOctets h → IsBase32 (base32_lower h) h) → (h : Octets) → AreOctets h → is_spelling (base32_lower h) ≡ true
+spelled_back reads_back h o =
+    let b = reads_back h o in
+    λ j. list_all-from_AllPass (is_digit Base32Hex) (base32_lower h) b.digits j && b.whole j
+
+pub parameters_tie : (p : Parameters) → same_parameters p p ≡ true
+parameters_tie p =
+    λ j. (eq-eqb p.algorithm p.algorithm refl j && eq-eqb p.iterations p.iterations refl j) && (bytes_decides p.salt p.salt).1 refl j
+
+pub hashes_octets : (L : List ZoneRecord) (a : Name) (config : ChainConfig) (names : List HashedName)
     → AllByRecursion (IsOfChain L a config) names → AllByRecursion AreOctets (map (λ n. n.hash) names)
 hashes_octets L a config [] h = tt
 hashes_octets L a config (n ∷ names) h = (h.0.sound.2, hashes_octets L a config names h.1)
@@ -87,20 +97,12 @@ module _ (L : List ZoneRecord) (a : Name) (config : ChainConfig) (links : List H
       all_in (λ k. (k.parameters ≡ config.parameters) × (k.flags ≡ config.flags)) links k
       (recursion_from_All (λ k. (k.parameters ≡ config.parameters) × (k.flags ≡ config.flags)) links facts.chain.told) i
 
-  spelled_back : (h : Octets) → AreOctets h → is_spelling (base32_lower h) ≡ true
-  spelled_back h o =
-      let b = facts.reads_back h o in
-      λ j. list_all-from_AllPass (is_digit Base32Hex) (base32_lower h) b.digits j && b.whole j
-
   -- no record of the chain is passed over
   pub hash_at : (k : HashedLink) → In k links → (h : Octets) → AreOctets h → k.owner ≡ hashed_owner a h → owner_hash a config.parameters k ≡ Some h
   hash_at k i h o e =
-      (λ j. cond ((ap (λ p. same_parameters p config.parameters) (told_at k i).0 ∙ tied config.parameters) j) (hash_in a (e j)) None)
-      ∙ (λ j. cond (same_itself a a refl j && spelled_back h o j) (Some (read_label (base32_lower h))) None)
+      (λ j. cond ((ap (λ p. same_parameters p config.parameters) (told_at k i).0 ∙ parameters_tie config.parameters) j) (hash_in a (e j)) None)
+      ∙ (λ j. cond (same_itself a a refl j && spelled_back facts.reads_back h o j) (Some (read_label (base32_lower h))) None)
       ∙ ap Some (sym (facts.reads_back h o).value)
-    where
-      tied : (p : Parameters) → same_parameters p p ≡ true
-      tied p = λ j. (eq-eqb p.algorithm p.algorithm refl j && eq-eqb p.iterations p.iterations refl j) && (bytes_decides p.salt p.salt).1 refl j
 
   -- what a record of the chain says of the hash of a name, a list says that has the record
   module _ (listed : List HashedLink) (has : (k : HashedLink) → In k links → In k listed) (d : Name) where

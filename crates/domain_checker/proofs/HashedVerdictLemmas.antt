@@ -15,10 +15,11 @@ use Rattle.domain_bitmap.specs.Blocks.{contains_type, types_of, types_below}
 use Rattle.domain_chain_rdata.specs.OptOut.{is_opt_out}
 use Rattle.domain_zone.specs.Enclosers.{exists_over, IsClosestEncloser}
 use Rattle.domain_zone.specs.Zone.{ZoneRecord, has_type, is_zone_cut, lists_type, owns, records_of, unoccluded_owners}
-use Rattle.domain_zone.proofs.NameLemmas.{one_lowered, same_lowered, below_itself, below_trans, below_longer, below_length}
+use Rattle.domain_zone.proofs.NameLemmas.{one_lowered, same_lowered, below_itself, below_trans, below_longer, below_length, strictly_from, same_length}
 use Rattle.domain_zone.proofs.PairLemmas.{In}
 use Rattle.domain_zone.proofs.OwnerLemmas.{any_in, in_any, typed_owns}
 use Rattle.domain_zone.proofs.ZoneLemmas.{same_back}
+use Rattle.domain_zone.proofs.FindLemmas.{any_none, in_at, in_filter, find_some, find_none, Stands, stands_all, stands_in}
 use Rattle.domain_nsec3.specs.Chain.{HashedLink, IsHashedChain}
 use Rattle.domain_nsec3.specs.Config.{ChainConfig, hash_name}
 use Rattle.domain_nsec3.specs.Meaning.{AreAlone, IsAlone}
@@ -34,8 +35,7 @@ use Rattle.domain_checker.specs.declared.verdict.Verdict.{Verdict}
 use Rattle.domain_checker.specs.declared.verdict.Verdict.TheVariants.{OutsideZone, BelowDelegation, Has, NoType, EmptyName, OptOut, NoName, NotProven}
 use Rattle.domain_checker.proofs.CutLemmas.{below_cut, cut_above, cut_apart, not_below}
 use Rattle.domain_checker.proofs.DefiniteLemmas.{choose, definite_proven, is_definite}
-use Rattle.domain_checker.proofs.EncloserLemmas.{apex_from, closest_is, cut_same, exists_same, owner_owns, same_length, same_count, strictly_from}
-use Rattle.domain_checker.proofs.FindLemmas.{any_none, in_at, in_filter, find_some, find_none, Stands, stands_all, stands_in}
+use Rattle.domain_checker.proofs.EncloserLemmas.{apex_from, closest_is, cut_same, exists_same, owner_owns, same_count}
 use Rattle.domain_checker.proofs.HashedListLemmas.{covered_in, covered_never, matched_in, matched_once, told_at, hash_same}
 use Rattle.domain_checker.proofs.HashedWalkLemmas.{closer_is}
 

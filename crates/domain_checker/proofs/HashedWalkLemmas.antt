@@ -10,7 +10,9 @@ use Rattle.domain_octets.specs.Words.{Octets}
 use Rattle.domain_base.specs.Name.{is_at_or_below, is_strictly_below, lowered, same_name, wire_of}
 use Rattle.domain_base.specs.Words.{Label, Name}
 use Rattle.domain_zone.proofs.NameLemmas.{one_lowered, same_itself, lowered_below, below_itself, below_trans, below_longer, below_length, below_parent}
+use Rattle.domain_zone.proofs.NameLemmas.{strictly_longer, strictly_from, same_length}
 use Rattle.domain_zone.proofs.OwnerLemmas.{in_any}
+use Rattle.domain_zone.proofs.FindLemmas.{any_none, find_none, find_some}
 use Rattle.domain_nsec3.specs.Chain.{HashedLink}
 use Rattle.domain_nsec3.specs.Config.{hash_name}
 use Rattle.domain_checker.specs.HashedList.{is_hash_match}
@@ -19,8 +21,7 @@ use Rattle.domain_checker.specs.HashedEncloser.{IsEncloser}
 use Rattle.domain_checker.specs.HashedPass.{IsLookedUp}
 use Rattle.domain_checker.specs.HashedReading.{IsNextHash, IsUnmatched}
 use Rattle.domain_checker.specs.HashedVerdict.{IsFirst, IsFirstRefusal, is_matched, is_ok_with, next_closer}
-use Rattle.domain_checker.proofs.EncloserLemmas.{same_count, same_length, strictly_from, strictly_longer}
-use Rattle.domain_checker.proofs.FindLemmas.{any_none, find_none, find_some}
+use Rattle.domain_checker.proofs.EncloserLemmas.{same_count}
 use Rattle.domain_checker.proofs.HashedListLemmas.{hash_same}
 
 pub below_drop : (n : ℕ) (x : Name) → is_at_or_below x (drop n x) ≡ true

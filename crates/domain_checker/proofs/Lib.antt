@@ -1,4 +1,3 @@
-pub mod FindLemmas
 pub mod FirstLemmas
 pub mod EncloserLemmas
 pub mod SharedLemmas

@@ -13,6 +13,7 @@ use Rattle.domain_zone.specs.Enclosers.{is_empty_nonterminal, longer, shared}
 use Rattle.domain_zone.specs.Zone.{ZoneRecord, OwnersNeverDescend, is_occluded, is_zone_cut, unoccluded_owners}
 use Rattle.domain_zone.proofs.PairLemmas.{In}
 use Rattle.domain_zone.proofs.OwnerLemmas.{in_any}
+use Rattle.domain_zone.proofs.FindLemmas.{find_some, Stands, stands_all}
 use Rattle.domain_nsec.specs.Chain.{Link, IsChain, nsec_lists}
 use Rattle.domain_nsec.specs.declared.config.GenerateNsecConfig.{GenerateNsecConfig}
 use Rattle.domain_checker.specs.declared.verdict.Verdict.{Verdict}
@@ -20,7 +21,6 @@ use Rattle.domain_checker.specs.declared.verdict.Verdict.TheVariants.{OutsideZon
 use Rattle.domain_checker.specs.Verdict.{closest_encloser, owner_verdict, other_verdict, zone_verdict, has_match_or_cover, proved_verdict, IsProved, is_inside}
 use Rattle.domain_checker.specs.Verdict.{HasProof, IsWithin}
 use Rattle.domain_checker.specs.Reading.{is_at_cut, is_match, is_cover, verdict_of_both, verdict_of_cover, match_verdict, cover_verdict, list_verdict, reading}
-use Rattle.domain_checker.proofs.FindLemmas.{find_some, Stands, stands_all}
 use Rattle.domain_checker.proofs.DefiniteLemmas.{choose, definite_proven, is_definite}
 use Rattle.domain_checker.proofs.MeantLemmas.{BitmapsAreSets, ChainLaws, IgnoresCase, IsMeant, config_with, meant_by, some_link, cover_of, match_of, silent}
 use Rattle.domain_checker.proofs.SharedLemmas.{shared_within}

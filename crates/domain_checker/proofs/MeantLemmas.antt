@@ -18,12 +18,12 @@ use Rattle.domain_zone.specs.Zone.{unoccluded_owners}
 use Rattle.domain_zone.proofs.NameLemmas.{one_lowered, same_itself, same_is, below_itself, lowered_below}
 use Rattle.domain_zone.proofs.PairLemmas.{In, all_in}
 use Rattle.domain_zone.proofs.OwnerLemmas.{any_in, in_any, below_occluder}
+use Rattle.domain_zone.proofs.FindLemmas.{Stands, any_none, find_none, find_some, in_at, in_map, in_pairs}
 use Rattle.domain_nsec.specs.Chain.{Link, IsChain, is_listed, nsec_lists}
 use Rattle.domain_nsec.specs.Meaning.{IsCycle, MirrorsZone, TellsEmpty, TellsEncloser, CoversBelowOccluders}
 use Rattle.domain_nsec.specs.declared.config.GenerateNsecConfig.{GenerateNsecConfig}
 use Rattle.domain_checker.specs.Verdict.{closest_encloser, has_match_or_cover, is_inside}
 use Rattle.domain_checker.specs.Reading.{is_at_cut, is_cover, is_match}
-use Rattle.domain_checker.proofs.FindLemmas.{Stands, any_none, find_none, find_some, in_at, in_map, in_pairs}
 use Rattle.domain_checker.proofs.EncloserLemmas.{closest_is, closest_alike, top_occluder, occluded_same, occludes_same, owner_unoccluded, owner_owns}
 
 -- the public laws of chains

@@ -9,11 +9,11 @@ use Rattle.domain_zone.specs.Covering.{matches, covers}
 use Rattle.domain_zone.specs.Zone.{ZoneRecord, is_zone_cut, is_occluded, unoccluded_owners}
 use Rattle.domain_zone.proofs.PairLemmas.{In}
 use Rattle.domain_zone.proofs.OwnerLemmas.{in_any}
+use Rattle.domain_zone.proofs.FindLemmas.{in_at}
 use Rattle.domain_nsec.specs.Chain.{Link}
 use Rattle.domain_checker.specs.declared.verdict.Verdict.TheVariants.{OutsideZone, BelowDelegation, Has, NoType, EmptyName, NoName}
 use Rattle.domain_checker.specs.Verdict.{owner_verdict, other_verdict, zone_verdict}
 use Rattle.domain_checker.specs.Reading.{is_at_cut, match_verdict, cover_verdict}
-use Rattle.domain_checker.proofs.FindLemmas.{in_at}
 use Rattle.domain_checker.proofs.EncloserLemmas.{cut_same}
 use Rattle.domain_checker.proofs.MeantLemmas.{BitmapsAreSets, IgnoresCase, IsMeant, cut_at, ends, matched_high, matched_low, matched_same, type_at}
 use Rattle.domain_checker.proofs.MeantLemmas.{covered_encloser, covered_no_owner, covered_occluded}

@@ -1,34 +1,33 @@
 -- Where a search by hash in a chain ends, the record matches or covers the hash, and no other does.
 use Rattle.std.proofs.Common.{◌≡◌, ℕ, zero, suc, ◌-◌, ◌<◌, ◌≤◌, Bool, true, false, cond, not, ◌&&◌, ◌||◌, List, [], ◌∷◌, map, length, get_or, slice_get, Some}
-use Rattle.std.proofs.Common.{None, refl, sym, ap, ◌∙◌, arith, inl, inr, ◌⊎◌, eq-eqb}
+use Rattle.std.proofs.Common.{None, refl, sym, ap, ◌∙◌, arith, inl, inr, ◌⊎◌}
 use Rattle.std.specs.List.{AllByRecursion}
 use Rattle.std.specs.List.Sorted.{IsStrictlySortedBy}
 use Rattle.std.specs.Cmp.{IsStrictWeakOrder}
-use Rattle.std.specs.Cmp.Lexicographic.{bytes_decides, nat_list_cmp_total, slice_cmp}
+use Rattle.std.specs.Cmp.Lexicographic.{nat_list_cmp_total, slice_cmp}
 use Rattle.std.specs.Ordering.{is_eq, is_lt, nat_cmp}
 use Rattle.std.specs.declared.cmp.Ordering.TheVariants.{Less}
 use Rattle.std.proofs.lemmas.Bool.{false≢true}
 use Rattle.std.proofs.lemmas.List.{length-map}
 use Rattle.std.proofs.lemmas.List.Elements.{recursion_from_All}
 use Rattle.std.proofs.lemmas.List.Sorted.{ranks_by}
-use Rattle.std.proofs.lemmas.List.Sums.{list_all-from_AllPass}
 use Rattle.std.proofs.lemmas.Option.{get_or_from_slice_get, slice_get-get_or, slice_get_within}
 use Rattle.domain_octets.specs.Base32.{base32_lower}
-use Rattle.domain_octets.specs.Codec.{IsBase32, is_digit}
+use Rattle.domain_octets.specs.Codec.{IsBase32}
 use Rattle.domain_octets.specs.Words.{AreOctets, Octets}
-use Rattle.domain_octets.specs.declared.codec.Codec.TheVariants.{Base32Hex}
+use Rattle.domain_octets.proofs.StdLemmas.{some_is}
 use Rattle.domain_base.specs.Words.{Name}
 use Rattle.domain_zone.specs.Covering.{covers, matches, matches_or_covers, pairs}
 use Rattle.domain_zone.specs.Zone.{ZoneRecord}
 use Rattle.domain_zone.proofs.NameLemmas.{same_itself}
 use Rattle.domain_zone.proofs.PairLemmas.{IsAscending, irreflexive, one_matches_or_covers, In, all_in}
 use Rattle.domain_zone.proofs.PlaceLemmas.{IsOnly, one_place}
+use Rattle.domain_zone.proofs.FindLemmas.{in_at}
 use Rattle.domain_nsec3.specs.Chain.{HashedLink, HashedName, IsHashedChain, IsOfChain, cycle, ends, ends_of, hashed_owner}
 use Rattle.domain_nsec3.specs.Config.{ChainConfig, Parameters}
 use Rattle.domain_nsec3.specs.Meaning.{IsRecordOf, octets_before}
-use Rattle.domain_checker.specs.HashedList.{hash_in, is_some_with, is_spelling, owner_hash, read_label, same_parameters}
-use Rattle.domain_checker.proofs.FindLemmas.{in_at}
-use Rattle.domain_checker.proofs.HashedListLemmas.{tied_is}
+use Rattle.domain_checker.specs.HashedList.{hash_in, is_some_with, owner_hash, read_label, same_parameters}
+use Rattle.domain_checker.proofs.HashedListLemmas.{tied_is, hashes_octets, parameters_tie, spelled_back}
 use Rattle.domain_denier.specs.HashedSteps.{IsOfHash, IsSaid, tells_hash}
 
 -- ---- lists of hashes that ascend
@@ -146,16 +145,8 @@ past [] n d e = refl
 past (k ∷ ks) zero d e = absurd (omega (arith, e))
 past (k ∷ ks) (suc n) d e = past ks n d (omega (arith, e))
 
-some_is : {X : Type 0} (x y : X) → Some x ≡ Some y → x ≡ y
-some_is x y e = cc
-
 head_is : (x y : Octets) (xs ys : List Octets) → x ∷ xs ≡ y ∷ ys → x ≡ y
 head_is x y xs ys e = cc
-
-hashes_octets : (L : List ZoneRecord) (a : Name) (config : ChainConfig) (names : List HashedName)
-    → AllByRecursion (IsOfChain L a config) names → AllByRecursion AreOctets (map (λ n. n.hash) names)
-hashes_octets L a config [] h = tt
-hashes_octets L a config (n ∷ names) h = (h.0.sound.2, hashes_octets L a config names h.1)
 
 abbrev pub TellsApart : Type 0
 TellsApart = (u v : Octets) → AreOctets u → AreOctets v → base32_lower u ≡ base32_lower v → u ≡ v
@@ -252,20 +243,12 @@ module _ (apart : TellsApart) (L : List ZoneRecord) (a : Name) (config : ChainCo
           (all_in (λ k. (k.parameters ≡ config.parameters) × (k.flags ≡ config.flags)) links k
           (recursion_from_All (λ k. (k.parameters ≡ config.parameters) × (k.flags ≡ config.flags)) links chain.told) i).0 ∙ same
 
-      spelled_back : (h : Octets) → AreOctets h → is_spelling (base32_lower h) ≡ true
-      spelled_back h o =
-          let b = reads_back h o in
-          λ j. list_all-from_AllPass (is_digit Base32Hex) (base32_lower h) b.digits j && b.whole j
-
       -- no record of the chain is passed over
       hash_is : (i : ℕ) (k : HashedLink) (h : Octets) → IsRecordOf a links i k h → owner_hash a p k ≡ Some h
       hash_is i k h r =
-          (λ j. cond ((ap (λ q. same_parameters q p) (told_at k (in_at links i k r.there)) ∙ tied p) j) (hash_in a (r.spelled j)) None)
-          ∙ (λ j. cond (same_itself a a refl j && spelled_back h r.octets j) (Some (read_label (base32_lower h))) None)
+          (λ j. cond ((ap (λ q. same_parameters q p) (told_at k (in_at links i k r.there)) ∙ parameters_tie p) j) (hash_in a (r.spelled j)) None)
+          ∙ (λ j. cond (same_itself a a refl j && spelled_back reads_back h r.octets j) (Some (read_label (base32_lower h))) None)
           ∙ ap Some (sym (reads_back h r.octets).value)
-        where
-          tied : (q : Parameters) → same_parameters q q ≡ true
-          tied q = λ j. (eq-eqb q.algorithm q.algorithm refl j && eq-eqb q.iterations q.iterations refl j) && (bytes_decides q.salt q.salt).1 refl j
 
       tells_is : (i : ℕ) (k : HashedLink) (h : Octets) → IsRecordOf a links i k h
           → tells_hash a p v k ≡ matches_or_covers octets_before h k.next v

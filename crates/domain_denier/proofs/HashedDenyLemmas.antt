@@ -8,6 +8,7 @@ use Rattle.std.proofs.lemmas.List.{length-map}
 use Rattle.std.proofs.lemmas.List.Elements.{All-contains_itself}
 use Rattle.std.proofs.lemmas.Option.{get_or_from_slice_get, slice_get_within}
 use Rattle.domain_octets.specs.Words.{Octets}
+use Rattle.domain_octets.proofs.StdLemmas.{some_is, none_some}
 use Rattle.domain_base.specs.Name.{is_at_or_below, same_name, last_labels}
 use Rattle.domain_base.specs.Words.{Name}
 use Rattle.domain_zone.specs.Enclosers.{IsClosestEncloser, exists_over}
@@ -19,13 +20,13 @@ use Rattle.domain_nsec3.specs.Config.{ChainConfig, Hash, hash_name}
 use Rattle.domain_nsec3.specs.Meaning.{IsAlone, TellsEncloser}
 use Rattle.domain_nsec3.specs.Owners.{is_chain_name, nsec3_lists, original_owners}
 use Rattle.domain_base.specs.Types.{dname}
+use Rattle.domain_zone.proofs.FindLemmas.{any_none, find_none}
 use Rattle.domain_checker.specs.HashedEncloser.{IsOfName}
 use Rattle.domain_checker.specs.HashedList.{is_hash_cover, is_hash_match}
 use Rattle.domain_checker.specs.HashedView.{HashedRecords, chain_records}
 use Rattle.domain_checker.specs.HashedVerdict.{is_covered, is_matched, is_ok_with, next_closer}
 use Rattle.domain_checker.specs.Verdict.{closest_encloser}
 use Rattle.domain_checker.proofs.EncloserLemmas.{apex_from, closest_is, same_count}
-use Rattle.domain_checker.proofs.FindLemmas.{any_none, find_none}
 use Rattle.domain_checker.proofs.HashedListLemmas.{hash_same}
 use Rattle.domain_answer.specs.declared.answer.Answer.{Answer}
 use Rattle.domain_answer.specs.declared.answer.Answer.TheVariants.{NoCloserName, NotProven}
@@ -53,12 +54,6 @@ pub record DenyLaws : Type 0 where
   pub matches : (L : List ZoneRecord) (a : Name) (config : ChainConfig) (links : List HashedLink) → IsHashedChain L a config links
       → (x : Name) (v : Octets) → is_at_or_below x a ≡ true → IsAlone L a config x v
       → (k : HashedLink) → Contains links k → is_hash_match a config.parameters v k ≡ true → IsOfName L a config x k
-
-none_some : {X : Type 0} (x : X) → None ≡ Some x → ⊥
-none_some x e = absurd (cc)
-
-some_is : {X : Type 0} (x y : X) → Some x ≡ Some y → x ≡ y
-some_is x y e = cc
 
 -- the chain of a zone has a record
 pub some_links : (L : List ZoneRecord) (a : Name) (config : ChainConfig) (links : List HashedLink) → IsHashedChain L a config links

@@ -5,6 +5,7 @@ use Rattle.std.specs.Prelude.{Ok}
 use Rattle.std.specs.List.{list_any}
 use Rattle.std.proofs.lemmas.Bool.{cases_Bool, cases_lt, eq-eqb, false≢true}
 use Rattle.domain_octets.specs.Words.{Octets}
+use Rattle.domain_octets.proofs.StdLemmas.{some_is, none_some}
 use Rattle.domain_base.specs.Name.{is_at_or_below, last_labels}
 use Rattle.domain_base.specs.Types.{dname}
 use Rattle.domain_base.specs.Words.{Name}
@@ -13,6 +14,7 @@ use Rattle.domain_chain_rdata.specs.OptOut.{is_opt_out}
 use Rattle.domain_zone.proofs.NameLemmas.{below_length, below_longer}
 use Rattle.domain_zone.proofs.PairLemmas.{In}
 use Rattle.domain_zone.proofs.OwnerLemmas.{in_any}
+use Rattle.domain_zone.proofs.FindLemmas.{any_none, in_at, in_front}
 use Rattle.domain_nsec3.specs.Chain.{HashedLink}
 use Rattle.domain_nsec3.specs.Config.{hash_name}
 use Rattle.domain_checker.specs.HashedEncloser.{Encloser, IsEncloser, encloser_is_cut, next_cover}
@@ -20,7 +22,6 @@ use Rattle.domain_checker.specs.HashedList.{is_hash_match}
 use Rattle.domain_checker.specs.HashedReading.{IsNextHash, IsUnmatched}
 use Rattle.domain_checker.specs.HashedView.{HashedRecords, first_cover, first_match, with_links}
 use Rattle.domain_checker.specs.HashedVerdict.{is_matched, is_ok_with}
-use Rattle.domain_checker.proofs.FindLemmas.{any_none, in_at}
 use Rattle.domain_checker.proofs.HashedWalkLemmas.{some_matched}
 use Rattle.domain_answer.specs.declared.answer.Answer.{Answer}
 use Rattle.domain_answer.specs.declared.answer.Answer.TheVariants.{Referral, Redirected, MayBeUnsigned, NoCloserName, NotProven}
@@ -34,20 +35,14 @@ use Rattle.domain_denier.specs.HashedSteps.{IsCoverAt, IsFirstDenial, IsInside, 
 use Rattle.domain_denier.specs.HashedSteps.{link_at, next_role, wildcard_told_by}
 use Rattle.domain_denier.specs.declared.encloser.PlacedEncloser.{PlacedEncloser}
 use Rattle.domain_denier.specs.declared.nsec3.Nsec3Denial.{Nsec3Denial}
-use Rattle.domain_denier.proofs.SomeLemmas.{AreAmong, AreOthers, covered, in_back, in_front, in_place, kept_place, matched, no_cover, no_match, not_gone}
-use Rattle.domain_denier.proofs.SomeLemmas.{others_among, three_among, three_others, unmatched}
+use Rattle.domain_denier.proofs.SomeLemmas.{AreAmong, AreOthers, covered, in_back, in_place, kept_place, matched, no_cover, no_match, not_gone, others_among}
+use Rattle.domain_denier.proofs.SomeLemmas.{three_among, three_others, unmatched}
 
 -- a first answer after which the wildcard is not asked for
 plain_on : (R : HashedRecords) (x : Name) (t : ℕ) (first : Answer)
     → ((n : ℕ) → first ≡ NoCloserName n → ⊥) → IsReadOn R x t first first
 plain_on R x t (NoCloserName n) f = absurd (f n refl)
 plain_on R x t first f = refl
-
-some_is : {X : Type 0} (x y : X) → Some x ≡ Some y → x ≡ y
-some_is x y e = cc
-
-none_some : {X : Type 0} (x : X) → None ≡ Some x → ⊥
-none_some x e = absurd (cc)
 
 -- all links stand among themselves
 pub all_among : (links : List HashedLink) → AreAmong links links

@@ -9,9 +9,9 @@ use Rattle.domain_base.specs.Words.{Name}
 use Rattle.domain_zone.specs.Covering.{matches_or_covers, pairs}
 use Rattle.domain_zone.specs.Zone.{ZoneRecord, unoccluded_owners}
 use Rattle.domain_zone.proofs.NameLemmas.{below_from, before_right, one_lowered}
+use Rattle.domain_zone.proofs.FindLemmas.{in_at}
 use Rattle.domain_nsec.specs.Chain.{Link}
 use Rattle.domain_nsec.specs.declared.config.GenerateNsecConfig.{GenerateNsecConfig}
-use Rattle.domain_checker.proofs.FindLemmas.{in_at}
 use Rattle.domain_checker.proofs.MeantLemmas.{ChainLaws, inside}
 use Rattle.domain_answer.proofs.ChainLemmas.{meant_leaving}
 use Rattle.domain_denier.specs.Picked.{IsOf, IsWhole}

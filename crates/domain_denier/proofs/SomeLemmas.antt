@@ -7,8 +7,10 @@ use Rattle.std.proofs.lemmas.Bool.{cases_Bool, false≢true, ne_eqb, or_left, or
 use Rattle.std.proofs.lemmas.List.Elements.{All-nil, All-push, All-append}
 use Rattle.std.proofs.lemmas.Option.{slice_get_within, get_or_from_slice_get}
 use Rattle.domain_octets.specs.Words.{Octets}
+use Rattle.domain_octets.proofs.StdLemmas.{some_is}
 use Rattle.domain_base.specs.Words.{Name}
 use Rattle.domain_zone.proofs.PairLemmas.{In}
+use Rattle.domain_zone.proofs.FindLemmas.{in_either}
 use Rattle.domain_nsec3.specs.Chain.{HashedLink}
 use Rattle.domain_nsec3.specs.Config.{Parameters}
 use Rattle.domain_checker.specs.HashedList.{is_hash_cover, is_hash_match}
@@ -39,9 +41,6 @@ module _ {X : Type 0} (f : X → Bool) where
       ]
 
 -- ---- some of the links
-
-some_is : {X : Type 0} (x y : X) → Some x ≡ Some y → x ≡ y
-some_is x y e = cc
 
 -- each of the listed ones stands among all, at a place that is not this one
 abbrev pub AreOthers : List HashedLink → ℕ → List HashedLink → Type 0
@@ -93,19 +92,9 @@ module _ (links : List HashedLink) (a : Name) (p : Parameters) (v : Octets) (pla
 
 -- ---- the links at places
 
-pub in_front : {X : Type 0} (xs ys : List X) (x : X) → In x xs → In x (xs ++ ys)
-in_front [] ys x i = absurd i
-in_front (y ∷ xs) ys x (inl e) = inl e
-in_front (y ∷ xs) ys x (inr i) = inr (in_front xs ys x i)
-
 pub in_back : {X : Type 0} (xs ys : List X) (x : X) → In x ys → In x (xs ++ ys)
 in_back [] ys x i = i
 in_back (y ∷ xs) ys x i = inr (in_back xs ys x i)
-
-in_either : {X : Type 0} (xs ys : List X) (x : X) → In x (xs ++ ys) → In x xs ⊎ In x ys
-in_either [] ys x i = inr i
-in_either (y ∷ xs) ys x (inl e) = inl (inl e)
-in_either (y ∷ xs) ys x (inr i) = elim (in_either xs ys x i) [ inl j ↦ inl (inr j) | inr j ↦ inr j ]
 
 -- the link at a place is listed there
 pub in_place : (links : List HashedLink) (o : Option ℕ) (place : ℕ) (k : HashedLink) → o ≡ Some place → slice_get links place ≡ Some k

@@ -24,8 +24,9 @@ use Rattle.domain_zone.proofs.OwnerLemmas.{any_filter}
 use Rattle.domain_zone.proofs.PairLemmas.{In}
 use Rattle.domain_zone.proofs.SharedLemmas.{either_way}
 use Rattle.domain_zone.proofs.ZoneLemmas.{any_map}
+use Rattle.domain_zone.proofs.FindLemmas.{in_filter, in_filtered, in_map, from_map}
 use Rattle.domain_dnssec.specs.AnyOrder.{Sorts}
-use Rattle.domain_dnssec.proofs.AmongLemmas.{contains_in, in_contains, in_filter, in_filtered, any_two, pair_of_two, all_pairs, in_map, map_in}
+use Rattle.domain_dnssec.proofs.AmongLemmas.{contains_in, in_contains, any_two, pair_of_two, all_pairs}
 
 then_equal : (x y : Ordering) → ordering_then x y ≡ Equal → (x ≡ Equal) × (y ≡ Equal)
 then_equal Less y e = absurd (cc)
@@ -116,7 +117,7 @@ module _ {N D : Type 0} (labels : N → Name) (rtype_of : D → ℕ) (minimum_of
 
     zone_record_among : (z : ZoneRecord) → In z (zone_of labels rtype_of minimum_of sorted) → In z (zone_of labels rtype_of minimum_of given)
     zone_record_among z i =
-        let m = map_in (as_zone_record labels rtype_of minimum_of) sorted z i in
+        let m = from_map (as_zone_record labels rtype_of minimum_of) sorted z i in
         subst (λ y. In y (zone_of labels rtype_of minimum_of given)) m.2 (in_map (as_zone_record labels rtype_of minimum_of) given m.0 (record_among m.0 m.1))
 
     pub clash_among : (n : Name) → has_clash (records_of (zone_of labels rtype_of minimum_of sorted) n) ≡ true

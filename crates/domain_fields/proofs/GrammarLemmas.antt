@@ -3,8 +3,9 @@ use Rattle.std.proofs.Common.{◌≡◌, ℕ, List, sym, subst, ◌∙◌, inl, 
 use Rattle.std.specs.List.{concat}
 use Rattle.domain_octets.specs.Codec.{Decodes}
 use Rattle.domain_octets.specs.declared.codec.Codec.{Codec}
+use Rattle.domain_octets.proofs.CodecBackLemmas.{decodes_once}
 use Rattle.domain_base.specs.Scan.{ScanFault, IsOfTokens, EntryFault, RefusesToken}
-use Rattle.domain_base.proofs.RefusalLemmas.{token_excludes, token_one_fault, decodes_once, entry_excludes, entry_one_fault}
+use Rattle.domain_base.proofs.RefusalLemmas.{token_excludes, token_one_fault, entry_excludes, entry_one_fault}
 use Rattle.domain_fields.specs.Layout.{Layout}
 use Rattle.domain_fields.specs.Scan.{Scans, Refuses}
 use Rattle.domain_fields.proofs.ScanLemmas.{refused_spells_none, one_first_fault, scans_left, scans_once}

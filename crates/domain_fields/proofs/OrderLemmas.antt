@@ -3,10 +3,9 @@ use Rattle.std.specs.declared.cmp.Ordering.{Ordering}
 use Rattle.std.proofs.Common.{◌≡◌, ℕ, zero, suc, ◌+◌, true, List, [], ◌∷◌, ◌++◌, length, take, drop, refl, sym, ap, subst, ◌∙◌, arith, length-append}
 use Rattle.std.proofs.Common.{append_assoc, append-nil}
 use Rattle.std.specs.declared.cmp.Ordering.TheVariants.{Less, Equal, Greater}
-use Rattle.std.specs.Ordering.{ordering_then, nat_cmp, is_eq}
+use Rattle.std.specs.Ordering.{ordering_then, nat_cmp}
 use Rattle.std.specs.Cmp.{first_so, second_so}
-use Rattle.std.specs.Cmp.Lexicographic.{slice_cmp, texts_ties}
-use Rattle.std.specs.Prelude.{bytes_eq}
+use Rattle.std.specs.Cmp.Lexicographic.{slice_cmp}
 use Rattle.std.specs.FinMap.{nat_cmp-IsAntisymmetric}
 use Rattle.std.specs.Int.{w16, w32, to_be_bytes, from_be_bytes}
 use Rattle.std.specs.List.{AllByRecursion, flat_map, fold}
@@ -153,9 +152,6 @@ pub fold_both : {S : Type 0} (f : S → List ℕ → S) (s : S) (a b : Layout) (
     → fold f (fold f s (flat_map fed.u8 (canonical_of a v))) (flat_map fed.u8 (canonical_of b w)) ≡ fold f s (flat_map fed.u8 (canonical_of (a ▸ b) (v, w)))
 fold_both f s a b v w =
     fold-append f s (flat_map fed.u8 (canonical_of a v)) (flat_map fed.u8 (canonical_of b w)) ∙ ap (fold f s) (sym (feed_both a b (lower a v) (lower b w)))
-
-pub tied : (a b : List ℕ) → is_eq (slice_cmp nat_cmp a b) ≡ bytes_eq a b
-tied a b = sym (texts_ties a b)
 
 then_assoc : (o p q : Ordering) → ordering_then o (ordering_then p q) ≡ ordering_then (ordering_then o p) q
 then_assoc Less p q = refl

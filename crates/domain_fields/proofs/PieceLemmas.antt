@@ -1,11 +1,10 @@
 -- pieces written one after another
 use Rattle.std.proofs.Common.{◌≡◌, List, [], ◌∷◌, ◌++◌, ap, ◌∙◌, append_assoc}
-use Rattle.std.specs.Prelude.{Result, Ok, Err, OnOk}
 use Rattle.domain_octets.specs.Piece.{PieceText}
 
-pub on_ok_gives : {T E P Q : Type 0} (r : Result T E) → (P → Q) → OnOk r P → OnOk r Q
-on_ok_gives (Ok x) gives holds = gives holds
-on_ok_gives (Err e) gives holds = tt
+-- pieces, and those after them
+pub pieces_before : (old mid new front back : List PieceText) → mid ≡ old ++ front → new ≡ mid ++ back → new ≡ old ++ (front ++ back)
+pieces_before old mid new front back first later = later ∙ ap (λ l. l ++ back) first ∙ append_assoc old front back
 
 -- one piece, and those after it
 pub piece_before : (old mid new : List PieceText) (piece : PieceText) (pieces : List PieceText) → mid ≡ old ++ piece ∷ []

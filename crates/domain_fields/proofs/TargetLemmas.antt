@@ -1,16 +1,12 @@
 -- one part of the octets appended after another
-use Rattle.std.proofs.Common.{◌≡◌, ℕ, ◌+◌, ◌≤◌, List, [], ◌++◌, length, refl, sym, ap, ◌∙◌, arith, length-append, append_assoc, append-nil, Option, None, Some}
-use Rattle.std.proofs.Common.{Result, Ok, Err}
+use Rattle.std.proofs.Common.{◌≡◌, ℕ, ◌+◌, List, [], ◌++◌, length, refl, sym, ap, ◌∙◌, arith, length-append, append_assoc, append-nil, Option, Result, Ok, Err}
 use Rattle.std.specs.Prelude.{◌↔◌, OnOk, OnErr, IsErrOf, IsNone}
 use Rattle.domain_octets.specs.Limit.{IsOver}
 use Rattle.domain_octets.specs.declared.error.AppendError.{AppendError}
 use Rattle.domain_octets.specs.declared.error.AppendError.TheVariants.{ShortBuf, OutOfMemory}
+use Rattle.domain_octets.proofs.RoomLemmas.{over_more}
 use Rattle.domain_fields.specs.Layout.{Layout, ◌▸◌, Values, octets_of}
 use Rattle.domain_fields.specs.Target.{Appended, Began, Stops, Appends}
-
-over_more : (limit : Option ℕ) (m n : ℕ) → m ≤ n → IsOver limit m → IsOver limit n
-over_more None m n le over = over
-over_more (Some k) m n le over = omega arith
 
 module _ (limit : Option ℕ) (old mid new a b : List ℕ) (first : Appended limit old mid a) where
   counts : length old + length (a ++ b) ≡ length mid + length b

@@ -1,9 +1,10 @@
 -- at a place of a message stands one name at most, and none where there is a fault
 use Rattle.std.proofs.Common.{◌≡◌, ℕ, ◌+◌, ◌/◌, ◌%◌, ◌<◌, ◌≤◌, List, [], ◌∷◌, ◌++◌, length, take, drop, refl, sym, ap, subst, ◌∙◌, arith, length-append}
 use Rattle.std.specs.List.{AllByRecursion}
-use Rattle.std.proofs.lemmas.List.{append_assoc, drop_at, take_at, length-drop}
+use Rattle.std.proofs.lemmas.List.{append_assoc, take_at, length-drop}
 use Rattle.domain_base.specs.Name.{wire_of, IsLabel, IsName}
 use Rattle.domain_base.specs.Words.{Name}
+use Rattle.domain_base.proofs.FaultLemmas.{rest_of}
 use Rattle.domain_message.specs.Name.{labels_octets, pointer_octets, RunAt, LabelsAt, in_full, pointed, NameAt}
 use Rattle.domain_message.specs.Fault.{EndFault, no_octet, half_pointer, bad_type, not_backward, long_name, cut_label, LabelsFault, here, beyond}
 use Rattle.domain_message.specs.Steps.{LabelsRead}
@@ -13,10 +14,6 @@ use Rattle.domain_message.proofs.NameLemmas.{octets_of_more, all_of_more, wire_i
 -- no label stands here for which there is room in the name
 abbrev pub Ends : ℕ → List ℕ → Type 0
 Ends used behind = (label rest : List ℕ) → IsLabel label → behind ≡ length label ∷ (label ++ rest) → used + length label + 2 ≤ 255 → ⊥
-
-rest_of : (label rest l ls : List ℕ) → length label ≡ length l → label ++ rest ≡ l ++ ls → rest ≡ ls
-rest_of label rest l ls long same =
-    sym (drop_at label rest (length label) refl) ∙ ap (drop (length label)) same ∙ drop_at l ls (length label) (sym long)
 
 -- labels that end are told from their octets
 pub same_run : (used : ℕ) (xs ys : Name) (a b : List ℕ) → AllByRecursion IsLabel xs → AllByRecursion IsLabel ys

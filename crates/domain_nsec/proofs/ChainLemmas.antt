@@ -17,9 +17,10 @@ use Rattle.domain_zone.specs.declared.soa.ApexSoa.{ApexSoa}
 use Rattle.domain_zone.proofs.NameLemmas.{before_order, one_lowered, same_itself, same_is, before_left, before_right, below_from, same_lowered}
 use Rattle.domain_zone.proofs.OwnerLemmas.{any_owner, any_in, owners_are, owners_ascend, apex_unoccluded}
 use Rattle.domain_zone.proofs.PairLemmas.{In, all_in, IsAscending, IsApart, one_matches_or_covers, gap, owner_in, next_is, lt_trans}
-use Rattle.domain_zone.proofs.PlaceLemmas.{count_cons, one_place, in_at}
+use Rattle.domain_zone.proofs.PlaceLemmas.{count_cons, one_place}
 use Rattle.domain_zone.proofs.SoaLemmas.{soa_owned}
 use Rattle.domain_zone.proofs.ZoneLemmas.{weaker, apart_right}
+use Rattle.domain_zone.proofs.FindLemmas.{in_at}
 use Rattle.domain_nsec.specs.Chain.{Link, link_of, links_in, nsec_lists, IsChain}
 use Rattle.domain_nsec.specs.Meaning.{MirrorsZone, IsMatchedOrCoveredOnce, IsCycle, OwnersAscend, last_next}
 use Rattle.domain_nsec.specs.declared.config.GenerateNsecConfig.{GenerateNsecConfig}

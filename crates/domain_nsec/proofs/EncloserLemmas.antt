@@ -13,9 +13,10 @@ use Rattle.domain_zone.proofs.NameLemmas.{before_order, one_lowered, same_itself
 use Rattle.domain_zone.proofs.NameLemmas.{below_between, below_longer, lowered_below, same_lowered}
 use Rattle.domain_zone.proofs.OwnerLemmas.{any_owner, any_in, in_any, owners_are, below_occluder, occluder_owns}
 use Rattle.domain_zone.proofs.PairLemmas.{In, all_in, le_lt}
-use Rattle.domain_zone.proofs.PlaceLemmas.{one_place, in_at}
+use Rattle.domain_zone.proofs.PlaceLemmas.{one_place}
 use Rattle.domain_zone.proofs.SharedLemmas.{either_way, shared_is}
 use Rattle.domain_zone.proofs.ZoneLemmas.{apart_right}
+use Rattle.domain_zone.proofs.FindLemmas.{in_at}
 use Rattle.domain_nsec.specs.Chain.{Link, IsChain}
 use Rattle.domain_nsec.specs.Meaning.{TellsEmpty, TellsEncloser, IsCoveredBy, CoversBelowOccluders}
 use Rattle.domain_nsec.specs.declared.config.GenerateNsecConfig.{GenerateNsecConfig}

@@ -1,15 +1,12 @@
 -- The types that NSEC records list.
 use Rattle.std.proofs.Common.{◌≡◌, ℕ, ◌<◌, Bool, true, false, ◌&&◌, ◌||◌, List, [], refl, ap, ◌∙◌, nat_eq}
+use Rattle.domain_octets.proofs.StdLemmas.{or_false}
 use Rattle.domain_bitmap.specs.Bitmap.{bitmap_octets}
 use Rattle.domain_bitmap.specs.Builder.{holds}
 use Rattle.domain_bitmap.proofs.BitmapLemmas.{bitmap_octets-same}
 use Rattle.domain_zone.specs.Zone.{ZoneRecord, lists_type}
+use Rattle.domain_zone.proofs.TypeLemmas.{holds_nothing}
 use Rattle.domain_nsec.specs.Chain.{is_listed}
-
--- a builder without octets holds nothing
-holds_nothing : (value : List ℕ) → value ≡ [] → (t : ℕ) → holds value t ≡ false
-unfolding holds
-holds_nothing value e t = ap (λ v. holds v t) e
 
 pub common_two : (cut : Bool) (v0 v1 v2 : List ℕ) → v0 ≡ [] → ((t : ℕ) → t < 65536 → holds v1 t ≡ (nat_eq t 46 || holds v0 t))
     → ((t : ℕ) → t < 65536 → holds v2 t ≡ (nat_eq t 47 || holds v1 t)) → (t : ℕ) → t < 65536
@@ -42,8 +39,5 @@ pub listed_octets : (assumed cut : Bool) (G : List ZoneRecord) (old new : List �
     → ((t : ℕ) → t < 65536 → holds new t ≡ (holds old t || lists_type cut G t)) → bitmap_octets (holds new) ≡ bitmap_octets (is_listed assumed cut G)
 listed_octets assumed cut G old new common more =
     bitmap_octets-same (holds new) (is_listed assumed cut G)
-    (λ t b. more t b ∙ (λ i. common cut t b i || lists_type cut G t) ∙ merged (nat_eq t 46 || nat_eq t 47 || (assumed && nat_eq t 48)) (lists_type cut G t))
-  where
-    merged : (b c : Bool) → ((b || false) || c) ≡ (b || c)
-    merged true c = refl
-    merged false c = refl
+    (λ t b. more t b ∙ (λ i. common cut t b i || lists_type cut G t)
+    ∙ ap (λ b. b || lists_type cut G t) (or_false (nat_eq t 46 || nat_eq t 47 || (assumed && nat_eq t 48))))

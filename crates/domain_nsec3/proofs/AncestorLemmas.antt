@@ -2,14 +2,14 @@
 use Rattle.std.proofs.Common.{◌≡◌, ℕ, ◌+◌, ◌≤◌, ◌<◌, Bool, true, false, cond, not, ◌&&◌, ◌||◌, List, [], ◌∷◌, ◌++◌, length, refl, sym, ap, ◌∙◌, arith, inl, inr}
 use Rattle.std.specs.Prelude.{nat_le, nat_lt}
 use Rattle.std.specs.List.{AllByRecursion, list_any}
-use Rattle.std.proofs.lemmas.Bool.{cases_Bool, false≢true, leb-true, and_parts, and_from, not-true, or_cases, or_left, or_right}
+use Rattle.std.proofs.lemmas.Bool.{cases_Bool, false≢true, leb-true, or_cases, or_left, or_right}
 use Rattle.std.proofs.lemmas.Bool.Decides.{nat_tests}
 use Rattle.std.proofs.lemmas.List.{append-nil}
 use Rattle.std.proofs.lemmas.List.Folds.{list_any-append}
 use Rattle.domain_base.specs.Name.{is_at_or_below, is_strictly_below, lowered, same_name}
 use Rattle.domain_base.specs.Words.{Name}
 use Rattle.domain_zone.proofs.NameLemmas.{lowered_below, same_lowered, one_lowered, same_itself, below_itself, below_trans, below_longer, below_length}
-use Rattle.domain_zone.proofs.NameLemmas.{below_parent}
+use Rattle.domain_zone.proofs.NameLemmas.{strictly_longer, strictly_from, below_parent}
 use Rattle.domain_zone.proofs.PairLemmas.{all_in}
 use Rattle.domain_zone.proofs.OwnerLemmas.{any_in}
 use Rattle.domain_zone.proofs.ZoneLemmas.{weaker, all_both}
@@ -26,23 +26,6 @@ is_less : (m n : ℕ) → nat_lt m n ≡ true → m < n
 is_less m n h = grind (arith, nat_tests)
 
 -- ---- one name
-
--- strictly below is below with more labels
-pub strictly_longer : (x e : Name) → is_strictly_below x e ≡ true → length e < length x
-strictly_longer x e h =
-    let p = and_parts (is_at_or_below x e) (not (same_name x e)) h in
-    elim (cases_Bool (nat_le (length x) (length e))) [
-      | inl l ↦ absurd (false≢true (sym (not-true (same_name x e) p.1) ∙ same_itself x e (at_length x e p.0 (leb-true (length x) (length e) l))))
-      | inr l ↦ grind (arith, nat_tests)
-    ]
-
-pub strictly_from : (x e : Name) → is_at_or_below x e ≡ true → length e < length x → is_strictly_below x e ≡ true
-strictly_from x e h l =
-    and_from (is_at_or_below x e) (not (same_name x e)) h
-    (elim (cases_Bool (same_name x e)) [
-      | inl s ↦ let long = below_length e x (ap (λ k. lowered_below k (lowered x)) (sym (one_lowered x e s)) ∙ below_itself x) in absurd (omega arith)
-      | inr s ↦ ap not s
-    ])
 
 pub more_none : (n : ℕ) (x : Name) → length x ≤ n + 1 → above_with_more n x ≡ []
 more_none n [] h = refl

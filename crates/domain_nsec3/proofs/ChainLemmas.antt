@@ -34,6 +34,7 @@ use Rattle.domain_nsec3.specs.StepView.{as_hashed_types, links_in}
 use Rattle.domain_nsec3.specs.declared.chain.HashedChain.{HashedChain}
 use Rattle.domain_nsec3.specs.declared.hash.Hashed.{Hashed}
 use Rattle.domain_nsec3.proofs.TextLemmas.{sound_some, sound_short}
+use Rattle.domain_nsec3.proofs.FaultLemmas.{names_of}
 
 -- ---- a list that was hashed, and then put in order
 
@@ -190,10 +191,6 @@ pub one_made : {X : Type 0} (see : X → HashedLink) (old new : List X) (item : 
     → map see new ≡ take (i + 1) links
 one_made see old new item i links within pushed is h =
     ap (map see) pushed ∙ map-append see old (item ∷ []) ∙ (λ j. h j ++ is (see item) j ∷ []) ∙ sym (take_more links i (see item) within)
-
-names_of : (es : List HashedEntry) → map (λ n. n.name) (map without_hash es) ≡ map (λ e. e.name) es
-names_of [] = refl
-names_of (e ∷ es) = ap (λ l. e.name ∷ l) (names_of es)
 
 -- the names with their hashes
 abbrev named : HashedEntry → HashedName

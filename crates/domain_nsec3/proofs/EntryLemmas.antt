@@ -18,6 +18,7 @@ use Rattle.domain_zone.proofs.NameLemmas.{same_itself}
 use Rattle.domain_zone.proofs.OwnerLemmas.{in_any}
 use Rattle.domain_zone.proofs.PairLemmas.{all_from_in}
 use Rattle.domain_zone.proofs.ZoneLemmas.{all_both}
+use Rattle.domain_zone.proofs.TypeLemmas.{holds_nothing}
 use Rattle.domain_nsec3.specs.Ancestors.{IsListOf}
 use Rattle.domain_nsec3.specs.Config.{ChainConfig}
 use Rattle.domain_nsec3.specs.Owners.{original_owners, nsec3_lists, is_empty, is_listed, is_unsigned_cut}
@@ -26,7 +27,6 @@ use Rattle.domain_nsec3.specs.StepView.{as_hashed_entry, as_hashed_types}
 use Rattle.domain_nsec3.specs.declared.hash.Hashed.{Hashed}
 use Rattle.domain_nsec3.proofs.ChainLemmas.{AreChainNames}
 use Rattle.domain_nsec3.proofs.OwnerLemmas.{names_are, empty_are}
-use Rattle.domain_nsec3.proofs.TypeLemmas.{holds_nothing}
 
 -- ---- names with their types
 

@@ -24,6 +24,7 @@ use Rattle.domain_zone.proofs.NameLemmas.{before_order, before_left, one_lowered
 use Rattle.domain_zone.proofs.PairLemmas.{In, all_in}
 use Rattle.domain_zone.proofs.OwnerLemmas.{any_in, in_any}
 use Rattle.domain_zone.proofs.ZoneLemmas.{weaker, all_both, apart_left}
+use Rattle.domain_zone.proofs.FindLemmas.{in_middle}
 use Rattle.domain_nsec3.specs.Chain.{HashedLink, HashedName, IsHashedChain, IsOfChain}
 use Rattle.domain_nsec3.specs.Config.{ChainConfig, Hash, HashAnswer, hash_name, hash_of}
 use Rattle.domain_nsec3.specs.Faults.{hash_fault, is_hashed_before, IsFirstHashFault, IsFirstHashingFault, AreAllHashed, HasCollision}
@@ -129,10 +130,6 @@ module _ (L : List ZoneRecord) (a : Name) (config : ChainConfig) where
               (subst (Pairwise (λ x y. is_hashed_before L a config y x ≡ false)) r.joined order)) i) ∙ b'))
         ];
   }
-    where
-      in_middle : (xs : List Name) (x : Name) (ys : List Name) → In x (xs ++ x ∷ ys)
-      in_middle [] x ys = inl refl
-      in_middle (z ∷ xs) x ys = inr (in_middle xs x ys)
 
 -- ---- what a hash is refused for
 
@@ -217,7 +214,7 @@ unfolding IsStrictlySortedBy
 apart_names [] h = tt
 apart_names (x ∷ xs) h = (weaker (λ y. canonical_cmp x y ≡ Less) (λ y. same_name x y ≡ false) (λ y e. apart_left x y (ap is_lt e)) xs h.0, apart_names xs h.1)
 
-names_of : (es : List HashedEntry) → map (λ n. n.name) (map without_hash es) ≡ map (λ e. e.name) es
+pub names_of : (es : List HashedEntry) → map (λ n. n.name) (map without_hash es) ≡ map (λ e. e.name) es
 names_of [] = refl
 names_of (e ∷ es) = ap (λ l. e.name ∷ l) (names_of es)
 

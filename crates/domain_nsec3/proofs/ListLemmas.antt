@@ -5,40 +5,35 @@ use Rattle.std.specs.Prelude.{filter, nat_lt}
 use Rattle.std.specs.List.{AllByRecursion, list_any}
 use Rattle.std.specs.List.Sorted.{IsStrictlySortedBy}
 use Rattle.std.specs.Ordering.{is_lt}
-use Rattle.std.specs.declared.cmp.Ordering.{Ordering}
-use Rattle.std.specs.declared.cmp.Ordering.TheVariants.{Less, Equal, Greater}
+use Rattle.std.specs.declared.cmp.Ordering.TheVariants.{Less}
 use Rattle.std.proofs.lemmas.Bool.{cases_Bool, false≢true, leb-true, and_parts, and_from, not-true, or_cases}
 use Rattle.domain_base.specs.Order.{canonical_cmp, before, common_labels}
 use Rattle.domain_base.specs.Name.{is_at_or_below, is_strictly_below, lowered, same_name}
 use Rattle.domain_base.specs.Words.{Name}
+use Rattle.domain_records.proofs.Lookups.{is_less}
 use Rattle.domain_zone.specs.Enclosers.{is_empty_nonterminal}
-use Rattle.domain_zone.proofs.NameLemmas.{before_order, below_between, below_from, one_lowered, same_lowered}
+use Rattle.domain_zone.proofs.NameLemmas.{before_order, below_between, below_from, one_lowered, same_lowered, strictly_from}
 use Rattle.domain_zone.proofs.OwnerLemmas.{any_filter, any_in, in_any, any_weaker}
 use Rattle.domain_zone.proofs.PairLemmas.{IsAscending, lt_trans}
 use Rattle.domain_zone.proofs.SharedLemmas.{either_way}
 use Rattle.domain_zone.proofs.ZoneLemmas.{weaker, all_both, filter_whole, apart_left, apart_right, after_or}
 use Rattle.domain_nsec3.specs.Ancestors.{above_with_more, HoldsAncestors, IsListOf}
-use Rattle.domain_nsec3.proofs.AncestorLemmas.{IsAbove, are_above, strictly_from}
+use Rattle.domain_nsec3.proofs.AncestorLemmas.{IsAbove, are_above}
 use Rattle.domain_nsec3.proofs.SharedLemmas.{common_shares}
 
 -- ---- ascending lists of names
 
-less : (r : Ordering) → is_lt r ≡ true → r ≡ Less
-less Less e = refl
-less Equal e = absurd (false≢true e)
-less Greater e = absurd (false≢true e)
-
 pub sorted : (ks : List Name) → IsAscending before ks → IsStrictlySortedBy canonical_cmp ks
 unfolding IsStrictlySortedBy
 sorted [] h = tt
-sorted (k ∷ ks) h = (weaker (λ y. before k y ≡ true) (λ y. canonical_cmp k y ≡ Less) (λ y e. less (canonical_cmp k y) e) ks h.0, sorted ks h.1)
+sorted (k ∷ ks) h = (weaker (λ y. before k y ≡ true) (λ y. canonical_cmp k y ≡ Less) (λ y e. is_less (canonical_cmp k y) e) ks h.0, sorted ks h.1)
 
-ascending : (ks : List Name) → IsStrictlySortedBy canonical_cmp ks → IsAscending before ks
+pub ascending : (ks : List Name) → IsStrictlySortedBy canonical_cmp ks → IsAscending before ks
 unfolding IsStrictlySortedBy
 ascending [] h = tt
 ascending (k ∷ ks) h = (weaker (λ y. canonical_cmp k y ≡ Less) (λ y. before k y ≡ true) (λ y e. ap is_lt e) ks h.0, ascending ks h.1)
 
-ascending_both : (xs ys : List Name) → IsAscending before xs → IsAscending before ys
+pub ascending_both : (xs ys : List Name) → IsAscending before xs → IsAscending before ys
     → AllByRecursion (λ x. AllByRecursion (λ y. before x y ≡ true) ys) xs → IsAscending before (xs ++ ys)
 ascending_both [] ys h k across = k
 ascending_both (x ∷ xs) ys h k across = (all_both (λ y. before x y ≡ true) xs ys h.0 across.0, ascending_both xs ys h.1 k across.1)

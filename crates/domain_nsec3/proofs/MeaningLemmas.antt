@@ -15,7 +15,7 @@ use Rattle.std.proofs.lemmas.List.Elements.{recursion_from_All}
 use Rattle.std.proofs.lemmas.List.Sorted.{ranks_by}
 use Rattle.domain_octets.specs.Base32.{base32_lower}
 use Rattle.domain_octets.proofs.OrderLemmas.{lower_apart}
-use Rattle.domain_octets.proofs.StdLemmas.{and_false}
+use Rattle.domain_octets.proofs.StdLemmas.{and_false, some_is}
 use Rattle.domain_bitmap.specs.Bitmap.{bitmap_octets}
 use Rattle.domain_bitmap.proofs.BitmapLemmas.{bitmap_octets-same}
 use Rattle.domain_chain_rdata.specs.OptOut.{is_opt_out}
@@ -29,9 +29,10 @@ use Rattle.domain_zone.proofs.NameLemmas.{one_lowered, same_itself, below_itself
 use Rattle.domain_zone.proofs.NameLemmas.{same_lowered}
 use Rattle.domain_zone.proofs.OwnerLemmas.{any_filter, any_in, any_owner, apex_unoccluded, typed_owns}
 use Rattle.domain_zone.proofs.PairLemmas.{In, all_in, IsAscending, IsApart, gap, next_is, irreflexive, one_matches_or_covers}
-use Rattle.domain_zone.proofs.PlaceLemmas.{IsOnly, one_place, in_at}
+use Rattle.domain_zone.proofs.PlaceLemmas.{IsOnly, one_place}
 use Rattle.domain_zone.proofs.SharedLemmas.{either_way}
 use Rattle.domain_zone.proofs.SoaLemmas.{soa_owned}
+use Rattle.domain_zone.proofs.FindLemmas.{in_at, in_map}
 use Rattle.domain_nsec3.specs.Chain.{HashedLink, HashedName, IsHashedChain, IsOfChain, cycle, ends, ends_of, hashed_owner}
 use Rattle.domain_nsec3.specs.Config.{ChainConfig, HashAnswer, excludes, hash_of}
 use Rattle.domain_nsec3.specs.Meaning.{octets_before, IsAlone, AreAlone, IsRecordOf, IsMatchedOrCoveredOnce, MirrorsZone, TellsEncloserOf, TellsEncloser}
@@ -118,19 +119,11 @@ cycle_owners (u ∷ us) = by u us u
     by w [] f = refl
     by w (x ∷ ws) f = ap (λ t. w ∷ t) (by x ws f)
 
-in_map : {X Y : Type 0} (f : X → Y) (xs : List X) (x : X) → In x xs → In (f x) (map f xs)
-in_map f [] x i = i
-in_map f (y ∷ xs) x (inl e) = inl (ap f e)
-in_map f (y ∷ xs) x (inr i) = inr (in_map f xs x i)
-
 head_is : {X : Type 0} {x y : X} {xs ys : List X} → x ∷ xs ≡ y ∷ ys → x ≡ y
 head_is e = cc
 
 tail_is : {X : Type 0} {x y : X} {xs ys : List X} → x ∷ xs ≡ y ∷ ys → xs ≡ ys
 tail_is e = cc
-
-some_is : {X : Type 0} (x y : X) → Some x ≡ Some y → x ≡ y
-some_is x y e = cc
 
 ok_is : (x y : List ℕ) (r s : HashAnswer) → r ≡ s → r ≡ Ok x → s ≡ Ok y → x ≡ y
 ok_is x y r s e p q = let both : Ok x ≡ Ok y = sym p ∙ e ∙ q in cc

@@ -11,17 +11,13 @@ use Rattle.domain_base.specs.Types.{ns, ds, dname}
 use Rattle.domain_zone.specs.Zone.{ZoneRecord, records_of, owns, has_type, is_zone_cut, occludes, is_occluded, is_unoccluded, unoccluded_owners}
 use Rattle.domain_zone.specs.Enclosers.{exists_over, is_empty_nonterminal, IsClosestEncloser}
 use Rattle.domain_zone.proofs.PairLemmas.{In, all_in}
-use Rattle.domain_zone.proofs.NameLemmas.{one_lowered, same_itself, same_is, below_itself, below_trans, below_from, below_longer, below_length, lowered_below}
+use Rattle.domain_zone.proofs.NameLemmas.{one_lowered, same_itself, below_itself, below_trans, below_longer, below_length, lowered_below, same_both}
 use Rattle.domain_zone.proofs.NameLemmas.{same_lowered}
 use Rattle.domain_zone.proofs.OwnerLemmas.{any_owner, any_in, in_any, owners_are, any_weaker, any_filter, below_occluder}
 use Rattle.domain_zone.proofs.SharedLemmas.{either_way}
 use Rattle.domain_nsec3.specs.Config.{ChainConfig, excludes}
 use Rattle.domain_nsec3.specs.Owners.{is_excluded, is_original_owner, original_owners, is_chain_name, is_empty}
 use Rattle.domain_nsec3.specs.Meaning.{CutsEnclose}
-
--- below each other, the same
-pub same_both : (x c : Name) → is_at_or_below x c ≡ true → is_at_or_below c x ≡ true → same_name x c ≡ true
-same_both x c p q = same_is x c ∙ (λ i. not (below_from x c p i || below_from c x q i))
 
 strictly_down : (x m c : Name) → is_at_or_below m x ≡ true → is_strictly_below x c ≡ true → is_strictly_below m c ≡ true
 strictly_down x m c p s =

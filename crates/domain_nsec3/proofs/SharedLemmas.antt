@@ -1,6 +1,5 @@
 -- How many labels two names share: the names above one that are above the other too are those with at most as many.
-use Rattle.std.proofs.Common.{◌≡◌, ℕ, ◌+◌, ◌≤◌, Bool, true, false, cond, ◌&&◌, not, ◌||◌, [], ◌∷◌, ◌++◌, length, reverse, refl, sym, ap, ◌∙◌, arith, inl, inr}
-use Rattle.std.proofs.Common.{nat_eq}
+use Rattle.std.proofs.Common.{◌≡◌, ℕ, ◌+◌, ◌≤◌, Bool, true, false, cond, ◌&&◌, [], ◌∷◌, ◌++◌, length, reverse, refl, sym, ap, ◌∙◌, arith, inl, inr, nat_eq}
 use Rattle.std.specs.Prelude.{nat_le}
 use Rattle.std.specs.Cmp.Lexicographic.{pointwise, bytes_decides}
 use Rattle.std.specs.List.{common_prefix_len}
@@ -11,14 +10,12 @@ use Rattle.domain_base.specs.Laws.{from_root-below, below-from_root}
 use Rattle.domain_base.specs.Name.{is_at_or_below, lowered}
 use Rattle.domain_base.specs.Order.{common_labels, from_root}
 use Rattle.domain_base.specs.Words.{Label, Name}
-use Rattle.domain_zone.proofs.NameLemmas.{one_lowered, same_is, below_back, below_there, below_itself, below_trans, below_from, below_longer, below_parent}
+use Rattle.domain_zone.proofs.NameLemmas.{one_lowered, below_back, below_there, below_trans, below_longer, below_parent, same_length}
 use Rattle.domain_zone.proofs.SharedLemmas.{either_way}
 
 -- a name at or below one with no fewer labels is that one
 pub at_length : (x e : Name) → is_at_or_below x e ≡ true → length x ≤ length e → lowered x ≡ lowered e
-at_length x e h l =
-    let back = below_longer x e x h (below_itself x) l in
-    one_lowered x e (same_is x e ∙ (λ i. not (below_from x e h i || below_from e x back i)))
+at_length x e h l = one_lowered x e (same_length x e h l)
 
 -- above the first label
 pub cons_below : (x : Label) (xs e : Name) → length e ≤ length xs → is_at_or_below (x ∷ xs) e ≡ is_at_or_below xs e

@@ -1,15 +1,12 @@
 -- The types that NSEC3 records list.
 use Rattle.std.proofs.Common.{◌≡◌, ℕ, ◌<◌, Bool, true, false, not, ◌&&◌, ◌||◌, List, [], refl, ap, ◌∙◌, nat_eq}
+use Rattle.domain_octets.proofs.StdLemmas.{or_false}
 use Rattle.domain_bitmap.specs.Bitmap.{bitmap_octets}
 use Rattle.domain_bitmap.specs.Builder.{holds}
 use Rattle.domain_bitmap.proofs.BitmapLemmas.{bitmap_octets-same}
 use Rattle.domain_zone.specs.Zone.{ZoneRecord, lists_type}
+use Rattle.domain_zone.proofs.TypeLemmas.{holds_nothing}
 use Rattle.domain_nsec3.specs.Owners.{is_listed}
-
--- a builder without octets holds nothing
-pub holds_nothing : (value : List ℕ) → value ≡ [] → (t : ℕ) → holds value t ≡ false
-unfolding holds
-holds_nothing value e t = ap (λ v. holds v t) e
 
 pub common_listed : (unsigned apex assumed cut signed : Bool) (v0 v1 v2 v3 : List ℕ) → v0 ≡ [] → signed ≡ not unsigned
     → ((t : ℕ) → t < 65536 → holds v1 t ≡ ((nat_eq t 46 && signed) || holds v0 t))
@@ -38,8 +35,4 @@ pub listed_octets : (unsigned apex assumed cut : Bool) (G : List ZoneRecord) (ol
 listed_octets unsigned apex assumed cut G old new common more =
     bitmap_octets-same (holds new) (is_listed unsigned apex assumed cut G)
     (λ t b. more t b ∙ (λ i. common t b i || lists_type cut G t)
-    ∙ merged (((nat_eq t 46 && not unsigned) || (nat_eq t 51 && apex)) || (nat_eq t 48 && assumed)) (lists_type cut G t))
-  where
-    merged : (b c : Bool) → ((b || false) || c) ≡ (b || c)
-    merged true c = refl
-    merged false c = refl
+    ∙ ap (λ b. b || lists_type cut G t) (or_false (((nat_eq t 46 && not unsigned) || (nat_eq t 51 && apex)) || (nat_eq t 48 && assumed))))

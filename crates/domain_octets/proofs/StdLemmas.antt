@@ -1,6 +1,6 @@
 -- tests, options and results, where std has no such law
 use Rattle.std.proofs.Common.{◌≡◌, Bool, true, false, refl, subst, sym, Option, Some, None, Result, Ok, Err, IfErr}
-use Rattle.std.specs.Prelude.{◌||◌, ◌&&◌, IsErrAnd}
+use Rattle.std.specs.Prelude.{◌||◌, ◌&&◌, IsErrAnd, OnOk}
 use Rattle.std.specs.Option.{option_or}
 
 pub or_false : (b : Bool) → (b || false) ≡ b
@@ -32,6 +32,16 @@ and_false false = refl
 pub or_none : {X : Type 0} (o : Option X) → option_or o None ≡ o
 or_none None = refl
 or_none (Some x) = refl
+
+pub some_is : {X : Type 0} (x y : X) → Some x ≡ Some y → x ≡ y
+some_is x y e = cc
+
+pub none_some : {X : Type 0} (x : X) → None ≡ Some x → ⊥
+none_some x e = absurd (cc)
+
+pub on_ok_gives : {T E P Q : Type 0} (r : Result T E) → (P → Q) → OnOk r P → OnOk r Q
+on_ok_gives (Ok x) gives holds = gives holds
+on_ok_gives (Err e) gives holds = tt
 
 -- what holds of an error that is handed on
 pub if_err_of : {X E : Type 0} (P : E → Type 0) (e : E) (r : Result X E) → IsErrAnd r (λ f. f ≡ e) → P e → IfErr r P

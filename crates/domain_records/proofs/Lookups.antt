@@ -30,7 +30,7 @@ module _ {X : Type 0} {R : X → X → Ordering} (o : IsTotalOrder R) where
   pub less_from : (x y z : X) → is_gt (R x y) ≡ false → R y z ≡ Less → R x z ≡ Less
   less_from x y z h k = less_by x y z (R x y) refl h k
 
-is_less : (r : Ordering) → is_lt r ≡ true → r ≡ Less
+pub is_less : (r : Ordering) → is_lt r ≡ true → r ≡ Less
 is_less Less h = refl
 is_less Equal h = absurd (cc)
 is_less Greater h = absurd (cc)

@@ -1,5 +1,5 @@
 -- the pieces of signatures, written one after another
-use Rattle.std.proofs.Common.{◌≡◌, ℕ, List, [], ◌∷◌, ◌++◌, ap, ◌∙◌, append_assoc}
+use Rattle.std.proofs.Common.{◌≡◌, ℕ, List, [], ◌∷◌, ◌++◌, ◌∙◌}
 use Rattle.std.specs.Prelude.{codes}
 use Rattle.std.specs.Fmt.{decimal}
 use Rattle.base64.specs.GeneralPurpose.{encode_of}
@@ -7,7 +7,7 @@ use Rattle.base64.specs.Engines.{standard}
 use Rattle.domain_octets.specs.Piece.{PieceText, token, comment, opens, closes}
 use Rattle.domain_base.specs.Numbers.{type_text}
 use Rattle.domain_base.specs.Text.{name_text}
-use Rattle.domain_fields.proofs.PieceLemmas.{piece_before}
+use Rattle.domain_fields.proofs.PieceLemmas.{piece_before, pieces_before}
 use Rattle.domain_rrsig.specs.Data.{ProtoRrsigData, RrsigData}
 use Rattle.domain_rrsig.specs.Pieces.{signed_number_pieces, signer_pieces, rrsig_pieces}
 
@@ -39,9 +39,6 @@ signer_written a b c d e f g h i fields expiration inception tag name same_expir
     ∙ (λ j. a ++ (token (decimal (same_expiration j)) ∷ comment (codes "expiration") ∷ token
     (decimal (same_inception j)) ∷ comment (codes "inception") ∷ token (decimal (same_tag j))
     ∷ comment (codes "key tag") ∷ token (name_text (same_name j) ++ 46 ∷ []) ∷ comment (codes "signer name") ∷ []))
-
-pieces_before : (old mid new front back : List PieceText) → mid ≡ old ++ front → new ≡ mid ++ back → new ≡ old ++ (front ++ back)
-pieces_before old mid new front back first later = later ∙ ap (λ l. l ++ back) first ∙ append_assoc old front back
 
 pub rrsig_written : (a b c d e f : List PieceText) (rrsig : RrsigData) (fields : ProtoRrsigData) (octets : List ℕ)
     → fields ≡ rrsig.fields → octets ≡ rrsig.signature

@@ -1,4 +1,5 @@
 pub mod PairLemmas
+pub mod FindLemmas
 pub mod NameLemmas
 pub mod ZoneLemmas
 pub mod WalkLemmas

@@ -1,5 +1,5 @@
 -- All that the chains need of names: the order is strict and weak, what is below a name is an interval from it on, and below is a partial order.
-use Rattle.std.proofs.Common.{◌≡◌, Bool, true, false, not, ◌||◌, [], ◌∷◌, ◌++◌, map, length, refl, sym, ap, ◌∙◌, ◌≤◌, arith, nat_eq}
+use Rattle.std.proofs.Common.{◌≡◌, Bool, true, false, not, ◌||◌, [], ◌∷◌, ◌++◌, map, length, refl, sym, ap, ◌∙◌, ◌<◌, ◌≤◌, arith, nat_eq, inl, inr}
 use Rattle.std.specs.declared.cmp.Ordering.{Ordering}
 use Rattle.std.specs.declared.cmp.Ordering.TheVariants.{Less, Equal, Greater}
 use Rattle.std.specs.Char.{to_ascii_lowercase}
@@ -9,9 +9,9 @@ use Rattle.std.specs.Cmp.Lexicographic.{pointwise}
 use Rattle.std.specs.List.{ends_with}
 use Rattle.std.proofs.lemmas.List.{length-append, length-map, append_assoc, append-nil}
 use Rattle.std.proofs.lemmas.List.Sorted.{ranks_by}
-use Rattle.std.proofs.lemmas.Bool.{true≢false}
+use Rattle.std.proofs.lemmas.Bool.{true≢false, false≢true, and_parts, and_from, not-true, cases_lt, cases_Bool}
 use Rattle.domain_base.specs.Laws.{ancestor_first, between_names, same_name_same, same_name_ties, same_tied}
-use Rattle.domain_base.specs.Name.{lowered, IsAtOrBelow, same_name, is_at_or_below}
+use Rattle.domain_base.specs.Name.{lowered, IsAtOrBelow, same_name, is_at_or_below, is_strictly_below}
 use Rattle.domain_base.specs.Order.{canonical_cmp, canonical_cmp_total, before, IsUpTo}
 use Rattle.domain_base.specs.Words.{Label, Name}
 use Rattle.domain_base.proofs.CaseLemmas.{at_or_below_test, one_line}
@@ -108,3 +108,29 @@ below_parent l x = below_back (l ∷ x) x (record { front = map to_ascii_lowerca
 
 pub below_root : (x : Name) → is_at_or_below x [] ≡ true
 below_root x = below_back x [] (record { front = lowered x; joined = sym (append-nil (lowered x)) })
+
+-- below each other, the same
+pub same_both : (x c : Name) → is_at_or_below x c ≡ true → is_at_or_below c x ≡ true → same_name x c ≡ true
+same_both x c p q = same_is x c ∙ (λ i. not (below_from x c p i || below_from c x q i))
+
+-- an ancestor with as many labels is the name itself
+pub same_length : (x d : Name) → is_at_or_below x d ≡ true → length x ≤ length d → same_name x d ≡ true
+same_length x d p l = same_both x d p (below_longer x d x p (below_itself x) l)
+
+-- what is strictly below a name has more labels
+pub strictly_longer : (x c : Name) → is_strictly_below x c ≡ true → length c < length x
+strictly_longer x c s =
+    let p = and_parts (is_at_or_below x c) (not (same_name x c)) s in
+    elim (cases_lt (length c) (length x)) [
+      | inl h ↦ h
+      | inr h ↦ absurd (false≢true (sym (not-true (same_name x c) p.1) ∙ same_length x c p.0 h))
+    ]
+
+-- and what is below it with more labels is strictly below
+pub strictly_from : (x d : Name) → is_at_or_below x d ≡ true → length d < length x → is_strictly_below x d ≡ true
+strictly_from x d p l =
+    and_from (is_at_or_below x d) (not (same_name x d)) p
+    (elim (cases_Bool (same_name x d)) [
+      | inl e ↦ let n = below_length d x (ap (λ k. lowered_below k (lowered x)) (sym (one_lowered x d e)) ∙ below_itself x) in absurd (omega arith)
+      | inr e ↦ ap not e
+    ])

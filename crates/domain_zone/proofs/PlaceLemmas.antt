@@ -3,7 +3,6 @@ use Rattle.std.proofs.Common.{◌≡◌, ℕ, ◌+◌, Bool, true, false, cond, 
 use Rattle.std.specs.Prelude.{count_by, slice_get}
 use Rattle.std.proofs.lemmas.Bool.{cases_Bool, false≢true}
 use Rattle.std.proofs.lemmas.List.Sums.{sum_by-cons}
-use Rattle.domain_zone.proofs.PairLemmas.{In}
 
 module _ {X : Type 0} where
   pub count_cons : (p : X → Bool) (x : X) (xs : List X) → count_by p (x ∷ xs) ≡ cond (p x) 1 0 + count_by p xs
@@ -53,8 +52,3 @@ module _ {X : Type 0} where
             let r = one_place p xs (omega (arith, counted_later p x xs t)) in
             record { place = suc r.place; item = r.item; there = r.there; passes = r.passes; only = only_later p x xs t r.place r.only }
       ]
-
-  pub in_at : (xs : List X) (i : ℕ) (x : X) → slice_get xs i ≡ Some x → In x xs
-  in_at [] i x e = absurd (cc)
-  in_at (y ∷ xs) zero x e = inl (cc)
-  in_at (y ∷ xs) (suc i) x e = inr (in_at xs i x e)

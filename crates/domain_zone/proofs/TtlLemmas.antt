@@ -1,7 +1,7 @@
 -- Where types never descend, two records of one type differ in TTL exactly where two neighbours do.
 use Rattle.std.proofs.Common.{◌≡◌, ◌≤◌, ℕ, Bool, true, false, not, ◌&&◌, ◌||◌, List, [], ◌∷◌, map, refl, sym, ap, ◌∙◌, inl, inr, arith, nat_eq, Option}
 use Rattle.std.specs.List.{list_any, AllByRecursion}
-use Rattle.std.proofs.lemmas.Bool.{cases_Bool, false≢true, and_parts, or_parts, or_cases, eqb-true, eqb-false}
+use Rattle.std.proofs.lemmas.Bool.{cases_Bool, false≢true, and_parts, or_parts, or_cases, eqb-true, eqb-false, or_right}
 use Rattle.domain_record.specs.declared.record.Record.{Record}
 use Rattle.domain_records.specs.Order.{HoldsPairwise}
 use Rattle.domain_base.specs.Words.{Name}
@@ -106,7 +106,7 @@ some_pair (r ∷ []) e = absurd (false≢true e)
 some_pair (r ∷ s ∷ rs) e =
     elim (or_cases (clashes r s) (has_neighbour_clash (s ∷ rs)) e) [
       | inl h ↦ in_front (list_any (λ t. list_any (clashes t) (r ∷ s ∷ rs)) (s ∷ rs)) (clashes r r) (list_any (clashes r) rs) (clashes r s) h
-      | inr h ↦ later (list_any (clashes r) (r ∷ s ∷ rs)) (list_any (λ t. list_any (clashes t) (r ∷ s ∷ rs)) (s ∷ rs))
+      | inr h ↦ or_right (list_any (clashes r) (r ∷ s ∷ rs)) (list_any (λ t. list_any (clashes t) (r ∷ s ∷ rs)) (s ∷ rs))
           (more (s ∷ rs) (s ∷ rs) (some_pair (s ∷ rs) h))
     ]
   where
@@ -114,16 +114,12 @@ some_pair (r ∷ s ∷ rs) e =
     in_front z true c b h = refl
     in_front z false c b h = λ i. (h i || c) || z
 
-    later : (a b : Bool) → b ≡ true → (a || b) ≡ true
-    later true b h = refl
-    later false b h = h
-
     more : (ts us : List ZoneRecord) → list_any (λ t. list_any (clashes t) us) ts ≡ true → list_any (λ t. list_any (clashes t) (r ∷ us)) ts ≡ true
     more [] us h = absurd (false≢true h)
     more (t ∷ ts) us h =
         elim (or_cases (list_any (clashes t) us) (list_any (λ u. list_any (clashes u) us) ts) h) [
-          | inl k ↦ λ i. later (clashes t r) (list_any (clashes t) us) k i || list_any (λ u. list_any (clashes u) (r ∷ us)) ts
-          | inr k ↦ later (list_any (clashes t) (r ∷ us)) (list_any (λ u. list_any (clashes u) (r ∷ us)) ts) (more ts us k)
+          | inl k ↦ λ i. or_right (clashes t r) (list_any (clashes t) us) k i || list_any (λ u. list_any (clashes u) (r ∷ us)) ts
+          | inr k ↦ or_right (list_any (clashes t) (r ∷ us)) (list_any (λ u. list_any (clashes u) (r ∷ us)) ts) (more ts us k)
         ]
 
 pub neighbours_tell : (rs : List ZoneRecord) → NeverDescend rs → has_neighbour_clash rs ≡ has_clash rs

@@ -6,6 +6,11 @@ use Rattle.domain_octets.proofs.StdLemmas.{or_turn, or_false}
 use Rattle.domain_bitmap.specs.Builder.{holds}
 use Rattle.domain_zone.specs.Zone.{ZoneRecord, has_type, lists_type, may_list}
 
+-- a builder without octets holds nothing
+pub holds_nothing : (value : List ℕ) → value ≡ [] → (t : ℕ) → holds value t ≡ false
+unfolding holds
+holds_nothing value e t = ap (λ v. holds v t) e
+
 -- a builder that held what `old` holds has the listed types of the records passed so far as well
 pub record Lists (old : List ℕ) (cut : Bool) (G rest : List ZoneRecord) (value : List ℕ) : Type 0 where
   pub passed : List ZoneRecord

@@ -1,5 +1,5 @@
 -- The records that a server answers with, as they are found and written.
-use Rattle.std.proofs.Common.{◌≡◌, ◌<◌, ℕ, Bool, true, false, List, [], ◌++◌, codes, length, nat_lt, refl, ap, sym, ◌∙◌, append_assoc, Option, Some, None}
+use Rattle.std.proofs.Common.{◌≡◌, ◌<◌, ℕ, Bool, true, false, List, [], ◌++◌, codes, length, nat_lt, refl, ap, sym, ◌∙◌, Option, Some, None}
 use Rattle.std.proofs.lemmas.Bool.{cond-false, cond-true, lt-ltb}
 use Rattle.std.specs.Fmt.{decimal}
 use Rattle.std.specs.List.{find}
@@ -22,6 +22,7 @@ use Rattle.domain_answer.specs.Found.{IsFound}
 use Rattle.domain_answer.specs.ZoneAnswer.{wildcard_below}
 use Rattle.domain_answer.specs.declared.answer.Answer.{Answer}
 use Rattle.denial_program.specs.Text.{nsec3param_line}
+use Rattle.denial_program.proofs.RunLemmas.{parts_of_line}
 use Rattle.judge_program.specs.Why.{wildcard_count}
 use Rattle.judge_program.specs.Records.{first_of, hash_found, is_told, line_once, name_part, needs_of, needs_wildcard, nsec_found, nsec_once, nsec_records}
 use Rattle.judge_program.specs.Records.{nsec_wildcard_found, nsec3_wildcard_found}
@@ -75,12 +76,6 @@ pub closer_is : (R : HashedRecords) (x : Name) (n : ℕ) (closer : Name)
     (matched covered : Option HashedLink) → closer ≡ closer_name n x → IsLookedUp R (wire_of (lowered closer)) matched covered
     → first_of matched covered ≡ hash_found R (hash_name R.hash (closer_name n x))
 closer_is R x n closer matched covered is looked = looked_up_is R closer (closer_name n x) matched covered is looked
-
--- the parts of a line in the grouping in which they are written
-parts_of_line : (owner ttl class kind text : Octets)
-    → (owner ++ codes ".") ++ (codes " " ++ (ttl ++ (codes " " ++ (class ++ (codes " " ++ (kind ++ (codes " " ++ text)))))))
-    ≡ (owner ++ codes ".") ++ codes " " ++ ttl ++ codes " " ++ class ++ codes " " ++ kind ++ codes " " ++ text
-parts_of_line owner ttl class kind text = simp append_assoc
 
 -- an NSEC3PARAM record as it is printed
 pub param_line_printed : (k : ParamRecord)

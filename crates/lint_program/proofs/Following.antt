@@ -9,6 +9,7 @@ use Rattle.denial_program.specs.Listing.{IsBad, IsFirstBad, IsLineRecord}
 use Rattle.denial_program.specs.Words.{words, IsSkipped}
 use Rattle.lint_program.specs.Lines.{AreLinted}
 use Rattle.denial_program.proofs.LineSteps.{line_once}
+use Rattle.denial_program.proofs.ReadingLemmas.{taken_some}
 
 -- ---- one line
 
@@ -62,10 +63,6 @@ follows_end (Some all) (Some xs) bad numbers records number h e =
     subst (AreLinted 1 (lines all) bad numbers) (append-nil records)
     (subst (λ ps. AreLinted 1 (lines all) bad ps (records ++ [])) (append-nil numbers)
     (subst (λ bs. AreLinted 1 (lines all) bs (numbers ++ []) (records ++ [])) (append-nil bad) (c [] [] [] (refl, refl, refl))))
-
-taken_some : (bs : List ℕ) → 0 < length (take_through 10 bs) → 0 < length bs
-taken_some [] h = h
-taken_some (x ∷ xs) h = omega arith
 
 -- a line was read into a buffer that was empty
 pub follows_next : (known old new : Option (List ℕ)) (bad numbers : List ℕ) (records : List RawRecord) (number : ℕ) (was buf view : List ℕ)

@@ -13,22 +13,22 @@ use Rattle.denial_c.proofs.JudgeLemmas.{allowed, needed}
 use Rattle.denial_c.proofs.Nsec3Lemmas.{asked_fault, hash_fault}
 use Rattle.denial_c.proofs.judge.nsec3_answer.Goals as goal
 
-pub returns-in_err-asked : goal.returns-in_err-asked
-returns-in_err-asked c =
+pub returns-in_err-apex : goal.returns-in_err-apex
+returns-in_err-apex c =
     let q = err_from_is_err_and c.from_residual.result c.from_residual.ensures.1 in
     rw (q.1, q.2) (asked_fault (source_of c.args.telling c.args.class c.args.records.now) c.args.apex.now c.args.name.now
     (IsAnswerRefused (source_of c.args.telling c.args.class c.args.records.now) c.args.apex.now c.args.name.now c.args.rtype c.args.limit)
-    _ c.in_err-asked.ensures.err)
+    _ c.in_err-apex.ensures.err)
 
-pub returns-in_ok-answer : goal.returns-in_ok-answer
-returns-in_ok-answer c =
-    let q = as_question c.in_ok-asked.question in
+pub returns : goal.returns
+returns c =
+    let q = as_question c.in_ok-apex.field-0 in
     let answer = c.in_ok-answer.answer in
     let are = c.in_ok-answer.ensures in
-    let same = c.from_int.ensures in
+    let same = c.from_int-rtype.ensures in
     record {
       q = q;
-      asked = c.in_ok-asked.ensures.ok;
+      asked = c.in_ok-apex.ensures.ok;
       outside = λ off. let e = are.outside off in cc;
       parent = λ low at. let e = are.parent low (subst (λ t. is_at_parent q.apex q.name t ≡ true) (sym same) at) in cc;
       iterations = λ some over. let e = are.iterations (subst (λ t. needs_no_records q.apex q.name t ≡ false) (sym same) some) over in cc;
@@ -42,18 +42,18 @@ returns-in_ok-answer c =
 pub returns-in_err-answer : goal.returns-in_err-answer
 returns-in_err-answer c =
     let source = source_of c.args.telling c.args.class c.args.records.now in
-    let q = as_question c.in_ok-asked.question in
-    let error = c.in_err-answer.error in
+    let q = as_question c.in_ok-apex.field-0 in
+    let error = c.in_err-answer.field-0.0 in
     let are = c.in_err-answer.ensures in
-    let same = c.from_int.ensures in
-    let some = needed (Err error) error refl (is_at_or_below q.name q.apex) (is_at_parent q.apex q.name c.from_int.result) OutsideZone AtParent
+    let same = c.from_int-rtype.ensures in
+    let some = needed (Err error) error refl (is_at_or_below q.name q.apex) (is_at_parent q.apex q.name c.from_int-rtype.result) OutsideZone AtParent
     are.outside are.parent in
     let r = err_from_is_err_and c.from_residual-in_err-answer.result c.from_residual-in_err-answer.ensures.1 in
     rw (r.1, r.2) (hash_fault source c.args.apex.now c.args.name.now (IsAnswerRefused source c.args.apex.now c.args.name.now c.args.rtype c.args.limit)
     error are.errors (λ n is. record {
       q = q;
       reason = n;
-      asked = c.in_ok-asked.ensures.ok;
+      asked = c.in_ok-apex.ensures.ok;
       needed = subst (λ t. needs_no_records q.apex q.name t ≡ false) same some;
       allowed = allowed (Err error) error refl c.args.limit q.param.parameters.iterations TooManyIterations (are.iterations some);
       first = subst (λ t. IsFirstOfRefusals (sha1_records q) q.name t n) same (are.refusal n (ap (λ e. Err e) is));

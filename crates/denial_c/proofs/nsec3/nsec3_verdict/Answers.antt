@@ -7,22 +7,35 @@ use Rattle.denial_c.specs.Result.{sha1_records, source_of, HashedQuestion, IsRef
 use Rattle.denial_c.proofs.Nsec3Lemmas.{asked_fault, hash_fault}
 use Rattle.denial_c.proofs.nsec3.nsec3_verdict.Goals as goal
 
-pub returns-in_err-asked : goal.returns-in_err-asked
-returns-in_err-asked c =
+pub returns-in_err-apex : goal.returns-in_err-apex
+returns-in_err-apex c =
     let q = err_from_is_err_and c.from_residual.result c.from_residual.ensures.1 in
     rw (q.1, q.2) (asked_fault (source_of c.args.telling c.args.class c.args.records.now) c.args.apex.now c.args.name.now
-    (IsRefused (source_of c.args.telling c.args.class c.args.records.now) c.args.apex.now c.args.name.now) _ c.in_err-asked.ensures.err)
+    (IsRefused (source_of c.args.telling c.args.class c.args.records.now) c.args.apex.now c.args.name.now) _ c.in_err-apex.ensures.err)
 
-pub returns-in_ok-verdict : goal.returns-in_ok-verdict
-returns-in_ok-verdict c =
-    let q = as_question c.in_ok-asked.question in
+pub returns : goal.returns
+returns c =
+    let q = as_question c.in_ok-apex.field-0 in
     let verdict = c.in_ok-verdict.verdict in
     record {
       q = q;
-      asked = c.in_ok-asked.ensures.ok;
+      asked = c.in_ok-apex.ensures.ok;
       outside = λ off. let e = c.in_ok-verdict.ensures.outside off in cc;
-      zone = subst (λ t. IsHashedProved (sha1_records q) q.name t verdict) c.from_int.ensures c.in_ok-verdict.ensures.zone;
-      exact = λ low. subst (λ t. IsWalked (sha1_records q) q.name t verdict) c.from_int.ensures (c.in_ok-verdict.ensures.exact low);
+      zone = subst (λ t. IsHashedProved (sha1_records q) q.name t verdict) c.from_int-rtype.ensures c.in_ok-verdict.ensures.zone;
+      exact = λ low. subst (λ t. IsWalked (sha1_records q) q.name t verdict) c.from_int-rtype.ensures (c.in_ok-verdict.ensures.exact low);
       proof = λ low some. c.in_ok-verdict.ensures.proof low some;
       within = c.in_ok-verdict.ensures.within;
     }
+
+pub returns-in_err-verdict : goal.returns-in_err-verdict
+returns-in_err-verdict c =
+    let source = source_of c.args.telling c.args.class c.args.records.now in
+    let error = c.in_err-verdict.field-0.0 in
+    let are = c.in_err-verdict.ensures in
+    let r = err_from_is_err_and c.from_residual-in_err-verdict.result c.from_residual-in_err-verdict.ensures.1 in
+    rw (r.1, r.2) (hash_fault source c.args.apex.now c.args.name.now (IsRefused source c.args.apex.now c.args.name.now) error are.errors (λ n is. record {
+      q = as_question c.in_ok-apex.field-0;
+      reason = n;
+      asked = c.in_ok-apex.ensures.ok;
+      first = are.refusal n (ap (λ e. Err e) is);
+    }))

@@ -1,13 +1,8 @@
-use Rattle.std.proofs.Common.{◌≡◌, ℕ, zero, suc, ◌<◌, false, map, ◌∙◌, sym, arith}
-use Rattle.std.specs.Bool.{◌==◌}
-use Rattle.std.proofs.lemmas.Bool.{false≢true}
+use Rattle.std.proofs.Common.{zero, map, ◌∙◌, sym, arith}
 use Rattle.domain_nsec3.specs.View.{as_param_record}
+use Rattle.domain_nsec3.proofs.TextLemmas.{more_than_none}
 use Rattle.denial_c.proofs.AmongLemmas.{length_map}
 use Rattle.denial_c.proofs.nsec3.param_among.Goals as goal
-
-some_left : (n : ℕ) → (n == 0) ≡ false → 0 < n
-some_left zero e = absurd (false≢true (sym e))
-some_left (suc n) e = omega arith
 
 pub returns-in_default-clause-err : goal.returns-in_default-clause-err
 returns-in_default-clause-err c =
@@ -28,6 +23,6 @@ returns-then-not-is_empty-clause-err c =
       others = (λ one.
           let same = length_map (as_param_record (λ n. n)) c.in_ok-params.params.items in
           let more = c.in-Some.ensures.cases in
-          let some = some_left _ (sym c.is_empty.ensures ∙ c.if-not-is_empty.true) in
+          let some = more_than_none _ (sym c.is_empty.ensures ∙ c.if-not-is_empty.true) in
           omega (arith, c.in_ok-params.params.ok.0));
     }

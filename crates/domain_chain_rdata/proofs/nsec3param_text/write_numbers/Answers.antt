@@ -1,5 +1,5 @@
-use Rattle.domain_fields.proofs.PieceLemmas.{on_ok_gives}
 use Rattle.domain_chain_rdata.proofs.Nsec3Lemmas.{numbers_written}
+use Rattle.domain_octets.proofs.StdLemmas.{on_ok_gives}
 use Rattle.domain_chain_rdata.proofs.nsec3param_text.write_numbers.Goals as goal
 
 pub returns : goal.returns

@@ -1,8 +1,9 @@
-use Rattle.std.proofs.Common.{◌≡◌, ◌+◌, Bool, true, false, not, Option, Some, None, map, drop, refl, sym, ap, ◌∙◌}
+use Rattle.std.proofs.Common.{◌≡◌, ◌+◌, Bool, true, false, not, Option, map, drop, sym, ap, ◌∙◌}
 use Rattle.std.specs.List.{find}
 use Rattle.std.specs.Option.{is_some, option_map, option_or}
 use Rattle.std.proofs.lemmas.List.{at_drop_all}
 use Rattle.domain_octets.specs.Words.{Octets}
+use Rattle.domain_octets.proofs.StdLemmas.{or_none}
 use Rattle.domain_zone.specs.Covering.{covers, matches}
 use Rattle.domain_nsec3.specs.Meaning.{octets_before}
 use Rattle.domain_nsec3.specs.Chain.{HashedLink}
@@ -11,8 +12,7 @@ use Rattle.domain_checker.specs.HashedList.{is_hash_match, is_some_with, read_la
 use Rattle.domain_checker.proofs.FirstLemmas.{found_here, found_later, met_here, met_later, met_before}
 use Rattle.domain_checker.proofs.hashed.find_hash.Given.{Over}
 use Rattle.domain_checker.proofs.hashed.find_hash.Goals as goal
-use Rattle.domain_checker.proofs.hashed.find_hash.Goals.{Start}
-use Rattle.domain_checker.proofs.hashed.find_hash.Goals.{then-is_none+then-is_cover, else-is_none, else-is_none-via-then-is_none+else-is_cover}
+use Rattle.domain_checker.proofs.hashed.find_hash.Goals.{Start, then-is_none+then-is_cover, else-is_none, else-is_none-via-then-is_none+else-is_cover}
 use Rattle.domain_checker.proofs.hashed.find_hash.Goals.{else-is_none-via-else-is_none}
 
 -- what is looked for, a match and else the first cover
@@ -85,10 +85,6 @@ loop-listed-preserved g c =
         ])
       ];
     }
-
-or_none : {Y : Type 0} (o : Option Y) → option_or o None ≡ o
-or_none None = refl
-or_none (Some y) = refl
 
 pub returns : goal.returns
 returns g c =

@@ -1,5 +1,6 @@
 use Rattle.std.proofs.Common.{ap, length}
-use Rattle.domain_bitmap.proofs.PieceLemmas.{on_ok_gives, salt_written}
+use Rattle.domain_octets.proofs.StdLemmas.{on_ok_gives}
+use Rattle.domain_bitmap.proofs.PieceLemmas.{salt_written}
 use Rattle.domain_bitmap.proofs.zonefile.Nsec3SaltZonefileFmt.fmt.Goals as goal
 
 pub returns : goal.returns

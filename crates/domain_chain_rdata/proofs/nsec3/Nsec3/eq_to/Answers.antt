@@ -2,7 +2,7 @@ use Rattle.std.proofs.Common.{◌≡◌, ap, ◌∙◌, rules}
 use Rattle.std.specs.Ordering.{is_eq, nat_cmp}
 use Rattle.std.specs.Cmp.Lexicographic.{slice_cmp}
 use Rattle.std.specs.Prelude.{bytes_eq}
-use Rattle.domain_fields.proofs.OrderLemmas.{tied}
+use Rattle.std.proofs.lemmas.Map.Text.{is_eq-slice_cmp}
 use Rattle.domain_chain_rdata.specs.Rdata.{nsec3_values, nsec3_octets}
 use Rattle.domain_chain_rdata.proofs.Nsec3Lemmas.{same_nsec3}
 use Rattle.domain_chain_rdata.proofs.nsec3.Nsec3.eq_to.Goals as goal
@@ -11,7 +11,7 @@ ordered : (g : _) (c : goal.After-is_eq g) → c.order.result ≡ slice_cmp nat_
 ordered g c = search rules
 
 equal : (g : _) (c : goal.After-is_eq g) → c.is_eq.result ≡ bytes_eq (nsec3_octets c.args.self.now) (nsec3_octets c.args.other.now)
-equal g c = c.is_eq.ensures ∙ ap is_eq (ordered g c) ∙ tied (nsec3_octets c.args.self.now) (nsec3_octets c.args.other.now)
+equal g c = c.is_eq.ensures ∙ ap is_eq (ordered g c) ∙ is_eq-slice_cmp (nsec3_octets c.args.self.now) (nsec3_octets c.args.other.now)
 
 pub returns-clause-value : goal.returns-clause-value
 returns-clause-value g c = equal g c

@@ -1,5 +1,5 @@
-use Rattle.domain_fields.proofs.PieceLemmas.{on_ok_gives}
 use Rattle.domain_chain_rdata.specs.Rdata.{nsec3_values}
+use Rattle.domain_octets.proofs.StdLemmas.{on_ok_gives}
 use Rattle.domain_chain_rdata.proofs.Nsec3Lemmas.{nsec3_written}
 use Rattle.domain_chain_rdata.proofs.nsec3_text.Nsec3ZonefileFmt.fmt.Goals as goal
 

@@ -1,5 +1,5 @@
 use Rattle.std.proofs.Common.{◌∙◌}
-use Rattle.domain_fields.proofs.PieceLemmas.{on_ok_gives}
+use Rattle.domain_octets.proofs.StdLemmas.{on_ok_gives}
 use Rattle.domain_keys.proofs.PieceLemmas.{ds_written}
 use Rattle.domain_keys.proofs.ds_text.DsZonefileFmt.fmt.Goals as goal
 

@@ -27,7 +27,8 @@ invariant_of-self g c =
     let room : IsOk c.insert.result = c.insert.ensures.succeeds
     (omega (arith, c.remove-changed.ensures.len, c.remove-changed.ensures.capacity, c.self.inside.records.ok)) in
     let gap = rw (c.deref-in-Some.ensures.value, c.remove-changed.ensures.items) at c.in-Err.ensures.absent in
-    rw (c.insert.ensures.items, room, c.remove-changed.ensures.items) (sorted_insert (order g) _ _ _ (sorted_remove (order g) _ _ within c.self.invariant) gap).sorted
+    rw (c.insert.ensures.items, room, c.remove-changed.ensures.items)
+    (sorted_insert (order g) _ _ _ (sorted_remove (order g) _ _ within c.self.invariant) gap).sorted
 
 pub returns-in-Err : goal.returns-in-Err
 returns-in-Err g c =

@@ -1,5 +1,5 @@
 use Rattle.std.proofs.Common.{◌∙◌}
-use Rattle.domain_fields.proofs.PieceLemmas.{on_ok_gives}
+use Rattle.domain_octets.proofs.StdLemmas.{on_ok_gives}
 use Rattle.domain_rrsig.proofs.PieceLemmas.{rrsig_written}
 use Rattle.domain_rrsig.proofs.rrsig_text.RrsigZonefileFmt.fmt.Goals as goal
 

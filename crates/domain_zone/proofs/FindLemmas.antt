@@ -1,8 +1,9 @@
 -- Elements of lists: which pass a test, the first that does, and where they stand.
-use Rattle.std.proofs.Common.{◌≡◌, ℕ, Bool, true, false, cond, ◌||◌, List, [], ◌∷◌, map, Some, None, refl, sym, ap, ◌∙◌, inl, inr, ◌⊎◌, zero, suc, slice_get}
+use Rattle.std.proofs.Common.{◌≡◌, ℕ, Bool, true, false, cond, ◌||◌, List, [], ◌∷◌, ◌++◌, map, Some, None, refl, sym, ap, ◌∙◌, inl, inr, ◌⊎◌, zero, suc}
+use Rattle.std.proofs.Common.{slice_get}
 use Rattle.std.specs.Prelude.{All, filter}
 use Rattle.std.specs.List.{find, list_any, Contains}
-use Rattle.std.proofs.lemmas.Bool.{cases_Bool}
+use Rattle.std.proofs.lemmas.Bool.{cases_Bool, false≢true}
 use Rattle.std.proofs.lemmas.List.Elements.{recursion_from_All}
 use Rattle.std.proofs.lemmas.Option.{slice_get-get_or}
 use Rattle.domain_zone.specs.Covering.{pairs}
@@ -28,6 +29,28 @@ module _ {X : Type 0} where
   in_at [] i x e = absurd (cc)
   in_at (y ∷ xs) zero x e = inl (cc)
   in_at (y ∷ xs) (suc i) x e = inr (in_at xs i x e)
+
+  pub in_filtered : (p : X → Bool) (xs : List X) (y : X) → In y xs → p y ≡ true → In y (filter p xs)
+  in_filtered p [] y i e = absurd i
+  in_filtered p (x ∷ xs) y i e =
+      elim (p x) as (λ b. p x ≡ b → In y (cond b (x ∷ filter p xs) (filter p xs))) [
+        | true ↦ λ f. elim i [ inl k ↦ inl k | inr k ↦ inr (in_filtered p xs y k e) ]
+        | false ↦ λ f. elim i [ inl k ↦ absurd (false≢true (sym f ∙ ap p k ∙ e)) | inr k ↦ in_filtered p xs y k e ]
+      ] refl
+
+  pub in_either : (xs ys : List X) (x : X) → In x (xs ++ ys) → In x xs ⊎ In x ys
+  in_either [] ys x i = inr i
+  in_either (y ∷ xs) ys x (inl e) = inl (inl e)
+  in_either (y ∷ xs) ys x (inr i) = elim (in_either xs ys x i) [ inl j ↦ inl (inr j) | inr j ↦ inr j ]
+
+  pub in_front : (xs ys : List X) (x : X) → In x xs → In x (xs ++ ys)
+  in_front [] ys x i = absurd i
+  in_front (y ∷ xs) ys x (inl e) = inl e
+  in_front (y ∷ xs) ys x (inr i) = inr (in_front xs ys x i)
+
+  pub in_middle : (xs : List X) (x : X) (ys : List X) → In x (xs ++ x ∷ ys)
+  in_middle [] x ys = inl refl
+  in_middle (y ∷ xs) x ys = inr (in_middle xs x ys)
 
 -- both of a pair are in the list, or the second is what follows the last
 pub in_pairs : {X : Type 0} (xs : List X) (first : X) (p : X × X) → In p (pairs xs first) → In p.0 xs × (In p.1 xs ⊎ (first ≡ p.1))
