@@ -1,7 +1,7 @@
 -- The octets of chains, and what is answered of them.
 use Rattle.std.proofs.Common.{◌≡◌, ◌≢◌, ℕ, ◌<◌, ◌≤◌, false, List, length, refl, sym, subst, Result, Ok, Err, IfOk, IfErr}
 use Rattle.domain_alike.specs.Covered.{covered_names}
-use Rattle.domain_base.specs.Words.{Name}
+use Rattle.domain_names.specs.Words.{Name}
 use Rattle.domain_dnssec.proofs.KeptLemmas.{classes_kept}
 use Rattle.domain_borrowed.specs.Data.{data_cmp, minimum_of, RawRecord, zone_of_raw}
 use Rattle.domain_nsec.specs.Chain.{Link, IsChain, IsFirstFault}

@@ -1,7 +1,7 @@
 -- What is answered of names that hash alike.
 use Rattle.std.proofs.Common.{ℕ, List, Option}
 use Rattle.domain_alike.specs.Alike.{IsFirstPair, Pair}
-use Rattle.domain_base.specs.Words.{Name}
+use Rattle.domain_names.specs.Words.{Name}
 use Rattle.domain_borrowed.specs.Data.{RawRecord, zone_of_raw}
 use Rattle.domain_nsec3.specs.Config.{ChainConfig}
 use Rattle.denial_c.specs.Collisions.{HasFirstPair}

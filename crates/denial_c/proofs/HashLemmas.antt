@@ -3,8 +3,8 @@ use Rattle.std.proofs.Common.{◌≡◌, ℕ, zero, suc, ◌*◌, Bool, true, fa
 use Rattle.std.specs.Prelude.{◌==◌, ◌||◌, nat_lt, slice_index, if◌then◌else◌}
 use Rattle.std.specs.Int.{w32, to_be_bytes}
 use Rattle.sha1.specs.Sha1.{digest_bytes, sha1}
-use Rattle.domain_base.specs.Name.{lowered, wire_of}
-use Rattle.domain_base.specs.Words.{Name}
+use Rattle.domain_names.specs.Name.{lowered, wire_of}
+use Rattle.domain_names.specs.Words.{Name}
 use Rattle.domain_borrowed.specs.Data.{RawRecord, zone_of_raw}
 use Rattle.domain_nsec3.specs.Chain.{hashed_owner}
 use Rattle.domain_nsec3.specs.Config.{ChainConfig, Parameters, hash_of}

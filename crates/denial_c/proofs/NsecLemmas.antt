@@ -1,7 +1,7 @@
 -- NSEC records of octets, handed in one after another.
 use Rattle.std.proofs.Common.{◌≡◌, ℕ, true, false, List, [], ◌∷◌, ◌++◌, sym, subst, append_assoc, append-nil}
 use Rattle.domain_base.specs.Types as rtypes
-use Rattle.domain_base.specs.Words.{Name}
+use Rattle.domain_names.specs.Words.{Name}
 use Rattle.domain_nsec.specs.Chain.{Link}
 use Rattle.domain_checker.specs.HandedIn.{HasRead}
 use Rattle.domain_checker.specs.declared.nsec_check.NsecCheck.{NsecCheck}

@@ -11,8 +11,8 @@ use Rattle.std.proofs.lemmas.List.Elements.{filter-append}
 use Rattle.std.proofs.lemmas.List.Folds.{list_any-append}
 use Rattle.domain_alike.specs.Covered.{covered_names}
 use Rattle.domain_alike.proofs.KeptLemmas.{is_unsigned, names_stay, stays, stays_by}
-use Rattle.domain_base.specs.Name.{same_name}
-use Rattle.domain_base.specs.Words.{Name}
+use Rattle.domain_names.specs.Name.{same_name}
+use Rattle.domain_names.specs.Words.{Name}
 use Rattle.domain_dnssec.proofs.AmongLemmas.{any_two, contains_in, in_contains}
 use Rattle.domain_borrowed.specs.Data.{minimum_of, RawRecord, zone_of_raw}
 use Rattle.domain_borrowed.specs.Wire.{record_octets, IsRecord}

@@ -3,9 +3,9 @@
 use Rattle.std.specs.Prelude.{◌≡◌, ℕ, Bool, ◌&&◌, ◌==◌, List, filter, map}
 use Rattle.std.specs.List.{AllByRecursion, flat_map}
 use Rattle.domain_octets.specs.Words.{Octets}
-use Rattle.domain_base.specs.Name.{same_name}
+use Rattle.domain_names.specs.Name.{same_name}
 use Rattle.domain_base.specs.Types as rtypes
-use Rattle.domain_base.specs.Words.{Name}
+use Rattle.domain_names.specs.Words.{Name}
 use Rattle.domain_nsec.specs.Chain.{Link}
 use Rattle.domain_nsec3.specs.Chain.{HashedLink, ParamRecord}
 use Rattle.domain_borrowed.specs.Data.{RawRecord}

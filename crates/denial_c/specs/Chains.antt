@@ -3,7 +3,7 @@
 use Rattle.std.specs.Prelude.{◌≡◌, ℕ, ◌<◌, ◌≤◌, Bool, true, false, List, ◌++◌, length, drop, Result, Ok, Err, if◌then◌else◌}
 use Rattle.domain_alike.specs.Covered.{covered_names}
 use Rattle.domain_octets.specs.Words.{Octets}
-use Rattle.domain_base.specs.Words.{Name}
+use Rattle.domain_names.specs.Words.{Name}
 use Rattle.domain_nsec.specs.Chain.{Link, IsFaultless, IsFirstFault}
 use Rattle.domain_nsec3.specs.Chain.{ChainRecords}
 use Rattle.domain_nsec3.specs.Config.{excludes, ChainConfig, Parameters}

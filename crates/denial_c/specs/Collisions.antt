@@ -2,8 +2,8 @@
 -- is no such answer.
 use Rattle.std.specs.Prelude.{◌≡◌, ℕ, ◌<◌, ◌≤◌, Bool, true, false, ◌++◌, List, length, drop, Option, Some, None, Result, Ok, Err}
 use Rattle.domain_octets.specs.Words.{Octets}
-use Rattle.domain_base.specs.Name.{lowered, wire_of}
-use Rattle.domain_base.specs.Words.{Name}
+use Rattle.domain_names.specs.Name.{lowered, wire_of}
+use Rattle.domain_names.specs.Words.{Name}
 use Rattle.domain_alike.specs.Alike.{IsFirstPair, Pair}
 use Rattle.domain_borrowed.specs.Data.{RawRecord, zone_of_raw}
 use Rattle.domain_nsec3.specs.Config.{ChainConfig}

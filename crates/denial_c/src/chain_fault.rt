@@ -1,6 +1,9 @@
 //! Why there is no chain, and the numbers of that.
 ghost use Rattle.std.specs.Prelude.{◌≡◌};
 ghost use Rattle.denial_c.specs.ChainNumbers.{chain_count, chain_fault_number, chain_number, fault_count};
+ghost use Rattle.denial_c.specs.declared.chain_fault.ChainFault.TheVariants.{OutOfMemory as memory};
+
+use domain_octets::OutOfMemory;
 
 /// Why no chain was written.
 #[derive(Clone, Copy, Debug, PartialEq, Eq)]
@@ -26,6 +29,14 @@ pub(crate) enum ChainFault {
     ShortBuffer(usize),
     /// There is not enough memory.
     OutOfMemory,
+}
+
+impl From<OutOfMemory> for ChainFault {
+    ghost from_gives = { λ _ fault. fault ≡ memory };
+
+    fn from(_error: OutOfMemory) -> ChainFault {
+        ChainFault::OutOfMemory
+    }
 }
 
 /// The number of a fault.

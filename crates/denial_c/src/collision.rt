@@ -75,24 +75,15 @@ pub(crate) fn collision(
     let Ok(apex) = read_name(apex, Fault::Apex) else {
         return Err(ChainFault::Apex);
     };
-    let config = match config_with(hashing, options) {
-        Ok(config) => config,
-        Err(fault) => return Err(fault),
-    };
+    let config = config_with(hashing, options)?;
     let class = Class::from_int(class);
-    let sorted = match sorted_zone(alloc, class, records) {
-        Ok(sorted) => sorted,
-        Err(fault) => return Err(fault),
+    let sorted = sorted_zone(alloc, class, records)?;
+    let Some(alike) = first_pair(alloc, &apex, &sorted, &config)? else {
+        return Ok(false);
     };
-    match first_pair(alloc, &apex, &sorted, &config) {
-        Ok(Some(alike)) => {
-            write_lowered(&alike.first, earlier);
-            write_lowered(&alike.later, later);
-            Ok(true)
-        }
-        Ok(None) => Ok(false),
-        Err(fault) => Err(fault),
-    }
+    write_lowered(&alike.first, earlier);
+    write_lowered(&alike.later, later);
+    Ok(true)
 }
 
 /// The number of an answer.

@@ -59,10 +59,7 @@ pub(crate) fn nsec_answer(
 {
     let apex = read_name(apex, Fault::Apex)?;
     let name = read_name(name, Fault::Name)?;
-    let nsecs = match nsecs_among(alloc, Class::from_int(class), records) {
-        Ok(nsecs) => nsecs,
-        Err(fault) => return Err(fault),
-    };
+    let nsecs = nsecs_among(alloc, Class::from_int(class), records)?;
     Ok(judge_nsec(&apex, &nsecs, &name, Rtype::from_int(rtype)))
 }
 

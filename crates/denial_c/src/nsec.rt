@@ -1,6 +1,6 @@
 //! What the NSEC records in octets prove.
 ghost use Rattle.std.specs.Prelude.{◌≡◌, ℕ, List, ◌++◌, IfErr, IfOk};
-ghost use Rattle.domain_base.specs.Words.{Name};
+ghost use Rattle.domain_names.specs.Words.{Name};
 ghost use Rattle.domain_nsec.specs.Chain.{Link};
 ghost use Rattle.domain_checker.specs.HandedIn.{HasRead};
 ghost use Rattle.denial_c.specs.Among.{AreNsecs};
@@ -67,8 +67,6 @@ pub(crate) fn nsec_verdict(
     let apex = read_name(apex, Fault::Apex)?;
     let name = read_name(name, Fault::Name)?;
     let mut check = NsecCheck::new(&apex, &name, Rtype::from_int(rtype));
-    match hand_in(&mut check, Class::from_int(class), records) {
-        Ok(()) => Ok(check.verdict()),
-        Err(fault) => Err(fault),
-    }
+    hand_in(&mut check, Class::from_int(class), records)?;
+    Ok(check.verdict())
 }

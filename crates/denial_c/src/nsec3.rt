@@ -119,14 +119,9 @@ fn chain_among<'a>(
         (links (λ n. n) chain) (as_param_record (λ n. n) chain.nsec3param)) }
     ensures err { IfErr result (IsChainFault class octets.now apex.now) }
 {
-    let nsec3s = match nsec3s_among(alloc, class, octets) {
-        Ok(nsec3s) => nsec3s,
-        Err(fault) => return Err(fault),
-    };
-    match param_among(alloc, apex, class, octets) {
-        Ok(param) => Ok(Nsec3Records::new(nsec3s, param)),
-        Err(fault) => Err(fault),
-    }
+    let nsec3s = nsec3s_among(alloc, class, octets)?;
+    let param = param_among(alloc, apex, class, octets)?;
+    Ok(Nsec3Records::new(nsec3s, param))
 }
 
 /// Whether the record is of the zone, its algorithm is SHA-1, and none of its flags is set but that
@@ -178,10 +173,7 @@ fn alone_among<'a>(
         (as_param_record (λ n. n) chain.nsec3param)) }
     ensures err { IfErr result (IsNsec3sFault class octets.now) }
 {
-    let all = match nsec3s_among(alloc, class, octets) {
-        Ok(all) => all,
-        Err(fault) => return Err(fault),
-    };
+    let all = nsec3s_among(alloc, class, octets)?;
     let known = known_of(apex, all);
     let Ok(params) = first_params(alloc, &known) else {
         return Err(Fault::OutOfMemory);

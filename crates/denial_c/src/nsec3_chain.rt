@@ -157,18 +157,9 @@ pub(crate) fn nsec3_chain(
     let Ok(apex) = read_name(apex, Fault::Apex) else {
         return Err(ChainFault::Apex);
     };
-    let config = match config_with(hashing, options) {
-        Ok(config) => config,
-        Err(fault) => return Err(fault),
-    };
+    let config = config_with(hashing, options)?;
     let class = Class::from_int(class);
-    let sorted = match sorted_zone(alloc, class, records) {
-        Ok(sorted) => sorted,
-        Err(fault) => return Err(fault),
-    };
-    let octets = match sorted_nsec3s(alloc, &apex, class, records, &sorted, &config) {
-        Ok(octets) => octets,
-        Err(fault) => return Err(fault),
-    };
+    let sorted = sorted_zone(alloc, class, records)?;
+    let octets = sorted_nsec3s(alloc, &apex, class, records, &sorted, &config)?;
     write_octets(&octets, buffer)
 }

@@ -108,13 +108,7 @@ pub(crate) fn nsec_chain(
         return Err(ChainFault::Apex);
     };
     let class = Class::from_int(class);
-    let sorted = match sorted_zone(alloc, class, records) {
-        Ok(sorted) => sorted,
-        Err(fault) => return Err(fault),
-    };
-    let octets = match sorted_nsecs(alloc, &apex, class, records, &sorted, config) {
-        Ok(octets) => octets,
-        Err(fault) => return Err(fault),
-    };
+    let sorted = sorted_zone(alloc, class, records)?;
+    let octets = sorted_nsecs(alloc, &apex, class, records, &sorted, config)?;
     write_octets(&octets, buffer)
 }

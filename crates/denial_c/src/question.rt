@@ -34,8 +34,6 @@ pub(crate) fn read_question<'a>(
 {
     let apex = read_name(apex, Fault::Apex)?;
     let name = read_name(name, Fault::Name)?;
-    match chain_told(alloc, telling, &apex, Class::from_int(class), records) {
-        Ok(chain) => Ok(Question { apex, name, chain }),
-        Err(fault) => Err(fault),
-    }
+    let chain = chain_told(alloc, telling, &apex, Class::from_int(class), records)?;
+    Ok(Question { apex, name, chain })
 }

@@ -89,15 +89,7 @@ pub(crate) fn sorted_zone<'a>(
     ensures in_order { IfOk result (λ sorted. IsInOrder (λ n. n) (λ d. d.rtype) sorted.items) }
     ensures err { IfErr result (IsGivenFault class octets.now) }
 {
-    let count = match check_records(class, octets) {
-        Ok(count) => count,
-        Err(fault) => return Err(fault),
-    };
-    let Ok(records) = read_records(alloc, class, octets, count) else {
-        return Err(ChainFault::OutOfMemory);
-    };
-    let Ok(sorted) = sort_records(records) else {
-        return Err(ChainFault::OutOfMemory);
-    };
-    Ok(sorted)
+    let count = check_records(class, octets)?;
+    let records = read_records(alloc, class, octets, count)?;
+    Ok(sort_records(records)?)
 }

@@ -1,6 +1,6 @@
 -- Records that are gone over one by one, of which some are kept.
 use Rattle.std.proofs.Common.{◌≡◌, ℕ, List, [], ◌∷◌, ◌++◌, arith, length, refl, sym, subst, inl, inr, append_assoc, append-nil}
-use Rattle.domain_base.specs.Words.{Name}
+use Rattle.domain_names.specs.Words.{Name}
 use Rattle.domain_nsec.specs.Chain.{Link}
 use Rattle.domain_record.specs.RecordClone.{IsRecordClone}
 use Rattle.domain_borrowed.specs.Data.{RawRecord}

@@ -5,7 +5,7 @@ use Rattle.domain_dnssec.specs.declared.chain.ChainError.{ChainError}
 use Rattle.domain_dnssec.specs.declared.chain.ChainError.TheVariants.{MixedClasses, Sort, Signing, OutOfMemory}
 use Rattle.domain_octets.specs.Words.{Octets}
 use Rattle.domain_octets.proofs.StdLemmas.{if_err_of}
-use Rattle.domain_base.specs.Words.{Name}
+use Rattle.domain_names.specs.Words.{Name}
 use Rattle.domain_nsec.specs.Chain.{usual_config, IsFaultless}
 use Rattle.domain_nsec3.specs.Faults.{IsReady}
 use Rattle.domain_nsec3.specs.View.{HasherAnswer, config_of, hash_by, parameters_of}

@@ -1,8 +1,8 @@
 -- Names outside the zone, and what a hasher refuses.
 use Rattle.std.proofs.Common.{◌≡◌, ℕ, false, List, inl, inr, ◌⊎◌}
 use Rattle.std.proofs.lemmas.Bool.{cond-false}
-use Rattle.domain_base.specs.Name.{is_at_or_below}
-use Rattle.domain_base.specs.Words.{Name}
+use Rattle.domain_names.specs.Name.{is_at_or_below}
+use Rattle.domain_names.specs.Words.{Name}
 use Rattle.domain_nsec.specs.Chain.{Link}
 use Rattle.domain_checker.specs.Reading.{list_verdict, reading}
 use Rattle.domain_checker.specs.declared.verdict.Verdict.TheVariants.{OutsideZone}

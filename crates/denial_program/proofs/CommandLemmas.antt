@@ -2,9 +2,9 @@
 use Rattle.std.proofs.Common.{◌≡◌, ◌≢◌, ℕ, Bool, IsTrue, List, [], ◌∷◌, length, get_or, refl, ap, sym, ◌∙◌, arith, None}
 use Rattle.std.specs.Str.{bytes_eq}
 use Rattle.std.proofs.lemmas.Slice.Eq.{bytes_eq-Decides}
-use Rattle.domain_base.specs.Scan.{IsOfTokens, scan_fault_of}
-use Rattle.domain_base.specs.declared.error.ScanError.{ScanError}
-use Rattle.domain_base.specs.declared.error.ScanError.TheVariants as scan_error
+use Rattle.domain_names.specs.TextFault.{IsOfTokens, scan_fault_of}
+use Rattle.domain_names.specs.declared.error.ScanError.{ScanError}
+use Rattle.domain_names.specs.declared.error.ScanError.TheVariants as scan_error
 
 pub one_item : {X : Type 0} (xs : List X) (a : X) → length xs ≡ 1 → a ≡ get_or xs 0 a → xs ≡ a ∷ []
 one_item [] a n p = absurd (omega arith)

@@ -1,12 +1,13 @@
 -- The record that tokens spell, part after part, and tokens that spell none.
 use Rattle.std.proofs.Common.{◌≡◌, ◌≢◌, ◌↔◌, ℕ, Bool, false, IsTrue, List, [], ◌∷◌, refl, ap, sym, ◌∙◌, subst, None}
 use Rattle.domain_octets.specs.Words.{Octets}
-use Rattle.domain_base.specs.Words.{Name}
-use Rattle.domain_base.specs.Text.{NameText}
-use Rattle.domain_base.specs.Scan.{ScanFault, IsOfTokens, scan_fault_of, TakesToken, RefusesToken, ended, refused, IsNumber, IsNoNumber, NameTextFault}
+use Rattle.domain_names.specs.Words.{Name}
+use Rattle.domain_names.specs.Text.{NameText}
+use Rattle.domain_names.specs.TextFault.{ScanFault, IsOfTokens, scan_fault_of, NameTextFault}
+use Rattle.domain_base.specs.Scan.{TakesToken, RefusesToken, ended, refused, IsNumber, IsNoNumber}
 use Rattle.domain_base.specs.Numbers.{ClassText, IsNoClass, TypeText, IsNoType, type_names}
-use Rattle.domain_base.specs.declared.error.ScanError.{ScanError}
-use Rattle.domain_base.specs.declared.error.ScanError.TheVariants as scan_error
+use Rattle.domain_names.specs.declared.error.ScanError.{ScanError}
+use Rattle.domain_names.specs.declared.error.ScanError.TheVariants as scan_error
 use Rattle.domain_base.proofs.NamedLemmas.{one_named}
 use Rattle.domain_base.proofs.RefusalLemmas.{token_excludes, name_excludes}
 use Rattle.domain_rdata.specs.Scan.{RdataText}

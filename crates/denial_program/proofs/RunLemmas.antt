@@ -5,7 +5,7 @@ use Rattle.std.proofs.lemmas.List.{append-nil, take_more}
 use Rattle.std.specs.Fmt.{decimal}
 use Rattle.std.specs.Io.KnownBytes.{Appends}
 use Rattle.domain_octets.specs.Words.{Octets}
-use Rattle.domain_base.specs.Text.{name_text}
+use Rattle.domain_names.specs.Text.{name_text}
 use Rattle.domain_base.specs.Types.{nsec, nsec3, nsec3param}
 use Rattle.domain_base.specs.Numbers.{class_text, type_text}
 use Rattle.domain_bitmap.specs.Blocks.{types_of}
@@ -13,7 +13,7 @@ use Rattle.domain_bitmap.specs.Text.{types_text}
 use Rattle.domain_chain_rdata.specs.Nsec3Text.{nsec3_text}
 use Rattle.domain_chain_rdata.specs.Nsec3paramText.{nsec3param_text}
 use Rattle.domain_chain_rdata.specs.Rdata.{nsec3param_values}
-use Rattle.domain_base.specs.Words.{Name}
+use Rattle.domain_names.specs.Words.{Name}
 use Rattle.domain_chain_rdata.specs.declared.nsec.Nsec.{Nsec}
 use Rattle.domain_chain_rdata.specs.declared.nsec3param.Nsec3param.{Nsec3param}
 use Rattle.domain_record.specs.declared.record.Record.{Record}

@@ -2,7 +2,7 @@
 use Rattle.std.specs.Prelude.{◌≡◌, ◌⊎◌, true, false, List, Option}
 use Rattle.std.specs.Io.KnownBytes.{Appends}
 use Rattle.domain_octets.specs.Words.{Octets}
-use Rattle.domain_base.specs.Words.{Name, Tokens}
+use Rattle.domain_names.specs.Words.{Name, Tokens}
 use Rattle.domain_records.specs.Order.{IsOneClass}
 use Rattle.domain_nsec.specs.Chain.{Link, usual_config}
 use Rattle.domain_nsec3.specs.Chain.{ChainRecords}

@@ -1,9 +1,9 @@
 -- What the records of a chain that were read prove of a name and a type.
 use Rattle.std.specs.Prelude.{ℕ, ◌≡◌, ◌≢◌, ◌⊎◌, true, false, List, [], ◌∷◌, ◌++◌, codes, length}
 use Rattle.domain_octets.specs.Words.{Octets}
-use Rattle.domain_base.specs.Name.{is_at_or_below, last_labels, same_name}
-use Rattle.domain_base.specs.Text.{name_text}
-use Rattle.domain_base.specs.Words.{Name}
+use Rattle.domain_names.specs.Name.{is_at_or_below, last_labels, same_name}
+use Rattle.domain_names.specs.Text.{name_text}
+use Rattle.domain_names.specs.Words.{Name}
 use Rattle.domain_hasher.specs.declared.error.Nsec3HashError.TheVariants.{Hasher}
 use Rattle.domain_records.specs.declared.error.SigningError.{SigningError}
 use Rattle.domain_records.specs.declared.error.SigningError.TheVariants.{Nsec3HashingError}

@@ -3,8 +3,8 @@ use Rattle.std.specs.Prelude.{◌≡◌, ℕ, [], ◌∷◌, codes}
 use Rattle.domain_octets.specs.Words.{Octets}
 use Rattle.domain_base.specs.Numbers.{TypeText}
 use Rattle.domain_base.specs.Scan.{IsNumber}
-use Rattle.domain_base.specs.Text.{NameText}
-use Rattle.domain_base.specs.Words.{Name, Token, Tokens}
+use Rattle.domain_names.specs.Text.{NameText}
+use Rattle.domain_names.specs.Words.{Name, Token, Tokens}
 use Rattle.domain_bitmap.specs.HashText.{SaltText}
 use Rattle.domain_chain_rdata.specs.declared.nsec3param.Nsec3param.{Nsec3param}
 use Rattle.denial_program.specs.declared.command.Command.{Command}

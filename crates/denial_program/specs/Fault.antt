@@ -1,7 +1,7 @@
 -- When each fault comes.
 use Rattle.std.specs.Prelude.{◌≡◌, ℕ, [], Option, Some, IfSome}
 use Rattle.domain_octets.specs.Words.{Octets}
-use Rattle.domain_base.specs.Words.{Tokens}
+use Rattle.domain_names.specs.Words.{Tokens}
 use Rattle.denial_program.specs.Command.{IsCommand, IsNoCommand}
 use Rattle.denial_program.specs.declared.fault.DenialFault.{DenialFault}
 use Rattle.denial_program.specs.declared.fault.DenialFault.TheVariants.{Usage, Read, Line}

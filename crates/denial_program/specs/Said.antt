@@ -1,10 +1,10 @@
 -- What was read of a line.
 use Rattle.domain_octets.specs.Words.{Octets}
 use Rattle.domain_base.specs.Scan.{TakesToken}
-use Rattle.domain_base.specs.Text.{NameText}
-use Rattle.domain_base.specs.declared.error.ScanError.{ScanError}
-use Rattle.domain_base.specs.declared.error.ScanError.TheVariants as scan_error
-use Rattle.domain_base.specs.Words.{Name, Tokens}
+use Rattle.domain_names.specs.Text.{NameText}
+use Rattle.domain_names.specs.declared.error.ScanError.{ScanError}
+use Rattle.domain_names.specs.declared.error.ScanError.TheVariants as scan_error
+use Rattle.domain_names.specs.Words.{Name, Tokens}
 use Rattle.domain_borrowed.specs.Data.{RawRecord}
 use Rattle.denial_program.specs.Words.{words, IsSkipped, LineText}
 use Rattle.denial_program.specs.Listing.{IsLineRecord, IsBad}

@@ -3,10 +3,10 @@ use Rattle.std.specs.Prelude.{ℕ, List, ◌++◌, codes}
 use Rattle.std.specs.List.{flat_map}
 use Rattle.std.specs.Fmt.{decimal}
 use Rattle.domain_octets.specs.Words.{Octets}
-use Rattle.domain_base.specs.Text.{name_text}
+use Rattle.domain_names.specs.Text.{name_text}
 use Rattle.domain_base.specs.Numbers.{class_text, type_text}
 use Rattle.domain_base.specs.Types.{nsec, nsec3, nsec3param}
-use Rattle.domain_base.specs.Words.{Name}
+use Rattle.domain_names.specs.Words.{Name}
 use Rattle.domain_bitmap.specs.Blocks.{types_of}
 use Rattle.domain_bitmap.specs.Text.{types_text}
 use Rattle.domain_record.specs.declared.record.Record.{Record}

@@ -3,10 +3,10 @@ use Rattle.std.specs.Prelude.{◌≡◌, ℕ, ◌≤◌, ◌||◌, ◌==◌, Boo
 use Rattle.std.specs.List.{slice_split}
 use Rattle.domain_octets.specs.Words.{Octets}
 use Rattle.domain_octets.specs.Characters.{tab, space, semicolon, tilde}
-use Rattle.domain_base.specs.Text.{NameText}
+use Rattle.domain_names.specs.Text.{NameText}
 use Rattle.domain_base.specs.Scan.{IsNumber}
 use Rattle.domain_base.specs.Numbers.{ClassText, TypeText}
-use Rattle.domain_base.specs.Words.{Name, Token, Tokens}
+use Rattle.domain_names.specs.Words.{Name, Token, Tokens}
 use Rattle.domain_rdata.specs.Scan.{RdataText}
 use Rattle.domain_rdata.specs.Zone.{canonical_octets}
 use Rattle.domain_rdata.specs.declared.zone_record_data.ZoneRecordData.{ZoneRecordData}

@@ -1,6 +1,6 @@
 //! What a chain that was read proves of a name and a type.
 ghost use Rattle.std.specs.Prelude.{◌≡◌, ◌⊎◌, ℕ, List, [], ◌∷◌, ◌++◌, map, IfErr, IfOk};
-ghost use Rattle.domain_base.specs.Words.{Name};
+ghost use Rattle.domain_names.specs.Words.{Name};
 ghost use Rattle.domain_nsec.specs.Chain.{Link};
 ghost use Rattle.domain_nsec3.specs.View.{as_param_record, hashed_links_of};
 ghost use Rattle.domain_checker.specs.HandedIn.{HasRead};

@@ -1,6 +1,6 @@
 //! What the words after the program's name ask for.
 ghost use Rattle.std.specs.Prelude.{◌≡◌, ◌⊎◌, ℕ, ◌∷◌, codes, IfErr, IfNone, IfOk, IfSome, map, string_bytes};
-ghost use Rattle.domain_base.specs.Text.{NameText, IsNoName};
+ghost use Rattle.domain_names.specs.Text.{NameText, IsNoName};
 ghost use Rattle.domain_base.specs.Scan.{IsNumber};
 ghost use Rattle.domain_bitmap.specs.HashText.{SaltText};
 ghost use Rattle.domain_octets.specs.Words.{Octets};

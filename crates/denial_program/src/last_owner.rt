@@ -1,7 +1,7 @@
 //! The owner that was read last.
 ghost use Rattle.std.specs.Prelude.{◌≡◌, IfErr, IfNone, IfOk, IfSome, OnOk};
 ghost use Rattle.domain_base.specs.Scan.{TakesToken};
-ghost use Rattle.domain_base.specs.Text.{NameText};
+ghost use Rattle.domain_names.specs.Text.{NameText};
 ghost use Rattle.denial_program.specs.Said.{SpellsNoName};
 
 use crate::arena::store_name;
@@ -22,7 +22,7 @@ pub struct LastOwner<'a> {
 
 impl<'a> Model for LastOwner<'a> {
     ghost use Rattle.std.specs.Prelude.{IfSome};
-    ghost use Rattle.domain_base.specs.Text.{NameText};
+    ghost use Rattle.domain_names.specs.Text.{NameText};
 
     ghost Value = { Unit {0} };
 

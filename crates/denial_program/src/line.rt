@@ -1,6 +1,7 @@
 //! What a line of the input says.
 ghost use Rattle.std.specs.Prelude.{◌≡◌, ◌≤◌, ◌↔◌, false, IsTrue, IfErr, IfOk, IfSome, IfNone, map};
-ghost use Rattle.domain_base.specs.Scan.{ScanFault, TakesToken, RefusesToken};
+ghost use Rattle.domain_names.specs.TextFault.{ScanFault};
+ghost use Rattle.domain_base.specs.Scan.{TakesToken, RefusesToken};
 ghost use Rattle.denial_program.specs.Words.{words, is_blank, IsSkipped, IsPlain, ArePlain, LineText};
 ghost use Rattle.denial_program.specs.Said.{Says, SpellsNone, line_error_of};
 ghost use Rattle.denial_program.specs.declared.line.LineError.TheVariants.{OutOfMemory as memory};

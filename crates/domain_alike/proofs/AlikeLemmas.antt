@@ -13,9 +13,9 @@ use Rattle.std.proofs.lemmas.List.Elements.{All-from_recursion, recursion_from_A
 use Rattle.std.proofs.lemmas.List.Folds.{find-append, list_any-append}
 use Rattle.domain_octets.specs.Words.{Octets}
 use Rattle.domain_octets.proofs.StdLemmas.{or_none}
-use Rattle.domain_base.specs.Name.{same_name, wire_of}
-use Rattle.domain_base.specs.Order.{before}
-use Rattle.domain_base.specs.Words.{Name}
+use Rattle.domain_names.specs.Name.{same_name, wire_of}
+use Rattle.domain_names.specs.Order.{before}
+use Rattle.domain_names.specs.Words.{Name}
 use Rattle.domain_zone.specs.Zone.{ZoneRecord}
 use Rattle.domain_zone.proofs.NameLemmas.{before_left, before_order, before_right, one_lowered, same_itself}
 use Rattle.domain_zone.proofs.OwnerLemmas.{any_in, in_any}

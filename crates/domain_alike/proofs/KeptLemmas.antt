@@ -4,7 +4,7 @@ use Rattle.std.specs.Prelude.{filter}
 use Rattle.std.proofs.lemmas.List.{map-append}
 use Rattle.std.proofs.lemmas.List.Elements.{filter-append}
 use Rattle.domain_base.specs.Types.{ds}
-use Rattle.domain_base.specs.Words.{Name}
+use Rattle.domain_names.specs.Words.{Name}
 use Rattle.domain_nsec3.specs.Owners.{is_unsigned_cut}
 use Rattle.domain_zone.specs.Owners.{OwnerRecords, owner_at, owners_with_records}
 use Rattle.domain_zone.specs.Zone.{ZoneRecord, has_type, unoccluded_owners}

@@ -3,9 +3,9 @@ use Rattle.std.specs.Prelude.{◌≡◌, ℕ, true, false, All, List, Ok, Err, O
 use Rattle.std.specs.List.{list_any}
 use Rattle.std.specs.List.Sorted.{IsStrictlySortedBy}
 use Rattle.domain_octets.specs.Words.{Octets}
-use Rattle.domain_base.specs.Name.{same_name}
-use Rattle.domain_base.specs.Order.{before, canonical_cmp}
-use Rattle.domain_base.specs.Words.{Name}
+use Rattle.domain_names.specs.Name.{same_name}
+use Rattle.domain_names.specs.Order.{before, canonical_cmp}
+use Rattle.domain_names.specs.Words.{Name}
 use Rattle.domain_nsec3.specs.Config.{ChainConfig, hash_of}
 use Rattle.domain_nsec3.specs.Faults.{HasCollision}
 use Rattle.domain_nsec3.specs.Owners.{is_chain_name}

@@ -1,6 +1,6 @@
 -- The owners that a chain has a record for.
 use Rattle.std.specs.Prelude.{Bool, not, ◌&&◌, List, filter}
-use Rattle.domain_base.specs.Words.{Name}
+use Rattle.domain_names.specs.Words.{Name}
 use Rattle.domain_nsec3.specs.Owners.{is_unsigned_cut}
 use Rattle.domain_zone.specs.Zone.{ZoneRecord, unoccluded_owners}
 

@@ -1,6 +1,6 @@
 //! Which names of a chain hash alike.
 ghost use Rattle.std.specs.Prelude.{◌≡◌, ◌⊎◌, ℕ, ◌++◌, ◌∷◌, [], List, Ok, Err, IfErr, IfOk, OnOk, map, option_map, slice_get};
-ghost use Rattle.domain_base.specs.Words.{Name};
+ghost use Rattle.domain_names.specs.Words.{Name};
 ghost use Rattle.domain_nsec3.specs.Config.{Hash, hash_name};
 ghost use Rattle.domain_nsec3.specs.View.{config_of, hash_by, parameters_of};
 ghost use Rattle.domain_records.specs.Order.{IsInOrder};
@@ -90,10 +90,8 @@ fn hash_of<O: Octets, H: Nsec3Hasher>(
     let salt = parameters.salt().as_slice();
     let mut buffer = [0; MAX_NAME];
     let lowered = name.lower_wire(&mut buffer);
-    match hash_wire(alloc, hasher, algorithm, iterations, salt, lowered) {
-        Ok(hash) => Ok(HashKey::new(hash)),
-        Err(error) => Err(error),
-    }
+    let hash = hash_wire(alloc, hasher, algorithm, iterations, salt, lowered)?;
+    Ok(HashKey::new(hash))
 }
 
 /// Adds a name with the first that has its hash, where there is one.
@@ -202,8 +200,6 @@ pub fn first_alike<'a, O: Octets, S, H: Nsec3Hasher>(
         ≡ hash_error.Hasher n) × IsFirstRefusal (zone_of_raw sorted.now) apex.now (config_of
         (H.answer hasher.now) config.now) n)) }
 {
-    match alike_names(alloc, apex, sorted, config, hasher) {
-        Ok(pairs) => Ok(first_of(pairs)),
-        Err(error) => Err(error),
-    }
+    let pairs = alike_names(alloc, apex, sorted, config, hasher)?;
+    Ok(first_of(pairs))
 }

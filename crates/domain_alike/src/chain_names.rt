@@ -1,8 +1,8 @@
 //! The names of the NSEC3 chain of a zone.
 ghost use Rattle.std.specs.Prelude.{◌≡◌, ◌++◌, true, length, All, IfOk, OnOk};
 ghost use Rattle.std.specs.List.Sorted.{IsStrictlySortedBy};
-ghost use Rattle.domain_base.specs.Name.{is_at_or_below};
-ghost use Rattle.domain_base.specs.Order.{canonical_cmp};
+ghost use Rattle.domain_names.specs.Name.{is_at_or_below};
+ghost use Rattle.domain_names.specs.Order.{canonical_cmp};
 ghost use Rattle.domain_nsec3.specs.Ancestors.{IsListOf};
 ghost use Rattle.domain_nsec3.specs.Config.{excludes, ChainConfig};
 ghost use Rattle.domain_nsec3.specs.Owners.{is_chain_name};

@@ -1,6 +1,6 @@
 //! Names in lower case.
 ghost use Rattle.std.specs.Prelude.{◌≡◌, ◌++◌, drop, length};
-ghost use Rattle.domain_base.specs.Name.{lowered, wire_of};
+ghost use Rattle.domain_names.specs.Name.{lowered, wire_of};
 
 use domain_base::{MAX_NAME, ParsedName, ToName};
 

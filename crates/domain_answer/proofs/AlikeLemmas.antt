@@ -2,10 +2,10 @@
 use Rattle.std.proofs.Common.{◌≡◌, ℕ, Bool, cond, not, ◌&&◌, ◌||◌, List, length, refl, ◌∙◌, Option, Some, None}
 use Rattle.std.specs.Prelude.{◌==◌}
 use Rattle.std.specs.List.{find}
-use Rattle.domain_base.specs.Name.{is_at_or_below, is_strictly_below, lowered, last_labels}
-use Rattle.domain_base.specs.Order.{before}
+use Rattle.domain_names.specs.Name.{is_at_or_below, is_strictly_below, lowered, last_labels}
+use Rattle.domain_names.specs.Order.{before}
 use Rattle.domain_base.specs.Types.{cname, dname, ds, ns, soa}
-use Rattle.domain_base.specs.Words.{Name}
+use Rattle.domain_names.specs.Words.{Name}
 use Rattle.domain_bitmap.specs.Blocks.{contains_type}
 use Rattle.domain_zone.specs.Covering.{matches_or_covers}
 use Rattle.domain_zone.specs.Enclosers.{longer, shared}

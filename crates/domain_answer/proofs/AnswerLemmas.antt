@@ -5,10 +5,10 @@ use Rattle.std.specs.Prelude.{◌==◌}
 use Rattle.std.specs.List.{find, list_any}
 use Rattle.std.proofs.lemmas.Bool.{cases_Bool, false≢true, and_parts, and_from, not-true}
 use Rattle.domain_octets.proofs.StdLemmas.{and_false}
-use Rattle.domain_base.specs.Name.{is_at_or_below, is_strictly_below, same_name}
-use Rattle.domain_base.specs.Order.{before}
+use Rattle.domain_names.specs.Name.{is_at_or_below, is_strictly_below, same_name}
+use Rattle.domain_names.specs.Order.{before}
 use Rattle.domain_base.specs.Types.{cname, ds}
-use Rattle.domain_base.specs.Words.{Name}
+use Rattle.domain_names.specs.Words.{Name}
 use Rattle.domain_zone.specs.Covering.{matches, covers}
 use Rattle.domain_zone.specs.Enclosers.{IsClosestEncloser, longer, shared}
 use Rattle.domain_zone.specs.Zone.{ZoneRecord, is_occluded, is_unoccluded, is_zone_cut, owns, unoccluded_owners}

@@ -5,10 +5,10 @@ use Rattle.std.specs.List.{list_any}
 use Rattle.std.proofs.lemmas.Bool.{or_parts, and_from}
 use Rattle.domain_octets.proofs.StdLemmas.{and_false, and_true}
 use Rattle.domain_bitmap.specs.Blocks.{contains_type}
-use Rattle.domain_base.specs.Name.{is_at_or_below, is_strictly_below, lowered, same_name}
-use Rattle.domain_base.specs.Order.{before}
+use Rattle.domain_names.specs.Name.{is_at_or_below, is_strictly_below, lowered, same_name}
+use Rattle.domain_names.specs.Order.{before}
 use Rattle.domain_base.specs.Types.{dname, ns, soa}
-use Rattle.domain_base.specs.Words.{Name}
+use Rattle.domain_names.specs.Words.{Name}
 use Rattle.domain_zone.specs.Covering.{matches, covers, pairs}
 use Rattle.domain_zone.specs.Zone.{ZoneRecord, OwnersNeverDescend, has_type, is_occluded, is_zone_cut, occludes, owns, records_of, unoccluded_owners}
 use Rattle.domain_zone.proofs.NameLemmas.{one_lowered, below_itself, lowered_below}

@@ -2,9 +2,9 @@
 use Rattle.std.proofs.Common.{◌≡◌, ℕ, ◌≤◌, ◌<◌, ◌-◌, suc, Bool, true, false, cond, not, ◌&&◌, ◌||◌, List, [], ◌∷◌, drop, length, refl, sym, ap, ◌∙◌, subst, inl}
 use Rattle.std.proofs.Common.{inr, arith, ltb}
 use Rattle.std.proofs.lemmas.Bool.{cases_Bool, cases_lt, false≢true, and_parts, and_from}
-use Rattle.domain_base.specs.Name.{is_at_or_below, is_strictly_below, lowered, same_name, last_labels}
-use Rattle.domain_base.specs.Order.{before}
-use Rattle.domain_base.specs.Words.{Label, Name}
+use Rattle.domain_names.specs.Name.{is_at_or_below, is_strictly_below, lowered, same_name, last_labels}
+use Rattle.domain_names.specs.Order.{before}
+use Rattle.domain_names.specs.Words.{Label, Name}
 use Rattle.domain_zone.specs.Covering.{covers, matches}
 use Rattle.domain_zone.specs.Enclosers.{exists_over, longer, shared}
 use Rattle.domain_zone.proofs.NameLemmas.{before_right, before_order, below_between, below_from, below_itself, below_longer, below_parent, below_root}

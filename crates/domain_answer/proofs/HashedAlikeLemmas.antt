@@ -1,9 +1,9 @@
 -- What NSEC3 records answer does not depend on TTLs, classes and the case of letters.
 use Rattle.std.proofs.Common.{◌≡◌, ℕ, cond, not, ◌&&◌, ◌||◌, List, length, refl, sym, ◌∙◌, subst, nat_eq, Option, Some, None}
 use Rattle.domain_octets.specs.Words.{Octets}
-use Rattle.domain_base.specs.Name.{same_name}
+use Rattle.domain_names.specs.Name.{same_name}
 use Rattle.domain_base.specs.Types.{cname, dname, ds, ns, soa}
-use Rattle.domain_base.specs.Words.{Name}
+use Rattle.domain_names.specs.Words.{Name}
 use Rattle.domain_bitmap.specs.Blocks.{contains_type}
 use Rattle.domain_chain_rdata.specs.OptOut.{is_opt_out}
 use Rattle.domain_zone.specs.Zone.{ZoneRecord, is_zone_cut}

@@ -4,9 +4,9 @@ use Rattle.std.proofs.Common.{None, arith}
 use Rattle.std.specs.List.{list_any}
 use Rattle.std.proofs.lemmas.Bool.{cases_Bool, cases_lt, eq-eqb, false≢true}
 use Rattle.domain_octets.specs.Words.{Octets}
-use Rattle.domain_base.specs.Name.{same_name, last_labels}
+use Rattle.domain_names.specs.Name.{same_name, last_labels}
 use Rattle.domain_base.specs.Types.{cname, dname, ds, ns}
-use Rattle.domain_base.specs.Words.{Name}
+use Rattle.domain_names.specs.Words.{Name}
 use Rattle.domain_bitmap.specs.Blocks.{contains_type}
 use Rattle.domain_chain_rdata.specs.OptOut.{is_opt_out}
 use Rattle.domain_zone.proofs.NameLemmas.{below_length, same_length}

@@ -4,9 +4,9 @@ use Rattle.std.specs.Prelude.{◌==◌, filter}
 use Rattle.std.specs.List.{list_any}
 use Rattle.std.proofs.lemmas.Bool.{cases_Bool, cases_lt, eqb-true, false≢true, and_parts, and_from, not-true, or_left, or_parts, or_right}
 use Rattle.domain_octets.proofs.StdLemmas.{and_false}
-use Rattle.domain_base.specs.Name.{is_at_or_below, is_strictly_below, same_name}
+use Rattle.domain_names.specs.Name.{is_at_or_below, is_strictly_below, same_name}
 use Rattle.domain_base.specs.Types.{cname, dname, dnskey, ds, nsec, nsec3param, rrsig}
-use Rattle.domain_base.specs.Words.{Name}
+use Rattle.domain_names.specs.Words.{Name}
 use Rattle.domain_chain_rdata.specs.OptOut.{is_opt_out}
 use Rattle.domain_zone.specs.Enclosers.{IsClosestEncloser, exists_over}
 use Rattle.domain_zone.specs.Zone.{ZoneRecord, has_type, is_occluded, is_zone_cut, lists_type, may_list, occludes, owns, records_of, unoccluded_owners}

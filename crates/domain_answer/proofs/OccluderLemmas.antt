@@ -2,8 +2,8 @@
 use Rattle.std.proofs.Common.{◌≡◌, true, false, cond, not, List, [], ◌∷◌, refl, sym, ap, ◌∙◌, inl, inr, Some, None, arith}
 use Rattle.std.specs.Option.{option_or}
 use Rattle.std.proofs.lemmas.Bool.{cases_Bool, false≢true, and_parts, and_from}
-use Rattle.domain_base.specs.Name.{is_at_or_below, is_strictly_below, same_name}
-use Rattle.domain_base.specs.Words.{Name}
+use Rattle.domain_names.specs.Name.{is_at_or_below, is_strictly_below, same_name}
+use Rattle.domain_names.specs.Words.{Name}
 use Rattle.domain_zone.specs.Zone.{ZoneRecord, is_occluded, occludes}
 use Rattle.domain_zone.proofs.OwnerLemmas.{below_occluder}
 use Rattle.domain_zone.proofs.NameLemmas.{strictly_longer}

@@ -4,10 +4,10 @@ use Rattle.std.specs.Prelude.{◌==◌}
 use Rattle.std.specs.List.{find}
 use Rattle.std.proofs.lemmas.Bool.{and_parts, and_from, or_left, or_right}
 use Rattle.domain_bitmap.specs.Blocks.{contains_type}
-use Rattle.domain_base.specs.Name.{is_at_or_below, is_strictly_below, last_labels}
-use Rattle.domain_base.specs.Order.{before}
+use Rattle.domain_names.specs.Name.{is_at_or_below, is_strictly_below, last_labels}
+use Rattle.domain_names.specs.Order.{before}
 use Rattle.domain_base.specs.Types.{cname, ds}
-use Rattle.domain_base.specs.Words.{Name}
+use Rattle.domain_names.specs.Words.{Name}
 use Rattle.domain_zone.specs.Covering.{matches, covers, matches_or_covers}
 use Rattle.domain_zone.specs.Enclosers.{longer, shared}
 use Rattle.domain_zone.proofs.NameLemmas.{below_length, same_is}

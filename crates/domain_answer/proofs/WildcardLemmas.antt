@@ -3,10 +3,10 @@ use Rattle.std.proofs.Common.{◌≡◌, ℕ, ◌+◌, ◌≤◌, ◌<◌, ◌-�
 use Rattle.std.specs.List.{AllByRecursion}
 use Rattle.std.proofs.lemmas.List.Elements.{All-from_recursion}
 use Rattle.domain_octets.specs.Words.{Octets}
-use Rattle.domain_base.specs.Name.{IsLabel, IsName, wire_of, last_labels}
-use Rattle.domain_base.specs.Wire.{labels_of, IsWire}
-use Rattle.domain_base.specs.Words.{Name}
-use Rattle.domain_base.proofs.WireLemmas.{IsWire-wire_of, labels_of-wire_of}
+use Rattle.domain_names.specs.Name.{IsLabel, IsName, wire_of, last_labels}
+use Rattle.domain_names.specs.Wire.{labels_of, IsWire}
+use Rattle.domain_names.specs.Words.{Name}
+use Rattle.domain_names.proofs.WireLemmas.{IsWire-wire_of, labels_of-wire_of}
 use Rattle.domain_answer.specs.ZoneAnswer.{asterisk, wildcard_below}
 
 labels_drop : (n : ℕ) (x : Name) → AllByRecursion IsLabel x → AllByRecursion IsLabel (drop n x)

@@ -1,7 +1,7 @@
 -- What one pass over NSEC records finds of a name; a is the apex.
 use Rattle.std.specs.Prelude.{◌≡◌, List, Option, Some, None, length}
 use Rattle.std.specs.List.{find}
-use Rattle.domain_base.specs.Words.{Name}
+use Rattle.domain_names.specs.Words.{Name}
 use Rattle.domain_zone.specs.Enclosers.{longer, shared}
 use Rattle.domain_nsec.specs.Chain.{Link}
 use Rattle.domain_nsec.specs.ChainView.{as_link}

@@ -2,9 +2,9 @@
 -- 4592, section 3.3; RFC 6672, section 3.2); a is the apex. The zone's names are those of the
 -- chain: its original owner names and their ancestors at or below the apex.
 use Rattle.std.specs.Prelude.{ℕ, Bool, true, not, ◌&&◌, ◌||◌, ◌==◌, List, ◌≡◌, length, if◌then◌else◌}
-use Rattle.domain_base.specs.Name.{is_at_or_below, same_name}
+use Rattle.domain_names.specs.Name.{is_at_or_below, same_name}
 use Rattle.domain_base.specs.Types.{cname, dname, ds, nsec, nsec3param}
-use Rattle.domain_base.specs.Words.{Name}
+use Rattle.domain_names.specs.Words.{Name}
 use Rattle.domain_chain_rdata.specs.OptOut.{is_opt_out}
 use Rattle.domain_zone.specs.Enclosers.{exists_over}
 use Rattle.domain_zone.specs.Zone.{ZoneRecord, is_zone_cut, unoccluded_owners}

@@ -1,9 +1,9 @@
 -- When each kind of answer is the zone's, each by itself and in any order; L are the zone's records
 -- and a is the apex.
 use Rattle.std.specs.Prelude.{ℕ, Bool, true, false, not, ◌&&◌, ◌||◌, ◌==◌, List, ◌≡◌, ◌⊎◌, length}
-use Rattle.domain_base.specs.Name.{is_at_or_below, is_strictly_below, same_name}
+use Rattle.domain_names.specs.Name.{is_at_or_below, is_strictly_below, same_name}
 use Rattle.domain_base.specs.Types.{cname, dname, ds}
-use Rattle.domain_base.specs.Words.{Name}
+use Rattle.domain_names.specs.Words.{Name}
 use Rattle.domain_zone.specs.Zone.{ZoneRecord, has_type, is_unoccluded, is_zone_cut, records_of}
 use Rattle.domain_answer.specs.Proved.{is_missing}
 use Rattle.domain_answer.specs.ZoneAnswer.{encloser, is_at_parent, name_exists, owns_type, wildcard_below}

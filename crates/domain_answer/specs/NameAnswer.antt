@@ -1,6 +1,6 @@
 -- What NSEC records answer of a name before they are asked of a wildcard.
 use Rattle.std.specs.Prelude.{◌≡◌, ◌<◌, ℕ, List, length}
-use Rattle.domain_base.specs.Words.{Name}
+use Rattle.domain_names.specs.Words.{Name}
 use Rattle.domain_nsec.specs.Chain.{Link}
 use Rattle.domain_answer.specs.Reading.{absent_answer}
 use Rattle.domain_answer.specs.declared.answer.Answer.{Answer}

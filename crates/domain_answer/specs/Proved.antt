@@ -1,8 +1,8 @@
 -- What a list of records of a zone's NSEC chain proves of what the zone says.
 use Rattle.std.specs.Prelude.{ℕ, Bool, true, not, ◌&&◌, ◌||◌, ◌<◌, ◌≤◌, List, ◌≡◌, All, length, if◌then◌else◌}
 use Rattle.std.specs.List.{Contains}
-use Rattle.domain_base.specs.Name.{is_at_or_below, last_labels}
-use Rattle.domain_base.specs.Words.{Name}
+use Rattle.domain_names.specs.Name.{is_at_or_below, last_labels}
+use Rattle.domain_names.specs.Words.{Name}
 use Rattle.domain_zone.specs.Zone.{ZoneRecord, OwnersNeverDescend, is_unoccluded, unoccluded_owners}
 use Rattle.domain_nsec.specs.Chain.{IsChain, Link}
 use Rattle.domain_nsec.specs.declared.config.GenerateNsecConfig.{GenerateNsecConfig}

@@ -3,9 +3,9 @@
 use Rattle.std.specs.Prelude.{ℕ, Bool, not, ◌&&◌, ◌||◌, List, Option, Some, None, length, if◌then◌else◌}
 use Rattle.std.specs.List.{find}
 use Rattle.domain_bitmap.specs.Blocks.{contains_type}
-use Rattle.domain_base.specs.Name.{is_at_or_below, is_strictly_below, last_labels}
+use Rattle.domain_names.specs.Name.{is_at_or_below, is_strictly_below, last_labels}
 use Rattle.domain_base.specs.Types.{dname}
-use Rattle.domain_base.specs.Words.{Name}
+use Rattle.domain_names.specs.Words.{Name}
 use Rattle.domain_zone.specs.Enclosers.{longer, shared}
 use Rattle.domain_nsec.specs.Chain.{Link}
 use Rattle.domain_checker.specs.Reading.{is_at_cut, is_cover, is_match}

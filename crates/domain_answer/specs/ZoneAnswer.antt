@@ -4,9 +4,9 @@
 -- (RFC 6672, section 2.4).
 use Rattle.std.specs.Prelude.{ℕ, Bool, true, not, ◌&&◌, ◌||◌, ◌==◌, List, [], ◌∷◌, Option, Some, None, length, if◌then◌else◌}
 use Rattle.std.specs.Option.{option_or}
-use Rattle.domain_base.specs.Name.{is_at_or_below, same_name}
+use Rattle.domain_names.specs.Name.{is_at_or_below, same_name}
 use Rattle.domain_base.specs.Types.{cname, ds}
-use Rattle.domain_base.specs.Words.{Label, Name}
+use Rattle.domain_names.specs.Words.{Label, Name}
 use Rattle.domain_zone.specs.Enclosers.{exists_over}
 use Rattle.domain_zone.specs.Zone.{ZoneRecord, is_zone_cut, occludes, owns, unoccluded_owners}
 use Rattle.domain_nsec.specs.Chain.{nsec_lists}

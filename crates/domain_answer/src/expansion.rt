@@ -1,6 +1,6 @@
 //! What NSEC3 records answer of a name whose records were expanded from a wildcard.
 ghost use Rattle.std.specs.Prelude.{◌≡◌, ◌<◌, ◌≤◌, ◌⊎◌, ℕ, Ok, Err, true, false, length, IfOk, IfErr, IsErrOf};
-ghost use Rattle.domain_base.specs.Name.{is_at_or_below};
+ghost use Rattle.domain_names.specs.Name.{is_at_or_below};
 ghost use Rattle.domain_nsec3.specs.Config.{hash_name};
 ghost use Rattle.domain_hasher.specs.declared.error.Nsec3HashError.TheVariants as hash_error;
 ghost use Rattle.domain_checker.specs.HashedPass.{found_cover, found_match};
@@ -68,10 +68,8 @@ fn read_expansion<A: ToName, O: Octets, N: ToName, M: ToName, H: Nsec3Hasher>(
     ensures memory { IsErrOf result hash_error.OutOfMemory → H.takes_memory hasher.now }
 {
     let closer = closer_name(name, labels);
-    match find_nsec3(alloc, apex, records, &closer, hasher) {
-        Ok(found) => Ok(closer_told(labels, found)),
-        Err(error) => Err(error),
-    }
+    let found = find_nsec3(alloc, apex, records, &closer, hasher)?;
+    Ok(closer_told(labels, found))
 }
 
 /// What NSEC3 records answer of a name whose records were expanded from a wildcard (RFC 5155,
@@ -152,8 +150,5 @@ pub fn judge_nsec3_expansion<A: ToName, O: Octets, N: ToName, M: ToName, H: Nsec
     }
     // By this law what the records say is what they prove.
     laws::expansions_are_proved();
-    match read_expansion(alloc, apex, records, name, labels, hasher) {
-        Ok(answer) => Ok(answer),
-        Err(error) => Err(error),
-    }
+    Ok(read_expansion(alloc, apex, records, name, labels, hasher)?)
 }

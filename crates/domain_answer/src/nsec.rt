@@ -1,6 +1,6 @@
 //! What records of an NSEC chain answer.
 ghost use Rattle.std.specs.Prelude.{◌≡◌, ◌<◌, ℕ, List, true, length};
-ghost use Rattle.domain_base.specs.Order.{before};
+ghost use Rattle.domain_names.specs.Order.{before};
 ghost use Rattle.domain_zone.specs.Covering.{covers};
 ghost use Rattle.domain_nsec.specs.Chain.{Link};
 ghost use Rattle.domain_nsec.specs.ChainView.{as_link, links_of};

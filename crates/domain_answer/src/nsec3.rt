@@ -1,7 +1,7 @@
 //! What records of an NSEC3 chain answer.
 ghost use Rattle.std.specs.Prelude.{◌≡◌, ◌<◌, ◌≤◌, ◌⊎◌, ℕ, Ok, Err, true, false, length, IfOk, IfErr, IsErrOf};
 ghost use Rattle.std.specs.Option.{option_map};
-ghost use Rattle.domain_base.specs.Name.{is_at_or_below, last_labels};
+ghost use Rattle.domain_names.specs.Name.{is_at_or_below, last_labels};
 ghost use Rattle.domain_nsec3.specs.Config.{hash_name};
 ghost use Rattle.domain_nsec3.specs.View.{as_hashed_link};
 ghost use Rattle.domain_hasher.specs.declared.error.Nsec3HashError.TheVariants as hash_error;
@@ -150,10 +150,8 @@ fn read_wildcard<A: ToName, O: Octets, N: ToName, M: ToName, H: Nsec3Hasher>(
 {
     let mut buffer = [0; MAX_NAME];
     let wildcard = wildcard_below(&mut buffer, name, count);
-    match find_nsec3(alloc, apex, records, &wildcard, hasher) {
-        Ok(found) => Ok(wildcard_told(count, rtype, found)),
-        Err(error) => Err(error),
-    }
+    let found = find_nsec3(alloc, apex, records, &wildcard, hasher)?;
+    Ok(wildcard_told(count, rtype, found))
 }
 
 /// What the records say of a name at or below the apex.
@@ -176,10 +174,7 @@ fn read_nsec3<A: ToName, O: Octets, N: ToName, M: ToName, H: Nsec3Hasher>(
         ⊎ ((n : ℕ) × (e ≡ hash_error.Hasher n))) }
     ensures memory { IsErrOf result hash_error.OutOfMemory → H.takes_memory hasher.now }
 {
-    let found = match find_nsec3_encloser(alloc, apex, records, name, hasher) {
-        Ok(found) => found,
-        Err(error) => return Err(error),
-    };
+    let found = find_nsec3_encloser(alloc, apex, records, name, hasher)?;
     match found_answer(apex, found, name.count_labels(), rtype) {
         Answer::NoCloserName(count) => {
             read_wildcard(alloc, apex, records, name, rtype, count, hasher)
@@ -273,8 +268,5 @@ pub fn judge_nsec3<A: ToName, O: Octets, N: ToName, M: ToName, H: Nsec3Hasher>(
     // By this law what the records say is what they prove, of a type of 16 bits.
     laws::hashed_readings_are_proved();
     let _number = rtype.to_int();
-    match read_nsec3(alloc, apex, records, name, rtype, hasher) {
-        Ok(answer) => Ok(answer),
-        Err(error) => Err(error),
-    }
+    Ok(read_nsec3(alloc, apex, records, name, rtype, hasher)?)
 }

@@ -1,9 +1,9 @@
 //! What NSEC3 records prove by what they say. A caller calls the law in its body.
 ghost use Rattle.std.specs.Prelude.{◌≡◌, ◌≢◌, ◌<◌, ℕ, All, List, length, true, false};
 ghost use Rattle.domain_octets.specs.Words.{Octets};
-ghost use Rattle.domain_base.specs.Name.{is_at_or_below, last_labels};
+ghost use Rattle.domain_names.specs.Name.{is_at_or_below, last_labels};
 ghost use Rattle.domain_base.specs.Types.{dname};
-ghost use Rattle.domain_base.specs.Words.{Name};
+ghost use Rattle.domain_names.specs.Words.{Name};
 ghost use Rattle.domain_chain_rdata.specs.OptOut.{is_opt_out};
 ghost use Rattle.domain_zone.specs.Zone.{has_type, is_occluded, ZoneRecord};
 ghost use Rattle.domain_nsec3.specs.Chain.{HashedLink, IsHashedChain};

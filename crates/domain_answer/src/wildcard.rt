@@ -1,6 +1,6 @@
 //! The wildcard right below an ancestor of a name.
 ghost use Rattle.std.specs.Prelude.{◌≡◌, ◌+◌, ◌<◌, ◌≤◌, ◌∷◌, IfNone, IfSome, length};
-ghost use Rattle.domain_base.specs.Name.{last_labels};
+ghost use Rattle.domain_names.specs.Name.{last_labels};
 ghost use Rattle.domain_answer.specs.ZoneAnswer.{wildcard_below};
 
 use domain_base::{MAX_NAME, ParsedName, ToName};

@@ -16,9 +16,9 @@ use Rattle.domain_octets.proofs.WordLemmas.{no_space-append, decimal_word}
 use Rattle.domain_base.specs.Named.{Named, number_named, name_of, NumberText, by_name, by_number}
 use Rattle.domain_base.specs.Numbers.{type_names, TypeText, type_text, class_names, ClassText, class_text}
 use Rattle.domain_base.specs.Scan.{IsNumber}
-use Rattle.domain_base.specs.Name.{IsLabel, IsName}
-use Rattle.domain_base.specs.Text.{symbol_at, is_printable, is_special, octet_text, label_text, dotted_text, name_text, LabelText, at_end, at_dot, octet}
-use Rattle.domain_base.specs.Text.{LabelTexts, last, last_with_dot, dotted, NameText, root, of_labels}
+use Rattle.domain_names.specs.Name.{IsLabel, IsName}
+use Rattle.domain_names.specs.Text.{symbol_at, is_printable, is_special, octet_text, label_text, dotted_text, name_text, LabelText, at_end, at_dot, octet}
+use Rattle.domain_names.specs.Text.{LabelTexts, last, last_with_dot, dotted, NameText, root, of_labels}
 
 -- ---- numbers
 

@@ -5,9 +5,9 @@ use Rattle.std.specs.List.{concat}
 use Rattle.domain_octets.specs.Limit.{IsOver}
 use Rattle.domain_octets.specs.Codec.{Decodes}
 use Rattle.domain_octets.specs.declared.codec.Codec.{Codec}
-use Rattle.domain_base.specs.Scan.{ScanFault, entry_ends, illegal, no_room, no_memory, IsOfTokens, TakesToken, RefusesToken, ended, refused, NameTextFault}
-use Rattle.domain_base.specs.Scan.{CodecFault, EntryFault}
-use Rattle.domain_base.specs.Text.{NameText}
+use Rattle.domain_names.specs.TextFault.{ScanFault, entry_ends, illegal, no_room, no_memory, IsOfTokens, NameTextFault}
+use Rattle.domain_base.specs.Scan.{TakesToken, RefusesToken, ended, refused, CodecFault, EntryFault}
+use Rattle.domain_names.specs.Text.{NameText}
 
 -- what has a limit takes no memory
 pub over_limit : (limit : Option ℕ) (count : ℕ) → IsOver limit count → IsNone limit → ⊥

@@ -2,8 +2,9 @@
 use Rattle.std.proofs.lemmas.List.{append-nil}
 use Rattle.std.proofs.Common.{◌≡◌, ℕ, List, [], ◌∷◌, drop, sym, ap, subst, ◌∙◌, Result, Ok, Err}
 use Rattle.std.specs.Prelude.{IfErr}
-use Rattle.domain_base.specs.declared.error.ScanError.{ScanError}
-use Rattle.domain_base.specs.Scan.{ScanFault, entry_ends, scan_fault_of, RefusesToken, ended, refused, IsEnd}
+use Rattle.domain_names.specs.declared.error.ScanError.{ScanError}
+use Rattle.domain_names.specs.TextFault.{ScanFault, entry_ends, scan_fault_of}
+use Rattle.domain_base.specs.Scan.{RefusesToken, ended, refused, IsEnd}
 
 pub no_token : (Why : ScanFault → List ℕ → Type 0) (old new : List (List ℕ)) → old ≡ [] → new ≡ [] → RefusesToken Why old new entry_ends
 no_token Why old new old_is new_is = subst (λ o. RefusesToken Why o new entry_ends) (sym old_is)

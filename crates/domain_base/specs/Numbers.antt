@@ -2,7 +2,7 @@
 use Rattle.std.specs.Prelude.{◌≡◌, ℕ, List, [], ◌∷◌, codes}
 use Rattle.domain_octets.specs.Words.{Octets}
 use Rattle.domain_base.specs.Named.{Named, NumberText, number_text}
-use Rattle.domain_base.specs.Scan.{ScanFault, illegal}
+use Rattle.domain_names.specs.TextFault.{ScanFault, illegal}
 use Rattle.domain_base.specs.Classes.{in_class, ch_class, hs_class}
 use Rattle.domain_base.specs.Types as rtypes
 

@@ -4,8 +4,9 @@ use Rattle.std.specs.Str.Parse.{without_leading_plus}
 use Rattle.std.specs.declared.cmp.Ordering.{Ordering}
 use Rattle.std.specs.declared.cmp.Ordering.TheVariants.{Less, Equal, Greater}
 use Rattle.domain_octets.specs.Words.{Octets}
-use Rattle.domain_base.specs.declared.error.ScanError.{ScanError}
-use Rattle.domain_base.specs.Scan.{IsNumber, IsNoNumber, scan_fault_of}
+use Rattle.domain_names.specs.declared.error.ScanError.{ScanError}
+use Rattle.domain_names.specs.TextFault.{scan_fault_of}
+use Rattle.domain_base.specs.Scan.{IsNumber, IsNoNumber}
 
 -- how far the second number is ahead of the first
 abbrev pub serial_distance : ℕ → ℕ → ℕ

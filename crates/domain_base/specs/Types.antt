@@ -1,6 +1,10 @@
 -- The types of records that have a name, by their numbers (RFC 1035, section 3.2.2, and the
 -- documents that added to it).
-use Rattle.std.specs.Prelude.{ℕ}
+use Rattle.std.specs.Prelude.{ℕ, List}
+
+-- types of records by their numbers
+abbrev pub Rtypes : Type 0
+Rtypes = List ℕ
 
 abbrev pub a : ℕ
 a = 1

@@ -4,7 +4,8 @@ ghost use Rattle.std.specs.Option.{SomeIff};
 ghost use Rattle.std.specs.Str.Parse.{IsNumeral, digits_value};
 ghost use Rattle.domain_base.specs.Scan.{IsNumber, IsNoNumber};
 
-use crate::{FromToken, ScanError};
+use crate::FromToken;
+use domain_names::ScanError;
 
 fn read_u8(text: &str) -> Option<u8>
     ensures { SomeIff result (IsNumeral 10 text.now × (digits_value 10 text.now < 2 ^ 8))

@@ -2,9 +2,11 @@
 ghost use Rattle.std.specs.Prelude.{◌≡◌, Some, IfOk, IfErr};
 ghost use Rattle.domain_base.specs.Named.{entries};
 ghost use Rattle.domain_base.specs.Numbers.{type_names, TypeText, IsNoType, type_text};
-ghost use Rattle.domain_base.specs.Scan.{RefusesToken, TakesToken, scan_fault_of};
+ghost use Rattle.domain_names.specs.TextFault.{scan_fault_of};
+ghost use Rattle.domain_base.specs.Scan.{RefusesToken, TakesToken};
 
-use crate::{FromToken, ScanError, Scanner, named};
+use crate::{FromToken, Scanner, named};
+use domain_names::ScanError;
 use std::fmt;
 use std::marker::Model;
 

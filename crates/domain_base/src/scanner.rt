@@ -1,15 +1,16 @@
 //! The tokens of an entry of a zone file.
 ghost use Rattle.std.specs.Prelude.{◌≡◌, ◌≢◌, ◌↔◌, ◌∷◌, [], ℕ, Option, drop, length, map, IsTrue, IfOk, IfErr, IsErrOf, IsOkAnd, OnOk, MatchOption};
 ghost use Rattle.std.specs.Fn.{FnOnceReturnsAt};
-ghost use Rattle.domain_base.specs.Scan.{ScanFault, scan_fault_of, TakesToken, RefusesToken, NameTextFault, CodecFault, TokenHasNoRoom, EntryFault, IsEnd};
+ghost use Rattle.domain_names.specs.TextFault.{ScanFault, scan_fault_of, NameTextFault};
+ghost use Rattle.domain_base.specs.Scan.{TakesToken, RefusesToken, CodecFault, TokenHasNoRoom, EntryFault, IsEnd};
 ghost use Rattle.domain_octets.specs.Codec.{Decodes, HasNoRoom, DecodeFault};
 ghost use Rattle.domain_octets.specs.Limit.{HasRoom};
 ghost use Rattle.std.specs.List.{concat};
-ghost use Rattle.domain_base.specs.Text.{NameText};
-ghost use Rattle.domain_base.specs.Words.{Tokens, Token};
+ghost use Rattle.domain_names.specs.Text.{NameText};
+ghost use Rattle.domain_names.specs.Words.{Tokens, Token};
 ghost use Rattle.domain_octets.specs.Words.{Octets};
 
-use crate::{Name, ScanError, ToName};
+use domain_names::{Name, ScanError, ToName};
 use domain_octets::{Codec, DecodeError, EmptyBuilder, FromBuilder};
 use std::alloc::Global;
 use std::marker::{Model, PhantomData};
@@ -120,7 +121,7 @@ pub struct IterScanner<'a, O> {
 
 impl<'a, O> Model for IterScanner<'a, O> {
     ghost use Rattle.std.specs.Prelude.{map};
-    ghost use Rattle.domain_base.specs.Words.{Tokens};
+    ghost use Rattle.domain_names.specs.Words.{Tokens};
 
     ghost Value = { Tokens };
 

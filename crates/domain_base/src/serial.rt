@@ -8,7 +8,7 @@ ghost use Rattle.domain_octets.specs.Place.{Takes};
 ghost use Rattle.domain_base.specs.Serial.{ReadsSerial, serial_cmp};
 ghost use Rattle.std.specs.Cmp.{nat_cmp_total};
 
-use crate::{CanonicalOrd, ParseError, ScanError};
+use domain_names::{CanonicalOrd, ParseError, ScanError};
 use domain_octets::{AppendError, OctetsBuilder, Parser};
 use std::cmp::Ordering;
 use std::fmt;

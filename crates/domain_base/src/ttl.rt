@@ -1,9 +1,11 @@
 //! Times to live.
 ghost use Rattle.std.specs.Prelude.{◌≡◌, ◌*◌, Some, IfOk, IfErr};
 ghost use Rattle.std.specs.Fmt.{decimal};
-ghost use Rattle.domain_base.specs.Scan.{IsNumber, IsNoNumber, RefusesToken, TakesToken, scan_fault_of};
+ghost use Rattle.domain_names.specs.TextFault.{scan_fault_of};
+ghost use Rattle.domain_base.specs.Scan.{IsNumber, IsNoNumber, RefusesToken, TakesToken};
 
-use crate::{FromToken, ScanError, Scanner};
+use crate::{FromToken, Scanner};
+use domain_names::ScanError;
 use std::fmt;
 use std::marker::Model;
 

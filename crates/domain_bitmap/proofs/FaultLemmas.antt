@@ -4,7 +4,7 @@ use Rattle.std.proofs.lemmas.List.{take-append-drop, length-take, get_or-take, g
 use Rattle.std.proofs.lemmas.Bool.Decides.{leb_tells}
 use Rattle.domain_bitmap.specs.declared.error.RtypeBitmapError.{RtypeBitmapError}
 use Rattle.domain_bitmap.specs.declared.error.RtypeBitmapError.TheVariants.{ShortInput, BadRtypeBitmap}
-use Rattle.domain_base.specs.Fault.{Fault}
+use Rattle.domain_names.specs.Fault.{Fault}
 use Rattle.domain_bitmap.specs.Fault.{BitmapFault, bitmap_fault_of, FirstBlockFault, no_length, bad_length, cut_block, after}
 use Rattle.domain_bitmap.specs.Blocks.{Block, IsBitmap, octets_of_blocks, blocks_of}
 use Rattle.domain_bitmap.proofs.BlockLemmas.{IsBitmap-octets_of_blocks, block_at, add_two}

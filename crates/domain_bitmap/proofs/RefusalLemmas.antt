@@ -9,7 +9,7 @@ use Rattle.domain_octets.specs.declared.codec.Codec.{Codec}
 use Rattle.domain_octets.specs.declared.codec.Codec.TheVariants.{Base16, Base32Hex}
 use Rattle.domain_octets.proofs.CodecBackLemmas.{decodes_once}
 use Rattle.domain_base.specs.Numbers.{TypeText, IsNoType}
-use Rattle.domain_base.specs.Scan.{ScanFault, entry_ends, illegal, no_room, no_memory, IsOfTokens}
+use Rattle.domain_names.specs.TextFault.{ScanFault, entry_ends, illegal, no_room, no_memory, IsOfTokens}
 use Rattle.domain_base.proofs.RefusalLemmas.{over_none, codec_excludes, codec_one_fault}
 use Rattle.domain_bitmap.specs.HashScan.{CountedFault, BeginsWithDash, SaltTokenFault, after_dash, in_digits}
 use Rattle.domain_bitmap.specs.HashText.{SaltText, dash, digits, OwnerHashText}

@@ -3,7 +3,8 @@ use Rattle.std.proofs.Common.{◌≡◌, ◌≢◌, ◌≤◌, ℕ, List, [], �
 use Rattle.std.specs.Prelude.{Option, Result, Ok, Err, IfOk, IfErr}
 use Rattle.domain_octets.specs.Codec.{Decodes}
 use Rattle.domain_octets.specs.declared.codec.Codec.TheVariants.{Base16}
-use Rattle.domain_base.specs.Scan.{ScanFault, entry_ends, illegal, TakesToken, RefusesToken, ended, refused}
+use Rattle.domain_names.specs.TextFault.{ScanFault, entry_ends, illegal}
+use Rattle.domain_base.specs.Scan.{TakesToken, RefusesToken, ended, refused}
 use Rattle.domain_bitmap.specs.HashText.{SaltText, dash, digits}
 use Rattle.domain_bitmap.specs.HashScan.{CountedFault, SaltTokenFault, BeginsWithDash, after_dash, in_digits}
 

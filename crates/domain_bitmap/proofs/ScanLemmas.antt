@@ -7,8 +7,9 @@ use Rattle.std.proofs.lemmas.List.Folds.{list_any-append}
 use Rattle.std.proofs.lemmas.List.{append-nil}
 use Rattle.std.proofs.lemmas.Bool.Decides.{nat_tests, eqb_tells}
 use Rattle.domain_base.specs.Numbers.{TypeText, IsNoType}
-use Rattle.domain_base.specs.Scan.{ScanFault, RefusesToken, ended, refused, scan_fault_of, scan_error_of}
-use Rattle.domain_base.specs.declared.error.ScanError.{ScanError}
+use Rattle.domain_names.specs.TextFault.{ScanFault, scan_fault_of, scan_error_of}
+use Rattle.domain_base.specs.Scan.{RefusesToken, ended, refused}
+use Rattle.domain_names.specs.declared.error.ScanError.{ScanError}
 use Rattle.domain_octets.specs.Limit.{IsOver}
 use Rattle.domain_octets.specs.declared.error.AppendError.{AppendError}
 use Rattle.domain_octets.specs.declared.error.AppendError.TheVariants.{ShortBuf, OutOfMemory}

@@ -3,7 +3,7 @@ use Rattle.std.specs.Prelude.{◌≡◌, ◌≢◌, ℕ, zero, suc, ◌+◌, ◌
 use Rattle.std.specs.Prelude.{Bool, false, List, [], ◌∷◌, ◌++◌, length, take, drop, filter, slice_index, if◌then◌else◌}
 use Rattle.std.specs.List.{range_with_len, flat_map, AllByRecursion}
 use Rattle.domain_octets.specs.Words.{Octets}
-use Rattle.domain_base.specs.Words.{Rtypes}
+use Rattle.domain_base.specs.Types.{Rtypes}
 use Rattle.domain_bitmap.specs.Bits.{has_bit}
 
 -- a block: the number of its window, and its octets

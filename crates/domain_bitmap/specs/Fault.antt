@@ -1,7 +1,7 @@
 -- why octets are no list of blocks
 use Rattle.std.specs.Prelude.{◌≡◌, ℕ, ◌<◌, ◌≤◌, ◌⊎◌, [], ◌∷◌, ◌++◌, length, codes}
 use Rattle.domain_octets.specs.Words.{Octets}
-use Rattle.domain_base.specs.Fault.{Fault, ends_early, malformed}
+use Rattle.domain_names.specs.Fault.{Fault, ends_early, malformed}
 use Rattle.domain_bitmap.specs.declared.error.RtypeBitmapError.{RtypeBitmapError}
 use Rattle.domain_bitmap.specs.declared.error.RtypeBitmapError.TheVariants.{ShortInput, BadRtypeBitmap}
 

@@ -6,8 +6,9 @@ use Rattle.domain_octets.specs.declared.codec.Codec.{Codec}
 use Rattle.domain_octets.specs.declared.codec.Codec.TheVariants.{Base16}
 use Rattle.domain_octets.specs.Words.{Octets}
 use Rattle.domain_octets.specs.Characters.{dash}
-use Rattle.domain_base.specs.Scan.{ScanFault, entry_ends, illegal, no_room, no_memory, CodecFault}
-use Rattle.domain_base.specs.Words.{Token}
+use Rattle.domain_names.specs.TextFault.{ScanFault, entry_ends, illegal, no_room, no_memory}
+use Rattle.domain_base.specs.Scan.{CodecFault}
+use Rattle.domain_names.specs.Words.{Token}
 
 -- the text stands for over 255 octets, which a builder with this limit has room for
 pub record StandsForTooMany (codec : Codec) (limit : Option ℕ) (text : Octets) : Type 0 where

@@ -5,7 +5,7 @@ use Rattle.std.specs.Fmt.{decimal}
 use Rattle.domain_octets.specs.Piece.{PieceText, token, comment, opens, closes}
 use Rattle.domain_octets.specs.Words.{Octets}
 use Rattle.domain_base.specs.Numbers.{type_text}
-use Rattle.domain_base.specs.Words.{Rtypes}
+use Rattle.domain_base.specs.Types.{Rtypes}
 use Rattle.domain_bitmap.specs.HashText.{salt_text}
 
 -- a token for each type

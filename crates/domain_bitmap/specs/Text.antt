@@ -4,7 +4,7 @@ use Rattle.std.specs.List.{flat_map}
 use Rattle.domain_octets.specs.Words.{Octets}
 use Rattle.domain_octets.specs.Characters.{space}
 use Rattle.domain_base.specs.Numbers.{type_text}
-use Rattle.domain_base.specs.Words.{Rtypes}
+use Rattle.domain_base.specs.Types.{Rtypes}
 
 -- each type after a space
 unfoldable pub spaced_types : Rtypes → Octets

@@ -2,7 +2,7 @@
 ghost use Rattle.std.specs.Prelude.{◌≡◌, ◌↔◌, ◌+◌, ◌<◌, ◌^◌, ◌++◌, length, [], IsOk, IfOk, IfErr, OnOk, OnErr, IsErrOf, IsNone};
 ghost use Rattle.domain_octets.specs.Limit.{IsOver};
 ghost use Rattle.domain_octets.specs.Place.{Takes};
-ghost use Rattle.domain_base.specs.Fault.{fault_of};
+ghost use Rattle.domain_names.specs.Fault.{fault_of};
 ghost use Rattle.domain_bitmap.specs.Blocks.{IsBitmap};
 ghost use Rattle.domain_bitmap.specs.Fault.{BitmapFault};
 

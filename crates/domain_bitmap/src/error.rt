@@ -1,6 +1,6 @@
 //! Why octets are no list of blocks.
 ghost use Rattle.std.specs.Prelude.{◌≡◌, Some};
-ghost use Rattle.domain_base.specs.Fault.{fault_of};
+ghost use Rattle.domain_names.specs.Fault.{fault_of};
 ghost use Rattle.domain_bitmap.specs.Fault.{bitmap_fault_of, bitmap_error_text};
 
 use domain_base::ParseError;

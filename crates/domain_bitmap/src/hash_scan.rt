@@ -2,7 +2,8 @@
 ghost use Rattle.std.specs.Prelude.{◌≡◌, ◌≤◌, ◌↔◌, IfOk, IfErr, IsTrue, codes, length};
 ghost use Rattle.domain_octets.specs.Codec.{Decodes};
 ghost use Rattle.domain_octets.specs.declared.codec.Codec.TheVariants as codec;
-ghost use Rattle.domain_base.specs.Scan.{scan_fault_of, TakesToken, RefusesToken};
+ghost use Rattle.domain_names.specs.TextFault.{scan_fault_of};
+ghost use Rattle.domain_base.specs.Scan.{TakesToken, RefusesToken};
 ghost use Rattle.domain_bitmap.specs.HashText.{OwnerHashText, SaltText};
 ghost use Rattle.domain_bitmap.specs.HashScan.{CountedFault, SaltTokenFault, BeginsWithDash};
 

@@ -16,7 +16,7 @@ pub struct RtypeBitmapIter<'a> {
 
 impl<'a> Model for RtypeBitmapIter<'a> {
     ghost use Rattle.std.specs.Prelude.{◌≤◌};
-    ghost use Rattle.domain_base.specs.Words.{Rtypes};
+    ghost use Rattle.domain_base.specs.Types.{Rtypes};
     ghost use Rattle.domain_bitmap.specs.Blocks.{IsBitmap, types_from, blocks_of};
 
     ghost Value = { Rtypes };

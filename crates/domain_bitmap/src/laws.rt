@@ -4,8 +4,9 @@ ghost use Rattle.std.specs.Prelude.{◌≡◌, ◌≢◌, ◌<◌, ◌≤◌, le
 ghost use Rattle.domain_octets.specs.declared.codec.Codec.TheVariants.{Base32Hex};
 ghost use Rattle.domain_octets.specs.Line.{words_of, IsWord};
 ghost use Rattle.domain_octets.specs.Words.{Octets, AreOctets};
-ghost use Rattle.domain_base.specs.Scan.{ScanFault, no_memory, IsOfTokens};
-ghost use Rattle.domain_base.specs.Words.{Rtypes, Tokens};
+ghost use Rattle.domain_names.specs.TextFault.{ScanFault, no_memory, IsOfTokens};
+ghost use Rattle.domain_names.specs.Words.{Tokens};
+ghost use Rattle.domain_base.specs.Types.{Rtypes};
 ghost use Rattle.domain_bitmap.specs.Bitmap.{bitmap_octets};
 ghost use Rattle.domain_bitmap.specs.Blocks.{IsBitmap, IsShortest, contains_type, types_of, types_below};
 ghost use Rattle.domain_bitmap.specs.HashScan.{CountedFault, SaltTokenFault};

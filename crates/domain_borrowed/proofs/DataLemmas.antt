@@ -1,6 +1,6 @@
 -- The data of records, read whole.
 use Rattle.std.proofs.Common.{◌≡◌, ℕ, List, [], ap, subst}
-use Rattle.domain_base.specs.Fault.{Fault}
+use Rattle.domain_names.specs.Fault.{Fault}
 use Rattle.domain_bitmap.proofs.BlockLemmas.{bitmap_small}
 use Rattle.domain_fields.specs.Layout.{Values, Begins, FirstFault}
 use Rattle.domain_chain_rdata.specs.NsecWire.{NsecFault}

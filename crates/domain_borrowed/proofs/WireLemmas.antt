@@ -1,8 +1,8 @@
 -- Octets begin with one record at most.
 use Rattle.std.proofs.Common.{◌≡◌, ℕ, ◌<◌, ◌+◌, List, [], ◌∷◌, ◌++◌, length, take, drop, refl, sym, ap, ◌∙◌, arith, append_assoc, append-nil, length-append}
 use Rattle.std.proofs.lemmas.List.{take_at, drop_at}
-use Rattle.domain_base.specs.Fault.{Fault}
-use Rattle.domain_base.specs.Name.{wire_of}
+use Rattle.domain_names.specs.Fault.{Fault}
+use Rattle.domain_names.specs.Name.{wire_of}
 use Rattle.domain_fields.specs.Layout.{Values, octets_of, Begins, FirstFault}
 use Rattle.domain_fields.proofs.ExactLemmas.{fault_excludes}
 use Rattle.domain_fields.proofs.OrderLemmas.{same_data, Same}

@@ -1,5 +1,5 @@
 -- Records of chains as octets.
-use Rattle.domain_base.specs.Name.{IsName}
+use Rattle.domain_names.specs.Name.{IsName}
 use Rattle.domain_base.specs.Types as rtypes
 use Rattle.domain_bitmap.specs.Blocks.{IsBitmap}
 use Rattle.domain_fields.specs.Layout.{Values, Fits, octets_of}

@@ -1,7 +1,7 @@
 -- Records as they stand in a message, without compression (RFC 1035, sections 3.2.1 and 4.1.3).
 use Rattle.std.specs.Prelude.{◌≡◌, ℕ, ◌++◌, length}
 use Rattle.domain_octets.specs.Words.{Octets}
-use Rattle.domain_base.specs.Words.{Name}
+use Rattle.domain_names.specs.Words.{Name}
 use Rattle.domain_fields.specs.Field.{name, short, long}
 use Rattle.domain_fields.specs.Layout.{Layout, one, ◌▸◌, Values, octets_of, Fits}
 use Rattle.domain_record.specs.declared.record.Record.{Record}

@@ -8,7 +8,7 @@ use Rattle.domain_octets.specs.Base32.{base32_upper}
 use Rattle.domain_octets.specs.Piece.{PieceText, token, comment, opens, closes}
 use Rattle.domain_octets.specs.Place.{Place, Takes}
 use Rattle.domain_octets.specs.Words.{AreOctets}
-use Rattle.domain_base.specs.Fault.{Fault}
+use Rattle.domain_names.specs.Fault.{Fault}
 use Rattle.domain_bitmap.specs.Blocks.{IsBitmap, types_of}
 use Rattle.domain_bitmap.specs.Fault.{BitmapFault}
 use Rattle.domain_bitmap.specs.Pieces.{type_pieces, salt_pieces}

@@ -1,7 +1,7 @@
 -- NSEC data on the wire: how they are read
 use Rattle.std.proofs.Common.{◌≡◌, ℕ, true, List, [], ◌++◌, refl, sym, ap, subst, ◌∙◌}
-use Rattle.domain_base.specs.Name.{wire_of}
-use Rattle.domain_base.specs.Fault.{Fault}
+use Rattle.domain_names.specs.Name.{wire_of}
+use Rattle.domain_names.specs.Fault.{Fault}
 use Rattle.domain_octets.specs.Place.{Place, Takes}
 use Rattle.domain_octets.specs.Words.{AreOctets}
 use Rattle.domain_bitmap.specs.Blocks.{IsBitmap}

@@ -5,9 +5,9 @@ use Rattle.domain_octets.specs.Base32.{base32_upper}
 use Rattle.domain_octets.specs.Line.{words_of}
 use Rattle.domain_octets.proofs.ReadBackLemmas.{upper_reads_back}
 use Rattle.domain_octets.proofs.WordLemmas.{one_word, next_word, decimal_word, upper_base32_word}
-use Rattle.domain_base.specs.Name.{IsName}
+use Rattle.domain_names.specs.Name.{IsName}
 use Rattle.domain_base.specs.Numbers.{type_text}
-use Rattle.domain_base.specs.Text.{name_text}
+use Rattle.domain_names.specs.Text.{name_text}
 use Rattle.domain_base.proofs.ReadBackLemmas.{dotted_name_back, name_word}
 use Rattle.domain_bitmap.specs.Bitmap.{bitmap_octets}
 use Rattle.domain_bitmap.specs.Blocks.{IsBitmap, IsShortest, types_of}

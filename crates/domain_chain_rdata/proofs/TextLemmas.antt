@@ -1,9 +1,9 @@
 -- The text of NSEC data: tokens spell one at most, and are refused for one reason, spelling none.
 use Rattle.std.proofs.Common.{◌≡◌, ℕ, List, sym, ap, ◌∙◌, subst, Option}
-use Rattle.domain_base.specs.Scan.{ScanFault, IsOfTokens, NameTextFault}
-use Rattle.domain_base.specs.Text.{NameText}
+use Rattle.domain_names.specs.TextFault.{ScanFault, IsOfTokens, NameTextFault}
+use Rattle.domain_names.specs.Text.{NameText}
 use Rattle.domain_base.proofs.RefusalLemmas.{token_excludes, token_one_fault, name_excludes, name_one_fault}
-use Rattle.domain_base.proofs.SpellingLemmas.{one_name}
+use Rattle.domain_names.proofs.SpellingLemmas.{one_name}
 use Rattle.domain_bitmap.specs.Bitmap.{bitmap_octets}
 use Rattle.domain_bitmap.specs.Scan.{TypeTexts, is_among, RefusesTypes}
 use Rattle.domain_bitmap.proofs.ReadBackLemmas.{spelled_once}

@@ -6,11 +6,11 @@ use Rattle.std.specs.Hash as fed
 use Rattle.std.specs.Hash.{Alike}
 use Rattle.std.specs.Cmp.Lexicographic.{bytes_decides}
 use Rattle.domain_octets.specs.Words.{Octets}
-use Rattle.domain_base.specs.Name.{same_name}
-use Rattle.domain_base.specs.Laws.{same_name_same}
+use Rattle.domain_names.specs.Name.{same_name}
+use Rattle.domain_names.specs.Laws.{same_name_same}
 use Rattle.domain_fields.specs.Layout.{canonical_of}
 use Rattle.domain_chain_rdata.specs.Rdata.{nsec_hashed}
-use Rattle.domain_base.specs.Words.{Name}
+use Rattle.domain_names.specs.Words.{Name}
 
 left_true : (a b : Bool) → (a && b) ≡ true → a ≡ true
 left_true true b e = refl

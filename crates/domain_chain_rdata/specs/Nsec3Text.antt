@@ -17,7 +17,8 @@ use Rattle.domain_fields.specs.Sequence.{OneToken, Both, RefusesBoth}
 use Rattle.domain_chain_rdata.specs.OptOut.{opt_out_comment}
 use Rattle.domain_chain_rdata.specs.Nsec3paramText.{Nsec3paramText, RefusesNsec3param, hash_numbers_text, number_pieces}
 use Rattle.domain_chain_rdata.specs.Rdata.{hash_numbers, hash_fields, nsec3}
-use Rattle.domain_base.specs.Words.{Tokens, Rtypes}
+use Rattle.domain_names.specs.Words.{Tokens}
+use Rattle.domain_base.specs.Types.{Rtypes}
 
 -- all tokens spell the types of a bitmap, one each
 pub record BitmapText (old : Tokens) (octets : Octets) (new : Tokens) : Type 0 where

@@ -1,7 +1,7 @@
 -- NSEC3 data on the wire (RFC 5155, section 3.2)
 use Rattle.std.specs.Prelude.{◌≡◌, []}
 use Rattle.domain_octets.specs.Words.{Octets}
-use Rattle.domain_base.specs.Fault.{Fault}
+use Rattle.domain_names.specs.Fault.{Fault}
 use Rattle.domain_bitmap.specs.Blocks.{IsBitmap}
 use Rattle.domain_bitmap.specs.Fault.{BitmapFault}
 use Rattle.domain_fields.specs.Layout.{Values, octets_of, Begins, FirstFault}

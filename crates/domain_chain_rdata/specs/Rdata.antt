@@ -5,7 +5,7 @@ use Rattle.domain_fields.specs.Layout.{Layout, one, ◌▸◌, Values, octets_of
 use Rattle.domain_chain_rdata.specs.declared.nsec.Nsec.{Nsec}
 use Rattle.domain_chain_rdata.specs.declared.nsec3.Nsec3.{Nsec3}
 use Rattle.domain_chain_rdata.specs.declared.nsec3param.Nsec3param.{Nsec3param}
-use Rattle.domain_base.specs.Words.{Name}
+use Rattle.domain_names.specs.Words.{Name}
 
 -- the next name, whose case the canonical form keeps (RFC 6840, section 5.1), and the type bitmap
 -- (RFC 4034, section 4.1)

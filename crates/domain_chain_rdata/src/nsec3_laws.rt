@@ -10,8 +10,8 @@ ghost use Rattle.domain_chain_rdata.specs.Nsec3paramText.{Nsec3paramText, Refuse
 ghost use Rattle.domain_chain_rdata.specs.Nsec3Text.{HashText, Nsec3Text, RefusesNsec3, nsec3_text};
 ghost use Rattle.domain_chain_rdata.specs.Nsec3Wire.{Nsec3ParsesBack};
 ghost use Rattle.domain_chain_rdata.specs.Rdata.{hash_fields, nsec3, nsec3_values, nsec3param, nsec3param_values};
-ghost use Rattle.domain_base.specs.Scan.{ScanFault, IsOfTokens};
-ghost use Rattle.domain_base.specs.Words.{Tokens};
+ghost use Rattle.domain_names.specs.TextFault.{ScanFault, IsOfTokens};
+ghost use Rattle.domain_names.specs.Words.{Tokens};
 
 use crate::{Nsec3, Nsec3param};
 use domain_octets::Octets;

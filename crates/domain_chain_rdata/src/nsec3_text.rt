@@ -1,6 +1,6 @@
 //! NSEC3 data as text (RFC 5155, section 3.3).
 ghost use Rattle.std.specs.Prelude.{◌≡◌, Some, IfOk, IfErr, IfSome};
-ghost use Rattle.domain_base.specs.Scan.{scan_fault_of};
+ghost use Rattle.domain_names.specs.TextFault.{scan_fault_of};
 ghost use Rattle.domain_bitmap.specs.Blocks.{types_of};
 ghost use Rattle.domain_bitmap.specs.Text.{spaced_types};
 ghost use Rattle.domain_chain_rdata.specs.OptOut.{opt_out_comment};

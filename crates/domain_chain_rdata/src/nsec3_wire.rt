@@ -1,6 +1,6 @@
 //! NSEC3 data on the wire (RFC 5155, section 3.2).
 ghost use Rattle.std.specs.Prelude.{◌≡◌, IfOk, IfErr, OnErr};
-ghost use Rattle.domain_base.specs.Fault.{fault_of};
+ghost use Rattle.domain_names.specs.Fault.{fault_of};
 ghost use Rattle.domain_base.specs.Types as rtypes;
 ghost use Rattle.domain_fields.specs.Layout.{Begins, FirstFault, GoesOn};
 ghost use Rattle.domain_chain_rdata.specs.Nsec3Wire.{BeginsNsec3, Nsec3Fault};

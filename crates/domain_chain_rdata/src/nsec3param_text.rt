@@ -1,6 +1,6 @@
 //! The parameters of the hashes of names as text (RFC 5155, section 4.3).
 ghost use Rattle.std.specs.Prelude.{◌≡◌, ◌++◌, Some, IfOk, IfErr, OnOk};
-ghost use Rattle.domain_base.specs.Scan.{scan_fault_of};
+ghost use Rattle.domain_names.specs.TextFault.{scan_fault_of};
 ghost use Rattle.domain_fields.specs.Layout.{Fits};
 ghost use Rattle.domain_fields.specs.Scan.{Scans, Refuses};
 ghost use Rattle.domain_chain_rdata.specs.Rdata.{hash_numbers, nsec3param, nsec3param_values};

@@ -5,9 +5,9 @@ ghost use Rattle.std.specs.Cmp.{on_equiv, on_total, then_total, and_equiv, parti
 ghost use Rattle.std.specs.Cmp.Lexicographic.{slice_cmp, nat_list_cmp_total, nat_list_eq_equiv};
 ghost use Rattle.std.specs.List.{flat_map};
 ghost use Rattle.std.specs.Hash as fed;
-ghost use Rattle.domain_base.specs.Name.{same_name};
-ghost use Rattle.domain_base.specs.Order.{canonical_cmp as name_cmp, canonical_cmp_total};
-ghost use Rattle.domain_base.specs.Laws.{same_name_equiv};
+ghost use Rattle.domain_names.specs.Name.{same_name};
+ghost use Rattle.domain_names.specs.Order.{canonical_cmp as name_cmp, canonical_cmp_total};
+ghost use Rattle.domain_names.specs.Laws.{same_name_equiv};
 ghost use Rattle.domain_fields.specs.Laws.{ties_of_both};
 ghost use Rattle.domain_fields.specs.Layout.{canonical_of};
 ghost use Rattle.domain_chain_rdata.specs.Rdata.{nsec, nsec_values, nsec_hashed};

@@ -3,9 +3,9 @@
 ghost use Rattle.std.specs.Prelude.{◌≡◌, ℕ, ◌++◌, [], Option, codes};
 ghost use Rattle.domain_octets.specs.Line.{words_of};
 ghost use Rattle.domain_octets.specs.Words.{Octets};
-ghost use Rattle.domain_base.specs.Scan.{ScanFault, IsOfTokens};
-ghost use Rattle.domain_base.specs.Text.{name_text};
-ghost use Rattle.domain_base.specs.Words.{Name, Tokens};
+ghost use Rattle.domain_names.specs.TextFault.{ScanFault, IsOfTokens};
+ghost use Rattle.domain_names.specs.Text.{name_text};
+ghost use Rattle.domain_names.specs.Words.{Name, Tokens};
 ghost use Rattle.domain_bitmap.specs.Bitmap.{bitmap_octets};
 ghost use Rattle.domain_bitmap.specs.Blocks.{IsShortest, types_of};
 ghost use Rattle.domain_bitmap.specs.Scan.{is_among};

@@ -1,6 +1,6 @@
 //! NSEC data on the wire.
 ghost use Rattle.std.specs.Prelude.{◌≡◌, IfOk, IfErr, OnErr};
-ghost use Rattle.domain_base.specs.Fault.{fault_of};
+ghost use Rattle.domain_names.specs.Fault.{fault_of};
 ghost use Rattle.domain_base.specs.Types as rtypes;
 ghost use Rattle.domain_fields.specs.Field.{spelled_name};
 ghost use Rattle.domain_fields.specs.Layout.{one, Begins, FirstFault, GoesOn};

@@ -1,10 +1,10 @@
 -- What NSEC records say does not depend on TTLs, classes and the case of letters.
 use Rattle.std.proofs.Common.{◌≡◌, ℕ, Bool, cond, not, ◌&&◌, ◌||◌, List, [], ◌∷◌, length, refl, ◌∙◌, nat_eq, Option, Some, None}
 use Rattle.std.specs.List.{find}
-use Rattle.domain_base.specs.Name.{is_at_or_below, lowered}
-use Rattle.domain_base.specs.Order.{before}
+use Rattle.domain_names.specs.Name.{is_at_or_below, lowered}
+use Rattle.domain_names.specs.Order.{before}
 use Rattle.domain_base.specs.Types.{ds, ns}
-use Rattle.domain_base.specs.Words.{Name}
+use Rattle.domain_names.specs.Words.{Name}
 use Rattle.domain_bitmap.specs.Blocks.{contains_type}
 use Rattle.domain_zone.specs.Covering.{covers, matches, matches_or_covers}
 use Rattle.domain_zone.specs.Enclosers.{longer, shared}

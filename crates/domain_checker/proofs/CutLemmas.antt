@@ -1,8 +1,8 @@
 -- The zone cuts that an NSEC3 chain holds: what exists is not strictly below one.
 use Rattle.std.proofs.Common.{◌≡◌, Bool, true, false, not, ◌&&◌, List, refl, ap, ◌∙◌, inl, inr, arith}
 use Rattle.std.proofs.lemmas.Bool.{cases_Bool, and_parts, and_from}
-use Rattle.domain_base.specs.Name.{is_strictly_below, lowered, same_name}
-use Rattle.domain_base.specs.Words.{Name}
+use Rattle.domain_names.specs.Name.{is_strictly_below, lowered, same_name}
+use Rattle.domain_names.specs.Words.{Name}
 use Rattle.domain_zone.specs.Enclosers.{exists_over}
 use Rattle.domain_zone.specs.Zone.{ZoneRecord, is_zone_cut}
 use Rattle.domain_zone.proofs.NameLemmas.{one_lowered, same_itself, same_lowered, lowered_below, below_itself, strictly_longer}

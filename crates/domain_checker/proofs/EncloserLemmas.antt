@@ -5,9 +5,9 @@ use Rattle.std.specs.Char.{to_ascii_lowercase}
 use Rattle.std.specs.List.{list_any}
 use Rattle.std.proofs.lemmas.Bool.{cases_Bool, false≢true, and_parts, and_from, cases_lt}
 use Rattle.std.proofs.lemmas.List.{length-map}
-use Rattle.domain_base.specs.Name.{is_at_or_below, is_strictly_below, lowered, same_name}
+use Rattle.domain_names.specs.Name.{is_at_or_below, is_strictly_below, lowered, same_name}
 use Rattle.domain_base.specs.Types.{ns, dname}
-use Rattle.domain_base.specs.Words.{Name}
+use Rattle.domain_names.specs.Words.{Name}
 use Rattle.domain_zone.specs.Enclosers.{IsClosestEncloser, exists_over}
 use Rattle.domain_zone.specs.Zone.{ZoneRecord, has_type, is_zone_cut, occludes, is_occluded, is_unoccluded, distinct, unoccluded_owners, owns}
 use Rattle.domain_zone.proofs.NameLemmas.{one_lowered, same_itself, below_itself, below_trans, below_longer, below_length, below_parent, below_root, same_both}

@@ -5,9 +5,9 @@ use Rattle.std.specs.Option.{is_some, option_map, option_or}
 use Rattle.std.specs.Ordering.{is_eq}
 use Rattle.std.proofs.lemmas.Bool.{false≢true}
 use Rattle.std.proofs.lemmas.List.{at_drop_more}
-use Rattle.domain_base.specs.Laws.{same_name_ties}
-use Rattle.domain_base.specs.Order.{before, canonical_cmp}
-use Rattle.domain_base.specs.Words.{Name}
+use Rattle.domain_names.specs.Laws.{same_name_ties}
+use Rattle.domain_names.specs.Order.{before, canonical_cmp}
+use Rattle.domain_names.specs.Words.{Name}
 use Rattle.domain_zone.specs.Covering.{matches}
 use Rattle.domain_zone.proofs.NameLemmas.{same_is}
 

@@ -10,9 +10,9 @@ use Rattle.std.proofs.lemmas.List.{length-map}
 use Rattle.domain_octets.specs.Codec.{base32_digits, base32_octets, base32_value, is_base32_length, is_digit}
 use Rattle.domain_octets.specs.Words.{Octets}
 use Rattle.domain_octets.specs.declared.codec.Codec.TheVariants.{Base32Hex}
-use Rattle.domain_base.specs.Name.{is_at_or_below, lowered, same_name}
+use Rattle.domain_names.specs.Name.{is_at_or_below, lowered, same_name}
 use Rattle.domain_base.specs.Types.{ds, ns}
-use Rattle.domain_base.specs.Words.{Label, Name}
+use Rattle.domain_names.specs.Words.{Label, Name}
 use Rattle.domain_bitmap.specs.Blocks.{contains_type, types_of}
 use Rattle.domain_chain_rdata.specs.OptOut.{is_opt_out}
 use Rattle.domain_zone.specs.Covering.{covers, matches}

@@ -3,9 +3,9 @@ use Rattle.std.proofs.Common.{◌≡◌, ℕ, Bool, true, false, cond, not, ◌&
 use Rattle.std.proofs.lemmas.Bool.{cases_Bool, eq-eqb, ne_eqb, false≢true}
 use Rattle.std.specs.List.{Contains}
 use Rattle.domain_octets.specs.Words.{Octets}
-use Rattle.domain_base.specs.Name.{is_at_or_below, same_name}
+use Rattle.domain_names.specs.Name.{is_at_or_below, same_name}
 use Rattle.domain_base.specs.Types.{ds, ns}
-use Rattle.domain_base.specs.Words.{Name}
+use Rattle.domain_names.specs.Words.{Name}
 use Rattle.domain_bitmap.specs.Blocks.{contains_type, types_of}
 use Rattle.domain_zone.specs.Zone.{ZoneRecord, has_type, records_of}
 use Rattle.domain_zone.proofs.NameLemmas.{below_trans, same_length}

@@ -13,8 +13,8 @@ use Rattle.domain_octets.specs.Base32.{base32_lower}
 use Rattle.domain_octets.specs.Codec.{is_digit, IsBase32}
 use Rattle.domain_octets.specs.Words.{Octets, AreOctets}
 use Rattle.domain_octets.specs.declared.codec.Codec.TheVariants.{Base32Hex}
-use Rattle.domain_base.specs.Name.{is_at_or_below, same_name, wire_of}
-use Rattle.domain_base.specs.Words.{Name}
+use Rattle.domain_names.specs.Name.{is_at_or_below, same_name, wire_of}
+use Rattle.domain_names.specs.Words.{Name}
 use Rattle.domain_bitmap.specs.Bitmap.{bitmap_octets}
 use Rattle.domain_zone.specs.Covering.{matches, covers, matches_or_covers}
 use Rattle.domain_zone.specs.Zone.{ZoneRecord}

@@ -7,8 +7,8 @@ use Rattle.std.specs.List.{list_any}
 use Rattle.std.proofs.lemmas.Bool.{cases_Bool, cases_lt, false≢true, and_from}
 use Rattle.std.proofs.lemmas.List.{length-drop, length-map}
 use Rattle.domain_octets.specs.Words.{Octets}
-use Rattle.domain_base.specs.Name.{is_at_or_below, is_strictly_below, lowered, same_name, wire_of}
-use Rattle.domain_base.specs.Words.{Label, Name}
+use Rattle.domain_names.specs.Name.{is_at_or_below, is_strictly_below, lowered, same_name, wire_of}
+use Rattle.domain_names.specs.Words.{Label, Name}
 use Rattle.domain_zone.proofs.NameLemmas.{one_lowered, same_itself, lowered_below, below_itself, below_trans, below_longer, below_length, below_parent}
 use Rattle.domain_zone.proofs.NameLemmas.{strictly_longer, strictly_from, same_length}
 use Rattle.domain_zone.proofs.OwnerLemmas.{in_any}

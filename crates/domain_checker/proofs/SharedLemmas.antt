@@ -6,10 +6,10 @@ use Rattle.std.specs.Cmp.Lexicographic.{pointwise, bytes_decides}
 use Rattle.std.specs.Char.{to_ascii_lowercase}
 use Rattle.std.proofs.lemmas.Bool.{cases_Bool, false≢true, ltb-true, ltb-false}
 use Rattle.std.proofs.lemmas.List.{length-reverse, length-map, reverse-append}
-use Rattle.domain_base.specs.Laws.{from_root-below, below-from_root}
-use Rattle.domain_base.specs.Name.{lowered, is_at_or_below}
-use Rattle.domain_base.specs.Order.{from_root, common_labels}
-use Rattle.domain_base.specs.Words.{Label, Name}
+use Rattle.domain_names.specs.Laws.{from_root-below, below-from_root}
+use Rattle.domain_names.specs.Name.{lowered, is_at_or_below}
+use Rattle.domain_names.specs.Order.{from_root, common_labels}
+use Rattle.domain_names.specs.Words.{Label, Name}
 use Rattle.domain_zone.specs.Enclosers.{shared, longer}
 use Rattle.domain_zone.proofs.NameLemmas.{below_there, below_back}
 

@@ -1,10 +1,10 @@
 -- What a record of the chain says of a name that it matches or covers is the verdict of the zone.
 use Rattle.std.proofs.Common.{◌≡◌, ℕ, ◌<◌, Bool, true, false, cond, not, ◌&&◌, List, sym, ◌∙◌, nat_eq, Some, slice_get}
 use Rattle.domain_octets.proofs.StdLemmas.{or_false}
-use Rattle.domain_base.specs.Name.{is_at_or_below, same_name}
-use Rattle.domain_base.specs.Order.{before}
+use Rattle.domain_names.specs.Name.{is_at_or_below, same_name}
+use Rattle.domain_names.specs.Order.{before}
 use Rattle.domain_base.specs.Types.{ds}
-use Rattle.domain_base.specs.Words.{Name}
+use Rattle.domain_names.specs.Words.{Name}
 use Rattle.domain_zone.specs.Covering.{matches, covers}
 use Rattle.domain_zone.specs.Zone.{ZoneRecord, is_zone_cut, is_occluded, unoccluded_owners}
 use Rattle.domain_zone.proofs.PairLemmas.{In}

@@ -4,8 +4,8 @@ use Rattle.std.specs.Prelude.{◌≡◌, ◌<◌, ℕ, Bool, true, false, List}
 use Rattle.domain_octets.specs.Base32.{base32_lower}
 use Rattle.domain_octets.specs.Codec.{IsBase32}
 use Rattle.domain_octets.specs.Words.{AreOctets, Octets}
-use Rattle.domain_base.specs.Name.{is_at_or_below, same_name}
-use Rattle.domain_base.specs.Words.{Name}
+use Rattle.domain_names.specs.Name.{is_at_or_below, same_name}
+use Rattle.domain_names.specs.Words.{Name}
 use Rattle.domain_bitmap.specs.Bitmap.{bitmap_octets}
 use Rattle.domain_bitmap.specs.Blocks.{contains_type, types_below, types_of}
 use Rattle.domain_zone.specs.Enclosers.{exists_over}

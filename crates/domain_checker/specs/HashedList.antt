@@ -4,8 +4,8 @@ use Rattle.std.specs.List.{list_all}
 use Rattle.domain_octets.specs.Codec.{is_digit, is_base32_length, base32_octets, base32_digits}
 use Rattle.domain_octets.specs.Words.{Octets}
 use Rattle.domain_octets.specs.declared.codec.Codec.TheVariants.{Base32Hex}
-use Rattle.domain_base.specs.Name.{same_name}
-use Rattle.domain_base.specs.Words.{Label, Name}
+use Rattle.domain_names.specs.Name.{same_name}
+use Rattle.domain_names.specs.Words.{Label, Name}
 use Rattle.domain_zone.specs.Covering.{matches, covers}
 use Rattle.domain_nsec3.specs.Chain.{HashedLink}
 use Rattle.domain_nsec3.specs.Config.{Parameters}

@@ -1,9 +1,9 @@
 -- What NSEC3 records say by themselves, on the way from a name to the apex (RFC 5155, section 8).
 use Rattle.std.specs.Prelude.{ℕ, ◌≡◌, ◌≢◌, ◌⊎◌, Bool, true, false, not, ◌&&◌, ◌==◌, [], ◌∷◌, length, Option, Some, None, Ok, if◌then◌else◌}
 use Rattle.domain_octets.specs.Words.{Octets}
-use Rattle.domain_base.specs.Name.{is_at_or_below, same_name}
-use Rattle.domain_base.specs.Types.{ds, ns}
-use Rattle.domain_base.specs.Words.{Name, Rtypes}
+use Rattle.domain_names.specs.Name.{is_at_or_below, same_name}
+use Rattle.domain_base.specs.Types.{ds, ns, Rtypes}
+use Rattle.domain_names.specs.Words.{Name}
 use Rattle.domain_bitmap.specs.Blocks.{contains_type, types_of}
 use Rattle.domain_chain_rdata.specs.OptOut.{is_opt_out}
 use Rattle.domain_nsec3.specs.Chain.{HashedLink}

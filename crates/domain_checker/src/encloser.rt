@@ -1,7 +1,7 @@
 //! The closest encloser of a name, as NSEC3 records tell it.
 ghost use Rattle.std.specs.Prelude.{◌≡◌, ◌⊎◌, ℕ, Ok, Err, None, false, IfOk, IfErr, IsErrOf};
 ghost use Rattle.std.specs.Option.{option_map};
-ghost use Rattle.domain_base.specs.Name.{is_at_or_below, lowered, wire_of};
+ghost use Rattle.domain_names.specs.Name.{is_at_or_below, lowered, wire_of};
 ghost use Rattle.domain_nsec3.specs.Config.{hash_name};
 ghost use Rattle.domain_hasher.specs.declared.error.Nsec3HashError.TheVariants as hash_error;
 ghost use Rattle.domain_checker.specs.HashedEncloser.{encloser_is_cut, encloser_of, IsFoundEncloser};
@@ -86,10 +86,7 @@ pub fn find_nsec3_encloser<'a, A: ToName, O: Octets, N: ToName, M: ToName, H: Ns
     }
     let mut buffer = [0; MAX_NAME];
     let lowered = name.lower_wire(&mut buffer);
-    match walk(alloc, apex, records, &name.as_parsed(), lowered, hasher) {
-        Ok(found) => Ok(found),
-        Err(error) => Err(error),
-    }
+    Ok(walk(alloc, apex, records, &name.as_parsed(), lowered, hasher)?)
 }
 
 /// What NSEC3 records tell of one name: the first that matches its hash or, where none does, the
@@ -118,8 +115,5 @@ pub fn find_nsec3<'a, A: ToName, O: Octets, N: ToName, M: ToName, H: Nsec3Hasher
 {
     let mut buffer = [0; MAX_NAME];
     let lowered = name.lower_wire(&mut buffer);
-    match look_up(alloc, apex, records, lowered, hasher) {
-        Ok(found) => Ok(found),
-        Err(error) => Err(error),
-    }
+    Ok(look_up(alloc, apex, records, lowered, hasher)?)
 }

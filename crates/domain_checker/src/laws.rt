@@ -1,7 +1,7 @@
 //! What holds of verdicts, and of what records say. A caller calls the law in its body.
 ghost use Rattle.std.specs.Prelude.{◌≡◌, ◌≢◌, ◌<◌, ℕ, Bool, All, List, true, false};
-ghost use Rattle.domain_base.specs.Name.{is_at_or_below};
-ghost use Rattle.domain_base.specs.Words.{Name};
+ghost use Rattle.domain_names.specs.Name.{is_at_or_below};
+ghost use Rattle.domain_names.specs.Words.{Name};
 ghost use Rattle.domain_zone.specs.Enclosers.{exists_over, IsClosestEncloser};
 ghost use Rattle.domain_zone.specs.Zone.{OwnersNeverDescend, ZoneRecord};
 ghost use Rattle.domain_nsec.specs.Chain.{IsChain, Link};

@@ -1,7 +1,7 @@
 //! What one NSEC record tells, and how a name stands to another.
 ghost use Rattle.std.specs.Prelude.{◌≡◌, length};
-ghost use Rattle.domain_base.specs.Name.{is_strictly_below};
-ghost use Rattle.domain_base.specs.Order.{before};
+ghost use Rattle.domain_names.specs.Name.{is_strictly_below};
+ghost use Rattle.domain_names.specs.Order.{before};
 ghost use Rattle.domain_zone.specs.Enclosers.{longer, shared};
 ghost use Rattle.domain_nsec.specs.ChainView.{as_link};
 ghost use Rattle.domain_checker.specs.Verdict.{is_inside};

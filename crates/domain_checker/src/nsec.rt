@@ -1,8 +1,8 @@
 //! What records of an NSEC chain prove.
 ghost use Rattle.std.specs.Prelude.{◌≡◌, ◌≢◌, true, length};
-ghost use Rattle.domain_base.specs.Name.{is_at_or_below};
-ghost use Rattle.domain_base.specs.Order.{before, canonical_cmp};
-ghost use Rattle.domain_base.specs.Words.{Name};
+ghost use Rattle.domain_names.specs.Name.{is_at_or_below};
+ghost use Rattle.domain_names.specs.Order.{before, canonical_cmp};
+ghost use Rattle.domain_names.specs.Words.{Name};
 ghost use Rattle.domain_zone.specs.Covering.{covers};
 ghost use Rattle.domain_nsec.specs.ChainView.{as_link, links_of};
 ghost use Rattle.domain_checker.specs.Verdict.{HasProof, IsProved, IsWithin};

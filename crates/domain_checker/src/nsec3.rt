@@ -1,7 +1,7 @@
 //! What records of an NSEC3 chain prove.
 ghost use Rattle.std.specs.Prelude.{◌≡◌, ◌≢◌, ◌⊎◌, ℕ, Ok, true, false, length, IfOk, IfErr, IsErrOf};
 ghost use Rattle.std.specs.Option.{option_map};
-ghost use Rattle.domain_base.specs.Name.{is_at_or_below};
+ghost use Rattle.domain_names.specs.Name.{is_at_or_below};
 ghost use Rattle.domain_nsec3.specs.View.{as_hashed_link};
 ghost use Rattle.domain_hasher.specs.declared.error.Nsec3HashError.TheVariants as hash_error;
 ghost use Rattle.domain_checker.specs.HashedEncloser.{encloser_of, found_verdict, lower_verdict, own_verdict};
@@ -160,8 +160,6 @@ pub fn check_nsec3<A: ToName, O: Octets, N: ToName, M: ToName, H: Nsec3Hasher>(
     }
     walks_are_proved();
     let _number = rtype.to_int();
-    match find_nsec3_encloser(alloc, apex, records, name, hasher) {
-        Ok(found) => Ok(found_verdict(apex, found, name.count_labels(), rtype)),
-        Err(error) => Err(error),
-    }
+    let found = find_nsec3_encloser(alloc, apex, records, name, hasher)?;
+    Ok(found_verdict(apex, found, name.count_labels(), rtype))
 }

@@ -16,7 +16,7 @@ use Rattle.domain_octets.specs.Base32.{base32_lower}
 use Rattle.domain_octets.specs.Codec.{IsBase32}
 use Rattle.domain_octets.specs.Words.{AreOctets, Octets}
 use Rattle.domain_octets.proofs.StdLemmas.{some_is}
-use Rattle.domain_base.specs.Words.{Name}
+use Rattle.domain_names.specs.Words.{Name}
 use Rattle.domain_zone.specs.Covering.{covers, matches, matches_or_covers, pairs}
 use Rattle.domain_zone.specs.Zone.{ZoneRecord}
 use Rattle.domain_zone.proofs.NameLemmas.{same_itself}

@@ -4,11 +4,11 @@ use Rattle.std.proofs.Common.{refl, sym, ap, ◌∙◌, subst, arith, inl, inr, 
 use Rattle.std.specs.List.{find}
 use Rattle.std.proofs.lemmas.Option.{slice_get_cases, slice_get-get_or}
 use Rattle.std.proofs.lemmas.Bool.{cases_Bool, false≢true, and_parts, or_left, or_right}
-use Rattle.domain_base.specs.Name.{is_at_or_below, is_strictly_below, same_name, last_labels}
-use Rattle.domain_base.specs.Order.{before}
+use Rattle.domain_names.specs.Name.{is_at_or_below, is_strictly_below, same_name, last_labels}
+use Rattle.domain_names.specs.Order.{before}
 use Rattle.std.specs.Prelude.{◌==◌}
 use Rattle.domain_base.specs.Types.{cname, ds}
-use Rattle.domain_base.specs.Words.{Name}
+use Rattle.domain_names.specs.Words.{Name}
 use Rattle.domain_bitmap.specs.Blocks.{contains_type}
 use Rattle.domain_zone.specs.Covering.{covers, matches, matches_or_covers}
 use Rattle.domain_zone.specs.Enclosers.{longer, shared}

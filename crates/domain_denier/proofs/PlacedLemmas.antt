@@ -3,8 +3,8 @@ use Rattle.std.proofs.Common.{◌≡◌, ℕ, ◌<◌, Bool, true, false, not, L
 use Rattle.std.specs.Prelude.{Ok, Err}
 use Rattle.std.proofs.lemmas.Bool.{and_from}
 use Rattle.domain_octets.specs.Words.{Octets}
-use Rattle.domain_base.specs.Name.{is_at_or_below, is_strictly_below, lowered, same_name, wire_of}
-use Rattle.domain_base.specs.Words.{Label, Name}
+use Rattle.domain_names.specs.Name.{is_at_or_below, is_strictly_below, lowered, same_name, wire_of}
+use Rattle.domain_names.specs.Words.{Label, Name}
 use Rattle.domain_zone.specs.Zone.{ZoneRecord}
 use Rattle.domain_zone.proofs.NameLemmas.{below_itself, below_parent, below_trans, same_itself}
 use Rattle.domain_nsec3.specs.Chain.{ChainRecords, HashedLink}

@@ -3,9 +3,9 @@ use Rattle.std.proofs.Common.{◌≡◌, ℕ, zero, suc, ◌-◌, ◌<◌, ◌�
 use Rattle.std.proofs.Common.{refl, sym, ap, ◌∙◌, subst, arith, inl, inr, ◌⊎◌}
 use Rattle.std.proofs.lemmas.Bool.{cases_lt, false≢true, and_parts}
 use Rattle.std.proofs.lemmas.Option.{slice_get-get_or}
-use Rattle.domain_base.specs.Name.{is_at_or_below}
-use Rattle.domain_base.specs.Order.{before}
-use Rattle.domain_base.specs.Words.{Name}
+use Rattle.domain_names.specs.Name.{is_at_or_below}
+use Rattle.domain_names.specs.Order.{before}
+use Rattle.domain_names.specs.Words.{Name}
 use Rattle.domain_zone.specs.Covering.{matches_or_covers, pairs}
 use Rattle.domain_zone.specs.Zone.{ZoneRecord, unoccluded_owners}
 use Rattle.domain_zone.proofs.NameLemmas.{below_from, before_right, one_lowered}

@@ -8,7 +8,7 @@ use Rattle.std.proofs.lemmas.List.Elements.{All-nil, All-push, All-append}
 use Rattle.std.proofs.lemmas.Option.{slice_get_within, get_or_from_slice_get}
 use Rattle.domain_octets.specs.Words.{Octets}
 use Rattle.domain_octets.proofs.StdLemmas.{some_is}
-use Rattle.domain_base.specs.Words.{Name}
+use Rattle.domain_names.specs.Words.{Name}
 use Rattle.domain_zone.proofs.PairLemmas.{In}
 use Rattle.domain_zone.proofs.FindLemmas.{in_either}
 use Rattle.domain_nsec3.specs.Chain.{HashedLink}

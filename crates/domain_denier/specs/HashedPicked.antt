@@ -1,8 +1,8 @@
 -- The records of an NSEC3 chain that a server answers a question with (RFC 5155, section 7.2).
 use Rattle.std.specs.Prelude.{ℕ, ◌≡◌, ◌⊎◌, ◌<◌, ◌==◌, ◌++◌, true, List, length, Option, Some, None, Err, slice_get, if◌then◌else◌}
 use Rattle.std.specs.List.{Contains}
-use Rattle.domain_base.specs.Name.{is_at_or_below}
-use Rattle.domain_base.specs.Words.{Name}
+use Rattle.domain_names.specs.Name.{is_at_or_below}
+use Rattle.domain_names.specs.Words.{Name}
 use Rattle.domain_zone.specs.Zone.{ZoneRecord}
 use Rattle.domain_nsec3.specs.Chain.{ChainRecords, HashedLink, IsHashedChain}
 use Rattle.domain_nsec3.specs.Config.{ChainConfig, Hash, hash_name}

@@ -1,9 +1,9 @@
 -- How the records of an NSEC3 chain that tell of a name are found; a is the apex.
 use Rattle.std.specs.Prelude.{ℕ, ◌≡◌, ◌<◌, ◌==◌, ◌||◌, Bool, true, false, List, length, Option, Some, None, Ok, slice_get, if◌then◌else◌}
 use Rattle.domain_octets.specs.Words.{Octets}
-use Rattle.domain_base.specs.Name.{is_at_or_below, last_labels}
+use Rattle.domain_names.specs.Name.{is_at_or_below, last_labels}
 use Rattle.domain_base.specs.Types.{dname}
-use Rattle.domain_base.specs.Words.{Name}
+use Rattle.domain_names.specs.Words.{Name}
 use Rattle.domain_bitmap.specs.Blocks.{contains_type}
 use Rattle.domain_zone.specs.Covering.{matches_or_covers}
 use Rattle.domain_zone.specs.Zone.{ZoneRecord}

@@ -1,7 +1,7 @@
 -- What an answer tells of the records that it comes of.
 use Rattle.std.specs.Prelude.{◌≡◌, ◌≢◌, ⊤, ℕ, IsTrue, List, None}
 use Rattle.std.specs.List.{find}
-use Rattle.domain_base.specs.Words.{Name}
+use Rattle.domain_names.specs.Words.{Name}
 use Rattle.domain_nsec.specs.Chain.{Link}
 use Rattle.domain_checker.specs.Reading.{is_cover, is_match}
 use Rattle.domain_answer.specs.Reading.{wildcard_answer}

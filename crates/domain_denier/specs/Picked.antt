@@ -1,8 +1,8 @@
 -- The records of an NSEC chain that a server answers a question with (RFC 4035, section 3.1.3).
 use Rattle.std.specs.Prelude.{ℕ, ◌≡◌, ◌≢◌, true, false, List, [], ◌∷◌, ◌++◌, ◌<◌, length, Option, Some, None, slice_get}
-use Rattle.domain_base.specs.Name.{is_at_or_below, last_labels}
-use Rattle.domain_base.specs.Order.{before}
-use Rattle.domain_base.specs.Words.{Name}
+use Rattle.domain_names.specs.Name.{is_at_or_below, last_labels}
+use Rattle.domain_names.specs.Order.{before}
+use Rattle.domain_names.specs.Words.{Name}
 use Rattle.domain_zone.specs.Covering.{matches_or_covers}
 use Rattle.domain_zone.specs.Zone.{OwnersNeverDescend, ZoneRecord}
 use Rattle.domain_nsec.specs.Chain.{IsChain, Link}

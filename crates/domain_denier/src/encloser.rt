@@ -1,6 +1,6 @@
 //! The closest encloser of a name, in an NSEC3 chain.
 ghost use Rattle.std.specs.Prelude.{◌≡◌, ◌<◌, ◌≤◌, ◌⊎◌, ℕ, List, true, length, drop, IfOk, IfErr, IsErrOf};
-ghost use Rattle.domain_base.specs.Name.{is_at_or_below, lowered, wire_of};
+ghost use Rattle.domain_names.specs.Name.{is_at_or_below, lowered, wire_of};
 ghost use Rattle.domain_nsec3.specs.Config.{ChainConfig};
 ghost use Rattle.domain_nsec3.specs.View.{hash_by};
 ghost use Rattle.domain_hasher.specs.declared.error.Nsec3HashError.TheVariants as hash_error;

@@ -1,7 +1,7 @@
 //! What records at places of an NSEC chain say.
 ghost use Rattle.std.specs.Prelude.{◌≡◌, ◌<◌, ◌++◌, Some, length, IfSome, IsTrue};
 ghost use Rattle.domain_answer.specs.NameAnswer.{IsNameAnswer};
-ghost use Rattle.domain_base.specs.Name.{last_labels};
+ghost use Rattle.domain_names.specs.Name.{last_labels};
 ghost use Rattle.domain_answer.specs.Reading.{reading};
 ghost use Rattle.domain_answer.specs.ZoneAnswer.{wildcard_below};
 ghost use Rattle.domain_denier.specs.Judged.{IsOfWildcard, IsSilent, Tells};

@@ -1,6 +1,6 @@
 //! What holds of the NSEC3 chains that records are picked of. A caller calls the law in its body.
 ghost use Rattle.std.specs.Prelude.{◌≡◌, List};
-ghost use Rattle.domain_base.specs.Words.{Name};
+ghost use Rattle.domain_names.specs.Words.{Name};
 ghost use Rattle.domain_zone.specs.Zone.{ZoneRecord};
 ghost use Rattle.domain_nsec3.specs.Chain.{ChainRecords, IsChainParam, IsHashedChain};
 ghost use Rattle.domain_nsec3.specs.Config.{ChainConfig};

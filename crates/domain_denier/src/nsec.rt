@@ -1,6 +1,6 @@
 //! What is picked of an NSEC chain.
 ghost use Rattle.std.specs.Prelude.{◌≡◌, ◌<◌, ◌↔◌, [], None, Some, true, length, IfOk, IsTrue};
-ghost use Rattle.domain_base.specs.Name.{is_at_or_below, last_labels};
+ghost use Rattle.domain_names.specs.Name.{is_at_or_below, last_labels};
 ghost use Rattle.domain_answer.specs.Reading.{absent_answer, reading};
 ghost use Rattle.domain_answer.specs.ZoneAnswer.{wildcard_below};
 ghost use Rattle.domain_denier.specs.Judged.{IsSilent};

@@ -1,6 +1,6 @@
 //! What is picked of an NSEC3 chain.
 ghost use Rattle.std.specs.Prelude.{◌≡◌, ◌<◌, ◌⊎◌, ℕ, List, None, Some, Ok, Err, true, false, length, slice_get, IfOk, IfErr, IsErrOf};
-ghost use Rattle.domain_base.specs.Name.{is_at_or_below, last_labels};
+ghost use Rattle.domain_names.specs.Name.{is_at_or_below, last_labels};
 ghost use Rattle.domain_nsec3.specs.Chain.{HashedLink};
 ghost use Rattle.domain_nsec3.specs.Config.{ChainConfig, hash_name};
 ghost use Rattle.domain_nsec3.specs.View.{hash_by};
@@ -235,15 +235,13 @@ fn with_wildcard<O: Octets, M: ToName, H: Nsec3Hasher>(
     };
     let mut lowered = [0; MAX_NAME];
     let wire = wildcard.lower_wire(&mut lowered);
-    match look_up(alloc, chain, wire, hasher) {
-        Ok(found) => Ok(Nsec3Denial {
-            answer: wildcard_told(chain, count, rtype, found),
-            of_encloser: first.of_encloser,
-            of_next_closer: first.of_next_closer,
-            of_wildcard: Some(found.place),
-        }),
-        Err(error) => Err(error),
-    }
+    let found = look_up(alloc, chain, wire, hasher)?;
+    Ok(Nsec3Denial {
+        answer: wildcard_told(chain, count, rtype, found),
+        of_encloser: first.of_encloser,
+        of_next_closer: first.of_next_closer,
+        of_wildcard: Some(found.place),
+    })
 }
 
 /// What is picked where the closest encloser of a name is found.
@@ -277,10 +275,7 @@ fn deny_placed<O: Octets, M: ToName, H: Nsec3Hasher>(
     let Answer::NoCloserName(count) = first.answer else {
         return Ok(first);
     };
-    match with_wildcard(alloc, chain, name, rtype, first, count, hasher) {
-        Ok(denial) => Ok(denial),
-        Err(error) => Err(error),
-    }
+    Ok(with_wildcard(alloc, chain, name, rtype, first, count, hasher)?)
 }
 
 /// What is picked for a name at or below the apex.
@@ -308,17 +303,11 @@ fn deny_inside<O: Octets, M: ToName, H: Nsec3Hasher>(
 {
     let mut buffer = [0; MAX_NAME];
     let wire = name.lower_wire(&mut buffer);
-    let found = match find_encloser(alloc, apex, chain, &name.as_parsed(), wire, hasher) {
-        Ok(found) => found,
-        Err(error) => return Err(error),
-    };
+    let found = find_encloser(alloc, apex, chain, &name.as_parsed(), wire, hasher)?;
     let Some(encloser) = found else {
         return Ok(without_records(Answer::NotProven));
     };
-    match deny_placed(alloc, apex, chain, name, rtype, encloser, hasher) {
-        Ok(denial) => Ok(denial),
-        Err(error) => Err(error),
-    }
+    Ok(deny_placed(alloc, apex, chain, name, rtype, encloser, hasher)?)
 }
 
 /// The records of an NSEC3 chain that a server answers a question about a name and a type with (RFC
@@ -409,8 +398,5 @@ pub fn deny_nsec3<O: Octets, M: ToName, H: Nsec3Hasher>(
     if chain.is_empty() {
         return Ok(without_records(Answer::NotProven));
     }
-    match deny_inside(alloc, apex, chain, name, rtype, hasher) {
-        Ok(denial) => Ok(denial),
-        Err(error) => Err(error),
-    }
+    Ok(deny_inside(alloc, apex, chain, name, rtype, hasher)?)
 }

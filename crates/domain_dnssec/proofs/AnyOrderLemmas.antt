@@ -2,7 +2,7 @@
 use Rattle.std.proofs.Common.{List, ℕ, Option, Result, Ok, Err, IfOk, IfErr}
 use Rattle.domain_record.specs.declared.record.Record.{Record}
 use Rattle.std.specs.declared.cmp.Ordering.{Ordering}
-use Rattle.domain_base.specs.Words.{Name}
+use Rattle.domain_names.specs.Words.{Name}
 use Rattle.domain_nsec.specs.declared.config.GenerateNsecConfig.{GenerateNsecConfig}
 use Rattle.domain_nsec3.specs.Config.{ChainConfig}
 use Rattle.domain_dnssec.specs.AnyOrder.{Sorts, HasNoSet, HasNoChain, HasNoSortedChain, chain_error_of}

@@ -7,13 +7,13 @@ use Rattle.std.specs.Ordering.{is_eq, ordering_then, nat_cmp}
 use Rattle.std.specs.declared.cmp.Ordering.{Ordering}
 use Rattle.std.specs.declared.cmp.Ordering.TheVariants.{Less, Equal, Greater}
 use Rattle.std.proofs.lemmas.List.Folds.{Any-from_list_any, list_any-from_Any}
-use Rattle.domain_base.specs.Laws.{same_name_ties}
-use Rattle.domain_base.specs.Order.{canonical_cmp}
+use Rattle.domain_names.specs.Laws.{same_name_ties}
+use Rattle.domain_names.specs.Order.{canonical_cmp}
 use Rattle.domain_record.specs.Record.{record_cmp}
 use Rattle.domain_record.specs.declared.record.Record.{Record}
 use Rattle.domain_records.specs.Order.{IsOneClass}
-use Rattle.domain_base.specs.Name.{is_at_or_below, lowered, same_name}
-use Rattle.domain_base.specs.Words.{Name}
+use Rattle.domain_names.specs.Name.{is_at_or_below, lowered, same_name}
+use Rattle.domain_names.specs.Words.{Name}
 use Rattle.domain_zone.specs.Soa.{is_soa, numbers_of, of_only, soa_of}
 use Rattle.domain_base.specs.Types.{ns, dname}
 use Rattle.domain_zone.specs.View.{as_zone_record, zone_of}

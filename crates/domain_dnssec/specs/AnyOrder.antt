@@ -7,7 +7,7 @@ use Rattle.domain_records.specs.Order.{IsOneClass}
 use Rattle.domain_records.specs.SortedSet.{IsUnion}
 use Rattle.domain_records.specs.declared.error.SigningError.{SigningError}
 use Rattle.domain_records.specs.declared.error.SigningError.TheVariants as signing_error
-use Rattle.domain_base.specs.Words.{Name}
+use Rattle.domain_names.specs.Words.{Name}
 use Rattle.domain_nsec.specs.Chain.{Link, IsChain, IsFaultless, IsFirstFault}
 use Rattle.domain_zone.specs.View.{zone_of}
 use Rattle.domain_nsec.specs.declared.config.GenerateNsecConfig.{GenerateNsecConfig}

@@ -1,8 +1,8 @@
 -- What the errors of the library are to a program: their kind, without their texts.
-use Rattle.domain_base.specs.declared.error.NameError.{NameError}
-use Rattle.domain_base.specs.declared.error.NameError.TheVariants as name_error
-use Rattle.domain_base.specs.declared.error.ScanError.{ScanError}
-use Rattle.domain_base.specs.declared.error.ScanError.TheVariants as scan_error
+use Rattle.domain_names.specs.declared.error.NameError.{NameError}
+use Rattle.domain_names.specs.declared.error.NameError.TheVariants as name_error
+use Rattle.domain_names.specs.declared.error.ScanError.{ScanError}
+use Rattle.domain_names.specs.declared.error.ScanError.TheVariants as scan_error
 use Rattle.domain_bitmap.specs.declared.error.RtypeBitmapError.{RtypeBitmapError}
 use Rattle.domain_bitmap.specs.declared.error.RtypeBitmapError.TheVariants as bitmap_error
 use Rattle.domain_bitmap.specs.declared.salt_text.Nsec3SaltFromStrError.{Nsec3SaltFromStrError}

@@ -59,10 +59,7 @@ where
     ensures err { IfErr result (HasNoSortedChain N.labels D.rtype D.minimum sorted.now
         (N.labels apex.now) config.now) }
 {
-    match generate_nsecs(alloc, apex, sorted.owner_rrs(), config) {
-        Ok(nsecs) => Ok(nsecs),
-        Err(error) => Err(ChainError::from(error)),
-    }
+    Ok(generate_nsecs(alloc, apex, sorted.owner_rrs(), config)?)
 }
 
 /// The NSEC chain of the zone that records in any order are: they are sorted, and of equal records
@@ -89,9 +86,6 @@ where
     ensures err { IfErr result (HasNoChain N.labels D.rtype D.minimum D.canonical_cmp records.items
         (N.labels apex.now) config.now) }
 {
-    let sorted = match sort_one_class(records) {
-        Ok(sorted) => sorted,
-        Err(error) => return Err(error),
-    };
+    let sorted = sort_one_class(records)?;
     nsecs_of_sorted(alloc, apex, &sorted, config)
 }

@@ -40,10 +40,7 @@ where
     ensures err { IfErr result (HasNoSortedHashedChain N.labels D.rtype D.minimum sorted.now
         (N.labels apex.now) (config_of (H.answer hasher.now) config.now)) }
 {
-    match generate_nsec3s(alloc, apex, sorted.owner_rrs(), config, hasher) {
-        Ok(made) => Ok(made),
-        Err(error) => Err(ChainError::from(error)),
-    }
+    Ok(generate_nsec3s(alloc, apex, sorted.owner_rrs(), config, hasher)?)
 }
 
 /// The NSEC3 chain of the zone that records in any order are, with its NSEC3PARAM record: they are
@@ -80,9 +77,6 @@ where
     ensures err { IfErr result (HasNoHashedChain N.labels D.rtype D.minimum D.canonical_cmp
         records.items (N.labels apex.now) (config_of (H.answer hasher.now) config.now)) }
 {
-    let sorted = match sort_one_class(records) {
-        Ok(sorted) => sorted,
-        Err(error) => return Err(error),
-    };
+    let sorted = sort_one_class(records)?;
     nsec3s_of_sorted(alloc, apex, &sorted, config, hasher)
 }

@@ -1,7 +1,7 @@
 //! What callers may take from names, chains and sorting. A caller calls the law in its body.
 ghost use Rattle.std.specs.Prelude.{◌≡◌, ◌↔◌, ℕ, ◌<◌, All, Bool, false, true, Contains, List, Some};
 ghost use Rattle.domain_record.specs.declared.record.Record.{Record};
-ghost use Rattle.domain_base.specs.Words.{Name};
+ghost use Rattle.domain_names.specs.Words.{Name};
 ghost use Rattle.domain_records.specs.Order.{IsOneClass};
 ghost use Rattle.domain_checker.specs.Verdict.{IsProved};
 ghost use Rattle.domain_checker.specs.declared.verdict.Verdict.{Verdict};

@@ -2,8 +2,8 @@
 use Rattle.std.proofs.Common.{◌≡◌, ℕ, true, List, [], ◌++◌, length, refl, sym, ap, subst, ◌∙◌, arith, length-append, append_assoc, append-nil}
 use Rattle.std.specs.Prelude.{◌&&◌}
 use Rattle.std.specs.Cmp.{first_so, second_so}
-use Rattle.domain_base.specs.Fault.{Fault}
-use Rattle.domain_base.proofs.FaultLemmas.{no_name_fault}
+use Rattle.domain_names.specs.Fault.{Fault}
+use Rattle.domain_names.proofs.FaultLemmas.{no_name_fault}
 use Rattle.domain_fields.specs.Field.{Field, octet, short, long, name, spelled_name, counted, exactly, at_most, rest, Value, field_octets, FieldFits, FieldEnds}
 use Rattle.domain_fields.specs.Field.{FieldFault, cut_octet, cut_short, cut_long, no_name, no_spelled_name, no_count, cut_counted, cut_exactly, too_long}
 use Rattle.domain_fields.specs.Layout.{Layout, one, ◌▸◌, Values, octets_of, Fits, Ends, Begins, ParsesBack, is_delimited, splits, FirstFault, in_field}

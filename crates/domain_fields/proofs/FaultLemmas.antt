@@ -4,7 +4,7 @@ use Rattle.std.specs.Prelude.{nat_lt, if◌then◌else◌, codes}
 use Rattle.std.specs.Cmp.{first_so, second_so}
 use Rattle.std.proofs.lemmas.List.{drop_at}
 use Rattle.std.proofs.lemmas.Bool.Decides.{nat_tests}
-use Rattle.domain_base.specs.Fault.{Fault, ends_early, malformed, NameFault, no_octet, bad_label, long_name, cut_label, past_label}
+use Rattle.domain_names.specs.Fault.{Fault, ends_early, malformed, NameFault, no_octet, bad_label, long_name, cut_label, past_label}
 use Rattle.domain_fields.specs.Field.{Field, octet, short, long, name, spelled_name, counted, exactly, at_most, rest, FieldFault, cut_octet, cut_short}
 use Rattle.domain_fields.specs.Field.{cut_long, no_name, no_spelled_name, no_count, cut_counted, cut_exactly, too_long}
 use Rattle.domain_fields.specs.Layout.{Layout, is_delimited, splits, FirstFault, in_field, in_first, in_later}

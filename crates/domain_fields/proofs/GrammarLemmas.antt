@@ -4,7 +4,8 @@ use Rattle.std.specs.List.{concat}
 use Rattle.domain_octets.specs.Codec.{Decodes}
 use Rattle.domain_octets.specs.declared.codec.Codec.{Codec}
 use Rattle.domain_octets.proofs.CodecBackLemmas.{decodes_once}
-use Rattle.domain_base.specs.Scan.{ScanFault, IsOfTokens, EntryFault, RefusesToken}
+use Rattle.domain_names.specs.TextFault.{ScanFault, IsOfTokens}
+use Rattle.domain_base.specs.Scan.{EntryFault, RefusesToken}
 use Rattle.domain_base.proofs.RefusalLemmas.{token_excludes, token_one_fault, entry_excludes, entry_one_fault}
 use Rattle.domain_fields.specs.Layout.{Layout}
 use Rattle.domain_fields.specs.Scan.{Scans, Refuses}

@@ -4,9 +4,9 @@ use Rattle.std.proofs.lemmas.List.{length-map}
 use Rattle.std.specs.Char.{to_ascii_lowercase}
 use Rattle.std.specs.Ordering.{nat_cmp}
 use Rattle.std.specs.Cmp.Lexicographic.{slice_cmp}
-use Rattle.domain_base.specs.Name.{wire_of, lowered, IsName}
-use Rattle.domain_base.specs.Wire.{labels_of, IsWire}
-use Rattle.domain_base.proofs.CaseLemmas.{lowered_wire}
+use Rattle.domain_names.specs.Name.{wire_of, lowered, IsName}
+use Rattle.domain_names.specs.Wire.{labels_of, IsWire}
+use Rattle.domain_names.proofs.CaseLemmas.{lowered_wire}
 
 pub name_fits : (octets : List ℕ) → IsWire octets → IsName (labels_of octets)
 name_fits octets wire = wire.valid

@@ -13,8 +13,8 @@ use Rattle.std.specs.Hash as fed
 use Rattle.std.proofs.lemmas.List.Concat.{flat_map-append}
 use Rattle.std.proofs.lemmas.List.{take_at, drop_at}
 use Rattle.std.proofs.lemmas.Nat.{from_be_bytes-to_be_bytes_2, from_be_bytes-to_be_bytes_4}
-use Rattle.domain_base.specs.Name.{wire_of, IsLabel, IsName}
-use Rattle.domain_base.proofs.CaseLemmas.{IsName-lowered}
+use Rattle.domain_names.specs.Name.{wire_of, IsLabel, IsName}
+use Rattle.domain_names.proofs.CaseLemmas.{IsName-lowered}
 use Rattle.domain_fields.specs.Field.{Field, octet, short, long, name, spelled_name, counted, exactly, at_most, rest, Value, field_octets, FieldFits}
 use Rattle.domain_fields.specs.Field.{lower_field}
 use Rattle.domain_fields.specs.Layout.{Layout, one, ◌▸◌, Values, octets_of, Fits, lower, canonical_of, canonical_order, is_delimited, is_delimited_field}

@@ -1,7 +1,7 @@
 -- data that are read one after another
 use Rattle.std.proofs.Common.{◌≡◌, ℕ, ◌<◌, List, [], ◌∷◌, ◌++◌, length, sym, ap, subst, ◌∙◌, arith, length-append, append_assoc}
 use Rattle.domain_octets.specs.Place.{Place, Takes}
-use Rattle.domain_base.specs.Fault.{Fault, NameFault, ends_early}
+use Rattle.domain_names.specs.Fault.{Fault, NameFault, ends_early}
 use Rattle.domain_fields.specs.Field.{octet, short, long, name, spelled_name, counted, exactly, at_most, IsCut, IsLong, cut_octet, cut_short, cut_long, no_name}
 use Rattle.domain_fields.specs.Field.{no_spelled_name, no_count, cut_counted, cut_exactly, too_long}
 use Rattle.domain_fields.specs.Layout.{Layout, one, ◌▸◌, Values, octets_of, Ends, Begins, FirstFault, in_field, in_first, in_later, GoesOn}

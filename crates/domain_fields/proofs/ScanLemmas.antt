@@ -3,8 +3,8 @@ use Rattle.std.proofs.Common.{◌≡◌, ℕ, List, [], ◌++◌, sym, ap, subst
 use Rattle.std.specs.Net.Grammar.{IsDotted}
 use Rattle.std.specs.Net.Reader.{read_ipv4}
 use Rattle.std.proofs.NetLemmas.Ipv4.{read_ipv4_complete}
-use Rattle.domain_base.proofs.SpellingLemmas.{one_name}
-use Rattle.domain_base.specs.Scan.{ScanFault, IsOfTokens}
+use Rattle.domain_names.proofs.SpellingLemmas.{one_name}
+use Rattle.domain_names.specs.TextFault.{ScanFault, IsOfTokens}
 use Rattle.domain_base.proofs.RefusalLemmas.{token_excludes, token_one_fault, name_excludes, name_one_fault}
 use Rattle.domain_fields.specs.Field.{Field, octet, short, long, name, spelled_name, counted, exactly, at_most, rest, Value}
 use Rattle.domain_fields.specs.Layout.{Layout, one, ◌▸◌, Values}

@@ -5,8 +5,9 @@ use Rattle.domain_octets.specs.Limit.{HasRoom}
 use Rattle.domain_octets.specs.Codec.{Decodes}
 use Rattle.domain_octets.specs.declared.codec.Codec.{Codec}
 use Rattle.domain_octets.specs.Words.{Octets}
-use Rattle.domain_base.specs.Scan.{Refusal, Grammar, ScanFault, illegal, EntryFault, IsEnd}
-use Rattle.domain_base.specs.Words.{Tokens}
+use Rattle.domain_names.specs.TextFault.{ScanFault, illegal}
+use Rattle.domain_base.specs.Scan.{Refusal, Grammar, EntryFault, IsEnd}
+use Rattle.domain_names.specs.Words.{Tokens}
 
 -- the tokens spell these fields, in a grammar, and then these octets
 pub record Spells {V : Type 0} (G : Grammar V) (codec : Codec) (tokens : Tokens) (v : V)

@@ -5,7 +5,7 @@ use Rattle.std.specs.Ordering.{nat_cmp}
 use Rattle.std.specs.Cmp.Lexicographic.{slice_cmp}
 use Rattle.domain_octets.specs.Place.{Place}
 use Rattle.domain_octets.specs.Words.{Octets}
-use Rattle.domain_base.specs.Fault.{Fault}
+use Rattle.domain_names.specs.Fault.{Fault}
 use Rattle.domain_fields.specs.Field.{Field, octet, short, long, name, spelled_name, counted, exactly}
 use Rattle.domain_fields.specs.Field.{at_most, rest, Value, field_octets, FieldFits, FieldEnds, lower_field, FieldFault}
 

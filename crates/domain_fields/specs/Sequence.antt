@@ -1,7 +1,7 @@
 -- grammars of tokens: of one token, and one grammar after another
 use Rattle.std.specs.Prelude.{◌⊎◌}
 use Rattle.domain_base.specs.Scan.{Refusal, Grammar, TakesToken}
-use Rattle.domain_base.specs.Words.{Tokens, Token}
+use Rattle.domain_names.specs.Words.{Tokens, Token}
 
 -- the tokens begin with one that spells the value, and the others are left
 abbrev pub OneToken : {V : Type 0} → (Token → V → Type 0) → Grammar V

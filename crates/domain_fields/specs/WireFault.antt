@@ -1,6 +1,6 @@
 -- what a fault of octets is called
 use Rattle.std.specs.Prelude.{codes}
-use Rattle.domain_base.specs.Fault.{Fault, ends_early, malformed}
+use Rattle.domain_names.specs.Fault.{Fault, ends_early, malformed}
 use Rattle.domain_fields.specs.declared.wire_fault.WireFault.{WireFault}
 use Rattle.domain_fields.specs.declared.wire_fault.WireFault.TheVariants.{ShortInput, BadLabel, LongName, LongData}
 

@@ -189,7 +189,7 @@ impl<'a> Octeted for Spelled<ParsedName<'a>> {
 
     ghost keeps = { λ v. refl };
 
-    #[tactic(auto, using(domain_base::proofs::WireLemmas::wire_is, crate::proofs::NameLemmas::name_fits))]
+    #[tactic(auto, using(domain_names::proofs::WireLemmas::wire_is, crate::proofs::NameLemmas::name_fits))]
     fn octets<'o>(&'o self, _buffer: &'o mut [u8; 4]) -> &'o [u8] {
         self.0.as_wire()
     }
@@ -320,7 +320,7 @@ impl<'a> Fields for ParsedName<'a> {
         (lowered_with_octets_cmp(wire, front), back)
     }
 
-    #[tactic(auto, using(domain_base::proofs::CaseLemmas::lowered_wire), unfolding(crate::specs::Layout::octets_of))]
+    #[tactic(auto, using(domain_names::proofs::CaseLemmas::lowered_wire), unfolding(crate::specs::Layout::octets_of))]
     fn feed<H: Hasher>(&self, state: &mut H) {
         let wire = self.as_wire();
         for octet in wire {

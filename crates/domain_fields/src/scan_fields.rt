@@ -2,7 +2,7 @@
 ghost use Rattle.std.specs.Prelude.{IfOk, IfErr};
 ghost use Rattle.std.specs.Net.Addr.{ipv4_octets};
 ghost use Rattle.std.specs.Net.Grammar.{IsDotted};
-ghost use Rattle.domain_base.specs.Scan.{scan_fault_of};
+ghost use Rattle.domain_names.specs.TextFault.{scan_fault_of};
 ghost use Rattle.domain_fields.specs.Field.{octet, short, long, name, exactly};
 ghost use Rattle.domain_fields.specs.Layout.{Layout, one, ◌▸◌, Values};
 ghost use Rattle.domain_fields.specs.Scan.{Scans, Refuses, IsNoAddress};

@@ -1,6 +1,6 @@
 //! Why octets are no data.
 ghost use Rattle.std.specs.Prelude.{◌≡◌};
-ghost use Rattle.domain_base.specs.Fault.{fault_of, name_fault_of};
+ghost use Rattle.domain_names.specs.Fault.{fault_of, name_fault_of};
 
 use domain_base::{NameError, ParseError};
 

@@ -3,7 +3,7 @@
 use Rattle.std.specs.Prelude.{ℕ, ◌<◌, ◌≤◌, length, Option}
 use Rattle.domain_octets.specs.declared.codec.Codec.TheVariants.{Base16, Base64}
 use Rattle.domain_base.specs.Scan.{Refusal}
-use Rattle.domain_base.specs.Words.{Tokens}
+use Rattle.domain_names.specs.Words.{Tokens}
 use Rattle.domain_fields.specs.Entry.{Spells, RefusesData}
 use Rattle.domain_fields.specs.Field.{octet, short}
 use Rattle.domain_fields.specs.Layout.{Layout, one, ◌▸◌}

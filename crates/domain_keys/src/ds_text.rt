@@ -1,6 +1,6 @@
 //! Digests of keys as text (RFC 4034, section 5.3).
 ghost use Rattle.std.specs.Prelude.{◌≡◌, [], Some, IfOk, IfErr, OnOk};
-ghost use Rattle.domain_base.specs.Scan.{scan_fault_of};
+ghost use Rattle.domain_names.specs.TextFault.{scan_fault_of};
 ghost use Rattle.domain_keys.specs.Scan.{DsText, RefusesDs};
 ghost use Rattle.domain_keys.specs.Pieces.{ds_text, ds_pieces};
 

@@ -1,8 +1,8 @@
 -- the numbers before the data of a record
 use Rattle.std.proofs.Common.{◌≡◌, ℕ, ◌+◌, ◌<◌, ◌≤◌, List, length, drop, arith, ap, sym, subst, ◌∙◌, refl}
 use Rattle.std.proofs.lemmas.List.{length-drop}
-use Rattle.domain_base.specs.Fault.{Fault}
-use Rattle.domain_base.specs.Words.{Name}
+use Rattle.domain_names.specs.Fault.{Fault}
+use Rattle.domain_names.specs.Words.{Name}
 use Rattle.domain_fields.specs.Field.{short, long, cut_short, cut_long}
 use Rattle.domain_fields.specs.Layout.{one, ◌▸◌, Values, Begins, FirstFault, in_field, in_first, in_later, octets_of}
 use Rattle.domain_fields.proofs.ExactLemmas.{one_reading}

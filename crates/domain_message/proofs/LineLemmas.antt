@@ -3,7 +3,7 @@ use Rattle.std.proofs.Common.{ℕ, refl, sym, subst, ◌≡◌, ◌↔◌, IsTru
 use Rattle.std.specs.Prelude.{Bool, Option}
 use Rattle.domain_octets.specs.Line.{words_of}
 use Rattle.domain_octets.specs.Words.{Octets}
-use Rattle.domain_base.specs.Words.{Name}
+use Rattle.domain_names.specs.Words.{Name}
 use Rattle.domain_message.specs.Entry.{RefusesEntry, RefusesLine, in_entry, IsNoEntry}
 use Rattle.domain_message.specs.declared.line.LineError.{LineError}
 use Rattle.domain_message.proofs.RecordLemmas.{on_err}

@@ -5,8 +5,8 @@ use Rattle.std.specs.Prelude.{All, Option, Some, None}
 use Rattle.std.specs.List.{AllByRecursion}
 use Rattle.std.proofs.lemmas.List.{append-nil, append_assoc, take-append-drop, drop-drop, drop_more, drop_all, length-drop, length-take-le}
 use Rattle.std.proofs.lemmas.List.Elements.{All-take, All-drop}
-use Rattle.domain_base.specs.Name.{wire_of, IsLabel}
-use Rattle.domain_base.specs.Words.{Name}
+use Rattle.domain_names.specs.Name.{wire_of, IsLabel}
+use Rattle.domain_names.specs.Words.{Name}
 use Rattle.domain_message.specs.Name.{labels_octets, pointer_octets, RunAt, LabelsAt, in_full, pointed}
 use Rattle.domain_message.specs.Fault.{EndFault, no_octet, half_pointer, bad_type, not_backward, long_name, cut_label, LabelsFault, here, beyond}
 use Rattle.domain_message.specs.Steps.{LabelsBetween, EndsWith, RunRead, LabelsRead}

@@ -4,10 +4,10 @@ use Rattle.domain_octets.specs.Line.{words_of}
 use Rattle.domain_octets.specs.Words.{Octets}
 use Rattle.domain_base.specs.Numbers.{ClassText, TypeText}
 use Rattle.domain_base.specs.Scan.{TakesToken, IsNumber}
-use Rattle.domain_base.specs.Text.{NameText}
-use Rattle.domain_base.specs.Words.{Name, Token, Tokens}
+use Rattle.domain_names.specs.Text.{NameText}
+use Rattle.domain_names.specs.Words.{Name, Token, Tokens}
 use Rattle.domain_base.proofs.NamedLemmas.{one_named}
-use Rattle.domain_base.proofs.SpellingLemmas.{one_name}
+use Rattle.domain_names.proofs.SpellingLemmas.{one_name}
 use Rattle.domain_record.specs.declared.record.Record.{Record}
 use Rattle.domain_rdata.proofs.ScanLemmas.{text_once}
 use Rattle.domain_rdata.specs.Scan.{RdataText, own, generic}

@@ -2,9 +2,9 @@
 use Rattle.std.proofs.Common.{◌≡◌, ℕ, ◌+◌, ◌/◌, ◌%◌, ◌<◌, ◌≤◌, List, [], ◌∷◌, ◌++◌, length, take, drop, refl, sym, ap, subst, ◌∙◌, arith, length-append}
 use Rattle.std.specs.List.{AllByRecursion}
 use Rattle.std.proofs.lemmas.List.{append_assoc, take_at, length-drop}
-use Rattle.domain_base.specs.Name.{wire_of, IsLabel, IsName}
-use Rattle.domain_base.specs.Words.{Name}
-use Rattle.domain_base.proofs.FaultLemmas.{rest_of}
+use Rattle.domain_names.specs.Name.{wire_of, IsLabel, IsName}
+use Rattle.domain_names.specs.Words.{Name}
+use Rattle.domain_names.proofs.FaultLemmas.{rest_of}
 use Rattle.domain_message.specs.Name.{labels_octets, pointer_octets, RunAt, LabelsAt, in_full, pointed, NameAt}
 use Rattle.domain_message.specs.Fault.{EndFault, no_octet, half_pointer, bad_type, not_backward, long_name, cut_label, LabelsFault, here, beyond}
 use Rattle.domain_message.specs.Steps.{LabelsRead}

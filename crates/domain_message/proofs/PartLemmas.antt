@@ -1,7 +1,7 @@
 -- data stand at a place in one way at most, and in none where they have a fault
 use Rattle.std.proofs.Common.{◌≡◌, ℕ, ◌+◌, List, [], ◌∷◌, ◌++◌, sym, ap, subst, ◌∙◌, arith, inl, inr}
 use Rattle.std.specs.Prelude.{Option, Some, None}
-use Rattle.domain_base.specs.Name.{wire_of}
+use Rattle.domain_names.specs.Name.{wire_of}
 use Rattle.domain_message.specs.Data.{PartAt, PartsAt, PartFault, PartsFault, PlacedAt, OctetsAt}
 use Rattle.domain_message.specs.declared.parts.Part.{Part}
 use Rattle.domain_message.specs.declared.parts.Part.TheVariants as part

@@ -8,10 +8,10 @@ use Rattle.std.proofs.lemmas.List.{append_assoc}
 use Rattle.domain_octets.specs.Line.{words_of}
 use Rattle.domain_octets.specs.Words.{Octets}
 use Rattle.domain_octets.proofs.WordLemmas.{first_word, decimal_word}
-use Rattle.domain_base.specs.Name.{IsName, IsLabel}
+use Rattle.domain_names.specs.Name.{IsName, IsLabel}
 use Rattle.domain_base.specs.Numbers.{class_text, type_text}
-use Rattle.domain_base.specs.Text.{name_text, label_text, dotted_text, octet_text, is_special}
-use Rattle.domain_base.specs.Words.{Name}
+use Rattle.domain_names.specs.Text.{name_text, label_text, dotted_text, octet_text, is_special}
+use Rattle.domain_names.specs.Words.{Name}
 use Rattle.domain_base.proofs.ReadBackLemmas.{number_back, type_back, class_back, dotted_name_back, name_word, type_word, class_word}
 use Rattle.domain_record.specs.RecordText.{record_text}
 use Rattle.domain_record.specs.declared.record.Record.{Record}

@@ -3,8 +3,8 @@ use Rattle.std.proofs.Common.{◌≡◌, ℕ, ◌+◌, ◌<◌, ◌≤◌, ◌^�
 use Rattle.std.specs.Int.{w16, w32, to_be_bytes}
 use Rattle.std.proofs.lemmas.List.{append-nil, append_assoc, drop-drop, drop_at, take_at, length-drop}
 use Rattle.domain_octets.specs.Words.{Octets}
-use Rattle.domain_base.specs.Name.{wire_of, IsName}
-use Rattle.domain_base.specs.Words.{Name}
+use Rattle.domain_names.specs.Name.{wire_of, IsName}
+use Rattle.domain_names.specs.Words.{Name}
 use Rattle.domain_fields.specs.Layout.{octets_of}
 use Rattle.domain_record.specs.declared.record.Record.{Record}
 use Rattle.domain_rdata.specs.Scan.{AreData}

@@ -3,9 +3,9 @@
 use Rattle.std.specs.Prelude.{◌≡◌, ◌⊎◌, ℕ, ◌+◌, ◌<◌, ◌≤◌, ◌==◌, ◌||◌, Bool, List, [], ◌∷◌, ◌++◌}
 use Rattle.std.specs.Prelude.{length, take, drop, Option, Some, None, if◌then◌else◌}
 use Rattle.domain_octets.specs.Words.{Octets}
-use Rattle.domain_base.specs.Name.{wire_of}
+use Rattle.domain_names.specs.Name.{wire_of}
 use Rattle.domain_base.specs.Types as rtypes
-use Rattle.domain_base.specs.Words.{Name}
+use Rattle.domain_names.specs.Words.{Name}
 use Rattle.domain_message.specs.Name.{NameAt}
 use Rattle.domain_message.specs.Fault.{LabelsFault}
 use Rattle.domain_message.specs.declared.parts.Part.{Part}

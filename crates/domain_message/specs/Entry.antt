@@ -5,10 +5,11 @@ use Rattle.domain_octets.specs.Characters.{semicolon}
 use Rattle.domain_octets.specs.Line.{words_of}
 use Rattle.domain_octets.specs.Words.{Octets}
 use Rattle.domain_base.specs.Numbers.{ClassText, TypeText, IsNoClass, IsNoType}
-use Rattle.domain_base.specs.Scan.{TakesToken, RefusesToken, IsNumber, IsNoNumber, NameTextFault, scan_fault_of}
-use Rattle.domain_base.specs.Text.{NameText}
-use Rattle.domain_base.specs.Words.{Name, Tokens}
-use Rattle.domain_base.specs.declared.error.ScanError.{ScanError}
+use Rattle.domain_names.specs.TextFault.{NameTextFault, scan_fault_of}
+use Rattle.domain_base.specs.Scan.{TakesToken, RefusesToken, IsNumber, IsNoNumber}
+use Rattle.domain_names.specs.Text.{NameText}
+use Rattle.domain_names.specs.Words.{Name, Tokens}
+use Rattle.domain_names.specs.declared.error.ScanError.{ScanError}
 use Rattle.domain_record.specs.declared.record.Record.{Record}
 use Rattle.domain_rdata.specs.Refusal.{RefusesRdata}
 use Rattle.domain_rdata.specs.Scan.{RdataText}

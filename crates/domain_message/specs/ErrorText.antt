@@ -1,7 +1,7 @@
 -- what errors say
 use Rattle.std.specs.Prelude.{codes, ◌++◌}
 use Rattle.domain_octets.specs.Words.{Octets}
-use Rattle.domain_base.specs.ErrorText.{scan_error_text}
+use Rattle.domain_names.specs.ErrorText.{scan_error_text}
 use Rattle.domain_message.specs.declared.error.MessageError.{MessageError}
 use Rattle.domain_message.specs.declared.error.MessageError.TheVariants.{ShortInput, BadLabelType}
 use Rattle.domain_message.specs.declared.error.MessageError.TheVariants.{ForwardPointer, LongName}

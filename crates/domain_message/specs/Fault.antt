@@ -1,7 +1,7 @@
 -- why no name stands at a place of a message
 use Rattle.std.specs.Prelude.{ℕ, ◌+◌, ◌<◌, ◌≤◌, [], ◌∷◌, ◌++◌, length}
 use Rattle.domain_octets.specs.Words.{Octets}
-use Rattle.domain_base.specs.Words.{Name}
+use Rattle.domain_names.specs.Words.{Name}
 use Rattle.domain_message.specs.Name.{labels_octets, pointer_octets, RunAt, IsBackward}
 use Rattle.domain_message.specs.declared.name.NameFault.{NameFault}
 use Rattle.domain_message.specs.declared.name.NameFault.TheVariants as name_fault

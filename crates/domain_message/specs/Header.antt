@@ -1,7 +1,7 @@
 -- what stands before the data of a record in a message (RFC 1035, section 4.1.3)
 use Rattle.std.specs.Prelude.{◌≡◌, ℕ, ◌+◌, drop}
 use Rattle.domain_octets.specs.Words.{Octets}
-use Rattle.domain_base.specs.Words.{Name}
+use Rattle.domain_names.specs.Words.{Name}
 use Rattle.domain_fields.specs.Field.{short, long}
 use Rattle.domain_fields.specs.Layout.{Layout, one, ◌▸◌, Begins}
 use Rattle.domain_message.specs.Name.{NameAt}

@@ -3,8 +3,8 @@
 use Rattle.std.specs.Prelude.{◌≡◌, ℕ, ◌+◌, ◌/◌, ◌%◌, ◌<◌, [], ◌∷◌, ◌++◌, length, drop}
 use Rattle.std.specs.List.{AllByRecursion}
 use Rattle.domain_octets.specs.Words.{Octets}
-use Rattle.domain_base.specs.Name.{IsLabel, IsName}
-use Rattle.domain_base.specs.Words.{Name}
+use Rattle.domain_names.specs.Name.{IsLabel, IsName}
+use Rattle.domain_names.specs.Words.{Name}
 
 -- the octets of labels, before the root or a pointer
 abbrev pub labels_octets : Name → Octets

@@ -4,7 +4,7 @@ use Rattle.domain_octets.specs.Limit.{IsOver}
 use Rattle.domain_octets.specs.Words.{Octets}
 use Rattle.domain_octets.specs.declared.error.AppendError.{AppendError}
 use Rattle.domain_octets.specs.declared.error.AppendError.TheVariants as append_error
-use Rattle.domain_base.specs.Words.{Name}
+use Rattle.domain_names.specs.Words.{Name}
 use Rattle.domain_message.specs.Name.{NameAt}
 use Rattle.domain_message.specs.Fault.{LabelsFault}
 use Rattle.domain_message.specs.declared.name.NameFault.{NameFault}

@@ -1,7 +1,7 @@
 -- how a name is read: labels that stand together, one run after another
 use Rattle.std.specs.Prelude.{◌≡◌, ◌⊎◌, ℕ, ◌+◌, ◌<◌, ◌≤◌, ◌∷◌, ◌++◌, length, drop, slice_index, Option, Some, None}
 use Rattle.domain_octets.specs.Words.{Octets}
-use Rattle.domain_base.specs.Words.{Name}
+use Rattle.domain_names.specs.Words.{Name}
 use Rattle.domain_message.specs.Name.{labels_octets, pointer_octets, RunAt, IsBackward, LabelsAt}
 
 -- labels stand between the two places, and there is room for the root behind them, when so many

@@ -1,8 +1,8 @@
 -- records as they are written into a message, without compression (RFC 1035, section 4.1.3)
 use Rattle.std.specs.Prelude.{◌≡◌, ◌++◌, length, None}
 use Rattle.domain_octets.specs.Words.{Octets}
-use Rattle.domain_base.specs.Name.{wire_of}
-use Rattle.domain_base.specs.Words.{Name}
+use Rattle.domain_names.specs.Name.{wire_of}
+use Rattle.domain_names.specs.Words.{Name}
 use Rattle.domain_fields.specs.Layout.{octets_of}
 use Rattle.domain_record.specs.declared.record.Record.{Record}
 use Rattle.domain_rdata.specs.Exact.{HasExactOctets}

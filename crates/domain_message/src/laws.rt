@@ -1,8 +1,8 @@
 //! What holds of names and records in messages and in lines. A caller calls the law in its body.
 ghost use Rattle.std.specs.Prelude.{IfSome, Option, ◌≡◌, ◌+◌, ◌++◌, ◌<◌, ℕ, length, drop};
 ghost use Rattle.domain_octets.specs.Words.{Octets};
-ghost use Rattle.domain_base.specs.Name.{wire_of, IsName};
-ghost use Rattle.domain_base.specs.Words.{Name};
+ghost use Rattle.domain_names.specs.Name.{wire_of, IsName};
+ghost use Rattle.domain_names.specs.Words.{Name};
 ghost use Rattle.domain_record.specs.RecordText.{record_text};
 ghost use Rattle.domain_rdata.specs.Exact.{HasExactText};
 ghost use Rattle.domain_rdata.specs.Zone.{data_text, rtype_of, wire_octets};

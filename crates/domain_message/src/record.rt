@@ -1,7 +1,7 @@
 //! Records in a message.
 ghost use Rattle.std.specs.Prelude.{◌≡◌, ◌≤◌, ◌<◌, ◌+◌, ℕ, Option, length, IfOk, IfErr};
 ghost use Rattle.domain_octets.specs.Words.{Octets};
-ghost use Rattle.domain_base.specs.Scan.{scan_fault_of};
+ghost use Rattle.domain_names.specs.TextFault.{scan_fault_of};
 ghost use Rattle.domain_rdata.specs.Kind.{Kind};
 ghost use Rattle.domain_rdata.specs.Refusal.{OctetsFault};
 ghost use Rattle.domain_message.specs.Data.{DataAt};

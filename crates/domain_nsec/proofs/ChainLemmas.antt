@@ -8,9 +8,9 @@ use Rattle.std.proofs.lemmas.List.{length-map, get_or_read, map-append as made_m
 use Rattle.std.proofs.lemmas.List.Elements.{All-from_recursion, recursion_from_All}
 use Rattle.domain_bitmap.specs.Bitmap.{bitmap_octets}
 use Rattle.domain_zone.specs.Covering.{matches, covers, matches_or_covers, pairs}
-use Rattle.domain_base.specs.Name.{is_at_or_below, lowered, same_name}
-use Rattle.domain_base.specs.Order.{before}
-use Rattle.domain_base.specs.Words.{Name}
+use Rattle.domain_names.specs.Name.{is_at_or_below, lowered, same_name}
+use Rattle.domain_names.specs.Order.{before}
+use Rattle.domain_names.specs.Words.{Name}
 use Rattle.domain_zone.specs.Soa.{chain_ttl, soa_of}
 use Rattle.domain_zone.specs.Zone.{ZoneRecord, OwnersNeverDescend, owns, is_occluded, is_unoccluded, unoccluded_owners}
 use Rattle.domain_zone.specs.declared.soa.ApexSoa.{ApexSoa}

@@ -5,9 +5,9 @@ use Rattle.std.specs.List.{list_any}
 use Rattle.std.proofs.lemmas.Bool.{cases_Bool, false≢true, true≢false, and_parts, and_from, or_cases, not-true, ltb-true, ltb-false}
 use Rattle.domain_zone.specs.Covering.{matches, covers, matches_or_covers}
 use Rattle.domain_zone.specs.Enclosers.{IsClosestEncloser, longer, exists_over, is_empty_nonterminal, IsShared, shared}
-use Rattle.domain_base.specs.Name.{is_at_or_below, is_strictly_below, lowered, same_name}
-use Rattle.domain_base.specs.Order.{before}
-use Rattle.domain_base.specs.Words.{Name}
+use Rattle.domain_names.specs.Name.{is_at_or_below, is_strictly_below, lowered, same_name}
+use Rattle.domain_names.specs.Order.{before}
+use Rattle.domain_names.specs.Words.{Name}
 use Rattle.domain_zone.specs.Zone.{ZoneRecord, OwnersNeverDescend, owns, occludes, is_occluded, is_unoccluded, unoccluded_owners}
 use Rattle.domain_zone.proofs.NameLemmas.{before_order, one_lowered, same_itself, same_is, before_left, before_right, below_itself, below_trans, below_from}
 use Rattle.domain_zone.proofs.NameLemmas.{below_between, below_longer, lowered_below, same_lowered}

@@ -1,8 +1,8 @@
 -- Names that are the same are one name to a chain.
 use Rattle.std.proofs.Common.{◌≡◌, ℕ, Bool, true, not, ◌&&◌, List, ap}
 use Rattle.std.specs.Prelude.{filter}
-use Rattle.domain_base.specs.Name.{lowered, same_name}
-use Rattle.domain_base.specs.Words.{Name}
+use Rattle.domain_names.specs.Name.{lowered, same_name}
+use Rattle.domain_names.specs.Words.{Name}
 use Rattle.domain_base.specs.Types.{ns}
 use Rattle.domain_zone.specs.Zone.{ZoneRecord, has_type}
 use Rattle.domain_zone.proofs.NameLemmas.{one_lowered, lowered_below, same_lowered}

@@ -5,8 +5,8 @@ use Rattle.domain_records.specs.declared.error.SigningError.{SigningError}
 use Rattle.domain_records.specs.declared.error.SigningError.TheVariants.{EmptyRecordSlice, SoaRecordCouldNotBeDetermined, MultipleTtlValues}
 use Rattle.domain_records.specs.declared.error.SigningError.TheVariants.{Nsec3HashingError, OutOfMemory}
 use Rattle.domain_zone.specs.Covering.{pairs}
-use Rattle.domain_base.specs.Name.{same_name}
-use Rattle.domain_base.specs.Words.{Name}
+use Rattle.domain_names.specs.Name.{same_name}
+use Rattle.domain_names.specs.Words.{Name}
 use Rattle.domain_zone.specs.Soa.{chain_ttl, soa_of}
 use Rattle.domain_base.specs.Types.{rrsig, nsec, dnskey}
 use Rattle.domain_zone.specs.Zone.{ZoneRecord, unoccluded_owners, is_zone_cut, records_of, lists_type, has_unequal_ttls}

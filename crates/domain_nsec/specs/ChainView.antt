@@ -2,7 +2,7 @@
 use Rattle.std.specs.Prelude.{List, map}
 use Rattle.domain_record.specs.declared.record.Record.{Record}
 use Rattle.domain_chain_rdata.specs.declared.nsec.Nsec.{Nsec}
-use Rattle.domain_base.specs.Words.{Name}
+use Rattle.domain_names.specs.Words.{Name}
 use Rattle.domain_nsec.specs.Chain.{Link}
 
 abbrev pub as_link : {O N : Type 0} → (N → Name) → Record N (Nsec O N) → Link

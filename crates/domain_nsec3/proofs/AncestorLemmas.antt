@@ -6,8 +6,8 @@ use Rattle.std.proofs.lemmas.Bool.{cases_Bool, false≢true, leb-true, or_cases,
 use Rattle.std.proofs.lemmas.Bool.Decides.{nat_tests}
 use Rattle.std.proofs.lemmas.List.{append-nil}
 use Rattle.std.proofs.lemmas.List.Folds.{list_any-append}
-use Rattle.domain_base.specs.Name.{is_at_or_below, is_strictly_below, lowered, same_name}
-use Rattle.domain_base.specs.Words.{Name}
+use Rattle.domain_names.specs.Name.{is_at_or_below, is_strictly_below, lowered, same_name}
+use Rattle.domain_names.specs.Words.{Name}
 use Rattle.domain_zone.proofs.NameLemmas.{lowered_below, same_lowered, one_lowered, same_itself, below_itself, below_trans, below_longer, below_length}
 use Rattle.domain_zone.proofs.NameLemmas.{strictly_longer, strictly_from, below_parent}
 use Rattle.domain_zone.proofs.PairLemmas.{all_in}

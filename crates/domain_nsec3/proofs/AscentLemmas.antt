@@ -10,10 +10,10 @@ use Rattle.std.proofs.lemmas.Cmp.{tied_itself}
 use Rattle.std.proofs.lemmas.List.Elements.{recursion_from_All}
 use Rattle.domain_octets.specs.Base32.{base32_lower}
 use Rattle.domain_octets.proofs.OrderLemmas.{lower_keeps}
-use Rattle.domain_base.specs.Order.{canonical_cmp, canonical_cmp_total}
-use Rattle.domain_base.proofs.OrderLemmas.{canonical_cmp-more}
+use Rattle.domain_names.specs.Order.{canonical_cmp, canonical_cmp_total}
+use Rattle.domain_names.proofs.OrderLemmas.{canonical_cmp-more}
 use Rattle.domain_zone.specs.Covering.{pairs}
-use Rattle.domain_base.specs.Words.{Name}
+use Rattle.domain_names.specs.Words.{Name}
 use Rattle.domain_zone.specs.Zone.{ZoneRecord}
 use Rattle.domain_nsec3.specs.Chain.{HashedLink, HashedName, IsHashedChain, IsOfChain, cycle, ends, ends_of, hashed_owner}
 use Rattle.domain_nsec3.specs.Config.{ChainConfig}

@@ -14,11 +14,11 @@ use Rattle.std.proofs.lemmas.List.{get_or-map, length-map}
 use Rattle.std.proofs.lemmas.List.Edits.{Swapped, swapped_from_swap, length-swap}
 use Rattle.std.proofs.lemmas.List.Elements.{recursion_from_All}
 use Rattle.std.proofs.lemmas.List.Sorted.{IsPermutation-keeps, IsPermutation-map, list_any-IsPermutation}
-use Rattle.domain_base.specs.Name.{lowered, wire_of, same_name}
-use Rattle.domain_base.specs.Order.{canonical_cmp, before}
+use Rattle.domain_names.specs.Name.{lowered, wire_of, same_name}
+use Rattle.domain_names.specs.Order.{canonical_cmp, before}
 use Rattle.domain_hasher.specs.declared.error.Nsec3HashError.{Nsec3HashError}
 use Rattle.domain_hasher.specs.declared.error.Nsec3HashError.TheVariants.{Hasher, AppendError, OwnerHashError, Nsec3NameTooLong, CollisionDetected, OutOfMemory}
-use Rattle.domain_base.specs.Words.{Name}
+use Rattle.domain_names.specs.Words.{Name}
 use Rattle.domain_zone.specs.Zone.{ZoneRecord}
 use Rattle.domain_zone.proofs.NameLemmas.{before_order, before_left, one_lowered, same_itself, same_lowered}
 use Rattle.domain_zone.proofs.PairLemmas.{In, all_in}

@@ -6,13 +6,13 @@ use Rattle.std.specs.List.Sorted.{IsStrictlySortedBy}
 use Rattle.std.proofs.lemmas.Bool.{and_parts, and_from, not-true}
 use Rattle.std.proofs.lemmas.List.Elements.{All-from_recursion}
 use Rattle.domain_octets.proofs.StdLemmas.{and_false}
-use Rattle.domain_base.specs.Order.{canonical_cmp, before}
+use Rattle.domain_names.specs.Order.{canonical_cmp, before}
 use Rattle.domain_records.specs.Errors.{signing_error_of}
 use Rattle.domain_hasher.specs.declared.error.Nsec3HashError.{Nsec3HashError}
 use Rattle.domain_hasher.specs.declared.error.Nsec3HashError.TheVariants.{Hasher, AppendError, OwnerHashError, Nsec3NameTooLong, CollisionDetected, OutOfMemory}
 use Rattle.domain_zone.specs.Enclosers.{is_empty_nonterminal}
-use Rattle.domain_base.specs.Name.{is_at_or_below, is_strictly_below, lowered, same_name}
-use Rattle.domain_base.specs.Words.{Name}
+use Rattle.domain_names.specs.Name.{is_at_or_below, is_strictly_below, lowered, same_name}
+use Rattle.domain_names.specs.Words.{Name}
 use Rattle.domain_zone.specs.Soa.{chain_ttl, soa_of}
 use Rattle.domain_base.specs.Types.{ns, ds}
 use Rattle.domain_zone.specs.Zone.{ZoneRecord, OwnersNeverDescend, records_of, owns, has_type, is_occluded, is_unoccluded, unoccluded_owners}

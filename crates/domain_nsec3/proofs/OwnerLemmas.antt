@@ -5,8 +5,8 @@ use Rattle.std.specs.List.{list_any}
 use Rattle.std.proofs.lemmas.Bool.{cases_Bool, false≢true, true≢false, and_parts, and_from, or_cases, or_right, or_left, not-true, cases_lt}
 use Rattle.std.proofs.lemmas.List.Folds.{list_any-append}
 use Rattle.domain_octets.proofs.StdLemmas.{and_false}
-use Rattle.domain_base.specs.Name.{is_at_or_below, is_strictly_below, lowered, same_name}
-use Rattle.domain_base.specs.Words.{Name}
+use Rattle.domain_names.specs.Name.{is_at_or_below, is_strictly_below, lowered, same_name}
+use Rattle.domain_names.specs.Words.{Name}
 use Rattle.domain_base.specs.Types.{ns, ds, dname}
 use Rattle.domain_zone.specs.Zone.{ZoneRecord, records_of, owns, has_type, is_zone_cut, occludes, is_occluded, is_unoccluded, unoccluded_owners}
 use Rattle.domain_zone.specs.Enclosers.{exists_over, is_empty_nonterminal, IsClosestEncloser}

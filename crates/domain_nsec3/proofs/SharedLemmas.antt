@@ -6,10 +6,10 @@ use Rattle.std.specs.List.{common_prefix_len}
 use Rattle.std.proofs.lemmas.Bool.{cases_Bool, false≢true, true≢false, and_parts}
 use Rattle.std.proofs.lemmas.Bool.Decides.{nat_tests}
 use Rattle.std.proofs.lemmas.List.{length-reverse, length-map}
-use Rattle.domain_base.specs.Laws.{from_root-below, below-from_root}
-use Rattle.domain_base.specs.Name.{is_at_or_below, lowered}
-use Rattle.domain_base.specs.Order.{common_labels, from_root}
-use Rattle.domain_base.specs.Words.{Label, Name}
+use Rattle.domain_names.specs.Laws.{from_root-below, below-from_root}
+use Rattle.domain_names.specs.Name.{is_at_or_below, lowered}
+use Rattle.domain_names.specs.Order.{common_labels, from_root}
+use Rattle.domain_names.specs.Words.{Label, Name}
 use Rattle.domain_zone.proofs.NameLemmas.{one_lowered, below_back, below_there, below_trans, below_longer, below_parent, same_length}
 use Rattle.domain_zone.proofs.SharedLemmas.{either_way}
 

@@ -12,13 +12,13 @@ use Rattle.domain_octets.specs.Base32.{base32_from, base32_lower, lower_digit}
 use Rattle.domain_octets.proofs.Base32Lemmas.{many_digits}
 use Rattle.domain_octets.proofs.OctetLemmas.{octets_from_type}
 use Rattle.domain_octets.proofs.ReadBackLemmas.{are_small}
-use Rattle.domain_base.specs.Name.{wire_of, IsName}
-use Rattle.domain_base.specs.Text.{is_ordinary, label_text, name_text}
-use Rattle.domain_base.specs.Wire.{labels_of, IsWire}
-use Rattle.domain_base.proofs.TextLemmas.{ordinary_octet}
+use Rattle.domain_names.specs.Name.{wire_of, IsName}
+use Rattle.domain_names.specs.Text.{is_ordinary, label_text, name_text}
+use Rattle.domain_names.specs.Wire.{labels_of, IsWire}
+use Rattle.domain_names.proofs.TextLemmas.{ordinary_octet}
 use Rattle.std.specs.Str.{IsAscii}
-use Rattle.domain_base.proofs.WireLemmas.{IsWire-wire_of, labels_of-wire_of, wire_is}
-use Rattle.domain_base.specs.Words.{Name}
+use Rattle.domain_names.proofs.WireLemmas.{IsWire-wire_of, labels_of-wire_of, wire_is}
+use Rattle.domain_names.specs.Words.{Name}
 use Rattle.domain_hasher.specs.declared.error.Nsec3HashError.TheVariants.{OwnerHashError, Nsec3NameTooLong}
 use Rattle.domain_nsec3.specs.Chain.{hashed_owner}
 use Rattle.domain_nsec3.specs.Faults.{hash_fault}

@@ -2,9 +2,9 @@
 use Rattle.std.specs.Prelude.{◌≡◌, ℕ, Bool, true, ◌||◌, List, [], ◌∷◌, ◌++◌, length, nat_lt, if◌then◌else◌}
 use Rattle.std.specs.List.{list_any}
 use Rattle.std.specs.List.Sorted.{IsStrictlySortedBy}
-use Rattle.domain_base.specs.Order.{canonical_cmp}
-use Rattle.domain_base.specs.Name.{is_at_or_below, is_strictly_below, same_name}
-use Rattle.domain_base.specs.Words.{Name}
+use Rattle.domain_names.specs.Order.{canonical_cmp}
+use Rattle.domain_names.specs.Name.{is_at_or_below, is_strictly_below, same_name}
+use Rattle.domain_names.specs.Words.{Name}
 
 -- those with more than so many labels, the shortest first
 abbrev pub above_with_more : ℕ → Name → List Name

@@ -9,8 +9,8 @@ use Rattle.domain_base.specs.Classes.{in_class}
 use Rattle.domain_octets.specs.Base32.{base32_lower}
 use Rattle.domain_bitmap.specs.Bitmap.{bitmap_octets}
 use Rattle.domain_zone.specs.Covering.{pairs}
-use Rattle.domain_base.specs.Name.{same_name}
-use Rattle.domain_base.specs.Words.{Name}
+use Rattle.domain_names.specs.Name.{same_name}
+use Rattle.domain_names.specs.Words.{Name}
 use Rattle.domain_zone.specs.Soa.{chain_ttl, soa_of}
 use Rattle.domain_zone.specs.Zone.{ZoneRecord}
 use Rattle.domain_zone.specs.declared.soa.ApexSoa.{ApexSoa}

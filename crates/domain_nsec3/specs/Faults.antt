@@ -1,13 +1,13 @@
 -- When a zone has no NSEC3 chain.
 use Rattle.std.specs.Prelude.{Bool, true, false, not, ◌&&◌, ◌||◌, ◌==◌, List, length, nat_lt, Option, Some, None, Ok, Err, ◌≡◌, ◌≢◌, if◌then◌else◌}
-use Rattle.domain_base.specs.Name.{wire_of, same_name}
+use Rattle.domain_names.specs.Name.{wire_of, same_name}
 use Rattle.domain_records.specs.declared.error.SigningError.{SigningError}
 use Rattle.domain_records.specs.declared.error.SigningError.TheVariants.{EmptyRecordSlice, SoaRecordCouldNotBeDetermined, MultipleTtlValues}
 use Rattle.domain_records.specs.declared.error.SigningError.TheVariants.{Nsec3HashingError, OutOfMemory}
 use Rattle.domain_hasher.specs.declared.error.Nsec3HashError.{Nsec3HashError}
 use Rattle.domain_hasher.specs.declared.error.Nsec3HashError.TheVariants as hash_error
-use Rattle.domain_base.specs.Order.{before}
-use Rattle.domain_base.specs.Words.{Name}
+use Rattle.domain_names.specs.Order.{before}
+use Rattle.domain_names.specs.Words.{Name}
 use Rattle.domain_zone.specs.Soa.{soa_of}
 use Rattle.domain_zone.specs.Zone.{ZoneRecord, has_unequal_ttls}
 use Rattle.domain_nsec3.specs.Chain.{hashed_owner}

@@ -2,7 +2,7 @@
 use Rattle.domain_chain_rdata.specs.declared.nsec3param.Nsec3param.{Nsec3param}
 use Rattle.std.specs.Prelude.{◌≡◌, ℕ, List, None, Ok, [], map, slice_index_or, All}
 use Rattle.domain_octets.specs.Words.{Octets}
-use Rattle.domain_base.specs.Words.{Name}
+use Rattle.domain_names.specs.Words.{Name}
 use Rattle.domain_nsec3.specs.Chain.{HashedLink}
 use Rattle.domain_nsec3.specs.Faults.{hash_fault}
 use Rattle.domain_nsec3.specs.Steps.{Common, Entry, HashedEntry, HashedTypes, chain_links, entries_of, no_types, without_types}

@@ -9,7 +9,7 @@ use Rattle.domain_base.specs.Classes.{in_class}
 use Rattle.domain_bitmap.specs.Bitmap.{bitmap_octets}
 use Rattle.domain_hasher.specs.declared.error.Nsec3HashError.{Nsec3HashError}
 use Rattle.domain_hasher.specs.declared.error.Nsec3HashError.TheVariants.{OutOfMemory, CollisionDetected}
-use Rattle.domain_base.specs.Words.{Name}
+use Rattle.domain_names.specs.Words.{Name}
 use Rattle.domain_zone.specs.Zone.{ZoneRecord}
 use Rattle.domain_nsec3.specs.Chain.{HashedLink, hashed_owner}
 use Rattle.domain_nsec3.specs.Config.{ChainConfig, Hash, HashAnswer, Parameters, hash_name}

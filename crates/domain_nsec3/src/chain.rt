@@ -4,8 +4,8 @@ ghost use Rattle.std.specs.List.{list_any};
 ghost use Rattle.std.specs.List.Sorted.{IsSortedByKey, IsStrictlySortedBy};
 ghost use Rattle.std.specs.Ordering.{nat_cmp};
 ghost use Rattle.std.specs.Cmp.Lexicographic.{slice_cmp};
-ghost use Rattle.domain_base.specs.Name.{is_at_or_below, same_name};
-ghost use Rattle.domain_base.specs.Order.{canonical_cmp};
+ghost use Rattle.domain_names.specs.Name.{is_at_or_below, same_name};
+ghost use Rattle.domain_names.specs.Order.{canonical_cmp};
 ghost use Rattle.domain_records.specs.Order.{IsInOrder};
 ghost use Rattle.domain_hasher.specs.declared.error.Nsec3HashError.TheVariants as hash_error;
 ghost use Rattle.domain_zone.specs.Soa.{chain_ttl, soa_of};
@@ -121,16 +121,10 @@ fn hash_chain<S: Sorter, H: Nsec3Hasher, O: Octets, N: ToName>(
         (entries_of names.entry.items types)) }
 {
     let above = apex.as_parsed();
-    let mut hashed = match hash_names(alloc, hasher, params, &above, names.as_slice()) {
-        Ok(hashed) => hashed,
-        Err(error) => return Err(error),
-    };
+    let mut hashed = hash_names(alloc, hasher, params, &above, names.as_slice())?;
     drop(names);
     sort_by_hash::<S>(&mut hashed)?;
-    match without_collision(hashed, types) {
-        Ok(chain) => Ok(chain),
-        Err(error) => Err(error),
-    }
+    Ok(without_collision(hashed, types)?)
 }
 
 /// The chain over these owners, which stand in canonical order from the apex on, with their types:
@@ -173,10 +167,7 @@ fn chain_of_owners<'a, S: Sorter, H: Nsec3Hasher, O: Octets, N: ToName>(
     let mut empty = empty_nonterminals(alloc, &above, names.as_slice())?;
     names.append(&mut empty)?;
     drop(empty);
-    match hash_chain::<S, H, O, N>(alloc, hasher, &config.params, apex, names, types) {
-        Ok(chain) => Ok(chain),
-        Err(error) => Err(error),
-    }
+    Ok(hash_chain::<S, H, O, N>(alloc, hasher, &config.params, apex, names, types)?)
 }
 
 /// The chain of a zone whose SOA record is known.
@@ -201,12 +192,6 @@ pub(crate) fn chain_of_zone<S: Sorter, H: Nsec3Hasher, O: Octets, N: ToName, D: 
     ensures fault { IfErr result (IsFirstFault (zone_of N.labels D.rtype D.minimum records.entry)
         (N.labels apex.now) (config_of (H.answer hasher.now) config.now)) }
 {
-    let owners = match list_owners(alloc, apex, records, config) {
-        Ok(owners) => owners,
-        Err(error) => return Err(error),
-    };
-    match chain_of_owners(alloc, config, hasher, apex, owners) {
-        Ok(chain) => Ok(chain),
-        Err(error) => Err(SigningError::from(error)),
-    }
+    let owners = list_owners(alloc, apex, records, config)?;
+    Ok(chain_of_owners(alloc, config, hasher, apex, owners)?)
 }

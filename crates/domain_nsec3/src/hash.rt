@@ -2,8 +2,8 @@
 ghost use Rattle.std.specs.Prelude.{◌≡◌, ◌+◌, ◌<◌, ◌≤◌, ◌++◌, ◌∷◌, ◌⊎◌, [], List, Ok, Some, None, length, map, take, All, IfOk, IfErr, IsErrOf, OnOk, vec_capacity, vec_len};
 ghost use Rattle.domain_octets.specs.Words.{Octets};
 ghost use Rattle.domain_hasher.specs.declared.error.Nsec3HashError.TheVariants as hash_error;
-ghost use Rattle.domain_base.specs.Wire.{labels_of, IsWire};
-ghost use Rattle.domain_base.specs.Words.{Name};
+ghost use Rattle.domain_names.specs.Wire.{labels_of, IsWire};
+ghost use Rattle.domain_names.specs.Words.{Name};
 ghost use Rattle.domain_nsec3.specs.Chain.{hashed_owner};
 ghost use Rattle.domain_nsec3.specs.Config.{hash_name};
 ghost use Rattle.domain_nsec3.specs.Faults.{hash_fault};
@@ -48,10 +48,7 @@ fn hash_octets<H: Nsec3Hasher>(
 {
     let mut buffer = [0; MAX_NAME];
     let lowered = name.lower_wire(&mut buffer);
-    match hash_wire(alloc, hasher, algorithm, iterations, salt, lowered) {
-        Ok(octets) => Ok(octets),
-        Err(error) => Err(error),
-    }
+    Ok(hash_wire(alloc, hasher, algorithm, iterations, salt, lowered)?)
 }
 
 /// Whether octets are of use as a hash below an apex. Else tells the first reason why not.
@@ -189,7 +186,7 @@ where
 {
     let apex = apex.as_parsed();
     let name = name.as_parsed();
-    match hash_checked(
+    let hash = hash_checked(
         alloc,
         hasher,
         algorithm,
@@ -197,10 +194,8 @@ where
         salt.as_slice(),
         &apex,
         &name,
-    ) {
-        Ok(hash) => Ok(make_owner(alloc, &apex, hash.as_slice())?),
-        Err(error) => Err(error),
-    }
+    )?;
+    Ok(make_owner(alloc, &apex, hash.as_slice())?)
 }
 
 /// The hash of the name at a place.
@@ -223,13 +218,11 @@ fn hash_at<H: Nsec3Hasher, O: Octets>(
     let algorithm = params.hash_algorithm();
     let iterations = params.iterations();
     let salt = params.salt().as_slice();
-    match hash_checked(alloc, hasher, algorithm, iterations, salt, apex, name) {
-        Ok(octets) => Ok(Hashed {
-            hash: NameHash::new(octets.as_slice()),
-            place,
-        }),
-        Err(error) => Err(error),
-    }
+    let octets = hash_checked(alloc, hasher, algorithm, iterations, salt, apex, name)?;
+    Ok(Hashed {
+        hash: NameHash::new(octets.as_slice()),
+        place,
+    })
 }
 
 /// The hashes of names, each with the place of its name, in their order, in a list that has room
@@ -258,10 +251,8 @@ fn hash_into<H: Nsec3Hasher, O: Octets>(
     ensures memory { IsErrOf result hash_error.OutOfMemory → H.takes_memory hasher.now }
 {
     for (place, name) in names.iter().enumerate() {
-        match hash_at(alloc, hasher, params, apex, name, place) {
-            Ok(item) => hashed.push_reserved(item),
-            Err(error) => return Err(error),
-        }
+        let item = hash_at(alloc, hasher, params, apex, name, place)?;
+        hashed.push_reserved(item);
     }
     Ok(hashed)
 }

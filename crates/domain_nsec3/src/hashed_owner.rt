@@ -1,7 +1,7 @@
 //! The owner of the record of a hash.
 ghost use Rattle.std.specs.Prelude.{◌≡◌, ◌++◌, ◌∷◌, [], Ok, None, Some, IfOk};
 ghost use Rattle.domain_octets.specs.Characters.{dot};
-ghost use Rattle.domain_base.specs.Text.{name_text};
+ghost use Rattle.domain_names.specs.Text.{name_text};
 ghost use Rattle.domain_nsec3.specs.Chain.{hashed_owner};
 ghost use Rattle.domain_nsec3.specs.Faults.{hash_fault};
 
@@ -24,7 +24,7 @@ pub struct HashedOwner<'a> {
 
 impl<'a> Model for HashedOwner<'a> {
     ghost use Rattle.std.specs.Prelude.{◌≡◌, ◌<◌, All, Ok, None};
-    ghost use Rattle.domain_base.specs.Words.{Name};
+    ghost use Rattle.domain_names.specs.Words.{Name};
     ghost use Rattle.domain_nsec3.specs.Chain.{hashed_owner};
     ghost use Rattle.domain_nsec3.specs.Faults.{hash_fault};
 

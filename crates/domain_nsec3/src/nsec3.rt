@@ -128,9 +128,6 @@ where
         (zone_of N.labels D.rtype D.minimum records.entry) (N.labels apex.now)
         (config_of (H.answer hasher.now) config.now) (hashed_links_of N.labels made.nsec3s.items)) }
 {
-    let chain = match Nsec3Chain::generate(alloc, apex, records, config, hasher) {
-        Ok(chain) => chain,
-        Err(error) => return Err(error),
-    };
+    let chain = Nsec3Chain::generate(alloc, apex, records, config, hasher)?;
     Ok(copy_records(alloc, &chain)?)
 }

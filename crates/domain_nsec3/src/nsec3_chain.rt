@@ -134,10 +134,7 @@ impl<'a, O: Octets> Nsec3Chain<'a, O> {
         let Some(soa) = find_soa(apex, records.records()) else {
             return Err(SigningError::SoaRecordCouldNotBeDetermined);
         };
-        let chain = match chain_of_zone(alloc, apex, records, config, hasher, &soa) {
-            Ok(chain) => chain,
-            Err(error) => return Err(error),
-        };
+        let chain = chain_of_zone(alloc, apex, records, config, hasher, &soa)?;
         let nsec3param = param_record(apex, config, &soa)?;
         Ok(Nsec3Chain::new(chain, soa.chain_ttl(), nsec3param))
     }

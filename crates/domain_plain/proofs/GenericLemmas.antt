@@ -4,7 +4,8 @@ use Rattle.std.specs.List.{concat}
 use Rattle.domain_octets.specs.Limit.{HasRoom}
 use Rattle.domain_octets.specs.Codec.{Decodes}
 use Rattle.domain_octets.specs.declared.codec.Codec.TheVariants.{Base16}
-use Rattle.domain_base.specs.Scan.{ScanFault, illegal, IsOfTokens, IsNumber, IsNoNumber, TakesToken, RefusesToken, EntryFault, IsEnd}
+use Rattle.domain_names.specs.TextFault.{ScanFault, illegal, IsOfTokens}
+use Rattle.domain_base.specs.Scan.{IsNumber, IsNoNumber, TakesToken, RefusesToken, EntryFault, IsEnd}
 use Rattle.domain_base.proofs.RefusalLemmas.{entry_one_fault}
 use Rattle.domain_fields.specs.Entry.{Spells, RefusesEntry}
 use Rattle.domain_fields.specs.Sequence.{OneToken, Both, RefusesBoth}

@@ -11,8 +11,8 @@ use Rattle.domain_octets.specs.declared.codec.Codec.TheVariants.{Base16}
 use Rattle.domain_octets.specs.Line.{words_of, IsWord}
 use Rattle.domain_octets.proofs.CodecBackLemmas.{upper_back}
 use Rattle.domain_octets.proofs.WordLemmas.{one_word, first_word, next_word, no_space-append, decimal_word, upper_hex_word}
-use Rattle.domain_base.specs.Name.{IsName}
-use Rattle.domain_base.specs.Text.{name_text}
+use Rattle.domain_names.specs.Name.{IsName}
+use Rattle.domain_names.specs.Text.{name_text}
 use Rattle.domain_base.proofs.ReadBackLemmas.{number_back, name_word}
 use Rattle.domain_fields.specs.Scan.{Scans}
 use Rattle.domain_fields.proofs.NameLemmas.{name_fits}

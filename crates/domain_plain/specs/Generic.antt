@@ -8,8 +8,9 @@ use Rattle.domain_octets.specs.Codec.{Decodes}
 use Rattle.domain_octets.specs.declared.codec.Codec.TheVariants.{Base16}
 use Rattle.domain_octets.specs.Words.{Octets}
 use Rattle.domain_octets.specs.Characters.{space}
-use Rattle.domain_base.specs.Scan.{ScanFault, illegal, IsNumber, IsNoNumber, RefusesToken, EntryFault, IsEnd}
-use Rattle.domain_base.specs.Words.{Tokens, Token}
+use Rattle.domain_names.specs.TextFault.{ScanFault, illegal}
+use Rattle.domain_base.specs.Scan.{IsNumber, IsNoNumber, RefusesToken, EntryFault, IsEnd}
+use Rattle.domain_names.specs.Words.{Tokens, Token}
 
 -- what generic text begins with
 abbrev pub generic_mark : Token

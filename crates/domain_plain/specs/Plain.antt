@@ -8,7 +8,7 @@ use Rattle.domain_plain.specs.declared.ns.Ns.{Ns}
 use Rattle.domain_plain.specs.declared.soa.Soa.{Soa}
 use Rattle.domain_plain.specs.declared.mx.Mx.{Mx}
 use Rattle.domain_plain.specs.Unknown.{UnknownData}
-use Rattle.domain_base.specs.Words.{Name}
+use Rattle.domain_names.specs.Words.{Name}
 
 -- the address (RFC 1035, section 3.4.1)
 abbrev pub a : Layout

@@ -5,14 +5,14 @@ ghost use Rattle.std.specs.Net.Addr.{ipv4_octets};
 ghost use Rattle.std.specs.Net.Text.{ipv4_text};
 ghost use Rattle.domain_octets.specs.Line.{words_of};
 ghost use Rattle.domain_octets.specs.Words.{Octets, AreOctets};
-ghost use Rattle.domain_base.specs.Scan.{ScanFault, IsOfTokens};
-ghost use Rattle.domain_base.specs.Text.{name_text};
+ghost use Rattle.domain_names.specs.TextFault.{ScanFault, IsOfTokens};
+ghost use Rattle.domain_names.specs.Text.{name_text};
 ghost use Rattle.domain_fields.specs.Layout.{ParsesBack};
 ghost use Rattle.domain_fields.specs.Scan.{Scans};
 ghost use Rattle.domain_plain.specs.Generic.{GenericText, GenericFault, generic_text};
 ghost use Rattle.domain_plain.specs.Plain.{a, a_values, ns, ns_values, soa, soa_values, mx, mx_values, unknown, unknown_values};
 ghost use Rattle.domain_plain.specs.Soa.{soa_text};
-ghost use Rattle.domain_base.specs.Words.{Tokens};
+ghost use Rattle.domain_names.specs.Words.{Tokens};
 
 use crate::{A, Mx, Ns, Soa, UnknownRecordData};
 use domain_base::ToName;

@@ -3,8 +3,8 @@ ghost use Rattle.std.specs.Prelude.{◌≡◌, ◌≤◌, ◌↔◌, length, IsO
 ghost use Rattle.domain_octets.specs.Limit.{IsOver};
 ghost use Rattle.std.specs.Ordering.{on, nat_cmp};
 ghost use Rattle.std.specs.Cmp.Lexicographic.{slice_cmp, on_texts};
-ghost use Rattle.domain_base.specs.Fault.{fault_of};
-ghost use Rattle.domain_base.specs.Scan.{scan_fault_of};
+ghost use Rattle.domain_names.specs.Fault.{fault_of};
+ghost use Rattle.domain_names.specs.TextFault.{scan_fault_of};
 ghost use Rattle.domain_plain.specs.Generic.{GenericText, GenericFault};
 ghost use Rattle.domain_fields.specs.Layout.{Begins, FirstFault, GoesOn, octets_of, canonical_of};
 ghost use Rattle.domain_fields.specs.DataClone.{same_values_tie};

@@ -2,8 +2,8 @@
 use Rattle.std.proofs.Common.{◌≡◌, ℕ, ◌<◌, List, [], length, codes, Option, Some, arith, true, false, refl, ap, ◌∙◌, subst}
 use Rattle.std.proofs.lemmas.List.{append-nil}
 use Rattle.domain_octets.specs.Limit.{IsOver}
-use Rattle.domain_base.specs.Fault.{Fault}
-use Rattle.domain_base.specs.Scan.{ScanFault, entry_ends, illegal, no_room, no_memory}
+use Rattle.domain_names.specs.Fault.{Fault}
+use Rattle.domain_names.specs.TextFault.{ScanFault, entry_ends, illegal, no_room, no_memory}
 use Rattle.domain_bitmap.specs.Fault as bitmap
 use Rattle.domain_bitmap.proofs.FaultLemmas.{no_fault}
 use Rattle.domain_fields.specs.Field.{spelled_name, rest}

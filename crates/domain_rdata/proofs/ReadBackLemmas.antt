@@ -6,13 +6,13 @@ use Rattle.std.proofs.lemmas.List.{length-map}
 use Rattle.domain_octets.specs.Line.{words_of}
 use Rattle.domain_octets.proofs.WordLemmas.{one_word, first_word}
 use Rattle.domain_base.specs.Types as rtypes
-use Rattle.domain_base.specs.Name.{IsName}
+use Rattle.domain_names.specs.Name.{IsName}
 use Rattle.domain_base.specs.Named.{by_name, by_number}
 use Rattle.domain_base.specs.Numbers.{TypeText}
 use Rattle.domain_base.specs.Scan.{IsNumber, TakesToken}
-use Rattle.domain_base.specs.Text.{name_text}
+use Rattle.domain_names.specs.Text.{name_text}
 use Rattle.domain_base.proofs.ReadBackLemmas.{name_word}
-use Rattle.domain_base.proofs.SpellingLemmas.{name_is_valid}
+use Rattle.domain_names.proofs.SpellingLemmas.{name_is_valid}
 use Rattle.domain_fields.specs.Layout.{octets_of}
 use Rattle.domain_fields.specs.Scan.{Scans}
 use Rattle.domain_plain.specs.Generic.{generic_mark, generic_text}

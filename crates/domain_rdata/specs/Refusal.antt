@@ -3,8 +3,9 @@
 use Rattle.std.specs.Prelude.{◌≡◌, ◌⊎◌, ℕ, ◌<◌, [], length, codes, Option, Some, None, IsNone}
 use Rattle.domain_octets.specs.Limit.{IsOver}
 use Rattle.domain_octets.specs.Words.{Octets}
-use Rattle.domain_base.specs.Fault.{Fault}
-use Rattle.domain_base.specs.Scan.{ScanFault, entry_ends, illegal, no_room, no_memory, Refusal}
+use Rattle.domain_names.specs.Fault.{Fault}
+use Rattle.domain_names.specs.TextFault.{ScanFault, entry_ends, illegal, no_room, no_memory}
+use Rattle.domain_base.specs.Scan.{Refusal}
 use Rattle.domain_plain.specs.Generic.{GenericText, GenericFault}
 use Rattle.domain_fields.specs.Field.{octet, short, long, name, spelled_name, counted, exactly, at_most, rest}
 use Rattle.domain_fields.specs.Layout.{Layout, one, ◌▸◌, Values, Begins}
@@ -22,7 +23,7 @@ use Rattle.domain_chain_rdata.specs.Rdata.{nsec, nsec3, nsec3param}
 use Rattle.domain_rdata.specs.Kind.{Kind, plain, key, digest, signature, next_by_name, next_by_hash, params, layout_of, AreFields}
 use Rattle.domain_rdata.specs.Scan.{IsGeneric}
 use Rattle.domain_rdata.specs.Zone.{kind_of}
-use Rattle.domain_base.specs.Words.{Tokens}
+use Rattle.domain_names.specs.Words.{Tokens}
 
 -- the first field of that form that is refused, where octets have this limit, and the tokens that
 -- are left then

@@ -1,7 +1,7 @@
 -- record data as tokens and as octets (RFC 1035, section 5.1; RFC 3597, section 5)
 use Rattle.std.specs.Prelude.{◌≡◌, ℕ, None, [], ◌∷◌}
 use Rattle.domain_octets.specs.Words.{Octets}
-use Rattle.domain_base.specs.Words.{Tokens, Name}
+use Rattle.domain_names.specs.Words.{Tokens, Name}
 use Rattle.domain_plain.specs.Generic.{GenericText, generic_mark}
 use Rattle.domain_rdata.specs.Kind.{AreFields, FieldsText}
 use Rattle.domain_rdata.specs.Zone.{kind_of, rtype_of, Content, fields, mere, content_of}

@@ -8,9 +8,9 @@ use Rattle.std.specs.Ordering.{nat_cmp, on, then_cmp}
 use Rattle.std.specs.Cmp.{IsTotalOrder, on_total, then_total, nat_cmp_total}
 use Rattle.std.specs.Cmp.Lexicographic.{slice_cmp, on_texts}
 use Rattle.domain_octets.specs.Words.{Octets}
-use Rattle.domain_base.specs.Text.{name_text}
+use Rattle.domain_names.specs.Text.{name_text}
 use Rattle.domain_base.specs.Types as rtypes
-use Rattle.domain_base.specs.Words.{Name}
+use Rattle.domain_names.specs.Words.{Name}
 use Rattle.domain_bitmap.specs.Blocks.{types_of}
 use Rattle.domain_bitmap.specs.Text.{types_text}
 use Rattle.domain_fields.specs.Layout.{Values, octets_of, canonical_of}

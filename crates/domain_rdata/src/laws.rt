@@ -5,7 +5,7 @@ ghost use Rattle.domain_rdata.specs.Exact.{HasExactOctets, HasExactText};
 ghost use Rattle.domain_rdata.specs.declared.zone_record_data.ZoneRecordData.{ZoneRecordData};
 ghost use Rattle.domain_rdata.specs.Scan.{AreData, RdataText};
 ghost use Rattle.domain_rdata.specs.Zone.{data_text, wire_octets, rtype_of};
-ghost use Rattle.domain_base.specs.Words.{Tokens};
+ghost use Rattle.domain_names.specs.Words.{Tokens};
 
 use crate::ZoneRecordData;
 use domain_base::ToName;

@@ -1,6 +1,6 @@
 //! Data of all types from the octets of their generic form.
 ghost use Rattle.std.specs.Prelude.{◌≡◌, ◌<◌, ◌≤◌, ◌⊎◌, [], Some, None, codes, length, IfOk, IfErr, OnOk};
-ghost use Rattle.domain_base.specs.Scan.{illegal, scan_fault_of};
+ghost use Rattle.domain_names.specs.TextFault.{illegal, scan_fault_of};
 ghost use Rattle.domain_fields.specs.Layout.{Begins};
 ghost use Rattle.domain_plain.specs.Plain.{a, a_values, ns, ns_values, soa, soa_values, mx, mx_values};
 ghost use Rattle.domain_keys.specs.Data.{dnskey, dnskey_values, ds, ds_values};

@@ -4,11 +4,11 @@ use Rattle.std.specs.declared.cmp.Ordering.{Ordering}
 use Rattle.std.specs.Ordering.{nat_cmp, on, then_cmp, eq_of_both}
 use Rattle.std.specs.Cmp.{IsTotalOrder, on_total, then_total, nat_cmp_total, IsPartialEquivalence, IsEquivalence}
 use Rattle.std.specs.Cmp.{on_per, and_per, on_equiv, and_equiv, nat_eq_equiv, partial_equiv_from_equiv}
-use Rattle.domain_base.specs.Name.{same_name}
-use Rattle.domain_base.specs.Laws.{same_name_equiv}
-use Rattle.domain_base.specs.Order.{canonical_cmp, canonical_cmp_total}
+use Rattle.domain_names.specs.Name.{same_name}
+use Rattle.domain_names.specs.Laws.{same_name_equiv}
+use Rattle.domain_names.specs.Order.{canonical_cmp, canonical_cmp_total}
 use Rattle.domain_record.specs.declared.record.Record.{Record}
-use Rattle.domain_base.specs.Words.{Name}
+use Rattle.domain_names.specs.Words.{Name}
 
 -- by class, then owner in the order of names, then type, then the canonical order of the data
 -- (RFC 4034, section 6)

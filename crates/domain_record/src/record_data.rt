@@ -3,7 +3,7 @@ ghost use Rattle.std.specs.Prelude.{◌≡◌, ◌≤◌, ◌↔◌, ℕ, Option
 ghost use Rattle.std.specs.Ordering.{nat_cmp};
 ghost use Rattle.std.specs.Cmp.Lexicographic.{slice_cmp};
 ghost use Rattle.domain_octets.specs.Words.{Octets};
-ghost use Rattle.domain_base.specs.Fault.{Fault, fault_of};
+ghost use Rattle.domain_names.specs.Fault.{Fault, fault_of};
 ghost use Rattle.domain_fields.specs.Layout.{GoesOn};
 ghost use Rattle.domain_fields.specs.Target.{Appends};
 

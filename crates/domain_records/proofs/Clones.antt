@@ -6,7 +6,7 @@ use Rattle.std.specs.Cmp.{IsTotalOrder, alike_right, tied_itself, nat_cmp_total}
 use Rattle.std.specs.Ordering.{ordering_then, nat_cmp}
 use Rattle.std.specs.declared.cmp.Ordering.{Ordering}
 use Rattle.std.specs.declared.cmp.Ordering.TheVariants.{Less, Equal}
-use Rattle.domain_base.specs.Order.{canonical_cmp, canonical_cmp_total}
+use Rattle.domain_names.specs.Order.{canonical_cmp, canonical_cmp_total}
 use Rattle.domain_record.specs.declared.record.Record.{Record}
 use Rattle.domain_record.specs.Record.{record_cmp}
 use Rattle.domain_record.specs.RecordClone.{IsRecordClone}

@@ -3,8 +3,8 @@ use Rattle.std.proofs.Common.{◌≡◌, ℕ, zero, suc, Bool, true, false, cond
 use Rattle.std.proofs.Common.{ap, subst, arith}
 use Rattle.std.specs.Option.{option_transpose}
 use Rattle.std.proofs.lemmas.Bool.{eqb-true, and_parts}
-use Rattle.domain_base.specs.Name.{same_name}
-use Rattle.domain_base.specs.Laws.{same_name_equiv}
+use Rattle.domain_names.specs.Name.{same_name}
+use Rattle.domain_names.specs.Laws.{same_name_equiv}
 use Rattle.domain_record.specs.declared.record.Record.{Record}
 use Rattle.domain_records.specs.declared.error.SigningError.{SigningError}
 use Rattle.domain_records.specs.Groups.{same_owner, same_type, same_rrset}

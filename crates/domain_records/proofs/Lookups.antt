@@ -8,9 +8,9 @@ use Rattle.std.specs.declared.cmp.Ordering.TheVariants.{Less, Equal, Greater}
 use Rattle.std.proofs.lemmas.Map.Keys.{Less-from_sorted}
 use Rattle.std.proofs.lemmas.Bool.{eqb-true, eq-eqb, leb-true, le-leb, cases_lt, and_parts, false_from_ne_true}
 use Rattle.std.proofs.lemmas.List.{get_or_default}
-use Rattle.domain_base.specs.Name.{same_name}
-use Rattle.domain_base.specs.Order.{canonical_cmp, canonical_cmp_total}
-use Rattle.domain_base.specs.Laws.{same_name_ties}
+use Rattle.domain_names.specs.Name.{same_name}
+use Rattle.domain_names.specs.Order.{canonical_cmp, canonical_cmp_total}
+use Rattle.domain_names.specs.Laws.{same_name_ties}
 use Rattle.domain_record.specs.declared.record.Record.{Record}
 use Rattle.domain_record.specs.Record.{record_cmp}
 use Rattle.domain_records.specs.Lookup.{Key, key_cmp, key_of, wanted_key, where_asked, number_asked, is_asked, is_before, matches, HasAt, IsParted}

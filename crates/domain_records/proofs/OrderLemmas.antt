@@ -6,9 +6,9 @@ use Rattle.std.specs.Cmp.{IsTotalOrder, upto, tied_itself, alike_right, ranks, n
 use Rattle.std.specs.Ordering.{ordering_then, nat_cmp, is_gt, is_le, MatchOrdering}
 use Rattle.std.specs.declared.cmp.Ordering.{Ordering}
 use Rattle.std.specs.declared.cmp.Ordering.TheVariants.{Less, Equal, Greater}
-use Rattle.domain_base.specs.Name.{IsSame}
-use Rattle.domain_base.specs.Order.{canonical_cmp, canonical_cmp_total}
-use Rattle.domain_base.specs.Laws.{same_tied, tied_same}
+use Rattle.domain_names.specs.Name.{IsSame}
+use Rattle.domain_names.specs.Order.{canonical_cmp, canonical_cmp_total}
+use Rattle.domain_names.specs.Laws.{same_tied, tied_same}
 use Rattle.domain_record.specs.declared.record.Record.{Record}
 use Rattle.domain_record.specs.Record.{record_cmp}
 use Rattle.domain_records.specs.Groups.{may_follow}

@@ -2,10 +2,10 @@
 use Rattle.std.specs.Prelude.{◌≡◌, ℕ, Bool, ◌==◌, ◌&&◌, List, [], ◌∷◌, ◌++◌, Any}
 use Rattle.std.specs.List.{AllByRecursion}
 use Rattle.std.specs.Ordering.{is_le, nat_cmp, on, then_cmp}
-use Rattle.domain_base.specs.Order.{canonical_cmp}
-use Rattle.domain_base.specs.Name.{same_name, IsSame}
+use Rattle.domain_names.specs.Order.{canonical_cmp}
+use Rattle.domain_names.specs.Name.{same_name, IsSame}
 use Rattle.domain_record.specs.declared.record.Record.{Record}
-use Rattle.domain_base.specs.Words.{Name}
+use Rattle.domain_names.specs.Words.{Name}
 use Rattle.domain_base.specs.Types.{ns}
 
 -- the owners agree but for the case of letters

@@ -3,10 +3,10 @@ use Rattle.std.specs.Prelude.{◌≡◌, ℕ, ◌<◌, Bool, true, false, ◌==�
 use Rattle.std.specs.Ordering.{nat_cmp, is_lt, on, then_cmp}
 use Rattle.std.specs.List.Sorted.{IsPartitionPoint}
 use Rattle.std.specs.declared.cmp.Ordering.{Ordering}
-use Rattle.domain_base.specs.Name.{same_name}
-use Rattle.domain_base.specs.Order.{canonical_cmp}
+use Rattle.domain_names.specs.Name.{same_name}
+use Rattle.domain_names.specs.Order.{canonical_cmp}
 use Rattle.domain_record.specs.declared.record.Record.{Record}
-use Rattle.domain_base.specs.Words.{Name}
+use Rattle.domain_names.specs.Words.{Name}
 
 -- nothing is asked, or this number
 abbrev pub is_asked : Option ℕ → ℕ → Bool

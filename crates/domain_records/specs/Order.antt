@@ -1,10 +1,10 @@
 -- Records of one class, in order of owner and type.
 use Rattle.std.specs.Prelude.{◌≡◌, ℕ, ◌≤◌, List, [], ◌∷◌}
 use Rattle.std.specs.List.{AllByRecursion}
-use Rattle.domain_base.specs.Name.{IsSame}
-use Rattle.domain_base.specs.Order.{IsUpTo}
+use Rattle.domain_names.specs.Name.{IsSame}
+use Rattle.domain_names.specs.Order.{IsUpTo}
 use Rattle.domain_record.specs.declared.record.Record.{Record}
-use Rattle.domain_base.specs.Words.{Name}
+use Rattle.domain_names.specs.Words.{Name}
 
 -- P holds of each element and each one after it
 abbrev pub HoldsPairwise : {X : Type 0} → (X → X → Type 0) → List X → Type 0

@@ -2,8 +2,8 @@
 use Rattle.std.specs.Prelude.{ℕ, List, slice_index_or}
 use Rattle.std.specs.declared.cmp.Ordering.{Ordering}
 use Rattle.std.specs.Ordering.{nat_cmp, on, then_cmp}
-use Rattle.domain_base.specs.Order.{canonical_cmp}
-use Rattle.domain_base.specs.Words.{Name}
+use Rattle.domain_names.specs.Order.{canonical_cmp}
+use Rattle.domain_names.specs.Words.{Name}
 use Rattle.domain_record.specs.declared.record.Record.{Record}
 use Rattle.domain_records.specs.declared.owner_runs.Run.{Run}
 

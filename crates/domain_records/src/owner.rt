@@ -1,7 +1,7 @@
 //! The records of one owner after another.
 ghost use Rattle.std.specs.Prelude.{◌≡◌, ◌≤◌, ◌<◌, ◌↔◌, [], length, map, drop, Any, IsTrue};
 ghost use Rattle.std.specs.Iterator.{item_count};
-ghost use Rattle.domain_base.specs.Name.{IsAtOrBelow};
+ghost use Rattle.domain_names.specs.Name.{IsAtOrBelow};
 ghost use Rattle.domain_records.specs.Slices.{items_of};
 ghost use Rattle.domain_records.specs.Groups.{same_owner, HasFirst, SkipsTo, IsZoneCut};
 ghost use Rattle.domain_records.specs.Order.{IsOneClass, IsInOrder};

@@ -6,7 +6,7 @@ use Rattle.base64.specs.GeneralPurpose.{encode_of}
 use Rattle.base64.specs.Engines.{standard}
 use Rattle.domain_octets.specs.Piece.{PieceText, token, comment, opens, closes}
 use Rattle.domain_base.specs.Numbers.{type_text}
-use Rattle.domain_base.specs.Text.{name_text}
+use Rattle.domain_names.specs.Text.{name_text}
 use Rattle.domain_fields.proofs.PieceLemmas.{piece_before, pieces_before}
 use Rattle.domain_rrsig.specs.Data.{ProtoRrsigData, RrsigData}
 use Rattle.domain_rrsig.specs.Pieces.{signed_number_pieces, signer_pieces, rrsig_pieces}

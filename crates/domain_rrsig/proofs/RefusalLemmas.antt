@@ -1,9 +1,10 @@
 -- The texts of signatures: tokens spell one at most, and none where they are refused.
 use Rattle.std.proofs.Common.{◌≡◌, ℕ, ◌+◌, ◌<◌, List, length, sym, ◌∙◌, arith, Option}
 use Rattle.domain_octets.specs.declared.codec.Codec.TheVariants.{Base64}
-use Rattle.domain_base.specs.Name.{wire_of}
+use Rattle.domain_names.specs.Name.{wire_of}
 use Rattle.domain_base.specs.Numbers.{TypeText, IsNoType}
-use Rattle.domain_base.specs.Scan.{ScanFault, IsOfTokens, RefusesToken}
+use Rattle.domain_names.specs.TextFault.{ScanFault, IsOfTokens}
+use Rattle.domain_base.specs.Scan.{RefusesToken}
 use Rattle.domain_base.proofs.NamedLemmas.{one_named}
 use Rattle.domain_fields.specs.Field.{octet, short, long, name}
 use Rattle.domain_fields.specs.Layout.{Layout, one, ◌▸◌}

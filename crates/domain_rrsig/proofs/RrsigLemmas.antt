@@ -2,8 +2,8 @@
 use Rattle.std.proofs.Common.{◌≡◌, ◌≤◌, ◌↔◌, ℕ, Bool, List, [], ◌++◌, length, refl, sym, ap, ◌∙◌, arith, length-append}
 use Rattle.std.specs.Prelude.{bytes_eq, IsTrue}
 use Rattle.std.specs.Cmp.Lexicographic.{bytes_decides}
-use Rattle.domain_base.specs.Name.{lowered}
-use Rattle.domain_base.proofs.CaseLemmas.{IsName-lowered}
+use Rattle.domain_names.specs.Name.{lowered}
+use Rattle.domain_names.proofs.CaseLemmas.{IsName-lowered}
 use Rattle.domain_fields.specs.Field.{name, rest}
 use Rattle.domain_fields.specs.Layout.{Layout, one, ◌▸◌, Values, octets_of, Fits, Begins, ParsesBack}
 use Rattle.domain_fields.proofs.ExactLemmas.{parses_back, same_values}

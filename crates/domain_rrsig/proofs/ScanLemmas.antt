@@ -4,8 +4,9 @@ use Rattle.std.specs.List.{concat}
 use Rattle.domain_octets.specs.Limit.{HasRoom}
 use Rattle.domain_octets.specs.Codec.{Decodes}
 use Rattle.domain_octets.specs.declared.codec.Codec.TheVariants.{Base64}
-use Rattle.domain_base.specs.Name.{wire_of}
-use Rattle.domain_base.specs.Scan.{ScanFault, illegal, EntryFault, IsEnd}
+use Rattle.domain_names.specs.Name.{wire_of}
+use Rattle.domain_names.specs.TextFault.{ScanFault, illegal}
+use Rattle.domain_base.specs.Scan.{EntryFault, IsEnd}
 use Rattle.domain_fields.specs.Field.{short, name}
 use Rattle.domain_fields.specs.Layout.{one, ◌▸◌, octets_of}
 use Rattle.domain_fields.specs.Scan.{Scans, Refuses}

@@ -1,8 +1,8 @@
 -- the data of signatures, in the order of the wire
 use Rattle.std.specs.Prelude.{◌≡◌, ℕ}
 use Rattle.domain_octets.specs.Words.{Octets}
-use Rattle.domain_base.specs.Name.{IsSame}
-use Rattle.domain_base.specs.Words.{Name}
+use Rattle.domain_names.specs.Name.{IsSame}
+use Rattle.domain_names.specs.Words.{Name}
 use Rattle.domain_fields.specs.Field.{octet, short, long, name, at_most, rest}
 use Rattle.domain_fields.specs.Layout.{Layout, one, ◌▸◌, Values, octets_of, canonical_of}
 

@@ -6,9 +6,9 @@ use Rattle.base64.specs.Engines.{standard}
 use Rattle.domain_octets.specs.Piece.{PieceText, token, comment, opens, closes}
 use Rattle.domain_octets.specs.Words.{Octets}
 use Rattle.domain_base.specs.Numbers.{type_text}
-use Rattle.domain_base.specs.Text.{name_text}
+use Rattle.domain_names.specs.Text.{name_text}
 use Rattle.domain_rrsig.specs.Data.{ProtoRrsigData, RrsigData}
-use Rattle.domain_base.specs.Words.{Name}
+use Rattle.domain_names.specs.Words.{Name}
 
 -- the numbers up to the TTL, with single spaces
 unfoldable pub signed_numbers_text : ProtoRrsigData → Octets

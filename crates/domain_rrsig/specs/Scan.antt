@@ -3,9 +3,9 @@
 use Rattle.std.specs.Prelude.{ℕ, ◌+◌, ◌<◌, ◌≤◌, length, Option}
 use Rattle.domain_octets.specs.declared.codec.Codec.TheVariants.{Base64}
 use Rattle.domain_base.specs.Scan.{Refusal, Grammar, RefusesToken}
-use Rattle.domain_base.specs.Name.{wire_of}
+use Rattle.domain_names.specs.Name.{wire_of}
 use Rattle.domain_base.specs.Numbers.{TypeText, IsNoType}
-use Rattle.domain_base.specs.Words.{Tokens, Name}
+use Rattle.domain_names.specs.Words.{Tokens, Name}
 use Rattle.domain_fields.specs.Entry.{Spells, RefusesData}
 use Rattle.domain_fields.specs.Field.{octet, short, long, name}
 use Rattle.domain_fields.specs.Layout.{one, ◌▸◌}

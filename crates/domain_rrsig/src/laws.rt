@@ -3,8 +3,8 @@
 ghost use Rattle.std.specs.Prelude.{◌≡◌, ◌<◌, ◌^◌, ℕ, Option};
 ghost use Rattle.std.specs.Fmt.{decimal};
 ghost use Rattle.domain_octets.specs.Line.{words_of};
-ghost use Rattle.domain_base.specs.Scan.{ScanFault, IsOfTokens};
-ghost use Rattle.domain_base.specs.Words.{Tokens};
+ghost use Rattle.domain_names.specs.TextFault.{ScanFault, IsOfTokens};
+ghost use Rattle.domain_names.specs.Words.{Tokens};
 ghost use Rattle.domain_fields.specs.Layout.{ParsesBack};
 ghost use Rattle.domain_rrsig.specs.Data.{RrsigData, rrsig, rrsig_values};
 ghost use Rattle.domain_rrsig.specs.Pieces.{rrsig_text};

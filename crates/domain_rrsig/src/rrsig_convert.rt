@@ -1,7 +1,7 @@
 //! Signatures over other octets and names.
 ghost use Rattle.std.specs.Prelude.{◌≡◌, ◌⊎◌, length, IsNone};
 ghost use Rattle.domain_octets.specs.Limit.{IsOver};
-ghost use Rattle.domain_base.specs.Name.{wire_of};
+ghost use Rattle.domain_names.specs.Name.{wire_of};
 
 use crate::{ProtoRrsig, Rrsig};
 use domain_base::{Name, ToName};

@@ -1,6 +1,6 @@
 //! Signatures as text (RFC 4034, section 3.2).
 ghost use Rattle.std.specs.Prelude.{◌≡◌, ◌++◌, [], Some, IfOk, IfErr, OnOk};
-ghost use Rattle.domain_base.specs.Scan.{scan_fault_of};
+ghost use Rattle.domain_names.specs.TextFault.{scan_fault_of};
 ghost use Rattle.domain_rrsig.specs.Scan.{numbers_text, RefusesNumbers, times_text, RefusesTimes, rrsig_fields_text, RefusesRrsigFields, RrsigText, RefusesRrsig};
 ghost use Rattle.domain_rrsig.specs.Pieces.{signed_numbers_text, signed_times_text, rrsig_text, signed_number_pieces, signer_pieces, rrsig_pieces};
 

@@ -7,7 +7,8 @@ ghost use Rattle.std.specs.Cmp.{nat_cmp_total};
 ghost use Rattle.domain_octets.specs.Limit.{IsOver};
 ghost use Rattle.domain_octets.specs.Piece.{token};
 ghost use Rattle.domain_octets.specs.Place.{Takes};
-ghost use Rattle.domain_base.specs.Scan.{RefusesToken, TakesToken, scan_fault_of};
+ghost use Rattle.domain_names.specs.TextFault.{scan_fault_of};
+ghost use Rattle.domain_base.specs.Scan.{RefusesToken, TakesToken};
 ghost use Rattle.domain_base.specs.Serial.{serial_cmp};
 ghost use Rattle.domain_rrsig.specs.Time.{IsNear, TimeAt, TimeToken, IsNoTime, ReadsTime};
 

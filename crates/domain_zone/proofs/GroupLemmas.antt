@@ -8,14 +8,14 @@ use Rattle.std.specs.List.{list_any, AllByRecursion}
 use Rattle.std.proofs.lemmas.Bool.{cases_Bool, false≢true, and_parts, not-true, eqb-true}
 use Rattle.std.proofs.lemmas.List.{map-append}
 use Rattle.std.proofs.lemmas.List.Folds.{Any-from_list_any, list_any-from_Any}
-use Rattle.domain_base.specs.Name.{IsSame, lowered, same_name}
-use Rattle.domain_base.specs.Laws.{same_name_same}
-use Rattle.domain_base.specs.Order.{canonical_cmp, canonical_cmp_total, before}
+use Rattle.domain_names.specs.Name.{IsSame, lowered, same_name}
+use Rattle.domain_names.specs.Laws.{same_name_same}
+use Rattle.domain_names.specs.Order.{canonical_cmp, canonical_cmp_total, before}
 use Rattle.domain_record.specs.declared.record.Record.{Record}
 use Rattle.domain_records.specs.Runs.{runs, add_to}
 use Rattle.domain_records.specs.Groups.{same_owner, HasFirst, IsZoneCut}
 use Rattle.domain_records.specs.Order.{MayFollow, IsInOrder}
-use Rattle.domain_base.specs.Words.{Name}
+use Rattle.domain_names.specs.Words.{Name}
 use Rattle.domain_zone.specs.Zone.{ZoneRecord, OwnersNeverDescend, has_type}
 use Rattle.domain_zone.specs.View.{as_zone_record}
 use Rattle.domain_zone.proofs.NameLemmas.{one_lowered, same_itself, same_lowered}

@@ -8,8 +8,8 @@ use Rattle.domain_record.specs.declared.record.Record.{Record}
 use Rattle.domain_records.specs.Groups.{same_owner, HasFirst}
 use Rattle.domain_records.specs.Order.{IsInOrder}
 use Rattle.domain_records.specs.Runs.{runs, add_to}
-use Rattle.domain_base.specs.Name.{is_at_or_below, same_name}
-use Rattle.domain_base.specs.Words.{Name}
+use Rattle.domain_names.specs.Name.{is_at_or_below, same_name}
+use Rattle.domain_names.specs.Words.{Name}
 use Rattle.domain_zone.specs.Owners.{OwnerRecords, owner_at, owners_with_records}
 use Rattle.domain_base.specs.Types.{ns, dname}
 use Rattle.domain_zone.specs.View.{as_zone_record}

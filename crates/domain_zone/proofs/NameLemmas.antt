@@ -10,11 +10,11 @@ use Rattle.std.specs.List.{ends_with}
 use Rattle.std.proofs.lemmas.List.{length-append, length-map, append_assoc, append-nil}
 use Rattle.std.proofs.lemmas.List.Sorted.{ranks_by}
 use Rattle.std.proofs.lemmas.Bool.{true≢false, false≢true, and_parts, and_from, not-true, cases_lt, cases_Bool}
-use Rattle.domain_base.specs.Laws.{ancestor_first, between_names, same_name_same, same_name_ties, same_tied}
-use Rattle.domain_base.specs.Name.{lowered, IsAtOrBelow, same_name, is_at_or_below, is_strictly_below}
-use Rattle.domain_base.specs.Order.{canonical_cmp, canonical_cmp_total, before, IsUpTo}
-use Rattle.domain_base.specs.Words.{Label, Name}
-use Rattle.domain_base.proofs.CaseLemmas.{at_or_below_test, one_line}
+use Rattle.domain_names.specs.Laws.{ancestor_first, between_names, same_name_same, same_name_ties, same_tied}
+use Rattle.domain_names.specs.Name.{lowered, IsAtOrBelow, same_name, is_at_or_below, is_strictly_below}
+use Rattle.domain_names.specs.Order.{canonical_cmp, canonical_cmp_total, before, IsUpTo}
+use Rattle.domain_names.specs.Words.{Label, Name}
+use Rattle.domain_names.proofs.CaseLemmas.{at_or_below_test, one_line}
 use Rattle.domain_zone.specs.Covering.{matches}
 
 -- the tests on names are tests on their lowered labels

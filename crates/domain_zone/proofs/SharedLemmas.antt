@@ -2,8 +2,8 @@
 use Rattle.std.proofs.Common.{◌≡◌, ◌≤◌, Bool, true, false, cond, [], ◌∷◌, length, refl, sym, ◌∙◌, inl, inr, arith}
 use Rattle.std.proofs.lemmas.Bool.{false≢true, cases_lt}
 use Rattle.domain_zone.specs.Enclosers.{IsShared, shared}
-use Rattle.domain_base.specs.Name.{is_at_or_below}
-use Rattle.domain_base.specs.Words.{Name}
+use Rattle.domain_names.specs.Name.{is_at_or_below}
+use Rattle.domain_names.specs.Words.{Name}
 use Rattle.domain_zone.proofs.NameLemmas.{below_itself, below_trans, below_longer, below_length, below_parent, below_root}
 
 pub either_way : (s t : Bool) → (s ≡ true → t ≡ true) → (t ≡ true → s ≡ true) → s ≡ t

@@ -5,8 +5,8 @@ use Rattle.std.specs.Prelude.{filter}
 use Rattle.std.specs.Option.{is_some, option_map}
 use Rattle.std.proofs.lemmas.Bool.{true≢false, cases_Bool, or_parts, and_right}
 use Rattle.std.proofs.lemmas.List.Elements.{filter-append}
-use Rattle.domain_base.specs.Name.{same_name}
-use Rattle.domain_base.specs.Words.{Name}
+use Rattle.domain_names.specs.Name.{same_name}
+use Rattle.domain_names.specs.Words.{Name}
 use Rattle.domain_base.specs.Types.{soa}
 use Rattle.domain_zone.specs.Soa.{of_only, is_soa, soa_of}
 use Rattle.domain_zone.specs.Zone.{ZoneRecord, owns}

@@ -6,9 +6,9 @@ use Rattle.std.specs.List.{AllByRecursion, list_any}
 use Rattle.std.proofs.lemmas.Bool.{cases_Bool, true≢false}
 use Rattle.std.proofs.lemmas.List.Elements.{filter-append}
 use Rattle.domain_octets.proofs.StdLemmas.{and_true}
-use Rattle.domain_base.specs.Name.{is_at_or_below, is_strictly_below, lowered, same_name}
-use Rattle.domain_base.specs.Order.{before}
-use Rattle.domain_base.specs.Words.{Name}
+use Rattle.domain_names.specs.Name.{is_at_or_below, is_strictly_below, lowered, same_name}
+use Rattle.domain_names.specs.Order.{before}
+use Rattle.domain_names.specs.Words.{Name}
 use Rattle.domain_zone.specs.Zone.{ZoneRecord, records_of, distinct}
 use Rattle.domain_zone.proofs.NameLemmas.{before_order, one_lowered, same_itself, same_is, below_from}
 

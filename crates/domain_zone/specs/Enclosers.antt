@@ -2,8 +2,8 @@
 -- 1.3).
 use Rattle.std.specs.Prelude.{Bool, true, not, ◌&&◌, List, [], ◌∷◌, ◌≡◌, ◌≤◌, length, nat_lt, if◌then◌else◌}
 use Rattle.std.specs.List.{list_any}
-use Rattle.domain_base.specs.Name.{is_at_or_below, is_strictly_below, same_name}
-use Rattle.domain_base.specs.Words.{Name}
+use Rattle.domain_names.specs.Name.{is_at_or_below, is_strictly_below, same_name}
+use Rattle.domain_names.specs.Words.{Name}
 
 -- e is one of these names or, at or below the apex, an ancestor of one
 abbrev pub exists_over : List Name → Name → Name → Bool

@@ -1,6 +1,6 @@
 -- How the items of an iterator over owners are seen.
 use Rattle.std.specs.Prelude.{ℕ, Option}
-use Rattle.domain_base.specs.Words.{Name}
+use Rattle.domain_names.specs.Words.{Name}
 use Rattle.domain_zone.specs.Owners.{OwnerRecords}
 use Rattle.domain_zone.specs.View.{zone_of}
 use Rattle.domain_zone.specs.declared.owners.UnoccludedOwner.{UnoccludedOwner}

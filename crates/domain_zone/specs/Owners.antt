@@ -1,6 +1,6 @@
 -- The owners of a zone that are not occluded, each with its records and whether it is a zone cut.
 use Rattle.std.specs.Prelude.{Bool, List, map}
-use Rattle.domain_base.specs.Words.{Name}
+use Rattle.domain_names.specs.Words.{Name}
 use Rattle.domain_zone.specs.Zone.{ZoneRecord, is_zone_cut, records_of, unoccluded_owners}
 
 pub record OwnerRecords : Type 0 where

@@ -1,7 +1,7 @@
 -- How records are seen as a zone.
 use Rattle.std.specs.Prelude.{ℕ, List, map, Option}
 use Rattle.domain_record.specs.declared.record.Record.{Record}
-use Rattle.domain_base.specs.Words.{Name}
+use Rattle.domain_names.specs.Words.{Name}
 use Rattle.domain_zone.specs.Zone.{ZoneRecord}
 
 -- by how names are read, and by what data tell of their type and of the MINIMUM of an SOA

@@ -1,8 +1,8 @@
 //! What callers may take from definitions. A caller calls the law in its body.
 ghost use Rattle.std.specs.Prelude.{◌≡◌, List, true};
-ghost use Rattle.domain_base.specs.Name.{same_name};
-ghost use Rattle.domain_base.specs.Order.{before};
-ghost use Rattle.domain_base.specs.Words.{Name};
+ghost use Rattle.domain_names.specs.Name.{same_name};
+ghost use Rattle.domain_names.specs.Order.{before};
+ghost use Rattle.domain_names.specs.Words.{Name};
 ghost use Rattle.domain_record.specs.declared.record.Record.{Record};
 ghost use Rattle.domain_records.specs.Order.{IsInOrder};
 ghost use Rattle.domain_zone.specs.Covering.{matches, covers};

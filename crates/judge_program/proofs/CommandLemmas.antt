@@ -1,7 +1,7 @@
 -- The options of a command.
 use Rattle.std.proofs.Common.{◌≡◌, ◌<◌, ◌≤◌, ℕ, List, [], ◌∷◌, length, drop, take, ◌-◌, get_or, ap, sym, ◌∙◌, arith, Option, Some, None, IfNone}
 use Rattle.std.proofs.lemmas.List.{take_all}
-use Rattle.domain_base.specs.Words.{Tokens}
+use Rattle.domain_names.specs.Words.{Tokens}
 use Rattle.judge_program.specs.declared.shown.Shown.{Shown}
 use Rattle.judge_program.specs.Command.{LimitText, ShownText}
 

@@ -1,7 +1,7 @@
 -- Answers of names whose records were expanded from a wildcard.
 use Rattle.std.proofs.Common.{◌≡◌, ◌<◌, ◌≤◌, ℕ, ap, sym, ◌∙◌, Option, Ok, Err, arith}
-use Rattle.domain_base.specs.Words.{Name}
-use Rattle.domain_base.specs.Name.{lowered, wire_of}
+use Rattle.domain_names.specs.Words.{Name}
+use Rattle.domain_names.specs.Name.{lowered, wire_of}
 use Rattle.domain_nsec3.specs.Chain.{HashedLink}
 use Rattle.domain_nsec3.specs.Config.{hash_name}
 use Rattle.domain_checker.specs.HashedView.{HashedRecords, first_cover, first_match}

@@ -5,8 +5,8 @@ use Rattle.std.proofs.lemmas.Bool.{cond-false, cond-true, lt-ltb}
 use Rattle.std.proofs.lemmas.List.{append-nil}
 use Rattle.std.specs.Io.KnownBytes.{Appends, Keeps}
 use Rattle.domain_octets.specs.Words.{Octets}
-use Rattle.domain_base.specs.Words.{Name}
-use Rattle.domain_base.specs.Name.{lowered, wire_of, last_labels}
+use Rattle.domain_names.specs.Words.{Name}
+use Rattle.domain_names.specs.Name.{lowered, wire_of, last_labels}
 use Rattle.domain_nsec3.specs.Chain.{HashedLink}
 use Rattle.domain_nsec3.specs.Config.{hash_name}
 use Rattle.domain_checker.specs.HashedView.{HashedRecords, first_cover, first_match}

@@ -2,9 +2,9 @@
 use Rattle.std.proofs.Common.{◌≡◌, ◌<◌, ℕ, true, List, [], ◌++◌, length, nat_lt, ap, ◌∙◌, Some, append_assoc}
 use Rattle.std.proofs.lemmas.Bool.{cond-true, lt-ltb}
 use Rattle.domain_octets.specs.Words.{Octets}
-use Rattle.domain_base.specs.Words.{Name}
+use Rattle.domain_names.specs.Words.{Name}
 use Rattle.domain_nsec.specs.Chain.{Link}
-use Rattle.domain_base.specs.Name.{last_labels}
+use Rattle.domain_names.specs.Name.{last_labels}
 use Rattle.domain_answer.specs.ZoneAnswer.{wildcard_below}
 use Rattle.domain_answer.specs.declared.answer.Answer.{Answer}
 use Rattle.judge_program.specs.Why.{nsec_told, nsec_why, nsec_wildcard_told, rests_on_records, wildcard_count}

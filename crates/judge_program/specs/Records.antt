@@ -5,9 +5,9 @@ use Rattle.std.specs.Prelude.{Ok, Err, if◌then◌else◌}
 use Rattle.std.specs.List.{find, list_any}
 use Rattle.std.specs.Option.{is_some, option_map, option_to_list}
 use Rattle.domain_octets.specs.Words.{Octets}
-use Rattle.domain_base.specs.Name.{same_name, last_labels}
+use Rattle.domain_names.specs.Name.{same_name, last_labels}
 use Rattle.domain_base.specs.Types.{ds}
-use Rattle.domain_base.specs.Words.{Name}
+use Rattle.domain_names.specs.Words.{Name}
 use Rattle.domain_bitmap.specs.Blocks.{contains_type}
 use Rattle.domain_fields.specs.Layout.{octets_of}
 use Rattle.domain_chain_rdata.specs.Rdata.{nsec3 as nsec3_fields}

@@ -1,9 +1,9 @@
 -- The text of an answer about a name, and that of a fault.
 use Rattle.std.specs.Prelude.{ℕ, ◌++◌, codes}
 use Rattle.domain_octets.specs.Words.{Octets}
-use Rattle.domain_base.specs.Text.{name_text}
-use Rattle.domain_base.specs.Words.{Name}
-use Rattle.domain_base.specs.Name.{last_labels}
+use Rattle.domain_names.specs.Text.{name_text}
+use Rattle.domain_names.specs.Words.{Name}
+use Rattle.domain_names.specs.Name.{last_labels}
 use Rattle.domain_answer.specs.ZoneAnswer.{wildcard_below}
 use Rattle.domain_answer.specs.declared.answer.Answer.{Answer}
 use Rattle.domain_answer.specs.declared.answer.Answer.TheVariants as answers

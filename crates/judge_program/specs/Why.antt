@@ -5,7 +5,7 @@ use Rattle.std.specs.Prelude.{Ok, Err, if◌then◌else◌}
 use Rattle.std.specs.List.{find}
 use Rattle.std.specs.Option.{option_map}
 use Rattle.domain_octets.specs.Words.{Octets}
-use Rattle.domain_base.specs.Words.{Name}
+use Rattle.domain_names.specs.Words.{Name}
 use Rattle.domain_nsec.specs.Chain.{Link}
 use Rattle.domain_nsec3.specs.Chain.{HashedLink}
 use Rattle.domain_nsec3.specs.Config.{hash_name}
@@ -16,7 +16,7 @@ use Rattle.domain_checker.specs.HashedVerdict.{IsFirstRefusal}
 use Rattle.domain_checker.specs.Reading.{is_cover, is_match}
 use Rattle.domain_checker.specs.declared.hashed.Nsec3Found.{Nsec3Found}
 use Rattle.domain_answer.specs.Expansion.{closer_name}
-use Rattle.domain_base.specs.Name.{last_labels}
+use Rattle.domain_names.specs.Name.{last_labels}
 use Rattle.domain_answer.specs.ZoneAnswer.{wildcard_below}
 use Rattle.domain_answer.specs.declared.answer.Answer.{Answer}
 use Rattle.domain_answer.specs.declared.answer.Answer.TheVariants as answers

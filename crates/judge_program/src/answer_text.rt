@@ -1,6 +1,6 @@
 //! Answers as they are printed.
 ghost use Rattle.std.specs.Prelude.{◌≡◌, ◌++◌, Some, codes};
-ghost use Rattle.domain_base.specs.Name.{last_labels};
+ghost use Rattle.domain_names.specs.Name.{last_labels};
 ghost use Rattle.domain_answer.specs.ZoneAnswer.{wildcard_below};
 ghost use Rattle.judge_program.specs.Text.{answer_text, full_text};
 

@@ -11,10 +11,10 @@ use Rattle.std.specs.declared.cmp.Ordering.{Ordering}
 use Rattle.std.specs.declared.cmp.Ordering.TheVariants.{Less, Equal, Greater}
 use Rattle.domain_octets.proofs.StdLemmas.{or_none}
 use Rattle.std.proofs.lemmas.Bool.{and_parts}
-use Rattle.domain_base.specs.Laws.{same_name_equiv, same_name_ties}
-use Rattle.domain_base.specs.Name.{same_name}
-use Rattle.domain_base.specs.Order.{canonical_cmp}
-use Rattle.domain_base.specs.Words.{Name}
+use Rattle.domain_names.specs.Laws.{same_name_equiv, same_name_ties}
+use Rattle.domain_names.specs.Name.{same_name}
+use Rattle.domain_names.specs.Order.{canonical_cmp}
+use Rattle.domain_names.specs.Words.{Name}
 use Rattle.domain_borrowed.specs.Data.{RawRecord}
 use Rattle.lint_program.specs.Firsts.{group_cmp}
 use Rattle.lint_program.specs.Notes.{earlier, first_in, group_of, is_group, AreNoted, Found, Group, IsToldOf, Mark}

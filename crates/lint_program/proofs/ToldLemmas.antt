@@ -1,7 +1,7 @@
 -- What is told with parameters and without.
 use Rattle.std.proofs.Common.{◌≡◌, ◌⊎◌, ℕ, List, ◌++◌, refl, sym, ap, ◌∙◌, subst, append-nil, Option, Some, None}
 use Rattle.domain_octets.specs.Words.{Octets}
-use Rattle.domain_base.specs.Words.{Name, Tokens}
+use Rattle.domain_names.specs.Words.{Name, Tokens}
 use Rattle.domain_borrowed.specs.Data.{RawRecord}
 use Rattle.domain_nsec3.specs.View.{HasherAnswer}
 use Rattle.domain_hasher.specs.declared.error.Nsec3HashError.TheVariants as hash_error

@@ -1,8 +1,8 @@
 -- Names of an NSEC3 chain that hash alike, as they are told of the records of an input.
 use Rattle.std.specs.Prelude.{◌≡◌, ◌⊎◌, ℕ, List, [], ◌++◌, Option, Some, None, codes}
 use Rattle.domain_octets.specs.Words.{Octets}
-use Rattle.domain_base.specs.Text.{name_text}
-use Rattle.domain_base.specs.Words.{Name}
+use Rattle.domain_names.specs.Text.{name_text}
+use Rattle.domain_names.specs.Words.{Name}
 use Rattle.domain_alike.specs.Alike.{AreAlike, IsFirstRefusal, Pair}
 use Rattle.domain_dnssec.specs.AnyOrder.{AreMixed}
 use Rattle.domain_borrowed.specs.Data.{RawRecord, zone_of_raw}

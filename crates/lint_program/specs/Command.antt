@@ -1,7 +1,7 @@
 -- What the words after the program's name ask for, and which faults there are.
 use Rattle.std.specs.Prelude.{◌≡◌, ◌∷◌, [], Option, Some, None}
-use Rattle.domain_base.specs.Text.{NameText}
-use Rattle.domain_base.specs.Words.{Name, Token, Tokens}
+use Rattle.domain_names.specs.Text.{NameText}
+use Rattle.domain_names.specs.Words.{Name, Token, Tokens}
 use Rattle.denial_program.specs.Command.{Params, Spell}
 use Rattle.denial_program.specs.declared.fault.DenialFault.{DenialFault}
 use Rattle.denial_program.specs.declared.fault.DenialFault.TheVariants.{Usage, Read, Line}

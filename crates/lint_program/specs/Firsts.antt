@@ -3,8 +3,8 @@ use Rattle.std.specs.Prelude.{◌≡◌, List, option_map}
 use Rattle.std.specs.BTreeMap as tree
 use Rattle.std.specs.Ordering.{nat_cmp, ordering_then}
 use Rattle.std.specs.declared.cmp.Ordering.{Ordering}
-use Rattle.domain_base.specs.Order.{canonical_cmp}
-use Rattle.domain_base.specs.Words.{Name}
+use Rattle.domain_names.specs.Order.{canonical_cmp}
+use Rattle.domain_names.specs.Words.{Name}
 use Rattle.domain_borrowed.specs.Data.{RawRecord}
 use Rattle.lint_program.specs.Notes.{first_in, Group}
 use Rattle.lint_program.specs.declared.firsts.Firsts.{Firsts}

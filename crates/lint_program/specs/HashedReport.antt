@@ -1,7 +1,7 @@
 -- What is told of an input, with which names of its zone hash alike.
 use Rattle.std.specs.Prelude.{◌≡◌, ℕ, List, [], ◌∷◌, ◌++◌, Option, Some, None}
 use Rattle.domain_octets.specs.Words.{Octets}
-use Rattle.domain_base.specs.Words.{Name, Tokens}
+use Rattle.domain_names.specs.Words.{Name, Tokens}
 use Rattle.domain_alike.specs.Alike.{Pair}
 use Rattle.domain_borrowed.specs.Data.{RawRecord}
 use Rattle.domain_nsec3.specs.View.{HasherAnswer}

@@ -3,9 +3,9 @@ use Rattle.std.specs.Prelude.{◌≡◌, ◌≢◌, ◌⊎◌, ℕ, ◌==◌, Bo
 use Rattle.std.specs.Prelude.{◌∷◌, ◌++◌, length, Option, Some, None, IsSome, MatchOption}
 use Rattle.std.specs.Prelude.{if◌then◌else◌}
 use Rattle.std.specs.List.{find, list_any}
-use Rattle.domain_base.specs.Name.{is_at_or_below, same_name}
+use Rattle.domain_names.specs.Name.{is_at_or_below, same_name}
 use Rattle.domain_base.specs.Types as rtypes
-use Rattle.domain_base.specs.Words.{Name}
+use Rattle.domain_names.specs.Words.{Name}
 use Rattle.domain_borrowed.specs.Data.{RawRecord}
 use Rattle.lint_program.specs.Odd.{has_extras, shape_of, IsSuch}
 use Rattle.lint_program.specs.declared.notes.Note.{Note}

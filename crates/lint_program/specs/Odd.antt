@@ -3,7 +3,7 @@ use Rattle.std.specs.Prelude.{◌≡◌, ℕ, ◌-◌, ◌<◌, ◌==◌, Bool, 
 use Rattle.std.specs.List.{fold}
 use Rattle.domain_octets.specs.Words.{Octets}
 use Rattle.domain_base.specs.Types as rtypes
-use Rattle.domain_base.specs.Wire.{IsWire}
+use Rattle.domain_names.specs.Wire.{IsWire}
 use Rattle.lint_program.specs.declared.odd.Shape.{Shape}
 use Rattle.lint_program.specs.declared.odd.Shape.TheVariants.{OneName, Texts, LongAddress, Service, Certificate, Issuers, Whatever}
 

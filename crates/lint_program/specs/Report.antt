@@ -4,7 +4,7 @@ use Rattle.std.specs.Prelude.{◌++◌, All, codes, length, Option, Some, None, 
 use Rattle.std.specs.Fmt.{decimal}
 use Rattle.domain_octets.specs.Words.{Octets}
 use Rattle.domain_octets.specs.Characters.{space, tilde}
-use Rattle.domain_base.specs.Words.{Name}
+use Rattle.domain_names.specs.Words.{Name}
 use Rattle.domain_borrowed.specs.Data.{RawRecord}
 use Rattle.denial_program.specs.Answer.{HasNoNsecs, IsNsecs}
 use Rattle.denial_program.specs.Fault.{IsOfRecords}

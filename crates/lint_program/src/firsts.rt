@@ -1,6 +1,6 @@
 //! The first record of each group.
 ghost use Rattle.std.specs.Prelude.{◌≡◌, List, [], ◌∷◌, ◌++◌, OnOk, option_map};
-ghost use Rattle.domain_base.specs.Words.{Name};
+ghost use Rattle.domain_names.specs.Words.{Name};
 ghost use Rattle.domain_borrowed.specs.Data.{RawRecord};
 ghost use Rattle.lint_program.specs.Firsts.{AreFirsts};
 ghost use Rattle.lint_program.specs.Notes.{group_of, first_in};

@@ -1,6 +1,6 @@
 //! Data that records may have and seldom are meant to.
 ghost use Rattle.std.specs.Prelude.{◌≡◌, ◌↔◌, IsTrue};
-ghost use Rattle.domain_base.specs.Wire.{IsWire};
+ghost use Rattle.domain_names.specs.Wire.{IsWire};
 ghost use Rattle.lint_program.specs.Odd.{has_extras, shape_of, AreTexts, IsSuch};
 
 use domain_base::{Name, Rtype};

@@ -1,9 +1,9 @@
 //! Names in the canonical order, for a map's keys.
 ghost use Rattle.std.specs.Prelude.{◌≡◌, Some, refl};
 ghost use Rattle.std.specs.Cmp.{partial_equiv_from_equiv};
-ghost use Rattle.domain_base.specs.Laws.{canonical_po, same_name_equiv, same_name_ties};
-ghost use Rattle.domain_base.specs.Name.{same_name};
-ghost use Rattle.domain_base.specs.Order.{canonical_cmp, canonical_cmp_total};
+ghost use Rattle.domain_names.specs.Laws.{canonical_po, same_name_equiv, same_name_ties};
+ghost use Rattle.domain_names.specs.Name.{same_name};
+ghost use Rattle.domain_names.specs.Order.{canonical_cmp, canonical_cmp_total};
 
 use domain_base::{ParsedName, ToName};
 use std::cmp::Ordering;
@@ -17,7 +17,7 @@ pub struct OrderedName<'a> {
 }
 
 impl<'a> Model for OrderedName<'a> {
-    ghost use Rattle.domain_base.specs.Words.{Name};
+    ghost use Rattle.domain_names.specs.Words.{Name};
 
     ghost Value = { Name };
 

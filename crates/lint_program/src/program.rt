@@ -5,7 +5,7 @@ ghost use Rattle.std.specs.Io.KnownBytes.{Appends};
 ghost use Rattle.domain_octets.specs.Words.{Octets};
 ghost use Rattle.denial_program.specs.Fault.{IsBeforeOutput, IsReadToEnd};
 ghost use Rattle.denial_program.specs.declared.fault.DenialFault.TheVariants.{OutOfMemory as Memory};
-ghost use Rattle.domain_base.specs.Words.{Name};
+ghost use Rattle.domain_names.specs.Words.{Name};
 ghost use Rattle.domain_borrowed.specs.Data.{RawRecord};
 ghost use Rattle.domain_records.specs.declared.error.SigningError.{SigningError};
 ghost use Rattle.denial_program.specs.Command.{Params};

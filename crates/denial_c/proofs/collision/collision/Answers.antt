@@ -10,25 +10,25 @@ use Rattle.denial_c.proofs.ChainLemmas.{is_sorted}
 use Rattle.denial_c.proofs.CollisionLemmas.{first_pair_of}
 use Rattle.denial_c.proofs.collision.collision.Goals as goal
 
-pub returns-in-Ok-Some : goal.returns-in-Ok-Some
-returns-in-Ok-Some c =
-    let sorted = c.in-Ok-sorted_zone.sorted.items in
+pub returns : goal.returns
+returns c =
+    let sorted = c.in_ok-sorted.sorted.items in
     let config = hashed_config c.args.hashing.iterations c.args.hashing.salt.now c.args.hashing.opt_out c.args.options.assume_dnskeys_will_be_added
     c.args.options.occlude_below_dname in
-    let made_with = c.in-Ok-config_with in
+    let made_with = c.in_ok-config in
     let a = c.in-Ok.apex in
     let zone = is_sorted c.args.apex.now c.args.class c.from_int-class.result c.args.records.now a sorted c.in-Ok.ensures.ok c.from_int-class.ensures
-    c.in-Ok-sorted_zone.ensures.sorts c.in-Ok-sorted_zone.ensures.one_class in
-    let pair = pair_of c.in-Ok-Some.alike in
+    c.in_ok-sorted.ensures.sorts c.in_ok-sorted.ensures.one_class in
+    let pair = pair_of c.in-Some.alike in
     let first = subst (λ (xs : List RawRecord). IsFirstPair (zone_of_raw xs) a config (Some pair)) c.deref.ensures.value
     (subst (λ (k : ChainConfig). IsFirstPair (zone_of_raw c.deref.result.now) a k (Some pair)) made_with.ensures.ok
     (subst (λ (o : Option Alike). IsFirstPair (zone_of_raw c.deref.result.now) a (config_of sha1_answer made_with.config)
-    (option_map pair_of o)) c.in-Ok-Some.field-0-is c.in-Ok-Some.ensures.ok)) in (
+    (option_map pair_of o)) c.in-Some.is c.in_ok-alike.ensures.ok)) in (
       made_with.ensures.fits,
       (
         pair,
         first_pair_of c.args.apex.now c.args.class config c.args.records.now a sorted zone (Some pair) first,
         c.write_lowered.ensures,
-        c.write_lowered-in-Ok-Some.ensures,
+        c.write_lowered-2.ensures,
       ),
     )

@@ -2,7 +2,7 @@ use Rattle.std.proofs.Common.{◌≡◌, true, false, ap, Err, refl, sym, subst}
 use Rattle.std.proofs.lemmas.Result.{err_from_is_err_and}
 use Rattle.domain_answer.specs.Expansion.{closer_name, is_expanded, ExpansionRestsOn, IsExpansionAnswered, IsExpansionRead}
 use Rattle.domain_answer.specs.declared.answer.Answer.TheVariants.{OutsideZone, NotProven, TooManyIterations}
-use Rattle.domain_base.specs.Name.{is_at_or_below}
+use Rattle.domain_names.specs.Name.{is_at_or_below}
 use Rattle.domain_nsec3.specs.Config.{hash_name}
 use Rattle.denial_c.specs.Judged.{IsExpansionRefused}
 use Rattle.denial_c.specs.Question.{as_question}

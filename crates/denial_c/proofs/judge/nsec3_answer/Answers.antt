@@ -5,7 +5,7 @@ use Rattle.domain_answer.specs.HashedReading.{IsFirstOfRefusals, IsHashedRead}
 use Rattle.domain_answer.specs.Proved.{needs_no_records}
 use Rattle.domain_answer.specs.ZoneAnswer.{is_at_parent}
 use Rattle.domain_answer.specs.declared.answer.Answer.TheVariants.{OutsideZone, AtParent, TooManyIterations}
-use Rattle.domain_base.specs.Name.{is_at_or_below}
+use Rattle.domain_names.specs.Name.{is_at_or_below}
 use Rattle.denial_c.specs.Judged.{IsAnswerRefused}
 use Rattle.denial_c.specs.Question.{as_question}
 use Rattle.denial_c.specs.Result.{sha1_records, source_of}

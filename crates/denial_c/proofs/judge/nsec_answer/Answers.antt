@@ -1,4 +1,5 @@
 use Rattle.std.proofs.Common.{◌≡◌, sym, subst}
+use Rattle.std.proofs.lemmas.Result.{err_from_is_err_and}
 use Rattle.domain_answer.specs.Proved.{IsAnswered}
 use Rattle.domain_answer.specs.Reading.{reading}
 use Rattle.domain_nsec.specs.ChainView.{links_of}
@@ -7,18 +8,19 @@ use Rattle.denial_c.specs.Judged.{IsNsecsFault}
 use Rattle.denial_c.proofs.JudgeLemmas.{nsecs_fault}
 use Rattle.denial_c.proofs.judge.nsec_answer.Goals as goal
 
-pub returns-in-Err : goal.returns-in-Err
-returns-in-Err c =
-    nsecs_fault c.args.apex.now c.args.name.now c.args.rtype c.args.class c.args.records.now (c.in_ok-apex.apex, c.in_ok-apex.ensures.ok)
-    (c.in_ok-name.name, c.in_ok-name.ensures.ok) c.in-Err.fault
-    (subst (λ n. IsNsecsFault n c.args.records.now c.in-Err.fault) c.from_int.ensures c.in-Err.ensures.err)
+pub returns-in_err-nsecs : goal.returns-in_err-nsecs
+returns-in_err-nsecs c =
+    let p = err_from_is_err_and c.from_residual-in_err-nsecs.result c.from_residual-in_err-nsecs.ensures.1 in
+    rw (p.1, p.2) (nsecs_fault c.args.apex.now c.args.name.now c.args.rtype c.args.class c.args.records.now (c.in_ok-apex.apex, c.in_ok-apex.ensures.ok)
+    (c.in_ok-name.name, c.in_ok-name.ensures.ok) c.in_err-nsecs.field-0.0
+    (subst (λ n. IsNsecsFault n c.args.records.now c.in_err-nsecs.field-0.0) c.from_int.ensures c.in_err-nsecs.ensures.err))
 
 pub returns : goal.returns
 returns c =
     let a = c.in_ok-apex.apex in
     let x = c.in_ok-name.name in
     let links = links_of (λ n. n) c.deref.result.now in
-    let listed = subst (λ items. AreNsecs c.from_int.result c.args.records.now (links_of (λ n. n) items)) (sym c.deref.ensures.value) c.in-Ok.ensures.ok in
+    let listed = subst (λ items. AreNsecs c.from_int.result c.args.records.now (links_of (λ n. n) items)) (sym c.deref.ensures.value) c.in_ok-nsecs.ensures.ok in
     record {
       a = a;
       x = x;

@@ -1,15 +1,16 @@
 use Rattle.std.proofs.Common.{[], Err, sym, subst}
+use Rattle.std.proofs.lemmas.Result.{err_from_is_err_and}
 use Rattle.domain_checker.specs.HandedIn.{HasRead}
 use Rattle.denial_c.specs.Among.{AreNsecs}
 use Rattle.denial_c.specs.Result.{IsNsecResult}
 use Rattle.denial_c.proofs.nsec.nsec_verdict.Goals as goal
 
-pub returns-in-Ok : goal.returns-in-Ok
-returns-in-Ok c =
+pub returns : goal.returns
+returns c =
     let a = c.in_ok-apex.apex in
     let x = c.in_ok-name.name in
     let t = c.args.rtype in
-    let handed = c.in-Ok.ensures.ok in
+    let handed = c.in_ok-hand_in.ensures.ok in
     let links = handed.0 in
     let asked : HasRead a x t [] c.new-check.result = subst (λ n. HasRead a x n [] c.new-check.result) c.from_int.ensures c.new-check.ensures in
     let read : HasRead a x t links c.hand_in.new.check = handed.2 a x t [] asked in
@@ -28,10 +29,11 @@ returns-in-Ok c =
       within = c.verdict.ensures.within a x t links read;
     }
 
-pub returns-in-Err : goal.returns-in-Err
-returns-in-Err c =
-    subst (λ e. IsNsecResult c.args.apex.now c.args.name.now c.args.rtype c.args.class c.args.records.now (Err e)) (sym c.in-Err.ensures.err.0) (
+pub returns-in_err-hand_in : goal.returns-in_err-hand_in
+returns-in_err-hand_in c =
+    let p = err_from_is_err_and c.from_residual-in_err-hand_in.result c.from_residual-in_err-hand_in.ensures.1 in
+    rw (p.1, p.2) (subst (λ e. IsNsecResult c.args.apex.now c.args.name.now c.args.rtype c.args.class c.args.records.now (Err e)) (sym c.in_err-hand_in.ensures.err.0) (
       (c.in_ok-apex.apex, c.in_ok-apex.ensures.ok),
       (c.in_ok-name.name, c.in_ok-name.ensures.ok),
-      λ links are. c.in-Err.ensures.err.1 links (subst (λ n. AreNsecs n c.args.records.now links) (sym c.from_int-2.ensures) are),
-    )
+      λ links are. c.in_err-hand_in.ensures.err.1 links (subst (λ n. AreNsecs n c.args.records.now links) (sym c.from_int-2.ensures) are),
+    ))

@@ -1,7 +1,7 @@
 use Rattle.std.proofs.Common.{◌≡◌, ℕ, List, [], ◌++◌, refl, sym, ◌∙◌, append-nil}
-use Rattle.domain_base.specs.Fault.{Fault, NameFault, WholeNameFault, in_name, trailing}
-use Rattle.domain_base.specs.Name.{wire_of, IsName}
-use Rattle.domain_base.specs.Words.{Name}
+use Rattle.domain_names.specs.Fault.{Fault, NameFault, WholeNameFault, in_name, trailing}
+use Rattle.domain_names.specs.Name.{wire_of, IsName}
+use Rattle.domain_names.specs.Words.{Name}
 use Rattle.denial_c.specs.Result.{Spells}
 use Rattle.denial_c.proofs.nsec.read_name.Goals as goal
 

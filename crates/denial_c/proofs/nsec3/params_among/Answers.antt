@@ -1,6 +1,6 @@
 use Rattle.std.proofs.Common.{◌≡◌, ◌&&◌, [], ap, length, sym, ◌∙◌, subst, map, ◌∷◌, arith}
 use Rattle.std.proofs.lemmas.List.{map-append}
-use Rattle.domain_base.specs.Name.{same_name}
+use Rattle.domain_names.specs.Name.{same_name}
 use Rattle.domain_nsec3.specs.View.{as_param_record}
 use Rattle.domain_borrowed.specs.Links.{param_record, IsParam}
 use Rattle.denial_c.specs.Among.{is_param}

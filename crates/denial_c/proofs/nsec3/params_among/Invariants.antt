@@ -1,5 +1,5 @@
 use Rattle.std.proofs.Common.{length, map, ◌&&◌}
-use Rattle.domain_base.specs.Name.{same_name}
+use Rattle.domain_names.specs.Name.{same_name}
 use Rattle.domain_base.specs.Types as rtypes
 use Rattle.domain_nsec3.specs.View.{as_param_record}
 use Rattle.domain_borrowed.specs.Links.{param_record, IsParam}

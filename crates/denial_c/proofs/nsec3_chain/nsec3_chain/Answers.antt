@@ -1,4 +1,5 @@
 use Rattle.std.proofs.Common.{◌≡◌, ◌<◌, List, length, refl, subst, IfErr, IfOk}
+use Rattle.std.proofs.lemmas.Result.{err_from_is_err_and}
 use Rattle.domain_borrowed.specs.Data.{RawRecord, zone_of_raw}
 use Rattle.domain_nsec3.specs.Chain.{IsChainParam, IsHashedChain}
 use Rattle.domain_nsec3.specs.Config.{ChainConfig}
@@ -8,35 +9,37 @@ use Rattle.denial_c.specs.declared.chain_fault.ChainFault.TheVariants.{ShortBuff
 use Rattle.denial_c.proofs.ChainLemmas.{chain_result, is_sorted, nsec3_fault, nsec3_made}
 use Rattle.denial_c.proofs.nsec3_chain.nsec3_chain.Goals as goal
 
-pub returns-in-Err-sorted_nsec3s : goal.returns-in-Err-sorted_nsec3s
-returns-in-Err-sorted_nsec3s c =
-    let sorted = c.in-Ok-sorted_zone.sorted.items in
+pub returns-in_err-octets : goal.returns-in_err-octets
+returns-in_err-octets c =
+    let sorted = c.in_ok-sorted.sorted.items in
     let config = hashed_config c.args.hashing.iterations c.args.hashing.salt.now c.args.hashing.opt_out c.args.options.assume_dnskeys_will_be_added
     c.args.options.occlude_below_dname in
-    let made_with = c.in-Ok-config_with in
+    let made_with = c.in_ok-config in
     let zone = is_sorted c.args.apex.now c.args.class c.from_int-class.result c.args.records.now c.in-Ok.apex sorted c.in-Ok.ensures.ok c.from_int-class.ensures
-    c.in-Ok-sorted_zone.ensures.sorts c.in-Ok-sorted_zone.ensures.one_class in (
+    c.in_ok-sorted.ensures.sorts c.in_ok-sorted.ensures.one_class in
+    let p = err_from_is_err_and c.from_residual-in_err-octets.result c.from_residual-in_err-octets.ensures.1 in
+    rw (p.1, p.2) (
       nsec3_fault c.args.apex.now c.args.class config c.args.records.now made_with.ensures.fits c.in-Ok.apex sorted c.args.buffer.now zone
-          c.from_int-class.result c.from_int-class.ensures c.in-Err-sorted_nsec3s.fault
+          c.from_int-class.result c.from_int-class.ensures c.in_err-octets.field-0.0
           (subst (λ (xs : List RawRecord). IsSortedNsec3Fault c.from_int-class.result c.args.records.now xs c.in-Ok.apex config
-          c.in-Err-sorted_nsec3s.fault) c.deref.ensures.value
+          c.in_err-octets.field-0.0) c.deref.ensures.value
           (subst (λ (k : ChainConfig). IsSortedNsec3Fault c.from_int-class.result c.args.records.now c.deref.result.now c.in-Ok.apex k
-          c.in-Err-sorted_nsec3s.fault) made_with.ensures.ok
-          c.in-Err-sorted_nsec3s.ensures.err)),
+          c.in_err-octets.field-0.0) made_with.ensures.ok
+          c.in_err-octets.ensures.err)),
       refl,
     )
 
 pub returns : goal.returns
 returns c =
-    let sorted = c.in-Ok-sorted_zone.sorted.items in
+    let sorted = c.in_ok-sorted.sorted.items in
     let config = hashed_config c.args.hashing.iterations c.args.hashing.salt.now c.args.hashing.opt_out c.args.options.assume_dnskeys_will_be_added
     c.args.options.occlude_below_dname in
-    let made_with = c.in-Ok-config_with in
+    let made_with = c.in_ok-config in
     let a = c.in-Ok.apex in
     let zone = is_sorted c.args.apex.now c.args.class c.from_int-class.result c.args.records.now a sorted c.in-Ok.ensures.ok c.from_int-class.ensures
-    c.in-Ok-sorted_zone.ensures.sorts c.in-Ok-sorted_zone.ensures.one_class in
-    let made = c.in-Ok-sorted_nsec3s.ensures.ok in
-    let octets = c.in-Ok-sorted_nsec3s.octets.items in
+    c.in_ok-sorted.ensures.sorts c.in_ok-sorted.ensures.one_class in
+    let made = c.in_ok-octets.ensures.ok in
+    let octets = c.in_ok-octets.octets.items in
     let old = c.args.buffer.now in
     let new = c.write_octets.new.buffer in
     let chain = subst (λ (xs : List RawRecord). IsHashedChain (zone_of_raw xs) a config made.0.links) c.deref.ensures.value

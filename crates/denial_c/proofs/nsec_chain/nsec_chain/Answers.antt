@@ -1,4 +1,5 @@
 use Rattle.std.proofs.Common.{◌≡◌, ◌<◌, List, length, refl, subst, IfErr, IfOk}
+use Rattle.std.proofs.lemmas.Result.{err_from_is_err_and}
 use Rattle.domain_borrowed.specs.Data.{RawRecord, zone_of_raw}
 use Rattle.domain_nsec.specs.Chain.{IsChain}
 use Rattle.denial_c.specs.Chains.{nsec_asking, IsSortedNsecFault, IsWritten}
@@ -6,26 +7,28 @@ use Rattle.denial_c.specs.declared.chain_fault.ChainFault.TheVariants.{ShortBuff
 use Rattle.denial_c.proofs.ChainLemmas.{chain_result, is_sorted, nsec_fault, nsec_made}
 use Rattle.denial_c.proofs.nsec_chain.nsec_chain.Goals as goal
 
-pub returns-in-Err-sorted_nsecs : goal.returns-in-Err-sorted_nsecs
-returns-in-Err-sorted_nsecs c =
-    let sorted = c.in-Ok-sorted_zone.sorted.items in
+pub returns-in_err-octets : goal.returns-in_err-octets
+returns-in_err-octets c =
+    let sorted = c.in_ok-sorted.sorted.items in
     let zone = is_sorted c.args.apex.now c.args.class c.from_int-class.result c.args.records.now c.in-Ok.apex sorted c.in-Ok.ensures.ok c.from_int-class.ensures
-    c.in-Ok-sorted_zone.ensures.sorts c.in-Ok-sorted_zone.ensures.one_class in (
+    c.in_ok-sorted.ensures.sorts c.in_ok-sorted.ensures.one_class in
+    let p = err_from_is_err_and c.from_residual-in_err-octets.result c.from_residual-in_err-octets.ensures.1 in
+    rw (p.1, p.2) (
       nsec_fault c.args.apex.now c.args.class c.args.config.now c.args.records.now c.in-Ok.apex sorted c.args.buffer.now zone
-          c.from_int-class.result c.from_int-class.ensures c.in-Err-sorted_nsecs.fault
+          c.from_int-class.result c.from_int-class.ensures c.in_err-octets.field-0.0
           (subst (λ (xs : List RawRecord). IsSortedNsecFault c.from_int-class.result c.args.records.now xs c.in-Ok.apex c.args.config.now
-          c.in-Err-sorted_nsecs.fault) c.deref.ensures.value
-          c.in-Err-sorted_nsecs.ensures.err),
+          c.in_err-octets.field-0.0) c.deref.ensures.value
+          c.in_err-octets.ensures.err),
       refl,
     )
 
 pub returns : goal.returns
 returns c =
-    let sorted = c.in-Ok-sorted_zone.sorted.items in
+    let sorted = c.in_ok-sorted.sorted.items in
     let zone = is_sorted c.args.apex.now c.args.class c.from_int-class.result c.args.records.now c.in-Ok.apex sorted c.in-Ok.ensures.ok c.from_int-class.ensures
-    c.in-Ok-sorted_zone.ensures.sorts c.in-Ok-sorted_zone.ensures.one_class in
-    let made = c.in-Ok-sorted_nsecs.ensures.ok in
-    let octets = c.in-Ok-sorted_nsecs.octets.items in
+    c.in_ok-sorted.ensures.sorts c.in_ok-sorted.ensures.one_class in
+    let made = c.in_ok-octets.ensures.ok in
+    let octets = c.in_ok-octets.octets.items in
     let old = c.args.buffer.now in
     let new = c.write_octets.new.buffer in
     chain_result (nsec_asking c.args.apex.now c.args.class c.args.config.now c.args.records.now) c.args.apex.now c.args.class c.args.records.now

@@ -1,5 +1,6 @@
 use Rattle.std.proofs.Common.{[], ◌∷◌, inl, refl, subst, None}
-use Rattle.domain_base.specs.Scan.{RefusesToken, scan_fault_of}
+use Rattle.domain_names.specs.TextFault.{scan_fault_of}
+use Rattle.domain_base.specs.Scan.{RefusesToken}
 use Rattle.domain_base.proofs.RefusalLemmas.{token_excludes}
 use Rattle.domain_bitmap.specs.HashScan.{SaltTokenFault}
 use Rattle.domain_bitmap.specs.HashText.{SaltText}

@@ -1,6 +1,6 @@
 use Rattle.std.proofs.Common.{◌&&◌, List, inl, inr, map, refl, sym, ap, subst}
 use Rattle.domain_octets.proofs.StdLemmas.{if_err_of}
-use Rattle.domain_base.specs.Words.{Name}
+use Rattle.domain_names.specs.Words.{Name}
 use Rattle.domain_nsec3.specs.View.{config_of}
 use Rattle.domain_borrowed.specs.Data.{zone_of_raw}
 use Rattle.domain_alike.specs.Alike.{pair_of, IsFirstRefusal}

@@ -3,8 +3,8 @@ use Rattle.domain_borrowed.specs.Data.{zone_of_raw}
 use Rattle.domain_alike.proofs.AlikeLemmas.{first_of_pairs}
 use Rattle.domain_alike.proofs.alike.first_alike.Goals as goal
 
-pub returns-in-Ok-clause-ok : goal.returns-in-Ok-clause-ok
-returns-in-Ok-clause-ok g c =
+pub returns-clause-ok : goal.returns-clause-ok
+returns-clause-ok g c =
     first_of_pairs (zone_of_raw c.args.sorted.now) c.args.apex.now
-    (config_of (g.H.Nsec3Hasher.answer c.args.hasher.now) c.args.config.now) c.in-Ok.pairs.items c.first_of.result c.first_of.ensures
-    c.in-Ok.ensures.ok
+    (config_of (g.H.Nsec3Hasher.answer c.args.hasher.now) c.args.config.now) c.in_ok-pairs.pairs.items c.first_of.result c.first_of.ensures
+    c.in_ok-pairs.ensures.ok

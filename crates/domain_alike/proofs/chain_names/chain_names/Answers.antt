@@ -1,8 +1,8 @@
 use Rattle.std.proofs.Common.{◌≡◌, ◌∙◌, true, sym, subst}
 use Rattle.std.specs.Prelude.{All}
 use Rattle.std.specs.List.Sorted.{IsStrictlySortedBy}
-use Rattle.domain_base.specs.Name.{is_at_or_below}
-use Rattle.domain_base.specs.Order.{canonical_cmp}
+use Rattle.domain_names.specs.Name.{is_at_or_below}
+use Rattle.domain_names.specs.Order.{canonical_cmp}
 use Rattle.domain_borrowed.specs.Data.{minimum_of, zone_of_raw}
 use Rattle.domain_zone.proofs.GroupLemmas.{owners_in_order}
 use Rattle.domain_alike.specs.Covered.{covered_names}

@@ -1,5 +1,5 @@
 use Rattle.std.proofs.Common.{◌∙◌, ◌≤◌, ◌++◌, arith, drop, length, subst}
-use Rattle.domain_base.specs.Name.{wire_of}
+use Rattle.domain_names.specs.Name.{wire_of}
 use Rattle.domain_alike.proofs.lowered.write_lowered.Goals as goal
 
 pub slice_bounds-copy_from_slice-end : goal.slice_bounds-copy_from_slice-end

@@ -1,5 +1,5 @@
 use Rattle.std.proofs.Common.{ap, ◌∙◌}
-use Rattle.domain_base.specs.Order.{common_labels}
+use Rattle.domain_names.specs.Order.{common_labels}
 use Rattle.domain_nsec.specs.ChainView.{as_link}
 use Rattle.domain_answer.proofs.FoundLemmas.{longer_is}
 use Rattle.domain_answer.proofs.listed.cover_of.Goals as goal

@@ -1,7 +1,7 @@
 use Rattle.std.proofs.Common.{◌≡◌, false, not, sym, ap, ◌∙◌}
 use Rattle.std.specs.Ordering.{is_eq, is_gt, is_lt}
 use Rattle.std.proofs.lemmas.Bool.{false≢true, not-true, not-false}
-use Rattle.domain_base.specs.Order.{before, canonical_cmp}
+use Rattle.domain_names.specs.Order.{before, canonical_cmp}
 use Rattle.domain_answer.proofs.FoundLemmas.{after_both, ahead_of_both, ahead_of_next, at_owner, uncovered}
 use Rattle.domain_answer.proofs.listed.covered.Given.{Over}
 use Rattle.domain_answer.proofs.listed.covered.Goals as goal

@@ -1,6 +1,6 @@
 use Rattle.std.proofs.Common.{◌≡◌, false, ◌&&◌, sym, ap, ◌∙◌, arith}
 use Rattle.std.proofs.lemmas.Bool.{lt-leb}
-use Rattle.domain_base.specs.Name.{is_at_or_below}
+use Rattle.domain_names.specs.Name.{is_at_or_below}
 use Rattle.domain_nsec.specs.ChainView.{as_link}
 use Rattle.domain_answer.proofs.FoundLemmas.{below_by_shared, below_is}
 use Rattle.domain_answer.proofs.listed.shares_apex.Goals as goal

@@ -1,5 +1,5 @@
 use Rattle.std.proofs.Common.{◌≡◌, ◌<◌, false, cond, length, sym, ap, ◌∙◌, subst}
-use Rattle.domain_base.specs.Name.{is_strictly_below}
+use Rattle.domain_names.specs.Name.{is_strictly_below}
 use Rattle.domain_zone.specs.Enclosers.{longer, shared}
 use Rattle.domain_answer.specs.Found.{cover_link}
 use Rattle.domain_answer.specs.Reading.{absent_answer, cover_answer, owner_answer, tells_occluded}

@@ -1,6 +1,6 @@
 use Rattle.std.proofs.Common.{◌≡◌, length, sym, ap, ◌∙◌, inr}
 use Rattle.std.specs.Option.{option_map}
-use Rattle.domain_base.specs.Name.{last_labels}
+use Rattle.domain_names.specs.Name.{last_labels}
 use Rattle.domain_nsec3.specs.Config.{hash_name}
 use Rattle.domain_checker.specs.HashedEncloser.{encloser_of}
 use Rattle.domain_checker.specs.HashedView.{hash_with, hashed_records}
@@ -19,10 +19,10 @@ asked : (g : Over) (c : In-NoCloserName g) → IsAsked
 asked g c =
     let a = g.A.ToName.labels c.args.apex.now in
     let x = g.M.ToName.labels c.args.name.now in
-    let found = option_map (encloser_of g.N.ToName.labels) c.in-Ok.found in
+    let found = option_map (encloser_of g.N.ToName.labels) c.in_ok-found.found in
     let says : found_answer a found (length x) c.args.rtype ≡ NoCloserName c.in-NoCloserName.count =
     sym (c.found_answer.ensures ∙ ap (λ n. found_answer a found n c.args.rtype) c.count_labels.ensures.count) ∙ c.in-NoCloserName.is in
-    asked_below _ x c.args.rtype c.in-NoCloserName.count found c.in-Ok.ensures.found says
+    asked_below _ x c.args.rtype c.in-NoCloserName.count found c.in_ok-found.ensures.found says
 
 pub read_wildcard-requires : goal.read_wildcard-requires
 read_wildcard-requires g c = (asked g (goal.at.read_wildcard-requires g c).In-NoCloserName).less

@@ -1,5 +1,5 @@
 use Rattle.std.proofs.Common.{sym, subst, ap, ◌∙◌, arith}
-use Rattle.domain_base.specs.Wire.{labels_of, IsWire}
+use Rattle.domain_names.specs.Wire.{labels_of, IsWire}
 use Rattle.domain_answer.proofs.WildcardLemmas.{IsWildcardWire, wildcard_wire}
 use Rattle.domain_answer.proofs.wildcard.wildcard_below.Given.{Over}
 use Rattle.domain_answer.proofs.wildcard.wildcard_below.Goals as goal

@@ -1,4 +1,4 @@
-use Rattle.domain_base.proofs.FaultLemmas.{no_name_fault, one_reading}
+use Rattle.domain_names.proofs.FaultLemmas.{no_name_fault, one_reading}
 use Rattle.domain_base.proofs.laws.octets_begin_with_one_name.Goals as goal
 
 pub returns : goal.returns

@@ -1,4 +1,4 @@
-use Rattle.domain_base.proofs.SpellingLemmas.{one_name}
+use Rattle.domain_names.proofs.SpellingLemmas.{one_name}
 use Rattle.domain_base.proofs.laws.texts_spell_one_name.Goals as goal
 
 pub returns : goal.returns

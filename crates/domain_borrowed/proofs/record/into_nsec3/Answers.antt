@@ -1,5 +1,5 @@
 use Rattle.std.proofs.Common.{◌∙◌, ap, sym, subst}
-use Rattle.domain_base.specs.Fault.{fault_of}
+use Rattle.domain_names.specs.Fault.{fault_of}
 use Rattle.domain_chain_rdata.specs.Nsec3Wire.{Nsec3Fault}
 use Rattle.domain_borrowed.specs.Data.{RawRecord}
 use Rattle.domain_borrowed.proofs.DataLemmas.{no_nsec3}

@@ -1,5 +1,5 @@
 use Rattle.std.proofs.Common.{◌∙◌, ap, arith, length, subst, sym}
-use Rattle.domain_base.specs.Fault.{fault_of}
+use Rattle.domain_names.specs.Fault.{fault_of}
 use Rattle.domain_fields.specs.Layout.{Begins, FirstFault}
 use Rattle.domain_chain_rdata.specs.Rdata.{nsec3param, nsec3param_values}
 use Rattle.domain_borrowed.specs.Data.{RawRecord}

@@ -1,5 +1,5 @@
 use Rattle.std.proofs.Common.{subst, ◌∙◌, ap}
-use Rattle.domain_base.specs.Name.{IsName}
+use Rattle.domain_names.specs.Name.{IsName}
 use Rattle.domain_bitmap.specs.Blocks.{IsBitmap}
 use Rattle.domain_fields.proofs.NameLemmas.{name_fits}
 use Rattle.domain_chain_rdata.proofs.ReadBackLemmas.{nsec_text_back, nsec_text_same}

@@ -1,5 +1,6 @@
 use Rattle.std.proofs.Common.{◌≡◌, ◌∙◌, sym, ap, inl, inr}
-use Rattle.domain_base.specs.Name.{lowered, wire_of}
+use Rattle.std.proofs.lemmas.Result.{err_from_is_err_and}
+use Rattle.domain_names.specs.Name.{lowered, wire_of}
 use Rattle.domain_checker.specs.HashedView.{hashed_records}
 use Rattle.domain_checker.proofs.HashedEncloserLemmas.{outside_unmatched}
 use Rattle.domain_checker.proofs.encloser.find_nsec3_encloser.Goals as goal
@@ -12,12 +13,14 @@ returns-then-not-ends_with-clause-found g c =
 pub walk-requires-clause-wire : goal.walk-requires-clause-wire
 walk-requires-clause-wire g c = c.lower_wire-lowered.ensures.octets ∙ ap (λ l. wire_of (lowered l)) (sym c.as_parsed.ensures)
 
-pub returns-in-Ok-clause-found : goal.returns-in-Ok-clause-found
-returns-in-Ok-clause-found g c = rw c.as_parsed.ensures at c.in-Ok.ensures.ok
+pub returns-clause-found : goal.returns-clause-found
+returns-clause-found g c = rw c.as_parsed.ensures at c.in_ok-walk.ensures.ok
 
-pub returns-in-Err-clause-refusal : goal.returns-in-Err-clause-refusal
-returns-in-Err-clause-refusal g c n e =
-    elim c.in-Err.ensures.err [
+pub returns-in_err-walk-clause-refusal : goal.returns-in_err-walk-clause-refusal
+returns-in_err-walk-clause-refusal g c n e =
+    let p = err_from_is_err_and c.from_residual.result c.from_residual.ensures.1 in
+    let is = rw (p.1, p.2) at e in
+    elim c.in_err-walk.ensures.err [
       | inl m ↦ absurd (cc)
       | inr r ↦
           let same : r.0 ≡ n = let q = r.1 in cc in

@@ -1,6 +1,6 @@
 use Rattle.std.proofs.Common.{◌≡◌, ◌<◌, ◌∙◌, true, sym, ap, subst}
 use Rattle.std.specs.Option.{option_map}
-use Rattle.domain_base.specs.Name.{is_at_or_below}
+use Rattle.domain_names.specs.Name.{is_at_or_below}
 use Rattle.domain_checker.specs.HashedEncloser.{found_verdict, encloser_of}
 use Rattle.domain_checker.specs.HashedReading.{IsWalked, WalksAreProved}
 use Rattle.domain_checker.specs.HashedView.{hashed_records}
@@ -16,9 +16,9 @@ walked : (g : Over) (c : After-found_verdict g) → IsWalked
 walked g c =
     let R = hashed_records (g.A.ToName.labels c.args.apex.now) g.N.ToName.labels (g.H.Nsec3Hasher.answer c.args.hasher.now) c.args.records.now in
     let x = g.M.ToName.labels c.args.name.now in
-    let found = option_map (encloser_of g.N.ToName.labels) c.in-Ok.found in
+    let found = option_map (encloser_of g.N.ToName.labels) c.in_ok-found.found in
     let says = c.found_verdict.ensures ∙ ap (λ n. found_verdict R.apex found n c.args.rtype) c.count_labels.ensures.count in
-    subst (IsWalked R x c.args.rtype) (sym says) (found_walked R x c.args.rtype found c.in-Ok.ensures.found)
+    subst (IsWalked R x c.args.rtype) (sym says) (found_walked R x c.args.rtype found c.in_ok-found.ensures.found)
 
 -- and what the records prove
 proved : (g : Over) (c : After-found_verdict g) → WalksAreProved
@@ -30,14 +30,14 @@ proved g c =
     sym c.ends_with.ensures.value ∙ c.if-not-ends_with.false in
     c.walks_are_proved.ensures _ _ _ _ bound low (walked g c)
 
-pub returns-in-Ok-clause-zone : goal.returns-in-Ok-clause-zone
-returns-in-Ok-clause-zone g c = (proved g (goal.at.returns-in-Ok-clause-zone g c).After-found_verdict).zone
+pub returns-clause-zone : goal.returns-clause-zone
+returns-clause-zone g c = (proved g (goal.at.returns-clause-zone g c).After-found_verdict).zone
 
-pub returns-in-Ok-clause-exact : goal.returns-in-Ok-clause-exact
-returns-in-Ok-clause-exact g c = λ low. walked g (goal.at.returns-in-Ok-clause-exact g c).After-found_verdict
+pub returns-clause-exact : goal.returns-clause-exact
+returns-clause-exact g c = λ low. walked g (goal.at.returns-clause-exact g c).After-found_verdict
 
-pub returns-in-Ok-clause-proof : goal.returns-in-Ok-clause-proof
-returns-in-Ok-clause-proof g c = λ low. (proved g (goal.at.returns-in-Ok-clause-proof g c).After-found_verdict).proof
+pub returns-clause-proof : goal.returns-clause-proof
+returns-clause-proof g c = λ low. (proved g (goal.at.returns-clause-proof g c).After-found_verdict).proof
 
-pub returns-in-Ok-clause-within : goal.returns-in-Ok-clause-within
-returns-in-Ok-clause-within g c = (proved g (goal.at.returns-in-Ok-clause-within g c).After-found_verdict).within
+pub returns-clause-within : goal.returns-clause-within
+returns-clause-within g c = (proved g (goal.at.returns-clause-within g c).After-found_verdict).within

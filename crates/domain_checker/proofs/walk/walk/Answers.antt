@@ -1,7 +1,7 @@
 use Rattle.std.proofs.Common.{◌≡◌, ◌∙◌, ◌+◌, ◌≤◌, length, drop, sym, ap, subst, inl, inr, None}
 use Rattle.std.specs.Option.{option_map}
 use Rattle.std.proofs.lemmas.Result.{err_from_is_err_and}
-use Rattle.domain_base.specs.Name.{lowered, wire_of}
+use Rattle.domain_names.specs.Name.{lowered, wire_of}
 use Rattle.domain_zone.proofs.NameLemmas.{below_itself}
 use Rattle.domain_nsec3.specs.View.{as_hashed_link}
 use Rattle.domain_checker.specs.HashedView.{HashedRecords, hashed_records}

@@ -1,6 +1,6 @@
 use Rattle.std.proofs.Common.{◌≡◌, length}
 use Rattle.std.specs.Option.{option_map}
-use Rattle.domain_base.specs.Name.{lowered, wire_of}
+use Rattle.domain_names.specs.Name.{lowered, wire_of}
 use Rattle.domain_nsec3.specs.View.{as_hashed_link}
 use Rattle.domain_checker.specs.HashedView.{hashed_records}
 use Rattle.domain_checker.proofs.HashedWalkLemmas.{IsMissed}

@@ -1,6 +1,6 @@
 use Rattle.std.proofs.Common.{◌≡◌, ◌+◌, ◌≤◌, ◌<◌, false, true, length, drop, refl, sym, ap, subst, ◌∙◌, inl, inr}
 use Rattle.std.proofs.lemmas.Result.{err_from_is_err_and}
-use Rattle.domain_base.specs.Name.{lowered, same_name, wire_of}
+use Rattle.domain_names.specs.Name.{lowered, same_name, wire_of}
 use Rattle.domain_checker.proofs.HashedWalkLemmas.{wire_above, wire_shorter}
 use Rattle.domain_checker.specs.HashedView.{links_with}
 use Rattle.domain_denier.proofs.PlacedLemmas.{IsAncestor, IsMissedAt, ancestor_above, ancestor_itself, hash_known, inside_at, missed_above, missed_here}

@@ -1,5 +1,5 @@
 use Rattle.std.proofs.Common.{◌≡◌, ◌<◌, List, length}
-use Rattle.domain_base.specs.Name.{lowered, wire_of}
+use Rattle.domain_names.specs.Name.{lowered, wire_of}
 use Rattle.domain_zone.specs.Zone.{ZoneRecord}
 use Rattle.domain_nsec3.specs.Config.{ChainConfig}
 use Rattle.domain_nsec3.specs.View.{hash_by}

@@ -1,5 +1,5 @@
 use Rattle.std.proofs.Common.{◌≡◌, false, sym, ap, ◌∙◌}
-use Rattle.domain_base.specs.Name.{same_name}
+use Rattle.domain_names.specs.Name.{same_name}
 use Rattle.domain_nsec.specs.ChainView.{as_link}
 use Rattle.domain_denier.proofs.JudgedLemmas.{both_at}
 use Rattle.domain_denier.proofs.judged.told_of_second.Goals as goal

@@ -1,5 +1,5 @@
 use Rattle.std.proofs.Common.{◌≡◌, ◌<◌, true, false, sym, ap, subst, ◌∙◌}
-use Rattle.domain_base.specs.Name.{is_at_or_below}
+use Rattle.domain_names.specs.Name.{is_at_or_below}
 use Rattle.domain_nsec3.specs.View.{hash_by}
 use Rattle.domain_answer.specs.ZoneAnswer.{is_at_parent}
 use Rattle.domain_denier.proofs.HashedDenyLemmas.{DenyLaws, denial_is, read_by, some_links}
@@ -19,8 +19,8 @@ returns-then-is_empty-clause-exact g c records L config whole =
     absurd (some_links L a config links whole.is (c.chains_mean_the_zone.ensures.enclosers L a config links whole.is)
     (c.names_exist.ensures.existing L a config) (c.is_empty.ensures.0 c.if-is_empty.true))
 
-pub returns-in-Ok-clause-denial : goal.returns-in-Ok-clause-denial
-returns-in-Ok-clause-denial g c L config whole asked =
+pub returns-clause-denial : goal.returns-clause-denial
+returns-clause-denial g c L config whole asked =
     let a = c.args.chain.now.param.owner in
     let x = g.M.ToName.labels c.args.name.now in
     let t = c.args.rtype in
@@ -41,5 +41,5 @@ returns-in-Ok-clause-denial g c L config whole asked =
       matches = c.hashes_tell_of_names.ensures.matches;
     } in
     let read =
-    read_by L config hash chain whole c.owner-apex.result.now apex x t c.in-Ok.denial (c.in-Ok.ensures.read L config whole) in
-    denial_is laws L config chain whole.leaves_out whole.is x t small low parent asked c.in-Ok.denial read
+    read_by L config hash chain whole c.owner-apex.result.now apex x t c.in_ok-deny_inside.field-0 (c.in_ok-deny_inside.ensures.read L config whole) in
+    denial_is laws L config chain whole.leaves_out whole.is x t small low parent asked c.in_ok-deny_inside.field-0 read

@@ -1,5 +1,6 @@
 use Rattle.std.proofs.Common.{◌≡◌, ◌<◌, ℕ, length, slice_get, Some, sym, subst, ◌∙◌, inl, inr}
-use Rattle.domain_base.specs.Name.{last_labels}
+use Rattle.std.proofs.lemmas.Result.{err_from_is_err_and}
+use Rattle.domain_names.specs.Name.{last_labels}
 use Rattle.domain_nsec3.specs.Chain.{HashedLink}
 use Rattle.domain_answer.specs.declared.answer.Answer.TheVariants.{NoCloserName}
 use Rattle.domain_denier.specs.HashedPicked.{TellsOfName}
@@ -46,38 +47,39 @@ with_wildcard-requires-clause-counts g c =
     let k = known g at.Start in
     (asked g at.After-first_denial-first k.0 k.1 c.in-NoCloserName.count c.in-NoCloserName.is).less
 
-pub returns-in-Ok-clause-there : goal.returns-in-Ok-clause-there
-returns-in-Ok-clause-there g c place (inl e) =
-    let at = goal.at.returns-in-Ok-clause-there g c in
+pub returns-clause-there : goal.returns-clause-there
+returns-clause-there g c place (inl e) =
+    let at = goal.at.returns-clause-there g c in
     let k = known g at.Start in
-    let same = c.in-Ok.ensures.first in
+    let same = c.in_ok-with_wildcard.ensures.first in
     let told : TellsOfName c.first_denial-first.result place = elim e [
       | inl h ↦ inl (sym same.0 ∙ h)
       | inr h ↦ inr (sym same.1 ∙ h)
     ] in
     name_there c.args.chain.now.links c.args.apex.now _ c.args.encloser c.requires.inside k.0 _ c.args.rtype c.first_denial-first.result
     (first g at.After-first_denial-first k.0 k.1) place told
-returns-in-Ok-clause-there g c place (inr e) =
-    let w = c.in-Ok.ensures.wildcard in
+returns-clause-there g c place (inr e) =
+    let w = c.in_ok-with_wildcard.ensures.wildcard in
     let same : w.place ≡ place = let both : Some w.place ≡ Some place = sym w.role ∙ e in cc in
     subst (λ m. m < length c.args.chain.now.links) same w.inside
 
-pub returns-in-Ok-clause-read : goal.returns-in-Ok-clause-read
-returns-in-Ok-clause-read g c L config whole placed =
+pub returns-clause-read : goal.returns-clause-read
+returns-clause-read g c L config whole placed =
     let d = c.first_denial-first.result in
-    let said = first g (goal.at.returns-in-Ok-clause-read g c).After-first_denial-first placed.of.link placed.of.there in
-    let w = c.in-Ok.ensures.wildcard in
+    let said = first g (goal.at.returns-clause-read g c).After-first_denial-first placed.of.link placed.of.there in
+    let w = c.in_ok-with_wildcard.ensures.wildcard in
     let p = c.args.chain.now.param.parameters in
     let of = subst (λ o. IsOfHash o p c.args.chain.now.links w.value w.place w.is_match) (sym c.requires.apex) (w.of L config whole) in
-    wildcard_read _ _ c.args.encloser placed c.args.rtype d said c.in-NoCloserName.count c.in-NoCloserName.is c.in-Ok.denial
-    c.in-Ok.ensures.first.0 c.in-Ok.ensures.first.1 w.place w.role w.value w.known w.is_match of (w.answer of.link of.there)
+    wildcard_read _ _ c.args.encloser placed c.args.rtype d said c.in-NoCloserName.count c.in-NoCloserName.is c.in_ok-with_wildcard.field-0
+    c.in_ok-with_wildcard.ensures.first.0 c.in_ok-with_wildcard.ensures.first.1 w.place w.role w.value w.known w.is_match of (w.answer of.link of.there)
 
-pub returns-in-Err-clause-err : goal.returns-in-Err-clause-err
-returns-in-Err-clause-err g c =
-    let at = goal.at.returns-in-Err-clause-err g c in
+pub returns-in_err-with_wildcard-clause-err : goal.returns-in_err-with_wildcard-clause-err
+returns-in_err-with_wildcard-clause-err g c =
+    let at = goal.at.returns-in_err-with_wildcard-clause-err g c in
     let k = known g at.Start in
     let below = asked g at.After-first_denial-first k.0 k.1 c.in-NoCloserName.count c.in-NoCloserName.is in
-    elim c.in-Err.ensures.err [
+    let p = err_from_is_err_and c.from_residual.result c.from_residual.ensures.1 in
+    rw (p.1, p.2) (elim c.in_err-with_wildcard.ensures.err [
       | inl full ↦ inl full
       | inr r ↦ inr (
         r.0,
@@ -89,4 +91,4 @@ returns-in-Err-clause-err g c =
           refused = inr r.2;
         },
       )
-    ]
+    ])

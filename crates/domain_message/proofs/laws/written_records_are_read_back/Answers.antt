@@ -1,7 +1,7 @@
 use Rattle.std.proofs.Common.{[], ◌<◌, ◌^◌, subst, ap, ◌∙◌, rules}
 use Rattle.std.specs.Prelude.{IfSome}
 use Rattle.domain_octets.specs.Line.{words_of}
-use Rattle.domain_base.specs.Name.{IsName}
+use Rattle.domain_names.specs.Name.{IsName}
 use Rattle.domain_rdata.specs.Exact.{HasExactText}
 use Rattle.domain_rdata.specs.Scan.{RdataText}
 use Rattle.domain_rdata.specs.Zone.{data_text, rtype_of}

@@ -1,5 +1,5 @@
 use Rattle.std.proofs.Common.{◌<◌, ◌^◌, subst, ap, ◌∙◌, rules}
-use Rattle.domain_base.specs.Name.{IsName}
+use Rattle.domain_names.specs.Name.{IsName}
 use Rattle.domain_rdata.specs.Scan.{AreData}
 use Rattle.domain_rdata.specs.Zone.{rtype_of, wire_octets}
 use Rattle.domain_message.specs.Written.{HasExactWire}

@@ -1,6 +1,6 @@
 use Rattle.std.proofs.Common.{sym, ap, subst, ◌∙◌}
-use Rattle.domain_base.specs.Wire.{IsWire, labels_of}
-use Rattle.domain_base.proofs.WireLemmas.{IsWire-wire_of, labels_of-wire_of}
+use Rattle.domain_names.specs.Wire.{IsWire, labels_of}
+use Rattle.domain_names.proofs.WireLemmas.{IsWire-wire_of, labels_of-wire_of}
 use Rattle.domain_message.specs.Name.{NameAt}
 use Rattle.domain_message.proofs.name.read_name.Goals as goal
 

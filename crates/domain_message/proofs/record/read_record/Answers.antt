@@ -1,7 +1,7 @@
 use Rattle.std.proofs.Common.{refl, sym, ap, subst, ◌∙◌}
 use Rattle.std.proofs.lemmas.Result.{err_from_is_err_and}
-use Rattle.domain_base.specs.Wire.{IsWire, labels_of}
-use Rattle.domain_base.proofs.WireLemmas.{IsWire-wire_of, labels_of-wire_of}
+use Rattle.domain_names.specs.Wire.{IsWire, labels_of}
+use Rattle.domain_names.proofs.WireLemmas.{IsWire-wire_of, labels_of-wire_of}
 use Rattle.domain_rdata.specs.Zone.{kind_of}
 use Rattle.domain_message.specs.Header.{HeaderAt}
 use Rattle.domain_message.specs.Record.{in_header, in_data, in_octets, RefusesData, OctetsRefusal}

@@ -1,7 +1,8 @@
 use Rattle.std.proofs.Common.{List, refl, sym, ap, ◌∙◌, subst}
+use Rattle.std.proofs.lemmas.Result.{err_from_is_err_and}
 use Rattle.std.specs.List.Sorted.{IsStrictlySortedBy}
-use Rattle.domain_base.specs.Order.{canonical_cmp}
-use Rattle.domain_base.specs.Words.{Name}
+use Rattle.domain_names.specs.Order.{canonical_cmp}
+use Rattle.domain_names.specs.Words.{Name}
 use Rattle.domain_zone.specs.Enclosers.{is_empty_nonterminal}
 use Rattle.domain_zone.specs.Soa.{chain_ttl}
 use Rattle.domain_nsec3.specs.Ancestors.{IsListOf}
@@ -29,16 +30,18 @@ joined g c =
           ∙ entries_more c.args.owners.names.items c.args.owners.types empty c.requires.paired;
     }
 
-pub returns-in-Ok-clause-chain : goal.returns-in-Ok-clause-chain
-returns-in-Ok-clause-chain g c = λ L soa found os.
+pub returns-clause-chain : goal.returns-clause-chain
+returns-clause-chain g c = λ L soa found os.
     let p = common_of c.args.config.now.params (chain_ttl soa) in
-    outcome_chain os (joined g (goal.at.returns-in-Ok-clause-chain g c).In_ok-append) p found refl refl refl (c.in-Ok.ensures.chain p)
+    outcome_chain os (joined g (goal.at.returns-clause-chain g c).In_ok-append) p found refl refl refl (c.in_ok-hash_chain.ensures.chain p)
 
-pub returns-in-Ok-clause-hashed : goal.returns-in-Ok-clause-hashed
-returns-in-Ok-clause-hashed g c = λ L os.
-    outcome_hashed os (joined g (goal.at.returns-in-Ok-clause-hashed g c).In_ok-append)
-    (c.in-Ok.ensures.chain (common_of c.args.config.now.params 0))
+pub returns-clause-hashed : goal.returns-clause-hashed
+returns-clause-hashed g c = λ L os.
+    outcome_hashed os (joined g (goal.at.returns-clause-hashed g c).In_ok-append)
+    (c.in_ok-hash_chain.ensures.chain (common_of c.args.config.now.params 0))
 
-pub returns-in-Err-clause-fault : goal.returns-in-Err-clause-fault
-returns-in-Err-clause-fault g c = λ L os.
-    outcome_fault os (joined g (goal.at.returns-in-Err-clause-fault g c).In_ok-append) c.in-Err.error c.in-Err.ensures.fault
+pub returns-in_err-hash_chain-clause-fault : goal.returns-in_err-hash_chain-clause-fault
+returns-in_err-hash_chain-clause-fault g c =
+    let p = err_from_is_err_and c.from_residual-in_err-hash_chain.result c.from_residual-in_err-hash_chain.ensures.1 in
+    rw (p.1, p.2) (λ L os.
+    outcome_fault os (joined g (goal.at.returns-in_err-hash_chain-clause-fault g c).In_ok-append) c.in_err-hash_chain.field-0.0 c.in_err-hash_chain.ensures.fault)

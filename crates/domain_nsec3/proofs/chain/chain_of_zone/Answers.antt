@@ -1,14 +1,15 @@
 use Rattle.std.proofs.Common.{◌≡◌, true, sym, ap, ◌∙◌, subst}
 use Rattle.std.specs.Prelude.{All}
+use Rattle.std.proofs.lemmas.Result.{err_from_is_err_and}
 use Rattle.std.specs.List.{list_any}
 use Rattle.std.specs.List.Sorted.{IsStrictlySortedBy}
-use Rattle.domain_base.specs.Order.{canonical_cmp}
-use Rattle.domain_base.specs.Name.{is_at_or_below, same_name}
+use Rattle.domain_names.specs.Order.{canonical_cmp}
+use Rattle.domain_names.specs.Name.{is_at_or_below, same_name}
 use Rattle.domain_zone.specs.Soa.{chain_ttl}
 use Rattle.domain_zone.specs.View.{zone_of}
 use Rattle.domain_zone.proofs.GroupLemmas.{owners_in_order}
 use Rattle.domain_zone.proofs.SoaLemmas.{soa_owned}
-use Rattle.domain_nsec3.specs.Faults.{IsFirstFault, IsReady}
+use Rattle.domain_nsec3.specs.Faults.{IsReady}
 use Rattle.domain_nsec3.specs.Owners.{original_owners}
 use Rattle.domain_nsec3.specs.StepView.{common_of, links_in}
 use Rattle.domain_nsec3.specs.View.{config_of}
@@ -17,11 +18,11 @@ use Rattle.domain_nsec3.proofs.FaultLemmas.{apart_hashes}
 use Rattle.domain_nsec3.proofs.OutcomeLemmas.{original_ascend, original_below, apex_original, signing_fault}
 use Rattle.domain_nsec3.proofs.StateLemmas.{ZoneToSign}
 use Rattle.domain_nsec3.proofs.chain.chain_of_zone.Given.{Over}
-use Rattle.domain_nsec3.proofs.chain.chain_of_zone.Goals.{In-Ok}
+use Rattle.domain_nsec3.proofs.chain.chain_of_zone.Goals.{In_ok-owners}
 use Rattle.domain_nsec3.proofs.chain.chain_of_zone.Goals as goal
 
 -- the zone to sign
-abbrev zone_in : (g : Over) → In-Ok g → ZoneToSign
+abbrev zone_in : (g : Over) → In_ok-owners g → ZoneToSign
 zone_in g c = record {
   records = zone_of g.N.ToName.labels g.D.RecordData.rtype g.D.ZoneData.minimum c.args.records;
   apex = g.N.ToName.labels c.args.apex.now;
@@ -29,20 +30,20 @@ zone_in g c = record {
 }
 
 -- none of the faults stands that come before those of hashing
-ready : (g : Over) (c : In-Ok g) → IsReady (zone_in g c).records (zone_in g c).apex (zone_in g c).config
+ready : (g : Over) (c : In_ok-owners g) → IsReady (zone_in g c).records (zone_in g c).apex (zone_in g c).config
 ready g c = record {
   soa = λ n. cc c.requires.soa;
-  ttls = c.in-Ok.ensures.even (g.H.Nsec3Hasher.answer c.args.hasher.now);
+  ttls = c.in_ok-owners.ensures.even (g.H.Nsec3Hasher.answer c.args.hasher.now);
 }
 
 pub chain_of_owners-requires : goal.chain_of_owners-requires
 chain_of_owners-requires g c =
-    let zone = zone_in g (goal.at.chain_of_owners-requires g c).In-Ok in
-    let names : c.in-Ok.owners.names.items ≡ original_owners zone.records zone.apex zone.config =
-    sym (entries_names c.in-Ok.owners.names.items c.in-Ok.owners.types)
-    ∙ (c.in-Ok.ensures.owners (g.H.Nsec3Hasher.answer c.args.hasher.now)).names in
+    let zone = zone_in g (goal.at.chain_of_owners-requires g c).In_ok-owners in
+    let names : c.in_ok-owners.owners.names.items ≡ original_owners zone.records zone.apex zone.config =
+    sym (entries_names c.in_ok-owners.owners.names.items c.in_ok-owners.owners.types)
+    ∙ (c.in_ok-owners.ensures.owners (g.H.Nsec3Hasher.answer c.args.hasher.now)).names in
     record {
-      paired = c.in-Ok.ensures.paired;
+      paired = c.in_ok-owners.ensures.paired;
       ascend = subst (IsStrictlySortedBy canonical_cmp) (sym names) (original_ascend zone.records zone.apex zone.config
           (owners_in_order g.N.ToName.labels g.D.RecordData.rtype g.D.ZoneData.minimum c.args.records c.requires.in_order));
       in_zone = subst (All (λ n. is_at_or_below n zone.apex ≡ true)) (sym names) (original_below zone.records zone.apex zone.config);
@@ -50,31 +51,33 @@ chain_of_owners-requires g c =
           ∙ apex_original zone.records zone.apex zone.config (soa_owned zone.records zone.apex c.args.soa.now c.requires.soa);
     }
 
-pub returns-in-Err-chain_of_owners-clause-fault : goal.returns-in-Err-chain_of_owners-clause-fault
-returns-in-Err-chain_of_owners-clause-fault g c =
-    let at = (goal.at.returns-in-Err-chain_of_owners-clause-fault g c).In-Ok in
+pub returns-in_err-chain_of_owners-clause-fault : goal.returns-in_err-chain_of_owners-clause-fault
+returns-in_err-chain_of_owners-clause-fault g c =
+    let at = (goal.at.returns-in_err-chain_of_owners-clause-fault g c).In_ok-owners in
     let zone = zone_in g at in
-    subst (IsFirstFault zone.records zone.apex zone.config) (sym c.from.ensures)
-    (signing_fault zone.records zone.apex zone.config c.in-Err-chain_of_owners.error (ready g at)
-    (c.in-Err-chain_of_owners.ensures.fault zone.records (c.in-Ok.ensures.owners (g.H.Nsec3Hasher.answer c.args.hasher.now))))
+    let p = err_from_is_err_and c.from_residual-in_err-chain_of_owners.result c.from_residual-in_err-chain_of_owners.ensures.1 in
+    rw (p.1, p.2) (signing_fault zone.records zone.apex zone.config c.in_err-chain_of_owners.field-0.0 (ready g at)
+    (c.in_err-chain_of_owners.ensures.fault zone.records (c.in_ok-owners.ensures.owners (g.H.Nsec3Hasher.answer c.args.hasher.now))))
 
-pub returns-in-Ok-chain_of_owners : goal.returns-in-Ok-chain_of_owners
-returns-in-Ok-chain_of_owners g c =
-    let at = (goal.at.returns-in-Ok-chain_of_owners g c).In-Ok in
+pub returns : goal.returns
+returns g c =
+    let at = (goal.at.returns g c).In_ok-owners in
     let zone = zone_in g at in
-    let owners = c.in-Ok.ensures.owners (g.H.Nsec3Hasher.answer c.args.hasher.now) in
-    let chain = c.in-Ok-chain_of_owners.ensures.chain zone.records c.args.soa.now c.requires.soa owners in
+    let owners = c.in_ok-owners.ensures.owners (g.H.Nsec3Hasher.answer c.args.hasher.now) in
+    let chain = c.in_ok-chain_of_owners.ensures.chain zone.records c.args.soa.now c.requires.soa owners in
     record {
       chain = chain;
-      sound = c.in-Ok-chain_of_owners.ensures.sound;
+      sound = c.in_ok-chain_of_owners.ensures.sound;
       faultless = record {
         ready = ready g at;
-        hashed = c.in-Ok-chain_of_owners.ensures.hashed zone.records owners;
-        apart = apart_hashes zone.records zone.apex zone.config (links_in zone.apex c.in-Ok-chain_of_owners.chain
+        hashed = c.in_ok-chain_of_owners.ensures.hashed zone.records owners;
+        apart = apart_hashes zone.records zone.apex zone.config (links_in zone.apex c.in_ok-chain_of_owners.field-0
             (common_of c.args.config.now.params (chain_ttl c.args.soa.now))) chain;
       };
       fault = tt;
     }
 
-pub returns-in-Err-clause-fault : goal.returns-in-Err-clause-fault
-returns-in-Err-clause-fault g c = c.in-Err.ensures.fault (λ n. cc c.requires.soa) (g.H.Nsec3Hasher.answer c.args.hasher.now)
+pub returns-in_err-owners-clause-fault : goal.returns-in_err-owners-clause-fault
+returns-in_err-owners-clause-fault g c =
+    let p = err_from_is_err_and c.from_residual.result c.from_residual.ensures.1 in
+    rw (p.1, p.2) (c.in_err-owners.ensures.fault (λ n. cc c.requires.soa) (g.H.Nsec3Hasher.answer c.args.hasher.now))

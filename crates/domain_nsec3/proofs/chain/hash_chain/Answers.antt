@@ -4,7 +4,8 @@ use Rattle.std.specs.List.Sorted.{IsStrictlySortedBy}
 use Rattle.std.specs.Ordering.{nat_cmp}
 use Rattle.std.specs.Cmp.Lexicographic.{slice_cmp}
 use Rattle.std.proofs.lemmas.List.{length-map}
-use Rattle.domain_base.specs.Words.{Name}
+use Rattle.std.proofs.lemmas.Result.{err_from_is_err_and}
+use Rattle.domain_names.specs.Words.{Name}
 use Rattle.domain_nsec3.specs.Steps.{Entry, HashedEntry, HasAlikeNeighbours, IsFirstRefused, chain_links, entries_of}
 use Rattle.domain_nsec3.specs.Faults.{hash_fault}
 use Rattle.domain_nsec3.specs.StepView.{as_hashed_types, as_hashed_entry}
@@ -29,46 +30,48 @@ hashes g c =
     let are = entries_names c.args.names.items c.args.types ∙ sym c.as_slice.ensures.value in
     subst (λ (x : Name). AreHashesOf x (hash_by (g.H.Nsec3Hasher.answer c.args.hasher.now) (parameters_of c.args.params.now))
     entries (map (see g c) c.sort_by_hash.new.hashed.items)) c.as_parsed-above.ensures
-    (moved_hashes (see g c) c.in_ok-sort_by_hash.ensures.permutation (c.in-Ok.ensures.same entries are) (c.in-Ok.ensures.ok entries are))
+    (moved_hashes (see g c) c.in_ok-sort_by_hash.ensures.permutation (c.in_ok-hashed.ensures.same entries are) (c.in_ok-hashed.ensures.ok entries are))
 
-pub returns-in-Err-clause-fault : goal.returns-in-Err-clause-fault
-returns-in-Err-clause-fault g c =
+pub returns-in_err-hashed-clause-fault : goal.returns-in_err-hashed-clause-fault
+returns-in_err-hashed-clause-fault g c =
     let are = entries_names c.args.names.items c.args.types ∙ sym c.as_slice.ensures.value in
     let hash = hash_by (g.H.Nsec3Hasher.answer c.args.hasher.now) (parameters_of c.args.params.now) in
-    elim c.in-Err.ensures.err [
+    let p = err_from_is_err_and c.from_residual.result c.from_residual.ensures.1 in
+    rw (p.1, p.2) (elim c.in_err-hashed.ensures.err [
       | inl m ↦ inl m
       | inr r ↦ inr (inl (subst (λ (x : Name). IsFirstRefused x hash (map (λ n. n.name) (entries_of c.args.names.items c.args.types))
-          c.in-Err.error) c.as_parsed-above.ensures
-          (subst (λ (ns : List Name). IsFirstRefused c.as_parsed-above.result hash ns c.in-Err.error) (sym are) r)))
-    ]
+          c.in_err-hashed.field-0.0) c.as_parsed-above.ensures
+          (subst (λ (ns : List Name). IsFirstRefused c.as_parsed-above.result hash ns c.in_err-hashed.field-0.0) (sym are) r)))
+    ])
 
-pub returns-in-Err-without_collision-clause-fault : goal.returns-in-Err-without_collision-clause-fault
-returns-in-Err-without_collision-clause-fault g c =
-    let at = (goal.at.returns-in-Err-without_collision-clause-fault g c).In_ok-sort_by_hash in
-    inr (inr (
-      c.in-Err-without_collision.ensures.err.0,
+pub returns-in_err-without_collision-clause-fault : goal.returns-in_err-without_collision-clause-fault
+returns-in_err-without_collision-clause-fault g c =
+    let at = (goal.at.returns-in_err-without_collision-clause-fault g c).In_ok-sort_by_hash in
+    let p = err_from_is_err_and c.from_residual-in_err-without_collision.result c.from_residual-in_err-without_collision.ensures.1 in
+    rw (p.1, p.2) (inr (inr (
+      c.in_err-without_collision.ensures.err.0,
       record {
         ordered = map (see g at) c.sort_by_hash.new.hashed.items;
         moved = (hashes g at).moved;
         hashed = (hashes g at).hashed;
-        alike = subst HasAlikeNeighbours (hashes_of (see g at) c.sort_by_hash.new.hashed.items) c.in-Err-without_collision.ensures.err.1;
+        alike = subst HasAlikeNeighbours (hashes_of (see g at) c.sort_by_hash.new.hashed.items) c.in_err-without_collision.ensures.err.1;
       },
-    ))
+    )))
 
-pub returns-in-Ok-without_collision-clause-chain : goal.returns-in-Ok-without_collision-clause-chain
-returns-in-Ok-without_collision-clause-chain g c p =
-    let at = (goal.at.returns-in-Ok-without_collision-clause-chain g c).In_ok-sort_by_hash in
+pub returns-clause-chain : goal.returns-clause-chain
+returns-clause-chain g c p =
+    let at = (goal.at.returns-clause-chain g c).In_ok-sort_by_hash in
     let sorted = c.sort_by_hash.new.hashed.items in
     let entries = entries_of c.args.names.items c.args.types in
     let all = entries_names c.args.names.items c.args.types in
-    let chain = c.in-Ok-without_collision.ensures.ok in
+    let chain = c.in_ok-without_collision.ensures.ok in
     ordered_chain (map (see g at) sorted) (omega (arith, c.requires.some, ap length all, length-map entries (λ (n : Entry). n.name)))
-    (hashes g at) (subst (IsStrictlySortedBy (slice_cmp nat_cmp)) (hashes_of (see g at) sorted) c.in-Ok-without_collision.ensures.apart)
+    (hashes g at) (subst (IsStrictlySortedBy (slice_cmp nat_cmp)) (hashes_of (see g at) sorted) c.in_ok-without_collision.ensures.apart)
     ((λ i. chain_links (g.N.ToName.labels c.args.apex.now) p (map (as_hashed_types (chain.1 i)) (chain.0 i)))
     ∙ ap (chain_links (g.N.ToName.labels c.args.apex.now) p) (sym (types_told c.args.names.items c.args.types sorted c.requires.within)))
 
-pub returns-in-Ok-without_collision-clause-sound : goal.returns-in-Ok-without_collision-clause-sound
-returns-in-Ok-without_collision-clause-sound g c =
-    let at = (goal.at.returns-in-Ok-without_collision-clause-sound g c).In_ok-sort_by_hash in
-    subst (All (λ x. hash_fault (g.N.ToName.labels c.args.apex.now) (Ok x.hash) ≡ None)) (sym c.in-Ok-without_collision.ensures.ok.0)
+pub returns-clause-sound : goal.returns-clause-sound
+returns-clause-sound g c =
+    let at = (goal.at.returns-clause-sound g c).In_ok-sort_by_hash in
+    subst (All (λ x. hash_fault (g.N.ToName.labels c.args.apex.now) (Ok x.hash) ≡ None)) (sym c.in_ok-without_collision.ensures.ok.0)
     (sound_hashes (see g at) c.sort_by_hash.new.hashed.items (hashes g at).hashed)

@@ -8,7 +8,7 @@ use Rattle.domain_nsec3.proofs.nsec3.generate_nsec3s.Goals as goal
 
 pub returns-clause-chain : goal.returns-clause-chain
 returns-clause-chain g c =
-    subst (IsHashedChain _ _ _) (sym c.in_ok-copy_records.ensures.nsec3s) c.in-Ok.ensures.chain
+    subst (IsHashedChain _ _ _) (sym c.in_ok-copy_records.ensures.nsec3s) c.in_ok-chain.ensures.chain
 
 pub returns-clause-ascent : goal.returns-clause-ascent
 returns-clause-ascent g c =

@@ -1,6 +1,6 @@
 use Rattle.std.proofs.Common.{◌<◌, refl, rules}
 use Rattle.std.specs.List.{All}
-use Rattle.domain_base.proofs.SpellingLemmas.{name_is_valid}
+use Rattle.domain_names.proofs.SpellingLemmas.{name_is_valid}
 use Rattle.domain_rdata.specs.Scan.{own}
 use Rattle.domain_rdata.proofs.ReadBackLemmas.{ns_text, soa_back, rrsig_back, nsec_first, unknown_back}
 use Rattle.domain_rdata.proofs.laws.data_is_read_back.Goals as goal

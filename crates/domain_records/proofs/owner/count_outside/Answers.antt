@@ -1,5 +1,5 @@
 use Rattle.std.proofs.Common.{arith}
-use Rattle.domain_base.specs.Name.{IsAtOrBelow}
+use Rattle.domain_names.specs.Name.{IsAtOrBelow}
 use Rattle.domain_record.specs.declared.record.Record.{Record}
 use Rattle.domain_records.specs.Slices.{items_of}
 use Rattle.domain_records.proofs.Firsts.{skips_to, if_first_at, if_first_past}

@@ -1,5 +1,5 @@
 use Rattle.std.proofs.Common.{◌-◌, ◌≤◌, ◌<◌, ℕ, length, get_or}
-use Rattle.domain_base.specs.Name.{IsAtOrBelow}
+use Rattle.domain_names.specs.Name.{IsAtOrBelow}
 use Rattle.domain_record.specs.declared.record.Record.{Record}
 use Rattle.domain_records.specs.Slices.{items_of}
 use Rattle.domain_records.proofs.owner.count_outside.Given as goal

@@ -1,5 +1,5 @@
 use Rattle.std.proofs.Common.{not, ◌&&◌, ◌||◌, cond}
-use Rattle.domain_base.specs.Order.{before}
+use Rattle.domain_names.specs.Order.{before}
 use Rattle.domain_zone.proofs.NameLemmas.{before_left, before_right, one_lowered}
 use Rattle.domain_zone.proofs.laws.covering_ignores_case.Goals as goal
 

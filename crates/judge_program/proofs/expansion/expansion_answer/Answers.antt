@@ -2,7 +2,7 @@ use Rattle.std.proofs.Common.{◌≡◌, refl, sym, subst, IfOk, Err, inr}
 use Rattle.std.proofs.lemmas.Bool.{true_from_ne_false}
 use Rattle.domain_answer.specs.Expansion.{closer_name, is_expanded}
 use Rattle.domain_answer.specs.declared.answer.Answer.TheVariants.{OutsideZone, NotProven, TooManyIterations}
-use Rattle.domain_base.specs.Name.{is_at_or_below}
+use Rattle.domain_names.specs.Name.{is_at_or_below}
 use Rattle.domain_checker.specs.HashedView.{hash_with, parameters}
 use Rattle.domain_nsec3.specs.Config.{hash_name}
 use Rattle.domain_records.specs.declared.error.SigningError.TheVariants.{Nsec3HashingError}

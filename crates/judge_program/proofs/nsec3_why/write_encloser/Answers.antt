@@ -2,7 +2,7 @@ use Rattle.std.proofs.Common.{◌+◌, min, ap, sym, ◌∙◌, subst, None, Som
 use Rattle.std.specs.Io.KnownBytes.{Appends}
 use Rattle.std.specs.Option.{option_map}
 use Rattle.domain_checker.specs.HashedEncloser.{encloser_of}
-use Rattle.domain_base.specs.Name.{last_labels}
+use Rattle.domain_names.specs.Name.{last_labels}
 use Rattle.denial_program.proofs.AnswerLemmas.{on_ok}
 use Rattle.denial_program.proofs.RunLemmas.{appends_more}
 use Rattle.judge_program.specs.Why.{encloser_role, encloser_told, nsec3_shown}

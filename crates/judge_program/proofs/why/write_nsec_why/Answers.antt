@@ -1,7 +1,7 @@
 use Rattle.std.proofs.Common.{◌<◌, length, sym, subst, arith}
 use Rattle.std.specs.Io.KnownBytes.{Appends}
 use Rattle.domain_nsec.specs.ChainView.{links_of}
-use Rattle.domain_base.specs.Name.{last_labels}
+use Rattle.domain_names.specs.Name.{last_labels}
 use Rattle.domain_answer.specs.ZoneAnswer.{wildcard_below}
 use Rattle.denial_program.proofs.AnswerLemmas.{on_ok}
 use Rattle.denial_program.proofs.RunLemmas.{appends_more}

@@ -1,7 +1,7 @@
 use Rattle.std.proofs.Common.{ℕ, List, Option, inl, inr, map, subst, sym}
 use Rattle.domain_octets.proofs.StdLemmas.{if_err_of}
 use Rattle.domain_alike.specs.Alike.{pair_of, AreAlike, IsFirstRefusal, Pair}
-use Rattle.domain_base.specs.Words.{Name}
+use Rattle.domain_names.specs.Words.{Name}
 use Rattle.domain_borrowed.specs.Data.{RawRecord, zone_of_raw}
 use Rattle.domain_nsec3.specs.View.{HasherAnswer}
 use Rattle.domain_records.specs.Order.{IsOneClass}

@@ -2,7 +2,7 @@ use Rattle.std.proofs.Common.{◌≡◌, ◌∙◌, ◌+◌, ◌++◌, ◌∷◌
 use Rattle.std.proofs.lemmas.Grind.{flat_map-append}
 use Rattle.std.proofs.lemmas.List.{map-append, take_more}
 use Rattle.std.specs.Io.KnownBytes.{Appends}
-use Rattle.domain_base.specs.Text.{name_text}
+use Rattle.domain_names.specs.Text.{name_text}
 use Rattle.denial_program.proofs.RunLemmas.{appends_more}
 use Rattle.domain_alike.specs.Alike.{pair_of, Pair}
 use Rattle.lint_program.specs.Alike.{alike_line, alike_text}

@@ -1,4 +1,4 @@
-use Rattle.domain_base.specs.Scan.{NameTextFault}
+use Rattle.domain_names.specs.TextFault.{NameTextFault}
 use Rattle.domain_base.proofs.ScanLemmas.{no_token, refused_token}
 use Rattle.domain_base.proofs.scanner.IterScannerScanner.scan_name.Goals as goal
 

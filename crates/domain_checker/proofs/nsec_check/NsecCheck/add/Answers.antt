@@ -1,7 +1,7 @@
 use Rattle.std.proofs.Common.{◌≡◌, true, false, not, Some, refl, sym, ap, ◌∙◌}
 use Rattle.std.specs.Option.{is_some}
 use Rattle.std.proofs.lemmas.Bool.{false≢true}
-use Rattle.domain_base.specs.Order.{canonical_cmp}
+use Rattle.domain_names.specs.Order.{canonical_cmp}
 use Rattle.domain_nsec.specs.ChainView.{as_link}
 use Rattle.domain_checker.specs.Reading.{cover_verdict, is_cover, is_match, match_verdict}
 use Rattle.domain_checker.proofs.HandedInLemmas.{found_stays, found_last, found_before, some_is_none}

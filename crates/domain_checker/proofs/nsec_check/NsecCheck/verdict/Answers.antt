@@ -1,7 +1,7 @@
 use Rattle.std.proofs.Common.{◌≡◌, ◌≢◌, ◌<◌, ℕ, List, true, sym, ap, ◌∙◌, subst, cond, length}
 use Rattle.std.specs.Option.{unwrap_or}
-use Rattle.domain_base.specs.Name.{is_at_or_below}
-use Rattle.domain_base.specs.Words.{Name}
+use Rattle.domain_names.specs.Name.{is_at_or_below}
+use Rattle.domain_names.specs.Words.{Name}
 use Rattle.domain_nsec.specs.Chain.{Link}
 use Rattle.domain_checker.specs.HandedIn.{HasRead}
 use Rattle.domain_checker.specs.declared.nsec_check.NsecCheck.{NsecCheck}

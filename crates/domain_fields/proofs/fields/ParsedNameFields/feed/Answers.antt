@@ -1,8 +1,8 @@
 use Rattle.std.proofs.Common.{◌≡◌, map, sym, ap, ◌∙◌, arith}
 use Rattle.std.specs.Char.{to_ascii_lowercase}
 use Rattle.std.proofs.lemmas.Grind.{common_steps}
-use Rattle.domain_base.specs.Name.{wire_of, lowered}
-use Rattle.domain_base.proofs.CaseLemmas.{lowered_wire}
+use Rattle.domain_names.specs.Name.{wire_of, lowered}
+use Rattle.domain_names.proofs.CaseLemmas.{lowered_wire}
 use Rattle.domain_fields.specs.Layout.{octets_of}
 use Rattle.domain_fields.proofs.fields.ParsedNameFields.feed.Goals as goal
 

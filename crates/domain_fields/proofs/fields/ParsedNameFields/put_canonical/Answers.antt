@@ -1,6 +1,6 @@
 use Rattle.std.proofs.Common.{◌≡◌, ◌∙◌, ap, length, subst}
-use Rattle.domain_base.specs.Name.{wire_of, lowered}
-use Rattle.domain_base.proofs.CaseLemmas.{lowered_size}
+use Rattle.domain_names.specs.Name.{wire_of, lowered}
+use Rattle.domain_names.proofs.CaseLemmas.{lowered_size}
 use Rattle.domain_fields.specs.Layout.{octets_of}
 use Rattle.domain_fields.proofs.TargetLemmas.{appends_whole}
 use Rattle.domain_fields.proofs.fields.ParsedNameFields.put_canonical.Goals as goal

@@ -13,7 +13,7 @@ chain_of_zone-requires-clause-soa g c =
 
 pub new-requires : goal.new-requires
 new-requires g c =
-    subst (λ a. AreUsable a c.in-Ok.chain) (sym (ap (λ r. r.owner) c.in_ok-nsec3param.ensures)) c.in-Ok.ensures.sound
+    subst (λ a. AreUsable a c.in_ok-chain.chain) (sym (ap (λ r. r.owner) c.in_ok-nsec3param.ensures)) c.in_ok-chain.ensures.sound
 
 pub returns-clause-chain : goal.returns-clause-chain
 returns-clause-chain g c =
@@ -22,11 +22,11 @@ returns-clause-chain g c =
     let a = labels c.args.apex.now in
     let config = config_of (g.H.Nsec3Hasher.answer c.args.hasher.now) c.args.config.now in
     let t = chain_ttl c.in-Some.soa in
-    let is : c.new.result.links ≡ links_in a c.in-Ok.chain (common_of c.args.config.now.params t) =
+    let is : c.new.result.links ≡ links_in a c.in_ok-chain.chain (common_of c.args.config.now.params t) =
     c.new.ensures.links
-    ∙ (λ i. let r = c.in_ok-nsec3param.ensures i in links_in r.owner c.in-Ok.chain (record {
+    ∙ (λ i. let r = c.in_ok-nsec3param.ensures i in links_in r.owner c.in_ok-chain.chain (record {
       ttl = c.chain_ttl.ensures i;
       parameters = r.parameters;
       flags = r.flags;
     })) in
-    subst (IsHashedChain L a config) (sym is) c.in-Ok.ensures.chain
+    subst (IsHashedChain L a config) (sym is) c.in_ok-chain.ensures.chain

@@ -1,6 +1,6 @@
 use Rattle.std.proofs.Common.{◌≡◌, sym, ◌∙◌}
 use Rattle.std.proofs.lemmas.Bool.{false≢true}
-use Rattle.domain_base.specs.Name.{IsSame}
+use Rattle.domain_names.specs.Name.{IsSame}
 use Rattle.domain_record.specs.declared.record.Record.{Record}
 use Rattle.domain_records.proofs.Firsts.{has_first_weaker}
 use Rattle.domain_records.proofs.owner.OwnerRrs.is_zone_cut.Goals as goal

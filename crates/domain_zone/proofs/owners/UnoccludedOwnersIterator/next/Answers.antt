@@ -2,7 +2,7 @@ use Rattle.std.proofs.Common.{◌≡◌, Bool, ◌&&◌, ◌||◌, ◌∷◌, Op
 use Rattle.std.specs.Option.{option_map}
 use Rattle.domain_records.specs.Groups.{same_owner}
 use Rattle.domain_records.specs.Runs.{runs}
-use Rattle.domain_base.specs.Words.{Name}
+use Rattle.domain_names.specs.Words.{Name}
 use Rattle.domain_zone.specs.View.{as_zone_record}
 use Rattle.domain_zone.specs.Walk.{left_owners}
 use Rattle.domain_zone.specs.Zone.{has_type}

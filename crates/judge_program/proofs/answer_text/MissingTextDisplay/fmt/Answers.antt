@@ -1,6 +1,6 @@
 use Rattle.std.proofs.Common.{codes, subst}
 use Rattle.std.specs.Fmt.{HasWritten}
-use Rattle.domain_base.specs.Text.{name_text}
+use Rattle.domain_names.specs.Text.{name_text}
 use Rattle.domain_answer.specs.ZoneAnswer.{wildcard_below}
 use Rattle.judge_program.specs.Text.{full_text}
 use Rattle.judge_program.proofs.TextLemmas.{missing_parts}

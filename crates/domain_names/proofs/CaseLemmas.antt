@@ -1,0 +1,102 @@
+-- names with A to Z as a to z, on the wire
+use Rattle.std.proofs.Common.{◌≡◌, ℕ, zero, suc, ◌-◌, ◌<◌, ◌≤◌, List, [], ◌∷◌, ◌++◌, length, map, take, drop, refl, sym, ap, ◌∙◌, arith, length-append}
+use Rattle.std.specs.Char.{to_ascii_lowercase}
+use Rattle.std.specs.List.{AllByRecursion}
+use Rattle.std.proofs.lemmas.List.{map-append, length-map, take-append-drop, drop_at, drop-append-le}
+use Rattle.std.proofs.lemmas.List.Elements.{All-map, All-weaker}
+use Rattle.std.proofs.lemmas.Bool.Decides.{nat_tests}
+use Rattle.std.specs.Bool.{Decides}
+use Rattle.std.specs.Cmp.Lexicographic.{pointwise_decides, bytes_decides}
+use Rattle.domain_names.specs.Name.{wire_of, lowered, IsLabel, IsName, IsSame, IsAtOrBelow, is_at_or_below}
+use Rattle.domain_names.specs.Wire.{labels_of, IsWire}
+use Rattle.domain_names.specs.Words.{Name}
+use Rattle.domain_names.proofs.WireLemmas.{labels_of-wire_of}
+
+-- a length is no letter
+low_length : (n : ℕ) → n ≤ 63 → to_ascii_lowercase n ≡ n
+low_length n small = grind (arith, nat_tests)
+
+wire_of-lowered : (labels : List (List ℕ)) → AllByRecursion IsLabel labels → wire_of (lowered labels) ≡ map to_ascii_lowercase (wire_of labels)
+wire_of-lowered [] all = refl
+wire_of-lowered (label ∷ labels) all =
+    let label_is : IsLabel label = all.0 in
+    rw (
+      low_length (length label) label_is.fits,
+      length-map label to_ascii_lowercase,
+      map-append to_ascii_lowercase label (wire_of labels),
+      wire_of-lowered labels all.1,
+    )
+
+pub lowered_wire : (octets : List ℕ) → IsWire octets → wire_of (lowered (labels_of octets)) ≡ map to_ascii_lowercase octets
+lowered_wire octets wire = wire_of-lowered (labels_of octets) wire.valid.of_labels ∙ ap (map to_ascii_lowercase) (sym wire.spelled)
+
+pub lowered_size : (octets : List ℕ) → IsWire octets → length (wire_of (lowered (labels_of octets))) ≡ length octets
+lowered_size octets wire = ap length (lowered_wire octets wire) ∙ length-map octets to_ascii_lowercase
+
+low_octet : (c : ℕ) → c < 256 → to_ascii_lowercase c < 256
+low_octet c small = grind (arith, nat_tests)
+
+labels-lowered : (labels : List (List ℕ)) → AllByRecursion IsLabel labels → AllByRecursion IsLabel (lowered labels)
+labels-lowered [] all = all
+labels-lowered (label ∷ labels) all =
+    let label_is : IsLabel label = all.0 in
+    let long = length-map label to_ascii_lowercase in (
+      record {
+        not_empty = omega (arith, label_is.not_empty, long);
+        fits = omega (arith, label_is.fits, long);
+        octets = All-map (λ octet. octet < 256) to_ascii_lowercase label
+            (All-weaker (λ octet. octet < 256) (λ octet. to_ascii_lowercase octet < 256) low_octet label label_is.octets);
+      },
+      labels-lowered labels all.1,
+    )
+
+pub IsName-lowered : (labels : List (List ℕ)) → IsName labels → IsName (lowered labels)
+IsName-lowered labels valid = record {
+  of_labels = labels-lowered labels valid.of_labels;
+  fits = omega (arith, valid.fits, ap length (wire_of-lowered labels valid.of_labels), length-map (wire_of labels) to_ascii_lowercase);
+}
+
+pub same_from_octets : (a b : List ℕ) → IsWire a → IsWire b → map to_ascii_lowercase a ≡ map to_ascii_lowercase b → IsSame (labels_of a) (labels_of b)
+same_from_octets a b a_wire b_wire same =
+    sym (labels_of-wire_of (lowered (labels_of a)) (IsName-lowered (labels_of a) a_wire.valid))
+    ∙ ap labels_of (lowered_wire a a_wire ∙ same ∙ sym (lowered_wire b b_wire))
+    ∙ labels_of-wire_of (lowered (labels_of b)) (IsName-lowered (labels_of b) b_wire.valid)
+
+pub octets_from_same : (a b : List ℕ) → IsWire a → IsWire b → IsSame (labels_of a) (labels_of b) → map to_ascii_lowercase a ≡ map to_ascii_lowercase b
+octets_from_same a b a_wire b_wire same = sym (lowered_wire a a_wire) ∙ ap wire_of same ∙ lowered_wire b b_wire
+
+drop_lowered : (n : ℕ) (name : List (List ℕ)) → lowered (drop n name) ≡ drop n (lowered name)
+drop_lowered zero name = refl
+drop_lowered (suc n) [] = refl
+drop_lowered (suc n) (label ∷ name) = drop_lowered n name
+
+pub one_line : (name above other : List (List ℕ)) → IsAtOrBelow name above → IsAtOrBelow name other → length other ≤ length above → IsAtOrBelow above other
+one_line name above other a b shorter =
+    let k = length a.front in
+    let a_long = length-append a.front (lowered above) in
+    let b_long = length-append b.front (lowered other) in
+    let upto : k ≤ length b.front = omega (
+      arith,
+      ap length a.joined,
+      ap length b.joined,
+      a_long,
+      b_long,
+      length-map above (map to_ascii_lowercase),
+      length-map other (map to_ascii_lowercase),
+    ) in
+    record {
+      front = drop k b.front;
+      joined = sym (drop_at a.front (lowered above) k refl) ∙ ap (drop k) (sym a.joined ∙ b.joined) ∙ drop-append-le k b.front (lowered other) upto;
+    }
+
+-- the test of being at or below decides it
+pub at_or_below_test : (name above : Name) → Decides (is_at_or_below name above) (IsAtOrBelow name above)
+at_or_below_test name above =
+    let whole = lowered name in
+    let k = length whole - length (lowered above) in
+    let labels = pointwise_decides bytes_decides (lowered above) (drop k whole) in (
+      (λ yes. record { front = take k whole; joined = sym (take-append-drop k whole) ∙ ap (λ l. take k whole ++ l) (sym (labels.0 yes)) }),
+      (λ below.
+          let long : length below.front ≡ k = omega (arith, ap length below.joined, length-append below.front (lowered above)) in
+          labels.1 (sym (ap (drop k) below.joined ∙ drop_at below.front (lowered above) k long))),
+    )

@@ -1,0 +1,152 @@
+-- octets begin with a name or have a first fault
+use Rattle.std.proofs.Common.{◌≡◌, ℕ, ◌+◌, ◌<◌, ◌≤◌, List, [], ◌∷◌, ◌++◌, length, get_or, take, drop, refl, sym, ap, subst, ◌∙◌, arith, length-append}
+use Rattle.std.specs.Prelude.{codes, All}
+use Rattle.std.specs.List.{AllByRecursion}
+use Rattle.std.proofs.lemmas.List.{append-nil, append_assoc, take-append-drop, drop-drop, drop_at, take_at, drop_more, drop_all, length-drop, length-take-le}
+use Rattle.std.proofs.lemmas.List.Elements.{All-take, All-drop}
+use Rattle.domain_names.specs.Name.{wire_of, IsLabel, IsName}
+use Rattle.domain_names.specs.Wire.{labels_of, IsWire}
+use Rattle.domain_names.specs.Fault.{Fault, ends_early, malformed, NameFault, no_octet, bad_label, long_name, cut_label, past_label, WholeNameFault, in_name}
+use Rattle.domain_names.specs.Fault.{trailing}
+use Rattle.domain_names.proofs.WireLemmas.{length-wire_of, IsWire-wire_of}
+
+-- the octets are these labels and the root, after so many octets of the name, and then others
+pub record Reads (used : ℕ) (octets : List ℕ) (labels : List (List ℕ)) (after : List ℕ) : Type 0 where
+  pub spelled : octets ≡ wire_of labels ++ after
+  pub of_labels : AllByRecursion IsLabel labels
+  pub fits : used + length (wire_of labels) ≤ 255
+
+-- what follows the first label
+pub rest_of : (label rest l ls : List ℕ) → length label ≡ length l → label ++ rest ≡ l ++ ls → rest ≡ ls
+rest_of label rest l ls long same = sym (drop_at label rest (length label) refl) ∙ ap (drop (length label)) same ∙ drop_at l ls (length label) (sym long)
+
+no_fault_by : (used : ℕ) (octets : List ℕ) (fault : Fault) → NameFault used octets fault
+    → (labels : List (List ℕ)) (after : List ℕ) → octets ≡ wire_of labels ++ after → AllByRecursion IsLabel labels
+    → used + length (wire_of labels) ≤ 255 → ⊥
+no_fault_by used octets fault no_octet [] after is all fits = cc
+no_fault_by used octets fault no_octet (l ∷ ls) after is all fits = cc
+no_fault_by used octets fault (bad_label len rest big) [] after is all fits = let e : len ≡ 0 = cc in omega arith
+no_fault_by used octets fault (bad_label len rest big) (l ∷ ls) after is all fits =
+    let e : len ≡ length l = cc in let label_is : IsLabel l = all.0 in omega (arith, label_is.fits)
+no_fault_by used octets fault (long_name len rest some small big) [] after is all fits = let e : len ≡ 0 = cc in omega arith
+no_fault_by used octets fault (long_name len rest some small big) (l ∷ ls) after is all fits =
+    let e : len ≡ length l = cc in omega (arith, length-append l (wire_of ls), length-wire_of ls, fits)
+no_fault_by used octets fault (cut_label len rest some small short cut) [] after is all fits = let e : len ≡ 0 = cc in omega arith
+no_fault_by used octets fault (cut_label len rest some small short cut) (l ∷ ls) after is all fits =
+    let e : len ≡ length l = cc in omega (arith, ap length is, length-append (l ++ wire_of ls) after, length-append l (wire_of ls), length-wire_of ls)
+no_fault_by used octets fault (past_label label rest f some small short next) [] after is all fits = let e : length label ≡ 0 = cc in omega arith
+no_fault_by used octets fault (past_label label rest f some small short next) (l ∷ ls) after is all fits =
+    let long : length label ≡ length l = cc in
+    let tails : label ++ rest ≡ (l ++ wire_of ls) ++ after = cc in
+    let rest_is = rest_of label rest l (wire_of ls ++ after) long (tails ∙ append_assoc l (wire_of ls) after) in
+    no_fault_by (used + length label + 1) rest f next ls after rest_is all.1 (omega (arith, fits, length-append l (wire_of ls)))
+
+-- octets that begin with a name have no fault in it
+pub no_name_fault : (octets : List ℕ) (fault : Fault) → NameFault 0 octets fault → (labels : List (List ℕ)) (after : List ℕ)
+    → IsName labels → octets ≡ wire_of labels ++ after → ⊥
+no_name_fault octets fault found labels after valid is = no_fault_by 0 octets fault found labels after is valid.of_labels (omega (arith, valid.fits))
+
+-- octets begin with one name at most
+pub one_reading : (xs ys : List (List ℕ)) (a b : List ℕ) → AllByRecursion IsLabel xs → AllByRecursion IsLabel ys
+    → wire_of xs ++ a ≡ wire_of ys ++ b → (xs ≡ ys) × (a ≡ b)
+one_reading [] [] a b xs_valid ys_valid same = (refl, cc)
+one_reading [] (y ∷ ys) a b xs_valid ys_valid same = let e : 0
+    ≡ length y = cc in let label_is : IsLabel y = ys_valid.0 in absurd (omega (arith, label_is.not_empty))
+one_reading (x ∷ xs) [] a b xs_valid ys_valid same = let e : length x
+    ≡ 0 = cc in let label_is : IsLabel x = xs_valid.0 in absurd (omega (arith, label_is.not_empty))
+one_reading (x ∷ xs) (y ∷ ys) a b xs_valid ys_valid same =
+    let long : length x ≡ length y = cc in
+    let tails : (x ++ wire_of xs) ++ a ≡ (y ++ wire_of ys) ++ b = cc in
+    let joined : x ++ (wire_of xs ++ a) ≡ y ++ (wire_of ys ++ b) = sym (append_assoc x (wire_of xs) a) ∙ tails ∙ append_assoc y (wire_of ys) b in
+    let heads : x ≡ y = sym (take_at x (wire_of xs ++ a) (length x) refl) ∙ ap (take (length x)) joined ∙ take_at y (wire_of ys ++ b) (length x) (sym long) in
+    let rest = one_reading xs ys a b xs_valid.1 ys_valid.1 (rest_of x (wire_of xs ++ a) y (wire_of ys ++ b) long joined) in
+    let labels = rest.0 in
+    (cc, rest.1)
+
+pub no_fault : (octets : List ℕ) (fault : Fault) → WholeNameFault octets fault → IsWire octets → ⊥
+no_fault octets fault (in_name o f found) wire = no_name_fault o f found (labels_of o) [] wire.valid (wire.spelled ∙ sym (append-nil (wire_of (labels_of o))))
+no_fault octets fault (trailing labels after valid some) wire =
+    some (one_reading labels (labels_of (wire_of labels ++ after)) after [] valid.of_labels wire.valid.of_labels (wire.spelled
+    ∙ sym (append-nil (wire_of (labels_of (wire_of labels ++ after)))))).1
+
+-- a name and more
+pub trailing_fault : (octets name after : List ℕ) → IsWire name → octets ≡ name ++ after → (after ≡ [] → ⊥)
+    → WholeNameFault octets (malformed (codes "trailing data"))
+trailing_fault octets name after wire is some =
+    subst (λ o. WholeNameFault o (malformed (codes "trailing data"))) (sym (is ∙ ap (λ n. n ++ after) wire.spelled))
+    (trailing (labels_of name) after wire.valid some)
+
+named : (octets after : List ℕ) (labels : List (List ℕ)) (count : ℕ) → Reads 0 octets labels after
+    → length (wire_of labels) ≡ count → IsWire (take count octets)
+named octets after labels count reads long =
+    let valid : IsName labels = record { of_labels = reads.of_labels; fits = omega (arith, reads.fits) } in
+    let front : take count octets ≡ wire_of labels = ap (take count) reads.spelled ∙ take_at (wire_of labels) after count long in
+    subst IsWire (sym front) (IsWire-wire_of labels valid)
+
+-- a part of the octets has been read as labels
+pub record Reading (octets : List ℕ) (at : ℕ) : Type 0 where
+  pub inside : at ≤ length octets
+  pub short : at < 255
+  pub fault : (f : Fault) → NameFault at (drop at octets) f → NameFault 0 octets f
+  pub name : (labels : List (List ℕ)) (after : List ℕ) → Reads at (drop at octets) labels after → IsWire (take (at + length (wire_of labels)) octets)
+
+pub reading_begins : (octets : List ℕ) → Reading octets 0
+reading_begins octets = record {
+  inside = omega arith;
+  short = omega arith;
+  fault = λ f h. h;
+  name = λ labels after h. named octets after labels (0 + length (wire_of labels)) h (omega arith);
+}
+
+module _ (octets : List ℕ) (at len : ℕ) (below : at < length octets) (is : get_or octets at 0 ≡ len) where
+  pub ahead : drop at octets ≡ len ∷ drop (at + 1) octets
+  ahead = rw (← is) (drop_more octets at 0 below)
+
+  pub reading_goes : All (λ octet. octet < 256) octets → Reading octets at → 0 < len → len ≤ 63 → at + 1 + len < 255
+      → at + 1 + len ≤ length octets → Reading octets (at + 1 + len)
+  reading_goes bytes so_far some small short inside =
+      let label = take len (drop (at + 1) octets) in
+      let rest = drop (at + 1 + len) octets in
+      let long : length label ≡ len = length-take-le len (drop (at + 1) octets) (omega (arith, length-drop (at + 1) octets)) in
+      let tail : drop (at + 1) octets ≡ label ++ rest = sym (take-append-drop len (drop (at + 1) octets))
+      ∙ ap (λ r. label ++ r) (drop-drop len (at + 1) octets) in
+      let here : drop at octets ≡ length label ∷ (label ++ rest) = rw long (ahead ∙ ap (λ r. len ∷ r) tail) in
+      let used : at + length label + 1 ≡ at + 1 + len = omega arith in
+      let label_bytes = All-take (λ octet. octet < 256) len (drop (at + 1) octets) (All-drop (λ octet. octet < 256) (at + 1) octets bytes) in
+      record {
+        inside = inside;
+        short = short;
+        fault = λ f h. so_far.fault f (rw here (past_label {used = at} label rest f (omega arith) (omega arith) (omega arith) (rw used h)));
+        name = λ labels after h.
+            let count : at + length (wire_of (label ∷ labels)) ≡ at + 1 + len + length (wire_of labels) = omega (arith, length-append label (wire_of labels)) in
+            rw (← count) (so_far.name (label ∷ labels) after (record {
+              spelled = here ∙ ap (λ r. length label ∷ (label ++ r)) h.spelled ∙ ap (λ r. length label ∷ r) (sym (append_assoc label (wire_of labels) after));
+              of_labels = (record { not_empty = omega arith; fits = omega arith; octets = label_bytes }, h.of_labels);
+              fits = omega (arith, h.fits, length-append label (wire_of labels));
+            }));
+      }
+
+  pub reading_ends : Reading octets at → len ≡ 0 → IsWire (take (at + 1) octets)
+  reading_ends so_far root = so_far.name [] (drop (at + 1) octets) (record {
+    spelled = ahead ∙ ap (λ n. n ∷ drop (at + 1) octets) root;
+    of_labels = tt;
+    fits = omega (arith, so_far.short);
+  })
+
+  pub label_fault : Reading octets at → 63 < len → NameFault 0 octets (malformed (codes "compressed or bad label"))
+  label_fault so_far big = so_far.fault _ (rw ahead (bad_label {used = at} len (drop (at + 1) octets) big))
+
+  pub length_fault : Reading octets at → 0 < len → len ≤ 63 → 255 ≤ at + 1 + len → NameFault 0 octets (malformed (codes "long domain name"))
+  length_fault so_far some small big = so_far.fault _ (rw ahead (long_name {used = at} len (drop (at + 1) octets) some small (omega arith)))
+
+  pub cut_fault : Reading octets at → 0 < len → len ≤ 63 → at + 1 + len < 255 → length octets < at + 1 + len → NameFault 0 octets ends_early
+  cut_fault so_far some small short cut =
+      so_far.fault _ (rw ahead (cut_label {used = at} len (drop (at + 1) octets) some small (omega arith) (omega (arith, length-drop (at + 1) octets))))
+
+pub end_fault : (octets : List ℕ) (at : ℕ) → Reading octets at → length octets ≤ at → NameFault 0 octets ends_early
+end_fault octets at so_far end = so_far.fault _ (rw drop_all (no_octet {used = at}))
+
+pub ruleset reading_steps = (reading_begins, reading_goes, reading_ends, end_fault, label_fault, length_fault, cut_fault)
+
+pub in_name_by : (octets : List ℕ) (said found : Fault) → said ≡ found → NameFault 0 octets found → WholeNameFault octets said
+in_name_by octets said found same fault = subst (WholeNameFault octets) (sym same) (in_name octets found fault)

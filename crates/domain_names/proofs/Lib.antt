@@ -1,0 +1,9 @@
+pub mod WireLemmas
+pub mod OrderLemmas
+pub mod PartingLemmas
+pub mod CaseLemmas
+pub mod BelowLemmas
+pub mod FaultLemmas
+pub mod TextLemmas
+pub mod SpellingLemmas
+pub mod CommonLemmas

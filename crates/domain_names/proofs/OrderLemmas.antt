@@ -1,0 +1,144 @@
+-- the canonical order by labels from the leaf
+use Rattle.std.proofs.Common.{◌≡◌, ◌≢◌, ℕ, zero, suc, ◌+◌, ◌-◌, ◌≤◌, List, [], ◌∷◌, ◌++◌, length, drop, map, refl, sym, ap, ◌∙◌, arith}
+use Rattle.std.specs.declared.cmp.Ordering.{Ordering}
+use Rattle.std.specs.declared.cmp.Ordering.TheVariants.{Less, Equal, Greater}
+use Rattle.std.specs.Ordering.{ordering_then, nat_cmp}
+use Rattle.std.specs.Char.{to_ascii_lowercase}
+use Rattle.std.specs.Prelude.{nat_eq, true}
+use Rattle.std.specs.Cmp.Lexicographic.{slice_cmp, pointwise, bytes_decides}
+use Rattle.std.proofs.lemmas.Cmp.{by_ranked, ranked}
+use Rattle.std.proofs.lemmas.List.{reverse-append, length-reverse, length-map}
+use Rattle.domain_names.specs.Name.{lowered}
+use Rattle.domain_names.specs.Order.{canonical_cmp, from_root}
+
+pub then_assoc : (a b c : Ordering) → ordering_then (ordering_then a b) c ≡ ordering_then a (ordering_then b c)
+then_assoc Less b c = refl
+then_assoc Equal b c = refl
+then_assoc Greater b c = refl
+
+-- what comes first decides where it tells apart
+pub decided : (first second both : Ordering) → both ≡ ordering_then first second → first ≢ Equal → first ≡ both
+decided Less second both is other = sym is
+decided Equal second both is other = absurd (other refl)
+decided Greater second both is other = sym is
+
+-- what comes second decides where the first doesn't
+pub undecided : (first second both : Ordering) → both ≡ ordering_then first second → first ≡ Equal → second ≡ both
+undecided first second both is tied = sym (is ∙ ap (λ o. ordering_then o second) tied)
+
+then_Equal : (a : Ordering) → ordering_then a Equal ≡ a
+then_Equal Less = refl
+then_Equal Equal = refl
+then_Equal Greater = refl
+
+module _ {X : Type 0} (R : X → X → Ordering) where
+  slice_cmp-push : (xs ys : List X) (x y : X) → length xs ≡ length ys → slice_cmp R (xs ++ x ∷ []) (ys ++ y ∷ []) ≡ ordering_then (slice_cmp R xs ys) (R x y)
+  slice_cmp-push [] [] x y same = then_Equal (R x y)
+  slice_cmp-push [] (b ∷ bs) x y same = absurd (omega (arith, same))
+  slice_cmp-push (a ∷ as') [] x y same = absurd (omega (arith, same))
+  slice_cmp-push (a ∷ as') (b ∷ bs) x y same =
+      ap (ordering_then (R a b)) (slice_cmp-push as' bs x y (omega (arith, same))) ∙ sym (then_assoc (R a b) (slice_cmp R as' bs) (R x y))
+
+  slice_cmp-push_left : (xs ys : List X) (x : X) → length ys ≤ length xs → slice_cmp R (xs ++ x ∷ []) ys ≡ ordering_then (slice_cmp R xs ys) Greater
+  slice_cmp-push_left [] [] x within = refl
+  slice_cmp-push_left (a ∷ as') [] x within = refl
+  slice_cmp-push_left [] (b ∷ bs) x within = absurd (omega (arith, within))
+  slice_cmp-push_left (a ∷ as') (b ∷ bs) x within =
+      ap (ordering_then (R a b)) (slice_cmp-push_left as' bs x (omega (arith, within))) ∙ sym (then_assoc (R a b) (slice_cmp R as' bs) Greater)
+
+  slice_cmp-push_right : (xs ys : List X) (y : X) → length xs ≤ length ys → slice_cmp R xs (ys ++ y ∷ []) ≡ ordering_then (slice_cmp R xs ys) Less
+  slice_cmp-push_right [] [] y within = refl
+  slice_cmp-push_right [] (b ∷ bs) y within = refl
+  slice_cmp-push_right (a ∷ as') [] y within = absurd (omega (arith, within))
+  slice_cmp-push_right (a ∷ as') (b ∷ bs) y within =
+      ap (ordering_then (R a b)) (slice_cmp-push_right as' bs y (omega (arith, within))) ∙ sym (then_assoc (R a b) (slice_cmp R as' bs) Less)
+
+length-from_root : (name : List (List ℕ)) → length (from_root name) ≡ length name
+length-from_root name = length-reverse (lowered name) ∙ length-map name (map to_ascii_lowercase)
+
+pub from_root-cons : (label : List ℕ) (name : List (List ℕ)) → from_root (label ∷ name) ≡ from_root name ++ map to_ascii_lowercase label ∷ []
+from_root-cons label name = reverse-append (map to_ascii_lowercase label ∷ []) (lowered name)
+
+-- one label more on both names decides where nothing above it does
+pub canonical_cmp-more : (xs ys : List (List ℕ)) (x y : List ℕ) → length xs ≡ length ys
+    → canonical_cmp (x ∷ xs) (y ∷ ys) ≡ ordering_then (canonical_cmp xs ys)
+    (slice_cmp nat_cmp (map to_ascii_lowercase x) (map to_ascii_lowercase y))
+unfolding canonical_cmp
+canonical_cmp-more xs ys x y same =
+    rw (from_root-cons x xs, from_root-cons y ys) (slice_cmp-push (slice_cmp nat_cmp) (from_root xs) (from_root ys) _ _
+    (length-from_root xs ∙ same ∙ sym (length-from_root ys)))
+
+canonical_cmp-longer : (xs ys : List (List ℕ)) (x : List ℕ) → length ys ≤ length xs → canonical_cmp (x ∷ xs) ys ≡ ordering_then (canonical_cmp xs ys) Greater
+unfolding canonical_cmp
+canonical_cmp-longer xs ys x within =
+    rw (from_root-cons x xs) (slice_cmp-push_left (slice_cmp nat_cmp) (from_root xs) (from_root ys) _ (omega (arith, length-from_root xs, length-from_root ys)))
+
+canonical_cmp-shorter : (xs ys : List (List ℕ)) (y : List ℕ) → length xs ≤ length ys → canonical_cmp xs (y ∷ ys) ≡ ordering_then (canonical_cmp xs ys) Less
+unfolding canonical_cmp
+canonical_cmp-shorter xs ys y within =
+    rw (from_root-cons y ys) (slice_cmp-push_right (slice_cmp nat_cmp) (from_root xs) (from_root ys) _
+    (omega (arith, length-from_root xs, length-from_root ys)))
+
+-- labels at the leaf of the longer name
+left_cut : (n : ℕ) (xs ys : List (List ℕ)) → length xs ≡ n + length ys
+    → ordering_then (canonical_cmp xs ys) Greater ≡ ordering_then (canonical_cmp (drop n xs) ys) Greater
+left_cut zero xs ys long = refl
+left_cut (suc n) [] ys long = absurd (omega (arith, long))
+left_cut (suc n) (x ∷ xs) ys long =
+    ap (λ o. ordering_then o Greater) (canonical_cmp-longer xs ys x (omega (arith, long)))
+    ∙ then_assoc (canonical_cmp xs ys) Greater Greater ∙ left_cut n xs ys (omega (arith, long))
+
+right_cut : (n : ℕ) (xs ys : List (List ℕ)) → length ys ≡ n + length xs
+    → ordering_then (canonical_cmp xs ys) Less ≡ ordering_then (canonical_cmp xs (drop n ys)) Less
+right_cut zero xs ys long = refl
+right_cut (suc n) xs [] long = absurd (omega (arith, long))
+right_cut (suc n) xs (y ∷ ys) long =
+    ap (λ o. ordering_then o Less) (canonical_cmp-shorter xs ys y (omega (arith, long)))
+    ∙ then_assoc (canonical_cmp xs ys) Less Less ∙ right_cut n xs ys (omega (arith, long))
+
+left_strict : (n : ℕ) (xs ys : List (List ℕ)) → length xs ≡ suc n + length ys → canonical_cmp xs ys ≡ ordering_then (canonical_cmp (drop (suc n) xs) ys) Greater
+left_strict n [] ys long = absurd (omega (arith, long))
+left_strict n (x ∷ xs) ys long = canonical_cmp-longer xs ys x (omega (arith, long)) ∙ left_cut n xs ys (omega (arith, long))
+
+right_strict : (n : ℕ) (xs ys : List (List ℕ)) → length ys ≡ suc n + length xs → canonical_cmp xs ys ≡ ordering_then (canonical_cmp xs (drop (suc n) ys)) Less
+right_strict n xs [] long = absurd (omega (arith, long))
+right_strict n xs (y ∷ ys) long = canonical_cmp-shorter xs ys y (omega (arith, long)) ∙ right_cut n xs ys (omega (arith, long))
+
+-- the names cut to one length, and then their lengths
+pub canonical_cmp-cut : (xs ys : List (List ℕ)) → canonical_cmp xs ys
+    ≡ ordering_then (canonical_cmp (drop (length xs - length ys) xs) (drop (length ys - length xs) ys))
+    (nat_cmp (length xs) (length ys))
+canonical_cmp-cut xs ys =
+    by_ranked _ _ _ (nat_cmp (length xs) (length ys)) (ranked (length xs) (length ys) (nat_cmp (length xs) (length ys)) refl)
+    (λ is less.
+    let n = length ys - length xs - 1 in
+    let no_left : length xs - length ys ≡ 0 = omega arith in
+    let right : length ys - length xs ≡ suc n = omega arith in
+    rw (is, no_left, right) (right_strict n xs ys (omega arith)))
+    (λ is same.
+    let no_left : length xs - length ys ≡ 0 = omega arith in
+    let no_right : length ys - length xs ≡ 0 = omega arith in
+    rw (is, no_left, no_right) (sym (then_Equal (canonical_cmp xs ys))))
+    (λ is greater.
+    let n = length xs - length ys - 1 in
+    let no_right : length ys - length xs ≡ 0 = omega arith in
+    let left : length xs - length ys ≡ suc n = omega arith in
+    rw (is, no_right, left) (left_strict n xs ys (omega arith)))
+
+-- one label of two names with as many
+pub record Steps (xs ys above_xs above_ys : List (List ℕ)) (x y : List ℕ) : Type 0 where
+  pub same_count : length above_xs ≡ length above_ys
+  pub decides : canonical_cmp xs ys ≡ ordering_then (canonical_cmp above_xs above_ys) (slice_cmp nat_cmp (map to_ascii_lowercase x) (map to_ascii_lowercase y))
+
+pub step : (xs ys above_xs above_ys : List (List ℕ)) (x y : List ℕ) → length xs ≡ length ys → xs ≡ x ∷ above_xs
+    → ys ≡ y ∷ above_ys → Steps xs ys above_xs above_ys x y
+step xs ys above_xs above_ys x y same xs_is ys_is =
+    let above : length above_xs ≡ length above_ys = omega (arith, same, ap length xs_is, ap length ys_is) in
+    record {
+      same_count = above;
+      decides = ap (λ a. canonical_cmp a ys) xs_is ∙ ap (canonical_cmp (x ∷ above_xs)) ys_is ∙ canonical_cmp-more above_xs above_ys x y above;
+    }
+
+-- octets of which a test says that they are the same
+pub same_octets : (a b : List ℕ) → pointwise nat_eq a b ≡ true → a ≡ b
+same_octets a b same = (bytes_decides a b).0 same

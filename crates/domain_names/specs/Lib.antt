@@ -1,0 +1,10 @@
+pub mod Words
+pub mod Name
+pub mod Order
+pub mod Parting
+pub mod Wire
+pub mod Laws
+pub mod Fault
+pub mod Text
+pub mod TextFault
+pub mod ErrorText

@@ -1,0 +1,104 @@
+-- names as text (RFC 1035, section 5.1; RFC 4343, section 2.1)
+use Rattle.std.specs.Prelude.{◌≡◌, ℕ, ◌+◌, ◌-◌, ◌*◌, ◌/◌, ◌%◌, ◌<◌, ◌≤◌, ◌⊎◌, ◌==◌, ◌||◌, ◌&&◌}
+use Rattle.std.specs.Prelude.{Bool, not, nat_le, [], ◌∷◌, ◌++◌, length, drop, Option, Some, None, if◌then◌else◌}
+use Rattle.std.specs.Char.{is_ascii_digit, is_ascii_graphic}
+use Rattle.std.specs.List.{flat_map}
+use Rattle.domain_octets.specs.Words.{Octets}
+use Rattle.domain_octets.specs.Characters.{space, quote, dollar, left_parenthesis, right_parenthesis, dot, semicolon, at_sign, backslash, tilde, digit_zero}
+use Rattle.domain_names.specs.Name.{IsName}
+use Rattle.domain_names.specs.Words.{Name, Label}
+
+-- a character from space to ~
+abbrev pub is_printable : ℕ → Bool
+is_printable c = nat_le space c && nat_le c tilde
+
+-- three digits, the first of which is a, for an octet
+abbrev pub decimal_at : ℕ → Octets → Option (ℕ × ℕ)
+decimal_at a (b ∷ c ∷ text) =
+    let value = (a - digit_zero) * 100 + (b - digit_zero) * 10 + (c - digit_zero) in
+    if (is_ascii_digit b && (is_ascii_digit c && nat_le value 255)) then Some (value, 4) else None
+decimal_at a (b ∷ []) = None
+decimal_at a [] = None
+
+-- what stands after a backslash: three digits for an octet, or any other printable character for
+-- itself
+abbrev pub escape_at : Octets → Option (ℕ × ℕ)
+escape_at [] = None
+escape_at (a ∷ text) =
+    if is_ascii_digit a then decimal_at a text else (if is_printable a then Some (a, 2) else None)
+
+-- the octet that a text within a label begins with, and how many characters spell it
+unfoldable pub symbol_at : Octets → Option (ℕ × ℕ)
+symbol_at [] = None
+symbol_at (c ∷ text) =
+    if c == backslash then escape_at text
+    else (if (is_printable c && not (c == dot)) then Some (c, 1) else None)
+
+-- the text begins with the text of this label; nothing follows it, or a dot with what stands after
+-- that
+pub data LabelText : Octets → Label → Octets → Type 0 where
+  at_end : LabelText [] [] []
+  at_dot : (after : Octets) → LabelText (dot ∷ after) [] (dot ∷ after)
+  octet : (text : Octets) (label : Label) (after : Octets) (c used : ℕ)
+      → symbol_at text ≡ Some (c, used) → LabelText (drop used text) label after
+      → LabelText text (c ∷ label) after
+
+-- the text begins with no label of at most 63 octets
+abbrev pub HasNoLabel : Octets → Type 0
+HasNoLabel text = (label : Label) (after : Octets) → LabelText text label after → 63 < length label
+
+-- the text begins with no label that can stand after these octets of a name
+abbrev pub HasNoLabelAfter : Octets → Octets → Type 0
+HasNoLabelAfter wire text = HasNoLabel text
+    ⊎ ((label : Label) × (after : Octets) × LabelText text label after
+    × ((length label ≡ 0) ⊎ (255 ≤ length wire + length label)))
+
+-- labels with dots between them, leaf first, with or without a last dot
+pub data LabelTexts : Octets → Name → Type 0 where
+  last : (text : Octets) (label : Label) → LabelText text label [] → LabelTexts text (label ∷ [])
+  last_with_dot : (text : Octets) (label : Label) → LabelText text label (dot ∷ [])
+      → LabelTexts text (label ∷ [])
+  dotted : (text : Octets) (label : Label) (after : Octets) (labels : Name)
+      → LabelText text label (dot ∷ after) → LabelTexts after labels
+      → LabelTexts text (label ∷ labels)
+
+-- the text is a name: the root is a dot
+pub data NameText : Octets → Name → Type 0 where
+  root : NameText (dot ∷ []) []
+  of_labels : (text : Octets) (labels : Name) → LabelTexts text labels → IsName labels
+      → NameText text labels
+
+-- no name has this text
+abbrev pub IsNoName : Octets → Type 0
+IsNoName text = (labels : Name) → NameText text labels → ⊥
+
+-- a character that has a meaning of its own: " $ ( ) . ; @ \
+abbrev pub is_special : ℕ → Bool
+is_special c =
+    c == quote || c == dollar || c == left_parenthesis || c == right_parenthesis || c == dot
+    || c == semicolon || c == at_sign || c == backslash
+
+-- a character that is written as it is
+abbrev pub is_ordinary : ℕ → Bool
+is_ordinary c = is_ascii_graphic c && not (is_special c)
+
+-- an octet within a label
+unfoldable pub octet_text : ℕ → Octets
+octet_text c =
+    if is_special c then backslash ∷ c ∷ []
+    else (if is_ascii_graphic c then c ∷ []
+    else backslash ∷ (digit_zero + c / 100) ∷ (digit_zero + c / 10 % 10)
+    ∷ (digit_zero + c % 10) ∷ [])
+
+abbrev pub label_text : Label → Octets
+label_text = flat_map octet_text
+
+-- each label after a dot
+abbrev pub dotted_text : Name → Octets
+dotted_text [] = []
+dotted_text (label ∷ labels) = dot ∷ (label_text label ++ dotted_text labels)
+
+-- labels with dots between them
+abbrev pub name_text : Name → Octets
+name_text [] = []
+name_text (label ∷ labels) = label_text label ++ dotted_text labels

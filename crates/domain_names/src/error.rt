@@ -1,0 +1,113 @@
+//! Why names or tokens were not read.
+ghost use Rattle.std.specs.Prelude.{◌≡◌, Some};
+ghost use Rattle.domain_names.specs.declared.error.ScanError.TheVariants as scan_error;
+ghost use Rattle.domain_names.specs.TextFault.{scan_error_of};
+ghost use Rattle.domain_names.specs.ErrorText.{name_error_text, scan_error_text};
+ghost use Rattle.domain_names.specs.Fault.{fault_of, name_fault_of};
+
+use domain_octets::{AppendError, OutOfMemory, ParseError};
+use std::alloc::{AllocError, AllocFailed};
+use std::error::Error;
+use std::fmt;
+
+/// Why octets do not begin with a name (RFC 1035, section 3.1): a `ParseError` without its text.
+#[derive(Clone, Copy, Debug, PartialEq, Eq)]
+pub enum NameError {
+    /// The octets end within the name.
+    ShortInput,
+    /// A label has over 63 octets, or is a pointer to another place in a message.
+    BadLabel,
+    /// The name has over 255 octets.
+    LongName,
+}
+
+impl fmt::Display for NameError {
+    // These texts stand once more in specs/ErrorText.antt: both change together.
+    ghost output = { λ e. Some (name_error_text e) };
+
+    fn fmt<W: fmt::Write>(&self, f: &mut fmt::Formatter<W>) -> fmt::Result {
+        f.write_str(match self {
+            NameError::ShortInput => "unexpected end of input",
+            NameError::BadLabel => "compressed or bad label",
+            NameError::LongName => "long domain name",
+        })
+    }
+}
+
+impl Error for NameError {}
+
+impl From<NameError> for ParseError {
+    ghost from_gives = { λ f e. fault_of e ≡ name_fault_of f };
+
+    fn from(error: NameError) -> ParseError {
+        match error {
+            NameError::ShortInput => ParseError::ShortInput,
+            NameError::BadLabel => ParseError::Form("compressed or bad label"),
+            NameError::LongName => ParseError::Form("long domain name"),
+        }
+    }
+}
+
+/// Why a text, or the tokens of an entry, were not read.
+#[derive(Clone, Copy, Debug, PartialEq, Eq)]
+pub enum ScanError {
+    /// There is no token where one is needed.
+    EndOfEntry,
+    /// A text is not of the form that is wanted, as this says.
+    Custom(&'static str),
+    /// The octets that a token stands for have no room in their builder.
+    ShortBuf,
+    /// There was no memory.
+    OutOfMemory,
+}
+
+impl fmt::Display for ScanError {
+    // These texts stand once more in specs/ErrorText.antt: both change together.
+    ghost output = { λ e. Some (scan_error_text e) };
+
+    fn fmt<W: fmt::Write>(&self, f: &mut fmt::Formatter<W>) -> fmt::Result {
+        match self {
+            ScanError::EndOfEntry => f.write_str("unexpected end of entry"),
+            ScanError::Custom(text) => f.write_str(text),
+            ScanError::ShortBuf => f.write_str("buffer size exceeded"),
+            ScanError::OutOfMemory => f.write_str("out of memory"),
+        }
+    }
+}
+
+impl Error for ScanError {}
+
+impl From<AppendError> for ScanError {
+    ghost from_gives = { λ a e. e ≡ scan_error_of a };
+
+    fn from(error: AppendError) -> ScanError {
+        match error {
+            AppendError::ShortBuf => ScanError::ShortBuf,
+            AppendError::OutOfMemory => ScanError::OutOfMemory,
+        }
+    }
+}
+
+impl From<OutOfMemory> for ScanError {
+    ghost from_gives = { λ _ e. e ≡ scan_error.OutOfMemory };
+
+    fn from(_error: OutOfMemory) -> ScanError {
+        ScanError::OutOfMemory
+    }
+}
+
+impl From<AllocError> for ScanError {
+    ghost from_gives = { λ _ e. e ≡ scan_error.OutOfMemory };
+
+    fn from(_error: AllocError) -> ScanError {
+        ScanError::OutOfMemory
+    }
+}
+
+impl<T: Drop> From<AllocFailed<T>> for ScanError {
+    ghost from_gives = { λ _ e. e ≡ scan_error.OutOfMemory };
+
+    fn from(_error: AllocFailed<T>) -> ScanError {
+        ScanError::OutOfMemory
+    }
+}

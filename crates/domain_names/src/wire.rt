@@ -1,0 +1,415 @@
+//! Names on the wire, as octets.
+ghost use Rattle.std.specs.Prelude.{◌≡◌, ◌<◌, ◌≤◌, ◌∷◌, [], length, map, drop, IfSome, IfNone, IsTrue, IfOk, IfErr, OnOk, false, ◌++◌, ◌↔◌, fold, option_map};
+ghost use Rattle.std.specs.Char.{to_ascii_lowercase};
+ghost use Rattle.std.specs.Ordering.{nat_cmp};
+ghost use Rattle.std.specs.Cmp.Lexicographic.{slice_cmp};
+ghost use Rattle.std.specs.Hash as fed;
+ghost use Rattle.domain_names.specs.Name.{wire_of, lowered, IsSame, same_name, IsAtOrBelow, is_at_or_below};
+ghost use Rattle.domain_names.specs.Wire.{labels_of, IsWire};
+ghost use Rattle.domain_names.specs.Fault.{NameFault, WholeNameFault, fault_of, name_fault_of};
+ghost use Rattle.domain_names.specs.Order.{canonical_cmp, common_labels};
+ghost use Rattle.domain_names.specs.Parting.{EndAlike, EndsIn, Part, order_below};
+
+use crate::{Comparison, NameError, ParseError};
+use std::cmp::Ordering;
+use std::hash::Hasher;
+
+/// The greatest length of a name, in octets of its wire form (RFC 1035, section 2.3.4).
+pub const MAX_NAME: usize = 255;
+
+/// The greatest length of a label.
+pub const MAX_LABEL_LEN: usize = 63;
+
+/// The first label and the name above it.
+#[tactic(auto, using(crate::proofs::WireLemmas::label_steps))]
+pub fn split_first(wire: &[u8]) -> Option<(&[u8], &[u8])>
+    requires { IsWire wire.now }
+    ensures root { IfNone result (labels_of wire.now ≡ []) }
+    ensures label { IfSome result (λ p. labels_of wire.now ≡ p.0.now ∷ labels_of p.1.now) }
+    ensures rest { IfSome result (λ p. IsWire p.1.now) }
+    ensures shorter { IfSome result (λ p. length p.1.now < length wire.now) }
+{
+    let len = wire[0] as usize;
+    if len == 0 {
+        return None;
+    }
+    Some((&wire[1..len + 1], &wire[len + 1..]))
+}
+
+/// How many labels a name has.
+#[tactic(auto, using(crate::proofs::WireLemmas::count_at))]
+pub(crate) fn count_labels(wire: &[u8]) -> usize
+    requires { IsWire wire.now }
+    ensures { result ≡ length (labels_of wire.now) }
+{
+    let mut count = 0;
+    let mut wire = wire;
+    while let Some((_, above)) = split_first(wire) {
+        count += 1;
+        wire = above;
+    }
+    count
+}
+
+/// The name that is left without the first labels.
+#[tactic(auto, using(crate::proofs::WireLemmas::drop_next, crate::proofs::WireLemmas::drop_nothing))]
+fn skip_labels(wire: &[u8], count: usize) -> &[u8]
+    requires wire { IsWire wire.now }
+    requires within { count ≤ length (labels_of wire.now) }
+    ensures rest { labels_of result.now ≡ drop count (labels_of wire.now) }
+    ensures wire { IsWire result.now }
+{
+    let mut wire = wire;
+    for i in 0..count {
+        let Some((_, above)) = split_first(wire) else {
+            unreachable!();
+        };
+        wire = above;
+    }
+    wire
+}
+
+/// The order of two octets with A to Z lowered. Octets that are the same are not lowered.
+fn lowered_octet_cmp(a: u8, b: u8) -> Ordering
+    ensures { result ≡ nat_cmp (to_ascii_lowercase a) (to_ascii_lowercase b) }
+{
+    if a == b {
+        return Ordering::Equal;
+    }
+    a.to_ascii_lowercase().cmp(&b.to_ascii_lowercase())
+}
+
+/// The order of octets with A to Z lowered.
+fn lowered_octets_cmp(a: &[u8], b: &[u8]) -> Ordering
+    ensures { result ≡ slice_cmp nat_cmp (map to_ascii_lowercase a.now)
+        (map to_ascii_lowercase b.now) }
+{
+    let most = a.len().min(b.len());
+    for i in 0..most {
+        let order = lowered_octet_cmp(a[i], b[i]);
+        if order.is_ne() {
+            return order;
+        }
+    }
+    a.len().cmp(&b.len())
+}
+
+/// The canonical order of names with as many labels. Labels are only compared where all nearer the
+/// root are the same.
+fn aligned_cmp(a: &[u8], b: &[u8]) -> Ordering
+    requires a { IsWire a.now }
+    requires b { IsWire b.now }
+    requires same_count { length (labels_of a.now) ≡ length (labels_of b.now) }
+    ensures { result ≡ canonical_cmp (labels_of a.now) (labels_of b.now) }
+{
+    let (Some((x, a_above)), Some((y, b_above))) = (split_first(a), split_first(b)) else {
+        return Ordering::Equal;
+    };
+    match aligned_cmp(a_above, b_above) {
+        Ordering::Equal => lowered_octets_cmp(x, y),
+        decided => decided,
+    }
+}
+
+/// The canonical order, from the root on. Labels at the leaf that the other name does not reach
+/// come last.
+fn cmp_from_root(a: &[u8], b: &[u8]) -> Ordering
+    requires a { IsWire a.now }
+    requires b { IsWire b.now }
+    ensures { result ≡ canonical_cmp (labels_of a.now) (labels_of b.now) }
+{
+    let a_count = count_labels(a);
+    let b_count = count_labels(b);
+    let a_end = skip_labels(a, a_count.saturating_sub(b_count));
+    let b_end = skip_labels(b, b_count.saturating_sub(a_count));
+    aligned_cmp(a_end, b_end).then(a_count.cmp(&b_count))
+}
+
+/// Whether both have eight octets, and the last eight of both are the same. Compares them at once.
+fn same_last_eight(a: &[u8], b: &[u8]) -> bool
+    ensures { IsTrue result → EndAlike a.now b.now 8 }
+{
+    match (a.last_chunk::<8>(), b.last_chunk::<8>()) {
+        (Some(x), Some(y)) => u64::from_le_bytes(*x) == u64::from_le_bytes(*y),
+        _ => false,
+    }
+}
+
+/// A number of octets that two lists end in alike: eight at a time, as far as they go.
+fn equal_eights(a: &[u8], b: &[u8]) -> usize
+    ensures { EndAlike a.now b.now result }
+{
+    let mut count = 0;
+    let mut a_front = a;
+    let mut b_front = b;
+    while same_last_eight(a_front, b_front) {
+        count += 8;
+        a_front = &a_front[..a_front.len() - 8];
+        b_front = &b_front[..b_front.len() - 8];
+    }
+    count
+}
+
+/// How many octets two names end in alike, the root's among them.
+fn equal_end(a: &[u8], b: &[u8]) -> usize
+    requires a { IsWire a.now }
+    requires b { IsWire b.now }
+    ensures root { 1 ≤ result }
+    ensures alike { EndAlike a.now b.now result }
+{
+    let most = a.len().min(b.len());
+    let eights = equal_eights(a, b);
+    let start = if eights == 0 { 1 } else { eights };
+    for count in start..most {
+        if a[a.len() - 1 - count] != b[b.len() - 1 - count] {
+            return count;
+        }
+    }
+    most
+}
+
+/// The longest end of a name that has at most so many octets, and the label right below it.
+fn end_within(name: &[u8], most: usize) -> (Option<&[u8]>, &[u8])
+    requires name { IsWire name.now }
+    requires root { 1 ≤ most }
+    ensures wire { IsWire result.1.now }
+    ensures end { EndsIn (labels_of name.now) (option_map (λ x. x.now) result.0)
+        (labels_of result.1.now) }
+    ensures within { length result.1.now ≤ most }
+{
+    let mut below = None;
+    let mut end = name;
+    while end.len() > most {
+        let Some((label, above)) = split_first(end) else {
+            unreachable!();
+        };
+        below = Some(label);
+        end = above;
+    }
+    (below, end)
+}
+
+/// Where two names part.
+#[derive(Clone, Copy)]
+struct Parting<'a> {
+    /// The label of the first right below the shared end, if it has more labels than that.
+    left: Option<&'a [u8]>,
+    /// That of the second.
+    right: Option<&'a [u8]>,
+    /// The longest end that both have octet for octet.
+    shared: &'a [u8],
+}
+
+/// Where two names part.
+fn part<'a>(a: &'a [u8], b: &'a [u8]) -> Parting<'a>
+    requires a { IsWire a.now }
+    requires b { IsWire b.now }
+    ensures wire { IsWire result.shared.now }
+    ensures parts { Part (labels_of a.now) (labels_of b.now)
+        (option_map (λ x. x.now) result.left) (option_map (λ y. y.now) result.right)
+        (labels_of result.shared.now) }
+{
+    let equal = equal_end(a, b);
+    let (mut x, mut a_end) = end_within(a, equal);
+    let (mut y, mut b_end) = end_within(b, equal);
+    'parting: while a_end.len() != b_end.len() {
+        if a_end.len() > b_end.len() {
+            let Some((label, above)) = split_first(a_end) else {
+                unreachable!();
+            };
+            x = Some(label);
+            a_end = above;
+        } else {
+            let Some((label, above)) = split_first(b_end) else {
+                unreachable!();
+            };
+            y = Some(label);
+            b_end = above;
+        }
+    }
+    Parting {
+        left: x,
+        right: y,
+        shared: a_end,
+    }
+}
+
+/// What the labels decide at which two names part, unless they differ in case alone. A name without
+/// such a label comes first.
+fn order_below(x: Option<&[u8]>, y: Option<&[u8]>) -> Option<Ordering>
+    ensures { result ≡ order_below (option_map (λ l. l.now) x.entry)
+        (option_map (λ l. l.now) y.entry) }
+{
+    match (x, y) {
+        (None, None) => Some(Ordering::Equal),
+        (None, Some(_)) => Some(Ordering::Less),
+        (Some(_), None) => Some(Ordering::Greater),
+        (Some(x), Some(y)) => match lowered_octets_cmp(x, y) {
+            Ordering::Equal => None,
+            order => Some(order),
+        },
+    }
+}
+
+/// The canonical order.
+pub fn canonical_cmp(a: &[u8], b: &[u8]) -> Ordering
+    requires a { IsWire a.now }
+    requires b { IsWire b.now }
+    ensures { result ≡ canonical_cmp (labels_of a.now) (labels_of b.now) }
+{
+    let parting = part(a, b);
+    match order_below(parting.left, parting.right) {
+        Some(order) => order,
+        None => cmp_from_root(a, b),
+    }
+}
+
+/// Whether two names differ in the case of letters at most.
+pub fn is_same(a: &[u8], b: &[u8]) -> bool
+    requires a { IsWire a.now }
+    requires b { IsWire b.now }
+    ensures value { result ≡ same_name (labels_of a.now) (labels_of b.now) }
+    ensures same { IsTrue result ↔ IsSame (labels_of a.now) (labels_of b.now) }
+{
+    a == b || a.eq_ignore_ascii_case(b)
+}
+
+/// Whether a name is at or below another. Its end that has no more octets than the other decides.
+pub fn is_at_or_below(name: &[u8], above: &[u8]) -> bool
+    requires name { IsWire name.now }
+    requires above { IsWire above.now }
+    ensures value { result ≡ is_at_or_below (labels_of name.now) (labels_of above.now) }
+    ensures below { IsTrue result ↔ IsAtOrBelow (labels_of name.now) (labels_of above.now) }
+{
+    let mut end = name;
+    while end.len() > above.len() {
+        let Some((_, rest)) = split_first(end) else {
+            unreachable!();
+        };
+        end = rest;
+    }
+    is_same(end, above)
+}
+
+/// How many labels two names share, counted from where both have as many left.
+fn common_from_root(a: &[u8], b: &[u8]) -> usize
+    requires a { IsWire a.now }
+    requires b { IsWire b.now }
+    ensures { result ≡ common_labels (labels_of a.now) (labels_of b.now) }
+{
+    let a_count = count_labels(a);
+    let b_count = count_labels(b);
+    let mut x = skip_labels(a, a_count.saturating_sub(b_count));
+    let mut y = skip_labels(b, b_count.saturating_sub(a_count));
+    let mut common = 0;
+    'labels: while let (Some((label, x_above)), Some((facing, y_above))) = (
+        split_first(x),
+        split_first(y),
+    ) {
+        common = if label.eq_ignore_ascii_case(facing) {
+            common + 1
+        } else {
+            0
+        };
+        x = x_above;
+        y = y_above;
+    }
+    common
+}
+
+/// The canonical order, and how many labels are shared: those of the end at which the names part,
+/// unless the labels below it differ in case alone.
+pub fn compare(a: &[u8], b: &[u8]) -> Comparison
+    requires a { IsWire a.now }
+    requires b { IsWire b.now }
+    ensures order { result.order ≡ canonical_cmp (labels_of a.now) (labels_of b.now) }
+    ensures common { result.common ≡ common_labels (labels_of a.now) (labels_of b.now) }
+{
+    let parting = part(a, b);
+    match order_below(parting.left, parting.right) {
+        Some(order) => Comparison {
+            order,
+            common: count_labels(parting.shared),
+        },
+        None => Comparison {
+            order: cmp_from_root(a, b),
+            common: common_from_root(a, b),
+        },
+    }
+}
+
+/// Feeds the lowered octets.
+#[tactic(auto, using(crate::proofs::CaseLemmas::lowered_wire))]
+pub fn hash<H: Hasher>(wire: &[u8], state: &mut H)
+    requires { IsWire wire.now }
+    ensures { state.new ≡ fold H.write state.old
+        (fed.slice fed.u8 (wire_of (lowered (labels_of wire.now)))) }
+{
+    state.write_usize(wire.len());
+    for octet in wire {
+        state.write_u8(octet.to_ascii_lowercase());
+    }
+}
+
+/// The name that octets begin with, and what is left of them.
+#[tactic(auto, using(crate::proofs::FaultLemmas::reading_steps))]
+pub fn split_name(octets: &[u8]) -> Result<(&[u8], &[u8]), NameError>
+    ensures wire { IfOk result (λ found. IsWire found.0.now) }
+    ensures parts { IfOk result (λ found. octets.now ≡ found.0.now ++ found.1.now) }
+    ensures err { IfErr result (λ e. NameFault 0 octets.now (name_fault_of e)) }
+{
+    let mut at = 0;
+    loop {
+        let Some(&len) = octets.get(at) else {
+            return Err(NameError::ShortInput);
+        };
+        if len == 0 {
+            break;
+        }
+        if usize::from(len) > MAX_LABEL_LEN {
+            return Err(NameError::BadLabel);
+        }
+        let end = at + 1 + len as usize;
+        if end >= MAX_NAME {
+            return Err(NameError::LongName);
+        }
+        if end > octets.len() {
+            return Err(NameError::ShortInput);
+        }
+        at = end;
+    }
+    Ok(octets.split_at(at + 1))
+}
+
+/// Checks that octets are a name and nothing more.
+pub fn check(octets: &[u8]) -> Result<(), ParseError>
+    ensures ok { OnOk result (IsWire octets.now) }
+    ensures err { IfErr result (λ e. WholeNameFault octets.now (fault_of e)) }
+{
+    match split_name(octets) {
+        Ok((_, [])) => Ok(()),
+        Ok(_) => Err(ParseError::Form("trailing data")),
+        Err(error) => Err(ParseError::from(error)),
+    }
+}
+
+/// The order of the octets of two names.
+#[tactic(auto, using(crate::proofs::WireLemmas::wire_is))]
+pub fn composed_cmp(a: &[u8], b: &[u8]) -> Ordering
+    requires a { IsWire a.now }
+    requires b { IsWire b.now }
+    ensures { result ≡ slice_cmp nat_cmp (wire_of (labels_of a.now)) (wire_of (labels_of b.now)) }
+{
+    a.cmp(b)
+}
+
+/// The order of the lowered octets of two names.
+#[tactic(auto, using(crate::proofs::CaseLemmas::lowered_wire))]
+pub fn lowered_cmp(a: &[u8], b: &[u8]) -> Ordering
+    requires a { IsWire a.now }
+    requires b { IsWire b.now }
+    ensures { result ≡ slice_cmp nat_cmp (wire_of (lowered (labels_of a.now)))
+        (wire_of (lowered (labels_of b.now))) }
+{
+    lowered_octets_cmp(a, b)
+}
