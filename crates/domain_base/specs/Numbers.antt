@@ -6,28 +6,28 @@ use Rattle.domain_names.specs.TextFault.{ScanFault, illegal}
 use Rattle.domain_base.specs.Classes.{in_class, ch_class, hs_class}
 use Rattle.domain_base.specs.Types as rtypes
 
--- the types that are known by a name
+-- the types that are known by a name, in the order of the code's table
 abbrev pub type_names : List Named
 type_names =
-    record { number = rtypes.a; name = codes "A" }
-    ∷ record { number = rtypes.ns; name = codes "NS" }
-    ∷ record { number = rtypes.cname; name = codes "CNAME" }
-    ∷ record { number = rtypes.soa; name = codes "SOA" }
-    ∷ record { number = rtypes.ptr; name = codes "PTR" }
-    ∷ record { number = rtypes.hinfo; name = codes "HINFO" }
-    ∷ record { number = rtypes.mx; name = codes "MX" }
-    ∷ record { number = rtypes.txt; name = codes "TXT" }
-    ∷ record { number = rtypes.aaaa; name = codes "AAAA" }
-    ∷ record { number = rtypes.srv; name = codes "SRV" }
-    ∷ record { number = rtypes.naptr; name = codes "NAPTR" }
-    ∷ record { number = rtypes.dname; name = codes "DNAME" }
+    record { number = rtypes.ns; name = codes "NS" }
+    ∷ record { number = rtypes.a; name = codes "A" }
     ∷ record { number = rtypes.ds; name = codes "DS" }
-    ∷ record { number = rtypes.sshfp; name = codes "SSHFP" }
     ∷ record { number = rtypes.rrsig; name = codes "RRSIG" }
     ∷ record { number = rtypes.nsec; name = codes "NSEC" }
+    ∷ record { number = rtypes.aaaa; name = codes "AAAA" }
+    ∷ record { number = rtypes.mx; name = codes "MX" }
+    ∷ record { number = rtypes.txt; name = codes "TXT" }
+    ∷ record { number = rtypes.soa; name = codes "SOA" }
+    ∷ record { number = rtypes.ptr; name = codes "PTR" }
+    ∷ record { number = rtypes.cname; name = codes "CNAME" }
     ∷ record { number = rtypes.dnskey; name = codes "DNSKEY" }
     ∷ record { number = rtypes.nsec3; name = codes "NSEC3" }
     ∷ record { number = rtypes.nsec3param; name = codes "NSEC3PARAM" }
+    ∷ record { number = rtypes.hinfo; name = codes "HINFO" }
+    ∷ record { number = rtypes.srv; name = codes "SRV" }
+    ∷ record { number = rtypes.naptr; name = codes "NAPTR" }
+    ∷ record { number = rtypes.dname; name = codes "DNAME" }
+    ∷ record { number = rtypes.sshfp; name = codes "SSHFP" }
     ∷ record { number = rtypes.tlsa; name = codes "TLSA" }
     ∷ record { number = rtypes.cds; name = codes "CDS" }
     ∷ record { number = rtypes.cdnskey; name = codes "CDNSKEY" }

@@ -154,30 +154,31 @@ impl From<Rtype> for u16 {
     }
 }
 
-/// The types that are known by a name.
+/// The types that are known by a name, those first that zones and their chains have most of, since
+/// a table is looked through from its beginning.
 fn names() -> &'static [(u16, &'static str)]
     ensures { entries result.now ≡ type_names }
 {
     &[
-        (1, "A"),
         (2, "NS"),
-        (5, "CNAME"),
-        (6, "SOA"),
-        (12, "PTR"),
-        (13, "HINFO"),
-        (15, "MX"),
-        (16, "TXT"),
-        (28, "AAAA"),
-        (33, "SRV"),
-        (35, "NAPTR"),
-        (39, "DNAME"),
+        (1, "A"),
         (43, "DS"),
-        (44, "SSHFP"),
         (46, "RRSIG"),
         (47, "NSEC"),
+        (28, "AAAA"),
+        (15, "MX"),
+        (16, "TXT"),
+        (6, "SOA"),
+        (12, "PTR"),
+        (5, "CNAME"),
         (48, "DNSKEY"),
         (50, "NSEC3"),
         (51, "NSEC3PARAM"),
+        (13, "HINFO"),
+        (33, "SRV"),
+        (35, "NAPTR"),
+        (39, "DNAME"),
+        (44, "SSHFP"),
         (52, "TLSA"),
         (59, "CDS"),
         (60, "CDNSKEY"),

@@ -3,8 +3,9 @@ use Rattle.std.proofs.Common.{◌≡◌, ℕ, zero, suc, ◌+◌, ◌-◌, ◌*�
 use Rattle.std.specs.Prelude.{◌||◌, ◌==◌, bit_or, bit_and}
 use Rattle.std.specs.Int.{bit_at}
 use Rattle.std.proofs.lemmas.Nat.Bits.{bit_at_set_same, bit_at_set_other, shr_and_one, same_from_bits_below, bit_at-lt, bit_at-zero}
+use Rattle.std.proofs.lemmas.Bool.{cases_eq}
 use Rattle.std.proofs.lemmas.Bool.Decides.{nat_tests, eqb_tells}
-use Rattle.domain_bitmap.specs.Bits.{bit_of, octet_with, weight}
+use Rattle.domain_bitmap.specs.Bits.{bit_of, AreClear, octet_with, weight}
 
 -- a bit as a number
 digit : Bool → ℕ
@@ -131,3 +132,8 @@ octet_with-none p none = octets_same (octet_with p) 0 (octet_with-lt p) (omega a
     ∙ none b small ∙ sym (bit_of-zero b))
 
 pub ruleset bit_reads = (bit_of-shr, bit_of-zero)
+
+-- one more bit that is not set
+pub clear_more : (octet from b : ℕ) → AreClear octet from b → bit_of octet b ≡ false → AreClear octet from (b + 1)
+clear_more octet from b clear here = λ k low high.
+    elim (cases_eq k b) [ inl same ↦ ap (bit_of octet) same ∙ here | inr other ↦ clear k low (omega (arith, high, other)) ]

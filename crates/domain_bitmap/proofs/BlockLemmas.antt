@@ -1,6 +1,6 @@
 -- octets read as blocks
-use Rattle.std.proofs.Common.{◌≡◌, ℕ, zero, suc, ◌+◌, ◌-◌, ◌*◌, ◌/◌, ◌%◌, ◌<◌, ◌≤◌, ◌≢◌, Bool, true, false, List, [], ◌∷◌, ◌++◌, length, slice_index, get_or}
-use Rattle.std.proofs.Common.{take, drop, refl, sym, ap, subst, arith, length-append}
+use Rattle.std.proofs.Common.{◌≡◌, ℕ, zero, suc, ◌+◌, ◌-◌, ◌*◌, ◌/◌, ◌%◌, ◌<◌, ◌≤◌, ◌≢◌, true, false, List, [], ◌∷◌, ◌++◌, length, slice_index, get_or}
+use Rattle.std.proofs.Common.{take, drop, refl, sym, ap, ◌∙◌, subst, arith, length-append}
 use Rattle.std.specs.List.{AllByRecursion, flat_map}
 use Rattle.std.proofs.lemmas.List.{take_at, drop_at, get_or_past}
 use Rattle.std.proofs.lemmas.List.Elements.{All-from_recursion, All-append, All-cons, All-nil}
@@ -12,7 +12,7 @@ use Rattle.domain_bitmap.proofs.BitLemmas.{bit_of-zero}
 use Rattle.std.proofs.lemmas.List.Concat.{flat_map-append}
 use Rattle.domain_bitmap.specs.Blocks.{Block, IsBlock, octets_of_blocks, blocks_within, blocks_of, IsBitmap, block_types_from, types_from, types_of}
 use Rattle.domain_bitmap.specs.Blocks.{contains_type}
-use Rattle.domain_bitmap.specs.Bits.{has_bit}
+use Rattle.domain_bitmap.specs.Bits.{bit_of, AreClear, IsFirstBit, has_bit}
 
 blocks_within-octets_of_blocks : (blocks : List Block) (n : ℕ) → length (octets_of_blocks blocks) ≤ n → blocks_within n (octets_of_blocks blocks) ≡ blocks
 unfolding blocks_within
@@ -103,21 +103,53 @@ types_past block place past =
     filter_none (has_bit block.octets) (256 * block.window + place) (256 - place)
     (λ t low high. let beyond : length block.octets ≤ t % 256 / 8 = omega arith in rw (get_or_past block.octets (t % 256 / 8) 0 beyond) (bit_of-zero (t % 8)))
 
--- what the code finds at a place is the type's bit, whatever the window
-abbrev pub IsBitAt : List ℕ → ℕ → Bool → Type 0
-IsBitAt octets place set = (t : ℕ) → t % 256 / 8 ≡ place / 8 → t % 8 ≡ place % 8 → set ≡ has_bit octets t
+-- the bit at a place in a window, by its octet
+bit_in : (octets : List ℕ) (w place : ℕ) → place < 256 → has_bit octets (256 * w + place) ≡ bit_of (slice_index octets (place / 8)) (place % 8)
+unfolding has_bit
+bit_in octets w place inside =
+    let octet : (256 * w + place) % 256 / 8 ≡ place / 8 = omega arith in
+    let bit : (256 * w + place) % 8 ≡ place % 8 = omega arith in
+    rw (octet, bit) refl
 
-pub found_at : (octets : List ℕ) (place : ℕ) → place < 256 → IsBitAt octets place true → (w : ℕ)
-    → block_types_from (record { window = w; octets = octets }) place
-    ≡ (256 * w + place) ∷ block_types_from (record { window = w; octets = octets }) (place + 1)
-found_at octets place inside set w =
-    types_step (record { window = w; octets = octets }) place inside (sym (set (256 * w + place) (omega arith) (omega arith)))
+clear_run : (block : Block) (place n : ℕ) → place + n ≤ 256
+    → ((k : ℕ) → place ≤ k → k < place + n → has_bit block.octets (256 * block.window + k) ≡ false)
+    → block_types_from block place ≡ block_types_from block (place + n)
+clear_run block place zero fits clear = ap (block_types_from block) (omega arith)
+clear_run block place (suc n) fits clear =
+    let moved : place + 1 + n ≡ place + suc n = omega arith in
+    types_skip block place (omega (arith, fits)) (clear place (omega arith) (omega arith))
+    ∙ clear_run block (place + 1) n (omega (arith, fits)) (λ k low high. clear k (omega (arith, low)) (omega (arith, high)))
+    ∙ ap (block_types_from block) moved
 
-pub clear_at : (octets : List ℕ) (place : ℕ) → place < 256 → IsBitAt octets place false → (w : ℕ)
+-- the bits of the octet at a place, from the place on and before another, are not set
+clear_in : (octets : List ℕ) (w place bit : ℕ) → place < 256 → place % 8 ≤ bit → bit ≤ 8
+    → AreClear (slice_index octets (place / 8)) (place % 8) bit
     → block_types_from (record { window = w; octets = octets }) place
-    ≡ block_types_from (record { window = w; octets = octets }) (place + 1)
-clear_at octets place inside clear w =
-    types_skip (record { window = w; octets = octets }) place inside (sym (clear (256 * w + place) (omega arith) (omega arith)))
+    ≡ block_types_from (record { window = w; octets = octets }) (place / 8 * 8 + bit)
+clear_in octets w place bit inside low high clear =
+    let moved : place + (bit - place % 8) ≡ place / 8 * 8 + bit = omega (arith, low) in
+    clear_run (record { window = w; octets = octets }) place (bit - place % 8) (omega (arith, inside, high, low)) (λ k from to.
+    let octet : k / 8 ≡ place / 8 = omega (arith, from, to, high, low) in
+    let kept : bit_of (slice_index octets (k / 8)) (k % 8) ≡ false
+    = rw octet (clear (k % 8) (omega (arith, from, to, high, low)) (omega (arith, from, to, high, low))) in
+    bit_in octets w k (omega (arith, to, inside, high, low)) ∙ kept)
+    ∙ ap (block_types_from (record { window = w; octets = octets })) moved
+
+pub found_at : (octets : List ℕ) (place bit : ℕ) → place < 256 → bit < 8 → IsFirstBit (slice_index octets (place / 8)) (place % 8) bit → (w : ℕ)
+    → block_types_from (record { window = w; octets = octets }) place
+    ≡ (256 * w + (place / 8 * 8 + bit)) ∷ block_types_from (record { window = w; octets = octets }) (place / 8 * 8 + bit + 1)
+found_at octets place bit inside small first w =
+    let found = place / 8 * 8 + bit in
+    let octet : found / 8 ≡ place / 8 = omega (arith, small) in
+    let within : found % 8 ≡ bit = omega (arith, small) in
+    clear_in octets w place bit inside first.low (omega (arith, small)) first.before
+    ∙ types_step (record { window = w; octets = octets }) found (omega (arith, inside, small))
+    (bit_in octets w found (omega (arith, inside, small)) ∙ rw (octet, within) first.set)
+
+pub clear_at : (octets : List ℕ) (place : ℕ) → place < 256 → AreClear (slice_index octets (place / 8)) (place % 8) 8 → (w : ℕ)
+    → block_types_from (record { window = w; octets = octets }) place
+    ≡ block_types_from (record { window = w; octets = octets }) (place / 8 * 8 + 8)
+clear_at octets place inside clear w = clear_in octets w place 8 inside (omega arith) (omega arith) clear
 
 types_from-blocks : (blocks : List Block) → types_from blocks 0 ≡ flat_map (λ block. block_types_from block 0) blocks
 types_from-blocks [] = refl

@@ -1,6 +1,6 @@
 //! Octets read as blocks.
 ghost use Rattle.std.specs.Prelude.{◌≡◌, ℕ, ◌+◌, ◌*◌, ◌/◌, ◌%◌, ◌<◌, ◌≤◌, ◌∷◌, [], length, IfSome, IfNone, MatchResult};
-ghost use Rattle.domain_bitmap.specs.Bits.{has_bit};
+ghost use Rattle.domain_bitmap.specs.Bits.{AreClear, IsFirstBit, has_bit};
 ghost use Rattle.domain_bitmap.specs.Blocks.{IsBitmap, blocks_of, block_types_from};
 ghost use Rattle.domain_bitmap.specs.Fault.{FirstBlockFault};
 
@@ -75,7 +75,25 @@ pub(crate) fn is_set(octets: &[u8], octet: usize, bit: u8) -> bool
     }
 }
 
-/// The first place in a window, from one on, whose bit is set.
+/// The first bit of an octet, from one on, that is set, the most significant bit being the first.
+fn first_bit(octet: u8, from: u8) -> Option<u8>
+    requires { from < 8 }
+    ensures some { IfSome result (λ bit. (bit < 8) × IsFirstBit octet from bit) }
+    ensures none { IfNone result (AreClear octet from 8) }
+{
+    if octet == 0 {
+        return None;
+    }
+    for bit in from..8 {
+        if octet >> (7 - bit) & 1 == 1 {
+            return Some(bit);
+        }
+    }
+    None
+}
+
+/// The first place in a window, from one on, whose bit is set. An octet without bits is passed at
+/// once.
 pub(crate) fn first_set(octets: &[u8], from: usize) -> Option<usize>
     requires { length octets.now ≤ 32 }
     ensures none { IfNone result ((w : ℕ)
@@ -86,10 +104,13 @@ pub(crate) fn first_set(octets: &[u8], from: usize) -> Option<usize>
         (place + 1)) }
     ensures bounds { IfSome result (λ place. place < 256) }
 {
-    for place in from..8 * octets.len() {
-        if is_set(octets, place / 8, (place % 8) as u8) {
-            return Some(place);
+    let mut place = from;
+    while place < 8 * octets.len() {
+        let start = place / 8 * 8;
+        if let Some(bit) = first_bit(octets[place / 8], (place % 8) as u8) {
+            return Some(start + bit as usize);
         }
+        place = start + 8;
     }
     None
 }

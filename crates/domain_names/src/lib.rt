@@ -6,10 +6,10 @@
 //! - [`CanonicalOrd`] is an order that is total.
 //! - [`ScanError`] and [`NameError`] are why a text or octets are no name.
 //!
-//! The crate above may rely on this: a contract sees a name as its list of labels; what is read from
-//! octets or from a text is exactly a grammar, with the first fault as the refusal; and names are
-//! ordered from the root, by labels with A to Z lowered. `domain_base` hands all of it on, with laws
-//! of that order. No comparison takes memory.
+//! The crate above may rely on this: a contract sees a name as its list of labels; what is read
+//! from octets or from a text is exactly a grammar, with the first fault as the refusal; and names
+//! are ordered from the root, by labels with A to Z lowered. `domain_base` hands all of it on, with
+//! laws of that order. No comparison takes memory.
 #![tactic(auto)]
 
 mod canonical;

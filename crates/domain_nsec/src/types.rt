@@ -7,7 +7,7 @@ ghost use Rattle.domain_zone.specs.View.{zone_of};
 
 use domain_base::{Rtype, ToName};
 use domain_bitmap::{RtypeBitmap, RtypeBitmapBuilder, RtypeBitmaps};
-use domain_octets::{EmptyBuilder, GrowingBuilder, OutOfMemory, SmallBuilder, SmallOctets};
+use domain_octets::{EmptyBuilder, GrowingBuilder, OutOfMemory};
 use domain_record::{Record, ZoneData};
 use domain_records::SliceRefsOrOwnedIterator;
 use domain_zone::{add_type, add_types};
@@ -38,12 +38,12 @@ fn types_of<N: ToName, D: ZoneData>(
     records: SliceRefsOrOwnedIterator<'_, Record<N, D>>,
     assumed: bool,
     at_cut: bool,
-) -> Result<RtypeBitmap<SmallOctets>, OutOfMemory>
+) -> Result<RtypeBitmap<Vec<u8>>, OutOfMemory>
     ensures { IfOk result (λ types. types
         ≡ bitmap_octets (is_listed assumed at_cut
         (zone_of N.labels D.rtype D.minimum records.entry))) }
 {
-    let mut types = common_types::<SmallBuilder>(alloc, assumed)?;
+    let mut types = common_types::<Vec<u8>>(alloc, assumed)?;
     add_types(&mut types, records, at_cut)?;
     Ok(types.finalize())
 }

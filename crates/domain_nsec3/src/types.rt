@@ -7,7 +7,7 @@ ghost use Rattle.domain_zone.specs.View.{zone_of};
 
 use domain_base::{Rtype, ToName};
 use domain_bitmap::{RtypeBitmap, RtypeBitmapBuilder, RtypeBitmaps};
-use domain_octets::{EmptyBuilder, GrowingBuilder, OutOfMemory, SmallBuilder, SmallOctets};
+use domain_octets::{EmptyBuilder, GrowingBuilder, OutOfMemory};
 use domain_record::{Record, ZoneData};
 use domain_records::SliceRefsOrOwnedIterator;
 use domain_zone::{add_type, add_types};
@@ -63,12 +63,12 @@ fn types_of<N: ToName, D: ZoneData>(
     records: SliceRefsOrOwnedIterator<'_, Record<N, D>>,
     kind: OwnerKind,
     assumed: bool,
-) -> Result<RtypeBitmap<SmallOctets>, OutOfMemory>
+) -> Result<RtypeBitmap<Vec<u8>>, OutOfMemory>
     ensures { IfOk result (λ types. types
         ≡ bitmap_octets (is_listed kind.is_unsigned_cut kind.is_apex assumed kind.is_zone_cut
         (zone_of N.labels D.rtype D.minimum records.entry))) }
 {
-    let mut types = common_types::<SmallBuilder>(alloc, kind, assumed)?;
+    let mut types = common_types::<Vec<u8>>(alloc, kind, assumed)?;
     add_types(&mut types, records, kind.is_zone_cut)?;
     Ok(types.finalize())
 }
