@@ -20,7 +20,8 @@ returns c =
     let a = c.in_ok-apex.apex in
     let x = c.in_ok-name.name in
     let links = links_of (λ n. n) c.deref.result.now in
-    let listed = subst (λ items. AreNsecs c.from_int.result c.args.records.now (links_of (λ n. n) items)) (sym c.deref.ensures.value) c.in_ok-nsecs.ensures.ok in
+    let listed = subst (λ items. AreNsecs c.from_int.result c.args.records.now (links_of (λ n. n) items)) (sym c.deref.ensures.value)
+    c.in_ok-nsecs.ensures.ok in
     record {
       a = a;
       x = x;

@@ -32,7 +32,8 @@ returns c =
 pub returns-in_err-hand_in : goal.returns-in_err-hand_in
 returns-in_err-hand_in c =
     let p = err_from_is_err_and c.from_residual-in_err-hand_in.result c.from_residual-in_err-hand_in.ensures.1 in
-    rw (p.1, p.2) (subst (λ e. IsNsecResult c.args.apex.now c.args.name.now c.args.rtype c.args.class c.args.records.now (Err e)) (sym c.in_err-hand_in.ensures.err.0) (
+    rw (p.1, p.2) (subst (λ e. IsNsecResult c.args.apex.now c.args.name.now c.args.rtype c.args.class c.args.records.now (Err e))
+    (sym c.in_err-hand_in.ensures.err.0) (
       (c.in_ok-apex.apex, c.in_ok-apex.ensures.ok),
       (c.in_ok-name.name, c.in_ok-name.ensures.ok),
       λ links are. c.in_err-hand_in.ensures.err.1 links (subst (λ n. AreNsecs n c.args.records.now links) (sym c.from_int-2.ensures) are),

@@ -11,7 +11,8 @@ returns-in_err-chain-clause-err c =
     let p = err_from_is_err_and c.from_residual-in_err-chain.result c.from_residual-in_err-chain.ensures.1 in
     rw (p.1, p.2) (chain_fault c.args.telling c.args.apex.now c.args.name.now c.args.class c.args.records.now ⊥ c.in_ok-apex.apex c.in_ok-apex.ensures.ok
     (c.in_ok-name.name, c.in_ok-name.ensures.ok) c.in_err-chain.field-0.0
-    (subst (λ n. (source_of c.args.telling n c.args.records.now).is_fault c.in_ok-apex.apex c.in_err-chain.field-0.0) c.from_int.ensures c.in_err-chain.ensures.err))
+    (subst (λ n. (source_of c.args.telling n c.args.records.now).is_fault c.in_ok-apex.apex c.in_err-chain.field-0.0)
+    c.from_int.ensures c.in_err-chain.ensures.err))
 
 pub returns-clause-ok : goal.returns-clause-ok
 returns-clause-ok c = record {

@@ -8,7 +8,8 @@ pub returns-in_err-sorted-clause-err : goal.returns-in_err-sorted-clause-err
 returns-in_err-sorted-clause-err g c =
     let p = err_from_is_err_and c.from_residual.result c.from_residual.ensures.1 in
     rw (p.1, p.2) (no_hashed_set g.N.ToName.labels g.D.RecordData.rtype g.D.ZoneData.minimum g.D.CanonicalOrd.canonical_cmp c.args.records.items
-    (g.N.ToName.labels c.args.apex.now) (config_of (g.H.Nsec3Hasher.answer c.args.hasher.now) c.args.config.now) c.in_err-sorted.field-0.0 c.in_err-sorted.ensures.err)
+    (g.N.ToName.labels c.args.apex.now) (config_of (g.H.Nsec3Hasher.answer c.args.hasher.now) c.args.config.now)
+    c.in_err-sorted.field-0.0 c.in_err-sorted.ensures.err)
 
 pub returns-clause-err : goal.returns-clause-err
 returns-clause-err g c =

@@ -44,4 +44,5 @@ pub returns-in_err-hash_chain-clause-fault : goal.returns-in_err-hash_chain-clau
 returns-in_err-hash_chain-clause-fault g c =
     let p = err_from_is_err_and c.from_residual-in_err-hash_chain.result c.from_residual-in_err-hash_chain.ensures.1 in
     rw (p.1, p.2) (λ L os.
-    outcome_fault os (joined g (goal.at.returns-in_err-hash_chain-clause-fault g c).In_ok-append) c.in_err-hash_chain.field-0.0 c.in_err-hash_chain.ensures.fault)
+    outcome_fault os (joined g (goal.at.returns-in_err-hash_chain-clause-fault g c).In_ok-append)
+    c.in_err-hash_chain.field-0.0 c.in_err-hash_chain.ensures.fault)

@@ -10,7 +10,8 @@ pub returns-clause-ok : goal.returns-clause-ok
 returns-clause-ok g c =
     let is : c.new.result ≡ c.in_ok-octets.octets.items = c.new.ensures ∙ c.as_slice.ensures.value in
     let salt = c.as_slice-salt.ensures.octets ∙ c.salt.ensures in
-    let known : hash_name (hash_by (g.H.Nsec3Hasher.answer c.args.hasher.now) (parameters_of c.args.params.now)) c.args.name.now ≡ Ok c.in_ok-octets.octets.items =
+    let known : hash_name (hash_by (g.H.Nsec3Hasher.answer c.args.hasher.now) (parameters_of c.args.params.now)) c.args.name.now
+    ≡ Ok c.in_ok-octets.octets.items =
     (λ i. g.H.Nsec3Hasher.answer c.args.hasher.now (wire_of (lowered c.args.name.now)) (sym c.hash_algorithm-algorithm.ensures i)
     (sym c.iterations-iterations.ensures i) (sym salt i)) ∙ c.in_ok-octets.ensures.known in
     record {

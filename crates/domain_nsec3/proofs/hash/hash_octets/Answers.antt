@@ -5,7 +5,8 @@ use Rattle.domain_nsec3.proofs.hash.hash_octets.Goals as goal
 
 pub returns-clause-ok : goal.returns-clause-ok
 returns-clause-ok g c =
-    subst (λ (octets : List ℕ). g.H.Nsec3Hasher.answer c.args.hasher.now octets c.args.algorithm c.args.iterations c.args.salt.now ≡ Ok c.in_ok-hash_wire.field-0.items)
+    subst (λ (octets : List ℕ). g.H.Nsec3Hasher.answer c.args.hasher.now octets c.args.algorithm c.args.iterations c.args.salt.now
+    ≡ Ok c.in_ok-hash_wire.field-0.items)
     c.lower_wire-lowered.ensures.octets c.in_ok-hash_wire.ensures.ok
 
 pub returns-in_err-hash_wire-clause-err : goal.returns-in_err-hash_wire-clause-err
