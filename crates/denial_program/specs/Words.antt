@@ -1,5 +1,5 @@
 -- The words of a line, and what they say.
-use Rattle.std.specs.Prelude.{◌≡◌, ℕ, ◌≤◌, ◌||◌, ◌==◌, Bool, [], ◌∷◌, All, filter, length, nat_lt, slice_index}
+use Rattle.std.specs.Prelude.{◌≡◌, ℕ, ◌≤◌, ◌||◌, ◌==◌, Bool, false, [], ◌∷◌, All, filter, length, nat_lt, slice_index}
 use Rattle.std.specs.List.{slice_split}
 use Rattle.domain_octets.specs.Words.{Octets}
 use Rattle.domain_octets.specs.Characters.{tab, space, semicolon, tilde}
@@ -15,9 +15,13 @@ use Rattle.domain_borrowed.specs.Data.{RawRecord}
 abbrev pub is_blank : ℕ → Bool
 is_blank b = (b == space) || (b == tab)
 
+-- the parts that have octets
+abbrev pub without_empty : Tokens → Tokens
+without_empty = filter (λ w. nat_lt 0 (length w))
+
 -- the words of a line, which spaces and tabs separate
 abbrev pub words : Octets → Tokens
-words line = filter (λ w. nat_lt 0 (length w)) (slice_split is_blank line)
+words line = without_empty (slice_split is_blank line)
 
 -- a line with these words says nothing: it is blank, or a comment
 abbrev pub IsSkipped : Tokens → Type 0
@@ -30,6 +34,10 @@ IsPlain word = All (λ octet. octet ≤ tilde) word
 
 abbrev pub ArePlain : Tokens → Type 0
 ArePlain ws = All IsPlain ws
+
+-- no blank, and not past `~`
+abbrev pub IsOfWord : ℕ → Type 0
+IsOfWord octet = (is_blank octet ≡ false) × (octet ≤ tilde)
 
 -- the words spell a record: its owner, TTL, class, type and data (RFC 1035, section 5.1), of which
 -- the record has the octets in canonical form (RFC 4034, section 6.2)

@@ -1,8 +1,8 @@
 //! What a line of the input says.
-ghost use Rattle.std.specs.Prelude.{◌≡◌, ◌≤◌, ◌↔◌, false, IsTrue, IfErr, IfOk, IfSome, IfNone, map};
+ghost use Rattle.std.specs.Prelude.{◌≡◌, ℕ, ◌<◌, ◌≤◌, ◌↔◌, [], ◌∷◌, ◌++◌, IsTrue, IfErr, IfOk, IfSome, IfNone, OnOk, All, length, map, slice_index};
 ghost use Rattle.domain_names.specs.TextFault.{ScanFault};
 ghost use Rattle.domain_base.specs.Scan.{TakesToken, RefusesToken};
-ghost use Rattle.denial_program.specs.Words.{words, is_blank, IsSkipped, IsPlain, ArePlain, LineText};
+ghost use Rattle.denial_program.specs.Words.{without_empty, words, is_blank, IsSkipped, IsOfWord, IsPlain, ArePlain, LineText};
 ghost use Rattle.denial_program.specs.Said.{Says, SpellsNone, line_error_of};
 ghost use Rattle.denial_program.specs.declared.line.LineError.TheVariants.{OutOfMemory as memory};
 
@@ -46,13 +46,6 @@ fn separates(octet: u8) -> bool
     octet == b' ' || octet == b'\t'
 }
 
-/// Whether the octet stands in words of text.
-fn is_of_word(octet: u8) -> bool
-    ensures { IsTrue result → (is_blank octet ≡ false) × (octet ≤ 126) }
-{
-    octet > b' ' && octet <= b'~'
-}
-
 /// Whether a line is blank, or a comment.
 fn is_skipped(line: &[u8]) -> bool
     ensures { IsTrue result ↔ IsSkipped (words line.now) }
@@ -73,32 +66,89 @@ fn text_of(word: &[u8]) -> &str
     unsafe { str::from_utf8_unchecked(word) }
 }
 
-/// The words of a line as text, where none of their octets is past `~`. Looks at each octet once.
+/// Whether an octet stands in most words: it is no blank, no control character, and not past `~`.
+fn is_usual(octet: u8) -> bool
+    ensures { IsTrue result → IsOfWord octet }
+{
+    octet > b' ' && octet <= b'~'
+}
+
+/// Whether an octet stands in a word, and is not past `~`.
+fn is_of_word(octet: u8) -> bool
+    ensures { IsTrue result ↔ IsOfWord octet }
+{
+    is_usual(octet) || (octet <= b'~' && !separates(octet))
+}
+
+/// Whether eight octets stand in most words. All are looked at, so that it is done in one piece.
+fn are_usual(eight: &[u8; 8]) -> bool
+    ensures { IsTrue result → All IsOfWord eight.now }
+{
+    let mut all = true;
+    for octet in eight {
+        all &= is_usual(*octet);
+    }
+    all
+}
+
+/// How many octets of a word a text begins with, as far as eight after eight stand in most words.
+fn eights_len(text: &[u8]) -> usize
+    ensures within { result ≤ length text.now }
+    ensures word { (k : ℕ) → k < result → IsOfWord (slice_index text.now k) }
+{
+    let mut rest = text;
+    while let Some((eight, after)) = rest.split_first_chunk::<8>() {
+        if !are_usual(eight) {
+            break;
+        }
+        rest = after;
+    }
+    text.len() - rest.len()
+}
+
+/// How many octets of a word, none of them past `~`, a text begins with.
+fn word_len(text: &[u8]) -> usize
+    ensures within { result ≤ length text.now }
+    ensures word { (k : ℕ) → k < result → IsOfWord (slice_index text.now k) }
+    ensures end { result < length text.now → IsOfWord (slice_index text.now result) → ⊥ }
+{
+    for i in eights_len(text)..text.len() {
+        if !is_of_word(text[i]) {
+            return i;
+        }
+    }
+    text.len()
+}
+
+/// Appends a word as text, if it has octets.
+fn push_word<'a>(tokens: &mut LineWords<'a>, word: &'a [u8]) -> Result<(), AllocError>
+    requires { IsPlain word.now }
+    ensures { OnOk result (map (λ t. t.now) tokens.new.items
+        ≡ map (λ t. t.now) tokens.old.items ++ without_empty (word.now ∷ [])) }
+{
+    if !word.is_empty() {
+        tokens.push(text_of(word))?;
+    }
+    Ok(())
+}
+
+/// The words of a line as text, where none of their octets is past `~`.
 fn tokens_of(alloc: Global, line: &[u8]) -> Result<Option<LineWords<'_>>, AllocError>
     ensures same { IfOk result (λ o. IfSome o (λ v. map (λ t. t.now) v.items ≡ words line.now)) }
     ensures plain { IfOk result (λ o. IfSome o (λ _. ArePlain (words line.now))) }
     ensures none { IfOk result (λ o. IfNone o (ArePlain (words line.now) → ⊥)) }
 {
     let mut tokens = SmallVec::new(alloc);
-    let mut start = 0;
-    for (i, octet) in line.iter().enumerate() {
-        if is_of_word(*octet) {
-            continue;
-        }
-        if *octet > b'~' {
-            return Ok(None);
-        }
-        if separates(*octet) {
-            if start < i {
-                tokens.push(text_of(&line[start..i]))?;
-            }
-            start = i + 1;
+    let mut rest = line;
+    loop {
+        let (word, after) = rest.split_at(word_len(rest));
+        push_word(&mut tokens, word)?;
+        match after {
+            [] => return Ok(Some(tokens)),
+            [octet, ..] if *octet > b'~' => return Ok(None),
+            [_, next @ ..] => rest = next,
         }
     }
-    if start < line.len() {
-        tokens.push(text_of(&line[start..]))?;
-    }
-    Ok(Some(tokens))
 }
 
 /// Why words are no record.

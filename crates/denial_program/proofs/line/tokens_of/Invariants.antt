@@ -1,6 +1,9 @@
+use Rattle.std.proofs.Common.{length}
 use Rattle.denial_program.proofs.WordLemmas.{IsSplit}
 use Rattle.denial_program.proofs.line.tokens_of.Given as goal
 
--- the words that have ended, and the octets of one that may have begun
-abbrev pub invariant-loop-i : goal.invariant-loop-i
-invariant-loop-i l = IsSplit l.line l.start l.i l.tokens.items
+abbrev pub invariant-loop-tokens : goal.invariant-loop-tokens
+invariant-loop-tokens l = IsSplit l.line l.rest l.tokens.items
+
+abbrev pub decreases-loop-tokens : goal.decreases-loop-tokens
+decreases-loop-tokens l = length l.rest
