@@ -1,19 +1,21 @@
 -- Words none of whose octets is past `~`, and lines that are bad.
-use Rattle.std.proofs.Common.{◌≡◌, ◌↔◌, Bor, map, Bool, true, false, IsTrue, eqb, ℕ, ◌+◌, ◌-◌, ◌<◌, ◌≤◌, List, [], ◌∷◌, ◌++◌, take, drop, length}
+use Rattle.std.proofs.Common.{◌≡◌, ◌↔◌, Bor, map, Bool, true, false, IsTrue, eqb, ℕ, ◌+◌, ◌<◌, ◌≤◌, List, [], ◌∷◌, ◌++◌, take, drop, length}
 use Rattle.std.proofs.Common.{get_or, ap, sym, ◌∙◌, subst, inl, inr, arith, append_assoc, append-nil, refl, length-drop}
 use Rattle.std.specs.Prelude.{nat_lt}
-use Rattle.std.specs.List.{All, AllByRecursion as ByRecursion, slice_split, onto_first}
+use Rattle.std.specs.List.{All, AllByRecursion as ByRecursion, AllPass, slice_split, onto_first}
 use Rattle.std.specs.Str.{IsUtf8}
-use Rattle.std.proofs.lemmas.Bool.{cases_Bool, cases_lt, cond-true, eqb-true, lt-ltb, or_cases}
-use Rattle.std.proofs.lemmas.List.{take-append-drop, drop-drop, drop_at, drop_more, drop_all, get_or-take, get_or-drop, length-take-le}
-use Rattle.std.proofs.lemmas.List.Elements.{All-nil, All-head, All-tail, All-get_or, All-from_get_or, All-from_recursion, recursion_from_All}
+use Rattle.std.proofs.lemmas.Bool.{cases_Bool, cond-true, eqb-true, lt-ltb, or_cases}
+use Rattle.std.proofs.lemmas.Bool.Decides.{nat_tests}
+use Rattle.std.proofs.lemmas.Grind.{common_steps}
+use Rattle.std.proofs.lemmas.List.{take-append-drop, drop_at, drop_more, drop_all, get_or-drop}
+use Rattle.std.proofs.lemmas.List.Elements.{All-nil, All-head, All-tail, All-get_or, All-from_recursion, recursion_from_All}
 use Rattle.std.proofs.lemmas.List.Elements.{All-append, All-cons, All-drop, All-filter, All-weaker, filter-append}
 use Rattle.std.proofs.lemmas.List.Splits.{slice_split-cons_yes, slice_split-cons_no, slice_split_at, slice_split_none}
 use Rattle.std.proofs.lemmas.Str.{IsUtf8-from_ascii}
 use Rattle.std.proofs.lemmas.Str.Ascii.{IsAscii-from_all}
 use Rattle.denial_program.specs.Listing.{IsBad}
 use Rattle.denial_program.specs.Said.{SpellsNone}
-use Rattle.denial_program.specs.Words.{without_empty, words, is_blank, IsSkipped, IsOfWord, IsPlain, ArePlain, LineText}
+use Rattle.denial_program.specs.Words.{without_empty, words, is_blank, IsSkipped, is_of_word, IsPlain, ArePlain, LineText}
 use Rattle.denial_program.specs.declared.line.LineError.{LineError}
 use Rattle.denial_program.specs.declared.line.LineError.TheVariants.{Bad}
 
@@ -84,44 +86,19 @@ not_plain_at line i lt high plain =
     let low : get_or line i 0 ≤ 126 = All-get_or (λ octet. octet ≤ 126) line i 0 lt all in
     absurd (omega arith)
 
--- the octets of a text before its rest stand in a word
-pub record IsBegun (text rest : List ℕ) : Type 0 where
-  pub fits : length rest ≤ length text
-  pub is : rest ≡ drop (length text - length rest) text
-  pub word : (k : ℕ) → k < length text - length rest → IsOfWord (get_or text k 0)
+of_word_parts : (b : ℕ) → is_of_word b ≡ true → (is_blank b ≡ false) × (b ≤ 126)
+of_word_parts b h = (grind (arith, nat_tests, common_steps), grind (arith, nat_tests, common_steps))
 
-pub begun_more : (text rest eight after : List ℕ) → IsBegun text rest → eight ≡ take 8 rest → after ≡ drop 8 rest
-    → length after + 8 ≡ length rest → All IsOfWord eight → IsBegun text after
-begun_more text rest eight after begun front back size all =
-    let n = length text - length rest in
-    let further : n + 8 ≡ length text - length after = omega (arith, begun.fits, size) in
-    record {
-      fits = omega (arith, begun.fits, size);
-      is = back ∙ ap (drop 8) begun.is ∙ drop-drop 8 n text ∙ ap (λ k. drop k text) further;
-      word = λ k lt. elim (cases_lt k n) [
-        | inl before ↦ begun.word k before
-        | inr past ↦
-            let j = k - n in
-            let small : j < 8 = omega (arith, lt, further, past) in
-            let within : j < length eight = omega (arith, small, ap length front, length-take-le 8 rest (omega (arith, size))) in
-            let at : get_or eight j 0 ≡ get_or text k 0 = ap (λ l. get_or l j 0) front ∙ get_or-take 8 rest j 0 small
-            ∙ ap (λ l. get_or l j 0) begun.is ∙ get_or-drop n text j 0 ∙ ap (λ i. get_or text i 0) (omega (arith, past)) in
-            subst IsOfWord at (All-get_or IsOfWord eight j 0 within all)
-      ];
-    }
+of_word_is : (b : ℕ) → is_blank b ≡ false → b ≤ 126 → is_of_word b ≡ true
+of_word_is b other low = grind (arith, nat_tests, common_steps)
 
 -- the octets of a text up to a place stand in a word
-module _ (text : List ℕ) (n : ℕ) (within : n ≤ length text) (word : (k : ℕ) → k < n → IsOfWord (get_or text k 0)) where
-  part_all : (P : ℕ → Type 0) → ((k : ℕ) → k < n → P (get_or text k 0)) → All P (take n text)
-  part_all P h = All-from_get_or P (take n text) 0 (λ k lt.
-      let below : k < n = omega (arith, length-take-le n text within, lt) in
-      subst P (sym (get_or-take n text k 0 below)) (h k below))
-
+module _ (text : List ℕ) (n : ℕ) (word : AllPass is_of_word (take n text)) where
   pub part_plain : IsPlain (take n text)
-  part_plain = part_all (λ octet. octet ≤ 126) (λ k lt. (word k lt).1)
+  part_plain = All-weaker (λ b. is_of_word b ≡ true) (λ b. b ≤ 126) (λ b h. (of_word_parts b h).1) (take n text) word
 
   part_whole : All (λ c. is_blank c ≡ false) (take n text)
-  part_whole = part_all (λ c. is_blank c ≡ false) (λ k lt. (word k lt).0)
+  part_whole = All-weaker (λ b. is_of_word b ≡ true) (λ b. is_blank b ≡ false) (λ b h. (of_word_parts b h).0) (take n text) word
 
   parted : (after : List ℕ) → after ≡ drop n text → text ≡ take n text ++ after
   parted after is = sym (take-append-drop n text) ∙ ap (λ l. take n text ++ l) (sym is)
@@ -130,14 +107,14 @@ module _ (text : List ℕ) (n : ℕ) (within : n ≤ length text) (word : (k : �
   next_at : (after : List ℕ) → after ≡ drop n text → get_or after 0 0 ≡ get_or text n 0
   next_at after is = ap (λ l. get_or l 0 0) is ∙ get_or-drop n text 0 0 ∙ ap (λ k. get_or text k 0) (omega arith)
 
-  next_blank : (after : List ℕ) → after ≡ drop n text → (IsOfWord (get_or text n 0) → ⊥) → get_or after 0 0 ≤ 126 → is_blank (get_or after 0 0) ≡ true
+  next_blank : (after : List ℕ) → after ≡ drop n text → is_of_word (get_or text n 0) ≡ false → get_or after 0 0 ≤ 126 → is_blank (get_or after 0 0) ≡ true
   next_blank after is other low = elim (cases_Bool (is_blank (get_or after 0 0))) [
     | inl e ↦ e
-    | inr e ↦ absurd (other (subst IsOfWord (next_at after is) (e, low)))
+    | inr e ↦ absurd (let in_word = of_word_is (get_or after 0 0) e low in let at = next_at after is in cc)
   ]
 
   -- the word ends at a blank, or with the text, or at an octet past `~`
-  pub word_ends : (after : List ℕ) → after ≡ drop n text → 0 < length after → (IsOfWord (get_or text n 0) → ⊥) → get_or after 0 0 ≤ 126
+  pub word_ends : (after : List ℕ) → after ≡ drop n text → 0 < length after → is_of_word (get_or text n 0) ≡ false → get_or after 0 0 ≤ 126
       → words text ≡ without_empty (take n text ∷ []) ++ words (drop 1 after)
   word_ends after is some other low =
       ap words (parted after is ∙ ap (λ l. take n text ++ l) (drop_more after 0 0 some))
@@ -163,8 +140,8 @@ pub record IsSplit (line rest : List ℕ) (ts : List (Bor (List ℕ))) : Type 0 
   pub plain : ArePlain (map (λ t. t.now) ts)
 
 -- the octets up to a place were appended, if there are any
-module _ {line rest w : List ℕ} {ts : List (Bor (List ℕ))} (split : IsSplit line rest ts) (more : List (Bor (List ℕ))) (n : ℕ) (within : n ≤ length rest)
-    (word : (k : ℕ) → k < n → IsOfWord (get_or rest k 0)) (front : w ≡ take n rest)
+module _ {line rest w : List ℕ} {ts : List (Bor (List ℕ))} (split : IsSplit line rest ts) (more : List (Bor (List ℕ))) (n : ℕ)
+    (word : AllPass is_of_word (take n rest)) (front : w ≡ take n rest)
     (pushed : map (λ t. t.now) more ≡ map (λ t. t.now) ts ++ without_empty (w ∷ [])) where
   goes_on : (next : List ℕ) → words rest ≡ without_empty (take n rest ∷ []) ++ words next → IsSplit line next more
   goes_on next ends =
@@ -173,16 +150,16 @@ module _ {line rest w : List ℕ} {ts : List (Bor (List ℕ))} (split : IsSplit 
         same = ap (λ ws. ws ++ words next) is ∙ append_assoc (map (λ t. t.now) ts) (without_empty (take n rest ∷ [])) (words next)
             ∙ ap (λ ws. map (λ t. t.now) ts ++ ws) (sym ends) ∙ split.same;
         plain = subst ArePlain (sym is) (All-append IsPlain (map (λ t. t.now) ts) (without_empty (take n rest ∷ [])) split.plain
-            (All-filter some_octets IsPlain (take n rest ∷ []) (All-cons IsPlain (take n rest) [] (part_plain rest n within word) (All-nil IsPlain))));
+            (All-filter some_octets IsPlain (take n rest ∷ []) (All-cons IsPlain (take n rest) [] (part_plain rest n word) (All-nil IsPlain))));
       }
 
-  pub split_goes_on : (after : List ℕ) → after ≡ drop n rest → 0 < length after → (IsOfWord (get_or rest n 0) → ⊥) → get_or after 0 0 ≤ 126
+  pub split_goes_on : (after : List ℕ) → after ≡ drop n rest → 0 < length after → is_of_word (get_or rest n 0) ≡ false → get_or after 0 0 ≤ 126
       → IsSplit line (drop 1 after) more
-  split_goes_on after is some other low = goes_on (drop 1 after) (word_ends rest n within word after is some other low)
+  split_goes_on after is some other low = goes_on (drop 1 after) (word_ends rest n word after is some other low)
 
   pub split_ends : (after : List ℕ) → after ≡ drop n rest → length after ≡ 0 → (map (λ t. t.now) more ≡ words line) × ArePlain (words line)
   split_ends after is none =
-      let whole = goes_on [] (word_last rest n within word after is none) in
+      let whole = goes_on [] (word_last rest n word after is none) in
       let same = sym (append-nil (map (λ t. t.now) more)) ∙ whole.same in
       (same, subst ArePlain same whole.plain)
 
@@ -191,7 +168,7 @@ module _ {line rest w : List ℕ} {ts : List (Bor (List ℕ))} (split : IsSplit 
   split_rough after is some high plain =
       let front = map (λ t. t.now) ts in
       let all : ArePlain (front ++ words rest) = subst ArePlain (sym split.same) plain in
-      rough_at rest n within word after is some high
+      rough_at rest n word after is some high
       (subst ArePlain (drop_at front (words rest) (length front) refl) (All-drop IsPlain (length front) (front ++ words rest) all))
 
 -- a line that is not skipped, and whose words spell no record

@@ -1,5 +1,5 @@
 -- The words of a line, and what they say.
-use Rattle.std.specs.Prelude.{◌≡◌, ℕ, ◌≤◌, ◌||◌, ◌==◌, Bool, false, [], ◌∷◌, All, filter, length, nat_lt, slice_index}
+use Rattle.std.specs.Prelude.{◌≡◌, ℕ, ◌≤◌, ◌||◌, ◌&&◌, ◌==◌, Bool, not, [], ◌∷◌, All, filter, length, nat_le, nat_lt, slice_index}
 use Rattle.std.specs.List.{slice_split}
 use Rattle.domain_octets.specs.Words.{Octets}
 use Rattle.domain_octets.specs.Characters.{tab, space, semicolon, tilde}
@@ -36,8 +36,8 @@ abbrev pub ArePlain : Tokens → Type 0
 ArePlain ws = All IsPlain ws
 
 -- no blank, and not past `~`
-abbrev pub IsOfWord : ℕ → Type 0
-IsOfWord octet = (is_blank octet ≡ false) × (octet ≤ tilde)
+abbrev pub is_of_word : ℕ → Bool
+is_of_word octet = not (is_blank octet) && nat_le octet tilde
 
 -- the words spell a record: its owner, TTL, class, type and data (RFC 1035, section 5.1), of which
 -- the record has the octets in canonical form (RFC 4034, section 6.2)

@@ -1,8 +1,8 @@
 //! What a line of the input says.
-ghost use Rattle.std.specs.Prelude.{◌≡◌, ℕ, ◌<◌, ◌≤◌, ◌↔◌, [], ◌∷◌, ◌++◌, IsTrue, IfErr, IfOk, IfSome, IfNone, OnOk, All, length, map, slice_index};
+ghost use Rattle.std.specs.Prelude.{◌≡◌, ◌↔◌, [], ◌∷◌, ◌++◌, IsTrue, IfErr, IfOk, IfSome, IfNone, OnOk, map};
 ghost use Rattle.domain_names.specs.TextFault.{ScanFault};
 ghost use Rattle.domain_base.specs.Scan.{TakesToken, RefusesToken};
-ghost use Rattle.denial_program.specs.Words.{without_empty, words, is_blank, IsSkipped, IsOfWord, IsPlain, ArePlain, LineText};
+ghost use Rattle.denial_program.specs.Words.{without_empty, words, is_blank, IsSkipped, IsPlain, ArePlain, LineText};
 ghost use Rattle.denial_program.specs.Said.{Says, SpellsNone, line_error_of};
 ghost use Rattle.denial_program.specs.declared.line.LineError.TheVariants.{OutOfMemory as memory};
 
@@ -10,7 +10,7 @@ use crate::arena::Store;
 use crate::last_owner::LastOwner;
 use domain_base::{Class, FromToken, IterScanner, Name, Rtype, ScanError, Scanner, Ttl};
 use domain_borrowed::BorrowedRecord;
-use domain_octets::{OutOfMemory, SmallOctets};
+use domain_octets::{OctetSet, OutOfMemory, SmallOctets, prefix_len};
 use domain_rdata::ZoneRecordData;
 use domain_record::Record;
 use smallvec::SmallVec;
@@ -66,58 +66,22 @@ fn text_of(word: &[u8]) -> &str
     unsafe { str::from_utf8_unchecked(word) }
 }
 
-/// Whether an octet stands in most words: it is no blank, no control character, and not past `~`.
-fn is_usual(octet: u8) -> bool
-    ensures { IsTrue result → IsOfWord octet }
-{
-    octet > b' ' && octet <= b'~'
-}
+/// The octets that stand in words: those that are no blanks, and not past `~`.
+struct OfWords;
 
-/// Whether an octet stands in a word, and is not past `~`.
-fn is_of_word(octet: u8) -> bool
-    ensures { IsTrue result ↔ IsOfWord octet }
-{
-    is_usual(octet) || (octet <= b'~' && !separates(octet))
-}
+impl OctetSet for OfWords {
+    ghost use Rattle.denial_program.specs.Words.{is_of_word};
 
-/// Whether eight octets stand in most words. All are looked at, so that it is done in one piece.
-fn are_usual(eight: &[u8; 8]) -> bool
-    ensures { IsTrue result → All IsOfWord eight.now }
-{
-    let mut all = true;
-    for octet in eight {
-        all &= is_usual(*octet);
+    ghost has = { is_of_word };
+
+    fn contains(octet: u8) -> bool {
+        Self::is_usual(octet) || (octet <= b'~' && !separates(octet))
     }
-    all
-}
 
-/// How many octets of a word a text begins with, as far as eight after eight stand in most words.
-fn eights_len(text: &[u8]) -> usize
-    ensures within { result ≤ length text.now }
-    ensures word { (k : ℕ) → k < result → IsOfWord (slice_index text.now k) }
-{
-    let mut rest = text;
-    while let Some((eight, after)) = rest.split_first_chunk::<8>() {
-        if !are_usual(eight) {
-            break;
-        }
-        rest = after;
+    /// All but control characters.
+    fn is_usual(octet: u8) -> bool {
+        octet > b' ' && octet <= b'~'
     }
-    text.len() - rest.len()
-}
-
-/// How many octets of a word, none of them past `~`, a text begins with.
-fn word_len(text: &[u8]) -> usize
-    ensures within { result ≤ length text.now }
-    ensures word { (k : ℕ) → k < result → IsOfWord (slice_index text.now k) }
-    ensures end { result < length text.now → IsOfWord (slice_index text.now result) → ⊥ }
-{
-    for i in eights_len(text)..text.len() {
-        if !is_of_word(text[i]) {
-            return i;
-        }
-    }
-    text.len()
 }
 
 /// Appends a word as text, if it has octets.
@@ -141,7 +105,7 @@ fn tokens_of(alloc: Global, line: &[u8]) -> Result<Option<LineWords<'_>>, AllocE
     let mut tokens = SmallVec::new(alloc);
     let mut rest = line;
     loop {
-        let (word, after) = rest.split_at(word_len(rest));
+        let (word, after) = rest.split_at(prefix_len::<OfWords>(rest));
         push_word(&mut tokens, word)?;
         match after {
             [] => return Ok(Some(tokens)),

@@ -1,10 +1,11 @@
 -- names spelled by texts
 use Rattle.std.proofs.Common.{◌≡◌, ◌≢◌, ℕ, zero, suc, take, get_or, ◌+◌, ◌<◌, ◌≤◌, List, [], ◌∷◌, ◌++◌, Option, Some, None, length, drop, refl, sym, ap, subst}
-use Rattle.std.proofs.Common.{◌∙◌, arith, length-append, inl, inr, ◌⊎◌}
+use Rattle.std.proofs.Common.{◌∙◌, ◌-◌, arith, length-append, slice_set, inl, inr, ◌⊎◌}
 use Rattle.std.specs.Prelude.{unwrap_or, IsSome, IfSome, IfNone, ◌↔◌}
 use Rattle.std.specs.List.{AllByRecursion}
 use Rattle.std.proofs.lemmas.Bool.{ne_eqb, le-leb}
-use Rattle.std.proofs.lemmas.List.{append-nil, append_assoc, drop-drop, length-drop, take_more}
+use Rattle.std.proofs.lemmas.List.{append-nil, append_assoc, drop-drop, length-drop, length-set, take_at, take_more}
+use Rattle.std.proofs.Math.Seq.{set-append_seam}
 use Rattle.domain_names.specs.Name.{wire_of, IsLabel, IsName}
 use Rattle.domain_names.proofs.WireLemmas.{length-wire_of}
 use Rattle.domain_names.specs.Text.{symbol_at, LabelText, at_end, at_dot, octet, HasNoLabel, HasNoLabelAfter, LabelTexts, last, last_with_dot, dotted, NameText}
@@ -103,12 +104,6 @@ pub plain_label : (text label rest : List ℕ) (n : ℕ) → n ≤ length text
 plain_label text label rest n within plain front back stops =
     subst (λ l. LabelText text l rest) (sym front)
     (spelling_stops text rest (take n text) (subst (λ r. Spelling text r (take n text)) (sym back) (spelling_plain text n within plain)) stops)
-
-pub no_plain_label : (text label : List ℕ) (n : ℕ) → n ≤ length text
-    → ((k : ℕ) → k < n → symbol_at (drop k text) ≡ Some (get_or text k 0, 1)) → label ≡ take n text → 63 < length label
-    → HasNoLabel text
-no_plain_label text label n within plain front long =
-    no_label_by_front text (drop n text) (take n text) (spelling_plain text n within plain) (subst (λ (l : List ℕ). 63 < length l) front long)
 
 pub no_label_by_length : (text rest done : List ℕ) (c used : ℕ) → Spelling text rest done → symbol_at rest ≡ Some (c, used)
     → 63 < length done + 1 → HasNoLabel text
@@ -324,3 +319,59 @@ module _ {U : Type 0} (text wire new : List ℕ) (o : Option U) (found : IsLabel
 pub name_is_valid : (text : List ℕ) (labels : List (List ℕ)) → NameText text labels → IsName labels
 name_is_valid text labels root = record { of_labels = tt; fits = omega arith }
 name_is_valid text labels (of_labels t l spelled valid) = valid
+
+-- ---- texts whose octets become names
+
+-- labels that are read up to some place, each with its length before it; one octet stands between
+-- them and the rest of the text
+pub record Measuring (text rest octets : List ℕ) : Type 0 where
+  pub wire : List ℕ
+  pub gap : ℕ
+  pub parts : octets ≡ wire ++ gap ∷ rest
+  pub naming : Naming text rest wire
+  pub size : length octets ≡ length text + 1
+
+pub measuring_begins : (text octets : List ℕ) → (first : ℕ) × (octets ≡ first ∷ text) → Measuring text text octets
+measuring_begins text octets (first, is) = record {
+  wire = [];
+  gap = first;
+  parts = is;
+  naming = record {
+    onward = λ labels spelled valid. (labels, spelled, valid, refl);
+    back = λ all spelled valid. (all, spelled, valid, refl);
+  };
+  size = omega (arith, ap length is);
+}
+
+-- one label more, with its length before it
+module _ {text rest octets : List ℕ} (so_far : Measuring text rest octets) (label after : List ℕ) (parted : rest ≡ label ++ after)
+    (read : LabelText rest label after) (valid : IsLabel label) where
+  abbrev measured : List ℕ
+  measured = slice_set octets (length text - length rest) (length label)
+
+  measured_is : measured ≡ (so_far.wire ++ length label ∷ label) ++ after
+  measured_is =
+      let at : length text - length rest ≡ length so_far.wire =
+      omega (arith, so_far.size, ap length so_far.parts, length-append so_far.wire (so_far.gap ∷ rest)) in
+      ap (λ o. slice_set o (length text - length rest) (length label)) so_far.parts
+      ∙ ap (λ i. slice_set (so_far.wire ++ so_far.gap ∷ rest) i (length label)) at
+      ∙ set-append_seam so_far.wire so_far.gap rest (length label)
+      ∙ ap (λ r. so_far.wire ++ length label ∷ r) parted ∙ sym (append_assoc so_far.wire (length label ∷ label) after)
+
+  pub measuring_goes : (next : List ℕ) → after ≡ 46 ∷ next → next ≢ [] → Measuring text next measured
+  measuring_goes next dot some = record {
+    wire = so_far.wire ++ length label ∷ label;
+    gap = 46;
+    parts = measured_is ∙ ap (λ a. (so_far.wire ++ length label ∷ label) ++ a) dot;
+    naming = naming_goes text rest so_far.wire label after next so_far.naming read dot some valid;
+    size = length-set octets (length text - length rest) (length label) ∙ so_far.size;
+  }
+
+  pub measuring_ends : length after ≤ 1 → IsLabelsWire text (take (length text - length rest + 1 + length label) measured)
+  measuring_ends short =
+      let front = so_far.wire ++ length label ∷ label in
+      let n : length front ≡ length text - length rest + 1 + length label =
+      omega (arith, so_far.size, ap length so_far.parts, length-append so_far.wire (so_far.gap ∷ rest), length-append so_far.wire (length label ∷ label)) in
+      let cut : take (length text - length rest + 1 + length label) measured ≡ front =
+      ap (take (length text - length rest + 1 + length label)) measured_is ∙ take_at front after (length text - length rest + 1 + length label) n in
+      subst (IsLabelsWire text) (sym cut) (naming_ends text rest so_far.wire label after so_far.naming read short valid)

@@ -1,11 +1,23 @@
--- the text of an octet in decimal digits, and of octets that are written as they are
-use Rattle.std.proofs.Common.{arith, ℕ, ◌/◌, ◌%◌, ◌<◌, ◌≡◌, ◌∷◌, ◌++◌, ◌+◌, [], suc, List, Bool, true, false, refl, ap, ◌∙◌}
+-- the text of an octet in decimal digits, of octets that are written as they are, and of names
+use Rattle.std.proofs.Common.{arith, ℕ, ◌/◌, ◌%◌, ◌<◌, ◌≡◌, ◌∷◌, ◌++◌, ◌+◌, ◌-◌, [], suc, List, Bool, true, false, refl, sym, ap, ◌∙◌}
+use Rattle.std.proofs.Common.{length, take, drop, slice_set, inl, inr, ◌≤◌, length-append, append_assoc, append-nil}
 use Rattle.std.specs.Prelude.{◌&&◌, not}
-use Rattle.std.specs.List.{AllPass}
+use Rattle.std.specs.List.{All, AllByRecursion as ByRecursion, AllPass}
+use Rattle.std.specs.Str.{IsAscii}
+use Rattle.std.proofs.lemmas.Bool.{cases_Bool}
+use Rattle.std.proofs.lemmas.Bool.Decides.{nat_tests}
+use Rattle.std.proofs.lemmas.Grind.{common_steps}
+use Rattle.std.proofs.lemmas.List.{length-set, take_at}
+use Rattle.std.proofs.lemmas.List.Elements.{All-head, All-tail}
+use Rattle.std.proofs.Math.Seq.{set-append_seam}
+use Rattle.std.proofs.lemmas.Str.{IsAscii-append}
+use Rattle.std.proofs.lemmas.Str.Ascii.{IsAscii-nil, IsAscii-cons}
 use Rattle.std.proofs.lemmas.Fmt.{decimal_digit}
 use Rattle.std.specs.Fmt.{decimal}
 use Rattle.std.specs.Char.{is_ascii_graphic}
-use Rattle.domain_names.specs.Text.{octet_text, label_text, is_special, is_ordinary}
+use Rattle.domain_names.specs.Name.{wire_of, IsLabel, IsName}
+use Rattle.domain_names.specs.Text.{octet_text, label_text, dotted_text, name_text, is_special, is_ordinary}
+use Rattle.domain_names.specs.Wire.{labels_of, IsWire}
 
 pub octet_text_in_digits : (c : ℕ) → c < 256 → is_special c ≡ false → is_ascii_graphic c ≡ false
     → octet_text c ≡ 92 ∷ (decimal (c / 100) ++ (decimal (c / 10 % 10) ++ decimal (c % 10)))
@@ -33,3 +45,108 @@ ordinary_text [] all = refl
 ordinary_text (c ∷ label) all =
     ap (λ l. l ++ label_text label) (ordinary_octet c (all 0 c (omega arith)))
     ∙ ap (λ l. c ∷ l) (ordinary_text label (λ k d within. all (suc k) d (omega (arith, within))))
+
+-- ---- texts of names are ASCII
+
+octet_text_ascii : (c : ℕ) → c < 256 → IsAscii (octet_text c)
+unfolding octet_text
+octet_text_ascii c small = elim (cases_Bool (is_special c)) [
+  | inl special ↦ (let low : c < 128 = special_low c special in rw special (IsAscii-cons 92 (c ∷ []) (omega arith) (one c low)))
+  | inr other ↦ elim (cases_Bool (is_ascii_graphic c)) [
+    | inl graphic ↦ (let low : c < 128 = graphic_low c graphic in rw (other, graphic) (one c low))
+    | inr none ↦ rw (other, none) (digits (48 + c / 100) (48 + c / 10 % 10) (48 + c % 10) (omega arith) (omega arith) (omega arith))
+  ]
+] where
+  one : (x : ℕ) → x < 128 → IsAscii (x ∷ [])
+  one x low = IsAscii-cons x [] low IsAscii-nil
+
+  digits : (x y z : ℕ) → x < 128 → y < 128 → z < 128 → IsAscii (92 ∷ x ∷ y ∷ z ∷ [])
+  digits x y z x_low y_low z_low =
+      IsAscii-cons 92 (x ∷ y ∷ z ∷ []) (omega arith) (IsAscii-cons x (y ∷ z ∷ []) x_low (IsAscii-cons y (z ∷ []) y_low (one z z_low)))
+
+  special_low : (x : ℕ) → is_special x ≡ true → x < 128
+  special_low x special = grind (arith, nat_tests, common_steps)
+
+  graphic_low : (x : ℕ) → is_ascii_graphic x ≡ true → x < 128
+  graphic_low x graphic = grind (arith, nat_tests, common_steps)
+
+pub label_text_ascii : (label : List ℕ) → All (λ c. c < 256) label → IsAscii (label_text label)
+label_text_ascii [] octets = IsAscii-nil
+label_text_ascii (c ∷ label) octets = IsAscii-append (octet_text c) (label_text label)
+    (octet_text_ascii c (All-head (λ x. x < 256) c label octets)) (label_text_ascii label (All-tail (λ x. x < 256) c label octets))
+
+dotted_text_ascii : (labels : List (List ℕ)) → ByRecursion IsLabel labels → IsAscii (dotted_text labels)
+dotted_text_ascii [] valid = IsAscii-nil
+dotted_text_ascii (label ∷ labels) valid = IsAscii-cons 46 (label_text label ++ dotted_text labels) (omega arith)
+    (IsAscii-append (label_text label) (dotted_text labels) (label_text_ascii label valid.0.octets) (dotted_text_ascii labels valid.1))
+
+pub name_text_ascii : (labels : List (List ℕ)) → IsName labels → IsAscii (name_text labels)
+name_text_ascii [] valid = IsAscii-nil
+name_text_ascii (label ∷ labels) valid = IsAscii-append (label_text label) (dotted_text labels)
+    (label_text_ascii label valid.of_labels.0.octets) (dotted_text_ascii labels valid.of_labels.1)
+
+-- ---- names whose octets become their text
+
+-- the labels of a name before its rest have become text, and the rest stands as it was
+pub record IsDotted (name rest text : List ℕ) : Type 0 where
+  pub front : List ℕ
+  pub parts : text ≡ front ++ rest
+  pub dots : dotted_text (labels_of name) ≡ front ++ dotted_text (labels_of rest)
+  pub wire : IsWire rest
+  pub size : length text ≡ length name
+
+pub dotted_none : (name : List ℕ) → IsWire name → IsDotted name name name
+dotted_none name wire = record { front = []; parts = refl; dots = refl; wire = wire; size = refl }
+
+-- the octets of a name that has labels
+wire_parts : (rest label above : List ℕ) → IsWire rest → IsWire above → labels_of rest ≡ label ∷ labels_of above
+    → rest ≡ length label ∷ (label ++ above)
+wire_parts rest label above wire further labels =
+    wire.spelled ∙ ap wire_of labels ∙ ap (λ l. length label ∷ (label ++ l)) (sym further.spelled)
+
+wire_end : (rest : List ℕ) → IsWire rest → labels_of rest ≡ [] → rest ≡ 0 ∷ []
+wire_end rest wire labels = wire.spelled ∙ ap wire_of labels
+
+pub dotted_more : (name rest text label above : List ℕ) → IsDotted name rest text → labels_of rest ≡ label ∷ labels_of above → IsWire above
+    → label_text label ≡ label → IsDotted name above (slice_set text (length name - length rest) 46)
+dotted_more name rest text label above so_far labels further same =
+    let is = wire_parts rest label above so_far.wire further labels in
+    let parts : text ≡ so_far.front ++ length label ∷ (label ++ above) = so_far.parts ∙ ap (λ l. so_far.front ++ l) is in
+    let at : length name - length rest ≡ length so_far.front =
+    omega (arith, so_far.size, ap length so_far.parts, length-append so_far.front rest) in
+    let changed : slice_set text (length name - length rest) 46 ≡ so_far.front ++ 46 ∷ (label ++ above) =
+    ap (λ t. slice_set t (length name - length rest) 46) parts ∙ ap (λ i. slice_set (so_far.front ++ length label ∷ (label ++ above)) i 46) at
+    ∙ set-append_seam so_far.front (length label) (label ++ above) 46 in
+    record {
+      front = so_far.front ++ 46 ∷ label;
+      parts = changed ∙ sym (append_assoc so_far.front (46 ∷ label) above);
+      dots = so_far.dots ∙ ap (λ l. so_far.front ++ dotted_text l) labels
+          ∙ ap (λ l. so_far.front ++ 46 ∷ (l ++ dotted_text (labels_of above))) same
+          ∙ sym (append_assoc so_far.front (46 ∷ label) (dotted_text (labels_of above)));
+      wire = further;
+      size = length-set text (length name - length rest) 46 ∙ so_far.size;
+    }
+
+pub dotted_ends : (name rest text : List ℕ) → IsDotted name rest text → labels_of rest ≡ []
+    → slice_set text (length name - 1) 46 ≡ dotted_text (labels_of name) ++ 46 ∷ []
+dotted_ends name rest text so_far none =
+    let is = wire_end rest so_far.wire none in
+    let parts : text ≡ so_far.front ++ 0 ∷ [] = so_far.parts ∙ ap (λ l. so_far.front ++ l) is in
+    let at : length name - 1 ≡ length so_far.front = omega (arith, so_far.size, ap length parts, length-append so_far.front (0 ∷ [])) in
+    let all : dotted_text (labels_of name) ≡ so_far.front = so_far.dots ∙ ap (λ l. so_far.front ++ dotted_text l) none ∙ append-nil so_far.front in
+    ap (λ t. slice_set t (length name - 1) 46) parts ∙ ap (λ i. slice_set (so_far.front ++ 0 ∷ []) i 46) at
+    ∙ set-append_seam so_far.front 0 [] 46 ∙ ap (λ l. l ++ 46 ∷ []) (sym all)
+
+-- ---- what lies between the first dot and the last
+
+pub dotted_ascii : (labels : List (List ℕ)) → IsName labels → IsAscii (dotted_text labels ++ 46 ∷ [])
+dotted_ascii labels valid = IsAscii-append (dotted_text labels) (46 ∷ []) (dotted_text_ascii labels valid.of_labels)
+    (IsAscii-cons 46 [] (omega arith) IsAscii-nil)
+
+pub between_dots : (text : List ℕ) (labels : List (List ℕ)) → text ≡ dotted_text labels ++ 46 ∷ [] → 2 ≤ length text
+    → take (length text - 1 - 1) (drop 1 text) ≡ name_text labels
+between_dots text [] is some = absurd (omega (arith, some, ap length is))
+between_dots text (label ∷ labels) is some =
+    let inner = name_text (label ∷ labels) in
+    let size : length inner ≡ length text - 1 - 1 = omega (arith, ap length is, length-append inner (46 ∷ [])) in
+    ap (λ t. take (length text - 1 - 1) (drop 1 t)) is ∙ take_at inner (46 ∷ []) (length text - 1 - 1) size

@@ -1,16 +1,17 @@
 //! Names as text (RFC 1035, section 5.1).
-ghost use Rattle.std.specs.Prelude.{◌≡◌, ◌≢◌, ℕ, Some, drop, slice_index, ◌+◌, ◌<◌, ◌≤◌, ◌∷◌, ◌++◌, [], ◌⊎◌, length, IfSome, IfNone, IsSome, OnSome, IsTrue, ◌↔◌};
+ghost use Rattle.std.specs.Prelude.{◌≡◌, ◌≢◌, ℕ, Some, drop, slice_index, ◌+◌, ◌<◌, ◌≤◌, ◌∷◌, ◌++◌, [], ◌⊎◌, length, take, IfSome, IfNone, IsSome, OnSome, IsTrue, ◌↔◌};
 ghost use Rattle.std.specs.Fmt.{WritesOnOk};
 ghost use Rattle.std.specs.List.{AllByRecursion};
+ghost use Rattle.std.specs.Str.{IsAscii};
 ghost use Rattle.domain_octets.specs.Characters.{dot};
 ghost use Rattle.domain_names.specs.Name.{wire_of, IsLabel, IsName};
-ghost use Rattle.domain_names.specs.Text.{symbol_at, LabelText, LabelTexts, HasNoLabel, HasNoLabelAfter, NameText, IsNoName, is_special, is_ordinary, octet_text, label_text, dotted_text, name_text};
+ghost use Rattle.domain_names.specs.Text.{symbol_at, LabelText, LabelTexts, HasNoLabel, HasNoLabelAfter, NameText, IsNoName, is_special, octet_text, label_text, dotted_text, name_text};
 ghost use Rattle.domain_names.specs.Wire.{labels_of, IsWire};
 ghost use Rattle.domain_names.specs.Words.{Label, Name};
 
 use crate::wire;
 use crate::wire::{MAX_LABEL_LEN, MAX_NAME};
-use domain_octets::{ArrayBuilder, Octets, OctetsBuilder};
+use domain_octets::{ArrayBuilder, OctetSet, Octets, OctetsBuilder, Truncate, prefix_len};
 use std::fmt;
 
 /// The octet that a text within a label begins with, and how many characters spell it.
@@ -70,18 +71,14 @@ fn plain_len(text: &[u8]) -> usize
     text.len()
 }
 
-/// The label that a text begins with, and what follows it. What needs no escape is taken at once.
+/// The label that a text begins with, and what follows it.
 fn read_label(text: &[u8]) -> Option<(ArrayBuilder<MAX_LABEL_LEN>, &[u8])>
     ensures label { IfSome result (λ p. LabelText text.now p.0 p.1.now) }
     ensures fits { IfSome result (λ p. length p.0 ≤ 63) }
     ensures none { IfNone result (HasNoLabel text.now) }
 {
     let mut label = ArrayBuilder::new();
-    let plain = plain_len(text);
-    if label.append_slice(&text[..plain]).is_err() {
-        return None;
-    }
-    let mut rest = &text[plain..];
+    let mut rest = text;
     while let [first, ..] = rest {
         if *first == b'.' {
             break;
@@ -114,39 +111,18 @@ fn push_label(wire: &mut ArrayBuilder<MAX_NAME>, label: &[u8]) -> Option<()>
     Some(())
 }
 
-/// Whether a label ends where this text begins.
-fn ends_label(text: &[u8]) -> bool
-    ensures { IsTrue result → LabelText text.now [] text.now }
-{
-    match text {
-        [] => true,
-        [first, ..] => *first == b'.',
-    }
-}
-
-/// Appends the label that a text begins with, and answers what follows it. A label without escapes
-/// is appended as it stands.
+/// Appends the label that a text begins with, and answers what follows it.
 fn take_label<'a>(wire: &mut ArrayBuilder<MAX_NAME>, text: &'a [u8]) -> Option<&'a [u8]>
     ensures some { IfSome result (λ after. (label : Label) × LabelText text.now label after.now
         × IsLabel label × (wire.new ≡ wire.old ++ length label ∷ label)) }
     ensures none { IfNone result (HasNoLabelAfter wire.old text.now) }
 {
-    let (plain, rest) = text.split_at(plain_len(text));
-    if !ends_label(rest) {
-        let (label, after) = read_label(text)?;
-        push_label(wire, label.as_slice())?;
-        return Some(after);
-    }
-    if plain.len() > MAX_LABEL_LEN {
-        return None;
-    }
-    if push_label(wire, plain).is_none() {
-        return None;
-    }
-    Some(rest)
+    let (label, after) = read_label(text)?;
+    push_label(wire, label.as_slice())?;
+    Some(after)
 }
 
-/// Appends the wire form of the labels that a text spells, without the root.
+/// Appends the wire form of the labels that a text spells, label by label, without the root.
 fn read_labels(wire: &mut ArrayBuilder<MAX_NAME>, text: &[u8]) -> Option<()>
     requires { wire.old ≡ [] }
     ensures labels { OnSome result ((labels : Name) × LabelTexts text.now labels
@@ -165,6 +141,82 @@ fn read_labels(wire: &mut ArrayBuilder<MAX_NAME>, text: &[u8]) -> Option<()>
         }
     }
     Some(())
+}
+
+/// Whether a label ends where this text begins.
+fn ends_label(text: &[u8]) -> bool
+    ensures { IsTrue result → LabelText text.now [] text.now }
+{
+    match text {
+        [] => true,
+        [first, ..] => *first == b'.',
+    }
+}
+
+/// The label that a text begins with, if its characters all stand for themselves, and what follows
+/// it.
+fn split_plain_label(text: &[u8]) -> Option<(&[u8], &[u8])>
+    ensures parts { IfSome result (λ p. text.now ≡ p.0.now ++ p.1.now) }
+    ensures label { IfSome result (λ p. LabelText text.now p.0.now p.1.now) }
+    ensures valid { IfSome result (λ p. IsLabel p.0.now) }
+{
+    let (label, after) = text.split_at(plain_len(text));
+    if label.is_empty() || label.len() > MAX_LABEL_LEN || !ends_label(after) {
+        return None;
+    }
+    Some((label, after))
+}
+
+/// Puts the length of each label before it, where a text stands after one more octet. The labels
+/// then fill so many octets. Answers none where a character does not stand for itself, or where
+/// there is no label.
+fn put_lengths(octets: &mut [u8], text: &[u8]) -> Option<usize>
+    requires { (first : ℕ) × (octets.old ≡ first ∷ text.now) }
+    ensures within { IfSome result (λ n. n ≤ length octets.new) }
+    ensures labels { IfSome result (λ n. (labels : Name) × LabelTexts text.now labels
+        × AllByRecursion IsLabel labels × (take n octets.new ++ 0 ∷ [] ≡ wire_of labels)) }
+{
+    let mut rest = text;
+    loop {
+        let at = text.len() - rest.len();
+        let (label, after) = split_plain_label(rest)?;
+        octets[at] = label.len() as u8;
+        match after {
+            [] | [_] => return Some(at + 1 + label.len()),
+            [_, next @ ..] => rest = next,
+        }
+    }
+}
+
+/// Appends the wire form of the labels that a text spells, without the root, if all their
+/// characters stand for themselves, as those of most names. What is appended where they do not
+/// means nothing.
+fn read_plain_labels(wire: &mut ArrayBuilder<MAX_NAME>, text: &[u8]) -> Option<()>
+    requires { wire.old ≡ [] }
+    ensures { OnSome result ((labels : Name) × LabelTexts text.now labels
+        × AllByRecursion IsLabel labels × (wire.new ++ 0 ∷ [] ≡ wire_of labels)) }
+{
+    if wire.append_slice(&[0]).is_err() || wire.append_slice(text).is_err() {
+        return None;
+    }
+    let len = put_lengths(wire.as_mut_slice(), text)?;
+    wire.truncate(len);
+    Some(())
+}
+
+/// Appends the wire form of the labels that a text spells, without the root.
+fn read_any_labels(wire: &mut ArrayBuilder<MAX_NAME>, text: &[u8]) -> Option<()>
+    requires { wire.old ≡ [] }
+    ensures labels { OnSome result ((labels : Name) × LabelTexts text.now labels
+        × AllByRecursion IsLabel labels × (wire.new ++ 0 ∷ [] ≡ wire_of labels)) }
+    ensures none { IfNone result ((labels : Name) → LabelTexts text.now labels
+        → IsName labels → ⊥) }
+{
+    if read_plain_labels(wire, text).is_some() {
+        return Some(());
+    }
+    wire.truncate(0);
+    read_labels(wire, text)
 }
 
 /// Whether a text is a dot and nothing more.
@@ -199,7 +251,7 @@ pub fn read_name(wire: &mut ArrayBuilder<MAX_NAME>, text: &[u8]) -> Option<()>
     if is_dot(text) {
         return push_root(wire);
     }
-    if read_labels(wire, text).is_none() {
+    if read_any_labels(wire, text).is_none() {
         return None;
     }
     push_root(wire)
@@ -232,14 +284,28 @@ fn write_octet<W: fmt::Write>(octet: u8, f: &mut fmt::Formatter<W>) -> fmt::Resu
     }
 }
 
-/// Whether an octet is written as the character that it is. Asks first of letters in lower case,
-/// and then of digits.
-fn is_ordinary(octet: u8) -> bool
-    ensures { result ≡ is_ordinary octet }
-{
-    (octet > b'\\' && octet <= b'~')
-        || (octet > b'.' && octet < b';')
-        || (octet.is_ascii_graphic() && !is_special(octet))
+/// The octets that are written as the characters that they are.
+struct Ordinary;
+
+impl OctetSet for Ordinary {
+    ghost use Rattle.domain_names.specs.Text.{is_ordinary};
+
+    ghost has = { is_ordinary };
+
+    /// Asks first of letters in lower case, and then of digits.
+    fn contains(octet: u8) -> bool {
+        (octet > b'\\' && octet <= b'~')
+            || (octet > b'.' && octet < b';')
+            || (octet.is_ascii_graphic() && !is_special(octet))
+    }
+
+    /// Letters, digits, hyphens and underscores are.
+    fn is_usual(octet: u8) -> bool {
+        (octet > b'\\' && octet <= b'~')
+            | (octet > b'.' && octet < b';')
+            | (octet > b'@' && octet < b'\\')
+            | (octet == b'-')
+    }
 }
 
 /// Whether all octets of a label are written as the characters that they are, as those of most
@@ -248,24 +314,23 @@ fn is_ordinary(octet: u8) -> bool
 fn is_ordinary_label(label: &[u8]) -> bool
     ensures { IsTrue result → label_text label.now ≡ label.now }
 {
-    label.iter().all(|octet| is_ordinary(*octet))
+    prefix_len::<Ordinary>(label) == label.len()
 }
 
-/// The text of a label, where all its octets are written as the characters that they are.
-fn ordinary_text(label: &[u8]) -> Option<&str>
-    ensures { IfSome result (λ text. text.now ≡ label_text label.now) }
+/// Text, all of whose octets are ASCII. That they are is proved, so that it need not be looked
+/// through.
+fn ascii_text(octets: &[u8]) -> &str
+    requires { IsAscii octets.now }
+    ensures { result.now ≡ octets.now }
 {
-    if !is_ordinary_label(label) {
-        return None;
-    }
-    str::from_utf8(label).ok()
+    unsafe { str::from_utf8_unchecked(octets) }
 }
 
 fn write_label<W: fmt::Write>(label: &[u8], f: &mut fmt::Formatter<W>) -> fmt::Result
     ensures { WritesOnOk W.write_str_gives f.old result (label_text label.now) f.new }
 {
-    if let Some(text) = ordinary_text(label) {
-        return f.write_str(text);
+    if is_ordinary_label(label) {
+        return f.write_str(ascii_text(label));
     }
     for octet in label {
         write_octet(*octet, f)?;
@@ -273,49 +338,37 @@ fn write_label<W: fmt::Write>(label: &[u8], f: &mut fmt::Formatter<W>) -> fmt::R
     Ok(())
 }
 
-/// Appends the text of a label, if all its octets are written as the characters that they are.
-fn push_plain(text: &mut ArrayBuilder<MAX_NAME>, label: &[u8]) -> Option<()>
-    ensures { OnSome result (text.new ≡ text.old ++ label_text label.now) }
-{
-    if !is_ordinary_label(label) {
-        return None;
-    }
-    text.append_slice(label).ok()
-}
-
-/// Appends the texts of labels, each after a dot, if all their octets are written as the characters
-/// that they are.
-fn push_dotted(text: &mut ArrayBuilder<MAX_NAME>, name: &[u8]) -> Option<()>
-    requires { IsWire name.now }
-    ensures { OnSome result (text.new ≡ text.old ++ dotted_text (labels_of name.now)) }
+/// Puts a dot in the place of the length of each label, and of the root, in a copy of a name's
+/// octets. Answers false where an octet of a label is not written as the character that it is.
+fn put_dots(text: &mut [u8], name: &[u8]) -> bool
+    requires name { IsWire name.now }
+    requires copy { text.old ≡ name.now }
+    ensures { IsTrue result → text.new ≡ dotted_text (labels_of name.now) ++ dot ∷ [] }
 {
     let mut rest = name;
     while let Some((label, above)) = wire::split_first(rest) {
-        if text.append_slice(b".").is_err() {
-            return None;
+        if !is_ordinary_label(label) {
+            return false;
         }
-        if push_plain(text, label).is_none() {
-            return None;
-        }
+        text[name.len() - rest.len()] = b'.';
         rest = above;
     }
-    Some(())
+    text[name.len() - 1] = b'.';
+    true
 }
 
-/// Puts the text of a name into an empty builder, if all octets of its labels are written as the
-/// characters that they are, as those of most names.
-fn push_name(text: &mut ArrayBuilder<MAX_NAME>, name: &[u8]) -> Option<()>
-    requires name { IsWire name.now }
-    requires empty { text.old ≡ [] }
-    ensures { OnSome result (text.new ≡ name_text (labels_of name.now)) }
+/// The text of a name with a dot before each label and one at its end, if all octets of its labels
+/// are written as the characters that they are, as those of most names.
+fn dotted<'a>(name: &[u8], buffer: &'a mut [u8; MAX_NAME]) -> Option<&'a [u8]>
+    requires { IsWire name.now }
+    ensures { IfSome result (λ text. text.now ≡ dotted_text (labels_of name.now) ++ dot ∷ []) }
 {
-    let Some((label, above)) = wire::split_first(name) else {
-        return Some(());
-    };
-    if push_plain(text, label).is_none() {
+    let text = &mut buffer[..name.len()];
+    text.copy_from_slice(name);
+    if !put_dots(text, name) {
         return None;
     }
-    push_dotted(text, above)
+    Some(text)
 }
 
 /// Writes labels of any octets with dots between them.
@@ -340,11 +393,11 @@ pub fn write_name<W: fmt::Write>(name: &[u8], f: &mut fmt::Formatter<W>) -> fmt:
     requires { IsWire name.now }
     ensures { WritesOnOk W.write_str_gives f.old result (name_text (labels_of name.now)) f.new }
 {
-    let mut text = ArrayBuilder::new();
-    if push_name(&mut text, name).is_some()
-        && let Ok(text) = str::from_utf8(text.as_slice())
-    {
-        return f.write_str(text);
+    if let Some(text) = dotted(name, &mut [0; MAX_NAME]) {
+        return match text {
+            [_, text @ .., _] => f.write_str(ascii_text(text)),
+            _ => Ok(()),
+        };
     }
     write_labels(name, f)
 }
@@ -355,12 +408,11 @@ pub fn write_dotted<W: fmt::Write>(name: &[u8], f: &mut fmt::Formatter<W>) -> fm
     ensures { WritesOnOk W.write_str_gives f.old result
         (name_text (labels_of name.now) ++ dot ∷ []) f.new }
 {
-    let mut text = ArrayBuilder::<MAX_NAME>::new();
-    if push_name(&mut text, name).is_some()
-        && text.append_slice(b".").is_ok()
-        && let Ok(text) = str::from_utf8(text.as_slice())
-    {
-        return f.write_str(text);
+    if let Some(text) = dotted(name, &mut [0; MAX_NAME]) {
+        return match text {
+            [_, text @ ..] if !text.is_empty() => f.write_str(ascii_text(text)),
+            _ => f.write_str("."),
+        };
     }
     write_labels(name, f)?;
     f.write_str(".")

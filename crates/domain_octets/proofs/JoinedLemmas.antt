@@ -7,7 +7,6 @@ use Rattle.std.proofs.Math.ListN.{get_or-append, get_or-eq_default}
 use Rattle.std.proofs.Math.Seq.{get_or-append_seam}
 use Rattle.std.proofs.lemmas.Bool.{cases_Bool, cases_lt}
 use Rattle.std.proofs.lemmas.List.{take_at, drop_at, append-nil, append_assoc, map-append, length-map, get_or-append-add, take-append-drop}
-use Rattle.std.proofs.lemmas.List.Elements.{All-append, All-cons, All-nil}
 use Rattle.base64.specs.GeneralPurpose.{IsBytes}
 use Rattle.base64.specs.Engines.{standard}
 use Rattle.base64.proofs.EngineFacts.{decode_of-encode_of, encode_of-nil}
@@ -20,6 +19,7 @@ use Rattle.domain_octets.specs.Codec.{Decodes, IsText, BuildFault, IsFirstOther,
 use Rattle.domain_octets.specs.Cut.{Cut}
 use Rattle.domain_octets.specs.Words.{AreOctets}
 use Rattle.domain_octets.proofs.CodecBackLemmas.{decodes_once}
+use Rattle.domain_octets.proofs.PrefixLemmas.{Searched}
 use Rattle.domain_octets.proofs.Base16Lemmas.{First, pairs_first}
 use Rattle.domain_octets.proofs.Base64Lemmas.{DecodesTo, split_pieces, nothing_decodes, bytes-drop, Passed, passed_none, passed_more, short_piece}
 use Rattle.domain_octets.proofs.Base64Lemmas.{decoded_length}
@@ -37,24 +37,7 @@ bytes_of text all i = elim (cases_lt i (length text)) [
 
 -- ---- one character after another
 
--- these characters are left of the text, and those before them are the codec's
-pub record Searched (codec : Codec) (text left : List ℕ) : Type 0 where
-  pub front : List ℕ
-  pub parts : text ≡ front ++ left
-  pub pass : AllPass (is_digit codec) front
-
-pass-append : (codec : Codec) (front back : List ℕ) → AllPass (is_digit codec) front → AllPass (is_digit codec) back → AllPass (is_digit codec) (front ++ back)
-pass-append codec front back first second = All-append (λ c. is_digit codec c ≡ true) front back first second
-
-pub searched_more : (codec : Codec) (text left after : List ℕ) (c : ℕ) → Searched codec text left → left ≡ c ∷ after
-    → is_digit codec c ≡ true → Searched codec text after
-searched_more codec text left after c so_far is digit = record {
-  front = so_far.front ++ c ∷ [];
-  parts = so_far.parts ∙ ap (λ l. so_far.front ++ l) is ∙ sym (append_assoc so_far.front (c ∷ []) after);
-  pass = pass-append codec so_far.front (c ∷ []) so_far.pass (All-cons (λ x. is_digit codec x ≡ true) c [] digit (All-nil (λ x. is_digit codec x ≡ true)));
-}
-
-pub searched_other : (codec : Codec) (text left after : List ℕ) (c : ℕ) → Searched codec text left → left ≡ c ∷ after
+pub searched_other : (codec : Codec) (text left after : List ℕ) (c : ℕ) → Searched (is_digit codec) text left → left ≡ c ∷ after
     → is_digit codec c ≡ false → IsFirstOther codec text c
 searched_other codec text left after c so_far is other =
     let parts : text ≡ so_far.front ++ c ∷ after = so_far.parts ∙ ap (λ l. so_far.front ++ l) is in

@@ -8,6 +8,7 @@ pub mod PieceLemmas
 pub mod OrderLemmas
 pub mod ReadBackLemmas
 pub mod CodecBackLemmas
+pub mod PrefixLemmas
 pub mod WordLemmas
 pub mod BitGroupLemmas
 pub mod RoomLemmas

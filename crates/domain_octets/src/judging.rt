@@ -1,10 +1,10 @@
 //! Whether a text stands for octets, and what is wrong with it.
-ghost use Rattle.std.specs.Prelude.{◌≡◌, ◌<◌, ◌%◌, ◌↔◌, IsTrue, IfErr, IfSome, IfNone, OnOk, Some, length, map, unwrap_or};
+ghost use Rattle.std.specs.Prelude.{◌≡◌, ◌<◌, ◌≤◌, ◌%◌, ◌↔◌, false, IsTrue, IfErr, IfSome, IfNone, OnOk, Some, length, map, slice_index, take, unwrap_or};
 ghost use Rattle.std.specs.List.{AllPass, concat};
 ghost use Rattle.domain_octets.specs.Codec.{base32_value, is_digit, IsFirstOther, IsText, TextFault};
 ghost use Rattle.domain_octets.specs.Words.{Octets, AreOctets};
 
-use crate::{Codec, DecodeError, joined};
+use crate::{Codec, DecodeError, OctetSet, joined, prefix_len};
 use base64::engine::general_purpose::STANDARD;
 
 /// The value of a digit of Base 32 hex.
@@ -45,17 +45,85 @@ pub(crate) fn is_digit(codec: Codec, c: u8) -> bool
     }
 }
 
+/// The digits of Base 16.
+struct Base16Digits;
+
+impl OctetSet for Base16Digits {
+    ghost use Rattle.domain_octets.specs.Codec.{is_digit};
+    ghost use Rattle.domain_octets.specs.declared.codec.Codec.TheVariants as codec;
+
+    ghost has = { is_digit codec.Base16 };
+
+    fn contains(octet: u8) -> bool {
+        is_digit(Codec::Base16, octet)
+    }
+
+    fn is_usual(octet: u8) -> bool {
+        (octet >= b'0' && octet <= b'9')
+            | (octet >= b'A' && octet <= b'F')
+            | (octet >= b'a' && octet <= b'f')
+    }
+}
+
+/// The digits of Base 32 hex.
+struct Base32Digits;
+
+impl OctetSet for Base32Digits {
+    ghost use Rattle.domain_octets.specs.Codec.{is_digit};
+    ghost use Rattle.domain_octets.specs.declared.codec.Codec.TheVariants as codec;
+
+    ghost has = { is_digit codec.Base32Hex };
+
+    fn contains(octet: u8) -> bool {
+        is_digit(Codec::Base32Hex, octet)
+    }
+
+    fn is_usual(octet: u8) -> bool {
+        Self::contains(octet)
+    }
+}
+
+/// The characters of Base 64.
+struct Base64Characters;
+
+impl OctetSet for Base64Characters {
+    ghost use Rattle.domain_octets.specs.Codec.{is_digit};
+    ghost use Rattle.domain_octets.specs.declared.codec.Codec.TheVariants as codec;
+
+    ghost has = { is_digit codec.Base64 };
+
+    fn contains(octet: u8) -> bool {
+        is_digit(Codec::Base64, octet)
+    }
+
+    fn is_usual(octet: u8) -> bool {
+        Self::contains(octet)
+    }
+}
+
+/// How many characters of the codec's texts a text begins with.
+fn digits_len(codec: Codec, text: &[u8]) -> usize
+    ensures within { result ≤ length text.now }
+    ensures digits { AllPass (is_digit codec) (take result text.now) }
+    ensures end { result < length text.now → is_digit codec (slice_index text.now result) ≡ false }
+{
+    match codec {
+        Codec::Base16 => prefix_len::<Base16Digits>(text),
+        Codec::Base32Hex => prefix_len::<Base32Digits>(text),
+        Codec::Base64 => prefix_len::<Base64Characters>(text),
+    }
+}
+
 /// The first character that stands in no text of the codec.
 fn first_other(codec: Codec, text: &[u8]) -> Option<u8>
     ensures some { IfSome result (IsFirstOther codec text.now) }
     ensures none { IfNone result (AllPass (is_digit codec) text.now) }
 {
-    for c in text {
-        if !is_digit(codec, *c) {
-            return Some(*c);
-        }
+    let place = digits_len(codec, text);
+    if place == text.len() {
+        return None;
     }
-    None
+    Some(text[place])
 }
 
 /// Whether a text stands for octets in Base 64: every 64 characters for 48 octets, and the last for

@@ -8,6 +8,8 @@
 //!   section 2.3.2), and stands where it stood after a refusal.
 //! - [`Codec`] and the modules `base16`, `base32` and `base64_standard` read and write octets as
 //!   text (RFC 4648). What is wrong with a text is answered before want of room.
+//! - An [`OctetSet`] is a set of octets, and [`prefix_len`] how many octets of it some octets begin
+//!   with, found eight at a time.
 //! - [`Formatter`] takes the pieces of a zone file's text, and [`ZonefileFmt`] is a value that has
 //!   some.
 //!
@@ -31,6 +33,7 @@ mod impls;
 mod joined;
 mod judging;
 pub mod laws;
+mod octet_set;
 mod octets;
 mod parser;
 mod pieces;
@@ -47,6 +50,7 @@ pub use codec::{Codec, DecodeError};
 pub use convert::{CopyOctets, EmptyOctets, FlattenInto, OctetsFrom};
 pub use error::{AppendError, OutOfMemory, ParseError};
 pub use formatter::{Formatter, PieceFormatter};
+pub use octet_set::{OctetSet, prefix_len};
 pub use octets::{Octets, TryClone};
 pub use parser::Parser;
 pub use pieces::Piece;

@@ -1,4 +1,3 @@
-pub mod ZoneLemmas
 pub mod ScanLemmas
 pub mod OctetsLemmas
 pub mod ReadBackLemmas

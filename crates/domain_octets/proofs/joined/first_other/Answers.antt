@@ -1,6 +1,8 @@
 use Rattle.std.proofs.Common.{map, sym}
 use Rattle.std.specs.List.{concat}
-use Rattle.domain_octets.proofs.JoinedLemmas.{searched_more, searched_other}
+use Rattle.domain_octets.specs.Codec.{is_digit}
+use Rattle.domain_octets.proofs.JoinedLemmas.{searched_other}
+use Rattle.domain_octets.proofs.PrefixLemmas.{searched_one}
 use Rattle.domain_octets.proofs.joined.first_other.Goals as goal
 
 pub returns-then-not-is_digit-clause-some : goal.returns-then-not-is_digit-clause-some
@@ -10,5 +12,5 @@ returns-then-not-is_digit-clause-some c =
 
 pub loop-c-preserved : goal.loop-c-preserved
 loop-c-preserved c =
-    searched_more c.args.codec (concat (map (λ text. text.now) c.args.texts.now)) c.loop-c.left c.next.new.self c.in-Some.c
+    searched_one (is_digit c.args.codec) (concat (map (λ text. text.now) c.args.texts.now)) c.loop-c.left c.next.new.self c.in-Some.c
     c.loop-c.invariant c.in-Some.ensures (sym c.if-not-is_digit.ensures)

@@ -1,0 +1,40 @@
+-- texts whose first octets are all of one set
+use Rattle.std.proofs.Common.{◌≡◌, ℕ, ◌-◌, Bool, true, List, [], ◌∷◌, ◌++◌, length, take, drop, refl, sym, ap, subst, ◌∙◌, arith, length-append}
+use Rattle.std.specs.List.{AllPass}
+use Rattle.std.proofs.lemmas.List.{take_at, append_assoc, take-append-drop}
+use Rattle.std.proofs.lemmas.List.Elements.{All-append, All-cons, All-nil}
+
+-- these octets are left of the text, and those before them are of the set
+pub record Searched (has : ℕ → Bool) (text left : List ℕ) : Type 0 where
+  pub front : List ℕ
+  pub parts : text ≡ front ++ left
+  pub pass : AllPass has front
+
+module _ (has : ℕ → Bool) where
+  pub searched_none : (text : List ℕ) → Searched has text text
+  searched_none text = record { front = []; parts = refl; pass = All-nil (λ c. has c ≡ true) }
+
+  pub searched_more : (text left piece after : List ℕ) → Searched has text left → left ≡ piece ++ after → AllPass has piece
+      → Searched has text after
+  searched_more text left piece after so_far is pass = record {
+    front = so_far.front ++ piece;
+    parts = so_far.parts ∙ ap (λ l. so_far.front ++ l) is ∙ sym (append_assoc so_far.front piece after);
+    pass = All-append (λ c. has c ≡ true) so_far.front piece so_far.pass pass;
+  }
+
+  pub searched_one : (text left after : List ℕ) (c : ℕ) → Searched has text left → left ≡ c ∷ after → has c ≡ true → Searched has text after
+  searched_one text left after c so_far is in_set =
+      searched_more text left (c ∷ []) after so_far is (All-cons (λ x. has x ≡ true) c [] in_set (All-nil (λ x. has x ≡ true)))
+
+  pub searched_eight : (text left eight after : List ℕ) → Searched has text left → eight ≡ take 8 left → after ≡ drop 8 left
+      → AllPass has eight → Searched has text after
+  searched_eight text left eight after so_far front back pass =
+      searched_more text left eight after so_far (let whole = take-append-drop 8 left in cc) pass
+
+  -- what was searched, as a part of the text
+  pub searched_front : (text left : List ℕ) → Searched has text left → AllPass has (take (length text - length left) text)
+  searched_front text left so_far =
+      let n = length text - length left in
+      let at : n ≡ length so_far.front = omega (arith, ap length so_far.parts, length-append so_far.front left) in
+      let is : take n text ≡ so_far.front = ap (take n) so_far.parts ∙ take_at so_far.front left n (sym at) in
+      subst (AllPass has) (sym is) so_far.pass
