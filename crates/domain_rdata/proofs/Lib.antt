@@ -1,3 +1,4 @@
+pub mod ZoneLemmas
 pub mod ScanLemmas
 pub mod OctetsLemmas
 pub mod ReadBackLemmas
