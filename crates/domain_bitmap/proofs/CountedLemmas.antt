@@ -62,5 +62,3 @@ pub decoded_has_room : {X : Type 0} (codec : Codec) (limit : Option ℕ) (text o
 decoded_has_room codec limit text octets x r is decoded room over =
     let wrong = room.1 (octets, decoded, over) in
     cc
-
-pub ruleset hash_steps = (refused_by_codec, refused_too_long)

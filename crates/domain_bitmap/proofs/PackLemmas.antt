@@ -169,8 +169,6 @@ windows_more present slots j w inside before =
           ∙ sym (or_false (list_any (is_of_window slots w) (range_with_len 0 j))))
     ]
 
-pub ruleset table_steps = (types_more, windows_more)
-
 -- the octets of a window in the table are those of the types that are held
 pub table_window : (octets value xs : List ℕ) (w : ℕ) → w < 256 → length octets ≡ 8192 → xs ≡ take 32 (drop (32 * w) octets) → ((k : ℕ) → get_or xs k 0 < 256)
     → ((t : ℕ) → t < 65536 → bit_of (get_or octets (t / 8) 0) (t % 8) ≡ holds value t) → window_octets (holds value) w ≡ xs

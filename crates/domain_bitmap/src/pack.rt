@@ -4,7 +4,7 @@ ghost use Rattle.domain_bitmap.specs.Builder.{holds};
 ghost use Rattle.domain_bitmap.specs.Bitmap.{trimmed, block_with, bitmap_octets};
 
 use crate::slots::{SLOT, used_len, write_at};
-use crate::table::Table;
+use crate::table::{TABLE, WINDOWS, fill};
 use domain_octets::OctetsBuilder;
 
 /// Writes the block of a window where it has types, and says where the blocks end then.
@@ -34,11 +34,14 @@ fn pack_all<B: OctetsBuilder>(buffer: &mut B) -> usize
 {
     let slots = buffer.as_slice();
     let size = slots.len();
-    let table = Table::of(slots);
+    let mut octets = [0; TABLE];
+    let mut present = [false; WINDOWS];
+    fill(&mut octets, &mut present, slots);
     let mut end = 0;
-    for window in 0..256 {
-        if table.has_window(window) {
-            end = write_block(buffer, end, window as u8, table.window_octets(window));
+    for window in 0..WINDOWS {
+        if present[window] {
+            let own = &octets[32 * window..32 * window + 32];
+            end = write_block(buffer, end, window as u8, own);
         }
     }
     end

@@ -1,16 +1,15 @@
 //! The octets of all windows, in which a builder's blocks are put in order.
-ghost use Rattle.std.specs.Prelude.{◌≡◌, ℕ, ◌+◌, ◌-◌, ◌*◌, ◌/◌, ◌%◌, ◌<◌, ◌==◌, false, length, take, drop, slice_index, slice_index_or, bit_or, if◌then◌else◌};
+ghost use Rattle.std.specs.Prelude.{◌≡◌, ℕ, ◌+◌, ◌-◌, ◌*◌, ◌/◌, ◌%◌, ◌<◌, ◌==◌, false, length, slice_index, slice_index_or, bit_or, if◌then◌else◌};
 ghost use Rattle.domain_bitmap.specs.Bits.{bit_of};
 ghost use Rattle.domain_bitmap.specs.Builder.{holds, has_window};
 
 use crate::slots::SLOT;
 
-/// The 32 octets of each of 256 windows, and which windows have a block.
-#[derive(Drop)]
-pub(crate) struct Table {
-    octets: [u8; 8192],
-    present: [bool; 256],
-}
+/// How many windows there are.
+pub(crate) const WINDOWS: usize = 256;
+
+/// How many octets all windows have, 32 each.
+pub(crate) const TABLE: usize = 8192;
 
 /// Sets in the octets of all windows the bits of a builder's block at a place.
 fn merge(octets: &mut [u8], slots: &[u8], j: usize)
@@ -20,6 +19,7 @@ fn merge(octets: &mut [u8], slots: &[u8], j: usize)
         ≡ (if p / 32 == slice_index slots.now (34 * j)
         then bit_or (slice_index octets.old p) (slice_index slots.now (34 * j + 2 + p % 32))
         else slice_index octets.old p) }
+    ensures size { length octets.new ≡ length octets.old }
 {
     let start = slots[SLOT * j] as usize * 32;
     for i in 0..32 {
@@ -27,45 +27,21 @@ fn merge(octets: &mut [u8], slots: &[u8], j: usize)
     }
 }
 
-impl Table {
-    /// A table without types.
-    fn new() -> Self
-        ensures octets { (i : ℕ) → slice_index result.octets i ≡ 0 }
-        ensures present { (i : ℕ) → slice_index_or result.present i false ≡ false }
-    {
-        Table {
-            octets: [0; 8192],
-            present: [false; 256],
-        }
-    }
-
-    /// The table of a builder's blocks.
-    pub(crate) fn of(slots: &[u8]) -> Self
-        ensures types { (t : ℕ) → t < 65536 → bit_of (slice_index result.octets (t / 8)) (t % 8)
-            ≡ holds slots.now t }
-        ensures windows { (w : ℕ) → slice_index_or result.present w false ≡ has_window slots.now w }
-    {
-        let mut table = Table::new();
-        for j in 0..slots.len() / SLOT {
-            merge(&mut table.octets[..], slots, j);
-            table.present[slots[SLOT * j] as usize] = true;
-        }
-        table
-    }
-
-    /// Whether a window has a block.
-    pub(crate) fn has_window(&self, window: usize) -> bool
-        requires { window < 256 }
-        ensures { result ≡ slice_index_or self.now.present window false }
-    {
-        self.present[window]
-    }
-
-    /// The octets of a window.
-    pub(crate) fn window_octets(&self, window: usize) -> &[u8]
-        requires { window < 256 }
-        ensures { result.now ≡ take 32 (drop (32 * window) self.now.octets) }
-    {
-        &self.octets[32 * window..32 * window + 32]
+/// Puts the types of a builder's blocks into the octets of all windows, which are zeros, and tells
+/// which windows have a block.
+pub(crate) fn fill(octets: &mut [u8], present: &mut [bool], slots: &[u8])
+    requires octets { (i : ℕ) → slice_index octets.old i ≡ 0 }
+    requires all { length octets.old ≡ 8192 }
+    requires present { (w : ℕ) → slice_index_or present.old w false ≡ false }
+    requires windows { length present.old ≡ 256 }
+    ensures types { (t : ℕ) → t < 65536 → bit_of (slice_index octets.new (t / 8)) (t % 8)
+        ≡ holds slots.now t }
+    ensures windows { (w : ℕ) → slice_index_or present.new w false ≡ has_window slots.now w }
+    ensures size { length octets.new ≡ length octets.old }
+    ensures count { length present.new ≡ length present.old }
+{
+    for j in 0..slots.len() / SLOT {
+        merge(octets, slots, j);
+        present[slots[SLOT * j] as usize] = true;
     }
 }

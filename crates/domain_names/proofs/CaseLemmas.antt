@@ -1,5 +1,5 @@
 -- names with A to Z as a to z, on the wire
-use Rattle.std.proofs.Common.{◌≡◌, ℕ, zero, suc, ◌-◌, ◌<◌, ◌≤◌, List, [], ◌∷◌, ◌++◌, length, map, take, drop, refl, sym, ap, ◌∙◌, arith, length-append}
+use Rattle.std.proofs.Common.{◌≡◌, ℕ, ◌-◌, ◌<◌, ◌≤◌, List, [], ◌∷◌, ◌++◌, length, map, take, drop, refl, sym, ap, ◌∙◌, arith, length-append}
 use Rattle.std.specs.Char.{to_ascii_lowercase}
 use Rattle.std.specs.List.{AllByRecursion}
 use Rattle.std.proofs.lemmas.List.{map-append, length-map, take-append-drop, drop_at, drop-append-le}
@@ -64,11 +64,6 @@ same_from_octets a b a_wire b_wire same =
 
 pub octets_from_same : (a b : List ℕ) → IsWire a → IsWire b → IsSame (labels_of a) (labels_of b) → map to_ascii_lowercase a ≡ map to_ascii_lowercase b
 octets_from_same a b a_wire b_wire same = sym (lowered_wire a a_wire) ∙ ap wire_of same ∙ lowered_wire b b_wire
-
-drop_lowered : (n : ℕ) (name : List (List ℕ)) → lowered (drop n name) ≡ drop n (lowered name)
-drop_lowered zero name = refl
-drop_lowered (suc n) [] = refl
-drop_lowered (suc n) (label ∷ name) = drop_lowered n name
 
 pub one_line : (name above other : List (List ℕ)) → IsAtOrBelow name above → IsAtOrBelow name other → length other ≤ length above → IsAtOrBelow above other
 one_line name above other a b shorter =

@@ -69,11 +69,6 @@ spelling_plain text (suc n) le h =
     (subst (λ l. Spelling text (drop (n + 1) text) l) (sym (take_more text n 0 (omega arith)))
     (subst (λ l. Spelling text l (take n text ++ get_or text n 0 ∷ [])) (drop-drop 1 n text) next))
 
-pub no_label_by_front : (text rest done : List ℕ) → Spelling text rest done → 63 < length done → HasNoLabel text
-no_label_by_front text rest done so_far long = λ label after spelled.
-    let here = so_far.back label after spelled in
-    omega (arith, ap length here.1, length-append done here.0)
-
 -- one character more that stands for itself
 pub plain_symbol : (c : ℕ) (text : List ℕ) → c ≢ 92 → c ≢ 46 → 32 ≤ c → c ≤ 126 → symbol_at (c ∷ text) ≡ Some (c, 1)
 unfolding symbol_at
@@ -297,15 +292,18 @@ pub named_root : {U : Type 0} (text new : List ℕ) (o : Option U) → text ≡ 
 named_root text new None is found = tt
 named_root text new (Some u) is found = ([], subst (λ t. NameText t []) (sym is) root, found)
 
+-- the octets of labels, and then of the root, for which there was room
+pub named_fits : {U : Type 0} (text wire new : List ℕ) (o : Option U) → IsLabelsWire text wire → (IsSome o → length wire < 255)
+    → IfSome o (λ _. new ≡ wire ++ 0 ∷ []) → IfSome o (λ _. IsNamed text new)
+named_fits text wire new None found fits is = tt
+named_fits text wire new (Some u) found fits is =
+    let small : length wire < 255 = fits refl in
+    let valid : IsName found.0 = record { of_labels = found.2; fits = omega (arith, small, ap length found.3, length-append wire (0 ∷ [])) } in
+    (found.0, of_labels text found.0 found.1 valid, is ∙ found.3)
+
 module _ {U : Type 0} (text wire new : List ℕ) (o : Option U) (found : IsLabelsWire text wire) (room : IsSome o ↔ (length wire < 255)) where
   pub named_labels : IfSome o (λ _. new ≡ wire ++ 0 ∷ []) → IfSome o (λ _. IsNamed text new)
-  named_labels is = go o room is where
-    go : (p : Option U) → IsSome p ↔ (length wire < 255) → IfSome p (λ _. new ≡ wire ++ 0 ∷ []) → IfSome p (λ _. IsNamed text new)
-    go None room' is' = tt
-    go (Some u) room' is' =
-        let fits : length wire < 255 = room'.0 refl in
-        let valid : IsName found.0 = record { of_labels = found.2; fits = omega (arith, fits, ap length found.3, length-append wire (0 ∷ [])) } in
-        (found.0, of_labels text found.0 found.1 valid, is' ∙ found.3)
+  named_labels = named_fits text wire new o found room.0
 
   pub named_none : text ≢ 46 ∷ [] → IfNone o (IsNoName text)
   named_none other = go o room where

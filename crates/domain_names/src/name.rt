@@ -99,11 +99,8 @@ where
         if text::read_name(&mut wire, text.as_bytes()).is_none() {
             return Err(ScanError::Custom("illegal name"));
         }
-        let mut builder = O::Builder::empty(alloc);
-        builder.append_slice(wire.as_slice())?;
-        Ok(Name {
-            octets: O::from_builder(builder),
-        })
+        let octets = O::from_octets(alloc, wire.as_slice())?;
+        Ok(Name { octets })
     }
 }
 

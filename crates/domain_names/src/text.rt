@@ -168,11 +168,13 @@ fn split_plain_label(text: &[u8]) -> Option<(&[u8], &[u8])>
 }
 
 /// Puts the length of each label before it, where a text stands after one more octet. The labels
-/// then fill so many octets. Answers none where a character does not stand for itself, or where
-/// there is no label.
+/// then fill so many octets: all, or all but a last dot. Answers none where a character does not
+/// stand for itself, or where there is no label.
 fn put_lengths(octets: &mut [u8], text: &[u8]) -> Option<usize>
     requires { (first : ℕ) × (octets.old ≡ first ∷ text.now) }
     ensures within { IfSome result (λ n. n ≤ length octets.new) }
+    ensures dot { IfSome result (λ n. length octets.new ≤ n + 1) }
+    ensures size { length octets.new ≡ length octets.old }
     ensures labels { IfSome result (λ n. (labels : Name) × LabelTexts text.now labels
         × AllByRecursion IsLabel labels × (take n octets.new ++ 0 ∷ [] ≡ wire_of labels)) }
 {
@@ -186,37 +188,6 @@ fn put_lengths(octets: &mut [u8], text: &[u8]) -> Option<usize>
             [_, next @ ..] => rest = next,
         }
     }
-}
-
-/// Appends the wire form of the labels that a text spells, without the root, if all their
-/// characters stand for themselves, as those of most names. What is appended where they do not
-/// means nothing.
-fn read_plain_labels(wire: &mut ArrayBuilder<MAX_NAME>, text: &[u8]) -> Option<()>
-    requires { wire.old ≡ [] }
-    ensures { OnSome result ((labels : Name) × LabelTexts text.now labels
-        × AllByRecursion IsLabel labels × (wire.new ++ 0 ∷ [] ≡ wire_of labels)) }
-{
-    if wire.append_slice(&[0]).is_err() || wire.append_slice(text).is_err() {
-        return None;
-    }
-    let len = put_lengths(wire.as_mut_slice(), text)?;
-    wire.truncate(len);
-    Some(())
-}
-
-/// Appends the wire form of the labels that a text spells, without the root.
-fn read_any_labels(wire: &mut ArrayBuilder<MAX_NAME>, text: &[u8]) -> Option<()>
-    requires { wire.old ≡ [] }
-    ensures labels { OnSome result ((labels : Name) × LabelTexts text.now labels
-        × AllByRecursion IsLabel labels × (wire.new ++ 0 ∷ [] ≡ wire_of labels)) }
-    ensures none { IfNone result ((labels : Name) → LabelTexts text.now labels
-        → IsName labels → ⊥) }
-{
-    if read_plain_labels(wire, text).is_some() {
-        return Some(());
-    }
-    wire.truncate(0);
-    read_labels(wire, text)
 }
 
 /// Whether a text is a dot and nothing more.
@@ -240,6 +211,37 @@ fn push_root(wire: &mut ArrayBuilder<MAX_NAME>) -> Option<()>
     }
 }
 
+/// Puts the root after the first octets, so many: in the place of the last, where these are all but
+/// one.
+fn put_root(wire: &mut ArrayBuilder<MAX_NAME>, len: usize) -> Option<()>
+    requires within { len ≤ length wire.old }
+    requires dot { length wire.old ≤ len + 1 }
+    requires fits { length wire.old ≤ 255 }
+    ensures root { OnSome result (wire.new ≡ take len wire.old ++ 0 ∷ []) }
+    ensures room { IsSome result → len < 255 }
+{
+    if len == wire.as_slice().len() {
+        return push_root(wire);
+    }
+    wire.as_mut_slice()[len] = 0;
+    Some(())
+}
+
+/// Puts the wire form of the name that a text spells into an empty builder, if all characters of
+/// its labels stand for themselves, as those of most names. What is left there of another text
+/// means nothing.
+fn read_plain_name(wire: &mut ArrayBuilder<MAX_NAME>, text: &[u8]) -> Option<()>
+    requires { wire.old ≡ [] }
+    ensures { OnSome result ((labels : Name) × NameText text.now labels
+        × (wire.new ≡ wire_of labels)) }
+{
+    if wire.append_slice(&[0]).is_err() || wire.append_slice(text).is_err() {
+        return None;
+    }
+    let len = put_lengths(wire.as_mut_slice(), text)?;
+    put_root(wire, len)
+}
+
 /// Puts the wire form of the name that a text spells into an empty builder. Stops at the first
 /// character or label that no name has.
 pub fn read_name(wire: &mut ArrayBuilder<MAX_NAME>, text: &[u8]) -> Option<()>
@@ -251,7 +253,11 @@ pub fn read_name(wire: &mut ArrayBuilder<MAX_NAME>, text: &[u8]) -> Option<()>
     if is_dot(text) {
         return push_root(wire);
     }
-    if read_any_labels(wire, text).is_none() {
+    if read_plain_name(wire, text).is_some() {
+        return Some(());
+    }
+    wire.truncate(0);
+    if read_labels(wire, text).is_none() {
         return None;
     }
     push_root(wire)

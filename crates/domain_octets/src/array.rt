@@ -6,8 +6,8 @@ ghost use Rattle.domain_octets.specs.Written.{refilled};
 ghost use Rattle.domain_octets.specs.Words.{Octets};
 
 use crate::{
-    AppendError, EmptyBuilder, FreezeBuilder, FromBuilder, Octets, OctetsBuilder, OutOfMemory,
-    Truncate, TryClone,
+    AppendError, CopyOctets, EmptyBuilder, FreezeBuilder, FromBuilder, Octets, OctetsBuilder,
+    OutOfMemory, Truncate, TryClone,
 };
 use arrayvec::ArrayVec;
 use std::alloc::Global;
@@ -109,5 +109,9 @@ impl<const K: usize> FromBuilder for ArrayBuilder<K> {
 
     fn from_builder(builder: Self) -> Self {
         builder
+    }
+
+    fn from_octets(alloc: Global, octets: &[u8]) -> Result<Self, AppendError> {
+        Self::copy_octets(alloc, octets)
     }
 }

@@ -1,5 +1,5 @@
 //! Base 32 with the extended hex alphabet, without padding (RFC 4648, section 7).
-ghost use Rattle.std.specs.Prelude.{◌≡◌, ◌+◌, ◌*◌, ◌/◌, ◌<◌, ◌≤◌, ◌++◌, [], ℕ, map, length, slice_index, take, IfOk, IfErr, IfSome, IfNone, IsErrOf, ◌↔◌, string_bytes};
+ghost use Rattle.std.specs.Prelude.{◌≡◌, ◌+◌, ◌*◌, ◌/◌, ◌<◌, ◌≤◌, ◌∷◌, ◌++◌, [], ℕ, map, length, slice_index, take, drop, IfOk, IfErr, IfSome, IfNone, IsErrOf, ◌↔◌, string_bytes};
 ghost use Rattle.std.specs.Fmt.{WritesOnOk};
 ghost use Rattle.domain_octets.specs.Base32.{AreDigits, base32_from, base32_upper, base32_lower, upper_digit, lower_digit};
 ghost use Rattle.domain_octets.specs.declared.codec.Codec.TheVariants as codec;
@@ -32,6 +32,19 @@ const LOWER: &[u8; 32] = b"0123456789abcdefghijklmnopqrstuv";
 /// The digits in upper case.
 const UPPER: &[u8; 32] = b"0123456789ABCDEFGHIJKLMNOPQRSTUV";
 
+/// Five octets that begin with these, and then are zeros.
+fn five_of(octets: &[u8]) -> [u8; 5]
+    requires { length octets.now ≤ 5 }
+    ensures { result ≡ octets.now ++ drop (length octets.now) (0 ∷ 0 ∷ 0 ∷ 0 ∷ 0 ∷ []) }
+{
+    if let [a, b, c, d, e] = octets {
+        return [*a, *b, *c, *d, *e];
+    }
+    let mut five = [0; 5];
+    five[..octets.len()].copy_from_slice(octets);
+    five
+}
+
 /// The digits of at most five octets, as characters of an alphabet, and how many these are. Zero
 /// bits fill the last of them; what stands after it is no digit.
 fn spell(alphabet: &[u8; 32], octets: &[u8]) -> ([u8; 8], usize)
@@ -41,9 +54,7 @@ fn spell(alphabet: &[u8; 32], octets: &[u8]) -> ([u8; 8], usize)
     ensures small { AreDigits (base32_from 1 0 octets.now) }
     ensures count { result.1 ≡ (8 * length octets.now + 4) / 5 }
 {
-    let mut five = [0; 5];
-    five[..octets.len()].copy_from_slice(octets);
-    let [a, b, c, d, e] = five;
+    let [a, b, c, d, e] = five_of(octets);
     let second = 256 * u32::from(a % 8) + u32::from(b);
     let third = 256 * (second % 2) + u32::from(c);
     let fourth = 256 * (third % 16) + u32::from(d);

@@ -1,5 +1,5 @@
 //! Octets read from text.
-ghost use Rattle.std.specs.Prelude.{◌≤◌, ◌↔◌, length, map, Ok, IfOk, IfErr, IsErrOf};
+ghost use Rattle.std.specs.Prelude.{◌≤◌, ◌↔◌, length, map, Ok, IfOk, IfErr, IfSome, IsErrOf};
 ghost use Rattle.std.specs.List.{concat};
 ghost use Rattle.domain_octets.specs.Codec.{Decodes, IsText, HasNoRoom, BuildFault, DecodeFault};
 ghost use Rattle.domain_octets.specs.Limit.{HasRoom};
@@ -130,6 +130,20 @@ fn build_joined<B: EmptyBuilder + Drop>(
     }
 }
 
+/// The octets of a text in Base 16 that has at most 64 digits, in a buffer; None for all others.
+fn few_octets<'a>(codec: Codec, text: &[u8], buffer: &'a mut [u8; 32]) -> Option<&'a [u8]>
+    ensures { IfSome result (λ octets. Decodes codec text.now octets.now) }
+{
+    if codec != Codec::Base16 || text.len() > 64 {
+        return None;
+    }
+    let part = &mut buffer[..text.len() / 2];
+    if hex::decode_to_slice(text, part).is_err() {
+        return None;
+    }
+    Some(part)
+}
+
 impl Codec {
     /// The octets that a text stands for. What is wrong with the text is answered first, as
     /// `IllegalChar` or `ShortInput`, and then want of room. Memory is taken for the octets alone:
@@ -142,6 +156,9 @@ impl Codec {
         ensures room { IsErrOf result DecodeError.ShortBuf
             ↔ HasNoRoom self O.Builder.limit text.now }
     {
+        if let Some(octets) = few_octets(self, text.as_bytes(), &mut [0; 32]) {
+            return Ok(O::from_octets(alloc, octets)?);
+        }
         judge(self, &text.as_bytes())?;
         let builder = build::<O::Builder>(alloc, self, text.as_bytes())?;
         Ok(O::from_builder(builder))

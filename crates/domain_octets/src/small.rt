@@ -140,4 +140,9 @@ impl FromBuilder for SmallOctets {
     fn from_builder(builder: SmallBuilder) -> Self {
         builder.into_octets()
     }
+
+    /// Takes no memory where there are at most 30 octets.
+    fn from_octets(alloc: Global, octets: &[u8]) -> Result<Self, AppendError> {
+        Self::copy_octets(alloc, octets)
+    }
 }

@@ -4,8 +4,8 @@ use crate::lines::{Answers, input};
 use bytes::Bytes;
 use domain_base::ScanError;
 use domain_octets::{
-    AppendError, ArrayBuilder, EmptyBuilder, EmptyOctets, FreezeBuilder, Octets, OctetsFrom,
-    ParseError, Parser, SmallBuilder, SmallOctets, TryClone,
+    AppendError, ArrayBuilder, EmptyBuilder, EmptyOctets, FreezeBuilder, FromBuilder, Octets,
+    OctetsFrom, ParseError, Parser, SmallBuilder, SmallOctets, TryClone,
 };
 use std::alloc::Global;
 
@@ -65,6 +65,16 @@ fn held(alloc: Global, octets: &[u8], answers: &mut Answers) {
     answers.octets_or_error("ArrayBuilder<2>", array);
 }
 
+/// Octets of each kind that a builder makes, without its steps.
+fn made(alloc: Global, octets: &[u8], answers: &mut Answers) {
+    answers.octets_or_error("Vec made", Vec::<u8>::from_octets(alloc, octets));
+    answers.octets_or_error("SmallOctets made", SmallOctets::from_octets(alloc, octets));
+    let array = ArrayBuilder::<3>::from_octets(alloc, octets);
+    answers.octets_or_error("ArrayBuilder<3> made", array);
+    let array = ArrayBuilder::<2>::from_octets(alloc, octets);
+    answers.octets_or_error("ArrayBuilder<2> made", array);
+}
+
 /// Octets of no length.
 fn none(alloc: Global, answers: &mut Answers) {
     answers.octets("Vec", &<Vec<u8> as EmptyOctets>::empty(alloc));
@@ -109,7 +119,10 @@ pub fn answer(
             let array = overwrite::<ArrayBuilder<9>>(alloc, &parts);
             answers.octets_or_error("ArrayBuilder<9>", array);
         }
-        "held" => held(alloc, octets, answers),
+        "held" => {
+            held(alloc, octets, answers);
+            made(alloc, octets, answers);
+        }
         "parse" => parse(octets, answers),
         _ => none(alloc, answers),
     }

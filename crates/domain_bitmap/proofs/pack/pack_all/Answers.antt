@@ -1,54 +1,61 @@
-use Rattle.std.proofs.Common.{◌≡◌, ℕ, ◌*◌, ◌/◌, ◌<◌, true, false, length, drop, get_or, sym, ap, ◌∙◌, rules, ◌%◌, arith}
+use Rattle.std.proofs.Common.{◌≡◌, ℕ, ◌+◌, ◌-◌, ◌*◌, ◌/◌, ◌<◌, true, false, length, take, drop, get_or, sym, ap, ◌∙◌, ◌%◌, arith}
 use Rattle.std.proofs.lemmas.List.{length-take}
 use Rattle.domain_bitmap.specs.Builder.{holds, has_window}
 use Rattle.domain_bitmap.proofs.PackLemmas.{room_for, table_window, holds-absent, tally-more, tally-less}
+use Rattle.domain_bitmap.proofs.SlotLemmas.{zeros_at, same_at}
 use Rattle.domain_bitmap.specs.Bits.{bit_of}
 use Rattle.domain_bitmap.proofs.BitmapLemmas.{written_more, skipped_more, all_written}
 use Rattle.domain_bitmap.proofs.pack.pack_all.Goals as goal
-use Rattle.domain_bitmap.proofs.pack.pack_all.Goals.{then-has_window, else-has_window}
+use Rattle.domain_bitmap.proofs.pack.pack_all.Goals.{then-present-window, else-present-window}
+
+pub fill-requires-clause-octets : goal.fill-requires-clause-octets
+fill-requires-clause-octets g c = zeros_at 8192
+
+pub fill-requires-clause-present : goal.fill-requires-clause-present
+fill-requires-clause-present g c = same_at 256 false
 
 pub write_block-end-requires-clause-room : goal.write_block-end-requires-clause-room
 write_block-end-requires-clause-room g c =
     let value = g.B.Octets.octets c.args.buffer.now in
     let present : has_window value c.loop-window.window ≡ true =
-    rw c.as_slice-slots.ensures at (sym (c.of-table.ensures.windows c.loop-window.window) ∙ sym c.has_window.ensures
-    ∙ c.if-has_window.true) in
+    rw c.as_slice-slots.ensures at (sym (c.fill.ensures.windows c.loop-window.window) ∙ c.if-present-window.true) in
     omega (arith, room_for value c.loop-window.window present, c.loop-window.invariant.room, c.loop-window.invariant.size)
 
 pub write_block-end-requires-clause-small : goal.write_block-end-requires-clause-small
 write_block-end-requires-clause-small g c =
     let value = g.B.Octets.octets c.args.buffer.now in
     let present : has_window value c.loop-window.window ≡ true =
-    rw c.as_slice-slots.ensures at (sym (c.of-table.ensures.windows c.loop-window.window) ∙ sym c.has_window.ensures
-    ∙ c.if-has_window.true) in
+    rw c.as_slice-slots.ensures at (sym (c.fill.ensures.windows c.loop-window.window) ∙ c.if-present-window.true) in
     omega (arith, room_for value c.loop-window.window present, c.loop-window.invariant.room, c.as_slice-slots.type_inv.0, ap length c.as_slice-slots.ensures)
 
 pub write_block-end-requires-clause-fits : goal.write_block-end-requires-clause-fits
-write_block-end-requires-clause-fits g c = rw c.window_octets.ensures
-    (omega (arith, length-take 32 (drop (32 * c.loop-window.window) c.of-table.result.octets)))
+write_block-end-requires-clause-fits g c =
+    let at = 32 * c.loop-window.window in
+    omega (arith, length-take (at + 32 - at) (drop at c.fill.new.octets))
 
 pub loop-window-preserved : goal.loop-window-preserved
 loop-window-preserved g c =
     let value = g.B.Octets.octets c.args.buffer.now in
     let at = c.loop-window.window in
-    let told : has_window value at ≡ c.has_window.result = rw c.as_slice-slots.ensures at (sym (c.of-table.ensures.windows at) ∙ sym c.has_window.ensures) in
-    let bits : (t : ℕ) → t < 65536 → bit_of (get_or c.of-table.result.octets (t / 8) 0) (t % 8)
-    ≡ holds value t = rw c.as_slice-slots.ensures at c.of-table.ensures.types in
-    elim c.if-has_window.branch [
-      | then-has_window w ↦
-          let present : has_window value at ≡ true = told ∙ w.if-has_window.true in
-          let all : length c.of-table.result.octets ≡ 8192 = search rules in
-          let octets = table_window c.of-table.result.octets value w.window_octets.result.now at c.loop-window-test.true all
-          w.window_octets.ensures w.write_block-end.ensures.bounded bits in
+    let table = c.fill.new.octets in
+    let told : has_window value at ≡ get_or c.fill.new.present at false = rw c.as_slice-slots.ensures at (sym (c.fill.ensures.windows at)) in
+    let bits : (t : ℕ) → t < 65536 → bit_of (get_or table (t / 8) 0) (t % 8) ≡ holds value t = rw c.as_slice-slots.ensures at c.fill.ensures.types in
+    elim c.if-present-window.branch [
+      | then-present-window w ↦
+          let present : has_window value at ≡ true = told ∙ w.if-present-window.true in
+          let own = take (32 * at + 32 - 32 * at) (drop (32 * at) table) in
+          let count : 32 * at + 32 - 32 * at ≡ 32 = omega arith in
+          let octets = table_window table value own at c.loop-window-test.true c.fill.ensures.size
+          (ap (λ n. take n (drop (32 * at) table)) count) w.write_block-end.ensures.bounded bits in
           record {
             written = rw (w.buffer-is, w.end-is) (written_more
-                (holds value) at _ _ w.window_octets.result.now c.loop-window.invariant.written octets
+                (holds value) at _ _ own c.loop-window.invariant.written octets
                 w.write_block-end.ensures.written);
             size = rw w.buffer-is (w.write_block-end.ensures.size ∙ c.loop-window.invariant.size);
             room = rw w.end-is (omega (arith, w.write_block-end.ensures.grows, c.loop-window.invariant.room, tally-more (has_window value) at present));
           }
-      | else-has_window w ↦
-          let absent : has_window value at ≡ false = told ∙ w.if-has_window.false in
+      | else-present-window w ↦
+          let absent : has_window value at ≡ false = told ∙ w.if-present-window.false in
           record {
             written = rw (w.buffer-is, w.end-is) (skipped_more (holds value) at _ c.loop-window.invariant.written (holds-absent value at absent));
             size = rw w.buffer-is c.loop-window.invariant.size;

@@ -7,11 +7,11 @@ returns-then-is_dot-clause-name c = named_root c.args.text.now _ c.push_root.res
 
 pub returns-clause-name : goal.returns-clause-name
 returns-clause-name c =
-    let read : IsLabelsWire c.args.text.now c.read_any_labels.new.wire = search rules in
-    named_labels c.args.text.now c.read_any_labels.new.wire _ c.push_root-2.result read c.push_root-2.ensures.room c.push_root-2.ensures.root
+    let read : IsLabelsWire c.args.text.now c.read_labels.new.wire = search rules in
+    named_labels c.args.text.now c.read_labels.new.wire _ c.push_root-2.result read c.push_root-2.ensures.room c.push_root-2.ensures.root
 
 pub returns-clause-none : goal.returns-clause-none
 returns-clause-none c =
     let other : c.args.text.now ≢ 46 ∷ [] = search rules in
-    let read : IsLabelsWire c.args.text.now c.read_any_labels.new.wire = search rules in
-    named_none c.args.text.now c.read_any_labels.new.wire c.push_root-2.new.wire c.push_root-2.result read c.push_root-2.ensures.room other
+    let read : IsLabelsWire c.args.text.now c.read_labels.new.wire = search rules in
+    named_none c.args.text.now c.read_labels.new.wire c.push_root-2.new.wire c.push_root-2.result read c.push_root-2.ensures.room other

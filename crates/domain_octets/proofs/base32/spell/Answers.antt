@@ -13,7 +13,7 @@ returns-clause-value c =
       c.from-4.ensures,
       c.from-5.ensures,
       c.from-6.ensures,
-      c.copy_from_slice.ensures.after,
+      c.five_of.ensures,
     ) (spelled_five (slice_index c.args.alphabet.now) c.args.octets.now c.requires)
 
 pub returns-clause-small : goal.returns-clause-small
