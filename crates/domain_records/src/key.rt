@@ -3,13 +3,21 @@
 
 use domain_base::ToName;
 
-/// A digit of six bits for an octet, in the order of octets, 0 left out. Those of usual names, `*`
-/// to `9` and, lowered, `_` to `z`, have one of their own.
-fn digit_of(octet: u8) -> u8 {
-    let low = octet.clamp(b')', b':') - 40;
-    let high = octet.to_ascii_lowercase().clamp(b'^', b'{') - b'^';
-    low + high
-}
+/// A digit of six bits for each octet, in the order of lowered octets, 0 left out. Those of usual
+/// names, `*` to `9` and, lowered, `_` to `z`, have one of their own.
+const DIGITS: &[u8; 256] = &[
+    1, 1, 1, 1, 1, 1, 1, 1, 1, 1, 1, 1, 1, 1, 1, 1, 1, 1, 1, 1, 1, 1, 1, 1, 1, 1, 1, 1, 1, 1, 1, 1,
+    1, 1, 1, 1, 1, 1, 1, 1, 1, 1, 2, 3, 4, 5, 6, 7, 8, 9, 10, 11, 12, 13, 14, 15, 16, 17, 18, 18,
+    18, 18, 18, 18, 18, 21, 22, 23, 24, 25, 26, 27, 28, 29, 30, 31, 32, 33, 34, 35, 36, 37, 38, 39,
+    40, 41, 42, 43, 44, 45, 46, 18, 18, 18, 18, 19, 20, 21, 22, 23, 24, 25, 26, 27, 28, 29, 30, 31,
+    32, 33, 34, 35, 36, 37, 38, 39, 40, 41, 42, 43, 44, 45, 46, 47, 47, 47, 47, 47, 47, 47, 47, 47,
+    47, 47, 47, 47, 47, 47, 47, 47, 47, 47, 47, 47, 47, 47, 47, 47, 47, 47, 47, 47, 47, 47, 47, 47,
+    47, 47, 47, 47, 47, 47, 47, 47, 47, 47, 47, 47, 47, 47, 47, 47, 47, 47, 47, 47, 47, 47, 47, 47,
+    47, 47, 47, 47, 47, 47, 47, 47, 47, 47, 47, 47, 47, 47, 47, 47, 47, 47, 47, 47, 47, 47, 47, 47,
+    47, 47, 47, 47, 47, 47, 47, 47, 47, 47, 47, 47, 47, 47, 47, 47, 47, 47, 47, 47, 47, 47, 47, 47,
+    47, 47, 47, 47, 47, 47, 47, 47, 47, 47, 47, 47, 47, 47, 47, 47, 47, 47, 47, 47, 47, 47, 47, 47,
+    47, 47, 47, 47,
+];
 
 /// A key with a digit before the others. The last goes.
 fn with_digit(key: u128, digit: u8) -> u128 {
@@ -19,7 +27,7 @@ fn with_digit(key: u128, digit: u8) -> u128 {
 /// A key with the digits of a label, and a 0 that ends it, before the others.
 fn with_label(key: u128, label: &[u8]) -> u128 {
     label.iter().rev().fold(with_digit(key, 0), |key, octet| {
-        with_digit(key, digit_of(*octet))
+        with_digit(key, DIGITS[usize::from(*octet)])
     })
 }
 
