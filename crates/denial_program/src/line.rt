@@ -96,20 +96,20 @@ fn push_word<'a>(tokens: &mut LineWords<'a>, word: &'a [u8]) -> Result<(), Alloc
     Ok(())
 }
 
-/// The words of a line as text, where none of their octets is past `~`.
-fn tokens_of(alloc: Global, line: &[u8]) -> Result<Option<LineWords<'_>>, AllocError>
-    ensures same { IfOk result (λ o. IfSome o (λ v. map (λ t. t.now) v.items ≡ words line.now)) }
-    ensures plain { IfOk result (λ o. IfSome o (λ _. ArePlain (words line.now))) }
-    ensures none { IfOk result (λ o. IfNone o (ArePlain (words line.now) → ⊥)) }
+/// Appends the words of a line as text. Answers false where one of their octets is past `~`.
+fn split_words<'a>(tokens: &mut LineWords<'a>, line: &'a [u8]) -> Result<bool, AllocError>
+    requires { map (λ t. t.now) tokens.old.items ≡ [] }
+    ensures same { IfOk result (λ plain. IsTrue plain
+        → map (λ t. t.now) tokens.new.items ≡ words line.now) }
+    ensures plain { IfOk result (λ plain. IsTrue plain ↔ ArePlain (words line.now)) }
 {
-    let mut tokens = SmallVec::new(alloc);
     let mut rest = line;
     loop {
         let (word, after) = rest.split_at(prefix_len::<OfWords>(rest));
-        push_word(&mut tokens, word)?;
+        push_word(tokens, word)?;
         match after {
-            [] => return Ok(Some(tokens)),
-            [octet, ..] if *octet > b'~' => return Ok(None),
+            [] => return Ok(true),
+            [octet, ..] if *octet > b'~' => return Ok(false),
             [_, next @ ..] => rest = next,
         }
     }
@@ -204,9 +204,11 @@ pub fn read_line<'a>(
     if is_skipped(line) {
         return Ok(Line::Nothing);
     }
-    let Some(tokens) = tokens_of(alloc, line)? else {
+    let mut tokens = SmallVec::new(alloc);
+    let plain = split_words(&mut tokens, line)?;
+    if !plain {
         return Ok(Line::Bad);
-    };
+    }
     match record_of(alloc, store, last, tokens.as_slice()) {
         Ok(record) => Ok(Line::Record(record)),
         Err(LineError::OutOfMemory) => Err(OutOfMemory),
