@@ -3,8 +3,8 @@ use Rattle.std.proofs.Common.{◌≡◌, ◌≢◌, ℕ, List, ◌∷◌, [], ap
 use Rattle.std.specs.Prelude.{IsNone}
 use Rattle.std.specs.List.{concat}
 use Rattle.domain_octets.specs.Limit.{IsOver}
-use Rattle.domain_octets.specs.Codec.{Decodes}
-use Rattle.domain_octets.specs.declared.codec.Codec.{Codec}
+use Rattle.domain_codecs.specs.Codec.{Decodes}
+use Rattle.domain_codecs.specs.declared.codec.Codec.{Codec}
 use Rattle.domain_names.specs.TextFault.{ScanFault, entry_ends, illegal, no_room, no_memory, IsOfTokens, NameTextFault}
 use Rattle.domain_base.specs.Scan.{TakesToken, RefusesToken, ended, refused, CodecFault, EntryFault}
 use Rattle.domain_names.specs.Text.{NameText}

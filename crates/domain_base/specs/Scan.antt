@@ -2,8 +2,8 @@
 use Rattle.std.specs.Prelude.{◌≡◌, ℕ, ◌<◌, ◌^◌, [], ◌∷◌, ◌++◌, codes, Option, IsNone}
 use Rattle.std.specs.Str.Parse.{IsNumeral, digits_value}
 use Rattle.std.specs.List.{concat}
-use Rattle.domain_octets.specs.Codec.{Decodes, IsText, HasNoRoom}
-use Rattle.domain_octets.specs.declared.codec.Codec.{Codec}
+use Rattle.domain_codecs.specs.Codec.{Decodes, IsText, HasNoRoom}
+use Rattle.domain_codecs.specs.declared.codec.Codec.{Codec}
 use Rattle.domain_octets.specs.Words.{Octets}
 use Rattle.domain_names.specs.TextFault.{ScanFault, entry_ends, illegal, no_room, no_memory}
 use Rattle.domain_names.specs.Words.{Tokens, Token}

@@ -3,7 +3,7 @@ ghost use Rattle.std.specs.Prelude.{◌≡◌, ◌≢◌, ◌↔◌, ◌∷◌, 
 ghost use Rattle.std.specs.Fn.{FnOnceReturnsAt};
 ghost use Rattle.domain_names.specs.TextFault.{ScanFault, scan_fault_of, NameTextFault};
 ghost use Rattle.domain_base.specs.Scan.{TakesToken, RefusesToken, CodecFault, TokenHasNoRoom, EntryFault, IsEnd};
-ghost use Rattle.domain_octets.specs.Codec.{Decodes, HasNoRoom, DecodeFault};
+ghost use Rattle.domain_codecs.specs.Codec.{Decodes, HasNoRoom, DecodeFault};
 ghost use Rattle.domain_octets.specs.Limit.{HasRoom};
 ghost use Rattle.std.specs.List.{concat};
 ghost use Rattle.domain_names.specs.Text.{NameText};
@@ -11,7 +11,8 @@ ghost use Rattle.domain_names.specs.Words.{Tokens, Token};
 ghost use Rattle.domain_octets.specs.Words.{Octets};
 
 use domain_names::{Name, ScanError, ToName};
-use domain_octets::{Codec, DecodeError, EmptyBuilder, FromBuilder};
+use domain_codecs::{Codec, DecodeError};
+use domain_octets::{EmptyBuilder, FromBuilder};
 use std::alloc::Global;
 use std::marker::{Model, PhantomData};
 

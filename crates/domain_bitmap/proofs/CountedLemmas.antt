@@ -5,10 +5,10 @@ use Rattle.std.specs.Prelude.{◌↔◌, ◌∷◌, Option, Result, Ok, IsErrOf}
 use Rattle.domain_names.specs.declared.error.ScanError.{ScanError}
 use Rattle.domain_names.specs.declared.error.ScanError.TheVariants.{ShortBuf}
 use Rattle.domain_octets.specs.Limit.{HasRoom}
-use Rattle.domain_octets.specs.declared.codec.DecodeError.{DecodeError}
-use Rattle.domain_octets.specs.declared.codec.DecodeError.TheVariants as decode_error
-use Rattle.domain_octets.specs.Codec.{Decodes, HasNoRoom}
-use Rattle.domain_octets.specs.declared.codec.Codec.{Codec}
+use Rattle.domain_codecs.specs.declared.codec.DecodeError.{DecodeError}
+use Rattle.domain_codecs.specs.declared.codec.DecodeError.TheVariants as decode_error
+use Rattle.domain_codecs.specs.Codec.{Decodes, HasNoRoom}
+use Rattle.domain_codecs.specs.declared.codec.Codec.{Codec}
 use Rattle.domain_names.specs.TextFault.{ScanFault, entry_ends, illegal, no_room, no_memory}
 use Rattle.domain_base.specs.Scan.{CodecFault, TokenHasNoRoom, TakesToken, RefusesToken, ended, refused}
 use Rattle.domain_bitmap.specs.HashScan.{CountedFault}

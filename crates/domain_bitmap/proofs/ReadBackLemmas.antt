@@ -9,8 +9,9 @@ use Rattle.std.proofs.lemmas.List.{append-nil}
 use Rattle.std.proofs.lemmas.Map.Views.{any-filter_same}
 use Rattle.hex.specs.Hex.{encode_upper, encode_with}
 use Rattle.domain_octets.specs.Line.{words_of, words_after, IsWord}
-use Rattle.domain_octets.proofs.CodecBackLemmas.{upper_back}
-use Rattle.domain_octets.proofs.WordLemmas.{one_word, next_word, last_space, upper_hex_word}
+use Rattle.domain_codecs.proofs.CodecBackLemmas.{upper_back}
+use Rattle.domain_codecs.proofs.NoSpaceLemmas.{upper_hex_word}
+use Rattle.domain_octets.proofs.WordLemmas.{one_word, next_word, last_space}
 use Rattle.domain_octets.proofs.StdLemmas.{and_true}
 use Rattle.domain_base.specs.Numbers.{type_text}
 use Rattle.domain_base.proofs.NamedLemmas.{one_named}

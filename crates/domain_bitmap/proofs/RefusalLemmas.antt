@@ -4,10 +4,10 @@ use Rattle.std.specs.Prelude.{codes, ◌%◌, ◌==◌, if◌then◌else◌, Boo
 use Rattle.hex.specs.Hex.{decode_pairs}
 use Rattle.hex.specs.declared.error.FromHexError.TheVariants.{InvalidHexCharacter, OddLength}
 use Rattle.domain_octets.specs.Limit.{IsOver}
-use Rattle.domain_octets.specs.Codec.{Decodes}
-use Rattle.domain_octets.specs.declared.codec.Codec.{Codec}
-use Rattle.domain_octets.specs.declared.codec.Codec.TheVariants.{Base16, Base32Hex}
-use Rattle.domain_octets.proofs.CodecBackLemmas.{decodes_once}
+use Rattle.domain_codecs.specs.Codec.{Decodes}
+use Rattle.domain_codecs.specs.declared.codec.Codec.{Codec}
+use Rattle.domain_codecs.specs.declared.codec.Codec.TheVariants.{Base16, Base32Hex}
+use Rattle.domain_codecs.proofs.CodecBackLemmas.{decodes_once}
 use Rattle.domain_base.specs.Numbers.{TypeText, IsNoType}
 use Rattle.domain_names.specs.TextFault.{ScanFault, entry_ends, illegal, no_room, no_memory, IsOfTokens}
 use Rattle.domain_base.proofs.RefusalLemmas.{over_none, codec_excludes, codec_one_fault}

@@ -1,8 +1,8 @@
 -- salts read from tokens
 use Rattle.std.proofs.Common.{◌≡◌, ◌≢◌, ◌≤◌, ℕ, List, [], ◌∷◌, length, drop, sym, ap, ◌∙◌, subst, codes}
 use Rattle.std.specs.Prelude.{Option, Result, Ok, Err, IfOk, IfErr}
-use Rattle.domain_octets.specs.Codec.{Decodes}
-use Rattle.domain_octets.specs.declared.codec.Codec.TheVariants.{Base16}
+use Rattle.domain_codecs.specs.Codec.{Decodes}
+use Rattle.domain_codecs.specs.declared.codec.Codec.TheVariants.{Base16}
 use Rattle.domain_names.specs.TextFault.{ScanFault, entry_ends, illegal}
 use Rattle.domain_base.specs.Scan.{TakesToken, RefusesToken, ended, refused}
 use Rattle.domain_bitmap.specs.HashText.{SaltText, dash, digits}

@@ -1,9 +1,9 @@
 -- salts and hashes of owner names from tokens (RFC 5155, section 3.3)
 use Rattle.std.specs.Prelude.{◌≡◌, ◌≢◌, ℕ, ◌<◌, ◌⊎◌, [], ◌∷◌, length, codes, Option}
 use Rattle.domain_octets.specs.Limit.{HasRoom}
-use Rattle.domain_octets.specs.Codec.{Decodes}
-use Rattle.domain_octets.specs.declared.codec.Codec.{Codec}
-use Rattle.domain_octets.specs.declared.codec.Codec.TheVariants.{Base16}
+use Rattle.domain_codecs.specs.Codec.{Decodes}
+use Rattle.domain_codecs.specs.declared.codec.Codec.{Codec}
+use Rattle.domain_codecs.specs.declared.codec.Codec.TheVariants.{Base16}
 use Rattle.domain_octets.specs.Words.{Octets}
 use Rattle.domain_octets.specs.Characters.{dash}
 use Rattle.domain_names.specs.TextFault.{ScanFault, entry_ends, illegal, no_room, no_memory}

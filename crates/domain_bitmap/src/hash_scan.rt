@@ -1,7 +1,7 @@
 //! Salts and hashes of owner names from tokens (RFC 5155, section 3.3).
 ghost use Rattle.std.specs.Prelude.{◌≡◌, ◌≤◌, ◌↔◌, IfOk, IfErr, IsTrue, codes, length};
-ghost use Rattle.domain_octets.specs.Codec.{Decodes};
-ghost use Rattle.domain_octets.specs.declared.codec.Codec.TheVariants as codec;
+ghost use Rattle.domain_codecs.specs.Codec.{Decodes};
+ghost use Rattle.domain_codecs.specs.declared.codec.Codec.TheVariants as codec;
 ghost use Rattle.domain_names.specs.TextFault.{scan_fault_of};
 ghost use Rattle.domain_base.specs.Scan.{TakesToken, RefusesToken};
 ghost use Rattle.domain_bitmap.specs.HashText.{OwnerHashText, SaltText};
@@ -9,7 +9,8 @@ ghost use Rattle.domain_bitmap.specs.HashScan.{CountedFault, SaltTokenFault, Beg
 
 use crate::{CountedOctets, Nsec3Salt, OwnerHash};
 use domain_base::{ScanError, Scanner};
-use domain_octets::{Codec, FromBuilder};
+use domain_codecs::Codec;
+use domain_octets::FromBuilder;
 use std::alloc::Global;
 
 impl<O: FromBuilder + Drop, E: Default + Drop> CountedOctets<O, E> {

@@ -1,7 +1,7 @@
 //! What holds of the octets of sets of types, of octets that are read as such, and of their texts
 //! and those of salts. A caller calls the law in its body.
 ghost use Rattle.std.specs.Prelude.{◌≡◌, ◌≢◌, ◌<◌, ◌≤◌, length, ◌↔◌, ℕ, Bool, Option, codes};
-ghost use Rattle.domain_octets.specs.declared.codec.Codec.TheVariants.{Base32Hex};
+ghost use Rattle.domain_codecs.specs.declared.codec.Codec.TheVariants.{Base32Hex};
 ghost use Rattle.domain_octets.specs.Line.{words_of, IsWord};
 ghost use Rattle.domain_octets.specs.Words.{Octets, AreOctets};
 ghost use Rattle.domain_names.specs.TextFault.{ScanFault, no_memory, IsOfTokens};

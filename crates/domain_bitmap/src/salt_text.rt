@@ -2,7 +2,8 @@
 ghost use Rattle.std.specs.Prelude.{IfOk, IfErr, Some};
 
 use crate::{Nsec3Salt, Nsec3SaltError};
-use domain_octets::{DecodeError, EmptyBuilder, FromBuilder, Octets, base16};
+use domain_codecs::{DecodeError, base16};
+use domain_octets::{EmptyBuilder, FromBuilder, Octets};
 use std::alloc::Global;
 use std::error::Error;
 use std::fmt;

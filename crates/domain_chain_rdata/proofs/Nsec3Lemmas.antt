@@ -4,7 +4,7 @@ use Rattle.std.specs.Prelude.{bytes_eq, IsTrue, codes}
 use Rattle.std.specs.Fmt.{decimal}
 use Rattle.std.specs.Cmp.Lexicographic.{bytes_decides}
 use Rattle.std.proofs.lemmas.List.{append-nil, append_assoc}
-use Rattle.domain_octets.specs.Base32.{base32_upper}
+use Rattle.domain_codecs.specs.Base32.{base32_upper}
 use Rattle.domain_octets.specs.Piece.{PieceText, token, comment, opens, closes}
 use Rattle.domain_octets.specs.Place.{Place, Takes}
 use Rattle.domain_octets.specs.Words.{AreOctets}

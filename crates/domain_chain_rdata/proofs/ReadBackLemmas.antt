@@ -1,10 +1,11 @@
 -- what NSEC and NSEC3 data and the parameters of hashes are written as is read back
 use Rattle.std.proofs.Common.{◌≡◌, ◌≢◌, ℕ, ◌<◌, All, List, [], ◌∷◌, ◌++◌, map, refl, sym, ap, subst, ◌∙◌, arith, append_assoc}
 use Rattle.std.specs.Fmt.{decimal}
-use Rattle.domain_octets.specs.Base32.{base32_upper}
+use Rattle.domain_codecs.specs.Base32.{base32_upper}
 use Rattle.domain_octets.specs.Line.{words_of}
-use Rattle.domain_octets.proofs.ReadBackLemmas.{upper_reads_back}
-use Rattle.domain_octets.proofs.WordLemmas.{one_word, next_word, decimal_word, upper_base32_word}
+use Rattle.domain_codecs.proofs.ReadBackLemmas.{upper_reads_back}
+use Rattle.domain_codecs.proofs.NoSpaceLemmas.{upper_base32_word}
+use Rattle.domain_octets.proofs.WordLemmas.{one_word, next_word, decimal_word}
 use Rattle.domain_names.specs.Name.{IsName}
 use Rattle.domain_base.specs.Numbers.{type_text}
 use Rattle.domain_names.specs.Text.{name_text}

@@ -1,7 +1,7 @@
 -- NSEC3 data as text (RFC 5155, section 3.3), and in the pieces of a zone file
 use Rattle.std.specs.Prelude.{◌≡◌, ℕ, List, [], ◌∷◌, ◌++◌, codes, Option}
-use Rattle.domain_octets.specs.Base32.{base32_upper}
-use Rattle.domain_octets.specs.declared.codec.Codec.TheVariants.{Base32Hex}
+use Rattle.domain_codecs.specs.Base32.{base32_upper}
+use Rattle.domain_codecs.specs.declared.codec.Codec.TheVariants.{Base32Hex}
 use Rattle.domain_octets.specs.Piece.{PieceText, token, opens, closes}
 use Rattle.domain_octets.specs.Words.{Octets}
 use Rattle.domain_base.specs.Scan.{RefusesToken, Refusal, Grammar}

@@ -7,9 +7,9 @@ use Rattle.std.specs.List.{list_all}
 use Rattle.std.proofs.lemmas.Bool.{cases_lt}
 use Rattle.std.proofs.lemmas.Bool.Decides.{nat_tests}
 use Rattle.std.proofs.lemmas.List.{length-map}
-use Rattle.domain_octets.specs.Codec.{base32_digits, base32_octets, base32_value, is_base32_length, is_digit}
+use Rattle.domain_codecs.specs.Codec.{base32_digits, base32_octets, base32_value, is_base32_length, is_digit}
 use Rattle.domain_octets.specs.Words.{Octets}
-use Rattle.domain_octets.specs.declared.codec.Codec.TheVariants.{Base32Hex}
+use Rattle.domain_codecs.specs.declared.codec.Codec.TheVariants.{Base32Hex}
 use Rattle.domain_names.specs.Name.{is_at_or_below, lowered, same_name}
 use Rattle.domain_base.specs.Types.{ds, ns}
 use Rattle.domain_names.specs.Words.{Label, Name}

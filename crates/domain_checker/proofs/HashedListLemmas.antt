@@ -9,10 +9,10 @@ use Rattle.std.specs.declared.cmp.Ordering.TheVariants.{Less, Equal, Greater}
 use Rattle.std.proofs.lemmas.Bool.{false≢true, and_parts, not-true, or_left, or_right}
 use Rattle.std.proofs.lemmas.List.Elements.{recursion_from_All}
 use Rattle.std.proofs.lemmas.List.Sums.{list_all-from_AllPass}
-use Rattle.domain_octets.specs.Base32.{base32_lower}
-use Rattle.domain_octets.specs.Codec.{is_digit, IsBase32}
+use Rattle.domain_codecs.specs.Base32.{base32_lower}
+use Rattle.domain_codecs.specs.Codec.{is_digit, IsBase32}
 use Rattle.domain_octets.specs.Words.{Octets, AreOctets}
-use Rattle.domain_octets.specs.declared.codec.Codec.TheVariants.{Base32Hex}
+use Rattle.domain_codecs.specs.declared.codec.Codec.TheVariants.{Base32Hex}
 use Rattle.domain_names.specs.Name.{is_at_or_below, same_name, wire_of}
 use Rattle.domain_names.specs.Words.{Name}
 use Rattle.domain_bitmap.specs.Bitmap.{bitmap_octets}

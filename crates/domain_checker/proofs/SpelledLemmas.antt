@@ -8,10 +8,10 @@ use Rattle.std.specs.declared.cmp.Ordering.TheVariants.{Less, Equal, Greater}
 use Rattle.std.proofs.lemmas.Bool.{false≢true, true≢false}
 use Rattle.std.proofs.lemmas.Bool.Decides.{nat_tests}
 use Rattle.std.proofs.lemmas.List.{drop_more, drop_all}
-use Rattle.domain_octets.specs.Codec.{base32_octets, base32_digits}
-use Rattle.domain_octets.proofs.Scale.{IsScale, no_bits}
+use Rattle.domain_codecs.specs.Codec.{base32_octets, base32_digits}
+use Rattle.domain_codecs.proofs.Scale.{IsScale, no_bits}
 use Rattle.domain_octets.specs.Words.{Octets}
-use Rattle.domain_octets.proofs.CodecLemmas.{digit_at, widens}
+use Rattle.domain_codecs.proofs.CodecLemmas.{digit_at, widens}
 use Rattle.domain_checker.specs.HashedList.{read_label}
 
 pub nothing_left : (xs : Octets) → length xs ≡ 0 → xs ≡ []

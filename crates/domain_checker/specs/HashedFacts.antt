@@ -1,8 +1,8 @@
 -- What is known of each NSEC3 chain: the laws of chains, of their names and of Base 32, put
 -- together.
 use Rattle.std.specs.Prelude.{◌≡◌, ◌<◌, ℕ, Bool, true, false, List}
-use Rattle.domain_octets.specs.Base32.{base32_lower}
-use Rattle.domain_octets.specs.Codec.{IsBase32}
+use Rattle.domain_codecs.specs.Base32.{base32_lower}
+use Rattle.domain_codecs.specs.Codec.{IsBase32}
 use Rattle.domain_octets.specs.Words.{AreOctets, Octets}
 use Rattle.domain_names.specs.Name.{is_at_or_below, same_name}
 use Rattle.domain_names.specs.Words.{Name}

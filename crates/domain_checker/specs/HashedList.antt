@@ -1,9 +1,9 @@
 -- What NSEC3 records say of hashes, whoever sent them (RFC 5155, section 3); a is the apex.
 use Rattle.std.specs.Prelude.{Bool, false, ◌&&◌, ◌==◌, [], ◌∷◌, length, bytes_eq, Option, Some, None, if◌then◌else◌}
 use Rattle.std.specs.List.{list_all}
-use Rattle.domain_octets.specs.Codec.{is_digit, is_base32_length, base32_octets, base32_digits}
+use Rattle.domain_codecs.specs.Codec.{is_digit, is_base32_length, base32_octets, base32_digits}
 use Rattle.domain_octets.specs.Words.{Octets}
-use Rattle.domain_octets.specs.declared.codec.Codec.TheVariants.{Base32Hex}
+use Rattle.domain_codecs.specs.declared.codec.Codec.TheVariants.{Base32Hex}
 use Rattle.domain_names.specs.Name.{same_name}
 use Rattle.domain_names.specs.Words.{Label, Name}
 use Rattle.domain_zone.specs.Covering.{matches, covers}

@@ -3,10 +3,10 @@ ghost use Rattle.std.specs.Prelude.{◌≡◌, ◌<◌, unwrap_or, IfSome};
 ghost use Rattle.std.specs.Ordering.{nat_cmp};
 ghost use Rattle.std.specs.Cmp.Lexicographic.{slice_cmp};
 ghost use Rattle.std.specs.List.{list_all};
-ghost use Rattle.domain_octets.specs.Codec.{base32_value, is_digit};
+ghost use Rattle.domain_codecs.specs.Codec.{base32_value, is_digit};
 ghost use Rattle.domain_checker.specs.HashedList.{is_spelling, read_label};
 
-use domain_octets::Codec;
+use domain_codecs::Codec;
 use std::cmp::Ordering;
 
 /// The value of a digit of Base 32 hex, in either case (RFC 4648, section 7).

@@ -11,8 +11,8 @@ use Rattle.domain_message.specs.declared.error.MessageError.{MessageError}
 use Rattle.domain_message.specs.declared.error.MessageError.TheVariants as message_error
 use Rattle.domain_message.specs.declared.line.LineError.{LineError}
 use Rattle.domain_message.specs.declared.line.LineError.TheVariants as line_error
-use Rattle.domain_octets.specs.declared.codec.DecodeError.{DecodeError}
-use Rattle.domain_octets.specs.declared.codec.DecodeError.TheVariants as decode_error
+use Rattle.domain_codecs.specs.declared.codec.DecodeError.{DecodeError}
+use Rattle.domain_codecs.specs.declared.codec.DecodeError.TheVariants as decode_error
 use Rattle.domain_octets.specs.declared.error.AppendError.{AppendError}
 use Rattle.domain_octets.specs.declared.error.AppendError.TheVariants as append_error
 use Rattle.domain_octets.specs.declared.error.ParseError.{ParseError}

@@ -1,9 +1,9 @@
 -- grammars of tokens: which of them read tokens in one way at most, and that what they refuse they do not read
 use Rattle.std.proofs.Common.{◌≡◌, ℕ, List, sym, subst, ◌∙◌, inl, inr, Option}
 use Rattle.std.specs.List.{concat}
-use Rattle.domain_octets.specs.Codec.{Decodes}
-use Rattle.domain_octets.specs.declared.codec.Codec.{Codec}
-use Rattle.domain_octets.proofs.CodecBackLemmas.{decodes_once}
+use Rattle.domain_codecs.specs.Codec.{Decodes}
+use Rattle.domain_codecs.specs.declared.codec.Codec.{Codec}
+use Rattle.domain_codecs.proofs.CodecBackLemmas.{decodes_once}
 use Rattle.domain_names.specs.TextFault.{ScanFault, IsOfTokens}
 use Rattle.domain_base.specs.Scan.{EntryFault, RefusesToken}
 use Rattle.domain_base.proofs.RefusalLemmas.{token_excludes, token_one_fault, entry_excludes, entry_one_fault}

@@ -2,8 +2,8 @@
 use Rattle.std.proofs.Common.{◌≡◌, ℕ, true, List, [], ◌∷◌, ◌++◌, refl, sym, subst, ◌∙◌, arith, append_assoc}
 use Rattle.std.specs.List.{AllByRecursion}
 use Rattle.std.proofs.lemmas.List.{append-nil}
-use Rattle.domain_octets.specs.Codec.{Decodes}
-use Rattle.domain_octets.specs.declared.codec.Codec.{Codec}
+use Rattle.domain_codecs.specs.Codec.{Decodes}
+use Rattle.domain_codecs.specs.declared.codec.Codec.{Codec}
 use Rattle.domain_octets.specs.Line.{IsWord, word_if_any}
 use Rattle.domain_octets.proofs.WordLemmas.{decimal_word, concat_any}
 use Rattle.std.proofs.lemmas.Bool.{and_parts}

@@ -4,7 +4,7 @@ use Rattle.std.specs.Prelude.{◌↔◌, OnOk, OnErr, IsErrOf, IsNone}
 use Rattle.domain_octets.specs.Limit.{IsOver}
 use Rattle.domain_octets.specs.declared.error.AppendError.{AppendError}
 use Rattle.domain_octets.specs.declared.error.AppendError.TheVariants.{ShortBuf, OutOfMemory}
-use Rattle.domain_octets.proofs.RoomLemmas.{over_more}
+use Rattle.domain_codecs.proofs.RoomLemmas.{over_more}
 use Rattle.domain_fields.specs.Layout.{Layout, ◌▸◌, Values, octets_of}
 use Rattle.domain_fields.specs.Target.{Appended, Began, Stops, Appends}
 

@@ -2,8 +2,8 @@
 use Rattle.std.specs.Prelude.{◌≡◌, ℕ, [], length, codes, Option}
 use Rattle.std.specs.List.{concat}
 use Rattle.domain_octets.specs.Limit.{HasRoom}
-use Rattle.domain_octets.specs.Codec.{Decodes}
-use Rattle.domain_octets.specs.declared.codec.Codec.{Codec}
+use Rattle.domain_codecs.specs.Codec.{Decodes}
+use Rattle.domain_codecs.specs.declared.codec.Codec.{Codec}
 use Rattle.domain_octets.specs.Words.{Octets}
 use Rattle.domain_names.specs.TextFault.{ScanFault, illegal}
 use Rattle.domain_base.specs.Scan.{Refusal, Grammar, EntryFault, IsEnd}

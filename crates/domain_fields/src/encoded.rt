@@ -4,7 +4,7 @@ ghost use Rattle.hex.specs.Hex.{encode_lower, encode_upper};
 ghost use Rattle.base64.specs.GeneralPurpose.{encode_of};
 ghost use Rattle.base64.specs.Engines.{standard};
 
-use domain_octets::{base16, base64_standard};
+use domain_codecs::{base16, base64_standard};
 use std::fmt;
 
 /// Octets in Base 64 (RFC 4648, section 4).

@@ -5,12 +5,13 @@ use Rattle.std.specs.Fmt.{decimal}
 use Rattle.base64.specs.GeneralPurpose.{encode_of}
 use Rattle.base64.specs.Engines.{standard}
 use Rattle.hex.specs.Hex.{encode_lower}
-use Rattle.domain_octets.specs.declared.codec.Codec.{Codec}
-use Rattle.domain_octets.specs.declared.codec.Codec.TheVariants.{Base16, Base64}
-use Rattle.domain_octets.specs.Codec.{Decodes}
+use Rattle.domain_codecs.specs.declared.codec.Codec.{Codec}
+use Rattle.domain_codecs.specs.declared.codec.Codec.TheVariants.{Base16, Base64}
+use Rattle.domain_codecs.specs.Codec.{Decodes}
 use Rattle.domain_octets.specs.Line.{words_of, word_if_any, HasNoSpace}
-use Rattle.domain_octets.proofs.CodecBackLemmas.{lower_back, base64_back}
-use Rattle.domain_octets.proofs.WordLemmas.{one_word, next_word, next_any, decimal_word, base64_plain, lower_hex_plain}
+use Rattle.domain_codecs.proofs.CodecBackLemmas.{lower_back, base64_back}
+use Rattle.domain_codecs.proofs.NoSpaceLemmas.{base64_plain, lower_hex_plain}
+use Rattle.domain_octets.proofs.WordLemmas.{one_word, next_word, next_any, decimal_word}
 use Rattle.domain_fields.specs.Entry.{Spells}
 use Rattle.domain_fields.specs.Layout.{Fits}
 use Rattle.domain_fields.specs.Scan.{Scans}

@@ -1,6 +1,6 @@
 -- The texts of keys and of digests: tokens spell one at most, and none where they are refused.
 use Rattle.std.proofs.Common.{◌≡◌, ℕ, ◌<◌, List, length, arith, Option}
-use Rattle.domain_octets.specs.declared.codec.Codec.TheVariants.{Base16, Base64}
+use Rattle.domain_codecs.specs.declared.codec.Codec.TheVariants.{Base16, Base64}
 use Rattle.domain_names.specs.TextFault.{ScanFault, IsOfTokens}
 use Rattle.domain_fields.specs.Scan.{Scans, Refuses}
 use Rattle.domain_fields.proofs.GrammarLemmas.{fields_once, fields_refused, fields_one_fault, same_fields, same_octets, entry_refused, entry_refused_once}

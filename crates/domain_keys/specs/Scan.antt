@@ -1,7 +1,7 @@
 -- data as tokens (RFC 4034, sections 2.2 and 5.3): three numbers, and then octets, which all tokens
 -- that are left spell together
 use Rattle.std.specs.Prelude.{ℕ, ◌<◌, ◌≤◌, length, Option}
-use Rattle.domain_octets.specs.declared.codec.Codec.TheVariants.{Base16, Base64}
+use Rattle.domain_codecs.specs.declared.codec.Codec.TheVariants.{Base16, Base64}
 use Rattle.domain_base.specs.Scan.{Refusal}
 use Rattle.domain_names.specs.Words.{Tokens}
 use Rattle.domain_fields.specs.Entry.{Spells, RefusesData}

@@ -11,7 +11,8 @@ use crate::fields::MOST;
 use crate::flags::FlagsComment;
 use domain_base::{ScanError, Scanner, SecurityAlgorithm};
 use domain_fields::InBase64;
-use domain_octets::{Codec, Formatter, FromBuilder, Octets, OutOfMemory, ZonefileFmt};
+use domain_codecs::Codec;
+use domain_octets::{Formatter, FromBuilder, Octets, OutOfMemory, ZonefileFmt};
 use std::alloc::Global;
 use std::fmt;
 

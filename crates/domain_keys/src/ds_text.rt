@@ -9,7 +9,8 @@ use crate::entry::scan_entry;
 use crate::fields::MOST;
 use domain_base::{DigestAlgorithm, ScanError, Scanner, SecurityAlgorithm};
 use domain_fields::{InBase16, InLowerBase16};
-use domain_octets::{Codec, Formatter, FromBuilder, Octets, OutOfMemory, ZonefileFmt};
+use domain_codecs::Codec;
+use domain_octets::{Formatter, FromBuilder, Octets, OutOfMemory, ZonefileFmt};
 use std::alloc::Global;
 use std::fmt;
 

@@ -6,7 +6,8 @@ ghost use Rattle.domain_fields.specs.Entry.{Spells, RefusesData};
 
 use domain_base::{ScanError, Scanner};
 use domain_fields::ScanFields;
-use domain_octets::{Codec, Octets};
+use domain_codecs::Codec;
+use domain_octets::Octets;
 use std::alloc::Global;
 
 /// The fields that the tokens begin with, and the octets, at most so many, that all tokens that are

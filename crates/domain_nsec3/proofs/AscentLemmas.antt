@@ -8,8 +8,8 @@ use Rattle.std.specs.Ordering.{nat_cmp, ordering_then}
 use Rattle.std.specs.declared.cmp.Ordering.TheVariants.{Less}
 use Rattle.std.proofs.lemmas.Cmp.{tied_itself}
 use Rattle.std.proofs.lemmas.List.Elements.{recursion_from_All}
-use Rattle.domain_octets.specs.Base32.{base32_lower}
-use Rattle.domain_octets.proofs.OrderLemmas.{lower_keeps}
+use Rattle.domain_codecs.specs.Base32.{base32_lower}
+use Rattle.domain_codecs.proofs.OrderLemmas.{lower_keeps}
 use Rattle.domain_names.specs.Order.{canonical_cmp, canonical_cmp_total}
 use Rattle.domain_names.proofs.OrderLemmas.{canonical_cmp-more}
 use Rattle.domain_zone.specs.Covering.{pairs}

@@ -13,8 +13,8 @@ use Rattle.std.specs.declared.cmp.Ordering.TheVariants.{Less, Equal, Greater}
 use Rattle.std.proofs.lemmas.Bool.{cases_Bool, cases_lt, false≢true, true≢false, and_parts, and_from, or_cases, or_left}
 use Rattle.std.proofs.lemmas.List.Elements.{recursion_from_All}
 use Rattle.std.proofs.lemmas.List.Sorted.{ranks_by}
-use Rattle.domain_octets.specs.Base32.{base32_lower}
-use Rattle.domain_octets.proofs.OrderLemmas.{lower_apart}
+use Rattle.domain_codecs.specs.Base32.{base32_lower}
+use Rattle.domain_codecs.proofs.OrderLemmas.{lower_apart}
 use Rattle.domain_octets.proofs.StdLemmas.{and_false, some_is}
 use Rattle.domain_bitmap.specs.Bitmap.{bitmap_octets}
 use Rattle.domain_bitmap.proofs.BitmapLemmas.{bitmap_octets-same}

@@ -8,10 +8,10 @@ use Rattle.std.proofs.lemmas.Bool.{cases_Bool, cases_lt, or_right}
 use Rattle.std.proofs.lemmas.Bool.Decides.{nat_tests}
 use Rattle.std.proofs.lemmas.List.Elements.{recursion_from_All, All-from_recursion}
 use Rattle.std.proofs.lemmas.List.{length-map, append-nil}
-use Rattle.domain_octets.specs.Base32.{base32_from, base32_lower, lower_digit}
-use Rattle.domain_octets.proofs.Base32Lemmas.{many_digits}
+use Rattle.domain_codecs.specs.Base32.{base32_from, base32_lower, lower_digit}
+use Rattle.domain_codecs.proofs.Base32Lemmas.{many_digits}
 use Rattle.domain_octets.proofs.OctetLemmas.{octets_from_type}
-use Rattle.domain_octets.proofs.ReadBackLemmas.{are_small}
+use Rattle.domain_codecs.proofs.ReadBackLemmas.{are_small}
 use Rattle.domain_names.specs.Name.{wire_of, IsName}
 use Rattle.domain_names.specs.Text.{is_ordinary, label_text, name_text}
 use Rattle.domain_names.specs.Wire.{labels_of, IsWire}

@@ -6,7 +6,7 @@ use Rattle.std.specs.Ordering.{nat_cmp}
 use Rattle.std.specs.Cmp.Lexicographic.{slice_cmp}
 use Rattle.domain_octets.specs.Words.{Octets}
 use Rattle.domain_base.specs.Classes.{in_class}
-use Rattle.domain_octets.specs.Base32.{base32_lower}
+use Rattle.domain_codecs.specs.Base32.{base32_lower}
 use Rattle.domain_bitmap.specs.Bitmap.{bitmap_octets}
 use Rattle.domain_zone.specs.Covering.{pairs}
 use Rattle.domain_names.specs.Name.{same_name}

@@ -1,9 +1,9 @@
 //! The text of a hash, written without memory.
 ghost use Rattle.std.specs.Prelude.{◌≡◌, ◌+◌, ◌≤◌, length};
 ghost use Rattle.std.specs.Fmt.{WritesOnOk};
-ghost use Rattle.domain_octets.specs.Base32.{base32_lower};
+ghost use Rattle.domain_codecs.specs.Base32.{base32_lower};
 
-use domain_octets::base32::Digits;
+use domain_codecs::base32::Digits;
 use std::fmt;
 
 /// Room for the text of a hash that is a label, of at most 63 octets, and seven octets more: digits

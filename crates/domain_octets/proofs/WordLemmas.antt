@@ -1,22 +1,14 @@
--- the words of a text, and texts of octets that are one word
-use Rattle.std.proofs.Common.{◌≡◌, ◌≢◌, ℕ, ◌+◌, ◌*◌, ◌/◌, ◌%◌, ◌<◌, true, false, List, [], ◌∷◌, ◌++◌, length, map, get_or, refl, ap, sym, ◌∙◌, arith, inl, inr}
-use Rattle.std.specs.Prelude.{◌^◌, ◌==◌, replicate, not, zero, suc}
-use Rattle.std.specs.List.{AllByRecursion, join_with_byte, list_all, concat}
-use Rattle.std.proofs.lemmas.List.Sums.{AllPass-from_list_all}
+-- the words of a text
+use Rattle.std.proofs.Common.{◌≡◌, ◌≢◌, ℕ, ◌+◌, ◌<◌, false, List, [], ◌∷◌, ◌++◌, length, refl, ap, sym, ◌∙◌, arith, inl, inr}
+use Rattle.std.specs.Prelude.{◌^◌, ◌==◌}
+use Rattle.std.specs.List.{AllByRecursion, join_with_byte, concat}
 use Rattle.std.specs.Fmt.{decimal}
 use Rattle.std.specs.Char.{digit_value}
 use Rattle.std.specs.Str.Parse.{AllDigits}
 use Rattle.std.proofs.lemmas.Fmt.{decimal_is_IsNumeral}
 use Rattle.std.proofs.lemmas.List.{append_assoc, append-nil}
-use Rattle.std.proofs.lemmas.List.Elements.{All-get_or}
-use Rattle.std.proofs.lemmas.Bool.{cases_Bool, cases_lt, not-true}
+use Rattle.std.proofs.lemmas.Bool.{cases_Bool}
 use Rattle.std.proofs.lemmas.Bool.Decides.{nat_tests}
-use Rattle.std.proofs.Math.ListN.{get_or-eq_default}
-use Rattle.hex.specs.Hex.{encode_with, encode_lower, encode_upper, lower_digits, upper_digits}
-use Rattle.base64.specs.GeneralPurpose.{encode_of}
-use Rattle.base64.specs.Engines.{standard}
-use Rattle.base64.specs.Rfc4648.{encode_symbols, padding_len}
-use Rattle.domain_octets.specs.Base32.{base32_from, base32_upper, base32_lower, upper_digit, lower_digit}
 use Rattle.domain_octets.specs.Line.{word_if_any, words_after, words_of, HasNoSpace, IsWord}
 
 -- a word that has begun goes on
@@ -95,102 +87,7 @@ decimal_word n small =
     let numeral = (decimal_is_IsNumeral n small).0 in
     record { some = not_empty (decimal n) numeral.0; unbroken = digits_plain (decimal n) numeral.1 }
 
--- no entry of a table is a space
-abbrev NoSpaceIn : List ℕ → Type 0
-NoSpaceIn table = (i : ℕ) → (get_or table i 0 == 32) ≡ false
-
--- which a test finds
-table_plain : (table : List ℕ) → list_all (λ c. not (c == 32)) table ≡ true → NoSpaceIn table
-table_plain table all i = elim (cases_lt i (length table)) [
-  | inl inside ↦ not-true (get_or table i 0 == 32) (All-get_or (λ c. not (c == 32) ≡ true) table i 0 inside
-      (AllPass-from_list_all (λ c. not (c == 32)) table all))
-  | inr past ↦ let e : get_or table i 0 ≡ 0 = get_or-eq_default table 0 (omega arith) in rw e refl
-]
-
-hex_plain : (table octets : List ℕ) → NoSpaceIn table → HasNoSpace (encode_with table octets)
-unfolding encode_with
-hex_plain table [] plain = tt
-hex_plain table (octet ∷ octets) plain = (plain (octet / 16), (plain (octet % 16), hex_plain table octets plain))
-
-hex_some : (table octets : List ℕ) → octets ≢ [] → encode_with table octets ≢ []
-unfolding encode_with
-hex_some table [] some = absurd (some refl)
-hex_some table (octet ∷ octets) some = λ none. cc
-
-pub upper_hex_word : (octets : List ℕ) → octets ≢ [] → IsWord (encode_upper octets)
-upper_hex_word octets some = record { some = hex_some upper_digits octets some; unbroken = hex_plain upper_digits octets (table_plain upper_digits refl) }
-
-pub lower_hex_word : (octets : List ℕ) → octets ≢ [] → IsWord (encode_lower octets)
-lower_hex_word octets some = record { some = hex_some lower_digits octets some; unbroken = hex_plain lower_digits octets (table_plain lower_digits refl) }
-
--- the digits of Base 32 are no spaces, whatever number they are made of
-upper_plain : (n : ℕ) → (upper_digit n == 32) ≡ false
-upper_plain n = grind (arith, nat_tests)
-
-lower_plain : (n : ℕ) → (lower_digit n == 32) ≡ false
-lower_plain n = grind (arith, nat_tests)
-
-map_plain : (written : ℕ → ℕ) → ((n : ℕ) → (written n == 32) ≡ false) → (digits : List ℕ) → HasNoSpace (map written digits)
-map_plain written plain [] = tt
-map_plain written plain (digit ∷ digits) = (plain digit, map_plain written plain digits)
-
-map_some : (written : ℕ → ℕ) (digits : List ℕ) → digits ≢ [] → map written digits ≢ []
-map_some written [] some = absurd (some refl)
-map_some written (digit ∷ digits) some = λ none. cc
-
-base32_some : (octets : List ℕ) → octets ≢ [] → base32_from 1 0 octets ≢ []
-unfolding base32_from
-base32_some [] some = absurd (some refl)
-base32_some (octet ∷ octets) some = λ none. cc
-
-pub upper_base32_word : (octets : List ℕ) → octets ≢ [] → IsWord (base32_upper octets)
-upper_base32_word octets some = record {
-  some = map_some upper_digit (base32_from 1 0 octets) (base32_some octets some);
-  unbroken = map_plain upper_digit upper_plain (base32_from 1 0 octets);
-}
-
-pub lower_base32_word : (octets : List ℕ) → octets ≢ [] → IsWord (base32_lower octets)
-lower_base32_word octets some = record {
-  some = map_some lower_digit (base32_from 1 0 octets) (base32_some octets some);
-  unbroken = map_plain lower_digit lower_plain (base32_from 1 0 octets);
-}
-
-symbols_plain : (table octets : List ℕ) → NoSpaceIn table → HasNoSpace (encode_symbols table octets)
-unfolding encode_symbols
-symbols_plain table [] plain = tt
-symbols_plain table (a ∷ []) plain = (plain (a / 4), (plain (a % 4 * 16), tt))
-symbols_plain table (a ∷ b ∷ []) plain = (plain (a / 4), (plain (a % 4 * 16 + b / 16), (plain (b % 16 * 4), tt)))
-symbols_plain table (a ∷ b ∷ c ∷ octets) plain =
-    (plain (a / 4), (plain (a % 4 * 16 + b / 16), (plain (b % 16 * 4 + c / 64), (plain (c % 64), symbols_plain table octets plain))))
-
-symbols_some : (table octets rest : List ℕ) → octets ≢ [] → encode_symbols table octets ++ rest ≢ []
-unfolding encode_symbols
-symbols_some table [] rest some = absurd (some refl)
-symbols_some table (a ∷ []) rest some = λ none. cc
-symbols_some table (a ∷ b ∷ []) rest some = λ none. cc
-symbols_some table (a ∷ b ∷ c ∷ octets) rest some = λ none. cc
-
-padding_plain : (n : ℕ) → HasNoSpace (replicate n 61)
-padding_plain zero = tt
-padding_plain (suc n) = (refl, padding_plain n)
-
-pub base64_word : (octets : List ℕ) → octets ≢ [] → IsWord (encode_of standard octets)
-base64_word octets some = record {
-  some = symbols_some standard.encode_table octets (replicate (padding_len (length octets)) 61) some;
-  unbroken = no_space-append (encode_symbols standard.encode_table octets) (replicate (padding_len (length octets)) 61)
-      (symbols_plain standard.encode_table octets (table_plain standard.encode_table refl))
-      (padding_plain (padding_len (length octets)));
-}
-
 -- ---- texts that may have no characters
-
-pub base64_plain : (octets : List ℕ) → HasNoSpace (encode_of standard octets)
-base64_plain octets = no_space-append (encode_symbols standard.encode_table octets) (replicate (padding_len (length octets)) 61)
-    (symbols_plain standard.encode_table octets (table_plain standard.encode_table refl))
-    (padding_plain (padding_len (length octets)))
-
-pub lower_hex_plain : (octets : List ℕ) → HasNoSpace (encode_lower octets)
-lower_hex_plain octets = hex_plain lower_digits octets (table_plain lower_digits refl)
 
 -- a text after a space, which is a word if it has any character
 pub next_any : (front text : List ℕ) → HasNoSpace text → words_of ((front ++ 32 ∷ []) ++ text) ≡ words_of front ++ word_if_any text

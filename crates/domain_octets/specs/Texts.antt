@@ -1,12 +1,9 @@
 -- what errors say
-use Rattle.std.specs.Prelude.{◌++◌, codes}
-use Rattle.std.specs.Char.{encode_utf8}
+use Rattle.std.specs.Prelude.{codes}
 use Rattle.domain_octets.specs.declared.error.AppendError.{AppendError}
 use Rattle.domain_octets.specs.declared.error.AppendError.TheVariants as append_error
 use Rattle.domain_octets.specs.declared.error.ParseError.{ParseError}
 use Rattle.domain_octets.specs.declared.error.ParseError.TheVariants as parse_error
-use Rattle.domain_octets.specs.declared.codec.DecodeError.{DecodeError}
-use Rattle.domain_octets.specs.declared.codec.DecodeError.TheVariants as decode_error
 use Rattle.domain_octets.specs.Words.{Octets}
 
 abbrev pub append_error_text : AppendError → Octets
@@ -16,10 +13,3 @@ append_error_text append_error.OutOfMemory = codes "out of memory"
 abbrev pub parse_error_text : ParseError → Octets
 parse_error_text parse_error.ShortInput = codes "unexpected end of input"
 parse_error_text (parse_error.Form text) = text.now
-
-abbrev pub decode_error_text : DecodeError → Octets
-decode_error_text (decode_error.IllegalChar c) =
-    codes "illegal character '" ++ encode_utf8 c ++ codes "'"
-decode_error_text decode_error.ShortInput = codes "incomplete input"
-decode_error_text decode_error.ShortBuf = codes "buffer size exceeded"
-decode_error_text decode_error.OutOfMemory = codes "out of memory"

@@ -1,62 +1,9 @@
-//! What holds of octets as text: Base 16, Base 32 with the extended hex alphabet, and Base 64.
-//! A caller calls the law in its body.
-ghost use Rattle.std.specs.Prelude.{◌≡◌, ◌≢◌, ◌<◌, ◌^◌, ℕ, List, []};
-ghost use Rattle.std.specs.Fmt.{decimal};
-ghost use Rattle.std.specs.List.{AllByRecursion, flat_map, join_with_byte};
-ghost use Rattle.std.specs.Ordering.{nat_cmp};
-ghost use Rattle.std.specs.Cmp.Lexicographic.{slice_cmp};
-ghost use Rattle.domain_octets.specs.Base32.{base32_from, base32_lower, base32_upper};
-ghost use Rattle.domain_octets.specs.Codec.{IsBase32, Decodes};
-ghost use Rattle.domain_octets.specs.declared.codec.Codec.{Codec};
-ghost use Rattle.domain_octets.specs.declared.codec.Codec.TheVariants as codec;
-ghost use Rattle.hex.specs.Hex.{encode_lower, encode_upper};
-ghost use Rattle.base64.specs.GeneralPurpose.{encode_of};
-ghost use Rattle.base64.specs.Engines.{standard};
-ghost use Rattle.domain_octets.specs.BitGroups.{digit_bits, filled_bits};
+//! What holds of octets in slices, and of the words of a line. A caller calls the law in its body.
+ghost use Rattle.std.specs.Prelude.{◌≡◌, List};
+ghost use Rattle.std.specs.List.{AllByRecursion, join_with_byte};
 ghost use Rattle.domain_octets.specs.Characters.{space};
 ghost use Rattle.domain_octets.specs.Line.{words_of, IsWord};
 ghost use Rattle.domain_octets.specs.Words.{Octets, AreOctets};
-
-/// Texts are in the lexicographic order of their octets, of whatever lengths those are (RFC 4648,
-/// section 7). So the owners of NSEC3 records are in the order of their hashes (RFC 5155,
-/// section 3).
-pub fn base32_keeps_order()
-    ensures lower { (x y : Octets) → AreOctets x → AreOctets y
-        → slice_cmp nat_cmp (base32_lower x) (base32_lower y) ≡ slice_cmp nat_cmp x y }
-    ensures upper { (x y : Octets) → AreOctets x → AreOctets y
-        → slice_cmp nat_cmp (base32_upper x) (base32_upper y) ≡ slice_cmp nat_cmp x y }
-{}
-
-/// Different octets have different texts.
-pub fn base32_tells_apart()
-    ensures lower { (x y : Octets) → AreOctets x → AreOctets y
-        → base32_lower x ≡ base32_lower y → x ≡ y }
-    ensures upper { (x y : Octets) → AreOctets x → AreOctets y
-        → base32_upper x ≡ base32_upper y → x ≡ y }
-{}
-
-/// What octets are written as in lower case is read back as these octets.
-pub fn base32_reads_back()
-    ensures { (octets : Octets) → AreOctets octets → IsBase32 (base32_lower octets) octets }
-{}
-
-/// So is what octets are written as in upper case, in Base 16 in either case, and in Base 64.
-pub fn texts_read_back()
-    ensures base16_lower { (octets : Octets) → AreOctets octets
-        → Decodes codec.Base16 (encode_lower octets) octets }
-    ensures base16_upper { (octets : Octets) → AreOctets octets
-        → Decodes codec.Base16 (encode_upper octets) octets }
-    ensures base32_upper { (octets : Octets) → AreOctets octets
-        → Decodes codec.Base32Hex (base32_upper octets) octets }
-    ensures base64 { (octets : Octets) → AreOctets octets
-        → Decodes codec.Base64 (encode_of standard octets) octets }
-{}
-
-/// A text stands for octets in one way at most.
-pub fn texts_stand_for_octets_once()
-    ensures { (codec : Codec) (text x y : Octets) → Decodes codec text x → Decodes codec text y
-        → x ≡ y }
-{}
 
 /// The words of a line are the tokens that it was made of.
 pub fn lines_are_read_back()
@@ -64,24 +11,7 @@ pub fn lines_are_read_back()
         → words_of (join_with_byte space tokens) ≡ tokens }
 {}
 
-/// A decimal number is one word, and so is what some octets are written as in a codec.
-pub fn texts_are_words()
-    ensures decimal { (n : ℕ) → n < 2 ^ 64 → IsWord (decimal n) }
-    ensures base16_lower { (octets : Octets) → octets ≢ [] → IsWord (encode_lower octets) }
-    ensures base16_upper { (octets : Octets) → octets ≢ [] → IsWord (encode_upper octets) }
-    ensures base32_lower { (octets : Octets) → octets ≢ [] → IsWord (base32_lower octets) }
-    ensures base32_upper { (octets : Octets) → octets ≢ [] → IsWord (base32_upper octets) }
-    ensures base64 { (octets : Octets) → octets ≢ [] → IsWord (encode_of standard octets) }
-{}
-
 /// What a slice holds are octets.
 pub fn slices_hold_octets(octets: &[u8])
     ensures { AreOctets octets.now }
-{}
-
-/// The digits that texts in Base 32 are made of are the groups of five of the bits of the octets,
-/// the last filled with zero bits (RFC 4648, section 6).
-pub fn base32_digits_are_groups_of_bits()
-    ensures { (octets : Octets) → AreOctets octets
-        → flat_map digit_bits (base32_from 1 0 octets) ≡ filled_bits octets }
 {}

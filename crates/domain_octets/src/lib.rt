@@ -1,4 +1,4 @@
-//! Octets: what holds them, builds them, reads them and writes them as text.
+//! Octets: what holds them, builds them and reads them, and the pieces of the texts of zone files.
 //!
 //! - [`Octets`] are read as one slice; [`OctetsBuilder`] takes octets at its end, whole or not at
 //!   all, and answers `ShortBuf` exactly where its limit would be passed.
@@ -6,32 +6,21 @@
 //!   [`ArrayBuilder`] has room in the value itself alone.
 //! - [`Parser`] reads from the front, numbers with the octet that weighs most first (RFC 1035,
 //!   section 2.3.2), and stands where it stood after a refusal.
-//! - [`Codec`] and the modules `base16`, `base32` and `base64_standard` read and write octets as
-//!   text (RFC 4648). What is wrong with a text is answered before want of room.
 //! - An [`OctetSet`] is a set of octets, and [`prefix_len`] how many octets of it some octets begin
 //!   with, found eight at a time.
 //! - [`Formatter`] takes the pieces of a zone file's text, and [`ZonefileFmt`] is a value that has
 //!   some.
 //!
 //! The crate above may rely on this: a contract sees each value as its list of octets; a refused
-//! call leaves that list, or a parser's place, as it was; what a codec reads and writes is a
-//! function of the list; and texts in Base 32 hex are in the order of their octets (the module
-//! `laws`).
+//! call leaves that list, or a parser's place, as it was.
 #![tactic(auto)]
 
 mod array;
-pub mod base16;
-pub mod base32;
-pub mod base64_standard;
 mod builder;
-mod codec;
 mod convert;
-mod decoding;
 mod error;
 mod formatter;
 mod impls;
-mod joined;
-mod judging;
 pub mod laws;
 mod octet_set;
 mod octets;
@@ -46,7 +35,6 @@ pub use array::ArrayBuilder;
 pub use builder::{
     Composer, EmptyBuilder, FreezeBuilder, FromBuilder, GrowingBuilder, OctetsBuilder, Truncate,
 };
-pub use codec::{Codec, DecodeError};
 pub use convert::{CopyOctets, EmptyOctets, FlattenInto, OctetsFrom};
 pub use error::{AppendError, OutOfMemory, ParseError};
 pub use formatter::{Formatter, PieceFormatter};

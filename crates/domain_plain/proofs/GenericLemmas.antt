@@ -2,8 +2,8 @@
 use Rattle.std.proofs.Common.{◌≡◌, ◌≢◌, ℕ, List, [], ◌∷◌, length, refl, sym, ap, subst, ◌∙◌, codes, ◌⊎◌, inl, inr, Option}
 use Rattle.std.specs.List.{concat}
 use Rattle.domain_octets.specs.Limit.{HasRoom}
-use Rattle.domain_octets.specs.Codec.{Decodes}
-use Rattle.domain_octets.specs.declared.codec.Codec.TheVariants.{Base16}
+use Rattle.domain_codecs.specs.Codec.{Decodes}
+use Rattle.domain_codecs.specs.declared.codec.Codec.TheVariants.{Base16}
 use Rattle.domain_names.specs.TextFault.{ScanFault, illegal, IsOfTokens}
 use Rattle.domain_base.specs.Scan.{IsNumber, IsNoNumber, TakesToken, RefusesToken, EntryFault, IsEnd}
 use Rattle.domain_base.proofs.RefusalLemmas.{entry_one_fault}

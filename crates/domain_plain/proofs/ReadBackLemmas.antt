@@ -6,11 +6,12 @@ use Rattle.std.specs.Net.Text.{ipv4_text, dotted_text}
 use Rattle.std.proofs.lemmas.Bool.Decides.{nat_tests}
 use Rattle.std.proofs.lemmas.List.{append-nil}
 use Rattle.hex.specs.Hex.{encode_upper, encode_with}
-use Rattle.domain_octets.specs.Codec.{Decodes}
-use Rattle.domain_octets.specs.declared.codec.Codec.TheVariants.{Base16}
+use Rattle.domain_codecs.specs.Codec.{Decodes}
+use Rattle.domain_codecs.specs.declared.codec.Codec.TheVariants.{Base16}
 use Rattle.domain_octets.specs.Line.{words_of, IsWord}
-use Rattle.domain_octets.proofs.CodecBackLemmas.{upper_back}
-use Rattle.domain_octets.proofs.WordLemmas.{one_word, first_word, next_word, no_space-append, decimal_word, upper_hex_word}
+use Rattle.domain_codecs.proofs.CodecBackLemmas.{upper_back}
+use Rattle.domain_codecs.proofs.NoSpaceLemmas.{upper_hex_word}
+use Rattle.domain_octets.proofs.WordLemmas.{one_word, first_word, next_word, no_space-append, decimal_word}
 use Rattle.domain_names.specs.Name.{IsName}
 use Rattle.domain_names.specs.Text.{name_text}
 use Rattle.domain_base.proofs.ReadBackLemmas.{number_back, name_word}

@@ -4,7 +4,8 @@ ghost use Rattle.domain_plain.specs.Generic.{IsNoMark, generic_mark, generic_tex
 
 use crate::UnknownRecordData;
 use domain_base::{FromToken, ScanError};
-use domain_octets::{Octets, base16};
+use domain_codecs::base16;
+use domain_octets::Octets;
 use std::fmt;
 
 /// The token that generic text begins with.

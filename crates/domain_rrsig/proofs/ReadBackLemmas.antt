@@ -8,10 +8,11 @@ use Rattle.std.proofs.lemmas.Fmt.{decimal_is_IsNumeral, length-decimal-le}
 use Rattle.std.proofs.lemmas.Bool.Decides.{nat_tests}
 use Rattle.base64.specs.GeneralPurpose.{encode_of}
 use Rattle.base64.specs.Engines.{standard}
-use Rattle.domain_octets.specs.declared.codec.Codec.TheVariants.{Base64}
+use Rattle.domain_codecs.specs.declared.codec.Codec.TheVariants.{Base64}
 use Rattle.domain_octets.specs.Line.{words_of, word_if_any}
-use Rattle.domain_octets.proofs.CodecBackLemmas.{base64_back}
-use Rattle.domain_octets.proofs.WordLemmas.{one_word, next_word, next_any, two_lines, decimal_word, base64_plain}
+use Rattle.domain_codecs.proofs.CodecBackLemmas.{base64_back}
+use Rattle.domain_codecs.proofs.NoSpaceLemmas.{base64_plain}
+use Rattle.domain_octets.proofs.WordLemmas.{one_word, next_word, next_any, two_lines, decimal_word}
 use Rattle.domain_base.specs.Numbers.{type_text}
 use Rattle.domain_base.specs.Scan.{IsNumber}
 use Rattle.domain_base.proofs.ReadBackLemmas.{number_back, type_back, type_word, name_word}

@@ -1,6 +1,6 @@
 -- The texts of signatures: tokens spell one at most, and none where they are refused.
 use Rattle.std.proofs.Common.{◌≡◌, ℕ, ◌+◌, ◌<◌, List, length, sym, ◌∙◌, arith, Option}
-use Rattle.domain_octets.specs.declared.codec.Codec.TheVariants.{Base64}
+use Rattle.domain_codecs.specs.declared.codec.Codec.TheVariants.{Base64}
 use Rattle.domain_names.specs.Name.{wire_of}
 use Rattle.domain_base.specs.Numbers.{TypeText, IsNoType}
 use Rattle.domain_names.specs.TextFault.{ScanFault, IsOfTokens}

@@ -2,8 +2,8 @@
 use Rattle.std.proofs.Common.{◌≡◌, ℕ, ◌+◌, ◌≤◌, List, [], length, inr, arith, length-append, codes, Option, sym, subst}
 use Rattle.std.specs.List.{concat}
 use Rattle.domain_octets.specs.Limit.{HasRoom}
-use Rattle.domain_octets.specs.Codec.{Decodes}
-use Rattle.domain_octets.specs.declared.codec.Codec.TheVariants.{Base64}
+use Rattle.domain_codecs.specs.Codec.{Decodes}
+use Rattle.domain_codecs.specs.declared.codec.Codec.TheVariants.{Base64}
 use Rattle.domain_names.specs.Name.{wire_of}
 use Rattle.domain_names.specs.TextFault.{ScanFault, illegal}
 use Rattle.domain_base.specs.Scan.{EntryFault, IsEnd}

@@ -1,7 +1,7 @@
 -- signatures as tokens (RFC 4034, section 3.2): fields, and then octets, which all tokens that are
 -- left spell together
 use Rattle.std.specs.Prelude.{ℕ, ◌+◌, ◌<◌, ◌≤◌, length, Option}
-use Rattle.domain_octets.specs.declared.codec.Codec.TheVariants.{Base64}
+use Rattle.domain_codecs.specs.declared.codec.Codec.TheVariants.{Base64}
 use Rattle.domain_base.specs.Scan.{Refusal, Grammar, RefusesToken}
 use Rattle.domain_names.specs.Name.{wire_of}
 use Rattle.domain_base.specs.Numbers.{TypeText, IsNoType}

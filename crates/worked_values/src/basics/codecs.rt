@@ -1,9 +1,8 @@
 //! Octets as text (RFC 4648).
 use crate::lines::{Answers, input};
 use domain_base::ScanError;
-use domain_octets::{
-    ArrayBuilder, Codec, DecodeError, OutOfMemory, base16, base32, base64_standard,
-};
+use domain_codecs::{Codec, DecodeError, base16, base32, base64_standard};
+use domain_octets::{ArrayBuilder, OutOfMemory};
 use std::alloc::Global;
 use std::fmt::{Display, Formatter, Result as Printed, Write};
 

@@ -7,10 +7,8 @@ use domain_base::{IterScanner, ScanError, Scanner};
 use domain_bitmap::{
     CountedOctets, Nsec3Salt, Nsec3SaltError, Nsec3SaltFromStrError, OwnerHash, OwnerHashError,
 };
-use domain_octets::{
-    ArrayBuilder, DecodeError, DisplayKind, EmptyBuilder, FromBuilder, Octets, Parser,
-    PieceFormatter, ZonefileFmt,
-};
+use domain_codecs::DecodeError;
+use domain_octets::{ArrayBuilder, DisplayKind, EmptyBuilder, FromBuilder, Octets, Parser, PieceFormatter, ZonefileFmt};
 use std::alloc::Global;
 use std::fmt::Debug;
 

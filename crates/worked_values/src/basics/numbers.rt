@@ -7,7 +7,8 @@ use domain_base::{
     Class, DigestAlgorithm, FromToken, IterScanner, Nsec3HashAlgorithm, Rtype, ScanError, Scanner,
     SecurityAlgorithm, Ttl,
 };
-use domain_octets::{ArrayBuilder, Codec};
+use domain_codecs::Codec;
+use domain_octets::ArrayBuilder;
 use std::alloc::Global;
 use std::fmt::Display;
 

@@ -1,6 +1,6 @@
 //! The words of a vector, and what they stand for.
 use domain_base::{FromToken, IterScanner, ScanError};
-use domain_octets::Codec;
+use domain_codecs::Codec;
 use std::alloc::{AllocError, Global};
 
 /// Tokens of an entry.

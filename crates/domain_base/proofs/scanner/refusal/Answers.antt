@@ -1,5 +1,5 @@
 use Rattle.std.proofs.Common.{refl}
-use Rattle.domain_octets.proofs.RefusalLemmas.{refused_char, refused_length}
+use Rattle.domain_codecs.proofs.RefusalLemmas.{refused_char, refused_length}
 use Rattle.domain_base.proofs.scanner.refusal.Goals as goal
 
 pub returns-in-IllegalChar-clause-fault : goal.returns-in-IllegalChar-clause-fault

@@ -1,5 +1,5 @@
 use Rattle.std.specs.Prelude.{codes}
-use Rattle.domain_octets.specs.declared.codec.Codec.TheVariants.{Base32Hex}
+use Rattle.domain_codecs.specs.declared.codec.Codec.TheVariants.{Base32Hex}
 use Rattle.domain_bitmap.proofs.RefusalLemmas.{types_one_fault, salt_one_fault, counted_one_fault}
 use Rattle.domain_bitmap.proofs.laws.types_and_hashes_have_one_fault.Goals as goal
 

@@ -1,6 +1,6 @@
 use Rattle.std.proofs.Common.{◌≡◌, ◌<◌, ◌*◌, ◌+◌, ◌/◌, ◌∙◌, sym}
 use Rattle.std.specs.Ordering.{nat_cmp}
-use Rattle.domain_octets.proofs.CodecLemmas.{digit_at}
+use Rattle.domain_codecs.proofs.CodecLemmas.{digit_at}
 use Rattle.domain_checker.proofs.SpelledLemmas.{nothing_left, ends_alike, ends_before, equal_by, apart_by, compared_first, compared_narrow, compared_wide}
 use Rattle.domain_checker.proofs.SpelledLemmas.{compared_none, compared_apart, compared_end}
 use Rattle.domain_checker.proofs.spelled.spelled_cmp.Goals as goal

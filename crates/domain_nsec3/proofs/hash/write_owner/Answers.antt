@@ -1,5 +1,5 @@
 use Rattle.std.proofs.Common.{refl, arith}
-use Rattle.domain_octets.specs.Base32.{base32_lower}
+use Rattle.domain_codecs.specs.Base32.{base32_lower}
 use Rattle.domain_nsec3.proofs.TextLemmas.{owner_made, owner_room}
 use Rattle.domain_nsec3.proofs.hash.write_owner.Goals as goal
 

@@ -1,7 +1,7 @@
 use Rattle.std.proofs.Common.{◌≡◌, ◌≤◌, ◌+◌, ◌∙◌, ◌++◌, ◌∷◌, [], ℕ, List, length, map, refl, sym, ap, arith}
 use Rattle.std.proofs.lemmas.List.{append-nil, length-append, length-map}
-use Rattle.domain_octets.specs.Base32.{base32_from, lower_digit}
-use Rattle.domain_octets.proofs.Base32Lemmas.{many_written}
+use Rattle.domain_codecs.specs.Base32.{base32_from, lower_digit}
+use Rattle.domain_codecs.proofs.Base32Lemmas.{many_written}
 use Rattle.domain_nsec3.proofs.hash_text.write_hash.Goals as goal
 
 -- where there is room for seven digits more, none is left

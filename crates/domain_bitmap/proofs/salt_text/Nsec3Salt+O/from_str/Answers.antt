@@ -1,5 +1,5 @@
 use Rattle.std.proofs.Common.{◌≡◌, ◌≢◌, codes, rules, refl, sym, subst}
-use Rattle.domain_octets.specs.declared.codec.Codec.TheVariants.{Base16}
+use Rattle.domain_codecs.specs.declared.codec.Codec.TheVariants.{Base16}
 use Rattle.domain_bitmap.specs.HashText.{SaltText, dash, digits}
 use Rattle.domain_bitmap.proofs.CountedLemmas.{over_limit, decoded_has_room}
 use Rattle.domain_bitmap.proofs.salt_text.Nsec3Salt+O.from_str.Goals as goal

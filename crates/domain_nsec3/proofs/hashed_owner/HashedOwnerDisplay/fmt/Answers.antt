@@ -2,7 +2,7 @@ use Rattle.std.proofs.Common.{◌++◌, ◌∷◌, [], ◌∙◌, ap, sym, refl,
 use Rattle.std.specs.Fmt.{HasWritten}
 use Rattle.std.proofs.lemmas.Bool.{false≢true}
 use Rattle.std.proofs.lemmas.Grind.{put_two}
-use Rattle.domain_octets.specs.Base32.{base32_lower}
+use Rattle.domain_codecs.specs.Base32.{base32_lower}
 use Rattle.domain_names.specs.Text.{name_text}
 use Rattle.domain_nsec3.proofs.TextLemmas.{owner_at_root, owner_below}
 use Rattle.domain_nsec3.proofs.hashed_owner.HashedOwnerDisplay.fmt.Goals as goal

@@ -1,0 +1,181 @@
+-- digits of five bits, one after another
+use Rattle.std.proofs.Common.{◌≡◌, ℕ, min, zero, suc, ◌+◌, ◌*◌, ◌/◌, ◌%◌, ◌<◌, ◌≤◌, zero-add, Bool, true, false, nat_lt, if◌then◌else◌, List, [], ◌∷◌, ◌++◌}
+use Rattle.std.proofs.Common.{length, get_or, map, take, drop, refl, sym, ap, ◌∙◌, arith, lit<}
+use Rattle.std.specs.List.{AllByRecursion as ByRecursion, range_with_len}
+use Rattle.std.specs.Str.{IsAscii}
+use Rattle.std.proofs.lemmas.List.{append-nil, take_all, drop_all, take-map, get_or-map, length-map, length-take-le}
+use Rattle.std.proofs.lemmas.List.Elements.{recursion_from_All}
+use Rattle.std.proofs.lemmas.List.FromFn.{length-range_with_len, get_or-range_with_len}
+use Rattle.domain_codecs.specs.Base32.{base32_from, lower_digit, upper_digit, AreDigits}
+
+-- eight digits of five octets, step by step: v is what an octet makes of the bits before it, and others follow its digits
+first_of_five : (a : ℕ) (octets digits : List ℕ) → base32_from 8 (a % 8) octets ≡ digits → base32_from 1 0 (a ∷ octets) ≡ (a / 8) ∷ digits
+unfolding base32_from
+first_of_five a octets digits others =
+    let same : 256 * 0 + a ≡ a = omega arith in
+    ap (λ v. (v / 8) ∷ base32_from 8 (v % 8) octets) same ∙ ap (λ l. (a / 8) ∷ l) others
+
+second_of_five : (rest b : ℕ) (octets digits : List ℕ) → let v = 256 * rest + b in base32_from 2 (v % 2) octets ≡ digits
+    → base32_from 8 rest (b ∷ octets) ≡ (v / 64) ∷ (v % 64 / 2) ∷ digits
+unfolding base32_from
+second_of_five rest b octets digits others =
+    let v = 256 * rest + b in
+    let left : v % 64 % 2 ≡ v % 2 = omega arith in
+    ap (λ r. (v / 64) ∷ (v % 64 / 2) ∷ base32_from 2 r octets) left ∙ ap (λ l. (v / 64) ∷ (v % 64 / 2) ∷ l) others
+
+third_of_five : (rest c : ℕ) (octets digits : List ℕ) → let v = 256 * rest + c in base32_from 16 (v % 16) octets ≡ digits
+    → base32_from 2 rest (c ∷ octets) ≡ (v / 16) ∷ digits
+unfolding base32_from
+third_of_five rest c octets digits others = ap (λ l. ((256 * rest + c) / 16) ∷ l) others
+
+fourth_of_five : (rest d : ℕ) (octets digits : List ℕ) → let v = 256 * rest + d in base32_from 4 (v % 4) octets ≡ digits
+    → base32_from 16 rest (d ∷ octets) ≡ (v / 128) ∷ (v % 128 / 4) ∷ digits
+unfolding base32_from
+fourth_of_five rest d octets digits others =
+    let v = 256 * rest + d in
+    let left : v % 128 % 4 ≡ v % 4 = omega arith in
+    ap (λ r. (v / 128) ∷ (v % 128 / 4) ∷ base32_from 4 r octets) left ∙ ap (λ l. (v / 128) ∷ (v % 128 / 4) ∷ l) others
+
+fifth_of_five : (rest e : ℕ) (octets : List ℕ) → let v = 256 * rest + e in base32_from 4 rest (e ∷ octets) ≡ (v / 32) ∷ (v % 32) ∷ base32_from 1 0 octets
+unfolding base32_from
+fifth_of_five rest e octets =
+    let v = 256 * rest + e in
+    let whole : v % 32 / 1 ≡ v % 32 = omega arith in
+    let none : v % 32 % 1 ≡ 0 = omega arith in
+    ap (λ w. (v / 32) ∷ w ∷ base32_from 1 (v % 32 % 1) octets) whole ∙ ap (λ r. (v / 32) ∷ (v % 32) ∷ base32_from 1 r octets) none
+
+-- the digits of five octets, and then those of the octets after them
+pub five_octets : (a b c d e : ℕ) (octets : List ℕ) →
+    let second = 256 * (a % 8) + b in
+    let third = 256 * (second % 2) + c in
+    let fourth = 256 * (third % 16) + d in
+    let fifth = 256 * (fourth % 4) + e in
+    base32_from 1 0 (a ∷ b ∷ c ∷ d ∷ e ∷ octets)
+    ≡ (a / 8) ∷ (second / 64) ∷ (second % 64 / 2) ∷ (third / 16) ∷ (fourth / 128) ∷ (fourth % 128 / 4) ∷ (fifth / 32) ∷ (fifth % 32) ∷ base32_from 1 0 octets
+five_octets a b c d e octets =
+    first_of_five a _ _ (second_of_five _ b _ _ (third_of_five _ c _ _ (fourth_of_five _ d _ _ (fifth_of_five _ e octets))))
+
+pub no_digits : base32_from 1 0 [] ≡ []
+unfolding base32_from
+no_digits = refl
+
+-- the digits of five octets as they are computed, and so those of fewer, with zeros after them
+abbrev eight : List ℕ → List ℕ
+eight xs =
+    let second = 256 * (get_or xs 0 0 % 8) + get_or xs 1 0 in
+    let third = 256 * (second % 2) + get_or xs 2 0 in
+    let fourth = 256 * (third % 16) + get_or xs 3 0 in
+    let fifth = 256 * (fourth % 4) + get_or xs 4 0 in
+    (get_or xs 0 0 / 8) ∷ (second / 64) ∷ (second % 64 / 2) ∷ (third / 16) ∷ (fourth / 128) ∷ (fourth % 128 / 4) ∷ (fifth / 32) ∷ (fifth % 32) ∷ []
+
+-- five octets that begin with these, and then are zeros
+abbrev padded : List ℕ → List ℕ
+padded xs = xs ++ drop (length xs) (0 ∷ 0 ∷ 0 ∷ 0 ∷ 0 ∷ [])
+
+abbrev many : ℕ → ℕ
+many count = (8 * count + 4) / 5
+
+-- the last digit is filled with zero bits
+filled_8 : (r : ℕ) → base32_from 8 r [] ≡ ((256 * r + 0) / 64) ∷ []
+unfolding base32_from
+filled_8 r = let same : 4 * r ≡ (256 * r + 0) / 64 = omega arith in ap (λ n. n ∷ []) same
+
+filled_2 : (r : ℕ) → base32_from 2 r [] ≡ ((256 * r + 0) / 16) ∷ []
+unfolding base32_from
+filled_2 r = let same : 16 * r ≡ (256 * r + 0) / 16 = omega arith in ap (λ n. n ∷ []) same
+
+filled_16 : (r : ℕ) → base32_from 16 r [] ≡ ((256 * r + 0) / 128) ∷ []
+unfolding base32_from
+filled_16 r = let same : 2 * r ≡ (256 * r + 0) / 128 = omega arith in ap (λ n. n ∷ []) same
+
+filled_4 : (r : ℕ) → base32_from 4 r [] ≡ ((256 * r + 0) / 32) ∷ []
+unfolding base32_from
+filled_4 r = let same : 8 * r ≡ (256 * r + 0) / 32 = omega arith in ap (λ n. n ∷ []) same
+
+digits_of_group : (xs : List ℕ) → length xs ≤ 5 → base32_from 1 0 xs ≡ take (many (length xs)) (eight (padded xs))
+digits_of_group [] short = no_digits
+digits_of_group (a ∷ []) short = first_of_five a _ _ (filled_8 _)
+digits_of_group (a ∷ b ∷ []) short = first_of_five a _ _ (second_of_five _ b _ _ (filled_2 _))
+digits_of_group (a ∷ b ∷ c ∷ []) short = first_of_five a _ _ (second_of_five _ b _ _ (third_of_five _ c _ _ (filled_16 _)))
+digits_of_group (a ∷ b ∷ c ∷ d ∷ []) short =
+    first_of_five a _ _ (second_of_five _ b _ _ (third_of_five _ c _ _ (fourth_of_five _ d _ _ (filled_4 _))))
+digits_of_group (a ∷ b ∷ c ∷ d ∷ e ∷ []) short = five_octets a b c d e [] ∙ ap (λ l. eight (a ∷ b ∷ c ∷ d ∷ e ∷ []) ++ l) no_digits
+digits_of_group (a ∷ b ∷ c ∷ d ∷ e ∷ f ∷ xs) short = absurd (omega arith)
+
+-- the characters of the digits of at most five octets
+pub spelled_five : (f : ℕ → ℕ) (xs : List ℕ) → length xs ≤ 5 → take (many (length xs)) (map f (eight (padded xs))) ≡ map f (base32_from 1 0 xs)
+spelled_five f xs short = take-map f (many (length xs)) (eight (padded xs)) ∙ ap (map f) (sym (digits_of_group xs short))
+
+alone : (xs : List ℕ) (count : ℕ) → count ≡ length xs → base32_from 1 0 xs ≡ base32_from 1 0 (take count xs) ++ base32_from 1 0 (drop count xs)
+alone xs count is = rw (is, take_all (length xs) xs (omega arith), drop_all (length xs) xs (omega arith), no_digits) (sym (append-nil (base32_from 1 0 xs)))
+
+-- the next five octets, or all where these are fewer, and those after them
+pub next_left : (xs : List ℕ) (count : ℕ) → count ≡ min (length xs) 5
+    → base32_from 1 0 xs ≡ base32_from 1 0 (take count xs) ++ base32_from 1 0 (drop count xs)
+next_left (a ∷ b ∷ c ∷ d ∷ e ∷ xs) count is =
+    let five : count ≡ 5 = omega (arith, is) in
+    rw five (five_octets a b c d e xs ∙ ap (λ l. l ++ base32_from 1 0 xs) (sym (digits_of_group (a ∷ b ∷ c ∷ d ∷ e ∷ []) (lit< tt))))
+next_left [] count is = alone [] count (omega (arith, is))
+next_left (a ∷ []) count is = alone (a ∷ []) count (omega (arith, is))
+next_left (a ∷ b ∷ []) count is = alone (a ∷ b ∷ []) count (omega (arith, is))
+next_left (a ∷ b ∷ c ∷ []) count is = alone (a ∷ b ∷ c ∷ []) count (omega (arith, is))
+next_left (a ∷ b ∷ c ∷ d ∷ []) count is = alone (a ∷ b ∷ c ∷ d ∷ []) count (omega (arith, is))
+
+-- how many digits octets have
+pub many_digits : (xs : List ℕ) → length (base32_from 1 0 xs) ≡ many (length xs)
+many_digits (a ∷ b ∷ c ∷ d ∷ e ∷ xs) = omega (arith, ap length (five_octets a b c d e xs), many_digits xs)
+many_digits [] = ap length no_digits
+many_digits (a ∷ []) = ap length (digits_of_group (a ∷ []) (lit< tt))
+many_digits (a ∷ b ∷ []) = ap length (digits_of_group (a ∷ b ∷ []) (lit< tt))
+many_digits (a ∷ b ∷ c ∷ []) = ap length (digits_of_group (a ∷ b ∷ c ∷ []) (lit< tt))
+many_digits (a ∷ b ∷ c ∷ d ∷ []) = ap length (digits_of_group (a ∷ b ∷ c ∷ d ∷ []) (lit< tt))
+
+-- the alphabets
+abbrev lower_alphabet : List ℕ
+lower_alphabet = 48 ∷ 49 ∷ 50 ∷ 51 ∷ 52 ∷ 53 ∷ 54 ∷ 55 ∷ 56 ∷ 57 ∷ 97 ∷ 98 ∷ 99 ∷ 100 ∷ 101 ∷ 102 ∷ 103 ∷ 104 ∷ 105 ∷ 106 ∷ 107 ∷
+    108 ∷ 109 ∷ 110 ∷ 111 ∷ 112 ∷ 113 ∷ 114 ∷ 115 ∷ 116 ∷ 117 ∷ 118 ∷ []
+
+abbrev upper_alphabet : List ℕ
+upper_alphabet = 48 ∷ 49 ∷ 50 ∷ 51 ∷ 52 ∷ 53 ∷ 54 ∷ 55 ∷ 56 ∷ 57 ∷ 65 ∷ 66 ∷ 67 ∷ 68 ∷ 69 ∷ 70 ∷ 71 ∷ 72 ∷ 73 ∷ 74 ∷ 75 ∷ 76 ∷ 77
+    ∷ 78 ∷ 79 ∷ 80 ∷ 81 ∷ 82 ∷ 83 ∷ 84 ∷ 85 ∷ 86 ∷ []
+
+spelled : (f : ℕ → ℕ) (alphabet : List ℕ) → alphabet ≡ map f (range_with_len 0 32) → (n : ℕ) → n < 32 → get_or alphabet n 0 ≡ f n
+spelled f alphabet is n lt =
+    let long = length-range_with_len 0 32 in
+    ap (λ l. get_or l n 0) is ∙ get_or-map f (range_with_len 0 32) n 0 0 (omega (arith, long)) ∙ ap f (get_or-range_with_len 0 32 n 0 lt ∙ zero-add n)
+
+pub spelled_lower : (n : ℕ) → n < 32 → get_or lower_alphabet n 0 ≡ lower_digit n
+spelled_lower = spelled lower_digit lower_alphabet refl
+
+pub spelled_upper : (n : ℕ) → n < 32 → get_or upper_alphabet n 0 ≡ upper_digit n
+spelled_upper = spelled upper_digit upper_alphabet refl
+
+small_digit : (b : Bool) (n k : ℕ) → n < 32 → k < 96 → (if b then 48 + n else (k + n)) < 128
+small_digit true n k lt below = omega arith
+small_digit false n k lt below = omega arith
+
+pub upper_is_ascii : (n : ℕ) → n < 32 → upper_digit n < 128
+upper_is_ascii n lt = small_digit (nat_lt n 10) n 55 lt (lit< tt)
+
+-- the same characters, where digits are spelled by another function
+map_digits : (f g : ℕ → ℕ) → ((n : ℕ) → n < 32 → f n ≡ g n) → (digits : List ℕ) → ByRecursion (λ digit. digit < 32) digits → map f digits ≡ map g digits
+map_digits f g same [] small = refl
+map_digits f g same (n ∷ digits) small = ap (λ l. f n ∷ l) (map_digits f g same digits small.1) ∙ ap (λ m. m ∷ map g digits) (same n small.0)
+
+pub lower_digits : (digits : List ℕ) → AreDigits digits → map (λ n. get_or lower_alphabet n 0) digits ≡ map lower_digit digits
+lower_digits digits small = map_digits (λ n. get_or lower_alphabet n 0) lower_digit spelled_lower digits (recursion_from_All (λ digit. digit < 32) digits small)
+
+pub upper_digits : (digits : List ℕ) → AreDigits digits → map (λ n. get_or upper_alphabet n 0) digits ≡ map upper_digit digits
+upper_digits digits small = map_digits (λ n. get_or upper_alphabet n 0) upper_digit spelled_upper digits (recursion_from_All (λ digit. digit < 32) digits small)
+
+ascii_rec : (digits : List ℕ) → ByRecursion (λ digit. digit < 32) digits → (i : ℕ) → get_or (map upper_digit digits) i 0 < 128
+ascii_rec [] small i = lit< tt
+ascii_rec (n ∷ digits) small zero = upper_is_ascii n small.0
+ascii_rec (n ∷ digits) small (suc i) = ascii_rec digits small.1 i
+
+pub upper_are_ascii : (digits : List ℕ) → AreDigits digits → IsAscii (map upper_digit digits)
+upper_are_ascii digits small = ascii_rec digits (recursion_from_All (λ digit. digit < 32) digits small)
+
+-- what is written of digits is as long as they are
+pub many_written : (f : ℕ → ℕ) (end : ℕ) (buffer digits : List ℕ) → end ≤ length buffer → take end buffer ≡ map f digits → length digits ≡ end
+many_written f end buffer digits within is = sym (length-map digits f) ∙ ap length (sym is) ∙ length-take-le end buffer within

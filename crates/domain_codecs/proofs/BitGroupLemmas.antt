@@ -1,0 +1,164 @@
+-- the digits of Base 32 are the groups of five bits of their octets
+use Rattle.std.proofs.Common.{◌≡◌, ℕ, ◌+◌, ◌-◌, ◌*◌, ◌/◌, ◌%◌, ◌<◌, All, List, [], ◌∷◌, ◌++◌, length, refl, ap, ◌∙◌, arith}
+use Rattle.std.specs.Prelude.{replicate}
+use Rattle.std.specs.List.{AllByRecursion, flat_map}
+use Rattle.std.proofs.lemmas.List.Elements.{recursion_from_All}
+use Rattle.domain_codecs.specs.Base32.{base32_from}
+use Rattle.domain_codecs.specs.BitGroups.{octet_bits, digit_bits, filled_bits}
+
+-- so many zero bits fill the last group after so many bits
+abbrev fill : ℕ → ℕ → List ℕ
+fill bits count = replicate ((5 - (bits + 8 * count) % 5) % 5) 0
+
+abbrev written : List ℕ → List ℕ
+written digits = flat_map digit_bits digits
+
+abbrev bits : List ℕ → List ℕ
+bits octets = flat_map octet_bits octets
+
+-- the digits that go on from bits that are left over of the last octet have these bits, and those of the octets that follow
+record Groups (xs : List ℕ) : Type 0 where
+  whole : (r : ℕ) → r < 1 → written (base32_from 1 r xs) ≡ bits xs ++ fill 0 (length xs)
+  three : (r : ℕ) → r < 8 → written (base32_from 8 r xs) ≡ (r / 4 % 2) ∷ (r / 2 % 2) ∷ (r % 2) ∷ (bits xs ++ fill 3 (length xs))
+  one : (r : ℕ) → r < 2 → written (base32_from 2 r xs) ≡ (r % 2) ∷ (bits xs ++ fill 1 (length xs))
+  four : (r : ℕ) → r < 16 → written (base32_from 16 r xs) ≡ (r / 8 % 2) ∷ (r / 4 % 2) ∷ (r / 2 % 2) ∷ (r % 2) ∷ (bits xs ++ fill 4 (length xs))
+  two : (r : ℕ) → r < 4 → written (base32_from 4 r xs) ≡ (r / 2 % 2) ∷ (r % 2) ∷ (bits xs ++ fill 2 (length xs))
+
+groups_none : Groups []
+unfolding base32_from
+groups_none = record {
+  whole = λ r small. refl;
+  three = λ r small.
+      let e0 : (4 * r) / 16 % 2 ≡ r / 4 % 2 = omega arith in
+      let e1 : (4 * r) / 8 % 2 ≡ r / 2 % 2 = omega arith in
+      let e2 : (4 * r) / 4 % 2 ≡ r % 2 = omega arith in
+      let e3 : (4 * r) / 2 % 2 ≡ 0 = omega arith in
+      let e4 : (4 * r) % 2 ≡ 0 = omega arith in
+      λ i. e0 i ∷ e1 i ∷ e2 i ∷ e3 i ∷ e4 i ∷ [];
+  one = λ r small.
+      let e0 : (16 * r) / 16 % 2 ≡ r % 2 = omega arith in
+      let e1 : (16 * r) / 8 % 2 ≡ 0 = omega arith in
+      let e2 : (16 * r) / 4 % 2 ≡ 0 = omega arith in
+      let e3 : (16 * r) / 2 % 2 ≡ 0 = omega arith in
+      let e4 : (16 * r) % 2 ≡ 0 = omega arith in
+      λ i. e0 i ∷ e1 i ∷ e2 i ∷ e3 i ∷ e4 i ∷ [];
+  four = λ r small.
+      let e0 : (2 * r) / 16 % 2 ≡ r / 8 % 2 = omega arith in
+      let e1 : (2 * r) / 8 % 2 ≡ r / 4 % 2 = omega arith in
+      let e2 : (2 * r) / 4 % 2 ≡ r / 2 % 2 = omega arith in
+      let e3 : (2 * r) / 2 % 2 ≡ r % 2 = omega arith in
+      let e4 : (2 * r) % 2 ≡ 0 = omega arith in
+      λ i. e0 i ∷ e1 i ∷ e2 i ∷ e3 i ∷ e4 i ∷ [];
+  two = λ r small.
+      let e0 : (8 * r) / 16 % 2 ≡ r / 2 % 2 = omega arith in
+      let e1 : (8 * r) / 8 % 2 ≡ r % 2 = omega arith in
+      let e2 : (8 * r) / 4 % 2 ≡ 0 = omega arith in
+      let e3 : (8 * r) / 2 % 2 ≡ 0 = omega arith in
+      let e4 : (8 * r) % 2 ≡ 0 = omega arith in
+      λ i. e0 i ∷ e1 i ∷ e2 i ∷ e3 i ∷ e4 i ∷ [];
+}
+
+fill_same : (b c m n : ℕ) → (b + 8 * m) % 5 ≡ (c + 8 * n) % 5 → fill b m ≡ fill c n
+fill_same b c m n same = ap (λ k. replicate ((5 - k) % 5) 0) same
+
+groups_more : (y : ℕ) (ys : List ℕ) → y < 256 → Groups ys → Groups (y ∷ ys)
+unfolding base32_from
+groups_more y ys b up = record {
+  whole = λ r small.
+      let rest : ((256 * r + y) % 8) < 8 = omega arith in
+      let same : (3 + 8 * length ys) % 5 ≡ (0 + 8 * length (y ∷ ys)) % 5 = omega arith in
+      let e0 : ((256 * r + y) / 8) / 16 % 2 ≡ y / 128 % 2 = omega arith in
+      let e1 : ((256 * r + y) / 8) / 8 % 2 ≡ y / 64 % 2 = omega arith in
+      let e2 : ((256 * r + y) / 8) / 4 % 2 ≡ y / 32 % 2 = omega arith in
+      let e3 : ((256 * r + y) / 8) / 2 % 2 ≡ y / 16 % 2 = omega arith in
+      let e4 : ((256 * r + y) / 8) % 2 ≡ y / 8 % 2 = omega arith in
+      let e5 : ((256 * r + y) % 8) / 4 % 2 ≡ y / 4 % 2 = omega arith in
+      let e6 : ((256 * r + y) % 8) / 2 % 2 ≡ y / 2 % 2 = omega arith in
+      let e7 : ((256 * r + y) % 8) % 2 ≡ y % 2 = omega arith in
+      ap (λ l. (((256 * r + y) / 8) / 16 % 2) ∷ (((256 * r + y) / 8) / 8 % 2) ∷ (((256 * r + y) / 8) / 4 % 2) ∷
+      (((256 * r + y) / 8) / 2 % 2) ∷ (((256 * r + y) / 8) % 2) ∷ l) (up.three ((256 * r + y) % 8) rest)
+      ∙ (λ i. e0 i ∷ e1 i ∷ e2 i ∷ e3 i ∷ e4 i ∷ e5 i ∷ e6 i ∷ e7 i ∷ (bits ys ++ fill_same 3 0 (length ys) (length (y ∷ ys)) same i));
+  three = λ r small.
+      let rest : ((256 * r + y) % 64 % 2) < 2 = omega arith in
+      let same : (1 + 8 * length ys) % 5 ≡ (3 + 8 * length (y ∷ ys)) % 5 = omega arith in
+      let e0 : ((256 * r + y) / 64) / 16 % 2 ≡ r / 4 % 2 = omega arith in
+      let e1 : ((256 * r + y) / 64) / 8 % 2 ≡ r / 2 % 2 = omega arith in
+      let e2 : ((256 * r + y) / 64) / 4 % 2 ≡ r % 2 = omega arith in
+      let e3 : ((256 * r + y) / 64) / 2 % 2 ≡ y / 128 % 2 = omega arith in
+      let e4 : ((256 * r + y) / 64) % 2 ≡ y / 64 % 2 = omega arith in
+      let e5 : ((256 * r + y) % 64 / 2) / 16 % 2 ≡ y / 32 % 2 = omega arith in
+      let e6 : ((256 * r + y) % 64 / 2) / 8 % 2 ≡ y / 16 % 2 = omega arith in
+      let e7 : ((256 * r + y) % 64 / 2) / 4 % 2 ≡ y / 8 % 2 = omega arith in
+      let e8 : ((256 * r + y) % 64 / 2) / 2 % 2 ≡ y / 4 % 2 = omega arith in
+      let e9 : ((256 * r + y) % 64 / 2) % 2 ≡ y / 2 % 2 = omega arith in
+      let e10 : ((256 * r + y) % 64 % 2) % 2 ≡ y % 2 = omega arith in
+      ap (λ l. (((256 * r + y) / 64) / 16 % 2) ∷ (((256 * r + y) / 64) / 8 % 2) ∷ (((256 * r + y) / 64) / 4 % 2) ∷
+      (((256 * r + y) / 64) / 2 % 2) ∷ (((256 * r + y) / 64) % 2) ∷ (((256 * r + y) % 64 / 2) / 16 % 2) ∷
+      (((256 * r + y) % 64 / 2) / 8 % 2) ∷ (((256 * r + y) % 64 / 2) / 4 % 2) ∷ (((256 * r + y) % 64 / 2) / 2 % 2) ∷
+      (((256 * r + y) % 64 / 2) % 2) ∷ l) (up.one ((256 * r + y) % 64 % 2) rest)
+      ∙ (λ i. e0 i ∷ e1 i ∷ e2 i ∷ e3 i ∷ e4 i ∷ e5 i ∷ e6 i ∷ e7 i ∷ e8 i ∷ e9 i ∷ e10 i ∷ (bits ys ++ fill_same 1 3 (length ys) (length (y ∷ ys)) same i));
+  one = λ r small.
+      let rest : ((256 * r + y) % 16) < 16 = omega arith in
+      let same : (4 + 8 * length ys) % 5 ≡ (1 + 8 * length (y ∷ ys)) % 5 = omega arith in
+      let e0 : ((256 * r + y) / 16) / 16 % 2 ≡ r % 2 = omega arith in
+      let e1 : ((256 * r + y) / 16) / 8 % 2 ≡ y / 128 % 2 = omega arith in
+      let e2 : ((256 * r + y) / 16) / 4 % 2 ≡ y / 64 % 2 = omega arith in
+      let e3 : ((256 * r + y) / 16) / 2 % 2 ≡ y / 32 % 2 = omega arith in
+      let e4 : ((256 * r + y) / 16) % 2 ≡ y / 16 % 2 = omega arith in
+      let e5 : ((256 * r + y) % 16) / 8 % 2 ≡ y / 8 % 2 = omega arith in
+      let e6 : ((256 * r + y) % 16) / 4 % 2 ≡ y / 4 % 2 = omega arith in
+      let e7 : ((256 * r + y) % 16) / 2 % 2 ≡ y / 2 % 2 = omega arith in
+      let e8 : ((256 * r + y) % 16) % 2 ≡ y % 2 = omega arith in
+      ap (λ l. (((256 * r + y) / 16) / 16 % 2) ∷ (((256 * r + y) / 16) / 8 % 2) ∷ (((256 * r + y) / 16) / 4 % 2) ∷
+      (((256 * r + y) / 16) / 2 % 2) ∷ (((256 * r + y) / 16) % 2) ∷ l) (up.four ((256 * r + y) % 16) rest)
+      ∙ (λ i. e0 i ∷ e1 i ∷ e2 i ∷ e3 i ∷ e4 i ∷ e5 i ∷ e6 i ∷ e7 i ∷ e8 i ∷ (bits ys ++ fill_same 4 1 (length ys) (length (y ∷ ys)) same i));
+  four = λ r small.
+      let rest : ((256 * r + y) % 128 % 4) < 4 = omega arith in
+      let same : (2 + 8 * length ys) % 5 ≡ (4 + 8 * length (y ∷ ys)) % 5 = omega arith in
+      let e0 : ((256 * r + y) / 128) / 16 % 2 ≡ r / 8 % 2 = omega arith in
+      let e1 : ((256 * r + y) / 128) / 8 % 2 ≡ r / 4 % 2 = omega arith in
+      let e2 : ((256 * r + y) / 128) / 4 % 2 ≡ r / 2 % 2 = omega arith in
+      let e3 : ((256 * r + y) / 128) / 2 % 2 ≡ r % 2 = omega arith in
+      let e4 : ((256 * r + y) / 128) % 2 ≡ y / 128 % 2 = omega arith in
+      let e5 : ((256 * r + y) % 128 / 4) / 16 % 2 ≡ y / 64 % 2 = omega arith in
+      let e6 : ((256 * r + y) % 128 / 4) / 8 % 2 ≡ y / 32 % 2 = omega arith in
+      let e7 : ((256 * r + y) % 128 / 4) / 4 % 2 ≡ y / 16 % 2 = omega arith in
+      let e8 : ((256 * r + y) % 128 / 4) / 2 % 2 ≡ y / 8 % 2 = omega arith in
+      let e9 : ((256 * r + y) % 128 / 4) % 2 ≡ y / 4 % 2 = omega arith in
+      let e10 : ((256 * r + y) % 128 % 4) / 2 % 2 ≡ y / 2 % 2 = omega arith in
+      let e11 : ((256 * r + y) % 128 % 4) % 2 ≡ y % 2 = omega arith in
+      ap (λ l. (((256 * r + y) / 128) / 16 % 2) ∷ (((256 * r + y) / 128) / 8 % 2) ∷ (((256 * r + y) / 128) / 4 % 2) ∷
+      (((256 * r + y) / 128) / 2 % 2) ∷ (((256 * r + y) / 128) % 2) ∷ (((256 * r + y) % 128 / 4) / 16 % 2) ∷
+      (((256 * r + y) % 128 / 4) / 8 % 2) ∷ (((256 * r + y) % 128 / 4) / 4 % 2) ∷ (((256 * r + y) % 128 / 4) / 2 % 2) ∷
+      (((256 * r + y) % 128 / 4) % 2) ∷ l) (up.two ((256 * r + y) % 128 % 4) rest)
+      ∙ (λ i. e0 i ∷ e1 i ∷ e2 i ∷ e3 i ∷ e4 i ∷ e5 i ∷ e6 i ∷ e7 i ∷ e8 i ∷ e9 i ∷ e10 i ∷ e11 i ∷ (bits ys
+      ++ fill_same 2 4 (length ys) (length (y ∷ ys)) same i));
+  two = λ r small.
+      let rest : ((256 * r + y) % 32 % 1) < 1 = omega arith in
+      let same : (0 + 8 * length ys) % 5 ≡ (2 + 8 * length (y ∷ ys)) % 5 = omega arith in
+      let e0 : ((256 * r + y) / 32) / 16 % 2 ≡ r / 2 % 2 = omega arith in
+      let e1 : ((256 * r + y) / 32) / 8 % 2 ≡ r % 2 = omega arith in
+      let e2 : ((256 * r + y) / 32) / 4 % 2 ≡ y / 128 % 2 = omega arith in
+      let e3 : ((256 * r + y) / 32) / 2 % 2 ≡ y / 64 % 2 = omega arith in
+      let e4 : ((256 * r + y) / 32) % 2 ≡ y / 32 % 2 = omega arith in
+      let e5 : ((256 * r + y) % 32 / 1) / 16 % 2 ≡ y / 16 % 2 = omega arith in
+      let e6 : ((256 * r + y) % 32 / 1) / 8 % 2 ≡ y / 8 % 2 = omega arith in
+      let e7 : ((256 * r + y) % 32 / 1) / 4 % 2 ≡ y / 4 % 2 = omega arith in
+      let e8 : ((256 * r + y) % 32 / 1) / 2 % 2 ≡ y / 2 % 2 = omega arith in
+      let e9 : ((256 * r + y) % 32 / 1) % 2 ≡ y % 2 = omega arith in
+      ap (λ l. (((256 * r + y) / 32) / 16 % 2) ∷ (((256 * r + y) / 32) / 8 % 2) ∷ (((256 * r + y) / 32) / 4 % 2) ∷
+      (((256 * r + y) / 32) / 2 % 2) ∷ (((256 * r + y) / 32) % 2) ∷ (((256 * r + y) % 32 / 1) / 16 % 2) ∷
+      (((256 * r + y) % 32 / 1) / 8 % 2) ∷ (((256 * r + y) % 32 / 1) / 4 % 2) ∷ (((256 * r + y) % 32 / 1) / 2 % 2) ∷
+      (((256 * r + y) % 32 / 1) % 2) ∷ l) (up.whole ((256 * r + y) % 32 % 1) rest)
+      ∙ (λ i. e0 i ∷ e1 i ∷ e2 i ∷ e3 i ∷ e4 i ∷ e5 i ∷ e6 i ∷ e7 i ∷ e8 i ∷ e9 i ∷ (bits ys ++ fill_same 0 2 (length ys) (length (y ∷ ys)) same i));
+}
+
+groups : (xs : List ℕ) → AllByRecursion (λ octet. octet < 256) xs → Groups xs
+groups [] small = groups_none
+groups (y ∷ ys) small = groups_more y ys small.0 (groups ys small.1)
+
+pub digits_are_groups : (octets : List ℕ) → All (λ octet. octet < 256) octets → flat_map digit_bits (base32_from 1 0 octets) ≡ filled_bits octets
+digits_are_groups octets small =
+    let found = (groups octets (recursion_from_All (λ octet. octet < 256) octets small)).whole 0 (omega arith) in
+    let same : (0 + 8 * length octets) % 5 ≡ 8 * length octets % 5 = omega arith in
+    found ∙ ap (λ k. bits octets ++ replicate ((5 - k) % 5) 0) same

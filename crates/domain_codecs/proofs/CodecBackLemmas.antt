@@ -1,0 +1,34 @@
+-- what octets are written as in Base 16 and Base 64 is read back, and a text is read in one way
+use Rattle.std.proofs.Common.{◌≡◌, ℕ, ◌<◌, List, All, length, get_or, refl, sym, ◌∙◌, arith, inl, inr}
+use Rattle.std.proofs.lemmas.Bool.{cases_lt}
+use Rattle.std.proofs.lemmas.List.Elements.{All-get_or}
+use Rattle.std.proofs.Math.ListN.{get_or-eq_default}
+use Rattle.hex.specs.Hex.{encode_lower, encode_upper}
+use Rattle.hex.proofs.HexLemmas.{decode_of-encode_lower, decode_of-encode_upper}
+use Rattle.base64.specs.GeneralPurpose.{encode_of}
+use Rattle.base64.specs.Engines.{standard}
+use Rattle.base64.proofs.EngineFacts.{decode_of-encode_of}
+use Rattle.domain_codecs.specs.Codec.{Decodes}
+use Rattle.domain_codecs.specs.declared.codec.Codec.{Codec}
+use Rattle.domain_codecs.specs.declared.codec.Codec.TheVariants.{Base16, Base32Hex, Base64}
+
+-- what stands past the end is 0
+bytes : (octets : List ℕ) → All (λ octet. octet < 256) octets → (i : ℕ) → get_or octets i 0 < 256
+bytes octets small i = elim (cases_lt i (length octets)) [
+  | inl inside ↦ All-get_or (λ octet. octet < 256) octets i 0 inside small
+  | inr past ↦ let e : get_or octets i 0 ≡ 0 = get_or-eq_default octets 0 (omega arith) in omega (arith, e)
+]
+
+pub lower_back : (octets : List ℕ) → All (λ octet. octet < 256) octets → Decodes Base16 (encode_lower octets) octets
+lower_back octets small = decode_of-encode_lower octets (bytes octets small)
+
+pub upper_back : (octets : List ℕ) → All (λ octet. octet < 256) octets → Decodes Base16 (encode_upper octets) octets
+upper_back octets small = decode_of-encode_upper octets (bytes octets small)
+
+pub base64_back : (octets : List ℕ) → All (λ octet. octet < 256) octets → Decodes Base64 (encode_of standard octets) octets
+base64_back octets small = decode_of-encode_of standard octets refl (bytes octets small)
+
+pub decodes_once : (codec : Codec) (text x y : List ℕ) → Decodes codec text x → Decodes codec text y → x ≡ y
+decodes_once Base16 text x y one other = cc
+decodes_once Base32Hex text x y one other = one.value ∙ sym other.value
+decodes_once Base64 text x y one other = cc

@@ -1,0 +1,363 @@
+-- texts that are gone through in pieces of 64 characters, and what each piece stands for
+use Rattle.std.proofs.Common.{◌≡◌, ◌≢◌, ℕ, zero, suc, ◌+◌, ◌*◌, ◌/◌, ◌%◌, ◌<◌, ◌≤◌, true, false, List, [], ◌∷◌, ◌++◌, length, take, drop, get_or, length-append}
+use Rattle.std.proofs.Common.{length-take, refl, sym, ap, subst, ◌∙◌, arith, inl, inr, Option, None, Some, Ok, Err}
+use Rattle.std.specs.Prelude.{◌↔◌, Bool, not, nat_le, is_some, unwrap_or, IsTrue, MatchOption}
+use Rattle.std.specs.List.{AllPass}
+use Rattle.std.proofs.Math.ListN.{get_or-append, get_or-eq_default}
+use Rattle.std.proofs.Math.Seq.{get_or-append_seam}
+use Rattle.std.proofs.lemmas.Bool.{cases_Bool, cases_lt}
+use Rattle.std.proofs.lemmas.List.{take_at, drop_at, append-nil, append_assoc, map-append, length-map, get_or-append-add, take-append-drop}
+use Rattle.base64.specs.GeneralPurpose.{IsBytes}
+use Rattle.base64.specs.Engines.{standard}
+use Rattle.base64.proofs.EngineFacts.{decode_of-encode_of, encode_of-nil}
+use Rattle.hex.specs.Hex.{decode_of, decode_pairs, pair_value}
+use Rattle.hex.proofs.HexLemmas.{decode_of-even, decode_of-ok}
+use Rattle.hex.proofs.Pairs.{cons_byte, decode_pairs-ok_pair}
+use Rattle.domain_codecs.specs.declared.codec.Codec.{Codec}
+use Rattle.domain_codecs.specs.declared.codec.Codec.TheVariants.{Base16, Base32Hex, Base64}
+use Rattle.domain_codecs.specs.Codec.{Decodes, IsText, BuildFault, IsFirstOther, is_digit, base32_value, base32_octets, base32_digits, IsBase32}
+use Rattle.domain_codecs.specs.Cut.{Cut}
+use Rattle.domain_octets.specs.Words.{AreOctets}
+use Rattle.domain_codecs.proofs.CodecBackLemmas.{decodes_once}
+use Rattle.domain_octets.proofs.PrefixLemmas.{Searched}
+use Rattle.domain_codecs.proofs.Base16Lemmas.{First, pairs_first}
+use Rattle.domain_codecs.proofs.Base64Lemmas.{DecodesTo, split_pieces, nothing_decodes, bytes-drop, Passed, passed_none, passed_more, short_piece}
+use Rattle.domain_codecs.proofs.Base64Lemmas.{decoded_length}
+use Rattle.domain_octets.specs.declared.error.AppendError.{AppendError}
+use Rattle.domain_octets.specs.declared.error.AppendError.TheVariants.{ShortBuf, OutOfMemory}
+use Rattle.base64.specs.declared.decode.DecodeError.{DecodeError}
+use Rattle.base64.specs.GeneralPurpose as base64
+
+-- octets are what the library `base64` takes for bytes
+pub bytes_of : (text : List ℕ) → AreOctets text → IsBytes text
+bytes_of text all i = elim (cases_lt i (length text)) [
+  | inl inside ↦ all i 0 inside
+  | inr past ↦ let none : get_or text i 0 ≡ 0 = get_or-eq_default text 0 past in omega (arith, none)
+]
+
+-- ---- one character after another
+
+pub searched_other : (codec : Codec) (text left after : List ℕ) (c : ℕ) → Searched (is_digit codec) text left → left ≡ c ∷ after
+    → is_digit codec c ≡ false → IsFirstOther codec text c
+searched_other codec text left after c so_far is other =
+    let parts : text ≡ so_far.front ++ c ∷ after = so_far.parts ∙ ap (λ l. so_far.front ++ l) is in
+    let before : take (length so_far.front) text ≡ so_far.front = ap (take (length so_far.front)) parts
+    ∙ take_at so_far.front (c ∷ after) (length so_far.front) refl in
+    record {
+      place = length so_far.front;
+      below = omega (arith, ap length parts, length-append so_far.front (c ∷ after));
+      is = sym (ap (λ t. get_or t (length so_far.front) 0) parts ∙ get_or-append_seam so_far.front c after 0);
+      other = other;
+      before = subst (AllPass (is_digit codec)) (sym before) so_far.pass;
+    }
+
+pass_front : (codec : Codec) (front back : List ℕ) → AllPass (is_digit codec) (front ++ back) → AllPass (is_digit codec) front
+pass_front codec front back all = λ i d below. let here = all i d (omega (arith, length-append front back)) in rw (get_or-append front back d i below) at here
+
+pass_back : (codec : Codec) (front back : List ℕ) → AllPass (is_digit codec) (front ++ back) → AllPass (is_digit codec) back
+pass_back codec front back all = λ i d below. let here = all (length front + i) d (omega (arith, length-append front back)) in rw
+    (get_or-append-add front back i d) at here
+
+-- ---- one piece after another
+
+-- what stands in a buffer is a piece, where the buffer is full or the text is over
+pub cut_at : (text buffer after : List ℕ) (count : ℕ) → length buffer ≡ 64 → text ≡ take count buffer ++ after → count ≤ 64
+    → (count < 64 → after ≡ []) → Cut text (take count buffer) after
+cut_at text buffer after count size parts small full =
+    let same : length (take count buffer) ≡ count = omega (arith, length-take count buffer) in
+    record { parts = parts; small = omega arith; full = λ short. full (omega arith) }
+
+-- what the parts of a text stand for, one after the other
+pub record Halves (codec : Codec) (piece after octets : List ℕ) : Type 0 where
+  pub front : List ℕ
+  pub back : List ℕ
+  pub first : Decodes codec piece front
+  pub others : Decodes codec after back
+  pub parts : octets ≡ front ++ back
+
+-- no characters stand for no octets
+nothing : (codec : Codec) → Decodes codec [] []
+unfolding decode_pairs base32_octets
+nothing Base16 = refl
+nothing Base32Hex = record { digits = λ i d below. absurd (omega arith); whole = refl; value = refl }
+nothing Base64 = subst (λ t. DecodesTo t []) (encode_of-nil standard) (decode_of-encode_of standard [] refl (λ i. omega arith))
+
+all_in_front : (codec : Codec) (text piece after octets : List ℕ) → Cut text piece after → after ≡ [] → Decodes codec text octets
+    → Halves codec piece after octets
+all_in_front codec text piece after octets cut none decoded = record {
+  front = octets;
+  back = [];
+  first = subst (λ t. Decodes codec t octets) (cut.parts ∙ ap (λ l. piece ++ l) none ∙ append-nil piece) decoded;
+  others = subst (λ t. Decodes codec t []) (sym none) (nothing codec);
+  parts = sym (append-nil octets);
+}
+
+-- a pair of digits in Base 16, and those after it
+pair_more : (i a b octet : ℕ) (text rest : List ℕ) → pair_value a b i ≡ Ok octet → decode_pairs (i + 2) text ≡ Ok rest
+    → decode_pairs i (a ∷ b ∷ text) ≡ Ok (octet ∷ rest)
+pair_more i a b octet text rest pair read = decode_pairs-ok_pair i a b octet text pair ∙ ap (cons_byte octet) read
+
+-- pairs of digits, wherever they stand
+anywhere : (i j : ℕ) (text octets : List ℕ) → decode_pairs i text ≡ Ok octets → decode_pairs j text ≡ Ok octets
+unfolding decode_pairs
+anywhere i j [] octets is = is
+anywhere i j (a ∷ []) octets is = cc is
+anywhere i j (a ∷ b ∷ text) octets is =
+    let first = pairs_first i a b text octets is in
+    pair_more j a b first.octet text first.rest (first.pair j) (anywhere (i + 2) (j + 2) text first.rest first.read) ∙ ap (λ o. Ok o) (sym first.parts)
+
+-- the pairs of two texts
+record PairsOfTwo (i j : ℕ) (front back octets : List ℕ) : Type 0 where
+  first : List ℕ
+  second : List ℕ
+  read : decode_pairs i front ≡ Ok first
+  others : decode_pairs j back ≡ Ok second
+  parts : octets ≡ first ++ second
+
+pairs_after : (i j a b : ℕ) (front back octets : List ℕ) (here : First a b (decode_pairs (i + 2) (front ++ back)) octets)
+    → PairsOfTwo (i + 2) j front back here.rest → PairsOfTwo i j (a ∷ b ∷ front) back octets
+pairs_after i j a b front back octets here more = record {
+  first = here.octet ∷ more.first;
+  second = more.second;
+  read = pair_more i a b here.octet front more.first (here.pair i) more.read;
+  others = more.others;
+  parts = here.parts ∙ ap (λ l. here.octet ∷ l) more.parts;
+}
+
+pairs-append : (i j : ℕ) (front back octets : List ℕ) → length front % 2 ≡ 0 → decode_pairs i (front ++ back) ≡ Ok octets → PairsOfTwo i j front back octets
+unfolding decode_pairs
+pairs-append i j [] back octets even is = record { first = []; second = octets; read = refl; others = anywhere i j back octets is; parts = refl }
+pairs-append i j (a ∷ []) back octets even is = absurd (omega arith)
+pairs-append i j (a ∷ b ∷ front) back octets even is =
+    let here = pairs_first i a b (front ++ back) octets is in
+    pairs_after i j a b front back octets here (pairs-append (i + 2) j front back here.rest (omega arith) here.read)
+
+halves16 : (piece after octets : List ℕ) → length piece ≡ 64 → decode_of (piece ++ after) ≡ Ok octets → Halves Base16 piece after octets
+halves16 piece after octets full decoded =
+    let even = (decode_of-ok (piece ++ after) octets decoded).0 in
+    let size = length-append piece after in
+    let here = pairs-append 0 0 piece after octets (omega arith) (sym (decode_of-even (piece ++ after) even) ∙ decoded) in
+    record {
+      front = here.first;
+      back = here.second;
+      first = decode_of-even piece (omega arith) ∙ here.read;
+      others = decode_of-even after (omega arith) ∙ here.others;
+      parts = here.parts;
+    }
+
+-- after whole octets in Base 32 hex no bits are left over
+no_rest : (value : ℕ) (digits : List ℕ) → base32_octets 1 (value % 1) digits ≡ base32_octets 1 0 digits
+no_rest value digits = let none : value % 1 ≡ 0 = omega arith in ap (λ rest. base32_octets 1 rest digits) none
+
+-- eight digits are five octets
+eight : (a b c d e f g h : ℕ) (digits : List ℕ) → base32_octets 1 0 (a ∷ b ∷ c ∷ d ∷ e ∷ f ∷ g ∷ h ∷ digits)
+    ≡ base32_octets 1 0 (a ∷ b ∷ c ∷ d ∷ e ∷ f ∷ g ∷ h ∷ []) ++ base32_octets 1 0 digits
+unfolding base32_octets
+eight a b c d e f g h digits =
+    let one : ℕ = (32 * (32 * 0 + a) + b) % 4 in
+    let two : ℕ = (32 * (32 * one + c) + d) % 16 in
+    let three : ℕ = (32 * two + e) % 2 in
+    let four : ℕ = (32 * (32 * three + f) + g) % 8 in
+    ap (λ l. base32_octets 1 0 (a ∷ b ∷ c ∷ d ∷ e ∷ f ∷ g ∷ h ∷ []) ++ l) (no_rest (32 * four + h) digits)
+
+eights : (n : ℕ) (front back : List ℕ) → length front ≡ 8 * n → base32_octets 1 0 (front ++ back) ≡ base32_octets 1 0 front ++ base32_octets 1 0 back
+unfolding base32_octets
+eights zero [] back size = refl
+eights zero (a ∷ front) back size = absurd (omega arith)
+eights (suc n) [] back size = absurd (omega arith)
+eights (suc n) (a ∷ []) back size = absurd (omega arith)
+eights (suc n) (a ∷ b ∷ []) back size = absurd (omega arith)
+eights (suc n) (a ∷ b ∷ c ∷ []) back size = absurd (omega arith)
+eights (suc n) (a ∷ b ∷ c ∷ d ∷ []) back size = absurd (omega arith)
+eights (suc n) (a ∷ b ∷ c ∷ d ∷ e ∷ []) back size = absurd (omega arith)
+eights (suc n) (a ∷ b ∷ c ∷ d ∷ e ∷ f ∷ []) back size = absurd (omega arith)
+eights (suc n) (a ∷ b ∷ c ∷ d ∷ e ∷ f ∷ g ∷ []) back size = absurd (omega arith)
+eights (suc n) (a ∷ b ∷ c ∷ d ∷ e ∷ f ∷ g ∷ h ∷ front) back size =
+    let five : List ℕ = base32_octets 1 0 (a ∷ b ∷ c ∷ d ∷ e ∷ f ∷ g ∷ h ∷ []) in
+    eight a b c d e f g h (front ++ back) ∙ ap (λ l. five ++ l) (eights n front back (omega arith))
+    ∙ sym (append_assoc five (base32_octets 1 0 front) (base32_octets 1 0 back))
+    ∙ ap (λ l. l ++ base32_octets 1 0 back) (sym (eight a b c d e f g h front))
+
+halves32 : (piece after octets : List ℕ) → length piece ≡ 64 → IsBase32 (piece ++ after) octets → Halves Base32Hex piece after octets
+halves32 piece after octets full decoded =
+    let same : length (piece ++ after) % 8 ≡ length after % 8 = omega (arith, length-append piece after) in
+    record {
+      front = base32_octets 1 0 (base32_digits piece);
+      back = base32_octets 1 0 (base32_digits after);
+      first = record { digits = pass_front Base32Hex piece after decoded.digits; whole = rw full refl; value = refl };
+      others = record { digits = pass_back Base32Hex piece after decoded.digits; whole = rw same at decoded.whole; value = refl };
+      parts = decoded.value ∙ ap (base32_octets 1 0) (map-append _ piece after)
+          ∙ eights 8 (base32_digits piece) (base32_digits after) (length-map piece _ ∙ full);
+    }
+
+halves64 : (piece after octets : List ℕ) (c : ℕ) → IsBytes (piece ++ c ∷ after) → length piece ≡ 64
+    → DecodesTo (piece ++ c ∷ after) octets → Halves Base64 piece (c ∷ after) octets
+halves64 piece after octets c bytes full decoded =
+    let parts = split_pieces (piece ++ c ∷ after) octets bytes (omega (arith, length-append piece (c ∷ after))) decoded in
+    record {
+      front = take 48 octets;
+      back = drop 48 octets;
+      first = subst (λ t. DecodesTo t (take 48 octets)) (take_at piece (c ∷ after) 64 full) parts.first;
+      others = subst (λ t. DecodesTo t (drop 48 octets)) (drop_at piece (c ∷ after) 64 full) parts.others;
+      parts = sym (take-append-drop 48 octets);
+    }
+
+of_two : (codec : Codec) (piece after octets : List ℕ) (c : ℕ) → IsBytes (piece ++ c ∷ after) → length piece ≡ 64
+    → Decodes codec (piece ++ c ∷ after) octets → Halves codec piece (c ∷ after) octets
+of_two Base16 piece after octets c bytes full decoded = halves16 piece (c ∷ after) octets full decoded
+of_two Base32Hex piece after octets c bytes full decoded = halves32 piece (c ∷ after) octets full decoded
+of_two Base64 piece after octets c bytes full decoded = halves64 piece after octets c bytes full decoded
+
+pub halves : (codec : Codec) (text piece after octets : List ℕ) → IsBytes text → Cut text piece after → Decodes codec text octets
+    → Halves codec piece after octets
+halves codec text piece [] octets bytes cut decoded = all_in_front codec text piece [] octets cut refl decoded
+halves codec text piece (c ∷ after) octets bytes cut decoded = elim (cases_lt (length piece) 64) [
+  | inl short ↦ cc (cut.full short)
+  | inr long ↦
+      let full : length piece ≡ 64 = omega (arith, cut.small) in
+      of_two codec piece after octets c (subst IsBytes cut.parts bytes) full (subst (λ t. Decodes codec t octets) cut.parts decoded)
+]
+
+bytes_after : (text piece after : List ℕ) → text ≡ piece ++ after → IsBytes text → IsBytes after
+bytes_after text piece after parts bytes =
+    subst IsBytes (ap (drop (length piece)) parts ∙ drop_at piece after (length piece) refl) (bytes-drop (length piece) text bytes)
+
+-- some pieces of the text have been read, and these characters are left
+pub record ReadPieces (codec : Codec) (text left built : List ℕ) : Type 0 where
+  pub rest : List ℕ
+  pub decoded : Decodes codec left rest
+  pub whole : Decodes codec text (built ++ rest)
+  pub bytes : IsBytes left
+
+-- the next piece stands for octets, and what is after it for others
+pub record NextPiece (codec : Codec) (text piece after built : List ℕ) : Type 0 where
+  pub octets : List ℕ
+  pub first : Decodes codec piece octets
+  pub more : ReadPieces codec text after (built ++ octets)
+
+pub pieces_begin : (codec : Codec) (text left built : List ℕ) → left ≡ text → built ≡ [] → AreOctets text → IsText codec text → ReadPieces codec text left built
+pieces_begin codec text left built is none all decoded =
+    subst (ReadPieces codec text left) (sym none)
+    (subst (λ l. ReadPieces codec text l []) (sym is) (record { rest = decoded.0; decoded = decoded.1; whole = decoded.1; bytes = bytes_of text all }))
+
+pub pieces_next : (codec : Codec) (text left piece after built : List ℕ) → ReadPieces codec text left built → Cut left piece after
+    → NextPiece codec text piece after built
+pieces_next codec text left piece after built so_far cut =
+    let two = halves codec left piece after so_far.rest so_far.bytes cut so_far.decoded in
+    let parts : built ++ so_far.rest ≡ (built ++ two.front) ++ two.back = ap (λ o. built ++ o) two.parts ∙ sym (append_assoc built two.front two.back) in
+    record {
+      octets = two.front;
+      first = two.first;
+      more = record {
+        rest = two.back;
+        decoded = two.others;
+        whole = subst (λ o. Decodes codec text o) parts so_far.whole;
+        bytes = bytes_after left piece after cut.parts so_far.bytes;
+      };
+    }
+
+-- a piece without characters is the last
+pub none_after : (left piece after : List ℕ) → Cut left piece after → length piece ≡ 0 → left ≡ []
+none_after left [] after cut none = cut.parts ∙ cut.full (omega arith)
+none_after left (c ∷ piece) after cut none = absurd (omega arith)
+
+pub pieces_end : (codec : Codec) (text left built : List ℕ) → ReadPieces codec text left built → left ≡ [] → Decodes codec text built
+pieces_end codec text left built so_far none =
+    let decoded : Decodes codec [] so_far.rest = subst (λ t. Decodes codec t so_far.rest) none so_far.decoded in
+    let over : so_far.rest ≡ [] = decodes_once codec [] so_far.rest [] decoded (nothing codec) in
+    subst (λ o. Decodes codec text o) (ap (λ r. built ++ r) over ∙ append-nil built) so_far.whole
+
+-- ---- the pieces of a text in Base 64
+
+long_cut : (left piece after : List ℕ) (c : ℕ) → Cut left piece (c ∷ after) → length piece ≡ 64
+long_cut left piece after c cut = elim (cases_lt (length piece) 64) [
+  | inl short ↦ let none = cut.full short in absurd (cc)
+  | inr long ↦ omega (arith, cut.small)
+]
+
+pub passed_begin : (text left : List ℕ) → left ≡ text → AreOctets text → Passed text left
+passed_begin text left is all = subst (Passed text) (sym is) (passed_none text (bytes_of text all))
+
+-- a text has groups of four characters
+pub no_group : (text : List ℕ) (over : ℕ) → AreOctets text → over ≡ length text % 8 → over % 4 ≢ 0 → IsText Base64 text → ⊥
+no_group text over all is broken decoded = broken (omega (arith, decoded_length text decoded.0 (bytes_of text all) decoded.1))
+
+module _ (text left piece after : List ℕ) (so_far : Passed text left) (cut : Cut left piece after) where
+  -- a piece that stands for nothing is part of no text
+  pub refused_piece : (e : DecodeError) → base64.decode_of standard piece ≡ Err e → IsText Base64 text → ⊥
+  refused_piece e refused is =
+      let here = so_far.forth is.0 is.1 in
+      let two = halves Base64 left piece after here.0 so_far.bytes cut here.1 in
+      let first = two.first in
+      cc
+
+  -- a piece after which nothing is left ends a text
+  pub last_in_text : (octets : List ℕ) → DecodesTo piece octets → after ≡ [] → IsText Base64 text
+  last_in_text octets read none =
+      so_far.back octets (subst (λ t. DecodesTo t octets) (sym (cut.parts ∙ ap (λ l. piece ++ l) none ∙ append-nil piece)) read)
+
+-- one that stands for fewer than 48 octets is the last
+pub short_ends : (text left piece after rest octets : List ℕ) (c : ℕ) → Passed text left → Cut left piece after → after ≡ c ∷ rest
+    → DecodesTo piece octets → length octets < 48 → IsText Base64 text → ⊥
+short_ends text left piece after rest octets c so_far cut more read short is =
+    let there : Cut left piece (c ∷ rest) = subst (λ a. Cut left piece a) more cut in
+    let full = long_cut left piece rest c there in
+    let long : 64 < length left = omega (arith, ap length there.parts, length-append piece (c ∷ rest)) in
+    let front : take 64 left ≡ piece = ap (take 64) there.parts ∙ take_at piece (c ∷ rest) 64 full in
+    short_piece text left so_far long is.0 is.1 octets (subst (λ t. DecodesTo t octets) (sym front) read) short
+
+-- so whether anything is left says whether it is a text
+pub short_decides : (text left piece after rest octets : List ℕ) (next : Option ℕ) (none : Bool) → Passed text left
+    → Cut left piece after → is_some next ≡ not none
+    → MatchOption next ((after ≡ []) × (rest ≡ [])) (λ c. after ≡ c ∷ rest) → DecodesTo piece octets → length octets < 48 → IsTrue none ↔ IsText Base64 text
+short_decides text left piece after rest octets None true so_far cut told left_over read short =
+    (λ yes. last_in_text text left piece after so_far cut octets read left_over.0, λ is. refl)
+short_decides text left piece after rest octets None false so_far cut told left_over read short = cc told
+short_decides text left piece after rest octets (Some c) true so_far cut told left_over read short = cc told
+short_decides text left piece after rest octets (Some c) false so_far cut told left_over read short =
+    (λ no. cc no, λ is. absurd (short_ends text left piece after rest octets c so_far cut left_over read short is))
+
+-- one that stands for 48 octets may be followed by others
+pub full_goes_on : (text left piece after octets : List ℕ) → Passed text left → Cut left piece after → DecodesTo piece octets
+    → length octets ≡ 48 → Passed text after
+full_goes_on text left piece [] octets so_far cut read full = record {
+  back = λ none decoded. last_in_text text left piece [] so_far cut octets read refl;
+  forth = λ whole decoded. ([], nothing Base64);
+  bytes = λ i. omega arith;
+}
+full_goes_on text left piece (c ∷ after) octets so_far cut read full =
+    let size = long_cut left piece after c cut in
+    let long : 64 < length left = omega (arith, ap length cut.parts, length-append piece (c ∷ after)) in
+    let front : take 64 left ≡ piece = ap (take 64) cut.parts ∙ take_at piece (c ∷ after) 64 size in
+    let back : drop 64 left ≡ c ∷ after = ap (drop 64) cut.parts ∙ drop_at piece (c ∷ after) 64 size in
+    subst (λ l. Passed text l) back (passed_more text left octets so_far long (subst (λ t. DecodesTo t octets) (sym front) read) full)
+
+-- and is no empty piece
+pub full_is_some : (left piece after octets : List ℕ) → Cut left piece after → DecodesTo piece octets → length octets ≡ 48 → length after < length left
+full_is_some left [] after octets cut read full = let none : octets ≡ [] = nothing_decodes octets read in absurd (omega (arith, ap length none))
+full_is_some left (c ∷ piece) after octets cut read full = omega (arith, ap length cut.parts, length-append (c ∷ piece) after)
+
+-- ---- the octets of a piece
+
+base32_short : (scale rest : ℕ) (digits : List ℕ) → length (base32_octets scale rest digits) ≤ length digits
+unfolding base32_octets
+base32_short scale rest [] = omega arith
+base32_short scale rest (digit ∷ digits) = elim (cases_Bool (nat_le 256 (32 * scale))) [
+  | inl wide ↦ let more = base32_short (32 * scale / 256) ((32 * rest + digit) % (32 * scale / 256)) digits in rw wide (omega (arith, more))
+  | inr narrow ↦ let more = base32_short (32 * scale) (32 * rest + digit) digits in rw narrow (omega (arith, more))
+]
+
+no_longer : (codec : Codec) (text octets : List ℕ) → IsBytes text → Decodes codec text octets → length octets ≤ length text
+no_longer Base16 text octets bytes decoded = omega (arith, (decode_of-ok text octets decoded).2)
+no_longer Base32Hex text octets bytes decoded = omega (
+  arith,
+  ap length decoded.value,
+  base32_short 1 0 (base32_digits text),
+  length-map text (λ c. unwrap_or (base32_value c) 0),
+)
+no_longer Base64 text octets bytes decoded = omega (arith, decoded_length text octets bytes decoded)
+
+-- an array of 64 octets takes those of a piece
+pub piece_has_room : (codec : Codec) (piece : List ℕ) (e : AppendError) → IsBytes piece → length piece ≤ 64 → BuildFault codec (Some 64) piece e → ⊥
+piece_has_room codec piece ShortBuf bytes small fault = omega (arith, no_longer codec piece fault.0 bytes fault.1, fault.2)
+piece_has_room codec piece OutOfMemory bytes small fault = cc fault

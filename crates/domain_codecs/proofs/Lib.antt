@@ -1,0 +1,14 @@
+pub mod CodecLemmas
+pub mod Scale
+pub mod Base32Lemmas
+pub mod RefusalLemmas
+pub mod OrderLemmas
+pub mod ReadBackLemmas
+pub mod CodecBackLemmas
+pub mod BitGroupLemmas
+pub mod RoomLemmas
+pub mod Base64Lemmas
+pub mod Base16Lemmas
+pub mod Base16PieceLemmas
+pub mod JoinedLemmas
+pub mod NoSpaceLemmas

@@ -1,0 +1,48 @@
+-- room in a builder that is filled part by part
+use Rattle.std.proofs.Common.{◌≡◌, ℕ, ◌+◌, ◌≤◌, ◌∙◌, List, [], ◌++◌, length, refl, sym, subst, ap, arith, length-append, Option, None, Some, Result, Ok, Err}
+use Rattle.std.specs.Prelude.{◌↔◌, IsErrOf, IsErrAnd, IfErr, IsNone}
+use Rattle.domain_octets.specs.Limit.{IsOver, HasRoom}
+use Rattle.domain_octets.specs.declared.error.AppendError.{AppendError}
+use Rattle.domain_octets.specs.declared.error.AppendError.TheVariants.{ShortBuf, OutOfMemory}
+use Rattle.domain_codecs.specs.declared.codec.Codec.{Codec}
+use Rattle.domain_codecs.specs.Codec.{Decodes, BuildFault}
+
+pub over_more : (limit : Option ℕ) (m n : ℕ) → m ≤ n → IsOver limit m → IsOver limit n
+over_more None m n le over = over
+over_more (Some k) m n le over = omega arith
+
+pub room_for_none : (limit : Option ℕ) → HasRoom limit 0
+room_for_none None over = over
+room_for_none (Some k) over = omega arith
+
+-- what was appended whole had room
+pub room_for_part : {X : Type 0} (limit : Option ℕ) (x : X) (r : Result X AppendError) (built part after : List ℕ) → r ≡ Ok x → after ≡ built ++ part
+    → IsErrOf r ShortBuf ↔ IsOver limit (length built + length part) → HasRoom limit (length after)
+room_for_part limit x r built part after is grown short over =
+    let e : length after ≡ length built + length part = ap length grown ∙ length-append built part in
+    let wrong = short.1 (rw e at over) in
+    cc
+
+-- where a part has no room, neither has the whole
+pub no_room_for_whole : (limit : Option ℕ) (built part rest whole : List ℕ) → (built ++ part) ++ rest ≡ whole
+    → IsOver limit (length built + length part) → IsOver limit (length whole)
+no_room_for_whole limit built part rest whole parts over =
+    over_more limit (length built + length part) (length whole)
+    (omega (arith, ap length parts, length-append (built ++ part) rest, length-append built part)) over
+
+-- a part that is refused on the way to the octets of a text
+pub build_stops : {X : Type 0} (codec : Codec) (limit : Option ℕ) (text built part rest : List ℕ) (r : Result X AppendError)
+    (e : AppendError) → r ≡ Err e → Decodes codec text ((built ++ part) ++ rest)
+    → IsErrOf r ShortBuf ↔ IsOver limit (length built + length part) → (IsErrOf r OutOfMemory → IsNone limit) → BuildFault codec limit text e
+build_stops codec limit text built part rest r ShortBuf is decoded short memory =
+    ((built ++ part) ++ rest, decoded, no_room_for_whole limit built part rest ((built ++ part) ++ rest) refl (short.0 (rw is refl)))
+build_stops codec limit text built part rest r OutOfMemory is decoded short memory = memory (rw is refl)
+
+-- the same for octets of which there are none yet
+pub empty_has_room : (limit : Option ℕ) (octets : List ℕ) → octets ≡ [] → HasRoom limit (length octets)
+empty_has_room limit octets none = rw none (room_for_none limit)
+
+-- an error that is handed on
+pub handed_on : {Y : Type 0} (P : AppendError → Type 0) (e : AppendError) (r : Result Y AppendError) → IsErrAnd r (λ y. y ≡ e) → P e → IfErr r P
+handed_on P e (Ok y) is why = tt
+handed_on P e (Err d) is why = subst P (sym is) why

@@ -1,0 +1,48 @@
+use Rattle.std.proofs.Common.{◌≡◌, List, ℕ, ◌++◌, length, take, map, arith, length-take}
+use Rattle.std.specs.List.{concat}
+use Rattle.domain_codecs.proofs.RoomLemmas.{build_stops, room_for_part, handed_on, empty_has_room}
+use Rattle.domain_codecs.proofs.JoinedLemmas.{ReadPieces, pieces_begin, pieces_next, pieces_end, none_after}
+use Rattle.domain_codecs.proofs.CodecBackLemmas.{decodes_once}
+use Rattle.domain_codecs.proofs.decoding.build_joined.Given.{Over}
+use Rattle.domain_codecs.proofs.decoding.build_joined.Goals.{After-as_slice}
+use Rattle.domain_codecs.proofs.decoding.build_joined.Goals as goal
+
+pub loop-left-init : goal.loop-left-init
+loop-left-init g c = record {
+  read = pieces_begin c.args.codec (concat (map (λ text. text.now) c.args.texts.now)) c.new-left.result
+      (g.B.Octets.octets c.empty-octets.result) c.new-left.ensures c.empty-octets.ensures c.requires.octets c.requires.text;
+  room = empty_has_room g.B.OctetsBuilder.limit (g.B.Octets.octets c.empty-octets.result) c.empty-octets.ensures;
+}
+
+pub returns-then-count-eq0-clause-ok : goal.returns-then-count-eq0-clause-ok
+returns-then-count-eq0-clause-ok g c =
+    let piece : List ℕ = take c.take_piece-count.result c.take_piece-count.new.piece in
+    let none : length piece ≡ 0 = omega (arith, length-take c.take_piece-count.result c.take_piece-count.new.piece) in
+    pieces_end c.args.codec (concat (map (λ text. text.now) c.args.texts.now)) c.loop-left.left
+    (g.B.Octets.octets c.loop-left.octets) c.loop-left.invariant.read
+    (none_after c.loop-left.left piece c.take_piece-count.new.self c.take_piece-count.ensures.cut none)
+
+pub build_piece-part-requires-clause-text : goal.build_piece-part-requires-clause-text
+build_piece-part-requires-clause-text g c =
+    let next = pieces_next _ _ _ _ _ _ c.loop-left.invariant.read c.take_piece-count.ensures.cut in
+    (next.octets, next.first)
+
+-- the octets of the piece follow those that were built
+piece_read : (g : Over) (c : After-as_slice g)
+    → ReadPieces c.args.codec (concat (map (λ text. text.now) c.args.texts.now)) c.take_piece-count.new.self
+    (g.B.Octets.octets c.loop-left.octets ++ c.as_slice.result.now)
+piece_read g c =
+    let next = pieces_next _ _ _ _ _ _ c.loop-left.invariant.read c.take_piece-count.ensures.cut in
+    rw (decodes_once _ _ next.octets c.as_slice.result.now next.first (rw c.as_slice.ensures c.build_piece-part.ensures)) at next.more
+
+pub loop-left-preserved : goal.loop-left-preserved
+loop-left-preserved g c = record {
+  read = rw c.in_ok-append_slice.ensures.ok (piece_read g (goal.at.loop-left-preserved g c).After-as_slice);
+  room = room_for_part _ _ _ _ _ _ c.in_ok-append_slice.was c.in_ok-append_slice.ensures.ok c.append_slice.ensures.short;
+}
+
+pub returns-in_err-append_slice-clause-err : goal.returns-in_err-append_slice-clause-err
+returns-in_err-append_slice-clause-err g c =
+    let read = piece_read g (goal.at.returns-in_err-append_slice-clause-err g c).After-as_slice in
+    handed_on _ _ _ c.from_residual.ensures.1
+    (build_stops _ _ _ _ _ read.rest _ _ c.in_err-append_slice.was read.whole c.append_slice.ensures.short c.append_slice.ensures.memory)

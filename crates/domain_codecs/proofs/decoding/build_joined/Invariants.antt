@@ -1,0 +1,14 @@
+use Rattle.std.proofs.Common.{length, map}
+use Rattle.std.specs.List.{concat}
+use Rattle.domain_octets.specs.Limit.{HasRoom}
+use Rattle.domain_codecs.proofs.JoinedLemmas.{ReadPieces}
+use Rattle.domain_codecs.proofs.decoding.build_joined.Given as goal
+
+abbrev pub invariant-loop-left : goal.invariant-loop-left
+invariant-loop-left g l = record {
+  read : ReadPieces l.codec (concat (map (λ text. text.now) l.fn.texts)) l.left (g.B.Octets.octets l.octets);
+  room : HasRoom g.B.OctetsBuilder.limit (length (g.B.Octets.octets l.octets));
+}
+
+abbrev pub decreases-loop-left : goal.decreases-loop-left
+decreases-loop-left g l = length l.left

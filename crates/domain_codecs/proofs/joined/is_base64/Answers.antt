@@ -1,0 +1,39 @@
+use Rattle.std.proofs.Common.{◌≡◌, length, take, map, arith, length-take}
+use Rattle.std.specs.List.{concat}
+use Rattle.domain_codecs.proofs.JoinedLemmas.{passed_begin, no_group, refused_piece, short_decides, full_goes_on, full_is_some}
+use Rattle.domain_codecs.proofs.joined.is_base64.Goals.{Else-full-lt48}
+use Rattle.domain_codecs.proofs.joined.is_base64.Goals as goal
+
+pub returns-then-over_eight-ne0 : goal.returns-then-over_eight-ne0
+returns-then-over_eight-ne0 c = (
+  λ no. (cc no),
+  λ is. absurd (no_group (concat (map (λ text. text.now) c.args.texts.now)) c.over_eight.result c.over_eight.ensures.octets
+      c.over_eight.ensures.over c.if-over_eight-ne0.true is),
+)
+
+pub loop-full-init : goal.loop-full-init
+loop-full-init c = passed_begin (concat (map (λ text. text.now) c.args.texts.now)) c.new-left.result c.new-left.ensures c.over_eight.ensures.octets
+
+pub returns-in_default : goal.returns-in_default
+returns-in_default c = (
+  λ no. (cc no),
+  λ is. absurd (refused_piece _ _ _ _ c.loop-full.invariant c.take_piece-count.ensures.cut c.in_default.field-0 c.in_default.ensures.err is),
+)
+
+pub returns-then-full-lt48 : goal.returns-then-full-lt48
+returns-then-full-lt48 c =
+    short_decides _ _ _ _ _ _ _ _ c.loop-full.invariant c.take_piece-count.ensures.cut c.is_none.ensures c.next.ensures
+    c.in-Ok.ensures.ok.0 (omega (arith, length-take c.in-Ok.full c.decode_slice_unchecked.new.output))
+
+-- a piece that stands for no fewer than 48 octets stands for 48
+full_piece : (c : Else-full-lt48) → length (take c.in-Ok.full c.decode_slice_unchecked.new.output) ≡ 48
+full_piece c = let read = c.in-Ok.ensures.ok in omega (arith, length-take c.in-Ok.full c.decode_slice_unchecked.new.output)
+
+pub loop-full-smaller : goal.loop-full-smaller
+loop-full-smaller c =
+    full_is_some _ _ _ _ c.take_piece-count.ensures.cut c.in-Ok.ensures.ok.0 (full_piece (goal.at.loop-full-smaller c).Else-full-lt48)
+
+pub loop-full-preserved : goal.loop-full-preserved
+loop-full-preserved c =
+    full_goes_on _ _ _ _ _ c.loop-full.invariant c.take_piece-count.ensures.cut c.in-Ok.ensures.ok.0
+    (full_piece (goal.at.loop-full-preserved c).Else-full-lt48)

@@ -1,0 +1,124 @@
+-- octets as text: Base 16, Base 32 with the extended hex alphabet, and Base 64 (RFC 4648)
+use Rattle.std.specs.Prelude.{◌≡◌, ℕ, ◌+◌, ◌-◌, ◌*◌, ◌/◌, ◌%◌, ◌<◌, ◌==◌, ◌||◌, ◌&&◌, nat_le, Bool, true, false}
+use Rattle.std.specs.Prelude.{not, [], ◌∷◌, map, length, slice_index, take, Ok, if◌then◌else◌, Option, Some, None, IsNone, is_some, unwrap_or}
+use Rattle.std.specs.List.{AllPass}
+use Rattle.hex.specs.Hex as hex
+use Rattle.base64.specs.GeneralPurpose as base64
+use Rattle.base64.specs.Engines.{standard}
+use Rattle.domain_codecs.specs.declared.codec.Codec.{Codec}
+use Rattle.domain_codecs.specs.declared.codec.Codec.TheVariants.{Base16, Base32Hex, Base64}
+use Rattle.domain_codecs.specs.declared.codec.DecodeError.{DecodeError}
+use Rattle.domain_codecs.specs.declared.codec.DecodeError.TheVariants.{IllegalChar, ShortInput, ShortBuf, OutOfMemory}
+use Rattle.domain_octets.specs.declared.error.AppendError.{AppendError}
+use Rattle.domain_octets.specs.declared.error.AppendError.TheVariants as append_error
+use Rattle.domain_octets.specs.Limit.{IsOver}
+use Rattle.domain_octets.specs.Words.{Octets}
+use Rattle.domain_octets.specs.Characters.{plus, slash, equals_sign}
+
+-- the value of a digit of Base 32 hex, in either case: 0 to 9, and A to V for 10 to 31; as octets
+-- the characters 0, A and a are 48, 65 and 97
+abbrev pub base32_value : ℕ → Option ℕ
+base32_value c =
+    if (nat_le 48 c && nat_le c 57) then Some (c - 48)
+    else (if (nat_le 65 c && nat_le c 86) then Some (c - 55)
+    else (if (nat_le 97 c && nat_le c 118) then Some (c - 87) else None))
+
+-- a letter, a digit, + or /, or the = of the padding
+abbrev pub is_base64_char : ℕ → Bool
+is_base64_char c =
+    (nat_le 65 c && nat_le c 90) || (nat_le 97 c && nat_le c 122) || (nat_le 48 c && nat_le c 57)
+    || (c == plus || c == slash || c == equals_sign)
+
+-- the characters of a codec's texts
+abbrev pub is_digit : Codec → ℕ → Bool
+is_digit Base16 c = hex.is_hex_digit c
+is_digit Base32Hex c = is_some (base32_value c)
+is_digit Base64 c = is_base64_char c
+
+-- The octets of digits of five bits each, first bits first (RFC 4648, section 6). Between two
+-- octets some bits are left over: a number below `scale`. The bits after the last whole octet are
+-- passed over.
+unfoldable pub base32_octets : ℕ → ℕ → Octets → Octets
+base32_octets scale rest [] = []
+base32_octets scale rest (digit ∷ digits) =
+    let wider = 32 * scale in
+    let value = 32 * rest + digit in
+    if nat_le 256 wider
+    then ((value / (wider / 256)) ∷ base32_octets (wider / 256) (value % (wider / 256)) digits)
+    else base32_octets wider value digits
+
+-- the number of digits that some number of octets has: not 1, 3 or 6 over a multiple of 8
+abbrev pub is_base32_length : ℕ → Bool
+is_base32_length n = not (n % 8 == 1 || n % 8 == 3 || n % 8 == 6)
+
+abbrev pub base32_digits : Octets → Octets
+base32_digits = map (λ c. unwrap_or (base32_value c) 0)
+
+-- a text in Base 32 hex without padding (RFC 4648, section 7), in either case
+pub record IsBase32 (text octets : Octets) : Type 0 where
+  pub digits : AllPass (is_digit Base32Hex) text
+  pub whole : is_base32_length (length text) ≡ true
+  pub value : octets ≡ base32_octets 1 0 (base32_digits text)
+
+-- the text stands for these octets
+abbrev pub Decodes : Codec → Octets → Octets → Type 0
+Decodes Base16 text octets = hex.decode_of text ≡ Ok octets
+Decodes Base32Hex text octets = IsBase32 text octets
+Decodes Base64 text octets = base64.decode_of standard text ≡ Ok octets
+
+-- the first character of the text that is none of the codec's
+pub record IsFirstOther (codec : Codec) (text : Octets) (c : ℕ) : Type 0 where
+  pub place : ℕ
+  pub below : place < length text
+  pub is : c ≡ slice_index text place
+  pub other : is_digit codec c ≡ false
+  pub before : AllPass (is_digit codec) (take place text)
+
+-- why the text is refused: Base 16 looks at the number of digits first, the others at the digits
+abbrev pub HasBadChar : Codec → Octets → ℕ → Type 0
+HasBadChar Base16 text c = (length text % 2 ≡ 0) × IsFirstOther Base16 text c
+HasBadChar Base32Hex text c = IsFirstOther Base32Hex text c
+HasBadChar Base64 text c =
+    ((octets : Octets) → Decodes Base64 text octets → ⊥) × IsFirstOther Base64 text c
+
+abbrev pub HasBadLength : Codec → Octets → Type 0
+HasBadLength Base16 text = length text % 2 ≡ 1
+HasBadLength Base32Hex text =
+    AllPass (is_digit Base32Hex) text × (is_base32_length (length text) ≡ false)
+HasBadLength Base64 text =
+    ((octets : Octets) → Decodes Base64 text octets → ⊥) × AllPass (is_digit Base64) text
+
+-- the text stands for octets
+abbrev pub IsText : Codec → Octets → Type 0
+IsText codec text = (octets : Octets) × Decodes codec text octets
+
+-- what is wrong with a text by itself
+abbrev pub TextFault : Codec → Octets → DecodeError → Type 0
+TextFault codec text (IllegalChar c) = HasBadChar codec text c
+TextFault codec text ShortInput = HasBadLength codec text
+TextFault codec text ShortBuf = ⊥
+TextFault codec text OutOfMemory = ⊥
+
+-- the text stands for octets, but a builder with this limit has no room for them
+abbrev pub HasNoRoom : Codec → Option ℕ → Octets → Type 0
+HasNoRoom codec limit text =
+    (octets : Octets) × Decodes codec text octets × IsOver limit (length octets)
+
+-- why a builder with this limit does not take the octets of a text that stands for some
+abbrev pub BuildFault : Codec → Option ℕ → Octets → AppendError → Type 0
+BuildFault codec limit text append_error.ShortBuf = HasNoRoom codec limit text
+BuildFault codec limit text append_error.OutOfMemory = IsNone limit
+
+-- the same as an error of decoding
+abbrev pub decode_error_of : AppendError → DecodeError
+decode_error_of append_error.ShortBuf = ShortBuf
+decode_error_of append_error.OutOfMemory = OutOfMemory
+
+-- why a text is not decoded into octets that have this limit: what is wrong with the text comes
+-- first, then want of room; memory is wanting only where the text is right and nothing limits the
+-- octets
+abbrev pub DecodeFault : Codec → Option ℕ → Octets → DecodeError → Type 0
+DecodeFault codec limit text (IllegalChar c) = HasBadChar codec text c
+DecodeFault codec limit text ShortInput = HasBadLength codec text
+DecodeFault codec limit text ShortBuf = HasNoRoom codec limit text
+DecodeFault codec limit text OutOfMemory = IsText codec text × IsNone limit

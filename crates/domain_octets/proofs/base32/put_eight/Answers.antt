@@ -1,6 +1,0 @@
-use Rattle.std.proofs.Common.{arith}
-use Rattle.std.proofs.lemmas.List.{places, same_lists}
-use Rattle.domain_octets.proofs.base32.put_eight.Goals as goal
-
-pub returns-clause-front : goal.returns-clause-front
-returns-clause-front c = λ count within. same_lists _ _ (grind (arith, places)) (λ k d h. grind (arith, places))

@@ -1,5 +1,0 @@
-use Rattle.domain_octets.proofs.ReadBackLemmas.{lower_reads_back}
-use Rattle.domain_octets.proofs.laws.base32_reads_back.Goals as goal
-
-pub returns : goal.returns
-returns c = lower_reads_back
