@@ -1,7 +1,9 @@
 -- texts in Base 16, two digits at a time
-use Rattle.std.proofs.Common.{◌≡◌, ℕ, ◌+◌, ◌*◌, List, [], ◌∷◌, refl, sym, Option, None, Some, Result, Ok, Err}
+use Rattle.std.proofs.Common.{◌≡◌, ℕ, ◌+◌, ◌*◌, List, [], ◌∷◌, refl, Option, None, Some, Result, Ok, Err}
 use Rattle.hex.specs.Hex.{decode_pairs, digit_or_error, hex_digit_value, pair_value, ◌>>=◌}
 use Rattle.hex.specs.declared.error.FromHexError.{FromHexError}
+use Rattle.std.proofs.Common.{arith}
+use Rattle.std.proofs.lemmas.Grind.{common_steps}
 
 -- the first octet, which two digits stand for, and the others
 pub record First (a b : ℕ) (others : Result (List ℕ) FromHexError) (octets : List ℕ) : Type 0 where
@@ -16,9 +18,7 @@ first_octet : (high low : Option ℕ) (a b i j : ℕ) (others : Result (List ℕ
     → ((digit_or_error a i high >>= (λ h. digit_or_error b j low >>= (λ l. Ok (h * 16 + l)))) >>= (λ octet. others >>= (λ rest. Ok (octet ∷ rest)))) ≡ Ok octets
     → First a b others octets
 unfolding decode_pairs
-first_octet (Some h) (Some l) a b i j (Ok rest) octets first second is =
-    let e : (h * 16 + l) ∷ rest ≡ octets = cc in
-    record { octet = h * 16 + l; digits = rw (first, second) refl; pair = λ place. rw (first, second) refl; rest = rest; read = refl; parts = sym e }
+first_octet (Some h) (Some l) a b i j (Ok rest) octets first second is = grind (arith, common_steps)
 first_octet (Some h) (Some l) a b i j (Err e) octets first second is = cc is
 first_octet (Some h) None a b i j others octets first second is = cc is
 first_octet None low a b i j others octets first second is = cc is

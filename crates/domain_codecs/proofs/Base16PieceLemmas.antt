@@ -1,21 +1,16 @@
 -- texts in Base 16 that are read 64 digits at a time
-use Rattle.std.proofs.Common.{◌≡◌, ℕ, ◌*◌, ◌/◌, min, List, length, take, drop, length-take, sym, ap, ◌∙◌, arith, Result, Ok, Err}
+use Rattle.std.proofs.Common.{◌≡◌, ℕ, ◌/◌, min, List, length, take, drop, arith, Result, Ok, Err}
 use Rattle.std.specs.Prelude.{MatchResult}
-use Rattle.std.proofs.lemmas.List.{take-append-drop, drop_all}
 use Rattle.hex.specs.Hex.{decode_of, decode_sized}
 use Rattle.hex.specs.declared.error.FromHexError.{FromHexError}
-use Rattle.hex.proofs.HexLemmas.{decode_of-ok, decode_sized-twice}
 use Rattle.domain_codecs.specs.declared.codec.Codec.TheVariants.{Base16}
 use Rattle.domain_codecs.specs.Cut.{Cut}
 use Rattle.domain_codecs.proofs.JoinedLemmas.{ReadPieces, NextPiece, pieces_next}
+use Rattle.std.proofs.lemmas.Grind.{common_steps}
 
 -- the first 64 digits, or all of them
 front_of : (left : List ℕ) (count : ℕ) → count ≡ min (length left) 64 → Cut left (take count left) (drop count left)
-front_of left count is = record {
-  parts = sym (take-append-drop count left);
-  small = omega (arith, length-take count left);
-  full = λ short. drop_all count left (omega (arith, length-take count left));
-}
+front_of left count is = grind (arith, common_steps)
 
 -- they stand for octets, and those after them for others
 pub next_front : (text left built : List ℕ) (count : ℕ) → ReadPieces Base16 text left built → count ≡ min (length left) 64
@@ -28,15 +23,4 @@ pub front_read : (left front buffer octets new : List ℕ) (count : ℕ) (result
     → count ≡ min (length left) 64 → length buffer ≡ 32
     → MatchResult (decode_sized front (length (take (length front / 2) buffer))) (λ bytes. (result ≡ Ok tt) × (new ≡ bytes)) (λ e. result ≡ Err e)
     → (result ≡ Ok tt) × (new ≡ octets)
-front_read left front buffer octets new count result decoded same is size given =
-    let text : decode_of front ≡ Ok octets = ap decode_of same ∙ decoded in
-    let even = (decode_of-ok front octets text).0 in
-    let half : length front ≡ 2 * length (take (length front / 2) buffer) = omega (
-      arith,
-      length-take (length front / 2) buffer,
-      ap length same,
-      length-take count left,
-    ) in
-    let read : decode_sized front (length (take (length front / 2) buffer))
-    ≡ Ok octets = decode_sized-twice front (length (take (length front / 2) buffer)) half ∙ text in
-    rw read at given
+front_read left front buffer octets new count result decoded same is size given = grind (arith, common_steps)

@@ -7,21 +7,17 @@ use Rattle.std.proofs.lemmas.List.{append-nil, take_all, drop_all, take-map, get
 use Rattle.std.proofs.lemmas.List.Elements.{recursion_from_All}
 use Rattle.std.proofs.lemmas.List.FromFn.{length-range_with_len, get_or-range_with_len}
 use Rattle.domain_codecs.specs.Base32.{base32_from, lower_digit, upper_digit, AreDigits}
+use Rattle.std.proofs.lemmas.Grind.{common_steps}
 
 -- eight digits of five octets, step by step: v is what an octet makes of the bits before it, and others follow its digits
 first_of_five : (a : ℕ) (octets digits : List ℕ) → base32_from 8 (a % 8) octets ≡ digits → base32_from 1 0 (a ∷ octets) ≡ (a / 8) ∷ digits
 unfolding base32_from
-first_of_five a octets digits others =
-    let same : 256 * 0 + a ≡ a = omega arith in
-    ap (λ v. (v / 8) ∷ base32_from 8 (v % 8) octets) same ∙ ap (λ l. (a / 8) ∷ l) others
+first_of_five a octets digits others = grind (arith, common_steps)
 
 second_of_five : (rest b : ℕ) (octets digits : List ℕ) → let v = 256 * rest + b in base32_from 2 (v % 2) octets ≡ digits
     → base32_from 8 rest (b ∷ octets) ≡ (v / 64) ∷ (v % 64 / 2) ∷ digits
 unfolding base32_from
-second_of_five rest b octets digits others =
-    let v = 256 * rest + b in
-    let left : v % 64 % 2 ≡ v % 2 = omega arith in
-    ap (λ r. (v / 64) ∷ (v % 64 / 2) ∷ base32_from 2 r octets) left ∙ ap (λ l. (v / 64) ∷ (v % 64 / 2) ∷ l) others
+second_of_five rest b octets digits others = grind (arith, common_steps)
 
 third_of_five : (rest c : ℕ) (octets digits : List ℕ) → let v = 256 * rest + c in base32_from 16 (v % 16) octets ≡ digits
     → base32_from 2 rest (c ∷ octets) ≡ (v / 16) ∷ digits
@@ -31,18 +27,11 @@ third_of_five rest c octets digits others = ap (λ l. ((256 * rest + c) / 16) �
 fourth_of_five : (rest d : ℕ) (octets digits : List ℕ) → let v = 256 * rest + d in base32_from 4 (v % 4) octets ≡ digits
     → base32_from 16 rest (d ∷ octets) ≡ (v / 128) ∷ (v % 128 / 4) ∷ digits
 unfolding base32_from
-fourth_of_five rest d octets digits others =
-    let v = 256 * rest + d in
-    let left : v % 128 % 4 ≡ v % 4 = omega arith in
-    ap (λ r. (v / 128) ∷ (v % 128 / 4) ∷ base32_from 4 r octets) left ∙ ap (λ l. (v / 128) ∷ (v % 128 / 4) ∷ l) others
+fourth_of_five rest d octets digits others = grind (arith, common_steps)
 
 fifth_of_five : (rest e : ℕ) (octets : List ℕ) → let v = 256 * rest + e in base32_from 4 rest (e ∷ octets) ≡ (v / 32) ∷ (v % 32) ∷ base32_from 1 0 octets
 unfolding base32_from
-fifth_of_five rest e octets =
-    let v = 256 * rest + e in
-    let whole : v % 32 / 1 ≡ v % 32 = omega arith in
-    let none : v % 32 % 1 ≡ 0 = omega arith in
-    ap (λ w. (v / 32) ∷ w ∷ base32_from 1 (v % 32 % 1) octets) whole ∙ ap (λ r. (v / 32) ∷ (v % 32) ∷ base32_from 1 r octets) none
+fifth_of_five rest e octets = grind (arith, common_steps)
 
 -- the digits of five octets, and then those of the octets after them
 pub five_octets : (a b c d e : ℕ) (octets : List ℕ) →
@@ -112,9 +101,7 @@ alone xs count is = rw (is, take_all (length xs) xs (omega arith), drop_all (len
 -- the next five octets, or all where these are fewer, and those after them
 pub next_left : (xs : List ℕ) (count : ℕ) → count ≡ min (length xs) 5
     → base32_from 1 0 xs ≡ base32_from 1 0 (take count xs) ++ base32_from 1 0 (drop count xs)
-next_left (a ∷ b ∷ c ∷ d ∷ e ∷ xs) count is =
-    let five : count ≡ 5 = omega (arith, is) in
-    rw five (five_octets a b c d e xs ∙ ap (λ l. l ++ base32_from 1 0 xs) (sym (digits_of_group (a ∷ b ∷ c ∷ d ∷ e ∷ []) (lit< tt))))
+next_left (a ∷ b ∷ c ∷ d ∷ e ∷ xs) count is = grind (arith, common_steps, five_octets, digits_of_group)
 next_left [] count is = alone [] count (omega (arith, is))
 next_left (a ∷ []) count is = alone (a ∷ []) count (omega (arith, is))
 next_left (a ∷ b ∷ []) count is = alone (a ∷ b ∷ []) count (omega (arith, is))

@@ -1,12 +1,11 @@
 -- texts in Base 64, 64 characters at a time
-use Rattle.std.specs.Prelude.{min, replicate, ◌-◌, ◌/◌, ◌%◌}
+use Rattle.std.specs.Prelude.{min, ◌-◌, ◌/◌, ◌%◌}
 use Rattle.std.proofs.Common.{◌≡◌, ℕ, zero, suc, ◌+◌, ◌*◌, ◌<◌, ◌≤◌, List, [], ◌∷◌, ◌++◌, length, take, drop, slice_index, length-drop, length-take}
-use Rattle.std.proofs.Common.{length-append, refl, sym, ap, subst, ◌∙◌, arith, ◌⊎◌, inl, inr, Option, None, Some, Result, Ok, Err, true}
+use Rattle.std.proofs.Common.{refl, sym, ap, subst, ◌∙◌, arith, ◌⊎◌, inl, inr, Option, None, Some, Result, Ok, Err, true}
 use Rattle.std.proofs.lemmas.Bool.{cases_lt}
-use Rattle.std.proofs.lemmas.List.{nil_from_length, take_at, drop_at, length-replicate, take-append-drop, take_all, drop_all, append-nil, append_assoc}
+use Rattle.std.proofs.lemmas.List.{nil_from_length, take_at, drop_at, take-append-drop, take_all, drop_all, append-nil, append_assoc}
 use Rattle.base64.specs.GeneralPurpose.{decode_of, encode_of, IsBytes}
 use Rattle.base64.specs.Engines.{standard}
-use Rattle.base64.specs.Rfc4648.{encode_symbols, padding_len}
 use Rattle.base64.proofs.RoundTrip.{length-encode_symbols}
 use Rattle.base64.specs.Tables.{is_inverse}
 use Rattle.base64.specs.Decode.{IsDecodeTable, decode_outcome, decoded_bytes, decode_group, group_error, groups_error, groups_bytes, groups_before_last}
@@ -15,6 +14,7 @@ use Rattle.base64.specs.declared.decode.DecodeError.{DecodeError}
 use Rattle.base64.proofs.Canonical.{IsScanned-scan, decoded_bytes-nil}
 use Rattle.base64.proofs.EngineFacts.{decode_of-encode_of, decode_of_strict, encode_of-append, encode_of-nil}
 use Rattle.base64.proofs.Tables.{IsDecodeTable_from, are_tables_inverse}
+use Rattle.std.proofs.lemmas.Grind.{common_steps}
 
 -- ---- what is decoded are octets
 
@@ -48,10 +48,7 @@ no_error None y none = (refl, none)
 no_error (Some e) y none = cc none
 
 symbol_small : (dec s : List ℕ) (i : ℕ) → IsDecodeTable dec → slice_index s i < 256 → symbol_error dec s i ≡ None → slice_index dec (slice_index s i) < 64
-symbol_small dec s i table byte none = elim (table (slice_index s i) byte) [
-  | inl bad ↦ cc (rw bad at none)
-  | inr good ↦ good
-]
+symbol_small dec s i table byte none = grind (arith, common_steps)
 
 groups_small : (dec s : List ℕ) (q : ℕ) → IsDecodeTable dec → IsBytes s → groups_error dec s q ≡ None → IsBytes (groups_bytes dec s q)
 unfolding groups_error groups_bytes
@@ -134,12 +131,7 @@ joined_groups front back a b fine rest whole first second =
 
 -- how many characters stand for octets
 encoded_length : (octets : List ℕ) → length (encode_of standard octets) ≡ (4 * length octets + 2) / 3 + (3 - length octets % 3) % 3
-encoded_length octets =
-    length-append (encode_symbols standard.encode_table octets) (replicate (padding_len (length octets)) 61)
-    ∙ ap2 (length-encode_symbols standard.encode_table octets) (length-replicate (padding_len (length octets)) 61)
-  where
-    ap2 : {a b c d : ℕ} → a ≡ b → c ≡ d → a + c ≡ b + d
-    ap2 e f = λ i. e i + f i
+encoded_length octets = grind (arith, common_steps, length-encode_symbols)
 
 -- a text stands for whole groups: four characters for three octets, or for one or two at the end
 pub decoded_length : (text octets : List ℕ) → IsBytes text → DecodesTo text octets → length text ≡ (4 * length octets + 2) / 3 + (3 - length octets % 3) % 3

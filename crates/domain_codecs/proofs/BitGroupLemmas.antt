@@ -1,10 +1,11 @@
 -- the digits of Base 32 are the groups of five bits of their octets
-use Rattle.std.proofs.Common.{◌≡◌, ℕ, ◌+◌, ◌-◌, ◌*◌, ◌/◌, ◌%◌, ◌<◌, All, List, [], ◌∷◌, ◌++◌, length, refl, ap, ◌∙◌, arith}
+use Rattle.std.proofs.Common.{◌≡◌, ℕ, ◌+◌, ◌-◌, ◌*◌, ◌/◌, ◌%◌, ◌<◌, All, List, [], ◌∷◌, ◌++◌, length, ap, ◌∙◌, arith}
 use Rattle.std.specs.Prelude.{replicate}
 use Rattle.std.specs.List.{AllByRecursion, flat_map}
 use Rattle.std.proofs.lemmas.List.Elements.{recursion_from_All}
 use Rattle.domain_codecs.specs.Base32.{base32_from}
 use Rattle.domain_codecs.specs.BitGroups.{octet_bits, digit_bits, filled_bits}
+use Rattle.std.proofs.lemmas.Grind.{common_steps}
 
 -- so many zero bits fill the last group after so many bits
 abbrev fill : ℕ → ℕ → List ℕ
@@ -26,37 +27,7 @@ record Groups (xs : List ℕ) : Type 0 where
 
 groups_none : Groups []
 unfolding base32_from
-groups_none = record {
-  whole = λ r small. refl;
-  three = λ r small.
-      let e0 : (4 * r) / 16 % 2 ≡ r / 4 % 2 = omega arith in
-      let e1 : (4 * r) / 8 % 2 ≡ r / 2 % 2 = omega arith in
-      let e2 : (4 * r) / 4 % 2 ≡ r % 2 = omega arith in
-      let e3 : (4 * r) / 2 % 2 ≡ 0 = omega arith in
-      let e4 : (4 * r) % 2 ≡ 0 = omega arith in
-      λ i. e0 i ∷ e1 i ∷ e2 i ∷ e3 i ∷ e4 i ∷ [];
-  one = λ r small.
-      let e0 : (16 * r) / 16 % 2 ≡ r % 2 = omega arith in
-      let e1 : (16 * r) / 8 % 2 ≡ 0 = omega arith in
-      let e2 : (16 * r) / 4 % 2 ≡ 0 = omega arith in
-      let e3 : (16 * r) / 2 % 2 ≡ 0 = omega arith in
-      let e4 : (16 * r) % 2 ≡ 0 = omega arith in
-      λ i. e0 i ∷ e1 i ∷ e2 i ∷ e3 i ∷ e4 i ∷ [];
-  four = λ r small.
-      let e0 : (2 * r) / 16 % 2 ≡ r / 8 % 2 = omega arith in
-      let e1 : (2 * r) / 8 % 2 ≡ r / 4 % 2 = omega arith in
-      let e2 : (2 * r) / 4 % 2 ≡ r / 2 % 2 = omega arith in
-      let e3 : (2 * r) / 2 % 2 ≡ r % 2 = omega arith in
-      let e4 : (2 * r) % 2 ≡ 0 = omega arith in
-      λ i. e0 i ∷ e1 i ∷ e2 i ∷ e3 i ∷ e4 i ∷ [];
-  two = λ r small.
-      let e0 : (8 * r) / 16 % 2 ≡ r / 2 % 2 = omega arith in
-      let e1 : (8 * r) / 8 % 2 ≡ r % 2 = omega arith in
-      let e2 : (8 * r) / 4 % 2 ≡ 0 = omega arith in
-      let e3 : (8 * r) / 2 % 2 ≡ 0 = omega arith in
-      let e4 : (8 * r) % 2 ≡ 0 = omega arith in
-      λ i. e0 i ∷ e1 i ∷ e2 i ∷ e3 i ∷ e4 i ∷ [];
-}
+groups_none = grind (arith, common_steps)
 
 fill_same : (b c m n : ℕ) → (b + 8 * m) % 5 ≡ (c + 8 * n) % 5 → fill b m ≡ fill c n
 fill_same b c m n same = ap (λ k. replicate ((5 - k) % 5) 0) same

@@ -1,8 +1,5 @@
 -- what octets are written as in Base 16 and Base 64 is read back, and a text is read in one way
-use Rattle.std.proofs.Common.{◌≡◌, ℕ, ◌<◌, List, All, length, get_or, refl, sym, ◌∙◌, arith, inl, inr}
-use Rattle.std.proofs.lemmas.Bool.{cases_lt}
-use Rattle.std.proofs.lemmas.List.Elements.{All-get_or}
-use Rattle.std.proofs.Math.ListN.{get_or-eq_default}
+use Rattle.std.proofs.Common.{◌≡◌, ℕ, ◌<◌, List, All, get_or, refl, sym, ◌∙◌, arith}
 use Rattle.hex.specs.Hex.{encode_lower, encode_upper}
 use Rattle.hex.proofs.HexLemmas.{decode_of-encode_lower, decode_of-encode_upper}
 use Rattle.base64.specs.GeneralPurpose.{encode_of}
@@ -11,13 +8,11 @@ use Rattle.base64.proofs.EngineFacts.{decode_of-encode_of}
 use Rattle.domain_codecs.specs.Codec.{Decodes}
 use Rattle.domain_codecs.specs.declared.codec.Codec.{Codec}
 use Rattle.domain_codecs.specs.declared.codec.Codec.TheVariants.{Base16, Base32Hex, Base64}
+use Rattle.std.proofs.lemmas.Grind.{common_steps}
 
 -- what stands past the end is 0
 bytes : (octets : List ℕ) → All (λ octet. octet < 256) octets → (i : ℕ) → get_or octets i 0 < 256
-bytes octets small i = elim (cases_lt i (length octets)) [
-  | inl inside ↦ All-get_or (λ octet. octet < 256) octets i 0 inside small
-  | inr past ↦ let e : get_or octets i 0 ≡ 0 = get_or-eq_default octets 0 (omega arith) in omega (arith, e)
-]
+bytes octets small i = grind (arith, common_steps)
 
 pub lower_back : (octets : List ℕ) → All (λ octet. octet < 256) octets → Decodes Base16 (encode_lower octets) octets
 lower_back octets small = decode_of-encode_lower octets (bytes octets small)

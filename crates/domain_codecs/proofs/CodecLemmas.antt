@@ -1,12 +1,13 @@
 -- texts that are decoded
 use Rattle.std.proofs.Common.{◌≡◌, ℕ, ◌+◌, ◌*◌, ◌/◌, ◌%◌, ◌<◌, ◌≤◌, true, false, List, [], ◌∷◌, ◌++◌, length, get_or, take, drop, refl, sym, ap, ◌∙◌, arith}
-use Rattle.std.proofs.Common.{lit<, lit≤}
+use Rattle.std.proofs.Common.{lit<}
 use Rattle.std.specs.Prelude.{nat_le, unwrap_or}
 use Rattle.std.proofs.lemmas.List.{take_more, drop_more, append_assoc, append-nil, drop_all}
 use Rattle.std.proofs.lemmas.Bool.Decides.{nat_tests}
 use Rattle.hex.specs.Hex.{encode_with}
 use Rattle.domain_codecs.proofs.Scale.{IsScale, no_bits, one_bit, two_bits, three_bits, four_bits, five_bits, six_bits, seven_bits}
 use Rattle.domain_codecs.specs.Codec.{base32_value, base32_octets, base32_digits, IsBase32}
+use Rattle.std.proofs.lemmas.Grind.{common_steps}
 
 -- what a digit of five bits makes of it
 pub record Widens (scale : ℕ) : Type 0 where
@@ -18,70 +19,14 @@ pub record Widens (scale : ℕ) : Type 0 where
   pub octet : (value : ℕ) → 256 ≤ 32 * scale → value < 32 * scale → value / (32 * scale / 256) < 256
 
 pub widens : (scale : ℕ) → IsScale scale → Widens scale
-widens scale no_bits = record {
-  some = lit< tt;
-  small = lit≤ tt;
-  narrow = λ _. five_bits;
-  wide = λ h. absurd (omega arith);
-  left = λ h. omega arith;
-  octet = λ v h below. absurd (omega arith);
-}
-widens scale one_bit = record {
-  some = lit< tt;
-  small = lit≤ tt;
-  narrow = λ _. six_bits;
-  wide = λ h. absurd (omega arith);
-  left = λ h. omega arith;
-  octet = λ v h below. absurd (omega arith);
-}
-widens scale two_bits = record {
-  some = lit< tt;
-  small = lit≤ tt;
-  narrow = λ _. seven_bits;
-  wide = λ h. absurd (omega arith);
-  left = λ h. omega arith;
-  octet = λ v h below. absurd (omega arith);
-}
-widens scale three_bits = record {
-  some = lit< tt;
-  small = lit≤ tt;
-  narrow = λ h. absurd (omega arith);
-  wide = λ h. no_bits;
-  left = λ h. lit< tt;
-  octet = λ v h below. omega arith;
-}
-widens scale four_bits = record {
-  some = lit< tt;
-  small = lit≤ tt;
-  narrow = λ h. absurd (omega arith);
-  wide = λ h. one_bit;
-  left = λ h. lit< tt;
-  octet = λ v h below. omega arith;
-}
-widens scale five_bits = record {
-  some = lit< tt;
-  small = lit≤ tt;
-  narrow = λ h. absurd (omega arith);
-  wide = λ h. two_bits;
-  left = λ h. lit< tt;
-  octet = λ v h below. omega arith;
-}
-widens scale six_bits = record {
-  some = lit< tt;
-  small = lit≤ tt;
-  narrow = λ h. absurd (omega arith);
-  wide = λ h. three_bits;
-  left = λ h. lit< tt;
-  octet = λ v h below. omega arith;
-}
-widens scale seven_bits = record {
-  some = lit< tt;
-  small = lit≤ tt;
-  narrow = λ h. absurd (omega arith);
-  wide = λ h. four_bits;
-  left = λ h. lit< tt;
-  octet = λ v h below. omega arith;
-}
+widens scale no_bits = grind (arith, common_steps, five_bits)
+widens scale one_bit = grind (arith, common_steps, six_bits)
+widens scale two_bits = grind (arith, common_steps, seven_bits)
+widens scale three_bits = grind (arith, common_steps, no_bits)
+widens scale four_bits = grind (arith, common_steps, one_bit)
+widens scale five_bits = grind (arith, common_steps, two_bits)
+widens scale six_bits = grind (arith, common_steps, three_bits)
+widens scale seven_bits = grind (arith, common_steps, four_bits)
 
 -- a text in Base 32 that is read up to a place
 pub record Digits (text octets : List ℕ) (scale rest at : ℕ) : Type 0 where

@@ -1,11 +1,11 @@
 -- texts that are gone through in pieces of 64 characters, and what each piece stands for
 use Rattle.std.proofs.Common.{◌≡◌, ◌≢◌, ℕ, zero, suc, ◌+◌, ◌*◌, ◌/◌, ◌%◌, ◌<◌, ◌≤◌, true, false, List, [], ◌∷◌, ◌++◌, length, take, drop, get_or, length-append}
-use Rattle.std.proofs.Common.{length-take, refl, sym, ap, subst, ◌∙◌, arith, inl, inr, Option, None, Some, Ok, Err}
-use Rattle.std.specs.Prelude.{◌↔◌, Bool, not, nat_le, is_some, unwrap_or, IsTrue, MatchOption}
+use Rattle.std.proofs.Common.{refl, sym, ap, subst, ◌∙◌, arith, inl, inr, Option, None, Some, Ok, Err}
+use Rattle.std.specs.Prelude.{◌↔◌, Bool, not, nat_le, is_some, IsTrue, MatchOption}
 use Rattle.std.specs.List.{AllPass}
-use Rattle.std.proofs.Math.ListN.{get_or-append, get_or-eq_default}
+use Rattle.std.proofs.Math.ListN.{get_or-append}
 use Rattle.std.proofs.Math.Seq.{get_or-append_seam}
-use Rattle.std.proofs.lemmas.Bool.{cases_Bool, cases_lt}
+use Rattle.std.proofs.lemmas.Bool.{cases_Bool}
 use Rattle.std.proofs.lemmas.List.{take_at, drop_at, append-nil, append_assoc, map-append, length-map, get_or-append-add, take-append-drop}
 use Rattle.base64.specs.GeneralPurpose.{IsBytes}
 use Rattle.base64.specs.Engines.{standard}
@@ -15,7 +15,7 @@ use Rattle.hex.proofs.HexLemmas.{decode_of-even, decode_of-ok}
 use Rattle.hex.proofs.Pairs.{cons_byte, decode_pairs-ok_pair}
 use Rattle.domain_codecs.specs.declared.codec.Codec.{Codec}
 use Rattle.domain_codecs.specs.declared.codec.Codec.TheVariants.{Base16, Base32Hex, Base64}
-use Rattle.domain_codecs.specs.Codec.{Decodes, IsText, BuildFault, IsFirstOther, is_digit, base32_value, base32_octets, base32_digits, IsBase32}
+use Rattle.domain_codecs.specs.Codec.{Decodes, IsText, BuildFault, IsFirstOther, is_digit, base32_octets, base32_digits, IsBase32}
 use Rattle.domain_codecs.specs.Cut.{Cut}
 use Rattle.domain_octets.specs.Words.{AreOctets}
 use Rattle.domain_codecs.proofs.CodecBackLemmas.{decodes_once}
@@ -27,13 +27,11 @@ use Rattle.domain_octets.specs.declared.error.AppendError.{AppendError}
 use Rattle.domain_octets.specs.declared.error.AppendError.TheVariants.{ShortBuf, OutOfMemory}
 use Rattle.base64.specs.declared.decode.DecodeError.{DecodeError}
 use Rattle.base64.specs.GeneralPurpose as base64
+use Rattle.std.proofs.lemmas.Grind.{common_steps}
 
 -- octets are what the library `base64` takes for bytes
 pub bytes_of : (text : List ℕ) → AreOctets text → IsBytes text
-bytes_of text all i = elim (cases_lt i (length text)) [
-  | inl inside ↦ all i 0 inside
-  | inr past ↦ let none : get_or text i 0 ≡ 0 = get_or-eq_default text 0 past in omega (arith, none)
-]
+bytes_of text all i = grind (arith, common_steps)
 
 -- ---- one character after another
 
@@ -63,9 +61,7 @@ pass_back codec front back all = λ i d below. let here = all (length front + i)
 -- what stands in a buffer is a piece, where the buffer is full or the text is over
 pub cut_at : (text buffer after : List ℕ) (count : ℕ) → length buffer ≡ 64 → text ≡ take count buffer ++ after → count ≤ 64
     → (count < 64 → after ≡ []) → Cut text (take count buffer) after
-cut_at text buffer after count size parts small full =
-    let same : length (take count buffer) ≡ count = omega (arith, length-take count buffer) in
-    record { parts = parts; small = omega arith; full = λ short. full (omega arith) }
+cut_at text buffer after count size parts small full = grind (arith, common_steps)
 
 -- what the parts of a text stand for, one after the other
 pub record Halves (codec : Codec) (piece after octets : List ℕ) : Type 0 where
@@ -84,13 +80,7 @@ nothing Base64 = subst (λ t. DecodesTo t []) (encode_of-nil standard) (decode_o
 
 all_in_front : (codec : Codec) (text piece after octets : List ℕ) → Cut text piece after → after ≡ [] → Decodes codec text octets
     → Halves codec piece after octets
-all_in_front codec text piece after octets cut none decoded = record {
-  front = octets;
-  back = [];
-  first = subst (λ t. Decodes codec t octets) (cut.parts ∙ ap (λ l. piece ++ l) none ∙ append-nil piece) decoded;
-  others = subst (λ t. Decodes codec t []) (sym none) (nothing codec);
-  parts = sym (append-nil octets);
-}
+all_in_front codec text piece after octets cut none decoded = grind (arith, common_steps, nothing)
 
 -- a pair of digits in Base 16, and those after it
 pair_more : (i a b octet : ℕ) (text rest : List ℕ) → pair_value a b i ≡ Ok octet → decode_pairs (i + 2) text ≡ Ok rest
@@ -153,12 +143,7 @@ no_rest value digits = let none : value % 1 ≡ 0 = omega arith in ap (λ rest. 
 eight : (a b c d e f g h : ℕ) (digits : List ℕ) → base32_octets 1 0 (a ∷ b ∷ c ∷ d ∷ e ∷ f ∷ g ∷ h ∷ digits)
     ≡ base32_octets 1 0 (a ∷ b ∷ c ∷ d ∷ e ∷ f ∷ g ∷ h ∷ []) ++ base32_octets 1 0 digits
 unfolding base32_octets
-eight a b c d e f g h digits =
-    let one : ℕ = (32 * (32 * 0 + a) + b) % 4 in
-    let two : ℕ = (32 * (32 * one + c) + d) % 16 in
-    let three : ℕ = (32 * two + e) % 2 in
-    let four : ℕ = (32 * (32 * three + f) + g) % 8 in
-    ap (λ l. base32_octets 1 0 (a ∷ b ∷ c ∷ d ∷ e ∷ f ∷ g ∷ h ∷ []) ++ l) (no_rest (32 * four + h) digits)
+eight a b c d e f g h digits = grind (arith, common_steps)
 
 eights : (n : ℕ) (front back : List ℕ) → length front ≡ 8 * n → base32_octets 1 0 (front ++ back) ≡ base32_octets 1 0 front ++ base32_octets 1 0 back
 unfolding base32_octets
@@ -172,11 +157,7 @@ eights (suc n) (a ∷ b ∷ c ∷ d ∷ []) back size = absurd (omega arith)
 eights (suc n) (a ∷ b ∷ c ∷ d ∷ e ∷ []) back size = absurd (omega arith)
 eights (suc n) (a ∷ b ∷ c ∷ d ∷ e ∷ f ∷ []) back size = absurd (omega arith)
 eights (suc n) (a ∷ b ∷ c ∷ d ∷ e ∷ f ∷ g ∷ []) back size = absurd (omega arith)
-eights (suc n) (a ∷ b ∷ c ∷ d ∷ e ∷ f ∷ g ∷ h ∷ front) back size =
-    let five : List ℕ = base32_octets 1 0 (a ∷ b ∷ c ∷ d ∷ e ∷ f ∷ g ∷ h ∷ []) in
-    eight a b c d e f g h (front ++ back) ∙ ap (λ l. five ++ l) (eights n front back (omega arith))
-    ∙ sym (append_assoc five (base32_octets 1 0 front) (base32_octets 1 0 back))
-    ∙ ap (λ l. l ++ base32_octets 1 0 back) (sym (eight a b c d e f g h front))
+eights (suc n) (a ∷ b ∷ c ∷ d ∷ e ∷ f ∷ g ∷ h ∷ front) back size = grind (arith, common_steps, (eights n front back (omega arith)))
 
 halves32 : (piece after octets : List ℕ) → length piece ≡ 64 → IsBase32 (piece ++ after) octets → Halves Base32Hex piece after octets
 halves32 piece after octets full decoded =
@@ -211,12 +192,7 @@ of_two Base64 piece after octets c bytes full decoded = halves64 piece after oct
 pub halves : (codec : Codec) (text piece after octets : List ℕ) → IsBytes text → Cut text piece after → Decodes codec text octets
     → Halves codec piece after octets
 halves codec text piece [] octets bytes cut decoded = all_in_front codec text piece [] octets cut refl decoded
-halves codec text piece (c ∷ after) octets bytes cut decoded = elim (cases_lt (length piece) 64) [
-  | inl short ↦ cc (cut.full short)
-  | inr long ↦
-      let full : length piece ≡ 64 = omega (arith, cut.small) in
-      of_two codec piece after octets c (subst IsBytes cut.parts bytes) full (subst (λ t. Decodes codec t octets) cut.parts decoded)
-]
+halves codec text piece (c ∷ after) octets bytes cut decoded = grind (arith, common_steps, of_two)
 
 bytes_after : (text piece after : List ℕ) → text ≡ piece ++ after → IsBytes text → IsBytes after
 bytes_after text piece after parts bytes =
@@ -236,9 +212,7 @@ pub record NextPiece (codec : Codec) (text piece after built : List ℕ) : Type 
   pub more : ReadPieces codec text after (built ++ octets)
 
 pub pieces_begin : (codec : Codec) (text left built : List ℕ) → left ≡ text → built ≡ [] → AreOctets text → IsText codec text → ReadPieces codec text left built
-pieces_begin codec text left built is none all decoded =
-    subst (ReadPieces codec text left) (sym none)
-    (subst (λ l. ReadPieces codec text l []) (sym is) (record { rest = decoded.0; decoded = decoded.1; whole = decoded.1; bytes = bytes_of text all }))
+pieces_begin codec text left built is none all decoded = grind (arith, common_steps)
 
 pub pieces_next : (codec : Codec) (text left piece after built : List ℕ) → ReadPieces codec text left built → Cut left piece after
     → NextPiece codec text piece after built
@@ -270,10 +244,7 @@ pieces_end codec text left built so_far none =
 -- ---- the pieces of a text in Base 64
 
 long_cut : (left piece after : List ℕ) (c : ℕ) → Cut left piece (c ∷ after) → length piece ≡ 64
-long_cut left piece after c cut = elim (cases_lt (length piece) 64) [
-  | inl short ↦ let none = cut.full short in absurd (cc)
-  | inr long ↦ omega (arith, cut.small)
-]
+long_cut left piece after c cut = grind (arith, common_steps)
 
 pub passed_begin : (text left : List ℕ) → left ≡ text → AreOctets text → Passed text left
 passed_begin text left is all = subst (Passed text) (sym is) (passed_none text (bytes_of text all))
@@ -349,12 +320,7 @@ base32_short scale rest (digit ∷ digits) = elim (cases_Bool (nat_le 256 (32 * 
 
 no_longer : (codec : Codec) (text octets : List ℕ) → IsBytes text → Decodes codec text octets → length octets ≤ length text
 no_longer Base16 text octets bytes decoded = omega (arith, (decode_of-ok text octets decoded).2)
-no_longer Base32Hex text octets bytes decoded = omega (
-  arith,
-  ap length decoded.value,
-  base32_short 1 0 (base32_digits text),
-  length-map text (λ c. unwrap_or (base32_value c) 0),
-)
+no_longer Base32Hex text octets bytes decoded = grind (arith, common_steps, base32_short)
 no_longer Base64 text octets bytes decoded = omega (arith, decoded_length text octets bytes decoded)
 
 -- an array of 64 octets takes those of a piece

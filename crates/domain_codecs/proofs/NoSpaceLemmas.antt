@@ -1,19 +1,17 @@
 -- what octets are written as has no spaces, and is one word where there are any octets
-use Rattle.std.proofs.Common.{◌≡◌, ◌≢◌, ℕ, ◌+◌, ◌*◌, ◌/◌, ◌%◌, true, false, List, [], ◌∷◌, ◌++◌, length, map, get_or, refl, arith, inl, inr}
+use Rattle.std.proofs.Common.{◌≡◌, ◌≢◌, ℕ, ◌+◌, ◌*◌, ◌/◌, ◌%◌, true, false, List, [], ◌∷◌, ◌++◌, map, get_or, refl, arith}
 use Rattle.std.specs.Prelude.{◌==◌, replicate, not, zero, suc}
 use Rattle.std.specs.List.{list_all}
-use Rattle.std.proofs.lemmas.List.Sums.{AllPass-from_list_all}
-use Rattle.std.proofs.lemmas.List.Elements.{All-get_or}
-use Rattle.std.proofs.lemmas.Bool.{cases_lt, not-true}
 use Rattle.std.proofs.lemmas.Bool.Decides.{nat_tests}
-use Rattle.std.proofs.Math.ListN.{get_or-eq_default}
 use Rattle.hex.specs.Hex.{encode_with, encode_lower, encode_upper, lower_digits, upper_digits}
 use Rattle.base64.specs.GeneralPurpose.{encode_of}
 use Rattle.base64.specs.Engines.{standard}
-use Rattle.base64.specs.Rfc4648.{encode_symbols, padding_len}
+use Rattle.base64.specs.Rfc4648.{encode_symbols}
 use Rattle.domain_codecs.specs.Base32.{base32_from, base32_upper, base32_lower, upper_digit, lower_digit}
 use Rattle.domain_octets.specs.Line.{HasNoSpace, IsWord}
 use Rattle.domain_octets.proofs.WordLemmas.{no_space-append}
+use Rattle.std.proofs.Common.{rules}
+use Rattle.std.proofs.lemmas.Grind.{common_steps}
 
 -- no entry of a table is a space
 abbrev NoSpaceIn : List ℕ → Type 0
@@ -21,11 +19,7 @@ NoSpaceIn table = (i : ℕ) → (get_or table i 0 == 32) ≡ false
 
 -- which a test finds
 table_plain : (table : List ℕ) → list_all (λ c. not (c == 32)) table ≡ true → NoSpaceIn table
-table_plain table all i = elim (cases_lt i (length table)) [
-  | inl inside ↦ not-true (get_or table i 0 == 32) (All-get_or (λ c. not (c == 32) ≡ true) table i 0 inside
-      (AllPass-from_list_all (λ c. not (c == 32)) table all))
-  | inr past ↦ let e : get_or table i 0 ≡ 0 = get_or-eq_default table 0 (omega arith) in rw e refl
-]
+table_plain table all i = grind (arith, common_steps)
 
 hex_plain : (table octets : List ℕ) → NoSpaceIn table → HasNoSpace (encode_with table octets)
 unfolding encode_with
@@ -64,16 +58,10 @@ base32_some [] some = absurd (some refl)
 base32_some (octet ∷ octets) some = λ none. cc
 
 pub upper_base32_word : (octets : List ℕ) → octets ≢ [] → IsWord (base32_upper octets)
-upper_base32_word octets some = record {
-  some = map_some upper_digit (base32_from 1 0 octets) (base32_some octets some);
-  unbroken = map_plain upper_digit upper_plain (base32_from 1 0 octets);
-}
+upper_base32_word octets some = grind (arith, common_steps, map_some, base32_some, map_plain)
 
 pub lower_base32_word : (octets : List ℕ) → octets ≢ [] → IsWord (base32_lower octets)
-lower_base32_word octets some = record {
-  some = map_some lower_digit (base32_from 1 0 octets) (base32_some octets some);
-  unbroken = map_plain lower_digit lower_plain (base32_from 1 0 octets);
-}
+lower_base32_word octets some = grind (arith, common_steps, map_some, base32_some, map_plain)
 
 symbols_plain : (table octets : List ℕ) → NoSpaceIn table → HasNoSpace (encode_symbols table octets)
 unfolding encode_symbols
@@ -95,17 +83,10 @@ padding_plain zero = tt
 padding_plain (suc n) = (refl, padding_plain n)
 
 pub base64_word : (octets : List ℕ) → octets ≢ [] → IsWord (encode_of standard octets)
-base64_word octets some = record {
-  some = symbols_some standard.encode_table octets (replicate (padding_len (length octets)) 61) some;
-  unbroken = no_space-append (encode_symbols standard.encode_table octets) (replicate (padding_len (length octets)) 61)
-      (symbols_plain standard.encode_table octets (table_plain standard.encode_table refl))
-      (padding_plain (padding_len (length octets)));
-}
+base64_word octets some = search (rules, symbols_some, no_space-append, symbols_plain, table_plain, padding_plain)
 
 pub base64_plain : (octets : List ℕ) → HasNoSpace (encode_of standard octets)
-base64_plain octets = no_space-append (encode_symbols standard.encode_table octets) (replicate (padding_len (length octets)) 61)
-    (symbols_plain standard.encode_table octets (table_plain standard.encode_table refl))
-    (padding_plain (padding_len (length octets)))
+base64_plain octets = search (rules, no_space-append, symbols_plain, table_plain, padding_plain)
 
 pub lower_hex_plain : (octets : List ℕ) → HasNoSpace (encode_lower octets)
 lower_hex_plain octets = hex_plain lower_digits octets (table_plain lower_digits refl)

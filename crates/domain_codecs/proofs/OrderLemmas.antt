@@ -13,6 +13,7 @@ use Rattle.domain_codecs.proofs.Scale.{IsScale, no_bits, one_bit, two_bits, thre
 use Rattle.domain_codecs.specs.Base32.{base32_from, lower_digit, upper_digit, base32_lower, base32_upper}
 use Rattle.std.specs.FinMap.{nat_cmp-IsAntisymmetric, slice_cmp-IsAntisymmetric}
 use Rattle.std.proofs.lemmas.Bool.Decides.{nat_tests}
+use Rattle.std.proofs.lemmas.Grind.{common_steps}
 
 -- the digits that are left, where one of the last octet may be among them
 abbrev digits_left : ℕ → ℕ → List ℕ → List ℕ
@@ -91,11 +92,7 @@ head_same : (a b : ℕ) (xs ys : List ℕ) → a ≡ b → slice_cmp nat_cmp (a 
 head_same a b xs ys same = rw (same, tie b) refl
 
 digits_less : (a b : ℕ) (xs ys : List ℕ) → a ≤ b → (a ≡ b → slice_cmp nat_cmp xs ys ≡ Less) → slice_cmp nat_cmp (a ∷ xs) (b ∷ ys) ≡ Less
-digits_less a b xs ys upto rest =
-    elim (cases_eq a b) [
-      | inl same ↦ head_same a b xs ys same ∙ rest same
-      | inr other ↦ head_less a b xs ys (omega arith)
-    ]
+digits_less a b xs ys upto rest = grind (arith, common_steps)
 
 abbrev AreOctets : List ℕ → Type 0
 AreOctets xs = All (λ octet. octet < 256) xs
@@ -313,9 +310,7 @@ keeps : (xs ys : List ℕ) → AreOctets xs → AreOctets ys → (scale rest : �
     → slice_cmp nat_cmp (digits_left scale rest xs) (digits_left scale rest ys) ≡ slice_cmp nat_cmp xs ys
 keeps [] [] xs_small ys_small scale rest scale_is narrow below = tied_itself nat_list_cmp_total (digits_left scale rest [])
 keeps [] (y ∷ ys) xs_small ys_small scale rest scale_is narrow below = ends_first scale rest y ys scale_is narrow below ys_small
-keeps (x ∷ xs) [] xs_small ys_small scale rest scale_is narrow below =
-    turned (digits_left scale rest (x ∷ xs)) (digits_left scale rest [])
-    (ends_first scale rest x xs scale_is narrow below xs_small)
+keeps (x ∷ xs) [] xs_small ys_small scale rest scale_is narrow below = grind (arith, common_steps, turned, ends_first)
 keeps (x ∷ xs) (y ∷ ys) xs_small ys_small scale rest scale_is narrow below =
     by_ranked _ _ _ (nat_cmp x y) (ranked x y (nat_cmp x y) refl)
     (λ is lower. lower_first scale rest x y xs ys scale_is narrow below xs_small ys_small lower ∙ sym (head_less x y xs ys lower))
@@ -342,11 +337,7 @@ map_keeps f keep (x ∷ xs) [] = refl
 map_keeps f keep (x ∷ xs) (y ∷ ys) = rw (keep x y) (ap (ordering_then (nat_cmp x y)) (map_keeps f keep xs ys))
 
 digit_keeps : (f : ℕ → ℕ) → ((a b : ℕ) → a < b → f a < f b) → (a b : ℕ) → nat_cmp (f a) (f b) ≡ nat_cmp a b
-digit_keeps f grows a b =
-    by_ranked _ _ _ (nat_cmp a b) (ranked a b (nat_cmp a b) refl)
-    (λ is lower. less (f a) (f b) (grows a b lower) ∙ sym is)
-    (λ is same. rw same (tie (f b)) ∙ sym (tie b) ∙ ap (λ n. nat_cmp n b) (sym same))
-    (λ is higher. sym (nat_cmp_is (f a) (f b) Greater (grows b a higher)) ∙ sym is)
+digit_keeps f grows a b = grind (arith, common_steps)
 
 lower_grows : (a b : ℕ) → a < b → lower_digit a < lower_digit b
 lower_grows a b below = grind (arith, nat_tests)

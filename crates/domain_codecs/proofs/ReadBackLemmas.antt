@@ -11,6 +11,7 @@ use Rattle.std.proofs.lemmas.List.Elements.{recursion_from_All, All-from_recursi
 use Rattle.domain_codecs.specs.declared.codec.Codec.TheVariants.{Base32Hex}
 use Rattle.domain_codecs.specs.Base32.{base32_from, base32_lower, base32_upper, lower_digit, upper_digit}
 use Rattle.domain_codecs.specs.Codec.{base32_value, is_digit, is_base32_length, base32_octets, base32_digits, IsBase32}
+use Rattle.std.proofs.lemmas.Grind.{common_steps}
 
 -- the digits that go on from the bits left over of the last octet, after those that are read, are that octet and those that follow
 pub record Back (xs : List ℕ) : Type 0 where
@@ -22,13 +23,7 @@ pub record Back (xs : List ℕ) : Type 0 where
 
 back_none : Back []
 unfolding base32_octets base32_from
-back_none = record {
-  whole = refl;
-  three = λ a h. let e : (32 * (a / 8) + 4 * (a % 8)) / 4 ≡ a = omega arith in λ i. e i ∷ [];
-  one = λ b h. let e : (32 * (32 * (b / 64) + b % 64 / 2) + 16 * (b % 64 % 2)) / 16 ≡ b = omega arith in λ i. e i ∷ [];
-  four = λ c h. let e : (32 * (c / 16) + 2 * (c % 16)) / 2 ≡ c = omega arith in λ i. e i ∷ [];
-  two = λ d h. let e : (32 * (32 * (d / 128) + d % 128 / 4) + 8 * (d % 128 % 4)) / 8 ≡ d = omega arith in λ i. e i ∷ [];
-}
+back_none = grind (arith, common_steps)
 
 back_more : (y : ℕ) (ys : List ℕ) → y < 256 → Back ys → Back (y ∷ ys)
 unfolding base32_octets base32_from
@@ -104,13 +99,7 @@ onward n d ds h = let e : n + length (d ∷ ds) ≡ n + 1 + length ds = omega ar
 
 digits_none : Digits []
 unfolding base32_from
-digits_none = record {
-  whole = λ r n l e. (tt, counted (n + 0) 0 (omega arith));
-  three = λ r n l e. ((omega arith, tt), counted (n + 1) 2 (omega arith));
-  one = λ r n l e. ((omega arith, tt), counted (n + 1) 4 (omega arith));
-  four = λ r n l e. ((omega arith, tt), counted (n + 1) 5 (omega arith));
-  two = λ r n l e. ((omega arith, tt), counted (n + 1) 7 (omega arith));
-}
+digits_none = grind (arith, common_steps)
 
 digits_more : (y : ℕ) (ys : List ℕ) → y < 256 → Digits ys → Digits (y ∷ ys)
 unfolding base32_from

@@ -1,5 +1,5 @@
 -- a text that is refused stands for no octets
-use Rattle.std.proofs.Common.{◌≡◌, ℕ, List, true, false, sym, ap, ◌∙◌, arith, Option, Result, Ok, Err}
+use Rattle.std.proofs.Common.{◌≡◌, ℕ, List, true, false, sym, ◌∙◌, arith, Option, Result, Ok, Err}
 use Rattle.std.specs.Prelude.{◌↔◌, IsErrOf, IsErrAnd}
 use Rattle.std.specs.List.{AllPass}
 use Rattle.hex.proofs.HexLemmas.{decode_of-ok}
@@ -8,12 +8,10 @@ use Rattle.domain_codecs.specs.declared.codec.Codec.TheVariants.{Base16, Base32H
 use Rattle.domain_codecs.specs.Codec.{is_digit, Decodes, IsFirstOther, HasBadChar, HasBadLength, HasNoRoom, TextFault}
 use Rattle.domain_codecs.specs.declared.codec.DecodeError.{DecodeError}
 use Rattle.domain_codecs.specs.declared.codec.DecodeError.TheVariants.{IllegalChar, ShortInput, ShortBuf, OutOfMemory}
+use Rattle.std.proofs.lemmas.Grind.{common_steps}
 
 other_passes : (codec : Codec) (text : List ℕ) (c : ℕ) → IsFirstOther codec text c → AllPass (is_digit codec) text → ⊥
-other_passes codec text c first all =
-    let yes : is_digit codec c ≡ true = ap (is_digit codec) first.is ∙ all first.place 0 first.below in
-    let both : true ≡ false = sym yes ∙ first.other in
-    cc
+other_passes codec text c first all = grind (arith, common_steps)
 
 pub refused_char : (codec : Codec) (text : List ℕ) (c : ℕ) → HasBadChar codec text c → (octets : List ℕ) → Decodes codec text octets → ⊥
 refused_char Base16 text c refused octets decoded = other_passes Base16 text c refused.1 (decode_of-ok text octets decoded).1

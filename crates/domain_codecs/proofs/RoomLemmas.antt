@@ -1,11 +1,12 @@
 -- room in a builder that is filled part by part
-use Rattle.std.proofs.Common.{◌≡◌, ℕ, ◌+◌, ◌≤◌, ◌∙◌, List, [], ◌++◌, length, refl, sym, subst, ap, arith, length-append, Option, None, Some, Result, Ok, Err}
+use Rattle.std.proofs.Common.{◌≡◌, ℕ, ◌+◌, ◌≤◌, List, [], ◌++◌, length, refl, sym, subst, arith, Option, None, Some, Result, Ok, Err}
 use Rattle.std.specs.Prelude.{◌↔◌, IsErrOf, IsErrAnd, IfErr, IsNone}
 use Rattle.domain_octets.specs.Limit.{IsOver, HasRoom}
 use Rattle.domain_octets.specs.declared.error.AppendError.{AppendError}
 use Rattle.domain_octets.specs.declared.error.AppendError.TheVariants.{ShortBuf, OutOfMemory}
 use Rattle.domain_codecs.specs.declared.codec.Codec.{Codec}
 use Rattle.domain_codecs.specs.Codec.{Decodes, BuildFault}
+use Rattle.std.proofs.lemmas.Grind.{common_steps}
 
 pub over_more : (limit : Option ℕ) (m n : ℕ) → m ≤ n → IsOver limit m → IsOver limit n
 over_more None m n le over = over
@@ -18,17 +19,12 @@ room_for_none (Some k) over = omega arith
 -- what was appended whole had room
 pub room_for_part : {X : Type 0} (limit : Option ℕ) (x : X) (r : Result X AppendError) (built part after : List ℕ) → r ≡ Ok x → after ≡ built ++ part
     → IsErrOf r ShortBuf ↔ IsOver limit (length built + length part) → HasRoom limit (length after)
-room_for_part limit x r built part after is grown short over =
-    let e : length after ≡ length built + length part = ap length grown ∙ length-append built part in
-    let wrong = short.1 (rw e at over) in
-    cc
+room_for_part limit x r built part after is grown short over = grind (arith, common_steps)
 
 -- where a part has no room, neither has the whole
 pub no_room_for_whole : (limit : Option ℕ) (built part rest whole : List ℕ) → (built ++ part) ++ rest ≡ whole
     → IsOver limit (length built + length part) → IsOver limit (length whole)
-no_room_for_whole limit built part rest whole parts over =
-    over_more limit (length built + length part) (length whole)
-    (omega (arith, ap length parts, length-append (built ++ part) rest, length-append built part)) over
+no_room_for_whole limit built part rest whole parts over = grind (arith, common_steps)
 
 -- a part that is refused on the way to the octets of a text
 pub build_stops : {X : Type 0} (codec : Codec) (limit : Option ℕ) (text built part rest : List ℕ) (r : Result X AppendError)

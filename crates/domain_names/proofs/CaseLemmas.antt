@@ -2,7 +2,7 @@
 use Rattle.std.proofs.Common.{◌≡◌, ℕ, ◌-◌, ◌<◌, ◌≤◌, List, [], ◌∷◌, ◌++◌, length, map, take, drop, refl, sym, ap, ◌∙◌, arith, length-append}
 use Rattle.std.specs.Char.{to_ascii_lowercase}
 use Rattle.std.specs.List.{AllByRecursion}
-use Rattle.std.proofs.lemmas.List.{map-append, length-map, take-append-drop, drop_at, drop-append-le}
+use Rattle.std.proofs.lemmas.List.{length-map, take-append-drop, drop_at, drop-append-le}
 use Rattle.std.proofs.lemmas.List.Elements.{All-map, All-weaker}
 use Rattle.std.proofs.lemmas.Bool.Decides.{nat_tests}
 use Rattle.std.specs.Bool.{Decides}
@@ -11,6 +11,7 @@ use Rattle.domain_names.specs.Name.{wire_of, lowered, IsLabel, IsName, IsSame, I
 use Rattle.domain_names.specs.Wire.{labels_of, IsWire}
 use Rattle.domain_names.specs.Words.{Name}
 use Rattle.domain_names.proofs.WireLemmas.{labels_of-wire_of}
+use Rattle.std.proofs.lemmas.Grind.{common_steps}
 
 -- a length is no letter
 low_length : (n : ℕ) → n ≤ 63 → to_ascii_lowercase n ≡ n
@@ -18,14 +19,7 @@ low_length n small = grind (arith, nat_tests)
 
 wire_of-lowered : (labels : List (List ℕ)) → AllByRecursion IsLabel labels → wire_of (lowered labels) ≡ map to_ascii_lowercase (wire_of labels)
 wire_of-lowered [] all = refl
-wire_of-lowered (label ∷ labels) all =
-    let label_is : IsLabel label = all.0 in
-    rw (
-      low_length (length label) label_is.fits,
-      length-map label to_ascii_lowercase,
-      map-append to_ascii_lowercase label (wire_of labels),
-      wire_of-lowered labels all.1,
-    )
+wire_of-lowered (label ∷ labels) all = grind (arith, common_steps, (wire_of-lowered labels all.1))
 
 pub lowered_wire : (octets : List ℕ) → IsWire octets → wire_of (lowered (labels_of octets)) ≡ map to_ascii_lowercase octets
 lowered_wire octets wire = wire_of-lowered (labels_of octets) wire.valid.of_labels ∙ ap (map to_ascii_lowercase) (sym wire.spelled)
@@ -51,10 +45,7 @@ labels-lowered (label ∷ labels) all =
     )
 
 pub IsName-lowered : (labels : List (List ℕ)) → IsName labels → IsName (lowered labels)
-IsName-lowered labels valid = record {
-  of_labels = labels-lowered labels valid.of_labels;
-  fits = omega (arith, valid.fits, ap length (wire_of-lowered labels valid.of_labels), length-map (wire_of labels) to_ascii_lowercase);
-}
+IsName-lowered labels valid = grind (arith, common_steps, labels-lowered, wire_of-lowered)
 
 pub same_from_octets : (a b : List ℕ) → IsWire a → IsWire b → map to_ascii_lowercase a ≡ map to_ascii_lowercase b → IsSame (labels_of a) (labels_of b)
 same_from_octets a b a_wire b_wire same =

@@ -3,8 +3,7 @@ use Rattle.std.proofs.Common.{◌≡◌, ℕ, ◌+◌, ◌-◌, Bool, true, fals
 use Rattle.std.proofs.Common.{inr, ◌⊎◌, arith, nat_eq, Option, None, Some}
 use Rattle.std.specs.List.{common_prefix_len}
 use Rattle.std.specs.declared.cmp.Ordering.{Ordering}
-use Rattle.std.specs.Ordering.{nat_cmp}
-use Rattle.std.specs.Cmp.Lexicographic.{slice_cmp, pointwise, pointwise_decides, bytes_decides}
+use Rattle.std.specs.Cmp.Lexicographic.{pointwise, pointwise_decides, bytes_decides}
 use Rattle.std.specs.Char.{to_ascii_lowercase}
 use Rattle.std.proofs.lemmas.Bool.{cases_Bool, true≢false, and_parts, cases_lt}
 use Rattle.std.proofs.lemmas.List.{append-nil, length-drop, length-reverse, length-map, reverse-append, take-append-drop, drop-map}
@@ -12,7 +11,8 @@ use Rattle.domain_octets.proofs.StdLemmas.{and_true}
 use Rattle.domain_names.specs.Name.{lowered}
 use Rattle.domain_names.specs.Order.{common_labels, from_root}
 use Rattle.domain_names.specs.Parting.{EndsIn, Part, order_below}
-use Rattle.domain_names.proofs.PartingLemmas.{from_root-part, octets_tie, untied}
+use Rattle.domain_names.proofs.PartingLemmas.{from_root-part, octets_tie}
+use Rattle.std.proofs.Common.{rules}
 
 -- ---- common fronts
 
@@ -200,14 +200,7 @@ root_count shared = omega (arith, length-reverse (lowered shared), length-map sh
 
 labels_differ : (x y : List ℕ) (o : Ordering) → order_below (Some x) (Some y) ≡ Some o
     → same_label (map to_ascii_lowercase x) (map to_ascii_lowercase y) ≡ false
-labels_differ x y o is =
-    elim (cases_Bool (same_label (map to_ascii_lowercase x) (map to_ascii_lowercase y))) [
-      | inl t ↦
-          let same = (bytes_decides (map to_ascii_lowercase x) (map to_ascii_lowercase y)).0 t in
-          absurd ((untied (slice_cmp nat_cmp (map to_ascii_lowercase x) (map to_ascii_lowercase y)) o is).1
-          (ap (slice_cmp nat_cmp (map to_ascii_lowercase x)) (sym same) ∙ octets_tie (map to_ascii_lowercase x)))
-      | inr f ↦ f
-    ]
+labels_differ x y o is = search (rules, octets_tie)
 
 -- names share the end at which they part, unless the labels below it differ in case alone
 pub parted_share : (xs ys : List (List ℕ)) (x y : Option (List ℕ)) (shared : List (List ℕ)) (o : Ordering) → Part xs ys x y shared

@@ -9,6 +9,7 @@ use Rattle.domain_names.specs.Wire.{labels_of, IsWire}
 use Rattle.domain_names.specs.Fault.{Fault, ends_early, malformed, NameFault, no_octet, bad_label, long_name, cut_label, past_label, WholeNameFault, in_name}
 use Rattle.domain_names.specs.Fault.{trailing}
 use Rattle.domain_names.proofs.WireLemmas.{length-wire_of, IsWire-wire_of}
+use Rattle.std.proofs.lemmas.Grind.{common_steps}
 
 -- the octets are these labels and the root, after so many octets of the name, and then others
 pub record Reads (used : ℕ) (octets : List ℕ) (labels : List (List ℕ)) (after : List ℕ) : Type 0 where
@@ -91,12 +92,7 @@ pub record Reading (octets : List ℕ) (at : ℕ) : Type 0 where
   pub name : (labels : List (List ℕ)) (after : List ℕ) → Reads at (drop at octets) labels after → IsWire (take (at + length (wire_of labels)) octets)
 
 pub reading_begins : (octets : List ℕ) → Reading octets 0
-reading_begins octets = record {
-  inside = omega arith;
-  short = omega arith;
-  fault = λ f h. h;
-  name = λ labels after h. named octets after labels (0 + length (wire_of labels)) h (omega arith);
-}
+reading_begins octets = grind (arith, common_steps, named)
 
 module _ (octets : List ℕ) (at len : ℕ) (below : at < length octets) (is : get_or octets at 0 ≡ len) where
   pub ahead : drop at octets ≡ len ∷ drop (at + 1) octets

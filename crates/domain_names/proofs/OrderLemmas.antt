@@ -6,10 +6,11 @@ use Rattle.std.specs.Ordering.{ordering_then, nat_cmp}
 use Rattle.std.specs.Char.{to_ascii_lowercase}
 use Rattle.std.specs.Prelude.{nat_eq, true}
 use Rattle.std.specs.Cmp.Lexicographic.{slice_cmp, pointwise, bytes_decides}
-use Rattle.std.proofs.lemmas.Cmp.{by_ranked, ranked}
 use Rattle.std.proofs.lemmas.List.{reverse-append, length-reverse, length-map}
 use Rattle.domain_names.specs.Name.{lowered}
 use Rattle.domain_names.specs.Order.{canonical_cmp, from_root}
+use Rattle.std.proofs.Common.{rules}
+use Rattle.std.proofs.lemmas.Grind.{common_steps}
 
 pub then_assoc : (a b c : Ordering) → ordering_then (ordering_then a b) c ≡ ordering_then a (ordering_then b c)
 then_assoc Less b c = refl
@@ -84,17 +85,13 @@ left_cut : (n : ℕ) (xs ys : List (List ℕ)) → length xs ≡ n + length ys
     → ordering_then (canonical_cmp xs ys) Greater ≡ ordering_then (canonical_cmp (drop n xs) ys) Greater
 left_cut zero xs ys long = refl
 left_cut (suc n) [] ys long = absurd (omega (arith, long))
-left_cut (suc n) (x ∷ xs) ys long =
-    ap (λ o. ordering_then o Greater) (canonical_cmp-longer xs ys x (omega (arith, long)))
-    ∙ then_assoc (canonical_cmp xs ys) Greater Greater ∙ left_cut n xs ys (omega (arith, long))
+left_cut (suc n) (x ∷ xs) ys long = grind (arith, common_steps, canonical_cmp-longer, (left_cut n xs ys (omega (arith, long))))
 
 right_cut : (n : ℕ) (xs ys : List (List ℕ)) → length ys ≡ n + length xs
     → ordering_then (canonical_cmp xs ys) Less ≡ ordering_then (canonical_cmp xs (drop n ys)) Less
 right_cut zero xs ys long = refl
 right_cut (suc n) xs [] long = absurd (omega (arith, long))
-right_cut (suc n) xs (y ∷ ys) long =
-    ap (λ o. ordering_then o Less) (canonical_cmp-shorter xs ys y (omega (arith, long)))
-    ∙ then_assoc (canonical_cmp xs ys) Less Less ∙ right_cut n xs ys (omega (arith, long))
+right_cut (suc n) xs (y ∷ ys) long = grind (arith, common_steps, canonical_cmp-shorter, (right_cut n xs ys (omega (arith, long))))
 
 left_strict : (n : ℕ) (xs ys : List (List ℕ)) → length xs ≡ suc n + length ys → canonical_cmp xs ys ≡ ordering_then (canonical_cmp (drop (suc n) xs) ys) Greater
 left_strict n [] ys long = absurd (omega (arith, long))
@@ -108,22 +105,7 @@ right_strict n xs (y ∷ ys) long = canonical_cmp-shorter xs ys y (omega (arith,
 pub canonical_cmp-cut : (xs ys : List (List ℕ)) → canonical_cmp xs ys
     ≡ ordering_then (canonical_cmp (drop (length xs - length ys) xs) (drop (length ys - length xs) ys))
     (nat_cmp (length xs) (length ys))
-canonical_cmp-cut xs ys =
-    by_ranked _ _ _ (nat_cmp (length xs) (length ys)) (ranked (length xs) (length ys) (nat_cmp (length xs) (length ys)) refl)
-    (λ is less.
-    let n = length ys - length xs - 1 in
-    let no_left : length xs - length ys ≡ 0 = omega arith in
-    let right : length ys - length xs ≡ suc n = omega arith in
-    rw (is, no_left, right) (right_strict n xs ys (omega arith)))
-    (λ is same.
-    let no_left : length xs - length ys ≡ 0 = omega arith in
-    let no_right : length ys - length xs ≡ 0 = omega arith in
-    rw (is, no_left, no_right) (sym (then_Equal (canonical_cmp xs ys))))
-    (λ is greater.
-    let n = length xs - length ys - 1 in
-    let no_right : length ys - length xs ≡ 0 = omega arith in
-    let left : length xs - length ys ≡ suc n = omega arith in
-    rw (is, no_right, left) (left_strict n xs ys (omega arith)))
+canonical_cmp-cut xs ys = search (rules, right_strict, left_strict)
 
 -- one label of two names with as many
 pub record Steps (xs ys above_xs above_ys : List (List ℕ)) (x y : List ℕ) : Type 0 where
@@ -132,12 +114,7 @@ pub record Steps (xs ys above_xs above_ys : List (List ℕ)) (x y : List ℕ) : 
 
 pub step : (xs ys above_xs above_ys : List (List ℕ)) (x y : List ℕ) → length xs ≡ length ys → xs ≡ x ∷ above_xs
     → ys ≡ y ∷ above_ys → Steps xs ys above_xs above_ys x y
-step xs ys above_xs above_ys x y same xs_is ys_is =
-    let above : length above_xs ≡ length above_ys = omega (arith, same, ap length xs_is, ap length ys_is) in
-    record {
-      same_count = above;
-      decides = ap (λ a. canonical_cmp a ys) xs_is ∙ ap (canonical_cmp (x ∷ above_xs)) ys_is ∙ canonical_cmp-more above_xs above_ys x y above;
-    }
+step xs ys above_xs above_ys x y same xs_is ys_is = grind (arith, common_steps, canonical_cmp-more)
 
 -- octets of which a test says that they are the same
 pub same_octets : (a b : List ℕ) → pointwise nat_eq a b ≡ true → a ≡ b

@@ -1,5 +1,5 @@
 -- the labels at which two names part, and what they decide
-use Rattle.std.proofs.Common.{w8, w64, Fits, ◌≡◌, ◌≢◌, ℕ, ◌≤◌, ◌<◌, ◌+◌, ◌-◌, List, [], ◌∷◌, ◌++◌, length, length-append, min, take, drop, get_or, map, reverse}
+use Rattle.std.proofs.Common.{w8, w64, Fits, ◌≡◌, ◌≢◌, ℕ, ◌≤◌, ◌<◌, ◌+◌, ◌-◌, List, [], ◌∷◌, ◌++◌, length, length-append, min, take, drop, get_or, map}
 use Rattle.std.proofs.Common.{refl, sym, ap, subst, ◌∙◌, arith, Option, None, Some, ◌⊎◌, inl, inr}
 use Rattle.std.specs.declared.cmp.Ordering.{Ordering}
 use Rattle.std.specs.declared.cmp.Ordering.TheVariants.{Less, Equal, Greater}
@@ -10,16 +10,17 @@ use Rattle.std.specs.Cmp.Lexicographic.{slice_cmp, nat_list_cmp_total}
 use Rattle.std.specs.Array.{IsWholeChunk}
 use Rattle.std.specs.Int.{from_le_bytes}
 use Rattle.std.proofs.Math.Seq.{drop-append_seam}
-use Rattle.std.proofs.lemmas.List.{append-nil, append_assoc, drop-append-le, drop-drop, drop_more, get_or-drop, length-drop, length-take-le, take-take}
-use Rattle.std.proofs.lemmas.List.{map-append, reverse-append, take-append-drop}
+use Rattle.std.proofs.lemmas.List.{append-nil, append_assoc, drop-append-le, drop-drop, get_or-drop, length-drop, length-take-le}
+use Rattle.std.proofs.lemmas.List.{take-append-drop}
 use Rattle.std.proofs.lemmas.Nat.{le_bytes_8}
-use Rattle.domain_names.specs.Name.{wire_of, lowered}
+use Rattle.domain_names.specs.Name.{wire_of}
 use Rattle.domain_names.specs.Wire.{labels_of, IsWire}
 use Rattle.domain_names.specs.Order.{canonical_cmp, from_root}
 use Rattle.domain_names.specs.Laws.{same_tied}
 use Rattle.domain_names.specs.Parting.{EndAlike, EndsIn, Part, order_below, unless_tied}
-use Rattle.domain_names.proofs.OrderLemmas.{decided, from_root-cons}
+use Rattle.domain_names.proofs.OrderLemmas.{decided}
 use Rattle.domain_names.proofs.WireLemmas.{wire_is, length-wire}
+use Rattle.std.proofs.lemmas.Grind.{common_steps}
 
 -- the next label is the one right below the rest
 pub next_end : (name : List (List ℕ)) (below : Option (List ℕ)) (label : List ℕ) (here above : List (List ℕ))
@@ -30,9 +31,7 @@ next_end name (Some x) label here above ends is =
 
 -- the root's wire form is one octet
 pub root_length : (a : List ℕ) → IsWire a → labels_of a ≡ [] → length a ≤ 1
-root_length a a_wire root =
-    let a_is : wire_of [] ≡ a = ap wire_of (sym root) ∙ wire_is a a_wire in
-    omega (arith, ap length a_is)
+root_length a a_wire root = grind (arith, common_steps)
 
 module _ {X : Type 0} (R : X → X → Ordering) (tied : (x : X) → R x x ≡ Equal) where
   slice_cmp-shared : (shared xs ys : List X) → slice_cmp R (shared ++ xs) (shared ++ ys) ≡ slice_cmp R xs ys
@@ -41,11 +40,7 @@ module _ {X : Type 0} (R : X → X → Ordering) (tied : (x : X) → R x x ≡ E
 
 pub from_root-part : (front shared : List (List ℕ)) (label : List ℕ)
     → from_root (front ++ label ∷ shared) ≡ from_root shared ++ map to_ascii_lowercase label ∷ from_root front
-from_root-part front shared label =
-    ap reverse (map-append (map to_ascii_lowercase) front (label ∷ shared))
-    ∙ reverse-append (lowered front) (lowered (label ∷ shared))
-    ∙ ap (λ l. l ++ from_root front) (from_root-cons label shared)
-    ∙ append_assoc (from_root shared) (map to_ascii_lowercase label ∷ []) (from_root front)
+from_root-part front shared label = grind (arith, common_steps)
 
 pub octets_tie : (x : List ℕ) → slice_cmp nat_cmp x x ≡ Equal
 octets_tie = tied_itself nat_list_cmp_total
@@ -159,12 +154,7 @@ same_ends a b x y count alike x_is y_is size within =
 pub part_at : (a b x y : List ℕ) (left right : Option (List ℕ)) (count : ℕ) → IsWire a → IsWire b → IsWire x → IsWire y
     → EndsIn (labels_of a) left (labels_of x) → EndsIn (labels_of b) right (labels_of y) → EndAlike a b count
     → length x ≡ length y → length x ≤ count → Part (labels_of a) (labels_of b) left right (labels_of x)
-part_at a b x y left right count a_wire b_wire x_wire y_wire a_ends b_ends alike size within =
-    let same : x ≡ y = same_ends a b x y count alike (wire_end a x left a_wire x_wire a_ends) (wire_end b y right b_wire y_wire b_ends) size within in
-    record {
-      left = a_ends;
-      right = subst (λ (l : List ℕ). EndsIn (labels_of b) right (labels_of l)) (sym same) b_ends;
-    }
+part_at a b x y left right count a_wire b_wire x_wire y_wire a_ends b_ends alike size within = grind (arith, common_steps, same_ends, wire_end)
 
 last_of_wire : (labels : List (List ℕ)) → drop (length (wire_of labels) - 1) (wire_of labels) ≡ 0 ∷ []
 last_of_wire labels =
@@ -178,11 +168,7 @@ last_octet name wire = subst (λ (l : List ℕ). drop (length l - 1) l ≡ 0 ∷
 
 -- all names end in the root
 pub alike_root : (a b : List ℕ) → IsWire a → IsWire b → EndAlike a b 1
-alike_root a b a_wire b_wire = record {
-  in_left = omega (arith, length-wire a a_wire);
-  in_right = omega (arith, length-wire b b_wire);
-  same = last_octet a a_wire ∙ sym (last_octet b b_wire);
-}
+alike_root a b a_wire b_wire = grind (arith, common_steps, length-wire, last_octet)
 
 -- eight octets that are the same number
 pub alike_eight : (a b x y : List ℕ) → 8 ≤ length a → 8 ≤ length b → IsWholeChunk (drop (length a - 8) a) x 8 → IsWholeChunk (drop (length b - 8) b) y 8
@@ -219,53 +205,21 @@ joined_end a count more within =
 
 pub alike_before : (a b x y : List ℕ) (count more : ℕ) → EndAlike a b count → x ≡ take (length a - count) a
     → y ≡ take (length b - count) b → EndAlike x y more → EndAlike a b (count + more)
-alike_before a b x y count more alike x_is y_is before =
-    let x_size : length x ≡ length a - count = ap length x_is ∙ length-take-le (length a - count) a (omega arith) in
-    let y_size : length y ≡ length b - count = ap length y_is ∙ length-take-le (length b - count) b (omega arith) in
-    let a_within : count + more ≤ length a = omega (arith, alike.in_left, before.in_left, x_size) in
-    let b_within : count + more ≤ length b = omega (arith, alike.in_right, before.in_right, y_size) in
-    record {
-      in_left = a_within;
-      in_right = b_within;
-      same = joined_end a count more a_within
-          ∙ ap (λ l. drop (length l - more) l ++ drop (length a - count) a) (sym x_is)
-          ∙ ap (λ l. l ++ drop (length a - count) a) before.same
-          ∙ ap (λ l. drop (length y - more) y ++ l) alike.same
-          ∙ ap (λ l. drop (length l - more) l ++ drop (length b - count) b) y_is
-          ∙ sym (joined_end b count more b_within);
-    }
+alike_before a b x y count more alike x_is y_is before = grind (arith, common_steps, joined_end)
 
 -- eight octets more
 pub alike_onward : (a b x y : List ℕ) (count : ℕ) → EndAlike a b count → x ≡ take (length a - count) a → y ≡ take (length b - count) b → EndAlike x y 8
     → (EndAlike a b (count + 8)) × (take (length x - 8) x ≡ take (length a - (count + 8)) a) × (take (length y - 8) y ≡ take (length b - (count + 8)) b)
-alike_onward a b x y count alike x_is y_is before = (
-  alike_before a b x y count 8 alike x_is y_is before,
-  shorter_front a x count x_is alike.in_left before.in_left,
-  shorter_front b y count y_is alike.in_right before.in_right,
-) where
-  shorter_front : (l front : List ℕ) (n : ℕ) → front ≡ take (length l - n) l → n ≤ length l → 8 ≤ length front
-      → take (length front - 8) front ≡ take (length l - (n + 8)) l
-  shorter_front l front n is inside some =
-      let size : length front ≡ length l - n = ap length is ∙ length-take-le (length l - n) l (omega arith) in
-      ap (take (length front - 8)) is
-      ∙ take-take (length front - 8) (length l - n) l (omega (arith, size))
-      ∙ ap (λ k. take k l) (omega (arith, size, inside, some))
+alike_onward a b x y count alike x_is y_is before = grind (arith, common_steps, alike_before)
 
 one_before : (name : List ℕ) (count place : ℕ) → count < length name → place ≡ length name - 1 - count
     → drop (length name - (count + 1)) name ≡ get_or name place 0 ∷ drop (length name - count) name
-one_before name count place inside is =
-    ap (λ n. drop n name) (omega (arith, is, inside)) ∙ drop_more name place 0 (omega (arith, is, inside))
-    ∙ ap (λ n. get_or name place 0 ∷ drop n name) (omega (arith, is, inside))
+one_before name count place inside is = grind (arith, common_steps)
 
 -- one octet more
 pub alike_more : (a b : List ℕ) (count i j : ℕ) → EndAlike a b count → count < length a → count < length b
     → i ≡ length a - 1 - count → j ≡ length b - 1 - count → get_or a i 0 ≡ get_or b j 0 → EndAlike a b (count + 1)
-alike_more a b count i j alike in_a in_b i_is j_is same = record {
-  in_left = omega (arith, in_a);
-  in_right = omega (arith, in_b);
-  same = one_before a count i in_a i_is ∙ ap (λ c. c ∷ drop (length a - count) a) same ∙ ap (λ l. get_or b j 0 ∷ l) alike.same
-      ∙ sym (one_before b count j in_b j_is);
-}
+alike_more a b count i j alike in_a in_b i_is j_is same = grind (arith, common_steps)
 
 -- octets of which one list is at its end
 pub lengths_decide : (a b : List ℕ) (i : ℕ) → i ≡ min (length a) (length b)

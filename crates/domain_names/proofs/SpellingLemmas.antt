@@ -1,7 +1,7 @@
 -- names spelled by texts
 use Rattle.std.proofs.Common.{◌≡◌, ◌≢◌, ℕ, zero, suc, take, get_or, ◌+◌, ◌<◌, ◌≤◌, List, [], ◌∷◌, ◌++◌, Option, Some, None, length, drop, refl, sym, ap, subst}
 use Rattle.std.proofs.Common.{◌∙◌, ◌-◌, arith, length-append, slice_set, inl, inr, ◌⊎◌}
-use Rattle.std.specs.Prelude.{unwrap_or, IsSome, IfSome, IfNone, ◌↔◌}
+use Rattle.std.specs.Prelude.{IsSome, IfSome, IfNone, ◌↔◌}
 use Rattle.std.specs.List.{AllByRecursion}
 use Rattle.std.proofs.lemmas.Bool.{ne_eqb, le-leb}
 use Rattle.std.proofs.lemmas.List.{append-nil, append_assoc, drop-drop, length-drop, length-set, take_at, take_more}
@@ -10,6 +10,7 @@ use Rattle.domain_names.specs.Name.{wire_of, IsLabel, IsName}
 use Rattle.domain_names.proofs.WireLemmas.{length-wire_of}
 use Rattle.domain_names.specs.Text.{symbol_at, LabelText, at_end, at_dot, octet, HasNoLabel, HasNoLabelAfter, LabelTexts, last, last_with_dot, dotted, NameText}
 use Rattle.domain_names.specs.Text.{root, of_labels, IsNoName}
+use Rattle.std.proofs.lemmas.Grind.{common_steps}
 
 -- a label's text ends where no octet stands
 no_symbol_at_dot : (after : List ℕ) → symbol_at (46 ∷ after) ≡ None
@@ -29,15 +30,7 @@ pub record Onward (text label after : List ℕ) (used c : ℕ) : Type 0 where
 pub after_octet : (text label after : List ℕ) (c used : ℕ) → symbol_at text ≡ Some (c, used) → LabelText text label after → Onward text label after used c
 after_octet text label after c used is at_end = absurd (let e = no_symbol_at_end in cc)
 after_octet text label after c used is (at_dot rest) = absurd (let e = no_symbol_at_dot rest in cc)
-after_octet text label after c used is (octet t l a c' used' is' spelled) =
-    let one : Some (c', used') ≡ Some (c, used) = sym is' ∙ is in
-    let same_c : c' ≡ c = ap (λ (o : Option (ℕ × ℕ)). (unwrap_or o (0, 0)).0) one in
-    let same_used : used' ≡ used = ap (λ (o : Option (ℕ × ℕ)). (unwrap_or o (0, 0)).1) one in
-    record {
-      rest = l;
-      is = ap (λ n. n ∷ l) same_c;
-      spelled = subst (λ (n : ℕ). LabelText (drop n text) l after) same_used spelled;
-    }
+after_octet text label after c used is (octet t l a c' used' is' spelled) = grind (arith, common_steps)
 
 -- a text that is read as a label, up to some place
 pub record Spelling (text rest done : List ℕ) : Type 0 where
@@ -96,9 +89,7 @@ stops_at_dot (c ∷ text) some dot = subst (λ d. LabelText (d ∷ text) [] (d �
 pub plain_label : (text label rest : List ℕ) (n : ℕ) → n ≤ length text
     → ((k : ℕ) → k < n → symbol_at (drop k text) ≡ Some (get_or text k 0, 1)) → label ≡ take n text → rest ≡ drop n text
     → LabelText rest [] rest → LabelText text label rest
-plain_label text label rest n within plain front back stops =
-    subst (λ l. LabelText text l rest) (sym front)
-    (spelling_stops text rest (take n text) (subst (λ r. Spelling text r (take n text)) (sym back) (spelling_plain text n within plain)) stops)
+plain_label text label rest n within plain front back stops = grind (arith, common_steps, spelling_stops, spelling_plain)
 
 pub no_label_by_length : (text rest done : List ℕ) (c used : ℕ) → Spelling text rest done → symbol_at rest ≡ Some (c, used)
     → 63 < length done + 1 → HasNoLabel text
@@ -138,19 +129,9 @@ record Headed (rest label after : List ℕ) (labels : List (List ℕ)) : Type 0 
   spelled : (next : List ℕ) → after ≡ 46 ∷ next → next ≢ [] → LabelTexts next more
 
 head_is : (rest label after : List ℕ) (labels : List (List ℕ)) → LabelText rest label after → LabelTexts rest labels → Headed rest label after labels
-head_is rest label after labels read (last text l spelled) =
-    let same = one_label rest label after l [] read spelled in
-    record { more = []; is = ap (λ x. x ∷ []) same.0; spelled = λ next is some. absurd (let e = same.1 in cc) }
-head_is rest label after labels read (last_with_dot text l spelled) =
-    let same = one_label rest label after l (46 ∷ []) read spelled in
-    record { more = []; is = ap (λ x. x ∷ []) same.0; spelled = λ next is some. absurd (some (let e = same.1 in cc)) }
-head_is rest label after labels read (dotted text l end more spelled others) =
-    let same = one_label rest label after l (46 ∷ end) read spelled in
-    record {
-      more = more;
-      is = ap (λ x. x ∷ more) same.0;
-      spelled = λ next is some. let e : end ≡ next = (let s = same.1 in cc) in subst (λ t. LabelTexts t more) e others;
-    }
+head_is rest label after labels read (last text l spelled) = grind (arith, common_steps, one_label)
+head_is rest label after labels read (last_with_dot text l spelled) = grind (arith, common_steps, one_label)
+head_is rest label after labels read (dotted text l end more spelled others) = grind (arith, common_steps, one_label)
 
 pub naming_goes : (text rest wire label after next : List ℕ) → Naming text rest wire → LabelText rest label after
     → after ≡ 46 ∷ next → next ≢ [] → IsLabel label → Naming text next (wire ++ length label ∷ label)
@@ -175,9 +156,7 @@ IsLabelsWire text wire = (labels : List (List ℕ)) × LabelTexts text labels ×
 
 naming_done : (text rest wire label : List ℕ) → Naming text rest wire → LabelTexts rest (label ∷ []) → IsLabel label
     → IsLabelsWire text (wire ++ length label ∷ label)
-naming_done text rest wire label so_far spelled valid =
-    let whole = so_far.onward (label ∷ []) spelled (valid, tt) in
-    (whole.0, whole.1, whole.2, append_assoc wire (length label ∷ label) (0 ∷ []) ∙ whole.3)
+naming_done text rest wire label so_far spelled valid = grind (arith, common_steps)
 
 pub naming_ends : (text rest wire label after : List ℕ) → Naming text rest wire → LabelText rest label after → length after ≤ 1
     → IsLabel label → IsLabelsWire text (wire ++ length label ∷ label)
@@ -258,12 +237,10 @@ same_labels text xs ys (last t l s) (dotted t' l' end more s' others) xs_valid y
 same_labels text xs ys (last_with_dot t l s) (last t' l' s') xs_valid ys_valid = absurd (let e = (one_label t l (46 ∷ []) l' [] s s').1 in cc)
 same_labels text xs ys (last_with_dot t l s) (last_with_dot t' l' s') xs_valid ys_valid = ap (λ x. x ∷ []) (sym (one_label t l (46 ∷ []) l' (46 ∷ []) s s').0)
 same_labels text xs ys (last_with_dot t l s) (dotted t' l' end more s' others) xs_valid ys_valid =
-    let e : end ≡ [] = (let both = (one_label t l (46 ∷ []) l' (46 ∷ end) s s').1 in cc) in
-    absurd (no_empty_text end more e others ys_valid.1)
+    grind (arith, common_steps, one_label, no_empty_text)
 same_labels text xs ys (dotted t l end more s others) (last t' l' s') xs_valid ys_valid = absurd (let e = (one_label t l (46 ∷ end) l' [] s s').1 in cc)
 same_labels text xs ys (dotted t l end more s others) (last_with_dot t' l' s') xs_valid ys_valid =
-    let e : end ≡ [] = (let both = (one_label t l (46 ∷ end) l' (46 ∷ []) s s').1 in cc) in
-    absurd (no_empty_text end more e others xs_valid.1)
+    grind (arith, common_steps, one_label, no_empty_text)
 same_labels text xs ys (dotted t l end more s others) (dotted t' l' end' more' s' others') xs_valid ys_valid =
     let same = one_label t l (46 ∷ end) l' (46 ∷ end') s s' in
     let e : end' ≡ end = (let both = same.1 in cc) in

@@ -1,13 +1,11 @@
 -- the text of an octet in decimal digits, of octets that are written as they are, and of names
 use Rattle.std.proofs.Common.{arith, ℕ, ◌/◌, ◌%◌, ◌<◌, ◌≡◌, ◌∷◌, ◌++◌, ◌+◌, ◌-◌, [], suc, List, Bool, true, false, refl, sym, ap, ◌∙◌}
-use Rattle.std.proofs.Common.{length, take, drop, slice_set, inl, inr, ◌≤◌, length-append, append_assoc, append-nil}
+use Rattle.std.proofs.Common.{length, take, drop, slice_set, ◌≤◌, length-append, append_assoc, append-nil}
 use Rattle.std.specs.Prelude.{◌&&◌, not}
 use Rattle.std.specs.List.{All, AllByRecursion as ByRecursion, AllPass}
 use Rattle.std.specs.Str.{IsAscii}
-use Rattle.std.proofs.lemmas.Bool.{cases_Bool}
-use Rattle.std.proofs.lemmas.Bool.Decides.{nat_tests}
 use Rattle.std.proofs.lemmas.Grind.{common_steps}
-use Rattle.std.proofs.lemmas.List.{length-set, take_at}
+use Rattle.std.proofs.lemmas.List.{length-set}
 use Rattle.std.proofs.lemmas.List.Elements.{All-head, All-tail}
 use Rattle.std.proofs.Math.Seq.{set-append_seam}
 use Rattle.std.proofs.lemmas.Str.{IsAscii-append}
@@ -22,11 +20,7 @@ use Rattle.domain_names.specs.Wire.{labels_of, IsWire}
 pub octet_text_in_digits : (c : ℕ) → c < 256 → is_special c ≡ false → is_ascii_graphic c ≡ false
     → octet_text c ≡ 92 ∷ (decimal (c / 100) ++ (decimal (c / 10 % 10) ++ decimal (c % 10)))
 unfolding octet_text
-octet_text_in_digits c small special graphic =
-    let hundreds : decimal (c / 100) ≡ (48 + c / 100) ∷ [] = decimal_digit (c / 100) (omega arith) in
-    let tens : decimal (c / 10 % 10) ≡ (48 + c / 10 % 10) ∷ [] = decimal_digit (c / 10 % 10) (omega arith) in
-    let ones : decimal (c % 10) ≡ (48 + c % 10) ∷ [] = decimal_digit (c % 10) (omega arith) in
-    rw (special, graphic, hundreds, tens, ones)
+octet_text_in_digits c small special graphic = grind (arith, common_steps, decimal_digit)
 
 graphic_not_special : (graphic special : Bool) → graphic && not special ≡ true → (graphic ≡ true) × (special ≡ false)
 graphic_not_special true false both = (refl, refl)
@@ -35,9 +29,7 @@ graphic_not_special false special both = absurd (let e = both in cc)
 
 pub ordinary_octet : (c : ℕ) → is_ordinary c ≡ true → octet_text c ≡ c ∷ []
 unfolding octet_text
-ordinary_octet c ordinary =
-    let parts = graphic_not_special (is_ascii_graphic c) (is_special c) ordinary in
-    rw (parts.1, parts.0)
+ordinary_octet c ordinary = grind (arith, common_steps)
 
 -- a label whose octets are all written as they are
 pub ordinary_text : (label : List ℕ) → AllPass is_ordinary label → label_text label ≡ label
@@ -50,25 +42,7 @@ ordinary_text (c ∷ label) all =
 
 octet_text_ascii : (c : ℕ) → c < 256 → IsAscii (octet_text c)
 unfolding octet_text
-octet_text_ascii c small = elim (cases_Bool (is_special c)) [
-  | inl special ↦ (let low : c < 128 = special_low c special in rw special (IsAscii-cons 92 (c ∷ []) (omega arith) (one c low)))
-  | inr other ↦ elim (cases_Bool (is_ascii_graphic c)) [
-    | inl graphic ↦ (let low : c < 128 = graphic_low c graphic in rw (other, graphic) (one c low))
-    | inr none ↦ rw (other, none) (digits (48 + c / 100) (48 + c / 10 % 10) (48 + c % 10) (omega arith) (omega arith) (omega arith))
-  ]
-] where
-  one : (x : ℕ) → x < 128 → IsAscii (x ∷ [])
-  one x low = IsAscii-cons x [] low IsAscii-nil
-
-  digits : (x y z : ℕ) → x < 128 → y < 128 → z < 128 → IsAscii (92 ∷ x ∷ y ∷ z ∷ [])
-  digits x y z x_low y_low z_low =
-      IsAscii-cons 92 (x ∷ y ∷ z ∷ []) (omega arith) (IsAscii-cons x (y ∷ z ∷ []) x_low (IsAscii-cons y (z ∷ []) y_low (one z z_low)))
-
-  special_low : (x : ℕ) → is_special x ≡ true → x < 128
-  special_low x special = grind (arith, nat_tests, common_steps)
-
-  graphic_low : (x : ℕ) → is_ascii_graphic x ≡ true → x < 128
-  graphic_low x graphic = grind (arith, nat_tests, common_steps)
+octet_text_ascii c small = grind (arith, common_steps)
 
 pub label_text_ascii : (label : List ℕ) → All (λ c. c < 256) label → IsAscii (label_text label)
 label_text_ascii [] octets = IsAscii-nil
@@ -146,7 +120,4 @@ dotted_ascii labels valid = IsAscii-append (dotted_text labels) (46 ∷ []) (dot
 pub between_dots : (text : List ℕ) (labels : List (List ℕ)) → text ≡ dotted_text labels ++ 46 ∷ [] → 2 ≤ length text
     → take (length text - 1 - 1) (drop 1 text) ≡ name_text labels
 between_dots text [] is some = absurd (omega (arith, some, ap length is))
-between_dots text (label ∷ labels) is some =
-    let inner = name_text (label ∷ labels) in
-    let size : length inner ≡ length text - 1 - 1 = omega (arith, ap length is, length-append inner (46 ∷ [])) in
-    ap (λ t. take (length text - 1 - 1) (drop 1 t)) is ∙ take_at inner (46 ∷ []) (length text - 1 - 1) size
+between_dots text (label ∷ labels) is some = grind (arith, common_steps)

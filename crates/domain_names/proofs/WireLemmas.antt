@@ -1,23 +1,18 @@
 -- a name read label by label
 use Rattle.std.proofs.Common.{◌≡◌, ℕ, zero, suc, ◌+◌, ◌*◌, ◌<◌, ◌≤◌, List, [], ◌∷◌, length, get_or, take, drop, refl, sym, ap, subst, ◌∙◌, arith, length-append}
-use Rattle.std.proofs.Common.{add-one, false, Some}
-use Rattle.std.specs.Prelude.{◌==◌}
-use Rattle.std.proofs.lemmas.Bool.Decides.{nat_tests}
+use Rattle.std.proofs.Common.{add-one, Some}
 use Rattle.std.specs.List.{AllByRecursion}
 use Rattle.std.proofs.lemmas.List.{take_at, drop_at, drop-drop, length-drop}
 use Rattle.domain_names.specs.Name.{wire_of, parent_of, IsLabel, IsName}
 use Rattle.domain_names.specs.Words.{Name}
 use Rattle.domain_names.specs.Wire.{labels_within, labels_of, IsWire}
+use Rattle.std.proofs.lemmas.Grind.{common_steps}
 
 labels_within-wire_of : (labels : List (List ℕ)) (n : ℕ) → AllByRecursion IsLabel labels → length labels < n → labels_within n (wire_of labels) ≡ labels
 unfolding labels_within
 labels_within-wire_of labels zero all below = absurd (omega arith)
 labels_within-wire_of [] (suc n) all below = refl
-labels_within-wire_of (label ∷ labels) (suc n) all below =
-    let label_is : IsLabel label = all.0 in
-    let more : (length label == 0) ≡ false = grind (arith, nat_tests, label_is.not_empty) in
-    rw (more, take_at label (wire_of labels) (length label) refl, drop_at label (wire_of labels) (length label) refl)
-    (ap (λ rest. label ∷ rest) (labels_within-wire_of labels n all.1 (omega (arith, below))))
+labels_within-wire_of (label ∷ labels) (suc n) all below = grind (arith, common_steps, (labels_within-wire_of labels n all.1 (omega (arith, below))))
 
 pub length-wire_of : (labels : List (List ℕ)) → length labels < length (wire_of labels)
 length-wire_of [] = omega arith
@@ -28,9 +23,7 @@ unfolding labels_of
 labels_of-wire_of labels valid = labels_within-wire_of labels (length (wire_of labels)) valid.of_labels (length-wire_of labels)
 
 pub IsWire-wire_of : (labels : List (List ℕ)) → IsName labels → IsWire (wire_of labels)
-IsWire-wire_of labels valid =
-    let same = labels_of-wire_of labels valid in
-    record { spelled = ap wire_of (sym same); valid = subst IsName (sym same) valid }
+IsWire-wire_of labels valid = grind (arith, common_steps, labels_of-wire_of)
 
 -- a name that is not the root begins with a label
 pub record HasLabel (octets : List ℕ) : Type 0 where
@@ -73,9 +66,7 @@ count_at octets wire = omega (arith, wire.valid.fits, length-wire_of (labels_of 
 
 twice_length : (labels : List (List ℕ)) → AllByRecursion IsLabel labels → 2 * length labels < length (wire_of labels)
 twice_length [] all = omega arith
-twice_length (label ∷ labels) all =
-    let label_is : IsLabel label = all.0 in
-    omega (arith, label_is.not_empty, twice_length labels all.1, length-append label (wire_of labels))
+twice_length (label ∷ labels) all = grind (arith, common_steps, (twice_length labels all.1))
 
 pub few_labels : (octets : List ℕ) → IsWire octets → length (labels_of octets) ≤ 127
 few_labels octets wire = omega (arith, wire.valid.fits, twice_length (labels_of octets) wire.valid.of_labels)

@@ -1,22 +1,13 @@
-use Rattle.std.proofs.Common.{◌≡◌, ◌<◌, ◌++◌, length, drop, rules, refl, sym, ◌∙◌, arith, Ok}
+use Rattle.std.proofs.Common.{◌≡◌, ◌++◌, length, drop, rules, sym, ◌∙◌, Ok}
 use Rattle.std.proofs.lemmas.Bool.{eqb-true}
 use Rattle.std.proofs.lemmas.List.{nil_from_length}
-use Rattle.std.proofs.lemmas.List.Elements.{All-from_get_or}
 use Rattle.domain_codecs.specs.declared.codec.Codec.TheVariants.{Base16}
-use Rattle.domain_codecs.proofs.RoomLemmas.{build_stops, room_for_part, handed_on, empty_has_room}
-use Rattle.domain_codecs.proofs.JoinedLemmas.{ReadPieces, pieces_begin, pieces_end}
+use Rattle.domain_codecs.proofs.RoomLemmas.{build_stops, room_for_part, handed_on}
+use Rattle.domain_codecs.proofs.JoinedLemmas.{ReadPieces, pieces_end}
 use Rattle.domain_codecs.proofs.Base16PieceLemmas.{next_front, front_read}
 use Rattle.domain_codecs.proofs.decoding.build_base16.Given.{Over}
 use Rattle.domain_codecs.proofs.decoding.build_base16.Goals.{After-decode_to_slice}
 use Rattle.domain_codecs.proofs.decoding.build_base16.Goals as goal
-
-pub loop-left-init : goal.loop-left-init
-loop-left-init g c = record {
-  read = pieces_begin Base16 c.args.text.now c.args.text.now (g.B.Octets.octets c.empty-octets.result) refl c.empty-octets.ensures
-      (All-from_get_or (λ octet. octet < 256) c.args.text.now 0 (λ i below. let small = c.type_inv.text i in omega arith))
-      c.requires;
-  room = empty_has_room g.B.OctetsBuilder.limit (g.B.Octets.octets c.empty-octets.result) c.empty-octets.ensures;
-}
 
 -- the octets of the piece are decoded, and follow those that were built
 piece_read : (g : Over) (c : After-decode_to_slice g) → (c.decode_to_slice.result ≡ Ok tt)

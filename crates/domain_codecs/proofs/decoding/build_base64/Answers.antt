@@ -1,18 +1,12 @@
-use Rattle.std.proofs.Common.{◌≡◌, ◌++◌, length, take, drop, sym, ◌∙◌, arith}
+use Rattle.std.proofs.Common.{◌≡◌, ◌++◌, length, take, drop, sym, ◌∙◌}
 use Rattle.std.proofs.lemmas.Bool.{eqb-true}
 use Rattle.std.proofs.lemmas.List.{nil_from_length}
 use Rattle.domain_codecs.specs.declared.codec.Codec.TheVariants.{Base64}
-use Rattle.domain_codecs.proofs.RoomLemmas.{build_stops, room_for_part, handed_on, empty_has_room}
-use Rattle.domain_codecs.proofs.Base64Lemmas.{Read, read_none, next_piece, read_all}
+use Rattle.domain_codecs.proofs.RoomLemmas.{build_stops, room_for_part, handed_on}
+use Rattle.domain_codecs.proofs.Base64Lemmas.{Read, next_piece, read_all}
 use Rattle.domain_codecs.proofs.decoding.build_base64.Given.{Over}
 use Rattle.domain_codecs.proofs.decoding.build_base64.Goals.{In-Ok}
 use Rattle.domain_codecs.proofs.decoding.build_base64.Goals as goal
-
-pub loop-left-init : goal.loop-left-init
-loop-left-init g c = record {
-  read = rw c.empty-octets.ensures (read_none c.args.text.now (λ i. let small = c.type_inv.text i in omega arith) c.requires.0 c.requires.1);
-  room = empty_has_room g.B.OctetsBuilder.limit (g.B.Octets.octets c.empty-octets.result) c.empty-octets.ensures;
-}
 
 pub unreachable-requires : goal.unreachable-requires
 unreachable-requires g c =

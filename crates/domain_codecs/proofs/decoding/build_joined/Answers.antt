@@ -1,18 +1,11 @@
 use Rattle.std.proofs.Common.{◌≡◌, List, ℕ, ◌++◌, length, take, map, arith, length-take}
 use Rattle.std.specs.List.{concat}
-use Rattle.domain_codecs.proofs.RoomLemmas.{build_stops, room_for_part, handed_on, empty_has_room}
-use Rattle.domain_codecs.proofs.JoinedLemmas.{ReadPieces, pieces_begin, pieces_next, pieces_end, none_after}
+use Rattle.domain_codecs.proofs.RoomLemmas.{build_stops, room_for_part, handed_on}
+use Rattle.domain_codecs.proofs.JoinedLemmas.{ReadPieces, pieces_next, pieces_end, none_after}
 use Rattle.domain_codecs.proofs.CodecBackLemmas.{decodes_once}
 use Rattle.domain_codecs.proofs.decoding.build_joined.Given.{Over}
 use Rattle.domain_codecs.proofs.decoding.build_joined.Goals.{After-as_slice}
 use Rattle.domain_codecs.proofs.decoding.build_joined.Goals as goal
-
-pub loop-left-init : goal.loop-left-init
-loop-left-init g c = record {
-  read = pieces_begin c.args.codec (concat (map (λ text. text.now) c.args.texts.now)) c.new-left.result
-      (g.B.Octets.octets c.empty-octets.result) c.new-left.ensures c.empty-octets.ensures c.requires.octets c.requires.text;
-  room = empty_has_room g.B.OctetsBuilder.limit (g.B.Octets.octets c.empty-octets.result) c.empty-octets.ensures;
-}
 
 pub returns-then-count-eq0-clause-ok : goal.returns-then-count-eq0-clause-ok
 returns-then-count-eq0-clause-ok g c =

@@ -1,10 +1,7 @@
 use Rattle.std.proofs.Common.{◌≡◌, rules}
 use Rattle.domain_names.specs.Text.{label_text}
-use Rattle.domain_names.proofs.TextLemmas.{dotted_none, dotted_more, dotted_ends}
+use Rattle.domain_names.proofs.TextLemmas.{dotted_more, dotted_ends}
 use Rattle.domain_names.proofs.text.put_dots.Goals as goal
-
-pub loop-label-init : goal.loop-label-init
-loop-label-init c = rw c.requires.copy (dotted_none c.args.name.now c.requires.name)
 
 pub loop-label-preserved : goal.loop-label-preserved
 loop-label-preserved c =

@@ -2,12 +2,9 @@ use Rattle.std.proofs.Common.{◌≡◌, [], ◌∷◌, ◌++◌, Some, length, 
 use Rattle.std.proofs.lemmas.List.{take_rest, drop_more, nil_from_length}
 use Rattle.std.proofs.lemmas.Grind.{common_steps}
 use Rattle.domain_names.specs.Text.{symbol_at}
-use Rattle.domain_names.proofs.SpellingLemmas.{spelling_goes, spelling_ends, spelling_dots, spelling_begins, no_label_by_length}
+use Rattle.domain_names.proofs.SpellingLemmas.{spelling_goes, spelling_ends, spelling_dots, no_label_by_length}
 use Rattle.domain_names.proofs.text.read_label.Goals as goal
 use Rattle.domain_names.proofs.text.read_label.Goals.{in_default, in-len1-up+then-first-eq46}
-
-pub loop-rest-init : goal.loop-rest-init
-loop-rest-init c = rw c.new-label.ensures (record { read = spelling_begins c.args.text.now; fits = omega arith })
 
 pub returns-then-is_err-clause-none : goal.returns-then-is_err-clause-none
 returns-then-is_err-clause-none c =

@@ -1,15 +1,11 @@
 use Rattle.std.proofs.Common.{◌<◌, All, [], subst, sym, arith, rules}
 use Rattle.std.proofs.lemmas.Bool.Decides.{nat_tests}
 use Rattle.std.proofs.lemmas.Grind.{common_steps}
-use Rattle.std.proofs.lemmas.List.{take-append-drop}
 use Rattle.std.proofs.lemmas.List.Elements.{All-take}
 use Rattle.domain_octets.proofs.OctetLemmas.{octets_from_type}
 use Rattle.domain_names.specs.Text.{LabelText}
 use Rattle.domain_names.proofs.SpellingLemmas.{plain_label}
 use Rattle.domain_names.proofs.text.split_plain_label.Goals as goal
-
-pub returns-clause-parts : goal.returns-clause-parts
-returns-clause-parts c = let both = take-append-drop c.plain_len.result c.args.text.now in cc
 
 pub returns-clause-label : goal.returns-clause-label
 returns-clause-label c =

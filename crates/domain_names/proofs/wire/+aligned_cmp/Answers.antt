@@ -1,10 +1,7 @@
-use Rattle.std.proofs.Common.{sym, ◌∙◌, inl, inr}
+use Rattle.std.proofs.Common.{sym, ◌∙◌, inl}
 use Rattle.domain_names.proofs.OrderLemmas.{step, decided, undecided}
 use Rattle.domain_names.proofs.PartingLemmas.{roots_tie}
 use Rattle.domain_names.proofs.wire.+aligned_cmp.Goals as goal
-
-pub returns-in_default : goal.returns-in_default
-returns-in_default _ c = roots_tie _ _ c.requires.same_count (inr c.in_default.ensures'.root)
 
 pub returns-in_default-2 : goal.returns-in_default-2
 returns-in_default-2 _ c = roots_tie _ _ c.requires.same_count (inl c.in_default.ensures.root)

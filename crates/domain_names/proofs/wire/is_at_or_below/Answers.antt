@@ -8,9 +8,6 @@ use Rattle.domain_names.proofs.PartingLemmas.{root_length}
 use Rattle.domain_names.proofs.WireLemmas.{length-wire}
 use Rattle.domain_names.proofs.wire.is_at_or_below.Goals as goal
 
-pub loop-end-init : goal.loop-end-init
-loop-end-init c = record { wire = c.requires.name; below = λ h. h; back = λ h. h }
-
 pub unreachable-requires : goal.unreachable-requires
 unreachable-requires c =
     let short = root_length _ c.loop-end.invariant.wire c.in_default.ensures.root in

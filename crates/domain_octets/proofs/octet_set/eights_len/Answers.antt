@@ -1,10 +1,7 @@
 use Rattle.std.proofs.Common.{rules}
 use Rattle.std.specs.List.{AllPass}
-use Rattle.domain_octets.proofs.PrefixLemmas.{searched_none, searched_eight, searched_front}
+use Rattle.domain_octets.proofs.PrefixLemmas.{searched_eight}
 use Rattle.domain_octets.proofs.octet_set.eights_len.Goals as goal
-
-pub loop-eight-init : goal.loop-eight-init
-loop-eight-init g c = searched_none g.S.OctetSet.has c.args.octets.now
 
 pub loop-eight-preserved : goal.loop-eight-preserved
 loop-eight-preserved g c =
@@ -12,6 +9,3 @@ loop-eight-preserved g c =
     let cut = c.in-Some.ensures.cases in
     searched_eight g.S.OctetSet.has c.args.octets.now c.loop-eight.rest.now c.in-Some.eight.now c.in-Some.after.now
     c.loop-eight.invariant cut.0 cut.1 pass
-
-pub returns-clause-has : goal.returns-clause-has
-returns-clause-has g c = searched_front g.S.OctetSet.has c.args.octets.now c.loop-eight.rest.now c.loop-eight.invariant

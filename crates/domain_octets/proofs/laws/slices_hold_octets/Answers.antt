@@ -1,6 +1,0 @@
-use Rattle.std.proofs.Common.{◌<◌, arith}
-use Rattle.std.proofs.lemmas.List.Elements.{All-from_get_or}
-use Rattle.domain_octets.proofs.laws.slices_hold_octets.Goals as goal
-
-pub returns : goal.returns
-returns c = All-from_get_or (λ octet. octet < 256) c.args.octets.now 0 (λ i inside. let small = c.type_inv.octets i in omega arith)
