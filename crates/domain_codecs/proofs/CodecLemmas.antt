@@ -1,9 +1,7 @@
 -- texts that are decoded
-use Rattle.std.proofs.Common.{◌≡◌, ℕ, ◌+◌, ◌*◌, ◌/◌, ◌%◌, ◌<◌, ◌≤◌, true, false, List, [], ◌∷◌, ◌++◌, length, get_or, take, drop, refl, sym, ap, ◌∙◌, arith}
-use Rattle.std.proofs.Common.{lit<}
-use Rattle.std.specs.Prelude.{nat_le, unwrap_or}
-use Rattle.std.proofs.lemmas.List.{take_more, drop_more, append_assoc, append-nil, drop_all}
-use Rattle.std.proofs.lemmas.Bool.Decides.{nat_tests}
+use Rattle.std.proofs.Common.{◌≡◌, ℕ, ◌+◌, ◌*◌, ◌/◌, ◌%◌, ◌<◌, ◌≤◌, List, [], ◌∷◌, ◌++◌, length, get_or, take, drop, refl, sym, ap, ◌∙◌, arith, lit<}
+use Rattle.std.specs.Prelude.{unwrap_or}
+use Rattle.std.proofs.lemmas.List.{take_more, append-nil, drop_all}
 use Rattle.hex.specs.Hex.{encode_with}
 use Rattle.domain_codecs.proofs.Scale.{IsScale, no_bits, one_bit, two_bits, three_bits, four_bits, five_bits, six_bits, seven_bits}
 use Rattle.domain_codecs.specs.Codec.{base32_value, base32_octets, base32_digits, IsBase32}
@@ -44,27 +42,12 @@ module _ (text octets : List ℕ) (scale rest at : ℕ) (inside : at < length te
     (so_far : Digits text octets scale rest at) where
   pub digits_narrow : (32 * scale < 256) → Digits text octets (32 * scale) (32 * rest + digit_at text at) (at + 1)
   unfolding base32_octets
-  digits_narrow low =
-      let w = widens scale so_far.scale_is in
-      let test : nat_le 256 (32 * scale) ≡ false = grind (arith, nat_tests) in
-      record {
-        scale_is = w.narrow low;
-        below = omega (arith, so_far.below);
-        read = rw (drop_more text at 0 inside, test) at so_far.read;
-      }
+  digits_narrow low = grind (arith, common_steps, widens)
 
   pub digits_wide : (256 ≤ 32 * scale) → Digits text (octets ++ ((32 * rest + digit_at text at) / (32 * scale / 256)) ∷ [])
       (32 * scale / 256) ((32 * rest + digit_at text at) % (32 * scale / 256)) (at + 1)
   unfolding base32_octets
-  digits_wide high =
-      let w = widens scale so_far.scale_is in
-      let test : nat_le 256 (32 * scale) ≡ true = grind (arith, nat_tests) in
-      let some : 0 < 32 * scale / 256 = w.left high in
-      record {
-        scale_is = w.wide high;
-        below = omega (arith, some);
-        read = rw append_assoc (rw (drop_more text at 0 inside, test) at so_far.read);
-      }
+  digits_wide high = grind (arith, common_steps, widens)
 
 -- what is left of a text that is read to its end
 pub digits_end : (text octets : List ℕ) (scale rest at : ℕ) → length text ≤ at → Digits text octets scale rest at

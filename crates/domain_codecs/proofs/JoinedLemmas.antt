@@ -135,10 +135,6 @@ halves16 piece after octets full decoded =
       parts = here.parts;
     }
 
--- after whole octets in Base 32 hex no bits are left over
-no_rest : (value : ℕ) (digits : List ℕ) → base32_octets 1 (value % 1) digits ≡ base32_octets 1 0 digits
-no_rest value digits = let none : value % 1 ≡ 0 = omega arith in ap (λ rest. base32_octets 1 rest digits) none
-
 -- eight digits are five octets
 eight : (a b c d e f g h : ℕ) (digits : List ℕ) → base32_octets 1 0 (a ∷ b ∷ c ∷ d ∷ e ∷ f ∷ g ∷ h ∷ digits)
     ≡ base32_octets 1 0 (a ∷ b ∷ c ∷ d ∷ e ∷ f ∷ g ∷ h ∷ []) ++ base32_octets 1 0 digits
@@ -210,9 +206,6 @@ pub record NextPiece (codec : Codec) (text piece after built : List ℕ) : Type 
   pub octets : List ℕ
   pub first : Decodes codec piece octets
   pub more : ReadPieces codec text after (built ++ octets)
-
-pub pieces_begin : (codec : Codec) (text left built : List ℕ) → left ≡ text → built ≡ [] → AreOctets text → IsText codec text → ReadPieces codec text left built
-pieces_begin codec text left built is none all decoded = grind (arith, common_steps)
 
 pub pieces_next : (codec : Codec) (text left piece after built : List ℕ) → ReadPieces codec text left built → Cut left piece after
     → NextPiece codec text piece after built

@@ -1,16 +1,14 @@
 -- what octets are written as has no spaces, and is one word where there are any octets
-use Rattle.std.proofs.Common.{◌≡◌, ◌≢◌, ℕ, ◌+◌, ◌*◌, ◌/◌, ◌%◌, true, false, List, [], ◌∷◌, ◌++◌, map, get_or, refl, arith}
+use Rattle.std.proofs.Common.{◌≡◌, ◌≢◌, ℕ, ◌+◌, ◌*◌, ◌/◌, ◌%◌, true, false, List, [], ◌∷◌, ◌++◌, map, get_or, refl, arith, rules}
 use Rattle.std.specs.Prelude.{◌==◌, replicate, not, zero, suc}
 use Rattle.std.specs.List.{list_all}
-use Rattle.std.proofs.lemmas.Bool.Decides.{nat_tests}
 use Rattle.hex.specs.Hex.{encode_with, encode_lower, encode_upper, lower_digits, upper_digits}
 use Rattle.base64.specs.GeneralPurpose.{encode_of}
 use Rattle.base64.specs.Engines.{standard}
 use Rattle.base64.specs.Rfc4648.{encode_symbols}
-use Rattle.domain_codecs.specs.Base32.{base32_from, base32_upper, base32_lower, upper_digit, lower_digit}
+use Rattle.domain_codecs.specs.Base32.{base32_from, base32_upper, base32_lower}
 use Rattle.domain_octets.specs.Line.{HasNoSpace, IsWord}
 use Rattle.domain_octets.proofs.WordLemmas.{no_space-append}
-use Rattle.std.proofs.Common.{rules}
 use Rattle.std.proofs.lemmas.Grind.{common_steps}
 
 -- no entry of a table is a space
@@ -36,13 +34,6 @@ upper_hex_word octets some = record { some = hex_some upper_digits octets some; 
 
 pub lower_hex_word : (octets : List ℕ) → octets ≢ [] → IsWord (encode_lower octets)
 lower_hex_word octets some = record { some = hex_some lower_digits octets some; unbroken = hex_plain lower_digits octets (table_plain lower_digits refl) }
-
--- the digits of Base 32 are no spaces, whatever number they are made of
-upper_plain : (n : ℕ) → (upper_digit n == 32) ≡ false
-upper_plain n = grind (arith, nat_tests)
-
-lower_plain : (n : ℕ) → (lower_digit n == 32) ≡ false
-lower_plain n = grind (arith, nat_tests)
 
 map_plain : (written : ℕ → ℕ) → ((n : ℕ) → (written n == 32) ≡ false) → (digits : List ℕ) → HasNoSpace (map written digits)
 map_plain written plain [] = tt

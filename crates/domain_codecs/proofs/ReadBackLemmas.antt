@@ -1,8 +1,6 @@
 -- what octets are written as in Base 32 hex, in either case, is read back
-use Rattle.std.proofs.Common.{◌≡◌, ℕ, ◌+◌, ◌*◌, ◌/◌, ◌%◌, ◌<◌, true, All, not, ◌&&◌, ◌||◌, List, [], ◌∷◌, map, length, refl, ap, sym, ◌∙◌, arith, lit<, nat_eq}
+use Rattle.std.proofs.Common.{◌≡◌, ℕ, ◌+◌, ◌*◌, ◌/◌, ◌%◌, ◌<◌, true, All, not, ◌||◌, List, [], ◌∷◌, map, length, refl, ap, sym, ◌∙◌, arith, lit<, nat_eq}
 use Rattle.std.proofs.Common.{Some}
-use Rattle.std.specs.Prelude.{is_some}
-use Rattle.std.specs.Option.{unwrap_or}
 use Rattle.std.proofs.lemmas.Bool.Decides.{nat_tests}
 use Rattle.std.proofs.lemmas.List.{length-map}
 use Rattle.std.specs.List.{list_all, AllByRecursion}
@@ -153,10 +151,7 @@ value_of_upper_digit n l = grind (arith, nat_tests)
 module _ (written : ℕ → ℕ) (back_to : (n : ℕ) → n < 32 → base32_value (written n) ≡ Some n) where
   are_digits : (ds : List ℕ) → AreSmall ds → (list_all (is_digit Base32Hex) (map written ds) ≡ true) × (base32_digits (map written ds) ≡ ds)
   are_digits [] h = (refl, refl)
-  are_digits (d ∷ ds) h =
-      let up = are_digits ds h.1 in
-      let v = back_to d h.0 in
-      ((λ i. is_some (v i) && up.0 i), (λ i. unwrap_or (v i) 0 ∷ up.1 i))
+  are_digits (d ∷ ds) h = grind (arith, common_steps, (are_digits ds h.1))
 
   reads_back : (octets : List ℕ) → All (λ octet. octet < 256) octets → IsBase32 (map written (base32_from 1 0 octets)) octets
   reads_back octets h =

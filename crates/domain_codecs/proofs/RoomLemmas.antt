@@ -1,5 +1,5 @@
 -- room in a builder that is filled part by part
-use Rattle.std.proofs.Common.{◌≡◌, ℕ, ◌+◌, ◌≤◌, List, [], ◌++◌, length, refl, sym, subst, arith, Option, None, Some, Result, Ok, Err}
+use Rattle.std.proofs.Common.{◌≡◌, ℕ, ◌+◌, ◌≤◌, List, ◌++◌, length, refl, sym, subst, arith, Option, None, Some, Result, Ok, Err}
 use Rattle.std.specs.Prelude.{◌↔◌, IsErrOf, IsErrAnd, IfErr, IsNone}
 use Rattle.domain_octets.specs.Limit.{IsOver, HasRoom}
 use Rattle.domain_octets.specs.declared.error.AppendError.{AppendError}
@@ -11,10 +11,6 @@ use Rattle.std.proofs.lemmas.Grind.{common_steps}
 pub over_more : (limit : Option ℕ) (m n : ℕ) → m ≤ n → IsOver limit m → IsOver limit n
 over_more None m n le over = over
 over_more (Some k) m n le over = omega arith
-
-pub room_for_none : (limit : Option ℕ) → HasRoom limit 0
-room_for_none None over = over
-room_for_none (Some k) over = omega arith
 
 -- what was appended whole had room
 pub room_for_part : {X : Type 0} (limit : Option ℕ) (x : X) (r : Result X AppendError) (built part after : List ℕ) → r ≡ Ok x → after ≡ built ++ part
@@ -33,10 +29,6 @@ pub build_stops : {X : Type 0} (codec : Codec) (limit : Option ℕ) (text built 
 build_stops codec limit text built part rest r ShortBuf is decoded short memory =
     ((built ++ part) ++ rest, decoded, no_room_for_whole limit built part rest ((built ++ part) ++ rest) refl (short.0 (rw is refl)))
 build_stops codec limit text built part rest r OutOfMemory is decoded short memory = memory (rw is refl)
-
--- the same for octets of which there are none yet
-pub empty_has_room : (limit : Option ℕ) (octets : List ℕ) → octets ≡ [] → HasRoom limit (length octets)
-empty_has_room limit octets none = rw none (room_for_none limit)
 
 -- an error that is handed on
 pub handed_on : {Y : Type 0} (P : AppendError → Type 0) (e : AppendError) (r : Result Y AppendError) → IsErrAnd r (λ y. y ≡ e) → P e → IfErr r P

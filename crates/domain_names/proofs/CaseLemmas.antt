@@ -13,10 +13,6 @@ use Rattle.domain_names.specs.Words.{Name}
 use Rattle.domain_names.proofs.WireLemmas.{labels_of-wire_of}
 use Rattle.std.proofs.lemmas.Grind.{common_steps}
 
--- a length is no letter
-low_length : (n : ℕ) → n ≤ 63 → to_ascii_lowercase n ≡ n
-low_length n small = grind (arith, nat_tests)
-
 wire_of-lowered : (labels : List (List ℕ)) → AllByRecursion IsLabel labels → wire_of (lowered labels) ≡ map to_ascii_lowercase (wire_of labels)
 wire_of-lowered [] all = refl
 wire_of-lowered (label ∷ labels) all = grind (arith, common_steps, (wire_of-lowered labels all.1))

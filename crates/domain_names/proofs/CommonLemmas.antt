@@ -1,6 +1,6 @@
 -- how many labels two names share from the root on: a walk over labels counts since the last two that differ
 use Rattle.std.proofs.Common.{◌≡◌, ℕ, ◌+◌, ◌-◌, Bool, true, false, cond, ◌&&◌, List, [], ◌∷◌, ◌++◌, map, length, reverse, take, drop, refl, sym, ap, ◌∙◌, inl}
-use Rattle.std.proofs.Common.{inr, ◌⊎◌, arith, nat_eq, Option, None, Some}
+use Rattle.std.proofs.Common.{inr, ◌⊎◌, arith, nat_eq, Option, None, Some, rules}
 use Rattle.std.specs.List.{common_prefix_len}
 use Rattle.std.specs.declared.cmp.Ordering.{Ordering}
 use Rattle.std.specs.Cmp.Lexicographic.{pointwise, pointwise_decides, bytes_decides}
@@ -12,7 +12,6 @@ use Rattle.domain_names.specs.Name.{lowered}
 use Rattle.domain_names.specs.Order.{common_labels, from_root}
 use Rattle.domain_names.specs.Parting.{EndsIn, Part, order_below}
 use Rattle.domain_names.proofs.PartingLemmas.{from_root-part, octets_tie}
-use Rattle.std.proofs.Common.{rules}
 
 -- ---- common fronts
 

@@ -1,5 +1,5 @@
 -- the canonical order by labels from the leaf
-use Rattle.std.proofs.Common.{◌≡◌, ◌≢◌, ℕ, zero, suc, ◌+◌, ◌-◌, ◌≤◌, List, [], ◌∷◌, ◌++◌, length, drop, map, refl, sym, ap, ◌∙◌, arith}
+use Rattle.std.proofs.Common.{◌≡◌, ◌≢◌, ℕ, zero, suc, ◌+◌, ◌-◌, ◌≤◌, List, [], ◌∷◌, ◌++◌, length, drop, map, refl, sym, ap, ◌∙◌, arith, rules}
 use Rattle.std.specs.declared.cmp.Ordering.{Ordering}
 use Rattle.std.specs.declared.cmp.Ordering.TheVariants.{Less, Equal, Greater}
 use Rattle.std.specs.Ordering.{ordering_then, nat_cmp}
@@ -9,7 +9,6 @@ use Rattle.std.specs.Cmp.Lexicographic.{slice_cmp, pointwise, bytes_decides}
 use Rattle.std.proofs.lemmas.List.{reverse-append, length-reverse, length-map}
 use Rattle.domain_names.specs.Name.{lowered}
 use Rattle.domain_names.specs.Order.{canonical_cmp, from_root}
-use Rattle.std.proofs.Common.{rules}
 use Rattle.std.proofs.lemmas.Grind.{common_steps}
 
 pub then_assoc : (a b c : Ordering) → ordering_then (ordering_then a b) c ≡ ordering_then a (ordering_then b c)
@@ -65,9 +64,7 @@ pub canonical_cmp-more : (xs ys : List (List ℕ)) (x y : List ℕ) → length x
     → canonical_cmp (x ∷ xs) (y ∷ ys) ≡ ordering_then (canonical_cmp xs ys)
     (slice_cmp nat_cmp (map to_ascii_lowercase x) (map to_ascii_lowercase y))
 unfolding canonical_cmp
-canonical_cmp-more xs ys x y same =
-    rw (from_root-cons x xs, from_root-cons y ys) (slice_cmp-push (slice_cmp nat_cmp) (from_root xs) (from_root ys) _ _
-    (length-from_root xs ∙ same ∙ sym (length-from_root ys)))
+canonical_cmp-more xs ys x y same = grind (arith, common_steps, slice_cmp-push)
 
 canonical_cmp-longer : (xs ys : List (List ℕ)) (x : List ℕ) → length ys ≤ length xs → canonical_cmp (x ∷ xs) ys ≡ ordering_then (canonical_cmp xs ys) Greater
 unfolding canonical_cmp
@@ -76,9 +73,7 @@ canonical_cmp-longer xs ys x within =
 
 canonical_cmp-shorter : (xs ys : List (List ℕ)) (y : List ℕ) → length xs ≤ length ys → canonical_cmp xs (y ∷ ys) ≡ ordering_then (canonical_cmp xs ys) Less
 unfolding canonical_cmp
-canonical_cmp-shorter xs ys y within =
-    rw (from_root-cons y ys) (slice_cmp-push_right (slice_cmp nat_cmp) (from_root xs) (from_root ys) _
-    (omega (arith, length-from_root xs, length-from_root ys)))
+canonical_cmp-shorter xs ys y within = grind (arith, common_steps, slice_cmp-push_right)
 
 -- labels at the leaf of the longer name
 left_cut : (n : ℕ) (xs ys : List (List ℕ)) → length xs ≡ n + length ys

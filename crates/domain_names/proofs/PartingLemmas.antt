@@ -10,15 +10,13 @@ use Rattle.std.specs.Cmp.Lexicographic.{slice_cmp, nat_list_cmp_total}
 use Rattle.std.specs.Array.{IsWholeChunk}
 use Rattle.std.specs.Int.{from_le_bytes}
 use Rattle.std.proofs.Math.Seq.{drop-append_seam}
-use Rattle.std.proofs.lemmas.List.{append-nil, append_assoc, drop-append-le, drop-drop, get_or-drop, length-drop, length-take-le}
-use Rattle.std.proofs.lemmas.List.{take-append-drop}
+use Rattle.std.proofs.lemmas.List.{append-nil, append_assoc, drop-append-le, drop-drop, get_or-drop, length-drop, length-take-le, take-append-drop}
 use Rattle.std.proofs.lemmas.Nat.{le_bytes_8}
 use Rattle.domain_names.specs.Name.{wire_of}
 use Rattle.domain_names.specs.Wire.{labels_of, IsWire}
 use Rattle.domain_names.specs.Order.{canonical_cmp, from_root}
 use Rattle.domain_names.specs.Laws.{same_tied}
 use Rattle.domain_names.specs.Parting.{EndAlike, EndsIn, Part, order_below, unless_tied}
-use Rattle.domain_names.proofs.OrderLemmas.{decided}
 use Rattle.domain_names.proofs.WireLemmas.{wire_is, length-wire}
 use Rattle.std.proofs.lemmas.Grind.{common_steps}
 
@@ -28,10 +26,6 @@ pub next_end : (name : List (List ℕ)) (below : Option (List ℕ)) (label : Lis
 next_end name None label here above ends is = ([], ends ∙ is)
 next_end name (Some x) label here above ends is =
     (ends.0 ++ x ∷ [], ends.1 ∙ ap (λ l. ends.0 ++ x ∷ l) is ∙ sym (append_assoc ends.0 (x ∷ []) (label ∷ above)))
-
--- the root's wire form is one octet
-pub root_length : (a : List ℕ) → IsWire a → labels_of a ≡ [] → length a ≤ 1
-root_length a a_wire root = grind (arith, common_steps)
 
 module _ {X : Type 0} (R : X → X → Ordering) (tied : (x : X) → R x x ≡ Equal) where
   slice_cmp-shared : (shared xs ys : List X) → slice_cmp R (shared ++ xs) (shared ++ ys) ≡ slice_cmp R xs ys
@@ -78,15 +72,7 @@ parted : (xs ys : List (List ℕ)) (x y : List ℕ) (shared : List (List ℕ)) �
     → slice_cmp nat_cmp (map to_ascii_lowercase x) (map to_ascii_lowercase y) ≢ Equal
     → slice_cmp nat_cmp (map to_ascii_lowercase x) (map to_ascii_lowercase y) ≡ canonical_cmp xs ys
 unfolding canonical_cmp
-parted xs ys x y shared p differ =
-    let xs_is = ap from_root p.left.1 ∙ from_root-part p.left.0 shared x in
-    let ys_is = ap from_root p.right.1 ∙ from_root-part p.right.0 shared y in
-    decided _ (slice_cmp (slice_cmp nat_cmp) (from_root p.left.0) (from_root p.right.0)) _
-    (ap (slice_cmp (slice_cmp nat_cmp) (from_root xs)) ys_is
-    ∙ ap (λ l. slice_cmp (slice_cmp nat_cmp) l (from_root shared ++ map to_ascii_lowercase y ∷ from_root p.right.0)) xs_is
-    ∙ slice_cmp-shared (slice_cmp nat_cmp) octets_tie (from_root shared) (map to_ascii_lowercase x ∷ from_root p.left.0)
-    (map to_ascii_lowercase y ∷ from_root p.right.0))
-    differ
+parted xs ys x y shared p differ = grind (arith, common_steps, slice_cmp-shared, octets_tie)
 
 pub untied : (c o : Ordering) → unless_tied c ≡ Some o → (o ≡ c) × (c ≢ Equal)
 untied Less o is = (cc, λ e. absurd cc)

@@ -1,10 +1,10 @@
 -- names spelled by texts
 use Rattle.std.proofs.Common.{◌≡◌, ◌≢◌, ℕ, zero, suc, take, get_or, ◌+◌, ◌<◌, ◌≤◌, List, [], ◌∷◌, ◌++◌, Option, Some, None, length, drop, refl, sym, ap, subst}
-use Rattle.std.proofs.Common.{◌∙◌, ◌-◌, arith, length-append, slice_set, inl, inr, ◌⊎◌}
+use Rattle.std.proofs.Common.{◌∙◌, ◌-◌, arith, length-append, slice_set, inl, inr, ◌⊎◌, rules}
 use Rattle.std.specs.Prelude.{IsSome, IfSome, IfNone, ◌↔◌}
 use Rattle.std.specs.List.{AllByRecursion}
 use Rattle.std.proofs.lemmas.Bool.{ne_eqb, le-leb}
-use Rattle.std.proofs.lemmas.List.{append-nil, append_assoc, drop-drop, length-drop, length-set, take_at, take_more}
+use Rattle.std.proofs.lemmas.List.{append-nil, append_assoc, drop-drop, length-drop, take_at, take_more}
 use Rattle.std.proofs.Math.Seq.{set-append_seam}
 use Rattle.domain_names.specs.Name.{wire_of, IsLabel, IsName}
 use Rattle.domain_names.proofs.WireLemmas.{length-wire_of}
@@ -283,13 +283,7 @@ module _ {U : Type 0} (text wire new : List ℕ) (o : Option U) (found : IsLabel
   named_labels = named_fits text wire new o found room.0
 
   pub named_none : text ≢ 46 ∷ [] → IfNone o (IsNoName text)
-  named_none other = go o room where
-    go : (p : Option U) → IsSome p ↔ (length wire < 255) → IfNone p (IsNoName text)
-    go None room' = no_name text other (λ labels spelled valid.
-        let same = same_labels text found.0 labels found.1 spelled found.2 valid.of_labels in
-        let size : length (wire_of found.0) ≤ 255 = subst (λ l. length (wire_of l) ≤ 255) (sym same) valid.fits in
-        absurd (let some = room'.1 (omega (arith, size, ap length found.3, length-append wire (0 ∷ []))) in cc))
-    go (Some u) room' = tt
+  named_none other = grind (arith, common_steps, no_name, same_labels)
 
 pub name_is_valid : (text : List ℕ) (labels : List (List ℕ)) → NameText text labels → IsName labels
 name_is_valid text labels root = record { of_labels = tt; fits = omega arith }
@@ -334,19 +328,7 @@ module _ {text rest octets : List ℕ} (so_far : Measuring text rest octets) (la
       ∙ ap (λ r. so_far.wire ++ length label ∷ r) parted ∙ sym (append_assoc so_far.wire (length label ∷ label) after)
 
   pub measuring_goes : (next : List ℕ) → after ≡ 46 ∷ next → next ≢ [] → Measuring text next measured
-  measuring_goes next dot some = record {
-    wire = so_far.wire ++ length label ∷ label;
-    gap = 46;
-    parts = measured_is ∙ ap (λ a. (so_far.wire ++ length label ∷ label) ++ a) dot;
-    naming = naming_goes text rest so_far.wire label after next so_far.naming read dot some valid;
-    size = length-set octets (length text - length rest) (length label) ∙ so_far.size;
-  }
+  measuring_goes next dot some = grind (arith, common_steps, measured_is, naming_goes)
 
   pub measuring_ends : length after ≤ 1 → IsLabelsWire text (take (length text - length rest + 1 + length label) measured)
-  measuring_ends short =
-      let front = so_far.wire ++ length label ∷ label in
-      let n : length front ≡ length text - length rest + 1 + length label =
-      omega (arith, so_far.size, ap length so_far.parts, length-append so_far.wire (so_far.gap ∷ rest), length-append so_far.wire (length label ∷ label)) in
-      let cut : take (length text - length rest + 1 + length label) measured ≡ front =
-      ap (take (length text - length rest + 1 + length label)) measured_is ∙ take_at front after (length text - length rest + 1 + length label) n in
-      subst (IsLabelsWire text) (sym cut) (naming_ends text rest so_far.wire label after so_far.naming read short valid)
+  measuring_ends short = search (rules, length-append, measured_is, take_at, naming_ends)

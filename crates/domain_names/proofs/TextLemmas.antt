@@ -1,7 +1,6 @@
 -- the text of an octet in decimal digits, of octets that are written as they are, and of names
-use Rattle.std.proofs.Common.{arith, ℕ, ◌/◌, ◌%◌, ◌<◌, ◌≡◌, ◌∷◌, ◌++◌, ◌+◌, ◌-◌, [], suc, List, Bool, true, false, refl, sym, ap, ◌∙◌}
+use Rattle.std.proofs.Common.{arith, ℕ, ◌/◌, ◌%◌, ◌<◌, ◌≡◌, ◌∷◌, ◌++◌, ◌+◌, ◌-◌, [], suc, List, true, false, refl, sym, ap, ◌∙◌}
 use Rattle.std.proofs.Common.{length, take, drop, slice_set, ◌≤◌, length-append, append_assoc, append-nil}
-use Rattle.std.specs.Prelude.{◌&&◌, not}
 use Rattle.std.specs.List.{All, AllByRecursion as ByRecursion, AllPass}
 use Rattle.std.specs.Str.{IsAscii}
 use Rattle.std.proofs.lemmas.Grind.{common_steps}
@@ -21,11 +20,6 @@ pub octet_text_in_digits : (c : ℕ) → c < 256 → is_special c ≡ false → 
     → octet_text c ≡ 92 ∷ (decimal (c / 100) ++ (decimal (c / 10 % 10) ++ decimal (c % 10)))
 unfolding octet_text
 octet_text_in_digits c small special graphic = grind (arith, common_steps, decimal_digit)
-
-graphic_not_special : (graphic special : Bool) → graphic && not special ≡ true → (graphic ≡ true) × (special ≡ false)
-graphic_not_special true false both = (refl, refl)
-graphic_not_special true true both = absurd (let e = both in cc)
-graphic_not_special false special both = absurd (let e = both in cc)
 
 pub ordinary_octet : (c : ℕ) → is_ordinary c ≡ true → octet_text c ≡ c ∷ []
 unfolding octet_text
@@ -68,9 +62,6 @@ pub record IsDotted (name rest text : List ℕ) : Type 0 where
   pub dots : dotted_text (labels_of name) ≡ front ++ dotted_text (labels_of rest)
   pub wire : IsWire rest
   pub size : length text ≡ length name
-
-pub dotted_none : (name : List ℕ) → IsWire name → IsDotted name name name
-dotted_none name wire = record { front = []; parts = refl; dots = refl; wire = wire; size = refl }
 
 -- the octets of a name that has labels
 wire_parts : (rest label above : List ℕ) → IsWire rest → IsWire above → labels_of rest ≡ label ∷ labels_of above

@@ -1,19 +1,15 @@
-use Rattle.std.proofs.Common.{◌≡◌, List, ℕ, ◌++◌, length, take, map, arith, length-take}
+use Rattle.std.proofs.Common.{◌++◌, map, arith}
 use Rattle.std.specs.List.{concat}
-use Rattle.domain_codecs.proofs.RoomLemmas.{build_stops, room_for_part, handed_on}
-use Rattle.domain_codecs.proofs.JoinedLemmas.{ReadPieces, pieces_next, pieces_end, none_after}
+use Rattle.domain_codecs.proofs.RoomLemmas.{build_stops, handed_on}
+use Rattle.domain_codecs.proofs.JoinedLemmas.{ReadPieces, pieces_next, pieces_end}
 use Rattle.domain_codecs.proofs.CodecBackLemmas.{decodes_once}
 use Rattle.domain_codecs.proofs.decoding.build_joined.Given.{Over}
 use Rattle.domain_codecs.proofs.decoding.build_joined.Goals.{After-as_slice}
 use Rattle.domain_codecs.proofs.decoding.build_joined.Goals as goal
+use Rattle.std.proofs.lemmas.Grind.{common_steps}
 
 pub returns-then-count-eq0-clause-ok : goal.returns-then-count-eq0-clause-ok
-returns-then-count-eq0-clause-ok g c =
-    let piece : List ℕ = take c.take_piece-count.result c.take_piece-count.new.piece in
-    let none : length piece ≡ 0 = omega (arith, length-take c.take_piece-count.result c.take_piece-count.new.piece) in
-    pieces_end c.args.codec (concat (map (λ text. text.now) c.args.texts.now)) c.loop-left.left
-    (g.B.Octets.octets c.loop-left.octets) c.loop-left.invariant.read
-    (none_after c.loop-left.left piece c.take_piece-count.new.self c.take_piece-count.ensures.cut none)
+returns-then-count-eq0-clause-ok g c = grind (arith, common_steps, pieces_end)
 
 pub build_piece-part-requires-clause-text : goal.build_piece-part-requires-clause-text
 build_piece-part-requires-clause-text g c =
@@ -29,10 +25,7 @@ piece_read g c =
     rw (decodes_once _ _ next.octets c.as_slice.result.now next.first (rw c.as_slice.ensures c.build_piece-part.ensures)) at next.more
 
 pub loop-left-preserved : goal.loop-left-preserved
-loop-left-preserved g c = record {
-  read = rw c.in_ok-append_slice.ensures.ok (piece_read g (goal.at.loop-left-preserved g c).After-as_slice);
-  room = room_for_part _ _ _ _ _ _ c.in_ok-append_slice.was c.in_ok-append_slice.ensures.ok c.append_slice.ensures.short;
-}
+loop-left-preserved g c = grind (arith, common_steps, piece_read)
 
 pub returns-in_err-append_slice-clause-err : goal.returns-in_err-append_slice-clause-err
 returns-in_err-append_slice-clause-err g c =

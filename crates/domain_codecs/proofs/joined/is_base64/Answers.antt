@@ -3,13 +3,10 @@ use Rattle.std.specs.List.{concat}
 use Rattle.domain_codecs.proofs.JoinedLemmas.{passed_begin, no_group, refused_piece, short_decides, full_goes_on, full_is_some}
 use Rattle.domain_codecs.proofs.joined.is_base64.Goals.{Else-full-lt48}
 use Rattle.domain_codecs.proofs.joined.is_base64.Goals as goal
+use Rattle.std.proofs.lemmas.Grind.{common_steps}
 
 pub returns-then-over_eight-ne0 : goal.returns-then-over_eight-ne0
-returns-then-over_eight-ne0 c = (
-  λ no. (cc no),
-  λ is. absurd (no_group (concat (map (λ text. text.now) c.args.texts.now)) c.over_eight.result c.over_eight.ensures.octets
-      c.over_eight.ensures.over c.if-over_eight-ne0.true is),
-)
+returns-then-over_eight-ne0 c = grind (arith, common_steps, no_group)
 
 pub loop-full-init : goal.loop-full-init
 loop-full-init c = passed_begin (concat (map (λ text. text.now) c.args.texts.now)) c.new-left.result c.new-left.ensures c.over_eight.ensures.octets

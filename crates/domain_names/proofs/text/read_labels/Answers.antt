@@ -1,5 +1,5 @@
-use Rattle.std.proofs.Common.{◌≡◌, ◌≢◌, ◌≤◌, ◌<◌, [], ◌∷◌, length, get_or, drop, ap, arith}
-use Rattle.std.proofs.lemmas.List.{take_rest, drop_more, length-drop}
+use Rattle.std.proofs.Common.{◌≡◌, ◌≢◌, [], ◌∷◌, length, get_or, drop, ap, arith}
+use Rattle.std.proofs.lemmas.List.{take_rest, drop_more}
 use Rattle.std.proofs.lemmas.Grind.{common_steps}
 use Rattle.std.proofs.lemmas.Bool.Decides.{nat_tests}
 use Rattle.domain_names.proofs.SpellingLemmas.{naming_goes, naming_ends, no_label_after_left, after_label, dot_after}
@@ -9,10 +9,7 @@ pub returns-in_default-clause-none : goal.returns-in_default-clause-none
 returns-in_default-clause-none c = no_label_after_left _ _ _ c.loop-after.invariant c.in_default.ensures.none
 
 pub loop-after-smaller : goal.loop-after-smaller
-loop-after-smaller c =
-    let after = c.in-Some.after.now in
-    let shorter : length (drop 1 after) < length c.loop-after.rest.now = omega (arith, after_label _ _ _ c.in-Some.ensures.some.1, length-drop 1 after) in
-    rw (take_rest after 1) shorter
+loop-after-smaller c = grind (arith, common_steps, after_label)
 
 pub loop-after-preserved : goal.loop-after-preserved
 loop-after-preserved c =
@@ -25,13 +22,7 @@ loop-after-preserved c =
     rw (taken.3, take_rest after 1) (naming_goes _ rest c.loop-after.wire taken.0 after (drop 1 after) c.loop-after.invariant taken.1 dot some taken.2)
 
 pub returns-in_default-after-clause-labels : goal.returns-in_default-after-clause-labels
-returns-in_default-after-clause-labels c =
-    let taken = c.in-Some.ensures.some in
-    rw taken.3 (naming_ends _ c.loop-after.rest.now c.loop-after.wire taken.0 c.in-Some.after.now c.loop-after.invariant taken.1 (omega arith) taken.2)
+returns-in_default-after-clause-labels c = grind (arith, common_steps, naming_ends)
 
 pub returns-in_default-after-2-clause-labels : goal.returns-in_default-after-2-clause-labels
-returns-in_default-after-2-clause-labels c =
-    let after = c.in-Some.after.now in
-    let taken = c.in-Some.ensures.some in
-    let short : length after ≤ 1 = let test = rw (take_rest after 1, length-drop 1 after) at c.is_empty.ensures in grind (arith, nat_tests, common_steps) in
-    rw taken.3 (naming_ends _ c.loop-after.rest.now c.loop-after.wire taken.0 after c.loop-after.invariant taken.1 short taken.2)
+returns-in_default-after-2-clause-labels c = grind (arith, common_steps, naming_ends)

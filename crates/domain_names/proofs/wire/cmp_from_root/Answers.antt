@@ -1,8 +1,7 @@
-use Rattle.domain_names.specs.Wire.{labels_of}
 use Rattle.domain_names.proofs.OrderLemmas.{canonical_cmp-cut}
 use Rattle.domain_names.proofs.wire.cmp_from_root.Goals as goal
+use Rattle.std.proofs.Common.{arith}
+use Rattle.std.proofs.lemmas.Grind.{common_steps}
 
 pub returns : goal.returns
-returns c =
-    let cut = canonical_cmp-cut (labels_of c.args.a.now) (labels_of c.args.b.now) in
-    cc
+returns c = grind (arith, common_steps, canonical_cmp-cut)

@@ -1,12 +1,11 @@
-use Rattle.std.proofs.Common.{arith}
-use Rattle.domain_names.proofs.PartingLemmas.{next_end, part_at, root_length}
+use Rattle.std.proofs.Common.{arith, rules}
+use Rattle.domain_names.proofs.PartingLemmas.{next_end, part_at}
 use Rattle.domain_names.proofs.WireLemmas.{length-wire}
 use Rattle.domain_names.proofs.wire.part.Goals as goal
+use Rattle.std.proofs.lemmas.Grind.{common_steps}
 
 pub unreachable-requires : goal.unreachable-requires
-unreachable-requires c =
-    let short = root_length _ c.parting.invariant.a_wire c.in_default.ensures.root in
-    omega (arith, short, length-wire _ c.parting.invariant.b_wire, c.if-a_end-b_end.true)
+unreachable-requires c = grind (arith, common_steps, length-wire)
 
 pub parting-preserved-then-a_end-b_end : goal.parting-preserved-then-a_end-b_end
 parting-preserved-then-a_end-b_end c = record {
@@ -19,9 +18,7 @@ parting-preserved-then-a_end-b_end c = record {
 }
 
 pub unreachable-requires-in_default-split_first : goal.unreachable-requires-in_default-split_first
-unreachable-requires-in_default-split_first c =
-    let short = root_length _ c.parting.invariant.b_wire c.in_default-split_first.ensures.root in
-    c.parting-test.true (omega (arith, short, length-wire _ c.parting.invariant.a_wire, c.if-a_end-b_end.false))
+unreachable-requires-in_default-split_first c = grind (arith, common_steps, length-wire)
 
 pub parting-preserved : goal.parting-preserved
 parting-preserved c = record {
@@ -34,9 +31,4 @@ parting-preserved c = record {
 }
 
 pub returns : goal.returns
-returns c = record {
-  wire = c.parting.invariant.a_wire;
-  parts = part_at c.args.a.now c.args.b.now c.parting.a_end.now c.parting.b_end.now _ _ c.equal_end-equal.result
-      c.requires.a c.requires.b c.parting.invariant.a_wire c.parting.invariant.b_wire c.parting.invariant.a_ends c.parting.invariant.b_ends
-      c.equal_end-equal.ensures.alike c.parting-test.false c.parting.invariant.a_within;
-}
+returns c = search (rules, part_at)
