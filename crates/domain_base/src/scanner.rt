@@ -10,8 +10,8 @@ ghost use Rattle.domain_names.specs.Text.{NameText};
 ghost use Rattle.domain_names.specs.Words.{Tokens, Token};
 ghost use Rattle.domain_octets.specs.Words.{Octets};
 
-use domain_names::{Name, ScanError, ToName};
 use domain_codecs::{Codec, DecodeError};
+use domain_names::{Name, ScanError, ToName};
 use domain_octets::{EmptyBuilder, FromBuilder};
 use std::alloc::Global;
 use std::marker::{Model, PhantomData};

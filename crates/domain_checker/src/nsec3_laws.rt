@@ -16,10 +16,10 @@ ghost use Rattle.domain_checker.specs.HashedView.{HashedRecords};
 ghost use Rattle.domain_checker.specs.declared.verdict.Verdict.{Verdict};
 
 use domain_bitmap::laws::built_bitmaps_give_their_types;
+use domain_codecs::laws::{base32_reads_back, base32_tells_apart};
 use domain_nsec3::laws::{
     chains_mean_the_zone, names_end_at_the_encloser, names_exist, types_ignore_case,
 };
-use domain_codecs::laws::{base32_reads_back, base32_tells_apart};
 
 /// What the laws of NSEC3 chains, of names, of bitmaps and of Base 32 say, put together for each
 /// chain.

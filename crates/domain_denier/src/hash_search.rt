@@ -8,10 +8,10 @@ ghost use Rattle.domain_hasher.specs.declared.error.Nsec3HashError.TheVariants a
 ghost use Rattle.domain_zone.specs.Zone.{ZoneRecord};
 ghost use Rattle.domain_denier.specs.HashedSteps.{IsFoundHash, IsOfHash, IsSaid};
 
+use domain_codecs::laws::{base32_reads_back, base32_tells_apart};
 use domain_hasher::{Nsec3HashError, Nsec3Hasher, hash_wire};
 use domain_nsec3::Nsec3Chain;
 use domain_octets::Octets;
-use domain_codecs::laws::{base32_reads_back, base32_tells_apart};
 use std::alloc::Global;
 
 /// The record of a chain that a hash falls to, by its place.

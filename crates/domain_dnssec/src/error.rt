@@ -7,9 +7,9 @@ ghost use Rattle.domain_dnssec.specs.declared.error.Error.TheVariants as variant
 use crate::ChainError;
 use domain_base::{NameError, ParseError, ScanError};
 use domain_bitmap::{Nsec3SaltError, Nsec3SaltFromStrError, OwnerHashError, RtypeBitmapError};
+use domain_codecs::DecodeError;
 use domain_hasher::{HasherError, Nsec3HashError};
 use domain_message::{LineError, MessageError};
-use domain_codecs::DecodeError;
 use domain_octets::{AppendError, OutOfMemory};
 use domain_record::LongRecordData;
 use domain_records::{InsertError, SigningError, SortError};

@@ -5,8 +5,8 @@ ghost use Rattle.domain_fields.specs.Scan.{Scans, Refuses};
 ghost use Rattle.domain_fields.specs.Entry.{Spells, RefusesData};
 
 use domain_base::{ScanError, Scanner};
-use domain_fields::ScanFields;
 use domain_codecs::Codec;
+use domain_fields::ScanFields;
 use domain_octets::Octets;
 use std::alloc::Global;
 

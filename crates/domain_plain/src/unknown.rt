@@ -12,9 +12,12 @@ ghost use Rattle.domain_plain.specs.Plain.{unknown, unknown_values};
 
 use crate::generic::GenericMark;
 use domain_base::{CanonicalOrd, FromToken, Rtype, ScanError, Scanner};
-use domain_fields::{AtMost, Fields, MAX_RDLEN, ReadFields, Rest};
 use domain_codecs::Codec;
-use domain_octets::{AppendError, CopyOctets, FlattenInto, FromBuilder, Octets, OctetsBuilder, OctetsFrom, OutOfMemory, ParseError, Parser, TryClone};
+use domain_fields::{AtMost, Fields, MAX_RDLEN, ReadFields, Rest};
+use domain_octets::{
+    AppendError, CopyOctets, FlattenInto, FromBuilder, Octets, OctetsBuilder, OctetsFrom,
+    OutOfMemory, ParseError, Parser, TryClone,
+};
 use domain_record::{
     CloneRecordData, ComposeRecordData, LongRecordData, ParseRecordData, RecordData,
 };

@@ -6,8 +6,8 @@ ghost use Rattle.domain_rrsig.specs.Pieces.{signed_numbers_text, signed_times_te
 
 use crate::{ProtoRrsig, Rrsig, Timestamp};
 use domain_base::{FromToken, Rtype, ScanError, Scanner, SecurityAlgorithm, ToName, Ttl};
-use domain_fields::{InBase64, ScanFields, Scanned};
 use domain_codecs::Codec;
+use domain_fields::{InBase64, ScanFields, Scanned};
 use domain_octets::{Formatter, FromBuilder, Octets, OutOfMemory, ZonefileFmt};
 use std::alloc::Global;
 use std::fmt;

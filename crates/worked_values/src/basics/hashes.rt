@@ -8,7 +8,10 @@ use domain_bitmap::{
     CountedOctets, Nsec3Salt, Nsec3SaltError, Nsec3SaltFromStrError, OwnerHash, OwnerHashError,
 };
 use domain_codecs::DecodeError;
-use domain_octets::{ArrayBuilder, DisplayKind, EmptyBuilder, FromBuilder, Octets, Parser, PieceFormatter, ZonefileFmt};
+use domain_octets::{
+    ArrayBuilder, DisplayKind, EmptyBuilder, FromBuilder, Octets, Parser, PieceFormatter,
+    ZonefileFmt,
+};
 use std::alloc::Global;
 use std::fmt::Debug;
 
