@@ -6,6 +6,8 @@ use Rattle.std.proofs.lemmas.Nat.Bits.{bit_at_set_same, bit_at_set_other, shr_an
 use Rattle.std.proofs.lemmas.Bool.{cases_eq}
 use Rattle.std.proofs.lemmas.Bool.Decides.{nat_tests, eqb_tells}
 use Rattle.domain_bitmap.specs.Bits.{bit_of, AreClear, octet_with, weight}
+use Rattle.std.proofs.Common.{rules}
+use Rattle.std.proofs.lemmas.Grind.{common_steps}
 
 -- a bit as a number
 digit : Bool → ℕ
@@ -42,27 +44,7 @@ record Sum (bit : ℕ → Bool) : Type 0 where
 
 sum_of : (bit : ℕ → Bool) → Sum bit
 unfolding octet_with
-sum_of bit = record {
-  whole = omega (
-    arith,
-    weight-digit 128 (bit 0),
-    weight-digit 64 (bit 1),
-    weight-digit 32 (bit 2),
-    weight-digit 16 (bit 3),
-    weight-digit 8 (bit 4),
-    weight-digit 4 (bit 5),
-    weight-digit 2 (bit 6),
-    weight-digit 1 (bit 7),
-  );
-  small0 = digit_small (bit 0);
-  small1 = digit_small (bit 1);
-  small2 = digit_small (bit 2);
-  small3 = digit_small (bit 3);
-  small4 = digit_small (bit 4);
-  small5 = digit_small (bit 5);
-  small6 = digit_small (bit 6);
-  small7 = digit_small (bit 7);
-}
+sum_of bit = grind (arith, common_steps, weight-digit, digit_small)
 
 pub octet_with-lt : (bit : ℕ → Bool) → octet_with bit < 256
 octet_with-lt bit = let s = sum_of bit in omega arith
@@ -123,9 +105,7 @@ octet_with-bit_of x small = octets_same (octet_with (bit_of x)) x (octet_with-lt
 
 -- octets of bits that agree are equal
 pub octet_with-same : (p q : ℕ → Bool) → ((b : ℕ) → b < 8 → p b ≡ q b) → octet_with p ≡ octet_with q
-octet_with-same p q same =
-    octets_same (octet_with p) (octet_with q) (octet_with-lt p) (octet_with-lt q) (λ b small. bit_of-octet_with p b small
-    ∙ same b small ∙ sym (bit_of-octet_with q b small))
+octet_with-same p q same = search (rules, octets_same, octet_with-lt, bit_of-octet_with)
 
 pub octet_with-none : (p : ℕ → Bool) → ((b : ℕ) → b < 8 → p b ≡ false) → octet_with p ≡ 0
 octet_with-none p none = octets_same (octet_with p) 0 (octet_with-lt p) (omega arith) (λ b small. bit_of-octet_with p b small

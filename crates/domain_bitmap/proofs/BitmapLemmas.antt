@@ -1,17 +1,17 @@
 -- the octets of a set of types
-use Rattle.std.proofs.Common.{◌≡◌, ℕ, zero, suc, ◌+◌, ◌*◌, ◌/◌, ◌<◌, ◌≤◌, Bool, false, List, [], ◌∷◌, ◌++◌, length, get_or, refl, sym, ap, ◌∙◌, subst, inl, inr}
+use Rattle.std.proofs.Common.{◌≡◌, ℕ, zero, suc, ◌+◌, ◌*◌, ◌/◌, ◌<◌, ◌≤◌, Bool, false, List, [], ◌∷◌, ◌++◌, length, get_or, refl, sym, ap, ◌∙◌, subst}
 use Rattle.std.proofs.Common.{arith, zero-add}
-use Rattle.std.proofs.lemmas.List.{append-nil, get_or_past}
+use Rattle.std.proofs.lemmas.List.{append-nil}
 use Rattle.std.specs.List.{AllByRecursion, flat_map, range_with_len}
 use Rattle.std.proofs.lemmas.List.FromFn.{length-map-range_with_len, get_or-map-range_with_len, fill_by_all}
-use Rattle.std.proofs.lemmas.Bool.Decides.{leb_tells}
 use Rattle.domain_bitmap.specs.Bits.{bit_of, octet_with}
 use Rattle.domain_bitmap.specs.Bitmap.{window_octets, trimmed, block_with, window_block, bitmap_octets}
 use Rattle.domain_bitmap.specs.Blocks.{Block, IsBlock, octets_of_blocks, IsBitmap}
 use Rattle.domain_bitmap.proofs.RangeLemmas.{flat_same, flat_more, flat_length}
 use Rattle.domain_bitmap.proofs.BitLemmas.{octet_with-lt, octet_with-same, octet_with-none, octet_with-bit_of, bit_of-octet_with}
 use Rattle.domain_bitmap.proofs.TrimLemmas.{get_or-trimmed, length-trimmed, trimmed-zeros}
-use Rattle.domain_bitmap.proofs.BlockLemmas.{IsBitmap-octets_of_blocks, octets_of_blocks-append, all-append}
+use Rattle.domain_bitmap.proofs.BlockLemmas.{IsBitmap-octets_of_blocks}
+use Rattle.std.proofs.lemmas.Grind.{common_steps}
 
 pub length-window_octets : (types : ℕ → Bool) (w : ℕ) → length (window_octets types w) ≡ 32
 unfolding window_octets
@@ -22,11 +22,7 @@ unfolding window_octets
 get_or-window_octets types w i inside = get_or-map-range_with_len (λ i. octet_with (λ b. types (256 * w + 8 * i + b))) 0 32 i i 0 inside (zero-add i)
 
 pub bounded : (types : ℕ → Bool) (w i : ℕ) → get_or (window_octets types w) i 0 < 256
-bounded types w i =
-    elim (leb_tells 32 i) [
-      | inl h ↦ let past = get_or_past (window_octets types w) i 0 (omega (arith, h.1, length-window_octets types w)) in omega arith
-      | inr h ↦ let within = get_or-window_octets types w i h.1 in omega (arith, octet_with-lt (λ b. types (256 * w + 8 * i + b)))
-    ]
+bounded types w i = grind (arith, common_steps, length-window_octets, get_or-window_octets, octet_with-lt)
 
 -- the octets of a window are those with its bits
 pub window_octets-is : (types : ℕ → Bool) (w : ℕ) (xs : List ℕ) → length xs ≡ 32 → ((k : ℕ) → get_or xs k 0 < 256)
@@ -42,13 +38,7 @@ in_window : (w k b : ℕ) → k < 32 → b < 8 → (256 * w + 8 * k + b) / 256 �
 in_window w k b k_small b_small = omega (arith, k_small, b_small)
 
 pub zero_octets : (types : ℕ → Bool) (w : ℕ) → ((t : ℕ) → t / 256 ≡ w → types t ≡ false) → (k : ℕ) → get_or (window_octets types w) k 0 ≡ 0
-zero_octets types w none k =
-    elim (leb_tells 32 k) [
-      | inl h ↦ get_or_past (window_octets types w) k 0 (omega (arith, h.1, length-window_octets types w))
-      | inr h ↦
-          get_or-window_octets types w k h.1
-          ∙ octet_with-none (λ b. types (256 * w + 8 * k + b)) (λ b small. none (256 * w + 8 * k + b) (in_window w k b h.1 small))
-    ]
+zero_octets types w none k = grind (arith, common_steps, length-window_octets, get_or-window_octets, octet_with-none)
 
 -- a window without types has no block
 pub window_block-none : (types : ℕ → Bool) (w : ℕ) → ((t : ℕ) → t / 256 ≡ w → types t ≡ false) → window_block types w ≡ []
@@ -92,9 +82,7 @@ pub octets_of_blocks-blocks_from : (types : ℕ → Bool) (a n : ℕ) → octets
 unfolding blocks_from window_block
 octets_of_blocks-blocks_from types a zero = refl
 octets_of_blocks-blocks_from types a (suc n) =
-    let xs = trimmed (window_octets types a) in
-    octets_of_blocks-append (block_list a xs) (blocks_from types (a + 1) n)
-    ∙ rw (octets_of_blocks-block_list a xs, octets_of_blocks-blocks_from types (a + 1) n) refl
+    grind (arith, common_steps, octets_of_blocks-block_list, (octets_of_blocks-blocks_from types (a + 1) n))
 
 valid_list : (w : ℕ) (xs : List ℕ) → w < 256 → length xs ≤ 32 → ((i : ℕ) → get_or xs i 0 < 256) → AllByRecursion IsBlock (block_list w xs)
 unfolding block_list
@@ -105,10 +93,7 @@ valid_from : (types : ℕ → Bool) (a n : ℕ) → a + n ≤ 256 → AllByRecur
 unfolding blocks_from
 valid_from types a zero fits = tt
 valid_from types a (suc n) fits =
-    let xs = trimmed (window_octets types a) in
-    let long : length xs ≤ 32 = omega (arith, length-trimmed (window_octets types a), length-window_octets types a) in
-    let small : (i : ℕ) → get_or xs i 0 < 256 = λ i. rw (get_or-trimmed (window_octets types a) i) (bounded types a i) in
-    all-append (block_list a xs) (blocks_from types (a + 1) n) (valid_list a xs (omega arith) long small) (valid_from types (a + 1) n (omega arith))
+    grind (arith, common_steps, length-trimmed, length-window_octets, get_or-trimmed, bounded, valid_list, (valid_from types (a + 1) n (omega arith)))
 
 pub IsBitmap-bitmap_octets : (types : ℕ → Bool) → IsBitmap (bitmap_octets types)
 unfolding bitmap_octets
@@ -120,16 +105,11 @@ pub written_more : (types : ℕ → Bool) (w : ℕ) (front out xs : List ℕ) �
     → window_octets types w ≡ xs → out ≡ front ++ block_with w (trimmed xs)
     → out ≡ flat_map (window_block types) (range_with_len 0 (w + 1))
 unfolding window_block
-written_more types w front out xs before octets is =
-    is ∙ ap (λ l. l ++ block_with w (trimmed xs)) before ∙ ap (λ l. flat_map (window_block types) (range_with_len 0 w)
-    ++ block_with w (trimmed l)) (sym octets) ∙ sym (flat_more (window_block types) w)
+written_more types w front out xs before octets is = grind (arith, common_steps, flat_more)
 
 pub skipped_more : (types : ℕ → Bool) (w : ℕ) (front : List ℕ) → front ≡ flat_map (window_block types) (range_with_len 0 w)
     → ((t : ℕ) → t / 256 ≡ w → types t ≡ false) → front ≡ flat_map (window_block types) (range_with_len 0 (w + 1))
-skipped_more types w front before none =
-    before ∙ sym (append-nil (flat_map (window_block types) (range_with_len 0 w)))
-    ∙ ap (λ l. flat_map (window_block types) (range_with_len 0 w) ++ l) (sym (window_block-none types w none))
-    ∙ sym (flat_more (window_block types) w)
+skipped_more types w front before none = grind (arith, common_steps, window_block-none, flat_more)
 
 pub all_written : (types : ℕ → Bool) (n : ℕ) (out : List ℕ) → n ≡ 256 → out ≡ flat_map (window_block types) (range_with_len 0 n) → out ≡ bitmap_octets types
 unfolding bitmap_octets

@@ -1,18 +1,16 @@
 -- octets read as blocks
-use Rattle.std.proofs.Common.{◌≡◌, ℕ, zero, suc, ◌+◌, ◌-◌, ◌*◌, ◌/◌, ◌%◌, ◌<◌, ◌≤◌, ◌≢◌, true, false, List, [], ◌∷◌, ◌++◌, length, slice_index, get_or}
+use Rattle.std.proofs.Common.{◌≡◌, ℕ, zero, suc, ◌+◌, ◌-◌, ◌*◌, ◌/◌, ◌%◌, ◌<◌, ◌≤◌, ◌≢◌, true, false, List, [], ◌∷◌, length, slice_index, get_or}
 use Rattle.std.proofs.Common.{take, drop, refl, sym, ap, ◌∙◌, subst, arith, length-append}
 use Rattle.std.specs.List.{AllByRecursion, flat_map}
-use Rattle.std.proofs.lemmas.List.{take_at, drop_at, get_or_past}
+use Rattle.std.proofs.lemmas.List.{take_at, drop_at}
 use Rattle.std.proofs.lemmas.List.Elements.{All-from_recursion, All-append, All-cons, All-nil}
 use Rattle.domain_octets.specs.Words.{AreOctets}
-use Rattle.std.specs.Prelude.{◌==◌}
-use Rattle.std.proofs.lemmas.Bool.Decides.{nat_tests}
 use Rattle.domain_bitmap.proofs.RangeLemmas.{filter_none}
 use Rattle.domain_bitmap.proofs.BitLemmas.{bit_of-zero}
-use Rattle.std.proofs.lemmas.List.Concat.{flat_map-append}
 use Rattle.domain_bitmap.specs.Blocks.{Block, IsBlock, octets_of_blocks, blocks_within, blocks_of, IsBitmap, block_types_from, types_from, types_of}
 use Rattle.domain_bitmap.specs.Blocks.{contains_type}
 use Rattle.domain_bitmap.specs.Bits.{bit_of, AreClear, IsFirstBit, has_bit}
+use Rattle.std.proofs.lemmas.Grind.{common_steps}
 
 blocks_within-octets_of_blocks : (blocks : List Block) (n : ℕ) → length (octets_of_blocks blocks) ≤ n → blocks_within n (octets_of_blocks blocks) ≡ blocks
 unfolding blocks_within
@@ -20,8 +18,7 @@ blocks_within-octets_of_blocks [] zero fits = refl
 blocks_within-octets_of_blocks [] (suc n) fits = refl
 blocks_within-octets_of_blocks (block ∷ blocks) zero fits = absurd (omega (arith, fits))
 blocks_within-octets_of_blocks (block ∷ blocks) (suc n) fits =
-    rw (take_at block.octets (octets_of_blocks blocks) (length block.octets) refl, drop_at block.octets (octets_of_blocks blocks) (length block.octets) refl)
-    (ap (λ rest. block ∷ rest) (blocks_within-octets_of_blocks blocks n (omega (arith, fits, length-append block.octets (octets_of_blocks blocks)))))
+    grind (arith, common_steps, (blocks_within-octets_of_blocks blocks n (omega (arith, fits, length-append block.octets (octets_of_blocks blocks)))))
 
 pub add_two : (n : ℕ) → n + 2 ≡ suc (suc n)
 add_two n = omega arith
@@ -32,16 +29,7 @@ unfolding blocks_of
 blocks_of-octets_of_blocks blocks = blocks_within-octets_of_blocks blocks (length (octets_of_blocks blocks)) (omega arith)
 
 pub IsBitmap-octets_of_blocks : (blocks : List Block) → AllByRecursion IsBlock blocks → IsBitmap (octets_of_blocks blocks)
-IsBitmap-octets_of_blocks blocks valid =
-    let same = blocks_of-octets_of_blocks blocks in
-    record { spelled = ap octets_of_blocks (sym same); valid = subst (AllByRecursion IsBlock) (sym same) valid }
-
-pub octets_of_blocks-append : (xs ys : List Block) → octets_of_blocks (xs ++ ys) ≡ octets_of_blocks xs ++ octets_of_blocks ys
-octets_of_blocks-append xs ys = flat_map-append (λ block. block.window ∷ length block.octets ∷ block.octets) xs ys
-
-pub all-append : (xs ys : List Block) → AllByRecursion IsBlock xs → AllByRecursion IsBlock ys → AllByRecursion IsBlock (xs ++ ys)
-all-append [] ys xs_all ys_all = ys_all
-all-append (x ∷ xs) ys xs_all ys_all = (xs_all.0, all-append xs ys xs_all.1 ys_all)
+IsBitmap-octets_of_blocks blocks valid = grind (arith, common_steps, blocks_of-octets_of_blocks)
 
 -- octets that begin with a block
 pub record HasBlock (octets : List ℕ) : Type 0 where
@@ -84,32 +72,21 @@ pub ruleset block_reads = (block_at, nothing_at)
 pub types_step : (block : Block) (place : ℕ) → place < 256 → has_bit block.octets (256 * block.window + place) ≡ true
     → block_types_from block place ≡ (256 * block.window + place) ∷ block_types_from block (place + 1)
 unfolding block_types_from
-types_step block place inside set =
-    let count : 256 - place ≡ suc (256 - (place + 1)) = omega arith in
-    let next : 256 * block.window + (place + 1) ≡ 256 * block.window + place + 1 = omega arith in
-    rw (count, next, set) refl
+types_step block place inside set = grind (arith, common_steps)
 
 pub types_skip : (block : Block) (place : ℕ) → place < 256 → has_bit block.octets (256 * block.window + place) ≡ false
     → block_types_from block place ≡ block_types_from block (place + 1)
 unfolding block_types_from
-types_skip block place inside clear =
-    let count : 256 - place ≡ suc (256 - (place + 1)) = omega arith in
-    let next : 256 * block.window + (place + 1) ≡ 256 * block.window + place + 1 = omega arith in
-    rw (count, next, clear) refl
+types_skip block place inside clear = grind (arith, common_steps)
 
 pub types_past : (block : Block) (place : ℕ) → 8 * length block.octets ≤ place → block_types_from block place ≡ []
 unfolding block_types_from has_bit
-types_past block place past =
-    filter_none (has_bit block.octets) (256 * block.window + place) (256 - place)
-    (λ t low high. let beyond : length block.octets ≤ t % 256 / 8 = omega arith in rw (get_or_past block.octets (t % 256 / 8) 0 beyond) (bit_of-zero (t % 8)))
+types_past block place past = grind (arith, common_steps, filter_none, bit_of-zero)
 
 -- the bit at a place in a window, by its octet
 bit_in : (octets : List ℕ) (w place : ℕ) → place < 256 → has_bit octets (256 * w + place) ≡ bit_of (slice_index octets (place / 8)) (place % 8)
 unfolding has_bit
-bit_in octets w place inside =
-    let octet : (256 * w + place) % 256 / 8 ≡ place / 8 = omega arith in
-    let bit : (256 * w + place) % 8 ≡ place % 8 = omega arith in
-    rw (octet, bit) refl
+bit_in octets w place inside = grind (arith, common_steps)
 
 clear_run : (block : Block) (place n : ℕ) → place + n ≤ 256
     → ((k : ℕ) → place ≤ k → k < place + n → has_bit block.octets (256 * block.window + k) ≡ false)
@@ -163,16 +140,12 @@ types_from_start octets = types_from-blocks (blocks_of octets)
 pub contains_here : (octets : List ℕ) (block : Block) (blocks : List Block) (t : ℕ) → blocks_of octets ≡ block ∷ blocks
     → block.window ≡ t / 256 → contains_type octets t ≡ has_bit block.octets t
 unfolding contains_type
-contains_here octets block blocks t is here =
-    let test : (block.window == t / 256) ≡ true = grind (arith, nat_tests) in
-    rw (is, test) refl
+contains_here octets block blocks t is here = grind (arith, common_steps)
 
 pub contains_later : (octets rest : List ℕ) (block : Block) (t : ℕ) → blocks_of octets ≡ block ∷ blocks_of rest
     → block.window ≢ t / 256 → contains_type octets t ≡ contains_type rest t
 unfolding contains_type
-contains_later octets rest block t is other =
-    let test : (block.window == t / 256) ≡ false = grind (arith, nat_tests) in
-    rw (is, test) refl
+contains_later octets rest block t is other = grind (arith, common_steps)
 
 pub contains_nothing : (octets : List ℕ) (t : ℕ) → blocks_of octets ≡ [] → contains_type octets t ≡ false
 unfolding contains_type

@@ -1,18 +1,17 @@
 -- octets after an octet that counts them
 use Rattle.std.proofs.lemmas.Bool.Decides.{leb_tells}
 use Rattle.std.proofs.Common.{true, false, inl, inr, ◌≤◌, ◌≡◌, ℕ, ◌<◌, List, length, ap, sym, refl, subst, arith}
-use Rattle.std.specs.Prelude.{◌↔◌, ◌∷◌, Option, Result, Ok, IsErrOf}
+use Rattle.std.specs.Prelude.{◌↔◌, Option, Result, Ok, IsErrOf}
 use Rattle.domain_names.specs.declared.error.ScanError.{ScanError}
 use Rattle.domain_names.specs.declared.error.ScanError.TheVariants.{ShortBuf}
 use Rattle.domain_octets.specs.Limit.{HasRoom}
-use Rattle.domain_codecs.specs.declared.codec.DecodeError.{DecodeError}
-use Rattle.domain_codecs.specs.declared.codec.DecodeError.TheVariants as decode_error
-use Rattle.domain_codecs.specs.Codec.{Decodes, HasNoRoom}
+use Rattle.domain_codecs.specs.Codec.{Decodes}
 use Rattle.domain_codecs.specs.declared.codec.Codec.{Codec}
 use Rattle.domain_names.specs.TextFault.{ScanFault, entry_ends, illegal, no_room, no_memory}
 use Rattle.domain_base.specs.Scan.{CodecFault, TokenHasNoRoom, TakesToken, RefusesToken, ended, refused}
 use Rattle.domain_bitmap.specs.HashScan.{CountedFault}
 use Rattle.domain_bitmap.specs.Counted.{IsCutShort}
+use Rattle.std.proofs.lemmas.Grind.{common_steps}
 
 -- there is no length
 pub cut_at_length : (left : List ℕ) → length left < 1 → IsCutShort left
@@ -36,10 +35,7 @@ refused_too_long codec long limit old new octets took room over =
 pub token_has_room : {X : Type 0} (codec : Codec) (limit : Option ℕ) (old new : List (List ℕ)) (octets : List ℕ) (x : X)
     (r : Result X ScanError) → r ≡ Ok x → TakesToken (λ token. Decodes codec token octets) old new
     → IsErrOf r ShortBuf ↔ TokenHasNoRoom codec limit old → HasRoom limit (length octets)
-token_has_room codec limit old new octets x r is took room over =
-    let none : TokenHasNoRoom codec limit (took.token ∷ new) = (octets, took.holds, over) in
-    let wrong = room.1 (subst (TokenHasNoRoom codec limit) (sym took.first) none) in
-    cc
+token_has_room codec limit old new octets x r is took room over = grind (arith, common_steps)
 
 pub counted_fault : (codec : Codec) (long : List ℕ) (limit : Option ℕ) (fault : ScanFault) (token : List ℕ)
     → CodecFault codec limit fault token → CountedFault codec long limit fault token
@@ -54,11 +50,3 @@ pub refused_by_codec : (codec : Codec) (long : List ℕ) (limit : Option ℕ) (o
 refused_by_codec codec long limit old new fault ended = ended
 refused_by_codec codec long limit old new fault (refused token left why_fault why) =
     refused token left why_fault (counted_fault codec long limit why_fault token why)
-
--- octets that were decoded had room
-pub decoded_has_room : {X : Type 0} (codec : Codec) (limit : Option ℕ) (text octets : List ℕ) (x : X) (r : Result X DecodeError)
-    → r ≡ Ok x → Decodes codec text octets
-    → IsErrOf r decode_error.ShortBuf ↔ HasNoRoom codec limit text → HasRoom limit (length octets)
-decoded_has_room codec limit text octets x r is decoded room over =
-    let wrong = room.1 (octets, decoded, over) in
-    cc

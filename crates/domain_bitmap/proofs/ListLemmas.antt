@@ -1,11 +1,11 @@
 -- bitmaps whose octets stand one after another
-use Rattle.std.proofs.Common.{◌≡◌, ℕ, zero, suc, ◌+◌, ◌-◌, ◌<◌, ◌≤◌, List, [], ◌∷◌, ◌++◌, length, get_or, drop, refl, sym, ap, ◌∙◌, arith, length-append}
-use Rattle.std.proofs.Common.{length-drop}
+use Rattle.std.proofs.Common.{◌≡◌, ℕ, zero, suc, ◌+◌, ◌-◌, ◌<◌, ◌≤◌, List, [], ◌∷◌, ◌++◌, length, get_or, drop, refl, sym, ap, ◌∙◌, arith, length-drop}
 use Rattle.std.specs.Prelude.{slice_range}
 use Rattle.std.proofs.lemmas.List.{take_all, drop_at, take-append-le, drop-append-le}
-use Rattle.std.proofs.lemmas.List.Elements.{All-get_or, All-push}
+use Rattle.std.proofs.lemmas.List.Elements.{All-get_or}
 use Rattle.domain_bitmap.specs.Blocks.{IsBitmap}
 use Rattle.domain_bitmap.specs.List.{cut_at, EndAt, AreBitmaps}
+use Rattle.std.proofs.lemmas.Grind.{common_steps}
 
 -- there are as many as there are ends
 pub length-cut_at : (ends : List ℕ) (start : ℕ) (octets : List ℕ) → length (cut_at ends start octets) ≡ length ends
@@ -51,10 +51,7 @@ cut_pushed ends octets more end are is = rw is (cut_more ends 0 octets more are.
 
 pub AreBitmaps-push : (ends octets more : List ℕ) (end : ℕ) → AreBitmaps ends octets → IsBitmap more
     → end ≡ length octets + length more → AreBitmaps (ends ++ end ∷ []) (octets ++ more)
-AreBitmaps-push ends octets more end are is at = record {
-  whole = rw (length-append octets more, ← at) (end_more (length octets) end ends 0 are.whole (omega arith));
-  bitmaps = rw (cut_pushed ends octets more end are at) (All-push IsBitmap (cut_at ends 0 octets) more are.bitmaps is);
-}
+AreBitmaps-push ends octets more end are is at = grind (arith, common_steps, end_more, cut_pushed)
 
 -- ---- the one at a place
 

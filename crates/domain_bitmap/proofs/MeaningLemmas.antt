@@ -1,13 +1,13 @@
 -- what the octets of a set of types say
-use Rattle.std.proofs.Common.{◌≡◌, ◌≢◌, ℕ, zero, suc, ◌+◌, ◌-◌, ◌*◌, ◌/◌, ◌%◌, ◌<◌, ◌≤◌, Bool, true, false, List, [], ◌∷◌, ◌++◌, refl, sym, ap, ◌∙◌, inl, inr}
+use Rattle.std.proofs.Common.{◌≡◌, ◌≢◌, ℕ, zero, suc, ◌+◌, ◌-◌, ◌*◌, ◌/◌, ◌%◌, ◌<◌, ◌≤◌, Bool, false, List, [], ◌∷◌, ◌++◌, refl, sym, ap, ◌∙◌, inl, inr}
 use Rattle.std.proofs.Common.{arith, add-one, add_comm}
 use Rattle.std.proofs.Math.Nat.{mul-suc}
-use Rattle.std.specs.Prelude.{◌==◌, filter}
+use Rattle.std.specs.Prelude.{filter}
 use Rattle.std.specs.List.{range_with_len, flat_map}
 use Rattle.std.proofs.lemmas.List.{append-nil}
 use Rattle.std.proofs.lemmas.List.Concat.{flat_map-append}
 use Rattle.domain_bitmap.proofs.RangeLemmas.{filter_same, filter_none, filter_append}
-use Rattle.std.proofs.lemmas.Bool.Decides.{nat_tests, eqb_tells}
+use Rattle.std.proofs.lemmas.Bool.Decides.{eqb_tells}
 use Rattle.domain_bitmap.specs.Bits.{has_bit}
 use Rattle.domain_bitmap.specs.Bitmap.{window_octets, trimmed, bitmap_octets}
 use Rattle.domain_bitmap.specs.Blocks.{Block, blocks_of, in_first_block, contains_type, block_types_from, types_of, types_below}
@@ -15,19 +15,12 @@ use Rattle.domain_bitmap.proofs.BitLemmas.{bit_of-octet_with, bit_of-zero}
 use Rattle.domain_bitmap.proofs.TrimLemmas.{get_or-trimmed}
 use Rattle.domain_bitmap.proofs.BlockLemmas.{blocks_of-octets_of_blocks}
 use Rattle.domain_bitmap.proofs.BitmapLemmas.{block_list, blocks_from, octets_of_blocks-blocks_from, get_or-window_octets}
+use Rattle.std.proofs.lemmas.Grind.{common_steps}
 
 -- the trimmed octets of a window have the bits of its types
 has_bit-window : (types : ℕ → Bool) (t : ℕ) → has_bit (trimmed (window_octets types (t / 256))) t ≡ types t
 unfolding has_bit
-has_bit-window types t =
-    let w = t / 256 in
-    let o = t % 256 / 8 in
-    let is : 256 * w + 8 * o + t % 8 ≡ t = omega arith in
-    rw (
-      get_or-trimmed (window_octets types w) o,
-      get_or-window_octets types w o (omega arith),
-      bit_of-octet_with (λ b. types (256 * w + 8 * o + b)) (t % 8) (omega arith),
-    ) (ap types is)
+has_bit-window types t = grind (arith, common_steps, get_or-trimmed, get_or-window_octets, bit_of-octet_with)
 
 has_bit-none : (t : ℕ) → has_bit [] t ≡ false
 unfolding has_bit
@@ -36,9 +29,7 @@ has_bit-none t = bit_of-zero (t % 8)
 in_list-other : (w : ℕ) (xs : List ℕ) (blocks : List Block) (t : ℕ) → w ≢ t / 256 → in_first_block (block_list w xs ++ blocks) t ≡ in_first_block blocks t
 unfolding block_list
 in_list-other w [] blocks t other = refl
-in_list-other w (x ∷ xs) blocks t other =
-    let test : (w == t / 256) ≡ false = grind (arith, nat_tests) in
-    rw test refl
+in_list-other w (x ∷ xs) blocks t other = grind (arith, common_steps)
 
 in_blocks-past : (types : ℕ → Bool) (t a n : ℕ) → t / 256 < a → in_first_block (blocks_from types a n) t ≡ false
 unfolding blocks_from
@@ -50,9 +41,7 @@ in_list-here : (w : ℕ) (xs : List ℕ) (blocks : List Block) (t : ℕ) → w �
     → in_first_block (block_list w xs ++ blocks) t ≡ has_bit xs t
 unfolding block_list
 in_list-here w [] blocks t here none = none ∙ sym (has_bit-none t)
-in_list-here w (x ∷ xs) blocks t here none =
-    let test : (w == t / 256) ≡ true = grind (arith, nat_tests) in
-    rw test refl
+in_list-here w (x ∷ xs) blocks t here none = grind (arith, common_steps)
 
 in_blocks : (types : ℕ → Bool) (t a n : ℕ) → a ≤ t / 256 → t / 256 < a + n → in_first_block (blocks_from types a n) t ≡ types t
 unfolding blocks_from
@@ -80,9 +69,7 @@ bitmap_octets-exact p q same t small =
     sym (contains_type-bitmap_octets p t small) ∙ ap (λ o. contains_type o t) same ∙ contains_type-bitmap_octets q t small
 
 window_in : (m w t : ℕ) → m ≡ 256 → m * w ≤ t → t < m * w + m → t / 256 ≡ w
-window_in m w t all low high =
-    let product : m * w ≡ 256 * w = ap (λ k. k * w) all in
-    omega arith
+window_in m w t all low high = grind (arith, common_steps)
 
 -- the types of a block whose bits are those of a set
 block_types_from-is : (types : ℕ → Bool) (block : Block) (place m : ℕ) → place ≡ 0 → m ≡ 256
@@ -104,9 +91,7 @@ types_of_list types w m (x ∷ xs) all same = append-nil (block_types_from (reco
 types_of_blocks : (types : ℕ → Bool) (m a n : ℕ) → m ≡ 256 → flat_map (λ b. block_types_from b 0) (blocks_from types a n)
     ≡ filter types (range_with_len (m * a) (m * n))
 unfolding blocks_from
-types_of_blocks types m a zero all =
-    let none : m * 0 ≡ 0 = omega arith in
-    rw none refl
+types_of_blocks types m a zero all = grind (arith, common_steps)
 types_of_blocks types m a (suc n) all =
     let xs = trimmed (window_octets types a) in
     let count : m * suc n ≡ m + m * n = mul-suc m n ∙ add_comm (m * n) m in

@@ -1,19 +1,19 @@
 -- blocks put in order
-use Rattle.std.proofs.Common.{◌≡◌, ℕ, zero, suc, ◌+◌, ◌-◌, ◌*◌, ◌/◌, ◌%◌, ◌<◌, ◌≤◌, ◌≢◌, max, Bool, true, false, List, [], ◌∷◌, ◌++◌, length, get_or, take}
-use Rattle.std.proofs.Common.{drop, refl, sym, ap, ◌∙◌, inl, inr, arith, add-one, add-zero, append_assoc, set, get_or-set_same, get_or-set_other, length-append}
+use Rattle.std.proofs.Common.{◌≡◌, ℕ, zero, suc, ◌+◌, ◌-◌, ◌*◌, ◌/◌, ◌%◌, ◌<◌, ◌≤◌, max, Bool, true, false, List, [], ◌∷◌, ◌++◌, length, get_or, take}
+use Rattle.std.proofs.Common.{drop, refl, sym, ap, ◌∙◌, inl, inr, arith, add-one, add-zero, set}
 use Rattle.std.specs.Prelude.{◌||◌, ◌==◌, ◌&&◌, bit_or, nat_lt, if◌then◌else◌}
 use Rattle.std.specs.Int.{bit_at}
 use Rattle.std.specs.List.{range_with_len, list_any}
 use Rattle.std.proofs.lemmas.Nat.Bits.{bit_at_or, bit_at-lt}
-use Rattle.std.proofs.lemmas.List.{get_or-take, get_or-drop, length-take, length-drop, take_at}
-use Rattle.std.proofs.lemmas.Bool.Decides.{nat_tests, eqb_tells}
-use Rattle.domain_octets.proofs.StdLemmas.{or_false, or_true}
+use Rattle.std.proofs.lemmas.List.{get_or-take, get_or-drop, length-take, length-drop}
+use Rattle.std.proofs.lemmas.Bool.Decides.{eqb_tells}
 use Rattle.domain_bitmap.specs.Bits.{bit_of}
 use Rattle.domain_bitmap.specs.Bitmap.{window_octets, window_block, block_with, trimmed, bitmap_octets}
 use Rattle.domain_bitmap.specs.Builder.{is_of_window, block_holds, has_window, holds}
 use Rattle.domain_bitmap.proofs.RangeLemmas.{any_more, any_suc, any_none, any_at, flat_none, flat_single}
 use Rattle.domain_bitmap.proofs.BitmapLemmas.{window_octets-is, window_block-none}
 use Rattle.domain_bitmap.proofs.SlotLemmas.{window_absent}
+use Rattle.std.proofs.lemmas.Grind.{common_steps}
 
 or_bits : (m n : ℕ) → m < 2 → n < 2 → (max m n == 1) ≡ ((m == 1) || (n == 1))
 or_bits zero zero m_small n_small = refl
@@ -40,9 +40,7 @@ no_block value w absent j inside =
 
 pub holds-absent : (value : List ℕ) (w : ℕ) → has_window value w ≡ false → (t : ℕ) → t / 256 ≡ w → holds value t ≡ false
 unfolding holds
-holds-absent value w absent t of_window =
-    any_none (block_holds value t) (length value / 34)
-    (λ j inside. let not_here : is_of_window value (t / 256) j ≡ false = rw of_window (no_block value w absent j inside) in rw not_here refl)
+holds-absent value w absent t of_window = grind (arith, common_steps, any_none, no_block)
 
 -- how many numbers below n pass a test
 unfoldable pub tally : (ℕ → Bool) → ℕ → ℕ
@@ -74,18 +72,12 @@ tally-or p q (suc n) = omega (arith, tally-or p q n, one_of (p n) (q n))
 tally-none : (c n : ℕ) → n ≤ c → tally (λ j. c == j) n ≡ 0
 unfolding tally
 tally-none c zero below = refl
-tally-none c (suc n) below =
-    let differs : (c == n) ≡ false = grind (arith, nat_tests) in
-    rw (differs, tally-none c n (omega arith)) refl
+tally-none c (suc n) below = grind (arith, common_steps, (tally-none c n (omega arith)))
 
 tally-one : (c n : ℕ) → tally (λ j. c == j) n ≤ 1
 unfolding tally
 tally-one c zero = omega arith
-tally-one c (suc n) =
-    elim (eqb_tells c n) [
-      | inl h ↦ rw h.0 (omega (arith, tally-none c n (omega (arith, h.1))))
-      | inr h ↦ rw h.0 (omega (arith, tally-one c n))
-    ]
+tally-one c (suc n) = grind (arith, common_steps, tally-none, (tally-one c n))
 
 tally-absent : (n : ℕ) → tally (λ j. false) n ≡ 0
 unfolding tally
@@ -112,9 +104,7 @@ room_for value w present = omega (arith, tally-has_window value (w + 1), tally-m
 
 -- octets are written at the end of those that stand
 pub front-written : (value s rest : List ℕ) (at n : ℕ) → at ≤ length value → n ≡ at + length s → take n (take at value ++ (s ++ rest)) ≡ take at value ++ s
-front-written value s rest at n inside count =
-    let long : length (take at value ++ s) ≡ n = omega (arith, length-append (take at value) s, length-take at value) in
-    rw (← append_assoc (take at value) s rest) (take_at (take at value ++ s) rest n long)
+front-written value s rest at n inside count = grind (arith, common_steps)
 
 pub block_with-some : (w : ℕ) (xs : List ℕ) → 0 < length xs → block_with w xs ≡ w ∷ length xs ∷ xs
 block_with-some w [] some = absurd (omega (arith, some))
@@ -125,49 +115,18 @@ abbrev pub merged_at : List ℕ → List ℕ → ℕ → ℕ → ℕ → ℕ
 merged_at initial slots j i p =
     if (p / 32 == get_or slots (34 * j) 0) && nat_lt (p % 32) i then bit_or (get_or initial p 0) (get_or slots (34 * j + 2 + p % 32) 0) else get_or initial p 0
 
--- the octet of a type among those of all windows
-octet_place : (t : ℕ) → t / 8 / 32 ≡ t / 256
-octet_place t = omega arith
-
-octet_in : (t : ℕ) → t / 8 % 32 ≡ t % 256 / 8
-octet_in t = omega arith
-
 -- the table after the block at a place
 pub types_more : (octets after slots : List ℕ) (j t : ℕ)
     → ((p : ℕ) → get_or after p 0 ≡ (if p / 32 == get_or slots (34 * j) 0 then bit_or (get_or octets p 0)
     (get_or slots (34 * j + 2 + p % 32) 0) else get_or octets p 0))
     → bit_of (get_or octets (t / 8) 0) (t % 8) ≡ list_any (block_holds slots t) (range_with_len 0 j)
     → bit_of (get_or after (t / 8) 0) (t % 8) ≡ list_any (block_holds slots t) (range_with_len 0 (j + 1))
-types_more octets after slots j t merged before =
-    let old = get_or octets (t / 8) 0 in
-    let more = get_or slots (34 * j + 2 + t % 256 / 8) 0 in
-    let step : get_or after (t / 8) 0 ≡ (if t / 256 == get_or slots (34 * j) 0 then bit_or old more else old) =
-    rw (← octet_place t, ← octet_in t) (merged (t / 8)) in
-    elim (eqb_tells (t / 256) (get_or slots (34 * j) 0)) [
-      | inl h ↦
-          let turned : (get_or slots (34 * j) 0 == t / 256) ≡ true = let is : t / 256 ≡ get_or slots (34 * j) 0 = h.1 in grind (arith, nat_tests) in
-          let block : block_holds slots t j ≡ bit_of more (t % 8) = rw turned refl in
-          rw (step, h.0, any_more (block_holds slots t) j, block, bit_of-or old more (t % 8), before) refl
-      | inr h ↦
-          let turned : (get_or slots (34 * j) 0 == t / 256) ≡ false = let is : t / 256 ≢ get_or slots (34 * j) 0 = h.1 in grind (arith, nat_tests) in
-          let block : block_holds slots t j ≡ false = rw turned refl in
-          rw (step, h.0, any_more (block_holds slots t) j, block) (before ∙ sym (or_false (list_any (block_holds slots t) (range_with_len 0 j))))
-    ]
+types_more octets after slots j t merged before = grind (arith, common_steps, any_more, bit_of-or)
 
 pub windows_more : (present : List Bool) (slots : List ℕ) (j w : ℕ) → get_or slots (34 * j) 0 < length present
     → get_or present w false ≡ list_any (is_of_window slots w) (range_with_len 0 j)
     → get_or (set present (get_or slots (34 * j) 0) true) w false ≡ list_any (is_of_window slots w) (range_with_len 0 (j + 1))
-windows_more present slots j w inside before =
-    let c = get_or slots (34 * j) 0 in
-    elim (eqb_tells c w) [
-      | inl h ↦
-          rw (any_more (is_of_window slots w) j, h.0, ← h.1) (get_or-set_same present c true false inside
-          ∙ sym (or_true (list_any (is_of_window slots c) (range_with_len 0 j))))
-      | inr h ↦
-          let other : w ≢ c = λ e. h.1 (sym e) in
-          rw (any_more (is_of_window slots w) j, h.0) (get_or-set_other present c w true false other ∙ before
-          ∙ sym (or_false (list_any (is_of_window slots w) (range_with_len 0 j))))
-    ]
+windows_more present slots j w inside before = grind (arith, common_steps, any_more)
 
 -- the octets of a window in the table are those of the types that are held
 pub table_window : (octets value xs : List ℕ) (w : ℕ) → w < 256 → length octets ≡ 8192 → xs ≡ take 32 (drop (32 * w) octets) → ((k : ℕ) → get_or xs k 0 < 256)
@@ -193,9 +152,7 @@ holds_nothing value none =
 
 one_bit : (value : List ℕ) (t : ℕ) → length value ≡ 34 → get_or value 0 0 ≡ t / 256 → holds value t ≡ bit_of (get_or value (2 + t % 256 / 8) 0) (t % 8)
 unfolding holds
-one_bit value t one window =
-    let test : (get_or value 0 0 == t / 256) ≡ true = grind (arith, nat_tests) in
-    rw (one, test) (or_false (bit_of (get_or value (2 + t % 256 / 8) 0) (t % 8)))
+one_bit value t one window = grind (arith, common_steps)
 
 pub one_block : (value : List ℕ) → length value ≡ 34 → ((i : ℕ) → get_or value i 0 < 256)
     → bitmap_octets (holds value) ≡ block_with (get_or value 0 0) (trimmed (drop 2 value))
@@ -216,15 +173,3 @@ one_block value one small =
     (λ v below other. window_block-none (holds value) v (holds-absent value v
     (window_absent value v (λ j inside. let at : j ≡ 0 = omega arith in rw at (λ is. other (sym is))))))
     ∙ ap (λ l. block_with w (trimmed l)) octets
-
--- the only block is cut where it stands
-pub cut_in_place : (value after : List ℕ) (len : ℕ) → length value ≡ 34 → 0 < len → len ≤ 32
-    → after ≡ take 1 value ++ (len ∷ drop 2 value) → take (len + 2) after
-    ≡ block_with (get_or value 0 0) (take len (drop 2 value))
-cut_in_place [] after len one some fits is = absurd (omega (arith, one))
-cut_in_place (w ∷ []) after len one some fits is = absurd (omega (arith, one))
-cut_in_place (w ∷ o ∷ rest) after len one some fits is =
-    let kept = take len rest in
-    let count : length kept ≡ len = omega (arith, length-take len rest, one) in
-    let all : len + 2 ≡ suc (suc len) = omega arith in
-    rw (is, all) (sym (block_with-some w kept (omega arith) ∙ ap (λ n. w ∷ n ∷ kept) count))

@@ -1,10 +1,9 @@
 -- pieces written one after another
-use Rattle.std.proofs.Common.{◌≡◌, ℕ, List, [], ◌∷◌, ◌++◌, length, sym, ap, ◌∙◌, append_assoc}
+use Rattle.std.proofs.Common.{◌≡◌, ℕ, List, [], ◌∷◌, ◌++◌, sym, ap, ◌∙◌, append_assoc}
 use Rattle.std.proofs.lemmas.List.{append-nil}
-use Rattle.domain_octets.specs.Piece.{PieceText, token, comment, opens, closes}
+use Rattle.domain_octets.specs.Piece.{PieceText, token}
 use Rattle.domain_base.specs.Numbers.{type_text}
-use Rattle.domain_bitmap.specs.HashText.{salt_text}
-use Rattle.domain_bitmap.specs.Pieces.{type_pieces, salt_pieces, salt_comment}
+use Rattle.domain_bitmap.specs.Pieces.{type_pieces}
 
 pub type_written : (old new all : List PieceText) (types rest : List ℕ) (t : ℕ) → old ++ type_pieces types ≡ all
     → types ≡ t ∷ rest → new ≡ old ++ token (type_text t) ∷ [] → new ++ type_pieces rest ≡ all
@@ -15,9 +14,3 @@ type_written old new all types rest t before is written =
 pub all_types_written : (old all : List PieceText) (types : List ℕ) → old ++ type_pieces types ≡ all → types ≡ [] → old ≡ all
 unfolding type_pieces
 all_types_written old all types before none = sym (append-nil old) ∙ ap (λ l. old ++ type_pieces l) (sym none) ∙ before
-
-pub salt_written : (a b c d e : List PieceText) (octets : List ℕ) (n : ℕ) → b ≡ a ++ opens ∷ []
-    → c ≡ b ++ token (salt_text octets) ∷ [] → d ≡ c ++ comment (salt_comment n) ∷ [] → n ≡ length octets → e ≡ d ++ closes ∷ []
-    → e ≡ a ++ salt_pieces octets
-salt_written a b c d e octets n begun shown said count ended =
-    ended ∙ rw (said, shown, begun, count) (simp append_assoc)

@@ -9,12 +9,11 @@ use Rattle.std.proofs.lemmas.List.Folds.{list_any-append, list_any_at, list_any_
 use Rattle.std.proofs.lemmas.List.Concat.{flat_map-append}
 use Rattle.std.proofs.lemmas.List.FromFn.{length-range_with_len, get_or-range_with_len}
 use Rattle.domain_octets.proofs.StdLemmas.{or_false, or_next}
+use Rattle.std.proofs.lemmas.Grind.{common_steps}
 
 range-suc : (a n : ℕ) → range_with_len a (suc n) ≡ range_with_len a n ++ (a + n) ∷ []
 range-suc a zero = ap (λ k. k ∷ []) (sym (add-zero a))
-range-suc a (suc n) =
-    let same : a + 1 + n ≡ a + suc n = omega arith in
-    ap (λ l. a ∷ l) (range-suc (a + 1) n ∙ ap (λ k. range_with_len (a + 1) n ++ k ∷ []) same)
+range-suc a (suc n) = grind (arith, common_steps, (range-suc (a + 1) n))
 
 pub range_more : (n : ℕ) → range_with_len 0 (n + 1) ≡ range_with_len 0 n ++ n ∷ []
 range_more n = ap (range_with_len 0) (add-one n) ∙ range-suc 0 n ∙ ap (λ k. range_with_len 0 n ++ k ∷ []) (zero-add n)
@@ -34,11 +33,7 @@ any_suc p n = ap (λ m. list_any p (range_with_len 0 m)) (sym (add-one n)) ∙ a
 
 any_same_from : (p q : ℕ → Bool) (a n : ℕ) → ((j : ℕ) → a ≤ j → j < a + n → p j ≡ q j) → list_any p (range_with_len a n) ≡ list_any q (range_with_len a n)
 any_same_from p q a zero same = refl
-any_same_from p q a (suc n) same =
-    let first : p a ≡ q a = same a (omega arith) (omega arith) in
-    let rest : list_any p (range_with_len (a + 1) n) ≡ list_any q (range_with_len (a + 1) n) =
-    any_same_from p q (a + 1) n (λ j low high. same j (omega arith) (omega arith)) in
-    rw (first, rest) refl
+any_same_from p q a (suc n) same = grind (arith, common_steps, (any_same_from p q (a + 1) n (λ j low high. same j (omega arith) (omega arith))))
 
 pub any_same : (p q : ℕ → Bool) (n : ℕ) → ((j : ℕ) → j < n → p j ≡ q j) → list_any p (range_with_len 0 n) ≡ list_any q (range_with_len 0 n)
 any_same p q n same = any_same_from p q 0 n (λ j low high. same j (omega arith))
@@ -78,11 +73,7 @@ any_with p q c n k below same more = any_with_from p q c 0 n k (omega arith) (om
 -- lists made for each number in a row
 flat_same_from : (f g : ℕ → List ℕ) (a n : ℕ) → ((j : ℕ) → a ≤ j → j < a + n → f j ≡ g j) → flat_map f (range_with_len a n) ≡ flat_map g (range_with_len a n)
 flat_same_from f g a zero same = refl
-flat_same_from f g a (suc n) same =
-    let first : f a ≡ g a = same a (omega arith) (omega arith) in
-    let rest : flat_map f (range_with_len (a + 1) n) ≡ flat_map g (range_with_len (a + 1) n) =
-    flat_same_from f g (a + 1) n (λ j low high. same j (omega arith) (omega arith)) in
-    rw (first, rest) refl
+flat_same_from f g a (suc n) same = grind (arith, common_steps, (flat_same_from f g (a + 1) n (λ j low high. same j (omega arith) (omega arith))))
 
 pub flat_same : (f g : ℕ → List ℕ) (n : ℕ) → ((j : ℕ) → j < n → f j ≡ g j) → flat_map f (range_with_len 0 n) ≡ flat_map g (range_with_len 0 n)
 flat_same f g n same = flat_same_from f g 0 n (λ j low high. same j (omega arith))

@@ -1,9 +1,8 @@
 -- what sets of types and salts are written as is read back
-use Rattle.std.proofs.Common.{◌≡◌, ◌≢◌, ℕ, ◌+◌, ◌-◌, ◌*◌, ◌<◌, ◌≤◌, Bool, true, List, [], ◌∷◌, ◌++◌, zero, suc, map, codes, refl, sym, ap, subst, ◌∙◌, arith}
-use Rattle.std.proofs.Common.{eq-eqb, inl, inr, append_assoc, length}
+use Rattle.std.proofs.Common.{◌≡◌, ◌≢◌, ℕ, ◌+◌, ◌-◌, ◌*◌, ◌<◌, ◌≤◌, Bool, true, List, [], ◌∷◌, ◌++◌, zero, suc, map, codes, refl, sym, ap, ◌∙◌, arith}
+use Rattle.std.proofs.Common.{eq-eqb, append_assoc, length}
 use Rattle.std.specs.Prelude.{◌==◌, ◌&&◌, filter}
 use Rattle.std.specs.List.{AllByRecursion, All, range_with_len, flat_map}
-use Rattle.std.proofs.lemmas.Bool.{cases_Bool}
 use Rattle.std.proofs.lemmas.Bool.Decides.{nat_tests}
 use Rattle.std.proofs.lemmas.List.{append-nil}
 use Rattle.std.proofs.lemmas.Map.Views.{any-filter_same}
@@ -26,6 +25,7 @@ use Rattle.domain_bitmap.proofs.BitmapLemmas.{bitmap_octets-same}
 use Rattle.domain_bitmap.proofs.MeaningLemmas.{types_of-bitmap_octets}
 use Rattle.domain_bitmap.proofs.RangeLemmas.{any_at}
 use Rattle.domain_bitmap.proofs.SpellingLemmas.{built_from_shortest}
+use Rattle.std.proofs.lemmas.Grind.{common_steps}
 
 -- ---- types of 16 bits
 
@@ -38,10 +38,7 @@ types-append (t ∷ a) b small more = (small.0, types-append a b small.1 more)
 
 filtered_types : (test : ℕ → Bool) (a n : ℕ) → a + n ≤ 65536 → AreTypes (filter test (range_with_len a n))
 filtered_types test a zero fits = tt
-filtered_types test a (suc n) fits = elim (cases_Bool (test a)) [
-  | inl kept ↦ rw kept (omega (arith, fits), filtered_types test (a + 1) n (omega (arith, fits)))
-  | inr left ↦ rw left (filtered_types test (a + 1) n (omega (arith, fits)))
-]
+filtered_types test a (suc n) fits = grind (arith, common_steps, (filtered_types test (a + 1) n (omega (arith, fits))))
 
 block_types : (block : Block) → block.window < 256 → AreTypes (block_types_from block 0)
 unfolding block_types_from
@@ -65,9 +62,7 @@ texts_spell (t ∷ types) small = one_more (type_text t) (map type_text types) t
 pub spelled_once : (tokens : List (List ℕ)) (x y : List ℕ) → TypeTexts tokens x → TypeTexts tokens y → x ≡ y
 spelled_once tokens x y no_types no_types = refl
 spelled_once tokens x y (one_more token rest t types text more) (one_more token' rest' u others text' more') =
-    let same : t ≡ u = one_named _ _ token t u text text' in
-    let after = spelled_once rest types others more more' in
-    λ i. same i ∷ after i
+    grind (arith, common_steps, one_named, (spelled_once rest types others more more'))
 
 -- words, and types that stand after spaces
 pub spaced_words : (front types : List ℕ) → AreTypes types → words_of (front ++ spaced_types types) ≡ words_of front ++ map type_text types
@@ -99,9 +94,7 @@ types_words (t ∷ types) small =
     spaced_words (type_text t) types small.1 ∙ ap (λ l. l ++ map type_text types) (one_word (type_text t) (type_word t small.0))
 
 pub types_back : (octets : List ℕ) → IsBitmap octets → TypeTexts (words_of (types_text (types_of octets))) (types_of octets)
-types_back octets bitmap =
-    let small = are_types octets bitmap in
-    subst (λ tokens. TypeTexts tokens (types_of octets)) (sym (types_words (types_of octets) small)) (texts_spell (types_of octets) small)
+types_back octets bitmap = grind (arith, common_steps, are_types, types_words, texts_spell)
 
 -- ---- the bitmap of these types
 

@@ -14,6 +14,7 @@ use Rattle.domain_base.proofs.RefusalLemmas.{over_none, codec_excludes, codec_on
 use Rattle.domain_bitmap.specs.HashScan.{CountedFault, BeginsWithDash, SaltTokenFault, after_dash, in_digits}
 use Rattle.domain_bitmap.specs.HashText.{SaltText, dash, digits, OwnerHashText}
 use Rattle.domain_bitmap.specs.Scan.{TypeTexts, one_more, TypeFault, not_a_type, without_room, without_memory, RefusesTypes}
+use Rattle.std.proofs.lemmas.Grind.{common_steps}
 
 -- ---- types
 
@@ -31,14 +32,8 @@ type_at (first ∷ taken) token new types all = let h = head_of first (taken ++ 
 first_same : (ts us : List (List ℕ)) (a b : List ℕ) (m n : List (List ℕ)) (xs ys : List ℕ) → ts ++ a ∷ m ≡ us ++ b ∷ n → TypeTexts ts xs → TypeTexts us ys
     → ((t : ℕ) → TypeText a t → ⊥) → ((t : ℕ) → TypeText b t → ⊥) → m ≡ n
 first_same [] [] a b m n xs ys same before after unread unspelled = cc
-first_same [] (u ∷ us) a b m n xs ys same before after unread unspelled =
-    let h = head_of u us ys after in
-    let e : u ≡ a = cc in
-    absurd (unread h.0 (subst (λ w. TypeText w h.0) e h.2))
-first_same (t ∷ ts) [] a b m n xs ys same before after unread unspelled =
-    let h = head_of t ts xs before in
-    let e : t ≡ b = cc in
-    absurd (unspelled h.0 (subst (λ w. TypeText w h.0) e h.2))
+first_same [] (u ∷ us) a b m n xs ys same before after unread unspelled = grind (arith, common_steps, head_of)
+first_same (t ∷ ts) [] a b m n xs ys same before after unread unspelled = grind (arith, common_steps, head_of)
 first_same (t ∷ ts) (u ∷ us) a b m n xs ys same before after unread unspelled =
     let h = head_of t ts xs before in
     let k = head_of u us ys after in
@@ -53,19 +48,11 @@ type_fault limit before fault token (without_memory tok t text none) own = absur
 
 pub types_refused : (limit : Option ℕ) (old new : List (List ℕ)) (types : List ℕ) (fault : ScanFault)
     → RefusesTypes limit old new fault → TypeTexts old types → IsOfTokens limit fault → ⊥
-types_refused limit old new types fault why is own =
-    let found = type_at why.taken why.token new types (subst (λ t. TypeTexts t types) why.parts is) in
-    (type_fault limit why.types fault why.token why.why own).none found.0 found.1
+types_refused limit old new types fault why is own = grind (arith, common_steps, type_at, type_fault)
 
 pub types_one_fault : (limit : Option ℕ) (old m n : List (List ℕ)) (x y : ScanFault) → RefusesTypes limit old m x
     → RefusesTypes limit old n y → IsOfTokens limit x → IsOfTokens limit y → (x ≡ y) × (m ≡ n)
-types_one_fault limit old m n x y p q own also =
-    let first = type_fault limit p.types x p.token p.why own in
-    let second = type_fault limit q.types y q.token q.why also in (
-      first.said ∙ sym second.said,
-      first_same p.taken q.taken p.token q.token m n p.types q.types (sym p.parts
-          ∙ q.parts) p.spelled q.spelled first.none second.none,
-    )
+types_one_fault limit old m n x y p q own also = grind (arith, common_steps, type_fault, first_same)
 
 -- ---- octets that an octet counts
 

@@ -4,7 +4,6 @@ use Rattle.std.proofs.Common.{eq-eqb, append_assoc}
 use Rattle.std.specs.Prelude.{◌||◌, ◌==◌, Option, if◌then◌else◌, IsNone, Result, Ok, Err, IsErrAnd, IfErr}
 use Rattle.std.specs.List.{list_any}
 use Rattle.std.proofs.lemmas.List.Folds.{list_any-append}
-use Rattle.std.proofs.lemmas.List.{append-nil}
 use Rattle.std.proofs.lemmas.Bool.Decides.{nat_tests, eqb_tells}
 use Rattle.domain_base.specs.Numbers.{TypeText, IsNoType}
 use Rattle.domain_names.specs.TextFault.{ScanFault, scan_fault_of, scan_error_of}
@@ -17,6 +16,7 @@ use Rattle.domain_octets.proofs.StdLemmas.{or_false, or_turn}
 use Rattle.domain_bitmap.specs.Builder.{holds, has_window}
 use Rattle.domain_bitmap.specs.Scan.{TypeTexts, no_types, one_more, is_among, has_type_in, room_for, not_a_type, without_room, without_memory, RefusesTypes}
 use Rattle.domain_bitmap.proofs.RangeLemmas.{filter_same, filter_more}
+use Rattle.std.proofs.lemmas.Grind.{common_steps}
 
 texts-more : {taken : List (List ℕ)} {types : List ℕ} (token : List ℕ) (t : ℕ) → TypeTexts taken types → TypeText token t
     → TypeTexts (taken ++ token ∷ []) (types ++ t ∷ [])
@@ -112,9 +112,7 @@ scan_goes old now rest value after token t scanned first spells small held windo
 
 pub scan_ends : (old now : List (List ℕ)) (value : List ℕ) → Scanned old now value → now ≡ []
     → (types : List ℕ) × TypeTexts old types × ((t : ℕ) → t < 65536 → holds value t ≡ is_among types t)
-scan_ends old now value scanned none =
-    let all : old ≡ scanned.taken = scanned.parts ∙ ap (λ l. scanned.taken ++ l) none ∙ append-nil scanned.taken in
-    (scanned.types, subst (λ (o : List (List ℕ)). TypeTexts o scanned.types) (sym all) scanned.spelled, scanned.held)
+scan_ends old now value scanned none = grind (arith, common_steps)
 
 pub scan_refused : (limit : Option ℕ) (old now rest : List (List ℕ)) (value : List ℕ) (fault : ScanFault) → Scanned old now value
     → now ≢ [] → RefusesToken IsNoType now rest fault → RefusesTypes limit old rest fault

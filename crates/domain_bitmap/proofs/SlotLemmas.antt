@@ -1,15 +1,15 @@
 -- the blocks of 34 octets that a builder holds
 use Rattle.std.proofs.Common.{◌≡◌, ℕ, zero, suc, ◌+◌, ◌-◌, ◌*◌, ◌/◌, ◌%◌, ◌^◌, ◌<◌, ◌≢◌, true, false, List, ◌∷◌, ◌++◌, length, get_or, take, drop, refl, sym}
-use Rattle.std.proofs.Common.{ap, ◌∙◌, inl, inr, arith, add-one, length-append, set, get_or-set_same, get_or-set_other, length-set}
+use Rattle.std.proofs.Common.{ap, ◌∙◌, inl, inr, arith, length-append, set, get_or-set_same, get_or-set_other, rules}
 use Rattle.std.specs.Prelude.{◌||◌, ◌==◌, bit_or, replicate}
 use Rattle.std.proofs.lemmas.Bool.Decides.{nat_tests, eqb_tells}
-use Rattle.std.proofs.lemmas.List.{take-set, drop-set, take-append-drop, get_or-append-add, get_or_append_left}
-use Rattle.std.proofs.Math.Seq.{get_or-append_seam}
-use Rattle.domain_octets.proofs.StdLemmas.{or_false, or_turn, and_false}
+use Rattle.std.proofs.lemmas.List.{take-set, drop-set, take-append-drop, get_or_append_left}
+use Rattle.domain_octets.proofs.StdLemmas.{and_false}
 use Rattle.domain_bitmap.specs.Bits.{bit_of}
 use Rattle.domain_bitmap.specs.Builder.{is_of_window, block_holds, has_window, holds}
 use Rattle.domain_bitmap.proofs.RangeLemmas.{any_more, any_same, any_at, any_none, any_with}
 use Rattle.domain_bitmap.proofs.BitLemmas.{bit_of-set, bit_of-zero}
+use Rattle.std.proofs.lemmas.Grind.{common_steps}
 
 -- a block is found
 pub window_found : (value : List ℕ) (window j : ℕ) → j < length value / 34 → get_or value (34 * j) 0 ≡ window → has_window value window ≡ true
@@ -30,9 +30,6 @@ written_is value at octet inside =
 
 same_type : (t r : ℕ) → t / 256 ≡ r / 256 → t % 256 / 8 ≡ r % 256 / 8 → (t == r) ≡ (t % 8 == r % 8)
 same_type t r window octet = grind (arith, nat_tests)
-
-other_window : (t r : ℕ) → t / 256 ≢ r / 256 → (t == r) ≡ false
-other_window t r window = grind (arith, nat_tests)
 
 other_octet : (t r : ℕ) → t % 256 / 8 ≢ r % 256 / 8 → (t == r) ≡ false
 other_octet t r octet = grind (arith, nat_tests)
@@ -78,36 +75,21 @@ module _ (value : List ℕ) (p r : ℕ) (inside : p < length value / 34) (window
       ]
 
   here : (t : ℕ) → block_holds after t p ≡ ((t == r) || block_holds value t p)
-  here t =
-      elim (eqb_tells (t / 256) (r / 256)) [
-        | inl h ↦
-            let test : (get_or value (34 * p) 0 == t / 256) ≡ true = let e : get_or value (34 * p) 0 ≡ t / 256 = window ∙ sym h.1 in grind (arith, nat_tests) in
-            rw (window_kept p, test) (bit_after t h.1)
-        | inr h ↦
-            let differs : t / 256 ≢ r / 256 = h.1 in
-            let test : (get_or value (34 * p) 0 == t / 256) ≡ false = grind (arith, nat_tests, window) in
-            rw (window_kept p, test, other_window t r differs) refl
-      ]
+  here t = grind (arith, common_steps, bit_after)
 
   pub holds-set_bit : (t : ℕ) → holds after t ≡ ((t == r) || holds value t)
   unfolding holds
-  holds-set_bit t =
-      rw (length-set value at more)
-      (any_with (block_holds value t) (block_holds after t) (t == r) (length value / 34) p inside (λ j below other. elsewhere t j other) (here t))
+  holds-set_bit t = search (rules, any_with, elsewhere, here)
 
   pub has_window-set_bit : (w : ℕ) → has_window after w ≡ has_window value w
   unfolding has_window
-  has_window-set_bit w =
-      rw (length-set value at more)
-      (any_same (is_of_window after w) (is_of_window value w) (length value / 34) (λ j below. ap (λ n. n == w) (window_kept j)))
+  has_window-set_bit w = grind (arith, common_steps, any_same)
 
 -- the octets after the code has set a bit
 added : (value slots : List ℕ) (j o b r : ℕ) → slots ≡ value → j < length value / 34 → get_or value (34 * j) 0 ≡ r / 256 → o ≡ r % 256 / 8 → b ≡ r % 8
     → take (34 * j + 2 + o) value ++ (bit_or (get_or slots (34 * j + 2 + o) 0) (1 * 2 ^ (7 - b) % 2 ^ 8) ∷ drop (34 * j + 2 + o + 1) value)
     ≡ set value (34 * j + 2 + r % 256 / 8) (bit_or (get_or value (34 * j + 2 + r % 256 / 8) 0) (1 * 2 ^ (7 - r % 8) % 2 ^ 8))
-added value slots j o b r same inside window octet bit =
-    rw (same, octet, bit) (written_is value (34 * j + 2 + r % 256 / 8)
-    (bit_or (get_or value (34 * j + 2 + r % 256 / 8) 0) (1 * 2 ^ (7 - r % 8) % 2 ^ 8)) (omega (arith, inside)))
+added value slots j o b r same inside window octet bit = grind (arith, common_steps, written_is)
 
 pub holds-added : (value slots : List ℕ) (j o b r : ℕ) → slots ≡ value → j < length value / 34 → get_or value (34 * j) 0 ≡ r / 256 → o ≡ r % 256 / 8 → b ≡ r % 8
     → (t : ℕ) → holds (take (34 * j + 2 + o) value ++ (bit_or (get_or slots (34 * j + 2 + o) 0) (1 * 2 ^ (7 - b) % 2 ^ 8) ∷ drop
@@ -147,51 +129,22 @@ module _ (value rest : List ℕ) (window : ℕ) (whole : length value % 34 ≡ 0
   front : (k : ℕ) → k < length value → get_or grown k 0 ≡ get_or value k 0
   front k below = get_or_append_left value (window ∷ rest) 0 k below
 
-  window_front : (w j : ℕ) → j < length value / 34 → is_of_window grown w j ≡ is_of_window value w j
-  window_front w j below = ap (λ n. n == w) (front (34 * j) (omega arith))
-
-  window_last : (w : ℕ) → is_of_window grown w (length value / 34) ≡ (w == window)
-  window_last w =
-      let is : get_or grown (34 * (length value / 34)) 0 ≡ window = rw place (get_or-append_seam value window rest 0) in
-      rw is (grind (arith, nat_tests))
-
-  zero_after : (k : ℕ) → get_or (window ∷ rest) (k + 1) 0 ≡ 0
-  zero_after k = rw add-one (zeros k)
-
   zero_last : (k : ℕ) → get_or grown (34 * (length value / 34) + 2 + k) 0 ≡ 0
-  zero_last k =
-      let is : 34 * (length value / 34) + 2 + k ≡ length value + (k + 1 + 1) = omega arith in
-      rw is (get_or-append-add value (window ∷ rest) (k + 1 + 1) 0 ∙ zero_after (k + 1))
+  zero_last k = grind (arith, common_steps)
 
   pub has_window-grown : (w : ℕ) → has_window grown w ≡ ((w == window) || has_window value w)
   unfolding has_window
-  has_window-grown w =
-      rw one_more
-      (any_more (is_of_window grown w) (length value / 34)
-      ∙ rw (window_last w, any_same (is_of_window grown w) (is_of_window value w) (length value / 34) (window_front w))
-      (or_turn (has_window value w) (w == window)))
+  has_window-grown w = grind (arith, common_steps, one_more, any_more, any_same)
 
   block_last : (t : ℕ) → block_holds grown t (length value / 34) ≡ false
   block_last t = rw (zero_last (t % 256 / 8), bit_of-zero (t % 8)) (and_false (is_of_window grown (t / 256) (length value / 34)))
 
   pub holds-grown : (t : ℕ) → holds grown t ≡ holds value t
   unfolding holds
-  holds-grown t =
-      rw one_more
-      (any_more (block_holds grown t) (length value / 34)
-      ∙ rw (
-        block_last t,
-        any_same (block_holds grown t) (block_holds value t) (length value / 34)
-            (λ j below. rw (front (34 * j) (omega arith), front (34 * j + 2 + t % 256 / 8) (omega arith)) refl),
-      )
-      (or_false (holds value t)))
+  holds-grown t = grind (arith, common_steps, one_more, any_more, block_last, any_same)
 
 -- a window that has a block already
 pub window_known : (value : List ℕ) (window w : ℕ) → has_window value window ≡ true → ((w == window) || has_window value w) ≡ has_window value w
-window_known value window w known =
-    elim (eqb_tells w window) [
-      | inl h ↦ let is : has_window value w ≡ true = ap (has_window value) h.1 ∙ known in rw (h.0, is) refl
-      | inr h ↦ rw h.0 refl
-    ]
+window_known value window w known = grind (arith, common_steps)
 
 pub ruleset block_steps = (window_known, holds-grown, has_window-grown)

@@ -1,6 +1,6 @@
 -- the one form of the octets of a set of types
 use Rattle.std.proofs.Common.{◌≡◌, ◌≢◌, ℕ, zero, suc, ◌+◌, ◌*◌, ◌/◌, ◌%◌, ◌<◌, ◌≤◌, Bool, true, false, List, [], ◌∷◌, ◌++◌, length, get_or, refl, sym, ap, ◌∙◌}
-use Rattle.std.proofs.Common.{subst, inl, inr, arith}
+use Rattle.std.proofs.Common.{inl, inr, arith}
 use Rattle.std.specs.Prelude.{◌==◌}
 use Rattle.std.specs.List.{AllByRecursion}
 use Rattle.std.proofs.lemmas.Bool.Decides.{nat_tests, eqb_tells, leb_tells}
@@ -13,6 +13,7 @@ use Rattle.domain_bitmap.proofs.BitLemmas.{octet_with-same, octet_with-bit_of}
 use Rattle.domain_bitmap.proofs.TrimLemmas.{before_trimmed-cons, before_trimmed-last, trimmed-zeros}
 use Rattle.domain_bitmap.proofs.BitmapLemmas.{block_list, blocks_from, octets_of_blocks-blocks_from, length-window_octets, get_or-window_octets, zero_octets}
 use Rattle.domain_bitmap.proofs.MeaningLemmas.{blocks_of-bitmap_octets}
+use Rattle.std.proofs.lemmas.Grind.{common_steps}
 
 -- octets that read alike are cut to the same
 trimmed-same : (xs ys : List ℕ) → ((i : ℕ) → get_or xs i 0 ≡ get_or ys i 0) → trimmed xs ≡ trimmed ys
@@ -77,19 +78,13 @@ cut-blocks_from types a (suc n) = cut-list a (trimmed (window_octets types a)) (
     (cut-trimmed (window_octets types a)) (cut-blocks_from types (a + 1) n)
 
 pub IsShortest-bitmap_octets : (types : ℕ → Bool) → IsShortest (bitmap_octets types)
-IsShortest-bitmap_octets types =
-    let blocks = blocks_of-bitmap_octets types in
-    record {
-      ascending = subst (WindowsAscendFrom 0) (sym blocks) (ascend-blocks_from types 0 256);
-      cut = subst (AllByRecursion IsCut) (sym blocks) (cut-blocks_from types 0 256);
-    }
+IsShortest-bitmap_octets types = grind (arith, common_steps, blocks_of-bitmap_octets, ascend-blocks_from, cut-blocks_from)
 
 -- a window below all others has no types
 none_below : (blocks : List Block) (low t : ℕ) → WindowsAscendFrom low blocks → t / 256 < low → in_first_block blocks t ≡ false
 none_below [] low t ascend below = refl
 none_below (block ∷ blocks) low t ascend below =
-    let test : (block.window == t / 256) ≡ false = let far : low ≤ block.window = ascend.0 in grind (arith, nat_tests) in
-    rw test (none_below blocks (block.window + 1) t ascend.1 (omega (arith, ascend.0)))
+    grind (arith, common_steps, (none_below blocks (block.window + 1) t ascend.1 (omega (arith, ascend.0))))
 
 -- the octets of a window whose types are the bits of a block
 window_of_block : (types : ℕ → Bool) (block : Block) → IsBlock block
@@ -141,12 +136,9 @@ rebuilt : (types : ℕ → Bool) (blocks : List Block) (a n : ℕ) → a + n ≡
     → blocks ≡ blocks_from types a n
 unfolding blocks_from
 rebuilt types [] a zero whole valid ascend cut same = refl
-rebuilt types (block ∷ blocks) a zero whole valid ascend cut same =
-    let first : IsBlock block = valid.0 in
-    absurd (omega (arith, first.window, ascend.0, whole))
+rebuilt types (block ∷ blocks) a zero whole valid ascend cut same = grind (arith, common_steps)
 rebuilt types [] a (suc n) whole valid ascend cut same =
-    let empty = zero_window types a (λ t here. same t (omega arith)) in
-    rw empty (rebuilt types [] (a + 1) n (omega arith) tt tt tt (λ t above. same t (omega arith)))
+    grind (arith, common_steps, zero_window, (rebuilt types [] (a + 1) n (omega arith) tt tt tt (λ t above. same t (omega arith))))
 rebuilt types (block ∷ blocks) a (suc n) whole valid ascend cut same =
     elim (eqb_tells block.window a) [
       | inl h ↦

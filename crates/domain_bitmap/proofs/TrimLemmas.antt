@@ -1,6 +1,7 @@
 -- octets without the zero octets at their end
 use Rattle.std.proofs.Common.{◌≡◌, ℕ, zero, suc, ◌-◌, ◌<◌, ◌≤◌, ◌≢◌, List, [], ◌∷◌, length, get_or, take, refl, ap, ◌∙◌, arith}
 use Rattle.domain_bitmap.specs.Bitmap.{trimmed, before_trimmed}
+use Rattle.std.proofs.lemmas.Grind.{common_steps}
 
 pub before_trimmed-cons : (x y : ℕ) (ys : List ℕ) → before_trimmed x (y ∷ ys) ≡ x ∷ y ∷ ys
 before_trimmed-cons zero y ys = refl
@@ -25,14 +26,11 @@ trimmed-to (x ∷ xs) zero inside last zeros =
     rw (trimmed-zeros xs (λ k. zeros (suc k) (omega arith))) (before_trimmed-last x last)
 trimmed-to (x ∷ []) (suc m) inside last zeros = absurd (omega (arith, inside))
 trimmed-to (x ∷ y ∷ ys) (suc m) inside last zeros =
-    let rest : trimmed (y ∷ ys) ≡ y ∷ take m ys = trimmed-to (y ∷ ys) m (omega (arith, inside)) last (λ k more. zeros (suc k) (omega arith)) in
-    rw rest (before_trimmed-cons x y (take m ys))
+    grind (arith, common_steps, (trimmed-to (y ∷ ys) m (omega (arith, inside)) last (λ k more. zeros (suc k) (omega arith))))
 
 -- the code counts down from the end
 pub trimmed-cut : (xs : List ℕ) (n : ℕ) → 0 < n → n ≤ length xs → get_or xs (n - 1) 0 ≢ 0 → ((k : ℕ) → n ≤ k → get_or xs k 0 ≡ 0) → trimmed xs ≡ take n xs
-trimmed-cut xs n some within last zeros =
-    let is : suc (n - 1) ≡ n = omega arith in
-    trimmed-to xs (n - 1) (omega arith) last (λ k more. zeros k (omega arith)) ∙ ap (λ m. take m xs) is
+trimmed-cut xs n some within last zeros = grind (arith, common_steps, trimmed-to)
 
 zero_end : (x i : ℕ) → get_or (before_trimmed x []) i 0 ≡ get_or (x ∷ []) i 0
 zero_end zero zero = refl

@@ -3,7 +3,7 @@ use Rattle.std.specs.Prelude.{◌≡◌, ◌≢◌, ℕ, ◌<◌, ◌≤◌, [],
 use Rattle.hex.specs.Hex.{encode_upper}
 use Rattle.domain_octets.specs.Limit.{HasRoom}
 use Rattle.domain_codecs.specs.Codec.{Decodes, DecodeFault}
-use Rattle.domain_octets.specs.Texts.{decode_error_text}
+use Rattle.domain_codecs.specs.Texts.{decode_error_text}
 use Rattle.domain_codecs.specs.declared.codec.Codec.TheVariants.{Base16, Base32Hex}
 use Rattle.domain_octets.specs.Words.{Octets}
 use Rattle.domain_bitmap.specs.declared.salt_text.Nsec3SaltFromStrError.{Nsec3SaltFromStrError}

@@ -1,17 +1,13 @@
-use Rattle.std.proofs.Common.{◌∙◌, ◌/◌, ◌%◌, get_or, rules, arith}
-use Rattle.domain_bitmap.specs.Bits.{AreClear}
+use Rattle.std.proofs.Common.{◌∙◌, arith}
 use Rattle.domain_bitmap.proofs.BlockLemmas.{found_at, clear_at, types_past}
 use Rattle.domain_bitmap.proofs.blocks.first_set.Goals as goal
+use Rattle.std.proofs.lemmas.Grind.{common_steps}
 
 pub returns-in-Some-clause-some : goal.returns-in-Some-clause-some
-returns-in-Some-clause-some c = λ w.
-    let first = c.in-Some.ensures.some in
-    c.loop-place.invariant w ∙ found_at c.args.octets.now c.loop-place.place c.in-Some.bit (omega arith) first.0 first.1 w
+returns-in-Some-clause-some c = grind (arith, common_steps, found_at)
 
 pub loop-place-preserved : goal.loop-place-preserved
-loop-place-preserved c = λ w.
-    let clear : AreClear (get_or c.args.octets.now (c.loop-place.place / 8) 0) (c.loop-place.place % 8) 8 = search rules in
-    c.loop-place.invariant w ∙ clear_at c.args.octets.now c.loop-place.place (omega arith) clear w
+loop-place-preserved c = grind (arith, common_steps, clear_at)
 
 pub returns-clause-none : goal.returns-clause-none
 returns-clause-none c = λ w.

@@ -1,5 +1,4 @@
-use Rattle.std.proofs.Common.{◌≡◌, ℕ, ◌+◌, ◌-◌, ◌*◌, ◌/◌, ◌<◌, true, false, length, take, drop, get_or, sym, ap, ◌∙◌, ◌%◌, arith}
-use Rattle.std.proofs.lemmas.List.{length-take}
+use Rattle.std.proofs.Common.{◌≡◌, ℕ, ◌+◌, ◌-◌, ◌*◌, ◌/◌, ◌<◌, true, false, take, drop, get_or, sym, ap, ◌∙◌, ◌%◌, arith, rules}
 use Rattle.domain_bitmap.specs.Builder.{holds, has_window}
 use Rattle.domain_bitmap.proofs.PackLemmas.{room_for, table_window, holds-absent, tally-more, tally-less}
 use Rattle.domain_bitmap.proofs.SlotLemmas.{zeros_at, same_at}
@@ -7,6 +6,7 @@ use Rattle.domain_bitmap.specs.Bits.{bit_of}
 use Rattle.domain_bitmap.proofs.BitmapLemmas.{written_more, skipped_more, all_written}
 use Rattle.domain_bitmap.proofs.pack.pack_all.Goals as goal
 use Rattle.domain_bitmap.proofs.pack.pack_all.Goals.{then-present-window, else-present-window}
+use Rattle.std.proofs.lemmas.Grind.{common_steps}
 
 pub fill-requires-clause-octets : goal.fill-requires-clause-octets
 fill-requires-clause-octets g c = zeros_at 8192
@@ -15,23 +15,13 @@ pub fill-requires-clause-present : goal.fill-requires-clause-present
 fill-requires-clause-present g c = same_at 256 false
 
 pub write_block-end-requires-clause-room : goal.write_block-end-requires-clause-room
-write_block-end-requires-clause-room g c =
-    let value = g.B.Octets.octets c.args.buffer.now in
-    let present : has_window value c.loop-window.window ≡ true =
-    rw c.as_slice-slots.ensures at (sym (c.fill.ensures.windows c.loop-window.window) ∙ c.if-present-window.true) in
-    omega (arith, room_for value c.loop-window.window present, c.loop-window.invariant.room, c.loop-window.invariant.size)
+write_block-end-requires-clause-room g c = grind (arith, common_steps, room_for)
 
 pub write_block-end-requires-clause-small : goal.write_block-end-requires-clause-small
-write_block-end-requires-clause-small g c =
-    let value = g.B.Octets.octets c.args.buffer.now in
-    let present : has_window value c.loop-window.window ≡ true =
-    rw c.as_slice-slots.ensures at (sym (c.fill.ensures.windows c.loop-window.window) ∙ c.if-present-window.true) in
-    omega (arith, room_for value c.loop-window.window present, c.loop-window.invariant.room, c.as_slice-slots.type_inv.0, ap length c.as_slice-slots.ensures)
+write_block-end-requires-clause-small g c = grind (arith, common_steps, room_for)
 
 pub write_block-end-requires-clause-fits : goal.write_block-end-requires-clause-fits
-write_block-end-requires-clause-fits g c =
-    let at = 32 * c.loop-window.window in
-    omega (arith, length-take (at + 32 - at) (drop at c.fill.new.octets))
+write_block-end-requires-clause-fits g c = grind (arith, common_steps)
 
 pub loop-window-preserved : goal.loop-window-preserved
 loop-window-preserved g c =
@@ -64,6 +54,4 @@ loop-window-preserved g c =
     ]
 
 pub returns : goal.returns
-returns g c =
-    let all : c.loop-window.window ≡ 256 = omega (arith, c.loop-window.auto.window-end) in
-    all_written (holds (g.B.Octets.octets c.args.buffer.now)) c.loop-window.window _ all c.loop-window.invariant.written
+returns g c = search (rules, all_written)

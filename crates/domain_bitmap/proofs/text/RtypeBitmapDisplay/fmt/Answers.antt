@@ -1,10 +1,11 @@
-use Rattle.std.proofs.Common.{◌++◌, ◌∷◌, [], refl, sym, ap, ◌∙◌}
-use Rattle.std.proofs.Output.{has_written_append, has_written_of_eq, writes_in_calls_nil}
-use Rattle.std.proofs.lemmas.List.{append_assoc, append-nil}
+use Rattle.std.proofs.Common.{◌++◌, ◌∷◌, [], refl, sym, ap, ◌∙◌, arith}
+use Rattle.std.proofs.Output.{has_written_append, writes_in_calls_nil}
+use Rattle.std.proofs.lemmas.List.{append_assoc}
 use Rattle.domain_base.specs.Numbers.{type_text}
 use Rattle.domain_bitmap.specs.Text.{types_text, spaced_types}
 use Rattle.domain_bitmap.proofs.text.RtypeBitmapDisplay.fmt.Goals as goal
 use Rattle.domain_bitmap.proofs.text.RtypeBitmapDisplay.fmt.Goals.{in-Some+in_ok-write, in_default}
+use Rattle.std.proofs.lemmas.Grind.{common_steps}
 
 pub loop-rtype-init : goal.loop-rtype-init
 unfolding types_text spaced_types
@@ -37,7 +38,4 @@ loop-rtype-preserved g c = λ plain.
 
 pub returns-clause-writes : goal.returns-clause-writes
 unfolding spaced_types
-returns-clause-writes g c = λ plain ok.
-    let so_far = c.loop-rtype.invariant plain in
-    let whole = so_far.1 ∙ ap (λ l. so_far.0 ++ spaced_types l) c.in_default-next.ensures.steps.0 ∙ append-nil so_far.0 in
-    has_written_of_eq _ _ _ _ _ (sym whole) so_far.2
+returns-clause-writes g c = grind (arith, common_steps)
