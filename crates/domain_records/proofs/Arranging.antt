@@ -7,6 +7,7 @@ use Rattle.std.proofs.lemmas.List.Edits.{length-swap, swapped_from_swap}
 use Rattle.std.proofs.lemmas.List.Elements.{All-get_or, All-from_get_or}
 use Rattle.std.proofs.lemmas.List.Sorted.{IsPermutation-swap, IsPermutation-trans, All-permutation}
 use Rattle.domain_records.specs.Places.{AreRanks}
+use Rattle.std.proofs.lemmas.Grind.{common_steps}
 
 -- the ranks before i are taken by their items; what goes to rank p now stands at s p, and t has the
 -- ranks of these places
@@ -17,14 +18,6 @@ pub record IsArranging {X : Type 0} (xs : List X) (from : List ℕ) (ys : List X
   pub done : (k : ℕ) → k < i → get_or s k 0 ≡ k
   pub same : (k : ℕ) (d : X) → k < length xs → get_or ys (get_or s k 0) d ≡ get_or xs (get_or from k 0) d
   pub moved : IsPermutation xs ys
-
-flip : (s t : List ℕ) → AreRanks s t → AreRanks t s
-flip s t h =
-    let n = h.many in record {
-      many = sym n;
-      place = λ k lt. let a = h.rank k (omega arith) in (omega (arith, a.0), a.1);
-      rank = λ k lt. let a = h.place k (omega arith) in (omega (arith, a.0), a.1);
-    }
 
 module _ (s t : List ℕ) (i : ℕ) (h : AreRanks s t) (lt : i < length s) where
   abbrev p : ℕ
@@ -66,14 +59,7 @@ module _ (s t : List ℕ) (i : ℕ) (h : AreRanks s t) (lt : i < length s) where
       (omega arith, turned t k 0 h.many (omega arith) ∙ (h.place k (omega arith)).1)
 
 ranks_next : (s t : List ℕ) (i : ℕ) → AreRanks s t → i < length s → AreRanks (swap s i (get_or t i 0)) (swap t i (get_or s i 0))
-ranks_next s t i h lt =
-    let n = length-swap s i (get_or t i 0) in
-    let m = length-swap t i (get_or s i 0) in
-    let many = h.many in record {
-      many = m ∙ many ∙ sym n;
-      place = half s t i h lt;
-      rank = λ k less. let a = half t s i (flip s t h) (omega arith) k (omega arith) in (omega (arith, a.0), a.1);
-    }
+ranks_next s t i h lt = grind (arith, common_steps, length-swap, half)
 
 module _ {X : Type 0} (xs : List X) (from : List ℕ) (ys : List X) (s t : List ℕ) (i : ℕ) (lt : i < length xs) (h : IsArranging xs from ys s t i) where
   pub arranging_more : IsArranging xs from (swap ys i (get_or s i 0)) (swap s i (get_or t i 0)) (swap t i (get_or s i 0)) (i + 1)

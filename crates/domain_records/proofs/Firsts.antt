@@ -1,7 +1,7 @@
 -- The first element of a list, and of what is left of it.
 use Rattle.std.proofs.Common.{◌≡◌, ℕ, ◌<◌, ◌≤◌, List, [], ◌∷◌, length, get_or, take, drop, slice_get, Some, sym, subst, arith}
 use Rattle.std.proofs.Math.Seq.{drop-cons}
-use Rattle.std.proofs.lemmas.List.{take-append-drop, get_or-take, length-take-le, drop_all}
+use Rattle.std.proofs.lemmas.List.{take-append-drop, get_or-take, length-take-le}
 use Rattle.std.proofs.lemmas.List.Elements.{recursion_from_All}
 use Rattle.std.proofs.lemmas.Option.{get_or_from_slice_get, slice_get_within}
 use Rattle.domain_records.specs.Groups.{HasFirst, IfFirst, SkipsTo}
@@ -17,9 +17,6 @@ module _ {X : Type 0} where
     if_first_at xs n x is p =
         let lt = slice_get_within xs n x is in
         subst (IfFirst P) (sym (drop-cons xs n x lt)) (subst P (sym (get_or_from_slice_get xs n x x is)) p)
-
-    pub if_first_past : (xs : List X) (n : ℕ) → length xs ≤ n → IfFirst P (drop n xs)
-    if_first_past xs n le = subst (IfFirst P) (sym (drop_all n xs le)) tt
 
     pub skips_to : (xs : List X) (n : ℕ) → n ≤ length xs → ((k : ℕ) (d : X) → k < n → ¬ (P (get_or xs k d))) → IfFirst P (drop n xs) → SkipsTo P xs (drop n xs)
     skips_to xs n le before first = record {

@@ -12,13 +12,12 @@ use Rattle.domain_records.specs.Lookup.{IsFirstPlace, matches, is_asked}
 use Rattle.domain_records.specs.Rrsets.{TakesRrset, IsFound, IsRrsetOf, begins_with, first_group, group_at}
 use Rattle.domain_records.specs.Runs.{runs, add_to}
 use Rattle.domain_records.proofs.Runs.{begins, runs_nil}
+use Rattle.std.proofs.lemmas.Grind.{common_steps}
 
 module _ {X : Type 0} (same : X → X → Bool) (p : X → Bool) (alike : (x y : X) → same x y ≡ true → p x ≡ p y) where
   passed_step : (x y : X) (ys : List X) (gs : List (List X)) (b : Bool) → same x y ≡ b → p x ≡ false
       → find (begins_with p) (cond b ((x ∷ y ∷ ys) ∷ gs) ((x ∷ []) ∷ (y ∷ ys) ∷ gs)) ≡ find (begins_with p) ((y ∷ ys) ∷ gs)
-  passed_step x y ys gs true is h =
-      ap (λ c. cond c (Some (x ∷ y ∷ ys)) (find (begins_with p) gs)) h
-      ∙ sym (ap (λ c. cond c (Some (y ∷ ys)) (find (begins_with p) gs)) (sym (alike x y is) ∙ h))
+  passed_step x y ys gs true is h = grind (arith, common_steps)
   passed_step x y ys gs false is h = ap (λ c. cond c (Some (x ∷ [])) (find (begins_with p) ((y ∷ ys) ∷ gs))) h
 
   passed : (x : X) (gs : List (List X)) → p x ≡ false → find (begins_with p) (add_to same x gs) ≡ find (begins_with p) gs

@@ -15,6 +15,7 @@ use Rattle.domain_record.specs.declared.record.Record.{Record}
 use Rattle.domain_record.specs.Record.{record_cmp}
 use Rattle.domain_records.specs.Lookup.{Key, key_cmp, key_of, wanted_key, where_asked, number_asked, is_asked, is_before, matches, HasAt, IsParted}
 use Rattle.domain_records.specs.Lookup.{IsFirstPlace}
+use Rattle.std.proofs.lemmas.Grind.{common_steps}
 
 pub key_cmp_total : IsTotalOrder key_cmp
 key_cmp_total = then_total (on_total (λ k. k.class) nat_cmp_total)
@@ -97,11 +98,7 @@ module _ {N D : Type 0} (labels : N → List (List ℕ)) (rtype : D → ℕ) (ow
 
   unmatched_before : (r : Record N D) (class : ℕ) → r.class ≡ class → is_before labels rtype class owner type r ≡ true
       → matches labels rtype owner asked type r ≡ false
-  unmatched_before r class one h =
-      false_from_ne_true _ (λ m.
-      let level : key_cmp (key_of labels rtype type r) (wanted_key class owner type) ≡ Equal = rw (← one) (matched_key r m) in
-      let less = is_less (key_cmp (key_of labels rtype type r) (wanted_key class owner type)) h in
-      absurd (cc))
+  unmatched_before r class one h = grind (arith, common_steps, matched_key)
 
   -- r isn't after s, which matches, and not before those that match: then r matches too
   matched_too : (r s : Record N D) (class : ℕ) → s.class ≡ class → is_gt (key_cmp (key_of labels rtype type r) (key_of labels rtype type s)) ≡ false

@@ -2,8 +2,8 @@
 use Rattle.std.proofs.Common.{◌≡◌, ℕ, ◌+◌, ◌<◌, ◌≤◌, eqb, IsTrue, zero, suc, Bool, true, false, cond, List, [], ◌∷◌, length, get_or, take, drop, refl, sym, ◌∙◌}
 use Rattle.std.proofs.Common.{ap, arith, add-one}
 use Rattle.std.proofs.lemmas.Bool.{eqb-true, eq-eqb}
-use Rattle.std.specs.List.{AllByRecursion}
-use Rattle.domain_records.specs.Runs.{AreGroups, IsOneRun, Apart, joined, add_to, runs, IsFirstRun, HoldsOfNeighbours}
+use Rattle.domain_records.specs.Runs.{AreGroups, Apart, add_to, runs, IsFirstRun, HoldsOfNeighbours}
+use Rattle.std.proofs.lemmas.Grind.{common_steps}
 
 module _ {X : Type 0} (same : X → X → Bool) where
   -- the first run of some elements begins with the first of them
@@ -53,51 +53,15 @@ unfolding runs
 runs_nil same xs e = ap (runs same) e
 
 module _ {X : Type 0} (same : X → X → Bool) where
-  join_step : (x y : X) (ys : List X) (gs : List (List X)) (b : Bool)
-      → joined (cond b ((x ∷ y ∷ ys) ∷ gs) ((x ∷ []) ∷ (y ∷ ys) ∷ gs)) ≡ x ∷ joined ((y ∷ ys) ∷ gs)
-  join_step x y ys gs true = refl
-  join_step x y ys gs false = refl
-
-  joined_add : (x : X) (gs : List (List X)) → joined (add_to same x gs) ≡ x ∷ joined gs
-  joined_add x [] = refl
-  joined_add x ([] ∷ gs) = refl
-  joined_add x ((y ∷ ys) ∷ gs) = join_step x y ys gs (same x y)
-
-  each_step : (x y : X) (ys : List X) (gs : List (List X)) (b : Bool) → same x y ≡ b → AllByRecursion (IsOneRun same) ((y ∷ ys) ∷ gs)
-      → AllByRecursion (IsOneRun same) (cond b ((x ∷ y ∷ ys) ∷ gs) ((x ∷ []) ∷ (y ∷ ys) ∷ gs))
-  each_step x y ys gs true e h = ((e, h.0), h.1)
-  each_step x y ys gs false e h = (tt, h)
-
-  each_add : (x : X) (gs : List (List X)) → AllByRecursion (IsOneRun same) gs → AllByRecursion (IsOneRun same) (add_to same x gs)
-  each_add x [] h = (tt, tt)
-  each_add x ([] ∷ gs) h = absurd h.0
-  each_add x ((y ∷ ys) ∷ gs) h = each_step x y ys gs (same x y) refl h
-
   longer : (x y : X) (ys : List X) (gs : List (List X)) → Apart same ((y ∷ ys) ∷ gs) → Apart same ((x ∷ y ∷ ys) ∷ gs)
   longer x y ys [] h = tt
   longer x y ys (g ∷ gs) h = h
-
-  apart_step : (x y : X) (ys : List X) (gs : List (List X)) (b : Bool) → same x y ≡ b → Apart same ((y ∷ ys) ∷ gs)
-      → Apart same (cond b ((x ∷ y ∷ ys) ∷ gs) ((x ∷ []) ∷ (y ∷ ys) ∷ gs))
-  apart_step x y ys gs true e h = longer x y ys gs h
-  apart_step x y ys gs false e h = (e, h)
-
-  apart_add : (x : X) (gs : List (List X)) → AllByRecursion (IsOneRun same) gs → Apart same gs → Apart same (add_to same x gs)
-  apart_add x [] r h = tt
-  apart_add x ([] ∷ gs) r h = absurd r.0
-  apart_add x ((y ∷ ys) ∷ gs) r h = apart_step x y ys gs (same x y) refl h
 
   -- the groups of a list join to it, each is one run, and neighbours differ
   pub runs_are_groups : (xs : List X) → AreGroups same xs (runs same xs)
   unfolding runs
   runs_are_groups [] = record { all = refl; each = tt; apart = tt }
-  runs_are_groups (x ∷ xs) =
-      let h = runs_are_groups xs in
-      record {
-        all = joined_add x (runs same xs) ∙ ap (λ l. x ∷ l) h.all;
-        each = each_add x (runs same xs) h.each;
-        apart = apart_add x (runs same xs) h.each h.apart;
-      }
+  runs_are_groups (x ∷ xs) = grind (arith, common_steps, (runs_are_groups xs))
 
 module _ {X : Type 0} (same : X → X → Bool) (xs : List X) (n : ℕ) (h : IsFirstRun same xs n) where
   pub whole_run : IsTrue (eqb n (length xs)) → HoldsOfNeighbours same xs

@@ -1,20 +1,21 @@
 -- Sorted sets as lists: where an element stands or goes, and what a sort and a dedup leave.
-use Rattle.std.proofs.Common.{◌≡◌, ℕ, ◌+◌, ◌<◌, ◌≤◌, suc, Bool, true, false, cond, not, ◌&&◌, List, [], ◌∷◌, ◌++◌, length, get_or, take, drop, Option, Some}
+use Rattle.std.proofs.Common.{◌≡◌, ℕ, ◌+◌, ◌<◌, suc, Bool, true, false, cond, not, ◌&&◌, List, [], ◌∷◌, ◌++◌, length, get_or, take, drop, Option, Some}
 use Rattle.std.proofs.Common.{None, Result, Ok, Err, IfOk, IfErr, refl, sym, ◌∙◌, ap, subst, arith, is_lt}
-use Rattle.std.specs.List.{AllByRecursion, Contains, dedup, dedup_from, filter, find, insert, remove, slice_get}
+use Rattle.std.specs.List.{AllByRecursion, Contains, dedup, dedup_from, filter, find, insert, remove}
 use Rattle.std.specs.List.Sorted.{IsStrictlySortedBy, IsSorted, IsStable, IsPermutation, ties, IsSearchInRange, IsBinarySearchResult, IsNonDecreasingBy}
 use Rattle.std.specs.Cmp.{IsTotalOrder, IsEquivalence, eq_by_cmp_equiv, tied_back, Equal-is}
 use Rattle.std.specs.Ordering.{eq_by_cmp, is_eq, ordering_index, ordering_reverse}
 use Rattle.std.specs.declared.cmp.Ordering.{Ordering}
 use Rattle.std.specs.declared.cmp.Ordering.TheVariants.{Less, Equal, Greater}
 use Rattle.std.proofs.lemmas.Map.Keys.{Less-from_sorted}
-use Rattle.std.proofs.lemmas.List.Sorted.{searchable_from_sorted, IsPermutation-refl, IsPermutation-insert, Contains-permutation, All-permutation}
+use Rattle.std.proofs.lemmas.List.Sorted.{searchable_from_sorted, IsPermutation-insert, Contains-permutation, All-permutation}
 use Rattle.std.proofs.lemmas.List.Kept.{IsStrictlySortedBy-dedup, Any-dedup}
 use Rattle.std.proofs.lemmas.List.Filters.{All-dedup}
 use Rattle.std.proofs.lemmas.List.{take-append-drop, get_or-take, get_or-drop, get_or_default, length-take-le, length-drop}
 use Rattle.std.proofs.Math.Seq.{drop-cons}
 use Rattle.std.proofs.lemmas.List.Elements.{All-contains_itself, filter_agree, recursion_from_All}
 use Rattle.domain_records.specs.SortedSet.{IsAt, IsGapFor, Holds, IsSortedSetOf, IsSortOf, IsUnion, KeepsEarliest, Adds}
+use Rattle.std.proofs.lemmas.Grind.{common_steps}
 
 module _ {X : Type 0} where
   -- the first that passes is the first of those that pass
@@ -113,11 +114,6 @@ module _ {X : Type 0} {R : X → X → Ordering} (o : IsTotalOrder R) where
         (a.0, a.1, a.2, a.3, tied_back o x a.1 ((Equal-is (R x a.1)).0 a.4));
   }
 
-  -- of no elements
-  pub no_sort : (stable : Bool) (xs : List X) → None ≡ slice_get xs 0 → IsSortOf stable R xs xs
-  no_sort stable [] none = record { moved = IsPermutation-refl []; sorted = λ k d le lt. absurd (omega arith); earliest = λ on x. refl }
-  no_sort stable (x ∷ xs) none = absurd (cc)
-
   -- what a stable sort leaves begins with the earliest of equals
   pub stable_earliest : (xs ys : List X) → IsStable R xs ys → KeepsEarliest R xs ys
   stable_earliest xs ys stable x =
@@ -154,19 +150,9 @@ module _ {X : Type 0} {R : X → X → Ordering} (o : IsTotalOrder R) where
   holds_at [] x i at = absurd (let h = at.in_range in omega arith)
   holds_at (d ∷ ys) x i at = (i, get_or (d ∷ ys) i d, at.in_range, get_or_default (d ∷ ys) i _ d at.in_range, at.equal d)
 
-  less_or_equal : (r : Ordering) → r ≡ Less → r ≡ Equal → ⊥
-  less_or_equal r p q = let e = sym p ∙ q in cc
-
-  greater_or_equal : (r : Ordering) → r ≡ Greater → r ≡ Equal → ⊥
-  greater_or_equal r p q = let e = sym p ∙ q in cc
-
   -- and where none does
   pub none_in_gap : (xs : List X) (x : X) (i : ℕ) → IsGapFor R xs x i → Holds R xs x → ⊥
-  none_in_gap xs x i gap h =
-      let eq : R (get_or xs h.0 h.1) x ≡ Equal = rw h.3 h.4 in
-      let apart : h.0 < i → ⊥ = λ lt. less_or_equal _ (gap.lesser h.0 h.1 lt) eq in
-      let above : i ≤ h.0 → ⊥ = λ le. greater_or_equal _ (gap.greater h.0 h.1 le h.2) eq in
-      omega (arith, apart, above)
+  none_in_gap xs x i gap h = grind (arith, common_steps)
 
 pub sorted_nil : {X : Type 0} (R : X → X → Ordering) (xs : List X) → xs ≡ [] → IsStrictlySortedBy R xs
 unfolding IsStrictlySortedBy

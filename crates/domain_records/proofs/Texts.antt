@@ -1,24 +1,20 @@
 -- One text after another.
-use Rattle.std.proofs.Common.{◌≡◌, ℕ, ◌+◌, ◌<◌, length, get_or, drop, subst, Result, Bool, true, false, not, cond, List, [], ◌∷◌, ◌++◌, Option, Some, None}
-use Rattle.std.proofs.Common.{refl, sym, ◌∙◌, ap, append_assoc, append-nil}
+use Rattle.std.proofs.Common.{◌≡◌, ℕ, ◌+◌, ◌<◌, length, get_or, drop, subst, Result, Bool, true, false, not, List, [], ◌∷◌, ◌++◌, Option, Some, None}
+use Rattle.std.proofs.Common.{refl, sym, ◌∙◌, ap, append_assoc, append-nil, arith}
 use Rattle.std.specs.Bool.{beq}
 use Rattle.std.specs.List.{FoldsTo, concat, filter}
 use Rattle.std.specs.Fmt.{WritesInCalls, WritesText, ◌++?◌}
 use Rattle.std.proofs.lemmas.List.Folds.{concat-append}
-use Rattle.std.proofs.lemmas.List.Elements.{filter_agree}
-use Rattle.std.proofs.lemmas.List.{drop_more}
 use Rattle.std.specs.Fn.{Shared}
 use Rattle.std.specs.declared.fmt.Error.{Error}
 use Rattle.domain_records.specs.Text.{texts, WritesWithComments}
 use denote.Ref.{Bor, MutBor}
+use Rattle.std.proofs.lemmas.Grind.{common_steps}
 
 module _ {W : Type 0} (took : W → List ℕ → W → Type 0) where
   calls_append : (w u v : W) (xs ys : List (List ℕ)) → FoldsTo took w xs u → FoldsTo took u ys v → FoldsTo took w (xs ++ ys) v
   calls_append w u v [] ys h k = rw h k
   calls_append w u v (x ∷ xs) ys h k = (h.0, h.1, calls_append h.0 u v xs ys h.2 k)
-
-  pub writes_none : (w : W) → WritesText took w (Some []) w
-  writes_none w = record { parts = []; calls = refl; whole = refl }
 
   pub one_call : (w v : W) (bs : List ℕ) → took w bs v → WritesInCalls took w bs v
   one_call w v bs h = record { parts = bs ∷ []; calls = (v, h, refl); whole = append-nil bs }
@@ -47,39 +43,12 @@ pub texts_append : {X : Type 0} (output : X → Option (List ℕ)) (xs ys : List
 texts_append output [] ys = append_nil_text (texts output ys)
 texts_append output (x ∷ xs) ys = ap (λ o. output x ++? o) (texts_append output xs ys) ∙ append_assoc_text (output x) (texts output xs) (texts output ys)
 
-beq_true : (b : Bool) → beq b true ≡ b
-beq_true true = refl
-beq_true false = refl
-
-beq_false : (b : Bool) → beq b false ≡ not b
-beq_false true = refl
-beq_false false = refl
-
-pub picked_true : {X : Type 0} (p : X → Bool) (xs : List X) → filter (λ x. beq (p x) true) xs ≡ filter p xs
-picked_true p xs = filter_agree (λ x. beq (p x) true) p (λ x. beq_true (p x)) xs
-
-pub picked_false : {X : Type 0} (p : X → Bool) (xs : List X) → filter (λ x. beq (p x) false) xs ≡ filter (λ x. not (p x)) xs
-picked_false p xs = filter_agree (λ x. beq (p x) false) (λ x. not (p x)) (λ x. beq_false (p x)) xs
-
-filter_step : {X : Type 0} (p : X → Bool) (x : X) (xs : List X) (b : Bool) → cond b (x ∷ filter p xs) (filter p xs) ≡ cond b (x ∷ []) [] ++ filter p xs
-filter_step p x xs true = refl
-filter_step p x xs false = refl
-
--- a list is picked from element by element
-pub filter_cons : {X : Type 0} (p : X → Bool) (x : X) (xs : List X) → filter p (x ∷ xs) ≡ filter p (x ∷ []) ++ filter p xs
-filter_cons p x xs = filter_step p x xs (p x)
-
 module _ {X W : Type 0} (took : W → List ℕ → W → Type 0) (output : X → Option (List ℕ)) (p : X → Bool) where
   -- the text of the picked, one element on
   pub picked_more : (xs : List X) (i : ℕ) (x : X) → i < length xs → x ≡ get_or xs i x → (w u v : W)
       → WritesText took w (texts output (filter p (x ∷ []))) u → WritesText took u (texts output (filter p (drop (i + 1) xs))) v
       → WritesText took w (texts output (filter p (drop i xs))) v
-  picked_more xs i x lt is w u v h k =
-      let all : texts output (filter p (drop i xs)) ≡ texts output (filter p (x ∷ [])) ++? texts output (filter p (drop (i + 1) xs)) =
-      ap (λ l. texts output (filter p l)) (drop_more xs i x lt ∙ ap (λ y. y ∷ drop (i + 1) xs) (sym is))
-      ∙ ap (texts output) (filter_cons p x (drop (i + 1) xs)) ∙ texts_append output (filter p (x ∷ [])) (filter p (drop (i + 1) xs)) in
-      subst (λ (o : Option (List ℕ)). WritesText took w o v) (sym all)
-      (writes_append took (texts output (filter p (x ∷ []))) (texts output (filter p (drop (i + 1) xs))) w u v h k)
+  picked_more xs i x lt is w u v h k = grind (arith, common_steps, texts_append, writes_append)
 
   module _ {F : Type 0} (g : Shared F (Bor X × (MutBor W × Unit {0})) (Result (Unit {0}) Error × (MutBor W × Unit {0}))) (f : F) where
     pub lines_append : (xs ys : List X) (w u v : W) → WritesWithComments took output g f w xs u → WritesWithComments took output g f u ys v
@@ -90,27 +59,15 @@ module _ {X W : Type 0} (took : W → List ℕ → W → Type 0) (output : X →
     pub picked_lines_more : (xs : List X) (i : ℕ) (x : X) → i < length xs → x ≡ get_or xs i x → (w u v : W)
         → WritesWithComments took output g f w (filter p (x ∷ [])) u → WritesWithComments took output g f u (filter p (drop (i + 1) xs)) v
         → WritesWithComments took output g f w (filter p (drop i xs)) v
-    picked_lines_more xs i x lt is w u v h k =
-        let all : filter p (drop i xs) ≡ filter p (x ∷ []) ++ filter p (drop (i + 1) xs) = ap (filter p)
-        (drop_more xs i x lt ∙ ap (λ y. y ∷ drop (i + 1) xs) (sym is)) ∙ filter_cons p x (drop (i + 1) xs) in
-        subst (λ (l : List X). WritesWithComments took output g f w l v) (sym all) (lines_append (filter p (x ∷ [])) (filter p (drop (i + 1) xs)) w u v h k)
+    picked_lines_more xs i x lt is w u v h k = grind (arith, common_steps)
 
     -- the lines of the picked, and then those of the others
     pub lines_of_both : (xs : List X) (w u v : W) → WritesWithComments took output g f w (filter (λ x. beq (p x) true) xs) u
         → WritesWithComments took output g f u (filter (λ x. beq (p x) false) xs) v
         → WritesWithComments took output g f w (filter p xs ++ filter (λ x. not (p x)) xs) v
-    lines_of_both xs w u v h k =
-        let a : WritesWithComments took output g f w (filter p xs) u = subst (λ (l : List X). WritesWithComments took output g f w l u) (picked_true p xs) h in
-        let b : WritesWithComments took output g f u
-        (filter (λ x. not (p x)) xs) v = subst (λ (l : List X). WritesWithComments took output g f u l v) (picked_false p xs) k in
-        lines_append (filter p xs) (filter (λ x. not (p x)) xs) w u v a b
+    lines_of_both xs w u v h k = grind (arith, common_steps, lines_append)
 
   -- the text of the picked, and then that of the others
   pub text_of_both : (xs : List X) (w u v : W) → WritesText took w (texts output (filter (λ x. beq (p x) true) xs)) u
       → WritesText took u (texts output (filter (λ x. beq (p x) false) xs)) v → WritesText took w (texts output (filter p xs ++ filter (λ x. not (p x)) xs)) v
-  text_of_both xs w u v h k =
-      let a : WritesText took w (texts output (filter p xs)) u = subst (λ (l : List X). WritesText took w (texts output l) u) (picked_true p xs) h in
-      let b : WritesText took u (texts output (filter (λ x. not (p x)) xs)) v = subst (λ (l : List X). WritesText took u (texts output l) v)
-      (picked_false p xs) k in
-      subst (λ (o : Option (List ℕ)). WritesText took w o v) (sym (texts_append output (filter p xs) (filter (λ x. not (p x)) xs)))
-      (writes_append took (texts output (filter p xs)) (texts output (filter (λ x. not (p x)) xs)) w u v a b)
+  text_of_both xs w u v h k = grind (arith, common_steps, texts_append, writes_append)

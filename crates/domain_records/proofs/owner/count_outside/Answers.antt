@@ -2,8 +2,9 @@ use Rattle.std.proofs.Common.{arith}
 use Rattle.domain_names.specs.Name.{IsAtOrBelow}
 use Rattle.domain_record.specs.declared.record.Record.{Record}
 use Rattle.domain_records.specs.Slices.{items_of}
-use Rattle.domain_records.proofs.Firsts.{skips_to, if_first_at, if_first_past}
+use Rattle.domain_records.proofs.Firsts.{skips_to, if_first_at}
 use Rattle.domain_records.proofs.owner.count_outside.Goals as goal
+use Rattle.std.proofs.lemmas.Grind.{common_steps}
 
 pub returns-else-not-ends_with : goal.returns-else-not-ends_with
 returns-else-not-ends_with g c =
@@ -15,9 +16,4 @@ returns-else-not-ends_with g c =
     )
 
 pub returns-after-loop-n : goal.returns-after-loop-n
-returns-after-loop-n g c =
-    let P = λ (r : Record g.row.N.Denot g.row.D.Denot). IsAtOrBelow (g.N.ToName.labels r.owner) (g.N.ToName.labels c.args.apex.now) in
-    let items = items_of c.args.records.now in (
-      skips_to P items c.loop-n.n c.loop-n.invariant.within c.loop-n.invariant.outside (if_first_past P items c.loop-n.n (omega (arith, c.len-total.ensures))),
-      c.loop-n.invariant.within,
-    )
+returns-after-loop-n g c = grind (arith, common_steps, skips_to)

@@ -1,29 +1,17 @@
-use Rattle.std.proofs.Common.{◌≡◌, ◌∙◌, None, length, ap, sym, refl}
-use Rattle.std.specs.List.{slice_get}
+use Rattle.std.proofs.Common.{◌≡◌, ◌∙◌, length, refl, arith}
 use Rattle.std.specs.List.Sorted.{IsPermutation}
-use Rattle.std.specs.Option.{option_copied}
 use Rattle.std.proofs.lemmas.List.{take_at}
 use Rattle.domain_record.specs.Record.{record_cmp, record_cmp_total}
 use Rattle.domain_records.specs.Places.{AreInOrder, IsArranged}
-use Rattle.domain_records.proofs.SortedLists.{no_sort}
 use Rattle.domain_records.proofs.Placing.{arranged_sort}
 use Rattle.domain_records.proofs.sort.sort.Goals as goal
+use Rattle.std.proofs.lemmas.Grind.{common_steps}
 
 pub arrange-requires-clause-ranks : goal.arrange-requires-clause-ranks
-arrange-requires-clause-ranks g c =
-    let up = c.if-are_in_order.ensures refl in
-    rw (
-      c.deref_mut-then-are_in_order.ensures.value,
-      c.deref_mut-then-are_in_order-2.ensures.value,
-      ← c.deref-5.ensures.value,
-      ←
-          c.deref-6.ensures.value,
-    ) up.inverse
+arrange-requires-clause-ranks g c = grind (arith, common_steps)
 
 pub arrange-requires-clause-all : goal.arrange-requires-clause-all
-arrange-requires-clause-all g c =
-    let up = c.if-are_in_order.ensures refl in
-    rw (c.deref_mut-then-are_in_order.ensures.value, c.deref_mut.ensures.value, ← c.deref-4.ensures.value, ← c.deref-5.ensures.value) up.all
+arrange-requires-clause-all g c = grind (arith, common_steps)
 
 pub returns-then-are_in_order-clause-ok : goal.returns-then-are_in_order-clause-ok
 returns-then-are_in_order-clause-ok g c =
@@ -41,8 +29,4 @@ returns-then-are_in_order-clause-ok g c =
     rw (take_at ys _ c.args.records.now.len m) (arranged_sort o xs c.in-Some.first.now places ranks up ys put g.S.Sorter.is_stable moved)
 
 pub returns-in_default-clause-ok : goal.returns-in_default-clause-ok
-returns-in_default-clause-ok g c =
-    let o = record_cmp_total g.N.ToName.labels g.D.RecordData.rtype g.D.CanonicalOrd.canonical_cmp g.met.D.CanonicalOrd.total in
-    let xs = c.args.records.now.items in
-    let none : None ≡ slice_get xs 0 = ap option_copied (sym c.in_default.is) ∙ c.first.ensures.value ∙ ap (λ l. slice_get l 0) c.deref.ensures.value in
-    no_sort o g.S.Sorter.is_stable xs none
+returns-in_default-clause-ok g c = grind (arith, common_steps)

@@ -1,9 +1,7 @@
-use Rattle.std.proofs.Common.{sym}
-use Rattle.std.proofs.lemmas.List.{take-append-drop}
 use Rattle.domain_records.proofs.Runs.{runs-first}
 use Rattle.domain_records.proofs.owner.RecordsIterIterator.next.Goals as goal
+use Rattle.std.proofs.Common.{arith}
+use Rattle.std.proofs.lemmas.Grind.{common_steps}
 
 pub returns-clause-steps : goal.returns-clause-steps
-returns-clause-steps g c =
-    rw (c.front-records.ensures, c.back-self-inside.ensures, ← c.self.view_is)
-    (sym (take-append-drop _ _), runs-first _ _ _ c.first_run-n.ensures)
+returns-clause-steps g c = grind (arith, common_steps, runs-first)

@@ -1,34 +1,23 @@
-use Rattle.std.proofs.Common.{refl}
+use Rattle.std.proofs.Common.{refl, arith}
 use Rattle.std.specs.Cmp.{IsTotalOrder}
 use Rattle.domain_record.specs.Record.{record_cmp, record_cmp_total}
-use Rattle.domain_records.proofs.SortedLists.{sorted_insert, holds_at, none_in_gap}
+use Rattle.domain_records.proofs.SortedLists.{sorted_insert, holds_at}
 use Rattle.domain_records.proofs.sorted.SortedRecords.insert.Given.{Over}
 use Rattle.domain_records.proofs.sorted.SortedRecords.insert.Goals as goal
+use Rattle.std.proofs.lemmas.Grind.{common_steps}
 
 -- the canonical order of the records, which is total
 order : (g : Over) → IsTotalOrder (record_cmp g.N.ToName.labels g.D.RecordData.rtype g.D.CanonicalOrd.canonical_cmp)
 order g = record_cmp_total g.N.ToName.labels g.D.RecordData.rtype g.D.CanonicalOrd.canonical_cmp g.met.D.CanonicalOrd.total
 
--- memory was wanting, and nothing changed
-pub invariant_of-self : goal.invariant_of-self
-invariant_of-self g c = rw c.in-Err-insert.ensures.items c.self.invariant
-
 -- the record went into its gap
 pub invariant_of-self-in-Err : goal.invariant_of-self-in-Err
-invariant_of-self-in-Err g c =
-    let gap = rw c.deref.ensures.value at c.in-Err.ensures.absent in
-    rw c.in_default.ensures.items (sorted_insert (order g) _ _ _ c.self.invariant gap).sorted
+invariant_of-self-in-Err g c = grind (arith, common_steps, sorted_insert, order)
 
 pub returns-in_default-clause-ok : goal.returns-in_default-clause-ok
 returns-in_default-clause-ok g c =
     let gap = rw c.deref.ensures.value at c.in-Err.ensures.absent in
     rw (c.in_default.ensures.items, ← c.self.view_is) (sorted_insert (order g) _ _ _ c.self.invariant gap)
-
-pub returns-in_default-clause-present : goal.returns-in_default-clause-present
-returns-in_default-clause-present g c = (
-  λ e. absurd cc,
-  λ h. absurd (none_in_gap (order g) _ _ _ c.in-Err.ensures.absent (rw (c.deref.ensures.value, c.self.view_is) h)),
-)
 
 pub returns-in-Ok-clause-present : goal.returns-in-Ok-clause-present
 returns-in-Ok-clause-present g c =

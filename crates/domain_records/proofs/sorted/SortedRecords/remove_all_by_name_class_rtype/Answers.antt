@@ -1,10 +1,11 @@
-use Rattle.std.proofs.Common.{sym, not, rules}
+use Rattle.std.proofs.Common.{sym, not, rules, arith}
 use Rattle.std.proofs.lemmas.Fn.{filter_same}
 use Rattle.std.proofs.lemmas.List.Kept.{IsStrictlySortedBy-filter}
 use Rattle.domain_record.specs.declared.record.Record.{Record}
 use Rattle.domain_records.specs.Lookup.{matches}
 use Rattle.domain_records.proofs.Removals.{all_kept, none_any, no_place, some_any}
 use Rattle.domain_records.proofs.sorted.SortedRecords.remove_all_by_name_class_rtype.Goals as goal
+use Rattle.std.proofs.lemmas.Grind.{common_steps}
 
 pub returns-then-is_none-clause-kept : goal.returns-then-is_none-clause-kept
 returns-then-is_none-clause-kept g c =
@@ -12,9 +13,7 @@ returns-then-is_none-clause-kept g c =
     rw (← c.self.view_is) (sym (all_kept p _ (no_place p _ _ (rw c.deref.ensures.value at c.first_place.ensures) c.if-is_none.ensures)))
 
 pub returns-then-is_none-clause-found : goal.returns-then-is_none-clause-found
-returns-then-is_none-clause-found g c =
-    let p = matches g.N.ToName.labels g.D.RecordData.rtype (g.N.ToName.labels c.args.name.now) c.args.class c.args.rtype in
-    rw (← c.self.view_is) (sym (none_any p _ (no_place p _ _ (rw c.deref.ensures.value at c.first_place.ensures) c.if-is_none.ensures)))
+returns-then-is_none-clause-found g c = grind (arith, common_steps, none_any)
 
 pub invariant_of-self : goal.invariant_of-self
 invariant_of-self g c =
@@ -29,6 +28,4 @@ returns-clause-kept g c =
     rw (← c.self.view_is) (filter_same _ p _ (λ x b f' k. search rules) _ _ c.retain.ensures.filtered)
 
 pub returns-clause-found : goal.returns-clause-found
-returns-clause-found g c =
-    let p = matches g.N.ToName.labels g.D.RecordData.rtype (g.N.ToName.labels c.args.name.now) c.args.class c.args.rtype in
-    rw (← c.self.view_is) (sym (some_any p _ _ (rw c.deref.ensures.value at c.first_place.ensures) c.if-is_none.ensures))
+returns-clause-found g c = grind (arith, common_steps, some_any)

@@ -1,7 +1,7 @@
 use Rattle.std.proofs.Common.{sym}
 use Rattle.domain_record.specs.Record.{record_cmp_total}
 use Rattle.domain_records.proofs.SortedLists.{sorted_remove}
-use Rattle.domain_records.proofs.Removals.{first_without, first_any, none_without, none_any}
+use Rattle.domain_records.proofs.Removals.{first_without, none_without, none_any}
 use Rattle.domain_records.proofs.sorted.SortedRecords.remove_first_by_name_class_rtype.Goals as goal
 
 pub invariant_of-self : goal.invariant_of-self
@@ -12,9 +12,6 @@ invariant_of-self g c =
 
 pub returns-in-Some-clause-kept : goal.returns-in-Some-clause-kept
 returns-in-Some-clause-kept g c = rw (c.remove.ensures.items, ← c.self.view_is) (sym (first_without _ _ _ (rw c.deref.ensures.value at c.in-Some.ensures)))
-
-pub returns-in-Some-clause-found : goal.returns-in-Some-clause-found
-returns-in-Some-clause-found g c = rw (← c.self.view_is) (sym (first_any _ _ _ (rw c.deref.ensures.value at c.in-Some.ensures)))
 
 pub returns-in-None-clause-kept : goal.returns-in-None-clause-kept
 returns-in-None-clause-kept g c = rw (← c.self.view_is) (sym (none_without _ _ (rw c.deref.ensures.value at c.in-None.ensures)))

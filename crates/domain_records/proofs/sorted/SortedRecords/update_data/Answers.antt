@@ -5,6 +5,7 @@ use Rattle.domain_record.specs.Record.{record_cmp, record_cmp_total}
 use Rattle.domain_records.proofs.SortedLists.{sorted_remove, sorted_insert, holds_at, none_in_gap, read_is}
 use Rattle.domain_records.proofs.sorted.SortedRecords.update_data.Given.{Over}
 use Rattle.domain_records.proofs.sorted.SortedRecords.update_data.Goals as goal
+use Rattle.std.proofs.lemmas.Grind.{common_steps}
 
 -- the canonical order of the records, which is total
 order : (g : Over) → IsTotalOrder (record_cmp g.N.ToName.labels g.D.RecordData.rtype g.D.CanonicalOrd.canonical_cmp)
@@ -12,14 +13,10 @@ order g = record_cmp_total g.N.ToName.labels g.D.RecordData.rtype g.D.CanonicalO
 
 -- what is left when the record is taken out is sorted
 pub search-requires : goal.search-requires
-search-requires g c =
-    let within = rw c.deref.ensures.value at c.in-Some.ensures.0 in
-    rw (c.deref-in-Some.ensures.value, c.remove-changed.ensures.items) (sorted_remove (order g) _ _ within c.self.invariant)
+search-requires g c = grind (arith, common_steps, sorted_remove, order)
 
 pub invariant_of-self-in_default-search : goal.invariant_of-self-in_default-search
-invariant_of-self-in_default-search g c =
-    let within = rw c.deref.ensures.value at c.in-Some.ensures.0 in
-    rw c.remove-changed.ensures.items (sorted_remove (order g) _ _ within c.self.invariant)
+invariant_of-self-in_default-search g c = grind (arith, common_steps, sorted_remove, order)
 
 pub invariant_of-self : goal.invariant_of-self
 invariant_of-self g c =
