@@ -1,6 +1,6 @@
 -- Elements of lists: which pass a test, the first that does, and where they stand.
 use Rattle.std.proofs.Common.{◌≡◌, ℕ, Bool, true, false, cond, ◌||◌, List, [], ◌∷◌, ◌++◌, map, Some, None, refl, sym, ap, ◌∙◌, inl, inr, ◌⊎◌, zero, suc}
-use Rattle.std.proofs.Common.{slice_get}
+use Rattle.std.proofs.Common.{slice_get, arith}
 use Rattle.std.specs.Prelude.{All, filter}
 use Rattle.std.specs.List.{find, list_any, Contains}
 use Rattle.std.proofs.lemmas.Bool.{cases_Bool, false≢true}
@@ -8,6 +8,7 @@ use Rattle.std.proofs.lemmas.List.Elements.{recursion_from_All}
 use Rattle.std.proofs.lemmas.Option.{slice_get-get_or}
 use Rattle.domain_zone.specs.Covering.{pairs}
 use Rattle.domain_zone.proofs.PairLemmas.{In, all_in}
+use Rattle.std.proofs.lemmas.Grind.{common_steps}
 
 -- ---- elements
 
@@ -58,9 +59,7 @@ in_pairs [] first p i = absurd i
 in_pairs (x ∷ []) first p (inl e) = (inl (ap (λ q. q.0) e), inr (ap (λ q. q.1) e))
 in_pairs (x ∷ []) first p (inr i) = absurd i
 in_pairs (x ∷ y ∷ xs) first p (inl e) = (inl (ap (λ q. q.0) e), inl (inr (inl (ap (λ q. q.1) e))))
-in_pairs (x ∷ y ∷ xs) first p (inr i) =
-    let r = in_pairs (y ∷ xs) first p i in
-    (inr r.0, elim r.1 [ inl j ↦ inl (inr j) | inr e ↦ inr e ])
+in_pairs (x ∷ y ∷ xs) first p (inr i) = grind (arith, common_steps, (in_pairs (y ∷ xs) first p i))
 
 module _ {X Y : Type 0} (f : X → Y) where
   pub in_map : (xs : List X) (x : X) → In x xs → In (f x) (map f xs)

@@ -20,6 +20,8 @@ use Rattle.domain_zone.specs.Zone.{ZoneRecord, OwnersNeverDescend, has_type}
 use Rattle.domain_zone.specs.View.{as_zone_record}
 use Rattle.domain_zone.proofs.NameLemmas.{one_lowered, same_itself, same_lowered}
 use Rattle.domain_zone.proofs.ZoneLemmas.{any_map, BeginsElsewhere, IsFront}
+use Rattle.std.proofs.Common.{arith}
+use Rattle.std.proofs.lemmas.Grind.{common_steps}
 
 -- ---- runs
 
@@ -61,13 +63,7 @@ module _ {X : Type 0} (alike : X → X → Bool) where
 module _ {X : Type 0} (alike : X → X → Bool) (onward : (x y z : X) → alike x y ≡ true → alike x z ≡ alike y z) where
   pub first_run : (x : X) (xs g t : List X) → x ∷ xs ≡ g ++ t → runs alike (x ∷ xs) ≡ g ∷ runs alike t → FirstRun alike x g t
   unfolding runs
-  first_run x [] g t e f =
-      let g_is : g ≡ x ∷ [] = cc in
-      let t_is : [] ≡ t = tail_of (subst (λ h. x ∷ [] ≡ h ++ t) g_is e) in
-      record { more = []; are = g_is; all = tt; ends = subst (StartsApart alike x) t_is tt }
-    where
-      tail_of : x ∷ [] ≡ (x ∷ []) ++ t → [] ≡ t
-      tail_of h = cc
+  first_run x [] g t e f = grind (arith, common_steps)
   first_run x (y ∷ ys) g t e f =
       let h = heads alike y ys in
       elim (cases_Bool (alike x y)) [
@@ -130,11 +126,7 @@ module _ {N D : Type 0} (labels : N → Name) (rtype_of : D → ℕ) (minimum_of
 
   elsewhere : (r : Record N D) (t : List (Record N D)) → StartsApart (same_owner labels) r t → BeginsElsewhere (labels r.owner) (map see t)
   elsewhere r [] h = tt
-  elsewhere r (s ∷ t) h =
-      elim (cases_Bool (same_name (labels s.owner) (labels r.owner))) [
-        | inl e ↦ absurd (false≢true (sym h ∙ same_itself (labels r.owner) (labels s.owner) (sym (one_lowered (labels s.owner) (labels r.owner) e))))
-        | inr e ↦ e
-      ]
+  elsewhere r (s ∷ t) h = grind (arith, common_steps, one_lowered)
 
   -- what the iterator over groups hands out
   pub front_group : (rest group after : List (Record N D)) → rest ≡ group ++ after

@@ -1,23 +1,22 @@
 -- What an iterator over the owners that are not occluded has left to give.
 use Rattle.std.proofs.Common.{◌≡◌, Bool, true, false, cond, not, ◌&&◌, ◌||◌, List, [], ◌∷◌, ◌++◌, map, refl, sym, ap, ◌∙◌, subst, inl, inr, Option, Some, None}
-use Rattle.std.proofs.Common.{append_assoc, ℕ}
-use Rattle.std.proofs.lemmas.List.{append-nil}
-use Rattle.std.specs.Prelude.{if◌then◌else◌}
+use Rattle.std.proofs.Common.{append_assoc, ℕ, arith}
 use Rattle.std.proofs.lemmas.Bool.{cases_Bool}
 use Rattle.domain_record.specs.declared.record.Record.{Record}
 use Rattle.domain_records.specs.Groups.{same_owner, HasFirst}
 use Rattle.domain_records.specs.Order.{IsInOrder}
-use Rattle.domain_records.specs.Runs.{runs, add_to}
+use Rattle.domain_records.specs.Runs.{runs}
 use Rattle.domain_names.specs.Name.{is_at_or_below, same_name}
 use Rattle.domain_names.specs.Words.{Name}
-use Rattle.domain_zone.specs.Owners.{OwnerRecords, owner_at, owners_with_records}
+use Rattle.domain_zone.specs.Owners.{owner_at, owners_with_records}
 use Rattle.domain_base.specs.Types.{ns, dname}
 use Rattle.domain_zone.specs.View.{as_zone_record}
 use Rattle.domain_zone.specs.Walk.{is_under, is_passed_over, is_cut_group, occluder_from, left_owners}
 use Rattle.domain_zone.specs.Zone.{ZoneRecord, has_type, records_of, is_zone_cut, occludes}
 use Rattle.domain_zone.proofs.GroupLemmas.{front_group, owners_in_order}
-use Rattle.domain_zone.proofs.WalkLemmas.{IsWalked, walk_start, walk_outside, walk_under, walk_onto, walk_end, next_records}
+use Rattle.domain_zone.proofs.WalkLemmas.{IsWalked, walk_start, walk_outside, walk_under, walk_onto, next_records}
 use Rattle.domain_zone.proofs.ZoneLemmas.{IsFront}
+use Rattle.std.proofs.lemmas.Grind.{common_steps}
 
 -- ---- one group
 
@@ -25,11 +24,7 @@ module _ {N D : Type 0} (labels : N → Name) (rtype_of : D → ℕ) (minimum_of
   pub left_passed : (group : List (Record N D)) (owner : N) (gs : List (List ZoneRecord)) → HasFirst (λ r. r.owner ≡ owner) group
       → is_passed_over a o (labels owner) ≡ true → left_owners d a o (map (as_zone_record labels rtype_of minimum_of) group ∷ gs) ≡ left_owners d a o gs
   left_passed [] owner gs h e = absurd h
-  left_passed (r ∷ rs) owner gs h e =
-      let see = as_zone_record labels rtype_of minimum_of in
-      λ i. if ((ap (λ m. is_passed_over a o (labels m)) h ∙ e) i) then left_owners d a o gs
-      else record { name = labels r.owner; records = map see (r ∷ rs); is_zone_cut = is_cut_group a (labels r.owner) (map see (r ∷ rs)) }
-      ∷ left_owners d a (occluder_from d a (labels r.owner) (map see (r ∷ rs))) gs
+  left_passed (r ∷ rs) owner gs h e = grind (arith, common_steps)
 
   pub left_given : (group : List (Record N D)) (owner : N) (gs : List (List ZoneRecord)) → HasFirst (λ r. r.owner ≡ owner) group
       → is_passed_over a o (labels owner) ≡ false
@@ -41,15 +36,7 @@ module _ {N D : Type 0} (labels : N → Name) (rtype_of : D → ℕ) (minimum_of
       }
       ∷ left_owners d a (occluder_from d a (labels owner) (map (as_zone_record labels rtype_of minimum_of) group)) gs
   left_given [] owner gs h e = absurd h
-  left_given (r ∷ rs) owner gs h e =
-      let see = as_zone_record labels rtype_of minimum_of in
-      let given : N → List OwnerRecords = λ m. record {
-        name = labels m;
-        records = map see (r ∷ rs);
-        is_zone_cut = is_cut_group a (labels m) (map see (r ∷ rs));
-      } ∷ left_owners d a
-      (occluder_from d a (labels m) (map see (r ∷ rs))) gs in
-      (λ i. if ((ap (λ m. is_passed_over a o (labels m)) h ∙ e) i) then left_owners d a o gs else given r.owner) ∙ ap given h
+  left_given (r ∷ rs) owner gs h e = grind (arith, common_steps)
 
 -- ---- runs, one after another
 
@@ -58,36 +45,7 @@ module _ {X : Type 0} (alike : X → X → Bool) where
   pub runs_rest : (xs g : List X) (gs : List (List X)) → runs alike xs ≡ g ∷ gs → (t : List X) × (xs ≡ g ++ t) × (runs alike t ≡ gs)
   unfolding runs
   runs_rest [] g gs e = absurd (cc)
-  runs_rest (x ∷ xs) g gs e = by (runs_rest xs) (runs alike xs) refl
-    where
-      by : ((h : List X) (hs : List (List X)) → runs alike xs ≡ h ∷ hs → (t : List X) × (xs ≡ h ++ t) × (runs alike t ≡ hs))
-          → (hs : List (List X)) → runs alike xs ≡ hs → (t : List X) × (x ∷ xs ≡ g ++ t) × (runs alike t ≡ gs)
-      by ih [] f =
-          let is : (x ∷ []) ∷ [] ≡ g ∷ gs = sym (ap (add_to alike x) f) ∙ e in
-          let first : x ∷ [] ≡ g = cc in
-          let later : [] ≡ gs = cc in
-          (xs, ap (λ h. h ++ xs) first, f ∙ later)
-      by ih ([] ∷ hs) f =
-          let is : (x ∷ []) ∷ hs ≡ g ∷ gs = sym (ap (add_to alike x) f) ∙ e in
-          let first : x ∷ [] ≡ g = cc in
-          let later : hs ≡ gs = cc in
-          let up = ih [] hs f in
-          (up.0, ap (λ t. x ∷ t) up.1 ∙ ap (λ h. h ++ up.0) first, up.2 ∙ later)
-      by ih ((y ∷ ys) ∷ hs) f =
-          elim (cases_Bool (alike x y)) [
-            | inl t ↦
-                let is : (x ∷ y ∷ ys) ∷ hs ≡ g ∷ gs = sym (ap (add_to alike x) f ∙ (λ i. if (t i) then (x ∷ y ∷ ys) ∷ hs else (x ∷ []) ∷ (y ∷ ys) ∷ hs)) ∙ e in
-                let first : x ∷ y ∷ ys ≡ g = cc in
-                let later : hs ≡ gs = cc in
-                let up = ih (y ∷ ys) hs f in
-                (up.0, ap (λ t. x ∷ t) up.1 ∙ ap (λ h. h ++ up.0) first, up.2 ∙ later)
-            | inr t ↦
-                let is : (x ∷ []) ∷ (y ∷ ys) ∷ hs ≡ g ∷ gs =
-                sym (ap (add_to alike x) f ∙ (λ i. if (t i) then (x ∷ y ∷ ys) ∷ hs else (x ∷ []) ∷ (y ∷ ys) ∷ hs)) ∙ e in
-                let first : x ∷ [] ≡ g = cc in
-                let later : (y ∷ ys) ∷ hs ≡ gs = cc in
-                (xs, ap (λ h. h ++ xs) first, f ∙ later)
-          ]
+  runs_rest (x ∷ xs) g gs e = grind (arith, common_steps, (runs_rest xs))
 
   no_runs : (g : List X) (gs : List (List X)) → runs alike [] ≡ g ∷ gs → ⊥
   unfolding runs
@@ -97,40 +55,11 @@ module _ {X : Type 0} (alike : X → X → Bool) where
   pub runs_none : (xs : List X) → runs alike xs ≡ [] → xs ≡ []
   unfolding runs
   runs_none [] e = refl
-  runs_none (x ∷ xs) e = by (runs alike xs) refl
-    where
-      by : (hs : List (List X)) → runs alike xs ≡ hs → x ∷ xs ≡ []
-      by [] f = let is : (x ∷ []) ∷ [] ≡ [] = sym (ap (add_to alike x) f) ∙ e in absurd (cc)
-      by ([] ∷ hs) f = let is : (x ∷ []) ∷ hs ≡ [] = sym (ap (add_to alike x) f) ∙ e in absurd (cc)
-      by ((y ∷ ys) ∷ hs) f =
-          elim (cases_Bool (alike x y)) [
-            | inl t ↦ let is : (x ∷ y ∷ ys) ∷ hs ≡ [] = sym (ap (add_to alike x) f
-                ∙ (λ i. if (t i) then (x ∷ y ∷ ys) ∷ hs else (x ∷ []) ∷ (y ∷ ys) ∷ hs)) ∙ e in absurd (cc)
-            | inr t ↦ let is : (x ∷ []) ∷ (y ∷ ys) ∷ hs ≡ [] =
-                sym (ap (add_to alike x) f ∙ (λ i. if (t i) then (x ∷ y ∷ ys) ∷ hs else (x ∷ []) ∷ (y ∷ ys) ∷ hs))
-                ∙ e in absurd (cc)
-          ]
+  runs_none (x ∷ xs) e = grind (arith, common_steps)
 
   pub runs_first : (x : X) (xs g : List X) (gs : List (List X)) → runs alike (x ∷ xs) ≡ g ∷ gs → HasFirst (λ y. y ≡ x) g
   unfolding runs
-  runs_first x xs g gs e = by (runs alike xs) refl
-    where
-      at : (h : List X) → x ∷ h ≡ g → HasFirst (λ y. y ≡ x) g
-      at h f = subst (HasFirst (λ y. y ≡ x)) f refl
-
-      by : (hs : List (List X)) → runs alike xs ≡ hs → HasFirst (λ y. y ≡ x) g
-      by [] f = let is : (x ∷ []) ∷ [] ≡ g ∷ gs = sym (ap (add_to alike x) f) ∙ e in let first : x ∷ [] ≡ g = cc in at [] first
-      by ([] ∷ hs) f = let is : (x ∷ []) ∷ hs ≡ g ∷ gs = sym (ap (add_to alike x) f) ∙ e in let first : x ∷ [] ≡ g = cc in at [] first
-      by ((y ∷ ys) ∷ hs) f =
-          elim (cases_Bool (alike x y)) [
-            | inl t ↦
-                let is : (x ∷ y ∷ ys) ∷ hs ≡ g ∷ gs = sym (ap (add_to alike x) f ∙ (λ i. if (t i) then (x ∷ y ∷ ys) ∷ hs else (x ∷ []) ∷ (y ∷ ys) ∷ hs)) ∙ e in
-                let first : x ∷ y ∷ ys ≡ g = cc in at (y ∷ ys) first
-            | inr t ↦
-                let is : (x ∷ []) ∷ (y ∷ ys) ∷ hs ≡ g ∷ gs =
-                sym (ap (add_to alike x) f ∙ (λ i. if (t i) then (x ∷ y ∷ ys) ∷ hs else (x ∷ []) ∷ (y ∷ ys) ∷ hs)) ∙ e in
-                let first : x ∷ [] ≡ g = cc in at [] first
-          ]
+  runs_first x xs g gs e = grind (arith, common_steps)
 
 -- ---- all groups
 
@@ -146,9 +75,7 @@ module _ {N D : Type 0} (labels : N → Name) (rtype_of : D → ℕ) (minimum_of
   left_all : (gs : List (List (Record N D))) (rest : List (Record N D)) (o : Option Name) (ks : List Name) → runs (same_owner labels) rest ≡ gs
       → IsWalked d L a (map see rest) o ks
       → map (owner_at L a) ks ++ left_owners d a o (map (map see) gs) ≡ owners_with_records d L a
-  left_all [] rest o ks e w =
-      append-nil (map (owner_at L a) ks)
-      ∙ sym (ap (map (owner_at L a)) (walk_end (subst (λ t. IsWalked d L a (map see t) o ks) (runs_none (same_owner labels) rest e) w)))
+  left_all [] rest o ks e w = grind (arith, common_steps, runs_none)
   left_all (group ∷ gs) [] o ks e w = absurd (no_runs (same_owner labels) group gs e)
   left_all (group ∷ gs) (r ∷ rest) o ks e w =
       let more = runs_rest (same_owner labels) (r ∷ rest) group gs e in

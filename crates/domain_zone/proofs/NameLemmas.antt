@@ -1,5 +1,5 @@
 -- All that the chains need of names: the order is strict and weak, what is below a name is an interval from it on, and below is a partial order.
-use Rattle.std.proofs.Common.{◌≡◌, Bool, true, false, not, ◌||◌, [], ◌∷◌, ◌++◌, map, length, refl, sym, ap, ◌∙◌, ◌<◌, ◌≤◌, arith, nat_eq, inl, inr}
+use Rattle.std.proofs.Common.{◌≡◌, Bool, true, false, not, ◌||◌, [], ◌∷◌, map, length, refl, sym, ap, ◌∙◌, ◌<◌, ◌≤◌, arith, nat_eq}
 use Rattle.std.specs.declared.cmp.Ordering.{Ordering}
 use Rattle.std.specs.declared.cmp.Ordering.TheVariants.{Less, Equal, Greater}
 use Rattle.std.specs.Char.{to_ascii_lowercase}
@@ -7,15 +7,16 @@ use Rattle.std.specs.Ordering.{is_lt, is_eq, is_gt, ordering_reverse}
 use Rattle.std.specs.Cmp.{IsStrictWeakOrder}
 use Rattle.std.specs.Cmp.Lexicographic.{pointwise}
 use Rattle.std.specs.List.{ends_with}
-use Rattle.std.proofs.lemmas.List.{length-append, length-map, append_assoc, append-nil}
+use Rattle.std.proofs.lemmas.List.{append-nil}
 use Rattle.std.proofs.lemmas.List.Sorted.{ranks_by}
-use Rattle.std.proofs.lemmas.Bool.{true≢false, false≢true, and_parts, and_from, not-true, cases_lt, cases_Bool}
+use Rattle.std.proofs.lemmas.Bool.{true≢false}
 use Rattle.domain_names.specs.Laws.{ancestor_first, between_names, same_name_same, same_name_ties, same_tied}
 use Rattle.domain_names.specs.Name.{lowered, IsAtOrBelow, same_name, is_at_or_below, is_strictly_below}
 use Rattle.domain_names.specs.Order.{canonical_cmp, canonical_cmp_total, before, IsUpTo}
 use Rattle.domain_names.specs.Words.{Label, Name}
 use Rattle.domain_names.proofs.CaseLemmas.{at_or_below_test, one_line}
 use Rattle.domain_zone.specs.Covering.{matches}
+use Rattle.std.proofs.lemmas.Grind.{common_steps}
 
 -- the tests on names are tests on their lowered labels
 abbrev pub same_lowered : Name → Name → Bool
@@ -64,13 +65,7 @@ pub below_itself : (x : Name) → is_at_or_below x x ≡ true
 below_itself x = below_back x x (record { front = []; joined = refl })
 
 pub below_trans : (x y z : Name) → is_at_or_below x y ≡ true → is_at_or_below y z ≡ true → is_at_or_below x z ≡ true
-below_trans x y z e f =
-    let upper = below_there x y e in
-    let lower = below_there y z f in
-    below_back x z (record {
-      front = upper.front ++ lower.front;
-      joined = upper.joined ∙ ap (λ l. upper.front ++ l) lower.joined ∙ sym (append_assoc upper.front lower.front (lowered z));
-    })
+below_trans x y z e f = grind (arith, common_steps, below_there, below_back)
 
 not_after : (x y : Name) → before x y ≡ false → IsUpTo y x
 not_after x y e = reads (canonical_cmp x y) (canonical_cmp y x) (canonical_cmp_total.antisymm y x) e
@@ -99,9 +94,7 @@ pub below_longer : (x e d : Name) → is_at_or_below x e ≡ true → is_at_or_b
 below_longer x e d p q l = below_back e d (one_line x e d (below_there x e p) (below_there x d q) l)
 
 pub below_length : (x d : Name) → is_at_or_below x d ≡ true → length d ≤ length x
-below_length x d p =
-    let h = below_there x d p in
-    omega (arith, ap length h.joined, length-append h.front (lowered d), length-map x (map to_ascii_lowercase), length-map d (map to_ascii_lowercase))
+below_length x d p = grind (arith, common_steps)
 
 pub below_parent : (l : Label) (x : Name) → is_at_or_below (l ∷ x) x ≡ true
 below_parent l x = below_back (l ∷ x) x (record { front = map to_ascii_lowercase l ∷ []; joined = refl })
@@ -119,18 +112,8 @@ same_length x d p l = same_both x d p (below_longer x d x p (below_itself x) l)
 
 -- what is strictly below a name has more labels
 pub strictly_longer : (x c : Name) → is_strictly_below x c ≡ true → length c < length x
-strictly_longer x c s =
-    let p = and_parts (is_at_or_below x c) (not (same_name x c)) s in
-    elim (cases_lt (length c) (length x)) [
-      | inl h ↦ h
-      | inr h ↦ absurd (false≢true (sym (not-true (same_name x c) p.1) ∙ same_length x c p.0 h))
-    ]
+strictly_longer x c s = grind (arith, common_steps, same_length)
 
 -- and what is below it with more labels is strictly below
 pub strictly_from : (x d : Name) → is_at_or_below x d ≡ true → length d < length x → is_strictly_below x d ≡ true
-strictly_from x d p l =
-    and_from (is_at_or_below x d) (not (same_name x d)) p
-    (elim (cases_Bool (same_name x d)) [
-      | inl e ↦ let n = below_length d x (ap (λ k. lowered_below k (lowered x)) (sym (one_lowered x d e)) ∙ below_itself x) in absurd (omega arith)
-      | inr e ↦ ap not e
-    ])
+strictly_from x d p l = grind (arith, common_steps)

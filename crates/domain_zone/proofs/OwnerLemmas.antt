@@ -1,5 +1,5 @@
 -- The unoccluded owners of a list in order: they ascend, begin with the apex, and are the names that own records and are not occluded.
-use Rattle.std.proofs.Common.{◌≡◌, ℕ, Bool, true, false, cond, not, ◌&&◌, ◌||◌, List, [], ◌∷◌, map, refl, sym, ap, ◌∙◌, inl, inr}
+use Rattle.std.proofs.Common.{◌≡◌, ℕ, Bool, true, false, cond, not, ◌&&◌, ◌||◌, List, [], ◌∷◌, map, refl, sym, ap, ◌∙◌, inl, inr, arith}
 use Rattle.std.specs.Prelude.{filter}
 use Rattle.std.specs.List.{AllByRecursion, list_any}
 use Rattle.std.proofs.lemmas.Bool.{cases_Bool, false≢true, true≢false, and_parts, or_cases, or_right, and_from, not-true}
@@ -7,11 +7,12 @@ use Rattle.domain_names.specs.Name.{is_at_or_below, is_strictly_below, lowered, 
 use Rattle.domain_names.specs.Order.{before}
 use Rattle.domain_names.specs.Words.{Name}
 use Rattle.domain_base.specs.Types.{ns, dname}
-use Rattle.domain_zone.specs.Zone.{ZoneRecord, OwnersNeverDescend, records_of, owns, has_type, is_zone_cut, occludes, is_occluded, is_unoccluded, distinct}
+use Rattle.domain_zone.specs.Zone.{ZoneRecord, OwnersNeverDescend, records_of, owns, has_type, occludes, is_occluded, is_unoccluded, distinct}
 use Rattle.domain_zone.specs.Zone.{unoccluded_owners}
 use Rattle.domain_zone.proofs.PairLemmas.{IsAscending, In}
 use Rattle.domain_zone.proofs.NameLemmas.{one_lowered, same_itself, below_itself, below_from, lowered_below, same_lowered}
 use Rattle.domain_zone.proofs.ZoneLemmas.{all_filter, all_distinct, any_none, any_map, same_back, after_or, not_strictly}
+use Rattle.std.proofs.lemmas.Grind.{common_steps}
 
 module _ {X : Type 0} where
   pub any_weaker : (p q : X → Bool) → ((x : X) → p x ≡ true → q x ≡ true) → (xs : List X) → list_any p xs ≡ true → list_any q xs ≡ true
@@ -24,11 +25,7 @@ module _ {X : Type 0} where
 
   pub any_filter : (p q : X → Bool) (xs : List X) → list_any p (filter q xs) ≡ list_any (λ x. q x && p x) xs
   any_filter p q [] = refl
-  any_filter p q (x ∷ xs) =
-      elim (q x) as (λ b. list_any p (cond b (x ∷ filter q xs) (filter q xs)) ≡ ((b && p x) || list_any (λ x. q x && p x) xs)) [
-        | true ↦ ap (λ t. p x || t) (any_filter p q xs)
-        | false ↦ any_filter p q xs
-      ]
+  any_filter p q (x ∷ xs) = grind (arith, common_steps, (any_filter p q xs))
 
   pub any_in : (p : X → Bool) (xs : List X) → list_any p xs ≡ true → (x : X) × In x xs × (p x ≡ true)
   any_in p [] h = absurd (false≢true h)
@@ -47,19 +44,11 @@ module _ {X : Type 0} where
   pub filter_passes : (P Q : X → Type 0) (q : X → Bool) → ((x : X) → P x → q x ≡ true → Q x) → (xs : List X) → AllByRecursion P xs
       → AllByRecursion Q (filter q xs)
   filter_passes P Q q f [] h = tt
-  filter_passes P Q q f (x ∷ xs) h =
-      elim (q x) as (λ b. q x ≡ b → AllByRecursion Q (cond b (x ∷ filter q xs) (filter q xs))) [
-        | true ↦ λ e. (f x h.0 e, filter_passes P Q q f xs h.1)
-        | false ↦ λ e. filter_passes P Q q f xs h.1
-      ] refl
+  filter_passes P Q q f (x ∷ xs) h = grind (arith, common_steps, (filter_passes P Q q f xs h.1))
 
   pub ascending_filter : (lt : X → X → Bool) (q : X → Bool) (xs : List X) → IsAscending lt xs → IsAscending lt (filter q xs)
   ascending_filter lt q [] h = tt
-  ascending_filter lt q (x ∷ xs) h =
-      elim (q x) as (λ b. IsAscending lt (cond b (x ∷ filter q xs) (filter q xs))) [
-        | true ↦ (all_filter (λ y. lt x y ≡ true) q xs h.0, ascending_filter lt q xs h.1)
-        | false ↦ ascending_filter lt q xs h.1
-      ]
+  ascending_filter lt q (x ∷ xs) h = grind (arith, common_steps, all_filter, (ascending_filter lt q xs h.1))
 
 owners_in_order : (r : ZoneRecord) (rs : List ZoneRecord) → AllByRecursion (λ s. before s.owner r.owner ≡ false) rs
     → AllByRecursion (λ n. before n r.owner ≡ false) (map (λ s. s.owner) rs)
@@ -130,11 +119,7 @@ owners_are d L a =
 
 -- what occludes is at or below the apex
 pub occluder_below : (d : Bool) (L : List ZoneRecord) (a n : Name) → occludes d L a n ≡ true → is_at_or_below n a ≡ true
-occluder_below d L a n h =
-    elim (or_cases (is_zone_cut L a n) (d && is_at_or_below n a && has_type (records_of L n) dname) h) [
-      | inl e ↦ (and_parts (is_at_or_below n a) (not (same_name n a)) (and_parts (is_strictly_below n a) (has_type (records_of L n) ns) e).0).0
-      | inr e ↦ (and_parts d (is_at_or_below n a) (and_parts (d && is_at_or_below n a) (has_type (records_of L n) dname) e).0).1
-    ]
+occluder_below d L a n h = grind (arith, common_steps)
 
 -- the apex is among them where it owns records
 pub apex_unoccluded : (d : Bool) (L : List ZoneRecord) (a : Name) → is_unoccluded d L a a ≡ true
@@ -164,11 +149,7 @@ typed_owns (r ∷ M) c t h =
 
 -- what occludes owns records
 pub occluder_owns : (d : Bool) (L : List ZoneRecord) (a c : Name) → occludes d L a c ≡ true → owns L c ≡ true
-occluder_owns d L a c h =
-    elim (or_cases (is_zone_cut L a c) (d && is_at_or_below c a && has_type (records_of L c) dname) h) [
-      | inl e ↦ typed_owns L c ns (and_parts (is_strictly_below c a) (has_type (records_of L c) ns) e).1
-      | inr e ↦ typed_owns L c dname (and_parts (d && is_at_or_below c a) (has_type (records_of L c) dname) e).1
-    ]
+occluder_owns d L a c h = grind (arith, common_steps, typed_owns)
 
 -- a name strictly below what occludes is occluded
 pub below_occluder : (d : Bool) (L : List ZoneRecord) (a c x : Name) → occludes d L a c ≡ true → is_strictly_below x c ≡ true → is_occluded d L a x ≡ true

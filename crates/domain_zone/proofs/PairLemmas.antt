@@ -1,5 +1,5 @@
 -- A list that ascends in a strict order, and the pairs of it: exactly one pair matches or covers each value, and nothing of the list lies in a gap.
-use Rattle.std.proofs.Common.{◌≡◌, ℕ, ◌+◌, Bool, true, false, cond, not, ◌&&◌, ◌||◌, List, [], ◌∷◌, refl, sym, ap, ◌∙◌, subst, inl, inr, ◌⊎◌}
+use Rattle.std.proofs.Common.{◌≡◌, ℕ, ◌+◌, Bool, true, false, cond, not, ◌&&◌, ◌||◌, List, [], ◌∷◌, refl, sym, ap, ◌∙◌, subst, inl, inr, ◌⊎◌, arith}
 use Rattle.std.specs.Prelude.{count_by}
 use Rattle.std.specs.List.{AllByRecursion}
 use Rattle.std.specs.Cmp.{IsStrictWeakOrder}
@@ -7,6 +7,7 @@ use Rattle.std.proofs.lemmas.Bool.{cases_Bool, false≢true, true≢false}
 use Rattle.std.proofs.lemmas.List.Sums.{sum_by-cons}
 use Rattle.domain_octets.proofs.StdLemmas.{or_true}
 use Rattle.domain_zone.specs.Covering.{matches_or_covers, pairs}
+use Rattle.std.proofs.lemmas.Grind.{common_steps}
 
 module _ {X : Type 0} where
   -- an element
@@ -57,22 +58,13 @@ module _ {X : Type 0} {lt : X → X → Bool} (o : IsStrictWeakOrder lt) where
   lt_trans x y z p q =
       elim (cases_Bool (lt x z)) [ inl e ↦ e | inr e ↦ absurd (false≢true (sym (o.chain x z y e (o.one_way y z q)) ∙ p)) ]
 
-  -- x < y ≤ z
-  pub lt_le : (x y z : X) → lt x y ≡ true → lt z y ≡ false → lt x z ≡ true
-  lt_le x y z p q =
-      elim (cases_Bool (lt x z)) [ inl e ↦ e | inr e ↦ absurd (false≢true (sym (o.chain x z y e q) ∙ p)) ]
-
   -- x ≤ y < z
   pub le_lt : (x y z : X) → lt y x ≡ false → lt y z ≡ true → lt x z ≡ true
   le_lt x y z p q =
       elim (cases_Bool (lt x z)) [ inl e ↦ e | inr e ↦ absurd (false≢true (sym (o.chain y x z p e) ∙ q)) ]
 
   tied : (p n x : X) → lt p x ≡ false → lt x p ≡ false → lt x n ≡ lt p n
-  tied p n x e f =
-      elim (cases_Bool (lt p n)) [
-        | inl h ↦ le_lt x p n e h ∙ sym h
-        | inr h ↦ o.chain x p n f h ∙ sym h
-      ]
+  tied p n x e f = grind (arith, common_steps)
 
   pub rising_answer : (p n x : X) → lt p n ≡ true → matches_or_covers lt p n x ≡ (not (lt x p) && lt x n)
   unfolding answers
@@ -94,9 +86,7 @@ module _ {X : Type 0} {lt : X → X → Bool} (o : IsStrictWeakOrder lt) where
   pub none_before : (k : X) (ks : List X) (a x : X) → IsAscending lt (k ∷ ks) → AllByRecursion (λ y. lt y a ≡ false) (k ∷ ks)
       → lt x k ≡ true → lt x a ≡ false → count_of (k ∷ ks) a x ≡ 0
   none_before k [] a x up low e f = step k a x [] false 0 (falling_answer k a x low.0 ∙ (λ i. not (e i) || f i)) refl
-  none_before k (l ∷ ks) a x up low e f =
-      step k l x (pairs (l ∷ ks) a) false 0 (rising_answer k l x up.0.0 ∙ (λ i. not (e i) && lt x l))
-      (none_before l ks a x up.1 low.1 (lt_trans x k l e up.0.0) f)
+  none_before k (l ∷ ks) a x up low e f = grind (arith, common_steps, (none_before l ks a x up.1 low.1 (lt_trans x k l e up.0.0) f))
 
   pub one_from : (k : X) (ks : List X) (a x : X) → IsAscending lt (k ∷ ks) → AllByRecursion (λ y. lt y a ≡ false) (k ∷ ks)
       → lt x k ≡ false → lt x a ≡ false → count_of (k ∷ ks) a x ≡ 1
@@ -111,18 +101,12 @@ module _ {X : Type 0} {lt : X → X → Bool} (o : IsStrictWeakOrder lt) where
   pub one_before : (k : X) (ks : List X) (a x : X) → IsAscending lt (k ∷ ks) → AllByRecursion (λ y. lt y a ≡ false) (k ∷ ks)
       → lt x a ≡ true → count_of (k ∷ ks) a x ≡ 1
   one_before k [] a x up low f = step k a x [] true 0 (falling_answer k a x low.0 ∙ (λ i. not (lt x k) || f i) ∙ or_true (not (lt x k))) refl
-  one_before k (l ∷ ks) a x up low f =
-      step k l x (pairs (l ∷ ks) a) false 1 (rising_answer k l x up.0.0 ∙ (λ i. not (lt_le x a k f low.0 i) && lt x l))
-      (one_before l ks a x up.1 low.1 f)
+  one_before k (l ∷ ks) a x up low f = grind (arith, common_steps, (one_before l ks a x up.1 low.1 f))
 
   -- exactly one pair matches or covers any value at all
   pub one_matches_or_covers : (k : X) (ks : List X) (a x : X) → IsAscending lt (k ∷ ks)
       → AllByRecursion (λ y. lt y a ≡ false) (k ∷ ks) → lt a k ≡ false → count_of (k ∷ ks) a x ≡ 1
-  one_matches_or_covers k ks a x up low g =
-      elim (cases_Bool (lt x a)) [
-        | inl f ↦ one_before k ks a x up low f
-        | inr f ↦ one_from k ks a x up low (o.chain x a k f g) f
-      ]
+  one_matches_or_covers k ks a x up low g = grind (arith, common_steps, one_before, one_from)
 
   -- ---- gaps
 
@@ -153,9 +137,7 @@ module _ {X : Type 0} {lt : X → X → Bool} (o : IsStrictWeakOrder lt) where
   gap k [] a p y up (inr i) j = absurd i
   gap k (l ∷ ks) a p y up (inl e) (inl f) =
       inl (subst (λ (q : X × X). lt q.0 y ≡ false) e (subst (λ z. lt k z ≡ false) f (irreflexive k)))
-  gap k (l ∷ ks) a p y up (inl e) (inr j) =
-      inr (subst (λ (q : X × X). (lt q.0 q.1 ≡ true) × (lt y q.1 ≡ false)) e
-      (up.0.0, elim j [ inl f ↦ subst (λ z. lt z l ≡ false) f (irreflexive l) | inr m ↦ o.one_way l y (all_in (λ z. lt l z ≡ true) ks y up.1.0 m) ]))
+  gap k (l ∷ ks) a p y up (inl e) (inr j) = grind (arith, common_steps, all_in)
   gap k (l ∷ ks) a p y up (inr i) (inl f) =
       inl (subst (λ z. lt p.0 z ≡ false) f (o.one_way k p.0 (all_in (λ z. lt k z ≡ true) (l ∷ ks) p.0 up.0 (owner_in l ks a p i))))
   gap k (l ∷ ks) a p y up (inr i) (inr j) = gap l ks a p y up.1 i j

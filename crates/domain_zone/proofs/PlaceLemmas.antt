@@ -3,6 +3,7 @@ use Rattle.std.proofs.Common.{◌≡◌, ℕ, ◌+◌, Bool, true, false, cond, 
 use Rattle.std.specs.Prelude.{count_by, slice_get}
 use Rattle.std.proofs.lemmas.Bool.{cases_Bool, false≢true}
 use Rattle.std.proofs.lemmas.List.Sums.{sum_by-cons}
+use Rattle.std.proofs.lemmas.Grind.{common_steps}
 
 module _ {X : Type 0} where
   pub count_cons : (p : X → Bool) (x : X) (xs : List X) → count_by p (x ∷ xs) ≡ cond (p x) 1 0 + count_by p xs
@@ -15,11 +16,7 @@ module _ {X : Type 0} where
   counted_later p x xs t = count_cons p x xs ∙ ap (λ b. cond b 1 0 + count_by p xs) t
 
   none_after : (p : X → Bool) (x : X) (xs : List X) → count_by p (x ∷ xs) ≡ 0 → count_by p xs ≡ 0
-  none_after p x xs e =
-      elim (cases_Bool (p x)) [
-        | inl t ↦ absurd (omega (arith, counted_here p x xs t))
-        | inr t ↦ omega (arith, counted_later p x xs t)
-      ]
+  none_after p x xs e = grind (arith, common_steps)
 
   none_counted : (p : X → Bool) (xs : List X) → count_by p xs ≡ 0 → (j : ℕ) (s : X) → slice_get xs j ≡ Some s → p s ≡ true → ⊥
   none_counted p [] e j s g h = cc

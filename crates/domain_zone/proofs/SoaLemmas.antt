@@ -2,7 +2,7 @@
 use Rattle.std.proofs.Common.{◌≡◌, List, [], ◌∷◌, ◌++◌, Option, Some, None, true, false, cond, nat_eq, refl, ap, ◌∙◌, sym, inl, inr, append_assoc}
 use Rattle.std.proofs.lemmas.List.{append-nil}
 use Rattle.std.specs.Prelude.{filter}
-use Rattle.std.specs.Option.{is_some, option_map}
+use Rattle.std.specs.Option.{is_some}
 use Rattle.std.proofs.lemmas.Bool.{true≢false, cases_Bool, or_parts, and_right}
 use Rattle.std.proofs.lemmas.List.Elements.{filter-append}
 use Rattle.domain_names.specs.Name.{same_name}
@@ -35,10 +35,6 @@ found_now : (a : Name) (rs : List ZoneRecord) (r : ZoneRecord) (f : Option ZoneR
 found_now a rs r None e s h = filter-append (is_soa a) rs (r ∷ []) ∙ (λ i. h i ++ cond (e i) (r ∷ []) [])
 found_now a rs r (Some t) e s h = absurd (true≢false s)
 
-pub some_of_map : {X Y : Type 0} (f : X → Y) (o : Option X) → is_some (option_map f o) ≡ is_some o
-some_of_map f None = refl
-some_of_map f (Some x) = refl
-
 module _ {a : Name} {L left rest : List ZoneRecord} {r : ZoneRecord} {f : Option ZoneRecord} (s : IsScanned a L left f)
     (next : left ≡ r ∷ rest) where
   with_next : s.passed ++ r ∷ rest ≡ L
@@ -52,14 +48,6 @@ module _ {a : Name} {L left rest : List ZoneRecord} {r : ZoneRecord} {f : Option
 
   pub scan_soa : is_soa a r ≡ true → is_some f ≡ false → IsScanned a L rest (Some r)
   scan_soa e n = record { passed = s.passed ++ r ∷ []; whole = onward; is_found = found_now a s.passed r f e n s.is_found }
-
-  pub scan_second : is_soa a r ≡ true → is_some f ≡ true → soa_of L a ≡ None
-  scan_second e n = ap (λ K. soa_of K a) (sym with_next) ∙ second f n s.is_found
-    where
-      second : (g : Option ZoneRecord) → is_some g ≡ true → IsFoundIn a s.passed g → soa_of (s.passed ++ r ∷ rest) a ≡ None
-      second None n h = absurd (true≢false (sym n))
-      second (Some t) n h = ap of_only (filter-append (is_soa a) s.passed (r ∷ rest)
-          ∙ (λ i. h i ++ cond (e i) (r ∷ filter (is_soa a) rest) (filter (is_soa a) rest)))
 
 -- an apex with an SOA owns records
 pub soa_owned : (L : List ZoneRecord) (a : Name) (numbers : ApexSoa) → soa_of L a ≡ Some numbers → owns L a ≡ true

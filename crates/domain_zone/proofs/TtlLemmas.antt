@@ -1,13 +1,14 @@
 -- Where types never descend, two records of one type differ in TTL exactly where two neighbours do.
-use Rattle.std.proofs.Common.{◌≡◌, ◌≤◌, ℕ, Bool, true, false, not, ◌&&◌, ◌||◌, List, [], ◌∷◌, map, refl, sym, ap, ◌∙◌, inl, inr, arith, nat_eq, Option}
+use Rattle.std.proofs.Common.{◌≡◌, ◌≤◌, ℕ, Bool, true, false, not, ◌||◌, List, [], ◌∷◌, map, refl, sym, ap, ◌∙◌, inl, inr, arith, nat_eq, Option}
 use Rattle.std.specs.List.{list_any, AllByRecursion}
-use Rattle.std.proofs.lemmas.Bool.{cases_Bool, false≢true, and_parts, or_parts, or_cases, eqb-true, eqb-false, or_right}
+use Rattle.std.proofs.lemmas.Bool.{cases_Bool, false≢true, or_parts, or_cases, eqb-false, or_right}
 use Rattle.domain_record.specs.declared.record.Record.{Record}
 use Rattle.domain_records.specs.Order.{HoldsPairwise}
 use Rattle.domain_names.specs.Words.{Name}
 use Rattle.domain_zone.specs.View.{as_zone_record}
 use Rattle.domain_zone.specs.Zone.{ZoneRecord, clashes, has_clash}
 use Rattle.domain_zone.proofs.ZoneLemmas.{any_none, weaker}
+use Rattle.std.proofs.lemmas.Grind.{common_steps}
 
 -- two neighbours clash
 abbrev pub has_neighbour_clash : List ZoneRecord → Bool
@@ -31,24 +32,11 @@ opposite true c e = ap not e
 opposite false c e = ap not e
 
 clash_is : (r s : ZoneRecord) → clashes r s ≡ true → Clash r s
-clash_is r s e =
-    let p = and_parts (nat_eq r.rtype s.rtype && not (nat_eq r.rtype 46)) (not (nat_eq r.ttl s.ttl)) e in
-    let q = and_parts (nat_eq r.rtype s.rtype) (not (nat_eq r.rtype 46)) p.0 in
-    record { one_type = eqb-true r.rtype s.rtype q.0; signed = opposite (nat_eq r.rtype 46) true q.1; apart = opposite (nat_eq r.ttl s.ttl) true p.1 }
+clash_is r s e = grind (arith, common_steps)
 
 -- records of one type other than RRSIG that don't clash have one TTL
 one_ttl : (r s : ZoneRecord) → clashes r s ≡ false → r.rtype ≡ s.rtype → nat_eq r.rtype 46 ≡ false → r.ttl ≡ s.ttl
-one_ttl r s e t n =
-    elim (cases_Bool (nat_eq r.ttl s.ttl)) [
-      | inl h ↦ eqb-true r.ttl s.ttl h
-      | inr h ↦ absurd (false≢true (sym e ∙ all_three (nat_eq r.rtype s.rtype) (nat_eq r.rtype 46) (nat_eq r.ttl s.ttl) (same r.rtype s.rtype t) n h))
-    ]
-  where
-    all_three : (a b c : Bool) → a ≡ true → b ≡ false → c ≡ false → (a && not b && not c) ≡ true
-    all_three a b c p q r = λ i. p i && not (q i) && not (r i)
-
-    same : (m n : ℕ) → m ≡ n → nat_eq m n ≡ true
-    same m n h = elim (cases_Bool (nat_eq m n)) [ inl k ↦ k | inr k ↦ absurd (eqb-false m n k h) ]
+one_ttl r s e t n = grind (arith, common_steps)
 
 no_clash : (r s : ZoneRecord) → (Clash r s → ⊥) → clashes r s ≡ false
 no_clash r s f = elim (cases_Bool (clashes r s)) [ inl e ↦ absurd (f (clash_is r s e)) | inr e ↦ e ]
@@ -123,11 +111,7 @@ some_pair (r ∷ s ∷ rs) e =
         ]
 
 pub neighbours_tell : (rs : List ZoneRecord) → NeverDescend rs → has_neighbour_clash rs ≡ has_clash rs
-neighbours_tell rs order =
-    elim (cases_Bool (has_neighbour_clash rs)) [
-      | inl e ↦ e ∙ sym (some_pair rs e)
-      | inr e ↦ e ∙ sym (all_pairs rs order e)
-    ]
+neighbours_tell rs order = grind (arith, common_steps, some_pair, all_pairs)
 
 -- records whose types never descend, as a zone sees them
 module _ {N D : Type 0} (labels : N → Name) (rtype_of : D → ℕ) (minimum_of : D → Option ℕ) where

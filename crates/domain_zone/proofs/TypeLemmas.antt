@@ -1,10 +1,9 @@
 -- The types that a walk over the records of an owner has gathered.
-use Rattle.std.proofs.Common.{◌≡◌, ℕ, ◌<◌, Bool, true, false, ◌&&◌, ◌||◌, List, [], ◌∷◌, ◌++◌, refl, sym, ap, ◌∙◌, inl, inr, nat_eq, append_assoc, eq-eqb}
-use Rattle.std.proofs.lemmas.Bool.{cases_Bool, eqb-true, and_left, and_right}
-use Rattle.std.proofs.lemmas.List.Folds.{list_any-append}
+use Rattle.std.proofs.Common.{◌≡◌, ℕ, ◌<◌, Bool, true, false, ◌&&◌, ◌||◌, List, [], ◌∷◌, ◌++◌, sym, ap, ◌∙◌, nat_eq, append_assoc, arith}
 use Rattle.domain_octets.proofs.StdLemmas.{or_turn, or_false}
 use Rattle.domain_bitmap.specs.Builder.{holds}
-use Rattle.domain_zone.specs.Zone.{ZoneRecord, has_type, lists_type, may_list}
+use Rattle.domain_zone.specs.Zone.{ZoneRecord, lists_type, may_list}
+use Rattle.std.proofs.lemmas.Grind.{common_steps}
 
 -- a builder without octets holds nothing
 pub holds_nothing : (value : List ℕ) → value ≡ [] → (t : ℕ) → holds value t ≡ false
@@ -20,46 +19,16 @@ pub record Lists (old : List ℕ) (cut : Bool) (G rest : List ZoneRecord) (value
 -- one more record's type
 listed_more : (b cut : Bool) (rs : List ZoneRecord) (r : ZoneRecord) (t : ℕ)
     → (b || lists_type cut (rs ++ r ∷ []) t) ≡ ((b || lists_type cut rs t) || (nat_eq r.rtype t && may_list cut t))
-listed_more b cut rs r t =
-    ap (λ h. b || (h && may_list cut t)) (list_any-append (λ s. nat_eq s.rtype t) rs (r ∷ []))
-    ∙ spread b (has_type rs t) (nat_eq r.rtype t) (may_list cut t)
-  where
-    spread : (b h q s : Bool) → (b || ((h || (q || false)) && s)) ≡ ((b || (h && s)) || (q && s))
-    spread true h q s = refl
-    spread false true true true = refl
-    spread false true true false = refl
-    spread false true false true = refl
-    spread false true false false = refl
-    spread false false true true = refl
-    spread false false true false = refl
-    spread false false false s = refl
+listed_more b cut rs r t = grind (arith, common_steps)
 
 not_listed : (cut : Bool) (k t : ℕ) → may_list cut k ≡ false → (nat_eq k t && may_list cut t) ≡ false
-not_listed cut k t e =
-    elim (cases_Bool (nat_eq k t)) [
-      | inl h ↦ and_right (nat_eq k t) (may_list cut t) (ap (may_list cut) (sym (eqb-true k t h)) ∙ e)
-      | inr h ↦ and_left (nat_eq k t) (may_list cut t) h
-    ]
+not_listed cut k t e = grind (arith, common_steps)
 
 is_listed : (cut : Bool) (k t : ℕ) → may_list cut k ≡ true → (nat_eq k t && may_list cut t) ≡ nat_eq k t
-is_listed cut k t e =
-    elim (cases_Bool (nat_eq k t)) [
-      | inl h ↦ (λ i. h i && (ap (may_list cut) (sym (eqb-true k t h)) ∙ e) i) ∙ sym h
-      | inr h ↦ and_left (nat_eq k t) (may_list cut t) h ∙ sym h
-    ]
+is_listed cut k t e = grind (arith, common_steps)
 
 eq_turned : (m n : ℕ) → nat_eq m n ≡ nat_eq n m
-eq_turned m n =
-    elim (cases_Bool (nat_eq m n)) [
-      | inl h ↦ h ∙ sym (ap (λ k. nat_eq k m) (sym (eqb-true m n h)) ∙ itself m)
-      | inr h ↦ elim (cases_Bool (nat_eq n m)) [
-        | inl k ↦ sym (ap (λ j. nat_eq j n) (eqb-true n m k)) ∙ itself n ∙ sym k
-        | inr k ↦ h ∙ sym k
-      ]
-    ]
-  where
-    itself : (k : ℕ) → nat_eq k k ≡ true
-    itself k = eq-eqb k k refl
+eq_turned m n = grind (arith, common_steps)
 
 module _ (old : List ℕ) (cut : Bool) (G : List ZoneRecord) where
   module _ (r : ZoneRecord) (rest : List ZoneRecord) (value : List ℕ) (s : Lists old cut G (r ∷ rest) value) where

@@ -1,6 +1,6 @@
 -- What the walk knows before each group, and one step of it.
 use Rattle.std.proofs.Common.{◌≡◌, ℕ, Bool, true, false, cond, not, ◌&&◌, ◌||◌, List, [], ◌∷◌, ◌++◌, map, refl, sym, ap, ◌∙◌, subst, inl, inr, Option, Some}
-use Rattle.std.proofs.Common.{None, append_assoc}
+use Rattle.std.proofs.Common.{None, append_assoc, arith}
 use Rattle.std.proofs.lemmas.List.{append-nil}
 use Rattle.std.specs.Prelude.{filter}
 use Rattle.std.specs.List.{AllByRecursion, list_any}
@@ -13,12 +13,12 @@ use Rattle.domain_names.specs.Order.{before}
 use Rattle.domain_names.specs.Words.{Name}
 use Rattle.domain_base.specs.Types.{ns, dname}
 use Rattle.domain_zone.specs.Walk.{is_under}
-use Rattle.domain_zone.specs.Zone.{ZoneRecord, OwnersNeverDescend, records_of, has_type, occludes, is_occluded, is_unoccluded, distinct, unoccluded_owners}
-use Rattle.domain_zone.proofs.PairLemmas.{lt_le}
+use Rattle.domain_zone.specs.Zone.{ZoneRecord, OwnersNeverDescend, records_of, has_type, occludes, is_occluded, is_unoccluded, distinct}
 use Rattle.domain_zone.proofs.NameLemmas.{before_left, before_order, one_lowered, below_itself, below_trans, below_from, below_between, lowered_below}
 use Rattle.domain_zone.proofs.NameLemmas.{same_lowered}
 use Rattle.domain_zone.proofs.ZoneLemmas.{weaker, all_both, all_front, any_none, BeginsElsewhere, IsGroup, AreAt, AllBefore, AllAfter, records_at}
 use Rattle.domain_zone.proofs.ZoneLemmas.{distinct_more, after_or, not_strictly, strictly_after}
+use Rattle.std.proofs.lemmas.Grind.{common_steps}
 
 abbrev pub IsSince : Option Name → Name → Type 0
 IsSince None y = Unit {0}
@@ -42,15 +42,7 @@ always [] = tt
 always (x ∷ xs) = (tt, always xs)
 
 pub walk_start : (d : Bool) (L : List ZoneRecord) (a : Name) → OwnersNeverDescend L → IsWalked d L a L None []
-walk_start d L a h = record {
-  passed = [];
-  whole = refl;
-  apart = always L;
-  in_order = h;
-  unoccluded = refl;
-  since = always L;
-  below = λ y h. refl;
-}
+walk_start d L a h = grind (arith, common_steps, always)
 
 in_order_after : (xs ys : List ZoneRecord) → OwnersNeverDescend (xs ++ ys) → OwnersNeverDescend ys
 in_order_after [] ys h = h
@@ -58,9 +50,7 @@ in_order_after (x ∷ xs) ys h = in_order_after xs ys h.1
 
 all_after : (n : Name) (R : List ZoneRecord) → AllByRecursion (λ s. before s.owner n ≡ false) R → OwnersNeverDescend R → BeginsElsewhere n R → AllAfter R n
 all_after n [] h o b = tt
-all_after n (r ∷ R) h o b =
-    let first = after_or n r.owner h.0 b in
-    (first, weaker (λ s. before s.owner r.owner ≡ false) (λ s. before n s.owner ≡ true) (λ s e. lt_le before_order n r.owner s.owner first e) R o.0)
+all_after n (r ∷ R) h o b = grind (arith, common_steps, after_or, weaker, before_order)
 
 -- what is known of a group that comes next
 pub record IsNext (d : Bool) (L : List ZoneRecord) (a : Name) (cut : Option Name) (passed : List ZoneRecord) (n : Name)
@@ -230,8 +220,3 @@ module _ {d : Bool} {L : List ZoneRecord} {a : Name} {rest : List ZoneRecord} {c
 
   pub next_records : IsGroup (g ∷ gs) R → records_of L g.owner ≡ g ∷ gs
   next_records i = (next_known i).records
-
--- at the end the names found so far are all
-pub walk_end : {d : Bool} {L : List ZoneRecord} {a : Name} {cut : Option Name} {ks : List Name} → IsWalked d L a [] cut ks
-    → unoccluded_owners d L a ≡ ks
-walk_end {d = d} {L = L} {a = a} w = ap (λ K. filter (is_unoccluded d L a) (distinct (owners K))) (sym w.whole ∙ append-nil w.passed) ∙ w.unoccluded

@@ -1,9 +1,8 @@
 -- One step of the walk: the records of one name come after those passed, and before the rest.
-use Rattle.std.proofs.Common.{◌≡◌, Bool, true, false, cond, not, ◌&&◌, ◌||◌, List, [], ◌∷◌, ◌++◌, map, refl, sym, ap, ◌∙◌, inl, inr}
+use Rattle.std.proofs.Common.{◌≡◌, Bool, true, false, cond, not, ◌&&◌, ◌||◌, List, [], ◌∷◌, ◌++◌, map, refl, sym, ap, ◌∙◌, arith}
 use Rattle.std.proofs.lemmas.List.{append-nil}
 use Rattle.std.specs.Prelude.{filter}
 use Rattle.std.specs.List.{AllByRecursion, list_any}
-use Rattle.std.proofs.lemmas.Bool.{cases_Bool, true≢false}
 use Rattle.std.proofs.lemmas.List.Elements.{filter-append}
 use Rattle.domain_octets.proofs.StdLemmas.{and_true}
 use Rattle.domain_names.specs.Name.{is_at_or_below, is_strictly_below, lowered, same_name}
@@ -11,6 +10,7 @@ use Rattle.domain_names.specs.Order.{before}
 use Rattle.domain_names.specs.Words.{Name}
 use Rattle.domain_zone.specs.Zone.{ZoneRecord, records_of, distinct}
 use Rattle.domain_zone.proofs.NameLemmas.{before_order, one_lowered, same_itself, same_is, below_from}
+use Rattle.std.proofs.lemmas.Grind.{common_steps}
 
 module _ {X : Type 0} where
   pub filter_none : (p : X → Bool) (xs : List X) → AllByRecursion (λ x. p x ≡ false) xs → filter p xs ≡ []
@@ -39,11 +39,7 @@ module _ {X : Type 0} where
 
   pub all_filter : (P : X → Type 0) (p : X → Bool) (xs : List X) → AllByRecursion P xs → AllByRecursion P (filter p xs)
   all_filter P p [] h = tt
-  all_filter P p (x ∷ xs) h =
-      elim (p x) as (λ b. AllByRecursion P (cond b (x ∷ filter p xs) (filter p xs))) [
-        | true ↦ (h.0, all_filter P p xs h.1)
-        | false ↦ all_filter P p xs h.1
-      ]
+  all_filter P p (x ∷ xs) h = grind (arith, common_steps, (all_filter P p xs h.1))
 
 pub any_map : {X Y : Type 0} (p : Y → Bool) (f : X → Y) (xs : List X) → list_any p (map f xs) ≡ list_any (λ x. p (f x)) xs
 any_map p f [] = refl
@@ -62,19 +58,11 @@ same_back x y e = same_itself y x (sym (one_lowered x y e))
 
 -- one of two that aren't the same is before the other
 pub after_or : (x y : Name) → before y x ≡ false → same_name y x ≡ false → before x y ≡ true
-after_or x y e f =
-    elim (cases_Bool (before x y)) [
-      | inl h ↦ h
-      | inr h ↦ absurd (true≢false (sym (same_is y x ∙ (λ i. not (e i || h i))) ∙ f))
-    ]
+after_or x y e f = grind (arith, common_steps, same_is)
 
 -- nothing is strictly below a name that isn't before it
 pub not_strictly : (y r : Name) → before r y ≡ false → is_strictly_below y r ≡ false
-not_strictly y r e =
-    elim (cases_Bool (is_at_or_below y r)) [
-      | inl h ↦ (λ i. h i && not ((same_is y r ∙ (λ j. not (below_from y r h j || e j))) i))
-      | inr h ↦ (λ i. h i && not (same_name y r))
-    ]
+not_strictly y r e = grind (arith, common_steps, same_is, below_from)
 
 -- after a name, at or below it is strictly below it
 pub strictly_after : (y c : Name) → before c y ≡ true → is_strictly_below y c ≡ is_at_or_below y c
@@ -138,9 +126,4 @@ distinct_one n ys h =
 pub distinct_more : (xs : List Name) (n : Name) (ys : List Name) → AllByRecursion (λ x. before x n ≡ true) xs
     → AllByRecursion (λ y. lowered y ≡ lowered n) ys → distinct (xs ++ n ∷ ys) ≡ distinct xs ++ n ∷ []
 distinct_more [] n ys h k = distinct_one n ys k
-distinct_more (x ∷ xs) n ys h k =
-    ap (λ zs. x ∷ filter other zs) (distinct_more xs n ys h.1 k)
-    ∙ ap (λ zs. x ∷ zs) (filter-append other (distinct xs) (n ∷ []) ∙ (λ i. filter other (distinct xs) ++ cond (not (apart_left x n h.0 i)) (n ∷ []) []))
-  where
-    other : Name → Bool
-    other y = not (same_name x y)
+distinct_more (x ∷ xs) n ys h k = grind (arith, common_steps, apart_left, (distinct_more xs n ys h.1 k))

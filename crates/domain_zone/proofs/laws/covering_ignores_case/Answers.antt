@@ -1,15 +1,10 @@
-use Rattle.std.proofs.Common.{not, ◌&&◌, ◌||◌, cond}
-use Rattle.domain_names.specs.Order.{before}
 use Rattle.domain_zone.proofs.NameLemmas.{before_left, before_right, one_lowered}
 use Rattle.domain_zone.proofs.laws.covering_ignores_case.Goals as goal
+use Rattle.std.proofs.Common.{arith}
+use Rattle.std.proofs.lemmas.Grind.{common_steps}
 
 pub returns-clause-matches : goal.returns-clause-matches
-returns-clause-matches c = λ owner x y e.
-    let l = one_lowered x y e in
-    λ i. not (before_right owner x y l i || before_left x y owner l i)
+returns-clause-matches c = grind (arith, common_steps, one_lowered, before_right, before_left)
 
 pub returns-clause-covers : goal.returns-clause-covers
-returns-clause-covers c = λ owner next x y e.
-    let l = one_lowered x y e in
-    λ i. not (not (before_right owner x y l i || before_left x y owner l i))
-    && cond (before owner next) (before_right owner x y l i && before_left x y next l i) (before_right owner x y l i || before_left x y next l i)
+returns-clause-covers c = grind (arith, common_steps, one_lowered, before_right, before_left)
