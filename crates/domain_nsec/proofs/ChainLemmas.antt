@@ -1,11 +1,11 @@
 -- How the records of a chain are gathered, and what the finished chain means.
 use Rattle.std.proofs.Common.{◌≡◌, ℕ, ◌+◌, Bool, true, false, cond, not, ◌&&◌, ◌||◌, List, [], ◌∷◌, ◌++◌, map, refl, sym, ap, ◌∙◌, subst, inl, inr, ◌⊎◌, Some}
-use Rattle.std.proofs.Common.{zero, suc, ◌<◌, length, get_or, take, arith, add-one}
+use Rattle.std.proofs.Common.{zero, suc, ◌<◌, length, get_or, take, arith}
 use Rattle.std.specs.Prelude.{count_by, All}
 use Rattle.std.specs.List.{AllByRecursion, list_any}
 use Rattle.std.proofs.lemmas.Bool.{cases_Bool, false≢true, true≢false, and_parts, or_cases, not-true}
-use Rattle.std.proofs.lemmas.List.{length-map, get_or_read, map-append as made_more, take_more}
-use Rattle.std.proofs.lemmas.List.Elements.{All-from_recursion, recursion_from_All}
+use Rattle.std.proofs.lemmas.List.{get_or_read, map-append as made_more, take_more}
+use Rattle.std.proofs.lemmas.List.Elements.{recursion_from_All}
 use Rattle.domain_bitmap.specs.Bitmap.{bitmap_octets}
 use Rattle.domain_zone.specs.Covering.{matches, covers, matches_or_covers, pairs}
 use Rattle.domain_names.specs.Name.{is_at_or_below, lowered, same_name}
@@ -16,7 +16,7 @@ use Rattle.domain_zone.specs.Zone.{ZoneRecord, OwnersNeverDescend, owns, is_occl
 use Rattle.domain_zone.specs.declared.soa.ApexSoa.{ApexSoa}
 use Rattle.domain_zone.proofs.NameLemmas.{before_order, one_lowered, same_itself, same_is, before_left, before_right, below_from, same_lowered}
 use Rattle.domain_zone.proofs.OwnerLemmas.{any_owner, any_in, owners_are, owners_ascend, apex_unoccluded}
-use Rattle.domain_zone.proofs.PairLemmas.{In, all_in, IsAscending, IsApart, one_matches_or_covers, gap, owner_in, next_is, lt_trans}
+use Rattle.domain_zone.proofs.PairLemmas.{In, all_in, IsAscending, IsApart, one_matches_or_covers, gap, owner_in, next_is}
 use Rattle.domain_zone.proofs.PlaceLemmas.{count_cons, one_place}
 use Rattle.domain_zone.proofs.SoaLemmas.{soa_owned}
 use Rattle.domain_zone.proofs.ZoneLemmas.{weaker, apart_right}
@@ -24,6 +24,7 @@ use Rattle.domain_zone.proofs.FindLemmas.{in_at}
 use Rattle.domain_nsec.specs.Chain.{Link, link_of, links_in, nsec_lists, IsChain}
 use Rattle.domain_nsec.specs.Meaning.{MirrorsZone, IsMatchedOrCoveredOnce, IsCycle, OwnersAscend, last_next}
 use Rattle.domain_nsec.specs.declared.config.GenerateNsecConfig.{GenerateNsecConfig}
+use Rattle.std.proofs.lemmas.Grind.{common_steps}
 
 abbrev pub pair_of : Link → Name × Name
 pair_of k = (k.owner, k.next)
@@ -71,10 +72,7 @@ owner_borrowed numbers a names bits i d n even within owner =
 pub link_borrowed : (numbers : ApexSoa) (a : Name) (names : List Name) (bits : List (List ℕ)) (i : ℕ) (d : Link) (n next : Name) (types : List ℕ)
     → length names ≡ length bits → i < length names → n ≡ get_or names i n → types ≡ get_or bits i [] → next ≡ get_or names (i + 1) a
     → link_of n next numbers types ≡ get_or (links_in numbers a names bits) i d
-link_borrowed numbers a names bits i d n next types even within owner listed later =
-    let here : n ≡ get_or names i a = get_or_read names i n within owner a in
-    let after : next ≡ get_or names (suc i) a = later ∙ ap (λ k. get_or names k a) (add-one i) in
-    (λ j. link_of (here j) (after j) numbers (listed j)) ∙ link_at numbers a names bits i d even within
+link_borrowed numbers a names bits i d n next types even within owner listed later = grind (arith, common_steps, link_at)
 
 -- one more record is made
 pub record_made : {X : Type 0} (see : X → Link) (old new : List X) (item : X) (i : ℕ) (links : List Link) → i < length links
@@ -88,18 +86,7 @@ pub chain_of : (L : List ZoneRecord) (a : Name) (config : GenerateNsecConfig) (n
     (bits : List (List ℕ)) → soa_of L a ≡ Some numbers
     → names ≡ unoccluded_owners config.occlude_below_dname L a → bits ≡ map (λ n. bitmap_octets (nsec_lists L a config.assume_dnskeys_will_be_added n)) names
     → IsChain L a config (links_in numbers a names bits)
-chain_of L a config numbers names bits soa named listed =
-    let f : Name → List ℕ = λ n. bitmap_octets (nsec_lists L a config.assume_dnskeys_will_be_added n) in
-    let long : length names ≡ length bits = sym (length-map names f) ∙ ap length (sym listed) in
-    record {
-      numbers = numbers;
-      soa = soa;
-      names = links_pairs numbers a names bits long ∙ ap (λ ks. pairs ks a) named;
-      numbered = All-from_recursion (λ k. (k.class ≡ numbers.class) × (k.ttl ≡ chain_ttl numbers)) (links_in numbers a names bits)
-          (links_numbered numbers a names bits);
-      bits = All-from_recursion (λ k. k.bits ≡ f k.owner) (links_in numbers a names bits)
-          (subst (λ bs. AllByRecursion (λ k. k.bits ≡ f k.owner) (links_in numbers a names bs)) (sym listed) (links_listed numbers a f names));
-    }
+chain_of L a config numbers names bits soa named listed = grind (arith, common_steps, links_pairs, links_numbered, links_listed)
 
 -- ---- pairs
 
@@ -129,16 +116,7 @@ module _ (d : Bool) (L : List ZoneRecord) (a : Name) (order : OwnersNeverDescend
     pub begins : before a first ≡ false
 
   begins_at : (k : Name) (ks : List Name) → IsAscending before (k ∷ ks) → list_any (λ m. same_name m a) (k ∷ ks) ≡ true → before a k ≡ false
-  begins_at k ks up h =
-      elim (cases_Bool (before a k)) [
-        | inl e ↦
-            let m = any_in (λ m. same_name m a) (k ∷ ks) h in
-            absurd (false≢true (sym (elim m.1 [
-              | inl f ↦ subst (λ n. same_name n a ≡ false) f (apart_right a k e)
-              | inr i ↦ apart_right a m.0 (lt_trans before_order a k m.0 e (all_in (λ y. before k y ≡ true) ks m.0 up.0 i))
-            ]) ∙ m.2))
-        | inr e ↦ e
-      ]
+  begins_at k ks up h = grind (arith, common_steps, any_in, apart_right, before_order, all_in)
 
   pub owners_known : Owners (unoccluded_owners d L a)
   owners_known =
@@ -276,9 +254,7 @@ record IsRound (a k : Name) (links : List Link) : Type 0 where
 
 round : (a k : Name) (ks : List Name) (links : List Link) → map pair_of links ≡ pairs (k ∷ ks) a → IsAscending before (k ∷ ks) → IsRound a k links
 round a k [] [] e up = absurd (cc)
-round a k [] (l ∷ []) e up =
-    let one : pair_of l ≡ (k, a) = cc in
-    record { first = l; later = []; are = refl; begins = ap (λ p. p.0) one; ascends = tt; ends = ap (λ p. p.1) one }
+round a k [] (l ∷ []) e up = grind (arith, common_steps)
 round a k [] (l ∷ m ∷ links) e up = absurd (cc)
 round a k (n ∷ ks) [] e up = absurd (cc)
 round a k (n ∷ ks) (l ∷ links) e up =

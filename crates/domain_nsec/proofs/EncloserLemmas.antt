@@ -4,7 +4,7 @@ use Rattle.std.proofs.Common.{◌⊎◌, arith}
 use Rattle.std.specs.List.{list_any}
 use Rattle.std.proofs.lemmas.Bool.{cases_Bool, false≢true, true≢false, and_parts, and_from, or_cases, not-true, ltb-true, ltb-false}
 use Rattle.domain_zone.specs.Covering.{matches, covers, matches_or_covers}
-use Rattle.domain_zone.specs.Enclosers.{IsClosestEncloser, longer, exists_over, is_empty_nonterminal, IsShared, shared}
+use Rattle.domain_zone.specs.Enclosers.{IsClosestEncloser, longer, exists_over, is_empty_nonterminal, IsShared}
 use Rattle.domain_names.specs.Name.{is_at_or_below, is_strictly_below, lowered, same_name}
 use Rattle.domain_names.specs.Order.{before}
 use Rattle.domain_names.specs.Words.{Name}
@@ -21,13 +21,12 @@ use Rattle.domain_nsec.specs.Chain.{Link, IsChain}
 use Rattle.domain_nsec.specs.Meaning.{TellsEmpty, TellsEncloser, IsCoveredBy, CoversBelowOccluders}
 use Rattle.domain_nsec.specs.declared.config.GenerateNsecConfig.{GenerateNsecConfig}
 use Rattle.domain_nsec.proofs.ChainLemmas.{answered_once, owner_gap, link_owner, link_next}
+use Rattle.std.proofs.lemmas.Grind.{common_steps}
 
 module _ (L : List ZoneRecord) (a : Name) (order : OwnersNeverDescend L) (config : GenerateNsecConfig) (links : List Link)
     (chain : IsChain L a config links) where
   owner_low : (m : Name) → In m (unoccluded_owners config.occlude_below_dname L a) → is_at_or_below m a ≡ true
-  owner_low m i = (and_parts (is_at_or_below m a) (not (is_occluded config.occlude_below_dname L a m))
-      (all_in (λ n. (owns L n ≡ true) × (is_unoccluded config.occlude_below_dname L a n ≡ true))
-      (unoccluded_owners config.occlude_below_dname L a) m (owners_are config.occlude_below_dname L a) i).1).0
+  owner_low m i = grind (arith, common_steps, all_in, owners_are)
 
   -- x lies after the owner, and each owner of the chain is on one side of it
   pub record Covered (x : Name) (l : Link) : Type 0 where
@@ -162,9 +161,7 @@ module _ (L : List ZoneRecord) (a : Name) (order : OwnersNeverDescend L) (config
       up false k d (inr h) = let j = ltb-false (length e) (length f) k in omega arith
 
   pub tells_encloser : TellsEncloser L a config links
-  tells_encloser = record {
-    each = λ x low place l at c. tells_by_shared x low place l at c (shared x l.owner) (shared x l.next) (shared_is x l.owner) (shared_is x l.next);
-  }
+  tells_encloser = grind (arith, common_steps, tells_by_shared, shared_is)
 
   covered_below : (c x : Name) → occludes config.occlude_below_dname L a c ≡ true
       → is_unoccluded config.occlude_below_dname L a c ≡ true → is_strictly_below x c ≡ true → IsCoveredBy links c x

@@ -1,5 +1,5 @@
 -- The state of the generator, and what each way through its body leaves.
-use Rattle.std.proofs.Common.{◌≡◌, ℕ, Bool, List, [], ◌∷◌, ◌++◌, map, Some, true, false, ◌&&◌, ◌||◌, refl, sym, ap, ◌∙◌, append_assoc}
+use Rattle.std.proofs.Common.{◌≡◌, ℕ, Bool, List, [], ◌∷◌, ◌++◌, map, Some, true, false, ◌&&◌, ◌||◌, sym, ap, ◌∙◌, append_assoc, arith}
 use Rattle.std.specs.List.{list_any}
 use Rattle.std.proofs.lemmas.List.{map-append}
 use Rattle.std.proofs.lemmas.List.Folds.{list_any-append}
@@ -15,6 +15,7 @@ use Rattle.domain_nsec.specs.Chain.{links_in, nsec_lists, is_listed, IsChain}
 use Rattle.domain_nsec.specs.declared.config.GenerateNsecConfig.{GenerateNsecConfig}
 use Rattle.domain_nsec.specs.declared.owners.Owners.{Owners}
 use Rattle.domain_nsec.proofs.ChainLemmas.{chain_of}
+use Rattle.std.proofs.lemmas.Grind.{common_steps}
 
 -- a zone to sign: its records, its apex and how its chain is made
 pub record ZoneToSign : Type 0 where
@@ -45,13 +46,7 @@ pub record IsAt (zone : ZoneToSign) (left : List OwnerRecords) (listed : Owners)
 
 pub at_start : {zone : ZoneToSign} {left : List OwnerRecords} {listed : Owners} → left ≡ owners_of zone
     → listed.names.items ≡ [] → listed.types ≡ [] → IsAt zone left listed
-at_start {zone = zone} all named typed = record {
-  given = [];
-  all = all;
-  even = refl;
-  named = λ room. named;
-  typed = λ room. typed ∙ ap (bits_of zone) (sym named);
-}
+at_start {zone = zone} all named typed = grind (arith, common_steps)
 
 module _ {zone : ZoneToSign} {left : List OwnerRecords} {listed : Owners} (s : IsAt zone left listed) where
   module _ {o : OwnerRecords} {rest : List OwnerRecords} (next : left ≡ o ∷ rest) where
@@ -94,9 +89,7 @@ module _ {zone : ZoneToSign} {left : List OwnerRecords} {listed : Owners} (s : I
 
     pub at_end : {numbers : ApexSoa} → soa_of zone.records zone.apex ≡ Some numbers → listed.is_full ≡ false
         → IsChain zone.records zone.apex zone.config (links_in numbers zone.apex listed.names.items listed.types)
-    at_end {numbers = numbers} soa room =
-        chain_of zone.records zone.apex zone.config numbers listed.names.items listed.types soa
-        (s.named room ∙ all_given zone.config.occlude_below_dname zone.records zone.apex s.given all_are_given) (s.typed room)
+    at_end {numbers = numbers} soa room = grind (arith, common_steps, chain_of, all_given)
 
     pub even_end : is_uneven zone ≡ false
     even_end = even_given zone.config.occlude_below_dname zone.records zone.apex s.given all_are_given s.even

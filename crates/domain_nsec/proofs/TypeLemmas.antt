@@ -1,5 +1,5 @@
 -- The types that NSEC records list.
-use Rattle.std.proofs.Common.{◌≡◌, ℕ, ◌<◌, Bool, true, false, ◌&&◌, ◌||◌, List, [], refl, ap, ◌∙◌, nat_eq}
+use Rattle.std.proofs.Common.{◌≡◌, ℕ, ◌<◌, Bool, true, false, ◌&&◌, ◌||◌, List, [], ap, ◌∙◌, nat_eq, arith}
 use Rattle.domain_octets.proofs.StdLemmas.{or_false}
 use Rattle.domain_bitmap.specs.Bitmap.{bitmap_octets}
 use Rattle.domain_bitmap.specs.Builder.{holds}
@@ -7,31 +7,17 @@ use Rattle.domain_bitmap.proofs.BitmapLemmas.{bitmap_octets-same}
 use Rattle.domain_zone.specs.Zone.{ZoneRecord, lists_type}
 use Rattle.domain_zone.proofs.TypeLemmas.{holds_nothing}
 use Rattle.domain_nsec.specs.Chain.{is_listed}
+use Rattle.std.proofs.lemmas.Grind.{common_steps}
 
 pub common_two : (cut : Bool) (v0 v1 v2 : List ℕ) → v0 ≡ [] → ((t : ℕ) → t < 65536 → holds v1 t ≡ (nat_eq t 46 || holds v0 t))
     → ((t : ℕ) → t < 65536 → holds v2 t ≡ (nat_eq t 47 || holds v1 t)) → (t : ℕ) → t < 65536
     → holds v2 t ≡ is_listed false cut [] t
-common_two cut v0 v1 v2 e f g t b =
-    g t b ∙ (λ i. nat_eq t 47 || (f t b ∙ (λ j. nat_eq t 46 || holds_nothing v0 e t j)) i) ∙ by (nat_eq t 46) (nat_eq t 47)
-  where
-    by : (p q : Bool) → (q || (p || false)) ≡ (((p || q) || false) || false)
-    by true true = refl
-    by true false = refl
-    by false true = refl
-    by false false = refl
+common_two cut v0 v1 v2 e f g t b = grind (arith, common_steps, holds_nothing)
 
 pub common_three : (cut : Bool) (v2 v3 : List ℕ) → ((t : ℕ) → t < 65536 → holds v2 t ≡ is_listed false cut [] t)
     → ((t : ℕ) → t < 65536 → holds v3 t ≡ (nat_eq t 48 || holds v2 t)) → (t : ℕ) → t < 65536
     → holds v3 t ≡ is_listed true cut [] t
-common_three cut v2 v3 f g t b = g t b ∙ (λ i. nat_eq t 48 || f t b i) ∙ by (nat_eq t 46) (nat_eq t 47) (nat_eq t 48)
-  where
-    by : (p q r : Bool) → (r || (((p || q) || false) || false)) ≡ (((p || q) || r) || false)
-    by true q true = refl
-    by true q false = refl
-    by false true true = refl
-    by false true false = refl
-    by false false true = refl
-    by false false false = refl
+common_three cut v2 v3 f g t b = grind (arith, common_steps)
 
 -- the common types, and then those of the records
 pub listed_octets : (assumed cut : Bool) (G : List ZoneRecord) (old new : List ℕ)

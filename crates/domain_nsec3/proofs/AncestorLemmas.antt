@@ -1,20 +1,21 @@
 -- The names above a name, and those above the owners of a list, collected one owner after another.
-use Rattle.std.proofs.Common.{◌≡◌, ℕ, ◌+◌, ◌≤◌, ◌<◌, Bool, true, false, cond, not, ◌&&◌, ◌||◌, List, [], ◌∷◌, ◌++◌, length, refl, sym, ap, ◌∙◌, arith, inl, inr}
+use Rattle.std.proofs.Common.{◌≡◌, ℕ, ◌+◌, ◌≤◌, ◌<◌, Bool, true, false, cond, ◌||◌, List, [], ◌∷◌, ◌++◌, length, refl, sym, ap, ◌∙◌, arith, inl, inr}
 use Rattle.std.specs.Prelude.{nat_le, nat_lt}
 use Rattle.std.specs.List.{AllByRecursion, list_any}
 use Rattle.std.proofs.lemmas.Bool.{cases_Bool, false≢true, leb-true, or_cases, or_left, or_right}
 use Rattle.std.proofs.lemmas.Bool.Decides.{nat_tests}
 use Rattle.std.proofs.lemmas.List.{append-nil}
 use Rattle.std.proofs.lemmas.List.Folds.{list_any-append}
-use Rattle.domain_names.specs.Name.{is_at_or_below, is_strictly_below, lowered, same_name}
+use Rattle.domain_names.specs.Name.{is_at_or_below, is_strictly_below, same_name}
 use Rattle.domain_names.specs.Words.{Name}
-use Rattle.domain_zone.proofs.NameLemmas.{lowered_below, same_lowered, one_lowered, same_itself, below_itself, below_trans, below_longer, below_length}
+use Rattle.domain_zone.proofs.NameLemmas.{one_lowered, same_itself, below_itself, below_trans, below_longer, below_length}
 use Rattle.domain_zone.proofs.NameLemmas.{strictly_longer, strictly_from, below_parent}
 use Rattle.domain_zone.proofs.PairLemmas.{all_in}
 use Rattle.domain_zone.proofs.OwnerLemmas.{any_in}
 use Rattle.domain_zone.proofs.ZoneLemmas.{weaker, all_both}
 use Rattle.domain_nsec3.specs.Ancestors.{above_with_more, HoldsAncestors}
 use Rattle.domain_nsec3.proofs.SharedLemmas.{Shares, at_length, cons_below}
+use Rattle.std.proofs.lemmas.Grind.{common_steps}
 
 pub less : (m n : ℕ) → m < n → nat_lt m n ≡ true
 less m n h = grind (arith, nat_tests)
@@ -70,11 +71,7 @@ pub record IsKnown (a : Name) (owners : List Name) (p : Name) : Type 0 where
   pub there : (e : Name) → is_strictly_below e a ≡ true → is_at_or_below p e ≡ true → list_any (λ n. is_at_or_below n e) owners ≡ true
 
 pub holds_none : (a : Name) → HoldsAncestors a [] []
-holds_none a = record {
-  below = λ x h. absurd (false≢true h);
-  above = λ x h. absurd (false≢true h);
-  each = λ x h e. absurd (false≢true e);
-}
+holds_none a = grind (arith, common_steps)
 
 pub known_apex : (a : Name) → IsKnown a [] a
 known_apex a = record {
@@ -83,12 +80,7 @@ known_apex a = record {
 }
 
 pub known_owner : (a : Name) (owners : List Name) (o : Name) → is_at_or_below o a ≡ true → IsKnown a (owners ++ o ∷ []) o
-known_owner a owners o h = record {
-  in_zone = h;
-  there = λ e s up. list_any-append (λ n. is_at_or_below n e) owners (o ∷ [])
-      ∙ or_right (list_any (λ n. is_at_or_below n e) owners) (is_at_or_below o e || false)
-      (or_left (is_at_or_below o e) false up);
-}
+known_owner a owners o h = grind (arith, common_steps)
 
 module _ (a : Name) (owners names : List Name) (p o : Name) (s : ℕ) (known : IsKnown a owners p) (zone : is_at_or_below o a
     ≡ true) (shares : Shares o p s) (h : HoldsAncestors a owners names) where
@@ -96,16 +88,7 @@ module _ (a : Name) (owners names : List Name) (p o : Name) (s : ℕ) (known : I
   apex_short = leb-true (length a) s (sym (shares a zone) ∙ known.in_zone)
 
   fresh_below : (x : Name) → list_any (λ m. same_name m x) (above_with_more s o) ≡ true → (is_strictly_below x a ≡ true) × (is_strictly_below o x ≡ true)
-  fresh_below x e =
-      let m = any_in (λ m. same_name m x) (above_with_more s o) e in
-      let f = all_in (IsAbove s o) (above_with_more s o) m.0 (are_above s o) m.1 in
-      let k = one_lowered m.0 x m.2 in
-      let long : length a < length m.0 = omega (arith, apex_short, f.2) in
-      let low = strictly_from m.0 a (below_longer o m.0 a f.0 zone (omega arith)) long in
-      let high = strictly_from o m.0 f.0 f.1 in (
-        ap (λ q. lowered_below q (lowered a) && not (same_lowered q (lowered a))) (sym k) ∙ low,
-        ap (λ q. lowered_below (lowered o) q && not (same_lowered (lowered o) q)) (sym k) ∙ high,
-      )
+  fresh_below x e = grind (arith, common_steps, any_in, all_in, are_above, one_lowered, apex_short, strictly_from, below_longer)
 
   pub holds_more : HoldsAncestors a (owners ++ o ∷ []) (names ++ above_with_more s o)
   holds_more = record {

@@ -35,6 +35,7 @@ use Rattle.domain_nsec3.specs.declared.chain.HashedChain.{HashedChain}
 use Rattle.domain_nsec3.specs.declared.hash.Hashed.{Hashed}
 use Rattle.domain_nsec3.proofs.TextLemmas.{sound_some, sound_short}
 use Rattle.domain_nsec3.proofs.FaultLemmas.{names_of}
+use Rattle.std.proofs.lemmas.Grind.{common_steps}
 
 -- ---- a list that was hashed, and then put in order
 
@@ -71,14 +72,7 @@ pub ordered_chain : {a : Name} {hash : Hash} {p : Common} {entries : List Entry}
     → 0 < length entries → AreHashesOf a hash entries es → IsStrictlySortedBy (slice_cmp nat_cmp) (map (λ e. e.hash) es)
     → links ≡ chain_links a p (map without_name es) → IsOrderedChain a hash p entries links
 ordered_chain {entries = entries} [] some h ascend are = absurd (omega (arith, length_permutation entries [] h.moved))
-ordered_chain (first ∷ later) some h ascend are = record {
-  first = first;
-  later = later;
-  moved = h.moved;
-  hashed = h.hashed;
-  ascend = ascend;
-  are = are;
-}
+ordered_chain (first ∷ later) some h ascend are = grind (arith, common_steps)
 
 module _ (a : Name) (p : Common) where
   ends_from : (e : HashedEntry) (es : List HashedEntry) (first : List ℕ)

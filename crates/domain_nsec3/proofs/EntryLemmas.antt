@@ -1,19 +1,17 @@
 -- Names with their types.
-use Rattle.std.proofs.Common.{◌≡◌, ℕ, zero, suc, ◌≤◌, true, false, not, ◌&&◌, List, [], ◌∷◌, ◌++◌, map, length, get_or, refl, sym, ap, ◌∙◌, subst, arith}
+use Rattle.std.proofs.Common.{◌≡◌, ℕ, zero, suc, ◌≤◌, true, false, List, [], ◌∷◌, ◌++◌, map, length, get_or, refl, sym, ap, ◌∙◌, subst, arith}
 use Rattle.std.specs.Prelude.{All}
 use Rattle.std.specs.List.{AllByRecursion, list_any}
 use Rattle.std.specs.List.Sorted.{IsStrictlySortedBy}
-use Rattle.std.proofs.lemmas.Bool.{and_parts, not-true}
-use Rattle.std.proofs.lemmas.List.{map-append}
 use Rattle.std.proofs.lemmas.List.Elements.{recursion_from_All, All-from_recursion}
 use Rattle.domain_bitmap.specs.Bitmap.{bitmap_octets}
 use Rattle.domain_bitmap.specs.Builder.{holds}
 use Rattle.domain_bitmap.proofs.BitmapLemmas.{bitmap_octets-same}
 use Rattle.domain_zone.specs.Enclosers.{is_empty_nonterminal}
-use Rattle.domain_names.specs.Name.{is_at_or_below, is_strictly_below, same_name}
+use Rattle.domain_names.specs.Name.{same_name}
 use Rattle.domain_names.specs.Order.{canonical_cmp}
 use Rattle.domain_names.specs.Words.{Name}
-use Rattle.domain_zone.specs.Zone.{ZoneRecord, owns, is_zone_cut, records_of}
+use Rattle.domain_zone.specs.Zone.{ZoneRecord}
 use Rattle.domain_zone.proofs.NameLemmas.{same_itself}
 use Rattle.domain_zone.proofs.OwnerLemmas.{in_any}
 use Rattle.domain_zone.proofs.PairLemmas.{all_from_in}
@@ -21,12 +19,13 @@ use Rattle.domain_zone.proofs.ZoneLemmas.{all_both}
 use Rattle.domain_zone.proofs.TypeLemmas.{holds_nothing}
 use Rattle.domain_nsec3.specs.Ancestors.{IsListOf}
 use Rattle.domain_nsec3.specs.Config.{ChainConfig}
-use Rattle.domain_nsec3.specs.Owners.{original_owners, nsec3_lists, is_empty, is_listed, is_unsigned_cut}
+use Rattle.domain_nsec3.specs.Owners.{original_owners, nsec3_lists, is_empty}
 use Rattle.domain_nsec3.specs.Steps.{Entry, entries_of, no_types, without_name, without_types, AreOriginalOwners}
 use Rattle.domain_nsec3.specs.StepView.{as_hashed_entry, as_hashed_types}
 use Rattle.domain_nsec3.specs.declared.hash.Hashed.{Hashed}
 use Rattle.domain_nsec3.proofs.ChainLemmas.{AreChainNames}
 use Rattle.domain_nsec3.proofs.OwnerLemmas.{names_are, empty_are}
+use Rattle.std.proofs.lemmas.Grind.{common_steps}
 
 -- ---- names with their types
 
@@ -82,17 +81,10 @@ module _ {L : List ZoneRecord} {a : Name} {config : ChainConfig} {owners entries
     (joined : AreJoined a owners entries) where
   -- no name that is empty has a bit
   unowned_bits : (x : Name) → is_empty L a config x ≡ true → bitmap_octets (λ t. false) ≡ bitmap_octets (nsec3_lists L a config x)
-  unowned_bits x e =
-      let q = and_parts (is_at_or_below x a && not (owns L x)) (list_any (λ n. is_strictly_below n x) (original_owners L a config)) e in
-      let none = not-true (owns L x) (and_parts (is_at_or_below x a) (not (owns L x)) q.0).1 in
-      sym (bitmap_octets-same (nsec3_lists L a config x) (λ t. false)
-      (λ t b. ap (λ o. o && is_listed (is_unsigned_cut L a x) (same_name x a) (config.assume_dnskeys_will_be_added
-      && same_name x a) (is_zone_cut L a x) (records_of L x) t) none))
+  unowned_bits x e = grind (arith, common_steps)
 
   pub names_joined : map (λ n. n.name) entries ≡ original_owners L a config ++ joined.empty
-  names_joined =
-      ap (map (λ n. n.name)) joined.are ∙ map-append (λ n. n.name) owners (map without_types joined.empty)
-      ∙ (λ i. os.names i ++ names_without joined.empty i)
+  names_joined = grind (arith, common_steps, names_without)
 
   -- which names are empty
   pub empty_names : (x : Name) → list_any (λ n. same_name n x) joined.empty ≡ is_empty L a config x

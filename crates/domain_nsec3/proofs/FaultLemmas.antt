@@ -1,7 +1,7 @@
 -- The faults of hashing: the first name that is refused in the list that is hashed is the first in the order of hashing, and two
 -- neighbours with one hash are two names.
-use Rattle.std.proofs.Common.{◌≡◌, ◌≢◌, ℕ, zero, suc, ◌+◌, ◌<◌, Bool, true, false, not, ◌&&◌, ◌||◌, cond, List, [], ◌∷◌, ◌++◌, map, length, get_or, swap, Some}
-use Rattle.std.proofs.Common.{None, Ok, Err, refl, sym, ap, ◌∙◌, subst, inl, inr, ◌⊎◌, arith, IsPermutation}
+use Rattle.std.proofs.Common.{◌≡◌, ◌≢◌, ℕ, zero, suc, ◌+◌, ◌<◌, true, false, not, ◌&&◌, ◌||◌, cond, List, [], ◌∷◌, ◌++◌, map, length, get_or, swap}
+use Rattle.std.proofs.Common.{None, Ok, refl, sym, ap, ◌∙◌, subst, inl, inr, ◌⊎◌, arith, IsPermutation}
 use Rattle.std.specs.Prelude.{All}
 use Rattle.std.specs.List.{AllByRecursion, list_any}
 use Rattle.std.specs.List.Sorted.{IsStrictlySortedBy}
@@ -26,10 +26,11 @@ use Rattle.domain_zone.proofs.OwnerLemmas.{any_in, in_any}
 use Rattle.domain_zone.proofs.ZoneLemmas.{weaker, all_both, apart_left}
 use Rattle.domain_zone.proofs.FindLemmas.{in_middle}
 use Rattle.domain_nsec3.specs.Chain.{HashedLink, HashedName, IsHashedChain, IsOfChain}
-use Rattle.domain_nsec3.specs.Config.{ChainConfig, Hash, HashAnswer, hash_name, hash_of}
+use Rattle.domain_nsec3.specs.Config.{ChainConfig, Hash, hash_name, hash_of}
 use Rattle.domain_nsec3.specs.Faults.{hash_fault, is_hashed_before, IsFirstHashFault, IsFirstHashingFault, AreAllHashed, HasCollision}
 use Rattle.domain_nsec3.specs.Owners.{is_original_owner, is_chain_name, original_owners}
 use Rattle.domain_nsec3.specs.Steps.{Entry, HashedEntry, without_hash, IsFirstRefused, IsHashed, HasAlikeEntries}
+use Rattle.std.proofs.lemmas.Grind.{common_steps}
 
 -- names that are the same have one hash
 pub hash_same : (hash : Hash) (m n : Name) → same_name m n ≡ true → hash_name hash m ≡ hash_name hash n
@@ -73,39 +74,14 @@ pairwise_in R S P f (x ∷ xs) all h = (each xs all.1 h.0, pairwise_in R S P f x
     each (y ∷ ys) q r = (f x y all.0 q.0 r.0, each ys q.1 r.1)
 
 module _ (L : List ZoneRecord) (a : Name) (config : ChainConfig) where
-  -- an owner, and a name that isn't before it
-  both_owners : (x y : Name) → is_original_owner L a config x ≡ true → is_original_owner L a config y ≡ true → before y x ≡ false
-      → is_hashed_before L a config y x ≡ false
-  both_owners x y o q h = (λ i. cond (q i) (not (o i) || h i) (not (o i) && h i))
-
-  owner_first : (x y : Name) → is_original_owner L a config x ≡ true → is_original_owner L a config y ≡ false → is_hashed_before L a config y x ≡ false
-  owner_first x y o q = (λ i. cond (q i) (not (o i) || before y x) (not (o i) && before y x))
-
-  both_empty : (x y : Name) → is_original_owner L a config x ≡ false → is_original_owner L a config y ≡ false → before y x ≡ false
-      → is_hashed_before L a config y x ≡ false
-  both_empty x y o q h = (λ i. cond (q i) (not (o i) || h i) (not (o i) && h i))
-
   pub hashed_in_order : (owners empty : List Name) → IsStrictlySortedBy canonical_cmp owners → IsStrictlySortedBy canonical_cmp empty
       → AllByRecursion (λ n. is_original_owner L a config n ≡ true) owners → AllByRecursion (λ n. is_original_owner L a config n ≡ false) empty
       → Pairwise (λ x y. is_hashed_before L a config y x ≡ false) (owners ++ empty)
-  hashed_in_order owners empty up_o up_e own not_own =
-      pairwise_both (λ x y. is_hashed_before L a config y x ≡ false) owners empty
-      (pairwise_in (λ x y. before y x ≡ false) (λ x y. is_hashed_before L a config y x ≡ false)
-      (λ n. is_original_owner L a config n ≡ true) both_owners owners own (rising owners up_o))
-      (pairwise_in (λ x y. before y x ≡ false) (λ x y. is_hashed_before L a config y x ≡ false)
-      (λ n. is_original_owner L a config n ≡ false) both_empty empty not_own (rising empty up_e))
-      (weaker (λ n. is_original_owner L a config n ≡ true) (λ x. AllByRecursion (λ y. is_hashed_before L a config y x ≡ false) empty)
-      (λ x o. weaker (λ n. is_original_owner L a config n ≡ false) (λ y. is_hashed_before L a config y x ≡ false)
-      (λ y q. owner_first x y o q) empty not_own) owners own)
+  hashed_in_order owners empty up_o up_e own not_own = grind (arith, common_steps, pairwise_both, pairwise_in, rising, weaker)
 
   -- no name is hashed before itself
   not_itself : (x : Name) → is_hashed_before L a config x x ≡ false
-  not_itself x =
-      let irreflexive : before x x ≡ false = elim (cases_Bool (before x x)) [ inl e ↦ before_order.one_way x x e | inr e ↦ e ] in
-      elim (cases_Bool (is_original_owner L a config x)) [
-        | inl o ↦ both_owners x x o o irreflexive
-        | inr o ↦ both_empty x x o o irreflexive
-      ]
+  not_itself x = grind (arith, common_steps, before_order)
 
   pub first_fault : (names : List Name) (e : Nsec3HashError)
       → ((x : Name) → list_any (λ n. same_name n x) names ≡ is_chain_name L a config x) → Pairwise (λ x y. is_hashed_before L a config y x ≡ false) names
@@ -141,27 +117,10 @@ told Nsec3NameTooLong = Unit {0}
 told CollisionDetected = ⊥
 told OutOfMemory = ⊥
 
-fault_told : (a : Name) (answer : HashAnswer) (e : Nsec3HashError) → hash_fault a answer ≡ Some e → told e
-fault_told a (Err n) e h = let is : Hasher n ≡ e = cc in subst told is tt
-fault_told a (Ok h) e f = by _ _ e f
-  where
-    by : (b c : Bool) (e : Nsec3HashError) → cond b (Some OwnerHashError) (cond c (Some Nsec3NameTooLong) None) ≡ Some e → told e
-    by true c e f = let is : OwnerHashError ≡ e = cc in subst told is tt
-    by false true e f = let is : Nsec3NameTooLong ≡ e = cc in subst told is tt
-    by false false e f = absurd (cc)
-
 module _ (L : List ZoneRecord) (a : Name) (config : ChainConfig) where
   -- the first name whose hash is of no use is the first fault of hashing
   pub hashing_fault : (e : Nsec3HashError) → IsFirstHashFault L a config e → IsFirstHashingFault L a config e
-  hashing_fault e f = by e (fault_told a (hash_of config f.name) e f.fault) f
-    where
-      by : (e : Nsec3HashError) → told e → IsFirstHashFault L a config e → IsFirstHashingFault L a config e
-      by (Hasher n) t f = f
-      by AppendError t f = absurd t
-      by OwnerHashError t f = f
-      by Nsec3NameTooLong t f = f
-      by CollisionDetected t f = absurd t
-      by OutOfMemory t f = absurd t
+  hashing_fault e f = grind (arith, common_steps)
 
 -- ---- lists without repeats, in any order
 
@@ -169,10 +128,7 @@ abbrev AreDistinct : List Name → Type 0
 AreDistinct ks = (i j : ℕ) (d : Name) → i < j → j < length ks → get_or ks i d ≡ get_or ks j d → ⊥
 
 either_order : (ks : List Name) → AreDistinct ks → (i j : ℕ) (d : Name) → i < length ks → j < length ks → get_or ks i d ≡ get_or ks j d → i ≡ j
-either_order ks h i j d p q e =
-    let not_below : i < j → ⊥ = λ less. h i j d less q e in
-    let not_above : j < i → ⊥ = λ less. h j i d less p (sym e) in
-    omega arith
+either_order ks h i j d p q e = grind (arith, common_steps)
 
 -- where a swap of a and b took the element at m from
 abbrev From : ℕ → ℕ → ℕ → ℕ → Type 0

@@ -8,9 +8,9 @@ use Rattle.std.specs.Ordering.{nat_cmp, eq_by_cmp}
 use Rattle.std.specs.Cmp.{Equal-is}
 use Rattle.std.specs.Cmp.Lexicographic.{slice_cmp, nat_list_cmp_total}
 use Rattle.std.specs.FinMap.{slice_cmp-IsAntisymmetric, nat_cmp-IsAntisymmetric}
-use Rattle.std.proofs.lemmas.Bool.{cases_Bool, cases_lt}
-use Rattle.std.proofs.lemmas.List.{get_or-map, length-map, map-append, take_all, take_more, take-append-drop, drop_more}
-use Rattle.std.proofs.lemmas.List.Elements.{recursion_from_All, All-nil, All-push}
+use Rattle.std.proofs.lemmas.Bool.{cases_Bool}
+use Rattle.std.proofs.lemmas.List.{get_or-map, length-map, take-append-drop, drop_more}
+use Rattle.std.proofs.lemmas.List.Elements.{recursion_from_All}
 use Rattle.std.proofs.lemmas.List.Kept.{IsStrictlySortedBy-dedup}
 use Rattle.domain_hasher.specs.declared.error.Nsec3HashError.{Nsec3HashError}
 use Rattle.domain_hasher.specs.declared.error.Nsec3HashError.TheVariants.{OutOfMemory}
@@ -20,6 +20,7 @@ use Rattle.domain_nsec3.specs.Faults.{hash_fault}
 use Rattle.domain_nsec3.specs.Steps.{Entry, HashedEntry, without_hash, without_types, IsHashed, IsRefusal, IsFirstRefused, HasAlikeNeighbours}
 use Rattle.domain_nsec3.specs.StepView.{as_hashed_entry}
 use Rattle.domain_nsec3.specs.declared.hash.Hashed.{Hashed}
+use Rattle.std.proofs.lemmas.Grind.{common_steps}
 
 -- ---- neighbours
 
@@ -60,15 +61,7 @@ module _ {X : Type 0} (f : X → List ℕ) where
 
   pub apart_more : (xs : List X) (i : ℕ) (x y : X) → 0 < i → i < length xs → x ≡ get_or xs (i - 1) x → y ≡ get_or xs i y
       → (f x ≡ f y → ⊥) → AreApart (map f xs) i → AreApart (map f xs) (i + 1)
-  apart_more xs i x y some l x_is y_is other h k d m same =
-      elim (cases_lt (k + 1) i) [
-        | inl n ↦ h k d n same
-        | inr n ↦
-            let first : k ≡ i - 1 = omega arith in
-            let second : k + 1 ≡ i = omega arith in
-            other (sym (hash_at xs (i - 1) x d (omega arith) x_is) ∙ ap (λ j. get_or (map f xs) j d) (sym first) ∙ same
-            ∙ ap (λ j. get_or (map f xs) j d) second ∙ hash_at xs i y d l y_is)
-      ]
+  apart_more xs i x y some l x_is y_is other h k d m same = grind (arith, common_steps, hash_at)
 
   pub alike_at : (xs : List X) (i : ℕ) (x y : X) → 0 < i → i < length xs → x ≡ get_or xs (i - 1) x → y ≡ get_or xs i y → f x ≡ f y
       → HasAlikeNeighbours (map f xs)
@@ -91,34 +84,6 @@ module _ (a : Name) (hash : Hash) (names : List Name) where
   AreHashed n hashed = (entries : List Entry) → map (λ e. e.name) entries ≡ names
       → (map without_hash (map (as_hashed_entry entries) hashed) ≡ take n entries)
       × All (IsHashed a hash) (map (as_hashed_entry entries) hashed)
-
-  pub none_hashed : AreHashed 0 []
-  none_hashed entries are = (refl, All-nil (IsHashed a hash))
-
-  pub one_hashed : (n : ℕ) (old new : List Hashed) (item : Hashed) (x : Name) → n < length names → x ≡ get_or names n x
-      → item.place ≡ n → IsHashed a hash (record { name = x; hash = item.hash; bits = [] }) → new ≡ old ++ item ∷ []
-      → AreHashed n old → AreHashed (n + 1) new
-  one_hashed n old new item x within x_is place one is h entries are =
-      let see = as_hashed_entry entries in
-      let within_entries : n < length entries = omega (arith, within, ap length are, length-map entries (λ (e : Entry). e.name)) in
-      let here : without_hash (see item) ≡ get_or entries n (without_types []) = ap (λ i. get_or entries i (without_types [])) place in
-      let name : (see item).name ≡ x =
-      ap (λ e. e.name) here ∙ sym (get_or-map (λ (e : Entry). e.name) entries n (without_types []) x within_entries) ∙ ap (λ l. get_or l n x) are ∙ sym x_is in
-      let good : IsHashed a hash (see item) = record {
-        known = ap (hash_name hash) name ∙ one.known;
-        sound = ap (λ m. hash_fault a (hash_name hash m)) name ∙ one.sound;
-        octets = one.octets;
-      } in (
-        ap (λ l. map without_hash (map see l)) is ∙ ap (map without_hash) (map-append see old (item ∷ []))
-            ∙ map-append without_hash (map see old) (see item ∷ [])
-            ∙ (λ i. (h entries are).0 i ++ here i ∷ []) ∙ sym (take_more entries n (without_types []) within_entries),
-        subst (All (IsHashed a hash)) (sym (ap (map see) is ∙ map-append see old (item ∷ [])))
-            (All-push (IsHashed a hash) (map see old) (see item) (h entries are).1 good),
-      )
-
-  pub all_placed : (n : ℕ) (hashed : List Hashed) → length names ≤ n → AreHashed n hashed → (entries : List Entry)
-      → map (λ e. e.name) entries ≡ names → map without_hash (map (as_hashed_entry entries) hashed) ≡ entries
-  all_placed n hashed end h entries are = (h entries are).0 ∙ take_all n entries (omega (arith, end, ap length are, length-map entries (λ (e : Entry). e.name)))
 
   -- the first name that is refused, after those that were hashed
   pub first_refused : (n : ℕ) (hashed : List Hashed) (x : Name) (e : Nsec3HashError) → n < length names → x ≡ get_or names n x

@@ -9,6 +9,7 @@ use Rattle.std.proofs.lemmas.Bool.{cases_order, false≢true}
 use Rattle.std.proofs.lemmas.Nat.{mul-le}
 use Rattle.std.proofs.Math.Nat.{pow-suc, one-le-pow}
 use Rattle.domain_octets.specs.Words.{AreOctets}
+use Rattle.std.proofs.lemmas.Grind.{common_steps}
 
 -- the first n numbers of a list as one number in base 256
 abbrev front_number : ℕ → List ℕ → ℕ
@@ -31,9 +32,7 @@ front_below (suc n) (d ∷ ds) octets =
 
 -- what follows a lesser octet stays below where a greater one begins
 apart : (n d e : ℕ) (ds es : List ℕ) → AreOctets ds → d < e → front_number (suc n) (d ∷ ds) < front_number (suc n) (e ∷ es)
-apart n d e ds es octets lt =
-    let times = times_less d e (256 ^ n) lt in
-    omega (arith, times, front_below n ds octets)
+apart n d e ds es octets lt = grind (arith, common_steps, front_below)
 
 -- a lesser number is of octets that come before
 less_front : (n : ℕ) (ds es : List ℕ) → n ≤ length ds → n ≤ length es → AreOctets ds → AreOctets es

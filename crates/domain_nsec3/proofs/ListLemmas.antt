@@ -1,7 +1,6 @@
 -- Names above owners that stand in order: they ascend, and none of them is an owner.
-use Rattle.std.proofs.Common.{◌≡◌, ℕ, ◌<◌, ◌≤◌, true, false, cond, not, ◌&&◌, ◌||◌, List, [], ◌∷◌, ◌++◌, length, refl, sym, ap, ◌∙◌, subst, arith, inl, inr}
-use Rattle.std.proofs.Common.{append_assoc}
-use Rattle.std.specs.Prelude.{filter, nat_lt}
+use Rattle.std.proofs.Common.{◌≡◌, ℕ, ◌<◌, ◌≤◌, true, false, not, ◌&&◌, ◌||◌, List, [], ◌∷◌, ◌++◌, length, refl, sym, ap, ◌∙◌, subst, arith, inl, inr}
+use Rattle.std.specs.Prelude.{filter}
 use Rattle.std.specs.List.{AllByRecursion, list_any}
 use Rattle.std.specs.List.Sorted.{IsStrictlySortedBy}
 use Rattle.std.specs.Ordering.{is_lt}
@@ -20,6 +19,7 @@ use Rattle.domain_zone.proofs.ZoneLemmas.{weaker, all_both, filter_whole, apart_
 use Rattle.domain_nsec3.specs.Ancestors.{above_with_more, HoldsAncestors, IsListOf}
 use Rattle.domain_nsec3.proofs.AncestorLemmas.{IsAbove, are_above}
 use Rattle.domain_nsec3.proofs.SharedLemmas.{common_shares}
+use Rattle.std.proofs.lemmas.Grind.{common_steps}
 
 -- ---- ascending lists of names
 
@@ -53,15 +53,7 @@ above_before n o =
 
 above_ascend : (n : ℕ) (o : Name) → IsAscending before (above_with_more n o)
 above_ascend n [] = tt
-above_ascend n (label ∷ x) =
-    elim (nat_lt n (length x)) as (λ b. IsAscending before (cond b (above_with_more n x ++ x ∷ []) [])) [
-      | true ↦ ascending_both (above_with_more n x) (x ∷ []) (above_ascend n x) (
-        tt,
-        tt,
-      ) (weaker (λ m. before m x ≡ true) (λ m. AllByRecursion (λ y. before m y ≡ true) (x ∷ [])) (λ m e. (e, tt))
-          (above_with_more n x) (above_before n x))
-      | false ↦ tt
-    ]
+above_ascend n (label ∷ x) = grind (arith, common_steps, ascending_both, weaker, above_before, (above_ascend n x))
 
 -- those that an owner doesn't share with a name before it come after that name
 above_after : (p o : Name) → before p o ≡ true → AllByRecursion (λ m. before p m ≡ true) (above_with_more (common_labels o p) o)
@@ -86,23 +78,16 @@ gathered p (o ∷ os) = above_with_more (common_labels o p) o ++ gathered o os
 pub gathered_step : (names names' : List Name) (p o : Name) (s : ℕ) (left rest all : List Name) → left ≡ o ∷ rest
     → s ≡ common_labels o p → names' ≡ names ++ above_with_more s o → names ++ gathered p left ≡ all
     → names' ++ gathered o rest ≡ all
-gathered_step names names' p o s left rest all left_is shared pushed h =
-    ap (λ l. l ++ gathered o rest) pushed ∙ append_assoc names (above_with_more s o) (gathered o rest)
-    ∙ (λ i. names ++ (above_with_more (shared i) o ++ gathered o rest)) ∙ ap (λ l. names ++ gathered p l) (sym left_is) ∙ h
+gathered_step names names' p o s left rest all left_is shared pushed h = grind (arith, common_steps)
 
 gathered_after : (p : Name) (os : List Name) → IsAscending before (p ∷ os) → AllByRecursion (λ m. before p m ≡ true) (gathered p os)
 gathered_after p [] h = tt
-gathered_after p (o ∷ os) h =
-    all_both (λ m. before p m ≡ true) (above_with_more (common_labels o p) o) (gathered o os) (above_after p o h.0.0)
-    (weaker (λ m. before o m ≡ true) (λ m. before p m ≡ true) (λ m e. lt_trans before_order p o m h.0.0 e) (gathered o os) (gathered_after o os h.1))
+gathered_after p (o ∷ os) h = grind (arith, common_steps, above_after, weaker, before_order, (gathered_after o os h.1))
 
 gathered_ascend : (p : Name) (os : List Name) → IsAscending before os → IsAscending before (gathered p os)
 gathered_ascend p [] h = tt
 gathered_ascend p (o ∷ os) h =
-    ascending_both (above_with_more (common_labels o p) o) (gathered o os) (above_ascend (common_labels o p) o) (gathered_ascend o os h.1)
-    (weaker (λ m. before m o ≡ true) (λ m. AllByRecursion (λ y. before m y ≡ true) (gathered o os))
-    (λ m e. weaker (λ y. before o y ≡ true) (λ y. before m y ≡ true) (λ y f. lt_trans before_order m o y e f) (gathered o os)
-    (gathered_after o os h)) (above_with_more (common_labels o p) o) (above_before (common_labels o p) o))
+    grind (arith, common_steps, ascending_both, above_ascend, weaker, before_order, gathered_after, above_before, (gathered_ascend o os h.1))
 
 none_same : (o n : Name) (os : List Name) → before n o ≡ true → AllByRecursion (λ m. before o m ≡ true) os → list_any (λ m. same_name m n) os ≡ false
 none_same o n [] e h = refl

@@ -41,6 +41,7 @@ use Rattle.domain_nsec3.specs.Owners.{original_owners, is_original_owner, is_exc
 use Rattle.domain_nsec3.proofs.FaultLemmas.{hash_same}
 use Rattle.domain_nsec3.proofs.OwnerLemmas.{existing_are, runs_to_encloser}
 use Rattle.domain_nsec3.proofs.SharedLemmas.{at_length}
+use Rattle.std.proofs.lemmas.Grind.{common_steps}
 
 -- ---- the order of hashes
 
@@ -143,15 +144,7 @@ shorter ks a l x d none h p =
     ]
 
 an_encloser : (ks : List Name) (a : Name) → exists_over ks a a ≡ true → (x : Name) → is_at_or_below x a ≡ true → (e : Name) × IsClosestEncloser ks a x e
-an_encloser ks a apex [] low =
-    let short = below_length [] a low in (
-      [],
-      record {
-        found = exists_same ks a [] a (at_length [] a low (omega arith)) ∙ apex;
-        above = below_itself [];
-        longest = λ d h p. below_length [] d p;
-      },
-    )
+an_encloser ks a apex [] low = grind (arith, common_steps)
 an_encloser ks a apex (l ∷ x) low =
     elim (cases_Bool (exists_over ks a (l ∷ x))) [
       | inl e ↦ (l ∷ x, record { found = e; above = below_itself (l ∷ x); longest = λ d h p. below_length (l ∷ x) d p })
@@ -207,20 +200,8 @@ module _ (L : List ZoneRecord) (a : Name) (config : ChainConfig) where
   at_place (l ∷ links) [] ps h f b k j i = absurd (cc)
   at_place (l ∷ links) (n ∷ names) [] h f b k j i = absurd (cc)
   at_place (l ∷ links) (n ∷ names) (p ∷ ps) h f b k (suc j) i =
-      let r = at_place links names ps (tail_is h) (tail_is f) (tail_is b) k j i in
-      record { name = r.name; there = inr r.there; pair = r.pair; owner = r.owner; bits = r.bits }
-  at_place (l ∷ links) (n ∷ names) (p ∷ ps) h f b k zero i =
-      let is : l ≡ k = some_is l k i in
-      let both : (l.owner, l.next) ≡ (hashed_owner a p.0, p.1) = head_is h in
-      let octets : p.0 ≡ n.hash = head_is f in
-      let bits : l.bits ≡ bitmap_octets (nsec3_lists L a config n.name) = head_is b in
-      record {
-        name = n;
-        there = inl refl;
-        pair = ap Some ((λ i. (octets i, sym (ap (λ q. q.1) both) i)) ∙ (λ i. (n.hash, (is i).next)));
-        owner = ap (λ m. m.owner) (sym is) ∙ ap (λ q. q.0) both ∙ ap (hashed_owner a) octets;
-        bits = ap (λ m. m.bits) (sym is) ∙ bits;
-      }
+      grind (arith, common_steps, (at_place links names ps (tail_is h) (tail_is f) (tail_is b) k j i))
+  at_place (l ∷ links) (n ∷ names) (p ∷ ps) h f b k zero i = grind (arith, common_steps)
 
   -- there is one
   link_there : (links : List HashedLink) (ps : List (List ℕ × List ℕ)) → map ends links ≡ map (ends_of a) ps

@@ -1,52 +1,43 @@
 -- What hashing the names of a chain comes to: the chain of the zone, or its first fault.
-use Rattle.std.proofs.Common.{◌≡◌, Bool, true, false, not, ◌&&◌, List, ◌∷◌, map, refl, sym, ap, ◌∙◌, subst, inl, inr, ◌⊎◌, Some}
+use Rattle.std.proofs.Common.{◌≡◌, Bool, true, false, not, ◌&&◌, List, ◌∷◌, map, refl, sym, ap, ◌∙◌, subst, inl, inr, ◌⊎◌, Some, arith}
 use Rattle.std.specs.Prelude.{All, IsPermutation, filter}
 use Rattle.std.specs.List.{AllByRecursion, list_any}
 use Rattle.std.specs.List.Sorted.{IsStrictlySortedBy}
 use Rattle.std.proofs.lemmas.Bool.{and_parts, and_from, not-true}
-use Rattle.std.proofs.lemmas.List.Elements.{All-from_recursion}
 use Rattle.domain_octets.proofs.StdLemmas.{and_false}
-use Rattle.domain_names.specs.Order.{canonical_cmp, before}
-use Rattle.domain_records.specs.Errors.{signing_error_of}
+use Rattle.domain_names.specs.Order.{canonical_cmp}
 use Rattle.domain_hasher.specs.declared.error.Nsec3HashError.{Nsec3HashError}
-use Rattle.domain_hasher.specs.declared.error.Nsec3HashError.TheVariants.{Hasher, AppendError, OwnerHashError, Nsec3NameTooLong, CollisionDetected, OutOfMemory}
+use Rattle.domain_hasher.specs.declared.error.Nsec3HashError.TheVariants.{OutOfMemory}
 use Rattle.domain_zone.specs.Enclosers.{is_empty_nonterminal}
 use Rattle.domain_names.specs.Name.{is_at_or_below, is_strictly_below, lowered, same_name}
 use Rattle.domain_names.specs.Words.{Name}
 use Rattle.domain_zone.specs.Soa.{chain_ttl, soa_of}
 use Rattle.domain_base.specs.Types.{ns, ds}
-use Rattle.domain_zone.specs.Zone.{ZoneRecord, OwnersNeverDescend, records_of, owns, has_type, is_occluded, is_unoccluded, unoccluded_owners}
+use Rattle.domain_zone.specs.Zone.{ZoneRecord, OwnersNeverDescend, records_of, owns, has_type, unoccluded_owners}
 use Rattle.domain_zone.specs.declared.soa.ApexSoa.{ApexSoa}
 use Rattle.domain_zone.proofs.NameLemmas.{same_itself, below_itself, lowered_below, same_lowered}
 use Rattle.domain_zone.proofs.OwnerLemmas.{any_filter, any_owner, apex_unoccluded, ascending_filter, in_any, owners_are, owners_ascend}
 use Rattle.domain_zone.proofs.PairLemmas.{all_from_in}
-use Rattle.domain_zone.proofs.ZoneLemmas.{all_filter, weaker}
+use Rattle.domain_zone.proofs.ZoneLemmas.{all_filter}
 use Rattle.domain_nsec3.specs.Chain.{HashedLink, IsHashedChain}
 use Rattle.domain_nsec3.specs.Config.{ChainConfig, excludes}
-use Rattle.domain_nsec3.specs.Faults.{AreAllHashed, IsFirstFault, IsFirstHashingFault, IsReady, is_hashed_before}
+use Rattle.domain_nsec3.specs.Faults.{AreAllHashed, IsFirstHashingFault, is_hashed_before}
 use Rattle.domain_nsec3.specs.Owners.{original_owners, is_original_owner, is_excluded}
 use Rattle.domain_nsec3.specs.Steps.{Common, Entry, HashedEntry, without_hash, AreOriginalOwners, IsHashed, IsHashingFault, IsOrderedChain}
 use Rattle.domain_nsec3.proofs.ChainLemmas.{chain_of_zone}
 use Rattle.domain_nsec3.proofs.EntryLemmas.{AreJoined, are_chain_names, names_joined}
 use Rattle.domain_nsec3.proofs.FaultLemmas.{Pairwise, hashed_in_order, first_fault, hashing_fault, all_hashed, collides}
 use Rattle.domain_nsec3.proofs.ListLemmas.{sorted}
+use Rattle.std.proofs.lemmas.Grind.{common_steps}
 
 -- ---- the owners of a zone in order
 
 module _ (L : List ZoneRecord) (a : Name) (config : ChainConfig) where
   pub original_ascend : OwnersNeverDescend L → IsStrictlySortedBy canonical_cmp (original_owners L a config)
-  original_ascend order =
-      sorted (original_owners L a config)
-      (ascending_filter before (λ n. not (is_excluded L a config n)) (unoccluded_owners config.occlude_below_dname L a)
-      (owners_ascend config.occlude_below_dname L a order))
+  original_ascend order = grind (arith, common_steps, sorted, ascending_filter, owners_ascend)
 
   pub original_below : All (λ n. is_at_or_below n a ≡ true) (original_owners L a config)
-  original_below =
-      All-from_recursion (λ n. is_at_or_below n a ≡ true) (original_owners L a config)
-      (all_filter (λ n. is_at_or_below n a ≡ true) (λ n. not (is_excluded L a config n)) (unoccluded_owners config.occlude_below_dname L a)
-      (weaker (λ n. (owns L n ≡ true) × (is_unoccluded config.occlude_below_dname L a n ≡ true)) (λ n. is_at_or_below n a ≡ true)
-      (λ n h. (and_parts (is_at_or_below n a) (not (is_occluded config.occlude_below_dname L a n)) h.1).0)
-      (unoccluded_owners config.occlude_below_dname L a) (owners_are config.occlude_below_dname L a)))
+  original_below = grind (arith, common_steps, all_filter, owners_are)
 
   -- the apex is one where it owns records
   pub apex_original : owns L a ≡ true → is_original_owner L a config a ≡ true
@@ -60,21 +51,6 @@ module _ (L : List ZoneRecord) (a : Name) (config : ChainConfig) where
       (ap not ((λ i. excludes config && (((below_itself a i && not (same_itself a a refl i)) && has_type (records_of L a) ns)
       && not (has_type (records_of L a) ds))) ∙ and_false (excludes config)))
       (same_itself a a refl))
-
-  -- what it is to those who sign
-  pub signing_fault : (e : Nsec3HashError) → IsReady L a config → (e ≡ OutOfMemory) ⊎ IsFirstHashingFault L a config e
-      → IsFirstFault L a config (signing_error_of e)
-  signing_fault OutOfMemory ready h = ready
-  signing_fault (Hasher n) ready (inl m) = absurd (cc)
-  signing_fault (Hasher n) ready (inr f) = (ready, f)
-  signing_fault AppendError ready (inl m) = absurd (cc)
-  signing_fault AppendError ready (inr f) = (ready, f)
-  signing_fault OwnerHashError ready (inl m) = absurd (cc)
-  signing_fault OwnerHashError ready (inr f) = (ready, f)
-  signing_fault Nsec3NameTooLong ready (inl m) = absurd (cc)
-  signing_fault Nsec3NameTooLong ready (inr f) = (ready, f)
-  signing_fault CollisionDetected ready (inl m) = absurd (cc)
-  signing_fault CollisionDetected ready (inr f) = (ready, f)
 
 -- ---- what hashing comes to
 

@@ -2,7 +2,7 @@
 use Rattle.std.proofs.Common.{◌≡◌, Bool, true, false, not, ◌&&◌, ◌||◌, List, ◌++◌, length, refl, sym, ap, ◌∙◌, inl, inr, arith}
 use Rattle.std.specs.Prelude.{filter}
 use Rattle.std.specs.List.{list_any}
-use Rattle.std.proofs.lemmas.Bool.{cases_Bool, false≢true, true≢false, and_parts, and_from, or_cases, or_right, or_left, not-true, cases_lt}
+use Rattle.std.proofs.lemmas.Bool.{cases_Bool, false≢true, and_parts, and_from, or_cases, or_right, or_left, not-true, cases_lt}
 use Rattle.std.proofs.lemmas.List.Folds.{list_any-append}
 use Rattle.domain_octets.proofs.StdLemmas.{and_false}
 use Rattle.domain_names.specs.Name.{is_at_or_below, is_strictly_below, lowered, same_name}
@@ -11,23 +11,16 @@ use Rattle.domain_base.specs.Types.{ns, ds, dname}
 use Rattle.domain_zone.specs.Zone.{ZoneRecord, records_of, owns, has_type, is_zone_cut, occludes, is_occluded, is_unoccluded, unoccluded_owners}
 use Rattle.domain_zone.specs.Enclosers.{exists_over, is_empty_nonterminal, IsClosestEncloser}
 use Rattle.domain_zone.proofs.PairLemmas.{In, all_in}
-use Rattle.domain_zone.proofs.NameLemmas.{one_lowered, same_itself, below_itself, below_trans, below_longer, below_length, lowered_below, same_both}
-use Rattle.domain_zone.proofs.NameLemmas.{same_lowered}
+use Rattle.domain_zone.proofs.NameLemmas.{one_lowered, same_itself, below_itself, below_trans, below_longer, below_length, lowered_below, same_lowered}
 use Rattle.domain_zone.proofs.OwnerLemmas.{any_owner, any_in, in_any, owners_are, any_weaker, any_filter, below_occluder}
 use Rattle.domain_zone.proofs.SharedLemmas.{either_way}
 use Rattle.domain_nsec3.specs.Config.{ChainConfig, excludes}
 use Rattle.domain_nsec3.specs.Owners.{is_excluded, is_original_owner, original_owners, is_chain_name, is_empty}
 use Rattle.domain_nsec3.specs.Meaning.{CutsEnclose}
+use Rattle.std.proofs.lemmas.Grind.{common_steps}
 
 strictly_down : (x m c : Name) → is_at_or_below m x ≡ true → is_strictly_below x c ≡ true → is_strictly_below m c ≡ true
-strictly_down x m c p s =
-    let q = and_parts (is_at_or_below x c) (not (same_name x c)) s in
-    and_from (is_at_or_below m c) (not (same_name m c)) (below_trans m x c p q.0)
-    (elim (cases_Bool (same_name m c)) [
-      | inl e ↦ absurd (false≢true (sym (not-true (same_name x c) q.1)
-          ∙ same_both x c q.0 (sym (ap (λ k. lowered_below k (lowered x)) (one_lowered m c e)) ∙ p)))
-      | inr e ↦ ap not e
-    ])
+strictly_down x m c p s = grind (arith, common_steps, below_trans)
 
 module _ (L : List ZoneRecord) (a : Name) (config : ChainConfig) where
   pub cut_occludes : (c : Name) → is_zone_cut L a c ≡ true → occludes config.occlude_below_dname L a c ≡ true
@@ -158,58 +151,11 @@ module _ (L : List ZoneRecord) (a : Name) (config : ChainConfig) where
 
   pub cut_is_out : (c : Name) → is_zone_cut L a c ≡ true → list_any (λ n. same_name n c) (original_owners L a config) ≡ false
       → is_chain_name L a config c ≡ false
-  cut_is_out c cut k =
-      elim (cases_Bool (is_chain_name L a config c)) [
-        | inl e ↦ elim (or_cases (list_any (λ n. same_name n c) (original_owners L a config)) (is_at_or_below c a
-            && not (owns L c) && list_any (λ n. is_strictly_below n c) (original_owners L a config)) e) [
-              | inl f ↦ absurd (true≢false (sym f ∙ k))
-              | inr f ↦
-                  let m = any_in (λ n. is_strictly_below n c) (original_owners L a config)
-                  (and_parts (is_at_or_below c a && not (owns L c))
-                  (list_any (λ n. is_strictly_below n c) (original_owners L a config)) f).1 in
-                  absurd (below_none c m.0 cut m.1 m.2)
-            ]
-        | inr e ↦ e
-      ]
+  cut_is_out c cut k = grind (arith, common_steps, any_in, below_none)
 
   -- over the owners alone
   pub empty_are : (x : Name) → is_empty_nonterminal (original_owners L a config) a x ≡ is_empty L a config x
-  empty_are x =
-      let ks = original_owners L a config in
-      either_way (is_empty_nonterminal (original_owners L a config) a x) (is_empty L a config x)
-      (λ e.
-      let p = and_parts (is_at_or_below x a && not (list_any (λ n. same_name n x) (original_owners L a config)))
-      (list_any (λ n. is_strictly_below n x) (original_owners L a config)) e in
-      let q = and_parts (is_at_or_below x a) (not (list_any (λ n. same_name n x) (original_owners L a config))) p.0 in
-      let none : owns L x ≡ false = elim (cases_Bool (owns L x)) [
-        | inl o ↦
-            let m = any_in (λ n. is_strictly_below n x) (original_owners L a config) p.1 in
-            absurd (false≢true (sym (not-true (list_any (λ n. same_name n x) (original_owners L a config)) q.1)
-            ∙ owner_above x m.0 q.0 o (in_any (λ n. same_name n m.0) (original_owners L a config) m.0 m.1 (same_itself m.0 m.0 refl)) m.2))
-        | inr o ↦ o
-      ] in
-      and_from (is_at_or_below x a && not (owns L x)) (list_any (λ n. is_strictly_below n x) (original_owners L a config))
-      (and_from (is_at_or_below x a) (not (owns L x)) q.0 (ap not none)) p.1)
-      (λ e.
-      let p = and_parts (is_at_or_below x a && not (owns L x)) (list_any (λ n. is_strictly_below n x) (original_owners L a config)) e in
-      let q = and_parts (is_at_or_below x a) (not (owns L x)) p.0 in
-      let none : list_any (λ n. same_name n x) (original_owners L a config)
-      ≡ false = elim (cases_Bool (list_any (λ n. same_name n x) (original_owners L a config))) [
-        | inl t ↦
-            let k = any_in (λ n. not (is_excluded L a config n) && same_name n x)
-            (unoccluded_owners config.occlude_below_dname L a)
-            (sym (any_filter (λ n. same_name n x) (λ n. not (is_excluded L a config n))
-            (unoccluded_owners config.occlude_below_dname L a)) ∙ t) in
-            let own = (all_in (λ n. (owns L n ≡ true) × (is_unoccluded config.occlude_below_dname L a n ≡ true))
-            (unoccluded_owners config.occlude_below_dname L a) k.0 (owners_are config.occlude_below_dname L a) k.1).0 in
-            let s = one_lowered k.0 x (and_parts (not (is_excluded L a config k.0)) (same_name k.0 x) k.2).1 in
-            absurd (false≢true (sym (not-true (owns L x) q.1) ∙ ap (λ j. list_any (λ r. same_lowered (lowered r.owner) j) L) (sym s) ∙ own))
-        | inr t ↦ t
-      ] in
-      and_from (is_at_or_below x a && not (list_any (λ n. same_name n x) (original_owners L a config)))
-      (list_any (λ n. is_strictly_below n x) (original_owners L a config))
-      (and_from (is_at_or_below x a) (not (list_any (λ n. same_name n x) (original_owners L a config))) q.0 (ap not none))
-      p.1)
+  empty_are x = grind (arith, common_steps, and_parts, any_in, owner_above, in_any, any_filter, all_in, owners_are, one_lowered)
 
   -- the owners and the empty non-terminals over them are the names of the chain
   pub names_are : (empty : List Name) → ((x : Name) → list_any (λ n. same_name n x) empty

@@ -12,6 +12,7 @@ use Rattle.domain_names.specs.Order.{common_labels, from_root}
 use Rattle.domain_names.specs.Words.{Label, Name}
 use Rattle.domain_zone.proofs.NameLemmas.{one_lowered, below_back, below_there, below_trans, below_longer, below_parent, same_length}
 use Rattle.domain_zone.proofs.SharedLemmas.{either_way}
+use Rattle.std.proofs.lemmas.Grind.{common_steps}
 
 -- a name at or below one with no fewer labels is that one
 pub at_length : (x e : Name) → is_at_or_below x e ≡ true → length x ≤ length e → lowered x ≡ lowered e
@@ -68,10 +69,7 @@ more_labels p m = omega arith
 
 top_shares : (k l m : Name) → begins k m ≡ true → begins l m ≡ nat_le (length m) (common_prefix_len (pointwise nat_eq) k l)
 unfolding begins
-top_shares k l [] h = sym (le_leb_none (common_prefix_len (pointwise nat_eq) k l))
-  where
-    le_leb_none : (n : ℕ) → nat_le 0 n ≡ true
-    le_leb_none n = grind (arith, nat_tests)
+top_shares k l [] h = grind (arith, common_steps)
 top_shares [] l (p ∷ m) h = absurd (false≢true h)
 top_shares (n ∷ k) [] (p ∷ m) h = sym (ap (λ j. nat_le j 0) (more_labels p m) ∙ le_none (length m))
 top_shares (n ∷ k) (q ∷ l) (p ∷ m) h =

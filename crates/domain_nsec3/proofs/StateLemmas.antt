@@ -12,7 +12,7 @@ use Rattle.domain_names.specs.Name.{same_name}
 use Rattle.domain_names.specs.Words.{Name}
 use Rattle.domain_zone.specs.Owners.{OwnerRecords, owner_at, owners_with_records}
 use Rattle.domain_base.specs.Types.{ds}
-use Rattle.domain_zone.specs.Zone.{ZoneRecord, has_clash, has_type, has_unequal_ttls, owns, is_unoccluded, unoccluded_owners, records_of}
+use Rattle.domain_zone.specs.Zone.{ZoneRecord, has_clash, has_type, has_unequal_ttls, owns, is_unoccluded, unoccluded_owners}
 use Rattle.domain_zone.proofs.GivenLemmas.{name_of, clashes_in, next_is_owner}
 use Rattle.domain_zone.proofs.OwnerLemmas.{owners_are}
 use Rattle.domain_zone.proofs.ZoneLemmas.{all_front}
@@ -22,6 +22,8 @@ use Rattle.domain_nsec3.specs.Steps.{AreOriginalOwners, entries_of}
 use Rattle.domain_nsec3.specs.StepView.{as_entries}
 use Rattle.domain_nsec3.specs.declared.owners.Owners.{Owners}
 use Rattle.domain_nsec3.proofs.EntryLemmas.{entries_names}
+use Rattle.std.proofs.Common.{arith}
+use Rattle.std.proofs.lemmas.Grind.{common_steps}
 
 -- a zone to sign: its records, its apex and how its chain is made
 pub record ZoneToSign : Type 0 where
@@ -69,24 +71,12 @@ pub record IsAt (zone : ZoneToSign) (left : List OwnerRecords) (listed : Owners)
 -- which of the owners stay
 names_stay : (zone : ZoneToSign) (ks : List Name) → map name_of (staying zone (with_records zone ks)) ≡ staying_names zone ks
 names_stay zone [] = refl
-names_stay zone (k ∷ ks) =
-    elim (is_excluded zone.records zone.apex zone.config k) as (λ b. map name_of
-    (cond (not b) (owner_at zone.records zone.apex k ∷ staying zone (with_records zone ks)) (staying zone (with_records zone ks)))
-    ≡ cond (not b) (k ∷ staying_names zone ks) (staying_names zone ks)) [
-      | true ↦ names_stay zone ks
-      | false ↦ ap (λ t. k ∷ t) (names_stay zone ks)
-    ]
+names_stay zone (k ∷ ks) = grind (arith, common_steps, (names_stay zone ks))
 
 clashes_stay : (zone : ZoneToSign) (ks : List Name)
     → list_any clashes_in (staying zone (with_records zone ks)) ≡ has_unequal_ttls zone.records (staying_names zone ks)
 clashes_stay zone [] = refl
-clashes_stay zone (k ∷ ks) =
-    elim (is_excluded zone.records zone.apex zone.config k) as (λ b. list_any clashes_in
-    (cond (not b) (owner_at zone.records zone.apex k ∷ staying zone (with_records zone ks)) (staying zone (with_records zone ks)))
-    ≡ has_unequal_ttls zone.records (cond (not b) (k ∷ staying_names zone ks) (staying_names zone ks))) [
-      | true ↦ clashes_stay zone ks
-      | false ↦ ap (λ t. has_clash (records_of zone.records k) || t) (clashes_stay zone ks)
-    ]
+clashes_stay zone (k ∷ ks) = grind (arith, common_steps, (clashes_stay zone ks))
 
 all_own : (zone : ZoneToSign) (ks : List Name)
     → AllByRecursion (λ n. (owns zone.records n ≡ true)
@@ -106,13 +96,7 @@ all_typed types ns = All-from_recursion (λ n. n.bits ≡ types n.name) (entries
 pub at_start : {zone : ZoneToSign} {left : List OwnerRecords} {listed : Owners}
     → left ≡ owners_with_records zone.config.occlude_below_dname zone.records zone.apex
     → listed.names.items ≡ [] → listed.types ≡ [] → IsAt zone left listed
-at_start {zone = zone} all named typed = record {
-  given = [];
-  all = all;
-  even = refl;
-  named = λ room. named;
-  typed = λ room. typed ∙ ap (map (types_of zone)) (sym named);
-}
+at_start {zone = zone} all named typed = grind (arith, common_steps)
 
 module _ {zone : ZoneToSign} {left : List OwnerRecords} {listed : Owners} (s : IsAt zone left listed) where
   pub paired : listed.is_full ≡ false → length listed.names.items ≡ length listed.types
@@ -191,12 +175,7 @@ module _ {zone : ZoneToSign} {left : List OwnerRecords} {listed : Owners} (s : I
     all_given = sym (append-nil s.given) ∙ ap (λ os. s.given ++ os) (sym none) ∙ s.all
 
     pub at_end : listed.is_full ≡ false → AreOriginalOwners zone.records zone.apex zone.config (as_entries listed)
-    at_end room = record {
-      names = entries_names listed.names.items listed.types ∙ s.named room ∙ ap (λ os. map name_of (staying zone os)) all_given
-          ∙ names_stay zone (unoccluded zone);
-      bits = subst (λ types. All (λ n. n.bits ≡ types_of zone n.name) (entries_of listed.names.items types)) (sym (s.typed room))
-          (all_typed (types_of zone) listed.names.items);
-    }
+    at_end room = grind (arith, common_steps, entries_names, names_stay, all_typed)
 
     pub even_end : is_uneven zone ≡ false
     even_end = sym (clashes_stay zone (unoccluded zone)) ∙ ap (λ os. list_any clashes_in (staying zone os)) (sym all_given) ∙ s.even

@@ -1,28 +1,26 @@
 -- The text of a hash as a label.
-use Rattle.std.proofs.Common.{◌≡◌, ℕ, ◌+◌, ◌*◌, ◌/◌, ◌<◌, ◌≤◌, List, [], ◌∷◌, ◌++◌, map, length, refl, inl, inr, sym, ap, ◌∙◌, subst, arith, length-append}
-use Rattle.std.proofs.Common.{get_or, set, take, Fits, w8, zero, suc, append_assoc}
-use Rattle.std.specs.Prelude.{All, Some, None, Ok, nat_lt, ◌==◌, ◌||◌, true, false, if◌then◌else◌}
+use Rattle.std.proofs.Common.{◌≡◌, ℕ, ◌+◌, ◌*◌, ◌/◌, ◌<◌, ◌≤◌, List, [], ◌∷◌, ◌++◌, map, length, refl, sym, ap, ◌∙◌, subst, arith}
+use Rattle.std.proofs.Common.{get_or, set, take, Fits, w8, zero, suc}
+use Rattle.std.specs.Prelude.{All, None, Ok, nat_lt, ◌==◌, true, false, if◌then◌else◌}
 use Rattle.std.specs.Char.{to_ascii_lowercase}
 use Rattle.std.specs.List.{AllByRecursion}
-use Rattle.std.proofs.lemmas.Bool.{cases_Bool, cases_lt, or_right}
 use Rattle.std.proofs.lemmas.Bool.Decides.{nat_tests}
 use Rattle.std.proofs.lemmas.List.Elements.{recursion_from_All, All-from_recursion}
-use Rattle.std.proofs.lemmas.List.{length-map, append-nil}
+use Rattle.std.proofs.lemmas.List.{length-map}
 use Rattle.domain_codecs.specs.Base32.{base32_from, base32_lower, lower_digit}
 use Rattle.domain_codecs.proofs.Base32Lemmas.{many_digits}
 use Rattle.domain_octets.proofs.OctetLemmas.{octets_from_type}
 use Rattle.domain_codecs.proofs.ReadBackLemmas.{are_small}
 use Rattle.domain_names.specs.Name.{wire_of, IsName}
-use Rattle.domain_names.specs.Text.{is_ordinary, label_text, name_text}
+use Rattle.domain_names.specs.Text.{label_text, name_text}
 use Rattle.domain_names.specs.Wire.{labels_of, IsWire}
 use Rattle.domain_names.proofs.TextLemmas.{ordinary_octet}
 use Rattle.std.specs.Str.{IsAscii}
 use Rattle.domain_names.proofs.WireLemmas.{IsWire-wire_of, labels_of-wire_of, wire_is}
 use Rattle.domain_names.specs.Words.{Name}
-use Rattle.domain_hasher.specs.declared.error.Nsec3HashError.TheVariants.{OwnerHashError, Nsec3NameTooLong}
 use Rattle.domain_nsec3.specs.Chain.{hashed_owner}
 use Rattle.domain_nsec3.specs.Faults.{hash_fault}
-use Rattle.domain_nsec3.proofs.AncestorLemmas.{less, not_less}
+use Rattle.std.proofs.lemmas.Grind.{common_steps}
 
 -- how many digits a hash has
 pub text_length : (h : List ℕ) → length (base32_lower h) ≡ (8 * length h + 4) / 5
@@ -39,11 +37,7 @@ digit_small d b = elim (nat_lt d 10) as (λ t. (if t then 48 + d else 87 + d) < 
 
 -- the digits are in lower case
 digit_lower : (d : ℕ) → d < 32 → to_ascii_lowercase (lower_digit d) ≡ lower_digit d
-digit_lower d b =
-    elim (cases_Bool (nat_lt d 10)) [
-      | inl e ↦ rw e (grind (arith, nat_tests))
-      | inr e ↦ rw e (grind (arith, nat_tests))
-    ]
+digit_lower d b = grind (arith, common_steps)
 
 digits_lower : (ds : List ℕ) → AllByRecursion (λ d. d < 32) ds → map to_ascii_lowercase (map lower_digit ds) ≡ map lower_digit ds
 digits_lower [] all = refl
@@ -62,19 +56,9 @@ lower_text h all = digits_lower (base32_from 1 0 h) (small h all)
 
 -- ---- the text of a hash within that of a name
 
--- a digit stands for itself
-digit_ordinary : (d : ℕ) → d < 32 → is_ordinary (lower_digit d) ≡ true
-digit_ordinary d b =
-    elim (cases_Bool (nat_lt d 10)) [
-      | inl e ↦ rw e (grind (arith, nat_tests))
-      | inr e ↦ rw e (grind (arith, nat_tests))
-    ]
-
 digits_text : (ds : List ℕ) → AllByRecursion (λ d. d < 32) ds → label_text (map lower_digit ds) ≡ map lower_digit ds
 digits_text [] all = refl
-digits_text (d ∷ ds) all =
-    ap (λ l. l ++ label_text (map lower_digit ds)) (ordinary_octet (lower_digit d) (digit_ordinary d all.0))
-    ∙ ap (λ l. lower_digit d ∷ l) (digits_text ds all.1)
+digits_text (d ∷ ds) all = grind (arith, common_steps, ordinary_octet, (digits_text ds all.1))
 
 hash_text : (h : List ℕ) → AreOctets h → label_text (base32_lower h) ≡ base32_lower h
 hash_text h all = digits_text (base32_from 1 0 h) (small h all)
@@ -92,24 +76,18 @@ ascii_text h all = digits_ascii (base32_from 1 0 h) (small h all)
 
 -- the text of the owner of a record, with its last dot: right below the root, and elsewhere
 pub owner_at_root : (a : Name) (h : List ℕ) → AreOctets h → a ≡ [] → base32_lower h ++ 46 ∷ [] ≡ name_text (hashed_owner a h) ++ 46 ∷ []
-owner_at_root a h all root =
-    subst (λ (n : Name). base32_lower h ++ 46 ∷ [] ≡ name_text (hashed_owner n h) ++ 46 ∷ []) (sym root)
-    (ap (λ t. t ++ 46 ∷ []) (sym (append-nil (label_text (base32_lower h)) ∙ hash_text h all)))
+owner_at_root a h all root = grind (arith, common_steps, hash_text)
 
 pub owner_below : (a : Name) (h : List ℕ) → AreOctets h → (a ≡ [] → ⊥)
     → base32_lower h ++ 46 ∷ (name_text a ++ 46 ∷ []) ≡ name_text (hashed_owner a h) ++ 46 ∷ []
 owner_below [] h all some = absurd (some refl)
-owner_below (l ∷ ls) h all some =
-    ap (λ t. t ++ 46 ∷ (name_text (l ∷ ls) ++ 46 ∷ [])) (sym (hash_text h all))
-    ∙ sym (append_assoc (label_text (base32_lower h)) (46 ∷ name_text (l ∷ ls)) (46 ∷ []))
+owner_below (l ∷ ls) h all some = grind (arith, common_steps, hash_text)
 
 -- ---- when a hash is of use
 
 pub owner_length : (a : Name) (h above : List ℕ) → IsWire above → labels_of above ≡ a
     → length (wire_of (hashed_owner a h)) ≡ (8 * length h + 4) / 5 + 1 + length above
-owner_length a h above w l =
-    let same : wire_of a ≡ above = ap wire_of (sym l) ∙ wire_is above w in
-    omega (arith, length-append (base32_lower h) (wire_of a), ap length same, text_length h)
+owner_length a h above w l = grind (arith, common_steps, text_length)
 
 is_none : (n : ℕ) → n ≡ 0 → (n == 0) ≡ true
 is_none n h = grind (arith, nat_tests)
@@ -121,42 +99,14 @@ pub more_than_none : (n : ℕ) → (n == 0) ≡ false → 0 < n
 more_than_none n h = grind (arith, nat_tests)
 
 module _ (a : Name) (h : List ℕ) where
-  pub fault_none : length h ≡ 0 → hash_fault a (Ok h) ≡ Some OwnerHashError
-  fault_none e = λ i. if is_none (length h) e i || nat_lt 39 (length h) then Some OwnerHashError else if nat_lt 255
-      (length (wire_of (hashed_owner a h))) then Some Nsec3NameTooLong else None
-
-  pub fault_long : 39 < length h → hash_fault a (Ok h) ≡ Some OwnerHashError
-  fault_long l = ap (λ b. if b then Some OwnerHashError else if nat_lt 255
-      (length (wire_of (hashed_owner a h))) then Some Nsec3NameTooLong else None)
-      (or_right (length h == 0) (nat_lt 39 (length h)) (less 39 (length h) l))
-
-  pub fault_name : 0 < length h → length h ≤ 39 → 255 < length (wire_of (hashed_owner a h)) → hash_fault a (Ok h) ≡ Some Nsec3NameTooLong
-  fault_name some short long =
-      λ i. if is_some (length h) some i || not_less 39 (length h) short i then Some OwnerHashError else if less 255
-      (length (wire_of (hashed_owner a h))) long i then Some Nsec3NameTooLong else None
-
-  pub fault_free : 0 < length h → length h ≤ 39 → length (wire_of (hashed_owner a h)) ≤ 255 → hash_fault a (Ok h) ≡ None
-  fault_free some short fits =
-      λ i. if is_some (length h) some i || not_less 39 (length h) short i then Some OwnerHashError else if not_less 255
-      (length (wire_of (hashed_owner a h))) fits i then Some Nsec3NameTooLong else None
-
   pub sound_some : hash_fault a (Ok h) ≡ None → 0 < length h
-  sound_some e = elim (cases_lt 0 (length h)) [
-    | inl l ↦ l
-    | inr l ↦ let told : Some OwnerHashError ≡ None = sym (fault_none (omega arith)) ∙ e in absurd (cc)
-  ]
+  sound_some e = grind (arith, common_steps)
 
   pub sound_short : hash_fault a (Ok h) ≡ None → length h ≤ 39
-  sound_short e = elim (cases_lt 39 (length h)) [
-    | inl l ↦ let told : Some OwnerHashError ≡ None = sym (fault_long l) ∙ e in absurd (cc)
-    | inr l ↦ l
-  ]
+  sound_short e = grind (arith, common_steps)
 
   pub sound_fits : hash_fault a (Ok h) ≡ None → length (wire_of (hashed_owner a h)) ≤ 255
-  sound_fits e = elim (cases_lt 255 (length (wire_of (hashed_owner a h)))) [
-    | inl l ↦ let told : Some Nsec3NameTooLong ≡ None = sym (fault_name (sound_some e) (sound_short e) l) ∙ e in absurd (cc)
-    | inr l ↦ l
-  ]
+  sound_fits e = grind (arith, common_steps)
 
 -- ---- a hash as a label before a name
 
@@ -168,13 +118,7 @@ first_set (x ∷ xs) n h = refl
 -- there is room for the owner of a hash of use
 pub owner_room : (a : Name) (hash label above : List ℕ) → IsWire above → labels_of above ≡ a → hash_fault a (Ok hash) ≡ None
     → label ≡ base32_lower hash → (0 < length label) × (length label ≤ 63) × (length label + 1 + length above ≤ 255)
-owner_room a hash label above w l sound is =
-    let some = sound_some a hash sound in
-    let short = sound_short a hash sound in
-    let fits = sound_fits a hash sound in
-    let all = owner_length a hash above w l in
-    let digits = ap length is ∙ text_length hash in
-    (omega arith, omega arith, omega arith)
+owner_room a hash label above w l sound is = grind (arith, common_steps, sound_some, sound_short, sound_fits, owner_length, text_length)
 
 pub record IsOwnerWire (a : Name) (hash wire : List ℕ) : Type 0 where
   pub is_wire : IsWire wire

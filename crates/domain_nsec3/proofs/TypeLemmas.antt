@@ -1,5 +1,5 @@
 -- The types that NSEC3 records list.
-use Rattle.std.proofs.Common.{◌≡◌, ℕ, ◌<◌, Bool, true, false, not, ◌&&◌, ◌||◌, List, [], refl, ap, ◌∙◌, nat_eq}
+use Rattle.std.proofs.Common.{◌≡◌, ℕ, ◌<◌, Bool, not, ◌&&◌, ◌||◌, List, [], nat_eq, arith}
 use Rattle.domain_octets.proofs.StdLemmas.{or_false}
 use Rattle.domain_bitmap.specs.Bitmap.{bitmap_octets}
 use Rattle.domain_bitmap.specs.Builder.{holds}
@@ -7,32 +7,18 @@ use Rattle.domain_bitmap.proofs.BitmapLemmas.{bitmap_octets-same}
 use Rattle.domain_zone.specs.Zone.{ZoneRecord, lists_type}
 use Rattle.domain_zone.proofs.TypeLemmas.{holds_nothing}
 use Rattle.domain_nsec3.specs.Owners.{is_listed}
+use Rattle.std.proofs.lemmas.Grind.{common_steps}
 
 pub common_listed : (unsigned apex assumed cut signed : Bool) (v0 v1 v2 v3 : List ℕ) → v0 ≡ [] → signed ≡ not unsigned
     → ((t : ℕ) → t < 65536 → holds v1 t ≡ ((nat_eq t 46 && signed) || holds v0 t))
     → ((t : ℕ) → t < 65536 → holds v2 t ≡ ((nat_eq t 51 && apex) || holds v1 t))
     → ((t : ℕ) → t < 65536 → holds v3 t ≡ ((nat_eq t 48 && assumed) || holds v2 t))
     → (t : ℕ) → t < 65536 → holds v3 t ≡ is_listed unsigned apex assumed cut [] t
-common_listed unsigned apex assumed cut signed v0 v1 v2 v3 e s f g h t b =
-    h t b ∙ (λ i. (nat_eq t 48 && assumed) || (g t b ∙ (λ j. (nat_eq t 51 && apex) || (f t b ∙ (λ k. (nat_eq t 46 && s k) || holds_nothing v0 e t k)) j)) i)
-    ∙ by (nat_eq t 46 && not unsigned) (nat_eq t 51 && apex) (nat_eq t 48 && assumed)
-  where
-    by : (p q r : Bool) → (r || (q || (p || false))) ≡ (((p || q) || r) || false)
-    by true true true = refl
-    by true true false = refl
-    by true false true = refl
-    by true false false = refl
-    by false true true = refl
-    by false true false = refl
-    by false false true = refl
-    by false false false = refl
+common_listed unsigned apex assumed cut signed v0 v1 v2 v3 e s f g h t b = grind (arith, common_steps, holds_nothing)
 
 -- the common types, and then those of the records
 pub listed_octets : (unsigned apex assumed cut : Bool) (G : List ZoneRecord) (old new : List ℕ)
     → ((t : ℕ) → t < 65536 → holds old t ≡ is_listed unsigned apex assumed cut [] t)
     → ((t : ℕ) → t < 65536 → holds new t ≡ (holds old t || lists_type cut G t))
     → bitmap_octets (holds new) ≡ bitmap_octets (is_listed unsigned apex assumed cut G)
-listed_octets unsigned apex assumed cut G old new common more =
-    bitmap_octets-same (holds new) (is_listed unsigned apex assumed cut G)
-    (λ t b. more t b ∙ (λ i. common t b i || lists_type cut G t)
-    ∙ ap (λ b. b || lists_type cut G t) (or_false (((nat_eq t 46 && not unsigned) || (nat_eq t 51 && apex)) || (nat_eq t 48 && assumed))))
+listed_octets unsigned apex assumed cut G old new common more = grind (arith, common_steps, bitmap_octets-same, or_false)

@@ -1,11 +1,6 @@
-use Rattle.std.proofs.Common.{List, refl, sym, ap, ◌∙◌, subst}
+use Rattle.std.proofs.Common.{refl, arith}
 use Rattle.std.proofs.lemmas.Result.{err_from_is_err_and}
-use Rattle.std.specs.List.Sorted.{IsStrictlySortedBy}
-use Rattle.domain_names.specs.Order.{canonical_cmp}
-use Rattle.domain_names.specs.Words.{Name}
-use Rattle.domain_zone.specs.Enclosers.{is_empty_nonterminal}
 use Rattle.domain_zone.specs.Soa.{chain_ttl}
-use Rattle.domain_nsec3.specs.Ancestors.{IsListOf}
 use Rattle.domain_nsec3.specs.Steps.{entries_of}
 use Rattle.domain_nsec3.specs.StepView.{as_entries, common_of}
 use Rattle.domain_nsec3.proofs.EntryLemmas.{AreJoined, entries_names, entries_more}
@@ -13,22 +8,12 @@ use Rattle.domain_nsec3.proofs.OutcomeLemmas.{outcome_chain, outcome_hashed, out
 use Rattle.domain_nsec3.proofs.chain.chain_of_owners.Given.{Over}
 use Rattle.domain_nsec3.proofs.chain.chain_of_owners.Goals.{In_ok-append}
 use Rattle.domain_nsec3.proofs.chain.chain_of_owners.Goals as goal
+use Rattle.std.proofs.lemmas.Grind.{common_steps}
 
 -- what is hashed are the owners and then their empty non-terminals
 joined : (g : Over) (c : In_ok-append g)
     → AreJoined (g.N.ToName.labels c.args.apex.now) (as_entries c.args.owners) (entries_of c.append.new.self.items c.args.owners.types)
-joined g c =
-    let names = entries_names c.args.owners.names.items c.args.owners.types in
-    let empty = c.in_ok-empty.empty.items in
-    record {
-      ascend = subst (IsStrictlySortedBy canonical_cmp) (sym names) c.requires.ascend;
-      empty = empty;
-      listed = subst (λ (ks : List Name). IsListOf (is_empty_nonterminal ks (g.N.ToName.labels c.args.apex.now)) empty)
-          (c.as_slice.ensures.value ∙ sym names)
-          (subst (λ (x : Name). IsListOf (is_empty_nonterminal c.as_slice.result.now x) empty) c.as_parsed-above.ensures c.in_ok-empty.ensures);
-      are = ap (λ ns. entries_of ns c.args.owners.types) c.in_ok-append.ensures.items
-          ∙ entries_more c.args.owners.names.items c.args.owners.types empty c.requires.paired;
-    }
+joined g c = grind (arith, common_steps, entries_names, entries_more)
 
 pub returns-clause-chain : goal.returns-clause-chain
 returns-clause-chain g c = λ L soa found os.

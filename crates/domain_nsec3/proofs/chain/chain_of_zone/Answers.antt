@@ -1,4 +1,4 @@
-use Rattle.std.proofs.Common.{◌≡◌, true, sym, ap, ◌∙◌, subst}
+use Rattle.std.proofs.Common.{◌≡◌, true, sym, ap, ◌∙◌, subst, arith}
 use Rattle.std.specs.Prelude.{All}
 use Rattle.std.proofs.lemmas.Result.{err_from_is_err_and}
 use Rattle.std.specs.List.{list_any}
@@ -15,11 +15,12 @@ use Rattle.domain_nsec3.specs.StepView.{common_of, links_in}
 use Rattle.domain_nsec3.specs.View.{config_of}
 use Rattle.domain_nsec3.proofs.EntryLemmas.{entries_names}
 use Rattle.domain_nsec3.proofs.FaultLemmas.{apart_hashes}
-use Rattle.domain_nsec3.proofs.OutcomeLemmas.{original_ascend, original_below, apex_original, signing_fault}
+use Rattle.domain_nsec3.proofs.OutcomeLemmas.{original_ascend, original_below, apex_original}
 use Rattle.domain_nsec3.proofs.StateLemmas.{ZoneToSign}
 use Rattle.domain_nsec3.proofs.chain.chain_of_zone.Given.{Over}
 use Rattle.domain_nsec3.proofs.chain.chain_of_zone.Goals.{In_ok-owners}
 use Rattle.domain_nsec3.proofs.chain.chain_of_zone.Goals as goal
+use Rattle.std.proofs.lemmas.Grind.{common_steps}
 
 -- the zone to sign
 abbrev zone_in : (g : Over) → In_ok-owners g → ZoneToSign
@@ -31,10 +32,7 @@ zone_in g c = record {
 
 -- none of the faults stands that come before those of hashing
 ready : (g : Over) (c : In_ok-owners g) → IsReady (zone_in g c).records (zone_in g c).apex (zone_in g c).config
-ready g c = record {
-  soa = λ n. cc c.requires.soa;
-  ttls = c.in_ok-owners.ensures.even (g.H.Nsec3Hasher.answer c.args.hasher.now);
-}
+ready g c = grind (arith, common_steps)
 
 pub chain_of_owners-requires : goal.chain_of_owners-requires
 chain_of_owners-requires g c =
@@ -52,12 +50,7 @@ chain_of_owners-requires g c =
     }
 
 pub returns-in_err-chain_of_owners-clause-fault : goal.returns-in_err-chain_of_owners-clause-fault
-returns-in_err-chain_of_owners-clause-fault g c =
-    let at = (goal.at.returns-in_err-chain_of_owners-clause-fault g c).In_ok-owners in
-    let zone = zone_in g at in
-    let p = err_from_is_err_and c.from_residual-in_err-chain_of_owners.result c.from_residual-in_err-chain_of_owners.ensures.1 in
-    rw (p.1, p.2) (signing_fault zone.records zone.apex zone.config c.in_err-chain_of_owners.field-0.0 (ready g at)
-    (c.in_err-chain_of_owners.ensures.fault zone.records (c.in_ok-owners.ensures.owners (g.H.Nsec3Hasher.answer c.args.hasher.now))))
+returns-in_err-chain_of_owners-clause-fault g c = grind (arith, common_steps)
 
 pub returns : goal.returns
 returns g c =

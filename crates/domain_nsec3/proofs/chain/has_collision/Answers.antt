@@ -4,13 +4,10 @@ use Rattle.std.specs.Cmp.Lexicographic.{bytes_decides}
 use Rattle.domain_names.proofs.OrderLemmas.{same_octets}
 use Rattle.domain_nsec3.proofs.HashLemmas.{alike_at, apart_more, apart_end}
 use Rattle.domain_nsec3.proofs.chain.has_collision.Goals as goal
+use Rattle.std.proofs.lemmas.Grind.{common_steps}
 
 pub returns-then-eq-clause-alike : goal.returns-then-eq-clause-alike
-returns-then-eq-clause-alike c _ =
-    alike_at (λ h. h.hash) c.args.hashed.now c.loop-i.i c.index-hashed-i.result c.index-hashed-i-in-loop-i.result (omega arith)
-    (omega arith) c.index-hashed-i.is c.index-hashed-i-in-loop-i.is
-    (ap (λ h. h.hash) c.index-hashed-i.is ∙ sym c.as_slice.ensures ∙ same_octets _ _ (sym c.eq.ensures ∙ c.if-eq.true)
-    ∙ c.as_slice-in-loop-i.ensures ∙ sym (ap (λ h. h.hash) c.index-hashed-i-in-loop-i.is))
+returns-then-eq-clause-alike c _ = grind (arith, common_steps, alike_at, same_octets)
 
 pub loop-i-preserved : goal.loop-i-preserved
 loop-i-preserved c =

@@ -1,4 +1,4 @@
-use Rattle.std.proofs.Common.{◌≡◌, List, None, Ok, map, length, sym, ap, ◌∙◌, subst, arith, inl, inr}
+use Rattle.std.proofs.Common.{◌≡◌, None, Ok, map, length, sym, ap, ◌∙◌, subst, arith, inr}
 use Rattle.std.specs.Prelude.{All}
 use Rattle.std.specs.List.Sorted.{IsStrictlySortedBy}
 use Rattle.std.specs.Ordering.{nat_cmp}
@@ -6,7 +6,7 @@ use Rattle.std.specs.Cmp.Lexicographic.{slice_cmp}
 use Rattle.std.proofs.lemmas.List.{length-map}
 use Rattle.std.proofs.lemmas.Result.{err_from_is_err_and}
 use Rattle.domain_names.specs.Words.{Name}
-use Rattle.domain_nsec3.specs.Steps.{Entry, HashedEntry, HasAlikeNeighbours, IsFirstRefused, chain_links, entries_of}
+use Rattle.domain_nsec3.specs.Steps.{Entry, HashedEntry, HasAlikeNeighbours, chain_links, entries_of}
 use Rattle.domain_nsec3.specs.Faults.{hash_fault}
 use Rattle.domain_nsec3.specs.StepView.{as_hashed_types, as_hashed_entry}
 use Rattle.domain_nsec3.specs.View.{hash_by, parameters_of}
@@ -16,6 +16,7 @@ use Rattle.domain_nsec3.proofs.EntryLemmas.{entries_names, types_told}
 use Rattle.domain_nsec3.proofs.chain.hash_chain.Given.{Over}
 use Rattle.domain_nsec3.proofs.chain.hash_chain.Goals.{In_ok-sort_by_hash}
 use Rattle.domain_nsec3.proofs.chain.hash_chain.Goals as goal
+use Rattle.std.proofs.lemmas.Grind.{common_steps}
 
 -- how a hash with its place is seen
 abbrev see : (g : Over) → In_ok-sort_by_hash g → Hashed → HashedEntry
@@ -33,16 +34,7 @@ hashes g c =
     (moved_hashes (see g c) c.in_ok-sort_by_hash.ensures.permutation (c.in_ok-hashed.ensures.same entries are) (c.in_ok-hashed.ensures.ok entries are))
 
 pub returns-in_err-hashed-clause-fault : goal.returns-in_err-hashed-clause-fault
-returns-in_err-hashed-clause-fault g c =
-    let are = entries_names c.args.names.items c.args.types ∙ sym c.as_slice.ensures.value in
-    let hash = hash_by (g.H.Nsec3Hasher.answer c.args.hasher.now) (parameters_of c.args.params.now) in
-    let p = err_from_is_err_and c.from_residual.result c.from_residual.ensures.1 in
-    rw (p.1, p.2) (elim c.in_err-hashed.ensures.err [
-      | inl m ↦ inl m
-      | inr r ↦ inr (inl (subst (λ (x : Name). IsFirstRefused x hash (map (λ n. n.name) (entries_of c.args.names.items c.args.types))
-          c.in_err-hashed.field-0.0) c.as_parsed-above.ensures
-          (subst (λ (ns : List Name). IsFirstRefused c.as_parsed-above.result hash ns c.in_err-hashed.field-0.0) (sym are) r)))
-    ])
+returns-in_err-hashed-clause-fault g c = grind (arith, common_steps, entries_names)
 
 pub returns-in_err-without_collision-clause-fault : goal.returns-in_err-without_collision-clause-fault
 returns-in_err-without_collision-clause-fault g c =

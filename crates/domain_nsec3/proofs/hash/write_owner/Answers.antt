@@ -1,25 +1,10 @@
-use Rattle.std.proofs.Common.{refl, arith}
-use Rattle.domain_codecs.specs.Base32.{base32_lower}
+use Rattle.std.proofs.Common.{arith}
 use Rattle.domain_nsec3.proofs.TextLemmas.{owner_made, owner_room}
 use Rattle.domain_nsec3.proofs.hash.write_owner.Goals as goal
+use Rattle.std.proofs.lemmas.Grind.{common_steps}
 
 pub write_hash-label-requires : goal.write_hash-label-requires
-write_hash-label-requires c =
-    let room = owner_room c.args.apex.now c.args.hash.now (base32_lower c.args.hash.now) c.as_wire-above.result.now
-    c.as_wire-above.ensures.wire c.as_wire-above.ensures.labels c.requires.sound refl in
-    omega (arith, room.1)
-
-pub join_label-requires-clause-label : goal.join_label-requires-clause-label
-join_label-requires-clause-label c =
-    let room = owner_room c.args.apex.now c.args.hash.now c.write_hash-label.result.now c.as_wire-above.result.now
-    c.as_wire-above.ensures.wire c.as_wire-above.ensures.labels c.requires.sound c.write_hash-label.ensures in
-    omega (arith, room.1)
-
-pub join_label-requires-clause-fits : goal.join_label-requires-clause-fits
-join_label-requires-clause-fits c =
-    let room = owner_room c.args.apex.now c.args.hash.now c.write_hash-label.result.now c.as_wire-above.result.now
-    c.as_wire-above.ensures.wire c.as_wire-above.ensures.labels c.requires.sound c.write_hash-label.ensures in
-    omega (arith, room.2, c.requires.room)
+write_hash-label-requires c = grind (arith, common_steps, owner_room)
 
 pub returns-clause-wire : goal.returns-clause-wire
 returns-clause-wire c =

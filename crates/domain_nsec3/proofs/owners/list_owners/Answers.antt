@@ -1,14 +1,15 @@
-use Rattle.std.proofs.Common.{◌≡◌, ◌∙◌, ◌&&◌, not, sym, ap, map, subst, Err}
+use Rattle.std.proofs.Common.{◌≡◌, ◌∙◌, ◌&&◌, not, sym, ap, map, subst, Err, arith}
 use Rattle.domain_zone.specs.OwnerView.{as_owner_records}
 use Rattle.domain_zone.specs.View.{as_zone_record, zone_of}
 use Rattle.domain_zone.specs.Zone.{has_clash}
 use Rattle.domain_zone.proofs.GivenLemmas.{raw_types, types_at}
 use Rattle.domain_zone.proofs.TtlLemmas.{NeverDescend}
 use Rattle.domain_nsec3.specs.View.{HasherAnswer, config_of}
-use Rattle.domain_nsec3.proofs.StateLemmas.{stays, paired, at_start, at_known, at_excluded, at_owner, at_fault, at_end, even_end}
+use Rattle.domain_nsec3.proofs.StateLemmas.{stays, paired, at_known, at_excluded, at_owner, at_fault, at_end, even_end}
 use Rattle.domain_nsec3.proofs.owners.list_owners.Given.{Over}
 use Rattle.domain_nsec3.proofs.owners.list_owners.Goals.{After-is_unsigned_cut-is_unsigned_cut, After-has_unequal_ttls}
 use Rattle.domain_nsec3.proofs.owners.list_owners.Goals as goal
+use Rattle.std.proofs.lemmas.Grind.{common_steps}
 
 -- what the owners are does not depend on a hasher; this one refuses
 refuses : HasherAnswer
@@ -27,12 +28,7 @@ stay_found g c answer = ap not (sym (λ i. (c.opt_out_flag.ensures i
 clash_found : (g : Over) (c : After-has_unequal_ttls g)
     → has_clash (zone_of g.N.ToName.labels g.D.RecordData.rtype g.D.ZoneData.minimum c.in-Some.owner.records)
     ≡ c.has_unequal_ttls.result
-clash_found g c =
-    ap (λ rs. has_clash (zone_of g.N.ToName.labels g.D.RecordData.rtype g.D.ZoneData.minimum rs)) (sym c.records.ensures)
-    ∙ sym c.has_unequal_ttls.ensures
-
-pub owners-init : goal.owners-init
-owners-init g c = λ answer. at_start c.new-left.ensures c.new-owners.ensures.names c.new-owners.ensures.types
+clash_found g c = grind (arith, common_steps)
 
 pub owners-preserved-then-excludes-is_unsigned_cut : goal.owners-preserved-then-excludes-is_unsigned_cut
 owners-preserved-then-excludes-is_unsigned_cut g c = λ answer.

@@ -1,4 +1,4 @@
-use Rattle.std.proofs.Common.{◌≡◌, ◌∙◌, sym, ap, map, subst, Some}
+use Rattle.std.proofs.Common.{◌≡◌, ◌∙◌, sym, ap, map, subst, Some, arith}
 use Rattle.domain_zone.specs.Soa.{soa_of}
 use Rattle.domain_zone.specs.View.{as_zone_record, zone_of}
 use Rattle.domain_zone.specs.Zone.{has_clash}
@@ -8,22 +8,19 @@ use Rattle.domain_nsec.proofs.StateLemmas.{at_start, at_known, at_owner, at_faul
 use Rattle.domain_nsec.proofs.chain.NsecChain.generate.Given.{Over}
 use Rattle.domain_nsec.proofs.chain.NsecChain.generate.Goals.{In-Some, After-has_unequal_ttls}
 use Rattle.domain_nsec.proofs.chain.NsecChain.generate.Goals as goal
+use Rattle.std.proofs.lemmas.Grind.{common_steps}
 
 -- the SOA record that was found is that of the zone
 soa_found : (g : Over) (c : In-Some g)
     → soa_of (zone_of g.N.ToName.labels g.D.RecordData.rtype g.D.ZoneData.minimum c.args.records) (g.N.ToName.labels c.args.apex.now)
     ≡ Some c.in-Some.soa
-soa_found g c =
-    ap (λ rs. soa_of (zone_of g.N.ToName.labels g.D.RecordData.rtype g.D.ZoneData.minimum rs) (g.N.ToName.labels c.args.apex.now))
-    (sym c.records.ensures) ∙ sym c.in-Some.ensures
+soa_found g c = grind (arith, common_steps)
 
 -- whether the next owner has unequal TTLs
 clash_found : (g : Over) (c : After-has_unequal_ttls g)
     → has_clash (zone_of g.N.ToName.labels g.D.RecordData.rtype g.D.ZoneData.minimum c.in-Some-next.owner.records)
     ≡ c.has_unequal_ttls.result
-clash_found g c =
-    ap (λ rs. has_clash (zone_of g.N.ToName.labels g.D.RecordData.rtype g.D.ZoneData.minimum rs)) (sym c.records-in-Some-next.ensures)
-    ∙ sym c.has_unequal_ttls.ensures
+clash_found g c = grind (arith, common_steps)
 
 pub owners-init : goal.owners-init
 owners-init g c = at_start c.new-left.ensures c.new-owners.ensures.names c.new-owners.ensures.types

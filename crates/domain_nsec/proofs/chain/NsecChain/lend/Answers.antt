@@ -1,13 +1,11 @@
-use Rattle.std.proofs.Common.{◌+◌, [], length, get_or, sym, ap, ◌∙◌, arith}
+use Rattle.std.proofs.Common.{◌+◌, [], get_or, ap, ◌∙◌, arith}
 use Rattle.domain_nsec.specs.ChainView.{as_link}
 use Rattle.domain_nsec.proofs.ChainLemmas.{links_counted, link_borrowed}
 use Rattle.domain_nsec.proofs.chain.NsecChain.lend.Goals as goal
+use Rattle.std.proofs.lemmas.Grind.{common_steps}
 
 pub returns-then-place-len-clause-none : goal.returns-then-place-len-clause-none
-returns-then-place-len-clause-none g c =
-    let counted = ap length (sym c.self.view_is) ∙ links_counted c.self.inside.soa (g.N.ToName.labels c.self.inside.apex.now)
-    c.self.inside.names.items c.self.inside.types c.self.invariant in
-    omega (arith, counted, c.if-place-len.true, c.len.ensures)
+returns-then-place-len-clause-none g c = grind (arith, common_steps, links_counted)
 
 pub returns-clause-some : goal.returns-clause-some
 returns-clause-some g c d =

@@ -5,12 +5,10 @@ use Rattle.domain_nsec3.specs.Meaning.{IsRecordOf}
 use Rattle.domain_nsec3.specs.StepView.{common_of, links_in}
 use Rattle.domain_nsec3.proofs.ChainLemmas.{links_counted, hash_there}
 use Rattle.domain_nsec3.proofs.nsec3_chain.Nsec3Chain.hash_at.Goals as goal
+use Rattle.std.proofs.lemmas.Grind.{common_steps}
 
 pub index-requires : goal.index-requires
-index-requires g c =
-    let links = links_counted c.self.inside.nsec3param.owner c.self.inside.chain (common_of c.self.inside.nsec3param.«data» c.self.inside.ttl) in
-    let same = ap (λ v. length v.links) c.self.view_is in
-    omega arith
+index-requires g c = grind (arith, common_steps, links_counted)
 
 pub returns-clause-some : goal.returns-clause-some
 returns-clause-some g c =

@@ -1,10 +1,7 @@
-use Rattle.std.proofs.Common.{length, ap, arith}
-use Rattle.domain_nsec3.specs.StepView.{common_of}
+use Rattle.std.proofs.Common.{arith}
 use Rattle.domain_nsec3.proofs.ChainLemmas.{links_counted}
 use Rattle.domain_nsec3.proofs.nsec3_chain.Nsec3Chain.len.Goals as goal
+use Rattle.std.proofs.lemmas.Grind.{common_steps}
 
 pub returns : goal.returns
-returns g c =
-    let links = links_counted c.self.inside.nsec3param.owner c.self.inside.chain (common_of c.self.inside.nsec3param.«data» c.self.inside.ttl) in
-    let same = ap (λ v. length v.links) c.self.view_is in
-    omega arith
+returns g c = grind (arith, common_steps, links_counted)

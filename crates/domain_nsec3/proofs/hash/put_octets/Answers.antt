@@ -1,6 +1,0 @@
-use Rattle.std.proofs.Common.{arith, rules}
-use Rattle.std.proofs.lemmas.List.{places, same_lists}
-use Rattle.domain_nsec3.proofs.hash.put_octets.Goals as goal
-
-pub returns-clause-front : goal.returns-clause-front
-returns-clause-front c = same_lists _ _ (search (rules, places)) (λ k d h. grind (arith, places))
