@@ -1,6 +1,6 @@
 -- Names that have one hash, found in a list of names in canonical order.
-use Rattle.std.proofs.Common.{◌≡◌, ◌⊎◌, ℕ, Bool, true, false, cond, List, [], ◌∷◌, ◌++◌, map, refl, sym, ap, ◌∙◌, inl, inr, subst, append-nil, Option, Some}
-use Rattle.std.proofs.Common.{None, Bor, is_some, option_map, Ok, Err, ◌+◌, ◌<◌, drop, get_or, length, take}
+use Rattle.std.proofs.Common.{◌≡◌, ◌⊎◌, ℕ, Bool, true, false, cond, List, [], ◌∷◌, ◌++◌, map, refl, sym, ap, ◌∙◌, inl, inr, subst, Option, Some}
+use Rattle.std.proofs.Common.{None, Bor, is_some, option_map, Ok, Err, ◌+◌, ◌<◌, drop, get_or, length, take, arith}
 use Rattle.std.specs.Cmp.Lexicographic.{slice_cmp, bytes_decides, nat_list_cmp_total, texts_ties}
 use Rattle.std.specs.List.{find, list_any, AllByRecursion}
 use Rattle.std.specs.Option.{option_copied, option_or}
@@ -33,6 +33,7 @@ use Rattle.domain_alike.specs.Alike.{pair_of, AreAlike, IsAlike, IsFirstAlike, I
 use Rattle.domain_alike.specs.declared.alike.Alike.{Alike}
 use Rattle.domain_alike.specs.AlikeSteps.{first_with, is_hash, pair_with, IsRefusedAmong, Met}
 use Rattle.domain_alike.specs.AlikeSteps.Met.{more, nothing}
+use Rattle.std.proofs.lemmas.Grind.{common_steps}
 
 -- ---- hashes
 
@@ -108,35 +109,17 @@ module _ (test : Name → Bool) (n : Name) (names : List Name) where
 module _ (hash : Hash) (names : List Name) (n : Name) (k : Octets) (is : hash_name hash n ≡ Ok k) (f : Octets → Option Name)
     (h : (q : Octets) → f q ≡ first_with hash names q) where
   same_hash : (q : Octets) → is_hash (hash_name hash n) q ≡ true → first_with hash names q ≡ f k
-  same_hash q e =
-      let same : k ≡ q = (let w = sym is ∙ hash_is (hash_name hash n) q e in cc) in
-      ap (first_with hash names) (sym same) ∙ sym (h k)
+  same_hash q e = grind (arith, common_steps, hash_is)
 
   -- a name whose hash has one already
   pub kept_name : (x : Name) → f k ≡ Some x → (q : Octets) → f q ≡ first_with hash (names ++ n ∷ []) q
-  kept_name x some q =
-      elim (cases_Bool (is_hash (hash_name hash n) q)) [
-        | inl e ↦
-            let known : first_with hash names q ≡ Some x = same_hash q e ∙ some in
-            h q ∙ known ∙ sym (first_known (λ m. is_hash (hash_name hash m) q) n names x known)
-        | inr e ↦ h q ∙ sym (first_passed (λ m. is_hash (hash_name hash m) q) n names e)
-      ]
+  kept_name x some q = grind (arith, common_steps, same_hash, first_known, first_passed)
 
   -- the first name of its hash
   pub new_name : (g : Octets → Option Name) → f k ≡ None
       → ((q : Octets) → g q ≡ cond (is_eq (slice_cmp nat_cmp k q)) (Some n) (f q))
       → (q : Octets) → g q ≡ first_with hash (names ++ n ∷ []) q
-  new_name g none put q =
-      let at : g q ≡ cond (is_hash (hash_name hash n) q) (Some n) (f q) = put q
-      ∙ ap (λ w. cond (is_hash w q) (Some n) (f q)) (sym is) in
-      elim (cases_Bool (is_hash (hash_name hash n) q)) [
-        | inl e ↦
-            let known : first_with hash names q ≡ None = same_hash q e ∙ none in
-            at ∙ ap (λ b. cond b (Some n) (f q)) e ∙ sym (first_new (λ m. is_hash (hash_name hash m) q) n names known e)
-        | inr e ↦
-            at ∙ ap (λ b. cond b (Some n) (f q)) e ∙ h q
-            ∙ sym (first_passed (λ m. is_hash (hash_name hash m) q) n names e)
-      ]
+  new_name g none put q = grind (arith, common_steps, same_hash, first_new, first_passed)
 
 -- ---- the pairs of a list
 
@@ -217,12 +200,7 @@ module _ (hash : Hash) (names : List Name) (pairs : List Pair) (n : Name) (h : O
   firsts_before (p ∷ ps) t = ((before_n p.0 t.0.later, tt), firsts_before ps t.1)
 
   with_first : (o : Option Name) → first_with hash names h ≡ o → ArePairs hash (names ++ n ∷ []) (pairs ++ pair_with n o)
-  with_first None e = record {
-    told = subst (AllByRecursion (IsPair hash (names ++ n ∷ []))) (sym (append-nil pairs))
-        (weaker (IsPair hash names) (IsPair hash (names ++ n ∷ [])) wider pairs old.told);
-    each = each_with [] (λ y i w. absurd (false≢true (sym (found_none test names y e i) ∙ passes y w)));
-    ascend = subst (λ ps. IsAscending before (map (λ (p : Pair). p.0) ps)) (sym (append-nil pairs)) old.ascend;
-  }
+  with_first None e = grind (arith, common_steps, weaker, wider, each_with, found_none, passes)
   with_first (Some f) e =
       let found = found_in test names f e in
       let alike = hash_is (hash_name hash f) h found.1 ∙ sym is in

@@ -1,19 +1,18 @@
 -- The owners of a list in order and the names above them, gathered one owner after another.
-use Rattle.std.proofs.Common.{◌≡◌, ◌⊎◌, ℕ, ◌+◌, ◌<◌, ◌≤◌, Bool, true, false, cond, not, ◌&&◌, ◌||◌, List, [], ◌∷◌, ◌++◌, length, refl, sym, ap, ◌∙◌, arith, inl}
+use Rattle.std.proofs.Common.{◌≡◌, ◌⊎◌, ℕ, ◌+◌, ◌<◌, ◌≤◌, Bool, true, false, cond, not, ◌&&◌, ◌||◌, List, [], ◌∷◌, ◌++◌, length, sym, ap, ◌∙◌, arith, inl}
 use Rattle.std.proofs.Common.{inr, append-nil}
 use Rattle.std.specs.Prelude.{All, filter, nat_le, nat_lt}
 use Rattle.std.specs.List.{AllByRecursion, list_any}
 use Rattle.std.specs.List.Sorted.{IsStrictlySortedBy}
 use Rattle.std.proofs.lemmas.Bool.{cases_Bool, false≢true, leb-true, and_parts, and_from, or_cases, or_left, or_right}
 use Rattle.std.proofs.lemmas.Bool.Decides.{nat_tests}
-use Rattle.std.proofs.lemmas.List.Elements.{recursion_from_All, All-from_recursion}
+use Rattle.std.proofs.lemmas.List.Elements.{recursion_from_All}
 use Rattle.std.proofs.lemmas.List.Folds.{list_any-append}
-use Rattle.domain_octets.proofs.StdLemmas.{and_false}
 use Rattle.domain_names.specs.Name.{is_at_or_below, is_strictly_below, lowered, same_name}
 use Rattle.domain_names.specs.Order.{before, canonical_cmp}
 use Rattle.domain_names.specs.Words.{Name}
 use Rattle.domain_zone.specs.Enclosers.{exists_over}
-use Rattle.domain_zone.specs.Zone.{ZoneRecord, OwnersNeverDescend, is_occluded, is_unoccluded, owns, unoccluded_owners}
+use Rattle.domain_zone.specs.Zone.{ZoneRecord, OwnersNeverDescend}
 use Rattle.domain_zone.proofs.NameLemmas.{before_order, one_lowered, same_itself, below_itself, below_trans, below_from, below_between, below_longer}
 use Rattle.domain_zone.proofs.NameLemmas.{below_length, below_parent, lowered_below}
 use Rattle.domain_zone.proofs.OwnerLemmas.{any_in, in_any, owners_are, owners_ascend}
@@ -23,7 +22,7 @@ use Rattle.domain_zone.proofs.ZoneLemmas.{all_both, all_filter, after_or, weaker
 use Rattle.domain_zone.proofs.FindLemmas.{in_either, in_middle}
 use Rattle.domain_nsec3.specs.Ancestors.{above_with_more, IsListOf}
 use Rattle.domain_nsec3.specs.Config.{ChainConfig, excludes}
-use Rattle.domain_nsec3.specs.Owners.{is_chain_name, is_empty, is_original_owner, is_unsigned_cut, original_owners}
+use Rattle.domain_nsec3.specs.Owners.{is_chain_name, is_empty, is_original_owner, original_owners}
 use Rattle.domain_nsec3.proofs.AncestorLemmas.{are_above, less, not_less, IsAbove}
 use Rattle.domain_nsec3.proofs.ListLemmas.{sorted, ascending, ascending_both}
 use Rattle.domain_nsec3.proofs.OwnerLemmas.{existing_are}
@@ -31,6 +30,7 @@ use Rattle.domain_nsec3.proofs.OutcomeLemmas.{original_below}
 use Rattle.domain_nsec3.proofs.SharedLemmas.{Shares, at_length, cons_below}
 use Rattle.domain_alike.specs.AlikeSteps.{up_with_more}
 use Rattle.domain_alike.specs.Covered.{covered_names}
+use Rattle.std.proofs.lemmas.Grind.{common_steps}
 
 -- ---- lists
 
@@ -76,12 +76,7 @@ up_end s x names l =
 
 -- a name above one that is longer comes before it
 shorter_first : (o m : Name) → is_at_or_below o m ≡ true → length m < length o → before m o ≡ true
-shorter_first o m h l =
-    after_or m o (below_from o m h)
-    (elim (cases_Bool (same_name o m)) [
-      | inl e ↦ let q = below_length m o (ap (λ k. lowered_below k (lowered o)) (sym (one_lowered o m e)) ∙ below_itself o) in absurd (omega arith)
-      | inr e ↦ e
-    ])
+shorter_first o m h l = grind (arith, common_steps, after_or, below_from)
 
 up_ascend : (s : ℕ) (o : Name) → IsAscending before (up_with_more s o)
 up_ascend s [] =
@@ -116,19 +111,7 @@ pub record IsGathered (a : Name) (left passed names : List Name) (p : Name) : Ty
 
 pub gathered_start : (a : Name) (owners : List Name) → IsStrictlySortedBy canonical_cmp owners
     → All (λ n. is_at_or_below n a ≡ true) owners → IsGathered a owners [] (a ∷ []) a
-gathered_start a owners up low =
-    let below = recursion_from_All (λ n. is_at_or_below n a ≡ true) owners low in
-    record {
-      rising = ascending owners up;
-      low = below;
-      later = weaker (λ n. is_at_or_below n a ≡ true) (λ o. before o a ≡ false) (λ o h. below_from o a h) owners below;
-      in_zone = below_itself a;
-      ascend = (tt, tt);
-      capped = (below_from a a (below_itself a), tt);
-      sound = ((below_itself a, inl refl), tt);
-      held = λ e down up. or_left (same_name a e) false (same_itself a e (at_length a e down (below_length e a up)));
-      each = λ o i. absurd i;
-    }
+gathered_start a owners up low = grind (arith, common_steps, recursion_from_All, ascending, below_from, below_itself, same_itself)
 
 module _ {a : Name} {left passed names : List Name} {p o : Name} (s : ℕ) (h : IsGathered a (o ∷ left) passed names p) (shares : Shares o p s) where
   low_o : is_at_or_below o a ≡ true
@@ -149,18 +132,13 @@ module _ {a : Name} {left passed names : List Name} {p o : Name} (s : ℕ) (h : 
       ]
 
   new_below : (m : Name) → IsUp s o m → is_at_or_below m a ≡ true
-  new_below m u =
-      let long : s < length m = u.1 in
-      let short = apex_short in
-      below_longer o m a u.0 low_o (omega arith)
+  new_below m u = grind (arith, common_steps, apex_short, below_longer)
 
   old_more : (n : Name) → list_any (λ q. is_at_or_below q n) passed ≡ true → list_any (λ q. is_at_or_below q n) (passed ++ o ∷ []) ≡ true
   old_more n e = list_any-append (λ q. is_at_or_below q n) passed (o ∷ []) ∙ or_left (list_any (λ q. is_at_or_below q n) passed) (is_at_or_below o n || false) e
 
   kept : (e : Name) → list_any (λ n. same_name n e) names ≡ true → list_any (λ n. same_name n e) (names ++ up_with_more s o) ≡ true
-  kept e t =
-      list_any-append (λ n. same_name n e) names (up_with_more s o)
-      ∙ or_left (list_any (λ n. same_name n e) names) (list_any (λ n. same_name n e) (up_with_more s o)) t
+  kept e t = grind (arith, common_steps)
 
   held_more : (e : Name) → is_at_or_below o e ≡ true → is_at_or_below e a ≡ true → list_any (λ n. same_name n e) (names ++ up_with_more s o) ≡ true
   held_more e down up =
@@ -234,35 +212,18 @@ gathered_end {a = a} {owners = owners} {names = names} h low some = record {
         let m = any_in (λ o. is_at_or_below o x) owners q.1 in
         h.each m.0 m.1 x m.2 q.0
 
--- over no owners nothing exists
-pub none_over : (a : Name) (owners : List Name) → length owners ≡ 0 → IsListOf (exists_over owners a) []
-unfolding IsStrictlySortedBy
-none_over a [] none = record { ascend = tt; exactly = λ x. sym (and_false (is_at_or_below x a)) }
-none_over a (o ∷ owners) none = absurd (omega (arith, none))
-
 -- ---- the owners of a chain
 
 -- of names in order some are in order
 ascending_some : (keep : Name → Bool) (ks : List Name) → IsAscending before ks → IsAscending before (filter keep ks)
 ascending_some keep [] h = tt
-ascending_some keep (k ∷ ks) h =
-    elim (keep k) as (λ b. IsAscending before (cond b (k ∷ filter keep ks) (filter keep ks))) [
-      | true ↦ (all_filter (λ y. before k y ≡ true) keep ks h.0, ascending_some keep ks h.1)
-      | false ↦ ascending_some keep ks h.1
-    ]
+ascending_some keep (k ∷ ks) h = grind (arith, common_steps, all_filter, (ascending_some keep ks h.1))
 
 pub covered_sorted : (w d : Bool) (L : List ZoneRecord) (a : Name) → OwnersNeverDescend L → IsStrictlySortedBy canonical_cmp (covered_names w d L a)
-covered_sorted w d L a order =
-    sorted (covered_names w d L a)
-    (ascending_some (λ n. not (w && is_unsigned_cut L a n)) (unoccluded_owners d L a) (owners_ascend d L a order))
+covered_sorted w d L a order = grind (arith, common_steps, sorted, ascending_some, owners_ascend)
 
 pub covered_below : (w d : Bool) (L : List ZoneRecord) (a : Name) → All (λ n. is_at_or_below n a ≡ true) (covered_names w d L a)
-covered_below w d L a =
-    All-from_recursion (λ n. is_at_or_below n a ≡ true) (covered_names w d L a)
-    (all_filter (λ n. is_at_or_below n a ≡ true) (λ n. not (w && is_unsigned_cut L a n)) (unoccluded_owners d L a)
-    (weaker (λ n. (owns L n ≡ true) × (is_unoccluded d L a n ≡ true)) (λ n. is_at_or_below n a ≡ true)
-    (λ n h. (and_parts (is_at_or_below n a) (not (is_occluded d L a n)) h.1).0)
-    (unoccluded_owners d L a) (owners_are d L a)))
+covered_below w d L a = grind (arith, common_steps, all_filter, owners_are)
 
 -- ---- the names of a chain
 
@@ -288,17 +249,8 @@ module _ (L : List ZoneRecord) (a : Name) (config : ChainConfig) where
       owned x = list_any (λ r. same_name r.owner x) L
 
   exists_is : (x : Name) → exists_over (original_owners L a config) a x ≡ is_chain_name L a config x
-  exists_is x =
-      elim (cases_Bool (is_at_or_below x a)) [
-        | inl low ↦ existing_are L a config x low
-        | inr out ↦
-            (λ i. out i && list_any (λ n. is_at_or_below n x) (original_owners L a config)) ∙ sym (outside x out)
-      ]
+  exists_is x = grind (arith, common_steps, existing_are, outside)
 
   pub listed_names : (w d : Bool) → excludes config ≡ w → config.occlude_below_dname ≡ d → (owners names : List Name)
       → owners ≡ covered_names w d L a → IsListOf (exists_over owners a) names → IsListOf (is_chain_name L a config) names
-  listed_names w d left_out below owners names are list =
-      let original : original_owners L a config ≡ covered_names w d L a = (λ i. covered_names (left_out i) (below i) L a) in record {
-        ascend = list.ascend;
-        exactly = λ x. list.exactly x ∙ ap (λ os. exists_over os a x) (are ∙ sym original) ∙ exists_is x;
-      }
+  listed_names w d left_out below owners names are list = grind (arith, common_steps, exists_is)

@@ -1,15 +1,14 @@
 -- The owners of a chain, as a walk over the owners that are not occluded keeps them.
-use Rattle.std.proofs.Common.{◌≡◌, Bool, true, false, cond, not, ◌&&◌, List, [], ◌∷◌, ◌++◌, map, refl, sym, ap, ◌∙◌, append_assoc, append-nil}
+use Rattle.std.proofs.Common.{◌≡◌, Bool, true, false, cond, not, ◌&&◌, List, [], ◌∷◌, ◌++◌, map, refl, sym, ap, ◌∙◌, append_assoc, arith}
 use Rattle.std.specs.Prelude.{filter}
-use Rattle.std.proofs.lemmas.List.{map-append}
-use Rattle.std.proofs.lemmas.List.Elements.{filter-append}
 use Rattle.domain_base.specs.Types.{ds}
 use Rattle.domain_names.specs.Words.{Name}
 use Rattle.domain_nsec3.specs.Owners.{is_unsigned_cut}
 use Rattle.domain_zone.specs.Owners.{OwnerRecords, owner_at, owners_with_records}
-use Rattle.domain_zone.specs.Zone.{ZoneRecord, has_type, unoccluded_owners}
+use Rattle.domain_zone.specs.Zone.{ZoneRecord, has_type}
 use Rattle.domain_zone.proofs.GivenLemmas.{name_of}
 use Rattle.domain_alike.specs.Covered.{covered_names}
+use Rattle.std.proofs.lemmas.Grind.{common_steps}
 
 -- an unsigned delegation
 abbrev pub is_unsigned : OwnerRecords → Bool
@@ -24,14 +23,7 @@ stays_by excludes o is tested = ap not (sym (λ i. excludes && is i) ∙ tested)
 pub names_stay : (excludes : Bool) (L : List ZoneRecord) (a : Name) (ks : List Name) → map name_of (filter (stays excludes) (map (owner_at L a) ks))
     ≡ filter (λ n. not (excludes && is_unsigned_cut L a n)) ks
 names_stay excludes L a [] = refl
-names_stay excludes L a (k ∷ ks) =
-    elim (excludes && is_unsigned_cut L a k) as (λ b. map name_of
-    (cond (not b) (owner_at L a k ∷ filter (stays excludes) (map (owner_at L a) ks)) (filter (stays excludes) (map (owner_at L a) ks)))
-    ≡ cond (not b) (k ∷ filter (λ n. not (excludes && is_unsigned_cut L a n)) ks)
-    (filter (λ n. not (excludes && is_unsigned_cut L a n)) ks)) [
-      | true ↦ names_stay excludes L a ks
-      | false ↦ ap (λ t. k ∷ t) (names_stay excludes L a ks)
-    ]
+names_stay excludes L a (k ∷ ks) = grind (arith, common_steps, (names_stay excludes L a ks))
 
 -- the owners given so far and those left are all, and these are the names of those that stay
 pub record AreKept (excludes d : Bool) (L : List ZoneRecord) (a : Name) (left : List OwnerRecords) (names : List Name) : Type 0 where
@@ -40,9 +32,6 @@ pub record AreKept (excludes d : Bool) (L : List ZoneRecord) (a : Name) (left : 
   pub are : names ≡ map name_of (filter (stays excludes) given)
 
 module _ {excludes d : Bool} {L : List ZoneRecord} {a : Name} where
-  pub kept_none : {left : List OwnerRecords} {names : List Name} → left ≡ owners_with_records d L a → names ≡ [] → AreKept excludes d L a left names
-  kept_none all none = record { given = []; all = all; are = none }
-
   -- where an owner is next, and it was asked whether it is an unsigned delegation
   module _ {ahead left : List OwnerRecords} {o : OwnerRecords} {names : List Name} {cut : Bool} (h : AreKept excludes d L a ahead names)
       (next : ahead ≡ o ∷ left) (is : cut ≡ is_unsigned o) where
@@ -51,32 +40,14 @@ module _ {excludes d : Bool} {L : List ZoneRecord} {a : Name} where
 
     one_more : (b : Bool) → stays excludes o ≡ b
         → map name_of (filter (stays excludes) (h.given ++ o ∷ [])) ≡ map name_of (filter (stays excludes) h.given) ++ cond b (o.name ∷ []) []
-    one_more b e =
-        ap (map name_of) (filter-append (stays excludes) h.given (o ∷ []))
-        ∙ map-append name_of (filter (stays excludes) h.given) (filter (stays excludes) (o ∷ []))
-        ∙ ap (λ ks. map name_of (filter (stays excludes) h.given) ++ ks)
-        (ap (λ c. map name_of (cond c (o ∷ []) [])) e ∙ named b)
-      where
-        named : (c : Bool) → map name_of (cond c (o ∷ []) []) ≡ cond c (o.name ∷ []) []
-        named true = refl
-        named false = refl
+    one_more b e = grind (arith, common_steps)
 
     pub kept_past : (excludes && cut) ≡ true → AreKept excludes d L a left names
-    kept_past out = record {
-      given = h.given ++ o ∷ [];
-      all = all;
-      are = h.are ∙ sym (one_more false (stays_by excludes o is out) ∙ append-nil (map name_of (filter (stays excludes) h.given)));
-    }
+    kept_past out = grind (arith, common_steps, all)
 
     pub kept_more : {more : List Name} → (excludes && cut) ≡ false → more ≡ names ++ o.name ∷ [] → AreKept excludes d L a left more
-    kept_more kept pushed = record {
-      given = h.given ++ o ∷ [];
-      all = all;
-      are = pushed ∙ ap (λ ks. ks ++ o.name ∷ []) h.are ∙ sym (one_more true (stays_by excludes o is kept));
-    }
+    kept_more kept pushed = grind (arith, common_steps, all)
 
   pub kept_all : {left : List OwnerRecords} {names : List Name} → AreKept excludes d L a left names → left ≡ []
       → names ≡ covered_names excludes d L a
-  kept_all h none =
-      h.are ∙ ap (λ os. map name_of (filter (stays excludes) os)) (sym (append-nil h.given) ∙ ap (λ os. h.given ++ os) (sym none) ∙ h.all)
-      ∙ names_stay excludes L a (unoccluded_owners d L a)
+  kept_all h none = grind (arith, common_steps, names_stay)

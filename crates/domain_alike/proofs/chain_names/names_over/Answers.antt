@@ -1,12 +1,11 @@
 use Rattle.std.proofs.Common.{◌≡◌, ◌∙◌, ◌+◌, ◌++◌, ◌∷◌, [], ap, arith, drop, subst, sym, take}
 use Rattle.std.proofs.lemmas.Bool.Decides.{nat_tests}
 use Rattle.std.proofs.lemmas.List.{take_more, take_all, drop_more, drop_all}
-use Rattle.domain_zone.specs.Enclosers.{exists_over}
-use Rattle.domain_nsec3.specs.Ancestors.{IsListOf}
 use Rattle.domain_nsec3.proofs.SharedLemmas.{common_shares}
 use Rattle.domain_alike.specs.AlikeSteps.{up_with_more}
-use Rattle.domain_alike.proofs.GatherLemmas.{gathered_end, gathered_more, gathered_start, none_over, IsGathered}
+use Rattle.domain_alike.proofs.GatherLemmas.{gathered_end, gathered_more, gathered_start, IsGathered}
 use Rattle.domain_alike.proofs.chain_names.names_over.Goals as goal
+use Rattle.std.proofs.lemmas.Grind.{common_steps}
 
 pub loop-owner-init : goal.loop-owner-init
 loop-owner-init c =
@@ -32,9 +31,7 @@ loop-owner-preserved c =
     (gathered_more s so_far (common_shares o c.loop-owner.previous.now s c.common_labels-shared.ensures)))
 
 pub returns-then-is_empty : goal.returns-then-is_empty
-returns-then-is_empty c =
-    subst (IsListOf (exists_over c.args.owners.now c.args.apex.now)) (sym c.new-names.ensures.items)
-    (none_over c.args.apex.now c.args.owners.now (grind (arith, nat_tests, sym c.is_empty.ensures ∙ c.if-is_empty.true)))
+returns-then-is_empty c = grind (arith, common_steps)
 
 pub returns : goal.returns
 returns c =

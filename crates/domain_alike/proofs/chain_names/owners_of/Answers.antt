@@ -1,14 +1,10 @@
-use Rattle.std.proofs.Common.{◌∙◌, ◌++◌, ◌∷◌, [], ap}
-use Rattle.domain_zone.specs.Owners.{owners_with_records}
-use Rattle.domain_borrowed.specs.Data.{zone_of_raw}
-use Rattle.domain_alike.proofs.KeptLemmas.{kept_all, kept_more, kept_none, kept_past}
+use Rattle.std.proofs.Common.{◌∙◌, ◌++◌, ◌∷◌, [], arith}
+use Rattle.domain_alike.proofs.KeptLemmas.{kept_all, kept_more, kept_past}
 use Rattle.domain_alike.proofs.chain_names.owners_of.Goals as goal
+use Rattle.std.proofs.lemmas.Grind.{common_steps}
 
 pub owners-init : goal.owners-init
-owners-init c =
-    kept_none (c.new-left.ensures
-    ∙ ap (λ rs. owners_with_records c.args.below_dname (zone_of_raw rs) c.args.apex.now) c.new_from_owned.ensures)
-    c.new-owners.ensures.items
+owners-init c = grind (arith, common_steps)
 
 pub owners-preserved-then-without_unsigned-is_unsigned_cut : goal.owners-preserved-then-without_unsigned-is_unsigned_cut
 owners-preserved-then-without_unsigned-is_unsigned_cut c =

@@ -1,14 +1,9 @@
-use Rattle.std.proofs.Common.{◌∙◌, ◌≤◌, ◌++◌, arith, drop, length, subst}
-use Rattle.domain_names.specs.Name.{wire_of}
+use Rattle.std.proofs.Common.{arith}
 use Rattle.domain_alike.proofs.lowered.write_lowered.Goals as goal
+use Rattle.std.proofs.lemmas.Grind.{common_steps}
 
 pub slice_bounds-copy_from_slice-end : goal.slice_bounds-copy_from_slice-end
-slice_bounds-copy_from_slice-end c =
-    let wire = c.as_wire-wire.ensures in
-    let fits : length (wire_of c.args.name.now) ≤ 255 = subst (λ n. length (wire_of n) ≤ 255) wire.labels wire.wire.valid.fits in
-    omega (arith, c.lower_wire-lowered.ensures.length, fits)
+slice_bounds-copy_from_slice-end c = grind (arith, common_steps)
 
 pub returns : goal.returns
-returns c =
-    let low = c.copy_from_slice.ensures.after ∙ c.lower_wire-lowered.ensures.octets in
-    λ i. low i ++ drop (c.lower_wire-lowered.ensures.length i) c.args.buffer.now
+returns c = grind (arith, common_steps)
