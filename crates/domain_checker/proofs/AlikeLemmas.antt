@@ -1,5 +1,5 @@
 -- What NSEC records say does not depend on TTLs, classes and the case of letters.
-use Rattle.std.proofs.Common.{◌≡◌, ℕ, Bool, cond, not, ◌&&◌, ◌||◌, List, [], ◌∷◌, length, refl, ◌∙◌, nat_eq, Option, Some, None}
+use Rattle.std.proofs.Common.{◌≡◌, ℕ, Bool, cond, not, ◌&&◌, ◌||◌, List, [], ◌∷◌, refl, ◌∙◌, nat_eq, Option, Some, None, arith}
 use Rattle.std.specs.List.{find}
 use Rattle.domain_names.specs.Name.{is_at_or_below, lowered}
 use Rattle.domain_names.specs.Order.{before}
@@ -7,15 +7,16 @@ use Rattle.domain_base.specs.Types.{ds, ns}
 use Rattle.domain_names.specs.Words.{Name}
 use Rattle.domain_bitmap.specs.Blocks.{contains_type}
 use Rattle.domain_zone.specs.Covering.{covers, matches, matches_or_covers}
-use Rattle.domain_zone.specs.Enclosers.{longer, shared}
+use Rattle.domain_zone.specs.Enclosers.{shared}
 use Rattle.domain_zone.specs.Zone.{ZoneRecord}
 use Rattle.domain_zone.proofs.NameLemmas.{before_left, before_right, lowered_below, one_lowered, same_lowered}
 use Rattle.domain_nsec.specs.Chain.{Link}
 use Rattle.domain_checker.specs.Alike.{ArePaired, IsAlike}
 use Rattle.domain_checker.specs.Reading.{cover_verdict, is_at_cut, is_cover, is_match, match_verdict, reading, verdict_of_both}
-use Rattle.domain_checker.specs.Verdict.{is_inside, proved_verdict, zone_verdict}
-use Rattle.domain_checker.specs.declared.verdict.Verdict.TheVariants.{OutsideZone, BelowDelegation, Has, NoType, EmptyName, NoName, NotProven}
+use Rattle.domain_checker.specs.Verdict.{is_inside, proved_verdict}
+use Rattle.domain_checker.specs.declared.verdict.Verdict.TheVariants.{OutsideZone, BelowDelegation, Has, NoType}
 use Rattle.domain_checker.proofs.PairedLemmas.{OptionsPaired, any_alike, find_alike}
+use Rattle.std.proofs.lemmas.Grind.{common_steps}
 
 -- ---- one record
 
@@ -59,10 +60,7 @@ module _ (a x : Name) (k l : Link) (alike : IsAlike k l) where
   match_verdict_alike t = λ i. cond (contains_type (alike.bits i) t) Has (cond (cut_alike i && not (nat_eq t ds)) BelowDelegation NoType)
 
   pub cover_verdict_alike : cover_verdict a k x ≡ cover_verdict a l x
-  cover_verdict_alike =
-      λ i. cond (lowered_below (lowered x) (owners i) && cut_alike i) BelowDelegation
-      (cond (lowered_below (nexts i) (lowered x) && not (same_lowered (nexts i) (lowered x))) EmptyName
-      (NoName (length (longer (shared_alike x k.owner l.owner owners i) (shared_alike x k.next l.next nexts i)))))
+  cover_verdict_alike = grind (arith, common_steps, owners, nexts, shared_alike)
 
 -- ---- lists
 
@@ -85,6 +83,4 @@ module _ (a x : Name) (t : ℕ) where
 
   pub proved_alike : (L : List ZoneRecord) (assume : Bool) (ks ls : List Link) → ArePaired IsAlike ks ls
       → proved_verdict L a assume ks x t ≡ proved_verdict L a assume ls x t
-  proved_alike L assume ks ls h =
-      let says = any_alike IsAlike (λ k. matches_or_covers before k.owner k.next x) (says_alike a x) ks ls h in
-      λ i. cond (not (is_at_or_below x a) || says i) (zone_verdict L a assume x t) NotProven
+  proved_alike L assume ks ls h = grind (arith, common_steps, any_alike, says_alike)

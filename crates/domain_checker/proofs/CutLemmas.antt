@@ -1,17 +1,17 @@
 -- The zone cuts that an NSEC3 chain holds: what exists is not strictly below one.
-use Rattle.std.proofs.Common.{◌≡◌, Bool, true, false, not, ◌&&◌, List, refl, ap, ◌∙◌, inl, inr, arith}
-use Rattle.std.proofs.lemmas.Bool.{cases_Bool, and_parts, and_from}
-use Rattle.domain_names.specs.Name.{is_strictly_below, lowered, same_name}
+use Rattle.std.proofs.Common.{◌≡◌, true, false, List, inl, inr, arith}
+use Rattle.std.proofs.lemmas.Bool.{cases_Bool}
+use Rattle.domain_names.specs.Name.{is_strictly_below}
 use Rattle.domain_names.specs.Words.{Name}
 use Rattle.domain_zone.specs.Enclosers.{exists_over}
 use Rattle.domain_zone.specs.Zone.{ZoneRecord, is_zone_cut}
-use Rattle.domain_zone.proofs.NameLemmas.{one_lowered, same_itself, same_lowered, lowered_below, below_itself, strictly_longer}
+use Rattle.domain_zone.proofs.NameLemmas.{one_lowered, same_itself, below_itself, strictly_longer}
 use Rattle.domain_zone.proofs.OwnerLemmas.{any_in, in_any}
 use Rattle.domain_nsec3.specs.Config.{ChainConfig}
 use Rattle.domain_nsec3.specs.Meaning.{CutsEnclose}
 use Rattle.domain_nsec3.specs.Owners.{is_original_owner, original_owners}
 use Rattle.domain_checker.specs.HashedVerdict.{is_below_chain_cut}
-use Rattle.domain_checker.proofs.EncloserLemmas.{cut_same}
+use Rattle.std.proofs.lemmas.Grind.{common_steps}
 
 module _ (L : List ZoneRecord) (a : Name) (config : ChainConfig) where
   -- a zone cut of the chain that y is strictly below
@@ -22,23 +22,11 @@ module _ (L : List ZoneRecord) (a : Name) (config : ChainConfig) where
     pub under : is_strictly_below y cut ≡ true
 
   pub cut_above : (y : Name) → is_below_chain_cut L a config y ≡ true → CutAbove y
-  cut_above y h =
-      let m = any_in (λ n. is_zone_cut L a n && is_strictly_below y n) (original_owners L a config) h in
-      let p = and_parts (is_zone_cut L a m.0) (is_strictly_below y m.0) m.2 in
-      record {
-        cut = m.0;
-        is_cut = p.0;
-        original = in_any (λ n. same_name n m.0) (original_owners L a config) m.0 m.1 (same_itself m.0 m.0 refl);
-        under = p.1;
-      }
+  cut_above y h = grind (arith, common_steps, any_in, in_any, same_itself)
 
   pub below_cut : (c y : Name) → is_zone_cut L a c ≡ true → is_original_owner L a config c ≡ true → is_strictly_below y c ≡ true
       → is_below_chain_cut L a config y ≡ true
-  below_cut c y cut original s =
-      let m = any_in (λ n. same_name n c) (original_owners L a config) original in
-      let at : Name → Bool = λ k. lowered_below (lowered y) k && not (same_lowered (lowered y) k) in
-      in_any (λ n. is_zone_cut L a n && is_strictly_below y n) (original_owners L a config) m.0 m.1
-      (and_from (is_zone_cut L a m.0) (is_strictly_below y m.0) (cut_same L a m.0 c m.2 ∙ cut) (ap at (one_lowered m.0 c m.2) ∙ s))
+  below_cut c y cut original s = grind (arith, common_steps, any_in, in_any, one_lowered)
 
   module _ (cuts : CutsEnclose L a config) where
     pub cut_apart : (c y : Name) → is_zone_cut L a c ≡ true → is_original_owner L a config c ≡ true

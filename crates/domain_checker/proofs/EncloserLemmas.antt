@@ -1,21 +1,22 @@
 -- The first of a name and its ancestors that exists is its closest encloser, and an occluded name is below a name that occludes and is not occluded itself.
-use Rattle.std.proofs.Common.{◌≡◌, ℕ, ◌≤◌, Bool, zero, suc, true, false, cond, not, ◌&&◌, ◌||◌, List, [], ◌∷◌, map, length, refl, sym, ap, ◌∙◌, inl, inr, arith}
+use Rattle.std.proofs.Common.{◌≡◌, ℕ, ◌≤◌, Bool, zero, suc, true, false, cond, not, ◌&&◌, List, [], ◌∷◌, map, length, refl, sym, ap, ◌∙◌, inl, inr, arith}
 use Rattle.std.specs.Prelude.{filter}
 use Rattle.std.specs.Char.{to_ascii_lowercase}
 use Rattle.std.specs.List.{list_any}
 use Rattle.std.proofs.lemmas.Bool.{cases_Bool, false≢true, and_parts, and_from, cases_lt}
 use Rattle.std.proofs.lemmas.List.{length-map}
 use Rattle.domain_names.specs.Name.{is_at_or_below, is_strictly_below, lowered, same_name}
-use Rattle.domain_base.specs.Types.{ns, dname}
+use Rattle.domain_base.specs.Types.{ns}
 use Rattle.domain_names.specs.Words.{Name}
 use Rattle.domain_zone.specs.Enclosers.{IsClosestEncloser, exists_over}
 use Rattle.domain_zone.specs.Zone.{ZoneRecord, has_type, is_zone_cut, occludes, is_occluded, is_unoccluded, distinct, unoccluded_owners, owns}
-use Rattle.domain_zone.proofs.NameLemmas.{one_lowered, same_itself, below_itself, below_trans, below_longer, below_length, below_parent, below_root, same_both}
-use Rattle.domain_zone.proofs.NameLemmas.{strictly_longer, strictly_from, same_length, lowered_below, same_lowered}
+use Rattle.domain_zone.proofs.NameLemmas.{one_lowered, below_itself, below_trans, below_longer, below_length, below_parent}
+use Rattle.domain_zone.proofs.NameLemmas.{strictly_longer, same_length, lowered_below, same_lowered}
 use Rattle.domain_zone.proofs.PairLemmas.{In}
 use Rattle.domain_zone.proofs.OwnerLemmas.{any_in, in_any, occluder_below}
 use Rattle.domain_zone.proofs.FindLemmas.{in_filter, from_map}
 use Rattle.domain_checker.specs.Verdict.{closest_encloser}
+use Rattle.std.proofs.lemmas.Grind.{common_steps}
 
 -- ---- names at or below each other
 
@@ -25,11 +26,7 @@ same_count x y e = sym (length-map x (map to_ascii_lowercase)) ∙ ap length (on
 
 -- x is strictly below what a name that it is strictly below is at or below
 pub strictly_trans : (x c n : Name) → is_strictly_below x c ≡ true → is_at_or_below c n ≡ true → is_strictly_below x n ≡ true
-strictly_trans x c n s q =
-    let p = and_parts (is_at_or_below x c) (not (same_name x c)) s in
-    let far = strictly_longer x c s in
-    let near = below_length c n q in
-    strictly_from x n (below_trans x c n p.0 q) (omega arith)
+strictly_trans x c n s q = grind (arith, common_steps, below_trans)
 
 -- ---- closest enclosers
 
@@ -39,18 +36,10 @@ module _ (names : List Name) (a : Name) where
 
   -- where some name exists, the apex does
   pub apex_from : (x : Name) → exists_over names a x ≡ true → exists_over names a a ≡ true
-  apex_from x there =
-      let p = and_parts (is_at_or_below x a) (list_any (λ n. is_at_or_below n x) names) there in
-      let m = any_in (λ n. is_at_or_below n x) names p.1 in
-      and_from (is_at_or_below a a) (list_any (λ n. is_at_or_below n a) names) (below_itself a)
-      (in_any (λ n. is_at_or_below n a) names m.0 m.1 (below_trans m.0 x a m.2 p.0))
+  apex_from x there = grind (arith, common_steps, any_in, below_itself, in_any, below_trans)
 
   pub closest_is : (x : Name) → exists_over names a a ≡ true → is_at_or_below x a ≡ true → IsClosestEncloser names a x (closest_encloser names a x)
-  closest_is [] e p = record {
-    found = exists_same [] a (same_both [] a p (below_root a)) ∙ e;
-    above = below_itself [];
-    longest = λ d f q. below_length [] d q;
-  }
+  closest_is [] e p = grind (arith, common_steps)
   closest_is (l ∷ x) e p =
       elim (exists_over names a (l ∷ x)) as (λ b. exists_over names a (l ∷ x) ≡ b
       → IsClosestEncloser names a (l ∷ x) (cond b (l ∷ x) (closest_encloser names a x))) [
@@ -94,10 +83,7 @@ module _ (below_dname : Bool) (L : List ZoneRecord) (a : Name) where
     pub under : is_strictly_below x name ≡ true
 
   some_occluder : (x : Name) → is_occluded below_dname L a x ≡ true → OccluderAbove x
-  some_occluder x o =
-      let r = any_in (λ r. occludes below_dname L a r.owner && is_strictly_below x r.owner) L o in
-      let p = and_parts (occludes below_dname L a r.0.owner) (is_strictly_below x r.0.owner) r.2 in
-      record { name = r.0.owner; over = p.0; under = p.1 }
+  some_occluder x o = grind (arith, common_steps, any_in)
 
   top_within : (n : ℕ) (x : Name) → length x ≤ n → is_occluded below_dname L a x ≡ true → (c : OccluderAbove x) × (is_occluded below_dname L a c.name ≡ false)
   top_within zero x l o = let c = some_occluder x o in let m = strictly_longer x c.name c.under in absurd (omega arith)
@@ -125,9 +111,7 @@ module _ (below_dname : Bool) (L : List ZoneRecord) (a : Name) where
 
   -- and occludes alike
   pub occludes_same : (m n : Name) → same_name m n ≡ true → occludes below_dname L a m ≡ occludes below_dname L a n
-  occludes_same m n s = ap (λ k. ((lowered_below k (lowered a) && not (same_lowered k (lowered a)))
-      && has_type (filter (λ r. same_lowered (lowered r.owner) k) L) ns)
-      || (below_dname && lowered_below k (lowered a) && has_type (filter (λ r. same_lowered (lowered r.owner) k) L) dname)) (one_lowered m n s)
+  occludes_same m n s = grind (arith, common_steps, one_lowered)
 
   -- ---- owners that are not occluded
 
@@ -140,9 +124,7 @@ module _ (below_dname : Bool) (L : List ZoneRecord) (a : Name) where
 
   -- whatever is the same as such an owner owns records
   pub owner_owns : (n x : Name) → In n (unoccluded_owners below_dname L a) → same_name n x ≡ true → owns L x ≡ true
-  owner_owns n x i s =
-      let r = record_of n i in
-      in_any (λ r. same_name r.owner x) L r.0 r.1 (same_itself r.0.owner x (ap lowered r.2 ∙ one_lowered n x s))
+  owner_owns n x i s = grind (arith, common_steps, record_of, in_any)
 
 -- ---- zone cuts
 

@@ -1,15 +1,14 @@
 -- The first element that passes a test, looked for from a place of the list on.
-use Rattle.std.proofs.Common.{◌≡◌, ℕ, ◌+◌, ◌<◌, Bool, true, false, cond, List, map, drop, length, get_or, Option, Some, None, sym, ap, ◌∙◌}
+use Rattle.std.proofs.Common.{◌≡◌, ℕ, ◌+◌, ◌<◌, Bool, true, false, cond, List, map, drop, length, get_or, Option, Some, sym, ap, ◌∙◌, arith}
 use Rattle.std.specs.List.{find}
 use Rattle.std.specs.Option.{is_some, option_map, option_or}
 use Rattle.std.specs.Ordering.{is_eq}
-use Rattle.std.proofs.lemmas.Bool.{false≢true}
-use Rattle.std.proofs.lemmas.List.{at_drop_more}
 use Rattle.domain_names.specs.Laws.{same_name_ties}
 use Rattle.domain_names.specs.Order.{before, canonical_cmp}
 use Rattle.domain_names.specs.Words.{Name}
 use Rattle.domain_zone.specs.Covering.{matches}
 use Rattle.domain_zone.proofs.NameLemmas.{same_is}
+use Rattle.std.proofs.lemmas.Grind.{common_steps}
 
 -- an owner matches the names that the order can't tell from it
 pub match_is_tie : (x y : Name) → matches before x y ≡ is_eq (canonical_cmp x y)
@@ -17,9 +16,7 @@ match_is_tie x y = sym (same_is x y) ∙ same_name_ties x y
 
 module _ {X Y : Type 0} (p : Y → Bool) (f : X → Y) (xs : List X) (i : ℕ) (x : X) (within : i < length xs) (at : x ≡ get_or xs i x) where
   found_from : find p (map f (drop i xs)) ≡ cond (p (f x)) (Some (f x)) (find p (map f (drop (i + 1) xs)))
-  found_from =
-      at_drop_more (λ ys. find p (map f ys)) xs i x within
-      ∙ ap (λ y. cond (p (f y)) (Some (f y)) (find p (map f (drop (i + 1) xs)))) (sym at)
+  found_from = grind (arith, common_steps)
 
   pub found_here : p (f x) ≡ true → find p (map f (drop i xs)) ≡ Some (f x)
   found_here e = found_from ∙ ap (λ b. cond b (Some (f x)) (find p (map f (drop (i + 1) xs)))) e
@@ -30,19 +27,10 @@ module _ {X Y : Type 0} (p : Y → Bool) (f : X → Y) (xs : List X) (i : ℕ) (
   -- what was met before counts, and else what is found from the place on
   module _ {W : Type 0} (v : W → Y) (met : Option W) (all : Option Y) (so : all ≡ option_or (option_map v met) (find p (map f (drop i xs)))) where
     pub met_here : is_some met ≡ false → p (f x) ≡ true → all ≡ option_or (Some (f x)) (find p (map f (drop (i + 1) xs)))
-    met_here none e =
-        elim met as (λ o. is_some o ≡ false → all ≡ option_or (option_map v o) (find p (map f (drop i xs))) → all ≡ Some (f x)) [
-          | None ↦ λ n s. s ∙ found_here e
-          | Some y ↦ λ n s. absurd (false≢true (sym n))
-        ] none so
+    met_here none e = grind (arith, common_steps)
 
     pub met_later : p (f x) ≡ false → all ≡ option_or (option_map v met) (find p (map f (drop (i + 1) xs)))
     met_later e = so ∙ ap (option_or (option_map v met)) (found_later e)
 
     pub met_before : is_some met ≡ true → all ≡ option_or (option_map v met) (find p (map f (drop (i + 1) xs)))
-    met_before some =
-        elim met as (λ o. is_some o ≡ true → all ≡ option_or (option_map v o) (find p (map f (drop i xs)))
-        → all ≡ option_or (option_map v o) (find p (map f (drop (i + 1) xs)))) [
-          | None ↦ λ n s. absurd (false≢true n)
-          | Some y ↦ λ n s. s
-        ] some so
+    met_before some = grind (arith, common_steps)

@@ -1,5 +1,5 @@
 -- The first element that passes a test, looked for in a list to which one element is added.
-use Rattle.std.proofs.Common.{◌≡◌, ℕ, Bool, true, false, cond, List, [], ◌∷◌, ◌++◌, Option, Some, None, refl, sym, ap, ◌∙◌}
+use Rattle.std.proofs.Common.{◌≡◌, ℕ, Bool, true, false, cond, List, [], ◌∷◌, ◌++◌, Option, Some, None, refl, sym, ap, ◌∙◌, arith}
 use Rattle.std.specs.List.{find}
 use Rattle.std.specs.Option.{is_some, option_map, option_or, unwrap_or}
 use Rattle.std.proofs.lemmas.Bool.{false≢true}
@@ -8,10 +8,11 @@ use Rattle.domain_octets.proofs.StdLemmas.{or_none}
 use Rattle.domain_names.specs.Words.{Name}
 use Rattle.domain_nsec.specs.Chain.{Link}
 use Rattle.domain_checker.specs.HandedIn.{HasRead}
-use Rattle.domain_checker.specs.Reading.{cover_verdict, is_cover, is_match, list_verdict, match_verdict, verdict_of_both}
+use Rattle.domain_checker.specs.Reading.{cover_verdict, list_verdict, match_verdict, verdict_of_both}
 use Rattle.domain_checker.specs.declared.nsec_check.NsecCheck.{NsecCheck}
 use Rattle.domain_checker.specs.declared.verdict.Verdict.{Verdict}
 use Rattle.domain_checker.specs.declared.verdict.Verdict.TheVariants.{NotProven}
+use Rattle.std.proofs.lemmas.Grind.{common_steps}
 
 module _ {X V : Type 0} (p : X → Bool) (f : X → V) (xs : List X) (x : X) where
   found_with : (b : Bool) → p x ≡ b → find p (xs ++ x ∷ []) ≡ option_or (find p xs) (cond b (Some x) None)
@@ -40,9 +41,6 @@ module _ {X V : Type 0} (p : X → Bool) (f : X → V) (xs : List X) (x : X) whe
   pub found_before : (found : Option V) → found ≡ option_map f (find p xs) → p x ≡ false → found ≡ option_map f (find p (xs ++ x ∷ []))
   found_before found so e = so ∙ ap (option_map f) (sym (found_with false e ∙ or_none (find p xs)))
 
-pub some_is_none : {V : Type 0} (o : Option V) (v : V) → o ≡ Some v → o ≡ None → ⊥
-some_is_none o v e n = absurd (cc)
-
 -- what is known after the last record says what the list of all says
 told : (a x : Name) (t : ℕ) (m c : Option Link) (matched covered : Option Verdict) → matched ≡ option_map (λ k. match_verdict a k t) m
     → (matched ≡ None → covered ≡ option_map (λ k. cover_verdict a k x) c)
@@ -59,6 +57,4 @@ says a x t None (Some k) = refl
 
 pub handed_in : (a x : Name) (t : ℕ) (listed : List Link) (check : NsecCheck) → HasRead a x t listed check
     → unwrap_or (option_or check.matched check.covered) NotProven ≡ list_verdict a listed x t
-handed_in a x t listed check h =
-    ap (λ o. unwrap_or o NotProven) (told a x t (find (is_match a x) listed) (find (is_cover a x) listed) check.matched check.covered h.matching h.covering)
-    ∙ says a x t (find (is_match a x) listed) (find (is_cover a x) listed)
+handed_in a x t listed check h = grind (arith, common_steps)

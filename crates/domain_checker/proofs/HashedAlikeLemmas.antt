@@ -1,19 +1,16 @@
 -- What NSEC3 records say does not depend on TTLs, classes and the case of letters.
-use Rattle.std.proofs.Common.{◌≡◌, ℕ, ◌<◌, ◌≤◌, cond, not, ◌&&◌, ◌||◌, List, [], ◌∷◌, map, length, refl, sym, ap, ◌∙◌, subst, inl, inr, nat_eq, Option, Some}
-use Rattle.std.proofs.Common.{None, arith}
+use Rattle.std.proofs.Common.{◌≡◌, ℕ, cond, not, ◌&&◌, ◌||◌, List, [], ◌∷◌, map, refl, sym, ap, ◌∙◌, subst, inl, inr, Option, Some, None, arith}
 use Rattle.std.specs.Prelude.{is_some, unwrap_or}
 use Rattle.std.specs.Char.{to_ascii_lowercase}
 use Rattle.std.specs.List.{list_all}
-use Rattle.std.proofs.lemmas.Bool.{cases_lt}
-use Rattle.std.proofs.lemmas.Bool.Decides.{nat_tests}
 use Rattle.std.proofs.lemmas.List.{length-map}
 use Rattle.domain_codecs.specs.Codec.{base32_digits, base32_octets, base32_value, is_base32_length, is_digit}
 use Rattle.domain_octets.specs.Words.{Octets}
 use Rattle.domain_codecs.specs.declared.codec.Codec.TheVariants.{Base32Hex}
 use Rattle.domain_names.specs.Name.{is_at_or_below, lowered, same_name}
-use Rattle.domain_base.specs.Types.{ds, ns}
+use Rattle.domain_base.specs.Types.{ns}
 use Rattle.domain_names.specs.Words.{Label, Name}
-use Rattle.domain_bitmap.specs.Blocks.{contains_type, types_of}
+use Rattle.domain_bitmap.specs.Blocks.{contains_type}
 use Rattle.domain_chain_rdata.specs.OptOut.{is_opt_out}
 use Rattle.domain_zone.specs.Covering.{covers, matches}
 use Rattle.domain_zone.specs.Zone.{ZoneRecord, is_zone_cut}
@@ -25,35 +22,20 @@ use Rattle.domain_nsec3.specs.Owners.{original_owners}
 use Rattle.domain_checker.specs.Alike.{ArePaired, IsHashedAlike}
 use Rattle.domain_checker.specs.HashedList.{hash_in, is_hash_cover, is_hash_match, is_some_with, is_spelling, owner_hash, read_label, same_parameters}
 use Rattle.domain_checker.specs.HashedView.{HashedRecords, chain_records, first_cover, first_match, with_links}
-use Rattle.domain_checker.specs.HashedReading.{IsWalked, hash_cover_verdict, hash_match_verdict, is_none, tells_cut, told_verdict}
+use Rattle.domain_checker.specs.HashedReading.{IsWalked, hash_cover_verdict, hash_match_verdict, tells_cut, told_verdict}
 use Rattle.domain_checker.specs.HashedVerdict.{IsFirst, hashed_proved_verdict, hashed_zone_verdict, is_covered, is_matched, is_ok_with, missing_verdict}
 use Rattle.domain_checker.specs.HashedVerdict.{next_closer, proves}
 use Rattle.domain_checker.specs.Verdict.{closest_encloser}
 use Rattle.domain_checker.specs.declared.verdict.Verdict.{Verdict}
-use Rattle.domain_checker.specs.declared.verdict.Verdict.TheVariants.{BelowDelegation, Has, NoType, EmptyName, NotProven}
+use Rattle.domain_checker.specs.declared.verdict.Verdict.TheVariants.{NotProven}
 use Rattle.domain_checker.proofs.PairedLemmas.{OptionsPaired, any_alike, find_alike}
+use Rattle.std.proofs.lemmas.Grind.{common_steps}
 
 -- ---- labels
 
 -- a digit of Base 32 hex has one value in either case
 value_lower : (c : ℕ) → base32_value (to_ascii_lowercase c) ≡ base32_value c
-value_lower c =
-    elim (cases_lt c 65) [
-      | inl h ↦ ap base32_value (before c h)
-      | inr h ↦ elim (cases_lt c 91) [
-        | inl g ↦ capital c h g
-        | inr g ↦ ap base32_value (after c g)
-      ]
-    ]
-  where
-    before : (c : ℕ) → c < 65 → to_ascii_lowercase c ≡ c
-    before c h = grind (arith, nat_tests)
-
-    after : (c : ℕ) → 91 ≤ c → to_ascii_lowercase c ≡ c
-    after c g = grind (arith, nat_tests)
-
-    capital : (c : ℕ) → 65 ≤ c → c < 91 → base32_value (to_ascii_lowercase c) ≡ base32_value c
-    capital c h g = grind (arith, nat_tests)
+value_lower c = grind (arith, common_steps)
 
 all_lower : (label : Label) → list_all (is_digit Base32Hex) (map to_ascii_lowercase label) ≡ list_all (is_digit Base32Hex) label
 all_lower [] = refl
@@ -97,9 +79,7 @@ module _ (a : Name) (p : Parameters) (k l : HashedLink) (alike : IsHashedAlike k
   cut_alike d = λ i. not (same_name d a) && contains_type (alike.bits i) ns
 
   pub match_says_alike : (d : Name) (t : ℕ) → hash_match_verdict a d k t ≡ hash_match_verdict a d l t
-  match_says_alike d t =
-      λ i. cond (contains_type (alike.bits i) t) Has
-      (cond (cut_alike d i && not (nat_eq t ds)) BelowDelegation (cond (is_none (types_of (alike.bits i))) EmptyName NoType))
+  match_says_alike d t = grind (arith, common_steps)
 
 -- ---- lists
 
@@ -145,9 +125,7 @@ module _ (R : HashedRecords) (ls : List HashedLink) (alike : ArePaired IsHashedA
   told_alike : (d : Name) (k l : HashedLink) → IsHashedAlike k l → (t : ℕ) (next : Option Octets)
       → told_verdict R d k t next ≡ told_verdict S d l t next
   told_alike d k l h t None = match_says_alike R.apex R.parameters k l h d t
-  told_alike d k l h t (Some v) =
-      λ i. cond (cut_alike R.apex R.parameters k l h d i) BelowDelegation (cover_says_alike (length d) (first_cover R v)
-      (first_cover S v) (covering v) i)
+  told_alike d k l h t (Some v) = grind (arith, common_steps, cover_says_alike, covering)
 
   module _ (x : Name) (t : ℕ) (verdict : Verdict) where
     pub walked_alike : IsWalked R x t verdict → IsWalked S x t verdict

@@ -1,6 +1,6 @@
 -- What the closest encloser tells of a name is what the way from the name to the apex gives.
-use Rattle.std.proofs.Common.{◌≡◌, ℕ, Bool, true, false, cond, not, ◌&&◌, List, length, refl, sym, ap, ◌∙◌, inl, inr, nat_eq, Option, Some, None, arith}
-use Rattle.std.proofs.lemmas.Bool.{cases_Bool, eq-eqb, ne_eqb, false≢true}
+use Rattle.std.proofs.Common.{◌≡◌, ℕ, true, false, cond, not, ◌&&◌, List, length, refl, sym, ap, ◌∙◌, inl, inr, nat_eq, Option, Some, None, arith}
+use Rattle.std.proofs.lemmas.Bool.{cases_Bool, false≢true}
 use Rattle.std.specs.List.{Contains}
 use Rattle.domain_octets.specs.Words.{Octets}
 use Rattle.domain_names.specs.Name.{is_at_or_below, same_name}
@@ -9,7 +9,6 @@ use Rattle.domain_names.specs.Words.{Name}
 use Rattle.domain_bitmap.specs.Blocks.{contains_type, types_of}
 use Rattle.domain_zone.specs.Zone.{ZoneRecord, has_type, records_of}
 use Rattle.domain_zone.proofs.NameLemmas.{below_trans, same_length}
-use Rattle.domain_zone.proofs.ZoneLemmas.{same_back}
 use Rattle.domain_zone.proofs.FindLemmas.{in_at, stands_from}
 use Rattle.domain_nsec3.specs.Chain.{HashedLink}
 use Rattle.domain_nsec3.specs.Config.{ChainConfig}
@@ -22,33 +21,19 @@ use Rattle.domain_checker.specs.HashedEncloser.{Encloser, IsDenial, IsEncloser, 
 use Rattle.domain_checker.specs.HashedEncloser.{lower_verdict, next_cover, own_verdict}
 use Rattle.domain_checker.specs.HashedReading.{IsNextHash, IsTold, IsUnmatched, IsWalked, hash_cover_verdict, is_none, tells_cut, told_verdict}
 use Rattle.domain_checker.specs.declared.verdict.Verdict.TheVariants.{BelowDelegation, Has, NoType, EmptyName}
-use Rattle.domain_checker.proofs.EncloserLemmas.{same_count}
 use Rattle.domain_checker.proofs.HashedListLemmas.{covered_never, matched_once, told_at}
 use Rattle.domain_checker.proofs.HashedVerdictLemmas.{ns_listed}
-
--- a test of numbers
-test_is : (m n : ℕ) (b : Bool) → (m ≡ n → b ≡ true) → (b ≡ true → m ≡ n) → nat_eq m n ≡ b
-test_is m n b f g =
-    elim (cases_Bool b) [
-      | inl e ↦ eq-eqb m n (g e) ∙ sym e
-      | inr e ↦ ne_eqb m n (λ q. false≢true (sym e ∙ f q)) ∙ sym e
-    ]
+use Rattle.std.proofs.lemmas.Grind.{common_steps}
 
 module _ (R : HashedRecords) (x : Name) (e : Encloser)
     (is : IsEncloser R x e) where
   -- whether it is x itself
   pub itself_counted : nat_eq e.count (length x) ≡ same_name is.name x
-  itself_counted =
-      ap (λ n. nat_eq n (length x)) is.counts
-      ∙ test_is (length is.name) (length x) (same_name is.name x)
-      (λ q. same_back x is.name (same_length x is.name is.first.above (omega arith))) (same_count is.name x)
+  itself_counted = grind (arith, common_steps)
 
   -- whether it is a zone cut
   pub cut_counted : encloser_is_cut R.apex e ≡ tells_cut R.apex is.name e.link
-  cut_counted =
-      ap (λ n. not (nat_eq n (length R.apex)) && contains_type e.link.bits ns) is.counts
-      ∙ ap (λ b. not b && contains_type e.link.bits ns) (test_is (length is.name) (length R.apex) (same_name is.name R.apex)
-      (λ q. same_length is.name R.apex is.first.within (omega arith)) (same_count is.name R.apex))
+  cut_counted = grind (arith, common_steps, same_length)
 
   -- what is told of x by how many labels there are
   pub encloser_told : (t : ℕ) → IsTold R x t (encloser_verdict R.apex e (length x) t)

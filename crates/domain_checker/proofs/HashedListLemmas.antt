@@ -1,6 +1,5 @@
 -- What a record of an NSEC3 chain says of the hash of a name that no other name of the chain has.
-use Rattle.std.proofs.Common.{◌≡◌, ℕ, Bool, zero, suc, true, cond, not, ◌&&◌, ◌||◌, List, [], ◌∷◌, map, refl, sym, ap, ◌∙◌, inl, inr, eq-eqb, Some, None}
-use Rattle.std.proofs.Common.{slice_get}
+use Rattle.std.proofs.Common.{◌≡◌, ℕ, Bool, zero, suc, true, cond, not, ◌&&◌, ◌||◌, List, [], ◌∷◌, map, refl, sym, ap, ◌∙◌, inr, eq-eqb, Some, slice_get}
 use Rattle.std.specs.List.{AllByRecursion, list_any}
 use Rattle.std.specs.Cmp.Lexicographic.{nat_list_cmp_total, slice_cmp, bytes_decides}
 use Rattle.std.specs.Ordering.{nat_cmp, is_lt, is_eq, ordering_reverse}
@@ -10,9 +9,8 @@ use Rattle.std.proofs.lemmas.Bool.{false≢true, and_parts, not-true, or_left, o
 use Rattle.std.proofs.lemmas.List.Elements.{recursion_from_All}
 use Rattle.std.proofs.lemmas.List.Sums.{list_all-from_AllPass}
 use Rattle.domain_codecs.specs.Base32.{base32_lower}
-use Rattle.domain_codecs.specs.Codec.{is_digit, IsBase32}
+use Rattle.domain_codecs.specs.Codec.{IsBase32}
 use Rattle.domain_octets.specs.Words.{Octets, AreOctets}
-use Rattle.domain_codecs.specs.declared.codec.Codec.TheVariants.{Base32Hex}
 use Rattle.domain_names.specs.Name.{is_at_or_below, same_name, wire_of}
 use Rattle.domain_names.specs.Words.{Name}
 use Rattle.domain_bitmap.specs.Bitmap.{bitmap_octets}
@@ -27,9 +25,11 @@ use Rattle.domain_nsec3.specs.Config.{ChainConfig, Parameters, Hash, hash_name}
 use Rattle.domain_nsec3.specs.Meaning.{IsAlone, IsCovered, IsMatched, IsMatchedOrCoveredOnce, IsRecordOf, octets_before}
 use Rattle.domain_nsec3.specs.Owners.{is_chain_name, nsec3_lists}
 use Rattle.domain_checker.specs.HashedFacts.{ChainFacts}
-use Rattle.domain_checker.specs.HashedList.{same_parameters, is_spelling, read_label, hash_in, owner_hash, is_some_with, is_hash_match, is_hash_cover}
+use Rattle.domain_checker.specs.HashedList.{same_parameters, is_spelling, owner_hash, is_some_with, is_hash_match, is_hash_cover}
 use Rattle.domain_checker.specs.HashedView.{chain_records}
 use Rattle.domain_checker.specs.HashedVerdict.{is_covered, is_matched, is_ok_with}
+use Rattle.std.proofs.Common.{arith}
+use Rattle.std.proofs.lemmas.Grind.{common_steps}
 
 -- octets that the order cannot tell apart
 pub tied_is : (u v : Octets) → matches octets_before u v ≡ is_eq (slice_cmp nat_cmp u v)
@@ -49,10 +49,7 @@ end_at : (a : Name) (links : List HashedLink) (ps : List (Octets × Octets)) →
     → (j : ℕ) (k : HashedLink) → slice_get links j ≡ Some k → (p : Octets × Octets) × In p ps × (k.owner ≡ hashed_owner a p.0)
 end_at a [] ps e j k g = absurd (cc)
 end_at a (l ∷ links) [] e j k g = absurd (cc)
-end_at a (l ∷ links) (p ∷ ps) e zero k g =
-    let same : l ≡ k = cc in
-    let pair : ends l ≡ ends_of a p = cc in
-    (p, inl refl, ap (λ m. m.owner) (sym same) ∙ ap (λ q. q.0) pair)
+end_at a (l ∷ links) (p ∷ ps) e zero k g = grind (arith, common_steps)
 end_at a (l ∷ links) (p ∷ ps) e (suc j) k g =
     let rest : map ends links ≡ map (ends_of a) ps = cc in
     let r = end_at a links ps rest j k g in
@@ -64,9 +61,7 @@ in_cycle (u ∷ us) p i = (in_pairs (u ∷ us) u p i).0
 
 -- Base 32 that is read back is a spelling
 pub spelled_back : ((h : Octets) → AreOctets h → IsBase32 (base32_lower h) h) → (h : Octets) → AreOctets h → is_spelling (base32_lower h) ≡ true
-spelled_back reads_back h o =
-    let b = reads_back h o in
-    λ j. list_all-from_AllPass (is_digit Base32Hex) (base32_lower h) b.digits j && b.whole j
+spelled_back reads_back h o = grind (arith, common_steps, list_all-from_AllPass)
 
 pub parameters_tie : (p : Parameters) → same_parameters p p ≡ true
 parameters_tie p =
@@ -99,10 +94,7 @@ module _ (L : List ZoneRecord) (a : Name) (config : ChainConfig) (links : List H
 
   -- no record of the chain is passed over
   pub hash_at : (k : HashedLink) → In k links → (h : Octets) → AreOctets h → k.owner ≡ hashed_owner a h → owner_hash a config.parameters k ≡ Some h
-  hash_at k i h o e =
-      (λ j. cond ((ap (λ p. same_parameters p config.parameters) (told_at k i).0 ∙ parameters_tie config.parameters) j) (hash_in a (e j)) None)
-      ∙ (λ j. cond (same_itself a a refl j && spelled_back facts.reads_back h o j) (Some (read_label (base32_lower h))) None)
-      ∙ ap Some (sym (facts.reads_back h o).value)
+  hash_at k i h o e = grind (arith, common_steps, told_at, parameters_tie, same_itself, spelled_back)
 
   -- what a record of the chain says of the hash of a name, a list says that has the record
   module _ (listed : List HashedLink) (has : (k : HashedLink) → In k links → In k listed) (d : Name) where

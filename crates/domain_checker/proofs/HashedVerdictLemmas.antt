@@ -1,5 +1,5 @@
 -- What a list of records of an NSEC3 chain says is what it proves.
-use Rattle.std.proofs.Common.{◌≡◌, ◌≢◌, ℕ, ◌+◌, ◌-◌, ◌≤◌, ◌<◌, Bool, true, false, cond, not, ◌&&◌, ◌||◌, List, [], ◌∷◌, All, length, drop, refl, sym, ap, ◌∙◌}
+use Rattle.std.proofs.Common.{◌≡◌, ◌≢◌, ℕ, ◌-◌, ◌≤◌, ◌<◌, Bool, true, false, cond, not, ◌&&◌, ◌||◌, List, [], ◌∷◌, All, length, refl, sym, ap, ◌∙◌}
 use Rattle.std.proofs.Common.{subst, inl, inr, ◌⊎◌, nat_eq, Option, Some, None, arith}
 use Rattle.std.specs.Prelude.{Ok, filter}
 use Rattle.std.specs.List.{find, list_any, Contains, range_with_len}
@@ -7,15 +7,15 @@ use Rattle.std.proofs.lemmas.Bool.{cases_Bool, cases_lt, false≢true, and_parts
 use Rattle.std.proofs.lemmas.List.FromFn.{get_or-range_with_len, length-range_with_len}
 use Rattle.std.proofs.lemmas.Option.{slice_get-get_or}
 use Rattle.domain_octets.specs.Words.{Octets}
-use Rattle.domain_names.specs.Name.{is_at_or_below, is_strictly_below, lowered, same_name}
+use Rattle.domain_names.specs.Name.{is_at_or_below, is_strictly_below, same_name}
 use Rattle.domain_base.specs.Types.{ds, ns, rrsig}
 use Rattle.domain_names.specs.Words.{Name}
 use Rattle.domain_bitmap.specs.Bitmap.{bitmap_octets}
 use Rattle.domain_bitmap.specs.Blocks.{contains_type, types_of, types_below}
 use Rattle.domain_chain_rdata.specs.OptOut.{is_opt_out}
 use Rattle.domain_zone.specs.Enclosers.{exists_over, IsClosestEncloser}
-use Rattle.domain_zone.specs.Zone.{ZoneRecord, has_type, is_zone_cut, lists_type, owns, records_of, unoccluded_owners}
-use Rattle.domain_zone.proofs.NameLemmas.{one_lowered, same_lowered, below_itself, below_trans, below_longer, below_length, strictly_from, same_length}
+use Rattle.domain_zone.specs.Zone.{ZoneRecord, has_type, is_zone_cut, owns, records_of, unoccluded_owners}
+use Rattle.domain_zone.proofs.NameLemmas.{one_lowered, below_itself, below_trans, below_longer, below_length, strictly_from, same_length}
 use Rattle.domain_zone.proofs.PairLemmas.{In}
 use Rattle.domain_zone.proofs.OwnerLemmas.{any_in, in_any, typed_owns}
 use Rattle.domain_zone.proofs.ZoneLemmas.{same_back}
@@ -23,7 +23,7 @@ use Rattle.domain_zone.proofs.FindLemmas.{any_none, in_at, in_filter, find_some,
 use Rattle.domain_nsec3.specs.Chain.{HashedLink, IsHashedChain}
 use Rattle.domain_nsec3.specs.Config.{ChainConfig, hash_name}
 use Rattle.domain_nsec3.specs.Meaning.{AreAlone, IsAlone}
-use Rattle.domain_nsec3.specs.Owners.{is_chain_name, is_empty, is_excluded, is_listed, is_original_owner, is_unsigned_cut, nsec3_lists, original_owners}
+use Rattle.domain_nsec3.specs.Owners.{is_chain_name, is_empty, is_excluded, is_original_owner, nsec3_lists, original_owners}
 use Rattle.domain_checker.specs.HashedFacts.{ChainFacts, ChainsAreKnown}
 use Rattle.domain_checker.specs.HashedList.{is_hash_match, is_hash_cover}
 use Rattle.domain_checker.specs.HashedReading.{is_none, tells_cut, hash_match_verdict, hash_cover_verdict, told_verdict, IsNextHash, IsUnmatched, IsWalked}
@@ -35,9 +35,10 @@ use Rattle.domain_checker.specs.declared.verdict.Verdict.{Verdict}
 use Rattle.domain_checker.specs.declared.verdict.Verdict.TheVariants.{OutsideZone, BelowDelegation, Has, NoType, EmptyName, OptOut, NoName, NotProven}
 use Rattle.domain_checker.proofs.CutLemmas.{below_cut, cut_above, cut_apart, not_below}
 use Rattle.domain_checker.proofs.DefiniteLemmas.{choose, definite_proven, is_definite}
-use Rattle.domain_checker.proofs.EncloserLemmas.{apex_from, closest_is, cut_same, exists_same, owner_owns, same_count}
-use Rattle.domain_checker.proofs.HashedListLemmas.{covered_in, covered_never, matched_in, matched_once, told_at, hash_same}
+use Rattle.domain_checker.proofs.EncloserLemmas.{apex_from, closest_is, cut_same, exists_same, owner_owns}
+use Rattle.domain_checker.proofs.HashedListLemmas.{covered_in, covered_never, matched_in, matched_once, told_at}
 use Rattle.domain_checker.proofs.HashedWalkLemmas.{closer_is}
+use Rattle.std.proofs.lemmas.Grind.{common_steps}
 
 -- ---- a bitmap without types
 
@@ -75,28 +76,11 @@ nil_some types gives t b e =
 module _ (L : List ZoneRecord) (a : Name) (config : ChainConfig) where
   -- NS is listed where the name owns NS records
   pub ns_listed : (n : Name) → nsec3_lists L a config n ns ≡ has_type (records_of L n) ns
-  ns_listed n = by (owns L n) (is_zone_cut L a n) (has_type (records_of L n) ns) (typed_owns L n ns)
-    where
-      by : (o c h : Bool) → (h ≡ true → o ≡ true) → (o && ((((false && not (is_unsigned_cut L a n)) || (false && same_name n a))
-          || (false && (config.assume_dnskeys_will_be_added && same_name n a))) || (h && ((not c || true) || false)))) ≡ h
-      by true true true f = refl
-      by true true false f = refl
-      by true false true f = refl
-      by true false false f = refl
-      by false c true f = f refl
-      by false c false f = refl
+  ns_listed n = grind (arith, common_steps, typed_owns)
 
   -- an original owner name has RRSIG or NS
   some_listed : (n : Name) → owns L n ≡ true → (nsec3_lists L a config n rrsig ≡ true) ⊎ (nsec3_lists L a config n ns ≡ true)
-  some_listed n o =
-      elim (cases_Bool (is_unsigned_cut L a n)) [
-        | inl e ↦
-            let cut = (and_parts (is_zone_cut L a n) (not (has_type (records_of L n) ds)) e).0 in
-            inr (ns_listed n ∙ (and_parts (is_strictly_below n a) (has_type (records_of L n) ns) cut).1)
-        | inr e ↦ inl (λ i. o i && ((((true && not (e i)) || (false && same_name n a))
-            || (false && (config.assume_dnskeys_will_be_added && same_name n a)))
-            || lists_type (is_zone_cut L a n) (records_of L n) rrsig))
-      ]
+  some_listed n o = grind (arith, common_steps)
 
   original_owns : (x : Name) → is_original_owner L a config x ≡ true → owns L x ≡ true
   original_owns x h =
@@ -106,24 +90,11 @@ module _ (L : List ZoneRecord) (a : Name) (config : ChainConfig) where
 
   -- a name of the chain that is no original owner lists nothing
   empty_lists : (x : Name) → is_chain_name L a config x ≡ true → is_original_owner L a config x ≡ false → (t : ℕ) → nsec3_lists L a config x t ≡ false
-  empty_lists x h out t =
-      let e : is_empty L a config x ≡ true = sym (λ i. out i || is_empty L a config x) ∙ h in
-      let q = and_parts (is_at_or_below x a && not (owns L x)) (list_any (λ n. is_strictly_below n x) (original_owners L a config)) e in
-      let other = (and_parts (is_at_or_below x a) (not (owns L x)) q.0).1 in
-      let none : owns L x ≡ false = elim (cases_Bool (owns L x)) [
-        | inl o ↦ absurd (false≢true (ap not (sym o) ∙ other))
-        | inr o ↦ o
-      ] in
-      λ i. none i && is_listed (is_unsigned_cut L a x) (same_name x a) (config.assume_dnskeys_will_be_added && same_name x a)
-      (is_zone_cut L a x) (records_of L x) t
+  empty_lists x h out t = grind (arith, common_steps)
 
 none_found : {X : Type 0} (p : X → Bool) (xs : List X) → ((x : X) → In x xs → p x ≡ true → ⊥) → find p xs ≡ None
 none_found p [] f = refl
-none_found p (x ∷ xs) f =
-    elim (cases_Bool (p x)) [
-      | inl e ↦ absurd (f x (inl refl) e)
-      | inr e ↦ (λ i. cond (e i) (Some x) (find p xs)) ∙ none_found p xs (λ y i. f y (inr i))
-    ]
+none_found p (x ∷ xs) f = grind (arith, common_steps, (none_found p xs (λ y i. f y (inr i))))
 
 module _ (L : List ZoneRecord) (a : Name) (config : ChainConfig) (links : List HashedLink) (facts : ChainFacts L a config links)
     (listed : List HashedLink) (among : (k : HashedLink) → In k listed → Stands links k)
@@ -171,9 +142,7 @@ module _ (L : List ZoneRecord) (a : Name) (config : ChainConfig) (links : List H
   -- without the record of the closest encloser nothing is proved
   untold : (t : ℕ) → is_matched (chain_records a config listed) (closest_encloser (original_owners L a config) a x) ≡ false
       → NotProven ≡ hashed_proved_verdict L a config listed x t
-  untold t f =
-      sym (λ j. cond (not (low j) || (f j && ((same_name en x || is_zone_cut L a en) || covered (next_closer x en))))
-      (hashed_zone_verdict L a config x t) NotProven)
+  untold t f = grind (arith, common_steps)
 
   pub none_proved : (t : ℕ) → IsUnmatched (chain_records a config listed) x → NotProven ≡ hashed_proved_verdict L a config listed x t
   none_proved t f =
@@ -184,10 +153,7 @@ module _ (L : List ZoneRecord) (a : Name) (config : ChainConfig) (links : List H
       (known : hash_name config.hash d ≡ Ok v) (k : HashedLink) (found : find (is_hash_match a config.parameters v) listed
       ≡ Some k) where
     alone_at : (y : Name) → is_at_or_below x y ≡ true → is_at_or_below y a ≡ true → (w : Octets) → hash_name config.hash y ≡ Ok w → IsAlone L a config y w
-    alone_at y up in_zone w is =
-        let f = free y up in_zone in
-        let same : f.0 ≡ w = let e : Ok f.0 ≡ Ok w = sym f.1.known ∙ is in cc in
-        subst (IsAlone L a config y) same f.1
+    alone_at y up in_zone w is = grind (arith, common_steps)
 
     passes : In k listed × (is_hash_match a config.parameters v k ≡ true)
     passes = find_some (is_hash_match a config.parameters v) listed k found
@@ -229,10 +195,7 @@ module _ (L : List ZoneRecord) (a : Name) (config : ChainConfig) (links : List H
       is_d = same_length en d down level
 
       proves_is : proves L a config listed x ≡ ((same_name d x || is_zone_cut L a d) || is_covered (chain_records a config listed) (next_closer x d))
-      proves_is =
-          let long : length en ≡ length d = omega (arith, shorter, level) in
-          λ j. (ap (is_ok_with (λ v. list_any (is_hash_match a config.parameters v) listed)) (hash_same config.hash en d is_d) ∙ first.found) j
-          && ((same_lowered (one_lowered en d is_d j) (lowered x) || cut_same L a en d is_d j) || covered (drop (length x - (long j + 1)) x))
+      proves_is = grind (arith, common_steps, is_d, one_lowered, cut_same)
 
       proved : (w : Verdict) → ((same_name d x || is_zone_cut L a d)
           || is_covered (chain_records a config listed) (next_closer x d)) ≡ true → w ≡ hashed_zone_verdict L a config x t
@@ -244,10 +207,7 @@ module _ (L : List ZoneRecord) (a : Name) (config : ChainConfig) (links : List H
           (cond (exists_over (original_owners L a config) a x) EmptyName
           (missing_verdict (is_opt_out config.flags) (length (closest_encloser (original_owners L a config) a x))))
           → w ≡ hashed_zone_verdict L a config x t
-      inside w n f =
-          f ∙ sym (λ j. cond (not (low j)) OutsideZone (cond (n j) BelowDelegation
-          (cond (is_original_owner L a config x) (original_verdict L a config x t)
-          (cond (exists_over owners a x) EmptyName (missing_verdict (is_opt_out config.flags) (length en))))))
+      inside w n f = grind (arith, common_steps)
 
       -- the name itself
       at_name : same_name d x ≡ true → hash_match_verdict a d k t ≡ hashed_proved_verdict L a config listed x t
@@ -282,10 +242,7 @@ module _ (L : List ZoneRecord) (a : Name) (config : ChainConfig) (links : List H
           empty f = ap (λ o. is_none (types_of o)) told.1 ∙ nil_none (nsec3_lists L a config d) (facts.gives (nsec3_lists L a config d)) f
 
       longer : same_name d x ≡ false → length d < length x
-      longer s = elim (cases_lt (length d) (length x)) [
-        | inl h ↦ h
-        | inr h ↦ absurd (false≢true (sym s ∙ same_back x d (same_length x d first.above h)))
-      ]
+      longer s = grind (arith, common_steps)
 
       -- a zone cut above
       at_cut : same_name d x ≡ false → is_zone_cut L a d ≡ true → BelowDelegation ≡ hashed_proved_verdict L a config listed x t
@@ -397,10 +354,7 @@ module _ (L : List ZoneRecord) (a : Name) (config : ChainConfig) (links : List H
 
       at_higher : (next : Option Octets) → IsNextHash config.hash x d next
           → told_verdict (chain_records a config listed) d k t next ≡ hashed_proved_verdict L a config listed x t
-      at_higher None s =
-          let n = same_count d x s in
-          let m = below_length x en closest.above in
-          absurd (omega (arith, n, m, deeper))
+      at_higher None s = grind (arith, common_steps, closest)
       at_higher (Some w) n =
           (λ j. cond (no_cut j) BelowDelegation (hash_cover_verdict (length d) (no_cover w n.1 j)))
           ∙ untold t (first.first en closest.above strictly).2
@@ -419,12 +373,7 @@ module _ (R : HashedRecords) (x : Name) (t : ℕ) where
   told_has_proof : (d : Name) (k : HashedLink) (v : Octets) (next : Option Octets) → IsFirstMatched R x d
       → hash_name R.hash d ≡ Ok v → first_match R v ≡ Some k → IsNextHash R.hash x d next
       → told_verdict R d k t next ≢ NotProven → HasHashedProof R x
-  told_has_proof d k v None first known found s n = record {
-    longest = d;
-    first = first;
-    closes = or_left (same_name d x || is_told_cut R d) (is_covered R (next_closer x d))
-        (or_left (same_name d x) (is_told_cut R d) s);
-  }
+  told_has_proof d k v None first known found s n = grind (arith, common_steps)
   told_has_proof d k v (Some w) first known found s n = record {
     longest = d;
     first = first;
@@ -459,21 +408,9 @@ module _ (R : HashedRecords) (x : Name) (t : ℕ) where
   within_match n false false true = tt
   within_match n false false false = tt
 
-  within_missing : (n count : ℕ) (o : Bool) → count ≤ n → IsWithin n (missing_verdict o count)
-  within_missing n count true l = l
-  within_missing n count false l = l
-
-  within_cover : (n count : ℕ) (o : Option HashedLink) → count ≤ n → IsWithin n (hash_cover_verdict count o)
-  within_cover n count None l = tt
-  within_cover n count (Some k) l = within_missing n count (is_opt_out k.flags) l
-
   within_told : (n : ℕ) (d : Name) (k : HashedLink) (next : Option Octets) → length d ≤ n → IsWithin n (told_verdict R d k t next)
   within_told n d k None l = within_match n (contains_type k.bits t) (tells_cut R.apex d k && not (nat_eq t ds)) (is_none (types_of k.bits))
-  within_told n d k (Some w) l =
-      elim (tells_cut R.apex d k) as (λ b. IsWithin n (cond b BelowDelegation (hash_cover_verdict (length d) (first_cover R w)))) [
-        | true ↦ tt
-        | false ↦ within_cover n (length d) (first_cover R w) l
-      ]
+  within_told n d k (Some w) l = grind (arith, common_steps)
 
   pub walked_within : (verdict : Verdict) → IsWalked R x t verdict → IsWithin (length x) verdict
   walked_within verdict (inl w) = subst (IsWithin (length x)) (sym w.says) (within_told (length x) w.name w.link w.next (below_length x w.name w.first.above))

@@ -9,7 +9,7 @@ use Rattle.std.proofs.lemmas.List.{length-drop, length-map}
 use Rattle.domain_octets.specs.Words.{Octets}
 use Rattle.domain_names.specs.Name.{is_at_or_below, is_strictly_below, lowered, same_name, wire_of}
 use Rattle.domain_names.specs.Words.{Label, Name}
-use Rattle.domain_zone.proofs.NameLemmas.{one_lowered, same_itself, lowered_below, below_itself, below_trans, below_longer, below_length, below_parent}
+use Rattle.domain_zone.proofs.NameLemmas.{one_lowered, same_itself, below_itself, below_trans, below_longer, below_length, below_parent}
 use Rattle.domain_zone.proofs.NameLemmas.{strictly_longer, strictly_from, same_length}
 use Rattle.domain_zone.proofs.OwnerLemmas.{in_any}
 use Rattle.domain_zone.proofs.FindLemmas.{any_none, find_none, find_some}
@@ -23,6 +23,7 @@ use Rattle.domain_checker.specs.HashedReading.{IsNextHash, IsUnmatched}
 use Rattle.domain_checker.specs.HashedVerdict.{IsFirst, IsFirstRefusal, is_matched, is_ok_with, next_closer}
 use Rattle.domain_checker.proofs.EncloserLemmas.{same_count}
 use Rattle.domain_checker.proofs.HashedListLemmas.{hash_same}
+use Rattle.std.proofs.lemmas.Grind.{common_steps}
 
 pub below_drop : (n : ℕ) (x : Name) → is_at_or_below x (drop n x) ≡ true
 below_drop zero x = below_itself x
@@ -54,24 +55,14 @@ wire_shorter l x = omega (arith, length-map l to_ascii_lowercase, length-append-
     length-append-wire [] v = omega arith
     length-append-wire (o ∷ u) v = omega (arith, length-append-wire u v)
 
-drop_front : (n : ℕ) (u v : Octets) → length u ≡ n → drop n (u ++ v) ≡ v
-drop_front zero [] v e = refl
-drop_front zero (o ∷ u) v e = absurd (omega arith)
-drop_front (suc n) [] v e = absurd (omega arith)
-drop_front (suc n) (o ∷ u) v e = drop_front n u v (omega arith)
-
 pub wire_above : (l : Label) (x : Name) → drop (length l + 1) (wire_of (lowered (l ∷ x))) ≡ wire_of (lowered x)
-wire_above l x =
-    let n : length (length (map to_ascii_lowercase l) ∷ map to_ascii_lowercase l) ≡ length l + 1 = omega (arith, length-map l to_ascii_lowercase) in
-    drop_front (length l + 1) (length (map to_ascii_lowercase l) ∷ map to_ascii_lowercase l) (wire_of (lowered x)) n
+wire_above l x = grind (arith, common_steps)
 
 -- ---- names that are passed
 
 module _ (R : HashedRecords) where
   pub none_matched : (d : Name) (v : Octets) → hash_name R.hash d ≡ Ok v → first_match R v ≡ None → is_matched R d ≡ false
-  none_matched d v known none =
-      ap (is_ok_with (λ v. list_any (is_hash_match R.apex R.parameters v) R.links)) known
-      ∙ any_none (is_hash_match R.apex R.parameters v) R.links (find_none (is_hash_match R.apex R.parameters v) R.links none)
+  none_matched d v known none = grind (arith, common_steps, any_none, find_none)
 
   pub some_matched : (d : Name) (v : Octets) (k : HashedLink) → hash_name R.hash d ≡ Ok v
       → first_match R v ≡ Some k → is_matched R d ≡ true
@@ -108,13 +99,7 @@ module _ (R : HashedRecords) where
     module _ (left : Name) (cover : Option HashedLink) (missed : IsMissed left cover) where
       -- with the last one none is left
       pub none_left : same_name left R.apex ≡ true → IsUnmatched R x
-      none_left s y up low =
-          elim (cases_Bool (same_name y left)) [
-            | inl e ↦ (missed.value, hash_same R.hash y left e ∙ missed.known, matched_same y left e ∙ none_matched left missed.value missed.known missed.none)
-            | inr e ↦
-                let down : is_at_or_below y left ≡ true = ap (λ k. lowered_below (lowered y) k) (one_lowered left R.apex s) ∙ low in
-                missed.first y up (and_from (is_at_or_below y left) (not (same_name y left)) down (ap not e))
-          ]
+      none_left s y up low = grind (arith, common_steps, matched_same, none_matched, one_lowered)
 
       pub passed_on : (l : Label) (next : Name) → left ≡ l ∷ next → same_name left R.apex ≡ false → IsPassed next missed.value
       passed_on l next e other =
@@ -185,24 +170,10 @@ module _ (R : HashedRecords) where
     module _ (left : Name) (above : is_at_or_below x left ≡ true) (within : is_at_or_below left R.apex ≡ true)
         (first : IsFirst R x left) (wire : Octets) (e : wire ≡ wire_of (lowered left)) where
       pub missed_here : (covering : Option HashedLink) → IsLookedUp R wire None covering → IsMissed left covering
-      missed_here covering looked = record {
-        above = above;
-        within = within;
-        first = first;
-        value = looked.value;
-        known = ap R.hash (sym e) ∙ looked.known;
-        none = sym looked.found.matching;
-        covered = looked.found.covering refl;
-      }
+      missed_here covering looked = grind (arith, common_steps)
 
       pub refused_here : (n : ℕ) → R.hash wire ≡ Err n → IsFirstRefusal R x n
-      refused_here n refused = record {
-        name = left;
-        above = above;
-        within = within;
-        refused = ap R.hash (sym e) ∙ refused;
-        first = first;
-      }
+      refused_here n refused = grind (arith, common_steps)
 
     -- a match of x itself is that of its closest encloser
     pub encloser_here : is_at_or_below x R.apex ≡ true → (k : HashedLink) (wire : Octets) (covering : Option HashedLink)

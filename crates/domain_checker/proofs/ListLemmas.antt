@@ -1,15 +1,14 @@
 -- What a list of records of the chain says by itself is what it proves.
-use Rattle.std.proofs.Common.{◌≡◌, ◌≢◌, ℕ, ◌<◌, ◌≤◌, Bool, true, false, cond, not, ◌&&◌, ◌||◌, nat_eq, ltb, List, length, refl, sym, ◌∙◌, subst, inl, inr}
-use Rattle.std.proofs.Common.{Option, Some, None}
+use Rattle.std.proofs.Common.{◌≡◌, ◌≢◌, ℕ, ◌<◌, Bool, true, false, cond, not, ◌&&◌, ◌||◌, nat_eq, List, length, refl, sym, ◌∙◌, subst, inl, inr}
+use Rattle.std.proofs.Common.{Option, Some, None, arith}
 use Rattle.std.specs.List.{find, list_any}
 use Rattle.std.proofs.lemmas.Bool.{cases_Bool, and_parts, and_from, or_left, or_right}
-use Rattle.domain_bitmap.specs.Blocks.{contains_type}
-use Rattle.domain_names.specs.Name.{is_at_or_below, is_strictly_below, same_name}
+use Rattle.domain_names.specs.Name.{is_at_or_below, same_name}
 use Rattle.domain_names.specs.Order.{before}
 use Rattle.domain_base.specs.Types.{ds}
 use Rattle.domain_names.specs.Words.{Name}
 use Rattle.domain_zone.specs.Covering.{matches, covers, matches_or_covers}
-use Rattle.domain_zone.specs.Enclosers.{is_empty_nonterminal, longer, shared}
+use Rattle.domain_zone.specs.Enclosers.{is_empty_nonterminal}
 use Rattle.domain_zone.specs.Zone.{ZoneRecord, OwnersNeverDescend, is_occluded, is_zone_cut, unoccluded_owners}
 use Rattle.domain_zone.proofs.PairLemmas.{In}
 use Rattle.domain_zone.proofs.OwnerLemmas.{in_any}
@@ -20,11 +19,12 @@ use Rattle.domain_checker.specs.declared.verdict.Verdict.{Verdict}
 use Rattle.domain_checker.specs.declared.verdict.Verdict.TheVariants.{OutsideZone, BelowDelegation, Has, NoType, EmptyName, NoName, NotProven}
 use Rattle.domain_checker.specs.Verdict.{closest_encloser, owner_verdict, other_verdict, zone_verdict, has_match_or_cover, proved_verdict, IsProved, is_inside}
 use Rattle.domain_checker.specs.Verdict.{HasProof, IsWithin}
-use Rattle.domain_checker.specs.Reading.{is_at_cut, is_match, is_cover, verdict_of_both, verdict_of_cover, match_verdict, cover_verdict, list_verdict, reading}
+use Rattle.domain_checker.specs.Reading.{is_match, is_cover, verdict_of_both, verdict_of_cover, match_verdict, cover_verdict, list_verdict, reading}
 use Rattle.domain_checker.proofs.DefiniteLemmas.{choose, definite_proven, is_definite}
 use Rattle.domain_checker.proofs.MeantLemmas.{BitmapsAreSets, ChainLaws, IgnoresCase, IsMeant, config_with, meant_by, some_link, cover_of, match_of, silent}
 use Rattle.domain_checker.proofs.SharedLemmas.{shared_within}
 use Rattle.domain_checker.proofs.VerdictLemmas.{matched, covers_told}
+use Rattle.std.proofs.lemmas.Grind.{common_steps}
 
 -- a chain that keeps what stands below a DNAME
 meant_keeping : ChainLaws → (L : List ZoneRecord) (a : Name) (config : GenerateNsecConfig) (links : List Link)
@@ -100,25 +100,11 @@ has_proof a listed x t n = by (find (is_match a x) listed) (find (is_cover a x) 
 
 -- ---- how many labels a closest encloser has
 
-longer_within : (n : ℕ) (e f : Name) → length e ≤ n → length f ≤ n → length (longer e f) ≤ n
-longer_within n e f p q =
-    elim (ltb (length e) (length f)) as (λ b. length (cond b f e) ≤ n) [ true ↦ q | false ↦ p ]
-
-choose_within : (n : ℕ) (b : Bool) (v w : Verdict) → IsWithin n v → IsWithin n w → IsWithin n (cond b v w)
-choose_within n true v w p q = p
-choose_within n false v w p q = q
-
 match_within : (a : Name) (k : Link) (x : Name) (t : ℕ) → IsWithin (length x) (match_verdict a k t)
-match_within a k x t =
-    choose_within (length x) (contains_type k.bits t) Has (cond (is_at_cut a k && not (nat_eq t ds)) BelowDelegation NoType) tt
-    (choose_within (length x) (is_at_cut a k && not (nat_eq t ds)) BelowDelegation NoType tt tt)
+match_within a k x t = grind (arith, common_steps)
 
 cover_within : (a : Name) (k : Link) (x : Name) → IsWithin (length x) (cover_verdict a k x)
-cover_within a k x =
-    let count = length (longer (shared x k.owner) (shared x k.next)) in
-    choose_within (length x) (is_at_or_below x k.owner && is_at_cut a k) BelowDelegation (cond (is_strictly_below k.next x) EmptyName (NoName count)) tt
-    (choose_within (length x) (is_strictly_below k.next x) EmptyName (NoName count) tt
-    (longer_within (length x) (shared x k.owner) (shared x k.next) (shared_within x k.owner) (shared_within x k.next)))
+cover_within a k x = grind (arith, common_steps, shared_within)
 
 pub list_within : (a : Name) (listed : List Link) (x : Name) (t : ℕ) → IsWithin (length x) (list_verdict a listed x t)
 list_within a listed x t = by (find (is_match a x) listed) (find (is_cover a x) listed)

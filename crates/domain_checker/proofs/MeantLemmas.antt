@@ -4,7 +4,6 @@ use Rattle.std.proofs.Common.{slice_get, arith}
 use Rattle.std.specs.List.{find, list_any}
 use Rattle.std.proofs.lemmas.Bool.{cases_Bool, false≢true, and_parts, and_from, or_left, or_right, not-true}
 use Rattle.std.proofs.lemmas.List.Elements.{recursion_from_All}
-use Rattle.domain_octets.proofs.StdLemmas.{and_false, or_true, and_true}
 use Rattle.domain_names.specs.Name.{is_at_or_below, is_strictly_below, lowered, same_name}
 use Rattle.domain_names.specs.Order.{before}
 use Rattle.domain_base.specs.Types.{ns}
@@ -13,8 +12,7 @@ use Rattle.domain_bitmap.specs.Bitmap.{bitmap_octets}
 use Rattle.domain_bitmap.specs.Blocks.{contains_type}
 use Rattle.domain_zone.specs.Covering.{matches, covers, matches_or_covers}
 use Rattle.domain_zone.specs.Enclosers.{exists_over, longer, shared}
-use Rattle.domain_zone.specs.Zone.{ZoneRecord, OwnersNeverDescend, records_of, has_type, is_zone_cut, occludes, owns, is_occluded, is_unoccluded}
-use Rattle.domain_zone.specs.Zone.{unoccluded_owners}
+use Rattle.domain_zone.specs.Zone.{ZoneRecord, OwnersNeverDescend, has_type, is_zone_cut, occludes, owns, is_occluded, is_unoccluded, unoccluded_owners}
 use Rattle.domain_zone.proofs.NameLemmas.{one_lowered, same_itself, same_is, below_itself, lowered_below}
 use Rattle.domain_zone.proofs.PairLemmas.{In, all_in}
 use Rattle.domain_zone.proofs.OwnerLemmas.{any_in, in_any, below_occluder}
@@ -25,6 +23,7 @@ use Rattle.domain_nsec.specs.declared.config.GenerateNsecConfig.{GenerateNsecCon
 use Rattle.domain_checker.specs.Verdict.{closest_encloser, has_match_or_cover, is_inside}
 use Rattle.domain_checker.specs.Reading.{is_at_cut, is_cover, is_match}
 use Rattle.domain_checker.proofs.EncloserLemmas.{closest_is, closest_alike, top_occluder, occluded_same, occludes_same, owner_unoccluded, owner_owns}
+use Rattle.std.proofs.lemmas.Grind.{common_steps}
 
 -- the public laws of chains
 pub record ChainLaws : Type 0 where
@@ -73,9 +72,7 @@ BitmapsAreSets = (types : ℕ → Bool) (t : ℕ) → t < 65536 → contains_typ
 
 -- the bit of NS says whether there are NS records
 ns_bit : (assumed cut : Bool) (rs : List ZoneRecord) → is_listed assumed cut rs ns ≡ has_type rs ns
-ns_bit assumed cut rs =
-    (λ i. ((false || false) || and_false assumed i) || (has_type rs ns && (or_true (not cut) i || false)))
-    ∙ and_true (has_type rs ns)
+ns_bit assumed cut rs = grind (arith, common_steps)
 
 module _ (below_dname : Bool) (L : List ZoneRecord) (a : Name) (assume : Bool) (links : List Link) (meant : IsMeant below_dname L a assume links) where
   abbrev owners : List Name
@@ -94,23 +91,10 @@ module _ (below_dname : Bool) (L : List ZoneRecord) (a : Name) (assume : Bool) (
 
   -- no record of the chain is passed over
   pub inside : (k : Link) → In k links → is_inside a k ≡ true
-  inside k i =
-      and_from (is_at_or_below k.owner a) (is_at_or_below k.next a) (owner_low k.owner (ends k i).0)
-      (elim (ends k i).1 [
-        | inl n ↦ owner_low k.next n
-        | inr n ↦ subst (λ n. is_at_or_below n a ≡ true) n (below_itself a)
-      ])
+  inside k i = grind (arith, common_steps, owner_low, ends, below_itself)
 
   pub apex_exists : exists_over (unoccluded_owners below_dname L a) a a ≡ true
-  apex_exists =
-      let first : In meant.cycle.first links = subst (λ ls. In meant.cycle.first ls) (sym meant.cycle.are) (inl refl) in
-      let owner = (ends meant.cycle.first first).0 in
-      and_from (is_at_or_below a a) (list_any (λ n. is_at_or_below n a) owners) (below_itself a)
-      (in_any (λ n. is_at_or_below n a) owners meant.cycle.first.owner owner (owner_low meant.cycle.first.owner owner))
-
-  -- what stands at one place is one record
-  one_link : (i j : ℕ) (k l : Link) → slice_get links i ≡ Some k → slice_get links j ≡ Some l → i ≡ j → k ≡ l
-  one_link i j k l e f same = let g : slice_get links j ≡ Some k = sym (ap (slice_get links) same) ∙ e in cc
+  apex_exists = grind (arith, common_steps, below_itself, owner_low)
 
   -- some record of the chain matches or covers each name of the zone
   pub some_link : (x : Name) → is_at_or_below x a ≡ true → list_any (λ k. matches_or_covers before k.owner k.next x) links ≡ true
@@ -136,11 +120,7 @@ module _ (below_dname : Bool) (L : List ZoneRecord) (a : Name) (assume : Bool) (
 
     -- its owner is a zone cut exactly where the record says so
     pub cut_at : (k : Link) → In k links → is_at_cut a k ≡ is_zone_cut L a k.owner
-    cut_at k i =
-        let low = owner_low k.owner (ends k i).0 in
-        (λ j. not (same_name k.owner a) && (type_at k i ns (omega arith)
-        ∙ ns_bit (assume && same_name k.owner a) (is_zone_cut L a k.owner) (records_of L k.owner)) j)
-        ∙ (λ j. (sym low j && not (same_name k.owner a)) && has_type (records_of L k.owner) ns)
+    cut_at k i = grind (arith, common_steps, owner_low, ends, type_at, ns_bit)
 
   -- ---- a match
 
@@ -152,10 +132,7 @@ module _ (below_dname : Bool) (L : List ZoneRecord) (a : Name) (assume : Bool) (
     matched_low = ap (λ q. lowered_below q (lowered a)) (sym (one_lowered k.owner x matched_same)) ∙ owner_low k.owner (ends k i).0
 
     pub matched_high : is_occluded below_dname L a x ≡ false
-    matched_high =
-        let free = and_parts (is_at_or_below k.owner a) (not (is_occluded below_dname L a k.owner))
-        (owner_unoccluded below_dname L a k.owner (ends k i).0) in
-        sym (occluded_same below_dname L a k.owner x matched_same) ∙ not-true (is_occluded below_dname L a k.owner) free.1
+    matched_high = grind (arith, common_steps, and_parts, owner_unoccluded, ends, occluded_same, matched_same)
 
   -- ---- a cover
 
@@ -170,10 +147,7 @@ module _ (below_dname : Bool) (L : List ZoneRecord) (a : Name) (assume : Bool) (
 
     -- a name that is not occluded owns nothing
     pub covered_unowned : is_occluded below_dname L a x ≡ false → owns L x ≡ false
-    covered_unowned high =
-        let one = meant.denial.each x low high in
-        let is : k ≡ one.link = one_link place one.place k one.link there one.there (one.only place k there says) in
-        sym one.matched ∙ ap (λ l. matches before l.owner x) (sym is) ∙ other
+    covered_unowned high = grind (arith, common_steps, says)
 
     pub covered_no_owner : list_any (λ n. same_name n x) (unoccluded_owners below_dname L a) ≡ false
     covered_no_owner =
@@ -189,10 +163,7 @@ module _ (below_dname : Bool) (L : List ZoneRecord) (a : Name) (assume : Bool) (
     -- the record of the highest occluder covers all names strictly below it
     pub covered_under : (o : Name) → occludes below_dname L a o ≡ true → is_unoccluded below_dname L a o ≡ true → is_strictly_below x o ≡ true
         → same_name k.owner o ≡ true
-    covered_under o over free under =
-        let r = meant.occluded.each o x over free under in
-        let is : k ≡ r.link = one_link place r.place k r.link there r.there (r.only place k there says) in
-        ap (λ l. same_name l.owner o) is ∙ r.owner
+    covered_under o over free under = grind (arith, common_steps, says)
 
     -- x is occluded exactly where the record's owner occludes, as a test tells of it, and x is below it
     pub covered_occluded : (told : Bool) → told ≡ occludes below_dname L a k.owner

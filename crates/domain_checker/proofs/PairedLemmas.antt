@@ -1,8 +1,8 @@
 -- What lists of records say of which each is alike that at the same place of the other.
-use Rattle.std.proofs.Common.{◌≡◌, Bool, cond, ◌||◌, List, [], ◌∷◌, refl, sym, subst, inl, inr, Option, Some, None}
+use Rattle.std.proofs.Common.{◌≡◌, Bool, ◌||◌, List, [], ◌∷◌, refl, Option, Some, None, arith}
 use Rattle.std.specs.List.{find, list_any, Contains, AllByRecursion}
-use Rattle.std.proofs.lemmas.Bool.{cases_Bool}
 use Rattle.domain_checker.specs.Alike.{ArePaired, IsPairedIn}
+use Rattle.std.proofs.lemmas.Grind.{common_steps}
 
 module _ {X : Type 0} (R : X → X → Type 0) where
   -- both are none, or stand so
@@ -17,12 +17,7 @@ module _ {X : Type 0} (R : X → X → Type 0) where
     find_alike [] [] h = tt
     find_alike [] (l ∷ ls) h = absurd h
     find_alike (k ∷ ks) [] h = absurd h
-    find_alike (k ∷ ks) (l ∷ ls) h =
-        subst (λ b. OptionsPaired (cond (p k) (Some k) (find p ks)) (cond b (Some l) (find p ls))) (alike k l h.0)
-        (elim (cases_Bool (p k)) [
-          | inl e ↦ subst (λ b. OptionsPaired (cond b (Some k) (find p ks)) (cond b (Some l) (find p ls))) (sym e) h.0
-          | inr e ↦ subst (λ b. OptionsPaired (cond b (Some k) (find p ks)) (cond b (Some l) (find p ls))) (sym e) (find_alike ks ls h.1)
-        ])
+    find_alike (k ∷ ks) (l ∷ ls) h = grind (arith, common_steps, (find_alike ks ls h.1))
 
     pub any_alike : (ks ls : List X) → ArePaired R ks ls → list_any p ks ≡ list_any p ls
     any_alike [] [] h = refl

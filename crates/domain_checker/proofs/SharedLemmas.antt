@@ -1,10 +1,9 @@
 -- The name that two names share has as many labels as they share from the root on.
-use Rattle.std.proofs.Common.{◌≡◌, ◌+◌, ◌≤◌, max, Bool, true, false, cond, [], ◌∷◌, ◌++◌, map, reverse, length, refl, sym, ap, ◌∙◌, inl, inr, arith, ltb}
-use Rattle.std.proofs.Common.{nat_eq}
+use Rattle.std.proofs.Common.{◌≡◌, ◌+◌, ◌≤◌, max, Bool, true, false, cond, [], ◌∷◌, ◌++◌, map, reverse, length, refl, sym, ap, ◌∙◌, inl, inr, arith, nat_eq}
 use Rattle.std.specs.List.{common_prefix_len}
 use Rattle.std.specs.Cmp.Lexicographic.{pointwise, bytes_decides}
 use Rattle.std.specs.Char.{to_ascii_lowercase}
-use Rattle.std.proofs.lemmas.Bool.{cases_Bool, false≢true, ltb-true, ltb-false}
+use Rattle.std.proofs.lemmas.Bool.{cases_Bool, false≢true}
 use Rattle.std.proofs.lemmas.List.{length-reverse, length-map, reverse-append}
 use Rattle.domain_names.specs.Laws.{from_root-below, below-from_root}
 use Rattle.domain_names.specs.Name.{lowered, is_at_or_below}
@@ -12,6 +11,7 @@ use Rattle.domain_names.specs.Order.{from_root, common_labels}
 use Rattle.domain_names.specs.Words.{Label, Name}
 use Rattle.domain_zone.specs.Enclosers.{shared, longer}
 use Rattle.domain_zone.proofs.NameLemmas.{below_there, below_back}
+use Rattle.std.proofs.lemmas.Grind.{common_steps}
 
 abbrev same_label : Label → Label → Bool
 same_label = pointwise nat_eq
@@ -64,14 +64,8 @@ shared_length (l ∷ x) y =
 -- of its own labels a name shares at most all
 pub shared_within : (x y : Name) → length (shared x y) ≤ length x
 shared_within [] y = omega arith
-shared_within (l ∷ x) y =
-    let up = shared_within x y in
-    elim (is_at_or_below y (l ∷ x)) as (λ b. length (cond b (l ∷ x) (shared x y)) ≤ length (l ∷ x)) [ true ↦ omega arith | false ↦ omega arith ]
+shared_within (l ∷ x) y = grind (arith, common_steps, (shared_within x y))
 
 -- the longer of two
 pub longer_length : (e f : Name) → max (length e) (length f) ≡ length (longer e f)
-longer_length e f =
-    elim (ltb (length e) (length f)) as (λ b. ltb (length e) (length f) ≡ b → max (length e) (length f) ≡ length (cond b f e)) [
-      | true ↦ λ h. let l = ltb-true (length e) (length f) h in omega arith
-      | false ↦ λ h. let l = ltb-false (length e) (length f) h in omega arith
-    ] refl
+longer_length e f = grind (arith, common_steps)

@@ -1,18 +1,18 @@
 -- Octets that a label spells, compared with others digit by digit.
 use Rattle.std.proofs.Common.{◌≡◌, ◌≢◌, ℕ, ◌+◌, ◌*◌, ◌/◌, ◌%◌, ◌<◌, ◌≤◌, true, false, [], ◌∷◌, length, drop, refl, sym, ap, ◌∙◌, arith, nat_eq, not}
-use Rattle.std.specs.Prelude.{nat_le}
-use Rattle.std.specs.Ordering.{nat_cmp, ordering_index, ordering_then}
+use Rattle.std.specs.Ordering.{nat_cmp, ordering_index}
 use Rattle.std.specs.Cmp.Lexicographic.{slice_cmp}
 use Rattle.std.specs.declared.cmp.Ordering.{Ordering}
 use Rattle.std.specs.declared.cmp.Ordering.TheVariants.{Less, Equal, Greater}
 use Rattle.std.proofs.lemmas.Bool.{false≢true, true≢false}
 use Rattle.std.proofs.lemmas.Bool.Decides.{nat_tests}
-use Rattle.std.proofs.lemmas.List.{drop_more, drop_all}
+use Rattle.std.proofs.lemmas.List.{drop_all}
 use Rattle.domain_codecs.specs.Codec.{base32_octets, base32_digits}
 use Rattle.domain_codecs.proofs.Scale.{IsScale, no_bits}
 use Rattle.domain_octets.specs.Words.{Octets}
 use Rattle.domain_codecs.proofs.CodecLemmas.{digit_at, widens}
 use Rattle.domain_checker.specs.HashedList.{read_label}
+use Rattle.std.proofs.lemmas.Grind.{common_steps}
 
 pub nothing_left : (xs : Octets) → length xs ≡ 0 → xs ≡ []
 nothing_left [] e = refl
@@ -50,14 +50,7 @@ module _ (label hash left : Octets) (scale rest at : ℕ) (inside : at < length 
     (so_far : IsCompared label hash left scale rest at) where
   pub compared_narrow : 32 * scale < 256 → IsCompared label hash left (32 * scale) (32 * rest + digit_at label at) (at + 1)
   unfolding base32_octets
-  compared_narrow low =
-      let w = widens scale so_far.scale_is in
-      let test : nat_le 256 (32 * scale) ≡ false = grind (arith, nat_tests) in
-      record {
-        scale_is = w.narrow low;
-        below = omega (arith, so_far.below);
-        order = rw (drop_more label at 0 inside, test) at so_far.order;
-      }
+  compared_narrow low = grind (arith, common_steps, widens)
 
   -- the next octet, and those after it
   pub compared_octet : 256 ≤ 32 * scale → slice_cmp nat_cmp
@@ -65,9 +58,7 @@ module _ (label hash left : Octets) (scale rest at : ℕ) (inside : at < length 
       ((32 * rest + digit_at label at) % (32 * scale / 256)) (base32_digits (drop (at + 1) label))) left
       ≡ slice_cmp nat_cmp (read_label label) hash
   unfolding base32_octets
-  compared_octet high =
-      let test : nat_le 256 (32 * scale) ≡ true = grind (arith, nat_tests) in
-      rw (drop_more label at 0 inside, test) at so_far.order
+  compared_octet high = grind (arith, common_steps)
 
   pub compared_none : 256 ≤ 32 * scale → left ≡ [] → Greater ≡ slice_cmp nat_cmp (read_label label) hash
   compared_none high none = rw none at (compared_octet high)
@@ -75,23 +66,11 @@ module _ (label hash left : Octets) (scale rest at : ℕ) (inside : at < length 
   module _ (octet : ℕ) (after : Octets) (first : left ≡ octet ∷ after) where
     pub compared_apart : 256 ≤ 32 * scale → nat_cmp ((32 * rest + digit_at label at) / (32 * scale / 256)) octet ≢ Equal
         → nat_cmp ((32 * rest + digit_at label at) / (32 * scale / 256)) octet ≡ slice_cmp nat_cmp (read_label label) hash
-    compared_apart high other = by (nat_cmp ((32 * rest + digit_at label at) / (32 * scale / 256)) octet) _ other ∙ rw first at (compared_octet high)
-      where
-        by : (o r : Ordering) → o ≢ Equal → o ≡ ordering_then o r
-        by Less r n = refl
-        by Equal r n = absurd (n refl)
-        by Greater r n = refl
+    compared_apart high other = grind (arith, common_steps, compared_octet)
 
     pub compared_wide : 256 ≤ 32 * scale → nat_cmp ((32 * rest + digit_at label at) / (32 * scale / 256)) octet ≡ Equal
         → IsCompared label hash after (32 * scale / 256) ((32 * rest + digit_at label at) % (32 * scale / 256)) (at + 1)
-    compared_wide high tie =
-        let w = widens scale so_far.scale_is in
-        let some : 0 < 32 * scale / 256 = w.left high in
-        record {
-          scale_is = w.wide high;
-          below = omega (arith, some);
-          order = rw (first, tie) at (compared_octet high);
-        }
+    compared_wide high tie = grind (arith, common_steps, widens, compared_octet)
 
 -- a label that is read to its end
 pub compared_end : (label hash left : Octets) (scale rest at : ℕ) → length label ≤ at → IsCompared label hash left scale rest at

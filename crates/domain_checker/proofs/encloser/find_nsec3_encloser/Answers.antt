@@ -1,9 +1,9 @@
-use Rattle.std.proofs.Common.{◌≡◌, ◌∙◌, sym, ap, inl, inr}
-use Rattle.std.proofs.lemmas.Result.{err_from_is_err_and}
+use Rattle.std.proofs.Common.{◌∙◌, sym, ap, arith}
 use Rattle.domain_names.specs.Name.{lowered, wire_of}
 use Rattle.domain_checker.specs.HashedView.{hashed_records}
 use Rattle.domain_checker.proofs.HashedEncloserLemmas.{outside_unmatched}
 use Rattle.domain_checker.proofs.encloser.find_nsec3_encloser.Goals as goal
+use Rattle.std.proofs.lemmas.Grind.{common_steps}
 
 pub returns-then-not-ends_with-clause-found : goal.returns-then-not-ends_with-clause-found
 returns-then-not-ends_with-clause-found g c =
@@ -17,12 +17,4 @@ pub returns-clause-found : goal.returns-clause-found
 returns-clause-found g c = rw c.as_parsed.ensures at c.in_ok-walk.ensures.ok
 
 pub returns-in_err-walk-clause-refusal : goal.returns-in_err-walk-clause-refusal
-returns-in_err-walk-clause-refusal g c n e =
-    let p = err_from_is_err_and c.from_residual.result c.from_residual.ensures.1 in
-    let is = rw (p.1, p.2) at e in
-    elim c.in_err-walk.ensures.err [
-      | inl m ↦ absurd (cc)
-      | inr r ↦
-          let same : r.0 ≡ n = let q = r.1 in cc in
-          rw (c.as_parsed.ensures, same) at r.2
-    ]
+returns-in_err-walk-clause-refusal g c n e = grind (arith, common_steps)

@@ -1,19 +1,18 @@
-use Rattle.std.proofs.Common.{◌≡◌, ◌+◌, Bool, true, false, not, Option, map, drop, sym, ap, ◌∙◌}
+use Rattle.std.proofs.Common.{◌≡◌, ◌+◌, Bool, true, false, not, Option, map, drop, sym, ap, ◌∙◌, arith}
 use Rattle.std.specs.List.{find}
 use Rattle.std.specs.Option.{is_some, option_map, option_or}
-use Rattle.std.proofs.lemmas.List.{at_drop_all}
 use Rattle.domain_octets.specs.Words.{Octets}
-use Rattle.domain_octets.proofs.StdLemmas.{or_none}
 use Rattle.domain_zone.specs.Covering.{covers, matches}
 use Rattle.domain_nsec3.specs.Meaning.{octets_before}
 use Rattle.domain_nsec3.specs.Chain.{HashedLink}
 use Rattle.domain_nsec3.specs.View.{as_hashed_link, parameters_of}
 use Rattle.domain_checker.specs.HashedList.{is_hash_match, is_some_with, read_label, is_hash_cover}
-use Rattle.domain_checker.proofs.FirstLemmas.{found_here, found_later, met_here, met_later, met_before}
+use Rattle.domain_checker.proofs.FirstLemmas.{found_later, met_here, met_later, met_before}
 use Rattle.domain_checker.proofs.hashed.find_hash.Given.{Over}
 use Rattle.domain_checker.proofs.hashed.find_hash.Goals as goal
 use Rattle.domain_checker.proofs.hashed.find_hash.Goals.{Start, then-is_none+then-is_cover, else-is_none, else-is_none-via-then-is_none+else-is_cover}
 use Rattle.domain_checker.proofs.hashed.find_hash.Goals.{else-is_none-via-else-is_none}
+use Rattle.std.proofs.lemmas.Grind.{common_steps}
 
 -- what is looked for, a match and else the first cover
 record Tests : Type 0 where
@@ -27,20 +26,7 @@ tests g c =
     record { matched = is_hash_match apex parameters c.args.hash.now; covered = is_hash_cover apex parameters c.args.hash.now }
 
 pub returns-then-is_match : goal.returns-then-is_match
-returns-then-is_match g c =
-    let labels = g.N.ToName.labels in
-    let listed = c.listed-item.result in
-    let nsec3s = c.args.nsec3s.now in
-    let hash = c.args.hash.now in
-    let t = tests g (goal.at.returns-then-is_match g c).Start in
-    let hit : t.matched (as_hashed_link labels listed) ≡ true =
-    ap (is_some_with (λ h. matches octets_before h hash)) (sym c.hash_label-label.ensures) ∙ sym c.is_match.ensures ∙ c.if-is_match.true in
-    let found = c.loop-listed.invariant.matching ∙ found_here t.matched
-    (as_hashed_link labels) nsec3s c.loop-listed.listed-index listed c.loop-listed-test.true c.listed-item.is hit in
-    record {
-      matching = sym found;
-      covering = λ none. absurd (cc);
-    }
+returns-then-is_match g c = grind (arith, common_steps)
 
 pub loop-listed-preserved : goal.loop-listed-preserved
 loop-listed-preserved g c =
@@ -87,16 +73,4 @@ loop-listed-preserved g c =
     }
 
 pub returns : goal.returns
-returns g c =
-    let labels = g.N.ToName.labels in
-    let see = as_hashed_link labels in
-    let at = c.loop-listed.listed-index in
-    let nsec3s = c.args.nsec3s.now in
-    let hash = c.args.hash.now in
-    let t = tests g (goal.at.returns g c).Start in
-    let cover = option_map (λ r. see r.now) c.loop-listed.cover in
-    record {
-      matching = sym (c.loop-listed.invariant.matching ∙ at_drop_all (λ ys. find t.matched (map see ys)) nsec3s at c.loop-listed-test.false);
-      covering = λ none. sym (c.loop-listed.invariant.covering
-          ∙ at_drop_all (λ ys. option_or cover (find t.covered (map see ys))) nsec3s at c.loop-listed-test.false ∙ or_none cover);
-    }
+returns g c = grind (arith, common_steps)

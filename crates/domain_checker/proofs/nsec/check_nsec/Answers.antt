@@ -1,22 +1,12 @@
-use Rattle.std.proofs.Common.{◌≡◌, ℕ, ◌+◌, ◌<◌, List, [], ◌∷◌, ◌++◌, length, map, take, get_or, sym, ap, ◌∙◌, subst}
-use Rattle.std.proofs.lemmas.List.{take_more, map-append, take_all}
-use Rattle.domain_nsec.specs.ChainView.{as_link, links_of}
+use Rattle.std.proofs.Common.{subst, arith}
+use Rattle.std.proofs.lemmas.List.{take_all}
+use Rattle.domain_nsec.specs.ChainView.{links_of}
 use Rattle.domain_checker.specs.HandedIn.{HasRead}
 use Rattle.domain_checker.proofs.nsec.check_nsec.Goals as goal
-
-pushed : {X Y : Type 0} (f : X → Y) (xs : List X) (i : ℕ) (x : X) → i < length xs → x ≡ get_or xs i x → map f (take i xs) ++ f x ∷ [] ≡ map f (take (i + 1) xs)
-pushed f xs i x within at = sym (ap (map f) (take_more xs i x within ∙ ap (λ y. take i xs ++ y ∷ []) (sym at)) ∙ map-append f (take i xs) (x ∷ []))
+use Rattle.std.proofs.lemmas.Grind.{common_steps}
 
 pub loop-listed-preserved : goal.loop-listed-preserved
-loop-listed-preserved g c =
-    let labels = g.N.ToName.labels in
-    let a = g.A.ToName.labels c.args.apex.now in
-    let x = g.M.ToName.labels c.args.name.now in
-    let chain = c.args.chain.now in
-    let at = c.loop-listed.listed-index in
-    subst (λ links. HasRead a x c.args.rtype links c.add.new.self)
-    (pushed (as_link labels) chain at c.listed-item.result c.loop-listed-test.true c.listed-item.is)
-    (c.add.ensures a x c.args.rtype (links_of labels (take at chain)) c.loop-listed.invariant)
+loop-listed-preserved g c = grind (arith, common_steps)
 
 pub returns : goal.returns
 returns g c =

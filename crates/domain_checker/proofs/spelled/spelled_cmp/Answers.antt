@@ -1,10 +1,11 @@
-use Rattle.std.proofs.Common.{◌≡◌, ◌<◌, ◌*◌, ◌+◌, ◌/◌, ◌∙◌, sym}
+use Rattle.std.proofs.Common.{◌≡◌, ◌<◌, ◌*◌, ◌+◌, ◌/◌, ◌∙◌, sym, arith}
 use Rattle.std.specs.Ordering.{nat_cmp}
 use Rattle.domain_codecs.proofs.CodecLemmas.{digit_at}
-use Rattle.domain_checker.proofs.SpelledLemmas.{nothing_left, ends_alike, ends_before, equal_by, apart_by, compared_first, compared_narrow, compared_wide}
+use Rattle.domain_checker.proofs.SpelledLemmas.{ends_alike, ends_before, equal_by, apart_by, compared_first, compared_narrow, compared_wide}
 use Rattle.domain_checker.proofs.SpelledLemmas.{compared_none, compared_apart, compared_end}
 use Rattle.domain_checker.proofs.spelled.spelled_cmp.Goals as goal
 use Rattle.domain_checker.proofs.spelled.spelled_cmp.Goals.{After-digit_or_zero, then-wider-lt256, else-wider-lt256+in-Some+else-ne}
+use Rattle.std.proofs.lemmas.Grind.{common_steps}
 
 pub loop-c-init : goal.loop-c-init
 loop-c-init c = compared_first c.args.label.now c.args.hash.now
@@ -14,11 +15,7 @@ small_digit : (c : After-digit_or_zero) → digit_at c.args.label.now c.loop-c.c
 small_digit c = rw (← c.digit_or_zero.ensures.value) c.digit_or_zero.ensures.small
 
 pub returns-in_default : goal.returns-in_default
-returns-in_default c =
-    let small = small_digit (goal.at.returns-in_default c).After-digit_or_zero in
-    compared_none c.args.label.now c.args.hash.now c.loop-c.left.now c.loop-c.scale c.loop-c.rest c.loop-c.c-index
-    c.loop-c-test.true small c.loop-c.invariant c.if-wider-lt256.false
-    (nothing_left c.loop-c.left.now c.in_default.ensures.cases)
+returns-in_default c = grind (arith, common_steps, compared_none)
 
 pub returns-then-ne : goal.returns-then-ne
 returns-then-ne c =

@@ -1,4 +1,4 @@
-use Rattle.std.proofs.Common.{◌≡◌, ◌∙◌, ◌+◌, ◌≤◌, length, drop, sym, ap, subst, inl, inr, None}
+use Rattle.std.proofs.Common.{◌≡◌, ◌∙◌, sym, ap, subst, inl, inr, None, arith}
 use Rattle.std.specs.Option.{option_map}
 use Rattle.std.proofs.lemmas.Result.{err_from_is_err_and}
 use Rattle.domain_names.specs.Name.{lowered, wire_of}
@@ -6,10 +6,11 @@ use Rattle.domain_zone.proofs.NameLemmas.{below_itself}
 use Rattle.domain_nsec3.specs.View.{as_hashed_link}
 use Rattle.domain_checker.specs.HashedView.{HashedRecords, hashed_records}
 use Rattle.domain_checker.proofs.HashedWalkLemmas.{IsMissed, IsPassed, missed_here, none_first, none_left, passed_on, encloser_above, encloser_here}
-use Rattle.domain_checker.proofs.HashedWalkLemmas.{refused_here, wire_above, wire_shorter}
+use Rattle.domain_checker.proofs.HashedWalkLemmas.{refused_here, wire_above}
 use Rattle.domain_checker.proofs.walk.walk.Given.{Over}
 use Rattle.domain_checker.proofs.walk.walk.Goals as goal
 use Rattle.domain_checker.proofs.walk.walk.Goals.{Start, After-skip-octets}
+use Rattle.std.proofs.lemmas.Grind.{common_steps}
 
 -- the records as they are seen
 abbrev seen : (g : Over) (c : Start g) → HashedRecords
@@ -33,9 +34,7 @@ returns-in_err-matching-clause-err g c =
     ])
 
 pub returns-in-Match-clause-ok : goal.returns-in-Match-clause-ok
-returns-in-Match-clause-ok g c =
-    encloser_here _ c.args.name.now c.requires.below _ c.args.wire.now None c.requires.wire
-    (rw c.in-Match.is at c.in_ok-matching.ensures.ok) c.count_labels.result c.count_labels.ensures.count
+returns-in-Match-clause-ok g c = grind (arith, common_steps, encloser_here)
 
 pub names-init : goal.names-init
 names-init g c =
@@ -52,10 +51,7 @@ names-init g c =
 -- ---- at a name above
 
 pub skip-octets-requires : goal.skip-octets-requires
-skip-octets-requires g c =
-    let label = c.in-Some.label.now in
-    let next = c.in-Some.above in
-    subst (λ o. length label + 1 ≤ length o) (sym (c.names.invariant.wire ∙ ap (λ n. wire_of (lowered n)) c.in-Some.ensures.parts)) (wire_shorter label next)
+skip-octets-requires g c = grind (arith, common_steps)
 
 -- no record matched the name that was left
 passed : (g : Over) (c : After-skip-octets g) → IsPassed
@@ -67,10 +63,7 @@ passed g c =
 
 -- what is left of the wire form is that of the name above
 left_wire : (g : Over) (c : After-skip-octets g) → c.skip-octets.result.now ≡ wire_of (lowered c.in-Some.above)
-left_wire g c =
-    c.skip-octets.ensures
-    ∙ ap (drop (length c.in-Some.label.now + 1)) (c.names.invariant.wire ∙ ap (λ n. wire_of (lowered n)) c.in-Some.ensures.parts)
-    ∙ wire_above c.in-Some.label.now c.in-Some.above
+left_wire g c = grind (arith, common_steps, wire_above)
 
 pub returns-in_err-matching-2-clause-err : goal.returns-in_err-matching-2-clause-err
 returns-in_err-matching-2-clause-err g c =

@@ -1,4 +1,4 @@
-use Rattle.std.proofs.Common.{◌≡◌, ◌≢◌, ◌<◌, ℕ, List, true, sym, ap, ◌∙◌, subst, cond, length}
+use Rattle.std.proofs.Common.{◌≡◌, ◌≢◌, ◌<◌, ℕ, List, true, sym, ap, ◌∙◌, subst, cond, length, arith}
 use Rattle.std.specs.Option.{unwrap_or}
 use Rattle.domain_names.specs.Name.{is_at_or_below}
 use Rattle.domain_names.specs.Words.{Name}
@@ -11,6 +11,7 @@ use Rattle.domain_checker.specs.Reading.{list_verdict, reading}
 use Rattle.domain_checker.proofs.HandedInLemmas.{handed_in}
 use Rattle.domain_checker.proofs.ListLemmas.{has_proof, list_within}
 use Rattle.domain_checker.proofs.nsec_check.NsecCheck.verdict.Goals as goal
+use Rattle.std.proofs.lemmas.Grind.{common_steps}
 
 low : (a x : Name) (t : ℕ) (listed : List Link) (check : NsecCheck) → HasRead a x t listed check
     → is_at_or_below check.name check.apex ≡ true → is_at_or_below x a ≡ true
@@ -35,11 +36,7 @@ returns-clause-proof c =
     has_proof a listed x t (subst (λ v. v ≢ NotProven) is some)
 
 pub returns-clause-exact : goal.returns-clause-exact
-returns-clause-exact c =
-    λ a x t listed h.
-    let check = c.args.self.now in
-    let below = low a x t listed check h (sym c.ends_with.ensures.value ∙ c.if-not-ends_with.false) in
-    c.unwrap_or.ensures ∙ ap (λ o. unwrap_or o NotProven) c.or.ensures ∙ handed_in a x t listed check h ∙ read a x t listed below
+returns-clause-exact c = grind (arith, common_steps)
 
 pub returns-clause-within : goal.returns-clause-within
 returns-clause-within c =
