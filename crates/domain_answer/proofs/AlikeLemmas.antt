@@ -1,13 +1,10 @@
 -- What NSEC records answer does not depend on TTLs, classes and the case of letters.
-use Rattle.std.proofs.Common.{◌≡◌, ℕ, Bool, cond, not, ◌&&◌, ◌||◌, List, length, refl, ◌∙◌, Option, Some, None}
-use Rattle.std.specs.Prelude.{◌==◌}
+use Rattle.std.proofs.Common.{◌≡◌, ℕ, Bool, cond, not, ◌&&◌, ◌||◌, List, length, refl, Option, Some, None, arith}
 use Rattle.std.specs.List.{find}
-use Rattle.domain_names.specs.Name.{is_at_or_below, is_strictly_below, lowered, last_labels}
-use Rattle.domain_names.specs.Order.{before}
-use Rattle.domain_base.specs.Types.{cname, dname, ds, ns, soa}
+use Rattle.domain_names.specs.Name.{is_strictly_below, lowered}
+use Rattle.domain_base.specs.Types.{cname, dname, ns}
 use Rattle.domain_names.specs.Words.{Name}
 use Rattle.domain_bitmap.specs.Blocks.{contains_type}
-use Rattle.domain_zone.specs.Covering.{matches_or_covers}
 use Rattle.domain_zone.specs.Enclosers.{longer, shared}
 use Rattle.domain_zone.specs.Zone.{ZoneRecord}
 use Rattle.domain_zone.proofs.NameLemmas.{lowered_below, one_lowered, same_lowered}
@@ -17,12 +14,11 @@ use Rattle.domain_checker.specs.Reading.{is_at_cut, is_cover, is_match}
 use Rattle.domain_checker.proofs.AlikeLemmas.{is_cover_alike, is_match_alike, says_alike, shared_alike}
 use Rattle.domain_checker.proofs.PairedLemmas.{OptionsPaired, any_alike, find_alike}
 use Rattle.domain_checker.proofs.EncloserLemmas.{same_count}
-use Rattle.domain_answer.specs.declared.answer.Answer.TheVariants.{OutsideZone, AtParent, Referral, Redirected, Has, NoDs, Alias, NoData, Wildcard}
-use Rattle.domain_answer.specs.declared.answer.Answer.TheVariants.{WildcardAlias, WildcardNoData, NameError, NoCloserName, NotProven}
-use Rattle.domain_answer.specs.Proved.{is_missing, needs_no_records, proved_answer}
-use Rattle.domain_answer.specs.Reading.{absent_answer, cover_answer, listed_answer, listed_both, match_answer, owner_answer, reading, tells_occluded}
+use Rattle.domain_answer.specs.declared.answer.Answer.TheVariants.{Referral, Redirected, Wildcard, WildcardAlias, WildcardNoData, NameError, NoCloserName}
+use Rattle.domain_answer.specs.Proved.{proved_answer}
+use Rattle.domain_answer.specs.Reading.{absent_answer, cover_answer, listed_both, match_answer, owner_answer, reading, tells_occluded}
 use Rattle.domain_answer.specs.Reading.{wildcard_both, wildcard_cover_answer, wildcard_match_answer}
-use Rattle.domain_answer.specs.ZoneAnswer.{encloser, is_at_parent, wildcard_below, zone_answer}
+use Rattle.std.proofs.lemmas.Grind.{common_steps}
 
 -- ---- one record
 
@@ -49,9 +45,7 @@ module _ (a : Name) (k l : Link) (alike : IsAlike k l) where
   owner_answer_alike = λ i. cond (cut_alike i) (Referral (labels i)) (Redirected (labels i))
 
   match_answer_alike : (t : ℕ) → match_answer a k t ≡ match_answer a l t
-  match_answer_alike t = λ i. cond (cut_alike i && contains_type (alike.bits i) soa) NotProven
-      (cond (cut_alike i && not (t == ds)) (Referral (labels i)) (cond (contains_type (alike.bits i) t) Has
-      (cond (cut_alike i) NoDs (cond (contains_type (alike.bits i) cname) Alias NoData))))
+  match_answer_alike t = grind (arith, common_steps, cut_alike)
 
   wildcard_match_alike : (n t : ℕ) → wildcard_match_answer a n k t ≡ wildcard_match_answer a n l t
   wildcard_match_alike n t = λ i. cond (contains_type (alike.bits i) t || cut_alike i) (Wildcard n)
@@ -84,14 +78,10 @@ module _ (a : Name) (t : ℕ) where
     covering y = find_alike IsAlike (is_cover a y) (is_cover_alike a y) ks ls all
 
     absent_alike : (n : ℕ) (x : Name) → absent_answer a ks n x t ≡ absent_answer a ls n x t
-    absent_alike n x =
-        let w = wildcard_below (last_labels n x) in
-        wildcard_both_alike n w (find (is_match a w) ks) (find (is_match a w) ls) (find (is_cover a w) ks) (find (is_cover a w) ls) (matching w) (covering w)
+    absent_alike n x = grind (arith, common_steps, wildcard_both_alike, matching, covering)
 
     cover_alike : (k l : Link) (x : Name) → IsAlike k l → cover_answer a ks k x t ≡ cover_answer a ls l x t
-    cover_alike k l x alike =
-        let absent = (λ i. absent_answer a ks (count_alike a k l alike x i) x t) ∙ absent_alike (length (longer (shared x l.owner) (shared x l.next))) x in
-        λ i. cond (occluded_alike a k l alike x i) (owner_answer_alike a k l alike i) (cond (below_alike a k l alike x i) NoData (absent i))
+    cover_alike k l x alike = grind (arith, common_steps, count_alike, absent_alike, occluded_alike, owner_answer_alike, below_alike)
 
     both_alike : (x : Name) (m n c d : Option Link) → OptionsPaired IsAlike m n → OptionsPaired IsAlike c d
         → listed_both a ks x t m c ≡ listed_both a ls x t n d
@@ -104,15 +94,7 @@ module _ (a : Name) (t : ℕ) where
     both_alike x None None (Some c) (Some d) m h = cover_alike c d x h
 
     pub reading_alike : (x : Name) → reading a ks x t ≡ reading a ls x t
-    reading_alike x =
-        let inner : listed_answer a ks x t ≡ listed_answer a ls x t =
-        both_alike x (find (is_match a x) ks) (find (is_match a x) ls) (find (is_cover a x) ks) (find (is_cover a x) ls) (matching x) (covering x) in
-        λ i. cond (not (is_at_or_below x a)) OutsideZone (cond (is_at_parent a x t) AtParent (inner i))
+    reading_alike x = grind (arith, common_steps, both_alike, matching, covering)
 
     pub proved_alike : (L : List ZoneRecord) (assume : Bool) (x : Name) → proved_answer L a assume ks x t ≡ proved_answer L a assume ls x t
-    proved_alike L assume x =
-        let w = wildcard_below (encloser L a x) in
-        let said = any_alike IsAlike (λ k. matches_or_covers before k.owner k.next x) (says_alike a x) ks ls all in
-        let wild = any_alike IsAlike (λ k. matches_or_covers before k.owner k.next w) (says_alike a w) ks ls all in
-        λ i. cond (needs_no_records a x t) (zone_answer L a assume x t) (cond (not (said i)) NotProven
-        (cond (is_missing L a x && not (wild i)) (NoCloserName (length (encloser L a x))) (zone_answer L a assume x t)))
+    proved_alike L assume x = grind (arith, common_steps, any_alike, says_alike)

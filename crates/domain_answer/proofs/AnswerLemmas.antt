@@ -34,6 +34,7 @@ use Rattle.domain_answer.proofs.ChainLemmas.{child_at, covered_cut, covered_exis
 use Rattle.domain_answer.proofs.ChainLemmas.{no_cut, no_type}
 use Rattle.domain_answer.proofs.CountLemmas.{closest_last, parent_below}
 use Rattle.domain_answer.proofs.OccluderLemmas.{highest_is, none_above}
+use Rattle.std.proofs.lemmas.Grind.{common_steps}
 
 turned : (b : Bool) (u v : Answer) → cond b u v ≡ cond (not b) v u
 turned true u v = refl
@@ -41,9 +42,7 @@ turned false u v = refl
 
 -- a name that exists and owns nothing has no data
 existing_none : (L : List ZoneRecord) (a : Name) (assume : Bool) (x : Name) (t : ℕ) → owns L x ≡ false → existing_answer L a assume x t ≡ NoData
-existing_none L a assume x t e =
-    λ j. cond (no_cut L a x e j && not (t == ds)) (Referral (length x)) (cond (no_type L a assume x t e j) Has
-    (cond (no_cut L a x e j) NoDs (cond (no_type L a assume x cname e j) Alias NoData)))
+existing_none L a assume x t e = grind (arith, common_steps, no_cut)
 
 module _ (L : List ZoneRecord) (a : Name) (assume : Bool) (links : List Link) (meant : IsMeant true L a assume links)
     (alike : IgnoresCase L a assume) (sets : BitmapsAreSets)

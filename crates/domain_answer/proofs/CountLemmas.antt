@@ -1,16 +1,17 @@
 -- How many labels names have: the last ones, and those that names share.
-use Rattle.std.proofs.Common.{◌≡◌, ℕ, ◌≤◌, ◌<◌, ◌-◌, suc, Bool, true, false, cond, not, ◌&&◌, ◌||◌, List, [], ◌∷◌, drop, length, refl, sym, ap, ◌∙◌, subst, inl}
+use Rattle.std.proofs.Common.{◌≡◌, ℕ, ◌≤◌, ◌<◌, ◌-◌, suc, Bool, true, false, cond, not, ◌&&◌, ◌||◌, List, [], ◌∷◌, drop, length, refl, sym, ap, ◌∙◌, inl}
 use Rattle.std.proofs.Common.{inr, arith, ltb}
-use Rattle.std.proofs.lemmas.Bool.{cases_Bool, cases_lt, false≢true, and_parts, and_from}
+use Rattle.std.proofs.lemmas.Bool.{cases_Bool, cases_lt, false≢true, and_parts}
 use Rattle.domain_names.specs.Name.{is_at_or_below, is_strictly_below, lowered, same_name, last_labels}
 use Rattle.domain_names.specs.Order.{before}
 use Rattle.domain_names.specs.Words.{Label, Name}
 use Rattle.domain_zone.specs.Covering.{covers, matches}
-use Rattle.domain_zone.specs.Enclosers.{exists_over, longer, shared}
+use Rattle.domain_zone.specs.Enclosers.{longer, shared}
 use Rattle.domain_zone.proofs.NameLemmas.{before_right, before_order, below_between, below_from, below_itself, below_longer, below_parent, below_root}
-use Rattle.domain_zone.proofs.NameLemmas.{strictly_longer, strictly_from, below_trans, lowered_below, one_lowered, same_lowered}
+use Rattle.domain_zone.proofs.NameLemmas.{strictly_longer, strictly_from, lowered_below, one_lowered, same_lowered}
 use Rattle.domain_checker.specs.Verdict.{closest_encloser}
 use Rattle.domain_checker.proofs.SharedLemmas.{shared_within}
+use Rattle.std.proofs.lemmas.Grind.{common_steps}
 
 -- ---- names that are the same, and names below each other
 
@@ -38,13 +39,7 @@ last_more l x n h = let more : length (l ∷ x) - n ≡ suc (length x - n) = ome
 -- they are at or above the name, and so many
 pub last_above : (x : Name) (n : ℕ) → is_at_or_below x (last_labels n x) ≡ true
 last_above [] n = ap (is_at_or_below []) (last_all [] n (omega arith)) ∙ below_itself []
-last_above (l ∷ x) n =
-    elim (cases_lt n (length (l ∷ x))) [
-      | inl h ↦
-          let more = last_more l x n (omega arith) in
-          below_trans (l ∷ x) x (last_labels n (l ∷ x)) (below_parent l x) (ap (is_at_or_below x) more ∙ last_above x n)
-      | inr h ↦ ap (is_at_or_below (l ∷ x)) (last_all (l ∷ x) n h) ∙ below_itself (l ∷ x)
-    ]
+last_above (l ∷ x) n = grind (arith, common_steps, last_more, last_all, below_itself, (last_above x n))
 
 pub last_count : (x : Name) (n : ℕ) → n ≤ length x → length (last_labels n x) ≡ n
 last_count [] n h = let none : length {A = Label} [] ≡ n = omega arith in ap length (last_all [] n (omega arith)) ∙ none
@@ -56,32 +51,15 @@ last_count (l ∷ x) n h =
 
 -- ---- the closest encloser is the last labels of the name
 
-closest_within : (names : List Name) (a x : Name) → length (closest_encloser names a x) ≤ length x
-closest_within names a [] = omega arith
-closest_within names a (l ∷ x) =
-    let up = closest_within names a x in
-    elim (exists_over names a (l ∷ x)) as (λ b. length (cond b (l ∷ x) (closest_encloser names a x)) ≤ length (l ∷ x)) [
-      | true ↦ omega arith
-      | false ↦ omega arith
-    ]
-
 pub closest_last : (names : List Name) (a x : Name) → last_labels (length (closest_encloser names a x)) x ≡ closest_encloser names a x
 closest_last names a [] = refl
-closest_last names a (l ∷ x) =
-    elim (exists_over names a (l ∷ x)) as (λ b. last_labels (length (cond b (l ∷ x) (closest_encloser names a x))) (l ∷ x)
-    ≡ cond b (l ∷ x) (closest_encloser names a x)) [
-      | true ↦ last_all (l ∷ x) (length (l ∷ x)) (omega arith)
-      | false ↦ last_more l x (length (closest_encloser names a x)) (closest_within names a x) ∙ closest_last names a x
-    ]
+closest_last names a (l ∷ x) = grind (arith, common_steps, last_more, (closest_last names a x))
 
 -- ---- names that share less than all labels
 
 shared_less : (x y : Name) → is_at_or_below y x ≡ false → length (shared x y) < length x
 shared_less [] y e = absurd (false≢true (sym e ∙ below_root y))
-shared_less (l ∷ x) y e =
-    let up = shared_within x y in
-    let fewer : length (shared x y) < length (l ∷ x) = omega arith in
-    subst (λ b. length (cond b (l ∷ x) (shared x y)) < length (l ∷ x)) (sym e) fewer
+shared_less (l ∷ x) y e = grind (arith, common_steps, shared_within)
 
 longer_less : (n : ℕ) (e f : Name) → length e < n → length f < n → length (longer e f) < n
 longer_less n e f p q =
@@ -91,32 +69,17 @@ longer_less n e f p q =
 pub covers_parts : (m oo ox xn : Bool) → (not m && cond oo (ox && xn) (ox || xn)) ≡ true → (cond oo (ox && xn) (ox || xn)) ≡ true
 covers_parts m oo ox xn h = (and_parts (not m) (cond oo (ox && xn) (ox || xn)) h).1
 
-both_false : (b : Bool) → cond b (b && false) (b || false) ≡ true → ⊥
-both_false true h = false≢true h
-both_false false h = false≢true h
-
 module _ (o n x : Name) (c : covers before o n x ≡ true) where
   between : cond (before o n) (before o x && before x n) (before o x || before x n) ≡ true
   between = covers_parts (matches before o x) (before o n) (before o x) (before x n) c
 
   -- the next name is not the one that is covered
   other_next : same_name n x ≡ false
-  other_next =
-      elim (cases_Bool (same_name n x)) [
-        | inl e ↦
-            let low = one_lowered n x e in
-            let after : before x n ≡ false = before_right x n x low ∙ below_from x x (below_itself x) in
-            absurd (both_false (before o x) (sym (λ i. cond (before_right o n x low i) (before o x && after i) (before o x || after i)) ∙ between))
-        | inr e ↦ e
-      ]
+  other_next = grind (arith, common_steps, one_lowered, before_right, below_from)
 
   -- a next name that is not strictly below it is not at it or below
   next_apart : is_strictly_below n x ≡ false → is_at_or_below n x ≡ false
-  next_apart s =
-      elim (cases_Bool (is_at_or_below n x)) [
-        | inl e ↦ absurd (false≢true (sym s ∙ and_from (is_at_or_below n x) (not (same_name n x)) e (ap not other_next)))
-        | inr e ↦ e
-      ]
+  next_apart s = grind (arith, common_steps, other_next)
 
   -- then the owner isn't either
   owner_apart : is_strictly_below n x ≡ false → is_at_or_below o x ≡ false

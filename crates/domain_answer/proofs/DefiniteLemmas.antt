@@ -1,10 +1,11 @@
 -- A choice between answers that a zone gives is one of them.
-use Rattle.std.proofs.Common.{◌≡◌, ◌≢◌, ℕ, Bool, true, false, cond, refl, sym, ap, ◌∙◌}
+use Rattle.std.proofs.Common.{◌≡◌, ◌≢◌, ℕ, Bool, true, false, cond, refl, sym, ap, ◌∙◌, arith}
 use Rattle.std.proofs.lemmas.Bool.{true≢false}
 use Rattle.domain_answer.specs.declared.answer.Answer.{Answer}
 use Rattle.domain_answer.specs.declared.answer.Answer.TheVariants.{OutsideZone, AtParent, Referral, Redirected, Has, NoDs, Alias, NoData, Wildcard}
 use Rattle.domain_answer.specs.declared.answer.Answer.TheVariants.{WildcardAlias, WildcardNoData, NameError, MayBeUnsigned, NoCloserName, TooManyIterations}
 use Rattle.domain_answer.specs.declared.answer.Answer.TheVariants.{NotProven}
+use Rattle.std.proofs.lemmas.Grind.{common_steps}
 
 pub either : (b : Bool) (v : Answer) → cond b v v ≡ v
 either true v = refl
@@ -36,19 +37,13 @@ choose false v w e f = f
 pub existing_says : (n : ℕ) (below has cut alias : Bool)
     → is_of_zone (cond below (Referral n) (cond has Has (cond cut NoDs (cond alias Alias NoData)))) ≡ true
 unfolding is_of_zone
-existing_says n below has cut alias =
-    choose below (Referral n) (cond has Has (cond cut NoDs (cond alias Alias NoData))) refl
-    (choose has Has (cond cut NoDs (cond alias Alias NoData)) refl
-    (choose cut NoDs (cond alias Alias NoData) refl (choose alias Alias NoData refl refl)))
+existing_says n below has cut alias = grind (arith, common_steps)
 
 -- of the wildcard above one that does not
 pub wildcard_says : (n : ℕ) (none has alias : Bool)
     → is_of_zone (cond none (NameError n) (cond has (Wildcard n) (cond alias (WildcardAlias n) (WildcardNoData n)))) ≡ true
 unfolding is_of_zone
-wildcard_says n none has alias =
-    choose none (NameError n) (cond has (Wildcard n) (cond alias (WildcardAlias n) (WildcardNoData n))) refl
-    (choose has (Wildcard n) (cond alias (WildcardAlias n) (WildcardNoData n)) refl
-    (choose alias (WildcardAlias n) (WildcardNoData n) refl refl))
+wildcard_says n none has alias = grind (arith, common_steps)
 
 -- records give more answers
 pub of_zone_proves : (v : Answer) → is_of_zone v ≡ true → v ≢ NotProven

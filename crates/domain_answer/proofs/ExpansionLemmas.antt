@@ -1,10 +1,9 @@
 -- What NSEC3 records answer of a name whose records were expanded from a wildcard is what they prove of the zone.
-use Rattle.std.proofs.Common.{◌≡◌, ℕ, ◌+◌, ◌≤◌, ◌<◌, Bool, true, false, cond, not, ◌&&◌, List, All, length, refl, sym, ap, ◌∙◌, subst, inl, inr, Option, Some}
+use Rattle.std.proofs.Common.{◌≡◌, ℕ, ◌+◌, ◌≤◌, ◌<◌, Bool, true, false, cond, not, List, All, length, refl, sym, ap, ◌∙◌, subst, inl, inr, Option, Some}
 use Rattle.std.proofs.Common.{None, arith}
-use Rattle.std.specs.Prelude.{Ok, nat_le, nat_lt}
+use Rattle.std.specs.Prelude.{Ok}
 use Rattle.std.specs.List.{find, list_any, Contains}
 use Rattle.std.proofs.lemmas.Bool.{and_parts, and_from, cases_lt, false≢true}
-use Rattle.std.proofs.lemmas.Bool.Decides.{nat_tests}
 use Rattle.std.proofs.lemmas.List.Elements.{recursion_from_All}
 use Rattle.domain_octets.specs.Words.{Octets}
 use Rattle.domain_names.specs.Name.{is_at_or_below, last_labels}
@@ -35,6 +34,7 @@ use Rattle.domain_answer.specs.Proved.{CountsWithin}
 use Rattle.domain_answer.specs.ZoneAnswer.{asterisk, wildcard_below}
 use Rattle.domain_answer.proofs.DefiniteLemmas.{either}
 use Rattle.domain_answer.proofs.CountLemmas.{closest_last, last_above, last_count}
+use Rattle.std.proofs.lemmas.Grind.{common_steps}
 
 chosen : (P : Answer → Type 0) (b : Bool) (v w : Answer) → P v → P w → P (cond b v w)
 chosen P true v w h k = h
@@ -47,16 +47,7 @@ record IsLonger (a x : Name) (n : ℕ) : Type 0 where
   fewer : n < length x
 
 longer : (a x : Name) (n : ℕ) → is_expanded a x n ≡ true → IsLonger a x n
-longer a x n e =
-    let p = and_parts (is_at_or_below x a && nat_le (length a) n) (nat_lt n (length x)) e in
-    let q = and_parts (is_at_or_below x a) (nat_le (length a) n) p.0 in
-    record { below = q.0; within = of_le (length a) n q.1; fewer = of_lt n (length x) p.1 }
-  where
-    of_le : (m k : ℕ) → nat_le m k ≡ true → m ≤ k
-    of_le m k e = grind (arith, nat_tests)
-
-    of_lt : (m k : ℕ) → nat_lt m k ≡ true → m < k
-    of_lt m k e = grind (arith, nat_tests)
+longer a x n e = grind (arith, common_steps)
 
 pub closer_low : (a x : Name) (n : ℕ) → is_expanded a x n ≡ true → is_at_or_below (closer_name n x) a ≡ true
 closer_low a x n e =
@@ -213,6 +204,4 @@ module _ (R : HashedRecords) (x : Name) (n : ℕ) (answer : Answer) (read : IsEx
   expansion_rests = allowed (ExpansionRestsOn R x n) tt (λ c. ((refl, c), (refl, c)))
 
   pub expansion_counts : is_expanded R.apex x n ≡ true → CountsWithin (length x) answer
-  expansion_counts e =
-      let fewer = (longer R.apex x n e).fewer in
-      allowed (CountsWithin (length x)) tt (λ c. (fewer, fewer))
+  expansion_counts e = grind (arith, common_steps)

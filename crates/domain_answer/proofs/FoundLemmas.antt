@@ -1,14 +1,11 @@
 -- Tests of one NSEC record, and what was found of a name.
-use Rattle.std.proofs.Common.{◌≡◌, ℕ, ◌≤◌, Bool, true, false, cond, not, ◌&&◌, ◌||◌, List, map, drop, length, Option, Some, None, sym, ap, refl, ◌∙◌, arith}
-use Rattle.std.proofs.Common.{leb, max}
+use Rattle.std.proofs.Common.{◌≡◌, ℕ, ◌≤◌, Bool, true, false, cond, not, ◌&&◌, ◌||◌, List, length, Option, Some, None, sym, ap, refl, ◌∙◌, arith, leb, max}
 use Rattle.std.specs.List.{find}
 use Rattle.std.specs.Option.{is_some, option_map, option_or}
 use Rattle.std.specs.Ordering.{is_eq, is_gt, is_lt, ordering_reverse}
 use Rattle.std.specs.declared.cmp.Ordering.{Ordering}
 use Rattle.std.specs.declared.cmp.Ordering.TheVariants.{Less, Equal, Greater}
 use Rattle.std.proofs.lemmas.Bool.{and_parts, false≢true, le-leb, leb-true}
-use Rattle.std.proofs.lemmas.List.{at_drop_all}
-use Rattle.domain_octets.proofs.StdLemmas.{or_none}
 use Rattle.domain_names.specs.Name.{is_at_or_below, same_name}
 use Rattle.domain_names.specs.Order.{before, canonical_cmp, canonical_cmp_total, common_labels}
 use Rattle.domain_names.specs.Words.{Name}
@@ -23,6 +20,7 @@ use Rattle.domain_checker.specs.Reading.{is_cover, is_match}
 use Rattle.domain_checker.specs.Verdict.{is_inside}
 use Rattle.domain_checker.proofs.FirstLemmas.{match_is_tie}
 use Rattle.domain_answer.specs.Found.{IsFound}
+use Rattle.std.proofs.lemmas.Grind.{common_steps}
 
 pub match_is_same : (x y : Name) → matches before x y ≡ same_name x y
 match_is_same x y = sym (same_is x y)
@@ -57,39 +55,17 @@ module _ (o n x : Name) where
       ∙ (λ i. covered_by (e i) (is_gt (canonical_cmp x o)) (is_lt (canonical_cmp x n)) (before o n)))
 
   pub ahead_of_both : is_gt (canonical_cmp x o) ≡ false → before o n ≡ true → false ≡ covers before o n x
-  ahead_of_both e f = sym (covers_is
-      ∙ (λ i. covered_by (is_eq (canonical_cmp x o)) (e i) (is_lt (canonical_cmp x n)) (f i)) ∙ none (is_eq (canonical_cmp x o)))
-    where
-      none : (b : Bool) → (not b && false) ≡ false
-      none true = refl
-      none false = refl
+  ahead_of_both e f = grind (arith, common_steps, covers_is)
 
   pub ahead_of_next : is_eq (canonical_cmp x o) ≡ false → (is_gt (canonical_cmp x o) ≡ false → before o n ≡ false)
       → is_lt (canonical_cmp x n) ≡ true → true ≡ covers before o n x
-  ahead_of_next e g f = sym (covers_is
-      ∙ (λ i. covered_by (e i) (is_gt (canonical_cmp x o)) (f i) (before o n))
-      ∙ go (is_gt (canonical_cmp x o)) (before o n) g)
-    where
-      go : (u v : Bool) → (u ≡ false → v ≡ false) → cond v (u && true) (u || true) ≡ true
-      go true true h = refl
-      go true false h = refl
-      go false true h = sym (h refl)
-      go false false h = refl
+  ahead_of_next e g f = grind (arith, common_steps, covers_is)
 
   pub after_both : is_eq (canonical_cmp x o) ≡ false → is_gt (canonical_cmp x o) ≡ true → before o n ≡ false → true ≡ covers before o n x
   after_both e f g = sym (covers_is ∙ (λ i. covered_by (e i) (f i) (is_lt (canonical_cmp x n)) (g i)))
 
   pub uncovered : is_lt (canonical_cmp x n) ≡ false → (is_gt (canonical_cmp x o) ≡ true → before o n ≡ true) → false ≡ covers before o n x
-  uncovered f g = sym (covers_is
-      ∙ (λ i. covered_by (is_eq (canonical_cmp x o)) (is_gt (canonical_cmp x o)) (f i) (before o n))
-      ∙ go (is_eq (canonical_cmp x o)) (is_gt (canonical_cmp x o)) (before o n) g)
-    where
-      go : (t u v : Bool) → (u ≡ true → v ≡ true) → (not t && cond v (u && false) (u || false)) ≡ false
-      go true u v h = refl
-      go false true true h = refl
-      go false true false h = sym (h refl)
-      go false false true h = refl
-      go false false false h = refl
+  uncovered f g = grind (arith, common_steps, covers_is)
 
 -- ---- one pass
 
@@ -101,23 +77,8 @@ met_now v None found true k whole rest none hit past is = hit refl ∙ sym (ap (
 met_now v None found false k whole rest none hit past is = past refl ∙ sym (ap (λ q. option_or q rest) is)
 met_now v (Some m) found here k whole rest none hit past is = absurd (false≢true (sym none))
 
--- after the last record what was met is what was found
-pub passed_all : {X : Type 0} (a x : Name) (see : X → Link) (listed : List X) (at : ℕ) (cover found : Option Link) → length listed ≤ at
-    → find (is_match a x) (map see listed) ≡ find (is_match a x) (map see (drop at listed))
-    → find (is_cover a x) (map see listed) ≡ option_or cover (find (is_cover a x) (map see (drop at listed)))
-    → cover ≡ found → IsFound a (map see listed) x None found
-passed_all a x see listed at cover found end matching covering is = record {
-  matching = sym (matching ∙ at_drop_all (λ ys. find (is_match a x) (map see ys)) listed at end);
-  covering = λ none.
-      sym (covering ∙ at_drop_all (λ ys. option_or cover (find (is_cover a x) (map see ys))) listed at end ∙ or_none cover ∙ is);
-}
-
 -- what a match, or what a cover without one, makes of the whole list
 module _ {T : Type 0} (a : Name) (listed : List Link) (x : Name) (read : Option Link → Option Link → T) where
-  pub match_reads : (k : Link) (covered : Option Link) → IsFound a listed x (Some k) covered
-      → read (Some k) (find (is_cover a x) listed) ≡ read (find (is_match a x) listed) (find (is_cover a x) listed)
-  match_reads k covered found = ap (λ o. read o (find (is_cover a x) listed)) found.matching
-
   pub cover_reads : (covered : Option Link) → IsFound a listed x None covered
       → read None covered ≡ read (find (is_match a x) listed) (find (is_cover a x) listed)
   cover_reads covered found = λ i. read (found.matching i) (found.covering refl i)

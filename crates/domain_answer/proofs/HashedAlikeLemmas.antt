@@ -1,8 +1,8 @@
 -- What NSEC3 records answer does not depend on TTLs, classes and the case of letters.
-use Rattle.std.proofs.Common.{◌≡◌, ℕ, cond, not, ◌&&◌, ◌||◌, List, length, refl, sym, ◌∙◌, subst, nat_eq, Option, Some, None}
+use Rattle.std.proofs.Common.{◌≡◌, ℕ, cond, not, ◌&&◌, ◌||◌, List, length, refl, sym, ◌∙◌, subst, nat_eq, Option, Some, None, arith}
 use Rattle.domain_octets.specs.Words.{Octets}
 use Rattle.domain_names.specs.Name.{same_name}
-use Rattle.domain_base.specs.Types.{cname, dname, ds, ns, soa}
+use Rattle.domain_base.specs.Types.{dname, ns}
 use Rattle.domain_names.specs.Words.{Name}
 use Rattle.domain_bitmap.specs.Blocks.{contains_type}
 use Rattle.domain_chain_rdata.specs.OptOut.{is_opt_out}
@@ -12,19 +12,18 @@ use Rattle.domain_nsec3.specs.Config.{ChainConfig}
 use Rattle.domain_nsec3.specs.Owners.{nsec3_lists}
 use Rattle.domain_checker.specs.Alike.{ArePaired, IsHashedAlike}
 use Rattle.domain_checker.specs.HashedEncloser.{Encloser, IsFoundEncloser, encloser_is_cut, next_cover}
-use Rattle.domain_checker.specs.HashedView.{HashedRecords, chain_records, first_cover, first_match, with_links}
+use Rattle.domain_checker.specs.HashedView.{HashedRecords, chain_records, with_links}
 use Rattle.domain_checker.specs.HashedVerdict.{next_closer}
 use Rattle.domain_checker.proofs.HashedAlikeLemmas.{covered_alike, matched_alike, matching, covering, found_alike, first_alike}
 use Rattle.domain_checker.proofs.PairedLemmas.{OptionsPaired}
 use Rattle.domain_answer.specs.declared.answer.Answer.{Answer}
-use Rattle.domain_answer.specs.declared.answer.Answer.TheVariants.{Referral, Redirected, Has, NoDs, Alias, NoData, Wildcard, WildcardAlias, WildcardNoData}
 use Rattle.domain_answer.specs.declared.answer.Answer.TheVariants.{MayBeUnsigned, NoCloserName, NotProven}
 use Rattle.domain_answer.specs.Expansion.{IsExpansionRead, closer_name, closer_told, proved_expansion}
-use Rattle.domain_answer.specs.HashedProved.{hashed_proved_answer, needs_wildcard, tells_encloser, tells_wildcard}
+use Rattle.domain_answer.specs.HashedProved.{hashed_proved_answer, tells_encloser, tells_wildcard}
 use Rattle.domain_answer.specs.HashedReading.{IsHashedRead, IsReadOn, encloser_answer, found_answer, next_answer, wildcard_told}
 use Rattle.domain_answer.specs.HashedZoneAnswer.{hashed_encloser, hashed_exists, hashed_zone_answer}
-use Rattle.domain_answer.specs.Proved.{needs_no_records}
 use Rattle.domain_answer.specs.ZoneAnswer.{wildcard_below}
+use Rattle.std.proofs.lemmas.Grind.{common_steps}
 
 -- ---- what records say that were found
 
@@ -32,9 +31,7 @@ abbrev BothAlike : Option HashedLink → Option HashedLink → Type 0
 BothAlike = OptionsPaired IsHashedAlike
 
 wildcard_alike : (n t : ℕ) (m o c d : Option HashedLink) → BothAlike m o → BothAlike c d → wildcard_told n t m c ≡ wildcard_told n t o d
-wildcard_alike n t (Some k) (Some l) c d m h =
-    λ i. cond (contains_type (m.bits i) t || contains_type (m.bits i) ns) (Wildcard n)
-    (cond (contains_type (m.bits i) cname) (WildcardAlias n) (WildcardNoData n))
+wildcard_alike n t (Some k) (Some l) c d m h = grind (arith, common_steps)
 wildcard_alike n t (Some k) None c d m h = absurd m
 wildcard_alike n t None (Some l) c d m h = absurd m
 wildcard_alike n t None None None None m h = refl
@@ -62,11 +59,7 @@ module _ (a : Name) (n t count : ℕ) (k l : HashedLink) (alike : IsHashedAlike 
   cut_alike = λ i. not (nat_eq count (length a)) && contains_type (alike.bits i) ns
 
   encloser_answer_alike : encloser_answer a (encloser_with count k c) n t ≡ encloser_answer a (encloser_with count l d) n t
-  encloser_answer_alike =
-      λ i. cond (nat_eq count n)
-      (cond (cut_alike i && contains_type (alike.bits i) soa) NotProven (cond (cut_alike i && not (nat_eq t ds)) (Referral count)
-      (cond (contains_type (alike.bits i) t) Has (cond (cut_alike i) NoDs (cond (contains_type (alike.bits i) cname) Alias NoData)))))
-      (cond (cut_alike i) (Referral count) (cond (contains_type (alike.bits i) dname) (Redirected count) (next_alike count c d covers i)))
+  encloser_answer_alike = grind (arith, common_steps)
 
 -- ---- lists
 
@@ -80,23 +73,11 @@ module _ (R : HashedRecords) (ls : List HashedLink) (alike : ArePaired IsHashedA
   next_cover_alike (Some v) = covering R ls alike v
 
   pub expansion_alike : (x : Name) (n : ℕ) (answer : Answer) → IsExpansionRead R x n answer → IsExpansionRead S x n answer
-  expansion_alike x n answer r =
-      record {
-        value = r.value;
-        known = r.known;
-        says = r.says ∙ closer_alike n (first_match R r.value) (first_match S r.value)
-            (first_cover R r.value) (first_cover S r.value) (matching R ls alike r.value) (covering R ls alike r.value);
-      }
+  expansion_alike x n answer r = grind (arith, common_steps, closer_alike, matching, covering)
 
   module _ (x : Name) (t : ℕ) where
     read_on : (first answer : Answer) → IsReadOn R x t first answer → IsReadOn S x t first answer
-    read_on (NoCloserName n) answer r =
-        record {
-          value = r.value;
-          known = r.known;
-          says = r.says ∙ wildcard_alike n t (first_match R r.value) (first_match S r.value)
-              (first_cover R r.value) (first_cover S r.value) (matching R ls alike r.value) (covering R ls alike r.value);
-        }
+    read_on (NoCloserName n) answer r = grind (arith, common_steps, wildcard_alike, matching, covering)
     read_on first answer r = r
 
     read_found : (answer : Answer) (found : Option Encloser) → IsFoundEncloser R x found
@@ -156,9 +137,7 @@ module _ (L : List ZoneRecord) (a : Name) (config : ChainConfig) (x : Name) (t :
       || covered_alike (chain_records a config ks) ls alike (wildcard_below en) i
 
   pub proved_alike : hashed_proved_answer L a config ks x t ≡ hashed_proved_answer L a config ls x t
-  proved_alike =
-      λ i. cond (needs_no_records a x t) zone (cond (not (encloser_told i)) NotProven
-      (cond (needs_wildcard L a config x && not (wildcard_said i)) (NoCloserName (length en)) zone))
+  proved_alike = grind (arith, common_steps, encloser_told, wildcard_said)
 
   pub proved_expansion_alike : (n : ℕ) → proved_expansion L a config ks x n ≡ proved_expansion L a config ls x n
   proved_expansion_alike n =

@@ -3,7 +3,7 @@ use Rattle.std.proofs.Common.{◌≡◌, ℕ, ◌+◌, ◌-◌, ◌≤◌, ◌<�
 use Rattle.std.proofs.Common.{inr, nat_eq, Option, Some, None, arith}
 use Rattle.std.specs.Prelude.{Ok}
 use Rattle.std.specs.List.{find, list_any, Contains}
-use Rattle.std.proofs.lemmas.Bool.{cases_Bool, cases_lt, false≢true, and_parts, and_from, and_left, and_right, or_left, or_right, not-true}
+use Rattle.std.proofs.lemmas.Bool.{cases_Bool, cases_lt, false≢true, and_parts, and_from, and_left, and_right, or_left, or_right}
 use Rattle.std.proofs.lemmas.List.Elements.{recursion_from_All}
 use Rattle.domain_octets.specs.Words.{Octets}
 use Rattle.domain_names.specs.Name.{is_at_or_below, is_strictly_below, lowered, same_name, last_labels}
@@ -12,17 +12,16 @@ use Rattle.domain_names.specs.Words.{Name}
 use Rattle.domain_bitmap.specs.Blocks.{contains_type}
 use Rattle.domain_chain_rdata.specs.OptOut.{is_opt_out}
 use Rattle.domain_zone.specs.Enclosers.{exists_over, IsClosestEncloser}
-use Rattle.domain_zone.specs.Zone.{ZoneRecord, has_type, is_occluded, is_zone_cut, may_list, owns, records_of, unoccluded_owners}
+use Rattle.domain_zone.specs.Zone.{ZoneRecord, has_type, is_occluded, is_zone_cut, records_of}
 use Rattle.domain_zone.proofs.NameLemmas.{one_lowered, same_lowered, below_itself, below_trans, below_longer, below_length, below_parent, strictly_longer}
 use Rattle.domain_zone.proofs.NameLemmas.{strictly_from, same_length}
 use Rattle.domain_zone.proofs.PairLemmas.{In, all_in}
 use Rattle.domain_zone.proofs.OwnerLemmas.{any_in, in_any, below_occluder}
-use Rattle.domain_zone.proofs.ZoneLemmas.{same_back}
 use Rattle.domain_zone.proofs.FindLemmas.{any_none, in_filter, find_some, find_none}
 use Rattle.domain_nsec3.specs.Chain.{HashedLink}
 use Rattle.domain_nsec3.specs.Config.{ChainConfig, hash_name}
 use Rattle.domain_nsec3.specs.Meaning.{IsAlone}
-use Rattle.domain_nsec3.specs.Owners.{is_excluded, is_original_owner, nsec3_lists, original_owners}
+use Rattle.domain_nsec3.specs.Owners.{is_original_owner, nsec3_lists, original_owners}
 use Rattle.domain_checker.specs.HashedEncloser.{Encloser, IsDenial, IsEncloser, IsFoundEncloser, IsOfName, encloser_is_cut, next_cover}
 use Rattle.domain_checker.specs.HashedList.{is_hash_cover, is_hash_match}
 use Rattle.domain_checker.specs.HashedReading.{IsNextHash}
@@ -34,7 +33,6 @@ use Rattle.domain_checker.proofs.HashedVerdictLemmas.{as_chain}
 use Rattle.domain_checker.proofs.HashedEncloserLemmas.{cut_counted, itself_counted}
 use Rattle.domain_checker.proofs.HashedWalkLemmas.{closer_is}
 use Rattle.domain_checker.proofs.HashedListLemmas.{hash_same}
-use Rattle.domain_answer.specs.TypesAnswer.{is_of_child}
 use Rattle.domain_answer.specs.declared.answer.Answer.{Answer}
 use Rattle.domain_answer.specs.declared.answer.Answer.TheVariants.{OutsideZone, AtParent, Referral, Redirected, Has, NoDs, Alias, NoData, Wildcard}
 use Rattle.domain_answer.specs.declared.answer.Answer.TheVariants.{WildcardAlias, WildcardNoData, NameError, MayBeUnsigned, NoCloserName, NotProven}
@@ -46,6 +44,7 @@ use Rattle.domain_answer.specs.HashedZoneAnswer.{hashed_encloser, hashed_existin
 use Rattle.domain_answer.specs.HashedZoneAnswer.{hashed_wildcard_answer, hashed_zone_answer}
 use Rattle.domain_answer.specs.ZoneAnswer.{asterisk, is_at_parent, wildcard_below}
 use Rattle.domain_answer.proofs.CountLemmas.{closest_last}
+use Rattle.std.proofs.lemmas.Grind.{common_steps}
 
 -- ---- where the wildcard is not asked for
 
@@ -54,59 +53,29 @@ pub read_plain : (R : HashedRecords) (x : Name) (t : ℕ) (first answer : Answer
 read_plain R x t (NoCloserName n) answer f r = absurd (f n refl)
 read_plain R x t first answer f r = r
 
-own_apart : (z b c d e : Bool) (m n : ℕ) → cond z NotProven (cond b (Referral m) (cond c Has (cond d NoDs (cond e Alias NoData)))) ≡ NoCloserName n → ⊥
-own_apart true b c d e m n h = absurd (cc)
-own_apart false true c d e m n h = absurd (cc)
-own_apart false false true d e m n h = absurd (cc)
-own_apart false false false true e m n h = absurd (cc)
-own_apart false false false false true m n h = absurd (cc)
-own_apart false false false false false m n h = absurd (cc)
-
 pub own_never : (a : Name) (e : Encloser) (t n : ℕ) → own_answer a e t ≡ NoCloserName n → ⊥
-own_never a e t n h =
-    own_apart (is_of_child (encloser_is_cut a e) e.link.bits) (encloser_is_cut a e && not (nat_eq t ds)) (contains_type e.link.bits t) (encloser_is_cut a e)
-    (contains_type e.link.bits cname) e.count n h
+own_never a e t n h = grind (arith, common_steps)
 
 -- ---- names below an owner of a DNAME
 
 -- of DNAME the chain lists what the name owns
 pub dname_owned : (L : List ZoneRecord) (a : Name) (config : ChainConfig) (d : Name) → nsec3_lists L a config d dname ≡ true
     → has_type (records_of L d) dname ≡ true
-dname_owned L a config d h =
-    by (owns L d) (has_type (records_of L d) dname) (may_list (is_zone_cut L a d) dname) (same_name d a) (config.assume_dnskeys_will_be_added) h
-  where
-    by : (o has may apex assume : Bool) → (o && (((false || (false && apex)) || (false && (assume && apex))) || (has && may))) ≡ true → has ≡ true
-    by true true may apex assume e = refl
-    by true false may apex assume e = absurd (false≢true e)
-    by false has may apex assume e = absurd (false≢true e)
+dname_owned L a config d h = grind (arith, common_steps)
 
 -- at a zone cut it lists no SOA
 soa_unlisted : (L : List ZoneRecord) (a : Name) (config : ChainConfig) (n : Name) → (is_zone_cut L a n && nsec3_lists L a config n soa) ≡ false
-soa_unlisted L a config n = by (is_zone_cut L a n) (owns L n) (has_type (records_of L n) soa) (same_name n a) config.assume_dnskeys_will_be_added
-  where
-    by : (cut o has apex assume : Bool)
-        → (cut && (o && (((false || (false && apex)) || (false && (assume && apex))) || (has && ((not cut || false) || false))))) ≡ false
-    by false o has apex assume = refl
-    by true false has apex assume = refl
-    by true true false apex assume = refl
-    by true true true apex assume = refl
+soa_unlisted L a config n = grind (arith, common_steps)
 
 below_both : (o y d : Name) → is_at_or_below o y ≡ true → is_strictly_below y d ≡ true → is_strictly_below o d ≡ true
-below_both o y d p s =
-    let q = (and_parts (is_at_or_below y d) (not (same_name y d)) s).0 in
-    let far = strictly_longer y d s in
-    let near = below_length o y p in
-    strictly_from o d (below_trans o y d p q) (omega arith)
+below_both o y d p s = grind (arith, common_steps, below_trans)
 
 module _ (L : List ZoneRecord) (a : Name) (config : ChainConfig) (links : List HashedLink) (means : ChainMeans L a config links) where
   abbrev owners : List Name
   owners = original_owners L a config
 
   owner_high : (o : Name) → In o (original_owners L a config) → is_occluded true L a o ≡ false
-  owner_high o i =
-      let j = (in_filter (λ n. not (is_excluded L a config n)) (unoccluded_owners config.occlude_below_dname L a) o i).0 in
-      let u = owner_unoccluded true L a o (subst (λ ns. In o ns) means.leaves j) in
-      not-true (is_occluded true L a o) (and_parts (is_at_or_below o a) (not (is_occluded true L a o)) u).1
+  owner_high o i = grind (arith, common_steps, in_filter, owner_unoccluded)
 
   -- no name of the chain is strictly below one that lists DNAME
   none_below_dname : (d y : Name) → is_at_or_below d a ≡ true → nsec3_lists L a config d dname ≡ true
@@ -133,9 +102,7 @@ module _ (L : List ZoneRecord) (a : Name) (config : ChainConfig) (links : List H
     encloser_is = let e = means.encloser x low in closest_is owners a x (apex_from owners a e.0 e.1.found) low
 
     pub encloser_low : is_at_or_below (hashed_encloser L a config x) a ≡ true
-    encloser_low =
-        let e = hashed_encloser L a config x in
-        (and_parts (is_at_or_below e a) (list_any (λ n. is_at_or_below n e) owners) encloser_is.found).0
+    encloser_low = grind (arith, common_steps, and_parts, encloser_is)
 
   -- ---- what is told of it
 
@@ -195,9 +162,7 @@ module _ (L : List ZoneRecord) (a : Name) (config : ChainConfig) (links : List H
       not_needed_cut f = λ j. ((not (f j) && not (hashed_exists L a config x)) && unlisted_there) && not (is_opt_out config.flags)
 
       not_needed_there : hashed_exists L a config x ≡ true → needs_wildcard L a config x ≡ false
-      not_needed_there f =
-          and_left (uncut_gone && unlisted_there) (not (is_opt_out config.flags))
-          (and_left uncut_gone unlisted_there (and_right (not (is_below_chain_cut L a config x)) (not (hashed_exists L a config x)) (ap not f)))
+      not_needed_there f = grind (arith, common_steps, and_right)
 
       not_needed_dname : nsec3_lists L a config (hashed_encloser L a config x) dname ≡ true → needs_wildcard L a config x ≡ false
       not_needed_dname f =
@@ -302,10 +267,7 @@ module _ (L : List ZoneRecord) (a : Name) (config : ChainConfig) (links : List H
         module _ (s : same_name is.name x ≡ false) (answer : Answer)
             (ends : IsReadOn (chain_records a config listed) x t (encloser_answer a e (length x) t) answer) where
           long : length is.name < length x
-          long = elim (cases_lt (length d) (length x)) [
-            | inl h ↦ h
-            | inr h ↦ absurd (false≢true (sym s ∙ same_back x d (same_length x d is.first.above h)))
-          ]
+          long = grind (arith, common_steps)
 
           lower : encloser_answer a e (length x) t ≡ lower_answer a e
           lower = λ j. cond ((itself_counted (chain_records a config listed) x e is ∙ s) j) (own_answer a e t) (lower_answer a e)
@@ -420,9 +382,7 @@ module _ (L : List ZoneRecord) (a : Name) (config : ChainConfig) (links : List H
                     (in_any (λ n. is_at_or_below n q) owners o.0 o.1 (below_trans o.0 en q o.2 up))))
 
                 tells_it : tells_encloser L a config listed x ≡ true
-                tells_it =
-                    tells same ∙ or_right ((same_name d x || is_zone_cut L a d) || nsec3_lists L a config d dname) (covered (next_closer x d))
-                    (covered_is ∙ in_any (is_hash_cover a config.parameters v) listed r cover_of.0 cover_of.1)
+                tells_it = grind (arith, common_steps, tells, same, in_any, cover_of)
 
                 unlisted : nsec3_lists L a config (hashed_encloser L a config x) dname ≡ false
                 unlisted = en_types same dname ∙ h
@@ -458,10 +418,7 @@ module _ (L : List ZoneRecord) (a : Name) (config : ChainConfig) (links : List H
                   low_w = below_trans w en a (below_parent asterisk en) en_low
 
                   alone_w : IsAlone L a config (wildcard_below (hashed_encloser L a config x)) asked_on.value
-                  alone_w =
-                      let g = asked.wildcard (gone same) in
-                      let one : g.0 ≡ asked_on.value = let q : Ok g.0 ≡ Ok asked_on.value = sym g.1.known ∙ known_w in cc in
-                      subst (IsAlone L a config w) one g.1
+                  alone_w = grind (arith, common_steps, gone, same, known_w)
 
                   matched_w : is_matched (chain_records a config listed) (wildcard_below (hashed_encloser L a config x))
                       ≡ list_any (is_hash_match a config.parameters asked_on.value) listed
@@ -525,11 +482,7 @@ module _ (L : List ZoneRecord) (a : Name) (config : ChainConfig) (links : List H
                       (cond (nsec3_lists L a config w cname) (WildcardAlias (length en)) (WildcardNoData (length en))))))
 
                   at_wildcard : answer ≡ hashed_proved_answer L a config listed x t
-                  at_wildcard =
-                      asked_on.says
-                      ∙ (λ j. wildcard_told (labels same j) t (find (is_hash_match a config.parameters asked_on.value) listed)
-                      (find (is_hash_cover a config.parameters asked_on.value) listed))
-                      ∙ by_match (find (is_hash_match a config.parameters asked_on.value) listed) refl
+                  at_wildcard = grind (arith, common_steps, asked_on, same, by_match)
 
           below_it : (next : Option Octets) → IsNextHash config.hash x is.name next → e.cover ≡ next_cover (chain_records a config listed) next
               → answer ≡ hashed_proved_answer L a config listed x t

@@ -1,11 +1,10 @@
 -- The records that an answer of NSEC3 records rests on are there, and what it counts are labels of the name.
-use Rattle.std.proofs.Common.{◌≡◌, ℕ, ◌≤◌, ◌<◌, Bool, true, false, cond, not, ◌&&◌, ◌||◌, length, refl, sym, ap, ◌∙◌, subst, inl, inr, nat_eq, Option, Some}
-use Rattle.std.proofs.Common.{None, arith}
+use Rattle.std.proofs.Common.{◌≡◌, ℕ, ◌≤◌, ◌<◌, Bool, true, false, cond, ◌||◌, length, refl, sym, ap, ◌∙◌, subst, inl, inr, nat_eq, Option, Some, None, arith}
 use Rattle.std.specs.List.{list_any}
 use Rattle.std.proofs.lemmas.Bool.{cases_Bool, cases_lt, eq-eqb, false≢true}
 use Rattle.domain_octets.specs.Words.{Octets}
 use Rattle.domain_names.specs.Name.{same_name, last_labels}
-use Rattle.domain_base.specs.Types.{cname, dname, ds, ns}
+use Rattle.domain_base.specs.Types.{cname, dname, ns}
 use Rattle.domain_names.specs.Words.{Name}
 use Rattle.domain_bitmap.specs.Blocks.{contains_type}
 use Rattle.domain_chain_rdata.specs.OptOut.{is_opt_out}
@@ -21,7 +20,6 @@ use Rattle.domain_checker.specs.HashedReading.{IsNextHash}
 use Rattle.domain_checker.specs.HashedVerdict.{is_covered, is_matched, is_ok_with, next_closer}
 use Rattle.domain_checker.proofs.HashedEncloserLemmas.{itself_counted}
 use Rattle.domain_checker.proofs.HashedWalkLemmas.{matched_same}
-use Rattle.domain_answer.specs.TypesAnswer.{is_of_child}
 use Rattle.domain_answer.specs.declared.answer.Answer.{Answer}
 use Rattle.domain_answer.specs.declared.answer.Answer.TheVariants.{Referral, Redirected, Has, NoDs, Alias, NoData, Wildcard, WildcardAlias, WildcardNoData}
 use Rattle.domain_answer.specs.declared.answer.Answer.TheVariants.{NameError, MayBeUnsigned, NoCloserName, NotProven}
@@ -31,6 +29,7 @@ use Rattle.domain_answer.specs.HashedReading.{wildcard_told}
 use Rattle.domain_answer.specs.Proved.{CountsWithin}
 use Rattle.domain_answer.specs.ZoneAnswer.{wildcard_below}
 use Rattle.domain_answer.proofs.HashedAnswerLemmas.{own_never, read_plain}
+use Rattle.std.proofs.lemmas.Grind.{common_steps}
 
 chosen : (P : Answer → Type 0) (b : Bool) (v w : Answer) → P v → P w → P (cond b v w)
 chosen P true v w h k = h
@@ -54,15 +53,7 @@ record Allows (P : Answer → Type 0) (R : HashedRecords) (x : Name) (e : Enclos
 module _ (P : Answer → Type 0) (R : HashedRecords) (x : Name) (t : ℕ) (answer : Answer)
     (e : Encloser) (is : IsEncloser R x e) (allows : Allows P R x e is.name) where
   of_own : same_name is.name x ≡ true → P (own_answer R.apex e t)
-  of_own s =
-      let own = allows.own s in
-      let later = cond (contains_type e.link.bits t) Has (cond (encloser_is_cut R.apex e) NoDs (cond (contains_type e.link.bits cname) Alias NoData)) in
-      chosen P (is_of_child (encloser_is_cut R.apex e) e.link.bits) NotProven
-      (cond (encloser_is_cut R.apex e && not (nat_eq t ds)) (Referral e.count) later) allows.none
-      (chosen P (encloser_is_cut R.apex e && not (nat_eq t ds)) (Referral e.count) later allows.referral
-      (chosen P (contains_type e.link.bits t) Has (cond (encloser_is_cut R.apex e) NoDs (cond (contains_type e.link.bits cname) Alias NoData)) own.0
-      (chosen P (encloser_is_cut R.apex e) NoDs (cond (contains_type e.link.bits cname) Alias NoData) own.1
-      (chosen P (contains_type e.link.bits cname) Alias NoData own.2 own.3))))
+  of_own s = grind (arith, common_steps)
 
   of_wildcard : same_name is.name x ≡ false → is_covered R (next_closer x is.name) ≡ true
       → IsWildcardRead R x t e.count answer → P answer

@@ -1,10 +1,9 @@
 -- The whole NSEC3 chain proves all that the zone says.
 use Rattle.std.proofs.Common.{◌≡◌, ◌≢◌, ℕ, ◌+◌, ◌-◌, Bool, true, false, cond, not, ◌&&◌, ◌||◌, List, [], ◌∷◌, drop, length, refl, sym, ap, ◌∙◌, inl, inr, arith}
-use Rattle.std.specs.Prelude.{◌==◌}
 use Rattle.std.proofs.lemmas.Bool.{cases_Bool, false≢true, and_parts, and_from, not-true, or_left, or_right}
 use Rattle.domain_octets.specs.Words.{Octets}
 use Rattle.domain_names.specs.Name.{is_at_or_below, is_strictly_below, same_name}
-use Rattle.domain_base.specs.Types.{cname, dname, ds}
+use Rattle.domain_base.specs.Types.{dname}
 use Rattle.domain_names.specs.Words.{Label, Name}
 use Rattle.domain_chain_rdata.specs.OptOut.{is_opt_out}
 use Rattle.domain_zone.specs.Covering.{covers, matches}
@@ -25,18 +24,17 @@ use Rattle.domain_checker.proofs.CutLemmas.{below_cut}
 use Rattle.domain_checker.proofs.EncloserLemmas.{exists_same, same_count}
 use Rattle.domain_checker.proofs.HashedListLemmas.{covered_in, told_at, hash_same}
 use Rattle.domain_answer.specs.declared.answer.Answer.{Answer}
-use Rattle.domain_answer.specs.declared.answer.Answer.TheVariants.{OutsideZone, AtParent, Referral, Redirected, MayBeUnsigned, NoCloserName, TooManyIterations}
-use Rattle.domain_answer.specs.declared.answer.Answer.TheVariants.{NotProven}
+use Rattle.domain_answer.specs.declared.answer.Answer.TheVariants.{NoCloserName, TooManyIterations, NotProven}
 use Rattle.domain_answer.specs.Expansion.{closer_name, is_expanded, missing_closer, proved_expansion}
 use Rattle.domain_answer.specs.HashedMeaning.{ChainMeans, ChainsAreMeant}
 use Rattle.domain_answer.specs.HashedProved.{AreAskedAlone, hashed_proved_answer, needs_wildcard, tells_encloser, tells_wildcard}
-use Rattle.domain_answer.specs.HashedZoneAnswer.{HashedLeavesOutBelowDname, hashed_encloser, hashed_existing_answer, hashed_exists, hashed_inside_answer}
-use Rattle.domain_answer.specs.HashedZoneAnswer.{hashed_missing_answer, hashed_wildcard_answer, hashed_zone_answer}
+use Rattle.domain_answer.specs.HashedZoneAnswer.{HashedLeavesOutBelowDname, hashed_encloser, hashed_exists, hashed_missing_answer, hashed_zone_answer}
 use Rattle.domain_answer.specs.ZoneAnswer.{asterisk, is_at_parent, wildcard_below}
 use Rattle.domain_answer.proofs.CountLemmas.{parent_below}
 use Rattle.domain_answer.proofs.DefiniteLemmas.{choose, either, existing_says, is_of_zone, of_zone_knows, of_zone_limits, of_zone_proves, wildcard_says}
 use Rattle.domain_answer.proofs.ExpansionLemmas.{closer_low}
 use Rattle.domain_answer.proofs.HashedAnswerLemmas.{cut_original, encloser_is, encloser_low}
+use Rattle.std.proofs.lemmas.Grind.{common_steps}
 
 -- what the law of the checker says of whole chains
 pub record ProvesVerdicts : Type 0 where
@@ -48,12 +46,7 @@ pub record ProvesVerdicts : Type 0 where
 -- the first name that exists is its own
 closest_again : (names : List Name) (a x : Name) → closest_encloser names a (closest_encloser names a x) ≡ closest_encloser names a x
 closest_again names a [] = refl
-closest_again names a (l ∷ x) =
-    elim (exists_over names a (l ∷ x)) as (λ b. exists_over names a (l ∷ x) ≡ b
-    → closest_encloser names a (cond b (l ∷ x) (closest_encloser names a x)) ≡ cond b (l ∷ x) (closest_encloser names a x)) [
-      | true ↦ λ f. λ i. cond (f i) (l ∷ x) (closest_encloser names a x)
-      | false ↦ λ f. closest_again names a x
-    ] refl
+closest_again names a (l ∷ x) = grind (arith, common_steps, (closest_again names a x))
 
 -- the next closer name of a child is the child
 next_child : (l : Label) (e : Name) → next_closer (l ∷ e) e ≡ l ∷ e
@@ -94,9 +87,7 @@ module _ (verdicts : ProvesVerdicts) (L : List ZoneRecord) (a : Name) (config : 
     covered = is_covered (chain_records a config links)
 
     encloser_told : tells_encloser L a config links x ≡ true
-    encloser_told =
-        closed (matched en) (same_name en x) (is_zone_cut L a en) (nsec3_lists L a config en dname) (covered (next_closer x en))
-        (whole_tells x low asked.ancestors)
+    encloser_told = grind (arith, common_steps, closed, whole_tells)
 
     encloser : IsClosestEncloser (original_owners L a config) a x (hashed_encloser L a config x)
     encloser = encloser_is L a config links means x low
@@ -235,25 +226,11 @@ whole_closer L a config links facts x n v e alone gone =
 module _ (L : List ZoneRecord) (a : Name) (config : ChainConfig) (x : Name) (t : ℕ) where
   missing_says : (e : Name) → is_of_zone (hashed_missing_answer L a config e t) ≡ true
   unfolding is_of_zone
-  missing_says e =
-      let w = wildcard_below e in
-      let last = hashed_wildcard_answer L a config (length e) w t in
-      choose (nsec3_lists L a config e dname) (Redirected (length e)) (cond (is_opt_out config.flags) (MayBeUnsigned (length e)) last) refl
-      (choose (is_opt_out config.flags) (MayBeUnsigned (length e)) last refl
-      (wildcard_says (length e) (not (hashed_exists L a config w)) (nsec3_lists L a config w t || is_zone_cut L a w) (nsec3_lists L a config w cname)))
+  missing_says e = grind (arith, common_steps, choose, wildcard_says)
 
   zone_says : is_of_zone (hashed_zone_answer L a config x t) ≡ true
   unfolding is_of_zone
-  zone_says =
-      let e = hashed_encloser L a config x in
-      let found = cond (hashed_exists L a config x) (hashed_existing_answer L a config x t) (hashed_missing_answer L a config e t) in
-      let inside = hashed_inside_answer L a config x t in
-      choose (not (is_at_or_below x a)) OutsideZone (cond (is_at_parent a x t) AtParent inside) refl
-      (choose (is_at_parent a x t) AtParent inside refl
-      (choose (is_below_chain_cut L a config x) (Referral (length e)) found refl
-      (choose (hashed_exists L a config x) (hashed_existing_answer L a config x t) (hashed_missing_answer L a config e t)
-      (existing_says (length x) (is_zone_cut L a x && not (t == ds)) (nsec3_lists L a config x t) (is_zone_cut L a x) (nsec3_lists L a config x cname))
-      (missing_says e))))
+  zone_says = grind (arith, common_steps, choose, existing_says, missing_says)
 
   pub zone_proves : hashed_zone_answer L a config x t ≢ NotProven
   zone_proves = of_zone_proves (hashed_zone_answer L a config x t) zone_says

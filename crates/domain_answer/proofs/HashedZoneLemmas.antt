@@ -1,32 +1,32 @@
 -- A zone whose NSEC3 chain leaves out nothing answers as it does with an NSEC chain.
-use Rattle.std.proofs.Common.{◌≡◌, ℕ, Bool, true, false, cond, not, ◌&&◌, ◌||◌, List, [], ◌∷◌, length, refl, sym, ap, ◌∙◌, subst, inl, inr, arith}
+use Rattle.std.proofs.Common.{◌≡◌, ℕ, Bool, true, false, cond, not, ◌&&◌, ◌||◌, List, [], ◌∷◌, length, refl, sym, ap, ◌∙◌, inl, inr, arith}
 use Rattle.std.specs.Prelude.{◌==◌, filter}
 use Rattle.std.specs.List.{list_any}
-use Rattle.std.proofs.lemmas.Bool.{cases_Bool, cases_lt, eqb-true, false≢true, and_parts, and_from, not-true, or_left, or_parts, or_right}
+use Rattle.std.proofs.lemmas.Bool.{cases_Bool, cases_lt, false≢true, and_parts, and_from, not-true, or_left, or_right}
 use Rattle.domain_octets.proofs.StdLemmas.{and_false}
 use Rattle.domain_names.specs.Name.{is_at_or_below, is_strictly_below, same_name}
-use Rattle.domain_base.specs.Types.{cname, dname, dnskey, ds, nsec, nsec3param, rrsig}
+use Rattle.domain_base.specs.Types.{cname, dname, ds, rrsig}
 use Rattle.domain_names.specs.Words.{Name}
 use Rattle.domain_chain_rdata.specs.OptOut.{is_opt_out}
 use Rattle.domain_zone.specs.Enclosers.{IsClosestEncloser, exists_over}
-use Rattle.domain_zone.specs.Zone.{ZoneRecord, has_type, is_occluded, is_zone_cut, lists_type, may_list, occludes, owns, records_of, unoccluded_owners}
+use Rattle.domain_zone.specs.Zone.{ZoneRecord, has_type, is_occluded, is_zone_cut, occludes, owns, records_of, unoccluded_owners}
 use Rattle.domain_zone.proofs.NameLemmas.{below_length, below_longer, below_trans, strictly_longer, same_length, strictly_from}
 use Rattle.domain_zone.proofs.PairLemmas.{In}
 use Rattle.domain_zone.proofs.OwnerLemmas.{any_in, in_any, below_occluder, occluder_owns}
 use Rattle.domain_nsec3.specs.Config.{ChainConfig}
 use Rattle.domain_nsec3.specs.Owners.{is_unsigned_cut, nsec3_lists, original_owners}
-use Rattle.domain_checker.specs.Verdict.{closest_encloser}
 use Rattle.domain_checker.proofs.EncloserLemmas.{apex_from, closest_is, cut_same, exists_same, owner_unoccluded, same_count}
 use Rattle.domain_answer.specs.declared.answer.Answer.TheVariants.{OutsideZone, AtParent, Referral, Redirected, Has, NoDs, Alias, NoData, Wildcard}
 use Rattle.domain_answer.specs.declared.answer.Answer.TheVariants.{WildcardAlias, WildcardNoData, NameError, MayBeUnsigned}
-use Rattle.domain_answer.specs.HashedZoneAnswer.{HashedLeavesOutBelowDname, hashed_encloser, hashed_existing_answer, hashed_exists, hashed_inside_answer}
+use Rattle.domain_answer.specs.HashedZoneAnswer.{HashedLeavesOutBelowDname, hashed_existing_answer, hashed_exists, hashed_inside_answer}
 use Rattle.domain_answer.specs.HashedZoneAnswer.{hashed_missing_answer, hashed_wildcard_answer, hashed_zone_answer, is_of_one_chain}
-use Rattle.domain_answer.specs.ZoneAnswer.{asterisk, encloser, existing_answer, highest_occluder, inside_answer, is_at_parent, missing_answer, name_exists}
+use Rattle.domain_answer.specs.ZoneAnswer.{encloser, existing_answer, highest_occluder, inside_answer, is_at_parent, missing_answer, name_exists}
 use Rattle.domain_answer.specs.ZoneAnswer.{occluded_answer, owns_type, unoccluded_answer, wildcard_below, zone_answer}
 use Rattle.domain_answer.proofs.CountLemmas.{strictly_same}
 use Rattle.domain_answer.proofs.HashedAnswerLemmas.{dname_owned}
 use Rattle.domain_answer.proofs.KindLemmas.{IsHighest, highest_of, owner_exists}
 use Rattle.domain_answer.proofs.OccluderLemmas.{none_above}
+use Rattle.std.proofs.lemmas.Grind.{common_steps}
 
 all_kept : {X : Type 0} (xs : List X) → filter (λ x. true) xs ≡ xs
 all_kept [] = refl
@@ -45,21 +45,10 @@ turned true false = refl
 turned false true = refl
 turned false false = refl
 
-listed_alike : (own r n p k apex assumed cut d l : Bool) → (n || (p && apex)) ≡ false → (r && cut) ≡ false
-    → (own && ((((r && not (cut && not d)) || (p && apex)) || (k && assumed)) || l)) ≡ (own && (((r || n) || (assumed && k)) || l))
-listed_alike own r n p k apex assumed cut d l e f =
-    let g = or_parts n (p && apex) e in
-    (λ j. own && (((signed r cut d f j || g.1 j) || turned k assumed j) || l))
-    ∙ sym (λ j. own && (((r || g.0 j) || (assumed && k)) || l))
-
 -- at a zone cut they don't list RRSIG alike, where there is no DS record
 signed_at : (t : ℕ) (cut : Bool) → (cut && not (t == ds)) ≡ false → ((t == rrsig) && cut) ≡ false
 signed_at t false e = and_false (t == rrsig)
-signed_at t true e =
-    elim (cases_Bool (t == ds)) [
-      | inl f ↦ subst (λ u. ((u == rrsig) && true) ≡ false) (sym (eqb-true t ds f)) refl
-      | inr f ↦ absurd (false≢true (sym (sym (ap not f) ∙ e)))
-    ]
+signed_at t true e = grind (arith, common_steps)
 
 module _ (L : List ZoneRecord) (a : Name) (config : ChainConfig) where
   abbrev assume : Bool
@@ -67,9 +56,7 @@ module _ (L : List ZoneRecord) (a : Name) (config : ChainConfig) where
 
   types_alike : (y : Name) (t : ℕ) → is_of_one_chain a y t ≡ false → ((t == rrsig) && is_zone_cut L a y) ≡ false
       → nsec3_lists L a config y t ≡ owns_type L a config.assume_dnskeys_will_be_added y t
-  types_alike y t apart free =
-      listed_alike (owns L y) (t == rrsig) (t == nsec) (t == nsec3param) (t == dnskey) (same_name y a) (assume && same_name y a)
-      (is_zone_cut L a y) (has_type (records_of L y) ds) (lists_type (is_zone_cut L a y) (records_of L y) t) apart free
+  types_alike y t apart free = grind (arith, common_steps)
 
   existing_alike : (x : Name) (t : ℕ) → is_of_one_chain a x t ≡ false
       → hashed_existing_answer L a config x t ≡ existing_answer L a config.assume_dnskeys_will_be_added x t
@@ -102,9 +89,6 @@ module _ (L : List ZoneRecord) (a : Name) (config : ChainConfig) where
     exists_alike : (y : Name) → hashed_exists L a config y ≡ name_exists L a y
     exists_alike y = ap (λ names. exists_over names a y) owners_are
 
-    encloser_alike : (x : Name) → hashed_encloser L a config x ≡ encloser L a x
-    encloser_alike x = ap (λ names. closest_encloser names a x) owners_are
-
     -- where some name has a closest encloser, the apex exists
     pub apex_of_chain : (e : Name) → IsClosestEncloser (original_owners L a config) a a e → name_exists L a a ≡ true
     apex_of_chain e closest =
@@ -134,9 +118,7 @@ module _ (L : List ZoneRecord) (a : Name) (config : ChainConfig) where
       inside_is : hashed_inside_answer L a config x t
           ≡ cond (list_any (λ n. is_zone_cut L a n && is_strictly_below x n) (unoccluded_owners true L a)) (Referral (length (encloser L a x)))
           (cond (name_exists L a x) (hashed_existing_answer L a config x t) (hashed_missing_answer L a config (encloser L a x) t))
-      inside_is =
-          λ j. cond (list_any (λ n. is_zone_cut L a n && is_strictly_below x n) (owners_are j)) (Referral (length (encloser_alike x j)))
-          (cond (exists_alike x j) (hashed_existing_answer L a config x t) (hashed_missing_answer L a config (encloser_alike x j) t))
+      inside_is = grind (arith, common_steps, owners_are)
 
       -- an owner that is not occluded
       free_owner : (n : Name) → In n (unoccluded_owners true L a) → is_occluded true L a n ≡ false
@@ -159,16 +141,7 @@ module _ (L : List ZoneRecord) (a : Name) (config : ChainConfig) where
       -- ---- no wildcard but below the closest encloser
 
       w_apart : is_of_one_chain a (wildcard_below (encloser L a x)) t ≡ false
-      w_apart =
-          let p = or_parts (t == nsec) ((t == nsec3param) && same_name x a) apart in
-          let other : same_name w a ≡ false = elim (cases_Bool (same_name w a)) [
-            | inl s ↦
-                let n = same_count (asterisk ∷ en) a s in
-                let b = below_length en a en_low in
-                absurd (omega arith)
-            | inr s ↦ s
-          ] in
-          (λ j. p.0 j || ((t == nsec3param) && other j)) ∙ and_false (t == nsec3param)
+      w_apart = grind (arith, common_steps, en_low)
 
       wildcard_alike : hashed_wildcard_answer L a config (length (encloser L a x)) (wildcard_below (encloser L a x)) t
           ≡ missing_answer L a config.assume_dnskeys_will_be_added (encloser L a x) (wildcard_below (encloser L a x)) t
@@ -221,10 +194,7 @@ module _ (L : List ZoneRecord) (a : Name) (config : ChainConfig) where
 
         missing_alike : name_exists L a x ≡ false → hashed_missing_answer L a config (encloser L a x) t
             ≡ missing_answer L a config.assume_dnskeys_will_be_added (encloser L a x) (wildcard_below (encloser L a x)) t
-        missing_alike gone =
-            (λ j. cond (undirected gone j) (Redirected (length en)) (cond (out j) (MayBeUnsigned (length en))
-            (hashed_wildcard_answer L a config (length en) w t)))
-            ∙ wildcard_alike
+        missing_alike gone = grind (arith, common_steps, undirected, wildcard_alike)
 
         found_alike : cond (name_exists L a x) (hashed_existing_answer L a config x t) (hashed_missing_answer L a config (encloser L a x) t)
             ≡ unoccluded_answer L a config.assume_dnskeys_will_be_added x t
@@ -241,12 +211,7 @@ module _ (L : List ZoneRecord) (a : Name) (config : ChainConfig) where
             ]
 
         free_alike : hashed_inside_answer L a config x t ≡ inside_answer L a config.assume_dnskeys_will_be_added x t (highest_occluder L a x)
-        free_alike =
-            inside_is
-            ∙ (λ j. cond (above_none j) (Referral (length en))
-            (cond (name_exists L a x) (hashed_existing_answer L a config x t) (hashed_missing_answer L a config en t)))
-            ∙ found_alike
-            ∙ sym (ap (inside_answer L a assume x t) (none_above L a x free))
+        free_alike = grind (arith, common_steps, inside_is, above_none, found_alike, none_above)
 
       -- ---- a name strictly below the highest name d that occludes
 
@@ -311,29 +276,16 @@ module _ (L : List ZoneRecord) (a : Name) (config : ChainConfig) where
               ]
 
           above_uncut : list_any (λ n. is_zone_cut L a n && is_strictly_below x n) (unoccluded_owners true L a) ≡ false
-          above_uncut =
-              elim (cases_Bool below) [
-                | inl f ↦
-                    let m = any_in (λ n. is_zone_cut L a n && is_strictly_below x n) owners f in
-                    let p = and_parts (is_zone_cut L a m.0) (is_strictly_below x m.0) m.2 in
-                    absurd (no_cut_of m.0 m.1 p.0 p.1)
-                | inr f ↦ f
-              ]
+          above_uncut = grind (arith, common_steps, any_in, and_parts, no_cut_of)
 
           gone : name_exists L a x ≡ false
           gone = elim (cases_Bool (name_exists L a x)) [ inl e ↦ absurd (none_below d x highest.over e highest.under) | inr e ↦ e ]
 
           has_dname : has_type (records_of L d) dname ≡ true
-          has_dname =
-              (and_parts (is_at_or_below d a) (has_type (records_of L d) dname)
-              (sym (λ j. c j || (is_at_or_below d a && has_type (records_of L d) dname)) ∙ highest.over)).1
+          has_dname = grind (arith, common_steps, and_parts)
 
           listed : nsec3_lists L a config d dname ≡ true
-          listed =
-              λ j. d_owns j
-              && (((((dname == rrsig) && not (is_unsigned_cut L a d)) || ((dname == nsec3param) && same_name d a))
-              || ((dname == dnskey) && (config.assume_dnskeys_will_be_added && same_name d a)))
-              || (has_dname j && may_list (c j) dname))
+          listed = grind (arith, common_steps, d_owns, has_dname)
 
           at_dname : hashed_inside_answer L a config x t ≡ occluded_answer L a d
           at_dname =

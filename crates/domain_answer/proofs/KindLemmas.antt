@@ -1,14 +1,12 @@
 -- Each kind of answer is the zone's exactly where what it says is so.
-use Rattle.std.proofs.Common.{◌≡◌, ℕ, Bool, true, false, cond, not, ◌&&◌, ◌||◌, List, [], ◌∷◌, map, length, refl, sym, ap, ◌∙◌, subst, inl, inr, Option, Some}
-use Rattle.std.proofs.Common.{None}
+use Rattle.std.proofs.Common.{◌≡◌, ℕ, Bool, true, false, cond, not, ◌&&◌, ◌||◌, List, [], ◌∷◌, length, refl, sym, ap, ◌∙◌, inl, inr, Some, None, arith}
 use Rattle.std.specs.Prelude.{◌==◌, filter}
-use Rattle.std.specs.List.{list_any}
 use Rattle.std.proofs.lemmas.Bool.{cases_Bool, false≢true, and_parts, and_from, not-true, not-false, or_left, or_right}
 use Rattle.domain_octets.proofs.StdLemmas.{and_false}
 use Rattle.domain_names.specs.Name.{is_at_or_below, is_strictly_below, lowered, same_name}
 use Rattle.domain_base.specs.Types.{cname, dname, ds, ns}
 use Rattle.domain_names.specs.Words.{Name}
-use Rattle.domain_zone.specs.Zone.{ZoneRecord, distinct, has_type, is_occluded, is_unoccluded, is_zone_cut, occludes, owns, records_of, unoccluded_owners}
+use Rattle.domain_zone.specs.Zone.{ZoneRecord, distinct, has_type, is_occluded, is_unoccluded, is_zone_cut, occludes, owns, records_of}
 use Rattle.domain_zone.proofs.NameLemmas.{below_itself, lowered_below, one_lowered, same_itself}
 use Rattle.domain_zone.proofs.PairLemmas.{In}
 use Rattle.domain_zone.proofs.OwnerLemmas.{any_in, in_any, typed_owns}
@@ -24,6 +22,7 @@ use Rattle.domain_answer.specs.ZoneAnswer.{encloser, existing_answer, highest_oc
 use Rattle.domain_answer.specs.ZoneAnswer.{occluded_answer, owns_type, unoccluded_answer, zone_answer}
 use Rattle.domain_answer.proofs.CountLemmas.{strictly_same}
 use Rattle.domain_answer.proofs.OccluderLemmas.{highest_is, none_above}
+use Rattle.std.proofs.lemmas.Grind.{common_steps}
 
 -- ---- owners
 
@@ -55,14 +54,7 @@ module _ (L : List ZoneRecord) (a : Name) where
   -- an owner that is not occluded exists
   pub owner_exists : (x : Name) → owns L x ≡ true → is_unoccluded true L a x ≡ true → name_exists L a x ≡ true
   owner_exists x own free =
-      let r = any_in (λ r. same_name r.owner x) L own in
-      let d = distinct_has (map (λ r. r.owner) L) r.0.owner (in_map (λ r. r.owner) L r.0 r.1) in
-      let same = same_itself d.0 x (one_lowered d.0 r.0.owner d.2 ∙ one_lowered r.0.owner x r.2) in
-      let listed = to_filter (is_unoccluded true L a) (distinct (map (λ r. r.owner) L)) d.0 d.1 (free_same d.0 x same ∙ free) in
-      and_from (is_at_or_below x a) (list_any (λ n. is_at_or_below n x) (unoccluded_owners true L a))
-      (and_parts (is_at_or_below x a) (not (is_occluded true L a x)) free).0
-      (in_any (λ n. is_at_or_below n x) (unoccluded_owners true L a) d.0 listed
-      (ap (λ q. lowered_below q (lowered x)) (one_lowered d.0 x same) ∙ below_itself x))
+      grind (arith, common_steps, any_in, distinct_has, in_map, one_lowered, to_filter, free_same, and_parts, in_any, below_itself)
 
   cut_owns : (x : Name) → is_zone_cut L a x ≡ true → owns L x ≡ true
   cut_owns x cut = typed_owns L x ns (and_parts (is_strictly_below x a) (has_type (records_of L x) ns) cut).1
@@ -91,18 +83,10 @@ module _ (L : List ZoneRecord) (a : Name) where
       )
 
   some_highest : (x o : Name) → highest_occluder L a x ≡ Some o → IsHighest x o
-  some_highest x o e =
-      elim (cases_Bool (is_occluded true L a x)) [
-        | inl f ↦ let r = highest_of x f in let same : r.0 ≡ o = let g : Some r.0 ≡ Some o = sym r.1 ∙ e in cc in subst (IsHighest x) same r.2
-        | inr f ↦ let g : None ≡ Some o = sym (none_above L a x f) ∙ e in absurd (cc)
-      ]
+  some_highest x o e = grind (arith, common_steps, highest_of, none_above)
 
   none_highest : (x : Name) → highest_occluder L a x ≡ None → is_occluded true L a x ≡ false
-  none_highest x e =
-      elim (cases_Bool (is_occluded true L a x)) [
-        | inl f ↦ let r = highest_of x f in let g : Some r.0 ≡ None = sym r.1 ∙ e in absurd (cc)
-        | inr f ↦ f
-      ]
+  none_highest x e = grind (arith, common_steps, highest_of)
 
   module _ (assume : Bool) (x : Name) (t : ℕ) where
     abbrev So : Answer → Type 0
@@ -141,19 +125,7 @@ module _ (L : List ZoneRecord) (a : Name) where
         here = record { free = free; child = child }
 
         existing_so : name_exists L a x ≡ true → So (existing_answer L a assume x t)
-        existing_so there =
-            choose_by (is_zone_cut L a x && not (t == ds)) (Referral (length x))
-            (cond (owns_type L a assume x t) Has (cond (is_zone_cut L a x) NoDs (cond (owns_type L a assume x cname) Alias NoData)))
-            (λ c.
-            let p = and_parts (is_zone_cut L a x) (not (t == ds)) c in
-            record { cut = x; count = refl; is_cut = p.0; free = free; below = inr (same_itself x x refl, not-true (t == ds) p.1) })
-            (λ c. choose_by (owns_type L a assume x t) Has (cond (is_zone_cut L a x) NoDs (cond (owns_type L a assume x cname) Alias NoData))
-            (λ o. (here, o, c))
-            (λ o. choose_by (is_zone_cut L a x) NoDs (cond (owns_type L a assume x cname) Alias NoData)
-            (λ d. (here, o, d, not-false (t == ds) (sym (λ j. d j && not (t == ds)) ∙ c)))
-            (λ d. choose_by (owns_type L a assume x cname) Alias NoData
-            (λ n. (here, o, d, n))
-            (λ n. (here, o, d, n, there)))))
+        existing_so there = grind (arith, common_steps, choose_by, and_parts, free, same_itself, not-true, here, not-false)
 
         missing_so : name_exists L a x ≡ false → So (missing_answer L a assume (encloser L a x) (wildcard_of L a x) t)
         missing_so gone =
@@ -174,20 +146,10 @@ module _ (L : List ZoneRecord) (a : Name) where
             (λ d. (absent, not-false (name_exists L a w) c, o, d))))
 
       inside_so : So (inside_answer L a assume x t (highest_occluder L a x))
-      inside_so = by (highest_occluder L a x) refl
-        where
-          by : (o : Option Name) → highest_occluder L a x ≡ o → So (inside_answer L a assume x t o)
-          by (Some o) e = occluded_so o e
-          by None e =
-              choose_by (name_exists L a x) (existing_answer L a assume x t) (missing_answer L a assume (encloser L a x) (wildcard_of L a x) t)
-              (existing_so e) (missing_so e)
+      inside_so = grind (arith, common_steps, occluded_so, existing_so, missing_so)
 
     pub answer_so : So (zone_answer L a assume x t)
-    answer_so =
-        choose_by (not (is_at_or_below x a)) OutsideZone (cond (is_at_parent a x t) AtParent (inside_answer L a assume x t (highest_occluder L a x)))
-        (λ e. not-true (is_at_or_below x a) e)
-        (λ e. choose_by (is_at_parent a x t) AtParent (inside_answer L a assume x t (highest_occluder L a x)) (λ f. f)
-        (λ f. inside_so (not-false (is_at_or_below x a) e) f))
+    answer_so = grind (arith, common_steps, inside_so)
 
     -- ---- and where it is so, that is the answer
 
@@ -210,19 +172,14 @@ module _ (L : List ZoneRecord) (a : Name) where
         ∙ (λ j. cond (cut_same L a r.0 o r.2 j) (Referral (same_count r.0 o r.2 j)) (Redirected (same_count r.0 o r.2 j)))
 
     at_free : IsHere L a x t → zone_answer L a assume x t ≡ unoccluded_answer L a assume x t
-    at_free h =
-        at_inside (and_parts (is_at_or_below x a) (not (is_occluded true L a x)) h.free).0 h.child
-        ∙ ap (inside_answer L a assume x t) (none_above L a x (high x h.free))
+    at_free h = grind (arith, common_steps, at_inside, and_parts, free, none_above, high)
 
     at_existing : IsHere L a x t → name_exists L a x ≡ true → zone_answer L a assume x t ≡ existing_answer L a assume x t
     at_existing h there = at_free h
         ∙ (λ j. cond (there j) (existing_answer L a assume x t) (missing_answer L a assume (encloser L a x) (wildcard_of L a x) t))
 
     at_missing : (n : ℕ) → IsAbsent L a x t n → zone_answer L a assume x t ≡ missing_answer L a assume (encloser L a x) (wildcard_of L a x) t
-    at_missing n h =
-        let p = and_parts (is_unoccluded true L a x) (not (name_exists L a x)) h.missing in
-        at_free (record { free = p.0; child = h.child })
-        ∙ (λ j. cond (not-true (name_exists L a x) p.1 j) (existing_answer L a assume x t) (missing_answer L a assume (encloser L a x) (wildcard_of L a x) t))
+    at_missing n h = grind (arith, common_steps, at_free)
 
     owned_exists : IsHere L a x t → (s : ℕ) → owns_type L a assume x s ≡ true → name_exists L a x ≡ true
     owned_exists h s o = owner_exists x (and_parts (owns L x) (nsec_lists L a assume x s) o).0 h.free
@@ -267,24 +224,15 @@ module _ (L : List ZoneRecord) (a : Name) where
 
     pub so_answer : (v : Answer) → So v → zone_answer L a assume x t ≡ v
     so_answer OutsideZone e = λ j. cond (not (e j)) OutsideZone (cond (is_at_parent a x t) AtParent (inside_answer L a assume x t (highest_occluder L a x)))
-    so_answer AtParent e =
-        let same = (and_parts (t == ds) (same_name x a) e).1 in
-        let low : is_at_or_below x a ≡ true = ap (λ q. lowered_below q (lowered a)) (one_lowered x a same) ∙ below_itself a in
-        λ j. cond (not (low j)) OutsideZone (cond (e j) AtParent (inside_answer L a assume x t (highest_occluder L a x)))
+    so_answer AtParent e = grind (arith, common_steps, one_lowered)
     so_answer (Referral n) h = referred n h
     so_answer (Redirected n) h = redirected n h
-    so_answer Has h =
-        at_existing h.0 (owned_exists h.0 t h.1)
-        ∙ (λ j. cond (h.2 j) (Referral (length x)) (cond (h.1 j) Has (cond (is_zone_cut L a x) NoDs last)))
-    so_answer NoDs h =
-        at_existing h.0 (owner_exists x (cut_owns x h.2) h.0.free)
-        ∙ (λ j. cond (h.2 j && not (h.3 j)) (Referral (length x)) (cond (h.1 j) Has (cond (h.2 j) NoDs last)))
+    so_answer Has h = grind (arith, common_steps, at_existing, owned_exists)
+    so_answer NoDs h = grind (arith, common_steps, at_existing, owner_exists, cut_owns)
     so_answer Alias h =
         at_existing h.0 (owned_exists h.0 cname h.3)
         ∙ (λ j. cond (h.2 j && not (t == ds)) (Referral (length x)) (cond (h.1 j) Has (cond (h.2 j) NoDs (cond (h.3 j) Alias NoData))))
-    so_answer NoData h =
-        at_existing h.0 h.4
-        ∙ (λ j. cond (h.2 j && not (t == ds)) (Referral (length x)) (cond (h.1 j) Has (cond (h.2 j) NoDs (cond (h.3 j) Alias NoData))))
+    so_answer NoData h = grind (arith, common_steps, at_existing)
     so_answer (Wildcard n) h =
         at_missing n h.0
         ∙ (λ j. cond (not (h.1 j)) (NameError (length (encloser L a x))) (cond (h.2 j) (Wildcard (sym h.0.count j)) (wild (length (encloser L a x)))))

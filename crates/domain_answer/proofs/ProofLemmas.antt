@@ -1,15 +1,13 @@
 -- Of any records at all: those that an answer rests on are there, and what it counts is within the name.
-use Rattle.std.proofs.Common.{◌≡◌, ◌∙◌, ◌<◌, ◌≤◌, arith, ℕ, Bool, true, false, cond, not, ◌&&◌, ◌||◌, List, length, refl, Option, Some, None}
-use Rattle.std.specs.Prelude.{◌==◌}
+use Rattle.std.proofs.Common.{◌≡◌, ◌<◌, arith, ℕ, Bool, true, false, cond, ◌&&◌, ◌||◌, List, length, refl, Option, Some, None}
 use Rattle.std.specs.List.{find}
 use Rattle.std.proofs.lemmas.Bool.{and_parts, and_from, or_left, or_right}
 use Rattle.domain_bitmap.specs.Blocks.{contains_type}
-use Rattle.domain_names.specs.Name.{is_at_or_below, is_strictly_below, last_labels}
+use Rattle.domain_names.specs.Name.{is_strictly_below, last_labels}
 use Rattle.domain_names.specs.Order.{before}
-use Rattle.domain_base.specs.Types.{cname, ds}
+use Rattle.domain_base.specs.Types.{cname}
 use Rattle.domain_names.specs.Words.{Name}
 use Rattle.domain_zone.specs.Covering.{matches, covers, matches_or_covers}
-use Rattle.domain_zone.specs.Enclosers.{longer, shared}
 use Rattle.domain_zone.proofs.NameLemmas.{below_length, same_is}
 use Rattle.domain_zone.proofs.PairLemmas.{In}
 use Rattle.domain_zone.proofs.OwnerLemmas.{in_any}
@@ -18,15 +16,13 @@ use Rattle.domain_nsec.specs.Chain.{Link}
 use Rattle.domain_checker.specs.Reading.{is_at_cut, is_cover, is_match}
 use Rattle.domain_checker.specs.Verdict.{HasProof, is_inside}
 use Rattle.domain_checker.proofs.EncloserLemmas.{same_count}
-use Rattle.domain_answer.specs.TypesAnswer.{is_of_child}
 use Rattle.domain_answer.specs.declared.answer.Answer.{Answer}
-use Rattle.domain_answer.specs.declared.answer.Answer.TheVariants.{OutsideZone, AtParent, Referral, Redirected, Has, NoDs, Alias, NoData, Wildcard}
-use Rattle.domain_answer.specs.declared.answer.Answer.TheVariants.{WildcardAlias, WildcardNoData, NameError, NoCloserName, NotProven}
+use Rattle.domain_answer.specs.declared.answer.Answer.TheVariants.{Wildcard, WildcardAlias, WildcardNoData, NameError, NoCloserName}
 use Rattle.domain_answer.specs.Proved.{CountsWithin, HasBothProofs, RestsOn}
-use Rattle.domain_answer.specs.Reading.{absent_answer, cover_answer, listed_answer, listed_both, match_answer, owner_answer, reading, tells_occluded}
-use Rattle.domain_answer.specs.Reading.{tells_occluder, wildcard_both}
-use Rattle.domain_answer.specs.ZoneAnswer.{is_at_parent, wildcard_below}
+use Rattle.domain_answer.specs.Reading.{absent_answer, cover_answer, listed_answer, listed_both, match_answer, reading, tells_occluded, wildcard_both}
+use Rattle.domain_answer.specs.ZoneAnswer.{wildcard_below}
 use Rattle.domain_answer.proofs.CountLemmas.{encloser_less}
+use Rattle.std.proofs.lemmas.Grind.{common_steps}
 
 choose : (P : Answer → Type 0) (b : Bool) (v w : Answer) → P v → P w → P (cond b v w)
 choose P true v w p q = p
@@ -71,22 +67,10 @@ module _ (a : Name) (listed : List Link) where
             (choose Rests (contains_type k.bits cname) (WildcardAlias n) (WildcardNoData n) both both)
 
     match_rests : (k : Link) → HasProof listed a x → Rests (match_answer a k t)
-    match_rests k h =
-        let last = cond (contains_type k.bits cname) Alias NoData in
-        let later = cond (is_at_cut a k) NoDs last in
-        let own = cond (is_at_cut a k && not (t == ds)) (Referral (length k.owner)) (cond (contains_type k.bits t) Has later) in
-        choose Rests (is_of_child (is_at_cut a k) k.bits) NotProven own tt
-        (choose Rests (is_at_cut a k && not (t == ds)) (Referral (length k.owner)) (cond (contains_type k.bits t) Has later) h
-        (choose Rests (contains_type k.bits t) Has later h
-        (choose Rests (is_at_cut a k) NoDs last h
-        (choose Rests (contains_type k.bits cname) Alias NoData h h))))
+    match_rests k h = grind (arith, common_steps)
 
     cover_rests : (k : Link) → HasProof listed a x → Rests (cover_answer a listed k x t)
-    cover_rests k h =
-        let n = length (longer (shared x k.owner) (shared x k.next)) in
-        choose Rests (tells_occluded a k x) (owner_answer a k) (cond (is_strictly_below k.next x) NoData (absent_answer a listed n x t))
-        (choose Rests (is_at_cut a k) (Referral (length k.owner)) (Redirected (length k.owner)) h h)
-        (choose Rests (is_strictly_below k.next x) NoData (absent_answer a listed n x t) h (absent_rests n h))
+    cover_rests k h = grind (arith, common_steps, absent_rests)
 
     list_rests : Rests (listed_answer a listed x t)
     list_rests = by (find (is_match a x) listed) (find (is_cover a x) listed) refl refl
@@ -97,9 +81,7 @@ module _ (a : Name) (listed : List Link) where
         by (Some k) p e f = match_rests k (by_match x k e)
 
     pub reading_rests : Rests (reading a listed x t)
-    reading_rests =
-        choose Rests (not (is_at_or_below x a)) OutsideZone (cond (is_at_parent a x t) AtParent (listed_answer a listed x t)) tt
-        (choose Rests (is_at_parent a x t) AtParent (listed_answer a listed x t) tt list_rests)
+    reading_rests = grind (arith, common_steps, list_rests)
 
     -- ---- how many labels an answer counts
 
@@ -126,27 +108,10 @@ module _ (a : Name) (listed : List Link) where
             (choose Counts (contains_type k.bits cname) (WildcardAlias n) (WildcardNoData n) h h)
 
     match_counts : (k : Link) → matches before k.owner x ≡ true → Counts (match_answer a k t)
-    match_counts k m =
-        let last = cond (contains_type k.bits cname) Alias NoData in
-        let later = cond (is_at_cut a k) NoDs last in
-        let labels = same_count k.owner x (same_is k.owner x ∙ m) in
-        let within : length k.owner ≤ length x = omega arith in
-        let own = cond (is_at_cut a k && not (t == ds)) (Referral (length k.owner)) (cond (contains_type k.bits t) Has later) in
-        choose Counts (is_of_child (is_at_cut a k) k.bits) NotProven own tt
-        (choose Counts (is_at_cut a k && not (t == ds)) (Referral (length k.owner)) (cond (contains_type k.bits t) Has later) within
-        (choose Counts (contains_type k.bits t) Has later tt
-        (choose Counts (is_at_cut a k) NoDs last tt
-        (choose Counts (contains_type k.bits cname) Alias NoData tt tt))))
+    match_counts k m = grind (arith, common_steps, same_count, same_is)
 
     cover_counts : (k : Link) → covers before k.owner k.next x ≡ true → Counts (cover_answer a listed k x t)
-    cover_counts k c =
-        let n = length (longer (shared x k.owner) (shared x k.next)) in
-        choose_by (tells_occluded a k x) (owner_answer a k) (cond (is_strictly_below k.next x) NoData (absent_answer a listed n x t))
-        (λ e.
-        let within = below_length x k.owner (and_parts (is_at_or_below x k.owner) (tells_occluder a k) e).0 in
-        choose Counts (is_at_cut a k) (Referral (length k.owner)) (Redirected (length k.owner)) within within)
-        (λ e. choose_by (is_strictly_below k.next x) NoData (absent_answer a listed n x t) (λ f. tt)
-        (λ f. absent_counts n (encloser_less k.owner k.next x c f)))
+    cover_counts k c = grind (arith, common_steps, choose_by, below_length, and_parts, choose, absent_counts, encloser_less)
 
     list_counts : Counts (listed_answer a listed x t)
     list_counts = by (find (is_match a x) listed) (find (is_cover a x) listed) refl refl
@@ -159,6 +124,4 @@ module _ (a : Name) (listed : List Link) where
             match_counts k (and_parts (matches before k.owner x) (is_inside a k) (find_some (is_match a x) listed k e).1).0
 
     pub reading_counts : Counts (reading a listed x t)
-    reading_counts =
-        choose Counts (not (is_at_or_below x a)) OutsideZone (cond (is_at_parent a x t) AtParent (listed_answer a listed x t)) tt
-        (choose Counts (is_at_parent a x t) AtParent (listed_answer a listed x t) tt list_counts)
+    reading_counts = grind (arith, common_steps, list_counts)

@@ -1,13 +1,13 @@
 -- The whole chain proves all that the zone says; and which chains leave out the names below a DNAME.
 use Rattle.std.proofs.Common.{◌≡◌, ◌≢◌, ℕ, Bool, true, false, cond, not, ◌&&◌, ◌||◌, List, [], ◌∷◌, map, length, refl, sym, ap, ◌∙◌, inl, inr, Option, Some}
-use Rattle.std.proofs.Common.{None}
-use Rattle.std.specs.Prelude.{◌==◌, All, filter}
+use Rattle.std.proofs.Common.{None, arith}
+use Rattle.std.specs.Prelude.{All, filter}
 use Rattle.std.specs.List.{list_any}
-use Rattle.std.proofs.lemmas.Bool.{cases_Bool, true≢false, and_parts}
+use Rattle.std.proofs.lemmas.Bool.{cases_Bool, and_parts}
 use Rattle.std.proofs.lemmas.List.Elements.{recursion_from_All}
 use Rattle.domain_octets.proofs.StdLemmas.{and_false}
-use Rattle.domain_names.specs.Name.{is_at_or_below, is_strictly_below, same_name}
-use Rattle.domain_base.specs.Types.{cname, dname, ds}
+use Rattle.domain_names.specs.Name.{is_at_or_below, is_strictly_below}
+use Rattle.domain_base.specs.Types.{dname}
 use Rattle.domain_names.specs.Words.{Name}
 use Rattle.domain_zone.specs.Zone.{ZoneRecord, OwnersNeverDescend, distinct, has_type, is_occluded, is_unoccluded, is_zone_cut, occludes, records_of}
 use Rattle.domain_zone.specs.Zone.{unoccluded_owners}
@@ -21,12 +21,12 @@ use Rattle.domain_checker.specs.Verdict.{has_match_or_cover}
 use Rattle.domain_checker.proofs.EncloserLemmas.{closest_is, in_distinct}
 use Rattle.domain_checker.proofs.MeantLemmas.{ChainLaws, apex_exists, some_link}
 use Rattle.domain_answer.specs.declared.answer.Answer.{Answer}
-use Rattle.domain_answer.specs.declared.answer.Answer.TheVariants.{OutsideZone, AtParent, Referral, Redirected, NoCloserName, NotProven}
+use Rattle.domain_answer.specs.declared.answer.Answer.TheVariants.{Referral, Redirected, NoCloserName, NotProven}
 use Rattle.domain_answer.specs.Proved.{LeavesOutBelowDname, is_missing, knows_wildcard, proved_answer}
-use Rattle.domain_answer.specs.ZoneAnswer.{asterisk, encloser, existing_answer, highest_occluder, inside_answer, is_at_parent, missing_answer, name_exists}
-use Rattle.domain_answer.specs.ZoneAnswer.{owns_type, wildcard_below, zone_answer}
+use Rattle.domain_answer.specs.ZoneAnswer.{asterisk, encloser, inside_answer, is_at_parent, name_exists, wildcard_below, zone_answer}
 use Rattle.domain_answer.proofs.ChainLemmas.{meant_leaving}
 use Rattle.domain_answer.proofs.DefiniteLemmas.{choose, either, existing_says, is_of_zone, of_zone_knows, of_zone_proves, wildcard_says}
+use Rattle.std.proofs.lemmas.Grind.{common_steps}
 
 pub wildcard_low : (L : List ZoneRecord) (a : Name) (x : Name) → name_exists L a a ≡ true → is_at_or_below x a ≡ true
     → is_at_or_below (wildcard_below (encloser L a x)) a ≡ true
@@ -64,19 +64,12 @@ whole_proves laws L a config links x t leaves order chain =
 module _ (L : List ZoneRecord) (a : Name) (assume : Bool) (x : Name) (t : ℕ) where
   inside_says : (o : Option Name) → is_of_zone (inside_answer L a assume x t o) ≡ true
   unfolding is_of_zone
-  inside_says None =
-      let w = wildcard_below (encloser L a x) in
-      choose (name_exists L a x) (existing_answer L a assume x t) (missing_answer L a assume (encloser L a x) w t)
-      (existing_says (length x) (is_zone_cut L a x && not (t == ds)) (owns_type L a assume x t) (is_zone_cut L a x) (owns_type L a assume x cname))
-      (wildcard_says (length (encloser L a x)) (not (name_exists L a w)) (owns_type L a assume w t || is_zone_cut L a w) (owns_type L a assume w cname))
+  inside_says None = grind (arith, common_steps, choose, existing_says, wildcard_says)
   inside_says (Some o) = choose (is_zone_cut L a o) (Referral (length o)) (Redirected (length o)) refl refl
 
   zone_says : is_of_zone (zone_answer L a assume x t) ≡ true
   unfolding is_of_zone
-  zone_says =
-      let inside = inside_answer L a assume x t (highest_occluder L a x) in
-      choose (not (is_at_or_below x a)) OutsideZone (cond (is_at_parent a x t) AtParent inside) refl
-      (choose (is_at_parent a x t) AtParent inside refl (inside_says (highest_occluder L a x)))
+  zone_says = grind (arith, common_steps, choose, inside_says)
 
   pub zone_proves : zone_answer L a assume x t ≢ NotProven
   zone_proves = of_zone_proves (zone_answer L a assume x t) zone_says
@@ -110,12 +103,7 @@ module _ (L : List ZoneRecord) (a : Name) (none : All (λ r. is_occluded true L 
 -- in a zone without DNAME records no more names are occluded
 module _ (L : List ZoneRecord) (a : Name) (none : has_type L dname ≡ false) where
   no_dname : (n : Name) → has_type (records_of L n) dname ≡ false
-  no_dname n =
-      any_none (λ r. r.rtype == dname) (records_of L n) (λ r i.
-      elim (cases_Bool (r.rtype == dname)) [
-        | inl e ↦ absurd (true≢false (sym (in_any (λ r. r.rtype == dname) L r (in_filter (λ r. same_name r.owner n) L r i).0 e) ∙ none))
-        | inr e ↦ e
-      ])
+  no_dname n = grind (arith, common_steps, any_none, in_any, in_filter)
 
   same_occluders : (n : Name) → occludes false L a n ≡ occludes true L a n
   same_occluders n = sym ((λ i. is_zone_cut L a n || (is_at_or_below n a && no_dname n i)) ∙ (λ i. is_zone_cut L a n || and_false (is_at_or_below n a) i))

@@ -1,13 +1,13 @@
 -- The wire form of the wildcard below the last labels of a name.
-use Rattle.std.proofs.Common.{◌≡◌, ℕ, ◌+◌, ◌≤◌, ◌<◌, ◌-◌, zero, suc, [], ◌∷◌, drop, length, sym, ap, ◌∙◌, subst, arith, length-append}
+use Rattle.std.proofs.Common.{◌≡◌, ℕ, ◌+◌, ◌≤◌, ◌<◌, ◌-◌, zero, suc, [], ◌∷◌, drop, length, sym, ap, ◌∙◌, subst, arith}
 use Rattle.std.specs.List.{AllByRecursion}
-use Rattle.std.proofs.lemmas.List.Elements.{All-from_recursion}
 use Rattle.domain_octets.specs.Words.{Octets}
 use Rattle.domain_names.specs.Name.{IsLabel, IsName, wire_of, last_labels}
 use Rattle.domain_names.specs.Wire.{labels_of, IsWire}
 use Rattle.domain_names.specs.Words.{Name}
 use Rattle.domain_names.proofs.WireLemmas.{IsWire-wire_of, labels_of-wire_of}
 use Rattle.domain_answer.specs.ZoneAnswer.{asterisk, wildcard_below}
+use Rattle.std.proofs.lemmas.Grind.{common_steps}
 
 labels_drop : (n : ℕ) (x : Name) → AllByRecursion IsLabel x → AllByRecursion IsLabel (drop n x)
 labels_drop zero x all = all
@@ -18,10 +18,7 @@ labels_drop (suc n) (l ∷ x) all = labels_drop n x all.1
 wire_drop : (n : ℕ) (x : Name) → AllByRecursion IsLabel x → n ≤ length x → length (wire_of (drop n x)) + (n + n) ≤ length (wire_of x)
 wire_drop zero x all h = omega arith
 wire_drop (suc n) [] all h = absurd (omega arith)
-wire_drop (suc n) (l ∷ x) all h =
-    let label : IsLabel l = all.0 in
-    let up = wire_drop n x all.1 (omega arith) in
-    omega (arith, label.not_empty, length-append l (wire_of x))
+wire_drop (suc n) (l ∷ x) all h = grind (arith, common_steps, (wire_drop n x all.1 (omega arith)))
 
 -- the octets of the wildcard below such labels, which have the octets w
 pub record IsWildcardWire (x : Name) (n : ℕ) (w : Octets) : Type 0 where
@@ -30,11 +27,7 @@ pub record IsWildcardWire (x : Name) (n : ℕ) (w : Octets) : Type 0 where
   pub labels : labels_of (1 ∷ 42 ∷ w) ≡ wildcard_below (last_labels n x)
 
 asterisk_label : IsLabel asterisk
-asterisk_label = record {
-  not_empty = omega arith;
-  fits = omega arith;
-  octets = All-from_recursion (λ octet. octet < 256) asterisk (omega arith, tt);
-}
+asterisk_label = grind (arith, common_steps)
 
 pub wildcard_wire : (x : Name) (n : ℕ) (whole w : Octets) → IsWire whole → labels_of whole ≡ x → IsWire w → labels_of w ≡ last_labels n x
     → n < length x → IsWildcardWire x n w

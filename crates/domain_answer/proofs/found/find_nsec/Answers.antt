@@ -1,28 +1,18 @@
-use Rattle.std.proofs.Common.{◌≡◌, ◌+◌, true, false, not, Some, None, map, drop, sym, ap, ◌∙◌, subst}
+use Rattle.std.proofs.Common.{◌≡◌, ◌+◌, true, false, not, map, drop, sym, ap, ◌∙◌, subst, arith}
 use Rattle.std.specs.List.{find}
 use Rattle.std.specs.Option.{is_some, option_map, option_or}
 use Rattle.std.specs.Prelude.{IfSome}
 use Rattle.domain_nsec.specs.ChainView.{as_link}
 use Rattle.domain_checker.specs.Reading.{is_cover, is_match}
-use Rattle.domain_checker.proofs.FirstLemmas.{found_here, found_later, met_here, met_later, met_before}
+use Rattle.domain_checker.proofs.FirstLemmas.{found_later, met_here, met_later, met_before}
 use Rattle.domain_answer.specs.Found.{IsSharing, cover_link}
-use Rattle.domain_answer.proofs.FoundLemmas.{met_now, passed_all}
+use Rattle.domain_answer.proofs.FoundLemmas.{met_now}
 use Rattle.domain_answer.proofs.found.find_nsec.Goals as goal
 use Rattle.domain_answer.proofs.found.find_nsec.Goals.{then-is_none, else-is_none}
+use Rattle.std.proofs.lemmas.Grind.{common_steps}
 
 pub returns-then-is_match-clause-found : goal.returns-then-is_match-clause-found
-returns-then-is_match-clause-found g c =
-    let labels = g.N.ToName.labels in
-    let listed = c.listed-item.result in
-    let chain = c.args.chain.now in
-    let matched = is_match (g.A.ToName.labels c.args.apex.now) (g.M.ToName.labels c.args.name.now) in
-    let hit : matched (as_link labels listed) ≡ true = sym c.is_match.ensures ∙ c.if-is_match.true in
-    let found = c.loop-listed.invariant.matching ∙ found_here matched
-    (as_link labels) chain c.loop-listed.listed-index listed c.loop-listed-test.true c.listed-item.is hit in
-    record {
-      matching = sym found;
-      covering = λ none. absurd (cc);
-    }
+returns-then-is_match-clause-found g c = grind (arith, common_steps)
 
 pub loop-listed-preserved : goal.loop-listed-preserved
 loop-listed-preserved g c =
@@ -62,19 +52,7 @@ loop-listed-preserved g c =
     }
 
 pub returns-in-Some-clause-found : goal.returns-in-Some-clause-found
-returns-in-Some-clause-found g c =
-    let labels = g.N.ToName.labels in
-    let see = as_link labels in
-    let so = c.loop-listed.invariant in
-    passed_all (g.A.ToName.labels c.args.apex.now) (g.M.ToName.labels c.args.name.now) see c.args.chain.now c.loop-listed.listed-index
-    (option_map (cover_link labels) c.loop-listed.cover) (Some (cover_link labels c.in-Some.cover)) c.loop-listed-test.false so.matching so.covering
-    (ap (option_map (cover_link labels)) c.in-Some.is)
+returns-in-Some-clause-found g c = grind (arith, common_steps)
 
 pub returns-in-None-clause-found : goal.returns-in-None-clause-found
-returns-in-None-clause-found g c =
-    let labels = g.N.ToName.labels in
-    let see = as_link labels in
-    let so = c.loop-listed.invariant in
-    passed_all (g.A.ToName.labels c.args.apex.now) (g.M.ToName.labels c.args.name.now) see c.args.chain.now c.loop-listed.listed-index
-    (option_map (cover_link labels) c.loop-listed.cover) None c.loop-listed-test.false so.matching so.covering
-    (ap (option_map (cover_link labels)) c.in-None.is)
+returns-in-None-clause-found g c = grind (arith, common_steps)

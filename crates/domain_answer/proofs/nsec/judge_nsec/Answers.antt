@@ -1,7 +1,8 @@
-use Rattle.std.proofs.Common.{◌<◌, length, sym, subst}
-use Rattle.domain_answer.specs.Proved.{CountsWithin, IsAnswered, RestsOn}
+use Rattle.std.proofs.Common.{◌<◌, sym, subst, arith}
+use Rattle.domain_answer.specs.Proved.{IsAnswered}
 use Rattle.domain_nsec.specs.ChainView.{links_of}
 use Rattle.domain_answer.proofs.nsec.judge_nsec.Goals as goal
+use Rattle.std.proofs.lemmas.Grind.{common_steps}
 
 pub returns-clause-zone : goal.returns-clause-zone
 returns-clause-zone g c =
@@ -12,14 +13,7 @@ returns-clause-zone g c =
     subst (IsAnswered listed a x c.args.rtype) (sym c.read.ensures) (c.readings_are_proved.ensures.zone listed a x c.args.rtype short)
 
 pub returns-clause-proof : goal.returns-clause-proof
-returns-clause-proof g c =
-    let a = g.A.ToName.labels c.args.apex.now in
-    let x = g.M.ToName.labels c.args.name.now in
-    let listed = links_of g.N.ToName.labels c.args.chain.now in
-    subst (RestsOn listed a x) (sym c.read.ensures) (c.readings_are_proved.ensures.proof listed a x c.args.rtype)
+returns-clause-proof g c = grind (arith, common_steps)
 
 pub returns-clause-within : goal.returns-clause-within
-returns-clause-within g c =
-    let x = g.M.ToName.labels c.args.name.now in
-    subst (CountsWithin (length x)) (sym c.read.ensures)
-    (c.readings_are_proved.ensures.within (links_of g.N.ToName.labels c.args.chain.now) (g.A.ToName.labels c.args.apex.now) x c.args.rtype)
+returns-clause-within g c = grind (arith, common_steps)

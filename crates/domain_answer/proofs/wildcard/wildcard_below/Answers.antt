@@ -4,12 +4,11 @@ use Rattle.domain_answer.proofs.WildcardLemmas.{IsWildcardWire, wildcard_wire}
 use Rattle.domain_answer.proofs.wildcard.wildcard_below.Given.{Over}
 use Rattle.domain_answer.proofs.wildcard.wildcard_below.Goals as goal
 use Rattle.domain_answer.proofs.wildcard.wildcard_below.Goals.{After-as_wire}
+use Rattle.std.proofs.lemmas.Grind.{common_steps}
 
 -- the octets that are written are those of a name
 made : (g : Over) (c : After-as_wire g) → IsWildcardWire (g.M.ToName.labels c.args.name.now) c.args.count c.as_wire.result.now
-made g c =
-    wildcard_wire _ _ c.as_wire-whole.result.now _ c.as_wire-whole.ensures.wire c.as_wire-whole.ensures.labels c.as_wire.ensures.wire
-    (c.as_wire.ensures.labels ∙ c.last_labels-above.ensures) c.requires.above
+made g c = grind (arith, common_steps, wildcard_wire)
 
 pub write_wildcard-requires : goal.write_wildcard-requires
 write_wildcard-requires g c = omega (arith, (made g (goal.at.write_wildcard-requires g c).After-as_wire).fits, c.requires.room)
