@@ -1,5 +1,5 @@
 -- Where a search by hash in a chain ends, the record matches or covers the hash, and no other does.
-use Rattle.std.proofs.Common.{◌≡◌, ℕ, zero, suc, ◌-◌, ◌<◌, ◌≤◌, Bool, true, false, cond, not, ◌&&◌, ◌||◌, List, [], ◌∷◌, map, length, get_or, slice_get, Some}
+use Rattle.std.proofs.Common.{◌≡◌, ℕ, zero, suc, ◌-◌, ◌<◌, ◌≤◌, true, false, cond, ◌&&◌, List, [], ◌∷◌, map, length, get_or, slice_get, Some}
 use Rattle.std.proofs.Common.{None, refl, sym, ap, ◌∙◌, arith, inl, inr, ◌⊎◌}
 use Rattle.std.specs.List.{AllByRecursion}
 use Rattle.std.specs.List.Sorted.{IsStrictlySortedBy}
@@ -7,7 +7,6 @@ use Rattle.std.specs.Cmp.{IsStrictWeakOrder}
 use Rattle.std.specs.Cmp.Lexicographic.{nat_list_cmp_total, slice_cmp}
 use Rattle.std.specs.Ordering.{is_eq, is_lt, nat_cmp}
 use Rattle.std.specs.declared.cmp.Ordering.TheVariants.{Less}
-use Rattle.std.proofs.lemmas.Bool.{false≢true}
 use Rattle.std.proofs.lemmas.List.{length-map}
 use Rattle.std.proofs.lemmas.List.Elements.{recursion_from_All}
 use Rattle.std.proofs.lemmas.List.Sorted.{ranks_by}
@@ -17,7 +16,7 @@ use Rattle.domain_codecs.specs.Codec.{IsBase32}
 use Rattle.domain_octets.specs.Words.{AreOctets, Octets}
 use Rattle.domain_octets.proofs.StdLemmas.{some_is}
 use Rattle.domain_names.specs.Words.{Name}
-use Rattle.domain_zone.specs.Covering.{covers, matches, matches_or_covers, pairs}
+use Rattle.domain_zone.specs.Covering.{matches, matches_or_covers, pairs}
 use Rattle.domain_zone.specs.Zone.{ZoneRecord}
 use Rattle.domain_zone.proofs.NameLemmas.{same_itself}
 use Rattle.domain_zone.proofs.PairLemmas.{IsAscending, irreflexive, one_matches_or_covers, In, all_in}
@@ -29,6 +28,7 @@ use Rattle.domain_nsec3.specs.Meaning.{IsRecordOf, octets_before}
 use Rattle.domain_checker.specs.HashedList.{hash_in, is_some_with, owner_hash, read_label, same_parameters}
 use Rattle.domain_checker.proofs.HashedListLemmas.{tied_is, hashes_octets, parameters_tie, spelled_back}
 use Rattle.domain_denier.specs.HashedSteps.{IsOfHash, IsSaid, tells_hash}
+use Rattle.std.proofs.lemmas.Grind.{common_steps}
 
 -- ---- lists of hashes that ascend
 
@@ -94,10 +94,7 @@ paired_at : (a : Name) (links : List HashedLink) (ps : List (Octets × Octets)) 
     → slice_get links i ≡ Some k → (p : Octets × Octets) × (slice_get ps i ≡ Some p) × (k.owner ≡ hashed_owner a p.0) × (k.next ≡ p.1)
 paired_at a [] ps e i k g = absurd (cc)
 paired_at a (l ∷ links) [] e i k g = absurd (cc)
-paired_at a (l ∷ links) (p ∷ ps) e zero k g =
-    let same : l ≡ k = cc in
-    let pair : ends l ≡ ends_of a p = cc in
-    (p, refl, ap (λ m. m.owner) (sym same) ∙ ap (λ q. q.0) pair, ap (λ m. m.next) (sym same) ∙ ap (λ q. q.1) pair)
+paired_at a (l ∷ links) (p ∷ ps) e zero k g = grind (arith, common_steps)
 paired_at a (l ∷ links) (p ∷ ps) e (suc i) k g =
     let rest : map ends links ≡ map (ends_of a) ps = cc in
     paired_at a links ps rest i k g
@@ -105,23 +102,7 @@ paired_at a (l ∷ links) (p ∷ ps) e (suc i) k g =
 -- the record of an owner with a next hash matches or covers v
 said : (o n v : Octets) → ((octets_before v o ≡ false) × ((octets_before v n ≡ true) ⊎ (octets_before o n ≡ false)))
     ⊎ ((octets_before v n ≡ true) × (octets_before o n ≡ false)) → matches_or_covers octets_before o n v ≡ true
-said o n v h = told (octets_before o v) (octets_before v o) (octets_before o n) (octets_before v n) h
-  where
-    told : (ov vo on vn : Bool) → ((vo ≡ false) × ((vn ≡ true) ⊎ (on ≡ false))) ⊎ ((vn ≡ true) × (on ≡ false))
-        → (not (ov || vo) || (not (not (ov || vo)) && cond on (ov && vn) (ov || vn))) ≡ true
-    told true true on vn (inl h) = absurd (false≢true (sym h.0))
-    told true false on vn (inl (e, inl f)) = by on vn f
-      where
-        by : (on vn : Bool) → vn ≡ true → cond on vn true ≡ true
-        by true vn f = f
-        by false vn f = refl
-    told true false on vn (inl (e, inr f)) = λ i. cond (f i) vn true
-    told false true on vn (inl h) = absurd (false≢true (sym h.0))
-    told false false on vn (inl h) = refl
-    told true true on vn (inr h) = λ i. cond (h.1 i) vn true
-    told true false on vn (inr h) = λ i. cond (h.1 i) vn true
-    told false true on vn (inr h) = (λ i. cond (h.1 i) false vn) ∙ h.0
-    told false false on vn (inr h) = refl
+said o n v h = grind (arith, common_steps)
 
 -- the octets of an owner that is before v, or after it
 pub record IsBehind (a : Name) (links : List HashedLink) (v : Octets) (place : ℕ) : Type 0 where
@@ -252,9 +233,7 @@ module _ (apart : TellsApart) (L : List ZoneRecord) (a : Name) (config : ChainCo
 
       tells_is : (i : ℕ) (k : HashedLink) (h : Octets) → IsRecordOf a links i k h
           → tells_hash a p v k ≡ matches_or_covers octets_before h k.next v
-      tells_is i k h r =
-          λ j. is_some_with (λ u. matches octets_before u v) (hash_is i k h r j)
-          || is_some_with (λ u. covers octets_before u k.next v) (hash_is i k h r j)
+      tells_is i k h r = grind (arith, common_steps, hash_is)
 
       -- the one pair of the cycle is that of the record
       pub of_hash : (place : ℕ) → IsSaid a links v place → (k : HashedLink) (h : Octets) → IsRecordOf a links place k h

@@ -1,7 +1,7 @@
 -- What is picked of the NSEC3 chain of a zone is what its answer rests on, and no more.
 use Rattle.std.proofs.Common.{◌≡◌, ◌≢◌, ℕ, ◌+◌, ◌-◌, ◌<◌, Bool, true, false, cond, not, ◌&&◌, ◌||◌, List, [], ◌∷◌, map, drop, length, Some, None, Option}
-use Rattle.std.proofs.Common.{slice_get, nat_eq, refl, sym, ap, ◌∙◌, subst, inl, inr, ◌⊎◌, arith}
-use Rattle.std.specs.Prelude.{All, Ok}
+use Rattle.std.proofs.Common.{slice_get, nat_eq, refl, sym, ap, ◌∙◌, inl, inr, ◌⊎◌, arith}
+use Rattle.std.specs.Prelude.{All}
 use Rattle.std.specs.List.{Contains, list_any}
 use Rattle.std.proofs.lemmas.Bool.{cases_Bool, eq-eqb, eqb-true, false≢true, and_parts, and_from, or_cases, or_left, or_right}
 use Rattle.std.proofs.lemmas.List.{length-map}
@@ -41,6 +41,7 @@ use Rattle.domain_denier.specs.HashedSteps.{IsPickedRead, IsSoleCover, IsSoleMat
 use Rattle.domain_denier.specs.declared.nsec3.Nsec3Denial.{Nsec3Denial}
 use Rattle.domain_denier.proofs.HashSearchLemmas.{cycle_length}
 use Rattle.domain_denier.proofs.SomeLemmas.{in_place, no_match, not_gone, three_contained, three_others}
+use Rattle.std.proofs.lemmas.Grind.{common_steps}
 
 -- what the laws say
 pub record DenyLaws : Type 0 where
@@ -137,10 +138,7 @@ module _ (laws : DenyLaws) (L : List ZoneRecord) (a : Name) (config : ChainConfi
     )
 
     alone : IsAlone L a config sole.name sole.value
-    alone =
-        let f = asked.ancestors sole.name sole.above sole.within in
-        let same : f.0 ≡ sole.value = let e : Ok f.0 ≡ Ok sole.value = sym f.1.known ∙ sole.known in cc in
-        subst (IsAlone L a config sole.name) same f.1
+    alone = grind (arith, common_steps)
 
     exists : exists_over (original_owners L a config) a sole.name ≡ true
     exists = (laws.matches L a config links chain sole.name sole.value sole.within alone sole.of.link contained sole.of.matched).exists
@@ -279,6 +277,4 @@ pub read_by : (L : List ZoneRecord) (config : ChainConfig) (hash : Hash) (chain 
     → (a : Name) → a ≡ chain.param.owner → (x : Name) (t : ℕ) (d : Nsec3Denial)
     → IsPickedRead (record { links = chain.links; apex = a; parameters = chain.param.parameters; hash = hash }) x t d
     → IsPickedRead (chain_records chain.param.owner config chain.links) x t d
-read_by L config hash chain whole a apex x t d read =
-    subst (λ R. IsPickedRead R x t d)
-    (λ i. record { links = chain.links; apex = apex i; parameters = sym whole.parameters i; hash = sym whole.hashed i }) read
+read_by L config hash chain whole a apex x t d read = grind (arith, common_steps)

@@ -10,7 +10,6 @@ use Rattle.domain_names.specs.Name.{is_at_or_below, last_labels}
 use Rattle.domain_base.specs.Types.{dname}
 use Rattle.domain_names.specs.Words.{Name}
 use Rattle.domain_bitmap.specs.Blocks.{contains_type}
-use Rattle.domain_chain_rdata.specs.OptOut.{is_opt_out}
 use Rattle.domain_zone.proofs.NameLemmas.{below_length, below_longer}
 use Rattle.domain_zone.proofs.PairLemmas.{In}
 use Rattle.domain_zone.proofs.OwnerLemmas.{in_any}
@@ -24,11 +23,10 @@ use Rattle.domain_checker.specs.HashedView.{HashedRecords, first_cover, first_ma
 use Rattle.domain_checker.specs.HashedVerdict.{is_matched, is_ok_with}
 use Rattle.domain_checker.proofs.HashedWalkLemmas.{some_matched}
 use Rattle.domain_answer.specs.declared.answer.Answer.{Answer}
-use Rattle.domain_answer.specs.declared.answer.Answer.TheVariants.{Referral, Redirected, MayBeUnsigned, NoCloserName, NotProven}
+use Rattle.domain_answer.specs.declared.answer.Answer.TheVariants.{Referral, Redirected, NoCloserName, NotProven}
 use Rattle.domain_answer.specs.HashedReading.{IsHashedRead, IsReadOn, IsWildcardRead, encloser_answer, lower_answer, next_answer, own_answer, wildcard_told}
 use Rattle.domain_answer.specs.ZoneAnswer.{wildcard_below}
 use Rattle.domain_answer.proofs.CountLemmas.{last_above, last_count}
-use Rattle.domain_answer.proofs.HashedAnswerLemmas.{own_never}
 use Rattle.domain_denier.specs.Picked.{at_place}
 use Rattle.domain_denier.specs.HashedPicked.{AreHashedThere, TellsOfName, hashed_picked, other_place, picked_without, without_records}
 use Rattle.domain_denier.specs.HashedSteps.{IsCoverAt, IsFirstDenial, IsInside, IsOfHash, IsPickedRead, IsPlaced, IsSoleCover, IsSoleMatch, encloser_with}
@@ -37,6 +35,7 @@ use Rattle.domain_denier.specs.declared.encloser.PlacedEncloser.{PlacedEncloser}
 use Rattle.domain_denier.specs.declared.nsec3.Nsec3Denial.{Nsec3Denial}
 use Rattle.domain_denier.proofs.SomeLemmas.{AreAmong, AreOthers, covered, in_back, in_place, kept_place, matched, no_cover, no_match, not_gone, others_among}
 use Rattle.domain_denier.proofs.SomeLemmas.{three_among, three_others, unmatched}
+use Rattle.std.proofs.lemmas.Grind.{common_steps}
 
 -- a first answer after which the wildcard is not asked for
 plain_on : (R : HashedRecords) (x : Name) (t : ℕ) (first : Answer)
@@ -68,27 +67,8 @@ unmatched_among R listed among y v known none =
 
 -- ---- how many labels the closest encloser has, where the wildcard is asked for
 
-lower_counts : (c h : Bool) (count : ℕ) (o : Option HashedLink) (n : ℕ)
-    → cond c (Referral count) (cond h (Redirected count) (next_answer count o)) ≡ NoCloserName n → n ≡ count
-lower_counts true h count o n e = absurd (cc)
-lower_counts false true count o n e = absurd (cc)
-lower_counts false false count None n e = absurd (cc)
-lower_counts false false count (Some k) n e = by (is_opt_out k.flags) e
-  where
-    by : (b : Bool) → cond b (MayBeUnsigned count) (NoCloserName count) ≡ NoCloserName n → n ≡ count
-    by true e = absurd (cc)
-    by false e = cc
-
 closer_counts : (a : Name) (e : Encloser) (m t n : ℕ) → encloser_answer a e m t ≡ NoCloserName n → (n ≡ e.count) × (nat_eq e.count m ≡ false)
-closer_counts a e m t n h =
-    elim (cases_Bool (nat_eq e.count m)) [
-      | inl g ↦ absurd (own_never a e t n (sym (λ i. cond (g i) (own_answer a e t) (lower_answer a e)) ∙ h))
-      | inr g ↦ (
-        lower_counts (encloser_is_cut a e) (contains_type e.link.bits dname) e.count e.cover n
-            (sym (λ i. cond (g i) (own_answer a e t) (lower_answer a e)) ∙ h),
-        g,
-      )
-    ]
+closer_counts a e m t n h = grind (arith, common_steps)
 
 -- ---- where an encloser is found
 
@@ -175,10 +155,7 @@ module _ (R : HashedRecords) (x : Name) (f : PlacedEncloser) (placed : IsPlaced 
     read_plain : (listed : List HashedLink) → AreAmong R.links listed → In placed.of.link listed
         → ((q : ℕ) → d.of_next_closer ≡ Some q → (m : HashedLink) → slice_get R.links q ≡ Some m → In m listed)
         → ((n : ℕ) → d.answer ≡ NoCloserName n → ⊥) → IsHashedRead (with_links R listed) x t d.answer
-    read_plain listed among has covers other =
-        read_of listed among has d.answer d.answer
-        (first_is listed among has (λ q e. covers q (first.next_closer ∙ e)) ∙ sym first.answer)
-        (plain_on (with_links R listed) x t d.answer other)
+    read_plain listed among has covers other = grind (arith, common_steps, read_of, first_is, plain_on)
 
     -- the parts of the answer rest on the next closer name
     pub record IsBelow (q : ℕ) : Type 0 where
@@ -228,9 +205,7 @@ module _ (R : HashedRecords) (x : Name) (f : PlacedEncloser) (placed : IsPlaced 
     }
 
     sole : (place : ℕ) → d.of_encloser ≡ Some place → IsSoleMatch R x place
-    sole place e =
-        let same : f.place ≡ place = some_is f.place place (sym first.encloser ∙ e) in
-        subst (IsSoleMatch R x) same sole_here
+    sole place e = grind (arith, common_steps)
 
     sole_cover : (place : ℕ) → d.of_next_closer ≡ Some place → IsSoleCover R x place
     sole_cover place e = by placed.next placed.closes placed.cover
@@ -419,13 +394,7 @@ record_there (l ∷ links) (suc place) h = record_there links place (omega (arit
 -- ---- the places are places of the chain
 
 role_cover : (a : Name) (e : Encloser) (n : ℕ) (cover : Option ℕ) (q : ℕ) → next_role a e n cover ≡ Some q → cover ≡ Some q
-role_cover a e n cover q h = by (nat_eq e.count n) (encloser_is_cut a e) (contains_type e.link.bits dname) h
-  where
-    by : (s c d : Bool) → cond s None (cond c None (cond d None cover)) ≡ Some q → cover ≡ Some q
-    by true c d h = absurd (none_some q h)
-    by false true d h = absurd (none_some q h)
-    by false false true h = absurd (none_some q h)
-    by false false false h = h
+role_cover a e n cover q h = grind (arith, common_steps)
 
 pub name_there : (links : List HashedLink) (a x : Name) (f : PlacedEncloser) → IsInside links a x f → (k : HashedLink) (n t : ℕ) (d : Nsec3Denial)
     → IsFirstDenial a links k f n t d → (place : ℕ) → TellsOfName d place → place < length links

@@ -1,28 +1,24 @@
 -- What one record, or two of which the first denies a name alone, tell by what they are judged to say.
-use Rattle.std.proofs.Common.{◌≡◌, ◌≢◌, ℕ, ◌<◌, Bool, true, false, cond, not, ◌&&◌, ◌||◌, List, [], ◌∷◌, ◌++◌, length, slice_get, get_or, Option, Some, None}
+use Rattle.std.proofs.Common.{◌≡◌, ◌≢◌, ℕ, ◌<◌, Bool, true, false, cond, not, ◌&&◌, List, [], ◌∷◌, ◌++◌, length, slice_get, get_or, Option, Some, None}
 use Rattle.std.proofs.Common.{refl, sym, ap, ◌∙◌, subst, arith, inl, inr, ◌⊎◌}
 use Rattle.std.specs.List.{find}
 use Rattle.std.proofs.lemmas.Option.{slice_get_cases, slice_get-get_or}
 use Rattle.std.proofs.lemmas.Bool.{cases_Bool, false≢true, and_parts, or_left, or_right}
 use Rattle.domain_names.specs.Name.{is_at_or_below, is_strictly_below, same_name, last_labels}
 use Rattle.domain_names.specs.Order.{before}
-use Rattle.std.specs.Prelude.{◌==◌}
-use Rattle.domain_base.specs.Types.{cname, ds}
 use Rattle.domain_names.specs.Words.{Name}
-use Rattle.domain_bitmap.specs.Blocks.{contains_type}
 use Rattle.domain_zone.specs.Covering.{covers, matches, matches_or_covers}
 use Rattle.domain_zone.specs.Enclosers.{longer, shared}
 use Rattle.domain_zone.proofs.NameLemmas.{same_is}
 use Rattle.domain_nsec.specs.Chain.{Link}
 use Rattle.domain_checker.specs.Verdict.{is_inside}
 use Rattle.domain_checker.specs.Reading.{is_at_cut, is_cover, is_match}
-use Rattle.domain_answer.specs.TypesAnswer.{is_of_child}
 use Rattle.domain_answer.specs.declared.answer.Answer.{Answer}
 use Rattle.domain_answer.specs.declared.answer.Answer.TheVariants.{AtParent, NoCloserName, NoData, OutsideZone}
 use Rattle.domain_answer.specs.declared.answer.NameAnswer.{NameAnswer}
 use Rattle.domain_answer.specs.declared.answer.NameAnswer.TheVariants.{Given, Absent}
 use Rattle.domain_answer.specs.NameAnswer.{IsNameAnswer, name_answer}
-use Rattle.domain_answer.specs.Reading.{absent_answer, listed_answer, listed_both, match_answer, owner_answer, reading, tells_occluded, wildcard_answer}
+use Rattle.domain_answer.specs.Reading.{absent_answer, listed_both, match_answer, owner_answer, reading, tells_occluded, wildcard_answer}
 use Rattle.domain_answer.specs.Reading.{wildcard_both, wildcard_cover_answer, wildcard_match_answer}
 use Rattle.domain_answer.specs.ZoneAnswer.{is_at_parent, wildcard_below}
 use Rattle.domain_answer.proofs.ToldLemmas.{given_is, given_never, match_own, owner_own}
@@ -30,6 +26,7 @@ use Rattle.domain_denier.specs.Judged.{IsOfWildcard, IsSilent, IsTold, Tells}
 use Rattle.domain_denier.specs.declared.judged.OfWildcard.{OfWildcard}
 use Rattle.domain_denier.specs.declared.judged.OfWildcard.TheVariants.{Told, Untold}
 use Rattle.domain_denier.specs.Picked.{IsOf, at_place, listed_option}
+use Rattle.std.proofs.lemmas.Grind.{common_steps}
 
 -- a record that is not passed over, and matches or covers
 from_match : (a x : Name) (k : Link) → is_match a x k ≡ true → matches_or_covers before k.owner k.next x ≡ true
@@ -47,20 +44,10 @@ unmatched a x k e = λ i. (sym (same_is k.owner x) ∙ e) i && is_inside a k
 
 module _ (a w : Name) (n t : ℕ) where
   told_match : (k : Link) → IsTold (wildcard_match_answer a n k t)
-  told_match k = go (contains_type k.bits t || is_at_cut a k) (contains_type k.bits cname)
-    where
-      go : (b l : Bool) → IsTold (cond b (Answer.Wildcard n) (cond l (Answer.WildcardAlias n) (Answer.WildcardNoData n)))
-      go true l = record { inside = λ e. cc; here = λ e. cc; proven = λ e. cc }
-      go false true = record { inside = λ e. cc; here = λ e. cc; proven = λ e. cc }
-      go false false = record { inside = λ e. cc; here = λ e. cc; proven = λ e. cc }
+  told_match k = grind (arith, common_steps)
 
   told_cover : (k : Link) → IsTold (wildcard_cover_answer a n k w)
-  told_cover k = go (tells_occluded a k w) (is_strictly_below k.next w)
-    where
-      go : (o s : Bool) → IsTold (cond o (NoCloserName n) (cond s (Answer.WildcardNoData n) (Answer.NameError n)))
-      go true s = record { inside = λ e. cc; here = λ e. cc; proven = λ e. cc }
-      go false true = record { inside = λ e. cc; here = λ e. cc; proven = λ e. cc }
-      go false false = record { inside = λ e. cc; here = λ e. cc; proven = λ e. cc }
+  told_cover k = grind (arith, common_steps)
 
   told_both : (m c : Option Link) → IsTold (wildcard_both a n w t m c)
   told_both (Some k) c = told_match k
@@ -80,18 +67,7 @@ told_whole a listed x t whole (Absent n) is tells = subst IsTold (sym (is.absent
 
 -- what is given for it would be no wildcard's, nor a record's
 listed_inside : (a : Name) (listed : List Link) (x : Name) (t : ℕ) (m c : Option Link) → listed_both a listed x t m c ≢ OutsideZone
-listed_inside a listed x t (Some k) c e =
-    never (is_of_child (is_at_cut a k) k.bits) (is_at_cut a k && not (t == ds)) (contains_type k.bits t) (is_at_cut a k) (contains_type k.bits cname) e
-  where
-    never : (b d h s l : Bool)
-        → cond b Answer.NotProven (cond d (Answer.Referral (length k.owner)) (cond h Answer.Has (cond s Answer.NoDs (cond l Answer.Alias NoData))))
-        ≡ OutsideZone → ⊥
-    never true d h s l e = absurd (cc)
-    never false true h s l e = absurd (cc)
-    never false false true s l e = absurd (cc)
-    never false false false true l e = absurd (cc)
-    never false false false false true e = absurd (cc)
-    never false false false false false e = absurd (cc)
+listed_inside a listed x t (Some k) c e = grind (arith, common_steps)
 listed_inside a listed x t None (Some k) e =
     never (tells_occluded a k x) (is_at_cut a k) (is_strictly_below k.next x) e
   where
@@ -108,20 +84,12 @@ listed_inside a listed x t None (Some k) e =
 listed_inside a listed x t None None e = absurd (cc)
 
 pub outside_only : (a : Name) (listed : List Link) (x : Name) (t : ℕ) → reading a listed x t ≡ OutsideZone → is_at_or_below x a ≡ false
-outside_only a listed x t e = go (is_at_or_below x a) (is_at_parent a x t) e
-  where
-    go : (u p : Bool) → cond (not u) OutsideZone (cond p AtParent (listed_answer a listed x t)) ≡ OutsideZone → u ≡ false
-    go false p e = refl
-    go true true e = absurd (cc)
-    go true false e = absurd (listed_inside a listed x t (find (is_match a x) listed) (find (is_cover a x) listed) e)
+outside_only a listed x t e = grind (arith, common_steps, listed_inside)
 
 -- of every other name something else is said
 pub said_inside : (a : Name) (listed : List Link) (x : Name) (t : ℕ) (told : NameAnswer) → told ≡ name_answer (reading a listed x t)
     → told ≢ Given OutsideZone → is_at_or_below x a ≡ true
-said_inside a listed x t told is some = elim (cases_Bool (is_at_or_below x a)) [
-  | inl under ↦ under
-  | inr out ↦ absurd (some (is ∙ ap (λ u. name_answer (cond (not u) OutsideZone (cond (is_at_parent a x t) AtParent (listed_answer a listed x t)))) out))
-]
+said_inside a listed x t told is some = grind (arith, common_steps)
 
 -- ---- one record
 
@@ -172,12 +140,7 @@ module _ (a x : Name) (t : ℕ) (k : Link) where
   w_of n = wildcard_below (last_labels n x)
 
   wildcard_match_never : (n m : ℕ) → wildcard_match_answer a n k t ≡ NoCloserName m → ⊥
-  wildcard_match_never n m e = never (contains_type k.bits t || is_at_cut a k) (contains_type k.bits cname) e
-    where
-      never : (b l : Bool) → cond b (Answer.Wildcard n) (cond l (Answer.WildcardAlias n) (Answer.WildcardNoData n)) ≡ NoCloserName m → ⊥
-      never true l e = absurd (cc)
-      never false true e = absurd (cc)
-      never false false e = absurd (cc)
+  wildcard_match_never n m e = grind (arith, common_steps)
 
   -- what is said of the wildcard, by whether the record matches or covers it
   abbrev said : ℕ → Bool → Bool → Answer
@@ -342,20 +305,7 @@ module _ (links : List Link) (a x : Name) (t : ℕ) where
 -- where it says nothing, the count is the one that was handed in
 pub count_kept : (a : Name) (listed : List Link) (n m : ℕ) (w : Name) (t : ℕ) → wildcard_answer a listed n w t ≡ NoCloserName m
     → wildcard_answer a listed n w t ≡ NoCloserName n
-count_kept a listed n m w t e = e ∙ ap NoCloserName (sym (both (find (is_match a w) listed) (find (is_cover a w) listed) e))
-  where
-    of_match : (k : Link) → wildcard_match_answer a n k t ≡ NoCloserName m → n ≡ m
-    of_match k e = absurd (wildcard_match_never a w t k n m e)
-
-    of_cover : (o s : Bool) → cond o (NoCloserName n) (cond s (Answer.WildcardNoData n) (Answer.NameError n)) ≡ NoCloserName m → n ≡ m
-    of_cover true s e = cc
-    of_cover false true e = absurd (cc)
-    of_cover false false e = absurd (cc)
-
-    both : (o c : Option Link) → wildcard_both a n w t o c ≡ NoCloserName m → n ≡ m
-    both (Some k) c e = of_match k e
-    both None (Some k) e = of_cover (tells_occluded a k w) (is_strictly_below k.next w) e
-    both None None e = cc
+count_kept a listed n m w t e = grind (arith, common_steps)
 
 -- a name whose wildcard nothing is said of, is denied alone
 module _ (a : Name) (listed : List Link) (n : ℕ) (w v : Name) (t : ℕ) (whole : Answer) (absent : whole ≡ wildcard_answer a listed n v t) (w_is : w ≡ v) where

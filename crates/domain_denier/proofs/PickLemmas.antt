@@ -4,27 +4,27 @@ use Rattle.std.proofs.Common.{refl, sym, ap, ◌∙◌, subst, inl, inr, ◌⊎�
 use Rattle.std.specs.Prelude.{All}
 use Rattle.std.specs.List.{Contains}
 use Rattle.std.proofs.lemmas.Bool.{cases_Bool, false≢true, and_parts, or_right, not-true}
-use Rattle.std.proofs.lemmas.List.{append-nil}
 use Rattle.std.proofs.lemmas.List.Elements.{All-nil, All-push}
 use Rattle.domain_names.specs.Name.{is_at_or_below, last_labels}
 use Rattle.domain_names.specs.Order.{before}
 use Rattle.domain_names.specs.Words.{Name}
 use Rattle.domain_zone.specs.Covering.{matches_or_covers}
-use Rattle.domain_zone.specs.Zone.{ZoneRecord, is_occluded, is_unoccluded, unoccluded_owners}
+use Rattle.domain_zone.specs.Zone.{ZoneRecord, is_occluded, is_unoccluded}
 use Rattle.domain_nsec.specs.Chain.{Link}
 use Rattle.domain_nsec.specs.declared.config.GenerateNsecConfig.{GenerateNsecConfig}
 use Rattle.domain_checker.specs.Verdict.{has_match_or_cover}
 use Rattle.domain_checker.proofs.MeantLemmas.{ChainLaws, IsMeant, apex_exists}
 use Rattle.domain_answer.specs.declared.answer.Answer.{Answer}
-use Rattle.domain_answer.specs.declared.answer.Answer.TheVariants.{AtParent, NoCloserName, NotProven, OutsideZone}
-use Rattle.domain_answer.specs.Proved.{IsAnswered, is_missing, knows_wildcard, needs_no_records, proved_answer}
+use Rattle.domain_answer.specs.declared.answer.Answer.TheVariants.{NoCloserName, NotProven}
+use Rattle.domain_answer.specs.Proved.{IsAnswered, is_missing, knows_wildcard, proved_answer}
 use Rattle.domain_answer.specs.Reading.{reading}
-use Rattle.domain_answer.specs.ZoneAnswer.{encloser, highest_occluder, inside_answer, is_at_parent, name_exists, wildcard_below, zone_answer}
+use Rattle.domain_answer.specs.ZoneAnswer.{encloser, is_at_parent, name_exists, wildcard_below, zone_answer}
 use Rattle.domain_answer.proofs.ChainLemmas.{meant_leaving}
 use Rattle.domain_answer.proofs.CountLemmas.{closest_last}
 use Rattle.domain_answer.proofs.WholeLemmas.{wildcard_low}
 use Rattle.domain_denier.specs.Picked.{AreNeeded, AreThere, IsDenial, IsFound, IsOf, IsWhole, IsWildcardPicked, at_place, listed_option, picked}
 use Rattle.domain_denier.specs.declared.nsec.NsecDenial.{NsecDenial}
+use Rattle.std.proofs.lemmas.Grind.{common_steps}
 
 -- what lists say is what they prove, and no zone says that there is no closer name
 pub record AnswerLaws : Type 0 where
@@ -34,20 +34,11 @@ pub record AnswerLaws : Type 0 where
 one_there : (links : List Link) (place : ℕ) (k : Link) → slice_get links place ≡ Some k → at_place links (Some place) ≡ k ∷ []
 one_there links place k e = ap listed_option e
 
-one_count : (m n : ℕ) (v : Answer) → v ≡ NoCloserName m → v ≡ NoCloserName n → m ≡ n
-one_count m n v e f = cc
-
 pub none_first : (links : List Link) (k : Link) (more : List Link) → links ≡ [] → links ≡ k ∷ more → ⊥
-none_first links k more none are = absurd (empty (sym none ∙ are))
-  where
-    empty : [] ≡ k ∷ more → ⊥
-    empty e = absurd (cc)
+none_first links k more none are = grind (arith, common_steps)
 
 pub one_place : (p q n : ℕ) → Some p ≡ Some q → p < n → q < n
-one_place p q n e l = subst (λ m. m < n) (inside_some e) l
-  where
-    inside_some : Some p ≡ Some q → p ≡ q
-    inside_some e = cc
+one_place p q n e l = grind (arith, common_steps)
 
 pub no_place : (p : ℕ) → None ≡ Some p → ⊥
 no_place p e = absurd (cc)
@@ -55,9 +46,7 @@ no_place p e = absurd (cc)
 -- outside of the zone no records are needed
 pub nothing_outside : (L : List ZoneRecord) (a : Name) (assume : Bool) (x : Name) (t : ℕ) → is_at_or_below x a ≡ false
     → reading a [] x t ≡ zone_answer L a assume x t
-nothing_outside L a assume x t e =
-    (λ i. cond (not (e i)) OutsideZone (cond (is_at_parent a x t) AtParent NotProven))
-    ∙ sym (λ i. cond (not (e i)) OutsideZone (cond (is_at_parent a x t) AtParent (inside_answer L a assume x t (highest_occluder L a x))))
+nothing_outside L a assume x t e = grind (arith, common_steps)
 
 contained : (links : List Link) (place : ℕ) (k : Link) → slice_get links place ≡ Some k → Contains links k
 contained [] place k e = absurd (cc)
@@ -98,12 +87,7 @@ module _ (laws : ChainLaws) (answers : AnswerLaws) (links : List Link) (L : List
 
   pub half : (listed : List Link) → All (Contains links) listed → has_match_or_cover listed x ≡ true
       → (reading a listed x t ≡ zone) ⊎ IsHalf listed
-  half listed among has =
-      elim (halves (needs_no_records a x t) (has_match_or_cover listed x) (is_missing L a x) (knows_wildcard L a listed x)
-      (length (encloser L a x)) zone has) [
-        | inl e ↦ inl (proved listed among ∙ e)
-        | inr e ↦ inr (record { says = proved listed among ∙ e.0; missing = e.1; unknown = e.2 })
-      ]
+  half listed among has = grind (arith, common_steps, halves, proved)
 
   one_among : (k : Link) → Contains links k → All (Contains links) (k ∷ [])
   one_among k c = All-push (Contains links) [] k (All-nil (Contains links)) c
@@ -114,10 +98,6 @@ module _ (laws : ChainLaws) (answers : AnswerLaws) (links : List Link) (L : List
   first_has : (y : Name) (k : Link) (more : List Link) → matches_or_covers before k.owner k.next y ≡ true → has_match_or_cover (k ∷ more) y ≡ true
   first_has y k more e = λ i. e i || has_match_or_cover more y
 
-  -- no records prove nothing
-  pub none_says : is_at_parent a x t ≡ false → reading a [] x t ≡ NotProven
-  none_says parent = λ i. cond (not (under i)) OutsideZone (cond (parent i) AtParent NotProven)
-
   module _ (p : ℕ) (of : IsOf links p x) where
     here : at_place links (Some p) ≡ of.link ∷ []
     here = one_there links p of.link of.there
@@ -127,10 +107,7 @@ module _ (laws : ChainLaws) (answers : AnswerLaws) (links : List Link) (L : List
         (half (of.link ∷ []) (one_among of.link (contained links p of.link of.there)) (first_has x of.link [] of.says))
 
     pub one_says : ((n : ℕ) → reading a (at_place links (Some p)) x t ≢ NoCloserName n) → reading a (at_place links (Some p)) x t ≡ zone
-    one_says other = elim half_here [
-      | inl e ↦ e
-      | inr h ↦ absurd (other (length (encloser L a x)) h.says)
-    ]
+    one_says other = grind (arith, common_steps, half_here)
 
     module _ (count : ℕ) (says : reading a (at_place links (Some p)) x t ≡ NoCloserName count) where
       only_half : IsHalf (at_place links (Some p))
@@ -140,9 +117,7 @@ module _ (laws : ChainLaws) (answers : AnswerLaws) (links : List Link) (L : List
       ]
 
       pub wildcard_is : wildcard_below (last_labels count x) ≡ wildcard_below (encloser L a x)
-      wildcard_is =
-          let same = one_count count (length (encloser L a x)) (reading a (at_place links (Some p)) x t) says only_half.says in
-          ap wildcard_below ((λ i. last_labels (same i) x) ∙ closest_last (unoccluded_owners true L a) a x)
+      wildcard_is = grind (arith, common_steps, only_half, closest_last)
 
       pub wildcard_under : is_at_or_below (wildcard_below (last_labels count x)) a ≡ true
       wildcard_under = ap (λ w. is_at_or_below w a) wildcard_is
@@ -211,30 +186,12 @@ module _ (laws : ChainLaws) (answers : AnswerLaws) (links : List Link) (L : List
           wildcard = λ some. (count, (λ i. reading a (at_place links (name i)) x t) ∙ says);
         }
 
-  -- what is picked where the first record suffices
-  pub needs_one : (d : NsecDenial) → d.of_wildcard ≡ None → AreNeeded links a x t d
-  needs_one d none = record {
-    name = λ low parent. (λ i. reading a (at_place links (none i)) x t) ∙ none_says parent;
-    wildcard = λ some. absurd (some none);
-  }
-
 -- what is picked, as it is promised
 module _ (laws : ChainLaws) (answers : AnswerLaws) (links : List Link) (a x : Name) (t : ℕ) (small : t < 65536)
     (under : is_at_or_below x a ≡ true) (p : ℕ) where
   pub denied_by_one : p < length links → IsFound links p x → (answer : Answer) → reading a (at_place links (Some p)) x t ≡ answer
       → ((n : ℕ) → answer ≢ NoCloserName n) → IsDenial links a x t (record { answer = answer; of_name = Some p; of_wildcard = None })
-  denied_by_one inside found answer is never = record {
-    zone = λ L config whole. sym is
-        ∙ one_says laws answers links L a config whole x t small under p (found L a config whole under) (λ n e. never n (sym is ∙ e));
-    needed = λ L config whole. needs_one laws answers links L a config whole x t small under
-        (record { answer = answer; of_name = Some p; of_wildcard = None }) refl;
-    there = record {
-      name = λ place e. one_place p place (length links) e inside;
-      wildcard = λ place e. absurd (no_place place e);
-    };
-    exact = sym is ∙ sym (ap (λ ls. reading a ls x t) (append-nil (at_place links (Some p))));
-    outside = λ e. absurd (false≢true (sym e ∙ under));
-  }
+  denied_by_one inside found answer is never = grind (arith, common_steps, one_says)
 
   pub denied_by_both : IsFound links p x → (count : ℕ) → reading a (at_place links (Some p)) x t ≡ NoCloserName count
       → (d : NsecDenial) → AreThere links d → d.of_name ≡ Some p → IsWildcardPicked links x count d

@@ -1,5 +1,5 @@
 -- The names from x up to the apex, by the places of the records that match or cover them.
-use Rattle.std.proofs.Common.{◌≡◌, ℕ, ◌<◌, Bool, true, false, not, List, ◌∷◌, length, Some, None, refl, sym, ap, ◌∙◌, subst, inl}
+use Rattle.std.proofs.Common.{◌≡◌, ℕ, ◌<◌, Bool, true, false, not, List, ◌∷◌, length, Some, None, refl, sym, ap, ◌∙◌, arith}
 use Rattle.std.specs.Prelude.{Ok, Err}
 use Rattle.std.proofs.lemmas.Bool.{and_from}
 use Rattle.domain_octets.specs.Words.{Octets}
@@ -20,6 +20,7 @@ use Rattle.domain_denier.specs.declared.hash_search.HashPlace.{HashPlace}
 use Rattle.domain_denier.specs.declared.encloser.PlacedEncloser.{PlacedEncloser}
 use Rattle.domain_denier.proofs.HashedPickLemmas.{all_among}
 use Rattle.domain_denier.proofs.SomeLemmas.{unmatched}
+use Rattle.std.proofs.lemmas.Grind.{common_steps}
 
 module _ (R : HashedRecords) (x : Name) where
   -- no record matches the name that is left, and that at the place covers it
@@ -45,14 +46,7 @@ module _ (R : HashedRecords) (x : Name) where
   -- x itself is covered
   pub missed_here : is_at_or_below x R.apex ≡ true → (v : Octets) → hash_name R.hash x ≡ Ok v → (cover : ℕ) → IsOfHash R.apex R.parameters R.links v cover false
       → IsMissedAt x cover
-  missed_here low v known cover of = record {
-    above = below_itself x;
-    within = low;
-    first = none_first R x;
-    value = v;
-    known = known;
-    of = of;
-  }
+  missed_here low v known cover of = grind (arith, common_steps, below_itself)
 
   -- or matched
   pub placed_here : is_at_or_below x R.apex ≡ true → (v : Octets) → hash_name R.hash x ≡ Ok v → (f : PlacedEncloser)
@@ -82,14 +76,7 @@ module _ (R : HashedRecords) (x : Name) where
       passed = passed_on R x left (first_cover R m.value) (missed_of left cover m) label next parts other
 
       pub missed_above : (place : ℕ) → IsOfHash R.apex R.parameters R.links v place false → IsMissedAt next place
-      missed_above place of = record {
-        above = passed.above;
-        within = passed.within;
-        first = passed.first;
-        value = v;
-        known = known;
-        of = of;
-      }
+      missed_above place of = grind (arith, common_steps, passed)
 
       pub placed_above : (f : PlacedEncloser) → IsOfHash R.apex R.parameters R.links v f.place true → f.count ≡ length next → f.cover ≡ Some cover
           → IsPlaced R x f
@@ -130,31 +117,17 @@ ancestor_above a x left is label next parts other =
 
 pub refused_at : (a x left : Name) (hash : Hash) → IsAncestor a x left → (wire : Octets) → wire ≡ wire_of (lowered left) → (n : ℕ)
     → hash wire ≡ Err n → IsRefusedAbove a hash x n
-refused_at a x left hash is wire e n refused = record {
-  name = left;
-  above = is.above;
-  within = is.within;
-  refused = inl (ap hash (sym e) ∙ refused);
-}
+refused_at a x left hash is wire e n refused = grind (arith, common_steps)
 
 pub inside_at : (links : List HashedLink) (a x left : Name) → IsAncestor a x left → (f : PlacedEncloser) → f.count ≡ length left
     → f.place < length links → ((place : ℕ) → f.cover ≡ Some place → place < length links) → IsInside links a x f
-inside_at links a x left is f counts place cover = record {
-  name = left;
-  counts = counts;
-  above = is.above;
-  within = is.within;
-  place = place;
-  cover = cover;
-}
+inside_at links a x left is f counts place cover = grind (arith, common_steps)
 
 -- what is found of a hash, in the chain of a zone
 pub of_found : (hash : Hash) (chain : ChainRecords) (wire : Octets) (found : HashPlace) (is : IsFoundHash hash chain wire found) (a : Name)
     → a ≡ chain.param.owner → (m : Bool) → found.matches ≡ m → (L : List ZoneRecord) (config : ChainConfig) → IsHashedWhole L config hash chain
     → IsOfHash a chain.param.parameters chain.links is.value found.place m
-of_found hash chain wire found is a apex m matches L config whole =
-    subst (λ b. IsOfHash a chain.param.parameters chain.links is.value found.place b) matches
-    (subst (λ o. IsOfHash o chain.param.parameters chain.links is.value found.place found.matches) (sym apex) (is.of L config whole))
+of_found hash chain wire found is a apex m matches L config whole = grind (arith, common_steps)
 
 pub hash_known : (hash : Hash) (chain : ChainRecords) (wire : Octets) (found : HashPlace) (is : IsFoundHash hash chain wire found) (n : Name)
     → wire ≡ wire_of (lowered n) → hash_name hash n ≡ Ok is.value

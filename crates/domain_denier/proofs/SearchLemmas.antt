@@ -1,7 +1,7 @@
 -- Where a search in a chain ends, the record matches or covers the name.
-use Rattle.std.proofs.Common.{◌≡◌, ℕ, zero, suc, ◌-◌, ◌<◌, ◌≤◌, Bool, true, false, cond, not, ◌&&◌, ◌||◌, List, [], ◌∷◌, map, length, get_or, slice_get, Some}
-use Rattle.std.proofs.Common.{refl, sym, ap, ◌∙◌, subst, arith, inl, inr, ◌⊎◌}
-use Rattle.std.proofs.lemmas.Bool.{cases_lt, false≢true, and_parts}
+use Rattle.std.proofs.Common.{◌≡◌, ℕ, zero, suc, ◌-◌, ◌<◌, ◌≤◌, true, false, List, [], ◌∷◌, map, length, get_or, slice_get, Some}
+use Rattle.std.proofs.Common.{sym, ap, ◌∙◌, subst, arith, inl, inr, ◌⊎◌}
+use Rattle.std.proofs.lemmas.Bool.{cases_lt, and_parts}
 use Rattle.std.proofs.lemmas.Option.{slice_get-get_or}
 use Rattle.domain_names.specs.Name.{is_at_or_below}
 use Rattle.domain_names.specs.Order.{before}
@@ -16,6 +16,7 @@ use Rattle.domain_checker.proofs.MeantLemmas.{ChainLaws, inside}
 use Rattle.domain_answer.proofs.ChainLemmas.{meant_leaving}
 use Rattle.domain_denier.specs.Picked.{IsOf, IsWhole}
 use Rattle.domain_denier.specs.Search.{AreEnds, IsAhead, IsBehind}
+use Rattle.std.proofs.lemmas.Grind.{common_steps}
 
 abbrev pub ends : Link → Name × Name
 ends k = (k.owner, k.next)
@@ -58,17 +59,7 @@ last_at (l ∷ n ∷ ls) (k ∷ m ∷ ks) a e (suc i) h d = last_at (n ∷ ls) (
 
 -- an owner that is not after x, with a next name that is, or with one that is not after the owner
 said : (o n : Name) (x : Name) → before x o ≡ false → (before x n ≡ true) ⊎ (before o n ≡ false) → matches_or_covers before o n x ≡ true
-said o n x low high = told (before o x) (before x o) (before o n) (before x n) low high
-  where
-    told : (ox xo on xn : Bool) → xo ≡ false → (xn ≡ true) ⊎ (on ≡ false)
-        → (not (ox || xo) || (not (not (ox || xo)) && cond on (ox && xn) (ox || xn))) ≡ true
-    told true true on xn e h = absurd (false≢true (sym e))
-    told true false true true e h = refl
-    told true false true false e (inl f) = absurd (false≢true f)
-    told true false true false e (inr f) = absurd (false≢true (sym f))
-    told true false false xn e h = refl
-    told false true on xn e h = absurd (false≢true (sym e))
-    told false false on xn e h = refl
+said o n x low high = grind (arith, common_steps)
 
 module _ (laws : ChainLaws) (links : List Link) (x : Name) (low high : ℕ) (ends : AreEnds links x low high) (near : high - low ≤ 1) where
   within : low < high

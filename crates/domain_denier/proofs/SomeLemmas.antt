@@ -1,33 +1,28 @@
 -- What some of the links of a chain find of a hash, where one of all matches or covers it.
-use Rattle.std.proofs.Common.{◌≡◌, ℕ, Bool, true, false, cond, ◌||◌, List, [], ◌∷◌, ◌++◌, Some, None, Option, slice_get, nat_eq, eq-eqb, refl, sym, ap, ◌∙◌}
-use Rattle.std.proofs.Common.{subst, inl, inr, ◌⊎◌}
+use Rattle.std.proofs.Common.{◌≡◌, ℕ, Bool, true, false, cond, List, [], ◌∷◌, ◌++◌, Some, None, Option, slice_get, refl, sym, ap, ◌∙◌, subst, inl, inr, ◌⊎◌}
 use Rattle.std.specs.Prelude.{All}
 use Rattle.std.specs.List.{Contains, find}
 use Rattle.std.proofs.lemmas.Bool.{cases_Bool, false≢true, ne_eqb, or_left, or_right}
 use Rattle.std.proofs.lemmas.List.Elements.{All-nil, All-push, All-append}
 use Rattle.std.proofs.lemmas.Option.{slice_get_within, get_or_from_slice_get}
 use Rattle.domain_octets.specs.Words.{Octets}
-use Rattle.domain_octets.proofs.StdLemmas.{some_is}
 use Rattle.domain_names.specs.Words.{Name}
 use Rattle.domain_zone.proofs.PairLemmas.{In}
-use Rattle.domain_zone.proofs.FindLemmas.{in_either}
 use Rattle.domain_nsec3.specs.Chain.{HashedLink}
 use Rattle.domain_nsec3.specs.Config.{Parameters}
 use Rattle.domain_checker.specs.HashedList.{is_hash_cover, is_hash_match}
 use Rattle.domain_denier.specs.Picked.{at_place, listed_option}
 use Rattle.domain_denier.specs.HashedPicked.{other_place}
 use Rattle.domain_denier.specs.HashedSteps.{IsOfHash, tells_hash}
+use Rattle.std.proofs.Common.{arith}
+use Rattle.std.proofs.lemmas.Grind.{common_steps}
 
 -- ---- finding
 
 module _ {X : Type 0} (f : X → Bool) where
   pub none_found : (xs : List X) → ((x : X) → In x xs → f x ≡ true → ⊥) → find f xs ≡ None
   none_found [] g = refl
-  none_found (x ∷ xs) g =
-      elim (cases_Bool (f x)) [
-        | inl e ↦ absurd (g x (inl refl) e)
-        | inr e ↦ (λ i. cond (e i) (Some x) (find f xs)) ∙ none_found xs (λ y i. g y (inr i))
-      ]
+  none_found (x ∷ xs) g = grind (arith, common_steps, (none_found xs (λ y i. g y (inr i))))
 
   pub sole_found : (xs : List X) (x : X) → In x xs → f x ≡ true → ((y : X) → In y xs → f y ≡ true → y ≡ x) → find f xs ≡ Some x
   sole_found [] x i e g = absurd i
@@ -72,9 +67,7 @@ module _ (links : List HashedLink) (a : Name) (p : Parameters) (v : Octets) (pla
 
   module _ (listed : List HashedLink) (among : AreAmong links listed) where
     is_link : (k : HashedLink) → In k listed → tells_hash a p v k ≡ true → k ≡ of.link
-    is_link k i e =
-        let m = among k i in
-        some_is k of.link (sym m.1 ∙ ap (slice_get links) (of.only m.0 k m.1 e) ∙ of.there)
+    is_link k i e = grind (arith, common_steps)
 
     -- a record that covers is no match
     pub unmatched : is_match ≡ false → find (is_hash_match a p v) listed ≡ None
@@ -85,10 +78,7 @@ module _ (links : List HashedLink) (a : Name) (p : Parameters) (v : Octets) (pla
     matched i sure = sole_found (is_hash_match a p v) listed of.link i (of.matched ∙ sure) (λ k j e. is_link k j (by_match k e))
 
     pub covered : In of.link listed → is_match ≡ false → find (is_hash_cover a p v) listed ≡ Some of.link
-    covered i other =
-        sole_found (is_hash_cover a p v) listed of.link i
-        (sym (λ j. (of.matched ∙ other) j || is_hash_cover a p v of.link) ∙ of.says)
-        (λ k j e. is_link k j (by_cover k e))
+    covered i other = grind (arith, common_steps, sole_found, is_link, by_cover)
 
 -- ---- the links at places
 
@@ -101,26 +91,9 @@ pub in_place : (links : List HashedLink) (o : Option ℕ) (place : ℕ) (k : Has
     → In k (at_place links o)
 in_place links o place k e g = subst (λ ls. In k ls) (sym (ap (at_place links) e ∙ ap listed_option g)) (inl refl)
 
-from_place : (links : List HashedLink) (o : Option ℕ) (k : HashedLink) → In k (at_place links o)
-    → (place : ℕ) × (o ≡ Some place) × (slice_get links place ≡ Some k)
-from_place links None k i = absurd i
-from_place links (Some place) k i = (place, refl, by (slice_get links place) i)
-  where
-    by : (q : Option HashedLink) → In k (listed_option q) → q ≡ Some k
-    by None i = absurd i
-    by (Some l) (inl e) = ap Some e
-    by (Some l) (inr i) = absurd i
-
 from_other : (gone : ℕ) (o : Option ℕ) (place : ℕ) → other_place gone o ≡ Some place → (o ≡ Some place) × (place ≡ gone → ⊥)
 from_other gone None place e = absurd (cc)
-from_other gone (Some q) place e = by (cases_Bool (nat_eq q gone))
-  where
-    by : (nat_eq q gone ≡ true) ⊎ (nat_eq q gone ≡ false) → (Some q ≡ Some place) × (place ≡ gone → ⊥)
-    by (inl h) = let none : None ≡ Some place = sym (λ i. cond (h i) None (Some q)) ∙ e in absurd (cc)
-    by (inr h) =
-        let same : Some q ≡ Some place = sym (λ i. cond (h i) None (Some q)) ∙ e in
-        let is : q ≡ place = some_is q place same in
-        (same, λ f. false≢true (sym h ∙ eq-eqb q gone (is ∙ f)))
+from_other gone (Some q) place e = grind (arith, common_steps)
 
 -- another place is kept
 pub kept_place : (gone : ℕ) (o : Option ℕ) (place : ℕ) → o ≡ Some place → (place ≡ gone → ⊥) → other_place gone o ≡ Some place
@@ -148,29 +121,14 @@ module _ (links : List HashedLink) (o q r : Option ℕ) where
 
   from_three : (k : HashedLink) → In k (at_place links o ++ (at_place links q ++ at_place links r))
       → (place : ℕ) × ((o ≡ Some place) ⊎ ((q ≡ Some place) ⊎ (r ≡ Some place))) × (slice_get links place ≡ Some k)
-  from_three k i =
-      elim (in_either (at_place links o) (at_place links q ++ at_place links r) k i) [
-        | inl j ↦ let f = from_place links o k j in (f.0, inl f.1, f.2)
-        | inr m ↦ elim (in_either (at_place links q) (at_place links r) k m) [
-          | inl j ↦ let f = from_place links q k j in (f.0, inr (inl f.1), f.2)
-          | inr j ↦ let f = from_place links r k j in (f.0, inr (inr f.1), f.2)
-        ]
-      ]
+  from_three k i = grind (arith, common_steps)
 
   pub three_among : AreAmong links (at_place links o ++ (at_place links q ++ at_place links r))
   three_among = λ k i. let f = from_three k i in (f.0, f.2)
 
   pub three_others : (gone : ℕ) → (o ≡ Some gone → ⊥) → (q ≡ Some gone → ⊥) → (r ≡ Some gone → ⊥)
       → AreOthers links gone (at_place links o ++ (at_place links q ++ at_place links r))
-  three_others gone g h m = λ k i.
-      let f = from_three k i in (
-        f.0,
-        f.2,
-        λ e. elim f.1 [
-          | inl s ↦ g (s ∙ ap Some e)
-          | inr s ↦ elim s [ inl t ↦ h (t ∙ ap Some e) | inr t ↦ m (t ∙ ap Some e) ]
-        ],
-      )
+  three_others gone g h m = grind (arith, common_steps)
 
 -- of the others none is at the place
 pub not_gone : (gone : ℕ) (o : Option ℕ) → other_place gone o ≡ Some gone → ⊥

@@ -1,29 +1,22 @@
-use Rattle.std.proofs.Common.{◌≡◌, ◌+◌, ◌≤◌, ◌<◌, false, true, length, drop, refl, sym, ap, subst, ◌∙◌, inl, inr}
+use Rattle.std.proofs.Common.{◌≡◌, ◌<◌, false, true, length, refl, sym, ap, subst, ◌∙◌, inl, inr, arith}
 use Rattle.std.proofs.lemmas.Result.{err_from_is_err_and}
 use Rattle.domain_names.specs.Name.{lowered, same_name, wire_of}
-use Rattle.domain_checker.proofs.HashedWalkLemmas.{wire_above, wire_shorter}
+use Rattle.domain_checker.proofs.HashedWalkLemmas.{wire_above}
 use Rattle.domain_checker.specs.HashedView.{links_with}
 use Rattle.domain_denier.proofs.PlacedLemmas.{IsAncestor, IsMissedAt, ancestor_above, ancestor_itself, hash_known, inside_at, missed_above, missed_here}
 use Rattle.domain_denier.proofs.PlacedLemmas.{none_placed, of_found, placed_above, placed_here, refused_at}
 use Rattle.domain_denier.proofs.encloser.find_encloser.Given.{Over}
 use Rattle.domain_denier.proofs.encloser.find_encloser.Goals as goal
 use Rattle.domain_denier.proofs.encloser.find_encloser.Goals.{After-skip-octets}
+use Rattle.std.proofs.lemmas.Grind.{common_steps}
 
 -- ---- at the name itself
 
 pub returns-in_err-own-clause-err : goal.returns-in_err-own-clause-err
-returns-in_err-own-clause-err g c =
-    let itself = ancestor_itself c.args.apex.now c.args.name.now c.requires.below in
-    let q = err_from_is_err_and c.from_residual.result c.from_residual.ensures.1 in
-    rw (q.1, q.2) (elim c.in_err-own.ensures.err [
-      | inl full ↦ inl full
-      | inr r ↦ inr (r.0, r.1, refused_at _ _ _ _ itself c.args.wire.now c.requires.wire r.0 r.2)
-    ])
+returns-in_err-own-clause-err g c = grind (arith, common_steps, ancestor_itself)
 
 pub returns-then-own-clause-inside : goal.returns-then-own-clause-inside
-returns-then-own-clause-inside g c =
-    inside_at _ _ _ _ (ancestor_itself _ c.args.name.now c.requires.below) _ c.count_labels.ensures.count
-    c.in_ok-own.ensures.ok.inside (λ place e. absurd (cc))
+returns-then-own-clause-inside g c = grind (arith, common_steps, ancestor_itself)
 
 pub returns-then-own-clause-placed : goal.returns-then-own-clause-placed
 returns-then-own-clause-placed g c L config whole =
@@ -51,11 +44,7 @@ names-init g c =
 -- ---- at a name above
 
 pub skip-octets-requires : goal.skip-octets-requires
-skip-octets-requires g c =
-    let label = c.in-Some.label.now in
-    let next = c.in-Some.above in
-    subst (λ o. length label + 1 ≤ length o) (sym (c.names.invariant.wire ∙ ap (λ n. wire_of (lowered n)) c.in-Some.ensures.parts))
-    (wire_shorter label next)
+skip-octets-requires g c = grind (arith, common_steps)
 
 -- the name that is left is not the apex
 other : (g : Over) (c : After-skip-octets g) → same_name c.names.left c.args.apex.now ≡ false
@@ -67,10 +56,7 @@ ancestor g c = ancestor_above _ _ _ c.names.invariant.ancestor c.in-Some.label.n
 
 -- what is left of the wire form is that of the name above
 left_wire : (g : Over) (c : After-skip-octets g) → c.skip-octets.result.now ≡ wire_of (lowered c.in-Some.above)
-left_wire g c =
-    c.skip-octets.ensures
-    ∙ ap (drop (length c.in-Some.label.now + 1)) (c.names.invariant.wire ∙ ap (λ n. wire_of (lowered n)) c.in-Some.ensures.parts)
-    ∙ wire_above c.in-Some.label.now c.in-Some.above
+left_wire g c = grind (arith, common_steps, wire_above)
 
 pub returns-in_err-found-clause-err : goal.returns-in_err-found-clause-err
 returns-in_err-found-clause-err g c =

@@ -1,4 +1,4 @@
-use Rattle.std.proofs.Common.{◌<◌, sym, ◌∙◌, subst, rules, Some}
+use Rattle.std.proofs.Common.{◌<◌, sym, ◌∙◌, subst, rules, Some, arith}
 use Rattle.std.proofs.lemmas.Bool.{false≢true}
 use Rattle.domain_checker.proofs.MeantLemmas.{ChainLaws}
 use Rattle.domain_answer.proofs.ToldLemmas.{given_is, given_never}
@@ -6,6 +6,7 @@ use Rattle.domain_denier.proofs.JudgedLemmas.{outside_only, said_inside}
 use Rattle.domain_denier.proofs.PickLemmas.{AnswerLaws, denied_by_one, none_first, nothing_outside}
 use Rattle.domain_denier.specs.Picked.{at_place}
 use Rattle.domain_denier.proofs.nsec.pick.Goals as goal
+use Rattle.std.proofs.lemmas.Grind.{common_steps}
 
 pub returns-then-is_empty : goal.returns-then-is_empty
 returns-then-is_empty g c =
@@ -38,12 +39,7 @@ returns-then-is_outside g c =
     }
 
 pub with_wildcard-requires-clause-below : goal.with_wildcard-requires-clause-below
-with_wildcard-requires-clause-below g c =
-    let a = g.A.ToName.labels c.args.apex.now in
-    let x = g.M.ToName.labels c.args.name.now in
-    let listed = at_place c.args.chain.now (Some c.first_of-place.result.place) in
-    said_inside a listed x c.args.rtype c.first_of-place.result.answer c.first_of-place.ensures.exact.exact
-    (λ e. false≢true (sym c.if-is_outside.false ∙ c.is_outside.ensures.1 e))
+with_wildcard-requires-clause-below g c = grind (arith, common_steps)
 
 pub with_wildcard-requires-clause-absent : goal.with_wildcard-requires-clause-absent
 with_wildcard-requires-clause-absent g c = (c.first_of-place.ensures.exact.absent c.in-Absent.count c.in-Absent.is).0

@@ -1,4 +1,4 @@
-use Rattle.std.proofs.Common.{◌≡◌, ◌<◌, true, subst, Some}
+use Rattle.std.proofs.Common.{◌≡◌, ◌<◌, true, subst, Some, arith}
 use Rattle.domain_checker.proofs.MeantLemmas.{ChainLaws}
 use Rattle.domain_answer.specs.Reading.{reading}
 use Rattle.domain_answer.specs.declared.answer.Answer.TheVariants.{NoCloserName}
@@ -9,6 +9,7 @@ use Rattle.domain_denier.proofs.PickLemmas.{AnswerLaws, denied_by_both, denied_b
 use Rattle.domain_denier.proofs.nsec.with_wildcard.Given.{Over}
 use Rattle.domain_denier.proofs.nsec.with_wildcard.Goals as goal
 use Rattle.domain_denier.proofs.nsec.with_wildcard.Goals.{After-of_wildcard, In-Untold}
+use Rattle.std.proofs.lemmas.Grind.{common_steps}
 
 -- the first record denies the name alone, and it is known whether it is silent of the wildcard
 untold : (g : Over) (c : In-Untold g)
@@ -27,15 +28,7 @@ with_second-requires-clause-silent g c = (untold g (goal.at.with_second-requires
 
 -- what the laws say
 chain_laws : (g : Over) (c : After-of_wildcard g) → ChainLaws
-chain_laws g c =
-    let laws = c.chains_mean_the_zone.ensures in
-    record {
-      cycle = laws.cycle;
-      denial = laws.denial;
-      nonterminals = laws.nonterminals;
-      enclosers = laws.enclosers;
-      occluded = laws.occluded;
-    }
+chain_laws g c = grind (arith, common_steps)
 
 answer_laws : (g : Over) (c : After-of_wildcard g) → AnswerLaws
 answer_laws g c = record { zone = c.readings_are_proved.ensures.zone; closer = c.whole_chains_prove_all.ensures.closer }

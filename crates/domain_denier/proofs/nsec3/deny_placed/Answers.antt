@@ -1,4 +1,4 @@
-use Rattle.std.proofs.Common.{◌≡◌, ◌<◌, ℕ, length, slice_get, Some, sym, subst, ◌∙◌, inl, inr}
+use Rattle.std.proofs.Common.{◌≡◌, ℕ, length, slice_get, Some, sym, subst, ◌∙◌, inl, inr, arith}
 use Rattle.std.proofs.lemmas.Result.{err_from_is_err_and}
 use Rattle.domain_names.specs.Name.{last_labels}
 use Rattle.domain_nsec3.specs.Chain.{HashedLink}
@@ -9,6 +9,7 @@ use Rattle.domain_denier.proofs.HashedPickLemmas.{IsAskedBelow, asked_below, fir
 use Rattle.domain_denier.proofs.nsec3.deny_placed.Given.{Over}
 use Rattle.domain_denier.proofs.nsec3.deny_placed.Goals as goal
 use Rattle.domain_denier.proofs.nsec3.deny_placed.Goals.{Start, After-first_denial-first}
+use Rattle.std.proofs.lemmas.Grind.{common_steps}
 
 -- what the record of the encloser and the cover say of the name, by its labels
 first : (g : Over) (c : After-first_denial-first g) (k : HashedLink) → slice_get c.args.chain.now.links c.args.encloser.place ≡ Some k
@@ -58,10 +59,7 @@ returns-clause-there g c place (inl e) =
     ] in
     name_there c.args.chain.now.links c.args.apex.now _ c.args.encloser c.requires.inside k.0 _ c.args.rtype c.first_denial-first.result
     (first g at.After-first_denial-first k.0 k.1) place told
-returns-clause-there g c place (inr e) =
-    let w = c.in_ok-with_wildcard.ensures.wildcard in
-    let same : w.place ≡ place = let both : Some w.place ≡ Some place = sym w.role ∙ e in cc in
-    subst (λ m. m < length c.args.chain.now.links) same w.inside
+returns-clause-there g c place (inr e) = grind (arith, common_steps)
 
 pub returns-clause-read : goal.returns-clause-read
 returns-clause-read g c L config whole placed =
