@@ -1,7 +1,8 @@
 -- tables of numbers and names, entry by entry
-use Rattle.std.proofs.Common.{◌≡◌, ◌≢◌, ℕ, ◌+◌, ◌-◌, ◌<◌, List, [], Bool, true, false, Some, None, map, length, get_or, drop, sym, ap, subst, ◌∙◌, arith, ◌↔◌}
+use Rattle.std.proofs.lemmas.Grind.{common_steps}
+use Rattle.std.proofs.Common.{◌≡◌, ℕ, ◌+◌, ◌-◌, ◌<◌, List, [], Bool, true, false, Some, None, map, length, get_or, drop, sym, ap, subst, ◌∙◌, arith, ◌↔◌}
 use Rattle.std.proofs.Common.{IsTrue, length-append}
-use Rattle.std.specs.Prelude.{◌==◌, ◌^◌, Option, IsSome, IfSome, IfNone}
+use Rattle.std.specs.Prelude.{◌^◌, Option, IsSome, IfSome, IfNone}
 use Rattle.std.specs.Option.{SomeIff}
 use Rattle.std.specs.Str.Parse.{IsNumeral, digits_value}
 use Rattle.domain_base.specs.Scan.{IsNumber}
@@ -12,7 +13,7 @@ use Rattle.std.specs.Char.{to_ascii_lowercase}
 use Rattle.std.specs.Cmp.Lexicographic.{bytes_decides}
 use Rattle.std.proofs.lemmas.List.{drop_more, length-map, get_or-map, get_or_append_left, drop_at}
 use Rattle.std.proofs.lemmas.Bool.Decides.{nat_tests, same_from_decides}
-use Rattle.domain_base.specs.Named.{Named, same_text, number_named, name_of, HasPrefix, IsWithoutPrefix, NumberText, by_name, by_number, entries}
+use Rattle.domain_base.specs.Named.{Named, same_text, number_named, HasPrefix, IsWithoutPrefix, NumberText, by_name, by_number, entries}
 
 abbrev pub Row : Type 0
 Row = ℕ × Bor (List ℕ)
@@ -34,12 +35,6 @@ module _ (table : List Row) (i : ℕ) (below : i < length table) where
       ≡ number_named (entries (drop (i + 1) table)) text
   named_later text same test is = let e = sym (text_test same (get_or table i no_row).1.now text test) ∙ is in rw (drop_more table i no_row below, e)
 
-  pub name_here : (n : ℕ) → (get_or table i no_row).0 ≡ n → name_of (entries (drop i table)) n ≡ Some (get_or table i no_row).1.now
-  name_here n is = let e : ((get_or table i no_row).0 == n) ≡ true = grind (arith, nat_tests) in rw (drop_more table i no_row below, e)
-
-  pub name_later : (n : ℕ) → (get_or table i no_row).0 ≢ n → name_of (entries (drop i table)) n ≡ name_of (entries (drop (i + 1) table)) n
-  name_later n other = let e : ((get_or table i no_row).0 == n) ≡ false = grind (arith, nat_tests) in rw (drop_more table i no_row below, e)
-
 same_length : (front prefix : List ℕ) → map to_ascii_lowercase front ≡ map to_ascii_lowercase prefix → length front ≡ length prefix
 same_length front prefix same = sym (length-map front to_ascii_lowercase) ∙ ap length same ∙ length-map prefix to_ascii_lowercase
 
@@ -52,7 +47,7 @@ low_at front prefix i same ascii below =
     let front_below : i < length front = omega (arith, same_length front prefix same) in
     let e : to_ascii_lowercase (get_or front i 0) ≡ to_ascii_lowercase (get_or prefix i 0) =
     sym (get_or-map to_ascii_lowercase front i 0 0 front_below) ∙ ap (λ l. get_or l i 0) same ∙ get_or-map to_ascii_lowercase prefix i 0 0 below in
-    lowered_low (get_or front i 0) (get_or prefix i 0) e (ascii i)
+    lowered_low _ (get_or prefix i 0) e (ascii i)
 
 -- a text that has the prefix can be cut behind it
 pub cut_behind : (prefix text rest : List ℕ) → IsUtf8 text → IsAscii prefix → 0 < length prefix → HasPrefix prefix text rest
@@ -60,8 +55,8 @@ pub cut_behind : (prefix text rest : List ℕ) → IsUtf8 text → IsAscii prefi
 cut_behind prefix text rest utf8 ascii some has =
     let i = length prefix - 1 in
     let long = same_length has.front prefix has.same in
-    let read : get_or text i 0 ≡ get_or has.front i 0 = ap (λ l. get_or l i 0) has.parts ∙ get_or_append_left has.front rest 0 i (omega arith) in
-    let low : get_or text i 0 < 128 = rw read (low_at has.front prefix i has.same ascii (omega arith)) in
+    let read : get_or text i 0 ≡ get_or has.front i 0 = ap (λ l. get_or l i 0) has.parts ∙ get_or_append_left _ rest 0 i (omega arith) in
+    let low : get_or text i 0 < 128 = rw read (low_at _ prefix i has.same ascii (omega arith)) in
     let inside : i < length text = omega (arith, ap length has.parts, length-append has.front rest) in
     subst (IsCharBoundary text) (let e : i + 1 ≡ length prefix = omega arith in e) (IsCharBoundary-after_ascii text i utf8 inside low)
 
@@ -69,8 +64,7 @@ pub prefix_rest : (prefix text rest : List ℕ) → HasPrefix prefix text rest �
 prefix_rest prefix text rest has = ap (drop (length prefix)) has.parts ∙ drop_at has.front rest (length prefix) (same_length has.front prefix has.same)
 
 pub none_and_some : {T : Type 0} (o : Option T) → o ≡ None → IsSome o → ⊥
-none_and_some None is some = let e = some in cc
-none_and_some (Some x) is some = cc
+none_and_some o is some = grind (arith, common_steps)
 
 module _ (table : List Named) (prefix text : List ℕ) where
   pub no_number : (n : ℕ) → number_named table text ≡ None → IsWithoutPrefix prefix text → NumberText table prefix text n → ⊥

@@ -1,5 +1,6 @@
 -- what numbers, types, classes and names are written as is read back
-use Rattle.std.proofs.Common.{◌≡◌, ◌≢◌, ℕ, ◌+◌, ◌-◌, ◌*◌, ◌/◌, ◌%◌, ◌<◌, true, false, List, [], ◌∷◌, ◌++◌, Some, None, get_or, length, drop, codes, refl, ap}
+use Rattle.std.proofs.lemmas.Grind.{common_steps}
+use Rattle.std.proofs.Common.{◌≡◌, ◌≢◌, ℕ, ◌+◌, ◌-◌, ◌*◌, ◌/◌, ◌%◌, ◌<◌, true, false, List, [], ◌∷◌, ◌++◌, Some, None, length, drop, codes, refl, ap}
 use Rattle.std.proofs.Common.{sym, subst, ◌∙◌, arith, inl, inr}
 use Rattle.std.specs.Prelude.{◌^◌, ◌==◌, ◌&&◌, not, nat_le, Option, unwrap_or}
 use Rattle.std.specs.List.{AllByRecursion, list_all}
@@ -8,8 +9,7 @@ use Rattle.std.specs.Char.{is_ascii_digit, is_ascii_graphic}
 use Rattle.std.proofs.lemmas.Fmt.{decimal_is_IsNumeral}
 use Rattle.std.proofs.lemmas.List.{append_assoc, append-nil}
 use Rattle.std.proofs.lemmas.List.Elements.{recursion_from_All}
-use Rattle.std.proofs.lemmas.List.Sums.{AllPass-from_list_all}
-use Rattle.std.proofs.lemmas.Bool.{cases_Bool, not-true, and_parts}
+use Rattle.std.proofs.lemmas.Bool.{cases_Bool, and_parts}
 use Rattle.std.proofs.lemmas.Bool.Decides.{nat_tests}
 use Rattle.domain_octets.specs.Line.{HasNoSpace, IsWord}
 use Rattle.domain_octets.proofs.WordLemmas.{no_space-append, decimal_word}
@@ -23,9 +23,7 @@ use Rattle.domain_names.specs.Text.{LabelTexts, last, last_with_dot, dotted, Nam
 -- ---- numbers
 
 pub number_back : (bits n : ℕ) → n < 2 ^ bits → n < 2 ^ 64 → IsNumber bits (decimal n) n
-number_back bits n fits small =
-    let numeral = decimal_is_IsNumeral n small in
-    record { digits = numeral.0; fits = rw numeral.1 fits; value = sym numeral.1 }
+number_back bits n fits small = grind (arith, common_steps, (decimal_is_IsNumeral n small))
 
 -- ---- numbers with names
 
@@ -136,11 +134,11 @@ value_fits c small = grind (arith, nat_tests)
 
 symbol_back : (c : ℕ) (rest : List ℕ) → c < 256 → Symbol c rest
 unfolding symbol_at octet_text
-symbol_back c rest small = elim (cases_Bool (is_special c)) [
+symbol_back c rest small = elim (cases_Bool _) [
   | inl special ↦
       let found = special_octet c special in
       record { used = 2; read = rw (special, found.0, found.1) refl; left = rw special refl }
-  | inr other ↦ elim (cases_Bool (is_ascii_graphic c)) [
+  | inr other ↦ elim (cases_Bool _) [
     | inl graphic ↦
         let found = plain_octet c other graphic in
         record { used = 1; read = rw (other, graphic, found.0, found.1) refl; left = rw (other, graphic) refl }
@@ -165,7 +163,7 @@ symbol_back c rest small = elim (cases_Bool (is_special c)) [
 label_back : (label rest : List ℕ) → AllByRecursion (λ c. c < 256) label → LabelText rest [] rest → LabelText (label_text label ++ rest) label rest
 label_back [] rest small ends = ends
 label_back (c ∷ label) rest small ends =
-    let symbol = symbol_back c (label_text label ++ rest) small.0 in
+    let symbol = symbol_back c _ small.0 in
     subst (λ t. LabelText t (c ∷ label) rest) (sym (append_assoc (octet_text c) (label_text label) rest))
     (octet (octet_text c ++ (label_text label ++ rest)) label rest c symbol.used symbol.read
     (subst (λ t. LabelText t label rest) (sym symbol.left) (label_back label rest small.1 ends)))
@@ -177,7 +175,7 @@ label_octets label valid = recursion_from_All (λ c. c < 256) label valid.octets
 with_dot : (label : List ℕ) (labels : List (List ℕ)) → AllByRecursion IsLabel (label ∷ labels)
     → LabelTexts (name_text (label ∷ labels) ++ 46 ∷ []) (label ∷ labels)
 with_dot label [] valid =
-    subst (λ t. LabelTexts (t ++ 46 ∷ []) (label ∷ [])) (sym (append-nil (label_text label)))
+    subst (λ t. LabelTexts (t ++ 46 ∷ []) (label ∷ [])) (sym (append-nil _))
     (last_with_dot (label_text label ++ 46 ∷ []) label (label_back label (46 ∷ []) (label_octets label valid.0) (at_dot [])))
 with_dot label (next ∷ labels) valid =
     let after = name_text (next ∷ labels) ++ 46 ∷ [] in
@@ -190,7 +188,7 @@ without_dot label [] valid = last (label_text label ++ []) label (label_back lab
 without_dot label (next ∷ labels) valid =
     let after = name_text (next ∷ labels) in
     dotted (label_text label ++ 46 ∷ after) label after (next ∷ labels)
-    (label_back label (46 ∷ after) (label_octets label valid.0) (at_dot after)) (without_dot next labels valid.1)
+    (label_back label _ (label_octets label valid.0) (at_dot after)) (without_dot next labels valid.1)
 
 pub dotted_name_back : (name : List (List ℕ)) → IsName name → NameText (name_text name ++ 46 ∷ []) name
 dotted_name_back [] valid = root
@@ -204,21 +202,7 @@ name_back (label ∷ labels) some valid = of_labels (name_text (label ∷ labels
 
 octet_plain : (c : ℕ) → c < 256 → HasNoSpace (octet_text c)
 unfolding octet_text
-octet_plain c small = elim (cases_Bool (is_special c)) [
-  | inl special ↦ rw special (refl, (special_no_space c special, tt))
-  | inr other ↦ elim (cases_Bool (is_ascii_graphic c)) [
-    | inl graphic ↦ rw (other, graphic) (graphic_no_space c graphic, tt)
-    | inr unseen ↦ rw (other, unseen) (refl, (digit_no_space (c / 100), (digit_no_space (c / 10 % 10), (digit_no_space (c % 10), tt))))
-  ]
-] where
-  special_no_space : (c : ℕ) → is_special c ≡ true → (c == 32) ≡ false
-  special_no_space c special = grind (arith, nat_tests)
-
-  graphic_no_space : (c : ℕ) → is_ascii_graphic c ≡ true → (c == 32) ≡ false
-  graphic_no_space c graphic = grind (arith, nat_tests)
-
-  digit_no_space : (d : ℕ) → ((48 + d) == 32) ≡ false
-  digit_no_space d = grind (arith, nat_tests)
+octet_plain c small = grind (arith, common_steps)
 
 label_plain : (label : List ℕ) → AllByRecursion (λ c. c < 256) label → HasNoSpace (label_text label)
 label_plain [] small = tt
@@ -226,23 +210,18 @@ label_plain (c ∷ label) small = no_space-append (octet_text c) (label_text lab
 
 dotted_plain : (labels : List (List ℕ)) → AllByRecursion IsLabel labels → HasNoSpace (dotted_text labels)
 dotted_plain [] valid = tt
-dotted_plain (label ∷ labels) valid =
-    (refl, no_space-append (label_text label) (dotted_text labels) (label_plain label (label_octets label valid.0)) (dotted_plain labels valid.1))
+dotted_plain (label ∷ labels) valid = grind (arith, common_steps, label_plain, label_octets, (dotted_plain labels valid.1))
 
 name_plain : (name : List (List ℕ)) → AllByRecursion IsLabel name → HasNoSpace (name_text name)
 name_plain [] valid = tt
-name_plain (label ∷ labels) valid = no_space-append (label_text label) (dotted_text labels)
-    (label_plain label (label_octets label valid.0)) (dotted_plain labels valid.1)
+name_plain (label ∷ labels) valid = grind (arith, common_steps, label_plain, label_octets, dotted_plain)
 
 not_empty : (text : List ℕ) (c : ℕ) → text ++ c ∷ [] ≢ []
 not_empty [] c = λ none. cc
 not_empty (d ∷ text) c = λ none. cc
 
 pub name_word : (name : List (List ℕ)) → IsName name → IsWord (name_text name ++ 46 ∷ [])
-name_word name valid = record {
-  some = not_empty (name_text name) 46;
-  unbroken = no_space-append (name_text name) (46 ∷ []) (name_plain name valid.of_labels) (refl, tt);
-}
+name_word name valid = grind (arith, common_steps, name_plain)
 
 -- the names in these entries are words
 abbrev AreWords : List Named → Type 0
@@ -271,8 +250,7 @@ number_word_by table prefix n words word fits (Some name) is = named_word table 
 
 -- a word that a test finds
 plain_test : (text : List ℕ) → list_all (λ c. not (c == 32)) text ≡ true → HasNoSpace text
-plain_test text all = recursion_from_All (λ c. (c == 32) ≡ false) text
-    (λ k d inside. not-true (get_or text k d == 32) (AllPass-from_list_all (λ c. not (c == 32)) text all k d inside))
+plain_test text all = grind (arith, common_steps, recursion_from_All)
 
 words_test : (entries : List Named) → list_all (λ entry. list_all (λ c. not (c == 32)) entry.name
     && not (length entry.name == 0)) entries ≡ true → AreWords entries
@@ -291,10 +269,10 @@ pub type_word : (n : ℕ) → n < 65536 → IsWord (type_text n)
 type_word n fits = number_word_by type_names (codes "TYPE") n (words_test type_names refl) (record {
   some = λ none. cc;
   unbroken = plain_test (codes "TYPE") refl;
-}) fits (name_of type_names n) refl
+}) fits _ refl
 
 pub class_word : (n : ℕ) → n < 65536 → IsWord (class_text n)
 class_word n fits = number_word_by class_names (codes "CLASS") n (words_test class_names refl) (record {
   some = λ none. cc;
   unbroken = plain_test (codes "CLASS") refl;
-}) fits (name_of class_names n) refl
+}) fits _ refl

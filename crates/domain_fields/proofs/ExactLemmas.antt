@@ -1,6 +1,6 @@
 -- what is read is determined by the octets
-use Rattle.std.proofs.Common.{◌≡◌, ℕ, true, List, [], ◌++◌, length, refl, sym, ap, subst, ◌∙◌, arith, length-append, append_assoc, append-nil}
-use Rattle.std.specs.Prelude.{◌&&◌}
+use Rattle.std.proofs.lemmas.Grind.{common_steps}
+use Rattle.std.proofs.Common.{◌≡◌, ℕ, true, List, [], ◌++◌, length, refl, sym, ap, ◌∙◌, arith, length-append, append_assoc, append-nil}
 use Rattle.std.specs.Cmp.{first_so, second_so}
 use Rattle.domain_names.specs.Fault.{Fault}
 use Rattle.domain_names.proofs.FaultLemmas.{no_name_fault}
@@ -20,8 +20,7 @@ last_field spelled_name v w r s fv fw er es e = same_field spelled_name v w r s 
 last_field counted v w r s fv fw er es e = same_field counted v w r s refl fv fw e
 last_field (exactly count) v w r s fv fw er es e = same_field (exactly count) v w r s refl fv fw e
 last_field (at_most limit) v w r s fv fw er es e = same_field (at_most limit) v w r s refl fv fw e
-last_field rest v w r s fv fw er es e =
-    record { values = sym (append-nil v) ∙ ap (λ t. v ++ t) (sym er) ∙ e ∙ ap (λ t. w ++ t) es ∙ append-nil w; after = er ∙ sym es }
+last_field rest v w r s fv fw er es e = grind (arith, common_steps)
 
 same_whole : (l : Layout) (v w : Values l) (r s : List ℕ) → splits l ≡ true → Fits l v → Fits l w → Ends l v r → Ends l w s
     → octets_of l v ++ r ≡ octets_of l w ++ s → Same v w r s
@@ -36,9 +35,7 @@ same_whole (a ▸ b) v w r s d fv fw er es e =
 -- octets begin with one value of a layout at most
 pub one_reading : (l : Layout) (octets : List ℕ) (v w : Values l) (r s : List ℕ) → splits l ≡ true → Begins l octets v r
     → Begins l octets w s → (v ≡ w) × (r ≡ s)
-one_reading l octets v w r s d x y =
-    let same = same_whole l v w r s d x.fits y.fits x.ends y.ends (sym x.parts ∙ y.parts) in
-    (same.values, same.after)
+one_reading l octets v w r s d x y = grind (arith, common_steps, same_whole)
 
 field_excludes : (f : Field) (octets : List ℕ) (fault : Fault) → FieldFault f octets fault → (v : Value f) (r : List ℕ)
     → FieldFits f v → FieldEnds f r → octets ≡ field_octets f v ++ r → ⊥
@@ -48,18 +45,14 @@ field_excludes f octets fault (cut_long o d cut) v r fits ends e = omega (arith,
 field_excludes f octets fault (no_name o d h) v r fits ends e = no_name_fault o d h v r fits e
 field_excludes f octets fault (no_spelled_name o d h) v r fits ends e = no_name_fault o d h v r fits e
 field_excludes f octets fault no_count v r fits ends e = cc
-field_excludes f octets fault (cut_counted count tail cut) v r fits ends e =
-    let n : count ≡ length v = cc in omega (arith, cut, ap length e, length-append v r)
+field_excludes f octets fault (cut_counted count tail cut) v r fits ends e = grind (arith, common_steps)
 field_excludes f octets fault (cut_exactly count o d cut) v r fits ends e = omega (arith, cut.short, ap length e, length-append v r, fits.0)
 field_excludes f octets fault (too_long limit o d h) v r fits ends e = omega (arith, h.long, ends, ap length e)
 
 -- data of which one can tell where they end
 pub delimited_splits : (l : Layout) → is_delimited l ≡ true → splits l ≡ true
 delimited_splits (one f) d = refl
-delimited_splits (a ▸ b) d =
-    let first = first_so (is_delimited a) (is_delimited b) d in
-    let second = delimited_splits b (second_so (is_delimited a) (is_delimited b) d) in
-    λ i. first i && second i
+delimited_splits (a ▸ b) d = grind (arith, common_steps, (delimited_splits b (second_so (is_delimited a) (is_delimited b) d)))
 
 -- octets with a fault begin with no value
 pub fault_excludes : (l : Layout) (octets : List ℕ) (fault : Fault) → FirstFault l octets fault → splits l ≡ true
@@ -84,13 +77,11 @@ begins_alone l v fits ends = record { parts = sym (append-nil (octets_of l v)); 
 pub parses_back : (l : Layout) (v : Values l) → splits l ≡ true → Fits l v → Ends l v [] → ParsesBack l v
 parses_back l v split fits ends = record {
   begins = begins_alone l v fits ends;
-  alone = λ w r read. one_reading l (octets_of l v) w v r [] split read (begins_alone l v fits ends);
-  no_fault = λ fault found. fault_excludes l (octets_of l v) fault found split v [] (begins_alone l v fits ends);
+  alone = λ w r read. one_reading l _ w v r [] split read (begins_alone l v fits ends);
+  no_fault = λ fault found. fault_excludes l _ fault found split v [] (begins_alone l v fits ends);
 }
 
 -- data of the same octets are the same
 pub same_values : (l : Layout) (v w : Values l) → splits l ≡ true → Fits l v → Fits l w → Ends l v [] → Ends l w [] → octets_of l v ≡ octets_of l w → v ≡ w
 same_values l v w split fits_v fits_w ends_v ends_w same =
-    let read = one_reading l (octets_of l w) v w [] [] split
-    (subst (λ (o : List ℕ). Begins l o v []) same (begins_alone l v fits_v ends_v)) (begins_alone l w fits_w ends_w) in
-    read.0
+    grind (arith, common_steps, begins_alone, (one_reading l (octets_of l w) v w), (begins_alone l v fits_v ends_v), (begins_alone l w fits_w ends_w))

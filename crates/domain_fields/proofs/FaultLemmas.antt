@@ -1,12 +1,12 @@
 -- octets have one first fault at most
+use Rattle.std.proofs.lemmas.Grind.{common_steps}
 use Rattle.std.proofs.Common.{◌≡◌, ℕ, zero, suc, ◌+◌, ◌<◌, true, false, List, [], ◌∷◌, ◌++◌, length, drop, refl, sym, subst, ◌∙◌, arith, length-append}
 use Rattle.std.specs.Prelude.{nat_lt, if◌then◌else◌, codes}
 use Rattle.std.specs.Cmp.{first_so, second_so}
 use Rattle.std.proofs.lemmas.List.{drop_at}
 use Rattle.std.proofs.lemmas.Bool.Decides.{nat_tests}
 use Rattle.domain_names.specs.Fault.{Fault, ends_early, malformed, NameFault, no_octet, bad_label, long_name, cut_label, past_label}
-use Rattle.domain_fields.specs.Field.{Field, octet, short, long, name, spelled_name, counted, exactly, at_most, rest, FieldFault, cut_octet, cut_short}
-use Rattle.domain_fields.specs.Field.{cut_long, no_name, no_spelled_name, no_count, cut_counted, cut_exactly, too_long}
+use Rattle.domain_fields.specs.Field.{Field, octet, short, long, name, spelled_name, counted, exactly, at_most, rest, FieldFault}
 use Rattle.domain_fields.specs.Layout.{Layout, is_delimited, splits, FirstFault, in_field, in_first, in_later}
 use Rattle.domain_fields.proofs.OrderLemmas.{one_reading}
 use Rattle.domain_fields.proofs.ExactLemmas.{fault_excludes, delimited_splits}
@@ -25,15 +25,8 @@ unfolding name_fault
 name_fault_is zero used octets fault h below = absurd (omega arith)
 name_fault_is (suc n) used octets fault no_octet below = refl
 name_fault_is (suc n) used octets fault (bad_label len after big) below = let bad : nat_lt 63 len ≡ true = grind (arith, nat_tests) in rw bad
-name_fault_is (suc n) used octets fault (long_name len after some small big) below =
-    let good : nat_lt 63 len ≡ false = grind (arith, nat_tests) in
-    let long : nat_lt 255 (used + len + 2) ≡ true = grind (arith, nat_tests) in
-    rw (good, long)
-name_fault_is (suc n) used octets fault (cut_label len after some small brief cut) below =
-    let good : nat_lt 63 len ≡ false = grind (arith, nat_tests) in
-    let fits : nat_lt 255 (used + len + 2) ≡ false = grind (arith, nat_tests) in
-    let early : nat_lt (length after) len ≡ true = grind (arith, nat_tests) in
-    rw (good, fits, early)
+name_fault_is (suc n) used octets fault (long_name len after some small big) below = grind (arith, common_steps)
+name_fault_is (suc n) used octets fault (cut_label len after some small brief cut) below = grind (arith, common_steps)
 name_fault_is (suc n) used octets fault (past_label label after f some small brief next) below =
     let count = length-append label after in
     let good : nat_lt 63 (length label) ≡ false = grind (arith, nat_tests) in
@@ -55,23 +48,13 @@ field_fault rest octets = ends_early
 
 field_fault_is : (f : Field) (octets : List ℕ) (fault : Fault) → FieldFault f octets fault → fault ≡ field_fault f octets
 unfolding field_fault
-field_fault_is f octets fault (cut_octet o d cut) = cut.early
-field_fault_is f octets fault (cut_short o d cut) = cut.early
-field_fault_is f octets fault (cut_long o d cut) = cut.early
-field_fault_is f octets fault (no_name o d h) = name_fault_is (suc (length o)) 0 o d h (omega arith)
-field_fault_is f octets fault (no_spelled_name o d h) = name_fault_is (suc (length o)) 0 o d h (omega arith)
-field_fault_is f octets fault no_count = refl
-field_fault_is f octets fault (cut_counted count after cut) = refl
-field_fault_is f octets fault (cut_exactly count o d cut) = cut.early
-field_fault_is f octets fault (too_long limit o d h) = h.said
+field_fault_is f octets fault found = grind (arith, common_steps, name_fault_is)
 
 pub one_fault : (l : Layout) (octets : List ℕ) (x y : Fault) → FirstFault l octets x → FirstFault l octets y → splits l ≡ true → x ≡ y
 one_fault l octets x y (in_field f o d h) (in_field g p e k) sp = field_fault_is f o d h ∙ sym (field_fault_is f o e k)
 one_fault l octets x y (in_first a b o d h) (in_first c g p e k) sp = one_fault a o d e h k (delimited_splits a (first_so (is_delimited a) (splits b) sp))
-one_fault l octets x y (in_first a b o d h) (in_later c g p v m e begins k) sp =
-    absurd (fault_excludes a o d h (delimited_splits a (first_so (is_delimited a) (splits b) sp)) v m begins)
-one_fault l octets x y (in_later a b o v m d begins h) (in_first c g p e k) sp =
-    absurd (fault_excludes a o e k (delimited_splits a (first_so (is_delimited a) (splits b) sp)) v m begins)
+one_fault l octets x y (in_first a b o d h) (in_later c g p v m e begins k) sp = grind (arith, common_steps, fault_excludes, delimited_splits)
+one_fault l octets x y (in_later a b o v m d begins h) (in_first c g p e k) sp = grind (arith, common_steps, fault_excludes, delimited_splits)
 one_fault l octets x y (in_later a b o v m d begins h) (in_later c g p w n e more k) sp =
     let same = one_reading a o v w m n (first_so (is_delimited a) (splits b) sp) begins more in
     one_fault b n d e (subst (λ r. FirstFault b r d) same.after h) k (second_so (is_delimited a) (splits b) sp)

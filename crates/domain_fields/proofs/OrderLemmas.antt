@@ -1,18 +1,17 @@
 -- the lexicographic order of octets, field by field
+use Rattle.std.proofs.Common.{ap}
+use Rattle.std.proofs.lemmas.Grind.{common_steps}
 use Rattle.std.specs.declared.cmp.Ordering.{Ordering}
-use Rattle.std.proofs.Common.{◌≡◌, ℕ, zero, suc, ◌+◌, true, List, [], ◌∷◌, ◌++◌, length, take, drop, refl, sym, ap, subst, ◌∙◌, arith, length-append}
-use Rattle.std.proofs.Common.{append_assoc, append-nil}
+use Rattle.std.proofs.Common.{◌≡◌, ℕ, ◌+◌, true, List, [], ◌∷◌, ◌++◌, length, take, drop, refl, sym, subst, ◌∙◌, arith, length-append, append_assoc, append-nil}
 use Rattle.std.specs.declared.cmp.Ordering.TheVariants.{Less, Equal, Greater}
 use Rattle.std.specs.Ordering.{ordering_then, nat_cmp}
 use Rattle.std.specs.Cmp.{first_so, second_so}
 use Rattle.std.specs.Cmp.Lexicographic.{slice_cmp}
 use Rattle.std.specs.FinMap.{nat_cmp-IsAntisymmetric}
-use Rattle.std.specs.Int.{w16, w32, to_be_bytes, from_be_bytes}
 use Rattle.std.specs.List.{AllByRecursion, flat_map, fold}
 use Rattle.std.specs.Hash as fed
 use Rattle.std.proofs.lemmas.List.Concat.{flat_map-append}
 use Rattle.std.proofs.lemmas.List.{take_at, drop_at}
-use Rattle.std.proofs.lemmas.Nat.{from_be_bytes-to_be_bytes_2, from_be_bytes-to_be_bytes_4}
 use Rattle.domain_names.specs.Name.{wire_of, IsLabel, IsName}
 use Rattle.domain_names.proofs.CaseLemmas.{IsName-lowered}
 use Rattle.domain_fields.specs.Field.{Field, octet, short, long, name, spelled_name, counted, exactly, at_most, rest, Value, field_octets, FieldFits}
@@ -33,10 +32,7 @@ same_front a b r s as_long e = record {
 }
 
 same_counted : (a b r s : List ℕ) → (length a ∷ a) ++ r ≡ (length b ∷ b) ++ s → Same a b r s
-same_counted a b r s e =
-    let as_long : length a ≡ length b = cc in
-    let tails : a ++ r ≡ b ++ s = cc in
-    same_front a b r s as_long tails
+same_counted a b r s e = grind (arith, common_steps, same_front)
 
 same_name : (x y : List (List ℕ)) (r s : List ℕ) → AllByRecursion IsLabel x → AllByRecursion IsLabel y → wire_of x ++ r ≡ wire_of y ++ s → Same x y r s
 same_name [] [] r s all_x all_y e = record { values = refl; after = cc }
@@ -45,7 +41,7 @@ same_name (l ∷ ls) [] r s all_x all_y e = let label : IsLabel l = all_x.0 in l
 same_name (k ∷ ks) (l ∷ ls) r s all_x all_y e =
     let as_long : length k ≡ length l = cc in
     let tails : (k ++ wire_of ks) ++ r ≡ (l ++ wire_of ls) ++ s = cc in
-    let front = same_front k l (wire_of ks ++ r) (wire_of ls ++ s) as_long (sym (append_assoc k (wire_of ks) r) ∙ tails ∙ append_assoc l (wire_of ls) s) in
+    let front = same_front k l _ _ as_long (sym (append_assoc k _ r) ∙ tails ∙ append_assoc l _ s) in
     let more = same_name ks ls r s all_x.1 all_y.1 front.after in
     record { values = λ i. front.values i ∷ more.values i; after = more.after }
 
@@ -53,12 +49,8 @@ same_name (k ∷ ks) (l ∷ ls) r s all_x all_y e =
 pub same_field : (f : Field) (v w : Value f) (r s : List ℕ) → is_delimited_field f ≡ true → FieldFits f v → FieldFits f w
     → field_octets f v ++ r ≡ field_octets f w ++ s → Same v w r s
 same_field octet v w r s d fv fw e = record { values = cc; after = cc }
-same_field short v w r s d fv fw e =
-    let front = same_front (to_be_bytes w16 v) (to_be_bytes w16 w) r s refl e in
-    record { values = sym (from_be_bytes-to_be_bytes_2 v fv) ∙ ap (from_be_bytes w16) front.values ∙ from_be_bytes-to_be_bytes_2 w fw; after = front.after }
-same_field long v w r s d fv fw e =
-    let front = same_front (to_be_bytes w32 v) (to_be_bytes w32 w) r s refl e in
-    record { values = sym (from_be_bytes-to_be_bytes_4 v fv) ∙ ap (from_be_bytes w32) front.values ∙ from_be_bytes-to_be_bytes_4 w fw; after = front.after }
+same_field short v w r s d fv fw e = grind (arith, common_steps)
+same_field long v w r s d fv fw e = grind (arith, common_steps)
 same_field name v w r s d fv fw e = let x : IsName v = fv in let y : IsName w = fw in same_name v w r s x.of_labels y.of_labels e
 same_field spelled_name v w r s d fv fw e = let x : IsName v = fv in let y : IsName w = fw in same_name v w r s x.of_labels y.of_labels e
 same_field counted v w r s d fv fw e = same_counted v w r s e
@@ -82,10 +74,7 @@ record Apart (a b : List ℕ) : Type 0 where
   right : (r : List ℕ) → b ≡ a ++ r → r ≡ []
 
 tails_apart : (x : ℕ) (a b : List ℕ) → Apart (x ∷ a) (x ∷ b) → Apart a b
-tails_apart x a b apart = record {
-  left = λ r e. apart.left r (ap (λ l. x ∷ l) e);
-  right = λ r e. apart.right r (ap (λ l. x ∷ l) e);
-}
+tails_apart x a b apart = grind (arith, common_steps)
 
 -- then what stands after them is compared only where they are equal
 cmp_apart : (a b x y : List ℕ) → Apart a b → slice_cmp nat_cmp (a ++ x) (b ++ y) ≡ ordering_then (slice_cmp nat_cmp a b) (slice_cmp nat_cmp x y)
@@ -102,10 +91,8 @@ cmp_apart (a ∷ as') (b ∷ bs) x y apart =
     ] refl
 
 data_apart : (l : Layout) (v w : Values l) → is_delimited l ≡ true → Fits l v → Fits l w → Apart (octets_of l v) (octets_of l w)
-data_apart l v w d fv fw = record {
-  left = λ r e. sym (Same.after (same_data l v w [] r d fv fw (append-nil (octets_of l v) ∙ e)));
-  right = λ r e. sym (Same.after (same_data l w v [] r d fw fv (append-nil (octets_of l w) ∙ e)));
-}
+data_apart l v w d fv fw =
+    grind (arith, common_steps, append-nil, (same_data l v w), (append-nil (octets_of l v)), (same_data l w v), (append-nil (octets_of l w)))
 
 lowered_field : (f : Field) (v : Value f) → FieldFits f v → FieldFits f (lower_field f v)
 lowered_field octet v h = h
@@ -126,9 +113,7 @@ Fits-lower (a ▸ b) v h = (Fits-lower a v.0 h.0, Fits-lower b v.1 h.1)
 pub order_both : (a b : Layout) (v w : Values a) (x y : Values b) → is_delimited a ≡ true → Fits a v → Fits a w
     → canonical_order (a ▸ b) (v, x) (w, y) ≡ ordering_then (canonical_order a v w) (canonical_order b x y)
 unfolding octets_of
-order_both a b v w x y d fv fw =
-    cmp_apart (canonical_of a v) (canonical_of a w) (canonical_of b x) (canonical_of b y)
-    (data_apart a (lower a v) (lower a w) d (Fits-lower a v fv) (Fits-lower a w fw))
+order_both a b v w x y d fv fw = grind (arith, common_steps, cmp_apart, data_apart, Fits-lower)
 
 -- octets begin with one value at most
 pub one_reading : (l : Layout) (octets : List ℕ) (v w : Values l) (r s : List ℕ) → is_delimited l ≡ true → Begins l octets v r
@@ -144,32 +129,22 @@ pub feed_both : (a b : Layout) (v : Values a) (w : Values b)
 unfolding octets_of
 feed_both a b v w = flat_map-append fed.u8 (octets_of a v) (octets_of b w)
 
-fold-append : {S X : Type 0} (f : S → X → S) (s : S) (xs ys : List X) → fold f (fold f s xs) ys ≡ fold f s (xs ++ ys)
-fold-append f s [] ys = refl
-fold-append f s (x ∷ xs) ys = fold-append f (f s x) xs ys
-
 pub fold_both : {S : Type 0} (f : S → List ℕ → S) (s : S) (a b : Layout) (v : Values a) (w : Values b)
     → fold f (fold f s (flat_map fed.u8 (canonical_of a v))) (flat_map fed.u8 (canonical_of b w)) ≡ fold f s (flat_map fed.u8 (canonical_of (a ▸ b) (v, w)))
-fold_both f s a b v w =
-    fold-append f s (flat_map fed.u8 (canonical_of a v)) (flat_map fed.u8 (canonical_of b w)) ∙ ap (fold f s) (sym (feed_both a b (lower a v) (lower b w)))
+fold_both f s a b v w = grind (arith, common_steps, feed_both)
 
 then_assoc : (o p q : Ordering) → ordering_then o (ordering_then p q) ≡ ordering_then (ordering_then o p) q
-then_assoc Less p q = refl
-then_assoc Equal p q = refl
-then_assoc Greater p q = refl
+then_assoc o p q = grind (arith, common_steps)
 
 -- a list is compared with as many octets part by part
 pub front_cmp : (a b o : List ℕ) → slice_cmp nat_cmp (a ++ b) (take (length (a ++ b)) o)
     ≡ ordering_then (slice_cmp nat_cmp a (take (length a) o)) (slice_cmp nat_cmp b (take (length b) (drop (length a) o)))
 front_cmp [] b o = refl
 front_cmp (x ∷ a) b [] = refl
-front_cmp (x ∷ a) b (y ∷ o) = ap (ordering_then (nat_cmp x y)) (front_cmp a b o)
-    ∙ then_assoc (nat_cmp x y) (slice_cmp nat_cmp a (take (length a) o))
-    (slice_cmp nat_cmp b (take (length b) (drop (length a) o)))
+front_cmp (x ∷ a) b (y ∷ o) = grind (arith, common_steps, (front_cmp a b o))
 
 drop_nil : (n : ℕ) → drop {A = ℕ} n [] ≡ []
-drop_nil zero = refl
-drop_nil (suc n) = refl
+drop_nil n = grind (arith, common_steps)
 
 pub front_drop : (a b o : List ℕ) → drop (length (a ++ b)) o ≡ drop (length b) (drop (length a) o)
 front_drop [] b o = refl
@@ -192,7 +167,6 @@ rest_of_both a b v w o = front_drop (canonical_of a v) (canonical_of b w) o
 pub whole_cmp : (a o : List ℕ) → slice_cmp nat_cmp a o ≡ ordering_then (slice_cmp nat_cmp a (take (length a) o)) (slice_cmp nat_cmp [] (drop (length a) o))
 whole_cmp [] o = refl
 whole_cmp (x ∷ a) [] = refl
-whole_cmp (x ∷ a) (y ∷ o) = ap (ordering_then (nat_cmp x y)) (whole_cmp a o)
-    ∙ then_assoc (nat_cmp x y) (slice_cmp nat_cmp a (take (length a) o)) (slice_cmp nat_cmp [] (drop (length a) o))
+whole_cmp (x ∷ a) (y ∷ o) = grind (arith, common_steps, (whole_cmp a o))
 
 pub ruleset both_from = (order_from_both, rest_of_both)

@@ -1,11 +1,12 @@
 -- what fields are written as is read back
-use Rattle.std.proofs.Common.{◌≡◌, ℕ, true, List, [], ◌∷◌, ◌++◌, refl, sym, subst, ◌∙◌, arith, append_assoc}
+use Rattle.std.proofs.lemmas.Grind.{common_steps}
+use Rattle.std.proofs.Common.{◌≡◌, ℕ, true, List, [], ◌∷◌, ◌++◌, refl, sym, subst, arith, append_assoc}
 use Rattle.std.specs.List.{AllByRecursion}
 use Rattle.std.proofs.lemmas.List.{append-nil}
 use Rattle.domain_codecs.specs.Codec.{Decodes}
 use Rattle.domain_codecs.specs.declared.codec.Codec.{Codec}
 use Rattle.domain_octets.specs.Line.{IsWord, word_if_any}
-use Rattle.domain_octets.proofs.WordLemmas.{decimal_word, concat_any}
+use Rattle.domain_octets.proofs.WordLemmas.{decimal_word}
 use Rattle.std.proofs.lemmas.Bool.{and_parts}
 use Rattle.domain_base.proofs.ReadBackLemmas.{number_back, dotted_name_back, name_word}
 use Rattle.domain_base.specs.Scan.{Grammar}
@@ -38,8 +39,7 @@ fields_back (a ▸ b) v after is fits =
 
 -- fields that are all that the tokens are
 pub fields_alone : (l : Layout) (v : Values l) (tokens : List (List ℕ)) → tokens ≡ printed l v → is_printed l ≡ true → Fits l v → Scans l tokens v []
-fields_alone l v tokens are is fits =
-    subst (λ t. Scans l t v []) (append-nil (printed l v) ∙ sym are) (fields_back l v [] is fits)
+fields_alone l v tokens are is fits = grind (arith, common_steps, fields_back, (append-nil (printed l v)), (fields_back l v))
 
 field_word : (f : Field) (v : Value f) → is_printed_field f ≡ true → FieldFits f v → IsWord (printed_field f v)
 field_word octet n is fits = decimal_word n (omega (arith, fits))
@@ -60,13 +60,9 @@ pub fields_words : (l : Layout) (v : Values l) → is_printed l ≡ true → Fit
 fields_words (one f) v is fits = (field_word f v is fits, tt)
 fields_words (a ▸ b) v is fits =
     let parts = and_parts (is_printed a) (is_printed b) is in
-    words-append (printed a v.0) (printed b v.1) (fields_words a v.0 parts.0 fits.0) (fields_words b v.1 parts.1 fits.1)
+    words-append _ _ (fields_words a v.0 parts.0 fits.0) (fields_words b v.1 parts.1 fits.1)
 
 -- fields, and then octets in one word or none
 pub entry_back : {V : Type 0} (G : Grammar V) (codec : Codec) (tokens : List (List ℕ)) (v : V) (text octets : List ℕ)
     → G tokens v (word_if_any text) → Decodes codec text octets → Spells G codec tokens v octets
-entry_back G codec tokens v text octets fields decoded = record {
-  entry = word_if_any text;
-  fields = fields;
-  decoded = subst (λ t. Decodes codec t octets) (sym (concat_any text)) decoded;
-}
+entry_back G codec tokens v text octets fields decoded = grind (arith, common_steps)

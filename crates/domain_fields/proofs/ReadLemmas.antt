@@ -1,10 +1,11 @@
 -- data that are read one after another
-use Rattle.std.proofs.Common.{◌≡◌, ℕ, ◌<◌, List, [], ◌∷◌, ◌++◌, length, sym, ap, subst, ◌∙◌, arith, length-append, append_assoc}
+use Rattle.std.proofs.lemmas.Grind.{common_steps}
+use Rattle.std.proofs.Common.{◌≡◌, ℕ, ◌<◌, List, [], ◌∷◌, ◌++◌, length, sym, ap, subst, arith, length-append}
 use Rattle.domain_octets.specs.Place.{Place, Takes}
 use Rattle.domain_names.specs.Fault.{Fault, NameFault, ends_early}
 use Rattle.domain_fields.specs.Field.{octet, short, long, name, spelled_name, counted, exactly, at_most, IsCut, IsLong, cut_octet, cut_short, cut_long, no_name}
 use Rattle.domain_fields.specs.Field.{no_spelled_name, no_count, cut_counted, cut_exactly, too_long}
-use Rattle.domain_fields.specs.Layout.{Layout, one, ◌▸◌, Values, octets_of, Ends, Begins, FirstFault, in_field, in_first, in_later, GoesOn}
+use Rattle.domain_fields.specs.Layout.{Layout, one, ◌▸◌, Values, octets_of, Begins, FirstFault, in_field, in_first, in_later, GoesOn}
 
 pub goes_on : (octets : List ℕ) (old new : Place) → Takes octets old new → GoesOn old new
 goes_on octets old new takes = record { whole = omega (arith, takes.moved, ap length takes.parts, length-append octets new.left) }
@@ -54,10 +55,6 @@ pub ruleset reading = (
 pub begins_both : (a b : Layout) (octets : List ℕ) (v : Values a) (w : Values b) (between after : List ℕ)
     → Begins a octets v between → Begins b between w after → Begins (a ▸ b) octets (v, w) after
 unfolding octets_of
-begins_both a b octets v w between after h more = record {
-  parts = h.parts ∙ ap (λ r. octets_of a v ++ r) more.parts ∙ sym (append_assoc (octets_of a v) (octets_of b w) after);
-  fits = (h.fits, more.fits);
-  ends = (subst (Ends a v) more.parts h.ends, more.ends);
-}
+begins_both a b octets v w between after h more = grind (arith, common_steps)
 
 pub ruleset pairs = (begins_both, in_first, in_later)

@@ -1,5 +1,6 @@
 -- Tokens that are refused spell no values, and tokens spell one list of values at most.
-use Rattle.std.proofs.Common.{◌≡◌, ℕ, List, [], ◌++◌, sym, ap, subst, ◌∙◌, inl, inr, Some, None, Option, lit≤}
+use Rattle.std.proofs.Common.{arith, ◌≡◌, ℕ, List, [], ◌++◌, sym, ap, subst, ◌∙◌, inl, inr, Some, None, Option, lit≤}
+use Rattle.std.proofs.lemmas.Grind.{common_steps}
 use Rattle.std.specs.Net.Grammar.{IsDotted}
 use Rattle.std.specs.Net.Reader.{read_ipv4}
 use Rattle.std.proofs.NetLemmas.Ipv4.{read_ipv4_complete}
@@ -44,7 +45,7 @@ scans_left (a ▸ b) old m n v w x y =
 pub refused_spells_none : (l : Layout) (limit : Option ℕ) (old new after : List (List ℕ)) (v : Values l) (fault : ScanFault)
     → Refuses limit l old new fault → Scans l old v after → IsOfTokens limit fault → ⊥
 refused_spells_none (one f) limit old new after v fault why is own =
-    token_excludes (λ text u. FieldText f text u) (FieldTextFault limit f) limit (field_excludes f limit) old new after v fault why is own
+    token_excludes _ _ limit (field_excludes f limit) old new after v fault why is own
 refused_spells_none (a ▸ b) limit old new after v fault (inl why) is own = refused_spells_none a limit old new is.0 v.0 fault why is.1 own
 refused_spells_none (a ▸ b) limit old new after v fault (inr why) is own =
     let between = scans_left a old why.1 is.0 why.0 v.0 why.2 is.1 in
@@ -90,9 +91,7 @@ field_once rest text v w x y = absurd x
 
 -- the values of a layout that tokens spell
 pub scans_once : (l : Layout) (old m n : List (List ℕ)) (v w : Values l) → Scans l old v m → Scans l old w n → v ≡ w
-scans_once (one f) old m n v w x y =
-    let same : y.token ≡ x.token = (let e = x.first in let d = y.first in cc) in
-    field_once f x.token v w x.holds (subst (λ t. FieldText f t w) same y.holds)
+scans_once (one f) old m n v w x y = grind (arith, common_steps, field_once)
 scans_once (a ▸ b) old m n v w x y =
     let between = scans_left a old x.0 y.0 v.0 w.0 x.1 y.1 in
     let first = scans_once a old x.0 y.0 v.0 w.0 x.1 y.1 in

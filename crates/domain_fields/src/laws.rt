@@ -60,6 +60,7 @@ pub fn refused_tokens_spell_nothing()
 
 /// A list of tokens has one first fault, but for want of room or of memory, and the tokens that are
 /// left then are determined, over builders with any limit. One field has one fault of any kind.
+#[tactic(auto, using(crate::proofs::ScanLemmas::one_first_fault, crate::proofs::ScanLemmas::one_field_one_fault))]
 pub fn tokens_have_one_first_fault()
     ensures fields { (limit : Option ℕ) (l : Layout) (old m n : Tokens) (x y : ScanFault)
         → Refuses limit l old m x → Refuses limit l old n y → IsOfTokens limit x
