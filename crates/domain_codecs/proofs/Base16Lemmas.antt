@@ -1,5 +1,5 @@
 -- texts in Base 16, two digits at a time
-use Rattle.std.proofs.Common.{◌≡◌, ℕ, ◌+◌, ◌*◌, List, [], ◌∷◌, refl, Option, None, Some, Result, Ok, Err, arith}
+use Rattle.std.proofs.Common.{◌≡◌, ℕ, ◌+◌, ◌*◌, List, [], ◌∷◌, refl, Option, Result, Ok, arith}
 use Rattle.hex.specs.Hex.{decode_pairs, digit_or_error, hex_digit_value, pair_value, ◌>>=◌}
 use Rattle.hex.specs.declared.error.FromHexError.{FromHexError}
 use Rattle.std.proofs.lemmas.Grind.{common_steps}
@@ -17,10 +17,7 @@ first_octet : (high low : Option ℕ) (a b i j : ℕ) (others : Result (List ℕ
     → ((digit_or_error a i high >>= (λ h. digit_or_error b j low >>= (λ l. Ok (h * 16 + l)))) >>= (λ octet. others >>= (λ rest. Ok (octet ∷ rest)))) ≡ Ok octets
     → First a b others octets
 unfolding decode_pairs
-first_octet (Some h) (Some l) a b i j (Ok rest) octets first second is = grind (arith, common_steps)
-first_octet (Some h) (Some l) a b i j (Err e) octets first second is = cc is
-first_octet (Some h) None a b i j others octets first second is = cc is
-first_octet None low a b i j others octets first second is = cc is
+first_octet high low a b i j others octets first second is = grind (arith, common_steps)
 
 pub pairs_first : (i a b : ℕ) (text octets : List ℕ) → decode_pairs i (a ∷ b ∷ text) ≡ Ok octets → First a b (decode_pairs (i + 2) text) octets
 unfolding decode_pairs

@@ -1,8 +1,5 @@
 -- texts in Base 16 that are read 64 digits at a time
-use Rattle.std.proofs.Common.{◌≡◌, ℕ, ◌/◌, min, List, length, take, drop, arith, Result, Ok, Err}
-use Rattle.std.specs.Prelude.{MatchResult}
-use Rattle.hex.specs.Hex.{decode_of, decode_sized}
-use Rattle.hex.specs.declared.error.FromHexError.{FromHexError}
+use Rattle.std.proofs.Common.{◌≡◌, ℕ, min, List, length, take, drop, arith}
 use Rattle.domain_codecs.specs.declared.codec.Codec.TheVariants.{Base16}
 use Rattle.domain_codecs.specs.Cut.{Cut}
 use Rattle.domain_codecs.proofs.JoinedLemmas.{ReadPieces, NextPiece, pieces_next}
@@ -16,11 +13,3 @@ front_of left count is = grind (arith, common_steps)
 pub next_front : (text left built : List ℕ) (count : ℕ) → ReadPieces Base16 text left built → count ≡ min (length left) 64
     → NextPiece Base16 text (take count left) (drop count left) built
 next_front text left built count so_far is = pieces_next Base16 text left (take count left) (drop count left) built so_far (front_of left count is)
-
--- which are those that the decoder writes
-pub front_read : (left front buffer octets new : List ℕ) (count : ℕ) (result : Result (Unit {0}) FromHexError)
-    → decode_of (take count left) ≡ Ok octets → front ≡ take count left
-    → count ≡ min (length left) 64 → length buffer ≡ 32
-    → MatchResult (decode_sized front (length (take (length front / 2) buffer))) (λ bytes. (result ≡ Ok tt) × (new ≡ bytes)) (λ e. result ≡ Err e)
-    → (result ≡ Ok tt) × (new ≡ octets)
-front_read left front buffer octets new count result decoded same is size given = grind (arith, common_steps)

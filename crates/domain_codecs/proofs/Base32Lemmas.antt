@@ -1,11 +1,11 @@
 -- digits of five bits, one after another
-use Rattle.std.proofs.Common.{◌≡◌, ℕ, min, zero, suc, ◌+◌, ◌*◌, ◌/◌, ◌%◌, ◌<◌, ◌≤◌, zero-add, Bool, true, false, nat_lt, if◌then◌else◌, List, [], ◌∷◌, ◌++◌}
+use Rattle.std.proofs.Common.{◌≡◌, ℕ, min, zero, suc, ◌+◌, ◌*◌, ◌/◌, ◌%◌, ◌<◌, ◌≤◌, zero-add, Bool, nat_lt, if◌then◌else◌, List, [], ◌∷◌, ◌++◌}
 use Rattle.std.proofs.Common.{length, get_or, map, take, drop, refl, sym, ap, ◌∙◌, arith, lit<}
 use Rattle.std.specs.List.{AllByRecursion as ByRecursion, range_with_len}
 use Rattle.std.specs.Str.{IsAscii}
-use Rattle.std.proofs.lemmas.List.{append-nil, take_all, drop_all, take-map, get_or-map, length-map, length-take-le}
+use Rattle.std.proofs.lemmas.List.{append-nil, take_all, drop_all, take-map}
 use Rattle.std.proofs.lemmas.List.Elements.{recursion_from_All}
-use Rattle.std.proofs.lemmas.List.FromFn.{length-range_with_len, get_or-range_with_len}
+use Rattle.std.proofs.lemmas.List.FromFn.{get_or-range_with_len}
 use Rattle.domain_codecs.specs.Base32.{base32_from, lower_digit, upper_digit, AreDigits}
 use Rattle.std.proofs.lemmas.Grind.{common_steps}
 
@@ -127,9 +127,7 @@ upper_alphabet = 48 ∷ 49 ∷ 50 ∷ 51 ∷ 52 ∷ 53 ∷ 54 ∷ 55 ∷ 56 ∷ 
     ∷ 78 ∷ 79 ∷ 80 ∷ 81 ∷ 82 ∷ 83 ∷ 84 ∷ 85 ∷ 86 ∷ []
 
 spelled : (f : ℕ → ℕ) (alphabet : List ℕ) → alphabet ≡ map f (range_with_len 0 32) → (n : ℕ) → n < 32 → get_or alphabet n 0 ≡ f n
-spelled f alphabet is n lt =
-    let long = length-range_with_len 0 32 in
-    ap (λ l. get_or l n 0) is ∙ get_or-map f (range_with_len 0 32) n 0 0 (omega (arith, long)) ∙ ap f (get_or-range_with_len 0 32 n 0 lt ∙ zero-add n)
+spelled f alphabet is n lt = grind (arith, common_steps, (get_or-range_with_len 0 32 n 0 lt), (zero-add n))
 
 pub spelled_lower : (n : ℕ) → n < 32 → get_or lower_alphabet n 0 ≡ lower_digit n
 spelled_lower = spelled lower_digit lower_alphabet refl
@@ -138,8 +136,7 @@ pub spelled_upper : (n : ℕ) → n < 32 → get_or upper_alphabet n 0 ≡ upper
 spelled_upper = spelled upper_digit upper_alphabet refl
 
 small_digit : (b : Bool) (n k : ℕ) → n < 32 → k < 96 → (if b then 48 + n else (k + n)) < 128
-small_digit true n k lt below = omega arith
-small_digit false n k lt below = omega arith
+small_digit b n k lt below = grind (arith, common_steps)
 
 pub upper_is_ascii : (n : ℕ) → n < 32 → upper_digit n < 128
 upper_is_ascii n lt = small_digit (nat_lt n 10) n 55 lt (lit< tt)
@@ -162,7 +159,3 @@ ascii_rec (n ∷ digits) small (suc i) = ascii_rec digits small.1 i
 
 pub upper_are_ascii : (digits : List ℕ) → AreDigits digits → IsAscii (map upper_digit digits)
 upper_are_ascii digits small = ascii_rec digits (recursion_from_All (λ digit. digit < 32) digits small)
-
--- what is written of digits is as long as they are
-pub many_written : (f : ℕ → ℕ) (end : ℕ) (buffer digits : List ℕ) → end ≤ length buffer → take end buffer ≡ map f digits → length digits ≡ end
-many_written f end buffer digits within is = sym (length-map digits f) ∙ ap length (sym is) ∙ length-take-le end buffer within

@@ -1,14 +1,14 @@
 -- texts in Base 64, 64 characters at a time
 use Rattle.std.specs.Prelude.{min, ◌-◌, ◌/◌, ◌%◌}
 use Rattle.std.proofs.Common.{◌≡◌, ℕ, zero, suc, ◌+◌, ◌*◌, ◌<◌, ◌≤◌, List, [], ◌∷◌, ◌++◌, length, take, drop, slice_index, length-drop, length-take}
-use Rattle.std.proofs.Common.{refl, sym, ap, subst, ◌∙◌, arith, ◌⊎◌, inl, inr, Option, None, Some, Result, Ok, Err, true}
+use Rattle.std.proofs.Common.{refl, sym, ap, subst, ◌∙◌, arith, ◌⊎◌, inl, inr, Option, None, Result, Ok, Err, true}
 use Rattle.std.proofs.lemmas.Bool.{cases_lt}
 use Rattle.std.proofs.lemmas.List.{nil_from_length, take_at, drop_at, take-append-drop, take_all, drop_all, append-nil, append_assoc}
 use Rattle.base64.specs.GeneralPurpose.{decode_of, encode_of, IsBytes}
 use Rattle.base64.specs.Engines.{standard}
 use Rattle.base64.proofs.RoundTrip.{length-encode_symbols}
 use Rattle.base64.specs.Tables.{is_inverse}
-use Rattle.base64.specs.Decode.{IsDecodeTable, decode_outcome, decoded_bytes, decode_group, group_error, groups_error, groups_bytes, groups_before_last}
+use Rattle.base64.specs.Decode.{IsDecodeTable, decode_outcome, decoded_bytes, decode_group, groups_error, groups_bytes, groups_before_last}
 use Rattle.base64.specs.Decode.{leftover_bytes, lone_error, no_leftover, or_else, scan_bytes, scan_last, symbol_error}
 use Rattle.base64.specs.declared.decode.DecodeError.{DecodeError}
 use Rattle.base64.proofs.Canonical.{IsScanned-scan, decoded_bytes-nil}
@@ -35,17 +35,13 @@ bytes-drop (suc n) [] all i = omega arith
 bytes-drop (suc n) (x ∷ xs) all i = bytes-drop n xs (λ k. all (suc k)) i
 
 three_bytes : (a b c : ℕ) → a < 256 → b < 256 → c < 256 → IsBytes (a ∷ b ∷ c ∷ [])
-three_bytes a b c ha hb hc zero = ha
-three_bytes a b c ha hb hc (suc zero) = hb
-three_bytes a b c ha hb hc (suc (suc zero)) = hc
-three_bytes a b c ha hb hc (suc (suc (suc i))) = omega arith
+three_bytes a b c ha hb hc h = grind (arith, common_steps)
 
 group_small : (m0 m1 m2 m3 : ℕ) → m0 < 64 → m1 < 64 → m2 < 64 → m3 < 64 → IsBytes (decode_group m0 m1 m2 m3)
 group_small m0 m1 m2 m3 l0 l1 l2 l3 = three_bytes _ _ _ (omega arith) (omega arith) (omega arith)
 
 no_error : (x y : Option DecodeError) → or_else x y ≡ None → (x ≡ None) × (y ≡ None)
-no_error None y none = (refl, none)
-no_error (Some e) y none = cc none
+no_error x y none = grind (arith, common_steps)
 
 symbol_small : (dec s : List ℕ) (i : ℕ) → IsDecodeTable dec → slice_index s i < 256 → symbol_error dec s i ≡ None → slice_index dec (slice_index s i) < 64
 symbol_small dec s i table byte none = grind (arith, common_steps)
@@ -55,28 +51,23 @@ unfolding groups_error groups_bytes
 groups_small dec s zero table bytes none = λ i. omega arith
 groups_small dec s (suc q) table bytes none =
     let i : ℕ = 4 * q in
-    let parts = no_error (groups_error dec s q) (group_error dec s i) none in
+    let parts = no_error _ _ none in
     let p0 = no_error (symbol_error dec s i) _ parts.1 in
     let p1 = no_error (symbol_error dec s (i + 1)) _ p0.1 in
     let p2 = no_error (symbol_error dec s (i + 2)) (symbol_error dec s (i + 3)) p1.1 in
-    bytes-append (groups_bytes dec s q) _ (groups_small dec s q table bytes parts.0)
-    (group_small _ _ _ _ (symbol_small dec s i table (bytes i) p0.0) (symbol_small dec s (i + 1) table (bytes (i + 1)) p1.0)
-    (symbol_small dec s (i + 2) table (bytes (i + 2)) p2.0) (symbol_small dec s (i + 3) table (bytes (i + 3)) p2.1))
+    bytes-append _ _ (groups_small dec s q table bytes parts.0)
+    (group_small _ _ _ _ (symbol_small dec s i table (bytes i) p0.0) (symbol_small dec s _ table (bytes (i + 1)) p1.0)
+    (symbol_small dec s _ table (bytes (i + 2)) p2.0) (symbol_small dec s _ table (bytes (i + 3)) p2.1))
 
 zeros : (k : ℕ) → slice_index (0 ∷ 0 ∷ 0 ∷ 0 ∷ []) k < 64
-zeros zero = omega arith
-zeros (suc zero) = omega arith
-zeros (suc (suc zero)) = omega arith
-zeros (suc (suc (suc zero))) = omega arith
-zeros (suc (suc (suc (suc k)))) = omega arith
+zeros k = grind (arith, common_steps)
 
 result_cases : {A E : Type 0} (r : Result A E) → ((x : A) × (r ≡ Ok x)) ⊎ ((e : E) × (r ≡ Err e))
 result_cases (Ok x) = inl (x, refl)
 result_cases (Err e) = inr (e, refl)
 
 outcome : (error : Option DecodeError) (found b : List ℕ) → decode_outcome error found ≡ Ok b → (error ≡ None) × (found ≡ b)
-outcome None found b is = (refl, cc is)
-outcome (Some e) found b is = cc is
+outcome error found b is = grind (arith, common_steps)
 
 inverse : is_inverse standard.encode_table standard.decode_table ≡ true
 inverse = are_tables_inverse standard.encode_table standard.decode_table 61 standard.tables
@@ -127,7 +118,7 @@ joined_groups front back a b fine rest whole first second =
     ap (λ t. t ++ back) (encoding front a fine first) ∙ ap (λ t. encode_of standard a ++ t) (encoding back b rest second)
     ∙ sym (encode_of-append standard a b whole) in
     subst (λ t. DecodesTo t (a ++ b)) (sym parts)
-    (decode_of-encode_of standard (a ++ b) refl (bytes-append a b (decoded_small front a fine first) (decoded_small back b rest second)))
+    (decode_of-encode_of standard _ refl (bytes-append a b (decoded_small front a fine first) (decoded_small back b rest second)))
 
 -- how many characters stand for octets
 encoded_length : (octets : List ℕ) → length (encode_of standard octets) ≡ (4 * length octets + 2) / 3 + (3 - length octets % 3) % 3
@@ -154,8 +145,8 @@ split_pieces text octets bytes long decoded =
     let parts : text ≡ encode_of standard a ++ encode_of standard b =
     is ∙ ap (encode_of standard) (sym (take-append-drop 48 octets)) ∙ encode_of-append standard a b (omega arith) in
     let size : length (encode_of standard a) ≡ 64 = omega (arith, encoded_length a) in
-    let front : take 64 text ≡ encode_of standard a = ap (take 64) parts ∙ take_at (encode_of standard a) (encode_of standard b) 64 size in
-    let back : drop 64 text ≡ encode_of standard b = ap (drop 64) parts ∙ drop_at (encode_of standard a) (encode_of standard b) 64 size in
+    let front : take 64 text ≡ encode_of standard a = ap (take 64) parts ∙ take_at _ _ 64 size in
+    let back : drop 64 text ≡ encode_of standard b = ap (drop 64) parts ∙ drop_at _ _ 64 size in
     record {
       first = subst (λ t. DecodesTo t a) (sym front) (decode_of-encode_of standard a refl (bytes-take 48 octets small));
       others = subst (λ t. DecodesTo t b) (sym back) (decode_of-encode_of standard b refl (bytes-drop 48 octets small));
@@ -187,7 +178,7 @@ passed_more text left piece so_far long first full =
       back = λ octets decoded.
           so_far.back (piece ++ octets)
           (subst (λ t. DecodesTo t (piece ++ octets)) (take-append-drop 64 left)
-          (joined_groups (take 64 left) (drop 64 left) piece octets (bytes-take 64 left so_far.bytes) bytes
+          (joined_groups _ _ piece octets (bytes-take 64 left so_far.bytes) bytes
           (omega arith) first decoded));
       forth = λ whole decoded.
           let here = so_far.forth whole decoded in
@@ -203,7 +194,7 @@ module _ (text left : List ℕ) (so_far : Passed text left) (long : 64 < length 
   pub short_piece : (piece : List ℕ) → DecodesTo (take 64 left) piece → length piece < 48 → ⊥
   short_piece piece read short =
       let here = so_far.forth whole decoded in
-      let pieces = split_pieces left here.0 so_far.bytes long here.1 in
+      let pieces = split_pieces left _ so_far.bytes long here.1 in
       let first : DecodesTo (take 64 left) (take 48 here.0) = pieces.first in
       let same : piece ≡ take 48 here.0 = cc in
       omega (arith, pieces.full, ap length same)
@@ -234,16 +225,16 @@ last_piece text left built count so_far short =
         rest = [];
         decoded = subst (λ t. DecodesTo t []) (sym nothing)
             (subst (λ t. DecodesTo t []) (encode_of-nil standard) (decode_of-encode_of standard [] refl (λ i. omega arith)));
-        whole = subst (λ o. DecodesTo text o) (sym (append-nil (built ++ so_far.rest))) so_far.whole;
+        whole = subst (λ o. DecodesTo text o) (sym (append-nil _)) so_far.whole;
         bytes = bytes-drop count left so_far.bytes;
       };
     }
 
 inner_piece : (text left built : List ℕ) → Read text left built → 64 < length left → Next left built text 64
 inner_piece text left built so_far long =
-    let pieces = split_pieces left so_far.rest so_far.bytes long so_far.decoded in
+    let pieces = split_pieces left _ so_far.bytes long so_far.decoded in
     let parts : built ++ so_far.rest ≡ (built ++ take 48 so_far.rest) ++ drop 48 so_far.rest =
-    ap (λ o. built ++ o) (sym (take-append-drop 48 so_far.rest)) ∙ sym (append_assoc built (take 48 so_far.rest) (drop 48 so_far.rest)) in
+    ap (λ o. built ++ o) (sym (take-append-drop 48 _)) ∙ sym (append_assoc built _ _) in
     record {
       piece = take 48 so_far.rest;
       first = pieces.first;
@@ -264,5 +255,5 @@ next_piece text left built count so_far is = elim (cases_lt 64 (length left)) [
 -- all pieces have been read
 pub read_all : (text left built : List ℕ) → Read text left built → left ≡ [] → DecodesTo text built
 read_all text left built so_far none =
-    let nothing : so_far.rest ≡ [] = nothing_decodes so_far.rest (subst (λ t. DecodesTo t so_far.rest) none so_far.decoded) in
+    let nothing : so_far.rest ≡ [] = nothing_decodes _ (subst (λ t. DecodesTo t so_far.rest) none so_far.decoded) in
     subst (λ o. DecodesTo text o) (ap (λ r. built ++ r) nothing ∙ append-nil built) so_far.whole

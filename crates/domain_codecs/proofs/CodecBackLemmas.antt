@@ -1,5 +1,5 @@
 -- what octets are written as in Base 16 and Base 64 is read back, and a text is read in one way
-use Rattle.std.proofs.Common.{◌≡◌, ℕ, ◌<◌, List, All, get_or, refl, sym, ◌∙◌, arith}
+use Rattle.std.proofs.Common.{◌≡◌, ℕ, ◌<◌, List, All, get_or, refl, arith}
 use Rattle.hex.specs.Hex.{encode_lower, encode_upper}
 use Rattle.hex.proofs.HexLemmas.{decode_of-encode_lower, decode_of-encode_upper}
 use Rattle.base64.specs.GeneralPurpose.{encode_of}
@@ -7,7 +7,7 @@ use Rattle.base64.specs.Engines.{standard}
 use Rattle.base64.proofs.EngineFacts.{decode_of-encode_of}
 use Rattle.domain_codecs.specs.Codec.{Decodes}
 use Rattle.domain_codecs.specs.declared.codec.Codec.{Codec}
-use Rattle.domain_codecs.specs.declared.codec.Codec.TheVariants.{Base16, Base32Hex, Base64}
+use Rattle.domain_codecs.specs.declared.codec.Codec.TheVariants.{Base16, Base64}
 use Rattle.std.proofs.lemmas.Grind.{common_steps}
 
 -- what stands past the end is 0
@@ -24,6 +24,4 @@ pub base64_back : (octets : List ℕ) → All (λ octet. octet < 256) octets →
 base64_back octets small = decode_of-encode_of standard octets refl (bytes octets small)
 
 pub decodes_once : (codec : Codec) (text x y : List ℕ) → Decodes codec text x → Decodes codec text y → x ≡ y
-decodes_once Base16 text x y one other = cc
-decodes_once Base32Hex text x y one other = one.value ∙ sym other.value
-decodes_once Base64 text x y one other = cc
+decodes_once codec text x y one other = grind (arith, common_steps)

@@ -73,5 +73,4 @@ digits_stand text octets scale rest at whole is so_far = record { digits = is.di
 
 pub digits_all : (text octets whole : List ℕ) (scale rest at : ℕ) → IsBase32 text whole → length text ≤ at
     → Digits text octets scale rest at → IsBase32 text octets
-digits_all text octets whole scale rest at is done so_far =
-    record { digits = is.digits; whole = is.whole; value = digits_end text octets scale rest at done so_far }
+digits_all text octets whole scale rest at is done so_far = grind (arith, common_steps, digits_end)

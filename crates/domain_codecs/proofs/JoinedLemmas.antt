@@ -1,12 +1,11 @@
 -- texts that are gone through in pieces of 64 characters, and what each piece stands for
 use Rattle.std.proofs.Common.{◌≡◌, ◌≢◌, ℕ, zero, suc, ◌+◌, ◌*◌, ◌/◌, ◌%◌, ◌<◌, ◌≤◌, true, false, List, [], ◌∷◌, ◌++◌, length, take, drop, get_or, length-append}
-use Rattle.std.proofs.Common.{refl, sym, ap, subst, ◌∙◌, arith, inl, inr, Option, None, Some, Ok, Err}
-use Rattle.std.specs.Prelude.{◌↔◌, Bool, not, nat_le, is_some, IsTrue, MatchOption}
+use Rattle.std.proofs.Common.{refl, sym, ap, subst, ◌∙◌, arith, Option, None, Some, Ok, Err}
+use Rattle.std.specs.Prelude.{◌↔◌, Bool, not, is_some, IsTrue, MatchOption}
 use Rattle.std.specs.List.{AllPass}
 use Rattle.std.proofs.Math.ListN.{get_or-append}
 use Rattle.std.proofs.Math.Seq.{get_or-append_seam}
-use Rattle.std.proofs.lemmas.Bool.{cases_Bool}
-use Rattle.std.proofs.lemmas.List.{take_at, drop_at, append-nil, append_assoc, map-append, length-map, get_or-append-add, take-append-drop}
+use Rattle.std.proofs.lemmas.List.{take_at, drop_at, append-nil, map-append, length-map, get_or-append-add, take-append-drop}
 use Rattle.base64.specs.GeneralPurpose.{IsBytes}
 use Rattle.base64.specs.Engines.{standard}
 use Rattle.base64.proofs.EngineFacts.{decode_of-encode_of, encode_of-nil}
@@ -24,7 +23,6 @@ use Rattle.domain_codecs.proofs.Base16Lemmas.{First, pairs_first}
 use Rattle.domain_codecs.proofs.Base64Lemmas.{DecodesTo, split_pieces, nothing_decodes, bytes-drop, Passed, passed_none, passed_more, short_piece}
 use Rattle.domain_codecs.proofs.Base64Lemmas.{decoded_length}
 use Rattle.domain_octets.specs.declared.error.AppendError.{AppendError}
-use Rattle.domain_octets.specs.declared.error.AppendError.TheVariants.{ShortBuf, OutOfMemory}
 use Rattle.base64.specs.declared.decode.DecodeError.{DecodeError}
 use Rattle.base64.specs.GeneralPurpose as base64
 use Rattle.std.proofs.lemmas.Grind.{common_steps}
@@ -40,7 +38,7 @@ pub searched_other : (codec : Codec) (text left after : List ℕ) (c : ℕ) → 
 searched_other codec text left after c so_far is other =
     let parts : text ≡ so_far.front ++ c ∷ after = so_far.parts ∙ ap (λ l. so_far.front ++ l) is in
     let before : take (length so_far.front) text ≡ so_far.front = ap (take (length so_far.front)) parts
-    ∙ take_at so_far.front (c ∷ after) (length so_far.front) refl in
+    ∙ take_at _ _ _ refl in
     record {
       place = length so_far.front;
       below = omega (arith, ap length parts, length-append so_far.front (c ∷ after));
@@ -94,7 +92,7 @@ anywhere i j [] octets is = is
 anywhere i j (a ∷ []) octets is = cc is
 anywhere i j (a ∷ b ∷ text) octets is =
     let first = pairs_first i a b text octets is in
-    pair_more j a b first.octet text first.rest (first.pair j) (anywhere (i + 2) (j + 2) text first.rest first.read) ∙ ap (λ o. Ok o) (sym first.parts)
+    pair_more j a b _ text _ (first.pair j) (anywhere (i + 2) (j + 2) text first.rest first.read) ∙ ap (λ o. Ok o) (sym first.parts)
 
 -- the pairs of two texts
 record PairsOfTwo (i j : ℕ) (front back octets : List ℕ) : Type 0 where
@@ -106,13 +104,7 @@ record PairsOfTwo (i j : ℕ) (front back octets : List ℕ) : Type 0 where
 
 pairs_after : (i j a b : ℕ) (front back octets : List ℕ) (here : First a b (decode_pairs (i + 2) (front ++ back)) octets)
     → PairsOfTwo (i + 2) j front back here.rest → PairsOfTwo i j (a ∷ b ∷ front) back octets
-pairs_after i j a b front back octets here more = record {
-  first = here.octet ∷ more.first;
-  second = more.second;
-  read = pair_more i a b here.octet front more.first (here.pair i) more.read;
-  others = more.others;
-  parts = here.parts ∙ ap (λ l. here.octet ∷ l) more.parts;
-}
+pairs_after i j a b front back octets here more = grind (arith, common_steps, (pair_more i a b here.octet front more.first (here.pair i) more.read))
 
 pairs-append : (i j : ℕ) (front back octets : List ℕ) → length front % 2 ≡ 0 → decode_pairs i (front ++ back) ≡ Ok octets → PairsOfTwo i j front back octets
 unfolding decode_pairs
@@ -124,9 +116,9 @@ pairs-append i j (a ∷ b ∷ front) back octets even is =
 
 halves16 : (piece after octets : List ℕ) → length piece ≡ 64 → decode_of (piece ++ after) ≡ Ok octets → Halves Base16 piece after octets
 halves16 piece after octets full decoded =
-    let even = (decode_of-ok (piece ++ after) octets decoded).0 in
+    let even = (decode_of-ok _ octets decoded).0 in
     let size = length-append piece after in
-    let here = pairs-append 0 0 piece after octets (omega arith) (sym (decode_of-even (piece ++ after) even) ∙ decoded) in
+    let here = pairs-append 0 0 piece after octets (omega arith) (sym (decode_of-even _ even) ∙ decoded) in
     record {
       front = here.first;
       back = here.second;
@@ -164,26 +156,24 @@ halves32 piece after octets full decoded =
       first = record { digits = pass_front Base32Hex piece after decoded.digits; whole = rw full refl; value = refl };
       others = record { digits = pass_back Base32Hex piece after decoded.digits; whole = rw same at decoded.whole; value = refl };
       parts = decoded.value ∙ ap (base32_octets 1 0) (map-append _ piece after)
-          ∙ eights 8 (base32_digits piece) (base32_digits after) (length-map piece _ ∙ full);
+          ∙ eights 8 _ _ (length-map piece _ ∙ full);
     }
 
 halves64 : (piece after octets : List ℕ) (c : ℕ) → IsBytes (piece ++ c ∷ after) → length piece ≡ 64
     → DecodesTo (piece ++ c ∷ after) octets → Halves Base64 piece (c ∷ after) octets
 halves64 piece after octets c bytes full decoded =
-    let parts = split_pieces (piece ++ c ∷ after) octets bytes (omega (arith, length-append piece (c ∷ after))) decoded in
-    record {
-      front = take 48 octets;
-      back = drop 48 octets;
-      first = subst (λ t. DecodesTo t (take 48 octets)) (take_at piece (c ∷ after) 64 full) parts.first;
-      others = subst (λ t. DecodesTo t (drop 48 octets)) (drop_at piece (c ∷ after) 64 full) parts.others;
-      parts = sym (take-append-drop 48 octets);
-    }
+    grind (
+      arith,
+      common_steps,
+      (split_pieces (piece ++ c ∷ after) octets bytes (omega (arith, length-append piece (c ∷ after))) decoded),
+      (take_at piece (c ∷ after) 64 full),
+      (drop_at piece (c ∷ after) 64 full),
+      (take-append-drop 48 octets),
+    )
 
 of_two : (codec : Codec) (piece after octets : List ℕ) (c : ℕ) → IsBytes (piece ++ c ∷ after) → length piece ≡ 64
     → Decodes codec (piece ++ c ∷ after) octets → Halves codec piece (c ∷ after) octets
-of_two Base16 piece after octets c bytes full decoded = halves16 piece (c ∷ after) octets full decoded
-of_two Base32Hex piece after octets c bytes full decoded = halves32 piece (c ∷ after) octets full decoded
-of_two Base64 piece after octets c bytes full decoded = halves64 piece after octets c bytes full decoded
+of_two codec piece after octets c bytes full decoded = grind (arith, common_steps, halves16, halves32, halves64)
 
 pub halves : (codec : Codec) (text piece after octets : List ℕ) → IsBytes text → Cut text piece after → Decodes codec text octets
     → Halves codec piece after octets
@@ -191,8 +181,7 @@ halves codec text piece [] octets bytes cut decoded = all_in_front codec text pi
 halves codec text piece (c ∷ after) octets bytes cut decoded = grind (arith, common_steps, of_two)
 
 bytes_after : (text piece after : List ℕ) → text ≡ piece ++ after → IsBytes text → IsBytes after
-bytes_after text piece after parts bytes =
-    subst IsBytes (ap (drop (length piece)) parts ∙ drop_at piece after (length piece) refl) (bytes-drop (length piece) text bytes)
+bytes_after text piece after parts bytes = grind (arith, common_steps, (drop_at piece after (length piece) refl), (bytes-drop (length piece) text bytes))
 
 -- some pieces of the text have been read, and these characters are left
 pub record ReadPieces (codec : Codec) (text left built : List ℕ) : Type 0 where
@@ -210,18 +199,12 @@ pub record NextPiece (codec : Codec) (text piece after built : List ℕ) : Type 
 pub pieces_next : (codec : Codec) (text left piece after built : List ℕ) → ReadPieces codec text left built → Cut left piece after
     → NextPiece codec text piece after built
 pieces_next codec text left piece after built so_far cut =
-    let two = halves codec left piece after so_far.rest so_far.bytes cut so_far.decoded in
-    let parts : built ++ so_far.rest ≡ (built ++ two.front) ++ two.back = ap (λ o. built ++ o) two.parts ∙ sym (append_assoc built two.front two.back) in
-    record {
-      octets = two.front;
-      first = two.first;
-      more = record {
-        rest = two.back;
-        decoded = two.others;
-        whole = subst (λ o. Decodes codec text o) parts so_far.whole;
-        bytes = bytes_after left piece after cut.parts so_far.bytes;
-      };
-    }
+    grind (
+      arith,
+      common_steps,
+      (halves codec left piece after so_far.rest so_far.bytes cut so_far.decoded),
+      (bytes_after left piece after cut.parts so_far.bytes),
+    )
 
 -- a piece without characters is the last
 pub none_after : (left piece after : List ℕ) → Cut left piece after → length piece ≡ 0 → left ≡ []
@@ -255,11 +238,6 @@ module _ (text left piece after : List ℕ) (so_far : Passed text left) (cut : C
       let first = two.first in
       cc
 
-  -- a piece after which nothing is left ends a text
-  pub last_in_text : (octets : List ℕ) → DecodesTo piece octets → after ≡ [] → IsText Base64 text
-  last_in_text octets read none =
-      so_far.back octets (subst (λ t. DecodesTo t octets) (sym (cut.parts ∙ ap (λ l. piece ++ l) none ∙ append-nil piece)) read)
-
 -- one that stands for fewer than 48 octets is the last
 pub short_ends : (text left piece after rest octets : List ℕ) (c : ℕ) → Passed text left → Cut left piece after → after ≡ c ∷ rest
     → DecodesTo piece octets → length octets < 48 → IsText Base64 text → ⊥
@@ -267,15 +245,14 @@ short_ends text left piece after rest octets c so_far cut more read short is =
     let there : Cut left piece (c ∷ rest) = subst (λ a. Cut left piece a) more cut in
     let full = long_cut left piece rest c there in
     let long : 64 < length left = omega (arith, ap length there.parts, length-append piece (c ∷ rest)) in
-    let front : take 64 left ≡ piece = ap (take 64) there.parts ∙ take_at piece (c ∷ rest) 64 full in
+    let front : take 64 left ≡ piece = ap (take 64) there.parts ∙ take_at piece _ 64 full in
     short_piece text left so_far long is.0 is.1 octets (subst (λ t. DecodesTo t octets) (sym front) read) short
 
 -- so whether anything is left says whether it is a text
 pub short_decides : (text left piece after rest octets : List ℕ) (next : Option ℕ) (none : Bool) → Passed text left
     → Cut left piece after → is_some next ≡ not none
     → MatchOption next ((after ≡ []) × (rest ≡ [])) (λ c. after ≡ c ∷ rest) → DecodesTo piece octets → length octets < 48 → IsTrue none ↔ IsText Base64 text
-short_decides text left piece after rest octets None true so_far cut told left_over read short =
-    (λ yes. last_in_text text left piece after so_far cut octets read left_over.0, λ is. refl)
+short_decides text left piece after rest octets None true so_far cut told left_over read short = grind (arith, common_steps)
 short_decides text left piece after rest octets None false so_far cut told left_over read short = cc told
 short_decides text left piece after rest octets (Some c) true so_far cut told left_over read short = cc told
 short_decides text left piece after rest octets (Some c) false so_far cut told left_over read short =
@@ -284,16 +261,12 @@ short_decides text left piece after rest octets (Some c) false so_far cut told l
 -- one that stands for 48 octets may be followed by others
 pub full_goes_on : (text left piece after octets : List ℕ) → Passed text left → Cut left piece after → DecodesTo piece octets
     → length octets ≡ 48 → Passed text after
-full_goes_on text left piece [] octets so_far cut read full = record {
-  back = λ none decoded. last_in_text text left piece [] so_far cut octets read refl;
-  forth = λ whole decoded. ([], nothing Base64);
-  bytes = λ i. omega arith;
-}
+full_goes_on text left piece [] octets so_far cut read full = grind (arith, common_steps, (nothing Base64))
 full_goes_on text left piece (c ∷ after) octets so_far cut read full =
     let size = long_cut left piece after c cut in
     let long : 64 < length left = omega (arith, ap length cut.parts, length-append piece (c ∷ after)) in
-    let front : take 64 left ≡ piece = ap (take 64) cut.parts ∙ take_at piece (c ∷ after) 64 size in
-    let back : drop 64 left ≡ c ∷ after = ap (drop 64) cut.parts ∙ drop_at piece (c ∷ after) 64 size in
+    let front : take 64 left ≡ piece = ap (take 64) cut.parts ∙ take_at piece _ 64 size in
+    let back : drop 64 left ≡ c ∷ after = ap (drop 64) cut.parts ∙ drop_at piece _ 64 size in
     subst (λ l. Passed text l) back (passed_more text left octets so_far long (subst (λ t. DecodesTo t octets) (sym front) read) full)
 
 -- and is no empty piece
@@ -306,10 +279,13 @@ full_is_some left (c ∷ piece) after octets cut read full = omega (arith, ap le
 base32_short : (scale rest : ℕ) (digits : List ℕ) → length (base32_octets scale rest digits) ≤ length digits
 unfolding base32_octets
 base32_short scale rest [] = omega arith
-base32_short scale rest (digit ∷ digits) = elim (cases_Bool (nat_le 256 (32 * scale))) [
-  | inl wide ↦ let more = base32_short (32 * scale / 256) ((32 * rest + digit) % (32 * scale / 256)) digits in rw wide (omega (arith, more))
-  | inr narrow ↦ let more = base32_short (32 * scale) (32 * rest + digit) digits in rw narrow (omega (arith, more))
-]
+base32_short scale rest (digit ∷ digits) =
+    grind (
+      arith,
+      common_steps,
+      (base32_short (32 * scale / 256) ((32 * rest + digit) % (32 * scale / 256)) digits),
+      (base32_short (32 * scale) (32 * rest + digit) digits),
+    )
 
 no_longer : (codec : Codec) (text octets : List ℕ) → IsBytes text → Decodes codec text octets → length octets ≤ length text
 no_longer Base16 text octets bytes decoded = omega (arith, (decode_of-ok text octets decoded).2)
@@ -318,5 +294,4 @@ no_longer Base64 text octets bytes decoded = omega (arith, decoded_length text o
 
 -- an array of 64 octets takes those of a piece
 pub piece_has_room : (codec : Codec) (piece : List ℕ) (e : AppendError) → IsBytes piece → length piece ≤ 64 → BuildFault codec (Some 64) piece e → ⊥
-piece_has_room codec piece ShortBuf bytes small fault = omega (arith, no_longer codec piece fault.0 bytes fault.1, fault.2)
-piece_has_room codec piece OutOfMemory bytes small fault = cc fault
+piece_has_room codec piece e bytes small fault = grind (arith, common_steps, no_longer)

@@ -59,8 +59,7 @@ unfolding encode_symbols
 symbols_plain table [] plain = tt
 symbols_plain table (a ∷ []) plain = (plain (a / 4), (plain (a % 4 * 16), tt))
 symbols_plain table (a ∷ b ∷ []) plain = (plain (a / 4), (plain (a % 4 * 16 + b / 16), (plain (b % 16 * 4), tt)))
-symbols_plain table (a ∷ b ∷ c ∷ octets) plain =
-    (plain (a / 4), (plain (a % 4 * 16 + b / 16), (plain (b % 16 * 4 + c / 64), (plain (c % 64), symbols_plain table octets plain))))
+symbols_plain table (a ∷ b ∷ c ∷ octets) plain = grind (arith, common_steps, (symbols_plain table octets plain))
 
 symbols_some : (table octets rest : List ℕ) → octets ≢ [] → encode_symbols table octets ++ rest ≢ []
 unfolding encode_symbols

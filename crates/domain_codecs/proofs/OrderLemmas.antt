@@ -54,26 +54,12 @@ pulled_left : (scale rest octet : ℕ) (octets : List ℕ) → IsScale scale →
     → digits_left scale rest (octet ∷ octets) ≡ ((256 * rest + octet) / (256 * scale / 32)) ∷ digits_left (256 * scale / 32)
     ((256 * rest + octet) % (256 * scale / 32)) octets
 unfolding base32_from
-pulled_left scale rest octet octets no_bits narrow = refl
-pulled_left scale rest octet octets one_bit narrow = refl
-pulled_left scale rest octet octets two_bits narrow = refl
-pulled_left scale rest octet octets three_bits narrow = refl
-pulled_left scale rest octet octets four_bits narrow = refl
-pulled_left scale rest octet octets five_bits narrow = absurd (omega arith)
-pulled_left scale rest octet octets six_bits narrow = absurd (omega arith)
-pulled_left scale rest octet octets seven_bits narrow = absurd (omega arith)
+pulled_left scale rest octet octets h narrow = grind (arith, common_steps)
 
 -- the last digit
 last_left : (scale rest : ℕ) → IsScale scale → scale < 32 → scale ≢ 1 → digits_left scale rest [] ≡ ((32 / scale) * rest) ∷ []
 unfolding base32_from
-last_left scale rest no_bits narrow other = absurd (other refl)
-last_left scale rest one_bit narrow other = refl
-last_left scale rest two_bits narrow other = refl
-last_left scale rest three_bits narrow other = refl
-last_left scale rest four_bits narrow other = refl
-last_left scale rest five_bits narrow other = absurd (omega arith)
-last_left scale rest six_bits narrow other = absurd (omega arith)
-last_left scale rest seven_bits narrow other = absurd (omega arith)
+last_left scale rest h narrow other = grind (arith, common_steps)
 
 none_left : (scale rest : ℕ) (octets : List ℕ) → octets ≡ [] → scale ≡ 1 → digits_left scale rest octets ≡ []
 unfolding base32_from
@@ -181,14 +167,7 @@ head scale rest octets seven_bits narrow some small = absurd (omega arith)
 
 -- fewer bits left over come first, whatever follows
 apart : (scale r s : ℕ) (xs ys : List ℕ) → IsScale scale → scale < 32 → (a : Head scale r xs) (b : Head scale s ys) → r < s → a.digit < b.digit
-apart scale r s xs ys no_bits narrow a b below = omega (arith, a.high, b.low)
-apart scale r s xs ys one_bit narrow a b below = omega (arith, a.high, b.low)
-apart scale r s xs ys two_bits narrow a b below = omega (arith, a.high, b.low)
-apart scale r s xs ys three_bits narrow a b below = omega (arith, a.high, b.low)
-apart scale r s xs ys four_bits narrow a b below = omega (arith, a.high, b.low)
-apart scale r s xs ys five_bits narrow a b below = absurd (omega arith)
-apart scale r s xs ys six_bits narrow a b below = absurd (omega arith)
-apart scale r s xs ys seven_bits narrow a b below = absurd (omega arith)
+apart scale r s xs ys h narrow a b below = grind (arith, common_steps)
 
 below_narrow : (scale r s : ℕ) (xs ys : List ℕ) → IsScale scale → scale < 32 → AreOctets xs → AreOctets ys → r < s → s < scale
     → slice_cmp nat_cmp (digits_left scale r xs) (digits_left scale s ys) ≡ Less
@@ -204,10 +183,9 @@ below_any scale r s xs ys one_bit xs_small ys_small below fits = below_narrow 2 
 below_any scale r s xs ys two_bits xs_small ys_small below fits = below_narrow 4 r s xs ys two_bits (lit< tt) xs_small ys_small below fits
 below_any scale r s xs ys three_bits xs_small ys_small below fits = below_narrow 8 r s xs ys three_bits (lit< tt) xs_small ys_small below fits
 below_any scale r s xs ys four_bits xs_small ys_small below fits = below_narrow 16 r s xs ys four_bits (lit< tt) xs_small ys_small below fits
-below_any scale r s xs ys five_bits xs_small ys_small below fits =
-    digits_less (r / 1) (s / 1) (digits_left 1 (r % 1) xs) (digits_left 1 (s % 1) ys) (omega arith) (λ same. absurd (omega arith))
+below_any scale r s xs ys five_bits xs_small ys_small below fits = grind (arith, common_steps)
 below_any scale r s xs ys six_bits xs_small ys_small below fits =
-    digits_less (r / 2) (s / 2) (digits_left 2 (r % 2) xs) (digits_left 2 (s % 2) ys) (omega arith)
+    digits_less (r / 2) (s / 2) (digits_left 2 (r % 2) xs) _ (omega arith)
     (λ same. below_narrow 2 (r % 2) (s % 2) xs ys one_bit (lit< tt) xs_small ys_small (omega arith) (omega arith))
 below_any scale r s xs ys seven_bits xs_small ys_small below fits =
     digits_less (r / 4) (s / 4) (digits_left 4 (r % 4) xs) (digits_left 4 (s % 4) ys) (omega arith)
@@ -296,12 +274,9 @@ wide xs ys narrow scale rest one_bit below = narrow 2 rest one_bit (lit< tt) bel
 wide xs ys narrow scale rest two_bits below = narrow 4 rest two_bits (lit< tt) below
 wide xs ys narrow scale rest three_bits below = narrow 8 rest three_bits (lit< tt) below
 wide xs ys narrow scale rest four_bits below = narrow 16 rest four_bits (lit< tt) below
-wide xs ys narrow scale rest five_bits below = head_same (rest / 1) (rest / 1) (digits_left 1 (rest % 1) xs)
-    (digits_left 1 (rest % 1) ys) refl ∙ narrow 1 (rest % 1) no_bits (lit< tt) (omega arith)
-wide xs ys narrow scale rest six_bits below = head_same (rest / 2) (rest / 2) (digits_left 2 (rest % 2) xs)
-    (digits_left 2 (rest % 2) ys) refl ∙ narrow 2 (rest % 2) one_bit (lit< tt) (omega arith)
-wide xs ys narrow scale rest seven_bits below = head_same (rest / 4) (rest / 4) (digits_left 4 (rest % 4) xs)
-    (digits_left 4 (rest % 4) ys) refl ∙ narrow 4 (rest % 4) two_bits (lit< tt) (omega arith)
+wide xs ys narrow scale rest five_bits below = grind (arith, common_steps, no_bits)
+wide xs ys narrow scale rest six_bits below = grind (arith, common_steps, one_bit)
+wide xs ys narrow scale rest seven_bits below = grind (arith, common_steps, two_bits)
 
 turned : (xs ys : List ℕ) → slice_cmp nat_cmp ys xs ≡ Less → slice_cmp nat_cmp xs ys ≡ Greater
 turned xs ys below = (nat_list_cmp_total).antisymm xs ys ∙ ap ordering_reverse below

@@ -1,6 +1,5 @@
 -- what octets are written as in Base 32 hex, in either case, is read back
-use Rattle.std.proofs.Common.{◌≡◌, ℕ, ◌+◌, ◌*◌, ◌/◌, ◌%◌, ◌<◌, true, All, not, ◌||◌, List, [], ◌∷◌, map, length, refl, ap, sym, ◌∙◌, arith, lit<, nat_eq}
-use Rattle.std.proofs.Common.{Some}
+use Rattle.std.proofs.Common.{◌≡◌, ℕ, ◌+◌, ◌*◌, ◌/◌, ◌%◌, ◌<◌, true, All, not, ◌||◌, List, [], ◌∷◌, map, length, refl, ap, sym, ◌∙◌, arith, lit<, nat_eq, Some}
 use Rattle.std.proofs.lemmas.Bool.Decides.{nat_tests}
 use Rattle.std.proofs.lemmas.List.{length-map}
 use Rattle.std.specs.List.{list_all, AllByRecursion}
@@ -104,7 +103,7 @@ unfolding base32_from
 digits_more y ys b up = record {
   whole = λ r n l e. let h = up.three ((256 * r + y) % 8) (n + 1) (omega arith) (omega arith) in (
     (omega arith, h.0),
-    onward n ((256 * r + y) / 8) (base32_from 8 ((256 * r + y) % 8) ys) h.1,
+    onward n ((256 * r + y) / 8) _ h.1,
   );
   three = λ r n l e.
       let h = up.one ((256 * r + y) % 64 % 2) (n + 1 + 1) (omega arith) (omega arith) in (
@@ -115,7 +114,7 @@ digits_more y ys b up = record {
       );
   one = λ r n l e. let h = up.four ((256 * r + y) % 16) (n + 1) (omega arith) (omega arith) in (
     (omega arith, h.0),
-    onward n ((256 * r + y) / 16) (base32_from 16 ((256 * r + y) % 16) ys) h.1,
+    onward n ((256 * r + y) / 16) _ h.1,
   );
   four = λ r n l e.
       let h = up.two ((256 * r + y) % 128 % 4) (n + 1 + 1) (omega arith) (omega arith) in (
@@ -138,8 +137,8 @@ digits [] h = digits_none
 digits (y ∷ ys) h = digits_more y ys h.0 (digits ys h.1)
 
 pub are_small : (octets : List ℕ) → All (λ octet. octet < 256) octets → All (λ digit. digit < 32) (base32_from 1 0 octets)
-are_small octets h = All-from_recursion (λ digit. digit < 32) (base32_from 1 0 octets)
-    ((digits octets (recursion_from_All (λ octet. octet < 256) octets h)).whole 0 0 (lit< tt) refl).0
+are_small octets h =
+    All-from_recursion _ _ ((digits octets (recursion_from_All (λ octet. octet < 256) octets h)).whole 0 0 (lit< tt) refl).0
 
 value_of_digit : (n : ℕ) → n < 32 → base32_value (lower_digit n) ≡ Some n
 value_of_digit n l = grind (arith, nat_tests)

@@ -1,5 +1,5 @@
 -- room in a builder that is filled part by part
-use Rattle.std.proofs.Common.{◌≡◌, ℕ, ◌+◌, ◌≤◌, List, ◌++◌, length, refl, sym, subst, arith, Option, None, Some, Result, Ok, Err}
+use Rattle.std.proofs.Common.{◌≡◌, ℕ, ◌+◌, List, ◌++◌, length, arith, Option, Result, Ok, Err}
 use Rattle.std.specs.Prelude.{◌↔◌, IsErrOf, IsErrAnd, IfErr, IsNone}
 use Rattle.domain_octets.specs.Limit.{IsOver, HasRoom}
 use Rattle.domain_octets.specs.declared.error.AppendError.{AppendError}
@@ -8,29 +8,17 @@ use Rattle.domain_codecs.specs.declared.codec.Codec.{Codec}
 use Rattle.domain_codecs.specs.Codec.{Decodes, BuildFault}
 use Rattle.std.proofs.lemmas.Grind.{common_steps}
 
-pub over_more : (limit : Option ℕ) (m n : ℕ) → m ≤ n → IsOver limit m → IsOver limit n
-over_more None m n le over = over
-over_more (Some k) m n le over = omega arith
-
 -- what was appended whole had room
 pub room_for_part : {X : Type 0} (limit : Option ℕ) (x : X) (r : Result X AppendError) (built part after : List ℕ) → r ≡ Ok x → after ≡ built ++ part
     → IsErrOf r ShortBuf ↔ IsOver limit (length built + length part) → HasRoom limit (length after)
 room_for_part limit x r built part after is grown short over = grind (arith, common_steps)
 
--- where a part has no room, neither has the whole
-pub no_room_for_whole : (limit : Option ℕ) (built part rest whole : List ℕ) → (built ++ part) ++ rest ≡ whole
-    → IsOver limit (length built + length part) → IsOver limit (length whole)
-no_room_for_whole limit built part rest whole parts over = grind (arith, common_steps)
-
 -- a part that is refused on the way to the octets of a text
 pub build_stops : {X : Type 0} (codec : Codec) (limit : Option ℕ) (text built part rest : List ℕ) (r : Result X AppendError)
     (e : AppendError) → r ≡ Err e → Decodes codec text ((built ++ part) ++ rest)
     → IsErrOf r ShortBuf ↔ IsOver limit (length built + length part) → (IsErrOf r OutOfMemory → IsNone limit) → BuildFault codec limit text e
-build_stops codec limit text built part rest r ShortBuf is decoded short memory =
-    ((built ++ part) ++ rest, decoded, no_room_for_whole limit built part rest ((built ++ part) ++ rest) refl (short.0 (rw is refl)))
-build_stops codec limit text built part rest r OutOfMemory is decoded short memory = memory (rw is refl)
+build_stops codec limit text built part rest r e is decoded short memory = grind (arith, common_steps)
 
 -- an error that is handed on
 pub handed_on : {Y : Type 0} (P : AppendError → Type 0) (e : AppendError) (r : Result Y AppendError) → IsErrAnd r (λ y. y ≡ e) → P e → IfErr r P
-handed_on P e (Ok y) is why = tt
-handed_on P e (Err d) is why = subst P (sym is) why
+handed_on P e r is why = grind (arith, common_steps)

@@ -92,6 +92,7 @@ fn build<B: EmptyBuilder + Drop>(alloc: Global, codec: Codec, text: &[u8]) -> Re
 }
 
 /// The octets that a piece of a text stands for, which are no more than its characters.
+#[tactic(auto, using(crate::proofs::JoinedLemmas::piece_has_room))]
 fn build_piece(alloc: Global, codec: Codec, piece: &[u8]) -> ArrayBuilder<64>
     requires text { IsText codec piece.now }
     requires small { length piece.now ≤ 64 }

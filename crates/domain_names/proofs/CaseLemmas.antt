@@ -35,7 +35,7 @@ labels-lowered (label ∷ labels) all =
         not_empty = omega (arith, label_is.not_empty, long);
         fits = omega (arith, label_is.fits, long);
         octets = All-map (λ octet. octet < 256) to_ascii_lowercase label
-            (All-weaker (λ octet. octet < 256) (λ octet. to_ascii_lowercase octet < 256) low_octet label label_is.octets);
+            (All-weaker _ _ low_octet label label_is.octets);
       },
       labels-lowered labels all.1,
     )
@@ -68,7 +68,7 @@ one_line name above other a b shorter =
     ) in
     record {
       front = drop k b.front;
-      joined = sym (drop_at a.front (lowered above) k refl) ∙ ap (drop k) (sym a.joined ∙ b.joined) ∙ drop-append-le k b.front (lowered other) upto;
+      joined = sym (drop_at a.front _ k refl) ∙ ap (drop k) (sym a.joined ∙ b.joined) ∙ drop-append-le k b.front _ upto;
     }
 
 -- the test of being at or below decides it
@@ -78,7 +78,6 @@ at_or_below_test name above =
     let k = length whole - length (lowered above) in
     let labels = pointwise_decides bytes_decides (lowered above) (drop k whole) in (
       (λ yes. record { front = take k whole; joined = sym (take-append-drop k whole) ∙ ap (λ l. take k whole ++ l) (sym (labels.0 yes)) }),
-      (λ below.
-          let long : length below.front ≡ k = omega (arith, ap length below.joined, length-append below.front (lowered above)) in
-          labels.1 (sym (ap (drop k) below.joined ∙ drop_at below.front (lowered above) k long))),
+      (λ below. let long : length below.front ≡ k = omega (arith, ap length below.joined, length-append below.front (lowered above)) in
+          labels.1 (sym (ap (drop k) below.joined ∙ drop_at _ _ k long))),
     )

@@ -1,4 +1,5 @@
 -- how many labels two names share from the root on: a walk over labels counts since the last two that differ
+use Rattle.std.proofs.lemmas.Grind.{common_steps}
 use Rattle.std.proofs.Common.{◌≡◌, ℕ, ◌+◌, ◌-◌, Bool, true, false, cond, ◌&&◌, List, [], ◌∷◌, ◌++◌, map, length, reverse, take, drop, refl, sym, ap, ◌∙◌, inl}
 use Rattle.std.proofs.Common.{inr, ◌⊎◌, arith, nat_eq, Option, None, Some, rules}
 use Rattle.std.specs.List.{common_prefix_len}
@@ -24,7 +25,7 @@ module _ {X : Type 0} (e : X → X → Bool) where
   common_whole [] (w ∷ ws) vs zs l h = absurd (omega arith)
   common_whole (u ∷ us) [] vs zs l h = absurd (omega arith)
   common_whole (u ∷ us) (w ∷ ws) vs zs l h =
-      let p = and_parts (e u w) (pointwise e us ws) h in
+      let p = and_parts _ _ h in
       let up = common_whole us ws vs zs (omega arith) p.1 in
       (λ i. cond (p.0 i) (1 + common (us ++ vs) (ws ++ zs)) 0) ∙ omega arith
 
@@ -33,7 +34,7 @@ module _ {X : Type 0} (e : X → X → Bool) where
   common_part [] (w ∷ ws) vs zs l h = absurd (omega arith)
   common_part (u ∷ us) [] vs zs l h = absurd (omega arith)
   common_part (u ∷ us) (w ∷ ws) vs zs l h =
-      elim (cases_Bool (e u w)) [
+      elim (cases_Bool _) [
         | inl t ↦
             (λ i. cond (e u w) (1 + common_part us ws vs zs (omega arith) (sym (ap (λ b. b && pointwise e us ws) t) ∙ h) i) 0)
         | inr f ↦ (λ i. cond (f i) (1 + common (us ++ vs) (ws ++ zs)) 0) ∙ sym (λ i. cond (f i) (1 + common us ws) 0)
@@ -82,36 +83,36 @@ module _ {X : Type 0} (e : X → X → Bool) where
   runs n (x ∷ xs) (y ∷ ys) l =
       let same_length : length (reverse xs) ≡ length (reverse ys) = omega (arith, length-reverse xs, length-reverse ys) in
       let fronts : pointwise e (reverse (x ∷ xs)) (reverse (y ∷ ys)) ≡ (pointwise e (reverse xs) (reverse ys) && e x y) =
-      (λ i. pointwise e (reverse-append (x ∷ []) xs i) (reverse-append (y ∷ []) ys i)) ∙ pointwise-snoc (reverse xs) (reverse ys) x y same_length in
+      (λ i. pointwise e (reverse-append (x ∷ []) xs i) (reverse-append (y ∷ []) ys i)) ∙ pointwise-snoc _ _ x y same_length in
       let more : common (reverse (x ∷ xs)) (reverse (y ∷ ys)) ≡ common (reverse xs ++ x ∷ []) (reverse ys ++ y ∷ []) =
       λ i. common (reverse-append (x ∷ []) xs i) (reverse-append (y ∷ []) ys i) in
       record {
         whole = λ h.
-            let p = and_parts (pointwise e (reverse xs) (reverse ys)) (e x y) (sym fronts ∙ h) in
+            let p = and_parts _ (e x y) (sym fronts ∙ h) in
             let up = (runs (n + 1) xs ys (omega arith)).whole p.0 in
             (λ i. tail_run (cond (p.1 i) (n + 1) 0) xs ys) ∙ omega arith;
         part = λ h.
-            elim (cases_Bool (pointwise e (reverse xs) (reverse ys))) [
+            elim (cases_Bool _) [
               | inl t ↦
                   let f : e x y ≡ false = sym (ap (λ b. b && e x y) t) ∙ sym fronts ∙ h in
                   let up = (runs 0 xs ys (omega arith)).whole t in
-                  let down = common_whole (reverse xs) (reverse ys) (x ∷ []) (y ∷ []) same_length t in
+                  let down = common_whole _ _ (x ∷ []) (y ∷ []) same_length t in
                   let none : common (x ∷ []) (y ∷ []) ≡ 0 = λ i. cond (f i) 1 0 in
                   (λ i. tail_run (cond (f i) (n + 1) 0) xs ys) ∙ omega (arith, length-reverse xs, up, down, none, more)
               | inr f ↦
                   (runs (cond (e x y) (n + 1) 0) xs ys (omega arith)).part f
-                  ∙ sym (common_part (reverse xs) (reverse ys) (x ∷ []) (y ∷ []) same_length f)
+                  ∙ sym (common_part _ _ (x ∷ []) (y ∷ []) same_length f)
                   ∙ sym more
             ];
       }
 
   run_level : (xs ys : List X) → length xs ≡ length ys → tail_run 0 xs ys ≡ common (reverse xs) (reverse ys)
   run_level xs ys l =
-      elim (cases_Bool (pointwise e (reverse xs) (reverse ys))) [
+      elim (cases_Bool _) [
         | inl t ↦
             let whole = (runs 0 xs ys l).whole t in
             let same_length : length (reverse xs) ≡ length (reverse ys) = omega (arith, length-reverse xs, length-reverse ys) in
-            let all = common_whole (reverse xs) (reverse ys) [] [] same_length t in
+            let all = common_whole _ _ [] [] same_length t in
             let out : common (reverse xs ++ []) (reverse ys ++ [])
             ≡ common (reverse xs) (reverse ys) = λ i. common (append-nil (reverse xs) i) (append-nil (reverse ys) i) in
             omega (arith, length-reverse xs, whole, all, out)
@@ -180,9 +181,7 @@ walk_ends n x y left right counted over = sym (ended left right over) ∙ counte
 apart_share : (r x_front y_front : List (List ℕ)) (x y : List ℕ) → pointwise nat_eq x y ≡ false
     → common_prefix_len same_label (r ++ x ∷ x_front) (r ++ y ∷ y_front) ≡ length r
 apart_share r x_front y_front x y differ =
-    common_whole same_label r r (x ∷ x_front) (y ∷ y_front) refl ((pointwise_decides bytes_decides r r).1 refl)
-    ∙ ap (λ b. length r + cond b (1 + common_prefix_len same_label x_front y_front) 0) differ
-    ∙ omega arith
+    grind (arith, common_steps, (common_whole same_label r r (x ∷ x_front) (y ∷ y_front) refl ((pointwise_decides bytes_decides r r).1 refl)))
 
 one_ends : (r ws zs : List (List ℕ)) → (ws ≡ []) ⊎ (zs ≡ []) → common_prefix_len same_label (r ++ ws) (r ++ zs) ≡ length r
 one_ends r ws zs over =

@@ -27,20 +27,17 @@ no_fault_by : (used : ℕ) (octets : List ℕ) (fault : Fault) → NameFault use
 no_fault_by used octets fault no_octet [] after is all fits = cc
 no_fault_by used octets fault no_octet (l ∷ ls) after is all fits = cc
 no_fault_by used octets fault (bad_label len rest big) [] after is all fits = let e : len ≡ 0 = cc in omega arith
-no_fault_by used octets fault (bad_label len rest big) (l ∷ ls) after is all fits =
-    let e : len ≡ length l = cc in let label_is : IsLabel l = all.0 in omega (arith, label_is.fits)
+no_fault_by used octets fault (bad_label len rest big) (l ∷ ls) after is all fits = grind (arith, common_steps)
 no_fault_by used octets fault (long_name len rest some small big) [] after is all fits = let e : len ≡ 0 = cc in omega arith
-no_fault_by used octets fault (long_name len rest some small big) (l ∷ ls) after is all fits =
-    let e : len ≡ length l = cc in omega (arith, length-append l (wire_of ls), length-wire_of ls, fits)
+no_fault_by used octets fault (long_name len rest some small big) (l ∷ ls) after is all fits = grind (arith, common_steps, (length-wire_of ls))
 no_fault_by used octets fault (cut_label len rest some small short cut) [] after is all fits = let e : len ≡ 0 = cc in omega arith
-no_fault_by used octets fault (cut_label len rest some small short cut) (l ∷ ls) after is all fits =
-    let e : len ≡ length l = cc in omega (arith, ap length is, length-append (l ++ wire_of ls) after, length-append l (wire_of ls), length-wire_of ls)
+no_fault_by used octets fault (cut_label len rest some small short cut) (l ∷ ls) after is all fits = grind (arith, common_steps)
 no_fault_by used octets fault (past_label label rest f some small short next) [] after is all fits = let e : length label ≡ 0 = cc in omega arith
 no_fault_by used octets fault (past_label label rest f some small short next) (l ∷ ls) after is all fits =
     let long : length label ≡ length l = cc in
     let tails : label ++ rest ≡ (l ++ wire_of ls) ++ after = cc in
-    let rest_is = rest_of label rest l (wire_of ls ++ after) long (tails ∙ append_assoc l (wire_of ls) after) in
-    no_fault_by (used + length label + 1) rest f next ls after rest_is all.1 (omega (arith, fits, length-append l (wire_of ls)))
+    let rest_is = rest_of label rest l _ long (tails ∙ append_assoc l _ after) in
+    no_fault_by _ rest f next ls after rest_is all.1 (omega (arith, fits, length-append l (wire_of ls)))
 
 -- octets that begin with a name have no fault in it
 pub no_name_fault : (octets : List ℕ) (fault : Fault) → NameFault 0 octets fault → (labels : List (List ℕ)) (after : List ℕ)
@@ -51,16 +48,14 @@ no_name_fault octets fault found labels after valid is = no_fault_by 0 octets fa
 pub one_reading : (xs ys : List (List ℕ)) (a b : List ℕ) → AllByRecursion IsLabel xs → AllByRecursion IsLabel ys
     → wire_of xs ++ a ≡ wire_of ys ++ b → (xs ≡ ys) × (a ≡ b)
 one_reading [] [] a b xs_valid ys_valid same = (refl, cc)
-one_reading [] (y ∷ ys) a b xs_valid ys_valid same = let e : 0
-    ≡ length y = cc in let label_is : IsLabel y = ys_valid.0 in absurd (omega (arith, label_is.not_empty))
-one_reading (x ∷ xs) [] a b xs_valid ys_valid same = let e : length x
-    ≡ 0 = cc in let label_is : IsLabel x = xs_valid.0 in absurd (omega (arith, label_is.not_empty))
+one_reading [] (y ∷ ys) a b xs_valid ys_valid same = grind (arith, common_steps)
+one_reading (x ∷ xs) [] a b xs_valid ys_valid same = grind (arith, common_steps)
 one_reading (x ∷ xs) (y ∷ ys) a b xs_valid ys_valid same =
     let long : length x ≡ length y = cc in
     let tails : (x ++ wire_of xs) ++ a ≡ (y ++ wire_of ys) ++ b = cc in
-    let joined : x ++ (wire_of xs ++ a) ≡ y ++ (wire_of ys ++ b) = sym (append_assoc x (wire_of xs) a) ∙ tails ∙ append_assoc y (wire_of ys) b in
-    let heads : x ≡ y = sym (take_at x (wire_of xs ++ a) (length x) refl) ∙ ap (take (length x)) joined ∙ take_at y (wire_of ys ++ b) (length x) (sym long) in
-    let rest = one_reading xs ys a b xs_valid.1 ys_valid.1 (rest_of x (wire_of xs ++ a) y (wire_of ys ++ b) long joined) in
+    let joined : x ++ (wire_of xs ++ a) ≡ y ++ (wire_of ys ++ b) = sym (append_assoc x _ a) ∙ tails ∙ append_assoc y _ b in
+    let heads : x ≡ y = sym (take_at x _ _ refl) ∙ ap (take (length x)) joined ∙ take_at y _ _ (sym long) in
+    let rest = one_reading xs ys a b xs_valid.1 ys_valid.1 (rest_of x _ y _ long joined) in
     let labels = rest.0 in
     (cc, rest.1)
 
@@ -79,10 +74,7 @@ trailing_fault octets name after wire is some =
 
 named : (octets after : List ℕ) (labels : List (List ℕ)) (count : ℕ) → Reads 0 octets labels after
     → length (wire_of labels) ≡ count → IsWire (take count octets)
-named octets after labels count reads long =
-    let valid : IsName labels = record { of_labels = reads.of_labels; fits = omega (arith, reads.fits) } in
-    let front : take count octets ≡ wire_of labels = ap (take count) reads.spelled ∙ take_at (wire_of labels) after count long in
-    subst IsWire (sym front) (IsWire-wire_of labels valid)
+named octets after labels count reads long = grind (arith, common_steps, IsWire-wire_of)
 
 -- a part of the octets has been read as labels
 pub record Reading (octets : List ℕ) (at : ℕ) : Type 0 where
@@ -103,12 +95,12 @@ module _ (octets : List ℕ) (at len : ℕ) (below : at < length octets) (is : g
   reading_goes bytes so_far some small short inside =
       let label = take len (drop (at + 1) octets) in
       let rest = drop (at + 1 + len) octets in
-      let long : length label ≡ len = length-take-le len (drop (at + 1) octets) (omega (arith, length-drop (at + 1) octets)) in
-      let tail : drop (at + 1) octets ≡ label ++ rest = sym (take-append-drop len (drop (at + 1) octets))
-      ∙ ap (λ r. label ++ r) (drop-drop len (at + 1) octets) in
+      let long : length label ≡ len = length-take-le len _ (omega (arith, length-drop (at + 1) octets)) in
+      let tail : drop (at + 1) octets ≡ label ++ rest = sym (take-append-drop len _)
+      ∙ ap (λ r. label ++ r) (drop-drop len _ octets) in
       let here : drop at octets ≡ length label ∷ (label ++ rest) = rw long (ahead ∙ ap (λ r. len ∷ r) tail) in
       let used : at + length label + 1 ≡ at + 1 + len = omega arith in
-      let label_bytes = All-take (λ octet. octet < 256) len (drop (at + 1) octets) (All-drop (λ octet. octet < 256) (at + 1) octets bytes) in
+      let label_bytes = All-take (λ octet. octet < 256) len _ (All-drop (λ octet. octet < 256) _ octets bytes) in
       record {
         inside = inside;
         short = short;

@@ -1,63 +1,42 @@
 -- the canonical order by labels from the leaf
-use Rattle.std.proofs.Common.{◌≡◌, ◌≢◌, ℕ, zero, suc, ◌+◌, ◌-◌, ◌≤◌, List, [], ◌∷◌, ◌++◌, length, drop, map, refl, sym, ap, ◌∙◌, arith, rules}
+use Rattle.std.proofs.Common.{◌≡◌, ◌≢◌, ℕ, zero, suc, ◌+◌, ◌-◌, ◌≤◌, List, [], ◌∷◌, ◌++◌, length, drop, map, refl, ◌∙◌, arith, rules}
 use Rattle.std.specs.declared.cmp.Ordering.{Ordering}
 use Rattle.std.specs.declared.cmp.Ordering.TheVariants.{Less, Equal, Greater}
 use Rattle.std.specs.Ordering.{ordering_then, nat_cmp}
 use Rattle.std.specs.Char.{to_ascii_lowercase}
 use Rattle.std.specs.Prelude.{nat_eq, true}
 use Rattle.std.specs.Cmp.Lexicographic.{slice_cmp, pointwise, bytes_decides}
-use Rattle.std.proofs.lemmas.List.{reverse-append, length-reverse, length-map}
-use Rattle.domain_names.specs.Name.{lowered}
-use Rattle.domain_names.specs.Order.{canonical_cmp, from_root}
+use Rattle.domain_names.specs.Order.{canonical_cmp}
 use Rattle.std.proofs.lemmas.Grind.{common_steps}
 
 pub then_assoc : (a b c : Ordering) → ordering_then (ordering_then a b) c ≡ ordering_then a (ordering_then b c)
-then_assoc Less b c = refl
-then_assoc Equal b c = refl
-then_assoc Greater b c = refl
+then_assoc a b c = grind (arith, common_steps)
 
 -- what comes first decides where it tells apart
 pub decided : (first second both : Ordering) → both ≡ ordering_then first second → first ≢ Equal → first ≡ both
-decided Less second both is other = sym is
-decided Equal second both is other = absurd (other refl)
-decided Greater second both is other = sym is
-
--- what comes second decides where the first doesn't
-pub undecided : (first second both : Ordering) → both ≡ ordering_then first second → first ≡ Equal → second ≡ both
-undecided first second both is tied = sym (is ∙ ap (λ o. ordering_then o second) tied)
+decided first second both is other = grind (arith, common_steps)
 
 then_Equal : (a : Ordering) → ordering_then a Equal ≡ a
-then_Equal Less = refl
-then_Equal Equal = refl
-then_Equal Greater = refl
+then_Equal a = grind (arith, common_steps)
 
 module _ {X : Type 0} (R : X → X → Ordering) where
   slice_cmp-push : (xs ys : List X) (x y : X) → length xs ≡ length ys → slice_cmp R (xs ++ x ∷ []) (ys ++ y ∷ []) ≡ ordering_then (slice_cmp R xs ys) (R x y)
   slice_cmp-push [] [] x y same = then_Equal (R x y)
   slice_cmp-push [] (b ∷ bs) x y same = absurd (omega (arith, same))
   slice_cmp-push (a ∷ as') [] x y same = absurd (omega (arith, same))
-  slice_cmp-push (a ∷ as') (b ∷ bs) x y same =
-      ap (ordering_then (R a b)) (slice_cmp-push as' bs x y (omega (arith, same))) ∙ sym (then_assoc (R a b) (slice_cmp R as' bs) (R x y))
+  slice_cmp-push (a ∷ as') (b ∷ bs) x y same = grind (arith, common_steps, (slice_cmp-push as' bs x y (omega (arith, same))))
 
   slice_cmp-push_left : (xs ys : List X) (x : X) → length ys ≤ length xs → slice_cmp R (xs ++ x ∷ []) ys ≡ ordering_then (slice_cmp R xs ys) Greater
   slice_cmp-push_left [] [] x within = refl
   slice_cmp-push_left (a ∷ as') [] x within = refl
   slice_cmp-push_left [] (b ∷ bs) x within = absurd (omega (arith, within))
-  slice_cmp-push_left (a ∷ as') (b ∷ bs) x within =
-      ap (ordering_then (R a b)) (slice_cmp-push_left as' bs x (omega (arith, within))) ∙ sym (then_assoc (R a b) (slice_cmp R as' bs) Greater)
+  slice_cmp-push_left (a ∷ as') (b ∷ bs) x within = grind (arith, common_steps, (slice_cmp-push_left as' bs x (omega (arith, within))))
 
   slice_cmp-push_right : (xs ys : List X) (y : X) → length xs ≤ length ys → slice_cmp R xs (ys ++ y ∷ []) ≡ ordering_then (slice_cmp R xs ys) Less
   slice_cmp-push_right [] [] y within = refl
   slice_cmp-push_right [] (b ∷ bs) y within = refl
   slice_cmp-push_right (a ∷ as') [] y within = absurd (omega (arith, within))
-  slice_cmp-push_right (a ∷ as') (b ∷ bs) y within =
-      ap (ordering_then (R a b)) (slice_cmp-push_right as' bs y (omega (arith, within))) ∙ sym (then_assoc (R a b) (slice_cmp R as' bs) Less)
-
-length-from_root : (name : List (List ℕ)) → length (from_root name) ≡ length name
-length-from_root name = length-reverse (lowered name) ∙ length-map name (map to_ascii_lowercase)
-
-pub from_root-cons : (label : List ℕ) (name : List (List ℕ)) → from_root (label ∷ name) ≡ from_root name ++ map to_ascii_lowercase label ∷ []
-from_root-cons label name = reverse-append (map to_ascii_lowercase label ∷ []) (lowered name)
+  slice_cmp-push_right (a ∷ as') (b ∷ bs) y within = grind (arith, common_steps, (slice_cmp-push_right as' bs y (omega (arith, within))))
 
 -- one label more on both names decides where nothing above it does
 pub canonical_cmp-more : (xs ys : List (List ℕ)) (x y : List ℕ) → length xs ≡ length ys
@@ -68,8 +47,7 @@ canonical_cmp-more xs ys x y same = grind (arith, common_steps, slice_cmp-push)
 
 canonical_cmp-longer : (xs ys : List (List ℕ)) (x : List ℕ) → length ys ≤ length xs → canonical_cmp (x ∷ xs) ys ≡ ordering_then (canonical_cmp xs ys) Greater
 unfolding canonical_cmp
-canonical_cmp-longer xs ys x within =
-    rw (from_root-cons x xs) (slice_cmp-push_left (slice_cmp nat_cmp) (from_root xs) (from_root ys) _ (omega (arith, length-from_root xs, length-from_root ys)))
+canonical_cmp-longer xs ys x within = grind (arith, common_steps, slice_cmp-push_left)
 
 canonical_cmp-shorter : (xs ys : List (List ℕ)) (y : List ℕ) → length xs ≤ length ys → canonical_cmp xs (y ∷ ys) ≡ ordering_then (canonical_cmp xs ys) Less
 unfolding canonical_cmp

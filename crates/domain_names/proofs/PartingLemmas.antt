@@ -10,7 +10,7 @@ use Rattle.std.specs.Cmp.Lexicographic.{slice_cmp, nat_list_cmp_total}
 use Rattle.std.specs.Array.{IsWholeChunk}
 use Rattle.std.specs.Int.{from_le_bytes}
 use Rattle.std.proofs.Math.Seq.{drop-append_seam}
-use Rattle.std.proofs.lemmas.List.{append-nil, append_assoc, drop-append-le, drop-drop, get_or-drop, length-drop, length-take-le, take-append-drop}
+use Rattle.std.proofs.lemmas.List.{append-nil, append_assoc, drop-append-le, get_or-drop, length-drop, length-take-le, take-append-drop}
 use Rattle.std.proofs.lemmas.Nat.{le_bytes_8}
 use Rattle.domain_names.specs.Name.{wire_of}
 use Rattle.domain_names.specs.Wire.{labels_of, IsWire}
@@ -24,8 +24,7 @@ use Rattle.std.proofs.lemmas.Grind.{common_steps}
 pub next_end : (name : List (List ℕ)) (below : Option (List ℕ)) (label : List ℕ) (here above : List (List ℕ))
     → EndsIn name below here → here ≡ label ∷ above → EndsIn name (Some label) above
 next_end name None label here above ends is = ([], ends ∙ is)
-next_end name (Some x) label here above ends is =
-    (ends.0 ++ x ∷ [], ends.1 ∙ ap (λ l. ends.0 ++ x ∷ l) is ∙ sym (append_assoc ends.0 (x ∷ []) (label ∷ above)))
+next_end name (Some x) label here above ends is = grind (arith, common_steps, (append_assoc ends.0 (x ∷ []) (label ∷ above)))
 
 module _ {X : Type 0} (R : X → X → Ordering) (tied : (x : X) → R x x ≡ Equal) where
   slice_cmp-shared : (shared xs ys : List X) → slice_cmp R (shared ++ xs) (shared ++ ys) ≡ slice_cmp R xs ys
@@ -44,8 +43,8 @@ no_part : (xs ys shared : List (List ℕ)) → Part xs ys None None shared → E
 unfolding canonical_cmp
 no_part xs ys shared p =
     let same : from_root xs ≡ from_root ys = ap from_root (p.left ∙ sym p.right) in
-    sym (ap (slice_cmp (slice_cmp nat_cmp) (from_root xs)) (sym same ∙ sym (append-nil (from_root xs)))
-    ∙ ap (λ l. slice_cmp (slice_cmp nat_cmp) l (from_root xs ++ [])) (sym (append-nil (from_root xs)))
+    sym (ap (slice_cmp (slice_cmp nat_cmp) (from_root xs)) (sym same ∙ sym (append-nil _))
+    ∙ ap (λ l. slice_cmp (slice_cmp nat_cmp) l (from_root xs ++ [])) (sym (append-nil _))
     ∙ slice_cmp-shared (slice_cmp nat_cmp) octets_tie (from_root xs) [] [])
 
 -- a name below the other
@@ -53,7 +52,7 @@ right_below : (xs ys : List (List ℕ)) (y : List ℕ) (shared : List (List ℕ)
 unfolding canonical_cmp
 right_below xs ys y shared p =
     let ys_is = ap from_root p.right.1 ∙ from_root-part p.right.0 shared y in
-    let xs_is = ap from_root p.left ∙ sym (append-nil (from_root shared)) in
+    let xs_is = ap from_root p.left ∙ sym (append-nil _) in
     sym (ap (slice_cmp (slice_cmp nat_cmp) (from_root xs)) ys_is
     ∙ ap (λ l. slice_cmp (slice_cmp nat_cmp) l (from_root shared ++ map to_ascii_lowercase y ∷ from_root p.right.0)) xs_is
     ∙ slice_cmp-shared (slice_cmp nat_cmp) octets_tie (from_root shared) [] (map to_ascii_lowercase y ∷ from_root p.right.0))
@@ -62,9 +61,8 @@ left_below : (xs ys : List (List ℕ)) (x : List ℕ) (shared : List (List ℕ))
 unfolding canonical_cmp
 left_below xs ys x shared p =
     let xs_is = ap from_root p.left.1 ∙ from_root-part p.left.0 shared x in
-    let ys_is = ap from_root p.right ∙ sym (append-nil (from_root shared)) in
-    sym (ap (slice_cmp (slice_cmp nat_cmp) (from_root xs)) ys_is
-    ∙ ap (λ l. slice_cmp (slice_cmp nat_cmp) l (from_root shared ++ [])) xs_is
+    let ys_is = ap from_root p.right ∙ sym (append-nil _) in
+    sym (ap (slice_cmp (slice_cmp nat_cmp) (from_root xs)) ys_is ∙ ap (λ l. slice_cmp (slice_cmp nat_cmp) l (from_root shared ++ [])) xs_is
     ∙ slice_cmp-shared (slice_cmp nat_cmp) octets_tie (from_root shared) (map to_ascii_lowercase x ∷ from_root p.left.0) [])
 
 -- the labels at which names part decide, unless they tie
@@ -75,9 +73,7 @@ unfolding canonical_cmp
 parted xs ys x y shared p differ = grind (arith, common_steps, slice_cmp-shared, octets_tie)
 
 pub untied : (c o : Ordering) → unless_tied c ≡ Some o → (o ≡ c) × (c ≢ Equal)
-untied Less o is = (cc, λ e. absurd cc)
-untied Equal o is = absurd cc
-untied Greater o is = (cc, λ e. absurd cc)
+untied c o is = grind (arith, common_steps)
 
 -- what the labels below the shared ones decide is the order of the names
 pub decided_below : (xs ys : List (List ℕ)) (x y : Option (List ℕ)) (shared : List (List ℕ)) (o : Ordering) → Part xs ys x y shared
@@ -86,7 +82,7 @@ decided_below xs ys None None shared o p is = let e : o ≡ Equal = cc in e ∙ 
 decided_below xs ys None (Some y) shared o p is = let e : o ≡ Less = cc in e ∙ right_below xs ys y shared p
 decided_below xs ys (Some x) None shared o p is = let e : o ≡ Greater = cc in e ∙ left_below xs ys x shared p
 decided_below xs ys (Some x) (Some y) shared o p is =
-    let e = untied (slice_cmp nat_cmp (map to_ascii_lowercase x) (map to_ascii_lowercase y)) o is in
+    let e = untied _ o is in
     e.0 ∙ parted xs ys x y shared p e.1
 
 -- two names with as many labels, of which one is the root
@@ -104,7 +100,7 @@ wire_of-end (label ∷ front) above =
     let more = wire_of-end front above in (
       length label ∷ (label ++ more.0),
       ap (λ l. length label ∷ (label ++ l)) more.1
-          ∙ ap (λ l. length label ∷ l) (sym (append_assoc label more.0 (wire_of above))),
+          ∙ ap (λ l. length label ∷ l) (sym (append_assoc label _ _)),
     )
 
 ends_in : (name : List (List ℕ)) (below : Option (List ℕ)) (here : List (List ℕ)) → EndsIn name below here → (front : List (List ℕ)) × (name ≡ front ++ here)
@@ -114,27 +110,21 @@ ends_in name (Some label) here ends = (ends.0 ++ label ∷ [], ends.1 ∙ sym (a
 wire_end : (name end : List ℕ) (below : Option (List ℕ)) → IsWire name → IsWire end
     → EndsIn (labels_of name) below (labels_of end) → end ≡ drop (length name - length end) name
 wire_end name end below name_wire end_wire ends =
-    let front = ends_in (labels_of name) below (labels_of end) ends in
-    let octets = wire_of-end front.0 (labels_of end) in
+    let front = ends_in _ below _ ends in
+    let octets = wire_of-end _ _ in
     let is : name ≡ octets.0 ++ end = sym (wire_is name name_wire) ∙ ap wire_of front.1 ∙ octets.1 ∙ ap (λ l. octets.0 ++ l) (wire_is end end_wire) in
     let size : length octets.0 ≡ length name - length end = omega (arith, ap length is, length-append octets.0 end) in
     sym (ap (λ n. drop n name) (sym size) ∙ ap (drop (length octets.0)) is ∙ drop-append_seam octets.0 end)
 
 shorter_end : (name : List ℕ) (count short : ℕ) → short ≤ count → count ≤ length name
     → drop (length name - short) name ≡ drop (count - short) (drop (length name - count) name)
-shorter_end name count short within inside =
-    ap (λ n. drop n name) (omega (arith, within, inside)) ∙ sym (drop-drop (count - short) (length name - count) name)
+shorter_end name count short within inside = grind (arith, common_steps)
 
 -- ends that are as long as each other, and within octets that both names end in alike
 same_ends : (a b x y : List ℕ) (count : ℕ) → EndAlike a b count → x ≡ drop (length a - length x) a
     → y ≡ drop (length b - length y) b → length x ≡ length y → length x ≤ count → x ≡ y
 same_ends a b x y count alike x_is y_is size within =
-    x_is
-    ∙ shorter_end a count (length x) within alike.in_left
-    ∙ ap (drop (count - length x)) alike.same
-    ∙ sym (shorter_end b count (length x) within alike.in_right)
-    ∙ ap (λ n. drop (length b - n) b) size
-    ∙ sym y_is
+    grind (arith, common_steps, (shorter_end a count (length x) within alike.in_left), (shorter_end b count (length x) within alike.in_right))
 
 -- two names part below ends that are as long as each other
 pub part_at : (a b x y : List ℕ) (left right : Option (List ℕ)) (count : ℕ) → IsWire a → IsWire b → IsWire x → IsWire y
@@ -147,7 +137,7 @@ last_of_wire labels =
     let octets = wire_of-end labels [] in
     let is : wire_of labels ≡ octets.0 ++ 0 ∷ [] = ap wire_of (sym (append-nil labels)) ∙ octets.1 in
     let size : length (wire_of labels) - 1 ≡ length octets.0 = omega (arith, ap length is, length-append octets.0 (0 ∷ [])) in
-    ap (λ n. drop n (wire_of labels)) size ∙ ap (drop (length octets.0)) is ∙ drop-append_seam octets.0 (0 ∷ [])
+    ap (λ n. drop n (wire_of labels)) size ∙ ap (drop (length octets.0)) is ∙ drop-append_seam octets.0 _
 
 last_octet : (name : List ℕ) → IsWire name → drop (length name - 1) name ≡ 0 ∷ []
 last_octet name wire = subst (λ (l : List ℕ). drop (length l - 1) l ≡ 0 ∷ []) (wire_is name wire) (last_of_wire (labels_of name))
@@ -170,8 +160,8 @@ alike_eight a b x y in_a in_b x_is y_is a_octets b_octets same =
     ) (omega (arith, fits)) in
     let x_size : length x ≡ 8 = ap length x_is.same ∙ x_is.long in
     let y_size : length y ≡ 8 = ap length y_is.same ∙ y_is.long in
-    let x_back = le_bytes_8 x (from_le_bytes w64 x) x_size x_octets refl in
-    let y_back = le_bytes_8 y (from_le_bytes w64 x) y_size y_octets same in
+    let x_back = le_bytes_8 x _ x_size x_octets refl in
+    let y_back = le_bytes_8 y _ y_size y_octets same in
     record {
       in_left = in_a;
       in_right = in_b;
@@ -185,9 +175,8 @@ joined_end : (a : List ℕ) (count more : ℕ) → count + more ≤ length a
 joined_end a count more within =
     let n = length a - count in
     let size : length (take n a) ≡ n = length-take-le n a (omega arith) in
-    ap (λ k. drop k a) (omega (arith, size, within))
-    ∙ ap (drop (length (take n a) - more)) (sym (take-append-drop n a))
-    ∙ drop-append-le (length (take n a) - more) (take n a) (drop n a) (omega arith)
+    ap (λ k. drop k a) (omega (arith, size, within)) ∙ ap (drop (length (take n a) - more)) (sym (take-append-drop n a))
+    ∙ drop-append-le _ (take n a) (drop n a) (omega arith)
 
 pub alike_before : (a b x y : List ℕ) (count more : ℕ) → EndAlike a b count → x ≡ take (length a - count) a
     → y ≡ take (length b - count) b → EndAlike x y more → EndAlike a b (count + more)

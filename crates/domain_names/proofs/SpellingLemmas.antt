@@ -3,7 +3,6 @@ use Rattle.std.proofs.Common.{◌≡◌, ◌≢◌, ℕ, zero, suc, take, get_or
 use Rattle.std.proofs.Common.{◌∙◌, ◌-◌, arith, length-append, slice_set, inl, inr, ◌⊎◌, rules}
 use Rattle.std.specs.Prelude.{IsSome, IfSome, IfNone, ◌↔◌}
 use Rattle.std.specs.List.{AllByRecursion}
-use Rattle.std.proofs.lemmas.Bool.{ne_eqb, le-leb}
 use Rattle.std.proofs.lemmas.List.{append-nil, append_assoc, drop-drop, length-drop, take_at, take_more}
 use Rattle.std.proofs.Math.Seq.{set-append_seam}
 use Rattle.domain_names.specs.Name.{wire_of, IsLabel, IsName}
@@ -28,9 +27,7 @@ pub record Onward (text label after : List ℕ) (used c : ℕ) : Type 0 where
   pub spelled : LabelText (drop used text) rest after
 
 pub after_octet : (text label after : List ℕ) (c used : ℕ) → symbol_at text ≡ Some (c, used) → LabelText text label after → Onward text label after used c
-after_octet text label after c used is at_end = absurd (let e = no_symbol_at_end in cc)
-after_octet text label after c used is (at_dot rest) = absurd (let e = no_symbol_at_dot rest in cc)
-after_octet text label after c used is (octet t l a c' used' is' spelled) = grind (arith, common_steps)
+after_octet text label after c used is spelled = grind (arith, common_steps, no_symbol_at_end, no_symbol_at_dot)
 
 -- a text that is read as a label, up to some place
 pub record Spelling (text rest done : List ℕ) : Type 0 where
@@ -65,8 +62,7 @@ spelling_plain text (suc n) le h =
 -- one character more that stands for itself
 pub plain_symbol : (c : ℕ) (text : List ℕ) → c ≢ 92 → c ≢ 46 → 32 ≤ c → c ≤ 126 → symbol_at (c ∷ text) ≡ Some (c, 1)
 unfolding symbol_at
-plain_symbol c text slash dot low high =
-    rw (ne_eqb c 92 slash, le-leb 32 c low, le-leb c 126 high, ne_eqb c 46 dot) refl
+plain_symbol c text slash dot low high = grind (arith, common_steps)
 
 pub spelling_ends : (text done : List ℕ) → Spelling text [] done → LabelText text done []
 spelling_ends text done so_far = subst (λ l. LabelText text l []) (append-nil done) (so_far.onward [] [] at_end)
@@ -129,9 +125,7 @@ record Headed (rest label after : List ℕ) (labels : List (List ℕ)) : Type 0 
   spelled : (next : List ℕ) → after ≡ 46 ∷ next → next ≢ [] → LabelTexts next more
 
 head_is : (rest label after : List ℕ) (labels : List (List ℕ)) → LabelText rest label after → LabelTexts rest labels → Headed rest label after labels
-head_is rest label after labels read (last text l spelled) = grind (arith, common_steps, one_label)
-head_is rest label after labels read (last_with_dot text l spelled) = grind (arith, common_steps, one_label)
-head_is rest label after labels read (dotted text l end more spelled others) = grind (arith, common_steps, one_label)
+head_is rest label after labels read h = grind (arith, common_steps, one_label)
 
 pub naming_goes : (text rest wire label after next : List ℕ) → Naming text rest wire → LabelText rest label after
     → after ≡ 46 ∷ next → next ≢ [] → IsLabel label → Naming text next (wire ++ length label ∷ label)
@@ -214,13 +208,11 @@ bad_label_left text rest wire label after so_far read bad = λ all spelled valid
     ]
 
 pub no_label_after_left : (text rest wire : List ℕ) → Naming text rest wire → HasNoLabelAfter wire rest → IsNoLabels text
-no_label_after_left text rest wire so_far (inl none) = no_label_left text rest wire so_far none
-no_label_after_left text rest wire so_far (inr bad) = bad_label_left text rest wire bad.0 bad.1 so_far bad.2 bad.3
+no_label_after_left text rest wire so_far h = grind (arith, common_steps, no_label_left, bad_label_left)
 
 -- the text is the root's or that of labels
 pub no_name : (text : List ℕ) → text ≢ 46 ∷ [] → IsNoLabels text → IsNoName text
-no_name text other none labels root = other refl
-no_name text other none labels (of_labels t l spelled valid) = none labels spelled valid
+no_name text other none labels spelled = grind (arith, common_steps)
 
 no_empty_text : (after : List ℕ) (labels : List (List ℕ)) → after ≡ [] → LabelTexts after labels → AllByRecursion IsLabel labels → ⊥
 no_empty_text after labels none spelled valid =
@@ -236,11 +228,9 @@ same_labels text xs ys (last t l s) (last_with_dot t' l' s') xs_valid ys_valid =
 same_labels text xs ys (last t l s) (dotted t' l' end more s' others) xs_valid ys_valid = absurd (let e = (one_label t l [] l' (46 ∷ end) s s').1 in cc)
 same_labels text xs ys (last_with_dot t l s) (last t' l' s') xs_valid ys_valid = absurd (let e = (one_label t l (46 ∷ []) l' [] s s').1 in cc)
 same_labels text xs ys (last_with_dot t l s) (last_with_dot t' l' s') xs_valid ys_valid = ap (λ x. x ∷ []) (sym (one_label t l (46 ∷ []) l' (46 ∷ []) s s').0)
-same_labels text xs ys (last_with_dot t l s) (dotted t' l' end more s' others) xs_valid ys_valid =
-    grind (arith, common_steps, one_label, no_empty_text)
+same_labels text xs ys (last_with_dot t l s) (dotted t' l' end more s' others) xs_valid ys_valid = grind (arith, common_steps, one_label, no_empty_text)
 same_labels text xs ys (dotted t l end more s others) (last t' l' s') xs_valid ys_valid = absurd (let e = (one_label t l (46 ∷ end) l' [] s s').1 in cc)
-same_labels text xs ys (dotted t l end more s others) (last_with_dot t' l' s') xs_valid ys_valid =
-    grind (arith, common_steps, one_label, no_empty_text)
+same_labels text xs ys (dotted t l end more s others) (last_with_dot t' l' s') xs_valid ys_valid = grind (arith, common_steps, one_label, no_empty_text)
 same_labels text xs ys (dotted t l end more s others) (dotted t' l' end' more' s' others') xs_valid ys_valid =
     let same = one_label t l (46 ∷ end) l' (46 ∷ end') s s' in
     let e : end' ≡ end = (let both = same.1 in cc) in
@@ -256,10 +246,7 @@ no_labels_at_dot labels spelled valid =
 
 -- a text spells one name at most
 pub one_name : (text : List ℕ) (xs ys : List (List ℕ)) → NameText text xs → NameText text ys → xs ≡ ys
-one_name text xs ys root root = refl
-one_name text xs ys root (of_labels t l spelled valid) = absurd (no_labels_at_dot l spelled valid.of_labels)
-one_name text xs ys (of_labels t l spelled valid) root = absurd (no_labels_at_dot l spelled valid.of_labels)
-one_name text xs ys (of_labels t l spelled valid) (of_labels t' l' spelled' valid') = same_labels t l l' spelled spelled' valid.of_labels valid'.of_labels
+one_name text xs ys first second = grind (arith, common_steps, no_labels_at_dot, same_labels)
 
 -- what is answered for a text: the octets of its name
 abbrev pub IsNamed : List ℕ → List ℕ → Type 0
@@ -286,8 +273,7 @@ module _ {U : Type 0} (text wire new : List ℕ) (o : Option U) (found : IsLabel
   named_none other = grind (arith, common_steps, no_name, same_labels)
 
 pub name_is_valid : (text : List ℕ) (labels : List (List ℕ)) → NameText text labels → IsName labels
-name_is_valid text labels root = record { of_labels = tt; fits = omega arith }
-name_is_valid text labels (of_labels t l spelled valid) = valid
+name_is_valid text labels spelled = grind (arith, common_steps)
 
 -- ---- texts whose octets become names
 

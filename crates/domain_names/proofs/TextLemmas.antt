@@ -1,5 +1,5 @@
 -- the text of an octet in decimal digits, of octets that are written as they are, and of names
-use Rattle.std.proofs.Common.{arith, ℕ, ◌/◌, ◌%◌, ◌<◌, ◌≡◌, ◌∷◌, ◌++◌, ◌+◌, ◌-◌, [], suc, List, true, false, refl, sym, ap, ◌∙◌}
+use Rattle.std.proofs.Common.{arith, ℕ, ◌/◌, ◌%◌, ◌<◌, ◌≡◌, ◌∷◌, ◌++◌, ◌-◌, [], suc, List, true, false, refl, sym, ap, ◌∙◌}
 use Rattle.std.proofs.Common.{length, take, drop, slice_set, ◌≤◌, length-append, append_assoc, append-nil}
 use Rattle.std.specs.List.{All, AllByRecursion as ByRecursion, AllPass}
 use Rattle.std.specs.Str.{IsAscii}
@@ -8,7 +8,7 @@ use Rattle.std.proofs.lemmas.List.{length-set}
 use Rattle.std.proofs.lemmas.List.Elements.{All-head, All-tail}
 use Rattle.std.proofs.Math.Seq.{set-append_seam}
 use Rattle.std.proofs.lemmas.Str.{IsAscii-append}
-use Rattle.std.proofs.lemmas.Str.Ascii.{IsAscii-nil, IsAscii-cons}
+use Rattle.std.proofs.lemmas.Str.Ascii.{IsAscii-nil}
 use Rattle.std.proofs.lemmas.Fmt.{decimal_digit}
 use Rattle.std.specs.Fmt.{decimal}
 use Rattle.std.specs.Char.{is_ascii_graphic}
@@ -40,18 +40,16 @@ octet_text_ascii c small = grind (arith, common_steps)
 
 pub label_text_ascii : (label : List ℕ) → All (λ c. c < 256) label → IsAscii (label_text label)
 label_text_ascii [] octets = IsAscii-nil
-label_text_ascii (c ∷ label) octets = IsAscii-append (octet_text c) (label_text label)
+label_text_ascii (c ∷ label) octets = IsAscii-append _ _
     (octet_text_ascii c (All-head (λ x. x < 256) c label octets)) (label_text_ascii label (All-tail (λ x. x < 256) c label octets))
 
 dotted_text_ascii : (labels : List (List ℕ)) → ByRecursion IsLabel labels → IsAscii (dotted_text labels)
 dotted_text_ascii [] valid = IsAscii-nil
-dotted_text_ascii (label ∷ labels) valid = IsAscii-cons 46 (label_text label ++ dotted_text labels) (omega arith)
-    (IsAscii-append (label_text label) (dotted_text labels) (label_text_ascii label valid.0.octets) (dotted_text_ascii labels valid.1))
+dotted_text_ascii (label ∷ labels) valid = grind (arith, common_steps, label_text_ascii, (dotted_text_ascii labels valid.1))
 
 pub name_text_ascii : (labels : List (List ℕ)) → IsName labels → IsAscii (name_text labels)
 name_text_ascii [] valid = IsAscii-nil
-name_text_ascii (label ∷ labels) valid = IsAscii-append (label_text label) (dotted_text labels)
-    (label_text_ascii label valid.of_labels.0.octets) (dotted_text_ascii labels valid.of_labels.1)
+name_text_ascii (label ∷ labels) valid = grind (arith, common_steps, label_text_ascii, dotted_text_ascii)
 
 -- ---- names whose octets become their text
 
@@ -66,8 +64,7 @@ pub record IsDotted (name rest text : List ℕ) : Type 0 where
 -- the octets of a name that has labels
 wire_parts : (rest label above : List ℕ) → IsWire rest → IsWire above → labels_of rest ≡ label ∷ labels_of above
     → rest ≡ length label ∷ (label ++ above)
-wire_parts rest label above wire further labels =
-    wire.spelled ∙ ap wire_of labels ∙ ap (λ l. length label ∷ (label ++ l)) (sym further.spelled)
+wire_parts rest label above wire further labels = grind (arith, common_steps)
 
 wire_end : (rest : List ℕ) → IsWire rest → labels_of rest ≡ [] → rest ≡ 0 ∷ []
 wire_end rest wire labels = wire.spelled ∙ ap wire_of labels
@@ -81,15 +78,15 @@ dotted_more name rest text label above so_far labels further same =
     omega (arith, so_far.size, ap length so_far.parts, length-append so_far.front rest) in
     let changed : slice_set text (length name - length rest) 46 ≡ so_far.front ++ 46 ∷ (label ++ above) =
     ap (λ t. slice_set t (length name - length rest) 46) parts ∙ ap (λ i. slice_set (so_far.front ++ length label ∷ (label ++ above)) i 46) at
-    ∙ set-append_seam so_far.front (length label) (label ++ above) 46 in
+    ∙ set-append_seam _ (length label) _ 46 in
     record {
       front = so_far.front ++ 46 ∷ label;
-      parts = changed ∙ sym (append_assoc so_far.front (46 ∷ label) above);
+      parts = changed ∙ sym (append_assoc _ _ above);
       dots = so_far.dots ∙ ap (λ l. so_far.front ++ dotted_text l) labels
           ∙ ap (λ l. so_far.front ++ 46 ∷ (l ++ dotted_text (labels_of above))) same
           ∙ sym (append_assoc so_far.front (46 ∷ label) (dotted_text (labels_of above)));
       wire = further;
-      size = length-set text (length name - length rest) 46 ∙ so_far.size;
+      size = length-set text _ 46 ∙ so_far.size;
     }
 
 pub dotted_ends : (name rest text : List ℕ) → IsDotted name rest text → labels_of rest ≡ []
@@ -98,15 +95,14 @@ dotted_ends name rest text so_far none =
     let is = wire_end rest so_far.wire none in
     let parts : text ≡ so_far.front ++ 0 ∷ [] = so_far.parts ∙ ap (λ l. so_far.front ++ l) is in
     let at : length name - 1 ≡ length so_far.front = omega (arith, so_far.size, ap length parts, length-append so_far.front (0 ∷ [])) in
-    let all : dotted_text (labels_of name) ≡ so_far.front = so_far.dots ∙ ap (λ l. so_far.front ++ dotted_text l) none ∙ append-nil so_far.front in
+    let all : dotted_text (labels_of name) ≡ so_far.front = so_far.dots ∙ ap (λ l. so_far.front ++ dotted_text l) none ∙ append-nil _ in
     ap (λ t. slice_set t (length name - 1) 46) parts ∙ ap (λ i. slice_set (so_far.front ++ 0 ∷ []) i 46) at
-    ∙ set-append_seam so_far.front 0 [] 46 ∙ ap (λ l. l ++ 46 ∷ []) (sym all)
+    ∙ set-append_seam _ 0 [] 46 ∙ ap (λ l. l ++ 46 ∷ []) (sym all)
 
 -- ---- what lies between the first dot and the last
 
 pub dotted_ascii : (labels : List (List ℕ)) → IsName labels → IsAscii (dotted_text labels ++ 46 ∷ [])
-dotted_ascii labels valid = IsAscii-append (dotted_text labels) (46 ∷ []) (dotted_text_ascii labels valid.of_labels)
-    (IsAscii-cons 46 [] (omega arith) IsAscii-nil)
+dotted_ascii labels valid = grind (arith, common_steps, dotted_text_ascii)
 
 pub between_dots : (text : List ℕ) (labels : List (List ℕ)) → text ≡ dotted_text labels ++ 46 ∷ [] → 2 ≤ length text
     → take (length text - 1 - 1) (drop 1 text) ≡ name_text labels

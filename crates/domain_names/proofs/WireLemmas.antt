@@ -45,7 +45,7 @@ label_from [] valid other = absurd (other refl)
 label_from (label ∷ labels) valid other =
     let label_is : IsLabel label = valid.of_labels.0 in
     let above_is : IsName labels = record { of_labels = valid.of_labels.1; fits = omega (arith, valid.fits, length-append label (wire_of labels)) } in
-    let rest : drop (length label + 1) (wire_of (label ∷ labels)) ≡ wire_of labels = rw add-one (drop_at label (wire_of labels) (length label) refl) in
+    let rest : drop (length label + 1) (wire_of (label ∷ labels)) ≡ wire_of labels = rw add-one (drop_at label _ _ refl) in
     record {
       not_empty = label_is.not_empty;
       fits = label_is.fits;
@@ -58,8 +58,7 @@ pub root_at : (octets : List ℕ) → IsWire octets → get_or octets 0 0 ≡ 0 
 root_at octets wire zero_first = root_from (labels_of octets) wire.valid.of_labels (subst (λ (w : List ℕ). get_or w 0 0 ≡ 0) wire.spelled zero_first)
 
 pub label_at : (octets : List ℕ) → IsWire octets → (get_or octets 0 0 ≡ 0 → ⊥) → HasLabel octets
-label_at octets wire other =
-    subst HasLabel (sym wire.spelled) (label_from (labels_of octets) wire.valid (subst (λ (w : List ℕ). get_or w 0 0 ≡ 0 → ⊥) wire.spelled other))
+label_at octets wire other = grind (arith, common_steps, label_from)
 
 pub count_at : (octets : List ℕ) → IsWire octets → length (labels_of octets) < 255
 count_at octets wire = omega (arith, wire.valid.fits, length-wire_of (labels_of octets))

@@ -58,6 +58,7 @@ fn is_plain(octet: u8) -> bool
 }
 
 /// How many characters that stand for themselves within a label a text begins with.
+#[tactic(auto, using(std::proofs::lemmas::Grind::common_steps, crate::proofs::SpellingLemmas::plain_symbol))]
 fn plain_len(text: &[u8]) -> usize
     ensures within { result ≤ length text.now }
     ensures plain { (k : ℕ) → k < result
@@ -332,6 +333,7 @@ fn ascii_text(octets: &[u8]) -> &str
     unsafe { str::from_utf8_unchecked(octets) }
 }
 
+#[tactic(auto, using(crate::proofs::TextLemmas::label_text_ascii, domain_octets::proofs::OctetLemmas::octets_from_type))]
 fn write_label<W: fmt::Write>(label: &[u8], f: &mut fmt::Formatter<W>) -> fmt::Result
     ensures { WritesOnOk W.write_str_gives f.old result (label_text label.now) f.new }
 {

@@ -80,6 +80,7 @@ fn lowered_octet_cmp(a: u8, b: u8) -> Ordering
 }
 
 /// The order of octets with A to Z lowered.
+#[tactic(auto, using(crate::proofs::PartingLemmas::lengths_decide))]
 fn lowered_octets_cmp(a: &[u8], b: &[u8]) -> Ordering
     ensures { result ≡ slice_cmp nat_cmp (map to_ascii_lowercase a.now)
         (map to_ascii_lowercase b.now) }
@@ -292,6 +293,7 @@ pub fn is_at_or_below(name: &[u8], above: &[u8]) -> bool
 }
 
 /// How many labels two names share, counted from where both have as many left.
+#[tactic(auto, using(crate::proofs::WireLemmas::few_labels, crate::proofs::CommonLemmas::walk_ends))]
 fn common_from_root(a: &[u8], b: &[u8]) -> usize
     requires a { IsWire a.now }
     requires b { IsWire b.now }

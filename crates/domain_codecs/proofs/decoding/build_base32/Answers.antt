@@ -1,4 +1,4 @@
-use Rattle.std.proofs.Common.{ℕ, List, ◌<◌, ◌*◌, ◌+◌, ◌/◌, ◌%◌, ◌∷◌, [], arith, drop}
+use Rattle.std.proofs.Common.{ℕ, List, ◌<◌, ◌*◌, ◌+◌, ◌/◌, ◌%◌, arith, drop}
 use Rattle.domain_codecs.specs.Codec.{base32_octets, base32_digits}
 use Rattle.domain_codecs.specs.declared.codec.Codec.TheVariants.{Base32Hex}
 use Rattle.domain_codecs.proofs.RoomLemmas.{build_stops, room_for_part, handed_on}
@@ -13,12 +13,12 @@ loop-c-init g c = grind (arith, common_steps, digits_begin)
 
 pub overflow_add-value : goal.overflow_add-value
 overflow_add-value g c =
-    let w = widens c.loop-c.scale c.loop-c.invariant.digits.scale_is in
+    let w = widens _ c.loop-c.invariant.digits.scale_is in
     omega (arith, w.small, c.loop-c.invariant.digits.below, c.base32_digit.ensures.small)
 
 pub overflow_cast-value : goal.overflow_cast-value
 overflow_cast-value g c =
-    let w = widens c.loop-c.scale c.loop-c.invariant.digits.scale_is in
+    let w = widens _ c.loop-c.invariant.digits.scale_is in
     let below : 32 * c.loop-c.rest + c.base32_digit.result < 32 * c.loop-c.scale = omega (arith, c.loop-c.invariant.digits.below) in
     let octet = w.octet (32 * c.loop-c.rest + c.base32_digit.result) c.if-wider-lt256.false below in
     omega (arith, octet)
@@ -35,8 +35,7 @@ returns-in_err-append_slice-clause-err g c =
     let next = digits_wide _ _ _ _ _ c.loop-c-test.true small c.loop-c.invariant.digits c.if-wider-lt256.false in
     let after : List ℕ = base32_octets scale (value % scale) (base32_digits (drop (c.loop-c.c-index + 1) c.args.text.now)) in
     let stands = rw (← c.base32_digit.ensures.value) at (digits_stand _ _ _ _ _ c.requires.0 c.requires.1 next) in
-    handed_on _ _ _ c.from_residual.ensures.1
-    (build_stops Base32Hex _ _ _ ((value / scale) ∷ []) after _ _ c.in_err-append_slice.was stands
+    handed_on _ _ _ c.from_residual.ensures.1 (build_stops Base32Hex _ _ _ _ after _ _ c.in_err-append_slice.was stands
     c.append_slice.ensures.short c.append_slice.ensures.memory)
 
 pub loop-c-preserved : goal.loop-c-preserved
@@ -63,6 +62,4 @@ loop-c-preserved g c =
     ]
 
 pub returns-clause-ok : goal.returns-clause-ok
-returns-clause-ok g c =
-    digits_all c.args.text.now (g.B.Octets.octets c.loop-c.octets) c.requires.0 c.loop-c.scale c.loop-c.rest c.loop-c.c-index
-    c.requires.1 c.loop-c-test.false c.loop-c.invariant.digits
+returns-clause-ok g c = digits_all _ _ c.requires.0 _ _ _ c.requires.1 c.loop-c-test.false c.loop-c.invariant.digits

@@ -1,16 +1,10 @@
-use Rattle.std.proofs.Common.{map, sym}
-use Rattle.std.specs.List.{concat}
-use Rattle.domain_codecs.specs.Codec.{is_digit}
+use Rattle.std.proofs.Common.{sym}
 use Rattle.domain_codecs.proofs.JoinedLemmas.{searched_other}
 use Rattle.domain_octets.proofs.PrefixLemmas.{searched_one}
 use Rattle.domain_codecs.proofs.joined.first_other.Goals as goal
 
 pub returns-then-not-is_digit-clause-some : goal.returns-then-not-is_digit-clause-some
-returns-then-not-is_digit-clause-some c =
-    searched_other c.args.codec (concat (map (λ text. text.now) c.args.texts.now)) c.loop-c.left c.next.new.self c.in-Some.c
-    c.loop-c.invariant c.in-Some.ensures (sym c.if-not-is_digit.ensures)
+returns-then-not-is_digit-clause-some c = searched_other _ _ _ _ _ c.loop-c.invariant c.in-Some.ensures (sym c.if-not-is_digit.ensures)
 
 pub loop-c-preserved : goal.loop-c-preserved
-loop-c-preserved c =
-    searched_one (is_digit c.args.codec) (concat (map (λ text. text.now) c.args.texts.now)) c.loop-c.left c.next.new.self c.in-Some.c
-    c.loop-c.invariant c.in-Some.ensures (sym c.if-not-is_digit.ensures)
+loop-c-preserved c = searched_one _ _ _ _ _ c.loop-c.invariant c.in-Some.ensures (sym c.if-not-is_digit.ensures)

@@ -14,7 +14,7 @@ loop-full-init c = passed_begin (concat (map (λ text. text.now) c.args.texts.no
 pub returns-in_default : goal.returns-in_default
 returns-in_default c = (
   λ no. (cc no),
-  λ is. absurd (refused_piece _ _ _ _ c.loop-full.invariant c.take_piece-count.ensures.cut c.in_default.field-0 c.in_default.ensures.err is),
+  λ is. absurd (refused_piece _ _ _ _ c.loop-full.invariant c.take_piece-count.ensures.cut _ c.in_default.ensures.err is),
 )
 
 pub returns-then-full-lt48 : goal.returns-then-full-lt48
@@ -27,8 +27,7 @@ full_piece : (c : Else-full-lt48) → length (take c.in-Ok.full c.decode_slice_u
 full_piece c = let read = c.in-Ok.ensures.ok in omega (arith, length-take c.in-Ok.full c.decode_slice_unchecked.new.output)
 
 pub loop-full-smaller : goal.loop-full-smaller
-loop-full-smaller c =
-    full_is_some _ _ _ _ c.take_piece-count.ensures.cut c.in-Ok.ensures.ok.0 (full_piece (goal.at.loop-full-smaller c).Else-full-lt48)
+loop-full-smaller c = grind (arith, common_steps, full_is_some)
 
 pub loop-full-preserved : goal.loop-full-preserved
 loop-full-preserved c =

@@ -6,6 +6,6 @@ use Rattle.domain_names.proofs.TextLemmas.{ordinary_text}
 use Rattle.domain_names.proofs.text.is_ordinary_label.Goals as goal
 
 pub returns : goal.returns
-returns c = λ whole.
-    let at : c.prefix_len.result ≡ length c.args.label.now = eqb-true c.prefix_len.result (length c.args.label.now) whole in
+returns c =
+    λ whole. let at : c.prefix_len.result ≡ length c.args.label.now = eqb-true c.prefix_len.result _ whole in
     ordinary_text c.args.label.now (subst (AllPass is_ordinary) (take_all c.prefix_len.result c.args.label.now (omega arith)) c.prefix_len.ensures.has)

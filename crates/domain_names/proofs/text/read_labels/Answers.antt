@@ -1,4 +1,4 @@
-use Rattle.std.proofs.Common.{◌≡◌, ◌≢◌, [], ◌∷◌, length, get_or, drop, ap, arith}
+use Rattle.std.proofs.Common.{◌≡◌, ◌≢◌, [], ◌∷◌, length, drop, ap, arith}
 use Rattle.std.proofs.lemmas.List.{take_rest, drop_more}
 use Rattle.std.proofs.lemmas.Grind.{common_steps}
 use Rattle.std.proofs.lemmas.Bool.Decides.{nat_tests}
@@ -16,7 +16,7 @@ loop-after-preserved c =
     let rest = c.loop-after.rest.now in
     let after = c.in-Some.after.now in
     let taken = c.in-Some.ensures.some in
-    let dot : after ≡ 46 ∷ drop 1 after = dot_after rest taken.0 after (get_or after 0 0) (drop 1 after) taken.1 (drop_more after 0 0 (omega arith)) in
+    let dot : after ≡ 46 ∷ drop 1 after = dot_after rest taken.0 after _ _ taken.1 (drop_more after 0 0 (omega arith)) in
     let some : drop 1 after ≢ [] = λ e. let size = ap length e in let test =
     rw (take_rest after 1) at c.is_empty.ensures in grind (arith, nat_tests, common_steps) in
     rw (taken.3, take_rest after 1) (naming_goes _ rest c.loop-after.wire taken.0 after (drop 1 after) c.loop-after.invariant taken.1 dot some taken.2)

@@ -9,7 +9,7 @@ returns-then-is_dot-clause-name c = named_root c.args.text.now _ c.push_root.res
 pub returns-clause-name : goal.returns-clause-name
 returns-clause-name c =
     let read : IsLabelsWire c.args.text.now c.read_labels.new.wire = search rules in
-    named_labels c.args.text.now c.read_labels.new.wire _ c.push_root-2.result read c.push_root-2.ensures.room c.push_root-2.ensures.root
+    named_labels _ _ _ _ read c.push_root-2.ensures.room c.push_root-2.ensures.root
 
 pub returns-clause-none : goal.returns-clause-none
 returns-clause-none c = grind (arith, common_steps, named_none)

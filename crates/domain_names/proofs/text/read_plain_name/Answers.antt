@@ -15,4 +15,4 @@ returns c =
     refilled (length old) old octets (sym (c.put_lengths.ensures.size ∙ ap length c.as_mut_slice.ensures.value)) in
     let few : length (take len octets) ≡ len = length-take-le len octets c.in_ok-len.ensures.within in
     let fits : IsSome c.put_root.result → length (take len octets) < 255 = λ some. let below = c.put_root.ensures.room some in omega arith in
-    named_fits c.args.text.now (take len octets) c.put_root.new.wire c.put_root.result c.in_ok-len.ensures.labels fits (rw written at c.put_root.ensures.root)
+    named_fits _ _ _ _ c.in_ok-len.ensures.labels fits (rw written at c.put_root.ensures.root)

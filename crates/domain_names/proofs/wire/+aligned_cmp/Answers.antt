@@ -1,5 +1,6 @@
-use Rattle.std.proofs.Common.{sym, ◌∙◌, inl}
-use Rattle.domain_names.proofs.OrderLemmas.{step, decided, undecided}
+use Rattle.std.proofs.Common.{arith, inl}
+use Rattle.std.proofs.lemmas.Grind.{common_steps}
+use Rattle.domain_names.proofs.OrderLemmas.{step}
 use Rattle.domain_names.proofs.PartingLemmas.{roots_tie}
 use Rattle.domain_names.proofs.wire.+aligned_cmp.Goals as goal
 
@@ -7,11 +8,8 @@ pub returns-in_default-2 : goal.returns-in_default-2
 returns-in_default-2 _ c = roots_tie _ _ c.requires.same_count (inl c.in_default.ensures.root)
 
 pub returns-in-Equal : goal.returns-in-Equal
-returns-in-Equal _ c =
-    let s = step _ _ _ _ _ _ c.requires.same_count c.in-Some-Some.ensures.label c.in-Some-Some.ensures'.label in
-    c.lowered_octets_cmp.ensures ∙ undecided _ _ _ s.decides (sym c.aligned_cmp.ensures ∙ c.in-Equal.is)
+returns-in-Equal _ c = grind (arith, common_steps, (step _ _ _ _ _ _ c.requires.same_count c.in-Some-Some.ensures.label c.in-Some-Some.ensures'.label))
 
 pub returns-in_default-aligned_cmp : goal.returns-in_default-aligned_cmp
 returns-in_default-aligned_cmp _ c =
-    let s = step _ _ _ _ _ _ c.requires.same_count c.in-Some-Some.ensures.label c.in-Some-Some.ensures'.label in
-    c.aligned_cmp.ensures ∙ decided _ _ _ s.decides (λ e. c.in_default-aligned_cmp.not-Equal (c.aligned_cmp.ensures ∙ e))
+    grind (arith, common_steps, (step _ _ _ _ _ _ c.requires.same_count c.in-Some-Some.ensures.label c.in-Some-Some.ensures'.label))

@@ -7,7 +7,7 @@ pub loop-a_front-preserved : goal.loop-a_front-preserved
 loop-a_front-preserved c =
     let inv = c.loop-a_front.invariant in
     let before : EndAlike c.loop-a_front.a_front.now c.loop-a_front.b_front.now 8 = search rules in
-    let more = alike_onward c.args.a.now c.args.b.now c.loop-a_front.a_front.now c.loop-a_front.b_front.now c.loop-a_front.count
+    let more = alike_onward _ _ _ _ _
     inv.alike inv.a_front inv.b_front before in record {
       alike = more.0;
       a_front = more.1;

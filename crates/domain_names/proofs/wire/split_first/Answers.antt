@@ -1,4 +1,4 @@
-use Rattle.std.proofs.Common.{◌-◌, arith}
+use Rattle.std.proofs.Common.{arith}
 use Rattle.domain_names.proofs.WireLemmas.{label_at}
 use Rattle.domain_names.proofs.wire.split_first.Goals as goal
 use Rattle.std.proofs.lemmas.Grind.{common_steps}

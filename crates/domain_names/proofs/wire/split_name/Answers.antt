@@ -27,5 +27,5 @@ returns-then-end-octets-clause-err c =
 pub loop-len-preserved : goal.loop-len-preserved
 loop-len-preserved c =
     let here = octet_at (goal.at.loop-len-preserved c).In-Some in
-    reading_goes _ _ _ here.0 here.1 (octets_from_type c.args.octets.now c.type_inv.octets) c.loop-len.invariant
+    reading_goes _ _ _ here.0 here.1 (octets_from_type _ c.type_inv.octets) c.loop-len.invariant
     (omega arith) (omega arith) (omega arith) (omega arith)

@@ -7,7 +7,7 @@ use Rattle.domain_codecs.proofs.base32.Digits.next_upper.Goals as goal
 pub from_utf8_unchecked-requires : goal.from_utf8_unchecked-requires
 from_utf8_unchecked-requires c =
     let h = c.in_ok-text.ensures.some in
-    IsUtf8-from_ascii c.in_ok-text.text.now (subst IsAscii (sym (h.3 ∙ upper_digits h.0 h.1)) (upper_are_ascii h.0 h.1))
+    IsUtf8-from_ascii _ (subst IsAscii (sym (h.3 ∙ upper_digits h.0 h.1)) (upper_are_ascii h.0 h.1))
 
 pub returns-clause-some : goal.returns-clause-some
 returns-clause-some c =

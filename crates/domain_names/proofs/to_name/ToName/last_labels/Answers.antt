@@ -1,6 +1,7 @@
+use Rattle.std.proofs.Common.{arith}
+use Rattle.std.proofs.lemmas.Grind.{common_steps}
 use Rattle.domain_names.proofs.WireLemmas.{parent_dropped}
 use Rattle.domain_names.proofs.to_name.ToName.last_labels.Goals as goal
 
 pub ancestors-preserved : goal.ancestors-preserved
-ancestors-preserved g c = parent_dropped (g.Self.ToName.labels c.args.self.now) c.ancestors._passed c.ancestors.left c.in-Some.parent
-    c.ancestors.invariant c.in-Some.ensures
+ancestors-preserved g c = grind (arith, common_steps, parent_dropped)
